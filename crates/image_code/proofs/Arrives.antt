@@ -46,6 +46,7 @@ use Rattle.image_code.proofs.Between.{can_run, get_below, item_below, item_size,
 use Rattle.image_code.proofs.Cells.{cell_low, cells_above, cell_stored, first_above, may_below, may_beside, may_own, operations_then, updates_same, updates_then, word_kept}
 use Rattle.image_code.proofs.Dead.{IsAlike, LastDead, NothingDead, alike_itself, alike_then, last_first, last_others, last_parted, nothing_parted}
 use Rattle.image_code.proofs.Memories.{images_stored}
+use Rattle.image_code.proofs.Positions.{get_second}
 use Rattle.image_code.proofs.Sparing.{first_cell, first_kept_word, same_steps, spill_cell, spill_first, spills_then}
 
 -- ---- items without a Mark
@@ -77,12 +78,6 @@ pub get_word : (ws : List ℕ) (j w : ℕ) (xs : List Item) → slice_get ws j �
 get_word [] j w xs e = absurd (cc)
 get_word (v ∷ vs) zero w xs e = cc
 get_word (v ∷ vs) (suc j) w xs e = get_word vs j w xs e
-
-get_behind : (xs ys : List Item) (j : ℕ) → slice_get (xs ++ ys) (length xs + j) ≡ slice_get ys j
-get_behind [] ys j = (let e : 0 + j ≡ j = omega arith in ap (slice_get ys) e)
-get_behind (x ∷ xs) ys j =
-    (let e : suc (length xs) + j ≡ suc (length xs + j) = omega arith in ap (slice_get (x ∷ (xs ++ ys))) e)
-    ∙ get_behind xs ys j
 
 behind_unmarked : (xs ys : List Item) → AreUnmarked (xs ++ ys) → AreUnmarked ys
 behind_unmarked [] ys are = are
@@ -139,7 +134,7 @@ rest_behind l k n xs ys r =
       size = omega (arith, size, both);
       items = λ j.
           let e : n + length xs + j ≡ n + (length xs + j) = omega arith in
-          ap (item_at l.list k) e ∙ r.items (length xs + j) ∙ get_behind xs ys j;
+          ap (item_at l.list k) e ∙ r.items (length xs + j) ∙ get_second xs ys j;
       shut = λ j.
           let e : n + length xs + j ≡ n + (length xs + j) = omega arith in
           ap (open_in (slice_get l.list k)) e ∙ r.shut (length xs + j);
@@ -247,29 +242,7 @@ module _ (g : Setting) (l : Pieces) (base : ℕ) (p : Placement) (place : ℕ �
     ),
   )
 
-  pub stays_here : {next : Option ℕ} (a : State) (to most : ℕ) → CanRun base p.code a → a.pc ≡ to → a.pc ≤ 2 ^ 31
-      → Arrives next [] a to most
-  stays_here a to most w e low = record {
-    count = 0;
-    other = a;
-    memory = a.memory;
-    few = omega arith;
-    path = subst (λ (q : State). Leads IsBare a q 0) (sym (stays a to e w.ready.npc w.slot (omega arith)))
-        (leads_none _ a);
-    silent = silent_none a;
-    stores = stores_none (IsAmongWords f.own) a.memory;
-    waits = refl;
-    found = λ _. refl;
-    cells = λ _. refl;
-    begins = λ q. absurd (omega arith);
-    alike = alike_itself g [] a;
-    still = λ _. refl;
-    spares = λ _. omega arith;
-    leaves_first = λ _ _. refl;
-    brief = λ _ _. omega arith;
-  }
-
-  -- so it does for edges without operations
+  -- the way has no step, along edges without operations
   pub bare_here : {next : Option ℕ} (edges : List ℕ) (a : State) (to most : ℕ) → operations_on g.snips edges ≡ 0
       → CanRun base p.code a → a.pc ≡ to → a.pc ≤ 2 ^ 31 → Arrives next edges a to most
   bare_here edges a to most none w e low = record {
@@ -291,6 +264,40 @@ module _ (g : Setting) (l : Pieces) (base : ℕ) (p : Placement) (place : ℕ �
     leaves_first = λ _ _. refl;
     brief = λ _ _. omega arith;
   }
+
+  pub stays_here : {next : Option ℕ} (a : State) (to most : ℕ) → CanRun base p.code a → a.pc ≡ to → a.pc ≤ 2 ^ 31
+      → Arrives next [] a to most
+  stays_here a to most w e low = bare_here [] a to most refl w e low
+
+  -- A way of stores in word 0 of the page alone, and what is known of it where the original goes on in the text.
+  record IsBrief (a : State) (most count : ℕ) : Type 0 where
+    spares : count_stores (is_spill g.notes) a count ≤ 0
+    leaves_first : HasShortForms l.list place → count_stores in_first_word a count ≡ 0
+    brief : HasShortForms l.list place → 4 * count ≤ most
+
+  hops_on : {next : Option ℕ} (a : State) (to most count : ℕ) (m : Memory) → IsFit a
+      → Stores IsFirstWord a.memory m → count ≤ most → Leads IsBare a (hopped a to m) count → IsSilent a count
+      → (0 < count → IsBare a) → (next ≢ None → IsBrief a most count) → Arrives next [] a to most
+  hops_on a to most count m fit stores few path silent begins brief =
+      let kept = first_kept a m fit stores in
+      record {
+        count = count;
+        other = a;
+        memory = m;
+        few = omega (arith, few);
+        path = path;
+        silent = silent;
+        stores = kept.0;
+        waits = kept.1.0;
+        found = λ _. seventh_kept a m fit stores;
+        cells = λ _. kept.1.1;
+        begins = begins;
+        alike = alike_itself g [] a;
+        still = λ _. refl;
+        spares = λ there. let spares = (brief there).spares in omega (arith, spares);
+        leaves_first = λ there short. (brief there).leaves_first short;
+        brief = λ there short. let words = (brief there).brief short in omega (arith, words);
+      }
 
   -- an item outside each Mark
   pub bare_item : (k n : ℕ) (x : Item) → item_at l.list k n ≡ Some x → open_in (slice_get l.list k) n ≡ None
@@ -314,28 +321,16 @@ module _ (g : Setting) (l : Pieces) (base : ℕ) (p : Placement) (place : ℕ �
       let j = jumps_hop l.list base p place h.laid k n z item a fit.runs at in
       let ins = j.inside in
       let none = bare_item k n (it.Jump z) item closed in
-      let kept = first_kept a j.memory fit j.hops.stores in
       let few = j.few in
-      record {
-        count = j.count;
-        other = a;
-        memory = j.memory;
-        few = omega (arith, few);
-        path = leads_weaker _ _ a _ j.count (λ u q. let b = q.past in let c = q.before in none u (omega arith)
-            (omega arith)) j.hops.path;
-        silent = j.hops.silent;
-        stores = kept.0;
-        waits = kept.1.0;
-        found = λ _. seventh_kept a j.memory fit j.hops.stores;
-        cells = λ _. kept.1.1;
-        begins = λ q. none a (omega arith) (omega arith);
-        alike = alike_itself g [] a;
-        still = λ _. refl;
-        spares = λ _. let none = j.stored (is_spill g.notes) (inl (spill_first g.notes)) in omega (arith, none);
-        leaves_first = λ _ short.
+      hops_on a (slice_index p.at z.0) 4 j.count j.memory fit j.hops.stores (omega (arith, few))
+      (leads_weaker _ _ a _ j.count (λ u q. let b = q.past in let c = q.before in none u (omega arith) (omega arith))
+      j.hops.path) j.hops.silent (λ q. none a (omega arith) (omega arith))
+      (λ _. record {
+        spares = let stored = j.stored (is_spill g.notes) (inl (spill_first g.notes)) in omega (arith, stored);
+        leaves_first = λ short.
             let end = short k n (it.Jump z) item in j.stored in_first_word (inr (omega (arith, end, at)));
-        brief = λ _ short. let end = short k n (it.Jump z) item in omega (arith, end, at, ins);
-      }
+        brief = λ short. let end = short k n (it.Jump z) item in omega (arith, end, at, ins);
+      })
 
   -- a way after another one
   pub on_then : {next : Option ℕ} (edges first others : List ℕ) → edges ≡ first ++ others → (a : State)
@@ -597,26 +592,10 @@ module _ (g : Setting) (l : Pieces) (base : ℕ) (p : Placement) (place : ℕ �
       (λ i x e. r.items i ∙ e) in
       let hops = long_jumps_hop to a fit.valid fit.runs.ready (omega (arith, at, end, low)) fit.runs.page
       (subst (λ q. StandIn (code_of a.memory) q (long_jump to)) (sym at) stand) far.0 far.1 in
-      let kept = first_kept a (store_word a.memory (page_word 0) (register_of a 1)) fit hops.stores in
-      record {
-        count = 4;
-        other = a;
-        memory = store_word a.memory (page_word 0) (register_of a 1);
-        few = omega arith;
-        path = leads_weaker _ _ a _ 4 (λ u q. let b = q.past in let c = q.before in there.bare u (omega (arith, at, b))
-            (omega (arith, at, c))) hops.path;
-        silent = hops.silent;
-        stores = kept.0;
-        waits = kept.1.0;
-        found = λ there. absurd (there out);
-        cells = λ _. kept.1.1;
-        begins = λ q. there.bare a (omega (arith, at)) (omega (arith, at));
-        alike = alike_itself g [] a;
-        still = λ _. refl;
-        spares = λ there. absurd (there out);
-        leaves_first = λ there _. absurd (there out);
-        brief = λ there _. absurd (there out);
-      }
+      hops_on a to 4 4 (store_word a.memory (page_word 0) (register_of a 1)) fit hops.stores (omega arith)
+      (leads_weaker _ _ a _ 4 (λ u q. let b = q.past in let c = q.before in there.bare u (omega (arith, at, b))
+      (omega (arith, at, c))) hops.path)
+      hops.silent (λ q. there.bare a (omega (arith, at)) (omega (arith, at))) (λ there. absurd (there out))
 
   -- ---- from the beginning of a piece
 

@@ -51,104 +51,23 @@ use Rattle.image_code.proofs.Between.{on_range, quiet_of}
 use Rattle.image_code.proofs.Cells.{cells_above, page_above}
 use Rattle.image_code.proofs.Couple.{quiet_transfer}
 use Rattle.image_code.proofs.Dead.{alike_itself, alike_hopped, followed_alike}
+use Rattle.image_code.proofs.Marked.{StandWords, item_is, link_few, stand_words}
 use Rattle.image_code.proofs.Memories.{images_stored, same_stored}
+use Rattle.image_code.proofs.Positions.{get_first}
 use Rattle.image_code.proofs.Sparing.{instr_is, transfers}
 use Rattle.image_code.proofs.Through.{own_stored}
 
 -- ---- words in one Mark, which is all of a piece
 
-word_item : (xs : List Instr) (rest : List Item) (j : ℕ) → j < length xs
-    → (word : ℕ) × (slice_get (word_items xs ++ rest) j ≡ Some (it.Word word))
-word_item [] rest j low = absurd (omega (arith, low))
-word_item (x ∷ xs) rest zero low = (_, refl)
-word_item (x ∷ xs) rest (suc j) low = word_item xs rest j (omega (arith, low))
-
-items_more : (xs : List Instr) (rest : List Item) → length (word_items xs ++ rest) ≡ length xs + length rest
-items_more [] rest = omega arith
-items_more (x ∷ xs) rest = let more = items_more xs rest in omega arith
-
-ends_at : (xs : List Instr) (rest : List Item) (n : ℕ)
-    → end_from (word_items xs ++ it.EndMark ∷ rest) n ≡ n + length xs
-ends_at [] rest n = omega arith
-ends_at (x ∷ xs) rest n =
-    ends_at xs rest (suc n) ∙ (let e : suc n + length xs ≡ n + suc (length xs) = omega arith in e)
-
-open_at : (xs : List Instr) (rest : List Item) (n j : ℕ) (o : Option Open) → j < length xs
-    → open_from (word_items xs ++ rest) n j o ≡ o
-open_at [] rest n j o low = absurd (omega (arith, low))
-open_at (x ∷ xs) rest n zero o low = refl
-open_at (x ∷ xs) rest n (suc j) o low = open_at xs rest (suc n) j o (omega (arith, low))
-
-get_first : (xs ys : List Item) (j : ℕ) (y : Item) → slice_get xs j ≡ Some y → slice_get (xs ++ ys) j ≡ Some y
-get_first [] ys j y e = absurd (cc)
-get_first (x ∷ xs) ys zero y e = e
-get_first (x ∷ xs) ys (suc j) y e = get_first xs ys j y e
-
-module _ (l : List (List Item)) (base : ℕ) (p : Placement) (place : ℕ → ℕ → ℕ) (laid : IsLaid l base p place)
-    (k : ℕ) (within : k < length l) (xs : List Instr) (address : Addr) (node : ℕ)
-    (is : slice_get l k ≡ Some (it.Mark address node ∷ (word_items xs ++ it.EndMark ∷ []))) where
-  item : (n : ℕ) → item_at l k n ≡ slice_get (it.Mark address node ∷ (word_items xs ++ it.EndMark ∷ [])) n
-  item n = ap (λ (v : Option (List Item)). item_in v n) is
-
-  size : size_of l k ≡ 2 + length xs
-  size = ap (λ (v : Option (List Item)). items_in v) is ∙ ap suc (items_more xs (it.EndMark ∷ []))
-      ∙ (let e : suc (length xs + 1) ≡ 2 + length xs = omega arith in e)
-
-  word : (j : ℕ) → j < length xs → (w : ℕ) × (item_at l k (suc j) ≡ Some (it.Word w))
-  word j low = let w = word_item xs (it.EndMark ∷ []) j low in (w.0, item (suc j) ∙ w.1)
-
-  stands : (j : ℕ) → j ≤ length xs → place k (suc j) ≡ place k 1 + 4 * j
-  stands zero low = omega arith
-  stands (suc j) low =
-      let w = word j (omega (arith, low)) in
-      let one : (place k (suc (suc j)) ≡ place k (suc j) + 4) × IsWordAt base p.code (place k (suc j)) w.0 =
-      laid.items k (suc j) (it.Word w.0) w.1 in
-      let before = stands j (omega (arith, low)) in
-      let step = one.0 in
-      omega arith
-
-  open_word : (j : ℕ) → j < length xs → open_in (slice_get l k) (suc j)
-      ≡ Some (record { first = 1; last = suc (length xs); address = address.0; node = node })
-  open_word j low =
-      ap (λ (v : Option (List Item)). open_in v (suc j)) is
-      ∙ open_at xs (it.EndMark ∷ []) 1 j _ low
-      ∙ ap (λ n. Some (record { first = 1; last = n; address = address.0; node = node }))
-      (ends_at xs [] 1 ∙ (let e : 1 + length xs ≡ suc (length xs) = omega arith in e))
-
-  record StandHere : Type 0 where
-    pub mark : place k 1 ≡ place k 0
-    pub begins : base ≤ place k 1
-    pub ends : place k 1 + 4 * length xs ≤ base + 4 * length p.code
-    pub low : place k 1 + 4 * length xs ≤ 2 ^ 31
-    pub range : (a : ℕ) → place k 1 ≤ a → a < place k 1 + 4 * length xs
-        → range_in p.ranges a ≡ Some
-        (record { lo = place k 1; hi = place k (suc (length xs)); address = address.0; node = node })
-
-  stand_here : StandHere
-  stand_here =
-      let s = size in
-      let last = stands (length xs) (omega arith) in
-      let ends = (laid.within k (suc (length xs)) within (omega arith)).ends in
-      let low = laid.low in
-      record {
-        mark = laid.items k 0 (it.Mark address node) (item 0);
-        begins = (laid.within k 1 within (omega arith)).begins;
-        ends = omega (arith, last, ends);
-        low = omega (arith, last, ends, low);
-        range = λ a from below.
-            let few : (a - place k 1) / 4 < length xs = omega arith in
-            let w = word ((a - place k 1) / 4) few in
-            let begin = stands ((a - place k 1) / 4) (omega (arith, few)) in
-            let end = stands (suc ((a - place k 1) / 4)) (omega (arith, few)) in
-            laid.ranges k (suc ((a - place k 1) / 4)) a (it.Word w.0) w.1 (omega arith) (omega arith)
-            ∙ ap (range_of (place k)) (open_word ((a - place k 1) / 4) few);
-      }
-
-  stand_words : Fit xs → (m : Memory) → HasCode base p.code m → StandIn (code_of m) (place k 1) xs
-  stand_words fit m has =
-      words_after l base p place laid m has k 1 xs fit
-      (λ i x e. (let q : 1 + i ≡ suc i = omega arith in ap (item_at l k) q) ∙ item (suc i)
-      ∙ get_first (word_items xs) (it.EndMark ∷ []) i x e)
+stand_in : (l : List (List Item)) (base : ℕ) (p : Placement) (place : ℕ → ℕ → ℕ) → IsLaid l base p place → (k : ℕ)
+    → k < length l → (xs : List Instr) (address : Addr) (node : ℕ)
+    → slice_get l k ≡ Some (it.Mark address node ∷ (word_items xs ++ it.EndMark ∷ []))
+    → Fit xs → (m : Memory) → HasCode base p.code m → StandIn (code_of m) (place k 1) xs
+stand_in l base p place laid k within xs address node is fit m has =
+    words_after l base p place laid m has k 1 xs fit
+    (λ i x e. (let q : 1 + i ≡ suc i = omega arith in ap (item_at l k) q)
+    ∙ item_is l base p place laid k within xs address node [] is (suc i)
+    ∙ get_first (word_items xs) (it.EndMark ∷ []) i x e)
 
 -- ---- the words have words
 
@@ -174,10 +93,6 @@ choose_fits distance short = (
     ),
   ),
 )
-
-link_few : (rd address : ℕ) → length (link rd address) ≤ 2
-link_few zero address = omega arith
-link_few (suc rd) address = omega arith
 
 -- ---- the step
 
@@ -212,8 +127,8 @@ module _ (g : Setting) (l : Pieces) (base : ℕ) (p : Placement) (place : ℕ �
   live : (jumped c.address.0 c.rd c.rs1 c.op2 t).ending ≡ None
   live = ap (λ (z : State). z.ending) (sym does_is) ∙ c.live
 
-  there : StandHere l.list base p place h.laid c.piece c.within image c.address (number_in g node) c.items
-  there = stand_here l.list base p place h.laid c.piece c.within image c.address (number_in g node) c.items
+  there : StandWords l.list base p place c.piece c.address.0 (number_in g node) (length image)
+  there = stand_words l.list base p place h.laid c.piece c.within image c.address (number_in g node) [] c.items
 
   at : t.pc ≡ place c.piece 1
   at = here.at ∙ c.here ∙ h.laid.starts c.piece c.within ∙ sym there.mark
@@ -237,7 +152,7 @@ module _ (g : Setting) (l : Pieces) (base : ℕ) (p : Placement) (place : ℕ �
         ready = record { live = here.live; npc = n ∙ small };
         low = omega (arith, a, low, s, q);
         words = subst (λ z. StandIn (code_of t.memory) z image) (sym at)
-            (stand_words l.list base p place h.laid c.piece c.within image c.address (number_in g node) c.items
+            (stand_in l.list base p place h.laid c.piece c.within image c.address (number_in g node) c.items
             (and_fits (link c.rd c.address.0) (choose c.distance)
             (link_fits c.rd c.address.0 c.register (omega (arith, o, below))) (choose_fits c.distance c.near))
             t.memory here.memory.code);

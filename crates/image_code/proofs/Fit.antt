@@ -41,7 +41,7 @@ use Rattle.jump_code.specs.Finding.{go_found}
 use Rattle.jump_code.specs.Pieces.{foreign_piece, word_items}
 use Rattle.layout.specs.declared.items.Item.{Item}
 use Rattle.layout.specs.declared.items.Item.TheVariants as it
-use Rattle.layout.specs.Laid.{IsMarked, IsWordAt, LeadsBelow, item_at, item_in, piece_words}
+use Rattle.layout.specs.Laid.{AreMarked, IsMarked, IsWordAt, LeadsBelow, item_at, item_in, piece_words}
 use Rattle.snippets.specs.declared.snippet.Op.{Op}
 use Rattle.image_code.specs.Cases.{plain_piece}
 use Rattle.image_code.specs.Loads.{load_of}
@@ -52,14 +52,9 @@ use Rattle.image_code.proofs.OpenBlocks.{IsSwitchIn, IsTextGraph, text_graph, wo
 use Rattle.image_code.proofs.OpenNumbers.{IsWordOf, case_number_below, chosen_many, count_of, each_index, enter_below, first_word_of, foreign_is, lands_below, lands_word, opens_many, ways_length}
 use Rattle.image_code.proofs.OpenSums.{code_length}
 use Rattle.image_code.proofs.Sized.{case_code, case_edge, code_by, entries_in, image_code, landing_code, no_code, order_code, snippets_few, way_code, ways_code}
-use Rattle.image_code.proofs.SmallPieces.{IsSmall, IsTail, any_leads, any_says, small_branch, small_call, small_choice, small_couple, small_foreign, small_jmpl, small_more, small_plain, small_tail, small_wide, tail_behind, tail_empty, tail_far, tail_found, tail_jump, tail_keep, tail_more, transfer_says, word_says}
+use Rattle.image_code.proofs.SmallPieces.{IsSmall, ItemsLead, MarksSay, IsTail, any_leads, any_says, small_branch, small_call, small_choice, small_couple, small_foreign, small_jmpl, small_more, small_plain, small_tail, small_wide, tail_behind, tail_empty, tail_far, tail_found, tail_jump, tail_keep, tail_more, transfer_says, word_says}
 
 -- ---- lists
-
-each_flat : {A B : Type 0} (P : B → Type 0) (f : A → List B) (xs : List A) → Each (λ x. Each P (f x)) xs
-    → Each P (flat_map f xs)
-each_flat P f [] each = tt
-each_flat P f (x ∷ xs) each = each-append P (f x) (flat_map f xs) each.0 (each_flat P f xs each.1)
 
 number_of_list : (o : Option ℕ) (number : ℕ) (rest : List ℕ) → option_to_list o ≡ number ∷ rest → o ≡ Some number
 number_of_list None number rest e = absurd (cc)
@@ -82,20 +77,6 @@ most_of f most [] each = omega arith
 most_of f most (x ∷ xs) each =
     let rest = most_of f most xs each.1 in
     omega (arith, sum_by-cons f x xs, each.0)
-
--- so many for each, and a number of its own
-words_up : {A B : Type 0} (f : B → ℕ) (piece : A → B) (base : ℕ) (most : A → ℕ) (xs : List A)
-    → Each (λ x. f (piece x) ≤ base + most x) xs
-    → sum_by f (map piece xs) ≤ length xs * base + sum_by most xs
-words_up f piece base most [] each = omega arith
-words_up f piece base most (x ∷ xs) each =
-    omega (
-      arith,
-      each.0,
-      words_up f piece base most xs each.1,
-      sum_by-cons f (piece x) (map piece xs),
-      sum_by-cons most x xs,
-    )
 
 sum-map : {A B : Type 0} (f : B → ℕ) (h : A → B) (xs : List A) → sum_by f (map h xs) ≡ sum_by (λ x. f (h x)) xs
 sum-map f h [] = refl
@@ -336,10 +317,79 @@ module _ (text : Words) (graph : Graph) (table cases : ℕ) (codes : ℕ → Lis
   abbrev AreFew : Type 0
   AreFew = (number : ℕ) → length (codes number) ≤ 176
 
+  -- what holds of each piece
   record IsPiece (items : List Item) : Type 0 where
-    most : ℕ
-    small : Small 19 most items
-    few : AreFew → most ≤ 176
+    few : AreFew → length items ≤ 197
+    marked : AreMarked false items
+    leads : ItemsLead (length pieces) items
+    says : MarksSay text items
+
+  -- Pieces that have at most so many words and Marks.
+  record Have (words marks : ℕ) (list : List (List Item)) : Type 0 where
+    each : Each IsPiece list
+    words_few : sum_by piece_words list ≤ words
+    marks_few : sum_by marks_in list ≤ marks
+
+  none : Have 0 0 []
+  none = record { each = tt; words_few = omega arith; marks_few = omega arith }
+
+  within : {words marks more_words more_marks : ℕ} (list : List (List Item)) → words ≤ more_words → marks ≤ more_marks
+      → Have words marks list → Have more_words more_marks list
+  within list more_words more_marks have = record {
+    each = have.each;
+    words_few = omega (arith, have.words_few);
+    marks_few = omega (arith, have.marks_few);
+  }
+
+  joined : {words marks more_words more_marks : ℕ} (xs ys : List (List Item)) → Have words marks xs
+      → Have more_words more_marks ys → Have (words + more_words) (marks + more_marks) (xs ++ ys)
+  joined xs ys one other = record {
+    each = each-append IsPiece xs ys one.each other.each;
+    words_few = omega (arith, one.words_few, other.words_few, sum_by-append piece_words xs ys);
+    marks_few = omega (arith, one.marks_few, other.marks_few, sum_by-append marks_in xs ys);
+  }
+
+  one_small : (base most : ℕ) (items : List Item) → (AreFew → most ≤ 176) → Small base most items
+      → Have (base + most) 1 (items ∷ [])
+  one_small base most items few small = record {
+    each = (
+      record {
+        few = λ f. omega (arith, small.few, few f);
+        marked = small.marked;
+        leads = small.leads;
+        says = small.says;
+      },
+      tt,
+    );
+    words_few = omega (arith, small.words, sum_by-cons piece_words items []);
+    marks_few = omega (arith, small.marks, sum_by-cons marks_in items []);
+  }
+
+  one_tail : (most : ℕ) (items : List Item) → (AreFew → most ≤ 176) → Tail most items → Have (4 + most) 0 (items ∷ [])
+  one_tail most items few tail = record {
+    each = (
+      record {
+        few = λ f. omega (arith, tail.few, few f);
+        marked = tail.marked;
+        leads = tail.leads;
+        says = tail.says;
+      },
+      tt,
+    );
+    words_few = omega (arith, tail.words, sum_by-cons piece_words items []);
+    marks_few = omega (arith, tail.marks, sum_by-cons marks_in items []);
+  }
+
+  -- one for each item of a list, of so many words and those of its snippets
+  mapped : {A : Type 0} (f : A → List Item) (base marks : ℕ) (code : A → ℕ) (xs : List A)
+      → Each (λ x. Have (base + code x) marks (f x ∷ [])) xs
+      → Have (length xs * base + sum_by code xs) (length xs * marks) (map f xs)
+  mapped f base marks code [] have = within [] (omega arith) (omega arith) none
+  mapped f base marks code (x ∷ xs) have =
+      within (f x ∷ map f xs) (omega (arith, sum_by-cons code x xs)) (omega arith)
+      (joined (f x ∷ []) (map f xs) have.0 (mapped f base marks code xs have.1))
+
+  -- ---- the parts
 
   optional_few : AreFew → (o : Option ℕ) → code_length codes (option_to_list o) ≤ 176
   optional_few f None = omega arith
@@ -353,90 +403,126 @@ module _ (text : Words) (graph : Graph) (table cases : ℕ) (codes : ℕ → Lis
       (cond_both (ends_block graph node word) _ _ (λ (edges : List ℕ). code_length codes edges ≤ 176)
       (λ _. optional_few f _) (λ _. omega arith))
 
-  image_piece : (node : Node) (word : ℕ) → IsPiece (image text graph (jumps_at text table) cases codes node word)
-  image_piece node word = record {
-    most = image_code text graph codes node word;
-    small = image_small node word;
-    few = λ f. image_few f node word (decode_of (slice_index text.words word)) _ refl;
-  }
+  abbrev image_at : Node → ℕ → List Item
+  image_at = image text graph (jumps_at text table) cases codes
 
-  way_piece_of : (number : ℕ) (edge : Edge) → IsNodeIn graph.blocks graph.opens edge.to
-      → IsPiece (way_along text graph table codes number edge)
-  way_piece_of number edge inside = record {
-    most = way_code codes number edge;
-    small = small_wide text (length pieces) _ _ (way_small number edge inside);
-    few = λ f. by (is_fall edge.kind) (same_kind edge.kind kinds.Case) (f number);
-  }
+  one_image : (node : Node) (word : ℕ) → Have (19 + image_code text graph codes node word) 1 (image_at node word ∷ [])
+  one_image node word =
+      one_small 19 _ _ (λ f. image_few f node word (decode_of (slice_index text.words word)) _ refl)
+      (image_small node word)
+
+  abbrev ordered : List (List Item)
+  ordered = images_in_order text graph table cases codes
+
+  have_ordered : Have (length (below (length text.words)) * 19
+      + sum_by (order_code text graph codes) (below (length text.words))) (length (below (length text.words)) * 1) ordered
+  have_ordered =
+      mapped (λ word. image_at (node_in_order graph word) word) 19 1 (order_code text graph codes)
+      (below (length text.words)) (each _ (below (length text.words)) (λ word. one_image (node_in_order graph word) word))
+
+  have_ways : (number : ℕ) (edges : List Edge) → Each (λ edge. IsNodeIn graph.blocks graph.opens edge.to) edges
+      → Have (8 * length edges + ways_code codes number edges) (length edges)
+      (ways_from text graph table codes number edges)
+  have_ways number [] inside = none
+  have_ways number (edge ∷ edges) inside =
+      within _ (omega arith) (omega arith)
+      (joined (way_along text graph table codes number edge ∷ []) (ways_from text graph table codes (suc number) edges)
+      (one_small 8 (way_code codes number edge) _ (λ f. few (is_fall edge.kind) (same_kind edge.kind kinds.Case) (f number))
+      (way_small number edge inside.0)) (have_ways (suc number) edges inside.1))
     where
-      by : (fall chosen : Bool) → length (codes number) ≤ 176
+      few : (fall chosen : Bool) → length (codes number) ≤ 176
           → (if fall then 0 else if chosen then 0 else length (codes number)) ≤ 176
-      by true chosen l = omega arith
-      by false true l = omega arith
-      by false false l = l
+      few true chosen l = omega arith
+      few false true l = omega arith
+      few false false l = l
 
-  each_way : (number : ℕ) (edges : List Edge) → Each (λ edge. IsNodeIn graph.blocks graph.opens edge.to) edges
-      → Each IsPiece (ways_from text graph table codes number edges)
-  each_way number [] inside = tt
-  each_way number (edge ∷ edges) inside = (way_piece_of number edge inside.0, each_way (suc number) edges inside.1)
+  abbrev landings : List (List Item)
+  landings = map (landing text graph codes) (below (length text.words))
 
-  landing_piece : (word : ℕ) → word < length text.words → IsPiece (landing text graph codes word)
-  landing_piece word l = record {
-    most = landing_code graph codes word;
-    small = small_wide text (length pieces) _ _ (small_tail text (length pieces) _ _ (landing_tail word l));
-    few = λ f. optional_few f _;
-  }
+  have_landings : Have (length (below (length text.words)) * 4
+      + sum_by (landing_code graph codes) (below (length text.words))) (length (below (length text.words)) * 0) landings
+  have_landings =
+      mapped (landing text graph codes) 4 0 (landing_code graph codes) (below (length text.words))
+      (each-below _ (length text.words) (λ word l. one_tail _ _ (λ f. optional_few f _) (landing_tail word l)))
 
-  case_piece_of : (o : Open) (entry word : ℕ) → word < length text.words → IsPiece
-      (case_at text graph table codes o entry word)
-  case_piece_of o entry word l = record {
-    most = case_code graph codes (o, word);
-    small = small_wide text (length pieces) _ _ (case_small o entry word l);
-    few = λ f. optional_few f _;
-  }
+  have_cases : (o : Open) (entry : ℕ) (words : List ℕ) → Each (λ word. word < length text.words) words
+      → Have (8 * length words + sum_by (λ word. case_code graph codes (o, word)) words) (length words)
+      (cases_from text graph table codes o entry words)
+  have_cases o entry [] low = none
+  have_cases o entry (word ∷ words) low =
+      within _ (omega (arith, sum_by-cons (λ (w : ℕ). case_code graph codes (o, w)) word words)) (omega arith)
+      (joined (case_at text graph table codes o entry word ∷ []) (cases_from text graph table codes o (suc entry) words)
+      (one_small 8 (case_code graph codes (o, word)) _ (λ f. optional_few f _) (case_small o entry word low.0))
+      (have_cases o (suc entry) words low.1))
 
-  each_case : (o : Open) (entry : ℕ) (words : List ℕ) → Each (λ word. word < length text.words) words
-      → Each IsPiece (cases_from text graph table codes o entry words)
-  each_case o entry [] low = tt
-  each_case o entry (word ∷ words) low = (case_piece_of o entry word low.0, each_case o (suc entry) words low.1)
+  abbrev chosen : List Open → List (List Item)
+  chosen opens = flat_map (λ (o : Open). cases_from text graph table codes o 0 o.targets) opens
 
-  each_image : (node : Node) (from count : ℕ) → Each IsPiece (images_of text graph table cases codes node from count)
-  each_image node from count =
-      each-map IsPiece (image text graph (jumps_at text table) cases codes node) (range_with_len from count)
-      (each _ (range_with_len from count) (image_piece node))
+  have_chosen : (opens : List Open) → Each (λ (o : Open). Each (λ word. word < length text.words) o.targets) opens
+      → Have (8 * sum_by (λ (o : Open). length o.targets) opens + sum_by (case_code graph codes) (entries_in opens))
+      (sum_by (λ (o : Open). length o.targets) opens) (chosen opens)
+  have_chosen [] low = none
+  have_chosen (o ∷ opens) low =
+      within _
+      (omega (
+        arith,
+        sum_by-append (case_code graph codes) (map (λ (w : ℕ). (o, w)) o.targets) (entries_in opens),
+        sum-map (case_code graph codes) (λ (w : ℕ). (o, w)) o.targets,
+        sum_by-cons (λ (p : Open). length p.targets) o opens,
+      ))
+      (omega (arith, sum_by-cons (λ (p : Open). length p.targets) o opens))
+      (joined (cases_from text graph table codes o 0 o.targets) (chosen opens) (have_cases o 0 o.targets low.0)
+      (have_chosen opens low.1))
 
-  -- the pieces of an open switch: the comparison's landed copy, the jump's block up to the load, and from there on
-  abbrev compared : Open → List (List Item)
-  compared o =
-      images_of text graph table cases codes (copy o.switch.compare.0)
-      (slice_index graph.blocks.firsts o.switch.compare.0) (size_of graph.blocks o.switch.compare.0)
+  -- the images of a block that ends in a transfer
+  have_block : (node : Node) (k : ℕ) → ((word : ℕ) → ends_block graph node word
+      ≡ (word == last_word graph.blocks.firsts graph.blocks.words k))
+      → is_transfer (decode_of (slice_index text.words (last_word graph.blocks.firsts graph.blocks.words k))) ≡ true
+      → (words : List ℕ) → Have (19 * length words) (length words) (map (image_at node) words)
+  have_block node k at ends [] = none
+  have_block node k at ends (word ∷ words) =
+      within _ (omega (arith, no_code text graph codes node k word (at word) ends)) (omega arith)
+      (joined (image_at node word ∷ []) (map (image_at node) words) (one_image node word)
+      (have_block node k at ends words))
 
-  abbrev unloaded : Open → List (List Item)
-  unloaded o =
-      images_of text graph table cases codes (block o.block) (slice_index graph.blocks.firsts o.block)
-      (load_of text o - slice_index graph.blocks.firsts o.block)
+  have_open : (o : Open) → IsSwitchIn text graph.blocks o
+      → Have (19 * pieces_of text graph o) (words_of graph.blocks o) (open_pieces text graph table cases codes o)
+  have_open o its =
+      let first = slice_index graph.blocks.firsts o.block in
+      let load = load_of text o in
+      let keep = keep_by (decode_of (slice_index text.words load)) in
+      let compared = range_with_len (slice_index graph.blocks.firsts o.switch.compare.0)
+      (size_of graph.blocks o.switch.compare.0) in
+      let unloaded = range_with_len first (load - first) in
+      let loaded = range_with_len load (first + size_of graph.blocks o.block - load) in
+      let some = some_words graph.blocks.words graph.blocks.firsts g.cut.firsts o.block its.block_in in
+      let compared_many = length-range_with_len (slice_index graph.blocks.firsts o.switch.compare.0)
+      (size_of graph.blocks o.switch.compare.0) in
+      let unloaded_many = length-range_with_len first (load - first) in
+      let loaded_many = length-range_with_len load (first + size_of graph.blocks o.block - load) in
+      let above = its.above in
+      let below = its.below in
+      within _ (omega (arith, some, compared_many, unloaded_many, loaded_many, above, below))
+      (omega (arith, some, compared_many, unloaded_many, loaded_many, above, below))
+      (joined (map (image_at (copy o.switch.compare.0)) compared ++ map (image_at (block o.block)) unloaded)
+      (keep ∷ map (image_at (block o.block)) loaded)
+      (joined (map (image_at (copy o.switch.compare.0)) compared) (map (image_at (block o.block)) unloaded)
+      (have_block (copy o.switch.compare.0) o.switch.compare.0 (λ word. refl) its.branches compared)
+      (have_block (block o.block) o.block (λ word. refl) its.jumps unloaded))
+      (joined (keep ∷ []) (map (image_at (block o.block)) loaded)
+      (one_tail 0 keep (λ f. omega arith) (tail_keep text (length pieces) (decode_of (slice_index text.words load))))
+      (have_block (block o.block) o.block (λ word. refl) its.jumps loaded)))
 
-  abbrev kept : Open → List Item
-  kept o = keep_by (decode_of (slice_index text.words (load_of text o)))
+  abbrev opened : List Open → List (List Item)
+  opened opens = flat_map (open_pieces text graph table cases codes) opens
 
-  abbrev loaded : Open → List (List Item)
-  loaded o =
-      images_of text graph table cases codes (block o.block) (load_of text o)
-      (slice_index graph.blocks.firsts o.block + size_of graph.blocks o.block - load_of text o)
-
-  keep_piece : (instr : Instr) → IsPiece (keep_by instr)
-  keep_piece instr = record {
-    most = 0;
-    small = small_wide text (length pieces) 0 _ (small_tail text (length pieces) 0 _
-        (tail_keep text (length pieces) instr));
-    few = λ f. omega arith;
-  }
-
-  each_open : (o : Open) → Each IsPiece (open_pieces text graph table cases codes o)
-  each_open o =
-      each-append IsPiece (compared o ++ unloaded o) (kept o ∷ loaded o)
-      (each-append IsPiece (compared o) (unloaded o) (each_image (copy o.switch.compare.0) _ _)
-      (each_image (block o.block) _ _))
-      (keep_piece (decode_of (slice_index text.words (load_of text o))), each_image (block o.block) _ _)
+  have_opens : (opens : List Open) → Each (IsSwitchIn text graph.blocks) opens
+      → Have (19 * sum_by (pieces_of text graph) opens) (sum_by (words_of graph.blocks) opens) (opened opens)
+  have_opens [] its = none
+  have_opens (o ∷ opens) its =
+      within _ (omega (arith, sum_by-cons (pieces_of text graph) o opens))
+      (omega (arith, sum_by-cons (words_of graph.blocks) o opens))
+      (joined (open_pieces text graph table cases codes o) (opened opens) (have_open o its.0) (have_opens opens its.1))
 
   own_leads : Each (λ edge. IsNodeIn graph.blocks graph.opens edge.to) (own_edges graph)
   own_leads =
@@ -444,57 +530,48 @@ module _ (text : Words) (graph : Graph) (table cases : ℕ) (codes : ℕ → Lis
       each_at (λ (x : Edge). IsNodeIn graph.blocks graph.opens x.to) graph.edges number edge g.leads
       (g.own number edge e))
 
-  each_then_targets : (opens : List Open) → Each (λ (o : Open). Each (λ word. word < length text.words) o.targets) opens
-      → Each (λ (o : Open). Each IsPiece (cases_from text graph table codes o 0 o.targets)) opens
-  each_then_targets [] low = tt
-  each_then_targets (o ∷ opens) low = (each_case o 0 o.targets low.0, each_then_targets opens low.1)
+  -- ---- all of them
 
-  abbrev ordered : List (List Item)
-  ordered = images_in_order text graph table cases codes
+  opened_many : (opens : List Open)
+      → sum_by (pieces_of text graph) opens ≡ sum_by (words_of graph.blocks) opens + length opens
+  opened_many [] = omega arith
+  opened_many (o ∷ opens) =
+      omega (
+        arith,
+        sum_by-cons (pieces_of text graph) o opens,
+        sum_by-cons (words_of graph.blocks) o opens,
+        opened_many opens,
+      )
 
-  abbrev ways : List (List Item)
-  ways = ways_from text graph table codes 0 (own_edges graph)
-
-  abbrev landings : List (List Item)
-  landings = map (landing text graph codes) (below (length text.words))
-
-  abbrev opened : List Open → List (List Item)
-  opened opens = flat_map (open_pieces text graph table cases codes) opens
-
-  abbrev chosen : List Open → List (List Item)
-  chosen opens = flat_map (λ (o : Open). cases_from text graph table codes o 0 o.targets) opens
-
-  each_ordered : Each IsPiece ordered
-  each_ordered =
-      each-map IsPiece (λ word. image text graph (jumps_at text table) cases codes (node_in_order graph word) word)
-      (below (length text.words)) (each _ (below (length text.words))
-      (λ word. image_piece (node_in_order graph word) word))
-
-  each_chosen : Each IsPiece (chosen graph.opens)
-  each_chosen =
-      each_flat IsPiece (λ (o : Open). cases_from text graph table codes o 0 o.targets) graph.opens
-      (each_then_targets graph.opens g.targets)
-
-  last_piece : IsPiece foreign_piece
-  last_piece = record {
-    most = 0;
-    small = small_wide text (length pieces) 0 _ (small_foreign text (length pieces));
-    few = λ f. omega arith;
+  have_foreign : Have 8 0 (foreign_piece ∷ [])
+  have_foreign = record {
+    each = (one_small 8 0 foreign_piece (λ f. omega arith) (small_foreign text (length pieces))).each;
+    words_few = omega arith;
+    marks_few = omega arith;
   }
 
-  all_pieces : Each IsPiece pieces
+  have_all : Have (19 * length text.words + sum_by (order_code text graph codes) (below (length text.words))
+      + (8 * length (own_edges graph) + ways_code codes 0 (own_edges graph))
+      + (4 * length text.words + sum_by (landing_code graph codes) (below (length text.words)))
+      + 19 * sum_by (pieces_of text graph) graph.opens
+      + (8 * sum_by (λ (o : Open). length o.targets) graph.opens
+      + sum_by (case_code graph codes) (entries_in graph.opens)) + 8)
+      (8 * length text.words) pieces
   unfolding piece_list
-  all_pieces =
-      each-append IsPiece (ordered ++ ways ++ landings ++ opened graph.opens ++ chosen graph.opens) (foreign_piece ∷ [])
-      (each-append IsPiece (ordered ++ ways ++ landings ++ opened graph.opens) (chosen graph.opens)
-      (each-append IsPiece (ordered ++ ways ++ landings) (opened graph.opens)
-      (each-append IsPiece (ordered ++ ways) landings
-      (each-append IsPiece ordered ways each_ordered (each_way 0 (own_edges graph) own_leads))
-      (each-map IsPiece (landing text graph codes) (below (length text.words))
-      (each-below (λ word. IsPiece (landing text graph codes word)) (length text.words) landing_piece)))
-      (each_flat IsPiece (open_pieces text graph table cases codes) graph.opens (each _ graph.opens each_open)))
-      each_chosen)
-      (last_piece, tt)
+  have_all =
+      let ways = ways_from text graph table codes 0 (own_edges graph) in
+      let sizes = length-below (length text.words) in
+      let room = g.room in
+      let entries = g.entries in
+      let own = g.own_few in
+      within _ (omega (arith, sizes)) (omega (arith, sizes, room, entries, own))
+      (joined (ordered ++ ways ++ landings ++ opened graph.opens ++ chosen graph.opens) (foreign_piece ∷ [])
+      (joined (ordered ++ ways ++ landings ++ opened graph.opens) (chosen graph.opens)
+      (joined (ordered ++ ways ++ landings) (opened graph.opens)
+      (joined (ordered ++ ways) landings
+      (joined ordered ways have_ordered (have_ways 0 (own_edges graph) own_leads)) have_landings)
+      (have_opens graph.opens g.switches)) (have_chosen graph.opens g.targets))
+      have_foreign)
 
   -- a property of each piece, at a piece's number
   at_piece : (P : Option (List Item) → Type 0) → P None → ((items : List Item) → IsPiece items → P (Some items))
@@ -503,242 +580,20 @@ module _ (text : Words) (graph : Graph) (table cases : ℕ) (codes : ℕ → Lis
     where
       by : (o : Option (List Item)) → slice_get pieces k ≡ o → P o
       by None e = none
-      by (Some items) e = some items (each_at _ pieces k items all_pieces e)
+      by (Some items) e = some items (each_at _ pieces k items have_all.each e)
 
   item_says : (k n : ℕ) (address : Addr) (node : ℕ) → item_at pieces k n ≡ Some (it.Mark address node)
       → (word : ℕ) → word_at text address.0 ≡ Some word → is_transfer (decode_of (slice_index text.words word)) ≡ false
       → item_at pieces k (suc n) ≡ Some (it.Word (slice_index text.words word))
-  item_says k n address node e word at plain = by (slice_get pieces k) refl e
-    where
-      by : (o : Option (List Item)) → slice_get pieces k ≡ o → item_in o n ≡ Some (it.Mark address node)
-          → item_in o (suc n) ≡ Some (it.Word (slice_index text.words word))
-      by None there q = absurd (cc)
-      by (Some items) there q =
-          any_says text items (each_at _ pieces k items all_pieces there).small.says n address node q word at plain
-
-  -- ---- how many words they have
-
-  ways_up : (number : ℕ) (edges : List Edge) → Each (λ edge. IsNodeIn graph.blocks graph.opens edge.to) edges
-      → sum_by piece_words (ways_from text graph table codes number edges)
-      ≤ 8 * length edges + ways_code codes number edges
-  ways_up number [] inside = omega arith
-  ways_up number (edge ∷ edges) inside =
-      omega (
-        arith,
-        (way_small number edge inside.0).words,
-        ways_up (suc number) edges inside.1,
-        sum_by-cons piece_words (way_along text graph table codes number edge)
-            (ways_from text graph table codes (suc number) edges),
-      )
-
-  cases_up : (o : Open) (entry : ℕ) (words : List ℕ) → Each (λ word. word < length text.words) words
-      → sum_by piece_words (cases_from text graph table codes o entry words)
-      ≤ 8 * length words + sum_by (λ word. case_code graph codes (o, word)) words
-  cases_up o entry [] low = omega arith
-  cases_up o entry (word ∷ words) low =
-      omega (
-        arith,
-        (case_small o entry word low.0).words,
-        cases_up o (suc entry) words low.1,
-        sum_by-cons piece_words (case_at text graph table codes o entry word)
-            (cases_from text graph table codes o (suc entry) words),
-        sum_by-cons (λ (w : ℕ). case_code graph codes (o, w)) word words,
-      )
-
-  all_cases_up : (opens : List Open) → Each (λ (o : Open). Each (λ word. word < length text.words) o.targets) opens
-      → sum_by piece_words (chosen opens)
-      ≤ 8 * sum_by (λ (o : Open). length o.targets) opens + sum_by (case_code graph codes) (entries_in opens)
-  all_cases_up [] low = omega arith
-  all_cases_up (o ∷ opens) low =
-      omega (
-        arith,
-        sum_by-append piece_words (cases_from text graph table codes o 0 o.targets) (chosen opens),
-        sum_by-append (case_code graph codes) (map (λ (w : ℕ). (o, w)) o.targets) (entries_in opens),
-        sum-map (case_code graph codes) (λ (w : ℕ). (o, w)) o.targets,
-        sum_by-cons (λ (p : Open). length p.targets) o opens,
-        cases_up o 0 o.targets low.0,
-        all_cases_up opens low.1,
-      )
-
-  -- a block that ends in a transfer
-  image_words : (node : Node) (k : ℕ) → ((word : ℕ) → ends_block graph node word
-      ≡ (word == last_word graph.blocks.firsts graph.blocks.words k))
-      → is_transfer (decode_of (slice_index text.words (last_word graph.blocks.firsts graph.blocks.words k))) ≡ true
-      → (from count : ℕ) → Each (λ items. piece_words items ≤ 19)
-      (images_of text graph table cases codes node from count)
-  image_words node k at ends from count =
-      each-map (λ items. piece_words items ≤ 19) (image text graph (jumps_at text table) cases codes node)
-      (range_with_len from count) (each _ (range_with_len from count) (λ word.
-      omega (arith, (image_small node word).words, no_code text graph codes node k word (at word) ends)))
-
-  open_words : (o : Open) → IsSwitchIn text graph.blocks o
-      → Each (λ items. piece_words items ≤ 19) (open_pieces text graph table cases codes o)
-  open_words o its =
-      let keep = tail_keep text (length pieces) (decode_of (slice_index text.words (load_of text o))) in
-      each-append (λ items. piece_words items ≤ 19) (compared o ++ unloaded o) (kept o ∷ loaded o)
-      (each-append (λ items. piece_words items ≤ 19) (compared o) (unloaded o)
-      (image_words (copy o.switch.compare.0) o.switch.compare.0 (λ word. refl) its.branches _ _)
-      (image_words (block o.block) o.block (λ word. refl) its.jumps _ _))
-      (omega (arith, keep.words), image_words (block o.block) o.block (λ word. refl) its.jumps _ _)
-
-  all_open_words : (opens : List Open) → Each (IsSwitchIn text graph.blocks) opens
-      → Each (λ items. piece_words items ≤ 19) (opened opens)
-  all_open_words [] its = tt
-  all_open_words (o ∷ opens) its =
-      each-append (λ items. piece_words items ≤ 19) (open_pieces text graph table cases codes o) (opened opens)
-      (open_words o its.0) (all_open_words opens its.1)
-
-  -- ---- how many Marks
-
-  marks_few : (xs : List (List Item)) → Each IsPiece xs → sum_by marks_in xs ≤ length xs
-  marks_few [] each = omega arith
-  marks_few (x ∷ xs) each = omega (arith, sum_by-cons marks_in x xs, each.0.small.marks, marks_few xs each.1)
-
-  images_many : (node : Node) (from count : ℕ) → length (images_of text graph table cases codes node from count) ≡ count
-  images_many node from count =
-      length-map (range_with_len from count) (image text graph (jumps_at text table) cases codes node)
-      ∙ length-range_with_len from count
-
-  open_marks : (o : Open) → IsSwitchIn text graph.blocks o
-      → sum_by marks_in (open_pieces text graph table cases codes o) ≤ words_of graph.blocks o
-  open_marks o its =
-      omega (
-        arith,
-        sum_by-append marks_in (compared o ++ unloaded o) (kept o ∷ loaded o),
-        sum_by-append marks_in (compared o) (unloaded o),
-        sum_by-cons marks_in (kept o) (loaded o),
-        (tail_keep text (length pieces) (decode_of (slice_index text.words (load_of text o)))).marks,
-        marks_few (compared o) (each_image (copy o.switch.compare.0) _ _),
-        marks_few (unloaded o) (each_image (block o.block) _ _),
-        marks_few (loaded o) (each_image (block o.block) _ _),
-        images_many (copy o.switch.compare.0) (slice_index graph.blocks.firsts o.switch.compare.0)
-            (size_of graph.blocks o.switch.compare.0),
-        images_many (block o.block) (slice_index graph.blocks.firsts o.block)
-            (load_of text o - slice_index graph.blocks.firsts o.block),
-        images_many (block o.block) (load_of text o)
-            (slice_index graph.blocks.firsts o.block + size_of graph.blocks o.block - load_of text o),
-        its.above,
-        its.below,
-        some_words graph.blocks.words graph.blocks.firsts g.cut.firsts o.block its.block_in,
-      )
-
-  all_open_marks : (opens : List Open) → Each (IsSwitchIn text graph.blocks) opens
-      → sum_by marks_in (opened opens) ≤ sum_by (words_of graph.blocks) opens
-  all_open_marks [] its = omega arith
-  all_open_marks (o ∷ opens) its =
-      omega (
-        arith,
-        sum_by-append marks_in (open_pieces text graph table cases codes o) (opened opens),
-        sum_by-cons (words_of graph.blocks) o opens,
-        open_marks o its.0,
-        all_open_marks opens its.1,
-      )
-
-  -- ---- all of them
-
-  parts_joined : (f : List Item → ℕ)
-      → sum_by f pieces ≡ sum_by f ordered + sum_by f ways + sum_by f landings + sum_by f (opened graph.opens)
-      + sum_by f (chosen graph.opens) + sum_by f (foreign_piece ∷ [])
-  unfolding piece_list
-  parts_joined f =
-      omega (
-        arith,
-        sum_by-append f ordered ways,
-        sum_by-append f (ordered ++ ways) landings,
-        sum_by-append f (ordered ++ ways ++ landings) (opened graph.opens),
-        sum_by-append f (ordered ++ ways ++ landings ++ opened graph.opens) (chosen graph.opens),
-        sum_by-append f (ordered ++ ways ++ landings ++ opened graph.opens ++ chosen graph.opens) (foreign_piece ∷ []),
-      )
-
-  ordered_many : length ordered ≡ length text.words
-  ordered_many =
-      length-map (below (length text.words))
-      (λ word. image text graph (jumps_at text table) cases codes (node_in_order graph word) word)
-      ∙ length-below (length text.words)
-
-  opened_many : length (opened graph.opens) ≡ sum_by (words_of graph.blocks) graph.opens + length graph.opens
-  opened_many =
-      opens_many text graph table cases codes g
-      ∙ both graph.opens
-    where
-      both : (opens : List Open)
-          → sum_by (pieces_of text graph) opens ≡ sum_by (words_of graph.blocks) opens + length opens
-      both [] = omega arith
-      both (o ∷ opens) =
-          omega (
-            arith,
-            sum_by-cons (pieces_of text graph) o opens,
-            sum_by-cons (words_of graph.blocks) o opens,
-            both opens,
-          )
+  item_says k n address node e word at plain =
+      at_piece (λ o. item_in o n ≡ Some (it.Mark address node)
+      → item_in o (suc n) ≡ Some (it.Word (slice_index text.words word))) (λ q. absurd (cc))
+      (λ items its q. any_says text items its.says n address node q word at plain) k e
 
   -- so many pieces
   few_pieces : length pieces ≤ 10 * length text.words + 1
   few_pieces =
-      omega (
-        arith,
-        many,
-        foreign_is text graph,
-        opens_many text graph table cases codes g,
-        opened_many,
-        g.own_few,
-        g.room,
-        g.few,
-        g.entries,
-      )
-
-  all_marks : sum_by marks_in pieces ≤ 8 * length text.words
-  all_marks =
-      let landing_marks : sum_by marks_in landings ≤ length landings * 0 =
-      most_of marks_in 0 landings (each-map (λ items. marks_in items ≤ 0) (landing text graph codes)
-      (below (length text.words)) (each-below _ (length text.words) (λ word l. (landing_tail word l).marks))) in
-      let last : sum_by marks_in (foreign_piece ∷ []) ≡ 0 = omega arith in
-      omega (
-        arith,
-        parts_joined marks_in,
-        marks_few ordered each_ordered,
-        ordered_many,
-        marks_few ways (each_way 0 (own_edges graph) own_leads),
-        ways_length text graph table cases codes 0 (own_edges graph),
-        landing_marks,
-        all_open_marks graph.opens g.switches,
-        marks_few (chosen graph.opens) each_chosen,
-        chosen_many text graph table cases codes,
-        g.room,
-        g.entries,
-        g.own_few,
-      )
-
-  all_words : (snips : List (List Op)) → AreShort snips codes → sum_by piece_words pieces
-      ≤ 113 * length text.words + 8 + 22 * operations_in graph snips
-  all_words snips short =
-      let images : sum_by piece_words ordered
-      ≤ length (below (length text.words)) * 19 + sum_by (order_code text graph codes) (below (length text.words)) =
-      words_up piece_words (λ word. image text graph (jumps_at text table) cases codes
-      (node_in_order graph word) word) 19
-      (order_code text graph codes) (below (length text.words))
-      (each _ (below (length text.words)) (λ word. (image_small (node_in_order graph word) word).words)) in
-      let lands : sum_by piece_words landings
-      ≤ length (below (length text.words)) * 4 + sum_by (landing_code graph codes) (below (length text.words)) =
-      words_up piece_words (landing text graph codes) 4 (landing_code graph codes) (below (length text.words))
-      (each-below _ (length text.words) (λ word l. (landing_tail word l).words)) in
-      let last : sum_by piece_words (foreign_piece ∷ []) ≡ 4 = omega arith in
-      omega (
-        arith,
-        parts_joined piece_words,
-        images,
-        ways_up 0 (own_edges graph) own_leads,
-        lands,
-        most_of piece_words 19 (opened graph.opens) (all_open_words graph.opens g.switches),
-        opened_many,
-        all_cases_up graph.opens g.targets,
-        length-below (length text.words),
-        snippets_few text graph codes g snips short,
-        g.room,
-        g.few,
-        g.entries,
-        g.own_few,
-      )
+      omega (arith, many, foreign_is text graph, opened_many graph.opens, g.own_few, g.room, g.few, g.entries)
 
   -- ---- they fit
 
@@ -746,22 +601,33 @@ module _ (text : Words) (graph : Graph) (table cases : ℕ) (codes : ℕ → Lis
   fits snips short =
       let few : AreFew = (λ number. omega (arith, short.short number, short.few number)) in
       let items : sum_by length pieces ≤ length pieces * 197 =
-      most_of length 197 pieces (each-then IsPiece (λ items. length items ≤ 197) pieces
-      (λ items p. omega (arith, p.small.few, p.few few)) all_pieces) in
+      most_of length 197 pieces (each-then IsPiece (λ items. length items ≤ 197) pieces (λ items its. its.few few)
+      have_all.each) in
+      let words : sum_by piece_words pieces ≤ 113 * length text.words + 8 + 22 * operations_in graph snips =
+      omega (
+        arith,
+        have_all.words_few,
+        snippets_few text graph codes g snips short,
+        opened_many graph.opens,
+        g.room,
+        g.few,
+        g.entries,
+        g.own_few,
+      ) in
       record {
         pieces = record {
           count = omega (arith, few_pieces, is.few);
           items = omega (arith, items, few_pieces, is.few);
           leads = λ k n. at_piece (λ (o : Option (List Item)). LeadsBelow (length pieces)
-              (item_in o n)) tt (λ items p. any_leads _ n items p.small.leads) k;
-          marked = at_piece IsMarked tt (λ items p. p.small.marked);
+              (item_in o n)) tt (λ items its. any_leads _ n items its.leads) k;
+          marked = at_piece IsMarked tt (λ items its. its.marked);
         };
         images = omega (arith, many, foreign_is text graph);
         landings = λ word l. omega (arith, many, lands_below text graph g snips word l);
         cases = λ entry number e. omega (arith, many, case_number_below text graph g entry number e);
         foreign = omega (arith, many);
-        marks = omega (arith, all_marks, is.few);
-        bytes = omega (arith, all_words snips short, is.few);
+        marks = omega (arith, have_all.marks_few, is.few);
+        bytes = omega (arith, words, is.few);
       }
 
 pub pieces_fit : PiecesFit

@@ -37,16 +37,13 @@ use Rattle.image_code.specs.Simulates.{Setting, IsOnWay, is_jmpl, at_point, does
 use Rattle.image_code.specs.Images.{Pieces, Frame, Here, IsPlaced, entered_at, Entered}
 use Rattle.image_code.specs.Cases.{LeadsTo}
 use Rattle.image_code.specs.Calls.{IsJump, JumpsStep}
+use Rattle.image_code.proofs.Marked.{link_few}
 use Rattle.image_code.proofs.Memories.{same_stored}
 use Rattle.image_code.proofs.Cases.{ended_none, live_before}
 use Rattle.image_code.proofs.Couple.{quiet_transfer}
 use Rattle.image_code.proofs.Dead.{LastDead, gone_last}
 use Rattle.image_code.proofs.Sparing.{instr_is, transfers}
 use Rattle.image_code.proofs.Through.{AtWords, at_words, own_stored, goes_through, page_cells}
-
-link_few : (rd address : ℕ) → length (link rd address) ≤ 2
-link_few zero address = omega arith
-link_few (suc rd) address = omega arith
 
 module _ (g : Setting) (l : Pieces) (base : ℕ) (p : Placement) (place : ℕ → ℕ → ℕ) (f : Frame)
     (h : IsPlaced g l base p place f)

@@ -51,7 +51,6 @@ pub mod Operands
 pub mod Along
 pub mod FirstPlaces
 pub mod EdgeTables
-pub mod SameCodes
 pub mod Pushed
 pub mod NumberTables
 pub mod CasePieces
@@ -59,3 +58,4 @@ pub mod OpenPieces
 pub mod LoadWords
 pub mod JumpsBy
 pub mod Sources
+pub mod Found

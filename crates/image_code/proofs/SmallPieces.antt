@@ -29,6 +29,7 @@ use Rattle.image_code.specs.Choices.{choice_piece}
 use Rattle.image_code.specs.Couple.{couple_piece}
 use Rattle.image_code.specs.Made.{jump_to, keep_by}
 use Rattle.image_code.specs.Fit.{is_mark, marks_in}
+use Rattle.image_code.proofs.Branches.{within_is}
 
 -- the item behind a Mark at such an address is the word there, unless that is a transfer
 pub record SaysWord (text : Words) (address : ℕ) (items : List Item) : Type 0 where
@@ -313,10 +314,6 @@ module _ (text : Words) (count : ℕ) where
   }
 
 -- ---- what stands behind a Mark
-
-within_is : (count word other : ℕ) → within count word ≡ Some other → word ≡ other
-within_is count word other e = cond_both (nat_lt word count) _ _ (λ (o : Option ℕ). o ≡ Some other → word ≡ other)
-    (λ _ q. cc) (λ _ q. absurd (cc)) e
 
 at_same : (text : Words) (word other : ℕ) → word_at text (address_of text word) ≡ Some other → word ≡ other
 at_same text word other e = within_is (length text.words) word other (sym (word_at-address text word) ∙ e)

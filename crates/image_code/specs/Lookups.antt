@@ -129,3 +129,8 @@ pub record AreLookups (text : Words) (graph : Graph) (l : Lookups) : Type 0 wher
   pub begins : l.begins.items ≡ map (open_begin text graph) (below (length graph.opens + 1))
   pub loads : l.loads.items ≡ map (load_of text) graph.opens
   pub entries : l.entries.items ≡ map (first_entry text graph) (below (length graph.opens + 1))
+
+-- They are those of a graph, of which it is known what it is.
+pub record AreFound (text : Words) (graph : Graph) (l : Lookups) : Type 0 where
+  pub source : IsSource text graph
+  pub lookups : AreLookups text graph l

@@ -108,13 +108,12 @@ impl<'a> Maker<'a> {
     // The node of a word's image in the order of the text: the landed copy of a jump's block, and else the block
     // itself.
     fn node_of(&self, word: WordNo) -> Node
-        requires lookups { AreLookups self.now.text.now self.now.graph.now self.now.lookups.now }
         requires word { word.0 < self.now.graph.now.blocks.words }
         ensures node { result ≡ node_in_order self.now.graph.now word.0 }
         ensures numbered { IsNumbered (length self.now.graph.now.blocks.firsts) result }
     {
         let block = self.graph.holding(word);
-        if self.lookups.is_jumps(self.text, self.graph, block) {
+        if self.is_jumps(block) {
             Node::Landed(block)
         } else {
             Node::Block(block)
@@ -124,8 +123,6 @@ impl<'a> Maker<'a> {
     // Where control goes on at a node after a word that is no transfer: in a switch's own blocks, which end in
     // transfers, at the next word's image.
     fn next_at(&self, node: Node, word: WordNo) -> Next
-        requires source { IsSource self.now.text.now self.now.graph.now }
-        requires lookups { AreLookups self.now.text.now self.now.graph.now self.now.lookups.now }
         requires word { word.0 < length self.now.text.now.words }
         ensures { items_of result ≡ next_at_of self.now.text.now self.now.graph.now node word.0 }
     {
@@ -138,16 +135,12 @@ impl<'a> Maker<'a> {
 
     // The code of the snippet of the edge to the next word, behind the last word of a block.
     fn code_behind(&self, node: Node, word: WordNo) -> &'a [u32]
-        requires source { IsSource self.now.text.now self.now.graph.now }
-        requires lookups { AreLookups self.now.text.now self.now.graph.now self.now.lookups.now }
         requires node { IsNumbered (length self.now.graph.now.blocks.firsts) node }
         ensures { result.now ≡ flat_map (code_at_of self.now.codes.now)
             (if ends_block_of self.now.graph.now node word.0 then edge_from self.now.graph.now node Fall else []) }
     {
         if ends_block(self.graph, node, word) {
-            let fall = self
-                .lookups
-                .leaving(self.text, self.graph, node, EdgeKind::Fall);
+            let fall = self.leaving(node, EdgeKind::Fall);
             code_on(self.codes, fall)
         } else {
             &[]
@@ -158,13 +151,11 @@ impl<'a> Maker<'a> {
 
     // The way along the edge of a kind that leaves a node.
     fn way_out(&self, node: Node, kind: EdgeKind) -> Result<PieceNo, NoMemory>
-        requires source { IsSource self.now.text.now self.now.graph.now }
-        requires lookups { AreLookups self.now.text.now self.now.graph.now self.now.lookups.now }
         requires node { IsNumbered (length self.now.graph.now.blocks.firsts) node }
         requires kind { is_land kind ≡ false }
         ensures { IfOk result (λ p. p.0 ≡ way_out_of self.now.text.now self.now.graph.now node kind) }
     {
-        match self.lookups.leaving(self.text, self.graph, node, kind) {
+        match self.leaving(node, kind) {
             Some(edge) => piece(u64::from(self.text.len()) + u64::from(edge)),
             None => Ok(PieceNo(0)),
         }
@@ -178,8 +169,6 @@ impl<'a> Maker<'a> {
         node: Node,
         cond: Cond,
     ) -> Result<Piece, NoMemory>
-        requires source { IsSource self.now.text.now self.now.graph.now }
-        requires lookups { AreLookups self.now.text.now self.now.graph.now self.now.lookups.now }
         requires node { IsNumbered (length self.now.graph.now.blocks.firsts) node }
         requires visit { visit.node ≡ node_number_of self.now.graph.now node }
         ensures { IfOk result (λ p. p
@@ -199,15 +188,13 @@ impl<'a> Maker<'a> {
         rd: Reg,
         number: usize,
     ) -> Result<Piece, NoMemory>
-        requires source { IsSource self.now.text.now self.now.graph.now }
-        requires lookups { AreLookups self.now.text.now self.now.graph.now self.now.lookups.now }
         requires visit { visit.node ≡ node_number_of self.now.graph.now node }
         ensures { IfOk result (λ p. p ≡ choice_of self.now.text.now self.now.graph.now self.now.jumps.0
             self.now.cases.0 visit.address node rd (Some number) (slice_get self.now.graph.now.opens number)) }
     {
         match self.graph.opens().get(number) {
             Some(found) => {
-                let first = self.lookups.entry(self.text, self.graph, number);
+                let first = self.entry(number);
                 let distance = distance(self.cases, first, found.switch().table);
                 choice(alloc, visit, rd, distance)
             }
@@ -225,8 +212,6 @@ impl<'a> Maker<'a> {
         rs1: Reg,
         op2: Op2,
     ) -> Result<Piece, NoMemory>
-        requires source { IsSource self.now.text.now self.now.graph.now }
-        requires lookups { AreLookups self.now.text.now self.now.graph.now self.now.lookups.now }
         requires node { IsNumbered (length self.now.graph.now.blocks.firsts) node }
         requires visit { visit.node ≡ node_number_of self.now.graph.now node }
         requires fits { IsTrue (op2_fits op2) }
@@ -247,8 +232,6 @@ impl<'a> Maker<'a> {
         rs1: Reg,
         op2: Op2,
     ) -> Result<Piece, NoMemory>
-        requires source { IsSource self.now.text.now self.now.graph.now }
-        requires lookups { AreLookups self.now.text.now self.now.graph.now self.now.lookups.now }
         requires block { block.0 < length self.now.graph.now.blocks.firsts }
         requires visit { visit.node ≡ node_number_of self.now.graph.now (Block block) }
         requires fits { IsTrue (op2_fits op2) }
@@ -256,7 +239,7 @@ impl<'a> Maker<'a> {
             self.now.cases.0 visit.address (Block block) rd rs1 op2) }
     {
         let node = Node::Block(block);
-        match self.lookups.jump_of(self.text, self.graph, block) {
+        match self.jump_of(block) {
             Some(number) => self.choice_image(alloc, visit, node, rd, number as usize),
             None => self.jump_out(alloc, visit, node, rd, rs1, op2),
         }
@@ -272,8 +255,6 @@ impl<'a> Maker<'a> {
         rs1: Reg,
         op2: Op2,
     ) -> Result<Piece, NoMemory>
-        requires source { IsSource self.now.text.now self.now.graph.now }
-        requires lookups { AreLookups self.now.text.now self.now.graph.now self.now.lookups.now }
         requires node { IsNumbered (length self.now.graph.now.blocks.firsts) node }
         requires visit { visit.node ≡ node_number_of self.now.graph.now node }
         requires fits { IsTrue (op2_fits op2) }
@@ -291,8 +272,6 @@ impl<'a> Maker<'a> {
 
     // The image of a word, for a node whose block holds it.
     fn image(&self, alloc: Global, node: Node, word: WordNo) -> Result<Piece, NoMemory>
-        requires source { IsSource self.now.text.now self.now.graph.now }
-        requires lookups { AreLookups self.now.text.now self.now.graph.now self.now.lookups.now }
         requires node { IsNumbered (length self.now.graph.now.blocks.firsts) node }
         requires word { word.0 < length self.now.text.now.words }
         ensures { IfOk result (λ p. p ≡ image_of self.now.text.now self.now.graph.now self.now.jumps.0
@@ -319,8 +298,6 @@ impl<'a> Maker<'a> {
 
     /// Adds the images of the words in the order of the text.
     pub(crate) fn push_images(&self, alloc: Global, list: &mut Vec<Piece>) -> Result<(), NoMemory>
-        requires source { IsSource self.now.text.now self.now.graph.now }
-        requires lookups { AreLookups self.now.text.now self.now.graph.now self.now.lookups.now }
         ensures { OnOk result (list.new.items ≡ list.old.items
             ++ map (λ word. image_of self.now.text.now self.now.graph.now self.now.jumps.0 self.now.cases.0
             (code_at_of self.now.codes.now) (node_in_order self.now.graph.now word) word)
@@ -343,8 +320,6 @@ impl<'a> Maker<'a> {
         from: u32,
         count: u32,
     ) -> Result<(), NoMemory>
-        requires source { IsSource self.now.text.now self.now.graph.now }
-        requires lookups { AreLookups self.now.text.now self.now.graph.now self.now.lookups.now }
         requires node { IsNumbered (length self.now.graph.now.blocks.firsts) node }
         requires words { from + count ≤ length self.now.text.now.words }
         ensures { OnOk result (list.new.items ≡ list.old.items

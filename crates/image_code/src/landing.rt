@@ -34,22 +34,18 @@ impl Maker<'_> {
 
     // The landing at a word: the snippet of its node's landing, and the way to where control enters the word there.
     fn landing(&self, alloc: Global, word: WordNo) -> Result<Piece, NoMemory>
-        requires source { IsSource self.now.text.now self.now.graph.now }
-        requires lookups { AreLookups self.now.text.now self.now.graph.now self.now.lookups.now }
         ensures { IfOk result (λ p. p
             ≡ landing_of self.now.text.now self.now.graph.now (code_at_of self.now.codes.now) word.0) }
     {
         let node = self.graph.lands(word);
-        let edge = self.lookups.landing(self.text, self.graph, node);
+        let edge = self.landing_edge(node);
         let code = code_on(self.codes, edge);
-        let to = self.lookups.enter(self.text, self.graph, node, word)?;
+        let to = self.enter(node, word)?;
         way_to(alloc, code, Next::Piece(to))
     }
 
     /// Adds the landings at the words.
     pub(crate) fn push_landings(&self, alloc: Global, list: &mut Vec<Piece>) -> Result<(), NoMemory>
-        requires source { IsSource self.now.text.now self.now.graph.now }
-        requires lookups { AreLookups self.now.text.now self.now.graph.now self.now.lookups.now }
         ensures { OnOk result (list.new.items ≡ list.old.items
             ++ map (landing_of self.now.text.now self.now.graph.now (code_at_of self.now.codes.now))
             (below (length self.now.text.now.words))) }
@@ -65,15 +61,13 @@ impl Maker<'_> {
     // The piece to which the table leads from a word: where some operation is made there its landing, and else where
     // control enters its image.
     fn lands_at(&self, snips: &[Snippet], word: WordNo) -> Result<PieceNo, NoMemory>
-        requires source { IsSource self.now.text.now self.now.graph.now }
-        requires lookups { AreLookups self.now.text.now self.now.graph.now self.now.lookups.now }
         ensures { IfOk result (λ p. p.0 ≡ lands_at_of self.now.text.now self.now.graph.now snips.now word.0) }
     {
         let node = self.graph.lands(word);
-        if operations(snips, self.lookups.landing(self.text, self.graph, node)) == 0 {
-            self.lookups.enter(self.text, self.graph, node, word)
+        if operations(snips, self.landing_edge(node)) == 0 {
+            self.enter(node, word)
         } else {
-            let own = self.lookups.own_edges(self.graph).len() as u64;
+            let own = self.own_edges().len() as u64;
             piece(u64::from(self.text.len()) + own + u64::from(word.0))
         }
     }
@@ -84,8 +78,6 @@ impl Maker<'_> {
         alloc: Global,
         snips: &[Snippet],
     ) -> Result<Vec<PieceNo>, NoMemory>
-        requires source { IsSource self.now.text.now self.now.graph.now }
-        requires lookups { AreLookups self.now.text.now self.now.graph.now self.now.lookups.now }
         ensures { IfOk result (λ v. map (λ (n : PieceNo). n.0) v.items
             ≡ map (lands_at_of self.now.text.now self.now.graph.now snips.now)
             (below (length self.now.text.now.words))) }

@@ -19,6 +19,7 @@ use crate::firsts::{
     case_key, first_at, first_cases, first_compares, first_edges, first_jumps, small,
 };
 use crate::loads::load_of;
+use crate::maker::Maker;
 use cfg_blocks::EdgeKind;
 use cfg_normal::{Edge, FlowGraph, Node, OpenSwitch, kind_number, node_number};
 use eel_base::{BlockNo, NoMemory, Text};
@@ -221,117 +222,93 @@ fn number_at(table: &[u32], place: usize) -> u32
     table[place]
 }
 
-impl Lookups {
+impl<'a> Maker<'a> {
     /// The edges but for the landings, which come last.
-    pub(crate) fn own_edges<'a>(&self, graph: &'a FlowGraph) -> &'a [Edge]
-        requires own { self.now.own ≡ length graph.now.edges - landing_count_of graph.now }
-        ensures edges { result.now ≡ own_edges_of graph.now }
-        ensures inside { All (IsEdgeIn graph.now.blocks graph.now.opens) result.now }
+    pub(crate) fn own_edges(&self) -> &'a [Edge]
+        ensures edges { result.now ≡ own_edges_of self.now.graph.now }
+        ensures inside { All (IsEdgeIn self.now.graph.now.blocks self.now.graph.now.opens) result.now }
     {
-        &graph.edges()[..self.own]
+        &self.graph.edges()[..self.lookups.own]
     }
 
     /// The edge of a kind that leaves a node.
-    pub(crate) fn leaving(
-        &self,
-        text: &Text,
-        graph: &FlowGraph,
-        node: Node,
-        kind: EdgeKind,
-    ) -> Option<u32>
-        requires source { IsSource text.now graph.now }
-        requires lookups { AreLookups text.now graph.now self.now }
-        requires node { IsNumbered (length graph.now.blocks.firsts) node }
+    pub(crate) fn leaving(&self, node: Node, kind: EdgeKind) -> Option<u32>
+        requires node { IsNumbered (length self.now.graph.now.blocks.firsts) node }
         requires kind { is_land kind ≡ false }
-        ensures { option_to_list result ≡ edge_from graph.now node kind }
+        ensures { option_to_list result ≡ edge_from self.now.graph.now node kind }
     {
-        let place = 7 * node_number(graph, node) as usize + kind_number(kind) as usize;
-        first_at(&self.edges, place)
+        let place = 7 * node_number(self.graph, node) as usize + kind_number(kind) as usize;
+        first_at(&self.lookups.edges, place)
     }
 
     /// The landing at a node.
-    pub(crate) fn landing(&self, text: &Text, graph: &FlowGraph, node: Node) -> Option<u32>
-        requires source { IsSource text.now graph.now }
-        requires lookups { AreLookups text.now graph.now self.now }
-        requires node { IsNumbered (length graph.now.blocks.firsts) node }
-        ensures { option_to_list result ≡ landing_at graph.now node }
+    pub(crate) fn landing_edge(&self, node: Node) -> Option<u32>
+        requires node { IsNumbered (length self.now.graph.now.blocks.firsts) node }
+        ensures { option_to_list result ≡ landing_at self.now.graph.now node }
     {
-        let place = 7 * node_number(graph, node) as usize + kind_number(EdgeKind::Land) as usize;
-        first_at(&self.edges, place)
+        let place = 7 * node_number(self.graph, node) as usize
+            + kind_number(EdgeKind::Land) as usize;
+        first_at(&self.lookups.edges, place)
     }
 
     /// The Case edge from a block to a node.
-    pub(crate) fn case_edge(
-        &self,
-        text: &Text,
-        graph: &FlowGraph,
-        block: BlockNo,
-        to: Node,
-    ) -> Option<u32>
-        requires source { IsSource text.now graph.now }
-        requires lookups { AreLookups text.now graph.now self.now }
-        requires block { block.0 < length graph.now.blocks.firsts }
-        requires to { IsNumbered (length graph.now.blocks.firsts) to }
-        ensures { option_to_list result ≡ edge_along graph.now (Block block) (record { kind = Case; to = Some to }) }
+    pub(crate) fn case_edge(&self, block: BlockNo, to: Node) -> Option<u32>
+        requires block { block.0 < length self.now.graph.now.blocks.firsts }
+        requires to { IsNumbered (length self.now.graph.now.blocks.firsts) to }
+        ensures { option_to_list result ≡ edge_along self.now.graph.now (Block block) (record { kind = Case; to = Some to }) }
     {
-        let number = node_number(graph, to);
-        match self.cases.get(&case_key(block.0, number)) {
+        let number = node_number(self.graph, to);
+        match self.lookups.cases.get(&case_key(block.0, number)) {
             Some(edge) => Some(*edge),
             None => None,
         }
     }
 
     /// The number of the open switch whose jump ends the block.
-    pub(crate) fn jump_of(&self, text: &Text, graph: &FlowGraph, block: BlockNo) -> Option<u32>
-        requires lookups { AreLookups text.now graph.now self.now }
-        requires block { block.0 < length graph.now.blocks.firsts }
-        ensures { result ≡ jump_number text.now graph.now block.0 }
+    pub(crate) fn jump_of(&self, block: BlockNo) -> Option<u32>
+        requires block { block.0 < length self.now.graph.now.blocks.firsts }
+        ensures { result ≡ jump_number self.now.text.now self.now.graph.now block.0 }
     {
-        first_at(&self.jumps, block.0 as usize)
+        first_at(&self.lookups.jumps, block.0 as usize)
     }
 
     /// The number of the first open switch whose comparison stands in the block.
-    pub(crate) fn compare_of(&self, text: &Text, graph: &FlowGraph, block: BlockNo) -> Option<u32>
-        requires lookups { AreLookups text.now graph.now self.now }
-        requires block { block.0 < length graph.now.blocks.firsts }
-        ensures { result ≡ compare_number text.now graph.now block.0 }
+    pub(crate) fn compare_of(&self, block: BlockNo) -> Option<u32>
+        requires block { block.0 < length self.now.graph.now.blocks.firsts }
+        ensures { result ≡ compare_number self.now.text.now self.now.graph.now block.0 }
     {
-        first_at(&self.compares, block.0 as usize)
+        first_at(&self.lookups.compares, block.0 as usize)
     }
 
     /// Whether the jump of an open switch ends the block.
-    pub(crate) fn is_jumps(&self, text: &Text, graph: &FlowGraph, block: BlockNo) -> bool
-        requires lookups { AreLookups text.now graph.now self.now }
-        requires block { block.0 < length graph.now.blocks.firsts }
-        ensures { result ≡ jumps_in graph.now.opens block.0 }
+    pub(crate) fn is_jumps(&self, block: BlockNo) -> bool
+        requires block { block.0 < length self.now.graph.now.blocks.firsts }
+        ensures { result ≡ jumps_in self.now.graph.now.opens block.0 }
     {
-        is_jumps(graph, &self.jumps, block)
+        self.jump_of(block).is_some()
     }
 
     /// Where the pieces of an open switch begin; behind the last one, those of Case edges.
-    pub(crate) fn begin(&self, text: &Text, graph: &FlowGraph, number: usize) -> u32
-        requires lookups { AreLookups text.now graph.now self.now }
-        requires number { number ≤ length graph.now.opens }
-        ensures { result ≡ open_begin text.now graph.now number }
+    pub(crate) fn begin(&self, number: usize) -> u32
+        requires number { number ≤ length self.now.graph.now.opens }
+        ensures { result ≡ open_begin self.now.text.now self.now.graph.now number }
     {
-        number_at(&self.begins, number)
+        number_at(&self.lookups.begins, number)
     }
 
     /// The number of the first entry of an open switch; behind the last one, how many entries there are.
-    pub(crate) fn entry(&self, text: &Text, graph: &FlowGraph, number: usize) -> u32
-        requires lookups { AreLookups text.now graph.now self.now }
-        requires number { number ≤ length graph.now.opens }
-        ensures { result ≡ first_entry text.now graph.now number }
+    pub(crate) fn entry(&self, number: usize) -> u32
+        requires number { number ≤ length self.now.graph.now.opens }
+        ensures { result ≡ first_entry self.now.text.now self.now.graph.now number }
     {
-        number_at(&self.entries, number)
+        number_at(&self.lookups.entries, number)
     }
 
     /// The load of an open switch.
-    pub(crate) fn load(&self, text: &Text, graph: &FlowGraph, number: usize) -> u32
-        requires lookups { AreLookups text.now graph.now self.now }
-        requires number { number < length graph.now.opens }
-        ensures { (o : Open) → slice_get graph.now.opens number ≡ Some o → result ≡ load_in text.now o }
+    pub(crate) fn load(&self, number: usize) -> u32
+        requires number { number < length self.now.graph.now.opens }
+        ensures { (o : Open) → slice_get self.now.graph.now.opens number ≡ Some o → result ≡ load_in self.now.text.now o }
     {
-        self.loads[number]
+        number_at(&self.lookups.loads, number)
     }
 }

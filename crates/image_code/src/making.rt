@@ -62,20 +62,16 @@ fn jumps_of(text: &Text, table: Addr) -> Addr
 impl Maker<'_> {
     // The foreign piece: the last one.
     fn foreign_number(&self) -> Result<PieceNo, NoMemory>
-        requires lookups { AreLookups self.now.text.now self.now.graph.now self.now.lookups.now }
         ensures { IfOk result (λ p. p.0 ≡ foreign_number_of self.now.text.now self.now.graph.now) }
     {
         let count = self.graph.opens().len();
-        let begin = u64::from(self.lookups.begin(self.text, self.graph, count));
-        piece(begin + u64::from(self.lookups.entry(self.text, self.graph, count)))
+        let begin = u64::from(self.begin(count));
+        piece(begin + u64::from(self.entry(count)))
     }
 
     // Adds all pieces to an empty list, and answers the numbers of those of Case edges.
     #[tactic(auto, unfolding(crate::specs::Made::piece_list))]
     fn push_all(&self, alloc: Global, list: &mut Vec<Piece>) -> Result<Vec<PieceNo>, NoMemory>
-        requires source { IsSource self.now.text.now self.now.graph.now }
-        requires lookups { AreLookups self.now.text.now self.now.graph.now self.now.lookups.now }
-        requires jumps { self.now.jumps.0 ≡ jumps_at self.now.text.now self.now.table.0 }
         requires empty { list.old.items ≡ [] }
         ensures list { OnOk result (list.new.items ≡ piece_list self.now.text.now self.now.graph.now self.now.table.0
             self.now.cases.0 (code_at self.now.codes.now)) }
@@ -93,9 +89,6 @@ impl Maker<'_> {
 
     // All pieces, and the numbers of those that tables and the entry lead to.
     fn pieces(&self, alloc: Global, snips: &[Snippet], entry: WordNo) -> Result<PieceList, NoMemory>
-        requires source { IsSource self.now.text.now self.now.graph.now }
-        requires lookups { AreLookups self.now.text.now self.now.graph.now self.now.lookups.now }
-        requires jumps { self.now.jumps.0 ≡ jumps_at self.now.text.now self.now.table.0 }
         requires entry { entry.0 < length self.now.text.now.words }
         requires snips { length snips.now ≡ length self.now.graph.now.edges }
         ensures list { IfOk result (λ p. p.list.items ≡ piece_list self.now.text.now self.now.graph.now self.now.table.0
@@ -114,54 +107,11 @@ impl Maker<'_> {
         Ok(PieceList {
             list,
             landing: self.landings(alloc, snips)?,
-            entry: self.lookups.enter(self.text, self.graph, node, entry)?,
+            entry: self.enter(node, entry)?,
             foreign: self.foreign_number()?,
             cases,
         })
     }
-}
-
-// The pieces, of what is known of a text and its graph.
-fn make(
-    alloc: Global,
-    text: &Text,
-    graph: &FlowGraph,
-    entry: WordNo,
-    snips: &[Snippet],
-    live: &LiveSets,
-    frame: Frame,
-) -> Result<PieceList, NoMemory>
-    requires source { IsSource text.now graph.now }
-    requires entry { entry.0 < length text.now.words }
-    requires snips { length snips.now ≡ length graph.now.edges }
-    requires aligned { frame.cells.0 % 4 ≡ 0 }
-    requires cells { All (λ ops. EndLow frame.cells.0 ops) snips.now }
-    requires low { frame.table.0 + table_size_of text.now ≤ 2 ^ 31 }
-    ensures list { IfOk result (λ p. p.list.items ≡ piece_list text.now graph.now frame.table.0 frame.cases.0
-        (codes_in frame.cells.0 (dead_on live.now) snips.now)) }
-    ensures codes { IfOk result (λ p. (edge : ℕ) → CodeDoes frame.cells.0 (dead_on live.now) snips.now edge) }
-    ensures landing { IfOk result (λ p. map (λ (n : PieceNo). n.0) p.landing.items
-        ≡ map (lands_at text.now graph.now snips.now) (below (length text.now.words))) }
-    ensures entry { IfOk result (λ p. p.entry.0
-        ≡ enter_number text.now graph.now (node_of graph.now.blocks (Some entry.0)) entry.0) }
-    ensures foreign { IfOk result (λ p. p.foreign.0 ≡ foreign_number_of text.now graph.now) }
-    ensures cases { IfOk result (λ p. map (λ (n : PieceNo). n.0) p.cases.items ≡ case_numbers text.now graph.now) }
-{
-    // A graph has few edges.
-    let _edges = graph.edges();
-    let codes = codes_of(alloc, snips, live, frame.cells)?;
-    let lookups = lookups_of(alloc, text, graph)?;
-    let maker = Maker {
-        text,
-        graph,
-        lookups: &lookups,
-        codes: &codes,
-        table: frame.table,
-        jumps: jumps_of(text, frame.table),
-        cases: frame.cases,
-    };
-    let pieces = maker.pieces(alloc, snips, entry)?;
-    Ok(pieces)
 }
 
 /// Makes the pieces of new code that a text becomes. There are five kinds:
@@ -201,5 +151,17 @@ pub fn pieces(
     // The invariants of the text and of its graph.
     let _words = text.len();
     let _edges = graph.edges();
-    make(alloc, text, graph, entry, snips, live, frame)
+    let codes = codes_of(alloc, snips, live, frame.cells)?;
+    let lookups = lookups_of(alloc, text, graph)?;
+    let maker = Maker {
+        text,
+        graph,
+        lookups: &lookups,
+        codes: &codes,
+        table: frame.table,
+        jumps: jumps_of(text, frame.table),
+        cases: frame.cases,
+    };
+    let pieces = maker.pieces(alloc, snips, entry)?;
+    Ok(pieces)
 }

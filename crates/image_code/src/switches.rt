@@ -71,8 +71,6 @@ impl Maker<'_> {
         block: BlockNo,
         load: u32,
     ) -> Result<(), NoMemory>
-        requires source { IsSource self.now.text.now self.now.graph.now }
-        requires lookups { AreLookups self.now.text.now self.now.graph.now self.now.lookups.now }
         requires block { block.0 < length self.now.graph.now.blocks.firsts }
         requires above { slice_index self.now.graph.now.blocks.firsts block.0 ≤ load }
         requires below { load
@@ -105,9 +103,6 @@ impl Maker<'_> {
         number: usize,
         found: &OpenSwitch,
     ) -> Result<(), NoMemory>
-        requires source { IsSource self.now.text.now self.now.graph.now }
-        requires lookups { AreLookups self.now.text.now self.now.graph.now self.now.lookups.now }
-        requires jumps { self.now.jumps.0 ≡ jumps_at self.now.text.now self.now.table.0 }
         requires found { slice_get self.now.graph.now.opens number ≡ Some found.now }
         ensures { OnOk result (list.new.items ≡ list.old.items
             ++ open_pieces self.now.text.now self.now.graph.now self.now.table.0 self.now.cases.0
@@ -117,16 +112,13 @@ impl Maker<'_> {
         let from = self.graph.first(compare).0;
         let count = self.graph.words(compare);
         self.push_images_at(alloc, list, Node::Landed(compare), from, count)?;
-        let load = self.lookups.load(self.text, self.graph, number);
+        let load = self.load(number);
         self.push_block(alloc, list, found.block(), load)?;
         Ok(())
     }
 
     /// Adds the pieces of open switches.
     pub(crate) fn push_opens(&self, alloc: Global, list: &mut Vec<Piece>) -> Result<(), NoMemory>
-        requires source { IsSource self.now.text.now self.now.graph.now }
-        requires lookups { AreLookups self.now.text.now self.now.graph.now self.now.lookups.now }
-        requires jumps { self.now.jumps.0 ≡ jumps_at self.now.text.now self.now.table.0 }
         ensures { OnOk result (list.new.items ≡ list.old.items
             ++ flat_map (open_pieces self.now.text.now self.now.graph.now self.now.table.0 self.now.cases.0
             (code_at self.now.codes.now)) self.now.graph.now.opens) }
@@ -141,15 +133,13 @@ impl Maker<'_> {
 
     // The way along the Case edge of a block to a word.
     fn case_by(&self, alloc: Global, block: BlockNo, word: WordNo) -> Result<Piece, NoMemory>
-        requires source { IsSource self.now.text.now self.now.graph.now }
-        requires lookups { AreLookups self.now.text.now self.now.graph.now self.now.lookups.now }
         requires block { block.0 < length self.now.graph.now.blocks.firsts }
         ensures { IfOk result (λ p. p ≡ case_by_of self.now.text.now self.now.graph.now self.now.table.0
             (code_at self.now.codes.now) word.0 (edge_along self.now.graph.now (Block block)
             (record { kind = Case; to = Some (lands_of self.now.graph.now (Some word.0)) }))) }
     {
         let to = self.graph.lands(word);
-        let Some(number) = self.lookups.case_edge(self.text, self.graph, block, to) else {
+        let Some(number) = self.case_edge(block, to) else {
             return unused(alloc);
         };
         match self.graph.edges().get(number as usize) {
@@ -167,8 +157,6 @@ impl Maker<'_> {
         entry: usize,
         word: WordNo,
     ) -> Result<Piece, NoMemory>
-        requires source { IsSource self.now.text.now self.now.graph.now }
-        requires lookups { AreLookups self.now.text.now self.now.graph.now self.now.lookups.now }
         requires block { found.now.block < length self.now.graph.now.blocks.firsts }
         requires place { place ≡ place_in_of self.now.text.now self.now.graph.now found.now.targets word.0 }
         ensures { IfOk result (λ p. p ≡ case_at self.now.text.now self.now.graph.now self.now.table.0
@@ -190,8 +178,6 @@ impl Maker<'_> {
         number: usize,
         found: &OpenSwitch,
     ) -> Result<(), NoMemory>
-        requires source { IsSource self.now.text.now self.now.graph.now }
-        requires lookups { AreLookups self.now.text.now self.now.graph.now self.now.lookups.now }
         requires found { slice_get self.now.graph.now.opens number ≡ Some found.now }
         ensures list { OnOk result (list.new.items ≡ list.old.items
             ++ cases_from self.now.text.now self.now.graph.now self.now.table.0 (code_at self.now.codes.now) found.now 0
@@ -201,8 +187,8 @@ impl Maker<'_> {
             ++ map (case_piece_of self.now.text.now self.now.graph.now number found.now) found.now.targets) }
     {
         let count = self.graph.opens().len();
-        let begin = self.lookups.begin(self.text, self.graph, count);
-        let before = self.lookups.entry(self.text, self.graph, number);
+        let begin = self.begin(count);
+        let before = self.entry(number);
         let first = u64::from(begin) + u64::from(before);
         let places = first_entries(alloc, found.targets())?;
         self.push_entries(alloc, list, numbers, number, found, first, &places)?;
@@ -220,8 +206,6 @@ impl Maker<'_> {
         first: u64,
         places: &IndexMap<u32, u32>,
     ) -> Result<(), NoMemory>
-        requires source { IsSource self.now.text.now self.now.graph.now }
-        requires lookups { AreLookups self.now.text.now self.now.graph.now self.now.lookups.now }
         requires found { slice_get self.now.graph.now.opens number ≡ Some found.now }
         requires first { first ≡ open_begin self.now.text.now self.now.graph.now (length self.now.graph.now.opens)
             + first_entry self.now.text.now self.now.graph.now number }
@@ -249,8 +233,6 @@ impl Maker<'_> {
         alloc: Global,
         list: &mut Vec<Piece>,
     ) -> Result<Vec<PieceNo>, NoMemory>
-        requires source { IsSource self.now.text.now self.now.graph.now }
-        requires lookups { AreLookups self.now.text.now self.now.graph.now self.now.lookups.now }
         ensures list { OnOk result (list.new.items ≡ list.old.items
             ++ flat_map (λ (o : Open). cases_from self.now.text.now self.now.graph.now self.now.table.0
             (code_at self.now.codes.now) o 0 o.targets) self.now.graph.now.opens) }

@@ -69,7 +69,6 @@ impl Maker<'_> {
 
     // The last word of a node's block. X has none, and word 0 stands for it.
     fn last_in(&self, node: Node) -> WordNo
-        requires source { IsSource self.now.text.now self.now.graph.now }
         requires node { IsNodeIn self.now.graph.now.blocks self.now.graph.now.opens node }
         ensures word { result.0 ≡ last_in_of self.now.graph.now node }
         ensures within { result.0 < length self.now.text.now.words }
@@ -83,8 +82,6 @@ impl Maker<'_> {
 
     // Where control goes on along an edge, to a word at its node.
     fn next_along(&self, edge: &Edge, to: WordNo) -> Result<Next, NoMemory>
-        requires source { IsSource self.now.text.now self.now.graph.now }
-        requires lookups { AreLookups self.now.text.now self.now.graph.now self.now.lookups.now }
         requires edge { IsEdgeIn self.now.graph.now.blocks self.now.graph.now.opens edge.now }
         ensures { IfOk result (λ next. items_of next ≡ goes_on self.now.text.now self.now.graph.now edge.now.to to.0
             (way_address self.now.text.now self.now.graph.now edge.now.from edge.now.kind)) }
@@ -94,7 +91,7 @@ impl Maker<'_> {
                 let last = self.last_in(edge.from);
                 Ok(Next::Far(target(self.text, last, edge.kind)))
             }
-            node => Ok(Next::Piece(self.lookups.enter(self.text, self.graph, node, to)?)),
+            node => Ok(Next::Piece(self.enter(node, to)?)),
         }
     }
 
@@ -111,8 +108,6 @@ impl Maker<'_> {
         edge: &Edge,
         to: WordNo,
     ) -> Result<Piece, NoMemory>
-        requires source { IsSource self.now.text.now self.now.graph.now }
-        requires lookups { AreLookups self.now.text.now self.now.graph.now self.now.lookups.now }
         requires edge { IsEdgeIn self.now.graph.now.blocks self.now.graph.now.opens edge.now }
         ensures { IfOk result (λ p. p ≡ slot_copy_of self.now.text.now self.now.graph.now self.now.table.0
             (code_at_of self.now.codes.now) visit.address visit.node word number edge.now to.0) }
@@ -139,8 +134,6 @@ impl Maker<'_> {
         edge: &Edge,
         to: WordNo,
     ) -> Result<Piece, NoMemory>
-        requires source { IsSource self.now.text.now self.now.graph.now }
-        requires lookups { AreLookups self.now.text.now self.now.graph.now self.now.lookups.now }
         requires edge { IsEdgeIn self.now.graph.now.blocks self.now.graph.now.opens edge.now }
         ensures { IfOk result (λ p. p ≡ way_by_of self.now.text.now self.now.graph.now self.now.table.0
             (code_at_of self.now.codes.now) number edge.now to.0 edge.now.slot) }
@@ -164,8 +157,6 @@ impl Maker<'_> {
 
     // The way along an edge with this number; Fall edges have none, and Case edges have theirs by entries.
     fn way(&self, alloc: Global, number: u32, edge: &Edge) -> Result<Piece, NoMemory>
-        requires source { IsSource self.now.text.now self.now.graph.now }
-        requires lookups { AreLookups self.now.text.now self.now.graph.now self.now.lookups.now }
         requires edge { IsEdgeIn self.now.graph.now.blocks self.now.graph.now.opens edge.now }
         ensures { IfOk result (λ p. p ≡ way_along self.now.text.now self.now.graph.now self.now.table.0
             (code_at_of self.now.codes.now) number edge.now) }
@@ -178,15 +169,13 @@ impl Maker<'_> {
 
     /// Adds the ways along the edges but for the landings.
     pub(crate) fn push_ways(&self, alloc: Global, list: &mut Vec<Piece>) -> Result<(), NoMemory>
-        requires source { IsSource self.now.text.now self.now.graph.now }
-        requires lookups { AreLookups self.now.text.now self.now.graph.now self.now.lookups.now }
         ensures { OnOk result (list.new.items ≡ list.old.items
             ++ ways_from self.now.text.now self.now.graph.now self.now.table.0 (code_at_of self.now.codes.now) 0
             (own_edges_of self.now.graph.now)) }
     {
         // A graph has few edges.
         let _edges = self.graph.edges();
-        for (number, edge) in self.lookups.own_edges(self.graph).iter().enumerate() {
+        for (number, edge) in self.own_edges().iter().enumerate() {
             let number = number as u32;
             list.push(self.way(alloc, number, edge)?)?;
         }

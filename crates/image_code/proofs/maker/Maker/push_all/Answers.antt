@@ -14,6 +14,6 @@ returns-clause-list c =
       c.in_ok-push_ways.ensures,
       c.in_ok-push_images.ensures,
       c.requires.empty,
-      c.requires.jumps,
+      c.args.self.now.behind,
     )
     (simp append_assoc)

@@ -33,8 +33,9 @@ loop-number-preserved c =
           c.loop-number.invariant.numbers;
     }
 
-pub push_cases_of-requires-clause-found : goal.push_cases_of-requires-clause-found
-push_cases_of-requires-clause-found c =
-    rw (← c.opens-found-items.ensures)
-    (slice_get-get_or c.opens-found-items.result.now c.loop-number.number c.found-item.result c.loop-number-test.true
-    ∙ ap (λ (o : Open). Some o) (sym c.found-item.is))
+pub push_cases_of-requires : goal.push_cases_of-requires
+push_cases_of-requires c = record {
+  found = rw (← c.opens-found-items.ensures)
+      (slice_get-get_or c.opens-found-items.result.now c.loop-number.number c.found-item.result c.loop-number-test.true
+      ∙ ap (λ (o : Open). Some o) (sym c.found-item.is));
+}

@@ -1,6 +1,7 @@
 use Rattle.std.proofs.Common.{◌≡◌, ℕ, ◌++◌, List, map, ap, sym, nat_eq, ◌∙◌, arith}
 use Rattle.std.specs.Prelude.{◌==◌}
 use Rattle.std.specs.List.{position}
+use Rattle.std.specs.Coded.{le_prop}
 use Rattle.indexmap.specs.IndexMap.{get}
 use Rattle.eel_base.specs.declared.numbers.PieceNo.{PieceNo}
 use Rattle.eel_base.specs.declared.numbers.WordNo.{WordNo}
@@ -9,13 +10,12 @@ use Rattle.image_code.specs.Numbered.{case_piece}
 use Rattle.image_code.specs.Parts.{code_at}
 use Rattle.image_code.proofs.CasePieces.{case_pushed, entry_number, number_pushed}
 use Rattle.image_code.proofs.Pushed.{take_whole}
-use Rattle.image_code.proofs.Sources.{case_at}
+use Rattle.image_code.proofs.Found.{case_found}
 use Rattle.image_code.proofs.maker.Maker.push_entries.Goals as goal
 
 pub case_piece-requires-clause-block : goal.case_piece-requires-clause-block
 case_piece-requires-clause-block c =
-    (case_at c.args.self.now.text.now c.args.self.now.graph.now c.requires.source c.args.number c.args.found.now
-    c.requires.found).block
+    case_found c.args.self.now.found le_prop c.args.number c.args.found.now c.requires.found (λ case. case.block)
 
 pub loop-entry-preserved : goal.loop-entry-preserved
 loop-entry-preserved c =

@@ -1,10 +1,13 @@
-use Rattle.std.proofs.Common.{◌≡◌, ℕ, ap, arith}
+use Rattle.std.proofs.Common.{◌≡◌, ◌∙◌, sym, ap, arith}
 use Rattle.std.specs.Prelude.{slice_index}
+use Rattle.std.specs.Coded.{le_prop}
+use Rattle.std.proofs.Math.Logic.{∥∥₁_elim}
 use Rattle.cfg_blocks.specs.declared.switches.Switch.{Switch}
 use Rattle.cfg_blocks.specs.Blocks.{size_of}
 use Rattle.cfg_walk.proofs.Holding.{some_words}
 use Rattle.image_code.specs.Loads.{load_of}
 use Rattle.image_code.specs.Parts.{code_at}
+use Rattle.image_code.proofs.Found.{case_found}
 use Rattle.image_code.proofs.NumberTables.{load_within}
 use Rattle.image_code.proofs.OpenPieces.{open_added}
 use Rattle.image_code.proofs.Sources.{case_at}
@@ -12,44 +15,44 @@ use Rattle.image_code.proofs.maker.Maker.push_open.Goals as goal
 
 pub first-from-requires : goal.first-from-requires
 first-from-requires c =
-    let maker = c.args.self.now in
     rw c.switch.ensures
-    ((case_at maker.text.now maker.graph.now c.requires.source c.args.number c.args.found.now c.requires.found).from)
+    (case_found c.args.self.now.found le_prop c.args.number c.args.found.now c.requires.found (λ case. case.from))
 
 pub words-count-requires : goal.words-count-requires
 words-count-requires c =
-    let maker = c.args.self.now in
     rw c.switch.ensures
-    ((case_at maker.text.now maker.graph.now c.requires.source c.args.number c.args.found.now c.requires.found).from)
+    (case_found c.args.self.now.found le_prop c.args.number c.args.found.now c.requires.found (λ case. case.from))
 
 pub push_images_at-requires-clause-node : goal.push_images_at-requires-clause-node
 push_images_at-requires-clause-node c =
-    let maker = c.args.self.now in
     rw c.switch.ensures
-    ((case_at maker.text.now maker.graph.now c.requires.source c.args.number c.args.found.now c.requires.found).from)
+    (case_found c.args.self.now.found le_prop c.args.number c.args.found.now c.requires.found (λ case. case.from))
 
 pub push_images_at-requires-clause-words : goal.push_images_at-requires-clause-words
 push_images_at-requires-clause-words c =
-    omega (arith, c.first-from.ensures.first, c.words-count.ensures.within, c.requires.source.words)
+    ∥∥₁_elim c.args.self.now.found le_prop (λ found. omega (
+      arith,
+      c.first-from.ensures.first,
+      c.words-count.ensures.within,
+      found.source.words,
+    ))
 
 pub push_block-requires-clause-block : goal.push_block-requires-clause-block
 push_block-requires-clause-block c =
-    let maker = c.args.self.now in
     rw c.block.ensures
-    ((case_at maker.text.now maker.graph.now c.requires.source c.args.number c.args.found.now c.requires.found).block)
+    (case_found c.args.self.now.found le_prop c.args.number c.args.found.now c.requires.found (λ case. case.block))
 
 pub push_block-requires-clause-above : goal.push_block-requires-clause-above
 push_block-requires-clause-above c =
     let text = c.args.self.now.text.now in
-    let graph = c.args.self.now.graph.now in
-    let blocks = graph.blocks in
+    let blocks = c.args.self.now.graph.now.blocks in
     let o = c.args.found.now in
-    let case = case_at text graph c.requires.source c.args.number o c.requires.found in
+    case_found c.args.self.now.found le_prop c.args.number o c.requires.found (λ case.
     let h = load_within text blocks o case in
     let same : c.load-load.result ≡ load_of text o = c.load-load.ensures o c.requires.found in
     let at : slice_index blocks.firsts c.block.result.0 ≡ slice_index blocks.firsts o.block =
-    ap (λ (n : ℕ). slice_index blocks.firsts n) c.block.ensures in
-    omega (arith, h.0, same, at)
+    ap (slice_index blocks.firsts) c.block.ensures in
+    omega (arith, h.0, same, at))
 
 pub push_block-requires-clause-below : goal.push_block-requires-clause-below
 push_block-requires-clause-below c =
@@ -57,21 +60,21 @@ push_block-requires-clause-below c =
     let graph = c.args.self.now.graph.now in
     let blocks = graph.blocks in
     let o = c.args.found.now in
-    let case = case_at text graph c.requires.source c.args.number o c.requires.found in
+    ∥∥₁_elim c.args.self.now.found le_prop (λ found.
+    let case = case_at text graph found.source c.args.number o c.requires.found in
     let h = load_within text blocks o case in
     let same : c.load-load.result ≡ load_of text o = c.load-load.ensures o c.requires.found in
     let at : slice_index blocks.firsts c.block.result.0 ≡ slice_index blocks.firsts o.block =
-    ap (λ (n : ℕ). slice_index blocks.firsts n) c.block.ensures in
-    let many : size_of blocks c.block.result.0 ≡ size_of blocks o.block =
-    ap (λ (n : ℕ). size_of blocks n) c.block.ensures in
+    ap (slice_index blocks.firsts) c.block.ensures in
+    let many : size_of blocks c.block.result.0 ≡ size_of blocks o.block = ap (size_of blocks) c.block.ensures in
     omega (
       arith,
       h.1,
       same,
       at,
       many,
-      some_words blocks.words blocks.firsts c.requires.source.is_graph.firsts o.block case.block,
-    )
+      some_words blocks.words blocks.firsts found.source.is_graph.firsts o.block case.block,
+    ))
 
 pub returns : goal.returns
 returns c =
@@ -79,6 +82,6 @@ returns c =
     open_added maker.text.now maker.graph.now maker.table.0 maker.cases.0 (code_at maker.codes.now)
     c.args.list.now.items c.args.found.now maker.jumps.0 c.first-from.result.0 c.words-count.result
     c.block.result.0 c.load-load.result c.switch.result.compare c.push_images_at.new.list.items
-    c.push_block.new.list.items c.requires.jumps (ap (λ (s : Switch). s.compare) c.switch.ensures)
+    c.push_block.new.list.items maker.behind (ap (λ (s : Switch). s.compare) c.switch.ensures)
     c.first-from.ensures.first c.words-count.ensures.size c.block.ensures
     (c.load-load.ensures c.args.found.now c.requires.found) c.in_ok-push_images_at.ensures c.in_ok-push_block.ensures

@@ -1,0 +1,47 @@
+-- What is found by tables of which it is known that they are a graph's.
+use Rattle.std.proofs.Common.{◌≡◌, ℕ, ◌+◌, ◌<◌, ◌≤◌, Bool, List, length, map, Option, Some, ap, ◌∙◌, arith}
+use Rattle.std.specs.Prelude.{slice_get, slice_index}
+use Rattle.std.specs.Coded.{Coded-set, coded_ℕ, le_prop}
+use Rattle.std.specs.List.{position}
+use Rattle.std.proofs.lemmas.List.{length-map}
+use Rattle.std.proofs.Math.Logic.{∥∥₁_elim}
+use Rattle.eel_base.specs.CodeText.{Words}
+use Rattle.cfg_blocks.specs.Blocks.{below}
+use Rattle.cfg_blocks.proofs.Below.{length-below}
+use Rattle.cfg_normal.specs.Graph.{Graph}
+use Rattle.cfg_normal.specs.Opens.{Open}
+use Rattle.image_code.specs.declared.lookups.Lookups.{Lookups}
+use Rattle.image_code.specs.Lookups.{AreFound, IsCase, mark_of}
+use Rattle.image_code.proofs.FirstPlaces.{mark_same}
+use Rattle.image_code.proofs.Pushed.{at_below}
+use Rattle.image_code.proofs.Sources.{case_at}
+
+module _ {text : Words} {graph : Graph} {l : Lookups} (found : ∥ AreFound text graph l ∥₁) where
+  -- numbers for each open switch, and one more
+  pub number_within : (f : ℕ → ℕ) (n k : ℕ) (table : List ℕ)
+      → (AreFound text graph l → table ≡ map f (below (n + 1))) → k ≤ n → k < length table
+  number_within f n k table are low =
+      ∥∥₁_elim found le_prop (λ h. omega (
+        arith,
+        low,
+        ap length (are h),
+        length-map (below (n + 1)) f,
+        length-below (n + 1),
+      ))
+
+  pub number_is : (f : ℕ → ℕ) (n k : ℕ) (table : List ℕ)
+      → (AreFound text graph l → table ≡ map f (below (n + 1))) → k ≤ n → slice_index table k ≡ f k
+  number_is f n k table are low =
+      ∥∥₁_elim found (Coded-set coded_ℕ _ _) (λ h.
+      ap (λ ns. slice_index ns k) (are h) ∙ at_below f (n + 1) k (omega (arith, low)))
+
+  -- the first item at a place, of which a table has the mark
+  pub first_found : {A : Type 0} (p : A → Bool) (items : List A) (number : Option ℕ) (mark : ℕ)
+      → mark_of number ≡ mark → (AreFound text graph l → mark ≡ mark_of (position p items))
+      → number ≡ position p items
+  first_found p items number mark is are = mark_same number _ (is ∙ ∥∥₁_elim found (Coded-set coded_ℕ _ _) are)
+
+  -- an open switch
+  pub case_found : {P : Type 0} → IsProp P → (k : ℕ) (o : Open) → slice_get graph.opens k ≡ Some o
+      → (IsCase text graph.blocks o → P) → P
+  case_found prop k o here then = ∥∥₁_elim found prop (λ h. then (case_at text graph h.source k o here))
