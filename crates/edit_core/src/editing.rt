@@ -1,8 +1,10 @@
 //! The edit of a file.
-ghost use Rattle.std.specs.Prelude.{◌≡◌, ℕ, List, [], ◌∷◌, ◌++◌, ◌+◌, ◌*◌, ◌<◌, ◌≤◌, ◌^◌, length, map, All, IfErr, IfOk, OnOk};
+ghost use Rattle.std.specs.Prelude.{◌≡◌, ℕ, List, [], ◌∷◌, ◌++◌, ◌+◌, ◌*◌, ◌<◌, ◌≤◌, ◌^◌, length, map, All, IfErr, IfOk, None, OnOk};
 ghost use Rattle.elf32_write.specs.Headers.{segment_seen};
 ghost use Rattle.elf32_write.specs.Laws.{AreBytes};
+ghost use Rattle.elf32_sparc.specs.FileFault.{fault};
 ghost use Rattle.cfg_blocks.specs.Marks.{numbers};
+ghost use Rattle.cfg_view.specs.View.{view_of, view_seen};
 ghost use Rattle.tool_kit.specs.Plans.{IsPlanOf, Plan};
 ghost use Rattle.edit_core.specs.Taken.{CanEdit, EditRefuses};
 ghost use Rattle.edit_core.specs.Faithful.{AreCounted, AsksOf, CountsEdges, IsFaithful};
@@ -14,7 +16,7 @@ use crate::noting::notes;
 use crate::segments::{cells_segment, code_segment, page_segment, tables_segment};
 use crate::taking::{Asked, EditFault, bound};
 use cfg_normal::FlowGraph;
-use cfg_view::look;
+use cfg_view::{View, look};
 use eel_base::NoMemory;
 use elf32_sparc::Image;
 use elf32_write::{NewSegment, write_around};
@@ -36,6 +38,24 @@ pub fn edit_bytes<F: Chooser>(
         × CanEdit bytes.now plan × IsFaithful bytes.now plan file.items × IsTheEdit bytes.now plan file.items) }
 {
     let view = look(alloc, bytes, tool.marks())?;
+    edit_view(alloc, bytes, &view, tool)
+}
+
+/// Edits a file without a fault, of which there is a view with the marks of the tool.
+pub fn edit_view<F: Chooser>(
+    alloc: Global,
+    bytes: &[u8],
+    view: &View,
+    tool: &Tool<F>,
+) -> Result<Vec<u8>, EditFault>
+    requires limit { length bytes.now ≤ 2 ^ 26 }
+    requires sound { fault bytes.now ≡ None }
+    requires view { view_seen view.now ≡ view_of bytes.now (numbers tool.now.marks) }
+    requires counters { CountsEdges F.says tool.now bytes.now }
+    ensures refused { IfErr result (EditRefuses bytes.now (AsksOf F.says tool.now bytes.now)) }
+    ensures edited { IfOk result (λ file. (plan : Plan) × AsksOf F.says tool.now bytes.now plan
+        × CanEdit bytes.now plan × IsFaithful bytes.now plan file.items × IsTheEdit bytes.now plan file.items) }
+{
     let asked = asked_of(alloc, tool, &view.graph)?;
     let text = view.image.text();
     let needed = bound(
