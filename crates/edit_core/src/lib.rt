@@ -4,6 +4,7 @@
 ghost use Rattle.edit_core.specs.Whole.{EditsAnswer, KeepsWhatLives};
 ghost use Rattle.edit_core.specs.Written.{EditsRunAlike};
 
+mod addresses;
 mod building;
 mod editing;
 mod noting;
