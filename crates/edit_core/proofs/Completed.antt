@@ -1,5 +1,5 @@
 -- Which edges a step completes: none, one, or that of a jump and then a landing.
-use Rattle.std.proofs.Common.{◌≡◌, ℕ, ◌-◌, ◌<◌, Bool, true, false, ◌&&◌, ◌==◌, List, [], ◌∷◌, ◌++◌, length, Option, Some, None, option_to_list, position, slice_index, refl, ap, sym, ◌∙◌, subst}
+use Rattle.std.proofs.Common.{◌≡◌, ℕ, ◌-◌, ◌<◌, Bool, true, false, ◌&&◌, ◌==◌, List, [], ◌∷◌, ◌++◌, length, append-nil, Option, Some, None, option_to_list, position, slice_index, refl, ap, sym, ◌∙◌, subst}
 use Rattle.std.specs.Prelude.{if◌then◌else◌}
 use Rattle.std.proofs.lemmas.Bool.{and_parts, cond_both, or_left}
 use Rattle.std.proofs.lemmas.List.Quantifiers.{position-Some}
@@ -26,11 +26,12 @@ use Rattle.liveness.specs.Live.{IsLiveOn, edge_at, is_call_or_jump, is_outside, 
 abbrev IsIn : Graph → ℕ → Type 0
 IsIn graph e = e < length graph.edges
 
--- Along the first of two edges a jump went.
+-- Along the first of two edges a jump went, and the second is another.
 pub data Completes (graph : Graph) : List ℕ → Type 0 where
   none : Completes graph []
   one : (e : ℕ) → IsIn graph e → Completes graph (e ∷ [])
-  two : (e f : ℕ) → IsIn graph e → is_unknown (edge_at graph e) ≡ true → IsIn graph f → Completes graph (e ∷ f ∷ [])
+  two : (e f : ℕ) → IsIn graph e → is_unknown (edge_at graph e) ≡ true → IsIn graph f → (e ≡ f → ⊥)
+      → Completes graph (e ∷ f ∷ [])
 
 -- anything may be read behind an edge of a jump
 pub unknown_lives : (text : Words) (graph : Graph) (named : ℕ → List Part) (e : ℕ)
@@ -46,6 +47,15 @@ jump_kind kinds.Taken h = absurd (cc)
 jump_kind kinds.Untaken h = absurd (cc)
 jump_kind kinds.Land h = absurd (cc)
 jump_kind kinds.Case h = absurd (cc)
+
+out_or_land : (kind : EdgeKind) → same_kind kind kinds.Out ≡ true → same_kind kind kinds.Land ≡ true → ⊥
+out_or_land kinds.Fall out land = absurd (cc)
+out_or_land kinds.Taken out land = absurd (cc)
+out_or_land kinds.Untaken out land = absurd (cc)
+out_or_land kinds.Call out land = absurd (cc)
+out_or_land kinds.Out out land = absurd (cc)
+out_or_land kinds.Land out land = absurd (cc)
+out_or_land kinds.Case out land = absurd (cc)
 
 module _ (graph : Graph) where
   -- the edge that a search finds
@@ -66,8 +76,9 @@ module _ (graph : Graph) where
       by (Some e) h = one e (found test e h).0
 
   at_most_two : (test other : Edge → Bool) → ((edge : Edge) → test edge ≡ true → is_unknown edge ≡ true)
+      → ((edge : Edge) → test edge ≡ true → other edge ≡ true → ⊥)
       → Completes graph (option_to_list (position test graph.edges) ++ option_to_list (position other graph.edges))
-  at_most_two test other jumps = by (position test graph.edges) refl (position other graph.edges) refl
+  at_most_two test other jumps apart = by (position test graph.edges) refl (position other graph.edges) refl
     where
       by : (o : Option ℕ) → position test graph.edges ≡ o → (u : Option ℕ) → position other graph.edges ≡ u
           → Completes graph (option_to_list o ++ option_to_list u)
@@ -76,7 +87,9 @@ module _ (graph : Graph) where
       by (Some e) h None k = one e (found test e h).0
       by (Some e) h (Some f) k =
           let first = found test e h in
-          two e f first.0 (jumps (edge_at graph e) first.1) (found other f k).0
+          let second = found other f k in
+          two e f first.0 (jumps (edge_at graph e) first.1) second.0
+          (λ same. apart (edge_at graph f) (subst (λ (n : ℕ). test (edge_at graph n) ≡ true) same first.1) second.1)
 
   along : (node : Node) (way : WayOut) → Completes graph (edge_along graph node way)
   along node way =
@@ -99,23 +112,17 @@ module _ (graph : Graph) where
 
   -- ---- out of a slot
 
-  jump_unknown : (node : Node) (edge : Edge)
-      → (leads_along None edge && (same_node edge.from node && same_kind edge.kind kinds.Out)) ≡ true
-      → is_unknown edge ≡ true
-  jump_unknown node edge h =
+  -- an edge that a jump takes
+  abbrev jumps_from : Node → Edge → Bool
+  jumps_from node edge = leads_along None edge && (same_node edge.from node && same_kind edge.kind kinds.Out)
+
+  jump_out : (node : Node) (edge : Edge) → jumps_from node edge ≡ true → same_kind edge.kind kinds.Out ≡ true
+  jump_out node edge h =
       let rest = and_parts (leads_along None edge) (same_node edge.from node && same_kind edge.kind kinds.Out) h in
-      let kind = and_parts (same_node edge.from node) (same_kind edge.kind kinds.Out) rest.1 in
-      or_left (is_call_or_jump edge.kind) (is_outside edge.to) (jump_kind edge.kind kind.1)
+      (and_parts (same_node edge.from node) (same_kind edge.kind kinds.Out) rest.1).1
 
   along_then : (node : Node) (way : WayOut) → Completes graph (edge_along graph node way ++ [])
-  along_then node way = by (position test graph.edges) refl
-    where
-      test : Edge → Bool
-      test edge = leads_along way.to edge && (same_node edge.from node && same_kind edge.kind way.kind)
-
-      by : (o : Option ℕ) → position test graph.edges ≡ o → Completes graph (option_to_list o ++ [])
-      by None h = none
-      by (Some e) h = one e (found test e h).0
+  along_then node way = rw (append-nil (edge_along graph node way)) (along node way)
 
   jumped : (text : Words) (node : Node) (next : ℕ) (o : Option ℕ) → word_at text next ≡ o
       → Completes graph (edge_from graph node kinds.Out ++ landed text graph kinds.Out next)
@@ -125,8 +132,9 @@ module _ (graph : Graph) where
   jumped text node next (Some word) e =
       let there : landed text graph kinds.Out next ≡ landing_at graph (lands graph (Some word)) = rw e refl in
       subst (λ (ns : List ℕ). Completes graph (edge_from graph node kinds.Out ++ ns)) (sym there)
-      (at_most_two (λ edge. leads_along None edge && (same_node edge.from node && same_kind edge.kind kinds.Out))
-      (λ edge. same_node edge.to (lands graph (Some word)) && same_kind edge.kind kinds.Land) (jump_unknown node))
+      (at_most_two (jumps_from node) (λ edge. same_node edge.to (lands graph (Some word)) && same_kind edge.kind kinds.Land)
+      (λ edge out. or_left (is_call_or_jump edge.kind) (is_outside edge.to) (jump_kind edge.kind (jump_out node edge out)))
+      (λ edge out land. out_or_land edge.kind (jump_out node edge out) (and_parts _ _ land).1))
 
   out_of_slot : (text : Words) (node : Node) (kind : EdgeKind) (next : ℕ)
       → Completes graph (slot_left text graph node kind next)
@@ -136,24 +144,14 @@ module _ (graph : Graph) where
       (λ (way : WayOut). Completes graph (left_along text graph node way next))
       (λ _. along_then node (record { kind = kinds.Case; to = Some (lands graph (word_at text next)) }))
       (λ _. jumped text node next (word_at text next) refl)
-  out_of_slot text node kinds.Call next = along_then node (by_kind kinds.Call)
-  out_of_slot text node kinds.Fall next = along_then node (by_kind kinds.Fall)
-  out_of_slot text node kinds.Taken next = along_then node (by_kind kinds.Taken)
-  out_of_slot text node kinds.Untaken next = along_then node (by_kind kinds.Untaken)
-  out_of_slot text node kinds.Land next = along_then node (by_kind kinds.Land)
-  out_of_slot text node kinds.Case next = along_then node (by_kind kinds.Case)
+  out_of_slot text node kind next = along_then node (by_kind kind)
 
   completes : (text : Words) (node : Node) (before after : Point) (was now : Slot)
       → Completes graph (completed text graph node before after was now)
   completes text node before after NoSlot NoSlot = left_one text node (word_at text before.pc)
   completes text node before after Taken NoSlot = out_of_slot text node (way_of (instr_at text (before.pc - 4)) Taken) after.pc
   completes text node before after Untaken NoSlot = out_of_slot text node (way_of (instr_at text (before.pc - 4)) Untaken) after.pc
-  completes text node before after NoSlot Taken = none
-  completes text node before after NoSlot Untaken = none
-  completes text node before after Taken Taken = none
-  completes text node before after Taken Untaken = none
-  completes text node before after Untaken Taken = none
-  completes text node before after Untaken Untaken = none
+  completes text node before after _ _ = none
 
   pub gone_completes : (text : Words) (node : Node) (before : Point) (after : Option Point)
       → Completes graph (gone text graph node before after)

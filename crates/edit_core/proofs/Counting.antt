@@ -1,9 +1,9 @@
 -- The entries of tables, counted by the edges along which they lead.
-use Rattle.std.proofs.Common.{◌≡◌, ◌≢◌, ℕ, zero, suc, ◌+◌, ◌*◌, ◌^◌, ◌<◌, ◌≤◌, ◌==◌, Bool, true, false, cond, nat_eq, Some, List, [], ◌∷◌, length, length-append, map, take, refl, ap, ◌∙◌, arith}
+use Rattle.std.proofs.Common.{◌≡◌, ◌≢◌, ℕ, zero, suc, ◌+◌, ◌^◌, ◌≤◌, ◌==◌, ◌&&◌, Bool, true, false, cond, nat_eq, Option, Some, List, [], ◌∷◌, length, length-append, take, refl, ap, ◌∙◌, arith}
 use Rattle.std.specs.Prelude.{if◌then◌else◌, slice_get}
 use Rattle.std.specs.List.{count_by, range_with_len, sum_by}
 use Rattle.std.proofs.lemmas.List.FromFn.{length-range_with_len}
-use Rattle.std.proofs.lemmas.Bool.{eqb-true}
+use Rattle.std.proofs.lemmas.Bool.{and_parts, eqb-true}
 use Rattle.std.proofs.lemmas.Bool.Decides.{nat_tests}
 use Rattle.std.proofs.lemmas.List.Sums.{count_by-le-length, sum_by-append, sum_by-cons}
 use Rattle.cfg_normal.specs.declared.Node.{Node}
@@ -14,7 +14,8 @@ use Rattle.cfg_normal.specs.Numbers.{node_number}
 use Rattle.cfg_normal.specs.Opens.{Open, targets_in}
 use Rattle.cfg_walk.proofs.Nodes.{lands_in}
 use Rattle.image_code.specs.Fit.{is_at}
-use Rattle.edit_core.specs.Taken.{case_key, entries_with, is_entry}
+use Rattle.edit_core.specs.declared.taking.CaseKey.{CaseKey}
+use Rattle.edit_core.specs.Taken.{case_key, count_of, entries_with, is_entry, same_key}
 
 -- ---- counts
 
@@ -40,25 +41,6 @@ count_none p (x ∷ xs) h =
     )
 
 -- one more
-more_counted : {A : Type 0} (p : ℕ → Bool) (f : A → ℕ) (xs : List A) (i : ℕ) (x : A) → slice_get xs i ≡ Some x
-    → count_by p (map f (take (suc i) xs)) ≡ (if p (f x) then 1 else 0) + count_by p (map f (take i xs))
-more_counted p f [] i x e = absurd (cc)
-more_counted p f (y ∷ xs) zero x e =
-    let same : f y ≡ f x = ap f (let q : y ≡ x = cc in q) in
-    omega (arith, sum_by-cons (λ z. cond (p z) 1 0) (f y) [], ap {B = ℕ} (λ z. cond (p z) 1 0) same)
-more_counted p f (y ∷ xs) (suc i) x e =
-    omega (
-      arith,
-      sum_by-cons (λ z. cond (p z) 1 0) (f y) (map f (take (suc i) xs)),
-      sum_by-cons (λ z. cond (p z) 1 0) (f y) (map f (take i xs)),
-      more_counted p f xs i x e,
-    )
-
-pub count_more : {A : Type 0} (p : ℕ → Bool) (f : A → ℕ) (xs : List A) (i : ℕ) (x : A) → slice_get xs i ≡ Some x
-    → count_by p (map f (take (i + 1) xs)) ≡ (if p (f x) then 1 else 0) + count_by p (map f (take i xs))
-count_more p f xs i x e =
-    ap (λ n. count_by p (map f (take n xs))) (let q : i + 1 ≡ suc i = omega arith in q) ∙ more_counted p f xs i x e
-
 pub range_more : (p : ℕ → Bool) (from n : ℕ)
     → count_by p (range_with_len from (suc n)) ≡ (if p (from + n) then 1 else 0) + count_by p (range_with_len from n)
 range_more p from zero =
@@ -93,48 +75,58 @@ sum_more f xs i x e =
 
 -- ---- keys
 
+pub same_key_is : (one other : CaseKey) → same_key one other ≡ true → one ≡ other
+same_key_is one other same =
+    let parts = and_parts (nat_eq one.from.0 other.from.0) (nat_eq one.to other.to) same in
+    ap {B = CaseKey} (λ (n : ℕ). record { from = record { 0 = n }; to = one.to }) (eqb-true _ _ parts.0)
+    ∙ ap {B = CaseKey} (λ (n : ℕ). record { from = other.from; to = n }) (eqb-true _ _ parts.1)
+
+-- what is counted once one more is counted under a key
+pub key_counted : (old : CaseKey → Option ℕ) (key : CaseKey) (count : ℕ) → count ≡ count_of (old key) → (other : CaseKey)
+    → count_of (cond (same_key key other) (Some (count + 1)) (old other))
+    ≡ (if same_key key other then 1 else 0) + count_of (old other)
+key_counted old key count is other = by (same_key key other) refl
+  where
+    by : (b : Bool) → same_key key other ≡ b
+        → count_of (cond b (Some (count + 1)) (old other)) ≡ (if b then 1 else 0) + count_of (old other)
+    by true same =
+        let here : count_of (old key) ≡ count_of (old other) =
+        ap (λ (k : CaseKey). count_of (old k)) (same_key_is key other same) in
+        omega (arith, is, here)
+    by false differs = omega arith
+
 shifted : (k m n : ℕ) → nat_eq (k + m) (k + n) ≡ nat_eq m n
 shifted k m n = grind (arith, nat_tests)
 
-apart : (k m n : ℕ) → m ≢ n → nat_eq (k + m) (k + n) ≡ false
-apart k m n other = grind (arith, nat_tests)
+apart : (m n : ℕ) → m ≢ n → nat_eq m n ≡ false
+apart m n other = grind (arith, nat_tests)
 
-far : (a b m n : ℕ) → a ≢ b → m < 2 ^ 32 → n < 2 ^ 32 → nat_eq (case_key a m) (case_key b n) ≡ false
-far a b m n other low also = grind (arith, nat_tests)
+itself : (n : ℕ) → nat_eq n n ≡ true
+itself n = grind (arith, nat_tests)
 
 module _ (graph : Graph) (is : IsGraph graph) where
   abbrev count : ℕ
   count = length graph.blocks.firsts
 
-  number_low : (node : Node) → IsNodeIn graph.blocks graph.opens node → node_number graph node < 2 ^ 32
-  number_low (Block k) l = omega (arith, l, is.firsts.few, is.few)
-  number_low (Landed k) l = omega (arith, l.0, is.firsts.few, is.few)
-  number_low X l = omega (arith, is.firsts.few, is.few)
-
   -- nodes have different numbers
-  numbers_tell : (from : ℕ) (one other : Node) → IsNodeIn graph.blocks graph.opens one
-      → IsNodeIn graph.blocks graph.opens other
-      → nat_eq (case_key from (node_number graph one)) (case_key from (node_number graph other)) ≡ same_node one other
-  numbers_tell from (Block a) (Block b) l m = shifted (from * 2 ^ 32) a.0 b.0
-  numbers_tell from (Landed a) (Landed b) l m =
-      shifted (from * 2 ^ 32) (count + 1 + a.0) (count + 1 + b.0) ∙ shifted (count + 1) a.0 b.0
-  numbers_tell from X X l m = shifted (from * 2 ^ 32) count count ∙ same count
-    where
-      same : (n : ℕ) → nat_eq n n ≡ true
-      same n = grind (arith, nat_tests)
-  numbers_tell from (Block a) (Landed b) l m = apart (from * 2 ^ 32) a.0 (count + 1 + b.0) (λ e. omega (arith, e, l))
-  numbers_tell from (Block a) X l m = apart (from * 2 ^ 32) a.0 count (λ e. omega (arith, e, l))
-  numbers_tell from (Landed a) (Block b) l m = apart (from * 2 ^ 32) (count + 1 + a.0) b.0 (λ e. omega (arith, e, m))
-  numbers_tell from (Landed a) X l m = apart (from * 2 ^ 32) (count + 1 + a.0) count (λ e. omega (arith, e))
-  numbers_tell from X (Block b) l m = apart (from * 2 ^ 32) count b.0 (λ e. omega (arith, e, m))
-  numbers_tell from X (Landed b) l m = apart (from * 2 ^ 32) count (count + 1 + b.0) (λ e. omega (arith, e))
+  numbers_tell : (one other : Node) → IsNodeIn graph.blocks graph.opens one → IsNodeIn graph.blocks graph.opens other
+      → nat_eq (node_number graph one) (node_number graph other) ≡ same_node one other
+  numbers_tell (Block a) (Block b) l m = refl
+  numbers_tell (Landed a) (Landed b) l m = shifted (count + 1) a.0 b.0
+  numbers_tell X X l m = itself count
+  numbers_tell (Block a) (Landed b) l m = apart a.0 (count + 1 + b.0) (λ e. omega (arith, e, l))
+  numbers_tell (Block a) X l m = apart a.0 count (λ e. omega (arith, e, l))
+  numbers_tell (Landed a) (Block b) l m = apart (count + 1 + a.0) b.0 (λ e. omega (arith, e, m))
+  numbers_tell (Landed a) X l m = apart (count + 1 + a.0) count (λ e. omega (arith, e))
+  numbers_tell X (Block b) l m = apart count b.0 (λ e. omega (arith, e, m))
+  numbers_tell X (Landed b) l m = apart count (count + 1 + b.0) (λ e. omega (arith, e))
 
   landed : (word : ℕ) → IsNodeIn graph.blocks graph.opens (lands graph (Some word))
   landed word = lands_in graph.blocks graph.opens is.firsts.some (Some word)
 
   -- what is counted under a Case edge's key are the entries that lead along it
   module _ (from : ℕ) (to : Node) (inside : IsNodeIn graph.blocks graph.opens to) where
-    abbrev key : ℕ
+    abbrev key : CaseKey
     key = case_key from (node_number graph to)
 
     counts_led : (opens : List Open) → entries_with graph key opens ≡ count_by (is_at graph to) (targets_in opens from)
@@ -149,21 +141,13 @@ module _ (graph : Graph) (is : IsGraph graph) where
           counts_led opens,
         )
       where
-        differ : (a b : ℕ) → (a == b) ≡ false → a ≡ b → ⊥
-        differ a b e same = grind (arith, nat_tests)
-
         here : (t : Bool) → (o.block == from) ≡ t → count_by (is_entry graph o.block key) o.targets
             ≡ count_by (is_at graph to) (if t then o.targets else [])
-        here true e =
-            let same : o.block ≡ from = eqb-true o.block from e in
-            count_same (is_entry graph o.block key) (is_at graph to) o.targets (λ word.
-            ap (λ (k : ℕ). nat_eq (case_key k (node_number graph (lands graph (Some word)))) key) same
-            ∙ numbers_tell from (lands graph (Some word)) to (landed word) inside)
-        here false e =
-            count_none (is_entry graph o.block key) o.targets (λ word.
-            far o.block from (node_number graph (lands graph (Some word))) (node_number graph to)
-            (λ same. differ o.block from e same) (number_low (lands graph (Some word)) (landed word)) (number_low to
-            inside))
+        here true e = count_same (is_entry graph o.block key) (is_at graph to) o.targets (λ word.
+            ap (λ (t : Bool). t && nat_eq (node_number graph (lands graph (Some word))) (node_number graph to)) e
+            ∙ numbers_tell (lands graph (Some word)) to (landed word) inside)
+        here false e = count_none (is_entry graph o.block key) o.targets (λ word.
+            ap (λ (t : Bool). t && nat_eq (node_number graph (lands graph (Some word))) (node_number graph to)) e)
 
     targets_few : (opens : List Open) → length (targets_in opens from) ≤ sum_by (λ (o : Open). length o.targets) opens
     targets_few [] = omega arith

@@ -5,7 +5,7 @@ use Rattle.std.proofs.lemmas.List.{length-replicate}
 use Rattle.std.proofs.lemmas.List.Sums.{count_by-le-length}
 use Rattle.std.proofs.lemmas.List.Elements.{All-replicate}
 use Rattle.byteorder.specs.Endian.{big_bytes}
-use Rattle.eel_base.specs.CodeText.{IsText}
+use Rattle.eel_base.specs.CodeText.{IsText, Words}
 use Rattle.elf32_sparc.specs.FileFault.{fault}
 use Rattle.elf32_sparc.specs.Image.{image_of, highest_end}
 use Rattle.elf32_sparc.specs.Notes.{Notes}
@@ -25,6 +25,7 @@ use Rattle.elf32_write.proofs.Loads.{file_loads}
 use Rattle.elf32_write.proofs.WordsBytes.{length-words_bytes}
 use Rattle.v8_step.proofs.ValidNumbers.{high_first-bytes, flat_map-bytes}
 use Rattle.cfg_blocks.specs.Blocks.{Blocks, holding_of}
+use Rattle.cfg_normal.specs.Graph.{Graph}
 use Rattle.addr_translate.specs.Lookup.{TableAt}
 use Rattle.layout.specs.Laid.{Placement}
 use Rattle.image_code.specs.Fit.{AreFit}
@@ -104,8 +105,7 @@ sum_few (suc k) z t s w end before three =
     omega (arith, before.none, three.table_filled, three.table_few, three.filled, three.few, three.bytes)
 
 can_write : (original : List ℕ) (count : ℕ) (z t s w : AddedSegment) (notes : List ℕ) → fault original ≡ None
-    → length original ≤ 2 ^ 26
-    → AreBefore count (highest_end (image_of original).segments) z t
+    → length original ≤ 2 ^ 26 → AreBefore count (highest_end (image_of original).segments) z t
     → AreThree (highest_end (image_of original).segments) t s w → length notes ≤ 2 ^ 28
     → CanWrite original (if_any count z ++ t ∷ s ∷ w ∷ []) notes
 can_write original count z t s w notes sound limit before three few = record {
@@ -146,8 +146,7 @@ are_numbers original count z t s w entry end before three bytes l =
       bytes = bytes;
       words = all_any HasWords count z (t ∷ s ∷ w ∷ []) (λ _. (omega arith, omega arith, before.cells_flags))
           (all_three HasWords t s w (omega arith, omega arith, three.table_flags)
-          (omega arith, omega arith, three.flags)
-          (omega arith, omega arith, three.page_flags));
+          (omega arith, omega arith, three.flags) (omega arith, omega arith, three.page_flags));
       address = l;
     }
 
@@ -203,18 +202,38 @@ module _ (original : List ℕ) (plan : Plan) (limit : length original ≤ 2 ^ 26
     (work : CanDo original plan) (p : Placement) (place : ℕ → ℕ → ℕ) (table : TableAt)
     (code : IsNewCode original plan p place table)
     (fit : AreFit (text_of original plan) (graph_in original plan) plan.snips (pieces_of original plan code.dead)) where
-  text_is : IsText (text_of original plan)
+  abbrev text : Words
+  text = text_of original plan
+
+  abbrev graph : Graph
+  graph = graph_in original plan
+
+  abbrev tables_from : ℕ
+  tables_from = table_base original plan
+
+  abbrev notes : Notes
+  notes = notes_on original plan p
+
+  abbrev segments : List AddedSegment
+  segments = added original plan p table
+
+  abbrev entry_at : ℕ
+  entry_at = entry_of original plan p
+
+  abbrev its_code : AddedSegment
+  its_code = code_segment original plan p
+
+  text_is : IsText text
   text_is = image_text original can.sound
 
   code_some : 0 < length p.code
-  code_some = some_code (text_of original plan) (graph_in original plan) (table_base original plan)
-      (cases_at (text_of original plan) (table_base original plan))
+  code_some = some_code text graph tables_from (cases_at text tables_from)
       (codes_of (cells_base original plan) code.dead plan.snips) text_is (graph_is original plan)
       (code_base original plan) p place code.laid
 
   -- how many bytes the tables have
-  size_is : length table.bytes ≡ segment_size (text_of original plan) (graph_in original plan)
-  size_is = segment_is (text_of original plan) (graph_in original plan) plan.snips p table code.leads
+  size_is : length table.bytes ≡ segment_size text graph
+  size_is = segment_is text graph plan.snips p table code.leads
 
   abbrev cells : AddedSegment
   cells = cells_at (cells_base original plan) plan.cells
@@ -224,7 +243,7 @@ module _ (original : List ℕ) (plan : Plan) (limit : length original ≤ 2 ^ 26
   code_room =
       let long = code.size in
       let bytes = fit.bytes in
-      let made = operations_few (graph_in original plan) plan.kind plan.cells plan.snips work in
+      let made = operations_few graph plan.kind plan.cells plan.snips work in
       let bound = bound_is original plan in
       let room = can.room in
       let some = text_is.some in
@@ -246,13 +265,13 @@ module _ (original : List ℕ) (plan : Plan) (limit : length original ≤ 2 ^ 26
         cells_flags = omega arith;
       }
 
-  three : AreThree (highest_end (image_of original).segments) (table_at table) (code_segment original plan p) page_segment
+  three : AreThree (highest_end (image_of original).segments) (table_at table) its_code page_segment
   three =
       let base = (accepted-program original can.sound).base in
       let at = code.base in
       let size = size_is in
-      let entries = entries_few (text_of original plan) (graph_in original plan) text_is (graph_is original plan) in
-      let small = small_tables (text_of original plan) text_is in
+      let entries = entries_few text graph text_is (graph_is original plan) in
+      let small = small_tables text text_is in
       let few = text_is.few in
       let some = code_some in
       let above = base_above original in
@@ -278,16 +297,13 @@ module _ (original : List ℕ) (plan : Plan) (limit : length original ≤ 2 ^ 26
         page_flags = omega arith;
       }
 
-  held : (notes : List ℕ) → length notes ≤ 2 ^ 28
-      → HoldsOriginal original (written original (added original plan p table) (entry_of original plan p) notes)
-  held notes few = original_is_held original (added original plan p table) (entry_of original plan p) notes
-      (can_write original plan.cells cells (table_at table) (code_segment original plan p) page_segment notes can.sound limit
-      before three few)
+  held : (ns : List ℕ) → length ns ≤ 2 ^ 28 → HoldsOriginal original (written original segments entry_at ns)
+  held ns few = original_is_held original segments entry_at ns
+      (can_write original plan.cells cells (table_at table) its_code page_segment ns can.sound limit before three few)
 
-  noted : IsNoted (graph_in original plan) (segment_size (text_of original plan) (graph_in original plan)) p (notes_on
-      original plan p)
+  noted : IsNoted graph (segment_size text graph) p notes
   noted =
-      let cut = graph_cut (text_of original plan) (graph_in original plan) text_is (graph_is original plan) in
+      let cut = graph_cut text graph text_is (graph_is original plan) in
       let first = held [] (omega arith) in
       let base = (accepted-program original can.sound).base in
       record {
@@ -296,12 +312,12 @@ module _ (original : List ℕ) (plan : Plan) (limit : length original ≤ 2 ^ 26
         delta_to = first.to;
         length_to = limit;
         tool = tool_few plan.kind;
-        text = text_of original plan;
+        text = text;
         is_text = text_is;
         start = refl;
         words = refl;
         graph_words = cut.words;
-        entry = held_few (graph_in original plan).blocks (image_of original).entry cut.firsts.some;
+        entry = held_few graph.blocks (image_of original).entry cut.firsts.some;
         base = omega arith;
         cells = work.few;
         some = code_some;
@@ -311,13 +327,11 @@ module _ (original : List ℕ) (plan : Plan) (limit : length original ≤ 2 ^ 26
         firsts = cut.firsts;
         blocks = refl;
         edge_count =
-            let most =
-            (graph_facts (text_of original plan) (graph_in original plan) text_is (graph_is original plan)).edge_count
-            in
+            let most = (graph_facts text graph text_is (graph_is original plan)).edge_count in
             let words = cut.words in
             let few = text_is.few in
             omega arith;
-        edges_in = edges_inside (text_of original plan) (graph_in original plan) text_is (graph_is original plan);
+        edges_in = edges_inside text graph text_is (graph_is original plan);
         kind = plan.kind;
         snips = plan.snips;
         edges = refl;
@@ -329,70 +343,63 @@ module _ (original : List ℕ) (plan : Plan) (limit : length original ≤ 2 ^ 26
             let few = fit.marks in
             omega arith;
         ascend = code.laid.ascend;
-        whole = ranges_whole (text_of original plan) (graph_in original plan) (table_base original plan)
-            (cases_at (text_of original plan) (table_base original plan))
+        whole = ranges_whole text graph tables_from (cases_at text tables_from)
             (codes_of (cells_base original plan) code.dead plan.snips) text_is (graph_is original plan)
             (code_base original plan) p place code.laid;
       }
 
-  pub notes_meet_rules : AreNotes (notes_on original plan p)
-  notes_meet_rules = are_notes (graph_in original plan) (segment_size (text_of original plan) (graph_in original
-      plan)) p (notes_on original plan p) noted
+  pub notes_meet_rules : AreNotes notes
+  notes_meet_rules = are_notes graph (segment_size text graph) p notes noted
 
-  notes_few : length (notes_bytes (notes_on original plan p)) ≤ 2 ^ 28
-  notes_few = few_bytes (graph_in original plan) (segment_size (text_of original plan) (graph_in original plan)) p
-      (notes_on original plan p) noted
+  notes_few : length (notes_bytes notes) ≤ 2 ^ 28
+  notes_few = few_bytes graph (segment_size text graph) p notes noted
 
-  pub can_be_written : CanWrite original (added original plan p table) (notes_bytes (notes_on original plan p))
+  pub can_be_written : CanWrite original segments (notes_bytes notes)
   can_be_written =
-      can_write original plan.cells cells (table_at table) (code_segment original plan p) page_segment _ can.sound limit
+      can_write original plan.cells cells (table_at table) its_code page_segment _ can.sound limit
       before three notes_few
 
   pub holds : HoldsOriginal original (edit_file original plan p table)
-  holds = held (notes_bytes (notes_on original plan p)) notes_few
+  holds = held (notes_bytes notes) notes_few
 
-  entry_low : entry_of original plan p < 2 ^ 32
+  entry_low : entry_at < 2 ^ 32
   entry_low =
-      let a = (code.laid.aligned (entry_number (text_of original plan) (graph_in original plan)
-      (image_of original).entry)).1 in
+      let a = (code.laid.aligned (entry_number text graph (image_of original).entry)).1 in
       omega arith
 
   module _ (bytes : AreBytes original) where
-    numbers : AreNumbers original (added original plan p table) (entry_of original plan p)
+    numbers : AreNumbers original segments entry_at
     numbers =
-        are_numbers original plan.cells cells (table_at table) (code_segment original plan p) page_segment
-        (entry_of original plan p) _ before three bytes entry_low
+        are_numbers original plan.cells cells (table_at table) its_code page_segment
+        entry_at _ before three bytes entry_low
 
     pub small_file : length (edit_file original plan p table) ≤ 1536 * 2 ^ 20
     small_file =
-        let size = size_is_bounded original (added original plan p table) (entry_of original plan p)
-        (notes_bytes (notes_on original plan p)) can_be_written numbers in
+        let size = size_is_bounded original segments entry_at (notes_bytes notes) can_be_written numbers in
         let n = notes_few in
-        let sum = sum_few plan.cells cells (table_at table) (code_segment original plan p) page_segment _ before three in
+        let sum = sum_few plan.cells cells (table_at table) its_code page_segment _ before three in
         omega (arith, size, sum)
 
     pub is_edit : IsEdit original plan p place table (edit_file original plan p table)
     is_edit =
-        let ns = notes_bytes (notes_on original plan p) in
-        let loadable = can_load plan.cells cells (table_at table) (code_segment original plan p) page_segment _ before three in
+        let ns = notes_bytes notes in
+        let loadable = can_load plan.cells cells (table_at table) its_code page_segment _ before three in
         record {
           taken = can;
           limit = limit;
           given = bytes;
           workable = work;
           code = code;
-          bytes = file_is_bytes original (added original plan p table) (entry_of original plan p) ns bytes
-              (all_any (λ s. AreBytes s.bytes) plan.cells cells (table_at table ∷ code_segment original plan p ∷ page_segment ∷ [])
+          bytes = file_is_bytes original segments entry_at ns bytes
+              (all_any (λ s. AreBytes s.bytes) plan.cells cells (table_at table ∷ its_code ∷ page_segment ∷ [])
               (λ _ k d l. absurd (omega (arith, l)))
-              (all_three (λ s. AreBytes s.bytes) (table_at table) (code_segment original plan p) page_segment code.bytes
+              (all_three (λ s. AreBytes s.bytes) (table_at table) its_code page_segment code.bytes
               (words_are_bytes p.code) (All-replicate (λ b. b < 256) page_size 0 (omega arith))))
-              (notes_are_bytes (notes_on original plan p));
-          loads = file_loads original (added original plan p table) (entry_of original plan p) ns can_be_written numbers loadable;
-          reads = notes_are_read original (added original plan p table) (entry_of original plan p) ns can_be_written
-              ∙ written_back (notes_on original plan p) (length (edit_file original plan p table)) notes_meet_rules
-              (are_words (graph_in original plan) (segment_size (text_of original plan) (graph_in original plan)) p
-              (notes_on original plan p) noted) holds.inside;
-          mapped = segments_are_mapped original (added original plan p table) (entry_of original plan p) ns can_be_written numbers
-              loadable.filled;
-          entered = entry_is_given original (added original plan p table) (entry_of original plan p) ns can_be_written numbers;
+              (notes_are_bytes notes);
+          loads = file_loads original segments entry_at ns can_be_written numbers loadable;
+          reads = notes_are_read original segments entry_at ns can_be_written
+              ∙ written_back notes (length (edit_file original plan p table)) notes_meet_rules
+              (are_words graph (segment_size text graph) p notes noted) holds.inside;
+          mapped = segments_are_mapped original segments entry_at ns can_be_written numbers loadable.filled;
+          entered = entry_is_given original segments entry_at ns can_be_written numbers;
         }

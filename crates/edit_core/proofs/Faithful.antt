@@ -5,10 +5,10 @@ use Rattle.std.specs.List.{list_any}
 use Rattle.std.proofs.lemmas.Bool.{le-leb, lt-ltb}
 use Rattle.std.proofs.lemmas.List.{append_assoc}
 use Rattle.std.proofs.lemmas.Option.{slice_get_within, get_or_from_slice_get}
-use Rattle.eel_base.specs.CodeText.{IsText, address_of, word_at}
+use Rattle.eel_base.specs.CodeText.{IsText, Words, address_of, word_at}
 use Rattle.elf32_sparc.specs.Image.{image_of}
 use Rattle.elf32_sparc.specs.Mapping.{Mapping, mappings}
-use Rattle.elf32_sparc.specs.Notes.{NoteRange, NoteSegment}
+use Rattle.elf32_sparc.specs.Notes.{NoteRange, NoteSegment, Notes}
 use Rattle.v8_decode.specs.declared.Part.{Part}
 use Rattle.elf32_write.specs.Headers.{AddedSegment}
 use Rattle.elf32_write.specs.Laws.{AreBytes, kept, mapping_added}
@@ -70,79 +70,88 @@ word_here original plan word l =
 
 module _ (original : List ℕ) (plan : Plan) (p : Placement) (place : ℕ → ℕ → ℕ) (table : TableAt) (file : List ℕ)
     (is : IsEdit original plan p place table file) where
-  text_is : IsText (text_of original plan)
+  abbrev text : Words
+  text = text_of original plan
+
+  abbrev graph : Graph
+  graph = graph_in original plan
+
+  abbrev cells_from : ℕ
+  cells_from = cells_base original plan
+
+  abbrev tables_from : ℕ
+  tables_from = table_base original plan
+
+  abbrev code_from : ℕ
+  code_from = code_base original plan
+
+  abbrev notes : Notes
+  notes = notes_on original plan p
+
+  abbrev its_code : AddedSegment
+  its_code = code_segment original plan p
+
+  text_is : IsText text
   text_is = image_text original is.taken.sound
 
   abbrev cells : AddedSegment
-  cells = cells_at (cells_base original plan) plan.cells
+  cells = cells_at cells_from plan.cells
 
   -- ---- each place is at a node
 
-  abbrev its_graph : Graph
-  its_graph = graph_in original plan
-
   abbrev IsAtNode : NoteRange → Type 0
-  IsAtNode range = is_node its_graph range.node ≡ true
+  IsAtNode range = is_node graph range.node ≡ true
 
-  nodes_are : All IsAtNode (notes_on original plan p).ranges
+  nodes_are : All IsAtNode notes.ranges
   nodes_are =
-      all_each IsAtNode (off_ranges (text_of original plan) its_graph (table_base original plan) ++ p.ranges)
-      (each-append IsAtNode (off_ranges (text_of original plan) its_graph (table_base original plan)) p.ranges
-      (off_each (text_of original plan) its_graph (table_base original plan)
-      (IsEdgeIn its_graph.blocks its_graph.opens) (Each IsAtNode)
-      (edges_inside (text_of original plan) its_graph text_is (graph_is original plan)) tt
-      (λ edge inside. ((number_of its_graph edge.from inside.from).is, tt)))
-      (each-then (IsWhole its_graph) IsAtNode p.ranges (λ r whole. whole.node.is)
-      (ranges_whole (text_of original plan) its_graph (table_base original plan)
-      (cases_at (text_of original plan) (table_base original plan))
-      (codes_of (cells_base original plan) is.code.dead plan.snips) text_is (graph_is original plan)
-      (code_base original plan) p place
-      is.code.laid)))
+      all_each IsAtNode (off_ranges text graph tables_from ++ p.ranges)
+      (each-append IsAtNode (off_ranges text graph tables_from) p.ranges (off_each text graph tables_from
+      (IsEdgeIn graph.blocks graph.opens) (Each IsAtNode) (edges_inside text graph text_is (graph_is original plan)) tt
+      (λ edge inside. ((number_of graph edge.from inside.from).is, tt)))
+      (each-then (IsWhole graph) IsAtNode p.ranges (λ r whole. whole.node.is) (ranges_whole text graph tables_from
+      (cases_at text tables_from) (codes_of cells_from is.code.dead plan.snips) text_is (graph_is original plan)
+      code_from p place is.code.laid)))
 
-  size_is : length table.bytes ≡ segment_size (text_of original plan) (graph_in original plan)
-  size_is = segment_is (text_of original plan) (graph_in original plan) plan.snips p table is.code.leads
+  size_is : length table.bytes ≡ segment_size text graph
+  size_is = segment_is text graph plan.snips p table is.code.leads
 
   -- the pages in the room
   abbrev room_pages : List Mapping
   room_pages =
-      if_any plan.cells (mapping_added cells) ++ mapping_added (table_at table)
-      ∷ mapping_added (code_segment original plan p) ∷ []
+      if_any plan.cells (mapping_added cells) ++ mapping_added (table_at table) ∷ mapping_added its_code ∷ []
 
   pages_mapped : map mapping_added (added original plan p table) ≡ room_pages ++ mapping_added page_segment ∷ []
   pages_mapped =
-      any-map mapping_added plan.cells cells (table_at table ∷ code_segment original plan p ∷ page_segment ∷ [])
+      any-map mapping_added plan.cells cells (table_at table ∷ its_code ∷ page_segment ∷ [])
       ∙ sym (append_assoc (if_any plan.cells (mapping_added cells))
-      (mapping_added (table_at table) ∷ mapping_added (code_segment original plan p) ∷ [])
-      (mapping_added page_segment ∷ []))
+      (mapping_added (table_at table) ∷ mapping_added its_code ∷ []) (mapping_added page_segment ∷ []))
 
-  pages_noted : map note_of (room_pages ++ mapping_added page_segment ∷ []) ≡ (notes_on original plan p).segments
+  pages_noted : map note_of (room_pages ++ mapping_added page_segment ∷ []) ≡ notes.segments
   pages_noted =
       let base = is.code.base in
       let long = size_is in
       ap (map note_of) (append_assoc (if_any plan.cells (mapping_added cells))
-      (mapping_added (table_at table) ∷ mapping_added (code_segment original plan p) ∷ [])
-      (mapping_added page_segment ∷ []))
+      (mapping_added (table_at table) ∷ mapping_added its_code ∷ []) (mapping_added page_segment ∷ []))
       ∙ any-map note_of plan.cells (mapping_added cells)
-      (mapping_added (table_at table) ∷ mapping_added (code_segment original plan p) ∷ mapping_added page_segment ∷ [])
+      (mapping_added (table_at table) ∷ mapping_added its_code ∷ mapping_added page_segment ∷ [])
       ∙ ap (λ (segments : List NoteSegment). if_any plan.cells (note_of (mapping_added cells)) ++ segments)
       (ap (λ (a : ℕ). record { start = a; length = length table.bytes } ∷ noted_after) base
-      ∙ ap (λ (n : ℕ). record { start = table_base original plan; length = n } ∷ noted_after) long)
+      ∙ ap (λ (n : ℕ). record { start = tables_from; length = n } ∷ noted_after) long)
     where
       noted_after : List NoteSegment
       noted_after =
-          record { start = code_base original plan; length = 4 * length p.code }
+          record { start = code_from; length = 4 * length p.code }
           ∷ record { start = editor_page; length = page_size } ∷ []
 
-  has_pages : AreFit (text_of original plan) (graph_in original plan) plan.snips (pieces_of original plan is.code.dead)
-      → HasPages original plan file (notes_on original plan p)
+  has_pages : AreFit text graph plan.snips (pieces_of original plan is.code.dead) → HasPages original plan file notes
   has_pages fit =
       let few = fit.bytes in
       let size = is.code.size in
       let base = is.code.base in
       let long = size_is in
-      let entries = entries_few (text_of original plan) (graph_in original plan) text_is (graph_is original plan) in
-      let small = small_tables (text_of original plan) text_is in
-      let made = operations_few (graph_in original plan) plan.kind plan.cells plan.snips is.workable in
+      let entries = entries_few text graph text_is (graph_is original plan) in
+      let small = small_tables text text_is in
+      let made = operations_few graph plan.kind plan.cells plan.snips is.workable in
       let bound = bound_is original plan in
       record {
         room = room_pages;
@@ -151,58 +160,48 @@ module _ (original : List ℕ) (plan : Plan) (p : Placement) (place : ℕ → �
         noted = pages_noted;
         inside = all_any (IsInRoom original plan) plan.cells (mapping_added cells) _ (λ some. (omega arith, omega arith))
             (all_two (IsInRoom original plan) (mapping_added (table_at table))
-            (mapping_added (code_segment original plan p)) (omega arith, omega arith) (omega arith, omega arith));
+            (mapping_added its_code) (omega arith, omega arith) (omega arith, omega arith));
         own = (refl, refl);
         cells = has_cells;
       }
     where
-      has_cells : 0 < plan.cells → list_any (holds_cells (cells_base original plan) plan.cells) room_pages ≡ true
+      has_cells : 0 < plan.cells → list_any (holds_cells cells_from plan.cells) room_pages ≡ true
       has_cells some =
-          any_first (holds_cells (cells_base original plan) plan.cells) plan.cells (mapping_added cells) _ some
-          (rw (
-            le-leb (cells_base original plan) (cells_base original plan) (omega arith),
-            le-leb (cells_base original plan + 4 * plan.cells) (cells_base original plan + 4 * plan.cells) (omega arith),
+          any_first (holds_cells cells_from plan.cells) plan.cells (mapping_added cells) _ some (rw (
+            le-leb cells_from cells_from (omega arith),
+            le-leb (cells_from + 4 * plan.cells) (cells_from + 4 * plan.cells) (omega arith),
           ) refl)
 
   place_is : PlacesSay → (n : ℕ) (r : NoteRange) → slice_get p.ranges n ≡ Some r → IsPlace original file r
   place_is say n r e word l plain same =
-      let here : word_at (text_of original plan) r.address ≡ Some word = ap (word_at (text_of original plan)) same
-      ∙ word_here original plan word l in
-      let at : IsWordAt (code_base original plan) p.code r.lo (slice_index (text_of original plan).words word) =
-      say (text_of original plan) (graph_in original plan) (table_base original plan)
-      (cases_at (text_of original plan) (table_base original plan))
-      (codes_of (cells_base original plan) is.code.dead plan.snips) (code_base original plan) p place text_is
-      (graph_is original plan)
-      is.code.laid n r e word here plain in
-      let inside = slice_get_within p.code at.0 (slice_index (text_of original plan).words word) at.2 in
+      let here : word_at text r.address ≡ Some word = ap (word_at text) same ∙ word_here original plan word l in
+      let at : IsWordAt code_from p.code r.lo (slice_index text.words word) = say text graph tables_from
+      (cases_at text tables_from) (codes_of cells_from is.code.dead plan.snips) code_from p place text_is
+      (graph_is original plan) is.code.laid n r e word here plain in
+      let inside = slice_get_within p.code at.0 (slice_index text.words word) at.2 in
       let base = is.code.base in
       let size = size_is in
       ap (word_mapped file) at.1
       ∙ code_mapped original file p.code plan.cells (mapping_added cells) (mapping_added (table_at table))
-      (mapping_added (code_segment original plan p)) (mapping_added page_segment ∷ [])
+      (mapping_added its_code) (mapping_added page_segment ∷ [])
       (is.mapped ∙ ap (λ (ms : List Mapping). map kept (mappings original) ++ ms)
-      (any-map mapping_added plan.cells cells (table_at table ∷ code_segment original plan p ∷ page_segment ∷ [])))
+      (any-map mapping_added plan.cells cells (table_at table ∷ its_code ∷ page_segment ∷ [])))
       is.code.words (omega arith) (omega arith) (omega arith) refl refl at.0 inside
-      ∙ ap (λ w. Some w) (get_or_from_slice_get p.code at.0 (slice_index (text_of original plan).words word) 0 at.2)
+      ∙ ap (λ w. Some w) (get_or_from_slice_get p.code at.0 (slice_index text.words word) 0 at.2)
 
   -- no word of the text stands at its end
-  off_place : (edge : Edge) → IsPlace original file (off_range (text_of original plan) (graph_in original plan)
-      (table_base original plan) edge)
+  off_place : (edge : Edge) → IsPlace original file (off_range text graph tables_from edge)
   off_place edge word l plain same = absurd (omega (arith, same, l))
 
-  places_are : PlacesSay → All (IsPlace original file) (notes_on original plan p).ranges
+  places_are : PlacesSay → All (IsPlace original file) notes.ranges
   places_are say =
-      all_each (IsPlace original file) (off_ranges (text_of original plan) (graph_in original plan)
-      (table_base original plan) ++ p.ranges)
-      (each-append (IsPlace original file) (off_ranges (text_of original plan) (graph_in original plan) (table_base original plan))
-      p.ranges
-      (off_each (text_of original plan) (graph_in original plan) (table_base original plan) (λ edge. Unit {0})
-      (Each (IsPlace original file))
-      (each (λ edge. Unit {0}) (graph_in original plan).edges (λ edge. tt)) tt (λ edge any. (off_place edge, tt)))
+      all_each (IsPlace original file) (off_ranges text graph tables_from ++ p.ranges)
+      (each-append (IsPlace original file) (off_ranges text graph tables_from) p.ranges
+      (off_each text graph tables_from (λ edge. Unit {0}) (Each (IsPlace original file))
+      (each (λ edge. Unit {0}) graph.edges (λ edge. tt)) tt (λ edge any. (off_place edge, tt)))
       (each_index (IsPlace original file) p.ranges (place_is say)))
 
-pub faithful : EditsRunAlike → PlacesSay → (original : List ℕ) (plan : Plan)
-    → ((dead : ℕ → List Part)
+pub faithful : EditsRunAlike → PlacesSay → (original : List ℕ) (plan : Plan) → ((dead : ℕ → List Part)
     → AreFit (text_of original plan) (graph_in original plan) plan.snips (pieces_of original plan dead))
     → length original ≤ 2 ^ 26 → AreBytes original → CanEdit original plan → CanDo original plan
     → (p : Placement) (place : ℕ → ℕ → ℕ) (table : TableAt) → IsNewCode original plan p place table
@@ -218,8 +217,7 @@ faithful alike say original plan fit limit bytes can work p place table code =
         holds = (holds original plan limit can work p place table code (fit code.dead)).holds;
         small = small_file original plan limit can work p place table code (fit code.dead) bytes;
       };
-      graph = has_graph original plan p
-          (nodes_are original plan p place table (edit_file original plan p table) is);
+      graph = has_graph original plan p (nodes_are original plan p place table (edit_file original plan p table) is);
       pages = has_pages original plan p place table (edit_file original plan p table) is (fit is.code.dead);
       places = places_are original plan p place table (edit_file original plan p table) is say;
       dead = is.code.dead;

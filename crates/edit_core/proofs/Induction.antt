@@ -1,5 +1,5 @@
 -- The induction over the steps of the original.
-use Rattle.std.proofs.Common.{◌≡◌, ◌≢◌, ℕ, zero, suc, ◌+◌, ◌-◌, ◌<◌, ◌≤◌, ◌⊎◌, inl, inr, Option, Some, None, List, [], ◌++◌, append-nil, refl, ap, sym, ◌∙◌, subst, arith}
+use Rattle.std.proofs.Common.{◌≡◌, ◌≢◌, ℕ, zero, suc, ◌+◌, ◌-◌, ◌<◌, ◌≤◌, ◌⊎◌, inl, inr, Option, Some, None, List, ◌++◌, append-nil, refl, ap, sym, ◌∙◌, subst, arith}
 use Rattle.eel_base.specs.CodeText.{word_at}
 use Rattle.elf32_sparc.specs.Notes.{node_at, range_at}
 use Rattle.v8_decode.specs.declared.Instr.{Instr}
@@ -41,6 +41,7 @@ use Rattle.jump_code.specs.PageWords.{kept_address}
 use Rattle.edit_core.specs.RunsAlike.{EndsAtNode, TellsStep}
 use Rattle.edit_core.specs.Runs.{KeepsLoaded, AreTogether, Closed, Follows, Linked, Rests, Spares, StaysInside, Tells, instr_in, limits_in}
 use Rattle.edit_core.proofs.Stays.{ended_stays}
+use Rattle.edit_core.proofs.Stops.{gone_none, same_node, same_store}
 use Rattle.edit_core.proofs.Places.{node_of_place, placed_between, step_stays, there_node, visited_address}
 
 -- ---- small things
@@ -112,9 +113,6 @@ goes_same (Some d) s v e h k =
     ap (λ (z : Option Ending). point_unless z (point_of v)) (sym h ∙ e)
     ∙ sym (ap (λ (z : Option Ending). point_unless z (point_of s)) e)
 
-goes_nowhere : (s : State) (d : Ending) → s.ending ≡ Some d → goes_on_at s ≡ None
-goes_nowhere s d e = ap (λ (z : Option Ending). point_unless z (point_of s)) e
-
 -- the same point, as one
 one_point : (s u : State) → AreAtOnePoint s u → point_of s ≡ point_of u
 one_point s u h =
@@ -126,8 +124,7 @@ one_point s u h =
 load_sum : (rs1 : ℕ) (op2 : Op2) (s u : State) → s.window ≡ u.window
     → ((item : Item) → IsItem item → IsAmong item s.window (reg rs1 ++ op2_parts op2) → IsSameAt item s u)
     → sum_of s rs1 op2 ≡ sum_of u rs1 op2
-load_sum rs1 op2 s u w f =
-    same_sum rs1 op2 s u w (first rs1 f) (second rs1 op2 f)
+load_sum rs1 op2 s u w f = same_sum rs1 op2 s u w (first rs1 f) (second rs1 op2 f)
   where
     register : (r : ℕ) → IsItem (Register (place_of s.window (suc r)))
     register r = (place_of-some s.window (suc r) (λ e. absurd (cc)), place_of-below s.window (suc r))
@@ -146,554 +143,474 @@ load_sum rs1 op2 s u w f =
 
 -- ---- one step
 
-pub record IsNext (g : Setting) (entry : ℕ) (Here : Node → Point → State → Type 0) (Short : Type 0)
-    (s0 t0 : State) (n m : ℕ) : Type 0 where
-  pub alike : AreAlikeOn (pages_of g.notes) (word_of g.text (run s0 n).pc) (run s0 n)
-      (at_point (point_of (run s0 n)) (run t0 m))
-      (run s0 (suc n)) (does_at g (point_of (run s0 n)) (run t0 m))
-  pub on : StepsOn g Here (Short × IsNoLoad g (does_at g (point_of (run s0 n)) (run t0 m))) 64
-      (gone_in g.text (graph_in g) entry s0 n) (end_of_walk g.text (graph_in g) entry s0 n)
-      (point_of (run s0 n)) (run t0 m) (does_at g (point_of (run s0 n)) (run t0 m))
-  pub keeps : KeepsAddress g (gone_in g.text (graph_in g) entry s0 n) (end_of_walk g.text (graph_in g) entry s0 n)
-      (point_of (run s0 n)) (run t0 m) (does_at g (point_of (run s0 n)) (run t0 m)) on.after
-  -- also where it ends the run
-  pub pc : (run s0 (suc n)).pc ≡ (does_at g (point_of (run s0 n)) (run t0 m)).pc
-  pub visit : visit_of g.notes (run t0 m) ≡ Some (run s0 n).pc
-  pub node : node_at g.notes (run t0 m).pc ≡ Some (number_in g (end_of_walk g.text (graph_in g) entry s0 n))
-
--- how far both runs have come, up to step `last`
-pub data Reached (g : Setting) (entry : ℕ) (Here : Node → Point → State → Type 0) (K : ℕ → Item → Type 0)
-    (s0 t0 : State) (last n : ℕ) : Type 0 where
-  goes : (m : ℕ) → Linked g entry Here K s0 t0 n m → Reached g entry Here K s0 t0 last n
-  ends : (m : ℕ) (d : Ending) → Closed g entry s0 t0 n m d → Reached g entry Here K s0 t0 last n
-  past : (m : ℕ) → last < n → Reached g entry Here K s0 t0 last n
-
 module _ (g : Setting) (entry : ℕ) (Inside : Point → Type 0) (Here : Node → Point → State → Type 0)
-    (Short : Type 0) (K : ℕ → Item → Type 0) (s0 t0 : State) (r : Rests g entry Inside Here Short K s0 t0) where
-  fetched : (n : ℕ) → fetch_of (run s0 n).memory (run s0 n).pc ≡ word_of g.text (run s0 n).pc
-  fetched n = code_stays.1 s0 n (run s0 n).pc ∙ r.fetches (run s0 n).pc
+    (Short : Type 0) (K : ℕ → Item → Type 0) (s0 t0 : State) where
+  -- the states of both runs
+  abbrev s : ℕ → State
+  s n = run s0 n
 
-  matched : (n : ℕ) → (run s0 n).ending ≡ None
-      → MatchesIn g (end_of_walk g.text (graph_in g) entry s0 n) (point_of (run s0 n))
-  matched n live =
-      walks_match g.text g.given g.switches entry s0 n r.text r.fetches r.begins r.opened r.by_case live
+  abbrev t : ℕ → State
+  t m = run t0 m
 
-  end_next : (n : ℕ) → node_after (graph_in g) (end_of_walk g.text (graph_in g) entry s0 n)
-      (gone_in g.text (graph_in g) entry s0 n)
-      ≡ end_of_walk g.text (graph_in g) entry s0 (suc n)
-  unfolding end_of_walk
-  end_next n = refl
+  abbrev pages : List Span
+  pages = pages_of g.notes
 
-  -- a step that ends the run, or comes after, completes no edge
-  gone_none : (n : ℕ) (d : Ending) → (run s0 (suc n)).ending ≡ Some d → gone_in g.text (graph_in g) entry s0 n ≡ []
-  gone_none n d e =
-      ap (λ (o : Option Point). gone g.text (graph_in g) (end_of_walk g.text (graph_in g) entry s0 n)
-      (point_of (run s0 n)) o)
-      (goes_nowhere (run s0 (suc n)) d e)
+  -- where step n of the original stands, and the edges that it completes
+  abbrev point : ℕ → Point
+  point n = point_of (s n)
 
-  end_stays : (n : ℕ) (d : Ending) → (run s0 (suc n)).ending ≡ Some d
-      → end_of_walk g.text (graph_in g) entry s0 n ≡ end_of_walk g.text (graph_in g) entry s0 (suc n)
-  end_stays n d e =
-      sym (ap (λ es. node_after (graph_in g) (end_of_walk g.text (graph_in g) entry s0 n) es) (gone_none n d e))
-      ∙ end_next n
+  abbrev word : ℕ → Option ℕ
+  word n = word_of g.text (s n).pc
 
-  store_stays : (n : ℕ) (d : Ending) → (run s0 (suc n)).ending ≡ Some d
-      → store_of g entry s0 n ≡ store_of g entry s0 (suc n)
-  store_stays n d e = sym (ap (λ es. updates g.snips es (store_of g entry s0 n) (run s0 (suc n))) (gone_none n d e))
+  abbrev node : ℕ → Node
+  node n = end_of_walk g.text (graph_in g) entry s0 n
 
-  pub next_of : (n m : ℕ) → Linked g entry Here K s0 t0 n m
-      → AllApart (pages_of g.notes) (judged_in (run s0 n) (instr_at (run s0 n))) → Inside (point_of (run s0 n))
-      → ((run s0 (suc n)).ending ≡ None → Inside (point_of (run s0 (suc n)))) → IsNext g entry Here Short s0 t0 n m
-  next_of n m h apart within inside =
-      let visits = r.simulates.visits _ _ _
-      (matched n h.live) within h.here in
-      let stepped : run s0 (suc n) ≡ on_word (run s0 n) (word_of g.text (run s0 n).pc) = step_live (run s0 n) _ h.live
-      (fetched n) in
-      let judged : AllApart (pages_of g.notes) (judged_in (run s0 n) (instr_of (word_of g.text (run s0 n).pc))) =
-      subst (λ (z : Option Instr). AllApart (pages_of g.notes) (judged_in (run s0 n) z))
-      (ap (decoded (run s0 n).ending) (fetched n) ∙ instr_same (run s0 n).ending
-      (word_of g.text (run s0 n).pc) h.live) apart in
-      let a = points_act_alike g.notes (word_of g.text (run s0 n).pc) (run s0 n)
-      (at_point (point_of (run s0 n)) (run t0 m)) h.live visits.0
-      (run-valid s0 n r.first_valid).registers (run-valid t0 m r.second_valid).registers
-      (record { pc = refl; npc = refl; slot = refl })
-      (world_moved (pages_of g.notes) (run s0 n) (run t0 m) (point_of (run s0 n)) h.together.world)
-      (λ item is d. same_moved item (run s0 n) (run t0 m) (point_of (run s0 n))
-      (h.items item is (r.keeping.reads n item is h.live d))) judged in
-      let b : AreAlikeOn (pages_of g.notes) (word_of g.text (run s0 n).pc) (run s0 n)
-      (at_point (point_of (run s0 n)) (run t0 m))
-      (run s0 (suc n)) (does_at g (point_of (run s0 n)) (run t0 m)) =
-      subst (λ (z : State). AreAlikeOn (pages_of g.notes) (word_of g.text (run s0 n).pc) (run s0 n)
-      (at_point (point_of (run s0 n)) (run t0 m)) z (does_at g (point_of (run s0 n)) (run t0 m))) (sym stepped) a in
-      let whole = subst (λ (z : Option Point). Steps g Here Short
-      (gone g.text (graph_in g) (end_of_walk g.text (graph_in g) entry s0 n) (point_of (run s0 n)) z)
-      (end_of_walk g.text (graph_in g) entry s0 n) (point_of (run s0 n)) (run t0 m)
-      (does_at g (point_of (run s0 n)) (run t0 m)))
-      (goes_same (run s0 (suc n)).ending (run s0 (suc n))
-      (does_at g (point_of (run s0 n)) (run t0 m)) refl b.ending
-      (λ live. one_point (run s0 (suc n)) (does_at g (point_of (run s0 n)) (run t0 m)) (b.point live)))
-      (r.simulates.steps (end_of_walk g.text (graph_in g) entry s0 n) (point_of (run s0 n)) (run t0 m)
-      (matched n h.live) within h.here b.judged
-      (λ live. let on : (run s0 (suc n)).ending ≡ None = b.ending
-      ∙ live in subst Inside (one_point (run s0 (suc n)) (does_at g (point_of (run s0 n)) (run t0 m))
-      (b.point on)) (inside on))
-      (λ k o is at. chosen k o is at b)) in
-      record {
-        alike = b;
-        on = whole.on;
-        keeps = whole.keeps;
-        pc = pc_by (run s0 (suc n)).ending refl stepped visits.0 b;
-        visit = visits.1;
-        node = visits.2;
+  abbrev edges : ℕ → List ℕ
+  edges n = gone_in g.text (graph_in g) entry s0 n
+
+  abbrev store : ℕ → List ℕ
+  store n = store_of g entry s0 n
+
+  -- what its word does there to the state of the written file
+  abbrev does : ℕ → ℕ → State
+  does n m = does_at g (point n) (t m)
+
+  abbrev IsAlike : ℕ → ℕ → Type 0
+  IsAlike n m = AreAlikeOn pages (word n) (s n) (at_point (point n) (t m)) (s (suc n)) (does n m)
+
+  abbrev Links : ℕ → ℕ → Type 0
+  Links n m = Linked g entry Here K s0 t0 n m
+
+  abbrev Closes : ℕ → ℕ → Ending → Type 0
+  Closes n m d = Closed g entry s0 t0 n m d
+
+  abbrev Saves : ℕ → ℕ → ℕ → Type 0
+  Saves n m k = Spares g entry Short s0 t0 n m k
+
+  record IsNext (n m : ℕ) : Type 0 where
+    pub alike : IsAlike n m
+    pub on : StepsOn g Here (Short × IsNoLoad g (does n m)) 64 (edges n) (node n) (point n) (t m) (does n m)
+    pub keeps : KeepsAddress g (edges n) (node n) (point n) (t m) (does n m) on.after
+    -- also where it ends the run
+    pub pc : (s (suc n)).pc ≡ (does n m).pc
+    pub visit : visit_of g.notes (t m) ≡ Some (s n).pc
+    pub node : node_at g.notes (t m).pc ≡ Some (number_in g (node n))
+
+  -- how far both runs have come, up to step `last`
+  data Reached (last n : ℕ) : Type 0 where
+    goes : (m : ℕ) → Links n m → Reached last n
+    ends : (m : ℕ) (d : Ending) → Closes n m d → Reached last n
+    past : (m : ℕ) → last < n → Reached last n
+
+  module _ (r : Rests g entry Inside Here Short K s0 t0) where
+    fetched : (n : ℕ) → fetch_of (s n).memory (s n).pc ≡ word n
+    fetched n = code_stays.1 s0 n (s n).pc ∙ r.fetches (s n).pc
+
+    matched : (n : ℕ) → (s n).ending ≡ None → MatchesIn g (node n) (point n)
+    matched n live = walks_match g.text g.given g.switches entry s0 n r.text r.fetches r.begins r.opened r.by_case live
+
+    end_next : (n : ℕ) → node_after (graph_in g) (node n) (edges n) ≡ node (suc n)
+    unfolding end_of_walk
+    end_next n = refl
+
+    next_of : (n m : ℕ) → Links n m → AllApart pages (judged_in (s n) (instr_at (s n))) → Inside (point n)
+        → ((s (suc n)).ending ≡ None → Inside (point (suc n))) → IsNext n m
+    next_of n m h apart within inside =
+        let visits = r.simulates.visits _ _ _ (matched n h.live) within h.here in
+        let stepped : s (suc n) ≡ on_word (s n) (word n) = step_live (s n) _ h.live (fetched n) in
+        let judged : AllApart pages (judged_in (s n) (instr_of (word n))) =
+        subst (λ (z : Option Instr). AllApart pages (judged_in (s n) z))
+        (ap (decoded (s n).ending) (fetched n) ∙ instr_same (s n).ending (word n) h.live) apart in
+        let a = points_act_alike g.notes (word n) (s n) (at_point (point n) (t m)) h.live visits.0
+        (run-valid s0 n r.first_valid).registers (run-valid t0 m r.second_valid).registers
+        (record { pc = refl; npc = refl; slot = refl }) (world_moved pages (s n) (t m) (point n) h.together.world)
+        (λ item is d. same_moved item (s n) (t m) (point n)
+        (h.items item is (r.keeping.reads n item is h.live d))) judged in
+        let b : IsAlike n m = subst (λ (z : State). AreAlikeOn pages (word n) (s n)
+        (at_point (point n) (t m)) z (does n m)) (sym stepped) a in
+        let whole = subst (λ (z : Option Point). Steps g Here Short (gone g.text (graph_in g) (node n) (point n) z)
+        (node n) (point n) (t m) (does n m)) (goes_same (s (suc n)).ending (s (suc n)) (does n m) refl b.ending
+        (λ live. one_point (s (suc n)) (does n m) (b.point live))) (r.simulates.steps (node n) (point n) (t m)
+        (matched n h.live) within h.here b.judged (λ live. let on : (s (suc n)).ending ≡ None = b.ending
+        ∙ live in subst Inside (one_point (s (suc n)) (does n m) (b.point on)) (inside on))
+        (λ k o is at. chosen k o is at b)) in
+        record {
+          alike = b;
+          on = whole.on;
+          keeps = whole.keeps;
+          pc = pc_by (s (suc n)).ending refl stepped visits.0 b;
+          visit = visits.1;
+          node = visits.2;
+        }
+      where
+        -- the jump of an open switch goes by the entry whose address is kept
+        chosen : (k : ℕ) (o : CaseTable) → slice_get g.opens k ≡ Some o → IsAtWord g o (node n) (point n) o.jump
+            → IsAlike n m → IsChosen g o (t m) (does n m)
+        chosen k o is at b =
+            let c = r.by_table n h.live k o is at in
+            let order = (r.opens.each k o is).order in
+            record {
+              entry = c.number;
+              below = c.below;
+              kept = h.kept k o is c.start (o.jump - o.load) c.since (omega (arith, order)) c.came ∙ c.loaded;
+              goes = sym (b.point c.live).npc ∙ c.goes;
+              live = sym b.ending ∙ c.live;
+            }
+
+        pc_by : (e : Option Ending) → (s (suc n)).ending ≡ e → s (suc n) ≡ on_word (s n) (word n) → (t m).ending ≡ None
+            → IsAlike n m → (s (suc n)).pc ≡ (does n m).pc
+        pc_by None e stepped other b = (b.point e).pc
+        pc_by (Some d) e stepped other b =
+            let first : (on_word (s n) (word n)).ending ≡ Some d = ap (λ (z : State). z.ending) (sym stepped) ∙ e in
+            let second : (does n m).ending ≡ Some d = sym b.ending ∙ e in
+            ap (λ (z : State). z.pc) stepped ∙ ended_stays (s n) (word n) h.live (λ none. absurd (cc))
+            ∙ sym (ended_stays (at_point (point n) (t m)) (word n) other (λ none. absurd (cc)))
+
+    -- where the written file is after the step
+    arrived : (n m : ℕ) (x : IsNext n m) → t (x.on.count + m) ≡ x.on.after
+    arrived n m x = run_add t0 m x.on.count ∙ x.on.path.steps
+
+    puts_next : (n m : ℕ) → Links n m → (x : IsNext n m) (descriptor : ℕ)
+        → run_puts s0 (suc n) descriptor ≡ run_puts t0 (x.on.count + m) descriptor
+    puts_next n m h x descriptor =
+        ap (λ z. z ++ puts_of (s n) descriptor) (h.together.puts descriptor) ∙ ap (λ z. run_puts t0 m descriptor ++ z)
+        (puts_live (s n) (word n) descriptor h.live (fetched n) ∙ x.alike.puts descriptor ∙ sym (x.on.puts descriptor))
+        ∙ sym (puts_add t0 m x.on.count descriptor)
+
+    world_next : (n m : ℕ) (x : IsNext n m) → IsSameWorld pages (s (suc n)) (t (x.on.count + m))
+    world_next n m x =
+        subst (λ (z : State). IsSameWorld pages (s (suc n)) z) (sym (arrived n m x))
+        (world_then pages _ _ (does n m) x.on.after x.alike.world x.on.followed)
+
+    before : (n m : ℕ) → Links n m → (item : Item) → IsItem item
+        → WritesIn (instr_in g s0 n) (s n).window item ⊎ K n item
+        → WritesIn (instr_in g s0 n) (s n).window item ⊎ IsSameAt item (s n) (at_point (point n) (t m))
+    before n m h item is (inl a) = inl a
+    before n m h item is (inr a) = inr (same_moved item (s n) (t m) (point n) (h.items item is a))
+
+    items_next : (n m : ℕ) → Links n m → (x : IsNext n m)
+        → (s (suc n)).ending ≡ None → (item : Item) → IsItem item → K (suc n) item
+        → IsSameAt item (s (suc n)) x.on.after
+    items_next n m h x live item is k =
+        let go : (does n m).ending ≡ None = sym x.alike.ending ∙ live in
+        same_trans item (s (suc n)) (does n m) x.on.after
+        (x.alike.items live item is (before n m h item is (r.keeping.back n item k))) (x.on.followed.items go item is
+        (subst (λ (z : ℕ). IsKept g (edges n) z item) x.alike.world.window (r.keeping.live n item k)))
+
+    -- at a load both compute the same address
+    sums_next : (n m : ℕ) → Links n m → (x : IsNext n m)
+        → (s (suc n)).ending ≡ None → (k : ℕ) (o : CaseTable) → slice_get g.opens k ≡ Some o
+        → word_at g.text (s (suc n)).pc ≡ Some o.load → sum_of (s (suc n)) o.rs1 o.op2 ≡ sum_of x.on.after o.rs1 o.op2
+    sums_next n m h x live k o is at =
+        let c = r.opens.each k o is in
+        let instr : instr_in g s0 (suc n) ≡ Some (i.Load loads.LD c.rd o.rs1 o.op2) =
+        ap (λ (z : Option ℕ). instr_of (option_map (λ w. slice_index g.text.words w) z)) at
+        ∙ ap (λ (z : Instr). Some z) c.loads in
+        load_sum o.rs1 o.op2 (s (suc n)) x.on.after (x.alike.world.window ∙ sym x.on.followed.window)
+        (λ item is among. items_next n m h x live item is (r.keeping.reads (suc n) item is live
+        (subst (λ (z : Option Instr). ReadsIn z (s (suc n)).window item) (sym instr) (inr among))))
+
+    kept_next : (n m : ℕ) → Links n m → (x : IsNext n m)
+        → (s (suc n)).ending ≡ None → KeepsLoaded g entry s0 (suc n) (t (x.on.count + m))
+    kept_next n m h x live k o is start zero e low came =
+        let now : suc n ≡ start = omega (arith, e) in
+        let first : IsAtWord g o (node (suc n)) (point (suc n)) o.load =
+        (let q : o.load + 0 ≡ o.load = omega arith in let z : 0 + start ≡ suc n = omega (arith, now) in
+        subst (λ w. IsAtWord g o (node (suc n)) (point (suc n)) w) q
+        (subst (λ a. IsAtWord g o (node a) (point a) (o.load + 0)) z (came 0 (omega arith)))) in
+        let go : (does n m).ending ≡ None = sym x.alike.ending ∙ live in
+        ap (λ (z : State). kept_address z) (arrived n m x) ∙ x.keeps.loaded go k o is
+        (subst (λ (z : Point). IsAtWord g o (node_after (graph_in g) (node n) (edges n)) z o.load)
+        (one_point (s (suc n)) (does n m) (x.alike.point live))
+        (subst (λ (z : Node). IsAtWord g o z (point (suc n)) o.load) (sym (end_next n)) first))
+        ∙ sym (sums_next n m h x live k o is first.stands) ∙ ap (λ a. sum_of (s a) o.rs1 o.op2) now
+    kept_next n m h x live k o is start (suc more) e low came =
+        let before_it : n ≡ more + start = omega (arith, e) in
+        let go : (does n m).ending ≡ None = sym x.alike.ending ∙ live in
+        ap (λ (z : State). kept_address z) (arrived n m x) ∙ x.keeps.carried go k o is (o.load + more)
+        (subst (λ a. IsAtWord g o (node a) (point a) (o.load + more)) (sym before_it) (came more (omega arith)))
+        (omega arith) (omega (arith, low))
+        ∙ h.kept k o is start more before_it (omega (arith, low)) (λ j less. came j (omega (arith, less)))
+
+    linked_next : (n m : ℕ) → Links n m → (x : IsNext n m)
+        → (s (suc n)).ending ≡ None → Links (suc n) (x.on.count + m)
+    linked_next n m h x live =
+        let v : State = does n m in
+        let at = arrived n m x in
+        let go : (does n m).ending ≡ None = sym x.alike.ending ∙ live in
+        record {
+          live = live;
+          here = subst (λ (z : State). Here (node (suc n)) (point (suc n)) z) (sym at)
+              (subst (λ (z : Point). Here (node (suc n)) z x.on.after)
+              (sym (one_point (s (suc n)) (does n m) (x.alike.point live)))
+              (subst (λ (z : Node). Here z (point_of (does n m)) x.on.after) (end_next n) (x.on.here go)));
+          items = λ item is k. subst (λ (z : State). IsSameAt item (s (suc n)) z) (sym at)
+              (items_next n m h x live item is k);
+          kept = kept_next n m h x live;
+          together = record {
+            world = world_next n m x;
+            puts = puts_next n m h x;
+            cells = ap (cells_in g) at ∙ x.on.cells ∙ ap (λ z. updates g.snips (edges n) z (does n m)) h.together.cells
+                ∙ sym (r.keeping.named n (store n) v live x.alike.world.window
+                (λ item is k. x.alike.items live item is (before n m h item is k)));
+          };
+        }
+
+    -- what its steps store and take
+    spares_next : (n m : ℕ) (x : IsNext n m) → Saves n m (x.on.count + m)
+    spares_next n m x watched =
+        let sparing = x.on.sparing (record {
+          jump = watched.jump;
+          out = watched.out;
+          inside = subst (λ (z : ℕ). word_at g.text z ≢ None) x.pc watched.inside;
+        }) in
+        let all : x.on.count ≡ x.on.count + m - m = omega arith in
+        subst (λ (z : ℕ). IsSparing g (((s n).ending ≡ None) × Short × IsNoLoad g (s (suc n))) (edges n)
+        (point n) (t m) z) all (record {
+          spills = sparing.spills;
+          first = λ short. sparing.first (short.1, no_load short.2);
+          alone = λ short. sparing.alone (short.1, no_load short.2);
+          few = λ short. sparing.few (short.1, no_load short.2);
+        })
+      where
+        no_load : IsNoLoad g (s (suc n)) → IsNoLoad g (does n m)
+        no_load none k o is at = none k o is (ap (word_at g.text) x.pc ∙ at)
+
+    -- nothing, once it has ended
+    spares_ended : (n m : ℕ) (d : Ending) → (s n).ending ≡ Some d → Saves n m m
+    spares_ended n m d over watched =
+        let none : 0 ≡ m - m = omega arith in
+        subst (λ (z : ℕ). IsSparing g (((s n).ending ≡ None) × Short × IsNoLoad g (s (suc n))) (edges n)
+        (point n) (t m) z) none (record {
+          spills = omega arith;
+          first = λ short. refl;
+          alone = λ short. absurd (let live : (s n).ending ≡ None = short.0 in cc);
+          few = λ short none. omega arith;
+        })
+
+    closed_next : (n m : ℕ) → Links n m → (x : IsNext n m) (d : Ending)
+        → (s (suc n)).ending ≡ Some d → Closes (suc n) (x.on.count + m) d
+    closed_next n m h x d over =
+        let at = arrived n m x in
+        let ended : (does n m).ending ≡ Some d = sym x.alike.ending ∙ over in
+        record {
+          first = over;
+          second = ap (λ (z : State). z.ending) at ∙ x.on.followed.ending ∙ ended;
+          node = ap (λ (z : State). node_at g.notes z.pc) at ∙ there_node g (t m) x.on.after (there ended) ∙ x.node
+              ∙ ap (λ (z : Node). Some (number_in g z)) (sym (same_node g entry s0 n d over));
+          address = λ place is. visited_address g.notes (t m) (s n).pc place x.visit
+              (sym (there ended).range ∙ sym (ap (λ (z : State). range_at g.notes z.pc) at) ∙ is)
+              ∙ sym (step_stays (s n) d h.live over);
+          together = record {
+            world = world_next n m x;
+            puts = puts_next n m h x;
+            cells = ap (cells_in g) at ∙ x.on.cells ∙ ap (λ es. updates g.snips es (cells_in g (t m)) (does n m))
+                (gone_none g entry s0 n d over) ∙ h.together.cells ∙ sym (same_store g entry s0 n d over);
+          };
+        }
+      where
+        there : (does n m).ending ≡ Some d → IsThere g (t m) x.on.after
+        there ended = x.on.place (λ none. absurd (cc))
+
+    closed_stays : (n m : ℕ) (d : Ending) → Closes n m d → Closes (suc n) m d
+    closed_stays n m d h =
+        let stays : s (suc n) ≡ s n = stays_ended (s n) d h.first in
+        let over : (s (suc n)).ending ≡ Some d = ap (λ (z : State). z.ending) stays ∙ h.first in
+        record {
+          first = over;
+          second = h.second;
+          node = h.node ∙ ap (λ (z : Node). Some (number_in g z)) (sym (same_node g entry s0 n d over));
+          address = λ place is. h.address place is ∙ sym (ap (λ (z : State). z.pc) stays);
+          together = record {
+            world = subst (λ (z : State). IsSameWorld pages z (t m)) (sym stays) h.together.world;
+            puts = λ descriptor. ap (λ z. run_puts s0 n descriptor ++ z) (puts_nothing (s n) d descriptor h.first)
+                ∙ append-nil (run_puts s0 n descriptor) ∙ h.together.puts descriptor;
+            cells = h.together.cells ∙ sym (same_store g entry s0 n d over);
+          };
+        }
+
+    module _ (last : ℕ) (u : IsUntouched pages s0 last) (inside : StaysInside Inside s0 last) where
+      -- ---- every step
+
+      moment_of : (n : ℕ) → Reached last n → ℕ
+      moment_of n (goes m h) = m
+      moment_of n (ends m d h) = m
+      moment_of n (past m h) = m
+
+      went_by : (n m : ℕ) → Links n m → IsNext n m → (e : Option Ending) → (s (suc n)).ending ≡ e → Reached last (suc n)
+      went_by n m h x None e = goes (x.on.count + m) (linked_next n m h x e)
+      went_by n m h x (Some d) e = ends (x.on.count + m) d (closed_next n m h x d e)
+
+      moment_by : (n m : ℕ) (h : Links n m) (x : IsNext n m) (e : Option Ending)
+          (is : (s (suc n)).ending ≡ e) → moment_of (suc n) (went_by n m h x e is) ≡ x.on.count + m
+      unfolding moment_of went_by
+      moment_by n m h x None is = refl
+      moment_by n m h x (Some d) is = refl
+
+      weaken : (n : ℕ) → n < last → n ≤ last
+      weaken n l = omega arith
+
+      go_on : (n m : ℕ) → Links n m → (n < last) ⊎ (last ≤ n) → Reached last (suc n)
+      go_on n m h (inl l) = went_by n m h (next_of n m h (u.unjudged n l) (inside n (weaken n l) h.live)
+          (inside (suc n) l)) (s (suc n)).ending refl
+      go_on n m h (inr l) = past m (omega arith)
+
+      step : (n : ℕ) → Reached last n → Reached last (suc n)
+      step n (goes m h) = go_on n m h (split_below n last)
+      step n (ends m d h) = ends m d (closed_stays n m d h)
+      step n (past m l) = past m (omega arith)
+
+      reached : (n : ℕ) → Reached last n
+      reached zero = goes r.begin r.first
+      reached (suc n) = step n (reached n)
+
+      moments : ℕ → ℕ
+      moments n = moment_of n (reached n)
+
+      -- ---- what holds at each
+
+      record IsMoment (n m : ℕ) : Type 0 where
+        matches : Matches g.notes s0 t0 n m
+        cells : cells_in g (t m) ≡ store n
+        told : Tells g entry s0 t0 n m
+        over : EndsAtNode g entry s0 t0 n m
+
+      same_outside : (n m : ℕ) → AreTogether g entry s0 t0 n m → HasSameOutside g.notes s0 t0 n m
+      same_outside n m h = record {
+        input = h.world.input;
+        output = h.puts;
+        heap_end = heap_end_same pages _ _ h.world.memory;
+        memory = λ address out. byte_outside g.notes _ _ address h.world.memory out;
       }
-    where
-      -- the jump of an open switch goes by the entry whose address is kept
-      chosen : (k : ℕ) (o : CaseTable) → slice_get g.opens k ≡ Some o
-          → IsAtWord g o (end_of_walk g.text (graph_in g) entry s0 n) (point_of (run s0 n)) o.jump
-          → AreAlikeOn (pages_of g.notes) (word_of g.text (run s0 n).pc) (run s0 n)
-          (at_point (point_of (run s0 n)) (run t0 m))
-          (run s0 (suc n)) (does_at g (point_of (run s0 n)) (run t0 m))
-          → IsChosen g o (run t0 m) (does_at g (point_of (run s0 n)) (run t0 m))
-      chosen k o is at b =
-          let c = r.by_table n h.live k o is at in
-          let order = (r.opens.each k o is).order in
+
+      -- at a visit
+      tells_there : (n m : ℕ) → n ≤ last → Links n m → TellsStep g entry s0 t0 m n
+      tells_there n m l h =
+          let visits = r.simulates.visits _ _ _ (matched n h.live) (inside n l h.live) h.here in
           record {
-            entry = c.number;
-            below = c.below;
-            kept = h.kept k o is c.start (o.jump - o.load) c.since (omega (arith, order)) c.came ∙ c.loaded;
-            goes = sym (b.point c.live).npc ∙ c.goes;
-            live = sym b.ending ∙ c.live;
+            cells = h.together.cells;
+            node = visits.2;
+            address = λ place is. visited_address g.notes (t m) (s n).pc place visits.1 is;
           }
 
-      pc_by : (e : Option Ending) → (run s0 (suc n)).ending ≡ e
-          → run s0 (suc n) ≡ on_word (run s0 n) (word_of g.text (run s0 n).pc) → (run t0 m).ending ≡ None
-          → AreAlikeOn (pages_of g.notes) (word_of g.text (run s0 n).pc) (run s0 n)
-          (at_point (point_of (run s0 n)) (run t0 m))
-          (run s0 (suc n)) (does_at g (point_of (run s0 n)) (run t0 m))
-          → (run s0 (suc n)).pc ≡ (does_at g (point_of (run s0 n)) (run t0 m)).pc
-      pc_by None e stepped other b = (b.point e).pc
-      pc_by (Some d) e stepped other b =
-          let first : (on_word (run s0 n) (word_of g.text (run s0 n).pc)).ending ≡ Some d =
-          ap (λ (z : State). z.ending) (sym stepped) ∙ e in
-          let second : (does_at g (point_of (run s0 n)) (run t0 m)).ending ≡ Some d = sym b.ending ∙ e in
-          ap (λ (z : State). z.pc) stepped
-          ∙ ended_stays (run s0 n) (word_of g.text (run s0 n).pc) h.live (λ none. absurd (cc))
-          ∙ sym (ended_stays (at_point (point_of (run s0 n)) (run t0 m)) (word_of g.text (run s0 n).pc) other
-          (λ none. absurd (cc)))
+      moment_at : (n : ℕ) → n ≤ last → (x : Reached last n) → IsMoment n (moment_of n x)
+      unfolding moment_of
+      moment_at n l (goes m h) =
+          let on : GoesOn g.notes s0 t0 n m = record {
+            visit = (r.simulates.visits _ _ _ (matched n h.live) (inside n l h.live) h.here).1;
+            window = h.together.world.window;
+            valid = h.together.world.valid;
+            needed = λ item needed. h.items item needed.is_item (r.keeping.needed n item needed);
+            world = same_outside n m h.together;
+          } in
+          record {
+            matches = subst (λ (e : Option Ending). MatchesBy e g.notes s0 t0 n m) (sym h.live) on;
+            cells = h.together.cells;
+            told = λ some. tells_there n m l h;
+            over = λ over. absurd (over h.live);
+          }
+      moment_at n l (ends m d h) =
+          let on : Ends g.notes s0 t0 n m = record {
+            ending = h.second ∙ sym h.first;
+            world = same_outside n m h.together;
+          } in
+          record {
+            matches = subst (λ (e : Option Ending). MatchesBy e g.notes s0 t0 n m) (sym h.first) on;
+            cells = h.together.cells;
+            told = λ some. record { cells = h.together.cells; node = h.node; address = h.address };
+            over = λ over. h.node;
+          }
+      moment_at n l (past m k) = absurd (omega arith)
 
-  -- where the written file is after the step
-  arrived : (n m : ℕ) (x : IsNext g entry Here Short s0 t0 n m) → run t0 (x.on.count + m) ≡ x.on.after
-  arrived n m x = run_add t0 m x.on.count ∙ x.on.path.steps
+      -- ---- what holds from one to the next
 
-  puts_next : (n m : ℕ) → Linked g entry Here K s0 t0 n m → (x : IsNext g entry Here Short s0 t0 n m) (descriptor : ℕ)
-      → run_puts s0 (suc n) descriptor ≡ run_puts t0 (x.on.count + m) descriptor
-  puts_next n m h x descriptor =
-      ap (λ z. z ++ puts_of (run s0 n) descriptor) (h.together.puts descriptor)
-      ∙ ap (λ z. run_puts t0 m descriptor ++ z)
-      (puts_live (run s0 n) (word_of g.text (run s0 n).pc) descriptor h.live (fetched n) ∙ x.alike.puts descriptor
-      ∙ sym (x.on.puts descriptor))
-      ∙ sym (puts_add t0 m x.on.count descriptor)
+      record IsStep (n m k : ℕ) : Type 0 where
+        goes : (s n).ending ≡ None → IsWay g.notes t0 m k (limits_in g entry s0 n)
+        stays : (d : Ending) → (s n).ending ≡ Some d → k ≡ m
+        spared : Saves n m k
+        between : (j : ℕ) → m ≤ j → j < k → Tells g entry s0 t0 n j
 
-  world_next : (n m : ℕ) (x : IsNext g entry Here Short s0 t0 n m)
-      → IsSameWorld (pages_of g.notes) (run s0 (suc n)) (run t0 (x.on.count + m))
-  world_next n m x =
-      subst (λ (z : State). IsSameWorld (pages_of g.notes) (run s0 (suc n)) z) (sym (arrived n m x))
-      (world_then (pages_of g.notes) _ _ (does_at g (point_of (run s0 n))
-      (run t0 m)) x.on.after x.alike.world x.on.followed)
+      -- a moment on the way
+      quiet_at : (m j : ℕ) → m ≤ j → t j ≡ run (t m) (j - m)
+      quiet_at m j l = (let e : j ≡ (j - m) + m = omega arith in ap (run t0) e) ∙ run_add t0 m (j - m)
 
-  before : (n m : ℕ) → Linked g entry Here K s0 t0 n m → (item : Item) → IsItem item
-      → WritesIn (instr_in g s0 n) (run s0 n).window item ⊎ K n item
-      → WritesIn (instr_in g s0 n) (run s0 n).window item ⊎ IsSameAt item (run s0 n)
-      (at_point (point_of (run s0 n)) (run t0 m))
-  before n m h item is (inl a) = inl a
-  before n m h item is (inr a) = inr (same_moved item (run s0 n) (run t0 m) (point_of (run s0 n)) (h.items item is a))
+      way_by : (n m : ℕ) (x : IsNext n m) → IsWay g.notes t0 m (x.on.count + m) (limits_in g entry s0 n)
+      way_by n m x =
+          let some = x.on.path.some in
+          let few = x.on.path.few in
+          record {
+            forward = omega arith;
+            short = omega arith;
+            quiet = λ j a b.
+                let on = x.on.path.quiet (j - m) (omega arith) (omega arith) in
+                let at = quiet_at m j (omega arith) in
+                (ap (λ (s : State). s.ending) at ∙ on.live, ap (visit_of g.notes) at ∙ on.visit);
+          }
 
-  items_next : (n m : ℕ) → Linked g entry Here K s0 t0 n m → (x : IsNext g entry Here Short s0 t0 n m)
-      → (run s0 (suc n)).ending ≡ None → (item : Item) → IsItem item → K (suc n) item
-      → IsSameAt item (run s0 (suc n)) x.on.after
-  items_next n m h x live item is k =
-      let go : (does_at g (point_of (run s0 n)) (run t0 m)).ending ≡ None = sym x.alike.ending ∙ live in
-      same_trans item (run s0 (suc n)) (does_at g (point_of (run s0 n)) (run t0 m)) x.on.after
-      (x.alike.items live item is (before n m h item is (r.keeping.back n item k)))
-      (x.on.followed.items go item is
-      (subst (λ (z : ℕ). IsKept g (gone_in g.text (graph_in g) entry s0 n) z item) x.alike.world.window
-      (r.keeping.live n item k)))
+      -- past it, in the place of the visit
+      on_the_way : (n m k : ℕ) → Links n m → IsNext n m → (u : State)
+          → t k ≡ u → IsOnWay g (t m) u → Tells g entry s0 t0 n k
+      on_the_way n m k h x u at on some =
+          let same : node_at g.notes (t k).pc ≡ node_at g.notes u.pc = ap (λ (z : State). node_at g.notes z.pc) at in
+          let place = placed_between g.notes u on.live on.visit (λ none. some (same ∙ none)) in
+          let there = on.place place.0 place.1 in
+          record {
+            cells = ap (cells_in g) at ∙ there.1 ∙ h.together.cells;
+            node = same ∙ node_of_place g.notes u.pc place.0 place.1
+                ∙ sym (node_of_place g.notes (t m).pc place.0 there.0) ∙ x.node;
+            address = λ other is. visited_address g.notes (t m) (s n).pc other x.visit
+                (there.0 ∙ sym place.1 ∙ sym (ap (λ (z : State). range_at g.notes z.pc) at) ∙ is);
+          }
 
-  -- at a load both compute the same address
-  sums_next : (n m : ℕ) → Linked g entry Here K s0 t0 n m → (x : IsNext g entry Here Short s0 t0 n m)
-      → (run s0 (suc n)).ending ≡ None → (k : ℕ) (o : CaseTable) → slice_get g.opens k ≡ Some o
-      → word_at g.text (run s0 (suc n)).pc ≡ Some o.load
-      → sum_of (run s0 (suc n)) o.rs1 o.op2 ≡ sum_of x.on.after o.rs1 o.op2
-  sums_next n m h x live k o is at =
-      let c = r.opens.each k o is in
-      let instr : instr_in g s0 (suc n) ≡ Some (i.Load loads.LD c.rd o.rs1 o.op2) =
-      ap (λ (z : Option ℕ). instr_of (option_map (λ w. slice_index g.text.words w) z)) at
-      ∙ ap (λ (z : Instr). Some z) c.loads in
-      load_sum o.rs1 o.op2 (run s0 (suc n)) x.on.after
-      (x.alike.world.window ∙ sym x.on.followed.window)
-      (λ item is among. items_next n m h x live item is
-      (r.keeping.reads (suc n) item is live
-      (subst (λ (z : Option Instr). ReadsIn z (run s0 (suc n)).window item) (sym instr) (inr among))))
+      -- at a visit, or past it
+      told_from : (n m k : ℕ) → n ≤ last → (h : Links n m) (x : IsNext n m) → m ≤ k → k < x.on.count + m
+          → (m < k) ⊎ (k ≤ m) → Tells g entry s0 t0 n k
+      told_from n m k l h x a b (inr c) =
+          let e : m ≡ k = omega arith in
+          subst (λ (z : ℕ). Tells g entry s0 t0 n z) e (λ some. tells_there n m l h)
+      told_from n m k l h x a b (inl c) =
+          on_the_way n m k h x (run (t m) (k - m)) (quiet_at m k a)
+          (x.on.path.quiet (k - m) (omega arith) (omega arith))
 
-  kept_next : (n m : ℕ) → Linked g entry Here K s0 t0 n m → (x : IsNext g entry Here Short s0 t0 n m)
-      → (run s0 (suc n)).ending ≡ None → KeepsLoaded g entry s0 (suc n) (run t0 (x.on.count + m))
-  kept_next n m h x live k o is start zero e low came =
-      let now : suc n ≡ start = omega (arith, e) in
-      let first : IsAtWord g o (end_of_walk g.text (graph_in g) entry s0 (suc n)) (point_of (run s0 (suc n))) o.load =
-      (let q : o.load + 0 ≡ o.load = omega arith in let z : 0 + start ≡ suc n = omega (arith, now) in
-      subst (λ w. IsAtWord g o (end_of_walk g.text (graph_in g) entry s0 (suc n)) (point_of (run s0 (suc n))) w) q
-      (subst (λ a. IsAtWord g o (end_of_walk g.text (graph_in g) entry s0 a) (point_of (run s0 a)) (o.load + 0)) z
-      (came 0 (omega arith)))) in
-      let go : (does_at g (point_of (run s0 n)) (run t0 m)).ending ≡ None = sym x.alike.ending ∙ live in
-      ap (λ (z : State). kept_address z) (arrived n m x)
-      ∙ x.keeps.loaded go k o is
-      (subst (λ (z : Point). IsAtWord g o (node_after (graph_in g) (end_of_walk g.text (graph_in g) entry s0 n)
-      (gone_in g.text (graph_in g) entry s0 n)) z o.load)
-      (one_point (run s0 (suc n)) (does_at g (point_of (run s0 n)) (run t0 m)) (x.alike.point live))
-      (subst (λ (z : Node). IsAtWord g o z (point_of (run s0 (suc n))) o.load) (sym (end_next n)) first))
-      ∙ sym (sums_next n m h x live k o is first.stands)
-      ∙ ap (λ a. sum_of (run s0 a) o.rs1 o.op2) now
-  kept_next n m h x live k o is start (suc more) e low came =
-      let before_it : n ≡ more + start = omega (arith, e) in
-      let go : (does_at g (point_of (run s0 n)) (run t0 m)).ending ≡ None = sym x.alike.ending ∙ live in
-      ap (λ (z : State). kept_address z) (arrived n m x)
-      ∙ x.keeps.carried go k o is (o.load + more)
-      (subst (λ a. IsAtWord g o (end_of_walk g.text (graph_in g) entry s0 a) (point_of (run s0 a)) (o.load + more))
-      (sym before_it) (came more (omega arith)))
-      (omega arith) (omega (arith, low))
-      ∙ h.kept k o is start more before_it (omega (arith, low)) (λ j less. came j (omega (arith, less)))
+      step_on : (n m : ℕ) (h : Links n m) → n < last → (c : (n < last) ⊎ (last ≤ n))
+          → IsStep n m (moment_of (suc n) (go_on n m h c))
+      unfolding go_on
+      step_on n m h l (inl k) =
+          let x = next_of n m h (u.unjudged n k) (inside n (weaken n k) h.live) (inside (suc n) k) in
+          subst (IsStep n m) (sym (moment_by n m h x (s (suc n)).ending refl)) (record {
+            goes = λ live. way_by n m x;
+            stays = λ d over. absurd (let live : (s n).ending ≡ None = h.live in cc);
+            spared = spares_next n m x;
+            between = λ j a b. told_from n m j (weaken n k) h x a b (split_below m j);
+          })
+      step_on n m h l (inr k) = absurd (omega arith)
 
-  pub linked_next : (n m : ℕ) → Linked g entry Here K s0 t0 n m → (x : IsNext g entry Here Short s0 t0 n m)
-      → (run s0 (suc n)).ending ≡ None → Linked g entry Here K s0 t0 (suc n) (x.on.count + m)
-  linked_next n m h x live =
-      let v : State = does_at g (point_of (run s0 n)) (run t0 m) in
-      let at = arrived n m x in
-      let go : (does_at g (point_of (run s0 n)) (run t0 m)).ending ≡ None = sym x.alike.ending ∙ live in
-      record {
-        live = live;
-        here = subst (λ (z : State). Here (end_of_walk g.text (graph_in g) entry s0 (suc n))
-            (point_of (run s0 (suc n))) z) (sym at)
-            (subst (λ (z : Point). Here (end_of_walk g.text (graph_in g) entry s0 (suc n)) z x.on.after)
-            (sym (one_point (run s0 (suc n)) (does_at g (point_of (run s0 n)) (run t0 m)) (x.alike.point live)))
-            (subst (λ (z : Node). Here z (point_of (does_at g (point_of (run s0 n)) (run t0 m))) x.on.after)
-            (end_next n) (x.on.here go)));
-        items = λ item is k. subst (λ (z : State). IsSameAt item (run s0 (suc n)) z) (sym at)
-            (items_next n m h x live item is k);
-        kept = kept_next n m h x live;
-        together = record {
-          world = world_next n m x;
-          puts = puts_next n m h x;
-          cells = ap (cells_in g) at ∙ x.on.cells
-              ∙ ap (λ z. updates g.snips (gone_in g.text (graph_in g) entry s0 n) z
-              (does_at g (point_of (run s0 n)) (run t0 m))) h.together.cells
-              ∙ sym (r.keeping.named n (store_of g entry s0 n) v live x.alike.world.window
-              (λ item is k. x.alike.items live item is (before n m h item is k)));
-        };
+      step_at : (n : ℕ) → n < last → (x : Reached last n) → IsStep n (moment_of n x) (moment_of (suc n) (step n x))
+      unfolding moment_of step
+      step_at n l (goes m h) = step_on n m h l (split_below n last)
+      step_at n l (ends m d h) = record {
+        goes = λ live. absurd (let over : (s n).ending ≡ Some d = h.first in cc);
+        stays = λ e over. refl;
+        spared = spares_ended n m d h.first;
+        between = λ j a b. absurd (omega arith);
       }
+      step_at n l (past m k) = absurd (omega arith)
 
-  -- what its steps store and take
-  spares_next : (n m : ℕ) (x : IsNext g entry Here Short s0 t0 n m) → Spares g entry Short s0 t0 n m (x.on.count + m)
-  spares_next n m x watched =
-      let sparing = x.on.sparing (record {
-        jump = watched.jump;
-        out = watched.out;
-        inside = subst (λ (z : ℕ). word_at g.text z ≢ None) x.pc watched.inside;
-      }) in
-      let all : x.on.count ≡ x.on.count + m - m = omega arith in
-      subst (λ (z : ℕ). IsSparing g (((run s0 n).ending ≡ None) × Short × IsNoLoad g (run s0 (suc n))) (gone_in g.text (graph_in g) entry s0 n)
-      (point_of (run s0 n)) (run t0 m) z) all
-      (record {
-        spills = sparing.spills;
-        first = λ short. sparing.first (short.1, no_load short.2);
-        alone = λ short. sparing.alone (short.1, no_load short.2);
-        few = λ short. sparing.few (short.1, no_load short.2);
-      })
-    where
-      no_load : IsNoLoad g (run s0 (suc n)) → IsNoLoad g (does_at g (point_of (run s0 n)) (run t0 m))
-      no_load none k o is at = none k o is (ap (word_at g.text) x.pc ∙ at)
-
-  -- nothing, once it has ended
-  spares_ended : (n m : ℕ) (d : Ending) → (run s0 n).ending ≡ Some d → Spares g entry Short s0 t0 n m m
-  spares_ended n m d over watched =
-      let none : 0 ≡ m - m = omega arith in
-      subst (λ (z : ℕ). IsSparing g (((run s0 n).ending ≡ None) × Short × IsNoLoad g (run s0 (suc n))) (gone_in g.text (graph_in g) entry s0 n)
-      (point_of (run s0 n)) (run t0 m) z) none
-      (record {
-        spills = omega arith;
-        first = λ short. refl;
-        alone = λ short. absurd (let live : (run s0 n).ending ≡ None = short.0 in cc);
-        few = λ short none. omega arith;
-      })
-
-  pub closed_next : (n m : ℕ) → Linked g entry Here K s0 t0 n m → (x : IsNext g entry Here Short s0 t0 n m) (d : Ending)
-      → (run s0 (suc n)).ending ≡ Some d → Closed g entry s0 t0 (suc n) (x.on.count + m) d
-  closed_next n m h x d over =
-      let at = arrived n m x in
-      let ended : (does_at g (point_of (run s0 n)) (run t0 m)).ending ≡ Some d = sym x.alike.ending ∙ over in
-      record {
-        first = over;
-        second = ap (λ (z : State). z.ending) at ∙ x.on.followed.ending ∙ ended;
-        node = ap (λ (z : State). node_at g.notes z.pc) at ∙ there_node g (run t0 m) x.on.after (there ended) ∙ x.node
-            ∙ ap (λ (z : Node). Some (number_in g z)) (end_stays n d over);
-        address = λ place is.
-            visited_address g.notes (run t0 m) (run s0 n).pc place x.visit
-            (sym (there ended).range ∙ sym (ap (λ (z : State). range_at g.notes z.pc) at) ∙ is)
-            ∙ sym (step_stays (run s0 n) d h.live over);
-        together = record {
-          world = world_next n m x;
-          puts = puts_next n m h x;
-          cells = ap (cells_in g) at ∙ x.on.cells
-              ∙ ap (λ es. updates g.snips es (cells_in g (run t0 m)) (does_at g (point_of (run s0 n)) (run t0 m)))
-              (gone_none n d over)
-              ∙ h.together.cells ∙ store_stays n d over;
+      pub follows : Follows g entry Short s0 t0 last
+      unfolding moments reached moment_of
+      follows = record {
+        moments = moments;
+        followed = record {
+          soon = r.soon;
+          quiet = λ j a b. ((r.early j b).0, (r.early j b).1);
+          matches = λ n l. (moment_at n l (reached n)).matches;
+          goes = λ n l live. (step_at n l (reached n)).goes live;
+          stays = λ n l d over. (step_at n l (reached n)).stays d over;
         };
+        cells = λ n l. (moment_at n l (reached n)).cells;
+        spared = λ n l. (step_at n l (reached n)).spared;
+        early = λ m l. (r.early m l).2;
+        told = λ n l. (moment_at n l (reached n)).told;
+        between = λ n m l a b. (step_at n l (reached n)).between m a b;
+        over = λ n l. (moment_at n l (reached n)).over;
       }
-    where
-      there : (does_at g (point_of (run s0 n)) (run t0 m)).ending ≡ Some d → IsThere g (run t0 m) x.on.after
-      there ended = x.on.place (λ none. absurd (cc))
-
-  closed_stays : (n m : ℕ) (d : Ending) → Closed g entry s0 t0 n m d → Closed g entry s0 t0 (suc n) m d
-  closed_stays n m d h =
-      let stays : run s0 (suc n) ≡ run s0 n = stays_ended (run s0 n) d h.first in
-      let over : (run s0 (suc n)).ending ≡ Some d = ap (λ (z : State). z.ending) stays ∙ h.first in
-      record {
-        first = over;
-        second = h.second;
-        node = h.node ∙ ap (λ (z : Node). Some (number_in g z)) (end_stays n d over);
-        address = λ place is. h.address place is ∙ sym (ap (λ (z : State). z.pc) stays);
-        together = record {
-          world = subst (λ (z : State). IsSameWorld (pages_of g.notes) z (run t0 m)) (sym stays) h.together.world;
-          puts = λ descriptor.
-              ap (λ z. run_puts s0 n descriptor ++ z) (puts_nothing (run s0 n) d descriptor h.first)
-              ∙ append-nil (run_puts s0 n descriptor) ∙ h.together.puts descriptor;
-          cells = h.together.cells ∙ store_stays n d over;
-        };
-      }
-
-  module _ (last : ℕ) (u : IsUntouched (pages_of g.notes) s0 last) (inside : StaysInside Inside s0 last) where
-    -- ---- every step
-
-    moment_of : (n : ℕ) → Reached g entry Here K s0 t0 last n → ℕ
-    moment_of n (goes m h) = m
-    moment_of n (ends m d h) = m
-    moment_of n (past m h) = m
-
-    went_by : (n m : ℕ) → Linked g entry Here K s0 t0 n m → IsNext g entry Here Short s0 t0 n m → (e : Option Ending)
-        → (run s0 (suc n)).ending ≡ e → Reached g entry Here K s0 t0 last (suc n)
-    went_by n m h x None e = goes (x.on.count + m) (linked_next n m h x e)
-    went_by n m h x (Some d) e = ends (x.on.count + m) d (closed_next n m h x d e)
-
-    moment_by : (n m : ℕ) (h : Linked g entry Here K s0 t0 n m) (x : IsNext g entry Here Short s0 t0 n m)
-        (e : Option Ending)
-        (is : (run s0 (suc n)).ending ≡ e) → moment_of (suc n) (went_by n m h x e is) ≡ x.on.count + m
-    unfolding moment_of went_by
-    moment_by n m h x None is = refl
-    moment_by n m h x (Some d) is = refl
-
-    weaken : (n : ℕ) → n < last → n ≤ last
-    weaken n l = omega arith
-
-    go_on : (n m : ℕ) → Linked g entry Here K s0 t0 n m → (n < last) ⊎ (last ≤ n)
-        → Reached g entry Here K s0 t0 last (suc n)
-    go_on n m h (inl l) = went_by n m h (next_of n m h (u.unjudged n l) (inside n (weaken n l) h.live)
-        (inside (suc n) l)) (run s0 (suc n)).ending refl
-    go_on n m h (inr l) = past m (omega arith)
-
-    step : (n : ℕ) → Reached g entry Here K s0 t0 last n → Reached g entry Here K s0 t0 last (suc n)
-    step n (goes m h) = go_on n m h (split_below n last)
-    step n (ends m d h) = ends m d (closed_stays n m d h)
-    step n (past m l) = past m (omega arith)
-
-    reached : (n : ℕ) → Reached g entry Here K s0 t0 last n
-    reached zero = goes r.begin r.first
-    reached (suc n) = step n (reached n)
-
-    moments : ℕ → ℕ
-    moments n = moment_of n (reached n)
-
-    -- ---- what holds at each
-
-    same_outside : (n m : ℕ) → AreTogether g entry s0 t0 n m → HasSameOutside g.notes s0 t0 n m
-    same_outside n m h = record {
-      input = h.world.input;
-      output = h.puts;
-      heap_end = heap_end_same (pages_of g.notes) _ _ h.world.memory;
-      memory = λ address out. byte_outside g.notes _ _ address h.world.memory out;
-    }
-
-    matches_at : (n : ℕ) → n ≤ last → (x : Reached g entry Here K s0 t0 last n)
-        → Matches g.notes s0 t0 n (moment_of n x)
-    unfolding moment_of
-    matches_at n l (goes m h) =
-        let on : GoesOn g.notes s0 t0 n m = record {
-          visit = (r.simulates.visits _ _ _ (matched n h.live)
-              (inside n l h.live) h.here).1;
-          window = h.together.world.window;
-          valid = h.together.world.valid;
-          needed = λ item needed. h.items item needed.is_item (r.keeping.needed n item needed);
-          world = same_outside n m h.together;
-        } in
-        subst (λ (e : Option Ending). MatchesBy e g.notes s0 t0 n m) (sym h.live) on
-    matches_at n l (ends m d h) =
-        let on : Ends g.notes s0 t0 n m = record {
-          ending = h.second
-              ∙ sym h.first;
-          world = same_outside n m h.together;
-        } in
-        subst (λ (e : Option Ending). MatchesBy e g.notes s0 t0 n m) (sym h.first) on
-    matches_at n l (past m k) = absurd (omega arith)
-
-    cells_at : (n : ℕ) → n ≤ last → (x : Reached g entry Here K s0 t0 last n)
-        → cells_in g (run t0 (moment_of n x)) ≡ store_of g entry s0 n
-    unfolding moment_of
-    cells_at n l (goes m h) = h.together.cells
-    cells_at n l (ends m d h) = h.together.cells
-    cells_at n l (past m k) = absurd (omega arith)
-
-    way_by : (n m : ℕ) (x : IsNext g entry Here Short s0 t0 n m)
-        → IsWay g.notes t0 m (x.on.count + m) (limits_in g entry s0 n)
-    way_by n m x =
-        let some = x.on.path.some in
-        let few = x.on.path.few in
-        record {
-          forward = omega arith;
-          short = omega arith;
-          quiet = λ j a b.
-              let at : run t0 j ≡ run (run t0 m) (j - m) =
-              (let e : j ≡ (j - m) + m = omega arith in ap (run t0) e) ∙ run_add t0 m (j - m) in
-              let on = x.on.path.quiet (j - m) (omega arith) (omega arith) in
-              (ap (λ (s : State). s.ending) at ∙ on.live, ap (visit_of g.notes) at ∙ on.visit);
-        }
-
-    way_on : (n m : ℕ) (h : Linked g entry Here K s0 t0 n m) → n < last → (c : (n < last) ⊎ (last ≤ n))
-        → IsWay g.notes t0 m (moment_of (suc n) (go_on n m h c)) (limits_in g entry s0 n)
-    unfolding go_on
-    way_on n m h l (inl k) =
-        let x = next_of n m h (u.unjudged n k) (inside n (weaken n k) h.live) (inside (suc n) k) in
-        subst (λ (z : ℕ). IsWay g.notes t0 m z (limits_in g entry s0 n))
-        (sym (moment_by n m h x (run s0 (suc n)).ending refl)) (way_by n m x)
-    way_on n m h l (inr k) = absurd (omega arith)
-
-    way_at : (n : ℕ) → n < last → (run s0 n).ending ≡ None → (x : Reached g entry Here K s0 t0 last n)
-        → IsWay g.notes t0 (moment_of n x) (moment_of (suc n) (step n x)) (limits_in g entry s0 n)
-    unfolding moment_of step
-    way_at n l live (goes m h) = way_on n m h l (split_below n last)
-    way_at n l live (ends m d h) = let over : (run s0 n).ending ≡ Some d = h.first in absurd (cc)
-    way_at n l live (past m k) = absurd (omega arith)
-
-    stays_at : (n : ℕ) → n < last → (d : Ending) → (run s0 n).ending ≡ Some d
-        → (x : Reached g entry Here K s0 t0 last n)
-        → moment_of (suc n) (step n x) ≡ moment_of n x
-    unfolding moment_of step
-    stays_at n l d over (goes m h) = let live : (run s0 n).ending ≡ None = h.live in absurd (cc)
-    stays_at n l d over (ends m e h) = refl
-    stays_at n l d over (past m k) = absurd (omega arith)
-
-    -- ---- stores
-
-    spared_on : (n m : ℕ) (h : Linked g entry Here K s0 t0 n m) → n < last → (c : (n < last) ⊎ (last ≤ n))
-        → Spares g entry Short s0 t0 n m (moment_of (suc n) (go_on n m h c))
-    unfolding go_on
-    spared_on n m h l (inl k) =
-        let x = next_of n m h (u.unjudged n k) (inside n (weaken n k) h.live) (inside (suc n) k) in
-        subst (λ (z : ℕ). Spares g entry Short s0 t0 n m z)
-        (sym (moment_by n m h x (run s0 (suc n)).ending refl)) (spares_next n m x)
-    spared_on n m h l (inr k) = absurd (omega arith)
-
-    spared_at : (n : ℕ) → n < last → (x : Reached g entry Here K s0 t0 last n)
-        → Spares g entry Short s0 t0 n (moment_of n x) (moment_of (suc n) (step n x))
-    unfolding moment_of step
-    spared_at n l (goes m h) = spared_on n m h l (split_below n last)
-    spared_at n l (ends m d h) = spares_ended n m d h.first
-    spared_at n l (past m k) = absurd (omega arith)
-
-    -- ---- stops
-
-    -- at a visit
-    tells_there : (n m : ℕ) → n ≤ last → Linked g entry Here K s0 t0 n m → TellsStep g entry s0 t0 m n
-    tells_there n m l h =
-        let visits = r.simulates.visits _ _ _
-        (matched n h.live) (inside n l h.live) h.here in
-        record {
-          cells = h.together.cells;
-          node = visits.2;
-          address = λ place is. visited_address g.notes (run t0 m) (run s0 n).pc place visits.1 is;
-        }
-
-    told_at : (n : ℕ) → n ≤ last → (x : Reached g entry Here K s0 t0 last n) → Tells g entry s0 t0 n (moment_of n x)
-    unfolding moment_of
-    told_at n l (goes m h) = λ some. tells_there n m l h
-    told_at n l (ends m d h) = λ some. record { cells = h.together.cells; node = h.node; address = h.address }
-    told_at n l (past m k) = absurd (omega arith)
-
-    over_at : (n : ℕ) → n ≤ last → (x : Reached g entry Here K s0 t0 last n)
-        → EndsAtNode g entry s0 t0 n (moment_of n x)
-    unfolding moment_of
-    over_at n l (goes m h) = λ over. absurd (over h.live)
-    over_at n l (ends m d h) = λ over. h.node
-    over_at n l (past m k) = absurd (omega arith)
-
-    -- past it, in the place of the visit
-    on_the_way : (n m k : ℕ) → Linked g entry Here K s0 t0 n m → IsNext g entry Here Short s0 t0 n m → (u : State)
-        → run t0 k ≡ u → IsOnWay g (run t0 m) u → Tells g entry s0 t0 n k
-    on_the_way n m k h x u at on some =
-        let same : node_at g.notes (run t0 k).pc ≡ node_at g.notes u.pc = ap (λ (z : State). node_at g.notes z.pc) at in
-        let place = placed_between g.notes u on.live on.visit (λ none. some (same ∙ none)) in
-        let there = on.place place.0 place.1 in
-        record {
-          cells = ap (cells_in g) at ∙ there.1 ∙ h.together.cells;
-          node = same ∙ node_of_place g.notes u.pc place.0 place.1
-              ∙ sym (node_of_place g.notes (run t0 m).pc place.0 there.0) ∙ x.node;
-          address = λ other is.
-              visited_address g.notes (run t0 m) (run s0 n).pc other x.visit
-              (there.0 ∙ sym place.1 ∙ sym (ap (λ (z : State). range_at g.notes z.pc) at) ∙ is);
-        }
-
-    -- at a visit, or past it
-    told_from : (n m k : ℕ) → n ≤ last → (h : Linked g entry Here K s0 t0 n m)
-        (x : IsNext g entry Here Short s0 t0 n m) → m ≤ k → k < x.on.count + m
-        → (m < k) ⊎ (k ≤ m) → Tells g entry s0 t0 n k
-    told_from n m k l h x a b (inr c) =
-        let e : m ≡ k = omega arith in
-        subst (λ (z : ℕ). Tells g entry s0 t0 n z) e (λ some. tells_there n m l h)
-    told_from n m k l h x a b (inl c) =
-        let at : run t0 k ≡ run (run t0 m) (k - m) = (let e : k ≡ (k - m) + m = omega arith in ap (run t0) e)
-        ∙ run_add t0 m (k - m) in
-        let on = x.on.path.quiet (k - m) (omega arith) (omega arith) in
-        λ some. on_the_way n m k h x (run (run t0 m) (k - m)) at on some
-
-    between_on : (n m k : ℕ) (h : Linked g entry Here K s0 t0 n m) → n < last → (c : (n < last) ⊎ (last ≤ n)) → m ≤ k
-        → k < moment_of (suc n) (go_on n m h c) → Tells g entry s0 t0 n k
-    unfolding go_on
-    between_on n m k h l (inl i) a b =
-        let x = next_of n m h (u.unjudged n i) (inside n (weaken n i) h.live) (inside (suc n) i) in
-        told_from n m k (weaken n i) h x a (subst (λ (z : ℕ). k < z)
-        (moment_by n m h x (run s0 (suc n)).ending refl) b) (split_below m k)
-    between_on n m k h l (inr i) a b = absurd (omega arith)
-
-    between_at : (n k : ℕ) → n < last → (x : Reached g entry Here K s0 t0 last n) → moment_of n x ≤ k
-        → k < moment_of (suc n) (step n x)
-        → Tells g entry s0 t0 n k
-    unfolding moment_of step
-    between_at n k l (goes m h) a b = between_on n m k h l (split_below n last) a b
-    between_at n k l (ends m d h) a b = absurd (omega arith)
-    between_at n k l (past m i) a b = absurd (omega arith)
-
-    pub follows : Follows g entry Short s0 t0 last
-    unfolding moments reached moment_of
-    follows = record {
-      moments = moments;
-      followed = record {
-        soon = r.soon;
-        quiet = λ j a b. ((r.early j b).0, (r.early j b).1);
-        matches = λ n l. matches_at n l (reached n);
-        goes = λ n l live. way_at n l live (reached n);
-        stays = λ n l d over. stays_at n l d over (reached n);
-      };
-      cells = λ n l. cells_at n l (reached n);
-      spared = λ n l. spared_at n l (reached n);
-      early = λ m l. (r.early m l).2;
-      told = λ n l. told_at n l (reached n);
-      between = λ n m l a b. between_at n m l (reached n) a b;
-      over = λ n l. over_at n l (reached n);
-    }

@@ -88,7 +88,7 @@ module _ (g : Setting) (dead : AreDead g.text (graph_in g) (named_on g.snips) g.
       → IsKeptBehind g.text (graph_in g) (named_on g.snips) edges window item → IsKept g edges window item
   kept_by _ none behind = tt
   kept_by _ (one e within) behind = (not_dead e within (behind [] e refl), tt)
-  kept_by _ (two e f within unknown other) behind =
+  kept_by _ (two e f within unknown other apart) behind =
       let first = not_dead e within (λ p member live same.
       live (unknown_lives g.text (graph_in g) (named_on g.snips) e unknown p member)) in
       let second = not_dead f other (behind (e ∷ []) f refl) in

@@ -1,5 +1,5 @@
 -- The words of the code in the memory of a written file.
-use Rattle.std.proofs.Common.{◌≡◌, ℕ, zero, suc, ◌+◌, ◌-◌, ◌*◌, ◌^◌, ◌<◌, ◌≤◌, Bool, true, false, ◌&&◌, cond, nat_le, max, List, [], ◌∷◌, ◌++◌, length, drop, map, slice_index, Option, Some, None, refl, ap, ◌∙◌, arith, All}
+use Rattle.std.proofs.Common.{◌≡◌, ℕ, zero, suc, ◌+◌, ◌-◌, ◌*◌, ◌^◌, ◌<◌, ◌≤◌, Bool, true, false, ◌&&◌, cond, nat_le, max, List, [], ◌∷◌, ◌++◌, length, drop, map, slice_index, Some, None, refl, ap, ◌∙◌, arith, All}
 use Rattle.std.specs.List.{find, fold}
 use Rattle.std.specs.Option.{option_map, option_or}
 use Rattle.std.proofs.Math.Seq.{drop-append-add}
@@ -15,15 +15,11 @@ use Rattle.elf32_write.specs.Bytes.{words_bytes}
 use Rattle.elf32_write.specs.Laws.{kept}
 use Rattle.edit_core.specs.Faithful.{word_mapped}
 use Rattle.edit_core.specs.Written.{if_any}
-use Rattle.edit_core.proofs.Fronts.{past_any}
+use Rattle.edit_core.proofs.Fronts.{passed, past_any}
 use Rattle.edit_core.proofs.Originals.{base_above}
 
 abbrev covers : ℕ → Mapping → Bool
 covers address m = nat_le m.start address && nat_le (address + 4) (m.start + m.length)
-
-passed : (b c : Bool) (x : Mapping) (rest : Option Mapping) → c ≡ false → cond (b && c) (Some x) rest ≡ rest
-passed true c x rest failed = ap (λ z. cond z (Some x) rest) failed
-passed false c x rest failed = refl
 
 -- the greatest end is not below what it began with
 end_from : (hs : List ProgramHeader) (n : ℕ) → n ≤ fold (λ end segment. max end (segment_end segment)) n

@@ -9,7 +9,7 @@ use Rattle.byteorder.specs.Endian.{big_bytes}
 use Rattle.byteorder.specs.Numbers.{length-bytes_high_first}
 use Rattle.elf32_write.proofs.WordsBytes.{length-flat_map}
 use Rattle.eel_base.specs.CodeText.{Words, IsText, address_of}
-use Rattle.elf32_sparc.specs.Notes.{Notes, NoteEdge, NoteRange, NoteSegment, follows, holds, is_version, last_tool, most_cells}
+use Rattle.elf32_sparc.specs.Notes.{Notes, NoteRange, NoteSegment, follows, holds, is_version, last_tool, most_cells}
 use Rattle.notes.specs.Rules.{AreNotes, are_segments, are_blocks, are_edges, are_ranges, is_edge, is_free, with_cell}
 use Rattle.notes.specs.Laws.{AreWords}
 use Rattle.notes.specs.Written.{words_bytes, notes_bytes, notes_words, segment_words, edge_words, range_words, cell_word}
@@ -107,11 +107,9 @@ uncounted_rule : (graph : Graph) (kind : ToolKind) (width cells : ℕ) → ((ops
 uncounted_rule graph kind width cells none [] snips each = refl
 uncounted_rule graph kind width cells none (e ∷ es) [] each = refl
 uncounted_rule graph kind width cells none (e ∷ es) (ops ∷ snips) each =
-    and_from _ _
-    (ends_rule graph kind width cells [] e ops each.0 (ap (is_free width cells []) (none ops)))
+    and_from _ _ (ends_rule graph kind width cells [] e ops each.0 (ap (is_free width cells []) (none ops)))
     (ap (λ (o : Option ℕ). are_edges width (length graph.blocks.firsts) cells (with_cell o [])
-    (note_edges graph kind es snips)) (none ops)
-    ∙ uncounted_rule graph kind width cells none es snips each.1)
+    (note_edges graph kind es snips)) (none ops) ∙ uncounted_rule graph kind width cells none es snips each.1)
 
 -- in a profile each counter has the next two cells
 counted_rule : (graph : Graph) (cells next : ℕ) (taken : List ℕ) → next % 2 ≡ 0 → Each (λ other. other < next) taken
@@ -126,9 +124,7 @@ counted_rule graph cells next taken even above (e ∷ es) ([] ∷ snips) each ar
 counted_rule graph cells next taken even above (e ∷ es) ((op ∷ []) ∷ snips) each are below =
     subst (λ (here : Op). WorksIn cells here → AreCounters 2 (cells_end here) snips
     → are_edges 2 (length graph.blocks.firsts) cells taken
-    (note_edges graph tools.Profile (e ∷ es) ((here ∷ []) ∷ snips)) ≡ true) (sym are.0)
-    (λ works later.
-    and_from _ _
+    (note_edges graph tools.Profile (e ∷ es) ((here ∷ []) ∷ snips)) ≡ true) (sym are.0) (λ works later. and_from _ _
     (ends_rule graph tools.Profile 2 cells taken e (Count next ∷ []) each.0
     (is_next 2 cells taken next even works above))
     (counted_rule graph cells (next + 2) (next ∷ taken) (omega (arith, even))
@@ -140,14 +136,9 @@ edges_rule : (graph : Graph) (kind : ToolKind) (cells : ℕ) (es : List Edge) (s
     → Each (IsEdgeIn graph.blocks graph.opens) es → (kind ≡ tools.Profile → AreCounters 2 0 snips)
     → Each (WorksBelow cells) snips
     → are_edges 2 (length graph.blocks.firsts) cells [] (note_edges graph kind es snips) ≡ true
-edges_rule graph tools.Plain cells es snips each are below =
-    uncounted_rule graph tools.Plain 2 cells (λ ops. refl) es snips each
 edges_rule graph tools.Profile cells es snips each are below =
     counted_rule graph cells 0 [] refl tt es snips each (are refl) below
-edges_rule graph tools.Script cells es snips each are below =
-    uncounted_rule graph tools.Script 2 cells (λ ops. refl) es snips each
-edges_rule graph tools.Trace cells es snips each are below =
-    uncounted_rule graph tools.Trace 2 cells (λ ops. refl) es snips each
+edges_rule graph kind cells es snips each are below = uncounted_rule graph kind 2 cells (λ ops. refl) es snips each
 
 edges_count : (graph : Graph) (kind : ToolKind) (es : List Edge) (snips : List (List Op))
     → length (note_edges graph kind es snips) ≤ length es
@@ -177,8 +168,7 @@ cell_fits cells tools.Profile (op ∷ ops) few below =
 
 edges_fit : (graph : Graph) (kind : ToolKind) (cells : ℕ) (es : List Edge) (snips : List (List Op))
     → length graph.blocks.firsts ≤ 2 ^ 20 → cells ≤ 2 ^ 23 → Each (IsEdgeIn graph.blocks graph.opens) es
-    → Each (WorksBelow cells) snips
-    → Each (λ edge. Each Fits (edge_words edge)) (note_edges graph kind es snips)
+    → Each (WorksBelow cells) snips → Each (λ edge. Each Fits (edge_words edge)) (note_edges graph kind es snips)
 edges_fit graph kind cells [] snips few cells_few each below = tt
 edges_fit graph kind cells (e ∷ es) [] few cells_few each below = tt
 edges_fit graph kind cells (e ∷ es) (ops ∷ snips) few cells_few each below =
@@ -190,8 +180,7 @@ edges_fit graph kind cells (e ∷ es) (ops ∷ snips) few cells_few each below =
     )
 
 ranges_fit : (graph : Graph) (from to : ℕ) (rs : List NoteRange) → length graph.blocks.firsts ≤ 2 ^ 20 → to ≤ 2 ^ 31
-    → Ascend from to rs → Each (IsWhole graph) rs
-    → Each (λ range. Each Fits (range_words range)) rs
+    → Ascend from to rs → Each (IsWhole graph) rs → Each (λ range. Each Fits (range_words range)) rs
 ranges_fit graph from to [] few low a each = tt
 ranges_fit graph from to (r ∷ rs) few low a each =
     let past = ends_by r.hi to rs a.2 in
@@ -248,6 +237,9 @@ module _ (graph : Graph) (size : ℕ) (p : Placement) (n : Notes) (is : IsNoted 
       record { start = table; length = size } ∷ record { start = table + size; length = 4 * length p.code }
       ∷ record { start = editor_page; length = page_size } ∷ []
 
+  abbrev pages : List NoteSegment
+  pages = segments_noted n.base n.cells size p.code
+
   nodes_few : length graph.blocks.firsts ≤ 2 ^ 20
   nodes_few = omega (arith, is.firsts.few, is.graph_words, is.is_text.few)
 
@@ -256,6 +248,9 @@ module _ (graph : Graph) (size : ℕ) (p : Placement) (n : Notes) (is : IsNoted 
       let count = length-append (off_ranges is.text graph table) p.ranges in
       let few = off_few is.text graph table in
       omega (arith, ap length is.ranges, count, few, is.range_count)
+
+  edges_fewer : length n.edges ≤ length graph.edges
+  edges_fewer = rw is.edges (edges_count graph is.kind graph.edges is.snips)
 
   behind_rule : (end : ℕ) → end ≤ table → are_segments end behind ≡ true
   behind_rule end under =
@@ -272,7 +267,7 @@ module _ (graph : Graph) (size : ℕ) (p : Placement) (n : Notes) (is : IsNoted 
         le-leb (table + size + 4 * length p.code) editor_page (omega arith),
       ) refl
 
-  segments_rule : are_segments 0 (segments_noted n.base n.cells size p.code) ≡ true
+  segments_rule : are_segments 0 pages ≡ true
   segments_rule = by n.cells refl
     where
       by : (count : ℕ) → n.cells ≡ count
@@ -289,29 +284,25 @@ module _ (graph : Graph) (size : ℕ) (p : Placement) (n : Notes) (is : IsNoted 
           (behind_rule (n.base + 4 * suc k) (omega (arith, same)))
 
   -- the table and the code hold what lies in them
-  table_holds : (lo hi : ℕ) → table ≤ lo → hi ≤ table + size
-      → list_any (holds lo hi) (segments_noted n.base n.cells size p.code) ≡ true
+  table_holds : (lo hi : ℕ) → table ≤ lo → hi ≤ table + size → list_any (holds lo hi) pages ≡ true
   table_holds lo hi from to =
       any_past (holds lo hi) n.cells (record { start = n.base; length = 4 * n.cells }) behind
       (or_left _ _ (and_from _ _ (le-leb table lo from) (le-leb hi (table + size) to)))
 
   code_holds : (lo hi : ℕ) → table + size ≤ lo → hi ≤ table + size + 4 * length p.code
-      → list_any (holds lo hi) (segments_noted n.base n.cells size p.code) ≡ true
+      → list_any (holds lo hi) pages ≡ true
   code_holds lo hi from to =
       any_past (holds lo hi) n.cells (record { start = n.base; length = 4 * n.cells }) behind
       (or_right _ _ (or_left _ _ (and_from _ _ (le-leb (table + size) lo from)
       (le-leb hi (table + size + 4 * length p.code) to))))
 
-  code_rule : (end : ℕ) → end ≤ table + size → are_ranges nodes (segments_noted n.base n.cells size p.code) end p.ranges ≡ true
+  code_rule : (end : ℕ) → end ≤ table + size → are_ranges nodes pages end p.ranges ≡ true
   code_rule end l =
-      ranges_rule graph (segments_noted n.base n.cells size p.code) end (table + size) (table + size + 4 * length
-      p.code)
-      p.ranges
+      ranges_rule graph pages end (table + size) (table + size + 4 * length p.code) p.ranges
       is.ascend is.whole l code_holds
 
   off_rule : (edge : Edge) → IsEdgeIn graph.blocks graph.opens edge
-      → are_ranges nodes (segments_noted n.base n.cells size p.code) 0 ((off_range is.text graph table edge ∷ []) ++ p.ranges)
-      ≡ true
+      → are_ranges nodes pages 0 ((off_range is.text graph table edge ∷ []) ++ p.ranges) ≡ true
   off_rule edge inside =
       let four = is.table.0 in
       let base : table % 4 ≡ 0 = omega (arith, is.base) in
@@ -328,11 +319,10 @@ module _ (graph : Graph) (size : ℕ) (p : Placement) (n : Notes) (is : IsNoted 
       ) refl)
       (code_rule (table + 4) (omega arith))
 
-  all_rule : are_ranges nodes (segments_noted n.base n.cells size p.code) 0 (off_ranges is.text graph table ++ p.ranges) ≡ true
+  all_rule : are_ranges nodes pages 0 (off_ranges is.text graph table ++ p.ranges) ≡ true
   all_rule =
       off_each is.text graph table (IsEdgeIn graph.blocks graph.opens)
-      (λ offs. are_ranges nodes (segments_noted n.base n.cells size p.code) 0 (offs ++ p.ranges) ≡ true) is.edges_in
-      (code_rule 0 (omega arith)) off_rule
+      (λ offs. are_ranges nodes pages 0 (offs ++ p.ranges) ≡ true) is.edges_in (code_rule 0 (omega arith)) off_rule
 
   pages_count : length n.segments ≤ 4
   pages_count =
@@ -348,9 +338,6 @@ module _ (graph : Graph) (size : ℕ) (p : Placement) (n : Notes) (is : IsNoted 
       let low = is.low in
       let r = ranges_few in
       let blocks = ap length is.blocks in
-      let counts : length n.edges ≤ length graph.edges =
-      subst (λ (es : List NoteEdge). length es ≤ length graph.edges) (sym is.edges)
-      (edges_count graph is.kind graph.edges is.snips) in
       record {
         version = ap is_version is.version;
         delta = is.delta_from;
@@ -369,7 +356,7 @@ module _ (graph : Graph) (size : ℕ) (p : Placement) (n : Notes) (is : IsNoted 
         block_count = omega (arith, blocks, f.few, is.graph_words, is.words);
         blocks = rw (is.blocks, is.words, ← is.graph_words) (blocks_rule graph.blocks.words graph.blocks.firsts None
             (λ b e l. absurd (cc)) (λ e l. f.begin) f.ascend f.within);
-        edge_count = omega (arith, counts, is.edge_count);
+        edge_count = omega (arith, edges_fewer, is.edge_count);
         edges = rw (is.version, is.edges, is.blocks) (edges_rule graph is.kind n.cells graph.edges is.snips is.edges_in is.counters is.below);
         range_count = omega (arith, r);
         ranges = rw (is.segments, is.ranges, is.blocks) all_rule;
@@ -382,19 +369,15 @@ module _ (graph : Graph) (size : ℕ) (p : Placement) (n : Notes) (is : IsNoted 
       let r = ranges_few in
       let f = is.firsts in
       let blocks = ap length is.blocks in
-      let counts : length n.edges ≤ length graph.edges =
-      subst (λ (es : List NoteEdge). length es ≤ length graph.edges) (sym is.edges)
-      (edges_count graph is.kind graph.edges is.snips) in
       let numbers : List ℕ = n.delta ∷ n.length ∷ n.tool ∷ n.start ∷ n.words ∷ n.entry ∷ n.base ∷ n.cells ∷ [] in
-      let pages : List ℕ = length n.segments ∷ flat_map segment_words n.segments in
+      let areas : List ℕ = length n.segments ∷ flat_map segment_words n.segments in
       let firsts : List ℕ = length n.blocks ∷ n.blocks in
       let links : List ℕ = length n.edges ∷ flat_map edge_words n.edges in
       let marks : List ℕ = length n.ranges ∷ flat_map range_words n.ranges in
-      all_each Fits (numbers ++ pages ++ firsts ++ links ++ marks)
-      (each-append Fits (numbers ++ pages ++ firsts ++ links) marks
-      (each-append Fits (numbers ++ pages ++ firsts) links
-      (each-append Fits (numbers ++ pages) firsts
-      (each-append Fits numbers pages (
+      all_each Fits (numbers ++ areas ++ firsts ++ links ++ marks)
+      (each-append Fits (numbers ++ areas ++ firsts ++ links) marks (each-append Fits (numbers ++ areas ++ firsts) links
+      (each-append Fits (numbers ++ areas) firsts
+      (each-append Fits numbers areas (
         omega (arith, is.delta_to),
         (
           omega (arith, is.length_to),
@@ -414,19 +397,17 @@ module _ (graph : Graph) (size : ℕ) (p : Placement) (n : Notes) (is : IsNoted 
         rw (is.segments) segment_words_fit,
       ))
       (omega (arith, blocks, nodes_few), rw (is.blocks) first_words)) (
-        omega (arith, counts, is.edge_count),
+        omega (arith, edges_fewer, is.edge_count),
         rw (is.edges) (rows_fit edge_words (note_edges graph is.kind graph.edges is.snips)
             (edges_fit graph is.kind n.cells graph.edges is.snips nodes_few is.cells is.edges_in is.below)),
       ))
       (omega (arith, r), rw (is.ranges) (rows_fit range_words (off_ranges is.text graph table ++ p.ranges) all_fit)))
     where
-      segment_words_fit : Each Fits (flat_map segment_words (segments_noted n.base n.cells size p.code))
+      segment_words_fit : Each Fits (flat_map segment_words pages)
       segment_words_fit =
           let low = is.low in
-          rows_fit segment_words (segments_noted n.base n.cells size p.code)
-          (each_any (λ segment. Each Fits (segment_words segment)) n.cells
-          (record { start = n.base; length = 4 * n.cells }) behind
-          (λ some. (omega arith, (omega arith, tt)))
+          rows_fit segment_words pages (each_any (λ segment. Each Fits (segment_words segment)) n.cells
+          (record { start = n.base; length = 4 * n.cells }) behind (λ some. (omega arith, (omega arith, tt)))
           ((omega arith, (omega arith, tt)), ((omega arith, (omega arith, tt)), ((omega arith, (omega arith, tt)), tt))))
 
       off_fits : (edge : Edge) → IsEdgeIn graph.blocks graph.opens edge
@@ -458,9 +439,6 @@ module _ (graph : Graph) (size : ℕ) (p : Placement) (n : Notes) (is : IsNoted 
       let text = is.is_text in
       let r = ranges_few in
       let blocks = ap length is.blocks in
-      let counts : length n.edges ≤ length graph.edges =
-      subst (λ (es : List NoteEdge). length es ≤ length graph.edges) (sym is.edges)
-      (edges_count graph is.kind graph.edges is.snips) in
       let w = length-flat_map (big_bytes 4) 4 (length-bytes_high_first 4) (notes_words n) in
       let numbers : List ℕ = n.delta ∷ n.length ∷ n.tool ∷ n.start ∷ n.words ∷ n.entry ∷ n.base ∷ n.cells ∷ [] in
       let segments : List ℕ = length n.segments ∷ flat_map segment_words n.segments in
@@ -472,10 +450,10 @@ module _ (graph : Graph) (size : ℕ) (p : Placement) (n : Notes) (is : IsNoted 
       let l3 = length-append (numbers ++ segments ++ firsts) edges in
       let l4 = length-append (numbers ++ segments ++ firsts ++ edges) ranges in
       let s = length-flat_map segment_words 2 (λ x. refl) n.segments in
-      let pages = pages_count in
+      let most = pages_count in
       let e = length-flat_map edge_words 4 (λ x. refl) n.edges in
       let g = length-flat_map range_words 4 (λ x. refl) n.ranges in
-      omega (arith, nodes_few, is.edge_count, text.few)
+      omega (arith, nodes_few, edges_fewer, is.edge_count, text.few)
 
 -- where no edge or no snippet is left
 pub none_first : (graph : Graph) (kind : ToolKind) (edges : List Edge) (snips : List (List Op)) → length edges ≡ 0

@@ -12,7 +12,7 @@ use Rattle.elf32_sparc.specs.Mapping.{Mapping, mappings}
 use Rattle.elf32_sparc.proofs.Images.{accepted-program}
 use Rattle.elf32_write.specs.Headers.{AddedSegment}
 use Rattle.elf32_write.specs.Laws.{kept, mapping_added}
-use Rattle.v8_memory.specs.Regions.{Region, covers, region_at}
+use Rattle.v8_memory.specs.Regions.{Memory, Region, covers, region_at}
 use Rattle.v8_memory.specs.Segments.{empty_heap, region_of}
 use Rattle.v8_memory.specs.Spans.{IsApart, IsApartFromAll, Span}
 use Rattle.v8_process.specs.Start.{start_memory, stack_region}
@@ -26,7 +26,7 @@ use Rattle.addr_translate.specs.Translator.{StandsAt}
 use Rattle.addr_translate.proofs.Regions.{regions_stand}
 use Rattle.layout.specs.Laid.{Placement}
 use Rattle.image_code.specs.Simulates.{Setting}
-use Rattle.image_code.specs.Images.{Frame, HasTable, IsFramed}
+use Rattle.image_code.specs.Images.{Frame, HasTable, IsFramed, IsTableIn}
 use Rattle.v8_step.specs.Visits.{pages_of}
 use Rattle.snippet_code.specs.Cells.{cell_at}
 use Rattle.tool_kit.specs.Plans.{Plan}
@@ -38,65 +38,32 @@ use Rattle.edit_core.proofs.Steps.{segment_is}
 use Rattle.edit_core.proofs.Tables.{cases_word, second_word}
 
 -- the words that new code stores: eight of the page, and the cells
-abbrev pub own_page : List ℕ
-own_page =
-    page_word 0 ∷ page_word 1 ∷ page_word 2 ∷ page_word 3 ∷ page_word 4 ∷ page_word 5 ∷ page_word 6 ∷ page_word 7
-    ∷ []
-
-abbrev pub own_cells : ℕ → ℕ → List ℕ
-own_cells base cells = map (cell_at base) (range_with_len 0 cells)
+abbrev pub words_from : ℕ → ℕ → List ℕ
+words_from base count = map (cell_at base) (range_with_len 0 count)
 
 abbrev pub own_words : ℕ → ℕ → List ℕ
-own_words base cells = own_page ++ own_cells base cells
+own_words base cells = words_from (page_word 0) 8 ++ words_from base cells
 
--- a word of the page, by its address
-record IsOfPage (a : ℕ) : Type 0 where
-  from : page_word 0 ≤ a
-  to : a + 4 ≤ page_word 0 + 4096
-
-of_page : (a : ℕ) → IsAmongWords own_page a → IsOfPage a
-of_page a (inl is) = record { from = omega (arith, is); to = omega (arith, is) }
-of_page a (inr (inl is)) = record { from = omega (arith, is); to = omega (arith, is) }
-of_page a (inr (inr (inl is))) = record { from = omega (arith, is); to = omega (arith, is) }
-of_page a (inr (inr (inr (inl is)))) = record { from = omega (arith, is); to = omega (arith, is) }
-of_page a (inr (inr (inr (inr (inl is))))) = record { from = omega (arith, is); to = omega (arith, is) }
-of_page a (inr (inr (inr (inr (inr (inl is)))))) = record { from = omega (arith, is); to = omega (arith, is) }
-of_page a (inr (inr (inr (inr (inr (inr (inl is))))))) = record { from = omega (arith, is); to = omega (arith, is) }
-of_page a (inr (inr (inr (inr (inr (inr (inr (inl is)))))))) = record { from = omega (arith, is); to = omega (arith, is) }
-of_page a (inr (inr (inr (inr (inr (inr (inr (inr none)))))))) = absurd none
-
--- a cell, by its address
-pub record IsOfCells (base cells a : ℕ) : Type 0 where
+-- one of some words, by its address
+pub record IsWordOf (base count a : ℕ) : Type 0 where
   pub from : base ≤ a
-  pub to : a + 4 ≤ base + 4 * cells
-  pub some : 0 < cells
+  pub to : a + 4 ≤ base + 4 * count
+  pub some : 0 < count
 
-of_cells : (base from count a : ℕ) → IsAmongWords (map (cell_at base) (range_with_len from count)) a
-    → IsOfCells base (from + count) a
-of_cells base from zero a among = absurd among
-of_cells base from (suc n) a (inl is) =
-    record { from = omega (arith, is); to = omega (arith, is); some = omega arith }
-of_cells base from (suc n) a (inr among) =
-    let later = of_cells base (from + 1) n a among in
+word_of : (base from count a : ℕ) → IsAmongWords (map (cell_at base) (range_with_len from count)) a
+    → IsWordOf base (from + count) a
+word_of base from zero a among = absurd among
+word_of base from (suc n) a (inl is) = record { from = omega (arith, is); to = omega (arith, is); some = omega arith }
+word_of base from (suc n) a (inr among) =
+    let later = word_of base (from + 1) n a among in
     record { from = later.from; to = omega (arith, later.to); some = omega arith }
 
-among_words : (n : ℕ) → n < 8 → IsAmongWords own_page (page_word n)
-among_words zero l = inl refl
-among_words (suc zero) l = inr (inl refl)
-among_words (suc (suc zero)) l = inr (inr (inl refl))
-among_words (suc (suc (suc zero))) l = inr (inr (inr (inl refl)))
-among_words (suc (suc (suc (suc zero)))) l = inr (inr (inr (inr (inl refl))))
-among_words (suc (suc (suc (suc (suc zero))))) l = inr (inr (inr (inr (inr (inl refl)))))
-among_words (suc (suc (suc (suc (suc (suc zero)))))) l = inr (inr (inr (inr (inr (inr (inl refl))))))
-among_words (suc (suc (suc (suc (suc (suc (suc zero))))))) l = inr (inr (inr (inr (inr (inr (inr (inl refl)))))))
-among_words (suc (suc (suc (suc (suc (suc (suc (suc n)))))))) l = absurd (omega (arith, l))
-
-among_cells : (base from count cell : ℕ) → from ≤ cell → cell < from + count
-    → IsAmongWords (map (cell_at base) (range_with_len from count)) (cell_at base cell)
-among_cells base from zero cell above below = absurd (omega (arith, above, below))
-among_cells base from (suc n) cell above below = elim (cases_lt from cell) [
-  | inl later ↦ inr (among_cells base (from + 1) n cell (omega (arith, later)) (omega (arith, below)))
-  | inr here ↦ inl (ap (cell_at base) (let e : cell ≡ from = omega (arith, here, above) in e))
+among_words : (base from count word : ℕ) → from ≤ word → word < from + count
+    → IsAmongWords (map (cell_at base) (range_with_len from count)) (cell_at base word)
+among_words base from zero word above below = absurd (omega (arith, above, below))
+among_words base from (suc n) word above below = elim (cases_lt from word) [
+  | inl later ↦ inr (among_words base (from + 1) n word (omega (arith, later)) (omega (arith, below)))
+  | inr here ↦ inl (ap (cell_at base) (let e : word ≡ from = omega (arith, here, above) in e))
 ]
 
 among_either : (xs ys : List ℕ) (a : ℕ) → IsAmongWords (xs ++ ys) a → IsAmongWords xs a ⊎ IsAmongWords ys a
@@ -118,19 +85,19 @@ among_last (x ∷ xs) ys a among = inr (among_last xs ys a among)
 
 -- an own word is one of the page or a cell
 abbrev IsEither : ℕ → ℕ → ℕ → Type 0
-IsEither base cells a = IsOfPage a ⊎ IsOfCells base cells a
+IsEither base cells a = IsWordOf (page_word 0) 8 a ⊎ IsWordOf base cells a
 
 own_either : (base cells a : ℕ) → IsAmongWords (own_words base cells) a → IsEither base cells a
-own_either base cells a among = elim (among_either own_page (own_cells base cells) a among) [
-  | inl here ↦ inl (of_page a here)
-  | inr there ↦ inr (subst (λ (n : ℕ). IsOfCells base n a) (let e : 0 + cells ≡ cells = omega arith in e)
-      (of_cells base 0 cells a there))
+own_either base cells a among = elim (among_either (words_from (page_word 0) 8) (words_from base cells) a among) [
+  | inl here ↦ inl (word_of (page_word 0) 0 8 a here)
+  | inr there ↦ inr (subst (λ (n : ℕ). IsWordOf base n a) (let e : 0 + cells ≡ cells = omega arith in e)
+      (word_of base 0 cells a there))
 ]
 
 pub cell_is_own : (base cells cell : ℕ) → cell < cells → IsAmongWords (own_words base cells) (cell_at base cell)
 cell_is_own base cells cell l =
-    among_last own_page (own_cells base cells) (cell_at base cell)
-    (among_cells base 0 cells cell (omega arith) (omega (arith, l)))
+    among_last (words_from (page_word 0) 8) (words_from base cells) (cell_at base cell)
+    (among_words base 0 cells cell (omega arith) (omega (arith, l)))
 
 abbrev pub frame : Words → ℕ → ℕ → TableAt → Frame
 frame text base cells tables = record {
@@ -176,13 +143,10 @@ module _ (original : List ℕ) (plan : Plan) (p : Placement) where
 
   pub spans_are : pages_of (notes_on original plan p) ≡ if_any plan.cells cells_span ++ behind_spans
   spans_are =
-      any-map segment_span plan.cells (record { start = cells_base original plan; length = 4 * plan.cells })
-      (record {
+      any-map segment_span plan.cells (record { start = cells_base original plan; length = 4 * plan.cells }) (record {
         start = table_base original plan;
-        length = segment_size (text_of original plan) (graph_in original
-            plan);
-      }
-      ∷ record { start = code_base original plan; length = 4 * length p.code }
+        length = segment_size (text_of original plan) (graph_in original plan);
+      } ∷ record { start = code_base original plan; length = 4 * length p.code }
       ∷ record { start = editor_page; length = page_size } ∷ [])
 
 -- the pages of the notes: that of the cells, the tables', the code's and the editor's
@@ -192,35 +156,24 @@ pub is_framed : (original : List ℕ) (plan : Plan) (p : Placement) (table : Tab
     → IsFramed g (frame (text_of original plan) (cells_base original plan) plan.cells table)
 is_framed original plan p table g same base leads = record {
   own = subst (λ (n : Notes). AreOwn (pages_of n) own) (sym same) (record { first = inl refl; within = within });
-  page = λ n l. among_first own_page (own_cells (cells_base original plan) plan.cells) (page_word n) (among_words n l);
-  table = record {
-    within = λ a from to. subst (λ (n : Notes). IsIn (pages_of n) a) (sym same) (in_table a from to);
-    apart = λ a among. beside a (own_either (cells_base original plan) plan.cells a among);
-  };
-  cases = record {
-    within = λ a from to. subst (λ (n : Notes). IsIn (pages_of n) a) (sym same) (in_cases a from to);
-    apart = λ a among. beside_cases a (own_either (cells_base original plan) plan.cells a among);
-  };
+  page = λ n l. among_first (words_from (page_word 0) 8) (words_from (cells_base original plan) plan.cells) (page_word n)
+      (among_words (page_word 0) 0 8 n (omega arith) (omega (arith, l)));
+  table = table_in (second_table text table) (omega (arith, second_long)) (omega (arith, second_long, size));
+  cases = table_in (cases_table text table) (omega arith) (omega (arith, last_long, size));
   whole = leads.second.whole;
 }
   where
-    second : TableAt
-    second = second_table (text_of original plan) table
+    text : Words
+    text = text_of original plan
 
-    second_long : length second.bytes ≡ halves_size (text_of original plan)
+    second_long : length (second_table text table).bytes ≡ halves_size text
     second_long = leads.second.size
 
-    low : second.base + length second.bytes ≤ 2 ^ 31
-    low = leads.second.whole.below
+    last_long : length (cases_table text table).bytes ≡ length table.bytes - tables_size text
+    last_long = length-drop (tables_size text) table.bytes
 
     size : length table.bytes ≡ segment_size (text_of original plan) (graph_in original plan)
     size = segment_is (text_of original plan) (graph_in original plan) plan.snips p table leads
-
-    last : TableAt
-    last = cases_table (text_of original plan) table
-
-    last_long : length last.bytes ≡ length table.bytes - tables_size (text_of original plan)
-    last_long = length-drop (tables_size (text_of original plan)) table.bytes
 
     own : List ℕ
     own = own_words (cells_base original plan) plan.cells
@@ -230,38 +183,28 @@ is_framed original plan p table g same base leads = record {
     there a is = subst (λ (pages : List Span). IsIn pages a) (sym (spans_are original plan p)) is
 
     by : (a : ℕ) → IsEither (cells_base original plan) plan.cells a → IsIn (pages_of (notes_on original plan p)) a
-    by a (inl is) =
-        let from = is.from in
-        let to = is.to in
-        there a (in_any plan.cells (cells_span original plan p) (behind_spans original plan p) a
-        (inr (inr (inl (from, to)))))
+    by a (inl is) = there a (in_any plan.cells (cells_span original plan p) (behind_spans original plan p) a
+        (inr (inr (inl (is.from, omega (arith, is.to))))))
     by a (inr is) =
         there a (in_first plan.cells (cells_span original plan p) (behind_spans original plan p) a is.some is.from is.to)
 
     within : (a : ℕ) → IsAmongWords own a → IsIn (pages_of (notes_on original plan p)) a
     within a among = by a (own_either (cells_base original plan) plan.cells a among)
 
-    in_table : (a : ℕ) → second.base ≤ a → a + 4 ≤ second.base + length second.bytes
-        → IsIn (pages_of (notes_on original plan p)) a
-    in_table a from to =
-        there a (in_any plan.cells (cells_span original plan p) (behind_spans original plan p) a
-        (inl (omega (arith, from, base), omega (arith, to, base, second_long))))
-
-    beside : (a : ℕ) → IsEither (cells_base original plan) plan.cells a
-        → (a + 4 ≤ second.base) ⊎ (second.base + length second.bytes ≤ a)
-    beside a (inl is) = inr (omega (arith, is.from, low))
-    beside a (inr is) = inl (omega (arith, is.to, base))
-
-    in_cases : (a : ℕ) → last.base ≤ a → a + 4 ≤ last.base + length last.bytes
-        → IsIn (pages_of (notes_on original plan p)) a
-    in_cases a from to =
-        there a (in_any plan.cells (cells_span original plan p) (behind_spans original plan p) a
-        (inl (omega (arith, from, base), omega (arith, to, base, last_long, size))))
-
-    beside_cases : (a : ℕ) → IsEither (cells_base original plan) plan.cells a
-        → (a + 4 ≤ last.base) ⊎ (last.base + length last.bytes ≤ a)
-    beside_cases a (inl is) = let below = leads.low in inr (omega (arith, is.from, below, last_long, size))
-    beside_cases a (inr is) = inl (omega (arith, is.to, base))
+    -- a part of the tables
+    table_in : (part : TableAt) → table.base ≤ part.base
+        → part.base + length part.bytes ≤ table.base + length table.bytes → IsTableIn g own part
+    table_in part above below = record {
+      within = λ a from to. subst (λ (n : Notes). IsIn (pages_of n) a) (sym same)
+          (there a (in_any plan.cells (cells_span original plan p) (behind_spans original plan p) a
+          (inl (omega (arith, from, base, above), omega (arith, to, base, below, size)))));
+      apart = λ a among. beside a (own_either (cells_base original plan) plan.cells a among);
+    }
+      where
+        beside : (a : ℕ) → IsEither (cells_base original plan) plan.cells a
+            → (a + 4 ≤ part.base) ⊎ (part.base + length part.bytes ≤ a)
+        beside a (inl is) = let low = leads.low in inr (omega (arith, is.from, below, low))
+        beside a (inr is) = inl (omega (arith, is.to, base, above))
 
 -- ---- regions
 
@@ -302,8 +245,7 @@ or_has_not a None y hx hy = hy
 or_has_not a (Some r) y hx hy = hx
 
 unless_found : (a : ℕ) (found : Bool) (r : Region) (rest : Option Region) → (found ≡ true → covers a 4 r ≡ false)
-    → HasNot a rest
-    → HasNot a (cond found (Some r) rest)
+    → HasNot a rest → HasNot a (cond found (Some r) rest)
 unless_found a true r rest here later = here refl
 unless_found a false r rest here later = later
 
@@ -328,6 +270,15 @@ inside_region r from count is =
     let two = and_parts (nat_le r.start from) (nat_le (from + count) (r.start + r.size)) is in
     (leb-true r.start from two.0, leb-true (from + count) (r.start + r.size) two.1)
 
+-- nothing apart from a region lies in it
+apart_outside : (r : Region) (from count : ℕ) → 0 < count
+    → IsApart (record { from = r.start; count = r.size }) (record { from = from; count = count })
+    → covers from count r ≡ true → ⊥
+apart_outside r from count some (inl after) found =
+    let b = (inside_region r from count found).1 in omega (arith, after, b, some)
+apart_outside r from count some (inr before) found =
+    let b = (inside_region r from count found).0 in omega (arith, before, b, some)
+
 -- ---- a written file
 
 -- the heap has no byte below its start
@@ -337,8 +288,23 @@ heap_low a below = ap (λ (b : Bool). b && nat_le (a + 4) (empty_heap.start + em
 
 module _ (original : List ℕ) (plan : Plan) (p : Placement) (place : ℕ → ℕ → ℕ) (table : TableAt) (file : List ℕ)
     (is : IsEdit original plan p place table file) (texts : List (List ℕ)) where
+  abbrev text : Words
+  text = text_of original plan
+
+  abbrev cells_from : ℕ
+  cells_from = cells_base original plan
+
+  abbrev notes : Notes
+  notes = notes_on original plan p
+
+  abbrev its_code : AddedSegment
+  its_code = code_segment original plan p
+
+  abbrev memory : Memory
+  memory = start_memory file texts
+
   abbrev cells : AddedSegment
-  cells = cells_at (cells_base original plan) plan.cells
+  cells = cells_at cells_from plan.cells
 
   abbrev cells_region : Region
   cells_region = region_of (mapping_added cells)
@@ -347,7 +313,7 @@ module _ (original : List ℕ) (plan : Plan) (p : Placement) (place : ℕ → �
   table_region = region_of (mapping_added (table_at table))
 
   abbrev code_region : Region
-  code_region = region_of (mapping_added (code_segment original plan p))
+  code_region = region_of (mapping_added its_code)
 
   abbrev page_region : Region
   page_region = region_of (mapping_added page_segment)
@@ -358,43 +324,57 @@ module _ (original : List ℕ) (plan : Plan) (p : Placement) (place : ℕ → �
   abbrev behind : List Region
   behind = table_region ∷ code_region ∷ page_region ∷ stack_region texts ∷ []
 
-  regions_are : (start_memory file texts).regions ≡ kept_regions ++ (if_any plan.cells cells_region ++ behind)
+  regions_are : memory.regions ≡ kept_regions ++ (if_any plan.cells cells_region ++ behind)
   regions_are =
-      ap (λ ms. map region_of ms ++ stack_region texts ∷ []) is.mapped
-      ∙ ap (λ rs. rs ++ stack_region texts ∷ [])
+      ap (λ ms. map region_of ms ++ stack_region texts ∷ []) is.mapped ∙ ap (λ rs. rs ++ stack_region texts ∷ [])
       (map-append region_of (map kept (mappings original)) (map mapping_added (added original plan p table)))
       ∙ ap (λ (rs : List Region). (kept_regions ++ rs) ++ stack_region texts ∷ [])
-      (ap (map region_of) (any-map mapping_added plan.cells cells
-      (table_at table ∷ code_segment original plan p ∷ page_segment ∷ []))
+      (ap (map region_of) (any-map mapping_added plan.cells cells (table_at table ∷ its_code ∷ page_segment ∷ []))
       ∙ any-map region_of plan.cells (mapping_added cells)
-      (mapping_added (table_at table) ∷ mapping_added (code_segment original plan p) ∷ mapping_added page_segment ∷ []))
+      (mapping_added (table_at table) ∷ mapping_added its_code ∷ mapping_added page_segment ∷ []))
       ∙ append_assoc kept_regions (if_any plan.cells cells_region ++ table_region ∷ code_region ∷ page_region ∷ [])
-      (stack_region texts ∷ [])
-      ∙ ap (λ (rs : List Region). kept_regions ++ rs)
+      (stack_region texts ∷ []) ∙ ap (λ (rs : List Region). kept_regions ++ rs)
       (append_assoc (if_any plan.cells cells_region) (table_region ∷ code_region ∷ page_region ∷ [])
       (stack_region texts ∷ []))
 
-  found_in : (q : Region → Bool) → find q (start_memory file texts).regions
+  found_in : (q : Region → Bool) → find q memory.regions
       ≡ option_or (find q kept_regions) (option_or (find q (if_any plan.cells cells_region)) (find q behind))
   found_in q =
-      ap (find q) regions_are
-      ∙ find-append q kept_regions (if_any plan.cells cells_region ++ behind)
+      ap (find q) regions_are ∙ find-append q kept_regions (if_any plan.cells cells_region ++ behind)
       ∙ ap (option_or (find q kept_regions)) (find-append q (if_any plan.cells cells_region) behind)
 
   -- where neither what is kept nor the cells have it
   found_behind : (q : Region → Bool) → find q kept_regions ≡ None → (0 < plan.cells → q cells_region ≡ false)
-      → find q (start_memory file texts).regions ≡ find q behind
+      → find q memory.regions ≡ find q behind
   found_behind q none beside =
       found_in q
       ∙ ap (λ (found : Option Region). option_or found (option_or (find q (if_any plan.cells cells_region)) (find q behind)))
-      none
-      ∙ ap (λ (found : Option Region). option_or found (find q behind)) (any_none q plan.cells cells_region beside)
+      none ∙ ap (λ (found : Option Region). option_or found (find q behind)) (any_none q plan.cells cells_region beside)
 
   -- nothing that is kept has words above the original
-  kept_none : (a : ℕ) → cells_base original plan ≤ a → find (covers a 4) kept_regions ≡ None
+  kept_none : (a : ℕ) → cells_from ≤ a → find (covers a 4) kept_regions ≡ None
   kept_none a above =
       find_regions (covers a 4) (map kept (mappings original))
       ∙ ap (option_map region_of) (original_covers original a above)
+
+  -- each region behind the cells lacks a word, or some bytes
+  record IsBeside (a from count : ℕ) : Type 0 where
+    tables : covers from count table_region ≡ true → covers a 4 table_region ≡ false
+    code : covers from count code_region ≡ true → covers a 4 code_region ≡ false
+    page : covers from count page_region ≡ true → covers a 4 page_region ≡ false
+    stack : covers from count (stack_region texts) ≡ true → covers a 4 (stack_region texts) ≡ false
+
+  alone_among : (a from count : ℕ) → find (covers a 4) kept_regions ≡ None
+      → HasNot a (find (covers from count) (if_any plan.cells cells_region)) → IsBeside a from count
+      → HasNot a (find (covers from count) memory.regions)
+  alone_among a from count none front beside =
+      subst (HasNot a) (sym (found_in (covers from count)))
+      (or_has_not a (find (covers from count) kept_regions) _ (found_has_not kept_regions a from count none)
+      (or_has_not a (find (covers from count) (if_any plan.cells cells_region)) _ front
+      (unless_found a (covers from count table_region) table_region _ beside.tables
+      (unless_found a (covers from count code_region) code_region _ beside.code
+      (unless_found a (covers from count page_region) page_region _ beside.page
+      (unless_found a (covers from count (stack_region texts)) (stack_region texts) None beside.stack tt))))))
 
   -- ---- the tables
 
@@ -405,7 +385,7 @@ module _ (original : List ℕ) (plan : Plan) (p : Placement) (place : ℕ → �
     cells_below : 0 < plan.cells → covers a 4 cells_region ≡ false
     cells_below some = let base = is.code.base in past_covers a cells_region (omega (arith, base, from))
 
-    table_found : find (covers a 4) (start_memory file texts).regions ≡ Some table_region
+    table_found : find (covers a 4) memory.regions ≡ Some table_region
     table_found =
         let base = is.code.base in
         found_behind (covers a 4) (kept_none a (omega (arith, base, from))) cells_below
@@ -413,13 +393,12 @@ module _ (original : List ℕ) (plan : Plan) (p : Placement) (place : ℕ → �
         (find (covers a 4) (code_region ∷ page_region ∷ stack_region texts ∷ [])))
         (and_from _ _ (le-leb table.base a from) (le-leb (a + 4) (table.base + length table.bytes) to))
 
-    table_at_all : region_at (start_memory file texts) a 4 ≡ Some table_region
+    table_at_all : region_at memory a 4 ≡ Some table_region
     table_at_all =
-        ap (λ (b : Bool). cond b (Some empty_heap) (find (covers a 4) (start_memory file texts).regions))
-        (heap_low a (omega (arith, to, table_below)))
-        ∙ table_found
+        ap (λ (b : Bool). cond b (Some empty_heap) (find (covers a 4) memory.regions))
+        (heap_low a (omega (arith, to, table_below))) ∙ table_found
 
-    word_of_table : HasWordAt a false (start_memory file texts)
+    word_of_table : HasWordAt a false memory
     word_of_table = record {
       start = refl;
       size = omega arith;
@@ -436,34 +415,33 @@ module _ (original : List ℕ) (plan : Plan) (p : Placement) (place : ℕ → �
       let none : length table.bytes - length table.bytes ≡ 0 = omega arith in
       ap (λ (n : ℕ). table.bytes ++ replicate n 0) none ∙ append-nil table.bytes
 
-  stands : StandsAt (start_memory file texts) table
-  stands = regions_stand (start_memory file texts) table table_region refl table_bytes refl table_at_all
+  stands : StandsAt memory table
+  stands = regions_stand memory table table_region refl table_bytes refl table_at_all
 
   -- each word of the second can be loaded, and not stored
-  pub has_table : HasTable (second_table (text_of original plan) table) (start_memory file texts)
+  pub has_table : HasTable (second_table text table) memory
   has_table a from to aligned =
       let size = is.code.leads.size in
       let long = is.code.leads.second.size in
       let begin : table.base ≤ a = omega (arith, from) in
       let end : a + 4 ≤ table.base + length table.bytes = omega (arith, to, size, long) in (
         word_of_table a begin end,
-        stands.same a begin end aligned
-            ∙ second_word (text_of original plan) table a from (omega (arith, to, long)) (omega (arith, size)),
+        stands.same a begin end aligned ∙ second_word text table a from (omega (arith, to, long)) (omega (arith, size)),
       )
 
   -- and so can each of the words with the pieces of Case edges
-  pub has_cases : HasTable (cases_table (text_of original plan) table) (start_memory file texts)
+  pub has_cases : HasTable (cases_table text table) memory
   has_cases a from to aligned =
-      let long = length-drop (tables_size (text_of original plan)) table.bytes in
+      let long = length-drop (tables_size text) table.bytes in
       let begin : table.base ≤ a = omega (arith, from) in
       let end : a + 4 ≤ table.base + length table.bytes = omega (arith, from, to, long) in (
         word_of_table a begin end,
-        stands.same a begin end aligned ∙ cases_word (text_of original plan) table a from,
+        stands.same a begin end aligned ∙ cases_word text table a from,
       )
 
   -- ---- the editor's page
 
-  module _ (a : ℕ) (of : IsOfPage a) where
+  module _ (a : ℕ) (of : IsWordOf (page_word 0) 8 a) where
     none_kept : find (covers a 4) kept_regions ≡ None
     none_kept =
         let low = (accepted-program original is.taken.sound).below in
@@ -487,20 +465,18 @@ module _ (original : List ℕ) (plan : Plan) (p : Placement) (place : ℕ → �
 
     page_covers : covers a 4 page_region ≡ true
     page_covers =
-        let from = of.from in
-        let to = of.to in
-        and_from _ _ (le-leb page_region.start a from) (le-leb (a + 4) (page_region.start + page_region.size) to)
+        and_from _ _ (le-leb page_region.start a of.from)
+        (le-leb (a + 4) (page_region.start + page_region.size) (omega (arith, of.to)))
 
-    page_found : find (covers a 4) (start_memory file texts).regions ≡ Some page_region
+    page_found : find (covers a 4) memory.regions ≡ Some page_region
     page_found =
-        found_behind (covers a 4) none_kept cells_low
-        ∙ ap (λ (b : Bool). cond b (Some table_region)
+        found_behind (covers a 4) none_kept cells_low ∙ ap (λ (b : Bool). cond b (Some table_region)
         (find (covers a 4) (code_region ∷ page_region ∷ stack_region texts ∷ []))) table_low
         ∙ ap (λ (b : Bool). cond b (Some code_region) (find (covers a 4) (page_region ∷ stack_region texts ∷ [])))
         code_low
         ∙ ap (λ (b : Bool). cond b (Some page_region) (find (covers a 4) (stack_region texts ∷ []))) page_covers
 
-    word_at_page : HasWordAt a true (start_memory file texts)
+    word_at_page : HasWordAt a true memory
     word_at_page = let from = of.from in record {
       start = refl;
       size = omega arith;
@@ -512,37 +488,22 @@ module _ (original : List ℕ) (plan : Plan) (p : Placement) (place : ℕ → �
       whole = region_whole (mapping_added page_segment);
     }
 
-    apart_from_page : (from count : ℕ) → 0 < count → IsApartFromAll (pages_of (notes_on original plan p))
-        (record { from = from; count = count })
-        → covers from count page_region ≡ true → ⊥
-    apart_from_page from count some apart found =
-        let rest = apart_any plan.cells (cells_span original plan p) (behind_spans original plan p) _
-        (subst (λ (pages : List Span). IsApartFromAll pages (record { from = from; count = count }))
-        (spans_are original plan p) apart) in
-        go rest.1.1.0 (inside_region page_region from count found)
-      where
-        go : (page_word 0 + 4096 ≤ from) ⊎ (from + count ≤ page_word 0)
-            → (page_word 0 ≤ from) × (from + count ≤ page_word 0 + 4096) → ⊥
-        go (inl after) inside = let b = inside.1 in omega (arith, after, b, some)
-        go (inr before) inside = let b = inside.0 in omega (arith, before, b, some)
-
-    alone_at_page : (from count : ℕ) → 0 < count → IsApartFromAll (pages_of (notes_on original plan p))
-        (record { from = from; count = count })
-        → HasNot a (find (covers from count) (start_memory file texts).regions)
+    alone_at_page : (from count : ℕ) → 0 < count → IsApartFromAll (pages_of notes) (record { from = from; count = count })
+        → HasNot a (find (covers from count) memory.regions)
     alone_at_page from count some apart =
-        subst (HasNot a) (sym (found_in (covers from count)))
-        (or_has_not a (find (covers from count) kept_regions) _ (found_has_not kept_regions a from count none_kept)
-        (or_has_not a (find (covers from count) (if_any plan.cells cells_region)) _
-        (found_has_not (if_any plan.cells cells_region) a from count (any_none (covers a 4) plan.cells cells_region cells_low))
-        (unless_found a (covers from count table_region) table_region _ (λ found. table_low)
-        (unless_found a (covers from count code_region) code_region _ (λ found. code_low)
-        (unless_found a (covers from count page_region) page_region _
-        (λ found. absurd (apart_from_page from count some apart found))
-        (unless_found a (covers from count (stack_region texts)) (stack_region texts) None (λ found. stack_low) tt))))))
+        let rest = apart_any plan.cells (cells_span original plan p) (behind_spans original plan p) _
+        (rw (spans_are original plan p) at apart) in
+        alone_among a from count none_kept (found_has_not (if_any plan.cells cells_region) a from count
+        (any_none (covers a 4) plan.cells cells_region cells_low)) (record {
+          tables = λ found. table_low;
+          code = λ found. code_low;
+          page = λ found. absurd (apart_outside page_region from count some rest.1.1.0 found);
+          stack = λ found. stack_low;
+        })
 
   -- ---- cells
 
-  module _ (a : ℕ) (of : IsOfCells (cells_base original plan) plan.cells a) where
+  module _ (a : ℕ) (of : IsWordOf cells_from plan.cells a) where
     cells_under : a + 4 ≤ table.base
     cells_under = let base = is.code.base in let to = of.to in omega arith
 
@@ -550,19 +511,16 @@ module _ (original : List ℕ) (plan : Plan) (p : Placement) (place : ℕ → �
     cell_kept = kept_none a of.from
 
     cell_covers : covers a 4 cells_region ≡ true
-    cell_covers =
-        and_from _ _ (le-leb (cells_base original plan) a of.from)
-        (le-leb (a + 4) (cells_base original plan + 4 * plan.cells) of.to)
+    cell_covers = and_from _ _ (le-leb cells_from a of.from) (le-leb (a + 4) (cells_from + 4 * plan.cells) of.to)
 
-    pub cell_found : find (covers a 4) (start_memory file texts).regions ≡ Some cells_region
+    pub cell_found : find (covers a 4) memory.regions ≡ Some cells_region
     cell_found =
-        found_in (covers a 4)
-        ∙ ap (λ (found : Option Region). option_or found
+        found_in (covers a 4) ∙ ap (λ (found : Option Region). option_or found
         (option_or (find (covers a 4) (if_any plan.cells cells_region)) (find (covers a 4) behind))) cell_kept
         ∙ ap (λ (found : Option Region). option_or found (find (covers a 4) behind))
         (any_some (covers a 4) plan.cells cells_region of.some cell_covers)
 
-    word_at_cell : HasWordAt a true (start_memory file texts)
+    word_at_cell : HasWordAt a true memory
     word_at_cell = record {
       start = refl;
       size = omega arith;
@@ -573,20 +531,6 @@ module _ (original : List ℕ) (plan : Plan) (p : Placement) (place : ℕ → �
       may_write = refl;
       whole = region_whole (mapping_added cells);
     }
-
-    apart_from_cells : (from count : ℕ) → 0 < count → IsApartFromAll (pages_of (notes_on original plan p))
-        (record { from = from; count = count })
-        → covers from count cells_region ≡ true → ⊥
-    apart_from_cells from count some apart found =
-        go (apart_first plan.cells (cells_span original plan p) (behind_spans original plan p) _ of.some
-        (subst (λ (pages : List Span). IsApartFromAll pages (record { from = from; count = count }))
-        (spans_are original plan p) apart))
-        (inside_region cells_region from count found)
-      where
-        go : (cells_base original plan + 4 * plan.cells ≤ from) ⊎ (from + count ≤ cells_base original plan)
-            → (cells_base original plan ≤ from) × (from + count ≤ cells_base original plan + 4 * plan.cells) → ⊥
-        go (inl after) inside = let b = inside.1 in omega (arith, after, b, some)
-        go (inr before) inside = let b = inside.0 in omega (arith, before, b, some)
 
     table_past : covers a 4 table_region ≡ false
     table_past = below_covers a table_region (omega (arith, cells_under))
@@ -600,19 +544,19 @@ module _ (original : List ℕ) (plan : Plan) (p : Placement) (place : ℕ → �
     stack_past : covers a 4 (stack_region texts) ≡ false
     stack_past = below_covers a (stack_region texts) (omega (arith, cells_under, table_below))
 
-    alone_at_cell : (from count : ℕ) → 0 < count → IsApartFromAll (pages_of (notes_on original plan p))
-        (record { from = from; count = count })
-        → HasNot a (find (covers from count) (start_memory file texts).regions)
+    alone_at_cell : (from count : ℕ) → 0 < count → IsApartFromAll (pages_of notes) (record { from = from; count = count })
+        → HasNot a (find (covers from count) memory.regions)
     alone_at_cell from count some apart =
-        subst (HasNot a) (sym (found_in (covers from count)))
-        (or_has_not a (find (covers from count) kept_regions) _ (found_has_not kept_regions a from count cell_kept)
-        (or_has_not a (find (covers from count) (if_any plan.cells cells_region)) _
+        let beside = apart_first plan.cells (cells_span original plan p) (behind_spans original plan p) _ of.some
+        (rw (spans_are original plan p) at apart) in
+        alone_among a from count cell_kept
         (front_has_not (any_none (covers from count) plan.cells cells_region (λ _. not_found (covers from count cells_region)
-        (apart_from_cells from count some apart))))
-        (unless_found a (covers from count table_region) table_region _ (λ found. table_past)
-        (unless_found a (covers from count code_region) code_region _ (λ found. code_past)
-        (unless_found a (covers from count page_region) page_region _ (λ found. page_past)
-        (unless_found a (covers from count (stack_region texts)) (stack_region texts) None (λ found. stack_past) tt))))))
+        (apart_outside cells_region from count some beside)))) (record {
+          tables = λ found. table_past;
+          code = λ found. code_past;
+          page = λ found. page_past;
+          stack = λ found. stack_past;
+        })
       where
         not_found : (b : Bool) → (b ≡ true → ⊥) → b ≡ false
         not_found true no_way = absurd (no_way refl)
@@ -621,42 +565,37 @@ module _ (original : List ℕ) (plan : Plan) (p : Placement) (place : ℕ → �
         front_has_not : {o : Option Region} → o ≡ None → HasNot a o
         front_has_not e = subst (HasNot a) (sym e) tt
 
-  either_word : (a : ℕ) → IsEither (cells_base original plan) plan.cells a → HasWordAt a true (start_memory file texts)
+  either_word : (a : ℕ) → IsEither cells_from plan.cells a → HasWordAt a true memory
   either_word a (inl is) = word_at_page a is
   either_word a (inr is) = word_at_cell a is
 
-  either_alone : (a : ℕ) → IsEither (cells_base original plan) plan.cells a → (from count : ℕ) → 0 < count
-      → IsApartFromAll (pages_of (notes_on original plan p)) (record { from = from; count = count })
-      → HasNot a (find (covers from count) (start_memory file texts).regions)
+  either_alone : (a : ℕ) → IsEither cells_from plan.cells a → (from count : ℕ) → 0 < count
+      → IsApartFromAll (pages_of notes) (record { from = from; count = count })
+      → HasNot a (find (covers from count) memory.regions)
   either_alone a (inl is) = alone_at_page a is
   either_alone a (inr is) = alone_at_cell a is
 
-  pub owned : IsOurs (pages_of (notes_on original plan p)) (own_words (cells_base original plan) plan.cells)
-      (start_memory file texts)
+  pub owned : IsOurs (pages_of notes) (own_words cells_from plan.cells) memory
   owned = record {
-    words = λ a among. either_word a (own_either (cells_base original plan) plan.cells a among);
-    alone = λ a from count among. either_alone a (own_either (cells_base original plan) plan.cells a among) from count;
+    words = λ a among. either_word a (own_either cells_from plan.cells a among);
+    alone = λ a from count among. either_alone a (own_either cells_from plan.cells a among) from count;
   }
 
   -- ---- they begin as zeros
 
-  pub cell_zero : (cell : ℕ) → cell < plan.cells
-      → memory_word (start_memory file texts) (cell_at (cells_base original plan) cell) ≡ 0
+  pub cell_zero : (cell : ℕ) → cell < plan.cells → memory_word memory (cell_at cells_from cell) ≡ 0
   unfolding memory_word
   cell_zero cell l =
-      let a = cell_at (cells_base original plan) cell in
-      let of : IsOfCells (cells_base original plan) plan.cells a =
+      let a = cell_at cells_from cell in
+      let of : IsWordOf cells_from plan.cells a =
       record { from = omega arith; to = omega (arith, l); some = omega (arith, l) } in
-      let at = cell_at (cells_base original plan) cell - cells_base original plan in
-      ap (word_in a) (all_found a of)
-      ∙ ap (λ (n : ℕ). from_be_bytes w32 (take 4 (drop at (replicate n 0))))
+      let at = cell_at cells_from cell - cells_from in
+      ap (word_in a) (all_found a of) ∙ ap (λ (n : ℕ). from_be_bytes w32 (take 4 (drop at (replicate n 0))))
       (let e : 4 * plan.cells - 0 ≡ 4 * plan.cells = omega arith in e)
       ∙ ap (λ (z : List ℕ). from_be_bytes w32 (take 4 z)) (drop-replicate at (4 * plan.cells) 0)
       ∙ ap (from_be_bytes w32) (take-replicate 4 (4 * plan.cells - at) 0 (omega (arith, l)))
     where
-      all_found : (a : ℕ) → IsOfCells (cells_base original plan) plan.cells a
-          → region_at (start_memory file texts) a 4 ≡ Some cells_region
+      all_found : (a : ℕ) → IsWordOf cells_from plan.cells a → region_at memory a 4 ≡ Some cells_region
       all_found a of =
-          ap (λ (b : Bool). cond b (Some empty_heap) (find (covers a 4) (start_memory file texts).regions))
-          (heap_low a (omega (arith, cells_under a of, table_below)))
-          ∙ cell_found a of
+          ap (λ (b : Bool). cond b (Some empty_heap) (find (covers a 4) memory.regions))
+          (heap_low a (omega (arith, cells_under a of, table_below))) ∙ cell_found a of

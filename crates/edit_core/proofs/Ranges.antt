@@ -1,5 +1,5 @@
 -- What laid code has: words, and ranges that notes may have.
-use Rattle.std.proofs.Common.{◌≡◌, ℕ, zero, suc, ◌+◌, ◌*◌, ◌%◌, ◌^◌, ◌<◌, ◌≤◌, Bool, true, false, ◌&&◌, cond, nat_lt, nat_le, Option, Some, None, List, [], ◌∷◌, ◌++◌, length, map, refl, ap, sym, ◌∙◌, subst, arith}
+use Rattle.std.proofs.Common.{◌≡◌, ℕ, zero, suc, ◌+◌, ◌*◌, ◌%◌, ◌^◌, ◌<◌, ◌≤◌, Bool, true, cond, nat_lt, nat_le, Option, Some, None, List, [], ◌∷◌, ◌++◌, length, map, refl, ap, sym, ◌∙◌, subst, arith}
 use Rattle.std.specs.Prelude.{slice_get}
 use Rattle.std.specs.List.{flat_map, list_any}
 use Rattle.std.proofs.lemmas.Bool.{and_from, le-leb, le-ltb, lt-ltb, eq-eqb}
@@ -23,6 +23,7 @@ use Rattle.image_code.specs.Graphs.{IsGraphOf}
 use Rattle.edit_core.proofs.Eaches.{each_index}
 use Rattle.edit_core.proofs.Graphs.{IsNumber}
 use Rattle.edit_core.proofs.Shapes.{IsMark, NoMarks, MarksFirst, all_marked}
+use Rattle.edit_core.proofs.Fronts.{passed}
 
 -- ---- ranges one after the other
 
@@ -50,10 +51,6 @@ found from to (x ∷ rs) a (suc n) r e =
     let later : x.hi ≤ r.lo = begins_by x.hi to rs a.2 n r e in
     passed (nat_le x.lo r.lo) (nat_lt r.lo x.hi) x (range_in rs r.lo) (le-ltb r.lo x.hi later)
     ∙ found x.hi to rs a.2 n r e
-  where
-    passed : (b c : Bool) (x : NoteRange) (rest : Option NoteRange) → c ≡ false → cond (b && c) (Some x) rest ≡ rest
-    passed true c x rest failed = ap (λ z. cond z (Some x) rest) failed
-    passed false c x rest failed = refl
 
 -- ---- ranges of whole words
 
@@ -99,10 +96,7 @@ none_marked (it.Word w ∷ items) h zero address node e = absurd (cc)
 none_marked (it.Jump to ∷ items) h zero address node e = absurd (cc)
 none_marked (it.Branch c to ∷ items) h zero address node e = absurd (cc)
 none_marked (it.EndMark ∷ items) h zero address node e = absurd (cc)
-none_marked (it.Word w ∷ items) h (suc n) address node e = none_marked items h n address node e
-none_marked (it.Jump to ∷ items) h (suc n) address node e = none_marked items h n address node e
-none_marked (it.Branch c to ∷ items) h (suc n) address node e = none_marked items h n address node e
-none_marked (it.EndMark ∷ items) h (suc n) address node e = none_marked items h n address node e
+none_marked (_ ∷ items) h (suc n) address node e = none_marked items h n address node e
 
 pub record IsHead (graph : Graph) (address : Addr) (node n : ℕ) (items : List Item) : Type 0 where
   pub rest : List Item
@@ -124,13 +118,7 @@ marked_first graph (it.Mark a m ∷ items) h zero address node e =
           (subst (λ z. IsMark graph a z items) also h.0);
     }
 marked_first graph (it.Mark a m ∷ items) h (suc n) address node e = absurd (none_marked items h.1 n address node e)
-marked_first graph (it.Word w ∷ items) h n address node e = absurd (none_marked (it.Word w ∷ items) h n address node e)
-marked_first graph (it.Jump to ∷ items) h n address node e =
-    absurd (none_marked (it.Jump to ∷ items) h n address node e)
-marked_first graph (it.Branch c to ∷ items) h n address node e =
-    absurd (none_marked (it.Branch c to ∷ items) h n address node e)
-marked_first graph (it.EndMark ∷ items) h n address node e =
-    absurd (none_marked (it.EndMark ∷ items) h n address node e)
+marked_first graph (x ∷ items) h n address node e = absurd (none_marked (x ∷ items) h n address node e)
 
 -- an item that takes words ends behind where it begins
 covers : (base : ℕ) (p : Placement) (x : Item) (a b : ℕ) → TakesWords x → Stands base p x a b → a < b

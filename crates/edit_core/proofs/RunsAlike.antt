@@ -9,9 +9,9 @@ use Rattle.std.proofs.Math.Seq.{ext_get_or}
 use Rattle.std.proofs.lemmas.List.{get_or-replicate, length-replicate}
 use Rattle.std.proofs.lemmas.List.FromFn.{get_or-map-range_with_len, length-map-range_with_len}
 use Rattle.std.proofs.lemmas.Simd.{map-map}
-use Rattle.elf32_sparc.specs.Notes.{NoteRange, NoteSegment, holds, range_at}
+use Rattle.elf32_sparc.specs.Notes.{NoteRange, NoteSegment, Notes, holds, range_at}
 use Rattle.elf32_sparc.specs.Image.{image_of}
-use Rattle.eel_base.specs.CodeText.{IsText, word_at}
+use Rattle.eel_base.specs.CodeText.{IsText, Words, word_at}
 use Rattle.eel_base.specs.declared.numbers.Addr.{Addr}
 use Rattle.v8_decode.specs.declared.Part.{Part}
 use Rattle.v8_decode.specs.Parts.{every_part, has, is_member, members, set_of}
@@ -31,9 +31,9 @@ use Rattle.cfg_blocks.specs.declared.EdgeKind.TheVariants as kinds
 use Rattle.cfg_normal.specs.declared.Edge.{Edge}
 use Rattle.cfg_normal.specs.declared.Node.{Node}
 use Rattle.cfg_normal.specs.declared.Node.TheVariants.{Block}
-use Rattle.cfg_normal.specs.Graph.{node_of}
+use Rattle.cfg_normal.specs.Graph.{Graph, node_of}
 use Rattle.cfg_walk.specs.Matches.{AreOpen, BeginsAt, FetchesOnly, JumpsGoByCase}
-use Rattle.cfg_walk.specs.Walk.{end_of_walk, point_of, same_kind}
+use Rattle.cfg_walk.specs.Walk.{Point, end_of_walk, point_of, same_kind}
 use Rattle.liveness.specs.Live.{edge_at, is_call_or_jump, is_outside, is_unknown, named_on}
 use Rattle.walk_counts.proofs.Fetching.{only_text_is_fetched}
 use Rattle.walk_counts.proofs.Files.{begins, by_case, entry_is, opened}
@@ -71,7 +71,7 @@ use Rattle.edit_core.proofs.Graphs.{copied_inside, graph_cut, graph_is}
 use Rattle.edit_core.proofs.Landings.{map_below}
 use Rattle.edit_core.proofs.Off.{off_here, off_is, ranges_beside}
 use Rattle.edit_core.proofs.Fronts.{any_past, past_fails}
-use Rattle.edit_core.proofs.Originals.{image_room, image_text}
+use Rattle.edit_core.proofs.Originals.{image_text}
 use Rattle.edit_core.proofs.Snippets.{cells_in_range, code_short, good_on, snippet_does}
 use Rattle.elf32_sparc.proofs.Images.{accepted-program}
 use Rattle.edit_core.proofs.Owned.{cell_is_own, cell_zero, frame, has_cases, has_table, is_framed, owned}
@@ -99,14 +99,6 @@ all_live_none set is none = same_sets set [] is no_set (λ part member. no_part 
 
 abbrev setting : List ℕ → Plan → (ℕ → List Part) → Placement → Setting
 setting original plan dead p = edit_of original plan dead (notes_on original plan p)
-
-abbrev pieces : List ℕ → Plan → (ℕ → List Part) → TableAt → Pieces
-pieces original plan dead table =
-    pieces_in (text_of original plan) (graph_in original plan) table.base (cases_at (text_of original plan) table.base)
-    (codes_of (cells_base original plan) dead plan.snips)
-
-abbrev its_frame : List ℕ → Plan → TableAt → Frame
-its_frame original plan table = frame (text_of original plan) (cells_base original plan) plan.cells table
 
 -- ranges lie in the code's page
 none_below : (from to a : ℕ) (rs : List NoteRange) → Ascend from to rs → a < from → range_in rs a ≡ None
@@ -144,396 +136,378 @@ none_beside base p a ascend (inl below) = none_below base (base + 4 * length p.c
 none_beside base p a ascend (inr past) = none_past base (base + 4 * length p.code) a p.ranges ascend past
 
 -- what the notes say of the code, behind the table
-module _ (original : List ℕ) (plan : Plan) (dead : ℕ → List Part) (p : Placement) where
-  abbrev size : ℕ
-  size = segment_size (text_of original plan) (graph_in original plan)
+module _ (original : List ℕ) (plan : Plan) (p : Placement) where
+  abbrev text : Words
+  text = text_of original plan
 
-  abbrev code_end : ℕ
-  code_end = code_base original plan + 4 * length p.code
+  abbrev graph : Graph
+  graph = graph_in original plan
 
-  abbrev cells_page : NoteSegment
-  cells_page = record { start = cells_base original plan; length = 4 * plan.cells }
+  abbrev cells_from : ℕ
+  cells_from = cells_base original plan
 
-  abbrev table_page : NoteSegment
-  table_page = record { start = table_base original plan; length = size }
+  abbrev tables_from : ℕ
+  tables_from = table_base original plan
 
-  abbrev code_page : NoteSegment
-  code_page = record { start = code_base original plan; length = 4 * length p.code }
+  abbrev code_from : ℕ
+  code_from = code_base original plan
 
-  abbrev own_page : NoteSegment
-  own_page = record { start = editor_page; length = page_size }
+  abbrev notes : Notes
+  notes = notes_on original plan p
 
-  in_code : (a : ℕ) → code_base original plan ≤ a → a < code_end → in_pages (notes_on original plan p) a ≡ true
-  in_code a from to =
-      any_past (holds a (a + 1)) plan.cells cells_page (table_page ∷ code_page ∷ own_page ∷ [])
-      (or_right (holds a (a + 1) table_page) (list_any (holds a (a + 1)) (code_page ∷ own_page ∷ []))
-      (or_left (holds a (a + 1) code_page) (list_any (holds a (a + 1)) (own_page ∷ []))
-      (and_from _ _ (le-leb (code_base original plan) a from) (le-leb (a + 1) code_end (omega (arith, to))))))
+  module _ (dead : ℕ → List Part) where
+    abbrev size : ℕ
+    size = segment_size text graph
 
-  outside : Ascend (code_base original plan) code_end p.ranges → (a : ℕ)
-      → in_pages (notes_on original plan p) a ≡ false
-      → range_at (notes_on original plan p) a ≡ None
-  outside ascend a out =
-      let behind = past_fails (holds a (a + 1)) plan.cells cells_page (table_page ∷ code_page ∷ own_page ∷ []) out in
-      let first = or_parts (holds a (a + 1) table_page) (list_any (holds a (a + 1)) (code_page ∷ own_page ∷ [])) behind in
-      let second = or_parts (holds a (a + 1) code_page) (list_any (holds a (a + 1)) (own_page ∷ [])) first.1 in
-      ranges_beside (text_of original plan) (graph_in original plan) (table_base original plan) p.ranges a
-      (off_table (beside_page table_page a first.0))
-      ∙ none_beside (code_base original plan) p a ascend (beside_page code_page a second.0)
-    where
-      off_table : (a < table_base original plan) ⊎ (table_base original plan + size ≤ a)
-          → (a < table_base original plan) ⊎ (table_base original plan + 4 ≤ a)
-      off_table (inl below) = inl below
-      off_table (inr past) = inr (omega (arith, past))
+    abbrev code_end : ℕ
+    code_end = code_from + 4 * length p.code
 
-  are_noted : Ascend (code_base original plan) code_end p.ranges
-      → AreNoted (setting original plan dead p) (code_base original plan) p
-  are_noted ascend = record {
-    inside = in_code;
-    ranges = λ a from to.
-        ranges_beside (text_of original plan) (graph_in original plan) (table_base original plan) p.ranges a
-        (inr (omega (arith, from)));
-    outside = outside ascend;
-    blocks = refl;
-  }
+    abbrev cells_page : NoteSegment
+    cells_page = record { start = cells_from; length = 4 * plan.cells }
 
-  -- the place of a slot behind the text
-  off_noted : IsText (text_of original plan) → IsOffNoted (setting original plan dead p) (table_base original plan)
-  off_noted text number edge at off =
-      let cut = graph_cut (text_of original plan) (graph_in original plan) text (graph_is original plan) in
-      ap (λ offs. range_in (offs ++ p.ranges) (table_base original plan))
-      (off_is (text_of original plan) (graph_in original plan) (table_base original plan) refl cut.firsts
-      (copied_inside (text_of original plan) (given_of original plan) (image_of original).entry text) number edge at
-      off)
-      ∙ off_here (text_of original plan) (graph_in original plan) (table_base original plan) edge p.ranges
+    abbrev table_page : NoteSegment
+    table_page = record { start = tables_from; length = size }
 
-  -- where the table leads
-  module _ (table : TableAt) (leads : LeadsTo (text_of original plan) (graph_in original plan) plan.snips p table) where
-    landings_at : (word : ℕ) → word < length (text_of original plan).words
-        → slice_index (map (λ (a : Addr). a.0) (landings_of (text_of original plan) (graph_in original plan) plan.snips p)) word
-        ≡ slice_index p.at (lands_at (text_of original plan) (graph_in original plan) plan.snips word)
-    landings_at word l =
-        ap (λ (ns : List ℕ). slice_index ns word)
-        (map-map (λ (a : Addr). a.0) (λ (k : ℕ). addr
-        (slice_index p.at (lands_at (text_of original plan) (graph_in original plan) plan.snips k)))
-        (below (length (text_of original plan).words)))
-        ∙ map_below (λ k. slice_index p.at (lands_at (text_of original plan) (graph_in original plan) plan.snips k))
-        (length (text_of original plan).words) word 0 l
+    abbrev code_page : NoteSegment
+    code_page = record { start = code_from; length = 4 * length p.code }
 
-    found_at : (a : ℕ) → a < 2 ^ 32 → a % 4 ≡ 0 → (o : Option ℕ) → word_at (text_of original plan) a ≡ o
-        → found_in (second_table (text_of original plan) table) a ≡ target_of (landings_of (text_of original plan) (graph_in original plan) plan.snips p)
-        (foreign_of (text_of original plan) (graph_in original plan) p) o
-    found_at a low aligned o e =
-        let same : a - a % 4 ≡ a = omega (arith, aligned) in
-        leads.second.finds a low aligned
-        ∙ ap (λ z. target_of (landings_of (text_of original plan) (graph_in original plan) plan.snips p)
-        (foreign_of (text_of original plan) (graph_in original plan) p) (word_at (text_of original plan) z)) same
-        ∙ ap (target_of (landings_of (text_of original plan) (graph_in original plan) plan.snips p)
-        (foreign_of (text_of original plan) (graph_in original plan) p)) e
+    abbrev own_page : NoteSegment
+    own_page = record { start = editor_page; length = page_size }
 
-    table_for : IsTableFor (text_of original plan) (graph_in original plan) plan.snips p
-        (first_table (text_of original plan) table) (second_table (text_of original plan) table)
-    table_for = record {
-      whole = leads.first.whole;
-      behind = refl;
-      words = λ a word low aligned e. found_at a low aligned (Some word) e
-          ∙ landings_at word (word_at-some (text_of original plan) a word e).within;
-      others = λ a low aligned e. found_at a low aligned None e;
+    in_code : (a : ℕ) → code_from ≤ a → a < code_end → in_pages notes a ≡ true
+    in_code a from to =
+        any_past (holds a (a + 1)) plan.cells cells_page (table_page ∷ code_page ∷ own_page ∷ [])
+        (or_right (holds a (a + 1) table_page) (list_any (holds a (a + 1)) (code_page ∷ own_page ∷ []))
+        (or_left (holds a (a + 1) code_page) (list_any (holds a (a + 1)) (own_page ∷ []))
+        (and_from _ _ (le-leb code_from a from) (le-leb (a + 1) code_end (omega (arith, to))))))
+
+    outside : Ascend code_from code_end p.ranges → (a : ℕ) → in_pages notes a ≡ false → range_at notes a ≡ None
+    outside ascend a out =
+        let behind = past_fails (holds a (a + 1)) plan.cells cells_page (table_page ∷ code_page ∷ own_page ∷ []) out in
+        let first = or_parts (holds a (a + 1) table_page) (list_any (holds a (a + 1)) (code_page ∷ own_page ∷ [])) behind in
+        let second = or_parts (holds a (a + 1) code_page) (list_any (holds a (a + 1)) (own_page ∷ [])) first.1 in
+        ranges_beside text graph tables_from p.ranges a (off_table (beside_page table_page a first.0))
+        ∙ none_beside code_from p a ascend (beside_page code_page a second.0)
+      where
+        off_table : (a < tables_from) ⊎ (tables_from + size ≤ a) → (a < tables_from) ⊎ (tables_from + 4 ≤ a)
+        off_table (inl below) = inl below
+        off_table (inr past) = inr (omega (arith, past))
+
+    are_noted : Ascend code_from code_end p.ranges → AreNoted (setting original plan dead p) code_from p
+    are_noted ascend = record {
+      inside = in_code;
+      ranges = λ a from to. ranges_beside text graph tables_from p.ranges a (inr (omega (arith, from)));
+      outside = outside ascend;
+      blocks = refl;
     }
 
-module _ (original : List ℕ) (plan : Plan) (p : Placement) (place : ℕ → ℕ → ℕ) (table : TableAt) (file : List ℕ)
-    (is : IsEdit original plan p place table file) where
-  room_low : cells_base original plan + (image_of original).room ≤ 2 ^ 31
-  room_low =
-      let room = image_room original in
-      let below = (accepted-program original is.taken.sound).below in
-      omega arith
+    -- the place of a slot behind the text
+    off_noted : IsText text → IsOffNoted (setting original plan dead p) tables_from
+    off_noted is_text number edge at off =
+        let cut = graph_cut text graph is_text (graph_is original plan) in
+        ap (λ offs. range_in (offs ++ p.ranges) tables_from) (off_is text graph tables_from refl cut.firsts
+        (copied_inside text (given_of original plan) (image_of original).entry is_text) number edge at off)
+        ∙ off_here text graph tables_from edge p.ranges
 
-  base_aligned : cells_base original plan % 4096 ≡ 0
-  base_aligned = let base = (accepted-program original is.taken.sound).base in omega arith
+    -- where the table leads
+    module _ (table : TableAt) (leads : LeadsTo text graph plan.snips p table) where
+      landings_at : (word : ℕ) → word < length text.words
+          → slice_index (map (λ (a : Addr). a.0) (landings_of text graph plan.snips p)) word
+          ≡ slice_index p.at (lands_at text graph plan.snips word)
+      landings_at word l =
+          ap (λ (ns : List ℕ). slice_index ns word) (map-map (λ (a : Addr). a.0) (λ (k : ℕ). addr
+          (slice_index p.at (lands_at text graph plan.snips k))) (below (length text.words)))
+          ∙ map_below (λ k. slice_index p.at (lands_at text graph plan.snips k)) (length text.words) word 0 l
 
-  cells_end_low : cell_at (cells_base original plan) plan.cells ≤ 2 ^ 31
-  cells_end_low =
-      let base = is.code.base in
-      let low = is.code.leads.first.whole.below in
-      omega (arith, base, low)
+      found_at : (a : ℕ) → a < 2 ^ 32 → a % 4 ≡ 0 → (o : Option ℕ) → word_at text a ≡ o
+          → found_in (second_table text table) a ≡ target_of (landings_of text graph plan.snips p)
+          (foreign_of text graph p) o
+      found_at a low aligned o e =
+          let same : a - a % 4 ≡ a = omega (arith, aligned) in
+          leads.second.finds a low aligned ∙ ap (λ z. target_of (landings_of text graph plan.snips p)
+          (foreign_of text graph p) (word_at text z)) same ∙ ap (target_of (landings_of text graph plan.snips p)
+          (foreign_of text graph p)) e
 
-  abbrev dead : ℕ → List Part
-  dead = is.code.dead
+      table_for : IsTableFor text graph plan.snips p (first_table text table) (second_table text table)
+      table_for = record {
+        whole = leads.first.whole;
+        behind = refl;
+        words = λ a word low aligned e. found_at a low aligned (Some word) e
+            ∙ landings_at word (word_at-some text a word e).within;
+        others = λ a low aligned e. found_at a low aligned None e;
+      }
 
-  abbrev its : Setting
-  its = setting original plan dead p
+  module _ (place : ℕ → ℕ → ℕ) (table : TableAt) (file : List ℕ) (is : IsEdit original plan p place table file) where
+    base_aligned : cells_from % 4096 ≡ 0
+    base_aligned = let base = (accepted-program original is.taken.sound).base in omega arith
 
-  -- nothing is dead behind the edge of a jump
-  none_dead : (edge : ℕ) → is_out (slice_get (graph_in original plan).edges edge) ≡ true → dead edge ≡ []
-  none_dead edge out = by (slice_get (graph_in original plan).edges edge) refl out
-    where
-      out_unknown : (e : Edge) → same_kind e.kind kinds.Out ≡ true → is_unknown e ≡ true
-      out_unknown e out = or_left (is_call_or_jump e.kind) (is_outside e.to) (jump_kind e.kind out)
+    cells_end_low : cell_at cells_from plan.cells ≤ 2 ^ 31
+    cells_end_low =
+        let base = is.code.base in
+        let low = is.code.leads.first.whole.below in
+        omega (arith, base, low)
 
-      by : (o : Option Edge) → slice_get (graph_in original plan).edges edge ≡ o → is_out o ≡ true → dead edge ≡ []
-      by None at out = absurd (cc)
-      by (Some e) at out =
-          let within = slice_get_within (graph_in original plan).edges edge e at in
-          let same : edge_at (graph_in original plan) edge ≡ e =
-          get_or_from_slice_get (graph_in original plan).edges edge e _ at in
-          let unknown : is_unknown (edge_at (graph_in original plan) edge) ≡ true =
-          ap (λ (x : Edge). is_unknown x) same ∙ out_unknown e out in
-          all_live_none (dead edge) (is.code.exact.sets edge within) (λ part member.
-          (λ gone. (is.code.exact.all edge within part member).0 gone
-          (unknown_lives (text_of original plan) (graph_in original plan) (named_on plan.snips) edge unknown part member)))
+    abbrev dead : ℕ → List Part
+    dead = is.code.dead
 
-  cells_are : HasCells its (pieces original plan dead table) (its_frame original plan table)
-  cells_are = record {
-    aligned = omega (arith, base_aligned);
-    low = cells_end_low;
-    own = λ cell l. cell_is_own (cells_base original plan) plan.cells cell l;
-    named = λ edge cell is_one.
-        cells_in_range plan.cells (snippet_on plan.snips edge) (good_on plan.cells plan.snips is.workable.good edge) cell
-        is_one;
-    does = snippet_does (cells_base original plan) plan.cells (omega (arith, base_aligned)) cells_end_low dead plan.snips
-        is.workable.good;
-    jumps = none_dead;
-    short = code_short (cells_base original plan) dead plan.snips;
-  }
+    abbrev its : Setting
+    its = setting original plan dead p
 
-  placed : IsPlaced its (pieces original plan dead table) (code_base original plan) p place
-      (its_frame original plan table)
-  placed = record {
-    laid = subst (λ (a : ℕ). IsLaid (piece_list (text_of original plan) (graph_in original plan) a
-        (cases_at (text_of original plan) a) (codes_of (cells_base original plan) dead plan.snips)) (code_base
-        original plan) p place)
-        (sym is.code.base) is.code.laid;
-    noted = are_noted original plan dead p is.code.laid.ascend;
-    frame = is_framed original plan p table its refl is.code.base is.code.leads;
-    cells = cells_are;
-  }
+    abbrev parts : Pieces
+    parts = pieces_in text graph table.base (cases_at text table.base) (codes_of cells_from dead plan.snips)
 
-  abbrev entry : ℕ
-  entry = (image_of original).entry
+    abbrev surroundings : Frame
+    surroundings = frame text cells_from plan.cells table
 
-  text_is : IsText (text_of original plan)
-  text_is = image_text original is.taken.sound
+    abbrev IsHere : Node → Point → State → Type 0
+    IsHere = Here its parts code_from p surroundings
 
-  off_noted_here : IsOffNoted its table.base
-  off_noted_here = subst (IsOffNoted its) (sym is.code.base) (off_noted original plan dead p text_is)
+    -- nothing is dead behind the edge of a jump
+    none_dead : (edge : ℕ) → is_out (slice_get graph.edges edge) ≡ true → dead edge ≡ []
+    none_dead edge out = by (slice_get graph.edges edge) refl out
+      where
+        out_unknown : (e : Edge) → same_kind e.kind kinds.Out ≡ true → is_unknown e ≡ true
+        out_unknown e out = or_left (is_call_or_jump e.kind) (is_outside e.to) (jump_kind e.kind out)
 
-  -- where no form is long
-  abbrev Short : Type 0
-  Short = HasShortForms (pieces original plan dead table).list place
+        by : (o : Option Edge) → slice_get graph.edges edge ≡ o → is_out o ≡ true → dead edge ≡ []
+        by None at out = absurd (cc)
+        by (Some e) at out =
+            let within = slice_get_within graph.edges edge e at in
+            let same : edge_at graph edge ≡ e = get_or_from_slice_get graph.edges edge e _ at in
+            let unknown : is_unknown (edge_at graph edge) ≡ true =
+            ap (λ (x : Edge). is_unknown x) same ∙ out_unknown e out in
+            all_live_none (dead edge) (is.code.exact.sets edge within) (λ part member.
+            (λ gone. (is.code.exact.all edge within part member).0 gone
+            (unknown_lives text graph (named_on plan.snips) edge unknown part member)))
 
-  -- as where little room is asked
-  small_short : PiecesFit → bound_in original plan ≤ short_bound → Short
-  small_short fits small =
-      let few : 4 * length p.code < short_bound = in_bound in
-      subst (λ (a : ℕ). HasShortForms (piece_list (text_of original plan) (graph_in original plan) a
-      (cases_at (text_of original plan) a) (codes_of (cells_base original plan) dead plan.snips)) place) (sym
-      is.code.base) (is.code.short few)
-    where
-      in_bound : 4 * length p.code < short_bound
-      in_bound =
-          let fit = original_fit fits original plan is.taken is.workable dead in
-          let bytes = fit.bytes in
-          let long = is.code.size in
-          let made = operations_few (graph_in original plan) plan.kind plan.cells plan.snips is.workable in
-          let bound = bound_is original plan in
-          omega arith
-
-  simulates : PiecesMakeImages
-      → Simulates its (IsOpen its)
-      (Here its (pieces original plan dead table) (code_base original plan) p (its_frame original plan table)) Short
-  simulates make =
-      let base = is.code.base in
-      make its (codes_of (cells_base original plan) dead plan.snips) (code_base original plan) p place
-      (its_frame original plan table) text_is (graph_is original plan) refl placed
-      (table_for original plan dead p table is.code.leads)
-      (cases_for (text_of original plan) (graph_in original plan) p
-      (landings_of (text_of original plan) (graph_in original plan) plan.snips p)
-      (foreign_of (text_of original plan) (graph_in original plan) p) table is.code.leads
-      (omega (arith, base, base_aligned)) (λ k. (is.code.laid.aligned k).1))
-      (omega (arith, base)) off_noted_here
-
-  module _ (make : PiecesMakeImages) (fits : PiecesFit) (args : List (List ℕ)) (input : List ℕ) (given : AreArguments args)
-      (read : AreBytes input) where
-    abbrev s0 : State
-    s0 = start_of original args input
-
-    abbrev t0 : State
-    t0 = start_of file args input
-
-    fetches : FetchesOnly (text_of original plan) s0
-    unfolding image_of
-    fetches = only_text_is_fetched original args input is.taken.sound is.given
-
-    begins_at : BeginsAt (text_of original plan) entry s0
-    unfolding image_of
-    begins_at = begins original args input (entry_is original is.taken.sound)
-
-    entry_here : word_at (text_of original plan) s0.pc ≡ Some entry
-    entry_here = ap (word_at (text_of original plan)) begins_at.pc ∙ word_here original plan entry begins_at.within
-
-    -- a routine starts at the entry
-    entry_among : is_among (given_of original plan) entry ≡ true
-    entry_among = entry_given (image_of original) plan.marks begins_at.within
-
-    abbrev entry_at : Node
-    entry_at = node_of (graph_in original plan).blocks (Some entry)
-
-    here : Here its (pieces original plan dead table) (code_base original plan) p (its_frame original plan table)
-        entry_at
-        (point_of s0) t0
-    unfolding start_of
-    here = record {
-      valid = file_valid original plan p place table file is args input given read;
-      live = refl;
-      at = is.entered
-          ∙ ap (slice_index p.at)
-          (entry_enters (text_of original plan) (given_of original plan) entry text_is entry_among begins_at.within)
-          ∙ ap (λ found. visited_by its (pieces original plan dead table) p (its_frame original plan table) entry_at
-          (point_of s0) found NoSlot)
-          (sym entry_here);
-      npc = refl;
-      slot = refl;
-      memory = record {
-        code = has_code original plan p place table file is (program_name ∷ args);
-        only = only_code original plan p place table file is (program_name ∷ args);
-        ours = owned original plan p place table file is (program_name ∷ args);
-        table = has_table original plan p place table file is (program_name ∷ args);
-        cases = has_cases original plan p place table file is (program_name ∷ args);
-      };
-      waits = λ taken way. absurd (cc);
+    cells_are : HasCells its parts surroundings
+    cells_are = record {
+      aligned = omega (arith, base_aligned);
+      low = cells_end_low;
+      own = λ cell l. cell_is_own cells_from plan.cells cell l;
+      named = λ edge cell is_one.
+          cells_in_range plan.cells (snippet_on plan.snips edge) (good_on plan.cells plan.snips is.workable.good edge) cell
+          is_one;
+      does = snippet_does cells_from plan.cells (omega (arith, base_aligned)) cells_end_low dead plan.snips
+          is.workable.good;
+      jumps = none_dead;
+      short = code_short cells_from dead plan.snips;
     }
 
-    same_items : (item : Item) → IsSameAt item s0 t0
-    unfolding start_of
-    same_items (Register n) = refl
-    same_items Codes = refl
-    same_items YRegister = refl
+    placed : IsPlaced its parts code_from p place surroundings
+    placed = record {
+      laid = subst (λ (a : ℕ). IsLaid (piece_list text graph a
+          (cases_at text a) (codes_of cells_from dead plan.snips)) (code_base original plan) p place)
+          (sym is.code.base) is.code.laid;
+      noted = are_noted dead is.code.laid.ascend;
+      frame = is_framed original plan p table its refl is.code.base is.code.leads;
+      cells = cells_are;
+    }
 
-    -- the cells begin as zeros
-    cells_begin : words_at (cells_base original plan) plan.cells t0.memory ≡ replicate plan.cells 0
-    unfolding start_of
-    cells_begin =
-        let words = words_at (cells_base original plan) plan.cells t0.memory in
-        let zeros : length {A = ℕ} (replicate plan.cells 0) ≡ plan.cells = length-replicate plan.cells 0 in
-        let size : length words ≡ plan.cells =
-        length-map-range_with_len (λ k. memory_word t0.memory (cell_at (cells_base original plan) k)) 0 plan.cells in
-        ext_get_or 0 words (replicate plan.cells 0) (size ∙ sym zeros) (λ i low.
-        let within : i < plan.cells = omega (arith, low, size) in
-        get_or-map-range_with_len (λ k. memory_word t0.memory (cell_at (cells_base original plan) k)) 0 plan.cells i i 0
-        within (let e : 0 + i ≡ i = omega arith in e)
-        ∙ cell_zero original plan p place table file is (program_name ∷ args) i within
-        ∙ sym (get_or-replicate plan.cells i 0 0 within))
+    abbrev entry : ℕ
+    entry = (image_of original).entry
 
-    -- no open switch has its load there
-    entry_unloaded : (k : ℕ) (o : CaseTable) → slice_get its.opens k ≡ Some o → (start more : ℕ) → 0 ≡ more + start
-        → o.load + more ≤ o.jump → CameFrom its entry s0 o start more → ⊥
-    unfolding end_of_walk
-    entry_unloaded k o some start more e low came =
-        let t = table_of its refl k o some in
-        let none : 0 + start ≡ 0 = omega (arith, e) in
-        let first : IsAtWord its o (end_of_walk (text_of original plan) (graph_in original plan) entry s0 0) (point_of
-        s0)
-        (o.load + 0) =
-        subst (λ (n : ℕ). IsAtWord its o (end_of_walk (text_of original plan) (graph_in original plan) entry s0 n)
-        (point_of (run s0 n)) (o.load + 0)) none (came 0 (omega arith)) in
-        entry_outside (text_of original plan) (given_of original plan) entry text_is entry_among begins_at.within k
-        t.o t.is
-        (first.itself ∙ ap (λ (c : CaseTable). Block (record { 0 = c.block })) (sym t.same))
+    text_is : IsText text
+    text_is = image_text original is.taken.sound
 
-    linked : Linked its entry
-        (Here its (pieces original plan dead table) (code_base original plan) p (its_frame original plan table))
-        (KeptIn its entry s0) s0 t0 0 0
-    unfolding start_of end_of_walk
-    linked = record {
-      live = refl;
-      here = here;
-      items = λ item is_item kept. same_items item;
-      kept = λ k o some start more e low came. absurd (entry_unloaded k o some start more e low came);
-      together = record {
-        world = record {
-          window = refl;
-          valid = refl;
-          input = refl;
-          memory = memory_alike original plan p place table file is (program_name ∷ args);
-          registers = refl;
+    off_noted_here : IsOffNoted its table.base
+    off_noted_here = subst (IsOffNoted its) (sym is.code.base) (off_noted dead text_is)
+
+    -- where no form is long
+    abbrev Short : Type 0
+    Short = HasShortForms parts.list place
+
+    -- as where little room is asked
+    small_short : PiecesFit → bound_in original plan ≤ short_bound → Short
+    small_short fits small =
+        let few : 4 * length p.code < short_bound = in_bound in
+        subst (λ (a : ℕ). HasShortForms (piece_list text graph a
+        (cases_at text a) (codes_of cells_from dead plan.snips)) place) (sym is.code.base) (is.code.short few)
+      where
+        in_bound : 4 * length p.code < short_bound
+        in_bound =
+            let fit = original_fit fits original plan is.taken is.workable dead in
+            let bytes = fit.bytes in
+            let long = is.code.size in
+            let made = operations_few graph plan.kind plan.cells plan.snips is.workable in
+            let bound = bound_is original plan in
+            omega arith
+
+    simulates : PiecesMakeImages → Simulates its (IsOpen its) IsHere Short
+    simulates make =
+        let base = is.code.base in
+        make its (codes_of cells_from dead plan.snips) code_from p place
+        surroundings text_is (graph_is original plan) refl placed (table_for dead table is.code.leads)
+        (cases_for text graph p (landings_of text graph plan.snips p) (foreign_of text graph p) table is.code.leads
+        (omega (arith, base, base_aligned)) (λ k. (is.code.laid.aligned k).1)) (omega (arith, base)) off_noted_here
+
+    module _ (make : PiecesMakeImages) (fits : PiecesFit) (args : List (List ℕ)) (input : List ℕ) (given : AreArguments args)
+        (read : AreBytes input) where
+      abbrev s0 : State
+      s0 = start_of original args input
+
+      abbrev t0 : State
+      t0 = start_of file args input
+
+      fetches : FetchesOnly text s0
+      unfolding image_of
+      fetches = only_text_is_fetched original args input is.taken.sound is.given
+
+      begins_at : BeginsAt text entry s0
+      unfolding image_of
+      begins_at = begins original args input (entry_is original is.taken.sound)
+
+      entry_here : word_at text s0.pc ≡ Some entry
+      entry_here = ap (word_at text) begins_at.pc ∙ word_here original plan entry begins_at.within
+
+      -- a routine starts at the entry
+      entry_among : is_among (given_of original plan) entry ≡ true
+      entry_among = entry_given (image_of original) plan.marks begins_at.within
+
+      abbrev entry_at : Node
+      entry_at = node_of graph.blocks (Some entry)
+
+      here : IsHere entry_at (point_of s0) t0
+      unfolding start_of
+      here = record {
+        valid = file_valid original plan p place table file is args input given read;
+        live = refl;
+        at = is.entered ∙ ap (slice_index p.at)
+            (entry_enters text (given_of original plan) entry text_is entry_among begins_at.within)
+            ∙ ap (λ found. visited_by its parts p surroundings entry_at (point_of s0) found NoSlot) (sym entry_here);
+        npc = refl;
+        slot = refl;
+        memory = record {
+          code = has_code original plan p place table file is (program_name ∷ args);
+          only = only_code original plan p place table file is (program_name ∷ args);
+          ours = owned original plan p place table file is (program_name ∷ args);
+          table = has_table original plan p place table file is (program_name ∷ args);
+          cases = has_cases original plan p place table file is (program_name ∷ args);
         };
-        puts = λ descriptor. refl;
-        cells = cells_begin;
-      };
-    }
+        waits = λ taken way. absurd (cc);
+      }
 
-    are_opened : AreOpen (blocks_of (text_of original plan) (given_of original plan)) its.switches
-    unfolding image_of
-    are_opened =
-        opened original args input (given_of original plan) is.taken.sound is.given
-        (original_valid original plan p place table file is args input given read) entry_among
+      same_items : (item : Item) → IsSameAt item s0 t0
+      unfolding start_of
+      same_items (Register n) = refl
+      same_items Codes = refl
+      same_items YRegister = refl
 
-    by_cases : JumpsGoByCase (text_of original plan) (graph_in original plan) entry s0
-    unfolding image_of
-    by_cases =
-        by_case original args input (given_of original plan) is.taken.sound is.given
-        (original_valid original plan p place table file is args input given read) entry_among
+      -- the cells begin as zeros
+      cells_begin : words_at cells_from plan.cells t0.memory ≡ replicate plan.cells 0
+      unfolding start_of
+      cells_begin =
+          let words = words_at cells_from plan.cells t0.memory in
+          let zeros : length {A = ℕ} (replicate plan.cells 0) ≡ plan.cells = length-replicate plan.cells 0 in
+          let size : length words ≡ plan.cells =
+          length-map-range_with_len (λ k. memory_word t0.memory (cell_at cells_from k)) 0 plan.cells in
+          ext_get_or 0 words (replicate plan.cells 0) (size ∙ sym zeros) (λ i low.
+          let within : i < plan.cells = omega (arith, low, size) in
+          get_or-map-range_with_len (λ k. memory_word t0.memory (cell_at cells_from k)) 0 plan.cells i i 0
+          within (let e : 0 + i ≡ i = omega arith in e)
+          ∙ cell_zero original plan p place table file is (program_name ∷ args) i within
+          ∙ sym (get_or-replicate plan.cells i 0 0 within))
 
-    holds_text : HoldsText (text_of original plan) s0.memory
-    unfolding image_of
-    holds_text = text_is_held original args input is.taken.sound is.given
+      -- no open switch has its load there
+      entry_unloaded : (k : ℕ) (o : CaseTable) → slice_get its.opens k ≡ Some o → (start more : ℕ) → 0 ≡ more + start
+          → o.load + more ≤ o.jump → CameFrom its entry s0 o start more → ⊥
+      unfolding end_of_walk
+      entry_unloaded k o some start more e low came =
+          let t = table_of its refl k o some in
+          let none : 0 + start ≡ 0 = omega (arith, e) in
+          let first : IsAtWord its o (end_of_walk text graph entry s0 0) (point_of s0) (o.load + 0) =
+          subst (λ (n : ℕ). IsAtWord its o (end_of_walk text graph entry s0 n)
+          (point_of (run s0 n)) (o.load + 0)) none (came 0 (omega arith)) in
+          entry_outside text (given_of original plan) entry text_is entry_among begins_at.within k t.o t.is
+          (first.itself ∙ ap (λ (c : CaseTable). Block (record { 0 = c.block })) (sym t.same))
 
-    rests : Rests its entry (IsOpen its)
-        (Here its (pieces original plan dead table) (code_base original plan) p (its_frame original plan table)) Short
-        (KeptIn its entry s0) s0 t0
-    rests = record {
-      text = text_is;
-      first_valid = original_valid original plan p place table file is args input given read;
-      second_valid = file_valid original plan p place table file is args input given read;
-      fetches = fetches;
-      begins = begins_at;
-      simulates = simulates make;
-      keeping = keeps_what_lives its entry s0 text_is fetches begins_at are_opened by_cases is.code.exact
-          (λ k d l. (is.workable.good k d l).are_ops);
-      opened = are_opened;
-      by_case = by_cases;
-      opens = are_tables its refl text_is (cased its text_is (graph_is original plan));
-      by_table = by_table its entry s0 refl refl text_is
-          (original_valid original plan p place table file is args input given read) fetches holds_text begins_at
-          entry_among;
-      begin = 0;
-      soon = omega arith;
-      first = linked;
-      early = λ j below. absurd (omega (arith, below));
-    }
-
-    answers : (n : ℕ) → IsUntouched (pages_of (notes_on original plan p)) s0 n → Answered its entry Short s0 t0 n
-    answers n untouched =
-        edits_answer its (pieces original plan dead table) (code_base original plan) p place
-        (its_frame original plan table) entry s0 t0 n rests untouched
-
-    answered : (n : ℕ) → IsUntouched (pages_of (notes_on original plan p)) s0 n
-        → IsAnswered its entry s0 t0 n
-    answered n untouched =
-        let all = answers n untouched in
-        record {
-          moment = all.moments n;
-          first = all.answers n (omega arith);
-          cells = all.cells n (omega arith);
-          node = all.over n (omega arith);
-        }
-
-    runs_alike : AreRunsAlike its (bound_in original plan) entry s0 t0
-    runs_alike = record {
-      answered = answered;
-      soon = λ untouched m least. (answers 0 untouched).soon m least;
-      bounded = λ n untouched. (answers (suc n) untouched).bounded n (omega arith);
-      spared = λ n untouched watched m k first next.
-          let sparing = (answers (suc n) untouched).spared n (omega arith) m k first next watched in
-          record {
-            spills = sparing.spills;
-            first = λ small. sparing.first (small.0, small_short fits small.1, small.2);
-            alone = λ small. sparing.alone (small.0, small_short fits small.1, small.2);
-            few = λ small. sparing.few (small.0, small_short fits small.1, small.2);
+      linked : Linked its entry IsHere (KeptIn its entry s0) s0 t0 0 0
+      unfolding start_of end_of_walk
+      linked = record {
+        live = refl;
+        here = here;
+        items = λ item is_item kept. same_items item;
+        kept = λ k o some start more e low came. absurd (entry_unloaded k o some start more e low came);
+        together = record {
+          world = record {
+            window = refl;
+            valid = refl;
+            input = refl;
+            memory = memory_alike original plan p place table file is (program_name ∷ args);
+            registers = refl;
           };
-      stops = λ m untouched. (answers (visits_by (notes_on original plan p) t0 m) untouched).stops m refl;
-    }
+          puts = λ descriptor. refl;
+          cells = cells_begin;
+        };
+      }
+
+      are_opened : AreOpen (blocks_of text (given_of original plan)) its.switches
+      unfolding image_of
+      are_opened =
+          opened original args input (given_of original plan) is.taken.sound is.given
+          (original_valid original plan p place table file is args input given read) entry_among
+
+      by_cases : JumpsGoByCase text graph entry s0
+      unfolding image_of
+      by_cases =
+          by_case original args input (given_of original plan) is.taken.sound is.given
+          (original_valid original plan p place table file is args input given read) entry_among
+
+      holds_text : HoldsText text s0.memory
+      unfolding image_of
+      holds_text = text_is_held original args input is.taken.sound is.given
+
+      rests : Rests its entry (IsOpen its) IsHere Short (KeptIn its entry s0) s0 t0
+      rests = record {
+        text = text_is;
+        first_valid = original_valid original plan p place table file is args input given read;
+        second_valid = file_valid original plan p place table file is args input given read;
+        fetches = fetches;
+        begins = begins_at;
+        simulates = simulates make;
+        keeping = keeps_what_lives its entry s0 text_is fetches begins_at are_opened by_cases is.code.exact
+            (λ k d l. (is.workable.good k d l).are_ops);
+        opened = are_opened;
+        by_case = by_cases;
+        opens = are_tables its refl text_is (cased its text_is (graph_is original plan));
+        by_table = by_table its entry s0 refl refl text_is
+            (original_valid original plan p place table file is args input given read) fetches holds_text begins_at
+            entry_among;
+        begin = 0;
+        soon = omega arith;
+        first = linked;
+        early = λ j below. absurd (omega (arith, below));
+      }
+
+      answers : (n : ℕ) → IsUntouched (pages_of notes) s0 n → Answered its entry Short s0 t0 n
+      answers n untouched =
+          edits_answer its parts code_from p place surroundings entry s0 t0 n rests untouched
+
+      answered : (n : ℕ) → IsUntouched (pages_of notes) s0 n → IsAnswered its entry s0 t0 n
+      answered n untouched =
+          let all = answers n untouched in
+          record {
+            moment = all.moments n;
+            first = all.answers n (omega arith);
+            cells = all.cells n (omega arith);
+            node = all.over n (omega arith);
+          }
+
+      runs_alike : AreRunsAlike its (bound_in original plan) entry s0 t0
+      runs_alike = record {
+        answered = answered;
+        soon = λ untouched m least. (answers 0 untouched).soon m least;
+        bounded = λ n untouched. (answers (suc n) untouched).bounded n (omega arith);
+        spared = λ n untouched watched m k first next.
+            let sparing = (answers (suc n) untouched).spared n (omega arith) m k first next watched in
+            record {
+              spills = sparing.spills;
+              first = λ small. sparing.first (small.0, small_short fits small.1, small.2);
+              alone = λ small. sparing.alone (small.0, small_short fits small.1, small.2);
+              few = λ small. sparing.few (small.0, small_short fits small.1, small.2);
+            };
+        stops = λ m untouched. (answers (visits_by notes t0 m) untouched).stops m refl;
+      }
 
 pub edits_run_alike : PiecesMakeImages → PiecesFit → EditsRunAlike
 edits_run_alike make fits original plan p place table file is args input given read =

@@ -86,10 +86,7 @@ words_only (word ∷ words) = words_only words
 unmarked : (graph : Graph) (items : List Item) → NoMarks items → MarksFirst graph items
 unmarked graph [] none = tt
 unmarked graph (it.Mark address node ∷ items) none = absurd none
-unmarked graph (it.Word word ∷ items) none = none
-unmarked graph (it.Jump to ∷ items) none = none
-unmarked graph (it.Branch cond to ∷ items) none = none
-unmarked graph (it.EndMark ∷ items) none = none
+unmarked graph (_ ∷ items) none = none
 
 ends_inside : (items : List Item) (n : ℕ) → end_from items n ≤ n + length items
 ends_inside [] n = omega arith

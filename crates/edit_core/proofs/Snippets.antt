@@ -37,21 +37,13 @@ good_on cells snips good edge = elim (cases_lt edge (length snips)) [
 
 -- a ring has its bits
 has_bits : (cells : ℕ) (op : Op) → WorksIn cells op → HasBits op
-has_bits cells (Add cell amount) works = tt
-has_bits cells (Put cell value) works = tt
-has_bits cells (Keep cell reg) works = tt
-has_bits cells (Top cell reg) works = tt
-has_bits cells (Count cell) works = tt
 has_bits cells (Log cell bits value) works = (works.0, works.1)
+has_bits cells _ works = tt
 
 -- an operation's cells end at or below their number
 ends_within : (cells : ℕ) (op : Op) → WorksIn cells op → cells_end op ≤ cells
-ends_within cells (Add cell amount) works = works
-ends_within cells (Put cell value) works = works
-ends_within cells (Keep cell reg) works = works
-ends_within cells (Top cell reg) works = works
-ends_within cells (Count cell) works = works
 ends_within cells (Log cell bits value) works = works.2
+ends_within cells _ works = works
 
 -- and begin below it
 pub begins_within : (cells : ℕ) (op : Op) → WorksIn cells op → cell_of op < cells

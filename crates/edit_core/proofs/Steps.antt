@@ -1,5 +1,5 @@
 -- What the parts of an edit give it.
-use Rattle.std.proofs.Common.{◌≡◌, ℕ, ◌+◌, ◌-◌, ◌*◌, ◌%◌, ◌^◌, ◌<◌, ◌≤◌, min, List, [], ◌∷◌, ◌++◌, length, Err, refl, ap, sym, ◌∙◌, subst, arith, All}
+use Rattle.std.proofs.Common.{◌≡◌, ℕ, ◌+◌, ◌-◌, ◌*◌, ◌^◌, ◌<◌, ◌≤◌, min, List, [], ◌∷◌, ◌++◌, length, Err, refl, ap, sym, ◌∙◌, subst, arith, All}
 use Rattle.std.specs.Prelude.{slice_index}
 use Rattle.std.proofs.lemmas.List.{length-map}
 use Rattle.eel_base.specs.CodeText.{IsText, Words}
@@ -7,7 +7,6 @@ use Rattle.elf32_sparc.specs.Image.{Program, image_of}
 use Rattle.elf32_sparc.proofs.Images.{accepted-program}
 use Rattle.v8_decode.specs.declared.Part.{Part}
 use Rattle.cfg_normal.specs.Graph.{Graph}
-use Rattle.liveness.specs.Live.{named_on}
 use Rattle.elf32_write.specs.Headers.{AddedSegment}
 use Rattle.elf32_write.specs.Laws.{AreBytes}
 use Rattle.addr_translate.specs.Lookup.{TableAt}
@@ -15,20 +14,17 @@ use Rattle.layout.specs.declared.items.Placed.{Placed}
 use Rattle.layout.specs.declared.items.Item.{Item}
 use Rattle.layout.specs.declared.items.LayoutFault.{LayoutFault}
 use Rattle.layout.specs.declared.items.LayoutFault.TheVariants.{Room}
-use Rattle.layout.specs.Laid.{ArePieces, HasShortForms, IsLaid, Placement, long_bytes}
+use Rattle.layout.specs.Laid.{ArePieces, Placement, long_bytes}
 use Rattle.layout.specs.Compact.{RoomIs}
 use Rattle.layout.proofs.Needed.{long_is_enough}
 use Rattle.image_code.specs.Fit.{AreFit, PiecesFit}
-use Rattle.image_code.specs.Graphs.{IsGraphOf}
 use Rattle.image_code.specs.Numbered.{case_numbers}
 use Rattle.image_code.specs.Parts.{codes_of}
 use Rattle.snippets.specs.declared.snippet.Op.{Op}
 use Rattle.tool_kit.specs.Plans.{Plan}
-use Rattle.edit_core.specs.Dead.{AreDead}
 use Rattle.edit_core.specs.declared.taking.Asked.{Asked}
-use Rattle.edit_core.specs.RunsAlike.{short_bound}
-use Rattle.edit_core.specs.Taken.{CanEdit, bound_of}
-use Rattle.edit_core.specs.Written.{added, cells_at, code_at, if_any, page_segment, table_at, CanDo, HasRoom, IsBuilt, IsNewCode, IsViewOf, IsWorkable, LeadsTo, cases_at, cells_base, cells_size, code_base, entry_number, entry_of, graph_in, pieces_by, pieces_of, placement_in, plan_of, segment_size, table_after, table_base, tables_size, text_of}
+use Rattle.edit_core.specs.Taken.{CanEdit}
+use Rattle.edit_core.specs.Written.{added, cells_at, code_at, if_any, page_segment, table_at, CanDo, HasRoom, IsBuilt, IsNewCode, IsViewOf, LeadsTo, cases_at, cells_base, cells_size, entry_number, entry_of, graph_in, pieces_by, pieces_of, placement_in, plan_of, segment_size, table_after, table_base, tables_size, text_of}
 use Rattle.edit_core.proofs.Bounds.{operations_few}
 use Rattle.edit_core.proofs.Graphs.{entries_few, graph_cut, graph_is}
 use Rattle.edit_core.proofs.Room.{room_with_cases, small_tables}
@@ -40,8 +36,7 @@ use Rattle.edit_core.proofs.Originals.{image_text, image_room}
 pub never_lacks_room : (list : List (List Item)) (room : ℕ) (fault : LayoutFault) (needed had : ℕ) → ArePieces list
     → fault ≡ Room needed had → RoomIs (Err fault) list room → long_bytes list ≤ room → ⊥
 never_lacks_room list room fault needed had are e is enough =
-    let r : RoomIs (Err (Room needed had)) list room
-    = subst (λ (x : LayoutFault). RoomIs (Err x) list room) e is in
+    let r : RoomIs (Err (Room needed had)) list room = subst (λ (x : LayoutFault). RoomIs (Err x) list room) e is in
     let l = long_is_enough list needed are r.0 in
     let lacks : room < needed = r.2 in
     omega (arith, l, lacks, enough)
@@ -53,8 +48,7 @@ pub original_fit : PiecesFit → (original : List ℕ) (plan : Plan) → CanEdit
 original_fit fits original plan can work dead =
     fits (text_of original plan) (graph_in original plan) (table_base original plan)
     (cases_at (text_of original plan) (table_base original plan)) plan.snips
-    (codes_of (cells_base original plan) dead plan.snips) (image_text original can.sound)
-    (graph_is original plan)
+    (codes_of (cells_base original plan) dead plan.snips) (image_text original can.sound) (graph_is original plan)
     (under (cells_base original plan) (image_of original).room plan.cells (length (text_of original plan).words) _
     (image_room original) work.few can.room)
     (short_codes (cells_base original plan) plan.cells dead plan.snips work.good)
@@ -95,126 +89,85 @@ segment_is text graph snips p table leads =
     leads.size ∙ ap (λ n. tables_size text + cells_size n)
     (length-map (case_numbers text graph) (λ number. slice_index p.at number))
 
+-- ---- an original as it was seen
+
 module _ (original : List ℕ) (plan : Plan) (image : Program) (graph : Graph) (is : IsViewOf original plan image graph) where
+  -- what is true of the one is true of the other
+  seen : (P : Program → Graph → Type 0) → P (image_of original) (graph_in original plan) → P image graph
+  seen P true_there = subst (λ (i : Program). P i graph) (sym is.0)
+      (subst (P (image_of original)) (sym is.1) true_there)
+
+  there : (P : Program → Graph → Type 0) → P image graph → P (image_of original) (graph_in original plan)
+  there P true_here = subst (P (image_of original)) is.1 (subst (λ (i : Program). P i graph) is.0 true_here)
+
   pub view_text : CanEdit original plan → IsText image.text
-  view_text can = subst (λ (i : Program). IsText i.text) (sym is.0) (image_text original can.sound)
-
-  pub view_graph : IsGraphOf image.text graph
-  view_graph = subst (λ (i : Program). IsGraphOf i.text graph) (sym is.0)
-      (subst (IsGraphOf (text_of original plan)) (sym is.1) (graph_is original plan))
-
-  pub view_low : CanEdit original plan → image.base + image.room ≤ 2 ^ 31
-  view_low can = subst (λ (i : Program). i.base + i.room ≤ 2 ^ 31) (sym is.0)
-      (within (image_of original).base (image_of original).room (image_room original)
-      (accepted-program original can.sound).below)
-    where
-      within : (base room : ℕ) → room ≡ min (2 ^ 30) (0x80000000 - base) → base ≤ 0x80000000 → base + room ≤ 2 ^ 31
-      within base room same below = omega arith
-
-  pub view_aligned : CanEdit original plan → image.base % 4096 ≡ 0
-  view_aligned can = subst (λ (i : Program). i.base % 4096 ≡ 0) (sym is.0)
-      (let base = (accepted-program original can.sound).base in omega arith)
-
-  pub view_room : CanEdit original plan → bound_of image.text graph plan ≤ image.room
-  view_room can = subst (λ (i : Program). bound_of i.text graph plan ≤ i.room) (sym is.0)
-      (subst (λ (g : Graph). bound_of (image_of original).text g plan ≤ (image_of original).room) (sym is.1)
-      (subst (λ (n : ℕ). n ≤ (image_of original).room) (bound_is original plan) can.room))
-
-  pub view_work : CanDo original plan → IsWorkable graph plan.kind plan.cells plan.snips
-  view_work work = subst (λ (g : Graph). IsWorkable g plan.kind plan.cells plan.snips) (sym is.1) work
+  view_text can = seen (λ i g. IsText i.text) (image_text original can.sound)
 
   pub view_words : CanEdit original plan → graph.blocks.words ≡ length image.text.words
-  view_words can = (graph_cut image.text graph (view_text can) view_graph).words
+  view_words can = seen (λ i g. g.blocks.words ≡ length i.text.words)
+      (graph_cut (text_of original plan) (graph_in original plan) (image_text original can.sound) (graph_is original plan)).words
 
-  abbrev own_pieces : (ℕ → List Part) → List (List Item)
-  own_pieces dead = pieces_by image.text graph image.base plan.cells dead plan.snips
-
-  -- the pieces of the view are those of the original
-  view_pieces : (dead : ℕ → List Part) → own_pieces dead ≡ pieces_of original plan dead
-  view_pieces dead =
-      ap (λ (i : Program). pieces_by i.text graph i.base plan.cells dead plan.snips) is.0
-      ∙ ap (λ (g : Graph). pieces_by (text_of original plan) g (cells_base original plan) plan.cells dead plan.snips) is.1
-
-  view_base : table_after image.base plan.cells + segment_size image.text graph ≡ code_base original plan
-  view_base =
-      ap (λ (i : Program). table_after i.base plan.cells + segment_size i.text graph) is.0
-      ∙ ap (λ (g : Graph). table_base original plan + segment_size (text_of original plan) g) is.1
-
-  -- and so are the segments that are added
-  pub view_added : (p : Placement) (tables : List ℕ) → length tables ≡ segment_size image.text graph
-      → (if_any plan.cells (cells_at image.base plan.cells)
-      ++ table_at (record { base = table_after image.base plan.cells; bytes = tables })
-      ∷ code_at (table_after image.base plan.cells + length tables) p.code ∷ page_segment ∷ [])
-      ≡ added original plan p (record { base = table_base original plan; bytes = tables })
-  view_added p tables size =
-      ap (λ n. if_any plan.cells (cells_at image.base plan.cells)
-      ++ table_at (record { base = table_after image.base plan.cells; bytes = tables })
-      ∷ code_at (table_after image.base plan.cells + n) p.code ∷ page_segment ∷ []) size
-      ∙ ap (λ a. if_any plan.cells (cells_at image.base plan.cells)
-      ++ table_at (record { base = table_after image.base plan.cells; bytes = tables })
-      ∷ code_at a p.code ∷ page_segment ∷ []) view_base
-      ∙ ap (λ (i : Program). if_any plan.cells (cells_at i.base plan.cells)
-      ++ table_at (record { base = table_after i.base plan.cells; bytes = tables })
-      ∷ code_at (code_base original plan) p.code ∷ page_segment ∷ []) is.0
-
-  -- and so is the piece at which it begins
-  pub view_entry : (p : Placement) → slice_index p.at (entry_number image.text graph image.entry) ≡ entry_of original
-      plan p
-  view_entry p =
-      ap (λ (i : Program). slice_index p.at (entry_number i.text graph i.entry)) is.0
-      ∙ ap (λ (g : Graph). slice_index p.at (entry_number (text_of original plan) g (image_of original).entry)) is.1
+  -- the piece at which it begins
+  pub view_entry : (p : Placement)
+      → slice_index p.at (entry_number image.text graph image.entry) ≡ entry_of original plan p
+  view_entry p = seen (λ i g. slice_index p.at (entry_number i.text g i.entry) ≡ entry_of original plan p) refl
 
   module _ (placed : Placed) (tables : List ℕ)
       (built : IsBuilt image.text graph image.base plan.cells plan.snips (placement_in placed))
       (leads : LeadsTo image.text graph plan.snips (placement_in placed)
       (record { base = table_after image.base plan.cells; bytes = tables }))
     where
+      pub built_there : IsBuilt (text_of original plan) (graph_in original plan) (cells_base original plan) plan.cells
+          plan.snips (placement_in placed)
+      built_there = there (λ i g. IsBuilt i.text g i.base plan.cells plan.snips (placement_in placed)) built
+
       pub code_is : All (λ word. word < 2 ^ 32) placed.code.items → AreBytes tables
-          → IsNewCode original plan (placement_in placed) built.place
+          → IsNewCode original plan (placement_in placed) built_there.place
           (record { base = table_base original plan; bytes = tables })
       code_is words bytes = record {
-        dead = built.dead;
-        exact = subst (λ (i : Program). AreDead i.text (graph_in original plan) (named_on plan.snips) built.dead) is.0
-            (subst (λ (g : Graph). AreDead image.text g (named_on plan.snips) built.dead) is.1 built.exact);
-        laid = subst (λ (a : ℕ). IsLaid (pieces_of original plan built.dead) a (placement_in placed) built.place) view_base
-            (subst (λ (xs : List (List Item)). IsLaid xs
-            (table_after image.base plan.cells + segment_size image.text graph)
-            (placement_in placed) built.place) (view_pieces built.dead) built.are.laid);
-        size = subst (λ (xs : List (List Item)). 4 * length placed.code.items ≤ long_bytes xs) (view_pieces built.dead)
-            built.are.size;
-        short = subst (λ (xs : List (List Item)). 4 * length placed.code.items < short_bound → HasShortForms xs built.place)
-            (view_pieces built.dead) built.are.short;
+        dead = built_there.dead;
+        exact = built_there.exact;
+        laid = built_there.are.laid;
+        size = built_there.are.size;
+        short = built_there.are.short;
         words = words;
         base = refl;
-        leads = subst (λ (i : Program). LeadsTo i.text (graph_in original plan) plan.snips (placement_in placed)
-            (record { base = table_after i.base plan.cells; bytes = tables })) is.0
-            (subst (λ (g : Graph). LeadsTo image.text g plan.snips (placement_in placed)
-            (record { base = table_after image.base plan.cells; bytes = tables })) is.1 leads);
+        leads = there (λ i g. LeadsTo i.text g plan.snips (placement_in placed)
+            (record { base = table_after i.base plan.cells; bytes = tables })) leads;
         bytes = bytes;
       }
 
-      -- and the segments that are added are those of the edit
-      pub segments_are : (segments : List AddedSegment)
-          → segments ≡ if_any plan.cells (cells_at image.base plan.cells)
+      -- the segments that are added
+      pub segments_are : (segments : List AddedSegment) → segments ≡ if_any plan.cells (cells_at image.base plan.cells)
           ++ table_at (record { base = table_after image.base plan.cells; bytes = tables })
           ∷ code_at (table_after image.base plan.cells + length tables) placed.code.items ∷ page_segment ∷ []
           → segments ≡ added original plan (placement_in placed)
           (record { base = table_base original plan; bytes = tables })
-      segments_are segments same =
-          same ∙ view_added (placement_in placed) tables
-          (segment_is image.text graph plan.snips (placement_in placed) _ leads)
+      segments_are segments same = there (λ i g. segments ≡ if_any plan.cells (cells_at i.base plan.cells)
+          ++ table_at (record { base = table_after i.base plan.cells; bytes = tables })
+          ∷ code_at (table_after i.base plan.cells + segment_size i.text g) placed.code.items ∷ page_segment ∷ [])
+          (same ∙ ap (λ n. if_any plan.cells (cells_at image.base plan.cells)
+          ++ table_at (record { base = table_after image.base plan.cells; bytes = tables })
+          ∷ code_at (table_after image.base plan.cells + n) placed.code.items ∷ page_segment ∷ [])
+          (segment_is image.text graph plan.snips (placement_in placed) _ leads))
 
--- so there is room for what is asked of an original that can be edited
+-- there is room for what is asked of an original that can be edited
 pub view_has_room : (original marks : List ℕ) (asked : Asked) (image : Program) (graph : Graph)
     → IsViewOf original (plan_of marks asked) image graph → CanEdit original (plan_of marks asked)
     → CanDo original (plan_of marks asked) → HasRoom image graph asked
 view_has_room original marks asked image graph is can work =
-    let plan = plan_of marks asked in
-    record {
-      text = view_text original plan image graph is can;
-      graph = view_graph original plan image graph is;
-      work = view_work original plan image graph is work;
-      room = view_room original plan image graph is can;
-      base = view_aligned original plan image graph is can;
-      low = view_low original plan image graph is can;
-    }
+    seen original plan image graph is (λ i g. HasRoom i g asked) (record {
+      text = image_text original can.sound;
+      graph = graph_is original plan;
+      work = work;
+      room = subst (λ (n : ℕ). n ≤ (image_of original).room) (bound_is original plan) can.room;
+      base = let base = (accepted-program original can.sound).base in omega arith;
+      low = within (image_of original).base (image_of original).room (image_room original)
+          (accepted-program original can.sound).below;
+    })
+  where
+    plan : Plan
+    plan = plan_of marks asked
+
+    within : (base room : ℕ) → room ≡ min (2 ^ 30) (0x80000000 - base) → base ≤ 0x80000000 → base + room ≤ 2 ^ 31
+    within base room same below = omega arith

@@ -1,5 +1,5 @@
 -- Which files are edited, and why others are not.
-use Rattle.std.specs.Prelude.{◌≡◌, ℕ, ◌+◌, ◌*◌, ◌^◌, ◌<◌, ◌≤◌, Bool, nat_eq, List, ◌∷◌, length, Option, Some, None}
+use Rattle.std.specs.Prelude.{◌≡◌, ℕ, ◌+◌, ◌*◌, ◌^◌, ◌<◌, ◌≤◌, Bool, List, ◌∷◌, length, Option, Some, None}
 use Rattle.std.specs.List.{count_by, sum_by}
 use Rattle.eel_base.specs.CodeText.{Words}
 use Rattle.elf32_sparc.specs.FileFault.{fault}
@@ -16,6 +16,8 @@ use Rattle.snippets.specs.declared.snippet.Op.{Op}
 use Rattle.tool_kit.specs.declared.edge_ref.ToolKind.{ToolKind}
 use Rattle.tool_kit.specs.declared.edge_ref.ToolKind.TheVariants as tools
 use Rattle.tool_kit.specs.Plans.{Plan}
+use Rattle.edit_core.specs.declared.taking.CaseKey.{CaseKey}
+use Rattle.edit_core.specs.contracts.taking.CaseKeyPartialEq.TheImpl as key_eq
 use Rattle.edit_core.specs.declared.taking.EditFault.{EditFault}
 use Rattle.edit_core.specs.declared.taking.EditFault.TheVariants as faults
 
@@ -36,23 +38,26 @@ operations_on kind graph _ _ = 0
 -- ---- the entries of tables, counted by the edges along which they lead
 
 -- a Case edge by the block that it leaves and the number of its node
-abbrev pub case_key : ℕ → ℕ → ℕ
-case_key from to = from * 2 ^ 32 + to
+abbrev pub case_key : ℕ → ℕ → CaseKey
+case_key from to = record { from = record { 0 = from }; to = to }
+
+abbrev pub same_key : CaseKey → CaseKey → Bool
+same_key = (key_eq.ghosts).eq
 
 abbrev pub count_of : Option ℕ → ℕ
 count_of None = 0
 count_of (Some n) = n
 
 -- an entry that leads to a word, from a block, leads along the edge with this key
-abbrev pub is_entry : Graph → ℕ → ℕ → ℕ → Bool
-is_entry graph block key word = nat_eq (case_key block (node_number graph (lands graph (Some word)))) key
+abbrev pub is_entry : Graph → ℕ → CaseKey → ℕ → Bool
+is_entry graph block key word = same_key (case_key block (node_number graph (lands graph (Some word)))) key
 
-abbrev pub entries_with : Graph → ℕ → List Open → ℕ
+abbrev pub entries_with : Graph → CaseKey → List Open → ℕ
 entries_with graph key opens = sum_by (λ (o : Open). count_by (is_entry graph o.block key) o.targets) opens
 
 -- a table has under each key how many entries do
-abbrev pub AreCounts : Graph → (ℕ → Option ℕ) → Type 0
-AreCounts graph get = (key : ℕ) → count_of (get key) ≡ entries_with graph key graph.opens
+abbrev pub AreCounts : Graph → (CaseKey → Option ℕ) → Type 0
+AreCounts graph get = (key : CaseKey) → count_of (get key) ≡ entries_with graph key graph.opens
 
 -- ---- how much room an edit asks for
 

@@ -4,16 +4,17 @@ ghost use Rattle.eel_base.specs.CodeText.{IsText};
 ghost use Rattle.layout.specs.Laid.{ArePieces, long_bytes};
 ghost use Rattle.image_code.specs.Graphs.{IsGraphOf};
 ghost use Rattle.edit_core.specs.Taken.{bound_by};
-ghost use Rattle.edit_core.specs.Written.{addr, cases_at, cells_size as cells_size_of, entry_number, placement_in, segment_size as segment_size_of, table_after, tables_size as tables_size_of, whole_pages, AreInside, AreLaid, AreMade, AreTablesOf, HasRoom, IsBuilt, IsWorkable, LeadsTo};
+ghost use Rattle.edit_core.specs.Written.{addr, cells_size as cells_size_of, entry_number, placement_in, table_after, tables_size as tables_size_of, whole_pages, AreInside, AreLaid, AreMade, AreTablesOf, HasRoom, IsBuilt, IsWorkable, LeadsTo};
 
-use crate::segments::{PAGE_SIZE, zeros};
+use crate::addresses::{AddressMap, cells_size, tables_size};
+use crate::segments::zeros;
 use crate::taking::Asked;
-use addr_translate::{build, build_halves, halves_size, table_size};
+use addr_translate::{build, build_halves, table_size};
 use cfg_normal::FlowGraph;
 use eel_base::{Addr, NoMemory, PieceNo, Text};
 use elf32_sparc::Image;
 use elf32_write::put_words;
-use image_code::{Frame, PieceList, pieces};
+use image_code::{PieceList, pieces};
 use layout::{LayoutFault, Piece, Placed, place};
 use liveness::live;
 use std::alloc::Global;
@@ -60,12 +61,7 @@ fn made(
         made.cases.items made.foreign made.entry) }
 {
     let text = image.text();
-    let table = table_base(image, asked.cells);
-    let frame = Frame {
-        cells: image.base(),
-        table,
-        cases: cases_base(text, table),
-    };
+    let frame = AddressMap::above(image, asked.cells).frame(text);
     let live = live(alloc, text, graph, &asked.snips)?;
     let made = pieces(
         alloc,
@@ -108,13 +104,13 @@ fn placed_code(
         (record { base = table_after image.now.base cells; bytes = new.tables.items })) }
 {
     let text = image.text();
-    let table = table_base(image, cells);
+    let addresses = AddressMap::above(image, cells);
     let size = segment_size(text, &made.cases);
-    let placed = laid(alloc, &made.list, image, cells, size)?;
+    let placed = laid(alloc, &made.list, addresses, image.room(), size)?;
     let targets = places_of(alloc, &placed.at, &made.landing)?;
     let foreign = place_of(&placed.at, made.foreign);
     let cases = words_of(alloc, &placed.at, &made.cases)?;
-    let tables = tables_for(alloc, text, &targets, foreign, &cases, table)?;
+    let tables = tables_for(alloc, text, &targets, foreign, &cases, addresses.table())?;
     let entry = place_of(&placed.at, made.entry);
     Ok(NewCode {
         placed,
@@ -162,13 +158,6 @@ fn put_pages(alloc: Global, out: &mut Vec<u8>, words: &[u32]) -> Result<(), NoMe
     Ok(())
 }
 
-// How many bytes the two tables of a text have.
-fn tables_size(text: &Text) -> u32
-    ensures { result ≡ tables_size_of text.now }
-{
-    table_size(text) + halves_size(text)
-}
-
 // How many bytes the tables have, with a word for each of these pieces.
 fn segment_size(text: &Text, cases: &[PieceNo]) -> u32
     requires cases { length cases.now ≤ 2 ^ 22 }
@@ -178,60 +167,26 @@ fn segment_size(text: &Text, cases: &[PieceNo]) -> u32
     tables_size(text) + cells_size(cases.len() as u32)
 }
 
-// Where the words with the places of pieces stand, behind the two tables.
-fn cases_base(text: &Text, table: Addr) -> Addr
-    requires { table.0 + tables_size_of text.now < 2 ^ 32 }
-    ensures { result.0 ≡ cases_at text.now table.0 }
-{
-    Addr(table.0 + tables_size(text))
-}
-
-// How much room so many words take: whole pages.
-fn cells_size(cells: u32) -> u32
-    requires { cells ≤ 2 ^ 23 }
-    ensures { result ≡ cells_size_of cells }
-{
-    (4 * cells + PAGE_SIZE - 1) / PAGE_SIZE * PAGE_SIZE
-}
-
-/// Where the tables stand: behind the cells.
-pub(crate) fn table_base(image: &Image, cells: u32) -> Addr
-    requires few { cells ≤ 2 ^ 23 }
-    requires fits { table_after image.now.base cells < 2 ^ 32 }
-    ensures { result.0 ≡ table_after image.now.base cells }
-{
-    Addr(image.base().0 + cells_size(cells))
-}
-
-/// Where code stands: right behind the tables, which have so many bytes.
-pub(crate) fn code_base(image: &Image, cells: u32, size: u32) -> Addr
-    requires few { cells ≤ 2 ^ 23 }
-    requires fits { table_after image.now.base cells + size < 2 ^ 32 }
-    ensures address { result.0 ≡ table_after image.now.base cells + size }
-{
-    Addr(table_base(image, cells).0 + size)
-}
-
 // Pieces that need no more room than an edit asks for, placed behind tables of so many bytes.
 fn laid(
     alloc: Global,
     list: &[Piece],
-    image: &Image,
-    cells: u32,
+    addresses: AddressMap,
+    room: u32,
     size: u32,
 ) -> Result<Placed, NoMemory>
     requires pieces { ArePieces list.now }
-    requires cells { cells ≤ 2 ^ 23 }
+    requires cells { addresses.cells ≤ 2 ^ 23 }
     requires whole { size % 4096 ≡ 0 }
-    requires room { cells_size_of cells + size + long_bytes list.now ≤ image.now.room }
-    requires base { image.now.base % 4096 ≡ 0 }
-    requires low { image.now.base + image.now.room ≤ 2 ^ 31 }
+    requires room { cells_size_of addresses.cells + size + long_bytes list.now ≤ room }
+    requires base { addresses.base.0 % 4096 ≡ 0 }
+    requires low { addresses.base.0 + room ≤ 2 ^ 31 }
     ensures { IfOk result (λ placed. (p : ℕ → ℕ → ℕ)
-        × AreLaid list.now (table_after image.now.base cells + size) (placement_in placed) p) }
+        × AreLaid list.now (table_after addresses.base.0 addresses.cells + size) (placement_in placed) p) }
 {
-    let code = code_base(image, cells, size);
-    let room = image.room() - (code.0 - image.base().0);
-    match place(alloc, list, code, room) {
+    let code = addresses.code(size);
+    let left = room - (code.0 - addresses.base.0);
+    match place(alloc, list, code, left) {
         Ok(placed) => Ok(placed),
         Err(LayoutFault::Room { .. }) => unreachable!(),
         Err(LayoutFault::NoMemory) => Err(NoMemory),

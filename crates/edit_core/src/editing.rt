@@ -1,20 +1,23 @@
 //! The edit of a file.
-ghost use Rattle.std.specs.Prelude.{◌≡◌, ℕ, List, [], ◌∷◌, ◌++◌, ◌+◌, ◌*◌, ◌<◌, ◌≤◌, ◌^◌, length, map, All, IfErr, IfOk, OnOk};
+ghost use Rattle.std.specs.Prelude.{◌≡◌, ℕ, List, [], ◌∷◌, ◌++◌, ◌+◌, ◌*◌, ◌<◌, ◌≤◌, ◌^◌, length, map, All, IfErr, IfOk, None, OnOk};
 ghost use Rattle.elf32_write.specs.Headers.{segment_seen};
 ghost use Rattle.elf32_write.specs.Laws.{AreBytes};
+ghost use Rattle.elf32_sparc.specs.FileFault.{fault};
 ghost use Rattle.cfg_blocks.specs.Marks.{numbers};
+ghost use Rattle.cfg_view.specs.View.{view_of, view_seen};
 ghost use Rattle.tool_kit.specs.Plans.{IsPlanOf, Plan};
 ghost use Rattle.edit_core.specs.Taken.{CanEdit, EditRefuses};
 ghost use Rattle.edit_core.specs.Faithful.{AreCounted, AsksOf, CountsEdges, IsFaithful};
 ghost use Rattle.edit_core.specs.Written.{cells_at, code_at, if_any, page_segment as page_segment_of, plan_of, table_after, table_at};
 ghost use Rattle.edit_core.specs.Written.{CanDo, IsTheEdit, IsViewOf, IsWorkable, IsWritten};
 
-use crate::building::{NewCode, code_base, new_code, table_base};
+use crate::addresses::AddressMap;
+use crate::building::{NewCode, new_code};
 use crate::noting::notes;
 use crate::segments::{cells_segment, code_segment, page_segment, tables_segment};
 use crate::taking::{Asked, EditFault, bound};
 use cfg_normal::FlowGraph;
-use cfg_view::look;
+use cfg_view::{View, look};
 use eel_base::NoMemory;
 use elf32_sparc::Image;
 use elf32_write::{NewSegment, write_around};
@@ -36,6 +39,24 @@ pub fn edit_bytes<F: Chooser>(
         × CanEdit bytes.now plan × IsFaithful bytes.now plan file.items × IsTheEdit bytes.now plan file.items) }
 {
     let view = look(alloc, bytes, tool.marks())?;
+    edit_view(alloc, bytes, &view, tool)
+}
+
+/// Edits a file without a fault, of which there is a view with the marks of the tool.
+pub fn edit_view<F: Chooser>(
+    alloc: Global,
+    bytes: &[u8],
+    view: &View,
+    tool: &Tool<F>,
+) -> Result<Vec<u8>, EditFault>
+    requires limit { length bytes.now ≤ 2 ^ 26 }
+    requires sound { fault bytes.now ≡ None }
+    requires view { view_seen view.now ≡ view_of bytes.now (numbers tool.now.marks) }
+    requires counters { CountsEdges F.says tool.now bytes.now }
+    ensures refused { IfErr result (EditRefuses bytes.now (AsksOf F.says tool.now bytes.now)) }
+    ensures edited { IfOk result (λ file. (plan : Plan) × AsksOf F.says tool.now bytes.now plan
+        × CanEdit bytes.now plan × IsFaithful bytes.now plan file.items × IsTheEdit bytes.now plan file.items) }
+{
     let asked = asked_of(alloc, tool, &view.graph)?;
     let text = view.image.text();
     let needed = bound(
@@ -83,7 +104,8 @@ fn edited(
         → IfOk result (λ file. IsWritten bytes.now (plan_of marks asked.now) file.items) }
 {
     let new = new_code(alloc, image, graph, asked)?;
-    let added = added(alloc, image, asked.cells, &new)?;
+    let addresses = AddressMap::above(image, asked.cells);
+    let added = added(alloc, addresses, &new)?;
     let size = new.tables.len() as u32;
     let notes = notes(alloc, bytes, image, graph, asked, new.placed, size)?;
     let notes = write_notes(alloc, &notes)?;
@@ -92,29 +114,24 @@ fn edited(
 }
 
 // The segments of cells, if there are any, of the tables and of the code, and the editor's page.
-fn added(
-    alloc: Global,
-    image: &Image,
-    cells: u32,
-    new: &NewCode,
-) -> Result<Vec<NewSegment>, NoMemory>
-    requires few { cells ≤ 2 ^ 23 }
-    requires low { table_after image.now.base cells + length new.now.tables.items
+fn added(alloc: Global, addresses: AddressMap, new: &NewCode) -> Result<Vec<NewSegment>, NoMemory>
+    requires few { addresses.cells ≤ 2 ^ 23 }
+    requires low { table_after addresses.base.0 addresses.cells + length new.now.tables.items
         + 4 * length new.now.placed.code.items ≤ 2 ^ 31 }
     ensures segments { IfOk result (λ v. map segment_seen v.items
-        ≡ if_any cells (cells_at image.now.base cells)
-        ++ table_at (record { base = table_after image.now.base cells; bytes = new.now.tables.items })
-        ∷ code_at (table_after image.now.base cells + length new.now.tables.items) new.now.placed.code.items
+        ≡ if_any addresses.cells (cells_at addresses.base.0 addresses.cells)
+        ++ table_at (record { base = table_after addresses.base.0 addresses.cells; bytes = new.now.tables.items })
+        ∷ code_at (table_after addresses.base.0 addresses.cells + length new.now.tables.items) new.now.placed.code.items
         ∷ page_segment_of ∷ []) }
     ensures tables { OnOk result (AreBytes new.now.tables.items) }
     ensures code { OnOk result (All (λ word. word < 2 ^ 32) new.now.placed.code.items) }
 {
     let mut added = Vec::new(alloc);
-    if cells > 0 {
-        added.push(cells_segment(alloc, image.base(), cells))?;
+    if addresses.cells > 0 {
+        added.push(cells_segment(alloc, addresses.base, addresses.cells))?;
     }
-    let code = code_base(image, cells, new.tables.len() as u32);
-    added.push(tables_segment(alloc, table_base(image, cells), &new.tables)?)?;
+    let code = addresses.code(new.tables.len() as u32);
+    added.push(tables_segment(alloc, addresses.table(), &new.tables)?)?;
     added.push(code_segment(alloc, code, &new.placed.code)?)?;
     added.push(page_segment(alloc)?)?;
     Ok(added)

@@ -4,13 +4,14 @@
 ghost use Rattle.edit_core.specs.Whole.{EditsAnswer, KeepsWhatLives};
 ghost use Rattle.edit_core.specs.Written.{EditsRunAlike};
 
+mod addresses;
 mod building;
 mod editing;
 mod noting;
 mod segments;
 mod taking;
 
-pub use editing::edit_bytes;
+pub use editing::{edit_bytes, edit_view};
 pub use taking::EditFault;
 
 /// Where snippets change only what is dead behind them, everything is kept that the original's run still needs or that

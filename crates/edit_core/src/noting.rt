@@ -8,7 +8,7 @@ ghost use Rattle.notes.specs.Seen.{notes_seen, edge_seen, range_seen, segment_se
 ghost use Rattle.edit_core.specs.Faithful.{cell_noted as cell_noted_of, note_edge as note_edge_of, note_edges as note_edges_of, tool_number as tool_number_of};
 ghost use Rattle.edit_core.specs.Written.{is_off as is_off_of, notes_on, off_range as off_range_of, off_ranges, segments_noted, placement_in, plan_of, segment_size, table_after, IsViewOf};
 
-use crate::building::{code_base, table_base};
+use crate::addresses::AddressMap;
 use crate::segments::{EDITOR_PAGE, PAGE_SIZE};
 use crate::taking::Asked;
 use cfg_normal::{Edge, FlowGraph, Slot, kind_number, node_number};
@@ -44,7 +44,7 @@ pub(crate) fn notes(
         → IfOk result (λ n. notes_seen n ≡ notes_on bytes.now (plan_of marks asked.now) (placement_in placed)) }
 {
     let text = image.text();
-    let table = table_base(image, asked.cells);
+    let addresses = AddressMap::above(image, asked.cells);
     Ok(Notes {
         version: NOTES_VERSION,
         delta: delta(image),
@@ -55,10 +55,10 @@ pub(crate) fn notes(
         entry: graph.holding(image.entry()).0,
         base: image.base().0,
         cells: asked.cells,
-        segments: note_segments(alloc, image, asked.cells, size, &placed.code)?,
+        segments: note_segments(alloc, addresses, size, &placed.code)?,
         blocks: firsts(alloc, graph)?,
         edges: note_edges(alloc, graph, asked)?,
-        ranges: places(alloc, text, graph, table, &placed.ranges)?,
+        ranges: places(alloc, text, graph, addresses.table(), &placed.ranges)?,
     })
 }
 
@@ -77,28 +77,27 @@ fn tool_number(kind: ToolKind) -> u32
 // The segments of cells, if there are any, of the tables and of the code, and the editor's page.
 fn note_segments(
     alloc: Global,
-    image: &Image,
-    cells: u32,
+    addresses: AddressMap,
     size: u32,
     code: &[u32],
 ) -> Result<Vec<NoteSegment>, NoMemory>
-    requires few { cells ≤ 2 ^ 23 }
-    requires low { table_after image.now.base cells + size + 4 * length code.now ≤ 2 ^ 31 }
-    ensures { IfOk result (λ v. map segment_seen v.items ≡ segments_noted image.now.base cells size code.now) }
+    requires few { addresses.cells ≤ 2 ^ 23 }
+    requires low { table_after addresses.base.0 addresses.cells + size + 4 * length code.now ≤ 2 ^ 31 }
+    ensures { IfOk result (λ v. map segment_seen v.items ≡ segments_noted addresses.base.0 addresses.cells size code.now) }
 {
     let mut segments = Vec::new(alloc);
-    if cells > 0 {
+    if addresses.cells > 0 {
         segments.push(NoteSegment {
-            start: image.base().0,
-            length: 4 * cells,
+            start: addresses.base.0,
+            length: 4 * addresses.cells,
         })?;
     }
     segments.push(NoteSegment {
-        start: table_base(image, cells).0,
+        start: addresses.table().0,
         length: size,
     })?;
     segments.push(NoteSegment {
-        start: code_base(image, cells, size).0,
+        start: addresses.code(size).0,
         length: 4 * code.len() as u32,
     })?;
     segments.push(NoteSegment {

@@ -1,11 +1,13 @@
 //! Which files are edited, and why others are not.
-ghost use Rattle.std.specs.Prelude.{◌≡◌, ℕ, if◌then◌else◌, ◌+◌, ◌*◌, ◌^◌, ◌<◌, ◌≤◌, length, map, nat_eq, slice_index, IfOk, OnOk};
+ghost use Rattle.std.specs.Prelude.{◌≡◌, ℕ, if◌then◌else◌, ◌+◌, ◌*◌, ◌^◌, ◌<◌, ◌≤◌, length, map, slice_index, IfOk, OnOk};
 ghost use Rattle.std.specs.List.{count_by, range_with_len};
 ghost use Rattle.indexmap.specs.IndexMap.{get};
 ghost use Rattle.cfg_blocks.specs.Blocks.{size_of};
 ghost use Rattle.cfg_normal.specs.Graph.{IsEdgeIn, IsNodeIn};
+ghost use Rattle.cfg_normal.specs.Landings.{IsNumbered};
+ghost use Rattle.cfg_normal.specs.Numbers.{node_number as node_number_of};
 ghost use Rattle.image_code.specs.Fit.{copies_of, is_at, targets_from, words_at};
-ghost use Rattle.edit_core.specs.Taken.{bound_by, case_key as case_key_of, count_of, counted_on as counted_on_of, is_entry, operations_on, AreCounts};
+ghost use Rattle.edit_core.specs.Taken.{bound_by, case_key as case_key_of, count_of, counted_on as counted_on_of, is_entry, operations_on, same_key, AreCounts};
 
 use cfg_blocks::EdgeKind;
 use cfg_normal::{Edge, FlowGraph, Node, node_number, same_node};
@@ -92,9 +94,9 @@ fn operations(
 }
 
 // How often the snippet of an edge is made, where a table has the counts of Case edges.
-fn copies(graph: &FlowGraph, cases: &IndexMap<u64, u32>, edge: &Edge) -> u32
+fn copies(graph: &FlowGraph, cases: &CaseCounts, edge: &Edge) -> u32
     requires edge { IsEdgeIn graph.now.blocks graph.now.opens edge.now }
-    requires cases { AreCounts graph.now (get nat_eq cases.now) }
+    requires cases { AreCounts graph.now (get same_key cases.now) }
     ensures copies { result ≡ copies_of graph.now edge.now }
     ensures few { result ≤ 2 ^ 20 }
 {
@@ -147,10 +149,20 @@ fn lands_at(graph: &FlowGraph, node: Node, word: WordNo) -> u32
 
 // ---- Case edges
 
+/// A Case edge by the block that it leaves and the number of its node.
+#[derive(Clone, Copy, PartialEq, Eq, Hash)]
+pub(crate) struct CaseKey {
+    pub from: BlockNo,
+    pub to: u32,
+}
+
+// How many entries of tables lead along each Case edge.
+type CaseCounts = IndexMap<CaseKey, u32>;
+
 // Counts one more under a key. Where they are more than a `u32` has, memory holds no list of them.
-fn count_key(cases: &mut IndexMap<u64, u32>, key: u64) -> Result<(), NoMemory>
-    ensures { OnOk result ((other : ℕ) → count_of (get nat_eq cases.new other)
-        ≡ (if nat_eq key other then 1 else 0) + count_of (get nat_eq cases.old other)) }
+fn count_key(cases: &mut CaseCounts, key: CaseKey) -> Result<(), NoMemory>
+    ensures { OnOk result ((other : CaseKey) → count_of (get same_key cases.new other)
+        ≡ (if same_key key other then 1 else 0) + count_of (get same_key cases.old other)) }
 {
     let count = counted(cases, key);
     if count == u32::MAX {
@@ -161,23 +173,23 @@ fn count_key(cases: &mut IndexMap<u64, u32>, key: u64) -> Result<(), NoMemory>
 }
 
 // How many entries of a table lead along a Case edge.
-fn led(graph: &FlowGraph, cases: &IndexMap<u64, u32>, edge: &Edge) -> u32
+fn led(graph: &FlowGraph, cases: &CaseCounts, edge: &Edge) -> u32
     requires edge { IsEdgeIn graph.now.blocks graph.now.opens edge.now }
-    requires cases { AreCounts graph.now (get nat_eq cases.now) }
+    requires cases { AreCounts graph.now (get same_key cases.now) }
     ensures entries { result ≡ count_by (is_at graph.now edge.now.to) (targets_from graph.now edge.now.from) }
     ensures few { result ≤ 2 ^ 20 }
 {
     // A graph has few entries.
     let _edges = graph.edges();
     match edge.from {
-        Node::Block(block) => counted(cases, case_key(block, node_number(graph, edge.to))),
+        Node::Block(block) => counted(cases, case_key(graph, block, edge.to)),
         _ => 0,
     }
 }
 
 // What is counted under a key.
-fn counted(cases: &IndexMap<u64, u32>, key: u64) -> u32
-    ensures { result ≡ count_of (get nat_eq cases.now key) }
+fn counted(cases: &CaseCounts, key: CaseKey) -> u32
+    ensures { result ≡ count_of (get same_key cases.now key) }
 {
     match cases.get(&key) {
         Some(count) => *count,
@@ -185,16 +197,20 @@ fn counted(cases: &IndexMap<u64, u32>, key: u64) -> u32
     }
 }
 
-// A Case edge by the block that it leaves and the number of its node.
-fn case_key(from: BlockNo, to: u32) -> u64
-    ensures { result ≡ case_key_of from.0 to }
+// The key of a Case edge.
+fn case_key(graph: &FlowGraph, from: BlockNo, to: Node) -> CaseKey
+    requires { IsNumbered (length graph.now.blocks.firsts) to }
+    ensures { result ≡ case_key_of from.0 (node_number_of graph.now to) }
 {
-    u64::from(from.0) * 0x1_0000_0000 + u64::from(to)
+    CaseKey {
+        from,
+        to: node_number(graph, to),
+    }
 }
 
 // The entries of all tables, counted by the edges along which they lead.
-fn case_counts(alloc: Global, graph: &FlowGraph) -> Result<IndexMap<u64, u32>, NoMemory>
-    ensures { IfOk result (λ cases. AreCounts graph.now (get nat_eq cases)) }
+fn case_counts(alloc: Global, graph: &FlowGraph) -> Result<CaseCounts, NoMemory>
+    ensures { IfOk result (λ cases. AreCounts graph.now (get same_key cases)) }
 {
     let mut cases = IndexMap::new(alloc);
     for found in graph.opens() {
@@ -205,17 +221,17 @@ fn case_counts(alloc: Global, graph: &FlowGraph) -> Result<IndexMap<u64, u32>, N
 
 // Counts the entries of a switch's table.
 fn count_entries(
-    cases: &mut IndexMap<u64, u32>,
+    cases: &mut CaseCounts,
     graph: &FlowGraph,
     block: BlockNo,
     targets: &[WordNo],
 ) -> Result<(), NoMemory>
-    ensures { OnOk result ((key : ℕ) → count_of (get nat_eq cases.new key)
+    ensures { OnOk result ((key : CaseKey) → count_of (get same_key cases.new key)
         ≡ count_by (is_entry graph.now block.0 key) (map (λ (w : WordNo). w.0) targets.now)
-        + count_of (get nat_eq cases.old key)) }
+        + count_of (get same_key cases.old key)) }
 {
     for word in targets {
-        let key = case_key(block, node_number(graph, graph.lands(*word)));
+        let key = case_key(graph, block, graph.lands(*word));
         count_key(cases, key)?;
     }
     Ok(())

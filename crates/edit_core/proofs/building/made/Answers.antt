@@ -15,7 +15,8 @@ live-requires-clause-graph c =
 pub pieces-requires-clause-low : goal.pieces-requires-clause-low
 pieces-requires-clause-low c =
     let room = new_room pieces_fit c.requires (dead_on c.in_ok-live.live) in
-    rw (c.text-text.ensures, c.table_base-table.ensures) (omega (arith, room, c.requires.low))
+    rw (c.text-text.ensures, c.frame-frame.ensures.table, c.above.ensures.base, c.above.ensures.cells)
+    (omega (arith, room, c.requires.low))
 
 pub returns : goal.returns
 returns c = record {
@@ -25,10 +26,12 @@ returns c = record {
   list = c.in_ok-made.ensures.list
       ∙ rw (
         c.deref-2.ensures.value,
-        c.cases_base.ensures,
+        c.frame-frame.ensures.cases,
+        c.frame-frame.ensures.table,
+        c.frame-frame.ensures.cells,
         c.text-text.ensures,
-        c.table_base-table.ensures,
-        c.base.ensures.address,
+        c.above.ensures.base,
+        c.above.ensures.cells,
       ) refl;
   landing = rw (← c.text-text.ensures, ← c.deref-2.ensures.value) c.in_ok-made.ensures.landing;
   cases = c.in_ok-made.ensures.cases ∙ ap (λ (t : Words). case_numbers t c.args.graph.now) c.text-text.ensures;

@@ -1,7 +1,7 @@
-use Rattle.std.proofs.Common.{◌≡◌, map, slice_index, refl, ap, ◌∙◌}
+use Rattle.std.proofs.Common.{◌≡◌, ◌+◌, length, map, slice_index, refl, ap, ◌∙◌}
 use Rattle.eel_base.specs.declared.numbers.Addr.{Addr}
 use Rattle.eel_base.specs.declared.numbers.PieceNo.{PieceNo}
-use Rattle.edit_core.specs.Written.{addr, placement_in}
+use Rattle.edit_core.specs.Written.{addr, cells_size, placement_in, tables_size}
 use Rattle.edit_core.proofs.building.placed_code.Goals as goal
 
 pub returns-clause-entry : goal.returns-clause-entry
@@ -17,4 +17,12 @@ returns-clause-leads c =
     c.place_of-foreign.ensures ∙ rw c.deref-5.ensures.value refl in
     let cases : c.deref-9.result.now ≡ map (λ (n : PieceNo). slice_index at n.0) c.args.made.now.cases.items =
     c.deref-9.ensures.value ∙ c.in_ok-cases.ensures ∙ rw (c.deref-6.ensures.value, c.deref-7.ensures.value) refl in
-    rw (← targets, ← foreign, ← cases, ← c.text-text.ensures, ← c.table_base-table.ensures) c.in_ok-tables.ensures
+    rw (← targets, ← foreign, ← cases, ← c.text-text.ensures, ← c.above-addresses.ensures.base, ← c.above-addresses.ensures.cells, ← c.table.ensures) c.in_ok-tables.ensures
+
+pub returns-clause-laid : goal.returns-clause-laid
+returns-clause-laid c =
+    let size : c.segment_size-size.result
+    ≡ tables_size c.args.image.now.text + cells_size (length c.args.made.now.cases.items) =
+    c.segment_size-size.ensures ∙ rw (c.text-text.ensures, c.deref.ensures.value) refl in
+    rw (← c.above-addresses.ensures.base, ← c.above-addresses.ensures.cells, ← size)
+    (rw c.deref-2.ensures.value at c.in_ok-placed.ensures)

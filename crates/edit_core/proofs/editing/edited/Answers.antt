@@ -23,14 +23,15 @@ code_low text graph base cells snips p tables built leads =
     omega (arith, built.are.laid.low, segment_is text graph snips p _ leads)
 
 pub added-requires-clause-few : goal.added-requires-clause-few
-added-requires-clause-few c = c.requires.asked.3.few
+added-requires-clause-few c = rw (c.above-addresses.ensures.cells) c.requires.asked.3.few
 
 pub added-requires-clause-low : goal.added-requires-clause-low
 added-requires-clause-low c =
     let image = c.args.image.now in
-    code_low image.text c.args.graph.now image.base c.args.asked.now.cells c.args.asked.now.snips.items
+    rw (c.above-addresses.ensures.base, c.above-addresses.ensures.cells)
+    (code_low image.text c.args.graph.now image.base c.args.asked.now.cells c.args.asked.now.snips.items
     (placement_in c.in_ok-new.new.placed) c.in_ok-new.new.tables.items c.in_ok-new.ensures.built
-    c.in_ok-new.ensures.leads
+    c.in_ok-new.ensures.leads)
 
 pub notes-requires-clause-words : goal.notes-requires-clause-words
 notes-requires-clause-words c =
@@ -63,7 +64,8 @@ write_around-requires-clause-original c =
     rw (
       c.deref.ensures.value,
       segments_are _ plan _ _ c.requires.asked.1 c.in_ok-new.new.placed _ c.in_ok-new.ensures.built
-          c.in_ok-new.ensures.leads _ c.in_ok-added.ensures.segments,
+          c.in_ok-new.ensures.leads _
+          (rw (c.above-addresses.ensures.base, c.above-addresses.ensures.cells) at c.in_ok-added.ensures.segments),
       c.deref-2.ensures.value,
       c.in_ok-notes-2.ensures,
       c.in_ok-notes.ensures c.requires.asked.0 c.requires.asked.1,
@@ -84,7 +86,8 @@ returns c = λ marks view.
           ∙ rw (
             c.deref.ensures.value,
             segments_are _ plan _ _ view c.in_ok-new.new.placed _ c.in_ok-new.ensures.built
-                c.in_ok-new.ensures.leads _ c.in_ok-added.ensures.segments,
+                c.in_ok-new.ensures.leads _
+                (rw (c.above-addresses.ensures.base, c.above-addresses.ensures.cells) at c.in_ok-added.ensures.segments),
             c.deref-2.ensures.value,
             c.in_ok-notes-2.ensures,
             c.in_ok-notes.ensures marks view,

@@ -1,13 +1,14 @@
-use Rattle.std.proofs.Common.{◌≡◌, ℕ, ◌+◌, map, nat_eq, take}
+use Rattle.std.proofs.Common.{◌≡◌, ◌+◌, map, take}
 use Rattle.std.specs.List.{count_by}
 use Rattle.indexmap.specs.IndexMap.{get}
 use Rattle.eel_base.specs.declared.numbers.WordNo.{WordNo}
-use Rattle.edit_core.specs.Taken.{count_of, is_entry}
+use Rattle.edit_core.specs.declared.taking.CaseKey.{CaseKey}
+use Rattle.edit_core.specs.Taken.{count_of, is_entry, same_key}
 use Rattle.edit_core.proofs.taking.count_entries.Given as goal
 
 -- those of the words so far
 abbrev pub invariant-loop-word : goal.invariant-loop-word
 invariant-loop-word l =
-    (key : ℕ) → count_of (get nat_eq l.cases key)
+    (key : CaseKey) → count_of (get same_key l.cases key)
     ≡ count_by (is_entry l.graph l.block.0 key) (map (λ (w : WordNo). w.0) (take l.word-index l.targets))
-    + count_of (get nat_eq l.fn.cases key)
+    + count_of (get same_key l.fn.cases key)

@@ -1,0 +1,71 @@
+use Rattle.std.proofs.Common.{◌≡◌, refl, ap, ◌∙◌, subst, sym, arith}
+use Rattle.std.proofs.lemmas.Grind.{get_or_default_zero}
+use Rattle.elf32_sparc.specs.Image.{Program}
+use Rattle.cfg_blocks.specs.Marks.{numbers}
+use Rattle.image_code.proofs.Fit.{pieces_fit, places_say}
+use Rattle.image_code.proofs.Made.{pieces_make_images}
+use Rattle.edit_core.specs.Faithful.{IsFaithful}
+use Rattle.edit_core.specs.Taken.{bound_of}
+use Rattle.edit_core.specs.Written.{IsTheEdit, plan_of}
+use Rattle.edit_core.proofs.Views.{can_edit, view_bound, view_can_do, view_is}
+use Rattle.edit_core.proofs.Faithful.{faithful}
+use Rattle.edit_core.proofs.RunsAlike.{edits_run_alike}
+use Rattle.edit_core.proofs.Steps.{original_fit}
+use Rattle.edit_core.proofs.Tools.{asks, counts}
+use Rattle.edit_core.proofs.editing.edit_view.Goals as goal
+
+pub asked_of-requires : goal.asked_of-requires
+asked_of-requires g c =
+    λ plan is. counts g.F.Chooser.says c.args.tool.now c.args.bytes.now _ c.requires.view plan c.requires.counters is
+
+pub returns-then-had-needed-clause-refused : goal.returns-then-had-needed-clause-refused
+returns-then-had-needed-clause-refused g c =
+    let plan = plan_of (numbers c.args.tool.now.marks) c.in_ok-asked.asked in (
+      plan,
+      asks g.F.Chooser.says c.args.tool.now c.args.bytes.now _ c.requires.view plan c.in_ok-asked.ensures.plan,
+      record {
+        sound = c.requires.sound;
+        needed_is = c.in_ok-needed.ensures ∙ rw (c.text-text.ensures, c.deref.ensures.value)
+            (view_bound c.args.bytes.now plan _ c.requires.view);
+        had_is = c.from-had.ensures ∙ c.room.ensures
+            ∙ ap (λ (i : Program). i.room) (view_is c.args.bytes.now plan _ c.requires.view).0;
+        less = c.if-had-needed.true;
+      },
+    )
+
+pub edited-requires-clause-asked : goal.edited-requires-clause-asked
+edited-requires-clause-asked g c =
+    let plan = plan_of (numbers c.args.tool.now.marks) c.in_ok-asked.asked in
+    let needed : c.in_ok-needed.needed ≡ bound_of c.args.view.now.image.text c.args.view.now.graph plan =
+    c.in_ok-needed.ensures ∙ rw (c.text-text.ensures, c.deref.ensures.value) refl in
+    let had = c.from-had.ensures ∙ c.room.ensures in (
+      numbers c.args.tool.now.marks,
+      view_is c.args.bytes.now plan _ c.requires.view,
+      can_edit c.args.bytes.now plan _ c.requires.view (sym c.requires.sound)
+          (omega (arith, needed, had, c.if-had-needed.false)),
+      view_can_do c.args.bytes.now plan _ c.requires.view c.in_ok-asked.ensures.work,
+    )
+
+pub returns-clause-edited : goal.returns-clause-edited
+unfolding IsTheEdit
+returns-clause-edited g c =
+    let bytes = c.args.bytes.now in
+    let plan = plan_of (numbers c.args.tool.now.marks) c.in_ok-asked.asked in
+    let needed : c.in_ok-needed.needed ≡ bound_of c.args.view.now.image.text c.args.view.now.graph plan =
+    c.in_ok-needed.ensures ∙ rw (c.text-text.ensures, c.deref.ensures.value) refl in
+    let had = c.from-had.ensures ∙ c.room.ensures in
+    let can = can_edit bytes plan _ c.requires.view (sym c.requires.sound)
+    (omega (arith, needed, had, c.if-had-needed.false)) in
+    let work = view_can_do bytes plan _ c.requires.view c.in_ok-asked.ensures.work in
+    let written = c.in_ok-file.ensures (numbers c.args.tool.now.marks) (view_is bytes plan _ c.requires.view) in (
+      plan,
+      asks g.F.Chooser.says c.args.tool.now bytes _ c.requires.view plan c.in_ok-asked.ensures.plan,
+      can,
+      subst (IsFaithful bytes plan) (sym written.is)
+          (faithful (edits_run_alike pieces_make_images pieces_fit) places_say bytes plan
+          (original_fit pieces_fit bytes plan can work)
+          c.requires.limit
+          (λ k d below. let same = get_or_default_zero bytes k d below in let fits = c.type_inv.bytes k in omega arith)
+          can work written.p written.place written.table written.code),
+      written,
+    )
