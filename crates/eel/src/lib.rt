@@ -28,7 +28,7 @@ mod visiting;
 mod weighing;
 
 pub use counting::edits_are_profiles;
-pub use outcome::{Outcome, show};
+pub use outcome::Outcome;
 pub use program::run_words;
 pub use top::eel;
 pub use trace::edits_are_traces;

@@ -5,7 +5,7 @@ ghost use Rattle.std.specs.Prelude.{◌≡◌};
 ghost use Rattle.eel.specs.Outcome.{outcome_seen};
 ghost use Rattle.eel_main.specs.Refusal.{refusal_of};
 
-use eel::{Outcome, run_words, show};
+use eel::{Outcome, run_words};
 use eel_base::{RealFiles, StdSink, StdSource};
 use std::process::ExitCode;
 use std::{env, io};
@@ -34,7 +34,7 @@ fn refusal(kind: io::ErrorKind) -> Outcome<'static>
 fn main(rt: HostRuntime) -> ExitCode {
     let status = match run_command(&rt) {
         Ok(status) => status,
-        Err(fault) => show(&refusal(fault.kind()), &mut StdSink::new(rt.stderr())),
+        Err(fault) => refusal(fault.kind()).show(&mut StdSink::new(rt.stderr())),
     };
     ExitCode::from(status)
 }
