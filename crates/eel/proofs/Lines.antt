@@ -30,14 +30,14 @@ took-piece old now new pieces i d fits first part =
         ap joined (sym (take-append-drop i pieces)) ∙ flat_map-append (λ (p : Bor (List ℕ)). p.now) (take i pieces) (drop i pieces)
         ∙ ap (λ z. joined (take i pieces) ++ joined z) (drop-cons pieces i d fits)
 
--- a line about a name, with two numbers, and the pieces by which it is written
-pub two_numbers : (start name colon before one between other end : List ℕ)
-    → start ++ (((name ++ colon) ++ (before ++ ((one ++ between) ++ other))) ++ end)
-    ≡ start ++ (name ++ ((colon ++ before) ++ (one ++ (between ++ (other ++ end)))))
-two_numbers start name colon before one between other end = simp append_assoc refl
+-- a line about a name, with a number, and the pieces by which it is written
+pub one_number : (start name colon before one after end : List ℕ)
+    → start ++ (((name ++ colon) ++ ((before ++ one) ++ after)) ++ end)
+    ≡ start ++ (name ++ (colon ++ (before ++ (one ++ (after ++ end)))))
+one_number start name colon before one after end = simp append_assoc refl
 
--- and with words behind them
-pub two_numbers_of : (start name colon before one between other last end : List ℕ)
-    → start ++ (((name ++ colon) ++ (before ++ (((one ++ between) ++ other) ++ last))) ++ end)
-    ≡ start ++ (name ++ ((colon ++ before) ++ (one ++ (between ++ (other ++ (last ++ end))))))
-two_numbers_of start name colon before one between other last end = simp append_assoc refl
+-- and with two
+pub two_numbers : (start name colon before one between other after end : List ℕ)
+    → start ++ (((name ++ colon) ++ ((((before ++ one) ++ between) ++ other) ++ after)) ++ end)
+    ≡ start ++ (name ++ (colon ++ (before ++ (one ++ (between ++ (other ++ (after ++ end)))))))
+two_numbers start name colon before one between other after end = simp append_assoc refl

@@ -14,6 +14,7 @@ mod listing;
 mod noted;
 mod outcome;
 mod profiling;
+mod program;
 mod report;
 mod restore;
 mod run;
@@ -27,6 +28,7 @@ mod visiting;
 mod weighing;
 
 pub use counting::edits_are_profiles;
-pub use outcome::{Outcome, show};
+pub use outcome::Outcome;
+pub use program::run_words;
 pub use top::eel;
 pub use trace::edits_are_traces;

@@ -1,11 +1,11 @@
 //! What came of a command, and how the program shows it.
-ghost use Rattle.std.specs.Prelude.{◌≡◌, ◌≤◌, ◌++◌, ◌∷◌, [], codes, decimal, OnOk, OnErr};
+ghost use Rattle.std.specs.Prelude.{◌≡◌, ◌≤◌, ◌++◌, ◌∷◌, [], codes, OnOk, OnErr};
 ghost use Rattle.eel_base.specs.Outside.{Rose, appended, TookPart};
-ghost use Rattle.eel.specs.Outcome.{BadLine, NoRoom, cause_text as cause_text_of, outcome_seen, status_of, ending_text, line_of, stream, Shows, joined, BadCell, NoCounts, line_about};
 ghost use Rattle.eel.specs.declared.outcome.CountCause.TheVariants as count_causes;
+ghost use Rattle.eel.specs.Outcome.{BadLine, cause_text as cause_text_of, outcome_seen, status_of, ending_text, line_of, stream, Shows, joined, NoCounts, line_about};
 
 use eel_base::{Addr, EdgeNo, Failed, NoMemory, Sink, hex8, put_all};
-use itoa::Buffer;
+use itoa::{Buffer, Integer};
 use v8_step::Ending;
 
 /// What came of a command.
@@ -155,17 +155,17 @@ impl Outcome<'_> {
             Outcome::DeviceFault => DEVICE_FAULT,
         }
     }
-}
 
-/// Writes the outcome's line, and answers its status.
-pub fn show<E: Sink>(outcome: &Outcome, err: &mut E) -> u8
-    ensures shows { Shows (outcome_seen outcome.now) result
-        (stream (E.taken err.old) (E.faults err.old)) (stream (E.taken err.new) (E.faults err.new)) }
-    ensures later { E.faults err.old ≤ E.faults err.new }
-{
-    match put_line(outcome, err) {
-        Ok(()) => outcome.status(),
-        Err(Failed) => DEVICE_FAULT,
+    /// Writes the outcome's line, and answers its status.
+    pub fn show<E: Sink>(&self, err: &mut E) -> u8
+        ensures shows { Shows (outcome_seen self.now) result
+            (stream (E.taken err.old) (E.faults err.old)) (stream (E.taken err.new) (E.faults err.new)) }
+        ensures later { E.faults err.old ≤ E.faults err.new }
+    {
+        match put_line(self, err) {
+            Ok(()) => self.status(),
+            Err(Failed) => DEVICE_FAULT,
+        }
     }
 }
 
@@ -180,35 +180,28 @@ fn put_line<E: Sink>(outcome: &Outcome, err: &mut E) -> Result<(), Failed>
         Outcome::Done => Ok(()),
         Outcome::Stopped { ending, steps } => put_ending(*ending, *steps, err),
         Outcome::BadWords => put_pieces(err, &[b"eel: bad words\n"]),
-        Outcome::BadFile { name, code } => put_number(name, b"file fault ", u32::from(*code), err),
+        Outcome::BadFile { name, code } => put_number(name, b"file fault ", *code, b"", err),
         Outcome::BadLine {
             name,
             number,
             cause,
         } => put_bad_line(name, *number, *cause, err),
         Outcome::TooLong { name, limit } => {
-            let mut digits = Buffer::new();
-            let limit = digits.format(*limit).as_bytes();
-            put_pieces(
-                err,
-                &[
-                    b"eel: ",
-                    name.as_bytes(),
-                    b": longer than ",
-                    limit,
-                    b" bytes\n",
-                ],
-            )
+            put_number(name, b"longer than ", *limit, b" bytes", err)
         }
-        Outcome::NoRoom { name, needed, had } => put_no_room(name, *needed, *had, err),
+        Outcome::NoRoom { name, needed, had } => {
+            put_numbers(name, b"room ", *needed, b" needed, ", *had, b" had", err)
+        }
         Outcome::NoNotes { name } => put_about(name, b"no notes", err),
-        Outcome::BadNotes { name, at } => put_number(name, b"bad notes at ", *at, err),
-        Outcome::BadDump { name, at } => put_number(name, b"bad dump at ", *at, err),
+        Outcome::BadNotes { name, at } => put_number(name, b"bad notes at ", *at, b"", err),
+        Outcome::BadDump { name, at } => put_number(name, b"bad dump at ", *at, b"", err),
         Outcome::NoProfile { name } => put_about(name, b"no profile", err),
         Outcome::NotEveryWord { name } => put_about(name, b"not every word", err),
         Outcome::NoCounts { name, cause } => put_no_counts(name, *cause, err),
         Outcome::NoTrace { name } => put_about(name, b"no trace", err),
-        Outcome::BadCell { name, cell, value } => put_bad_cell(name, *cell, *value, err),
+        Outcome::BadCell { name, cell, value } => {
+            put_numbers(name, b"cell ", *cell, b" has ", *value, b"", err)
+        }
         Outcome::OutOfMemory => put_pieces(err, &[b"eel: out of memory\n"]),
         Outcome::DeviceFault => put_pieces(err, &[b"eel: device fault\n"]),
     }
@@ -224,42 +217,53 @@ fn put_about<E: Sink>(name: &str, text: &[u8], err: &mut E) -> Result<(), Failed
     put_pieces(err, &[b"eel: ", name.as_bytes(), b": ", text, b"\n"])
 }
 
-/// Writes a text and a number that are to be told of the file `name`.
-fn put_number<E: Sink>(name: &str, text: &[u8], number: u32, err: &mut E) -> Result<(), Failed>
-    ensures all { OnOk result (E.taken err.new ≡ appended (E.taken err.old) (line_about name.now (text.now ++ decimal number))) }
-    ensures part { OnErr result (TookPart (E.taken err.old) (E.taken err.new) (line_about name.now (text.now ++ decimal number))) }
+/// Writes what is to be told of the file `name`, with a number in it.
+fn put_number<'a, N: Integer, E: Sink>(
+    name: &'a str,
+    before: &'a [u8],
+    number: N,
+    after: &'a [u8],
+    err: &mut E,
+) -> Result<(), Failed>
+    ensures all { OnOk result (E.taken err.new ≡ appended (E.taken err.old)
+        (line_about name.now (before.now ++ N.text number ++ after.now))) }
+    ensures part { OnErr result (TookPart (E.taken err.old) (E.taken err.new)
+        (line_about name.now (before.now ++ N.text number ++ after.now))) }
     ensures failed { OnErr result (Rose (E.faults err.old) (E.faults err.new)) }
     ensures later { E.faults err.old ≤ E.faults err.new }
 {
     let mut digits = Buffer::new();
     let number = digits.format(number).as_bytes();
-    put_pieces(
-        err,
-        &[b"eel: ", name.as_bytes(), b": ", text, number, b"\n"],
-    )
+    let name = name.as_bytes();
+    put_pieces(err, &[b"eel: ", name, b": ", before, number, after, b"\n"])
 }
 
-/// Writes that the edit of the file `name` asks for more room than there is.
-fn put_no_room<E: Sink>(name: &str, needed: u64, had: u64, err: &mut E) -> Result<(), Failed>
-    ensures all { OnOk result (E.taken err.new ≡ appended (E.taken err.old) (line_of (NoRoom name.now needed had))) }
-    ensures part { OnErr result (TookPart (E.taken err.old) (E.taken err.new) (line_of (NoRoom name.now needed had))) }
+/// The same, with two numbers.
+fn put_numbers<'a, M: Integer, N: Integer, E: Sink>(
+    name: &'a str,
+    before: &'a [u8],
+    first: M,
+    between: &'a [u8],
+    second: N,
+    after: &'a [u8],
+    err: &mut E,
+) -> Result<(), Failed>
+    ensures all { OnOk result (E.taken err.new ≡ appended (E.taken err.old)
+        (line_about name.now (before.now ++ M.text first ++ between.now ++ N.text second ++ after.now))) }
+    ensures part { OnErr result (TookPart (E.taken err.old) (E.taken err.new)
+        (line_about name.now (before.now ++ M.text first ++ between.now ++ N.text second ++ after.now))) }
     ensures failed { OnErr result (Rose (E.faults err.old) (E.faults err.new)) }
     ensures later { E.faults err.old ≤ E.faults err.new }
 {
-    let mut needed_digits = Buffer::new();
-    let mut had_digits = Buffer::new();
-    let needed = needed_digits.format(needed).as_bytes();
-    let had = had_digits.format(had).as_bytes();
+    let mut first_digits = Buffer::new();
+    let mut second_digits = Buffer::new();
+    let first = first_digits.format(first).as_bytes();
+    let second = second_digits.format(second).as_bytes();
+    let name = name.as_bytes();
     put_pieces(
         err,
         &[
-            b"eel: ",
-            name.as_bytes(),
-            b": room ",
-            needed,
-            b" needed, ",
-            had,
-            b" had\n",
+            b"eel: ", name, b": ", before, first, between, second, after, b"\n",
         ],
     )
 }
@@ -314,101 +318,32 @@ fn put_no_counts<E: Sink>(name: &str, cause: CountCause, err: &mut E) -> Result<
     ensures later { E.faults err.old ≤ E.faults err.new }
 {
     match cause {
-        CountCause::Version { dump, notes } => put_versions(name, dump, notes, err),
-        CountCause::Length { length, wanted } => put_length(name, length, wanted, err),
-        CountCause::Shape { cells, wanted } => put_shape(name, cells, wanted, err),
-        CountCause::Steps(steps) => put_steps(name, steps, err),
+        CountCause::Version { dump, notes } => put_numbers(
+            name,
+            b"dump version ",
+            dump,
+            b", notes version ",
+            notes,
+            b"",
+            err,
+        ),
+        CountCause::Length { length, wanted } => put_numbers(
+            name,
+            b"made for ",
+            length,
+            b" bytes, ",
+            wanted,
+            b" wanted",
+            err,
+        ),
+        CountCause::Shape { cells, wanted } => {
+            put_numbers(name, b"", cells, b" cells, ", wanted, b" wanted", err)
+        }
+        CountCause::Steps(steps) => put_number(name, b"", steps, b" steps", err),
         CountCause::Between(pc) => put_between(name, pc, err),
         CountCause::Negative { edge, value } => put_count(name, edge, value, err),
         CountCause::Large { edge, value } => put_count(name, edge, value, err),
     }
-}
-
-/// Writes that it has this version, and the notes another one.
-fn put_versions<E: Sink>(name: &str, dump: u32, notes: u32, err: &mut E) -> Result<(), Failed>
-    ensures all { OnOk result (E.taken err.new ≡ appended (E.taken err.old) (line_of (NoCounts name.now (count_causes.Version dump notes)))) }
-    ensures part { OnErr result (TookPart (E.taken err.old) (E.taken err.new) (line_of (NoCounts name.now (count_causes.Version dump notes)))) }
-    ensures failed { OnErr result (Rose (E.faults err.old) (E.faults err.new)) }
-    ensures later { E.faults err.old ≤ E.faults err.new }
-{
-    let mut dump_digits = Buffer::new();
-    let mut notes_digits = Buffer::new();
-    let dump = dump_digits.format(dump).as_bytes();
-    let notes = notes_digits.format(notes).as_bytes();
-    put_pieces(
-        err,
-        &[
-            b"eel: ",
-            name.as_bytes(),
-            b": dump version ",
-            dump,
-            b", notes version ",
-            notes,
-            b"\n",
-        ],
-    )
-}
-
-/// Writes that it was made for an original of this size, and another one is wanted.
-fn put_length<E: Sink>(name: &str, length: u32, wanted: u32, err: &mut E) -> Result<(), Failed>
-    ensures all { OnOk result (E.taken err.new ≡ appended (E.taken err.old) (line_of (NoCounts name.now (count_causes.Length length wanted)))) }
-    ensures part { OnErr result (TookPart (E.taken err.old) (E.taken err.new) (line_of (NoCounts name.now (count_causes.Length length wanted)))) }
-    ensures failed { OnErr result (Rose (E.faults err.old) (E.faults err.new)) }
-    ensures later { E.faults err.old ≤ E.faults err.new }
-{
-    let mut length_digits = Buffer::new();
-    let mut wanted_digits = Buffer::new();
-    let length = length_digits.format(length).as_bytes();
-    let wanted = wanted_digits.format(wanted).as_bytes();
-    put_pieces(
-        err,
-        &[
-            b"eel: ",
-            name.as_bytes(),
-            b": made for ",
-            length,
-            b" bytes, ",
-            wanted,
-            b" wanted\n",
-        ],
-    )
-}
-
-/// Writes that it has so many cells, and another number is wanted.
-fn put_shape<E: Sink>(name: &str, cells: u32, wanted: u32, err: &mut E) -> Result<(), Failed>
-    ensures all { OnOk result (E.taken err.new ≡ appended (E.taken err.old) (line_of (NoCounts name.now (count_causes.Shape cells wanted)))) }
-    ensures part { OnErr result (TookPart (E.taken err.old) (E.taken err.new) (line_of (NoCounts name.now (count_causes.Shape cells wanted)))) }
-    ensures failed { OnErr result (Rose (E.faults err.old) (E.faults err.new)) }
-    ensures later { E.faults err.old ≤ E.faults err.new }
-{
-    let mut cell_digits = Buffer::new();
-    let mut wanted_digits = Buffer::new();
-    let cells = cell_digits.format(cells).as_bytes();
-    let wanted = wanted_digits.format(wanted).as_bytes();
-    put_pieces(
-        err,
-        &[
-            b"eel: ",
-            name.as_bytes(),
-            b": ",
-            cells,
-            b" cells, ",
-            wanted,
-            b" wanted\n",
-        ],
-    )
-}
-
-/// Writes that the run made so many steps.
-fn put_steps<E: Sink>(name: &str, steps: u64, err: &mut E) -> Result<(), Failed>
-    ensures all { OnOk result (E.taken err.new ≡ appended (E.taken err.old) (line_of (NoCounts name.now (count_causes.Steps steps)))) }
-    ensures part { OnErr result (TookPart (E.taken err.old) (E.taken err.new) (line_of (NoCounts name.now (count_causes.Steps steps)))) }
-    ensures failed { OnErr result (Rose (E.faults err.old) (E.faults err.new)) }
-    ensures later { E.faults err.old ≤ E.faults err.new }
-{
-    let mut digits = Buffer::new();
-    let steps = digits.format(steps).as_bytes();
-    put_pieces(err, &[b"eel: ", name.as_bytes(), b": ", steps, b" steps\n"])
 }
 
 /// Writes that the run stands between places.
@@ -461,31 +396,6 @@ fn put_count<E: Sink>(name: &str, edge: EdgeNo, value: i128, err: &mut E) -> Res
             b": edge ",
             edge,
             b" would be ",
-            value,
-            b"\n",
-        ],
-    )
-}
-
-/// Writes that this cell of the dump `name` holds what stands for no edge.
-fn put_bad_cell<E: Sink>(name: &str, cell: u32, value: u32, err: &mut E) -> Result<(), Failed>
-    ensures all { OnOk result (E.taken err.new ≡ appended (E.taken err.old) (line_of (BadCell name.now cell value))) }
-    ensures part { OnErr result (TookPart (E.taken err.old) (E.taken err.new) (line_of (BadCell name.now cell value))) }
-    ensures failed { OnErr result (Rose (E.faults err.old) (E.faults err.new)) }
-    ensures later { E.faults err.old ≤ E.faults err.new }
-{
-    let mut cell_digits = Buffer::new();
-    let mut value_digits = Buffer::new();
-    let cell = cell_digits.format(cell).as_bytes();
-    let value = value_digits.format(value).as_bytes();
-    put_pieces(
-        err,
-        &[
-            b"eel: ",
-            name.as_bytes(),
-            b": cell ",
-            cell,
-            b" has ",
             value,
             b"\n",
         ],

@@ -13,7 +13,7 @@ use crate::dumps::run_for_dump;
 use crate::edit::{edit_by_script, edit_plain};
 use crate::every::edit_every_word;
 use crate::listing::show_program;
-use crate::outcome::{Outcome, show};
+use crate::outcome::Outcome;
 use crate::profiling::edit_for_counts;
 use crate::report::report_run;
 use crate::restore::restore_original;
@@ -71,7 +71,7 @@ pub fn eel<F: Files, I: Source, O: Sink, E: Sink>(
         (stream (O.taken out.new) (O.faults out.new)) (stream (E.taken err.new) (E.faults err.new))) }
 {
     let outcome = perform(alloc, words, files, input, out, err);
-    show(&outcome, err)
+    outcome.show(err)
 }
 
 /// Does what the words ask for, and says what came of it.

@@ -1,4 +1,4 @@
-use Rattle.std.proofs.Common.{append_assoc}
+use Rattle.std.proofs.Common.{append-nil}
 use Rattle.eel.proofs.outcome.put_line.Goals as goal
 
 pub returns-in-BadWords-clause-all : goal.returns-in-BadWords-clause-all
@@ -20,22 +20,22 @@ pub returns-in-DeviceFault-clause-part : goal.returns-in-DeviceFault-clause-part
 returns-in-DeviceFault-clause-part g c = rw c.in-DeviceFault.is c.put_pieces-in-DeviceFault.ensures.part
 
 pub returns-in-BadFile-clause-all : goal.returns-in-BadFile-clause-all
-returns-in-BadFile-clause-all g c = rw c.in-BadFile.is (rw c.from.ensures at c.put_number.ensures.all)
+returns-in-BadFile-clause-all g c = rw c.in-BadFile.is (simp append-nil at c.put_number.ensures.all)
 
 pub returns-in-BadFile-clause-part : goal.returns-in-BadFile-clause-part
-returns-in-BadFile-clause-part g c = rw c.in-BadFile.is (rw c.from.ensures at c.put_number.ensures.part)
+returns-in-BadFile-clause-part g c = rw c.in-BadFile.is (simp append-nil at c.put_number.ensures.part)
 
 pub returns-in-TooLong-clause-all : goal.returns-in-TooLong-clause-all
-returns-in-TooLong-clause-all g c = rw c.in-TooLong.is (simp append_assoc (rw (c.as_bytes.ensures.value, c.as_bytes-limit.ensures.value, c.format.ensures.text) at c.put_pieces-in-TooLong.ensures.all))
+returns-in-TooLong-clause-all g c = rw c.in-TooLong.is c.put_number-in-TooLong.ensures.all
 
 pub returns-in-TooLong-clause-part : goal.returns-in-TooLong-clause-part
-returns-in-TooLong-clause-part g c = rw c.in-TooLong.is (simp append_assoc (rw (c.as_bytes.ensures.value, c.as_bytes-limit.ensures.value, c.format.ensures.text) at c.put_pieces-in-TooLong.ensures.part))
+returns-in-TooLong-clause-part g c = rw c.in-TooLong.is c.put_number-in-TooLong.ensures.part
 
 pub returns-in-NoRoom-clause-all : goal.returns-in-NoRoom-clause-all
-returns-in-NoRoom-clause-all g c = rw c.in-NoRoom.is c.put_no_room.ensures.all
+returns-in-NoRoom-clause-all g c = rw c.in-NoRoom.is c.put_numbers.ensures.all
 
 pub returns-in-NoRoom-clause-part : goal.returns-in-NoRoom-clause-part
-returns-in-NoRoom-clause-part g c = rw c.in-NoRoom.is c.put_no_room.ensures.part
+returns-in-NoRoom-clause-part g c = rw c.in-NoRoom.is c.put_numbers.ensures.part
 
 pub returns-in-NoNotes-clause-all : goal.returns-in-NoNotes-clause-all
 returns-in-NoNotes-clause-all g c = rw c.in-NoNotes.is c.put_about.ensures.all
@@ -44,16 +44,16 @@ pub returns-in-NoNotes-clause-part : goal.returns-in-NoNotes-clause-part
 returns-in-NoNotes-clause-part g c = rw c.in-NoNotes.is c.put_about.ensures.part
 
 pub returns-in-BadNotes-clause-all : goal.returns-in-BadNotes-clause-all
-returns-in-BadNotes-clause-all g c = rw c.in-BadNotes.is c.put_number-in-BadNotes.ensures.all
+returns-in-BadNotes-clause-all g c = rw c.in-BadNotes.is (simp append-nil at c.put_number-in-BadNotes.ensures.all)
 
 pub returns-in-BadNotes-clause-part : goal.returns-in-BadNotes-clause-part
-returns-in-BadNotes-clause-part g c = rw c.in-BadNotes.is c.put_number-in-BadNotes.ensures.part
+returns-in-BadNotes-clause-part g c = rw c.in-BadNotes.is (simp append-nil at c.put_number-in-BadNotes.ensures.part)
 
 pub returns-in-BadDump-clause-all : goal.returns-in-BadDump-clause-all
-returns-in-BadDump-clause-all g c = rw c.in-BadDump.is c.put_number-in-BadDump.ensures.all
+returns-in-BadDump-clause-all g c = rw c.in-BadDump.is (simp append-nil at c.put_number-in-BadDump.ensures.all)
 
 pub returns-in-BadDump-clause-part : goal.returns-in-BadDump-clause-part
-returns-in-BadDump-clause-part g c = rw c.in-BadDump.is c.put_number-in-BadDump.ensures.part
+returns-in-BadDump-clause-part g c = rw c.in-BadDump.is (simp append-nil at c.put_number-in-BadDump.ensures.part)
 
 pub returns-in-NoProfile-clause-all : goal.returns-in-NoProfile-clause-all
 returns-in-NoProfile-clause-all g c = rw c.in-NoProfile.is c.put_about-in-NoProfile.ensures.all
@@ -72,3 +72,9 @@ returns-in-NoTrace-clause-all g c = rw c.in-NoTrace.is c.put_about-in-NoTrace.en
 
 pub returns-in-NoTrace-clause-part : goal.returns-in-NoTrace-clause-part
 returns-in-NoTrace-clause-part g c = rw c.in-NoTrace.is c.put_about-in-NoTrace.ensures.part
+
+pub returns-in-BadCell-clause-all : goal.returns-in-BadCell-clause-all
+returns-in-BadCell-clause-all g c = rw c.in-BadCell.is (simp append-nil at c.put_numbers-in-BadCell.ensures.all)
+
+pub returns-in-BadCell-clause-part : goal.returns-in-BadCell-clause-part
+returns-in-BadCell-clause-part g c = rw c.in-BadCell.is (simp append-nil at c.put_numbers-in-BadCell.ensures.part)

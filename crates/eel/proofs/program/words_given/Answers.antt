@@ -2,7 +2,7 @@ use Rattle.std.proofs.Common.{rules}
 use Rattle.std.proofs.lemmas.Iterator.{YieldsList-from_map_by, YieldsList-from_slice}
 use Rattle.std.proofs.lemmas.Iterator.Adapters.{YieldsList-from_skip}
 use Rattle.std.proofs.lemmas.Iterator.Consumers.{map_from_collect}
-use Rattle.eel_main.proofs.words_given.Goals as goal
+use Rattle.eel.proofs.program.words_given.Goals as goal
 
 pub returns : goal.returns
 returns c =

@@ -1,0 +1,42 @@
+//! The call that `main` makes: the words behind the name of the program are a command.
+ghost use Rattle.std.specs.Prelude.{◌≡◌, drop, map, string_bytes, IfOk, OnErr};
+ghost use Rattle.eel.specs.Command.{command_of, texts};
+ghost use Rattle.eel.specs.Outcome.{stream};
+ghost use Rattle.eel.specs.Answers.Shared.{outside, store, feed};
+ghost use Rattle.eel.specs.Answers.{Ran};
+
+use crate::top::eel;
+use eel_base::{Files, Sink, Source};
+use std::alloc::{AllocError, Global};
+
+/// The words after the program's name.
+pub fn words_given<'a>(alloc: Global, all: &'a [String]) -> Result<Vec<&'a str>, AllocError>
+    ensures { IfOk result (λ words. texts words.items ≡ map string_bytes (drop 1 all.now)) }
+{
+    all.iter().skip(1).map(|word| word.as_str()).collect(alloc)
+}
+
+/// Runs the command that the words after the program's name are, with the files and streams given, and answers the
+/// status to end with.
+pub fn run_words<F: Files, I: Source, O: Sink, E: Sink>(
+    alloc: Global,
+    all: &[String],
+    files: &mut F,
+    input: &mut I,
+    out: &mut O,
+    err: &mut E,
+) -> Result<u8, AllocError>
+    ensures ran { IfOk result (Ran (command_of (map string_bytes (drop 1 all.now)))
+        (outside (store (F.held files.old) (F.faults files.old)) (feed (I.left input.old) (I.faults input.old))
+        (stream (O.taken out.old) (O.faults out.old)) (stream (E.taken err.old) (E.faults err.old)))
+        (outside (store (F.held files.new) (F.faults files.new)) (feed (I.left input.new) (I.faults input.new))
+        (stream (O.taken out.new) (O.faults out.new)) (stream (E.taken err.new) (E.faults err.new)))) }
+    ensures unrun { OnErr result (
+        outside (store (F.held files.new) (F.faults files.new)) (feed (I.left input.new) (I.faults input.new))
+        (stream (O.taken out.new) (O.faults out.new)) (stream (E.taken err.new) (E.faults err.new))
+        ≡ outside (store (F.held files.old) (F.faults files.old)) (feed (I.left input.old) (I.faults input.old))
+        (stream (O.taken out.old) (O.faults out.old)) (stream (E.taken err.old) (E.faults err.old))) }
+{
+    let words = words_given(alloc, all)?;
+    Ok(eel(alloc, &words, files, input, out, err))
+}
