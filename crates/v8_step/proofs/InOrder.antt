@@ -1,7 +1,7 @@
 -- Steps in order, with pc and npc as places among the records.
-use Rattle.std.proofs.Common.{◌≡◌, ◌≢◌, ◌+◌, ◌-◌, ◌*◌, ◌/◌, ◌%◌, ◌^◌, ◌<◌, ◌≤◌, ◌⊎◌, inl, inr, ℕ, ℤ, pos, negsuc, Bool, false, List, None, get_or, sym, ap, ◌∙◌, subst, arith}
-use Rattle.std.proofs.lemmas.Bool.{cases_lt, eq-eqb, ne_eqb}
-use Rattle.std.specs.Prelude.{FitsSigned, IsTrue, ◌==◌, if◌then◌else◌}
+use Rattle.std.proofs.Common.{◌≡◌, ◌+◌, ◌-◌, ◌*◌, ◌/◌, ◌%◌, ◌^◌, ◌<◌, ◌≤◌, ◌⊎◌, inl, inr, ℕ, ℤ, pos, negsuc, Bool, false, List, None, get_or, sym, ap, ◌∙◌, subst, arith}
+use Rattle.std.proofs.lemmas.Bool.{cases_lt, le-ltb, lt-ltb}
+use Rattle.std.specs.Prelude.{FitsSigned, IsTrue, nat_lt, if◌then◌else◌}
 use Rattle.std.specs.Int.{cast_unsigned, w32, w64}
 use Rattle.std.proofs.lemmas.Int.{ints}
 use Rattle.std.specs.Prelude.{Result, Ok, Err}
@@ -22,7 +22,7 @@ use Rattle.v8_step.specs.declared.ahead.Here.{Here}
 use Rattle.v8_step.specs.declared.ahead.Turn.{Turn}
 use Rattle.v8_step.specs.declared.ahead.Turn.TheVariants.{On, Stop}
 use Rattle.v8_step.specs.Ahead.{GoesOn, HasTurned, address_at, at_here, at_places, placed, slot_by, slot_of}
-use Rattle.v8_step.specs.State.{State, Slot, NoSlot, Taken, Untaken}
+use Rattle.v8_step.specs.State.{State, Slot, NoSlot}
 use Rattle.v8_step.specs.Step.{act}
 use Rattle.v8_step.specs.Turns.{IsQuietRun}
 use Rattle.v8_step.proofs.QuietRuns.{no_step, one_more, says_some, still_kept, turned_by}
@@ -35,43 +35,25 @@ goes_on s t x h goes =
     goes (address_at h.first h.cur) (address_at h.first h.next) (slot_of h)
     ∙ ap (λ npc. placed t (address_at h.first h.next) npc NoSlot) (next_address h.first h.next)
 
--- the slot by what was left in slots
-pub in_none : (left slot untaken : ℕ) → left ≢ slot → slot_by left slot untaken ≡ NoSlot
+-- the slot where it lasts, and where it is over
+pub in_slot : (next slot_end : ℕ) (slot : Slot) → next < slot_end → slot_by next slot_end slot ≡ slot
 unfolding slot_by
-in_none left slot untaken other =
-    ap (λ (b : Bool). if b then (if left == untaken then Untaken else Taken) else NoSlot) (ne_eqb left slot other)
+in_slot next slot_end slot less = ap (λ (b : Bool). if b then slot else NoSlot) (lt-ltb next slot_end less)
 
-pub in_taken : (left slot untaken : ℕ) → left ≡ slot → left ≢ untaken → slot_by left slot untaken ≡ Taken
+pub no_slot : (next slot_end : ℕ) (slot : Slot) → slot_end ≤ next → slot_by next slot_end slot ≡ NoSlot
 unfolding slot_by
-in_taken left slot untaken same other =
-    ap (λ (b : Bool). if b then (if left == untaken then Untaken else Taken) else NoSlot) (eq-eqb left slot same)
-    ∙ ap (λ (b : Bool). if b then Untaken else Taken) (ne_eqb left untaken other)
-
-pub in_untaken : (left slot untaken : ℕ) → left ≡ slot → left ≡ untaken → slot_by left slot untaken ≡ Untaken
-unfolding slot_by
-in_untaken left slot untaken same too =
-    ap (λ (b : Bool). if b then (if left == untaken then Untaken else Taken) else NoSlot) (eq-eqb left slot same)
-    ∙ ap (λ (b : Bool). if b then Untaken else Taken) (eq-eqb left untaken too)
-
-pub outside : (s : State) (h : Here) (x : Instr) → slot_of h ≡ NoSlot
-    → act (at_here s h) x ≡ act (at_places s h.first h.cur h.next NoSlot) x
-outside s h x none = ap (λ slot. act (at_places s h.first h.cur h.next slot) x) none
+no_slot next slot_end slot least = ap (λ (b : Bool). if b then slot else NoSlot) (le-ltb next slot_end least)
 
 -- at first
-pub at_start : (s : State) (first cur next slot untaken limit spare : ℕ) → address_at first cur ≡ s.pc
-    → address_at first next ≡ s.npc → slot_by limit slot untaken ≡ s.slot → limit + next ≡ spare
-    → IsQuietRun s (limit - (spare - next)) (at_places s first cur next (slot_by (spare - next) slot untaken))
-at_start s first cur next slot untaken limit spare pc npc same is =
-    subst (λ n. IsQuietRun s n (at_places s first cur next (slot_by (spare - next) slot untaken))) (omega arith)
+pub at_start : (s : State) (first cur next made : ℕ) → address_at first cur ≡ s.pc → address_at first next ≡ s.npc
+    → made ≡ 0 → IsQuietRun s made (at_places s first cur next (slot_by next (next + 1) s.slot))
+at_start s first cur next made pc npc none =
+    subst (λ n. IsQuietRun s n (at_places s first cur next (slot_by next (next + 1) s.slot))) (sym none)
     (subst (IsQuietRun s 0) (sym all) (no_step s))
   where
-    left : spare - next ≡ limit
-    left = omega arith
-
-    all : at_places s first cur next (slot_by (spare - next) slot untaken) ≡ s
+    all : at_places s first cur next (slot_by next (next + 1) s.slot) ≡ s
     all =
-        ap (λ n. at_places s first cur next (slot_by n slot untaken)) left
-        ∙ ap (at_places s first cur next) same
+        ap (at_places s first cur next) (in_slot next (next + 1) s.slot (omega arith))
         ∙ ap (λ n. placed s n (address_at first next) s.slot) pc ∙ ap (λ n. placed s s.pc n s.slot) npc
 
 pub target_place : (first cur : ℕ) (d : ℤ) → FitsSigned w32 d

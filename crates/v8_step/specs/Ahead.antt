@@ -1,5 +1,5 @@
 -- Steps in order: pc, npc and the slot stand outside of the state, pc and npc as places among the records.
-use Rattle.std.specs.Prelude.{◌≡◌, ◌<◌, ℕ, ◌+◌, ◌-◌, ◌*◌, ◌==◌, if◌then◌else◌}
+use Rattle.std.specs.Prelude.{◌≡◌, ◌<◌, ℕ, ◌+◌, ◌*◌, nat_lt, if◌then◌else◌}
 use Rattle.v8_decode.specs.declared.Instr.{Instr}
 use Rattle.v8_alu.specs.Numbers.{wrapped}
 use Rattle.v8_step.specs.declared.ahead.Here.{Here}
@@ -22,17 +22,12 @@ address_at first place = wrapped (first + 4 * place)
 abbrev pub at_places : State → ℕ → ℕ → ℕ → Slot → State
 at_places s first cur next slot = placed s (address_at first cur) (address_at first next) slot
 
--- the slot where so many steps are left, by how many were left in the last delay slot, and in the last one of a branch
--- that wasn't taken
-unfoldable pub slot_by : ℕ → ℕ → ℕ → Slot
-slot_by left slot untaken = if left == slot then (if left == untaken then Untaken else Taken) else NoSlot
-
--- how many steps are left
-abbrev pub left : Here → ℕ
-left h = h.spare - h.next
+-- the slot of the last transfer is over where npc's place has come to its end
+unfoldable pub slot_by : ℕ → ℕ → Slot → Slot
+slot_by next slot_end slot = if nat_lt next slot_end then slot else NoSlot
 
 abbrev pub slot_of : Here → Slot
-slot_of h = slot_by (left h) h.slot h.untaken
+slot_of h = slot_by h.next h.slot_end h.slot
 
 abbrev pub at_here : State → Here → State
 at_here s h = at_places s h.first h.cur h.next (slot_of h)
@@ -47,7 +42,7 @@ HasTurned Stop h s x t = t ≡ s
 
 -- there is a record at a place, and enough steps are left to go there, and on in order
 abbrev pub IsNear : ℕ → Here → Type 0
-IsNear place h = (place < h.len) × (h.len < left h - 1)
+IsNear place h = (place < h.len) × (h.next < h.spare)
 
 -- so it is where a turn goes
 abbrev pub IsWithin : Turn → Here → Type 0

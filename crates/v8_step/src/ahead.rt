@@ -8,7 +8,7 @@ ghost use Rattle.v8_decode.specs.declared.Instr.TheVariants as instrs;
 ghost use Rattle.v8_memory.specs.Kept.{AreKept};
 ghost use Rattle.v8_memory.specs.Ops.{IsSum, alu_in, instr_of, is_record, operand_in};
 ghost use Rattle.v8_memory.specs.Regions.{code_of};
-ghost use Rattle.v8_step.specs.Ahead.{GoesOn, HasTurned, IsNear, IsWithin, address_at, at_places, left, slot_by, slot_of};
+ghost use Rattle.v8_step.specs.Ahead.{GoesOn, HasTurned, IsNear, IsWithin, address_at, at_places, slot_by, slot_of};
 ghost use Rattle.v8_step.specs.Turns.{IsQuietRun};
 
 use crate::Slot;
@@ -34,8 +34,8 @@ pub enum Turn {
 }
 
 /// The place of an instruction and of the one after it among `len` records, of which the one of the word at `first` is
-/// the first. `spare` is how many steps are left, and `next` more. `slot` is how many were left in the last delay slot,
-/// and `untaken` in the last one of a branch that wasn't taken: so the slot needn't be kept.
+/// the first; `spare` is how many steps may still be made, and `next` more, beside those that all records in order take.
+/// `slot` is that of the last transfer, as long as `next` is below `slot_end`.
 #[derive(Clone, Copy, Drop)]
 pub struct Here {
     pub first: u32,
@@ -43,28 +43,18 @@ pub struct Here {
     pub cur: usize,
     pub next: usize,
     pub spare: u64,
-    pub slot: u64,
-    pub untaken: u64,
+    pub slot_end: usize,
+    pub slot: Slot,
 }
 
 impl Here {
-    /// How many steps are left.
-    #[inline(always)]
-    fn left(&self) -> u64
-        requires { self.now.next ≤ self.now.spare }
-        ensures { result ≡ left self.now }
-    {
-        self.spare - self.next as u64
-    }
-
     /// Whether the instruction is in the delay slot of a transfer.
     #[inline(always)]
-    #[tactic(auto, using(crate::proofs::InOrder::in_none))]
+    #[tactic(auto, using(crate::proofs::InOrder::no_slot))]
     fn is_in_slot(&self) -> bool
-        requires { self.now.next ≤ self.now.spare }
         ensures { result ≡ false → slot_of self.now ≡ Slot.NoSlot }
     {
-        self.left() == self.slot
+        self.next < self.slot_end
     }
 
     /// The place so many words on, or back.
@@ -80,10 +70,9 @@ impl Here {
     /// Whether there is a record at a place, and enough steps are left to go there, and on in order.
     #[inline(always)]
     fn reaches(&self, place: usize) -> bool
-        requires { self.now.next < self.now.spare }
         ensures { result ≡ true → IsNear place self.now }
     {
-        place < self.len && (self.len as u64) < self.left() - 1
+        place < self.len && (self.next as u64) < self.spare
     }
 }
 
@@ -92,7 +81,6 @@ impl Machine {
     #[inline(always)]
     #[tactic(auto, unfolding(v8_memory::specs::Ops::instr_of))]
     fn turn(&mut self, op: &Op, here: Here) -> Turn
-        requires room { here.next < here.spare }
         requires sum { IsSum op.now.rs2 op.now.imm }
         ensures state { HasTurned result here self.old (instr_of op.now) self.new }
         ensures within { IsWithin result here }
@@ -443,7 +431,6 @@ impl Machine {
     #[inline(always)]
     #[tactic(auto, using(crate::proofs::InOrder::target_place, crate::proofs::InOrder::next_address, crate::proofs::InOrder::after_annulled), unfolding(crate::specs::Step::act, crate::specs::Transfers::branch_step))]
     fn branch_turn(&mut self, cond: Cond, op: &Op, here: Here) -> Turn
-        requires room { here.next < here.spare }
         ensures state { HasTurned result here self.old (instrs.Branch cond (op.now.rd == 1) op.now.imm) self.new }
         ensures within { IsWithin result here }
         ensures going { self.new.ending ≡ self.old.ending }
@@ -476,7 +463,6 @@ impl Machine {
     #[inline(always)]
     #[tactic(auto, using(crate::proofs::InOrder::target_place), unfolding(crate::specs::Step::act, crate::specs::Transfers::call_step))]
     fn call_turn(&mut self, disp30: i32, here: Here) -> Turn
-        requires room { here.next < here.spare }
         ensures state { HasTurned result here self.old (instrs.Call disp30) self.new }
         ensures within { IsWithin result here }
         ensures going { self.new.ending ≡ self.old.ending }
@@ -492,7 +478,6 @@ impl Machine {
     #[inline(always)]
     #[tactic(auto, using(crate::proofs::InOrder::jump_place), unfolding(crate::specs::Step::act, crate::specs::Transfers::jump_step))]
     fn jump_turn(&mut self, op: &Op, here: Here) -> Turn
-        requires room { here.next < here.spare }
         requires sum { IsSum op.now.rs2 op.now.imm }
         ensures state { HasTurned result here self.old (instrs.Jmpl op.now.rd op.now.rs1 (operand_in op.now.rs2 op.now.imm)) self.new }
         ensures within { IsWithin result here }
@@ -509,35 +494,12 @@ impl Machine {
     }
 }
 
-/// The marks of a slot in which so many steps are left.
-#[tactic(auto, using(crate::proofs::InOrder::in_none, crate::proofs::InOrder::in_untaken, crate::proofs::InOrder::in_taken))]
-fn marks(slot: Slot, left: u64) -> (u64, u64)
-    requires { left + 1 < 2 ^ 64 }
-    ensures same { slot_by left result.0 result.1 ≡ slot }
-    ensures slot { left ≤ result.0 }
-    ensures untaken { left ≤ result.1 }
-{
-    match slot {
-        Slot::NoSlot => (u64::MAX, u64::MAX),
-        Slot::Taken => (left, u64::MAX),
-        Slot::Untaken => (left, left),
-    }
-}
-
-/// The slot of these marks where so many steps are left.
+/// The slot where `next` is this.
 #[tactic(auto, unfolding(crate::specs::Ahead::slot_by))]
-fn marked(left: u64, slot: u64, untaken: u64) -> Slot
-    ensures { result ≡ slot_by left slot untaken }
+fn slot_at(next: usize, slot_end: usize, slot: Slot) -> Slot
+    ensures { result ≡ slot_by next slot_end slot }
 {
-    if left == slot {
-        if left == untaken {
-            Slot::Untaken
-        } else {
-            Slot::Taken
-        }
-    } else {
-        Slot::NoSlot
-    }
+    if next < slot_end { slot } else { Slot::NoSlot }
 }
 
 /// The value and Y that an operation leaves, which leaves the codes.
@@ -589,13 +551,14 @@ pub(crate) fn go_far(ops: &[Op], first: u32, m: &mut Machine, limit: u64) -> u64
     if offset % 4 != 0 || after % 4 != 0 || cur >= len || next >= len {
         return 0;
     }
-    let mut spare = limit + next as u64;
-    let (mut slot, mut untaken) = marks(m.slot, limit);
+    let mut spare = limit + next as u64 - len as u64 - 1;
+    let mut slot_end = next + 1;
+    let mut slot = m.slot;
     // pc and npc are the places `cur` and `next`. In order they move on by one, and nothing is compared: the last record
-    // says nothing, and only transfers look at the limit, so that enough steps are left for all records in order. Steps
+    // says nothing, and `spare` leaves room for all records in order, so that only transfers look at the limit. Steps
     // aren't counted: in order `next` grows with them, and a transfer changes `spare` by as much as it changes `next`
-    // besides. The slot isn't kept: it is the place where no step was made since a transfer marked it. What can't be
-    // made here (a fault, a transfer in a slot, a target without a record) changes nothing, and ends the loop.
+    // besides. Only transfers write or read the slot: it is over once `next` has come to its end. What can't be made here
+    // (a fault, a transfer in a slot, a target without a record) changes nothing, and ends the loop.
     'turns: loop {
         let op = op_in(ops, first, cur);
         let here = Here {
@@ -604,8 +567,8 @@ pub(crate) fn go_far(ops: &[Op], first: u32, m: &mut Machine, limit: u64) -> u64
             cur,
             next,
             spare,
+            slot_end,
             slot,
-            untaken,
         };
         match m.turn(op, here) {
             Turn::On => {
@@ -613,26 +576,27 @@ pub(crate) fn go_far(ops: &[Op], first: u32, m: &mut Machine, limit: u64) -> u64
                 next += 1;
             }
             Turn::Past => {
-                slot = here.left() - 1;
-                untaken = slot;
+                slot = Slot::Untaken;
+                slot_end = next + 2;
                 cur = next;
                 next += 1;
             }
             Turn::To(place) => {
-                slot = here.left() - 1;
-                spare = slot + place as u64;
+                slot = Slot::Taken;
+                slot_end = place + 1;
+                spare = spare - next as u64 - 1 + place as u64;
                 cur = next;
                 next = place;
             }
             Turn::At(place) => {
-                spare = here.left() + place as u64;
+                slot_end = 0;
+                spare = spare - next as u64 + place as u64;
                 cur = place;
                 next = place + 1;
             }
             Turn::Stop => break,
         }
     }
-    let left = spare - next as u64;
-    m.stand_at(first, cur, next, marked(left, slot, untaken));
-    limit - left
+    m.stand_at(first, cur, next, slot_at(next, slot_end, slot));
+    limit + next as u64 - len as u64 - 1 - spare
 }

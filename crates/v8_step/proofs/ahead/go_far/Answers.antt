@@ -1,12 +1,37 @@
 -- One turn more.
-use Rattle.std.proofs.Common.{rules, arith, length, ◌≡◌, ◌+◌, ◌-◌, ◌<◌, ◌∙◌, sym}
+use Rattle.std.proofs.Common.{rules, arith, length, ℕ, ◌≡◌, ◌+◌, ◌-◌, ◌<◌, ◌∙◌, ap, sym, subst}
 use Rattle.v8_memory.specs.declared.ops.OpCode.TheVariants.{Other}
 use Rattle.v8_step.specs.declared.ahead.Here.{Here}
 use Rattle.v8_step.specs.declared.ahead.Turn.TheVariants.{On, Past, To, At}
-use Rattle.v8_step.specs.State.{NoSlot, Untaken, Taken}
-use Rattle.v8_step.specs.Ahead.{slot_by}
-use Rattle.v8_step.proofs.InOrder.{in_none, in_taken, in_untaken, not_last, says, turn_keeps, turn_made}
+use Rattle.v8_step.specs.State.{State, Slot, NoSlot, Untaken, Taken}
+use Rattle.v8_step.specs.Ahead.{address_at, at_places, slot_by}
+use Rattle.v8_step.specs.Turns.{IsQuietRun}
+use Rattle.v8_step.proofs.InOrder.{at_start, in_slot, jump_place, no_slot, not_last, says, turn_keeps, turn_made}
 use Rattle.v8_step.proofs.ahead.go_far.Goals as goal
+
+started : (s : State) (first cur next made : ℕ) (slot : Slot) → address_at first cur ≡ s.pc
+    → address_at first next ≡ s.npc → slot ≡ s.slot → made ≡ 0
+    → IsQuietRun s made (at_places s first cur next (slot_by next (next + 1) slot))
+started s first cur next made slot pc npc same none =
+    subst (λ x. IsQuietRun s made (at_places s first cur next (slot_by next (next + 1) x))) (sym same)
+    (at_start s first cur next made pc npc none)
+
+pub turns-init : goal.turns-init
+turns-init c = record {
+  live = c.requires.going;
+  run = started c.args.m.now c.args.first _ _ _ c.m.inside.slot
+      (jump_place c.args.first c.m.inside.pc (omega arith) (omega arith) (search rules)
+      ∙ ap (λ (t : State). t.pc) c.m.view_is)
+      (jump_place c.args.first c.m.inside.npc (omega arith) (omega arith) (search rules)
+      ∙ ap (λ (t : State). t.npc) c.m.view_is)
+      (ap (λ (t : State). t.slot) c.m.view_is) (omega arith);
+  kept = c.requires.kept;
+  cur = search rules;
+  next = omega arith;
+  ahead = λ h. search rules;
+  most = omega arith;
+  slot = omega arith;
+}
 
 pub overflow_add-next : goal.overflow_add-next
 overflow_add-next c =
@@ -39,25 +64,24 @@ turns-preserved-in-On c =
       cur = c.turns.cur;
       next = c.turns.next;
       spare = c.turns.spare;
+      slot_end = c.turns.slot_end;
       slot = c.turns.slot;
-      untaken = c.turns.untaken;
     } in
     let i = c.turns.invariant in
     record {
       live = c.turn.ensures.going ∙ i.live;
-      run = turn_made c.args.m.now c.turns.m c.turn.new.self h c.turns.next (c.turns.next + 1) (c.args.limit - (c.turns.spare - c.turns.next))
-          (c.args.limit - (c.turns.spare - (c.turns.next + 1))) NoSlot (slot_by (c.turns.spare - (c.turns.next + 1)) c.turns.slot c.turns.untaken)
-          c.op_in-op.result.now i.live i.run (c.op_in-op.ensures.kept _ i.kept) c.in-On.ensures.state some (omega (arith, i.room, i.next, i.most, i.slot, i.untaken))
-          (sym (in_none _ _ _ (λ e. omega (arith, e, i.slot, i.room, i.next))));
+      run = turn_made c.args.m.now c.turns.m c.turn.new.self h c.turns.next (c.turns.next + 1)
+          (c.args.limit + c.turns.next - length c.args.ops.now - 1 - c.turns.spare)
+          (c.args.limit + (c.turns.next + 1) - length c.args.ops.now - 1 - c.turns.spare) NoSlot (slot_by (c.turns.next + 1) c.turns.slot_end c.turns.slot)
+          c.op_in-op.result.now i.live i.run (c.op_in-op.ensures.kept _ i.kept) c.in-On.ensures.state some (omega (arith, i.most))
+          (sym (no_slot _ _ _ i.slot));
       kept = turn_keeps c.turns.m c.turn.new.self h c.turns.next (c.turns.next + 1) NoSlot c.op_in-op.result.now c.args.ops.now i.live
           (c.op_in-op.ensures.kept _ i.kept) c.in-On.ensures.state some i.kept;
       cur = i.ahead more;
       next = omega (arith, i.ahead more);
       ahead = λ h. h;
-      room = omega (arith, i.room, i.next, i.most, i.slot, i.untaken);
-      most = omega (arith, i.room, i.next, i.most, i.slot, i.untaken);
-      slot = omega (arith, i.room, i.next, i.most, i.slot, i.untaken);
-      untaken = omega (arith, i.room, i.next, i.most, i.slot, i.untaken);
+      most = omega (arith, i.most);
+      slot = omega (arith, i.slot);
     }
 
 pub turns-preserved-in-Past : goal.turns-preserved-in-Past
@@ -73,25 +97,24 @@ turns-preserved-in-Past c =
       cur = c.turns.cur;
       next = c.turns.next;
       spare = c.turns.spare;
+      slot_end = c.turns.slot_end;
       slot = c.turns.slot;
-      untaken = c.turns.untaken;
     } in
     let i = c.turns.invariant in
     record {
       live = c.turn.ensures.going ∙ i.live;
-      run = turn_made c.args.m.now c.turns.m c.turn.new.self h c.turns.next (c.turns.next + 1) (c.args.limit - (c.turns.spare - c.turns.next))
-          (c.args.limit - (c.turns.spare - (c.turns.next + 1))) Untaken (slot_by (c.turns.spare - (c.turns.next + 1)) (c.left-slot.result - 1) (c.left-slot.result - 1))
-          c.op_in-op.result.now i.live i.run (c.op_in-op.ensures.kept _ i.kept) c.in-Past.ensures.state some (omega (arith, i.room, i.next, i.most, c.left-slot.ensures))
-          (sym (in_untaken _ _ _ (omega (arith, c.left-slot.ensures, i.room, i.next)) (omega (arith, c.left-slot.ensures, i.room, i.next))));
+      run = turn_made c.args.m.now c.turns.m c.turn.new.self h c.turns.next (c.turns.next + 1)
+          (c.args.limit + c.turns.next - length c.args.ops.now - 1 - c.turns.spare)
+          (c.args.limit + (c.turns.next + 1) - length c.args.ops.now - 1 - c.turns.spare) Untaken (slot_by (c.turns.next + 1) (c.turns.next + 2) Untaken)
+          c.op_in-op.result.now i.live i.run (c.op_in-op.ensures.kept _ i.kept) c.in-Past.ensures.state some (omega (arith, i.most))
+          (sym (in_slot _ _ _ (omega arith)));
       kept = turn_keeps c.turns.m c.turn.new.self h c.turns.next (c.turns.next + 1) Untaken c.op_in-op.result.now c.args.ops.now i.live
           (c.op_in-op.ensures.kept _ i.kept) c.in-Past.ensures.state some i.kept;
       cur = i.ahead more;
       next = omega (arith, i.ahead more);
       ahead = λ h. h;
-      room = omega (arith, i.room, i.next, i.most, c.left-slot.ensures);
-      most = omega (arith, i.room, i.next, i.most, c.left-slot.ensures);
-      slot = omega (arith, i.room, i.next, i.most, c.left-slot.ensures);
-      untaken = omega (arith, i.room, i.next, i.most, c.left-slot.ensures);
+      most = omega (arith, i.most);
+      slot = omega arith;
     }
 
 pub turns-preserved-in-To : goal.turns-preserved-in-To
@@ -107,26 +130,25 @@ turns-preserved-in-To c =
       cur = c.turns.cur;
       next = c.turns.next;
       spare = c.turns.spare;
+      slot_end = c.turns.slot_end;
       slot = c.turns.slot;
-      untaken = c.turns.untaken;
     } in
     let i = c.turns.invariant in
     let w = c.in-To.ensures.within in
     record {
       live = c.turn.ensures.going ∙ i.live;
-      run = turn_made c.args.m.now c.turns.m c.turn.new.self h c.turns.next c.in-To.place (c.args.limit - (c.turns.spare - c.turns.next))
-          (c.args.limit - ((c.left-slot-in-To.result - 1 + c.in-To.place) - c.in-To.place)) Taken (slot_by ((c.left-slot-in-To.result - 1 + c.in-To.place) - c.in-To.place) (c.left-slot-in-To.result - 1) c.turns.untaken)
-          c.op_in-op.result.now i.live i.run (c.op_in-op.ensures.kept _ i.kept) c.in-To.ensures.state some (omega (arith, w.0, w.1, i.room, i.next, i.most, i.untaken, c.left-slot-in-To.ensures))
-          (sym (in_taken _ _ _ (omega (arith, c.left-slot-in-To.ensures)) (λ e. omega (arith, e, c.left-slot-in-To.ensures, i.room, i.next, i.untaken))));
+      run = turn_made c.args.m.now c.turns.m c.turn.new.self h c.turns.next c.in-To.place
+          (c.args.limit + c.turns.next - length c.args.ops.now - 1 - c.turns.spare)
+          (c.args.limit + c.in-To.place - length c.args.ops.now - 1 - (c.turns.spare - c.turns.next - 1 + c.in-To.place)) Taken (slot_by c.in-To.place (c.in-To.place + 1) Taken)
+          c.op_in-op.result.now i.live i.run (c.op_in-op.ensures.kept _ i.kept) c.in-To.ensures.state some (omega (arith, i.most, w.0, w.1))
+          (sym (in_slot _ _ _ (omega arith)));
       kept = turn_keeps c.turns.m c.turn.new.self h c.turns.next c.in-To.place Taken c.op_in-op.result.now c.args.ops.now i.live
           (c.op_in-op.ensures.kept _ i.kept) c.in-To.ensures.state some i.kept;
       cur = i.ahead more;
       next = omega (arith, w.0);
       ahead = λ h. w.0;
-      room = omega (arith, w.0, w.1, i.room, i.next, i.most, i.untaken, c.left-slot-in-To.ensures);
-      most = omega (arith, w.0, w.1, i.room, i.next, i.most, i.untaken, c.left-slot-in-To.ensures);
-      slot = omega (arith, w.0, w.1, i.room, i.next, i.most, i.untaken, c.left-slot-in-To.ensures);
-      untaken = omega (arith, w.0, w.1, i.room, i.next, i.most, i.untaken, c.left-slot-in-To.ensures);
+      most = omega (arith, i.most, w.0, w.1);
+      slot = omega arith;
     }
 
 pub turns-preserved : goal.turns-preserved
@@ -139,24 +161,23 @@ turns-preserved c =
       cur = c.turns.cur;
       next = c.turns.next;
       spare = c.turns.spare;
+      slot_end = c.turns.slot_end;
       slot = c.turns.slot;
-      untaken = c.turns.untaken;
     } in
     let i = c.turns.invariant in
     let w = c.in-At.ensures.within in
     record {
       live = c.turn.ensures.going ∙ i.live;
-      run = turn_made c.args.m.now c.turns.m c.turn.new.self h c.in-At.place (c.in-At.place + 1) (c.args.limit - (c.turns.spare - c.turns.next))
-          (c.args.limit - ((c.left.result + c.in-At.place) - (c.in-At.place + 1))) NoSlot (slot_by ((c.left.result + c.in-At.place) - (c.in-At.place + 1)) c.turns.slot c.turns.untaken)
-          c.op_in-op.result.now i.live i.run (c.op_in-op.ensures.kept _ i.kept) c.in-At.ensures.state some (omega (arith, w.0, w.1, i.room, i.next, i.most, i.slot, i.untaken, c.left.ensures))
-          (sym (in_none _ _ _ (λ e. omega (arith, e, c.left.ensures, i.slot, i.room, i.next))));
+      run = turn_made c.args.m.now c.turns.m c.turn.new.self h c.in-At.place (c.in-At.place + 1)
+          (c.args.limit + c.turns.next - length c.args.ops.now - 1 - c.turns.spare)
+          (c.args.limit + (c.in-At.place + 1) - length c.args.ops.now - 1 - (c.turns.spare - c.turns.next + c.in-At.place)) NoSlot (slot_by (c.in-At.place + 1) 0 c.turns.slot)
+          c.op_in-op.result.now i.live i.run (c.op_in-op.ensures.kept _ i.kept) c.in-At.ensures.state some (omega (arith, i.most, w.0, w.1))
+          (sym (no_slot _ _ _ (omega arith)));
       kept = turn_keeps c.turns.m c.turn.new.self h c.in-At.place (c.in-At.place + 1) NoSlot c.op_in-op.result.now c.args.ops.now i.live
           (c.op_in-op.ensures.kept _ i.kept) c.in-At.ensures.state some i.kept;
       cur = w.0;
       next = omega (arith, w.0);
       ahead = λ h. h;
-      room = omega (arith, w.0, w.1, i.room, i.next, i.most, i.slot, i.untaken, c.left.ensures);
-      most = omega (arith, w.0, w.1, i.room, i.next, i.most, i.slot, i.untaken, c.left.ensures);
-      slot = omega (arith, w.0, w.1, i.room, i.next, i.most, i.slot, i.untaken, c.left.ensures);
-      untaken = omega (arith, w.0, w.1, i.room, i.next, i.most, i.slot, i.untaken, c.left.ensures);
+      most = omega (arith, i.most, w.0, w.1);
+      slot = omega arith;
     }

@@ -9,17 +9,15 @@ use Rattle.v8_step.proofs.ahead.go_far.Given as goal
 abbrev pub invariant-turns : goal.invariant-turns
 invariant-turns l = record {
   live : l.m.ending ≡ None;
-  run : IsQuietRun l.initial.m (l.limit - (l.spare - l.next))
-      (at_places l.m l.first l.cur l.next (slot_by (l.spare - l.next) l.slot l.untaken));
+  run : IsQuietRun l.initial.m (l.limit + l.next - l.len - 1 - l.spare)
+      (at_places l.m l.first l.cur l.next (slot_by l.next l.slot_end l.slot));
   kept : AreKept (code_of l.m.memory) l.first l.ops;
   cur : l.cur < l.len;
   next : l.next ≤ l.len;
   ahead : l.cur + 1 < l.len → l.next < l.len;
-  room : l.len < l.spare;
-  most : l.spare ≤ l.limit + l.next;
-  slot : l.spare ≤ l.slot + l.next;
-  untaken : l.spare ≤ l.untaken + l.next;
+  most : l.spare + l.len + 1 ≤ l.limit + l.next;
+  slot : l.slot_end ≤ l.next + 1;
 }
 
 abbrev pub decreases-turns : goal.decreases-turns
-decreases-turns l = l.spare - l.next
+decreases-turns l = l.spare + l.len + 1 - l.next
