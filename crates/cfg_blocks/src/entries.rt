@@ -1,6 +1,5 @@
 //! What leads to each block: first for each word, then for the first word of each block.
-ghost use Rattle.std.specs.Prelude.{◌≡◌, ℕ, ◌+◌, ◌-◌, ◌^◌, ◌<◌, ◌≤◌, ◌||◌, List, [], ◌∷◌, length, map, option_to_list, slice_index, IfOk};
-ghost use Rattle.cfg_blocks.specs.declared.BlockEnd.{BlockEnd};
+ghost use Rattle.std.specs.Prelude.{◌≡◌, ℕ, ◌+◌, ◌-◌, ◌^◌, ◌<◌, ◌≤◌, ◌||◌, [], ◌∷◌, length, map, option_to_list, slice_index, IfOk};
 ghost use Rattle.cfg_blocks.specs.Arrivals.{added, added_all, counted, counted_from, into_at, into_first, into_in, is_bare_in, is_led_by, is_led_from, way_of, ways_in};
 ghost use Rattle.cfg_blocks.specs.Blocks.{below, AreFirsts, Blocks};
 ghost use Rattle.cfg_blocks.specs.Ends.{number_of, ways_of, within};
@@ -13,6 +12,20 @@ use crate::list::{block_size, last_of_block};
 use crate::{BlockEnd, EdgeKind, Into};
 use eel_base::{BlockNo, NoMemory, WordNo};
 use std::alloc::Global;
+
+/// A text that is cut into blocks: the first word of each block, how control leaves each block and each word, and which
+/// words the caller gives.
+#[derive(Clone, Copy)]
+pub(crate) struct CutText<'a> {
+    pub firsts: &'a [u32],
+    pub ends: &'a [BlockEnd],
+    pub word_ends: &'a [BlockEnd],
+    pub given: &'a [bool],
+    ghost few: { length word_ends.now ≤ 2 ^ 20 },
+    ghost of_firsts: { AreFirsts (length word_ends.now) firsts.now },
+    ghost of_ends: { length ends.now ≡ length firsts.now },
+    ghost of_given: { length given.now ≡ length word_ends.now },
+}
 
 /// A way out of a word: the kind of its edge, and the word to which it leads, where that is in the text.
 #[derive(Clone, Copy, Drop)]
@@ -78,19 +91,6 @@ fn ways(count: u32, word: u32, end: &BlockEnd) -> Exits
     }
 }
 
-// The ways out of a block.
-fn ways_from(firsts: &[u32], words: u32, ends: &[BlockEnd], block: u32) -> Exits
-    requires block { block < length firsts.now }
-    requires few { words ≤ 2 ^ 20 }
-    requires firsts { AreFirsts words firsts.now }
-    requires ends { length ends.now ≡ length firsts.now }
-    ensures { let b : Blocks = record { firsts = firsts.now; words = words; ends = ends.now } in
-        ways_from b block ≡ ways_in result.0 result.1 }
-{
-    let last = last_of_block(firsts, words, block);
-    ways(words, last, &ends[block as usize])
-}
-
 // Marks a word to which a way leads.
 #[tactic(auto, using(crate::proofs::Marks::marked_set))]
 fn arrive(arrivals: &mut [bool], to: Option<u32>)
@@ -113,63 +113,6 @@ fn arrive_by(arrivals: &mut [bool], exits: Exits)
     if let Some(exit) = other {
         arrive(arrivals, exit.to);
     }
-}
-
-// Marks the words to which an edge leads.
-fn mark_arrivals(arrivals: &mut [bool], firsts: &[u32], ends: &[BlockEnd])
-    requires few { length arrivals.old ≤ 2 ^ 20 }
-    requires firsts { AreFirsts (length arrivals.old) firsts.now }
-    requires ends { length ends.now ≡ length firsts.now }
-    ensures { let b : Blocks = record { firsts = firsts.now; words = length arrivals.old; ends = ends.now } in
-        (k : ℕ) → k < length arrivals.old →
-        marked arrivals.new k ≡ (marked arrivals.old k || is_led_from b (length firsts.now) k) }
-{
-    let words = arrivals.len() as u32;
-    for block in 0..firsts.len() as u32 {
-        arrive_by(arrivals, ways_from(firsts, words, ends, block));
-    }
-}
-
-// To which words an edge leads.
-fn arrivals(
-    alloc: Global,
-    firsts: &[u32],
-    words: u32,
-    ends: &[BlockEnd],
-) -> Result<Vec<bool>, NoMemory>
-    requires few { words ≤ 2 ^ 20 }
-    requires firsts { AreFirsts words firsts.now }
-    requires ends { length ends.now ≡ length firsts.now }
-    ensures words { IfOk result (λ v. length v.items ≡ words) }
-    ensures arrivals { let b : Blocks = record { firsts = firsts.now; words = words; ends = ends.now } in
-        IfOk result (λ v. (k : ℕ) → k < words → marked v.items k ≡ is_led_from b (length firsts.now) k) }
-{
-    let mut arrivals = vec![in alloc; false; words as usize]?;
-    mark_arrivals(&mut arrivals, firsts, ends);
-    Ok(arrivals)
-}
-
-// Whether a block is only a delay slot, which isn't given and to which no edge leads.
-fn is_bare(
-    firsts: &[u32],
-    word_ends: &[BlockEnd],
-    given: &[bool],
-    arrivals: &[bool],
-    block: u32,
-) -> bool
-    requires block { block < length firsts.now }
-    requires few { length word_ends.now ≤ 2 ^ 20 }
-    requires firsts { AreFirsts (length word_ends.now) firsts.now }
-    requires given { length given.now ≡ length word_ends.now }
-    requires arrivals { length arrivals.now ≡ length word_ends.now }
-    ensures { (ends : List BlockEnd) → let b : Blocks = record { firsts = firsts.now; words = length word_ends.now; ends = ends } in
-        result ≡ is_bare_in b word_ends.now given.now arrivals.now block }
-{
-    let first = firsts[block as usize] as usize;
-    block_size(firsts, word_ends.len() as u32, block) == 1
-        && follows(word_ends, first, 1)
-        && !given[first]
-        && !arrivals[first]
 }
 
 // What leads to a word, and one edge more.
@@ -208,55 +151,6 @@ fn enter_by(intos: &mut [Into], from: u32, is_bare: bool, exits: Exits)
     }
 }
 
-// Counts the ways out of all blocks.
-fn enter_all(
-    intos: &mut [Into],
-    firsts: &[u32],
-    ends: &[BlockEnd],
-    word_ends: &[BlockEnd],
-    given: &[bool],
-    arrivals: &[bool],
-)
-    requires few { length word_ends.now ≤ 2 ^ 20 }
-    requires firsts { AreFirsts (length word_ends.now) firsts.now }
-    requires ends { length ends.now ≡ length firsts.now }
-    requires given { length given.now ≡ length word_ends.now }
-    requires arrivals { length arrivals.now ≡ length word_ends.now }
-    ensures { let b : Blocks = record { firsts = firsts.now; words = length word_ends.now; ends = ends.now } in
-        (k : ℕ) → k < length intos.old → into_at intos.new k ≡ added_all (into_at intos.old k)
-        (counted_from b (is_bare_in b word_ends.now given.now arrivals.now) (length firsts.now) k) }
-{
-    let words = word_ends.len() as u32;
-    for block in 0..firsts.len() as u32 {
-        let is_bare = is_bare(firsts, word_ends, given, arrivals, block);
-        enter_by(intos, block, is_bare, ways_from(firsts, words, ends, block));
-    }
-}
-
-// What leads to each word.
-fn word_intos(
-    alloc: Global,
-    firsts: &[u32],
-    ends: &[BlockEnd],
-    word_ends: &[BlockEnd],
-    given: &[bool],
-    arrivals: &[bool],
-) -> Result<Vec<Into>, NoMemory>
-    requires few { length word_ends.now ≤ 2 ^ 20 }
-    requires firsts { AreFirsts (length word_ends.now) firsts.now }
-    requires ends { length ends.now ≡ length firsts.now }
-    requires given { length given.now ≡ length word_ends.now }
-    requires arrivals { length arrivals.now ≡ length word_ends.now }
-    ensures words { IfOk result (λ v. length v.items ≡ length word_ends.now) }
-    ensures intos { let b : Blocks = record { firsts = firsts.now; words = length word_ends.now; ends = ends.now } in
-        IfOk result (λ v. (k : ℕ) → k < length word_ends.now → into_at v.items k ≡ added_all Into.Nothing
-        (counted_from b (is_bare_in b word_ends.now given.now arrivals.now) (length firsts.now) k)) }
-{
-    let mut intos = vec![in alloc; Into::Nothing; word_ends.len()]?;
-    enter_all(&mut intos, firsts, ends, word_ends, given, arrivals);
-    Ok(intos)
-}
-
 // What leads to the first word of each block.
 #[tactic(auto, unfolding(crate::specs::Arrivals::into_first))]
 fn at_firsts(alloc: Global, firsts: &[u32], intos: &[Into]) -> Result<Vec<Into>, NoMemory>
@@ -271,23 +165,122 @@ fn at_firsts(alloc: Global, firsts: &[u32], intos: &[Into]) -> Result<Vec<Into>,
     Ok(at)
 }
 
-/// What leads to each block, where `given` marks the words that the caller gives.
-pub(crate) fn intos(
-    alloc: Global,
-    firsts: &[u32],
-    ends: &[BlockEnd],
-    word_ends: &[BlockEnd],
-    given: &[bool],
-) -> Result<Vec<Into>, NoMemory>
-    requires few { length word_ends.now ≤ 2 ^ 20 }
-    requires firsts { AreFirsts (length word_ends.now) firsts.now }
-    requires ends { length ends.now ≡ length firsts.now }
-    requires given { length given.now ≡ length word_ends.now }
-    ensures { let b : Blocks = record { firsts = firsts.now; words = length word_ends.now; ends = ends.now } in
-        IfOk result (λ v. v.items ≡ map (into_in b word_ends.now given.now) (below (length firsts.now))) }
-{
-    let arrivals = arrivals(alloc, firsts, word_ends.len() as u32, ends)?;
-    let intos = word_intos(alloc, firsts, ends, word_ends, given, &arrivals)?;
-    let at = at_firsts(alloc, firsts, &intos)?;
-    Ok(at)
+impl CutText<'_> {
+    // The ways out of a block.
+    fn ways_from(&self, block: u32) -> Exits
+        requires { block < length self.now.firsts.now }
+        ensures { let b : Blocks = record {
+          firsts = self.now.firsts.now;
+          words = length self.now.word_ends.now;
+          ends = self.now.ends.now;
+        } in
+            ways_from b block ≡ ways_in result.0 result.1 }
+    {
+        let words = self.word_ends.len() as u32;
+        let last = last_of_block(self.firsts, words, block);
+        ways(words, last, &self.ends[block as usize])
+    }
+
+    // Marks the words to which an edge leads.
+    fn mark_arrivals(&self, arrivals: &mut [bool])
+        requires { length arrivals.old ≡ length self.now.word_ends.now }
+        ensures { let b : Blocks = record {
+          firsts = self.now.firsts.now;
+          words = length self.now.word_ends.now;
+          ends = self.now.ends.now;
+        } in
+            (k : ℕ) → k < length arrivals.old →
+            marked arrivals.new k ≡ (marked arrivals.old k || is_led_from b (length self.now.firsts.now) k) }
+    {
+        for block in 0..self.firsts.len() as u32 {
+            arrive_by(arrivals, self.ways_from(block));
+        }
+    }
+
+    // To which words an edge leads.
+    fn arrivals(&self, alloc: Global) -> Result<Vec<bool>, NoMemory>
+        ensures words { IfOk result (λ v. length v.items ≡ length self.now.word_ends.now) }
+        ensures arrivals { let b : Blocks = record {
+          firsts = self.now.firsts.now;
+          words = length self.now.word_ends.now;
+          ends = self.now.ends.now;
+        } in
+            IfOk result (λ v. (k : ℕ) → k < length self.now.word_ends.now →
+            marked v.items k ≡ is_led_from b (length self.now.firsts.now) k) }
+    {
+        let mut arrivals = vec![in alloc; false; self.word_ends.len()]?;
+        self.mark_arrivals(&mut arrivals);
+        Ok(arrivals)
+    }
+
+    // Whether a block is only a delay slot, which isn't given and to which no edge leads.
+    fn is_bare(&self, arrivals: &[bool], block: u32) -> bool
+        requires arrivals { length arrivals.now ≡ length self.now.word_ends.now }
+        requires block { block < length self.now.firsts.now }
+        ensures { let b : Blocks = record {
+          firsts = self.now.firsts.now;
+          words = length self.now.word_ends.now;
+          ends = self.now.ends.now;
+        } in
+            result ≡ is_bare_in b self.now.word_ends.now self.now.given.now arrivals.now block }
+    {
+        let first = self.firsts[block as usize] as usize;
+        block_size(self.firsts, self.word_ends.len() as u32, block) == 1
+            && follows(self.word_ends, first, 1)
+            && !self.given[first]
+            && !arrivals[first]
+    }
+
+    // Counts the ways out of all blocks.
+    fn enter_all(&self, intos: &mut [Into], arrivals: &[bool])
+        requires { length arrivals.now ≡ length self.now.word_ends.now }
+        ensures { let b : Blocks = record {
+          firsts = self.now.firsts.now;
+          words = length self.now.word_ends.now;
+          ends = self.now.ends.now;
+        } in
+            (k : ℕ) → k < length intos.old → into_at intos.new k ≡ added_all (into_at intos.old k)
+            (counted_from b (is_bare_in b self.now.word_ends.now self.now.given.now arrivals.now)
+            (length self.now.firsts.now) k) }
+    {
+        for block in 0..self.firsts.len() as u32 {
+            let is_bare = self.is_bare(arrivals, block);
+            enter_by(intos, block, is_bare, self.ways_from(block));
+        }
+    }
+
+    // What leads to each word.
+    fn word_intos(&self, alloc: Global, arrivals: &[bool]) -> Result<Vec<Into>, NoMemory>
+        requires { length arrivals.now ≡ length self.now.word_ends.now }
+        ensures words { IfOk result (λ v. length v.items ≡ length self.now.word_ends.now) }
+        ensures intos { let b : Blocks = record {
+          firsts = self.now.firsts.now;
+          words = length self.now.word_ends.now;
+          ends = self.now.ends.now;
+        } in
+            IfOk result (λ v. (k : ℕ) → k < length self.now.word_ends.now →
+            into_at v.items k ≡ added_all Into.Nothing
+            (counted_from b (is_bare_in b self.now.word_ends.now self.now.given.now arrivals.now)
+            (length self.now.firsts.now) k)) }
+    {
+        let mut intos = vec![in alloc; Into::Nothing; self.word_ends.len()]?;
+        self.enter_all(&mut intos, arrivals);
+        Ok(intos)
+    }
+
+    /// What leads to each block.
+    pub(crate) fn intos(&self, alloc: Global) -> Result<Vec<Into>, NoMemory>
+        ensures { let b : Blocks = record {
+          firsts = self.now.firsts.now;
+          words = length self.now.word_ends.now;
+          ends = self.now.ends.now;
+        } in
+            IfOk result (λ v. v.items
+            ≡ map (into_in b self.now.word_ends.now self.now.given.now) (below (length self.now.firsts.now))) }
+    {
+        let arrivals = self.arrivals(alloc)?;
+        let intos = self.word_intos(alloc, &arrivals)?;
+        let at = at_firsts(alloc, self.firsts, &intos)?;
+        Ok(at)
+    }
 }

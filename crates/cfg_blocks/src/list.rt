@@ -7,7 +7,7 @@ ghost use Rattle.cfg_blocks.specs.Entries.{entered_of, IsBlockList};
 ghost use Rattle.cfg_blocks.specs.Marks.{block_end_in, numbers, word_ends, AreWords};
 
 use crate::ends::word_ends;
-use crate::entries::intos;
+use crate::entries::CutText;
 use crate::leaders::{firsts, given_words};
 use crate::{BlockEnd, Into};
 use eel_base::{BlockNo, NoMemory, Text, WordNo};
@@ -147,7 +147,13 @@ fn cut(alloc: Global, text: &Text, given: &[bool]) -> Result<BlockList, NoMemory
     let word_ends = word_ends(alloc, text)?;
     let firsts = firsts(alloc, &word_ends, given)?;
     let ends = block_ends(alloc, &firsts, &word_ends)?;
-    let intos = intos(alloc, &firsts, &ends, &word_ends, given)?;
+    let cut = CutText {
+        firsts: &firsts,
+        ends: &ends,
+        word_ends: &word_ends,
+        given,
+    };
+    let intos = cut.intos(alloc)?;
     Ok(BlockList {
         firsts,
         words,

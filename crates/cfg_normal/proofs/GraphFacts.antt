@@ -1,12 +1,12 @@
 -- The edges of a graph lie between its nodes, and their slots in its text; they are at most seven for each word.
-use Rattle.std.proofs.Common.{◌≡◌, ℕ, zero, suc, ◌+◌, ◌*◌, ◌<◌, ◌≤◌, ◌⊎◌, nat_le, nat_lt, Bool, true, false, ◌||◌, List, [], ◌∷◌, ◌++◌, length, map, Option, Some, None, refl, ap, ◌∙◌, arith, cond, get_or, inl, inr}
+use Rattle.std.proofs.Common.{◌≡◌, ℕ, zero, suc, ◌+◌, ◌*◌, ◌<◌, ◌≤◌, nat_le, nat_lt, Bool, true, false, ◌||◌, List, [], ◌∷◌, ◌++◌, length, map, Option, Some, None, refl, ap, ◌∙◌, arith, cond, get_or, inl, inr}
 use Rattle.std.specs.Prelude.{◌==◌, ◌&&◌, not}
 use Rattle.std.specs.List.{All, filter, flat_map, list_any, sum_by}
 use Rattle.std.proofs.lemmas.List.{length-append, length-map}
 use Rattle.std.proofs.lemmas.List.Concat.{flat_map-append}
 use Rattle.std.proofs.lemmas.List.Elements.{All-append, All-cons, All-filter, All-head, All-map, All-nil, All-tail, All-weaker, filter_passes}
 use Rattle.std.proofs.lemmas.List.Sums.{count_by-le-length, length-filter, sum_by-cons}
-use Rattle.std.proofs.lemmas.Bool.{and_parts, cases_eq, cond_both, eq-eqb, ne_eqb, or_cases, or_left, or_right}
+use Rattle.std.proofs.lemmas.Bool.{and_parts, cases_eq, cond_both, eq-eqb, ne_eqb, or_left}
 use Rattle.std.proofs.lemmas.Bool.Decides.{nat_tests}
 use Rattle.cfg_blocks.specs.Blocks.{Blocks, below, end_of, holding_of, last_word}
 use Rattle.cfg_blocks.specs.Ends.{Way, always, never, number_of, way, ways_of, within}
@@ -41,6 +41,27 @@ All-below P n each =
 
 -- ---- nodes and slots
 
+-- a comparison stands before the words behind it
+behind_compares : (opens : List Open) (block word : ℕ) → is_behind opens block word ≡ true
+    → compares_in opens block ≡ true
+behind_compares [] block word h = absurd (cc)
+behind_compares (o ∷ opens) block word h =
+    by (o.switch.compare.0 == block) (nat_lt o.approach.compare.word word) h (behind_compares opens block word)
+  where
+    by : (s t : Bool) → ((s && t) || is_behind opens block word) ≡ true
+        → (is_behind opens block word ≡ true → compares_in opens block ≡ true)
+        → (s || compares_in opens block) ≡ true
+    by true t h next = refl
+    by false t h next = next h
+
+pub copied_where : (opens : List Open) (block word : ℕ) → (jumps_in opens block || is_behind opens block word) ≡ true
+    → is_copied opens block ≡ true
+copied_where opens block word h = by (jumps_in opens block) h
+  where
+    by : (j : Bool) → (j || is_behind opens block word) ≡ true → (j || compares_in opens block) ≡ true
+    by true h = refl
+    by false h = behind_compares opens block word h
+
 module _ (b : Blocks) (opens : List Open) (some : 1 ≤ length b.firsts) where
   abbrev IsNode : Node → Type 0
   IsNode = IsNodeIn b opens
@@ -53,15 +74,6 @@ module _ (b : Blocks) (opens : List Open) (some : 1 ≤ length b.firsts) where
   node_of-in (Some word) =
       cond_both (nat_lt word b.words) (Block (record { 0 = holding_of b word })) X IsNode (λ h. held word) (λ h. tt)
 
-  behind_compares : (os : List Open) (block word : ℕ) → is_behind os block word ≡ true → compares_in os block ≡ true
-  behind_compares [] block word h = absurd (cc)
-  behind_compares (o ∷ os) block word h =
-      elim (or_cases ((o.switch.compare.0 == block) && nat_lt o.approach.compare.word word) (is_behind os block word) h) [
-        | inl here ↦ or_left (o.switch.compare.0 == block) (compares_in os block)
-            (and_parts (o.switch.compare.0 == block) (nat_lt o.approach.compare.word word) here).0
-        | inr later ↦ or_right (o.switch.compare.0 == block) (compares_in os block) (behind_compares os block word later)
-      ]
-
   lands_of-in : (to : Option ℕ) → IsNode (lands_of b opens to)
   lands_of-in None = tt
   lands_of-in (Some word) =
@@ -70,14 +82,8 @@ module _ (b : Blocks) (opens : List Open) (some : 1 ≤ length b.firsts) where
       cond_both (nat_lt word b.words)
       (cond there (Landed (record { 0 = block })) (Block (record { 0 = block }))) X IsNode
       (λ _. cond_both there (Landed (record { 0 = block })) (Block (record { 0 = block })) IsNode
-      (λ h. (held word, copied block (or_cases (jumps_in opens block) (is_behind opens block word) h))) (λ _. held word))
+      (λ h. (held word, copied_where opens block word h)) (λ _. held word))
       (λ _. tt)
-    where
-      copied : (block : ℕ) → ((jumps_in opens block ≡ true) ⊎ (is_behind opens block word ≡ true))
-          → is_copied opens block ≡ true
-      copied block (inl h) = or_left (jumps_in opens block) (compares_in opens block) h
-      copied block (inr h) =
-          or_right (jumps_in opens block) (compares_in opens block) (behind_compares opens block word h)
 
   directed-in : (from : Node) (kind : EdgeKind) (to : Node) → IsNode to → IsNode (directed opens from kind to)
   directed-in from kind (Block to) is =
@@ -178,7 +184,7 @@ module _ (b : Blocks) (opens : List Open) (some : 1 ≤ length b.firsts) where
 -- ---- how many there are
 
 -- a block has at most two ways out of it
-ways_few : (count word : ℕ) (end : BlockEnd) → length (ways_of count word end) ≤ 2
+pub ways_few : (count word : ℕ) (end : BlockEnd) → length (ways_of count word end) ≤ 2
 ways_few count word ends.Fall = omega arith
 ways_few count word (ends.Branch cond annul target) =
     let taken : Way = way kinds.Taken (number_of target) in
@@ -189,40 +195,40 @@ ways_few count word (ends.Branch cond annul target) =
 ways_few count word (ends.Call target) = omega arith
 ways_few count word ends.Jump = omega arith
 
-flat_few : {X A : Type 0} (f : X → List A) (xs : List X) → ((x : X) → length (f x) ≤ 2)
+pub flat_few : {X A : Type 0} (f : X → List A) (xs : List X) → ((x : X) → length (f x) ≤ 2)
     → length (flat_map f xs) ≤ 2 * length xs
 flat_few f [] each = omega arith
 flat_few f (x ∷ xs) each = omega (arith, each x, flat_few f xs each, length-append (f x) (flat_map f xs))
 
 -- sums over the numbers below one
-total : (ℕ → ℕ) → ℕ → ℕ
+pub total : (ℕ → ℕ) → ℕ → ℕ
 total f zero = 0
 total f (suc n) = total f n + f n
 
-total_flat : {A : Type 0} (f : ℕ → List A) (n : ℕ) → length (flat_map f (below n)) ≡ total (λ k. length (f k)) n
+pub total_flat : {A : Type 0} (f : ℕ → List A) (n : ℕ) → length (flat_map f (below n)) ≡ total (λ k. length (f k)) n
 unfolding total
 total_flat f zero = refl
 total_flat f (suc n) =
     ap length (flat_map-append f (below n) (n ∷ [])) ∙ length-append (flat_map f (below n)) (f n ++ [])
     ∙ omega (arith, total_flat f n, length-append (f n) [])
 
-total_le : (f g : ℕ → ℕ) (n : ℕ) → ((k : ℕ) → f k ≤ 2 + g k) → total f n ≤ 2 * n + total g n
+pub total_le : (f g : ℕ → ℕ) (n : ℕ) → ((k : ℕ) → f k ≤ 2 + g k) → total f n ≤ 2 * n + total g n
 unfolding total
 total_le f g zero each = omega arith
 total_le f g (suc n) each = omega (arith, total_le f g n each, each n)
 
-total_plus : (f g : ℕ → ℕ) (n : ℕ) → total (λ k. f k + g k) n ≡ total f n + total g n
+pub total_plus : (f g : ℕ → ℕ) (n : ℕ) → total (λ k. f k + g k) n ≡ total f n + total g n
 unfolding total
 total_plus f g zero = omega arith
 total_plus f g (suc n) = omega (arith, total_plus f g n)
 
-total_same : (f g : ℕ → ℕ) (n : ℕ) → ((k : ℕ) → f k ≡ g k) → total f n ≡ total g n
+pub total_same : (f g : ℕ → ℕ) (n : ℕ) → ((k : ℕ) → f k ≡ g k) → total f n ≡ total g n
 unfolding total
 total_same f g zero each = refl
 total_same f g (suc n) each = omega (arith, total_same f g n each, each n)
 
 -- what stands at one number alone counts once at most
-total_at : (at m n : ℕ) → (n ≤ at → total (λ k. cond (at == k) m 0) n ≡ 0) × (total (λ k. cond (at == k) m 0) n ≤ m)
+pub total_at : (at m n : ℕ) → (n ≤ at → total (λ k. cond (at == k) m 0) n ≡ 0) × (total (λ k. cond (at == k) m 0) n ≤ m)
 unfolding total
 total_at at m zero = (λ h. refl, omega arith)
 total_at at m (suc n) =
@@ -235,10 +241,10 @@ total_at at m (suc n) =
           (λ h. rw (ne_eqb at n other) (omega (arith, before.0 (omega arith))), rw (ne_eqb at n other) (omega (arith, before.1)))
     ]
 
-entries_of : List Open → ℕ
+pub entries_of : List Open → ℕ
 entries_of opens = sum_by (λ (o : Open). length o.targets) opens
 
-targets_few : (opens : List Open) (n : ℕ) → total (λ k. length (targets_in opens k)) n ≤ entries_of opens
+pub targets_few : (opens : List Open) (n : ℕ) → total (λ k. length (targets_in opens k)) n ≤ entries_of opens
 unfolding total entries_of
 targets_few [] n = omega (arith, none n)
   where
@@ -267,7 +273,7 @@ targets_few (o ∷ opens) n =
     cut true = refl
     cut false = refl
 
-once_few : (seen nodes : List Node) → length (once_onto seen nodes) ≤ length seen + length nodes
+pub once_few : (seen nodes : List Node) → length (once_onto seen nodes) ≤ length seen + length nodes
 once_few seen [] = omega arith
 once_few seen (node ∷ nodes) =
     let next = cond (list_any (same_node node) seen) seen (seen ++ node ∷ []) in
@@ -277,12 +283,12 @@ once_few seen (node ∷ nodes) =
     omega (arith, longer, once_few next nodes)
 
 module _ (b : Blocks) (opens : List Open) where
-  ways_out-few : (from : Node) (block : ℕ) → length (ways_out b opens from block) ≤ 2
+  pub ways_out-few : (from : Node) (block : ℕ) → length (ways_out b opens from block) ≤ 2
   ways_out-few from block =
       let few = ways_few b.words (last_word b.firsts b.words block) (end_of b block) in
       omega (arith, few, length-map (ways_from b block) (edge_of b opens from block))
 
-  edges_of-few : (block : ℕ) → length (edges_of b opens block) ≤ 2 + length (targets_in opens block)
+  pub edges_of-few : (block : ℕ) → length (edges_of b opens block) ≤ 2 + length (targets_in opens block)
   edges_of-few block =
       let nodes = map (λ word. lands_of b opens (Some word)) (targets_in opens block) in
       cond_both (jumps_in opens block) (map (case_of b block) (case_nodes b opens block))

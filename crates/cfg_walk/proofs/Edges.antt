@@ -132,6 +132,10 @@ alike : (node : Node) (xs : List Node) → list_any (is_it node) xs ≡ true
 alike node [] h = h
 alike node (x ∷ xs) h = alike_at node xs (same_node x node) (alike node xs) h
 
+pub number_of_list : (o : Option ℕ) (number : ℕ) → option_to_list o ≡ number ∷ [] → o ≡ Some number
+number_of_list None number e = absurd (cc)
+number_of_list (Some n) number e = cc
+
 module _ (b : Blocks) (opens : List Open) where
   abbrev graph : Graph
   graph = graph_of b opens
@@ -361,10 +365,6 @@ module _ (b : Blocks) (opens : List Open) where
       (λ _. outs_of_ways (block k) k))))
       (each-flat_map _ (copied_edges b opens) _ (each _ _ (λ k. outs_of_ways (copy k) k)))
       (each-map _ landing_at _ (each _ _ (λ n e. absurd (false≢true e))))
-
-  pub number_of_list : (o : Option ℕ) (number : ℕ) → option_to_list o ≡ number ∷ [] → o ≡ Some number
-  number_of_list None number e = absurd (cc)
-  number_of_list (Some n) number e = cc
 
   pub out_to : (node : Node) (edge : Edge) → IsEdge graph (edge_from graph node kinds.Out) edge → edge.to ≡ X
   out_to node edge h =

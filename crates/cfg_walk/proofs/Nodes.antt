@@ -11,6 +11,7 @@ use Rattle.cfg_normal.specs.declared.Node.TheVariants.{Block, Landed, X}
 use Rattle.cfg_normal.specs.Nodes.{home_of, same_node}
 use Rattle.cfg_normal.specs.Opens.{Open, compares_in, is_behind, is_copied, jumps_in, targets_in}
 use Rattle.cfg_normal.specs.Graph.{IsNodeIn, graph_of, edges_in, edges_of, copied_edges, case_nodes, case_of, edge_of, ways_out, landing_at, directed, is_compared, landings_of, lands_of, node_of, once_onto}
+use Rattle.cfg_normal.proofs.GraphFacts.{copied_where}
 use Rattle.cfg_walk.proofs.Edges.{any_once, block, each_edge, leave_node, leave_own, copy, is_it, same_itself}
 use Rattle.cfg_blocks.specs.Blocks.{below}
 use Rattle.cfg_blocks.specs.Entries.{ways_from}
@@ -53,26 +54,6 @@ home_lands b opens (Some word) =
     (λ e. rw e (cond_both (jumps_in opens k || is_behind opens k word) (copy k) (block k) (λ n. home_of n ≡ block k)
     (λ _. refl) (λ _. refl)))
     (λ e. rw e refl)
-
--- a comparison stands before the words behind it
-behind_compares : (opens : List Open) (k word : ℕ) → is_behind opens k word ≡ true → compares_in opens k ≡ true
-behind_compares [] k word h = absurd (false≢true h)
-behind_compares (o ∷ opens) k word h =
-    by (o.switch.compare.0 == k) (nat_lt o.approach.compare.word word) h (behind_compares opens k word)
-  where
-    by : (s t : Bool) → ((s && t) || is_behind opens k word) ≡ true
-        → (is_behind opens k word ≡ true → compares_in opens k ≡ true)
-        → (s || compares_in opens k) ≡ true
-    by true t h next = refl
-    by false t h next = next h
-
-pub copied_where : (opens : List Open) (k word : ℕ) → (jumps_in opens k || is_behind opens k word) ≡ true
-    → is_copied opens k ≡ true
-copied_where opens k word h = by (jumps_in opens k) h
-  where
-    by : (j : Bool) → (j || is_behind opens k word) ≡ true → (j || compares_in opens k) ≡ true
-    by true h = refl
-    by false h = behind_compares opens k word h
 
 -- there is a landing there
 pub lands_there : (b : Blocks) (opens : List Open) (word : ℕ) → word < b.words

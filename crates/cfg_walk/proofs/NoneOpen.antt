@@ -1,6 +1,6 @@
 -- The graph where no switch is open: blocks and X are its nodes, and a block has an edge for each way out of it.
-use Rattle.std.proofs.Common.{◌≡◌, ℕ, suc, ◌+◌, ◌≤◌, Bool, true, false, nat_lt, List, [], ◌∷◌, ◌++◌, append-nil, length, map, Option, Some, None, refl, ap, sym, ◌∙◌, subst, arith}
-use Rattle.std.specs.Prelude.{if◌then◌else◌, ◌==◌}
+use Rattle.std.proofs.Common.{◌≡◌, ℕ, suc, ◌+◌, ◌≤◌, Bool, true, false, nat_lt, List, [], ◌∷◌, ◌++◌, append-nil, length, map, Option, Some, None, refl, ap, sym, ◌∙◌, arith}
+use Rattle.std.specs.Prelude.{if◌then◌else◌}
 use Rattle.std.specs.List.{filter, flat_map, slice_get}
 use Rattle.std.proofs.lemmas.Bool.{cond_both, false≢true}
 use Rattle.std.proofs.lemmas.Bool.Decides.{nat_tests}
@@ -8,11 +8,8 @@ use Rattle.eel_base.specs.CodeText.{Words, address_of, word_at}
 use Rattle.v8_step.specs.declared.Slot.TheVariants.{Taken}
 use Rattle.v8_step.specs.State.{State}
 use Rattle.v8_step.specs.Run.{run}
-use Rattle.cfg_blocks.specs.declared.BlockEnd.{BlockEnd}
-use Rattle.cfg_blocks.specs.declared.BlockEnd.TheVariants as ends
 use Rattle.cfg_blocks.specs.declared.EdgeKind.{EdgeKind}
 use Rattle.cfg_blocks.specs.declared.EdgeKind.TheVariants as kinds
-use Rattle.cfg_blocks.specs.Ends.{always, never, ways_of}
 use Rattle.cfg_blocks.specs.Blocks.{Blocks, below, end_of, last_word}
 use Rattle.cfg_blocks.specs.Entries.{ways_from}
 use Rattle.cfg_normal.specs.declared.Edge.{Edge}
@@ -25,7 +22,7 @@ use Rattle.cfg_normal.specs.Graph.{Graph, IsEdgeIn, IsNodeIn, IsSlotIn, case_nod
 use Rattle.cfg_walk.specs.Walk.{Point, WayOut, by_kind, edge_along, edge_from, end_of_walk, landed, left_along, point_of, same_kind, slot_left, way_to}
 use Rattle.cfg_walk.specs.Matches.{AreOpen, Begins, GoesByCase, IsCarried, IsOnItsWay, JumpsGoByCase, last_in, way_address}
 use Rattle.cfg_walk.proofs.Edges.{block, each_edge}
-use Rattle.cfg_walk.proofs.Lists.{Each, each, each-append, each-flat_map, each-map, each_at}
+use Rattle.cfg_walk.proofs.Lists.{Each, each, each-flat_map, each-map, each_at}
 use Rattle.cfg_walk.proofs.Nodes.{edges_lead_in, edges_leave_in}
 
 -- ---- nodes

@@ -32,6 +32,12 @@ use Rattle.cfg_walk.proofs.Leaving.{end_here, here, is_in, node_is, transfer_end
 abbrev pub LeadsIfThere : Blocks → Option ℕ → Type 0
 LeadsIfThere b to = (word : ℕ) → to ≡ Some word → (word < b.words) × Leads b.firsts word
 
+-- only a jump has a landing behind its edge
+pub lands_not : (text : Words) (graph : Graph) (kind : EdgeKind) (next : ℕ) → same_kind kind kinds.Out ≡ false
+    → landed text graph kind next ≡ []
+lands_not text graph kinds.Out next e = absurd (false≢true (sym e))
+lands_not text graph _ next e = refl
+
 module _ (text : Words) (b : Blocks) (opens : List Open) (c : IsCut text b) where
   abbrev graph : Graph
   graph = graph_of b opens
@@ -204,12 +210,7 @@ module _ (text : Words) (b : Blocks) (opens : List Open) (c : IsCut text b) wher
       → node_after graph node (slot_left text graph node way point.npc)
       ≡ directed opens node way (node_of b (word_at text point.npc))
   way_leads node point kinds.Out h e = absurd (cc)
-  way_leads node point kinds.Fall h e = along_to node point kinds.Fall h e refl
-  way_leads node point kinds.Taken h e = along_to node point kinds.Taken h e refl
-  way_leads node point kinds.Untaken h e = along_to node point kinds.Untaken h e refl
-  way_leads node point kinds.Call h e = along_to node point kinds.Call h e refl
-  way_leads node point kinds.Land h e = along_to node point kinds.Land h e refl
-  way_leads node point kinds.Case h e = along_to node point kinds.Case h e refl
+  way_leads node point way h e = along_to node point way h e refl
 
   -- where a jump lands, by case or not
   pub jump_lands : (node : Node) (point : Point) → IsOnItsWay text graph node point kinds.Out
@@ -244,9 +245,4 @@ module _ (text : Words) (b : Blocks) (opens : List Open) (c : IsCut text b) wher
       → IsOnItsWay text graph node point way → GoesOut node way point.npc
   out_of_slot node point kinds.Out h =
       ap home_of (jump_lands node point h) ∙ home_lands b opens (word_at text point.npc)
-  out_of_slot node point kinds.Fall h = along node point kinds.Fall h refl refl
-  out_of_slot node point kinds.Taken h = along node point kinds.Taken h refl refl
-  out_of_slot node point kinds.Untaken h = along node point kinds.Untaken h refl refl
-  out_of_slot node point kinds.Call h = along node point kinds.Call h refl refl
-  out_of_slot node point kinds.Land h = along node point kinds.Land h refl refl
-  out_of_slot node point kinds.Case h = along node point kinds.Case h refl refl
+  out_of_slot node point way h = along node point way h refl refl

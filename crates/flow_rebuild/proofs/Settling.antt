@@ -1,10 +1,10 @@
 -- The last edge of a tree settles the node that it joined.
 use Rattle.std.proofs.Common.{◌≡◌, ℕ, zero, suc, ◌<◌, ◌⊎◌, inl, inr, Bool, true, false, ◌||◌, cond, List, [], ◌∷◌, ◌++◌, length, take, get_or, refl, ap, sym, ◌∙◌, subst, arith}
 use Rattle.std.specs.Prelude.{ℤ, pos, neg_ℤ, ◌==◌, if◌then◌else◌}
-use Rattle.std.proofs.lemmas.Bool.{cases_Bool, cases_eq, eq-eqb, ne_eqb}
+use Rattle.std.proofs.lemmas.Bool.{cases_Bool, cases_eq, eq-eqb, ne_eqb, or_left, or_right}
 use Rattle.flows.specs.Flows.{Graph, IsGraph, IsFlow, NodeSet}
 use Rattle.flows.specs.Trees.{only, and_also, crosses, far_end, IsHeaviest, Grows, on, joined_by}
-use Rattle.flows.proofs.Bools.{true_or_false, or_true, or_right, differ_same}
+use Rattle.flows.proofs.Bools.{true_or_false, differ_same}
 use Rattle.flows.proofs.Grown.{far_out}
 use Rattle.flows.proofs.Least.{Ends, ends_of, grows_keeps}
 use Rattle.flow_rebuild.specs.Excess.{excess}
@@ -91,11 +91,11 @@ on_in_push [] e i h = absurd (cc)
 on_in_push (x ∷ xs) e i h = go (cases_Bool (i == x)) (on_in_push xs e i)
   where
     go : ((i == x) ≡ true) ⊎ ((i == x) ≡ false) → (on xs i ≡ true → on (xs ++ e ∷ []) i ≡ true) → ((i == x) || on (xs ++ e ∷ []) i) ≡ true
-    go (inl c) f = or_true (i == x) _ c
+    go (inl c) f = or_left (i == x) _ c
     go (inr c) f = or_right (i == x) _ (f (ap (λ b. b || on xs i) (sym c) ∙ h))
 
 pub on_pushed : (xs : List ℕ) (e : ℕ) → on (xs ++ e ∷ []) e ≡ true
-on_pushed [] e = or_true (e == e) false (eq-eqb e e refl)
+on_pushed [] e = or_left (e == e) false (eq-eqb e e refl)
 on_pushed (x ∷ xs) e = or_right (e == x) _ (on_pushed xs e)
 
 pub settle_last : (g : Graph) (w : ℕ → ℕ) (r a b : ℕ) (xs : List ℕ) (e v : ℕ) (x : ℕ → ℤ) → (t : NodeSet) → (h : Grows g w (only r) (xs ++ e ∷ []) t) → v ≡ far_end g (last_of g w (only r) xs e t h).before e →

@@ -5,16 +5,17 @@ use Rattle.std.specs.Int.{w128}
 use mir.Val.{to_z, of_z, SFits}
 use Rattle.std.proofs.lemmas.Int.{ints, to_z-of_z, fits_signed_from_abs}
 use Rattle.std.proofs.lemmas.List.{get_or_read, get_or-set_other, get_or-set_same, length-set, get_or-replicate, get_or_past, length-replicate}
-use Rattle.std.proofs.lemmas.Bool.{cond_both, ltb-true, cases_lt, cases_eq, eq-eqb, ne_eqb}
+use Rattle.std.proofs.lemmas.Bool.{cond_both, ltb-true, cases_lt, cases_eq, eq-eqb, ne_eqb, or_parts}
 use Rattle.std.specs.List.{All}
 use Rattle.std.proofs.lemmas.List.Elements.{All-head, All-tail}
 use lib.IntN.{sub_ℕ}
 use lib.Dec.{ltb}
 use Rattle.std.specs.Prelude.{replicate, ◌==◌, if◌then◌else◌}
+use Rattle.std.proofs.Math.Bool.{or-false}
 use Rattle.flows.specs.Links.{link_at, graph_of}
 use Rattle.flows.specs.Trees.{on}
 use Rattle.flows.specs.declared.Link.{Link}
-use Rattle.flows.proofs.Bools.{eqb_swap, or_no, or_parts_false, true_or_false}
+use Rattle.flows.proofs.Bools.{eqb_swap, true_or_false}
 use Rattle.flow_rebuild.specs.Excess.{excess_below}
 use Rattle.flow_rebuild.specs.Values.{int_at, abs_sum, added, passed, carries}
 use Rattle.flow_tree.specs.Tree.{edges_in}
@@ -179,7 +180,7 @@ cleared_more given xs js i d l m h e o =
     get_or-set_other xs (get_or js i d).edge e (pos 0) (pos 0) (λ k. true_or_false (e == (get_or js i d).edge) (eq-eqb e (get_or js i d).edge k) parts.1) ∙ h e parts.0
   where
     parts : (on (edges_in (take i js)) e ≡ false) × ((e == (get_or js i d).edge) ≡ false)
-    parts = or_parts_false _ _ (sym (on_more js i d e l) ∙ o)
+    parts = or_parts _ _ (sym (on_more js i d e l) ∙ o)
 
 pub cleared_on : (xs : List ℤ) (js : List Join) (i : ℕ) (d : Join) → i < length js → (get_or js i d).edge < length xs →
     ((e : ℕ) → on (edges_in (take i js)) e ≡ true → int_at xs e ≡ pos 0) →
@@ -188,4 +189,4 @@ cleared_on xs js i d l m h e o = go (cases_eq e (get_or js i d).edge)
   where
     go : (e ≡ (get_or js i d).edge) ⊎ (e ≡ (get_or js i d).edge → ⊥) → int_at (set xs (get_or js i d).edge (pos 0)) e ≡ pos 0
     go (inl k) = ap (int_at (set xs (get_or js i d).edge (pos 0))) k ∙ get_or-set_same xs (get_or js i d).edge (pos 0) (pos 0) m
-    go (inr k) = get_or-set_other xs (get_or js i d).edge e (pos 0) (pos 0) k ∙ h e (sym (ap (λ b. on (edges_in (take i js)) e || b) (ne_eqb e (get_or js i d).edge k) ∙ or_no _) ∙ sym (on_more js i d e l) ∙ o)
+    go (inr k) = get_or-set_other xs (get_or js i d).edge e (pos 0) (pos 0) k ∙ h e (sym (ap (λ b. on (edges_in (take i js)) e || b) (ne_eqb e (get_or js i d).edge k) ∙ or-false _) ∙ sym (on_more js i d e l) ∙ o)

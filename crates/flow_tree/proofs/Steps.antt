@@ -6,11 +6,12 @@ use Rattle.std.proofs.lemmas.Bool.{cases_eq, cases_lt, eq-eqb, ne_eqb}
 use Rattle.std.specs.Prelude.{replicate}
 use Rattle.std.proofs.lemmas.List.{length-map, get_or-set_same, get_or-set_other, get_or-replicate, get_or_past, length-replicate, take_more}
 use Rattle.std.proofs.lemmas.List.Elements.{Contains-get_or, All-contains, All-nil, All-cons}
+use Rattle.std.proofs.Math.Bool.{or-true, or-false}
 use Rattle.flows.specs.Flows.{Graph, IsGraph, IsLeast, NodeSet, rest, Determines}
 use Rattle.flows.specs.Links.{link_at, graph_of, marked, weight_in, IsLinked}
 use Rattle.flows.specs.Trees.{on, only, and_also, differ, crosses, far_end, IsHeaviest, Grows, IsWhole, joined_by, IsSpanningTree, IsConnected}
 use Rattle.flows.specs.declared.Link.{Link}
-use Rattle.flows.proofs.Bools.{differ_same, or_yes, or_no, not_twice}
+use Rattle.flows.proofs.Bools.{differ_same, not_twice}
 use Rattle.flows.proofs.Grown.{listed_weight}
 use Rattle.flows.proofs.Least.{ends_of, least_alike, off_tree_least, off_grown_determines, determines_alike}
 use Rattle.flows.proofs.Spanning.{grown_count, same_set, all_count, connected_spans, spanning_alike, connected_ends}
@@ -30,8 +31,8 @@ pub marked_set : (marks : List Bool) (v : ℕ) → v < length marks → marked (
 marked_set marks v l = λ i u. at u (cases_eq u v) i
   where
     at : (u : ℕ) → (u ≡ v) ⊎ (u ≡ v → ⊥) → get_or (set marks v true) u false ≡ (get_or marks u false || (u == v))
-    at u (inl c) = ap (λ u. get_or (set marks v true) u false) c ∙ get_or-set_same marks v true false l ∙ sym (or_yes (get_or marks u false)) ∙ ap (λ b. get_or marks u false || b) (sym (eq-eqb u v c))
-    at u (inr c) = get_or-set_other marks v u true false c ∙ sym (or_no (get_or marks u false)) ∙ ap (λ b. get_or marks u false || b) (sym (ne_eqb u v c))
+    at u (inl c) = ap (λ u. get_or (set marks v true) u false) c ∙ get_or-set_same marks v true false l ∙ sym (or-true (get_or marks u false)) ∙ ap (λ b. get_or marks u false || b) (sym (eq-eqb u v c))
+    at u (inr c) = get_or-set_other marks v u true false c ∙ sym (or-false (get_or marks u false)) ∙ ap (λ b. get_or marks u false || b) (sym (ne_eqb u v c))
 
 -- ---- an edge more at the end
 pub grows_more : (g : Graph) (w : ℕ → ℕ) (es : List ℕ) (s t : NodeSet) (e : ℕ) → Grows g w s es t → IsHeaviest g w t e → Grows g w s (es ++ e ∷ []) (and_also t (far_end g t e))
@@ -59,8 +60,8 @@ newly g s v e h = go (cases_eq (g.from e) v) (cases_eq (g.to e) v)
     go (inl a) b = inr (inl a)
     go (inr a) (inl b) = inr (inr b)
     go (inr a) (inr b) =
-        let p : and_also s v (g.from e) ≡ s (g.from e) = ap (λ c. s (g.from e) || c) (ne_eqb (g.from e) v a) ∙ or_no (s (g.from e)) in
-        let q : and_also s v (g.to e) ≡ s (g.to e) = ap (λ c. s (g.to e) || c) (ne_eqb (g.to e) v b) ∙ or_no (s (g.to e)) in
+        let p : and_also s v (g.from e) ≡ s (g.from e) = ap (λ c. s (g.from e) || c) (ne_eqb (g.from e) v a) ∙ or-false (s (g.from e)) in
+        let q : and_also s v (g.to e) ≡ s (g.to e) = ap (λ c. s (g.to e) || c) (ne_eqb (g.to e) v b) ∙ or-false (s (g.to e)) in
         inl (ap (λ c. differ c (s (g.to e))) (sym p) ∙ ap (differ (and_also s v (g.from e))) (sym q) ∙ h)
 
 -- every edge that crosses is on the heap again
@@ -139,7 +140,7 @@ whole_at_end g w es r t ok lr h e i l =
 
 -- ---- sets of edges
 pub on_push : (xs : List ℕ) (y e : ℕ) → on (xs ++ y ∷ []) e ≡ (on xs e || (e == y))
-on_push [] y e = or_no (e == y)
+on_push [] y e = or-false (e == y)
 on_push (x ∷ xs) y e = ap (λ b. (e == x) || b) (on_push xs y e) ∙ assoc (e == x) (on xs e) (e == y)
   where
     assoc : (a b c : Bool) → (a || (b || c)) ≡ ((a || b) || c)
@@ -221,7 +222,7 @@ off_more off js i e d l m h = go (cases_eq e (get_or js i d).edge) ∙ ap not (s
     go : (e ≡ (get_or js i d).edge) ⊎ (e ≡ (get_or js i d).edge → ⊥) → marked (set off (get_or js i d).edge false) e ≡ not (on (edges_in (take i js)) e || (e == (get_or js i d).edge))
     go (inl k) =
         ap (λ e. get_or (set off (get_or js i d).edge false) e false) k ∙ get_or-set_same off (get_or js i d).edge false false m
-        ∙ ap not (sym (ap (λ b. on (edges_in (take i js)) e || b) (eq-eqb e (get_or js i d).edge k) ∙ or_yes (on (edges_in (take i js)) e)))
+        ∙ ap not (sym (ap (λ b. on (edges_in (take i js)) e || b) (eq-eqb e (get_or js i d).edge k) ∙ or-true (on (edges_in (take i js)) e)))
     go (inr k) =
         get_or-set_other off (get_or js i d).edge e false false k ∙ h
-        ∙ ap not (sym (ap (λ b. on (edges_in (take i js)) e || b) (ne_eqb e (get_or js i d).edge k) ∙ or_no (on (edges_in (take i js)) e)))
+        ∙ ap not (sym (ap (λ b. on (edges_in (take i js)) e || b) (ne_eqb e (get_or js i d).edge k) ∙ or-false (on (edges_in (take i js)) e)))

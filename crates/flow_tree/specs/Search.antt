@@ -1,5 +1,5 @@
 -- What the search for a heaviest tree keeps.
-use Rattle.std.specs.Prelude.{◌≡◌, ℕ, ◌<◌, Bool, true, List, length, slice_index}
+use Rattle.std.specs.Prelude.{◌≡◌, ℕ, ◌<◌, ◌≤◌, ◌⊎◌, Bool, true, List, length, slice_index}
 use Rattle.std.specs.List.{All, Contains}
 use Rattle.std.specs.Ordering.{nat_cmp, ordering_then}
 use Rattle.std.specs.declared.cmp.Ordering.{Ordering}
@@ -26,6 +26,14 @@ candidate ws e = record { weight = slice_index ws e; edge = e }
 -- c is an edge with its weight
 abbrev pub IsReal : List ℕ → Candidate → Type 0
 IsReal ws c = (c.edge < length ws) × (c.weight ≡ slice_index ws c.edge)
+
+-- x, a heaviest of the candidates that cross, was taken from them, and no other that crosses
+pub record HasTaken (links : List Link) (marks : List Bool) (old new : List Candidate) (x : Candidate) : Type 0 where
+  pub there : Contains old x
+  pub across : crosses_at links marks x.edge ≡ true
+  pub greatest : (c : Candidate) → Contains old c → crosses_at links marks c.edge ≡ true → c.weight ≤ x.weight
+  pub others : (c : Candidate) → Contains old c → crosses_at links marks c.edge ≡ true
+      → Contains new c ⊎ (c.edge ≡ x.edge)
 
 -- the tree has grown heaviest first, and every edge that crosses is on the heap
 pub record IsSearch (n : ℕ) (links : List Link) (ws : List ℕ) (s : Search) : Type 0 where

@@ -1,13 +1,13 @@
 //! Growth from one node, each time by a heaviest edge that crosses to a node outside.
 
-ghost use Rattle.std.specs.Prelude.{◌≡◌, ℕ, ◌+◌, ◌<◌, ◌≤◌, ◌⊎◌, length, IsTrue, IsFalse, false, true, OnOk, IfSome, IfNone, IfOk, if◌then◌else◌};
+ghost use Rattle.std.specs.Prelude.{◌≡◌, ℕ, ◌+◌, ◌<◌, length, IsTrue, IsFalse, false, true, OnOk, IfSome, IfNone, IfOk, if◌then◌else◌};
 ghost use Rattle.std.specs.List.{All, Contains};
 ghost use Rattle.std.specs.BinaryHeap.{heap_items, IsHeap};
 ghost use Rattle.flows.specs.Trees.{crosses, differ, IsWhole};
 ghost use Rattle.flows.specs.Links.{graph_of, marked, weight_in, IsLinked};
 ghost use Rattle.flow_tree.specs.Rows.{HasEnds, AllBelow};
 ghost use Rattle.flow_tree.specs.Tree.{reached_by, IsGrown, IsHeaviestFirst};
-ghost use Rattle.flow_tree.specs.Search.{candidate_cmp, candidate, crosses_at, IsReal, IsSearch};
+ghost use Rattle.flow_tree.specs.Search.{candidate_cmp, candidate, crosses_at, HasTaken, IsReal, IsSearch};
 ghost use Rattle.flow_tree.specs.declared.growth.Candidate.{Candidate};
 
 use crate::rows::incident;
@@ -42,15 +42,7 @@ fn next_crossing(
     ensures ordered { IsHeap candidate_cmp (heap_items heap.new) }
     ensures real { All (λ c. c.edge < length links.now) (heap_items heap.new) }
     ensures fewer { (c : Candidate) → Contains (heap_items heap.new) c → Contains (heap_items heap.old) c }
-    ensures there { IfSome result (λ x. Contains (heap_items heap.old) x) }
-    ensures crosses { IfSome result (λ x. crosses_at links.now marks.now x.edge ≡ true) }
-    ensures greatest { IfSome result (λ x.
-        (c : Candidate) → Contains (heap_items heap.old) c →
-        crosses_at links.now marks.now c.edge ≡ true → c.weight ≤ x.weight) }
-    ensures others { IfSome result (λ x.
-        (c : Candidate) → Contains (heap_items heap.old) c →
-        crosses_at links.now marks.now c.edge ≡ true →
-        Contains (heap_items heap.new) c ⊎ (c.edge ≡ x.edge)) }
+    ensures taken { IfSome result (HasTaken links.now marks.now (heap_items heap.old) (heap_items heap.new)) }
     ensures none { IfNone result (
         (c : Candidate) → Contains (heap_items heap.old) c →
         crosses_at links.now marks.now c.edge ≡ false) }

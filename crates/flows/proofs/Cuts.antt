@@ -2,10 +2,10 @@
 use Rattle.std.proofs.Common.{◌≡◌, ℕ, zero, suc, ◌<◌, ◌≤◌, ◌⊎◌, inl, inr, Bool, true, false, not, ◌||◌, ◌&&◌, refl, ap, sym, ◌∙◌, arith}
 use Rattle.std.specs.Prelude.{ℤ, pos, ◌+ℤ◌, neg_ℤ, nat_abs, ◌==◌}
 use Rattle.std.proofs.lemmas.Int.{ints}
-use Rattle.std.proofs.lemmas.Bool.{cases_Bool, cases_eq, eqb-true, eq-eqb, ne_eqb}
+use Rattle.std.proofs.lemmas.Bool.{cases_Bool, cases_eq, eqb-true, eq-eqb, ne_eqb, or_cases, false_from_ne_true, and_parts}
+use Rattle.std.proofs.Math.Bool.{or-false, and-false, and-true}
 use Rattle.flows.specs.Flows.{Graph, NodeSet, IsGraph}
 use Rattle.flows.specs.Trees.{only, and_also, differ, crosses}
-use Rattle.flows.proofs.Bools.{or_cases, false_since, and_first, or_no, and_no, and_yes}
 use Rattle.flows.proofs.Sums.{zero_or_not, total_same, total_zero, total_add}
 use Rattle.flows.proofs.Nets.{part, net, all_but, part_same}
 
@@ -50,7 +50,7 @@ upto_below s (suc j) w e = go (or_cases (upto s j w) ((w == j) && not (s j)) e) 
   where
     go : (upto s j w ≡ true) ⊎ (((w == j) && not (s j)) ≡ true) → (upto s j w ≡ true → w < j) → w < suc j
     go (inl h) r = let l = r h in omega arith
-    go (inr h) r = let l = eqb-true w j (and_first (w == j) (not (s j)) h) in omega arith
+    go (inr h) r = let l = eqb-true w j (and_parts (w == j) (not (s j)) h).0 in omega arith
 
 upto_is : (s : NodeSet) (j w : ℕ) → w < j → upto s j w ≡ not (s w)
 upto_is s zero w l = absurd (omega arith)
@@ -58,22 +58,22 @@ upto_is s (suc j) w l = go (cases_eq w j) (upto_is s j w)
   where
     go : (w ≡ j) ⊎ (w ≡ j → ⊥) → (w < j → upto s j w ≡ not (s w)) → (upto s j w || ((w == j) && not (s j))) ≡ not (s w)
     go (inl e) r =
-        let a : upto s j w ≡ false = false_since (upto s j w) (λ h. let b = upto_below s j w h in omega arith) in
+        let a : upto s j w ≡ false = false_from_ne_true (upto s j w) (λ h. let b = upto_below s j w h in omega arith) in
         ap (λ b. b || ((w == j) && not (s j))) a ∙ ap (λ b. b && not (s j)) (eq-eqb w j e) ∙ ap (λ t. not (s t)) (sym e)
     go (inr n) r =
         ap (λ b. upto s j w || (b && not (s j))) (ne_eqb w j n)
-        ∙ or_no (upto s j w)
+        ∙ or-false (upto s j w)
         ∙ r (omega arith)
 
 upto_net : (g : Graph) (s : NodeSet) (x : ℕ → ℤ) → Balanced g s x → (j : ℕ) → j ≤ g.nodes → net g (upto s j) x ≡ pos 0
 upto_net g s x b zero l = net_none g false x
 upto_net g s x b (suc j) l =
-    net_join g (upto s j) (λ w. (w == j) && not (s j)) x (λ w p q. let c = upto_below s j w p in let d = eqb-true w j (and_first (w == j) (not (s j)) q) in omega arith)
+    net_join g (upto s j) (λ w. (w == j) && not (s j)) x (λ w p q. let c = upto_below s j w p in let d = eqb-true w j (and_parts (w == j) (not (s j)) q).0 in omega arith)
     ∙ (let r = upto_net g s x b j (omega arith) in let t = last (s j) refl in omega (arith, ints, r, t))
   where
     last : (t : Bool) → s j ≡ t → net g (λ w. (w == j) && not (s j)) x ≡ pos 0
-    last true e = (let f : (λ (w : ℕ). (w == j) && not (s j)) ≡ (λ (w : ℕ). false) = λ i w. (ap (λ t. (w == j) && not t) e ∙ and_no (w == j)) i in ap (λ u. net g u x) f) ∙ net_none g false x
-    last false e = (let f : (λ (w : ℕ). (w == j) && not (s j)) ≡ only j = λ i w. (ap (λ t. (w == j) && not t) e ∙ and_yes (w == j)) i in ap (λ u. net g u x) f) ∙ b j (omega arith) e
+    last true e = (let f : (λ (w : ℕ). (w == j) && not (s j)) ≡ (λ (w : ℕ). false) = λ i w. (ap (λ t. (w == j) && not t) e ∙ and-false (w == j)) i in ap (λ u. net g u x) f) ∙ net_none g false x
+    last false e = (let f : (λ (w : ℕ). (w == j) && not (s j)) ≡ only j = λ i w. (ap (λ t. (w == j) && not t) e ∙ and-true (w == j)) i in ap (λ u. net g u x) f) ∙ b j (omega arith) e
 
 -- what is balanced at each node outside s brings nothing out of s
 pub balanced_out : (g : Graph) (s : NodeSet) (x : ℕ → ℤ) → IsGraph g → Balanced g s x → net g (all_but s) x ≡ pos 0

@@ -2,11 +2,12 @@
 use Rattle.std.proofs.Common.{◌≡◌, ℕ, zero, suc, ◌<◌, ◌≤◌, ◌⊎◌, inl, inr, Bool, true, false, not, ◌||◌, ◌&&◌, cond, List, [], ◌∷◌, refl, ap, sym, ◌∙◌, subst, arith}
 use Rattle.std.specs.Prelude.{ℤ, pos, negsuc, ◌+ℤ◌, nat_abs, ◌==◌, if◌then◌else◌, ◌↔◌}
 use Rattle.std.proofs.lemmas.Int.{ints}
-use Rattle.std.proofs.lemmas.Bool.{cases_Bool, cases_eq, eqb-true, eq-eqb, ne_eqb}
+use Rattle.std.proofs.lemmas.Bool.{cases_Bool, cases_eq, eqb-true, eq-eqb, ne_eqb, or_left, or_right, or_cases, or_from, or_parts, and_left, false_from_ne_true, and_parts}
+use Rattle.std.proofs.Math.Bool.{and-false, and-true}
 use Rattle.flows.specs.Flows.{Graph, NodeSet, EdgeSet, rest, IsGraph, total, one_at, IsFlow, Determines, AgreeOn}
 use Rattle.flows.specs.Walks.{Step, tail, head, takes, IsTrail, HasCycle}
 use Rattle.flows.specs.Trees.{NoneCrosses, only, and_also, differ, crosses, far_end, Grows}
-use Rattle.flows.proofs.Bools.{true_or_false, or_true, or_right, or_cases, or_false, or_parts_false, and_first, and_false, and_no, and_yes, eqb_swap, false_since}
+use Rattle.flows.proofs.Bools.{true_or_false, eqb_swap}
 use Rattle.flows.proofs.Sums.{total_zero, total_change, total_one}
 use Rattle.flows.proofs.Nets.{part, net, part_zero, part_same}
 use Rattle.flows.proofs.Cuts.{Balanced, balanced_out, root_balanced}
@@ -74,14 +75,14 @@ trail_is_flow g f a b (s ∷ ss) h v l =
 not_taken : (ss : List Step) (e : ℕ) → takes ss e ≡ false → carried ss e ≡ pos 0
 not_taken [] e h = refl
 not_taken (s ∷ ss) e h =
-    let k = or_parts_false (e == s.edge) (takes ss e) h in
+    let k = or_parts (e == s.edge) (takes ss e) h in
     let a : cond (e == s.edge) (unit s.forward) (pos 0) ≡ pos 0 = ap (λ b. cond b (unit s.forward) (pos 0)) k.0 in
     let r = not_taken ss e k.1 in omega (arith, ints, a, r)
 
 within_trail : (g : Graph) (f : EdgeSet) (a b : ℕ) (ss : List Step) (e : ℕ) → IsTrail g f a ss b → f e ≡ false → takes ss e ≡ false
 within_trail g f a b [] e h n = refl
 within_trail g f a b (s ∷ ss) e h n =
-    or_false (e == s.edge) (takes ss e) (ne_eqb e s.edge (λ c. true_or_false (f e) (ap f c ∙ h.1) n)) (within_trail g f (head g s) b ss e h.4 n)
+    or_from (e == s.edge) (takes ss e) (ne_eqb e s.edge (λ c. true_or_false (f e) (ap f c ∙ h.1) n)) (within_trail g f (head g s) b ss e h.4 n)
 
 -- no edge of a cycle is determined by edges off it
 no_cycle_if : (g : Graph) (d : EdgeSet) → IsGraph g → Determines g d → HasCycle g (rest d) → ⊥
@@ -136,10 +137,10 @@ way_more g d s r e l t c ways v h = go (cases_Bool (s v))
     ends = ends_of g s e c
 
     wider : (ss : List Step) → Inside g s ss → Inside g (and_also s (far_end g s e)) ss
-    wider ss i e t = let k = i e t in (or_true (s (g.from e)) _ k.0, or_true (s (g.to e)) _ k.1)
+    wider ss i e t = let k = i e t in (or_left (s (g.from e)) _ k.0, or_left (s (g.to e)) _ k.1)
 
     new : (ss : List Step) → Inside g s ss → takes ss e ≡ false
-    new ss i = false_since (takes ss e) (λ t. let k = i e t in true_or_false (crosses g s e) c (differ_in (s (g.from e)) (s (g.to e)) k.0 k.1))
+    new ss i = false_from_ne_true (takes ss e) (λ t. let k = i e t in true_or_false (crosses g s e) c (differ_in (s (g.from e)) (s (g.to e)) k.0 k.1))
       where
         differ_in : (p q : Bool) → p ≡ true → q ≡ true → differ p q ≡ false
         differ_in true true a b = refl
@@ -201,12 +202,12 @@ below_is zero e l = absurd (omega arith)
 below_is (suc n) e l = go (cases_eq e n) (below_is n e)
   where
     go : (e ≡ n) ⊎ (e ≡ n → ⊥) → (e < n → below n e ≡ true) → ((e == n) || below n e) ≡ true
-    go (inl c) r = or_true (e == n) _ (eq-eqb e n c)
+    go (inl c) r = or_left (e == n) _ (eq-eqb e n c)
     go (inr c) r = or_right (e == n) _ (r (omega arith))
 
 not_below : (n e : ℕ) → n ≤ e → below n e ≡ false
 not_below zero e l = refl
-not_below (suc n) e l = or_false (e == n) _ (ne_eqb e n (λ c. omega arith)) (not_below n e (omega arith))
+not_below (suc n) e l = or_from (e == n) _ (ne_eqb e n (λ c. omega arith)) (not_below n e (omega arith))
 
 abbrev first : EdgeSet → ℕ → EdgeSet
 first f n = λ e. f e && below n e
@@ -218,12 +219,12 @@ first_without : (f : EdgeSet) (n e : ℕ) → f n ≡ false → first f n e ≡ 
 first_without f n e h k = go (cases_eq e n)
   where
     go : (e ≡ n) ⊎ (e ≡ n → ⊥) → first f (suc n) e ≡ false
-    go (inl c) = and_false (f e) _ (ap f c ∙ h)
+    go (inl c) = and_left (f e) _ (ap f c ∙ h)
     go (inr c) = first_less f n e k c
 
 wider_trail : (g : Graph) (f : EdgeSet) (n a b : ℕ) (ss : List Step) → IsTrail g (first f n) a ss b → IsTrail g f a ss b
 wider_trail g f n a b [] h = h
-wider_trail g f n a b (s ∷ ss) h = (h.0, and_first (f s.edge) _ h.1, h.2, h.3, wider_trail g f n (head g s) b ss h.4)
+wider_trail g f n a b (s ∷ ss) h = (h.0, (and_parts (f s.edge) _ h.1).0, h.2, h.3, wider_trail g f n (head g s) b ss h.4)
 
 -- no node needs to be left out: x is balanced at every node
 abbrev nowhere : NodeSet
@@ -253,7 +254,7 @@ one_more g f n ok l ind = go (cases_Bool (f n))
           g.from n,
           record { edge = n; forward = true },
           ss,
-          (l, t, refl, within_trail g (first f n) (g.to n) (g.from n) ss n h (ap (λ b. f n && b) (not_below n n (omega arith)) ∙ and_no (f n)), wider_trail g f n (g.to n) (g.from n) ss h),
+          (l, t, refl, within_trail g (first f n) (g.to n) (g.from n) ss n h (ap (λ b. f n && b) (not_below n n (omega arith)) ∙ and-false (f n)), wider_trail g f n (g.to n) (g.from n) ss h),
         )
     closed t (inr (s, none, sf, st)) = inr (λ x wx bx. ind x (within x wx (cut_edge g f n s x ok l none sf st wx bx)) bx)
       where
@@ -269,7 +270,7 @@ one_more g f n ok l ind = go (cases_Bool (f n))
     go (inr h) = inr (λ x wx bx. ind x (λ e m k. wx e m (first_without f n e h k)) bx)
 
 cycle_or_none : (g : Graph) (f : EdgeSet) (n : ℕ) → IsGraph g → n ≤ g.edges → HasCycle g f ⊎ Independent g nowhere (first f n)
-cycle_or_none g f zero ok l = inr (λ x wx bx e m. wx e m (and_no (f e)))
+cycle_or_none g f zero ok l = inr (λ x wx bx e m. wx e m (and-false (f e)))
 cycle_or_none g f (suc n) ok l = go (cycle_or_none g f n ok (omega arith))
   where
     go : HasCycle g f ⊎ Independent g nowhere (first f n) → HasCycle g f ⊎ Independent g nowhere (first f (suc n))
@@ -281,7 +282,7 @@ determines_where g d ok acyclic a b x y la lb = determines_if g a d ok (ind (cyc
   where
     ind : HasCycle g (rest d) ⊎ Independent g nowhere (first (rest d) g.edges) → Independent g (only a) (rest d)
     ind (inl c) = absurd (acyclic c)
-    ind (inr i) = λ z wz bz. i z (λ e m h. wz e m (sym (and_yes (not (d e))) ∙ ap (λ b. not (d e) && b) (sym (below_is g.edges e m)) ∙ h)) (λ v m c. at z bz v m (cases_eq v a))
+    ind (inr i) = λ z wz bz. i z (λ e m h. wz e m (sym (and-true (not (d e))) ∙ ap (λ b. not (d e) && b) (sym (below_is g.edges e m)) ∙ h)) (λ v m c. at z bz v m (cases_eq v a))
       where
         at : (z : ℕ → ℤ) → Balanced g (only a) z → (v : ℕ) → v < g.nodes → (v ≡ a) ⊎ (v ≡ a → ⊥) → net g (only v) z ≡ pos 0
         at z bz v m (inl c) = ap (λ v. net g (only v) z) c ∙ root_balanced g a z ok bz

@@ -2,11 +2,12 @@
 use Rattle.std.proofs.Common.{◌≡◌, ℕ, ◌+◌, ◌<◌, ◌≤◌, ◌⊎◌, inl, inr, Bool, true, false, not, ◌&&◌, cond, List, [], ◌∷◌, refl, ap, sym, ◌∙◌, subst, arith}
 use Rattle.std.specs.Prelude.{ℤ, pos, ◌-ℤ◌, ◌*ℤ◌, nat_abs, ◌==◌}
 use Rattle.std.proofs.lemmas.Int.{ints}
-use Rattle.std.proofs.lemmas.Bool.{cases_Bool, cases_eq, cases_lt, eq-eqb, ne_eqb}
+use Rattle.std.proofs.lemmas.Bool.{cases_Bool, cases_eq, cases_lt, eq-eqb, ne_eqb, and_left, or_from}
 use lib.IntN.{*ℤ_comm, *ℤ-zero}
+use Rattle.std.proofs.Math.Bool.{and-false}
 use Rattle.flows.specs.Flows.{Graph, NodeSet, EdgeSet, IsGraph, weight_of}
 use Rattle.flows.specs.Trees.{only, and_also, differ, crosses, far_end, Grows, HasEveryEnd}
-use Rattle.flows.proofs.Bools.{true_or_false, and_false, and_no, or_false}
+use Rattle.flows.proofs.Bools.{true_or_false}
 use Rattle.flows.proofs.Sums.{zero_or_not, factor_zero, total_zero}
 use Rattle.flows.proofs.Nets.{part, net, net_mix, part_zero}
 use Rattle.flows.proofs.Cuts.{Balanced, balanced_out, net_and_also, none_crosses, some_or_none}
@@ -38,10 +39,10 @@ module _ (g : Graph) (s : NodeSet) (v : ℕ) (f : ℕ → Bool) (x : ℕ → ℤ
   l = net g (only v) y
 
   within : Within g f y
-  within e b c = wy e b (and_false (f e) (not (e == h)) c)
+  within e b c = wy e b (and_left (f e) (not (e == h)) c)
 
   elsewhere : (t : ℕ) → t < g.nodes → s t ≡ false → (t ≡ v → ⊥) → net g (only t) y ≡ pos 0
-  elsewhere t b c e = by t b (or_false (s t) (t == v) c (ne_eqb t v e))
+  elsewhere t b c e = by t b (or_from (s t) (t == v) c (ne_eqb t v e))
 
   at : (t : ℕ) → t < g.nodes → s t ≡ false → (t ≡ v) ⊎ (t ≡ v → ⊥) → k *ℤ net g (only t) y -ℤ l *ℤ net g (only t) x ≡ pos 0
   at t b c (inl e) =
@@ -49,14 +50,14 @@ module _ (g : Graph) (s : NodeSet) (v : ℕ) (f : ℕ → Bool) (x : ℕ → ℤ
       let q : net g (only t) x ≡ k = ap (λ t. net g (only t) x) e in
       let r = *ℤ_comm k l in
       ap (λ z. k *ℤ z -ℤ l *ℤ net g (only t) x) p ∙ ap (λ z. k *ℤ l -ℤ l *ℤ z) q ∙ omega (arith, ints, r)
-  at t b c (inr e) = mix_zero k l _ _ (elsewhere t b c e) (bx t b (or_false (s t) (t == v) c (ne_eqb t v e)))
+  at t b c (inr e) = mix_zero k l _ _ (elsewhere t b c e) (bx t b (or_from (s t) (t == v) c (ne_eqb t v e)))
 
   zero_at : k *ℤ y h -ℤ l *ℤ x h ≡ pos 0
   zero_at = ind (λ e. k *ℤ y e -ℤ l *ℤ x e) (λ e b c. mix_zero k l (y e) (x e) (within e b c) (wx e b c)) (λ t b c. net_mix g (only t) k l y x ∙ at t b c (cases_eq t v)) h lh
 
   l_zero : l ≡ pos 0
   l_zero =
-      let a : y h ≡ pos 0 = wy h lh (ap (λ b. f h && not b) (eq-eqb h h refl) ∙ and_no (f h)) in
+      let a : y h ≡ pos 0 = wy h lh (ap (λ b. f h && not b) (eq-eqb h h refl) ∙ and-false (f h)) in
       let c : k *ℤ y h ≡ pos 0 = ap (λ t. k *ℤ t) a ∙ *ℤ-zero k in
       let z = zero_at in
       let d : l *ℤ x h ≡ pos 0 = omega (arith, ints, c, z) in
@@ -90,7 +91,7 @@ module _ (g : Graph) (w : ℕ → ℕ) (s : NodeSet) (v : ℕ) (f : ℕ → Bool
     where
       go : (t ≡ v) ⊎ (t ≡ v → ⊥) → net g (only t) x ≡ pos 0
       go (inl e) = ap (λ t. net g (only t) x) e ∙ z
-      go (inr e) = b t l (or_false (s t) (t == v) c (ne_eqb t v e))
+      go (inr e) = b t l (or_from (s t) (t == v) c (ne_eqb t v e))
 
   at_all : (x : ℕ → ℤ) → c + r < weight_of g w f → Within g f x → Balanced g (and_also s v) x → (net g (only v) x ≡ pos 0) ⊎ (0 < nat_abs (net g (only v) x)) → (e : ℕ) → e < g.edges → x e ≡ pos 0
   at_all x over wx bx (inl z) = ind x wx (balanced x bx z)

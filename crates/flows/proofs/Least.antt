@@ -2,10 +2,10 @@
 use Rattle.std.proofs.Common.{◌≡◌, ℕ, ◌+◌, ◌<◌, ◌≤◌, ◌⊎◌, inl, inr, Bool, true, false, not, ◌||◌, cond, List, [], ◌∷◌, refl, ap, sym, ◌∙◌, arith}
 use Rattle.std.specs.Prelude.{ℤ, pos, ◌-ℤ◌, neg_ℤ, ◌==◌, if◌then◌else◌}
 use Rattle.std.proofs.lemmas.Int.{ints}
-use Rattle.std.proofs.lemmas.Bool.{cases_eq, eq-eqb, ne_eqb}
+use Rattle.std.proofs.lemmas.Bool.{cases_eq, eq-eqb, ne_eqb, or_left, or_right, or_parts}
 use Rattle.flows.specs.Flows.{Graph, NodeSet, EdgeSet, rest, IsGraph, IsFlow, Determines, AgreeOn, IsLeast, weight_of}
 use Rattle.flows.specs.Trees.{only, and_also, differ, crosses, far_end, Grows, HasEveryEnd, on}
-use Rattle.flows.proofs.Bools.{true_or_false, not_twice, or_true, or_right, or_parts_false}
+use Rattle.flows.proofs.Bools.{true_or_false, not_twice}
 use Rattle.flows.proofs.Cuts.{Balanced, root_balanced}
 use Rattle.flows.proofs.Grown.{Within, Independent, far_out, listed_weight, heaviest_tree}
 use Rattle.flows.proofs.Nets.{part, net, net_is, net_sub, part_zero}
@@ -25,7 +25,7 @@ ends_of g s e c = go (s (g.from e)) refl
     go true h =
         let f : far_end g s e ≡ g.to e = ap (λ p. cond p (g.to e) (g.from e)) h in
         record {
-          from_in = or_true (s (g.from e)) _ h;
+          from_in = or_left (s (g.from e)) _ h;
           to_in = or_right (s (g.to e)) _ (eq-eqb (g.to e) (far_end g s e) (sym f));
           one_new = inl (f, h);
         }
@@ -34,7 +34,7 @@ ends_of g s e c = go (s (g.from e)) refl
         let t : s (g.to e) ≡ true = ap (λ p. differ p (s (g.to e))) (sym h) ∙ c in
         record {
           from_in = or_right (s (g.from e)) _ (eq-eqb (g.from e) (far_end g s e) (sym f));
-          to_in = or_true (s (g.to e)) _ t;
+          to_in = or_left (s (g.to e)) _ t;
           one_new = inr (f, t);
         }
 
@@ -48,7 +48,7 @@ far_inside g s e ok l = pick_below (s (g.from e)) (g.to e) (g.from e) g.nodes (o
 -- an edge with both ends in s is never taken
 pub not_taken : (g : Graph) (w : ℕ → ℕ) (es : List ℕ) (s t : NodeSet) (e : ℕ) → Grows g w s es t → s (g.from e) ≡ true → s (g.to e) ≡ true → on es e ≡ false
 not_taken g w [] s t e h p q = refl
-not_taken g w (x ∷ xs) s t e h p q = go (cases_eq e x) (not_taken g w xs (and_also s (far_end g s x)) t e h.1 (or_true (s (g.from e)) _ p) (or_true (s (g.to e)) _ q))
+not_taken g w (x ∷ xs) s t e h p q = go (cases_eq e x) (not_taken g w xs (and_also s (far_end g s x)) t e h.1 (or_left (s (g.from e)) _ p) (or_left (s (g.to e)) _ q))
   where
     go : (e ≡ x) ⊎ (e ≡ x → ⊥) → on xs e ≡ false → on (x ∷ xs) e ≡ false
     go (inl c) r =
@@ -103,7 +103,7 @@ no_cycle g w (a ∷ es) s t ok h x wx bx = all (cleared (no_cycle g w es (and_al
     apart u p m n c = true_or_false (and_also s (far_end g s a) p) n (ap (and_also s (far_end g s a)) c ∙ m)
 
     balanced : Balanced g (and_also s (far_end g s a)) (clear x a)
-    balanced u l m = clear_net g x a u (apart u (g.from a) m d.from_in) (apart u (g.to a) m d.to_in) ∙ bx u l (or_parts_false (s u) _ m).0
+    balanced u l m = clear_net g x a u (apart u (g.from a) m d.from_in) (apart u (g.to a) m d.to_in) ∙ bx u l (or_parts (s u) _ m).0
 
     cleared : (Within g (on es) (clear x a) → Balanced g (and_also s (far_end g s a)) (clear x a) → (e : ℕ) → e < g.edges → clear x a e ≡ pos 0) → (e : ℕ) → e < g.edges → (e ≡ a → ⊥) → x e ≡ pos 0
     cleared f e l c = sym (ap (λ b. cond b (pos 0) (x e)) (ne_eqb e a c)) ∙ f within balanced e l
@@ -207,4 +207,4 @@ least_alike g w s r same h = record {
 
 pub grows_keeps : (g : Graph) (w : ℕ → ℕ) (es : List ℕ) (s t : NodeSet) → Grows g w s es t → (u : ℕ) → s u ≡ true → t u ≡ true
 grows_keeps g w [] s t h u k = ap (λ (r : NodeSet). r u) h ∙ k
-grows_keeps g w (x ∷ xs) s t h u k = grows_keeps g w xs (and_also s (far_end g s x)) t h.1 u (or_true (s u) _ k)
+grows_keeps g w (x ∷ xs) s t h u k = grows_keeps g w xs (and_also s (far_end g s x)) t h.1 u (or_left (s u) _ k)

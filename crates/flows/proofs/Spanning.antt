@@ -1,10 +1,11 @@
 -- Spanning trees, and how growth tells them.
 use Rattle.std.proofs.Common.{◌≡◌, ℕ, zero, suc, ◌+◌, ◌<◌, ◌≤◌, ◌⊎◌, inl, inr, Bool, true, false, not, ◌||◌, cond, List, [], ◌∷◌, refl, ap, sym, ◌∙◌, arith}
 use Rattle.std.specs.Prelude.{◌==◌, if◌then◌else◌}
-use Rattle.std.proofs.lemmas.Bool.{cases_Bool, cases_eq, eqb-true, eq-eqb, ne_eqb}
+use Rattle.std.proofs.lemmas.Bool.{cases_Bool, cases_eq, eqb-true, eq-eqb, ne_eqb, or_left, or_right, or_cases}
+use Rattle.std.proofs.Math.Bool.{or-false, or_comm}
 use Rattle.flows.specs.Flows.{Graph, NodeSet, EdgeSet, rest, IsGraph, Determines, count_below}
 use Rattle.flows.specs.Trees.{NoneCrosses, JoinsAll, IsSpanningTree, HasEveryEnd, only, and_also, crosses, far_end, IsWhole, IsHeaviest, Grows, on, IsConnected}
-use Rattle.flows.proofs.Bools.{true_or_false, or_true, or_right, or_no, or_swap, not_twice, differ_equal, or_cases}
+use Rattle.flows.proofs.Bools.{true_or_false, not_twice, differ_equal}
 use Rattle.flows.proofs.Grown.{far_out, listed_weight}
 use Rattle.flows.proofs.Least.{Ends, ends_of, far_inside, listed_is, no_cycle, determines_if, grows_keeps}
 use Rattle.flows.proofs.Weights.{weight_same, weight_more, weight_one}
@@ -69,7 +70,7 @@ pub grown_count : (g : Graph) (w : ℕ → ℕ) (es : List ℕ) (s t : NodeSet) 
 grown_count g w [] s t ok h = let a = ap (count_below g.nodes) (sym h) in omega (arith, a)
 grown_count g w (e ∷ es) s t ok h =
     let a = weight_more g.nodes (λ e. 1) s (far_end g s e) (far_inside g s e ok h.0.inside) (far_out g s e h.0.across) in
-    let b = weight_same g.nodes (λ e. 1) (and_also s (far_end g s e)) (λ u. (u == far_end g s e) || s u) (λ u m. or_swap (s u) (u == far_end g s e)) in
+    let b = weight_same g.nodes (λ e. 1) (and_also s (far_end g s e)) (λ u. (u == far_end g s e) || s u) (λ u m. or_comm (s u) (u == far_end g s e)) in
     let c = grown_count g w es (and_also s (far_end g s e)) t ok h.1 in
     omega (arith, a, b, c)
 
@@ -84,7 +85,7 @@ kept g w (e ∷ es) s t q c h n a u m =
     d = ends_of g s e h.0.across
 
     same : q (g.from e) ≡ q (g.to e)
-    same = n e h.0.inside (or_true (e == e) (on es e) (eq-eqb e e refl))
+    same = n e h.0.inside (or_left (e == e) (on es e) (eq-eqb e e refl))
 
     new : ((far_end g s e ≡ g.to e) × (s (g.from e) ≡ true)) ⊎ ((far_end g s e ≡ g.from e) × (s (g.to e) ≡ true)) → q (far_end g s e) ≡ c
     new (inl p) = ap q p.0 ∙ sym same ∙ a (g.from e) p.1
@@ -158,7 +159,7 @@ on_in d (x ∷ xs) e h o = go (cases_Bool (e == x)) (on_in d xs e h.1)
 pub grown_in : (g : Graph) (is_node : NodeSet) (d : EdgeSet) (r : ℕ) (es : List ℕ) (s t : NodeSet) → IsGraph g → HasEveryEnd g is_node → r < g.nodes → is_node r ≡ true → s r ≡ true → JoinsAll g is_node d → Grows g (one_if d) s es t → AllIn d es
 grown_in g is_node d r [] s t ok ends lr nr sr j h = tt
 grown_in g is_node d r (e ∷ es) s t ok ends lr nr sr j h =
-    (here (search_edge g d s g.edges), grown_in g is_node d r es (and_also s (far_end g s e)) t ok ends lr nr (or_true (s r) _ sr) j h.1)
+    (here (search_edge g d s g.edges), grown_in g is_node d r es (and_also s (far_end g s e)) t ok ends lr nr (or_left (s r) _ sr) j h.1)
   where
     in_d : (b : Bool) → 1 ≤ cond b 1 0 → b ≡ true
     in_d true l = refl
@@ -221,8 +222,8 @@ fewer_outside g s e ok l c =
     (ap not (or_right (s (far_end g s e)) _ (eq-eqb (far_end g s e) (far_end g s e) refl)))
   where
     same : (v : ℕ) → (v ≡ far_end g s e) ⊎ (v ≡ far_end g s e → ⊥) → not (s v) ≡ ((v == far_end g s e) || not (s v || (v == far_end g s e)))
-    same v (inl k) = ap not (ap s k ∙ far_out g s e c) ∙ sym (or_true (v == far_end g s e) _ (eq-eqb v (far_end g s e) k))
-    same v (inr k) = ap not (sym (or_no (s v))) ∙ ap (λ b. b || not (s v || b)) (sym (ne_eqb v (far_end g s e) k))
+    same v (inl k) = ap not (ap s k ∙ far_out g s e c) ∙ sym (or_left (v == far_end g s e) _ (eq-eqb v (far_end g s e) k))
+    same v (inr k) = ap not (sym (or-false (s v))) ∙ ap (λ b. b || not (s v || b)) (sym (ne_eqb v (far_end g s e) k))
 
 -- `most` bounds the number of nodes outside s
 pub grow_in : (g : Graph) (d : EdgeSet) (most : ℕ) (s : NodeSet) → IsGraph g → count_below g.nodes (λ v. not (s v)) ≤ most → GrownIn g d s

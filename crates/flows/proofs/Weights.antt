@@ -2,7 +2,7 @@
 use Rattle.std.proofs.Common.{◌≡◌, ℕ, zero, suc, ◌+◌, ◌<◌, ◌⊎◌, inl, inr, Bool, true, false, not, ◌||◌, ◌&&◌, cond, refl, ap, sym, ◌∙◌, arith}
 use Rattle.std.specs.Prelude.{◌==◌}
 use Rattle.std.proofs.lemmas.Bool.{cases_eq, eqb-true, eq-eqb, ne_eqb}
-use Rattle.flows.proofs.Bools.{and_no, and_yes}
+use Rattle.std.proofs.Math.Bool.{and-false, and-true}
 use Rattle.flows.specs.Flows.{weight_below}
 
 pub weight_same : (n : ℕ) (w : ℕ → ℕ) (s r : ℕ → Bool) → ((e : ℕ) → e < n → s e ≡ r e) → weight_below n w s ≡ weight_below n w r
@@ -60,11 +60,11 @@ without s h = λ e. s e && not (e == h)
 pub weight_less : (n : ℕ) (w : ℕ → ℕ) (s : ℕ → Bool) (h : ℕ) → h < n → s h ≡ true → weight_below n w s ≡ w h + weight_below n w (without s h)
 weight_less n w s h l t =
     weight_same n w s (λ e. (e == h) || without s h e) (λ e b. same e (cases_eq e h))
-    ∙ weight_more n w (without s h) h l (ap (λ b. s h && not b) (eq-eqb h h refl) ∙ and_no (s h))
+    ∙ weight_more n w (without s h) h l (ap (λ b. s h && not b) (eq-eqb h h refl) ∙ and-false (s h))
   where
     same : (e : ℕ) → (e ≡ h) ⊎ (e ≡ h → ⊥) → s e ≡ ((e == h) || (s e && not (e == h)))
     same e (inl c) = ap s c ∙ t ∙ ap (λ b. b || (s e && not (e == h))) (sym (eq-eqb e h c))
-    same e (inr c) = sym (and_yes (s e)) ∙ ap (λ b. b || (s e && not b)) (sym (ne_eqb e h c))
+    same e (inr c) = sym (and-true (s e)) ∙ ap (λ b. b || (s e && not b)) (sym (ne_eqb e h c))
 
 -- a set and the rest
 pub weight_rest : (n : ℕ) (w : ℕ → ℕ) (s : ℕ → Bool) → weight_below n w s + weight_below n w (λ e. not (s e)) ≡ weight_below n w (λ e. true)

@@ -46,6 +46,7 @@ use Rattle.cfg_walk.proofs.Leaving.{end_here, end_is, ends_home, node_is, straig
 use Rattle.cfg_walk.proofs.Nodes.{lands_there}
 use Rattle.cfg_walk.proofs.NoneOpen.{IsOnEdge, cases_none, home_none, lands_none, on_edge, open_none, slot_none}
 use Rattle.cfg_walk.proofs.Points.{Stands, at, home, low}
+use Rattle.cfg_walk.proofs.Slots.{lands_not}
 use Rattle.cfg_walk.proofs.States.{couples, out_goes}
 use Rattle.cfg_walk.proofs.Walks.{live_before}
 use Rattle.cfg_walk.proofs.Ways.{IsOne, fall_is_one, same_kinds, taken_is_one, untaken_is_one}
@@ -343,10 +344,6 @@ module _ (text : Words) (is : IsText text) (b : Blocks) (c : IsCut text b) (sing
                 (landing (lands_of b [] (Some v))) found;
           })
 
-  quiet_landed : (kind : EdgeKind) (next : ℕ) → same_kind kind kinds.Out ≡ false → landed text graph kind next ≡ []
-  quiet_landed kinds.Out next e = absurd (false≢true (sym e))
-  quiet_landed _ next e = refl
-
   module _ (node : Node) (point : Point) (kind : EdgeKind) (way : IsOnItsWay text graph node point kind) where
     abbrev along : List ℕ
     along = edge_from graph node kind
@@ -383,7 +380,7 @@ module _ (text : Words) (is : IsText text) (b : Blocks) (c : IsCut text b) (sing
         → AreCounting (along ++ behind) (here_at point.npc) (here_at point.pc)
     by_displacement e =
         joined 0 (here_at point.npc)
-        (subst (λ ns. AreCounting ns 0 0) (sym (quiet_landed kind point.npc e)) (record { come = refl; ran = refl }))
+        (subst (λ ns. AreCounting ns 0 0) (sym (lands_not text graph kind point.npc e)) (record { come = refl; ran = refl }))
         (ap (λ n. one_if (same_node n (node_of b (Some w)))) (h.leads e).1 ∙ leads_node point.npc)
         (omega arith)
 

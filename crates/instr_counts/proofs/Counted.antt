@@ -94,7 +94,7 @@ none_from_x : (b : Blocks) (kind : EdgeKind) (number : ℕ) (edge : Edge) → sa
 none_from_x b kind number edge off only =
     let passes =
     position-Some (λ (x : Edge). same_node x.from X && same_kind x.kind kind) (edges_in b []) number no_edge
-    (number_of_list b [] _ number only) in
+    (number_of_list _ number only) in
     let parts = and_parts _ _ passes.1 in
     absurd (false≢true (sym off ∙ land_kind _ kind parts.1
     (each_in_list number passes.0 parts.0)))

@@ -1,8 +1,7 @@
 -- Trips over the edges of a graph that was made from a text.
 use Rattle.std.proofs.Common.{◌≡◌, ℕ, suc, ◌+◌, ◌-◌, ◌<◌, ◌≤◌, inl, inr, Bool, true, false, ◌&&◌, List, [], ◌∷◌, ◌++◌, length, slice_index, Option, Some, None, refl, ap, sym, ◌∙◌, subst, arith, append-nil}
 use Rattle.std.specs.Prelude.{if◌then◌else◌}
-use Rattle.std.specs.Option.{option_to_list}
-use Rattle.std.proofs.lemmas.Bool.{and_parts, eqb-true, false≢true, or_right}
+use Rattle.std.proofs.lemmas.Bool.{and_parts, false≢true, or_right}
 use Rattle.std.proofs.lemmas.List.Quantifiers.{position-Some}
 use Rattle.std.proofs.lemmas.Option.{get_or_from_slice_get}
 use Rattle.eel_base.specs.CodeText.{Words, word_at}
@@ -25,17 +24,15 @@ use Rattle.cfg_walk.specs.Walk.{Point as RunPoint, WayOut, by_kind, edge_along, 
 use Rattle.cfg_walk.specs.Matches.{AreOpen, Begins, IsOnItsWay}
 use Rattle.cfg_blocks.proofs.Targets.{word_at-some}
 use Rattle.cfg_walk.proofs.Cut.{IsCut}
-use Rattle.cfg_walk.proofs.Edges.{IsEdge, block, leads_along, landing_found, same_nodes}
 use Rattle.cfg_walk.specs.Walk.{leads_along as is_to}
-use Rattle.cfg_walk.proofs.Edges.{node_at}
+use Rattle.cfg_walk.proofs.Edges.{IsEdge, block, landing_found, leads_along, node_at, number_of_list, same_nodes}
 use Rattle.cfg_walk.proofs.Nodes.{after_in, home_directed, home_lands, home_of_node, lands_there}
 use Rattle.cfg_walk.proofs.Holding.{IsIn, Leads, in_held, is_held, first_held}
 use Rattle.cfg_walk.proofs.Nodes.{lands_in}
 use Rattle.cfg_walk.proofs.Ways.{same_kinds}
-use Rattle.cfg_walk.proofs.Leaving.{is_in, no_cases, node_is, way_found}
-use Rattle.cfg_blocks.specs.Switches.{is_jump}
+use Rattle.cfg_walk.proofs.Leaving.{is_in, node_is, way_found}
 use Rattle.cfg_walk.proofs.Points.{within_some}
-use Rattle.cfg_walk.proofs.Slots.{LeadsIfThere, jump_lands, out_of_slot, way_leads}
+use Rattle.cfg_walk.proofs.Slots.{LeadsIfThere, jump_lands, lands_not, way_leads}
 use Rattle.cfg_walk.proofs.Ways.{IsOne}
 use Rattle.liveness.specs.Live.{edge_at, Holds, HoldsIn, LandsAt, IsLast, IsFirst, GoesOnAt, is_call_or_jump, is_outside, is_unknown, Point, At, Along, After, Goes}
 use Rattle.live_walk.proofs.Trips.{Trip, slot, left, inside, over, jumped}
@@ -66,14 +63,10 @@ pub along_is : (graph : Graph) (node : Node) (way : WayOut) (e : ℕ) → edge_a
 along_is graph node way e h =
     let passes =
     position-Some (λ (x : Edge). is_to way.to x && (same_node x.from node && same_kind x.kind way.kind)) graph.edges
-    e no_edge (number_of_list' _ e h) in
+    e no_edge (number_of_list _ e h) in
     let both = and_parts (same_node (edge_at graph e).from node) (same_kind (edge_at graph e).kind way.kind)
     (and_parts (is_to way.to (edge_at graph e)) _ passes.1).1 in
     (passes.0, same_nodes _ node both.0, both.1)
-  where
-    number_of_list' : (o : Option ℕ) (number : ℕ) → option_to_list o ≡ number ∷ [] → o ≡ Some number
-    number_of_list' None number e = absurd (cc)
-    number_of_list' (Some n) number e = cc
 
 module _ (text : Words) (b : Blocks) (opens : List Open) (c : IsCut text b) (are : AreOpen b opens)
     (named : ℕ → List Part) where
@@ -232,14 +225,10 @@ module _ (text : Words) (b : Blocks) (opens : List Open) (c : IsCut text b) (are
         es : List ℕ
         es = slot_left text graph node way before.npc
 
-        quiet : (k : EdgeKind) → same_kind k kinds.Out ≡ false → landed text graph k before.npc ≡ []
-        quiet kinds.Out e = absurd (false≢true (sym e))
-        quiet _ e = refl
-
         eq : es ≡ edge_from graph node way ++ []
         eq =
             ap (λ (w : WayOut). left_along text graph node w before.npc) plain
-            ∙ ap (λ ns. edge_from graph node way ++ ns) (quiet way no_jump)
+            ∙ ap (λ ns. edge_from graph node way ++ ns) (lands_not text graph way before.npc no_jump)
 
         is_edge : edge_at graph h.number ≡ h.edge
         is_edge = get_or_from_slice_get graph.edges h.number _ no_edge h.is
@@ -403,9 +392,6 @@ module _ (text : Words) (b : Blocks) (opens : List Open) (c : IsCut text b) (are
             (slot_left text graph node kinds.Out before.npc)
         by true e = case_trip h e
         by false e = jump_trip h e (word_at text before.npc) refl
-    out_trip kinds.Fall k l h = along_trip kinds.Fall refl refl refl refl h
-    out_trip kinds.Taken k l h = along_trip kinds.Taken refl refl refl refl h
-    out_trip kinds.Untaken k l h = along_trip kinds.Untaken refl refl refl refl h
-    out_trip kinds.Call k l h = along_trip kinds.Call refl refl refl refl h
     out_trip kinds.Land k l h = absurd (false≢true (sym k))
     out_trip kinds.Case k l h = absurd (false≢true (sym l))
+    out_trip way k l h = along_trip way refl refl refl refl h

@@ -1,5 +1,5 @@
 -- Each step of a run is a trip between points.
-use Rattle.std.proofs.Common.{◌≡◌, ◌≢◌, ℕ, suc, ◌+◌, ◌-◌, ◌%◌, ◌^◌, ◌<◌, ◌≤◌, ◌⊎◌, inl, inr, Bool, true, false, not, ◌==◌, List, [], ◌∷◌, length, slice_index, Option, Some, None, refl, ap, sym, ◌∙◌, subst, arith}
+use Rattle.std.proofs.Common.{◌≡◌, ◌≢◌, ℕ, suc, ◌+◌, ◌-◌, ◌%◌, ◌<◌, ◌≤◌, ◌⊎◌, inl, inr, Bool, true, false, not, ◌==◌, List, [], ◌∷◌, length, slice_index, Option, Some, None, refl, ap, sym, ◌∙◌, subst, arith}
 use Rattle.std.specs.Prelude.{if◌then◌else◌, ℤ}
 use Rattle.std.specs.Option.{option_map}
 use Rattle.std.proofs.lemmas.Bool.{cond_both, eqb-true, eqb-false, lt-ltb, le-ltb, cases_lt}
@@ -28,19 +28,16 @@ use Rattle.cfg_blocks.specs.declared.EdgeKind.{EdgeKind}
 use Rattle.cfg_blocks.specs.declared.EdgeKind.TheVariants as kinds
 use Rattle.cfg_blocks.specs.Ends.{Way, way, within, end_at, end_by, is_transfer as transfers, ways_of, branch_target, number_of, target_in, always}
 use Rattle.cfg_blocks.specs.Blocks.{Blocks, block_end, holding_of, last_word}
-use Rattle.cfg_normal.specs.Nodes.{home_of}
 use Rattle.cfg_normal.specs.Opens.{Open}
-use Rattle.cfg_normal.specs.Graph.{Graph, IsNodeIn, graph_of, node_of, runs_slot}
+use Rattle.cfg_normal.specs.Graph.{Graph, IsNodeIn, graph_of, runs_slot}
 use Rattle.cfg_blocks.specs.Switches.{is_jump}
 use Rattle.cfg_normal.specs.declared.Node.{Node}
-use Rattle.cfg_walk.specs.Walk.{Point as RunPoint, completed, point_of, gone, goes_on_at, node_after, edge_along, edge_from, ends_block, same_kind, way_to, left_at, left_by, slot_left, unless_ended, way_of, instr_at}
+use Rattle.cfg_walk.specs.Walk.{Point as RunPoint, completed, point_of, gone, goes_on_at, node_after, edge_along, edge_from, same_kind, way_to, left_at, left_by, slot_left, unless_ended, way_of, instr_at}
 use Rattle.cfg_walk.specs.Matches.{AreOpen, FetchesOnly, IsOnItsWay, Matches, MatchesBy}
 use Rattle.cfg_blocks.proofs.Targets.{word_at-some}
-use Rattle.cfg_walk.proofs.Addresses.{word_at-address, next_word, second_word}
 use Rattle.cfg_walk.proofs.Cut.{IsCut}
-use Rattle.cfg_walk.proofs.Edges.{block}
-use Rattle.cfg_walk.proofs.Leaving.{end_here, ends_home, no_cases, end_is, node_is, straight_end, straight_left, transfer_ends}
-use Rattle.cfg_walk.proofs.Points.{Stands, jumps_to, within_some}
+use Rattle.cfg_walk.proofs.Leaving.{end_here, ends_home, no_cases, end_is, straight_end, straight_left, transfer_ends}
+use Rattle.cfg_walk.proofs.Points.{at, home, jumps_to, low, next_is, second, Stands, within_some}
 use Rattle.cfg_walk.proofs.States.{couples}
 use Rattle.cfg_walk.proofs.Slots.{LeadsIfThere}
 use Rattle.cfg_walk.proofs.Holding.{Leads, in_held}
@@ -126,21 +123,12 @@ module _ (text : Words) (is : IsText text) (b : Blocks) (opens : List Open) (c :
   -- ---- outside a slot, at a word of the text
   module _ (before : RunPoint) (word : ℕ) (instr : Instr) (node : Node)
       (h : Stands text b opens node before word instr) where
-    low : word < b.words
-    low = omega (arith, h.is.within, h.cut.words)
-
-    at : word_at text before.pc ≡ Some word
-    at = ap (word_at text) h.is.is ∙ word_at-address text word ∙ rw (lt-ltb _ _ h.is.within)
-
-    home : home_of node ≡ block (holding_of b word)
-    home = h.held ∙ ap (node_of b) at ∙ node_is b word low
-
     end : end_at text word ≡ end_by text word instr
     end = end_is text word instr h.decodes
 
     -- what a step without a slot completes
     left_is : left_at text graph node (word_at text before.pc) ≡ left_by graph node word instr
-    left_is = ap (left_at text graph node) at ∙ ap (left_by graph node word) h.decodes
+    left_is = ap (left_at text graph node) (at h) ∙ ap (left_by graph node word) h.decodes
 
     abbrev Goal : RunPoint → Slot → Type 0
     Goal after now = TripBy text graph named node before after NoSlot now (At node word)
@@ -152,18 +140,10 @@ module _ (text : Words) (is : IsText text) (b : Blocks) (opens : List Open) (c :
         → left_by graph node word instr ≡ edge_from graph node w.kind
         → word_at text after.pc ≡ w.to → LeadsIfThere b w.to → Goal after NoSlot
     by_way after w last no_jump k l one quiet left to leads =
-        edge_trip text b opens c are named word low node h.there home after last w
-        (no_cases b opens are node (holding_of b word) home
-        (ap is_jump (end_here text b opens c word low last) ∙ no_jump)) k l one quiet
+        edge_trip text b opens c are named word (low h) node h.there (home h) after last w
+        (no_cases b opens are node (holding_of b word) (home h)
+        (ap is_jump (end_here text b opens c word (low h) last) ∙ no_jump)) k l one quiet
         (left_at text graph node (word_at text before.pc)) (left_is ∙ left) to leads
-
-    second : word_at text ((before.pc + 8) % 2 ^ 32) ≡ within b.words (word + 2)
-    second = second_word text before.pc word h.text_is h.is ∙ ap (λ count. within count (word + 2)) (sym h.cut.words)
-
-    first : word_at text before.npc ≡ within b.words (word + 1)
-    first =
-        ap (word_at text) h.npc ∙ next_word text before.pc word h.text_is h.is
-        ∙ ap (λ count. within count (word + 1)) (sym h.cut.words)
 
     straight : (after : RunPoint) → is_transfer instr ≡ false → after.pc ≡ before.npc → Goal after NoSlot
     straight after t pc = by (word == last_word b.firsts b.words (holding_of b word)) refl
@@ -172,14 +152,14 @@ module _ (text : Words) (is : IsText text) (b : Blocks) (opens : List Open) (c :
         fall = end ∙ straight_end text word instr t
 
         to : word_at text after.pc ≡ within b.words (word + 1)
-        to = ap (word_at text) pc ∙ first
+        to = next_is h after pc
 
         left : (x : Bool) → (word == last_word b.firsts b.words (holding_of b word)) ≡ x
             → left_by graph node word instr ≡ (if x then edge_from graph node kinds.Fall else [])
         left x e =
             straight_left graph node word instr t
             ∙ ap (λ (y : Bool). if y then edge_from graph node kinds.Fall else [])
-            (ends_home b opens node (holding_of b word) word home ∙ e)
+            (ends_home b opens node (holding_of b word) word (home h) ∙ e)
 
         by : (x : Bool) → (word == last_word b.firsts b.words (holding_of b word)) ≡ x → Goal after NoSlot
         by true e =
@@ -191,25 +171,25 @@ module _ (text : Words) (is : IsText text) (b : Blocks) (opens : List Open) (c :
             (λ v f.
             let there = within_some b.words (word + 1) v f in (
               subst (λ (x : ℕ). x < b.words) there.1 there.0,
-              subst (λ (x : ℕ). Leads b.firsts x) there.1 (next_leads b c word low last there.0),
+              subst (λ (x : ℕ). Leads b.firsts x) there.1 (next_leads b c word (low h) last there.0),
             ))
         by false e =
-            block_trip text b opens c are named word low node h.there home after (eqb-false _ _ e)
+            block_trip text b opens c are named word (low h) node h.there (home h) after (eqb-false _ _ e)
             (left_at text graph node (word_at text before.pc)) (left_is ∙ left false e) to
 
     into : (after : RunPoint) (now : Slot) → now ≢ NoSlot → is_transfer instr ≡ true → Goal after now
     into after now not t = by now not
       where
         last : word ≡ last_word b.firsts b.words (holding_of b word)
-        last = transfer_ends text b opens c word low (ap transfers end ∙ transfer_end text word instr t)
+        last = transfer_ends text b opens c word (low h) (ap transfers end ∙ transfer_end text word instr t)
 
         by : (x : Slot) → x ≢ NoSlot → Goal after x
         by NoSlot no_slot = absurd (no_slot refl)
         by Taken no_slot =
-            into_trip text b opens c are named word low node h.there home (IsPointBy text graph node after Taken)
+            into_trip text b opens c are named word (low h) node h.there (home h) (IsPointBy text graph node after Taken)
             last [] refl (way_to text graph node (way_of (instr_at text (after.pc - 4)) Taken) after.npc) (λ r n. n)
         by Untaken no_slot =
-            into_trip text b opens c are named word low node h.there home (IsPointBy text graph node after Untaken)
+            into_trip text b opens c are named word (low h) node h.there (home h) (IsPointBy text graph node after Untaken)
             last [] refl (way_to text graph node (way_of (instr_at text (after.pc - 4)) Untaken) after.npc) (λ r n. n)
 
   -- ---- the machine
@@ -239,7 +219,7 @@ module _ (text : Words) (is : IsText text) (b : Blocks) (opens : List Open) (c :
           let goes = jumps_to h (point_of t) transfer target disp22 t.pc (ap target_in end_is_branch) is_target refl in
           slot_is t NoSlot e
           (by_way (point_of s) word (i.Branch cond true disp22) node h (point_of t) (way kinds.Taken (number_of target))
-          (transfer_ends text b opens c word (low (point_of s) word (i.Branch cond true disp22) node h) transfer)
+          (transfer_ends text b opens c word (low h) transfer)
           (ap is_jump end_is_branch) refl refl
           (subst (λ (x : BlockEnd). IsOne (way kinds.Taken (number_of target)) (ways_of b.words word x))
           (sym end_is_branch)
@@ -264,14 +244,14 @@ module _ (text : Words) (is : IsText text) (b : Blocks) (opens : List Open) (c :
           let w : Way = way kinds.Untaken (within b.words (word + 2)) in
           slot_is t NoSlot e
           (by_way (point_of s) word (i.Branch cond true disp22) node h (point_of t) w
-          (transfer_ends text b opens c word (low (point_of s) word (i.Branch cond true disp22) node h) transfer)
+          (transfer_ends text b opens c word (low h) transfer)
           (ap is_jump end_is_branch) refl refl
           (subst (λ (x : BlockEnd). IsOne w (ways_of b.words word x)) (sym end_is_branch)
           (untaken_is_one b.words word cond true target (not_always cond s.codes holds)))
           (ap (λ (x : BlockEnd). runs_slot x kinds.Untaken) end_is_branch)
           (ap (λ (x : Bool). edge_from graph node (if x then kinds.Taken else kinds.Untaken))
           (not_always cond s.codes holds))
-          (second (point_of s) word (i.Branch cond true disp22) node h)
+          (second h)
           (λ v f.
           let there = within_some b.words (word + 2) v f in (
             subst (λ (x : ℕ). x < b.words) there.1 there.0,

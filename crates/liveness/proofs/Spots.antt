@@ -1,11 +1,12 @@
 -- The places of words and nodes: each has its own.
-use Rattle.std.proofs.Common.{◌≡◌, ℕ, zero, suc, ◌+◌, ◌-◌, ◌*◌, ◌<◌, ◌≤◌, inl, inr, Bool, true, false, List, length, slice_index, refl, ap, sym, arith}
-use Rattle.std.specs.Prelude.{◌||◌, ◌&&◌, ◌==◌, if◌then◌else◌, nat_lt, Some, [], ◌∷◌}
-use Rattle.std.proofs.lemmas.Bool.{cases_order, cases_lt, false≢true, lt-ltb, le-ltb}
+use Rattle.std.proofs.Common.{◌≡◌, ℕ, zero, suc, ◌+◌, ◌-◌, ◌*◌, ◌<◌, ◌≤◌, inl, inr, Bool, true, false, List, length, slice_index, refl, ap, sym, ◌∙◌, arith}
+use Rattle.std.specs.Prelude.{◌||◌, if◌then◌else◌, Some}
+use Rattle.std.proofs.lemmas.Bool.{cases_order, cases_lt, false_from_ne_true, false≢true, lt-ltb, le-ltb}
 use Rattle.cfg_blocks.specs.Blocks.{AreFirsts, block_end, size_of, holding_of}
 use Rattle.cfg_normal.specs.Graph.{Graph, IsNodeIn, lands}
 use Rattle.cfg_normal.specs.Numbers.{node_number}
-use Rattle.cfg_normal.specs.Opens.{Open, compares_in, is_behind, is_copied, jumps_in}
+use Rattle.cfg_normal.specs.Opens.{Open, is_behind, is_copied, jumps_in}
+use Rattle.cfg_normal.proofs.GraphFacts.{copied_where}
 use Rattle.cfg_normal.specs.declared.Node.{Node}
 use Rattle.cfg_normal.specs.declared.Node.TheVariants.{Block, Landed, X}
 use Rattle.liveness.specs.Live.{Holds, HoldsIn, is_outside}
@@ -17,23 +18,9 @@ at_most true n = omega arith
 at_most false n = omega arith
 
 -- no word of a block without a copy stands behind a comparison
-behind_compares : (opens : List Open) (b w : ℕ) → compares_in opens b ≡ false → is_behind opens b w ≡ false
-behind_compares [] b w h = refl
-behind_compares (o ∷ opens) b w h =
-    by (o.switch.compare.0 == b) (nat_lt o.approach.compare.word w) h (behind_compares opens b w)
-  where
-    by : (s t : Bool) → (s || compares_in opens b) ≡ false
-        → (compares_in opens b ≡ false → is_behind opens b w ≡ false) → ((s && t) || is_behind opens b w) ≡ false
-    by true t h next = absurd (false≢true (sym h))
-    by false t h next = next h
-
 uncopied : (opens : List Open) (b w : ℕ) → is_copied opens b ≡ false
     → (jumps_in opens b || is_behind opens b w) ≡ false
-uncopied opens b w h = by (jumps_in opens b) h
-  where
-    by : (j : Bool) → (j || compares_in opens b) ≡ false → (j || is_behind opens b w) ≡ false
-    by true h = absurd (false≢true (sym h))
-    by false h = behind_compares opens b w h
+uncopied opens b w h = false_from_ne_true _ (λ there. false≢true (sym h ∙ copied_where opens b w there))
 
 start_next : (words : ℕ) (firsts : List ℕ) (i : ℕ) → start_of words firsts (suc i) ≡ block_end firsts words i
 start_next words firsts i = refl

@@ -32,6 +32,7 @@ use Rattle.span_tree.specs.Links.{edge_at, links_of}
 use Rattle.walk_counts.specs.Counts.{ExecutionsAreFlows, WalksArePaths}
 use Rattle.cfg_walk.proofs.Lists.{each_in}
 use Rattle.cfg_walk.proofs.Edges.{land_from, leads_along, same_nodes}
+use Rattle.cfg_walk.proofs.Slots.{lands_not}
 use Rattle.cfg_walk.proofs.States.{out_goes}
 use Rattle.cfg_walk.proofs.Walks.{live_before, walks_match}
 
@@ -110,10 +111,6 @@ module _ (text : Words) (b : Blocks) (opens : List Open) where
   landed_path address None e = rw e refl
   landed_path address (Some word) e = rw e (landing_path (lands_of b opens (Some word)))
 
-  quiet : (kind : EdgeKind) (next : ℕ) → same_kind kind kinds.Out ≡ false → landed text graph kind next ≡ []
-  quiet kinds.Out next e = absurd (false≢true (sym e))
-  quiet _ next e = refl
-
   slot_path : (node : Node) (before : Point) (way : EdgeKind) (next : ℕ) → next ≡ before.npc
       → IsOnItsWay text graph node before way → IsPath graph node (slot_left text graph node way next)
   slot_path node before way next same h =
@@ -133,16 +130,11 @@ module _ (text : Words) (b : Blocks) (opens : List Open) where
               → x ≡ false
           plain true e = absurd (false≢true e)
           plain false e = refl
-      out_of kinds.Fall e = absurd (false≢true e)
-      out_of kinds.Taken e = absurd (false≢true e)
-      out_of kinds.Untaken e = absurd (false≢true e)
-      out_of kinds.Call e = absurd (false≢true e)
-      out_of kinds.Land e = absurd (false≢true e)
-      out_of kinds.Case e = absurd (false≢true e)
+      out_of _ e = absurd (false≢true e)
 
       by : (x : Bool) → same_kind w.kind kinds.Out ≡ x
           → IsPath graph (node_after graph node (edge_along graph node w)) (landed text graph w.kind next)
-      by false e = subst (IsPath graph (node_after graph node (edge_along graph node w))) (sym (quiet w.kind next e)) refl
+      by false e = subst (IsPath graph (node_after graph node (edge_along graph node w))) (sym (lands_not text graph w.kind next e)) refl
       by true e =
           let out = out_of way e in
           let h' : IsOnItsWay text graph node before kinds.Out =

@@ -56,7 +56,7 @@ returns-clause-search c = record {
   held = λ e l k. held_again (length c.args.rows.now) c.args.links.now c.args.weights.now c.args.rows.now (marked c.args.search.now.tree.reached.items)
       (heap_items c.args.search.now.heap) (heap_items c.next_crossing.new.heap) (heap_items c.offer_all.new.heap) c.in-Some.next.edge c.far_end-node.result
       node across c.requires.search.held
-      (λ d h k. c.in-Some.ensures.others d h (before d.edge k))
+      (λ d h k. c.in-Some.ensures.taken.others d h (before d.edge k))
       c.in_ok-offer_all.ensures.kept c.requires.ends attached e l
       (subst (λ (u : NodeSet). crosses (graph_of (length c.args.rows.now) c.args.links.now) u e ≡ true) marks k);
 }
@@ -65,7 +65,7 @@ returns-clause-search c = record {
     before e k = subst (λ (bs : List Bool). crosses (graph_of (length c.args.rows.now) c.args.links.now) (marked bs) e ≡ true) (sym c.deref.ensures.value) k
 
     across : crosses (graph_of (length c.args.rows.now) c.args.links.now) (marked c.args.search.now.tree.reached.items) c.in-Some.next.edge ≡ true
-    across = subst (λ (bs : List Bool). crosses (graph_of (length c.args.rows.now) c.args.links.now) (marked bs) c.in-Some.next.edge ≡ true) c.deref.ensures.value c.in-Some.ensures.crosses
+    across = subst (λ (bs : List Bool). crosses (graph_of (length c.args.rows.now) c.args.links.now) (marked bs) c.in-Some.next.edge ≡ true) c.deref.ensures.value c.in-Some.ensures.taken.across
 
     node : c.far_end-node.result ≡ far_end (graph_of (length c.args.rows.now) c.args.links.now) (marked c.args.search.now.tree.reached.items) c.in-Some.next.edge
     node = c.far_end-node.ensures ∙ ap (λ (bs : List Bool). far_end (graph_of (length c.args.rows.now) c.args.links.now) (marked bs) c.in-Some.next.edge) c.deref-2.ensures.value
@@ -80,8 +80,8 @@ returns-clause-search c = record {
     edges = ap edges_in c.in_ok-push.ensures.items ∙ edges-push c.args.search.now.tree.joins.items _
 
     heaviest : IsHeaviest (graph_of (length c.args.rows.now) c.args.links.now) (weight_in c.args.weights.now) (marked c.args.search.now.tree.reached.items) c.in-Some.next.edge
-    heaviest = heaviest_here (length c.args.rows.now) c.args.links.now c.args.weights.now (marked c.args.search.now.tree.reached.items) (heap_items c.args.search.now.heap) c.in-Some.next c.requires.weights c.requires.search.real c.in-Some.ensures.there across c.requires.search.held
-        (λ d h k. c.in-Some.ensures.greatest d h (before d.edge k))
+    heaviest = heaviest_here (length c.args.rows.now) c.args.links.now c.args.weights.now (marked c.args.search.now.tree.reached.items) (heap_items c.args.search.now.heap) c.in-Some.next c.requires.weights c.requires.search.real c.in-Some.ensures.taken.there across c.requires.search.held
+        (λ d h k. c.in-Some.ensures.taken.greatest d h (before d.edge k))
 
     grows : Grows (graph_of (length c.args.rows.now) c.args.links.now) (weight_in c.args.weights.now) (only c.args.search.now.tree.root) (edges_in c.push.new.self.items) (marked (set c.args.search.now.tree.reached.items c.far_end-node.result true))
     grows =

@@ -1,4 +1,5 @@
-use Rattle.std.proofs.Common.{rules, ◌≡◌, ◌<◌, ◌⊎◌, inl, inr, length, true, false, ap, sym, ◌∙◌}
+use Rattle.std.proofs.Common.{arith, rules, ◌≡◌, ◌<◌, ◌⊎◌, inl, inr, length, true, false, ap, sym, ◌∙◌}
+use Rattle.std.proofs.lemmas.Grind.{common_steps}
 use Rattle.std.specs.List.{Contains}
 use Rattle.std.specs.BinaryHeap.{heap_items}
 use Rattle.flows.specs.Links.{graph_of, marked}
@@ -10,10 +11,18 @@ use Rattle.flow_tree.proofs.growth.next_crossing.Goals as goal
 pub returns-then-is_crossing-clause-real : goal.returns-then-is_crossing-clause-real
 returns-then-is_crossing-clause-real c = all_left (λ (x : Candidate). x.edge < length c.args.links.now) _ _ _ c.in-Some.ensures.permutation c.loop-top.invariant.real
 
-pub returns-then-is_crossing-clause-others : goal.returns-then-is_crossing-clause-others
-returns-then-is_crossing-clause-others c = λ x h k. go x (popped _ _ _ c.in-Some.ensures.permutation x (c.loop-top.invariant.kept x h k))
+pub returns-then-is_crossing-clause-taken : goal.returns-then-is_crossing-clause-taken
+returns-then-is_crossing-clause-taken c = record {
+  there = search rules;
+  across = search rules;
+  greatest = λ x h k.
+      let there = c.loop-top.invariant.kept x h k in
+      grind (arith, common_steps, there);
+  others = λ x h k. go x (popped _ _ _ c.in-Some.ensures.permutation x (c.loop-top.invariant.kept x h k));
+}
   where
-    go : (x : Candidate) → (x ≡ c.in-Some.top) ⊎ Contains (heap_items c.pop.new.self) x → Contains (heap_items c.pop.new.self) x ⊎ (x.edge ≡ c.in-Some.top.edge)
+    go : (x : Candidate) → (x ≡ c.in-Some.top) ⊎ Contains (heap_items c.pop.new.self) x
+        → Contains (heap_items c.pop.new.self) x ⊎ (x.edge ≡ c.in-Some.top.edge)
     go x (inl e) = inr (ap (λ (x : Candidate). x.edge) e)
     go x (inr h) = inl h
 
