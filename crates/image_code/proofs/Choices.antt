@@ -1,5 +1,5 @@
 -- The words of an open switch's JMPL lead to the piece of a Case edge.
-use Rattle.std.proofs.Common.{◌≡◌, ℕ, zero, suc, ◌+◌, ◌-◌, ◌*◌, ◌%◌, ◌^◌, ◌<◌, ◌≤◌, false, Option, Some, None, List, [], ◌∷◌, ◌++◌, length, refl, ap, sym, ◌∙◌, subst, arith}
+use Rattle.std.proofs.Common.{◌≡◌, ℕ, suc, ◌+◌, ◌*◌, ◌%◌, ◌^◌, ◌<◌, ◌≤◌, false, Option, Some, None, List, [], ◌∷◌, ◌++◌, length, refl, ap, sym, ◌∙◌, subst, arith}
 use Rattle.std.specs.Prelude.{◌/◌, slice_get, slice_index}
 use Rattle.std.proofs.lemmas.List.{length-append}
 use Rattle.eel_base.specs.declared.numbers.Addr.{Addr}
@@ -40,7 +40,7 @@ use Rattle.jump_code.specs.Choosing.{choice_at, ComesToCase, IsAboutToChoose, ch
 use Rattle.jump_code.proofs.Choosing.{choices_simulate}
 use Rattle.layout.specs.declared.items.Item.{Item}
 use Rattle.layout.specs.declared.items.Item.TheVariants as it
-use Rattle.layout.specs.Laid.{HasShortForms, IsLaid, IsWordAt, OpenMark as Open, Placement, end_from, item_at, item_in, items_in, open_from, open_in, range_in, range_of, size_of}
+use Rattle.layout.specs.Laid.{HasShortForms, IsLaid, Placement, item_at}
 use Rattle.layout.specs.Running.{HasCode}
 use Rattle.eel_base.specs.CodeText.{IsText}
 use Rattle.image_code.proofs.Keeping.{distance_leads, distance_of}

@@ -4,7 +4,6 @@ use Rattle.std.specs.Prelude.{if◌then◌else◌, nat_lt, slice_get, slice_inde
 use Rattle.std.specs.List.{flat_map, position, range_with_len, sum_by}
 use Rattle.std.specs.Option.{option_to_list}
 use Rattle.std.proofs.lemmas.Bool.{and_parts, cond_both, false≢true, ltb-true}
-use Rattle.std.proofs.lemmas.List.{length-map}
 use Rattle.std.proofs.lemmas.List.FromFn.{length-range_with_len}
 use Rattle.std.proofs.lemmas.List.Sums.{sum_by-append, sum_by-cons}
 use Rattle.std.proofs.lemmas.List.Quantifiers.{position-Some}
@@ -36,7 +35,7 @@ use Rattle.cfg_walk.specs.Matches.{way_address}
 use Rattle.cfg_walk.proofs.Edges.{block, copy, same_nodes}
 use Rattle.cfg_walk.proofs.Holding.{some_words}
 use Rattle.cfg_walk.proofs.Leaving.{straight_left}
-use Rattle.cfg_walk.proofs.Lists.{Each, each, each_at, each-append, each-below, each-map, each-then}
+use Rattle.cfg_walk.proofs.Lists.{Each, each, each_at, each-append, each-below, each-then}
 use Rattle.jump_code.specs.Finding.{go_found}
 use Rattle.jump_code.specs.Pieces.{foreign_piece, word_items}
 use Rattle.layout.specs.declared.items.Item.{Item}
@@ -46,10 +45,10 @@ use Rattle.snippets.specs.declared.snippet.Op.{Op}
 use Rattle.image_code.specs.Cases.{plain_piece}
 use Rattle.image_code.specs.Loads.{load_of}
 use Rattle.image_code.specs.Numbered.{enter_number, foreign_number, jump_number, node_in_order, or_zero, own_edges, pieces_of, place_in}
-use Rattle.image_code.specs.Made.{case_at, case_by, cases_from, choice_of, first_way, first_word, goes_along, goes_on, image, image_by, images_in_order, images_of, is_slots, jump_by, jump_image_by, jump_to, jumps_at, keep_by, landing, next_at, next_to, open_pieces, piece_list, rest_after, way_along, way_by, way_out, ways_from}
+use Rattle.image_code.specs.Made.{case_at, case_by, cases_from, choice_of, first_way, first_word, goes_along, goes_on, image, image_by, images_in_order, is_slots, jump_by, jump_image_by, jump_to, jumps_at, keep_by, landing, next_at, next_to, open_pieces, piece_list, rest_after, way_along, way_by, way_out, ways_from}
 use Rattle.image_code.specs.Fit.{AreFit, AreShort, PiecesFit, PlacesSay, marks_in, operations_in}
 use Rattle.image_code.proofs.OpenBlocks.{IsSwitchIn, IsTextGraph, text_graph, words_of}
-use Rattle.image_code.proofs.OpenNumbers.{IsWordOf, case_number_below, chosen_many, count_of, each_index, enter_below, first_word_of, foreign_is, lands_below, lands_word, opens_many, ways_length}
+use Rattle.image_code.proofs.OpenNumbers.{IsWordOf, case_number_below, count_of, each_index, enter_below, first_word_of, foreign_is, lands_below, lands_word}
 use Rattle.image_code.proofs.OpenSums.{code_length}
 use Rattle.image_code.proofs.Sized.{case_code, case_edge, code_by, entries_in, image_code, landing_code, no_code, order_code, snippets_few, way_code, ways_code}
 use Rattle.image_code.proofs.SmallPieces.{IsSmall, ItemsLead, MarksSay, IsTail, any_leads, any_says, small_branch, small_call, small_choice, small_couple, small_foreign, small_jmpl, small_more, small_plain, small_tail, small_wide, tail_behind, tail_empty, tail_far, tail_found, tail_jump, tail_keep, tail_more, transfer_says, word_says}

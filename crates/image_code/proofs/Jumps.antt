@@ -1,5 +1,5 @@
 -- The words of a JMPL, and then the way; or the ending that a misaligned target has.
-use Rattle.std.proofs.Common.{◌≡◌, ◌≢◌, ℕ, zero, suc, ◌+◌, ◌-◌, ◌%◌, ◌^◌, ◌<◌, ◌≤◌, ◌⊎◌, inl, inr, false, Option, Some, None, List, [], length, refl, ap, sym, ◌∙◌, subst, arith}
+use Rattle.std.proofs.Common.{◌≡◌, ◌≢◌, ℕ, ◌+◌, ◌-◌, ◌%◌, ◌^◌, ◌<◌, ◌≤◌, ◌⊎◌, inl, inr, false, Option, Some, None, List, [], length, refl, ap, sym, ◌∙◌, subst, arith}
 use Rattle.eel_base.specs.CodeText.{word_at}
 use Rattle.v8_decode.specs.declared.Instr.{Instr}
 use Rattle.v8_decode.specs.declared.Instr.TheVariants as i
@@ -29,7 +29,6 @@ use Rattle.code_runs.proofs.Stays.{loads_there, stores_there}
 use Rattle.layout.specs.Laid.{HasShortForms, Placement}
 use Rattle.jump_code.specs.Jumped.{jumped}
 use Rattle.jump_code.specs.Finding.{IsAboutToFind, find_image, found_memory}
-use Rattle.jump_code.specs.Links.{link}
 use Rattle.jump_code.specs.PageWords.{IsPageWord}
 use Rattle.jump_code.proofs.FindFollowing.{goes, stops, finds_simulate}
 use Rattle.jump_code.proofs.Laid.{pieces_are_laid}

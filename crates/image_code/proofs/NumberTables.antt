@@ -46,18 +46,26 @@ found_within p a (suc n) word e = by (p a) (λ h. found_within p (a + 1) n word 
     by true next h = let same : a ≡ word = cc in (omega (arith, same), omega (arith, same))
     by false next h = let later = next h in (omega (arith, later.0), omega (arith, later.1))
 
-pub load_within : (text : Words) (b : Blocks) (o : Open) → IsCase text b o
-    → (slice_index b.firsts o.block ≤ load_of text o) × (load_of text o ≤ last_word b.firsts b.words o.block)
+pub load_between : (text : Words) (o : Open) → o.approach.first ≤ o.approach.jump
+    → (o.approach.first ≤ load_of text o) × (load_of text o ≤ o.approach.jump)
 unfolding load_of
-load_within text b o case =
+load_between text o ordered =
     go (find (λ word. loads_by text o word (instr_at text word))
     (range_with_len o.approach.first (o.approach.jump - o.approach.first))) refl
   where
     go : (found : Option ℕ) → find (λ word. loads_by text o word (instr_at text word))
         (range_with_len o.approach.first (o.approach.jump - o.approach.first)) ≡ found
-        → (slice_index b.firsts o.block ≤ or_first o found) × (or_first o found ≤ last_word b.firsts b.words o.block)
-    go None e = (omega (arith, case.first), omega (arith, case.first, case.jump, case.ordered))
+        → (o.approach.first ≤ or_first o found) × (or_first o found ≤ o.approach.jump)
+    go None e = (omega arith, ordered)
     go (Some word) e =
         let h = found_within (λ word. loads_by text o word (instr_at text word)) o.approach.first
         (o.approach.jump - o.approach.first) word e in
-        (omega (arith, h.0, case.first), omega (arith, h.1, case.jump, case.ordered))
+        (h.0, omega (arith, h.1))
+
+pub load_within : (text : Words) (b : Blocks) (o : Open) → IsCase text b o
+    → (slice_index b.firsts o.block ≤ load_of text o) × (load_of text o ≤ last_word b.firsts b.words o.block)
+load_within text b o case =
+    let h = load_between text o case.ordered in (
+      omega (arith, h.0, case.first),
+      omega (arith, h.1, case.jump),
+    )

@@ -46,6 +46,7 @@ use Rattle.jump_slice.proofs.Whole.{ends_count}
 use Rattle.image_code.specs.Loads.{load_of, loads_by, or_first}
 use Rattle.image_code.specs.Numbered.{or_zero, own_edges}
 use Rattle.image_code.specs.Graphs.{IsGraphOf, opens_in}
+use Rattle.image_code.proofs.NumberTables.{load_between}
 use Rattle.image_code.proofs.OpenSums.{AreDistinct, distinct_sum, total, total_at, total_flat, total_le, total_plus, total_same}
 
 -- ---- the targets of blocks are words
@@ -93,31 +94,6 @@ pub record IsSwitchIn (text : Words) (b : Blocks) (o : Open) : Type 0 where
   pub led : o.block ≡ holding_of b (led_word b o.switch.compare.0)
   pub above : slice_index b.firsts o.block ≤ load_of text o
   pub below : load_of text o ≤ last_word b.firsts b.words o.block
-
-find_within : (p : ℕ → Bool) (a n w : ℕ) → find p (range_with_len a n) ≡ Some w → (a ≤ w) × (w < a + n)
-find_within p a zero w e = absurd (cc)
-find_within p a (suc n) w e = by (p a) e (find_within p (a + 1) n w)
-  where
-    by : (t : Bool) → cond t (Some a) (find p (range_with_len (a + 1) n)) ≡ Some w
-        → (find p (range_with_len (a + 1) n) ≡ Some w → (a + 1 ≤ w) × (w < a + 1 + n)) → (a ≤ w) × (w < a + suc n)
-    by true e rest = let same : a ≡ w = cc in (omega arith, omega arith)
-    by false e rest = let r = rest e in (omega (arith, r.0), omega (arith, r.1))
-
-load_within : (text : Words) (o : Open) → o.approach.first ≤ o.approach.jump
-    → (o.approach.first ≤ load_of text o) × (load_of text o ≤ o.approach.jump)
-unfolding load_of
-load_within text o l =
-    by (find (λ word. loads_by text o word (instr_at text word))
-    (range_with_len o.approach.first (o.approach.jump - o.approach.first))) refl
-  where
-    by : (x : Option ℕ)
-        → find (λ word. loads_by text o word (instr_at text word))
-        (range_with_len o.approach.first (o.approach.jump - o.approach.first)) ≡ x
-        → (o.approach.first ≤ or_first o x) × (or_first o x ≤ o.approach.jump)
-    by None e = (omega arith, l)
-    by (Some w) e =
-        let inside = find_within _ o.approach.first (o.approach.jump - o.approach.first) w e in
-        (inside.0, omega (arith, inside.1))
 
 untaken_is : (kind : EdgeKind) → is_untaken kind ≡ true → kind ≡ kinds.Untaken
 untaken_is kinds.Untaken e = refl
@@ -176,7 +152,7 @@ module _ (text : Words) (given : List ℕ) (entry : ℕ) (is_text : IsText text)
       switch_of-is text (entered_of text given) entry o.block o.switch is.is_switch o.switch.compare o.way is.cond
       is.annul is.parts.target o.approach.compare is.parts.edge is.parts.branch is.parts.sets in
       let some = some_words its.words its.firsts parts.firsts o.block a.block_in in
-      let load = load_within text o (omega (arith, a.first, a.jump)) in
+      let load = load_between text o (omega (arith, a.first, a.jump)) in
       record {
         compare_in = a.from_in;
         block_in = a.block_in;

@@ -1,7 +1,6 @@
 -- Pieces by how large they are: what may be placed, and how many words it takes.
-use Rattle.std.proofs.Common.{◌≡◌, ℕ, zero, suc, ◌+◌, ◌<◌, ◌≤◌, true, false, nat_lt, cond, Option, Some, List, [], ◌∷◌, ◌++◌, length, map, ap, sym, ◌∙◌, arith}
+use Rattle.std.proofs.Common.{◌≡◌, ℕ, zero, suc, ◌+◌, ◌<◌, ◌≤◌, true, false, cond, Some, List, [], ◌∷◌, ◌++◌, length, map, ap, sym, ◌∙◌, arith}
 use Rattle.std.specs.Prelude.{if◌then◌else◌, slice_get, slice_index}
-use Rattle.std.proofs.lemmas.Bool.{cond_both}
 use Rattle.std.proofs.lemmas.List.Sums.{sum_by-cons}
 use Rattle.eel_base.specs.CodeText.{Words, address_of, word_at}
 use Rattle.eel_base.specs.declared.numbers.Addr.{Addr}
@@ -11,7 +10,6 @@ use Rattle.v8_decode.specs.declared.Instr.{Instr}
 use Rattle.v8_decode.specs.declared.Instr.TheVariants as i
 use Rattle.v8_decode.specs.Words.{decode_of}
 use Rattle.v8_step.specs.Items.{is_transfer}
-use Rattle.cfg_blocks.specs.Ends.{within}
 use Rattle.cfg_walk.proofs.Addresses.{word_at-address}
 use Rattle.code_runs.specs.LongJump.{long_jump}
 use Rattle.jump_code.specs.Choosing.{choice_image}

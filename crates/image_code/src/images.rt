@@ -8,7 +8,7 @@ ghost use Rattle.cfg_normal.specs.declared.Node.TheVariants.{Block};
 ghost use Rattle.cfg_normal.specs.Landings.{IsNumbered};
 ghost use Rattle.cfg_normal.specs.Numbers.{node_number as node_number_of};
 ghost use Rattle.cfg_walk.specs.Walk.{edge_from, ends_block as ends_block_of};
-ghost use Rattle.image_code.specs.Lookups.{AreLookups, IsSource, is_land};
+ghost use Rattle.image_code.specs.Lookups.{is_land};
 ghost use Rattle.image_code.specs.Made.{branch_image as branch_image_of, choice_of, distance_of, image as image_of, is_slots as is_slots_of, jump_by, jump_image_by, next_at as next_at_of, next_to, way_out as way_out_of};
 ghost use Rattle.image_code.specs.Numbered.{node_in_order};
 ghost use Rattle.image_code.specs.Parts.{code_at as code_at_of, items_of};

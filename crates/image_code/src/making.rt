@@ -6,7 +6,6 @@ ghost use Rattle.cfg_blocks.specs.Blocks.{below};
 ghost use Rattle.cfg_normal.specs.Graph.{node_of};
 ghost use Rattle.image_code.specs.Codes.{CodeDoes};
 ghost use Rattle.image_code.specs.Graphs.{IsGraphOf};
-ghost use Rattle.image_code.specs.Lookups.{AreLookups, IsSource};
 ghost use Rattle.image_code.specs.Made.{jumps_at, lands_at, piece_list};
 ghost use Rattle.image_code.specs.Numbered.{case_numbers, enter_number, foreign_number as foreign_number_of};
 ghost use Rattle.image_code.specs.Parts.{code_at, codes_of as codes_in};

@@ -2,7 +2,6 @@
 
 ghost use Rattle.std.specs.Prelude.{◌≡◌, ◌<◌, ◌≤◌, length, slice_get, Some, IfOk};
 ghost use Rattle.cfg_normal.specs.Landings.{IsNumbered};
-ghost use Rattle.image_code.specs.Lookups.{AreLookups, IsSource};
 ghost use Rattle.image_code.specs.Numbered.{at_open, compare_image as compare_image_of, compare_number, enter_number, jump_enter as jump_enter_of, jump_image as jump_image_of, jump_number};
 
 use crate::firsts::small;
