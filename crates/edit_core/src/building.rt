@@ -44,13 +44,13 @@ pub(crate) fn new_code(
         LeadsTo image.now.text graph.now asked.now.snips.items (placement_in new.placed)
         (record { base = table_after image.now.base asked.now.cells; bytes = new.tables.items })) }
 {
-    let made = made(alloc, image, graph, asked)?;
-    let new = placed_code(alloc, image, asked.cells, &made)?;
+    let made = make_pieces(alloc, image, graph, asked)?;
+    let new = place_code(alloc, image, asked.cells, &made)?;
     Ok(new)
 }
 
 // The pieces of a program's words, with snippets that take what is dead behind them.
-fn made(
+fn make_pieces(
     alloc: Global,
     image: &Image,
     graph: &FlowGraph,
@@ -76,7 +76,7 @@ fn made(
 }
 
 // Pieces that have room above a program, placed behind so many cells and the tables that lead to them.
-fn placed_code(
+fn place_code(
     alloc: Global,
     image: &Image,
     cells: u32,
@@ -106,7 +106,7 @@ fn placed_code(
     let text = image.text();
     let addresses = AddressMap::above(image, cells);
     let size = segment_size(text, &made.cases);
-    let placed = laid(alloc, &made.list, addresses, image.room(), size)?;
+    let placed = place_pieces(alloc, &made.list, addresses, image.room(), size)?;
     let targets = places_of(alloc, &placed.at, &made.landing)?;
     let foreign = place_of(&placed.at, made.foreign);
     let cases = words_of(alloc, &placed.at, &made.cases)?;
@@ -168,7 +168,7 @@ fn segment_size(text: &Text, cases: &[PieceNo]) -> u32
 }
 
 // Pieces that need no more room than an edit asks for, placed behind tables of so many bytes.
-fn laid(
+fn place_pieces(
     alloc: Global,
     list: &[Piece],
     addresses: AddressMap,

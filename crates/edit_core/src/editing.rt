@@ -57,7 +57,7 @@ pub fn edit_view<F: Chooser>(
     ensures edited { IfOk result (λ file. (plan : Plan) × AsksOf F.says tool.now bytes.now plan
         × CanEdit bytes.now plan × IsFaithful bytes.now plan file.items × IsTheEdit bytes.now plan file.items) }
 {
-    let asked = asked_of(alloc, tool, &view.graph)?;
+    let asked = ask(alloc, tool, &view.graph)?;
     let text = view.image.text();
     let needed = bound(
         alloc,
@@ -71,12 +71,12 @@ pub fn edit_view<F: Chooser>(
     if had < needed {
         return Err(EditFault::Room { needed, had });
     }
-    let file = edited(alloc, bytes, &view.image, &view.graph, &asked)?;
+    let file = write_edit(alloc, bytes, &view.image, &view.graph, &asked)?;
     Ok(file)
 }
 
 // What a tool asks of a graph, where the snippets of a profile count edges.
-fn asked_of<F: Chooser>(alloc: Global, tool: &Tool<F>, graph: &FlowGraph) -> Result<Asked, NoMemory>
+fn ask<F: Chooser>(alloc: Global, tool: &Tool<F>, graph: &FlowGraph) -> Result<Asked, NoMemory>
     requires { (plan : Plan) → IsPlanOf F.says tool.now graph.now.edges plan → AreCounted 2 plan }
     ensures plan { IfOk result (λ asked.
         IsPlanOf F.says tool.now graph.now.edges (plan_of (numbers tool.now.marks) asked)) }
@@ -90,7 +90,7 @@ fn asked_of<F: Chooser>(alloc: Global, tool: &Tool<F>, graph: &FlowGraph) -> Res
 }
 
 // The file that is written of a program.
-fn edited(
+fn write_edit(
     alloc: Global,
     bytes: &[u8],
     image: &Image,
@@ -105,7 +105,7 @@ fn edited(
 {
     let new = new_code(alloc, image, graph, asked)?;
     let addresses = AddressMap::above(image, asked.cells);
-    let added = added(alloc, addresses, &new)?;
+    let added = added_segments(alloc, addresses, &new)?;
     let size = new.tables.len() as u32;
     let notes = notes(alloc, bytes, image, graph, asked, new.placed, size)?;
     let notes = write_notes(alloc, &notes)?;
@@ -114,7 +114,11 @@ fn edited(
 }
 
 // The segments of cells, if there are any, of the tables and of the code, and the editor's page.
-fn added(alloc: Global, addresses: AddressMap, new: &NewCode) -> Result<Vec<NewSegment>, NoMemory>
+fn added_segments(
+    alloc: Global,
+    addresses: AddressMap,
+    new: &NewCode,
+) -> Result<Vec<NewSegment>, NoMemory>
     requires few { addresses.cells ≤ 2 ^ 23 }
     requires low { table_after addresses.base.0 addresses.cells + length new.now.tables.items
         + 4 * length new.now.placed.code.items ≤ 2 ^ 31 }

@@ -56,9 +56,9 @@ pub(crate) fn notes(
         base: image.base().0,
         cells: asked.cells,
         segments: note_segments(alloc, addresses, size, &placed.code)?,
-        blocks: firsts(alloc, graph)?,
+        blocks: first_words(alloc, graph)?,
         edges: note_edges(alloc, graph, asked)?,
-        ranges: places(alloc, text, graph, addresses.table(), &placed.ranges)?,
+        ranges: noted_ranges(alloc, text, graph, addresses.table(), &placed.ranges)?,
     })
 }
 
@@ -110,7 +110,7 @@ fn note_segments(
 // ---- places
 
 // The place of a slot behind the text, if one is run, and then those of the code.
-fn places(
+fn noted_ranges(
     alloc: Global,
     text: &Text,
     graph: &FlowGraph,
@@ -159,7 +159,7 @@ fn off_range(text: &Text, graph: &FlowGraph, table: Addr, edge: &Edge) -> Range
 // ---- the graph
 
 // The first word of each block.
-fn firsts(alloc: Global, graph: &FlowGraph) -> Result<Vec<u32>, NoMemory>
+fn first_words(alloc: Global, graph: &FlowGraph) -> Result<Vec<u32>, NoMemory>
     ensures { IfOk result (λ v. v.items ≡ graph.now.blocks.firsts) }
 {
     let mut firsts = Vec::new(alloc);

@@ -88,7 +88,7 @@ fn operations(
     let cases = case_counts(alloc, graph)?;
     let mut sum = 0;
     for (edge, snippet) in graph.edges().iter().zip(snips) {
-        sum += u64::from(copies(graph, &cases, edge)) * counted_on(kind, snippet);
+        sum += u64::from(copies(graph, &cases, edge)) * operation_count(kind, snippet);
     }
     Ok(sum)
 }
@@ -101,27 +101,27 @@ fn copies(graph: &FlowGraph, cases: &CaseCounts, edge: &Edge) -> u32
     ensures few { result ≤ 2 ^ 20 }
 {
     match edge.kind {
-        EdgeKind::Land => landed(graph, edge.to),
-        EdgeKind::Case => led(graph, cases, edge),
+        EdgeKind::Land => landing_words(graph, edge.to),
+        EdgeKind::Case => entries_along(graph, cases, edge),
         _ => 1,
     }
 }
 
 // How many words land at a node.
-fn landed(graph: &FlowGraph, node: Node) -> u32
+fn landing_words(graph: &FlowGraph, node: Node) -> u32
     requires node { IsNodeIn graph.now.blocks graph.now.opens node }
     ensures words { result ≡ count_by (is_at graph.now node) (words_at graph.now node) }
     ensures few { result ≤ 2 ^ 20 }
 {
     match node {
-        Node::Block(block) => landed_in(graph, node, block),
-        Node::Landed(block) => landed_in(graph, node, block),
+        Node::Block(block) => landing_words_in(graph, node, block),
+        Node::Landed(block) => landing_words_in(graph, node, block),
         Node::X => 0,
     }
 }
 
 // How many words of a block do.
-fn landed_in(graph: &FlowGraph, node: Node, block: BlockNo) -> u32
+fn landing_words_in(graph: &FlowGraph, node: Node, block: BlockNo) -> u32
     requires block { block.0 < length graph.now.blocks.firsts }
     ensures words { result ≡ count_by (is_at graph.now node)
         (range_with_len (slice_index graph.now.blocks.firsts block.0) (size_of graph.now.blocks block.0)) }
@@ -164,7 +164,7 @@ fn count_key(cases: &mut CaseCounts, key: CaseKey) -> Result<(), NoMemory>
     ensures { OnOk result ((other : CaseKey) → count_of (get same_key cases.new other)
         ≡ (if same_key key other then 1 else 0) + count_of (get same_key cases.old other)) }
 {
-    let count = counted(cases, key);
+    let count = count_at(cases, key);
     if count == u32::MAX {
         return Err(NoMemory);
     }
@@ -173,7 +173,7 @@ fn count_key(cases: &mut CaseCounts, key: CaseKey) -> Result<(), NoMemory>
 }
 
 // How many entries of a table lead along a Case edge.
-fn led(graph: &FlowGraph, cases: &CaseCounts, edge: &Edge) -> u32
+fn entries_along(graph: &FlowGraph, cases: &CaseCounts, edge: &Edge) -> u32
     requires edge { IsEdgeIn graph.now.blocks graph.now.opens edge.now }
     requires cases { AreCounts graph.now (get same_key cases.now) }
     ensures entries { result ≡ count_by (is_at graph.now edge.now.to) (targets_from graph.now edge.now.from) }
@@ -182,13 +182,13 @@ fn led(graph: &FlowGraph, cases: &CaseCounts, edge: &Edge) -> u32
     // A graph has few entries.
     let _edges = graph.edges();
     match edge.from {
-        Node::Block(block) => counted(cases, case_key(graph, block, edge.to)),
+        Node::Block(block) => count_at(cases, case_key(graph, block, edge.to)),
         _ => 0,
     }
 }
 
 // What is counted under a key.
-fn counted(cases: &CaseCounts, key: CaseKey) -> u32
+fn count_at(cases: &CaseCounts, key: CaseKey) -> u32
     ensures { result ≡ count_of (get same_key cases.now key) }
 {
     match cases.get(&key) {
@@ -238,7 +238,7 @@ fn count_entries(
 }
 
 // How many operations an edge is taken to have.
-fn counted_on(kind: ToolKind, snippet: &Snippet) -> u64
+fn operation_count(kind: ToolKind, snippet: &Snippet) -> u64
     ensures count { result ≡ counted_on_of kind snippet.now }
     ensures few { result ≤ 8 }
 {

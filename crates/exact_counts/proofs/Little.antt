@@ -6,18 +6,17 @@ use Rattle.eel_base.specs.CodeText.{IsText}
 use Rattle.elf32_sparc.specs.FileFault.{fault}
 use Rattle.elf32_sparc.specs.Image.{Program, image_of}
 use Rattle.cfg_blocks.specs.Blocks.{blocks_of}
-use Rattle.cfg_blocks.specs.Entries.{entered_of}
 use Rattle.cfg_normal.specs.declared.Edge.{Edge}
 use Rattle.cfg_normal.specs.Graph.{Graph, graph_of}
-use Rattle.cfg_view.specs.View.{given_in, view_of}
+use Rattle.cfg_view.specs.View.{given_in}
 use Rattle.snippets.specs.declared.snippet.Op.{Op}
-use Rattle.tool_kit.specs.declared.edge_ref.ToolKind.{ToolKind}
 use Rattle.tool_kit.specs.declared.edge_ref.ToolKind.TheVariants as tools
 use Rattle.tool_kit.specs.Plans.{Plan}
 use Rattle.image_code.specs.Fit.{copies_of}
 use Rattle.image_code.specs.Graphs.{opens_in}
 use Rattle.edit_core.specs.Taken.{operations_on}
 use Rattle.edit_core.proofs.Originals.{image_text}
+use Rattle.edit_core.proofs.Views.{view_graph}
 use Rattle.exact_counts.specs.Profiles.{original_graph}
 use Rattle.exact_counts.specs.Sizes.{ProfilesNeedLittle}
 use Rattle.exact_counts.proofs.Copies.{copies_in_all, edges_in_all}
@@ -30,23 +29,12 @@ one_each graph (edge ∷ edges) [] = omega arith
 one_each graph (edge ∷ edges) (ops ∷ snips) =
     omega (arith, sum_by-cons (copies_of graph) edge edges, one_each graph edges snips)
 
--- the graph of an original, by its text
-view_graph : (original : List ℕ) (plan : Plan) → original_graph original plan
-    ≡ graph_of (blocks_of (image_of original).text (given_in (image_of original) plan.marks))
-    (opens_in (image_of original).text (given_in (image_of original) plan.marks) (image_of original).entry)
-unfolding view_of entered_of
-view_graph original plan = refl
-
 pub edges_few : (original : List ℕ) (plan : Plan) → fault original ≡ None
     → length (original_graph original plan).edges ≤ 4 * length (image_of original).text.words
 edges_few original plan sound =
     let program : Program = image_of original in
     let size = ap (λ (g : Graph). length g.edges) (view_graph original plan) in
-    omega (
-      arith,
-      size,
-      edges_in_all program.text (given_in program plan.marks) program.entry (image_text original sound),
-    )
+    omega (arith, size, edges_in_all program.text (given_in program plan.marks) program.entry (image_text original sound))
 
 pub profiles_need_little : ProfilesNeedLittle
 profiles_need_little original plan sound kind cells =
@@ -57,16 +45,11 @@ profiles_need_little original plan sound kind cells =
     let graph : Graph = graph_of (blocks_of program.text given) (opens_in program.text given program.entry) in
     let same : own ≡ graph = view_graph original plan in
     let made : operations_on plan.kind own own.edges plan.snips
-    ≡ operations_on tools.Profile own own.edges plan.snips =
-    ap (λ (k : ToolKind). operations_on k own own.edges plan.snips) kind in
-    let made_there : operations_on tools.Profile own own.edges plan.snips
-    ≡ operations_on tools.Profile graph graph.edges plan.snips =
-    ap (λ (g : Graph). operations_on tools.Profile g g.edges plan.snips) same in
+    ≡ operations_on tools.Profile graph graph.edges plan.snips = rw (kind, same) refl in
     omega (
       arith,
       cells,
       made,
-      made_there,
       one_each graph graph.edges plan.snips,
       copies_in_all program.text given program.entry text,
       edges_few original plan sound,

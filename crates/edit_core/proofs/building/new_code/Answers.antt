@@ -4,20 +4,20 @@ use Rattle.edit_core.specs.Written.{placement_in}
 use Rattle.edit_core.proofs.Landings.{cases_few, code_built, landings_count, made_fit, made_inside, made_room, tables_lead}
 use Rattle.edit_core.proofs.building.new_code.Goals as goal
 
-pub placed_code-requires-clause-inside : goal.placed_code-requires-clause-inside
-placed_code-requires-clause-inside c = made_inside c.in_ok-made.ensures pieces_fit c.requires
+pub place_code-requires-clause-inside : goal.place_code-requires-clause-inside
+place_code-requires-clause-inside c = made_inside c.in_ok-made.ensures pieces_fit c.requires
 
-pub placed_code-requires-clause-pieces : goal.placed_code-requires-clause-pieces
-placed_code-requires-clause-pieces c = (made_fit c.in_ok-made.ensures pieces_fit c.requires).pieces
+pub place_code-requires-clause-pieces : goal.place_code-requires-clause-pieces
+place_code-requires-clause-pieces c = (made_fit c.in_ok-made.ensures pieces_fit c.requires).pieces
 
-pub placed_code-requires-clause-landing : goal.placed_code-requires-clause-landing
-placed_code-requires-clause-landing c = landings_count c.in_ok-made.ensures
+pub place_code-requires-clause-landing : goal.place_code-requires-clause-landing
+place_code-requires-clause-landing c = landings_count c.in_ok-made.ensures
 
-pub placed_code-requires-clause-cases : goal.placed_code-requires-clause-cases
-placed_code-requires-clause-cases c = cases_few c.in_ok-made.ensures pieces_fit c.requires
+pub place_code-requires-clause-cases : goal.place_code-requires-clause-cases
+place_code-requires-clause-cases c = cases_few c.in_ok-made.ensures pieces_fit c.requires
 
-pub placed_code-requires-clause-room : goal.placed_code-requires-clause-room
-placed_code-requires-clause-room c = made_room c.in_ok-made.ensures pieces_fit c.requires
+pub place_code-requires-clause-room : goal.place_code-requires-clause-room
+place_code-requires-clause-room c = made_room c.in_ok-made.ensures pieces_fit c.requires
 
 pub returns-clause-built : goal.returns-clause-built
 returns-clause-built c =

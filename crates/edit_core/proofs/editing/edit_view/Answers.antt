@@ -14,8 +14,8 @@ use Rattle.edit_core.proofs.Steps.{original_fit}
 use Rattle.edit_core.proofs.Tools.{asks, counts}
 use Rattle.edit_core.proofs.editing.edit_view.Goals as goal
 
-pub asked_of-requires : goal.asked_of-requires
-asked_of-requires g c =
+pub ask-requires : goal.ask-requires
+ask-requires g c =
     λ plan is. counts g.F.Chooser.says c.args.tool.now c.args.bytes.now _ c.requires.view plan c.requires.counters is
 
 pub returns-then-had-needed-clause-refused : goal.returns-then-had-needed-clause-refused
@@ -33,8 +33,8 @@ returns-then-had-needed-clause-refused g c =
       },
     )
 
-pub edited-requires-clause-asked : goal.edited-requires-clause-asked
-edited-requires-clause-asked g c =
+pub write_edit-requires-clause-asked : goal.write_edit-requires-clause-asked
+write_edit-requires-clause-asked g c =
     let plan = plan_of (numbers c.args.tool.now.marks) c.in_ok-asked.asked in
     let needed : c.in_ok-needed.needed ≡ bound_of c.args.view.now.image.text c.args.view.now.graph plan =
     c.in_ok-needed.ensures ∙ rw (c.text-text.ensures, c.deref.ensures.value) refl in

@@ -6,7 +6,7 @@ use Rattle.image_code.proofs.Fit.{pieces_fit}
 use Rattle.edit_core.proofs.Dead.{rest_is_dead}
 use Rattle.edit_core.proofs.Graphs.{graph_cut}
 use Rattle.edit_core.proofs.Steps.{new_room}
-use Rattle.edit_core.proofs.building.made.Goals as goal
+use Rattle.edit_core.proofs.building.make_pieces.Goals as goal
 
 pub live-requires-clause-graph : goal.live-requires-clause-graph
 live-requires-clause-graph c =

@@ -8,7 +8,7 @@ use Rattle.image_code.proofs.Fit.{pieces_fit}
 use Rattle.edit_core.specs.Written.{IsBuilt, LeadsTo, placement_in, plan_of, table_after}
 use Rattle.edit_core.proofs.Steps.{code_is, original_fit, segment_is, segments_are, view_entry, view_has_room, view_text, view_words}
 use Rattle.edit_core.proofs.Edits.{notes_meet_rules, can_be_written}
-use Rattle.edit_core.proofs.editing.edited.Goals as goal
+use Rattle.edit_core.proofs.editing.write_edit.Goals as goal
 
 pub new_code-requires : goal.new_code-requires
 new_code-requires c =
@@ -22,11 +22,11 @@ code_low : (text : Words) (graph : Graph) (base cells : ℕ) (snips : List (List
 code_low text graph base cells snips p tables built leads =
     omega (arith, built.are.laid.low, segment_is text graph snips p _ leads)
 
-pub added-requires-clause-few : goal.added-requires-clause-few
-added-requires-clause-few c = rw (c.above-addresses.ensures.cells) c.requires.asked.3.few
+pub added_segments-requires-clause-few : goal.added_segments-requires-clause-few
+added_segments-requires-clause-few c = rw (c.above-addresses.ensures.cells) c.requires.asked.3.few
 
-pub added-requires-clause-low : goal.added-requires-clause-low
-added-requires-clause-low c =
+pub added_segments-requires-clause-low : goal.added_segments-requires-clause-low
+added_segments-requires-clause-low c =
     let image = c.args.image.now in
     rw (c.above-addresses.ensures.base, c.above-addresses.ensures.cells)
     (code_low image.text c.args.graph.now image.base c.args.asked.now.cells c.args.asked.now.snips.items

@@ -1,6 +1,6 @@
 use Rattle.std.proofs.Common.{◌^◌, ◌≤◌, ℕ, subst, sym, All, refl}
 use Rattle.tool_kit.specs.Good.{IsGood}
-use Rattle.edit_core.proofs.editing.asked_of.Goals as goal
+use Rattle.edit_core.proofs.editing.ask.Goals as goal
 
 pub returns-clause-plan : goal.returns-clause-plan
 returns-clause-plan g c = record {

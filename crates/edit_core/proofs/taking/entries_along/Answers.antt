@@ -6,12 +6,12 @@ use Rattle.cfg_normal.specs.Numbers.{node_number}
 use Rattle.image_code.specs.Fit.{is_at, targets_from}
 use Rattle.edit_core.specs.Taken.{case_key, count_of, same_key}
 use Rattle.edit_core.proofs.Counting.{led_few, led_is}
-use Rattle.edit_core.proofs.taking.led.Goals as goal
+use Rattle.edit_core.proofs.taking.entries_along.Goals as goal
 
 pub returns-in-Block-clause-entries : goal.returns-in-Block-clause-entries
 returns-in-Block-clause-entries c =
     let key = case_key c.in-Block.block.0 (node_number c.args.graph.now c.args.edge.now.to) in
-    c.counted.ensures
+    c.count_at.ensures
     ∙ ap (λ k. count_of (get same_key c.args.cases.now k)) c.case_key.ensures
     ∙ c.requires.cases key
     ∙ led_is c.args.graph.now c.edges-edges.ensures.graph c.in-Block.block.0 c.args.edge.now.to c.requires.edge.to

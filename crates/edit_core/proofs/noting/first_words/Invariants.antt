@@ -1,5 +1,5 @@
 use Rattle.std.proofs.Common.{◌≡◌, take}
-use Rattle.edit_core.proofs.noting.firsts.Given as goal
+use Rattle.edit_core.proofs.noting.first_words.Given as goal
 
 abbrev pub invariant-loop-block : goal.invariant-loop-block
 invariant-loop-block l = l.firsts.items ≡ take l.block l.graph.blocks.firsts

@@ -2,7 +2,7 @@ use Rattle.std.proofs.Common.{◌≡◌, ◌+◌, length, map, slice_index, refl
 use Rattle.eel_base.specs.declared.numbers.Addr.{Addr}
 use Rattle.eel_base.specs.declared.numbers.PieceNo.{PieceNo}
 use Rattle.edit_core.specs.Written.{addr, cells_size, placement_in, tables_size}
-use Rattle.edit_core.proofs.building.placed_code.Goals as goal
+use Rattle.edit_core.proofs.building.place_code.Goals as goal
 
 pub returns-clause-entry : goal.returns-clause-entry
 returns-clause-entry c = ap (λ (a : Addr). a.0) c.place_of-entry.ensures ∙ rw c.deref-10.ensures.value refl
