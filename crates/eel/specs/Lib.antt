@@ -4,3 +4,4 @@ pub mod Tame
 pub mod Command
 pub mod Outcome
 pub mod Refusals
+pub mod Seen

@@ -3,8 +3,8 @@ ghost use Rattle.std.specs.Prelude.{◌≡◌, ◌≤◌, IfOk, IfErr};
 ghost use Rattle.elf32_write.specs.Bytes.{words_bytes};
 ghost use Rattle.v8_text.specs.Listings.{IsListing};
 ghost use Rattle.eel.specs.Outcome.{outcome_seen};
+ghost use Rattle.eel.specs.Seen.{files_seen};
 ghost use Rattle.eel.specs.Answers.Make.{Makes};
-ghost use Rattle.eel.specs.Answers.Shared.{store};
 ghost use Rattle.eel.specs.Answers.Words.{IsAssembled, IsNotListing, assembling};
 ghost use Rattle.eel.specs.Refusals.{unlisted_of};
 
@@ -25,8 +25,8 @@ pub fn assemble_words<'a, F: Files>(
     listing: &'a str,
     output: &str,
 ) -> Outcome<'a>
-    ensures assembles { Makes assembling listing.now output.now (store (F.held files.old) (F.faults files.old))
-        (store (F.held files.new) (F.faults files.new)) (outcome_seen result) }
+    ensures assembles { Makes assembling listing.now output.now
+        (files_seen F.Files files.old) (files_seen F.Files files.new) (outcome_seen result) }
     ensures later { F.faults files.old ≤ F.faults files.new }
 {
     let bytes = match fetch_file(alloc, files, listing, LISTING_LIMIT) {

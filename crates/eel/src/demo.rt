@@ -12,7 +12,8 @@ ghost use Rattle.count_rebuild.specs.declared.fault.CountFault.{CountFault as Fa
 ghost use Rattle.count_rebuild.specs.declared.fault.CountFault.TheVariants as faults;
 ghost use Rattle.count_rebuild.specs.Answers.{AreCounts, IsRefused};
 ghost use Rattle.edit_core.specs.declared.taking.EditFault.TheVariants as edit_faults;
-ghost use Rattle.eel.specs.Outcome.{Stream, ending_text as ending_text_of, outcome_seen, stream};
+ghost use Rattle.eel.specs.Outcome.{Stream, ending_text as ending_text_of, outcome_seen};
+ghost use Rattle.eel.specs.Seen.{stream_seen};
 ghost use Rattle.eel.specs.Answers.Shared.{Feed, Store, outside};
 ghost use Rattle.eel.specs.Answers.Dump.{IsNoted};
 ghost use Rattle.eel.specs.Answers.Profile.{IsProfileOf, guessed};
@@ -68,8 +69,8 @@ pub fn demonstrate<O: Sink>(
     requires few { routines ≤ 100000 }
     // Whatever the files, the input and the error stream are, they stay so.
     ensures tells { (files : Store) (feed : Feed) (err : Stream) → Tells number routines
-        (outside files feed (stream (O.taken out.old) (O.faults out.old)) err)
-        (outside files feed (stream (O.taken out.new) (O.faults out.new)) err)
+        (outside files feed (stream_seen O.Sink out.old) err)
+        (outside files feed (stream_seen O.Sink out.new) err)
         (outcome_seen result) }
     ensures later { O.faults out.old ≤ O.faults out.new }
 {

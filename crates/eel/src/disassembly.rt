@@ -1,10 +1,11 @@
 //! The command `list`.
 ghost use Rattle.std.specs.Prelude.{◌≡◌, ◌≤◌, IfOk, IfErr};
-ghost use Rattle.eel.specs.Outcome.{Stream, outcome_seen, stream};
+ghost use Rattle.eel.specs.Outcome.{Stream, outcome_seen};
+ghost use Rattle.eel.specs.Seen.{files_seen, stream_seen};
 ghost use Rattle.eel.specs.Answers.Files.{IsNotSound, IsSound};
 ghost use Rattle.eel.specs.Answers.List.{listed_of};
 ghost use Rattle.eel.specs.Answers.Print.{Prints};
-ghost use Rattle.eel.specs.Answers.Shared.{Feed, outside, store};
+ghost use Rattle.eel.specs.Answers.Shared.{Feed, outside};
 
 use crate::edit::EDIT_LIMIT;
 use crate::outcome::Outcome;
@@ -23,8 +24,8 @@ pub fn list_words<'a, F: Files, O: Sink>(
 ) -> Outcome<'a>
     // Whatever the input and the error stream are, they stay so.
     ensures prints { (feed : Feed) (err : Stream) → Prints listed_of file.now
-        (outside (store (F.held files.old) (F.faults files.old)) feed (stream (O.taken out.old) (O.faults out.old)) err)
-        (outside (store (F.held files.new) (F.faults files.new)) feed (stream (O.taken out.new) (O.faults out.new)) err)
+        (outside (files_seen F.Files files.old) feed (stream_seen O.Sink out.old) err)
+        (outside (files_seen F.Files files.new) feed (stream_seen O.Sink out.new) err)
         (outcome_seen result) }
     ensures kept { F.held files.new ≡ F.held files.old }
     ensures files_faults { F.faults files.old ≤ F.faults files.new }

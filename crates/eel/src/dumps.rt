@@ -10,8 +10,9 @@ ghost use Rattle.code_runs.specs.StoredWords.{CanLoad, memory_word};
 ghost use Rattle.dump_file.specs.Dump.{dump_seen};
 ghost use Rattle.dump_file.specs.Written.{dump_bytes as dump_bytes_of};
 ghost use Rattle.eel.specs.Command.{texts};
-ghost use Rattle.eel.specs.Outcome.{outcome_seen, stream};
-ghost use Rattle.eel.specs.Answers.Shared.{Feed, feed, outside, store};
+ghost use Rattle.eel.specs.Outcome.{outcome_seen};
+ghost use Rattle.eel.specs.Seen.{files_seen, outside_seen, stream_seen};
+ghost use Rattle.eel.specs.Answers.Shared.{Feed, outside};
 ghost use Rattle.edit_core.specs.Faithful.{holds_cells};
 ghost use Rattle.eel.specs.Answers.Run.{was_broken as was_broken_of};
 ghost use Rattle.eel.specs.Answers.Dump.{Dumps, IsDumped, IsNotNoted, IsNoted, IsPutAfter, dump_of as dump_of_state};
@@ -50,10 +51,8 @@ pub fn run_for_dump<'a, F: Files, I: Source, O: Sink, E: Sink>(
 ) -> Outcome<'a>
     requires few { AreArguments (texts job.args.now) }
     ensures dumps { Dumps job.entry.file.now job.entry.limit dump.now (texts job.entry.args.now)
-        (outside (store (F.held files.old) (F.faults files.old)) (feed (I.left input.old) (I.faults input.old))
-        (stream (O.taken out.old) (O.faults out.old)) (stream (E.taken err.old) (E.faults err.old)))
-        (outside (store (F.held files.new) (F.faults files.new)) (feed (I.left input.new) (I.faults input.new))
-        (stream (O.taken out.new) (O.faults out.new)) (stream (E.taken err.new) (E.faults err.new)))
+        (outside_seen F.Files I.Source O.Sink E.Sink files.old input.old out.old err.old)
+        (outside_seen F.Files I.Source O.Sink E.Sink files.new input.new out.new err.new)
         (outcome_seen result) }
     ensures files_faults { F.faults files.old ≤ F.faults files.new }
     ensures input_faults { I.faults input.old ≤ I.faults input.new }
@@ -148,10 +147,8 @@ fn dump_machine<F: Files, O: Sink, E: Sink>(
     requires rules { AreNotes (notes_seen dumping.notes.now) }
     requires cells { KeepCells (notes_seen dumping.notes.now) machine }
     ensures dumped { (input : Feed) → IsDumped (notes_seen dumping.entry.notes.now) machine dumping.entry.limit dumping.entry.name.now
-        (outside (store (F.held files.old) (F.faults files.old)) input
-        (stream (O.taken out.old) (O.faults out.old)) (stream (E.taken err.old) (E.faults err.old)))
-        (outside (store (F.held files.new) (F.faults files.new)) input
-        (stream (O.taken out.new) (O.faults out.new)) (stream (E.taken err.new) (E.faults err.new)))
+        (outside (files_seen F.Files files.old) input (stream_seen O.Sink out.old) (stream_seen E.Sink err.old))
+        (outside (files_seen F.Files files.new) input (stream_seen O.Sink out.new) (stream_seen E.Sink err.new))
         (outcome_seen result) }
     ensures files_faults { F.faults files.old ≤ F.faults files.new }
     ensures out_faults { O.faults out.old ≤ O.faults out.new }
@@ -182,8 +179,8 @@ fn put_dump<F: Files>(
     bytes: &[u8],
     ended: Outcome<'static>,
 ) -> Outcome<'static>
-    ensures put { IsPutAfter (store (F.held files.old) (F.faults files.old))
-        (store (F.held files.new) (F.faults files.new)) name.now bytes.now (outcome_seen ended.entry) (outcome_seen result) }
+    ensures put { IsPutAfter (files_seen F.Files files.old) (files_seen F.Files files.new) name.now bytes.now
+        (outcome_seen ended.entry) (outcome_seen result) }
     ensures later { F.faults files.old ≤ F.faults files.new }
 {
     match files.put(name, bytes) {

@@ -2,8 +2,8 @@
 ghost use Rattle.std.specs.Prelude.{◌≡◌, ◌≤◌, ◌^◌, IfErr, IfOk, OnOk, length};
 ghost use Rattle.edit_core.specs.Taken.{EditRefuses};
 ghost use Rattle.eel.specs.Outcome.{outcome_seen};
+ghost use Rattle.eel.specs.Seen.{files_seen};
 ghost use Rattle.eel.specs.Answers.Files.{IsNotSound, IsSound};
-ghost use Rattle.eel.specs.Answers.Shared.{store};
 ghost use Rattle.eel.specs.Answers.Edit.{IsEditOf, edges_in, editing, plain_plan, refusal_of};
 ghost use Rattle.eel.specs.Answers.Make.{Makes};
 ghost use Rattle.eel.specs.Answers.MakeBy.{MakesBy};
@@ -31,8 +31,8 @@ pub fn edit_plain<'a, F: Files>(
     input: &'a str,
     output: &str,
 ) -> Outcome<'a>
-    ensures edits { Makes (editing plain_plan) input.now output.now (store (F.held files.old) (F.faults files.old))
-        (store (F.held files.new) (F.faults files.new)) (outcome_seen result) }
+    ensures edits { Makes (editing plain_plan) input.now output.now
+        (files_seen F.Files files.old) (files_seen F.Files files.new) (outcome_seen result) }
     ensures later { F.faults files.old ≤ F.faults files.new }
 {
     let bytes = match fetch_file(alloc, files, input, EDIT_LIMIT) {
@@ -53,8 +53,8 @@ pub fn edit_by_script<'a, F: Files>(
     output: &str,
     script: &'a str,
 ) -> Outcome<'a>
-    ensures scripts { MakesBy scripting input.now output.now script.now (store (F.held files.old) (F.faults files.old))
-        (store (F.held files.new) (F.faults files.new)) (outcome_seen result) }
+    ensures scripts { MakesBy scripting input.now output.now script.now
+        (files_seen F.Files files.old) (files_seen F.Files files.new) (outcome_seen result) }
     ensures later { F.faults files.old ≤ F.faults files.new }
 {
     let bytes = match fetch_file(alloc, files, input, EDIT_LIMIT) {

@@ -6,8 +6,8 @@ ghost use Rattle.elf32_sparc.specs.Image.{refusal};
 ghost use Rattle.cfg_blocks.specs.Marks.{numbers};
 ghost use Rattle.cfg_view.specs.View.{view_seen, IsView};
 ghost use Rattle.eel.specs.Outcome.{outcome_seen};
+ghost use Rattle.eel.specs.Seen.{files_seen};
 ghost use Rattle.eel.specs.Answers.Make.{Makes};
-ghost use Rattle.eel.specs.Answers.Shared.{store};
 ghost use Rattle.eel.specs.Answers.Profile.{CountersRefuse, IsMadeOf, guessed_with, profiling};
 ghost use Rattle.eel.specs.Answers.Every.{every_view, every_word, word_numbered};
 
@@ -29,8 +29,8 @@ pub fn edit_every_word<'a, F: Files>(
     input: &'a str,
     output: &str,
 ) -> Outcome<'a>
-    ensures profiles { Makes (profiling every_word) input.now output.now (store (F.held files.old) (F.faults files.old))
-        (store (F.held files.new) (F.faults files.new)) (outcome_seen result) }
+    ensures profiles { Makes (profiling every_word) input.now output.now
+        (files_seen F.Files files.old) (files_seen F.Files files.new) (outcome_seen result) }
     ensures later { F.faults files.old ≤ F.faults files.new }
 {
     let bytes = match fetch_file(alloc, files, input, EDIT_LIMIT) {

@@ -1,9 +1,10 @@
 //! The command `show`.
 ghost use Rattle.std.specs.Prelude.{◌≡◌, ◌≤◌, IfOk, IfErr};
 ghost use Rattle.cfg_view.specs.View.{view_seen, IsView};
-ghost use Rattle.eel.specs.Outcome.{Stream, outcome_seen, stream};
+ghost use Rattle.eel.specs.Outcome.{Stream, outcome_seen};
+ghost use Rattle.eel.specs.Seen.{files_seen, stream_seen};
 ghost use Rattle.eel.specs.Answers.Files.{IsNotSound, IsSound};
-ghost use Rattle.eel.specs.Answers.Shared.{Feed, outside, store};
+ghost use Rattle.eel.specs.Answers.Shared.{Feed, outside};
 ghost use Rattle.eel.specs.Answers.Print.{Prints};
 ghost use Rattle.eel.specs.Answers.Show.{lines_of, shown_of};
 
@@ -25,8 +26,8 @@ pub fn show_program<'a, F: Files, O: Sink>(
 ) -> Outcome<'a>
     // Whatever the input and the error stream are, they stay so.
     ensures prints { (feed : Feed) (err : Stream) → Prints shown_of file.now
-        (outside (store (F.held files.old) (F.faults files.old)) feed (stream (O.taken out.old) (O.faults out.old)) err)
-        (outside (store (F.held files.new) (F.faults files.new)) feed (stream (O.taken out.new) (O.faults out.new)) err)
+        (outside (files_seen F.Files files.old) feed (stream_seen O.Sink out.old) err)
+        (outside (files_seen F.Files files.new) feed (stream_seen O.Sink out.new) err)
         (outcome_seen result) }
     ensures kept { F.held files.new ≡ F.held files.old }
     ensures files_faults { F.faults files.old ≤ F.faults files.new }

@@ -2,7 +2,8 @@
 ghost use Rattle.std.specs.Prelude.{◌≡◌, ◌≤◌, ◌++◌, ◌∷◌, [], codes, OnOk, OnErr};
 ghost use Rattle.eel_base.specs.Outside.{Rose, appended, TookPart};
 ghost use Rattle.eel.specs.declared.outcome.CountCause.TheVariants as count_causes;
-ghost use Rattle.eel.specs.Outcome.{BadLine, cause_text as cause_text_of, outcome_seen, status_of, ending_text, line_of, stream, Shows, joined, NoCounts, line_about};
+ghost use Rattle.eel.specs.Outcome.{BadLine, cause_text as cause_text_of, outcome_seen, status_of, ending_text, line_of, Shows, joined, NoCounts, line_about};
+ghost use Rattle.eel.specs.Seen.{stream_seen};
 
 use eel_base::{Addr, EdgeNo, Failed, NoMemory, Sink, hex8, put_all};
 use itoa::{Buffer, Integer};
@@ -158,8 +159,7 @@ impl Outcome<'_> {
 
     /// Writes the outcome's line, and answers its status.
     pub fn show<E: Sink>(&self, err: &mut E) -> u8
-        ensures shows { Shows (outcome_seen self.now) result
-            (stream (E.taken err.old) (E.faults err.old)) (stream (E.taken err.new) (E.faults err.new)) }
+        ensures shows { Shows (outcome_seen self.now) result (stream_seen E.Sink err.old) (stream_seen E.Sink err.new) }
         ensures later { E.faults err.old ≤ E.faults err.new }
     {
         match put_line(self, err) {

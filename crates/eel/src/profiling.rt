@@ -8,7 +8,7 @@ ghost use Rattle.edit_core.specs.Taken.{EditRefuses};
 ghost use Rattle.span_tree.specs.Cells.{cell_at, cell_count, AreNumbered};
 ghost use Rattle.span_tree.specs.Weights.{weights_of};
 ghost use Rattle.eel.specs.Outcome.{outcome_seen};
-ghost use Rattle.eel.specs.Answers.Shared.{store};
+ghost use Rattle.eel.specs.Seen.{files_seen};
 ghost use Rattle.eel.specs.Answers.Edit.{IsEditOf};
 ghost use Rattle.eel.specs.Answers.Make.{Makes};
 ghost use Rattle.exact_counts.specs.Profiles.{counter_in};
@@ -33,8 +33,8 @@ pub fn edit_for_counts<'a, F: Files>(
     input: &'a str,
     output: &str,
 ) -> Outcome<'a>
-    ensures profiles { Makes (profiling no_words) input.now output.now (store (F.held files.old) (F.faults files.old))
-        (store (F.held files.new) (F.faults files.new)) (outcome_seen result) }
+    ensures profiles { Makes (profiling no_words) input.now output.now
+        (files_seen F.Files files.old) (files_seen F.Files files.new) (outcome_seen result) }
     ensures later { F.faults files.old ≤ F.faults files.new }
 {
     let bytes = match fetch_file(alloc, files, input, EDIT_LIMIT) {

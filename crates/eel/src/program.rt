@@ -1,8 +1,7 @@
 //! The call that `main` makes: the words behind the name of the program are a command.
 ghost use Rattle.std.specs.Prelude.{◌≡◌, drop, map, string_bytes, IfOk, OnErr};
 ghost use Rattle.eel.specs.Command.{command_of, texts};
-ghost use Rattle.eel.specs.Outcome.{stream};
-ghost use Rattle.eel.specs.Answers.Shared.{outside, store, feed};
+ghost use Rattle.eel.specs.Seen.{outside_seen};
 ghost use Rattle.eel.specs.Answers.{Ran};
 
 use crate::top::eel;
@@ -27,15 +26,11 @@ pub fn run_words<F: Files, I: Source, O: Sink, E: Sink>(
     err: &mut E,
 ) -> Result<u8, AllocError>
     ensures ran { IfOk result (Ran (command_of (map string_bytes (drop 1 all.now)))
-        (outside (store (F.held files.old) (F.faults files.old)) (feed (I.left input.old) (I.faults input.old))
-        (stream (O.taken out.old) (O.faults out.old)) (stream (E.taken err.old) (E.faults err.old)))
-        (outside (store (F.held files.new) (F.faults files.new)) (feed (I.left input.new) (I.faults input.new))
-        (stream (O.taken out.new) (O.faults out.new)) (stream (E.taken err.new) (E.faults err.new)))) }
+        (outside_seen F.Files I.Source O.Sink E.Sink files.old input.old out.old err.old)
+        (outside_seen F.Files I.Source O.Sink E.Sink files.new input.new out.new err.new)) }
     ensures unrun { OnErr result (
-        outside (store (F.held files.new) (F.faults files.new)) (feed (I.left input.new) (I.faults input.new))
-        (stream (O.taken out.new) (O.faults out.new)) (stream (E.taken err.new) (E.faults err.new))
-        ≡ outside (store (F.held files.old) (F.faults files.old)) (feed (I.left input.old) (I.faults input.old))
-        (stream (O.taken out.old) (O.faults out.old)) (stream (E.taken err.old) (E.faults err.old))) }
+        outside_seen F.Files I.Source O.Sink E.Sink files.new input.new out.new err.new
+        ≡ outside_seen F.Files I.Source O.Sink E.Sink files.old input.old out.old err.old) }
 {
     let words = words_given(alloc, all)?;
     Ok(eel(alloc, &words, files, input, out, err))

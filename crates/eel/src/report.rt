@@ -3,8 +3,9 @@ ghost use Rattle.std.specs.Prelude.{◌≡◌, ◌≤◌, ◌+◌, ◌<◌, ◌^
 ghost use Rattle.notes.specs.Rules.{AreNotes};
 ghost use Rattle.notes.specs.Seen.{notes_seen};
 ghost use Rattle.dump_file.specs.Dump.{dump_seen};
-ghost use Rattle.eel.specs.Outcome.{Stream, outcome_seen, stream};
-ghost use Rattle.eel.specs.Answers.Shared.{Feed, outside, store};
+ghost use Rattle.eel.specs.Outcome.{Stream, outcome_seen};
+ghost use Rattle.eel.specs.Seen.{files_seen, stream_seen};
+ghost use Rattle.eel.specs.Answers.Shared.{Feed, outside};
 ghost use Rattle.eel.specs.Answers.Report.{IsRefused, IsReported, IsUnreported, Reports, Tell};
 
 use crate::counting::count_lines;
@@ -44,8 +45,8 @@ pub fn report_run<'a, F: Files, O: Sink>(
 ) -> Outcome<'a>
     // Whatever the input and the error stream are, they stay so.
     ensures reports { (feed : Feed) (err : Stream) → Reports report written.now dump.now
-        (outside (store (F.held files.old) (F.faults files.old)) feed (stream (O.taken out.old) (O.faults out.old)) err)
-        (outside (store (F.held files.new) (F.faults files.new)) feed (stream (O.taken out.new) (O.faults out.new)) err)
+        (outside (files_seen F.Files files.old) feed (stream_seen O.Sink out.old) err)
+        (outside (files_seen F.Files files.new) feed (stream_seen O.Sink out.new) err)
         (outcome_seen result) }
     ensures kept { F.held files.new ≡ F.held files.old }
     ensures files_faults { F.faults files.old ≤ F.faults files.new }

@@ -2,7 +2,7 @@
 ghost use Rattle.std.specs.Prelude.{◌≡◌, ◌≤◌, ◌+◌, IfOk, IfErr, length};
 ghost use Rattle.notes.specs.Seen.{notes_seen};
 ghost use Rattle.eel.specs.Outcome.{outcome_seen};
-ghost use Rattle.eel.specs.Answers.Shared.{store};
+ghost use Rattle.eel.specs.Seen.{files_seen};
 ghost use Rattle.eel.specs.Answers.Make.{Makes};
 ghost use Rattle.eel.specs.Answers.Noted.{IsUnnoted};
 ghost use Rattle.eel.specs.Answers.Restore.{HasOriginal, original_in, restoring};
@@ -22,8 +22,8 @@ pub fn restore_original<'a, F: Files>(
     written: &'a str,
     output: &str,
 ) -> Outcome<'a>
-    ensures restores { Makes restoring written.now output.now (store (F.held files.old) (F.faults files.old))
-        (store (F.held files.new) (F.faults files.new)) (outcome_seen result) }
+    ensures restores { Makes restoring written.now output.now
+        (files_seen F.Files files.old) (files_seen F.Files files.new) (outcome_seen result) }
     ensures later { F.faults files.old ≤ F.faults files.new }
 {
     let bytes = match fetch_file(alloc, files, written, WRITTEN_LIMIT) {

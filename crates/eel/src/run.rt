@@ -4,8 +4,8 @@ ghost use Rattle.elf32_sparc.specs.FileFault.{load_fault};
 ghost use Rattle.v8_process.specs.Arguments.{AreArguments};
 ghost use Rattle.v8_process.specs.Start.{start_of};
 ghost use Rattle.eel.specs.Command.{texts};
-ghost use Rattle.eel.specs.Outcome.{outcome_seen, stream};
-ghost use Rattle.eel.specs.Answers.Shared.{feed, outside, store};
+ghost use Rattle.eel.specs.Outcome.{outcome_seen};
+ghost use Rattle.eel.specs.Seen.{outside_seen, stream_seen};
 ghost use Rattle.eel.specs.Answers.Run.{IsNotRun, IsRun, Runs, stopped_of};
 
 use crate::outcome::Outcome;
@@ -38,10 +38,8 @@ pub fn run_program<'a, F: Files, I: Source, O: Sink, E: Sink>(
 ) -> Outcome<'a>
     requires few { AreArguments (texts job.args.now) }
     ensures runs { Runs job.entry.file.now job.entry.limit (texts job.entry.args.now)
-        (outside (store (F.held files.old) (F.faults files.old)) (feed (I.left input.old) (I.faults input.old))
-        (stream (O.taken out.old) (O.faults out.old)) (stream (E.taken err.old) (E.faults err.old)))
-        (outside (store (F.held files.new) (F.faults files.new)) (feed (I.left input.new) (I.faults input.new))
-        (stream (O.taken out.new) (O.faults out.new)) (stream (E.taken err.new) (E.faults err.new)))
+        (outside_seen F.Files I.Source O.Sink E.Sink files.old input.old out.old err.old)
+        (outside_seen F.Files I.Source O.Sink E.Sink files.new input.new out.new err.new)
         (outcome_seen result) }
     ensures kept { F.held files.new ≡ F.held files.old }
     ensures files_faults { F.faults files.old ≤ F.faults files.new }
@@ -95,8 +93,7 @@ fn run_machine<O: Sink, E: Sink>(
     err: &mut E,
 ) -> Outcome<'static>
     ensures ran { IsRun machine limit
-        (stream (O.taken out.old) (O.faults out.old)) (stream (O.taken out.new) (O.faults out.new))
-        (stream (E.taken err.old) (E.faults err.old)) (stream (E.taken err.new) (E.faults err.new))
+        (stream_seen O.Sink out.old) (stream_seen O.Sink out.new) (stream_seen E.Sink err.old) (stream_seen E.Sink err.new)
         (outcome_seen result) }
     ensures out_faults { O.faults out.old ≤ O.faults out.new }
     ensures err_faults { E.faults err.old ≤ E.faults err.new }

@@ -1,7 +1,8 @@
 //! Texts that come in and go out: their bytes, or what comes of it where they can't be had or put.
 ghost use Rattle.std.specs.Prelude.{◌≡◌, ◌≤◌, IfOk, IfErr};
-ghost use Rattle.eel.specs.Outcome.{outcome_seen, stream};
-ghost use Rattle.eel.specs.Answers.Shared.{IsPrinted, IsPut, IsUnread, WasRead, feed, store};
+ghost use Rattle.eel.specs.Outcome.{outcome_seen};
+ghost use Rattle.eel.specs.Seen.{files_seen, input_seen, stream_seen};
+ghost use Rattle.eel.specs.Answers.Shared.{IsPrinted, IsPut, IsUnread, WasRead};
 ghost use Rattle.eel.specs.Answers.Run.{IsUnfed, WasFed};
 ghost use Rattle.eel.specs.Refusals.{unread_of};
 
@@ -23,9 +24,9 @@ pub fn fetch_file<'a, F: Files>(
     limit: u64,
 ) -> Result<Vec<u8>, Outcome<'a>>
     ensures read { IfOk result (λ bytes.
-        WasRead (store (F.held files.old) (F.faults files.old)) name.now limit bytes.items) }
-    ensures unread { IfErr result (λ outcome. IsUnread (store (F.held files.old) (F.faults files.old))
-        (store (F.held files.new) (F.faults files.new)) name.now limit (outcome_seen outcome)) }
+        WasRead (files_seen F.Files files.old) name.now limit bytes.items) }
+    ensures unread { IfErr result (λ outcome.
+        IsUnread (files_seen F.Files files.old) (files_seen F.Files files.new) name.now limit (outcome_seen outcome)) }
     ensures kept { F.held files.new ≡ F.held files.old }
     ensures later { F.faults files.old ≤ F.faults files.new }
 {
@@ -37,10 +38,10 @@ pub fn fetch_file<'a, F: Files>(
 
 /// Reads the whole input of a run.
 pub fn read_input<I: Source>(alloc: Global, input: &mut I) -> Result<Vec<u8>, Outcome<'static>>
-    ensures fed { IfOk result (λ given. WasFed (feed (I.left input.old) (I.faults input.old))
-        (feed (I.left input.new) (I.faults input.new)) given.items) }
-    ensures unfed { IfErr result (λ outcome. IsUnfed (feed (I.left input.old) (I.faults input.old))
-        (feed (I.left input.new) (I.faults input.new)) (outcome_seen outcome)) }
+    ensures fed { IfOk result (λ given.
+        WasFed (input_seen I.Source input.old) (input_seen I.Source input.new) given.items) }
+    ensures unfed { IfErr result (λ outcome.
+        IsUnfed (input_seen I.Source input.old) (input_seen I.Source input.new) (outcome_seen outcome)) }
     ensures later { I.faults input.old ≤ I.faults input.new }
 {
     match read_all(alloc, input, INPUT_LIMIT) {
@@ -62,8 +63,7 @@ fn unread<'a>(name: &'a str, limit: u64, fault: FetchFault) -> Outcome<'a>
 
 /// Puts the bytes as the file `name`.
 pub fn put_file<F: Files>(files: &mut F, name: &str, bytes: &[u8]) -> Outcome<'static>
-    ensures put { IsPut (store (F.held files.old) (F.faults files.old))
-        (store (F.held files.new) (F.faults files.new)) name.now bytes.now (outcome_seen result) }
+    ensures put { IsPut (files_seen F.Files files.old) (files_seen F.Files files.new) name.now bytes.now (outcome_seen result) }
     ensures later { F.faults files.old ≤ F.faults files.new }
 {
     match files.put(name, bytes) {
@@ -75,8 +75,7 @@ pub fn put_file<F: Files>(files: &mut F, name: &str, bytes: &[u8]) -> Outcome<'s
 
 /// Prints the bytes.
 pub fn print<O: Sink>(out: &mut O, bytes: &[u8]) -> Outcome<'static>
-    ensures printed { IsPrinted (stream (O.taken out.old) (O.faults out.old))
-        (stream (O.taken out.new) (O.faults out.new)) bytes.now (outcome_seen result) }
+    ensures printed { IsPrinted (stream_seen O.Sink out.old) (stream_seen O.Sink out.new) bytes.now (outcome_seen result) }
     ensures later { O.faults out.old ≤ O.faults out.new }
 {
     match put_all(out, bytes) {

@@ -1,8 +1,8 @@
 //! The one call that the program makes.
 ghost use Rattle.std.specs.Prelude.{◌≡◌, ◌≤◌};
 ghost use Rattle.eel.specs.Command.{command_of, texts};
-ghost use Rattle.eel.specs.Outcome.{outcome_seen, stream};
-ghost use Rattle.eel.specs.Answers.Shared.{outside, store, feed};
+ghost use Rattle.eel.specs.Outcome.{outcome_seen};
+ghost use Rattle.eel.specs.Seen.{outside_seen};
 ghost use Rattle.eel.specs.Answers.{HasFailed, IsDone, IsRefusal, IsUnchanged, IsUnrefused, Ran, WasWanting, meaning_of};
 
 use crate::assembly::assemble_words;
@@ -34,41 +34,31 @@ pub fn eel<F: Files, I: Source, O: Sink, E: Sink>(
 ) -> u8
     // What comes of the words, the files and the input, and how it shows.
     ensures ran { Ran (command_of (texts words.now))
-        (outside (store (F.held files.old) (F.faults files.old)) (feed (I.left input.old) (I.faults input.old))
-        (stream (O.taken out.old) (O.faults out.old)) (stream (E.taken err.old) (E.faults err.old)))
-        (outside (store (F.held files.new) (F.faults files.new)) (feed (I.left input.new) (I.faults input.new))
-        (stream (O.taken out.new) (O.faults out.new)) (stream (E.taken err.new) (E.faults err.new))) result }
+        (outside_seen F.Files I.Source O.Sink E.Sink files.old input.old out.old err.old)
+        (outside_seen F.Files I.Source O.Sink E.Sink files.new input.new out.new err.new) result }
 
     // Done: a file is written, a program ran, or lines of it are printed.
     ensures done { result ≡ 0 → IsDone (command_of (texts words.now))
-        (outside (store (F.held files.old) (F.faults files.old)) (feed (I.left input.old) (I.faults input.old))
-        (stream (O.taken out.old) (O.faults out.old)) (stream (E.taken err.old) (E.faults err.old)))
-        (outside (store (F.held files.new) (F.faults files.new)) (feed (I.left input.new) (I.faults input.new))
-        (stream (O.taken out.new) (O.faults out.new)) (stream (E.taken err.new) (E.faults err.new))) }
+        (outside_seen F.Files I.Source O.Sink E.Sink files.old input.old out.old err.old)
+        (outside_seen F.Files I.Source O.Sink E.Sink files.new input.new out.new err.new) }
 
     // A refusal changes no file and puts nothing out.
     ensures refused { IsRefusal result → IsUnchanged
-        (outside (store (F.held files.old) (F.faults files.old)) (feed (I.left input.old) (I.faults input.old))
-        (stream (O.taken out.old) (O.faults out.old)) (stream (E.taken err.old) (E.faults err.old)))
-        (outside (store (F.held files.new) (F.faults files.new)) (feed (I.left input.new) (I.faults input.new))
-        (stream (O.taken out.new) (O.faults out.new)) (stream (E.taken err.new) (E.faults err.new))) }
+        (outside_seen F.Files I.Source O.Sink E.Sink files.old input.old out.old err.old)
+        (outside_seen F.Files I.Source O.Sink E.Sink files.new input.new out.new err.new) }
 
     // A program that is made from a number isn't refused.
     ensures unrefused { IsUnrefused (command_of (texts words.now)) result }
 
     // Nor does want of memory change a file. It puts nothing out, or comes once a program has run.
     ensures wanting { result ≡ 70 → WasWanting (command_of (texts words.now))
-        (outside (store (F.held files.old) (F.faults files.old)) (feed (I.left input.old) (I.faults input.old))
-        (stream (O.taken out.old) (O.faults out.old)) (stream (E.taken err.old) (E.faults err.old)))
-        (outside (store (F.held files.new) (F.faults files.new)) (feed (I.left input.new) (I.faults input.new))
-        (stream (O.taken out.new) (O.faults out.new)) (stream (E.taken err.new) (E.faults err.new))) }
+        (outside_seen F.Files I.Source O.Sink E.Sink files.old input.old out.old err.old)
+        (outside_seen F.Files I.Source O.Sink E.Sink files.new input.new out.new err.new) }
 
     // A device failed, or the name that is read is missing.
     ensures failed { result ≡ 74 → HasFailed (command_of (texts words.now))
-        (outside (store (F.held files.old) (F.faults files.old)) (feed (I.left input.old) (I.faults input.old))
-        (stream (O.taken out.old) (O.faults out.old)) (stream (E.taken err.old) (E.faults err.old)))
-        (outside (store (F.held files.new) (F.faults files.new)) (feed (I.left input.new) (I.faults input.new))
-        (stream (O.taken out.new) (O.faults out.new)) (stream (E.taken err.new) (E.faults err.new))) }
+        (outside_seen F.Files I.Source O.Sink E.Sink files.old input.old out.old err.old)
+        (outside_seen F.Files I.Source O.Sink E.Sink files.new input.new out.new err.new) }
 {
     let outcome = perform(alloc, words, files, input, out, err);
     outcome.show(err)
@@ -84,10 +74,8 @@ fn perform<'a, F: Files, I: Source, O: Sink, E: Sink>(
     err: &mut E,
 ) -> Outcome<'a>
     ensures follows { (meaning_of (command_of (texts words.now))).follows
-        (outside (store (F.held files.old) (F.faults files.old)) (feed (I.left input.old) (I.faults input.old))
-        (stream (O.taken out.old) (O.faults out.old)) (stream (E.taken err.old) (E.faults err.old)))
-        (outside (store (F.held files.new) (F.faults files.new)) (feed (I.left input.new) (I.faults input.new))
-        (stream (O.taken out.new) (O.faults out.new)) (stream (E.taken err.new) (E.faults err.new)))
+        (outside_seen F.Files I.Source O.Sink E.Sink files.old input.old out.old err.old)
+        (outside_seen F.Files I.Source O.Sink E.Sink files.new input.new out.new err.new)
         (outcome_seen result) }
     ensures files_faults { F.faults files.old ≤ F.faults files.new }
     ensures input_faults { I.faults input.old ≤ I.faults input.new }

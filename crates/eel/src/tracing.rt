@@ -4,7 +4,7 @@ ghost use Rattle.snippets.specs.Cells.{WorksBelow};
 ghost use Rattle.edit_core.specs.Taken.{EditRefuses};
 ghost use Rattle.edge_ring.specs.Ring.{ring_on};
 ghost use Rattle.eel.specs.Outcome.{outcome_seen};
-ghost use Rattle.eel.specs.Answers.Shared.{store};
+ghost use Rattle.eel.specs.Seen.{files_seen};
 ghost use Rattle.eel.specs.Answers.Edit.{IsEditOf, editing};
 ghost use Rattle.eel.specs.Answers.Make.{Makes};
 ghost use Rattle.eel.specs.Answers.Trace.{trace_plan};
@@ -30,8 +30,7 @@ pub fn edit_for_trace<'a, F: Files>(
     requires some { 1 ≤ bits }
     requires few { bits ≤ 16 }
     ensures traces { Makes (editing (trace_plan bits)) input.now output.now
-        (store (F.held files.old) (F.faults files.old))
-        (store (F.held files.new) (F.faults files.new)) (outcome_seen result) }
+        (files_seen F.Files files.old) (files_seen F.Files files.new) (outcome_seen result) }
     ensures later { F.faults files.old ≤ F.faults files.new }
 {
     let bytes = match fetch_file(alloc, files, input, EDIT_LIMIT) {

@@ -5,8 +5,8 @@ ghost use Rattle.cfg_view.specs.View.{view_seen, IsView};
 ghost use Rattle.span_tree.specs.Cells.{cell_count};
 ghost use Rattle.weights_in.specs.Weights.{AreWeights};
 ghost use Rattle.eel.specs.Outcome.{outcome_seen};
+ghost use Rattle.eel.specs.Seen.{files_seen};
 ghost use Rattle.eel.specs.Answers.MakeBy.{MakesBy};
-ghost use Rattle.eel.specs.Answers.Shared.{store};
 ghost use Rattle.eel.specs.Answers.Profile.{AreCells, graph_in};
 ghost use Rattle.eel.specs.Answers.Weighed.{AreNotWeights, AreWeightsOf, IsNotWeighed, IsWeighedEdit, weighing};
 ghost use Rattle.eel.specs.Refusals.{unweighed_of};
@@ -33,8 +33,8 @@ pub fn edit_by_weights<'a, F: Files>(
     output: &str,
     weights: &'a str,
 ) -> Outcome<'a>
-    ensures weighs { MakesBy weighing input.now output.now weights.now (store (F.held files.old) (F.faults files.old))
-        (store (F.held files.new) (F.faults files.new)) (outcome_seen result) }
+    ensures weighs { MakesBy weighing input.now output.now weights.now
+        (files_seen F.Files files.old) (files_seen F.Files files.new) (outcome_seen result) }
     ensures later { F.faults files.old ≤ F.faults files.new }
 {
     let bytes = match fetch_file(alloc, files, input, EDIT_LIMIT) {

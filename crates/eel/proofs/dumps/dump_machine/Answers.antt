@@ -1,7 +1,7 @@
 use Rattle.std.proofs.Common.{sym, refl, inl, ◌∙◌}
 use Rattle.notes.specs.Seen.{notes_seen}
-use Rattle.eel.specs.Outcome.{stream}
-use Rattle.eel.specs.Answers.Shared.{outside, store}
+use Rattle.eel.specs.Answers.Shared.{outside}
+use Rattle.eel.specs.Seen.{files_seen, stream_seen}
 use Rattle.eel.proofs.Running.{run_comes}
 use Rattle.eel.proofs.Dumping.{dump_comes, has_stopped, run_broken}
 use Rattle.eel.proofs.dumps.dump_machine.Goals as goal
@@ -10,10 +10,8 @@ pub returns-then-was_broken-clause-dumped : goal.returns-then-was_broken-clause-
 returns-then-was_broken-clause-dumped g c = λ input. inl (
   run_broken _ _ _ _ _ _ c.run-end.result.stop c.run-end.result.steps
       (run_comes c.args.machine c.run-end.new.m c.args.dumping.limit c.run-end.result.steps c.run-end.result.stop
-      (stream (g.O.Sink.taken c.args.out.now) (g.O.Sink.faults c.args.out.now))
-      (stream (g.O.Sink.taken c.run-end.new.out) (g.O.Sink.faults c.run-end.new.out))
-      (stream (g.E.Sink.taken c.args.err.now) (g.E.Sink.faults c.args.err.now))
-      (stream (g.E.Sink.taken c.run-end.new.err) (g.E.Sink.faults c.run-end.new.err))
+      (stream_seen g.O.Sink c.args.out.now) (stream_seen g.O.Sink c.run-end.new.out)
+      (stream_seen g.E.Sink c.args.err.now) (stream_seen g.E.Sink c.run-end.new.err)
       c.run-end.ensures.state c.run-end.ensures.stop c.run-end.ensures.made c.run-end.ensures.out
       c.run-end.ensures.err c.run-end.ensures.cause)
       (sym c.was_broken.ensures ∙ c.if-was_broken.true),
@@ -24,10 +22,8 @@ pub returns-in-Err-clause-dumped : goal.returns-in-Err-clause-dumped
 returns-in-Err-clause-dumped g c = λ input. (
   has_stopped _ _ _ _ c.run-end.result.stop c.run-end.result.steps
       (run_comes c.args.machine c.run-end.new.m c.args.dumping.limit c.run-end.result.steps c.run-end.result.stop
-      (stream (g.O.Sink.taken c.args.out.now) (g.O.Sink.faults c.args.out.now))
-      (stream (g.O.Sink.taken c.run-end.new.out) (g.O.Sink.faults c.run-end.new.out))
-      (stream (g.E.Sink.taken c.args.err.now) (g.E.Sink.faults c.args.err.now))
-      (stream (g.E.Sink.taken c.run-end.new.err) (g.E.Sink.faults c.run-end.new.err))
+      (stream_seen g.O.Sink c.args.out.now) (stream_seen g.O.Sink c.run-end.new.out)
+      (stream_seen g.E.Sink c.args.err.now) (stream_seen g.E.Sink c.run-end.new.err)
       c.run-end.ensures.state c.run-end.ensures.stop c.run-end.ensures.made c.run-end.ensures.out
       c.run-end.ensures.err c.run-end.ensures.cause)
       (sym c.was_broken.ensures ∙ c.if-was_broken.false),
@@ -37,18 +33,14 @@ returns-in-Err-clause-dumped g c = λ input. (
 pub returns-clause-dumped : goal.returns-clause-dumped
 returns-clause-dumped g c = λ input.
     dump_comes (notes_seen c.args.dumping.notes.now) c.args.machine c.args.dumping.limit c.args.dumping.name.now
-    (outside (store (g.F.Files.held c.args.files.now) (g.F.Files.faults c.args.files.now)) input
-    (stream (g.O.Sink.taken c.args.out.now) (g.O.Sink.faults c.args.out.now))
-    (stream (g.E.Sink.taken c.args.err.now) (g.E.Sink.faults c.args.err.now)))
-    (outside (store (g.F.Files.held c.put_dump.new.files) (g.F.Files.faults c.put_dump.new.files)) input
-    (stream (g.O.Sink.taken c.run-end.new.out) (g.O.Sink.faults c.run-end.new.out))
-    (stream (g.E.Sink.taken c.run-end.new.err) (g.E.Sink.faults c.run-end.new.err)))
+    (outside (files_seen g.F.Files c.args.files.now) input
+    (stream_seen g.O.Sink c.args.out.now) (stream_seen g.E.Sink c.args.err.now))
+    (outside (files_seen g.F.Files c.put_dump.new.files) input
+    (stream_seen g.O.Sink c.run-end.new.out) (stream_seen g.E.Sink c.run-end.new.err))
     c.run-end.result.stop c.run-end.result.steps _
     (run_comes c.args.machine c.run-end.new.m c.args.dumping.limit c.run-end.result.steps c.run-end.result.stop
-    (stream (g.O.Sink.taken c.args.out.now) (g.O.Sink.faults c.args.out.now))
-    (stream (g.O.Sink.taken c.run-end.new.out) (g.O.Sink.faults c.run-end.new.out))
-    (stream (g.E.Sink.taken c.args.err.now) (g.E.Sink.faults c.args.err.now))
-    (stream (g.E.Sink.taken c.run-end.new.err) (g.E.Sink.faults c.run-end.new.err))
+    (stream_seen g.O.Sink c.args.out.now) (stream_seen g.O.Sink c.run-end.new.out)
+    (stream_seen g.E.Sink c.args.err.now) (stream_seen g.E.Sink c.run-end.new.err)
     c.run-end.ensures.state c.run-end.ensures.stop c.run-end.ensures.made c.run-end.ensures.out
     c.run-end.ensures.err c.run-end.ensures.cause)
     (sym c.was_broken.ensures ∙ c.if-was_broken.false)

@@ -2,9 +2,8 @@ use Rattle.std.proofs.Common.{refl}
 use Rattle.notes.specs.Seen.{notes_seen}
 use Rattle.v8_process.specs.Start.{start_of}
 use Rattle.eel.specs.Command.{texts}
-use Rattle.eel.specs.Outcome.{stream}
 use Rattle.eel.specs.Answers.Dump.{unfed, refused, unnoted, ran}
-use Rattle.eel.specs.Answers.Shared.{feed, store}
+use Rattle.eel.specs.Seen.{files_seen, input_seen, stream_seen}
 use Rattle.eel.proofs.Cells.{cells_kept}
 use Rattle.eel.proofs.Dumping.{dumped_later}
 use Rattle.eel.proofs.dumps.run_for_dump.Goals as goal
@@ -42,14 +41,10 @@ returns-clause-dumps g c =
     (start_of c.in-Ok.bytes.items (texts c.args.job.args.now) c.in-Ok-read_input.given.items) c.args.job.limit
     c.args.dump.now (g.F.Files.held c.args.files.now) (g.F.Files.held c.fetch_file.new.files)
     (g.F.Files.faults c.args.files.now) (g.F.Files.faults c.fetch_file.new.files)
-    (feed (g.I.Source.left c.args.input.now) (g.I.Source.faults c.args.input.now))
-    (feed (g.I.Source.left c.args.input.now) (g.I.Source.faults c.args.input.now))
-    (feed (g.I.Source.left c.args.input.now) (g.I.Source.faults c.args.input.now))
-    (feed (g.I.Source.left c.read_input.new.input) (g.I.Source.faults c.read_input.new.input))
-    (store (g.F.Files.held c.dump_machine.new.files) (g.F.Files.faults c.dump_machine.new.files))
-    (stream (g.O.Sink.taken c.args.out.now) (g.O.Sink.faults c.args.out.now))
-    (stream (g.O.Sink.taken c.dump_machine.new.out) (g.O.Sink.faults c.dump_machine.new.out))
-    (stream (g.E.Sink.taken c.args.err.now) (g.E.Sink.faults c.args.err.now))
-    (stream (g.E.Sink.taken c.dump_machine.new.err) (g.E.Sink.faults c.dump_machine.new.err)) _
+    (input_seen g.I.Source c.args.input.now) (input_seen g.I.Source c.args.input.now)
+    (input_seen g.I.Source c.args.input.now) (input_seen g.I.Source c.read_input.new.input)
+    (files_seen g.F.Files c.dump_machine.new.files)
+    (stream_seen g.O.Sink c.args.out.now) (stream_seen g.O.Sink c.dump_machine.new.out)
+    (stream_seen g.E.Sink c.args.err.now) (stream_seen g.E.Sink c.dump_machine.new.err) _
     c.fetch_file.ensures.kept c.fetch_file.ensures.later
-    (dumped (feed (g.I.Source.left c.args.input.now) (g.I.Source.faults c.args.input.now))))
+    (dumped (input_seen g.I.Source c.args.input.now)))

@@ -1,6 +1,6 @@
 use Rattle.std.proofs.Common.{◌∙◌, arith}
 use Rattle.eel.specs.Answers.MakeBy.{unlined, refused, put}
-use Rattle.eel.specs.Answers.Shared.{store}
+use Rattle.eel.specs.Seen.{files_seen}
 use Rattle.eel.proofs.Later.{put-later, read-later, unread-later}
 use Rattle.eel.proofs.edit.edit_by_script.Goals as goal
 
@@ -8,7 +8,7 @@ pub returns-in-Err-fetch_file-clause-scripts : goal.returns-in-Err-fetch_file-cl
 returns-in-Err-fetch_file-clause-scripts g c =
     unlined c.in-Ok.bytes.items c.in-Ok.ensures.read
     (unread-later _ _ _ _
-    (store (g.F.Files.held c.fetch_file-2.new.files) (g.F.Files.faults c.fetch_file-2.new.files)) _ _ _
+    (files_seen g.F.Files c.fetch_file-2.new.files) _ _ _
     c.fetch_file.ensures.kept c.fetch_file.ensures.later c.in-Err-fetch_file.ensures.unread) (c.fetch_file-2.ensures.kept ∙ c.fetch_file.ensures.kept)
 
 pub returns-in-Ok-scripted-clause-scripts : goal.returns-in-Ok-scripted-clause-scripts

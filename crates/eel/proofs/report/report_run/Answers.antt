@@ -1,6 +1,6 @@
 use Rattle.std.proofs.Common.{refl}
 use Rattle.eel.specs.Answers.Report.{undumped, refused, printed}
-use Rattle.eel.specs.Answers.Shared.{store}
+use Rattle.eel.specs.Seen.{files_seen}
 use Rattle.eel.proofs.Later.{read-later, unread-later}
 use Rattle.eel.proofs.Unreported.{seldom_unreported}
 use Rattle.eel.proofs.report.report_run.Goals as goal
@@ -9,7 +9,7 @@ pub returns-in-Err-fetch_file-clause-reports : goal.returns-in-Err-fetch_file-cl
 returns-in-Err-fetch_file-clause-reports g c = λ feed err.
     undumped c.in-Ok.file.items c.in-Ok.ensures.read
     (unread-later _ _ _ _
-    (store (g.F.Files.held c.fetch_file-2.new.files) (g.F.Files.faults c.fetch_file-2.new.files)) _ _ _
+    (files_seen g.F.Files c.fetch_file-2.new.files) _ _ _
     c.fetch_file.ensures.kept c.fetch_file.ensures.later c.in-Err-fetch_file.ensures.unread) (refl, refl)
 
 pub returns-in-Ok-report_lines-clause-reports : goal.returns-in-Ok-report_lines-clause-reports

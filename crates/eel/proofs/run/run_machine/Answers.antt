@@ -1,4 +1,4 @@
-use Rattle.eel.specs.Outcome.{stream}
+use Rattle.eel.specs.Seen.{stream_seen}
 use Rattle.eel.proofs.Running.{run_comes}
 use Rattle.eel.proofs.run.run_machine.Goals as goal
 
@@ -6,8 +6,6 @@ pub returns-clause-ran : goal.returns-clause-ran
 returns-clause-ran g c =
     rw c.outcome_of.ensures
     (run_comes c.args.machine c.run.new.m c.args.limit c.run.result.steps c.run.result.stop
-    (stream (g.O.Sink.taken c.args.out.now) (g.O.Sink.faults c.args.out.now))
-    (stream (g.O.Sink.taken c.run.new.out) (g.O.Sink.faults c.run.new.out))
-    (stream (g.E.Sink.taken c.args.err.now) (g.E.Sink.faults c.args.err.now))
-    (stream (g.E.Sink.taken c.run.new.err) (g.E.Sink.faults c.run.new.err))
+    (stream_seen g.O.Sink c.args.out.now) (stream_seen g.O.Sink c.run.new.out)
+    (stream_seen g.E.Sink c.args.err.now) (stream_seen g.E.Sink c.run.new.err)
     c.run.ensures.state c.run.ensures.stop c.run.ensures.made c.run.ensures.out c.run.ensures.err c.run.ensures.cause)
