@@ -83,6 +83,8 @@ build_crate() {
         echo "eel: $1 could not be proved; $logs/$1.log says why"
         exit 70
     fi
+    # Of a library that was built of other files nothing may stay: some may be gone.
+    cmp -s "$tree/crates/$1/out/rlib/stamp" "$here/crates/$1/out/rlib/stamp" || rm -rf "$here/crates/$1/out/rlib"
     cp -alf "$tree/crates/$1/out" "$here/crates/$1" || exit 70
     rm -rf "$tree"
     note "$1"

@@ -8,7 +8,7 @@ use Rattle.v8_step.specs.State.{State}
 use Rattle.v8_step.specs.Step.{step_of}
 use Rattle.v8_step.specs.Run.{run}
 use Rattle.v8_step.proofs.Executable.{code_stays}
-use Rattle.v8_step.proofs.Follows.{stays_ended}
+use Rattle.v8_step.proofs.Live.{stays_ended}
 use Rattle.cfg_blocks.specs.Ends.{within}
 use Rattle.cfg_blocks.specs.Blocks.{blocks_of}
 use Rattle.cfg_normal.specs.Opens.{Open}

@@ -3,7 +3,7 @@ use Rattle.std.proofs.Common.{◌≡◌, ◌≢◌, ℕ, zero, suc, ◌+◌, ◌
 use Rattle.std.specs.Prelude.{if◌then◌else◌, ◌==◌, slice_index, ℤ}
 use Rattle.std.specs.Int.{w32, cast_unsigned}
 use Rattle.std.proofs.Math.Seq.{ext_get_or}
-use Rattle.elf32_sparc.specs.Notes.{Notes}
+use Rattle.notes.specs.Format.{Notes}
 use Rattle.v8_decode.specs.declared.AluOp.{AluOp}
 use Rattle.v8_decode.specs.declared.AluOp.TheVariants as ops
 use Rattle.v8_decode.specs.declared.Op2.{Op2}
@@ -32,14 +32,14 @@ use Rattle.v8_step.specs.Traps.{mem_address_not_aligned}
 use Rattle.v8_step.specs.Accesses.{load_size, store_size}
 use Rattle.v8_step.specs.Items.{Item, Register, Codes, YRegister, IsItem, IsAmong, IsSameAt, AreSameAt, IsSameForReading, is_transfer}
 use Rattle.v8_step.specs.Judged.{judged_by, aligned_span}
-use Rattle.v8_step.specs.Alike.{IsSameWorld, AreSameAfter}
-use Rattle.v8_step.specs.Needed.{ReadsIn}
-use Rattle.v8_step.specs.Twins.{AreTwins}
-use Rattle.v8_step.specs.Visits.{pages_of}
-use Rattle.v8_step.proofs.Reading.{same_first, same_rest, same_sum, place_one, no_codes, no_y, ended_alike, same_lengths}
-use Rattle.v8_step.proofs.JudgedAlike.{judged_alike}
+use Rattle.two_runs.specs.Alike.{IsSameWorld, AreSameAfter}
+use Rattle.two_runs.specs.Needed.{ReadsIn}
+use Rattle.two_runs.specs.Twins.{AreTwins}
+use Rattle.two_runs.specs.Visits.{pages_of}
+use Rattle.two_runs.proofs.Reading.{same_first, same_rest, same_sum, place_one, no_codes, no_y, ended_alike, same_lengths}
+use Rattle.two_runs.proofs.JudgedAlike.{judged_alike}
 use Rattle.v8_step.proofs.CopiedMoves.{goes_act}
-use Rattle.v8_step.proofs.Alike.{acts_alike}
+use Rattle.two_runs.proofs.Alike.{acts_alike}
 use Rattle.code_runs.specs.Points.{moved}
 use Rattle.code_runs.specs.PointsAlike.{AreAtOnePoint, AreAlikeOn, PointsActAlike}
 

@@ -1,6 +1,6 @@
 -- Two machines at one point of the original's text.
 use Rattle.std.specs.Prelude.{◌≡◌, ℕ, ◌⊎◌, List, Option, Some, None}
-use Rattle.elf32_sparc.specs.Notes.{Notes}
+use Rattle.notes.specs.Format.{Notes}
 use Rattle.v8_decode.specs.declared.Instr.{Instr}
 use Rattle.v8_decode.specs.Words.{decode_of}
 use Rattle.v8_memory.specs.Spans.{Span, AllApart}
@@ -8,9 +8,9 @@ use Rattle.v8_windows.specs.Registers.{AreRegisters}
 use Rattle.v8_step.specs.State.{State}
 use Rattle.v8_step.specs.Step.{on_word, puts_on_word}
 use Rattle.v8_step.specs.Items.{Item, IsItem, IsSameAt}
-use Rattle.v8_step.specs.Alike.{IsSameWorld}
-use Rattle.v8_step.specs.Needed.{ReadsIn, WritesIn, judged_in}
-use Rattle.v8_step.specs.Visits.{pages_of}
+use Rattle.two_runs.specs.Alike.{IsSameWorld}
+use Rattle.two_runs.specs.Needed.{ReadsIn, WritesIn, judged_in}
+use Rattle.two_runs.specs.Visits.{pages_of}
 
 -- both go on at the same addresses, in the same kind of slot
 pub record AreAtOnePoint (s u : State) : Type 0 where

@@ -4,7 +4,7 @@ use Rattle.std.specs.Prelude.{IsTrue, ℤ}
 use Rattle.std.proofs.lemmas.Bool.{eq-eqb, or_left, or_right}
 use Rattle.std.proofs.lemmas.List.{length-map}
 use Rattle.std.proofs.lemmas.List.Elements.{All-map}
-use Rattle.elf32_sparc.specs.Notes.{NoteEdge, counter_width}
+use Rattle.notes.specs.Format.{NoteEdge, counter_width}
 use Rattle.flows.specs.Flows.{EdgeSet, Graph, rest}
 use Rattle.flows.specs.Links.{JoinsNodes, graph_of, marked}
 use Rattle.flows.specs.Trees.{IsSpanningTree}

@@ -7,7 +7,7 @@ use Rattle.std.proofs.Math.ListN.{get_or-map}
 use Rattle.std.proofs.lemmas.Bool.{and_parts, cond_both, eq-eqb, le-leb, leb-true, or_left, or_right}
 use Rattle.std.proofs.lemmas.List.{length-map}
 use Rattle.std.proofs.lemmas.List.Elements.{All-cons, All-head, All-nil, All-tail}
-use Rattle.elf32_sparc.specs.Notes.{NoteEdge, NoteRange, NoteSegment, Notes, holds, node_at, range_at}
+use Rattle.notes.specs.Format.{NoteEdge, NoteRange, NoteSegment, Notes, holds, node_at, range_at}
 use Rattle.flows.specs.Flows.{EdgeSet, Graph, NodeSet}
 use Rattle.flows.specs.Links.{graph_of, marked}
 use Rattle.flows.specs.Trees.{IsSpanningTree}

@@ -1,7 +1,7 @@
 -- The rebuilt flow as the definitions have it.
 use Rattle.std.proofs.Common.{◌≡◌, ℕ, ◌*◌, ◌<◌, ◌≤◌, true, not, List, length, map, ap, sym, ◌∙◌, subst}
 use Rattle.std.specs.Prelude.{ℤ, IfSome, Option}
-use Rattle.elf32_sparc.specs.Notes.{Notes}
+use Rattle.notes.specs.Format.{Notes}
 use Rattle.flows.specs.Flows.{EdgeSet, Graph, IsTheFlow, rest}
 use Rattle.flows.specs.Links.{graph_of}
 use Rattle.flows.specs.Trees.{on}

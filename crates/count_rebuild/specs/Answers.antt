@@ -1,6 +1,6 @@
 -- What rebuilding answers. Each refusal holds that those before it had no cause.
 use Rattle.std.specs.Prelude.{◌≡◌, ◌≢◌, ◌≤◌, ◌<◌, ◌^◌, ℕ, false, List, length, slice_index, None, ℤ, pos}
-use Rattle.elf32_sparc.specs.Notes.{Notes, node_at}
+use Rattle.notes.specs.Format.{Notes, node_at}
 use Rattle.dump_file.specs.Dump.{Dump}
 use Rattle.count_rebuild.specs.declared.fault.CountFault.{CountFault}
 use Rattle.count_rebuild.specs.declared.fault.CountFault.TheVariants as faults

@@ -1,6 +1,6 @@
 -- How often each edge was completed, by the cells of a dump and where the run stands.
 use Rattle.std.specs.Prelude.{◌≡◌, ℕ, ◌+◌, ◌*◌, ◌<◌, ◌^◌, ◌==◌, nat_le, if◌then◌else◌, Bool, true, false, List, length, slice_index_or, Option, Some, None, ℤ, pos, negsuc}
-use Rattle.elf32_sparc.specs.Notes.{Notes, node_at}
+use Rattle.notes.specs.Format.{Notes, node_at}
 use Rattle.flows.specs.Flows.{IsTheFlow}
 use Rattle.dump_file.specs.Dump.{Dump}
 use Rattle.count_rebuild.specs.Noted.{edge_at, has_cell, noted_graph, IsProfile}

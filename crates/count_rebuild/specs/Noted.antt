@@ -2,7 +2,7 @@
 use Rattle.std.specs.Prelude.{◌≡◌, ℕ, ◌+◌, ◌*◌, ◌<◌, Bool, ◌||◌, ◌==◌, nat_le, List, length, slice_index_or, None}
 use Rattle.std.specs.List.{list_any}
 use Rattle.std.specs.Option.{is_some}
-use Rattle.elf32_sparc.specs.Notes.{NoteEdge, NoteRange, Notes}
+use Rattle.notes.specs.Format.{NoteEdge, NoteRange, Notes}
 use Rattle.flows.specs.Flows.{EdgeSet, Graph, NodeSet, rest}
 use Rattle.flows.specs.Trees.{IsSpanningTree}
 use Rattle.flows.specs.Links.{marked}

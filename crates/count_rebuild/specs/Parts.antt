@@ -1,6 +1,6 @@
 -- What the parts of rebuilding answer.
 use Rattle.std.specs.Prelude.{◌≡◌, ℕ, ◌<◌, List, length, map, ℤ, nat_abs, false}
-use Rattle.elf32_sparc.specs.Notes.{Notes}
+use Rattle.notes.specs.Format.{Notes}
 use Rattle.flows.specs.Flows.{rest}
 use Rattle.flows.specs.Links.{graph_of}
 use Rattle.flows.specs.Trees.{on}

@@ -1,7 +1,7 @@
 //! The graph that notes tell, as lists.
 ghost use Rattle.std.specs.Prelude.{◌≡◌, ◌<◌, ◌+◌, ◌^◌, ◌&&◌, nat_le, nat_lt, length, map, nat_abs, slice_index_or, IfOk};
 ghost use Rattle.std.specs.List.{All, find, list_any};
-ghost use Rattle.elf32_sparc.specs.Notes.{holds, node_at};
+ghost use Rattle.notes.specs.Format.{holds, node_at};
 ghost use Rattle.notes.specs.Seen.{edge_seen, notes_seen, segment_seen};
 ghost use Rattle.count_rebuild.specs.Counts.{cell_value, counter_value};
 ghost use Rattle.count_rebuild.specs.Noted.{is_counted, link_of};

@@ -5,7 +5,7 @@ use Rattle.std.specs.List.{All}
 use Rattle.std.proofs.lemmas.Bool.{leb-true, eq-eqb, eqb-true, false≢true}
 use Rattle.std.proofs.lemmas.List.{length-drop}
 use Rattle.byteorder.specs.Endian.{big_bytes}
-use Rattle.elf32_sparc.specs.Notes.{is_version}
+use Rattle.notes.specs.Format.{is_version}
 use Rattle.v8_step.specs.declared.Ending.{Ending}
 use Rattle.dump_file.specs.Dump.{Dump, IsDump, kind_of, number_of}
 use Rattle.dump_file.specs.Written.{mark, words_bytes, length_words, dump_bytes}

@@ -12,7 +12,7 @@
 --   then   the cells
 use Rattle.std.specs.Prelude.{◌≡◌, ℕ, ◌<◌, ◌^◌, true, List, length, Option, Some, None}
 use Rattle.std.specs.List.{All}
-use Rattle.elf32_sparc.specs.Notes.{is_version}
+use Rattle.notes.specs.Format.{is_version}
 use Rattle.v8_step.specs.declared.Ending.{Ending}
 use Rattle.v8_step.specs.declared.Ending.TheVariants.{Exit, Trap, Window, Couple}
 use Rattle.dump_file.specs.declared.dump.Dump as declared

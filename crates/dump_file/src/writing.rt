@@ -3,7 +3,7 @@ ghost use Rattle.std.specs.Prelude.{◌≡◌, ◌++◌, ◌<◌, ◌^◌, true,
 ghost use Rattle.byteorder.specs.Endian.{big_bytes};
 ghost use Rattle.dump_file.specs.Dump.{dump_seen, kind_of, number_of};
 ghost use Rattle.dump_file.specs.Written.{words_bytes, dump_bytes, length_words};
-ghost use Rattle.elf32_sparc.specs.Notes.{is_version};
+ghost use Rattle.notes.specs.Format.{is_version};
 
 use crate::dump::Dump;
 use byteorder::{BigEndian, ByteOrder};

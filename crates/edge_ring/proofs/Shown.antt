@@ -2,7 +2,7 @@
 use Rattle.std.proofs.Common.{◌≡◌, ℕ, List, [], ◌∷◌, ◌++◌, map, refl, ap, ◌∙◌}
 use Rattle.std.specs.List.{flat_map}
 use Rattle.eel_base.specs.declared.numbers.EdgeNo.{EdgeNo}
-use Rattle.elf32_sparc.specs.Notes.{Notes}
+use Rattle.notes.specs.Format.{Notes}
 use Rattle.edge_ring.specs.Lines.{edge_line, ring_line, ring_lines}
 use Rattle.edge_ring.proofs.Entries.{number}
 

@@ -1,7 +1,7 @@
 -- What snippets make of a ring, and what it tells of a run.
 use Rattle.std.specs.Prelude.{◌≡◌, ℕ, ◌+◌, ◌^◌, ◌<◌, ◌≤◌, List, [], ◌∷◌, ◌++◌, length, replicate, None}
 use Rattle.std.specs.List.{All}
-use Rattle.elf32_sparc.specs.Notes.{Notes, node_at}
+use Rattle.notes.specs.Format.{Notes, node_at}
 use Rattle.snippets.specs.Cells.{WorksBelow, update}
 use Rattle.dump_file.specs.Dump.{Dump}
 use Rattle.edge_ring.specs.declared.fault.RingFault.{RingFault}

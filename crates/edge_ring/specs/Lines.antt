@@ -1,7 +1,7 @@
 -- The lines that show the last edges.
 use Rattle.std.specs.Prelude.{ℕ, ◌-◌, List, [], ◌∷◌, ◌++◌, length, codes, decimal}
 use Rattle.std.specs.List.{flat_map}
-use Rattle.elf32_sparc.specs.Notes.{NoteEdge, Notes}
+use Rattle.notes.specs.Format.{NoteEdge, Notes}
 use Rattle.count_rebuild.specs.Noted.{edge_at}
 use Rattle.show_text.specs.CountLines.{kind_of, noted_node_text}
 use Rattle.show_text.specs.Lines.{kind_text, line}

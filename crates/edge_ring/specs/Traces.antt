@@ -1,7 +1,7 @@
 -- Which notes are those of a trace, and which dumps are of a run of its file.
 use Rattle.std.specs.Prelude.{◌≡◌, ℕ, ◌+◌, ◌^◌, ◌≤◌, nat_lt, length, drop, Option, Some, None}
 use Rattle.std.specs.List.{position}
-use Rattle.elf32_sparc.specs.Notes.{Notes, node_at}
+use Rattle.notes.specs.Format.{Notes, node_at}
 use Rattle.dump_file.specs.Dump.{Dump}
 
 -- notes of a trace: behind the count its ring has 2 to 2^16 places, a power of 2

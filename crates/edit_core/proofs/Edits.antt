@@ -8,7 +8,7 @@ use Rattle.byteorder.specs.Endian.{big_bytes}
 use Rattle.eel_base.specs.CodeText.{IsText, Words}
 use Rattle.elf32_sparc.specs.FileFault.{fault}
 use Rattle.elf32_sparc.specs.Image.{image_of, highest_end}
-use Rattle.elf32_sparc.specs.Notes.{Notes}
+use Rattle.notes.specs.Format.{Notes}
 use Rattle.elf32_sparc.proofs.Images.{accepted-program}
 use Rattle.notes.specs.Rules.{AreNotes}
 use Rattle.notes.specs.Written.{notes_bytes, notes_words, words_bytes as note_bytes}

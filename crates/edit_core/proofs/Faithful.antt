@@ -8,7 +8,7 @@ use Rattle.std.proofs.lemmas.Option.{slice_get_within, get_or_from_slice_get}
 use Rattle.eel_base.specs.CodeText.{IsText, Words, address_of, word_at}
 use Rattle.elf32_sparc.specs.Image.{image_of}
 use Rattle.elf32_sparc.specs.Mapping.{Mapping, mappings}
-use Rattle.elf32_sparc.specs.Notes.{NoteRange, NoteSegment, Notes}
+use Rattle.notes.specs.Format.{NoteRange, NoteSegment, Notes}
 use Rattle.v8_decode.specs.declared.Part.{Part}
 use Rattle.elf32_write.specs.Headers.{AddedSegment}
 use Rattle.elf32_write.specs.Laws.{AreBytes, kept, mapping_added}

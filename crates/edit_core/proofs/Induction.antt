@@ -1,7 +1,7 @@
 -- The induction over the steps of the original.
 use Rattle.std.proofs.Common.{◌≡◌, ◌≢◌, ℕ, zero, suc, ◌+◌, ◌-◌, ◌<◌, ◌≤◌, ◌⊎◌, inl, inr, Option, Some, None, List, ◌++◌, append-nil, refl, ap, sym, ◌∙◌, subst, arith}
 use Rattle.eel_base.specs.CodeText.{word_at}
-use Rattle.elf32_sparc.specs.Notes.{node_at, range_at}
+use Rattle.notes.specs.Format.{node_at, range_at}
 use Rattle.v8_decode.specs.declared.Instr.{Instr}
 use Rattle.v8_memory.specs.Regions.{Memory, Region, fetch_of}
 use Rattle.v8_memory.specs.Spans.{Span, AllApart, IsSameOutside, IsSameRegion}
@@ -11,7 +11,7 @@ use Rattle.v8_step.specs.State.{State, sum_of}
 use Rattle.v8_step.specs.Step.{step_of, puts_of, on_word, puts_on_word, unless_ended, puts_unless_ended}
 use Rattle.v8_step.specs.Run.{run, run_puts}
 use Rattle.v8_step.specs.Items.{AreSameAt, IsAmong, Item, Register, Codes, YRegister, IsItem, IsSameAt}
-use Rattle.v8_step.proofs.Reading.{same_sum}
+use Rattle.two_runs.proofs.Reading.{same_sum}
 use Rattle.v8_windows.specs.Registers.{place_of}
 use Rattle.v8_windows.proofs.Places.{place_of-below, place_of-some}
 use Rattle.v8_decode.specs.Effects.{op2_parts, reg}
@@ -21,14 +21,14 @@ use Rattle.v8_decode.specs.declared.Instr.TheVariants as i
 use Rattle.v8_decode.specs.declared.LoadKind.TheVariants as loads
 use Rattle.std.specs.Option.{option_map}
 use Rattle.std.specs.Prelude.{slice_get, slice_index}
-use Rattle.v8_step.specs.Alike.{IsSameWorld}
-use Rattle.v8_step.specs.Needed.{ReadsIn, decoded, instr_at, judged_in, WritesIn, IsUntouched}
-use Rattle.v8_step.specs.Visits.{visit_of, pages_of}
-use Rattle.v8_step.specs.TwoRuns.{HasSameOutside, GoesOn, Ends, MatchesBy, Matches}
-use Rattle.v8_step.specs.Follows.{IsWay}
+use Rattle.two_runs.specs.Alike.{IsSameWorld}
+use Rattle.two_runs.specs.Needed.{ReadsIn, decoded, instr_at, judged_in, WritesIn, IsUntouched}
+use Rattle.two_runs.specs.Visits.{visit_of, pages_of}
+use Rattle.two_runs.specs.TwoRuns.{HasSameOutside, GoesOn, Ends, MatchesBy, Matches}
+use Rattle.two_runs.specs.Follows.{IsWay}
 use Rattle.v8_step.proofs.Executable.{code_stays}
-use Rattle.v8_step.proofs.Follows.{stays_ended, puts_nothing}
-use Rattle.v8_step.proofs.Outside.{byte_outside, heap_end_same}
+use Rattle.v8_step.proofs.Live.{stays_ended, puts_nothing}
+use Rattle.two_runs.proofs.Outside.{byte_outside, heap_end_same}
 use Rattle.v8_step.proofs.ValidSteps.{run-valid}
 use Rattle.cfg_normal.specs.declared.Node.{Node}
 use Rattle.cfg_walk.specs.Walk.{Point, point_of, goes_on_at, gone, gone_in, node_after, end_of_walk, unless_ended as point_unless}

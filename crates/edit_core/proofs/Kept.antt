@@ -11,7 +11,7 @@ use Rattle.v8_windows.specs.Registers.{place_of}
 use Rattle.v8_windows.proofs.Places.{place_of-below}
 use Rattle.v8_step.specs.State.{State, register_of}
 use Rattle.v8_step.specs.Items.{IsAmong, IsItem, IsSameAt, Item, Register, item_of}
-use Rattle.v8_step.specs.Needed.{WritesIn}
+use Rattle.two_runs.specs.Needed.{WritesIn}
 use Rattle.v8_step.specs.Run.{run}
 use Rattle.cfg_walk.specs.Walk.{end_of_walk, goes_on_at, gone_in, point_of}
 use Rattle.liveness.specs.Live.{IsLiveOn, named_on}

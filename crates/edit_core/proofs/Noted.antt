@@ -9,7 +9,7 @@ use Rattle.byteorder.specs.Endian.{big_bytes}
 use Rattle.byteorder.specs.Numbers.{length-bytes_high_first}
 use Rattle.elf32_write.proofs.WordsBytes.{length-flat_map}
 use Rattle.eel_base.specs.CodeText.{Words, IsText, address_of}
-use Rattle.elf32_sparc.specs.Notes.{Notes, NoteRange, NoteSegment, follows, holds, is_version, last_tool, most_cells}
+use Rattle.notes.specs.Format.{Notes, NoteRange, NoteSegment, follows, holds, is_version, last_tool, most_cells}
 use Rattle.notes.specs.Rules.{AreNotes, are_segments, are_blocks, are_edges, are_ranges, is_edge, is_free, with_cell}
 use Rattle.notes.specs.Laws.{AreWords}
 use Rattle.notes.specs.Written.{words_bytes, notes_bytes, notes_words, segment_words, edge_words, range_words, cell_word}

@@ -19,7 +19,7 @@ use Rattle.v8_process.specs.Start.{start_memory, stack_region}
 use Rattle.code_runs.specs.Ours.{AreOwn, HasNot, HasWordAt, IsAmongWords, IsIn, IsOurs}
 use Rattle.code_runs.specs.Page.{page_word}
 use Rattle.code_runs.specs.StoredWords.{memory_word, word_in}
-use Rattle.elf32_sparc.specs.Notes.{Notes, NoteSegment}
+use Rattle.notes.specs.Format.{Notes, NoteSegment}
 use Rattle.addr_translate.specs.Halves.{halves_size}
 use Rattle.addr_translate.specs.Lookup.{TableAt}
 use Rattle.addr_translate.specs.Translator.{StandsAt}
@@ -27,7 +27,7 @@ use Rattle.addr_translate.proofs.Regions.{regions_stand}
 use Rattle.layout.specs.Laid.{Placement}
 use Rattle.image_code.specs.Simulates.{Setting}
 use Rattle.image_code.specs.Images.{Frame, HasTable, IsFramed, IsTableIn}
-use Rattle.v8_step.specs.Visits.{pages_of}
+use Rattle.two_runs.specs.Visits.{pages_of}
 use Rattle.snippet_code.specs.Cells.{cell_at}
 use Rattle.tool_kit.specs.Plans.{Plan}
 use Rattle.edit_core.specs.Faithful.{editor_page, page_size}

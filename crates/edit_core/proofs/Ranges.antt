@@ -6,7 +6,7 @@ use Rattle.std.proofs.lemmas.Bool.{and_from, le-leb, le-ltb, lt-ltb, eq-eqb}
 use Rattle.std.proofs.lemmas.Option.{slice_get_within}
 use Rattle.eel_base.specs.CodeText.{Words, IsText}
 use Rattle.eel_base.specs.declared.numbers.Addr.{Addr}
-use Rattle.elf32_sparc.specs.Notes.{NoteSegment, NoteRange, holds}
+use Rattle.notes.specs.Format.{NoteSegment, NoteRange, holds}
 use Rattle.notes.specs.Rules.{are_ranges}
 use Rattle.cfg_blocks.specs.Blocks.{below}
 use Rattle.cfg_normal.specs.Graph.{Graph}

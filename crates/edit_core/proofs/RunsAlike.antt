@@ -9,7 +9,7 @@ use Rattle.std.proofs.Math.Seq.{ext_get_or}
 use Rattle.std.proofs.lemmas.List.{get_or-replicate, length-replicate}
 use Rattle.std.proofs.lemmas.List.FromFn.{get_or-map-range_with_len, length-map-range_with_len}
 use Rattle.std.proofs.lemmas.Simd.{map-map}
-use Rattle.elf32_sparc.specs.Notes.{NoteRange, NoteSegment, Notes, holds, range_at}
+use Rattle.notes.specs.Format.{NoteRange, NoteSegment, Notes, holds, range_at}
 use Rattle.elf32_sparc.specs.Image.{image_of}
 use Rattle.eel_base.specs.CodeText.{IsText, Words, word_at}
 use Rattle.eel_base.specs.declared.numbers.Addr.{Addr}
@@ -20,9 +20,9 @@ use Rattle.v8_step.specs.State.{State}
 use Rattle.v8_step.specs.Run.{run}
 use Rattle.v8_step.specs.declared.Slot.TheVariants.{NoSlot}
 use Rattle.v8_step.specs.Items.{IsSameAt, Item, Register, Codes, YRegister}
-use Rattle.v8_step.specs.Needed.{IsUntouched}
+use Rattle.two_runs.specs.Needed.{IsUntouched}
 use Rattle.v8_step.specs.Valid.{AreBytes}
-use Rattle.v8_step.specs.Visits.{in_pages, pages_of}
+use Rattle.two_runs.specs.Visits.{in_pages, pages_of}
 use Rattle.v8_process.specs.Arguments.{AreArguments}
 use Rattle.v8_process.specs.Start.{program_name, start_of}
 use Rattle.cfg_blocks.specs.Blocks.{below, blocks_of, is_among}

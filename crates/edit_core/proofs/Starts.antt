@@ -11,7 +11,7 @@ use Rattle.elf32_write.specs.Headers.{not_executable}
 use Rattle.elf32_write.specs.Laws.{is_code, kept, mapping_added}
 use Rattle.v8_memory.specs.Spans.{IsSameOutside, Span}
 use Rattle.v8_step.specs.Valid.{AreBytes, IsValid}
-use Rattle.v8_step.specs.Visits.{pages_of}
+use Rattle.two_runs.specs.Visits.{pages_of}
 use Rattle.v8_process.specs.Alike.{AreSameMappings, IsSameMapping, span_of}
 use Rattle.v8_process.specs.Arguments.{AreArguments}
 use Rattle.v8_process.specs.Start.{start_memory, start_of}
@@ -25,7 +25,7 @@ use Rattle.tool_kit.specs.Plans.{Plan}
 use Rattle.edit_core.specs.Written.{IsEdit, added, cells_at, cells_base, code_base, code_segment, if_any, notes_on, graph_in, page_segment, segment_size, table_at, table_base, text_of}
 use Rattle.edit_core.proofs.Steps.{segment_is}
 use Rattle.edit_core.proofs.Fronts.{any-map}
-use Rattle.elf32_sparc.specs.Notes.{NoteSegment}
+use Rattle.notes.specs.Format.{NoteSegment}
 
 -- ---- valid states
 

@@ -1,7 +1,7 @@
 -- Whole runs.
 use Rattle.std.proofs.Common.{◌≡◌, ℕ, suc, ◌≤◌, subst, arith}
-use Rattle.v8_step.specs.TwoRuns.{Answers, IsLeast}
-use Rattle.v8_step.proofs.Follows.{runs_follow}
+use Rattle.two_runs.specs.TwoRuns.{Answers, IsLeast}
+use Rattle.two_runs.proofs.Follows.{runs_follow}
 use Rattle.image_code.specs.Images.{Here}
 use Rattle.image_code.specs.Outside.{IsOpen}
 use Rattle.layout.specs.Laid.{HasShortForms}

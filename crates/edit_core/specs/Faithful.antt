@@ -8,7 +8,7 @@ use Rattle.elf32_sparc.specs.FileFault.{load_fault}
 use Rattle.elf32_sparc.specs.Header.{has_flag}
 use Rattle.elf32_sparc.specs.Mapping.{Mapping, mappings}
 use Rattle.elf32_sparc.specs.Image.{image_of}
-use Rattle.elf32_sparc.specs.Notes.{Notes, NoteEdge, NoteSegment, NoteRange, notes_of}
+use Rattle.notes.specs.Format.{Notes, NoteEdge, NoteSegment, NoteRange, notes_of}
 use Rattle.elf32_write.specs.Laws.{kept}
 use Rattle.v8_decode.specs.declared.Part.{Part}
 use Rattle.v8_decode.specs.Words.{decode_of}

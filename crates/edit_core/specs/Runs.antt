@@ -1,17 +1,17 @@
 -- What a run of a written file rests on, and what follows for it as a whole.
 use Rattle.std.specs.Prelude.{◌≡◌, ◌≢◌, ℕ, zero, suc, ◌+◌, ◌-◌, ◌<◌, ◌≤◌, ◌⊎◌, List, Option, Some, None, slice_get, slice_index}
 use Rattle.eel_base.specs.CodeText.{IsText, address_of}
-use Rattle.elf32_sparc.specs.Notes.{NoteRange, node_at, range_at}
+use Rattle.notes.specs.Format.{NoteRange, node_at, range_at}
 use Rattle.v8_decode.specs.declared.Instr.{Instr}
 use Rattle.v8_step.specs.declared.Ending.{Ending}
 use Rattle.v8_step.specs.State.{State, sum_of}
 use Rattle.v8_step.specs.Run.{run, run_puts}
 use Rattle.v8_step.specs.Items.{Item, IsItem, IsSameAt}
-use Rattle.v8_step.specs.Alike.{IsSameWorld}
-use Rattle.v8_step.specs.Needed.{ReadsIn, WritesIn, IsNeeded}
+use Rattle.two_runs.specs.Alike.{IsSameWorld}
+use Rattle.two_runs.specs.Needed.{ReadsIn, WritesIn, IsNeeded}
 use Rattle.v8_step.specs.Valid.{IsValid}
-use Rattle.v8_step.specs.Visits.{visit_of, pages_of}
-use Rattle.v8_step.specs.Follows.{IsFollowed}
+use Rattle.two_runs.specs.Visits.{visit_of, pages_of}
+use Rattle.two_runs.specs.Follows.{IsFollowed}
 use Rattle.cfg_normal.specs.declared.Node.{Node}
 use Rattle.code_runs.specs.PointsAlike.{instr_of}
 use Rattle.cfg_walk.specs.Walk.{Point, point_of, end_of_walk, gone_in}

@@ -1,14 +1,14 @@
 -- What a run of a written file has to do with the run of its original, with the same arguments and input.
 use Rattle.std.specs.Prelude.{◌≡◌, ◌≢◌, ℕ, suc, ◌-◌, ◌*◌, ◌^◌, ◌<◌, ◌≤◌, List, length, map, Some, None}
 use Rattle.elf32_sparc.specs.Image.{image_of}
-use Rattle.elf32_sparc.specs.Notes.{NoteRange, Notes, node_at, range_at}
+use Rattle.notes.specs.Format.{NoteRange, Notes, node_at, range_at}
 use Rattle.v8_decode.specs.declared.Part.{Part}
 use Rattle.v8_step.specs.State.{State}
 use Rattle.v8_step.specs.Run.{run}
-use Rattle.v8_step.specs.Needed.{IsUntouched}
-use Rattle.v8_step.specs.TwoRuns.{Answers, IsLeast, IsBounded}
+use Rattle.two_runs.specs.Needed.{IsUntouched}
+use Rattle.two_runs.specs.TwoRuns.{Answers, IsLeast, IsBounded}
 use Rattle.v8_step.specs.Valid.{AreBytes}
-use Rattle.v8_step.specs.Visits.{pages_of, trail_of}
+use Rattle.two_runs.specs.Visits.{pages_of, trail_of}
 use Rattle.v8_process.specs.Arguments.{AreArguments}
 use Rattle.v8_process.specs.Start.{start_of}
 use Rattle.cfg_normal.specs.Opens.{Open}

@@ -4,9 +4,9 @@ use Rattle.eel_base.specs.CodeText.{IsText}
 use Rattle.v8_step.specs.State.{State}
 use Rattle.v8_step.specs.Run.{run}
 use Rattle.v8_step.specs.Items.{Item}
-use Rattle.v8_step.specs.Needed.{IsUntouched}
-use Rattle.v8_step.specs.Visits.{pages_of}
-use Rattle.v8_step.specs.TwoRuns.{Answers, IsLeast, IsBounded}
+use Rattle.two_runs.specs.Needed.{IsUntouched}
+use Rattle.two_runs.specs.Visits.{pages_of}
+use Rattle.two_runs.specs.TwoRuns.{Answers, IsLeast, IsBounded}
 use Rattle.cfg_blocks.specs.Blocks.{blocks_of}
 use Rattle.cfg_walk.specs.Matches.{AreOpen, BeginsAt, FetchesOnly, JumpsGoByCase}
 use Rattle.snippets.specs.Grammar.{IsOp}

@@ -10,7 +10,7 @@ use Rattle.elf32_sparc.specs.Header.{e_entry}
 use Rattle.elf32_sparc.specs.FileFault.{load_fault}
 use Rattle.elf32_sparc.specs.Mapping.{mappings}
 use Rattle.elf32_sparc.specs.Image.{Program, image_of}
-use Rattle.elf32_sparc.specs.Notes.{Notes, NoteSegment, NoteRange, notes_of}
+use Rattle.notes.specs.Format.{Notes, NoteSegment, NoteRange, notes_of}
 use Rattle.v8_decode.specs.declared.Part.{Part}
 use Rattle.notes.specs.Written.{notes_bytes}
 use Rattle.elf32_write.specs.Bytes.{words_bytes}

@@ -12,7 +12,7 @@ use Rattle.elf32_sparc.specs.Header.{end_of, has_flag, loadable, program_headers
 use Rattle.elf32_sparc.specs.FileFault.{descends_from, has_disorder, has_memory_outside_a_run, is_last_page, leaves_room, load_fault}
 use Rattle.elf32_sparc.specs.Mapping.{mapping_of, mappings}
 use Rattle.elf32_sparc.specs.Image.{segment_of}
-use Rattle.elf32_sparc.specs.Notes.{Notes}
+use Rattle.notes.specs.Format.{Notes}
 use Rattle.elf32_sparc.proofs.Loadable.{loadable_file}
 use Rattle.v8_decode.specs.declared.Instr.{Instr}
 use Rattle.v8_decode.specs.Words.{decode_of}

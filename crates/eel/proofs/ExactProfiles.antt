@@ -2,7 +2,7 @@
 use Rattle.std.proofs.Common.{◌≡◌, ℕ, ◌-◌, List, [], refl, ap, sym, ◌∙◌, subst, arith}
 use Rattle.std.specs.Prelude.{Option, None, Result, Ok, Err}
 use Rattle.std.proofs.lemmas.List.{get_or-map, length-map}
-use Rattle.elf32_sparc.specs.Notes.{NoNotes, Notes, notes_of}
+use Rattle.notes.specs.Format.{NoNotes, Notes, notes_of}
 use Rattle.v8_step.specs.Valid.{AreBytes}
 use Rattle.cfg_normal.specs.Graph.{Graph}
 use Rattle.dump_file.specs.Dump.{Dump}

@@ -7,12 +7,12 @@ use Rattle.std.proofs.lemmas.Bool.{and_left, and_right, le-ltb}
 use Rattle.eel_base.specs.CodeText.{Words, address_of}
 use Rattle.elf32_sparc.specs.FileFault.{fault}
 use Rattle.elf32_sparc.specs.Image.{image_of}
-use Rattle.elf32_sparc.specs.Notes.{NoteEdge, NoteRange, Notes, holds, node_at, notes_of, range_at}
+use Rattle.notes.specs.Format.{NoteEdge, NoteRange, Notes, holds, node_at, notes_of, range_at}
 use Rattle.flows.specs.Flows.{weight_below}
 use Rattle.flows.specs.Walks.{times}
 use Rattle.v8_step.specs.State.{State}
 use Rattle.v8_step.specs.Run.{run}
-use Rattle.v8_step.specs.Visits.{own_trail}
+use Rattle.two_runs.specs.Visits.{own_trail}
 use Rattle.v8_process.specs.Start.{start_of}
 use Rattle.cfg_blocks.specs.declared.EdgeKind.{EdgeKind}
 use Rattle.cfg_blocks.specs.declared.EdgeKind.TheVariants as kinds

@@ -5,14 +5,14 @@ use Rattle.std.specs.List.{All}
 use Rattle.std.proofs.lemmas.List.Elements.{All-weaker}
 use Rattle.std.proofs.lemmas.List.FromFn.{get_or-map-range_with_len, length-map-range_with_len}
 use Rattle.elf32_sparc.specs.Image.{image_of}
-use Rattle.elf32_sparc.specs.Notes.{NoteEdge, Notes, node_at, notes_of}
+use Rattle.notes.specs.Format.{NoteEdge, Notes, node_at, notes_of}
 use Rattle.v8_decode.specs.declared.Part.{Part}
 use Rattle.v8_step.specs.declared.Ending.{Ending}
 use Rattle.v8_step.specs.State.{State}
 use Rattle.v8_step.specs.Run.{run}
-use Rattle.v8_step.specs.Needed.{IsUntouched}
+use Rattle.two_runs.specs.Needed.{IsUntouched}
 use Rattle.v8_step.specs.Valid.{AreBytes}
-use Rattle.v8_step.specs.Visits.{pages_of}
+use Rattle.two_runs.specs.Visits.{pages_of}
 use Rattle.v8_process.specs.Arguments.{AreArguments}
 use Rattle.v8_process.specs.Start.{start_of}
 use Rattle.snippets.specs.declared.snippet.Op.{Op}

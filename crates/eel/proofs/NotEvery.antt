@@ -2,7 +2,7 @@
 -- memory.
 use Rattle.std.proofs.Common.{◌≡◌, ℕ, List}
 use Rattle.std.specs.Prelude.{Ok}
-use Rattle.elf32_sparc.specs.Notes.{Notes, notes_of}
+use Rattle.notes.specs.Format.{Notes, notes_of}
 use Rattle.dump_file.specs.Dump.{Dump}
 use Rattle.eel.specs.Outcome.{Outcome, NotEveryWord, NoProfile, NoCounts, OutOfMemory}
 use Rattle.eel.specs.Answers.Counts.{IsOfRun, IsUncounted, MayMiss}

@@ -2,7 +2,7 @@
 use Rattle.std.proofs.Common.{◌≡◌, ℕ, ◌⊎◌, inl, inr, List, ap, ◌∙◌}
 use Rattle.std.specs.Prelude.{Ok}
 use Rattle.eel_base.specs.Outside.{IsMissing, Rose, appended}
-use Rattle.elf32_sparc.specs.Notes.{Notes, notes_of}
+use Rattle.notes.specs.Format.{Notes, notes_of}
 use Rattle.dump_file.specs.Dump.{Dump}
 use Rattle.eel.specs.declared.report.Report.{Report}
 use Rattle.eel.specs.declared.report.Report.TheVariants as reports

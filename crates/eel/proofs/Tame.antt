@@ -8,14 +8,14 @@ use Rattle.std.proofs.lemmas.List.Folds.{list_any-append}
 use Rattle.elf32_sparc.specs.FileFault.{load_fault}
 use Rattle.elf32_sparc.specs.Image.{image_of}
 use Rattle.elf32_sparc.specs.Mapping.{Mapping, mappings}
-use Rattle.elf32_sparc.specs.Notes.{Notes, NoteSegment, notes_of}
+use Rattle.notes.specs.Format.{Notes, NoteSegment, notes_of}
 use Rattle.elf32_write.specs.Laws.{kept}
 use Rattle.v8_step.specs.declared.Ending.{Ending}
 use Rattle.v8_step.specs.State.{State}
 use Rattle.v8_step.specs.Machine.{FailsAt}
 use Rattle.v8_step.specs.Run.{run}
-use Rattle.v8_step.specs.Needed.{IsUntouched}
-use Rattle.v8_step.specs.Visits.{page_of, pages_of}
+use Rattle.two_runs.specs.Needed.{IsUntouched}
+use Rattle.two_runs.specs.Visits.{page_of, pages_of}
 use Rattle.v8_process.specs.Arguments.{AreArguments}
 use Rattle.v8_runner.specs.Runs.{AreMade}
 use Rattle.cfg_normal.specs.Graph.{Graph}

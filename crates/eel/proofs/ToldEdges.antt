@@ -2,7 +2,7 @@
 -- and for want of memory.
 use Rattle.std.proofs.Common.{◌≡◌, ℕ, List, sym, subst}
 use Rattle.std.specs.Prelude.{Ok}
-use Rattle.elf32_sparc.specs.Notes.{Notes, notes_of}
+use Rattle.notes.specs.Format.{Notes, notes_of}
 use Rattle.dump_file.specs.Dump.{Dump}
 use Rattle.edge_ring.specs.declared.fault.RingFault.{RingFault}
 use Rattle.edge_ring.specs.declared.fault.RingFault.TheVariants as faults

@@ -1,7 +1,7 @@
 -- What is told of a run is refused seldom, and each refusal has a status of its own.
 use Rattle.std.proofs.Common.{◌≡◌, ℕ, inl, inr, List, ap, sym, ◌∙◌, subst, lit≤}
 use Rattle.std.specs.Prelude.{Result, Ok, Err}
-use Rattle.elf32_sparc.specs.Notes.{Notes}
+use Rattle.notes.specs.Format.{Notes}
 use Rattle.dump_file.specs.Dump.{Dump}
 use Rattle.dump_file.specs.Reading.{read_dump}
 use Rattle.eel.specs.declared.report.Report.{Report}

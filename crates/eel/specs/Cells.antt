@@ -2,7 +2,7 @@
 use Rattle.std.specs.Prelude.{ℕ, ◌+◌, ◌*◌, ◌<◌, Bool, ◌&&◌, nat_le}
 use Rattle.elf32_sparc.specs.declared.program.Segment.{Segment}
 use Rattle.elf32_sparc.specs.Header.{has_flag}
-use Rattle.elf32_sparc.specs.Notes.{Notes}
+use Rattle.notes.specs.Format.{Notes}
 use Rattle.v8_memory.specs.Regions.{Memory}
 use Rattle.v8_step.specs.State.{State}
 use Rattle.v8_step.specs.Run.{run}

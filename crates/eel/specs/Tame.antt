@@ -2,12 +2,12 @@
 use Rattle.std.specs.Prelude.{◌≡◌, ◌≢◌, ℕ, ◌+◌, ◌*◌, ◌^◌, ◌<◌, ◌≤◌, List, [], ◌∷◌, length, None, Ok}
 use Rattle.elf32_sparc.specs.FileFault.{fault, load_fault}
 use Rattle.elf32_sparc.specs.Image.{image_of}
-use Rattle.elf32_sparc.specs.Notes.{Notes, notes_of}
+use Rattle.notes.specs.Format.{Notes, notes_of}
 use Rattle.v8_memory.specs.Spans.{Span}
 use Rattle.v8_step.specs.declared.Ending.{Ending}
 use Rattle.v8_step.specs.State.{State}
 use Rattle.v8_step.specs.Run.{run}
-use Rattle.v8_step.specs.Needed.{IsUntouched}
+use Rattle.two_runs.specs.Needed.{IsUntouched}
 use Rattle.v8_step.specs.Valid.{AreBytes}
 use Rattle.v8_runner.specs.Runs.{AreMade}
 use Rattle.dump_file.specs.Dump.{Dump}

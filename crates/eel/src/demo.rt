@@ -1,7 +1,7 @@
 //! The command `demo`.
 ghost use Rattle.std.specs.Prelude.{◌≡◌, ◌≢◌, ◌≤◌, ◌<◌, ◌++◌, ◌^◌, ℕ, IfOk, OnOk, None, Some, length};
 ghost use Rattle.elf32_sparc.specs.FileFault.{fault, load_fault};
-ghost use Rattle.elf32_sparc.specs.Notes.{notes_of};
+ghost use Rattle.notes.specs.Format.{notes_of};
 ghost use Rattle.v8_step.specs.Run.{run as run_of};
 ghost use Rattle.v8_step.specs.declared.Ending.{Ending as EndingSeen};
 ghost use Rattle.v8_runner.specs.Runs.{AreMade};

@@ -1,6 +1,6 @@
 //! The notes of written files, and dumps of their runs.
 ghost use Rattle.std.specs.Prelude.{◌≡◌, ◌≤◌, ◌+◌, ◌<◌, ◌^◌, IfOk, IfErr, Ok, length};
-ghost use Rattle.elf32_sparc.specs.Notes.{notes_of};
+ghost use Rattle.notes.specs.Format.{notes_of};
 ghost use Rattle.notes.specs.Rules.{AreNotes};
 ghost use Rattle.notes.specs.Seen.{notes_seen};
 ghost use Rattle.dump_file.specs.Dump.{dump_seen};

@@ -10,4 +10,3 @@ pub mod Images
 pub mod Functions
 pub mod Tables
 pub mod ThreeWords
-pub mod EditedThreeWords

@@ -4,4 +4,3 @@ pub mod Survey
 pub mod Mapping
 pub mod Symbols
 pub mod Image
-pub mod Notes

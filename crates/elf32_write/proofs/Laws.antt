@@ -1,7 +1,7 @@
 -- What is true of every written file.
 use Rattle.std.proofs.Common.{◌≡◌, ℕ, ◌+◌, ◌≤◌, true, false, nat_lt, List, length, take, drop, refl, arith}
 use Rattle.std.proofs.lemmas.Bool.{le-ltb}
-use Rattle.elf32_sparc.specs.Notes.{has_locator, notes_version, notes_offset, notes_length, notes_of, read_notes}
+use Rattle.notes.specs.Format.{has_locator, notes_version, notes_offset, notes_length, notes_of, read_notes}
 use Rattle.elf32_write.specs.Written.{delta_in, original_end, notes_at, written}
 use Rattle.elf32_write.specs.Laws.{OriginalIsHeld, NotesAreRead, EntryIsGiven, SizeIsBounded}
 use Rattle.elf32_write.proofs.Part.{take_part, length_part}

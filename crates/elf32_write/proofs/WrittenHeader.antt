@@ -8,7 +8,7 @@ use Rattle.byteorder.specs.Numbers.{big_from-take, length-bytes_high_first}
 use Rattle.elf32_sparc.specs.declared.header.ProgramHeader.{ProgramHeader}
 use Rattle.elf32_sparc.specs.Header as elf
 use Rattle.elf32_sparc.specs.Header.{word_at, half_at, ei_magic, ei_class, ei_data, ei_version, e_type, e_machine, e_version, e_entry, e_phoff, e_ehsize, e_phentsize, e_phnum, headers_from, program_headers}
-use Rattle.elf32_sparc.specs.Notes.{has_locator, notes_version, notes_offset, notes_length}
+use Rattle.notes.specs.Format.{has_locator, notes_version, notes_offset, notes_length}
 use Rattle.elf32_sparc.specs.Symbols.{section_count}
 use Rattle.elf32_sparc.proofs.Accepted.{accepted}
 use Rattle.elf32_sparc.proofs.Tables.{whole_header}

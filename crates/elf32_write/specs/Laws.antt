@@ -4,7 +4,7 @@ use Rattle.std.specs.List.{All, sum_by}
 use Rattle.elf32_sparc.specs.Header.{e_entry, has_flag}
 use Rattle.elf32_sparc.specs.FileFault.{load_fault}
 use Rattle.elf32_sparc.specs.Mapping.{Mapping, mappings}
-use Rattle.elf32_sparc.specs.Notes.{notes_of, read_notes}
+use Rattle.notes.specs.Format.{notes_of, read_notes}
 use Rattle.elf32_write.specs.Headers.{AddedSegment, not_executable}
 use Rattle.elf32_write.specs.Written.{delta_in, written}
 use Rattle.elf32_write.specs.Conditions.{CanWrite, AreNumbers, CanLoad}

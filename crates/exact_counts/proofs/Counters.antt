@@ -4,7 +4,7 @@ use Rattle.std.specs.Prelude.{◌==◌}
 use Rattle.std.specs.List.{All}
 use Rattle.std.proofs.lemmas.Bool.{cases_eq, cases_lt, eq-eqb, ne_eqb}
 use Rattle.std.proofs.lemmas.List.{get_or-replicate, get_or-set_other, get_or-set_same, get_or_past, length-replicate, length-set}
-use Rattle.elf32_sparc.specs.Notes.{counter_width}
+use Rattle.notes.specs.Format.{counter_width}
 use Rattle.v8_step.specs.State.{State, register_of}
 use Rattle.v8_step.specs.Run.{run}
 use Rattle.flows.specs.Walks.{times}

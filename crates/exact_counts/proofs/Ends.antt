@@ -4,8 +4,8 @@ use Rattle.std.proofs.lemmas.Bool.{cases_lt}
 use Rattle.v8_step.specs.declared.Ending.{Ending}
 use Rattle.v8_step.specs.State.{State}
 use Rattle.v8_step.specs.Run.{run}
-use Rattle.v8_step.specs.TwoRuns.{GoesOn}
-use Rattle.v8_step.specs.Visits.{trail_of}
+use Rattle.two_runs.specs.TwoRuns.{GoesOn}
+use Rattle.two_runs.specs.Visits.{trail_of}
 use Rattle.image_code.specs.Simulates.{Setting}
 use Rattle.edit_core.specs.RunsAlike.{IsAnswered}
 use Rattle.edit_core.proofs.Trails.{ending, few_visits, going, longer, none_over, over_or_not, own_live, quiet_more, stays, visit_more}

@@ -4,7 +4,7 @@ use Rattle.std.specs.Prelude.{◌==◌, if◌then◌else◌, IsTrue, ℤ, pos, �
 use Rattle.std.specs.Option.{is_some}
 use Rattle.std.specs.List.{AllByRecursion, list_any}
 use Rattle.std.proofs.lemmas.Bool.{cases_lt, eq-eqb, eqb-true, false≢true, le-leb, le-ltb, lt-leb, lt-ltb, or_left, or_right}
-use Rattle.elf32_sparc.specs.Notes.{NoteEdge, NoteRange, Notes}
+use Rattle.notes.specs.Format.{NoteEdge, NoteRange, Notes}
 use Rattle.flows.specs.Flows.{EdgeSet, NodeSet, Graph as PlainGraph, IsFlow, count_below, one_at, rest, total}
 use Rattle.flows.specs.Trees.{IsSpanningTree}
 use Rattle.flows.proofs.Sums.{total_same}

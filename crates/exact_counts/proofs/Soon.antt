@@ -1,11 +1,11 @@
 -- A profile's runs end soon after the original's.
 use Rattle.std.proofs.Common.{◌≡◌, ℕ, zero, suc, ◌+◌, ◌*◌, ◌≤◌, ◌⊎◌, inl, inr, List, [], ◌∷◌, length, Some, None, ap, sym, ◌∙◌, arith}
-use Rattle.elf32_sparc.specs.Notes.{Notes}
+use Rattle.notes.specs.Format.{Notes}
 use Rattle.v8_step.specs.declared.Ending.{Ending}
 use Rattle.v8_step.specs.State.{State}
 use Rattle.v8_step.specs.Run.{run}
-use Rattle.v8_step.specs.Needed.{IsUntouched}
-use Rattle.v8_step.specs.Visits.{pages_of}
+use Rattle.two_runs.specs.Needed.{IsUntouched}
+use Rattle.two_runs.specs.Visits.{pages_of}
 use Rattle.cfg_walk.specs.Walk.{gone_in}
 use Rattle.tool_kit.specs.Plans.{AreCounters}
 use Rattle.image_code.specs.Simulates.{Setting, graph_in, limit_on, operations_on, snippet_on}

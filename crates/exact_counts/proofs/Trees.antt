@@ -4,7 +4,7 @@ use Rattle.std.specs.Prelude.{◌==◌, slice_index_or}
 use Rattle.std.specs.Option.{is_some}
 use Rattle.std.proofs.lemmas.Bool.{cases_eq}
 use Rattle.std.proofs.lemmas.List.{get_or_default}
-use Rattle.elf32_sparc.specs.Notes.{counter_width}
+use Rattle.notes.specs.Format.{counter_width}
 use Rattle.flows.specs.Flows.{EdgeSet, count_below, rest}
 use Rattle.snippets.specs.declared.snippet.Op.{Op}
 use Rattle.snippets.specs.Cells.{WorksBelow}

@@ -2,7 +2,7 @@
 use Rattle.std.specs.Prelude.{◌≡◌, ℕ, ◌*◌, ◌<◌, Bool, true, false, List, [], ◌∷◌, length, Option, Some, None}
 use Rattle.std.specs.List.{All}
 use Rattle.elf32_sparc.specs.FileFault.{fault}
-use Rattle.elf32_sparc.specs.Notes.{Notes, counter_width}
+use Rattle.notes.specs.Format.{Notes, counter_width}
 use Rattle.v8_decode.specs.declared.Part.{Part}
 use Rattle.v8_step.specs.Valid.{AreBytes}
 use Rattle.flows.specs.Flows.{EdgeSet, rest}

@@ -1,10 +1,10 @@
 -- What a written file's run tells where it has ended.
 use Rattle.std.specs.Prelude.{◌≡◌, ◌≢◌, ℕ, ◌-◌, ◌<◌, ◌≤◌, ◌==◌, if◌then◌else◌, Some, None}
-use Rattle.elf32_sparc.specs.Notes.{Notes, node_at}
+use Rattle.notes.specs.Format.{Notes, node_at}
 use Rattle.v8_step.specs.State.{State}
 use Rattle.v8_step.specs.Run.{run}
-use Rattle.v8_step.specs.Needed.{IsUntouched}
-use Rattle.v8_step.specs.Visits.{pages_of}
+use Rattle.two_runs.specs.Needed.{IsUntouched}
+use Rattle.two_runs.specs.Visits.{pages_of}
 use Rattle.cfg_walk.specs.Walk.{end_of_walk}
 use Rattle.snippet_code.specs.Cells.{words_at}
 use Rattle.dump_file.specs.Dump.{Dump}

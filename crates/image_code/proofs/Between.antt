@@ -3,7 +3,7 @@ use Rattle.std.proofs.Common.{◌≡◌, ℕ, zero, suc, ◌+◌, ◌-◌, ◌*�
 use Rattle.std.specs.Prelude.{if◌then◌else◌, slice_get, slice_index, ◌==◌}
 use Rattle.std.specs.Option.{option_map, option_or}
 use Rattle.std.proofs.lemmas.Bool.Decides.{nat_tests}
-use Rattle.elf32_sparc.specs.Notes.{NoteRange, range_at, node_at}
+use Rattle.notes.specs.Format.{NoteRange, range_at, node_at}
 use Rattle.v8_memory.specs.Regions.{Memory, Region}
 use Rattle.v8_memory.specs.Spans.{Span, IsSameOutside, IsSameRegion}
 use Rattle.v8_step.specs.declared.Ending.{Ending}
@@ -12,7 +12,7 @@ use Rattle.v8_step.specs.State.{State}
 use Rattle.v8_step.specs.Run.{run}
 use Rattle.v8_step.specs.Items.{Item as Thing, Register, Codes, YRegister, IsSameAt}
 use Rattle.v8_step.specs.Valid.{IsValid}
-use Rattle.v8_step.specs.Visits.{visit_of, visited, if_live, in_pages}
+use Rattle.two_runs.specs.Visits.{visit_of, visited, if_live, in_pages}
 use Rattle.cfg_walk.proofs.Walks as walks
 use Rattle.cfg_walk.specs.Walk.{Point, gone, point_of, unless_ended}
 use Rattle.cfg_normal.specs.declared.Node.{Node}

@@ -1,7 +1,7 @@
 -- A word in its Mark at the head of a piece, and the images of plain words: they are one step each.
 use Rattle.std.proofs.Common.{◌≡◌, ◌≢◌, ℕ, suc, ◌+◌, ◌*◌, ◌^◌, ◌<◌, ◌≤◌, Bool, true, false, Option, Some, None, List, [], ◌++◌, length, append-nil, refl, ap, sym, ◌∙◌, subst, arith}
 use Rattle.std.specs.Prelude.{slice_get, slice_index, ℤ}
-use Rattle.elf32_sparc.specs.Notes.{Notes, range_at}
+use Rattle.notes.specs.Format.{Notes, range_at}
 use Rattle.v8_decode.specs.declared.Instr.{Instr}
 use Rattle.v8_decode.specs.declared.Instr.TheVariants as i
 use Rattle.v8_decode.specs.Words.{decode_of}
@@ -15,9 +15,9 @@ use Rattle.v8_step.specs.Run.{run, run_puts}
 use Rattle.v8_step.specs.Items.{is_transfer}
 use Rattle.v8_step.specs.Judged.{judged_by}
 use Rattle.v8_step.specs.Valid.{IsValid}
-use Rattle.v8_step.specs.Visits.{in_pages, visited, pages_of}
-use Rattle.v8_step.proofs.Alike.{live_puts}
-use Rattle.v8_step.proofs.JudgedAlike.{judged_alike}
+use Rattle.two_runs.specs.Visits.{in_pages, visited, pages_of}
+use Rattle.v8_step.proofs.Live.{live_puts}
+use Rattle.two_runs.proofs.JudgedAlike.{judged_alike}
 use Rattle.v8_step.proofs.CopiedMoves.{goes_act}
 use Rattle.v8_step.proofs.ValidSteps.{run-valid}
 use Rattle.cfg_walk.specs.Walk.{Point, instr_at, point_of, node_after}

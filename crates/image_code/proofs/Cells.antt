@@ -8,7 +8,7 @@ use Rattle.v8_memory.specs.Spans.{AllApart}
 use Rattle.v8_step.specs.State.{State, register_of}
 use Rattle.v8_step.specs.Step.{act}
 use Rattle.v8_step.specs.Judged.{judged_by}
-use Rattle.v8_step.specs.Visits.{pages_of}
+use Rattle.two_runs.specs.Visits.{pages_of}
 use Rattle.code_runs.specs.LongJump.{IsFirstWord}
 use Rattle.code_runs.specs.Ours.{IsAmongWords, IsOurs}
 use Rattle.code_runs.specs.Page.{page_word}

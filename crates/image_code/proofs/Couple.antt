@@ -14,8 +14,8 @@ use Rattle.v8_step.specs.Transfers.{ended, target_of, unless_couple}
 use Rattle.v8_step.specs.Step.{act, step_of, on_word, puts_of, puts_by, puts_on_word}
 use Rattle.v8_step.specs.Run.{run, run_puts}
 use Rattle.v8_step.specs.Items.{is_transfer}
-use Rattle.v8_step.specs.Visits.{pages_of}
-use Rattle.v8_step.proofs.Alike.{live_puts}
+use Rattle.two_runs.specs.Visits.{pages_of}
+use Rattle.v8_step.proofs.Live.{live_puts}
 use Rattle.cfg_normal.specs.declared.Node.{Node}
 use Rattle.cfg_walk.specs.Walk.{Point}
 use Rattle.cfg_walk.proofs.Ways.{always_holds}

@@ -10,8 +10,8 @@ use Rattle.v8_step.specs.Step.{act, step_of, puts_by, puts_on_word}
 use Rattle.v8_step.specs.Run.{run_puts}
 use Rattle.v8_step.specs.Items.{is_transfer}
 use Rattle.v8_step.specs.Valid.{IsValid}
-use Rattle.v8_step.specs.Visits.{pages_of}
-use Rattle.v8_step.proofs.Alike.{live_puts}
+use Rattle.two_runs.specs.Visits.{pages_of}
+use Rattle.v8_step.proofs.Live.{live_puts}
 use Rattle.v8_step.proofs.ValidSteps.{run-valid}
 use Rattle.cfg_walk.specs.Walk.{Point, point_of, node_after}
 use Rattle.cfg_normal.specs.declared.Node.{Node}

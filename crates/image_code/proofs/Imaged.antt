@@ -5,8 +5,8 @@ use Rattle.v8_decode.specs.Words.{decode_of}
 use Rattle.v8_memory.specs.Spans.{AllApart}
 use Rattle.v8_step.specs.State.{State}
 use Rattle.v8_step.specs.Judged.{judged_by}
-use Rattle.v8_step.specs.Needed.{judged_in}
-use Rattle.v8_step.specs.Visits.{pages_of}
+use Rattle.two_runs.specs.Needed.{judged_in}
+use Rattle.two_runs.specs.Visits.{pages_of}
 use Rattle.cfg_normal.specs.declared.Node.{Node}
 use Rattle.cfg_walk.specs.Walk.{Point}
 use Rattle.layout.specs.declared.items.Item.{Item}

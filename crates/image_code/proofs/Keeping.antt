@@ -23,7 +23,7 @@ use Rattle.v8_step.specs.Items.{Item as Thing, Register, Codes, YRegister, IsSam
 use Rattle.v8_step.specs.Step.{act, on_word}
 use Rattle.v8_step.specs.Run.{run, run_puts}
 use Rattle.v8_step.specs.Valid.{IsValid}
-use Rattle.v8_step.specs.Visits.{pages_of}
+use Rattle.two_runs.specs.Visits.{pages_of}
 use Rattle.v8_step.proofs.CopiedMoves.{goes_act}
 use Rattle.v8_step.proofs.ValidSteps.{run-valid}
 use Rattle.cfg_blocks.specs.Ends.{within}

@@ -13,7 +13,7 @@ use Rattle.v8_step.specs.declared.Slot.TheVariants.{NoSlot}
 use Rattle.v8_step.specs.State.{State, register_of}
 use Rattle.v8_step.specs.Step.{act, on_word}
 use Rattle.v8_step.specs.Judged.{judged_by}
-use Rattle.v8_step.specs.Visits.{pages_of}
+use Rattle.two_runs.specs.Visits.{pages_of}
 use Rattle.v8_step.proofs.CopiedMoves.{goes_act}
 use Rattle.cfg_normal.specs.declared.Node.{Node}
 use Rattle.cfg_walk.specs.Walk.{Point, node_after, point_of}

@@ -8,7 +8,7 @@ use Rattle.v8_step.specs.State.{State}
 use Rattle.v8_step.specs.Step.{act, step_of}
 use Rattle.v8_step.specs.Run.{run}
 use Rattle.v8_step.specs.Judged.{judged_by}
-use Rattle.v8_step.specs.Visits.{pages_of}
+use Rattle.two_runs.specs.Visits.{pages_of}
 use Rattle.v8_step.proofs.Executable.{code_of-run}
 use Rattle.code_runs.specs.StoredWords.{AllAt, Stores, memory_word, store_all, store_word}
 use Rattle.code_runs.specs.Ours.{HasWordAt, IsAmongWords}

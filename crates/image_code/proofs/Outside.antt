@@ -5,7 +5,7 @@ use Rattle.std.specs.Option.{option_map, option_or}
 use Rattle.std.proofs.lemmas.Bool.{cases_lt}
 use Rattle.std.proofs.lemmas.Bool.Decides.{nat_tests}
 use Rattle.eel_base.specs.CodeText.{word_at}
-use Rattle.elf32_sparc.specs.Notes.{NoteRange, range_at}
+use Rattle.notes.specs.Format.{NoteRange, range_at}
 use Rattle.v8_memory.specs.Regions.{fetch_of}
 use Rattle.v8_step.specs.declared.Ending.{Ending}
 use Rattle.v8_step.specs.declared.Slot.{Slot}
@@ -14,7 +14,7 @@ use Rattle.v8_step.specs.State.{State}
 use Rattle.v8_step.specs.Traps.{instruction_access_exception}
 use Rattle.v8_step.specs.Transfers.{trapped}
 use Rattle.v8_step.specs.Step.{step_of, on_word, unless_ended, puts_of, puts_on_word, puts_unless_ended}
-use Rattle.v8_step.specs.Visits.{if_live, in_pages, pages_of, visited}
+use Rattle.two_runs.specs.Visits.{if_live, in_pages, pages_of, visited}
 use Rattle.cfg_normal.specs.declared.Node.{Node}
 use Rattle.cfg_walk.specs.Walk.{Point}
 use Rattle.layout.specs.Laid.{HasShortForms, Placement}

@@ -6,7 +6,7 @@ use Rattle.std.specs.List.{list_any}
 use Rattle.std.specs.Option.{option_map}
 use Rattle.std.proofs.lemmas.Bool.Decides.{nat_tests}
 use Rattle.eel_base.specs.CodeText.{Words, word_at}
-use Rattle.elf32_sparc.specs.Notes.{Notes, NoteSegment, holds}
+use Rattle.notes.specs.Format.{Notes, NoteSegment, holds}
 use Rattle.v8_decode.specs.declared.Instr.{Instr}
 use Rattle.v8_decode.specs.declared.Instr.TheVariants as i
 use Rattle.v8_decode.specs.declared.Op2.{Op2}
@@ -23,7 +23,7 @@ use Rattle.v8_step.specs.Step.{act}
 use Rattle.v8_step.specs.Run.{run}
 use Rattle.v8_step.specs.Traps.{data_access_exception, mem_address_not_aligned}
 use Rattle.v8_step.specs.Transfers.{next, trapped}
-use Rattle.v8_step.specs.Visits.{in_pages, page_of, pages_of}
+use Rattle.two_runs.specs.Visits.{in_pages, page_of, pages_of}
 use Rattle.cfg_walk.specs.Walk.{instr_at}
 use Rattle.code_runs.specs.Counted.{any_of_word, one_if, stores_at}
 use Rattle.code_runs.specs.Ours.{IsIn}

@@ -5,13 +5,13 @@ use Rattle.std.specs.Option.{option_map}
 use Rattle.eel_base.specs.CodeText.{word_at}
 use Rattle.eel_base.specs.declared.numbers.Addr.{Addr}
 use Rattle.eel_base.specs.declared.numbers.PieceNo.{PieceNo}
-use Rattle.elf32_sparc.specs.Notes.{node_at}
+use Rattle.notes.specs.Format.{node_at}
 use Rattle.v8_decode.specs.Words.{decode_of}
 use Rattle.v8_memory.specs.Spans.{AllApart}
 use Rattle.v8_step.specs.State.{State}
 use Rattle.v8_step.specs.Items.{is_transfer}
 use Rattle.v8_step.specs.Judged.{judged_by}
-use Rattle.v8_step.specs.Visits.{visit_of, pages_of}
+use Rattle.two_runs.specs.Visits.{visit_of, pages_of}
 use Rattle.cfg_normal.specs.declared.Node.{Node}
 use Rattle.cfg_walk.specs.Walk.{Point, point_of, node_after}
 use Rattle.layout.specs.declared.items.Item.{Item}

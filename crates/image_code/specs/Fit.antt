@@ -3,7 +3,7 @@
 use Rattle.std.specs.Prelude.{◌≡◌, ℕ, suc, ◌+◌, ◌*◌, ◌^◌, ◌<◌, ◌≤◌, Bool, true, false, if◌then◌else◌, List, [], ◌∷◌, length, Some, slice_get, slice_index}
 use Rattle.std.specs.List.{count_by, range_with_len, sum_by}
 use Rattle.eel_base.specs.CodeText.{Words, IsText, word_at}
-use Rattle.elf32_sparc.specs.Notes.{NoteRange}
+use Rattle.notes.specs.Format.{NoteRange}
 use Rattle.v8_decode.specs.Words.{decode_of}
 use Rattle.v8_step.specs.Items.{is_transfer}
 use Rattle.cfg_blocks.specs.Blocks.{size_of}

@@ -10,7 +10,7 @@ use Rattle.v8_step.specs.declared.Slot.TheVariants.{Taken}
 use Rattle.v8_step.specs.State.{State}
 use Rattle.v8_step.specs.Items.{is_transfer}
 use Rattle.v8_step.specs.Judged.{judged_by}
-use Rattle.v8_step.specs.Visits.{pages_of}
+use Rattle.two_runs.specs.Visits.{pages_of}
 use Rattle.cfg_blocks.specs.declared.EdgeKind.TheVariants as kinds
 use Rattle.cfg_normal.specs.declared.Node.{Node}
 use Rattle.cfg_walk.specs.Walk.{Point, instr_at, same_kind, way_of}

@@ -1,11 +1,11 @@
 -- Points outside the text: an instruction there can't be fetched, and so the run ends.
 use Rattle.std.specs.Prelude.{◌≡◌, ◌≢◌, ℕ, Some, None}
 use Rattle.eel_base.specs.CodeText.{word_at}
-use Rattle.elf32_sparc.specs.Notes.{NoteRange, range_at}
+use Rattle.notes.specs.Format.{NoteRange, range_at}
 use Rattle.v8_memory.specs.Spans.{IsApartFromAll}
 use Rattle.v8_step.specs.declared.Slot.TheVariants.{NoSlot}
 use Rattle.v8_step.specs.State.{State}
-use Rattle.v8_step.specs.Visits.{pages_of}
+use Rattle.two_runs.specs.Visits.{pages_of}
 use Rattle.cfg_normal.specs.declared.Node.{Node}
 use Rattle.cfg_normal.specs.declared.Node.TheVariants.{X}
 use Rattle.cfg_walk.specs.Walk.{Point}

@@ -3,7 +3,7 @@
 use Rattle.std.specs.Prelude.{◌≡◌, ◌≢◌, ℕ, zero, suc, ◌+◌, ◌*◌, ◌<◌, ◌≤◌, Bool, true, false, not, ◌&&◌, nat_le, nat_lt, List, [], ◌∷◌, length, get_or, replicate, slice_get, slice_index, Option, Some, None}
 use Rattle.std.specs.Option.{option_map}
 use Rattle.eel_base.specs.CodeText.{Words, address_of, word_at}
-use Rattle.elf32_sparc.specs.Notes.{NoteRange, Notes, node_at, range_at}
+use Rattle.notes.specs.Format.{NoteRange, Notes, node_at, range_at}
 use Rattle.v8_decode.specs.declared.Instr.{Instr}
 use Rattle.v8_decode.specs.declared.Instr.TheVariants as i
 use Rattle.v8_decode.specs.declared.Op2.{Op2}
@@ -14,8 +14,8 @@ use Rattle.v8_step.specs.State.{State, register_of, sum_of}
 use Rattle.v8_step.specs.Step.{on_word, puts_on_word}
 use Rattle.v8_step.specs.Run.{run, run_puts}
 use Rattle.v8_step.specs.Items.{Item, IsAmong, IsItem, IsSameAt, is_transfer}
-use Rattle.v8_step.specs.Needed.{judged_in}
-use Rattle.v8_step.specs.Visits.{in_pages, visit_of, pages_of}
+use Rattle.two_runs.specs.Needed.{judged_in}
+use Rattle.two_runs.specs.Visits.{in_pages, visit_of, pages_of}
 use Rattle.cfg_blocks.specs.declared.EdgeKind.TheVariants as kinds
 use Rattle.cfg_blocks.specs.Blocks.{blocks_of}
 use Rattle.cfg_normal.specs.declared.Edge.{Edge}

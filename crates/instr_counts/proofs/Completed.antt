@@ -19,7 +19,7 @@ use Rattle.v8_step.specs.State.{State, sum_of}
 use Rattle.v8_step.specs.Step.{act, on_word, step_of, unless_ended as unless_over}
 use Rattle.v8_step.specs.Transfers.{branch_step, branched, call_step, jump_step, target_of, unless_couple}
 use Rattle.v8_step.specs.Items.{is_transfer}
-use Rattle.v8_step.proofs.Alike.{live_step}
+use Rattle.v8_step.proofs.Live.{live_step}
 use Rattle.v8_step.proofs.CopiedMoves.{goes_act}
 use Rattle.v8_alu.specs.Conditions.{holds_of}
 use Rattle.cfg_blocks.specs.declared.BlockEnd.{BlockEnd}

@@ -16,7 +16,7 @@ use Rattle.v8_step.specs.declared.Slot.{Slot}
 use Rattle.v8_step.specs.declared.Slot.TheVariants.{NoSlot, Taken, Untaken}
 use Rattle.v8_step.specs.State.{State}
 use Rattle.v8_step.specs.Run.{run}
-use Rattle.v8_step.specs.Visits.{as_list, if_live, own_trail, own_visit}
+use Rattle.two_runs.specs.Visits.{as_list, if_live, own_trail, own_visit}
 use Rattle.v8_step.proofs.Executable.{code_stays}
 use Rattle.v8_process.specs.Start.{start_of}
 use Rattle.cfg_blocks.specs.declared.EdgeKind.{EdgeKind}

@@ -2,7 +2,7 @@
 use Rattle.std.specs.Prelude.{◌≡◌, ℕ, ◌+◌, ◌<◌, Bool, false, ◌==◌, List, length, slice_index, Option, Some, None}
 use Rattle.eel_base.specs.CodeText.{Words}
 use Rattle.eel_base.specs.declared.numbers.WordNo.{WordNo}
-use Rattle.elf32_sparc.specs.Notes.{NoteRange, Notes, range_at}
+use Rattle.notes.specs.Format.{NoteRange, Notes, range_at}
 use Rattle.flows.specs.Flows.{weight_below}
 use Rattle.dump_file.specs.Dump.{Dump}
 use Rattle.cfg_blocks.specs.Blocks.{Blocks}

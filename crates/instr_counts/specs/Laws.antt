@@ -8,7 +8,7 @@ use Rattle.flows.specs.Walks.{times}
 use Rattle.v8_step.specs.State.{State}
 use Rattle.v8_step.specs.Run.{run}
 use Rattle.v8_step.specs.Valid.{AreBytes}
-use Rattle.v8_step.specs.Visits.{own_trail}
+use Rattle.two_runs.specs.Visits.{own_trail}
 use Rattle.v8_process.specs.Start.{start_of}
 use Rattle.cfg_blocks.specs.Blocks.{blocks_of, is_among}
 use Rattle.cfg_blocks.specs.Entries.{entered_of}

@@ -1,6 +1,6 @@
 -- Which notes are those of a text with each word marked.
 use Rattle.std.specs.Prelude.{◌≡◌, ℕ, ◌<◌, List, length, slice_index_or}
-use Rattle.elf32_sparc.specs.Notes.{NoteEdge, Notes}
+use Rattle.notes.specs.Format.{NoteEdge, Notes}
 use Rattle.cfg_blocks.specs.Blocks.{holding_of}
 use Rattle.cfg_normal.specs.declared.Edge.{Edge}
 pub use Rattle.cfg_normal.specs.Numbers.{kind_number}

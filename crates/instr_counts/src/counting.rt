@@ -2,7 +2,7 @@
 ghost use Rattle.std.specs.Prelude.{◌≡◌, ℕ, ◌+◌, ◌*◌, ◌^◌, ◌<◌, ◌≤◌, ◌==◌, ◌&&◌, not, nat_le, nat_lt, length, slice_index, IfOk};
 ghost use Rattle.std.specs.List.{find, All};
 ghost use Rattle.cfg_blocks.specs.Blocks.{holding_of};
-ghost use Rattle.elf32_sparc.specs.Notes.{range_at};
+ghost use Rattle.notes.specs.Format.{range_at};
 ghost use Rattle.notes.specs.Seen.{notes_seen};
 ghost use Rattle.dump_file.specs.Dump.{dump_seen};
 ghost use Rattle.cfg_view.specs.View.{view_seen, IsView};

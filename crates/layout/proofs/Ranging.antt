@@ -4,7 +4,7 @@ use Rattle.std.specs.Prelude.{nat_le, nat_lt, if◌then◌else◌}
 use Rattle.std.proofs.lemmas.Bool.Decides.{nat_tests}
 use Rattle.std.proofs.lemmas.List.{length-append, length-map, map-append}
 use Rattle.eel_base.specs.declared.range.Range.{Range}
-use Rattle.elf32_sparc.specs.Notes.{NoteRange}
+use Rattle.notes.specs.Format.{NoteRange}
 use Rattle.layout.specs.declared.items.Item.{Item}
 use Rattle.layout.specs.declared.items.Item.TheVariants as it
 use Rattle.layout.specs.declared.entries.Entry.{Entry}

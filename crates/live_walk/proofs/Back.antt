@@ -16,8 +16,8 @@ use Rattle.v8_step.specs.declared.Slot.TheVariants.{NoSlot, Taken, Untaken}
 use Rattle.v8_step.specs.State.{State}
 use Rattle.v8_step.specs.Run.{run}
 use Rattle.v8_step.specs.Items.{Item, item_of, IsAmong}
-use Rattle.v8_step.specs.Needed.{Reads, Writes, decoded, ReadsIn, WritesIn}
-use Rattle.v8_step.proofs.Alike.{live_step}
+use Rattle.two_runs.specs.Needed.{Reads, Writes, decoded, ReadsIn, WritesIn}
+use Rattle.v8_step.proofs.Live.{live_step}
 use Rattle.v8_step.proofs.Executable.{code_stays}
 use Rattle.cfg_blocks.specs.Blocks.{blocks_of}
 use Rattle.cfg_normal.specs.Opens.{Open}

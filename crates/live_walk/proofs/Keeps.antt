@@ -12,7 +12,7 @@ use Rattle.v8_step.specs.declared.Ending.{Ending}
 use Rattle.v8_step.specs.State.{State}
 use Rattle.v8_step.specs.Run.{run}
 use Rattle.v8_step.specs.Items.{Item, Register, Codes, YRegister, IsItem, IsAmong, item_of}
-use Rattle.v8_step.specs.Needed.{IsNeeded, ReadsIn, Writes, WritesIn, decoded}
+use Rattle.two_runs.specs.Needed.{IsNeeded, ReadsIn, Writes, WritesIn, decoded}
 use Rattle.v8_step.proofs.Executable.{code_stays}
 use Rattle.code_runs.specs.PointsAlike.{instr_of}
 use Rattle.cfg_blocks.specs.Blocks.{blocks_of}

@@ -20,7 +20,7 @@ use Rattle.v8_step.specs.State.{State, with_register, sum_of}
 use Rattle.v8_step.specs.Transfers.{target_of, delayed, branched, unless_couple, branch_step, call_step, jump_step}
 use Rattle.v8_step.specs.Step.{act, on_word, step_of, unless_ended as step_unless}
 use Rattle.v8_step.specs.Items.{is_transfer}
-use Rattle.v8_step.proofs.Alike.{live_step}
+use Rattle.v8_step.proofs.Live.{live_step}
 use Rattle.v8_step.proofs.CopiedMoves.{goes_act}
 use Rattle.cfg_blocks.specs.declared.BlockEnd.{BlockEnd}
 use Rattle.cfg_blocks.specs.declared.BlockEnd.TheVariants as ends

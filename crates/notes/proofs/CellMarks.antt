@@ -4,7 +4,7 @@ use Rattle.std.specs.Prelude.{nat_le, get_or}
 use Rattle.std.specs.List.{list_any}
 use Rattle.std.proofs.lemmas.Bool.{and_parts, eq-eqb, ne_eqb, eqb-true, leb-true, cases_eq, cond_both}
 use Rattle.std.proofs.lemmas.List.{get_or-set_same, get_or-set_other, get_or-replicate, length-set, length-replicate}
-use Rattle.elf32_sparc.specs.Notes.{no_cell, cell_of, counter_width, is_cell, is_counter, most_cells}
+use Rattle.notes.specs.Format.{no_cell, cell_of, counter_width, is_cell, is_counter, most_cells}
 use Rattle.notes.specs.Parts.{AreMarks, is_open, with_mark}
 use Rattle.notes.specs.Written.{cell_word}
 

@@ -3,8 +3,7 @@ use Rattle.std.proofs.Common.{◌≡◌, ℕ, zero, suc, ◌+◌, ◌*◌, ◌%�
 use Rattle.std.specs.Prelude.{nat_le, nat_lt}
 use Rattle.std.specs.List.{list_any}
 use Rattle.std.proofs.lemmas.Bool.{and_parts, and_from, leb-true, ltb-true, eqb-true, cond_both, ne_eqb}
-use Rattle.elf32_sparc.specs.Notes.{NoteSegment, NoteEdge, NoteRange, Notes, NoNotes, ◌>>=◌, note_at, note_that, kept, follows, is_cell, is_counter, is_version, no_cell, cell_of, counter_width, last_tool, most_cells, segments_at, blocks_at, edges_at, ranges_at, read_notes}
-use Rattle.elf32_sparc.specs.Notes.{NoteHead as Head, block_count_at, head_of, tables_of}
+use Rattle.notes.specs.Format.{NoteSegment, NoteEdge, NoteRange, Notes, NoNotes, ◌>>=◌, note_at, note_that, kept, follows, is_cell, is_counter, is_version, no_cell, cell_of, counter_width, last_tool, most_cells, segments_at, blocks_at, edges_at, ranges_at, read_notes, NoteHead as Head, block_count_at, head_of, tables_of}
 use Rattle.notes.specs.Rules.{is_segment, are_segments, are_blocks, is_free, is_edge, with_cell, are_edges, is_range, are_ranges, AreNotes}
 use Rattle.notes.specs.Parts.{segment_at, block_at, edge_at, range_at}
 use Rattle.notes.specs.Written.{cell_word}

@@ -6,8 +6,7 @@ use Rattle.std.proofs.lemmas.Bool.{and_parts, and_from, or_right, le-leb, lt-ltb
 use Rattle.std.proofs.lemmas.List.{length-append}
 use Rattle.byteorder.specs.Endian.{big_bytes}
 use Rattle.byteorder.specs.Numbers.{length-bytes_high_first}
-use Rattle.elf32_sparc.specs.Notes.{NoteSegment, NoteEdge, NoteRange, Notes, note_at, follows, no_cell, cell_of, is_cell, is_counter, counter_width, last_tool, most_cells, byte_count, segments_at, blocks_at, edges_at, ranges_at, read_notes}
-use Rattle.elf32_sparc.specs.Notes.{NoteHead as Head, block_count_at, head_of, tables_of}
+use Rattle.notes.specs.Format.{NoteSegment, NoteEdge, NoteRange, Notes, note_at, follows, no_cell, cell_of, is_cell, is_counter, counter_width, last_tool, most_cells, byte_count, segments_at, blocks_at, edges_at, ranges_at, read_notes, NoteHead as Head, block_count_at, head_of, tables_of}
 use Rattle.notes.specs.Rules.{AreNotes, is_segment, are_segments, are_blocks, is_free, is_edge, with_cell, are_edges, is_range, are_ranges}
 use Rattle.notes.specs.Written.{words_bytes, cell_word, segment_words, edge_words, range_words, notes_words, notes_bytes}
 use Rattle.notes.proofs.CellMarks.{counter_below, few_cells, has_width}

@@ -2,7 +2,7 @@
 use Rattle.std.proofs.Common.{◌≡◌, ℕ, Bool, true, false, List, [], ◌∷◌, ◌++◌, ◌||◌, map, Result, Ok, Err, if◌then◌else◌, refl, ap, sym, subst, append_assoc}
 use Rattle.std.specs.Result.{IfErr, IsErrAnd}
 use Rattle.std.specs.List.{list_any}
-use Rattle.elf32_sparc.specs.Notes.{NoNotes, Bad, ◌>>=◌, kept}
+use Rattle.notes.specs.Format.{NoNotes, Bad, ◌>>=◌, kept}
 use Rattle.notes.specs.Seen.{IsFault, Answers, WantsMemoryIf}
 use Rattle.notes.specs.declared.note.NotesFault.{NotesFault}
 use Rattle.notes.specs.declared.note.NotesFault.TheVariants as faults

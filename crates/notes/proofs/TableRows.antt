@@ -1,7 +1,7 @@
 -- A table is its first row, and then the others.
 use Rattle.std.proofs.Common.{◌≡◌, ℕ, suc, ◌+◌, ◌*◌, ◌-◌, ◌<◌, ◌≤◌, ◌^◌, Bool, false, List, [], ◌∷◌, ◌++◌, Option, Some, Result, Ok, refl, ap, sym, subst, ◌∙◌, length, replicate, arith}
 use Rattle.std.proofs.lemmas.List.{append-nil, length-replicate}
-use Rattle.elf32_sparc.specs.Notes.{is_cell, NoteSegment, NoteEdge, NoteRange, NoNotes, ◌>>=◌, segments_at, blocks_at, edges_at, ranges_at}
+use Rattle.notes.specs.Format.{is_cell, NoteSegment, NoteEdge, NoteRange, NoNotes, ◌>>=◌, segments_at, blocks_at, edges_at, ranges_at}
 use Rattle.notes.specs.Parts.{AreMarks, is_open, with_mark, segment_at, block_at, edge_at, range_at}
 use Rattle.notes.proofs.Steps.{bind_assoc, kept_then, after, after_none, after_next, through}
 use Rattle.notes.specs.Seen.{IsFault}

@@ -1,6 +1,6 @@
 -- Reading is reading the numbers, group by group, and then the tables.
 use Rattle.std.proofs.Common.{◌≡◌, ℕ, List, refl}
-use Rattle.elf32_sparc.specs.Notes.{◌>>=◌, head_of, read_notes, tables_of}
+use Rattle.notes.specs.Format.{◌>>=◌, head_of, read_notes, tables_of}
 use Rattle.notes.specs.Parts.{cells_at, head_at, original_at, text_at}
 use Rattle.notes.proofs.Steps.{bind_assoc}
 

@@ -6,7 +6,7 @@ use Rattle.std.proofs.lemmas.List.{length-append}
 use Rattle.std.proofs.Math.Seq.{drop-append_seam}
 use Rattle.byteorder.specs.Endian.{big_bytes}
 use Rattle.byteorder.specs.Numbers.{big_number-reads_back, length-bytes_high_first}
-use Rattle.elf32_sparc.specs.Notes.{note_at}
+use Rattle.notes.specs.Format.{note_at}
 use Rattle.notes.specs.Written.{words_bytes}
 use Rattle.notes.proofs.Bytes.{words_bytes-cons}
 

@@ -1,6 +1,6 @@
 -- The notes of a text of four words in two blocks, of both versions, and each rule broken once: they compute.
 use Rattle.std.specs.Prelude.{◌≡◌, ℕ, ◌+◌, List, [], ◌∷◌, ◌++◌, take, drop, map, Some, None, Result, Ok, Err, refl}
-use Rattle.elf32_sparc.specs.Notes.{Notes, NoNotes, Bad, read_notes, segments_at, blocks_at, edges_at, ranges_at, node_at, head_of, tables_of, block_count_at}
+use Rattle.notes.specs.Format.{Notes, NoNotes, Bad, read_notes, segments_at, blocks_at, edges_at, ranges_at, node_at, head_of, tables_of, block_count_at}
 use Rattle.notes.specs.Written.{words_bytes, notes_bytes}
 
 -- Two pages, two blocks with their landed copies, three edges of which two have a cell, and three places with a gap before the last.

@@ -1,5 +1,5 @@
 -- The numbers before the tables, as the definitions of reading have them.
-use Rattle.elf32_sparc.specs.Notes.{NoteHead}
+use Rattle.notes.specs.Format.{NoteHead}
 use Rattle.notes.specs.declared.reading.Head.{Head}
 
 abbrev pub head_seen : Head → NoteHead

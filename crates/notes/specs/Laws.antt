@@ -1,7 +1,7 @@
 -- What holds of all notes.
 use Rattle.std.specs.Prelude.{◌≡◌, ◌≤◌, ◌<◌, ℕ, ◌+◌, ◌^◌, true, List, Ok}
 use Rattle.std.specs.List.{All}
-use Rattle.elf32_sparc.specs.Notes.{Notes, is_version, read_notes}
+use Rattle.notes.specs.Format.{Notes, is_version, read_notes}
 use Rattle.notes.specs.Rules.{AreNotes}
 use Rattle.notes.specs.Written.{notes_words, notes_bytes}
 

@@ -6,3 +6,5 @@ pub mod Heads
 pub mod Laws
 pub mod Rows
 pub mod Examples
+pub mod EditedThreeWords
+pub mod Format

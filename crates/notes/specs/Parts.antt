@@ -2,7 +2,7 @@
 -- are taken.
 use Rattle.std.specs.Prelude.{◌≡◌, ◌<◌, ℕ, ◌+◌, ◌*◌, ◌%◌, ◌^◌, Bool, true, false, not, ◌&&◌, ◌||◌, ◌==◌, nat_lt, nat_le, List, length, get_or, slice_set, Option, Some, None, Result, Ok}
 use Rattle.std.specs.List.{list_any}
-use Rattle.elf32_sparc.specs.Notes.{NoteHead, NoteSegment, NoteEdge, NoteRange, NoNotes, ◌>>=◌, note_at, note_that, kept, last_tool, most_cells, follows, no_cell, cell_of, is_counter}
+use Rattle.notes.specs.Format.{NoteHead, NoteSegment, NoteEdge, NoteRange, NoNotes, ◌>>=◌, note_at, note_that, kept, last_tool, most_cells, follows, no_cell, cell_of, is_counter}
 use Rattle.notes.specs.Rules.{is_segment, is_range}
 
 -- ---- numbers

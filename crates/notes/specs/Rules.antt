@@ -1,7 +1,7 @@
 -- The rules that notes meet, but for the one that names the size of their file.
 use Rattle.std.specs.Prelude.{◌≡◌, ◌≤◌, ◌<◌, ℕ, ◌+◌, ◌*◌, ◌%◌, ◌^◌, Bool, true, not, ◌&&◌, ◌==◌, nat_lt, nat_le, IsTrue, List, [], ◌∷◌, length, Option, Some, None}
 use Rattle.std.specs.List.{list_any}
-use Rattle.elf32_sparc.specs.Notes.{NoteSegment, NoteEdge, NoteRange, Notes, counter_width, follows, holds, is_counter, is_version, last_tool, most_cells}
+use Rattle.notes.specs.Format.{NoteSegment, NoteEdge, NoteRange, Notes, counter_width, follows, holds, is_counter, is_version, last_tool, most_cells}
 
 -- A page begins at `end` or above, has a byte, and ends at 2^32 at most.
 abbrev pub is_segment : ℕ → NoteSegment → Bool

@@ -1,7 +1,7 @@
 -- Notes as the definitions of reading have them, and what an answer says of a definition.
 use Rattle.std.specs.Prelude.{◌≡◌, ◌≤◌, ℕ, ◌+◌, IsTrue, IsOk, List, length, map, take, drop, Result, Ok, Err, ⊤}
 use Rattle.eel_base.specs.declared.range.Range as declared_range
-use Rattle.elf32_sparc.specs.Notes.{NoteSegment, NoteEdge, NoteRange, Notes, NoNotes, Absent, Bad, has_locator, head_of, notes_length, notes_offset, notes_version}
+use Rattle.notes.specs.Format.{NoteSegment, NoteEdge, NoteRange, Notes, NoNotes, Absent, Bad, has_locator, head_of, notes_length, notes_offset, notes_version}
 use Rattle.notes.specs.declared.note.NoteSegment as declared_segment
 use Rattle.notes.specs.declared.note.NoteEdge as declared_edge
 use Rattle.notes.specs.declared.note.Notes as declared_notes

@@ -2,7 +2,7 @@
 use Rattle.std.specs.Prelude.{ℕ, List, [], ◌∷◌, ◌++◌, length, Option, unwrap_or}
 use Rattle.std.specs.List.{flat_map}
 use Rattle.byteorder.specs.Endian.{big_bytes}
-use Rattle.elf32_sparc.specs.Notes.{NoteSegment, NoteEdge, NoteRange, Notes, no_cell}
+use Rattle.notes.specs.Format.{NoteSegment, NoteEdge, NoteRange, Notes, no_cell}
 
 unfoldable pub words_bytes : List ℕ → List ℕ
 words_bytes words = flat_map (big_bytes 4) words

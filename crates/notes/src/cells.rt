@@ -1,6 +1,6 @@
 //! The cells of edges.
 ghost use Rattle.std.specs.Prelude.{◌≡◌, ◌<◌, IfOk, length, replicate, false};
-ghost use Rattle.elf32_sparc.specs.Notes.{is_counter};
+ghost use Rattle.notes.specs.Format.{is_counter};
 ghost use Rattle.notes.specs.Parts.{is_open, with_mark};
 
 use std::alloc::{AllocError, Global};

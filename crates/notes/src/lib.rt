@@ -1,4 +1,4 @@
-//! The notes of a written file: what it says of itself, as `elf32_sparc` defines it.
+//! The notes of a written file: what it says of itself. Its format is defined in specs/.
 //!
 //! Notes stand in a written file as big-endian words, at the offset that the file's locator names. They say
 //! where the original stands, which text it has, the blocks and edges of its graph, the pages that were added,

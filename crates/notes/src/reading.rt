@@ -1,7 +1,7 @@
 //! Reading notes.
 ghost use Rattle.std.specs.Prelude.{◌≡◌, ◌≤◌, ◌<◌, ◌+◌, ◌*◌, ◌%◌, ◌^◌, ◌&&◌, ◌==◌, nat_le, nat_lt, true, IfErr, IfOk, IsOk, IsTrue, MatchResult, length};
 ghost use Rattle.elf32_sparc.specs.Header.{word_at};
-ghost use Rattle.elf32_sparc.specs.Notes.{block_count_at, byte_count, counter_width, head_of, is_version, last_tool, most_cells, note_that, has_locator, notes_length, notes_of, notes_offset, notes_version, read_notes, tables_of};
+ghost use Rattle.notes.specs.Format.{block_count_at, byte_count, counter_width, head_of, is_version, last_tool, most_cells, note_that, has_locator, notes_length, notes_of, notes_offset, notes_version, read_notes, tables_of};
 ghost use Rattle.notes.specs.Seen.{Answers, HasHead, IsFault, WantsMemoryIf, notes_in, notes_seen};
 ghost use Rattle.notes.specs.Heads.{head_seen};
 ghost use Rattle.notes.specs.Parts.{cells_at, head_at, original_at, text_at};
@@ -40,7 +40,7 @@ pub fn read_notes(alloc: Global, file: &[u8]) -> Result<Notes, NotesFault>
 }
 
 /// The bytes of the notes, where the locator says.
-#[tactic(auto, unfolding(elf32_sparc::specs::Notes::notes_of))]
+#[tactic(auto, unfolding(crate::specs::Format::notes_of))]
 fn find_notes(file: &[u8]) -> Result<&[u8], NotesFault>
     ensures notes { MatchResult result (λ notes. notes_of file.now ≡ read_notes (notes_version file.now) (length file.now) notes.now) (λ fault. IsFault fault (notes_of file.now)) }
     ensures version { IfOk result (λ notes. is_version (notes_version file.now) ≡ true) }
@@ -224,7 +224,7 @@ fn end_at(notes: &[u8], end: u32) -> bool
 }
 
 /// The number of blocks, of a text of so many words that is entered at the block `entry`.
-#[tactic(auto, unfolding(elf32_sparc::specs::Notes::block_count_at))]
+#[tactic(auto, unfolding(crate::specs::Format::block_count_at))]
 fn block_count_at(notes: &[u8], at: u32, entry: u32, words: u32) -> Result<u32, NotesFault>
     ensures count { Answers (λ count. count) result (block_count_at entry words notes.now at) }
     ensures few { IfOk result (λ count. count ≤ words) }
@@ -246,7 +246,7 @@ fn count_at(notes: &[u8], at: u32, limit: u32) -> Result<u32, NotesFault>
 }
 
 /// What comes after the numbers: the tables, and no more.
-#[tactic(auto, unfolding(elf32_sparc::specs::Notes::tables_of))]
+#[tactic(auto, unfolding(crate::specs::Format::tables_of))]
 fn read_tables(alloc: Global, notes: &[u8], head: &Head) -> Result<Notes, NotesFault>
     requires cells { head.now.cells ≤ 2 ^ 23 }
     requires words { head.now.words ≤ 2 ^ 20 }

@@ -1,6 +1,6 @@
 //! The tables of notes.
 ghost use Rattle.std.specs.Prelude.{◌≡◌, ◌≤◌, ◌<◌, ◌+◌, ◌*◌, ◌^◌, [], None, map};
-ghost use Rattle.elf32_sparc.specs.Notes.{segments_at, blocks_at, edges_at, ranges_at};
+ghost use Rattle.notes.specs.Format.{segments_at, blocks_at, edges_at, ranges_at};
 ghost use Rattle.notes.specs.Seen.{Answers, segment_seen, edge_seen, range_seen};
 
 use crate::cells::Taken;

@@ -2,7 +2,7 @@
 use Rattle.std.specs.Prelude.{ℕ, ◌+◌, ◌-◌, ◌*◌, Bool, ◌==◌, nat_lt, if◌then◌else◌, List, [], ◌∷◌, ◌++◌, length, slice_index, slice_index_or, codes, decimal}
 use Rattle.std.specs.List.{count_by, enumerate_from, flat_map, sum}
 use Rattle.std.specs.Option.{is_some}
-use Rattle.elf32_sparc.specs.Notes.{NoteEdge, Notes}
+use Rattle.notes.specs.Format.{NoteEdge, Notes}
 use Rattle.eel_base.specs.Fields.{hex_of}
 use Rattle.cfg_blocks.specs.declared.EdgeKind.{EdgeKind}
 use Rattle.cfg_blocks.specs.declared.EdgeKind.TheVariants.{Fall, Taken, Untaken, Call, Out, Land, Case}

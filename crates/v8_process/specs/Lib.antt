@@ -6,4 +6,3 @@ pub mod Loading
 pub mod Programs
 pub mod Start
 pub mod Valid
-pub mod Visiting

@@ -1,6 +1,6 @@
 -- What each write outside some pages keeps, and each move of the heap's end, an instruction keeps that judges no byte
 -- of the pages.
-use Rattle.std.proofs.Common.{◌≡◌, ℕ, zero, suc, ◌-◌, ◌%◌, ◌<◌, Bool, true, false, Option, Some, None, Result, Ok, Err, List, [], ◌∷◌, length, take, refl, sym, subst, arith}
+use Rattle.std.proofs.Common.{◌≡◌, ℕ, zero, suc, ◌-◌, ◌%◌, ◌<◌, Bool, true, false, Option, Some, None, Result, Ok, Err, List, [], ◌∷◌, length, take, refl, sym, subst, arith, ◌++◌}
 use Rattle.std.specs.Prelude.{if◌then◌else◌, ◌==◌}
 use Rattle.std.specs.Int.{Width, byte_len, w8, w32}
 use Rattle.v8_decode.specs.declared.Instr.{Instr}
@@ -25,8 +25,28 @@ use Rattle.v8_step.specs.WindowMoves.{oldest_window, save_address, saved_memory,
 use Rattle.v8_step.specs.Calls.{is_output, read_into, write_from, heap_call, refuses, system_call, trap_step}
 use Rattle.v8_step.specs.Judged.{buffer_span, judged_by_call, saved_span, judged_after, judged_by_spills, judged_by}
 use Rattle.v8_step.specs.Step.{alu_step, trap_number, act}
-use Rattle.v8_step.proofs.AccessesAlike.{length-stored, store_some}
-use Rattle.v8_step.proofs.Twins.{apart_first, apart_rest}
+use Rattle.v8_decode.specs.declared.StoreKind.{StoreKind}
+use Rattle.v8_decode.specs.declared.StoreKind.TheVariants as stores
+
+pub length-stored : (kind : StoreKind) (rd : ℕ) (s : State) → length (stored s kind rd) ≡ store_size kind
+length-stored stores.ST rd s = refl
+length-stored stores.STB rd s = refl
+length-stored stores.STH rd s = refl
+length-stored stores.STD rd s = refl
+
+pub store_some : (kind : StoreKind) → 0 < store_size kind
+store_some stores.ST = omega arith
+store_some stores.STB = omega arith
+store_some stores.STH = omega arith
+store_some stores.STD = omega arith
+
+pub apart_first : (pages xs ys : List Span) → AllApart pages (xs ++ ys) → AllApart pages xs
+apart_first pages [] ys h = tt
+apart_first pages (x ∷ xs) ys h = (h.0, apart_first pages xs ys h.1)
+
+pub apart_rest : (pages xs ys : List Span) → AllApart pages (xs ++ ys) → AllApart pages ys
+apart_rest pages [] ys h = h
+apart_rest pages (x ∷ xs) ys h = apart_rest pages xs ys h.1
 
 module _ (pages : List Span) (Rel : Memory → Memory → Type 0) (same : (m : Memory) → Rel m m)
     (and_then : (m n o : Memory) → Rel m n → Rel n o → Rel m o)

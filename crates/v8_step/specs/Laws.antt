@@ -1,15 +1,11 @@
 -- The laws of steps and runs.
-use Rattle.std.specs.Prelude.{◌≡◌, ℕ, ◌^◌, ◌<◌, false, Some, List}
+use Rattle.std.specs.Prelude.{◌≡◌, ℕ, ◌^◌, ◌<◌, false, List}
 use Rattle.v8_decode.specs.declared.Instr.{Instr}
 use Rattle.v8_decode.specs.Effects.{reads_all}
-use Rattle.v8_decode.specs.Words.{decode_of}
 use Rattle.v8_memory.specs.Regions.{Memory, code_of, fetch_of}
-use Rattle.v8_memory.specs.Spans.{Span}
 use Rattle.v8_step.specs.State.{State}
-use Rattle.v8_step.specs.Step.{act, step_of, puts_of}
+use Rattle.v8_step.specs.Step.{act, step_of}
 use Rattle.v8_step.specs.Run.{run, first_state}
-use Rattle.v8_step.specs.Items.{is_transfer}
-use Rattle.v8_step.specs.Alike.{IsReady, AreSameAfter}
 use Rattle.v8_step.specs.Valid.{AreBytes, IsValidMemory, IsValid}
 
 -- No step changes a word that can be executed, and so no run does.
@@ -17,15 +13,6 @@ abbrev pub CodeStays : Type 0
 CodeStays =
     ((s : State) → code_of (step_of s).memory ≡ code_of s.memory)
     × ((s : State) (n address : ℕ) → fetch_of (run s n).memory address ≡ fetch_of s.memory address)
-
--- Two states that fetch the same word, no transfer, and share what it needs, step alike and put out the same.
-abbrev pub StepsAlike : Type 0
-StepsAlike =
-    (word : ℕ) → is_transfer (decode_of word) ≡ false
-    → (pages : List Span) (s t : State) → IsReady pages (decode_of word) s t
-    → fetch_of s.memory s.pc ≡ Some word → fetch_of t.memory t.pc ≡ Some word
-    → AreSameAfter pages (decode_of word) s t (step_of s) (step_of t)
-    × ((descriptor : ℕ) → puts_of s descriptor ≡ puts_of t descriptor)
 
 -- A first state over valid memory is valid, a step keeps a valid state valid, and so does a run.
 abbrev pub ValidStays : Type 0

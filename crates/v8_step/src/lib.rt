@@ -6,8 +6,7 @@
 //! Manual, Version 8.
 #![tactic(auto)]
 
-ghost use Rattle.v8_step.specs.Follows.{RunsFollow};
-ghost use Rattle.v8_step.specs.Laws.{CodeStays, StepsAlike, ValidStays, WindowStays};
+ghost use Rattle.v8_step.specs.Laws.{CodeStays, ValidStays, WindowStays};
 
 mod accesses;
 mod ahead;
@@ -56,16 +55,4 @@ pub fn valid_stays()
 /// An instruction that doesn't read every register leaves the window.
 pub fn window_stays()
     ensures { WindowStays }
-{}
-
-/// Two states that fetch one word, which is no transfer of control, and share what it reads step alike: they end
-/// alike or go on, put out the same bytes, and agree on all that is written, and on all else that they agreed on.
-pub fn steps_alike()
-    ensures { StepsAlike }
-{}
-
-/// Where each step of one run is answered by a few steps of another that end at its next visit, with no visit
-/// between, the second run answers the first as a whole, and its steps are bounded.
-pub fn runs_follow()
-    ensures { RunsFollow }
 {}

@@ -11,8 +11,8 @@ use Rattle.v8_step.specs.State.{State, register_of}
 use Rattle.v8_step.specs.Run.{run}
 use Rattle.v8_step.specs.Step.{step_of}
 use Rattle.v8_step.specs.Transfers.{ended}
-use Rattle.v8_step.specs.Needed.{decoded, instr_at, judged_in, IsUntouched}
-use Rattle.v8_step.proofs.Follows.{stays_ended}
+use Rattle.two_runs.specs.Needed.{decoded, instr_at, judged_in, IsUntouched}
+use Rattle.v8_step.proofs.Live.{stays_ended}
 use Rattle.workload.specs.declared.draws.Routine.{Routine}
 use Rattle.workload.specs.Generated.{first_word, call_of, exit_code, routine_code, caller_code, code_of}
 use Rattle.workload.specs.Laws.{routine_steps, routine_sum, text_span, IsTextWord}

@@ -9,8 +9,8 @@ use Rattle.v8_step.specs.State.{State}
 use Rattle.v8_step.specs.Step.{act, step_of}
 use Rattle.v8_step.specs.Run.{run}
 use Rattle.v8_step.specs.Judged.{judged_by}
-use Rattle.v8_step.specs.Needed.{decoded, instr_at, judged_in}
-use Rattle.v8_step.proofs.Alike.{live_step}
+use Rattle.two_runs.specs.Needed.{decoded, instr_at, judged_in}
+use Rattle.v8_step.proofs.Live.{live_step}
 use Rattle.workload.specs.Laws.{IsTextWord}
 
 -- a word of the text is fetched there, and says this instruction

@@ -8,7 +8,7 @@ use Rattle.v8_memory.specs.Spans.{Span, IsApartFromAll}
 use Rattle.v8_step.specs.declared.Ending.TheVariants.{Exit}
 use Rattle.v8_step.specs.State.{State, register_of}
 use Rattle.v8_step.specs.Run.{run}
-use Rattle.v8_step.specs.Needed.{instr_at, judged_in, IsUntouched}
+use Rattle.two_runs.specs.Needed.{instr_at, judged_in, IsUntouched}
 use Rattle.v8_process.specs.Start.{start_of}
 use Rattle.workload.specs.declared.draws.Routine.{Routine}
 use Rattle.workload.specs.Generated.{routines_from, code_of, generated}

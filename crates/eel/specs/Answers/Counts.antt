@@ -1,7 +1,7 @@
 -- `counts WRITTEN DUMP`: how often each edge was completed is rebuilt from the notes of WRITTEN and the dump DUMP.
 use Rattle.std.specs.Prelude.{◌≡◌, ℕ, ◌-◌, ◌<◌, ◌≤◌, List, length, slice_index, None, Ok}
 use Rattle.elf32_sparc.specs.Image.{image_of}
-use Rattle.elf32_sparc.specs.Notes.{Notes, notes_of}
+use Rattle.notes.specs.Format.{Notes, notes_of}
 use Rattle.v8_step.specs.Valid.{AreBytes}
 use Rattle.v8_process.specs.Arguments.{AreArguments}
 use Rattle.v8_process.specs.Start.{start_of}
@@ -11,8 +11,8 @@ use Rattle.count_rebuild.specs.Answers.{AreCounts, IsBetween, IsForOther, IsImpo
 use Rattle.count_rebuild.specs.Noted.{IsProfile as HasProfile}
 use Rattle.count_rebuild.specs.declared.fault.CountFault.{CountFault}
 use Rattle.count_rebuild.specs.declared.fault.CountFault.TheVariants as faults
-use Rattle.v8_step.specs.Needed.{IsUntouched}
-use Rattle.v8_step.specs.Visits.{pages_of}
+use Rattle.two_runs.specs.Needed.{IsUntouched}
+use Rattle.two_runs.specs.Visits.{pages_of}
 use Rattle.tool_kit.specs.Plans.{Plan}
 use Rattle.exact_counts.specs.Laws.{counter_limit}
 use Rattle.exact_counts.specs.Profiles.{CountsOffTree, original_graph}

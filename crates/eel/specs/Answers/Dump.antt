@@ -5,7 +5,7 @@ use Rattle.std.specs.List.{list_any}
 use Rattle.eel_base.specs.Outside.{IsMissing, Rose, appended, stored}
 use Rattle.elf32_sparc.specs.FileFault.{load_fault}
 use Rattle.elf32_sparc.specs.Mapping.{mappings}
-use Rattle.elf32_sparc.specs.Notes.{Notes, notes_of}
+use Rattle.notes.specs.Format.{Notes, notes_of}
 use Rattle.v8_step.specs.declared.Ending.{Ending}
 use Rattle.v8_step.specs.State.{State}
 use Rattle.v8_step.specs.Run.{run, run_puts}

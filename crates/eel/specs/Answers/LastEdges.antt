@@ -1,10 +1,10 @@
 -- `trace WRITTEN DUMP`: the last edges that the dump DUMP tells of by the notes of WRITTEN, the oldest first.
 use Rattle.std.specs.Prelude.{◌≡◌, ℕ, ◌-◌, ◌≤◌, List, Ok}
 use Rattle.elf32_sparc.specs.Image.{image_of}
-use Rattle.elf32_sparc.specs.Notes.{Notes, notes_of}
-use Rattle.v8_step.specs.Needed.{IsUntouched}
+use Rattle.notes.specs.Format.{Notes, notes_of}
+use Rattle.two_runs.specs.Needed.{IsUntouched}
 use Rattle.v8_step.specs.Valid.{AreBytes}
-use Rattle.v8_step.specs.Visits.{pages_of}
+use Rattle.two_runs.specs.Visits.{pages_of}
 use Rattle.v8_process.specs.Arguments.{AreArguments}
 use Rattle.v8_process.specs.Start.{start_of}
 use Rattle.cfg_walk.specs.Walk.{walk}

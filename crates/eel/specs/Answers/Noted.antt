@@ -1,6 +1,6 @@
 -- The notes of written files, and dumps of their runs.
 use Rattle.std.specs.Prelude.{◌≡◌, ℕ, ◌*◌, ◌^◌, ◌⊎◌, List, Ok, Err}
-use Rattle.elf32_sparc.specs.Notes.{Notes, Absent, Bad, notes_of}
+use Rattle.notes.specs.Format.{Notes, Absent, Bad, notes_of}
 use Rattle.notes.specs.Seen.{HasHead}
 use Rattle.dump_file.specs.Dump.{Dump}
 use Rattle.dump_file.specs.Reading.{IsRead, read_dump}

@@ -15,7 +15,7 @@ use Rattle.tool_kit.specs.Plans.{Plan}
 use Rattle.edit_core.specs.declared.taking.EditFault.{EditFault}
 use Rattle.edit_core.specs.declared.taking.EditFault.TheVariants as faults
 use Rattle.elf32_sparc.specs.FileFault.{fault}
-use Rattle.elf32_sparc.specs.Notes.{counter_width}
+use Rattle.notes.specs.Format.{counter_width}
 use Rattle.exact_counts.specs.Profiles.{counter_in}
 use Rattle.edit_core.specs.Taken.{IsCramped}
 use Rattle.eel.specs.Outcome.{Outcome, BadFile, NoRoom, OutOfMemory}

@@ -2,7 +2,7 @@
 -- notes of the one and then the other are judged, and then whether they tell what is asked for; that is printed.
 use Rattle.std.specs.Prelude.{◌≡◌, ℕ, ◌⊎◌, List}
 use Rattle.eel_base.specs.Outside.{IsMissing, appended}
-use Rattle.elf32_sparc.specs.Notes.{Notes}
+use Rattle.notes.specs.Format.{Notes}
 use Rattle.dump_file.specs.Dump.{Dump}
 use Rattle.eel.specs.declared.report.Report.{Report}
 use Rattle.eel.specs.declared.report.Report.TheVariants as reports

@@ -1,7 +1,7 @@
 -- `restore WRITTEN OUT`: the file WRITTEN is read, and the original that its notes say stands in it is written as
 -- OUT.
 use Rattle.std.specs.Prelude.{◌≡◌, ℕ, List, take, drop, Ok}
-use Rattle.elf32_sparc.specs.Notes.{Notes, notes_of}
+use Rattle.notes.specs.Format.{Notes, notes_of}
 use Rattle.eel.specs.Answers.Make.{Making, make_means}
 use Rattle.eel.specs.Answers.Noted.{IsUnnoted}
 use Rattle.eel.specs.Answers.Shared.{Meaning, written_limit}

@@ -3,9 +3,9 @@
 use Rattle.std.specs.Prelude.{◌≡◌, ℕ, ◌<◌, List, length, slice_index}
 use Rattle.eel_base.specs.CodeText.{address_of}
 use Rattle.elf32_sparc.specs.Image.{image_of}
-use Rattle.elf32_sparc.specs.Notes.{Notes}
+use Rattle.notes.specs.Format.{Notes}
 use Rattle.flows.specs.Walks.{times}
-use Rattle.v8_step.specs.Visits.{own_trail}
+use Rattle.two_runs.specs.Visits.{own_trail}
 use Rattle.v8_process.specs.Start.{start_of}
 use Rattle.dump_file.specs.Dump.{Dump}
 use Rattle.count_rebuild.specs.Answers.{AreCounts}

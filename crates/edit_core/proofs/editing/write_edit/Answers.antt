@@ -3,7 +3,7 @@ use Rattle.eel_base.specs.CodeText.{Words}
 use Rattle.cfg_normal.specs.Graph.{Graph}
 use Rattle.snippets.specs.declared.snippet.Op.{Op}
 use Rattle.layout.specs.Laid.{Placement}
-use Rattle.elf32_sparc.specs.Notes.{Notes}
+use Rattle.notes.specs.Format.{Notes}
 use Rattle.image_code.proofs.Fit.{pieces_fit}
 use Rattle.edit_core.specs.Written.{IsBuilt, LeadsTo, placement_in, plan_of, table_after}
 use Rattle.edit_core.proofs.Steps.{code_is, original_fit, segment_is, segments_are, view_entry, view_has_room, view_text, view_words}

@@ -1,5 +1,5 @@
 use Rattle.std.proofs.Common.{ap, sym, ◌∙◌}
-use Rattle.elf32_sparc.specs.Notes.{is_version}
+use Rattle.notes.specs.Format.{is_version}
 use Rattle.notes.specs.Seen.{notes_seen}
 use Rattle.dump_file.specs.Dump.{Dump}
 use Rattle.eel.proofs.Cells.{no_length}

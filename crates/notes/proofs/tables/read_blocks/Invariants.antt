@@ -1,5 +1,5 @@
 use Rattle.std.proofs.Common.{◌≡◌, ◌+◌, ◌*◌, ◌-◌, None}
-use Rattle.elf32_sparc.specs.Notes.{blocks_at}
+use Rattle.notes.specs.Format.{blocks_at}
 use Rattle.notes.proofs.Steps.{after}
 use Rattle.notes.proofs.tables.read_blocks.Given as goal
 

@@ -1,5 +1,5 @@
 use Rattle.std.proofs.Common.{◌≡◌, ◌+◌, ◌*◌, ◌-◌, map}
-use Rattle.elf32_sparc.specs.Notes.{segments_at}
+use Rattle.notes.specs.Format.{segments_at}
 use Rattle.notes.specs.Seen.{segment_seen}
 use Rattle.notes.proofs.Steps.{after}
 use Rattle.notes.proofs.tables.read_segments.Given as goal

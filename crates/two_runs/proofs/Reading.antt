@@ -14,7 +14,7 @@ use Rattle.v8_step.specs.declared.Ending.{Ending}
 use Rattle.v8_step.specs.State.{State, register_of, operand_of, sum_of}
 use Rattle.v8_step.specs.Transfers.{ended}
 use Rattle.v8_step.specs.Items.{Item, Register, Codes, YRegister, IsAmong, AreSameAt}
-use Rattle.v8_step.specs.Alike.{IsSameWorld, AreSameAfter}
+use Rattle.two_runs.specs.Alike.{IsSameWorld, AreSameAfter}
 use Rattle.v8_alu.specs.Alike.{AgreeOn}
 
 pub same_first : (ps qs : List Part) (s t : State) → AreSameAt (ps ++ qs) s t → AreSameAt ps s t

@@ -1,26 +1,18 @@
 -- From one step to whole runs.
 use Rattle.std.proofs.Common.{◌≡◌, ℕ, zero, suc, ◌+◌, ◌-◌, ◌<◌, ◌≤◌, Option, Some, None, [], ◌∷◌, ◌++◌, length, refl, ap, sym, ◌∙◌, subst, arith, ◌⊎◌, inl, inr, length-append, append-nil, add-suc}
 use Rattle.std.proofs.lemmas.Bool.{cases_lt}
-use Rattle.elf32_sparc.specs.Notes.{Notes, range_at}
-use Rattle.v8_memory.specs.Regions.{fetch_of, byte_at, heap_end_of}
+use Rattle.notes.specs.Format.{Notes, range_at}
+use Rattle.v8_memory.specs.Regions.{byte_at, heap_end_of}
 use Rattle.v8_step.specs.declared.Ending.{Ending}
 use Rattle.v8_step.specs.State.{State}
-use Rattle.v8_step.specs.Step.{step_of, puts_of, on_word, unless_ended, puts_unless_ended, puts_on_word}
+use Rattle.v8_step.specs.Step.{step_of}
 use Rattle.v8_step.specs.Run.{run, run_puts}
-use Rattle.v8_step.specs.Visits.{visit_of, visited, in_pages, trail_of, own_trail, as_list, if_live}
-use Rattle.v8_step.specs.TwoRuns.{GoesOn, Ends, MatchesBy, Answers, IsLeast, IsBounded}
-use Rattle.v8_step.specs.Follows.{IsQuiet, IsFollowed, RunsFollow}
+use Rattle.two_runs.specs.Visits.{visit_of, visited, in_pages, trail_of, own_trail, as_list, if_live}
+use Rattle.two_runs.specs.TwoRuns.{GoesOn, Ends, MatchesBy, Answers, IsLeast, IsBounded}
+use Rattle.two_runs.specs.Follows.{IsQuiet, IsFollowed, RunsFollow}
+use Rattle.v8_step.proofs.Live.{stays_ended, puts_nothing}
 
--- ---- a run that has ended stays as it is, and puts nothing out
-
-pub stays_ended : (s : State) (d : Ending) → s.ending ≡ Some d → step_of s ≡ s
-unfolding step_of
-stays_ended s d e = ap (λ x. unless_ended s x (on_word s (fetch_of s.memory s.pc))) e
-
-pub puts_nothing : (s : State) (d : Ending) (descriptor : ℕ) → s.ending ≡ Some d → puts_of s descriptor ≡ []
-unfolding puts_of
-puts_nothing s d descriptor e =
-    ap (λ x. puts_unless_ended x (puts_on_word s (fetch_of s.memory s.pc) descriptor)) e
+-- ---- a run that has ended stays as it is
 
 still_ended : (t0 : State) (m k : ℕ) (d : Ending) → (run t0 m).ending ≡ Some d → (run t0 (m + k)).ending ≡ Some d
 still_ended t0 m zero d e = let s : m + 0 ≡ m = omega arith in ap (λ n. (run t0 n).ending) s ∙ e

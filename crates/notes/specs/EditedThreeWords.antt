@@ -1,9 +1,9 @@
 -- The notes of a file of three words that was edited, by computation.
-use Rattle.std.proofs.Common.{◌≡◌, ℕ, List, [], ◌∷◌, ◌++◌, Ok, Err, take, drop, replicate, refl}
+use Rattle.std.specs.Prelude.{◌≡◌, ℕ, List, [], ◌∷◌, ◌++◌, Ok, Err, take, drop, replicate, refl}
 use Rattle.std.specs.Int.{w32, to_be_bytes}
 use Rattle.std.specs.List.{flat_map}
 use Rattle.elf32_sparc.specs.Header.{word_at}
-use Rattle.elf32_sparc.specs.Notes.{Notes, Absent, Bad, notes_of, segments_at, blocks_at, edges_at, ranges_at, read_notes, head_of, tables_of, block_count_at}
+use Rattle.notes.specs.Format.{Notes, Absent, Bad, notes_of, segments_at, blocks_at, edges_at, ranges_at, read_notes, head_of, tables_of, block_count_at}
 
 abbrev bytes : List ℕ → List ℕ
 bytes words = flat_map (to_be_bytes w32) words

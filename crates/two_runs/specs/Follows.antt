@@ -1,12 +1,12 @@
 -- From one step to whole runs: where each step of the original is answered by a few steps of the written file
 -- that end at the next visit, with none between, the two runs go on, end and are bounded as a whole.
 use Rattle.std.specs.Prelude.{◌≡◌, ℕ, zero, suc, ◌+◌, ◌<◌, ◌≤◌, Some, None}
-use Rattle.elf32_sparc.specs.Notes.{Notes}
+use Rattle.notes.specs.Format.{Notes}
 use Rattle.v8_step.specs.declared.Ending.{Ending}
 use Rattle.v8_step.specs.State.{State}
 use Rattle.v8_step.specs.Run.{run}
-use Rattle.v8_step.specs.Visits.{visit_of}
-use Rattle.v8_step.specs.TwoRuns.{Matches, Answers, IsLeast, IsBounded}
+use Rattle.two_runs.specs.Visits.{visit_of}
+use Rattle.two_runs.specs.TwoRuns.{Matches, Answers, IsLeast, IsBounded}
 
 -- the run goes on and no state visits anything from moment `begin` on, up to but not including moment `end`
 abbrev pub IsQuiet : Notes → State → ℕ → ℕ → Type 0

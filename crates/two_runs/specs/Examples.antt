@@ -1,14 +1,20 @@
--- Visits, trails and needed items of small runs: they compute.
-use Rattle.std.specs.Prelude.{◌≡◌, ℕ, [], ◌∷◌, Some, None, refl}
-use Rattle.elf32_sparc.specs.Notes.{Notes}
+-- Visits and trails of small runs: they compute.
+use Rattle.std.specs.Prelude.{◌≡◌, ℕ, [], ◌∷◌, Some, None, true, false, refl}
+use Rattle.notes.specs.Format.{Notes}
+use Rattle.v8_alu.specs.Alu.{alu_of}
+use Rattle.v8_alu.specs.Conditions.{holds_of}
+use Rattle.v8_decode.specs.Words.{decode_of, arithmetic}
+use Rattle.v8_memory.specs.Regions.{Region, fetch_of}
+use Rattle.v8_memory.specs.Segments.{empty_heap}
 use Rattle.v8_step.specs.declared.Ending.TheVariants.{Couple}
+use Rattle.v8_step.specs.Calls.{system_call, trap_step}
+use Rattle.v8_step.specs.Run.{first_state}
 use Rattle.v8_step.specs.State.{State}
-use Rattle.v8_step.specs.Visits.{visit_of, own_trail}
-use Rattle.v8_process.specs.Start.{start_of}
-use Rattle.v8_process.specs.Programs.{after, file_of, three_words, first_of}
+use Rattle.v8_step.specs.Step.{act, alu_step, step_of}
+use Rattle.two_runs.specs.Visits.{visit_of, own_trail}
 
 -- A page of 16 bytes: at 0x20000 stands the instruction of 0x10054 in two words, and at 0x2000c that of 0x10058.
-abbrev pub one_page : Notes
+abbrev one_page : Notes
 one_page = record {
   version = 2;
   delta = 4096;
@@ -27,8 +33,20 @@ one_page = record {
       ∷ record { lo = 0x2000c; hi = 0x20010; address = 0x10058; node = 0 } ∷ [];
 }
 
-abbrev pub at : ℕ → State
-at pc = record (first_of []) { pc = pc }
+-- A text of three words, which exits with 3:
+--   mov 1,%g1; mov 3,%o0; ta 16
+abbrev text : Region
+text = record {
+  start = 0x10054;
+  size = 12;
+  readable = true;
+  writable = false;
+  executable = true;
+  bytes = 0x82 ∷ 0x10 ∷ 0x20 ∷ 0x01 ∷ 0x90 ∷ 0x10 ∷ 0x20 ∷ 0x03 ∷ 0x91 ∷ 0xd0 ∷ 0x20 ∷ 0x10 ∷ [];
+}
+
+abbrev at : ℕ → State
+at pc = first_state (record { heap = empty_heap; regions = text ∷ [] }) pc 0 []
 
 -- a place is visited at its first address alone
 first_word : visit_of one_page (at 0x20000) ≡ Some 0x10054
@@ -53,6 +71,6 @@ after_the_end : visit_of one_page (record (at 0x20000) { ending = Some Couple })
 after_the_end = refl
 
 -- the last state has ended
-three_words_trail : own_trail (start_of (file_of three_words) [] []) 4 ≡ 0x10054 ∷ 0x10058 ∷ 0x1005c ∷ []
-unfolding after
+three_words_trail : own_trail (at 0x10054) 4 ≡ 0x10054 ∷ 0x10058 ∷ 0x1005c ∷ []
+unfolding decode_of arithmetic step_of act alu_step system_call trap_step alu_of holds_of fetch_of
 three_words_trail = refl

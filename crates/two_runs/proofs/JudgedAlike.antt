@@ -1,7 +1,7 @@
 -- States that are the same in all but pc, npc, slot, ending, and memory in the pages judge the same bytes.
 use Rattle.std.proofs.Common.{◌≡◌, ℕ, zero, suc, ◌-◌, ◌%◌, Bool, true, false, Option, Some, None, List, [], ◌++◌, length, take, refl, ap, ◌∙◌, subst}
 use Rattle.std.specs.Prelude.{if◌then◌else◌, ◌==◌}
-use Rattle.elf32_sparc.specs.Notes.{Notes}
+use Rattle.notes.specs.Format.{Notes}
 use Rattle.v8_decode.specs.declared.Instr.{Instr}
 use Rattle.v8_decode.specs.declared.Instr.TheVariants as i
 use Rattle.v8_memory.specs.Regions.{Memory}
@@ -17,9 +17,10 @@ use Rattle.v8_step.specs.WindowMoves.{saved_memory}
 use Rattle.v8_step.specs.Calls.{is_output}
 use Rattle.v8_step.specs.Step.{trap_number}
 use Rattle.v8_step.specs.Judged.{aligned_span, buffer_span, judged_by_call, saved_span, frame_span, judged_after, judged_by_spills, judged_by_trap, judged_by}
-use Rattle.v8_step.specs.Visits.{pages_of}
-use Rattle.v8_step.specs.Twins.{AreTwins}
-use Rattle.v8_step.proofs.Twins.{same_arguments, twin_register, twin_sum, twins_saved, same_address, saved_alike, apart_first, apart_rest}
+use Rattle.two_runs.specs.Visits.{pages_of}
+use Rattle.two_runs.specs.Twins.{AreTwins}
+use Rattle.two_runs.proofs.Twins.{same_arguments, twin_register, twin_sum, twins_saved, same_address, saved_alike}
+use Rattle.v8_step.proofs.KeptOutside.{apart_first, apart_rest}
 
 module _ (notes : Notes) where
   abbrev pages : List Span

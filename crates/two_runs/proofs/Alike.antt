@@ -1,19 +1,17 @@
 -- Every instruction that is no transfer does the same from two states that agree on what it reads.
-use Rattle.std.proofs.Common.{◌≡◌, ℕ, false, Option, Some, None, ap, sym, ◌∙◌, subst}
+use Rattle.std.proofs.Common.{◌≡◌, false, sym, ◌∙◌, subst}
 use Rattle.v8_decode.specs.declared.Instr.{Instr}
 use Rattle.v8_decode.specs.declared.Instr.TheVariants as i
 use Rattle.v8_decode.specs.Words.{decode_of}
-use Rattle.v8_memory.specs.Regions.{fetch_of}
-use Rattle.v8_step.specs.declared.Ending.{Ending}
 use Rattle.v8_step.specs.State.{State}
-use Rattle.v8_step.specs.Step.{act, step_of, on_word, unless_ended, puts_by, puts_of, puts_on_word, puts_unless_ended}
+use Rattle.v8_step.specs.Step.{act, step_of}
 use Rattle.v8_step.specs.Items.{is_transfer}
-use Rattle.v8_step.specs.Alike.{AreSameAfter, ActsAlike}
-use Rattle.v8_step.specs.Laws.{StepsAlike}
-use Rattle.v8_step.proofs.RegistersAlike.{alu_acts, sethi_acts, read_y_acts, write_y_acts, stbar_acts, flush_acts, illegal_acts, privileged_acts, fp_off_acts, cp_off_acts}
-use Rattle.v8_step.proofs.AccessesAlike.{load_acts, store_acts, ldstub_acts, swap_acts}
-use Rattle.v8_step.proofs.Twins.{save_acts, restore_acts}
-use Rattle.v8_step.proofs.Puts.{ticc_acts}
+use Rattle.two_runs.specs.Alike.{AreSameAfter, ActsAlike, StepsAlike}
+use Rattle.two_runs.proofs.RegistersAlike.{alu_acts, sethi_acts, read_y_acts, write_y_acts, stbar_acts, flush_acts, illegal_acts, privileged_acts, fp_off_acts, cp_off_acts}
+use Rattle.two_runs.proofs.AccessesAlike.{load_acts, store_acts, ldstub_acts, swap_acts}
+use Rattle.two_runs.proofs.Twins.{save_acts, restore_acts}
+use Rattle.two_runs.proofs.Puts.{ticc_acts}
+use Rattle.v8_step.proofs.Live.{live_step, live_puts}
 
 pub acts_alike : (instr : Instr) → is_transfer instr ≡ false → ActsAlike instr
 acts_alike (i.Sethi rd imm22) e = sethi_acts rd imm22
@@ -36,20 +34,6 @@ acts_alike i.Illegal e = illegal_acts
 acts_alike i.Privileged e = privileged_acts
 acts_alike i.FpOff e = fp_off_acts
 acts_alike i.CpOff e = cp_off_acts
-
--- a live state's step is what the word at pc does
-pub live_step : (s : State) (word : ℕ) → s.ending ≡ None → fetch_of s.memory s.pc ≡ Some word
-    → step_of s ≡ act s (decode_of word)
-unfolding step_of
-live_step s word live fetched =
-    ap (λ (e : Option Ending). unless_ended s e (on_word s (fetch_of s.memory s.pc))) live ∙ ap (on_word s) fetched
-
-pub live_puts : (s : State) (word descriptor : ℕ) → s.ending ≡ None → fetch_of s.memory s.pc ≡ Some word
-    → puts_of s descriptor ≡ puts_by s (decode_of word) descriptor
-unfolding puts_of
-live_puts s word descriptor live fetched =
-    ap (λ (e : Option Ending). puts_unless_ended e (puts_on_word s (fetch_of s.memory s.pc) descriptor)) live
-    ∙ ap (λ o. puts_on_word s o descriptor) fetched
 
 pub steps_alike : StepsAlike
 steps_alike word e pages s t ready fetched fetched' =

@@ -21,10 +21,10 @@ use Rattle.v8_step.specs.Traps.{division_by_zero, tag_overflow, illegal_instruct
 use Rattle.v8_step.specs.Transfers.{next}
 use Rattle.v8_step.specs.Step.{act, alu_step, puts_by}
 use Rattle.v8_step.specs.Items.{Item, Register, Codes, YRegister, IsAmong, IsSameAt}
-use Rattle.v8_step.specs.Alike.{IsSameWorld, AreSameAfter, ActsAlike}
+use Rattle.two_runs.specs.Alike.{IsSameWorld, AreSameAfter, ActsAlike}
 use Rattle.v8_alu.specs.Alike.{AreAlike}
 use Rattle.v8_alu.proofs.Alike.{alu_of-alike}
-use Rattle.v8_step.proofs.Reading.{same_assoc, same_first, same_rest, same_register, same_operand, same_inputs, place_one, among_split, among_assoc, no_codes, no_y, ended_alike, same_lengths}
+use Rattle.two_runs.proofs.Reading.{same_assoc, same_first, same_rest, same_register, same_operand, same_inputs, place_one, among_split, among_assoc, no_codes, no_y, ended_alike, same_lengths}
 
 no_place : (n w : ℕ) (sets writes : Bool) → IsAmong (Register n) w (when sets (Icc ∷ []) ++ when writes (Y ∷ [])) → ⊥
 no_place n w true true (inl e) = cc

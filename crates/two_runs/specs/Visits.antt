@@ -1,7 +1,7 @@
 -- Which instructions of the original a run of a written file visits, by the notes of that file.
 use Rattle.std.specs.Prelude.{ℕ, zero, suc, ◌+◌, Bool, true, false, List, [], ◌∷◌, ◌++◌, map, Option, Some, None, ◌==◌, if◌then◌else◌}
 use Rattle.std.specs.List.{list_any}
-use Rattle.elf32_sparc.specs.Notes.{Notes, NoteSegment, NoteRange, range_at, holds}
+use Rattle.notes.specs.Format.{Notes, NoteSegment, NoteRange, range_at, holds}
 use Rattle.v8_memory.specs.Spans.{Span}
 use Rattle.v8_step.specs.declared.Ending.{Ending}
 use Rattle.v8_step.specs.State.{State}

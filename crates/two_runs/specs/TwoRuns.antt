@@ -1,13 +1,13 @@
 -- What a run of a written file has to do with the original's run, at one moment of each.
 use Rattle.std.specs.Prelude.{◌≡◌, ℕ, suc, ◌+◌, ◌≤◌, false, Option, Some, None}
-use Rattle.elf32_sparc.specs.Notes.{Notes}
+use Rattle.notes.specs.Format.{Notes}
 use Rattle.v8_memory.specs.Regions.{byte_at, heap_end_of}
 use Rattle.v8_step.specs.declared.Ending.{Ending}
 use Rattle.v8_step.specs.State.{State}
 use Rattle.v8_step.specs.Run.{run, run_puts}
 use Rattle.v8_step.specs.Items.{Item, IsSameAt}
-use Rattle.v8_step.specs.Needed.{IsNeeded}
-use Rattle.v8_step.specs.Visits.{visit_of, in_pages, trail_of, own_trail}
+use Rattle.two_runs.specs.Needed.{IsNeeded}
+use Rattle.two_runs.specs.Visits.{visit_of, in_pages, trail_of, own_trail}
 
 -- the same input is left, the same output went out, and the heap's end and memory outside the pages are the same
 pub record HasSameOutside (notes : Notes) (s0 t0 : State) (n m : ℕ) : Type 0 where

@@ -1,13 +1,15 @@
 -- Two states that do the same: they may differ in some pages of memory, in pc, and in what is not read.
-use Rattle.std.specs.Prelude.{◌≡◌, ℕ, ◌⊎◌, List, length, None}
+use Rattle.std.specs.Prelude.{◌≡◌, ℕ, ◌⊎◌, List, length, None, false, Some}
 use Rattle.v8_decode.specs.declared.Instr.{Instr}
 use Rattle.v8_decode.specs.Effects.{writes_of}
 use Rattle.v8_memory.specs.Spans.{Span, AllApart, IsSameOutside}
 use Rattle.v8_windows.specs.Registers.{AreRegisters}
 use Rattle.v8_step.specs.State.{State}
-use Rattle.v8_step.specs.Step.{act, puts_by}
-use Rattle.v8_step.specs.Items.{Item, IsAmong, IsSameAt, IsSameForReading}
+use Rattle.v8_step.specs.Step.{act, puts_by, step_of, puts_of}
+use Rattle.v8_step.specs.Items.{Item, IsAmong, IsSameAt, IsSameForReading, is_transfer}
 use Rattle.v8_step.specs.Judged.{judged_by}
+use Rattle.v8_decode.specs.Words.{decode_of}
+use Rattle.v8_memory.specs.Regions.{fetch_of}
 
 -- What two states share besides items: windows, input and the memory outside the pages.
 pub record IsSameWorld (pages : List Span) (s t : State) : Type 0 where
@@ -42,3 +44,12 @@ ActsAlike instr =
     (pages : List Span) (s t : State) → IsReady pages instr s t
     → AreSameAfter pages instr s t (act s instr) (act t instr)
     × ((descriptor : ℕ) → puts_by s instr descriptor ≡ puts_by t instr descriptor)
+
+-- Two states that fetch the same word, no transfer, and share what it needs, step alike and put out the same.
+abbrev pub StepsAlike : Type 0
+StepsAlike =
+    (word : ℕ) → is_transfer (decode_of word) ≡ false
+    → (pages : List Span) (s t : State) → IsReady pages (decode_of word) s t
+    → fetch_of s.memory s.pc ≡ Some word → fetch_of t.memory t.pc ≡ Some word
+    → AreSameAfter pages (decode_of word) s t (step_of s) (step_of t)
+    × ((descriptor : ℕ) → puts_of s descriptor ≡ puts_of t descriptor)

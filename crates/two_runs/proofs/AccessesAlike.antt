@@ -23,8 +23,9 @@ use Rattle.v8_step.specs.Transfers.{next, trapped}
 use Rattle.v8_step.specs.Accesses.{load_size, store_size, loaded, stored, on_bytes, on_memory, load_step, store_step, exchange_step, ldstub_step, swap_step}
 use Rattle.v8_step.specs.Step.{act, puts_by}
 use Rattle.v8_step.specs.Items.{Item, Register, Codes, YRegister, IsAmong, IsSameAt, AreSameAt}
-use Rattle.v8_step.specs.Alike.{IsSameWorld, AreSameAfter, ActsAlike}
-use Rattle.v8_step.proofs.Reading.{same_assoc, same_first, same_rest, same_register, same_sum, place_one, among_split, no_codes, no_y, ended_alike, same_lengths}
+use Rattle.two_runs.specs.Alike.{IsSameWorld, AreSameAfter, ActsAlike}
+use Rattle.two_runs.proofs.Reading.{same_assoc, same_first, same_rest, same_register, same_sum, place_one, among_split, no_codes, no_y, ended_alike, same_lengths}
+use Rattle.v8_step.proofs.KeptOutside.{length-stored, store_some}
 
 -- ---- loads
 
@@ -164,18 +165,6 @@ stored_alike stores.STD rd s t w g =
     let f = same_register (suc rd) s t w (same_rest (reg rd) (reg (suc rd)) s t g) in
     ap (λ n. to_be_bytes w32 n ++ to_be_bytes w32 (register_of s (suc rd))) e
     ∙ ap (λ n. to_be_bytes w32 (register_of t rd) ++ to_be_bytes w32 n) f
-
-pub length-stored : (kind : StoreKind) (rd : ℕ) (s : State) → length (stored s kind rd) ≡ store_size kind
-length-stored stores.ST rd s = refl
-length-stored stores.STB rd s = refl
-length-stored stores.STH rd s = refl
-length-stored stores.STD rd s = refl
-
-pub store_some : (kind : StoreKind) → 0 < store_size kind
-store_some stores.ST = omega arith
-store_some stores.STB = omega arith
-store_some stores.STH = omega arith
-store_some stores.STD = omega arith
 
 stored_items : (s t : State) (m n : Memory) (item : Item) → ⊥ ⊎ IsSameAt item s t
     → IsSameAt item (next (record s { memory = m })) (next (record t { memory = n }))

@@ -1,6 +1,6 @@
 -- Twins: states that are the same but for pc, npc, slot, and memory in the pages. SAVE, RESTORE and Ticc, which
 -- read every item, lead twins to twins.
-use Rattle.std.proofs.Common.{◌≡◌, ◌<◌, ℕ, zero, suc, ◌+◌, ◌-◌, ◌^◌, ◌%◌, Bool, true, false, Option, Some, None, List, [], ◌∷◌, ◌++◌, length, take, drop, refl, ap, sym, ◌∙◌, subst, arith}
+use Rattle.std.proofs.Common.{◌≡◌, ◌<◌, ℕ, zero, suc, ◌+◌, ◌-◌, ◌^◌, ◌%◌, Bool, true, false, Option, Some, None, List, [], ◌∷◌, length, take, drop, refl, ap, sym, ◌∙◌, subst, arith}
 use Rattle.std.specs.Prelude.{slice_index, if◌then◌else◌, ◌==◌}
 use Rattle.std.proofs.Math.Seq.{ext_get_or}
 use Rattle.v8_decode.specs.declared.Op2.{Op2}
@@ -27,8 +27,9 @@ use Rattle.v8_step.specs.Calls.{answered, succeeds, refuses, read_into, read_cal
 use Rattle.v8_step.specs.Step.{act, puts_by}
 use Rattle.v8_step.specs.Items.{Item, Register, Codes, YRegister, IsSameAt}
 use Rattle.v8_step.specs.Judged.{buffer_span, judged_by_call, saved_span, frame_span, judged_after, judged_by_spills, judged_by_trap}
-use Rattle.v8_step.specs.Twins.{AreTwins}
-use Rattle.v8_step.specs.Alike.{AreSameAfter, IsSameWorld, IsReady, ActsAlike}
+use Rattle.two_runs.specs.Twins.{AreTwins}
+use Rattle.two_runs.specs.Alike.{AreSameAfter, IsSameWorld, IsReady, ActsAlike}
+use Rattle.v8_step.proofs.KeptOutside.{apart_first, apart_rest}
 
 pub twins_of : (pages : List Span) (instr : Instr) (s t : State) → reads_all instr ≡ true → IsReady pages instr s t
     → AreTwins pages s t
@@ -229,14 +230,6 @@ restore_acts rd rs1 op2 pages s t ready =
     )
 
 -- ---- Ticc: windows that are saved
-
-pub apart_first : (pages xs ys : List Span) → AllApart pages (xs ++ ys) → AllApart pages xs
-apart_first pages [] ys h = tt
-apart_first pages (x ∷ xs) ys h = (h.0, apart_first pages xs ys h.1)
-
-pub apart_rest : (pages xs ys : List Span) → AllApart pages (xs ++ ys) → AllApart pages ys
-apart_rest pages [] ys h = h
-apart_rest pages (x ∷ xs) ys h = apart_rest pages xs ys h.1
 
 spills_after : (pages : List Span) (n : ℕ) (s t : State) → AreTwins pages s t
     → ((p q : State) → AreTwins pages p q → AllApart pages (judged_by_spills n p)

@@ -4,11 +4,11 @@ use Rattle.std.proofs.Common.{◌≡◌, ℕ, ◌+◌, inl, inr, Bool, true, fal
 use Rattle.std.specs.List.{list_any}
 use Rattle.std.specs.Option.{option_map}
 use Rattle.std.proofs.lemmas.Bool.{leb-false}
-use Rattle.elf32_sparc.specs.Notes.{Notes, NoteSegment, holds}
+use Rattle.notes.specs.Format.{Notes, NoteSegment, holds}
 use Rattle.v8_memory.specs.Regions.{Memory, Region, part_of, region_at, byte_at, heap_end_of}
 use Rattle.v8_memory.specs.Spans.{Span, IsApart, IsApartFromAll, IsSameRegion, IsSameOutside}
 use Rattle.v8_memory.proofs.Same.{same_region}
-use Rattle.v8_step.specs.Visits.{page_of, pages_of, in_pages}
+use Rattle.two_runs.specs.Visits.{page_of, pages_of, in_pages}
 
 apart_one : (address : ℕ) (segment : NoteSegment) (low high : Bool) → nat_le segment.start address ≡ low
     → nat_le (address + 1) (segment.start + segment.length) ≡ high → (low && high) ≡ false

@@ -1,0 +1,9 @@
+pub mod AccessesAlike
+pub mod Alike
+pub mod Follows
+pub mod JudgedAlike
+pub mod Outside
+pub mod Puts
+pub mod Reading
+pub mod RegistersAlike
+pub mod Twins
