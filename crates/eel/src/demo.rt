@@ -22,7 +22,7 @@ ghost use Rattle.eel.specs.Tame.{EndsWithin, IsLastDump, IsNotedFile, IsTame};
 
 use crate::dumps::dump_of;
 use crate::outcome::Outcome;
-use crate::profiling::profiled;
+use crate::profile::profiled;
 use crate::texts::print;
 use cfg_view::look;
 use count_rebuild::{CountFault, rebuild};

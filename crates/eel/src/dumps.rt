@@ -19,7 +19,7 @@ ghost use Rattle.eel.specs.Answers.Dump.{Dumps, IsDumped, IsNotNoted, IsNoted, I
 ghost use Rattle.exact_counts.specs.Stops.{length_told as length_told_of};
 ghost use Rattle.eel.specs.Cells.{AreLoadable, KeepCells, has_cells as has_cells_of};
 
-use crate::noted::notes_in;
+use crate::inputs::notes_in;
 use crate::outcome::Outcome;
 use crate::run::{Job, WRITTEN_LIMIT, outcome_of, start};
 use crate::texts::{fetch_file, read_input};

@@ -9,9 +9,9 @@ ghost use Rattle.eel.specs.Answers.Make.{Makes};
 ghost use Rattle.eel.specs.Answers.MakeBy.{MakesBy};
 ghost use Rattle.eel.specs.Answers.Script.{HasCells, IsBadScript, IsNotScripted, IsReadAs, IsScriptEdit, script_plan, script_refusal_of, scripting};
 
+use crate::inputs::view_in;
 use crate::outcome::{LineCause, Outcome};
 use crate::texts::{fetch_file, put_file};
-use crate::viewed::view_in;
 use edit_core::{EditFault, edit_bytes};
 use eel_base::Files;
 use snippets::{Script, ScriptFault, Snippet, read_script};

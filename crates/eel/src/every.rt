@@ -13,7 +13,7 @@ ghost use Rattle.eel.specs.Answers.Every.{every_view, every_word, word_numbered}
 
 use crate::edit::{EDIT_LIMIT, refusal};
 use crate::outcome::Outcome;
-use crate::profiling::profiled_with;
+use crate::profile::profiled_with;
 use crate::texts::{fetch_file, put_file};
 use cfg_view::{View, look};
 use edit_core::EditFault;

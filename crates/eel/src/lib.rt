@@ -2,33 +2,32 @@
 //! given.
 #![tactic(auto)]
 
-mod assembly;
 mod command;
-mod counting;
+mod counts;
 mod demo;
-mod disassembly;
 mod dumps;
 mod edit;
 mod every;
-mod listing;
-mod noted;
+mod inputs;
+mod last_edges;
+mod list;
 mod outcome;
-mod profiling;
+mod profile;
 mod program;
 mod report;
 mod restore;
 mod run;
+mod show;
 mod texts;
-mod tooling;
+mod tool_edit;
 mod top;
-mod trace;
-mod tracing;
-mod viewed;
-mod visiting;
-mod weighing;
+mod trace_edit;
+mod visits;
+mod weights_edit;
+mod words;
 
-pub use counting::edits_are_profiles;
+pub use counts::edits_are_profiles;
+pub use last_edges::edits_are_traces;
 pub use outcome::Outcome;
 pub use program::run_words;
 pub use top::eel;
-pub use trace::edits_are_traces;

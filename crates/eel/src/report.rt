@@ -8,13 +8,13 @@ ghost use Rattle.eel.specs.Seen.{files_seen, stream_seen};
 ghost use Rattle.eel.specs.Answers.Shared.{Feed, outside};
 ghost use Rattle.eel.specs.Answers.Report.{IsRefused, IsReported, IsUnreported, Reports, Tell};
 
-use crate::counting::count_lines;
-use crate::noted::{dump_in, notes_in};
+use crate::counts::count_lines;
+use crate::inputs::{dump_in, notes_in};
+use crate::last_edges::edge_lines;
 use crate::outcome::Outcome;
 use crate::run::WRITTEN_LIMIT;
 use crate::texts::{fetch_file, print};
-use crate::trace::edge_lines;
-use crate::visiting::visit_lines;
+use crate::visits::visit_lines;
 use dump_file::Dump;
 use eel_base::{Files, Sink};
 use notes::Notes;

@@ -7,7 +7,7 @@ ghost use Rattle.eel.specs.Answers.Make.{Makes};
 ghost use Rattle.eel.specs.Answers.Noted.{IsUnnoted};
 ghost use Rattle.eel.specs.Answers.Restore.{HasOriginal, original_in, restoring};
 
-use crate::noted::notes_in;
+use crate::inputs::notes_in;
 use crate::outcome::Outcome;
 use crate::run::WRITTEN_LIMIT;
 use crate::texts::{fetch_file, put_file};

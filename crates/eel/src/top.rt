@@ -5,21 +5,21 @@ ghost use Rattle.eel.specs.Outcome.{outcome_seen};
 ghost use Rattle.eel.specs.Seen.{outside_seen};
 ghost use Rattle.eel.specs.Answers.{HasFailed, IsDone, IsRefusal, IsUnchanged, IsUnrefused, Ran, WasWanting, meaning_of};
 
-use crate::assembly::assemble_words;
 use crate::command::{Command, parse};
 use crate::demo::demonstrate;
-use crate::disassembly::list_words;
 use crate::dumps::run_for_dump;
 use crate::edit::{edit_by_script, edit_plain};
 use crate::every::edit_every_word;
-use crate::listing::show_program;
+use crate::list::list_words;
 use crate::outcome::Outcome;
-use crate::profiling::edit_for_counts;
+use crate::profile::edit_for_counts;
 use crate::report::report_run;
 use crate::restore::restore_original;
 use crate::run::{Job, run_program};
-use crate::tracing::edit_for_trace;
-use crate::weighing::edit_by_weights;
+use crate::show::show_program;
+use crate::trace_edit::edit_for_trace;
+use crate::weights_edit::edit_by_weights;
+use crate::words::assemble_words;
 use eel_base::{Files, Sink, Source};
 use std::alloc::Global;
 

@@ -1,5 +1,0 @@
-use Rattle.eel.proofs.LastOfWalk.{edits_are_traces}
-use Rattle.eel.proofs.trace.edits_are_traces.Goals as goal
-
-pub returns : goal.returns
-returns c = edits_are_traces

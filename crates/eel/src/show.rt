@@ -1,0 +1,63 @@
+//! The command `show`.
+ghost use Rattle.std.specs.Prelude.{◌≡◌, ◌≤◌, IfOk, IfErr};
+ghost use Rattle.cfg_view.specs.View.{view_seen, IsView};
+ghost use Rattle.eel.specs.Outcome.{Stream, outcome_seen};
+ghost use Rattle.eel.specs.Seen.{files_seen, stream_seen};
+ghost use Rattle.eel.specs.Answers.Files.{IsNotSound, IsSound};
+ghost use Rattle.eel.specs.Answers.Shared.{Feed, outside};
+ghost use Rattle.eel.specs.Answers.Print.{Prints};
+ghost use Rattle.eel.specs.Answers.Show.{lines_of, shown_of};
+
+use crate::edit::EDIT_LIMIT;
+use crate::inputs::view_in;
+use crate::outcome::Outcome;
+use crate::texts::{fetch_file, print};
+use cfg_view::View;
+use eel_base::{Files, NoMemory, Sink};
+use show_text::show;
+use std::alloc::Global;
+
+/// Reads the program, and prints its routines, blocks, edges and switches.
+pub fn show_program<'a, F: Files, O: Sink>(
+    alloc: Global,
+    file: &'a str,
+    files: &mut F,
+    out: &mut O,
+) -> Outcome<'a>
+    // Whatever the input and the error stream are, they stay so.
+    ensures prints { (feed : Feed) (err : Stream) → Prints shown_of file.now
+        (outside (files_seen F.Files files.old) feed (stream_seen O.Sink out.old) err)
+        (outside (files_seen F.Files files.new) feed (stream_seen O.Sink out.new) err)
+        (outcome_seen result) }
+    ensures kept { F.held files.new ≡ F.held files.old }
+    ensures files_faults { F.faults files.old ≤ F.faults files.new }
+    ensures out_faults { O.faults out.old ≤ O.faults out.new }
+{
+    let bytes = match fetch_file(alloc, files, file, EDIT_LIMIT) {
+        Ok(bytes) => bytes,
+        Err(outcome) => return outcome,
+    };
+    match listing(alloc, file, &bytes) {
+        Ok(lines) => print(out, &lines),
+        Err(outcome) => outcome,
+    }
+}
+
+/// The lines that show the program of the file `name`.
+fn listing<'a>(alloc: Global, name: &'a str, bytes: &[u8]) -> Result<Vec<u8>, Outcome<'a>>
+    ensures lines { IfOk result (λ lines. lines.items ≡ shown_of bytes.now) }
+    ensures sound { IfOk result (λ lines. IsSound bytes.now) }
+    ensures refused { IfErr result (λ outcome. IsNotSound name.now bytes.now (outcome_seen outcome)) }
+{
+    let view = view_in(alloc, name, bytes)?;
+    Ok(view_lines(alloc, &view)?)
+}
+
+/// The lines that show a view and its switches.
+fn view_lines(alloc: Global, view: &View) -> Result<Vec<u8>, NoMemory>
+    requires { IsView view.now }
+    ensures { IfOk result (λ lines. lines.items ≡ lines_of (view_seen view.now)) }
+{
+    let lines = show(alloc, view, &view.switches)?;
+    Ok(lines)
+}
