@@ -609,6 +609,9 @@ DONE = {
     'demo 1 1': ([prints(b'demo 1 routines 1\nwords 11 blocks 8 edges 17\nending exit 178 steps 35\nexecutions 11\n')], [], 0),
 }
 
+OF_ANOTHER = told(
+    'of_another', ': ', 'made for ', str(len(CARRY_LOOP)), ' bytes, ', str(len(THREE_WORDS)), ' wanted', '\n')
+
 REFUSED = {
     'help': ([], [b'eel: bad words\n'], 64),
     'edit short out plain': ([fetch], told('short', ': ', 'file fault ', '1', '\n'), 65),
@@ -624,12 +627,11 @@ REFUSED = {
     'counts profiled short': ([fetch, fetch], told('short', ': ', 'bad dump at ', '0', '\n'), 65),
     'counts plain dump': ([fetch, fetch], told('plain', ': ', 'no profile', '\n'), 65),
     'counts three_profiled of_an_older_version': (
-        [fetch, fetch], told('of_an_older_version', ': dump version ', '1', ', notes version ', '2', '\n'), 65),
-    'counts three_profiled of_another': (
-        [fetch, fetch], told('of_another', ': made for ', str(len(CARRY_LOOP)), ' bytes, ', str(len(THREE_WORDS)), ' wanted\n'), 65),
+        [fetch, fetch], told('of_an_older_version', ': ', 'dump version ', '1', ', notes version ', '2', '\n'), 65),
+    'counts three_profiled of_another': ([fetch, fetch], OF_ANOTHER, 65),
     'counts three_profiled three_cells': (
-        [fetch, fetch], told('three_cells', ': ', '3', ' cells, ', '2', ' wanted\n'), 65),
-    'counts carry_loop.narrow narrow_long_run': ([fetch, fetch], told('narrow_long_run', ': ', '4294967296', ' steps\n'), 65),
+        [fetch, fetch], told('three_cells', ': ', '3', ' cells, ', '2', ' wanted', '\n'), 65),
+    'counts carry_loop.narrow narrow_long_run': ([fetch, fetch], told('narrow_long_run', ': ', '4294967296', ' steps', '\n'), 65),
     'counts three_profiled in_no_place': ([fetch, fetch], told('in_no_place', ': pc ', 'fffff000', ' between places\n'), 65),
     'counts branching taken_twice': (
         [fetch, fetch], told('taken_twice', ': edge ', '1', ' would be ', '-1', '\n'), 65),
@@ -644,25 +646,23 @@ REFUSED = {
     'visits marked short': ([fetch, fetch], told('short', ': ', 'bad dump at ', '0', '\n'), 65),
     'visits profiled dump': ([fetch, fetch], told('profiled', ': ', 'not every word', '\n'), 65),
     'visits marked of_an_older_version': (
-        [fetch, fetch], told('of_an_older_version', ': dump version ', '1', ', notes version ', '2', '\n'), 65),
-    'visits three_marked of_another': (
-        [fetch, fetch], told('of_another', ': made for ', str(len(CARRY_LOOP)), ' bytes, ', str(len(THREE_WORDS)), ' wanted\n'), 65),
-    'visits three_marked three_cells': ([fetch, fetch], told('three_cells', ': ', '3', ' cells, ', '6', ' wanted\n'), 65),
+        [fetch, fetch], told('of_an_older_version', ': ', 'dump version ', '1', ', notes version ', '2', '\n'), 65),
+    'visits three_marked of_another': ([fetch, fetch], OF_ANOTHER, 65),
+    'visits three_marked three_cells': ([fetch, fetch], told('three_cells', ': ', '3', ' cells, ', '6', ' wanted', '\n'), 65),
     'visits marked out_of_place': ([fetch, fetch], told('out_of_place', ': pc ', 'fffff000', ' between places\n'), 65),
     'trace echoes dump': ([fetch, fetch], told('echoes', ': ', 'no notes', '\n'), 65),
     'trace unnoted dump': ([fetch, fetch], told('unnoted', ': ', 'bad notes at ', '8', '\n'), 65),
     'trace traced short': ([fetch, fetch], told('short', ': ', 'bad dump at ', '0', '\n'), 65),
     'trace profiled dump': ([fetch, fetch], told('profiled', ': ', 'no trace', '\n'), 65),
     'trace traced of_an_older_version': (
-        [fetch, fetch], told('of_an_older_version', ': dump version ', '1', ', notes version ', '2', '\n'), 65),
-    'trace three_traced of_another': (
-        [fetch, fetch], told('of_another', ': made for ', str(len(CARRY_LOOP)), ' bytes, ', str(len(THREE_WORDS)), ' wanted\n'), 65),
-    'trace four_traced ring_of_two': ([fetch, fetch], told('ring_of_two', ': ', '3', ' cells, ', '5', ' wanted\n'), 65),
+        [fetch, fetch], told('of_an_older_version', ': ', 'dump version ', '1', ', notes version ', '2', '\n'), 65),
+    'trace three_traced of_another': ([fetch, fetch], OF_ANOTHER, 65),
+    'trace four_traced ring_of_two': ([fetch, fetch], told('ring_of_two', ': ', '3', ' cells, ', '5', ' wanted', '\n'), 65),
     'trace four_traced ring_in_no_place': ([fetch, fetch], told('ring_in_no_place', ': pc ', 'fffff000', ' between places\n'), 65),
-    'trace four_traced ring_of_edge_9': ([fetch, fetch], told('ring_of_edge_9', ': cell ', '2', ' has ', '10', '\n'), 65),
-    'edit cramped out plain': ([fetch], told('cramped', ': room ', '1050112', ' needed, ', '0', ' had\n'), 69),
-    'edit cramped out every': ([fetch], told('cramped', ': room ', '1050904', ' needed, ', '0', ' had\n'), 69),
-    'edit cramped out trace 16': ([fetch], told('cramped', ': room ', '1312772', ' needed, ', '0', ' had\n'), 69),
+    'trace four_traced ring_of_edge_9': ([fetch, fetch], told('ring_of_edge_9', ': ', 'cell ', '2', ' has ', '10', '\n'), 65),
+    'edit cramped out plain': ([fetch], told('cramped', ': ', 'room ', '1050112', ' needed, ', '0', ' had', '\n'), 69),
+    'edit cramped out every': ([fetch], told('cramped', ': ', 'room ', '1050904', ' needed, ', '0', ' had', '\n'), 69),
+    'edit cramped out trace 16': ([fetch], told('cramped', ': ', 'room ', '1312772', ' needed, ', '0', ' had', '\n'), 69),
     'show missing': ([fetch], [DEVICE_FAULT], 74),
 }
 
@@ -730,10 +730,10 @@ def good(words, command):
         yield call(words.replace('out', 'good'), 0, devices.out.taken, devices.err.taken, ['good'])
 
 
-LONG = {'edit long out plain': ([fetch], told('long', ': longer than ', '67108864', ' bytes\n'), 66),
-    'edit three_words out script long': ([fetch, fetch], told('long', ': longer than ', '16777216', ' bytes\n'), 66),
-    'list long': ([fetch], told('long', ': longer than ', '67108864', ' bytes\n'), 66),
-    'words long out': ([fetch], told('long', ': longer than ', '67108864', ' bytes\n'), 66)}
+LONG = {'edit long out plain': ([fetch], told('long', ': ', 'longer than ', '67108864', ' bytes', '\n'), 66),
+    'edit three_words out script long': ([fetch, fetch], told('long', ': ', 'longer than ', '16777216', ' bytes', '\n'), 66),
+    'list long': ([fetch], told('long', ': ', 'longer than ', '67108864', ' bytes', '\n'), 66),
+    'words long out': ([fetch], told('long', ': ', 'longer than ', '67108864', ' bytes', '\n'), 66)}
 
 
 def long():
