@@ -5,7 +5,7 @@ use Rattle.std.specs.List.{All, Contains}
 use Rattle.std.proofs.lemmas.Bool.{cases_eq, cases_lt, eq-eqb, ne_eqb}
 use Rattle.std.specs.Prelude.{replicate}
 use Rattle.std.proofs.lemmas.List.{length-map, get_or-set_same, get_or-set_other, get_or-replicate, get_or_past, length-replicate, take_more}
-use Rattle.std.proofs.lemmas.List.Elements.{Contains-get_or, All-contains, All-nil, All-cons}
+use Rattle.std.proofs.lemmas.List.Elements.{All-contains, All-nil, All-cons}
 use Rattle.std.proofs.Math.Bool.{or-true, or-false}
 use Rattle.flows.specs.Flows.{Graph, IsGraph, IsLeast, NodeSet, rest, Determines}
 use Rattle.flows.specs.Links.{link_at, graph_of, marked, weight_in, IsLinked}
@@ -22,9 +22,6 @@ use Rattle.flow_tree.specs.Tree.{edges_in, nodes_in, IsGrown, RisesWith, edges_o
 use Rattle.flow_tree.specs.declared.Join.{Join}
 use Rattle.flow_tree.specs.declared.growth.Candidate.{Candidate}
 use Rattle.flow_tree.specs.declared.growth.Search.{Search}
-
-pub all_fewer : {X : Type 0} (P : X → Type 0) (old new : List X) → ((c : X) → Contains new c → Contains old c) → All P old → All P new
-all_fewer P old new f a k d l = All-contains P old (get_or new k d) a (f (get_or new k d) (Contains-get_or new k d l))
 
 -- ---- a mark more
 pub marked_set : (marks : List Bool) (v : ℕ) → v < length marks → marked (set marks v true) ≡ and_also (marked marks) v

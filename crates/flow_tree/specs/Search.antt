@@ -27,6 +27,10 @@ candidate ws e = record { weight = slice_index ws e; edge = e }
 abbrev pub IsReal : List ℕ → Candidate → Type 0
 IsReal ws c = (c.edge < length ws) × (c.weight ≡ slice_index ws c.edge)
 
+-- a heap of edges with their weights
+abbrev pub AreCandidates : List ℕ → List Candidate → Type 0
+AreCandidates ws cs = IsHeap candidate_cmp cs × All (IsReal ws) cs
+
 -- x, a heaviest of the candidates that cross, was taken from them, and no other that crosses
 pub record HasTaken (links : List Link) (marks : List Bool) (old new : List Candidate) (x : Candidate) : Type 0 where
   pub there : Contains old x
@@ -40,8 +44,7 @@ pub record IsSearch (n : ℕ) (links : List Link) (ws : List ℕ) (s : Search) :
   pub len : length s.tree.reached.items ≡ n
   pub grows : IsHeaviestFirst (graph_of n links) (weight_in ws) s.tree
   pub nodes : nodes_in s.tree.joins.items ≡ joined_by (graph_of n links) (only s.tree.root) (edges_of s.tree)
-  pub ordered : IsHeap candidate_cmp (heap_items s.heap)
-  pub real : All (IsReal ws) (heap_items s.heap)
+  pub candidates : AreCandidates ws (heap_items s.heap)
   pub held :
       (e : ℕ) → e < length links → crosses (graph_of n links) (reached_by s.tree) e ≡ true →
       Contains (heap_items s.heap) (candidate ws e)

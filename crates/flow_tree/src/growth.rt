@@ -2,12 +2,12 @@
 
 ghost use Rattle.std.specs.Prelude.{◌≡◌, ℕ, ◌+◌, ◌<◌, length, IsTrue, IsFalse, false, true, OnOk, IfSome, IfNone, IfOk, if◌then◌else◌};
 ghost use Rattle.std.specs.List.{All, Contains};
-ghost use Rattle.std.specs.BinaryHeap.{heap_items, IsHeap};
+ghost use Rattle.std.specs.BinaryHeap.{heap_items};
 ghost use Rattle.flows.specs.Trees.{crosses, differ, IsWhole};
 ghost use Rattle.flows.specs.Links.{graph_of, marked, weight_in, IsLinked};
-ghost use Rattle.flow_tree.specs.Rows.{HasEnds, AllBelow};
+ghost use Rattle.flow_tree.specs.Rows.{AllBelow, HasEnds};
 ghost use Rattle.flow_tree.specs.Tree.{reached_by, IsGrown, IsHeaviestFirst};
-ghost use Rattle.flow_tree.specs.Search.{candidate_cmp, candidate, crosses_at, HasTaken, IsReal, IsSearch};
+ghost use Rattle.flow_tree.specs.Search.{AreCandidates, HasTaken, IsSearch, candidate, crosses_at};
 ghost use Rattle.flow_tree.specs.declared.growth.Candidate.{Candidate};
 
 use crate::rows::incident;
@@ -30,29 +30,123 @@ pub struct Search {
     pub heap: BinaryHeap<Candidate>,
 }
 
-// The heaviest candidate that crosses. Those before it, which no longer cross, are dropped.
-fn next_crossing(
-    heap: &mut BinaryHeap<Candidate>,
-    marks: &[bool],
-    links: &[Link],
-) -> Option<Candidate>
-    requires ordered { IsHeap candidate_cmp (heap_items heap.old) }
-    requires real { All (λ c. c.edge < length links.now) (heap_items heap.old) }
-    requires linked { IsLinked (length marks.now) links.now }
-    ensures ordered { IsHeap candidate_cmp (heap_items heap.new) }
-    ensures real { All (λ c. c.edge < length links.now) (heap_items heap.new) }
-    ensures fewer { (c : Candidate) → Contains (heap_items heap.new) c → Contains (heap_items heap.old) c }
-    ensures taken { IfSome result (HasTaken links.now marks.now (heap_items heap.old) (heap_items heap.new)) }
-    ensures none { IfNone result (
-        (c : Candidate) → Contains (heap_items heap.old) c →
-        crosses_at links.now marks.now c.edge ≡ false) }
-{
-    while let Some(top) = heap.pop() {
-        if is_crossing(marks, links[top.edge]) {
-            return Some(top);
-        }
+// A graph as links between its nodes, each with a weight, and for each node a row with the numbers of its links.
+#[derive(Clone, Copy)]
+struct WeighedGraph<'a> {
+    rows: &'a [Vec<usize>],
+    links: &'a [Link],
+    weights: &'a [u64],
+    ghost linked: { IsLinked (length rows.now) links.now },
+    ghost below: { AllBelow (length links.now) rows.now },
+    ghost weighed: { length weights.now ≡ length links.now },
+}
+
+impl WeighedGraph<'_> {
+    // Grows the tree that is its root alone.
+    fn begin(&self, alloc: Global, root: usize) -> Result<Search, AllocError>
+        requires root { root < length self.now.rows.now }
+        requires ends { HasEnds self.now.links.now (length self.now.links.now) self.now.rows.now }
+        ensures search { IfOk result (IsSearch (length self.now.rows.now) self.now.links.now self.now.weights.now) }
+        ensures root { IfOk result (λ search. search.tree.root ≡ root) }
+        ensures alone { IfOk result (λ search. length search.tree.joins.items ≡ 0) }
+    {
+        let mut reached = vec![in alloc; false; self.rows.len()]?;
+        reached[root] = true;
+        let mut heap = BinaryHeap::new(alloc);
+        self.offer_all(&mut heap, &self.rows[root], &reached)?;
+        Ok(Search {
+            tree: Tree {
+                root,
+                reached,
+                joins: Vec::new(alloc),
+            },
+            heap,
+        })
     }
-    None
+
+    // Brings one node more in, and answers whether there was an edge that crosses.
+    fn join(&self, search: &mut Search) -> Result<bool, AllocError>
+        requires search { IsSearch (length self.now.rows.now) self.now.links.now self.now.weights.now search.old }
+        requires ends { HasEnds self.now.links.now (length self.now.links.now) self.now.rows.now }
+        ensures search { OnOk result (IsSearch (length self.now.rows.now) self.now.links.now self.now.weights.now search.new) }
+        ensures root { OnOk result (search.new.tree.root ≡ search.old.tree.root) }
+        ensures more { IfOk result (λ more.
+            IsTrue more → length search.new.tree.joins.items ≡ length search.old.tree.joins.items + 1) }
+        ensures whole { IfOk result (λ more.
+            IsFalse more → IsWhole (graph_of (length self.now.rows.now) self.now.links.now) (reached_by search.new.tree)) }
+    {
+        let Some(next) = self.next_crossing(&mut search.heap, &search.tree.reached) else {
+            return Ok(false);
+        };
+        let edge = next.edge;
+        let node = far_end(&search.tree.reached, self.links[edge]);
+        search.tree.reached[node] = true;
+        search.tree.joins.push(Join { edge, node })?;
+        self.offer_all(&mut search.heap, &self.rows[node], &search.tree.reached)?;
+        Ok(true)
+    }
+
+    // The heaviest candidate that crosses. Those before it, which no longer cross, are dropped.
+    fn next_crossing(&self, heap: &mut BinaryHeap<Candidate>, marks: &[bool]) -> Option<Candidate>
+        requires heap { AreCandidates self.now.weights.now (heap_items heap.old) }
+        requires marks { length marks.now ≡ length self.now.rows.now }
+        ensures heap { AreCandidates self.now.weights.now (heap_items heap.new) }
+        ensures taken { IfSome result (HasTaken self.now.links.now marks.now (heap_items heap.old) (heap_items heap.new)) }
+        ensures none { IfNone result ((c : Candidate) → Contains (heap_items heap.old) c
+            → crosses_at self.now.links.now marks.now c.edge ≡ false) }
+    {
+        while let Some(top) = heap.pop() {
+            if is_crossing(marks, self.links[top.edge]) {
+                return Some(top);
+            }
+        }
+        None
+    }
+
+    // Puts those links of a row on the heap that cross.
+    fn offer_all(
+        &self,
+        heap: &mut BinaryHeap<Candidate>,
+        row: &[usize],
+        marks: &[bool],
+    ) -> Result<(), AllocError>
+        requires heap { AreCandidates self.now.weights.now (heap_items heap.old) }
+        requires below { All (λ edge. edge < length self.now.links.now) row.now }
+        requires marks { length marks.now ≡ length self.now.rows.now }
+        ensures heap { OnOk result (AreCandidates self.now.weights.now (heap_items heap.new)) }
+        ensures added { OnOk result ((e : ℕ) → Contains row.now e
+            → crosses_at self.now.links.now marks.now e ≡ true → Contains (heap_items heap.new) (candidate self.now.weights.now e)) }
+        ensures kept { OnOk result ((c : Candidate) → Contains (heap_items heap.old) c → Contains (heap_items heap.new) c) }
+    {
+        for edge in row {
+            self.offer(heap, *edge, marks)?;
+        }
+        Ok(())
+    }
+
+    // Puts a link on the heap, if it crosses.
+    fn offer(
+        &self,
+        heap: &mut BinaryHeap<Candidate>,
+        edge: usize,
+        marks: &[bool],
+    ) -> Result<(), AllocError>
+        requires heap { AreCandidates self.now.weights.now (heap_items heap.old) }
+        requires edge { edge < length self.now.links.now }
+        requires marks { length marks.now ≡ length self.now.rows.now }
+        ensures heap { OnOk result (AreCandidates self.now.weights.now (heap_items heap.new)) }
+        ensures added { OnOk result (crosses_at self.now.links.now marks.now edge ≡ true
+            → Contains (heap_items heap.new) (candidate self.now.weights.now edge)) }
+        ensures kept { OnOk result ((c : Candidate) → Contains (heap_items heap.old) c → Contains (heap_items heap.new) c) }
+    {
+        if is_crossing(marks, self.links[edge]) {
+            heap.push(Candidate {
+                weight: self.weights[edge],
+                edge,
+            })?;
+        }
+        Ok(())
+    }
 }
 
 // Whether just one end of the link is marked.
@@ -64,137 +158,12 @@ fn is_crossing(marks: &[bool], link: Link) -> bool
     marks[link.from] != marks[link.to]
 }
 
-// Puts an edge on the heap, if it crosses.
-fn offer(
-    heap: &mut BinaryHeap<Candidate>,
-    edge: usize,
-    marks: &[bool],
-    links: &[Link],
-    weights: &[u64],
-) -> Result<(), AllocError>
-    requires ordered { IsHeap candidate_cmp (heap_items heap.old) }
-    requires real { All (IsReal weights.now) (heap_items heap.old) }
-    requires edge { edge < length links.now }
-    requires linked { IsLinked (length marks.now) links.now }
-    requires weights { length weights.now ≡ length links.now }
-    ensures ordered { OnOk result (IsHeap candidate_cmp (heap_items heap.new)) }
-    ensures real { OnOk result (All (IsReal weights.now) (heap_items heap.new)) }
-    ensures kept { OnOk result (
-        (c : Candidate) → Contains (heap_items heap.old) c → Contains (heap_items heap.new) c) }
-    ensures added { OnOk result (
-        crosses_at links.now marks.now edge ≡ true →
-        Contains (heap_items heap.new) (candidate weights.now edge)) }
-{
-    if !is_crossing(marks, links[edge]) {
-        return Ok(());
-    }
-    heap.push(Candidate {
-        weight: weights[edge],
-        edge,
-    })?;
-    Ok(())
-}
-
-// Puts those edges of a row on the heap that cross.
-fn offer_all(
-    heap: &mut BinaryHeap<Candidate>,
-    row: &[usize],
-    marks: &[bool],
-    links: &[Link],
-    weights: &[u64],
-) -> Result<(), AllocError>
-    requires ordered { IsHeap candidate_cmp (heap_items heap.old) }
-    requires real { All (IsReal weights.now) (heap_items heap.old) }
-    requires below { All (λ e. e < length links.now) row.now }
-    requires linked { IsLinked (length marks.now) links.now }
-    requires weights { length weights.now ≡ length links.now }
-    ensures ordered { OnOk result (IsHeap candidate_cmp (heap_items heap.new)) }
-    ensures real { OnOk result (All (IsReal weights.now) (heap_items heap.new)) }
-    ensures added { OnOk result (
-        (e : ℕ) → Contains row.now e → crosses_at links.now marks.now e ≡ true →
-        Contains (heap_items heap.new) (candidate weights.now e)) }
-    ensures kept { OnOk result (
-        (c : Candidate) → Contains (heap_items heap.old) c → Contains (heap_items heap.new) c) }
-{
-    for e in row {
-        offer(heap, *e, marks, links, weights)?;
-    }
-    Ok(())
-}
-
-fn begin(
-    alloc: Global,
-    root: usize,
-    rows: &[Vec<usize>],
-    links: &[Link],
-    weights: &[u64],
-) -> Result<Search, AllocError>
-    requires root { root < length rows.now }
-    requires linked { IsLinked (length rows.now) links.now }
-    requires ends { HasEnds links.now (length links.now) rows.now }
-    requires below { AllBelow (length links.now) rows.now }
-    requires weights { length weights.now ≡ length links.now }
-    ensures search { IfOk result (λ s. IsSearch (length rows.now) links.now weights.now s) }
-    ensures root { IfOk result (λ s. s.tree.root ≡ root) }
-    ensures empty { IfOk result (λ s. length s.tree.joins.items ≡ 0) }
-{
-    let mut reached = vec![in alloc; false; rows.len()]?;
-    reached[root] = true;
-    let mut heap = BinaryHeap::new(alloc);
-    offer_all(&mut heap, &rows[root], &reached, links, weights)?;
-    Ok(Search {
-        tree: Tree {
-            root,
-            reached,
-            joins: Vec::new(alloc),
-        },
-        heap,
-    })
-}
-
 // Of a link that crosses, the end that is not marked.
 fn far_end(marks: &[bool], link: Link) -> usize
     requires from { link.from < length marks.now }
     ensures { result ≡ (if marked marks.now link.from then link.to else link.from) }
 {
     if marks[link.from] { link.to } else { link.from }
-}
-
-// Brings one node more in, and answers whether there was an edge that crosses.
-fn join(
-    search: &mut Search,
-    rows: &[Vec<usize>],
-    links: &[Link],
-    weights: &[u64],
-) -> Result<bool, AllocError>
-    requires search { IsSearch (length rows.now) links.now weights.now search.old }
-    requires linked { IsLinked (length rows.now) links.now }
-    requires ends { HasEnds links.now (length links.now) rows.now }
-    requires below { AllBelow (length links.now) rows.now }
-    requires weights { length weights.now ≡ length links.now }
-    ensures search { OnOk result (IsSearch (length rows.now) links.now weights.now search.new) }
-    ensures root { OnOk result (search.new.tree.root ≡ search.old.tree.root) }
-    ensures more { IfOk result (λ more.
-        IsTrue more →
-        length search.new.tree.joins.items ≡ length search.old.tree.joins.items + 1) }
-    ensures whole { IfOk result (λ more.
-        IsFalse more → IsWhole (graph_of (length rows.now) links.now) (reached_by search.new.tree)) }
-{
-    let Some(next) = next_crossing(&mut search.heap, &search.tree.reached, links) else {
-        return Ok(false);
-    };
-    let edge = next.edge;
-    let node = far_end(&search.tree.reached, links[edge]);
-    search.tree.reached[node] = true;
-    search.tree.joins.push(Join { edge, node })?;
-    offer_all(
-        &mut search.heap,
-        &rows[node],
-        &search.tree.reached,
-        links,
-        weights,
-    )?;
-    Ok(true)
 }
 
 /// Grows a heaviest tree from `root`: of the edges that cross to a node outside it takes a heaviest, until none crosses.
@@ -217,9 +186,14 @@ pub fn grow(
     ensures whole { IfOk result (λ t. IsWhole (graph_of nodes links.now) (reached_by t)) }
 {
     let rows = incident(alloc, nodes, links)?;
-    let mut search = begin(alloc, root, &rows, links, weights)?;
+    let graph = WeighedGraph {
+        rows: &rows,
+        links,
+        weights,
+    };
+    let mut search = graph.begin(alloc, root)?;
     for _ in 1..nodes {
-        if !join(&mut search, &rows, links, weights)? {
+        if !graph.join(&mut search)? {
             return Ok(search.tree);
         }
     }

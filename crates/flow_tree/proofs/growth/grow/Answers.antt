@@ -7,12 +7,12 @@ pub begin-requires-clause-ends : goal.begin-requires-clause-ends
 begin-requires-clause-ends c = subst (λ (rows : List Row). HasEnds c.args.links.now (length c.args.links.now) rows) (sym c.deref.ensures.value) c.in_ok-rows.ensures.ends
 
 pub join-requires-clause-ends : goal.join-requires-clause-ends
-join-requires-clause-ends c = subst (λ (rows : List Row). HasEnds c.args.links.now (length c.args.links.now) rows) (sym c.deref-in-loop.ensures.value) c.in_ok-rows.ensures.ends
+join-requires-clause-ends c = subst (λ (rows : List Row). HasEnds c.args.links.now (length c.args.links.now) rows) (sym c.deref.ensures.value) c.in_ok-rows.ensures.ends
 
 pub returns-then-not-branch-clause-grown : goal.returns-then-not-branch-clause-grown
 returns-then-not-branch-clause-grown c = search_grown c.args.nodes _ c.args.links.now c.args.weights.now c.join.new.search rows c.in_ok-join.ensures.search
   where
-    rows : length c.deref-in-loop.result.now ≡ c.args.nodes
+    rows : length c.deref.result.now ≡ c.args.nodes
     rows = search rules
 
 pub returns-clause-grown : goal.returns-clause-grown

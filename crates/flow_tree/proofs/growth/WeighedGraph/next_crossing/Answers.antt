@@ -1,15 +1,16 @@
-use Rattle.std.proofs.Common.{arith, rules, ◌≡◌, ◌<◌, ◌⊎◌, inl, inr, length, true, false, ap, sym, ◌∙◌}
+use Rattle.std.proofs.Common.{arith, rules, ◌≡◌, ◌⊎◌, inl, inr, length, true, false, ap, sym, ◌∙◌}
 use Rattle.std.proofs.lemmas.Grind.{common_steps}
 use Rattle.std.specs.List.{Contains}
 use Rattle.std.specs.BinaryHeap.{heap_items}
 use Rattle.flows.specs.Links.{graph_of, marked}
 use Rattle.flows.specs.Trees.{crosses}
+use Rattle.flow_tree.specs.Search.{IsReal}
 use Rattle.flow_tree.specs.declared.growth.Candidate.{Candidate}
 use Rattle.flow_tree.proofs.Heaps.{popped, came_from, all_left}
-use Rattle.flow_tree.proofs.growth.next_crossing.Goals as goal
+use Rattle.flow_tree.proofs.growth.WeighedGraph.next_crossing.Goals as goal
 
-pub returns-then-is_crossing-clause-real : goal.returns-then-is_crossing-clause-real
-returns-then-is_crossing-clause-real c = all_left (λ (x : Candidate). x.edge < length c.args.links.now) _ _ _ c.in-Some.ensures.permutation c.loop-top.invariant.real
+pub returns-then-is_crossing-clause-heap : goal.returns-then-is_crossing-clause-heap
+returns-then-is_crossing-clause-heap c = (search rules, all_left (IsReal c.args.self.now.weights.now) _ _ _ c.in-Some.ensures.permutation c.loop-top.invariant.candidates.1)
 
 pub returns-then-is_crossing-clause-taken : goal.returns-then-is_crossing-clause-taken
 returns-then-is_crossing-clause-taken c = record {
@@ -28,20 +29,16 @@ returns-then-is_crossing-clause-taken c = record {
 
 pub loop-top-preserved : goal.loop-top-preserved
 loop-top-preserved c = record {
-  ordered = search rules;
-  real = all_left (λ (x : Candidate). x.edge < length c.args.links.now) _ _ _ c.in-Some.ensures.permutation c.loop-top.invariant.real;
+  candidates = (search rules, all_left (IsReal c.args.self.now.weights.now) _ _ _ c.in-Some.ensures.permutation c.loop-top.invariant.candidates.1);
   came = λ x h. c.loop-top.invariant.came x (came_from _ _ _ c.in-Some.ensures.permutation x h);
   kept = λ x h k. go x k (popped _ _ _ c.in-Some.ensures.permutation x (c.loop-top.invariant.kept x h k));
 }
   where
-    not_top : crosses (graph_of (length c.args.marks.now) c.args.links.now) (marked c.args.marks.now) c.in-Some.top.edge ≡ false
+    not_top : crosses (graph_of (length c.args.marks.now) c.args.self.now.links.now) (marked c.args.marks.now) c.in-Some.top.edge ≡ false
     not_top = search rules
 
-    go : (x : Candidate) → crosses (graph_of (length c.args.marks.now) c.args.links.now) (marked c.args.marks.now) x.edge ≡ true → (x ≡ c.in-Some.top) ⊎ Contains (heap_items c.pop.new.self) x → Contains (heap_items c.pop.new.self) x
+    go : (x : Candidate) → crosses (graph_of (length c.args.marks.now) c.args.self.now.links.now) (marked c.args.marks.now) x.edge ≡ true → (x ≡ c.in-Some.top) ⊎ Contains (heap_items c.pop.new.self) x → Contains (heap_items c.pop.new.self) x
     go x k (inl e) =
-        let t : true ≡ false = sym k ∙ ap (λ (x : Candidate). crosses (graph_of (length c.args.marks.now) c.args.links.now) (marked c.args.marks.now) x.edge) e ∙ not_top in
+        let t : true ≡ false = sym k ∙ ap (λ (x : Candidate). crosses (graph_of (length c.args.marks.now) c.args.self.now.links.now) (marked c.args.marks.now) x.edge) e ∙ not_top in
         absurd (cc)
     go x k (inr h) = h
-
-pub returns-then-is_crossing-clause-fewer : goal.returns-then-is_crossing-clause-fewer
-returns-then-is_crossing-clause-fewer c = λ x h. c.loop-top.invariant.came x (came_from _ _ _ c.in-Some.ensures.permutation x h)

@@ -1,0 +1,15 @@
+use Rattle.std.proofs.Common.{◌≡◌, ℕ, length, take, true}
+use Rattle.std.specs.List.{Contains}
+use Rattle.std.specs.BinaryHeap.{heap_items}
+use Rattle.flows.specs.Links.{graph_of, marked}
+use Rattle.flows.specs.Trees.{crosses}
+use Rattle.flow_tree.specs.Search.{AreCandidates, candidate}
+use Rattle.flow_tree.specs.declared.growth.Candidate.{Candidate}
+use Rattle.flow_tree.proofs.growth.WeighedGraph.offer_all.Given as goal
+
+abbrev pub invariant-loop-edge : goal.invariant-loop-edge
+invariant-loop-edge l = record {
+  candidates : AreCandidates l.self.weights.now (heap_items l.heap);
+  kept : (c : Candidate) → Contains (heap_items l.initial.heap) c → Contains (heap_items l.heap) c;
+  added : (e : ℕ) → Contains (take l.edge-index l.row) e → crosses (graph_of (length l.marks) l.self.links.now) (marked l.marks) e ≡ true → Contains (heap_items l.heap) (candidate l.self.weights.now e);
+}
