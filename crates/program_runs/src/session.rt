@@ -176,7 +176,7 @@ impl Session {
         let [old, new, patches @ ..] = words else {
             return Err(Refusal::Script);
         };
-        let bytes = patched(alloc, self.copy(alloc, old)?, 0, patches)?;
+        let bytes = patched(self.copy(alloc, old)?, 0, patches)?;
         self.hold(alloc, new, &bytes)
     }
 
@@ -186,7 +186,7 @@ impl Session {
         };
         let bytes = self.copy(alloc, old)?;
         let notes = be32_at(&bytes, NOTES_AT).ok_or(Refusal::Script)?;
-        let bytes = patched(alloc, bytes, notes as usize, patches)?;
+        let bytes = patched(bytes, notes as usize, patches)?;
         self.hold(alloc, new, &bytes)
     }
 
@@ -357,12 +357,7 @@ fn alike(first: Option<&[u8]>, second: Option<&[u8]>) -> Result<(), Refusal> {
 
 /// The bytes with others in the place of some: pairs of an offset from `base`, and two digits for each byte that
 /// stands there. Zeros fill what is missing before them.
-fn patched(
-    alloc: Global,
-    mut bytes: Vec<u8>,
-    base: usize,
-    patches: &[&str],
-) -> Result<Vec<u8>, Refusal> {
+fn patched(mut bytes: Vec<u8>, base: usize, patches: &[&str]) -> Result<Vec<u8>, Refusal> {
     for patch in patches.chunks(2) {
         let [at, digits] = patch else {
             return Err(Refusal::Script);
