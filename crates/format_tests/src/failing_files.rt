@@ -1,17 +1,28 @@
-//! The files of the system, but for one call that fails: after it no put is done.
+//! The files of the system, but for one kind of call that fails.
 use std::alloc::{Alloc, Allocator, Global};
 use std::fs::{File, Metadata, OpenFile, OpenOptions, Permissions};
 use std::io::{Error, ErrorKind, Read, Seek, SeekFrom, Write};
-use std::path::PathBuf;
+use std::path::{Path, PathBuf};
 use std::{io, rt};
 
 /// The call that fails.
 #[derive(Clone, Copy, PartialEq, Eq, Drop)]
-enum Call {
+pub enum Call {
+    /// A read, for want of memory.
+    Read,
     Write,
+    /// The metadata of an open file.
+    Size,
     Mode,
+    /// The sync of a file that has bytes.
     Sync,
     Rename,
+    /// A rename from one folder to another.
+    Move,
+    /// The path behind all links.
+    Path,
+    /// The target of a link, for want of memory.
+    Link,
 }
 
 #[derive(Clone, Copy, Drop)]
@@ -27,40 +38,21 @@ pub struct FailingFile {
 }
 
 impl<'a> FailingFiles<'a> {
-    pub fn at_writes(system: &'a HostRuntime) -> FailingFiles<'a> {
-        FailingFiles {
-            system,
-            fails: Call::Write,
-        }
-    }
-
-    pub fn at_modes(system: &'a HostRuntime) -> FailingFiles<'a> {
-        FailingFiles {
-            system,
-            fails: Call::Mode,
-        }
-    }
-
-    pub fn at_syncs(system: &'a HostRuntime) -> FailingFiles<'a> {
-        FailingFiles {
-            system,
-            fails: Call::Sync,
-        }
-    }
-
-    pub fn at_renames(system: &'a HostRuntime) -> FailingFiles<'a> {
-        FailingFiles {
-            system,
-            fails: Call::Rename,
-        }
+    pub fn new(system: &'a HostRuntime, fails: Call) -> FailingFiles<'a> {
+        FailingFiles { system, fails }
     }
 }
 
-fn unless(fails: bool) -> io::Result<()> {
-    if fails {
-        Err(Error::from(ErrorKind::StorageFull))
-    } else {
-        Ok(())
+impl Call {
+    /// Fails where this call is the one that fails.
+    fn unless(self, fails: Call) -> io::Result<()> {
+        if self != fails {
+            return Ok(());
+        }
+        match self {
+            Call::Read | Call::Link => Err(Error::from(ErrorKind::OutOfMemory)),
+            _ => Err(Error::from(ErrorKind::StorageFull)),
+        }
     }
 }
 
@@ -102,7 +94,10 @@ impl rt::Files for FailingFiles<'_> {
     }
 
     fn rename(&self, from: &str, to: &str) -> io::Result<()> {
-        unless(self.fails == Call::Rename)?;
+        Call::Rename.unless(self.fails)?;
+        if Path::new(from).parent() != Path::new(to).parent() {
+            Call::Move.unless(self.fails)?;
+        }
         self.system.rename(from, to)
     }
 
@@ -123,23 +118,26 @@ impl rt::Files for FailingFiles<'_> {
     }
 
     fn canonicalize<B: Allocator>(&self, alloc: B, path: &str) -> io::Result<PathBuf<B>> {
+        Call::Path.unless(self.fails)?;
         self.system.canonicalize(alloc, path)
     }
 
     fn read_link<B: Allocator>(&self, alloc: B, path: &str) -> io::Result<PathBuf<B>> {
+        Call::Link.unless(self.fails)?;
         self.system.read_link(alloc, path)
     }
 }
 
 impl Read for FailingFile {
     fn read(&mut self, buf: &mut [u8]) -> io::Result<usize> {
+        Call::Read.unless(self.fails)?;
         self.file.read(buf)
     }
 }
 
 impl Write for FailingFile {
     fn write(&mut self, buf: &[u8]) -> io::Result<usize> {
-        unless(self.fails == Call::Write)?;
+        Call::Write.unless(self.fails)?;
         self.file.write(buf)
     }
 
@@ -156,6 +154,7 @@ impl Seek for FailingFile {
 
 impl OpenFile for FailingFile {
     fn metadata(&self) -> io::Result<Metadata> {
+        Call::Size.unless(self.fails)?;
         self.file.metadata()
     }
 
@@ -164,7 +163,9 @@ impl OpenFile for FailingFile {
     }
 
     fn sync_all(&self) -> io::Result<()> {
-        unless(self.fails == Call::Sync)?;
+        if self.file.metadata()?.len() > 0 {
+            Call::Sync.unless(self.fails)?;
+        }
         self.file.sync_all()
     }
 
@@ -173,7 +174,7 @@ impl OpenFile for FailingFile {
     }
 
     fn set_permissions(&self, permissions: Permissions) -> io::Result<()> {
-        unless(self.fails == Call::Mode)?;
+        Call::Mode.unless(self.fails)?;
         self.file.set_permissions(permissions)
     }
 }

@@ -1,11 +1,18 @@
 //! What no clause says of the files of the system, tried in the folder that a test is given.
-use crate::failing_files::FailingFiles;
+use crate::failing_files::{Call, FailingFiles};
 use eel_base::{FetchFault, Files, PutFault, RealFiles};
 use std::alloc::Global;
-use std::fs;
-use std::fs::Permissions;
-use std::os::unix::fs::{PermissionsExt, symlink};
+use std::fs::{OpenOptions, Permissions};
+use std::io::Read;
+use std::os::fd::AsRawFd;
+use std::os::unix::fs::{OpenOptionsExt, PermissionsExt, symlink};
 use std::test::Fail;
+use std::{fs, io};
+
+/// The permission bits of a file.
+fn mode_of(rt: &HostRuntime, name: &str) -> Result<u32, Fail> {
+    Ok(fs::metadata(rt, name)?.permissions().mode() & 0o777)
+}
 
 /// The mode of a file that had this one when the bytes were put in its place.
 fn mode_after(rt: &HostRuntime, name: &str, mode: u32, bytes: &[u8]) -> Result<u32, Fail> {
@@ -14,7 +21,7 @@ fn mode_after(rt: &HostRuntime, name: &str, mode: u32, bytes: &[u8]) -> Result<u
     RealFiles::new(rt)
         .put(name, bytes)
         .map_err(|_| Fail::from("put"))?;
-    Ok(fs::metadata(rt, name)?.permissions().mode() & 0o777)
+    mode_of(rt, name)
 }
 
 /// Whether the file has these bytes, and is read where no more are allowed.
@@ -44,6 +51,11 @@ fn a_file_keeps_its_mode(rt: HostRuntime) -> Result<(), Fail> {
     assert_eq!(rt; mode_after(&rt, "modes/own", 0o600, b"text")?, 0o600);
     assert_eq!(rt; mode_after(&rt, "modes/all_run", 0o666, b"\x7fELF")?, 0o777);
     assert_eq!(rt; mode_after(&rt, "modes/own_run", 0o600, b"\x7fELF")?, 0o700);
+    assert_eq!(rt; mode_after(&rt, "modes/group", 0o070, b"text")?, 0o070);
+    assert_eq!(rt;
+        mode_after(&rt, "modes/others_run", 0o004, b"\x7fELF")?,
+        0o005
+    );
     Ok(())
 }
 
@@ -63,7 +75,7 @@ fn a_dangling_link_is_followed_from_its_own_folder(rt: HostRuntime) -> Result<()
 fn a_new_file_that_is_there_is_left_alone(rt: HostRuntime) -> Result<(), Fail> {
     fs::create_dir(&rt, "taken")?;
     fs::write(&rt, "taken/.eel-new-0", b"another's")?;
-    let put = RealFiles::new(&rt).put("taken/file", b"text");
+    let put = RealFiles::new(FailingFiles::new(&rt, Call::Move)).put("taken/file", b"text");
     assert_eq!(rt; put, Ok(()));
     assert!(rt; holds(&rt, "taken/file", b"text"));
     assert!(rt; holds(&rt, "taken/.eel-new-0", b"another's"));
@@ -75,6 +87,9 @@ fn a_new_file_that_is_there_is_left_alone(rt: HostRuntime) -> Result<(), Fail> {
 fn a_file_of_many_bytes_is_whole(rt: HostRuntime) -> Result<(), Fail> {
     let bytes = many_bytes(rt.alloc(), 10_000)?;
     let mut files = RealFiles::new(&rt);
+    assert_eq!(rt; files.put("many", &bytes), Ok(()));
+    assert!(rt; holds(&rt, "many", &bytes));
+    assert_eq!(rt; files.put("many", b"few"), Ok(()));
     assert_eq!(rt; files.put("many", &bytes), Ok(()));
     assert!(rt; holds(&rt, "many", &bytes));
     let less = files.fetch(rt.alloc(), "many", 9_999).err();
@@ -105,26 +120,157 @@ fn what_cannot_be_put_is_a_fault(rt: HostRuntime) -> Result<(), Fail> {
     Ok(())
 }
 
-/// A put that fails after the new file is made: what stood there stays, and the new file is removed.
-fn is_undone(
-    rt: &HostRuntime,
-    folder: &str,
-    name: &str,
-    fails: FailingFiles,
-) -> Result<bool, Fail> {
+/// A put through a link that fails: what stood there stays, and no new file is left.
+fn is_undone(rt: &HostRuntime, folder: &str, fails: Call) -> Result<bool, Fail> {
+    let name = format!(in rt.alloc(); "{folder}/file")?;
+    let link = format!(in rt.alloc(); "{folder}/link")?;
     let new = format!(in rt.alloc(); "{folder}/.eel-new-0")?;
     fs::create_dir(rt, folder)?;
-    fs::write(rt, name, b"what stood there")?;
-    let put = RealFiles::new(fails).put(name, b"text");
+    fs::write(rt, &name, b"what stood there")?;
+    symlink(rt, "file", &link)?;
+    let put = RealFiles::new(FailingFiles::new(rt, fails)).put(&link, b"text");
     let was_tried = put == Err(PutFault::Failed);
-    Ok(was_tried && holds(rt, name, b"what stood there") && !is_there(rt, &new))
+    Ok(was_tried && holds(rt, &name, b"what stood there") && !is_there(rt, &new))
 }
 
 #[test]
 fn a_put_that_fails_is_undone(rt: HostRuntime) -> Result<(), Fail> {
-    assert!(rt; is_undone(&rt, "write", "write/file", FailingFiles::at_writes(&rt))?);
-    assert!(rt; is_undone(&rt, "mode", "mode/file", FailingFiles::at_modes(&rt))?);
-    assert!(rt; is_undone(&rt, "sync", "sync/file", FailingFiles::at_syncs(&rt))?);
-    assert!(rt; is_undone(&rt, "name", "name/file", FailingFiles::at_renames(&rt))?);
+    assert!(rt; is_undone(&rt, "write", Call::Write)?);
+    assert!(rt; is_undone(&rt, "mode", Call::Mode)?);
+    assert!(rt; is_undone(&rt, "sync", Call::Sync)?);
+    assert!(rt; is_undone(&rt, "name", Call::Rename)?);
+    assert!(rt; is_undone(&rt, "path", Call::Path)?);
+    Ok(())
+}
+
+#[test]
+fn a_new_file_has_the_usual_mode(rt: HostRuntime) -> Result<(), Fail> {
+    let mut files = RealFiles::new(&rt);
+    fs::create_dir(&rt, "usual")?;
+    fs::write(&rt, "usual/text", b"text")?;
+    OpenOptions::new()
+        .write(true)
+        .create_new(true)
+        .mode(0o777)
+        .open(&rt, "usual/program")?;
+    assert_eq!(rt; files.put("usual/new_text", b"text"), Ok(()));
+    assert_eq!(rt; files.put("usual/new_program", b"\x7fELF"), Ok(()));
+    assert_eq!(rt;
+        mode_of(&rt, "usual/new_text")?,
+        mode_of(&rt, "usual/text")?
+    );
+    assert_eq!(rt;
+        mode_of(&rt, "usual/new_program")?,
+        mode_of(&rt, "usual/program")?
+    );
+    Ok(())
+}
+
+#[test]
+fn links_are_followed_to_their_end(rt: HostRuntime) -> Result<(), Fail> {
+    let mut files = RealFiles::new(&rt);
+    fs::create_dir(&rt, "ways")?;
+    fs::create_dir(&rt, "ways/far")?;
+    symlink(&rt, "far/second", "ways/first")?;
+    symlink(&rt, "../file", "ways/far/second")?;
+    for _ in 0..2 {
+        assert_eq!(rt; files.put("ways/first", b"text"), Ok(()));
+        assert!(rt; holds(&rt, "ways/file", b"text"));
+        assert!(rt; fs::symlink_metadata(&rt, "ways/first")?.is_symlink());
+        assert!(rt; fs::symlink_metadata(&rt, "ways/far/second")?.is_symlink());
+    }
+    Ok(())
+}
+
+#[test]
+fn as_many_links_are_followed(rt: HostRuntime) -> Result<(), Fail> {
+    let mut files = RealFiles::new(&rt);
+    fs::create_dir(&rt, "chain")?;
+    for number in 0..40u32 {
+        let next = format!(in rt.alloc(); "{}", number + 1)?;
+        let link = format!(in rt.alloc(); "chain/{number}")?;
+        symlink(&rt, &next, &link)?;
+    }
+    assert_eq!(rt; files.put("chain/0", b"text"), Err(PutFault::Failed));
+    assert_eq!(rt; files.put("chain/1", b"text"), Ok(()));
+    assert!(rt; holds(&rt, "chain/40", b"text"));
+    Ok(())
+}
+
+#[test]
+fn as_many_names_are_tried(rt: HostRuntime) -> Result<(), Fail> {
+    let mut files = RealFiles::new(&rt);
+    fs::create_dir(&rt, "names")?;
+    for number in 0..999u32 {
+        let name = format!(in rt.alloc(); "names/.eel-new-{number}")?;
+        fs::write(&rt, &name, b"another's")?;
+    }
+    assert_eq!(rt; files.put("names/file", b"text"), Ok(()));
+    fs::write(&rt, "names/.eel-new-999", b"another's")?;
+    assert_eq!(rt; files.put("names/file", b"other"), Err(PutFault::Failed));
+    assert!(rt; holds(&rt, "names/file", b"text"));
+    Ok(())
+}
+
+#[test]
+fn what_is_no_file_is_written_in_place(rt: HostRuntime) -> Result<(), Fail> {
+    let bytes = many_bytes(rt.alloc(), 10_000)?;
+    let mut files = RealFiles::new(&rt);
+    assert_eq!(rt; files.put("/dev/null", &bytes), Ok(()));
+    let (mut reader, writer) = io::pipe(&rt)?;
+    let name = format!(in rt.alloc(); "/proc/self/fd/{}", writer.as_raw_fd())?;
+    assert_eq!(rt; files.put(&name, &bytes), Ok(()));
+    let mut passed = Vec::new(rt.alloc());
+    drop(writer);
+    reader.read_to_end(&mut passed)?;
+    assert!(rt; passed.as_slice() == bytes.as_slice());
+    Ok(())
+}
+
+#[test]
+fn a_file_without_a_path_is_written_in_place(rt: HostRuntime) -> Result<(), Fail> {
+    let bytes = many_bytes(rt.alloc(), 10_000)?;
+    let mut file = OpenOptions::new()
+        .read(true)
+        .write(true)
+        .create_new(true)
+        .open(&rt, "gone")?;
+    fs::remove_file(&rt, "gone")?;
+    let name = format!(in rt.alloc(); "/proc/self/fd/{}", file.as_raw_fd())?;
+    let put = RealFiles::new(&rt).put(&name, &bytes);
+    assert_eq!(rt; put, Ok(()));
+    let mut held = Vec::new(rt.alloc());
+    file.read_to_end(&mut held)?;
+    assert!(rt; held.as_slice() == bytes.as_slice());
+    Ok(())
+}
+
+#[test]
+fn what_cannot_be_read_is_a_fault(rt: HostRuntime) -> Result<(), Fail> {
+    fs::create_dir(&rt, "folder")?;
+    let fetched = RealFiles::new(&rt).fetch(rt.alloc(), "folder", 1).err();
+    assert_eq!(rt; fetched, Some(FetchFault::Failed));
+    fs::write(&rt, "folder/file", b"text")?;
+    let wanting = RealFiles::new(FailingFiles::new(&rt, Call::Read)).fetch(
+        rt.alloc(),
+        "folder/file",
+        4,
+    );
+    assert_eq!(rt; wanting.err(), Some(FetchFault::NoMemory));
+    let sizeless = RealFiles::new(FailingFiles::new(&rt, Call::Size)).fetch(
+        rt.alloc(),
+        "folder/file",
+        4,
+    );
+    assert!(rt; sizeless.is_ok_and(|bytes| bytes.as_slice() == b"text".as_slice()));
+    Ok(())
+}
+
+#[test]
+fn a_link_that_cannot_be_read_is_left(rt: HostRuntime) -> Result<(), Fail> {
+    symlink(&rt, "nowhere", "left")?;
+    let put = RealFiles::new(FailingFiles::new(&rt, Call::Link)).put("left", b"text");
+    assert_eq!(rt; put, Err(PutFault::NoMemory));
+    assert!(rt; fs::symlink_metadata(&rt, "left")?.is_symlink());
     Ok(())
 }
