@@ -1,6 +1,6 @@
 //! The real outside: files, a reader and a writer of std. They tell nothing of what they hold, and count
 //! their faults. What the system does behind them is trusted.
-ghost use Rattle.std.specs.Prelude.{◌≡◌, ◌≤◌, ◌<◌, take, length, None, IfOk, OnOk, OnErr};
+ghost use Rattle.std.specs.Prelude.{◌≡◌, ◌≤◌, ◌<◌, take, length, None, vec_len, IfOk, OnOk, OnErr, IsErrOf};
 ghost use Rattle.std.specs.Io.KnownBytes.{Appends, Consumes, IsAtEnd as NothingRemains, Keeps};
 ghost use Rattle.eel_base.specs.Outside.{IsAtEnd, Rose, appended, preceded, raised};
 
@@ -41,7 +41,15 @@ impl<R: rt::Files + Alloc> Files for RealFiles<R> {
 
     ghost faults = { λ count. count };
 
-    fn fetch(&mut self, alloc: Global, name: &str, limit: u64) -> Result<Vec<u8>, FetchFault> {
+    fn fetch(&mut self, alloc: Global, name: &str, limit: u64) -> Result<Vec<u8>, FetchFault>
+        ensures within { IfOk result (λ bytes. vec_len bytes ≤ limit) }
+        ensures failed { IsErrOf result FetchFault.Failed → Rose self.old self.new }
+        ensures later { self.old ≤ self.new }
+        ensures faulted { IsErrOf result FetchFault.Failed → self.new ≡ raised self.old }
+        ensures too_long { IsErrOf result FetchFault.TooLong → self.new ≡ self.old }
+        ensures wanting { IsErrOf result FetchFault.NoMemory → self.new ≡ self.old }
+        ensures unfaulted { OnOk result (self.new ≡ self.old) }
+    {
         let fetched = fetch_opened(fs::open(&self.rt, name), alloc, limit);
         if let Err(FetchFault::Failed) = fetched {
             self.faults = self.faults.saturating_add(1);
@@ -49,7 +57,13 @@ impl<R: rt::Files + Alloc> Files for RealFiles<R> {
         fetched
     }
 
-    fn put(&mut self, name: &str, bytes: &[u8]) -> Result<(), PutFault> {
+    fn put(&mut self, name: &str, bytes: &[u8]) -> Result<(), PutFault>
+        ensures failed { IsErrOf result PutFault.Failed → Rose self.old self.new }
+        ensures later { self.old ≤ self.new }
+        ensures faulted { IsErrOf result PutFault.Failed → self.new ≡ raised self.old }
+        ensures wanting { IsErrOf result PutFault.NoMemory → self.new ≡ self.old }
+        ensures unfaulted { OnOk result (self.new ≡ self.old) }
+    {
         let put = put_outcome(put_file(&self.rt, name, bytes));
         if let Err(PutFault::Failed) = put {
             self.faults = self.faults.saturating_add(1);
@@ -95,6 +109,8 @@ impl<R: Read> Source for StdSource<R> {
         ensures unfilled { OnErr result (buf.new ≡ buf.old) }
         ensures failed { OnErr result (Rose self.old.faults self.new.faults) }
         ensures later { self.old.faults ≤ self.new.faults }
+        ensures faulted { OnErr result (self.new.faults ≡ raised self.old.faults) }
+        ensures unfaulted { OnOk result (self.new.faults ≡ self.old.faults) }
         ensures counted { OnOk result (self.new.reads ≡ raised self.old.reads) }
         ensures uncounted { OnErr result (self.new.reads ≡ self.old.reads) }
         ensures given { IfOk result (λ count.
@@ -146,6 +162,8 @@ impl<W: Write> Sink for StdSink<W> {
         ensures some { IfOk result (λ count. 0 < length bytes.now → 0 < count) }
         ensures failed { OnErr result (Rose self.old.faults self.new.faults) }
         ensures later { self.old.faults ≤ self.new.faults }
+        ensures faulted { OnErr result (self.new.faults ≡ raised self.old.faults) }
+        ensures unfaulted { OnOk result (self.new.faults ≡ self.old.faults) }
         ensures given { IfOk result (λ count.
             Appends (W.contents self.old.writer) (W.contents self.new.writer) (take count bytes.now)) }
         ensures kept { OnErr result (Keeps (W.contents self.old.writer) (W.contents self.new.writer)) }

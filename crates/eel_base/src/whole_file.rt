@@ -1,8 +1,9 @@
 //! Files of the system that are read whole, and put whole: what stood under a name stays until all bytes of the new
 //! file are written. What the system does is trusted.
-ghost use Rattle.std.specs.Prelude.{◌≡◌, ◌≤◌, ◌<◌, [], length, vec_len, Ok, Err, IfOk, IfErr, OnOk, IfSome, IsErrOf};
+ghost use Rattle.std.specs.Prelude.{◌≡◌, ◌≤◌, ◌<◌, [], length, min, vec_len, vec_capacity, Ok, Err, IfOk, IfErr, OnOk, OnErr, IfSome, IsErrOf};
 ghost use Rattle.std.specs.Io.KnownBytes.{Appends};
 ghost use Rattle.std.specs.IoError.{error_kind};
+ghost use Rattle.eel_base.specs.Outside.{raised};
 ghost use Rattle.eel_base.specs.Real.{fetch_fault_of, put_fault_of, is_program, mode_of};
 
 use crate::outside::{FetchFault, PutFault};
@@ -43,8 +44,17 @@ pub(crate) fn fetch_opened<F: Read + OpenFile + Drop>(
         Ok(metadata) => metadata.len(),
         Err(_) => 0,
     };
+    fetch_from(file, room_for(alloc, size, limit)?, limit)
+}
+
+/// Room for a file of that size, or for as many bytes as the limit allows, and for a byte that would be too many.
+fn room_for(alloc: Global, size: u64, limit: u64) -> Result<Vec<u8>, FetchFault>
+    ensures empty { IfOk result (λ room. room.items ≡ []) }
+    ensures room { IfOk result (λ room. vec_capacity room ≡ raised (min size limit)) }
+    ensures memory { OnErr result (result ≡ Err FetchFault.NoMemory) }
+{
     match Vec::with_capacity(alloc, size.min(limit).saturating_add(1) as usize) {
-        Ok(room) => fetch_from(file, room, limit),
+        Ok(room) => Ok(room),
         Err(_) => Err(FetchFault::NoMemory),
     }
 }
