@@ -23,6 +23,8 @@ pub enum Call {
     Path,
     /// The target of a link, for want of memory.
     Link,
+    /// The opening of a file that is to be new, for want of memory.
+    New,
 }
 
 #[derive(Clone, Copy, Drop)]
@@ -50,7 +52,7 @@ impl Call {
             return Ok(());
         }
         match self {
-            Call::Read | Call::Link => Err(Error::from(ErrorKind::OutOfMemory)),
+            Call::Read | Call::Link | Call::New => Err(Error::from(ErrorKind::OutOfMemory)),
             _ => Err(Error::from(ErrorKind::StorageFull)),
         }
     }
@@ -70,6 +72,9 @@ impl rt::Files for FailingFiles<'_> {
     type Dir = <HostRuntime as rt::Files>::Dir;
 
     fn open_file(&self, how: &OpenOptions, path: &str) -> io::Result<FailingFile> {
+        if how.asks_create_new() {
+            Call::New.unless(self.fails)?;
+        }
         let file = self.system.open_file(how, path)?;
         Ok(FailingFile {
             file,

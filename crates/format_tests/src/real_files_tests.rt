@@ -267,10 +267,13 @@ fn what_cannot_be_read_is_a_fault(rt: HostRuntime) -> Result<(), Fail> {
 }
 
 #[test]
-fn a_link_that_cannot_be_read_is_left(rt: HostRuntime) -> Result<(), Fail> {
+fn a_put_that_wants_memory_changes_nothing(rt: HostRuntime) -> Result<(), Fail> {
     symlink(&rt, "nowhere", "left")?;
-    let put = RealFiles::new(FailingFiles::new(&rt, Call::Link)).put("left", b"text");
-    assert_eq!(rt; put, Err(PutFault::NoMemory));
-    assert!(rt; fs::symlink_metadata(&rt, "left")?.is_symlink());
+    for fails in [Call::Link, Call::New] {
+        let put = RealFiles::new(FailingFiles::new(&rt, fails)).put("left", b"text");
+        assert_eq!(rt; put, Err(PutFault::NoMemory));
+        assert!(rt; fs::symlink_metadata(&rt, "left")?.is_symlink());
+        assert!(rt; !is_there(&rt, "nowhere"));
+    }
     Ok(())
 }
