@@ -3,13 +3,14 @@ ghost use Rattle.std.specs.Prelude.{◌≡◌, ◌≤◌, ◌*◌, ◌^◌, IfEr
 ghost use Rattle.std.specs.List.{All};
 ghost use Rattle.snippets.specs.Cells.{WorksBelow};
 ghost use Rattle.cfg_blocks.specs.Marks.{numbers};
-ghost use Rattle.cfg_view.specs.View.{IsView};
+ghost use Rattle.cfg_view.specs.View.{view_of, view_seen, IsView};
 ghost use Rattle.edit_core.specs.Taken.{EditRefuses};
 ghost use Rattle.span_tree.specs.Cells.{cell_at, cell_count, AreNumbered};
 ghost use Rattle.span_tree.specs.Weights.{weights_of};
 ghost use Rattle.eel.specs.Outcome.{outcome_seen};
 ghost use Rattle.eel.specs.Seen.{files_seen};
 ghost use Rattle.eel.specs.Answers.Edit.{IsEditOf};
+ghost use Rattle.eel.specs.Answers.Files.{IsSound};
 ghost use Rattle.eel.specs.Answers.Make.{Makes};
 ghost use Rattle.exact_counts.specs.Profiles.{counter_in};
 ghost use Rattle.eel.specs.Answers.Profile.{AreCells, CountersRefuse, IsMarkedProfile, IsProfileOf, ProfileRefuses, graph_with, guessed, guessed_with, no_words, plan_with, profiling};
@@ -17,7 +18,7 @@ ghost use Rattle.eel.specs.Answers.Profile.{AreCells, CountersRefuse, IsMarkedPr
 use crate::edit::{EDIT_LIMIT, refusal};
 use crate::outcome::Outcome;
 use crate::texts::{fetch_file, put_file};
-use crate::tool_edit::edit_with;
+use crate::tool_edit::edit_view_with;
 use cfg_view::{View, look};
 use edit_core::EditFault;
 use eel_base::{Files, NoMemory, WordNo};
@@ -64,23 +65,28 @@ pub fn profiled_with(alloc: Global, bytes: &[u8], marks: Vec<WordNo>) -> Result<
     ensures refused { let marked = numbers marks.items in
         IfErr result (CountersRefuse marked (guessed_with bytes.now marked) bytes.now) }
 {
-    let tree = tree_of(alloc, bytes, &marks)?;
-    with_counters(alloc, bytes, marks, &tree)
+    let view = look(alloc, bytes, &marks)?;
+    counted(alloc, bytes, &view, marks)
 }
 
-/// A spanning tree of the graph of a file with some words marked. The view of it is gone when the file is edited, since the
-/// edit makes its own.
-fn tree_of(alloc: Global, bytes: &[u8], marks: &[WordNo]) -> Result<SpanTree, EditFault>
-    requires { length bytes.now ≤ 2 ^ 26 }
-    ensures cells { let marked = numbers marks.now in
-        IfOk result (AreCells (graph_with bytes.now marked) (guessed_with bytes.now marked)) }
-    ensures few { IfOk result (λ cells. cell_count cells ≤ 2 ^ 22) }
-    ensures refused { let marked = numbers marks.now in
+/// The same, of a file without a fault, of which there is a view.
+fn counted(
+    alloc: Global,
+    bytes: &[u8],
+    view: &View,
+    marks: Vec<WordNo>,
+) -> Result<Vec<u8>, EditFault>
+    requires limit { length bytes.now ≤ 2 ^ 26 }
+    requires sound { IsSound bytes.now }
+    requires view { view_seen view.now ≡ view_of bytes.now (numbers marks.items) }
+    requires whole { IsView view.now }
+    ensures profile { let marked = numbers marks.items in
+        IfOk result (λ file. IsMarkedProfile marked (guessed_with bytes.now marked) bytes.now file.items) }
+    ensures refused { let marked = numbers marks.items in
         IfErr result (CountersRefuse marked (guessed_with bytes.now marked) bytes.now) }
 {
-    let view = look(alloc, bytes, marks)?;
-    let tree = heaviest_tree(alloc, &view)?;
-    Ok(tree)
+    let tree = heaviest_tree(alloc, view)?;
+    with_counters(alloc, bytes, view, marks, &tree)
 }
 
 /// A spanning tree of the graph, grown heaviest first by the weights that are guessed.
@@ -106,23 +112,28 @@ pub fn tree_by(alloc: Global, view: &View, weights: &[u64]) -> Result<SpanTree, 
     Ok(tree)
 }
 
-/// The edit of a file, with some words marked, with a counter on each edge that has a cell.
+/// The edit of a file without a fault, of which there is a view with some words marked, with a counter on each edge that
+/// has a cell.
 pub fn with_counters(
     alloc: Global,
     bytes: &[u8],
+    view: &View,
     marks: Vec<WordNo>,
     tree: &SpanTree,
 ) -> Result<Vec<u8>, EditFault>
     requires bytes { length bytes.now ≤ 2 ^ 26 }
+    requires sound { IsSound bytes.now }
+    requires view { view_seen view.now ≡ view_of bytes.now (numbers marks.items) }
     requires size { length tree.now ≡ length (graph_with bytes.now (numbers marks.items)).edges }
     requires numbered { AreNumbered tree.now }
     requires few { cell_count tree.now ≤ 2 ^ 22 }
     ensures edited { IfOk result (λ file. IsEditOf bytes.now (plan_with (numbers marks.items) tree.now) file.items) }
     ensures refused { IfErr result (EditRefuses bytes.now (λ plan. plan ≡ plan_with (numbers marks.items) tree.now)) }
 {
-    edit_with(
+    edit_view_with(
         alloc,
         bytes,
+        view,
         Counters { tree },
         2 * tree.cells(),
         marks,

@@ -1,14 +1,15 @@
 //! The command `edit` with counters that are placed by the counts of an earlier run.
-ghost use Rattle.std.specs.Prelude.{◌≡◌, ◌≤◌, ◌^◌, ℕ, IfErr, IfOk, List, length};
+ghost use Rattle.std.specs.Prelude.{◌≡◌, ◌≤◌, ◌^◌, ℕ, [], IfErr, IfOk, List, length};
 ghost use Rattle.std.specs.List.{All};
-ghost use Rattle.cfg_view.specs.View.{view_seen, IsView};
+ghost use Rattle.cfg_view.specs.View.{view_of, view_seen, IsView};
 ghost use Rattle.span_tree.specs.Cells.{cell_count};
 ghost use Rattle.weights_in.specs.Weights.{AreWeights};
 ghost use Rattle.eel.specs.Outcome.{outcome_seen};
 ghost use Rattle.eel.specs.Seen.{files_seen};
 ghost use Rattle.eel.specs.Answers.MakeBy.{MakesBy};
-ghost use Rattle.eel.specs.Answers.Profile.{AreCells, graph_in};
-ghost use Rattle.eel.specs.Answers.Weighed.{AreNotWeights, AreWeightsOf, IsNotWeighed, IsWeighedEdit, weighing};
+ghost use Rattle.eel.specs.Answers.Files.{IsSound};
+ghost use Rattle.eel.specs.Answers.Profile.{AreCells};
+ghost use Rattle.eel.specs.Answers.Weighed.{AreNotWeights, IsNotWeighed, IsWeighedEdit, weighing};
 ghost use Rattle.eel.specs.Refusals.{unweighed_of};
 
 use crate::edit::{EDIT_LIMIT, refusal};
@@ -63,27 +64,46 @@ fn weighed<'a>(
     ensures edited { IfOk result (λ file. IsWeighedEdit bytes.now lines.now file.items) }
     ensures refused { IfErr result (λ outcome. IsNotWeighed input.now bytes.now name.now lines.now (outcome_seen outcome)) }
 {
-    let tree = measured_tree(alloc, input, bytes, name, lines)?;
-    with_counters(alloc, bytes, Vec::new(alloc), &tree).map_err(|fault| refusal(input, fault))
+    let view = view_in(alloc, input, bytes)?;
+    weighed_in(alloc, input, bytes, &view, name, lines)
 }
 
-/// The spanning tree of the file's graph that weighs most. The view of the file is gone when it is edited, since the edit
-/// makes its own.
-fn measured_tree<'a>(
+/// The same, where there is a view of the file `input`.
+fn weighed_in<'a>(
     alloc: Global,
     input: &'a str,
     bytes: &[u8],
+    view: &View,
+    name: &'a str,
+    lines: &[u8],
+) -> Result<Vec<u8>, Outcome<'a>>
+    requires limit { length bytes.now ≤ 2 ^ 26 }
+    requires sound { IsSound bytes.now }
+    requires view { view_seen view.now ≡ view_of bytes.now [] }
+    requires whole { IsView view.now }
+    ensures edited { IfOk result (λ file. IsWeighedEdit bytes.now lines.now file.items) }
+    ensures refused { IfErr result (λ outcome. IsNotWeighed input.now bytes.now name.now lines.now (outcome_seen outcome)) }
+{
+    let tree = measured_tree(alloc, view, name, lines)?;
+    with_counters(alloc, bytes, view, Vec::new(alloc), &tree).map_err(|fault| refusal(input, fault))
+}
+
+/// The spanning tree of the graph that weighs most by the lines of the file `name`.
+fn measured_tree<'a>(
+    alloc: Global,
+    view: &View,
     name: &'a str,
     lines: &[u8],
 ) -> Result<SpanTree, Outcome<'a>>
-    ensures cells { IfOk result (λ cells. (weights : List ℕ) × AreWeightsOf bytes.now lines.now weights
-        × AreCells (graph_in bytes.now) weights cells) }
+    requires view { IsView view.now }
+    requires few { length view.now.graph.edges ≤ 2 ^ 22 }
+    ensures cells { IfOk result (λ cells. (weights : List ℕ) × AreWeights (view_seen view.now) lines.now weights
+        × AreCells view.now.graph weights cells) }
     ensures few { IfOk result (λ cells. cell_count cells ≤ 2 ^ 22) }
-    ensures refused { IfErr result (λ outcome. IsNotWeighed input.now bytes.now name.now lines.now (outcome_seen outcome)) }
+    ensures refused { IfErr result (λ outcome. AreNotWeights (view_seen view.now) name.now lines.now (outcome_seen outcome)) }
 {
-    let view = view_in(alloc, input, bytes)?;
-    let weights = weights_for(alloc, &view, name, lines)?;
-    let tree = tree_by(alloc, &view, &weights)?;
+    let weights = weights_for(alloc, view, name, lines)?;
+    let tree = tree_by(alloc, view, &weights)?;
     Ok(tree)
 }
 
