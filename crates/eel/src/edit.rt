@@ -1,10 +1,11 @@
 //! The command `edit`.
-ghost use Rattle.std.specs.Prelude.{◌≡◌, ◌≤◌, ◌^◌, IfErr, IfOk, OnOk, length};
+ghost use Rattle.std.specs.Prelude.{◌≡◌, ◌≤◌, ◌^◌, [], IfErr, IfOk, length};
+ghost use Rattle.cfg_view.specs.View.{view_of, view_seen};
 ghost use Rattle.edit_core.specs.Taken.{EditRefuses};
 ghost use Rattle.eel.specs.Outcome.{outcome_seen};
 ghost use Rattle.eel.specs.Seen.{files_seen};
-ghost use Rattle.eel.specs.Answers.Files.{IsNotSound, IsSound};
-ghost use Rattle.eel.specs.Answers.Edit.{IsEditOf, edges_in, editing, plain_plan, refusal_of};
+ghost use Rattle.eel.specs.Answers.Files.{IsSound};
+ghost use Rattle.eel.specs.Answers.Edit.{IsEditOf, editing, plain_plan, refusal_of};
 ghost use Rattle.eel.specs.Answers.Make.{Makes};
 ghost use Rattle.eel.specs.Answers.MakeBy.{MakesBy};
 ghost use Rattle.eel.specs.Answers.Script.{HasCells, IsBadScript, IsNotScripted, IsReadAs, IsScriptEdit, script_plan, script_refusal_of, scripting};
@@ -12,7 +13,8 @@ ghost use Rattle.eel.specs.Answers.Script.{HasCells, IsBadScript, IsNotScripted,
 use crate::inputs::view_in;
 use crate::outcome::{LineCause, Outcome};
 use crate::texts::{fetch_file, put_file};
-use edit_core::{EditFault, edit_bytes};
+use cfg_view::View;
+use edit_core::{EditFault, edit_bytes, edit_view};
 use eel_base::Files;
 use snippets::{Script, ScriptFault, Snippet, read_script};
 use std::alloc::Global;
@@ -129,19 +131,36 @@ fn scripted<'a>(
     ensures refused { IfErr result (λ outcome.
         IsNotScripted input.now bytes.now script.now lines.now (outcome_seen outcome)) }
 {
-    let edges = edge_count(alloc, input, bytes)?;
-    let script = script_in(alloc, script, lines, edges)?;
-    with_snippets(alloc, bytes, &script).map_err(|fault| refusal(input, fault))
+    let view = view_in(alloc, input, bytes)?;
+    scripted_in(alloc, input, bytes, &view, script, lines)
 }
 
-/// How many edges the graph of the file `name` has.
-fn edge_count<'a>(alloc: Global, name: &'a str, bytes: &[u8]) -> Result<u32, Outcome<'a>>
-    ensures count { IfOk result (λ count. count ≡ length (edges_in bytes.now)) }
-    ensures sound { OnOk result (IsSound bytes.now) }
-    ensures refused { IfErr result (λ outcome. IsNotSound name.now bytes.now (outcome_seen outcome)) }
+/// The same, where there is a view of the file `input`.
+fn scripted_in<'a>(
+    alloc: Global,
+    input: &'a str,
+    bytes: &[u8],
+    view: &View,
+    script: &'a str,
+    lines: &[u8],
+) -> Result<Vec<u8>, Outcome<'a>>
+    requires bytes { length bytes.now ≤ 2 ^ 26 }
+    requires sound { IsSound bytes.now }
+    requires view { view_seen view.now ≡ view_of bytes.now [] }
+    requires lines { length lines.now ≤ 2 ^ 24 }
+    ensures edited { IfOk result (λ file. IsScriptEdit bytes.now lines.now file.items) }
+    ensures refused { IfErr result (λ outcome.
+        IsNotScripted input.now bytes.now script.now lines.now (outcome_seen outcome)) }
 {
-    let view = view_in(alloc, name, bytes)?;
-    Ok(view.graph.edges().len() as u32)
+    let script = script_in(alloc, script, lines, edge_count(view))?;
+    with_snippets(alloc, bytes, view, &script).map_err(|fault| refusal(input, fault))
+}
+
+/// How many edges there are.
+fn edge_count(view: &View) -> u32
+    ensures { result ≡ length view.now.graph.edges }
+{
+    view.graph.edges().len() as u32
 }
 
 /// The script that the lines of the file `name` are, for a graph of so many edges.
@@ -180,9 +199,16 @@ fn script_refusal<'a>(name: &'a str, fault: ScriptFault) -> Outcome<'a>
     }
 }
 
-/// The edit of a file with a script's snippets on its edges.
-fn with_snippets(alloc: Global, bytes: &[u8], script: &Script) -> Result<Vec<u8>, EditFault>
+/// The edit of a file without a fault, of which there is a view, with a script's snippets on its edges.
+fn with_snippets(
+    alloc: Global,
+    bytes: &[u8],
+    view: &View,
+    script: &Script,
+) -> Result<Vec<u8>, EditFault>
     requires bytes { length bytes.now ≤ 2 ^ 26 }
+    requires sound { IsSound bytes.now }
+    requires view { view_seen view.now ≡ view_of bytes.now [] }
     requires cells { HasCells script.now }
     ensures edited { let plan = script_plan bytes.now script.now.snips.items script.now.cells in
         IfOk result (λ file. IsEditOf bytes.now plan file.items) }
@@ -193,7 +219,7 @@ fn with_snippets(alloc: Global, bytes: &[u8], script: &Script) -> Result<Vec<u8>
         snips: &script.snips,
     };
     let tool = Tool::new(named, script.cells, Vec::new(alloc), ToolKind::Script);
-    edit_bytes(alloc, bytes, &tool)
+    edit_view(alloc, bytes, view, &tool)
 }
 
 /// What a script names on each edge. Those past the last have nothing on them.
