@@ -1,6 +1,6 @@
 -- A run with a dump, by its status.
 use Rattle.std.proofs.Common.{◌≡◌, ℕ, ◌⊎◌, inl, inr, List, [], Option, Some, None, true, false, ◌≤◌, ap, refl, sym, subst, ◌∙◌, lit≤, arith}
-use Rattle.eel_base.specs.Outside.{Holding, IsMissing, Rose, appended, stored}
+use Rattle.eel_base.specs.Outside.{Holding, Rose, appended, stored}
 use Rattle.notes.specs.Format.{Notes}
 use Rattle.v8_step.specs.declared.Ending.{Ending}
 use Rattle.v8_step.specs.State.{State}

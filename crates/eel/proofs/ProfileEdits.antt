@@ -1,5 +1,5 @@
 -- An edit with counters, where some words may be marked, by its status.
-use Rattle.std.proofs.Common.{◌≡◌, ℕ, List, refl, lit≤}
+use Rattle.std.proofs.Common.{ℕ, List, refl, lit≤}
 use Rattle.edit_core.specs.declared.taking.EditFault.{EditFault}
 use Rattle.edit_core.specs.declared.taking.EditFault.TheVariants as faults
 use Rattle.eel.specs.Outcome.{Outcome, BadFile, NoRoom, OutOfMemory, status_of}

@@ -2,7 +2,7 @@
 use Rattle.std.proofs.Common.{◌≡◌, ℕ, suc, ◌+◌, ◌<◌, ◌⊎◌, inl, inr, List, ◌++◌, length, take, Option, None, refl, ap, sym, ◌∙◌, arith, lit≤}
 use Rattle.std.proofs.Math.Nat.{eq-or-lt_of_le}
 use Rattle.std.proofs.Math.Seq.{take-append-add}
-use Rattle.eel_base.specs.Outside.{IsMissing, Rose, appended, TookPart}
+use Rattle.eel_base.specs.Outside.{Rose, appended, TookPart}
 use Rattle.eel_base.proofs.Parts.{appended-appended}
 use Rattle.v8_step.specs.Machine.{FailsAt}
 use Rattle.v8_step.specs.State.{State}
