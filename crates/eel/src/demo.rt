@@ -1,6 +1,7 @@
 //! The command `demo`.
-ghost use Rattle.std.specs.Prelude.{◌≡◌, ◌≢◌, ◌≤◌, ◌<◌, ◌++◌, ◌^◌, ℕ, IfOk, OnOk, None, Some, length};
+ghost use Rattle.std.specs.Prelude.{◌≡◌, ◌≢◌, ◌≤◌, ◌<◌, ◌++◌, ◌^◌, ℕ, [], IfOk, OnOk, None, Some, length};
 ghost use Rattle.elf32_sparc.specs.FileFault.{fault, load_fault};
+ghost use Rattle.cfg_view.specs.View.{view_of as view_of_file, view_seen, IsView};
 ghost use Rattle.notes.specs.Format.{notes_of};
 ghost use Rattle.v8_step.specs.Run.{run as run_of};
 ghost use Rattle.v8_step.specs.declared.Ending.{Ending as EndingSeen};
@@ -17,14 +18,14 @@ ghost use Rattle.eel.specs.Seen.{stream_seen};
 ghost use Rattle.eel.specs.Answers.Shared.{Feed, Store, outside};
 ghost use Rattle.eel.specs.Answers.Dump.{IsNoted};
 ghost use Rattle.eel.specs.Answers.Profile.{IsProfileOf, guessed};
-ghost use Rattle.eel.specs.Answers.Demo.{EndsAlone, IsTold, TellOf, Tells, alone, demo_lines as demo_lines_of, ending_line, executions_line, name_line, size_line, size_of as size_of_file, walk_alone};
+ghost use Rattle.eel.specs.Answers.Demo.{EndsAlone, IsTold, TellOf, Tells, alone, demo_lines as demo_lines_of, ending_line, executions_line, name_line, size_in, size_line, walk_alone};
 ghost use Rattle.eel.specs.Tame.{EndsWithin, IsLastDump, IsNotedFile, IsTame};
 
 use crate::dumps::dump_of;
 use crate::outcome::Outcome;
-use crate::profile::profiled;
+use crate::profile::profiled_view;
 use crate::texts::print;
-use cfg_view::look;
+use cfg_view::{View, look};
 use count_rebuild::{CountFault, rebuild};
 use dump_file::Dump;
 use edit_core::EditFault;
@@ -96,26 +97,34 @@ fn told_of(alloc: Global, number: u32, routines: u32, original: &[u8]) -> Result
     requires { IsTame original.now }
     ensures { IfOk result (λ lines. TellOf number routines original.now lines.items) }
 {
-    let size = size_of(alloc, original)?;
+    let view = view_of(alloc, original)?;
     let end = run_alone(alloc, original)?;
-    let executions = executions(alloc, original)?;
-    let lines = demo_lines(alloc, number, routines, size, end, executions)?;
+    let executions = executions(alloc, original, &view)?;
+    let lines = demo_lines(alloc, number, routines, size_of(&view), end, executions)?;
     Ok(lines)
 }
 
-/// How many words, blocks and edges the program has.
-fn size_of(alloc: Global, original: &[u8]) -> Result<Size, NoMemory>
+/// The view of the program.
+fn view_of(alloc: Global, original: &[u8]) -> Result<View, NoMemory>
     requires { IsTame original.now }
-    ensures { IfOk result (λ size. size ≡ size_of_file original.now) }
+    ensures view { IfOk result (λ view. view_seen view ≡ view_of_file original.now []) }
+    ensures whole { IfOk result IsView }
 {
     match look(alloc, original, &[]) {
-        Ok(view) => Ok(Size {
-            words: view.image.text().len() as usize,
-            blocks: view.graph.count() as usize,
-            edges: view.graph.edges().len(),
-        }),
+        Ok(view) => Ok(view),
         Err(ReadFault::NoMemory) => Err(NoMemory),
         Err(ReadFault::File(_)) => unreachable!(),
+    }
+}
+
+/// How many words, blocks and edges the program has.
+fn size_of(view: &View) -> Size
+    ensures { result ≡ size_in (view_seen view.now) }
+{
+    Size {
+        words: view.image.text().len() as usize,
+        blocks: view.graph.count() as usize,
+        edges: view.graph.edges().len(),
     }
 }
 
@@ -131,12 +140,14 @@ fn run_alone(alloc: Global, original: &[u8]) -> Result<End, NoMemory>
 // ---- how often edges are completed
 
 /// How often the program's run completes edges in all, as the cells of its profile tell.
-fn executions(alloc: Global, original: &[u8]) -> Result<u128, NoMemory>
-    requires { IsTame original.now }
+fn executions(alloc: Global, original: &[u8], view: &View) -> Result<u128, NoMemory>
+    requires tame { IsTame original.now }
+    requires view { view_seen view.now ≡ view_of_file original.now [] }
+    requires whole { IsView view.now }
     ensures { IfOk result (λ sum. (ending : EndingSeen) (steps : ℕ) → EndsAlone original.now ending steps
         → sum ≡ length (walk_alone original.now steps)) }
 {
-    let written = profile(alloc, original)?;
+    let written = profile(alloc, original, view)?;
     let notes = notes_in(alloc, &written)?;
     let dump = last_dump(alloc, &written, &notes)?;
     let counts = counts(alloc, &notes, &dump)?;
@@ -144,11 +155,13 @@ fn executions(alloc: Global, original: &[u8]) -> Result<u128, NoMemory>
 }
 
 /// The program with counters.
-fn profile(alloc: Global, original: &[u8]) -> Result<Vec<u8>, NoMemory>
-    requires { IsTame original.now }
+fn profile(alloc: Global, original: &[u8], view: &View) -> Result<Vec<u8>, NoMemory>
+    requires tame { IsTame original.now }
+    requires view { view_seen view.now ≡ view_of_file original.now [] }
+    requires whole { IsView view.now }
     ensures { IfOk result (λ written. IsProfileOf (guessed original.now) original.now written.items) }
 {
-    match profiled(alloc, original) {
+    match profiled_view(alloc, original, view, Vec::new(alloc)) {
         Ok(written) => Ok(written),
         Err(fault) => Err(wanting(fault)),
     }

@@ -66,11 +66,11 @@ pub fn profiled_with(alloc: Global, bytes: &[u8], marks: Vec<WordNo>) -> Result<
         IfErr result (CountersRefuse marked (guessed_with bytes.now marked) bytes.now) }
 {
     let view = look(alloc, bytes, &marks)?;
-    counted(alloc, bytes, &view, marks)
+    profiled_view(alloc, bytes, &view, marks)
 }
 
 /// The same, of a file without a fault, of which there is a view.
-fn counted(
+pub fn profiled_view(
     alloc: Global,
     bytes: &[u8],
     view: &View,

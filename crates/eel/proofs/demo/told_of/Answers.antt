@@ -1,5 +1,5 @@
 use Rattle.std.proofs.Common.{ap, ◌∙◌}
-use Rattle.eel.specs.Answers.Demo.{demo_lines, size_of}
+use Rattle.eel.specs.Answers.Demo.{demo_lines, size_in, size_of}
 use Rattle.eel.proofs.demo.told_of.Goals as goal
 
 pub returns : goal.returns
@@ -11,7 +11,7 @@ returns c =
       ran = c.in_ok-end.ensures;
       tell = c.in_ok-lines.ensures
           ∙ ap (λ size. demo_lines c.args.number c.args.routines size end.ending end.steps c.in_ok-executions.executions)
-          c.in_ok-size.ensures
+          (c.size_of.ensures ∙ ap size_in c.in_ok-view.ensures.view)
           ∙ ap (demo_lines c.args.number c.args.routines (size_of c.args.original.now) end.ending end.steps)
           (c.in_ok-executions.ensures end.ending end.steps c.in_ok-end.ensures);
     }
