@@ -2,3 +2,4 @@ pub mod Apart
 pub mod Executable
 pub mod Kept
 pub mod Same
+pub mod Within

@@ -1,5 +1,5 @@
 //! The memory of a running program.
-ghost use Rattle.std.specs.Prelude.{ℕ, List, ◌≡◌, ◌<◌, ◌+◌, ◌*◌, ◌%◌, get_or, ◌^◌, ◌&&◌, take, drop, length, map, ◌++◌, MatchOption, MatchResult, IfOk, IsTrue};
+ghost use Rattle.std.specs.Prelude.{ℕ, List, ◌≡◌, ◌<◌, ◌+◌, ◌*◌, ◌%◌, get_or, ◌^◌, ◌&&◌, take, drop, length, map, ◌++◌, MatchOption, MatchResult, IfOk, IsTrue, true, vec_len};
 ghost use Rattle.std.specs.Int.{w8, w16, w32, from_be_bytes, to_be_bytes};
 ghost use Rattle.std.specs.List.{All, filter, find};
 ghost use Rattle.std.specs.Option.{option_map};
@@ -23,7 +23,7 @@ use v8_decode::decode;
 const MOST_KEPT: u32 = 1 << 25;
 
 /// How many words have their records made at once, when the first of them is run.
-const BLOCK: u32 = 256;
+const BLOCK: u32 = 32;
 
 /// A region that is to be made: `len` bytes from `start` on, of which the first are given and the others
 /// are zeros.
@@ -59,13 +59,36 @@ impl Records {
     }
 }
 
+/// For the high half of each address which region is asked first.
+#[derive(Drop)]
+struct Hints {
+    places: Vec<u8>,
+}
+
+impl Model for Hints {
+    ghost use Rattle.std.specs.Prelude.{◌≡◌, ◌^◌, ℕ, List, vec_len};
+
+    ghost Value = { List ℕ };
+
+    ghost view = { λ h. h.places.items };
+
+    ghost invariant = { λ h. vec_len h.places ≡ 2 ^ 16 };
+}
+
+impl Hints {
+    #[inline(always)]
+    fn at(&self, address: u32) -> usize {
+        usize::from(self.places[(address >> 16) as usize])
+    }
+}
+
 /// Regions, and the heap with its end that moves.
 #[derive(Drop)]
 pub struct Memory {
     heap: Region,
     regions: Vec<Region>,
     /// For the high half of each address which region is asked first.
-    hints: Vec<u8>,
+    hints: Hints,
     /// So that words needn't be decoded each time they are run.
     records: Records,
     /// For each block of words whether its records were made.
@@ -185,7 +208,7 @@ impl Memory {
         if address.0 % 4 != 0 {
             return Err(MemFault::Misaligned);
         }
-        match self.hinted(address.0, 4) {
+        match self.writable_at(address.0, 4) {
             Some(index) => self.exchange_in(index, address.0, value),
             None => self.exchange_searched(address, value),
         }
@@ -302,15 +325,30 @@ impl Memory {
         }
     }
 
-    /// The place of the region that is asked first for an address, if it has all these bytes.
+    /// The place of the region that is asked first for an address, if all these bytes may be read there.
     #[inline(always)]
-    fn hinted(&self, address: u32, count: u64) -> Option<usize>
-        requires { 0 < count }
-        ensures { MatchOption result (Unit {0}) (λ index. (index < length self.now.regions) × ((d : Region) → IsTrue (covers address count (get_or self.now.regions index d)))) }
+    fn readable_at(&self, address: u32, count: u64) -> Option<usize>
+        requires some { 0 < count }
+        ensures { MatchOption result (Unit {0}) (λ index. (index < length self.now.regions) × ((d : Region) → IsTrue (covers address count (get_or self.now.regions index d))) × ((d : Region) → (get_or self.now.regions index d).readable ≡ true)) }
     {
-        let index = usize::from(*self.hints.get((address >> 16) as usize)?);
+        let index = self.hints.at(address);
         let region = self.regions.get(index)?;
-        if region.covers(address, count) {
+        if region.may_read(address, count) {
+            Some(index)
+        } else {
+            None
+        }
+    }
+
+    /// The same, if they may be written.
+    #[inline(always)]
+    fn writable_at(&self, address: u32, count: u64) -> Option<usize>
+        requires some { 0 < count }
+        ensures { MatchOption result (Unit {0}) (λ index. (index < length self.now.regions) × ((d : Region) → IsTrue (covers address count (get_or self.now.regions index d))) × ((d : Region) → (get_or self.now.regions index d).writable ≡ true)) }
+    {
+        let index = self.hints.at(address);
+        let region = self.regions.get(index)?;
+        if region.may_write(address, count) {
             Some(index)
         } else {
             None
@@ -323,15 +361,10 @@ impl Memory {
         requires { 0 < count }
         ensures { MatchOption result (region_at self.now address count ≡ None) (λ region. (region_at self.now address count ≡ Some region.now) × IsTrue (covers address count region.now)) }
     {
-        match self.hinted(address, count) {
-            Some(index) => Some(self.region_in(index, address, count)),
-            None => {
-                if self.heap.covers(address, count) {
-                    Some(&self.heap)
-                } else {
-                    self.searched(address, count)
-                }
-            }
+        if self.heap.covers(address, count) {
+            Some(&self.heap)
+        } else {
+            self.searched(address, count)
         }
     }
 
@@ -343,6 +376,7 @@ impl Memory {
         requires whole { (d : Region) → IsTrue (covers address count (get_or self.now.regions index d)) }
         ensures found { region_at self.now address count ≡ Some result.now }
         ensures whole { IsTrue (covers address count result.now) }
+        ensures readable { ((d : Region) → (get_or self.now.regions index d).readable ≡ true) → result.now.readable ≡ true }
     {
         &self.regions[index]
     }
@@ -366,9 +400,36 @@ impl Memory {
     }
 
     /// The bytes from an address on, where one region has them all and may be read.
+    #[inline(always)]
+    fn read(&self, address: u32, count: u32) -> Option<&[u8]>
+        requires { 0 < count }
+        ensures { MatchOption result (bytes_at self.now address count ≡ None) (λ bytes. (bytes_at self.now address count ≡ Some bytes.now) × (length bytes.now ≡ count)) }
+    {
+        match self.readable_at(address, u64::from(count)) {
+            Some(index) => Some(self.read_in(index, address, count)),
+            None => self.read_elsewhere(address, count),
+        }
+    }
+
+    /// The same, where the region at this place has them all and may be read.
+    #[inline(always)]
+    #[tactic(auto, unfolding(crate::specs::Regions::bytes_at))]
+    fn read_in(&self, index: usize, address: u32, count: u32) -> &[u8]
+        requires some { 0 < count }
+        requires within { index < length self.now.regions }
+        requires whole { (d : Region) → IsTrue (covers address count (get_or self.now.regions index d)) }
+        requires may { (d : Region) → (get_or self.now.regions index d).readable ≡ true }
+        ensures bytes { bytes_at self.now address count ≡ Some result.now }
+        ensures len { length result.now ≡ count }
+    {
+        self.region_in(index, address, u64::from(count))
+            .part(address, count)
+    }
+
+    /// The same, where no region was asked yet.
     #[inline]
     #[tactic(auto, unfolding(crate::specs::Regions::bytes_at))]
-    fn read(&self, address: u32, count: u32) -> Option<&[u8]>
+    fn read_elsewhere(&self, address: u32, count: u32) -> Option<&[u8]>
         requires { 0 < count }
         ensures { MatchOption result (bytes_at self.now address count ≡ None) (λ bytes. (bytes_at self.now address count ≡ Some bytes.now) × (length bytes.now ≡ count)) }
     {
@@ -390,8 +451,11 @@ impl Memory {
         requires { 0 < length bytes.now }
         ensures { Fills (with_bytes self.old address bytes.now) self.old self.new result }
     {
-        match self.hinted(address, bytes.len() as u64) {
-            Some(index) => self.write_in(index, address, bytes),
+        match self.writable_at(address, bytes.len() as u64) {
+            Some(index) => {
+                self.write_in(index, address, bytes);
+                true
+            }
             None => {
                 if self.heap.covers(address, bytes.len() as u64) {
                     self.heap.write(address, bytes)
@@ -404,13 +468,14 @@ impl Memory {
 
     /// The same, where the region at this place has them all.
     #[inline(always)]
-    fn write_in(&mut self, index: usize, address: u32, bytes: &[u8]) -> bool
+    fn write_in(&mut self, index: usize, address: u32, bytes: &[u8])
         requires some { 0 < length bytes.now }
         requires within { index < length self.old.regions }
         requires whole { (d : Region) → IsTrue (covers address (length bytes.now) (get_or self.old.regions index d)) }
-        ensures { Fills (with_bytes self.old address bytes.now) self.old self.new result }
+        requires may { (d : Region) → (get_or self.old.regions index d).writable ≡ true }
+        ensures { Fills (with_bytes self.old address bytes.now) self.old self.new true }
     {
-        self.regions[index].write(address, bytes)
+        self.regions[index].put(address, bytes);
     }
 
     /// The same, where all regions are asked, and the heap last.
@@ -431,6 +496,7 @@ impl Memory {
     fn exchange_in(&mut self, index: usize, address: u32, value: u32) -> Result<u32, MemFault>
         requires within { index < length self.old.regions }
         requires whole { (d : Region) → IsTrue (covers address 4 (get_or self.old.regions index d)) }
+        requires may { (d : Region) → (get_or self.old.regions index d).writable ≡ true }
         ensures { Exchanges w32 (allowed (bytes_at self.old address 4)) (allowed (with_bytes self.old address (to_be_bytes w32 value))) self.old self.new result }
     {
         let region = self.region_in(index, address, 4);
@@ -438,11 +504,8 @@ impl Memory {
             return Err(MemFault::NoAccess);
         }
         let old = word_of(region.part(address, 4));
-        if self.write_in(index, address, &value.to_be_bytes()) {
-            Ok(old)
-        } else {
-            Err(MemFault::NoAccess)
-        }
+        self.write_in(index, address, &value.to_be_bytes());
+        Ok(old)
     }
 
     /// The same, where no region was asked yet.
@@ -496,23 +559,29 @@ fn planned(alloc: Global, plans: &[RegionPlan]) -> Result<Vec<Region>, NoMemory>
 }
 
 /// For the high half of each address a region that has some of its bytes, one that may be written before others.
-fn hints_of(alloc: Global, regions: &[Region]) -> Result<Vec<u8>, NoMemory> {
-    let mut hints = no_hints(alloc, 1 << 16)?;
+fn hints_of(alloc: Global, regions: &[Region]) -> Result<Hints, NoMemory> {
+    let mut places = no_hints(alloc, 1 << 16)?;
+    hint_all(&mut places, regions);
+    Ok(Hints { places })
+}
+
+fn hint_all(hints: &mut [u8], regions: &[Region]) {
     for (region, index) in regions.iter().zip(0..=u8::MAX) {
         if !region.is_writable() {
-            hint_at(&mut hints, region, index);
+            hint_at(hints, region, index);
         }
     }
     for (region, index) in regions.iter().zip(0..=u8::MAX) {
         if region.is_writable() {
-            hint_at(&mut hints, region, index);
+            hint_at(hints, region, index);
         }
     }
-    Ok(hints)
 }
 
 /// Hints to the first region.
-fn no_hints(alloc: Global, count: usize) -> Result<Vec<u8>, NoMemory> {
+fn no_hints(alloc: Global, count: usize) -> Result<Vec<u8>, NoMemory>
+    ensures { IfOk result (λ hints. vec_len hints ≡ count) }
+{
     let hints = vec![in alloc; 0; count]?;
     Ok(hints)
 }

@@ -1,5 +1,5 @@
 //! Bytes that are mapped together, and what a program may do with them.
-ghost use Rattle.std.specs.Prelude.{◌≡◌, ◌+◌, ◌<◌, ◌≤◌, ◌^◌, IsTrue, IfOk, length};
+ghost use Rattle.std.specs.Prelude.{◌≡◌, ◌+◌, ◌<◌, ◌≤◌, ◌^◌, IsTrue, IfOk, length, true, if◌then◌else◌};
 ghost use Rattle.v8_memory.specs.Regions.{covers, part_of, written, is_code};
 ghost use Rattle.v8_memory.specs.Segments.{region_of, empty_heap};
 ghost use Rattle.v8_memory.specs.Calls.{IsPlan, mapping_of_plan};
@@ -16,7 +16,8 @@ pub const HEAP_START: u32 = 0x8000_0000;
 
 pub const HEAP_ROOM: u32 = 1 << 24;
 
-/// The first `size` of `bytes` are mapped, from `start` on.
+/// The first `size` of `bytes` are mapped, from `start` on. So many may be read, and so many may be written: all of them or
+/// none.
 #[derive(Drop)]
 pub struct Region {
     start: u32,
@@ -24,18 +25,20 @@ pub struct Region {
     readable: bool,
     writable: bool,
     executable: bool,
+    to_read: u64,
+    to_write: u64,
     bytes: Vec<u8>,
 }
 
 impl Model for Region {
-    ghost use Rattle.std.specs.Prelude.{◌+◌, ◌≤◌, ◌^◌, vec_len};
+    ghost use Rattle.std.specs.Prelude.{◌≡◌, ◌+◌, ◌≤◌, ◌^◌, vec_len, if◌then◌else◌};
     ghost use Rattle.v8_memory.specs.Regions.{Region as RegionValue};
 
     ghost Value = { RegionValue };
 
     ghost view = { λ r. record { start = r.start; size = r.size; readable = r.readable; writable = r.writable; executable = r.executable; bytes = r.bytes.items } };
 
-    ghost invariant = { λ r. (r.size ≤ vec_len r.bytes) × (r.start + r.size ≤ 2 ^ 32) };
+    ghost invariant = { λ r. (r.size ≤ vec_len r.bytes) × (r.start + r.size ≤ 2 ^ 32) × (r.to_read ≡ (if r.readable then r.size else 0)) × (r.to_write ≡ (if r.writable then r.size else 0)) };
 }
 
 impl Region {
@@ -50,6 +53,8 @@ impl Region {
             readable: true,
             writable: true,
             executable: false,
+            to_read: 0,
+            to_write: 0,
             bytes,
         })
     }
@@ -62,12 +67,16 @@ impl Region {
         let mut bytes = Vec::with_capacity(alloc, plan.len as usize)?;
         bytes.extend_from_slice(plan.first)?;
         bytes.resize(plan.len as usize, 0)?;
+        let readable = plan.flags.contains(SegFlags::PF_R);
+        let writable = plan.flags.contains(SegFlags::PF_W);
         Ok(Region {
             start: plan.start.0,
             size: plan.len,
-            readable: plan.flags.contains(SegFlags::PF_R),
-            writable: plan.flags.contains(SegFlags::PF_W),
+            readable,
+            writable,
             executable: plan.flags.contains(SegFlags::PF_X),
+            to_read: if_allowed(readable, plan.len),
+            to_write: if_allowed(writable, plan.len),
             bytes,
         })
     }
@@ -95,6 +104,26 @@ impl Region {
     {
         let offset = address.wrapping_sub(self.start);
         offset < self.size && u64::from(self.size - offset) >= count
+    }
+
+    /// Whether all `count` bytes from `address` on are mapped here and may be read.
+    #[inline(always)]
+    pub fn may_read(&self, address: u32, count: u64) -> bool
+        requires { 0 < count }
+        ensures whole { result ≡ true → IsTrue (covers address count self.now) }
+        ensures may { result ≡ true → self.now.readable ≡ true }
+    {
+        u64::from(address.wrapping_sub(self.start)).saturating_add(count) <= self.to_read
+    }
+
+    /// Whether all `count` bytes from `address` on are mapped here and may be written.
+    #[inline(always)]
+    pub fn may_write(&self, address: u32, count: u64) -> bool
+        requires { 0 < count }
+        ensures whole { result ≡ true → IsTrue (covers address count self.now) }
+        ensures may { result ≡ true → self.now.writable ≡ true }
+    {
+        u64::from(address.wrapping_sub(self.start)).saturating_add(count) <= self.to_write
     }
 
     #[inline]
@@ -130,6 +159,20 @@ impl Region {
         &self.bytes[from..from + count as usize]
     }
 
+    /// Puts the bytes where they belong.
+    #[inline(always)]
+    pub fn put(&mut self, address: u32, bytes: &[u8])
+        requires whole { IsTrue (covers address (length bytes.now) self.old) }
+        requires may { self.old.writable ≡ true }
+        ensures after { self.new ≡ written address bytes.now self.old }
+        ensures start { self.new.start ≡ self.old.start }
+        ensures size { self.new.size ≡ self.old.size }
+        ensures len { length self.new.bytes ≡ length self.old.bytes }
+    {
+        let from = (address - self.start) as usize;
+        self.bytes[from..from + bytes.len()].copy_from_slice(bytes);
+    }
+
     /// Puts the bytes where they belong, if it may be written, and tells whether it may.
     #[inline(always)]
     pub fn write(&mut self, address: u32, bytes: &[u8]) -> bool
@@ -141,8 +184,7 @@ impl Region {
         ensures len { length self.new.bytes ≡ length self.old.bytes }
     {
         if self.writable {
-            let from = (address - self.start) as usize;
-            self.bytes[from..from + bytes.len()].copy_from_slice(bytes);
+            self.put(address, bytes);
         }
         self.writable
     }
@@ -162,5 +204,15 @@ impl Region {
         ensures { self.new ≡ record self.old { size = size } }
     {
         self.size = size;
+        self.to_read = if_allowed(self.readable, size);
+        self.to_write = if_allowed(self.writable, size);
     }
+}
+
+/// So many bytes where that is allowed, else none.
+#[inline]
+fn if_allowed(may: bool, size: u32) -> u64
+    ensures { result ≡ (if may then size else 0) }
+{
+    if may { u64::from(size) } else { 0 }
 }

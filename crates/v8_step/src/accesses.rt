@@ -258,9 +258,7 @@ impl Machine {
     fn exchange_word(&mut self, address: Addr, value: u32) -> Result<u32, MemFault>
         ensures { Exchanges w32 (load_of self.old.memory 4 address.0) (store_of self.old.memory address.0 (to_be_bytes w32 value)) self.old self.new result }
     {
-        let old = self.memory.load32(address)?;
-        self.memory.store32(address, value)?;
-        Ok(old)
+        self.memory.exchange32(address, value)
     }
 }
 

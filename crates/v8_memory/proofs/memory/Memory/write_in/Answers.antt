@@ -1,4 +1,4 @@
-use Rattle.std.proofs.Common.{rules, slice_set, refl, subst}
+use Rattle.std.proofs.Common.{rules, slice_set, true, refl, subst}
 use Rattle.v8_memory.specs.Calls.{Fills}
 use Rattle.v8_memory.specs.Regions.{with_bytes}
 use Rattle.v8_memory.proofs.Apart.{may_at, stay_at, write_region_done, written_at}
@@ -8,10 +8,10 @@ pub invariant_of-self : goal.invariant_of-self
 invariant_of-self c =
     let items = c.self.inside.regions.items in
     let stays =
-    stay_at c.args.address c.args.bytes.now items (slice_set items c.args.index c.write.new.self)
+    stay_at c.args.address c.args.bytes.now items (slice_set items c.args.index c.put.new.self)
     c.self.inside.records.first c.self.inside.records.ops.items
-    (written_at c.args.address c.args.bytes.now items c.args.index c.index_mut.result.now c.write.new.self
-    (search rules) (search rules) (search rules) (search rules) (search rules) c.write.ensures.after)
+    (written_at c.args.address c.args.bytes.now items c.args.index c.index_mut.result.now c.put.new.self
+    (search rules) (search rules) (search rules) (search rules) (search rules) c.put.ensures.after)
     (search rules) (search rules) in
     (search rules, search rules, search rules, stays.0, stays.1)
 
@@ -20,14 +20,14 @@ returns c =
     let address = c.args.address in
     let bytes = c.args.bytes.now in
     let old = c.self.inside.regions.items in
-    let new = slice_set old c.args.index c.write.new.self in
+    let new = slice_set old c.args.index c.put.new.self in
     subst
-    (λ m. Fills (with_bytes m address bytes) m (record { heap = c.self.inside.heap; regions = new }) c.write.result)
+    (λ m. Fills (with_bytes m address bytes) m (record { heap = c.self.inside.heap; regions = new }) true)
     c.self.view_is
     (write_region_done (record { heap = c.self.inside.heap; regions = old })
-    (record { heap = c.self.inside.heap; regions = new }) address bytes c.write.result (search rules) (search rules)
+    (record { heap = c.self.inside.heap; regions = new }) address bytes true (search rules) (search rules)
     (search rules) (search rules) refl
-    (written_at address bytes old c.args.index c.index_mut.result.now c.write.new.self (search rules) (search rules)
-    (search rules) (search rules) (search rules) c.write.ensures.after)
-    (may_at address bytes old c.args.index c.index_mut.result.now c.write.result (search rules) (search rules)
-    (search rules) (search rules) (search rules) c.write.ensures.may))
+    (written_at address bytes old c.args.index c.index_mut.result.now c.put.new.self (search rules) (search rules)
+    (search rules) (search rules) (search rules) c.put.ensures.after)
+    (may_at address bytes old c.args.index c.index_mut.result.now true (search rules) (search rules)
+    (search rules) (search rules) (search rules) (search rules)))
