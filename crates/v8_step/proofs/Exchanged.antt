@@ -1,5 +1,5 @@
 -- What a memory exchanged, as the state sees it.
-use Rattle.std.proofs.Common.{◌≡◌, ℕ, List, ap}
+use Rattle.std.proofs.Common.{ℕ, List, ap}
 use Rattle.std.specs.Prelude.{Result, Ok, Err}
 use Rattle.std.specs.Int.{Width}
 use Rattle.v8_memory.specs.declared.fault.MemFault.{MemFault}
