@@ -1,7 +1,7 @@
 -- Steps in order, with pc and npc as places among the records.
-use Rattle.std.proofs.Common.{◌≡◌, ◌+◌, ◌-◌, ◌*◌, ◌/◌, ◌%◌, ◌^◌, ◌<◌, ◌≤◌, ◌⊎◌, inl, inr, ℕ, ℤ, pos, negsuc, false, List, None, get_or, sym, ap, ◌∙◌, subst, arith}
-use Rattle.std.proofs.lemmas.Bool.{cases_lt}
-use Rattle.std.specs.Prelude.{FitsSigned, IsTrue}
+use Rattle.std.proofs.Common.{◌≡◌, ◌+◌, ◌-◌, ◌*◌, ◌/◌, ◌%◌, ◌^◌, ◌<◌, ◌≤◌, ◌⊎◌, inl, inr, ℕ, ℤ, pos, negsuc, Bool, false, List, None, get_or, sym, ap, ◌∙◌, subst, arith}
+use Rattle.std.proofs.lemmas.Bool.{cases_lt, le-ltb, lt-ltb}
+use Rattle.std.specs.Prelude.{FitsSigned, IsTrue, if◌then◌else◌}
 use Rattle.std.specs.Int.{cast_unsigned, w32, w64}
 use Rattle.std.proofs.lemmas.Int.{ints}
 use Rattle.std.specs.Prelude.{Result, Ok, Err}
@@ -21,10 +21,10 @@ use Rattle.v8_memory.specs.Regions.{code_of}
 use Rattle.v8_step.specs.declared.ahead.Here.{Here}
 use Rattle.v8_step.specs.declared.ahead.Turn.{Turn}
 use Rattle.v8_step.specs.declared.ahead.Turn.TheVariants.{On, Stop}
-use Rattle.v8_step.specs.Ahead.{GoesOn, HasTurned, address_at, at_here, at_places, placed}
+use Rattle.v8_step.specs.Ahead.{GoesOn, HasTurned, address_at, at_here, at_places, placed, slot_by, slot_of}
 use Rattle.v8_step.specs.State.{State, Slot, NoSlot}
 use Rattle.v8_step.specs.Step.{act}
-use Rattle.v8_step.specs.Turns.{IsQuietRun, turned}
+use Rattle.v8_step.specs.Turns.{IsQuietRun}
 use Rattle.v8_step.proofs.QuietRuns.{no_step, one_more, says_some, still_kept, turned_by}
 
 pub next_address : (first place : ℕ) → wrapped (address_at first place + 4) ≡ address_at first (place + 1)
@@ -32,23 +32,29 @@ next_address first place = omega arith
 
 pub goes_on : (s t : State) (x : Instr) (h : Here) → GoesOn s x t → HasTurned On h s x t
 goes_on s t x h goes =
-    goes (address_at h.first h.cur) (address_at h.first h.next) h.slot
+    goes (address_at h.first h.cur) (address_at h.first h.next) (slot_of h)
     ∙ ap (λ npc. placed t (address_at h.first h.next) npc NoSlot) (next_address h.first h.next)
+
+-- the slot where it lasts, and where it is over
+pub in_slot : (next slot_end : ℕ) (slot : Slot) → next < slot_end → slot_by next slot_end slot ≡ slot
+unfolding slot_by
+in_slot next slot_end slot less = ap (λ (b : Bool). if b then slot else NoSlot) (lt-ltb next slot_end less)
+
+pub no_slot : (next slot_end : ℕ) (slot : Slot) → slot_end ≤ next → slot_by next slot_end slot ≡ NoSlot
+unfolding slot_by
+no_slot next slot_end slot least = ap (λ (b : Bool). if b then slot else NoSlot) (le-ltb next slot_end least)
 
 -- at first
 pub at_start : (s : State) (first cur next made : ℕ) → address_at first cur ≡ s.pc → address_at first next ≡ s.npc
-    → s.slot ≡ NoSlot → made ≡ 0 → IsQuietRun s made (at_places s first cur next NoSlot)
-at_start s first cur next made pc npc slot none =
-    subst (λ n. IsQuietRun s n (at_places s first cur next NoSlot)) (sym none)
+    → made ≡ 0 → IsQuietRun s made (at_places s first cur next (slot_by next (next + 1) s.slot))
+at_start s first cur next made pc npc none =
+    subst (λ n. IsQuietRun s n (at_places s first cur next (slot_by next (next + 1) s.slot))) (sym none)
     (subst (IsQuietRun s 0) (sym all) (no_step s))
   where
-    all : at_places s first cur next NoSlot ≡ s
+    all : at_places s first cur next (slot_by next (next + 1) s.slot) ≡ s
     all =
-        ap (λ n. placed s n (address_at first next) NoSlot) pc ∙ ap (λ n. placed s s.pc n NoSlot) npc
-        ∙ ap (placed s s.pc s.npc) (sym slot)
-
-pub after_slot : (first next : ℕ) → wrapped (address_at first next + 4) ≡ address_at first ((next + 1) % 2 ^ 64)
-after_slot first next = omega arith
+        ap (at_places s first cur next) (in_slot next (next + 1) s.slot (omega arith))
+        ∙ ap (λ n. placed s n (address_at first next) s.slot) pc ∙ ap (λ n. placed s s.pc n s.slot) npc
 
 pub target_place : (first cur : ℕ) (d : ℤ) → FitsSigned w32 d
     → address_at first ((cur + cast_unsigned w64 d) % 2 ^ 64) ≡ wrapped (address_at first cur + 4 * cast_unsigned w32 d)
@@ -89,23 +95,20 @@ not_last ops x last cur len is at_end other some within = go (cases_lt (cur + 1)
         let same : cur ≡ len - 1 = omega arith in
         absurd (some (ap (λ (z : Op). z.code) (is x ∙ ap (λ n. get_or ops n x) same ∙ sym (at_end x)) ∙ other))
 
--- a run has come to places, with the records that it began with
-pub record HasCome (s0 m : State) (ops : List Op) (first cur next made : ℕ) (slot : Slot) : Type 0 where
-  pub live : m.ending ≡ None
-  pub run : IsQuietRun s0 made (at_places m first cur next slot)
-  pub kept : AreKept (code_of m.memory) first ops
-
 -- one turn more
-pub comes_on : (s0 m t : State) (ops : List Op) (h : Here) (c n made more : ℕ) (slot : Slot) (x : Op)
-    → HasCome s0 m ops h.first h.cur h.next made h.slot → IsKept (code_of m.memory) (address_at h.first h.cur) x
-    → t.ending ≡ m.ending → act (at_here m h) (instr_of x) ≡ at_places t h.first c n slot
-    → (x.code ≡ Other → ⊥) → made + 1 ≡ more → HasCome s0 t ops h.first c n more slot
-comes_on s0 m t ops h c n made more slot x come kept going is some count = record {
-  live = going ∙ come.live;
-  run = subst (λ k. IsQuietRun s0 k (at_places t h.first c n slot)) count
-      (one_more s0 (at_here m h) (at_places t h.first c n slot) made x come.live come.run kept made_so some);
-  kept = still_kept (at_here m h) (at_places t h.first c n slot) x h.first ops come.live kept made_so some come.kept;
-}
-  where
-    made_so : at_places t h.first c n slot ≡ turned x.code (at_here m h) x
-    made_so = sym is ∙ sym (turned_by x.code (at_here m h) x some)
+pub turn_made : (s0 m t : State) (h : Here) (c n made more : ℕ) (slot new : Slot) (x : Op) → m.ending ≡ None
+    → IsQuietRun s0 made (at_here m h) → IsKept (code_of m.memory) (address_at h.first h.cur) x
+    → act (at_here m h) (instr_of x) ≡ at_places t h.first c n slot → (x.code ≡ Other → ⊥) → made + 1 ≡ more
+    → slot ≡ new → IsQuietRun s0 more (at_places t h.first c n new)
+turn_made s0 m t h c n made more slot new x going run kept is some count same =
+    subst (λ k. IsQuietRun s0 k (at_places t h.first c n new)) count
+    (one_more s0 (at_here m h) (at_places t h.first c n new) made x going run kept
+    (sym (is ∙ ap (at_places t h.first c n) same) ∙ sym (turned_by x.code (at_here m h) x some)) some)
+
+pub turn_keeps : (m t : State) (h : Here) (c n : ℕ) (slot : Slot) (x : Op) (ops : List Op) → m.ending ≡ None
+    → IsKept (code_of m.memory) (address_at h.first h.cur) x
+    → act (at_here m h) (instr_of x) ≡ at_places t h.first c n slot → (x.code ≡ Other → ⊥)
+    → AreKept (code_of m.memory) h.first ops → AreKept (code_of t.memory) h.first ops
+turn_keeps m t h c n slot x ops going kept is some =
+    still_kept (at_here m h) (at_places t h.first c n slot) x h.first ops going kept
+    (sym is ∙ sym (turned_by x.code (at_here m h) x some)) some

@@ -8,7 +8,7 @@ ghost use Rattle.v8_decode.specs.declared.Instr.TheVariants as instrs;
 ghost use Rattle.v8_memory.specs.Kept.{AreKept};
 ghost use Rattle.v8_memory.specs.Ops.{IsSum, alu_in, instr_of, is_record, operand_in};
 ghost use Rattle.v8_memory.specs.Regions.{code_of};
-ghost use Rattle.v8_step.specs.Ahead.{GoesOn, HasTurned, IsNear, IsSlot, IsWithin, address_at, at_places};
+ghost use Rattle.v8_step.specs.Ahead.{GoesOn, HasTurned, IsNear, IsWithin, address_at, at_places, slot_by, slot_of};
 ghost use Rattle.v8_step.specs.Turns.{IsQuietRun};
 
 use crate::Slot;
@@ -23,8 +23,10 @@ use v8_memory::{Op, OpCode, op_in};
 pub enum Turn {
     /// The next instruction in order.
     On,
-    /// The delay slot, of this kind, and then the record at this place.
-    To(usize, Slot),
+    /// The same, which is the delay slot of a branch that isn't taken.
+    Past,
+    /// The delay slot, and then the record at this place.
+    To(usize),
     /// The record at this place.
     At(usize),
     /// Nothing was carried out: `step` has to do it.
@@ -33,6 +35,7 @@ pub enum Turn {
 
 /// The place of an instruction and of the one after it among `len` records, of which the one of the word at `first` is
 /// the first; `spare` is how many steps may still be made, and `next` more, beside those that all records in order take.
+/// `slot` is that of the last transfer, as long as `next` is below `slot_end`.
 #[derive(Clone, Copy, Drop)]
 pub struct Here {
     pub first: u32,
@@ -40,16 +43,18 @@ pub struct Here {
     pub cur: usize,
     pub next: usize,
     pub spare: u64,
+    pub slot_end: usize,
     pub slot: Slot,
 }
 
 impl Here {
     /// Whether the instruction is in the delay slot of a transfer.
     #[inline(always)]
+    #[tactic(auto, using(crate::proofs::InOrder::no_slot))]
     fn is_in_slot(&self) -> bool
-        ensures { result ≡ false → self.now.slot ≡ Slot.NoSlot }
+        ensures { result ≡ false → slot_of self.now ≡ Slot.NoSlot }
     {
-        !is_none(self.slot)
+        self.next < self.slot_end
     }
 
     /// The place so many words on, or back.
@@ -145,25 +150,6 @@ impl Machine {
             OpCode::Save => self.save_turn(op, here),
             OpCode::Restore => self.restore_turn(op, here),
             OpCode::Other => Turn::Stop,
-        }
-    }
-
-    /// Carries out the instruction of a record in a slot, but for pc and npc, and tells whether it is made; else nothing
-    /// changes. The transfer's own turn is inlined, so that no arm of this one looks at the slot.
-    #[inline(always)]
-    fn slot_turn(&mut self, op: &Op, here: Here) -> bool
-        requires sum { IsSum op.now.rs2 op.now.imm }
-        requires slot { IsSlot here.slot }
-        ensures goes { result ≡ true → HasTurned Turn.On here self.old (instr_of op.now) self.new }
-        ensures stays { result ≡ false → self.new ≡ self.old }
-        ensures going { self.new.ending ≡ self.old.ending }
-        ensures said { result ≡ true → IsTrue (is_record op.now.code) }
-    {
-        match self.turn(op, here) {
-            Turn::On => true,
-            Turn::To(_, _) => false,
-            Turn::At(_) => false,
-            Turn::Stop => false,
         }
     }
 
@@ -443,7 +429,7 @@ impl Machine {
 
     /// A branch on a condition. Where it is inlined, this is a constant.
     #[inline(always)]
-    #[tactic(auto, using(crate::proofs::InOrder::target_place, crate::proofs::InOrder::next_address, crate::proofs::InOrder::after_slot, crate::proofs::InOrder::after_annulled), unfolding(crate::specs::Step::act, crate::specs::Transfers::branch_step))]
+    #[tactic(auto, using(crate::proofs::InOrder::target_place, crate::proofs::InOrder::next_address, crate::proofs::InOrder::after_annulled), unfolding(crate::specs::Step::act, crate::specs::Transfers::branch_step))]
     fn branch_turn(&mut self, cond: Cond, op: &Op, here: Here) -> Turn
         ensures state { HasTurned result here self.old (instrs.Branch cond (op.now.rd == 1) op.now.imm) self.new }
         ensures within { IsWithin result here }
@@ -460,7 +446,7 @@ impl Machine {
             } else if cond.number() == 8 && annul {
                 Turn::At(place)
             } else {
-                Turn::To(place, Slot::Taken)
+                Turn::To(place)
             }
         } else if annul {
             let place = here.cur.wrapping_add(2);
@@ -470,7 +456,7 @@ impl Machine {
                 Turn::Stop
             }
         } else {
-            Turn::To(here.next.wrapping_add(1), Slot::Untaken)
+            Turn::Past
         }
     }
 
@@ -486,7 +472,7 @@ impl Machine {
             return Turn::Stop;
         }
         self.set(register(15), address(here.first, here.cur));
-        Turn::To(place, Slot::Taken)
+        Turn::To(place)
     }
 
     #[inline(always)]
@@ -504,20 +490,16 @@ impl Machine {
             return Turn::Stop;
         }
         self.set(op.rd, address(here.first, here.cur));
-        Turn::To(place, Slot::Taken)
+        Turn::To(place)
     }
 }
 
-/// Whether this is no delay slot.
-#[inline(always)]
-fn is_none(slot: Slot) -> bool
-    ensures { result ≡ true → slot ≡ Slot.NoSlot }
+/// The slot where `next` is this.
+#[tactic(auto, unfolding(crate::specs::Ahead::slot_by))]
+fn slot_at(next: usize, slot_end: usize, slot: Slot) -> Slot
+    ensures { result ≡ slot_by next slot_end slot }
 {
-    match slot {
-        Slot::NoSlot => true,
-        Slot::Taken => false,
-        Slot::Untaken => false,
-    }
+    if next < slot_end { slot } else { Slot::NoSlot }
 }
 
 /// The value and Y that an operation leaves, which leaves the codes.
@@ -563,52 +545,58 @@ pub(crate) fn go_far(ops: &[Op], first: u32, m: &mut Machine, limit: u64) -> u64
         return 0;
     }
     let offset = m.pc.wrapping_sub(first);
+    let after = m.npc.wrapping_sub(first);
     let mut cur = (offset / 4) as usize;
-    if offset % 4 != 0 || cur >= len || m.npc != m.pc.wrapping_add(4) || !is_none(m.slot) {
+    let mut next = (after / 4) as usize;
+    if offset % 4 != 0 || after % 4 != 0 || cur >= len || next >= len {
         return 0;
     }
-    let mut spare = limit + cur as u64 - len as u64;
-    // pc is the place `cur`, npc the one after it, and no slot is left to run: a transfer and its slot are one turn. In
-    // order nothing is compared: the last record says nothing, and `spare` leaves room for all records in order, so that
-    // only transfers look at the limit. Steps aren't counted: in order `cur` grows with them, and a transfer changes
-    // `spare` by as much as it changes `cur` besides. What can't be made here (a fault, a transfer in a slot, a target
-    // without a record) changes nothing, and ends the loop.
+    let mut spare = limit + next as u64 - len as u64 - 1;
+    let mut slot_end = next + 1;
+    let mut slot = m.slot;
+    // pc and npc are the places `cur` and `next`. In order they move on by one, and nothing is compared: the last record
+    // says nothing, and `spare` leaves room for all records in order, so that only transfers look at the limit. Steps
+    // aren't counted: in order `next` grows with them, and a transfer changes `spare` by as much as it changes `next`
+    // besides. Only transfers write or read the slot: it is over once `next` has come to its end. What can't be made here
+    // (a fault, a transfer in a slot, a target without a record) changes nothing, and ends the loop.
     'turns: loop {
         let op = op_in(ops, first, cur);
         let here = Here {
             first,
             len,
             cur,
-            next: cur + 1,
+            next,
             spare,
-            slot: Slot::NoSlot,
+            slot_end,
+            slot,
         };
         match m.turn(op, here) {
-            Turn::On => cur += 1,
-            Turn::To(place, slot) => {
-                let behind = op_in(ops, first, cur + 1);
-                let there = Here {
-                    first,
-                    len,
-                    cur: cur + 1,
-                    next: place,
-                    spare,
-                    slot,
-                };
-                if !m.slot_turn(behind, there) {
-                    m.stand_at(first, cur + 1, place, slot);
-                    return limit + cur as u64 + 1 - len as u64 - spare;
-                }
-                spare = spare + place as u64 - cur as u64 - 2;
-                cur = place;
+            Turn::On => {
+                cur = next;
+                next += 1;
+            }
+            Turn::Past => {
+                slot = Slot::Untaken;
+                slot_end = next + 2;
+                cur = next;
+                next += 1;
+            }
+            Turn::To(place) => {
+                slot = Slot::Taken;
+                slot_end = place + 1;
+                spare = spare - next as u64 - 1 + place as u64;
+                cur = next;
+                next = place;
             }
             Turn::At(place) => {
-                spare = spare + place as u64 - cur as u64 - 1;
+                slot_end = 0;
+                spare = spare - next as u64 + place as u64;
                 cur = place;
+                next = place + 1;
             }
             Turn::Stop => break,
         }
     }
-    m.stand_at(first, cur, cur + 1, Slot::NoSlot);
-    limit + cur as u64 - len as u64 - spare
+    m.stand_at(first, cur, next, slot_at(next, slot_end, slot));
+    limit + next as u64 - len as u64 - 1 - spare
 }

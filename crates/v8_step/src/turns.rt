@@ -20,7 +20,8 @@ use v8_memory::{Op, OpCode, op_at};
 const MOST_AT_ONCE: u64 = 1 << 62;
 
 impl Machine {
-    /// Makes steps, at most `limit`, as long as the instructions have records and the run hasn't ended, and tells how many they are. They put nothing out.
+    /// Makes steps, at most `limit`, as long as the instructions have records and the run hasn't ended, and tells how many they
+    /// are. They put nothing out. The word before which it stops gets its record, too: by `step` control may leave its block.
     pub fn go(&mut self, limit: u64) -> u64
         requires going { self.old.ending ≡ None }
         ensures run { IsQuietRun self.old result self.new }
@@ -35,6 +36,7 @@ impl Machine {
             go_in(&records.ops, records.first, self, limit)
         };
         self.memory.put_records(records);
+        self.memory.keep_around(Addr(self.pc));
         steps
     }
 
