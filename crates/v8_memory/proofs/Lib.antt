@@ -2,4 +2,3 @@ pub mod Apart
 pub mod Executable
 pub mod Kept
 pub mod Same
-pub mod Within
