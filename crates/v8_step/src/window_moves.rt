@@ -78,7 +78,7 @@ impl Machine {
         self.go_on();
     }
 
-    /// SAVE where a window is left, but for pc and npc. It tells whether it is made; else nothing changes.
+    /// SAVE, but for pc and npc. It tells whether it is made; else nothing changes.
     #[inline(never)]
     #[tactic(auto, unfolding(crate::specs::WindowMoves::save_step))]
     pub(crate) fn save_in_order(&mut self, rd: Reg, value: u32) -> bool
@@ -87,14 +87,29 @@ impl Machine {
         ensures going { self.new.ending ≡ self.old.ending }
     {
         if self.windows.valid() >= MOST_VALID {
-            return false;
+            return self.save_behind_spill(rd, value);
         }
         let _ = self.windows.enter();
         self.set(rd, value);
         true
     }
 
-    /// RESTORE where the window after is valid, but for pc and npc. It tells whether it is made; else nothing changes.
+    /// SAVE where the oldest window must be saved first; what pc, npc and the slot become doesn't matter.
+    fn save_behind_spill(&mut self, rd: Reg, value: u32) -> bool
+        requires { self.old.valid ≡ 7 }
+        ensures goes { result ≡ true → (pc npc : ℕ) (slot : Slot) → save_step (placed self.old pc npc slot) rd value ≡ placed self.new npc (wrapped (npc + 4)) NoSlot }
+        ensures stays { result ≡ false → self.new ≡ self.old }
+        ensures going { self.new.ending ≡ self.old.ending }
+    {
+        if self.spill() {
+            self.enter(rd, value);
+            true
+        } else {
+            false
+        }
+    }
+
+    /// RESTORE, but for pc and npc. It tells whether it is made; else nothing changes.
     #[inline(never)]
     #[tactic(auto, unfolding(crate::specs::WindowMoves::restore_step))]
     pub(crate) fn restore_in_order(&mut self, rd: Reg, value: u32) -> bool
@@ -103,11 +118,26 @@ impl Machine {
         ensures going { self.new.ending ≡ self.old.ending }
     {
         if self.windows.valid() <= 1 {
-            return false;
+            return self.restore_behind_fill(rd, value);
         }
         let _ = self.windows.leave();
         self.set(rd, value);
         true
+    }
+
+    /// RESTORE where the window after must be loaded first; what pc, npc and the slot become doesn't matter.
+    fn restore_behind_fill(&mut self, rd: Reg, value: u32) -> bool
+        requires { self.old.valid ≡ 1 }
+        ensures goes { result ≡ true → (pc npc : ℕ) (slot : Slot) → restore_step (placed self.old pc npc slot) rd value ≡ placed self.new npc (wrapped (npc + 4)) NoSlot }
+        ensures stays { result ≡ false → self.new ≡ self.old }
+        ensures going { self.new.ending ≡ self.old.ending }
+    {
+        if self.fill() {
+            self.leave(rd, value);
+            true
+        } else {
+            false
+        }
     }
 
     /// Saves all windows but the current one, the oldest first.
