@@ -6,7 +6,7 @@ use crate::segments::PAGE_SIZE;
 use addr_translate::{halves_size, table_size};
 use eel_base::{Addr, Text};
 use elf32_sparc::Image;
-use image_code::Frame;
+use image_code::DataAddresses;
 
 /// Where the cells of an edit lie, the tables right behind them, and the code right behind those.
 #[derive(Clone, Copy)]
@@ -39,14 +39,14 @@ impl AddressMap {
     }
 
     /// Where new code finds its data.
-    pub(crate) fn frame(self, text: &Text) -> Frame
+    pub(crate) fn data_addresses(self, text: &Text) -> DataAddresses
         requires few { self.cells ≤ 2 ^ 23 }
         requires fits { table_after self.base.0 self.cells + tables_size_of text.now < 2 ^ 32 }
         ensures cells { result.cells.0 ≡ self.base.0 }
         ensures table { result.table.0 ≡ table_after self.base.0 self.cells }
         ensures cases { result.cases.0 ≡ cases_at text.now (table_after self.base.0 self.cells) }
     {
-        Frame {
+        DataAddresses {
             cells: self.base,
             table: self.table(),
             cases: Addr(self.table().0 + tables_size(text)),

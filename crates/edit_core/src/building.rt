@@ -61,7 +61,7 @@ fn make_pieces(
         made.cases.items made.foreign made.entry) }
 {
     let text = image.text();
-    let frame = AddressMap::above(image, asked.cells).frame(text);
+    let addresses = AddressMap::above(image, asked.cells).data_addresses(text);
     let live = live(alloc, text, graph, &asked.snips)?;
     let made = pieces(
         alloc,
@@ -70,7 +70,7 @@ fn make_pieces(
         image.entry(),
         &asked.snips,
         &live,
-        frame,
+        addresses,
     )?;
     Ok(made)
 }

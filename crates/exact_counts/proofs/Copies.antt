@@ -20,6 +20,7 @@ use Rattle.cfg_normal.specs.declared.Node.{Node}
 use Rattle.cfg_normal.specs.Nodes.{same_kind, same_node}
 use Rattle.cfg_normal.specs.Opens.{AreOne, Open, compares_in, is_copied, jumps_in, targets_in}
 use Rattle.cfg_normal.specs.Graph.{Graph, case_nodes, case_of, copied_edges, edge_of, edges_in, edges_of, graph_of, landing_at, landings_of, lands, lands_of, once_onto, ways_out}
+use Rattle.cfg_normal.proofs.GraphFacts.{once_few, ways_few}
 use Rattle.cfg_walk.proofs.Cut.{IsCut, cut}
 use Rattle.cfg_walk.proofs.Edges.{block, copy, same_itself, same_nodes}
 use Rattle.cfg_walk.proofs.Holding.{some_words}
@@ -31,7 +32,7 @@ use Rattle.jump_slice.proofs.CaseBlocks.{case_block}
 use Rattle.jump_slice.proofs.Opened.{opens_are}
 use Rattle.image_code.specs.Fit.{copies_of}
 use Rattle.image_code.specs.Graphs.{opens_in}
-use Rattle.image_code.proofs.OpenBlocks.{are_open, entries_of, once_few, sizes_all, targets_few, ways_few}
+use Rattle.image_code.proofs.OpenBlocks.{are_open, entries_of, sizes_all, targets_few}
 use Rattle.image_code.proofs.OpenSums.{AreDistinct, distinct_sum, total, total_at, total_le, total_plus, total_same}
 
 -- ---- sums

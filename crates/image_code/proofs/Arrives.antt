@@ -242,43 +242,17 @@ module _ (g : Setting) (l : Pieces) (base : ℕ) (p : Placement) (place : ℕ �
     ),
   )
 
-  -- the way has no step, along edges without operations
-  pub bare_here : {next : Option ℕ} (edges : List ℕ) (a : State) (to most : ℕ) → operations_on g.snips edges ≡ 0
-      → CanRun base p.code a → a.pc ≡ to → a.pc ≤ 2 ^ 31 → Arrives next edges a to most
-  bare_here edges a to most none w e low = record {
-    count = 0;
-    other = a;
-    memory = a.memory;
-    few = omega arith;
-    path = subst (λ (q : State). Leads IsBare a q 0) (sym (stays a to e w.ready.npc w.slot (omega arith)))
-        (leads_none _ a);
-    silent = silent_none a;
-    stores = stores_none (IsAmongWords f.own) a.memory;
-    waits = refl;
-    found = λ _. refl;
-    cells = λ _. sym (no_updates g.snips edges (cells_in g a) a none);
-    begins = λ q. absurd (omega arith);
-    alike = alike_itself g edges a;
-    still = λ _. refl;
-    spares = λ _. omega arith;
-    leaves_first = λ _ _. refl;
-    brief = λ _ _. omega arith;
-  }
-
-  pub stays_here : {next : Option ℕ} (a : State) (to most : ℕ) → CanRun base p.code a → a.pc ≡ to → a.pc ≤ 2 ^ 31
-      → Arrives next [] a to most
-  stays_here a to most w e low = bare_here [] a to most refl w e low
-
   -- A way of stores in word 0 of the page alone, and what is known of it where the original goes on in the text.
   record IsBrief (a : State) (most count : ℕ) : Type 0 where
     spares : count_stores (is_spill g.notes) a count ≤ 0
     leaves_first : HasShortForms l.list place → count_stores in_first_word a count ≡ 0
     brief : HasShortForms l.list place → 4 * count ≤ most
 
-  hops_on : {next : Option ℕ} (a : State) (to most count : ℕ) (m : Memory) → IsFit a
-      → Stores IsFirstWord a.memory m → count ≤ most → Leads IsBare a (hopped a to m) count → IsSilent a count
-      → (0 < count → IsBare a) → (next ≢ None → IsBrief a most count) → Arrives next [] a to most
-  hops_on a to most count m fit stores few path silent begins brief =
+  -- along edges without operations
+  hops_on : {next : Option ℕ} (edges : List ℕ) → operations_on g.snips edges ≡ 0 → (a : State) (to most count : ℕ)
+      (m : Memory) → IsFit a → Stores IsFirstWord a.memory m → count ≤ most → Leads IsBare a (hopped a to m) count
+      → IsSilent a count → (0 < count → IsBare a) → (next ≢ None → IsBrief a most count) → Arrives next edges a to most
+  hops_on edges none a to most count m fit stores few path silent begins brief =
       let kept = first_kept a m fit stores in
       record {
         count = count;
@@ -290,14 +264,24 @@ module _ (g : Setting) (l : Pieces) (base : ℕ) (p : Placement) (place : ℕ �
         stores = kept.0;
         waits = kept.1.0;
         found = λ _. seventh_kept a m fit stores;
-        cells = λ _. kept.1.1;
+        cells = λ _. kept.1.1 ∙ sym (no_updates g.snips edges (cells_in g a) a none);
         begins = begins;
-        alike = alike_itself g [] a;
+        alike = alike_itself g edges a;
         still = λ _. refl;
         spares = λ there. let spares = (brief there).spares in omega (arith, spares);
         leaves_first = λ there short. (brief there).leaves_first short;
         brief = λ there short. let words = (brief there).brief short in omega (arith, words);
       }
+
+  -- the way has no step
+  pub bare_here : {next : Option ℕ} (edges : List ℕ) (a : State) (to most : ℕ) → operations_on g.snips edges ≡ 0
+      → IsFit a → a.pc ≡ to → a.pc ≤ 2 ^ 31 → Arrives next edges a to most
+  bare_here edges a to most none fit e low =
+      hops_on edges none a to most 0 a.memory fit (stores_none IsFirstWord a.memory) (omega arith)
+      (subst (λ (q : State). Leads IsBare a q 0) (sym (stays a to e fit.runs.ready.npc fit.runs.slot (omega arith)))
+      (leads_none _ a))
+      (silent_none a) (λ q. absurd (omega arith))
+      (λ _. record { spares = omega arith; leaves_first = λ _. refl; brief = λ _. omega arith })
 
   -- an item outside each Mark
   pub bare_item : (k n : ℕ) (x : Item) → item_at l.list k n ≡ Some x → open_in (slice_get l.list k) n ≡ None
@@ -322,7 +306,7 @@ module _ (g : Setting) (l : Pieces) (base : ℕ) (p : Placement) (place : ℕ �
       let ins = j.inside in
       let none = bare_item k n (it.Jump z) item closed in
       let few = j.few in
-      hops_on a (slice_index p.at z.0) 4 j.count j.memory fit j.hops.stores (omega (arith, few))
+      hops_on [] refl a (slice_index p.at z.0) 4 j.count j.memory fit j.hops.stores (omega (arith, few))
       (leads_weaker _ _ a _ j.count (λ u q. let b = q.past in let c = q.before in none u (omega arith) (omega arith))
       j.hops.path) j.hops.silent (λ q. none a (omega arith) (omega arith))
       (λ _. record {
@@ -535,7 +519,7 @@ module _ (g : Setting) (l : Pieces) (base : ℕ) (p : Placement) (place : ℕ �
       let e : n + 0 ≡ n = omega arith in
       let low = stood_low k n [] xs r in
       let same = ap (place k) e in
-      stays_here a (place k (n + 0)) 0 fit.runs (at ∙ sym same) (omega (arith, at, same, low))
+      bare_here [] a (place k (n + 0)) 0 refl fit (at ∙ sym same) (omega (arith, at, same, low))
   snippets_run next (edge ∷ edges) k n xs r a fit at =
       let first = l.codes edge in
       let both : flat_map l.codes (edge ∷ edges) ≡ first ++ flat_map l.codes edges = flat_map-cons l.codes edge edges in
@@ -592,7 +576,7 @@ module _ (g : Setting) (l : Pieces) (base : ℕ) (p : Placement) (place : ℕ �
       (λ i x e. r.items i ∙ e) in
       let hops = long_jumps_hop to a fit.valid fit.runs.ready (omega (arith, at, end, low)) fit.runs.page
       (subst (λ q. StandIn (code_of a.memory) q (long_jump to)) (sym at) stand) far.0 far.1 in
-      hops_on a to 4 4 (store_word a.memory (page_word 0) (register_of a 1)) fit hops.stores (omega arith)
+      hops_on [] refl a to 4 4 (store_word a.memory (page_word 0) (register_of a 1)) fit hops.stores (omega arith)
       (leads_weaker _ _ a _ 4 (λ u q. let b = q.past in let c = q.before in there.bare u (omega (arith, at, b))
       (omega (arith, at, c))) hops.path)
       hops.silent (λ q. there.bare a (omega (arith, at)) (omega (arith, at))) (λ there. absurd (there out))
@@ -617,7 +601,7 @@ module _ (g : Setting) (l : Pieces) (base : ℕ) (p : Placement) (place : ℕ �
       → a.pc ≡ slice_index p.at z.0 → LeadsTo l p z edges next to → Arrives next edges a to 4
   arrive z edges a next to fit at (inl (none, e)) =
       let low = (h.laid.aligned z.0).1 in
-      subst (λ q. Arrives next q a to 4) (sym none) (stays_here a to 4 fit.runs (at ∙ e) (omega (arith, at, low)))
+      subst (λ q. Arrives next q a to 4) (sym none) (bare_here [] a to 4 refl fit (at ∙ e) (omega (arith, at, low)))
   arrive z edges a next to fit at (inr (inl (y, is, e))) =
       let r = rest_whole l z.0 (words_on l edges ++ it.Jump y ∷ []) (jump_unmarked edges y) is in
       for_all edges a to 4 (snippets_then next edges z.0 0 (it.Jump y ∷ []) r a fit
@@ -642,9 +626,10 @@ module _ (g : Setting) (l : Pieces) (base : ℕ) (p : Placement) (place : ℕ �
 
   -- ---- from item 3 of a piece on
 
-  pub weaker_arrives : {next : Option ℕ} (edges : List ℕ) (a : State) (to few most : ℕ) → few ≤ most
-      → Arrives next edges a to few → Arrives next edges a to most
-  weaker_arrives edges a to few most less one =
+  -- where of fewer ways it is asked what they store, and the bound is no lower
+  unfoldable pub eased : {next after : Option ℕ} (edges : List ℕ) (a : State) (to few most : ℕ)
+      → (after ≢ None → next ≢ None) → few ≤ most → Arrives next edges a to few → Arrives after edges a to most
+  eased edges a to few most asked less one =
       let short = one.few in
       record {
         count = one.count;
@@ -655,37 +640,24 @@ module _ (g : Setting) (l : Pieces) (base : ℕ) (p : Placement) (place : ℕ �
         silent = one.silent;
         stores = one.stores;
         waits = one.waits;
-        found = one.found;
+        found = λ there. one.found (asked there);
         cells = one.cells;
         begins = one.begins;
         alike = one.alike;
         still = one.still;
-        spares = one.spares;
-        leaves_first = one.leaves_first;
-        brief = λ there forms. let brief = one.brief there forms in omega (arith, less, brief);
+        spares = λ there. one.spares (asked there);
+        leaves_first = λ there. one.leaves_first (asked there);
+        brief = λ there forms. let brief = one.brief (asked there) forms in omega (arith, less, brief);
       }
 
+  abbrev pub weaker_arrives : {next : Option ℕ} (edges : List ℕ) (a : State) (to few most : ℕ) → few ≤ most
+      → Arrives next edges a to few → Arrives next edges a to most
+  weaker_arrives edges a to few most less one = eased edges a to few most (λ there. there) less one
+
   -- whatever comes next
-  unfoldable pub unwatched : (next : Option ℕ) (edges : List ℕ) (a : State) (to most : ℕ) → Arrives next edges a to most
+  abbrev pub unwatched : (next : Option ℕ) (edges : List ℕ) (a : State) (to most : ℕ) → Arrives next edges a to most
       → Arrives None edges a to most
-  unwatched next edges a to most one = record {
-    count = one.count;
-    other = one.other;
-    memory = one.memory;
-    few = one.few;
-    path = one.path;
-    silent = one.silent;
-    stores = one.stores;
-    waits = one.waits;
-    found = λ there. absurd (there refl);
-    cells = one.cells;
-    begins = one.begins;
-    alike = one.alike;
-    still = one.still;
-    spares = λ there. absurd (there refl);
-    leaves_first = λ there _. absurd (there refl);
-    brief = λ there _. absurd (there refl);
-  }
+  unwatched next edges a to most one = eased edges a to most most (λ there. absurd (there refl)) (omega arith) one
 
   -- Where no edge is completed, and the original goes on at a word of the text, the way has no step.
   abbrev pub Tail : Option ℕ → List ℕ → State → ℕ → ℕ → Type 0
@@ -693,7 +665,7 @@ module _ (g : Setting) (l : Pieces) (base : ℕ) (p : Placement) (place : ℕ �
 
   pub weaker_tail : {next : Option ℕ} (edges : List ℕ) (a : State) (to few most : ℕ) → few ≤ most
       → Tail next edges a to few → Tail next edges a to most
-  unfolding weaker_arrives
+  unfolding eased
   weaker_tail edges a to few most less one = (weaker_arrives edges a to few most less one.0, one.1)
 
   pub tail : (k : ℕ) (rest : List Item) (address : _) (number : ℕ) (y : Item)

@@ -11,10 +11,10 @@ use Rattle.cfg_blocks.proofs.Below.{length-below}
 use Rattle.cfg_normal.specs.Graph.{Graph}
 use Rattle.cfg_normal.specs.Opens.{Open}
 use Rattle.image_code.specs.declared.lookups.Lookups.{Lookups}
-use Rattle.image_code.specs.Lookups.{AreFound, IsCase, mark_of}
+use Rattle.image_code.specs.Lookups.{AreFound, StandsInText, mark_of}
 use Rattle.image_code.proofs.FirstPlaces.{mark_same}
 use Rattle.image_code.proofs.Pushed.{at_below}
-use Rattle.image_code.proofs.Sources.{case_at}
+use Rattle.image_code.proofs.Sources.{open_stands}
 
 module _ {text : Words} {graph : Graph} {l : Lookups} (found : ∥ AreFound text graph l ∥₁) where
   -- numbers for each open switch, and one more
@@ -42,6 +42,6 @@ module _ {text : Words} {graph : Graph} {l : Lookups} (found : ∥ AreFound text
   first_found p items number mark is are = mark_same number _ (is ∙ ∥∥₁_elim found (Coded-set coded_ℕ _ _) are)
 
   -- an open switch
-  pub case_found : {P : Type 0} → IsProp P → (k : ℕ) (o : Open) → slice_get graph.opens k ≡ Some o
-      → (IsCase text graph.blocks o → P) → P
-  case_found prop k o here then = ∥∥₁_elim found prop (λ h. then (case_at text graph h.source k o here))
+  pub found_stands : {P : Type 0} → IsProp P → (k : ℕ) (o : Open) → slice_get graph.opens k ≡ Some o
+      → (StandsInText text graph.blocks o → P) → P
+  found_stands prop k o here then = ∥∥₁_elim found prop (λ h. then (open_stands text graph h.source k o here))

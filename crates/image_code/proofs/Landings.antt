@@ -41,7 +41,7 @@ use Rattle.image_code.specs.Simulates.{NoneIsOut, Setting, at_point, does_at, go
 use Rattle.image_code.specs.Images.{Pieces, Frame, Here, IsPlaced, place_by}
 use Rattle.image_code.specs.Cases.{LeadsTo, next_entry, words_on}
 use Rattle.image_code.specs.Landings.{IsJumpsSlot, JumpSlotsStep, Lands}
-use Rattle.image_code.proofs.Arrives.{Arrives, IsBare, IsFit, Rest, arrive, arrived, bare_here, length_words, on_then, rest_behind, rest_marked, rest_whole, second_there, snippets_run, unwatched, stood, stood_low, weaker_arrives, words_unmarked}
+use Rattle.image_code.proofs.Arrives.{Arrives, IsBare, IsFit, Rest, arrive, arrived, bare_here, eased, length_words, on_then, rest_behind, rest_marked, rest_whole, second_there, snippets_run, unwatched, stood, stood_low, weaker_arrives, words_unmarked}
 use Rattle.image_code.proofs.Cases.{IsMarkedWord, judged_moved, marked_step}
 use Rattle.image_code.proofs.Cells.{cells_above, page_above}
 use Rattle.image_code.proofs.Dead.{alike_itself}
@@ -194,7 +194,7 @@ module _ (g : Setting) (l : Pieces) (base : ℕ) (p : Placement) (place : ℕ �
         → ((b : State) → IsFit g l base p place f h b → b.pc ≡ found_in f.halves x.npc → waiting b ≡ x.npc
         → Arrives g l base p place f h None c.landing b to 4)
         → Arrives g l base p place f h None (c.edge ∷ c.landing) (act t (decode_of c.word)) to 24
-    unfolding unwatched
+    unfolding eased
     onward to fit at aligned low_there behind =
         let a : State = act t (decode_of c.word) in
         let edges = c.edge ∷ [] in
@@ -240,7 +240,7 @@ module _ (g : Setting) (l : Pieces) (base : ℕ) (p : Placement) (place : ℕ �
             (arrive g l base p place f h piece c.landing b (word_at g.text x.npc) to fit2 there leads)
         by b fit2 there (inr (none, e)) =
             let low = (h.laid.aligned piece.0).1 in
-            bare_here g l base p place f h c.landing b to 4 none fit2.runs (there ∙ e) (omega (arith, there, low))
+            bare_here g l base p place f h c.landing b to 4 none fit2 (there ∙ e) (omega (arith, there, low))
     lands to fit at (inr (no_landing, (piece, within, found, is, none))) out =
         let place_there = h.laid.aligned piece.0 in
         let multiple : found_in f.halves x.npc % 4 ≡ 0 = ap (λ z. z % 4) found ∙ place_there.0 in

@@ -8,7 +8,7 @@ use Rattle.cfg_blocks.specs.Values.{instr_at}
 use Rattle.cfg_normal.specs.Graph.{Graph}
 use Rattle.cfg_normal.specs.Opens.{Open}
 use Rattle.image_code.specs.Loads.{load_of, loads_by, or_first}
-use Rattle.image_code.specs.Lookups.{IsCase}
+use Rattle.image_code.specs.Lookups.{StandsInText}
 use Rattle.image_code.specs.Numbered.{entries_of, first_entry, open_begin, pieces_of}
 use Rattle.image_code.proofs.Pushed.{sum_more}
 
@@ -62,10 +62,10 @@ load_between text o ordered =
         (o.approach.jump - o.approach.first) word e in
         (h.0, omega (arith, h.1))
 
-pub load_within : (text : Words) (b : Blocks) (o : Open) → IsCase text b o
+pub load_within : (text : Words) (b : Blocks) (o : Open) → StandsInText text b o
     → (slice_index b.firsts o.block ≤ load_of text o) × (load_of text o ≤ last_word b.firsts b.words o.block)
-load_within text b o case =
-    let h = load_between text o case.ordered in (
-      omega (arith, h.0, case.first),
-      omega (arith, h.1, case.jump),
+load_within text b o stands =
+    let h = load_between text o stands.ordered in (
+      omega (arith, h.0, stands.first),
+      omega (arith, h.1, stands.jump),
     )

@@ -2,7 +2,7 @@
 -- how many words, entries and edges there are.
 use Rattle.std.proofs.Common.{◌≡◌, ℕ, zero, suc, ◌+◌, ◌-◌, ◌*◌, ◌<◌, ◌≤◌, Bool, true, false, ◌&&◌, ◌==◌, cond, Option, Some, None, List, [], ◌∷◌, ◌++◌, length, map, take, refl, ap, sym, ◌∙◌, subst, arith, inl, inr}
 use Rattle.std.specs.Prelude.{◌⊎◌, IfSome, if◌then◌else◌, slice_get, slice_index}
-use Rattle.std.specs.List.{All, filter, find, flat_map, list_any, range_with_len, sum_by}
+use Rattle.std.specs.List.{All, filter, find, flat_map, range_with_len, sum_by}
 use Rattle.std.specs.Option.{option_to_list}
 use Rattle.std.proofs.lemmas.Bool.{and_parts, cond_both, eq-eqb, eqb-true, false≢true, or_cases, or_parts}
 use Rattle.std.proofs.lemmas.List.{length-append, length-map}
@@ -18,7 +18,7 @@ use Rattle.cfg_blocks.specs.declared.BlockEnd.TheVariants as ends
 use Rattle.cfg_blocks.specs.declared.EdgeKind.{EdgeKind}
 use Rattle.cfg_blocks.specs.declared.EdgeKind.TheVariants as kinds
 use Rattle.cfg_blocks.specs.declared.switches.Switch.{Switch}
-use Rattle.cfg_blocks.specs.Ends.{TargetsWithin, Way, always, end_at, end_by, never, number_of, ways_of, within}
+use Rattle.cfg_blocks.specs.Ends.{TargetsWithin, Way, end_at, end_by, never, number_of, within}
 use Rattle.cfg_blocks.specs.Blocks.{AreFirsts, Blocks, below, blocks_of, end_of, holding_of, last_word, leaders, size_of}
 use Rattle.cfg_blocks.specs.Entries.{IsBlockList, entered_of, ways_from}
 use Rattle.cfg_blocks.specs.Switches.{is_jump, is_taken, is_untaken, switch_of, switches_of}
@@ -27,10 +27,11 @@ use Rattle.cfg_blocks.proofs.Below.{length-below}
 use Rattle.cfg_blocks.proofs.Targets.{word_at-some}
 use Rattle.cfg_normal.specs.declared.Edge.{Edge}
 use Rattle.cfg_normal.specs.declared.Node.{Node}
-use Rattle.cfg_normal.specs.Nodes.{same_kind, same_node}
+use Rattle.cfg_normal.specs.Nodes.{same_kind}
 use Rattle.cfg_normal.specs.Opens.{AreOne, AreOpenIn, IsOpenIn, IsTableIn, Open, is_copied, jumps_in, targets_in}
-use Rattle.cfg_normal.specs.Graph.{Graph, IsNodeIn, case_nodes, case_of, copied_edges, edge_of, edges_in, edges_of, graph_of, landing_at, landings_of, lands_of, once_onto, ways_out}
+use Rattle.cfg_normal.specs.Graph.{Graph, IsNodeIn, case_nodes, case_of, copied_edges, edge_of, edges_in, edges_of, graph_of, landing_at, landings_of, ways_out}
 use Rattle.cfg_normal.proofs.Candidates.{opens_are as open_in_blocks}
+use Rattle.cfg_normal.proofs.GraphFacts.{edges_of-few, flat_few, ways_out-few}
 use Rattle.cfg_walk.proofs.Cut.{IsCut, cut}
 use Rattle.cfg_walk.proofs.Edges.{block, copy}
 use Rattle.cfg_walk.proofs.Holding.{ends_at_next, ends_at_words, ends_within, is_held, some_words}
@@ -371,28 +372,6 @@ targets_few (o ∷ opens) n =
     cut true = refl
     cut false = refl
 
-pub once_few : (seen nodes : List Node) → length (once_onto seen nodes) ≤ length seen + length nodes
-once_few seen [] = omega arith
-once_few seen (node ∷ nodes) =
-    let next = cond (list_any (same_node node) seen) seen (seen ++ node ∷ []) in
-    let longer : length next ≤ length seen + 1 =
-    cond_both (list_any (same_node node) seen) seen (seen ++ node ∷ []) (λ xs. length xs ≤ length seen + 1)
-    (λ _. omega arith) (λ _. omega (arith, length-append seen (node ∷ []))) in
-    omega (arith, longer, once_few next nodes)
-
-pub ways_few : (count word : ℕ) (end : BlockEnd) → length (ways_of count word end) ≤ 2
-ways_few count word ends.Fall = omega arith
-ways_few count word (ends.Branch c annul target) =
-    cond_both (c == always) _ _ (λ (ways : List Way). length ways ≤ 2) (λ h. omega arith)
-    (λ h. cond_both (c == never) _ _ (λ (ways : List Way). length ways ≤ 2) (λ k. omega arith) (λ k. omega arith))
-ways_few count word (ends.Call target) = omega arith
-ways_few count word ends.Jump = omega arith
-
-flat_few : {A : Type 0} (f : ℕ → List A) (xs : List ℕ) → ((x : ℕ) → length (f x) ≤ 2)
-    → length (flat_map f xs) ≤ 2 * length xs
-flat_few f [] each = omega arith
-flat_few f (x ∷ xs) each = omega (arith, each x, flat_few f xs each, length-append (f x) (flat_map f xs))
-
 take_first : {A : Type 0} (xs ys : List A) → take (length xs) (xs ++ ys) ≡ xs
 take_first [] ys = refl
 take_first (x ∷ xs) ys = ap (λ zs. x ∷ zs) (take_first xs ys)
@@ -437,34 +416,15 @@ module _ (b : Blocks) (opens : List Open) where
       ap (λ n. take n (blocks_edges ++ copies_edges ++ map landing_at nodes)) many
       ∙ take_first (blocks_edges ++ copies_edges) (map landing_at nodes)
 
-  ways_out-few : (from : Node) (k : ℕ) → length (ways_out b opens from k) ≤ 2
-  ways_out-few from k =
-      omega (
-        arith,
-        ways_few b.words (last_word b.firsts b.words k) (end_of b k),
-        length-map (ways_from b k) (edge_of b opens from k),
-      )
-
-  edges_of-few : (k : ℕ) → length (edges_of b opens k) ≤ 2 + length (targets_in opens k)
-  edges_of-few k =
-      cond_both (jumps_in opens k) (map (case_of b k) (case_nodes b opens k)) (ways_out b opens (block k) k)
-      (λ es. length es ≤ 2 + length (targets_in opens k))
-      (λ _. omega (
-        arith,
-        length-map (case_nodes b opens k) (case_of b k),
-        once_few [] (map (λ word. lands_of b opens (Some word)) (targets_in opens k)),
-        length-map (targets_in opens k) (λ word. lands_of b opens (Some word)),
-      ))
-      (λ _. omega (arith, ways_out-few (block k) k))
-
   own_few : entries_of opens ≤ b.words → length b.firsts ≤ b.words → length (own_edges (graph_of b opens)) ≤ 5 * b.words
   own_few entries firsts =
       let own : length blocks_edges ≤ 2 * length b.firsts + total (λ k. length (targets_in opens k)) (length b.firsts) =
       rw (total_flat (edges_of b opens) (length b.firsts))
-      (total_le (λ k. length (edges_of b opens k)) (λ k. length (targets_in opens k)) (length b.firsts) edges_of-few) in
+      (total_le (λ k. length (edges_of b opens k)) (λ k. length (targets_in opens k)) (length b.firsts)
+      (edges_of-few b opens)) in
       let copied : length copies_edges ≤ 2 * length (filter (is_copied opens) (below (length b.firsts))) =
       flat_few (copied_edges b opens) (filter (is_copied opens) (below (length b.firsts)))
-      (λ k. ways_out-few (copy k) k) in
+      (λ k. ways_out-few b opens (copy k) k) in
       omega (
         arith,
         own,

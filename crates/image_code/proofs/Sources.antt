@@ -20,7 +20,7 @@ use Rattle.jump_slice.proofs.CaseBlocks.{open_in}
 use Rattle.jump_slice.proofs.Compared.{Compares, compare_at-is}
 use Rattle.jump_slice.proofs.Opened.{opens_are}
 use Rattle.image_code.specs.Graphs.{IsGraphOf, opens_in}
-use Rattle.image_code.specs.Lookups.{IsCase, IsSource}
+use Rattle.image_code.specs.Lookups.{StandsInText, IsSource}
 use Rattle.image_code.proofs.Numbers.{words_are}
 use Rattle.image_code.proofs.Pushed.{gets_in}
 
@@ -54,8 +54,8 @@ module _ (text : Words) (given : List ℕ) (entry : ℕ) (is_text : IsText text)
       (ap is_in_range (sym made.is.is)
       ∙ decoded_range _ (slice_index text.words o.approach.compare.word) refl)).first
 
-  pub case_is : IsCase text b o
-  case_is = record {
+  pub stands_in_text : StandsInText text b o
+  stands_in_text = record {
     some = positive o.approach.compare.register made.is.some;
     register = in_range;
     compare = omega (arith, a.below, is.last);
@@ -74,22 +74,22 @@ source_is text graph is_text is_graph h = record {
   is_text = is_text;
   is_graph = is_graph;
   words = words_are text graph h;
-  cases = λ o among.
-      subst (λ (g : Graph). IsCase text g.blocks o) (sym h.is)
-      (case_is text h.given h.entry is_text o
+  stands = λ o among.
+      subst (λ (g : Graph). StandsInText text g.blocks o) (sym h.is)
+      (stands_in_text text h.given h.entry is_text o
       (open_in (IsOpen text (entered_of text h.given) h.entry) (opens_in text h.given h.entry) o
       (opens_are text h.given h.entry is_text)
       (subst (λ (g : Graph). Contains g.opens o) h.is among)));
 }
 
 -- an open switch of a graph
-pub case_at : (text : Words) (graph : Graph) → IsSource text graph → (k : ℕ) (o : Open) → slice_get graph.opens k
+pub open_stands : (text : Words) (graph : Graph) → IsSource text graph → (k : ℕ) (o : Open) → slice_get graph.opens k
     ≡ Some o
-    → IsCase text graph.blocks o
-case_at text graph h k o e = h.cases o (gets_in graph.opens k o e)
+    → StandsInText text graph.blocks o
+open_stands text graph h k o e = h.stands o (gets_in graph.opens k o e)
 
 -- one of a list that has them
-pub case_of_item : (text : Words) (graph : Graph) → IsSource text graph → (opens : List Open) → opens ≡ graph.opens
-    → (n : ℕ) (o : Open) → n < length opens → o ≡ get_or opens n o → IsCase text graph.blocks o
-case_of_item text graph h opens same n o l is =
-    h.cases o (subst (λ (os : List Open). Contains os o) same (n, l, sym is))
+pub item_stands : (text : Words) (graph : Graph) → IsSource text graph → (opens : List Open) → opens ≡ graph.opens
+    → (n : ℕ) (o : Open) → n < length opens → o ≡ get_or opens n o → StandsInText text graph.blocks o
+item_stands text graph h opens same n o l is =
+    h.stands o (subst (λ (os : List Open). Contains os o) same (n, l, sym is))

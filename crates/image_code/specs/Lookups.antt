@@ -27,7 +27,7 @@ use Rattle.image_code.specs.Numbered.{first_entry, landing_count, open_begin}
 
 -- The words of an open switch stand in the text: its comparison, the branch behind that with the slot, and the jump's
 -- block.
-pub record IsCase (text : Words) (b : Blocks) (o : Open) : Type 0 where
+pub record StandsInText (text : Words) (b : Blocks) (o : Open) : Type 0 where
   pub some : 0 < o.approach.compare.register
   pub register : o.approach.compare.register < 32
   pub compare : o.approach.compare.word < length text.words
@@ -43,7 +43,7 @@ pub record IsSource (text : Words) (graph : Graph) : Type 0 where
   pub is_text : IsText text
   pub is_graph : IsGraph graph
   pub words : graph.blocks.words ≡ length text.words
-  pub cases : (o : Open) → Contains graph.opens o → IsCase text graph.blocks o
+  pub stands : (o : Open) → Contains graph.opens o → StandsInText text graph.blocks o
 
 -- ---- the load of an open switch
 

@@ -26,7 +26,7 @@ mod parts;
 mod switches;
 mod ways;
 
-pub use making::{Frame, PieceList, pieces};
+pub use making::{DataAddresses, PieceList, pieces};
 
 /// The image of a word that is no transfer, or the copy of a slot's word, is one step of the original.
 pub fn plains_step()

@@ -4,7 +4,7 @@ ghost use Rattle.std.specs.Prelude.{◌≡◌, ◌<◌, ◌≤◌, length, slice
 ghost use Rattle.v8_decode.specs.Words.{decode_of};
 ghost use Rattle.cfg_blocks.specs.Blocks.{last_word};
 ghost use Rattle.image_code.specs.Loads.{is_place as is_place_of, load_of as load_in};
-ghost use Rattle.image_code.specs.Lookups.{IsCase, is_load as is_load_of, load_after, loads_entry as loads_entry_of};
+ghost use Rattle.image_code.specs.Lookups.{StandsInText, is_load as is_load_of, load_after, loads_entry as loads_entry_of};
 
 use cfg_blocks::{Approach, Value, follow, follow_slot, sum};
 use cfg_normal::{FlowGraph, OpenSwitch};
@@ -62,7 +62,7 @@ fn load_from(text: &Text, values: &mut [Value], approach: Approach, table: u32) 
 /// The load of an open switch.
 #[tactic(auto, unfolding(crate::specs::Loads::load_of))]
 pub(crate) fn load_of(text: &Text, blocks: &FlowGraph, found: &OpenSwitch) -> u32
-    requires case { IsCase text.now blocks.now.blocks found.now }
+    requires stands { StandsInText text.now blocks.now.blocks found.now }
     ensures load { result ≡ load_in text.now found.now }
     ensures above { slice_index blocks.now.blocks.firsts found.now.block ≤ result }
     ensures below { result ≤ last_word blocks.now.blocks.firsts blocks.now.blocks.words found.now.block }

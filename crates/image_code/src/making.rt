@@ -27,7 +27,7 @@ use std::alloc::Global;
 
 /// Where the data stands that new code uses.
 #[derive(Clone, Copy, Debug)]
-pub struct Frame {
+pub struct DataAddresses {
     /// The first cell.
     pub cells: Addr,
     /// The table from addresses of the original to addresses of new code. The jumps' table of two levels follows it.
@@ -129,17 +129,17 @@ pub fn pieces(
     entry: WordNo,
     snips: &[Snippet],
     live: &LiveSets,
-    frame: Frame,
+    addresses: DataAddresses,
 ) -> Result<PieceList, NoMemory>
     requires graph { IsGraphOf text.now graph.now }
     requires entry { entry.0 < length text.now.words }
     requires snips { length snips.now ≡ length graph.now.edges }
-    requires aligned { frame.cells.0 % 4 ≡ 0 }
-    requires cells { All (λ ops. EndLow frame.cells.0 ops) snips.now }
-    requires low { frame.table.0 + table_size_of text.now ≤ 2 ^ 31 }
-    ensures list { IfOk result (λ p. p.list.items ≡ piece_list text.now graph.now frame.table.0 frame.cases.0
-        (codes_in frame.cells.0 (dead_on live.now) snips.now)) }
-    ensures codes { IfOk result (λ p. (edge : ℕ) → CodeDoes frame.cells.0 (dead_on live.now) snips.now edge) }
+    requires aligned { addresses.cells.0 % 4 ≡ 0 }
+    requires cells { All (λ ops. EndLow addresses.cells.0 ops) snips.now }
+    requires low { addresses.table.0 + table_size_of text.now ≤ 2 ^ 31 }
+    ensures list { IfOk result (λ p. p.list.items ≡ piece_list text.now graph.now addresses.table.0 addresses.cases.0
+        (codes_in addresses.cells.0 (dead_on live.now) snips.now)) }
+    ensures codes { IfOk result (λ p. (edge : ℕ) → CodeDoes addresses.cells.0 (dead_on live.now) snips.now edge) }
     ensures landing { IfOk result (λ p. map (λ (n : PieceNo). n.0) p.landing.items
         ≡ map (lands_at text.now graph.now snips.now) (below (length text.now.words))) }
     ensures entry { IfOk result (λ p. p.entry.0
@@ -150,16 +150,16 @@ pub fn pieces(
     // The invariants of the text and of its graph.
     let _words = text.len();
     let _edges = graph.edges();
-    let codes = codes_of(alloc, snips, live, frame.cells)?;
+    let codes = codes_of(alloc, snips, live, addresses.cells)?;
     let lookups = lookups_of(alloc, text, graph)?;
     let maker = Maker {
         text,
         graph,
         lookups: &lookups,
         codes: &codes,
-        table: frame.table,
-        jumps: jumps_of(text, frame.table),
-        cases: frame.cases,
+        table: addresses.table,
+        jumps: jumps_of(text, addresses.table),
+        cases: addresses.cases,
     };
     let pieces = maker.pieces(alloc, snips, entry)?;
     Ok(pieces)

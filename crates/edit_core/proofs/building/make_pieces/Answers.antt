@@ -15,7 +15,7 @@ live-requires-clause-graph c =
 pub pieces-requires-clause-low : goal.pieces-requires-clause-low
 pieces-requires-clause-low c =
     let room = new_room pieces_fit c.requires (dead_on c.in_ok-live.live) in
-    rw (c.text-text.ensures, c.frame-frame.ensures.table, c.above.ensures.base, c.above.ensures.cells)
+    rw (c.text-text.ensures, c.data_addresses-addresses.ensures.table, c.above.ensures.base, c.above.ensures.cells)
     (omega (arith, room, c.requires.low))
 
 pub returns : goal.returns
@@ -26,9 +26,9 @@ returns c = record {
   list = c.in_ok-made.ensures.list
       ∙ rw (
         c.deref-2.ensures.value,
-        c.frame-frame.ensures.cases,
-        c.frame-frame.ensures.table,
-        c.frame-frame.ensures.cells,
+        c.data_addresses-addresses.ensures.cases,
+        c.data_addresses-addresses.ensures.table,
+        c.data_addresses-addresses.ensures.cells,
         c.text-text.ensures,
         c.above.ensures.base,
         c.above.ensures.cells,

@@ -1,9 +1,9 @@
 use Rattle.std.proofs.Common.{◌+◌, ◌∙◌, arith}
-use Rattle.image_code.specs.Lookups.{IsCase}
+use Rattle.image_code.specs.Lookups.{StandsInText}
 use Rattle.image_code.specs.Numbered.{open_begin}
 use Rattle.image_code.proofs.NumberTables.{open_more}
 use Rattle.image_code.proofs.Pushed.{pushed_alone}
-use Rattle.image_code.proofs.Sources.{case_of_item}
+use Rattle.image_code.proofs.Sources.{item_stands}
 use Rattle.image_code.proofs.lookups.begins_of.Goals as goal
 
 pub loop-found-preserved : goal.loop-found-preserved
@@ -19,13 +19,13 @@ loop-found-preserved c =
       few = omega (arith, c.in_ok-small-2.ensures.few, c.in_ok-small-2.ensures.same);
     }
 
-case_here : (c : goal.After-found-item) → IsCase c.args.text.now c.args.graph.now.blocks c.found-item.result
-case_here c =
-    case_of_item c.args.text.now c.args.graph.now c.requires.source c.opens-found-items.result.now
+stands_here : (c : goal.After-found-item) → StandsInText c.args.text.now c.args.graph.now.blocks c.found-item.result
+stands_here c =
+    item_stands c.args.text.now c.args.graph.now c.requires.source c.opens-found-items.result.now
     c.opens-found-items.ensures c.loop-found.found-index c.found-item.result c.loop-found-test.true c.found-item.is
 
 pub pieces_of-requires-clause-compare : goal.pieces_of-requires-clause-compare
-pieces_of-requires-clause-compare c = (case_here c).from
+pieces_of-requires-clause-compare c = (stands_here c).from
 
 pub pieces_of-requires-clause-block : goal.pieces_of-requires-clause-block
-pieces_of-requires-clause-block c = (case_here c).block
+pieces_of-requires-clause-block c = (stands_here c).block

@@ -6,7 +6,7 @@ use Rattle.image_code.proofs.lookups.loads_of.Goals as goal
 
 pub load_of-requires : goal.load_of-requires
 load_of-requires c = record {
-  case = c.requires.source.cases c.found-item.result
+  stands = c.requires.source.stands c.found-item.result
       (subst (λ (opens : List Open). Contains opens c.found-item.result) c.opens-found-items.ensures
       (c.loop-found.found-index, c.loop-found-test.true, sym c.found-item.is));
 }

@@ -21,5 +21,5 @@ invariant_of-maker-clause-found c =
 pub returns-clause-list : goal.returns-clause-list
 returns-clause-list c =
     c.in_ok-pieces.ensures.list
-    ∙ ap (piece_list c.args.text.now c.args.graph.now c.args.frame.table.0 c.args.frame.cases.0)
+    ∙ ap (piece_list c.args.text.now c.args.graph.now c.args.addresses.table.0 c.args.addresses.cases.0)
     (λ i edge. (ap (λ codes. code_at codes edge) c.deref.ensures.value ∙ c.in_ok-codes.ensures.codes edge) i)

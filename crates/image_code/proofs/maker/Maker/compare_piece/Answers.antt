@@ -1,13 +1,13 @@
 use Rattle.std.proofs.Common.{arith}
 use Rattle.std.specs.Coded.{le_prop}
-use Rattle.image_code.proofs.Found.{case_found}
+use Rattle.image_code.proofs.Found.{found_stands}
 use Rattle.image_code.proofs.Pushed.{gets_within}
 use Rattle.image_code.proofs.maker.Maker.compare_piece.Goals as goal
 
 pub first-first-requires : goal.first-first-requires
 first-first-requires c =
     rw c.switch.ensures
-    (case_found c.args.self.now.found le_prop c.args.number c.args.found.now c.requires.found (λ case. case.from))
+    (found_stands c.args.self.now.found le_prop c.args.number c.args.found.now c.requires.found (λ stands. stands.from))
 
 pub begin-requires : goal.begin-requires
 begin-requires c = record {

@@ -10,12 +10,12 @@ use Rattle.image_code.specs.Numbered.{case_piece}
 use Rattle.image_code.specs.Parts.{code_at}
 use Rattle.image_code.proofs.CasePieces.{case_pushed, entry_number, number_pushed}
 use Rattle.image_code.proofs.Pushed.{take_whole}
-use Rattle.image_code.proofs.Found.{case_found}
+use Rattle.image_code.proofs.Found.{found_stands}
 use Rattle.image_code.proofs.maker.Maker.push_entries.Goals as goal
 
 pub case_piece-requires-clause-block : goal.case_piece-requires-clause-block
 case_piece-requires-clause-block c =
-    case_found c.args.self.now.found le_prop c.args.number c.args.found.now c.requires.found (λ case. case.block)
+    found_stands c.args.self.now.found le_prop c.args.number c.args.found.now c.requires.found (λ stands. stands.block)
 
 pub loop-entry-preserved : goal.loop-entry-preserved
 loop-entry-preserved c =

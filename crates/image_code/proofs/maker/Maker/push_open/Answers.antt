@@ -7,26 +7,26 @@ use Rattle.cfg_blocks.specs.Blocks.{size_of}
 use Rattle.cfg_walk.proofs.Holding.{some_words}
 use Rattle.image_code.specs.Loads.{load_of}
 use Rattle.image_code.specs.Parts.{code_at}
-use Rattle.image_code.proofs.Found.{case_found}
+use Rattle.image_code.proofs.Found.{found_stands}
 use Rattle.image_code.proofs.NumberTables.{load_within}
 use Rattle.image_code.proofs.OpenPieces.{open_added}
-use Rattle.image_code.proofs.Sources.{case_at}
+use Rattle.image_code.proofs.Sources.{open_stands}
 use Rattle.image_code.proofs.maker.Maker.push_open.Goals as goal
 
 pub first-from-requires : goal.first-from-requires
 first-from-requires c =
     rw c.switch.ensures
-    (case_found c.args.self.now.found le_prop c.args.number c.args.found.now c.requires.found (λ case. case.from))
+    (found_stands c.args.self.now.found le_prop c.args.number c.args.found.now c.requires.found (λ stands. stands.from))
 
 pub words-count-requires : goal.words-count-requires
 words-count-requires c =
     rw c.switch.ensures
-    (case_found c.args.self.now.found le_prop c.args.number c.args.found.now c.requires.found (λ case. case.from))
+    (found_stands c.args.self.now.found le_prop c.args.number c.args.found.now c.requires.found (λ stands. stands.from))
 
 pub push_images_at-requires-clause-node : goal.push_images_at-requires-clause-node
 push_images_at-requires-clause-node c =
     rw c.switch.ensures
-    (case_found c.args.self.now.found le_prop c.args.number c.args.found.now c.requires.found (λ case. case.from))
+    (found_stands c.args.self.now.found le_prop c.args.number c.args.found.now c.requires.found (λ stands. stands.from))
 
 pub push_images_at-requires-clause-words : goal.push_images_at-requires-clause-words
 push_images_at-requires-clause-words c =
@@ -40,15 +40,15 @@ push_images_at-requires-clause-words c =
 pub push_block-requires-clause-block : goal.push_block-requires-clause-block
 push_block-requires-clause-block c =
     rw c.block.ensures
-    (case_found c.args.self.now.found le_prop c.args.number c.args.found.now c.requires.found (λ case. case.block))
+    (found_stands c.args.self.now.found le_prop c.args.number c.args.found.now c.requires.found (λ stands. stands.block))
 
 pub push_block-requires-clause-above : goal.push_block-requires-clause-above
 push_block-requires-clause-above c =
     let text = c.args.self.now.text.now in
     let blocks = c.args.self.now.graph.now.blocks in
     let o = c.args.found.now in
-    case_found c.args.self.now.found le_prop c.args.number o c.requires.found (λ case.
-    let h = load_within text blocks o case in
+    found_stands c.args.self.now.found le_prop c.args.number o c.requires.found (λ stands.
+    let h = load_within text blocks o stands in
     let same : c.load-load.result ≡ load_of text o = c.load-load.ensures o c.requires.found in
     let at : slice_index blocks.firsts c.block.result.0 ≡ slice_index blocks.firsts o.block =
     ap (slice_index blocks.firsts) c.block.ensures in
@@ -61,8 +61,8 @@ push_block-requires-clause-below c =
     let blocks = graph.blocks in
     let o = c.args.found.now in
     ∥∥₁_elim c.args.self.now.found le_prop (λ found.
-    let case = case_at text graph found.source c.args.number o c.requires.found in
-    let h = load_within text blocks o case in
+    let stands = open_stands text graph found.source c.args.number o c.requires.found in
+    let h = load_within text blocks o stands in
     let same : c.load-load.result ≡ load_of text o = c.load-load.ensures o c.requires.found in
     let at : slice_index blocks.firsts c.block.result.0 ≡ slice_index blocks.firsts o.block =
     ap (slice_index blocks.firsts) c.block.ensures in
@@ -73,7 +73,7 @@ push_block-requires-clause-below c =
       same,
       at,
       many,
-      some_words blocks.words blocks.firsts found.source.is_graph.firsts o.block case.block,
+      some_words blocks.words blocks.firsts found.source.is_graph.firsts o.block stands.block,
     ))
 
 pub returns : goal.returns
