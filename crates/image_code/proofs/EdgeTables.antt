@@ -1,5 +1,5 @@
 -- The tables of first edges say which edges there are.
-use Rattle.std.proofs.Common.{◌≡◌, ℕ, ◌+◌, ◌*◌, ◌^◌, ◌<◌, Bool, true, false, ◌&&◌, ◌||◌, ◌==◌, List, [], ◌∷◌, suc, Option, Some, None, length, refl, ap, sym, ◌∙◌, arith}
+use Rattle.std.proofs.Common.{◌≡◌, ℕ, ◌+◌, ◌*◌, ◌<◌, Bool, true, false, ◌&&◌, ◌||◌, ◌==◌, List, [], ◌∷◌, suc, Option, Some, None, length, refl, ap, sym, ◌∙◌, arith}
 use Rattle.std.specs.Prelude.{if◌then◌else◌, slice_index}
 use Rattle.std.specs.List.{list_any, position}
 use Rattle.std.specs.Option.{is_some, option_map, option_to_list}
@@ -15,7 +15,7 @@ use Rattle.cfg_normal.specs.Landings.{IsNumbered}
 use Rattle.cfg_normal.specs.Nodes.{same_kind, same_node}
 use Rattle.cfg_normal.specs.Numbers.{kind_number, node_number, node_numbers}
 use Rattle.cfg_walk.specs.Walk.{edge_along, edge_from, landing_at}
-use Rattle.image_code.specs.Lookups.{AreFirst, case_key, edge_place, has_key, is_land, mark_of, place_of}
+use Rattle.image_code.specs.Lookups.{AreFirst, edge_place, is_case, is_land, mark_of, place_of}
 use Rattle.image_code.proofs.FirstPlaces.{first_is, position-cons, position-same}
 
 -- ---- numbers by which nodes and kinds are told apart
@@ -197,59 +197,30 @@ module _ (graph : Graph) (g : IsGraph graph) (table : List ℕ)
 
 -- ---- Case edges
 
-keys_same : (m n i j : ℕ) → i < 2 ^ 32 → j < 2 ^ 32 → (case_key m i == case_key n j) ≡ ((m == n) && (i == j))
-keys_same m n i j h k = go (m == n) (i == j) refl refl
-  where
-    go : (s t : Bool) → (m == n) ≡ s → (i == j) ≡ t → (case_key m i == case_key n j) ≡ ((m == n) && (i == j))
-    go true true e f =
-        let one : m ≡ n = eqb-true m n e in
-        let other : i ≡ j = eqb-true i j f in
-        eq-eqb _ _ (omega (arith, one, other)) ∙ sym (rw (e, f) refl)
-    go true false e f =
-        let one : m ≡ n = eqb-true m n e in
-        ne_eqb _ _ (λ same. false≢true (sym f ∙ eq-eqb i j (omega (arith, one, same)))) ∙ sym (rw (e, f) refl)
-    go false t e f =
-        ne_eqb _ _ (λ same. false≢true (sym e ∙ eq-eqb m n (omega (arith, h, k, same)))) ∙ sym (rw e refl)
-
-number_short : (graph : Graph) → IsGraph graph → (node : Node) → IsOneOf graph node → node_number graph node < 2 ^ 32
-number_short graph g node h = omega (arith, number_low graph node h, g.firsts.few, g.few)
-
-pub case_is : (graph : Graph) → IsGraph graph → (block : BlockNo) (to : Node) → block.0 < length graph.blocks.firsts
-    → IsOneOf graph to
-    → position (has_key graph (case_key block.0 (node_number graph to))) graph.edges
-    ≡ position (λ edge. same_node edge.to to && (same_node edge.from (Block block) && same_kind edge.kind kinds.Case))
-    graph.edges
-case_is graph g block to l h =
-    position-same (IsEdgeIn graph.blocks graph.opens) _ _ graph.edges g.edges same
+pub case_edge_is : (graph : Graph) → IsGraph graph → (block : BlockNo) (to : Node)
+    → block.0 < length graph.blocks.firsts → IsOneOf graph to → (found : Option ℕ)
+    → found ≡ position (is_case graph (record { from = block.0; to = node_number graph to })) graph.edges
+    → option_to_list found ≡ edge_along graph (Block block) (record { kind = kinds.Case; to = Some to })
+case_edge_is graph g block to l h found is =
+    ap option_to_list (is ∙ position-same (IsEdgeIn graph.blocks graph.opens) _
+    (λ edge. same_node edge.to to && (same_node edge.from (Block block) && same_kind edge.kind kinds.Case)) graph.edges
+    g.edges same)
   where
     shuffle : (a b c : Bool) → (a && (b && c)) ≡ (c && (b && a))
-    shuffle true true true = refl
-    shuffle true true false = refl
-    shuffle true false true = refl
-    shuffle true false false = refl
-    shuffle false true true = refl
-    shuffle false true false = refl
-    shuffle false false true = refl
-    shuffle false false false = refl
+    shuffle true b c = and-swap b c ∙ ap (λ (t : Bool). c && t) (sym (and-swap b true))
+    shuffle false b true = sym (and-swap b false)
+    shuffle false b false = refl
 
     same : (edge : Edge) → IsEdgeIn graph.blocks graph.opens edge
-        → has_key graph (case_key block.0 (node_number graph to)) edge
+        → is_case graph (record { from = block.0; to = node_number graph to }) edge
         ≡ (same_node edge.to to && (same_node edge.from (Block block) && same_kind edge.kind kinds.Case))
     same edge inside =
         ap (λ (t : Bool). same_kind edge.kind kinds.Case && t)
-        (keys_same (node_number graph edge.from) block.0 (node_number graph edge.to) (node_number graph to)
-        (number_short graph g edge.to (numbered graph edge.to inside.to)) (number_short graph g to h)
-        ∙ ap (λ (t : Bool). t && (node_number graph edge.to == node_number graph to))
+        (ap (λ (t : Bool). t && (node_number graph edge.to == node_number graph to))
         (nodes_same graph edge.from (Block block) (numbered graph edge.from inside.from) l)
         ∙ ap (λ (t : Bool). same_node edge.from (Block block) && t)
         (nodes_same graph edge.to to (numbered graph edge.to inside.to) h))
         ∙ shuffle (same_kind edge.kind kinds.Case) (same_node edge.from (Block block)) (same_node edge.to to)
-
-pub case_edge_is : (graph : Graph) → IsGraph graph → (block : BlockNo) (to : Node)
-    → block.0 < length graph.blocks.firsts → IsOneOf graph to → (found : Option ℕ)
-    → found ≡ position (has_key graph (case_key block.0 (node_number graph to))) graph.edges
-    → option_to_list found ≡ edge_along graph (Block block) (record { kind = kinds.Case; to = Some to })
-case_edge_is graph g block to l h found is = ap option_to_list (is ∙ case_is graph g block to l h)
 
 -- ---- whether there is one
 

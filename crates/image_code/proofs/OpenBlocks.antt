@@ -2,7 +2,7 @@
 -- how many words, entries and edges there are.
 use Rattle.std.proofs.Common.{◌≡◌, ℕ, zero, suc, ◌+◌, ◌-◌, ◌*◌, ◌<◌, ◌≤◌, Bool, true, false, ◌&&◌, ◌==◌, cond, Option, Some, None, List, [], ◌∷◌, ◌++◌, length, map, take, refl, ap, sym, ◌∙◌, subst, arith, inl, inr}
 use Rattle.std.specs.Prelude.{◌⊎◌, IfSome, if◌then◌else◌, slice_get, slice_index}
-use Rattle.std.specs.List.{All, filter, find, flat_map, range_with_len, sum_by}
+use Rattle.std.specs.List.{All, filter, flat_map, sum_by}
 use Rattle.std.specs.Option.{option_to_list}
 use Rattle.std.proofs.lemmas.Bool.{and_parts, cond_both, eq-eqb, eqb-true, false≢true, or_cases, or_parts}
 use Rattle.std.proofs.lemmas.List.{length-append, length-map}
@@ -44,7 +44,7 @@ use Rattle.jump_slice.proofs.Into.{LeadsIn, leads_in}
 use Rattle.jump_slice.proofs.Opened.{found_in, opens_are}
 use Rattle.jump_slice.proofs.Parts.{IsSwitch, switch_of-is, table_in}
 use Rattle.jump_slice.proofs.Whole.{ends_count}
-use Rattle.image_code.specs.Loads.{load_of, loads_by, or_first}
+use Rattle.image_code.specs.Loads.{load_of}
 use Rattle.image_code.specs.Numbered.{or_zero, own_edges}
 use Rattle.image_code.specs.Graphs.{IsGraphOf, opens_in}
 use Rattle.image_code.proofs.NumberTables.{load_between}

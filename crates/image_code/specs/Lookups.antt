@@ -1,5 +1,5 @@
 -- The tables by which the numbers of edges and of pieces are found.
-use Rattle.std.specs.Prelude.{◌≡◌, ℕ, suc, ◌+◌, ◌-◌, ◌*◌, ◌^◌, ◌<◌, ◌≤◌, Bool, false, ◌&&◌, ◌==◌, nat_eq, if◌then◌else◌, List, length, map, slice_index, Option, Some, None}
+use Rattle.std.specs.Prelude.{◌≡◌, ℕ, suc, ◌+◌, ◌-◌, ◌*◌, ◌<◌, ◌≤◌, Bool, false, ◌&&◌, ◌==◌, if◌then◌else◌, List, length, map, slice_index, Option, Some, None}
 use Rattle.std.specs.List.{Contains, find, position, range_with_len}
 use Rattle.indexmap.specs.IndexMap.{get}
 use Rattle.eel_base.specs.CodeText.{Words, IsText}
@@ -19,6 +19,8 @@ use Rattle.cfg_normal.specs.Graph.{Graph, IsGraph}
 use Rattle.cfg_normal.specs.Nodes.{same_kind}
 use Rattle.cfg_normal.specs.Numbers.{kind_number, node_number, node_numbers}
 use Rattle.cfg_normal.specs.Opens.{Open}
+use Rattle.image_code.specs.declared.firsts.CaseEdge.{CaseEdge}
+use Rattle.image_code.specs.contracts.firsts.CaseEdgePartialEq.TheImpl as case_eq
 use Rattle.image_code.specs.declared.lookups.Lookups.{Lookups}
 use Rattle.image_code.specs.Loads.{is_place, load_of}
 use Rattle.image_code.specs.Numbered.{first_entry, landing_count, open_begin}
@@ -101,13 +103,14 @@ node_of_edge graph edge = if is_land edge.kind then node_number graph edge.to el
 abbrev pub edge_place : Graph → Edge → ℕ
 edge_place graph edge = place_of (node_of_edge graph edge) edge.kind
 
--- a Case edge by its two nodes
-abbrev pub case_key : ℕ → ℕ → ℕ
-case_key from to = from * 2 ^ 32 + to
+abbrev pub same_case : CaseEdge → CaseEdge → Bool
+same_case = (case_eq.ghosts).eq
 
-abbrev pub has_key : Graph → ℕ → Edge → Bool
-has_key graph key edge =
-    same_kind edge.kind kinds.Case && (case_key (node_number graph edge.from) (node_number graph edge.to) == key)
+-- an edge is the Case edge between two nodes
+abbrev pub is_case : Graph → CaseEdge → Edge → Bool
+is_case graph case edge =
+    same_kind edge.kind kinds.Case
+    && same_case (record { from = node_number graph edge.from; to = node_number graph edge.to }) case
 
 abbrev pub number_where : Bool → ℕ → Option ℕ
 number_where is_here number = if is_here then Some number else None
@@ -122,7 +125,7 @@ compare_place o = o.switch.compare.0
 
 pub record AreLookups (text : Words) (graph : Graph) (l : Lookups) : Type 0 where
   pub edges : AreFirst (7 * node_numbers graph) (edge_place graph) graph.edges l.edges.items
-  pub cases : (key : ℕ) → get nat_eq l.cases key ≡ position (has_key graph key) graph.edges
+  pub cases : (case : CaseEdge) → get same_case l.cases case ≡ position (is_case graph case) graph.edges
   pub jumps : AreFirst (length graph.blocks.firsts) jump_place graph.opens l.jumps.items
   pub compares : AreFirst (length graph.blocks.firsts) compare_place graph.opens l.compares.items
   pub own : l.own ≡ length graph.edges - landing_count graph

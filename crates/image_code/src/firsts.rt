@@ -1,12 +1,12 @@
 //! Tables of what comes first: of the first edge of a node, and of the first open switch of a block.
 
-ghost use Rattle.std.specs.Prelude.{◌≡◌, ℕ, ◌+◌, ◌*◌, ◌^◌, ◌<◌, ◌≤◌, ◌==◌, length, nat_eq, slice_index, IfOk, OnErr, OnOk};
+ghost use Rattle.std.specs.Prelude.{◌≡◌, ℕ, ◌+◌, ◌*◌, ◌^◌, ◌<◌, ◌≤◌, ◌==◌, length, slice_index, IfOk, OnErr, OnOk};
 ghost use Rattle.std.specs.List.{position};
 ghost use Rattle.std.specs.Option.{option_or};
 ghost use Rattle.indexmap.specs.IndexMap.{get};
 ghost use Rattle.cfg_normal.specs.Graph.{IsEdgeIn};
 ghost use Rattle.cfg_normal.specs.Numbers.{node_numbers};
-ghost use Rattle.image_code.specs.Lookups.{AreFirst, case_key as case_key_of, compare_place, edge_place as edge_place_of, first_mark, has_key, jump_place, mark_of, node_of_edge as node_of_edge_in, number_where};
+ghost use Rattle.image_code.specs.Lookups.{AreFirst, compare_place, edge_place as edge_place_of, first_mark, is_case, jump_place, mark_of, node_of_edge as node_of_edge_in, number_where, same_case};
 
 use cfg_blocks::EdgeKind;
 use cfg_normal::{Edge, FlowGraph, kind_number, node_number};
@@ -100,34 +100,40 @@ pub(crate) fn first_edges(alloc: Global, graph: &FlowGraph) -> Result<Vec<u32>, 
 // ---- Case edges
 
 /// A Case edge by the numbers of its two nodes.
-pub(crate) fn case_key(from: u32, to: u32) -> u64
-    ensures { result ≡ case_key_of from to }
-{
-    u64::from(from) * 0x1_0000_0000 + u64::from(to)
+#[derive(Clone, Copy, PartialEq, Eq, Hash)]
+pub(crate) struct CaseEdge {
+    pub from: u32,
+    pub to: u32,
 }
+
+/// The numbers of the first Case edges between two nodes.
+pub(crate) type FirstCases = IndexMap<CaseEdge, u32>;
 
 // Notes a Case edge, if it is the first between its nodes.
 fn note_case(
-    cases: &mut IndexMap<u64, u32>,
+    cases: &mut FirstCases,
     graph: &FlowGraph,
     edge: &Edge,
     number: u32,
 ) -> Result<(), NoMemory>
     requires edge { IsEdgeIn graph.now.blocks graph.now.opens edge.now }
-    ensures { OnOk result ((key : ℕ) → get nat_eq cases.new key
-        ≡ option_or (get nat_eq cases.old key) (number_where (has_key graph.now key edge.now) number)) }
+    ensures { OnOk result ((case : CaseEdge) → get same_case cases.new case
+        ≡ option_or (get same_case cases.old case) (number_where (is_case graph.now case edge.now) number)) }
 {
     if edge.kind == EdgeKind::Case {
-        let key = case_key(node_number(graph, edge.from), node_number(graph, edge.to));
-        cases.entry(key)?.or_insert(number);
+        let case = CaseEdge {
+            from: node_number(graph, edge.from),
+            to: node_number(graph, edge.to),
+        };
+        cases.entry(case)?.or_insert(number);
     }
     Ok(())
 }
 
 /// The first Case edges, by their two nodes.
-pub(crate) fn first_cases(alloc: Global, graph: &FlowGraph) -> Result<IndexMap<u64, u32>, NoMemory>
-    ensures { IfOk result (λ cases. (key : ℕ)
-        → get nat_eq cases key ≡ position (has_key graph.now key) graph.now.edges) }
+pub(crate) fn first_cases(alloc: Global, graph: &FlowGraph) -> Result<FirstCases, NoMemory>
+    ensures { IfOk result (λ cases. (case : CaseEdge)
+        → get same_case cases case ≡ position (is_case graph.now case) graph.now.edges) }
 {
     let mut cases = IndexMap::new(alloc);
     for (number, edge) in graph.edges().iter().enumerate() {

@@ -1,6 +1,6 @@
 //! The tables by which the numbers of edges and of pieces are found.
 
-ghost use Rattle.std.specs.Prelude.{◌≡◌, ℕ, ◌+◌, ◌-◌, ◌*◌, ◌^◌, ◌<◌, ◌≤◌, false, length, map, nat_eq, option_to_list, slice_get, slice_index, Some, All, IfOk};
+ghost use Rattle.std.specs.Prelude.{◌≡◌, ℕ, ◌+◌, ◌-◌, ◌*◌, ◌^◌, ◌<◌, ◌≤◌, false, length, map, option_to_list, slice_get, slice_index, Some, All, IfOk};
 ghost use Rattle.std.specs.List.{position};
 ghost use Rattle.indexmap.specs.IndexMap.{get};
 ghost use Rattle.cfg_blocks.specs.Blocks.{below, size_of};
@@ -12,18 +12,17 @@ ghost use Rattle.cfg_normal.specs.Landings.{IsNumbered};
 ghost use Rattle.cfg_normal.specs.Numbers.{node_numbers};
 ghost use Rattle.cfg_walk.specs.Walk.{edge_along, edge_from, landing_at};
 ghost use Rattle.image_code.specs.Loads.{load_of as load_in};
-ghost use Rattle.image_code.specs.Lookups.{AreFirst, AreLookups, IsSource, compare_place, edge_place, has_key, is_land, jump_place};
+ghost use Rattle.image_code.specs.Lookups.{AreFirst, AreLookups, IsSource, compare_place, edge_place, is_case, is_land, jump_place, same_case};
 ghost use Rattle.image_code.specs.Numbered.{compare_number, first_entry, jump_number, landing_count as landing_count_of, open_begin, own_edges as own_edges_of};
 
 use crate::firsts::{
-    case_key, first_at, first_cases, first_compares, first_edges, first_jumps, small,
+    CaseEdge, FirstCases, first_at, first_cases, first_compares, first_edges, first_jumps, small,
 };
 use crate::loads::load_of;
 use crate::maker::Maker;
 use cfg_blocks::EdgeKind;
 use cfg_normal::{Edge, FlowGraph, Node, OpenSwitch, kind_number, node_number};
 use eel_base::{BlockNo, NoMemory, Text};
-use indexmap::IndexMap;
 use std::alloc::Global;
 
 /// Tables that find edges, open switches and pieces by their numbers. `edges`, `jumps` and `compares` are marks: an
@@ -33,8 +32,8 @@ pub(crate) struct Lookups {
     /// The first edge of each kind that leaves a node, or the landing that leads to it, at 7 * the node's number + the
     /// kind's number.
     edges: Vec<u32>,
-    /// The first Case edge between two nodes, by the key of both.
-    cases: IndexMap<u64, u32>,
+    /// The first Case edge between two nodes.
+    cases: FirstCases,
     /// The open switch whose jump ends a block, by the block's number.
     jumps: Vec<u32>,
     /// The first open switch whose comparison stands in a block, by the block's number.
@@ -157,12 +156,9 @@ fn loads_of(alloc: Global, text: &Text, graph: &FlowGraph) -> Result<Vec<u32>, N
 }
 
 // The tables `edges`, `cases` and `compares`.
-fn firsts_of(
-    alloc: Global,
-    graph: &FlowGraph,
-) -> Result<(Vec<u32>, IndexMap<u64, u32>, Vec<u32>), NoMemory>
+fn firsts_of(alloc: Global, graph: &FlowGraph) -> Result<(Vec<u32>, FirstCases, Vec<u32>), NoMemory>
     ensures edges { IfOk result (λ tables. AreFirst (7 * node_numbers graph.now) (edge_place graph.now) graph.now.edges tables.0.items) }
-    ensures cases { IfOk result (λ tables. (key : ℕ) → get nat_eq tables.1 key ≡ position (has_key graph.now key) graph.now.edges) }
+    ensures cases { IfOk result (λ tables. (case : CaseEdge) → get same_case tables.1 case ≡ position (is_case graph.now case) graph.now.edges) }
     ensures compares { IfOk result (λ tables. AreFirst (length graph.now.blocks.firsts) compare_place graph.now.opens tables.2.items) }
 {
     let edges = first_edges(alloc, graph)?;
@@ -258,7 +254,11 @@ impl<'a> Maker<'a> {
         ensures { option_to_list result ≡ edge_along self.now.graph.now (Block block) (record { kind = Case; to = Some to }) }
     {
         let number = node_number(self.graph, to);
-        match self.lookups.cases.get(&case_key(block.0, number)) {
+        let case = CaseEdge {
+            from: block.0,
+            to: number,
+        };
+        match self.lookups.cases.get(&case) {
             Some(edge) => Some(*edge),
             None => None,
         }

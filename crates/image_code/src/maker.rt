@@ -9,8 +9,9 @@ use cfg_normal::FlowGraph;
 use eel_base::{Addr, Text};
 
 /// Makes the pieces of a text, of which it has the graph, the lookups of that, and the code of the snippet on each
-/// edge; that they belong together is known of each. The table that leads from addresses of the original to new code stands at `table`, the one in which jumps look
-/// up at `jumps`, and the words with the places of the pieces of Case edges at `cases`.
+/// edge; that they belong together is known of each. The table that leads from addresses of the original to new code
+/// stands at `table`, the one in which jumps look up at `jumps`, and the words with the places of the pieces of Case
+/// edges at `cases`.
 #[derive(Clone, Copy)]
 pub(crate) struct Maker<'a> {
     pub(crate) text: &'a Text,
