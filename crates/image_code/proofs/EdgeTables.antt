@@ -1,6 +1,6 @@
 -- The tables of first edges say which edges there are.
-use Rattle.std.proofs.Common.{◌≡◌, ℕ, ◌+◌, ◌*◌, ◌<◌, Bool, true, false, ◌&&◌, ◌||◌, ◌==◌, List, [], ◌∷◌, suc, Option, Some, None, length, refl, ap, sym, ◌∙◌, arith}
-use Rattle.std.specs.Prelude.{if◌then◌else◌, slice_index}
+use Rattle.std.proofs.Common.{◌≡◌, ℕ, ◌<◌, Bool, true, false, ◌&&◌, ◌||◌, ◌==◌, List, [], ◌∷◌, suc, Option, Some, None, length, refl, ap, sym, ◌∙◌, arith}
+use Rattle.std.specs.Prelude.{if◌then◌else◌}
 use Rattle.std.specs.List.{list_any, position}
 use Rattle.std.specs.Option.{is_some, option_map, option_to_list}
 use Rattle.std.proofs.lemmas.Bool.{eq-eqb, eqb-true, false≢true, ne_eqb}
@@ -15,8 +15,8 @@ use Rattle.cfg_normal.specs.Landings.{IsNumbered}
 use Rattle.cfg_normal.specs.Nodes.{same_kind, same_node}
 use Rattle.cfg_normal.specs.Numbers.{kind_number, node_number, node_numbers}
 use Rattle.cfg_walk.specs.Walk.{edge_along, edge_from, landing_at}
-use Rattle.image_code.specs.Lookups.{AreFirst, edge_place, is_case, is_land, mark_of, place_of}
-use Rattle.image_code.proofs.FirstPlaces.{first_is, position-cons, position-same}
+use Rattle.image_code.specs.Lookups.{AreFirstEdges, is_case, is_edge_at, is_land, mark_at, mark_of, node_of_edge}
+use Rattle.image_code.proofs.FirstPlaces.{mark_same, position-cons, position-same}
 
 -- ---- numbers by which nodes and kinds are told apart
 
@@ -42,15 +42,6 @@ kinds_same kinds.Land kinds.Land = refl
 kinds_same kinds.Land _ = refl
 kinds_same kinds.Case kinds.Case = refl
 kinds_same kinds.Case _ = refl
-
-kind_low : (kind : EdgeKind) → kind_number kind < 7
-kind_low kinds.Fall = omega arith
-kind_low kinds.Taken = omega arith
-kind_low kinds.Untaken = omega arith
-kind_low kinds.Call = omega arith
-kind_low kinds.Out = omega arith
-kind_low kinds.Land = omega arith
-kind_low kinds.Case = omega arith
 
 kind_is : (one other : EdgeKind) → same_kind one other ≡ true → one ≡ other
 kind_is kinds.Fall kinds.Fall e = refl
@@ -94,29 +85,8 @@ and-swap true false = refl
 and-swap false true = refl
 and-swap false false = refl
 
-pairs_same : (m n i j : ℕ) → i < 7 → j < 7 → (7 * m + i == 7 * n + j) ≡ ((m == n) && (i == j))
-pairs_same m n i j h k = go (m == n) (i == j) refl refl
-  where
-    go : (s t : Bool) → (m == n) ≡ s → (i == j) ≡ t → (7 * m + i == 7 * n + j) ≡ ((m == n) && (i == j))
-    go true true e f =
-        let one : m ≡ n = eqb-true m n e in
-        let other : i ≡ j = eqb-true i j f in
-        eq-eqb _ _ (omega (arith, one, other)) ∙ sym (rw (e, f) refl)
-    go true false e f =
-        let one : m ≡ n = eqb-true m n e in
-        ne_eqb _ _ (λ same. false≢true (sym f ∙ eq-eqb i j (omega (arith, one, same)))) ∙ sym (rw (e, f) refl)
-    go false t e f =
-        ne_eqb _ _ (λ same. false≢true (sym e ∙ eq-eqb m n (omega (arith, h, k, same)))) ∙ sym (rw e refl)
-
--- an edge has the place of a node and a kind where it is such an edge
-places_same : (graph : Graph) (one other : Node) (kind kind2 : EdgeKind) → IsOneOf graph one → IsOneOf graph other
-    → (place_of (node_number graph one) kind == place_of (node_number graph other) kind2)
-    ≡ (same_node one other && same_kind kind kind2)
-places_same graph one other kind kind2 h k =
-    pairs_same (node_number graph one) (node_number graph other) (kind_number kind) (kind_number kind2) (kind_low kind)
-    (kind_low kind2)
-    ∙ ap (λ (t : Bool). t && (kind_number kind == kind_number kind2)) (nodes_same graph one other h k)
-    ∙ ap (λ (t : Bool). same_node one other && t) (kinds_same kind kind2)
+neither : (a b t : Bool) → t ≡ false → (a && t) ≡ (b && t)
+neither a b t e = ap (λ u. a && u) e ∙ and-swap a false ∙ sym (ap (λ u. b && u) e ∙ and-swap b false)
 
 -- ---- edges that leave a node, and landings
 
@@ -129,71 +99,62 @@ lands_apart kinds.Call h = refl
 lands_apart kinds.Out h = refl
 lands_apart kinds.Case h = refl
 
-module _ (graph : Graph) (g : IsGraph graph) (table : List ℕ)
-    (first : AreFirst (7 * node_numbers graph) (edge_place graph) graph.edges table) (node : Node)
-    (here : IsOneOf graph node) (found : Option ℕ) where
-  found_at : (kind : EdgeKind) → mark_of found ≡ slice_index table (place_of (node_number graph node) kind)
-      → found ≡ position (λ edge. edge_place graph edge == place_of (node_number graph node) kind) graph.edges
-  found_at kind is =
-      first_is (7 * node_numbers graph) (edge_place graph) graph.edges table
-      (place_of (node_number graph node) kind) found
-      first (omega (arith, number_low graph node here, kind_low kind)) is
+module _ (graph : Graph) (g : IsGraph graph) (rows : List (List ℕ)) (first : AreFirstEdges graph graph.edges rows)
+    (node : Node) (here : IsOneOf graph node) (found : Option ℕ) where
+  -- the test for an edge that is found by one node
+  found_by : (kind : EdgeKind) (edge : Edge) (one : Node) → IsOneOf graph one
+      → node_of_edge graph edge ≡ node_number graph one
+      → is_edge_at graph (node_number graph node) (kind_number kind) edge ≡ (same_node one node && same_kind edge.kind kind)
+  found_by kind edge one inside by =
+      ap (λ (n : ℕ). (n == node_number graph node) && (kind_number edge.kind == kind_number kind)) by
+      ∙ ap (λ (t : Bool). t && (kind_number edge.kind == kind_number kind)) (nodes_same graph one node inside here)
+      ∙ ap (λ (t : Bool). same_node one node && t) (kinds_same edge.kind kind)
+
+  abbrev number_by : Edge → Bool → ℕ
+  number_by edge t = if t then node_number graph edge.to else node_number graph edge.from
 
   leaves : (kind : EdgeKind) → is_land kind ≡ false → (edge : Edge) → IsEdgeIn graph.blocks graph.opens edge
-      → (edge_place graph edge == place_of (node_number graph node) kind)
+      → is_edge_at graph (node_number graph node) (kind_number kind) edge
       ≡ (same_node edge.from node && same_kind edge.kind kind)
   leaves kind other edge inside = go (is_land edge.kind) refl
     where
-      go : (t : Bool) → is_land edge.kind ≡ t → (edge_place graph edge == place_of (node_number graph node) kind)
+      go : (t : Bool) → is_land edge.kind ≡ t → is_edge_at graph (node_number graph node) (kind_number kind) edge
           ≡ (same_node edge.from node && same_kind edge.kind kind)
-      go false e =
-          ap (λ (t : Bool). (place_of (if t then node_number graph edge.to else node_number graph edge.from) edge.kind)
-          == place_of (node_number graph node) kind) e
-          ∙ places_same graph edge.from node edge.kind kind (numbered graph edge.from inside.from) here
+      go false e = found_by kind edge edge.from (numbered graph edge.from inside.from) (ap (number_by edge) e)
       go true e =
-          let land : edge.kind ≡ kinds.Land = kind_is edge.kind kinds.Land e in
-          let apart : same_kind edge.kind kind ≡ false = ap (λ k. same_kind k kind) land ∙ lands_apart kind other in
-          ap (λ (t : Bool). (place_of (if t then node_number graph edge.to else node_number graph edge.from) edge.kind)
-          == place_of (node_number graph node) kind) e
-          ∙ places_same graph edge.to node edge.kind kind (numbered graph edge.to inside.to) here
-          ∙ ap (λ (t : Bool). same_node edge.to node && t) apart
-          ∙ and-swap (same_node edge.to node) false
-          ∙ sym (ap (λ (t : Bool). same_node edge.from node && t) apart ∙ and-swap (same_node edge.from node) false)
+          let apart : same_kind edge.kind kind ≡ false =
+          ap (λ k. same_kind k kind) (kind_is edge.kind kinds.Land e) ∙ lands_apart kind other in
+          found_by kind edge edge.to (numbered graph edge.to inside.to) (ap (number_by edge) e)
+          ∙ neither (same_node edge.to node) (same_node edge.from node) (same_kind edge.kind kind) apart
 
   pub leaving_is : (kind : EdgeKind) → is_land kind ≡ false
-      → mark_of found ≡ slice_index table (place_of (node_number graph node) kind)
+      → mark_of found ≡ mark_at rows (node_number graph node) (kind_number kind)
       → option_to_list found ≡ edge_from graph node kind
   leaving_is kind other is =
-      ap option_to_list (found_at kind is
+      ap option_to_list (mark_same found _ (is ∙ first.each (node_number graph node) (kind_number kind))
       ∙ position-same (IsEdgeIn graph.blocks graph.opens) _
       (λ edge. same_node edge.from node && same_kind edge.kind kind)
       graph.edges g.edges (leaves kind other))
 
   lands : (edge : Edge) → IsEdgeIn graph.blocks graph.opens edge
-      → (edge_place graph edge == place_of (node_number graph node) kinds.Land)
-      ≡ (same_node edge.to node && same_kind edge.kind kinds.Land)
+      → is_edge_at graph (node_number graph node) (kind_number kinds.Land) edge
+      ≡ (same_node edge.to node && is_land edge.kind)
   lands edge inside = go (is_land edge.kind) refl
     where
-      go : (t : Bool) → is_land edge.kind ≡ t → (edge_place graph edge == place_of (node_number graph node) kinds.Land)
-          ≡ (same_node edge.to node && same_kind edge.kind kinds.Land)
-      go true e =
-          ap (λ (t : Bool). (place_of (if t then node_number graph edge.to else node_number graph edge.from) edge.kind)
-          == place_of (node_number graph node) kinds.Land) e
-          ∙ places_same graph edge.to node edge.kind kinds.Land (numbered graph edge.to inside.to) here
+      go : (t : Bool) → is_land edge.kind ≡ t
+          → is_edge_at graph (node_number graph node) (kind_number kinds.Land) edge
+          ≡ (same_node edge.to node && is_land edge.kind)
+      go true e = found_by kinds.Land edge edge.to (numbered graph edge.to inside.to) (ap (number_by edge) e)
       go false e =
-          ap (λ (t : Bool). (place_of (if t then node_number graph edge.to else node_number graph edge.from) edge.kind)
-          == place_of (node_number graph node) kinds.Land) e
-          ∙ places_same graph edge.from node edge.kind kinds.Land (numbered graph edge.from inside.from) here
-          ∙ ap (λ (t : Bool). same_node edge.from node && t) e
-          ∙ and-swap (same_node edge.from node) false
-          ∙ sym (ap (λ (t : Bool). same_node edge.to node && t) e ∙ and-swap (same_node edge.to node) false)
+          found_by kinds.Land edge edge.from (numbered graph edge.from inside.from) (ap (number_by edge) e)
+          ∙ neither (same_node edge.from node) (same_node edge.to node) (is_land edge.kind) e
 
-  pub landing_is : mark_of found ≡ slice_index table (place_of (node_number graph node) kinds.Land)
+  pub landing_is : mark_of found ≡ mark_at rows (node_number graph node) (kind_number kinds.Land)
       → option_to_list found ≡ landing_at graph node
   landing_is is =
-      ap option_to_list (found_at kinds.Land is
+      ap option_to_list (mark_same found _ (is ∙ first.each (node_number graph node) (kind_number kinds.Land))
       ∙ position-same (IsEdgeIn graph.blocks graph.opens) _
-      (λ edge. same_node edge.to node && same_kind edge.kind kinds.Land) graph.edges g.edges lands)
+      (λ edge. same_node edge.to node && is_land edge.kind) graph.edges g.edges lands)
 
 -- ---- Case edges
 

@@ -114,9 +114,14 @@ mark_or (Some m) true n =
     sym (ap (λ (t : Bool). if t then suc n else suc m) other)
 mark_or (Some m) false n = refl
 
-pub mark_more : {A : Type 0} (p : A → Bool) (xs : List A) (x : A)
-    → mark_of (position p (xs ++ x ∷ [])) ≡ first_mark (p x) (length xs) (mark_of (position p xs))
-mark_more p xs x = ap mark_of (position_more p xs x) ∙ mark_or (position p xs) (p x) (length xs)
+-- one item more of a list
+pub marks_more : {A : Type 0} (p : A → Bool) (xs : List A) (n : ℕ) (d : A) (was now : ℕ) → n < length xs
+    → was ≡ mark_of (position p (take n xs)) → now ≡ first_mark (p (slice_index_or xs n d)) n was
+    → now ≡ mark_of (position p (take (n + 1) xs))
+marks_more p xs n d was now l held next =
+    next ∙ ap (first_mark (p (slice_index_or xs n d)) n) held
+    ∙ sym (mark_or (position p (take n xs)) (p (slice_index_or xs n d)) n)
+    ∙ ap mark_of (positions_more p xs n d (position p (take n xs)) _ l refl refl)
 
 -- ---- tables
 
@@ -131,14 +136,7 @@ pub first_more : {A : Type 0} (count : ℕ) (place_of : A → ℕ) (xs : List A)
     → AreFirst count place_of (take (n + 1) xs) new
 first_more count place_of xs n d table new l h long marks = record {
   long = long ∙ h.long;
-  each = λ place low.
-      let many : length (take n xs) ≡ n = omega (arith, length-take n xs, l) in
-      marks place
-      ∙ ap (first_mark (place_of (slice_index_or xs n d) == place) n) (h.each place low)
-      ∙ ap (λ (m : ℕ). first_mark (place_of (slice_index_or xs n d) == place) m
-      (mark_of (position (λ item. place_of item == place) (take n xs)))) (sym many)
-      ∙ sym (mark_more (λ item. place_of item == place) (take n xs) (slice_index_or xs n d))
-      ∙ ap (λ ys. mark_of (position (λ item. place_of item == place) ys)) (sym (take_more xs n d l));
+  each = λ place low. marks_more (λ item. place_of item == place) xs n d _ _ l (h.each place low) (marks place);
 }
 
 -- what a table says

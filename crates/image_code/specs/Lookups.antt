@@ -1,5 +1,5 @@
 -- The tables by which the numbers of edges and of pieces are found.
-use Rattle.std.specs.Prelude.{◌≡◌, ℕ, suc, ◌+◌, ◌-◌, ◌*◌, ◌<◌, ◌≤◌, Bool, false, ◌&&◌, ◌==◌, if◌then◌else◌, List, length, map, slice_index, Option, Some, None}
+use Rattle.std.specs.Prelude.{◌≡◌, ℕ, suc, ◌+◌, ◌-◌, ◌<◌, ◌≤◌, Bool, false, ◌&&◌, ◌==◌, if◌then◌else◌, List, [], length, map, slice_index, slice_index_or, Option, Some, None}
 use Rattle.std.specs.List.{Contains, find, position, range_with_len}
 use Rattle.indexmap.specs.IndexMap.{get}
 use Rattle.eel_base.specs.CodeText.{Words, IsText}
@@ -90,9 +90,9 @@ pub record AreFirst {A : Type 0} (count : ℕ) (place_of : A → ℕ) (items : L
 
 -- ---- edges
 
--- the place of the edges of a kind that leave the node with this number, of landings that lead to it
-abbrev pub place_of : ℕ → EdgeKind → ℕ
-place_of number kind = 7 * number + kind_number kind
+-- what rows of nodes have for the numbers of a node and a kind
+abbrev pub mark_at : List (List ℕ) → ℕ → ℕ → ℕ
+mark_at rows node kind = slice_index (slice_index_or rows node []) kind
 
 abbrev pub is_land : EdgeKind → Bool
 is_land kind = same_kind kind kinds.Land
@@ -100,8 +100,13 @@ is_land kind = same_kind kind kinds.Land
 abbrev pub node_of_edge : Graph → Edge → ℕ
 node_of_edge graph edge = if is_land edge.kind then node_number graph edge.to else node_number graph edge.from
 
-abbrev pub edge_place : Graph → Edge → ℕ
-edge_place graph edge = place_of (node_of_edge graph edge) edge.kind
+abbrev pub is_edge_at : Graph → ℕ → ℕ → Edge → Bool
+is_edge_at graph node kind edge = (node_of_edge graph edge == node) && (kind_number edge.kind == kind)
+
+-- Rows have for each node and kind the number of the first edge there.
+pub record AreFirstEdges (graph : Graph) (edges : List Edge) (rows : List (List ℕ)) : Type 0 where
+  pub long : length rows ≡ node_numbers graph
+  pub each : (node kind : ℕ) → mark_at rows node kind ≡ mark_of (position (is_edge_at graph node kind) edges)
 
 abbrev pub same_case : CaseEdge → CaseEdge → Bool
 same_case = (case_eq.ghosts).eq
@@ -124,7 +129,7 @@ abbrev pub compare_place : Open → ℕ
 compare_place o = o.switch.compare.0
 
 pub record AreLookups (text : Words) (graph : Graph) (l : Lookups) : Type 0 where
-  pub edges : AreFirst (7 * node_numbers graph) (edge_place graph) graph.edges l.edges.items
+  pub edges : AreFirstEdges graph graph.edges l.edges.items
   pub cases : (case : CaseEdge) → get same_case l.cases case ≡ position (is_case graph case) graph.edges
   pub jumps : AreFirst (length graph.blocks.firsts) jump_place graph.opens l.jumps.items
   pub compares : AreFirst (length graph.blocks.firsts) compare_place graph.opens l.compares.items

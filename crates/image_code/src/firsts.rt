@@ -1,12 +1,12 @@
 //! Tables of what comes first: of the first edge of a node, and of the first open switch of a block.
 
-ghost use Rattle.std.specs.Prelude.{◌≡◌, ℕ, ◌+◌, ◌*◌, ◌^◌, ◌<◌, ◌≤◌, ◌==◌, length, slice_index, IfOk, OnErr, OnOk};
+ghost use Rattle.std.specs.Prelude.{◌≡◌, ℕ, ◌&&◌, ◌+◌, ◌*◌, ◌^◌, ◌<◌, ◌≤◌, ◌==◌, length, slice_index, IfOk, OnErr, OnOk};
 ghost use Rattle.std.specs.List.{position};
 ghost use Rattle.std.specs.Option.{option_or};
 ghost use Rattle.indexmap.specs.IndexMap.{get};
 ghost use Rattle.cfg_normal.specs.Graph.{IsEdgeIn};
 ghost use Rattle.cfg_normal.specs.Numbers.{node_numbers};
-ghost use Rattle.image_code.specs.Lookups.{AreFirst, compare_place, edge_place as edge_place_of, first_mark, is_case, jump_place, mark_of, node_of_edge as node_of_edge_in, number_where, same_case};
+ghost use Rattle.image_code.specs.Lookups.{AreFirst, AreFirstEdges, compare_place, first_mark, is_case, is_edge_at, jump_place, mark_at, mark_of, node_of_edge as node_of_edge_in, number_where, same_case};
 
 use cfg_blocks::EdgeKind;
 use cfg_normal::{Edge, FlowGraph, kind_number, node_number};
@@ -68,33 +68,40 @@ fn node_of_edge(graph: &FlowGraph, edge: &Edge) -> u32
     }
 }
 
-fn edge_place(graph: &FlowGraph, edge: &Edge) -> usize
+/// A mark for each kind of edge, by the kind's number.
+pub(crate) type KindMarks = [u32; 7];
+
+// Notes an edge, if it is the first of its kind at its node.
+fn note_edge(rows: &mut [KindMarks], graph: &FlowGraph, edge: &Edge, number: u32)
     requires edge { IsEdgeIn graph.now.blocks graph.now.opens edge.now }
-    ensures place { result ≡ edge_place_of graph.now edge.now }
-    ensures within { result < 7 * node_numbers graph.now }
+    requires long { length rows.old ≡ node_numbers graph.now }
+    requires number { number + 1 < 2 ^ 32 }
+    ensures marks { (node kind : ℕ) → mark_at rows.new node kind
+        ≡ first_mark (is_edge_at graph.now node kind edge.now) number (mark_at rows.old node kind) }
+    ensures long { length rows.new ≡ length rows.old }
 {
-    7 * node_of_edge(graph, edge) as usize + kind_number(edge.kind) as usize
+    let row = &mut rows[node_of_edge(graph, edge) as usize];
+    note_first(row, kind_number(edge.kind) as usize, number);
 }
 
-// Notes the edges in a table without marks.
-fn note_edges(table: &mut [u32], graph: &FlowGraph)
-    requires long { length table.old ≡ 7 * node_numbers graph.now }
-    requires fresh { (n : ℕ) → slice_index table.old n ≡ 0 }
-    ensures { AreFirst (7 * node_numbers graph.now) (edge_place_of graph.now) graph.now.edges table.new }
+// Notes the edges in rows without marks.
+fn note_edges(rows: &mut [KindMarks], graph: &FlowGraph)
+    requires long { length rows.old ≡ node_numbers graph.now }
+    requires fresh { (node kind : ℕ) → mark_at rows.old node kind ≡ 0 }
+    ensures { AreFirstEdges graph.now graph.now.edges rows.new }
 {
     for (number, edge) in graph.edges().iter().enumerate() {
-        note_first(table, edge_place(graph, edge), number as u32);
+        note_edge(rows, graph, edge, number as u32);
     }
 }
 
 /// The first edges, by nodes and kinds.
-pub(crate) fn first_edges(alloc: Global, graph: &FlowGraph) -> Result<Vec<u32>, NoMemory>
-    ensures { IfOk result (λ table.
-        AreFirst (7 * node_numbers graph.now) (edge_place_of graph.now) graph.now.edges table.items) }
+pub(crate) fn first_edges(alloc: Global, graph: &FlowGraph) -> Result<Vec<KindMarks>, NoMemory>
+    ensures { IfOk result (λ rows. AreFirstEdges graph.now graph.now.edges rows.items) }
 {
-    let mut table = vec![in alloc; 0; 7 * (2 * graph.count() as usize + 1)]?;
-    note_edges(&mut table, graph);
-    Ok(table)
+    let mut rows = vec![in alloc; [0; 7]; 2 * graph.count() as usize + 1]?;
+    note_edges(&mut rows, graph);
+    Ok(rows)
 }
 
 // ---- Case edges

@@ -9,14 +9,15 @@ ghost use Rattle.cfg_normal.specs.declared.Node.TheVariants.{Block};
 ghost use Rattle.cfg_normal.specs.Graph.{IsEdgeIn, landings_of};
 ghost use Rattle.cfg_normal.specs.Opens.{Open, jumps_in};
 ghost use Rattle.cfg_normal.specs.Landings.{IsNumbered};
-ghost use Rattle.cfg_normal.specs.Numbers.{node_numbers};
+ghost use Rattle.cfg_normal.specs.Numbers.{kind_number as kind_number_of, node_number as node_number_of};
 ghost use Rattle.cfg_walk.specs.Walk.{edge_along, edge_from, landing_at};
 ghost use Rattle.image_code.specs.Loads.{load_of as load_in};
-ghost use Rattle.image_code.specs.Lookups.{AreFirst, AreLookups, IsSource, compare_place, edge_place, is_case, is_land, jump_place, same_case};
+ghost use Rattle.image_code.specs.Lookups.{AreFirst, AreFirstEdges, AreLookups, IsSource, compare_place, is_case, is_land, jump_place, mark_at, mark_of, same_case};
 ghost use Rattle.image_code.specs.Numbered.{compare_number, first_entry, jump_number, landing_count as landing_count_of, open_begin, own_edges as own_edges_of};
 
 use crate::firsts::{
-    CaseEdge, FirstCases, first_at, first_cases, first_compares, first_edges, first_jumps, small,
+    CaseEdge, FirstCases, KindMarks, first_at, first_cases, first_compares, first_edges,
+    first_jumps, small,
 };
 use crate::loads::load_of;
 use crate::maker::Maker;
@@ -29,9 +30,8 @@ use std::alloc::Global;
 /// entry is one more than the number of the first item at its place, or 0 where there is none.
 #[derive(Drop)]
 pub(crate) struct Lookups {
-    /// The first edge of each kind that leaves a node, or the landing that leads to it, at 7 * the node's number + the
-    /// kind's number.
-    edges: Vec<u32>,
+    /// The first edge of each kind that leaves a node, or the landing that leads to it, by the node's number.
+    edges: Vec<KindMarks>,
     /// The first Case edge between two nodes.
     cases: FirstCases,
     /// The open switch whose jump ends a block, by the block's number.
@@ -156,8 +156,11 @@ fn loads_of(alloc: Global, text: &Text, graph: &FlowGraph) -> Result<Vec<u32>, N
 }
 
 // The tables `edges`, `cases` and `compares`.
-fn firsts_of(alloc: Global, graph: &FlowGraph) -> Result<(Vec<u32>, FirstCases, Vec<u32>), NoMemory>
-    ensures edges { IfOk result (λ tables. AreFirst (7 * node_numbers graph.now) (edge_place graph.now) graph.now.edges tables.0.items) }
+fn firsts_of(
+    alloc: Global,
+    graph: &FlowGraph,
+) -> Result<(Vec<KindMarks>, FirstCases, Vec<u32>), NoMemory>
+    ensures edges { IfOk result (λ tables. AreFirstEdges graph.now graph.now.edges tables.0.items) }
     ensures cases { IfOk result (λ tables. (case : CaseEdge) → get same_case tables.1 case ≡ position (is_case graph.now case) graph.now.edges) }
     ensures compares { IfOk result (λ tables. AreFirst (length graph.now.blocks.firsts) compare_place graph.now.opens tables.2.items) }
 {
@@ -227,14 +230,23 @@ impl<'a> Maker<'a> {
         &self.graph.edges()[..self.lookups.own]
     }
 
+    // The first edge of a kind that leaves a node, or the landing that leads to it.
+    fn edge_at(&self, node: Node, kind: EdgeKind) -> Option<u32>
+        requires node { IsNumbered (length self.now.graph.now.blocks.firsts) node }
+        ensures { mark_of result ≡ mark_at self.now.lookups.now.edges.items (node_number_of self.now.graph.now node)
+            (kind_number_of kind) }
+    {
+        let row = &self.lookups.edges[node_number(self.graph, node) as usize];
+        first_at(row, kind_number(kind) as usize)
+    }
+
     /// The edge of a kind that leaves a node.
     pub(crate) fn leaving(&self, node: Node, kind: EdgeKind) -> Option<u32>
         requires node { IsNumbered (length self.now.graph.now.blocks.firsts) node }
         requires kind { is_land kind ≡ false }
         ensures { option_to_list result ≡ edge_from self.now.graph.now node kind }
     {
-        let place = 7 * node_number(self.graph, node) as usize + kind_number(kind) as usize;
-        first_at(&self.lookups.edges, place)
+        self.edge_at(node, kind)
     }
 
     /// The landing at a node.
@@ -242,9 +254,7 @@ impl<'a> Maker<'a> {
         requires node { IsNumbered (length self.now.graph.now.blocks.firsts) node }
         ensures { option_to_list result ≡ landing_at self.now.graph.now node }
     {
-        let place = 7 * node_number(self.graph, node) as usize
-            + kind_number(EdgeKind::Land) as usize;
-        first_at(&self.lookups.edges, place)
+        self.edge_at(node, EdgeKind::Land)
     }
 
     /// The Case edge from a block to a node.
