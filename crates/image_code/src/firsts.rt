@@ -1,10 +1,10 @@
 //! Tables of what comes first: of the first edge of a node, and of the first open switch of a block.
 
-ghost use Rattle.std.specs.Prelude.{◌≡◌, ℕ, ◌&&◌, ◌+◌, ◌*◌, ◌^◌, ◌<◌, ◌≤◌, ◌==◌, length, slice_index, IfOk, OnErr, OnOk};
+ghost use Rattle.std.specs.Prelude.{◌≡◌, ℕ, ◌+◌, ◌^◌, ◌<◌, ◌≤◌, ◌==◌, length, slice_index, IfOk, OnErr, OnOk};
 ghost use Rattle.std.specs.List.{position};
 ghost use Rattle.std.specs.Option.{option_or};
 ghost use Rattle.indexmap.specs.IndexMap.{get};
-ghost use Rattle.cfg_normal.specs.Graph.{IsEdgeIn};
+ghost use Rattle.cfg_normal.specs.Graph.{IsEdgeIn, IsGraph};
 ghost use Rattle.cfg_normal.specs.Numbers.{node_numbers};
 ghost use Rattle.image_code.specs.Lookups.{AreFirst, AreFirstEdges, compare_place, first_mark, is_case, is_edge_at, jump_place, mark_at, mark_of, node_of_edge as node_of_edge_in, number_where, same_case};
 
@@ -153,12 +153,11 @@ pub(crate) fn first_cases(alloc: Global, graph: &FlowGraph) -> Result<FirstCases
 
 // Notes the open switches by the blocks of their jumps.
 fn note_jumps(table: &mut [u32], graph: &FlowGraph) -> Result<(), NoMemory>
+    requires graph { IsGraph graph.now }
     requires long { length table.old ≡ length graph.now.blocks.firsts }
     requires fresh { (n : ℕ) → slice_index table.old n ≡ 0 }
     ensures { OnOk result (AreFirst (length graph.now.blocks.firsts) jump_place graph.now.opens table.new) }
 {
-    // The blocks are those of the graph.
-    let _edges = graph.edges();
     for (number, found) in graph.opens().iter().enumerate() {
         let number = small(number as u64)?;
         note_first(table, found.block().0 as usize, number);
@@ -168,12 +167,11 @@ fn note_jumps(table: &mut [u32], graph: &FlowGraph) -> Result<(), NoMemory>
 
 // Notes them by the blocks of their comparisons.
 fn note_compares(table: &mut [u32], graph: &FlowGraph) -> Result<(), NoMemory>
+    requires graph { IsGraph graph.now }
     requires long { length table.old ≡ length graph.now.blocks.firsts }
     requires fresh { (n : ℕ) → slice_index table.old n ≡ 0 }
     ensures { OnOk result (AreFirst (length graph.now.blocks.firsts) compare_place graph.now.opens table.new) }
 {
-    // The blocks are those of the graph.
-    let _edges = graph.edges();
     for (number, found) in graph.opens().iter().enumerate() {
         let number = small(number as u64)?;
         note_first(table, found.switch().compare.0 as usize, number);
@@ -183,6 +181,7 @@ fn note_compares(table: &mut [u32], graph: &FlowGraph) -> Result<(), NoMemory>
 
 /// The open switches, by the blocks of their jumps.
 pub(crate) fn first_jumps(alloc: Global, graph: &FlowGraph) -> Result<Vec<u32>, NoMemory>
+    requires graph { IsGraph graph.now }
     ensures { IfOk result (λ table. AreFirst (length graph.now.blocks.firsts) jump_place graph.now.opens table.items) }
 {
     let mut table = vec![in alloc; 0; graph.count() as usize]?;
@@ -192,6 +191,7 @@ pub(crate) fn first_jumps(alloc: Global, graph: &FlowGraph) -> Result<Vec<u32>, 
 
 /// The first open switches, by the blocks of their comparisons.
 pub(crate) fn first_compares(alloc: Global, graph: &FlowGraph) -> Result<Vec<u32>, NoMemory>
+    requires graph { IsGraph graph.now }
     ensures { IfOk result (λ table.
         AreFirst (length graph.now.blocks.firsts) compare_place graph.now.opens table.items) }
 {

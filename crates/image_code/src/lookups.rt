@@ -1,12 +1,12 @@
 //! The tables by which the numbers of edges and of pieces are found.
 
-ghost use Rattle.std.specs.Prelude.{◌≡◌, ℕ, ◌+◌, ◌-◌, ◌*◌, ◌^◌, ◌<◌, ◌≤◌, false, length, map, option_to_list, slice_get, slice_index, Some, All, IfOk};
+ghost use Rattle.std.specs.Prelude.{◌≡◌, ◌+◌, ◌-◌, ◌^◌, ◌<◌, ◌≤◌, false, length, map, option_to_list, slice_get, slice_index, Some, All, IfOk};
 ghost use Rattle.std.specs.List.{position};
 ghost use Rattle.indexmap.specs.IndexMap.{get};
 ghost use Rattle.cfg_blocks.specs.Blocks.{below, size_of};
 ghost use Rattle.cfg_blocks.specs.declared.EdgeKind.TheVariants.{Case};
 ghost use Rattle.cfg_normal.specs.declared.Node.TheVariants.{Block};
-ghost use Rattle.cfg_normal.specs.Graph.{IsEdgeIn, landings_of};
+ghost use Rattle.cfg_normal.specs.Graph.{IsEdgeIn, IsGraph, landings_of};
 ghost use Rattle.cfg_normal.specs.Opens.{Open, jumps_in};
 ghost use Rattle.cfg_normal.specs.Landings.{IsNumbered};
 ghost use Rattle.cfg_normal.specs.Numbers.{kind_number as kind_number_of, node_number as node_number_of};
@@ -116,8 +116,6 @@ fn begins_of(
     requires own { own ≡ length (own_edges_of graph.now) }
     ensures { IfOk result (λ v. v.items ≡ map (open_begin text.now graph.now) (below (length graph.now.opens + 1))) }
 {
-    // The blocks are those of the graph.
-    let _edges = graph.edges();
     let mut begins = Vec::new(alloc);
     let mut begin = u64::from(text.len()) + own as u64 + u64::from(text.len());
     begins.push(small(begin)?)?;
@@ -160,6 +158,7 @@ fn firsts_of(
     alloc: Global,
     graph: &FlowGraph,
 ) -> Result<(Vec<KindMarks>, FirstCases, Vec<u32>), NoMemory>
+    requires graph { IsGraph graph.now }
     ensures edges { IfOk result (λ tables. AreFirstEdges graph.now graph.now.edges tables.0.items) }
     ensures cases { IfOk result (λ tables. (case : CaseEdge) → get same_case tables.1 case ≡ position (is_case graph.now case) graph.now.edges) }
     ensures compares { IfOk result (λ tables. AreFirst (length graph.now.blocks.firsts) compare_place graph.now.opens tables.2.items) }

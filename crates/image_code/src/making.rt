@@ -1,7 +1,7 @@
 //! The pieces of a text.
 
 ghost use Rattle.addr_translate.specs.Table.{size_of as table_size_of};
-ghost use Rattle.std.specs.Prelude.{◌≡◌, ℕ, ◌+◌, ◌*◌, ◌^◌, ◌<◌, ◌≤◌, ◌%◌, [], length, map, Some, All, IfOk, OnOk};
+ghost use Rattle.std.specs.Prelude.{◌≡◌, ℕ, ◌+◌, ◌^◌, ◌<◌, ◌≤◌, ◌%◌, [], length, map, Some, All, IfOk, OnOk};
 ghost use Rattle.cfg_blocks.specs.Blocks.{below};
 ghost use Rattle.cfg_normal.specs.Graph.{node_of};
 ghost use Rattle.image_code.specs.Codes.{CodeDoes};

@@ -172,8 +172,6 @@ impl Maker<'_> {
             ++ ways_from self.now.text.now self.now.graph.now self.now.table.0 (code_at_of self.now.codes.now) 0
             (own_edges_of self.now.graph.now)) }
     {
-        // A graph has few edges.
-        let _edges = self.graph.edges();
         for (number, edge) in self.own_edges().iter().enumerate() {
             let number = number as u32;
             list.push(self.way(alloc, number, edge)?)?;

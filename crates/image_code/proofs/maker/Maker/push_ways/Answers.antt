@@ -1,4 +1,6 @@
-use Rattle.std.proofs.Common.{◌≡◌, ◌-◌, append-nil, length, length-take, ap, sym, arith}
+use Rattle.std.proofs.Common.{◌≡◌, ◌-◌, ◌^◌, ◌<◌, append-nil, length, length-take, ap, sym, arith}
+use Rattle.std.specs.Coded.{le_prop}
+use Rattle.std.proofs.Math.Logic.{∥∥₁_elim}
 use Rattle.image_code.specs.Numbered.{landing_count, own_edges}
 use Rattle.image_code.specs.Parts.{code_at}
 use Rattle.image_code.proofs.Along.{ways_pushed}
@@ -7,16 +9,17 @@ use Rattle.image_code.proofs.maker.Maker.push_ways.Goals as goal
 pub overflow_cast-number : goal.overflow_cast-number
 overflow_cast-number c =
     let of = c.args.self.now.graph.now in
-    let graph = c.edges-edges.ensures.graph in
     let same : length c.own_edges-edge-items.result.now ≡ length (own_edges of) =
     ap length c.own_edges-edge-items.ensures.edges in
-    omega (
+    let low : c.loop-number.number < 2 ^ 32 = ∥∥₁_elim c.args.self.now.found le_prop (λ found. omega (
       arith,
-      graph.edge_count,
-      graph.few,
+      same,
+      found.source.is_graph.edge_count,
+      found.source.is_graph.few,
       c.loop-number-test.true,
       length-take (length of.edges - landing_count of) of.edges,
-    )
+    )) in
+    omega (arith, low)
 
 pub loop-number-init : goal.loop-number-init
 loop-number-init c = sym (append-nil c.args.list.now.items)
