@@ -1,7 +1,6 @@
 -- Branches, their ways, and the words of their images.
-use Rattle.std.proofs.Common.{◌≡◌, ◌≢◌, ℕ, ◌<◌, Bool, true, false, Option, Some, None, List, [], ◌∷◌, refl, ap, sym}
+use Rattle.std.proofs.Common.{◌≡◌, ◌≢◌, ℕ, ◌<◌, Bool, true, false, Option, Some, None, List, ◌∷◌, refl, ap, sym}
 use Rattle.std.specs.Prelude.{nat_lt, pos, slice_index, ℤ}
-use Rattle.std.specs.Option.{option_to_list}
 use Rattle.std.proofs.lemmas.Bool.{cond_both, eqb-true, ltb-true}
 use Rattle.eel_base.specs.CodeText.{Words}
 use Rattle.eel_base.specs.declared.numbers.Addr.{Addr}
@@ -116,7 +115,3 @@ within_is count word other e = cond_both (nat_lt word count) _ _ (λ (o : Option
 pub is_there : (o : Option ℕ) → o ≢ None → (word : ℕ) × (o ≡ Some word)
 is_there None h = absurd (h refl)
 is_there (Some word) h = (word, refl)
-
-pub number_of_list : (o : Option ℕ) (number : ℕ) → option_to_list o ≡ number ∷ [] → o ≡ Some number
-number_of_list None number e = absurd (cc)
-number_of_list (Some n) number e = cc

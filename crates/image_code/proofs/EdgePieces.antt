@@ -21,7 +21,7 @@ use Rattle.cfg_normal.specs.Graph.{Graph, IsSlotIn, edges_in, lands}
 use Rattle.cfg_walk.specs.Walk.{WayOut, edge_along, leads_along, same_kind, same_node}
 use Rattle.cfg_walk.specs.Matches.{target_along}
 use Rattle.cfg_walk.proofs.Cut.{IsCut, cut}
-use Rattle.cfg_walk.proofs.Edges.{block}
+use Rattle.cfg_walk.proofs.Edges.{block, number_of_list}
 use Rattle.cfg_walk.proofs.NoneOpen.{edge_lies_in}
 use Rattle.image_code.specs.Simulates.{Setting, graph_in}
 use Rattle.image_code.specs.Cases.{IsFar}
@@ -29,7 +29,7 @@ use Rattle.image_code.specs.Made.{case_by, first_word, jump_to, piece_list, way_
 use Rattle.image_code.specs.Numbered.{case_piece, place_in}
 use Rattle.image_code.proofs.CaseTables.{IsKnown}
 use Rattle.layout.specs.declared.items.Item.{Item}
-use Rattle.image_code.proofs.Branches.{IsTransfersWay, node_same, number_of_list, same_is}
+use Rattle.image_code.proofs.Branches.{IsTransfersWay, node_same, same_is}
 use Rattle.image_code.proofs.Listed.{case_entry_at, own_at, place_is, way_at}
 
 -- ---- addresses to which a long jump can lead

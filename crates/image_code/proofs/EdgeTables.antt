@@ -4,6 +4,7 @@ use Rattle.std.specs.Prelude.{if◌then◌else◌}
 use Rattle.std.specs.List.{list_any, position}
 use Rattle.std.specs.Option.{is_some, option_map, option_to_list}
 use Rattle.std.proofs.lemmas.Bool.{eq-eqb, eqb-true, false≢true, ne_eqb}
+use Rattle.std.proofs.Math.Bool.{and_comm}
 use Rattle.eel_base.specs.declared.numbers.BlockNo.{BlockNo}
 use Rattle.cfg_blocks.specs.declared.EdgeKind.{EdgeKind}
 use Rattle.cfg_blocks.specs.declared.EdgeKind.TheVariants as kinds
@@ -79,14 +80,8 @@ nodes_same graph X (Landed other) h k = ne_eqb _ _ (λ e. absurd (omega (arith, 
 nodes_same graph (Landed one) (Block other) h k = ne_eqb _ _ (λ e. absurd (omega (arith, k, e)))
 nodes_same graph (Landed one) X h k = ne_eqb _ _ (λ e. absurd (omega (arith, e)))
 
-and-swap : (a b : Bool) → (a && b) ≡ (b && a)
-and-swap true true = refl
-and-swap true false = refl
-and-swap false true = refl
-and-swap false false = refl
-
 neither : (a b t : Bool) → t ≡ false → (a && t) ≡ (b && t)
-neither a b t e = ap (λ u. a && u) e ∙ and-swap a false ∙ sym (ap (λ u. b && u) e ∙ and-swap b false)
+neither a b t e = ap (λ u. a && u) e ∙ and_comm a false ∙ sym (ap (λ u. b && u) e ∙ and_comm b false)
 
 -- ---- edges that leave a node, and landings
 
@@ -168,8 +163,8 @@ case_edge_is graph g block to l h found is =
     g.edges same)
   where
     shuffle : (a b c : Bool) → (a && (b && c)) ≡ (c && (b && a))
-    shuffle true b c = and-swap b c ∙ ap (λ (t : Bool). c && t) (sym (and-swap b true))
-    shuffle false b true = sym (and-swap b false)
+    shuffle true b c = and_comm b c ∙ ap (λ (t : Bool). c && t) (sym (and_comm b true))
+    shuffle false b true = sym (and_comm b false)
     shuffle false b false = refl
 
     same : (edge : Edge) → IsEdgeIn graph.blocks graph.opens edge

@@ -115,10 +115,10 @@ mark_or (Some m) true n =
 mark_or (Some m) false n = refl
 
 -- one item more of a list
-pub marks_more : {A : Type 0} (p : A → Bool) (xs : List A) (n : ℕ) (d : A) (was now : ℕ) → n < length xs
+pub mark_more : {A : Type 0} (p : A → Bool) (xs : List A) (n : ℕ) (d : A) (was now : ℕ) → n < length xs
     → was ≡ mark_of (position p (take n xs)) → now ≡ first_mark (p (slice_index_or xs n d)) n was
     → now ≡ mark_of (position p (take (n + 1) xs))
-marks_more p xs n d was now l held next =
+mark_more p xs n d was now l held next =
     next ∙ ap (first_mark (p (slice_index_or xs n d)) n) held
     ∙ sym (mark_or (position p (take n xs)) (p (slice_index_or xs n d)) n)
     ∙ ap mark_of (positions_more p xs n d (position p (take n xs)) _ l refl refl)
@@ -136,7 +136,7 @@ pub first_more : {A : Type 0} (count : ℕ) (place_of : A → ℕ) (xs : List A)
     → AreFirst count place_of (take (n + 1) xs) new
 first_more count place_of xs n d table new l h long marks = record {
   long = long ∙ h.long;
-  each = λ place low. marks_more (λ item. place_of item == place) xs n d _ _ l (h.each place low) (marks place);
+  each = λ place low. mark_more (λ item. place_of item == place) xs n d _ _ l (h.each place low) (marks place);
 }
 
 -- what a table says

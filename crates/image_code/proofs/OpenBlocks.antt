@@ -8,6 +8,7 @@ use Rattle.std.proofs.lemmas.Bool.{and_parts, cond_both, eq-eqb, eqb-true, false
 use Rattle.std.proofs.lemmas.List.{length-append, length-map}
 use Rattle.std.proofs.lemmas.List.Elements.{All-map}
 use Rattle.std.proofs.lemmas.List.Sums.{count_by-le-length, length-filter, sum_by-cons}
+use Rattle.std.proofs.Math.Seq.{take-append_seam}
 use Rattle.eel_base.specs.CodeText.{Words, IsText, numbered, target_of, word_at}
 use Rattle.v8_decode.specs.declared.Instr.{Instr}
 use Rattle.v8_decode.specs.declared.Instr.TheVariants as i
@@ -372,10 +373,6 @@ targets_few (o ∷ opens) n =
     cut true = refl
     cut false = refl
 
-take_first : {A : Type 0} (xs ys : List A) → take (length xs) (xs ++ ys) ≡ xs
-take_first [] ys = refl
-take_first (x ∷ xs) ys = ap (λ zs. x ∷ zs) (take_first xs ys)
-
 get_taken : {A : Type 0} (n k : ℕ) (xs : List A) (x : A) → slice_get (take n xs) k ≡ Some x → slice_get xs k ≡ Some x
 get_taken zero k xs x e = absurd (cc)
 get_taken (suc n) k [] x e = absurd (cc)
@@ -414,7 +411,7 @@ module _ (b : Blocks) (opens : List Open) where
         length-map nodes landing_at,
       ) in
       ap (λ n. take n (blocks_edges ++ copies_edges ++ map landing_at nodes)) many
-      ∙ take_first (blocks_edges ++ copies_edges) (map landing_at nodes)
+      ∙ take-append_seam (blocks_edges ++ copies_edges) (map landing_at nodes)
 
   own_few : entries_of opens ≤ b.words → length b.firsts ≤ b.words → length (own_edges (graph_of b opens)) ≤ 5 * b.words
   own_few entries firsts =

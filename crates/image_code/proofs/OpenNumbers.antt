@@ -8,6 +8,7 @@ use Rattle.std.proofs.lemmas.List.FromFn.{length-range_with_len}
 use Rattle.std.proofs.lemmas.List.Quantifiers.{position-Some}
 use Rattle.std.proofs.lemmas.List.Sums.{sum_by-cons}
 use Rattle.std.proofs.lemmas.Option.{get_or_from_slice_get}
+use Rattle.std.proofs.Math.Seq.{take-length}
 use Rattle.eel_base.specs.CodeText.{Words}
 use Rattle.v8_decode.specs.Words.{decode_of}
 use Rattle.cfg_blocks.specs.Blocks.{below, block_end, size_of as block_size}
@@ -39,14 +40,6 @@ at_most f (y ∷ xs) zero x e =
     omega (arith, sum_by-cons f y xs)
 at_most f (y ∷ xs) (suc j) x e =
     omega (arith, sum_by-cons f y xs, sum_by-cons f y (take j xs), at_most f xs j x e)
-
-take_whole : {A : Type 0} (xs : List A) → take (length xs) xs ≡ xs
-take_whole [] = refl
-take_whole (x ∷ xs) = ap (λ ys. x ∷ ys) (take_whole xs)
-
-take_before : {A : Type 0} (xs ys : List A) → take (length xs) (xs ++ ys) ≡ xs
-take_before [] ys = refl
-take_before (x ∷ xs) ys = ap (λ zs. x ∷ zs) (take_before xs ys)
 
 get_behind : {A : Type 0} (xs : List A) (y : A) (ys : List A) → slice_get (xs ++ y ∷ ys) (length xs) ≡ Some y
 get_behind [] y ys = refl
@@ -92,7 +85,7 @@ module _ (text : Words) (graph : Graph) (g : IsTextGraph text graph) where
   open_below k o e =
       let some = at_most (pieces_of text graph) graph.opens k o e in
       let all : sum_by (pieces_of text graph) (take (length graph.opens) graph.opens)
-      ≡ sum_by (pieces_of text graph) graph.opens = ap (sum_by (pieces_of text graph)) (take_whole graph.opens) in
+      ≡ sum_by (pieces_of text graph) graph.opens = ap (sum_by (pieces_of text graph)) (take-length graph.opens) in
       omega arith
 
   word_below : (node : ℕ) (word : ℕ) → IsIn graph.blocks.words graph.blocks.firsts word node
@@ -182,7 +175,7 @@ module _ (text : Words) (graph : Graph) (g : IsTextGraph text graph) where
   case_below k o word e some =
       let among = at_most (entries_of text graph) graph.opens k o e in
       let all : sum_by (entries_of text graph) (take (length graph.opens) graph.opens)
-      ≡ sum_by (entries_of text graph) graph.opens = ap (sum_by (entries_of text graph)) (take_whole graph.opens) in
+      ≡ sum_by (entries_of text graph) graph.opens = ap (sum_by (entries_of text graph)) (take-length graph.opens) in
       let place = place_below o.targets word some in
       omega arith
 
@@ -235,9 +228,9 @@ pub foreign_is : (text : Words) (graph : Graph) → foreign_number text graph
     + sum_by (λ (o : Open). length o.targets) graph.opens
 foreign_is text graph =
     let opened : sum_by (pieces_of text graph) (take (length graph.opens) graph.opens)
-    ≡ sum_by (pieces_of text graph) graph.opens = ap (sum_by (pieces_of text graph)) (take_whole graph.opens) in
+    ≡ sum_by (pieces_of text graph) graph.opens = ap (sum_by (pieces_of text graph)) (take-length graph.opens) in
     let chosen : sum_by (entries_of text graph) (take (length graph.opens) graph.opens)
-    ≡ sum_by (entries_of text graph) graph.opens = ap (sum_by (entries_of text graph)) (take_whole graph.opens) in
+    ≡ sum_by (entries_of text graph) graph.opens = ap (sum_by (entries_of text graph)) (take-length graph.opens) in
     omega arith
 
 module _ (text : Words) (graph : Graph) (table cases : ℕ) (codes : ℕ → List ℕ) where

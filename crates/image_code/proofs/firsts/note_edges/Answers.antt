@@ -1,6 +1,6 @@
 use Rattle.std.proofs.Common.{◌∙◌}
 use Rattle.image_code.specs.Lookups.{is_edge_at}
-use Rattle.image_code.proofs.FirstPlaces.{marks_more}
+use Rattle.image_code.proofs.FirstPlaces.{mark_more}
 use Rattle.image_code.proofs.firsts.note_edges.Goals as goal
 
 pub loop-number-init : goal.loop-number-init
@@ -10,6 +10,6 @@ pub loop-number-preserved : goal.loop-number-preserved
 loop-number-preserved c = record {
   long = c.note_edge.ensures.long ∙ c.loop-number.invariant.long;
   each = λ node kind.
-      marks_more (is_edge_at c.args.graph.now node kind) c.edges-edge-items.result.now c.loop-number.number _ _ _
+      mark_more (is_edge_at c.args.graph.now node kind) c.edges-edge-items.result.now c.loop-number.number _ _ _
       c.loop-number-test.true (c.loop-number.invariant.each node kind) (c.note_edge.ensures.marks node kind);
 }
