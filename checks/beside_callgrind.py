@@ -1,7 +1,7 @@
 #!/usr/bin/env python3
 """Compares how often functions were called, as tools/source_counts.py says it, with callgrind of valgrind.
 
-Each program of examples/c is built by gcc and by clang at -O0 and profiled by tools/profile.py; and built for this
+Ten programs of examples/c are built by gcc and by clang at -O0 and profiled by tools/profile.py; and built for this
 machine and run by callgrind. Functions of the sources are compared. At -O0 to -O2 it is looked whether the functions of
 a tracefile for lcov have no fewer calls than stand in the file for callgrind (calls through registers may have no
 caller), and whether callgrind_annotate lists each function once. That takes valgrind beside what beside_gcov.py takes.
@@ -13,19 +13,11 @@ import sys
 import tempfile
 from collections import Counter
 
-from beside_gcov import COMPILERS, LINK, SOURCES, call, given_to, source
+from beside_gcov import ARGUMENTS, COMPILERS, LEVELS, PROGRAMS, SOURCES, call, compiled, given_to, source
 from called import EEL, TOP, built, needs
 
 ELSEWHERE = {'system_call', 'memcpy', 'memmove'}  # which native.c and this machine's C library have
-PROGRAMS = ['calculator', 'dispatch', 'fractions', 'interpreter', 'queens', 'samples', 'word_count']
 PROFILE = os.path.join(TOP, 'tools', 'profile.py')
-
-
-def compiled(program, compiler, level, folder):
-    name = os.path.join(folder, f'{program}.{compiler}{level}')
-    call(*COMPILERS[compiler], level, '-c', source(program), '-o', f'{name}.o')
-    call(*LINK, os.path.join(SOURCES, 'start.S'), f'{name}.o', '-o', name)
-    return name
 
 
 def calls_in(text):
@@ -45,14 +37,15 @@ def natively(program, folder):
     name = os.path.join(folder, program)
     call('gcc', '-m32', '-w', '-O0', '-g', '-static', '-ffreestanding', source(program),
          os.path.join(SOURCES, 'native.c'), '-o', name)
-    call('valgrind', '--tool=callgrind', f'--callgrind-out-file={name}.out', name, given=given_to(program), statuses=())
+    call('valgrind', '--tool=callgrind', f'--callgrind-out-file={name}.out', name, *ARGUMENTS.get(program, []),
+         given=given_to(program), statuses=())
     with open(f'{name}.out') as opened:
         return calls_in(opened.read())
 
 
 def profiled(name, program, option):
     """What profile.py prints of a program with the input of the tests."""
-    return call(sys.executable, PROFILE, option, name, given=given_to(program))
+    return call(sys.executable, PROFILE, option, name, *ARGUMENTS.get(program, []), given=given_to(program))
 
 
 def functions(tracefile):
@@ -65,7 +58,7 @@ def functions(tracefile):
 
 def beside_native(program, compiler, wanted, folder):
     """At -O0 all functions of the source have the calls of the native build."""
-    had = functions(profiled(compiled(program, compiler, '-O0', folder), program, '--lcov'))
+    had = functions(profiled(compiled(program, compiler, ['-O0'], folder), program, '--lcov'))
     names = sorted(had.keys() & wanted.keys() - ELSEWHERE)
     for name in names:
         if had[name] != wanted[name]:
@@ -77,7 +70,7 @@ def beside_native(program, compiler, wanted, folder):
 
 def beside_itself(program, compiler, level, folder):
     """The file for callgrind: calls are no more than the tracefile has, and each function is listed once."""
-    name = compiled(program, compiler, level, folder)
+    name = compiled(program, compiler, [level], folder)
     text, had = profiled(name, program, '--callgrind'), functions(profiled(name, program, '--lcov'))
     calls, out = calls_in(text), f'{name}.out'
     with open(out, 'w') as opened:
@@ -107,7 +100,7 @@ def main():
             for compiler in COMPILERS:
                 same, both = beside_native(program, compiler, wanted, folder)
                 agree, compared = agree + same, compared + both
-                faults += sum(beside_itself(program, compiler, level, folder) for level in ('-O0', '-O1', '-O2'))
+                faults += sum(beside_itself(program, compiler, level, folder) for level in LEVELS)
     print(f'{agree} of {compared} functions have the calls of callgrind; {faults} faults in files for callgrind')
     return agree != compared or faults > 0
 

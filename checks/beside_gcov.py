@@ -1,7 +1,7 @@
 #!/usr/bin/env python3
 """Compares the lines' counts of source_counts.py with those of gcov.
 
-Each program of examples/c is built by gcc and by clang with -g at -O0 and at -O2, profiled by ./eel and printed by
+Ten programs of examples/c are built by gcc and by clang with -g at -O0, -O1 and -O2, profiled by ./eel and printed by
 source_counts.py; and built for this machine at -O0 and run for gcov. Of the lines that both have it is said how many
 have the same count. That takes sparc64-linux-gnu-gcc, clang, and `gcc -m32` (the packages gcc-sparc64-linux-gnu, clang
 and gcc-12-multilib).
@@ -16,7 +16,12 @@ import tempfile
 from called import EEL, TOP, built, needs
 
 SOURCES, DATA = os.path.join(TOP, 'examples', 'c'), os.path.join(TOP, 'crates', 'program_runs', 'data')
-PROGRAMS = ['queens', 'fractions', 'interpreter', 'word_count', 'calculator', 'dispatch']
+PROGRAMS = ['queens', 'fractions', 'interpreter', 'word_count', 'calculator', 'dispatch', 'samples', 'sieve',
+            'long_numbers', 'jobs']
+ARGUMENTS = {'sieve': ['20000']}
+LEVELS = ['-O0', '-O1', '-O2']
+# Else gcov's own calls of them count, where a program has functions of these names.
+RENAMED = ['-Dmemcpy=copy_bytes', '-Dmemmove=move_bytes']
 SPARC = ['-mcpu=v8', '-msoft-float', '-ffreestanding', '-fno-asynchronous-unwind-tables', '-g', '-w', f'-I{SOURCES}']
 LINK = ['sparc64-linux-gnu-gcc', '-m32', '-mcpu=v8', '-nostdlib', '-static', '-no-pie', '-Wl,-z,noexecstack']
 COMPILERS = {'gcc': ['sparc64-linux-gnu-gcc', '-m32', '-fno-pie', '-fno-stack-protector', *SPARC],
@@ -63,18 +68,26 @@ def counts(text):
 
 def by_gcov(program, folder):
     built = os.path.join(folder, program)
-    call('gcc', '-m32', '-w', '-O0', '--coverage', '-ffreestanding', '-c', source(program), '-o', f'{built}.o')
+    call('gcc', '-m32', '-w', '-O0', '--coverage', '-ffreestanding', *RENAMED, '-c', source(program), '-o', f'{built}.o')
     call('gcc', '-m32', '-w', '--coverage', f'{built}.o', os.path.join(SOURCES, 'native.c'), '-o', built)
-    call(built, given=given_to(program), statuses=())
+    call(built, *ARGUMENTS.get(program, []), given=given_to(program), statuses=())
     return counts(call('gcov', '--stdout', '-o', folder, f'{built}.o'))
 
 
+def compiled(program, compiler, options, folder):
+    """The program for SPARC V8, by a compiler with some options; clang's code for -flto takes its own plugin."""
+    name = os.path.join(folder, f'{program}.{compiler}{"".join(options)}')
+    call(*COMPILERS[compiler], *options, '-c', source(program), '-o', f'{name}.o')
+    link = ['-Wl,-plugin,/usr/lib/llvm-14/lib/LLVMgold.so'] if compiler == 'clang' and '-flto' in options else options
+    call(*LINK, *link, os.path.join(SOURCES, 'start.S'), f'{name}.o', '-o', name)
+    return name
+
+
 def by_eel(program, compiler, level, folder):
-    built = os.path.join(folder, f'{program}.{compiler}{level}')
-    call(*COMPILERS[compiler], level, '-c', source(program), '-o', f'{built}.o')
-    call(*LINK, os.path.join(SOURCES, 'start.S'), f'{built}.o', '-o', built)
+    built = compiled(program, compiler, [level], folder)
     call(EEL, 'edit', built, f'{built}.profile', 'profile')
-    call(EEL, 'run', f'{built}.profile', '-d', f'{built}.dump', given=given_to(program), statuses=())
+    call(EEL, 'run', f'{built}.profile', '-d', f'{built}.dump', '--', *ARGUMENTS.get(program, []),
+         given=given_to(program), statuses=())
     call(EEL, 'counts', f'{built}.profile', f'{built}.dump', into=f'{built}.counts')
     return counts(call(sys.executable, os.path.join(TOP, 'tools', 'source_counts.py'), built, f'{built}.counts'))
 
@@ -82,7 +95,7 @@ def by_eel(program, compiler, level, folder):
 def compare(program, folder, each):
     """Prints the agreement of each build, and answers it."""
     wanted = by_gcov(program, folder)
-    for build in ((compiler, level) for level in ('-O0', '-O2') for compiler in COMPILERS):
+    for build in ((compiler, level) for level in LEVELS for compiler in COMPILERS):
         had = by_eel(program, *build, folder)
         both = sorted(had.keys() & wanted.keys())
         differing = [line for line in both if had[line] != wanted[line]]

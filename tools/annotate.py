@@ -105,7 +105,7 @@ def main():
     parser.add_argument('counts', metavar='COUNTS', nargs='?', help=TRACE_HELP)
     parser.add_argument('--routine', metavar='NAME', help='this routine alone, by its name or its address')
     parser.add_argument('--names', metavar='NAMES', help=NAMES_HELP)
-    words = parser.parse_args()
+    words = parser.parse_intermixed_args()
     shown = Shown(words.file, words.names)
     if words.counts is not None and is_trace(words.counts):
         routine = shown.routine_called(words.routine) if words.routine else None

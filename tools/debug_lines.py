@@ -20,8 +20,9 @@ class Line:
 
 @dataclass
 class Row:
-    """A row of a line table: the place in the source of the words from an address on."""
+    """A row of a line table: the place in the source of the words from an address up to another."""
     address: int
+    end: int
     line: Line
     column: int
     marks: bool  # where a statement begins, though its instructions may stand elsewhere
@@ -45,8 +46,9 @@ class Function:
 
 
 def marks_statements(rows):
-    """Whether rows mark where statements begin, also where no word of them stands, as in gcc's optimised code."""
-    empty = any(row.marks and row.address == behind.address for row, behind in zip(rows, rows[1:]))
+    """Whether rows mark where statements begin, also where no word of them stands, as in gcc's optimised code. clang's
+    don't: it marks a row where its line is another than that of the row before, and so no test of a loop."""
+    empty = any(row.marks and row.address == row.end for row in rows[:-1])
     return empty and not all(row.marks for row in rows)
 
 
@@ -113,12 +115,14 @@ class DebugLines:
         for row in rows:
             if (row.file, row.line) not in lines:
                 lines[row.file, row.line] = Line(unit.path(row.file), row.line)
-        rows = [Row(row.address, lines[row.file, row.line], row.column, row.is_statement) for row in rows]
+        ends = [row.address for row in rows[1:]] + [end]
+        rows = [Row(row.address, behind, lines[row.file, row.line], row.column, row.is_statement)
+                for row, behind in zip(rows, ends)]
         if marks_statements(rows):
             self.marks += [row for row in rows if row.marks and row.line.number]
-        for row, behind in zip(rows, [row.address for row in rows[1:]] + [end]):
+        for row in rows:
             if row.line.number:
-                self.line_at.update((address, row.line) for address in self.words(row.address, behind))
+                self.line_at.update((address, row.line) for address in self.words(row.address, row.end))
 
     def add_bodies(self, unit):
         """Inner bodies come after those in which they lie, and take their words; what the linker left out has none."""

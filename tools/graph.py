@@ -222,7 +222,7 @@ def main():
     parser.add_argument('--routine', metavar='NAME', help='the flow graph of this routine, by its name or its address')
     parser.add_argument('--code', action='store_true', help='with the instructions in each block')
     parser.add_argument('--names', metavar='NAMES', help=NAMES_HELP)
-    words = parser.parse_args()
+    words = parser.parse_intermixed_args()
     shown = Shown(words.file, words.names)
     if words.counts is not None and is_trace(words.counts):
         run = Trace(shown, trace_of(shown, words.counts))

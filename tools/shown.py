@@ -1,5 +1,6 @@
 """A program as `eel show` and `eel list` print it, and what `eel counts`, `visits` and `trace` print of a run of it."""
 import bisect
+import gc
 import os
 import re
 import subprocess
@@ -11,6 +12,7 @@ from dataclasses import dataclass, field
 from dwarf import Broken, Elf
 from spelling import spelled
 
+gc.disable()  # what is made of a program stays to the end: to look through it again and again takes half the time
 TOP = os.path.dirname(os.path.dirname(os.path.realpath(__file__)))
 EEL = os.path.join(TOP, 'eel')
 RUN_HELP = 'what `eel counts` printed of a run of its profile, or `eel visits` of a file that `every` made'
@@ -64,8 +66,7 @@ def read_lines(name):
 def print_lines(lines):
     """Prints lines, as many as are wanted: a reader such as `head` may stop."""
     try:
-        for line in lines:
-            print(line)
+        sys.stdout.writelines(f'{line}\n' for line in lines)
         sys.stdout.flush()
     except BrokenPipeError:
         os.dup2(os.open(os.devnull, os.O_WRONLY), sys.stdout.fileno())

@@ -48,6 +48,10 @@ class SourceCounts:
         return copies + sum(self.costs.calls_of(start) if start in self.shown.routines else self.times(start)
                             for start in function.starts)
 
+    def passed(self, mark):
+        """How often a mark was reached: its block or, where a jump leads behind that, the words of its row."""
+        return self.times(mark.address) or max(map(self.times, self.debug.words(mark.address, mark.end)), default=0)
+
     def marked(self):
         """Lines by their statements' marks: a position in a line is as often reached as the blocks are in which its
         marks stand, and a line as often as its most reached position."""
@@ -55,7 +59,7 @@ class SourceCounts:
         for row in self.debug.marks:
             block = self.shown.block_of(row.address)
             if block:
-                blocks[row.line, row.column][block.first] = self.times(row.address)
+                blocks[row.line, row.column][block.first] = self.passed(row)
         lines = defaultdict(int)
         for (line, _), counts in blocks.items():
             lines[line] = max(lines[line], sum(counts.values()))

@@ -8,8 +8,12 @@ typedef long long s64;
 static inline unsigned divide(unsigned upper, unsigned lower, unsigned divisor, unsigned *remainder)
 {
     unsigned quotient;
+#ifdef __sparc__
     __asm__("wr %%g0, %1, %%y\n\tnop\n\tnop\n\tnop\n\tudiv %2, %3, %0"
             : "=r"(quotient) : "r"(upper), "r"(lower), "r"(divisor));
+#else
+    quotient = (unsigned)(((u64)upper << 32 | lower) / divisor);
+#endif
     *remainder = lower - quotient * divisor;
     return quotient;
 }
