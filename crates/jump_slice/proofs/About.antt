@@ -1,5 +1,5 @@
 -- The words about an open switch.
-use Rattle.std.proofs.Common.{◌≡◌, ℕ, zero, suc, ◌+◌, ◌*◌, ◌<◌, ◌≤◌, Bool, true, false, ◌&&◌, nat_lt, List, [], ◌∷◌, length, Option, Some, None, refl, ap, sym, ◌∙◌, subst, arith, slice_index}
+use Rattle.std.proofs.Common.{◌≡◌, ℕ, zero, suc, ◌+◌, ◌*◌, ◌<◌, ◌≤◌, Bool, true, false, ◌&&◌, nat_lt, List, [], ◌∷◌, length, Option, Some, None, refl, ap, sym, ◌∙◌, arith, slice_index}
 use Rattle.std.specs.Prelude.{if◌then◌else◌, ◌==◌, slice_index_or, ℤ}
 use Rattle.std.specs.List.{Contains, flat_map, list_any}
 use Rattle.std.specs.Option.{option_to_list}
@@ -49,8 +49,7 @@ pub record About (text : Words) (b : Blocks) (entry : ℕ) (o : Open) (cond : �
   pub table : is_table text o.switch.table.0 o.switch.count ≡ true
 
 pub about : (text : Words) (given : List ℕ) (entry : ℕ) → IsText text → (o : Open)
-    → (is : IsOpen text (entered_of text given) entry o)
-    → About text (blocks_of text given) entry o is.cond is.annul
+    → (is : IsOpen text (entered_of text given) entry o) → About text (blocks_of text given) entry o is.cond is.annul
 unfolding entered_of
 about text given entry is_text o is =
     let list : Entered = entered_of text given in
@@ -68,21 +67,20 @@ about text given entry is_text o is =
     let made : Compares text (slice_index b.firsts o.switch.compare.0) (size_of b o.switch.compare.0) o.approach.compare =
     compare_at-is text (slice_index b.firsts o.switch.compare.0) (size_of b o.switch.compare.0) o.approach.compare is.parts.sets in
     let end : end_by text last (instr_at text last) ≡ ends.Branch is.cond is.annul is.parts.target =
-    sym (end_at-is text last) ∙ sym (parts.ends o.switch.compare.0 from_in) ∙ is.parts.branch in
+    cc (end_at-is text last, parts.ends o.switch.compare.0 from_in, is.parts.branch) in
     let branches = branch_at text last (instr_at text last) is.cond is.annul is.parts.target end in
     let last_is : o.approach.last ≡ last = ap (λ (a : Approach). a.last) is.approach in
     let low : o.approach.compare.word < last =
     inside (slice_index b.firsts o.switch.compare.0 + size_of b o.switch.compare.0) last o.approach.compare.word here.1
     made.last.below (different text o.approach.compare last made.is is.cond is.annul branches.0 branches.1) in
-    let room : nat_lt (last + 1) (length text.words) ≡ true = lt-ltb _ _ (subst (λ (n : ℕ). n + 1 < length text.words) last_is is.last) in
+    let room : nat_lt (last + 1) (length text.words) ≡ true = lt-ltb _ _ (rw last_is at is.last) in
     record {
       from_in = from_in;
       block_in = block_in;
       last = last_is;
       first = ap (λ (a : Approach). a.first) is.approach;
       jump = ap (λ (a : Approach). a.jump) is.approach;
-      slot = ap (λ (a : Approach). a.slot) is.approach
-          ∙ only_runs (runs_slot is.annul o.way) (nat_lt (last + 1) (length text.words)) room;
+      slot = cc (is.approach, only_runs (runs_slot is.annul o.way) (nat_lt (last + 1) (length text.words)) room);
       disp = branches.0;
       branch = ap (instr_at text) last_is ∙ branches.1;
       bounded = s.bounded;
@@ -98,8 +96,7 @@ any_flat : {X A : Type 0} (p : A → Bool) (f : X → List A) (xs : List X) (x :
     → list_any p (f x) ≡ true → list_any p (flat_map f xs) ≡ true
 any_flat p f [] x (k, l, e) h = absurd (omega arith)
 any_flat p f (y ∷ ys) x (zero, l, e) h =
-    let same : y ≡ x = e in
-    list_any-append p (f y) (flat_map f ys) ∙ or_left _ _ (ap (λ z. list_any p (f z)) same ∙ h)
+    list_any-append p (f y) (flat_map f ys) ∙ or_left _ _ (ap (λ z. list_any p (f z)) e ∙ h)
 any_flat p f (y ∷ ys) x (suc k, l, e) h =
     list_any-append p (f y) (flat_map f ys) ∙ or_right _ _ (any_flat p f ys x (k, omega (arith, l), e) h)
 
@@ -108,8 +105,7 @@ any_from : (p : ℕ → Bool) (text : Words) (from count number to : ℕ) → nu
     → list_any p (flat_map (λ word. option_to_list (word_at text (slice_index text.words word))) (words_from from count)) ≡ true
 any_from p text from count number to l is h =
     any_flat p (λ word. option_to_list (word_at text (slice_index text.words word))) (words_from from count) (from + number)
-    (number, in_range, at_number)
-    (ap (λ o. list_any p (option_to_list o)) is ∙ or_left _ _ h)
+    (number, in_range, at_number) (ap (λ o. list_any p (option_to_list o)) is ∙ or_left _ _ h)
   where
     in_range : number < length (words_from from count)
     in_range = omega (arith, l, length-map (below count) (λ k. from + k), length-below count)
@@ -130,22 +126,17 @@ target_among text switch number entry to is_text table l at goes = by (word_at t
     f word = option_to_list (word_at text (slice_index text.words word))
 
     by : (o : Option ℕ) → word_at text switch.table.0 ≡ o → is_table_at text switch.count o ≡ true
-        → list_any (λ x. x == to)
-        (flat_map (λ word. option_to_list (word_at text (slice_index text.words word)))
+        → list_any (λ x. x == to) (flat_map (λ word. option_to_list (word_at text (slice_index text.words word)))
         (flat_map (λ from. words_from from switch.count) (option_to_list (word_at text switch.table.0)))) ≡ true
     by None e h = absurd (false≢true h)
     by (Some from) e h =
-        let here = word_at-some text switch.table.0 from e in
         let there = word_at-some text (switch.table.0 + 4 * number) entry at in
-        let same : entry ≡ from + number = omega (arith, here.is, there.is) in
-        rw e (subst (λ (xs : List ℕ). list_any (λ x. x == to)
-        (flat_map (λ word. option_to_list (word_at text (slice_index text.words word))) xs) ≡ true)
-        (sym (append-nil (words_from from switch.count)))
+        let same : entry ≡ from + number = omega (arith, (word_at-some text switch.table.0 from e).is, there.is) in
+        rw e (rw (append-nil (words_from from switch.count))
         (any_from (λ x. x == to) text from switch.count number to l
         (ap (λ w. word_at text (slice_index text.words w)) (sym same) ∙ goes) (eq-eqb to to refl)))
 
 pub in_targets : (p : ℕ → Bool) (opens : List Open) (o : Open) (k : ℕ) → Contains opens o → o.block ≡ k
     → list_any p o.targets ≡ true → list_any p (targets_in opens k) ≡ true
 in_targets p opens o k among is h =
-    any_flat p (λ (x : Open). if x.block == k then x.targets else []) opens o among
-    (ap (λ (b : Bool). list_any p (if b then o.targets else [])) (eq-eqb o.block k is) ∙ h)
+    any_flat p (λ (x : Open). if x.block == k then x.targets else []) opens o among (cc (eq-eqb o.block k is, h))

@@ -32,8 +32,7 @@ untaken_not e = absurd (cc)
 
 abbrev pub TellsBy : ℕ → Bool → ℤ → State → Slot → Bool → Type 0
 TellsBy cond annul disp t y holds =
-    y ≢ NoSlot → t.slot ≡ y
-    → (holds ≡ is_taken (way_of (Some (i.Branch cond annul disp)) y))
+    y ≢ NoSlot → t.slot ≡ y → (holds ≡ is_taken (way_of (Some (i.Branch cond annul disp)) y))
     × (runs_slot annul (way_of (Some (i.Branch cond annul disp)) y) ≡ true)
 
 tells_taken : (cond : ℕ) (annul : Bool) (disp : ℤ) (s : State) (to : ℕ) (y : Slot)
@@ -62,8 +61,7 @@ pub branch_tells : (s : State) (cond : ℕ) (annul : Bool) (disp : ℤ) (y : Slo
 unfolding act branch_step
 branch_tells s cond annul disp y slot =
     subst (λ (x : Slot). TellsBy cond annul disp (unless_couple x s (branch_step s cond annul disp)) y (holds_of cond s.codes))
-    (sym slot)
-    (branched_tells cond annul disp s (target_of s disp) y (holds_of cond s.codes) (cond == 8) slot)
+    (sym slot) (branched_tells cond annul disp s (target_of s disp) y (holds_of cond s.codes) (cond == 8) slot)
 
 -- where an annulled branch goes: `ba,a` to its target, and one that isn't taken past its slot
 abbrev pub Annulled : State → State → ℕ → ℤ → Type 0

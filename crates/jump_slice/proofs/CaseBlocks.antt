@@ -1,12 +1,11 @@
 -- What is known of an open switch without a run: its jump's block, and a target for each entry of its table.
-use Rattle.std.proofs.Common.{◌≡◌, ℕ, zero, suc, ◌+◌, ◌<◌, ◌≤◌, true, List, [], ◌∷◌, ◌++◌, length, Option, Some, None, refl, ap, sym, ◌∙◌, subst, arith, slice_get, slice_index}
+use Rattle.std.proofs.Common.{◌≡◌, ℕ, zero, suc, ◌+◌, ◌<◌, true, List, [], ◌∷◌, ◌++◌, length, Option, Some, None, refl, ap, sym, ◌∙◌, arith, slice_get, slice_index}
 use Rattle.std.specs.Prelude.{slice_index_or}
 use Rattle.std.specs.List.{Contains, flat_map}
 use Rattle.std.specs.Option.{is_some, option_to_list}
 use Rattle.std.proofs.lemmas.Bool.{false≢true}
 use Rattle.std.proofs.lemmas.List.{get_or-map, length-map}
 use Rattle.eel_base.specs.CodeText.{Words, IsText, word_at}
-use Rattle.cfg_blocks.specs.declared.switches.Approach.{Approach}
 use Rattle.cfg_blocks.specs.declared.switches.Switch.{Switch}
 use Rattle.cfg_blocks.specs.Blocks.{Blocks, below, blocks_of}
 use Rattle.cfg_blocks.specs.Entries.{entered_of}
@@ -31,9 +30,7 @@ target_at : (f : ℕ → List ℕ) (words : List ℕ) (k d to : ℕ) → Each (�
     → k < length words → f (slice_index_or words k d) ≡ to ∷ [] → slice_get (flat_map f words) k ≡ Some to
 target_at f [] k d to h l e = absurd (omega arith)
 target_at f (w ∷ words) zero d to h l e = ap (λ ys. slice_get (ys ++ flat_map f words) zero) e
-target_at f (w ∷ words) (suc k) d to h l e =
-    ap (λ ys. slice_get (ys ++ flat_map f words) (suc k)) h.0.1
-    ∙ target_at f words k d to h.1 (omega (arith, l)) e
+target_at f (w ∷ words) (suc k) d to h l e = cc (h.0.1, target_at f words k d to h.1 (omega (arith, l)) e)
 
 pub some_of : (x : Option ℕ) → is_some x ≡ true → (y : ℕ) × (x ≡ Some y)
 some_of None e = absurd (false≢true e)
@@ -65,9 +62,8 @@ pub case_block : (text : Words) (given : List ℕ) (entry : ℕ) → IsText text
     → (is : IsOpen text (entered_of text given) entry o) → IsCaseBlock text (blocks_of text given) o
 unfolding entered_of
 case_block text given entry is_text o is =
-    let low : o.switch.jump.0 < length text.words = let next = is.jump in let at = jumps.at in omega arith in
-    let some : 1 ≤ o.switch.count = let c = jumps.count in omega arith in
-    let table = table_in text o.switch low some a.table in
+    let table = table_in text o.switch (let next = is.jump in let at = jumps.at in omega arith)
+    (let c = jumps.count in omega arith) a.table in
     record {
       within = a.block_in;
       first = a.first;
@@ -86,7 +82,7 @@ case_block text given entry is_text o is =
       table = table;
       count = ap length is.targets ∙ (are_targets text o.switch table).count;
       targets = λ number below.
-          ap (λ ys. slice_get ys number) is.targets ∙ target_of text o.switch table number below;
+          cc (is.targets, target_of text o.switch table number below);
     }
   where
     b : Blocks
@@ -100,12 +96,12 @@ case_block text given entry is_text o is =
 
     jumps : IsJump text o.approach o.switch.compare.0 o.switch
     jumps =
-        subst (λ (k : Approach). IsJump text k o.switch.compare.0 o.switch) (sym is.approach)
+        rw is.approach
         (switch_of-is text (entered_of text given) entry o.block o.switch is.is_switch o.switch.compare o.way is.cond
         is.annul is.parts.target o.approach.compare is.parts.edge is.parts.branch is.parts.sets).jumps
 
 pub open_in : (P : Open → Type 0) (opens : List Open) (o : Open) → Each P opens → Contains opens o → P o
-open_in P opens o all (k, l, e) = subst P e (each_in P opens k o all l)
+open_in P opens o all (k, l, e) = rw e at (each_in P opens k o all l)
 
 pub case_blocks : CaseBlocks
 unfolding entered_of

@@ -1,5 +1,5 @@
 -- From the load of an entry to the jump of an open switch.
-use Rattle.std.proofs.Common.{◌≡◌, ℕ, suc, ◌+◌, ◌-◌, ◌<◌, ◌≤◌, true, List, length, Some, None, refl, ap, sym, ◌∙◌, subst, arith, slice_index}
+use Rattle.std.proofs.Common.{◌≡◌, ℕ, suc, ◌+◌, ◌-◌, ◌<◌, ◌≤◌, true, List, length, Some, None, refl, ap, sym, ◌∙◌, subst, arith}
 use Rattle.std.specs.Prelude.{◌==◌, ◌*◌}
 use Rattle.std.proofs.lemmas.Bool.{eq-eqb, lt-ltb}
 use Rattle.eel_base.specs.CodeText.{Words, IsText, word_at}
@@ -12,10 +12,8 @@ use Rattle.cfg_blocks.specs.Switches.{switches_of}
 use Rattle.cfg_blocks.proofs.Targets.{word_at-some}
 use Rattle.cfg_normal.specs.Opens.{Open, opens_of}
 use Rattle.cfg_normal.specs.Graph.{Graph, graph_of}
-use Rattle.cfg_walk.specs.Walk.{end_of_walk}
 use Rattle.cfg_walk.specs.Matches.{BeginsAt, FetchesOnly}
 use Rattle.cfg_walk.proofs.Addresses.{word_at-address}
-use Rattle.cfg_walk.proofs.Edges.{block}
 use Rattle.jump_slice.specs.Cases.{ComesFromCompare, HasPassed, IsOpen, IsNumbered, LoadsEntry, number_in, steps_to}
 use Rattle.jump_slice.specs.Held.{HoldsText}
 use Rattle.jump_slice.specs.Joined.{GoesByTable, IsCaseBlock, JumpsGoByTable, StandsAt, StoodFrom}
@@ -94,8 +92,7 @@ module _ (text : Words) (given : List ℕ) (entry : ℕ) (s0 : State) (is_text :
           outside = there.1.slot;
           itself =
               stood_before r among start o.block load steps block_of.within (omega (arith, above, block_of.first))
-              (omega (arith, below, block_of.last)) way
-              (ap (λ i. end_of_walk text graph entry s0 i) (sym ago) ∙ at.itself ∙ ap block (sym from.block_is))
+              (omega (arith, below, block_of.last)) way (cc (ago, at.itself, from.block_is))
               (steps - j) j (omega (arith, l));
           at = there.2;
         }
@@ -123,7 +120,7 @@ module _ (text : Words) (given : List ℕ) (entry : ℕ) (s0 : State) (is_text :
     at_load =
         let e : start + 0 ≡ start = omega arith in
         numbers_are_compared text given entry s0 is_text valid fetches holds begins among start k load
-        (subst (λ (i : ℕ). (run s0 i).ending ≡ None) e (way 0 (omega arith)).0) loading above below
+        (rw e at (way 0 (omega arith)).0) loading above below
 
     goes : GoesIntoTable text o.switch number (run s0 n)
     goes =
@@ -141,16 +138,14 @@ module _ (text : Words) (given : List ℕ) (entry : ℕ) (s0 : State) (is_text :
           loaded = (at_load.loads l).1;
           jumps = goes;
           to = to.0;
-          target = block_of.targets number goes.below ∙ ap (λ w. word_at text (slice_index text.words w)) (sym entry_is)
-              ∙ ap (word_at text) (sym goes.goes) ∙ to.1;
+          target = cc (block_of.targets number goes.below, entry_is, goes.goes, to.1);
           leads = to.1;
         }
       where
         entry_is : goes.entry ≡ block_of.table.begins + number
         entry_is =
             let here = word_at-some text o.switch.table.0 block_of.table.begins block_of.table.at in
-            let there = word_at-some text (o.switch.table.0 + 4 * number) goes.entry goes.is in
-            omega (arith, here.is, there.is)
+            omega (arith, here.is, (word_at-some text (o.switch.table.0 + 4 * number) goes.entry goes.is).is)
 
 pub jumps_go_by_table : JumpsGoByTable
 unfolding entered_of
@@ -162,9 +157,7 @@ jumps_go_by_table text given entry s0 is_text valid fetches holds begins among o
     let from = from_compare (run_of text given entry s0 is_text valid fetches holds begins) among n o.block
     o.approach.jump at.live at.outside at.itself jumps at.at in
     let same : from.switch ≡ o = opens_are_one text list entry from.switch o from.is is from.block_is in
-    subst (λ (x : Open). (l : LoadsEntry text x load) → x.approach.first ≤ load → load ≤ x.approach.jump
-    → GoesByTable text graph entry s0 x n load l)
-    same
+    rw same at
     (goes_by_table text given entry s0 is_text valid fetches holds begins among n o.block o.approach.jump load from at
     (ap (λ (x : Open). x.approach.jump) (sym same)))
     l above below

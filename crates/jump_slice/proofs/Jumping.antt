@@ -5,7 +5,6 @@ use Rattle.std.specs.List.{list_any}
 use Rattle.std.specs.Option.{is_some}
 use Rattle.std.proofs.lemmas.Bool.{false≢true}
 use Rattle.eel_base.specs.CodeText.{Words, word_at}
-use Rattle.v8_alu.specs.Conditions.{holds_of}
 use Rattle.v8_step.specs.declared.Slot.TheVariants.{NoSlot, Taken}
 use Rattle.v8_step.specs.State.{State, register_of}
 use Rattle.v8_step.specs.Run.{run}
@@ -62,8 +61,7 @@ module _ {text : Words} {given : List ℕ} {entry : ℕ} {opens : List Open} {s0
 
   -- from its own block it goes to a word of the table
   pub jump_goes : (n k : ℕ) → Tells r n (block k) → (run s0 (suc n)).ending ≡ None → jumps_in opens k ≡ true
-      → (run s0 n).slot ≡ NoSlot → (run s0 (suc n)).slot ≡ Taken
-      → IsTarget text opens (block k) (run s0 (suc n)).npc
+      → (run s0 n).slot ≡ NoSlot → (run s0 (suc n)).slot ≡ Taken → IsTarget text opens (block k) (run s0 (suc n)).npc
   jump_goes n k h live jumps slot taken = target (word_at text (run s0 (suc n)).npc) refl
     where
       c : Carries r n (block k)
@@ -84,10 +82,7 @@ module _ {text : Words} {given : List ℕ} {entry : ℕ} {opens : List Open} {s0
           (transfer_at text c.word (sets_transfer r n (block k) c (λ e. taken_not (sym taken ∙ e))))
 
       at_jump : c.word ≡ o.approach.jump
-      at_jump =
-          last
-          ∙ ap (last_word b.firsts b.words) (holds_word r n (block k) k h.matches slot refl c.word c.at c.low ∙ sym from.block_is)
-          ∙ sym a.jump
+      at_jump = cc (last, holds_word r n (block k) k h.matches slot refl c.word c.at c.low, from.block_is, a.jump)
 
       runs : Bool
       runs = runs_slot from.is.annul o.way
@@ -104,12 +99,12 @@ module _ {text : Words} {given : List ℕ} {entry : ℕ} {opens : List Open} {s0
       along : ComesAlong text o.approach from.is.cond from.is.annul o.way (run s0 m)
       along = record {
         compares = from.passed.compares;
-        goes = ap (λ (t : State). holds_of from.is.cond t.codes) (sym (run_add s0 m (to_branch o.approach))) ∙ from.passed.goes;
-        live = ap (λ (t : State). t.ending) (sym there) ∙ live_before (run s0 n) live;
+        goes = cc (run_add s0 m (to_branch o.approach), from.passed.goes);
+        live = cc (there, live_before (run s0 n) live);
       }
 
       goes : GoesIntoTable text o.switch (register_of (run s0 m) o.approach.compare.register) (run s0 n)
-      goes = subst (λ (t : State). GoesIntoTable text o.switch (register_of (run s0 m) o.approach.compare.register) t) (sym there) (held o from.is runs refl m along)
+      goes = rw there (held o from.is runs refl m along)
 
       target : (to : Option ℕ) → word_at text (run s0 (suc n)).npc ≡ to
           → IsTarget text opens (block k) (run s0 (suc n)).npc

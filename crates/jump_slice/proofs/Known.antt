@@ -1,5 +1,5 @@
 -- What is known of a run where its walk stands about open switches, and what a step carries out there.
-use Rattle.std.proofs.Common.{◌≡◌, ◌≢◌, ℕ, suc, ◌+◌, ◌-◌, ◌<◌, Bool, true, false, not, ◌&&◌, List, length, Option, Some, None, refl, ap, sym, ◌∙◌, subst, arith, slice_index}
+use Rattle.std.proofs.Common.{◌≡◌, ◌≢◌, ℕ, suc, ◌+◌, ◌-◌, ◌<◌, Bool, true, false, not, ◌&&◌, List, length, Option, Some, None, refl, ap, sym, ◌∙◌, arith, slice_index}
 use Rattle.std.specs.Prelude.{if◌then◌else◌, ◌==◌}
 use Rattle.std.specs.List.{Contains}
 use Rattle.std.proofs.lemmas.Bool.{and_parts, eqb-true, false≢true, lt-ltb}
@@ -55,7 +55,7 @@ compared_edge opens from kind to k e jumps = by (jumps_in opens to) refl (is_com
   where
     by : (x : Bool) → jumps_in opens to ≡ x → (y : Bool) → is_compared opens from kind to ≡ y
         → (if x && not y then copy to else block to) ≡ block k → is_compared opens from kind k ≡ true
-    by true f true g e = let same : to ≡ k = ap block_number e in subst (λ (n : ℕ). is_compared opens from kind n ≡ true) same g
+    by true f true g e = let same : to ≡ k = ap block_number e in rw same at g
     by true f false g e = absurd (cc)
     by false f y g e =
         let same : to ≡ k = ap block_number e in absurd (false≢true (sym f ∙ ap (jumps_in opens) same ∙ jumps))
@@ -155,11 +155,10 @@ module _ {text : Words} {given : List ℕ} {entry : ℕ} {opens : List Open} {s0
   heads_compared : (n w : ℕ) (from : Node) (kind : EdgeKind) → word_at text (run s0 n).pc ≡ Some w → w < b.words
       → IsHead w → Compared n (directed opens from kind (node_of b (Some w)))
   heads_compared n w from kind at l head o among is there v here behind =
-      let same : v ≡ w = same_some v w (sym here ∙ at) in
       let held : holding_of b w ≡ o.switch.compare.0 = homes there in
       let a = about text given entry r.is_text o is in
       let first : slice_index b.firsts o.switch.compare.0 ≡ w = ap (slice_index b.firsts) (sym held) ∙ head in
-      absurd (omega (arith, a.above))
+      absurd (omega (arith, same_some v w (sym here ∙ at), a.above))
     where
       homes : directed opens from kind (node_of b (Some w)) ≡ block o.switch.compare.0
           → holding_of b w ≡ o.switch.compare.0
@@ -181,8 +180,7 @@ module _ {text : Words} {given : List ℕ} {entry : ℕ} {opens : List Open} {s0
       let a = about text given entry r.is_text way.o way.is in
       let held : holding_of b w ≡ k =
       ap block_number (sym (home_directed opens from kind (block (holding_of b w))) ∙ ap home_of e) in
-      let first : way.o.approach.first ≡ v =
-      a.first ∙ ap (slice_index b.firsts) (way.block_is ∙ sym held) ∙ head ∙ sym same in
+      let first : way.o.approach.first ≡ v = cc (a.first, way.block_is, held, head, same) in
       let p = passed way.o way.among way.is way.from_is way.kind_is in
       record {
         switch = way.o;
@@ -212,7 +210,7 @@ module _ {text : Words} {given : List ℕ} {entry : ℕ} {opens : List Open} {s0
           some_none e = absurd (cc)
       by (Some w) e =
           let low = first w e in
-          subst (λ (m : Node). Compared n m × Passed n m) (sym (is ∙ ap (λ x. directed opens from kind (node_of b x)) e)) (
+          rw (is ∙ ap (λ x. directed opens from kind (node_of b x)) e) (
             heads_compared n w from kind e low.0 low.1,
             heads_passed n w from kind e low.0 low.1 passed,
           )
@@ -235,7 +233,7 @@ module _ {text : Words} {given : List ℕ} {entry : ℕ} {opens : List Open} {s0
         word = here.0;
         is = here.1;
         low = omega (arith, here.1.within, parts.words);
-        at = ap (word_at text) here.1.is ∙ word_at-address text here.0 ∙ within_is here.0 here.1.within;
+        at = cc (here.1.is, word_at-address text here.0, within_is here.0 here.1.within);
         acts = acts;
         acted = ap (λ (t : State). t.ending) (sym acts) ∙ live;
       }
@@ -247,14 +245,12 @@ module _ {text : Words} {given : List ℕ} {entry : ℕ} {opens : List Open} {s0
   pub holds_word : (n : ℕ) (node : Node) (k : ℕ) → Matches text graph node (point_of (run s0 n)) → (run s0 n).slot ≡ NoSlot
       → home_of node ≡ block k → (w : ℕ) → word_at text (run s0 n).pc ≡ Some w → w < b.words → holding_of b w ≡ k
   holds_word n node k m slot home w at low =
-      let matched : MatchesBy text graph node (point_of (run s0 n)) NoSlot =
-      subst (λ (x : Slot). MatchesBy text graph node (point_of (run s0 n)) x) slot m in
-      let e : block (holding_of b w) ≡ block k =
-      sym (matched.0 ∙ ap (node_of b) at ∙ node_is b w low) ∙ home in
+      let matched : MatchesBy text graph node (point_of (run s0 n)) NoSlot = rw slot at m in
+      let e : block (holding_of b w) ≡ block k = sym (matched.0 ∙ ap (node_of b) at ∙ node_is b w low) ∙ home in
       ap block_number e
 
   pub known_outside : (n : ℕ) (node : Node) → Tells n node → (run s0 n).slot ≡ NoSlot → Compared n node × Passed n node
-  known_outside n node h slot = subst (λ (x : Slot). KnownBy n node x) slot h.known
+  known_outside n node h slot = rw slot at h.known
 
   -- a step that sets a slot carries out a transfer
   pub sets_transfer : (n : ℕ) (node : Node) (c : Carries n node) → (run s0 (suc n)).slot ≢ NoSlot
@@ -263,5 +259,4 @@ module _ {text : Words} {given : List ℕ} {entry : ℕ} {opens : List Open} {s0
     where
       by : (t : Bool) → transfers (word_instr text c.word) ≡ t → transfers (word_instr text c.word) ≡ true
       by true e = e
-      by false e =
-          absurd (sets (ap (λ (t : State). t.slot) c.acts ∙ (goes_act (run s0 n) (word_instr text c.word) e c.acted).2))
+      by false e = absurd (sets (cc (c.acts, (goes_act (run s0 n) (word_instr text c.word) e c.acted).2)))

@@ -1,5 +1,5 @@
 -- An open switch's jump goes to an entry that an LD of its own block loads.
-use Rattle.std.proofs.Common.{◌≡◌, ◌≢◌, ℕ, zero, suc, ◌+◌, ◌-◌, ◌<◌, ◌≤◌, true, false, List, [], ◌∷◌, map, slice_set, refl, ap, sym, ◌∙◌, subst, arith, inl, inr}
+use Rattle.std.proofs.Common.{◌≡◌, ◌≢◌, ℕ, zero, suc, ◌+◌, ◌-◌, ◌<◌, ◌≤◌, true, false, List, [], ◌∷◌, map, slice_set, refl, ap, sym, ◌∙◌, arith, inl, inr}
 use Rattle.std.specs.Prelude.{◌==◌, ◌⊎◌, slice_index_or}
 use Rattle.std.proofs.lemmas.Bool.{cond_both, false≢true}
 use Rattle.eel_base.specs.CodeText.{Words}
@@ -214,8 +214,7 @@ module _ (P : ℕ → Type 0) where
   has_operand us (o.Imm n) h = tt
 
   has_sum : (us : List Value) (rs1 : ℕ) (op2 : Op2) → AllHave us → Has (sum_in us rs1 op2)
-  has_sum us rs1 op2 h =
-      has_plus (value_in us rs1) (operand_in us op2) (has_value us rs1 h) (has_operand us op2 h)
+  has_sum us rs1 op2 h = has_plus (value_in us rs1) (operand_in us op2) (has_value us rs1 h) (has_operand us op2 h)
 
   has_none : (n : ℕ) → AllHave (unknown n)
   has_none zero = tt
@@ -268,8 +267,7 @@ have_origin : (text : Words) (us : List Value) (from count n : ℕ) → n ≤ co
 have_origin text us from count zero l h = h
 have_origin text us from count (suc n) l h =
     has_after (Origin text us from count) (followed text us from n) (instr_at text (from + n))
-    (have_origin text us from count n (omega arith) h)
-    (λ rd rs1 op2 is c place.
+    (have_origin text us from count n (omega arith) h) (λ rd rs1 op2 is c place.
     record { word = n; below = omega arith; rd = rd; rs1 = rs1; op2 = op2; is = is; place = place })
 
 none_unloaded : (P : ℕ → Type 0) (v : Value) → Has P (unloaded v)
@@ -340,14 +338,11 @@ has_load text o here jumps = record {
     same =
         same_entry entry.0 o.switch.table.0
         (sym (sum_known text us vs a.first steps jumps.rs1 jumps.op2 (Entry entry.0) (less_unloaded vs) entry.1
-        (λ e. absurd (cc)))
-        ∙ jumps.sum)
+        (λ e. absurd (cc))) ∙ jumps.sum)
 
     from : Origin text us a.first steps o.switch.table.0
     from =
-        subst (λ (c : ℕ). Origin text us a.first steps c) same
-        (subst (λ (v : Value). Has (Origin text us a.first steps) v) entry.1
-        (has_sum (Origin text us a.first steps) (loaded_here text a) jumps.rs1 jumps.op2
+        rw same at (rw entry.1 at (has_sum (Origin text us a.first steps) (loaded_here text a) jumps.rs1 jumps.op2
         (have_origin text us a.first steps steps (omega arith)
         (each-map (Has (Origin text us a.first steps)) unloaded vs
         (each (λ v. Has (Origin text us a.first steps) (unloaded v)) vs

@@ -1,6 +1,5 @@
 -- The number that was compared is that of the entry where the jump goes.
-use Rattle.std.proofs.Common.{◌≡◌, ℕ, ◌+◌, ◌*◌, ◌<◌, ◌≤◌, Bool, List, Option, Some, None, ap, sym, ◌∙◌, subst, arith}
-use Rattle.std.specs.Prelude.{slice_index_or}
+use Rattle.std.proofs.Common.{◌≡◌, ℕ, ◌+◌, ◌*◌, ◌<◌, ◌≤◌, Bool, List, Option, Some, None, ap, sym, ◌∙◌, arith}
 use Rattle.eel_base.specs.declared.numbers.BlockNo.{BlockNo}
 use Rattle.v8_decode.specs.declared.LoadKind.TheVariants as loads
 use Rattle.v8_alu.specs.Conditions.{holds_of}
@@ -13,9 +12,9 @@ use Rattle.cfg_blocks.specs.declared.Into.TheVariants as into
 use Rattle.cfg_blocks.specs.declared.switches.Approach.{Approach}
 use Rattle.cfg_blocks.specs.declared.switches.Switch.{Switch}
 use Rattle.eel_base.specs.declared.numbers.WordNo.{WordNo}
-use Rattle.cfg_blocks.specs.Blocks.{blocks_of, end_of}
+use Rattle.cfg_blocks.specs.Blocks.{blocks_of}
 use Rattle.cfg_blocks.specs.Entries.{entered_of}
-use Rattle.cfg_blocks.specs.Switches.{approach_of, compare_of, is_taken, runs_slot, switch_of}
+use Rattle.cfg_blocks.specs.Switches.{is_taken, runs_slot, switch_of}
 use Rattle.cfg_normal.specs.Opens.{Open, targets_of}
 use Rattle.jump_slice.specs.Cases.{IsOpen, LoadsEntry, NumbersAreCompared, OpensAreOne, approach_to}
 use Rattle.jump_slice.specs.Runs.{GoesIntoTable, to_branch, to_jump}
@@ -66,15 +65,13 @@ numbers_are_compared text given entry s0 is_text valid fetches holds begins amon
 
     both : Ready text o.approach is.cond is.annul o.way s × IsJump text o.approach o.switch.compare.0 o.switch
     both =
-        subst (λ (k : Approach). Ready text k is.cond is.annul o.way s × IsJump text k o.switch.compare.0 o.switch)
-        (sym is.approach)
+        rw (← is.approach) at
         (ready text given entry o.block o.switch is.is_switch o.switch.compare o.way is.cond is.annul o.approach.compare
         is.parts s0 entry m is_text valid fetches holds begins
         (lived_to s 0 (to_jump (approach_to o word) runs) (omega arith) live_there) from.passed.compares)
 
     goes_way : holds_of is.cond (run s (to_branch o.approach)).codes ≡ is_taken o.way
-    goes_way =
-        ap (λ (t : State). holds_of is.cond t.codes) (sym (run_add s0 m (to_branch o.approach))) ∙ from.passed.goes
+    goes_way = cc (run_add s0 m (to_branch o.approach), from.passed.goes)
 
     here : Ready text (approach_to o word) is.cond is.annul o.way s
     here = up_to text o.approach is.cond is.annul o.way s word both.0 above below
@@ -89,11 +86,10 @@ numbers_are_compared text given entry s0 is_text valid fetches holds begins amon
     goes : word ≡ o.switch.jump.0 → GoesIntoTable text o.switch x (run s0 n)
     goes at =
         let r = both.0 in
-        let jump : word ≡ o.approach.jump = at ∙ both.1.at in
-        let e : n ≡ m + to_jump o.approach runs = omega (arith, from.passed.ago, a.slot, jump) in
+        let e : n ≡ m + to_jump o.approach runs = omega (arith, from.passed.ago, a.slot, at ∙ both.1.at) in
         let arrives : run s0 n ≡ run s (to_jump o.approach runs) =
         ap (run s0) e ∙ run_add s0 m (to_jump o.approach runs) in
-        subst (λ (t : State). GoesIntoTable text o.switch x t) (sym arrives)
+        rw arrives
         (whole text is_text s r.valid r.fetches r.holds o.approach is.cond is.annul o.way r.disp r.at r.ordered r.last_low
         r.branch r.other goes_way r.compared r.slot r.leads r.behind r.jump_low r.jumping
         (ap (λ (t : State). t.ending) (sym arrives) ∙ live) o.switch.compare.0 o.switch both.1 r.bounded r.is_compare
@@ -116,35 +112,18 @@ open_with switch block way approach targets =
 
 pub opens_are_one : OpensAreOne
 opens_are_one text list entry one other p q block =
-    let switch : one.switch ≡ other.switch =
-    same_some one.switch other.switch
+    let switch : one.switch ≡ other.switch = same_some one.switch other.switch
     (sym p.is_switch ∙ ap (switch_of text list entry) block ∙ q.is_switch) in
     let from : one.switch.compare ≡ other.switch.compare = ap (λ (w : Switch). w.compare) switch in
-    let way : one.way ≡ other.way =
-    same_way one.switch.compare other.switch.compare one.way other.way
-    (sym p.parts.edge ∙ ap (λ k. slice_index_or list.intos k into.Nothing) block ∙ q.parts.edge) in
-    let annul : p.annul ≡ q.annul =
-    same_annul p.cond q.cond p.annul q.annul p.parts.target q.parts.target
-    (sym p.parts.branch ∙ ap (λ (n : BlockNo). end_of list.blocks n.0) from ∙ q.parts.branch) in
+    let way : one.way ≡ other.way = same_way one.switch.compare other.switch.compare one.way other.way
+    (cc (p.parts.edge, block, q.parts.edge)) in
+    let annul : p.annul ≡ q.annul = same_annul p.cond q.cond p.annul q.annul p.parts.target q.parts.target
+    (cc (p.parts.branch, from, q.parts.branch)) in
     let compare : one.approach.compare ≡ other.approach.compare =
-    same_some one.approach.compare other.approach.compare
-    (sym p.parts.sets ∙ ap (λ (n : BlockNo). compare_of text list.blocks n.0) from ∙ q.parts.sets) in
-    let approach : one.approach ≡ other.approach =
-    p.approach
-    ∙ ap (λ k. approach_of text list.blocks k one.switch.compare.0 p.annul one.way one.approach.compare) block
-    ∙ ap (λ (n : BlockNo). approach_of text list.blocks other.block n.0 p.annul one.way one.approach.compare) from
-    ∙ ap (λ x. approach_of text list.blocks other.block other.switch.compare.0 x one.way one.approach.compare) annul
-    ∙ ap (λ x. approach_of text list.blocks other.block other.switch.compare.0 q.annul x one.approach.compare) way
-    ∙ ap (approach_of text list.blocks other.block other.switch.compare.0 q.annul other.way) compare
-    ∙ sym q.approach in
-    let targets : one.targets ≡ other.targets = p.targets ∙ ap (targets_of text) switch ∙ sym q.targets in
-    made switch block way approach targets
+    same_some one.approach.compare other.approach.compare (cc (p.parts.sets, from, q.parts.sets)) in
+    let approach : one.approach ≡ other.approach = cc (p.approach, block, from, annul, way, compare, q.approach) in
+    made switch block way approach (p.targets ∙ ap (targets_of text) switch ∙ sym q.targets)
   where
     made : one.switch ≡ other.switch → one.block ≡ other.block → one.way ≡ other.way → one.approach ≡ other.approach
         → one.targets ≡ other.targets → one ≡ other
-    made a b c d e =
-        ap (λ x. open_with x one.block one.way one.approach (one.targets)) a
-        ∙ ap (λ x. open_with other.switch x one.way one.approach (one.targets)) b
-        ∙ ap (λ x. open_with other.switch other.block x one.approach (one.targets)) c
-        ∙ ap (λ x. open_with other.switch other.block other.way x (one.targets)) d
-        ∙ ap (λ x. open_with other.switch other.block other.way other.approach (x)) e
+    made a b c d e = rw (a, b, c, d, e)

@@ -1,5 +1,5 @@
 -- What is known of each open switch of a text.
-use Rattle.std.proofs.Common.{◌≡◌, ℕ, suc, ◌+◌, ◌<◌, Bool, true, false, not, ◌&&◌, ◌||◌, nat_lt, List, [], ◌∷◌, ◌++◌, length, Option, Some, None, refl, ap, sym, ◌∙◌, subst, arith, slice_index}
+use Rattle.std.proofs.Common.{◌≡◌, ℕ, suc, ◌+◌, ◌<◌, Bool, true, false, not, ◌&&◌, ◌||◌, nat_lt, List, [], ◌∷◌, ◌++◌, length, Option, Some, None, refl, ap, sym, ◌∙◌, arith, slice_index}
 use Rattle.std.specs.Prelude.{if◌then◌else◌, ◌==◌, slice_index_or}
 use Rattle.std.specs.List.{Contains, list_any}
 use Rattle.std.specs.Option.{option_to_list}
@@ -19,7 +19,7 @@ use Rattle.cfg_blocks.specs.declared.switches.Switch.{Switch}
 use Rattle.cfg_blocks.specs.Blocks.{Blocks, below, blocks_of, end_of, holding_of, last_word}
 use Rattle.cfg_blocks.specs.Entries.{Entered, entered_of}
 use Rattle.cfg_blocks.specs.Switches.{approach_of, compare_of, switch_of, switches_of}
-use Rattle.cfg_normal.specs.Opens.{Open, candidate, candidate_behind, candidate_into, candidate_on, is_candidate, is_closed, loads_here, opened, opens_of, targets_of, with_switch}
+use Rattle.cfg_normal.specs.Opens.{Open, candidate, is_candidate, is_closed, loads_here, opened, opens_of, targets_of, with_switch}
 use Rattle.cfg_walk.specs.Matches.{AreOpen}
 use Rattle.cfg_walk.proofs.Cut.{cut}
 use Rattle.cfg_walk.proofs.Holding.{is_held, some_words}
@@ -59,7 +59,7 @@ by_named text a from (Entry c) switch h =
     let parts = if_some (is_table text c (a.compare.limit + 1)) _ switch h in
     let made : Switch = record { jump = record { 0 = a.jump }; compare = record { 0 = from }; table = record { 0 = c }; count = a.compare.limit + 1 } in
     let same : made ≡ switch = cc in
-    subst (λ (w : Switch). Named a from w) same (refl, refl)
+    rw (← same) (refl, refl)
 by_named text a from Unknown switch h = absurd (cc)
 by_named text a from (Const c) switch h = absurd (cc)
 by_named text a from Index switch h = absurd (cc)
@@ -134,7 +134,7 @@ candidate_is : (text : Words) (list : Entered) (entry block : ℕ) (switch : Swi
     → Found text list block switch → Each (IsOpen text list entry) (candidate text list switch)
 unfolding candidate
 candidate_is text list entry block switch held is f =
-    subst (λ (os : List Open). Each (IsOpen text list entry) os) (sym made)
+    rw made
     (cond_both (is_candidate text a) (o ∷ []) [] (Each (IsOpen text list entry)) (λ h. (opens h, tt)) (λ _. tt))
   where
     b : Blocks
@@ -148,12 +148,7 @@ candidate_is text list entry block switch held is f =
 
     made : candidate text list switch ≡ (if is_candidate text a then o ∷ [] else [])
     made =
-        ap (λ k. candidate_into text list.blocks switch k (slice_index_or list.intos k into.Nothing)) held
-        ∙ ap (candidate_into text list.blocks switch block) f.edge
-        ∙ ap (λ t. if t then candidate_behind text list.blocks switch block f.from.0 f.way (end_of list.blocks f.from.0) else [])
-        (eq-eqb switch.compare.0 f.from.0 (ap (λ (n : BlockNo). n.0) f.compare_is))
-        ∙ ap (candidate_behind text list.blocks switch block f.from.0 f.way) f.branch
-        ∙ ap (candidate_on text list.blocks switch block f.from.0 f.way f.annul) f.sets
+        cc (held, f.edge, eq-eqb switch.compare.0 f.from.0 (ap (λ (n : BlockNo). n.0) f.compare_is), f.branch, f.sets)
 
     opens : is_candidate text a ≡ true → IsOpen text list entry o
     opens h =
@@ -167,7 +162,7 @@ candidate_is text list entry block switch held is f =
             target = f.target;
             edge = f.edge ∙ ap (λ (n : BlockNo). into.One n f.way) (sym f.compare_is);
             branch = ap (λ (n : BlockNo). end_of list.blocks n.0) f.compare_is ∙ f.branch;
-            sets = ap (λ (n : BlockNo). compare_of text list.blocks n.0) f.compare_is ∙ f.sets;
+            sets = cc (f.compare_is, f.sets);
           };
           approach = ap (λ (n : BlockNo). approach_of text list.blocks block n.0 f.annul f.way f.compare) (sym f.compare_is);
           loads = two.0;
@@ -211,7 +206,7 @@ module _ (text : Words) (list : Entered) (entry : ℕ) where
   are_open opens h block jumps =
       let o = open_found opens h (λ (o : Open). o.block == block) jumps in
       let found = found_in text list o.0.block o.0.switch entry o.3.is_switch in
-      ap (λ k. is_jump (end_of list.blocks k)) (sym (eqb-true o.0.block block o.2)) ∙ found.1
+      cc (eqb-true o.0.block block o.2, found.1)
 
 pub opens_are : (text : Words) (given : List ℕ) (entry : ℕ) → IsText text
     → let list = entered_of text given in
@@ -235,9 +230,12 @@ opens_are text given entry is =
         let b = blocks_of text given in
         let c = cut text given is.some in
         let found = found_in text (entered_of text given) block switch entry e in
-        let some = some_words b.words b.firsts c.firsts block l in
         let jump : switch.jump.0 ≡ last_word b.firsts b.words block = found.0.jump_is in
-        let held : holding_of b switch.jump.0 ≡ block =
-        is_held b.words b.firsts c.firsts switch.jump.0 block
-        (record { within = l; above = omega arith; below = omega arith }) in
+        let held : holding_of b switch.jump.0 ≡ block = is_held b.words b.firsts c.firsts switch.jump.0 block
+        (record {
+          within = l;
+          above = omega (arith, some_words b.words b.firsts c.firsts block l);
+          below = omega
+              (arith, some_words b.words b.firsts c.firsts block l);
+        }) in
         (candidate_is text (entered_of text given) entry block switch held e found.0, tt)

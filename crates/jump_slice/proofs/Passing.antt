@@ -1,12 +1,10 @@
 -- What is known in a slot, and where the walk comes out of one.
-use Rattle.std.proofs.Common.{◌≡◌, ◌≢◌, ℕ, zero, suc, ◌+◌, ◌-◌, ◌<◌, Bool, true, false, ◌&&◌, ◌||◌, nat_lt, List, [], ◌∷◌, Option, Some, None, refl, ap, sym, ◌∙◌, subst, arith, slice_index, inl, inr}
+use Rattle.std.proofs.Common.{◌≡◌, ◌≢◌, ℕ, zero, suc, ◌+◌, ◌-◌, ◌<◌, Bool, true, false, ◌&&◌, ◌||◌, nat_lt, List, [], ◌∷◌, Some, None, refl, ap, sym, ◌∙◌, subst, arith, slice_index, inl, inr}
 use Rattle.std.specs.Prelude.{if◌then◌else◌, ◌==◌}
 use Rattle.std.specs.List.{Contains, list_any}
-use Rattle.std.specs.Option.{option_map}
 use Rattle.std.proofs.lemmas.Bool.{and_from, eq-eqb, false≢true, lt-ltb, or_left, or_right}
 use Rattle.eel_base.specs.CodeText.{Words, word_at}
 use Rattle.v8_decode.specs.declared.Instr.TheVariants as i
-use Rattle.v8_decode.specs.Words.{decode_of}
 use Rattle.v8_alu.specs.Conditions.{holds_of}
 use Rattle.v8_step.specs.declared.Slot.{Slot}
 use Rattle.v8_step.specs.declared.Slot.TheVariants.{NoSlot}
@@ -25,7 +23,7 @@ use Rattle.cfg_normal.specs.declared.Node.{Node}
 use Rattle.cfg_normal.specs.declared.Node.TheVariants.{X}
 use Rattle.cfg_normal.specs.Nodes.{home_of}
 use Rattle.cfg_normal.specs.Opens.{Open, is_behind, jumps_in}
-use Rattle.cfg_normal.specs.Graph.{Graph, directed, graph_of, lands_of, node_of}
+use Rattle.cfg_normal.specs.Graph.{Graph, graph_of, lands_of, node_of}
 use Rattle.cfg_walk.specs.Walk.{slot_left, instr_at, node_after, point_of, same_kind, way_of}
 use Rattle.cfg_walk.specs.Matches.{Begins, IsOnItsWay, MatchesBy}
 use Rattle.cfg_walk.proofs.Cut.{IsCut, cut}
@@ -71,7 +69,7 @@ module _ {text : Words} {given : List ℕ} {entry : ℕ} {opens : List Open} {s0
       moment = before.moment;
       ago = omega (arith, before.ago, at_last, a.below);
       compares = before.compares;
-      goes = ap (λ k. holds_of is.cond (run s0 k).codes) back ∙ told.0 ∙ ap is_taken kind;
+      goes = cc (back, told.0, kind);
     },
     sym (ap (runs_slot is.annul) kind) ∙ told.1,
   )
@@ -108,11 +106,10 @@ module _ {text : Words} {given : List ℕ} {entry : ℕ} {opens : List Open} {s0
 
       -- the word before the slot
       previous : instr_at text ((run s0 (suc n)).pc - 4) ≡ Some (i.Branch is.cond is.annul a.disp)
-      previous =
-          ap (instr_at text) pc_back ∙ ap (option_map (λ w. decode_of (slice_index text.words w))) c.at ∙ ap Some instr
+      previous = cc (pc_back, c.at, instr)
         where
           matched : MatchesBy text graph node (point_of (run s0 n)) NoSlot
-          matched = subst (λ (x : Slot). MatchesBy text graph node (point_of (run s0 n)) x) slot h.matches
+          matched = rw slot at h.matches
 
           pc_next : (run s0 (suc n)).pc ≡ (run s0 n).npc
           pc_next =
@@ -143,8 +140,7 @@ module _ {text : Words} {given : List ℕ} {entry : ℕ} {opens : List Open} {s0
               → (if x then (if y then copy (holding_of b w) else block (holding_of b w)) else X) ≡ block k
               → (jumps_in opens k || is_behind opens k w) ≡ false
           by true true f e = absurd (cc)
-          by true false f e =
-              ap (λ j. jumps_in opens j || is_behind opens j w) (sym (ap block_number e)) ∙ f
+          by true false f e = rw (← (ap block_number e), f)
           by false y f e = absurd (cc)
 
       compared : Compared r n node
@@ -186,27 +182,21 @@ module _ {text : Words} {given : List ℕ} {entry : ℕ} {opens : List Open} {s0
           ∙ ap (λ a. lands_of b opens (word_at text a)) (sym pc))
       by false e =
           let leads = h.leads e in
-          heads r (suc n) next node way
-          (ap (λ a. node_after graph node (slot_left text graph node way a)) pc
-          ∙ way_leads text b opens parts node (point_of (run s0 n)) way h e
-          ∙ ap (λ a. directed opens node way (node_of b (word_at text a))) (sym pc))
+          heads r (suc n) next node way (cc (pc, way_leads text b opens parts node (point_of (run s0 n)) way h e))
           (λ w here.
           let there : word_at text (run s0 n).npc ≡ Some w = ap (word_at text) (sym pc) ∙ here in
-          let is = word_at-some text (run s0 n).npc w there in
-          let low : w < b.words = omega (arith, is.within, parts.words) in (
+          let low : w < b.words = omega (arith, (word_at-some text (run s0 n).npc w there).within, parts.words) in (
             low,
             begun_head h.edge.to (holding_of b w) w
                 (ap home_of leads.1 ∙ home_directed opens node way (node_of b (word_at text (run s0 n).npc))
                 ∙ home_of_node b (word_at text (run s0 n).npc) ∙ ap (node_of b) there ∙ node_is b w low)
-                (subst (λ (x : Option ℕ). Begins graph h.edge.to x) there leads.0),
-          ))
-          (λ o among is from kind.
+                (rw there at leads.0),
+          )) (λ o among is from kind.
           let p = passing o among is from kind in
           let a = about text given entry r.is_text o is in
-          let one : o.approach.slot ≡ 1 = a.slot ∙ ap (λ (x : Bool). if x then 1 else 0) p.1 in
           record {
             moment = p.0.moment;
-            ago = omega (arith, p.0.ago, one);
+            ago = omega (arith, p.0.ago, a.slot ∙ ap (λ (x : Bool). if x then 1 else 0) p.1);
             compares = p.0.compares;
             goes = p.0.goes;
           })

@@ -4,8 +4,6 @@ use Rattle.std.specs.Prelude.{if◌then◌else◌, ◌==◌, ℤ}
 use Rattle.std.proofs.lemmas.Bool.{cases_lt, eqb-true, false≢true}
 use Rattle.eel_base.specs.CodeText.{Words, address_of, word_at}
 use Rattle.v8_decode.specs.declared.Instr.TheVariants as i
-use Rattle.v8_alu.specs.Conditions.{holds_of}
-use Rattle.v8_step.specs.declared.Slot.{Slot}
 use Rattle.v8_step.specs.declared.Slot.TheVariants.{NoSlot}
 use Rattle.v8_step.specs.State.{State}
 use Rattle.v8_step.specs.Run.{run}
@@ -14,7 +12,7 @@ use Rattle.cfg_blocks.specs.declared.EdgeKind.{EdgeKind}
 use Rattle.cfg_blocks.specs.declared.EdgeKind.TheVariants as kinds
 use Rattle.cfg_blocks.specs.Blocks.{Blocks, blocks_of, holding_of, last_word}
 use Rattle.cfg_blocks.specs.Entries.{Entered, entered_of}
-use Rattle.cfg_blocks.specs.Switches.{bounds, is_taken, runs_slot}
+use Rattle.cfg_blocks.specs.Switches.{bounds}
 use Rattle.cfg_blocks.specs.Values.{instr_at as word_instr}
 use Rattle.cfg_normal.specs.declared.Node.{Node}
 use Rattle.cfg_normal.specs.Nodes.{home_of}
@@ -79,8 +77,7 @@ module _ {text : Words} {given : List ℕ} {entry : ℕ} {opens : List Open} {s0
     }
     | inr m ↦
         let end = ends_at_words b.words b.firsts parts.firsts k m in
-        let some = some_words b.words b.firsts parts.firsts k within in
-        absurd (omega (arith, last, some, end, more))
+        absurd (omega (arith, last, some_words b.words b.firsts parts.firsts k within, end, more))
   ]
 
   -- a word that is no transfer
@@ -93,7 +90,7 @@ module _ {text : Words} {given : List ℕ} {entry : ℕ} {opens : List Open} {s0
       k = holding_of b c.word
 
       matched : MatchesBy text graph node (point_of (run s0 n)) NoSlot
-      matched = subst (λ (x : Slot). MatchesBy text graph node (point_of (run s0 n)) x) slot h.matches
+      matched = rw slot at h.matches
 
       home : home_of node ≡ block k
       home = matched.0 ∙ ap (node_of b) c.at ∙ node_is b c.word c.low
@@ -127,16 +124,14 @@ module _ {text : Words} {given : List ℕ} {entry : ℕ} {opens : List Open} {s0
           ∙ ap (λ o. directed opens node kinds.Fall (node_of b o)) (sym next))
           (λ w here.
           let at = within_some b.words (c.word + 1) w (sym next ∙ here) in (
-            subst (λ (x : ℕ). x < b.words) at.1 at.0,
+            rw at.1 at at.0,
             first_held b.words b.firsts parts.firsts w
-                (subst (λ (x : ℕ). Leads b.firsts x) at.1 (next_leads k c.word c.low last inside.within at.0)),
-          ))
-          (λ o among is from kind.
+                (rw at.1 at (next_leads k c.word c.low last inside.within at.0)),
+          )) (λ o among is from kind.
           absurd (bounded_fall is.cond o.way (ap (same_kind kinds.Fall) (sym kind)) (about text given entry r.is_text o is).bounded))
       by false e =
-          let stays : Left n node ≡ node =
-          left_is ∙ ap (λ (x : Bool). node_after graph node (if x then edge_from graph node kinds.Fall else [])) e in
-          subst (λ (m : Node). Compared r (suc n) m × Passed r (suc n) m) (sym stays) (compared, passed)
+          let stays : Left n node ≡ node = cc (left_is, e) in
+          rw stays (compared, passed)
         where
           known : Compared r n node × Passed r n node
           known = known_outside r n node h slot
@@ -170,7 +165,6 @@ module _ {text : Words} {given : List ℕ} {entry : ℕ} {opens : List Open} {s0
               let held : k ≡ j = holds_word r n node j h.matches slot (ap home_of there) c.word c.at c.low in
               let first : p.switch.approach.first ≡ slice_index b.firsts k =
               a.first ∙ ap (slice_index b.firsts) (p.block_is ∙ sym held) in
-              let f = follows w here in
               record {
                 switch = p.switch;
                 among = p.among;
@@ -178,7 +172,7 @@ module _ {text : Words} {given : List ℕ} {entry : ℕ} {opens : List Open} {s0
                 block_is = p.block_is;
                 passed = record {
                   moment = p.passed.moment;
-                  ago = let e = p.passed.ago in let above = inside.above in omega arith;
+                  ago = let e = p.passed.ago in let above = inside.above in omega (arith, follows w here);
                   compares = p.passed.compares;
                   goes = p.passed.goes;
                 };
@@ -192,7 +186,7 @@ module _ {text : Words} {given : List ℕ} {entry : ℕ} {opens : List Open} {s0
   annulled_knows n node h live slot c cond disp instr went = by went
     where
       matched : MatchesBy text graph node (point_of (run s0 n)) NoSlot
-      matched = subst (λ (x : Slot). MatchesBy text graph node (point_of (run s0 n)) x) slot h.matches
+      matched = rw slot at h.matches
 
       stands : Stands text b opens node (point_of (run s0 n)) c.word (i.Branch cond true disp)
       stands = record {
@@ -219,8 +213,7 @@ module _ {text : Words} {given : List ℕ} {entry : ℕ} {opens : List Open} {s0
 
       conds : (o : Open) (is : IsOpen text list entry o) → node ≡ block o.switch.compare.0
           → i.Branch is.cond is.annul (about text given entry r.is_text o is).disp ≡ i.Branch cond true disp
-      conds o is from =
-          sym (about text given entry r.is_text o is).branch ∙ ap (word_instr text) (sym (at_last o is from)) ∙ instr
+      conds o is from = cc ((about text given entry r.is_text o is).branch, at_last o is from, instr)
 
       first : LeadsIfThere b (word_at text (run s0 (suc n)).pc) → (w : ℕ) → word_at text (run s0 (suc n)).pc ≡ Some w
           → (w < b.words) × IsHead r w
@@ -231,29 +224,22 @@ module _ {text : Words} {given : List ℕ} {entry : ℕ} {opens : List Open} {s0
           → Compared r (suc n) (Left n node) × Passed r (suc n) (Left n node)
       by (inl (holds, always, pc)) =
           let to = always_goes cond true disp (run s0 n).codes stands after holds always pc in
-          heads r (suc n) (Left n node) node kinds.Taken to.0 (first to.1)
-          (λ o among is from kind.
-          let a = about text given entry r.is_text o is in
-          let not_always = (is_conditional is.cond o.way a.bounded).0 in
-          absurd (false≢true (sym not_always ∙ ap (λ x. x == 8) (cond_of (conds o is from)) ∙ always)))
+          heads r (suc n) (Left n node) node kinds.Taken to.0 (first to.1) (λ o among is from kind.
+          let not_always = (is_conditional is.cond o.way (about text given entry r.is_text o is).bounded).0 in
+          absurd (false≢true (cc (not_always, cond_of (conds o is from), always))))
       by (inr (holds, pc)) =
           let to = untaken_goes cond true disp (run s0 n).codes stands after holds pc in
-          heads r (suc n) (Left n node) node kinds.Untaken to.0 (first to.1)
-          (λ o among is from kind.
+          heads r (suc n) (Left n node) node kinds.Untaken to.0 (first to.1) (λ o among is from kind.
           let a = about text given entry r.is_text o is in
           let last = at_last o is from in
-          let low = a.below in
-          let p = (known_outside r n node h slot).0 o among is from c.word c.at (omega (arith, low, last)) in
-          let none : o.approach.slot ≡ 0 =
-          a.slot ∙ ap (λ (x : Bool). if runs_slot x o.way then 1 else 0) (annul_of (conds o is from))
-          ∙ ap (λ (k : EdgeKind). if runs_slot true k then 1 else 0) (sym kind) in
+          let p = (known_outside r n node h slot).0 o among is from c.word c.at (omega (arith, a.below, last)) in
+          let none : o.approach.slot ≡ 0 = cc (a.slot, annul_of (conds o is from), kind) in
           let back : p.moment + to_branch o.approach ≡ n = let e = p.ago in omega arith in
           record {
             moment = p.moment;
             ago = let e = p.ago in omega arith;
             compares = p.compares;
-            goes = ap (λ k. holds_of is.cond (run s0 k).codes) back
-                ∙ ap (λ k. holds_of k (run s0 n).codes) (cond_of (conds o is from)) ∙ holds ∙ ap is_taken kind;
+            goes = cc (back, cond_of (conds o is from), holds, kind);
           })
 
   pub quiet_knows : (n : ℕ) (node : Node) → Tells r n node → (run s0 (suc n)).ending ≡ None → (run s0 n).slot ≡ NoSlot

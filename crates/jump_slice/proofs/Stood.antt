@@ -12,7 +12,6 @@ use Rattle.v8_step.specs.State.{State}
 use Rattle.v8_step.specs.Items.{is_transfer}
 use Rattle.v8_step.specs.Run.{run}
 use Rattle.cfg_blocks.specs.declared.EdgeKind.TheVariants as kinds
-use Rattle.cfg_blocks.specs.declared.switches.Approach.{Approach}
 use Rattle.cfg_blocks.specs.Blocks.{Blocks, below, blocks_of, holding_of, is_among, last_word}
 use Rattle.cfg_blocks.specs.Ends.{within}
 use Rattle.cfg_blocks.specs.Entries.{entered_of}
@@ -99,15 +98,13 @@ module _ {text : Words} {given : List ℕ} {entry : ℕ} {opens : List Open} {s0
       × (word_at text (run s0 (start + j)).pc ≡ Some (word + j)))
       → walked (start + steps) ≡ block k → (left j : ℕ) → j + left ≡ steps → walked (start + j) ≡ block k
   stood_before start k word steps within above last way there zero j e =
-      let same : steps ≡ j = omega (arith, e) in subst (λ (i : ℕ). walked (start + i) ≡ block k) same there
+      let same : steps ≡ j = omega (arith, e) in rw same at there
   stood_before start k word steps within above last way there (suc left) j e =
       let here = way j (omega (arith, e)) in
       let next = way (suc j) (omega (arith, e)) in
       let f : start + suc j ≡ suc (start + j) = omega arith in
-      sym (walk_stays (start + j) k (word + j) (subst (λ (i : ℕ). (run s0 i).ending ≡ None) f next.0) here.1.slot
-      (subst (λ (i : ℕ). (run s0 i).slot ≡ NoSlot) f next.1.slot) here.2 within (omega (arith, above))
-      (omega (arith, last, e)))
-      ∙ subst (λ (i : ℕ). walked i ≡ block k) f
+      sym (walk_stays (start + j) k (word + j) (rw f at next.0) here.1.slot
+      (rw f at next.1.slot) here.2 within (omega (arith, above)) (omega (arith, last, e))) ∙ rw f at
       (stood_before start k word steps within above last way there left (suc j) (omega (arith, e)))
 
 -- ---- the machine in the jump's block, from the comparison on
@@ -122,7 +119,7 @@ module _ {text : Words} {given : List ℕ} {entry : ℕ} {opens : List Open} {s0
   unfolding entered_of
   at_word word above below = (
     lived_to s0 (m + steps_to o word) n (omega (arith, passed.ago)) live,
-    subst (λ (t : State). IsAt text word t) (sym (run_add s0 m (steps_to o word)))
+    rw (run_add s0 m (steps_to o word))
         (at_jump text r.is_text s here.fetches (approach_to o word) is.cond is.annul o.way here.disp here.at
         here.ordered here.last_low here.branch here.other goes here.compared here.slot here.leads here.behind
         here.jump_low here.jumping live_there),
@@ -146,11 +143,11 @@ module _ {text : Words} {given : List ℕ} {entry : ℕ} {opens : List Open} {s0
           ∙ lived_to s0 (m + to_jump (approach_to o word) runs) n (omega (arith, passed.ago, a.slot)) live
 
       goes : holds_of is.cond (run s (to_branch o.approach)).codes ≡ is_taken o.way
-      goes = ap (λ (t : State). holds_of is.cond t.codes) (sym (run_add s0 m (to_branch o.approach))) ∙ passed.goes
+      goes = cc (run_add s0 m (to_branch o.approach), passed.goes)
 
       both : Ready text o.approach is.cond is.annul o.way s
       both =
-          subst (λ (k : Approach). Ready text k is.cond is.annul o.way s) (sym is.approach)
+          rw (← is.approach) at
           (ready text given entry o.block o.switch is.is_switch o.switch.compare o.way is.cond is.annul
           o.approach.compare is.parts s0 entry m r.is_text r.valid r.fetches r.holds r.begins
           (lived_to s0 m n (omega (arith, passed.ago)) live) passed.compares).0

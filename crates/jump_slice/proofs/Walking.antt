@@ -19,7 +19,7 @@ use Rattle.cfg_blocks.specs.Values.{instr_at as word_instr}
 use Rattle.cfg_normal.specs.declared.Node.{Node}
 use Rattle.cfg_normal.specs.Opens.{Open, jumps_in, opens_of}
 use Rattle.cfg_normal.specs.Graph.{Graph, graph_of, node_of}
-use Rattle.cfg_walk.specs.Walk.{Point, completed, end_of_walk, gone, goes_on_at, instr_at, node_after, point_of, unless_ended, way_of}
+use Rattle.cfg_walk.specs.Walk.{completed, end_of_walk, gone, goes_on_at, instr_at, node_after, point_of, unless_ended, way_of}
 use Rattle.cfg_walk.specs.Matches.{JumpsGoByCase, BeginsAt, FetchesOnly, MatchesBy}
 use Rattle.cfg_walk.proofs.Cut.{IsCut, cut}
 use Rattle.cfg_walk.proofs.Edges.{block}
@@ -68,9 +68,8 @@ module _ {text : Words} {given : List ℕ} {entry : ℕ} {opens : List Open} {s0
       → (run s0 (suc n)).slot ≢ NoSlot → ⊥
   never_both n node live was now =
       let c = carried r n node live in
-      let t = sets_transfer r n node c now in
       let couple : (act (run s0 n) (word_instr text c.word)).ending ≡ Some Couple =
-      couples (run s0 n) (word_instr text c.word) was t in
+      couples (run s0 n) (word_instr text c.word) was (sets_transfer r n node c now) in
       ended_live (sym couple ∙ c.acted)
     where
       ended_live : Some Couple ≡ None → ⊥
@@ -89,7 +88,7 @@ module _ {text : Words} {given : List ℕ} {entry : ℕ} {opens : List Open} {s0
 
       by : (t : Bool) → transfers (word_instr text c.word) ≡ t → (run s0 (suc n)).pc ≡ (run s0 n).npc
       by true e = absurd (ended_live (sym (couples (run s0 n) (word_instr text c.word) was e) ∙ c.acted))
-      by false e = ap (λ (u : State). u.pc) c.acts ∙ (goes_act (run s0 n) (word_instr text c.word) e c.acted).0
+      by false e = cc (c.acts, (goes_act (run s0 n) (word_instr text c.word) e c.acted).0)
 
   -- the way of the transfer before a slot
   abbrev WayIn : ℕ → Slot → EdgeKind
@@ -129,9 +128,7 @@ module _ {text : Words} {given : List ℕ} {entry : ℕ} {opens : List Open} {s0
         matches = went.0;
         inside = went.1;
         known =
-            subst (λ (o : Option Point). KnownBy r (suc n)
-            (node_after graph node (gone text graph node (point_of (run s0 n)) o)) (run s0 (suc n)).slot)
-            (sym (ap (λ (x : Option Ending). unless_ended x (point_of (run s0 (suc n)))) live))
+            rw (ap (λ (x : Option Ending). unless_ended x (point_of (run s0 (suc n)))) live)
             (next_knows n node h live (run s0 n).slot (run s0 (suc n)).slot refl refl);
       }
 
@@ -146,28 +143,26 @@ module _ {text : Words} {given : List ℕ} {entry : ℕ} {opens : List Open} {s0
     start_knows = (compared, passed)
       where
         at : word_at text s0.pc ≡ Some entry
-        at = ap (word_at text) r.begins.pc ∙ word_at-address text entry ∙ within_is
+        at = cc (r.begins.pc, word_at-address text entry, within_is)
           where
             within_is : within (length text.words) entry ≡ Some entry
             within_is = rw (lt-ltb _ _ r.begins.within)
 
         compared : Compared r 0 (node_of b (Some entry))
         compared o f is there w here behind =
-            let same : w ≡ entry = same_some w entry (sym here ∙ at) in
             let held : holding_of b entry ≡ o.switch.compare.0 = ap block_number (sym (node_is b entry low) ∙ there) in
             let a = about text given entry r.is_text o is in
             let first : slice_index b.firsts o.switch.compare.0 ≡ entry =
             ap (slice_index b.firsts) (sym held) ∙ entry_head in
             let above = a.above in
-            absurd (omega arith)
+            absurd (omega (arith, same_some w entry (sym here ∙ at)))
 
         passed : Passed r 0 (node_of b (Some entry))
         passed k there jumps w here =
             let held : holding_of b entry ≡ k = ap block_number (sym (node_is b entry low) ∙ there) in
             let o = open_found text list entry opens r.all (λ (o : Open). o.block == k) jumps in
             let a = about text given entry r.is_text o.0 o.3 in
-            let first : slice_index b.firsts o.0.block ≡ entry =
-            ap (slice_index b.firsts) (eqb-true o.0.block k o.2 ∙ sym held) ∙ entry_head in
+            let first : slice_index b.firsts o.0.block ≡ entry = cc (eqb-true o.0.block k o.2, held, entry_head) in
             absurd (false≢true (sym a.apart ∙ eq-eqb _ _ first))
 
     pub tells : (n : ℕ) → (run s0 n).ending ≡ None → Tells r n (end_of_walk text graph entry s0 n)
@@ -177,12 +172,10 @@ module _ {text : Words} {given : List ℕ} {entry : ℕ} {opens : List Open} {s0
       inside = node_in b opens parts.firsts.some (Some entry);
       known = subst (λ (x : Slot). KnownBy r 0 (node_of b (Some entry)) x) (sym r.begins.slot) start_knows;
     }
-    tells (suc n) live =
-        tells_next n (end_of_walk text graph entry s0 n) (tells n (live_before (run s0 n) live)) live
+    tells (suc n) live = tells_next n (end_of_walk text graph entry s0 n) (tells n (live_before (run s0 n) live)) live
 
     pub goes : JumpsGoByCase text graph entry s0
-    goes n live =
-        goes_by_case r n (end_of_walk text graph entry s0 n) (tells n (live_before (run s0 n) live)) live
+    goes n live = goes_by_case r n (end_of_walk text graph entry s0 n) (tells n (live_before (run s0 n) live)) live
 
     pub from_compare : (n k word : ℕ) → (run s0 n).ending ≡ None → (run s0 n).slot ≡ NoSlot
         → end_of_walk text graph entry s0 n ≡ block k → jumps_in opens k ≡ true → word_at text (run s0 n).pc ≡ Some word

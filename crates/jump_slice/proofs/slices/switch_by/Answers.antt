@@ -4,8 +4,7 @@ use Rattle.jump_slice.proofs.slices.switch_by.Goals as goal
 
 pub returns-then-is_table-clause-table : goal.returns-then-is_table-clause-table
 returns-then-is_table-clause-table c =
-    table_in c.args.text.now
-    (record {
+    table_in c.args.text.now (record {
       jump = record { 0 = c.args.approach.jump };
       compare = c.args.from;
       table = record { 0 = c.in-Entry.c };
