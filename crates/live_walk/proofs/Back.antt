@@ -16,7 +16,7 @@ use Rattle.v8_step.specs.declared.Slot.TheVariants.{NoSlot, Taken, Untaken}
 use Rattle.v8_step.specs.State.{State}
 use Rattle.v8_step.specs.Run.{run}
 use Rattle.v8_step.specs.Items.{Item, item_of, IsAmong}
-use Rattle.two_runs.specs.Needed.{Reads, Writes, decoded, ReadsIn, WritesIn}
+use Rattle.two_runs.specs.Needed.{Reads, Writes, decoded, ReadsIn}
 use Rattle.v8_step.proofs.Live.{live_step}
 use Rattle.v8_step.proofs.Executable.{code_stays}
 use Rattle.cfg_blocks.specs.Blocks.{blocks_of}
@@ -111,8 +111,7 @@ module _ (text : Words) (given : List ℕ) (opens : List Open) (entry : ℕ) (s0
           → (slot_reads text slot ≡ read_set (decode_of word)) × (slot_writes text slot ≡ write_set (decode_of word))
       carried_word carried.Nothing h = absurd h
       carried_word (carried.Word v) h =
-          let there = word_at-some text (at k).pc at_word.0 at_word.1 in
-          let same : v.0 ≡ at_word.0 = omega (arith, there.is, h) in
+          let same : v.0 ≡ at_word.0 = omega (arith, (word_at-some text (at k).pc at_word.0 at_word.1).is, h) in
           let is_word : slice_index text.words v.0 ≡ word = ap (slice_index text.words) same ∙ at_word.2 in
           (ap (λ n. read_set (decode_of n)) is_word, ap (λ n. write_set (decode_of n)) is_word)
       carried_word carried.Off h =
@@ -127,8 +126,7 @@ module _ (text : Words) (given : List ℕ) (opens : List Open) (entry : ℕ) (s0
           let is_edge : edge_at graph h.number ≡ h.edge = get_or_from_slice_get graph.edges h.number h.edge _ h.is in
           record {
             point = Along h.number;
-            is_point = subst (λ (y : Slot). IsPointBy text graph (node_at k) (point_of (at k)) y (Along h.number))
-                (sym e) (point h.number h.only);
+            is_point = rw e (point h.number h.only);
             reads = ap (λ (d : Edge). slot_reads text d.slot) is_edge ∙ carries.0;
             writes = ap (λ (d : Edge). slot_writes text d.slot) is_edge ∙ carries.1;
           }
@@ -137,8 +135,7 @@ module _ (text : Words) (given : List ℕ) (opens : List Open) (entry : ℕ) (s0
       by NoSlot e m = record {
         point = At (node_at k) at_word.0;
         is_point =
-            subst (λ (y : Slot). IsPointBy text graph (node_at k) (point_of (at k)) y (At (node_at k) at_word.0))
-            (sym e) (at_word.0, at_word.1, refl);
+            rw e (at_word.0, at_word.1, refl);
         reads = ap (λ n. read_set (decode_of n)) at_word.2;
         writes = ap (λ n. write_set (decode_of n)) at_word.2;
       }
@@ -165,22 +162,15 @@ module _ (text : Words) (given : List ℕ) (opens : List Open) (entry : ℕ) (s0
 
   not_written : (k word : ℕ) → (at k).ending ≡ None → fetch_of (at k).memory (at k).pc ≡ Some word → (p : Part)
       → ¬ Writes (at k) (item_of (at k).window p) → has (write_set (decode_of word)) p ≡ false
-  not_written k word live fetched p h =
-      unwritten (at k).window (decode_of word) p
-      (λ a. h
-      (subst (λ (o : Option Ending). WritesIn (decoded o (fetch_of (at k).memory (at k).pc)) (at k).window
-      (item_of (at k).window p)) (sym live)
-      (subst (λ (o : Option ℕ). WritesIn (decoded None o) (at k).window (item_of (at k).window p)) (sym fetched) a)))
+  not_written k word live fetched p h = unwritten (at k).window (decode_of word) p (λ a. h (rw live (rw fetched a)))
 
   window_after : (k word : ℕ) → (at k).ending ≡ None → fetch_of (at k).memory (at k).pc ≡ Some word
-      → reads_all (decode_of word) ≡ false
-      → (at (suc k)).window ≡ (at k).window
+      → reads_all (decode_of word) ≡ false → (at (suc k)).window ≡ (at k).window
   window_after k word live fetched none =
-      ap (λ (t : State). t.window) (live_step (at k) word live fetched) ∙ window_stays (at k) (decode_of word) none
+      cc (live_step (at k) word live fetched, window_stays (at k) (decode_of word) none)
 
   abbrev trip_at : (k : ℕ) → (at k).ending ≡ None → (at (suc k)).ending ≡ None → (q : Point)
-      → IsPoint text graph (node_at k) (at k) q
-      → Trip text graph named q
+      → IsPoint text graph (node_at k) (at k) q → Trip text graph named q
       (IsPoint text graph (node_after graph (node_at k) (gone_in text graph entry s0 k)) (at (suc k)))
       (gone_in text graph entry s0 k)
   trip_at k live after q p =
@@ -190,8 +180,7 @@ module _ (text : Words) (given : List ℕ) (opens : List Open) (entry : ℕ) (s0
   -- what reads all makes it live; else the window stays
   live_if : (k : ℕ) (p : Part) → is_member p ≡ true → (live : (at k).ending ≡ None) (after : (at (suc k)).ending ≡ None)
       → ((word : ℕ) (st : Standing k word) → fetch_of (at k).memory (at k).pc ≡ Some word → (at (suc k)).window
-      ≡ (at k).window → Lives st.point p)
-      → LivesAt k p
+      ≡ (at k).window → Lives st.point p) → LivesAt k p
   live_if k p m live after rest =
       let f = fetched_at k live after in
       let st = standing k f.0 live f.1 in
@@ -216,7 +205,7 @@ module _ (text : Words) (given : List ℕ) (opens : List Open) (entry : ℕ) (s0
   back : (d k : ℕ) (p : Part) → is_member p ≡ true → (j : ℕ) → k + d ≡ j → (item : Item) → Reads (at j) item
       → ((i : ℕ) → k ≤ i → i < j → ¬ Writes (at i) item) → item ≡ item_of (at k).window p → LivesAt k p
   back zero k p m j e item reads un is_item =
-      let r = reads_here (at k) item (let s : j ≡ k = omega arith in subst (λ (i : ℕ). Reads (at i) item) s reads) in
+      let r = reads_here (at k) item (let s : j ≡ k = omega arith in rw s at reads) in
       let st = standing k r.1 r.0 r.2 in (
         st.point,
         st.is_point,
@@ -228,11 +217,10 @@ module _ (text : Words) (given : List ℕ) (opens : List Open) (entry : ℕ) (s0
         ),
       )
   back (suc d) k p m j e item reads un is_item =
-      let r = reads_here (at j) item reads in
-      let l : (at (k + suc d)).ending ≡ None = ap (λ i. (at i).ending) e ∙ r.0 in
+      let l : (at (k + suc d)).ending ≡ None = ap (λ i. (at i).ending) e ∙ (reads_here (at j) item reads).0 in
       let f : k + suc d ≡ suc k + d = omega arith in
       back_one k p m (live_below k (suc d) l) (live_below (suc k) d (ap (λ i. (at i).ending) (sym f) ∙ l))
-      (subst (λ (x : Item). ¬ Writes (at k) x) is_item (un k (omega arith) (omega arith)))
+      (rw is_item at (un k (omega arith) (omega arith)))
       (λ same. back d (suc k) p m j (sym f ∙ e) item reads (λ i a b. un i (omega arith) b)
       (is_item ∙ ap (λ w. item_of w p) (sym same)))
 
@@ -246,16 +234,14 @@ module _ (text : Words) (given : List ℕ) (opens : List Open) (entry : ℕ) (s0
           let none : gone_in text graph entry s0 k ≡ [] =
           ap (λ (o : Option Ending). gone text graph (node_at k) (point_of (at k))
           (unless_ended o (point_of (at (suc k))))) e in
-          let empty = subst (λ (es : List ℕ). Contains es f) none c in
-          let low = empty.1 in
+          let empty = rw none at c in
           absurd (omega arith)
 
   goes_last : (k e : ℕ) (front : List ℕ) → gone_in text graph entry s0 k ≡ front ++ e ∷ [] → (at (suc k)).ending ≡ None
-  goes_last k e front h = goes_live k e (subst (λ (es : List ℕ). Contains es e) (sym h) (Contains-push front e))
+  goes_last k e front h = goes_live k e (rw h (Contains-push front e))
 
   behind_last : (k e : ℕ) (front : List ℕ) (p : Part) → is_member p ≡ true → gone_in text graph entry s0 k
-      ≡ front ++ e ∷ [] → LivesAt (suc k) p
-      → IsLiveOn text graph named e p
+      ≡ front ++ e ∷ [] → LivesAt (suc k) p → IsLiveOn text graph named e p
   unfolding end_of_walk
   behind_last k e front p m h l =
       let after = goes_last k e front h in
@@ -272,29 +258,24 @@ module _ (text : Words) (given : List ℕ) (opens : List Open) (entry : ℕ) (s0
       → ((i : ℕ) → k ≤ i → i ≤ j → ¬ Writes (at i) item) → item ≡ item_of (at k).window p → LivesAt k p
   back_named zero k p m j f q e c mq h item is_named un is_item =
       let s : j ≡ k = omega arith in
-      let here = subst (λ (i : ℕ). Contains (gone_in text graph entry s0 i) f) s c in
+      let here = rw s at c in
       let after = goes_live k f here in
       let live = live_before (at k) after in
       live_if k p m live after (λ word st g same.
-      let w =
-      not_written k word live g p
-      (subst (λ (x : Item). ¬ Writes (at k) x) is_item (un k (omega arith) (omega arith))) in
-      let part : q ≡ p = same_part (at k).window q p mq m
-      (ap (λ v. item_of v q) (sym same) ∙ ap (λ i. item_of (at (suc i)).window q) (sym s) ∙ is_named ∙ is_item) in
+      let w = not_written k word live g p (rw is_item at (un k (omega arith) (omega arith))) in
+      let part : q ≡ p = same_part (at k).window q p mq m (cc (same, s, is_named, is_item)) in
       names_now text graph named p m st.point _ _ (trip_at k live after st.point st.is_point)
-      (ap (λ s. has s p) st.writes ∙ w) f here
-      (ap (has (named f)) (sym part) ∙ h))
+      (ap (λ s. has s p) st.writes ∙ w) f here (ap (has (named f)) (sym part) ∙ h))
   back_named (suc d) k p m j f q e c mq h item is_named un is_item =
       let l : (at (k + suc d)).ending ≡ None = ap (λ i. (at i).ending) e ∙ live_before (at j) (goes_live j f c) in
       let g : k + suc d ≡ suc k + d = omega arith in
       back_one k p m (live_below k (suc d) l) (live_below (suc k) d (ap (λ i. (at i).ending) (sym g) ∙ l))
-      (subst (λ (x : Item). ¬ Writes (at k) x) is_item (un k (omega arith) (omega arith)))
+      (rw is_item at (un k (omega arith) (omega arith)))
       (λ same. back_named d (suc k) p m j f q (sym g ∙ e) c mq h item is_named (λ i a b. un i (omega arith) b)
       (is_item ∙ ap (λ w. item_of w p) (sym same)))
 
 pub needed_is_live : NeededIsLive
 needed_is_live text given opens entry s0 named is fetches begins are cases n e front p m left needed =
-    let later = needed.later in
     behind_last text given opens entry s0 named is fetches begins are cases n e front p m left
     (back text given opens entry s0 named is fetches begins are cases (needed.reader - suc n) (suc n) p m needed.reader
     (omega arith) _ needed.reads needed.kept refl)

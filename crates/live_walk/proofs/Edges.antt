@@ -1,5 +1,5 @@
 -- Trips over the edges of a graph that was made from a text.
-use Rattle.std.proofs.Common.{◌≡◌, ℕ, suc, ◌+◌, ◌-◌, ◌<◌, ◌≤◌, inl, inr, Bool, true, false, ◌&&◌, List, [], ◌∷◌, ◌++◌, length, slice_index, Option, Some, None, refl, ap, sym, ◌∙◌, subst, arith, append-nil}
+use Rattle.std.proofs.Common.{◌≡◌, ℕ, ◌+◌, ◌-◌, ◌<◌, ◌≤◌, inl, inr, Bool, true, false, ◌&&◌, List, [], ◌∷◌, ◌++◌, length, slice_index, Option, Some, None, refl, ap, sym, ◌∙◌, arith, append-nil}
 use Rattle.std.specs.Prelude.{if◌then◌else◌}
 use Rattle.std.proofs.lemmas.Bool.{and_parts, false≢true, or_right}
 use Rattle.std.proofs.lemmas.List.Quantifiers.{position-Some}
@@ -8,14 +8,13 @@ use Rattle.eel_base.specs.CodeText.{Words, word_at}
 use Rattle.v8_decode.specs.declared.Part.{Part}
 use Rattle.v8_step.specs.declared.Slot.{Slot}
 use Rattle.v8_step.specs.declared.Slot.TheVariants.{NoSlot}
-use Rattle.cfg_blocks.specs.declared.BlockEnd.{BlockEnd}
 use Rattle.cfg_blocks.specs.declared.EdgeKind.{EdgeKind}
 use Rattle.cfg_blocks.specs.declared.EdgeKind.TheVariants as kinds
 use Rattle.cfg_blocks.specs.Blocks.{Blocks, block_end, holding_of, last_word, end_of}
 use Rattle.cfg_blocks.specs.Ends.{Way, within, end_at, ways_of}
 use Rattle.cfg_normal.specs.Nodes.{home_of}
 use Rattle.cfg_normal.specs.Opens.{Open}
-use Rattle.cfg_normal.specs.Graph.{Graph, IsNodeIn, directed, graph_of, has_cases, lands_of, node_of, edge_of, runs_slot, slot_behind, landing_at as landing}
+use Rattle.cfg_normal.specs.Graph.{Graph, IsNodeIn, directed, graph_of, has_cases, lands_of, node_of, edge_of, runs_slot, landing_at as landing}
 use Rattle.cfg_normal.specs.declared.Edge.{Edge}
 use Rattle.cfg_normal.specs.declared.Node.{Node}
 use Rattle.cfg_normal.specs.declared.Node.TheVariants.{Block, Landed, X}
@@ -34,7 +33,7 @@ use Rattle.cfg_walk.proofs.Leaving.{is_in, node_is, way_found}
 use Rattle.cfg_walk.proofs.Points.{within_some}
 use Rattle.cfg_walk.proofs.Slots.{LeadsIfThere, jump_lands, lands_not, way_leads}
 use Rattle.cfg_walk.proofs.Ways.{IsOne}
-use Rattle.liveness.specs.Live.{edge_at, Holds, HoldsIn, LandsAt, IsLast, IsFirst, GoesOnAt, is_call_or_jump, is_outside, is_unknown, Point, At, Along, After, Goes}
+use Rattle.liveness.specs.Live.{edge_at, Holds, LandsAt, IsLast, IsFirst, GoesOnAt, is_call_or_jump, is_outside, is_unknown, Point, At, Along, After, Goes}
 use Rattle.live_walk.proofs.Trips.{Trip, slot, left, inside, over, jumped}
 
 -- where a run stands: at a word of the walk's node, or on the edge that carries the slot
@@ -84,25 +83,25 @@ module _ (text : Words) (b : Blocks) (opens : List Open) (c : IsCut text b) (are
       by : (n : Node) → IsNodeIn b opens n → home_of n ≡ block (holding_of b v) → Holds graph n v
       by (Block k) t e =
           let same : k.0 ≡ holding_of b v = cc in
-          subst (λ (j : ℕ). HoldsIn graph j v) (sym same) (i.within, i.above, i.below)
+          rw same (i.within, i.above, i.below)
       by (Landed k) t e =
           let same : k.0 ≡ holding_of b v = cc in
-          (t.1, subst (λ (j : ℕ). HoldsIn graph j v) (sym same) (i.within, i.above, i.below))
+          (t.1, rw same (i.within, i.above, i.below))
       by X t e = absurd (cc)
 
   first_at : (node : Node) (v : ℕ) → v < b.words → Leads b.firsts v → home_of node ≡ node_of b (Some v)
       → IsFirst graph node v
   first_at node v l leads home = elim (node_at node (holding_of b v) (home ∙ node_is b v l)) [
-    | inl here ↦ subst (λ (n : Node). IsFirst graph n v) (sym here) (sym (first_held b.words b.firsts c.firsts v leads))
+    | inl here ↦ rw here (sym (first_held b.words b.firsts c.firsts v leads))
     | inr there ↦
-        subst (λ (n : Node). IsFirst graph n v) (sym there) (sym (first_held b.words b.firsts c.firsts v leads))
+        rw there (sym (first_held b.words b.firsts c.firsts v leads))
   ]
 
   last_at : (node : Node) (k word : ℕ) → home_of node ≡ block k → word ≡ last_word b.firsts b.words k
       → IsLast graph node word
   last_at node k word home last = elim (node_at node k home) [
-    | inl here ↦ subst (λ (n : Node). IsLast graph n word) (sym here) last
-    | inr there ↦ subst (λ (n : Node). IsLast graph n word) (sym there) last
+    | inl here ↦ rw here last
+    | inr there ↦ rw there last
   ]
 
   module _ (word : ℕ) (l : word < b.words) (node : Node) (there : IsNodeIn b opens node)
@@ -129,15 +128,10 @@ module _ (text : Words) (b : Blocks) (opens : List Open) (c : IsCut text b) (are
         is_edge = get_or_from_slice_get graph.edges found.number _ no_edge found.is
 
         end : end_of b (holding_of b word) ≡ end_at text word
-        end = c.ends (holding_of b word) (is_in text b opens c word l).within ∙ ap (end_at text) (sym last)
+        end = cc (c.ends (holding_of b word) (is_in text b opens c word l).within, last)
 
         no_slot : (edge_at graph found.number).slot ≡ carried.Nothing
-        no_slot =
-            ap (λ (d : Edge). d.slot) is_edge
-            ∙ ap
-            (λ (x : Bool). if x then slot_behind b.words
-            (last_word b.firsts b.words (holding_of b word)) else carried.Nothing)
-            (ap (λ (e : BlockEnd). runs_slot e w.kind) end ∙ quiet)
+        no_slot = cc (is_edge, end, quiet)
 
         node' : Node
         node' = node_after graph node es
@@ -150,12 +144,10 @@ module _ (text : Words) (b : Blocks) (opens : List Open) (c : IsCut text b) (are
             let node_to : node' ≡ directed opens node w.kind (node_of b w.to) =
             ap (node_after graph node) eq ∙ leads_along graph node _ _ found in
             let home' : home_of node' ≡ node_of b (Some v) =
-            ap home_of node_to ∙ home_directed opens node w.kind (node_of b w.to) ∙ home_of_node b w.to
-            ∙ ap (node_of b) is_there in
-            subst (λ (x : Point). Goes text graph named (After found.number) x) (sym is) (
+            cc (node_to, home_directed opens node w.kind (node_of b w.to), home_of_node b w.to, is_there) in
+            rw is (
               ap (λ (d : Edge). d.to) is_edge ∙ sym node_to,
-              subst (λ (k : EdgeKind). GoesOnAt graph k node' v) (sym (ap (λ (d : Edge). d.kind) is_edge))
-                  (goes_on_first graph w.kind node' v no_land no_case
+              rw (ap (λ (d : Edge). d.kind) is_edge) (goes_on_first graph w.kind node' v no_land no_case
                   (held_at node' v low.0 (after_in b opens c.firsts.some node es there) home')
                   (first_at node' v low.0 low.1 home')),
             )
@@ -170,17 +162,15 @@ module _ (text : Words) (b : Blocks) (opens : List Open) (c : IsCut text b) (are
             → Goes text graph named (At node word) r
         goes r v at is =
             let so = within_some b.words (word + 1) v (sym to ∙ at) in
-            let same : v ≡ suc word = let s = so.1 in omega arith in
             let i = is_in text b opens c word l in
             let below : v < block_end b.firsts b.words (holding_of b word) = omega (arith, i.below, inner) in
             let above : slice_index b.firsts (holding_of b word) ≤ v = omega (arith, i.above) in
-            let low : v < b.words = subst (λ (x : ℕ). x < b.words) so.1 so.0 in
-            let held : holding_of b v ≡ holding_of b word =
-            is_held b.words b.firsts c.firsts v (holding_of b word)
+            let low : v < b.words = rw so.1 at so.0 in
+            let held : holding_of b v ≡ holding_of b word = is_held b.words b.firsts c.firsts v (holding_of b word)
             (record { within = i.within; above = above; below = below }) in
-            subst (λ (x : Point). Goes text graph named (At node word) x) (sym is) (
+            rw is (
               ap (node_after graph node) eq,
-              same,
+              (let s = so.1 in omega arith),
               held_at node v low there (home ∙ ap block (sym held) ∙ sym (node_is b v low)),
             )
 
@@ -195,8 +185,7 @@ module _ (text : Words) (b : Blocks) (opens : List Open) (c : IsCut text b) (are
             → Goes text graph named (At node word) r
         goes r (e, from, is) =
             let fi = along_is graph node way e from in
-            subst (λ (x : Point). Goes text graph named (At node word) x) (sym is)
-            (fi.0, fi.1, last_at node (holding_of b word) word home last)
+            rw is (fi.0, fi.1, last_at node (holding_of b word) word home last)
 
   -- ---- a step out of a slot
 
@@ -226,9 +215,7 @@ module _ (text : Words) (b : Blocks) (opens : List Open) (c : IsCut text b) (are
         es = slot_left text graph node way before.npc
 
         eq : es ≡ edge_from graph node way ++ []
-        eq =
-            ap (λ (w : WayOut). left_along text graph node w before.npc) plain
-            ∙ ap (λ ns. edge_from graph node way ++ ns) (lands_not text graph way before.npc no_jump)
+        eq = cc (plain, lands_not text graph way before.npc no_jump)
 
         is_edge : edge_at graph h.number ≡ h.edge
         is_edge = get_or_from_slice_get graph.edges h.number _ no_edge h.is
@@ -240,23 +227,18 @@ module _ (text : Words) (b : Blocks) (opens : List Open) (c : IsCut text b) (are
             → Goes text graph named (After h.number) r
         goes r v at is =
             let here : word_at text before.npc ≡ Some v = ap (word_at text) (sym pc) ∙ at in
-            let low : v < b.words = low_at v here in
             let to = h.leads no_jump in
             let arrives : node_after graph node es ≡ h.edge.to =
             way_leads text b opens c node before way h no_jump ∙ sym to.1 in
             let home' : home_of h.edge.to ≡ node_of b (Some v) =
             ap home_of to.1 ∙ home_directed opens node way (node_of b (word_at text before.npc))
             ∙ home_of_node b (word_at text before.npc) ∙ ap (node_of b) here in
-            let begins : Begins graph h.edge.to (Some v) =
-            subst (λ (o : Option ℕ). Begins graph h.edge.to o) here to.0 in
-            let inside' : IsNodeIn b opens h.edge.to =
-            subst (IsNodeIn b opens) arrives (after_in b opens c.firsts.some node es there) in
-            subst (λ (x : Point). Goes text graph named (After h.number) x) (sym is) (
+            let begins : Begins graph h.edge.to (Some v) = rw here at to.0 in
+            let inside' : IsNodeIn b opens h.edge.to = rw arrives at (after_in b opens c.firsts.some node es there) in
+            rw is (
               ap (λ (d : Edge). d.to) is_edge ∙ sym arrives,
-              subst (λ (n : Node). GoesOnAt graph (edge_at graph h.number).kind n v) (sym arrives)
-                  (subst (λ (k : EdgeKind). GoesOnAt graph k h.edge.to v) (sym (same_kinds _ way kind_is))
-                  (goes_on_first graph way h.edge.to v no_land no_case
-                  (held_at h.edge.to v low inside' home') (begun_at h.edge.to v begins))),
+              rw arrives (rw (same_kinds _ way kind_is) (goes_on_first graph way h.edge.to v no_land no_case
+                  (held_at h.edge.to v (low_at v here) inside' home') (begun_at h.edge.to v begins))),
             )
 
     -- where a jump lands
@@ -271,8 +253,7 @@ module _ (text : Words) (b : Blocks) (opens : List Open) (c : IsCut text b) (are
     case_trip : (h : IsOnItsWay text graph node before kinds.Out) → has_cases opens node ≡ true
         → Trip text graph named (Along h.number) (Next (slot_left text graph node kinds.Out before.npc))
         (slot_left text graph node kinds.Out before.npc)
-    case_trip h cased =
-        over h.number (eq ∙ append-nil _ ∙ only) (slot refl) (λ r n. inr (goes r n.0 n.1 n.2))
+    case_trip h cased = over h.number (eq ∙ append-nil _ ∙ only) (slot refl) (λ r n. inr (goes r n.0 n.1 n.2))
       where
         way : WayOut
         way = record { kind = kinds.Case; to = Some (lands_of b opens (word_at text before.npc)) }
@@ -296,8 +277,7 @@ module _ (text : Words) (b : Blocks) (opens : List Open) (c : IsCut text b) (are
         kind_is = same_kinds _ kinds.Case (along_is graph node way h.number only).2
 
         to_is : h.edge.to ≡ lands_of b opens (word_at text before.npc)
-        to_is =
-            h.lands_at refl ∙ ap (λ (x : Bool). if x then lands_of b opens (word_at text before.npc) else X) cased
+        to_is = cc (h.lands_at refl, cased)
 
         goes : (r : Point) (v : ℕ) → word_at text after.pc ≡ Some v → r ≡ At (node_after graph node es) v
             → Goes text graph named (After h.number) r
@@ -305,11 +285,9 @@ module _ (text : Words) (b : Blocks) (opens : List Open) (c : IsCut text b) (are
             let here : word_at text before.npc ≡ Some v = ap (word_at text) (sym pc) ∙ at in
             let arrives : node_after graph node es ≡ lands_of b opens (Some v) =
             jump_lands text b opens c node before h ∙ ap (lands_of b opens) here in
-            subst (λ (x : Point). Goes text graph named (After h.number) x) (sym is) (
-              ap (λ (d : Edge). d.to) is_edge ∙ to_is ∙ ap (lands_of b opens) here ∙ sym arrives,
-              subst (λ (n : Node). GoesOnAt graph (edge_at graph h.number).kind n v) (sym arrives)
-                  (subst (λ (k : EdgeKind). GoesOnAt graph k (lands_of b opens (Some v)) v) (sym kind_is)
-                  (lands_at v here)),
+            rw is (
+              cc (is_edge, to_is, here, arrives),
+              rw arrives (rw kind_is (lands_at v here)),
             )
 
     -- another jump, and then the landing where the text has the word
@@ -340,25 +318,21 @@ module _ (text : Words) (b : Blocks) (opens : List Open) (c : IsCut text b) (are
 
         unknown : is_unknown (edge_at graph h.number) ≡ true
         unknown =
-            or_right (is_call_or_jump (edge_at graph h.number).kind) _
-            (ap is_outside
+            or_right (is_call_or_jump (edge_at graph h.number).kind) _ (ap is_outside
             (ap (λ (d : Edge). d.to) is_edge ∙ h.lands_at refl
             ∙ ap (λ (x : Bool). if x then lands_of b opens (word_at text before.npc) else X) plain))
 
         by : (o : Option ℕ) → word_at text before.npc ≡ o → Trip text graph named (Along h.number) (Next es) es
         by None e =
             let none : landed text graph kinds.Out before.npc ≡ [] = rw e refl in
-            over h.number (eq ∙ ap (λ ns. edge_from graph node kinds.Out ++ ns) none ∙ append-nil _ ∙ only) (slot refl)
-            (λ r n. inl unknown)
+            over h.number (cc (eq, none, append-nil _, only)) (slot refl) (λ r n. inl unknown)
         by (Some v) e =
             let low : v < b.words = low_at v e in
             let to : Node = lands_of b opens (Some v) in
             let lands = landing_found b opens to (holding_of b v) (in_held b.words b.firsts c.firsts v low).within
             (lands_there b opens v low) in
             let some : landed text graph kinds.Out before.npc ≡ landing_at graph to = rw e refl in
-            let all : es ≡ h.number ∷ lands.number ∷ [] =
-            eq ∙ ap (λ ns. edge_from graph node kinds.Out ++ ns) (some ∙ lands.only)
-            ∙ ap (λ ns. ns ++ lands.number ∷ []) only in
+            let all : es ≡ h.number ∷ lands.number ∷ [] = cc (eq, some, lands.only, only) in
             let is_landing : edge_at graph lands.number ≡ landing to =
             get_or_from_slice_get graph.edges lands.number _ no_edge lands.is in
             let arrives : node_after graph node es ≡ to =
@@ -368,17 +342,13 @@ module _ (text : Words) (b : Blocks) (opens : List Open) (c : IsCut text b) (are
           where
             goes : (f : ℕ) → edge_at graph f ≡ landing (lands_of b opens (Some v))
                 → node_after graph node es ≡ lands_of b opens (Some v)
-                → (r : Point) (u : ℕ) → word_at text after.pc ≡ Some u
-                → r ≡ At (node_after graph node es) u
+                → (r : Point) (u : ℕ) → word_at text after.pc ≡ Some u → r ≡ At (node_after graph node es) u
                 → Goes text graph named (After f) r
             goes f is_landing arrives r u at is =
-                let same : Some v ≡ Some u = sym e ∙ ap (word_at text) (sym pc) ∙ at in
                 let u_is : v ≡ u = cc in
-                subst (λ (x : Point). Goes text graph named (After f) x) (sym is) (
+                rw is (
                   ap (λ (d : Edge). d.to) is_landing ∙ sym arrives,
-                  subst (λ (n : Node). GoesOnAt graph (edge_at graph f).kind n u) (sym arrives)
-                      (subst (λ (d : Edge). GoesOnAt graph d.kind (lands_of b opens (Some v)) u) (sym is_landing)
-                      (subst (λ (n : ℕ). LandsAt graph (lands_of b opens (Some v)) n) u_is (lands_at v e))),
+                  rw arrives (rw is_landing (rw (← u_is) (lands_at v e))),
                 )
 
     pub out_trip : (way : EdgeKind) → same_kind way kinds.Land ≡ false → same_kind way kinds.Case ≡ false

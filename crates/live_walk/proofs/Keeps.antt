@@ -1,5 +1,5 @@
 -- What a run still needs, or a later snippet names, is kept from step to step.
-use Rattle.std.proofs.Common.{◌≡◌, ℕ, suc, ◌+◌, ◌-◌, ◌≤◌, ◌⊎◌, inl, inr, true, List, [], ◌∷◌, Option, Some, None, refl, ap, sym, ◌∙◌, subst, arith}
+use Rattle.std.proofs.Common.{◌≡◌, ℕ, suc, ◌-◌, ◌≤◌, ◌⊎◌, inl, inr, true, List, [], ◌∷◌, Option, Some, None, refl, ap, sym, ◌∙◌, arith}
 use Rattle.std.specs.List.{Contains}
 use Rattle.std.proofs.lemmas.Bool.{cases_eq}
 use Rattle.eel_base.specs.CodeText.{Words, IsText}
@@ -12,7 +12,7 @@ use Rattle.v8_step.specs.declared.Ending.{Ending}
 use Rattle.v8_step.specs.State.{State}
 use Rattle.v8_step.specs.Run.{run}
 use Rattle.v8_step.specs.Items.{Item, Register, Codes, YRegister, IsItem, IsAmong, item_of}
-use Rattle.two_runs.specs.Needed.{IsNeeded, ReadsIn, Writes, WritesIn, decoded}
+use Rattle.two_runs.specs.Needed.{ReadsIn, Writes, WritesIn, decoded}
 use Rattle.v8_step.proofs.Executable.{code_stays}
 use Rattle.code_runs.specs.PointsAlike.{instr_of}
 use Rattle.cfg_blocks.specs.Blocks.{blocks_of}
@@ -54,8 +54,7 @@ among_or_not item w (p ∷ ps) = by (same_item (item_of w p) item) (among_or_not
         neither not none (inl e) = not e
         neither not none (inr a) = none a
 
-written_or_not : (instr : Option Instr) (w : ℕ) (item : Item)
-    → WritesIn instr w item ⊎ (WritesIn instr w item → ⊥)
+written_or_not : (instr : Option Instr) (w : ℕ) (item : Item) → WritesIn instr w item ⊎ (WritesIn instr w item → ⊥)
 written_or_not None w item = inr (λ h. h)
 written_or_not (Some instr) w item = among_or_not item w (writes_of instr)
 
@@ -68,7 +67,7 @@ decoded_live (Some ending) word e = absurd (cc)
 -- from one step after n on, or at n, up to some step
 from_next : (P : ℕ → Type 0) (n to : ℕ) → P n → ((k : ℕ) → suc n ≤ k → k ≤ to → P k) → (k : ℕ) → n ≤ k → k ≤ to → P k
 from_next P n to first rest k low high = elim (cases_eq n k) [
-  | inl e ↦ subst P e first
+  | inl e ↦ rw e at first
   | inr not ↦ rest k (omega arith) high
 ]
 
@@ -96,8 +95,7 @@ module _ (text : Words) (given : List ℕ) (opens : List Open) (entry : ℕ) (s0
       ∙ decoded_live (at n).ending (fetch_of (at n).memory (at n).pc) live
 
   writes_now : (n : ℕ) (item : Item) → (at n).ending ≡ None → (Written n item → ⊥) → ¬ Writes (at n) item
-  writes_now n item live none w =
-      none (subst (λ (o : Option Instr). WritesIn o (at n).window item) (sym (carried n live)) w)
+  writes_now n item live none w = none (rw (carried n live) w)
 
   read_now : (n : ℕ) (item : Item) → (at n).ending ≡ None → IsItem item
       → ReadsIn (instr_after text s0 n) (at n).window item → Kept n item
@@ -106,40 +104,36 @@ module _ (text : Words) (given : List ℕ) (opens : List Open) (entry : ℕ) (s0
         is_item = is_item;
         reader = n;
         later = omega arith;
-        reads = subst (λ (o : Option Instr). ReadsIn o (at n).window item) (carried n live) r;
+        reads = rw (carried n live) at r;
         kept = λ k low high. absurd (omega arith);
       })
 
   -- where something is still needed, or named later, the run goes on
   live_up_to : (n m : ℕ) → n ≤ m → (at m).ending ≡ None → (at n).ending ≡ None
   live_up_to n m low h =
-      let e : n + (m - n) ≡ m = omega arith in
       live_below text given opens entry s0 named is fetches begins are cases n (m - n)
-      (ap (λ (k : ℕ). (at k).ending) e ∙ h)
+      (ap (λ (k : ℕ). (at k).ending) (omega arith) ∙ h)
 
   kept_lives : (n : ℕ) (item : Item) → Kept n item → (at n).ending ≡ None
   kept_lives n item (inl needed) =
       live_up_to n needed.reader needed.later (reads_here (at needed.reader) item needed.reads).0
   kept_lives n item (inr later) =
-      live_up_to n later.step later.later
-      (live_before (at later.step)
+      live_up_to n later.step later.later (live_before (at later.step)
       (goes_live text given opens entry s0 named is fetches begins are cases later.step later.edge later.completed))
 
   kept_before : (n : ℕ) (item : Item) → Kept (suc n) item → ¬ Writes (at n) item → Kept n item
   kept_before n item (inl needed) none =
-      let low = needed.later in
       inl (record {
         is_item = needed.is_item;
         reader = needed.reader;
         later = omega arith;
         reads = needed.reads;
         kept = λ k from to. elim (cases_eq n k) [
-          | inl e ↦ subst (λ (j : ℕ). ¬ Writes (at j) item) e none
+          | inl e ↦ rw e at none
           | inr not ↦ needed.kept k (omega arith) to
         ];
       })
   kept_before n item (inr later) none =
-      let low = later.later in
       inr (record {
         step = later.step;
         later = omega arith;
@@ -158,24 +152,20 @@ module _ (text : Words) (given : List ℕ) (opens : List Open) (entry : ℕ) (s0
       by : Written n item ⊎ (Written n item → ⊥) → Written n item ⊎ Kept n item
       by (inl w) = inl w
       by (inr none) =
-          inr (kept_before n item kept
-          (writes_now n item (live_before (at n) (kept_lives (suc n) item kept)) none))
+          inr (kept_before n item kept (writes_now n item (live_before (at n) (kept_lives (suc n) item kept)) none))
 
   live : (n : ℕ) (item : Item) → Kept (suc n) item
       → IsKeptBehind text graph named (gone_in text graph entry s0 n) (at (suc n)).window item
   live n item (inl needed) front e last p member dead same =
       dead (needed_is_live text given opens entry s0 named is fetches begins are cases n e front p member last
-      (subst (λ (i : Item). IsNeeded s0 (suc n) i) same needed))
+      (rw same at needed))
   live n item (inr later) front e last p member dead same =
-      let low = later.later in
       dead (named_is_live text given opens entry s0 named is fetches begins are cases n e front p member last
-      later.step later.edge later.part (omega arith) later.completed later.is_part later.is_named
-      (later.names ∙ same)
-      (λ k from to. subst (λ (i : Item). ¬ Writes (at k) i) same (later.unwritten k (omega arith) to)))
+      later.step later.edge later.part (omega arith) later.completed later.is_part later.is_named (later.names ∙ same)
+      (λ k from to. rw same at (later.unwritten k (omega arith) to)))
 
   named_items : (n e : ℕ) (p : Part) → Contains (gone_in text graph entry s0 n) e → is_member p ≡ true
-      → has (named e) p ≡ true
-      → Written n (item_of (at (suc n)).window p) ⊎ Kept n (item_of (at (suc n)).window p)
+      → has (named e) p ≡ true → Written n (item_of (at (suc n)).window p) ⊎ Kept n (item_of (at (suc n)).window p)
   named_items n e p gone member names =
       by (written_or_not (instr_after text s0 n) (at n).window (item_of (at (suc n)).window p))
     where
@@ -186,7 +176,6 @@ module _ (text : Words) (given : List ℕ) (opens : List Open) (entry : ℕ) (s0
           → Written n (item_of (at (suc n)).window p) ⊎ Kept n (item_of (at (suc n)).window p)
       by (inl w) = inl w
       by (inr none) =
-          let not : ¬ Writes (at n) (item_of (at (suc n)).window p) = writes_now n _ now none in
           inr (inr (record {
             step = n;
             later = omega arith;
@@ -198,7 +187,7 @@ module _ (text : Words) (given : List ℕ) (opens : List Open) (entry : ℕ) (s0
             names = refl;
             unwritten = λ k low high.
                 let same : n ≡ k = omega arith in
-                subst (λ (j : ℕ). ¬ Writes (at j) (item_of (at (suc n)).window p)) same not;
+                rw (← same) (writes_now n _ now none);
           }))
 
 pub what_lives_is_kept : WhatLivesIsKept

@@ -12,7 +12,6 @@ use Rattle.v8_decode.specs.declared.Instr.TheVariants as i
 use Rattle.v8_decode.specs.Words.{decode_of}
 use Rattle.v8_memory.specs.Regions.{fetch_of}
 use Rattle.v8_alu.specs.Conditions.{holds_of}
-use Rattle.v8_step.specs.declared.Ending.{Ending}
 use Rattle.v8_step.specs.declared.Ending.TheVariants.{Couple}
 use Rattle.v8_step.specs.declared.Slot.{Slot}
 use Rattle.v8_step.specs.declared.Slot.TheVariants.{NoSlot, Taken, Untaken}
@@ -32,7 +31,7 @@ use Rattle.cfg_normal.specs.Opens.{Open}
 use Rattle.cfg_normal.specs.Graph.{Graph, IsNodeIn, graph_of, runs_slot}
 use Rattle.cfg_blocks.specs.Switches.{is_jump}
 use Rattle.cfg_normal.specs.declared.Node.{Node}
-use Rattle.cfg_walk.specs.Walk.{Point as RunPoint, completed, point_of, gone, goes_on_at, node_after, edge_along, edge_from, same_kind, way_to, left_at, left_by, slot_left, unless_ended, way_of, instr_at}
+use Rattle.cfg_walk.specs.Walk.{Point as RunPoint, completed, point_of, gone, goes_on_at, node_after, edge_along, edge_from, same_kind, way_to, left_at, left_by, slot_left, way_of, instr_at}
 use Rattle.cfg_walk.specs.Matches.{AreOpen, FetchesOnly, IsOnItsWay, Matches, MatchesBy}
 use Rattle.cfg_blocks.proofs.Targets.{word_at-some}
 use Rattle.cfg_walk.proofs.Cut.{IsCut}
@@ -64,9 +63,7 @@ went s live after = by (fetch_of s.memory s.pc) refl
     by : (o : Option ℕ) → fetch_of s.memory s.pc ≡ o → (word : ℕ) × (fetch_of s.memory s.pc ≡ Some word)
     by (Some word) e = (word, e)
     by None e =
-        let ended : step_unless s s.ending (on_word s (fetch_of s.memory s.pc)) ≡ on_word s None =
-        ap (λ (x : Option Ending). step_unless s x (on_word s (fetch_of s.memory s.pc))) live ∙ ap (on_word s) e in
-        let trap : (on_word s None).ending ≡ None = ap (λ (t : State). t.ending) (sym ended) ∙ after in
+        let ended : step_unless s s.ending (on_word s (fetch_of s.memory s.pc)) ≡ on_word s None = cc (live, e) in
         absurd (cc)
 
 transfer_end : (text : Words) (word : ℕ) (instr : Instr) → is_transfer instr ≡ true
@@ -78,8 +75,7 @@ transfer_end text word _ h = absurd (cc)
 
 -- after a block's last word the next block begins
 next_leads : (b : Blocks) → {text : Words} → IsCut text b → (word : ℕ) → word < b.words
-    → word ≡ last_word b.firsts b.words (holding_of b word) → word + 1 < b.words
-    → Leads b.firsts (word + 1)
+    → word ≡ last_word b.firsts b.words (holding_of b word) → word + 1 < b.words → Leads b.firsts (word + 1)
 next_leads b c word l last more = by (cases_lt (suc (holding_of b word)) (length b.firsts))
   where
     k : ℕ
@@ -128,7 +124,7 @@ module _ (text : Words) (is : IsText text) (b : Blocks) (opens : List Open) (c :
 
     -- what a step without a slot completes
     left_is : left_at text graph node (word_at text before.pc) ≡ left_by graph node word instr
-    left_is = ap (left_at text graph node) (at h) ∙ ap (left_by graph node word) h.decodes
+    left_is = cc (at h, h.decodes)
 
     abbrev Goal : RunPoint → Slot → Type 0
     Goal after now = TripBy text graph named node before after NoSlot now (At node word)
@@ -157,21 +153,17 @@ module _ (text : Words) (is : IsText text) (b : Blocks) (opens : List Open) (c :
         left : (x : Bool) → (word == last_word b.firsts b.words (holding_of b word)) ≡ x
             → left_by graph node word instr ≡ (if x then edge_from graph node kinds.Fall else [])
         left x e =
-            straight_left graph node word instr t
-            ∙ ap (λ (y : Bool). if y then edge_from graph node kinds.Fall else [])
-            (ends_home b opens node (holding_of b word) word (home h) ∙ e)
+            cc (straight_left graph node word instr t, ends_home b opens node (holding_of b word) word (home h), e)
 
         by : (x : Bool) → (word == last_word b.firsts b.words (holding_of b word)) ≡ x → Goal after NoSlot
         by true e =
             let last : word ≡ last_word b.firsts b.words (holding_of b word) = eqb-true _ _ e in
             by_way after (way kinds.Fall (within b.words (word + 1))) last (ap is_jump fall) refl refl
-            (subst (λ (x : BlockEnd). IsOne (way kinds.Fall (within b.words (word + 1))) (ways_of b.words word x))
-            (sym fall) (fall_is_one b.words word))
-            (ap (λ (x : BlockEnd). runs_slot x kinds.Fall) fall) (left true e) to
+            (rw fall (fall_is_one b.words word)) (ap (λ (x : BlockEnd). runs_slot x kinds.Fall) fall) (left true e) to
             (λ v f.
             let there = within_some b.words (word + 1) v f in (
-              subst (λ (x : ℕ). x < b.words) there.1 there.0,
-              subst (λ (x : ℕ). Leads b.firsts x) there.1 (next_leads b c word (low h) last there.0),
+              rw there.1 at there.0,
+              rw there.1 at (next_leads b c word (low h) last there.0),
             ))
         by false e =
             block_trip text b opens c are named word (low h) node h.there (home h) after (eqb-false _ _ e)
@@ -200,8 +192,7 @@ module _ (text : Words) (is : IsText text) (b : Blocks) (opens : List Open) (c :
 
       slot_is : (t : State) (now : Slot) → t.slot ≡ now
           → TripBy text graph named node (point_of s) (point_of t) NoSlot now (At node word) → Out t
-      slot_is t now f h =
-          subst (λ (x : Slot). TripBy text graph named node (point_of s) (point_of t) NoSlot x (At node word)) (sym f) h
+      slot_is t now f h = rw f h
 
       branch : (cond : ℕ) (annul : Bool) (disp22 : ℤ) (holds all : Bool)
           → Stands text b opens node (point_of s) word (i.Branch cond annul disp22)
@@ -219,12 +210,8 @@ module _ (text : Words) (is : IsText text) (b : Blocks) (opens : List Open) (c :
           let goes = jumps_to h (point_of t) transfer target disp22 t.pc (ap target_in end_is_branch) is_target refl in
           slot_is t NoSlot e
           (by_way (point_of s) word (i.Branch cond true disp22) node h (point_of t) (way kinds.Taken (number_of target))
-          (transfer_ends text b opens c word (low h) transfer)
-          (ap is_jump end_is_branch) refl refl
-          (subst (λ (x : BlockEnd). IsOne (way kinds.Taken (number_of target)) (ways_of b.words word x))
-          (sym end_is_branch)
-          (taken_is_one b.words word cond true target (not_never cond s.codes holds)))
-          (ap (λ (x : BlockEnd). runs_slot x kinds.Taken) end_is_branch ∙ ap (λ (x : Bool). not x) all)
+          (transfer_ends text b opens c word (low h) transfer) (ap is_jump end_is_branch) refl refl (rw end_is_branch
+          (taken_is_one b.words word cond true target (not_never cond s.codes holds))) (cc (end_is_branch, all))
           (ap (λ (x : Bool). edge_from graph node (if x then kinds.Taken else kinds.Untaken)) all) goes.0 goes.1)
       branch cond false disp22 true true h holds all =
           let t : State = branched true true false s (target_of s disp22) in
@@ -242,21 +229,15 @@ module _ (text : Words) (is : IsText text) (b : Blocks) (opens : List Open) (c :
           end_is text word (i.Branch cond true disp22) h.decodes in
           let transfer : transfers (end_at text word) ≡ true = ap transfers end_is_branch in
           let w : Way = way kinds.Untaken (within b.words (word + 2)) in
-          slot_is t NoSlot e
-          (by_way (point_of s) word (i.Branch cond true disp22) node h (point_of t) w
-          (transfer_ends text b opens c word (low h) transfer)
-          (ap is_jump end_is_branch) refl refl
-          (subst (λ (x : BlockEnd). IsOne w (ways_of b.words word x)) (sym end_is_branch)
+          slot_is t NoSlot e (by_way (point_of s) word (i.Branch cond true disp22) node h (point_of t) w
+          (transfer_ends text b opens c word (low h) transfer) (ap is_jump end_is_branch) refl refl (rw end_is_branch
           (untaken_is_one b.words word cond true target (not_always cond s.codes holds)))
           (ap (λ (x : BlockEnd). runs_slot x kinds.Untaken) end_is_branch)
           (ap (λ (x : Bool). edge_from graph node (if x then kinds.Taken else kinds.Untaken))
-          (not_always cond s.codes holds))
-          (second h)
-          (λ v f.
+          (not_always cond s.codes holds)) (second h) (λ v f.
           let there = within_some b.words (word + 2) v f in (
-            subst (λ (x : ℕ). x < b.words) there.1 there.0,
-            subst (λ (x : ℕ). Leads b.firsts x) there.1
-                (c.second word transfer there.0),
+            rw there.1 at there.0,
+            rw there.1 at (c.second word transfer there.0),
           )))
       branch cond false disp22 false all h holds _ =
           let t : State = branched false all false s (target_of s disp22) in
@@ -266,8 +247,7 @@ module _ (text : Words) (is : IsText text) (b : Blocks) (opens : List Open) (c :
           → (jump_step s rd (sum_of s rs1 op2)).ending ≡ None → Out (jump_step s rd (sum_of s rs1 op2))
       unfolding jump_step
       jump rd rs1 op2 h =
-          cond_both (sum_of s rs1 op2 % 4 == 0) _ _ (λ (t : State). t.ending ≡ None → Out t)
-          (λ _ live.
+          cond_both (sum_of s rs1 op2 % 4 == 0) _ _ (λ (t : State). t.ending ≡ None → Out t) (λ _ live.
           let t : State = delayed (with_register s rd s.pc) (sum_of s rs1 op2) in
           slot_is t Taken refl (into (point_of s) word _ node h (point_of t) Taken (λ f. absurd (cc)) refl))
           (λ _ live. absurd (cc))
@@ -311,20 +291,15 @@ module _ (text : Words) (is : IsText text) (b : Blocks) (opens : List Open) (c :
             → (d : ℕ) × (edge_along graph node (way_to text graph node way s.npc) ≡ d ∷ []) × (q ≡ Along d)
             → Trip text graph named q
             (IsPointBy text graph (node_after graph node (slot_left text graph node way (act s instr).pc))
-            (point_of (act s instr)) NoSlot)
-            (slot_left text graph node way (act s instr).pc)
+            (point_of (act s instr)) NoSlot) (slot_left text graph node way (act s instr).pc)
         goes way k l pc h (d, from, is) =
             let same : h.number ≡ d = heads (sym h.only ∙ from) in
-            subst
-            (λ (a : ℕ). Trip text graph named q
+            subst (λ (a : ℕ). Trip text graph named q
             (IsPointBy text graph (node_after graph node (slot_left text graph node way a))
-            (point_of (act s instr)) NoSlot)
-            (slot_left text graph node way a)) (sym pc)
-            (subst
+            (point_of (act s instr)) NoSlot) (slot_left text graph node way a)) (sym pc) (subst
             (λ (r : Point). Trip text graph named r
             (IsPointBy text graph (node_after graph node (slot_left text graph node way s.npc))
-            (point_of (act s instr)) NoSlot)
-            (slot_left text graph node way s.npc)) (ap Along same ∙ sym is)
+            (point_of (act s instr)) NoSlot) (slot_left text graph node way s.npc)) (ap Along same ∙ sym is)
             (out_trip text b opens c are named node there (point_of s) (point_of (act s instr)) pc way k l h))
 
         slots : (x : Slot) → x ≢ NoSlot → MatchesBy text graph node (point_of s) x
@@ -357,23 +332,16 @@ module _ (text : Words) (is : IsText text) (b : Blocks) (opens : List Open) (c :
 
   abbrev TripTo : Point → State → Type 0
   TripTo q t =
-      Trip text (graph_of b opens) named q
-      (IsPoint text (graph_of b opens)
+      Trip text (graph_of b opens) named q (IsPoint text (graph_of b opens)
       (node_after (graph_of b opens) node (gone text (graph_of b opens) node (point_of s) (goes_on_at t))) t)
       (gone text (graph_of b opens) node (point_of s) (goes_on_at t))
 
   -- of a live state
   of_live : (q : Point) (t : State) → t.ending ≡ None → TripBy text (graph_of b opens) named node (point_of s)
       (point_of t) s.slot t.slot q → TripTo q t
-  of_live q t l h =
-      subst (λ (o : Option Ending). Trip text (graph_of b opens) named q
-      (IsPoint text (graph_of b opens)
-      (node_after (graph_of b opens) node
-      (gone text (graph_of b opens) node (point_of s) (unless_ended o (point_of t)))) t)
-      (gone text (graph_of b opens) node (point_of s) (unless_ended o (point_of t)))) (sym l) h
+  of_live q t l h = rw l h
 
-  pub trip : (q : Point) → IsPoint text (graph_of b opens) node s q
-      → Trip text (graph_of b opens) named q
+  pub trip : (q : Point) → IsPoint text (graph_of b opens) node s q → Trip text (graph_of b opens) named q
       (IsPoint text (graph_of b opens) (node_after (graph_of b opens) node es) (step_of s)) es
   trip q p = by (word_at text s.pc) refl (went s live after)
     where
@@ -384,9 +352,7 @@ module _ (text : Words) (is : IsText text) (b : Blocks) (opens : List Open) (c :
           → TripBy text (graph_of b opens) named node (point_of s) (point_of t) s.slot t.slot q
       acts word at x e m p t t_is l =
           subst (λ (u : State). TripBy text (graph_of b opens) named node (point_of s) (point_of u) s.slot u.slot q)
-          (sym t_is)
-          (subst
-          (λ (y : Slot). TripBy text (graph_of b opens) named node (point_of s)
+          (sym t_is) (subst (λ (y : Slot). TripBy text (graph_of b opens) named node (point_of s)
           (point_of (act s (decode_of (slice_index text.words word)))) y
           (act s (decode_of (slice_index text.words word))).slot q) (sym e)
           (slots x e m p (ap (λ (u : State). u.ending) (sym t_is) ∙ l)))
@@ -400,13 +366,10 @@ module _ (text : Words) (is : IsText text) (b : Blocks) (opens : List Open) (c :
           slots NoSlot e m p l =
               let same : Some p.0 ≡ Some word = sym p.1 ∙ at in
               let word_is : word ≡ p.0 = cc in
-              subst
-              (λ (r : Point). TripBy text (graph_of b opens) named node (point_of s)
+              subst (λ (r : Point). TripBy text (graph_of b opens) named node (point_of s)
               (point_of (act s (decode_of (slice_index text.words word)))) NoSlot
-              (act s (decode_of (slice_index text.words word))).slot r)
-              (ap (At node) word_is ∙ sym p.2)
-              (outside text is b opens c are named s node e word (decode_of (slice_index text.words word))
-              (record {
+              (act s (decode_of (slice_index text.words word))).slot r) (ap (At node) word_is ∙ sym p.2)
+              (outside text is b opens c are named s node e word (decode_of (slice_index text.words word)) (record {
                 text_is = is;
                 cut = c;
                 is = word_at-some text s.pc word at;
