@@ -43,13 +43,11 @@ target_of text switch t k l =
     ap (λ ys. slice_get ys k) (targets_are text switch t.begins t.at)
     ∙ target_at (entry_in text) (words_from t.begins switch.count) k 0 to.0
     (each-map (λ w. (y : ℕ) × (entry_in text w ≡ y ∷ [])) (λ j. t.begins + j) (below switch.count)
-    (each-below (λ j. (y : ℕ) × (entry_in text (t.begins + j) ≡ y ∷ [])) switch.count
-    (λ j m.
+    (each-below (λ j. (y : ℕ) × (entry_in text (t.begins + j) ≡ y ∷ [])) switch.count (λ j m.
     let y = some_of (word_at text (slice_index text.words (t.begins + j))) (t.leads j m) in
     (y.0, ap (λ (o : Option ℕ). option_to_list o) y.1))))
     (omega (arith, l, length-map (below switch.count) (λ j. t.begins + j), length-below switch.count))
-    (ap (entry_in text) here ∙ ap (λ (o : Option ℕ). option_to_list o) to.1)
-    ∙ sym to.1
+    (ap (entry_in text) here ∙ ap (λ (o : Option ℕ). option_to_list o) to.1) ∙ sym to.1
   where
     here : slice_index_or (words_from t.begins switch.count) k 0 ≡ t.begins + k
     here =

@@ -18,7 +18,7 @@ use Rattle.jump_slice.specs.Cases.{ComesFromCompare, HasPassed, IsOpen, IsNumber
 use Rattle.jump_slice.specs.Held.{HoldsText}
 use Rattle.jump_slice.specs.Joined.{GoesByTable, IsCaseBlock, JumpsGoByTable, StandsAt, StoodFrom}
 use Rattle.jump_slice.specs.Runs.{GoesIntoTable}
-use Rattle.jump_slice.proofs.Arriving.{IsAt}
+use Rattle.jump_slice.proofs.Coming.{IsAt}
 use Rattle.jump_slice.proofs.Known.{IsRun}
 use Rattle.jump_slice.proofs.Numbered.{numbers_are_compared, opens_are_one}
 use Rattle.jump_slice.proofs.Opened.{opens_are}

@@ -112,8 +112,7 @@ module _ {text : Words} {given : List ℕ} {entry : ℕ} {opens : List Open} {s0
       target (Some to) e = (
         to,
         e,
-        in_targets (λ x. x == to) opens o k from.among from.block_is
-            (ap (list_any (λ x. x == to)) from.is.targets
+        in_targets (λ x. x == to) opens o k from.among from.block_is (ap (list_any (λ x. x == to)) from.is.targets
             ∙ target_among text o.switch (register_of (run s0 m) o.approach.compare.register) goes.entry to r.is_text a.table goes.below goes.is
             (ap (word_at text) (sym goes.goes) ∙ e)),
       )

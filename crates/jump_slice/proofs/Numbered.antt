@@ -14,15 +14,36 @@ use Rattle.cfg_blocks.specs.declared.switches.Switch.{Switch}
 use Rattle.eel_base.specs.declared.numbers.WordNo.{WordNo}
 use Rattle.cfg_blocks.specs.Blocks.{blocks_of}
 use Rattle.cfg_blocks.specs.Entries.{entered_of}
-use Rattle.cfg_blocks.specs.Switches.{is_taken, runs_slot, switch_of}
-use Rattle.cfg_normal.specs.Opens.{Open, targets_of}
-use Rattle.jump_slice.specs.Cases.{IsOpen, LoadsEntry, NumbersAreCompared, OpensAreOne, approach_to}
+use Rattle.cfg_blocks.specs.Switches.{is_taken, runs_slot, switch_of, switches_of}
+use Rattle.cfg_normal.specs.Opens.{Open, opens_of, targets_of}
+use Rattle.jump_slice.specs.Cases.{HasPassed, IsOpen, LoadsEntry, NumbersAreCompared, OpensAreOne, approach_to, steps_to}
 use Rattle.jump_slice.specs.Runs.{GoesIntoTable, to_branch, to_jump}
 use Rattle.jump_slice.proofs.About.{About, about}
 use Rattle.jump_slice.proofs.Parts.{IsJump, entry_of}
+use Rattle.eel_base.specs.CodeText.{Words}
+use Rattle.jump_slice.proofs.Known.{IsRun}
+use Rattle.jump_slice.proofs.Walking.{run_of}
 use Rattle.jump_slice.proofs.Steps.{lived_to}
 use Rattle.jump_slice.proofs.Branching.{run_add}
-use Rattle.jump_slice.proofs.Whole.{Ready, place_is, ready, up_to, whole}
+use Rattle.jump_slice.proofs.Coming.{Ready}
+use Rattle.jump_slice.proofs.Whole.{place_is, ready, up_to, whole}
+
+-- ---- a comparison of an open switch from which a run has come
+
+module _ {text : Words} {given : List ℕ} {entry : ℕ} {opens : List Open} {s0 : State}
+    (r : IsRun text given entry opens s0) (o : Open) (is : IsOpen text (entered_of text given) entry o) (n steps : ℕ)
+    (live : (run s0 n).ending ≡ None) (passed : HasPassed text o is.cond s0 n steps) where
+  pub ready_at : Ready text o.approach is.cond is.annul o.way (run s0 passed.moment)
+      × IsJump text o.approach o.switch.compare.0 o.switch
+  unfolding entered_of
+  ready_at =
+      rw (← is.approach) at
+      (ready text given entry o.block o.switch is.is_switch o.switch.compare o.way is.cond is.annul o.approach.compare
+      is.parts s0 entry passed.moment r.is_text r.valid r.fetches r.holds r.begins
+      (lived_to s0 passed.moment n (omega (arith, passed.ago)) live) passed.compares)
+
+  pub goes_way : holds_of is.cond (run (run s0 passed.moment) (to_branch o.approach)).codes ≡ is_taken o.way
+  goes_way = cc (run_add s0 passed.moment (to_branch o.approach), passed.goes)
 
 pub numbers_are_compared : NumbersAreCompared
 unfolding entered_of
@@ -63,15 +84,15 @@ numbers_are_compared text given entry s0 is_text valid fetches holds begins amon
     live_there : (run s (to_jump (approach_to o word) runs)).ending ≡ None
     live_there = ap (λ (t : State). t.ending) (sym there) ∙ live
 
-    both : Ready text o.approach is.cond is.annul o.way s × IsJump text o.approach o.switch.compare.0 o.switch
-    both =
-        rw (← is.approach) at
-        (ready text given entry o.block o.switch is.is_switch o.switch.compare o.way is.cond is.annul o.approach.compare
-        is.parts s0 entry m is_text valid fetches holds begins
-        (lived_to s 0 (to_jump (approach_to o word) runs) (omega arith) live_there) from.passed.compares)
+    r : let list = entered_of text given in
+        IsRun text given entry (opens_of text list (switches_of text list entry)) s0
+    r = run_of text given entry s0 is_text valid fetches holds begins
 
-    goes_way : holds_of is.cond (run s (to_branch o.approach)).codes ≡ is_taken o.way
-    goes_way = cc (run_add s0 m (to_branch o.approach), from.passed.goes)
+    both : Ready text o.approach is.cond is.annul o.way s × IsJump text o.approach o.switch.compare.0 o.switch
+    both = ready_at r o is n (steps_to o word) live from.passed
+
+    way : holds_of is.cond (run s (to_branch o.approach)).codes ≡ is_taken o.way
+    way = goes_way r o is n (steps_to o word) live from.passed
 
     here : Ready text (approach_to o word) is.cond is.annul o.way s
     here = up_to text o.approach is.cond is.annul o.way s word both.0 above below
@@ -79,21 +100,17 @@ numbers_are_compared text given entry s0 is_text valid fetches holds begins amon
     load : (l : LoadsEntry text o word)
         → (x ≤ o.approach.compare.limit) × (sum_of (run s0 n) l.rs1 l.op2 ≡ wrapped (o.switch.table.0 + 4 * x))
     load l =
-        let p = place_is text is_text (approach_to o word) is.cond is.annul o.way s here goes_way live_there loads.LD l.rd
-        l.rs1 l.op2 l.is o.switch.table.0 l.place in
+        let p = place_is is_text here way live_there loads.LD l.rd l.rs1 l.op2 l.is o.switch.table.0 l.place in
         (p.0, ap (λ (t : State). sum_of t l.rs1 l.op2) there ∙ p.1)
 
     goes : word ≡ o.switch.jump.0 → GoesIntoTable text o.switch x (run s0 n)
     goes at =
-        let r = both.0 in
         let e : n ≡ m + to_jump o.approach runs = omega (arith, from.passed.ago, a.slot, at ∙ both.1.at) in
         let arrives : run s0 n ≡ run s (to_jump o.approach runs) =
         ap (run s0) e ∙ run_add s0 m (to_jump o.approach runs) in
         rw arrives
-        (whole text is_text s r.valid r.fetches r.holds o.approach is.cond is.annul o.way r.disp r.at r.ordered r.last_low
-        r.branch r.other goes_way r.compared r.slot r.leads r.behind r.jump_low r.jumping
-        (ap (λ (t : State). t.ending) (sym arrives) ∙ live) o.switch.compare.0 o.switch both.1 r.bounded r.is_compare
-        r.quiet)
+        (whole is_text both.0 way (ap (λ (t : State). t.ending) (sym arrives)
+        ∙ live) o.switch.compare.0 o.switch both.1)
 
 -- ---- a block has one open switch
 

@@ -25,14 +25,9 @@ use Rattle.cfg_walk.proofs.Cut.{cut}
 use Rattle.cfg_walk.proofs.Holding.{is_held, some_words}
 use Rattle.cfg_walk.proofs.Lists.{Each, each-append, each-below, each-flat_map}
 use Rattle.jump_slice.specs.Cases.{IsOpen}
-use Rattle.v8_decode.specs.declared.Instr.{Instr}
-use Rattle.v8_decode.specs.declared.Instr.TheVariants as i
-use Rattle.cfg_blocks.specs.declared.switches.Value.{Value}
-use Rattle.cfg_blocks.specs.declared.switches.Value.TheVariants.{Unknown, Const, Index, Place, Entry}
-use Rattle.cfg_blocks.specs.Switches.{bounds, is_jump, is_table, switch_at, switch_behind, switch_by, switch_into, switch_on}
-use Rattle.cfg_blocks.specs.Values.{instr_at, sum_in}
-use Rattle.cfg_blocks.specs.Switches.{before_jump}
-use Rattle.jump_slice.proofs.Parts.{if_some}
+use Rattle.cfg_blocks.specs.Switches.{bounds, is_jump, switch_behind, switch_into, switch_on}
+use Rattle.cfg_blocks.specs.Values.{instr_at}
+use Rattle.jump_slice.proofs.Parts.{if_some, switch_at-is}
 
 -- ---- what a switch is made of
 
@@ -49,27 +44,6 @@ pub record Found (text : Words) (list : Entered) (block : ℕ) (switch : Switch)
   pub compare_is : switch.compare ≡ from
   pub jump_is : switch.jump.0 ≡ last_word list.blocks.firsts list.blocks.words block
 
--- what the switch has of its jump and its comparison
-abbrev Named : Approach → ℕ → Switch → Type 0
-Named a from switch = (switch.compare ≡ record { 0 = from }) × (switch.jump.0 ≡ a.jump)
-
-by_named : (text : Words) (a : Approach) (from : ℕ) (v : Value) (switch : Switch) → switch_by text a from v ≡ Some switch
-    → Named a from switch
-by_named text a from (Entry c) switch h =
-    let parts = if_some (is_table text c (a.compare.limit + 1)) _ switch h in
-    let made : Switch = record { jump = record { 0 = a.jump }; compare = record { 0 = from }; table = record { 0 = c }; count = a.compare.limit + 1 } in
-    let same : made ≡ switch = cc in
-    rw (← same) (refl, refl)
-by_named text a from Unknown switch h = absurd (cc)
-by_named text a from (Const c) switch h = absurd (cc)
-by_named text a from Index switch h = absurd (cc)
-by_named text a from (Place c) switch h = absurd (cc)
-
-at_named : (text : Words) (a : Approach) (from : ℕ) (instr : Instr) (switch : Switch)
-    → switch_at text a from instr ≡ Some switch → Named a from switch
-at_named text a from (i.Jmpl rd rs1 op2) switch h = by_named text a from (sum_in (before_jump text a) rs1 op2) switch h
-at_named text a from _ switch h = absurd (cc)
-
 module _ (text : Words) (list : Entered) (block : ℕ) (switch : Switch) where
   abbrev b : Blocks
   b = list.blocks
@@ -80,8 +54,8 @@ module _ (text : Words) (list : Entered) (block : ℕ) (switch : Switch) where
       → switch_on text b block from.0 annul way c ≡ Some switch → Found text list block switch
   found_on from way cond annul target None e f g h = absurd (cc)
   found_on from way cond annul target (Some c) e f g h =
-      let named = at_named text (approach_of text b block from.0 annul way c) from.0
-      (instr_at text (last_word b.firsts b.words block)) switch h in
+      let jumps = switch_at-is text (approach_of text b block from.0 annul way c) from.0
+      (instr_at text (last_word b.firsts b.words block)) switch refl h in
       record {
         from = from;
         way = way;
@@ -92,8 +66,8 @@ module _ (text : Words) (list : Entered) (block : ℕ) (switch : Switch) where
         edge = e;
         branch = f;
         sets = g;
-        compare_is = named.0;
-        jump_is = named.1;
+        compare_is = jumps.from;
+        jump_is = jumps.at;
       }
 
   found_behind : (from : BlockNo) (way : EdgeKind) (end : BlockEnd)
@@ -235,7 +209,6 @@ opens_are text given entry is =
         (record {
           within = l;
           above = omega (arith, some_words b.words b.firsts c.firsts block l);
-          below = omega
-              (arith, some_words b.words b.firsts c.firsts block l);
+          below = omega (arith, some_words b.words b.firsts c.firsts block l);
         }) in
         (candidate_is text (entered_of text given) entry block switch held e found.0, tt)

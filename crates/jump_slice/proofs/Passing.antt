@@ -85,10 +85,8 @@ module _ {text : Words} {given : List ℕ} {entry : ℕ} {opens : List Open} {s0
 
       at_last : c.word ≡ o.approach.last
       at_last =
-          transfer_ends text b opens parts c.word c.low (transfer_at text c.word t)
-          ∙ ap (last_word b.firsts b.words)
-          (holds_word r n node o.switch.compare.0 h.matches slot (ap home_of there) c.word c.at c.low)
-          ∙ sym a.last
+          transfer_ends text b opens parts c.word c.low (transfer_at text c.word t) ∙ ap (last_word b.firsts b.words)
+          (holds_word r n node o.switch.compare.0 h.matches slot (ap home_of there) c.word c.at c.low) ∙ sym a.last
 
       before : HasCompared text o s0 n (c.word - o.approach.compare.word)
       before =
@@ -113,8 +111,7 @@ module _ {text : Words} {given : List ℕ} {entry : ℕ} {opens : List Open} {s0
 
           pc_next : (run s0 (suc n)).pc ≡ (run s0 n).npc
           pc_next =
-              ap (λ (u : State). u.pc) c.acts
-              ∙ enters (run s0 n) (word_instr text c.word) slot t c.acted
+              ap (λ (u : State). u.pc) c.acts ∙ enters (run s0 n) (word_instr text c.word) slot t c.acted
               (λ e. sets (sym now ∙ ap (λ (u : State). u.slot) c.acts ∙ e))
 
           pc_back : (run s0 (suc n)).pc - 4 ≡ (run s0 n).pc

@@ -1,5 +1,5 @@
 -- What is known after a step that neither sets a slot nor leaves one.
-use Rattle.std.proofs.Common.{◌≡◌, ℕ, suc, ◌+◌, ◌<◌, Bool, true, false, ◌&&◌, ◌||◌, List, [], length, Some, None, refl, ap, sym, ◌∙◌, subst, arith, slice_index, inl, inr}
+use Rattle.std.proofs.Common.{◌≡◌, ℕ, suc, ◌+◌, ◌<◌, Bool, true, false, List, [], length, Some, None, refl, ap, sym, ◌∙◌, subst, arith, slice_index, inl, inr}
 use Rattle.std.specs.Prelude.{if◌then◌else◌, ◌==◌, ℤ}
 use Rattle.std.proofs.lemmas.Bool.{cases_lt, eqb-true, false≢true}
 use Rattle.eel_base.specs.CodeText.{Words, address_of, word_at}
@@ -29,7 +29,7 @@ use Rattle.cfg_walk.proofs.Addresses.{next_word}
 use Rattle.cfg_walk.proofs.Leaving.{end_is, ends_home, falls_to, node_is, straight_end, straight_left, transfer_ends}
 use Rattle.cfg_walk.proofs.Points.{Stands, within_some}
 use Rattle.cfg_walk.proofs.Transfers.{always_goes, untaken_goes}
-use Rattle.jump_slice.proofs.Blocks.{is_conditional}
+use Rattle.jump_slice.proofs.Blocks.{is_conditional, not_bounded}
 use Rattle.cfg_blocks.specs.Ends.{is_transfer}
 use Rattle.v8_step.proofs.CopiedMoves.{goes_act}
 use Rattle.jump_slice.specs.Cases.{IsOpen}
@@ -40,13 +40,7 @@ use Rattle.jump_slice.proofs.Known.{Carries, Compared, IsHead, IsRun, Passed, Te
 
 -- a way of an open switch is that of a conditional branch
 bounded_fall : (cond : ℕ) (way : EdgeKind) → same_kind kinds.Fall way ≡ true → bounds cond way ≡ true → ⊥
-bounded_fall cond kinds.Fall e h = by (cond == 12) (cond == 4) h
-  where
-    by : (a d : Bool) → ((a && false) || (d && false)) ≡ true → ⊥
-    by true true h = absurd (cc)
-    by true false h = absurd (cc)
-    by false true h = absurd (cc)
-    by false false h = absurd (cc)
+bounded_fall cond kinds.Fall e h = not_bounded cond h
 bounded_fall cond _ e h = absurd (false≢true e)
 
 module _ {text : Words} {given : List ℕ} {entry : ℕ} {opens : List Open} {s0 : State}
@@ -121,8 +115,7 @@ module _ {text : Words} {given : List ℕ} {entry : ℕ} {opens : List Open} {s0
           (left_is ∙ ap (λ (x : Bool). node_after graph node (if x then edge_from graph node kinds.Fall else [])) e
           ∙ falls_to text b opens parts c.word c.low (opened r) node h.inside home
           (end_is text c.word (word_instr text c.word) refl ∙ straight_end text c.word (word_instr text c.word) straight) last
-          ∙ ap (λ o. directed opens node kinds.Fall (node_of b o)) (sym next))
-          (λ w here.
+          ∙ ap (λ o. directed opens node kinds.Fall (node_of b o)) (sym next)) (λ w here.
           let at = within_some b.words (c.word + 1) w (sym next ∙ here) in (
             rw at.1 at at.0,
             first_held b.words b.firsts parts.firsts w
@@ -206,8 +199,7 @@ module _ {text : Words} {given : List ℕ} {entry : ℕ} {opens : List Open} {s0
       at_last : (o : Open) → IsOpen text list entry o → node ≡ block o.switch.compare.0 → c.word ≡ o.approach.last
       at_last o is from =
           transfer_ends text b opens parts c.word c.low
-          (ap is_transfer (end_is text c.word (i.Branch cond true disp) instr))
-          ∙ ap (last_word b.firsts b.words)
+          (ap is_transfer (end_is text c.word (i.Branch cond true disp) instr)) ∙ ap (last_word b.firsts b.words)
           (holds_word r n node o.switch.compare.0 h.matches slot (ap home_of from) c.word c.at c.low)
           ∙ sym (about text given entry r.is_text o is).last
 

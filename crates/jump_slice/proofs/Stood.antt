@@ -4,7 +4,6 @@ use Rattle.std.proofs.Common.{◌≡◌, ℕ, zero, suc, ◌+◌, ◌<◌, ◌�
 use Rattle.std.specs.Prelude.{if◌then◌else◌}
 use Rattle.std.proofs.lemmas.Bool.{ne_eqb}
 use Rattle.eel_base.specs.CodeText.{Words, word_at}
-use Rattle.v8_alu.specs.Conditions.{holds_of}
 use Rattle.v8_step.specs.declared.Ending.{Ending}
 use Rattle.v8_step.specs.declared.Slot.{Slot}
 use Rattle.v8_step.specs.declared.Slot.TheVariants.{NoSlot}
@@ -15,7 +14,7 @@ use Rattle.cfg_blocks.specs.declared.EdgeKind.TheVariants as kinds
 use Rattle.cfg_blocks.specs.Blocks.{Blocks, below, blocks_of, holding_of, is_among, last_word}
 use Rattle.cfg_blocks.specs.Ends.{within}
 use Rattle.cfg_blocks.specs.Entries.{entered_of}
-use Rattle.cfg_blocks.specs.Switches.{is_taken, runs_slot}
+use Rattle.cfg_blocks.specs.Switches.{runs_slot}
 use Rattle.cfg_blocks.specs.Values.{instr_at}
 use Rattle.cfg_normal.specs.declared.Node.{Node}
 use Rattle.cfg_normal.specs.Nodes.{home_of}
@@ -29,15 +28,17 @@ use Rattle.cfg_walk.proofs.Holding.{ends_within, is_held}
 use Rattle.cfg_walk.proofs.Leaving.{ends_home, node_is, straight_left}
 use Rattle.cfg_walk.proofs.Walks.{live_before}
 use Rattle.jump_slice.specs.Cases.{HasPassed, IsOpen, approach_to, steps_to}
-use Rattle.jump_slice.specs.Runs.{to_branch, to_jump}
+use Rattle.jump_slice.specs.Runs.{to_jump}
 use Rattle.jump_slice.proofs.About.{About, about}
-use Rattle.jump_slice.proofs.Arriving.{IsAt, at_jump}
+use Rattle.jump_slice.proofs.Arriving.{at_jump}
+use Rattle.jump_slice.proofs.Coming.{IsAt, Ready}
 use Rattle.jump_slice.proofs.Blocks.{no_transfer}
 use Rattle.jump_slice.proofs.Branching.{run_add}
 use Rattle.jump_slice.proofs.Known.{IsRun, Tells}
 use Rattle.jump_slice.proofs.Steps.{lived_to}
 use Rattle.jump_slice.proofs.Walking.{tells}
-use Rattle.jump_slice.proofs.Whole.{Ready, ready, up_to}
+use Rattle.jump_slice.proofs.Whole.{up_to}
+use Rattle.jump_slice.proofs.Numbered.{goes_way, ready_at}
 
 -- ---- the walk in the jump's block
 
@@ -116,13 +117,10 @@ module _ {text : Words} {given : List ℕ} {entry : ℕ} {opens : List Open} {s0
   pub at_word : (word : ℕ) → o.approach.first ≤ word → word ≤ o.approach.jump
       → ((run s0 (passed.moment + steps_to o word)).ending ≡ None)
       × IsAt text word (run s0 (passed.moment + steps_to o word))
-  unfolding entered_of
   at_word word above below = (
     lived_to s0 (m + steps_to o word) n (omega (arith, passed.ago)) live,
-    rw (run_add s0 m (steps_to o word))
-        (at_jump text r.is_text s here.fetches (approach_to o word) is.cond is.annul o.way here.disp here.at
-        here.ordered here.last_low here.branch here.other goes here.compared here.slot here.leads here.behind
-        here.jump_low here.jumping live_there),
+    rw (run_add s0 m (steps_to o word)) (at_jump r.is_text here
+        (goes_way r o is n (steps_to o o.approach.jump) live passed) live_there),
   )
     where
       m : ℕ
@@ -142,15 +140,7 @@ module _ {text : Words} {given : List ℕ} {entry : ℕ} {opens : List Open} {s0
           ap (λ (t : State). t.ending) (sym (run_add s0 m (to_jump (approach_to o word) runs)))
           ∙ lived_to s0 (m + to_jump (approach_to o word) runs) n (omega (arith, passed.ago, a.slot)) live
 
-      goes : holds_of is.cond (run s (to_branch o.approach)).codes ≡ is_taken o.way
-      goes = cc (run_add s0 m (to_branch o.approach), passed.goes)
-
-      both : Ready text o.approach is.cond is.annul o.way s
-      both =
-          rw (← is.approach) at
-          (ready text given entry o.block o.switch is.is_switch o.switch.compare o.way is.cond is.annul
-          o.approach.compare is.parts s0 entry m r.is_text r.valid r.fetches r.holds r.begins
-          (lived_to s0 m n (omega (arith, passed.ago)) live) passed.compares).0
-
       here : Ready text (approach_to o word) is.cond is.annul o.way s
-      here = up_to text o.approach is.cond is.annul o.way s word both above below
+      here = up_to text o.approach is.cond is.annul o.way s word
+          (ready_at r o is n (steps_to o o.approach.jump) live passed).0
+          above below
