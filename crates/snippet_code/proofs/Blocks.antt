@@ -1,5 +1,5 @@
 -- Code in picked registers, word by word.
-use Rattle.std.proofs.Common.{◌≡◌, ◌≢◌, ℕ, zero, suc, ◌+◌, ◌*◌, ◌%◌, ◌^◌, ◌<◌, ◌≤◌, ◌⊎◌, inl, inr, Bool, true, false, Ok, Some, List, refl, ap, sym, ◌∙◌, subst, arith}
+use Rattle.std.proofs.Common.{◌≡◌, ◌≢◌, ℕ, zero, suc, ◌+◌, ◌*◌, ◌%◌, ◌^◌, ◌<◌, ◌≤◌, ◌⊎◌, inl, inr, Bool, true, false, Ok, Some, refl, ap, sym, ◌∙◌, arith}
 use Rattle.std.specs.Prelude.{if◌then◌else◌, ◌==◌, slice_index, pos}
 use Rattle.std.proofs.lemmas.Bool.Decides.{nat_tests}
 use Rattle.v8_decode.specs.declared.Op2.{Op2}
@@ -11,14 +11,14 @@ use Rattle.v8_decode.specs.declared.StoreKind.TheVariants as stores
 use Rattle.v8_alu.specs.declared.Codes.{Codes}
 use Rattle.v8_alu.specs.Alu.{alu_of}
 use Rattle.v8_alu.specs.Numbers.{wrapped}
-use Rattle.v8_memory.specs.Regions.{Region, code_of}
+use Rattle.v8_memory.specs.Regions.{code_of}
 use Rattle.v8_windows.specs.Registers.{place_of}
 use Rattle.v8_windows.proofs.Places.{register_in-set, register_in-other, length-register_set}
 use Rattle.v8_step.specs.declared.Slot.TheVariants.{NoSlot, Taken}
 use Rattle.v8_step.specs.State.{State, register_of, with_register, operand_of, sum_of}
 use Rattle.v8_alu.specs.Conditions.{holds_of}
 use Rattle.v8_step.specs.declared.Slot.{Slot}
-use Rattle.v8_step.specs.Transfers.{next, branched, branch_step, unless_couple, target_of}
+use Rattle.v8_step.specs.Transfers.{next, branched, branch_step}
 use Rattle.v8_step.specs.Step.{act, step_of, alu_step}
 use Rattle.v8_step.proofs.Quiet.{IsPlain}
 use Rattle.code_runs.specs.Points.{moved}
@@ -81,11 +81,7 @@ both_act u op rd rs1 op2 v codes e = ap (alu_step u rd) e
 branch_acts : (u : State) (cond : ℕ) (b : Bool) → u.slot ≡ NoSlot → (cond == 8) ≡ false → holds_of cond u.codes ≡ b
     → act u (i.Branch cond true (pos 2)) ≡ branched b false true u (wrapped (u.pc + 8))
 unfolding act branch_step
-branch_acts u cond b slot other e =
-    ap (λ (z : Slot). unless_couple z u (branched (holds_of cond u.codes) (cond == 8) true u (target_of u (pos 2))))
-    slot
-    ∙ ap (λ z. branched (holds_of cond u.codes) z true u (target_of u (pos 2))) other
-    ∙ ap (λ z. branched z false true u (target_of u (pos 2))) e
+branch_acts u cond b slot other e = cc (slot, other, e)
 
 -- a sum is this address wherever a state is so
 abbrev pub Sums : (s : State) (May : ℕ → Type 0) (r : ℕ → ℕ) (want rs1 : ℕ) (op2 : Op2) (a : ℕ) (g : ℕ → ℕ)
@@ -98,8 +94,7 @@ module _ {s : State} {count : ℕ} {May : ℕ → Type 0} {r : ℕ → ℕ} {wan
       → q < 32 → ((k : ℕ) → k < want → q ≢ r k) → register_of u q ≡ register_of s q
   unpicked_is u zero h low ne = refl
   unpicked_is u (suc q) h low ne =
-      ap (λ w. slice_index u.registers (place_of w (suc q))) h.same.window
-      ∙ h.held.others (place_of s.window (suc q))
+      ap (λ w. slice_index u.registers (place_of w (suc q))) h.same.window ∙ h.held.others (place_of s.window (suc q))
       (λ k b. places_differ s.window (suc q) (r k) c.valid.window low (c.below k b) (ne k b))
 
   -- a picked register written
@@ -111,8 +106,7 @@ module _ {s : State} {count : ℕ} {May : ℕ → Type 0} {r : ℕ → ℕ} {wan
     held = record {
       count = length-register_set u.registers u.window (r j) v ∙ h.held.count;
       picked = λ k bk. go k bk (equal_or_not k j);
-      others = λ p ne. set_stays u.registers u.window (r j) v p
-          (subst (λ w. p ≢ place_of w (r j)) (sym h.same.window) (ne j b)) ∙ h.held.others p ne;
+      others = λ p ne. set_stays u.registers u.window (r j) v p (rw h.same.window (ne j b)) ∙ h.held.others p ne;
     };
     memory = h.memory;
   }
@@ -123,11 +117,9 @@ module _ {s : State} {count : ℕ} {May : ℕ → Type 0} {r : ℕ → ℕ} {wan
           ∙ register_in-set u.registers u.window (r j) v h.held.count (c.some j b)
           ∙ sym (put_same j v f) ∙ ap (put j v f) (sym e)
       go k bk (inr n) =
-          register_in-other u.registers u.window (r j) v u.window (r k)
-          (subst (λ w. place_of w (r j) ≢ place_of w (r k)) (sym h.same.window)
+          register_in-other u.registers u.window (r j) v u.window (r k) (rw h.same.window
           (places_differ s.window (r j) (r k) c.valid.window (c.below j b) (c.below k bk)
-          (c.differ j k b bk (λ e. n (sym e)))))
-          ∙ h.held.picked k bk ∙ sym (put_other j v f k n)
+          (c.differ j k b bk (λ e. n (sym e))))) ∙ h.held.picked k bk ∙ sym (put_other j v f k n)
 
   -- a word stored
   alike_store : {g : ℕ → ℕ} {codes : Codes} {f : ℕ → ℕ} (a v : ℕ) (u : State) → May a → v < 2 ^ 32
@@ -154,8 +146,8 @@ module _ {s : State} {count : ℕ} {May : ℕ → Type 0} {r : ℕ → ℕ} {wan
           ∙ h.memory.words b m ∙ sym (put_other a v g b n)
 
       range : (b : ℕ) → May b → (b ≡ a) ⊎ (b ≢ a) → put a v g b < 2 ^ 32
-      range b m (inl e) = subst (λ z. z < 2 ^ 32) (sym (ap (put a v g) e ∙ put_same a v g)) small
-      range b m (inr n) = subst (λ z. z < 2 ^ 32) (sym (put_other a v g b n)) (h.memory.range b m)
+      range b m (inl e) = rw (ap (put a v g) e ∙ put_same a v g) small
+      range b m (inr n) = rw (put_other a v g b n) (h.memory.range b m)
 
 module _ {s : State} {count : ℕ} {May : ℕ → Type 0} {counted : ℕ → Bool} {r : ℕ → ℕ} {want : ℕ}
     (c : HasBlock s count May r want) where
@@ -191,9 +183,7 @@ module _ {s : State} {count : ℕ} {May : ℕ → Type 0} {counted : ℕ → Boo
   says_here : {n t : ℕ} {g : ℕ → ℕ} {codes : Codes} {f : ℕ → ℕ} (instr : Instr)
       (w : Reaches s count May counted r want n t g codes f) → Says (code_of s.memory) (s.pc + 4 * n) instr
       → Says (code_of w.after.memory) w.after.pc instr
-  says_here {n} instr w says =
-      subst (λ (z : List Region). Says z w.after.pc instr) (sym w.alike.memory.code)
-      (subst (λ z. Says (code_of s.memory) z instr) (sym w.pc) says)
+  says_here {n} instr w says = rw w.alike.memory.code (rw w.pc says)
 
   -- one word more, by what it does beside going on
   pub works_step : {n t : ℕ} {g : ℕ → ℕ} {codes : Codes} {f : ℕ → ℕ} (t' : ℕ) (g' : ℕ → ℕ) (codes' : Codes)
@@ -220,8 +210,7 @@ module _ {s : State} {count : ℕ} {May : ℕ → Type 0} {counted : ℕ → Boo
           steps = w.steps + 1;
           few = omega arith;
           path = leads_then (IsBetween s count May) s w.after (next v) w.steps 1 w.path
-              (leads_one _ w.after (next v) one)
-              (λ some _. record {
+              (leads_one _ w.after (next v) one) (λ some _. record {
                 past = (let x : 0 < w.steps = some in omega arith);
                 before = omega arith;
                 stores =
@@ -271,8 +260,7 @@ module _ {s : State} {count : ℕ} {May : ℕ → Type 0} {counted : ℕ → Boo
       → Says (code_of s.memory) (s.pc + 4 * n) (i.Alu op true 0 rs1 op2)
       → ((u : State) → IsAlike s May r want g codes f u
       → alu_of op true (register_of u rs1) (operand_of u op2) u.codes u.y ≡ Ok
-      (record { value = v; codes = codes'; y = u.y }))
-      → Works s count May counted r want (suc n) t g codes' f
+      (record { value = v; codes = codes'; y = u.y })) → Works s count May counted r want (suc n) t g codes' f
   compares {t = t} {g = g} {codes = codes} {f = f} op rs1 op2 v codes' w below says e =
       let h = w.reach.alike in
       works_step t g codes' f (i.Alu op true 0 rs1 op2) w.reach below (λ cond q k z. cc) says
@@ -322,7 +310,7 @@ module _ {s : State} {count : ℕ} {May : ℕ → Type 0} {counted : ℕ → Boo
       (w.reach.alike.memory.can a ok)
       ∙ ap (λ z. next (record w.reach.after { memory = store_word w.reach.after.memory a z }))
       (value w.reach.after w.reach.alike)) refl refl (alike_store c a v w.reach.after ok small w.reach.alike)
-      (subst (λ z. t + one_if counted (Some (word_span z)) ≤ t') (sym (sums w.reach.after w.reach.alike)) more)
+      (rw (sums w.reach.after w.reach.alike) more)
 
   -- ---- a branch, wherever it leads
   branch_leads : {n t : ℕ} {g : ℕ → ℕ} {codes : Codes} {f : ℕ → ℕ} (cond m pc npc : ℕ) (slot : Slot)
@@ -367,10 +355,7 @@ module _ {s : State} {count : ℕ} {May : ℕ → Type 0} {counted : ℕ → Boo
       → Works s count May counted r want (suc (suc n)) t (if b then put a v g else g) codes f
   unfolding branch_leads
   branches {n} {t} {g} {codes} {f} cond rd rs1 op2 a v true w room other holds branch store sums ok value small free =
-      let low = c.low in
       let x = w.reach in
-      let p = x.pc in
-      let q = x.npc in
       let u = x.after in
       let y : Reaches s count May counted r want (suc n) t g codes f =
       branch_leads cond (suc n) u.npc (wrapped (u.pc + 8)) Taken x (omega arith) (omega arith) branch
@@ -381,18 +366,13 @@ module _ {s : State} {count : ℕ} {May : ℕ → Type 0} {counted : ℕ → Boo
       (record y.after { memory = store_word y.after.memory a v })
       (st_acts y.after rd rs1 op2 a (sums y.after y.alike) (ap (λ z. z == 0) (c.aligned a ok)) (y.alike.memory.can a ok)
       ∙ ap (λ z. next (record y.after { memory = store_word y.after.memory a z })) (value y.after y.alike)) refl
-      refl (alike_store c a v y.after ok small y.alike)
-      (subst (λ z. t + one_if counted (Some (word_span z)) ≤ t) (sym (sums y.after y.alike))
-      (subst (λ (z : Bool). t + (if z then 1 else 0) ≤ t) (sym free) (omega arith)))
+      refl (alike_store c a v y.after ok small y.alike) (rw (sums y.after y.alike) (rw free (omega arith)))
   branches {n} {t} {g} {codes} {f} cond rd rs1 op2 a v false w room other holds branch store sums ok value small free =
-      let low = c.low in
       let x = w.reach in
-      let p = x.pc in
       let u = x.after in
       record {
         reach = branch_leads cond (suc (suc n)) (wrapped (u.pc + 8)) (wrapped (u.pc + 12)) u.slot x (omega arith)
-            (omega arith) branch
-            (says_step u (i.Branch cond true (pos 2)) x.alike.same.live
+            (omega arith) branch (says_step u (i.Branch cond true (pos 2)) x.alike.same.live
             (says_here (i.Branch cond true (pos 2)) x branch)
             ∙ branch_acts u cond false w.slot other (ap (holds_of cond) x.alike.codes_are ∙ holds))
             (omega arith) (omega arith);

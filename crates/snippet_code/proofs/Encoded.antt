@@ -1,5 +1,5 @@
 -- The words of a snippet decode to its instructions.
-use Rattle.std.proofs.Common.{◌≡◌, ℕ, zero, suc, ◌+◌, ◌-◌, ◌^◌, ◌<◌, ◌≤◌, max, Bool, true, false, ◌==◌, List, [], ◌∷◌, ◌++◌, length, map, refl, ap, ◌∙◌, arith, All}
+use Rattle.std.proofs.Common.{◌≡◌, ℕ, zero, suc, ◌+◌, ◌-◌, ◌^◌, ◌<◌, ◌≤◌, Bool, true, false, ◌==◌, List, [], ◌∷◌, ◌++◌, length, map, refl, arith, All}
 use Rattle.std.specs.Prelude.{if◌then◌else◌, nat_lt, slice_index, pos, negsuc}
 use Rattle.std.proofs.lemmas.Bool.Decides.{nat_tests}
 use Rattle.std.proofs.lemmas.List.Elements.{All-head, All-tail}
@@ -19,6 +19,11 @@ use Rattle.snippet_code.specs.Cells.{cell_at}
 use Rattle.snippet_code.specs.Words.{high, low, load_low, store_low, load_next, store_next, add_one, of_two, with_number, add_low, compare, next_if_greater, is_small, small, add_words, put_words, top_words, count_words, log_words, op_words, op_registers, registers_for, all_words, numbered, save, restore}
 use Rattle.snippet_code.specs.Laws.{EndsLow, EndLow}
 
+infixr 20 ◌&◌
+-- both
+◌&◌ : {A B : Type 0} → A → B → A × B
+h & k = (h, k)
+
 -- an instruction that a word has
 abbrev pub HasWord : Instr → Type 0
 HasWord x = (is_in_range x ≡ true) × (has_word x ≡ true)
@@ -29,9 +34,7 @@ HaveWords (x ∷ xs) = HasWord x × HaveWords xs
 
 pub decoded : (xs : List Instr) → HaveWords xs → map decode_of (map word_of xs) ≡ xs
 decoded [] h = refl
-decoded (x ∷ xs) h =
-    ap (λ z. z ∷ map decode_of (map word_of xs)) (decode_of-word_of x h.0.0 h.0.1)
-    ∙ ap (λ (z : List Instr). x ∷ z) (decoded xs h.1)
+decoded (x ∷ xs) h = cc (decode_of-word_of x h.0.0 h.0.1, decoded xs h.1)
 
 pub have-append : (xs ys : List Instr) → HaveWords xs → HaveWords ys → HaveWords (xs ++ ys)
 have-append [] ys h k = k
@@ -114,196 +117,74 @@ module _ (r : ℕ → ℕ) (want : ℕ) (below : (k : ℕ) → k < want → r k 
   add_have a amount true e h l room =
       let r0 = below 0 (omega arith) in
       let r1 = below 1 (omega arith) in
-      rw e (
-        high_has a (r 0) h r0,
-        (
-          load_has a (r 0) (r 1) r0 r1,
-          (
-            amount_has amount (r 1) (r 1) e l r1 r1,
-            (store_has a (r 0) (r 1) r0 r1, tt),
-          ),
-        ),
-      )
+      rw e (high_has a (r 0) h r0 & load_has a (r 0) (r 1) r0 r1 & amount_has amount (r 1) (r 1) e l r1 r1
+      & store_has a (r 0) (r 1) r0 r1 & tt)
   add_have a amount false e h l room =
       let r0 = below 0 (omega arith) in
       let r1 = below 1 (omega arith) in
       let r2 = below 2 (omega arith) in
-      rw e (
-        high_has a (r 0) h r0,
-        (
-          load_has a (r 0) (r 1) r0 r1,
-          (
-            high_has amount (r 2) l r2,
-            (
-              add_low_has amount (r 2) r2,
-              (
-                two_has ops.ADD (r 1) (r 2) (r 1) refl r1 r2 r1,
-                (store_has a (r 0) (r 1) r0 r1, tt),
-              ),
-            ),
-          ),
-        ),
-      )
+      rw e (high_has a (r 0) h r0 & load_has a (r 0) (r 1) r0 r1 & high_has amount (r 2) l r2
+      & add_low_has amount (r 2) r2 & two_has ops.ADD (r 1) (r 2) (r 1) refl r1 r2 r1
+      & store_has a (r 0) (r 1) r0 r1 & tt)
 
   put_have : (a value : ℕ) (b : Bool) → (value == 0) ≡ b → a < 2 ^ 32 → value < 2 ^ 32
       → (if b then 1 else 2) ≤ want → HaveWords (put_words a r value)
   put_have a value true e h l room =
       let r0 = below 0 (omega arith) in
-      rw e (
-        high_has a (r 0) h r0,
-        (store_has a (r 0) 0 r0 (omega arith), tt),
-      )
+      rw e (high_has a (r 0) h r0 & store_has a (r 0) 0 r0 (omega arith) & tt)
   put_have a value false e h l room =
       let r0 = below 0 (omega arith) in
       let r1 = below 1 (omega arith) in
-      rw e (
-        high_has a (r 0) h r0,
-        (
-          high_has value (r 1) l r1,
-          (
-            add_low_has value (r 1) r1,
-            (store_has a (r 0) (r 1) r0 r1, tt),
-          ),
-        ),
-      )
+      rw e (high_has a (r 0) h r0 & high_has value (r 1) l r1 & add_low_has value (r 1) r1
+      & store_has a (r 0) (r 1) r0 r1 & tt)
 
   top_have : (a reg : ℕ) (d : Bool) → a < 2 ^ 32 → reg < 32 → (if d then 2 else 5) ≤ want
       → HaveWords (top_words a d r reg)
   top_have a reg true h l room =
       let r0 = below 0 (omega arith) in
-      let r1 = below 1 (omega arith) in (
-        high_has a (r 0) h r0,
-        (
-          load_has a (r 0) (r 1) r0 r1,
-          (
-            compare_has reg (r 1) l r1,
-            (
-              branch_has,
-              (store_has a (r 0) reg r0 l, tt),
-            ),
-          ),
-        ),
-      )
+      let r1 = below 1 (omega arith) in
+      high_has a (r 0) h r0 & load_has a (r 0) (r 1) r0 r1 & compare_has reg (r 1) l r1 & branch_has
+      & store_has a (r 0) reg r0 l & tt
   top_have a reg false h l room =
       let r0 = below 0 (omega arith) in
       let r1 = below 1 (omega arith) in
       let r2 = below 2 (omega arith) in
       let r3 = below 3 (omega arith) in
-      let r4 = below 4 (omega arith) in (
-        high_has a (r 0) h r0,
-        (
-          load_has a (r 0) (r 1) r0 r1,
-          (
-            two_has ops.SUB (r 1) reg (r 2) refl r1 l r2,
-            (
-              two_has ops.ORN reg (r 1) (r 3) refl l r1 r3,
-              (
-                two_has ops.AND (r 3) (r 2) (r 3) refl r3 r2 r3,
-                (
-                  two_has ops.ANDN reg (r 1) (r 4) refl l r1 r4,
-                  (
-                    two_has ops.OR (r 3) (r 4) (r 3) refl r3 r4 r3,
-                    (
-                      number_has ops.SRA 31 (r 3) (r 3) refl (omega arith) r3 r3,
-                      (
-                        two_has ops.AND (r 3) (r 2) (r 3) refl r3 r2 r3,
-                        (
-                          two_has ops.SUB (r 1) (r 3) (r 1) refl r1 r3 r1,
-                          (store_has a (r 0) (r 1) r0 r1, tt),
-                        ),
-                      ),
-                    ),
-                  ),
-                ),
-              ),
-            ),
-          ),
-        ),
-      )
+      let r4 = below 4 (omega arith) in
+      high_has a (r 0) h r0 & load_has a (r 0) (r 1) r0 r1 & two_has ops.SUB (r 1) reg (r 2) refl r1 l r2
+      & two_has ops.ORN reg (r 1) (r 3) refl l r1 r3 & two_has ops.AND (r 3) (r 2) (r 3) refl r3 r2 r3
+      & two_has ops.ANDN reg (r 1) (r 4) refl l r1 r4 & two_has ops.OR (r 3) (r 4) (r 3) refl r3 r4 r3
+      & number_has ops.SRA 31 (r 3) (r 3) refl (omega arith) r3 r3 & two_has ops.AND (r 3) (r 2) (r 3) refl r3 r2 r3
+      & two_has ops.SUB (r 1) (r 3) (r 1) refl r1 r3 r1 & store_has a (r 0) (r 1) r0 r1 & tt
 
   count_have : (a : ℕ) (d : Bool) → a < 2 ^ 32 → (if d then 2 else 3) ≤ want → HaveWords (count_words a d r)
   count_have a true h room =
       let r0 = below 0 (omega arith) in
-      let r1 = below 1 (omega arith) in (
-        high_has a (r 0) h r0,
-        (
-          load_next_has a (r 0) (r 1) r0 r1,
-          (
-            add_one_has (r 1) r1,
-            (
-              store_next_has a (r 0) (r 1) r0 r1,
-              (
-                load_has a (r 0) (r 1) r0 r1,
-                (
-                  number_has ops.ADDX 0 (r 1) (r 1) refl (omega arith) r1 r1,
-                  (store_has a (r 0) (r 1) r0 r1, tt),
-                ),
-              ),
-            ),
-          ),
-        ),
-      )
+      let r1 = below 1 (omega arith) in
+      high_has a (r 0) h r0 & load_next_has a (r 0) (r 1) r0 r1 & add_one_has (r 1) r1
+      & store_next_has a (r 0) (r 1) r0 r1 & load_has a (r 0) (r 1) r0 r1
+      & number_has ops.ADDX 0 (r 1) (r 1) refl (omega arith) r1 r1 & store_has a (r 0) (r 1) r0 r1 & tt
   count_have a false h room =
       let r0 = below 0 (omega arith) in
       let r1 = below 1 (omega arith) in
-      let r2 = below 2 (omega arith) in (
-        high_has a (r 0) h r0,
-        (
-          load_next_has a (r 0) (r 1) r0 r1,
-          (
-            number_has ops.ADD 1 (r 1) (r 2) refl (omega arith) r1 r2,
-            (
-              store_next_has a (r 0) (r 2) r0 r2,
-              (
-                two_has ops.ANDN (r 1) (r 2) (r 1) refl r1 r2 r1,
-                (
-                  number_has ops.SRL 31 (r 1) (r 1) refl (omega arith) r1 r1,
-                  (
-                    load_has a (r 0) (r 2) r0 r2,
-                    (
-                      two_has ops.ADD (r 2) (r 1) (r 2) refl r2 r1 r2,
-                      (store_has a (r 0) (r 2) r0 r2, tt),
-                    ),
-                  ),
-                ),
-              ),
-            ),
-          ),
-        ),
-      )
+      let r2 = below 2 (omega arith) in
+      high_has a (r 0) h r0 & load_next_has a (r 0) (r 1) r0 r1
+      & number_has ops.ADD 1 (r 1) (r 2) refl (omega arith) r1 r2 & store_next_has a (r 0) (r 2) r0 r2
+      & two_has ops.ANDN (r 1) (r 2) (r 1) refl r1 r2 r1 & number_has ops.SRL 31 (r 1) (r 1) refl (omega arith) r1 r1
+      & load_has a (r 0) (r 2) r0 r2 & two_has ops.ADD (r 2) (r 1) (r 2) refl r2 r1 r2
+      & store_has a (r 0) (r 2) r0 r2 & tt
 
   log_have : (a bits value : ℕ) → a < 2 ^ 32 → value < 2 ^ 32 → 3 ≤ want → HaveWords (log_words a r bits value)
   log_have a bits value h l room =
       let r0 = below 0 (omega arith) in
       let r1 = below 1 (omega arith) in
-      let r2 = below 2 (omega arith) in (
-        high_has a (r 0) h r0,
-        (
-          load_has a (r 0) (r 1) r0 r1,
-          (
-            number_has ops.SLL (32 - bits) (r 1) (r 2) refl (omega arith) r1 r2,
-            (
-              number_has ops.SRL (30 - bits) (r 2) (r 2) refl (omega arith) r2 r2,
-              (
-                two_has ops.ADD (r 0) (r 2) (r 2) refl r0 r2 r2,
-                (
-                  number_has ops.ADD 1 (r 1) (r 1) refl (omega arith) r1 r1,
-                  (
-                    store_has a (r 0) (r 1) r0 r1,
-                    (
-                      high_has value (r 1) l r1,
-                      (
-                        add_low_has value (r 1) r1,
-                        (store_next_has a (r 2) (r 1) r2 r1, tt),
-                      ),
-                    ),
-                  ),
-                ),
-              ),
-            ),
-          ),
-        ),
-      )
+      let r2 = below 2 (omega arith) in
+      high_has a (r 0) h r0 & load_has a (r 0) (r 1) r0 r1
+      & number_has ops.SLL (32 - bits) (r 1) (r 2) refl (omega arith) r1 r2
+      & number_has ops.SRL (30 - bits) (r 2) (r 2) refl (omega arith) r2 r2
+      & two_has ops.ADD (r 0) (r 2) (r 2) refl r0 r2 r2 & number_has ops.ADD 1 (r 1) (r 1) refl (omega arith) r1 r1
+      & store_has a (r 0) (r 1) r0 r1 & high_has value (r 1) l r1 & add_low_has value (r 1) r1
+      & store_next_has a (r 2) (r 1) r2 r1 & tt
 
   op_have : (base : ℕ) (d : Bool) (op : Op) → IsOp op → cell_at base (cells_end op) ≤ 2 ^ 31
       → op_registers d op ≤ want → HaveWords (op_words base d r op)
@@ -324,7 +205,6 @@ module _ (r : ℕ → ℕ) (want : ℕ) (below : (k : ℕ) → k < want → r k 
       → HaveWords (all_words base d r os)
   all_have base d [] are low room = tt
   all_have base d (op ∷ rest) are low room =
-      let most : max (op_registers d op) (registers_for d rest) ≤ want = room in
       have-append (op_words base d r op) (all_words base d r rest)
       (op_have base d op (All-head IsOp op rest are) (All-head (EndsLow base) op rest low).end (omega arith))
       (all_have base d rest (All-tail IsOp op rest are) (All-tail (EndsLow base) op rest low) (omega arith))
@@ -341,8 +221,7 @@ are_below (q ∷ qs) h = (h 0 (omega arith), are_below qs (λ k b. h (suc k) (om
 pub numbered_have : (f : ℕ → ℕ → Instr) → ((n reg : ℕ) → n < 5 → reg < 32 → HasWord (f n reg)) → (n : ℕ) (qs : List ℕ)
     → AreBelow qs → n + length qs ≤ 5 → HaveWords (numbered f n qs)
 numbered_have f has n [] h few = tt
-numbered_have f has n (q ∷ qs) h few =
-    (has n q (omega arith) h.0, numbered_have f has (suc n) qs h.1 (omega arith))
+numbered_have f has n (q ∷ qs) h few = (has n q (omega arith) h.0, numbered_have f has (suc n) qs h.1 (omega arith))
 
 pub saves_have : (qs : List ℕ) → AreBelow qs → length qs ≤ 5 → HaveWords (numbered save 0 qs)
 saves_have qs h few = numbered_have save save_has 0 qs h (omega arith)

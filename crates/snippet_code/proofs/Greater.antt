@@ -1,5 +1,5 @@
 -- The greater of a cell and a register: with the codes, where they are dead, and without.
-use Rattle.std.proofs.Common.{◌≡◌, ◌≢◌, ℕ, suc, ◌+◌, ◌-◌, ◌*◌, ◌/◌, ◌%◌, ◌^◌, ◌<◌, ◌≤◌, ◌⊎◌, inl, inr, max, Bool, true, false, not, ◌||◌, Ok, [], ◌∷◌, length, refl, ap, sym, ◌∙◌, subst, arith}
+use Rattle.std.proofs.Common.{◌≡◌, ◌≢◌, ℕ, suc, ◌+◌, ◌-◌, ◌*◌, ◌/◌, ◌%◌, ◌^◌, ◌<◌, ◌≤◌, ◌⊎◌, inl, inr, max, Bool, true, false, not, ◌||◌, Ok, [], ◌∷◌, length, refl, ap, sym, ◌∙◌, arith}
 use Rattle.std.specs.Prelude.{if◌then◌else◌, ◌==◌, nat_lt, pos}
 use Rattle.std.proofs.lemmas.Bool.Decides.{nat_tests}
 use Rattle.v8_decode.specs.declared.Op2.TheVariants as o
@@ -63,7 +63,7 @@ stored_or_not a x g false e k = go (equal_or_not k a)
     m = grind (arith, nat_tests)
 
     go : (k ≡ a) ⊎ (k ≢ a) → g k ≡ put a (max (g a) x) g k
-    go (inl h) = ap g h ∙ sym m ∙ sym (put_same a (max (g a) x) g) ∙ ap (put a (max (g a) x) g) (sym h)
+    go (inl h) = cc (h, m, put_same a (max (g a) x) g)
     go (inr h) = sym (put_other a (max (g a) x) g k h)
 
 -- ---- without the codes: each of the words gives the value that the law speaks of
@@ -98,10 +98,7 @@ unfolding alu_of
 value_sra a b k0 y0 codes z = refl
 
 top_is : (k0 : Codes) (y0 cell reg : ℕ) → cell < 2 ^ 32 → reg < 2 ^ 32 →
-    laws.alu k0 y0 ops.SUB cell
-    (laws.alu k0 y0 ops.AND
-    (laws.alu k0 y0 ops.SRA
-    (laws.alu k0 y0 ops.OR
+    laws.alu k0 y0 ops.SUB cell (laws.alu k0 y0 ops.AND (laws.alu k0 y0 ops.SRA (laws.alu k0 y0 ops.OR
     (laws.alu k0 y0 ops.AND (laws.alu k0 y0 ops.ORN reg cell) (laws.alu k0 y0 ops.SUB cell reg))
     (laws.alu k0 y0 ops.ANDN reg cell)) 31) (laws.alu k0 y0 ops.SUB cell reg))
     ≡ max cell reg
@@ -113,16 +110,14 @@ module _ {s : State} {count : ℕ} {May : ℕ → Type 0} {counted : ℕ → Boo
     (w : Works s count May counted r want n t g codes f) where
   pub tops_short : (a q x : ℕ) → n + 5 ≤ count → 2 ≤ want → May a → any_of_word counted a ≡ false → a < 2 ^ 32
       → g a < 2 ^ 32
-      → q < 32 → ((k : ℕ) → k < want → q ≢ r k) → register_of s q ≡ x
-      → StandIn (code_of s.memory) (s.pc + 4 * n)
+      → q < 32 → ((k : ℕ) → k < want → q ≢ r k) → register_of s q ≡ x → StandIn (code_of s.memory) (s.pc + 4 * n)
       (high a (r 0) ∷ load_low a (r 0) (r 1) ∷ i.Alu ops.SUB true 0 q (o.Reg (r 1)) ∷ i.Branch 12 true (pos 2) ∷
       store_low a (r 0) q ∷ [])
       → Works s count May counted r want (suc (suc (suc (suc (suc n))))) t (put a (max (g a) x) g)
       (codes_of (wrapped (2 ^ 33 + x - (g a + 0))) (difference_overflows x (g a) (wrapped (2 ^ 33 + x - (g a + 0))))
-      (nat_lt x (g a + 0)))
-      (put 1 (g a) (put 0 (1024 * (a / 1024)) f))
+      (nat_lt x (g a + 0))) (put 1 (g a) (put 0 (1024 * (a / 1024)) f))
   tops_short a q x room enough ok free below small reg unpicked value stand =
-      let fits : x < 2 ^ 32 = subst (λ z. z < 2 ^ 32) value (register_of-range s q c.valid) in
+      let fits : x < 2 ^ 32 = rw value at (register_of-range s q c.valid) in
       let v = wrapped (2 ^ 33 + x - (g a + 0)) in
       let k = codes_of (wrapped (2 ^ 33 + x - (g a + 0)))
       (difference_overflows x (g a) (wrapped (2 ^ 33 + x - (g a + 0)))) (nat_lt x (g a + 0)) in
@@ -143,8 +138,7 @@ module _ {s : State} {count : ℕ} {May : ℕ → Type 0} {counted : ℕ → Boo
 
   pub tops_long : (a q x : ℕ) → n + 11 ≤ count → 5 ≤ want → May a → any_of_word counted a ≡ false → a < 2 ^ 32
       → g a < 2 ^ 32
-      → q < 32 → ((k : ℕ) → k < want → q ≢ r k) → register_of s q ≡ x
-      → StandIn (code_of s.memory) (s.pc + 4 * n)
+      → q < 32 → ((k : ℕ) → k < want → q ≢ r k) → register_of s q ≡ x → StandIn (code_of s.memory) (s.pc + 4 * n)
       (high a (r 0) ∷ load_low a (r 0) (r 1) ∷ of_two ops.SUB (r 1) q (r 2) ∷ of_two ops.ORN q (r 1) (r 3) ∷
       of_two ops.AND (r 3) (r 2) (r 3)
       ∷ of_two ops.ANDN q (r 1) (r 4) ∷ of_two ops.OR (r 3) (r 4) (r 3) ∷ with_number ops.SRA (r 3) (pos 31) (r 3) ∷
@@ -152,7 +146,7 @@ module _ {s : State} {count : ℕ} {May : ℕ → Type 0} {counted : ℕ → Boo
       ∷ of_two ops.SUB (r 1) (r 3) (r 1) ∷ store_low a (r 0) (r 1) ∷ [])
       → (f' : ℕ → ℕ) × Works s count May counted r want (n + 11) t (put a (max (g a) x) g) codes f'
   tops_long a q x room enough ok free below small reg unpicked value stand =
-      let fits : x < 2 ^ 32 = subst (λ z. z < 2 ^ 32) value (register_of-range s q c.valid) in
+      let fits : x < 2 ^ 32 = rw value at (register_of-range s q c.valid) in
       let is = λ (op : AluOp) (y z : ℕ). laws.alu s.codes s.y op y z in
       let d = is ops.SUB (g a) x in
       let e = is ops.ORN x (g a) in
@@ -161,7 +155,6 @@ module _ {s : State} {count : ℕ} {May : ℕ → Type 0} {counted : ℕ → Boo
       let o1 = is ops.OR l b in
       let m = is ops.SRA o1 31 in
       let k = is ops.AND m d in
-      let v = is ops.SUB (g a) k in
       let w1 = sethi c 0 (a / 1024) (1024 * (a / 1024)) w (omega arith) (omega arith) stand.0 (high_is a below) in
       let w2 = ld c 1 (r 0) (o.Imm (pos (a % 1024))) a w1 (omega arith) (omega arith) (at stand.1.0 (omega arith))
       (λ u h. sum_low u (r 0) a (h.held.picked 0 (omega arith)) below) ok in
@@ -189,18 +182,14 @@ module _ {s : State} {count : ℕ} {May : ℕ → Type 0} {counted : ℕ → Boo
       (at stand.1.1.1.1.1.1.1.1.0 (omega arith))
       (λ u h. gives u ops.AND (r 3) (o.Reg (r 2)) m d k (h.held.picked 3 (omega arith)) (h.held.picked 2 (omega arith))
       (value_and m d s.codes s.y)) in
-      let w10 =
-      alu c 1 ops.SUB (r 1) (o.Reg (r 3)) (max (g a) x) w9 (omega arith) (omega arith)
+      let w10 = alu c 1 ops.SUB (r 1) (o.Reg (r 3)) (max (g a) x) w9 (omega arith) (omega arith)
       (at stand.1.1.1.1.1.1.1.1.1.0 (omega arith))
       (λ u h. gives u ops.SUB (r 1) (o.Reg (r 3)) (g a) k (max (g a) x) (h.held.picked 1 (omega arith))
       (h.held.picked 3 (omega arith))
-      (λ codes' z. value_sub (g a) k s.codes s.y codes' z
-      ∙ ap (λ y. Ok (record { value = y; codes = codes'; y = z })) (top_is s.codes s.y (g a) x small fits))) in
-      let w11 =
-      st c t (r 1) (r 0) (o.Imm (pos (a % 1024))) a (max (g a) x) w10 (omega arith)
+      (λ codes' z. cc (value_sub (g a) k s.codes s.y codes' z, top_is s.codes s.y (g a) x small fits))) in
+      let w11 = st c t (r 1) (r 0) (o.Imm (pos (a % 1024))) a (max (g a) x) w10 (omega arith)
       (at stand.1.1.1.1.1.1.1.1.1.1.0 (omega arith)) (λ u h. sum_low u (r 0) a (h.held.picked 0 (omega arith)) below)
-      ok
-      (λ u h. h.held.picked 1 (omega arith)) (omega arith) (free_store counted t a free) in (
+      ok (λ u h. h.held.picked 1 (omega arith)) (omega arith) (free_store counted t a free) in (
         _,
         as_many
             (let z : suc (suc (suc (suc (suc (suc (suc (suc (suc (suc (suc n)))))))))) ≡ n + 11 = omega arith in z) w11,
@@ -217,8 +206,7 @@ module _ {s : State} {count : ℕ} {May : ℕ → Type 0} {counted : ℕ → Boo
         below : cell_at cells cell < 2 ^ 32
         below = let z = h.below in omega arith
 
-        go : (b : Bool) → d ≡ b → (if b then 2 else 5) ≤ want
-            → n + length (op_words cells b r (Top cell reg)) ≤ count
+        go : (b : Bool) → d ≡ b → (if b then 2 else 5) ≤ want → n + length (op_words cells b r (Top cell reg)) ≤ count
             → StandIn (code_of s.memory) (s.pc + 4 * n) (op_words cells b r (Top cell reg))
             → Does s count May counted r want d (n + length (op_words cells b r (Top cell reg))) t
             (update_one (cell_at cells) (register_of s) (Top cell reg) g)

@@ -1,5 +1,5 @@
 -- Items of a state beside picked registers.
-use Rattle.std.proofs.Common.{◌≡◌, ◌≢◌, ℕ, zero, suc, ◌-◌, ◌<◌, ◌≤◌, ◌⊎◌, inl, inr, Bool, true, false, ◌||◌, List, [], ◌∷◌, refl, ap, sym, ◌∙◌, subst, arith}
+use Rattle.std.proofs.Common.{◌≡◌, ◌≢◌, ℕ, zero, suc, ◌-◌, ◌<◌, ◌≤◌, ◌⊎◌, inl, inr, Bool, true, false, ◌||◌, List, [], ◌∷◌, refl, ap, sym, ◌∙◌, arith}
 use Rattle.std.specs.Prelude.{slice_index}
 use Rattle.std.proofs.lemmas.Bool.Decides.{nat_tests}
 use Rattle.v8_decode.specs.declared.Part.{Part}
@@ -32,8 +32,7 @@ codes_among w [] e = absurd (cc)
 codes_among w (p ∷ ps) e = go p e (codes_among w ps)
   where
     go : (z : Part) → (is_same parts.Icc z || has ps parts.Icc) ≡ true
-        → (has ps parts.Icc ≡ true → IsAmong CodesItem w ps)
-        → (item_of w z ≡ CodesItem) ⊎ IsAmong CodesItem w ps
+        → (has ps parts.Icc ≡ true → IsAmong CodesItem w ps) → (item_of w z ≡ CodesItem) ⊎ IsAmong CodesItem w ps
     go (parts.Reg x) k rec = inr (rec k)
     go parts.Icc k rec = inl refl
     go parts.Y k rec = inr (rec k)
@@ -65,8 +64,7 @@ pub item_stays : {s : State} {count : ℕ} {May : ℕ → Type 0} {want : ℕ} {
     {spilled : ℕ} {g : ℕ → ℕ} {codes : Codes} {f : ℕ → ℕ} (c : HasBlock s count May (slice_index regs) want)
     (p : ArePicked dead avoid want regs spilled)
     → ((j : ℕ) → want - spilled ≤ j → j < want → f j ≡ register_of s (slice_index regs j))
-    → (u : State) → IsAlike s May (slice_index regs) want g codes f u
-    → (has dead parts.Icc ≡ false → codes ≡ s.codes)
+    → (u : State) → IsAlike s May (slice_index regs) want g codes f u → (has dead parts.Icc ≡ false → codes ≡ s.codes)
     → (y : Item) → (IsAmong y s.window dead → ⊥) → IsSameAt y s u
 item_stays {s} {want = want} {dead = dead} {regs = regs} {spilled = spilled} {f = f} c p back u h kept (Register n) ne =
     go (picked_or_not s.window (slice_index regs) want n)
@@ -76,9 +74,7 @@ item_stays {s} {want = want} {dead = dead} {regs = regs} {spilled = spilled} {f 
 
     same : (k : ℕ) → k < want → (k < want - spilled) ⊎ (want - spilled ≤ k) → n ≡ place_of s.window (slice_index regs k)
         → slice_index s.registers n ≡ slice_index u.registers n
-    same k b (inl l) e =
-        absurd (ne (subst (λ z. IsAmong (Register z) s.window dead) (sym e)
-        (among s.window dead (slice_index regs k) (p.dead_first k l))))
+    same k b (inl l) e = absurd (ne (rw e (among s.window dead (slice_index regs k) (p.dead_first k l))))
     same k b (inr l) e =
         let g : register_of u (slice_index regs k) ≡ register_of s (slice_index regs k) = h.held.picked k b ∙ back k l b in
         ap (slice_index s.registers) e ∙ sym (in_place s.registers s.window (slice_index regs k) (p.some k b)) ∙ sym g

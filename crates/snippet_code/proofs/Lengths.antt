@@ -80,9 +80,8 @@ all_cost_few d (op ∷ rest) = let a = op_cost_few d op in let b = all_cost_few 
 bounded : (dead avoid : List Part) (ops : List Op) → cost_of dead avoid ops ≤ 22 * length ops
 bounded dead avoid [] = omega arith
 bounded dead avoid (op ∷ rest) =
-    let a = all_cost_few (has dead Icc) (op ∷ rest) in
     let b = registers_few (has dead Icc) (op ∷ rest) in
-    omega arith
+    omega (arith, all_cost_few (has dead Icc) (op ∷ rest))
 
 pub costs_hold : CostsHold
 costs_hold base dead avoid ops =

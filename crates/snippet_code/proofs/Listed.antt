@@ -20,8 +20,7 @@ abbrev pub listed : ℕ → ℕ → (ℕ → ℕ) → List ℕ
 listed base n g = map (λ k. g (cell_at base k)) (range_with_len 0 n)
 
 pub listed_at : (base n : ℕ) (g : ℕ → ℕ) (k : ℕ) → k < n → get_or (listed base n g) k 0 ≡ g (cell_at base k)
-listed_at base n g k below =
-    get_or-map-range_with_len (λ j. g (cell_at base j)) 0 n k k 0 below (omega arith)
+listed_at base n g k below = get_or-map-range_with_len (λ j. g (cell_at base j)) 0 n k k 0 below (omega arith)
 
 listed_length : (base n : ℕ) (g : ℕ → ℕ) → length (listed base n g) ≡ n
 listed_length base n g = length-map-range_with_len (λ j. g (cell_at base j)) 0 n
@@ -59,11 +58,9 @@ listed_put base n g c v inside =
 listed_changed : (base n : ℕ) (g : ℕ → ℕ) (c : ℕ) (f : ℕ → ℕ) → c < n
     → listed base n (put (cell_at base c) (f (g (cell_at base c))) g) ≡ changed (listed base n g) c f
 listed_changed base n g c f inside =
-    listed_put base n g c (f (g (cell_at base c))) inside
-    ∙ ap (λ z. set (listed base n g) c (f z)) (sym (listed_at base n g c inside))
+    cc (listed_put base n g c (f (g (cell_at base c))) inside, listed_at base n g c inside)
 
-listed_wide : (base n cell : ℕ) (g : ℕ → ℕ) (number : ℕ) → cell + 1 < n
-    → listed base n
+listed_wide : (base n cell : ℕ) (g : ℕ → ℕ) (number : ℕ) → cell + 1 < n → listed base n
     (put (cell_at base (cell + 1)) (number % 2 ^ 32) (put (cell_at base cell) (number / 2 ^ 32) g))
     ≡ with_wide (listed base n g) cell number
 listed_wide base n cell g number inside =
@@ -79,8 +76,7 @@ listed_ring base n cell place value g f before inside =
     let cells = listed base n g in
     listed_put base n (put (cell_at base place) value g) cell (f (g (cell_at base cell))) (omega arith)
     ∙ ap (λ (z : List ℕ). set z cell (f (g (cell_at base cell)))) (listed_put base n g place value inside)
-    ∙ ap (λ z. set (set cells place value) cell (f z))
-    (sym (listed_at base n g cell (omega arith))
+    ∙ ap (λ z. set (set cells place value) cell (f z)) (sym (listed_at base n g cell (omega arith))
     ∙ sym (get_or-set_other cells place cell value 0 (λ e. omega arith)))
 
 listed_one : (base n : ℕ) (regs : ℕ → ℕ) (op : Op) (g : ℕ → ℕ) → ((k : ℕ) → IsCellIn op k → k < n)
@@ -123,8 +119,7 @@ one_away : (base : ℕ) (regs : ℕ → ℕ) (op : Op) (g : ℕ → ℕ) (a : �
     → ((k : ℕ) → IsCellIn op k → cell_at base k ≢ a) → update_one (cell_at base) regs op g a ≡ g a
 one_away base regs (Add cell amount) g a far =
     away (cell_at base cell) ((g (cell_at base cell) + amount) % 2 ^ 32) g a (far cell (omega arith, omega arith))
-one_away base regs (Put cell value) g a far =
-    away (cell_at base cell) value g a (far cell (omega arith, omega arith))
+one_away base regs (Put cell value) g a far = away (cell_at base cell) value g a (far cell (omega arith, omega arith))
 one_away base regs (Keep cell reg) g a far =
     away (cell_at base cell) (regs reg) g a (far cell (omega arith, omega arith))
 one_away base regs (Top cell reg) g a far =
@@ -138,8 +133,7 @@ one_away base regs (Log cell bits value) g a far =
     let place = cell + 1 + g (cell_at base cell) % 2 ^ bits in
     let small = mod_below (g (cell_at base cell)) (2 ^ bits) (pow_pos bits) in
     away (cell_at base cell) ((g (cell_at base cell) + 1) % 2 ^ 32) (put (cell_at base place) value g) a
-    (far cell (omega arith, omega arith))
-    ∙ away (cell_at base place) value g a (far place (omega arith, omega arith))
+    (far cell (omega arith, omega arith)) ∙ away (cell_at base place) value g a (far place (omega arith, omega arith))
 
 pub all_away : (base : ℕ) (regs : ℕ → ℕ) (ops : List Op) (g : ℕ → ℕ) (a : ℕ)
     → ((k : ℕ) → IsCellOf ops k → cell_at base k ≢ a) → update_all (cell_at base) regs ops g a ≡ g a

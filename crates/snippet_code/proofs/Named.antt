@@ -6,7 +6,7 @@ use Rattle.std.proofs.lemmas.Bool.Decides.{nat_tests}
 use Rattle.std.proofs.lemmas.List.Elements.{filter-append}
 use Rattle.v8_decode.specs.declared.Part.{Part}
 use Rattle.v8_decode.specs.declared.Part.TheVariants.{Reg, Icc, Y}
-use Rattle.v8_decode.specs.Parts.{has, is_member, is_same, registers_from, every_part, members, set_of}
+use Rattle.v8_decode.specs.Parts.{has, is_member, registers_from, every_part, members, set_of}
 use Rattle.v8_decode.proofs.Members.{has-members, is_same-self}
 use Rattle.scavenge.specs.Picks.{registers, is_register, register_count}
 use Rattle.scavenge.proofs.Picks.{all_off, joined, registers_ascend, registers_count}
@@ -20,8 +20,7 @@ IsReadIn [] q = ⊥
 IsReadIn (op ∷ ops) q = IsRead op q ⊎ IsReadIn ops q
 
 first_has : (reg q : ℕ) (ps : List Part) → q ≡ reg → has (Reg reg ∷ ps) (Reg q) ≡ true
-first_has reg q ps e =
-    ap (λ z. is_same (Reg z) (Reg reg) || has ps (Reg z)) e ∙ ap (λ b. b || has ps (Reg reg)) (is_same-self (Reg reg))
+first_has reg q ps e = cc (e, is_same-self (Reg reg))
 
 or_true : (b : Bool) → (b || true) ≡ true
 or_true true = refl
@@ -38,28 +37,23 @@ has_read (Count cell ∷ ops) q (inr h) = has_read ops q h
 has_read (Log cell bits value ∷ ops) q (inl h) = absurd h
 has_read (Log cell bits value ∷ ops) q (inr h) = has_read ops q h
 has_read (Keep cell reg ∷ ops) q (inl h) = first_has reg q (read_by ops) h
-has_read (Keep cell reg ∷ ops) q (inr h) = ap (λ b. is_same (Reg q) (Reg reg) || b) (has_read ops q h) ∙ or_true _
+has_read (Keep cell reg ∷ ops) q (inr h) = cc (has_read ops q h, or_true _)
 has_read (Top cell reg ∷ ops) q (inl h) = first_has reg q (read_by ops) h
-has_read (Top cell reg ∷ ops) q (inr h) = ap (λ b. is_same (Reg q) (Reg reg) || b) (has_read ops q h) ∙ or_true _
+has_read (Top cell reg ∷ ops) q (inr h) = cc (has_read ops q h, or_true _)
 
 -- a register that is read is named, but for %g0
 pub has_named : (ops : List Op) (q : ℕ) → IsReadIn ops q → 0 < q → q < 32 → has (named_by ops) (Reg q) ≡ true
 has_named ops q h some below =
-    has-members (has (read_by ops)) (Reg q)
-    ∙ ap (λ b. is_member (Reg q) && b) (has_read ops q h)
+    has-members (has (read_by ops)) (Reg q) ∙ ap (λ b. is_member (Reg q) && b) (has_read ops q h)
     ∙ (let e : ((nat_lt 0 q && nat_lt q 32) && true) ≡ true = grind (arith, nat_tests) in e)
 
 -- ---- no more are named than there are operations
 
-count_from : (f : Part → Bool) (first count : ℕ)
-    → length (filter is_register (filter f (registers_from first count)))
+count_from : (f : Part → Bool) (first count : ℕ) → length (filter is_register (filter f (registers_from first count)))
     ≡ length (filter (λ (r : ℕ). f (Reg r)) (range_with_len first count))
 count_from f first zero = refl
 count_from f first (suc count) =
-    go (f (Reg first))
-    (count_from f (suc first) count
-    ∙ ap (λ n. length (filter (λ (r : ℕ). f (Reg r)) (range_with_len n count)))
-    (let e : suc first ≡ first + 1 = omega arith in e))
+    go (f (Reg first)) (cc (count_from f (suc first) count, (let e : suc first ≡ first + 1 = omega arith in e)))
   where
     go : (b : Bool) → length (filter is_register (filter f (registers_from (suc first) count)))
         ≡ length (filter (λ (r : ℕ). f (Reg r)) (range_with_len (first + 1) count))
@@ -84,8 +78,7 @@ unfolding members every_part registers
 members_count f =
     ap (λ (z : List Part). length (filter is_register z)) (filter-append f (registers_from 1 31) (Icc ∷ Y ∷ []))
     ∙ ap (λ (z : List Part). length z)
-    (filter-append is_register (filter f (registers_from 1 31)) (filter f (Icc ∷ Y ∷ [])))
-    ∙ omega (
+    (filter-append is_register (filter f (registers_from 1 31)) (filter f (Icc ∷ Y ∷ []))) ∙ omega (
       arith,
       length-append (filter is_register (filter f (registers_from 1 31)))
           (filter is_register (filter f (Icc ∷ Y ∷ []))),

@@ -1,5 +1,5 @@
 -- The operations of snippets, one by one.
-use Rattle.std.proofs.Common.{◌≡◌, ◌≢◌, ℕ, suc, ◌+◌, ◌-◌, ◌*◌, ◌/◌, ◌%◌, ◌^◌, ◌<◌, ◌≤◌, Bool, true, false, Ok, Some, List, [], ◌∷◌, length, refl, ap, sym, ◌∙◌, subst, arith}
+use Rattle.std.proofs.Common.{◌≡◌, ◌≢◌, ℕ, suc, ◌+◌, ◌-◌, ◌*◌, ◌/◌, ◌%◌, ◌^◌, ◌<◌, ◌≤◌, Bool, true, false, Ok, Some, List, [], ◌∷◌, length, refl, ap, ◌∙◌, arith}
 use Rattle.std.specs.Prelude.{if◌then◌else◌, ◌==◌, nat_lt, pos, negsuc}
 use Rattle.std.specs.Int.{w32, cast_unsigned}
 use Rattle.std.proofs.lemmas.Bool.Decides.{nat_tests}
@@ -28,16 +28,13 @@ use Rattle.snippet_code.proofs.Blocks.{unpicked_is, sethi, alu, ld, st}
 -- ---- words in two parts
 pub sum_low : (u : State) (q a : ℕ) → register_of u q ≡ 1024 * (a / 1024) → a < 2 ^ 32
     → sum_of u q (o.Imm (pos (a % 1024))) ≡ a
-sum_low u q a e h =
-    ap (λ z. wrapped (z + wrapped (a % 1024))) e
-    ∙ (let f : wrapped (1024 * (a / 1024) + wrapped (a % 1024)) ≡ a = omega arith in f)
+sum_low u q a e h = cc (e, (let f : wrapped (1024 * (a / 1024) + wrapped (a % 1024)) ≡ a = omega arith in f))
 
 -- the word behind the one that stands so far behind an address whose upper bits a register has
 pub sum_next : (u : State) (q a off : ℕ) → register_of u q ≡ 1024 * (a / 1024) + off → a + off + 4 < 2 ^ 32
     → sum_of u q (o.Imm (pos (a % 1024 + 4))) ≡ a + off + 4
 sum_next u q a off e h =
-    ap (λ z. wrapped (z + wrapped (a % 1024 + 4))) e
-    ∙ (let f : wrapped (1024 * (a / 1024) + off + wrapped (a % 1024 + 4)) ≡ a + off + 4 = omega arith in f)
+    cc (e, (let f : wrapped (1024 * (a / 1024) + off + wrapped (a % 1024 + 4)) ≡ a + off + 4 = omega arith in f))
 
 pub high_is : (a : ℕ) → a < 2 ^ 32 → wrapped (1024 * (a / 1024)) ≡ 1024 * (a / 1024)
 high_is a h = omega arith
@@ -46,9 +43,7 @@ high_is a h = omega arith
 pub gives : (u : State) (op : AluOp) (rs1 : ℕ) (op2 : Op2) (x y v : ℕ) → register_of u rs1 ≡ x → operand_of u op2 ≡ y
     → ((codes : Codes) (z : ℕ) → alu_of op false x y codes z ≡ Ok (record { value = v; codes = codes; y = z }))
     → Gives op rs1 op2 v u
-gives u op rs1 op2 x y v e f h =
-    ap (λ z. alu_of op false z (operand_of u op2) u.codes u.y) e ∙ ap (λ z. alu_of op false x z u.codes u.y) f
-    ∙ h u.codes u.y
+gives u op rs1 op2 x y v e f h = cc (e, f, h u.codes u.y)
 
 pub add_is : (x y v : ℕ) → wrapped (x + y) ≡ v → (codes : Codes) (z : ℕ)
     → alu_of ops.ADD false x y codes z ≡ Ok (record { value = v; codes = codes; y = z })
@@ -65,11 +60,11 @@ small_is amount h = go (nat_lt amount 4096)
 
 pub free_store : (counted : ℕ → Bool) (t a : ℕ) → any_of_word counted a ≡ false
     → t + one_if counted (Some (word_span a)) ≤ t
-free_store counted t a e = subst (λ (z : Bool). t + (if z then 1 else 0) ≤ t) (sym e) (omega arith)
+free_store counted t a e = rw e (omega arith)
 
 -- a word of a list, by its number
 pub at : {code : List Region} {p q : ℕ} {x : Instr} → Says code p x → p ≡ q → Says code q x
-at {code = code} {x = x} says e = subst (λ (z : ℕ). Says code z x) e says
+at {code = code} {x = x} says e = rw e at says
 
 module _ {s : State} {count : ℕ} {May : ℕ → Type 0} {counted : ℕ → Bool} {r : ℕ → ℕ} {want : ℕ} {n t : ℕ}
     {g : ℕ → ℕ} {codes : Codes} {f : ℕ → ℕ} where
@@ -96,7 +91,7 @@ module _ {s : State} {count : ℕ} {May : ℕ → Type 0} {counted : ℕ → Boo
             memory = record {
               can = h.memory.can;
               words = λ b m. h.memory.words b m ∙ same b;
-              range = λ b m. subst (λ z. z < 2 ^ 32) (same b) (h.memory.range b m);
+              range = λ b m. rw (same b) at (h.memory.range b m);
               stores = h.memory.stores;
               code = h.memory.code;
             };
@@ -108,15 +103,14 @@ module _ {s : State} {count : ℕ} {May : ℕ → Type 0} {counted : ℕ → Boo
   -- as many words, by another name
   pub as_many : {m : ℕ} → n ≡ m → Works s count May counted r want n t g codes f
       → Works s count May counted r want m t g codes f
-  as_many e w = subst (λ z. Works s count May counted r want z t g codes f) e w
+  as_many e w = rw e at w
 
 -- ---- one operation
 module _ {s : State} {count : ℕ} {May : ℕ → Type 0} {counted : ℕ → Bool} {r : ℕ → ℕ} {want : ℕ}
     (c : HasBlock s count May r want) {n t : ℕ} {g : ℕ → ℕ} {codes : Codes} {f : ℕ → ℕ}
     (w : Works s count May counted r want n t g codes f) where
   adds_small : (a amount : ℕ) → n + 4 ≤ count → 2 ≤ want → May a → any_of_word counted a ≡ false → a < 2 ^ 32
-      → amount < 2 ^ 32
-      → StandIn (code_of s.memory) (s.pc + 4 * n)
+      → amount < 2 ^ 32 → StandIn (code_of s.memory) (s.pc + 4 * n)
       (high a (r 0) ∷ load_low a (r 0) (r 1) ∷ with_number ops.ADD (r 1) (small amount) (r 1) ∷
       store_low a (r 0) (r 1) ∷ [])
       → Works s count May counted r want (suc (suc (suc (suc n)))) t (put a (wrapped (g a + amount)) g) codes
@@ -134,14 +128,12 @@ module _ {s : State} {count : ℕ} {May : ℕ → Type 0} {counted : ℕ → Boo
       (λ u h. h.held.picked 1 (omega arith)) (omega arith) (free_store counted t a free)
 
   adds_other : (a amount : ℕ) → n + 6 ≤ count → 3 ≤ want → May a → any_of_word counted a ≡ false → a < 2 ^ 32
-      → amount < 2 ^ 32
-      → StandIn (code_of s.memory) (s.pc + 4 * n)
+      → amount < 2 ^ 32 → StandIn (code_of s.memory) (s.pc + 4 * n)
       (high a (r 0) ∷ load_low a (r 0) (r 1) ∷ high amount (r 2) ∷
       with_number ops.ADD (r 2) (pos (low amount)) (r 2) ∷ of_two ops.ADD (r 1) (r 2) (r 1) ∷
       store_low a (r 0) (r 1) ∷ [])
       → Works s count May counted r want (suc (suc (suc (suc (suc (suc n)))))) t (put a (wrapped (g a + amount)) g)
-      codes
-      (put 1 (wrapped (g a + amount))
+      codes (put 1 (wrapped (g a + amount))
       (put 2 amount (put 2 (1024 * (amount / 1024)) (put 1 (g a) (put 0 (1024 * (a / 1024)) f)))))
   adds_other a amount room enough ok free below fits stand =
       let w1 = sethi c 0 (a / 1024) (1024 * (a / 1024)) w (omega arith) (omega arith) stand.0 (high_is a below) in
@@ -172,7 +164,7 @@ module _ {s : State} {count : ℕ} {May : ℕ → Type 0} {counted : ℕ → Boo
       st c t q (r 0) (o.Imm (pos (a % 1024))) a v w1 (omega arith) (at stand.1.0 (omega arith))
       (λ u h. sum_low u (r 0) a (h.held.picked 0 (omega arith)) below) ok
       (λ u h. unpicked_is c u q h reg unpicked ∙ value)
-      (subst (λ z. z < 2 ^ 32) value (register_of-range s q c.valid)) (free_store counted t a free)
+      (rw value at (register_of-range s q c.valid)) (free_store counted t a free)
 
   puts_number : (a v : ℕ) → n + 4 ≤ count → 2 ≤ want → May a → any_of_word counted a ≡ false → a < 2 ^ 32 → v < 2 ^ 32
       → StandIn (code_of s.memory) (s.pc + 4 * n)
@@ -204,7 +196,7 @@ module _ {s : State} {count : ℕ} {May : ℕ → Type 0} {counted : ℕ → Boo
         record {
           codes = codes;
           picked = f';
-          works = subst (λ z. Works s count May counted r want z t g' codes f') e
+          works = rw e at
               x;
           kept = kept;
         }
@@ -212,8 +204,7 @@ module _ {s : State} {count : ℕ} {May : ℕ → Type 0} {counted : ℕ → Boo
     pub add_works : (cell amount : ℕ) → Doing (Add cell amount) (op_words cells d r (Add cell amount))
     add_works cell amount fit = go (is_small amount) fit.enough fit
       where
-        go : (b : Bool) → (if b then 2 else 3) ≤ want
-            → Doing (Add cell amount)
+        go : (b : Bool) → (if b then 2 else 3) ≤ want → Doing (Add cell amount)
             (if b then high (cell_at cells cell) (r 0) ∷ load_low (cell_at cells cell) (r 0) (r 1) ∷
             with_number ops.ADD (r 1) (small amount) (r 1) ∷ store_low (cell_at cells cell) (r 0) (r 1) ∷ []
             else high (cell_at cells cell) (r 0) ∷ load_low (cell_at cells cell) (r 0) (r 1) ∷ high amount (r 2) ∷
@@ -234,8 +225,7 @@ module _ {s : State} {count : ℕ} {May : ℕ → Type 0} {counted : ℕ → Boo
         zero_is : (value == 0) ≡ true → 0 ≡ value
         zero_is e = grind (arith, nat_tests)
 
-        go : (b : Bool) → (value == 0) ≡ b → (if b then 1 else 2) ≤ want
-            → Doing (Put cell value)
+        go : (b : Bool) → (value == 0) ≡ b → (if b then 1 else 2) ≤ want → Doing (Put cell value)
             (if b then high (cell_at cells cell) (r 0) ∷ store_low (cell_at cells cell) (r 0) 0 ∷ []
             else high (cell_at cells cell) (r 0) ∷ high value (r 1) ∷
             with_number ops.ADD (r 1) (pos (low value)) (r 1) ∷ store_low (cell_at cells cell) (r 0) (r 1) ∷ [])
@@ -250,8 +240,7 @@ module _ {s : State} {count : ℕ} {May : ℕ → Type 0} {counted : ℕ → Boo
 
     pub keep_works : (cell reg : ℕ) → Doing (Keep cell reg) (op_words cells d r (Keep cell reg))
     keep_works cell reg h room stand =
-        done _ 2 (omega arith)
-        (puts_register (cell_at cells cell) reg (register_of s reg) room h.enough
+        done _ 2 (omega arith) (puts_register (cell_at cells cell) reg (register_of s reg) room h.enough
         (h.cell cell (omega arith, omega arith)) (h.free cell (omega arith, omega arith))
         (let z = h.below in omega arith)
         h.numbers.1 (λ k b. h.unpicked reg k refl b) refl stand)

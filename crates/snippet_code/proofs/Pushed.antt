@@ -1,5 +1,5 @@
 -- Words are added for one operation after the other, and for one register after the other.
-use Rattle.std.proofs.Common.{◌≡◌, ℕ, zero, suc, ◌+◌, ◌<◌, ◌≤◌, Bool, List, [], ◌∷◌, ◌++◌, length, map, take, get_or, ap, sym, ◌∙◌, subst, arith, append_assoc, append-nil}
+use Rattle.std.proofs.Common.{◌≡◌, ℕ, zero, suc, ◌+◌, ◌<◌, ◌≤◌, Bool, List, [], ◌∷◌, ◌++◌, length, map, take, get_or, ap, sym, ◌∙◌, arith, append_assoc, append-nil}
 use Rattle.std.specs.Prelude.{slice_index}
 use Rattle.std.specs.List.{All}
 use Rattle.std.proofs.lemmas.List.{take_more, map-append}
@@ -16,8 +16,7 @@ use Rattle.snippet_code.specs.Laws.{EndsLow, EndLow}
 more_words : (before : List ℕ) (xs ys : List Instr) (now after : List ℕ) → now ≡ before ++ map word_of xs
     → after ≡ now ++ map word_of ys → after ≡ before ++ map word_of (xs ++ ys)
 more_words before xs ys now after e f =
-    f ∙ ap (λ (z : List ℕ). z ++ map word_of ys) e ∙ append_assoc before (map word_of xs) (map word_of ys)
-    ∙ ap (λ (z : List ℕ). before ++ z) (sym (map-append word_of xs ys))
+    cc (f, e, append_assoc before (map word_of xs) (map word_of ys), map-append word_of xs ys)
 
 -- one operation more
 pub op_more : (base : ℕ) (d : Bool) (r : ℕ → ℕ) (ops : List Op) (i : ℕ) (op : Op) (before now after : List ℕ)
@@ -35,8 +34,7 @@ op_more base d r ops i op before now after below is e f =
 -- each works in as many registers as all
 pub op_room : (d : Bool) (ops : List Op) (i : ℕ) (op : Op) → i < length ops → op ≡ get_or ops i op
     → op_registers d op ≤ registers_for d ops
-op_room d ops i op below is =
-    subst (λ (z : Op). op_registers d z ≤ registers_for d ops) (sym is) (each ops i below)
+op_room d ops i op below is = rw is (each ops i below)
   where
     each : (xs : List Op) (k : ℕ) → k < length xs → op_registers d (get_or xs k op) ≤ registers_for d xs
     each [] k h = absurd (omega arith)
@@ -45,7 +43,7 @@ op_room d ops i op below is =
 
 pub op_low : (base : ℕ) (ops : List Op) (i : ℕ) (op : Op) → i < length ops → op ≡ get_or ops i op → EndLow base ops
     → EndsLow base op
-op_low base ops i op below is low = subst (EndsLow base) (sym is) (All-get_or (EndsLow base) ops i op below low)
+op_low base ops i op below is low = rw is (All-get_or (EndsLow base) ops i op below low)
 
 -- one register more
 numbered_more : (f : ℕ → ℕ → Instr) (n : ℕ) (regs : List ℕ) (i : ℕ) → i < length regs
@@ -60,17 +58,13 @@ numbered_more f n (reg ∷ regs) (suc i) h =
 
 pub reg_more : (f : ℕ → ℕ → Instr) (regs : List ℕ) (i reg : ℕ) (before now after : List ℕ) → i < length regs
     → reg ≡ slice_index regs i → now ≡ before ++ map word_of (take i (numbered f 0 regs))
-    → after ≡ now ++ word_of (f i reg) ∷ []
-    → after ≡ before ++ map word_of (take (i + 1) (numbered f 0 regs))
+    → after ≡ now ++ word_of (f i reg) ∷ [] → after ≡ before ++ map word_of (take (i + 1) (numbered f 0 regs))
 reg_more f regs i reg before now after below is e g =
     more_words before (take i (numbered f 0 regs)) (f i reg ∷ []) now after e g
     ∙ ap (λ (z : List Instr). before ++ map word_of z)
-    (ap (λ z. take i (numbered f 0 regs) ++ f i z ∷ []) is
-    ∙ ap (λ k. take i (numbered f 0 regs) ++ f k (slice_index regs i) ∷ []) (let z : i ≡ 0 + i = omega arith in z)
-    ∙ sym (numbered_more f 0 regs i below))
+    (cc (is, (let z : i ≡ 0 + i = omega arith in z), numbered_more f 0 regs i below))
 
 pub are_more : (ops : List Op) (i : ℕ) (op : Op) → i < length ops → op ≡ get_or ops i op → All IsOp (take i ops)
     → IsOp op → All IsOp (take (i + 1) ops)
 are_more ops i op below is before here =
-    subst (All IsOp) (sym (take_more ops i op below))
-    (All-push IsOp (take i ops) (get_or ops i op) before (subst IsOp is here))
+    rw (take_more ops i op below) (All-push IsOp (take i ops) (get_or ops i op) before (rw is at here))

@@ -26,16 +26,15 @@ use Rattle.snippet_code.proofs.Blocks.{put_same, put_other, ld, st}
 -- ---- words of two lists
 pub stand_then : (code : List Region) (a : ℕ) (xs ys : List Instr) → StandIn code a (xs ++ ys)
     → StandIn code a xs × StandIn code (a + 4 * length xs) ys
-stand_then code a [] ys h = (tt, subst (λ z. StandIn code z ys) (let e : a ≡ a + 4 * 0 = omega arith in e) h)
+stand_then code a [] ys h = (tt, rw (let e : a ≡ a + 4 * 0 = omega arith in e) at h)
 stand_then code a (x ∷ xs) ys h =
     let p = stand_then code (a + 4) xs ys h.1 in (
       (h.0, p.0),
-      subst (λ z. StandIn code z ys)
-          (let e : a + 4 + 4 * length xs ≡ a + 4 * suc (length xs) = omega arith in e) p.1,
+      rw (let e : a + 4 + 4 * length xs ≡ a + 4 * suc (length xs) = omega arith in e) at p.1,
     )
 
 pub stand_at : (code : List Region) (a b : ℕ) (xs : List Instr) → StandIn code a xs → a ≡ b → StandIn code b xs
-stand_at code a b xs h e = subst (λ z. StandIn code z xs) e h
+stand_at code a b xs h e = rw e at h
 
 -- what a store in the page's words costs at most
 pub record IsCost (counted : ℕ → Bool) (cost : ℕ) : Type 0 where
@@ -83,8 +82,7 @@ module _ (counted : ℕ → Bool) where
     where
       by : (n : ℕ) → n < 5 → any_of_word counted (kept_word 0) ≡ false → any_of_word counted (kept_word 1) ≡ false
           → any_of_word counted (kept_word 2) ≡ false → any_of_word counted (kept_word 3) ≡ false
-          → any_of_word counted (kept_word 4) ≡ false
-          → any_of_word counted (kept_word n) ≡ false
+          → any_of_word counted (kept_word 4) ≡ false → any_of_word counted (kept_word n) ≡ false
       by zero few a b c d e = a
       by (suc zero) few a b c d e = b
       by (suc (suc zero)) few a b c d e = c
@@ -149,8 +147,7 @@ module _ {s : State} {count : ℕ} {May : ℕ → Type 0} {counted : ℕ → Boo
       let l : length (xs ++ ys) ≡ length xs + length ys = length-append xs ys in
       let two = stand_then code (s.pc + 4 * n) xs ys stand in
       let one = op_works w.works cells d w.kept op h.0 (omega arith) two.0 in
-      let more =
-      all_work cells d rest one h.1 (omega arith)
+      let more = all_work cells d rest one h.1 (omega arith)
       (stand_at code (s.pc + 4 * n + 4 * length xs) (s.pc + 4 * (n + length xs)) ys two.1 (omega arith)) in
       subst (λ z. Does s count May counted r want d z t
       (update_all (cell_at cells) (register_of s) rest (update_one (cell_at cells) (register_of s) op g)))
@@ -170,13 +167,11 @@ module _ {s : State} {count : ℕ} {May : ℕ → Type 0} {counted : ℕ → Boo
       (let e : t ≡ t + cost * 0 = omega arith in e) w)
   saves cost is k m (q ∷ qs) {n} {t} {g} {codes} w picked page room stand =
       let paid = is.each m page.0 in
-      let one =
-      st c (t + cost) q 0 (of_page (m + 2)) (kept_word m) (register_of s q) w (omega arith) stand.0
+      let one = st c (t + cost) q 0 (of_page (m + 2)) (kept_word m) (register_of s q) w (omega arith) stand.0
       (λ u h. page_sum u m page.0) page.1
       (λ u h. ap (register_of u) picked.1 ∙ h.held.picked k picked.0 ∙ ap (register_of s) (sym picked.1))
       (register_of-range s q c.valid) (omega (arith, paid)) in
-      let more =
-      saves cost is (suc k) (suc m) qs one picked.2 page.2 (omega arith)
+      let more = saves cost is (suc k) (suc m) qs one picked.2 page.2 (omega arith)
       (stand_at (code_of s.memory) (s.pc + 4 * n + 4) (s.pc + 4 * suc n) (numbered save (suc m) qs) stand.1
       (omega arith)) in
       subst (λ z. Works s count May counted r want z (t + cost * suc (length qs))
@@ -196,14 +191,12 @@ module _ {s : State} {count : ℕ} {May : ℕ → Type 0} {counted : ℕ → Boo
   restores k m [] {n} {t} {g} {codes} {f} w picked page held room stand =
       (f, as_many (let e : n ≡ n + 0 = omega arith in e) w, λ j h. refl, λ j h l. absurd (omega arith))
   restores k m (q ∷ qs) {n} {t} {g} {codes} {f} w picked page held room stand =
-      let here : Says (code_of s.memory) (s.pc + 4 * n) (i.Load loads.LD (r k) 0 (of_page (m + 2))) =
-      subst (λ z. Says (code_of s.memory) (s.pc + 4 * n) (i.Load loads.LD z 0 (of_page (m + 2)))) picked.1
+      let here : Says (code_of s.memory) (s.pc + 4 * n) (i.Load loads.LD (r k) 0 (of_page (m + 2))) = rw picked.1 at
       stand.0 in
       let one =
       ld c k 0 (of_page (m + 2)) (kept_word m) w (omega arith) picked.0 here (λ u h. page_sum u m page.0) page.1
       in
-      let more =
-      restores (suc k) (suc m) qs one picked.2 page.2 held.1 (omega arith)
+      let more = restores (suc k) (suc m) qs one picked.2 page.2 held.1 (omega arith)
       (stand_at (code_of s.memory) (s.pc + 4 * n + 4) (s.pc + 4 * suc n) (numbered restore (suc m) qs) stand.1
       (omega arith)) in (
         more.0,
@@ -215,7 +208,5 @@ module _ {s : State} {count : ℕ} {May : ℕ → Type 0} {counted : ℕ → Boo
       go : (f' : ℕ → ℕ) → ((j : ℕ) → j < suc k → f' j ≡ put k (g (kept_word m)) f j)
           → ((j : ℕ) → suc k ≤ j → j < suc k + length qs → f' j ≡ register_of s (r j))
           → (j : ℕ) → k ≤ j → j < k + suc (length qs) → (j ≡ k) ⊎ (j ≢ k) → f' j ≡ register_of s (r j)
-      go f' low high j h l (inl e) =
-          ap f' e ∙ low k (omega arith) ∙ put_same k (g (kept_word m)) f ∙ held.0 ∙ ap (register_of s) picked.1
-          ∙ ap (λ z. register_of s (r z)) (sym e)
+      go f' low high j h l (inl e) = cc (e, low k (omega arith), put_same k (g (kept_word m)) f, held.0, picked.1)
       go f' low high j h l (inr ne) = high j (omega arith) (omega arith)

@@ -19,8 +19,7 @@ unfoldable pub top_of : Codes → ℕ → ℕ → ℕ → ℕ
 top_of codes y cell reg =
     let d = alu codes y ops.SUB cell reg in
     let t = alu codes y ops.AND (alu codes y ops.ORN reg cell) d in
-    let borrow = alu codes y ops.OR t (alu codes y ops.ANDN reg cell) in
-    let mask = alu codes y ops.SRA borrow 31 in
+    let mask = alu codes y ops.SRA (alu codes y ops.OR t (alu codes y ops.ANDN reg cell)) 31 in
     alu codes y ops.SUB cell (alu codes y ops.AND mask d)
 
 abbrev pub TopIsGreater : Type 0

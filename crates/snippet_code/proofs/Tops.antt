@@ -21,23 +21,19 @@ borrow_bit : (c x d : ℕ) → c < 2 ^ 32 → x < 2 ^ 32 → d < 2 ^ 32
     (min (x / 2 ^ 31) ((2 ^ 32 - 1 - c) / 2 ^ 31))
 borrow_bit c x d lc lx ld =
     let n = complement c in
-    let ln : n < 2 ^ 32 = omega arith in
-    bit_at_or (bit_and (bit_or x n) d) (bit_and x n) 31
-    ∙ ap (λ p. max p (bit_at (bit_and x n) 31))
-    (bit_at_and (bit_or x n) d 31 ∙ ap (λ p. min p (bit_at d 31)) (bit_at_or x n 31))
+    bit_at_or (bit_and (bit_or x n) d) (bit_and x n) 31 ∙ ap (λ p. max p (bit_at (bit_and x n) 31))
+    (cc (bit_at_and (bit_or x n) d 31, bit_at_or x n 31))
     ∙ ap (λ p. max (min (max (bit_at x 31) (bit_at n 31)) (bit_at d 31)) p) (bit_at_and x n 31)
     ∙ ap (λ p. max (min (max p (bit_at n 31)) (bit_at d 31)) (min p (bit_at n 31))) (top_bit x lx)
-    ∙ ap (λ p. max (min (max (x / 2 ^ 31) p) (bit_at d 31)) (min (x / 2 ^ 31) p)) (top_bit n ln)
+    ∙ ap (λ p. max (min (max (x / 2 ^ 31) p) (bit_at d 31)) (min (x / 2 ^ 31) p)) (top_bit n (omega arith))
     ∙ ap (λ p. max (min (max (x / 2 ^ 31) (n / 2 ^ 31)) p) (min (x / 2 ^ 31) (n / 2 ^ 31))) (top_bit d ld)
 
 borrow_below : (c x d : ℕ) → c < 2 ^ 32 → x < 2 ^ 32 → d < 2 ^ 32 → borrow c x d < 2 ^ 32
 borrow_below c x d lc lx ld =
     let n = complement c in
-    let ln : n < 2 ^ 32 = omega arith in
     or_lt 32 (bit_and (bit_or x n) d) (bit_and x n)
     (let a : bit_and (bit_or x n) d ≤ bit_or x n = and_le_l _ _ in let b : bit_or x n < 2 ^ 32 = or_lt 32 x n lx
-    ln in omega arith)
-    (let a : bit_and x n ≤ x = and_le_l _ _ in omega arith)
+    (omega arith) in omega arith) (let a : bit_and x n ≤ x = and_le_l _ _ in omega arith)
 
 -- a mask of all ones, or of none
 masked : (r d : ℕ) → r < 2 ^ 32 → d < 2 ^ 32 → bit_and (shifted_right r 31) d ≡ cond (is_negative r) d 0
@@ -64,20 +60,16 @@ negative_borrow : (c x : ℕ) → c < 2 ^ 32 → x < 2 ^ 32 → c < x → is_neg
 negative_borrow c x lc lx l =
     let d = difference c x in
     let ld : d < 2 ^ 32 = omega arith in
-    let is : d ≡ 2 ^ 32 + c - x = omega arith in
-    let bit = borrow_bit c x d lc lx ld in
     let top = top_bit (borrow c x d) (borrow_below c x d lc lx ld) in
-    let one : borrow c x d / 2 ^ 31 ≡ 1 = sym top ∙ bit ∙ omega arith in
+    let one : borrow c x d / 2 ^ 31 ≡ 1 = sym top ∙ (borrow_bit c x d lc lx ld) ∙ omega arith in
     le-leb _ _ (omega arith)
 
 positive_borrow : (c x : ℕ) → c < 2 ^ 32 → x < 2 ^ 32 → x ≤ c → is_negative (borrow c x (difference c x)) ≡ false
 positive_borrow c x lc lx l =
     let d = difference c x in
     let ld : d < 2 ^ 32 = omega arith in
-    let is : d ≡ c - x = omega arith in
-    let bit = borrow_bit c x d lc lx ld in
     let top = top_bit (borrow c x d) (borrow_below c x d lc lx ld) in
-    let none : borrow c x d / 2 ^ 31 ≡ 0 = sym top ∙ bit ∙ omega arith in
+    let none : borrow c x d / 2 ^ 31 ≡ 0 = sym top ∙ (borrow_bit c x d lc lx ld) ∙ omega arith in
     lt-leb _ _ (omega arith)
 
 pub top_is_greater : TopIsGreater

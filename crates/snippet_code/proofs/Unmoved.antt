@@ -1,5 +1,5 @@
 -- A word of memory stays where no word is stored over it, whether it may be loaded or not.
-use Rattle.std.proofs.Common.{◌≡◌, ℕ, ◌+◌, ◌-◌, ◌≤◌, ◌⊎◌, inl, inr, Bool, true, false, ◌&&◌, Option, Some, None, List, [], ◌∷◌, ◌++◌, length, take, drop, refl, ap, sym, ◌∙◌, subst, arith}
+use Rattle.std.proofs.Common.{◌≡◌, ℕ, ◌+◌, ◌-◌, ◌≤◌, ◌⊎◌, inl, inr, Bool, true, false, ◌&&◌, Option, Some, None, List, [], ◌∷◌, ◌++◌, length, take, drop, refl, ap, ◌∙◌, arith}
 use Rattle.std.specs.Prelude.{if◌then◌else◌}
 use Rattle.std.specs.Int.{w32, to_be_bytes, from_be_bytes}
 use Rattle.std.specs.Option.{option_map}
@@ -26,10 +26,9 @@ other_part : (r : Region) (a b v : ℕ) → r.size ≤ length r.bytes → r.star
     → part_of (written b (to_be_bytes w32 v) r) a 4 ≡ part_of r a 4
 other_part r a b v whole low apart = go (covers b 4 r) refl r.writable apart
   where
-    go : (c : Bool) → covers b 4 r ≡ c → (w : Bool) → (a + 4 ≤ b) ⊎ (b + 4 ≤ a)
-        → part_of (if c && w then record r {
-          bytes = take (b - r.start) r.bytes ++ to_be_bytes w32 v ++ drop (b - r.start + 4) r.bytes;
-        } else r) a 4 ≡ part_of r a 4
+    go : (c : Bool) → covers b 4 r ≡ c → (w : Bool) → (a + 4 ≤ b) ⊎ (b + 4 ≤ a) → part_of (if c && w then record r {
+      bytes = take (b - r.start) r.bytes ++ to_be_bytes w32 v ++ drop (b - r.start + 4) r.bytes;
+    } else r) a 4 ≡ part_of r a 4
     go true e true (inl s) = let i = covered b 4 r e in spliced_other r.bytes (to_be_bytes w32 v) (b - r.start)
         (a - r.start) 4 (omega (arith, width v, i.0, i.1)) (inl (omega (arith, i.0, i.1)))
     go true e true (inr s) = let i = covered b 4 r e in spliced_other r.bytes (to_be_bytes w32 v) (b - r.start)
@@ -42,12 +41,11 @@ abbrev IsWhole : ℕ → Option Region → Type 0
 IsWhole a None = Unit {0}
 IsWhole a (Some r) = (r.start ≤ a) × (r.size ≤ length r.bytes)
 
-still_whole : (a b v : ℕ) (x : Option Region) → IsWhole a x
-    → IsWhole a (option_map (written b (to_be_bytes w32 v)) x)
+still_whole : (a b v : ℕ) (x : Option Region) → IsWhole a x → IsWhole a (option_map (written b (to_be_bytes w32 v)) x)
 still_whole a b v None h = tt
 still_whole a b v (Some r) h =
     let s = shape b (to_be_bytes w32 v) r in
-    (subst (λ z. z ≤ a) (sym s.start) h.0, s.whole h.1)
+    (rw s.start h.0, s.whole h.1)
 
 still_word : (a b v : ℕ) (x : Option Region) → IsWhole a x → IsApart a b
     → word_in a (option_map (written b (to_be_bytes w32 v)) x) ≡ word_in a x
@@ -60,7 +58,7 @@ unfolding memory_word
 after_all a [] m apart whole = refl
 after_all a (w ∷ ws) m apart whole =
     after_all a ws (store_word m w.0 w.1) apart.1
-    (subst (IsWhole a) (sym (placed_in m a w.0 w.1)) (still_whole a w.0 w.1 (region_at m a 4) whole))
+    (rw (placed_in m a w.0 w.1) (still_whole a w.0 w.1 (region_at m a 4) whole))
     ∙ ap (word_in a) (placed_in m a w.0 w.1) ∙ still_word a w.0 w.1 (region_at m a 4) whole apart.0
 
 at_first : (m : Memory) (a : ℕ) → IsValidMemory m → (x : Option Region) → region_at m a 4 ≡ x → IsWhole a x

@@ -1,5 +1,5 @@
 -- In how many registers operations work.
-use Rattle.std.proofs.Common.{◌≡◌, ℕ, ◌+◌, ◌<◌, max, Bool, List, [], ◌∷◌, ◌++◌, length, take, get_or, ap, sym, ◌∙◌, arith}
+use Rattle.std.proofs.Common.{◌≡◌, ℕ, ◌+◌, ◌<◌, max, Bool, List, [], ◌∷◌, ◌++◌, length, take, get_or, arith}
 use Rattle.std.proofs.lemmas.List.{take_more}
 use Rattle.snippets.specs.declared.snippet.Op.{Op}
 use Rattle.snippet_code.specs.Words.{op_registers, registers_for}
@@ -12,6 +12,4 @@ for-append d (o ∷ ops) op = let h = for-append d ops op in omega arith
 -- one operation more
 pub for_more : (d : Bool) (ops : List Op) (i : ℕ) (op : Op) → i < length ops → op ≡ get_or ops i op
     → registers_for d (take (i + 1) ops) ≡ max (registers_for d (take i ops)) (op_registers d op)
-for_more d ops i op below is =
-    ap (registers_for d) (take_more ops i op below)
-    ∙ ap (λ (z : Op). registers_for d (take i ops ++ z ∷ [])) (sym is) ∙ for-append d (take i ops) op
+for_more d ops i op below is = cc (take_more ops i op below, is, for-append d (take i ops) op)

@@ -1,5 +1,5 @@
 -- What the words of a whole snippet do.
-use Rattle.std.proofs.Common.{◌≡◌, ◌≢◌, ℕ, zero, suc, ◌+◌, ◌-◌, ◌*◌, ◌%◌, ◌^◌, ◌<◌, ◌≤◌, ◌⊎◌, inl, inr, max, Bool, true, false, List, [], ◌∷◌, ◌++◌, length, Option, drop, map, refl, ap, sym, ◌∙◌, subst, arith, length-append, length-drop, All}
+use Rattle.std.proofs.Common.{◌≡◌, ◌≢◌, ℕ, zero, suc, ◌+◌, ◌-◌, ◌*◌, ◌%◌, ◌^◌, ◌<◌, ◌≤◌, ◌⊎◌, inl, inr, Bool, true, false, List, [], ◌∷◌, ◌++◌, length, Option, drop, map, refl, ap, sym, ◌∙◌, subst, arith, length-append, length-drop, All}
 use Rattle.std.specs.Prelude.{slice_index}
 use Rattle.std.proofs.Math.Seq.{ext_get_or}
 use Rattle.std.proofs.lemmas.List.{length-map, get_or-drop}
@@ -30,7 +30,7 @@ use Rattle.snippets.specs.declared.snippet.Op.TheVariants.{Add, Put, Keep, Top, 
 use Rattle.snippets.specs.Cells.{update, named_by}
 use Rattle.snippets.specs.Grammar.{IsOp}
 use Rattle.snippet_code.specs.Cells.{cell_at, words_at, IsCellOf, kept_word}
-use Rattle.snippet_code.specs.Words.{op_registers, registers_for, all_words, numbered, save, restore}
+use Rattle.snippet_code.specs.Words.{registers_for, all_words, numbered, save, restore}
 use Rattle.snippet_code.specs.Runs.{MayStore, IsAboutToRun, RunsPast}
 use Rattle.snippet_code.specs.Laws.{EndsLow, EndLow, SnippetsRun}
 use Rattle.snippet_code.proofs.Working.{HasBlock, Works, Does, put, update_all, IsRead, AreFit, AreFrom, HavePage, saved, AreSaved}
@@ -81,8 +81,8 @@ read_below (Add cell amount) q h e = absurd e
 read_below (Put cell value) q h e = absurd e
 read_below (Count cell) q h e = absurd e
 read_below (Log cell bits value) q h e = absurd e
-read_below (Keep cell reg) q h e = subst (λ z. z < 32) (sym e) h.1
-read_below (Top cell reg) q h e = subst (λ z. z < 32) (sym e) h.1
+read_below (Keep cell reg) q h e = rw e h.1
+read_below (Top cell reg) q h e = rw e h.1
 
 module _ (counted : ℕ → Bool) (base : ℕ) (r : ℕ → ℕ) (want : ℕ) (d : Bool) (May : ℕ → Type 0) (avoid : List Part)
     (un : (k : ℕ) → k < want → has avoid (parts.Reg (r k)) ≡ false) (some : (k : ℕ) → k < want → 0 < r k) where
@@ -100,7 +100,6 @@ module _ (counted : ℕ → Bool) (base : ℕ) (r : ℕ → ℕ) (want : ℕ) (d
       → registers_for d ops ≤ want → AreFit May counted r want base d ops
   fits_of [] are low may free named enough = tt
   fits_of (op ∷ rest) are low may free named enough =
-      let all : max (op_registers d op) (registers_for d rest) ≤ want = enough in
       let is = All-head IsOp op rest are in (
         record {
           cell = λ k m. may k (inl m);
@@ -185,8 +184,8 @@ module _ (counted : ℕ → Bool) (base : ℕ) (dead avoid : List Part) (ops : L
       aligned a (inr (k, m, e)) = omega arith
 
       can : (a : ℕ) → MayStore base ops a → CanStore s.memory a
-      can a (inl (k, m, e)) = subst (CanStore s.memory) (sym e) (h.cell k m)
-      can a (inr (k, m, e)) = subst (CanStore s.memory) (sym e) (h.page k m)
+      can a (inl (k, m, e)) = rw e (h.cell k m)
+      can a (inr (k, m, e)) = rw e (h.page k m)
 
   -- another cell meets none of the words that may be stored
   cell_apart : (k n : ℕ) → (IsCellOf ops k → ⊥) → k < n → cell_at base n ≤ 2 ^ 31 → (b : ℕ) → MayStore base ops b
@@ -196,7 +195,7 @@ module _ (counted : ℕ → Bool) (base : ℕ) (dead avoid : List Part) (ops : L
       go : (k < j) ⊎ (j ≤ k) → (j < k) ⊎ (k ≤ j) → IsApart (cell_at base k) b
       go (inl l) y = inl (omega arith)
       go (inr l) (inl x) = inr (omega arith)
-      go (inr l) (inr x) = absurd (other (subst (IsCellOf ops) (let f : j ≡ k = omega arith in f) m))
+      go (inr l) (inr x) = absurd (other (rw (let f : j ≡ k = omega arith in f) at m))
   cell_apart k n other below low b (inr (j, m, e)) = inl (omega arith)
 
   -- the cells, as a list
@@ -211,20 +210,17 @@ module _ (counted : ℕ → Bool) (base : ℕ) (dead avoid : List Part) (ops : L
       let g0 = memory_word s.memory in
       let g1 = saved regs 0 out g0 in
       listed_same base n (memory_word u.memory) (update_all (cell_at base) regs ops g1)
-      (λ k below. each k below (cell_or_not ops k))
-      ∙ listed_all base n regs ops g1 inside
-      ∙ ap (update regs ops)
+      (λ k below. each k below (cell_or_not ops k)) ∙ listed_all base n regs ops g1 inside ∙ ap (update regs ops)
       (listed_same base n g1 g0 (λ k below. saved_below regs 0 out g0 (cell_at base k) (omega arith)))
     where
-      each : (k : ℕ) → k < n → IsCellOf ops k ⊎ (IsCellOf ops k → ⊥)
-          → memory_word u.memory (cell_at base k)
+      each : (k : ℕ) → k < n → IsCellOf ops k ⊎ (IsCellOf ops k → ⊥) → memory_word u.memory (cell_at base k)
           ≡ update_all (cell_at base) regs ops (saved regs 0 out (memory_word s.memory)) (cell_at base k)
       each k below (inl m) = own (cell_at base k) (inl (k, m, refl))
       each k below (inr other) =
           others k n other below limit
           ∙ sym (saved_below regs 0 out (memory_word s.memory) (cell_at base k) (omega arith))
           ∙ sym (all_away base regs ops (saved regs 0 out (memory_word s.memory)) (cell_at base k)
-          (λ j m e. other (subst (IsCellOf ops) (let f : j ≡ k = omega arith in f) m)))
+          (λ j m e. other (rw (let f : j ≡ k = omega arith in f) at m)))
 
   pub does_whole : (regs : List ℕ) (spills : ℕ) → base % 4 ≡ 0 → All IsOp ops → EndLow base ops
       → ArePicked dead avoid Want regs spills
@@ -313,7 +309,6 @@ pub snippets_run : SnippetsRun
 snippets_run base dead ops words can e counted free s h =
     let want = registers_for (has dead parts.Icc) ops in
     let avoid = named_by ops in
-    let few = can.few in
     let p = are_picked dead avoid want (omega (arith, named_few ops)) (registers_few (has dead parts.Icc) ops) in
     does_whole counted base dead avoid ops words s (picked dead avoid want) (spills dead avoid want) can.aligned
     can.are_ops can.low p (λ q m some below. has_named ops q m some below) e free h

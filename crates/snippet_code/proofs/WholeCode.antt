@@ -33,11 +33,9 @@ code_decodes base dead ops can =
     let out = spilled dead avoid want in
     let first = want - spills dead avoid want in
     let size : length out ≡ want - first = omega (arith, length-drop first (picked dead avoid want), p.count) in
-    let below = are_below out
-    (λ k b. subst (λ z. z < 32) (sym (get_or-drop first (picked dead avoid want) k 0))
+    let below = are_below out (λ k b. subst (λ z. z < 32) (sym (get_or-drop first (picked dead avoid want) k 0))
     (p.below (first + k) (omega arith))) in
-    decoded (snippet_words base dead avoid ops)
-    (have-append (numbered save 0 out)
+    decoded (snippet_words base dead avoid ops) (have-append (numbered save 0 out)
     (all_words base d (slice_index (picked dead avoid want)) ops ++ numbered restore 0 out)
     (saves_have out below (omega arith))
     (have-append (all_words base d (slice_index (picked dead avoid want)) ops) (numbered restore 0 out)
@@ -55,8 +53,7 @@ snippet_code_runs base dead ops can =
 pub all_numbered : (f : ℕ → ℕ → Instr) (regs : List ℕ) (n : ℕ) (before now : List ℕ) → length regs ≤ n
     → now ≡ before ++ map word_of (take n (numbered f 0 regs)) → now ≡ before ++ map word_of (numbered f 0 regs)
 all_numbered f regs n before now h e =
-    e ∙ ap (λ (z : List Instr). before ++ map word_of z)
-    (take_all n (numbered f 0 regs) (omega (arith, numbered_length f 0 regs)))
+    cc (e, take_all n (numbered f 0 regs) (omega (arith, numbered_length f 0 regs)))
 
 three_parts : (xs ys zs : List Instr) (a b c : List ℕ) → a ≡ map word_of xs → b ≡ a ++ map word_of ys
     → c ≡ b ++ map word_of zs → c ≡ map word_of (xs ++ (ys ++ zs))
@@ -68,11 +65,9 @@ three_parts xs ys zs a b c e f g =
 
 pub whole_code : (base : ℕ) (dead avoid : List Part) (ops : List Op) (used out : List ℕ) (a b c : List ℕ)
     → used ≡ picked dead avoid (registers_for (has dead Icc) ops)
-    → out ≡ spilled dead avoid (registers_for (has dead Icc) ops)
-    → a ≡ map word_of (numbered save 0 out)
+    → out ≡ spilled dead avoid (registers_for (has dead Icc) ops) → a ≡ map word_of (numbered save 0 out)
     → b ≡ a ++ map word_of (all_words base (has dead Icc) (slice_index used) ops)
-    → c ≡ b ++ map word_of (numbered restore 0 out)
-    → c ≡ code_of_snippet base dead avoid ops
+    → c ≡ b ++ map word_of (numbered restore 0 out) → c ≡ code_of_snippet base dead avoid ops
 whole_code base dead avoid ops used out a b c e f g h k =
     three_parts (numbered save 0 out) (all_words base (has dead Icc) (slice_index used) ops) (numbered restore 0 out)
     a b c g h k
@@ -87,8 +82,7 @@ whole_code base dead avoid ops used out a b c e f g h k =
 -- the registers that are used, by what was asked for
 pub picked_for : (dead avoid : List Part) (ops : List Op) (codes_dead : Bool) (want count : ℕ) (regs used : List ℕ)
     → count ≡ want → take count regs ≡ picked dead avoid want → want ≡ registers_for codes_dead ops
-    → codes_dead ≡ has dead Icc → used ≡ take count regs
-    → used ≡ picked dead avoid (registers_for (has dead Icc) ops)
+    → codes_dead ≡ has dead Icc → used ≡ take count regs → used ≡ picked dead avoid (registers_for (has dead Icc) ops)
 picked_for dead avoid ops codes_dead want count regs used a b e f g =
     g ∙ b ∙ ap (picked dead avoid) (e ∙ ap (λ d. registers_for d ops) f)
 
@@ -99,15 +93,12 @@ pub last_ones : (dead avoid : List Part) (ops : List Op) (codes_dead : Bool) (wa
     → out ≡ drop (length used - spill) used → out ≡ spilled dead avoid (registers_for (has dead Icc) ops)
 last_ones dead avoid ops codes_dead want count spill used out u l a b e f g =
     let w : want ≡ registers_for (has dead Icc) ops = e ∙ ap (λ d. registers_for d ops) f in
-    g ∙ ap (λ n. drop (n - spill) used) (l ∙ a ∙ w)
-    ∙ ap (λ n. drop (registers_for (has dead Icc) ops - n) used) (b ∙ ap (spills dead avoid) w)
-    ∙ ap (drop (registers_for (has dead Icc) ops - spills dead avoid (registers_for (has dead Icc) ops))) u
+    cc (g, l, a, w, b, u)
 
 -- no more than eight registers are named
 pub few_avoided : (ops : List Op) (avoid : List Part) → avoid ≡ named_by ops → length ops ≤ 8
     → register_count avoid ≤ 8
-few_avoided ops avoid e few =
-    subst (λ (z : List Part). register_count z ≤ 8) (sym e) (omega (arith, named_few ops))
+few_avoided ops avoid e few = rw e (omega (arith, named_few ops))
 
 -- what holds of the words
 pub record IsCode (base : ℕ) (dead avoid : List Part) (ops : List Op) (words : List ℕ) : Type 0 where
@@ -121,9 +112,7 @@ pub is_code : (base : ℕ) (dead avoid : List Part) (ops : List Op) (words : Lis
 is_code base dead avoid ops words four low e few are is =
     let can : CanExpand base ops = record { aligned = four; few = few; are_ops = are; low = low } in
     let runs = snippet_code_runs base dead ops can in
-    subst (IsCode base dead avoid ops) (sym is)
-    (subst (λ (z : List Part). IsCode base dead z ops (code_of_snippet base dead z ops)) (sym e)
-    (record {
+    rw is (rw e (record {
       decodes = runs.0;
       just = runs.1;
       cost = omega (

@@ -143,9 +143,7 @@ module _ {s : State} {count : ℕ} {May : ℕ → Type 0} {counted : ℕ → Boo
       let w2 = ld c 1 (r 0) (o.Imm (pos (a % 1024 + 4))) b w1 (omega arith) (omega arith) (at stand.1.0 (omega arith))
       (λ u h. sum_next u (r 0) a 0 (h.held.picked 0 (omega arith) ∙ plain) (omega arith) ∙ sums) ok' in
       let w3 = alu_codes c 1 ops.ADD (r 1) (o.Imm (pos 1)) (wrapped (g b + 1)) k w2 (omega arith) (omega arith)
-      (at stand.1.1.0 (omega arith))
-      (λ u h. ap (λ z. alu_of ops.ADD true z 1 u.codes u.y) (h.held.picked 1 (omega arith)) ∙ one_is (g b) u.codes u.y
-      ∙ ap (λ z. Ok (record { value = z; codes = k; y = u.y })) same) in
+      (at stand.1.1.0 (omega arith)) (λ u h. cc (h.held.picked 1 (omega arith), one_is (g b) u.codes u.y, same)) in
       let w4 = st c t (r 1) (r 0) (o.Imm (pos (a % 1024 + 4))) b (wrapped (g b + 1)) w3 (omega arith)
       (at stand.1.1.1.0 (omega arith))
       (λ u h. sum_next u (r 0) a 0 (h.held.picked 0 (omega arith) ∙ plain) (omega arith) ∙ sums) ok'
@@ -153,11 +151,9 @@ module _ {s : State} {count : ℕ} {May : ℕ → Type 0} {counted : ℕ → Boo
       let w5 = ld c 1 (r 0) (o.Imm (pos (a % 1024))) a w4 (omega arith) (omega arith)
       (at stand.1.1.1.1.0 (omega arith)) (λ u h. sum_low u (r 0) a (h.held.picked 0 (omega arith)) whole) ok in
       let w6 = alu c 1 ops.ADDX (r 1) (o.Imm (pos 0)) up w5 (omega arith) (omega arith)
-      (at stand.1.1.1.1.1.0 (omega arith))
-      (λ u h. ap (λ z. alu_of ops.ADDX false z 0 u.codes u.y)
-      (h.held.picked 1 (omega arith) ∙ put_other b (wrapped (g b + 1)) g a apart)
-      ∙ carry_added (g a) up u.codes u.y
-      (ap (λ (z : Codes). wrapped (g a + one_if z.c)) h.codes_are ∙ ap (λ z. wrapped (g a + z)) more)) in
+      (at stand.1.1.1.1.1.0 (omega arith)) (λ u h. ap (λ z. alu_of ops.ADDX false z 0 u.codes u.y)
+      (h.held.picked 1 (omega arith) ∙ put_other b (wrapped (g b + 1)) g a apart) ∙ carry_added (g a) up u.codes u.y
+      (rw (h.codes_are, more))) in
       let w7 = st c t (r 1) (r 0) (o.Imm (pos (a % 1024))) a up w6 (omega arith)
       (at stand.1.1.1.1.1.1.0 (omega arith)) (λ u h. sum_low u (r 0) a (h.held.picked 0 (omega arith)) whole) ok
       (λ u h. h.held.picked 1 (omega arith)) (omega arith) (free_store counted t a free) in (
@@ -279,7 +275,6 @@ module _ {s : State} {count : ℕ} {May : ℕ → Type 0} {counted : ℕ → Boo
             → Does s count May counted r want d (n + length (count_words (cell_at cells cell) b r)) t
             (update_one (cell_at cells) (register_of s) (Count cell) g)
         go true e enough room' stand' =
-            let z = h.below in
             let here = h.cell cell (omega arith, omega arith) in
             let next = h.cell (cell + 1) (omega arith, omega arith) in
             let p = counts_short (cell_at cells cell) (cell_at cells (cell + 1)) (omega arith) room' enough here next
@@ -294,7 +289,6 @@ module _ {s : State} {count : ℕ} {May : ℕ → Type 0} {counted : ℕ → Boo
               kept = λ q. absurd (cc);
             }
         go false e enough room' stand' =
-            let z = h.below in
             let here = h.cell cell (omega arith, omega arith) in
             let next = h.cell (cell + 1) (omega arith, omega arith) in
             let p = counts_long (cell_at cells cell) (cell_at cells (cell + 1)) (omega arith) room' enough here next

@@ -4,5 +4,4 @@ use Rattle.snippet_code.specs.Words.{numbered, save}
 use Rattle.snippet_code.proofs.expanding.push_saves.Given as goal
 
 abbrev pub invariant-loop-n : goal.invariant-loop-n
-invariant-loop-n l =
-    l.words.items ≡ l.initial.words.items ++ map word_of (take l.n (numbered save 0 l.spilled))
+invariant-loop-n l = l.words.items ≡ l.initial.words.items ++ map word_of (take l.n (numbered save 0 l.spilled))
