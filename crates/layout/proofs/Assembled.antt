@@ -17,7 +17,7 @@ use Rattle.layout.specs.Order.{compact_order, exit_at, jump_to}
 use Rattle.layout.specs.Laying.{IsWhole}
 use Rattle.layout.specs.Forms.{Forms, entries_in, entries_from, entries_of, far, leads_next, offset, start_of, target, width}
 use Rattle.layout.specs.Compact.{IsCompact}
-use Rattle.layout.specs.Emitting.{address_of, addresses, entry_code, far_of, has_condition, or_zero, target_offset, ranges_from, IsMade}
+use Rattle.layout.specs.Emitting.{address_of, addresses, or_zero, target_offset, ranges_from, IsMade}
 use Rattle.layout.proofs.Laying.{exits_lead, follows, item_is, whole_is}
 use Rattle.layout.proofs.Listed.{items_at, from_append, split_at, start_at, before_absent}
 use Rattle.layout.proofs.Widening.{offset_more, rises}
@@ -29,9 +29,7 @@ use Rattle.layout.proofs.Ranging.{seen, AreStill, piece_ranges, seen_both, count
 
 get_rest : (xs ys : List Entry) (j : ℕ) → slice_get (xs ++ ys) (length xs + j) ≡ slice_get ys j
 get_rest [] ys j = ap (slice_get ys) (let e : 0 + j ≡ j = omega arith in e)
-get_rest (x ∷ xs) ys j =
-    ap (slice_get (x ∷ (xs ++ ys))) (let e : suc (length xs) + j ≡ suc (length xs + j) = omega arith in e)
-    ∙ get_rest xs ys j
+get_rest (x ∷ xs) ys j = cc ((let e : suc (length xs) + j ≡ suc (length xs + j) = omega arith in e), get_rest xs ys j)
 
 get_item : (items : List Item) (ys : List Entry) (n : ℕ) (x : Item) → slice_get items n ≡ Some x
     → slice_get (map en.Item items ++ ys) n ≡ Some (en.Item x)
@@ -65,12 +63,8 @@ marked_at (items ∷ pieces) h zero = h 0
 marked_at (items ∷ pieces) h (suc k) = marked_at pieces (λ k. h (suc k)) k
 
 no_jump : (o : Option Item) → is_jump o ≡ false → jump_to o ≡ None
-no_jump None e = refl
-no_jump (Some (it.Word w)) e = refl
 no_jump (Some (it.Jump k)) e = absurd (false≢true (sym e))
-no_jump (Some (it.Branch c k)) e = refl
-no_jump (Some (it.Mark a n)) e = refl
-no_jump (Some it.EndMark) e = refl
+no_jump _ e = refl
 
 -- ---- where entries stand
 
@@ -90,8 +84,7 @@ module _ (pieces : List (List Item)) (leads : AllLead pieces) where
   start_is : (k : ℕ) (before after : List ℕ) → compact_order pieces ≡ before ++ k ∷ after
       → start_of (entries_of pieces) k ≡ length (entries_from pieces before)
   start_is k before after e =
-      ap (λ (xs : List ℕ). start_of (entries_from pieces xs) k) e
-      ∙ start_at pieces before after k (before_absent pieces (compact_order pieces) before after k whole e)
+      cc (e, start_at pieces before after k (before_absent pieces (compact_order pieces) before after k whole e))
 
   is_at : (k : ℕ) (before after : List ℕ) → compact_order pieces ≡ before ++ k ∷ after → IsAt k
   is_at k before after e = record {
@@ -106,8 +99,7 @@ module _ (pieces : List (List Item)) (leads : AllLead pieces) where
   piece_is_at k l = let s = split_at (compact_order pieces) k (whole.once k l) in is_at k s.before s.after s.is
 
   -- an entry behind a piece's start
-  entry_behind : (k : ℕ) (s : IsAt k) (n : ℕ)
-      → slice_get (entries_of pieces) (start_of (entries_of pieces) k + 1 + n)
+  entry_behind : (k : ℕ) (s : IsAt k) (n : ℕ) → slice_get (entries_of pieces) (start_of (entries_of pieces) k + 1 + n)
       ≡ slice_get (map en.Item (items_at pieces k) ++ entries_from pieces s.after) n
   entry_behind k s n =
       let e : start_of (entries_of pieces) k + 1 + n ≡ length (entries_from pieces s.before) + suc n = omega (
@@ -137,25 +129,36 @@ module _ (pieces : List (List Item)) (leads : AllLead pieces) where
       → start_of (entries_of pieces) k + 1 + length (items_at pieces k) ≤ length (entries_of pieces)
   piece_inside k l =
       let s = piece_is_at k l in
-      let a = ap length s.entries in
       let b = length-append (entries_from pieces s.before) (en.Start (record { 0 = k }) ∷ (map en.Item (items_at
       pieces k) ++ entries_from pieces s.after)) in
-      let c = length-append (map en.Item (items_at pieces k)) (entries_from pieces s.after) in
-      let d = length-map (items_at pieces k) en.Item in
-      omega (arith, a, b, c, d, s.start)
+      omega (
+        arith,
+        ap length s.entries,
+        b,
+        length-append (map en.Item (items_at pieces k))
+            (entries_from pieces s.after),
+        length-map (items_at pieces k) en.Item,
+        s.start,
+      )
 
   -- the piece behind another starts right behind its items
   next_start : (k j : ℕ) (s : IsAt k) (js : List ℕ) → s.after ≡ j ∷ js
       → start_of (entries_of pieces) j ≡ start_of (entries_of pieces) k + 1 + length (items_at pieces k)
   next_start k j s js e =
       let o : compact_order pieces ≡ (s.before ++ k ∷ []) ++ j ∷ js
-      = s.order ∙ ap (λ (xs : List ℕ). s.before ++ k ∷ xs) e ∙ sym (append_assoc s.before (k ∷ []) (j ∷ js)) in
-      let a = start_is j (s.before ++ k ∷ []) js o in
-      let b = ap length (from_append pieces s.before (k ∷ [])) in
-      let c = length-append (entries_from pieces s.before) (entries_from pieces (k ∷ [])) in
-      let d = length-append (entries_in k (items_at pieces k)) [] in
-      let f = length-map (items_at pieces k) en.Item in
-      omega (arith, a, b, c, d, f, s.start)
+      = cc (s.order, e, append_assoc s.before (k ∷ []) (j ∷ js)) in
+      omega (
+        arith,
+        start_is j (s.before ++ k ∷ []) js o,
+        ap length
+            (from_append pieces s.before (k ∷ [])),
+        length-append (entries_from pieces s.before)
+            (entries_from pieces (k ∷ [])),
+        length-append (entries_in k (items_at pieces k)) [],
+        length-map
+            (items_at pieces k) en.Item,
+        s.start,
+      )
 
   -- a Jump before the start of its piece
   jump_next : (k n : ℕ) (x : Item) (to : PieceNo) → item_at pieces k n ≡ Some x
@@ -176,15 +179,12 @@ module _ (pieces : List (List Item)) (leads : AllLead pieces) where
       behind =
           let f : suc (start_of (entries_of pieces) k + 1 + n) ≡ start_of (entries_of pieces) k + 1 + suc n = omega
           arith in
-          ap (leads_next to) (sym (entry_behind k s (suc n))) ∙ ap (λ (m : ℕ). leads_next to (slice_get (entries_of
-          pieces) m)) (sym f) ∙ h
+          cc (entry_behind k s (suc n), f, h)
 
       first : (after : List ℕ) → s.after ≡ after → leads_next to (slice_get (entries_from pieces after) 0) ≡ true
           → start_of (entries_of pieces) to.0 ≡ start_of (entries_of pieces) k + 1 + length (items_at pieces k)
       first [] f g = absurd (false≢true g)
-      first (j ∷ js) f g =
-          let same : to.0 ≡ j = eqb-true to.0 j g in
-          ap (start_of (entries_of pieces)) same ∙ next_start k j s js f
+      first (j ∷ js) f g = ap (start_of (entries_of pieces)) (eqb-true to.0 j g) ∙ next_start k j s js f
 
       by : (suc n < length (items_at pieces k)) ⊎ (length (items_at pieces k) ≤ suc n)
           → suc (start_of (entries_of pieces) k + 1 + n) ≡ start_of (entries_of pieces) to.0
@@ -195,11 +195,8 @@ module _ (pieces : List (List Item)) (leads : AllLead pieces) where
       by (inr l) =
           let m : suc n ≡ length (items_at pieces k) = omega (arith, inside, l) in
           let g : leads_next to (slice_get (entries_from pieces s.after) 0) ≡ true
-          = ap (leads_next to) (sym (get_behind (items_at pieces k) (entries_from pieces s.after)))
-          ∙ ap (λ (m : ℕ). leads_next to (slice_get (map en.Item (items_at pieces k) ++ entries_from pieces s.after)
-          m)) (sym m) ∙ behind in
-          let f = first s.after refl g in
-          omega (arith, f, m)
+          = cc (get_behind (items_at pieces k) (entries_from pieces s.after), m, behind) in
+          omega (arith, first s.after refl g, m)
 
   first_after : (before after : List ℕ) (k : ℕ) → slice_get (before ++ k ∷ after) (length before) ≡ Some k
   first_after [] after k = refl
@@ -218,25 +215,18 @@ module _ (pieces : List (List Item)) (leads : AllLead pieces) where
       s = piece_is_at k (omega arith)
 
       few : length s.before < length pieces
-      few =
-          let a = ap length s.order in
-          let b = length-append s.before (k ∷ s.after) in
-          let c = whole.len in
-          omega (arith, a, b, c)
+      few = omega (arith, ap length s.order, length-append s.before (k ∷ s.after), whole.len)
 
       next : slice_get s.after 0 ≡ Some (suc k)
       next =
           sym (second_after s.before s.after k) ∙ ap (λ (xs : List ℕ). slice_get xs (suc (length s.before))) (sym
-          s.order)
-          ∙ follows pieces (exits_lead pieces leads) k (length s.before) l none few
-          (ap (λ (xs : List ℕ). slice_get xs (length s.before)) s.order ∙ first_after s.before s.after k)
+          s.order) ∙ follows pieces (exits_lead pieces leads) k (length s.before) l none few
+          (cc (s.order, first_after s.before s.after k))
 
       go : (after : List ℕ) → s.after ≡ after → slice_get after 0 ≡ Some (suc k)
           → start_of (entries_of pieces) (suc k) ≡ start_of (entries_of pieces) k + 1 + length (items_at pieces k)
       go [] e f = absurd (cc)
-      go (j ∷ js) e f =
-          let same : j ≡ suc k = some_is j (suc k) f in
-          ap (start_of (entries_of pieces)) (sym same) ∙ next_start k j s js e
+      go (j ∷ js) e f = ap (start_of (entries_of pieces)) (sym (some_is j (suc k) f)) ∙ next_start k j s js e
         where
           some_is : (a b : ℕ) → Some a ≡ Some b → a ≡ b
           some_is a b e = cc
@@ -263,8 +253,7 @@ get_past f (n ∷ starts) zero l = absurd (omega arith)
 get_past f (n ∷ starts) (suc k) l = get_past f starts k (omega arith)
 
 module _ (pieces : List (List Item)) (leads : AllLead pieces) (marked : AllMarked pieces) (base : ℕ) (aligned : base %
-    4 ≡ 0)
-    (long : Forms) (starts : List ℕ) (p : Placed) (h : IsMade pieces base long starts p)
+    4 ≡ 0) (long : Forms) (starts : List ℕ) (p : Placed) (h : IsMade pieces base long starts p)
     (low : base + 4 * offset (entries_of pieces) long (length (entries_of pieces)) ≤ 2 ^ 31) where
   abbrev entries : List Entry
   entries = entries_of pieces
@@ -293,10 +282,8 @@ module _ (pieces : List (List Item)) (leads : AllLead pieces) (marked : AllMarke
   start_value : (k : ℕ) → k < length pieces → slice_index placed.at k ≡ base + 4 * offset (entries_of pieces) long
       (start_of (entries_of pieces) k)
   start_value k l =
-      let c = h.count in
-      let m : k < length starts = omega (arith, c, l) in
-      ap (λ (z : List ℕ). slice_index z k) at_is ∙ get_map (address_of base entries long) starts k m
-      ∙ ap (address_of base entries long) (h.listing.are k m)
+      let m : k < length starts = omega (arith, h.count, l) in
+      cc (at_is, get_map (address_of base entries long) starts k m, h.listing.are k m)
 
   -- a start takes no word
   start_still : (k : ℕ) → k < length pieces → offset (entries_of pieces) long (start_of (entries_of pieces) k + 1 + 0)
@@ -322,13 +309,11 @@ module _ (pieces : List (List Item)) (leads : AllLead pieces) (marked : AllMarke
           2 ^ 31)
       go (inl l) =
           let v = start_value k l in
-          let i = piece_inside pieces leads k l in
-          let w = offset_low (start_of entries k) (omega (arith, i)) in
+          let w = offset_low (start_of entries k) (omega (arith, piece_inside pieces leads k l)) in
           (omega (arith, v, aligned), omega (arith, v, w))
       go (inr l) =
-          let c = h.count in
           let v : slice_index placed.at k ≡ 0 = ap (λ (z : List ℕ). slice_index z k) at_is
-          ∙ get_past (address_of base entries long) starts k (omega (arith, c, l)) in
+          ∙ get_past (address_of base entries long) starts k (omega (arith, h.count, l)) in
           (omega (arith, v), omega (arith, v))
 
   within : (k n : ℕ) → k < length pieces → n ≤ size_of pieces k → IsPlaceIn base placed (place k n)
@@ -336,8 +321,7 @@ module _ (pieces : List (List Item)) (leads : AllLead pieces) (marked : AllMarke
       let i = piece_inside pieces leads k l in
       let z = size_is pieces k in
       let r = rises entries long (start_of entries k + 1 + n) (length (entries_of pieces)) (omega (arith, i, z, m)) in
-      let s = size in
-      record { begins = omega arith; ends = omega (arith, r, s); aligned = omega (arith, aligned) }
+      record { begins = omega arith; ends = omega (arith, r, size); aligned = omega (arith, aligned) }
 
   next_is : (k n : ℕ) → start_of (entries_of pieces) k + 1 + suc n ≡ suc (start_of (entries_of pieces) k + 1 + n)
   next_is k n = omega arith
@@ -351,75 +335,76 @@ module _ (pieces : List (List Item)) (leads : AllLead pieces) (marked : AllMarke
 
   goal_is : (k n : ℕ) (x : Item) (o : Option ℕ) → item_at pieces k n ≡ Some x → target (Some (en.Item x)) ≡ o
       → goal_words k n ≡ or_zero (option_map (offset entries long) (option_map (start_of entries) o))
-  goal_is k n x o e t =
-      ap (λ (y : Option Entry). or_zero (option_map (offset entries long) (option_map (start_of entries) (target y))))
-      (entry_is pieces leads k n x e)
-      ∙ ap (λ (o : Option ℕ). or_zero (option_map (offset entries long) (option_map (start_of entries) o))) t
+  goal_is k n x o e t = cc (entry_is pieces leads k n x e, t)
 
   leads_to : (k n : ℕ) (x : Item) → item_at pieces k n ≡ Some x → LeadsBelow (length pieces) (Some x)
-  leads_to k n x e = subst (LeadsBelow (length pieces)) e (leads k n)
+  leads_to k n x e = rw e at (leads k n)
 
   goes : (k n : ℕ) (x : Item) → item_at pieces k n ≡ Some x → GoesTo base placed x (goal_words k n)
-  goes k n (it.Word w) e = tt
   goes k n (it.Jump to) e =
-      let g = goal_is k n (it.Jump to) (Some to.0) e refl in
-      let v = start_value to.0 (leads_to k n (it.Jump to) e) in
-      omega (arith, g, v)
+      omega (arith, goal_is k n (it.Jump to) (Some to.0) e refl, start_value to.0 (leads_to k n (it.Jump to) e))
   goes k n (it.Branch c to) e =
-      let g = goal_is k n (it.Branch c to) (Some to.0) e refl in
-      let v = start_value to.0 (leads_to k n (it.Branch c to) e) in
-      omega (arith, g, v)
-  goes k n (it.Mark a m) e = tt
-  goes k n it.EndMark e = tt
+      omega (
+        arith,
+        goal_is k n (it.Branch c to) (Some to.0) e refl,
+        start_value to.0
+            (leads_to k n (it.Branch c to) e),
+      )
+  goes k n _ e = tt
 
   goal_low : (k n : ℕ) (x : Item) → item_at pieces k n ≡ Some x → base + 4 * goal_words k n ≤ 2 ^ 31
-  goal_low k n (it.Word w) e = let g = goal_is k n (it.Word w) None e refl in omega (arith, g, low)
   goal_low k n (it.Jump to) e =
-      let g = goal_is k n (it.Jump to) (Some to.0) e refl in
       let i = piece_inside pieces leads to.0 (leads_to k n (it.Jump to) e) in
-      let w = offset_low (start_of entries to.0) (omega (arith, i)) in
-      omega (arith, g, w)
+      omega (
+        arith,
+        goal_is k n (it.Jump to) (Some to.0) e refl,
+        offset_low (start_of entries to.0)
+            (omega (arith, i)),
+      )
   goal_low k n (it.Branch c to) e =
-      let g = goal_is k n (it.Branch c to) (Some to.0) e refl in
       let i = piece_inside pieces leads to.0 (leads_to k n (it.Branch c to) e) in
-      let w = offset_low (start_of entries to.0) (omega (arith, i)) in
-      omega (arith, g, w)
-  goal_low k n (it.Mark a m) e = let g = goal_is k n (it.Mark a m) None e refl in omega (arith, g, low)
-  goal_low k n it.EndMark e = let g = goal_is k n it.EndMark None e refl in omega (arith, g, low)
+      omega (
+        arith,
+        goal_is k n (it.Branch c to) (Some to.0) e refl,
+        offset_low (start_of entries to.0)
+            (omega (arith, i)),
+      )
+  goal_low k n x e = let g = goal_is k n x None e refl in omega (arith, g, low)
 
   step : (k n : ℕ) (x : Item) → item_at pieces k n ≡ Some x
       → offset (entries_of pieces) long (start_of (entries_of pieces) k + 1 + suc n)
       ≡ offset (entries_of pieces) long (start_of (entries_of pieces) k + 1 + n)
       + width (long (entry_no k n)) (Some (en.Item x)) (slice_get (entries_of pieces) (suc (entry_no k n)))
   step k n x e =
-      let a = ap (offset entries long) (next_is k n) in
-      let b = offset_more entries long (entry_no k n) in
       let c = ap (λ (z : Option Entry). width (long (entry_no k n)) z (slice_get entries (suc (entry_no k n))))
       (entry_is pieces leads k n x e) in
-      omega (arith, a, b, c)
+      omega (arith, ap (offset entries long) (next_is k n), offset_more entries long (entry_no k n), c)
 
   -- a Jump takes no word where its target starts right behind it
   here : (k n : ℕ) (to : PieceNo) → item_at pieces k n ≡ Some (it.Jump to)
       → leads_next to (slice_get (entries_of pieces) (suc (entry_no k n))) ≡ true
       → offset (entries_of pieces) long (start_of (entries_of pieces) k + 1 + n) ≡ goal_words k n
   here k n to e b =
-      let j = ap (offset entries long) (jump_next pieces leads k n (it.Jump to) to e b) in
-      let m = offset_more entries long (entry_no k n) in
       let c = ap (λ (z : Option Entry). width (long (entry_no k n)) z (slice_get entries (suc (entry_no k n))))
       (entry_is pieces leads k n (it.Jump to) e) in
       let w : width (long (entry_no k n)) (Some (en.Item (it.Jump to))) (slice_get entries (suc (entry_no k n))) ≡ 0
       = ap (λ (z : Bool). if z then 0 else (if long (entry_no k n) then 4 else 1)) b in
-      let g = goal_is k n (it.Jump to) (Some to.0) e refl in
-      omega (arith, j, m, c, w, g)
+      omega (
+        arith,
+        ap (offset entries long)
+            (jump_next pieces leads k n (it.Jump to) to e b),
+        offset_more entries long (entry_no k n),
+        c,
+        w,
+        goal_is k n
+            (it.Jump to) (Some to.0) e refl,
+      )
 
   nexts : (k n : ℕ) (x : Item) → item_at pieces k n ≡ Some x
       → IsNextAt base placed x (slice_get (entries_of pieces) (suc (entry_no k n))) (offset (entries_of pieces) long
       (start_of (entries_of pieces) k + 1 + n)) (goal_words k n)
-  nexts k n (it.Word w) e = tt
   nexts k n (it.Jump to) e = here k n to e
-  nexts k n (it.Branch c to) e = tt
-  nexts k n (it.Mark a m) e = tt
-  nexts k n it.EndMark e = tt
+  nexts k n _ e = tt
 
   near : (k n : ℕ) (to : ℕ) → target (slice_get (entries_of pieces) (entry_no k n)) ≡ Some to
       → long (entry_no k n) ≡ false
@@ -428,17 +413,14 @@ module _ (pieces : List (List Item)) (leads : AllLead pieces) (marked : AllMarke
       let o : target_offset entries long (entry_no k n) ≡ Some (offset entries long (start_of entries to))
       = ap (λ (o : Option ℕ). option_map (offset entries long) (option_map (start_of entries) o)) t in
       let f = near_enough entries long (entry_no k n) h.widened.none_left short in
-      ap (λ (m : Option ℕ). far (offset entries long (entry_no k n)) (or_zero m)) o
-      ∙ ap (far_of (offset entries long (entry_no k n))) (sym o) ∙ f
+      cc (o, f)
 
   nears : (k n : ℕ) (x : Item) → item_at pieces k n ≡ Some x
       → IsNearTo base placed x (long (entry_no k n)) (offset (entries_of pieces) long (start_of (entries_of pieces) k
       + 1 + n)) (goal_words k n)
-  nears k n (it.Word w) e = tt
   nears k n (it.Jump to) e = near k n to.0 (ap target (entry_is pieces leads k n (it.Jump to) e))
   nears k n (it.Branch c to) e = near k n to.0 (ap target (entry_is pieces leads k n (it.Branch c to) e))
-  nears k n (it.Mark a m) e = tt
-  nears k n it.EndMark e = tt
+  nears k n _ e = tt
 
   items : (k n : ℕ) (x : Item) → item_at pieces k n ≡ Some x → Stands base placed x (place k n) (place k (suc n))
   items k n x e =
@@ -449,38 +431,34 @@ module _ (pieces : List (List Item)) (leads : AllLead pieces) (marked : AllMarke
       item_stands base placed x (slice_get entries (suc (entry_no k n))) (long (entry_no k n)) (offset entries long
       (entry_no k n)) (goal_words k n)
       (place k n) (place k (suc n)) refl (omega (arith, t)) (offset_low (entry_no k n) (omega (arith, l))) (goal_low k
-      n x e)
-      (ap has_condition (sym (entry_is pieces leads k n x e)) ∙ h.emitted.conditions (entry_no k n) l)
+      n x e) (cc (entry_is pieces leads k n x e, h.emitted.conditions (entry_no k n) l))
       (goes k n x e) (nexts k n x e) (nears k n x e)
       (λ j w f. ap (λ (ws : List ℕ). slice_get ws (offset entries long (entry_no k n) + j)) h.emitted.is
       ∙ has_code base entries long (length (entries_of pieces)) (entry_no k n) l j w
-      (ap (λ (z : Option Entry). slice_get (entry_code base (long (entry_no k n)) (offset entries long (entry_no k n))
-      (goal_words k n) z (slice_get entries (suc (entry_no k n)))) j) (entry_is pieces leads k n x e) ∙ f))
+      (cc (entry_is pieces leads k n x e, f)))
 
   falls : (k : ℕ) → suc k < length pieces → is_jump (item_at pieces k (size_of pieces k - 1)) ≡ false
       → place k (size_of pieces k) ≡ place (suc k) 0
   falls k l j =
       let z = size_is pieces k in
       let none : exit_at pieces k ≡ None
-      = ap jump_to (sym (item_is pieces k (length (items_at pieces k) - 1))
-      ∙ ap (λ (m : ℕ). item_at pieces k (m - 1)) (sym z))
+      = ap jump_to (cc (item_is pieces k (length (items_at pieces k) - 1), z))
       ∙ no_jump (item_at pieces k (size_of pieces k - 1)) j in
-      let f = ap (offset entries long) (fall_start pieces leads k l none) in
-      let g = start_still (suc k) l in
-      let y = ap (λ (m : ℕ). offset entries long (start_of entries k + 1 + m)) z in
-      omega (arith, f, g, y)
+      omega (
+        arith,
+        ap (offset entries long) (fall_start pieces leads k l none),
+        start_still (suc k) l,
+        ap
+            (λ (m : ℕ). offset entries long (start_of entries k + 1 + m)) z,
+      )
 
   -- Marks take no room
   mark_still : (k n : ℕ) (x : Item) → item_at pieces k n ≡ Some x
       → ((long : Bool) (next : Option Entry) → width long (Some (en.Item x)) next ≡ 0) → place k (suc n) ≡ place k n
-  mark_still k n x e w =
-      let t = step k n x e in
-      let z = w (long (entry_no k n)) (slice_get entries (suc (entry_no k n))) in
-      omega (arith, t, z)
+  mark_still k n x e w = omega (arith, step k n x e, w (long (entry_no k n)) (slice_get entries (suc (entry_no k n))))
 
   still_from : (k : ℕ) (xs : List Item) (i : ℕ) → ((j : ℕ) (x : Item) → slice_get xs j ≡ Some x
-      → item_at pieces k (i + j) ≡ Some x)
-      → AreStill (place k) i xs
+      → item_at pieces k (i + j) ≡ Some x) → AreStill (place k) i xs
   still_from k [] i are = tt
   still_from k (it.Mark a m ∷ xs) i are = (
     mark_still k i (it.Mark a m) (at_this pieces k i _ (are 0 (it.Mark a m) refl)) (λ long next. refl),
@@ -493,7 +471,7 @@ module _ (pieces : List (List Item)) (leads : AllLead pieces) (marked : AllMarke
   still_from k (_ ∷ xs) i are = still_from k xs (suc i) (λ j x e. at_next pieces k i j x (are (suc j) x e))
 
   items_are : (k j : ℕ) (x : Item) → slice_get (items_at pieces k) j ≡ Some x → item_at pieces k (0 + j) ≡ Some x
-  items_are k j x e = ap (item_at pieces k) (let f : 0 + j ≡ j = omega arith in f) ∙ item_is pieces k j ∙ e
+  items_are k j x e = cc ((let f : 0 + j ≡ j = omega arith in f), item_is pieces k j, e)
 
   still : (k : ℕ) → AreStill (place k) 0 (items_at pieces k)
   still k = still_from k (items_at pieces k) 0 (items_are k)
@@ -554,8 +532,7 @@ module _ (pieces : List (List Item)) (leads : AllLead pieces) (marked : AllMarke
     ranges = ranges;
     ascend = ascend;
     marks = λ n r e. one_of pieces place (seen (ranges_from at 0 None entries)) n r
-        (order_made (compact_order pieces) [] 0 refl refl) (ap (λ (rs : List NoteRange). slice_get rs n) (sym
-        ranges_are) ∙ e);
+        (order_made (compact_order pieces) [] 0 refl refl) (cc (ranges_are, e));
   }
 
   pub lays : Lays IsCompact pieces base placed

@@ -28,7 +28,7 @@ pub emitted_more : (base : ℕ) (entries : List Entry) (long : Forms) (code new 
     → new ≡ code ++ code_at base entries long n → has_condition (slice_get entries n) ≡ true
     → IsEmitted base entries long new (n + 1)
 emitted_more base entries long code new n h e c = rw add-one record {
-  is = e ∙ ap (λ (xs : List ℕ). xs ++ code_at base entries long n) h.is ∙ sym (code_more base entries long n);
+  is = cc (e, h.is, code_more base entries long n);
   conditions = λ k l. conditions k l (cases_lt k n);
 }
   where
@@ -60,15 +60,10 @@ pub target_low : (base : ℕ) (entries : List Entry) (at : List ℕ) (long : For
     → IfSome (option_map (offset entries long) (option_map (start_of entries) o)) (λ to. base + 4 * to < 2 ^ 32)
 target_low base entries at long h low None l = tt
 target_low base entries at long h low (Some k) l =
-    let i = h.inside k l in
-    let r = rises entries long (start_of entries k) (length entries) (omega (arith, i)) in
+    let r = rises entries long (start_of entries k) (length entries) (omega (arith, h.inside k l)) in
     omega arith
 
 pub code_as : (base : ℕ) (old new : List ℕ) (long : Bool) (from a to b : ℕ) (x y next later : Option Entry)
     → from ≡ a → to ≡ b → x ≡ y → next ≡ later
     → new ≡ old ++ entry_code base long from to x next → new ≡ old ++ entry_code base long a b y later
-code_as base old new long from a to b x y next later d e f g h =
-    h ∙ ap (λ (a : ℕ). old ++ entry_code base long a to x next) d ∙ ap (λ (b : ℕ). old ++ entry_code base long a b x
-    next) e
-    ∙ ap (λ (y : Option Entry). old ++ entry_code base long a b y next) f
-    ∙ ap (λ (z : Option Entry). old ++ entry_code base long a b y z) g
+code_as base old new long from a to b x y next later d e f g h = cc (h, d, e, f, g)

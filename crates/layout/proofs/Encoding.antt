@@ -1,7 +1,6 @@
 -- The word of an instruction that has one.
-use Rattle.std.proofs.Common.{◌≡◌, ℕ, Bool, true, false, Some, None, IsTrue, refl, ap, ◌∙◌}
+use Rattle.std.proofs.Common.{◌≡◌, ℕ, Bool, true, false, Some, IsTrue, refl}
 use Rattle.std.proofs.lemmas.Bool.{false≢true}
-use Rattle.std.specs.Prelude.{if◌then◌else◌}
 use Rattle.v8_decode.specs.declared.Instr.{Instr}
 use Rattle.v8_encode.specs.Encoding.{encode_of, has_word, word_of}
 
@@ -10,6 +9,5 @@ unfolding encode_of
 word_is instr word has e = by (has_word instr) refl has
   where
     by : (b : Bool) → has_word instr ≡ b → IsTrue b → word ≡ word_of instr
-    by true f h = let g : Some word ≡ Some (word_of instr) = e
-        ∙ ap (λ (z : Bool). if z then Some (word_of instr) else None) f in cc
+    by true f h = let g : Some word ≡ Some (word_of instr) = cc (e, f) in cc
     by false f h = absurd (false≢true h)

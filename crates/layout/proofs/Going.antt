@@ -1,5 +1,5 @@
 -- What placed items do.
-use Rattle.std.proofs.Common.{◌≡◌, ℕ, zero, suc, ◌+◌, ◌-◌, ◌%◌, ◌^◌, ◌<◌, ◌≤◌, inl, inr, Bool, true, false, not, Option, Some, None, List, [], ◌∷◌, length, refl, ap, sym, ◌∙◌, subst, arith}
+use Rattle.std.proofs.Common.{◌≡◌, ℕ, zero, suc, ◌+◌, ◌-◌, ◌%◌, ◌^◌, ◌<◌, ◌≤◌, inl, inr, Bool, true, false, not, Option, Some, None, List, [], ◌∷◌, length, refl, ap, sym, ◌∙◌, arith}
 use Rattle.std.specs.Prelude.{if◌then◌else◌, ◌==◌, slice_index, slice_get, ℤ, pos}
 use Rattle.v8_decode.specs.declared.Instr.{Instr}
 use Rattle.v8_decode.specs.declared.Instr.TheVariants as i
@@ -16,7 +16,6 @@ use Rattle.v8_step.specs.Valid.{IsValid}
 use Rattle.v8_step.proofs.ValidSteps.{run-valid}
 use Rattle.code_runs.specs.StoredWords.{store_word}
 use Rattle.code_runs.specs.Counted.{count_stores}
-use Rattle.code_runs.specs.Leads.{Leads}
 use Rattle.code_runs.specs.Straight.{IsReady, Says, StandIn}
 use Rattle.code_runs.specs.TwoRegisters.{IsBetween}
 use Rattle.code_runs.specs.Hops.{hopped, Hops}
@@ -57,18 +56,10 @@ stays s to e f n low =
 always_acts : (s : State) (to : ℕ) (disp22 : ℤ) → s.slot ≡ NoSlot → Reaches s.pc to disp22
     → act s (i.Branch 8 true disp22) ≡ hopped s to s.memory
 unfolding act branch_step holds_of
-always_acts s to disp22 n e =
-    ap (λ (z : Slot). unless_couple z s (record s {
-      pc = target_of s disp22;
-      npc = wrapped
-          (target_of s disp22 + 4);
-    })) n
-    ∙ ap (λ z. record s { pc = z; npc = wrapped (z + 4) }) e
-    ∙ ap (λ (z : Slot). record s { pc = to; npc = wrapped (to + 4); slot = z }) n
+always_acts s to disp22 n e = cc (n, e)
 
 jump_goes : (base : ℕ) (code : List ℕ) (to a b : ℕ) (s : State) → JumpStands base code to a b → CanRun base code s
-    → s.pc ≡ a
-    → b ≤ 2 ^ 31 → a ≤ b → to ≤ 2 ^ 31 → to % 4 ≡ 0 → Goes s to b 0 4 1
+    → s.pc ≡ a → b ≤ 2 ^ 31 → a ≤ b → to ≤ 2 ^ 31 → to % 4 ≡ 0 → Goes s to b 0 4 1
 jump_goes base code to a b s (jump_nothing e f) w is low order low' aligned =
     record {
       count = 0;
@@ -77,20 +68,17 @@ jump_goes base code to a b s (jump_nothing e f) w is low order low' aligned =
       few = omega arith;
       inside = omega arith;
       hops = record {
-        path = subst (λ (z : State). Leads (IsBetween s 0 IsFirstWord) s z 0) (sym (stays s to (is
-            ∙ e) w.ready.npc w.slot (omega arith))) (leads_none _ s);
+        path = rw (stays s to (is ∙ e) w.ready.npc w.slot (omega arith)) (leads_none _ s);
         silent = silent_none s;
         stores = stores_none IsFirstWord s.memory;
       };
       stored = λ counted free. refl;
     }
 jump_goes base code to a b s (jump_short disp22 f r say) w is low order low' aligned =
-    let words = says_stand base code s.memory w.code (i.Branch 8 true disp22 ∷ []) a say in
     let here : Says (code_of s.memory) s.pc (i.Branch 8 true disp22) = says_at (code_of s.memory) s.pc a _
-    (sym is) words.0 in
-    let one : step_of s ≡ hopped s to s.memory =
-    says_step s (i.Branch 8 true disp22) w.ready.live here
-    ∙ always_acts s to disp22 w.slot (subst (λ z. Reaches z to disp22) (sym is) r) in
+    (sym is) (says_stand base code s.memory w.code (i.Branch 8 true disp22 ∷ []) a say).0 in
+    let one : step_of s ≡ hopped s to s.memory = says_step s (i.Branch 8 true disp22) w.ready.live here
+    ∙ always_acts s to disp22 w.slot (rw is r) in
     record {
       count = 1;
       memory = s.memory;
@@ -113,11 +101,10 @@ jump_goes base code to a b s (jump_long f say) w is low order low' aligned =
       some = omega arith;
       few = omega arith;
       inside = omega arith;
-      hops = long_jumps_hop to s w.valid w.ready (omega arith) w.page
-          (subst (λ z. StandIn (code_of s.memory) z (long_jump to)) (sym is) words) (omega arith) aligned;
+      hops = long_jumps_hop to s w.valid w.ready (omega arith) w.page (rw is words) (omega arith) aligned;
       stored = λ counted free. elim free [
         | inl other ↦ long_jumps_store to s w.valid w.ready (omega arith) w.page
-            (subst (λ z. StandIn (code_of s.memory) z (long_jump to)) (sym is) words) (omega arith) aligned counted
+            (rw is words) (omega arith) aligned counted
             other
         | inr near ↦ absurd (omega (arith, f, is, near))
       ];
@@ -167,7 +154,7 @@ pub words_stand : WordsStand
 words_stand pieces base p place h k n word e s w is =
     let stands : (place k (suc n) ≡ place k n + 4)
     × IsWordAt base p.code (place k n) word = h.items k n (it.Word word) e in
-    (ap (fetch_from (code_of s.memory)) is ∙ word_is base (place k n) word p.code s.memory w.code stands.1, stands.0)
+    (cc (is, word_is base (place k n) word p.code s.memory w.code stands.1), stands.0)
 
 -- ---- branches
 
@@ -205,26 +192,18 @@ taken_acts s c disp22 true n h e =
     ap (λ (z : Slot). unless_couple z s (branched (holds_of c s.codes) (c == 8) false s (target_of s disp22))) n
     ∙ ap (λ z. branched z (c == 8) false s (target_of s disp22)) h
     ∙ ap (λ z. branched true z false s (target_of s disp22)) e
-taken_acts s c disp22 false n h e =
-    ap (λ (z : Slot). unless_couple z s (branched (holds_of c s.codes) (c == 8) false s (target_of s disp22))) n
-    ∙ ap (λ z. branched z (c == 8) false s (target_of s disp22)) h
-    ∙ ap (λ z. branched true z false s (target_of s disp22)) e
+taken_acts s c disp22 false n h e = cc (n, h, e)
 
 pub untaken_acts : (s : State) (c : ℕ) (disp22 : ℤ) → s.slot ≡ NoSlot → holds_of c s.codes ≡ false
     → act s (i.Branch c false disp22) ≡ record s { pc = s.npc; npc = wrapped (s.npc + 4); slot = Untaken }
 unfolding act branch_step
-untaken_acts s c disp22 n h =
-    ap (λ (z : Slot). unless_couple z s (branched (holds_of c s.codes) (c == 8) false s (target_of s disp22))) n
-    ∙ ap (λ z. branched z (c == 8) false s (target_of s disp22)) h
+untaken_acts s c disp22 n h = cc (n, h)
 
 -- a branch that is annulled where it isn't taken
 annulled_acts : (s : State) (c : ℕ) (disp22 : ℤ) (flag always : Bool) → s.slot ≡ NoSlot → holds_of c s.codes ≡ flag
     → (c == 8) ≡ always → act s (i.Branch c true disp22) ≡ branched flag always true s (target_of s disp22)
 unfolding act branch_step
-annulled_acts s c disp22 flag always n h e =
-    ap (λ (z : Slot). unless_couple z s (branched (holds_of c s.codes) (c == 8) true s (target_of s disp22))) n
-    ∙ ap (λ z. branched z (c == 8) true s (target_of s disp22)) h
-    ∙ ap (λ z. branched flag z true s (target_of s disp22)) e
+annulled_acts s c disp22 flag always n h e = cc (n, h, e)
 
 -- a nop in the slot
 nop_acts : (s : State) (pc npc : ℕ) (slot : Slot) → act
@@ -313,16 +292,14 @@ module _ (s : State) (ready : IsReady s) (none : s.slot ≡ NoSlot) (low : s.pc 
         ∙ ap (λ z. record s { pc = s.npc; npc = z; slot = Taken }) r);
   }
   annulled c disp22 to false always r stand e a =
-      let there : wrapped (s.pc + 8) ≡ s.pc + 8 = omega arith in
-      let after : s.pc + 12 ≡ s.pc + 8 + 4 = omega arith in
       record {
         count = 1;
         some = omega arith;
         few = omega arith;
         bare = no_slot c disp22 (s.pc + 8) stand (says_step s (i.Branch c true disp22) ready.live stand.0
             ∙ annulled_acts s c disp22 false always none e a
-            ∙ ap (λ z. record s { pc = z; npc = wrapped (s.pc + 12) }) there
-            ∙ ap (λ z. record s { pc = s.pc + 8; npc = wrapped z }) after
+            ∙ ap (λ z. record s { pc = z; npc = wrapped (s.pc + 12) }) (omega arith)
+            ∙ ap (λ z. record s { pc = s.pc + 8; npc = wrapped z }) (omega arith)
             ∙ ap (λ (z : Slot). record s { pc = s.pc + 8; npc = wrapped (s.pc + 8 + 4); slot = z }) none);
       }
 
@@ -338,20 +315,18 @@ past_jump base code to a b s false w is low low' aligned e say h =
       some = omega arith;
       few = omega arith;
       inside = omega arith;
-      hops = subst
-          (λ z. Hops s 2 IsFirstWord z s.memory) (sym e) h.0;
+      hops = rw e h.0;
       stored = λ counted free. h.1 counted;
     }
 past_jump base code to a b s true w is low low' aligned e say h =
     let s2 = hopped s (s.pc + 8) s.memory in
     let words = says_stand base code s.memory w.code (long_jump to) (a + 8) say in
     let low2 : wrapped (s.pc + 8 + 4) ≡ s.pc + 8 + 4 = omega arith in
-    let valid2 : IsValid (hopped s (s.pc + 8) s.memory) = subst IsValid h.0.path.steps (run-valid s 2 w.valid) in
+    let valid2 : IsValid (hopped s (s.pc + 8) s.memory) = rw h.0.path.steps at (run-valid s 2 w.valid) in
     let jump : Hops (hopped s (s.pc + 8) s.memory) 4 IsFirstWord to
     (store_word s.memory (page_word 0) (register_of s 1)) =
     long_jumps_hop to s2 valid2 (record { live = w.ready.live; npc = low2 }) (omega arith) w.page
-    (subst (λ z. StandIn (code_of s.memory) z (long_jump to)) (let f : a + 8 ≡ s.pc + 8 = omega arith in f) words)
-    (omega arith) aligned in
+    (rw (let f : a + 8 ≡ s.pc + 8 = omega arith in f) at words) (omega arith) aligned in
     record {
       count = 2 + 4;
       memory = store_word s.memory (page_word 0) (register_of s 1);
@@ -371,8 +346,7 @@ past_jump base code to a b s true w is low low' aligned e say h =
       stored = λ counted free. elim free [
         | inl other ↦ none_then counted s s2 2 4 h.0.path.steps (h.1 counted)
             (long_jumps_store to s2 valid2 (record { live = w.ready.live; npc = low2 }) (omega arith) w.page
-            (subst (λ z. StandIn (code_of s.memory) z (long_jump to))
-            (let f : a + 8 ≡ s.pc + 8 = omega arith in f) words) (omega arith) aligned counted other)
+            (rw (let f : a + 8 ≡ s.pc + 8 = omega arith in f) at words) (omega arith) aligned counted other)
         | inr near ↦ absurd (omega (arith, e, is, near))
       ];
     }
@@ -382,26 +356,22 @@ branch_goes : (base : ℕ) (code : List ℕ) (c to a b : ℕ) (s : State) → Br
     → b ≤ 2 ^ 31 → to ≤ 2 ^ 31 → to % 4 ≡ 0 → Goes s (if holds_of c s.codes then to else b) b 1 6 2
 branch_goes base code c to a b s (branch_short disp22 f r say) w is small low low' aligned =
     let words = says_stand base code s.memory w.code (i.Branch c true disp22 ∷ nop ∷ []) a say in
-    let h = annulled s w.ready w.slot (omega arith) c disp22 to (holds_of c s.codes) (c == 8)
-    (subst (λ z. Reaches z to disp22) (sym is) r)
-    (subst (λ z. StandIn (code_of s.memory) z (i.Branch c true disp22 ∷ nop ∷ [])) (sym is) words) refl refl in
+    let h = annulled s w.ready w.slot (omega arith) c disp22 to (holds_of c s.codes) (c == 8) (rw is r)
+    (rw is words) refl refl in
     record {
       count = h.count;
       memory = s.memory;
       some = h.some;
       few = omega (arith, h.few);
       inside = omega (arith, h.few);
-      hops = subst (λ z. Hops s h.count IsFirstWord (if holds_of c s.codes then to else z) s.memory)
-          (let g : s.pc + 8 ≡ b = omega arith in g) h.bare.0;
+      hops = rw (let g : s.pc + 8 ≡ b = omega arith in g) at h.bare.0;
       stored = λ counted free. h.bare.1 counted;
     }
 branch_goes base code c to a b s (branch_long f say say') w is small low low' aligned =
     let words = says_stand base code s.memory w.code (i.Branch (opposite c) false (pos 6) ∷ nop ∷ []) a say in
-    let reach : Reaches s.pc (a + 24) (pos 6) = omega arith in
     past_jump base code to a b s (holds_of c s.codes) w is low low' aligned f say'
-    (two_words s w.ready w.slot (omega arith) (opposite c) (pos 6) (a + 24) (not (holds_of c s.codes)) reach
-    (subst (λ z. StandIn (code_of s.memory) z (i.Branch (opposite c) false (pos 6) ∷ nop ∷ [])) (sym is) words)
-    (opposed c s.codes small))
+    (two_words s w.ready w.slot (omega arith) (opposite c) (pos 6) (a + 24) (not (holds_of c s.codes)) (omega arith)
+    (rw is words) (opposed c s.codes small))
 
 pub branches_hop : BranchesHop
 branches_hop pieces base p place h k n cond to e small s w is =

@@ -1,5 +1,5 @@
 -- Pieces are laid one by one, each once.
-use Rattle.std.proofs.Common.{◌≡◌, ◌≢◌, ℕ, zero, suc, ◌+◌, ◌-◌, ◌<◌, ◌≤◌, ◌⊎◌, inl, inr, Bool, true, false, not, ◌&&◌, ◌||◌, eqb, List, [], ◌∷◌, ◌++◌, length, get_or, set, slice_get, Option, Some, None, is_some, IfSome, ltb, replicate, refl, ap, sym, ◌∙◌, subst, arith}
+use Rattle.std.proofs.Common.{◌≡◌, ◌≢◌, ℕ, zero, suc, ◌+◌, ◌-◌, ◌<◌, ◌≤◌, ◌⊎◌, inl, inr, Bool, true, false, not, ◌&&◌, ◌||◌, eqb, List, [], ◌∷◌, ◌++◌, length, get_or, set, slice_get, Option, Some, None, is_some, IfSome, ltb, replicate, refl, ap, sym, ◌∙◌, arith}
 use Rattle.std.specs.Prelude.{if◌then◌else◌}
 use Rattle.std.specs.Cmp.{IsEquivalence}
 use Rattle.std.specs.List.{All, IsDistinct}
@@ -39,12 +39,10 @@ or_true true = refl
 or_true false = refl
 
 pub laid_same : (laid : List ℕ) (x : ℕ) → is_laid (laid ++ x ∷ []) x ≡ true
-laid_same laid x = laid_push laid x x ∙ ap (λ (b : Bool). is_laid laid x || (b || false)) (eq-eqb x x refl)
-    ∙ or_true (is_laid laid x)
+laid_same laid x = cc (laid_push laid x x, eq-eqb x x refl, or_true (is_laid laid x))
 
 pub laid_other : (laid : List ℕ) (x k : ℕ) → (k ≡ x → ⊥) → is_laid (laid ++ x ∷ []) k ≡ is_laid laid k
-laid_other laid x k h = laid_push laid x k ∙ ap (λ (b : Bool). is_laid laid k || (b || false)) (ne_eqb k x h)
-    ∙ or_false (is_laid laid k)
+laid_other laid x k h = cc (laid_push laid x k, ne_eqb k x h, or_false (is_laid laid k))
 
 pub laid_kept : (laid : List ℕ) (x k : ℕ) → is_laid laid k ≡ true → is_laid (laid ++ x ∷ []) k ≡ true
 laid_kept laid x k h = laid_push laid x k ∙ ap (λ (b : Bool). b || (eqb k x || false)) h
@@ -58,9 +56,7 @@ first_left_is laid k (suc room) m a b h f = go (cases_eq k m) (λ s. first_left_
   where
     go : (k ≡ m) ⊎ (k ≡ m → ⊥) → (suc k ≤ m → first_left laid (suc k) room ≡ m) → first_left laid k (suc room) ≡ m
     go (inl e) more = rw (ap (is_laid laid) e ∙ f) e
-    go (inr d) more =
-        let l : is_laid laid k ≡ true = h k (omega arith) (omega arith) in
-        rw l (more (omega arith))
+    go (inr d) more = rw (h k (omega arith) (omega arith)) (more (omega arith))
 
 -- while pieces are left, the first free number is one
 pub left_inside : (laid : List ℕ) (n low : ℕ) → length laid < n → ((k : ℕ) → k < low → is_laid laid k ≡ true) → low < n
@@ -170,9 +166,7 @@ lowest_is_left pieces laid short = record {
 pub laid_inside : (laid : List ℕ) (n q : ℕ) → All (λ k. k < n) laid → is_laid laid q ≡ true → q < n
 laid_inside laid n q h l =
     let a = Any-from_list_any (eqb q) laid l in
-    let b : get_or laid a.0 a.1 < n = h a.0 a.1 a.2 in
-    let d : q ≡ a.1 = eqb-true q a.1 a.4 in
-    omega (arith, a.3, b, d)
+    omega (arith, a.3, h a.0 a.1 a.2, eqb-true q a.1 a.4)
 
 some_last : (x : ℕ) (xs : List ℕ) → slice_get (x ∷ xs) (length xs) ≡ None → ⊥
 some_last x [] e = cc
@@ -180,9 +174,7 @@ some_last x (y ∷ ys) e = some_last y ys e
 
 none_last : (laid : List ℕ) → slice_get laid (length laid - 1) ≡ None → laid ≡ []
 none_last [] e = refl
-none_last (x ∷ xs) e =
-    let f : length (x ∷ xs) - 1 ≡ length xs = omega arith in
-    absurd (some_last x xs (ap (slice_get (x ∷ xs)) (sym f) ∙ e))
+none_last (x ∷ xs) e = absurd (some_last x xs (ap (slice_get (x ∷ xs)) (sym (omega arith)) ∙ e))
 
 not_left : (a b : Bool) → (not a && b) ≡ true → a ≡ false
 not_left false b e = refl
@@ -206,8 +198,7 @@ next_is pieces laid leads h short = start (slice_get laid (length laid - 1)) ref
     through last false m end none = lowest
 
     lead : (to : PieceNo) (test : Bool) → (not (is_laid laid to.0) && ends_in_jump pieces (to.0 - 1)) ≡ test
-        → to.0 < length pieces
-        → IsNext pieces laid (if test then to.0 else lowest_left pieces laid)
+        → to.0 < length pieces → IsNext pieces laid (if test then to.0 else lowest_left pieces laid)
     lead to true t l = target_next pieces laid to.0 l (not_left (is_laid laid to.0) (ends_in_jump pieces (to.0 - 1)) t)
         (not_right (is_laid laid to.0) (ends_in_jump pieces (to.0 - 1)) t)
     lead to false t l = lowest
@@ -220,7 +211,7 @@ next_is pieces laid leads h short = start (slice_get laid (length laid - 1)) ref
     start : (o : Option ℕ) → slice_get laid (length laid - 1) ≡ o → IsNext pieces laid (next_after pieces laid o)
     start None e =
         let s : laid ≡ [] = none_last laid e in
-        subst (λ (l : List ℕ). IsNext pieces l 0) (sym s) (record {
+        rw s (record {
           inside = omega arith;
           free = refl;
           falls = λ j e f. absurd (omega arith);
@@ -242,8 +233,7 @@ laying_more pieces laid x h next = record {
 
     not_last : (k : ℕ) → is_laid laid k ≡ true → slice_get (laid ++ x ∷ []) (length (laid ++ x ∷ []) - 1) ≢ Some k
     not_last k l e =
-        let same : x ≡ k = some_is x k (sym (last_pushed laid x) ∙ e) in
-        let other : is_laid laid x ≡ true = ap (is_laid laid) same ∙ l in
+        let other : is_laid laid x ≡ true = ap (is_laid laid) (some_is x k (sym (last_pushed laid x) ∙ e)) ∙ l in
         absurd (false≢true (sym next.free ∙ other))
 
     both : (k : ℕ) → is_laid laid k ≡ true
@@ -287,14 +277,14 @@ pub first_next : (pieces : List (List Item)) (laid : List ℕ) → LeadsInside p
     → laid ≡ first_laid pieces (length laid)
     → length laid < length pieces → IsNext pieces laid (next_piece pieces laid)
 first_next pieces laid leads e short =
-    next_is pieces laid leads (subst (IsLaying pieces) (sym e) (first_are pieces leads (length laid) (omega
+    next_is pieces laid leads (rw e (first_are pieces leads (length laid) (omega
     arith)).laying) short
 
 pub last_inside : (pieces : List (List Item)) (laid : List ℕ) (last : ℕ) → LeadsInside pieces
     → laid ≡ first_laid pieces (length laid)
     → length laid < length pieces → slice_get laid (length laid - 1) ≡ Some last → last < length pieces
 last_inside pieces laid last leads e short end =
-    let h : IsLaying pieces laid = subst (IsLaying pieces) (sym e) (first_are pieces leads (length laid) (omega
+    let h : IsLaying pieces laid = rw e (first_are pieces leads (length laid) (omega
     arith)).laying in
     laid_inside laid (length pieces) last h.inside (last_laid laid last end)
 
@@ -303,27 +293,24 @@ pub whole_is : (pieces : List (List Item)) → LeadsInside pieces → IsWhole pi
 whole_is pieces leads = record {
   laying = h.laying;
   len = h.len;
-  once = λ k l. go k l (cases_Bool (is_laid
-      (compact_order pieces) k));
+  once = λ k l. go k l (cases_Bool (is_laid (compact_order pieces) k));
 }
   where
     h : AreFirst pieces (compact_order pieces) (length pieces)
     h = first_are pieces leads (length pieces) (omega arith)
 
     go : (k : ℕ) → k < length pieces → (is_laid (compact_order pieces) k ≡ true) ⊎ (is_laid (compact_order pieces) k ≡
-        false)
-        → is_laid (compact_order pieces) k ≡ true
+        false) → is_laid (compact_order pieces) k ≡ true
     go k l (inl t) = t
     go k l (inr f) =
         let laid = compact_order pieces in
-        let n = h.len in
         let d : IsDistinct eqb (compact_order pieces ++ k ∷ []) = IsDistinct-push the_equality laid k
         h.laying.distinct f in
         let in' : All (λ j. j < length pieces) (compact_order pieces ++ k ∷ []) = All-push (λ j. j < length pieces)
         laid k h.laying.inside l in
         let m : length (compact_order pieces ++ k ∷ []) ≤ length pieces = length-le_from_distinct_below (laid ++ k ∷
         []) (length pieces) d (λ q u. laid_inside (laid ++ k ∷ []) (length pieces) q in' u) in
-        absurd (omega (arith, length-append laid (k ∷ []), m, n))
+        absurd (omega (arith, length-append laid (k ∷ []), m, h.len))
 
 -- ---- what follows
 
@@ -374,15 +361,13 @@ follows pieces leads k i more none within is = go (cases_eq (suc i) (length piec
 
     last : slice_get (first_laid pieces (suc i)) (length (first_laid pieces (suc i)) - 1) ≡ Some k
     last =
-        ap (λ (xs : List ℕ). slice_get xs (length xs - 1)) (first_grows pieces i)
-        ∙ last_pushed (first_laid pieces i) (next_piece pieces (first_laid pieces i)) ∙ next_k
+        cc (first_grows pieces i, last_pushed (first_laid pieces i) (next_piece pieces (first_laid pieces i)), next_k)
 
     go : (suc i ≡ length pieces) ⊎ (suc i ≡ length pieces → ⊥) → slice_get (compact_order pieces) (suc i) ≡ Some (suc k)
     go (inl e) =
         let end : slice_get (compact_order pieces) (length (compact_order pieces) - 1) ≡ Some k
-        = subst (λ (n : ℕ). slice_get (first_laid pieces n) (length (first_laid pieces n) - 1) ≡ Some k) e last in
-        let laid : is_laid (compact_order pieces) (suc k) ≡ true = whole.once (suc k) more in
-        absurd ((whole.laying.falls k (ap (λ (o : Option PieceNo). is_some o) none) laid).1 end)
+        = rw e at last in
+        absurd ((whole.laying.falls k (ap (λ (o : Option PieceNo). is_some o) none) (whole.once (suc k) more)).1 end)
     go (inr d) =
         laid_at pieces leads (length pieces) (suc i) (omega arith) (omega (arith, d))
         ∙ ap (λ (o : Option ℕ). Some (next_after pieces (first_laid pieces (suc i)) o)) last
@@ -396,8 +381,7 @@ follows pieces leads k i more none within is = go (cases_eq (suc i) (length piec
 pub lowest_is : (pieces : List (List Item)) (laid : List ℕ) (marks : List Bool) (low k : ℕ)
     → IsMarking pieces laid marks low
     → length laid < length pieces → k ≤ length marks → low ≤ k → ((j : ℕ) → low ≤ j → j < k
-    → get_or marks j false ≡ true)
-    → (k < length marks → get_or marks k false ≡ false) → IsLowestLeft pieces laid k
+    → get_or marks j false ≡ true) → (k < length marks → get_or marks k false ≡ false) → IsLowestLeft pieces laid k
 lowest_is pieces laid marks low k h more within above passed free = record {
   value = sym (first_left_is laid 0 (length pieces) k (omega arith) (let l : k < length pieces = inside in omega
       arith) (λ j u v. below j v) unlaid);
@@ -420,8 +404,7 @@ lowest_is pieces laid marks low k h more within above passed free = record {
     unlaid = sym (h.shown k inside) ∙ free (omega (arith, h.len, inside))
 
 pub marking_higher : (pieces : List (List Item)) (laid : List ℕ) (marks : List Bool) (low k : ℕ)
-    → IsMarking pieces laid marks low
-    → IsLowestLeft pieces laid k → IsMarking pieces laid marks k
+    → IsMarking pieces laid marks low → IsLowestLeft pieces laid k → IsMarking pieces laid marks k
 marking_higher pieces laid marks low k h l = record {
   order = h.order;
   len = h.len;
@@ -445,10 +428,7 @@ marking_more pieces laid marks low x h is inside = record {
     more = let y = length-append laid (x ∷ []) in omega (arith, y)
 
     grown : laid ++ x ∷ [] ≡ first_laid pieces (length (laid ++ x ∷ []))
-    grown =
-        ap (λ (x : ℕ). laid ++ x ∷ []) is
-        ∙ ap (λ (l : List ℕ). l ++ next_piece pieces l ∷ []) h.order
-        ∙ sym (first_grows pieces (length laid)) ∙ ap (first_laid pieces) (sym more)
+    grown = cc (is, h.order, first_grows pieces (length laid), more)
 
     shown : (k : ℕ) → k < length pieces → (k ≡ x) ⊎ (k ≡ x → ⊥) → get_or (set marks x true) k false ≡ is_laid (laid ++
         x ∷ []) k
@@ -458,8 +438,7 @@ marking_more pieces laid marks low x h is inside = record {
           h.len,
           inside,
         )) in
-        ap (λ (k : ℕ). get_or (set marks x true) k false) e ∙ at ∙ sym (laid_same laid x)
-        ∙ ap (is_laid (laid ++ x ∷ [])) (sym e)
+        cc (e, at, laid_same laid x)
     shown k l (inr d) = get_or-set_other marks x k true false d ∙ h.shown k l ∙ sym (laid_other laid x k d)
 
 pub marking_none : (pieces : List (List Item)) → IsMarking pieces [] (replicate (length pieces) false) 0
@@ -485,16 +464,11 @@ item_is (items ∷ pieces) zero n = refl
 item_is (items ∷ pieces) (suc k) n = item_is pieces k n
 
 exit_leads : (count : ℕ) (o : Option Item) → LeadsBelow count o → IfSome (jump_to o) (λ to. to.0 < count)
-exit_leads count None h = tt
-exit_leads count (Some (it.Word w)) h = tt
 exit_leads count (Some (it.Jump to)) h = h
-exit_leads count (Some (it.Branch c to)) h = tt
-exit_leads count (Some (it.Mark a n)) h = tt
-exit_leads count (Some it.EndMark) h = tt
+exit_leads count _ h = tt
 
 pub exits_lead : (pieces : List (List Item)) → AllLead pieces → LeadsInside pieces
 exits_lead pieces h k =
-    let n : ℕ = length (get_or pieces k []) - 1 in
     exit_leads (length pieces) (slice_get (get_or pieces k []) (length (get_or pieces k []) - 1))
-    (subst (LeadsBelow (length pieces)) (item_is pieces k (length (get_or pieces k []) - 1)) (h k (length (get_or
+    (rw (item_is pieces k (length (get_or pieces k []) - 1)) at (h k (length (get_or
     pieces k []) - 1)))

@@ -53,8 +53,7 @@ split_at (j ∷ js) k e = go (cases_Bool (eqb k j)) (split_at js k)
   where
     go : (eqb k j ≡ true) ⊎ (eqb k j ≡ false) → (is_laid js k ≡ true → IsSplit js k) → IsSplit (j ∷ js) k
     go (inl s) more =
-        let t : k ≡ j = eqb-true k j s in
-        record { before = []; after = js; is = ap (λ (j : ℕ). j ∷ js) (sym t); absent = refl }
+        record { before = []; after = js; is = ap (λ (j : ℕ). j ∷ js) (sym (eqb-true k j s)); absent = refl }
     go (inr d) more =
         let h = more (sym (or_false (eqb k j) (is_laid js k) d) ∙ e) in
         record {
@@ -84,11 +83,16 @@ start_at pieces [] rs k e = start_self k _
 start_at pieces (j ∷ fs) rs k e =
     let d : eqb k j ≡ false = or_left (eqb k j) (is_laid fs k) e in
     let a = start_past k j (map en.Item (items_at pieces j) ++ entries_from pieces (fs ++ k ∷ rs)) d in
-    let b = start_items k (items_at pieces j) (entries_from pieces (fs ++ k ∷ rs)) in
-    let c = start_at pieces fs rs k (or_right (eqb k j) (is_laid fs k) e) in
-    let f = length-append (entries_in j (items_at pieces j)) (entries_from pieces fs) in
-    let g = length-map (items_at pieces j) en.Item in
-    omega (arith, a, b, c, f, g)
+    omega (
+      arith,
+      a,
+      start_items k (items_at pieces j) (entries_from pieces (fs ++ k ∷ rs)),
+      start_at pieces fs rs k
+          (or_right (eqb k j) (is_laid fs k) e),
+      length-append (entries_in j (items_at pieces j))
+          (entries_from pieces fs),
+      length-map (items_at pieces j) en.Item,
+    )
 
 -- ---- a sum over pieces in an order is no more than that over all
 
@@ -109,15 +113,13 @@ rest_past : (f : List Item → ℕ) (pieces : List (List Item)) (i k : ℕ) (ks 
     → rest_of f pieces i (k ∷ ks) ≡ rest_of f pieces i ks
 rest_past f [] i k ks l = refl
 rest_past f (p ∷ ps) i k ks l =
-    let h = rest_past f ps (suc i) k ks (omega arith) in
     let d : eqb i k ≡ false = ne_eqb i k (λ e. omega (arith, l, e)) in
     let g : (if eqb i k || is_laid ks i then 0 else f p) ≡ (if is_laid ks i then 0 else f p)
     = ap (λ (b : Bool). if b then 0 else f p) (or_false (eqb i k) (is_laid ks i) d) in
-    omega (arith, h, g)
+    omega (arith, rest_past f ps (suc i) k ks (omega arith), g)
 
 rest_less : (f : List Item → ℕ) (pieces : List (List Item)) (i d : ℕ) (ks : List ℕ) → d < length pieces
-    → is_laid ks (i + d) ≡ false
-    → rest_of f pieces i ks ≡ rest_of f pieces i ((i + d) ∷ ks) + f (items_at pieces d)
+    → is_laid ks (i + d) ≡ false → rest_of f pieces i ks ≡ rest_of f pieces i ((i + d) ∷ ks) + f (items_at pieces d)
 rest_less f [] i d ks l e = absurd (omega arith)
 rest_less f (p ∷ ps) i zero ks l e =
     let z : i + 0 ≡ i = omega arith in
@@ -150,13 +152,10 @@ weighed : (f : List Item → ℕ) (pieces : List (List Item)) (order : List ℕ)
     → All (λ k. k < length pieces) order → weigh f pieces order + rest_of f pieces 0 order ≡ sum_by f pieces
 weighed f pieces [] d h = let a = rest_all f pieces 0 in omega (arith, a)
 weighed f pieces (k ∷ ks) d h =
-    let more = weighed f pieces ks (distinct_tail k ks d) (λ i x l. h (suc i) x (omega arith)) in
     let z : 0 + k ≡ k = omega arith in
-    let inside : k < length pieces = h 0 0 (omega arith) in
     let less : rest_of f pieces 0 ks ≡ rest_of f pieces 0 (k ∷ ks) + f (items_at pieces k)
-    = subst (λ (n : ℕ). rest_of f pieces 0 ks ≡ rest_of f pieces 0 (n ∷ ks) + f (items_at pieces k)) z
-    (rest_less f pieces 0 k ks inside (ap (is_laid ks) z ∙ absent_head k ks d)) in
-    omega (arith, more, less)
+    = rw z at (rest_less f pieces 0 k ks (h 0 0 (omega arith)) (ap (is_laid ks) z ∙ absent_head k ks d)) in
+    omega (arith, weighed f pieces ks (distinct_tail k ks d) (λ i x l. h (suc i) x (omega arith)), less)
 
 pub weighs_less : (f : List Item → ℕ) (pieces : List (List Item)) (order : List ℕ) → IsWhole pieces order
     → weigh f pieces order ≤ sum_by f pieces
@@ -172,26 +171,22 @@ entry_count : (pieces : List (List Item)) (order : List ℕ) → length (entries
     order
 entry_count pieces [] = refl
 entry_count pieces (k ∷ ks) =
-    let h = entry_count pieces ks in
-    let a = length-append (entries_in k (items_at pieces k)) (entries_from pieces ks) in
-    let m = length-map (items_at pieces k) en.Item in
-    omega (arith, h, a, m)
+    omega (
+      arith,
+      entry_count pieces ks,
+      length-append (entries_in k (items_at pieces k))
+          (entries_from pieces ks),
+      length-map (items_at pieces k) en.Item,
+    )
 
 all_counted : (pieces : List (List Item)) → sum_by counted pieces ≡ length pieces + sum_by length pieces
 all_counted [] = refl
-all_counted (p ∷ ps) =
-    let h = all_counted ps in
-    let a = sum_by-cons counted p ps in
-    let b = sum_by-cons length p ps in
-    omega (arith, h, a, b)
+all_counted (p ∷ ps) = omega (arith, all_counted ps, sum_by-cons counted p ps, sum_by-cons length p ps)
 
 pub few_entries : (pieces : List (List Item)) (order : List ℕ) → IsWhole pieces order
     → length (entries_from pieces order) ≤ length pieces + sum_by length pieces
 few_entries pieces order h =
-    let a = entry_count pieces order in
-    let b = weighs_less counted pieces order h in
-    let c = all_counted pieces in
-    omega (arith, a, b, c)
+    omega (arith, entry_count pieces order, weighs_less counted pieces order h, all_counted pieces)
 
 -- ---- where they lead
 
@@ -204,11 +199,9 @@ lead_append n (x ∷ xs) ys g h zero = g 0
 lead_append n (x ∷ xs) ys g h (suc k) = lead_append n xs ys (λ k. g (suc k)) h k
 
 lead_item : (count : ℕ) (x : Item) → LeadsBelow count (Some x) → IfSome (target (Some (en.Item x))) (λ k. k < count)
-lead_item count (it.Word w) h = tt
 lead_item count (it.Jump to) h = h
 lead_item count (it.Branch c to) h = h
-lead_item count (it.Mark a n) h = tt
-lead_item count it.EndMark h = tt
+lead_item count _ h = tt
 
 lead_items : (count : ℕ) (items : List Item) → ((n : ℕ) → LeadsBelow count (slice_get items n))
     → LeadBelow count (map en.Item items)
@@ -226,9 +219,8 @@ lead_entries pieces h [] n = tt
 lead_entries pieces h (j ∷ js) n =
     lead_append (length pieces) (entries_in j (items_at pieces j)) (entries_from pieces js)
     (lead_start (length pieces) j (map en.Item (items_at pieces j))
-    (lead_items (length pieces) (items_at pieces j) (λ m. subst (LeadsBelow (length pieces)) (item_is pieces j m) (h j
-    m))))
-    (lead_entries pieces h js) n
+    (lead_items (length pieces) (items_at pieces j) (λ m. rw (item_is pieces j m) at (h j
+    m)))) (lead_entries pieces h js) n
 
 -- ---- listing them
 
@@ -250,17 +242,15 @@ listed_none pieces order = record {
 distinct_before : (fs rs : List ℕ) (k : ℕ) → IsDistinct eqb (fs ++ k ∷ rs) → is_laid fs k ≡ false
 unfolding IsDistinct
 distinct_before [] rs k d = refl
-distinct_before (j ∷ fs) rs k d =
-    or_false (eqb k j) (is_laid fs k) (apart fs d.0) ∙ distinct_before fs rs k d.1
+distinct_before (j ∷ fs) rs k d = or_false (eqb k j) (is_laid fs k) (apart fs d.0) ∙ distinct_before fs rs k d.1
   where
     apart : (xs : List ℕ) → AllByRecursion (λ y. eqb j y ≡ false) (xs ++ k ∷ rs) → eqb k j ≡ false
     apart [] a = the_equality.symm k j ∙ a.0
     apart (x ∷ xs) a = apart xs a.1
 
 pub before_absent : (pieces : List (List Item)) (order fs rs : List ℕ) (k : ℕ) → IsWhole pieces order
-    → order ≡ fs ++ k ∷ rs
-    → is_laid fs k ≡ false
-before_absent pieces order fs rs k h e = distinct_before fs rs k (subst (IsDistinct eqb) e h.laying.distinct)
+    → order ≡ fs ++ k ∷ rs → is_laid fs k ≡ false
+before_absent pieces order fs rs k h e = distinct_before fs rs k (rw e at h.laying.distinct)
 
 take_drop : (xs : List ℕ) (n : ℕ) → take n xs ++ drop n xs ≡ xs
 take_drop xs zero = refl
@@ -271,13 +261,13 @@ pub listed_more : (pieces : List (List Item)) (order : List ℕ) (entries : List
     → IsListed pieces order entries starts i → IsWhole pieces order → i < length order → j ≡ get_or order i 0
     → IsListed pieces order (entries ++ entries_in j (items_at pieces j)) (set starts j (length entries)) (i + 1)
 listed_more pieces order entries starts i j h whole l same = record {
-  are = ap (λ (xs : List Entry). xs ++ entries_in j (items_at pieces j)) h.are ∙ sym grown;
+  are = cc (h.are, grown);
   len = length-set starts j (length entries) ∙ h.len;
   known = λ k t. known k t (cases_eq k j);
 }
   where
     taken : take (i + 1) order ≡ take i order ++ j ∷ []
-    taken = take_more order i 0 l ∙ ap (λ (j : ℕ). take i order ++ j ∷ []) (sym same)
+    taken = cc (take_more order i 0 l, same)
 
     one : (xs : List Entry) → xs ++ [] ≡ xs
     one [] = refl
@@ -285,9 +275,7 @@ listed_more pieces order entries starts i j h whole l same = record {
 
     grown : entries_from pieces (take (i + 1) order) ≡ entries_from pieces (take i order) ++ entries_in j (items_at
         pieces j)
-    grown =
-        ap (entries_from pieces) taken ∙ from_append pieces (take i order) (j ∷ [])
-        ∙ ap (λ (xs : List Entry). entries_from pieces (take i order) ++ xs) (one (entries_in j (items_at pieces j)))
+    grown = cc (taken, from_append pieces (take i order) (j ∷ []), one (entries_in j (items_at pieces j)))
 
     split : order ≡ take i order ++ j ∷ drop (i + 1) order
     split =
@@ -300,8 +288,7 @@ listed_more pieces order entries starts i j h whole l same = record {
 
     here : length entries ≡ start_of (entries_from pieces order) j
     here =
-        ap length h.are
-        ∙ sym (start_at pieces (take i order) (drop (i + 1) order) j
+        ap length h.are ∙ sym (start_at pieces (take i order) (drop (i + 1) order) j
         (before_absent pieces order (take i order) (drop (i + 1) order) j whole split))
         ∙ ap (λ (xs : List ℕ). start_of (entries_from pieces xs) j) (sym split)
 
@@ -313,28 +300,32 @@ listed_more pieces order entries starts i j h whole l same = record {
         ap (slice_index (set starts j (length entries))) s ∙ a ∙ here ∙ ap (start_of (entries_from pieces order)) (sym
         s)
     known k t (inr d) =
-        get_or-set_other starts j k (length entries) 0 d
-        ∙ h.known k (sym (laid_other (take i order) j k d) ∙ ap (λ (xs : List ℕ). is_laid xs k) (sym taken) ∙ t)
+        get_or-set_other starts j k (length entries) 0 d ∙ h.known k (cc (laid_other (take i order) j k d, taken, t))
 
 pub start_inside : (pieces : List (List Item)) (order : List ℕ) (k : ℕ) → IsWhole pieces order → k < length pieces
     → start_of (entries_from pieces order) k < length (entries_from pieces order)
 start_inside pieces order k whole l =
     let s = split_at order k (whole.once k l) in
-    let a = start_at pieces s.before s.after k s.absent in
     let e : start_of (entries_from pieces order) k ≡ start_of (entries_from pieces (s.before ++ k ∷ s.after)) k
     = ap (λ (xs : List ℕ). start_of (entries_from pieces xs) k) s.is in
     let f : length (entries_from pieces order) ≡ length (entries_from pieces s.before ++ entries_from pieces (k ∷
     s.after))
-    = ap length (ap (entries_from pieces) s.is ∙ from_append pieces s.before (k ∷ s.after)) in
-    let g = length-append (entries_from pieces s.before) (entries_from pieces (k ∷ s.after)) in
-    omega (arith, a, e, f, g)
+    = ap length (cc (s.is, from_append pieces s.before (k ∷ s.after))) in
+    omega (
+      arith,
+      start_at pieces s.before s.after k s.absent,
+      e,
+      f,
+      length-append (entries_from pieces s.before)
+          (entries_from pieces (k ∷ s.after)),
+    )
 
 pub listed_all : (pieces : List (List Item)) (order : List ℕ) (entries : List Entry) (starts : List ℕ) (i : ℕ)
     → IsListed pieces order entries starts i → IsWhole pieces order → AllLead pieces → i ≡ length order
     → IsListing entries starts
 listed_all pieces order entries starts i h whole leads e =
-    subst (λ (xs : List Entry). IsListing xs starts) (sym all) (record {
-      targets = subst (λ (n : ℕ). LeadBelow n (entries_from pieces order)) (sym h.len) (lead_entries pieces leads
+    rw all (record {
+      targets = rw h.len (lead_entries pieces leads
           order);
       inside = λ k l. let a = start_inside pieces order k whole (omega (arith, h.len, l)) in let b = known k l in
           omega (arith, a, b);
@@ -348,7 +339,7 @@ listed_all pieces order entries starts i h whole leads e =
     all = h.are ∙ ap (entries_from pieces) taken
 
     known : (k : ℕ) → k < length starts → slice_index starts k ≡ start_of (entries_from pieces order) k
-    known k l = h.known k (ap (λ (xs : List ℕ). is_laid xs k) taken ∙ whole.once k (omega (arith, h.len)))
+    known k l = h.known k (cc (taken, whole.once k (omega (arith, h.len))))
 
 pub listed_entries : (pieces : List (List Item)) (order : List ℕ) (entries : List Entry) (starts : List ℕ) (i : ℕ)
     → IsListed pieces order entries starts i → i ≡ length order → entries ≡ entries_from pieces order

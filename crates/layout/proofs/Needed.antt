@@ -1,7 +1,6 @@
 -- How much room the compact layout needs.
-use Rattle.std.proofs.Common.{◌≡◌, ℕ, zero, suc, ◌+◌, ◌*◌, ◌^◌, ◌<◌, ◌≤◌, ◌⊎◌, inl, inr, Bool, true, false, List, [], ◌∷◌, ◌++◌, length, map, get_or, take, slice_get, Option, Some, None, refl, ap, sym, ◌∙◌, subst, arith}
+use Rattle.std.proofs.Common.{◌≡◌, ℕ, zero, suc, ◌+◌, ◌*◌, ◌^◌, ◌<◌, ◌≤◌, ◌⊎◌, inl, inr, Bool, true, false, List, [], ◌∷◌, ◌++◌, length, map, get_or, take, slice_get, Option, Some, None, refl, ap, sym, ◌∙◌, arith}
 use Rattle.std.specs.Prelude.{if◌then◌else◌}
-use Rattle.std.specs.Option.{option_map}
 use Rattle.std.proofs.lemmas.Bool.{cases_Bool, false≢true}
 use Rattle.std.proofs.lemmas.List.Sums.{sum_by-cons}
 use Rattle.std.proofs.lemmas.List.{take_more, take_all}
@@ -30,11 +29,14 @@ same_offset : (entries : List Entry) (long other : Forms) → ((n : ℕ) → lon
     → offset entries long n ≡ offset entries other n
 same_offset entries long other h zero = offset_none entries long ∙ sym (offset_none entries other)
 same_offset entries long other h (suc n) =
-    let a = same_offset entries long other h n in
-    let b = offset_more entries long n in
-    let c = offset_more entries other n in
-    let d = ap (λ (x : Bool). width x (slice_get entries n) (slice_get entries (suc n))) (h n) in
-    omega (arith, a, b, c, d)
+    omega (
+      arith,
+      same_offset entries long other h n,
+      offset_more entries long n,
+      offset_more entries other n,
+      ap
+          (λ (x : Bool). width x (slice_get entries n) (slice_get entries (suc n))) (h n),
+    )
 
 pub needed_once : NeededOnce
 needed_once pieces bytes other a b =
@@ -61,32 +63,33 @@ choose true m n k l r = l
 choose false m n k l r = r
 
 width_low : (long : Bool) (x : Entry) (next : Option Entry) → width long (Some x) next ≤ full_width x
-width_low long (en.Start k) next = omega arith
-width_low long (en.Item (it.Word w)) next = omega arith
 width_low long (en.Item (it.Jump to)) next =
     choose (leads_next to next) 0 (if long then 4 else 1) 4 (omega arith) (choose long 4 1 4 (omega arith) (omega
     arith))
 width_low long (en.Item (it.Branch c to)) next = choose long 6 2 6 (omega arith) (omega arith)
-width_low long (en.Item (it.Mark a n)) next = omega arith
-width_low long (en.Item it.EndMark) next = omega arith
+width_low long _ next = omega arith
 
 offset_low : (entries : List Entry) (long : Forms) (n : ℕ) → n ≤ length entries
     → offset entries long n ≤ full (take n entries)
 offset_low entries long zero l = let e = offset_none entries long in omega (arith, e)
 offset_low entries long (suc n) l =
-    let x : Entry = get_or entries n (en.Item it.EndMark) in
-    let h = offset_low entries long n (omega arith) in
     let m = offset_more entries long n in
     let g : slice_get entries n ≡ Some (get_or entries n (en.Item it.EndMark)) = slice_get-get_or entries n (en.Item
     it.EndMark) (omega arith) in
     let w = width_low (long n) (get_or entries n (en.Item it.EndMark)) (slice_get entries (suc n)) in
-    let y = ap (λ (z : Option Entry). width (long n) z (slice_get entries (suc n))) g in
     let t : take (suc n) entries ≡ take n entries ++ get_or entries n (en.Item it.EndMark) ∷ []
-    = (let s : suc n ≡ n + 1 = omega arith in ap (λ (m : ℕ). take m entries) s
-    ∙ take_more entries n (en.Item it.EndMark) (omega arith)) in
-    let f = ap full t in
-    let a = full_append (take n entries) (get_or entries n (en.Item it.EndMark) ∷ []) in
-    omega (arith, h, m, w, y, f, a)
+    = (let s : suc n ≡ n + 1 = omega arith in cc (s, take_more entries n (en.Item it.EndMark) (omega arith))) in
+    omega (
+      arith,
+      offset_low entries long n (omega arith),
+      m,
+      w,
+      ap
+          (λ (z : Option Entry). width (long n) z (slice_get entries (suc n))) g,
+      ap full t,
+      full_append (take n entries)
+          (get_or entries n (en.Item it.EndMark) ∷ []),
+    )
 
 full_items : (items : List Item) → full (map en.Item items) ≡ piece_words items
 full_items [] = refl
@@ -96,20 +99,27 @@ full_order : (pieces : List (List Item)) (order : List ℕ) → full (entries_fr
     pieces order
 full_order pieces [] = refl
 full_order pieces (k ∷ ks) =
-    let h = full_order pieces ks in
-    let a = full_append (entries_in k (items_at pieces k)) (entries_from pieces ks) in
-    let b = full_items (items_at pieces k) in
-    omega (arith, h, a, b)
+    omega (
+      arith,
+      full_order pieces ks,
+      full_append (entries_in k (items_at pieces k))
+          (entries_from pieces ks),
+      full_items (items_at pieces k),
+    )
 
 pub long_is_enough : LongIsEnough
 long_is_enough pieces bytes are n =
-    let es = entries_of pieces in
-    let v = n.value in
-    let a = offset_low (entries_of pieces) n.long (length (entries_of pieces)) (omega arith) in
-    let b = ap full (take_all (length (entries_of pieces)) (entries_of pieces) (omega arith)) in
-    let c = full_order pieces (compact_order pieces) in
     let d = weighs_less piece_words pieces (compact_order pieces) (whole_is pieces (exits_lead pieces are.leads)) in
-    omega (arith, v, a, b, c, d)
+    omega (
+      arith,
+      n.value,
+      offset_low (entries_of pieces) n.long (length (entries_of pieces)) (omega arith),
+      ap full
+          (take_all (length (entries_of pieces)) (entries_of pieces) (omega arith)),
+      full_order pieces
+          (compact_order pieces),
+      d,
+    )
 
 -- ---- short where all is near
 
@@ -130,13 +140,11 @@ pick false m n e = refl
 
 short_low : (long : Bool) (x : Item) (next : Option Entry) → (target (Some (en.Item x)) ≡ None → ⊥) → long ≡ false
     → width long (Some (en.Item x)) next ≤ short_words x
-short_low long (it.Word w) next t s = absurd (t refl)
 short_low long (it.Jump to) next t s =
     choose (leads_next to next) 0 (if long then 4 else 1) 1 (omega arith)
     (let e = pick long 4 1 s in omega (arith, e))
 short_low long (it.Branch c to) next t s = let e = pick long 6 2 s in omega (arith, e)
-short_low long (it.Mark a n) next t s = absurd (t refl)
-short_low long it.EndMark next t s = absurd (t refl)
+short_low long _ next t s = absurd (t refl)
 
 module _ (pieces : List (List Item)) (base : ℕ) (p : Placement) (place : ℕ → ℕ → ℕ) (leads : AllLead pieces)
     (h : IsLaid pieces base p place) (c : IsCompact pieces base place) (small : 4 * length p.code < 2 ^ 23) where
@@ -145,36 +153,29 @@ module _ (pieces : List (List Item)) (base : ℕ) (p : Placement) (place : ℕ �
 
   near : (k n : ℕ) → k < length pieces → n ≤ size_of pieces k → offset (entries_of pieces) c.long (start_of
       (entries_of pieces) k + 1 + n) < 2 ^ 21
-  near k n l m =
-      let e = c.places k n l m in
-      let w = (h.within k n l m).ends in
-      omega (arith, e, w, small)
+  near k n l m = omega (arith, c.places k n l m, (h.within k n l m).ends, small)
 
   start_near : (k : ℕ) → k < length pieces → offset (entries_of pieces) c.long (start_of (entries_of pieces) k) < 2 ^ 21
   start_near k l =
-      let s = start_of (entries_of pieces) k in
-      let a = near k 0 l (omega arith) in
       let e = ap (offset (entries_of pieces) c.long) (let f : start_of (entries_of pieces) k + 1 + 0 ≡ suc (start_of
       (entries_of pieces) k) = omega arith in f) in
-      let m = offset_more (entries_of pieces) c.long (start_of (entries_of pieces) k) in
-      omega (arith, a, e, m)
+      omega (
+        arith,
+        near k 0 l (omega arith),
+        e,
+        offset_more (entries_of pieces) c.long
+            (start_of (entries_of pieces) k),
+      )
 
   item_size : (k n : ℕ) (x : Item) → item_at pieces k n ≡ Some x → suc n ≤ size_of pieces k
-  item_size k n x e =
-      let g = get_low (items_at pieces k) n x (sym (item_is pieces k n) ∙ e) in
-      let z = size_is pieces k in
-      omega (arith, g, z)
+  item_size k n x e = omega (arith, get_low (items_at pieces k) n x (sym (item_is pieces k n) ∙ e), size_is pieces k)
 
   short : (k n : ℕ) (x : Item) → item_at pieces k n ≡ Some x → (to : ℕ) → target (Some (en.Item x)) ≡ Some to
-      → to < length pieces
-      → c.long (entry_no k n) ≡ false
+      → to < length pieces → c.long (entry_no k n) ≡ false
   short k n x e to t l = go (cases_Bool (c.long (entry_no k n)))
     where
       goal_is : goal_of (entries_of pieces) (entry_no k n) ≡ Some (start_of (entries_of pieces) to)
-      goal_is =
-          ap (λ (y : Option Entry). option_map (start_of (entries_of pieces)) (target y)) (entry_is pieces leads k n x
-          e)
-          ∙ ap (option_map (start_of (entries_of pieces))) t
+      goal_is = cc (entry_is pieces leads k n x e, t)
 
       reach : is_far (entries_of pieces) c.long (entry_no k n) ≡ false
       reach =
@@ -192,34 +193,33 @@ module _ (pieces : List (List Item)) (base : ℕ) (p : Placement) (place : ℕ �
   step k n x e =
       let q = (piece_at pieces k n x e).0 in
       let i = item_size k n x e in
-      let a = c.places k n q (omega (arith, i)) in
-      let b = c.places k (suc n) q i in
       let d = ap (offset (entries_of pieces) c.long) (let f : start_of (entries_of pieces) k + 1 + suc n ≡ suc
       (entry_no k n) = omega arith in f) in
-      let m = offset_more (entries_of pieces) c.long (entry_no k n) in
       let w = ap (λ (z : Option Entry). width (c.long (entry_no k n)) z (slice_get (entries_of pieces) (suc (entry_no
       k n)))) (entry_is pieces leads k n x e) in
-      omega (arith, a, b, d, m, w)
+      omega (
+        arith,
+        c.places k n q (omega (arith, i)),
+        c.places k (suc n) q i,
+        d,
+        offset_more
+            (entries_of pieces) c.long (entry_no k n),
+        w,
+      )
 
   leads_to : (k n : ℕ) (x : Item) → item_at pieces k n ≡ Some x → LeadsBelow (length pieces) (Some x)
-  leads_to k n x e = subst (LeadsBelow (length pieces)) e (leads k n)
+  leads_to k n x e = rw e at (leads k n)
 
   all_short : (k n : ℕ) (x : Item) → item_at pieces k n ≡ Some x → place k (suc n) ≤ place k n + 4 * short_words x
-  all_short k n (it.Word w) e = let s = step k n (it.Word w) e in omega (arith, s)
   all_short k n (it.Jump to) e =
-      let s = step k n (it.Jump to) e in
       let w = short_low (c.long (entry_no k n)) (it.Jump to) (slice_get (entries_of pieces) (suc (entry_no k n))) (λ
-      t. cc)
-      (short k n (it.Jump to) e to.0 refl (leads_to k n (it.Jump to) e)) in
-      omega (arith, s, w)
+      t. cc) (short k n (it.Jump to) e to.0 refl (leads_to k n (it.Jump to) e)) in
+      omega (arith, step k n (it.Jump to) e, w)
   all_short k n (it.Branch b to) e =
-      let s = step k n (it.Branch b to) e in
       let w = short_low (c.long (entry_no k n)) (it.Branch b to) (slice_get (entries_of pieces) (suc (entry_no k n)))
-      (λ t. cc)
-      (short k n (it.Branch b to) e to.0 refl (leads_to k n (it.Branch b to) e)) in
-      omega (arith, s, w)
-  all_short k n (it.Mark a m) e = let s = step k n (it.Mark a m) e in omega (arith, s)
-  all_short k n it.EndMark e = let s = step k n it.EndMark e in omega (arith, s)
+      (λ t. cc) (short k n (it.Branch b to) e to.0 refl (leads_to k n (it.Branch b to) e)) in
+      omega (arith, step k n (it.Branch b to) e, w)
+  all_short k n x e = omega (arith, step k n x e)
 
 pub short_is_enough : ShortIsEnough
 short_is_enough pieces base p place are h c small k n x e = all_short pieces base p place are.leads h c small k n x e

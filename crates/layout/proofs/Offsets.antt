@@ -1,5 +1,5 @@
 -- The words before each entry, and before each piece.
-use Rattle.std.proofs.Common.{◌≡◌, ℕ, zero, suc, ◌+◌, ◌*◌, ◌<◌, ◌≤◌, ◌⊎◌, inl, inr, Bool, true, false, List, [], ◌∷◌, ◌++◌, length, get_or, slice_get, slice_index, Option, Some, None, IfSome, refl, ap, sym, ◌∙◌, subst, add-one, arith, drop}
+use Rattle.std.proofs.Common.{◌≡◌, ℕ, zero, suc, ◌+◌, ◌*◌, ◌<◌, ◌≤◌, ◌⊎◌, inl, inr, Bool, true, false, List, [], ◌∷◌, ◌++◌, length, get_or, slice_get, slice_index, Option, Some, None, refl, ap, sym, ◌∙◌, add-one, arith, drop}
 use Rattle.std.specs.Prelude.{if◌then◌else◌}
 use Rattle.std.proofs.lemmas.Bool.{cases_lt, eqb-true}
 use Rattle.std.proofs.Math.Seq.{drop-cons}
@@ -10,17 +10,15 @@ use Rattle.layout.specs.declared.items.Item.TheVariants as it
 use Rattle.layout.specs.declared.entries.Entry.{Entry}
 use Rattle.layout.specs.declared.entries.Entry.TheVariants as en
 use Rattle.layout.specs.declared.ranges.OpenRange.{OpenRange}
-use Rattle.layout.specs.Forms.{Forms, is_start, leads_next, offset, start_of, target, width}
+use Rattle.layout.specs.Forms.{Forms, is_start, leads_next, offset, start_of, width}
 use Rattle.layout.specs.Emitting.{closes, opens, ranges_from, AreOffsets, IsListing, IsOffsets}
 use Rattle.layout.proofs.Widening.{offset_more}
 
 pub offset_next : (entries : List Entry) (long : Forms) (n here w : ℕ) → here ≡ offset entries long n
-    → w ≡ width (long n) (slice_get entries n) (slice_get entries (n + 1))
-    → here + w ≡ offset entries long (n + 1)
+    → w ≡ width (long n) (slice_get entries n) (slice_get entries (n + 1)) → here + w ≡ offset entries long (n + 1)
 offset_next entries long n here w e f =
-    let x = offset_more entries long n in
     let g : w ≡ width (long n) (slice_get entries n) (slice_get entries (suc n)) = rw add-one at f in
-    rw add-one (omega (arith, x, e, g))
+    rw add-one (omega (arith, offset_more entries long n, e, g))
 
 pub offset_none : (entries : List Entry) (long : Forms) → offset entries long 0 ≡ 0
 unfolding offset
@@ -94,24 +92,21 @@ offsets_more entries starts long old new n here x listing was is inside at e h h
     by (inr u) =
         let s : start_of entries k ≡ n = omega (arith, u, m) in
         let there : slice_get entries n ≡ Some (en.Start (record { 0 = k })) =
-        ap (slice_get entries) (sym s) ∙ started entries k (omega (arith, s, inside)) in
+        cc (s, started entries k (omega (arith, s, inside))) in
         let same : x ≡ en.Start (record { 0 = k }) = cc (sym at ∙ there) in
         hit k below (start ∙ s) same ∙ e ∙ ap (offset entries long) (sym s)
 
 pub all_offsets : (entries : List Entry) (starts : List ℕ) (long : Forms) (at : List ℕ) (n : ℕ) → IsListing entries starts
     → length at ≡ length starts → n ≡ length entries → AreOffsets entries long at n → IsOffsets entries long at
 all_offsets entries starts long at n listing len all h = record {
-  targets = λ n. subst (λ (count : ℕ). IfSome (target (slice_get entries n)) (λ k. k < count)) (sym len) (listing.targets n);
+  targets = λ n. rw len (listing.targets n);
   inside = inside;
   each = λ k l. h k l (omega (arith, all, inside k l));
   small = offset_small entries long;
 }
   where
     inside : (k : ℕ) → k < length at → start_of entries k < length entries
-    inside k l =
-        let a = listing.are k (omega (arith, l, len)) in
-        let b = listing.inside k (omega (arith, l, len)) in
-        omega (arith, a, b)
+    inside k l = omega (arith, listing.are k (omega (arith, l, len)), listing.inside k (omega (arith, l, len)))
 
 -- ---- ranges
 
@@ -124,8 +119,7 @@ ranges_more at entries n here mark later x old new whole l is place before more 
     ∙ append_assoc old (closes here mark x) (ranges_from at (suc n) later (drop (suc n) entries))
     ∙ ap (λ (o : Option OpenRange). old ++ (closes here mark x ++ ranges_from at (suc n) o (drop (suc n) entries))) next
     ∙ ap (λ (a : ℕ). old ++ (closes a mark x ++ ranges_from at (suc n) (opens a mark x) (drop (suc n) entries))) place
-    ∙ sym (ap (λ (xs : List Entry). old ++ ranges_from at n mark xs) list)
-    ∙ before)
+    ∙ sym (ap (λ (xs : List Entry). old ++ ranges_from at n mark xs) list) ∙ before)
   where
     list : drop n entries ≡ x ∷ drop (suc n) entries
-    list = drop-cons entries n x l ∙ ap (λ (y : Entry). y ∷ drop (suc n) entries) (sym is)
+    list = cc (drop-cons entries n x l, is)

@@ -44,13 +44,11 @@ none_before [] from to a h k = refl
 none_before (r ∷ rs) from to a h k =
     let x = h.0 in
     let y = h.1 in
-    ap (λ (z : Bool). if z then Some r else range_in rs a) (before r.lo r.hi a (omega arith))
-    ∙ none_before rs r.hi to a h.2 (omega arith)
+    cc (before r.lo r.hi a (omega arith), none_before rs r.hi to a h.2 (omega arith))
 
 ends_by : (rs : List NoteRange) (from to : ℕ) → Ascend from to rs → from ≤ to
 ends_by [] from to h = h
 ends_by (r ∷ rs) from to h =
-    let x = h.0 in
     let y = h.1 in
     let z = ends_by rs r.hi to h.2 in
     omega arith
@@ -61,8 +59,7 @@ pub none_past : (rs qs : List NoteRange) (from to a : ℕ) → Ascend from to rs
 none_past [] qs from to a h k = refl
 none_past (r ∷ rs) qs from to a h k =
     let z = ends_by rs r.hi to h.2 in
-    ap (λ (z : Bool). if z then Some r else range_in (rs ++ qs) a) (past r.lo r.hi a (omega arith))
-    ∙ none_past rs qs r.hi to a h.2 k
+    cc (past r.lo r.hi a (omega arith), none_past rs qs r.hi to a h.2 k)
 
 pub first_part : (rs qs : List NoteRange) (from to a : ℕ) → Ascend from to qs → a < from
     → range_in (rs ++ qs) a ≡ range_in rs a
@@ -91,9 +88,7 @@ abbrev pub AreStill : (ℕ → ℕ) → ℕ → List Item → Type 0
 AreStill place i [] = Unit {0}
 AreStill place i (it.Mark address node ∷ xs) = (place (suc i) ≡ place i) × AreStill place (suc i) xs
 AreStill place i (it.EndMark ∷ xs) = (place (suc i) ≡ place i) × AreStill place (suc i) xs
-AreStill place i (it.Word word ∷ xs) = AreStill place (suc i) xs
-AreStill place i (it.Jump to ∷ xs) = AreStill place (suc i) xs
-AreStill place i (it.Branch cond to ∷ xs) = AreStill place (suc i) xs
+AreStill place i (_ ∷ xs) = AreStill place (suc i) xs
 
 abbrev pub Rises : (ℕ → ℕ) → Type 0
 Rises place = (n : ℕ) → place n ≤ place (suc n)
@@ -116,14 +111,13 @@ closed_ascends : (m : OpenRange) (here to : ℕ) (rest : List Range) → m.lo.0 
     → Ascend m.lo.0 to (seen (closed (Some m) here ++ rest))
 closed_ascends m here to rest h k = go (nat_lt m.lo.0 here) refl
   where
-    go : (b : Bool) → nat_lt m.lo.0 here ≡ b
-        → Ascend m.lo.0 to (seen ((if b then record {
-          lo = m.lo;
-          hi = record { 0 = here };
-          address = m.address;
-          node =
-              m.node;
-        } ∷ [] else []) ++ rest))
+    go : (b : Bool) → nat_lt m.lo.0 here ≡ b → Ascend m.lo.0 to (seen ((if b then record {
+      lo = m.lo;
+      hi = record { 0 = here };
+      address = m.address;
+      node =
+          m.node;
+    } ∷ [] else []) ++ rest))
     go true e = (omega arith, less m.lo.0 here e, k)
       where
         less : (a b : ℕ) → nat_lt a b ≡ true → a < b
@@ -134,8 +128,7 @@ closed_ascends m here to rest h k = go (nat_lt m.lo.0 here) refl
 past_item : (place : ℕ → ℕ) → Rises place → (i to : ℕ) (mark : Option OpenRange) (xs : List Item)
     → begin_of mark (place i) ≤ place i
     → (begin_of mark (place (suc i)) ≤ place (suc i) → Ascend (begin_of mark (place (suc i))) to (seen (piece_ranges
-    place (suc i) mark xs)))
-    → Ascend (begin_of mark (place i)) to (seen (piece_ranges place (suc i) mark xs))
+    place (suc i) mark xs))) → Ascend (begin_of mark (place i)) to (seen (piece_ranges place (suc i) mark xs))
 past_item place up i to None xs low k =
     ascend_from (place (suc i)) (seen (piece_ranges place (suc i) None xs)) (place i) to (up i) (k (omega arith))
 past_item place up i to (Some m) xs low k = let u = up i in k (omega (arith, low, u))
@@ -153,13 +146,11 @@ piece_ascends place up [] i to None marked h l =
     let e : place i ≡ place (i + 0) = ap place (omega arith) in omega (arith, e, l)
 piece_ascends place up [] i to (Some m) marked h l = absurd marked
 piece_ascends place up (it.Mark address node ∷ xs) i to None marked h l =
-    let u = up i in
     piece_ascends place up xs (suc i) to (Some (record {
       lo = record { 0 = place i };
       address = address;
       node = node;
-    })) marked u
-    (end_on place i to (it.Mark address node) xs l)
+    })) marked (up i) (end_on place i to (it.Mark address node) xs l)
 piece_ascends place up (it.Mark address node ∷ xs) i to (Some m) marked h l = absurd marked
 piece_ascends place up (it.EndMark ∷ xs) i to None marked h l =
     ascend_from (place (suc i)) (seen (piece_ranges place (suc i) None xs)) (place i) to (up i)
@@ -168,15 +159,9 @@ piece_ascends place up (it.EndMark ∷ xs) i to (Some m) marked h l =
     closed_ascends m (place i) to (piece_ranges place (suc i) None xs) h
     (ascend_from (place (suc i)) (seen (piece_ranges place (suc i) None xs)) (place i) to (up i)
     (piece_ascends place up xs (suc i) to None marked (omega arith) (end_on place i to it.EndMark xs l)))
-piece_ascends place up (it.Word word ∷ xs) i to mark marked h l =
-    past_item place up i to mark xs h (λ g. piece_ascends place up xs (suc i) to mark marked g (end_on place i to
-    (it.Word word) xs l))
-piece_ascends place up (it.Jump k ∷ xs) i to mark marked h l =
-    past_item place up i to mark xs h (λ g. piece_ascends place up xs (suc i) to mark marked g (end_on place i to
-    (it.Jump k) xs l))
-piece_ascends place up (it.Branch c k ∷ xs) i to mark marked h l =
-    past_item place up i to mark xs h (λ g. piece_ascends place up xs (suc i) to mark marked g (end_on place i to
-    (it.Branch c k) xs l))
+piece_ascends place up (x ∷ xs) i to mark marked h l =
+    past_item place up i to mark xs h (λ g. piece_ascends place up xs (suc i) to mark marked g
+    (end_on place i to x xs l))
 
 -- ---- the range that is found
 
@@ -193,15 +178,7 @@ range_at m hi = record { lo = m.lo.0; hi = hi; address = m.address.0; node = m.n
 
 closes_here : (m : OpenRange) (here a : ℕ) (rest : List Range) → m.lo.0 ≤ a → a < here
     → range_in (seen (closed (Some m) here ++ rest)) a ≡ Some (range_at m here)
-closes_here m here a rest h k =
-    ap (λ (b : Bool). range_in (seen ((if b then record {
-      lo = m.lo;
-      hi = record { 0 = here };
-      address = m.address;
-      node = m.node;
-    } ∷ [] else []) ++ rest)) a)
-    (less m.lo.0 here (omega arith))
-    ∙ ap (λ (b : Bool). if b then Some (range_at m here) else range_in (seen rest) a) (holds m.lo.0 here a h k)
+closes_here m here a rest h k = cc (less m.lo.0 here (omega arith), holds m.lo.0 here a h k)
   where
     less : (a b : ℕ) → a < b → nat_lt a b ≡ true
     less a b e = grind (arith, nat_tests)
@@ -214,26 +191,15 @@ closes_at place up [] i a m marked h k = absurd marked
 closes_at place up (it.EndMark ∷ xs) i a m marked h k = closes_here m (place i) a (piece_ranges place (suc i) None xs)
     h k
 closes_at place up (it.Mark address node ∷ xs) i a m marked h k = absurd marked
-closes_at place up (it.Word word ∷ xs) i a m marked h k = closes_at place up xs (suc i) a m marked h (let u = up i in
-    omega (arith, u, k))
-closes_at place up (it.Jump to ∷ xs) i a m marked h k = closes_at place up xs (suc i) a m marked h (let u = up i in
-    omega (arith, u, k))
-closes_at place up (it.Branch c to ∷ xs) i a m marked h k = closes_at place up xs (suc i) a m marked h (let u = up i
-    in omega (arith, u, k))
+closes_at place up (_ ∷ xs) i a m marked h k = closes_at place up xs (suc i) a m marked h (omega (arith, up i, k))
 
 same_range : (place : ℕ → ℕ) (o : OpenMark) (m : OpenRange) (hi : ℕ) → place o.first ≡ m.lo.0 → place o.last ≡ hi
-    → o.address ≡ m.address.0 → o.node ≡ m.node
-    → Some (range_at m hi) ≡ range_of place (Some o)
-same_range place o m hi a b c d =
-    ap (λ z. Some (record { lo = z; hi = hi; address = m.address.0; node = m.node })) (sym a)
-    ∙ ap (λ z. Some (record { lo = place o.first; hi = z; address = m.address.0; node = m.node })) (sym b)
-    ∙ ap (λ z. Some (record { lo = place o.first; hi = place o.last; address = z; node = m.node })) (sym c)
-    ∙ ap (λ z. Some (record { lo = place o.first; hi = place o.last; address = o.address; node = z })) (sym d)
+    → o.address ≡ m.address.0 → o.node ≡ m.node → Some (range_at m hi) ≡ range_of place (Some o)
+same_range place o m hi a b c d = cc (a, b, c, d)
 
 -- at the words of the first item
 at_first : (place : ℕ → ℕ) → Rises place → (x : Item) (xs : List Item) (i a : ℕ) (o : Option OpenMark) (mark : Option
-    OpenRange)
-    → end_from (x ∷ xs) i ≡ end_from xs (suc i) → AreSame place (x ∷ xs) i o mark
+    OpenRange) → end_from (x ∷ xs) i ≡ end_from xs (suc i) → AreSame place (x ∷ xs) i o mark
     → AreMarked (is_open mark) xs → begin_of mark (place i) ≤ place i → place i ≤ a → a < place (suc i)
     → range_in (seen (piece_ranges place (suc i) mark xs)) a ≡ range_of place o
 at_first place up x xs i a None None e same marked low h k =
@@ -246,8 +212,7 @@ at_first place up x xs i a None (Some m) e same marked low h k = absurd same
 at_first place up x xs i a (Some o) None e same marked low h k = absurd same
 
 same_on : (place : ℕ → ℕ) (x : Item) (xs : List Item) (i : ℕ) (o : Option OpenMark) (mark : Option OpenRange)
-    → end_from (x ∷ xs) i ≡ end_from xs (suc i)
-    → AreSame place (x ∷ xs) i o mark → AreSame place xs (suc i) o mark
+    → end_from (x ∷ xs) i ≡ end_from xs (suc i) → AreSame place (x ∷ xs) i o mark → AreSame place xs (suc i) o mark
 same_on place x xs i None None e h = tt
 same_on place x xs i (Some o) (Some m) e h = (h.0, h.1 ∙ e, h.2, h.3)
 same_on place x xs i None (Some m) e h = absurd h
@@ -293,33 +258,14 @@ this_high : (place : ℕ → ℕ) (i a : ℕ) → a < place (suc (i + 0)) → a 
 this_high place i a h = let e : place (suc (i + 0)) ≡ place (suc i) = ap place (omega arith) in omega (arith, e, h)
 
 finds : (place : ℕ → ℕ) → Rises place → (items : List Item) (n i a : ℕ) (o : Option OpenMark) (mark : Option OpenRange) (x :
-    Item)
-    → AreStill place i items → AreSame place items i o mark → AreMarked (is_open mark) items
+    Item) → AreStill place i items → AreSame place items i o mark → AreMarked (is_open mark) items
     → begin_of mark (place i) ≤ place i → slice_get items n ≡ Some x → place (i + n) ≤ a → a < place (suc (i + n))
     → range_in (seen (piece_ranges place i mark items)) a ≡ range_of place (open_from items i n o)
 finds place up [] n i a o mark x s same marked low e h k = absurd (cc)
-finds place up (it.Word word ∷ xs) zero i a o mark x s same marked low e h k =
-    at_first place up (it.Word word) xs i a o mark refl same marked low (this_low place i a h) (this_high place i a k)
-finds place up (it.Jump to ∷ xs) zero i a o mark x s same marked low e h k =
-    at_first place up (it.Jump to) xs i a o mark refl same marked low (this_low place i a h) (this_high place i a k)
-finds place up (it.Branch c to ∷ xs) zero i a o mark x s same marked low e h k =
-    at_first place up (it.Branch c to) xs i a o mark refl same marked low (this_low place i a h) (this_high place i a k)
 finds place up (it.Mark address node ∷ xs) zero i a o mark x s same marked low e h k =
     let u = this_low place i a h in let v = this_high place i a k in let w = s.0 in absurd (omega (arith, u, v, w))
 finds place up (it.EndMark ∷ xs) zero i a o mark x s same marked low e h k =
     let u = this_low place i a h in let v = this_high place i a k in let w = s.0 in absurd (omega (arith, u, v, w))
-finds place up (it.Word word ∷ xs) (suc n) i a o mark x s same marked low e h k =
-    finds place up xs n (suc i) a o mark x s (same_on place (it.Word word) xs i o mark refl same) marked (low_on place
-    up i mark low) e
-    (next_low place i n a h) (next_high place i n a k)
-finds place up (it.Jump to ∷ xs) (suc n) i a o mark x s same marked low e h k =
-    finds place up xs n (suc i) a o mark x s (same_on place (it.Jump to) xs i o mark refl same) marked (low_on place
-    up i mark low) e
-    (next_low place i n a h) (next_high place i n a k)
-finds place up (it.Branch c to ∷ xs) (suc n) i a o mark x s same marked low e h k =
-    finds place up xs n (suc i) a o mark x s (same_on place (it.Branch c to) xs i o mark refl same) marked (low_on
-    place up i mark low) e
-    (next_low place i n a h) (next_high place i n a k)
 finds place up (it.EndMark ∷ xs) (suc n) i a o mark x s same marked low e h k =
     closed_past mark (place i) a (piece_ranges place (suc i) None xs)
     (let r = rises_by place up i (suc n) in omega (arith, r, h))
@@ -327,20 +273,23 @@ finds place up (it.EndMark ∷ xs) (suc n) i a o mark x s same marked low e h k 
     place i n a k)
 finds place up (it.Mark address node ∷ xs) (suc n) i a o None x s same marked low e h k =
     finds place up xs n (suc i) a _ (Some (record { lo = record { 0 = place i }; address = address; node = node })) x
-    s.1
-    (s.0, refl, refl, refl) marked (up i) e (next_low place i n a h) (next_high place i n a k)
+    s.1 (s.0, refl, refl, refl) marked (up i) e (next_low place i n a h) (next_high place i n a k)
 finds place up (it.Mark address node ∷ xs) (suc n) i a o (Some m) x s same marked low e h k = absurd marked
+finds place up (y ∷ xs) zero i a o mark x s same marked low e h k =
+    at_first place up y xs i a o mark refl same marked low (this_low place i a h) (this_high place i a k)
+finds place up (y ∷ xs) (suc n) i a o mark x s same marked low e h k =
+    finds place up xs n (suc i) a o mark x s (same_on place y xs i o mark refl same) marked
+    (low_on place up i mark low) e
+    (next_low place i n a h) (next_high place i n a k)
 
 -- ---- the ranges of all pieces, in an order
 
 marked_on : (here : ℕ) (mark : Option OpenRange) (x : Item) (xs : List Item) → AreMarked (is_open mark) (x ∷ xs)
     → AreMarked (is_open (opens here mark (en.Item x))) xs
-marked_on here mark (it.Word word) xs h = h
-marked_on here mark (it.Jump to) xs h = h
-marked_on here mark (it.Branch c to) xs h = h
 marked_on here None (it.Mark address node) xs h = h
 marked_on here (Some m) (it.Mark address node) xs h = absurd h
 marked_on here mark it.EndMark xs h = h
+marked_on here mark _ xs h = h
 
 module _ (at : ℕ → ℕ) (up : (n : ℕ) → at n ≤ at (suc n)) where
   -- the places of items, the first of which is this entry
@@ -361,8 +310,7 @@ module _ (at : ℕ → ℕ) (up : (n : ℕ) → at n ≤ at (suc n)) where
       let more = as_piece xs c (suc i) m (opens (at (c + i)) mark (en.Item x)) ys (marked_on (at (c + i)) mark x xs
       marked) (omega (arith, e)) in
       let f : suc (c + i) ≡ c + suc i = omega arith in
-      ap (λ (rs : List Range). closes (at (c + i)) mark (en.Item x) ++ rs)
-      (ap (λ n. ranges_from at n (opens (at (c + i)) mark (en.Item x)) (map en.Item xs ++ ys)) f ∙ more)
+      ap (λ (rs : List Range). closes (at (c + i)) mark (en.Item x) ++ rs) (cc (f, more))
       ∙ sym (append_assoc (closes (at (c + i)) mark (en.Item x))
       (piece_ranges (λ n. at (c + n)) (suc i) (opens (at (c + i)) mark (en.Item x)) xs) (ranges_from at m None ys))
 
@@ -371,8 +319,7 @@ module _ (at : ℕ → ℕ) (up : (n : ℕ) → at n ≤ at (suc n)) where
     abbrev behind_at : ℕ → ℕ → ℕ
     behind_at c k = c + 1 + length (items_at pieces k)
 
-    one_piece : (c k : ℕ) (ks : List ℕ)
-        → ranges_from at c None (entries_from pieces (k ∷ ks))
+    one_piece : (c k : ℕ) (ks : List ℕ) → ranges_from at c None (entries_from pieces (k ∷ ks))
         ≡ piece_ranges (λ n. at (c + 1 + n)) 0 None (items_at pieces k) ++ ranges_from at (behind_at c k) None
         (entries_from pieces ks)
     one_piece c k ks =
@@ -380,8 +327,7 @@ module _ (at : ℕ → ℕ) (up : (n : ℕ) → at n ≤ at (suc n)) where
         + 1 + 0 = omega arith in e)
         ∙ as_piece (items_at pieces k) (c + 1) 0 (behind_at c k) None (entries_from pieces ks) (marked k) (omega arith)
 
-    pub seen_both : (c k : ℕ) (ks : List ℕ)
-        → seen (ranges_from at c None (entries_from pieces (k ∷ ks)))
+    pub seen_both : (c k : ℕ) (ks : List ℕ) → seen (ranges_from at c None (entries_from pieces (k ∷ ks)))
         ≡ seen (piece_ranges (λ n. at (c + 1 + n)) 0 None (items_at pieces k)) ++ seen (ranges_from at (behind_at c k)
         None (entries_from pieces ks))
     seen_both c k ks =
@@ -392,9 +338,12 @@ module _ (at : ℕ → ℕ) (up : (n : ℕ) → at n ≤ at (suc n)) where
     pub count_more : (k : ℕ) (ks : List ℕ) → length (entries_from pieces (k ∷ ks)) ≡ 1 + length (items_at pieces k) +
         length (entries_from pieces ks)
     count_more k ks =
-        let a = length-append (entries_in k (items_at pieces k)) (entries_from pieces ks) in
-        let b = length-map (items_at pieces k) en.Item in
-        omega (arith, a, b)
+        omega (
+          arith,
+          length-append (entries_in k (items_at pieces k)) (entries_from pieces ks),
+          length-map
+              (items_at pieces k) en.Item,
+        )
 
     one_ascends : (c k : ℕ) → Ascend (at c) (at (behind_at c k)) (seen (piece_ranges (λ n. at (c + 1 + n)) 0 None
         (items_at pieces k)))
@@ -411,8 +360,7 @@ module _ (at : ℕ → ℕ) (up : (n : ℕ) → at n ≤ at (suc n)) where
     order_ascends [] c m e = let f : at c ≡ at m = ap at (omega (arith, e)) in omega (arith, f)
     order_ascends (k ∷ ks) c m e =
         let n = count_more k ks in
-        subst (Ascend (at c) (at m)) (sym (seen_both c k ks))
-        (ascend_then (seen (piece_ranges (λ n. at (c + 1 + n)) 0 None (items_at pieces k)))
+        rw (seen_both c k ks) (ascend_then (seen (piece_ranges (λ n. at (c + 1 + n)) 0 None (items_at pieces k)))
         (seen (ranges_from at (behind_at c k) None (entries_from pieces ks))) (at c) (at (behind_at c k)) (at m)
         (one_ascends c k) (order_ascends ks (behind_at c k) m (omega (arith, e, n))))
 
@@ -450,8 +398,7 @@ module _ (at : ℕ → ℕ) (up : (n : ℕ) → at n ≤ at (suc n)) where
         ap (λ (rs : List NoteRange). range_in rs a) (seen_both c j (js ++ k ∷ after))
         ∙ none_past (seen (piece_ranges (λ n. at (c + 1 + n)) 0 None (items_at pieces j)))
         (seen (ranges_from at (behind_at c j) None (entries_from pieces (js ++ k ∷ after)))) (at c) (at (behind_at c
-        j)) a
-        (one_ascends c j) (omega (arith, r, h))
+        j)) a (one_ascends c j) (omega (arith, r, h))
         ∙ order_finds js after (behind_at c j) s k n a x (omega (arith, e, m)) still is h l
 
 -- ---- whose range each is
@@ -459,7 +406,7 @@ module _ (at : ℕ → ℕ) (up : (n : ℕ) → at n ≤ at (suc n)) where
 -- an item's number, of which one more or less is in a sum
 pub at_next : (pieces : List (List Item)) (k i j : ℕ) (x : Item) → item_at pieces k (i + suc j) ≡ Some x
     → item_at pieces k (suc i + j) ≡ Some x
-at_next pieces k i j x h = ap (item_at pieces k) (let e : suc i + j ≡ i + suc j = omega arith in e) ∙ h
+at_next pieces k i j x h = cc ((let e : suc i + j ≡ i + suc j = omega arith in e), h)
 
 pub at_this : (pieces : List (List Item)) (k i : ℕ) (x : Item) → item_at pieces k (i + 0) ≡ Some x
     → item_at pieces k i ≡ Some x
@@ -477,7 +424,7 @@ module _ (pieces : List (List Item)) (place : ℕ → ℕ → ℕ) where
   pub one_of : (rs : List NoteRange) (n : ℕ) (r : NoteRange) → AllOf rs → slice_get rs n ≡ Some r
       → IsRangeOf pieces place r
   one_of [] n r h e = absurd (cc)
-  one_of (q ∷ rs) zero r h e = let f : q ≡ r = cc in subst (IsRangeOf pieces place) f h.0
+  one_of (q ∷ rs) zero r h e = let f : q ≡ r = cc in rw f at h.0
   one_of (q ∷ rs) (suc n) r h e = one_of rs n r h.1 e
 
   abbrev IsMade : Option OpenRange → Type 0
@@ -503,13 +450,12 @@ module _ (pieces : List (List Item)) (place : ℕ → ℕ → ℕ) where
       → AreStill (place k) i items → IsMade mark → AllOf (seen (piece_ranges (place k) i mark items))
   piece_made [] k i mark are s h = tt
   piece_made (it.EndMark ∷ xs) k i mark are s h =
-      subst AllOf (sym (map-append note_range (closed mark (place k i)) (piece_ranges (place k) (suc i) None xs)))
+      rw (map-append note_range (closed mark (place k i)) (piece_ranges (place k) (suc i) None xs))
       (all_then (seen (closed mark (place k i))) _ (closed_made mark (place k i) h)
       (piece_made xs k (suc i) None (λ j x e. at_next pieces k i j x (are (suc j) x e)) s.1 tt))
   piece_made (it.Mark address node ∷ xs) k i mark are s h =
       piece_made xs k (suc i) (Some (record { lo = record { 0 = place k i }; address = address; node = node }))
-      (λ j x e. at_next pieces k i j x (are (suc j) x e)) s.1
-      (λ hi. record {
+      (λ j x e. at_next pieces k i j x (are (suc j) x e)) s.1 (λ hi. record {
         piece = k;
         item = i;
         address = address;

@@ -1,5 +1,5 @@
 -- Each entry's words stand in the code, and say what it is.
-use Rattle.std.proofs.Common.{◌≡◌, ℕ, zero, suc, ◌+◌, ◌-◌, ◌*◌, ◌/◌, ◌%◌, ◌^◌, ◌<◌, ◌≤◌, ◌⊎◌, inl, inr, Bool, true, false, List, [], ◌∷◌, ◌++◌, length, slice_get, Option, Some, None, refl, ap, sym, ◌∙◌, subst, arith, length-append}
+use Rattle.std.proofs.Common.{◌≡◌, ℕ, zero, suc, ◌+◌, ◌-◌, ◌*◌, ◌/◌, ◌%◌, ◌^◌, ◌<◌, ◌≤◌, ◌⊎◌, inl, inr, Bool, true, false, List, [], ◌∷◌, ◌++◌, length, slice_get, Option, Some, None, refl, ap, sym, ◌∙◌, arith, length-append}
 use Rattle.std.proofs.lemmas.Int.{ints}
 use Rattle.std.specs.Prelude.{pos, negsuc, ℤ, nat_lt, if◌then◌else◌, slice_index}
 use Rattle.std.proofs.lemmas.Bool.Decides.{nat_tests}
@@ -51,12 +51,10 @@ fits f t h = go (cases_lt t f)
 
     go : (t < f) ⊎ (f ≤ t) → fits_signed 22 (between f t) ≡ true
     go (inl l) =
-        let n = (near_means f t h).1 in
-        let w : f - t - 1 < 2 ^ 21 = omega (arith, n, l) in
+        let w : f - t - 1 < 2 ^ 21 = omega (arith, (near_means f t h).1, l) in
         ap (fits_signed 22) (down_is f t l) ∙ below (f - t - 1) w
     go (inr l) =
-        let n = (near_means f t h).0 in
-        let w : t - f < 2 ^ 21 = omega (arith, n, l) in
+        let w : t - f < 2 ^ 21 = omega (arith, (near_means f t h).0, l) in
         ap (fits_signed 22) (up_is f t l) ∙ below (t - f) w
 
 pub reaches : (base f t : ℕ) → base + 4 * f ≤ 2 ^ 31 → base + 4 * t ≤ 2 ^ 31
@@ -64,8 +62,8 @@ pub reaches : (base f t : ℕ) → base + 4 * f ≤ 2 ^ 31 → base + 4 * t ≤ 
 reaches base f t a b = go (cases_lt t f)
   where
     go : (t < f) ⊎ (f ≤ t) → Reaches (base + 4 * f) (base + 4 * t) (between f t)
-    go (inl l) = subst (Reaches (base + 4 * f) (base + 4 * t)) (sym (down_is f t l)) (omega arith)
-    go (inr l) = subst (Reaches (base + 4 * f) (base + 4 * t)) (sym (up_is f t l)) (omega arith)
+    go (inl l) = rw (down_is f t l) (omega arith)
+    go (inr l) = rw (up_is f t l) (omega arith)
 
 -- ---- words in code
 
@@ -80,17 +78,14 @@ get_first (x ∷ xs) ys (suc j) w e = get_first xs ys j w e
 
 get_rest : (xs ys : List ℕ) (j : ℕ) → slice_get (xs ++ ys) (length xs + j) ≡ slice_get ys j
 get_rest [] ys j = ap (slice_get ys) (let e : 0 + j ≡ j = omega arith in e)
-get_rest (x ∷ xs) ys j =
-    ap (slice_get (x ∷ (xs ++ ys))) (let e : suc (length xs) + j ≡ suc (length xs + j) = omega arith in e)
-    ∙ get_rest xs ys j
+get_rest (x ∷ xs) ys j = cc ((let e : suc (length xs) + j ≡ suc (length xs + j) = omega arith in e), get_rest xs ys j)
 
 has_first : (code xs ys : List ℕ) (n : ℕ) → Has code n (xs ++ ys) → Has code n xs
 has_first code xs ys n h j w e = h j w (get_first xs ys j w e)
 
 has_rest : (code xs ys : List ℕ) (n m : ℕ) → m ≡ n + length xs → Has code n (xs ++ ys) → Has code m ys
 has_rest code xs ys n m f h j w e =
-    ap (slice_get code) (let g : m + j ≡ n + (length xs + j) = omega arith in g)
-    ∙ h (length xs + j) w (get_rest xs ys j ∙ e)
+    cc ((let g : m + j ≡ n + (length xs + j) = omega arith in g), h (length xs + j) w (get_rest xs ys j ∙ e))
 
 -- ---- instructions
 
@@ -99,13 +94,12 @@ AllDecode [] = Unit {0}
 AllDecode (x ∷ xs) = (decode_of (word_of x) ≡ x) × AllDecode xs
 
 says_words : (base : ℕ) (code : List ℕ) (xs : List Instr) (n a : ℕ) → a ≡ base + 4 * n → AllDecode xs
-    → Has code n (words_of xs)
-    → SaysFrom base code a xs
+    → Has code n (words_of xs) → SaysFrom base code a xs
 says_words base code [] n a e d h = tt
 says_words base code (x ∷ xs) n a e d h = (
-  (word_of x, (n, e, ap (slice_get code) (let g : n ≡ n + 0 = omega arith in g) ∙ h 0 (word_of x) refl), d.0),
+  (word_of x, (n, e, cc ((let g : n ≡ n + 0 = omega arith in g), h 0 (word_of x) refl)), d.0),
   says_words base code xs (n + 1) (a + 4) (omega arith) d.1
-      (λ j w f. ap (slice_get code) (let g : n + 1 + j ≡ n + suc j = omega arith in g) ∙ h (suc j) w f),
+      (λ j w f. cc ((let g : n + 1 + j ≡ n + suc j = omega arith in g), h (suc j) w f)),
 )
 
 decodes : (x : Instr) → is_in_range x ≡ true → has_word x ≡ true → decode_of (word_of x) ≡ x
@@ -171,16 +165,20 @@ pub code_length : (base : ℕ) (entries : List Entry) (long : Forms) (n : ℕ)
     → length (code_to base entries long n) ≡ offset entries long n
 code_length base entries long zero = ap length (code_none base entries long) ∙ sym (offset_none entries long)
 code_length base entries long (suc n) =
-    let h = code_length base entries long n in
-    let a = ap length (code_more base entries long n) in
-    let b = length-append (code_to base entries long n) (code_at base entries long n) in
     let c = entry_length base (long n) (offset entries long n) (or_zero (target_offset entries long n)) (slice_get
     entries n) (slice_get entries (suc n)) in
-    let d = offset_more entries long n in
-    omega (arith, h, a, b, c, d)
+    omega (
+      arith,
+      code_length base entries long n,
+      ap length (code_more base entries long n),
+      length-append
+          (code_to base entries long n) (code_at base entries long n),
+      c,
+      offset_more entries long n,
+    )
 
 has_more : (code xs ys : List ℕ) (n : ℕ) (ws : List ℕ) → code ≡ xs ++ ys → Has xs n ws → Has code n ws
-has_more code xs ys n ws e h j w f = ap (λ (zs : List ℕ). slice_get zs (n + j)) e ∙ get_first xs ys (n + j) w (h j w f)
+has_more code xs ys n ws e h j w f = cc (e, get_first xs ys (n + j) w (h j w f))
 
 -- the words of an entry stand in the code
 pub has_code : (base : ℕ) (entries : List Entry) (long : Forms) (m n : ℕ) → n < m
@@ -189,15 +187,13 @@ has_code base entries long zero n l = absurd (omega arith)
 has_code base entries long (suc m) n l = go (cases_lt n m) (has_code base entries long m n)
   where
     go : (n < m) ⊎ (m ≤ n) → (n < m → Has (code_to base entries long m) (offset entries long n) (code_at base entries
-        long n))
-        → Has (code_to base entries long (suc m)) (offset entries long n) (code_at base entries long n)
+        long n)) → Has (code_to base entries long (suc m)) (offset entries long n) (code_at base entries long n)
     go (inl u) more =
         has_more (code_to base entries long (suc m)) (code_to base entries long m) (code_at base entries long m)
         (offset entries long n) (code_at base entries long n) (code_more base entries long m) (more u)
     go (inr u) more =
         let s : m ≡ n = omega arith in
-        subst (λ (n : ℕ). Has (code_to base entries long (suc m)) (offset entries long n) (code_at base entries long
-        n)) s last
+        rw (← s) last
       where
         last : Has (code_to base entries long (suc m)) (offset entries long m) (code_at base entries long m)
         last j w f =
@@ -210,20 +206,17 @@ has_code base entries long (suc m) n l = go (cases_lt n m) (has_code base entrie
 
 module _ (base : ℕ) (p : Placement) where
   jump_says : (long skip : Bool) (f t a b k : ℕ) → a ≡ base + 4 * f → k ≡ base + 4 * t → base + 4 * f ≤ 2 ^ 31
-      → base + 4 * t ≤ 2 ^ 31
-      → (skip ≡ true → f ≡ t) → (long ≡ false → far f t ≡ false)
+      → base + 4 * t ≤ 2 ^ 31 → (skip ≡ true → f ≡ t) → (long ≡ false → far f t ≡ false)
       → b ≡ a + 4 * (if skip then 0 else (if long then 4 else 1))
       → Has p.code f (if skip then [] else words_of (jump_code long base f t)) → JumpStands base p.code k a b
   jump_says long true f t a b k ea ek la lt here near eb h =
       let s : f ≡ t = here refl in jump_nothing (omega (arith, ea, ek, s)) (omega (arith, eb))
   jump_says true false f t a b k ea ek la lt here near eb h =
-      jump_long (omega (arith, eb)) (subst (λ (z : ℕ). SaysFrom base p.code a (long_jump z)) (sym ek)
+      jump_long (omega (arith, eb)) (rw ek
       (says_words base p.code (long_jump (base + 4 * t)) f a ea (long_jump_decodes (base + 4 * t) (omega (arith, lt)))
       h))
   jump_says false false f t a b k ea ek la lt here near eb h =
-      jump_short (between f t) (omega (arith, eb))
-      (subst (λ (z : ℕ). Reaches a z (between f t)) (sym ek)
-      (subst (λ (z : ℕ). Reaches z (base + 4 * t) (between f t)) (sym ea) (reaches base f t la lt)))
+      jump_short (between f t) (omega (arith, eb)) (rw ek (rw ea (reaches base f t la lt)))
       (says_words base p.code (i.Branch 8 true (between f t) ∷ []) f a ea
       (branch_decodes 8 true (between f t) refl (fits f t (near refl)), tt) h)
 
@@ -233,20 +226,15 @@ module _ (base : ℕ) (p : Placement) where
       → Has p.code f (words_of (branch_code long base c f t)) → BranchStands base p.code c k a b
   branch_says true c f t a b k range ea ek la lt near eb h =
       let first = i.Branch (opposite c) false (pos 6) ∷ nop ∷ [] in
-      branch_long (omega (arith, eb))
-      (says_words base p.code first f a ea (
+      branch_long (omega (arith, eb)) (says_words base p.code first f a ea (
         branch_decodes (opposite c) false (pos 6) (opposite_low c range) refl,
         (decodes nop refl refl, tt),
-      )
-      (has_first p.code (words_of first) (words_of (long_jump (base + 4 * t))) f h))
-      (subst (λ (z : ℕ). SaysFrom base p.code (a + 8) (long_jump z)) (sym ek)
+      ) (has_first p.code (words_of first) (words_of (long_jump (base + 4 * t))) f h)) (rw ek
       (says_words base p.code (long_jump (base + 4 * t)) (f + 2) (a + 8) (omega (arith, ea))
       (long_jump_decodes (base + 4 * t) (omega (arith, lt)))
       (has_rest p.code (words_of first) (words_of (long_jump (base + 4 * t))) f (f + 2) refl h)))
   branch_says false c f t a b k range ea ek la lt near eb h =
-      branch_short (between f t) (omega (arith, eb))
-      (subst (λ (z : ℕ). Reaches a z (between f t)) (sym ek)
-      (subst (λ (z : ℕ). Reaches z (base + 4 * t) (between f t)) (sym ea) (reaches base f t la lt)))
+      branch_short (between f t) (omega (arith, eb)) (rw ek (rw ea (reaches base f t la lt)))
       (says_words base p.code (i.Branch c true (between f t) ∷ nop ∷ []) f a ea
       (branch_decodes c true (between f t) range (fits f t (near refl)), (decodes nop refl refl, tt)) h)
 
@@ -271,7 +259,7 @@ module _ (base : ℕ) (p : Placement) where
       → Has p.code f (entry_code base long f t (Some (en.Item x)) next) → Stands base p x a b
   item_stands (it.Word word) next long f t a b ea eb la lt c goes here near h = (
     omega (arith, eb),
-    (f, ea, ap (slice_get p.code) (let g : f ≡ f + 0 = omega arith in g) ∙ h 0 word refl),
+    (f, ea, cc ((let g : f ≡ f + 0 = omega arith in g), h 0 word refl)),
   )
   item_stands (it.Jump k) next long f t a b ea eb la lt c goes here near h =
       jump_says long (leads_next k next) f t a b (slice_index p.at k.0) ea goes la lt here near eb h

@@ -13,8 +13,7 @@ use Rattle.layout.proofs.Standing.{code_length}
 use Rattle.layout.proofs.Assembled.{lays}
 
 put_size : (base : ℕ) (entries : List Entry) (starts : List ℕ) (long : Forms) (p : Placed)
-    → IsPut base entries starts long p
-    → length p.code.items ≡ offset entries long (length entries)
+    → IsPut base entries starts long p → length p.code.items ≡ offset entries long (length entries)
 put_size base entries starts long p h = ap length h.emitted.is ∙ code_length base entries long (length entries)
 
 module _ (pieces : List (List Item)) (base room : ℕ) (entries : List Entry) (starts : List ℕ) (forms : List Bool)
@@ -23,7 +22,7 @@ module _ (pieces : List (List Item)) (base room : ℕ) (entries : List Entry) (s
   bytes = 4 * offset entries (forms_in forms) (length entries)
 
   widened : IsWidened (entries_of pieces) (forms_in forms)
-  widened = subst (λ (es : List Entry). IsWidened es (forms_in forms)) f.entries_are f.widened
+  widened = rw f.entries_are at f.widened
 
   made : (p : Placed) → IsPut base entries starts (forms_in forms) p → IsMade pieces base (forms_in forms) starts p
   made p h =
@@ -42,13 +41,12 @@ module _ (pieces : List (List Item)) (base room : ℕ) (entries : List Entry) (s
   needed n e = record {
     long = forms_in forms;
     widened = widened;
-    value = e ∙ ap (λ (es : List Entry). 4 * offset es (forms_in forms) (length es)) f.entries_are;
+    value = cc (e, f.entries_are);
   }
 
   pub all_laid : ArePieces pieces → base % 4 ≡ 0 → base + room ≤ 2 ^ 31 → (r : Result Placed LayoutFault)
       → IfOk r (IsPut base entries starts (forms_in forms)) → FitsIn r (4 * offset entries (forms_in forms) (length
-      entries)) room
-      → IfOk r (λ p. Lays IsCompact pieces base (placement_of p.code.items p.at.items p.ranges.items))
+      entries)) room → IfOk r (λ p. Lays IsCompact pieces base (placement_of p.code.items p.at.items p.ranges.items))
   all_laid are aligned low (Ok p) h fits =
       let e = ap (λ (es : List Entry). 4 * offset es (forms_in forms) (length es)) f.entries_are in
       lays pieces are.leads are.marked base aligned (forms_in forms) starts p (made p h) (omega (arith, low, fits, e))

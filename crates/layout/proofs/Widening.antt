@@ -1,5 +1,5 @@
 -- Widening only grows, so that every way of widening ends at the same forms.
-use Rattle.std.proofs.Common.{◌≡◌, ℕ, zero, suc, ◌+◌, ◌-◌, ◌^◌, ◌<◌, ◌≤◌, ◌⊎◌, inl, inr, Bool, true, false, cond, ◌||◌, leb, ltb, List, slice_get, Option, Some, None, refl, ap, sym, ◌∙◌, subst, arith}
+use Rattle.std.proofs.Common.{◌≡◌, ℕ, zero, suc, ◌+◌, ◌-◌, ◌^◌, ◌<◌, ◌≤◌, ◌⊎◌, inl, inr, Bool, true, false, cond, ◌||◌, leb, ltb, List, slice_get, Option, Some, None, refl, ap, sym, ◌∙◌, arith}
 use Rattle.std.proofs.lemmas.Bool.{cases_lt, cases_Bool, ltb-true, leb-true, lt-ltb, le-leb, false≢true, or_cases, or_right}
 use Rattle.layout.specs.declared.items.Item.TheVariants as i
 use Rattle.layout.specs.declared.entries.Entry.{Entry}
@@ -43,31 +43,32 @@ pub grows : (entries : List Entry) (long other : Forms) → IsWithin long other 
     → offset entries long (a + n) + offset entries other a ≤ offset entries other (a + n) + offset entries long a
 grows entries long other h a zero = let e : a + 0 ≡ a = omega arith in rw e (omega arith)
 grows entries long other h a (suc n) =
-    let more = grows entries long other h a n in
     let w = wider (slice_get entries (a + n)) (slice_get entries (suc (a + n))) (long (a + n)) (other (a + n)) (h (a +
     n)) in
-    let x = offset_more entries long (a + n) in
-    let y = offset_more entries other (a + n) in
-    rw (add_more a n) (omega (arith, more, w, x, y))
+    rw (add_more a n) (omega (
+      arith,
+      grows entries long other h a n,
+      w,
+      offset_more entries long
+          (a + n),
+      offset_more entries other (a + n),
+    ))
 
 pub grows_to : (entries : List Entry) (long other : Forms) → IsWithin long other → (a b : ℕ) → a ≤ b
     → offset entries long b + offset entries other a ≤ offset entries other b + offset entries long a
 grows_to entries long other h a b l =
     let e : a + (b - a) ≡ b = omega arith in
-    subst (λ (b : ℕ). offset entries long b + offset entries other a ≤ offset entries other b + offset entries long a)
-    e (grows entries long other h a (b - a))
+    rw e at (grows entries long other h a (b - a))
 
 rises_by : (entries : List Entry) (long : Forms) (a n : ℕ) → offset entries long a ≤ offset entries long (a + n)
 rises_by entries long a zero = let e : a + 0 ≡ a = omega arith in rw e (omega arith)
 rises_by entries long a (suc n) =
-    let more = rises_by entries long a n in
-    let x = offset_more entries long (a + n) in
-    rw (add_more a n) (omega (arith, more, x))
+    rw (add_more a n) (omega (arith, rises_by entries long a n, offset_more entries long (a + n)))
 
 pub rises : (entries : List Entry) (long : Forms) (a b : ℕ) → a ≤ b → offset entries long a ≤ offset entries long b
 rises entries long a b l =
     let e : a + (b - a) ≡ b = omega arith in
-    subst (λ (b : ℕ). offset entries long a ≤ offset entries long b) e (rises_by entries long a (b - a))
+    rw e at (rises_by entries long a (b - a))
 
 pub far_means : (a b : ℕ) → far a b ≡ true → (a + 2 ^ 21 ≤ b) ⊎ (b + 2 ^ 21 < a)
 far_means a b h = go (cases_Bool (leb (a + 2 ^ 21) b)) h
@@ -144,8 +145,7 @@ widening_more entries long more h grown new = record {
 pub widening_all : (entries : List Entry) (long more : Forms) → IsWidening entries long
     → ((n : ℕ) → more n ≡ (long n || is_far entries long n)) → IsWidening entries more
 widening_all entries long more h all =
-    widening_more entries long more h
-    (λ n e. all n ∙ ap (λ (x : Bool). x || is_far entries long n) e)
+    widening_more entries long more h (λ n e. all n ∙ ap (λ (x : Bool). x || is_far entries long n) e)
     (λ n e. or_cases (long n) (is_far entries long n) (sym (all n) ∙ e))
 
 -- Where that changes nothing, the forms are the least.

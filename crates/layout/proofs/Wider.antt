@@ -23,8 +23,7 @@ wider_more entries forms wide n x h e = record {
     each k l (inr u) =
         let s : k ≡ n = omega arith in
         let t : length wide ≡ k = h.len ∙ sym s in
-        get_or_push wide x false k t ∙ e ∙ ap (λ (k : ℕ). get_or forms k false || is_far entries (forms_in forms) k)
-        (sym s)
+        cc (get_or_push wide x false k t, e, s)
 
 -- past the entries none is out of reach
 not_far : (entries : List Entry) (long : Forms) (n : ℕ) → length entries ≤ n → is_far entries long n ≡ false
@@ -41,18 +40,19 @@ wider_all entries forms wide e h n = go (cases_lt n (length forms))
         forms) n)
     go (inl l) = h.each n l
     go (inr l) =
-        let a : get_or wide n false ≡ false = get_or_past wide n false (omega (arith, h.len)) in
-        let b : get_or forms n false ≡ false = get_or_past forms n false l in
-        let c : is_far entries (forms_in forms) n ≡ false = not_far entries (forms_in forms) n (omega arith) in
-        rw (a, b, c) refl
+        rw (
+          (get_or_past wide n false (omega (arith, h.len))),
+          get_or_past forms n false l,
+          not_far entries
+              (forms_in forms) n (omega arith),
+        ) refl
 
 counted : (x : Bool) (xs : List Bool) → count_by (λ b. b) (x ∷ xs) ≡ cond x 1 0 + count_by (λ b. b) xs
 counted x xs = sum_by-cons (λ (b : Bool). cond b 1 0) x xs
 
 -- marks that only get more are the same, or more
 pub same_or_more : (xs ys : List Bool) → length xs ≡ length ys → ((k : ℕ) → get_or xs k false ≡ true
-    → get_or ys k false ≡ true)
-    → (xs ≡ ys) ⊎ (count_by (λ b. b) xs < count_by (λ b. b) ys)
+    → get_or ys k false ≡ true) → (xs ≡ ys) ⊎ (count_by (λ b. b) xs < count_by (λ b. b) ys)
 same_or_more [] [] e h = inl refl
 same_or_more [] (y ∷ ys) e h = absurd (omega arith)
 same_or_more (x ∷ xs) [] e h = absurd (omega arith)
@@ -99,8 +99,7 @@ pub widening_last : (entries : List Entry) (forms wide : List Bool) → length f
 widening_last entries forms wide e h w c = go (pass_counts entries forms wide e h)
   where
     go : (forms ≡ wide) ⊎ (count_by (λ b. b) forms < count_by (λ b. b) wide) → IsWidened entries (forms_in forms)
-    go (inl s) = widening_ends entries (forms_in forms) w (λ n. ap (λ (xs : List Bool). get_or xs n false) s
-        ∙ wider_all entries forms wide e h n)
+    go (inl s) = widening_ends entries (forms_in forms) w (λ n. cc (s, wider_all entries forms wide e h n))
     go (inr l) = absurd (omega arith)
 
 -- a pass that changes the count has fewer left to widen

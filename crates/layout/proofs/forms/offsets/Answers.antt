@@ -12,10 +12,9 @@ loop-n-init c = record {
 
 pub overflow_add-here : goal.overflow_add-here
 overflow_add-here c =
-    let few = offset_small c.args.entries.now (forms_in c.args.forms.now) c.loop-n.n in
     omega (
       arith,
-      few,
+      (offset_small c.args.entries.now (forms_in c.args.forms.now) c.loop-n.n),
       c.loop-n.invariant.here,
       c.width_at-here.ensures.small,
       c.loop-n-test.true,

@@ -6,10 +6,9 @@ use Rattle.layout.proofs.forms.widen.Goals as goal
 
 pub overflow_add-here : goal.overflow_add-here
 overflow_add-here c =
-    let few = c.requires.at.small c.loop-n.n in
     omega (
       arith,
-      few,
+      (c.requires.at.small c.loop-n.n),
       c.loop-n.invariant.here,
       c.width_at-here.ensures.small,
       c.loop-n-test.true,

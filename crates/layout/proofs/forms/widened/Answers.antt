@@ -5,22 +5,19 @@ use Rattle.layout.proofs.forms.widened.Goals as goal
 
 pub returns-then-count-long-clause-widened : goal.returns-then-count-long-clause-widened
 returns-then-count-long-clause-widened c =
-    let d : c.deref.result.now ≡ c.loop-forms.forms.items = c.deref.ensures.value in
     let f : c.deref-in-loop-forms.result.now ≡ c.in_ok-wide.wide.items = c.deref-in-loop-forms.ensures.value in
     let w : AreWider c.args.entries.now c.loop-forms.forms.items c.in_ok-wide.wide.items (length
-    c.loop-forms.forms.items) = rw d at c.in_ok-wide.ensures in
+    c.loop-forms.forms.items) = rw c.deref.ensures.value at c.in_ok-wide.ensures in
     let n : c.count_long-count.result ≡ count_by (λ b. b) c.in_ok-wide.wide.items = rw f at
     c.count_long-count.ensures.count in
     widening_last c.args.entries.now c.loop-forms.forms.items c.in_ok-wide.wide.items c.loop-forms.invariant.len w
-    c.loop-forms.invariant.widening
-    (sym n ∙ c.if-count-long.true ∙ c.loop-forms.invariant.count)
+    c.loop-forms.invariant.widening (sym n ∙ c.if-count-long.true ∙ c.loop-forms.invariant.count)
 
 pub loop-forms-smaller : goal.loop-forms-smaller
 loop-forms-smaller c =
-    let d : c.deref.result.now ≡ c.loop-forms.forms.items = c.deref.ensures.value in
     let f : c.deref-in-loop-forms.result.now ≡ c.in_ok-wide.wide.items = c.deref-in-loop-forms.ensures.value in
     let w : AreWider c.args.entries.now c.loop-forms.forms.items c.in_ok-wide.wide.items (length
-    c.loop-forms.forms.items) = rw d at c.in_ok-wide.ensures in
+    c.loop-forms.forms.items) = rw c.deref.ensures.value at c.in_ok-wide.ensures in
     let n : c.count_long-count.result ≡ count_by (λ b. b) c.in_ok-wide.wide.items = rw f at
     c.count_long-count.ensures.count in
     let m : c.count_long-count.result ≤ length c.in_ok-wide.wide.items = rw f at c.count_long-count.ensures.at_most in
@@ -30,10 +27,9 @@ loop-forms-smaller c =
 
 pub loop-forms-preserved : goal.loop-forms-preserved
 loop-forms-preserved c =
-    let d : c.deref.result.now ≡ c.loop-forms.forms.items = c.deref.ensures.value in
     let f : c.deref-in-loop-forms.result.now ≡ c.in_ok-wide.wide.items = c.deref-in-loop-forms.ensures.value in
     let w : AreWider c.args.entries.now c.loop-forms.forms.items c.in_ok-wide.wide.items (length
-    c.loop-forms.forms.items) = rw d at c.in_ok-wide.ensures in
+    c.loop-forms.forms.items) = rw c.deref.ensures.value at c.in_ok-wide.ensures in
     let n : c.count_long-count.result ≡ count_by (λ b. b) c.in_ok-wide.wide.items = rw f at
     c.count_long-count.ensures.count in
     record {

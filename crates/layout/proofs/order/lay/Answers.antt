@@ -1,14 +1,12 @@
-use Rattle.std.proofs.Common.{◌≡◌, ◌∷◌, [], ◌++◌, ◌<◌, length}
+use Rattle.std.proofs.Common.{◌≡◌, ◌∷◌, [], ◌++◌}
 use Rattle.layout.specs.Order.{next_piece}
 use Rattle.layout.proofs.Laying.{marking_more}
 use Rattle.layout.proofs.order.lay.Goals as goal
 
 pub returns-clause-marking : goal.returns-clause-marking
 returns-clause-marking c =
-    let d : c.deref.result.now ≡ c.args.laid.now.items = c.deref.ensures.value in
-    let is : c.next-next.result ≡ next_piece c.args.pieces.now c.args.laid.now.items = rw d at
+    let is : c.next-next.result ≡ next_piece c.args.pieces.now c.args.laid.now.items = rw c.deref.ensures.value at
     c.next-next.ensures.value in
-    let inside : c.next-next.result < length c.args.pieces.now = c.next-next.ensures.inside in
     let e : c.push.new.self.items ≡ c.args.laid.now.items ++ c.next-next.result ∷ [] = c.in_ok-push.ensures.items in
     rw e (marking_more c.args.pieces.now c.args.laid.now.items c.args.marks.now.items c.args.lowest c.next-next.result
-    c.requires.marking is inside)
+    c.requires.marking is c.next-next.ensures.inside)

@@ -7,8 +7,7 @@ use Rattle.layout.proofs.order.next.Goals as goal
 pub behind-requires-clause-last : goal.behind-requires-clause-last
 behind-requires-clause-last c =
     last_inside c.args.pieces.now c.args.laid.now c.in-Some.last.now c.requires.leads c.requires.marking.order
-    c.requires.more
-    (sym c.last.ensures.value ∙ ap option_copied c.in-Some.is)
+    c.requires.more (sym c.last.ensures.value ∙ ap option_copied c.in-Some.is)
 
 pub returns-in-Some-clause-inside : goal.returns-in-Some-clause-inside
 returns-in-Some-clause-inside c =

@@ -1,16 +1,14 @@
-use Rattle.std.proofs.Common.{ap, sym, subst, ◌∙◌, ◌≡◌, [], length, replicate, false, arith}
+use Rattle.std.proofs.Common.{ap, ◌∙◌, ◌≡◌, [], length, arith}
 use Rattle.layout.specs.Order.{first_laid, compact_order}
-use Rattle.layout.specs.Laying.{IsWhole}
 use Rattle.layout.proofs.Laying.{marking_none, whole_is}
 use Rattle.layout.proofs.order.order_of.Goals as goal
 
 pub loop-init : goal.loop-init
 loop-init c =
     let e : c.new-laid.result.items ≡ [] = c.new-laid.ensures.items in
-    let m : c.in_ok-marks.marks.items ≡ replicate (length c.args.pieces.now) false = c.in_ok-marks.ensures in
     record {
       count = ap length e;
-      marking = rw (e, m) (marking_none c.args.pieces.now);
+      marking = rw (e, c.in_ok-marks.ensures) (marking_none c.args.pieces.now);
     }
 
 pub returns-clause-order : goal.returns-clause-order
@@ -21,6 +19,5 @@ returns-clause-order c =
 pub returns-clause-whole : goal.returns-clause-whole
 returns-clause-whole c =
     let n : length c.loop.laid.items ≡ length c.args.pieces.now = omega (arith, c.loop.invariant.count) in
-    let e : c.loop.laid.items ≡ compact_order c.args.pieces.now = c.loop.invariant.marking.order
-    ∙ ap (first_laid c.args.pieces.now) n in
-    subst (IsWhole c.args.pieces.now) (sym e) (whole_is c.args.pieces.now c.requires.leads)
+    let e : c.loop.laid.items ≡ compact_order c.args.pieces.now = cc (c.loop.invariant.marking.order, n) in
+    rw e (whole_is c.args.pieces.now c.requires.leads)

@@ -7,11 +7,10 @@ use Rattle.layout.proofs.placing.place.Goals as goal
 pub returns-clause-laid : goal.returns-clause-laid
 returns-clause-laid c =
     let e : c.deref.result.now ≡ c.in-Ok.formed.listing.entries.items = c.deref.ensures.value in
-    let s : c.deref-2.result.now ≡ c.in-Ok.formed.listing.starts.items = c.deref-2.ensures.value in
     let f : c.deref-3.result.now ≡ c.in-Ok.formed.forms.items = c.deref-3.ensures.value in
     let put : IfOk c.put_within.result (IsPut c.args.base.0 c.in-Ok.formed.listing.entries.items
     c.in-Ok.formed.listing.starts.items
-    (forms_in c.in-Ok.formed.forms.items)) = rw (e, s, f) at c.put_within.ensures.put in
+    (forms_in c.in-Ok.formed.forms.items)) = rw (e, c.deref-2.ensures.value, f) at c.put_within.ensures.put in
     let fits : FitsIn c.put_within.result (4 * offset c.in-Ok.formed.listing.entries.items (forms_in
     c.in-Ok.formed.forms.items)
     (length c.in-Ok.formed.listing.entries.items)) c.args.room = rw (e, f) at c.put_within.ensures.room in
@@ -23,11 +22,10 @@ returns-clause-laid c =
 pub returns-clause-room : goal.returns-clause-room
 returns-clause-room c =
     let e : c.deref.result.now ≡ c.in-Ok.formed.listing.entries.items = c.deref.ensures.value in
-    let s : c.deref-2.result.now ≡ c.in-Ok.formed.listing.starts.items = c.deref-2.ensures.value in
     let f : c.deref-3.result.now ≡ c.in-Ok.formed.forms.items = c.deref-3.ensures.value in
     let put : IfOk c.put_within.result (IsPut c.args.base.0 c.in-Ok.formed.listing.entries.items
     c.in-Ok.formed.listing.starts.items
-    (forms_in c.in-Ok.formed.forms.items)) = rw (e, s, f) at c.put_within.ensures.put in
+    (forms_in c.in-Ok.formed.forms.items)) = rw (e, c.deref-2.ensures.value, f) at c.put_within.ensures.put in
     let fits : FitsIn c.put_within.result (4 * offset c.in-Ok.formed.listing.entries.items (forms_in
     c.in-Ok.formed.forms.items)
     (length c.in-Ok.formed.listing.entries.items)) c.args.room = rw (e, f) at c.put_within.ensures.room in

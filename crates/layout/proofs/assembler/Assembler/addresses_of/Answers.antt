@@ -7,10 +7,7 @@ use Rattle.layout.proofs.assembler.Assembler.addresses_of.Goals as goal
 pub address-requires : goal.address-requires
 address-requires c =
     let layout = c.args.self.now in
-    let long = forms_in layout.forms.now in
     let k = c.loop-words.words-index in
-    let e = layout.offsets.each k (omega (arith, c.loop-words-test.true)) in
-    let i = layout.offsets.inside k (omega (arith, c.loop-words-test.true)) in
-    let r = rises layout.entries.now long (start_of layout.entries.now k)
-    (length layout.entries.now) (omega (arith, i)) in
-    record { low = omega (arith, r, e, layout.low) }
+    let r = rises layout.entries.now (forms_in layout.forms.now) (start_of layout.entries.now k)
+    (length layout.entries.now) (omega (arith, layout.offsets.inside k (omega (arith, c.loop-words-test.true)))) in
+    record { low = omega (arith, r, layout.offsets.each k (omega (arith, c.loop-words-test.true)), layout.low) }

@@ -1,4 +1,4 @@
-use Rattle.std.proofs.Common.{◌≡◌, [], sym, arith}
+use Rattle.std.proofs.Common.{sym, arith}
 use Rattle.layout.specs.Emitting.{forms_in}
 use Rattle.layout.proofs.Emitted.{emitted_none, emitted_more}
 use Rattle.layout.proofs.Offsets.{offset_next, offset_none}
@@ -8,18 +8,16 @@ pub loop-n-init : goal.loop-n-init
 loop-n-init c =
     let layout = c.args.self.now in
     let long = forms_in layout.forms.now in
-    let e : c.new-code.result.items ≡ [] = c.new-code.ensures.items in
     record {
-      emitted = rw e (emitted_none layout.base.0 layout.entries.now long);
+      emitted = rw c.new-code.ensures.items (emitted_none layout.base.0 layout.entries.now long);
       here = sym (offset_none layout.entries.now long);
     }
 
 pub overflow_add-here : goal.overflow_add-here
 overflow_add-here c =
-    let few = c.args.self.now.offsets.small c.loop-n.n in
     omega (
       arith,
-      few,
+      (c.args.self.now.offsets.small c.loop-n.n),
       c.loop-n.invariant.here,
       c.width_at-here.ensures.small,
       c.loop-n-test.true,

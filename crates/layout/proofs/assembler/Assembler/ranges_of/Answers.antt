@@ -1,4 +1,4 @@
-use Rattle.std.proofs.Common.{◌≤◌, ◌*◌, ◌+◌, ◌∙◌, ap, sym, length, arith, rules}
+use Rattle.std.proofs.Common.{sym, length, arith, rules}
 use Rattle.layout.specs.Emitting.{address_of, forms_in}
 use Rattle.layout.proofs.Offsets.{offset_next, offset_none, offset_small, ranges_more}
 use Rattle.layout.proofs.Widening.{rises}
@@ -13,16 +13,14 @@ loop-n-init c = record {
 pub address-requires : goal.address-requires
 address-requires c =
     let layout = c.args.self.now in
-    let long = forms_in layout.forms.now in
-    let l : c.loop-n.n ≤ length layout.entries.now = omega arith in
-    let r = rises layout.entries.now long c.loop-n.n (length layout.entries.now) l in
+    let r = rises layout.entries.now (forms_in layout.forms.now) c.loop-n.n (length layout.entries.now)
+    (omega arith) in
     record { low = omega (arith, r, c.loop-n.invariant.here, layout.low) }
 
 pub overflow_add-here : goal.overflow_add-here
 overflow_add-here c =
     let layout = c.args.self.now in
-    let long = forms_in layout.forms.now in
-    let few = offset_small layout.entries.now long c.loop-n.n in
+    let few = offset_small layout.entries.now (forms_in layout.forms.now) c.loop-n.n in
     omega (
       arith,
       few,
@@ -40,7 +38,7 @@ loop-n-preserved c =
       ranges = ranges_more (address_of layout.base.0 layout.entries.now long) layout.entries.now
           c.loop-n.n c.address.result.0 c.loop-n.open_mark c.in_ok-open_mark.open_mark c.entry-item.result
           c.loop-n.ranges.items c.put_entry.new.ranges.items _ (omega (arith, c.loop-n-test.true)) c.entry-item.is
-          (c.address.ensures ∙ ap (λ n. layout.base.0 + 4 * n) c.loop-n.invariant.here)
+          (cc (c.address.ensures, c.loop-n.invariant.here))
           c.loop-n.invariant.ranges c.in_ok-open_mark.ensures.ranges c.in_ok-open_mark.ensures.mark;
       here = offset_next layout.entries.now long c.loop-n.n c.loop-n.here c.width_at-here.result
           c.loop-n.invariant.here c.width_at-here.ensures.value;

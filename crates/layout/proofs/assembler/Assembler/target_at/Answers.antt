@@ -1,4 +1,4 @@
-use Rattle.std.proofs.Common.{◌≡◌, ◌<◌, ◌∙◌, ℕ, List, length, get_or, ap, sym, Some, Option, slice_get, slice_index}
+use Rattle.std.proofs.Common.{◌≡◌, ◌<◌, ◌∙◌, ℕ, List, length, get_or, ap, sym, Some, slice_get, slice_index}
 use Rattle.std.proofs.lemmas.Option.{slice_get-get_or}
 use Rattle.layout.specs.declared.entries.Entry.{Entry}
 use Rattle.layout.specs.Forms.{Forms, target}
@@ -7,7 +7,7 @@ use Rattle.layout.proofs.assembler.Assembler.target_at.Goals as goal
 
 leads : (entries : List Entry) (n : ℕ) (x : Entry) (k : ℕ) → n < length entries
     → target (Some (get_or entries n x)) ≡ Some k → target (slice_get entries n) ≡ Some k
-leads entries n x k l e = ap (λ (o : Option Entry). target o) (slice_get-get_or entries n x l) ∙ e
+leads entries n x k l e = cc (slice_get-get_or entries n x l, e)
 
 module _ (entries : List Entry) (long : Forms) (at : List ℕ) (offsets : IsOffsets entries long at) where
   inside : (n k : ℕ) → target (slice_get entries n) ≡ Some k → k < length at
@@ -19,15 +19,13 @@ module _ (entries : List Entry) (long : Forms) (at : List ℕ) (offsets : IsOffs
 pub bounds-self-k : goal.bounds-self-k
 bounds-self-k c =
     let layout = c.args.self.now in
-    let long = forms_in layout.forms.now in
-    inside layout.entries.now long layout.at.now layout.offsets c.args.n c.in-Some.k
+    inside layout.entries.now (forms_in layout.forms.now) layout.at.now layout.offsets c.args.n c.in-Some.k
     (leads layout.entries.now c.args.n c.index-self-n.result c.in-Some.k c.requires.inside
     (sym c.target.ensures ∙ c.in-Some.is))
 
 pub returns-in-Some : goal.returns-in-Some
 returns-in-Some c =
     let layout = c.args.self.now in
-    let long = forms_in layout.forms.now in
-    offset_is layout.entries.now long layout.at.now layout.offsets c.args.n c.in-Some.k
+    offset_is layout.entries.now (forms_in layout.forms.now) layout.at.now layout.offsets c.args.n c.in-Some.k
     (leads layout.entries.now c.args.n c.index-self-n.result c.in-Some.k c.requires.inside
     (sym c.target.ensures ∙ c.in-Some.is))
