@@ -131,15 +131,8 @@ module _ (pieces : List (List Item)) (leads : AllLead pieces) where
       let s = piece_is_at k l in
       let b = length-append (entries_from pieces s.before) (en.Start (record { 0 = k }) ∷ (map en.Item (items_at
       pieces k) ++ entries_from pieces s.after)) in
-      omega (
-        arith,
-        ap length s.entries,
-        b,
-        length-append (map en.Item (items_at pieces k))
-            (entries_from pieces s.after),
-        length-map (items_at pieces k) en.Item,
-        s.start,
-      )
+      let both = length-append (map en.Item (items_at pieces k)) (entries_from pieces s.after) in
+      omega (arith, ap length s.entries, b, both, length-map (items_at pieces k) en.Item, s.start)
 
   -- the piece behind another starts right behind its items
   next_start : (k j : ℕ) (s : IsAt k) (js : List ℕ) → s.after ≡ j ∷ js
@@ -147,18 +140,11 @@ module _ (pieces : List (List Item)) (leads : AllLead pieces) where
   next_start k j s js e =
       let o : compact_order pieces ≡ (s.before ++ k ∷ []) ++ j ∷ js
       = cc (s.order, e, append_assoc s.before (k ∷ []) (j ∷ js)) in
-      omega (
-        arith,
-        start_is j (s.before ++ k ∷ []) js o,
-        ap length
-            (from_append pieces s.before (k ∷ [])),
-        length-append (entries_from pieces s.before)
-            (entries_from pieces (k ∷ [])),
-        length-append (entries_in k (items_at pieces k)) [],
-        length-map
-            (items_at pieces k) en.Item,
-        s.start,
-      )
+      let same = ap length (from_append pieces s.before (k ∷ [])) in
+      let both = length-append (entries_from pieces s.before) (entries_from pieces (k ∷ [])) in
+      let joined = length-append (entries_in k (items_at pieces k)) [] in
+      let mapped = length-map (items_at pieces k) en.Item in
+      omega (arith, start_is j (s.before ++ k ∷ []) js o, same, both, joined, mapped, s.start)
 
   -- a Jump before the start of its piece
   jump_next : (k n : ℕ) (x : Item) (to : PieceNo) → item_at pieces k n ≡ Some x
@@ -344,31 +330,19 @@ module _ (pieces : List (List Item)) (leads : AllLead pieces) (marked : AllMarke
   goes k n (it.Jump to) e =
       omega (arith, goal_is k n (it.Jump to) (Some to.0) e refl, start_value to.0 (leads_to k n (it.Jump to) e))
   goes k n (it.Branch c to) e =
-      omega (
-        arith,
-        goal_is k n (it.Branch c to) (Some to.0) e refl,
-        start_value to.0
-            (leads_to k n (it.Branch c to) e),
-      )
+      let there = start_value to.0 (leads_to k n (it.Branch c to) e) in
+      omega (arith, goal_is k n (it.Branch c to) (Some to.0) e refl, there)
   goes k n _ e = tt
 
   goal_low : (k n : ℕ) (x : Item) → item_at pieces k n ≡ Some x → base + 4 * goal_words k n ≤ 2 ^ 31
   goal_low k n (it.Jump to) e =
       let i = piece_inside pieces leads to.0 (leads_to k n (it.Jump to) e) in
-      omega (
-        arith,
-        goal_is k n (it.Jump to) (Some to.0) e refl,
-        offset_low (start_of entries to.0)
-            (omega (arith, i)),
-      )
+      let below = offset_low (start_of entries to.0) (omega (arith, i)) in
+      omega (arith, goal_is k n (it.Jump to) (Some to.0) e refl, below)
   goal_low k n (it.Branch c to) e =
       let i = piece_inside pieces leads to.0 (leads_to k n (it.Branch c to) e) in
-      omega (
-        arith,
-        goal_is k n (it.Branch c to) (Some to.0) e refl,
-        offset_low (start_of entries to.0)
-            (omega (arith, i)),
-      )
+      let below = offset_low (start_of entries to.0) (omega (arith, i)) in
+      omega (arith, goal_is k n (it.Branch c to) (Some to.0) e refl, below)
   goal_low k n x e = let g = goal_is k n x None e refl in omega (arith, g, low)
 
   step : (k n : ℕ) (x : Item) → item_at pieces k n ≡ Some x
@@ -389,16 +363,8 @@ module _ (pieces : List (List Item)) (leads : AllLead pieces) (marked : AllMarke
       (entry_is pieces leads k n (it.Jump to) e) in
       let w : width (long (entry_no k n)) (Some (en.Item (it.Jump to))) (slice_get entries (suc (entry_no k n))) ≡ 0
       = ap (λ (z : Bool). if z then 0 else (if long (entry_no k n) then 4 else 1)) b in
-      omega (
-        arith,
-        ap (offset entries long)
-            (jump_next pieces leads k n (it.Jump to) to e b),
-        offset_more entries long (entry_no k n),
-        c,
-        w,
-        goal_is k n
-            (it.Jump to) (Some to.0) e refl,
-      )
+      let same = ap (offset entries long) (jump_next pieces leads k n (it.Jump to) to e b) in
+      omega (arith, same, offset_more entries long (entry_no k n), c, w, goal_is k n (it.Jump to) (Some to.0) e refl)
 
   nexts : (k n : ℕ) (x : Item) → item_at pieces k n ≡ Some x
       → IsNextAt base placed x (slice_get (entries_of pieces) (suc (entry_no k n))) (offset (entries_of pieces) long
@@ -444,13 +410,8 @@ module _ (pieces : List (List Item)) (leads : AllLead pieces) (marked : AllMarke
       let none : exit_at pieces k ≡ None
       = ap jump_to (cc (item_is pieces k (length (items_at pieces k) - 1), z))
       ∙ no_jump (item_at pieces k (size_of pieces k - 1)) j in
-      omega (
-        arith,
-        ap (offset entries long) (fall_start pieces leads k l none),
-        start_still (suc k) l,
-        ap
-            (λ (m : ℕ). offset entries long (start_of entries k + 1 + m)) z,
-      )
+      let same = ap (λ (m : ℕ). offset entries long (start_of entries k + 1 + m)) z in
+      omega (arith, ap (offset entries long) (fall_start pieces leads k l none), start_still (suc k) l, same)
 
   -- Marks take no room
   mark_still : (k n : ℕ) (x : Item) → item_at pieces k n ≡ Some x

@@ -83,16 +83,10 @@ start_at pieces [] rs k e = start_self k _
 start_at pieces (j ∷ fs) rs k e =
     let d : eqb k j ≡ false = or_left (eqb k j) (is_laid fs k) e in
     let a = start_past k j (map en.Item (items_at pieces j) ++ entries_from pieces (fs ++ k ∷ rs)) d in
-    omega (
-      arith,
-      a,
-      start_items k (items_at pieces j) (entries_from pieces (fs ++ k ∷ rs)),
-      start_at pieces fs rs k
-          (or_right (eqb k j) (is_laid fs k) e),
-      length-append (entries_in j (items_at pieces j))
-          (entries_from pieces fs),
-      length-map (items_at pieces j) en.Item,
-    )
+    let ahead = start_items k (items_at pieces j) (entries_from pieces (fs ++ k ∷ rs)) in
+    let there = start_at pieces fs rs k (or_right (eqb k j) (is_laid fs k) e) in
+    let both = length-append (entries_in j (items_at pieces j)) (entries_from pieces fs) in
+    omega (arith, a, ahead, there, both, length-map (items_at pieces j) en.Item)
 
 -- ---- a sum over pieces in an order is no more than that over all
 
@@ -171,13 +165,8 @@ entry_count : (pieces : List (List Item)) (order : List ℕ) → length (entries
     order
 entry_count pieces [] = refl
 entry_count pieces (k ∷ ks) =
-    omega (
-      arith,
-      entry_count pieces ks,
-      length-append (entries_in k (items_at pieces k))
-          (entries_from pieces ks),
-      length-map (items_at pieces k) en.Item,
-    )
+    let both = length-append (entries_in k (items_at pieces k)) (entries_from pieces ks) in
+    omega (arith, entry_count pieces ks, both, length-map (items_at pieces k) en.Item)
 
 all_counted : (pieces : List (List Item)) → sum_by counted pieces ≡ length pieces + sum_by length pieces
 all_counted [] = refl
@@ -311,14 +300,8 @@ start_inside pieces order k whole l =
     let f : length (entries_from pieces order) ≡ length (entries_from pieces s.before ++ entries_from pieces (k ∷
     s.after))
     = ap length (cc (s.is, from_append pieces s.before (k ∷ s.after))) in
-    omega (
-      arith,
-      start_at pieces s.before s.after k s.absent,
-      e,
-      f,
-      length-append (entries_from pieces s.before)
-          (entries_from pieces (k ∷ s.after)),
-    )
+    let both = length-append (entries_from pieces s.before) (entries_from pieces (k ∷ s.after)) in
+    omega (arith, start_at pieces s.before s.after k s.absent, e, f, both)
 
 pub listed_all : (pieces : List (List Item)) (order : List ℕ) (entries : List Entry) (starts : List ℕ) (i : ℕ)
     → IsListed pieces order entries starts i → IsWhole pieces order → AllLead pieces → i ≡ length order

@@ -29,14 +29,8 @@ same_offset : (entries : List Entry) (long other : Forms) → ((n : ℕ) → lon
     → offset entries long n ≡ offset entries other n
 same_offset entries long other h zero = offset_none entries long ∙ sym (offset_none entries other)
 same_offset entries long other h (suc n) =
-    omega (
-      arith,
-      same_offset entries long other h n,
-      offset_more entries long n,
-      offset_more entries other n,
-      ap
-          (λ (x : Bool). width x (slice_get entries n) (slice_get entries (suc n))) (h n),
-    )
+    let same = ap (λ (x : Bool). width x (slice_get entries n) (slice_get entries (suc n))) (h n) in
+    omega (arith, same_offset entries long other h n, offset_more entries long n, offset_more entries other n, same)
 
 pub needed_once : NeededOnce
 needed_once pieces bytes other a b =
@@ -79,17 +73,9 @@ offset_low entries long (suc n) l =
     let w = width_low (long n) (get_or entries n (en.Item it.EndMark)) (slice_get entries (suc n)) in
     let t : take (suc n) entries ≡ take n entries ++ get_or entries n (en.Item it.EndMark) ∷ []
     = (let s : suc n ≡ n + 1 = omega arith in cc (s, take_more entries n (en.Item it.EndMark) (omega arith))) in
-    omega (
-      arith,
-      offset_low entries long n (omega arith),
-      m,
-      w,
-      ap
-          (λ (z : Option Entry). width (long n) z (slice_get entries (suc n))) g,
-      ap full t,
-      full_append (take n entries)
-          (get_or entries n (en.Item it.EndMark) ∷ []),
-    )
+    let same = ap (λ (z : Option Entry). width (long n) z (slice_get entries (suc n))) g in
+    let parted = full_append (take n entries) (get_or entries n (en.Item it.EndMark) ∷ []) in
+    omega (arith, offset_low entries long n (omega arith), m, w, same, ap full t, parted)
 
 full_items : (items : List Item) → full (map en.Item items) ≡ piece_words items
 full_items [] = refl
@@ -99,27 +85,15 @@ full_order : (pieces : List (List Item)) (order : List ℕ) → full (entries_fr
     pieces order
 full_order pieces [] = refl
 full_order pieces (k ∷ ks) =
-    omega (
-      arith,
-      full_order pieces ks,
-      full_append (entries_in k (items_at pieces k))
-          (entries_from pieces ks),
-      full_items (items_at pieces k),
-    )
+    let parted = full_append (entries_in k (items_at pieces k)) (entries_from pieces ks) in
+    omega (arith, full_order pieces ks, parted, full_items (items_at pieces k))
 
 pub long_is_enough : LongIsEnough
 long_is_enough pieces bytes are n =
     let d = weighs_less piece_words pieces (compact_order pieces) (whole_is pieces (exits_lead pieces are.leads)) in
-    omega (
-      arith,
-      n.value,
-      offset_low (entries_of pieces) n.long (length (entries_of pieces)) (omega arith),
-      ap full
-          (take_all (length (entries_of pieces)) (entries_of pieces) (omega arith)),
-      full_order pieces
-          (compact_order pieces),
-      d,
-    )
+    let parted = offset_low (entries_of pieces) n.long (length (entries_of pieces)) (omega arith) in
+    let same = ap full (take_all (length (entries_of pieces)) (entries_of pieces) (omega arith)) in
+    omega (arith, n.value, parted, same, full_order pieces (compact_order pieces), d)
 
 -- ---- short where all is near
 
@@ -159,13 +133,8 @@ module _ (pieces : List (List Item)) (base : ℕ) (p : Placement) (place : ℕ �
   start_near k l =
       let e = ap (offset (entries_of pieces) c.long) (let f : start_of (entries_of pieces) k + 1 + 0 ≡ suc (start_of
       (entries_of pieces) k) = omega arith in f) in
-      omega (
-        arith,
-        near k 0 l (omega arith),
-        e,
-        offset_more (entries_of pieces) c.long
-            (start_of (entries_of pieces) k),
-      )
+      let more = offset_more (entries_of pieces) c.long (start_of (entries_of pieces) k) in
+      omega (arith, near k 0 l (omega arith), e, more)
 
   item_size : (k n : ℕ) (x : Item) → item_at pieces k n ≡ Some x → suc n ≤ size_of pieces k
   item_size k n x e = omega (arith, get_low (items_at pieces k) n x (sym (item_is pieces k n) ∙ e), size_is pieces k)
@@ -197,15 +166,8 @@ module _ (pieces : List (List Item)) (base : ℕ) (p : Placement) (place : ℕ �
       (entry_no k n) = omega arith in f) in
       let w = ap (λ (z : Option Entry). width (c.long (entry_no k n)) z (slice_get (entries_of pieces) (suc (entry_no
       k n)))) (entry_is pieces leads k n x e) in
-      omega (
-        arith,
-        c.places k n q (omega (arith, i)),
-        c.places k (suc n) q i,
-        d,
-        offset_more
-            (entries_of pieces) c.long (entry_no k n),
-        w,
-      )
+      let more = offset_more (entries_of pieces) c.long (entry_no k n) in
+      omega (arith, c.places k n q (omega (arith, i)), c.places k (suc n) q i, d, more, w)
 
   leads_to : (k n : ℕ) (x : Item) → item_at pieces k n ≡ Some x → LeadsBelow (length pieces) (Some x)
   leads_to k n x e = rw e at (leads k n)

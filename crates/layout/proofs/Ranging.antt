@@ -338,12 +338,8 @@ module _ (at : ℕ → ℕ) (up : (n : ℕ) → at n ≤ at (suc n)) where
     pub count_more : (k : ℕ) (ks : List ℕ) → length (entries_from pieces (k ∷ ks)) ≡ 1 + length (items_at pieces k) +
         length (entries_from pieces ks)
     count_more k ks =
-        omega (
-          arith,
-          length-append (entries_in k (items_at pieces k)) (entries_from pieces ks),
-          length-map
-              (items_at pieces k) en.Item,
-        )
+        let both = length-append (entries_in k (items_at pieces k)) (entries_from pieces ks) in
+        omega (arith, both, length-map (items_at pieces k) en.Item)
 
     one_ascends : (c k : ℕ) → Ascend (at c) (at (behind_at c k)) (seen (piece_ranges (λ n. at (c + 1 + n)) 0 None
         (items_at pieces k)))

@@ -167,15 +167,9 @@ code_length base entries long zero = ap length (code_none base entries long) ∙
 code_length base entries long (suc n) =
     let c = entry_length base (long n) (offset entries long n) (or_zero (target_offset entries long n)) (slice_get
     entries n) (slice_get entries (suc n)) in
-    omega (
-      arith,
-      code_length base entries long n,
-      ap length (code_more base entries long n),
-      length-append
-          (code_to base entries long n) (code_at base entries long n),
-      c,
-      offset_more entries long n,
-    )
+    let same = ap length (code_more base entries long n) in
+    let both = length-append (code_to base entries long n) (code_at base entries long n) in
+    omega (arith, code_length base entries long n, same, both, c, offset_more entries long n)
 
 has_more : (code xs ys : List ℕ) (n : ℕ) (ws : List ℕ) → code ≡ xs ++ ys → Has xs n ws → Has code n ws
 has_more code xs ys n ws e h j w f = cc (e, get_first xs ys (n + j) w (h j w f))

@@ -12,14 +12,9 @@ loop-n-init c = record {
 
 pub overflow_add-here : goal.overflow_add-here
 overflow_add-here c =
-    omega (
-      arith,
-      (offset_small c.args.entries.now (forms_in c.args.forms.now) c.loop-n.n),
-      c.loop-n.invariant.here,
-      c.width_at-here.ensures.small,
-      c.loop-n-test.true,
-      c.requires.small,
-    )
+    let offset = (offset_small c.args.entries.now (forms_in c.args.forms.now) c.loop-n.n) in
+    let width = c.width_at-here.ensures.small in
+    omega (arith, offset, c.loop-n.invariant.here, width, c.loop-n-test.true, c.requires.small)
 
 pub loop-n-preserved : goal.loop-n-preserved
 loop-n-preserved c = record {

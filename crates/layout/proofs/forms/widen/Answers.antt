@@ -6,15 +6,10 @@ use Rattle.layout.proofs.forms.widen.Goals as goal
 
 pub overflow_add-here : goal.overflow_add-here
 overflow_add-here c =
-    omega (
-      arith,
-      (c.requires.at.small c.loop-n.n),
-      c.loop-n.invariant.here,
-      c.width_at-here.ensures.small,
-      c.loop-n-test.true,
-      c.requires.small,
-      c.requires.forms,
-    )
+    let before = (c.requires.at.small c.loop-n.n) in
+    let reached = c.loop-n.invariant.here in
+    let width = c.width_at-here.ensures.small in
+    omega (arith, before, reached, width, c.loop-n-test.true, c.requires.small, c.requires.forms)
 
 pub loop-n-preserved : goal.loop-n-preserved
 loop-n-preserved c =

@@ -15,14 +15,9 @@ loop-n-init c =
 
 pub overflow_add-here : goal.overflow_add-here
 overflow_add-here c =
-    omega (
-      arith,
-      (c.args.self.now.offsets.small c.loop-n.n),
-      c.loop-n.invariant.here,
-      c.width_at-here.ensures.small,
-      c.loop-n-test.true,
-      c.args.self.now.small,
-    )
+    let before = (c.args.self.now.offsets.small c.loop-n.n) in
+    let width = c.width_at-here.ensures.small in
+    omega (arith, before, c.loop-n.invariant.here, width, c.loop-n-test.true, c.args.self.now.small)
 
 pub loop-n-preserved : goal.loop-n-preserved
 loop-n-preserved c =
