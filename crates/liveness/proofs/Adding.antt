@@ -1,5 +1,5 @@
 -- What loops add, turn by turn.
-use Rattle.std.proofs.Common.{◌≡◌, ◌↔◌, ℕ, ◌+◌, ◌<◌, ◌≤◌, ◌⊎◌, inl, inr, Bool, true, false, List, [], ◌∷◌, ◌++◌, sym, ◌∙◌, subst, arith}
+use Rattle.std.proofs.Common.{◌≡◌, ◌↔◌, ℕ, ◌+◌, ◌<◌, ◌≤◌, ◌⊎◌, inl, inr, Bool, true, false, List, [], ◌∷◌, ◌++◌, sym, ◌∙◌, arith}
 use Rattle.std.specs.List.{Contains}
 use Rattle.std.proofs.lemmas.Bool.{cases_lt, false≢true}
 use Rattle.std.proofs.lemmas.List.Elements.{Contains-push, Contains-append_left, Contains-push_cases}
@@ -12,8 +12,7 @@ module _ {A : Type 0} where
   adds_none Old P never = λ a. (λ h. inl h, λ h. elim h [ inl k ↦ k | inr k ↦ absurd (never a k) ])
 
   -- one after the other
-  pub adds_both : (Old Mid New P Q : A → Type 0) → Adds Old Mid P → Adds Mid New Q
-      → Adds Old New (λ a. P a ⊎ Q a)
+  pub adds_both : (Old Mid New P Q : A → Type 0) → Adds Old Mid P → Adds Mid New Q → Adds Old New (λ a. P a ⊎ Q a)
   adds_both Old Mid New P Q g h = λ a. (λ k. to a ((h a).0 k), λ k. (h a).1 (from a k))
     where
       to : (a : A) → Mid a ⊎ Q a → Old a ⊎ (P a ⊎ Q a)
@@ -58,14 +57,13 @@ module _ {A : Type 0} where
       from : (a : A) (k : Between Q first (n + 1) a) → (k.0 < n) ⊎ (n ≤ k.0) → Between Q first n a ⊎ Q n a
       from a k (inl less) = inl (k.0, k.1, less, k.3)
       from a k (inr more) =
-          let below = k.2 in
           let same : k.0 ≡ n = omega arith in
-          inr (subst (λ (m : ℕ). Q m a) same k.3)
+          inr (rw same at k.3)
 
   -- as many as there are
   pub adds_all : (Old New : A → Type 0) (Q : ℕ → A → Type 0) (first n end : ℕ) → Adds Old New (Between Q first n)
       → n ≡ end → Adds Old New (Between Q first end)
-  adds_all Old New Q first n end g e = subst (λ (m : ℕ). Adds Old New (Between Q first m)) e g
+  adds_all Old New Q first n end g e = rw e at g
 
   -- what one thing gives, and another if there is that
   pub adds_too : (b : Bool) (Old Mid New P Q : A → Type 0) → Adds Old Mid P → Adds Mid New Q → b ≡ true
@@ -81,8 +79,7 @@ module _ {A : Type 0} where
       (λ a k. elim k [ inl m ↦ m | inr m ↦ absurd (false≢true (sym is ∙ m.0)) ])
 
   -- what is so if something is
-  pub adds_if : (b : Bool) (Old New P : A → Type 0) → Adds Old New P → b ≡ true
-      → Adds Old New (λ a. (b ≡ true) × P a)
+  pub adds_if : (b : Bool) (Old New P : A → Type 0) → Adds Old New P → b ≡ true → Adds Old New (λ a. (b ≡ true) × P a)
   adds_if b Old New P g is = adds_as Old New P (λ a. (b ≡ true) × P a) g (λ a k. (is, k)) (λ a k. k.1)
 
   -- one after the other, from nothing on
@@ -127,16 +124,13 @@ module _ {A : Type 0} where
 -- a link more
 pub adds_push : (xs ys : List Link) (one : Link) → ys ≡ xs ++ one ∷ []
     → Adds (Contains xs) (Contains ys) (λ l. one ≡ l)
-adds_push xs ys one e =
-    subst (λ (v : List Link). Adds (Contains xs) (Contains v) (λ l. one ≡ l)) (sym e)
-    (λ l. (λ h. Contains-push_cases xs one l h, λ h. back l h))
+adds_push xs ys one e = rw e (λ l. (λ h. Contains-push_cases xs one l h, λ h. back l h))
   where
     back : (l : Link) → Contains xs l ⊎ (one ≡ l) → Contains (xs ++ one ∷ []) l
     back l (inl h) = Contains-append_left xs (one ∷ []) l h
-    back l (inr h) = subst (λ (k : Link). Contains (xs ++ one ∷ []) k) h (Contains-push xs one)
+    back l (inr h) = rw (← h) (Contains-push xs one)
 
 -- and one that is known
 pub adds_link : (xs ys : List Link) (one link : Link) → ys ≡ xs ++ one ∷ [] → one ≡ link
     → Adds (Contains xs) (Contains ys) (λ l. link ≡ l)
-adds_link xs ys one link e is =
-    subst (λ (k : Link). Adds (Contains xs) (Contains ys) (λ l. k ≡ l)) is (adds_push xs ys one e)
+adds_link xs ys one link e is = rw is at (adds_push xs ys one e)

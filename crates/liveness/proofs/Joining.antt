@@ -85,8 +85,7 @@ module _ (graph : Graph) (f : AreFirsts graph.blocks.words graph.blocks.firsts) 
       from (inr (d, copied, held, k)) =
           let same : d ≡ b =
           same_number graph.blocks.words graph.blocks.firsts f d b w held.0 holds.0 held.1 held.2 holds.1 holds.2 in
-          union x ∙ or_right _ _ (ap (λ s. has s x) c
-          ∙ subst (λ (n : ℕ). In sets (place_of graph (Landed (record { 0 = n })) w) x) same k)
+          union x ∙ or_right _ _ (ap (λ s. has s x) c ∙ rw same at k)
 
   pub live_plain : (here : List Part) → is_copied graph.opens b ≡ false → here ≡ at sets w
       → (x : Part) → (has here x ≡ true) ↔ (In sets w x ⊎ LivesInCopy graph sets w x)

@@ -14,7 +14,6 @@ use Rattle.v8_decode.proofs.Marks.{has-union, set_of-members}
 use Rattle.flood.specs.declared.Link.{Link}
 use Rattle.flood.specs.Flood.{Sets, link_at, AreLinks, IsLiveIn, Passes, Reaches}
 use Rattle.cfg_blocks.specs.Blocks.{AreFirsts}
-use Rattle.cfg_blocks.specs.declared.EdgeKind.{EdgeKind}
 use Rattle.cfg_blocks.specs.declared.EdgeKind.TheVariants as kinds
 use Rattle.cfg_normal.specs.Graph.{Graph, IsEdgeIn, IsGraph}
 use Rattle.cfg_normal.specs.Numbers.{node_number}
@@ -23,25 +22,12 @@ use Rattle.cfg_normal.specs.declared.Node.TheVariants.{Block, Landed, X}
 use Rattle.cfg_normal.specs.declared.Slot.{Slot}
 use Rattle.cfg_normal.specs.declared.Slot.TheVariants.{Nothing, Word, Off}
 use Rattle.liveness.specs.Paths.{ReadsFirst}
-use Rattle.liveness.specs.Live.{edge_at, Holds, HoldsIn, IsFirst, IsLast, LandsAt, GoesOnAt, StartsAt, instr_of, is_landing, is_outside, slot_reads, slot_writes, beyond, Point, At, Along, Behind, After, reads_at, writes_at, Goes, IsLive, IsLiveAt, IsLiveOn}
+use Rattle.liveness.specs.Live.{edge_at, Holds, HoldsIn, IsFirst, IsLast, LandsAt, GoesOnAt, instr_of, is_landing, is_outside, slot_reads, slot_writes, beyond, Point, At, Along, Behind, After, reads_at, writes_at, Goes, IsLive, IsLiveAt, IsLiveOn}
 use Rattle.liveness.specs.Search.{AreLinksOf, AreLivePlaces, AreMarks, AreRead, In, IsInside, IsOf, IsOnward, LinksAlongAny, LinksInAny, LinksNext, LinksOnto, LinksOntoAny, LivesInCopy, LivesOnto, ReadsIn, ReadsOfAny, ReadsOnAny, edge_link, first_in, is_ahead, is_marked, landing_link, last_in, next_link, node_place, nodes_from, place_of, target_of}
 use Rattle.liveness.proofs.Held.{some_block}
 use Rattle.liveness.proofs.Spots.{first_held, held_inside, held_of, inside_of, is_inside, last_held, number_once, of_held, place_once, place_within}
 
--- ---- where edges go on: where control lands, or at the first word
-
-module _ (graph : Graph) (kind : EdgeKind) (node : Node) (w : ℕ) where
-  goes_on_landing : is_landing kind ≡ true → GoesOnAt graph kind node w → LandsAt graph node w
-  goes_on_landing l h = (h.0, subst (StartsAt graph node w) l h.1)
-
-  goes_on_first : is_landing kind ≡ false → GoesOnAt graph kind node w → IsFirst graph node w
-  goes_on_first n h = subst (StartsAt graph node w) n h.1
-
-  landing_goes_on : is_landing kind ≡ true → LandsAt graph node w → GoesOnAt graph kind node w
-  landing_goes_on l h = (h.0, subst (StartsAt graph node w) (sym l) h.1)
-
-  first_goes_on : is_landing kind ≡ false → Holds graph node w → IsFirst graph node w → GoesOnAt graph kind node w
-  first_goes_on n h f = (h, subst (StartsAt graph node w) (sym n) f)
+-- ---- the first and the last word of a node
 
 first_is : (graph : Graph) (node : Node) (w : ℕ) → IsFirst graph node w → w ≡ first_in graph node
 first_is graph (Block b) w h = h
@@ -119,8 +105,7 @@ module _ (text : Words) (graph : Graph) (g : IsGraph graph) (marks : List Bool)
 
   next_step : (link : Link) (node : Node) → IsInside graph node → LinksNext text graph node link → IsStep link
   next_step link node inside (w, first, below, is) =
-      next node w
-      (held_of graph g.firsts node w (record { inside = inside; first = first; last = omega arith }))
+      next node w (held_of graph g.firsts node w (record { inside = inside; first = first; last = omega arith }))
       (held_of graph g.firsts node (w + 1) (record { inside = inside; first = omega arith; last = omega arith })) is
 
   onto_step : (link : Link) (node : Node) → IsInside graph node → LinksOnto graph marks node link → IsStep link
@@ -131,20 +116,16 @@ module _ (text : Words) (graph : Graph) (g : IsGraph graph) (marks : List Bool)
   step_of : (link : Link)
       → LinksInAny text graph link ⊎ (LinksAlongAny text graph link ⊎ LinksOntoAny graph marks link) → IsStep link
   step_of link (inl (b, low, below, inl k)) = next_step link (block b) below k
-  step_of link (inl (b, low, below, inr (copied, k))) =
-      next_step link (copy b) (below, copied) k
+  step_of link (inl (b, low, below, inr (copied, k))) = next_step link (copy b) (below, copied) k
   step_of link (inr (inl (e, low, below, (from, to, is)))) =
       along e below (from_inside e below from) (to_inside e below to) is
   step_of link (inr (inr (b, low, below, inl k))) = onto_step link (block b) below k
-  step_of link (inr (inr (b, low, below, inr (copied, k)))) =
-      onto_step link (copy b) (below, copied) k
+  step_of link (inr (inr (b, low, below, inr (copied, k)))) = onto_step link (copy b) (below, copied) k
 
   next_between : (node : Node) (w : ℕ) (link : Link) → Holds graph node w → Holds graph node (w + 1)
       → next_link text graph node w ≡ link → LinksNext text graph node link
   next_between node w link h k is =
-      let here = of_held graph g.firsts node w h in
-      let there = of_held graph g.firsts node (w + 1) k in
-      (w, here.first, omega (arith, there.last), is)
+      (w, (of_held graph g.firsts node w h).first, omega (arith, (of_held graph g.firsts node (w + 1) k).last), is)
 
   onto_between : (node : Node) (w : ℕ) (link : Link) → LandsAt graph node w
       → is_marked marks (node_number graph node) ≡ true → landing_link graph node w ≡ link
@@ -155,8 +136,7 @@ module _ (text : Words) (graph : Graph) (g : IsGraph graph) (marks : List Bool)
 
   of_step : (link : Link) → IsStep link
       → LinksInAny text graph link ⊎ (LinksAlongAny text graph link ⊎ LinksOntoAny graph marks link)
-  of_step link (next (Block b) w h k is) =
-      inl (b.0, omega arith, h.0, inl (next_between (Block b) w link h k is))
+  of_step link (next (Block b) w h k is) = inl (b.0, omega arith, h.0, inl (next_between (Block b) w link h k is))
   of_step link (next (Landed b) w h k is) =
       inl (b.0, omega arith, h.1.0, inr (h.0, next_between (Landed b) w link h k is))
   of_step link (next X w h k is) = absurd h
@@ -187,8 +167,7 @@ module _ (text : Words) (graph : Graph) (g : IsGraph graph) (marks : List Bool)
   IsWithin link = IsPlace link.from × IsPlace link.to
 
   step_within : (link : Link) → IsStep link → IsWithin link
-  step_within link (next node w h k is) =
-      subst IsWithin is (word_placed node w h, word_placed node (w + 1) k)
+  step_within link (next node w h k is) = subst IsWithin is (word_placed node w h, word_placed node (w + 1) k)
   step_within link (along e l from to is) =
       let edge = edge_at graph e in
       subst IsWithin is (
@@ -293,26 +272,18 @@ module _ (text : Words) (graph : Graph) (g : IsGraph graph) (marks : List Bool)
       plain_target e w l from goes k =
           let edge = edge_at graph e in
           cond_both (is_landing edge.kind) (node_place graph edge.to) (place_of graph edge.to (first_in graph edge.to))
-          Plain
-          (λ landing.
+          Plain (λ landing.
           plain_step (landing_link graph edge.to w)
-          (onto edge.to w
-          (goes_on_landing graph edge.kind edge.to w landing goes)
-          (marked_to e l from landing) refl) refl k)
-          (λ other.
-          subst (λ (v : ℕ). Plain (place_of graph edge.to v))
-          (first_is graph edge.to w (goes_on_first graph edge.kind edge.to w other goes)) k)
+          (onto edge.to w (rw landing at goes) (marked_to e l from landing) refl) refl k)
+          (λ other. rw (first_is graph edge.to w (rw other at goes).1) at k)
 
       onward : (e : ℕ) → Onward e → has (slot_writes text (edge_at graph e).slot) x ≡ false → Leaving e
       onward e (inl h) s = ahead e (or_right _ _ h) s
       onward e (inr h) s = λ l from u.
-          plain_step (edge_link text graph (edge_at graph e))
-          (along e l from
+          plain_step (edge_link text graph (edge_at graph e)) (along e l from
           (held_inside graph g.firsts (edge_at graph e).to h.0
-          h.1.0) refl)
-          (has_both text (instr_of text (last_in graph (edge_at graph e).from)) (edge_at graph e).slot x
-          ∙ or_from _ _ u s)
-          (plain_target e h.0 l from h.1 h.2)
+          h.1.0) refl) (has_both text (instr_of text (last_in graph (edge_at graph e).from)) (edge_at graph e).slot x
+          ∙ or_from _ _ u s) (plain_target e h.0 l from h.1 h.2)
 
       numbered_read : (p : Point) → has (reads_at text graph named p) x ≡ true → Numbered p
       numbered_read (At node w) h = λ k. plain_word node w k h
@@ -324,9 +295,7 @@ module _ (text : Words) (graph : Graph) (g : IsGraph graph) (marks : List Bool)
           → Holds graph node w → Holds graph node v → Plain (place_of graph node v) → Plain (place_of graph node w)
       onto_next node w v u e h k l =
           let one : v ≡ w + 1 = omega arith in
-          plain_step (next_link text graph node w)
-          (next node w h (subst (λ (n : ℕ). Holds graph node n) one k) refl) u
-          (subst (λ (n : ℕ). Plain (place_of graph node n)) one l)
+          plain_step (next_link text graph node w) (next node w h (rw one at k) refl) u (rw one at l)
 
       onto_edge : (node : Node) (w e : ℕ) → has (write_set (instr_of text w)) x ≡ false → e < length graph.edges
           → (edge_at graph e).from ≡ node → IsLast graph node w → Holds graph node w → Leaving e
@@ -334,26 +303,22 @@ module _ (text : Words) (graph : Graph) (g : IsGraph graph) (marks : List Bool)
       onto_edge node w e u l from last h leaving =
           let is : last_in graph node ≡ w = sym (last_is graph node w last) in
           let here : IsInside graph node → Unwritten node → Plain (place_of graph node (last_in graph node)) =
-          subst (λ (n : Node). IsInside graph n → Unwritten n → Plain (place_of graph n (last_in graph n))) from
-          (leaving l) in
-          subst (λ (v : ℕ). has (write_set (instr_of text v)) x ≡ false → Plain (place_of graph node v)) is
-          (here (held_inside graph g.firsts node w h)) u
+          rw from at (leaving l) in
+          rw is at (here (held_inside graph g.firsts node w h)) u
 
       numbered_step : (p q : Point) → has (writes_at text graph named p) x ≡ false → Goes text graph named p q
           → Numbered q → Numbered p
       numbered_step (At node w) (At other v) u f h = λ k.
-          onto_next node w v u f.1 k f.2
-          (subst (λ (n : Node). Holds graph n v → Plain (place_of graph n v)) f.0 h f.2)
+          onto_next node w v u f.1 k f.2 (rw f.0 at h f.2)
       numbered_step (At node w) (Along e) u f h = λ k. onto_edge node w e u f.0 f.1 f.2 k h
-      numbered_step (Along e) (Behind d) u f h =
-          subst Leaving f (h (subst (λ (n : ℕ). has (slot_writes text (edge_at graph n).slot) x ≡ false) (sym f) u))
-      numbered_step (Behind e) (After d) u f h = onward e (subst Onward f h)
+      numbered_step (Along e) (Behind d) u f h = rw f at (h (rw f u))
+      numbered_step (Behind e) (After d) u f h = onward e (rw f at h)
       numbered_step (After e) (At node w) u f h =
           let edge = edge_at graph e in
           inr (
             w,
-            subst (λ (n : Node). GoesOnAt graph edge.kind n w) (sym f.0) f.1,
-            subst (λ (n : Node). Plain (place_of graph n w)) (sym f.0) (h f.1.0),
+            rw f.0 f.1,
+            rw f.0 (h f.1.0),
           )
       numbered_step _ _ u f h = absurd f
 
@@ -373,7 +338,7 @@ module _ (text : Words) (graph : Graph) (g : IsGraph graph) (marks : List Bool)
       pointed_word node w h l = record {
         word = λ other v k e.
             let same = place_once graph g.firsts node other w v h k e in
-            subst (λ (n : Node). Lives (At n v)) same.0 (subst (λ (u : ℕ). Lives (At node u)) same.1 l);
+            rw same.0 at (rw same.1 at l);
         landing = λ other k e. absurd (omega (arith, place_within graph g.firsts node w h, e));
       }
 
@@ -384,7 +349,7 @@ module _ (text : Words) (graph : Graph) (g : IsGraph graph) (marks : List Bool)
         landing = λ other k e.
             let same : node ≡ other =
             number_once graph g.firsts node other (held_inside graph g.firsts node w h.0) k (omega (arith, e)) in
-            subst (λ (n : Node). (v : ℕ) × LandsAt graph n v × Lives (At n v)) same (w, h, l);
+            rw (← same) (w, h, l);
       }
 
       behind : (e : ℕ) → (has (named e) x || has (beyond (edge_at graph e)) x) ≡ true → Lives (Behind e)
@@ -410,15 +375,11 @@ module _ (text : Words) (graph : Graph) (g : IsGraph graph) (marks : List Bool)
       after e to h =
           let edge = edge_at graph e in
           cond_both (is_landing edge.kind) (node_place graph edge.to) (place_of graph edge.to (first_in graph edge.to))
-          (λ p. Pointed p → Lives (After e))
-          (λ landing t.
+          (λ p. Pointed p → Lives (After e)) (λ landing t.
           let there = t.landing edge.to to refl in
-          step (After e) (At edge.to there.0) refl
-          (refl, landing_goes_on graph edge.kind edge.to there.0 landing there.1) there.2)
-          (λ other t.
+          step (After e) (At edge.to there.0) refl (refl, rw landing there.1) there.2) (λ other t.
           let held = first_held graph g.firsts edge.to to in
-          step (After e) (At edge.to (first_in graph edge.to)) refl
-          (refl, first_goes_on graph edge.kind edge.to (first_in graph edge.to) other held (is_first graph edge.to to))
+          step (After e) (At edge.to (first_in graph edge.to)) refl (refl, rw other (held, is_first graph edge.to to))
           (t.word edge.to (first_in graph edge.to) held refl))
           h
 
@@ -433,38 +394,33 @@ module _ (text : Words) (graph : Graph) (g : IsGraph graph) (marks : List Bool)
 
       pointed_step : (link : Link) → IsStep link → has link.kills x ≡ false → Pointed link.to → Pointed link.from
       pointed_step link (next node w h k is) =
-          subst (λ (l : Link). has l.kills x ≡ false → Pointed l.to → Pointed l.from) is
-          (λ u t.
+          rw (← is) (λ u t.
           let one : w + 1 ≡ suc w = omega arith in
           pointed_word node w h (step (At node w) (At node (w + 1)) u (refl, one, k) (t.word node (w + 1) k refl)))
       pointed_step link (along e l from to is) =
-          subst (λ (l : Link). has l.kills x ≡ false → Pointed l.to → Pointed l.from) is
-          (λ u t.
+          rw (← is) (λ u t.
           let edge = edge_at graph e in
           let none = or_parts _ _ (sym (has_both text (instr_of text (last_in graph edge.from)) edge.slot x) ∙ u) in
           leaving e l from none.0
           (step (Along e) (Behind e) none.1 refl (step (Behind e) (After e) refl refl (after e to t))))
-      pointed_step link (onto node w h mark is) =
-          subst (λ (l : Link). has l.kills x ≡ false → Pointed l.to → Pointed l.from) is
-          (λ u t. pointed_node node w h (t.word node w h.0 refl))
+      pointed_step link (onto node w h mark is) = rw (← is) (λ u t. pointed_node node w h (t.word node w h.0 refl))
 
       word_read : (p : ℕ) (node : Node) → IsInside graph node → ReadsIn text graph p node x → Pointed p
       word_read p node inside (w, first, below, (is, k)) =
           let held = held_of graph g.firsts node w (record { inside = inside; first = first; last = omega arith }) in
-          subst Pointed (sym is) (pointed_word node w held (read (At node w) k))
+          rw is (pointed_word node w held (read (At node w) k))
 
       pointed_read : (p : ℕ) → ReadsOfAny text graph p x ⊎ ReadsOnAny text graph named p x → Pointed p
       pointed_read p (inl (b, low, below, inl k)) = word_read p (block b) below k
       pointed_read p (inl (b, low, below, inr (copied, k))) = word_read p (copy b) (below, copied) k
       pointed_read p (inr (e, low, l, (from, is, u, k))) =
-          subst Pointed (sym is) (leaving e l (from_inside e l from) u (along_read e k))
+          rw is (leaving e l (from_inside e l from) u (along_read e k))
 
       pointed : (path : List ℕ) (p : ℕ) → Reaches reads links x p path → Pointed p
       pointed [] p h = pointed_read p ((r.read p x).0 h)
       pointed (q ∷ path) p h =
           let k = h.0 in
-          subst Pointed k.2
-          (pointed_step (link_at links k.0) (steps k.0 k.1) k.4 (subst Pointed (sym k.3) (pointed path q h.1)))
+          rw k.2 at (pointed_step (link_at links k.0) (steps k.0 k.1) k.4 (rw k.3 (pointed path q h.1)))
 
       -- ---- both
 
@@ -516,8 +472,8 @@ module _ (text : Words) (graph : Graph) (named : ℕ → List Part) (sets : Sets
       let is : node ≡ edge.to = sym h.1.0 in
       inr (
         w,
-        subst (λ (n : Node). GoesOnAt graph edge.kind n w) is h.1.1,
-        subst (λ (n : Node). In sets (place_of graph n w) x) is ((live.live node w h.1.1.0 x).1 (path, h.2)),
+        rw is at h.1.1,
+        rw is at ((live.live node w h.1.1.0 x).1 (path, h.2)),
       )
   after_goes e x (_ ∷ path) h = absurd h.1
 
@@ -526,8 +482,7 @@ module _ (text : Words) (graph : Graph) (named : ℕ → List Part) (sets : Sets
 
   word_there : (w : ℕ) (x : Part) → (b : ℕ) × HoldsIn graph b w → In sets w x ⊎ LivesInCopy graph sets w x
       → IsLiveAt text graph named w x
-  word_there w x (b, held) (inl k) =
-      (block b, held, (live.live (block b) w held x).0 k)
+  word_there w x (b, held) (inl k) = (block b, held, (live.live (block b) w held x).0 k)
   word_there w x here (inr (b, copied, held, k)) =
       (copy b, (copied, held), (live.live (copy b) w (copied, held) x).0 k)
 

@@ -43,8 +43,7 @@ module _ (graph : Graph) (f : AreFirsts graph.blocks.words graph.blocks.firsts) 
   pub few_next : (from before after block : ℕ) → block < length graph.blocks.firsts
       → before ≤ from + 2 * words_before block
       → after + 2 * first_in graph (Block (record { 0 = block }))
-      ≤ before + 2 * (last_in graph (Block (record { 0 = block })) + 1)
-      → after ≤ from + 2 * words_before (block + 1)
+      ≤ before + 2 * (last_in graph (Block (record { 0 = block })) + 1) → after ≤ from + 2 * words_before (block + 1)
   few_next from before after block low few more =
       omega (
         arith,
@@ -160,8 +159,7 @@ module _ (graph : Graph) (f : AreFirsts graph.blocks.words graph.blocks.firsts) 
       → slice_index graph.blocks.firsts a ≤ w → w < block_end graph.blocks.firsts graph.blocks.words a
       → slice_index graph.blocks.firsts b ≤ v → v < block_end graph.blocks.firsts graph.blocks.words b
       → copies_from graph a + (w - slice_index graph.blocks.firsts a)
-      ≡ copies_from graph b + (v - slice_index graph.blocks.firsts b)
-      → (a ≡ b) × (w ≡ v)
+      ≡ copies_from graph b + (v - slice_index graph.blocks.firsts b) → (a ≡ b) × (w ≡ v)
   same_copy a b w v la lb ca cb aw bw av bv e = elim (cases_order a b) [
     | inl same ↦ (
       same,
@@ -186,10 +184,8 @@ module _ (graph : Graph) (f : AreFirsts graph.blocks.words graph.blocks.firsts) 
   place_once (Landed a) (Landed b) w v h k e =
       let same = same_copy a.0 b.0 w v h.1.0 k.1.0 h.0 k.0 h.1.1 h.1.2 k.1.1 k.1.2 e in
       (ap (λ n. Landed (record { 0 = n })) same.0, same.1)
-  place_once (Block a) (Landed b) w v h k e =
-      absurd (omega (arith, held_within (Block a) w h, place_behind b.0 v, e))
-  place_once (Landed a) (Block b) w v h k e =
-      absurd (omega (arith, held_within (Block b) v k, place_behind a.0 w, e))
+  place_once (Block a) (Landed b) w v h k e = absurd (omega (arith, held_within (Block a) w h, place_behind b.0 v, e))
+  place_once (Landed a) (Block b) w v h k e = absurd (omega (arith, held_within (Block b) v k, place_behind a.0 w, e))
   place_once X other w v h k e = absurd h
   place_once (Block a) X w v h k e = absurd k
   place_once (Landed a) X w v h k e = absurd k
@@ -228,8 +224,6 @@ module _ (graph : Graph) (f : AreFirsts graph.blocks.words graph.blocks.firsts) 
   pub lands_plain : (b w : ℕ) → HoldsIn graph b w → is_copied graph.opens b ≡ false
       → lands graph (Some w) ≡ Block (record { 0 = b })
   lands_plain b w h none =
-      let low : w < graph.blocks.words = held_within (Block (record { 0 = b })) w h in
       let held : holding_of graph.blocks w ≡ b = is_held graph.blocks.words graph.blocks.firsts f w b
       (record { within = h.0; above = h.1; below = h.2 }) in
-      let plain : (jumps_in graph.opens b || is_behind graph.opens b w) ≡ false = uncopied graph.opens b w none in
-      rw (lt-ltb _ _ low) (rw held (rw plain refl))
+      rw (lt-ltb _ _ (held_within (Block (record { 0 = b })) w h)) (rw held (rw (uncopied graph.opens b w none) refl))

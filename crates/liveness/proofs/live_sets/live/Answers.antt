@@ -1,9 +1,7 @@
-use Rattle.std.proofs.Common.{arith, ◌<◌, [], inl, inr, sym, ap, ◌∙◌, subst}
+use Rattle.std.proofs.Common.{arith, ◌<◌, [], inl, inr, sym, ap, ◌∙◌}
 use Rattle.std.proofs.lemmas.List.{get_or_default}
 use Rattle.v8_decode.specs.Parts.{every_part, has}
-use Rattle.flood.specs.Flood.{Sets}
 use Rattle.liveness.specs.Live.{named_on}
-use Rattle.liveness.specs.Search.{AreLivePlaces}
 use Rattle.liveness.proofs.Reaching.{joined_is, onward_is}
 use Rattle.liveness.proofs.live_sets.live.Goals as goal
 
@@ -18,17 +16,15 @@ returns c =
           let low : w < graph.blocks.words = omega (arith, c.requires.graph, l) in
           let is = get_or_default c.in_ok-words.words.items w every_part [] (omega (arith, joined.len, low)) in
           let here = joined.joined w low x in
-          let live =
-          joined_is text graph named c.in_ok-sets.sets.items c.in_ok-sets.ensures.live
+          let live = joined_is text graph named c.in_ok-sets.sets.items c.in_ok-sets.ensures.live
           c.in_ok-places.ensures.of_graph w x low in
           (λ h. live.0 (here.0 (ap (λ s. has s x) (sym is) ∙ h)), λ h. ap (λ s. has s x) is ∙ here.1 (live.1 h));
       edges = λ e l x.
           let is =
           get_or_default c.in_ok-edges.edges.items e every_part [] (omega (arith, c.in_ok-edges.ensures.len, l)) in
           let here = c.in_ok-edges.ensures.onward e l x in
-          let live =
-          onward_is text graph named c.deref.result.now
-          (subst (λ (v : Sets). AreLivePlaces text graph named v) (sym c.deref.ensures.value) c.in_ok-sets.ensures.live)
+          let live = onward_is text graph named c.deref.result.now
+          (rw c.deref.ensures.value c.in_ok-sets.ensures.live)
           e x in
           (λ h. live.0 (here.0 (ap (λ s. has s x) (sym is) ∙ h)), λ h. ap (λ s. has s x) is ∙ here.1 (live.1 h));
     }

@@ -1,6 +1,4 @@
-use Rattle.std.proofs.Common.{arith, ℕ, List, length, inl, inr, sym, subst}
-use Rattle.flood.specs.declared.Link.{Link}
-use Rattle.liveness.specs.Search.{AreLinksOf}
+use Rattle.std.proofs.Common.{arith, ℕ, length, inl, inr}
 use Rattle.liveness.proofs.Reaching.{are_links, lands_between, node_is, word_is}
 use Rattle.liveness.proofs.Spots.{nodes_high}
 use Rattle.liveness.proofs.live_sets.place_sets.Goals as goal
@@ -25,9 +23,8 @@ flood-requires-clause-links c =
     let p = c.requires.places in
     let marks = c.args.chart.now.places.now.marks.items in
     are_links c.args.chart.now.text.now c.args.chart.now.graph.now p.of_graph marks p.of_edges
-    (subst (λ (l : List Link). AreLinksOf c.args.chart.now.text.now c.args.chart.now.graph.now marks l) (sym c.deref.ensures.value)
-    c.in_ok-links.ensures.links)
-    (length c.in_ok-reads.reads.items) c.in_ok-reads.ensures.len
+    (rw c.deref.ensures.value
+    c.in_ok-links.ensures.links) (length c.in_ok-reads.reads.items) c.in_ok-reads.ensures.len
 
 pub returns-clause-live : goal.returns-clause-live
 returns-clause-live c =
@@ -35,9 +32,8 @@ returns-clause-live c =
     let marks = c.args.chart.now.places.now.marks.items in
     record {
       live = λ node word held x.
-          let is =
-          word_is c.args.chart.now.text.now c.args.chart.now.graph.now p.of_graph marks p.of_edges
-          (subst (λ (l : List Link). AreLinksOf c.args.chart.now.text.now c.args.chart.now.graph.now marks l) (sym c.deref.ensures.value)
+          let is = word_is c.args.chart.now.text.now c.args.chart.now.graph.now p.of_graph marks p.of_edges
+          (rw c.deref.ensures.value
           c.in_ok-links.ensures.links)
           c.in_ok-reads.ensures.read x node word held in
           let sets = c.in_ok-sets.ensures.live _ x in
@@ -52,9 +48,7 @@ returns-clause-found c =
     record {
       len = omega (arith, c.in_ok-sets.ensures.len, c.in_ok-reads.ensures.len);
       onto = λ node inside mark x.
-          let is =
-          node_is c.args.chart.now.text.now graph p.of_graph marks p.of_edges
-          (subst (λ (l : List Link). AreLinksOf c.args.chart.now.text.now graph marks l) (sym c.deref.ensures.value)
+          let is = node_is c.args.chart.now.text.now graph p.of_graph marks p.of_edges (rw c.deref.ensures.value
           c.in_ok-links.ensures.links)
           c.in_ok-reads.ensures.read x node inside mark in
           let sets = λ (k : ℕ). c.in_ok-sets.ensures.live k x in

@@ -1,4 +1,4 @@
-use Rattle.std.proofs.Common.{◌≡◌, ℕ, ◌+◌, Bool, true, List, length, subst}
+use Rattle.std.proofs.Common.{◌≡◌, ℕ, ◌+◌, Bool, true, List, length}
 use Rattle.std.specs.Prelude.{◌⊎◌}
 use borrow.Author.Count.{below_more}
 use Rattle.cfg_normal.specs.declared.Edge.{Edge}
@@ -15,8 +15,7 @@ marks_more : (graph : Graph) (count : ℕ) (old new : List Bool) (edge : Edge) �
 marks_more graph count old new edge are is len kept here = record {
   len = len;
   marked = below_more (λ e. IsMarked graph new (edge_at graph e)) count
-      (λ e low outside lands. kept _ (are.marked e low outside lands))
-      (subst (λ (x : Edge). IsMarked graph new x) is here);
+      (λ e low outside lands. kept _ (are.marked e low outside lands)) (rw is at here);
 }
 
 pub loop-e-preserved : goal.loop-e-preserved

@@ -1,7 +1,6 @@
-use Rattle.std.proofs.Common.{arith, [], List, subst}
+use Rattle.std.proofs.Common.{arith, []}
 use Rattle.std.specs.List.{Contains}
-use Rattle.flood.specs.declared.Link.{Link}
-use Rattle.liveness.specs.Search.{Adds, LinksAlongAny, LinksInAny, LinksOntoAny}
+use Rattle.liveness.specs.Search.{LinksAlongAny, LinksInAny, LinksOntoAny}
 use Rattle.liveness.proofs.Adding.{adds_up}
 use Rattle.liveness.proofs.chart.Chart.all_links.Goals as goal
 
@@ -14,7 +13,6 @@ returns-clause-links c =
           adds_up (Contains []) (Contains c.link_blocks.new.links.items) (Contains c.link_edges.new.links.items)
           (Contains c.link_landings.new.links.items) (LinksInAny text graph) (LinksAlongAny text graph)
           (LinksOntoAny graph c.args.self.now.places.now.marks.items) (λ l h. let none = h.1 in absurd (omega arith))
-          (subst (λ (l : List Link). Adds (Contains l) (Contains c.link_blocks.new.links.items) (LinksInAny text graph))
-          c.in_ok-links.ensures.items c.in_ok-link_blocks.ensures.added)
+          (rw c.in_ok-links.ensures.items at c.in_ok-link_blocks.ensures.added)
           c.in_ok-link_edges.ensures.added c.in_ok-link_landings.ensures.added;
     }

@@ -1,6 +1,4 @@
-use Rattle.std.proofs.Common.{subst}
 use Rattle.std.specs.List.{range_with_len}
-use Rattle.flood.specs.Flood.{Sets}
 use Rattle.liveness.specs.Live.{named_on}
 use Rattle.liveness.specs.Search.{In, ReadsOfAny, ReadsOnAny}
 use Rattle.liveness.proofs.Adding.{adds_on}
@@ -13,7 +11,6 @@ returns-clause-read c = record {
       adds_on (In c.in_ok-all.all.items p) (In c.read_blocks.new.all.items p) (In c.read_edges.new.all.items p)
       (ReadsOfAny c.args.self.now.text.now c.args.self.now.graph.now p)
       (ReadsOnAny c.args.self.now.text.now c.args.self.now.graph.now (named_on c.args.snips.now) p)
-      (λ x h. none_in (range_with_len 0 c.count.result) p x (subst (λ (v : Sets). In v p x) c.in_ok-all.ensures.none h))
-      (c.read_blocks.ensures.read p)
-      (c.read_edges.ensures.read p);
+      (λ x h. none_in (range_with_len 0 c.count.result) p x (rw c.in_ok-all.ensures.none at h))
+      (c.read_blocks.ensures.read p) (c.read_edges.ensures.read p);
 }

@@ -1,8 +1,6 @@
-use Rattle.std.proofs.Common.{arith, ◌≡◌, ◌↔◌, true, sym, subst}
+use Rattle.std.proofs.Common.{arith, ◌≡◌, ◌↔◌, true}
 use Rattle.v8_decode.specs.declared.Part.{Part}
 use Rattle.v8_decode.specs.Parts.{has}
-use Rattle.flood.specs.Flood.{Sets, at}
-use Rattle.cfg_normal.specs.declared.Edge.{Edge}
 use Rattle.liveness.specs.Live.{edge_at}
 use Rattle.liveness.specs.Search.{IsOnward}
 use Rattle.liveness.proofs.Joining.{pushed}
@@ -12,15 +10,11 @@ pub loop-e-preserved : goal.loop-e-preserved
 loop-e-preserved c =
     let here : (x : Part) → (has c.onward.result x ≡ true)
     ↔ IsOnward c.args.self.now.graph.now (edge_at c.args.self.now.graph.now c.loop-e.e) c.args.sets.now x =
-    subst (λ (d : Edge). (x : Part) → (has c.onward.result x ≡ true) ↔ IsOnward c.args.self.now.graph.now d c.args.sets.now x)
-    c.edge_at.ensures.edge c.onward.ensures in
+    rw c.edge_at.ensures.edge at c.onward.ensures in
     record {
       len = omega (arith, c.in_ok-push.ensures.len, c.loop-e.invariant.len);
       onward = λ j l.
-          subst (λ (v : Sets). (x : Part) → (has (at v j) x ≡ true)
-          ↔ IsOnward c.args.self.now.graph.now (edge_at c.args.self.now.graph.now j) c.args.sets.now x)
-          (sym c.in_ok-push.ensures.items)
-          (pushed (λ i s. (x : Part) → (has s x ≡ true)
+          rw c.in_ok-push.ensures.items (pushed (λ i s. (x : Part) → (has s x ≡ true)
           ↔ IsOnward c.args.self.now.graph.now (edge_at c.args.self.now.graph.now i) c.args.sets.now x)
           c.loop-e.all.items c.onward.result c.loop-e.e c.loop-e.invariant.len c.loop-e.invariant.onward here j l);
     }

@@ -1,7 +1,6 @@
-use Rattle.std.proofs.Common.{arith, ◌≡◌, ◌↔◌, ◌⊎◌, true, length, sym, subst}
+use Rattle.std.proofs.Common.{arith, ◌≡◌, ◌↔◌, ◌⊎◌, true, length}
 use Rattle.v8_decode.specs.declared.Part.{Part}
 use Rattle.v8_decode.specs.Parts.{has}
-use Rattle.flood.specs.Flood.{Sets, at}
 use Rattle.liveness.specs.Search.{In, LivesInCopy}
 use Rattle.liveness.proofs.Joining.{pushed}
 use Rattle.liveness.proofs.Spots.{copies_low}
@@ -14,8 +13,7 @@ loop-word-preserved c =
     record {
       len = omega (arith, c.in_ok-push.ensures.len, c.loop-word.invariant.len);
       joined = λ j l.
-          subst (λ (v : Sets). (x : Part) → (has (at v j) x ≡ true) ↔ (In sets j x ⊎ LivesInCopy graph sets j x))
-          (sym c.in_ok-push.ensures.items)
+          rw c.in_ok-push.ensures.items
           (pushed (λ i s. (x : Part) → (has s x ≡ true) ↔ (In sets i x ⊎ LivesInCopy graph sets i x))
           c.loop-word.words.items c.live_at.result c.loop-word.word c.loop-word.invariant.len
           c.loop-word.invariant.joined c.live_at.ensures j l);

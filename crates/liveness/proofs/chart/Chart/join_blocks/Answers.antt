@@ -1,6 +1,6 @@
-use Rattle.std.proofs.Common.{arith, ◌≡◌, ◌+◌, ℕ, subst}
+use Rattle.std.proofs.Common.{arith, ◌≡◌, ◌+◌}
 use Rattle.cfg_normal.specs.declared.Node.TheVariants.{Block}
-use Rattle.liveness.specs.Search.{AreJoined, last_in}
+use Rattle.liveness.specs.Search.{last_in}
 use Rattle.liveness.proofs.Held.{some_words, start_after, start_of}
 use Rattle.liveness.proofs.chart.Chart.join_blocks.Goals as goal
 
@@ -11,5 +11,5 @@ loop-block-preserved c =
     let end : last_in c.args.self.now.graph.now (Block (record { 0 = c.loop-block.block })) + 1
     ≡ start_of b.words b.firsts (c.loop-block.block + 1) =
     omega (arith, some, start_after b.words b.firsts c.loop-block.block) in
-    subst (λ (n : ℕ). AreJoined c.args.self.now.graph.now c.args.sets.now n c.join_block.new.words.items) end
+    rw end at
     c.in_ok-join_block.ensures

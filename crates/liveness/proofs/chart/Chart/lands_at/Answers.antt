@@ -1,7 +1,5 @@
-use Rattle.std.proofs.Common.{ap, not, sym, ◌∙◌, subst}
+use Rattle.std.proofs.Common.{ap, not, sym, ◌∙◌}
 use Rattle.std.specs.Prelude.{IsTrue}
-use Rattle.cfg_normal.specs.declared.Node.{Node}
-use Rattle.liveness.specs.Live.{Holds}
 use Rattle.liveness.proofs.Spots.{held_of, lands_plain}
 use Rattle.liveness.proofs.chart.Chart.lands_at.Goals as goal
 
@@ -9,9 +7,7 @@ pub returns-then-not-is_copied : goal.returns-then-not-is_copied
 returns-then-not-is_copied c =
     let f = c.args.self.now.of_firsts in
     let graph = c.args.self.now.graph.now in
-    let held =
-    subst (λ (n : Node). Holds graph n c.args.word) c.in-Block.is
-    (held_of graph f c.args.node c.args.word c.requires.of) in
+    let held = rw c.in-Block.is at (held_of graph f c.args.node c.args.word c.requires.of) in
     let none : IsTrue (not c.is_copied.result) = ap not c.if-not-is_copied.true in (
       λ h. lands_plain graph f c.in-Block.block.0 c.args.word held (sym c.is_copied.ensures ∙ c.if-not-is_copied.true)
           ∙ sym c.in-Block.is,

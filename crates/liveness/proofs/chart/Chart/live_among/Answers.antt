@@ -1,7 +1,7 @@
-use Rattle.std.proofs.Common.{arith, ◌≡◌, ◌+◌, true, List, [], sym, subst}
+use Rattle.std.proofs.Common.{arith, ◌≡◌, ◌+◌, true, []}
 use Rattle.v8_decode.specs.declared.Part.{Part}
 use Rattle.v8_decode.specs.Parts.{has}
-use Rattle.liveness.specs.Search.{Adds, Between, LivesAtLanding, first_in, last_in}
+use Rattle.liveness.specs.Search.{LivesAtLanding, first_in, last_in}
 use Rattle.liveness.proofs.Adding.{adds_first, adds_next}
 use Rattle.liveness.proofs.Joining.{adds_union, union_all}
 use Rattle.liveness.proofs.chart.Chart.live_among.Goals as goal
@@ -10,10 +10,7 @@ pub loop-word-init : goal.loop-word-init
 loop-word-init c =
     let Q = LivesAtLanding c.args.self.now.graph.now c.args.node c.args.sets.now in
     let first = first_in c.args.self.now.graph.now c.args.node in
-    subst (λ (s : List Part). Adds {A = Part} (λ x. has [] x ≡ true) (λ x. has s x ≡ true)
-    (Between Q first c.first_of-word.result))
-    (sym c.empty-live.ensures)
-    (adds_first {A = Part} (λ x. has [] x ≡ true) Q first c.first_of-word.result
+    rw c.empty-live.ensures (adds_first {A = Part} (λ x. has [] x ≡ true) Q first c.first_of-word.result
     (omega (arith, c.first_of-word.ensures.first)))
 
 pub loop-word-preserved : goal.loop-word-preserved

@@ -12,8 +12,7 @@ returns-then-is_copied c =
     (get_or_read sets c.args.word c.index-sets-word.result (omega (arith, c.requires.found.len, c.requires.low))
     c.index-sets-word.is [])
     (get_or_read sets c.place.result c.index-sets-place.result (omega (arith, c.requires.found.len, c.place.ensures.within))
-    c.index-sets-place.is []
-    ∙ ap (at sets) c.place.ensures.place)
+    c.index-sets-place.is [] ∙ ap (at sets) c.place.ensures.place)
     c.union.ensures.has
 
 pub returns-else-is_copied : goal.returns-else-is_copied

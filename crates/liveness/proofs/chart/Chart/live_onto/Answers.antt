@@ -1,10 +1,7 @@
-use Rattle.std.proofs.Common.{arith, ◌≡◌, ◌↔◌, true, List, [], sym, ap, ◌∙◌, subst}
+use Rattle.std.proofs.Common.{arith, [], sym, ap, ◌∙◌}
 use Rattle.std.proofs.lemmas.List.{get_or_read}
-use Rattle.v8_decode.specs.declared.Part.{Part}
-use Rattle.v8_decode.specs.Parts.{has}
 use Rattle.flood.specs.Flood.{at}
 use Rattle.cfg_normal.specs.Numbers.{node_number}
-use Rattle.liveness.specs.Search.{LivesOnto}
 use Rattle.liveness.proofs.Reaching.{marked_below}
 use Rattle.liveness.proofs.chart.Chart.live_onto.Goals as goal
 
@@ -15,7 +12,5 @@ returns-then-has_node c = λ x.
     let low = marked_below c.args.self.now.places.now.marks.items (node_number c.args.self.now.graph.now c.args.node) mark in
     let is =
     get_or_read sets c.node.result c.index-sets-node.result (omega (arith, c.requires.found.len, c.node.ensures, low))
-    c.index-sets-node.is []
-    ∙ ap (at sets) c.node.ensures in
-    subst (λ (s : List Part). (has s x ≡ true) ↔ LivesOnto c.args.self.now.graph.now c.args.node sets x) (sym is)
-    (c.requires.found.onto c.args.node c.requires.node mark x)
+    c.index-sets-node.is [] ∙ ap (at sets) c.node.ensures in
+    rw is (c.requires.found.onto c.args.node c.requires.node mark x)

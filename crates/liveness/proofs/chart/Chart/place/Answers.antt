@@ -1,7 +1,5 @@
-use Rattle.std.proofs.Common.{arith, ◌<◌, subst}
+use Rattle.std.proofs.Common.{arith}
 use Rattle.std.proofs.lemmas.List.{get_or_default}
-use Rattle.cfg_normal.specs.declared.Node.{Node}
-use Rattle.liveness.specs.Search.{IsInside, nodes_from, place_of}
 use Rattle.liveness.proofs.Spots.{held_of, nodes_high, place_within}
 use Rattle.liveness.proofs.chart.Chart.place.Goals as goal
 
@@ -9,11 +7,9 @@ pub overflow_add-result : goal.overflow_add-result
 overflow_add-result c =
     let chart = c.args.self.now in
     let graph = chart.graph.now in
-    let low =
-    subst (λ (n : Node). place_of graph n c.args.word < nodes_from graph) c.in-Landed.is
-    (place_within graph chart.of_firsts c.args.node c.args.word
+    let low = rw c.in-Landed.is at (place_within graph chart.of_firsts c.args.node c.args.word
     (held_of graph chart.of_firsts c.args.node c.args.word c.requires.of)) in
-    let in_graph = subst (λ (n : Node). IsInside graph n) c.in-Landed.is c.requires.of.inside in
+    let in_graph = rw c.in-Landed.is at c.requires.of.inside in
     omega (
       arith,
       low,
@@ -30,18 +26,16 @@ pub returns-in-Block-clause-within : goal.returns-in-Block-clause-within
 returns-in-Block-clause-within c =
     let graph = c.args.self.now.graph.now in
     let firsts = c.args.self.now.of_firsts in
-    subst (λ (n : Node). place_of graph n c.args.word < nodes_from graph) c.in-Block.is
+    rw c.in-Block.is at
     (place_within graph firsts c.args.node c.args.word (held_of graph firsts c.args.node c.args.word c.requires.of))
 
 pub returns-in-Landed-clause-within : goal.returns-in-Landed-clause-within
 returns-in-Landed-clause-within c =
     let chart = c.args.self.now in
     let graph = chart.graph.now in
-    let low =
-    subst (λ (n : Node). place_of graph n c.args.word < nodes_from graph) c.in-Landed.is
-    (place_within graph chart.of_firsts c.args.node c.args.word
+    let low = rw c.in-Landed.is at (place_within graph chart.of_firsts c.args.node c.args.word
     (held_of graph chart.of_firsts c.args.node c.args.word c.requires.of)) in
-    let in_graph = subst (λ (n : Node). IsInside graph n) c.in-Landed.is c.requires.of.inside in
+    let in_graph = rw c.in-Landed.is at c.requires.of.inside in
     omega (
       arith,
       low,

@@ -1,6 +1,5 @@
-use Rattle.std.proofs.Common.{arith, ◌≡◌, ℕ, take, sym, ap, ◌∙◌, subst}
-use Rattle.flood.specs.Flood.{Sets}
-use Rattle.liveness.specs.Search.{AreJoined, nodes_from}
+use Rattle.std.proofs.Common.{arith, ◌≡◌, ℕ, take, ap, ◌∙◌}
+use Rattle.liveness.specs.Search.{nodes_from}
 use Rattle.liveness.proofs.Joining.{joined_alone}
 use Rattle.liveness.proofs.chart.Chart.word_sets.Goals as goal
 
@@ -12,11 +11,8 @@ returns-then-self-len c =
     omega (arith, c.len-then-self-len.ensures.count, c.args.self.now.of_text) in
     let none : nodes_from graph ≡ graph.blocks.words =
     omega (arith, c.args.self.now.of_nodes, c.if-self-len.true, c.len.ensures.count, c.args.self.now.of_text) in
-    subst (λ (v : Sets). AreJoined graph sets graph.blocks.words v)
-    (sym (c.truncate.ensures.items ∙ ap (λ (n : ℕ). take n sets) len))
+    rw (c.truncate.ensures.items ∙ ap (λ (n : ℕ). take n sets) len)
     (joined_alone graph c.args.self.now.of_firsts sets none (omega (arith, c.requires.found.len)))
 
 pub returns : goal.returns
-returns c =
-    subst (λ (v : Sets). AreJoined c.args.self.now.graph.now v c.args.self.now.graph.now.blocks.words c.join_blocks.new.words.items)
-    c.deref.ensures.value c.in_ok-join_blocks.ensures
+returns c = rw c.deref.ensures.value at c.in_ok-join_blocks.ensures
