@@ -38,13 +38,12 @@ made kind graph all number [] snips size same few = omega arith
 made kind graph all number (edge ∷ edges) [] size same few = absurd (omega (arith, size))
 made kind graph all number (edge ∷ edges) (ops ∷ snips) size same few =
     let here : length (snippet_on all number) ≡ length ops =
-    ap (λ (n : ℕ). length (snippet_on all n)) (let e : number ≡ number + 0 = omega arith in e)
-    ∙ ap (λ (x : List Op). length x) (same 0) in
+    cc ((let e : number ≡ number + 0 = omega arith in e), same 0) in
     let first = mul-le (copies_of graph edge) (length (snippet_on all number)) (copies_of graph edge) (counted_on kind
     ops)
     (omega arith) (omega (arith, here, few.0)) in
     let later = made kind graph all (suc number) edges snips (omega (arith, size))
-    (λ k. ap (snippet_on all) (let e : suc number + k ≡ number + suc k = omega arith in e) ∙ same (suc k)) few.1 in
+    (λ k. cc ((let e : suc number + k ≡ number + suc k = omega arith in e), same (suc k))) few.1 in
     omega (arith, first, later)
 
 pub operations_few : (graph : Graph) (kind : ToolKind) (cells : ℕ) (snips : List (List Op))

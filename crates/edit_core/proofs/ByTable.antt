@@ -52,15 +52,14 @@ unfolding load_of
 load_loads text b o c =
     let h = c.loaded in
     let above = h.above in
-    let below = h.below in
     let here : o.approach.first + (h.load - o.approach.first) ≡ h.load = omega (arith, above) in
     let found = found_in_range (λ (word : ℕ). loads_by text o word (instr_at text word)) o.approach.first
-    (o.approach.jump - o.approach.first) (h.load - o.approach.first) (omega (arith, above, below))
-    (ap (λ (word : ℕ). loads_by text o word (instr_at text word)) here ∙ load_passes text o h.load h.loads) in
+    (o.approach.jump - o.approach.first) (h.load - o.approach.first) (omega (arith, above, h.below))
+    (cc (here, load_passes text o h.load h.loads)) in
     let at : or_first o (find (λ (word : ℕ). loads_by text o word (instr_at text word))
     (range_with_len o.approach.first (o.approach.jump - o.approach.first))) ≡ found.0 =
     ap (or_first o) found.1.is in
-    subst (LoadsEntry text o) (sym at) (loads_here text o found.0 (instr_at text found.0) refl found.1.passes)
+    rw at (loads_here text o found.0 (instr_at text found.0) refl found.1.passes)
 
 -- ---- the law, by what the code knows of the switches
 
@@ -84,12 +83,11 @@ module _ (g : Setting) (entry : ℕ) (s0 : State) (same : g.switches ≡ opens_i
       let c : IsCaseBlock g.text (blocks_of g.text g.given) o =
       (case_blocks g.text g.given entry is_text o (contains opened k o e)).0 in
       let load = load_is g.text (blocks_of g.text g.given) o c in
-      let above = load.above in
       let below = load.below in
       let l : LoadsEntry g.text o (load_of g.text o) = load_loads g.text (blocks_of g.text g.given) o c in
       let h = jumps_go_by_table g.text g.given entry s0 is_text valid fetches holds begins among o (contains opened k
       o e)
-      n (load_of g.text o) l at above (omega (arith, below)) in
+      n (load_of g.text o) l at load.above (omega (arith, below)) in
       let table = (word_at-some g.text o.switch.table.0 c.table.begins c.table.at).is in
       let from : or_zero (word_at g.text o.switch.table.0) ≡ c.table.begins = ap or_zero c.table.at in
       let there = (word_at-some g.text (o.switch.table.0 + 4 * h.number) h.jumps.entry h.jumps.is).is in
@@ -100,7 +98,7 @@ module _ (g : Setting) (entry : ℕ) (s0 : State) (same : g.switches ≡ opens_i
         came = λ j less.
             let k : h.start + j ≡ j + h.start = omega arith in
             stands (j + h.start) (load_of g.text o + j)
-            (subst (λ (m : ℕ). StandsAt g.text its_graph entry s0 o.block m (load_of g.text o + j)) k (h.stood j less));
+            (rw k at (h.stood j less));
         number = h.number;
         below = h.jumps.below;
         loaded =
@@ -109,26 +107,22 @@ module _ (g : Setting) (entry : ℕ) (s0 : State) (same : g.switches ≡ opens_i
             ≡ address_of g.text (or_zero (word_at g.text o.switch.table.0) + h.number) =
             omega (arith, h.loaded, table, from) in e);
         live = h.jumps.live;
-        goes = h.jumps.goes
-            ∙ ap (slice_index g.text.words) (word ∙ ap (λ (x : ℕ). x + h.number) (sym from));
+        goes = cc (h.jumps.goes, word, from);
       }
 
   pub by_table : JumpsGoByTable g entry s0
   by_table n live k table some at =
       let t = table_of g known k table some in
-      subst (λ (c : CaseTable). GoesByTable g entry s0 c n) t.same
+      rw t.same at
       (goes t.o k n (ap (λ (os : List Open). slice_get os k) (sym same) ∙ t.is)
       (record {
         live = live;
         outside = at.outside;
-        itself = ap (λ (os : List Open). end_of_walk g.text (graph_of (blocks_of g.text g.given) os) entry s0 n) (sym
-            same)
-            ∙ at.itself ∙ ap (λ (c : CaseTable). Block (record { 0 = c.block })) (sym t.same);
+        itself = cc (same, at.itself, t.same);
         at = at.stands ∙ ap (λ (c : CaseTable). Some c.jump) (sym t.same);
       })
       (λ m word s. record {
-        itself = ap (λ (os : List Open). end_of_walk g.text (graph_of (blocks_of g.text g.given) os) entry s0 m) same
-            ∙ s.itself;
+        itself = cc (same, s.itself);
         outside = s.outside;
         stands = s.at;
       }))

@@ -124,7 +124,7 @@ module _ (original : List ℕ) (plan : Plan) (p : Placement) (place : ℕ → �
   unfolding fetch_of
   has_code n word at =
       let inside = slice_get_within p.code n word at in
-      fetched n inside ∙ ap (λ w. Some w) (get_or_from_slice_get p.code n word 0 at)
+      cc (fetched n inside, get_or_from_slice_get p.code n word 0 at)
 
   code_is : code_of (start_memory file texts) ≡ region_of (mapping_added (code_segment original plan p)) ∷ []
   code_is =
@@ -136,5 +136,4 @@ module _ (original : List ℕ) (plan : Plan) (p : Placement) (place : ℕ → �
   pub only_code : (a : ℕ) → IsBeside (code_base original plan) p.code a → fetch_from (code_of (start_memory file texts)) a
       ≡ None
   only_code a beside =
-      ap (λ code. fetch_from code a) code_is ∙ beside_region (region_of (mapping_added (code_segment original plan p))) a
-      beside
+      cc (code_is, beside_region (region_of (mapping_added (code_segment original plan p))) a beside)

@@ -37,7 +37,7 @@ pub data Completes (graph : Graph) : List ℕ → Type 0 where
 pub unknown_lives : (text : Words) (graph : Graph) (named : ℕ → List Part) (e : ℕ)
     → is_unknown (edge_at graph e) ≡ true → (p : Part) → is_member p ≡ true → IsLiveOn text graph named e p
 unknown_lives text graph named e unknown p member =
-    ([], ap (λ (b : Bool). has (if b then every_part else []) p) unknown ∙ has-every_part p ∙ member)
+    ([], cc (unknown, has-every_part p, member))
 
 pub jump_kind : (kind : EdgeKind) → same_kind kind kinds.Out ≡ true → is_call_or_jump kind ≡ true
 jump_kind kinds.Out h = refl
@@ -89,7 +89,7 @@ module _ (graph : Graph) where
           let first = found test e h in
           let second = found other f k in
           two e f first.0 (jumps (edge_at graph e) first.1) second.0
-          (λ same. apart (edge_at graph f) (subst (λ (n : ℕ). test (edge_at graph n) ≡ true) same first.1) second.1)
+          (λ same. apart (edge_at graph f) (rw same at first.1) second.1)
 
   along : (node : Node) (way : WayOut) → Completes graph (edge_along graph node way)
   along node way =
@@ -128,10 +128,10 @@ module _ (graph : Graph) where
       → Completes graph (edge_from graph node kinds.Out ++ landed text graph kinds.Out next)
   jumped text node next None e =
       let nowhere : landed text graph kinds.Out next ≡ [] = rw e refl in
-      subst (λ (ns : List ℕ). Completes graph (edge_from graph node kinds.Out ++ ns)) (sym nowhere) (along_then node (by_kind kinds.Out))
+      rw nowhere (along_then node (by_kind kinds.Out))
   jumped text node next (Some word) e =
       let there : landed text graph kinds.Out next ≡ landing_at graph (lands graph (Some word)) = rw e refl in
-      subst (λ (ns : List ℕ). Completes graph (edge_from graph node kinds.Out ++ ns)) (sym there)
+      rw there
       (at_most_two (jumps_from node) (λ edge. same_node edge.to (lands graph (Some word)) && same_kind edge.kind kinds.Land)
       (λ edge out. or_left (is_call_or_jump edge.kind) (is_outside edge.to) (jump_kind edge.kind (jump_out node edge out)))
       (λ edge out land. out_or_land edge.kind (jump_out node edge out) (and_parts _ _ land).1))

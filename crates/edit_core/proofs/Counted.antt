@@ -50,18 +50,14 @@ split : (place : ℕ → ℕ) (xs : List Item) (n from mid to : ℕ) → from �
 unfolding marked
 split place [] n from mid to l m = omega arith
 split place (x ∷ xs) n from mid to l m =
-    let here = one_split (is_mark x) (place (suc n)) from mid to l m in
-    let later = split place xs (suc n) from mid to l m in
-    omega (arith, here, later)
+    omega (arith, one_split (is_mark x) (place (suc n)) from mid to l m, split place xs (suc n) from mid to l m)
 
 all_split : (place : ℕ → ℕ → ℕ) (pieces : List (List Item)) (k from mid to : ℕ) → from ≤ mid → mid ≤ to
     → all_marked place pieces k from mid + all_marked place pieces k mid to ≤ all_marked place pieces k from to
 unfolding all_marked
 all_split place [] k from mid to l m = omega arith
 all_split place (items ∷ pieces) k from mid to l m =
-    let here = split (place k) items 0 from mid to l m in
-    let later = all_split place pieces (suc k) from mid to l m in
-    omega (arith, here, later)
+    omega (arith, split (place k) items 0 from mid to l m, all_split place pieces (suc k) from mid to l m)
 
 -- ---- a Mark in a span
 
@@ -70,16 +66,14 @@ some_mark : (place : ℕ → ℕ) (xs : List Item) (i n m from to : ℕ) (x : It
 unfolding marked
 some_mark place [] i n m from to x e mark at l h = absurd (cc)
 some_mark place (y ∷ ys) zero n m from to x e mark at l h =
-    let same : y ≡ x = cc in
     let here : m ≡ n = omega (arith, at) in
     let counted : one (is_mark y && between (place (suc n)) from to) ≡ 1 =
     ap (λ z. one (is_mark y && between (place (suc z)) from to)) (sym here)
-    ∙ ap one (and_from _ _ (ap is_mark same ∙ mark)
+    ∙ ap one (and_from _ _ (ap is_mark (cc) ∙ mark)
     (and_from _ _ (le-leb from (place (suc m)) l) (lt-ltb (place (suc m)) to h))) in
     omega (arith, counted)
 some_mark place (y ∷ ys) (suc i) n m from to x e mark at l h =
-    let later = some_mark place ys i (suc n) m from to x e mark (omega (arith, at)) l h in
-    omega (arith, later)
+    omega (arith, some_mark place ys i (suc n) m from to x e mark (omega (arith, at)) l h)
 
 some_marked : (place : ℕ → ℕ → ℕ) (pieces : List (List Item)) (j k m n from to : ℕ) (x : Item)
     → item_at pieces j n ≡ Some x → is_mark x ≡ true → m ≡ k + j → from ≤ place m (suc n) → place m (suc n) < to
@@ -89,11 +83,10 @@ some_marked place [] j k m n from to x e mark at l h = absurd (cc)
 some_marked place (items ∷ pieces) zero k m n from to x e mark at l h =
     let same : m ≡ k = omega (arith, at) in
     let here = some_mark (place m) items n 0 n from to x e mark (omega arith) l h in
-    let there = subst (λ (z : ℕ). 1 ≤ marked (place z) items 0 from to) same here in
+    let there = rw same at here in
     omega (arith, there)
 some_marked place (items ∷ pieces) (suc j) k m n from to x e mark at l h =
-    let later = some_marked place pieces j (suc k) m n from to x e mark (omega (arith, at)) l h in
-    omega (arith, later)
+    omega (arith, some_marked place pieces j (suc k) m n from to x e mark (omega (arith, at)) l h)
 
 -- ---- all Marks
 
@@ -107,17 +100,14 @@ unfolding marked
 few place [] n from to = omega arith
 few place (x ∷ xs) n from to =
     let here = one_few (is_mark x) (between (place (suc n)) from to) in
-    let later = few place xs (suc n) from to in
-    omega (arith, here, later, sum_by-cons (λ (z : Item). cond (is_mark z) 1 0) x xs)
+    omega (arith, here, few place xs (suc n) from to, sum_by-cons (λ (z : Item). cond (is_mark z) 1 0) x xs)
 
 all_few : (place : ℕ → ℕ → ℕ) (pieces : List (List Item)) (k from to : ℕ)
     → all_marked place pieces k from to ≤ sum_by marks_in pieces
 unfolding all_marked
 all_few place [] k from to = omega arith
 all_few place (items ∷ pieces) k from to =
-    let here = few (place k) items 0 from to in
-    let later = all_few place pieces (suc k) from to in
-    omega (arith, here, later, sum_by-cons marks_in items pieces)
+    omega (arith, few (place k) items 0 from to, all_few place pieces (suc k) from to, sum_by-cons marks_in items pieces)
 
 -- ---- ranges
 

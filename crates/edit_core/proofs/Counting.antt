@@ -63,15 +63,14 @@ more_summed : (f : Open → ℕ) (xs : List Open) (i : ℕ) (x : Open) → slice
     → sum_by f (take (suc i) xs) ≡ f x + sum_by f (take i xs)
 more_summed f [] i x e = absurd (cc)
 more_summed f (y ∷ xs) zero x e =
-    let same : f y ≡ f x = ap f (let q : y ≡ x = cc in q) in
-    omega (arith, sum_by-cons f y [], same)
+    omega (arith, sum_by-cons f y [], ap f (let q : y ≡ x = cc in q))
 more_summed f (y ∷ xs) (suc i) x e =
     omega (arith, sum_by-cons f y (take (suc i) xs), sum_by-cons f y (take i xs), more_summed f xs i x e)
 
 pub sum_more : (f : Open → ℕ) (xs : List Open) (i : ℕ) (x : Open) → slice_get xs i ≡ Some x
     → sum_by f (take (i + 1) xs) ≡ f x + sum_by f (take i xs)
 sum_more f xs i x e =
-    ap (λ n. sum_by f (take n xs)) (let q : i + 1 ≡ suc i = omega arith in q) ∙ more_summed f xs i x e
+    cc ((let q : i + 1 ≡ suc i = omega arith in q), more_summed f xs i x e)
 
 -- ---- keys
 
@@ -144,8 +143,7 @@ module _ (graph : Graph) (is : IsGraph graph) where
         here : (t : Bool) → (o.block == from) ≡ t → count_by (is_entry graph o.block key) o.targets
             ≡ count_by (is_at graph to) (if t then o.targets else [])
         here true e = count_same (is_entry graph o.block key) (is_at graph to) o.targets (λ word.
-            ap (λ (t : Bool). t && nat_eq (node_number graph (lands graph (Some word))) (node_number graph to)) e
-            ∙ numbers_tell (lands graph (Some word)) to (landed word) inside)
+            cc (e, numbers_tell (lands graph (Some word)) to (landed word) inside))
         here false e = count_none (is_entry graph o.block key) o.targets (λ word.
             ap (λ (t : Bool). t && nat_eq (node_number graph (lands graph (Some word))) (node_number graph to)) e)
 
@@ -169,11 +167,10 @@ module _ (graph : Graph) (is : IsGraph graph) where
 
     pub led_few : count_by (is_at graph to) (targets_in graph.opens from) ≤ 2 ^ 20
     led_few =
-        let entries = is.opens.entries in
         omega (
           arith,
           count_by-le-length (is_at graph to) (targets_in graph.opens from),
           targets_few graph.opens,
-          entries,
+          is.opens.entries,
           is.few,
         )

@@ -121,10 +121,6 @@ can_write original count z t s w notes sound limit before three few = record {
   where
     above : (n : ℕ) → Ascend (highest_end (image_of original).segments) (if_any n z ++ t ∷ s ∷ w ∷ [])
     above n =
-        let end = three.above in
-        let behind = three.behind in
-        let low = three.low in
-        let page = three.page in
         by n (λ from under. (under, (omega arith, (omega arith, omega arith))))
       where
         by : (n : ℕ) → ((from : ℕ) → from ≤ t.vaddr → Ascend from (t ∷ s ∷ w ∷ []))
@@ -136,12 +132,6 @@ are_numbers : (original : List ℕ) (count : ℕ) (z t s w : AddedSegment) (entr
     → AreThree end t s w → AreBytes original
     → entry < 2 ^ 32 → AreNumbers original (if_any count z ++ t ∷ s ∷ w ∷ []) entry
 are_numbers original count z t s w entry end before three bytes l =
-    let low = three.low in
-    let behind = three.behind in
-    let page = three.page in
-    let size = three.size in
-    let some = three.some in
-    let under = before.behind in
     record {
       bytes = bytes;
       words = all_any HasWords count z (t ∷ s ∷ w ∷ []) (λ _. (omega arith, omega arith, before.cells_flags))
@@ -154,21 +144,13 @@ can_load : (count : ℕ) (z t s w : AddedSegment) (end : ℕ) → AreBefore coun
     → CanLoad (if_any count z ++ t ∷ s ∷ w ∷ [])
 can_load count z t s w end before three =
     let page = three.page in
-    let size = three.size in
-    let few = three.few in
-    let table_few = three.table_few in
-    let low = three.low in
-    let behind = three.behind in
-    let aligned = three.aligned in
-    let whole = three.table_whole in
-    let under = before.behind in
     record {
       pages = all_any (λ x. x.vaddr % 4096 ≡ 0) count z (t ∷ s ∷ w ∷ []) (λ _. before.whole)
-          (all_three (λ x. x.vaddr % 4096 ≡ 0) t s w aligned (omega arith) (ap (λ z. z % 4096) page));
+          (all_three (λ x. x.vaddr % 4096 ≡ 0) t s w three.aligned (omega arith) (ap (λ z. z % 4096) page));
       filled = all_any (λ x. 0 < x.memsz) count z (t ∷ s ∷ w ∷ []) before.filled
           (all_three (λ x. 0 < x.memsz) t s w three.table_some three.some (omega arith));
       reached = all_any IsInReach count z (t ∷ s ∷ w ∷ []) (λ _. inl (omega arith))
-          (all_three IsInReach t s w (inl (omega arith)) (inl low) (inr (page, size)));
+          (all_three IsInReach t s w (inl (omega arith)) (inl three.low) (inr (page, three.size)));
       memory = memory count;
     }
   where
@@ -328,9 +310,8 @@ module _ (original : List ℕ) (plan : Plan) (limit : length original ≤ 2 ^ 26
         blocks = refl;
         edge_count =
             let most = (graph_facts text graph text_is (graph_is original plan)).edge_count in
-            let words = cut.words in
             let few = text_is.few in
-            omega arith;
+            omega (arith, cut.words);
         edges_in = edges_inside text graph text_is (graph_is original plan);
         kind = plan.kind;
         snips = plan.snips;
@@ -340,8 +321,7 @@ module _ (original : List ℕ) (plan : Plan) (limit : length original ≤ 2 ^ 26
         ranges = refl;
         range_count =
             let marks = ranges_few (pieces_of original plan code.dead) (code_base original plan) p place code.laid in
-            let few = fit.marks in
-            omega arith;
+            omega (arith, fit.marks);
         ascend = code.laid.ascend;
         whole = ranges_whole text graph tables_from (cases_at text tables_from)
             (codes_of (cells_base original plan) code.dead plan.snips) text_is (graph_is original plan)
@@ -364,7 +344,6 @@ module _ (original : List ℕ) (plan : Plan) (limit : length original ≤ 2 ^ 26
 
   entry_low : entry_at < 2 ^ 32
   entry_low =
-      let a = (code.laid.aligned (entry_number text graph (image_of original).entry)).1 in
       omega arith
 
   module _ (bytes : AreBytes original) where
@@ -376,9 +355,8 @@ module _ (original : List ℕ) (plan : Plan) (limit : length original ≤ 2 ^ 26
     pub small_file : length (edit_file original plan p table) ≤ 1536 * 2 ^ 20
     small_file =
         let size = size_is_bounded original segments entry_at (notes_bytes notes) can_be_written numbers in
-        let n = notes_few in
         let sum = sum_few plan.cells cells (table_at table) its_code page_segment _ before three in
-        omega (arith, size, sum)
+        omega (arith, notes_few, size, sum)
 
     pub is_edit : IsEdit original plan p place table (edit_file original plan p table)
     is_edit =

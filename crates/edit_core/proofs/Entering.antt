@@ -40,9 +40,7 @@ any_filtered p q from (suc n) k above below passes is = elim (cases_lt from k) [
       (any_filtered p q (from + 1) n k (omega (arith, later)) (omega (arith, below)) passes is)
   | inr here ↦
       let same : from ≡ k = omega (arith, above, here) in
-      ap (λ (t : Bool). list_any p (cond t (from ∷ filter q (range_with_len (from + 1) n))
-      (filter q (range_with_len (from + 1) n)))) (ap q same ∙ passes)
-      ∙ or_left (p from) (list_any p (filter q (range_with_len (from + 1) n))) (ap p same ∙ is)
+      cc (same, passes, or_left (p from) (list_any p (filter q (range_with_len (from + 1) n))) (ap p same ∙ is))
 ]
 
 pub entry_given : (program : Program) (marks : List ℕ) → program.entry < length program.text.words
@@ -78,8 +76,7 @@ module _ (text : Words) (given : List ℕ) (entry : ℕ) (is_text : IsText text)
 
   pub entry_node : node_of (blocks_of text given) (Some entry) ≡ block (holding_of (blocks_of text given) entry)
   entry_node =
-      let words = (cut text given is_text.some).words in
-      node_is (blocks_of text given) entry (omega (arith, low, words))
+      node_is (blocks_of text given) entry (omega (arith, low, (cut text given is_text.some).words))
 
   no_jump : jump_number text its_graph (holding_of (blocks_of text given) entry) ≡ None
   no_jump =
@@ -90,19 +87,15 @@ module _ (text : Words) (given : List ℕ) (entry : ℕ) (is_text : IsText text)
   pub entry_enters : enter_number text its_graph (node_of (blocks_of text given) (Some entry)) entry
       ≡ image_number text its_graph (node_of (blocks_of text given) (Some entry)) entry
   entry_enters =
-      ap (λ (n : Node). enter_number text its_graph n entry) entry_node
-      ∙ ap (λ o. at_open text its_graph (jump_enter text its_graph) o entry) no_jump
-      ∙ sym (ap (λ o. at_open text its_graph (jump_image text its_graph) o entry) no_jump)
-      ∙ sym (ap (λ (n : Node). image_number text its_graph n entry) entry_node)
+      cc (entry_node, no_jump)
 
   -- no open switch has its jump there
   pub entry_outside : (k : ℕ) (o : Open) → slice_get (opens_in text given entry) k ≡ Some o
       → node_of (blocks_of text given) (Some entry) ≡ block o.block → ⊥
   entry_outside k o e same =
-      let here : o.block ≡ holding_of (blocks_of text given) entry = number_is (sym same ∙ entry_node) in
       false≢true (sym (entry_apart text given entry is_text among low)
       ∙ any_at (λ (x : Open). x.block == holding_of (blocks_of text given) entry) (opens_in text given entry) k o e
-      (eq-eqb _ _ here))
+      (eq-eqb _ _ (number_is (sym same ∙ entry_node))))
     where
       number_in : Node → ℕ
       number_in (Block b) = b.0

@@ -65,8 +65,7 @@ all_two P x y px py (suc (suc k)) d l = absurd (omega arith)
 pub word_here : (original : List ℕ) (plan : Plan) (word : ℕ) → word < length (text_of original plan).words
     → word_at (text_of original plan) (address_of (text_of original plan) word) ≡ Some word
 word_here original plan word l =
-    word_at-address (text_of original plan) word ∙ ap (λ (b : Bool). cond b (Some word) None)
-    (lt-ltb word (length (text_of original plan).words) l)
+    cc (word_at-address (text_of original plan) word, lt-ltb word (length (text_of original plan).words) l)
 
 module _ (original : List ℕ) (plan : Plan) (p : Placement) (place : ℕ → ℕ → ℕ) (table : TableAt) (file : List ℕ)
     (is : IsEdit original plan p place table file) where
@@ -135,8 +134,7 @@ module _ (original : List ℕ) (plan : Plan) (p : Placement) (place : ℕ → �
       ∙ any-map note_of plan.cells (mapping_added cells)
       (mapping_added (table_at table) ∷ mapping_added its_code ∷ mapping_added page_segment ∷ [])
       ∙ ap (λ (segments : List NoteSegment). if_any plan.cells (note_of (mapping_added cells)) ++ segments)
-      (ap (λ (a : ℕ). record { start = a; length = length table.bytes } ∷ noted_after) base
-      ∙ ap (λ (n : ℕ). record { start = tables_from; length = n } ∷ noted_after) long)
+      (cc (base, long))
     where
       noted_after : List NoteSegment
       noted_after =
@@ -221,8 +219,7 @@ faithful alike say original plan fit limit bytes can work p place table code =
       pages = has_pages original plan p place table (edit_file original plan p table) is (fit is.code.dead);
       places = places_are original plan p place table (edit_file original plan p table) is say;
       dead = is.code.dead;
-      exact = subst (λ (g : Graph). AreDead (text_of original plan) g (named_on plan.snips) is.code.dead)
-          (sym (view_graph original plan)) is.code.exact;
+      exact = rw (view_graph original plan) is.code.exact;
       runs = alike original plan p place table (edit_file original plan p table) is;
       counters = work.counters;
     }

@@ -84,7 +84,7 @@ module _ (text : Words) (graph : Graph) (is_text : IsText text) (h : IsGraphOf t
   pub graph_facts : IsGraph graph
   unfolding entered_of
   graph_facts =
-      subst IsGraph (sym h.is)
+      rw h.is
       (is_graph (entered_of text h.given) (opens_in text h.given h.entry)
       (edges_in (blocks_of text h.given) (opens_in text h.given h.entry)) (is_list text h.given h.entry is_text)
       (are_open text h.given h.entry is_text) refl)
@@ -92,7 +92,7 @@ module _ (text : Words) (graph : Graph) (is_text : IsText text) (h : IsGraphOf t
   pub edges_inside : Each (IsEdgeIn graph.blocks graph.opens) graph.edges
   edges_inside =
       let f = graph_facts in
-      subst (Each (IsEdgeIn graph.blocks graph.opens)) (sym (ap (λ (g : Graph). g.edges) f.made))
+      rw (ap (λ (g : Graph). g.edges) f.made)
       (edges_lie_in graph.blocks graph.opens f.firsts.some)
 
   -- ---- entries
@@ -145,10 +145,9 @@ are_inside text given entry is_text =
     inside o is =
         let a = about text given entry is_text o is in
         let words = (cut text given is_text.some).words in
-        let last = is.last in
         let jump = is.jump in
         record {
-          compare = omega (arith, words, last, a.last);
+          compare = omega (arith, words, is.last, a.last);
           jump = omega (arith, words, jump, a.jump);
           apart = a.apart;
         }
@@ -167,12 +166,12 @@ module _ (text : Words) (given : List ℕ) (entry : ℕ) (is_text : IsText text)
         let f = any_found (λ (o : Open). o.block == block) (IsInside its entry) opened (are_inside text given entry
         is_text) any in
         let same : f.found.block ≡ block = eqb-true f.found.block block f.passes in
-        subst (λ (k : ℕ). last_word its.firsts its.words k + 1 < its.words) same f.is.jump
+        rw same at f.is.jump
     | inr any ↦
         let f = any_found (λ (o : Open). o.switch.compare.0 == block) (IsInside its entry) opened
         (are_inside text given entry is_text) any in
         let same : f.found.switch.compare.0 ≡ block = eqb-true f.found.switch.compare.0 block f.passes in
-        subst (λ (k : ℕ). last_word its.firsts its.words k + 1 < its.words) same f.is.compare
+        rw same at f.is.compare
   ]
 
   -- the program is entered at the block of no open switch's jump

@@ -93,15 +93,13 @@ instr_same (Some d) o h = absurd (cc)
 
 step_live : (s : State) (o : Option ℕ) → s.ending ≡ None → fetch_of s.memory s.pc ≡ o → step_of s ≡ on_word s o
 unfolding step_of
-step_live s o e f = ap (λ (z : Option Ending). unless_ended s z (on_word s (fetch_of s.memory s.pc))) e
-    ∙ ap (on_word s) f
+step_live s o e f = cc (e, f)
 
 puts_live : (s : State) (o : Option ℕ) (descriptor : ℕ) → s.ending ≡ None → fetch_of s.memory s.pc ≡ o
     → puts_of s descriptor ≡ puts_on_word s o descriptor
 unfolding puts_of
 puts_live s o descriptor e f =
-    ap (λ (z : Option Ending). puts_unless_ended z (puts_on_word s (fetch_of s.memory s.pc) descriptor)) e
-    ∙ ap (λ z. puts_on_word s z descriptor) f
+    cc (e, f)
 
 goes_same : (x : Option Ending) (s v : State) → s.ending ≡ x → s.ending ≡ v.ending
     → (s.ending ≡ None → point_of s ≡ point_of v) → goes_on_at v ≡ goes_on_at s
@@ -110,15 +108,12 @@ goes_same None s v e h k =
     ∙ ap (λ (z : Point). point_unless None z) (sym (k e))
     ∙ sym (ap (λ (z : Option Ending). point_unless z (point_of s)) e)
 goes_same (Some d) s v e h k =
-    ap (λ (z : Option Ending). point_unless z (point_of v)) (sym h ∙ e)
-    ∙ sym (ap (λ (z : Option Ending). point_unless z (point_of s)) e)
+    cc (h, e)
 
 -- the same point, as one
 one_point : (s u : State) → AreAtOnePoint s u → point_of s ≡ point_of u
 one_point s u h =
-    ap (λ (z : ℕ). record { pc = z; npc = s.npc; slot = s.slot }) h.pc
-    ∙ ap (λ (z : ℕ). record { pc = u.pc; npc = z; slot = s.slot }) h.npc
-    ∙ ap (λ (z : Slot). record { pc = u.pc; npc = u.npc; slot = z }) h.slot
+    cc (h.pc, h.npc, h.slot)
 
 -- a load's operands are read
 load_sum : (rs1 : ℕ) (op2 : Op2) (s u : State) → s.window ≡ u.window
@@ -279,7 +274,7 @@ module _ (g : Setting) (entry : ℕ) (Inside : Point → Type 0) (Here : Node �
 
     world_next : (n m : ℕ) (x : IsNext n m) → IsSameWorld pages (s (suc n)) (t (x.on.count + m))
     world_next n m x =
-        subst (λ (z : State). IsSameWorld pages (s (suc n)) z) (sym (arrived n m x))
+        rw (arrived n m x)
         (world_then pages _ _ (does n m) x.on.after x.alike.world x.on.followed)
 
     before : (n m : ℕ) → Links n m → (item : Item) → IsItem item
@@ -295,7 +290,7 @@ module _ (g : Setting) (entry : ℕ) (Inside : Point → Type 0) (Here : Node �
         let go : (does n m).ending ≡ None = sym x.alike.ending ∙ live in
         same_trans item (s (suc n)) (does n m) x.on.after
         (x.alike.items live item is (before n m h item is (r.keeping.back n item k))) (x.on.followed.items go item is
-        (subst (λ (z : ℕ). IsKept g (edges n) z item) x.alike.world.window (r.keeping.live n item k)))
+        (rw x.alike.world.window at (r.keeping.live n item k)))
 
     -- at a load both compute the same address
     sums_next : (n m : ℕ) → Links n m → (x : IsNext n m)
@@ -304,11 +299,10 @@ module _ (g : Setting) (entry : ℕ) (Inside : Point → Type 0) (Here : Node �
     sums_next n m h x live k o is at =
         let c = r.opens.each k o is in
         let instr : instr_in g s0 (suc n) ≡ Some (i.Load loads.LD c.rd o.rs1 o.op2) =
-        ap (λ (z : Option ℕ). instr_of (option_map (λ w. slice_index g.text.words w) z)) at
-        ∙ ap (λ (z : Instr). Some z) c.loads in
+        cc (at, c.loads) in
         load_sum o.rs1 o.op2 (s (suc n)) x.on.after (x.alike.world.window ∙ sym x.on.followed.window)
         (λ item is among. items_next n m h x live item is (r.keeping.reads (suc n) item is live
-        (subst (λ (z : Option Instr). ReadsIn z (s (suc n)).window item) (sym instr) (inr among))))
+        (rw instr (inr among))))
 
     kept_next : (n m : ℕ) → Links n m → (x : IsNext n m)
         → (s (suc n)).ending ≡ None → KeepsLoaded g entry s0 (suc n) (t (x.on.count + m))
@@ -335,23 +329,21 @@ module _ (g : Setting) (entry : ℕ) (Inside : Point → Type 0) (Here : Node �
     linked_next : (n m : ℕ) → Links n m → (x : IsNext n m)
         → (s (suc n)).ending ≡ None → Links (suc n) (x.on.count + m)
     linked_next n m h x live =
-        let v : State = does n m in
         let at = arrived n m x in
         let go : (does n m).ending ≡ None = sym x.alike.ending ∙ live in
         record {
           live = live;
-          here = subst (λ (z : State). Here (node (suc n)) (point (suc n)) z) (sym at)
-              (subst (λ (z : Point). Here (node (suc n)) z x.on.after)
-              (sym (one_point (s (suc n)) (does n m) (x.alike.point live)))
-              (subst (λ (z : Node). Here z (point_of (does n m)) x.on.after) (end_next n) (x.on.here go)));
-          items = λ item is k. subst (λ (z : State). IsSameAt item (s (suc n)) z) (sym at)
+          here = rw at
+              (rw (one_point (s (suc n)) (does n m) (x.alike.point live))
+              (rw (end_next n) at (x.on.here go)));
+          items = λ item is k. rw at
               (items_next n m h x live item is k);
           kept = kept_next n m h x live;
           together = record {
             world = world_next n m x;
             puts = puts_next n m h x;
             cells = ap (cells_in g) at ∙ x.on.cells ∙ ap (λ z. updates g.snips (edges n) z (does n m)) h.together.cells
-                ∙ sym (r.keeping.named n (store n) v live x.alike.world.window
+                ∙ sym (r.keeping.named n (store n) (does n m) live x.alike.world.window
                 (λ item is k. x.alike.items live item is (before n m h item is k)));
           };
         }
@@ -396,10 +388,9 @@ module _ (g : Setting) (entry : ℕ) (Inside : Point → Type 0) (Here : Node �
         record {
           first = over;
           second = ap (λ (z : State). z.ending) at ∙ x.on.followed.ending ∙ ended;
-          node = ap (λ (z : State). node_at g.notes z.pc) at ∙ there_node g (t m) x.on.after (there ended) ∙ x.node
-              ∙ ap (λ (z : Node). Some (number_in g z)) (sym (same_node g entry s0 n d over));
+          node = cc (at, there_node g (t m) x.on.after (there ended), x.node, same_node g entry s0 n d over);
           address = λ place is. visited_address g.notes (t m) (s n).pc place x.visit
-              (sym (there ended).range ∙ sym (ap (λ (z : State). range_at g.notes z.pc) at) ∙ is)
+              (cc ((there ended).range, at, is))
               ∙ sym (step_stays (s n) d h.live over);
           together = record {
             world = world_next n m x;
@@ -419,10 +410,10 @@ module _ (g : Setting) (entry : ℕ) (Inside : Point → Type 0) (Here : Node �
         record {
           first = over;
           second = h.second;
-          node = h.node ∙ ap (λ (z : Node). Some (number_in g z)) (sym (same_node g entry s0 n d over));
+          node = cc (h.node, same_node g entry s0 n d over);
           address = λ place is. h.address place is ∙ sym (ap (λ (z : State). z.pc) stays);
           together = record {
-            world = subst (λ (z : State). IsSameWorld pages z (t m)) (sym stays) h.together.world;
+            world = rw stays h.together.world;
             puts = λ descriptor. ap (λ z. run_puts s0 n descriptor ++ z) (puts_nothing (s n) d descriptor h.first)
                 ∙ append-nil (run_puts s0 n descriptor) ∙ h.together.puts descriptor;
             cells = h.together.cells ∙ sym (same_store g entry s0 n d over);
@@ -504,7 +495,7 @@ module _ (g : Setting) (entry : ℕ) (Inside : Point → Type 0) (Here : Node �
             world = same_outside n m h.together;
           } in
           record {
-            matches = subst (λ (e : Option Ending). MatchesBy e g.notes s0 t0 n m) (sym h.live) on;
+            matches = rw h.live on;
             cells = h.together.cells;
             told = λ some. tells_there n m l h;
             over = λ over. absurd (over h.live);
@@ -515,7 +506,7 @@ module _ (g : Setting) (entry : ℕ) (Inside : Point → Type 0) (Here : Node �
             world = same_outside n m h.together;
           } in
           record {
-            matches = subst (λ (e : Option Ending). MatchesBy e g.notes s0 t0 n m) (sym h.first) on;
+            matches = rw h.first on;
             cells = h.together.cells;
             told = λ some. record { cells = h.together.cells; node = h.node; address = h.address };
             over = λ over. h.node;
@@ -536,8 +527,6 @@ module _ (g : Setting) (entry : ℕ) (Inside : Point → Type 0) (Here : Node �
 
       way_by : (n m : ℕ) (x : IsNext n m) → IsWay g.notes t0 m (x.on.count + m) (limits_in g entry s0 n)
       way_by n m x =
-          let some = x.on.path.some in
-          let few = x.on.path.few in
           record {
             forward = omega arith;
             short = omega arith;
@@ -559,7 +548,7 @@ module _ (g : Setting) (entry : ℕ) (Inside : Point → Type 0) (Here : Node �
             node = same ∙ node_of_place g.notes u.pc place.0 place.1
                 ∙ sym (node_of_place g.notes (t m).pc place.0 there.0) ∙ x.node;
             address = λ other is. visited_address g.notes (t m) (s n).pc other x.visit
-                (there.0 ∙ sym place.1 ∙ sym (ap (λ (z : State). range_at g.notes z.pc) at) ∙ is);
+                (cc (there.0, place.1, at, is));
           }
 
       -- at a visit, or past it
@@ -577,7 +566,7 @@ module _ (g : Setting) (entry : ℕ) (Inside : Point → Type 0) (Here : Node �
       unfolding go_on
       step_on n m h l (inl k) =
           let x = next_of n m h (u.unjudged n k) (inside n (weaken n k) h.live) (inside (suc n) k) in
-          subst (IsStep n m) (sym (moment_by n m h x (s (suc n)).ending refl)) (record {
+          rw (moment_by n m h x (s (suc n)).ending refl) (record {
             goes = λ live. way_by n m x;
             stays = λ d over. absurd (let live : (s n).ending ≡ None = h.live in cc);
             spared = spares_next n m x;

@@ -32,7 +32,7 @@ use Rattle.edit_core.proofs.Completed.{Completes, gone_completes, none, one, two
 ops_on : (snips : List (List Op)) → All (All IsOp) snips → (edge : ℕ) → All IsOp (snippet_on snips edge)
 ops_on snips are edge = elim (cases_lt edge (length snips)) [
   | inl within ↦ are edge [] within
-  | inr past ↦ subst (All IsOp) (sym (get_or_past snips edge [] past)) (λ k d l. absurd (omega (arith, l)))
+  | inr past ↦ rw (get_or_past snips edge [] past) (λ k d l. absurd (omega (arith, l)))
 ]
 
 updates_same : (snips : List (List Op)) → All (All IsOp) snips → (edges cells : List ℕ) (s v : State)
@@ -78,7 +78,7 @@ module _ (g : Setting) (dead : AreDead g.text (graph_in g) (named_on g.snips) g.
       → IsAmong item window (g.dead e) → ⊥
   not_dead e within live among =
       let name = name_among item window (g.dead e) among in
-      let member = member_of name.0 (subst (λ (ps : List Part). has ps name.0 ≡ true) (sym (dead.sets e within)) name.1) in
+      let member = member_of name.0 (rw (dead.sets e within) name.1) in
       live name.0 member ((dead.all e within name.0 member).0 name.1) name.2
     where
       member_of : (p : Part) → has (set_of (g.dead e)) p ≡ true → is_member p ≡ true
@@ -91,8 +91,7 @@ module _ (g : Setting) (dead : AreDead g.text (graph_in g) (named_on g.snips) g.
   kept_by _ (two e f within unknown other apart) behind =
       let first = not_dead e within (λ p member live same.
       live (unknown_lives g.text (graph_in g) (named_on g.snips) e unknown p member)) in
-      let second = not_dead f other (behind (e ∷ []) f refl) in
-      (first, (second, tt))
+      (first, ((not_dead f other (behind (e ∷ []) f refl)), tt))
 
 pub keeps_what_lives : KeepsWhatLives
 keeps_what_lives g entry s0 text fetches begins opened jumps dead are =

@@ -44,9 +44,8 @@ entry_inside text graph snips list is h fit entry l =
     let low : entry < graph.blocks.words = (let same = c.words in omega (arith, l, same)) in
     let below = enter_below text graph (text_graph text graph is h) (block (holding_of graph.blocks entry)) entry
     (in_held graph.blocks.words graph.blocks.firsts c.firsts entry low) in
-    let last = fit.foreign in
-    subst (λ (node : Node). enter_number text graph node entry < length list) (sym (node_is graph.blocks entry low))
-    (omega (arith, below, last))
+    rw (node_is graph.blocks entry low)
+    (omega (arith, below, fit.foreign))
 
 -- ---- the pieces that were made of a view, and where they were placed
 
@@ -72,8 +71,7 @@ module _ {image : Program} {graph : Graph} {asked : Asked} {pieces : List (List 
 
   cases_are : (p : Placement) → map (λ (n : PieceNo). slice_index p.at n.0) ways ≡ case_places image.text graph p
   cases_are p =
-      sym (map-map (λ (k : ℕ). slice_index p.at k) (λ (n : PieceNo). n.0) ways)
-      ∙ ap (map (λ (k : ℕ). slice_index p.at k)) made.cases
+      cc (map-map (λ (k : ℕ). slice_index p.at k) (λ (n : PieceNo). n.0) ways, made.cases)
 
   -- tables that lead to their places are those of the edit
   pub tables_lead : (p : Placement) (table : TableAt)
@@ -81,12 +79,9 @@ module _ {image : Program} {graph : Graph} {asked : Asked} {pieces : List (List 
       (addr (slice_index p.at outside.0)) (map (λ (n : PieceNo). slice_index p.at n.0) ways) table
       → LeadsTo image.text graph asked.snips.items p table
   tables_lead p table are =
-      subst (λ (places : List ℕ). AreTablesOf image.text (landings_of image.text graph asked.snips.items p)
-      (foreign_of image.text graph p) places table) (cases_are p)
-      (subst (λ (n : ℕ). AreTablesOf image.text (landings_of image.text graph asked.snips.items p)
-      (addr (slice_index p.at n)) (map (λ (n : PieceNo). slice_index p.at n.0) ways) table) made.foreign
-      (subst (λ (targets : List Addr). AreTablesOf image.text targets (addr (slice_index p.at outside.0))
-      (map (λ (n : PieceNo). slice_index p.at n.0) ways) table) (landings_are p) are))
+      rw (cases_are p) at
+      (rw made.foreign at
+      (rw (landings_are p) at are))
 
   -- and the code is that of the edit
   pub code_built : (p : Placement) (place : ℕ → ℕ → ℕ)
@@ -97,10 +92,8 @@ module _ {image : Program} {graph : Graph} {asked : Asked} {pieces : List (List 
     dead = made.dead;
     exact = made.exact;
     place = place;
-    are = subst (λ (n : ℕ). AreLaid (pieces_by image.text graph image.base asked.cells made.dead asked.snips.items)
-        (table_after image.base asked.cells + (tables_size image.text + cells_size n)) p place) cases_count
-        (subst (λ (list : List (List Item)). AreLaid list
-        (table_after image.base asked.cells + (tables_size image.text + cells_size (length ways))) p place) made.list
+    are = rw cases_count at
+        (rw made.list at
         laid);
   }
 
@@ -108,7 +101,7 @@ module _ {image : Program} {graph : Graph} {asked : Asked} {pieces : List (List 
 
   module _ (fits : PiecesFit) (can : HasRoom image graph asked) where
     pub made_fit : AreFit image.text graph asked.snips.items pieces
-    made_fit = subst (AreFit image.text graph asked.snips.items) (sym made.list) (new_fit fits can made.dead)
+    made_fit = rw made.list (new_fit fits can made.dead)
 
     landings_inside : All (λ (n : PieceNo). n.0 < length pieces) words
     landings_inside k d l =
@@ -121,7 +114,7 @@ module _ {image : Program} {graph : Graph} {asked : Asked} {pieces : List (List 
     cases_inside : All (λ (n : PieceNo). n.0 < length pieces) ways
     cases_inside k d l =
         let number : (get_or ways k d).0 ≡ get_or (case_numbers image.text graph) k 0 =
-        sym (get_or-map (λ (n : PieceNo). n.0) ways k d 0 l) ∙ ap (λ (ns : List ℕ). get_or ns k 0) made.cases in
+        cc (get_or-map (λ (n : PieceNo). n.0) ways k d 0 l, made.cases) in
         omega (
           arith,
           number,
@@ -134,21 +127,18 @@ module _ {image : Program} {graph : Graph} {asked : Asked} {pieces : List (List 
     made_inside = record {
       landing = landings_inside;
       cases = cases_inside;
-      foreign = subst (λ (n : ℕ). n < length pieces) (sym made.foreign) made_fit.foreign;
-      entry = subst (λ (n : ℕ). n < length pieces) (sym made.entry)
+      foreign = rw made.foreign made_fit.foreign;
+      entry = rw made.entry
           (entry_inside image.text graph asked.snips.items pieces can.text can.graph made_fit image.entry made.begins);
     }
 
     pub cases_few : length ways ≤ 2 ^ 22
     cases_few =
-        let few = can.text.few in
-        omega (arith, cases_count, entries_few image.text graph can.text can.graph, few)
+        omega (arith, cases_count, entries_few image.text graph can.text can.graph, can.text.few)
 
     -- and there is room for them, behind the cells and the tables
     pub made_room : cells_size asked.cells + (tables_size image.text + cells_size (length ways)) + long_bytes pieces
         ≤ image.room
     made_room =
-        subst (λ (n : ℕ). cells_size asked.cells + (tables_size image.text + cells_size n) + long_bytes pieces
-        ≤ image.room) (sym cases_count)
-        (subst (λ (list : List (List Item)). cells_size asked.cells + segment_size image.text graph + long_bytes list
-        ≤ image.room) (sym made.list) (new_room fits can made.dead))
+        rw cases_count
+        (rw made.list (new_room fits can made.dead))

@@ -33,8 +33,7 @@ none_covers : (file : List ℕ) (hs : List ProgramHeader) (n address : ℕ)
     → find (covers address) (map kept (map (mapping_of file) hs)) ≡ None
 none_covers file [] n address above = refl
 none_covers file (h ∷ hs) n address above =
-    let ends = end_from hs (max n (h.p_vaddr + h.p_memsz)) in
-    let below : h.p_vaddr + h.p_memsz < address + 4 = omega arith in
+    let below : h.p_vaddr + h.p_memsz < address + 4 = omega (arith, end_from hs (max n (h.p_vaddr + h.p_memsz))) in
     passed (nat_le h.p_vaddr address) (nat_le (address + 4) (h.p_vaddr + h.p_memsz)) (kept (mapping_of file h))
     (find (covers address) (map kept (map (mapping_of file) hs)))
     (lt-leb (address + 4) (h.p_vaddr + h.p_memsz) below)
@@ -44,7 +43,6 @@ pub original_covers : (original : List ℕ) (address : ℕ) → (image_of origin
     → find (covers address) (map kept (mappings original)) ≡ None
 unfolding mappings image_of
 original_covers original address above =
-    let end = base_above original in
     none_covers original (loadable (program_headers original)) 0 address (omega arith)
 
 -- a word among words as bytes
@@ -54,8 +52,7 @@ unfolding words_bytes
 word_among [] word inside all = absurd (omega arith)
 word_among (w ∷ words) zero inside all = big_number-reads_back 4 w (words_bytes words) (all zero w (omega arith))
 word_among (w ∷ words) (suc word) inside all =
-    let next : 4 * suc word ≡ length (big_bytes 4 w) + 4 * word = omega arith in
-    ap (λ at. big_number 4 (drop at (big_bytes 4 w ++ words_bytes words))) next
+    ap (λ at. big_number 4 (drop at (big_bytes 4 w ++ words_bytes words))) (omega arith)
     ∙ ap (big_number 4) (drop-append-add (big_bytes 4 w) (words_bytes words) (4 * word))
     ∙ word_among words word (omega arith) (λ k d below. all (suc k) d (omega arith))
 
@@ -93,7 +90,4 @@ code_mapped original file words count cells table code more all fits base before
     ∙ ap (λ (b : Bool). cond b (Some code) (find (covers address) more))
     (and_from _ _ (le-leb code.start address (omega arith)) (le-leb (address + 4) (code.start + code.length)
     (omega arith))) in
-    ap (option_map (λ m. big_number 4 (drop (address - m.start) m.first))) is_found
-    ∙ ap (λ at. Some (big_number 4 (drop at code.first))) here
-    ∙ ap (λ bytes. Some (big_number 4 (drop (4 * n) bytes))) first
-    ∙ ap (λ w. Some w) (word_among words n inside fits)
+    cc (is_found, here, first, word_among words n inside fits)

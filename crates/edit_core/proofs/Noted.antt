@@ -108,8 +108,7 @@ uncounted_rule graph kind width cells none [] snips each = refl
 uncounted_rule graph kind width cells none (e ∷ es) [] each = refl
 uncounted_rule graph kind width cells none (e ∷ es) (ops ∷ snips) each =
     and_from _ _ (ends_rule graph kind width cells [] e ops each.0 (ap (is_free width cells []) (none ops)))
-    (ap (λ (o : Option ℕ). are_edges width (length graph.blocks.firsts) cells (with_cell o [])
-    (note_edges graph kind es snips)) (none ops) ∙ uncounted_rule graph kind width cells none es snips each.1)
+    (cc (none ops, uncounted_rule graph kind width cells none es snips each.1))
 
 -- in a profile each counter has the next two cells
 counted_rule : (graph : Graph) (cells next : ℕ) (taken : List ℕ) → next % 2 ≡ 0 → Each (λ other. other < next) taken
@@ -245,18 +244,13 @@ module _ (graph : Graph) (size : ℕ) (p : Placement) (n : Notes) (is : IsNoted 
 
   ranges_few : length n.ranges ≤ 2 ^ 23 + 1
   ranges_few =
-      let count = length-append (off_ranges is.text graph table) p.ranges in
-      let few = off_few is.text graph table in
-      omega (arith, ap length is.ranges, count, few, is.range_count)
+      omega (arith, ap length is.ranges, length-append (off_ranges is.text graph table) p.ranges, off_few is.text graph table, is.range_count)
 
   edges_fewer : length n.edges ≤ length graph.edges
   edges_fewer = rw is.edges (edges_count graph is.kind graph.edges is.snips)
 
   behind_rule : (end : ℕ) → end ≤ table → are_segments end behind ≡ true
   behind_rule end under =
-      let s = is.some in
-      let t = is.table.0 in
-      let l = is.low in
       rw (
         le-leb end table under,
         lt-ltb 0 size (omega arith),
@@ -274,7 +268,6 @@ module _ (graph : Graph) (size : ℕ) (p : Placement) (n : Notes) (is : IsNoted 
           → are_segments 0 (if_any count (record { start = n.base; length = 4 * count }) ++ behind) ≡ true
       by zero same = behind_rule 0 (omega arith)
       by (suc k) same =
-          let l = is.low in
           and_from _ _
           (rw (
             le-leb 0 n.base (omega arith),
@@ -304,14 +297,12 @@ module _ (graph : Graph) (size : ℕ) (p : Placement) (n : Notes) (is : IsNoted 
   off_rule : (edge : Edge) → IsEdgeIn graph.blocks graph.opens edge
       → are_ranges nodes pages 0 ((off_range is.text graph table edge ∷ []) ++ p.ranges) ≡ true
   off_rule edge inside =
-      let four = is.table.0 in
       let base : table % 4 ≡ 0 = omega (arith, is.base) in
-      let text = is.is_text in
       and_from _ _
       (rw (
         eq-eqb (table % 4) 0 base,
         eq-eqb ((table + 4) % 4) 0 (omega arith),
-        eq-eqb (address_of is.text (length is.text.words) % 4) 0 (omega (arith, text.aligned)),
+        eq-eqb (address_of is.text (length is.text.words) % 4) 0 (omega (arith, is.is_text.aligned)),
         lt-ltb table (table + 4) (omega arith),
         le-leb 0 table (omega arith),
         table_holds table (table + 4) (omega arith) (omega arith),
@@ -327,21 +318,17 @@ module _ (graph : Graph) (size : ℕ) (p : Placement) (n : Notes) (is : IsNoted 
   pages_count : length n.segments ≤ 4
   pages_count =
       let page : NoteSegment = record { start = n.base; length = 4 * n.cells } in
-      let front = any_length n.cells page in
-      let all = length-append (if_any n.cells page) behind in
-      omega (arith, ap length is.segments, front, all)
+      omega (arith, ap length is.segments, any_length n.cells page, length-append (if_any n.cells page) behind)
 
   pub are_notes : AreNotes n
   are_notes =
       let text = is.is_text in
       let f = is.firsts in
-      let low = is.low in
-      let r = ranges_few in
       let blocks = ap length is.blocks in
       record {
         version = ap is_version is.version;
         delta = is.delta_from;
-        tool = subst (λ (version : ℕ). n.tool ≤ last_tool version) (sym is.version) is.tool;
+        tool = rw is.version is.tool;
         start = (ap (λ z. z % 4) is.start ∙ text.aligned, omega (arith, is.start, text.above));
         words = (
           omega (arith, is.words, text.some),
@@ -350,7 +337,7 @@ module _ (graph : Graph) (size : ℕ) (p : Placement) (n : Notes) (is : IsNoted 
         );
         entry = omega (arith, is.entry, blocks);
         base = (is.base, omega (arith, is.cells));
-        cells = subst (λ (version : ℕ). n.cells ≤ most_cells version) (sym is.version) is.cells;
+        cells = rw is.version is.cells;
         segment_count = omega (arith, pages_count);
         segments = rw (is.segments) segments_rule;
         block_count = omega (arith, blocks, f.few, is.graph_words, is.words);
@@ -358,17 +345,14 @@ module _ (graph : Graph) (size : ℕ) (p : Placement) (n : Notes) (is : IsNoted 
             (λ b e l. absurd (cc)) (λ e l. f.begin) f.ascend f.within);
         edge_count = omega (arith, edges_fewer, is.edge_count);
         edges = rw (is.version, is.edges, is.blocks) (edges_rule graph is.kind n.cells graph.edges is.snips is.edges_in is.counters is.below);
-        range_count = omega (arith, r);
+        range_count = omega (arith, ranges_few);
         ranges = rw (is.segments, is.ranges, is.blocks) all_rule;
       }
 
   pub are_words : AreWords n
   are_words =
       let text = is.is_text in
-      let low = is.low in
       let r = ranges_few in
-      let f = is.firsts in
-      let blocks = ap length is.blocks in
       let numbers : List ℕ = n.delta ∷ n.length ∷ n.tool ∷ n.start ∷ n.words ∷ n.entry ∷ n.base ∷ n.cells ∷ [] in
       let areas : List ℕ = length n.segments ∷ flat_map segment_words n.segments in
       let firsts : List ℕ = length n.blocks ∷ n.blocks in
@@ -396,7 +380,7 @@ module _ (graph : Graph) (size : ℕ) (p : Placement) (n : Notes) (is : IsNoted 
         omega (arith, pages_count),
         rw (is.segments) segment_words_fit,
       ))
-      (omega (arith, blocks, nodes_few), rw (is.blocks) first_words)) (
+      (omega (arith, ap length is.blocks, nodes_few), rw (is.blocks) first_words)) (
         omega (arith, edges_fewer, is.edge_count),
         rw (is.edges) (rows_fit edge_words (note_edges graph is.kind graph.edges is.snips)
             (edges_fit graph is.kind n.cells graph.edges is.snips nodes_few is.cells is.edges_in is.below)),
@@ -405,7 +389,6 @@ module _ (graph : Graph) (size : ℕ) (p : Placement) (n : Notes) (is : IsNoted 
     where
       segment_words_fit : Each Fits (flat_map segment_words pages)
       segment_words_fit =
-          let low = is.low in
           rows_fit segment_words pages (each_any (λ segment. Each Fits (segment_words segment)) n.cells
           (record { start = n.base; length = 4 * n.cells }) behind (λ some. (omega arith, (omega arith, tt)))
           ((omega arith, (omega arith, tt)), ((omega arith, (omega arith, tt)), ((omega arith, (omega arith, tt)), tt))))
@@ -413,8 +396,6 @@ module _ (graph : Graph) (size : ℕ) (p : Placement) (n : Notes) (is : IsNoted 
       off_fits : (edge : Edge) → IsEdgeIn graph.blocks graph.opens edge
           → Each (λ range. Each Fits (range_words range)) (off_range is.text graph table edge ∷ [])
       off_fits edge inside =
-          let low = is.low in
-          let below = is.is_text.below in
           let node = node_few graph edge.from inside.from in
           ((omega arith, (omega arith, (omega arith, (omega (arith, node, nodes_few), tt)))), tt)
 
@@ -428,16 +409,13 @@ module _ (graph : Graph) (size : ℕ) (p : Placement) (n : Notes) (is : IsNoted 
 
       first_words : Each Fits graph.blocks.firsts
       first_words = each_all Fits graph.blocks.firsts (λ k d l.
-          let within : slice_index graph.blocks.firsts k < graph.blocks.words = is.firsts.within k l in
-          let same = get_or_default_zero graph.blocks.firsts k d l in
-          omega (arith, within, same, is.graph_words, is.is_text.few))
+          omega (arith, is.firsts.within k l, get_or_default_zero graph.blocks.firsts k d l, is.graph_words, is.is_text.few))
 
   -- how many bytes they take
   pub few_bytes : length (notes_bytes n) ≤ 2 ^ 28
   unfolding notes_bytes words_bytes
   few_bytes =
       let text = is.is_text in
-      let r = ranges_few in
       let blocks = ap length is.blocks in
       let w = length-flat_map (big_bytes 4) 4 (length-bytes_high_first 4) (notes_words n) in
       let numbers : List ℕ = n.delta ∷ n.length ∷ n.tool ∷ n.start ∷ n.words ∷ n.entry ∷ n.base ∷ n.cells ∷ [] in
@@ -453,7 +431,7 @@ module _ (graph : Graph) (size : ℕ) (p : Placement) (n : Notes) (is : IsNoted 
       let most = pages_count in
       let e = length-flat_map edge_words 4 (λ x. refl) n.edges in
       let g = length-flat_map range_words 4 (λ x. refl) n.ranges in
-      omega (arith, nodes_few, edges_fewer, is.edge_count, text.few)
+      omega (arith, ranges_few, nodes_few, edges_fewer, is.edge_count, text.few)
 
 -- where no edge or no snippet is left
 pub none_first : (graph : Graph) (kind : ToolKind) (edges : List Edge) (snips : List (List Op)) → length edges ≡ 0

@@ -36,8 +36,7 @@ found_in : {A : Type 0} (p : A → Bool) (Q : A → Type 0) (xs : List A) (k : �
     → p x ≡ true → IsFound p Q xs
 found_in p Q [] k x each e is = absurd (cc)
 found_in p Q (y ∷ ys) zero x each e is =
-    let same : y ≡ x = cc in
-    let here : p y ≡ true = ap p same ∙ is in
+    let here : p y ≡ true = ap p (cc) ∙ is in
     record { found = y; at = ap (λ b. cond b (Some y) (find p ys)) here; passes = here; each = each.0 }
 found_in p Q (y ∷ ys) (suc k) x each e is = by (p y) refl (found_in p Q ys k x each.1 e is)
   where
@@ -65,7 +64,6 @@ module _ (b : Blocks) (firsts : AreFirsts b.words b.firsts) where
       → block ≡ length b.firsts - 1
   last_block block l off = elim (cases_lt (suc block) (length b.firsts)) [
     | inl more ↦
-        let next = firsts.within (suc block) more in
         let above = firsts.ascend block (suc block) (omega arith) more in
         absurd (grind (arith, nat_tests))
     | inr past ↦ omega arith
@@ -87,8 +85,7 @@ module _ (b : Blocks) (firsts : AreFirsts b.words b.firsts) where
   edge_last : (edge : Edge) (block : ℕ) (kind : EdgeKind) → block < length b.firsts → edge.from ≡ block_at block
       → edge.slot ≡ slot_on b block kind → IsLast edge
   edge_last edge block kind l from slot e =
-      from ∙ ap (λ (n : ℕ). Block (record { 0 = n }))
-      (slot_last block l (runs_slot (end_of b block) kind) (ap is_behind (sym slot) ∙ e))
+      cc (from, slot_last block l (runs_slot (end_of b block) kind) (ap is_behind (sym slot) ∙ e))
 
   -- behind the last word of a block that has a copy the text goes on
   module _ (opens : List Open) (goes_on : (block : ℕ) → is_copied opens block ≡ true
@@ -98,8 +95,7 @@ module _ (b : Blocks) (firsts : AreFirsts b.words b.firsts) where
     no_slot block copied false e = absurd (cc)
     no_slot block copied true e =
         let more : nat_lt (last_word b.firsts b.words block + 1) b.words ≡ true = lt-ltb _ _ (goes_on block copied) in
-        false≢true (ap (λ (inside : Bool). is_behind (cond inside
-        (slots.Word (record { 0 = last_word b.firsts b.words block + 1 })) slots.Off)) (sym more) ∙ e)
+        false≢true (cc (more, e))
 
     own_last : (block : ℕ) → block < length b.firsts → Each IsLast (edges_of b opens block)
     own_last block l =
@@ -150,13 +146,11 @@ module _ (text : Words) (graph : Graph) (table : ℕ) where
       → slice_get graph.edges number ≡ Some edge → edge.slot ≡ slots.Off
       → off_ranges text graph table ≡ off_range text graph table edge ∷ []
   off_is edges firsts goes_on number edge at off =
-      let all : Each (IsLast graph.blocks firsts) graph.edges = subst (Each (IsLast graph.blocks firsts)) (sym edges)
+      let all : Each (IsLast graph.blocks firsts) graph.edges = rw edges
       (all_last graph.blocks firsts graph.opens goes_on) in
       let here : is_off edge ≡ true = ap is_behind off in
       let one = found_in is_off (IsLast graph.blocks firsts) graph.edges number edge all at here in
-      ap (λ o. option_to_list (option_map (off_range text graph table) o)) one.at
-      ∙ ap (λ (r : NoteRange). r ∷ [])
-      (range_is one.found edge (one.each one.passes ∙ sym (own_last all number edge at here)))
+      rw (one.at, range_is one.found edge (one.each one.passes ∙ sym (own_last all number edge at here)))
     where
       own_last : Each (IsLast graph.blocks firsts) graph.edges → (k : ℕ) (e : Edge) → slice_get graph.edges k ≡ Some e
           → is_off e ≡ true
@@ -182,7 +176,7 @@ module _ (text : Words) (graph : Graph) (table : ℕ) where
         where
           pick : (b : Bool) → is_off x ≡ b → cond b (Some x) (find is_off xs) ≡ Some edge
               → (find is_off xs ≡ Some edge → Q edge) → Q edge
-          pick true is e later = let same : x ≡ edge = cc in subst Q same each.0
+          pick true is e later = let same : x ≡ edge = cc in rw same at each.0
           pick false is e later = later e
 
       by : (o : Option Edge) → find is_off graph.edges ≡ o

@@ -90,7 +90,7 @@ IsEither base cells a = IsWordOf (page_word 0) 8 a ⊎ IsWordOf base cells a
 own_either : (base cells a : ℕ) → IsAmongWords (own_words base cells) a → IsEither base cells a
 own_either base cells a among = elim (among_either (words_from (page_word 0) 8) (words_from base cells) a among) [
   | inl here ↦ inl (word_of (page_word 0) 0 8 a here)
-  | inr there ↦ inr (subst (λ (n : ℕ). IsWordOf base n a) (let e : 0 + cells ≡ cells = omega arith in e)
+  | inr there ↦ inr (rw (let e : 0 + cells ≡ cells = omega arith in e) at
       (word_of base 0 cells a there))
 ]
 
@@ -155,7 +155,7 @@ pub is_framed : (original : List ℕ) (plan : Plan) (p : Placement) (table : Tab
     → table.base ≡ table_base original plan → LeadsTo (text_of original plan) (graph_in original plan) plan.snips p table
     → IsFramed g (frame (text_of original plan) (cells_base original plan) plan.cells table)
 is_framed original plan p table g same base leads = record {
-  own = subst (λ (n : Notes). AreOwn (pages_of n) own) (sym same) (record { first = inl refl; within = within });
+  own = rw same (record { first = inl refl; within = within });
   page = λ n l. among_first (words_from (page_word 0) 8) (words_from (cells_base original plan) plan.cells) (page_word n)
       (among_words (page_word 0) 0 8 n (omega arith) (omega (arith, l)));
   table = table_in (second_table text table) (omega (arith, second_long)) (omega (arith, second_long, size));
@@ -180,7 +180,7 @@ is_framed original plan p table g same base leads = record {
 
     there : (a : ℕ) → IsIn (if_any plan.cells (cells_span original plan p) ++ behind_spans original plan p) a
         → IsIn (pages_of (notes_on original plan p)) a
-    there a is = subst (λ (pages : List Span). IsIn pages a) (sym (spans_are original plan p)) is
+    there a is = rw (spans_are original plan p) is
 
     by : (a : ℕ) → IsEither (cells_base original plan) plan.cells a → IsIn (pages_of (notes_on original plan p)) a
     by a (inl is) = there a (in_any plan.cells (cells_span original plan p) (behind_spans original plan p) a
@@ -195,7 +195,7 @@ is_framed original plan p table g same base leads = record {
     table_in : (part : TableAt) → table.base ≤ part.base
         → part.base + length part.bytes ≤ table.base + length table.bytes → IsTableIn g own part
     table_in part above below = record {
-      within = λ a from to. subst (λ (n : Notes). IsIn (pages_of n) a) (sym same)
+      within = λ a from to. rw same
           (there a (in_any plan.cells (cells_span original plan p) (behind_spans original plan p) a
           (inl (omega (arith, from, base, above), omega (arith, to, base, below, size)))));
       apart = λ a among. beside a (own_either (cells_base original plan) plan.cells a among);
@@ -347,15 +347,12 @@ module _ (original : List ℕ) (plan : Plan) (p : Placement) (place : ℕ → �
   found_behind : (q : Region → Bool) → find q kept_regions ≡ None → (0 < plan.cells → q cells_region ≡ false)
       → find q memory.regions ≡ find q behind
   found_behind q none beside =
-      found_in q
-      ∙ ap (λ (found : Option Region). option_or found (option_or (find q (if_any plan.cells cells_region)) (find q behind)))
-      none ∙ ap (λ (found : Option Region). option_or found (find q behind)) (any_none q plan.cells cells_region beside)
+      cc (found_in q, none, any_none q plan.cells cells_region beside)
 
   -- nothing that is kept has words above the original
   kept_none : (a : ℕ) → cells_from ≤ a → find (covers a 4) kept_regions ≡ None
   kept_none a above =
-      find_regions (covers a 4) (map kept (mappings original))
-      ∙ ap (option_map region_of) (original_covers original a above)
+      rw (find_regions (covers a 4) (map kept (mappings original)), original_covers original a above)
 
   -- each region behind the cells lacks a word, or some bytes
   record IsBeside (a from count : ℕ) : Type 0 where
@@ -368,7 +365,7 @@ module _ (original : List ℕ) (plan : Plan) (p : Placement) (place : ℕ → �
       → HasNot a (find (covers from count) (if_any plan.cells cells_region)) → IsBeside a from count
       → HasNot a (find (covers from count) memory.regions)
   alone_among a from count none front beside =
-      subst (HasNot a) (sym (found_in (covers from count)))
+      rw (found_in (covers from count))
       (or_has_not a (find (covers from count) kept_regions) _ (found_has_not kept_regions a from count none)
       (or_has_not a (find (covers from count) (if_any plan.cells cells_region)) _ front
       (unless_found a (covers from count table_region) table_region _ beside.tables
@@ -387,16 +384,14 @@ module _ (original : List ℕ) (plan : Plan) (p : Placement) (place : ℕ → �
 
     table_found : find (covers a 4) memory.regions ≡ Some table_region
     table_found =
-        let base = is.code.base in
-        found_behind (covers a 4) (kept_none a (omega (arith, base, from))) cells_below
+        found_behind (covers a 4) (kept_none a (omega (arith, is.code.base, from))) cells_below
         ∙ ap (λ (b : Bool). cond b (Some table_region)
         (find (covers a 4) (code_region ∷ page_region ∷ stack_region texts ∷ [])))
         (and_from _ _ (le-leb table.base a from) (le-leb (a + 4) (table.base + length table.bytes) to))
 
     table_at_all : region_at memory a 4 ≡ Some table_region
     table_at_all =
-        ap (λ (b : Bool). cond b (Some empty_heap) (find (covers a 4) memory.regions))
-        (heap_low a (omega (arith, to, table_below))) ∙ table_found
+        cc (heap_low a (omega (arith, to, table_below)), table_found)
 
     word_of_table : HasWordAt a false memory
     word_of_table = record {
@@ -413,7 +408,7 @@ module _ (original : List ℕ) (plan : Plan) (p : Placement) (place : ℕ → �
   table_bytes : table_region.bytes ≡ table.bytes
   table_bytes =
       let none : length table.bytes - length table.bytes ≡ 0 = omega arith in
-      ap (λ (n : ℕ). table.bytes ++ replicate n 0) none ∙ append-nil table.bytes
+      cc (none, append-nil table.bytes)
 
   stands : StandsAt memory table
   stands = regions_stand memory table table_region refl table_bytes refl table_at_all
@@ -444,15 +439,11 @@ module _ (original : List ℕ) (plan : Plan) (p : Placement) (place : ℕ → �
   module _ (a : ℕ) (of : IsWordOf (page_word 0) 8 a) where
     none_kept : find (covers a 4) kept_regions ≡ None
     none_kept =
-        let low = (accepted-program original is.taken.sound).below in
-        let from = of.from in
-        kept_none a (omega (arith, low, from))
+        kept_none a (omega (arith, (accepted-program original is.taken.sound).below, of.from))
 
     cells_low : 0 < plan.cells → covers a 4 cells_region ≡ false
     cells_low some =
-        let from = of.from in
-        let base = is.code.base in
-        past_covers a cells_region (omega (arith, table_below, base, from))
+        past_covers a cells_region (omega (arith, table_below, is.code.base, of.from))
 
     table_low : covers a 4 table_region ≡ false
     table_low = let from = of.from in none_covers a table_region (omega (arith, table_below, from))
@@ -470,11 +461,7 @@ module _ (original : List ℕ) (plan : Plan) (p : Placement) (place : ℕ → �
 
     page_found : find (covers a 4) memory.regions ≡ Some page_region
     page_found =
-        found_behind (covers a 4) none_kept cells_low ∙ ap (λ (b : Bool). cond b (Some table_region)
-        (find (covers a 4) (code_region ∷ page_region ∷ stack_region texts ∷ []))) table_low
-        ∙ ap (λ (b : Bool). cond b (Some code_region) (find (covers a 4) (page_region ∷ stack_region texts ∷ [])))
-        code_low
-        ∙ ap (λ (b : Bool). cond b (Some page_region) (find (covers a 4) (stack_region texts ∷ []))) page_covers
+        cc (found_behind (covers a 4) none_kept cells_low, table_low, code_low, page_covers)
 
     word_at_page : HasWordAt a true memory
     word_at_page = let from = of.from in record {
@@ -515,10 +502,7 @@ module _ (original : List ℕ) (plan : Plan) (p : Placement) (place : ℕ → �
 
     pub cell_found : find (covers a 4) memory.regions ≡ Some cells_region
     cell_found =
-        found_in (covers a 4) ∙ ap (λ (found : Option Region). option_or found
-        (option_or (find (covers a 4) (if_any plan.cells cells_region)) (find (covers a 4) behind))) cell_kept
-        ∙ ap (λ (found : Option Region). option_or found (find (covers a 4) behind))
-        (any_some (covers a 4) plan.cells cells_region of.some cell_covers)
+        cc (found_in (covers a 4), cell_kept, any_some (covers a 4) plan.cells cells_region of.some cell_covers)
 
     word_at_cell : HasWordAt a true memory
     word_at_cell = record {
@@ -563,7 +547,7 @@ module _ (original : List ℕ) (plan : Plan) (p : Placement) (place : ℕ → �
         not_found false no_way = refl
 
         front_has_not : {o : Option Region} → o ≡ None → HasNot a o
-        front_has_not e = subst (HasNot a) (sym e) tt
+        front_has_not e = rw e tt
 
   either_word : (a : ℕ) → IsEither cells_from plan.cells a → HasWordAt a true memory
   either_word a (inl is) = word_at_page a is
@@ -597,5 +581,4 @@ module _ (original : List ℕ) (plan : Plan) (p : Placement) (place : ℕ → �
     where
       all_found : (a : ℕ) → IsWordOf cells_from plan.cells a → region_at memory a 4 ≡ Some cells_region
       all_found a of =
-          ap (λ (b : Bool). cond b (Some empty_heap) (find (covers a 4) memory.regions))
-          (heap_low a (omega (arith, cells_under a of, table_below))) ∙ cell_found a of
+          cc (heap_low a (omega (arith, cells_under a of, table_below)), cell_found a of)

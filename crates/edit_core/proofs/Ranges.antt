@@ -34,7 +34,7 @@ ends_by from to (r ∷ rs) a = let e = ends_by r.hi to rs a.2 in let f = a.0 in 
 begins_by : (from to : ℕ) (rs : List NoteRange) → Ascend from to rs → (n : ℕ) (r : NoteRange) → slice_get rs n ≡ Some r
     → from ≤ r.lo
 begins_by from to [] a n r e = absurd (cc)
-begins_by from to (x ∷ rs) a zero r e = let same : x ≡ r = cc in subst (λ (z : NoteRange). from ≤ z.lo) same a.0
+begins_by from to (x ∷ rs) a zero r e = let same : x ≡ r = cc in rw same at a.0
 begins_by from to (x ∷ rs) a (suc n) r e =
     let later = begins_by x.hi to rs a.2 n r e in let f = a.0 in let l = a.1 in omega arith
 
@@ -68,18 +68,15 @@ pub ranges_rule : (graph : Graph) (segments : List NoteSegment) (end from to : �
     → are_ranges (length graph.blocks.firsts) segments end rs ≡ true
 ranges_rule graph segments end from to [] a w e held = refl
 ranges_rule graph segments end from to (r ∷ rs) a w e held =
-    let f = a.0 in
-    let l = a.1 in
-    let past : r.hi ≤ to = ends_by r.hi to rs a.2 in
     and_from _ _
     (rw (
       eq-eqb _ _ w.0.lo,
       eq-eqb _ _ w.0.hi,
       eq-eqb _ _ w.0.address,
-      lt-ltb r.lo r.hi l,
+      lt-ltb r.lo r.hi a.1,
       le-leb end r.lo
           (omega arith),
-      held r.lo r.hi f past,
+      held r.lo r.hi a.0 (ends_by r.hi to rs a.2),
       le-leb r.node (2 * length graph.blocks.firsts) w.0.node.few,
     ) refl)
     (ranges_rule graph segments r.hi r.hi to rs a.2 w.1 (omega arith)
@@ -114,8 +111,8 @@ marked_first graph (it.Mark a m ∷ items) h zero address node e =
       rest = items;
       is = rw (same, also) refl;
       first = refl;
-      mark = subst (λ z. IsMark graph z node items) same
-          (subst (λ z. IsMark graph a z items) also h.0);
+      mark = rw same at
+          (rw also at h.0);
     }
 marked_first graph (it.Mark a m ∷ items) h (suc n) address node e = absurd (none_marked items h.1 n address node e)
 marked_first graph (x ∷ items) h n address node e = absurd (none_marked (x ∷ items) h n address node e)
@@ -149,8 +146,7 @@ module _ (text : Words) (graph : Graph) (table cases : ℕ) (codes : ℕ → Lis
       → IsWhole graph r
   whole_here r k address rest piece m says lo is_found =
       let inside : k < length pieces = slice_get_within pieces k _ piece in
-      let item : item_at pieces k 1 ≡ Some m.item = ap (λ o. item_in o 1) piece
-      ∙ ap (λ (xs : List Item). slice_get xs 0) m.is in
+      let item : item_at pieces k 1 ≡ Some m.item = cc (piece, m.is) in
       let stands = laid.items k 1 m.item item in
       let wide : place k 1 < place k 2 = covers base p m.item (place k 1) (place k 2) m.takes stands in
       let there = laid.ranges k 1 r.lo m.item item (omega (arith, lo)) (omega (arith, lo, wide)) in
@@ -160,10 +156,9 @@ module _ (text : Words) (graph : Graph) (table cases : ℕ) (codes : ℕ → Lis
       let same : r ≡ record { lo = place k 1; hi = place k (end_from rest 1); address = address.0; node = r.node } =
       some_same (sym is_found ∙ there ∙ opening) in
       let size : items_in (slice_get pieces k) ≡ suc (length rest) = ap items_in piece in
-      let first = laid.within k 1 inside (omega (arith, size)) in
       let last = laid.within k (end_from rest 1) inside (omega (arith, size, m.ends)) in
       record {
-        lo = ap (λ z. z % 4) lo ∙ first.aligned;
+        lo = ap (λ z. z % 4) lo ∙ (laid.within k 1 inside (omega (arith, size))).aligned;
         hi = ap (λ (z : NoteRange). z.hi % 4) same ∙ last.aligned;
         address = ap (λ z. z % 4) says ∙ m.aligned;
         low = omega (arith, says, m.low);
@@ -212,7 +207,5 @@ module _ (text : Words) (graph : Graph) (table cases : ℕ) (codes : ℕ → Lis
   pub some_code : 0 < length p.code
   some_code =
       let last = last_piece in
-      let stands = laid.items last.0 0 (it.Word last.1) last.2 in
-      let word = stands.1 in
-      let l = slice_get_within p.code word.0 last.1 word.2 in
-      omega (arith, l)
+      let word = (laid.items last.0 0 (it.Word last.1) last.2).1 in
+      omega (arith, slice_get_within p.code word.0 last.1 word.2)

@@ -7,19 +7,16 @@ use Rattle.edit_core.specs.Written.{cells_size, tables_size}
 
 first_small : (t : Words) → IsText t → size_of t ≤ 28672 + 4 * length t.words
 first_small t text =
-    let some = text.some in
     let few = text.few in
     omega arith
 
 second_small : (t : Words) → IsText t → halves_size t ≤ 397312 + 4 * length t.words
 second_small t text =
-    let some = text.some in
     let few = text.few in
     omega arith
 
 pub small_tables : (t : Words) → IsText t → tables_size t ≤ 425984 + 8 * length t.words
 small_tables t text =
-    let first = first_small t text in
     let second = second_small t text in
     omega arith
 

@@ -106,8 +106,7 @@ none_below from to a [] ascend below = refl
 none_below from to a (r ∷ rs) ascend below =
     let low = ascend.0 in
     let some = ascend.1 in
-    ap (λ (b : Bool). cond (b && nat_lt a r.hi) (Some r) (range_in rs a)) (lt-leb r.lo a (omega (arith, low, below)))
-    ∙ none_below r.hi to a rs ascend.2 (omega (arith, low, some, below))
+    cc (lt-leb r.lo a (omega (arith, low, below)), none_below r.hi to a rs ascend.2 (omega (arith, low, some, below)))
 
 none_past : (from to a : ℕ) (rs : List NoteRange) → Ascend from to rs → to ≤ a → range_in rs a ≡ None
 none_past from to a [] ascend past = refl
@@ -224,9 +223,7 @@ module _ (original : List ℕ) (plan : Plan) (p : Placement) where
           (foreign_of text graph p) o
       found_at a low aligned o e =
           let same : a - a % 4 ≡ a = omega (arith, aligned) in
-          leads.second.finds a low aligned ∙ ap (λ z. target_of (landings_of text graph plan.snips p)
-          (foreign_of text graph p) (word_at text z)) same ∙ ap (target_of (landings_of text graph plan.snips p)
-          (foreign_of text graph p)) e
+          cc (leads.second.finds a low aligned, same, e)
 
       table_for : IsTableFor text graph plan.snips p (first_table text table) (second_table text table)
       table_for = record {
@@ -243,9 +240,7 @@ module _ (original : List ℕ) (plan : Plan) (p : Placement) where
 
     cells_end_low : cell_at cells_from plan.cells ≤ 2 ^ 31
     cells_end_low =
-        let base = is.code.base in
-        let low = is.code.leads.first.whole.below in
-        omega (arith, base, low)
+        omega (arith, is.code.base, is.code.leads.first.whole.below)
 
     abbrev dead : ℕ → List Part
     dead = is.code.dead
@@ -273,9 +268,8 @@ module _ (original : List ℕ) (plan : Plan) (p : Placement) where
         by None at out = absurd (cc)
         by (Some e) at out =
             let within = slice_get_within graph.edges edge e at in
-            let same : edge_at graph edge ≡ e = get_or_from_slice_get graph.edges edge e _ at in
             let unknown : is_unknown (edge_at graph edge) ≡ true =
-            ap (λ (x : Edge). is_unknown x) same ∙ out_unknown e out in
+            ap (λ (x : Edge). is_unknown x) (get_or_from_slice_get graph.edges edge e _ at) ∙ out_unknown e out in
             all_live_none (dead edge) (is.code.exact.sets edge within) (λ part member.
             (λ gone. (is.code.exact.all edge within part member).0 gone
             (unknown_lives text graph (named_on plan.snips) edge unknown part member)))
@@ -311,7 +305,7 @@ module _ (original : List ℕ) (plan : Plan) (p : Placement) where
     text_is = image_text original is.taken.sound
 
     off_noted_here : IsOffNoted its table.base
-    off_noted_here = subst (IsOffNoted its) (sym is.code.base) (off_noted dead text_is)
+    off_noted_here = rw is.code.base (off_noted dead text_is)
 
     -- where no form is long
     abbrev Short : Type 0
@@ -358,7 +352,7 @@ module _ (original : List ℕ) (plan : Plan) (p : Placement) where
       begins_at = begins original args input (entry_is original is.taken.sound)
 
       entry_here : word_at text s0.pc ≡ Some entry
-      entry_here = ap (word_at text) begins_at.pc ∙ word_here original plan entry begins_at.within
+      entry_here = cc (begins_at.pc, word_here original plan entry begins_at.within)
 
       -- a routine starts at the entry
       entry_among : is_among (given_of original plan) entry ≡ true

@@ -271,9 +271,8 @@ module _ (text : Words) (graph : Graph) (table cases : ℕ) (codes : ℕ → Lis
     where
       in_slot : (s : Slot) → s ≡ slots.Word slot → IsSlotIn graph.blocks s → slot.0 < length text.words
       in_slot s e l =
-          let m : slot.0 < graph.blocks.words = subst (IsSlotIn graph.blocks) e l in
-          let same = (graph_cut text graph is h).words in
-          omega (arith, m, same)
+          let m : slot.0 < graph.blocks.words = rw e at l in
+          omega (arith, m, (graph_cut text graph is h).words)
 
   way_marked : (number : ℕ) (edge : Edge) → IsEdgeIn graph.blocks graph.opens edge
       → MarksFirst graph (way_along text graph table codes number edge)
@@ -334,7 +333,6 @@ module _ (text : Words) (graph : Graph) (table cases : ℕ) (codes : ℕ → Lis
       → slice_index graph.blocks.firsts k + size_of graph.blocks k ≤ length text.words
   block_within k l =
       let c = graph_cut text graph is h in
-      let some = some_words graph.blocks.words graph.blocks.firsts c.firsts k l in
       omega (arith, ends_within graph.blocks.words graph.blocks.firsts c.firsts k l, c.words)
 
   open_marked : (o : Open) → is_copied graph.opens o.switch.compare.0 ≡ true → IsSwitchIn text graph.blocks o
@@ -377,8 +375,7 @@ module _ (text : Words) (graph : Graph) (table cases : ℕ) (codes : ℕ → Lis
   ordered_in : (word : ℕ) → word < length text.words → IsNodeIn graph.blocks graph.opens (node_in_order graph word)
   ordered_in word l =
       let c = graph_cut text graph is h in
-      let same = c.words in
-      in_order graph c.firsts word (omega (arith, l, same))
+      in_order graph c.firsts word (omega (arith, l, c.words))
 
   ordered_marked : (word : ℕ) → word < length text.words
       → MarksFirst graph (image text graph (jumps_at text table) cases codes (node_in_order graph word) word)

@@ -32,7 +32,7 @@ pub good_on : (cells : ℕ) (snips : List (List Op)) → All (IsGood cells) snip
     → IsGood cells (snippet_on snips edge)
 good_on cells snips good edge = elim (cases_lt edge (length snips)) [
   | inl within ↦ good edge [] within
-  | inr past ↦ subst (IsGood cells) (sym (get_or_past snips edge [] past)) (none_good cells)
+  | inr past ↦ rw (get_or_past snips edge [] past) (none_good cells)
 ]
 
 -- a ring has its bits
@@ -91,9 +91,8 @@ pub code_short : (base : ℕ) (dead : ℕ → List Part) (snips : List (List Op)
 unfolding codes_of
 code_short base dead snips edge =
     let ops = snippet_on snips edge in
-    let words = snippet_words base (dead edge) (named_by ops) ops in
     let most = costs_hold base (dead edge) (named_by ops) ops in
-    omega (arith, length-map words word_of, most.0, most.1)
+    omega (arith, length-map (snippet_words base (dead edge) (named_by ops) ops) word_of, most.0, most.1)
 
 pub short_codes : (base cells : ℕ) (dead : ℕ → List Part) (snips : List (List Op)) → All (IsGood cells) snips
     → AreShort snips (codes_of base dead snips)

@@ -72,8 +72,7 @@ module _ (original : List ℕ) (plan : Plan) (p : Placement) (place : ℕ → �
       ∙ any-map span_of plan.cells (mapping_added (cells_at (cells_base original plan) plan.cells))
       (map mapping_added (table_at table ∷ code_segment original plan p ∷ page_segment ∷ []))
       ∙ ap (λ (spans : List Span). if_any plan.cells (span (cells_base original plan) (4 * plan.cells)) ++ spans)
-      (ap (λ (a : ℕ). span a (length table.bytes) ∷ behind) is.code.base
-      ∙ ap (λ (n : ℕ). span (table_base original plan) n ∷ behind) size)
+      (cc (is.code.base, size))
       ∙ sym (any-map (λ (s : NoteSegment). span s.start s.length) plan.cells
       (record { start = cells_base original plan; length = 4 * plan.cells })
       (record {
@@ -90,8 +89,7 @@ module _ (original : List ℕ) (plan : Plan) (p : Placement) (place : ℕ → �
   pub memory_alike : (texts : List (List ℕ)) → IsSameOutside (pages_of (notes_on original plan p))
       (start_memory original texts) (start_memory file texts)
   memory_alike texts =
-      subst (λ (pages : List Span). IsSameOutside pages (start_memory original texts) (start_memory file texts))
-      pages_are
+      rw pages_are at
       (starts_alike original file (map kept (mappings original)) (map mapping_added (added original plan p table)) is.mapped
       (all_kept (mappings original)) texts)
 

@@ -36,10 +36,8 @@ use Rattle.edit_core.proofs.Originals.{image_text, image_room}
 pub never_lacks_room : (list : List (List Item)) (room : ℕ) (fault : LayoutFault) (needed had : ℕ) → ArePieces list
     → fault ≡ Room needed had → RoomIs (Err fault) list room → long_bytes list ≤ room → ⊥
 never_lacks_room list room fault needed had are e is enough =
-    let r : RoomIs (Err (Room needed had)) list room = subst (λ (x : LayoutFault). RoomIs (Err x) list room) e is in
-    let l = long_is_enough list needed are r.0 in
-    let lacks : room < needed = r.2 in
-    omega (arith, l, lacks, enough)
+    let r : RoomIs (Err (Room needed had)) list room = rw e at is in
+    omega (arith, long_is_enough list needed are r.0, r.2, enough)
 
 -- the pieces of what can be edited can be placed
 pub original_fit : PiecesFit → (original : List ℕ) (plan : Plan) → CanEdit original plan → CanDo original plan
@@ -65,7 +63,6 @@ module _ (fits : PiecesFit) {image : Program} {graph : Graph} {asked : Asked} (c
 
   pub new_fit : AreFit image.text graph asked.snips.items new_pieces
   new_fit =
-      let few = can.work.few in
       fits image.text graph (table_after image.base asked.cells)
       (cases_at image.text (table_after image.base asked.cells)) asked.snips.items
       (codes_of image.base dead asked.snips.items) can.text can.graph (omega (arith, can.room, can.low))
@@ -86,19 +83,18 @@ module _ (fits : PiecesFit) {image : Program} {graph : Graph} {asked : Asked} (c
 pub segment_is : (text : Words) (graph : Graph) (snips : List (List Op)) (p : Placement) (table : TableAt)
     → LeadsTo text graph snips p table → length table.bytes ≡ segment_size text graph
 segment_is text graph snips p table leads =
-    leads.size ∙ ap (λ n. tables_size text + cells_size n)
-    (length-map (case_numbers text graph) (λ number. slice_index p.at number))
+    cc (leads.size, length-map (case_numbers text graph) (λ number. slice_index p.at number))
 
 -- ---- an original as it was seen
 
 module _ (original : List ℕ) (plan : Plan) (image : Program) (graph : Graph) (is : IsViewOf original plan image graph) where
   -- what is true of the one is true of the other
   seen : (P : Program → Graph → Type 0) → P (image_of original) (graph_in original plan) → P image graph
-  seen P true_there = subst (λ (i : Program). P i graph) (sym is.0)
-      (subst (P (image_of original)) (sym is.1) true_there)
+  seen P true_there = rw is.0
+      (rw is.1 true_there)
 
   there : (P : Program → Graph → Type 0) → P image graph → P (image_of original) (graph_in original plan)
-  there P true_here = subst (P (image_of original)) is.1 (subst (λ (i : Program). P i graph) is.0 true_here)
+  there P true_here = rw is.1 at (rw is.0 at true_here)
 
   pub view_text : CanEdit original plan → IsText image.text
   view_text can = seen (λ i g. IsText i.text) (image_text original can.sound)
@@ -146,10 +142,7 @@ module _ (original : List ℕ) (plan : Plan) (image : Program) (graph : Graph) (
       segments_are segments same = there (λ i g. segments ≡ if_any plan.cells (cells_at i.base plan.cells)
           ++ table_at (record { base = table_after i.base plan.cells; bytes = tables })
           ∷ code_at (table_after i.base plan.cells + segment_size i.text g) placed.code.items ∷ page_segment ∷ [])
-          (same ∙ ap (λ n. if_any plan.cells (cells_at image.base plan.cells)
-          ++ table_at (record { base = table_after image.base plan.cells; bytes = tables })
-          ∷ code_at (table_after image.base plan.cells + n) placed.code.items ∷ page_segment ∷ [])
-          (segment_is image.text graph plan.snips (placement_in placed) _ leads))
+          (cc (same, segment_is image.text graph plan.snips (placement_in placed) _ leads))
 
 -- there is room for what is asked of an original that can be edited
 pub view_has_room : (original marks : List ℕ) (asked : Asked) (image : Program) (graph : Graph)
@@ -160,7 +153,7 @@ view_has_room original marks asked image graph is can work =
       text = image_text original can.sound;
       graph = graph_is original plan;
       work = work;
-      room = subst (λ (n : ℕ). n ≤ (image_of original).room) (bound_is original plan) can.room;
+      room = rw (bound_is original plan) at can.room;
       base = let base = (accepted-program original can.sound).base in omega arith;
       low = within (image_of original).base (image_of original).room (image_room original)
           (accepted-program original can.sound).below;

@@ -44,24 +44,16 @@ module _ (text : Words) (targets : List Addr) (foreign : Addr) (places : List �
         let size : length first ≡ size_of text = one.size in
         let more : length second ≡ halves_size text = two.size in
         let both : length (first ++ second) ≡ tables_size text =
-        length-append first second ∙ ap (λ n. n + length second) size ∙ ap (λ n. size_of text + n) more in
+        cc (length-append first second, size, more) in
         let all : length (first ++ second ++ pages) ≡ tables_size text + cells_size (length places) =
-        length-append (first ++ second) pages ∙ ap (λ n. n + length pages) both
-        ∙ ap (λ n. tables_size text + n) (pages_length places) in
+        cc (length-append (first ++ second) pages, both, pages_length places) in
         record {
           size = all;
           low = omega (arith, all, low);
           first = subst (λ (bytes : List ℕ). IsTableOf text targets foreign (record { base = base; bytes = bytes }))
-              (sym (ap (take (size_of text)) (append_assoc first second pages)
-              ∙ ap (λ n. take n (first ++ (second ++ pages))) (sym size) ∙ take-append_seam first (second ++ pages))) one;
-          second = subst (λ (bytes : List ℕ). IsHalvesOf text targets foreign
-              (record { base = jumps_at text base; bytes = bytes }))
-              (sym (ap (λ (bytes : List ℕ). take (halves_size text) (drop (size_of text) bytes)) (append_assoc first
-              second pages)
-              ∙ ap (λ n. take (halves_size text) (drop n (first ++ (second ++ pages)))) (sym size)
-              ∙ ap (take (halves_size text)) (drop-append_seam first (second ++ pages))
-              ∙ ap (λ n. take n (second ++ pages)) (sym more) ∙ take-append_seam second pages)) two;
-          cases = ap (λ n. drop n (first ++ second ++ pages)) (sym both) ∙ drop-append_seam (first ++ second) pages;
+              (sym (cc (append_assoc first second pages, size, take-append_seam first (second ++ pages)))) one;
+          second = rw (ap (λ (bytes : List ℕ). take (halves_size text) (drop (size_of text) bytes)) (append_assoc first second pages) ∙ ap (λ n. take (halves_size text) (drop n (first ++ (second ++ pages)))) (sym size) ∙ ap (take (halves_size text)) (drop-append_seam first (second ++ pages)) ∙ ap (λ n. take n (second ++ pages)) (sym more) ∙ take-append_seam second pages) two;
+          cases = cc (both, drop-append_seam (first ++ second) pages);
         }
 
 -- ---- words of the tables
@@ -118,8 +110,7 @@ word_among [] n count below small = absurd (omega (arith, below))
 word_among (w ∷ words) zero count below small = from_be_bytes-to_be_bytes_4 w small
 word_among (w ∷ words) (suc n) count below small =
     let e : 4 * suc n ≡ suc (suc (suc (suc (4 * n)))) = omega arith in
-    ap (λ z. from_be_bytes w32 (take 4 (drop z (words_bytes (w ∷ words) ++ replicate count 0)))) e
-    ∙ word_among words n count (omega (arith, below)) small
+    cc (e, word_among words n count (omega (arith, below)) small)
 
 -- ---- the words with the places of the pieces of Case edges
 
@@ -132,11 +123,10 @@ cases_for text graph p targets foreign tables are aligned small =
     length-map (case_numbers text graph) (λ number. slice_index p.at number) in
     let long : length (cases_table text tables).bytes ≡ cells_size (length (case_places text graph p)) =
     ap length are.cases ∙ pages_length (case_places text graph p) in
-    let size = are.size in
     let low = are.low in
     record {
       aligned = omega (arith, aligned);
-      low = omega (arith, long, size, low);
+      low = omega (arith, long, are.size, low);
       long = omega (arith, long, many);
       words = λ entry number e.
           let within = slice_get_within (case_numbers text graph) entry number e in
@@ -144,8 +134,7 @@ cases_for text graph p targets foreign tables are aligned small =
           get_or-map (λ n. slice_index p.at n) (case_numbers text graph) entry 0 0 within
           ∙ ap (λ n. slice_index p.at n) (get_or_from_slice_get (case_numbers text graph) entry number 0 e) in
           let l = small number in
-          let at : cases_at text tables.base + 4 * entry - cases_at text tables.base ≡ 4 * entry = omega arith in
-          ap (λ n. from_be_bytes w32 (take 4 (drop n (cases_table text tables).bytes))) at
+          ap (λ n. from_be_bytes w32 (take 4 (drop n (cases_table text tables).bytes))) (omega arith)
           ∙ ap (λ (bytes : List ℕ). from_be_bytes w32 (take 4 (drop (4 * entry) bytes))) are.cases
           ∙ word_among (case_places text graph p) entry _ (omega (arith, within, many)) (omega (arith, here, l))
           ∙ here;

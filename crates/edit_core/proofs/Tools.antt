@@ -12,7 +12,7 @@ module _ {F : Type 0} (says : F → EdgeRef → List Op → Type 0) (tool : Kept
     (is : view ≡ view_of bytes (numbers tool.marks)) (plan : Plan) where
   -- what it asks of the graph that was seen it asks of the file
   pub asks : IsPlanOf says tool view.graph.edges plan → AsksOf says tool bytes plan
-  asks asked = subst (λ (v : Seen). IsPlanOf says tool v.graph.edges plan) is asked
+  asks asked = rw is at asked
 
   -- and it counts edges there
   pub counts : CountsEdges says tool bytes → IsPlanOf says tool view.graph.edges plan → AreCounted 2 plan

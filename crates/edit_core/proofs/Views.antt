@@ -28,20 +28,19 @@ module _ (file : List ℕ) (plan : Plan) (view : Seen) (is : view ≡ view_of fi
 
   pub view_bound : bound_of view.image.text view.graph plan ≡ bound_in file plan
   view_bound =
-      ap (λ (v : Seen). bound_of v.image.text v.graph plan) is
-      ∙ ap (λ (i : Program). bound_of i.text (view_of file plan.marks).graph plan) (view_image file plan.marks)
+      cc (is, view_image file plan.marks)
 
   -- it can be edited, where there is room
   pub can_edit : None ≡ fault file → bound_of view.image.text view.graph plan ≤ view.image.room → CanEdit file plan
   can_edit sound room = record {
     sound = sym sound;
-    room = subst (λ (n : ℕ). n ≤ (image_of file).room) view_bound
-        (subst (λ (i : Program). bound_of view.image.text view.graph plan ≤ i.room) view_is.0 room);
+    room = rw (← view_bound)
+        (rw (← view_is.0) room);
   }
 
   -- and what can be done on its graph can be done on that of the file
   pub view_can_do : IsWorkable view.graph plan.kind plan.cells plan.snips → CanDo file plan
-  view_can_do work = subst (λ (g : Graph). IsWorkable g plan.kind plan.cells plan.snips) view_is.1 work
+  view_can_do work = rw view_is.1 at work
 
 -- the bound of what can be edited, by the graph
 pub bound_is : (file : List ℕ) (plan : Plan) → bound_in file plan ≡ bound_of (image_of file).text (graph_in file plan) plan

@@ -28,10 +28,8 @@ edits_answer g l base p place f entry s0 t0 last r u =
       soon = all.1;
       bounded = all.2;
       spared = λ n below m i first next.
-          subst (λ (z : ℕ). Spares g entry (HasShortForms l.list place) s0 t0 n z i)
-          (one_least (Answers g.notes s0 t0 n) (k.moments n) m (all.0 n (omega (arith, below))) first)
-          (subst (λ (z : ℕ). Spares g entry (HasShortForms l.list place) s0 t0 n (k.moments n) z)
-          (one_least (Answers g.notes s0 t0 (suc n)) (k.moments (suc n)) i (all.0 (suc n) (omega (arith, below))) next)
+          rw (one_least (Answers g.notes s0 t0 n) (k.moments n) m (all.0 n (omega (arith, below))) first) at
+          (rw (one_least (Answers g.notes s0 t0 (suc n)) (k.moments (suc n)) i (all.0 (suc n) (omega (arith, below))) next) at
           (k.spared n below));
       cells = k.cells;
       stops = λ m visits. stop_is g entry (HasShortForms l.list place) s0 t0 last r.first.live k all.0 m visits;
