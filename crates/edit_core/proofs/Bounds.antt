@@ -1,5 +1,5 @@
 -- The room that an edit asks for is enough for the operations that are made.
-use Rattle.std.proofs.Common.{◌≡◌, ℕ, suc, ◌+◌, ◌≤◌, List, [], ◌∷◌, length, refl, ap, ◌∙◌, arith}
+use Rattle.std.proofs.Common.{◌≡◌, ℕ, suc, ◌+◌, ◌≤◌, List, [], ◌∷◌, length, refl, ap, arith}
 use Rattle.std.proofs.lemmas.Nat.{mul-le}
 use Rattle.cfg_normal.specs.declared.Edge.{Edge}
 use Rattle.cfg_normal.specs.Graph.{Graph}
@@ -40,15 +40,13 @@ made kind graph all number (edge ∷ edges) (ops ∷ snips) size same few =
     let here : length (snippet_on all number) ≡ length ops =
     cc ((let e : number ≡ number + 0 = omega arith in e), same 0) in
     let first = mul-le (copies_of graph edge) (length (snippet_on all number)) (copies_of graph edge) (counted_on kind
-    ops)
-    (omega arith) (omega (arith, here, few.0)) in
+    ops) (omega arith) (omega (arith, here, few.0)) in
     let later = made kind graph all (suc number) edges snips (omega (arith, size))
     (λ k. cc ((let e : suc number + k ≡ number + suc k = omega arith in e), same (suc k))) few.1 in
     omega (arith, first, later)
 
 pub operations_few : (graph : Graph) (kind : ToolKind) (cells : ℕ) (snips : List (List Op))
-    → IsWorkable graph kind cells snips
-    → operations_in graph snips ≤ operations_on kind graph graph.edges snips
+    → IsWorkable graph kind cells snips → operations_in graph snips ≤ operations_on kind graph graph.edges snips
 operations_few graph kind cells snips is =
     made kind graph snips 0 graph.edges snips is.size
     (λ k. ap (snippet_on snips) (let e : 0 + k ≡ k = omega arith in e)) (all_counted kind snips is.counters)

@@ -1,6 +1,6 @@
 -- The jumps of an original's open switches go by their tables.
-use Rattle.std.proofs.Common.{◌≡◌, ℕ, ◌+◌, ◌-◌, ◌*◌, true, List, map, Some, refl, ap, sym, ◌∙◌, subst, arith}
-use Rattle.std.specs.Prelude.{slice_get, slice_index}
+use Rattle.std.proofs.Common.{◌≡◌, ℕ, ◌+◌, ◌-◌, ◌*◌, true, List, map, Some, refl, ap, sym, ◌∙◌, arith}
+use Rattle.std.specs.Prelude.{slice_get}
 use Rattle.std.specs.List.{find, range_with_len}
 use Rattle.std.proofs.lemmas.Bool.{eqb-true}
 use Rattle.eel_base.specs.CodeText.{Words, IsText, address_of, word_at}
@@ -16,7 +16,6 @@ use Rattle.cfg_blocks.specs.Blocks.{Blocks, blocks_of, is_among}
 use Rattle.cfg_blocks.specs.Entries.{entered_of}
 use Rattle.cfg_blocks.specs.Values.{instr_at}
 use Rattle.cfg_blocks.proofs.Targets.{word_at-some}
-use Rattle.cfg_normal.specs.declared.Node.TheVariants.{Block}
 use Rattle.cfg_normal.specs.Opens.{Open}
 use Rattle.cfg_normal.specs.Graph.{Graph, graph_of}
 use Rattle.cfg_walk.specs.Walk.{end_of_walk, point_of}
@@ -97,8 +96,7 @@ module _ (g : Setting) (entry : ℕ) (s0 : State) (same : g.switches ≡ opens_i
         since = omega (arith, h.ago);
         came = λ j less.
             let k : h.start + j ≡ j + h.start = omega arith in
-            stands (j + h.start) (load_of g.text o + j)
-            (rw k at (h.stood j less));
+            stands (j + h.start) (load_of g.text o + j) (rw k at (h.stood j less));
         number = h.number;
         below = h.jumps.below;
         loaded =
@@ -113,16 +111,9 @@ module _ (g : Setting) (entry : ℕ) (s0 : State) (same : g.switches ≡ opens_i
   pub by_table : JumpsGoByTable g entry s0
   by_table n live k table some at =
       let t = table_of g known k table some in
-      rw t.same at
-      (goes t.o k n (ap (λ (os : List Open). slice_get os k) (sym same) ∙ t.is)
-      (record {
+      rw t.same at (goes t.o k n (ap (λ (os : List Open). slice_get os k) (sym same) ∙ t.is) (record {
         live = live;
         outside = at.outside;
         itself = cc (same, at.itself, t.same);
         at = at.stands ∙ ap (λ (c : CaseTable). Some c.jump) (sym t.same);
-      })
-      (λ m word s. record {
-        itself = cc (same, s.itself);
-        outside = s.outside;
-        stands = s.at;
-      }))
+      }) (λ m word s. record { itself = cc (same, s.itself); outside = s.outside; stands = s.at }))

@@ -41,8 +41,7 @@ not_executable-flag flags = ap (λ (n : ℕ). nat_eq n 1) (and_assoc 1 flags 0xf
 kept-no_code : (m : Mapping) → regions.is_code (region_of (kept m)) ≡ false
 kept-no_code m = go (is_code m) refl
   where
-    go : (code : Bool) → is_code m ≡ code
-        → (has_flag 1 (cond code (not_executable m.flags) m.flags)
+    go : (code : Bool) → is_code m ≡ code → (has_flag 1 (cond code (not_executable m.flags) m.flags)
         && not (has_flag 2 (cond code (not_executable m.flags) m.flags))) ≡ false
     go true is =
         and_left (has_flag 1 (not_executable m.flags)) (not (has_flag 2 (not_executable m.flags)))
@@ -116,8 +115,7 @@ module _ (original : List ℕ) (plan : Plan) (p : Placement) (place : ℕ → �
       let base = (accepted-program original is.taken.sound).base in
       code_is_fetched file texts (mapping_added (code_segment original plan p)) first_code (omega (arith, base))
       (words_are_bytes p.code)
-      n (omega (arith, inside))
-      ∙ ap (λ bytes. Some (big_number 4 (drop (4 * n) bytes))) (whole_region p.code)
+      n (omega (arith, inside)) ∙ ap (λ bytes. Some (big_number 4 (drop (4 * n) bytes))) (whole_region p.code)
       ∙ ap (λ w. Some w) (word_among p.code n inside is.code.words)
 
   pub has_code : HasCode (code_base original plan) p.code (start_memory file texts)
@@ -135,5 +133,4 @@ module _ (original : List ℕ) (plan : Plan) (p : Placement) (place : ℕ → �
   -- and nothing else is
   pub only_code : (a : ℕ) → IsBeside (code_base original plan) p.code a → fetch_from (code_of (start_memory file texts)) a
       ≡ None
-  only_code a beside =
-      cc (code_is, beside_region (region_of (mapping_added (code_segment original plan p))) a beside)
+  only_code a beside = cc (code_is, beside_region (region_of (mapping_added (code_segment original plan p))) a beside)

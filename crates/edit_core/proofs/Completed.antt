@@ -1,5 +1,5 @@
 -- Which edges a step completes: none, one, or that of a jump and then a landing.
-use Rattle.std.proofs.Common.{◌≡◌, ℕ, ◌-◌, ◌<◌, Bool, true, false, ◌&&◌, ◌==◌, List, [], ◌∷◌, ◌++◌, length, append-nil, Option, Some, None, option_to_list, position, slice_index, refl, ap, sym, ◌∙◌, subst}
+use Rattle.std.proofs.Common.{◌≡◌, ℕ, ◌-◌, ◌<◌, Bool, true, false, ◌&&◌, ◌==◌, List, [], ◌∷◌, ◌++◌, length, append-nil, Option, Some, None, option_to_list, position, slice_index, refl}
 use Rattle.std.specs.Prelude.{if◌then◌else◌}
 use Rattle.std.proofs.lemmas.Bool.{and_parts, cond_both, or_left}
 use Rattle.std.proofs.lemmas.List.Quantifiers.{position-Some}
@@ -7,7 +7,7 @@ use Rattle.eel_base.specs.CodeText.{Words, word_at}
 use Rattle.v8_decode.specs.declared.Instr.{Instr}
 use Rattle.v8_decode.specs.declared.Instr.TheVariants as i
 use Rattle.v8_decode.specs.declared.Part.{Part}
-use Rattle.v8_decode.specs.Parts.{every_part, has, is_member}
+use Rattle.v8_decode.specs.Parts.{is_member}
 use Rattle.v8_decode.specs.Words.{decode_of}
 use Rattle.v8_decode.proofs.Members.{has-every_part}
 use Rattle.v8_step.specs.declared.Slot.{Slot}
@@ -36,8 +36,7 @@ pub data Completes (graph : Graph) : List ℕ → Type 0 where
 -- anything may be read behind an edge of a jump
 pub unknown_lives : (text : Words) (graph : Graph) (named : ℕ → List Part) (e : ℕ)
     → is_unknown (edge_at graph e) ≡ true → (p : Part) → is_member p ≡ true → IsLiveOn text graph named e p
-unknown_lives text graph named e unknown p member =
-    ([], cc (unknown, has-every_part p, member))
+unknown_lives text graph named e unknown p member = ([], cc (unknown, has-every_part p, member))
 
 pub jump_kind : (kind : EdgeKind) → same_kind kind kinds.Out ≡ true → is_call_or_jump kind ≡ true
 jump_kind kinds.Out h = refl

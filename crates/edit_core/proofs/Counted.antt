@@ -1,5 +1,5 @@
 -- There are no more ranges than Marks, wherever pieces are laid.
-use Rattle.std.proofs.Common.{◌≡◌, ℕ, zero, suc, ◌+◌, ◌*◌, ◌<◌, ◌≤◌, Bool, true, false, ◌&&◌, cond, nat_le, nat_lt, List, [], ◌∷◌, length, Some, refl, ap, sym, ◌∙◌, subst, arith}
+use Rattle.std.proofs.Common.{◌≡◌, ℕ, zero, suc, ◌+◌, ◌*◌, ◌<◌, ◌≤◌, Bool, true, false, ◌&&◌, cond, nat_le, nat_lt, List, [], ◌∷◌, length, Some, refl, ap, sym, ◌∙◌, arith}
 use Rattle.std.specs.Prelude.{slice_get}
 use Rattle.std.specs.List.{sum_by}
 use Rattle.std.proofs.lemmas.Bool.{and_from, le-leb, lt-ltb}
@@ -107,7 +107,8 @@ all_few : (place : ℕ → ℕ → ℕ) (pieces : List (List Item)) (k from to :
 unfolding all_marked
 all_few place [] k from to = omega arith
 all_few place (items ∷ pieces) k from to =
-    omega (arith, few (place k) items 0 from to, all_few place pieces (suc k) from to, sum_by-cons marks_in items pieces)
+    let later = all_few place pieces (suc k) from to in
+    omega (arith, few (place k) items 0 from to, later, sum_by-cons marks_in items pieces)
 
 -- ---- ranges
 
@@ -123,8 +124,7 @@ module _ (pieces : List (List Item)) (place : ℕ → ℕ → ℕ) where
       let m : IsRangeOf pieces place r = are 0 r refl in
       let at = m.lo in
       let here = some_marked place pieces m.piece 0 m.piece m.item from r.hi (it.Mark m.address r.node) m.mark refl
-      (omega arith)
-      (omega (arith, low, at)) (omega (arith, some, at)) in
+      (omega arith) (omega (arith, low, at)) (omega (arith, some, at)) in
       let both = all_split place pieces 0 from r.hi to (omega (arith, low, some)) later.1 in
       (omega (arith, here, both, later.0), omega (arith, low, some, later.1))
 

@@ -62,15 +62,13 @@ range_few p from n = omega (arith, count_by-le-length p (range_with_len from n),
 more_summed : (f : Open → ℕ) (xs : List Open) (i : ℕ) (x : Open) → slice_get xs i ≡ Some x
     → sum_by f (take (suc i) xs) ≡ f x + sum_by f (take i xs)
 more_summed f [] i x e = absurd (cc)
-more_summed f (y ∷ xs) zero x e =
-    omega (arith, sum_by-cons f y [], ap f (let q : y ≡ x = cc in q))
+more_summed f (y ∷ xs) zero x e = omega (arith, sum_by-cons f y [], ap f (let q : y ≡ x = cc in q))
 more_summed f (y ∷ xs) (suc i) x e =
     omega (arith, sum_by-cons f y (take (suc i) xs), sum_by-cons f y (take i xs), more_summed f xs i x e)
 
 pub sum_more : (f : Open → ℕ) (xs : List Open) (i : ℕ) (x : Open) → slice_get xs i ≡ Some x
     → sum_by f (take (i + 1) xs) ≡ f x + sum_by f (take i xs)
-sum_more f xs i x e =
-    cc ((let q : i + 1 ≡ suc i = omega arith in q), more_summed f xs i x e)
+sum_more f xs i x e = cc ((let q : i + 1 ≡ suc i = omega arith in q), more_summed f xs i x e)
 
 -- ---- keys
 
@@ -167,10 +165,5 @@ module _ (graph : Graph) (is : IsGraph graph) where
 
     pub led_few : count_by (is_at graph to) (targets_in graph.opens from) ≤ 2 ^ 20
     led_few =
-        omega (
-          arith,
-          count_by-le-length (is_at graph to) (targets_in graph.opens from),
-          targets_few graph.opens,
-          is.opens.entries,
-          is.few,
-        )
+        let among = count_by-le-length (is_at graph to) (targets_in graph.opens from) in
+        omega (arith, among, targets_few graph.opens, is.opens.entries, is.few)

@@ -36,7 +36,7 @@ use Rattle.snippets.specs.Cells.{WorksBelow}
 use Rattle.tool_kit.specs.declared.edge_ref.ToolKind.{ToolKind}
 use Rattle.tool_kit.specs.declared.edge_ref.ToolKind.TheVariants as tools
 use Rattle.tool_kit.specs.Plans.{Plan}
-use Rattle.edit_core.specs.Written.{CanDo, IsNewCode, IsEdit, if_any, cells_at, cells_base, text_of, graph_in, table_base, code_base, pieces_of, entry_of, table_at, segment_size, cases_at, entry_number, code_segment, page_segment, added, notes_on, edit_file}
+use Rattle.edit_core.specs.Written.{CanDo, IsNewCode, IsEdit, if_any, cells_at, cells_base, text_of, graph_in, table_base, code_base, pieces_of, entry_of, table_at, segment_size, cases_at, code_segment, page_segment, added, notes_on, edit_file}
 use Rattle.edit_core.proofs.Bounds.{operations_few}
 use Rattle.edit_core.proofs.Fronts.{any_length}
 use Rattle.edit_core.proofs.Counted.{ranges_few}
@@ -120,8 +120,7 @@ can_write original count z t s w notes sound limit before three few = record {
 }
   where
     above : (n : ℕ) → Ascend (highest_end (image_of original).segments) (if_any n z ++ t ∷ s ∷ w ∷ [])
-    above n =
-        by n (λ from under. (under, (omega arith, (omega arith, omega arith))))
+    above n = by n (λ from under. (under, (omega arith, (omega arith, omega arith))))
       where
         by : (n : ℕ) → ((from : ℕ) → from ≤ t.vaddr → Ascend from (t ∷ s ∷ w ∷ []))
             → Ascend (highest_end (image_of original).segments) (if_any n z ++ t ∷ s ∷ w ∷ [])
@@ -343,8 +342,7 @@ module _ (original : List ℕ) (plan : Plan) (limit : length original ≤ 2 ^ 26
   holds = held (notes_bytes notes) notes_few
 
   entry_low : entry_at < 2 ^ 32
-  entry_low =
-      omega arith
+  entry_low = omega arith
 
   module _ (bytes : AreBytes original) where
     numbers : AreNumbers original segments entry_at

@@ -21,7 +21,7 @@ use Rattle.cfg_walk.proofs.Edges.{block}
 use Rattle.cfg_walk.proofs.Leaving.{node_is}
 use Rattle.cfg_walk.proofs.Lists.{any-map}
 use Rattle.image_code.specs.Graphs.{opens_in}
-use Rattle.image_code.specs.Numbered.{at_open, enter_number, image_number, jump_enter, jump_image, jump_number}
+use Rattle.image_code.specs.Numbered.{enter_number, image_number, jump_number}
 use Rattle.edit_core.proofs.Graphs.{any_at, entry_apart}
 
 -- ---- a routine starts at the entry
@@ -51,8 +51,7 @@ entry_given program marks l =
     list_any-append (λ other. other == program.entry) (starts_of (routines_of program)) (marks_in program.text marks)
     ∙ or_left _ _
     (any-map (λ other. other == program.entry) (λ (routine : Routine). routine.start.0) (map (routine_at program)
-    starts)
-    (any-map (λ (routine : Routine). routine.start.0 == program.entry) (routine_at program) starts
+    starts) (any-map (λ (routine : Routine). routine.start.0 == program.entry) (routine_at program) starts
     (any_filtered (λ word. word == program.entry) (is_start program) 0 (length program.text.words) program.entry
     (omega arith) (omega (arith, l))
     (or_left _ _ (or_left _ _ (eq-eqb program.entry program.entry refl))) (eq-eqb program.entry program.entry refl))))
@@ -75,8 +74,7 @@ module _ (text : Words) (given : List ℕ) (entry : ℕ) (is_text : IsText text)
   its_graph = graph_of (blocks_of text given) (opens_in text given entry)
 
   pub entry_node : node_of (blocks_of text given) (Some entry) ≡ block (holding_of (blocks_of text given) entry)
-  entry_node =
-      node_is (blocks_of text given) entry (omega (arith, low, (cut text given is_text.some).words))
+  entry_node = node_is (blocks_of text given) entry (omega (arith, low, (cut text given is_text.some).words))
 
   no_jump : jump_number text its_graph (holding_of (blocks_of text given) entry) ≡ None
   no_jump =
@@ -86,8 +84,7 @@ module _ (text : Words) (given : List ℕ) (entry : ℕ) (is_text : IsText text)
   -- control enters it where it is visited
   pub entry_enters : enter_number text its_graph (node_of (blocks_of text given) (Some entry)) entry
       ≡ image_number text its_graph (node_of (blocks_of text given) (Some entry)) entry
-  entry_enters =
-      cc (entry_node, no_jump)
+  entry_enters = cc (entry_node, no_jump)
 
   -- no open switch has its jump there
   pub entry_outside : (k : ℕ) (o : Open) → slice_get (opens_in text given entry) k ≡ Some o

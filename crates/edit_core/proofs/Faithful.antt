@@ -1,5 +1,5 @@
 -- An edit is faithful.
-use Rattle.std.proofs.Common.{◌≡◌, ℕ, zero, suc, ◌+◌, ◌*◌, ◌^◌, ◌<◌, ◌≤◌, Bool, true, cond, List, [], ◌∷◌, ◌++◌, length, map, slice_index, Some, None, refl, ap, sym, ◌∙◌, subst, arith, All}
+use Rattle.std.proofs.Common.{◌≡◌, ℕ, zero, suc, ◌+◌, ◌*◌, ◌^◌, ◌<◌, ◌≤◌, true, List, [], ◌∷◌, ◌++◌, length, map, slice_index, Some, refl, ap, sym, ◌∙◌, subst, arith, All}
 use Rattle.std.specs.Prelude.{slice_get}
 use Rattle.std.specs.List.{list_any}
 use Rattle.std.proofs.lemmas.Bool.{le-leb, lt-ltb}
@@ -18,13 +18,11 @@ use Rattle.cfg_normal.specs.Graph.{Graph, IsEdgeIn}
 use Rattle.cfg_normal.specs.Numbers.{is_node}
 use Rattle.cfg_walk.proofs.Addresses.{word_at-address}
 use Rattle.cfg_walk.proofs.Lists.{Each, each, each-append, each-then}
-use Rattle.liveness.specs.Live.{named_on}
 use Rattle.addr_translate.specs.Lookup.{TableAt}
 use Rattle.layout.specs.Laid.{Placement, IsWordAt}
 use Rattle.image_code.specs.Fit.{AreFit, PlacesSay}
 use Rattle.image_code.specs.Parts.{codes_of}
 use Rattle.tool_kit.specs.Plans.{Plan}
-use Rattle.edit_core.specs.Dead.{AreDead}
 use Rattle.edit_core.specs.Taken.{CanEdit}
 use Rattle.edit_core.specs.Faithful.{editor_page, page_size, IsFaithful, HasGraph, HasPages, IsInRoom, IsPlace, holds_cells, note_edges, note_of, word_mapped}
 use Rattle.edit_core.specs.Written.{CanDo, IsNewCode, IsEdit, EditsRunAlike, added, cases_at, cells_at, cells_base, if_any, segment_size, text_of, graph_in, table_base, code_base, pieces_of, off_range, off_ranges, table_at, code_segment, page_segment, notes_on, edit_file}
@@ -116,8 +114,7 @@ module _ (original : List ℕ) (plan : Plan) (p : Placement) (place : ℕ → �
 
   -- the pages in the room
   abbrev room_pages : List Mapping
-  room_pages =
-      if_any plan.cells (mapping_added cells) ++ mapping_added (table_at table) ∷ mapping_added its_code ∷ []
+  room_pages = if_any plan.cells (mapping_added cells) ++ mapping_added (table_at table) ∷ mapping_added its_code ∷ []
 
   pages_mapped : map mapping_added (added original plan p table) ≡ room_pages ++ mapping_added page_segment ∷ []
   pages_mapped =

@@ -1,5 +1,5 @@
 -- The graph of an original, with its open switches.
-use Rattle.std.proofs.Common.{◌≡◌, ℕ, zero, suc, ◌+◌, ◌-◌, ◌*◌, ◌<◌, ◌≤◌, ◌==◌, inl, inr, true, false, Bool, ◌||◌, cond, Some, List, [], ◌∷◌, length, length-append, map, refl, ap, sym, ◌∙◌, subst, arith}
+use Rattle.std.proofs.Common.{◌≡◌, ℕ, zero, suc, ◌+◌, ◌-◌, ◌*◌, ◌<◌, ◌≤◌, ◌==◌, inl, inr, true, false, Bool, ◌||◌, cond, Some, List, [], ◌∷◌, length, length-append, map, refl, ap, sym, ◌∙◌, arith}
 use Rattle.std.specs.Prelude.{slice_get, slice_index}
 use Rattle.std.specs.List.{list_any, sum_by}
 use Rattle.std.proofs.lemmas.Bool.{cond_both, eq-eqb, eqb-true, false≢true, le-ltb, lt-ltb, or_cases, or_left, or_right}
@@ -57,8 +57,7 @@ number_of graph X l = record { few = omega arith; is = first_number graph (lengt
 
 -- the node of a word's image in the order of the text
 pub in_order : (graph : Graph) → AreFirsts graph.blocks.words graph.blocks.firsts → (word : ℕ) → word <
-    graph.blocks.words
-    → IsNodeIn graph.blocks graph.opens (node_in_order graph word)
+    graph.blocks.words → IsNodeIn graph.blocks graph.opens (node_in_order graph word)
 in_order graph firsts word l =
     let held = in_held graph.blocks.words graph.blocks.firsts firsts word l in
     cond_both (jumps_in graph.opens (holding_of graph.blocks word)) _ _ (IsNodeIn graph.blocks graph.opens)
@@ -84,16 +83,14 @@ module _ (text : Words) (graph : Graph) (is_text : IsText text) (h : IsGraphOf t
   pub graph_facts : IsGraph graph
   unfolding entered_of
   graph_facts =
-      rw h.is
-      (is_graph (entered_of text h.given) (opens_in text h.given h.entry)
+      rw h.is (is_graph (entered_of text h.given) (opens_in text h.given h.entry)
       (edges_in (blocks_of text h.given) (opens_in text h.given h.entry)) (is_list text h.given h.entry is_text)
       (are_open text h.given h.entry is_text) refl)
 
   pub edges_inside : Each (IsEdgeIn graph.blocks graph.opens) graph.edges
   edges_inside =
       let f = graph_facts in
-      rw (ap (λ (g : Graph). g.edges) f.made)
-      (edges_lie_in graph.blocks graph.opens f.firsts.some)
+      rw (ap (λ (g : Graph). g.edges) f.made) (edges_lie_in graph.blocks graph.opens f.firsts.some)
 
   -- ---- entries
 

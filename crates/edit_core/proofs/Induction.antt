@@ -1,14 +1,13 @@
 -- The induction over the steps of the original.
 use Rattle.std.proofs.Common.{◌≡◌, ◌≢◌, ℕ, zero, suc, ◌+◌, ◌-◌, ◌<◌, ◌≤◌, ◌⊎◌, inl, inr, Option, Some, None, List, ◌++◌, append-nil, refl, ap, sym, ◌∙◌, subst, arith}
 use Rattle.eel_base.specs.CodeText.{word_at}
-use Rattle.notes.specs.Format.{node_at, range_at}
+use Rattle.notes.specs.Format.{node_at}
 use Rattle.v8_decode.specs.declared.Instr.{Instr}
 use Rattle.v8_memory.specs.Regions.{Memory, Region, fetch_of}
 use Rattle.v8_memory.specs.Spans.{Span, AllApart, IsSameOutside, IsSameRegion}
 use Rattle.v8_step.specs.declared.Ending.{Ending}
-use Rattle.v8_step.specs.declared.Slot.{Slot}
 use Rattle.v8_step.specs.State.{State, sum_of}
-use Rattle.v8_step.specs.Step.{step_of, puts_of, on_word, puts_on_word, unless_ended, puts_unless_ended}
+use Rattle.v8_step.specs.Step.{step_of, puts_of, on_word, puts_on_word}
 use Rattle.v8_step.specs.Run.{run, run_puts}
 use Rattle.v8_step.specs.Items.{AreSameAt, IsAmong, Item, Register, Codes, YRegister, IsItem, IsSameAt}
 use Rattle.two_runs.proofs.Reading.{same_sum}
@@ -19,12 +18,11 @@ use Rattle.v8_decode.specs.declared.Op2.{Op2}
 use Rattle.v8_decode.specs.declared.Op2.TheVariants.{Reg, Imm}
 use Rattle.v8_decode.specs.declared.Instr.TheVariants as i
 use Rattle.v8_decode.specs.declared.LoadKind.TheVariants as loads
-use Rattle.std.specs.Option.{option_map}
-use Rattle.std.specs.Prelude.{slice_get, slice_index}
+use Rattle.std.specs.Prelude.{slice_get}
 use Rattle.two_runs.specs.Alike.{IsSameWorld}
-use Rattle.two_runs.specs.Needed.{ReadsIn, decoded, instr_at, judged_in, WritesIn, IsUntouched}
+use Rattle.two_runs.specs.Needed.{decoded, instr_at, judged_in, WritesIn, IsUntouched}
 use Rattle.two_runs.specs.Visits.{visit_of, pages_of}
-use Rattle.two_runs.specs.TwoRuns.{HasSameOutside, GoesOn, Ends, MatchesBy, Matches}
+use Rattle.two_runs.specs.TwoRuns.{HasSameOutside, GoesOn, Ends, Matches}
 use Rattle.two_runs.specs.Follows.{IsWay}
 use Rattle.v8_step.proofs.Executable.{code_stays}
 use Rattle.v8_step.proofs.Live.{stays_ended, puts_nothing}
@@ -36,7 +34,7 @@ use Rattle.cfg_walk.proofs.Walks.{walks_match}
 use Rattle.code_runs.proofs.Leads.{run_add, puts_add, split_below}
 use Rattle.code_runs.specs.PointsAlike.{AreAlikeOn, AreAtOnePoint, instr_of}
 use Rattle.code_runs.proofs.PointsAlike.{points_act_alike}
-use Rattle.image_code.specs.Simulates.{CaseTable, IsAtWord, IsChosen, IsNoLoad, KeepsAddress, Steps, IsFollowedBy, IsKept, IsOnWay, IsSparing, IsThere, MatchesIn, Setting, StepsOn, at_point, cells_in, does_at, graph_in, number_in, store_of, updates, word_of}
+use Rattle.image_code.specs.Simulates.{CaseTable, IsAtWord, IsChosen, IsNoLoad, KeepsAddress, Steps, IsFollowedBy, IsOnWay, IsSparing, IsThere, MatchesIn, Setting, StepsOn, at_point, cells_in, does_at, graph_in, number_in, store_of, updates, word_of}
 use Rattle.jump_code.specs.PageWords.{kept_address}
 use Rattle.edit_core.specs.RunsAlike.{EndsAtNode, TellsStep}
 use Rattle.edit_core.specs.Runs.{KeepsLoaded, AreTogether, Closed, Follows, Linked, Rests, Spares, StaysInside, Tells, instr_in, limits_in}
@@ -98,8 +96,7 @@ step_live s o e f = cc (e, f)
 puts_live : (s : State) (o : Option ℕ) (descriptor : ℕ) → s.ending ≡ None → fetch_of s.memory s.pc ≡ o
     → puts_of s descriptor ≡ puts_on_word s o descriptor
 unfolding puts_of
-puts_live s o descriptor e f =
-    cc (e, f)
+puts_live s o descriptor e f = cc (e, f)
 
 goes_same : (x : Option Ending) (s v : State) → s.ending ≡ x → s.ending ≡ v.ending
     → (s.ending ≡ None → point_of s ≡ point_of v) → goes_on_at v ≡ goes_on_at s
@@ -107,13 +104,11 @@ goes_same None s v e h k =
     ap (λ (z : Option Ending). point_unless z (point_of v)) (sym h ∙ e)
     ∙ ap (λ (z : Point). point_unless None z) (sym (k e))
     ∙ sym (ap (λ (z : Option Ending). point_unless z (point_of s)) e)
-goes_same (Some d) s v e h k =
-    cc (h, e)
+goes_same (Some d) s v e h k = cc (h, e)
 
 -- the same point, as one
 one_point : (s u : State) → AreAtOnePoint s u → point_of s ≡ point_of u
-one_point s u h =
-    cc (h.pc, h.npc, h.slot)
+one_point s u h = cc (h.pc, h.npc, h.slot)
 
 -- a load's operands are read
 load_sum : (rs1 : ℕ) (op2 : Op2) (s u : State) → s.window ≡ u.window
@@ -273,9 +268,7 @@ module _ (g : Setting) (entry : ℕ) (Inside : Point → Type 0) (Here : Node �
         ∙ sym (puts_add t0 m x.on.count descriptor)
 
     world_next : (n m : ℕ) (x : IsNext n m) → IsSameWorld pages (s (suc n)) (t (x.on.count + m))
-    world_next n m x =
-        rw (arrived n m x)
-        (world_then pages _ _ (does n m) x.on.after x.alike.world x.on.followed)
+    world_next n m x = rw (arrived n m x) (world_then pages _ _ (does n m) x.on.after x.alike.world x.on.followed)
 
     before : (n m : ℕ) → Links n m → (item : Item) → IsItem item
         → WritesIn (instr_in g s0 n) (s n).window item ⊎ K n item
@@ -298,8 +291,7 @@ module _ (g : Setting) (entry : ℕ) (Inside : Point → Type 0) (Here : Node �
         → word_at g.text (s (suc n)).pc ≡ Some o.load → sum_of (s (suc n)) o.rs1 o.op2 ≡ sum_of x.on.after o.rs1 o.op2
     sums_next n m h x live k o is at =
         let c = r.opens.each k o is in
-        let instr : instr_in g s0 (suc n) ≡ Some (i.Load loads.LD c.rd o.rs1 o.op2) =
-        cc (at, c.loads) in
+        let instr : instr_in g s0 (suc n) ≡ Some (i.Load loads.LD c.rd o.rs1 o.op2) = cc (at, c.loads) in
         load_sum o.rs1 o.op2 (s (suc n)) x.on.after (x.alike.world.window ∙ sym x.on.followed.window)
         (λ item is among. items_next n m h x live item is (r.keeping.reads (suc n) item is live
         (rw instr (inr among))))
@@ -333,11 +325,9 @@ module _ (g : Setting) (entry : ℕ) (Inside : Point → Type 0) (Here : Node �
         let go : (does n m).ending ≡ None = sym x.alike.ending ∙ live in
         record {
           live = live;
-          here = rw at
-              (rw (one_point (s (suc n)) (does n m) (x.alike.point live))
+          here = rw at (rw (one_point (s (suc n)) (does n m) (x.alike.point live))
               (rw (end_next n) at (x.on.here go)));
-          items = λ item is k. rw at
-              (items_next n m h x live item is k);
+          items = λ item is k. rw at (items_next n m h x live item is k);
           kept = kept_next n m h x live;
           together = record {
             world = world_next n m x;
@@ -390,8 +380,7 @@ module _ (g : Setting) (entry : ℕ) (Inside : Point → Type 0) (Here : Node �
           second = ap (λ (z : State). z.ending) at ∙ x.on.followed.ending ∙ ended;
           node = cc (at, there_node g (t m) x.on.after (there ended), x.node, same_node g entry s0 n d over);
           address = λ place is. visited_address g.notes (t m) (s n).pc place x.visit
-              (cc ((there ended).range, at, is))
-              ∙ sym (step_stays (s n) d h.live over);
+              (cc ((there ended).range, at, is)) ∙ sym (step_stays (s n) d h.live over);
           together = record {
             world = world_next n m x;
             puts = puts_next n m h x;

@@ -1,6 +1,6 @@
 -- What lives is kept: the code of a snippet takes only what isn't live behind it, and what a snippet makes of the cells
 -- depends on the registers alone that it names.
-use Rattle.std.proofs.Common.{◌≡◌, ℕ, zero, suc, ◌+◌, ◌-◌, ◌*◌, ◌%◌, ◌<◌, ◌⊎◌, inl, inr, true, nat_lt, List, [], ◌∷◌, length, slice_index, refl, ap, sym, ◌∙◌, subst, arith, All, Contains}
+use Rattle.std.proofs.Common.{◌≡◌, ℕ, zero, suc, ◌+◌, ◌-◌, ◌*◌, ◌%◌, ◌<◌, ◌⊎◌, inl, inr, true, nat_lt, List, [], ◌∷◌, length, slice_index, refl, ap, sym, ◌∙◌, arith, All, Contains}
 use Rattle.std.proofs.lemmas.Bool.{and_parts, cases_lt, cond_both, eq-eqb, or_left, or_right}
 use Rattle.std.proofs.lemmas.List.{get_or_past}
 use Rattle.v8_decode.specs.declared.Part.{Part}
@@ -37,8 +37,7 @@ ops_on snips are edge = elim (cases_lt edge (length snips)) [
 
 updates_same : (snips : List (List Op)) → All (All IsOp) snips → (edges cells : List ℕ) (s v : State)
     → ((edge : ℕ) → Contains edges edge → (reg : ℕ) → has (named_by (snippet_on snips edge)) (Reg reg) ≡ true
-    → register_of s reg ≡ register_of v reg)
-    → updates snips edges cells s ≡ updates snips edges cells v
+    → register_of s reg ≡ register_of v reg) → updates snips edges cells s ≡ updates snips edges cells v
 updates_same snips are [] cells s v same = refl
 updates_same snips are (edge ∷ edges) cells s v same =
     ap (λ (now : List ℕ). updates snips edges now s)
@@ -103,8 +102,7 @@ keeps_what_lives g entry s0 text fetches begins opened jumps dead are =
       live = λ n item k.
           kept_by g dead item (run s0 (suc n)).window (gone_in g.text (graph_in g) entry s0 n)
           (gone_completes (graph_in g) g.text (end_of_walk g.text (graph_in g) entry s0 n) (point_of (run s0 n))
-          (goes_on_at (run s0 (suc n))))
-          (keeps.live n item k);
+          (goes_on_at (run s0 (suc n)))) (keeps.live n item k);
       needed = λ n item k. keeps.needed n item k;
       named = λ n cells v live window same.
           updates_same g.snips are (gone_in g.text (graph_in g) entry s0 n) cells (run s0 (suc n)) v
@@ -113,8 +111,7 @@ keeps_what_lives g entry s0 text fetches begins opened jumps dead are =
   where
     registers : (n : ℕ) (v : State) → (run s0 (suc n)).window ≡ v.window
         → ((item : Item) → IsItem item → (WritesIn (instr_in g s0 n) (run s0 n).window item ⊎ KeptIn g entry s0 n item)
-        → IsSameAt item (run s0 (suc n)) v)
-        → Keeps g.text (graph_in g) (named_on g.snips) entry s0
+        → IsSameAt item (run s0 (suc n)) v) → Keeps g.text (graph_in g) (named_on g.snips) entry s0
         → (edge : ℕ) → Contains (gone_in g.text (graph_in g) entry s0 n) edge
         → (reg : ℕ) → has (named_by (snippet_on g.snips edge)) (Reg reg) ≡ true
         → register_of (run s0 (suc n)) reg ≡ register_of v reg

@@ -1,16 +1,14 @@
 -- Where the tables lead: to places of pieces that are there.
-use Rattle.std.proofs.Common.{◌≡◌, ℕ, ◌+◌, ◌^◌, ◌<◌, ◌≤◌, List, length, map, get_or, slice_index, ap, sym, ◌∙◌, subst, arith, All}
+use Rattle.std.proofs.Common.{◌≡◌, ℕ, ◌+◌, ◌^◌, ◌<◌, ◌≤◌, List, length, map, get_or, slice_index, ap, sym, ◌∙◌, arith, All}
 use Rattle.std.proofs.lemmas.Simd.{map-map}
 use Rattle.std.proofs.lemmas.List.{get_or-map, length-map}
 use Rattle.std.proofs.lemmas.Option.{slice_get-get_or}
 use Rattle.eel_base.specs.CodeText.{Words, IsText}
-use Rattle.eel_base.specs.declared.numbers.Addr.{Addr}
 use Rattle.eel_base.specs.declared.numbers.PieceNo.{PieceNo}
 use Rattle.elf32_sparc.specs.Image.{Program}
 use Rattle.addr_translate.specs.Lookup.{TableAt}
 use Rattle.cfg_blocks.specs.Blocks.{below, holding_of}
 use Rattle.cfg_blocks.proofs.Below.{get_or-below, length-below}
-use Rattle.cfg_normal.specs.declared.Node.{Node}
 use Rattle.cfg_normal.specs.Graph.{Graph}
 use Rattle.cfg_walk.proofs.Edges.{block}
 use Rattle.cfg_walk.proofs.Holding.{in_held}
@@ -20,19 +18,18 @@ use Rattle.layout.specs.Laid.{Placement, long_bytes}
 use Rattle.image_code.specs.Fit.{AreFit, PiecesFit}
 use Rattle.image_code.specs.Graphs.{IsGraphOf}
 use Rattle.image_code.specs.Made.{lands_at}
-use Rattle.image_code.specs.Numbered.{case_numbers, enter_number}
+use Rattle.image_code.specs.Numbered.{case_numbers}
 use Rattle.image_code.proofs.OpenBlocks.{text_graph}
 use Rattle.image_code.proofs.OpenNumbers.{enter_below}
 use Rattle.snippets.specs.declared.snippet.Op.{Op}
 use Rattle.edit_core.specs.declared.taking.Asked.{Asked}
-use Rattle.edit_core.specs.Written.{addr, case_places, cells_size, entry_number, foreign_of, landings_of, pieces_by, segment_size, table_after, tables_size, AreInside, AreLaid, AreMade, AreTablesOf, HasRoom, IsBuilt, LeadsTo}
+use Rattle.edit_core.specs.Written.{addr, case_places, cells_size, entry_number, landings_of, table_after, tables_size, AreInside, AreLaid, AreMade, AreTablesOf, HasRoom, IsBuilt, LeadsTo}
 use Rattle.edit_core.proofs.Graphs.{entries_few, graph_cut}
 use Rattle.edit_core.proofs.Steps.{new_fit, new_room}
 
 -- f of each number below n
 pub map_below : {A : Type 0} (f : ℕ → A) (n k : ℕ) (d : A) → k < n → get_or (map f (below n)) k d ≡ f k
-map_below f n k d l =
-    get_or-map f (below n) k 0 d (omega (arith, l, length-below n)) ∙ ap f (get_or-below n k 0 l)
+map_below f n k d l = get_or-map f (below n) k 0 d (omega (arith, l, length-below n)) ∙ ap f (get_or-below n k 0 l)
 
 -- ---- the piece at which the program begins
 
@@ -44,8 +41,7 @@ entry_inside text graph snips list is h fit entry l =
     let low : entry < graph.blocks.words = (let same = c.words in omega (arith, l, same)) in
     let below = enter_below text graph (text_graph text graph is h) (block (holding_of graph.blocks entry)) entry
     (in_held graph.blocks.words graph.blocks.firsts c.firsts entry low) in
-    rw (node_is graph.blocks entry low)
-    (omega (arith, below, fit.foreign))
+    rw (node_is graph.blocks entry low) (omega (arith, below, fit.foreign))
 
 -- ---- the pieces that were made of a view, and where they were placed
 
@@ -70,30 +66,24 @@ module _ {image : Program} {graph : Graph} {asked : Asked} {pieces : List (List 
       ∙ map-map (λ (k : ℕ). addr (slice_index p.at k)) landing (below (length image.text.words))
 
   cases_are : (p : Placement) → map (λ (n : PieceNo). slice_index p.at n.0) ways ≡ case_places image.text graph p
-  cases_are p =
-      cc (map-map (λ (k : ℕ). slice_index p.at k) (λ (n : PieceNo). n.0) ways, made.cases)
+  cases_are p = cc (map-map (λ (k : ℕ). slice_index p.at k) (λ (n : PieceNo). n.0) ways, made.cases)
 
   -- tables that lead to their places are those of the edit
   pub tables_lead : (p : Placement) (table : TableAt)
       → AreTablesOf image.text (map (λ (n : PieceNo). addr (slice_index p.at n.0)) words)
       (addr (slice_index p.at outside.0)) (map (λ (n : PieceNo). slice_index p.at n.0) ways) table
       → LeadsTo image.text graph asked.snips.items p table
-  tables_lead p table are =
-      rw (cases_are p) at
-      (rw made.foreign at
-      (rw (landings_are p) at are))
+  tables_lead p table are = rw (cases_are p) at (rw made.foreign at (rw (landings_are p) at are))
 
   -- and the code is that of the edit
-  pub code_built : (p : Placement) (place : ℕ → ℕ → ℕ)
-      → AreLaid pieces
+  pub code_built : (p : Placement) (place : ℕ → ℕ → ℕ) → AreLaid pieces
       (table_after image.base asked.cells + (tables_size image.text + cells_size (length ways))) p place
       → IsBuilt image.text graph image.base asked.cells asked.snips.items p
   code_built p place laid = record {
     dead = made.dead;
     exact = made.exact;
     place = place;
-    are = rw cases_count at
-        (rw made.list at
+    are = rw cases_count at (rw made.list at
         laid);
   }
 
@@ -133,12 +123,9 @@ module _ {image : Program} {graph : Graph} {asked : Asked} {pieces : List (List 
     }
 
     pub cases_few : length ways ≤ 2 ^ 22
-    cases_few =
-        omega (arith, cases_count, entries_few image.text graph can.text can.graph, can.text.few)
+    cases_few = omega (arith, cases_count, entries_few image.text graph can.text can.graph, can.text.few)
 
     -- and there is room for them, behind the cells and the tables
     pub made_room : cells_size asked.cells + (tables_size image.text + cells_size (length ways)) + long_bytes pieces
         ≤ image.room
-    made_room =
-        rw cases_count
-        (rw made.list (new_room fits can made.dead))
+    made_room = rw cases_count (rw made.list (new_room fits can made.dead))

@@ -1,7 +1,7 @@
 -- The words of the code in the memory of a written file.
 use Rattle.std.proofs.Common.{◌≡◌, ℕ, zero, suc, ◌+◌, ◌-◌, ◌*◌, ◌^◌, ◌<◌, ◌≤◌, Bool, true, false, ◌&&◌, cond, nat_le, max, List, [], ◌∷◌, ◌++◌, length, drop, map, slice_index, Some, None, refl, ap, ◌∙◌, arith, All}
 use Rattle.std.specs.List.{find, fold}
-use Rattle.std.specs.Option.{option_map, option_or}
+use Rattle.std.specs.Option.{option_or}
 use Rattle.std.proofs.Math.Seq.{drop-append-add}
 use Rattle.std.proofs.lemmas.Bool.{and_from, le-leb, lt-leb}
 use Rattle.std.proofs.lemmas.List.Folds.{find-append}
@@ -16,7 +16,6 @@ use Rattle.elf32_write.specs.Laws.{kept}
 use Rattle.edit_core.specs.Faithful.{word_mapped}
 use Rattle.edit_core.specs.Written.{if_any}
 use Rattle.edit_core.proofs.Fronts.{passed, past_any}
-use Rattle.edit_core.proofs.Originals.{base_above}
 
 abbrev covers : ℕ → Mapping → Bool
 covers address m = nat_le m.start address && nat_le (address + 4) (m.start + m.length)
@@ -35,8 +34,7 @@ none_covers file [] n address above = refl
 none_covers file (h ∷ hs) n address above =
     let below : h.p_vaddr + h.p_memsz < address + 4 = omega (arith, end_from hs (max n (h.p_vaddr + h.p_memsz))) in
     passed (nat_le h.p_vaddr address) (nat_le (address + 4) (h.p_vaddr + h.p_memsz)) (kept (mapping_of file h))
-    (find (covers address) (map kept (map (mapping_of file) hs)))
-    (lt-leb (address + 4) (h.p_vaddr + h.p_memsz) below)
+    (find (covers address) (map kept (map (mapping_of file) hs))) (lt-leb (address + 4) (h.p_vaddr + h.p_memsz) below)
     ∙ none_covers file hs (max n (h.p_vaddr + h.p_memsz)) address above
 
 pub original_covers : (original : List ℕ) (address : ℕ) → (image_of original).base ≤ address
@@ -70,23 +68,19 @@ cells_pass count cells address below some =
 -- the words of code that is mapped above the original and the cells, right behind a table
 pub code_mapped : (original file : List ℕ) (words : List ℕ) (count : ℕ) (cells table code : Mapping) (more : List Mapping)
     → mappings file ≡ map kept (mappings original) ++ (if_any count cells ++ table ∷ code ∷ more)
-    → All (λ w. w < 2 ^ 32) words
-    → (image_of original).base ≤ table.start → cells.start + cells.length ≤ table.start
-    → table.start + table.length ≡ code.start → code.length ≡ 4 * length words
-    → code.first ≡ words_bytes words
+    → All (λ w. w < 2 ^ 32) words → (image_of original).base ≤ table.start → cells.start + cells.length ≤ table.start
+    → table.start + table.length ≡ code.start → code.length ≡ 4 * length words → code.first ≡ words_bytes words
     → (n : ℕ) → n < length words → word_mapped file (code.start + 4 * n) ≡ Some (slice_index words n)
 code_mapped original file words count cells table code more all fits base before behind size first n inside =
     let address : ℕ = code.start + 4 * n in
     let here : address - code.start ≡ 4 * n = omega arith in
-    let is_found : find (covers address) (mappings file) ≡ Some code =
-    ap (find (covers address)) all
+    let is_found : find (covers address) (mappings file) ≡ Some code = ap (find (covers address)) all
     ∙ find-append (covers address) (map kept (mappings original)) (if_any count cells ++ table ∷ code ∷ more)
     ∙ ap (λ o. option_or o (find (covers address) (if_any count cells ++ table ∷ code ∷ more)))
     (original_covers original address (omega arith))
     ∙ past_any (covers address) count cells (table ∷ code ∷ more) (cells_pass count cells address (omega arith))
     ∙ passed (nat_le table.start address) (nat_le (address + 4) (table.start + table.length)) table
-    (find (covers address) (code ∷ more))
-    (lt-leb (address + 4) (table.start + table.length) (omega arith))
+    (find (covers address) (code ∷ more)) (lt-leb (address + 4) (table.start + table.length) (omega arith))
     ∙ ap (λ (b : Bool). cond b (Some code) (find (covers address) more))
     (and_from _ _ (le-leb code.start address (omega arith)) (le-leb (address + 4) (code.start + code.length)
     (omega arith))) in

@@ -9,8 +9,8 @@ use Rattle.byteorder.specs.Endian.{big_bytes}
 use Rattle.byteorder.specs.Numbers.{length-bytes_high_first}
 use Rattle.elf32_write.proofs.WordsBytes.{length-flat_map}
 use Rattle.eel_base.specs.CodeText.{Words, IsText, address_of}
-use Rattle.notes.specs.Format.{Notes, NoteRange, NoteSegment, follows, holds, is_version, last_tool, most_cells}
-use Rattle.notes.specs.Rules.{AreNotes, are_segments, are_blocks, are_edges, are_ranges, is_edge, is_free, with_cell}
+use Rattle.notes.specs.Format.{Notes, NoteRange, NoteSegment, follows, holds, is_version}
+use Rattle.notes.specs.Rules.{AreNotes, are_segments, are_blocks, are_edges, are_ranges, is_edge, is_free}
 use Rattle.notes.specs.Laws.{AreWords}
 use Rattle.notes.specs.Written.{words_bytes, notes_bytes, notes_words, segment_words, edge_words, range_words, cell_word}
 use Rattle.cfg_blocks.specs.declared.EdgeKind.{EdgeKind}
@@ -244,7 +244,8 @@ module _ (graph : Graph) (size : ℕ) (p : Placement) (n : Notes) (is : IsNoted 
 
   ranges_few : length n.ranges ≤ 2 ^ 23 + 1
   ranges_few =
-      omega (arith, ap length is.ranges, length-append (off_ranges is.text graph table) p.ranges, off_few is.text graph table, is.range_count)
+      let both = length-append (off_ranges is.text graph table) p.ranges in
+      omega (arith, ap length is.ranges, both, off_few is.text graph table, is.range_count)
 
   edges_fewer : length n.edges ≤ length graph.edges
   edges_fewer = rw is.edges (edges_count graph is.kind graph.edges is.snips)
@@ -268,13 +269,11 @@ module _ (graph : Graph) (size : ℕ) (p : Placement) (n : Notes) (is : IsNoted 
           → are_segments 0 (if_any count (record { start = n.base; length = 4 * count }) ++ behind) ≡ true
       by zero same = behind_rule 0 (omega arith)
       by (suc k) same =
-          and_from _ _
-          (rw (
+          and_from _ _ (rw (
             le-leb 0 n.base (omega arith),
             lt-ltb 0 (4 * suc k) (omega arith),
             le-leb (n.base + 4 * suc k) (2 ^ 32) (omega arith),
-          ) refl)
-          (behind_rule (n.base + 4 * suc k) (omega (arith, same)))
+          ) refl) (behind_rule (n.base + 4 * suc k) (omega (arith, same)))
 
   -- the table and the code hold what lies in them
   table_holds : (lo hi : ℕ) → table ≤ lo → hi ≤ table + size → list_any (holds lo hi) pages ≡ true
@@ -298,8 +297,7 @@ module _ (graph : Graph) (size : ℕ) (p : Placement) (n : Notes) (is : IsNoted 
       → are_ranges nodes pages 0 ((off_range is.text graph table edge ∷ []) ++ p.ranges) ≡ true
   off_rule edge inside =
       let base : table % 4 ≡ 0 = omega (arith, is.base) in
-      and_from _ _
-      (rw (
+      and_from _ _ (rw (
         eq-eqb (table % 4) 0 base,
         eq-eqb ((table + 4) % 4) 0 (omega arith),
         eq-eqb (address_of is.text (length is.text.words) % 4) 0 (omega (arith, is.is_text.aligned)),
@@ -307,8 +305,7 @@ module _ (graph : Graph) (size : ℕ) (p : Placement) (n : Notes) (is : IsNoted 
         le-leb 0 table (omega arith),
         table_holds table (table + 4) (omega arith) (omega arith),
         le-leb (node_number graph edge.from) (2 * nodes) (node_few graph edge.from inside.from),
-      ) refl)
-      (code_rule (table + 4) (omega arith))
+      ) refl) (code_rule (table + 4) (omega arith))
 
   all_rule : are_ranges nodes pages 0 (off_ranges is.text graph table ++ p.ranges) ≡ true
   all_rule =
@@ -360,8 +357,7 @@ module _ (graph : Graph) (size : ℕ) (p : Placement) (n : Notes) (is : IsNoted 
       let marks : List ℕ = length n.ranges ∷ flat_map range_words n.ranges in
       all_each Fits (numbers ++ areas ++ firsts ++ links ++ marks)
       (each-append Fits (numbers ++ areas ++ firsts ++ links) marks (each-append Fits (numbers ++ areas ++ firsts) links
-      (each-append Fits (numbers ++ areas) firsts
-      (each-append Fits numbers areas (
+      (each-append Fits (numbers ++ areas) firsts (each-append Fits numbers areas (
         omega (arith, is.delta_to),
         (
           omega (arith, is.length_to),
@@ -379,8 +375,7 @@ module _ (graph : Graph) (size : ℕ) (p : Placement) (n : Notes) (is : IsNoted 
       ) (
         omega (arith, pages_count),
         rw (is.segments) segment_words_fit,
-      ))
-      (omega (arith, ap length is.blocks, nodes_few), rw (is.blocks) first_words)) (
+      )) (omega (arith, ap length is.blocks, nodes_few), rw (is.blocks) first_words)) (
         omega (arith, edges_fewer, is.edge_count),
         rw (is.edges) (rows_fit edge_words (note_edges graph is.kind graph.edges is.snips)
             (edges_fit graph is.kind n.cells graph.edges is.snips nodes_few is.cells is.edges_in is.below)),

@@ -1,5 +1,5 @@
 -- The place of a slot behind the text: that of each edge which runs one.
-use Rattle.std.proofs.Common.{◌≡◌, ℕ, zero, suc, ◌+◌, ◌-◌, ◌<◌, ◌≤◌, ◌⊎◌, inl, inr, Bool, true, false, ◌&&◌, cond, nat_le, nat_lt, List, [], ◌∷◌, ◌++◌, filter, length, map, Option, Some, None, refl, ap, sym, ◌∙◌, subst, arith}
+use Rattle.std.proofs.Common.{◌≡◌, ℕ, zero, suc, ◌+◌, ◌-◌, ◌<◌, ◌≤◌, ◌⊎◌, inl, inr, Bool, true, false, ◌&&◌, cond, nat_le, nat_lt, List, [], ◌∷◌, ◌++◌, filter, length, map, Option, Some, None, refl, ap, sym, ◌∙◌, arith}
 use Rattle.std.specs.Prelude.{slice_get}
 use Rattle.std.specs.List.{find, flat_map}
 use Rattle.std.specs.Option.{option_map, option_or, option_to_list}
@@ -32,8 +32,7 @@ record IsFound {A : Type 0} (p : A → Bool) (Q : A → Type 0) (xs : List A) : 
   each : Q found
 
 found_in : {A : Type 0} (p : A → Bool) (Q : A → Type 0) (xs : List A) (k : ℕ) (x : A) → Each Q xs
-    → slice_get xs k ≡ Some x
-    → p x ≡ true → IsFound p Q xs
+    → slice_get xs k ≡ Some x → p x ≡ true → IsFound p Q xs
 found_in p Q [] k x each e is = absurd (cc)
 found_in p Q (y ∷ ys) zero x each e is =
     let here : p y ≡ true = ap p (cc) ∙ is in
@@ -124,8 +123,7 @@ module _ (b : Blocks) (firsts : AreFirsts b.words b.firsts) where
 
     pub all_last : Each IsLast (edges_in b opens)
     all_last =
-        each_edge b opens IsLast
-        (each-flat_map IsLast (edges_of b opens) (below (length b.firsts))
+        each_edge b opens IsLast (each-flat_map IsLast (edges_of b opens) (below (length b.firsts))
         (each-below (λ block. Each IsLast (edges_of b opens block)) (length b.firsts) own_last))
         (copied_last (below (length b.firsts)))
         (each-map IsLast landing_at (flat_map (landings_of opens) (below (length b.firsts)))
@@ -142,8 +140,7 @@ module _ (text : Words) (graph : Graph) (table : ℕ) where
   pub off_is : graph.edges ≡ edges_in graph.blocks graph.opens → AreFirsts graph.blocks.words graph.blocks.firsts
       → ((block : ℕ) → is_copied graph.opens block ≡ true
       → last_word graph.blocks.firsts graph.blocks.words block + 1 < graph.blocks.words)
-      → (number : ℕ) (edge : Edge)
-      → slice_get graph.edges number ≡ Some edge → edge.slot ≡ slots.Off
+      → (number : ℕ) (edge : Edge) → slice_get graph.edges number ≡ Some edge → edge.slot ≡ slots.Off
       → off_ranges text graph table ≡ off_range text graph table edge ∷ []
   off_is edges firsts goes_on number edge at off =
       let all : Each (IsLast graph.blocks firsts) graph.edges = rw edges

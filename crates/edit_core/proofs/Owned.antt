@@ -1,5 +1,5 @@
 -- The words of the tables, of the cells and of the editor's page, in the memory with which a written file starts.
-use Rattle.std.proofs.Common.{◌≡◌, ℕ, zero, suc, ◌+◌, ◌-◌, ◌*◌, ◌^◌, ◌<◌, ◌≤◌, ◌⊎◌, inl, inr, Bool, true, false, ◌&&◌, cond, nat_le, List, [], ◌∷◌, ◌++◌, length, length-append, map, replicate, take, drop, Option, Some, None, refl, ap, sym, ◌∙◌, subst, arith}
+use Rattle.std.proofs.Common.{◌≡◌, ℕ, zero, suc, ◌+◌, ◌-◌, ◌*◌, ◌^◌, ◌<◌, ◌≤◌, ◌⊎◌, inl, inr, Bool, true, false, ◌&&◌, cond, nat_le, List, [], ◌∷◌, ◌++◌, length, length-append, map, replicate, take, drop, Option, Some, None, refl, ap, ◌∙◌, arith}
 use Rattle.std.specs.List.{find, range_with_len}
 use Rattle.std.specs.Option.{option_map, option_or}
 use Rattle.std.proofs.lemmas.Bool.{and_from, and_parts, cases_lt, le-leb, leb-true, lt-leb}
@@ -16,7 +16,7 @@ use Rattle.v8_memory.specs.Regions.{Memory, Region, covers, region_at}
 use Rattle.v8_memory.specs.Segments.{empty_heap, region_of}
 use Rattle.v8_memory.specs.Spans.{IsApart, IsApartFromAll, Span}
 use Rattle.v8_process.specs.Start.{start_memory, stack_region}
-use Rattle.code_runs.specs.Ours.{AreOwn, HasNot, HasWordAt, IsAmongWords, IsIn, IsOurs}
+use Rattle.code_runs.specs.Ours.{HasNot, HasWordAt, IsAmongWords, IsIn, IsOurs}
 use Rattle.code_runs.specs.Page.{page_word}
 use Rattle.code_runs.specs.StoredWords.{memory_word, word_in}
 use Rattle.notes.specs.Format.{Notes, NoteSegment}
@@ -90,8 +90,7 @@ IsEither base cells a = IsWordOf (page_word 0) 8 a ⊎ IsWordOf base cells a
 own_either : (base cells a : ℕ) → IsAmongWords (own_words base cells) a → IsEither base cells a
 own_either base cells a among = elim (among_either (words_from (page_word 0) 8) (words_from base cells) a among) [
   | inl here ↦ inl (word_of (page_word 0) 0 8 a here)
-  | inr there ↦ inr (rw (let e : 0 + cells ≡ cells = omega arith in e) at
-      (word_of base 0 cells a there))
+  | inr there ↦ inr (rw (let e : 0 + cells ≡ cells = omega arith in e) at (word_of base 0 cells a there))
 ]
 
 pub cell_is_own : (base cells cell : ℕ) → cell < cells → IsAmongWords (own_words base cells) (cell_at base cell)
@@ -346,13 +345,11 @@ module _ (original : List ℕ) (plan : Plan) (p : Placement) (place : ℕ → �
   -- where neither what is kept nor the cells have it
   found_behind : (q : Region → Bool) → find q kept_regions ≡ None → (0 < plan.cells → q cells_region ≡ false)
       → find q memory.regions ≡ find q behind
-  found_behind q none beside =
-      cc (found_in q, none, any_none q plan.cells cells_region beside)
+  found_behind q none beside = cc (found_in q, none, any_none q plan.cells cells_region beside)
 
   -- nothing that is kept has words above the original
   kept_none : (a : ℕ) → cells_from ≤ a → find (covers a 4) kept_regions ≡ None
-  kept_none a above =
-      rw (find_regions (covers a 4) (map kept (mappings original)), original_covers original a above)
+  kept_none a above = rw (find_regions (covers a 4) (map kept (mappings original)), original_covers original a above)
 
   -- each region behind the cells lacks a word, or some bytes
   record IsBeside (a from count : ℕ) : Type 0 where
@@ -390,8 +387,7 @@ module _ (original : List ℕ) (plan : Plan) (p : Placement) (place : ℕ → �
         (and_from _ _ (le-leb table.base a from) (le-leb (a + 4) (table.base + length table.bytes) to))
 
     table_at_all : region_at memory a 4 ≡ Some table_region
-    table_at_all =
-        cc (heap_low a (omega (arith, to, table_below)), table_found)
+    table_at_all = cc (heap_low a (omega (arith, to, table_below)), table_found)
 
     word_of_table : HasWordAt a false memory
     word_of_table = record {
@@ -438,12 +434,10 @@ module _ (original : List ℕ) (plan : Plan) (p : Placement) (place : ℕ → �
 
   module _ (a : ℕ) (of : IsWordOf (page_word 0) 8 a) where
     none_kept : find (covers a 4) kept_regions ≡ None
-    none_kept =
-        kept_none a (omega (arith, (accepted-program original is.taken.sound).below, of.from))
+    none_kept = kept_none a (omega (arith, (accepted-program original is.taken.sound).below, of.from))
 
     cells_low : 0 < plan.cells → covers a 4 cells_region ≡ false
-    cells_low some =
-        past_covers a cells_region (omega (arith, table_below, is.code.base, of.from))
+    cells_low some = past_covers a cells_region (omega (arith, table_below, is.code.base, of.from))
 
     table_low : covers a 4 table_region ≡ false
     table_low = let from = of.from in none_covers a table_region (omega (arith, table_below, from))
@@ -460,8 +454,7 @@ module _ (original : List ℕ) (plan : Plan) (p : Placement) (place : ℕ → �
         (le-leb (a + 4) (page_region.start + page_region.size) (omega (arith, of.to)))
 
     page_found : find (covers a 4) memory.regions ≡ Some page_region
-    page_found =
-        cc (found_behind (covers a 4) none_kept cells_low, table_low, code_low, page_covers)
+    page_found = cc (found_behind (covers a 4) none_kept cells_low, table_low, code_low, page_covers)
 
     word_at_page : HasWordAt a true memory
     word_at_page = let from = of.from in record {
@@ -580,5 +573,4 @@ module _ (original : List ℕ) (plan : Plan) (p : Placement) (place : ℕ → �
       ∙ ap (from_be_bytes w32) (take-replicate 4 (4 * plan.cells - at) 0 (omega (arith, l)))
     where
       all_found : (a : ℕ) → IsWordOf cells_from plan.cells a → region_at memory a 4 ≡ Some cells_region
-      all_found a of =
-          cc (heap_low a (omega (arith, cells_under a of, table_below)), cell_found a of)
+      all_found a of = cc (heap_low a (omega (arith, cells_under a of, table_below)), cell_found a of)

@@ -68,18 +68,15 @@ pub ranges_rule : (graph : Graph) (segments : List NoteSegment) (end from to : �
     → are_ranges (length graph.blocks.firsts) segments end rs ≡ true
 ranges_rule graph segments end from to [] a w e held = refl
 ranges_rule graph segments end from to (r ∷ rs) a w e held =
-    and_from _ _
-    (rw (
+    and_from _ _ (rw (
       eq-eqb _ _ w.0.lo,
       eq-eqb _ _ w.0.hi,
       eq-eqb _ _ w.0.address,
       lt-ltb r.lo r.hi a.1,
-      le-leb end r.lo
-          (omega arith),
+      le-leb end r.lo (omega arith),
       held r.lo r.hi a.0 (ends_by r.hi to rs a.2),
       le-leb r.node (2 * length graph.blocks.firsts) w.0.node.few,
-    ) refl)
-    (ranges_rule graph segments r.hi r.hi to rs a.2 w.1 (omega arith)
+    ) refl) (ranges_rule graph segments r.hi r.hi to rs a.2 w.1 (omega arith)
     (λ lo hi from_hi to_end. held lo hi (omega arith) to_end))
 
 -- ---- the ranges of laid pieces
@@ -107,13 +104,7 @@ marked_first graph [] h n address node e = absurd (cc)
 marked_first graph (it.Mark a m ∷ items) h zero address node e =
     let same : a ≡ address = cc in
     let also : m ≡ node = cc in
-    record {
-      rest = items;
-      is = rw (same, also) refl;
-      first = refl;
-      mark = rw same at
-          (rw also at h.0);
-    }
+    record { rest = items; is = rw (same, also) refl; first = refl; mark = rw same at (rw also at h.0) }
 marked_first graph (it.Mark a m ∷ items) h (suc n) address node e = absurd (none_marked items h.1 n address node e)
 marked_first graph (x ∷ items) h n address node e = absurd (none_marked (x ∷ items) h n address node e)
 

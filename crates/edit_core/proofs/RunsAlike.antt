@@ -239,8 +239,7 @@ module _ (original : List ℕ) (plan : Plan) (p : Placement) where
     base_aligned = let base = (accepted-program original is.taken.sound).base in omega arith
 
     cells_end_low : cell_at cells_from plan.cells ≤ 2 ^ 31
-    cells_end_low =
-        omega (arith, is.code.base, is.code.leads.first.whole.below)
+    cells_end_low = omega (arith, is.code.base, is.code.leads.first.whole.below)
 
     abbrev dead : ℕ → List Part
     dead = is.code.dead
@@ -474,8 +473,7 @@ module _ (original : List ℕ) (plan : Plan) (p : Placement) where
       }
 
       answers : (n : ℕ) → IsUntouched (pages_of notes) s0 n → Answered its entry Short s0 t0 n
-      answers n untouched =
-          edits_answer its parts code_from p place surroundings entry s0 t0 n rests untouched
+      answers n untouched = edits_answer its parts code_from p place surroundings entry s0 t0 n rests untouched
 
       answered : (n : ℕ) → IsUntouched (pages_of notes) s0 n → IsAnswered its entry s0 t0 n
       answered n untouched =

@@ -1,5 +1,5 @@
 -- Each piece that is made: if it has a Mark, it begins with it and ends it.
-use Rattle.std.proofs.Common.{◌≡◌, ℕ, zero, suc, ◌+◌, ◌-◌, ◌%◌, ◌^◌, ◌<◌, ◌≤◌, ◌==◌, Option, Some, None, true, cond, List, [], ◌∷◌, ◌++◌, length, length-append, map, refl, subst, arith}
+use Rattle.std.proofs.Common.{◌≡◌, ℕ, zero, suc, ◌+◌, ◌-◌, ◌%◌, ◌^◌, ◌<◌, ◌≤◌, ◌==◌, Option, Some, None, true, cond, List, [], ◌∷◌, ◌++◌, length, length-append, map, refl, arith}
 use Rattle.std.specs.Prelude.{nat_lt, slice_get, slice_index}
 use Rattle.std.specs.List.{flat_map, range_with_len}
 use Rattle.std.proofs.lemmas.Bool.{cond_both}
@@ -181,8 +181,7 @@ module _ (text : Words) (graph : Graph) (table cases : ℕ) (codes : ℕ → Lis
       cond_both (same_node node (node_in_order graph word)) _ _ NoMarks
       (λ _. cond_both (nat_lt (word + 1) (length text.words)) _ _ NoMarks
       (λ _. cond_both (is_slots text word) _ _ NoMarks (λ _. tt) (λ _. tt))
-      (λ _. far_unmarked (address_of text (length text.words))))
-      (λ _. tt)
+      (λ _. far_unmarked (address_of text (length text.words)))) (λ _. tt)
 
   module _ (word : ℕ) (node : Node) (visit : IsVisit graph (record { 0 = address_of text word }) (node_number graph
       node)) where
@@ -202,12 +201,10 @@ module _ (text : Words) (graph : Graph) (table cases : ℕ) (codes : ℕ → Lis
         rd rs1 op2)
     jump_by_marked rd rs1 op2 =
         words_marked graph _ _ visit (find_image (free_register rd rs1 op2) (other_register rd rs1 op2) rd rs1 op2
-        (jumps_at text table) (address_of text word))
-        (record { 0 = way_out text graph node kinds.Out }) (omega arith)
+        (jumps_at text table) (address_of text word)) (record { 0 = way_out text graph node kinds.Out }) (omega arith)
 
   jump_marked : (word : ℕ) (node : Node) → IsVisit graph (record { 0 = address_of text word }) (node_number graph node)
-      → (rd rs1 : ℕ) (op2 : Op2)
-      → MarksFirst graph (jump_image_by text graph (jumps_at text table) cases
+      → (rd rs1 : ℕ) (op2 : Op2) → MarksFirst graph (jump_image_by text graph (jumps_at text table) cases
       (record { 0 = address_of text word }) node rd rs1 op2)
   jump_marked word (Block k) visit rd rs1 op2 =
       cond_both (jumps_in graph.opens k.0) _ _ (MarksFirst graph)
@@ -256,8 +253,7 @@ module _ (text : Words) (graph : Graph) (table cases : ℕ) (codes : ℕ → Lis
   slot_marked number edge to inside word l =
       let visit = visit_at word l edge.from inside.from in
       cond_both (is_transfer (decode_of (slice_index text.words word))) _ _ (MarksFirst graph)
-      (λ _. couple_marked graph _ _ visit _)
-      (λ _. cond_both (same_kind edge.kind kinds.Out) _ _ (MarksFirst graph)
+      (λ _. couple_marked graph _ _ visit _) (λ _. cond_both (same_kind edge.kind kinds.Out) _ _ (MarksFirst graph)
       (λ _. found_marked graph _ _ visit _ (flat_map codes (number ∷ [])) 1)
       (λ _. plain_marked graph _ _ visit _ _ (along_unmarked number edge to)))
 
@@ -302,8 +298,7 @@ module _ (text : Words) (graph : Graph) (table cases : ℕ) (codes : ℕ → Lis
           → MarksFirst graph (case_by text graph table codes word (number ∷ numbers))
       by None none = rw none tt
       by (Some edge) here =
-          rw here
-          (way_by_marked number edge word
+          rw here (way_by_marked number edge word
           (each_at (IsEdgeIn graph.blocks graph.opens) graph.edges number edge (edges_inside text graph is h) here)
           edge.slot refl)
 
@@ -311,8 +306,7 @@ module _ (text : Words) (graph : Graph) (table cases : ℕ) (codes : ℕ → Lis
   entry_marked o entry word =
       cond_both (place_in text graph o.targets word == entry) _ _ (MarksFirst graph)
       (λ _. case_marked word (edge_along graph (Block (record { 0 = o.block }))
-      (record { kind = kinds.Case; to = Some (lands graph (Some word)) })))
-      (λ _. tt)
+      (record { kind = kinds.Case; to = Some (lands graph (Some word)) }))) (λ _. tt)
 
   cases_marked : (o : Open) (entry : ℕ) (words : List ℕ)
       → Each (MarksFirst graph) (cases_from text graph table codes o entry words)
@@ -343,22 +337,19 @@ module _ (text : Words) (graph : Graph) (table cases : ℕ) (codes : ℕ → Lis
       let below = s.below in
       let some = some_words graph.blocks.words graph.blocks.firsts (graph_cut text graph is h).firsts o.block
       s.block_in in
-      each-append (MarksFirst graph)
-      (images_of text graph table cases codes (copy o.switch.compare.0)
+      each-append (MarksFirst graph) (images_of text graph table cases codes (copy o.switch.compare.0)
       (slice_index graph.blocks.firsts o.switch.compare.0) (size_of graph.blocks o.switch.compare.0)
       ++ images_of text graph table cases codes (block o.block) (slice_index graph.blocks.firsts o.block)
       (load_of text o - slice_index graph.blocks.firsts o.block))
       (keep_by (decode_of (slice_index text.words (load_of text o)))
       ∷ images_of text graph table cases codes (block o.block) (load_of text o)
       (slice_index graph.blocks.firsts o.block + size_of graph.blocks o.block - load_of text o))
-      (each-append (MarksFirst graph)
-      (images_of text graph table cases codes (copy o.switch.compare.0)
+      (each-append (MarksFirst graph) (images_of text graph table cases codes (copy o.switch.compare.0)
       (slice_index graph.blocks.firsts o.switch.compare.0) (size_of graph.blocks o.switch.compare.0))
       (images_of text graph table cases codes (block o.block) (slice_index graph.blocks.firsts o.block)
       (load_of text o - slice_index graph.blocks.firsts o.block))
       (images_marked (copy o.switch.compare.0) (s.compare_in, copied) _ _ (block_within o.switch.compare.0
-      s.compare_in))
-      (images_marked (block o.block) s.block_in _ _ (omega (arith, within, above, below, some)))) (
+      s.compare_in)) (images_marked (block o.block) s.block_in _ _ (omega (arith, within, above, below, some)))) (
         unmarked graph (keep_by (decode_of (slice_index text.words (load_of text o))))
             (keep_unmarked (decode_of (slice_index text.words (load_of text o)))),
         images_marked (block o.block) s.block_in _ _ (omega (arith, within, above, below, some)),
@@ -379,8 +370,7 @@ module _ (text : Words) (graph : Graph) (table cases : ℕ) (codes : ℕ → Lis
 
   ordered_marked : (word : ℕ) → word < length text.words
       → MarksFirst graph (image text graph (jumps_at text table) cases codes (node_in_order graph word) word)
-  ordered_marked word l =
-      image_marked (node_in_order graph word) (ordered_in word l) word l
+  ordered_marked word l = image_marked (node_in_order graph word) (ordered_in word l) word l
 
   abbrev ordered : List (List Item)
   ordered = images_in_order text graph table cases codes
@@ -405,13 +395,11 @@ module _ (text : Words) (graph : Graph) (table cases : ℕ) (codes : ℕ → Lis
   all_marked =
       each-append _ (ordered ++ ways ++ landings ++ opened ++ chosen) (foreign_piece ∷ [])
       (each-append _ (ordered ++ ways ++ landings ++ opened) chosen
-      (each-append _ (ordered ++ ways ++ landings) opened
-      (each-append _ (ordered ++ ways) landings
+      (each-append _ (ordered ++ ways ++ landings) opened (each-append _ (ordered ++ ways) landings
       (each-append _ ordered ways
       (each-map _ (λ word. image text graph (jumps_at text table) cases codes (node_in_order graph word) word)
       (below (length text.words)) (each-below _ (length text.words) ordered_marked))
-      (ways_marked 0 (own_edges graph) each_own))
-      (each-map _ (landing text graph codes) (below (length text.words))
+      (ways_marked 0 (own_edges graph) each_own)) (each-map _ (landing text graph codes) (below (length text.words))
       (each _ (below (length text.words)) landing_marked)))
       (each_flat _ (open_pieces text graph table cases codes) graph.opens
       (opens_marked graph.opens (compares_copied graph.opens) (text_graph text graph is h).switches)))

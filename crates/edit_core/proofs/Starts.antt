@@ -1,5 +1,5 @@
 -- An original and its written file start in valid states, which are the same but for the pages and where they stand.
-use Rattle.std.proofs.Common.{◌≡◌, ℕ, ◌*◌, Bool, true, false, cond, nat_eq, List, [], ◌∷◌, ◌++◌, length, map, refl, ap, sym, ◌∙◌, subst}
+use Rattle.std.proofs.Common.{◌≡◌, ℕ, ◌*◌, Bool, true, false, cond, nat_eq, List, [], ◌∷◌, ◌++◌, length, map, refl, ap, sym, ◌∙◌}
 use Rattle.std.specs.Prelude.{bit_and}
 use Rattle.std.proofs.lemmas.Nat.{and_assoc}
 use Rattle.elf32_sparc.specs.Header.{has_flag, program_headers}
@@ -74,8 +74,7 @@ module _ (original : List ℕ) (plan : Plan) (p : Placement) (place : ℕ → �
       ∙ ap (λ (spans : List Span). if_any plan.cells (span (cells_base original plan) (4 * plan.cells)) ++ spans)
       (cc (is.code.base, size))
       ∙ sym (any-map (λ (s : NoteSegment). span s.start s.length) plan.cells
-      (record { start = cells_base original plan; length = 4 * plan.cells })
-      (record {
+      (record { start = cells_base original plan; length = 4 * plan.cells }) (record {
         start = table_base original plan;
         length = segment_size (text_of original plan) (graph_in original
             plan);

@@ -74,14 +74,12 @@ module _ (s : State) (live : s.ending ≡ None) where
   stays_call : (number a b c : ℕ) → StaysAt s.pc (system_call s number a b c)
   unfolding system_call
   stays_call number a b c =
-      stays_if s.pc (number == 1) _ _ (stays_ended s _)
-      (stays_if s.pc (number == 3) _ _
+      stays_if s.pc (number == 1) _ _ (stays_ended s _) (stays_if s.pc (number == 3) _ _
       (stays_if s.pc (a == 0) _ _ (stays_read _ (buffer_written s.memory b (take c s.input))) (λ e. absurd (e live)))
       (stays_if s.pc (number == 4) _ _
       (stays_if s.pc (is_output a) _ _ (stays_wrote c (buffer_read s.memory b c)) (λ e. absurd (e live)))
       (stays_if s.pc (number == 17) _ _
-      (stays_if s.pc (is_heap_end a) _ _ (λ e. absurd (e live)) (λ e. absurd (e live)))
-      (λ e. absurd (e live)))))
+      (stays_if s.pc (is_heap_end a) _ _ (λ e. absurd (e live)) (λ e. absurd (e live))) (λ e. absurd (e live)))))
 
   stays_alu : (rd : ℕ) (r : Result AluOut AluTrap) → StaysAt s.pc (alu_step s rd r)
   unfolding alu_step
@@ -137,8 +135,7 @@ stays_act s live (i.Load kind rd rs1 op2) =
 stays_act s live (i.Store kind rd rs1 op2) =
     stays_if s.pc (sum_of s rs1 op2 % store_size kind == 0) _ _
     (stays_on s live (Trap data_access_exception) (with_bytes s.memory (sum_of s rs1 op2) (stored s kind rd)) _
-    (λ n e. absurd (e live)))
-    (stays_ended s _)
+    (λ n e. absurd (e live))) (stays_ended s _)
 stays_act s live (i.Ldstub rd rs1 op2) = stays_exchange s live w8 rd (sum_of s rs1 op2) _
 stays_act s live (i.Swap rd rs1 op2) = stays_exchange s live w32 rd (sum_of s rs1 op2) _
 stays_act s live i.Illegal = stays_ended s _

@@ -1,5 +1,5 @@
 -- What the parts of an edit give it.
-use Rattle.std.proofs.Common.{◌≡◌, ℕ, ◌+◌, ◌-◌, ◌*◌, ◌^◌, ◌<◌, ◌≤◌, min, List, [], ◌∷◌, ◌++◌, length, Err, refl, ap, sym, ◌∙◌, subst, arith, All}
+use Rattle.std.proofs.Common.{◌≡◌, ℕ, ◌+◌, ◌-◌, ◌*◌, ◌^◌, ◌<◌, ◌≤◌, min, List, [], ◌∷◌, ◌++◌, length, Err, refl, arith, All}
 use Rattle.std.specs.Prelude.{slice_index}
 use Rattle.std.proofs.lemmas.List.{length-map}
 use Rattle.eel_base.specs.CodeText.{IsText, Words}
@@ -90,8 +90,7 @@ segment_is text graph snips p table leads =
 module _ (original : List ℕ) (plan : Plan) (image : Program) (graph : Graph) (is : IsViewOf original plan image graph) where
   -- what is true of the one is true of the other
   seen : (P : Program → Graph → Type 0) → P (image_of original) (graph_in original plan) → P image graph
-  seen P true_there = rw is.0
-      (rw is.1 true_there)
+  seen P true_there = rw is.0 (rw is.1 true_there)
 
   there : (P : Program → Graph → Type 0) → P image graph → P (image_of original) (graph_in original plan)
   there P true_here = rw is.1 at (rw is.0 at true_here)

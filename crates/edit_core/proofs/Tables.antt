@@ -43,8 +43,7 @@ module _ (text : Words) (targets : List Addr) (foreign : Addr) (places : List �
     tables_joined one two low =
         let size : length first ≡ size_of text = one.size in
         let more : length second ≡ halves_size text = two.size in
-        let both : length (first ++ second) ≡ tables_size text =
-        cc (length-append first second, size, more) in
+        let both : length (first ++ second) ≡ tables_size text = cc (length-append first second, size, more) in
         let all : length (first ++ second ++ pages) ≡ tables_size text + cells_size (length places) =
         cc (length-append (first ++ second) pages, both, pages_length places) in
         record {
@@ -52,7 +51,11 @@ module _ (text : Words) (targets : List Addr) (foreign : Addr) (places : List �
           low = omega (arith, all, low);
           first = subst (λ (bytes : List ℕ). IsTableOf text targets foreign (record { base = base; bytes = bytes }))
               (sym (cc (append_assoc first second pages, size, take-append_seam first (second ++ pages)))) one;
-          second = rw (ap (λ (bytes : List ℕ). take (halves_size text) (drop (size_of text) bytes)) (append_assoc first second pages) ∙ ap (λ n. take (halves_size text) (drop n (first ++ (second ++ pages)))) (sym size) ∙ ap (take (halves_size text)) (drop-append_seam first (second ++ pages)) ∙ ap (λ n. take n (second ++ pages)) (sym more) ∙ take-append_seam second pages) two;
+          second = rw (ap (λ (bytes : List ℕ). take (halves_size text) (drop (size_of text) bytes))
+              (append_assoc first second pages) ∙ ap
+              (λ n. take (halves_size text) (drop n (first ++ (second ++ pages)))) (sym size) ∙ ap
+              (take (halves_size text)) (drop-append_seam first (second ++ pages)) ∙ ap
+              (λ n. take n (second ++ pages)) (sym more) ∙ take-append_seam second pages) two;
           cases = cc (both, drop-append_seam (first ++ second) pages);
         }
 
@@ -69,8 +72,7 @@ second_word text tables a from to long =
       arith,
       from,
       to,
-    ))
-    ∙ ap (take 4) (drop-drop (a - jumps_at text tables.base) (size_of text) tables.bytes
+    )) ∙ ap (take 4) (drop-drop (a - jumps_at text tables.base) (size_of text) tables.bytes
     ∙ ap (λ n. drop n tables.bytes)
     (let e : size_of text + (a - jumps_at text tables.base) ≡ a - tables.base = omega (arith, from) in e))))
   where
@@ -98,8 +100,7 @@ pub cases_word : (text : Words) (tables : TableAt) (a : ℕ) → cases_at text t
 unfolding table_word
 cases_word text tables a from =
     sym (ap (λ (z : List ℕ). from_be_bytes w32 (take 4 z))
-    (drop-drop (a - cases_at text tables.base) (tables_size text) tables.bytes
-    ∙ ap (λ n. drop n tables.bytes)
+    (drop-drop (a - cases_at text tables.base) (tables_size text) tables.bytes ∙ ap (λ n. drop n tables.bytes)
     (let e : tables_size text + (a - cases_at text tables.base) ≡ a - tables.base = omega (arith, from) in e)))
 
 -- a word among words as bytes, with zeros behind

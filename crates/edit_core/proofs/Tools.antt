@@ -1,5 +1,5 @@
 -- What a tool asks of a file, as it was seen.
-use Rattle.std.proofs.Common.{◌≡◌, ℕ, List, subst}
+use Rattle.std.proofs.Common.{◌≡◌, ℕ, List}
 use Rattle.cfg_blocks.specs.Marks.{numbers}
 use Rattle.cfg_view.specs.View.{Seen, view_of}
 use Rattle.snippets.specs.declared.snippet.Op.{Op}

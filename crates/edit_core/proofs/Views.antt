@@ -1,11 +1,10 @@
 -- What the view of a file has.
-use Rattle.std.proofs.Common.{◌≡◌, ℕ, ◌≤◌, List, None, refl, sym, ap, ◌∙◌, subst}
+use Rattle.std.proofs.Common.{◌≡◌, ℕ, ◌≤◌, List, None, refl, sym, ap, ◌∙◌}
 use Rattle.elf32_sparc.specs.FileFault.{fault}
-use Rattle.elf32_sparc.specs.Image.{Program, image_of}
+use Rattle.elf32_sparc.specs.Image.{image_of}
 use Rattle.cfg_blocks.specs.Entries.{entered_of}
 use Rattle.cfg_normal.specs.Graph.{Graph}
-use Rattle.cfg_view.specs.View.{Seen}
-use Rattle.cfg_view.specs.View.{view_of}
+use Rattle.cfg_view.specs.View.{Seen, view_of}
 use Rattle.tool_kit.specs.Plans.{Plan}
 use Rattle.edit_core.specs.Taken.{CanEdit, bound_in, bound_of}
 use Rattle.edit_core.specs.Written.{CanDo, IsViewOf, IsWorkable, graph_in}
@@ -27,16 +26,11 @@ module _ (file : List ℕ) (plan : Plan) (view : Seen) (is : view ≡ view_of fi
   )
 
   pub view_bound : bound_of view.image.text view.graph plan ≡ bound_in file plan
-  view_bound =
-      cc (is, view_image file plan.marks)
+  view_bound = cc (is, view_image file plan.marks)
 
   -- it can be edited, where there is room
   pub can_edit : None ≡ fault file → bound_of view.image.text view.graph plan ≤ view.image.room → CanEdit file plan
-  can_edit sound room = record {
-    sound = sym sound;
-    room = rw (← view_bound)
-        (rw (← view_is.0) room);
-  }
+  can_edit sound room = record { sound = sym sound; room = rw (← view_bound) (rw (← view_is.0) room) }
 
   -- and what can be done on its graph can be done on that of the file
   pub view_can_do : IsWorkable view.graph plan.kind plan.cells plan.snips → CanDo file plan

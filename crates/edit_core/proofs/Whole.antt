@@ -1,11 +1,11 @@
 -- Whole runs.
-use Rattle.std.proofs.Common.{◌≡◌, ℕ, suc, ◌≤◌, subst, arith}
+use Rattle.std.proofs.Common.{◌≡◌, ℕ, suc, ◌≤◌, arith}
 use Rattle.two_runs.specs.TwoRuns.{Answers, IsLeast}
 use Rattle.two_runs.proofs.Follows.{runs_follow}
 use Rattle.image_code.specs.Images.{Here}
 use Rattle.image_code.specs.Outside.{IsOpen}
 use Rattle.layout.specs.Laid.{HasShortForms}
-use Rattle.edit_core.specs.Runs.{Follows, Spares, limits_in}
+use Rattle.edit_core.specs.Runs.{Follows, limits_in}
 use Rattle.edit_core.specs.Whole.{EditsAnswer, KeptIn}
 use Rattle.edit_core.proofs.Induction.{follows}
 use Rattle.edit_core.proofs.Stops.{stop_is}
@@ -29,7 +29,8 @@ edits_answer g l base p place f entry s0 t0 last r u =
       bounded = all.2;
       spared = λ n below m i first next.
           rw (one_least (Answers g.notes s0 t0 n) (k.moments n) m (all.0 n (omega (arith, below))) first) at
-          (rw (one_least (Answers g.notes s0 t0 (suc n)) (k.moments (suc n)) i (all.0 (suc n) (omega (arith, below))) next) at
+          (rw (one_least (Answers g.notes s0 t0 (suc n)) (k.moments (suc n)) i
+          (all.0 (suc n) (omega (arith, below))) next) at
           (k.spared n below));
       cells = k.cells;
       stops = λ m visits. stop_is g entry (HasShortForms l.list place) s0 t0 last r.first.live k all.0 m visits;

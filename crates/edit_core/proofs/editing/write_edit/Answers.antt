@@ -69,8 +69,7 @@ write_around-requires-clause-original c =
       c.deref-2.ensures.value,
       c.in_ok-notes-2.ensures,
       c.in_ok-notes.ensures c.requires.asked.0 c.requires.asked.1,
-    )
-    (can_be_written c.args.bytes.now plan c.requires.limit c.requires.asked.2 c.requires.asked.3 _ _ _ code
+    ) (can_be_written c.args.bytes.now plan c.requires.limit c.requires.asked.2 c.requires.asked.3 _ _ _ code
     (original_fit pieces_fit c.args.bytes.now plan c.requires.asked.2 c.requires.asked.3 code.dead))
 
 pub returns : goal.returns
@@ -82,15 +81,14 @@ returns c = λ marks view.
       table = _;
       code = code_is _ plan _ _ view c.in_ok-new.new.placed _ c.in_ok-new.ensures.built c.in_ok-new.ensures.leads
           c.in_ok-added.ensures.code c.in_ok-added.ensures.tables;
-      is = c.in_ok-file.ensures
-          ∙ rw (
-            c.deref.ensures.value,
-            segments_are _ plan _ _ view c.in_ok-new.new.placed _ c.in_ok-new.ensures.built
-                c.in_ok-new.ensures.leads _
-                (rw (c.above-addresses.ensures.base, c.above-addresses.ensures.cells) at c.in_ok-added.ensures.segments),
-            c.deref-2.ensures.value,
-            c.in_ok-notes-2.ensures,
-            c.in_ok-notes.ensures marks view,
-            c.in_ok-new.ensures.entry ∙ view_entry _ plan _ _ view (placement_in c.in_ok-new.new.placed),
-          ) refl;
+      is = c.in_ok-file.ensures ∙ rw (
+        c.deref.ensures.value,
+        segments_are _ plan _ _ view c.in_ok-new.new.placed _ c.in_ok-new.ensures.built
+            c.in_ok-new.ensures.leads _
+            (rw (c.above-addresses.ensures.base, c.above-addresses.ensures.cells) at c.in_ok-added.ensures.segments),
+        c.deref-2.ensures.value,
+        c.in_ok-notes-2.ensures,
+        c.in_ok-notes.ensures marks view,
+        c.in_ok-new.ensures.entry ∙ view_entry _ plan _ _ view (placement_in c.in_ok-new.new.placed),
+      ) refl;
     }

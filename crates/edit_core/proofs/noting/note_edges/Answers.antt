@@ -10,12 +10,10 @@ returns c = elim c.in-None.ensures.steps [
       sym (append-nil (map edge_seen c.loop-edge.edges.items))
       ∙ ap (λ (rest : List NoteEdge). map edge_seen c.loop-edge.edges.items ++ rest)
       (sym (none_first c.args.graph.now c.args.asked.now.kind c.loop-edge.edge-iterator.a.rest.now
-      c.loop-edge.edge-iterator.b.rest.now h.1.0))
-      ∙ c.loop-edge.invariant
+      c.loop-edge.edge-iterator.b.rest.now h.1.0)) ∙ c.loop-edge.invariant
   | inr h ↦
       sym (append-nil (map edge_seen c.loop-edge.edges.items))
       ∙ ap (λ (rest : List NoteEdge). map edge_seen c.loop-edge.edges.items ++ rest)
       (sym (none_second c.args.graph.now c.args.asked.now.kind c.loop-edge.edge-iterator.a.rest.now
-      c.loop-edge.edge-iterator.b.rest.now h.1.0))
-      ∙ c.loop-edge.invariant
+      c.loop-edge.edge-iterator.b.rest.now h.1.0)) ∙ c.loop-edge.invariant
 ]
