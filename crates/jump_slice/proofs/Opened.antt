@@ -18,14 +18,13 @@ use Rattle.cfg_blocks.specs.declared.switches.Compare.{Compare}
 use Rattle.cfg_blocks.specs.declared.switches.Switch.{Switch}
 use Rattle.cfg_blocks.specs.Blocks.{Blocks, below, blocks_of, end_of, holding_of, last_word}
 use Rattle.cfg_blocks.specs.Entries.{Entered, entered_of}
-use Rattle.cfg_blocks.specs.Switches.{approach_of, compare_of, switch_of, switches_of}
+use Rattle.cfg_blocks.specs.Switches.{approach_of, compare_of, switch_of, switches_of, bounds, is_jump, switch_behind, switch_into, switch_on}
 use Rattle.cfg_normal.specs.Opens.{Open, candidate, is_candidate, is_closed, loads_here, opened, opens_of, targets_of, with_switch}
 use Rattle.cfg_walk.specs.Matches.{AreOpen}
 use Rattle.cfg_walk.proofs.Cut.{cut}
 use Rattle.cfg_walk.proofs.Holding.{is_held, some_words}
 use Rattle.cfg_walk.proofs.Lists.{Each, each-append, each-below, each-flat_map}
 use Rattle.jump_slice.specs.Cases.{IsOpen}
-use Rattle.cfg_blocks.specs.Switches.{bounds, is_jump, switch_behind, switch_into, switch_on}
 use Rattle.cfg_blocks.specs.Values.{instr_at}
 use Rattle.jump_slice.proofs.Parts.{if_some, switch_at-is}
 

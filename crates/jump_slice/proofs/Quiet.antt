@@ -24,13 +24,12 @@ use Rattle.cfg_walk.proofs.Cut.{IsCut, cut}
 use Rattle.cfg_walk.proofs.Edges.{block}
 use Rattle.cfg_walk.proofs.Slots.{LeadsIfThere}
 use Rattle.cfg_walk.proofs.Holding.{IsIn, Leads, ends_at_next, ends_at_words, first_held, in_held, some_words}
-use Rattle.cfg_blocks.specs.Ends.{within}
+use Rattle.cfg_blocks.specs.Ends.{within, is_transfer}
 use Rattle.cfg_walk.proofs.Addresses.{next_word}
 use Rattle.cfg_walk.proofs.Leaving.{end_is, ends_home, falls_to, node_is, straight_end, straight_left, transfer_ends}
 use Rattle.cfg_walk.proofs.Points.{Stands, within_some}
 use Rattle.cfg_walk.proofs.Transfers.{always_goes, untaken_goes}
 use Rattle.jump_slice.proofs.Blocks.{is_conditional, not_bounded}
-use Rattle.cfg_blocks.specs.Ends.{is_transfer}
 use Rattle.v8_step.proofs.CopiedMoves.{goes_act}
 use Rattle.jump_slice.specs.Cases.{IsOpen}
 use Rattle.jump_slice.specs.Runs.{to_branch}

@@ -21,7 +21,7 @@ use Rattle.cfg_normal.specs.Opens.{Open, jumps_in, opens_of}
 use Rattle.cfg_normal.specs.Graph.{Graph, graph_of, node_of}
 use Rattle.cfg_walk.specs.Walk.{completed, end_of_walk, gone, goes_on_at, instr_at, node_after, point_of, unless_ended, way_of}
 use Rattle.cfg_walk.specs.Matches.{JumpsGoByCase, BeginsAt, FetchesOnly, MatchesBy}
-use Rattle.cfg_walk.proofs.Cut.{IsCut, cut}
+use Rattle.cfg_walk.proofs.Cut.{IsCut, cut, entry_leads}
 use Rattle.cfg_walk.proofs.Edges.{block}
 use Rattle.cfg_walk.proofs.Holding.{first_held}
 use Rattle.cfg_blocks.specs.Ends.{within}
@@ -31,15 +31,12 @@ use Rattle.v8_step.proofs.CopiedMoves.{goes_act}
 use Rattle.jump_slice.proofs.Arriving.{couples}
 use Rattle.cfg_walk.proofs.Walks.{first as first_matches, live_before, steps_match}
 use Rattle.cfg_walk.proofs.Nodes.{node_in}
-use Rattle.cfg_walk.proofs.Cut.{entry_leads}
 use Rattle.v8_step.proofs.Executable.{code_stays}
 use Rattle.v8_step.specs.declared.Ending.TheVariants.{Couple}
-use Rattle.jump_slice.proofs.Opened.{opens_are}
-use Rattle.jump_slice.specs.Cases.{JumpsAreCases, SwitchesAreCompared, SwitchWalksMatch}
-use Rattle.jump_slice.specs.Cases.{ComesFromCompare}
+use Rattle.jump_slice.proofs.Opened.{opens_are, open_found}
+use Rattle.jump_slice.specs.Cases.{JumpsAreCases, SwitchesAreCompared, SwitchWalksMatch, ComesFromCompare}
 use Rattle.jump_slice.specs.Held.{HoldsText}
 use Rattle.jump_slice.proofs.About.{about}
-use Rattle.jump_slice.proofs.Opened.{open_found}
 use Rattle.jump_slice.proofs.Branching.{taken_not, untaken_not}
 use Rattle.jump_slice.proofs.Known.{Carries, Compared, IsHead, IsRun, KnownBy, Passed, Tells, block_number, carried, known_outside, opened, same_some, sets_transfer}
 use Rattle.jump_slice.proofs.Jumping.{goes_by_case}
