@@ -19,20 +19,17 @@ use Rattle.cfg_normal.specs.declared.Edge.{Edge}
 use Rattle.cfg_normal.specs.declared.Node.{Node}
 use Rattle.cfg_normal.specs.declared.Node.TheVariants.{Block, Landed, X}
 use Rattle.cfg_normal.specs.declared.Slot.TheVariants as carried
-use Rattle.cfg_walk.specs.Walk.{Point as RunPoint, WayOut, by_kind, edge_along, left_along, way_to, edge_from, landed, landing_at, node_after, same_kind, same_node, slot_left, instr_at, way_of}
+use Rattle.cfg_walk.specs.Walk.{Point as RunPoint, WayOut, by_kind, edge_along, left_along, way_to, edge_from, landed, landing_at, node_after, same_kind, same_node, slot_left, instr_at, way_of, leads_along as is_to}
 use Rattle.cfg_walk.specs.Matches.{AreOpen, Begins, IsOnItsWay}
 use Rattle.cfg_blocks.proofs.Targets.{word_at-some}
 use Rattle.cfg_walk.proofs.Cut.{IsCut}
-use Rattle.cfg_walk.specs.Walk.{leads_along as is_to}
 use Rattle.cfg_walk.proofs.Edges.{IsEdge, block, landing_found, leads_along, node_at, number_of_list, same_nodes}
-use Rattle.cfg_walk.proofs.Nodes.{after_in, home_directed, home_lands, home_of_node, lands_there}
+use Rattle.cfg_walk.proofs.Nodes.{after_in, home_directed, home_lands, home_of_node, lands_there, lands_in}
 use Rattle.cfg_walk.proofs.Holding.{IsIn, Leads, in_held, is_held, first_held}
-use Rattle.cfg_walk.proofs.Nodes.{lands_in}
-use Rattle.cfg_walk.proofs.Ways.{same_kinds}
+use Rattle.cfg_walk.proofs.Ways.{same_kinds, IsOne}
 use Rattle.cfg_walk.proofs.Leaving.{is_in, node_is, way_found}
 use Rattle.cfg_walk.proofs.Points.{within_some}
 use Rattle.cfg_walk.proofs.Slots.{LeadsIfThere, jump_lands, lands_not, way_leads}
-use Rattle.cfg_walk.proofs.Ways.{IsOne}
 use Rattle.liveness.specs.Live.{edge_at, Holds, LandsAt, IsLast, IsFirst, GoesOnAt, is_call_or_jump, is_outside, is_unknown, Point, At, Along, After, Goes}
 use Rattle.live_walk.proofs.Trips.{Trip, slot, left, inside, over, jumped}
 
@@ -285,10 +282,7 @@ module _ (text : Words) (b : Blocks) (opens : List Open) (c : IsCut text b) (are
             let here : word_at text before.npc ≡ Some v = ap (word_at text) (sym pc) ∙ at in
             let arrives : node_after graph node es ≡ lands_of b opens (Some v) =
             jump_lands text b opens c node before h ∙ ap (lands_of b opens) here in
-            rw is (
-              cc (is_edge, to_is, here, arrives),
-              rw arrives (rw kind_is (lands_at v here)),
-            )
+            rw is (cc (is_edge, to_is, here, arrives), rw arrives (rw kind_is (lands_at v here)))
 
     -- another jump, and then the landing where the text has the word
     jump_trip : (h : IsOnItsWay text graph node before kinds.Out) → has_cases opens node ≡ false → (o : Option ℕ)

@@ -87,11 +87,7 @@ next_leads b c word l last more = by (cases_lt (suc (holding_of b word)) (length
         let i = in_held b.words b.firsts c.firsts word l in
         let ends_at : block_end b.firsts b.words (holding_of b word) ≡ slice_index b.firsts (suc (holding_of b word)) =
         rw (lt-ltb _ _ next) in
-        record {
-          block = suc (holding_of b word);
-          within = next;
-          is = omega (arith, i.below);
-        }
+        record { block = suc (holding_of b word); within = next; is = omega (arith, i.below) }
     by (inr none) =
         let ends_at : block_end b.firsts b.words (holding_of b word) ≡ b.words = rw (le-ltb _ _ none) in
         absurd (omega arith)
