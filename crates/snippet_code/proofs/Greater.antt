@@ -18,8 +18,7 @@ use Rattle.code_runs.proofs.Hops.{equal_or_not}
 use Rattle.snippets.specs.declared.snippet.Op.TheVariants.{Top}
 use Rattle.snippet_code.specs.Cells.{cell_at}
 use Rattle.snippet_code.specs.Words.{op_words, small, high, load_low, store_low, of_two, with_number}
-use Rattle.snippet_code.proofs.Working.{HasBlock, Works, put}
-use Rattle.snippet_code.proofs.Working.{update_one, Does}
+use Rattle.snippet_code.proofs.Working.{HasBlock, Works, put, update_one, Does}
 use Rattle.snippet_code.proofs.OneOperation.{sum_low, high_is, gives, free_store, at, works_words, as_many, Doing}
 use Rattle.snippet_code.proofs.Blocks.{put_same, put_other, unpicked_is, sethi, alu, ld, st, compares, branches}
 use Rattle.v8_alu.specs.Conditions.{holds_of}

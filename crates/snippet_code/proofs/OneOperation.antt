@@ -20,9 +20,8 @@ use Rattle.snippets.specs.declared.snippet.Op.{Op}
 use Rattle.snippets.specs.declared.snippet.Op.TheVariants.{Add, Put, Keep}
 use Rattle.snippet_code.specs.Cells.{cell_at}
 use Rattle.snippet_code.specs.Words.{op_words, is_small, small, low, high, load_low, store_low, of_two, with_number}
-use Rattle.snippet_code.proofs.Working.{HasBlock, Works, put}
+use Rattle.snippet_code.proofs.Working.{HasBlock, Works, put, update_one, IsFit, Does}
 use Rattle.code_runs.specs.Counted.{any_of_word, one_if, word_span}
-use Rattle.snippet_code.proofs.Working.{update_one, IsFit, Does}
 use Rattle.snippet_code.proofs.Blocks.{unpicked_is, sethi, alu, ld, st}
 
 -- ---- words in two parts

@@ -15,9 +15,8 @@ use Rattle.snippets.specs.declared.snippet.Op.TheVariants.{Add, Put, Keep, Top, 
 use Rattle.snippet_code.specs.Cells.{cell_at, kept_word}
 use Rattle.code_runs.specs.Page.{of_page}
 use Rattle.snippet_code.specs.Words.{op_words, all_words, numbered, save, restore, low, high}
-use Rattle.snippet_code.proofs.Working.{HasBlock, Works, put}
+use Rattle.snippet_code.proofs.Working.{HasBlock, Works, put, update_one, update_all, Does, AreFit, AreFrom, HavePage, saved, AreSaved}
 use Rattle.code_runs.specs.Counted.{any_of_word, one_if, word_span}
-use Rattle.snippet_code.proofs.Working.{update_one, update_all, Does, AreFit, AreFrom, HavePage, saved, AreSaved}
 use Rattle.snippet_code.proofs.OneOperation.{as_many, Doing, add_works, put_works, keep_works}
 use Rattle.snippet_code.proofs.Greater.{top_works}
 use Rattle.snippet_code.proofs.Wide.{count_works, log_works}
