@@ -211,11 +211,7 @@ next_is pieces laid leads h short = start (slice_get laid (length laid - 1)) ref
     start : (o : Option ℕ) → slice_get laid (length laid - 1) ≡ o → IsNext pieces laid (next_after pieces laid o)
     start None e =
         let s : laid ≡ [] = none_last laid e in
-        rw s (record {
-          inside = omega arith;
-          free = refl;
-          falls = λ j e f. absurd (omega arith);
-        })
+        rw s (record { inside = omega arith; free = refl; falls = λ j e f. absurd (omega arith) })
     start (Some last) e = exits last (exit_at pieces last) refl (leads last) e
 
 -- ---- laying

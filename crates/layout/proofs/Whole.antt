@@ -38,11 +38,7 @@ module _ (pieces : List (List Item)) (base room : ℕ) (entries : List Entry) (s
       }
 
   needed : (n : ℕ) → n ≡ 4 * offset entries (forms_in forms) (length entries) → IsNeeded pieces n
-  needed n e = record {
-    long = forms_in forms;
-    widened = widened;
-    value = cc (e, f.entries_are);
-  }
+  needed n e = record { long = forms_in forms; widened = widened; value = cc (e, f.entries_are) }
 
   pub all_laid : ArePieces pieces → base % 4 ≡ 0 → base + room ≤ 2 ^ 31 → (r : Result Placed LayoutFault)
       → IfOk r (IsPut base entries starts (forms_in forms)) → FitsIn r (4 * offset entries (forms_in forms) (length

@@ -21,14 +21,7 @@ pub overflow_add-here : goal.overflow_add-here
 overflow_add-here c =
     let layout = c.args.self.now in
     let few = offset_small layout.entries.now (forms_in layout.forms.now) c.loop-n.n in
-    omega (
-      arith,
-      few,
-      c.loop-n.invariant.here,
-      c.width_at-here.ensures.small,
-      c.loop-n-test.true,
-      layout.small,
-    )
+    omega (arith, few, c.loop-n.invariant.here, c.width_at-here.ensures.small, c.loop-n-test.true, layout.small)
 
 pub loop-n-preserved : goal.loop-n-preserved
 loop-n-preserved c =
