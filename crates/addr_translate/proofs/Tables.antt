@@ -75,14 +75,6 @@ second_below t part = go (among (first_part t) (parts t) part (3 + (part - first
     go (inl h) = omega arith
     go (inr h) = omega arith
 
-third_below : (t : Words) (page : ℕ) → third_for t page < blocks t
-third_below t page = go (among (first_page t) (pages t) page (3 + parts t + (page - first_page t)) 2)
-  where
-    go : ((third_for t page ≡ 3 + parts t + (page - first_page t)) × IsIn (first_page t) (pages t) page)
-        ⊎ ((third_for t page ≡ 2) × IsOff (first_page t) (pages t) page) → third_for t page < blocks t
-    go (inl h) = omega arith
-    go (inr h) = omega arith
-
 block_of : (block place : ℕ) → place < 1024 → (1024 * block + place) / 1024 ≡ block
 block_of block place h = omega arith
 

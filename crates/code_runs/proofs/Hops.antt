@@ -21,7 +21,7 @@ use Rattle.code_runs.specs.Straight.{Says}
 use Rattle.code_runs.specs.TwoRegisters.{HasScratch, IsAlike, IsBetween, Works}
 use Rattle.code_runs.specs.Hops.{hopped, Hops}
 use Rattle.code_runs.proofs.Acts.{says_step, says_puts, ld_acts, jump_acts}
-use Rattle.code_runs.proofs.Leads.{leads_one, leads_then, leads_weaker, silent_one, silent_then, split_below}
+use Rattle.code_runs.proofs.Leads.{leads_one, leads_then, silent_one, silent_then, split_below}
 use Rattle.code_runs.proofs.TwoRegisters.{places_differ, set_stays, other_is}
 
 pub equal_or_not : (p q : ℕ) → (p ≡ q) ⊎ (p ≢ q)
@@ -55,51 +55,6 @@ stores_then May Might m n o f h k = record {
 }
 
 -- ---- one block after another
-pub works_then : (s : State) (count more : ℕ) (May Might : ℕ → Type 0) (a b n k : ℕ) (m m' : Memory) (x y x' y' : ℕ)
-    → ((z : ℕ) → May z → Might z)
-    → (w : Works s count Might a b n m x y) → Works w.after more May a b k m' x' y' → n + more ≤ count → k ≤ more
-    → 0 < n → 0 < k → Works s count Might a b (n + k) m' x' y'
-works_then s count more May Might a b n k m m' x y x' y' f w v room few some some' =
-    let p = w.pc in
-    let q = w.npc in
-    let pv = v.pc in
-    let qv = v.npc in
-    let g = w.alike in
-    let h = v.alike in
-    let on = λ (o : Memory) (z : Stores May w.after.memory o). stores_then May Might s.memory m o f w.stores
-    (subst (λ (o' : Memory). Stores May o' o) g.memory z) in
-    record {
-      after = v.after;
-      path = leads_then (IsBetween s count Might) s w.after v.after n k w.path
-          (leads_weaker (IsBetween w.after more May) (IsBetween s count Might) w.after v.after k
-          (λ u z. let a1 = z.past in let a2 = z.before in record { past = omega arith; before = omega arith; stores = on u.memory z.stores }) v.path)
-          (λ _ _. record {
-            past = omega arith;
-            before = omega arith;
-            stores = subst (Stores Might s.memory)
-                (sym g.memory) w.stores;
-          });
-      silent = silent_then s w.after n k w.path.steps w.silent v.silent;
-      pc = omega arith;
-      npc = omega arith;
-      slot = λ _. v.slot some';
-      alike = record {
-        live = h.live;
-        window = h.window ∙ g.window;
-        valid = h.valid ∙ g.valid;
-        input = h.input ∙ g.input;
-        codes = h.codes ∙ g.codes;
-        y_register = h.y_register ∙ g.y_register;
-        registers = h.registers;
-        first = h.first;
-        second = h.second;
-        others = λ z na nb. h.others z (subst (λ (wd : ℕ). z ≢ place_of wd a) (sym g.window) na)
-            (subst (λ (wd : ℕ). z ≢ place_of wd b) (sym g.window) nb) ∙ g.others z na nb;
-        memory = h.memory;
-      };
-      stores = on m' v.stores;
-      code = v.code ∙ ap code_of g.memory ∙ w.code;
-    }
 
 -- ---- the state that was reached, as a whole
 same_state : (u : State) (pc npc : ℕ) (slot : Slot) (registers : List ℕ) (window valid : ℕ) (codes : Codes) (y : ℕ)

@@ -1,6 +1,6 @@
 -- Notes of a profile, as the code tells them.
 use Rattle.std.proofs.Common.{◌≡◌, ℕ, ◌*◌, ◌≤◌, Bool, true, List, [], get_or, length, map, refl, ap, sym, ◌∙◌, subst, arith}
-use Rattle.std.specs.Prelude.{IsTrue, ℤ}
+use Rattle.std.specs.Prelude.{IsTrue}
 use Rattle.std.proofs.lemmas.Bool.{eq-eqb, or_left, or_right}
 use Rattle.std.proofs.lemmas.List.{length-map}
 use Rattle.std.proofs.lemmas.List.Elements.{All-map}
@@ -12,7 +12,6 @@ use Rattle.flows.specs.declared.Link.{Link}
 use Rattle.notes.specs.Rules.{AreNotes}
 use Rattle.notes.specs.Seen.{edge_seen, notes_seen}
 use Rattle.notes.specs.declared.note.Notes as declared_notes
-use Rattle.count_rebuild.specs.Counts.{cell_value}
 use Rattle.count_rebuild.specs.Noted.{AreNodes, has_cell, is_counted, is_node, link_of, noted_graph}
 use Rattle.count_rebuild.proofs.Rules.{block_is_node, counted_is, edge_named, edges_inside, graph_is, links_seen, same_nodes}
 
@@ -67,9 +66,3 @@ module _ (n : declared_notes.Notes) (nodes : List Bool) (are_nodes : AreNodes (n
 pub length_links : (n : declared_notes.Notes) (links : List Link) → links ≡ map (λ edge. link_of (edge_seen edge)) n.edges.items
     → length links ≡ length n.edges.items
 length_links n links are = ap length are ∙ length-map n.edges.items _
-
-pub length_values : (n : declared_notes.Notes) (version : ℕ) (cells : List ℕ) (values : List ℤ)
-    → values ≡ map (λ edge. cell_value version cells (edge_seen edge).cell) n.edges.items
-    → length values ≡ length n.edges.items
-length_values n version cells values are =
-    ap length are ∙ length-map n.edges.items (λ edge. cell_value version cells (edge_seen edge).cell)

@@ -3,8 +3,8 @@ use Rattle.std.proofs.Common.{◌≡◌, ℕ, ◌+◌, ◌*◌, ◌^◌, ◌<◌
 use Rattle.std.specs.Prelude.{ℤ, pos, negsuc, nat_abs, slice_index}
 use Rattle.std.specs.List.{All}
 use Rattle.std.proofs.Math.ListN.{get_or-map}
-use Rattle.std.proofs.lemmas.Bool.{cases_lt, cond_both, false≢true, le-leb, leb-false, lt-leb}
-use Rattle.std.proofs.lemmas.List.{get_or_past, length-map}
+use Rattle.std.proofs.lemmas.Bool.{cases_lt, cond_both, false≢true, leb-false, lt-leb}
+use Rattle.std.proofs.lemmas.List.{length-map}
 use Rattle.std.proofs.lemmas.List.Elements.{All-cons, All-nil}
 use Rattle.flow_rebuild.specs.Values.{int_at}
 use Rattle.notes.specs.Seen.{edge_seen}
@@ -53,29 +53,7 @@ whole_flow flow counts are whole = λ i e. at e i
         sym (whole_value (int_at flow e) (whole e))
         ∙ ap pos (sym (ap (λ (counts : List ℕ). slice_index counts e) are ∙ get_or-map nat_abs flow e (pos 0)))
 
--- past the end there are zeros
-pub whole_past : (flow : List ℤ) (n : ℕ) → n ≡ length flow → ((e : ℕ) → e < n → is_negative (int_at flow e) ≡ false)
-    → (e : ℕ) → is_negative (int_at flow e) ≡ false
-whole_past flow n all h e = by (cases_lt e n)
-  where
-    by : (e < n) ⊎ (n ≤ e) → is_negative (int_at flow e) ≡ false
-    by (inl l) = h e l
-    by (inr l) = ap is_negative (get_or_past flow e (pos 0) (omega (arith, l, all)))
-
--- one edge more
-pub whole_more : (flow : List ℤ) (edge : ℕ) → ((e : ℕ) → e < edge → is_negative (int_at flow e) ≡ false)
-    → is_negative (int_at flow edge) ≡ false → (e : ℕ) → e < edge + 1 → is_negative (int_at flow e) ≡ false
-whole_more flow edge h now e l = by (cases_lt e edge)
-  where
-    by : (e < edge) ⊎ (edge ≤ e) → is_negative (int_at flow e) ≡ false
-    by (inl m) = h e m
-    by (inr m) = let is : e ≡ edge = omega (arith, l, m) in ap (λ (e : ℕ). is_negative (int_at flow e)) is ∙ now
-
 -- ---- numbers of 64 bits
-
-pub is_large_from : (z : ℤ) → is_negative z ≡ false → 2 ^ 64 ≤ nat_abs z → is_large z ≡ true
-is_large_from (pos n) h l = le-leb (2 ^ 64) n l
-is_large_from (negsuc n) h l = absurd (false≢true (sym h))
 
 is_large_below : (z : ℤ) → nat_abs z < 2 ^ 64 → is_large z ≡ false
 is_large_below (pos n) l = lt-leb (2 ^ 64) n l

@@ -1,14 +1,8 @@
 -- How many bytes the tables have at most.
 use Rattle.std.proofs.Common.{ℕ, ◌+◌, ◌*◌, ◌^◌, ◌≤◌, length, arith}
 use Rattle.eel_base.specs.CodeText.{Words, IsText}
-use Rattle.addr_translate.specs.Table.{size_of}
 use Rattle.addr_translate.specs.Halves.{halves_size}
 use Rattle.edit_core.specs.Written.{cells_size, tables_size}
-
-first_small : (t : Words) → IsText t → size_of t ≤ 28672 + 4 * length t.words
-first_small t text =
-    let few = text.few in
-    omega arith
 
 second_small : (t : Words) → IsText t → halves_size t ≤ 397312 + 4 * length t.words
 second_small t text =

@@ -12,12 +12,10 @@ use Rattle.notes.specs.Format.{Notes, NoteSegment, notes_of}
 use Rattle.elf32_write.specs.Laws.{kept}
 use Rattle.v8_step.specs.declared.Ending.{Ending}
 use Rattle.v8_step.specs.State.{State}
-use Rattle.v8_step.specs.Machine.{FailsAt}
 use Rattle.v8_step.specs.Run.{run}
 use Rattle.two_runs.specs.Needed.{IsUntouched}
 use Rattle.two_runs.specs.Visits.{page_of, pages_of}
 use Rattle.v8_process.specs.Arguments.{AreArguments}
-use Rattle.v8_runner.specs.Runs.{AreMade}
 use Rattle.cfg_normal.specs.Graph.{Graph}
 use Rattle.cfg_walk.specs.Walk.{end_of_walk, gone, point_of, unless_ended, walk}
 use Rattle.span_tree.specs.Cells.{has_cell}
@@ -46,7 +44,7 @@ use Rattle.exact_counts.proofs.Totals.{executions_add_up}
 use Rattle.eel.specs.Answers.Demo.{EndsAlone, alone, walk_alone}
 use Rattle.eel.specs.Answers.Dump.{IsNoted}
 use Rattle.eel.specs.Answers.Profile.{IsProfileOf, ProfileRefuses, guessed, profile_plan}
-use Rattle.eel.specs.Tame.{AreAbove, EndsWithin, IsLastDump, IsNotedFile, IsTame}
+use Rattle.eel.specs.Tame.{AreAbove, EndsWithin, IsLastDump, IsTame}
 use Rattle.eel.proofs.ExactProfiles.{edit_is_profiled, one_notes}
 
 some_not_none : (d : Ending) → Some d ≡ None → ⊥
@@ -91,20 +89,7 @@ profiled_or_wanting file tame (faults.Room needed had) (cells, are, cramped) =
     absurd (omega (arith, little, room, needs, has, less))
 profiled_or_wanting file tame faults.NoMemory is = refl
 
-pub is_noted_file : (file written : List ℕ) → IsProfileOf (guessed file) file written → IsNotedFile written
-is_noted_file file written profile =
-    let faithful = profile.made.faithful in record { notes = faithful.notes; reads = faithful.whole.reads }
-
 -- ---- its run ends soon
-
-pub tame_ends : (file : List ℕ) → IsTame file → EndsWithin (alone file) (2 ^ 32)
-tame_ends file tame =
-    let few = tame.few in
-    record {
-      steps = tame.steps;
-      few = omega (arith, few);
-      ended = λ none. some_not_none tame.ending (sym tame.ran.ends ∙ none);
-    }
 
 -- ---- pages of notes
 
@@ -264,10 +249,3 @@ module _ (file written : List ℕ) (tame : IsTame file) (profile : IsProfileOf (
         ∙ ap length (sym (no_more ending steps (v - 1) ran (omega (arith, visits, some))))
 
 -- ---- runs whose output goes nowhere
-
-pub not_stopped : (s0 : State) (steps : ℕ) → EndsWithin s0 (2 ^ 32) → AreMade s0 steps → steps ≡ 2 ^ 40 → ⊥
-not_stopped s0 steps ends made all =
-    let few = ends.few in ends.ended (made ends.steps (omega (arith, few, all)))
-
-pub no_failure : (bytes : List ℕ) → FailsAt bytes 0 0 → ⊥
-no_failure bytes fails = let rose = fails.1 in omega (arith, rose)

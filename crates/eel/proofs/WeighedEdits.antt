@@ -1,26 +1,17 @@
 -- An edit with counters that are placed by the counts of an earlier run.
-use Rattle.std.proofs.Common.{◌≡◌, ℕ, List, [], refl, subst, lit≤}
+use Rattle.std.proofs.Common.{◌≡◌, ℕ, List, refl, subst, lit≤}
 use Rattle.std.specs.Prelude.{Option}
-use Rattle.cfg_view.specs.View.{view_of}
 use Rattle.edit_core.specs.declared.taking.EditFault.{EditFault}
 use Rattle.edit_core.specs.declared.taking.EditFault.TheVariants as faults
 use Rattle.edit_core.specs.Taken.{EditRefuses, IsCramped}
 use Rattle.eel.specs.Outcome.{Outcome, BadFile, BadLine, NoRoom, OutOfMemory, status_of}
-use Rattle.eel.specs.Answers.Files.{IsSound}
 use Rattle.eel.specs.Answers.Edit.{refusal_of}
 use Rattle.eel.specs.Answers.Profile.{AreCells, graph_in, profile_plan}
-use Rattle.eel.specs.Answers.Weighed.{AreNotWeights, AreWeightsOf, IsNotWeighed, weighed_means, weighing}
+use Rattle.eel.specs.Answers.Weighed.{AreWeightsOf, IsNotWeighed, weighed_means, weighing}
 use Rattle.eel.proofs.MakingsBy.{lines_by_status}
 use Rattle.eel.proofs.Meanings.{IsBad, IsByStatus, bad}
 
 -- ---- what is refused says why
-
--- the lines are refused
-pub weights_refused : (input bytes name lines : List ℕ) (outcome : Outcome) → IsSound bytes
-    → AreNotWeights (view_of bytes []) name lines outcome → IsNotWeighed input bytes name lines outcome
-weights_refused input bytes name lines (BadLine named number cause) sound (same, bad) = (same, sound, bad)
-weights_refused input bytes name lines OutOfMemory sound is = sound
-weights_refused input bytes name lines _ sound is = absurd is
 
 -- the edit of IN is refused
 pub edit_refused : (input bytes name lines weights : List ℕ) (cells : List (Option ℕ)) (fault : EditFault)

@@ -44,11 +44,6 @@ segments-all file xs whole at count i past so_far =
     let none : count - i ≡ 0 = omega arith in
     sym (append-nil xs) ∙ (ap (λ n. xs ++ map segment_of (loadable (headers_from file at n))) (sym none) ∙ so_far)
 
-pub words_of-none : (count : ℕ) (bytes : List ℕ) → words_of (count - 0) (drop (4 * 0) bytes) ≡ words_of count bytes
-words_of-none count bytes =
-    let all : count - 0 ≡ count = omega arith in
-    ap (λ n. words_of n bytes) all
-
 pub words_of-more : (bytes xs whole : List ℕ) (count i : ℕ) → i < count → xs ++ words_of (count - i) (drop (4 * i) bytes) ≡ whole → (xs ++ big_number 4 (drop (4 * i) bytes) ∷ []) ++ words_of (count - (i + 1)) (drop (4 * (i + 1)) bytes) ≡ whole
 words_of-more bytes xs whole count i below so_far =
     let left : count - i ≡ suc (count - (i + 1)) = omega arith in
@@ -57,8 +52,3 @@ words_of-more bytes xs whole count i below so_far =
     append_assoc xs (word ∷ []) (words_of (count - (i + 1)) (drop (4 * (i + 1)) bytes))
     ∙ (ap (λ r. xs ++ word ∷ words_of (count - (i + 1)) r) (sym (drop-drop 4 (4 * i) bytes ∙ ap (λ n. drop n bytes) next))
     ∙ (ap (λ n. xs ++ words_of n (drop (4 * i) bytes)) (sym left) ∙ so_far))
-
-pub words_of-all : (bytes xs whole : List ℕ) (count i : ℕ) → count ≤ i → xs ++ words_of (count - i) bytes ≡ whole → xs ≡ whole
-words_of-all bytes xs whole count i past so_far =
-    let none : count - i ≡ 0 = omega arith in
-    sym (append-nil xs) ∙ (ap (λ n. xs ++ words_of n bytes) (sym none) ∙ so_far)

@@ -40,10 +40,6 @@ part_more xs ys at part p = record {
   place = p.place;
 }
 
--- the beginning and the end
-pub part_first : (xs ys : List ℕ) → Part (xs ++ ys) 0 xs
-part_first xs ys = record { before = []; after = ys; is = refl; place = refl }
-
 pub part_last : (xs ys : List ℕ) (at : ℕ) → length xs ≡ at → Part (xs ++ ys) at ys
 part_last xs ys at there = record { before = xs; after = []; is = ap (λ z. xs ++ z) (sym (append-nil ys)); place = there }
 

@@ -1,5 +1,5 @@
 -- The last edge of a tree settles the node that it joined.
-use Rattle.std.proofs.Common.{◌≡◌, ℕ, zero, suc, ◌<◌, ◌⊎◌, inl, inr, Bool, true, false, ◌||◌, cond, List, [], ◌∷◌, ◌++◌, length, take, get_or, refl, ap, sym, ◌∙◌, subst, arith}
+use Rattle.std.proofs.Common.{◌≡◌, ℕ, ◌<◌, ◌⊎◌, inl, inr, Bool, true, false, ◌||◌, cond, List, [], ◌∷◌, ◌++◌, refl, ap, sym, ◌∙◌, subst}
 use Rattle.std.specs.Prelude.{ℤ, pos, neg_ℤ, ◌==◌, if◌then◌else◌}
 use Rattle.std.proofs.lemmas.Bool.{cases_Bool, cases_eq, eq-eqb, ne_eqb, or_left, or_right}
 use Rattle.flows.specs.Flows.{Graph, IsGraph, IsFlow, NodeSet}
@@ -124,9 +124,3 @@ settle_last g w r a b xs e v x t h vf unset done = record { reached = k.before; 
 -- at the end it is a flow
 pub settled_flow : (g : Graph) (w : ℕ → ℕ) (r a b : ℕ) (x : ℕ → ℤ) → IsGraph g → a < g.nodes → b < g.nodes → Settled g w r a b [] x → IsFlow g a b x
 settled_flow g w r a b x ok la lb h = balanced_flow g a b r x ok la lb (λ v l c. h.done v l (ap (λ (s : NodeSet). s v) h.grows ∙ ne_eqb v r c))
-
--- the node at k of those that are joined
-pub joined_at : (g : Graph) (w : ℕ → ℕ) (es : List ℕ) (s t : NodeSet) (k : ℕ) → k < length es → Grows g w s (take k es) t → get_or (joined_by g s es) k 0 ≡ far_end g t (get_or es k 0)
-joined_at g w [] s t k l h = absurd (omega arith)
-joined_at g w (x ∷ xs) s t zero l h = ap (λ (u : NodeSet). far_end g u x) (sym h)
-joined_at g w (x ∷ xs) s t (suc k) l h = joined_at g w xs (and_also s (far_end g s x)) t k (omega arith) h.1

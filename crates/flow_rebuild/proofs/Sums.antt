@@ -15,7 +15,7 @@ use Rattle.std.proofs.Math.Bool.{or-false}
 use Rattle.flows.specs.Links.{link_at, graph_of}
 use Rattle.flows.specs.Trees.{on}
 use Rattle.flows.specs.declared.Link.{Link}
-use Rattle.flows.proofs.Bools.{eqb_swap, true_or_false}
+use Rattle.flows.proofs.Bools.{true_or_false}
 use Rattle.flow_rebuild.specs.Excess.{excess_below}
 use Rattle.flow_rebuild.specs.Values.{int_at, abs_sum, added, passed, carries}
 use Rattle.flow_tree.specs.Tree.{edges_in}
@@ -148,18 +148,6 @@ passed_excess n links values a b k u xs ys e lt lf h = rw add-one (
     let r = cond_neg ((link_at links k).from == u) (int_at values k) in
     let s : int_at ys u ≡ int_at (passed xs (link_at links k) (int_at values k)) u = ap (λ (zs : List ℤ). int_at zs u) e in
     omega (arith, ints, p, q, r, s, h))
-
-pub start_excess : (n : ℕ) (links : List Link) (values : List ℤ) (a b u : ℕ) (xs : List ℤ) → xs ≡ added (added (replicate n (pos 0)) a (pos 1)) b (negsuc 0) → a < n → b < n → int_at xs u ≡ excess_below (graph_of n links) 0 a b (int_at values) u
-start_excess n links values a b u xs e la lb =
-    let k = length-replicate n (pos 0) in
-    let p = int_added (replicate n (pos 0)) a u (pos 1) (omega (arith, k)) in
-    let q = int_added (added (replicate n (pos 0)) a (pos 1)) b u (negsuc 0) (let m = length-set (replicate n (pos 0)) a (int_at (replicate n (pos 0)) a +ℤ pos 1) in omega (arith, m, k)) in
-    let r = cond_neg (b == u) (pos 1) in
-    let s : int_at xs u ≡ int_at (added (added (replicate n (pos 0)) a (pos 1)) b (negsuc 0)) u = ap (λ (zs : List ℤ). int_at zs u) e in
-    let o = int_none n u in
-    let g : cond (a == u) (pos 1) (pos 0) ≡ cond (u == a) (pos 1) (pos 0) = ap (λ (j : Bool). cond j (pos 1) (pos 0)) (eqb_swap a u) in
-    let h : cond (b == u) (pos 1) (pos 0) ≡ cond (u == b) (pos 1) (pos 0) = ap (λ (j : Bool). cond j (pos 1) (pos 0)) (eqb_swap b u) in
-    omega (arith, ints, p, q, r, s, o, g, h)
 
 abs_most : (xs : List ℤ) → All (λ z. nat_abs z < 2 ^ 64) xs → abs_sum xs ≤ length xs * 18446744073709551616
 abs_most [] h = omega arith

@@ -6,7 +6,6 @@ use Rattle.std.proofs.lemmas.List.{take_more}
 use Rattle.eel_base.specs.declared.numbers.NoMemory.{NoMemory}
 use Rattle.eel_base.specs.CodeText.{Words}
 use Rattle.eel_base.specs.declared.numbers.Addr.{Addr}
-use Rattle.eel_base.specs.declared.numbers.WordNo.{WordNo}
 use Rattle.v8_decode.specs.Words.{decode_of}
 use Rattle.v8_step.specs.Items.{is_transfer}
 use Rattle.cfg_blocks.specs.declared.EdgeKind.{EdgeKind}
@@ -14,7 +13,7 @@ use Rattle.cfg_blocks.specs.declared.EdgeKind.TheVariants as kinds
 use Rattle.cfg_blocks.specs.Entries.{is_fall}
 use Rattle.cfg_normal.specs.declared.Edge.{Edge}
 use Rattle.cfg_normal.specs.declared.Slot.TheVariants as slots
-use Rattle.cfg_normal.specs.Graph.{Graph, IsEdgeIn, IsSlotIn}
+use Rattle.cfg_normal.specs.Graph.{Graph}
 use Rattle.cfg_walk.specs.Walk.{same_kind}
 use Rattle.cfg_walk.specs.Matches.{way_address}
 use Rattle.layout.specs.declared.items.Item.{Item}
@@ -23,7 +22,6 @@ use Rattle.jump_code.specs.Pieces.{found_piece}
 use Rattle.image_code.specs.declared.parts.Next.{Next}
 use Rattle.image_code.specs.Cases.{plain_piece}
 use Rattle.image_code.specs.Couple.{couple_piece}
-use Rattle.image_code.specs.Lookups.{IsSource}
 use Rattle.image_code.specs.Made.{couple_word, goes_along, goes_on, jump_to, past_slot, slot_copy, snippet_items, way_along, way_by, ways_from}
 use Rattle.image_code.specs.Parts.{items_of}
 
@@ -139,11 +137,3 @@ ways_pushed text graph table codes edges n d before list new piece l pushed made
     ∙ append_assoc before (ways_from text graph table codes 0 (take n edges))
     (way_along text graph table codes n (get_or edges n d) ∷ [])
     ∙ ap (λ (ways : List (List Item)). before ++ ways) (sym (ways_next text graph table codes edges n d l))
-
--- a slot that an edge carries stands in the text
-pub slot_within : (text : Words) (graph : Graph) → IsSource text graph → (edge : Edge)
-    → IsEdgeIn graph.blocks graph.opens edge → (slot : WordNo) → edge.slot ≡ slots.Word slot
-    → slot.0 < length text.words
-slot_within text graph h edge inside slot is =
-    let low : slot.0 < graph.blocks.words = subst (IsSlotIn graph.blocks) is inside.slot in
-    omega (arith, h.words)

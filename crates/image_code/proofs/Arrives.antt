@@ -73,12 +73,6 @@ unmarked_open (it.Branch c z ∷ xs) n (suc k) are = unmarked_open xs (suc n) k 
 unmarked_open (it.Mark a b ∷ xs) n (suc k) are = absurd are.0
 unmarked_open (it.EndMark ∷ xs) n (suc k) are = absurd are.0
 
-pub get_word : (ws : List ℕ) (j w : ℕ) (xs : List Item) → slice_get ws j ≡ Some w
-    → slice_get (map it.Word ws ++ xs) j ≡ Some (it.Word w)
-get_word [] j w xs e = absurd (cc)
-get_word (v ∷ vs) zero w xs e = cc
-get_word (v ∷ vs) (suc j) w xs e = get_word vs j w xs e
-
 behind_unmarked : (xs ys : List Item) → AreUnmarked (xs ++ ys) → AreUnmarked ys
 behind_unmarked [] ys are = are
 behind_unmarked (x ∷ xs) ys are = behind_unmarked xs ys are.1

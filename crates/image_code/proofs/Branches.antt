@@ -10,8 +10,6 @@ use Rattle.v8_decode.specs.Words.{decode_of, branch_or_sethi}
 use Rattle.v8_decode.proofs.Rows.{decoded_range}
 use Rattle.v8_step.specs.declared.Slot.{Slot}
 use Rattle.v8_step.specs.declared.Slot.TheVariants.{NoSlot, Taken, Untaken}
-use Rattle.v8_step.specs.State.{State}
-use Rattle.v8_step.specs.Transfers.{branched}
 use Rattle.v8_step.specs.Items.{is_transfer}
 use Rattle.cfg_blocks.specs.declared.EdgeKind.{EdgeKind}
 use Rattle.cfg_blocks.specs.declared.EdgeKind.TheVariants as kinds
@@ -41,15 +39,6 @@ nop_says = refl
 pub couple_says : decode_of couple_word ≡ i.Branch 8 false (pos 2)
 unfolding decode_of branch_or_sethi
 couple_says = refl
-
-pub branched_lives : (flag all annul : Bool) (s : State) (to : ℕ) → s.ending ≡ None
-    → (branched flag all annul s to).ending ≡ None
-branched_lives true true true s to e = e
-branched_lives true true false s to e = e
-branched_lives true false true s to e = e
-branched_lives true false false s to e = e
-branched_lives false all true s to e = e
-branched_lives false all false s to e = e
 
 -- ---- ways
 

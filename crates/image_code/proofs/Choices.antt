@@ -1,5 +1,5 @@
 -- The words of an open switch's JMPL lead to the piece of a Case edge.
-use Rattle.std.proofs.Common.{◌≡◌, ℕ, suc, ◌+◌, ◌*◌, ◌%◌, ◌^◌, ◌<◌, ◌≤◌, false, Option, Some, None, List, [], ◌∷◌, ◌++◌, length, refl, ap, sym, ◌∙◌, subst, arith}
+use Rattle.std.proofs.Common.{◌≡◌, ℕ, suc, ◌+◌, ◌%◌, ◌^◌, ◌<◌, ◌≤◌, false, Option, Some, None, List, [], ◌∷◌, ◌++◌, length, refl, ap, sym, ◌∙◌, subst, arith}
 use Rattle.std.specs.Prelude.{◌/◌, slice_get, slice_index}
 use Rattle.std.proofs.lemmas.List.{length-append}
 use Rattle.eel_base.specs.declared.numbers.Addr.{Addr}
@@ -42,9 +42,7 @@ use Rattle.layout.specs.declared.items.Item.{Item}
 use Rattle.layout.specs.declared.items.Item.TheVariants as it
 use Rattle.layout.specs.Laid.{HasShortForms, IsLaid, Placement, item_at}
 use Rattle.layout.specs.Running.{HasCode}
-use Rattle.eel_base.specs.CodeText.{IsText}
-use Rattle.image_code.proofs.Keeping.{distance_leads, distance_of}
-use Rattle.image_code.specs.Simulates.{CaseTable, IsChosen, Enters, IsOnWay, Setting, at_point, cells_in, does_at, gone_at, graph_in, is_jmpl, number_in}
+use Rattle.image_code.specs.Simulates.{Enters, IsOnWay, Setting, at_point, cells_in, does_at, gone_at, graph_in, is_jmpl, number_in}
 use Rattle.image_code.specs.Images.{Entered, Frame, Here, IsPlaced, Pieces, entered_at}
 use Rattle.image_code.specs.Choices.{ChoicesStep, IsChoice}
 use Rattle.image_code.proofs.Between.{on_range, quiet_of}
@@ -262,18 +260,3 @@ pub choices_step : ChoicesStep
 choices_step g l base p place f node x t h here c = steps g l base p place f h node x t here c
 
 -- ---- where the word stands that has the piece's address
-
--- what was kept at the load leads to the word of the same entry
-pub choice_stands : (g : Setting) (o : CaseTable) (t v : State) (c : IsChosen g o t v) (cases first entries : ℕ)
-    → IsText g.text → o.from + o.count ≤ length g.text.words → first + o.count ≤ entries → cases % 4 ≡ 0
-    → cases + 4 * entries ≤ 2 ^ 31
-    → (choice_at (distance_of cases first g.text o.from) t ≡ cases + 4 * (first + c.entry))
-    × (choice_at (distance_of cases first g.text o.from) t % 4 ≡ 0)
-    × (choice_at (distance_of cases first g.text o.from) t + 4 ≤ cases + 4 * entries)
-choice_stands g o t v c cases first entries text within among aligned low =
-    let below = c.below in
-    let there : choice_at (distance_of cases first g.text o.from) t ≡ cases + 4 * (first + c.entry) =
-    ap (λ z. wrapped (z + distance_of cases first g.text o.from)) c.kept
-    ∙ distance_leads cases first g.text o.from c.entry text (omega (arith, below, within))
-    (omega (arith, below, among, low)) in
-    (there, omega (arith, there, aligned), omega (arith, there, below, among))

@@ -1,16 +1,14 @@
 -- What is dead on a way along some edges: only behind the snippet of the last of them, so that no snippet reads a
 -- register in which an earlier one left anything else.
-use Rattle.std.proofs.Common.{◌≡◌, ℕ, ◌<◌, ◌≤◌, ◌⊎◌, inl, inr, Bool, true, false, ◌&&◌, Option, Some, None, List, [], ◌∷◌, ◌++◌, length, refl, ap, sym, ◌∙◌, subst, arith, not, ◌||◌}
+use Rattle.std.proofs.Common.{◌≡◌, ℕ, ◌<◌, ◌≤◌, ◌⊎◌, inl, inr, Bool, true, false, ◌&&◌, Option, Some, None, List, [], ◌∷◌, ◌++◌, length, refl, ap, sym, ◌∙◌, subst, arith}
 use Rattle.std.specs.Prelude.{if◌then◌else◌, ◌-◌, get_or, slice_get, slice_index}
 use Rattle.std.specs.List.{position}
 use Rattle.std.specs.Option.{option_to_list}
-use Rattle.std.proofs.lemmas.Bool.{and_parts, cond_both, false≢true}
+use Rattle.std.proofs.lemmas.Bool.{and_parts, cond_both}
 use Rattle.std.proofs.lemmas.List.Quantifiers.{position-Some}
-use Rattle.std.proofs.lemmas.Option.{slice_get_cases, get_or_from_slice_get}
-use Rattle.eel_base.specs.CodeText.{Words, word_at}
-use Rattle.v8_decode.specs.declared.Part.{Part}
-use Rattle.v8_decode.specs.Parts.{every_part, has, is_member, members}
-use Rattle.v8_decode.proofs.Members.{has-every_part, members-same}
+use Rattle.std.proofs.lemmas.Option.{slice_get_cases}
+use Rattle.eel_base.specs.CodeText.{word_at}
+use Rattle.v8_decode.specs.Parts.{every_part, has, members}
 use Rattle.v8_decode.specs.declared.Instr.{Instr}
 use Rattle.v8_decode.specs.declared.Instr.TheVariants as i
 use Rattle.v8_decode.specs.Words.{decode_of}
@@ -25,7 +23,7 @@ use Rattle.v8_step.specs.Items.{Item as Thing, Register, Codes, YRegister, IsSam
 use Rattle.cfg_blocks.specs.declared.EdgeKind.{EdgeKind}
 use Rattle.cfg_blocks.specs.declared.EdgeKind.TheVariants as kinds
 use Rattle.cfg_normal.specs.declared.Edge.{Edge}
-use Rattle.cfg_normal.specs.Graph.{Graph, has_cases, lands}
+use Rattle.cfg_normal.specs.Graph.{has_cases, lands}
 use Rattle.cfg_normal.specs.declared.Node.{Node}
 use Rattle.cfg_normal.specs.declared.Node.TheVariants.{X}
 use Rattle.cfg_normal.specs.declared.Slot.TheVariants.{Nothing}
@@ -33,10 +31,7 @@ use Rattle.cfg_walk.specs.Walk.{Point, WayOut, completed, gone, instr_at, landed
 use Rattle.code_runs.specs.Hops.{hopped}
 use Rattle.image_code.specs.Simulates.{IsFollowedBy, IsKept, Setting, gone_at, graph_in, is_out}
 use Rattle.image_code.specs.Images.{Frame, HasCells, Pieces}
-use Rattle.liveness.specs.Live.{beyond, edge_at, is_call_or_jump, is_outside}
-use Rattle.liveness.specs.Sets.{AreLive, Live, dead_on, edge_set}
 use Rattle.image_code.proofs.Between.{same_at}
-use Rattle.image_code.proofs.Branches.{same_is}
 
 -- ---- lists of edges
 
@@ -256,24 +251,3 @@ module _ (g : Setting) (l : Pieces) (f : Frame) (has : HasCells g l f) where
 nothing_but : members (λ part. false) ≡ []
 unfolding members every_part
 nothing_but = refl
-
--- where sets have just what is live, nothing is dead behind the edge of a JMPL
-pub out_lives : (text : Words) (graph : Graph) (named : ℕ → List Part) (sets : Live) → AreLive text graph named sets
-    → (edge : ℕ) → is_out (slice_get graph.edges edge) ≡ true → dead_on sets edge ≡ []
-out_lives text graph named sets are edge out = go (slice_get_cases graph.edges edge).1
-  where
-    all_read : (x : Edge) → slice_get graph.edges edge ≡ Some x → (part : Part) → is_member part ≡ true
-        → has (beyond (edge_at graph edge)) part ≡ true
-    all_read x is part member =
-        let kind : x.kind ≡ kinds.Out = same_is x.kind kinds.Out (sym (ap is_out is) ∙ out) in
-        ap (λ (z : Edge). has (beyond z) part) (get_or_from_slice_get graph.edges edge x _ is)
-        ∙ ap (λ (k : EdgeKind). has (if is_call_or_jump k || is_outside x.to then every_part else []) part) kind
-        ∙ has-every_part part ∙ member
-
-    go : ((x : Edge) × (edge < length graph.edges) × (slice_get graph.edges edge ≡ Some x)
-        × (get_or graph.edges edge x ≡ x)) ⊎ ((length graph.edges ≤ edge) × (slice_get graph.edges edge ≡ None))
-        → dead_on sets edge ≡ []
-    go (inl (x, within, is, same)) =
-        members-same (λ part. not (has (edge_set sets edge) part)) (λ part. false)
-        (λ part member. ap not ((are.edges edge within part).1 ([], all_read x is part member))) ∙ nothing_but
-    go (inr (past, none)) = absurd (false≢true (sym (ap is_out none) ∙ out))

@@ -14,7 +14,7 @@ use Rattle.cfg_normal.specs.declared.Node.TheVariants.{Block, Landed, X}
 use Rattle.cfg_normal.specs.Graph.{Graph, IsEdgeIn, IsGraph, IsNodeIn}
 use Rattle.cfg_normal.specs.Landings.{IsNumbered}
 use Rattle.cfg_normal.specs.Nodes.{same_kind, same_node}
-use Rattle.cfg_normal.specs.Numbers.{kind_number, node_number, node_numbers}
+use Rattle.cfg_normal.specs.Numbers.{kind_number, node_number}
 use Rattle.cfg_walk.specs.Walk.{edge_along, edge_from, landing_at}
 use Rattle.image_code.specs.Lookups.{AreFirstEdges, is_case, is_edge_at, is_land, mark_at, mark_of, node_of_edge}
 use Rattle.image_code.proofs.FirstPlaces.{mark_same, position-cons, position-same}
@@ -61,11 +61,6 @@ pub numbered : (graph : Graph) (node : Node) → IsNodeIn graph.blocks graph.ope
 numbered graph (Block block) h = h
 numbered graph (Landed block) h = h.0
 numbered graph X h = tt
-
-pub number_low : (graph : Graph) (node : Node) → IsOneOf graph node → node_number graph node < node_numbers graph
-number_low graph (Block block) h = omega (arith, h)
-number_low graph (Landed block) h = omega (arith, h)
-number_low graph X h = omega arith
 
 pub nodes_same : (graph : Graph) (one other : Node) → IsOneOf graph one → IsOneOf graph other
     → (node_number graph one == node_number graph other) ≡ same_node one other

@@ -1,10 +1,10 @@
 -- From where control comes to a point, on to its visit: nothing is run between, but before the load of an open switch
 -- its address is kept.
-use Rattle.std.proofs.Common.{◌≡◌, ℕ, suc, ◌+◌, ◌-◌, ◌*◌, ◌%◌, ◌^◌, ◌<◌, ◌≤◌, ◌⊎◌, inl, inr, Bool, true, false, Option, Some, None, List, [], ◌++◌, length, append-nil, refl, ap, sym, ◌∙◌, subst, arith}
+use Rattle.std.proofs.Common.{◌≡◌, ℕ, ◌+◌, ◌-◌, ◌*◌, ◌%◌, ◌^◌, ◌<◌, ◌≤◌, ◌⊎◌, inl, inr, Bool, true, false, Option, Some, None, List, [], ◌++◌, append-nil, refl, ap, sym, ◌∙◌, subst, arith}
 use Rattle.std.specs.Prelude.{if◌then◌else◌, ◌==◌, slice_get, slice_index}
 use Rattle.std.proofs.lemmas.Bool.{and_parts, cases_lt, lt-ltb, ltb-true}
 use Rattle.std.proofs.lemmas.Bool.Decides.{nat_tests}
-use Rattle.eel_base.specs.CodeText.{IsText, Words, address_of, word_at}
+use Rattle.eel_base.specs.CodeText.{Words, address_of, word_at}
 use Rattle.v8_decode.specs.declared.Instr.{Instr}
 use Rattle.v8_decode.specs.declared.Instr.TheVariants as i
 use Rattle.v8_decode.specs.declared.Op2.{Op2}
@@ -51,9 +51,8 @@ use Rattle.jump_code.specs.Pieces.{word_items}
 use Rattle.jump_code.proofs.Fitting.{Fit, words_mean}
 use Rattle.jump_code.specs.Keeping.{KeepsLoad, keep_load, kept_memory}
 use Rattle.jump_code.proofs.Keeping.{loads_are_kept}
-use Rattle.layout.specs.declared.items.Item.{Item}
 use Rattle.layout.specs.Emitting.{words_of}
-use Rattle.layout.specs.Laid.{HasShortForms, IsLaid, Placement, is_jump, item_at, item_in, items_in, size_of}
+use Rattle.layout.specs.Laid.{HasShortForms, Placement}
 use Rattle.image_code.specs.Simulates.{CaseTable, Enters, IsAtWord, IsNoLoad, IsOnWay, Setting, Steps, StepsOn, at_point, cells_in, does_at, gone_at, graph_in, is_spill, is_transfer_at, word_of}
 use Rattle.image_code.specs.Images.{Entered, Frame, Here, IsPlaced, Pieces, entered_at, visited_at}
 use Rattle.image_code.specs.Keeping.{AreCaseTables, IsEntered, IsKeeping, at_once, keeping}
@@ -467,23 +466,6 @@ module _ (g : Setting) (l : Pieces) (base : ℕ) (p : Placement) (place : ℕ �
 
 -- ---- what a list of pieces has to give
 
--- the words that keep an address fall through to the next piece
-pub keep_falls : (pieces : List (List Item)) (base : ℕ) (p : Placement) (place : ℕ → ℕ → ℕ) → IsLaid pieces base p place
-    → (k rs1 : ℕ) (op2 : Op2) → slice_get pieces k ≡ Some (word_items (keep_load rs1 op2)) → suc k < length pieces
-    → place k 3 ≡ slice_index p.at (suc k)
-keep_falls pieces base p place laid k rs1 op2 is more =
-    let size : size_of pieces k ≡ 3 = ap (λ (v : Option (List Item)). items_in v) is in
-    let closed : is_jump (item_at pieces k (size_of pieces k - 1)) ≡ false =
-    ap (λ n. is_jump (item_at pieces k (n - 1))) size ∙ ap (λ (v : Option (List Item)). is_jump (item_in v 2)) is in
-    ap (place k) (sym size) ∙ laid.falls k more closed ∙ sym (laid.starts (suc k) more)
-
 -- How far the word with a piece's address lies from the entry of the table: the same for all entries of one table.
 abbrev pub distance_of : ℕ → ℕ → Words → ℕ → ℕ
 distance_of cases first text from = (cases + 4 * first + 2 ^ 32 - address_of text from) % 2 ^ 32
-
-pub distance_leads : (cases first : ℕ) (text : Words) (from entry : ℕ) → IsText text → from + entry < length text.words
-    → cases + 4 * (first + entry) < 2 ^ 32
-    → wrapped (address_of text (from + entry) + distance_of cases first text from) ≡ cases + 4 * (first + entry)
-distance_leads cases first text from entry is within low =
-    let below = is.below in
-    omega (arith, below, within, low)

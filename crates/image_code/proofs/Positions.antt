@@ -83,17 +83,6 @@ module _ {A B : Type 0} (f : A → List B) (size : A → ℕ) where
       ∙ get_behind (f z) (flat_map f xs) (size z) (sum_by size (take k xs) + n) y (sized 0 z refl)
       (flat_get xs (later z xs sized) k x e n y at)
 
-pub sum_all : {A : Type 0} (size : A → ℕ) (xs : List A) (k : ℕ) (x : A) → slice_get xs k ≡ Some x
-    → sum_by size (take k xs) + size x ≤ sum_by size xs
-sum_all size [] k x e = absurd (cc)
-sum_all size (z ∷ xs) zero x e =
-    let same : z ≡ x = cc in
-    let here : size z ≡ size x = ap size same in
-    omega (arith, here, sum_by-cons size z xs)
-sum_all size (z ∷ xs) (suc k) x e =
-    let rest = sum_all size xs k x e in
-    omega (arith, rest, sum_by-cons size z (take k xs), sum_by-cons size z xs)
-
 -- ---- the first that passes a test
 
 pub record IsPlace {A : Type 0} (p : A → Bool) (xs : List A) : Type 0 where

@@ -57,13 +57,6 @@ pushed_all f xs n d before list new l pushed held =
     ∙ ap (λ ys. before ++ ys) (sym (flat_map-append f (take n xs) (slice_index_or xs n d ∷ [])))
     ∙ ap (λ ys. before ++ flat_map f ys) (sym (take_more xs n d l))
 
-pub mapped_more : {A B : Type 0} (f : A → B) (xs : List A) (n : ℕ) (d : A) (list new : List B) (x : B) → n < length xs
-    → new ≡ list ++ x ∷ [] → x ≡ f (slice_index_or xs n d) → list ≡ map f (take n xs) → new ≡ map f (take (n + 1) xs)
-mapped_more f xs n d list new x l pushed made held =
-    pushed ∙ ap (λ y. list ++ y ∷ []) made ∙ ap (λ ys. ys ++ f (slice_index_or xs n d) ∷ []) held
-    ∙ sym (map-append f (take n xs) (slice_index_or xs n d ∷ []))
-    ∙ ap (map f) (sym (take_more xs n d l))
-
 -- ---- counts and sums
 
 pub flat_count : {A : Type 0} (f : ℕ → List A) (n : ℕ)

@@ -223,9 +223,6 @@ first_at : (entries : List Entry) (long : Forms) → offset entries long 0 ≡ 0
 unfolding offset
 first_at entries long = refl
 
-start_width : (long : Bool) (k : ℕ) (next : Option Entry) → width long (Some (en.Start (record { 0 = k }))) next ≡ 0
-start_width long k next = refl
-
 get_map : (f : ℕ → ℕ) (starts : List ℕ) (k : ℕ) → k < length starts
     → slice_index (map (λ (a : Addr). a.0) (map (λ n. record { 0 = f n }) starts)) k ≡ f (slice_index starts k)
 get_map f [] k l = absurd (omega arith)

@@ -1,10 +1,10 @@
 -- The words of one entry more.
-use Rattle.std.proofs.Common.{◌≡◌, ℕ, suc, ◌+◌, ◌*◌, ◌^◌, ◌<◌, ◌≤◌, ◌⊎◌, inl, inr, Bool, true, false, List, [], ◌++◌, length, slice_get, is_some, IfSome, Option, None, Some, refl, ap, sym, ◌∙◌, add-one, arith}
+use Rattle.std.proofs.Common.{◌≡◌, ℕ, suc, ◌+◌, ◌*◌, ◌^◌, ◌<◌, ◌≤◌, ◌⊎◌, inl, inr, true, false, List, [], ◌++◌, length, slice_get, is_some, IfSome, Option, None, Some, refl, ap, sym, ◌∙◌, add-one, arith}
 use Rattle.std.specs.Option.{option_map}
 use Rattle.std.proofs.lemmas.Bool.{cases_lt, cases_Bool, false≢true}
 use Rattle.layout.specs.declared.entries.Entry.{Entry}
 use Rattle.layout.specs.Forms.{Forms, far_from, goal_of, is_far, offset, start_of, NoneLeft}
-use Rattle.layout.specs.Emitting.{code_at, code_to, entry_code, far_of, has_condition, target_offset, IsEmitted, IsOffsets}
+use Rattle.layout.specs.Emitting.{code_at, code_to, far_of, has_condition, target_offset, IsEmitted, IsOffsets}
 use Rattle.layout.proofs.Widening.{rises}
 
 pub code_none : (base : ℕ) (entries : List Entry) (long : Forms) → code_to base entries long 0 ≡ []
@@ -62,8 +62,3 @@ target_low base entries at long h low None l = tt
 target_low base entries at long h low (Some k) l =
     let r = rises entries long (start_of entries k) (length entries) (omega (arith, h.inside k l)) in
     omega arith
-
-pub code_as : (base : ℕ) (old new : List ℕ) (long : Bool) (from a to b : ℕ) (x y next later : Option Entry)
-    → from ≡ a → to ≡ b → x ≡ y → next ≡ later
-    → new ≡ old ++ entry_code base long from to x next → new ≡ old ++ entry_code base long a b y later
-code_as base old new long from a to b x y next later d e f g h = cc (h, d, e, f, g)

@@ -117,10 +117,6 @@ pub record IsWidening (entries : List Entry) (long : Forms) : Type 0 where
   pub needed : (n : ℕ) → long n ≡ true → is_far entries long n ≡ true
   pub fewest : (other : Forms) → NoneLeft entries other → IsWithin long other
 
-pub widening_none : (entries : List Entry) (long : Forms) → ((n : ℕ) → long n ≡ false) → IsWidening entries long
-widening_none entries long h = record {
-  needed = λ n e. absurd (false≢true (sym (h n) ∙ e));
-  fewest = λ other o n e. absurd (false≢true (sym (h n) ∙ e));
 }
 
 -- Any of those that are out of reach may be widened.

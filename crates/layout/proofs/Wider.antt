@@ -8,7 +8,7 @@ use Rattle.std.proofs.lemmas.List.{length-append, get_or_push, get_or_append_lef
 use Rattle.layout.specs.declared.entries.Entry.{Entry}
 use Rattle.layout.specs.Forms.{Forms, start_of, target, far_from, is_far, IsWidened}
 use Rattle.layout.specs.Emitting.{forms_in, AreWider}
-use Rattle.layout.proofs.Widening.{IsWidening, widening_none, widening_all, widening_ends}
+use Rattle.layout.proofs.Widening.{IsWidening, widening_all, widening_ends}
 
 pub wider_more : (entries : List Entry) (forms wide : List Bool) (n : ℕ) (x : Bool) → AreWider entries forms wide n
     → x ≡ (get_or forms n false || is_far entries (forms_in forms) n) → AreWider entries forms (wide ++ x ∷ []) (n + 1)
@@ -76,9 +76,6 @@ none_in (suc n) (suc k) = none_in n k
 pub count_none : (n : ℕ) → 0 ≡ count_by (λ b. b) (replicate n false)
 count_none zero = refl
 count_none (suc n) = let x = counted false (replicate n false) in let y = count_none n in omega (arith, x, y)
-
-pub widening_first : (entries : List Entry) (n : ℕ) → IsWidening entries (forms_in (replicate n false))
-widening_first entries n = widening_none entries (forms_in (replicate n false)) (none_in n)
 
 pub widening_pass : (entries : List Entry) (forms wide : List Bool) → length forms ≡ length entries
     → AreWider entries forms wide (length forms) → IsWidening entries (forms_in forms)

@@ -15,10 +15,6 @@ pub kept_then : {A B : Type 0} (rule : Bool) (at : ℕ) (value : A) (f : A → R
 kept_then true at value f = refl
 kept_then false at value f = refl
 
-pub choice_then : {A B : Type 0} (test : Bool) (x y : Result A NoNotes) (f : A → Result B NoNotes) → ((if test then x else y) >>= f) ≡ (if test then (x >>= f) else (y >>= f))
-choice_then true x y f = refl
-choice_then false x y f = refl
-
 -- the rows that were read, and what is left of the table
 abbrev pub after : {A : Type 0} → List A → Result (List A) NoNotes → Result (List A) NoNotes
 after rows rest = rest >>= (λ others. Ok (rows ++ others))

@@ -23,10 +23,6 @@ abbrev pub Ascends : ℕ → List ℕ → Type 0
 Ascends lo [] = Unit {0}
 Ascends lo (x ∷ xs) = (lo < x) × (x < 32) × Ascends x xs
 
-ascends_more : (lo x : ℕ) (xs : List ℕ) → lo ≤ x → Ascends x xs → Ascends lo xs
-ascends_more lo x [] l h = tt
-ascends_more lo x (y ∷ ys) l h = (let a = h.0 in omega arith, h.1, h.2)
-
 -- filtered, they ascend, and pass the test
 abbrev Passing : (ℕ → Bool) → ℕ → List ℕ → Type 0
 Passing p lo [] = Unit {0}

@@ -35,12 +35,6 @@ use Rattle.code_runs.proofs.Counted.{says_stores, count_add}
 use Rattle.snippet_code.proofs.Working.{HasBlock, IsAlike, Reaches, Works, put}
 
 -- ---- a value put in one place
-test_case : (j k : ℕ) → ((j == k) ≡ true) ⊎ ((j == k) ≡ false)
-test_case j k = go (j == k) refl
-  where
-    go : (b : Bool) → (j == k) ≡ b → ((j == k) ≡ true) ⊎ ((j == k) ≡ false)
-    go true e = inl e
-    go false e = inr e
 
 pub put_same : (k v : ℕ) (f : ℕ → ℕ) → put k v f k ≡ v
 put_same k v f = ap (λ b. if b then v else f k) (let e : (k == k) ≡ true = grind (arith, nat_tests) in e)

@@ -1,6 +1,5 @@
 -- Words are added for one operation after the other, and for one register after the other.
 use Rattle.std.proofs.Common.{◌≡◌, ℕ, zero, suc, ◌+◌, ◌<◌, ◌≤◌, Bool, List, [], ◌∷◌, ◌++◌, length, map, take, get_or, ap, sym, ◌∙◌, arith, append_assoc, append-nil}
-use Rattle.std.specs.Prelude.{slice_index}
 use Rattle.std.specs.List.{All}
 use Rattle.std.proofs.lemmas.List.{take_more, map-append}
 use Rattle.std.proofs.lemmas.Grind.{flat_map-append}
@@ -9,7 +8,7 @@ use Rattle.v8_decode.specs.declared.Instr.{Instr}
 use Rattle.v8_encode.specs.Encoding.{word_of}
 use Rattle.snippets.specs.declared.snippet.Op.{Op}
 use Rattle.snippets.specs.Grammar.{IsOp}
-use Rattle.snippet_code.specs.Words.{op_registers, registers_for, op_words, all_words, numbered}
+use Rattle.snippet_code.specs.Words.{op_registers, registers_for, op_words, all_words}
 use Rattle.snippet_code.specs.Laws.{EndsLow, EndLow}
 
 -- words that were added after others
@@ -44,25 +43,6 @@ op_room d ops i op below is = rw is (each ops i below)
 pub op_low : (base : ℕ) (ops : List Op) (i : ℕ) (op : Op) → i < length ops → op ≡ get_or ops i op → EndLow base ops
     → EndsLow base op
 op_low base ops i op below is low = rw is (All-get_or (EndsLow base) ops i op below low)
-
--- one register more
-numbered_more : (f : ℕ → ℕ → Instr) (n : ℕ) (regs : List ℕ) (i : ℕ) → i < length regs
-    → take (i + 1) (numbered f n regs) ≡ take i (numbered f n regs) ++ f (n + i) (slice_index regs i) ∷ []
-numbered_more f n [] i h = absurd (omega arith)
-numbered_more f n (reg ∷ regs) zero h = ap (λ k. f k reg ∷ []) (let e : n ≡ n + 0 = omega arith in e)
-numbered_more f n (reg ∷ regs) (suc i) h =
-    ap (λ k. take k (numbered f n (reg ∷ regs))) (let e : suc i + 1 ≡ suc (i + 1) = omega arith in e)
-    ∙ ap (λ (z : List Instr). f n reg ∷ z) (numbered_more f (suc n) regs i (omega arith))
-    ∙ ap (λ k. f n reg ∷ (take i (numbered f (suc n) regs) ++ f k (slice_index regs i) ∷ []))
-    (let e : suc n + i ≡ n + suc i = omega arith in e)
-
-pub reg_more : (f : ℕ → ℕ → Instr) (regs : List ℕ) (i reg : ℕ) (before now after : List ℕ) → i < length regs
-    → reg ≡ slice_index regs i → now ≡ before ++ map word_of (take i (numbered f 0 regs))
-    → after ≡ now ++ word_of (f i reg) ∷ [] → after ≡ before ++ map word_of (take (i + 1) (numbered f 0 regs))
-reg_more f regs i reg before now after below is e g =
-    more_words before (take i (numbered f 0 regs)) (f i reg ∷ []) now after e g
-    ∙ ap (λ (z : List Instr). before ++ map word_of z)
-    (cc (is, (let z : i ≡ 0 + i = omega arith in z), numbered_more f 0 regs i below))
 
 pub are_more : (ops : List Op) (i : ℕ) (op : Op) → i < length ops → op ≡ get_or ops i op → All IsOp (take i ops)
     → IsOp op → All IsOp (take (i + 1) ops)

@@ -20,9 +20,6 @@ pub record Held (edges : ℕ) (before : List Said) (snips : List (List Op)) (cel
   pub snips_are : snips ≡ snips_of before
   pub cells_are : cells ≡ end_of cell_end before
 
-pub held_none : (edges : ℕ) → Held edges [] [] 0
-held_none edges = record { good = λ k below. absurd (omega arith); snips_are = refl; cells_are = refl }
-
 -- one line more
 
 pub end-more : (end : Said → ℕ) (before : List Said) (line : Said)

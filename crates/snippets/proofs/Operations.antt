@@ -1,5 +1,5 @@
 -- Operations on edges.
-use Rattle.std.proofs.Common.{◌≡◌, ℕ, ◌<◌, ◌^◌, true, List, [], ◌∷◌, ◌++◌, Option, Some, None, inl, inr, decimal, codes, refl, ap, ap₂, sym, subst, ◌∙◌, arith}
+use Rattle.std.proofs.Common.{◌≡◌, ℕ, ◌<◌, ◌^◌, true, List, [], ◌∷◌, ◌++◌, Option, Some, None, inl, inr, decimal, codes, refl, ap, ap₂, sym, subst, ◌∙◌}
 use Rattle.std.specs.Option.{option_map, option_or}
 use Rattle.std.specs.Str.{bytes_eq}
 use Rattle.std.proofs.lemmas.Slice.Eq.{bytes_eq-Decides}
@@ -114,14 +114,6 @@ op_back (Keep cell reg) fits = rw (register_back reg fits.1) refl
 op_back (Top cell reg) fits = rw (register_back reg fits.1) refl
 op_back (Count cell) fits = absurd fits
 op_back (Log cell bits value) fits = absurd fits
-
-cell_small : (op : Op) → IsSpelled op → cell_of op < 2 ^ 32
-cell_small (Add cell amount) fits = fits.0
-cell_small (Put cell value) fits = fits.0
-cell_small (Keep cell reg) fits = fits.0
-cell_small (Top cell reg) fits = fits.0
-cell_small (Count cell) fits = fits
-cell_small (Log cell bits value) fits = absurd fits
 
 kind_whole : (op : Op) → is_whole 32 (kind_text op) ≡ true
 kind_whole (Add cell amount) = refl

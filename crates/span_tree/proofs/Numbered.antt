@@ -1,10 +1,10 @@
 -- Cells that are given in the order of the counted edges.
-use Rattle.std.proofs.Common.{◌≡◌, ℕ, zero, suc, ◌+◌, ◌<◌, ◌≤◌, ◌⊎◌, inl, inr, Bool, true, false, cond, List, [], ◌∷◌, ◌++◌, length, map, add-one, refl, ap, sym, ◌∙◌, subst, arith}
-use Rattle.std.specs.Prelude.{Option, Some, None, IfSome, unwrap_or, if◌then◌else◌}
+use Rattle.std.proofs.Common.{◌≡◌, ℕ, zero, suc, ◌<◌, ◌≤◌, ◌⊎◌, inl, inr, Bool, true, false, cond, List, length, map, refl, ap, sym, ◌∙◌, subst, arith}
+use Rattle.std.specs.Prelude.{Option, Some, None, IfSome, unwrap_or}
 use Rattle.std.specs.Option.{is_some}
 use mir.Val.{bool_byte}
 use Rattle.std.proofs.lemmas.Bool.{cases_eq, cases_lt, false≢true}
-use Rattle.std.proofs.lemmas.List.{get_or-map, get_or_past, length-map, map-append}
+use Rattle.std.proofs.lemmas.List.{get_or-map, get_or_past, length-map}
 use Rattle.flows.specs.Flows.{EdgeSet, count_below}
 use Rattle.flows.specs.Links.{marked}
 use Rattle.cfg_blocks.specs.Blocks.{below}
@@ -76,14 +76,6 @@ module _ (marks : List Bool) (given : List (Option ℕ)) (n : ℕ) (all : n ≡ 
       ∙ ap (count_below (length given)) (sym same_given)
 
 -- ---- one edge more
-
-pub cells_more : (marks : List Bool) (given : List (Option ℕ)) (i count : ℕ) → given ≡ cells_below (marked marks) i
-    → count ≡ count_below i (marked marks)
-    → given ++ (if marked marks i then Some count else None) ∷ [] ≡ cells_below (marked marks) (i + 1)
-cells_more marks given i count is many = rw add-one (
-    ap (λ (cells : List (Option ℕ)). cells ++ cond (marked marks i) (Some count) None ∷ []) is
-    ∙ ap (λ (n : ℕ). cells_below (marked marks) i ++ cond (marked marks i) (Some n) None ∷ []) many
-    ∙ sym (map-append (cell_of (marked marks)) (below i) (i ∷ [])))
 
 -- ---- a cell is below their number
 

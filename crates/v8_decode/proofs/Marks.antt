@@ -73,10 +73,6 @@ set_of-append xs ys =
     ∙ ap (λ b. has xs p || b) (has-members_at (has ys) p h)
     ∙ sym (has-append xs ys p))
 
--- at any other part it has nothing
-pub has-members_off : (f : Part → Bool) (p : Part) → is_member p ≡ false → has (members f) p ≡ false
-has-members_off f p h = has-members f p ∙ ap (λ b. b && f p) h
-
 -- a set has members alone
 pub has-set : (s : List Part) (p : Part) → set_of s ≡ s → (is_member p && has s p) ≡ has s p
 has-set s p set = sym (has-members (has s) p) ∙ ap (λ t. has t p) set

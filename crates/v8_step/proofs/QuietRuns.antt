@@ -25,9 +25,6 @@ pub turned_by : (code : OpCode) (s : State) (x : Op) → (code ≡ Other → ⊥
 turned_by Other s x some = absurd (some refl)
 turned_by _ s x some = refl
 
-pub nothing_turned : (code : OpCode) (s : State) (x : Op) → code ≡ Other → turned code s x ≡ s
-nothing_turned code s x is = ap (λ c. turned c s x) is
-
 stands_for : (s : State) (x : Op) → IsKept (code_of s.memory) s.pc x → (x.code ≡ Other → ⊥)
     → StandsFor x (fetch_of s.memory s.pc)
 unfolding fetch_of

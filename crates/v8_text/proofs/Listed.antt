@@ -174,11 +174,6 @@ Fits w = w < 2 ^ 32
 fit_one : (w : ℕ) → w < 2 ^ 32 → All Fits (w ∷ [])
 fit_one w fits = All-cons Fits w [] fits (All-nil Fits)
 
-pub read_none : (bytes : List ℕ) → IsReading bytes [] None bytes
-read_none bytes = record {
-  start = 0;
-  listed = record { aligned = refl; below = omega arith; fit = All-nil Fits; is = refl };
-  next_is = refl;
 }
 
 All-front : (words others : List ℕ) → All Fits (words ++ others) → All Fits words

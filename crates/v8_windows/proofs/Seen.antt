@@ -213,13 +213,6 @@ put_away_seen current old first second new window w count globals outs ins =
     each place within (inr high) =
         past place high within (cases_lt (after_outs window place) 16) (cases_lt (after_outs window place) 24)
 
-pub put_away_zero : (current old first second new : List ℕ) (window : ℕ)
-    → IsCopied 0 0 8 current old first → IsCopied (8 + 16 * window) 8 16 current first second
-    → IsCopied (8 + 16 * ((window + 1) % 8)) 24 8 current second new
-    → slice_index new 0 ≡ slice_index current 0
-put_away_zero current old first second new window globals outs ins =
-    ins.below 0 (omega arith) ∙ outs.below 0 (omega arith) ∙ globals.inside 0 (omega arith)
-
 -- and brought back
 pub bring_seen : (registers old first second new : List ℕ) (window : ℕ) → window < 8 → length registers ≡ 136
     → IsCopied 0 0 8 registers old first → IsCopied 8 (8 + 16 * window) 16 registers first second
@@ -253,13 +246,6 @@ bring_seen registers old first second new window w count globals outs ins =
         ∙ outs.below place (omega (arith, low)) ∙ global_copied registers old first place globals low)
     each place within (inr high) =
         past place high within (cases_lt (after_outs window place) 16) (cases_lt (after_outs window place) 24)
-
-pub bring_zero : (registers old first second new : List ℕ) (window : ℕ) → IsCopied 0 0 8 registers old first
-    → IsCopied 8 (8 + 16 * window) 16 registers first second
-    → IsCopied 24 (8 + 16 * ((window + 1) % 8)) 8 registers second new
-    → slice_index new 0 ≡ slice_index registers 0
-bring_zero registers old first second new window globals outs ins =
-    ins.below 0 (omega arith) ∙ outs.below 0 (omega arith) ∙ globals.inside 0 (omega arith)
 
 -- ---- to the window before, and the one after
 
