@@ -30,7 +30,7 @@ use Rattle.v8_step.specs.Step.{act, puts_by}
 use Rattle.v8_step.specs.Transfers.{delayed, branched, target_of, trapped, unless_couple, branch_step, call_step, jump_step}
 use Rattle.v8_step.specs.Traps.{mem_address_not_aligned}
 use Rattle.v8_step.specs.Accesses.{load_size, store_size}
-use Rattle.v8_step.specs.Items.{Item, Register, Codes, YRegister, IsItem, IsAmong, IsSameAt, AreSameAt, IsSameForReading, is_transfer}
+use Rattle.v8_step.specs.Items.{StateItem, Register, Codes, YRegister, IsItem, IsAmong, IsSameAt, AreSameAt, IsSameForReading, is_transfer}
 use Rattle.v8_step.specs.Judged.{judged_by, aligned_span}
 use Rattle.two_runs.specs.Alike.{IsSameWorld, AreSameAfter}
 use Rattle.two_runs.specs.Needed.{ReadsIn}
@@ -108,7 +108,7 @@ named_reads (i.Swap rd rs1 op2) = named_then (reg rs1 ++ op2_parts op2) (reg rd)
 named_reads _ = tt
 
 pub same_parts : (ps : List Part) (s u : State) → AreNamed ps
-    → ((item : Item) → IsItem item → IsAmong item s.window ps → IsSameAt item s u) → AreSameAt ps s u
+    → ((item : StateItem) → IsItem item → IsAmong item s.window ps → IsSameAt item s u) → AreSameAt ps s u
 unfolding AreNamed
 same_parts [] s u h f = tt
 same_parts (Reg r ∷ ps) s u h f = (
@@ -120,7 +120,7 @@ same_parts (Icc ∷ ps) s u h f = (f Codes tt (inl refl), same_parts ps s u h (�
 same_parts (Y ∷ ps) s u h f = (f YRegister tt (inl refl), same_parts ps s u h (λ item is z. f item is (inr z)))
 
 same_reading : (instr : Instr) (s u : State)
-    → ((item : Item) → IsItem item → ReadsIn (Some instr) s.window item → IsSameAt item s u)
+    → ((item : StateItem) → IsItem item → ReadsIn (Some instr) s.window item → IsSameAt item s u)
     → IsSameForReading instr s u
 same_reading instr s u f = (
   λ all item is. f item is (inl all),
@@ -130,7 +130,7 @@ same_reading instr s u f = (
 -- ---- what is judged
 
 twins_from : (pages : List Span) (s u : State) → AreRegisters s.registers → AreRegisters u.registers
-    → s.ending ≡ u.ending → IsSameWorld pages s u → ((item : Item) → IsItem item → IsSameAt item s u)
+    → s.ending ≡ u.ending → IsSameWorld pages s u → ((item : StateItem) → IsItem item → IsSameAt item s u)
     → AreTwins pages s u
 twins_from pages s u rs ru e w f = record {
   registers = ext_get_or 0 s.registers u.registers w.registers register;
@@ -214,7 +214,7 @@ led_unless pages instr s u a b x y e w h =
 
 module _ (pages : List Span) (s u : State) (live : s.ending ≡ None) (live' : u.ending ≡ None)
     (w : IsSameWorld pages s u) (at : AreAtOnePoint s u) where
-  linked_items : (rd v v' : ℕ) (to to' : ℕ) → v ≡ v' → (item : Item)
+  linked_items : (rd v v' : ℕ) (to to' : ℕ) → v ≡ v' → (item : StateItem)
       → IsAmong item s.window (reg rd) ⊎ IsSameAt item s u
       → IsSameAt item (delayed (with_register s rd v) to) (delayed (with_register u rd v') to')
   linked_items rd v v' to to' e (Register n) h =
@@ -228,7 +228,7 @@ module _ (pages : List Span) (s u : State) (live : s.ending ≡ None) (live' : u
 
   -- a transfer with a link and a slot
   led_delayed : (instr : Instr) (rd to to' : ℕ) → to ≡ to'
-      → ((item : Item) → IsAmong item s.window (writes_of instr) → IsAmong item s.window (reg rd))
+      → ((item : StateItem) → IsAmong item s.window (writes_of instr) → IsAmong item s.window (reg rd))
       → AreLed pages instr s u (delayed (with_register s rd s.pc) to) (delayed (with_register u rd u.pc) to')
   led_delayed instr rd to to' e f = record {
     alike = record {
@@ -248,12 +248,12 @@ module _ (pages : List Span) (s u : State) (live : s.ending ≡ None) (live' : u
     point = λ _. record { pc = at.npc; npc = e; slot = refl };
   }
     where
-      among : (item : Item) → IsAmong item s.window (writes_of instr) ⊎ IsSameAt item s u
+      among : (item : StateItem) → IsAmong item s.window (writes_of instr) ⊎ IsSameAt item s u
           → IsAmong item s.window (reg rd) ⊎ IsSameAt item s u
       among item (inl x) = inl (f item x)
       among item (inr x) = inr x
 
-  still_items : (pc npc pc' npc' : ℕ) (slot slot' : Slot) (item : Item) → ⊥ ⊎ IsSameAt item s u
+  still_items : (pc npc pc' npc' : ℕ) (slot slot' : Slot) (item : StateItem) → ⊥ ⊎ IsSameAt item s u
       → IsSameAt item (moved pc npc slot s) (moved pc' npc' slot' u)
   still_items pc npc pc' npc' slot slot' item (inl h) = absurd h
   still_items pc npc pc' npc' slot slot' (Register n) (inr h) = h

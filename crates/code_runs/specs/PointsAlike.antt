@@ -7,7 +7,7 @@ use Rattle.v8_memory.specs.Spans.{Span, AllApart}
 use Rattle.v8_windows.specs.Registers.{AreRegisters}
 use Rattle.v8_step.specs.State.{State}
 use Rattle.v8_step.specs.Step.{on_word, puts_on_word}
-use Rattle.v8_step.specs.Items.{Item, IsItem, IsSameAt}
+use Rattle.v8_step.specs.Items.{StateItem, IsItem, IsSameAt}
 use Rattle.two_runs.specs.Alike.{IsSameWorld}
 use Rattle.two_runs.specs.Needed.{ReadsIn, WritesIn, judged_in}
 use Rattle.two_runs.specs.Visits.{pages_of}
@@ -30,7 +30,7 @@ pub record AreAlikeOn (pages : List Span) (word : Option ℕ) (s u s_after u_aft
   pub ending : s_after.ending ≡ u_after.ending
   pub world : IsSameWorld pages s_after u_after
   pub puts : (descriptor : ℕ) → puts_on_word s word descriptor ≡ puts_on_word u word descriptor
-  pub items : s_after.ending ≡ None → (item : Item) → IsItem item
+  pub items : s_after.ending ≡ None → (item : StateItem) → IsItem item
       → (WritesIn (instr_of word) s.window item ⊎ IsSameAt item s u) → IsSameAt item s_after u_after
   pub point : s_after.ending ≡ None → AreAtOnePoint s_after u_after
 
@@ -41,6 +41,6 @@ PointsActAlike =
     (notes : Notes) (word : Option ℕ) (s u : State) → s.ending ≡ None → u.ending ≡ None
     → AreRegisters s.registers → AreRegisters u.registers → AreAtOnePoint s u
     → IsSameWorld (pages_of notes) s u
-    → ((item : Item) → IsItem item → ReadsIn (instr_of word) s.window item → IsSameAt item s u)
+    → ((item : StateItem) → IsItem item → ReadsIn (instr_of word) s.window item → IsSameAt item s u)
     → AllApart (pages_of notes) (judged_in s (instr_of word))
     → AreAlikeOn (pages_of notes) word s u (on_word s word) (on_word u word)

@@ -9,7 +9,7 @@ use Rattle.v8_step.specs.declared.Ending.{Ending}
 use Rattle.v8_step.specs.State.{State, sum_of}
 use Rattle.v8_step.specs.Step.{step_of, puts_of, on_word, puts_on_word}
 use Rattle.v8_step.specs.Run.{run, run_puts}
-use Rattle.v8_step.specs.Items.{AreSameAt, IsAmong, Item, Register, Codes, YRegister, IsItem, IsSameAt}
+use Rattle.v8_step.specs.Items.{AreSameAt, IsAmong, StateItem, Register, Codes, YRegister, IsItem, IsSameAt}
 use Rattle.two_runs.proofs.Reading.{same_sum}
 use Rattle.v8_windows.specs.Registers.{place_of}
 use Rattle.v8_windows.proofs.Places.{place_of-below, place_of-some}
@@ -44,7 +44,7 @@ use Rattle.edit_core.proofs.Places.{node_of_place, placed_between, step_stays, t
 
 -- ---- small things
 
-same_trans : (item : Item) (s t u : State) → IsSameAt item s t → IsSameAt item t u → IsSameAt item s u
+same_trans : (item : StateItem) (s t u : State) → IsSameAt item s t → IsSameAt item t u → IsSameAt item s u
 same_trans (Register n) s t u h k = h ∙ k
 same_trans Codes s t u h k = h ∙ k
 same_trans YRegister s t u h k = h ∙ k
@@ -65,7 +65,7 @@ outside_trans pages m n o h k = record {
       (k.outside address count some apart);
 }
 
-world_then : (pages : List Span) (Kept : Item → Type 0) (s v t : State) → IsSameWorld pages s v
+world_then : (pages : List Span) (Kept : StateItem → Type 0) (s v t : State) → IsSameWorld pages s v
     → IsFollowedBy pages Kept v t → IsSameWorld pages s t
 world_then pages Kept s v t h k = record {
   window = h.window ∙ sym k.window;
@@ -79,7 +79,7 @@ world_moved : (pages : List Span) (s t : State) (p : Point) → IsSameWorld page
 world_moved pages s t p h =
     record { window = h.window; valid = h.valid; input = h.input; memory = h.memory; registers = h.registers }
 
-same_moved : (item : Item) (s t : State) (p : Point) → IsSameAt item s t → IsSameAt item s (at_point p t)
+same_moved : (item : StateItem) (s t : State) (p : Point) → IsSameAt item s t → IsSameAt item s (at_point p t)
 same_moved (Register n) s t p h = h
 same_moved Codes s t p h = h
 same_moved YRegister s t p h = h
@@ -112,19 +112,19 @@ one_point s u h = cc (h.pc, h.npc, h.slot)
 
 -- a load's operands are read
 load_sum : (rs1 : ℕ) (op2 : Op2) (s u : State) → s.window ≡ u.window
-    → ((item : Item) → IsItem item → IsAmong item s.window (reg rs1 ++ op2_parts op2) → IsSameAt item s u)
+    → ((item : StateItem) → IsItem item → IsAmong item s.window (reg rs1 ++ op2_parts op2) → IsSameAt item s u)
     → sum_of s rs1 op2 ≡ sum_of u rs1 op2
 load_sum rs1 op2 s u w f = same_sum rs1 op2 s u w (first rs1 f) (second rs1 op2 f)
   where
     register : (r : ℕ) → IsItem (Register (place_of s.window (suc r)))
     register r = (place_of-some s.window (suc r) (λ e. absurd (cc)), place_of-below s.window (suc r))
 
-    first : (r : ℕ) → ((item : Item) → IsItem item → IsAmong item s.window (reg r ++ op2_parts op2) → IsSameAt item s u)
+    first : (r : ℕ) → ((item : StateItem) → IsItem item → IsAmong item s.window (reg r ++ op2_parts op2) → IsSameAt item s u)
         → AreSameAt (reg r) s u
     first zero f = tt
     first (suc r) f = (f (Register (place_of s.window (suc r))) (register r) (inl refl), tt)
 
-    second : (r : ℕ) (o : Op2) → ((item : Item) → IsItem item → IsAmong item s.window (reg r ++ op2_parts o) → IsSameAt item s u)
+    second : (r : ℕ) (o : Op2) → ((item : StateItem) → IsItem item → IsAmong item s.window (reg r ++ op2_parts o) → IsSameAt item s u)
         → AreSameAt (op2_parts o) s u
     second r (Imm n) f = tt
     second r (Reg zero) f = tt
@@ -134,7 +134,7 @@ load_sum rs1 op2 s u w f = same_sum rs1 op2 s u w (first rs1 f) (second rs1 op2 
 -- ---- one step
 
 module _ (g : Setting) (entry : ℕ) (Inside : Point → Type 0) (Here : Node → Point → State → Type 0)
-    (Short : Type 0) (K : ℕ → Item → Type 0) (s0 t0 : State) where
+    (Short : Type 0) (K : ℕ → StateItem → Type 0) (s0 t0 : State) where
   -- the states of both runs
   abbrev s : ℕ → State
   s n = run s0 n
@@ -270,14 +270,14 @@ module _ (g : Setting) (entry : ℕ) (Inside : Point → Type 0) (Here : Node �
     world_next : (n m : ℕ) (x : IsNext n m) → IsSameWorld pages (s (suc n)) (t (x.on.count + m))
     world_next n m x = rw (arrived n m x) (world_then pages _ _ (does n m) x.on.after x.alike.world x.on.followed)
 
-    before : (n m : ℕ) → Links n m → (item : Item) → IsItem item
+    before : (n m : ℕ) → Links n m → (item : StateItem) → IsItem item
         → WritesIn (instr_in g s0 n) (s n).window item ⊎ K n item
         → WritesIn (instr_in g s0 n) (s n).window item ⊎ IsSameAt item (s n) (at_point (point n) (t m))
     before n m h item is (inl a) = inl a
     before n m h item is (inr a) = inr (same_moved item (s n) (t m) (point n) (h.items item is a))
 
     items_next : (n m : ℕ) → Links n m → (x : IsNext n m)
-        → (s (suc n)).ending ≡ None → (item : Item) → IsItem item → K (suc n) item
+        → (s (suc n)).ending ≡ None → (item : StateItem) → IsItem item → K (suc n) item
         → IsSameAt item (s (suc n)) x.on.after
     items_next n m h x live item is k =
         let go : (does n m).ending ≡ None = sym x.alike.ending ∙ live in

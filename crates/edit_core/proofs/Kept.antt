@@ -10,7 +10,7 @@ use Rattle.v8_decode.proofs.Members.{has-members}
 use Rattle.v8_windows.specs.Registers.{place_of}
 use Rattle.v8_windows.proofs.Places.{place_of-below}
 use Rattle.v8_step.specs.State.{State, register_of}
-use Rattle.v8_step.specs.Items.{IsAmong, IsItem, IsSameAt, Item, Register, item_of}
+use Rattle.v8_step.specs.Items.{IsAmong, IsItem, IsSameAt, StateItem, Register, item_of}
 use Rattle.two_runs.specs.Needed.{WritesIn}
 use Rattle.v8_step.specs.Run.{run}
 use Rattle.cfg_walk.specs.Walk.{end_of_walk, goes_on_at, gone_in, point_of}
@@ -54,7 +54,7 @@ place_some window r =
 -- ---- what is dead isn't kept
 
 -- one of the parts that name the item
-name_among : (item : Item) (window : ℕ) (parts : List Part) → IsAmong item window parts
+name_among : (item : StateItem) (window : ℕ) (parts : List Part) → IsAmong item window parts
     → (part : Part) × (has parts part ≡ true) × (item ≡ item_of window part)
 name_among item window [] among = absurd among
 name_among item window (p ∷ ps) (inl is) = (p, or_left _ _ (part_self p), sym is)
@@ -67,7 +67,7 @@ name_among item window (p ∷ ps) (inr among) =
     let rest = name_among item window ps among in
     (rest.0, or_right _ _ rest.1, rest.2)
 
-module _ (g : Setting) (dead : AreDead g.text (graph_in g) (named_on g.snips) g.dead) (item : Item) (window : ℕ) where
+module _ (g : Setting) (dead : AreDead g.text (graph_in g) (named_on g.snips) g.dead) (item : StateItem) (window : ℕ) where
   abbrev Lives : ℕ → Part → Type 0
   Lives e p = IsLiveOn g.text (graph_in g) (named_on g.snips) e p
 
@@ -110,7 +110,7 @@ keeps_what_lives g entry s0 text fetches begins opened jumps dead are =
     }
   where
     registers : (n : ℕ) (v : State) → (run s0 (suc n)).window ≡ v.window
-        → ((item : Item) → IsItem item → (WritesIn (instr_in g s0 n) (run s0 n).window item ⊎ KeptIn g entry s0 n item)
+        → ((item : StateItem) → IsItem item → (WritesIn (instr_in g s0 n) (run s0 n).window item ⊎ KeptIn g entry s0 n item)
         → IsSameAt item (run s0 (suc n)) v) → Keeps g.text (graph_in g) (named_on g.snips) entry s0
         → (edge : ℕ) → Contains (gone_in g.text (graph_in g) entry s0 n) edge
         → (reg : ℕ) → has (named_by (snippet_on g.snips edge)) (Reg reg) ≡ true

@@ -22,7 +22,7 @@ use Rattle.image_code.specs.Numbered.{case_numbers}
 use Rattle.image_code.proofs.OpenBlocks.{text_graph}
 use Rattle.image_code.proofs.OpenNumbers.{enter_below}
 use Rattle.snippets.specs.declared.snippet.Op.{Op}
-use Rattle.edit_core.specs.declared.taking.Asked.{Asked}
+use Rattle.edit_core.specs.declared.taking.Request.{Request}
 use Rattle.edit_core.specs.Written.{addr, case_places, cells_size, entry_number, landings_of, table_after, tables_size, AreInside, AreLaid, AreMade, AreTablesOf, HasRoom, IsBuilt, LeadsTo}
 use Rattle.edit_core.proofs.Graphs.{entries_few, graph_cut}
 use Rattle.edit_core.proofs.Steps.{new_fit, new_room}
@@ -45,7 +45,7 @@ entry_inside text graph snips list is h fit entry l =
 
 -- ---- the pieces that were made of a view, and where they were placed
 
-module _ {image : Program} {graph : Graph} {asked : Asked} {pieces : List (List Item)} {words ways : List PieceNo}
+module _ {image : Program} {graph : Graph} {asked : Request} {pieces : List (List Item)} {words ways : List PieceNo}
     {outside begin : PieceNo} (made : AreMade image graph asked pieces words ways outside begin) where
   abbrev landing : ℕ → ℕ
   landing = lands_at image.text graph asked.snips.items

@@ -19,7 +19,7 @@ use Rattle.v8_decode.proofs.Marks.{same_sets}
 use Rattle.v8_step.specs.State.{State}
 use Rattle.v8_step.specs.Run.{run}
 use Rattle.v8_step.specs.declared.Slot.TheVariants.{NoSlot}
-use Rattle.v8_step.specs.Items.{IsSameAt, Item, Register, Codes, YRegister}
+use Rattle.v8_step.specs.Items.{IsSameAt, StateItem, Register, Codes, YRegister}
 use Rattle.two_runs.specs.Needed.{IsUntouched}
 use Rattle.v8_step.specs.Valid.{AreBytes}
 use Rattle.two_runs.specs.Visits.{in_pages, pages_of}
@@ -380,7 +380,7 @@ module _ (original : List ℕ) (plan : Plan) (p : Placement) where
         waits = λ taken way. absurd (cc);
       }
 
-      same_items : (item : Item) → IsSameAt item s0 t0
+      same_items : (item : StateItem) → IsSameAt item s0 t0
       unfolding start_of
       same_items (Register n) = refl
       same_items Codes = refl

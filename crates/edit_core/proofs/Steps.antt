@@ -22,7 +22,7 @@ use Rattle.image_code.specs.Numbered.{case_numbers}
 use Rattle.image_code.specs.Parts.{codes_of}
 use Rattle.snippets.specs.declared.snippet.Op.{Op}
 use Rattle.tool_kit.specs.Plans.{Plan}
-use Rattle.edit_core.specs.declared.taking.Asked.{Asked}
+use Rattle.edit_core.specs.declared.taking.Request.{Request}
 use Rattle.edit_core.specs.Taken.{CanEdit}
 use Rattle.edit_core.specs.Written.{added, cells_at, code_at, if_any, page_segment, table_at, CanDo, HasRoom, IsBuilt, IsNewCode, IsViewOf, LeadsTo, cases_at, cells_base, cells_size, entry_number, entry_of, graph_in, pieces_by, pieces_of, placement_in, plan_of, segment_size, table_after, table_base, tables_size, text_of}
 use Rattle.edit_core.proofs.Bounds.{operations_few}
@@ -56,7 +56,7 @@ original_fit fits original plan can work dead =
     under base room cells words more same few enough = omega arith
 
 -- the pieces that are made of a view can be placed in its room
-module _ (fits : PiecesFit) {image : Program} {graph : Graph} {asked : Asked} (can : HasRoom image graph asked)
+module _ (fits : PiecesFit) {image : Program} {graph : Graph} {asked : Request} (can : HasRoom image graph asked)
     (dead : ℕ → List Part) where
   abbrev new_pieces : List (List Item)
   new_pieces = pieces_by image.text graph image.base asked.cells dead asked.snips.items
@@ -144,7 +144,7 @@ module _ (original : List ℕ) (plan : Plan) (image : Program) (graph : Graph) (
           (cc (same, segment_is image.text graph plan.snips (placement_in placed) _ leads))
 
 -- there is room for what is asked of an original that can be edited
-pub view_has_room : (original marks : List ℕ) (asked : Asked) (image : Program) (graph : Graph)
+pub view_has_room : (original marks : List ℕ) (asked : Request) (image : Program) (graph : Graph)
     → IsViewOf original (plan_of marks asked) image graph → CanEdit original (plan_of marks asked)
     → CanDo original (plan_of marks asked) → HasRoom image graph asked
 view_has_room original marks asked image graph is can work =

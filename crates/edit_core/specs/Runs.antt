@@ -6,7 +6,7 @@ use Rattle.v8_decode.specs.declared.Instr.{Instr}
 use Rattle.v8_step.specs.declared.Ending.{Ending}
 use Rattle.v8_step.specs.State.{State, sum_of}
 use Rattle.v8_step.specs.Run.{run, run_puts}
-use Rattle.v8_step.specs.Items.{Item, IsItem, IsSameAt}
+use Rattle.v8_step.specs.Items.{StateItem, IsItem, IsSameAt}
 use Rattle.two_runs.specs.Alike.{IsSameWorld}
 use Rattle.two_runs.specs.Needed.{ReadsIn, WritesIn, IsNeeded}
 use Rattle.v8_step.specs.Valid.{IsValid}
@@ -29,19 +29,19 @@ abbrev pub instr_in : Setting → State → ℕ → Option Instr
 instr_in g s0 n = instr_of (word_of g.text (run s0 n).pc)
 
 -- `K n` holds of the items at which both runs have the same after n steps of the original.
-pub record Keeping (g : Setting) (entry : ℕ) (s0 : State) (K : ℕ → Item → Type 0) : Type 0 where
-  pub reads : (n : ℕ) (item : Item) → IsItem item → (run s0 n).ending ≡ None
+pub record Keeping (g : Setting) (entry : ℕ) (s0 : State) (K : ℕ → StateItem → Type 0) : Type 0 where
+  pub reads : (n : ℕ) (item : StateItem) → IsItem item → (run s0 n).ending ≡ None
       → ReadsIn (instr_in g s0 n) (run s0 n).window item → K n item
-  pub back : (n : ℕ) (item : Item) → K (suc n) item
+  pub back : (n : ℕ) (item : StateItem) → K (suc n) item
       → WritesIn (instr_in g s0 n) (run s0 n).window item ⊎ K n item
   -- what the snippets of edges take for their own is kept no longer
-  pub live : (n : ℕ) (item : Item) → K (suc n) item
+  pub live : (n : ℕ) (item : StateItem) → K (suc n) item
       → IsKept g (gone_in g.text (graph_in g) entry s0 n) (run s0 (suc n)).window item
-  pub needed : (n : ℕ) (item : Item) → IsNeeded s0 n item → K n item
+  pub needed : (n : ℕ) (item : StateItem) → IsNeeded s0 n item → K n item
   -- what an edge's snippet makes of the cells depends on kept items alone
   pub named : (n : ℕ) (cells : List ℕ) (v : State) → (run s0 (suc n)).ending ≡ None
       → (run s0 (suc n)).window ≡ v.window
-      → ((item : Item) → IsItem item → (WritesIn (instr_in g s0 n) (run s0 n).window item ⊎ K n item)
+      → ((item : StateItem) → IsItem item → (WritesIn (instr_in g s0 n) (run s0 n).window item ⊎ K n item)
       → IsSameAt item (run s0 (suc n)) v)
       → updates g.snips (gone_in g.text (graph_in g) entry s0 n) cells (run s0 (suc n))
       ≡ updates g.snips (gone_in g.text (graph_in g) entry s0 n) cells v
@@ -87,11 +87,11 @@ pub record AreTogether (g : Setting) (entry : ℕ) (s0 t0 : State) (n m : ℕ) :
   pub cells : cells_in g (run t0 m) ≡ store_of g entry s0 n
 
 -- the original while it runs, and the written file at its visit
-pub record Linked (g : Setting) (entry : ℕ) (Here : Node → Point → State → Type 0) (K : ℕ → Item → Type 0)
+pub record Linked (g : Setting) (entry : ℕ) (Here : Node → Point → State → Type 0) (K : ℕ → StateItem → Type 0)
     (s0 t0 : State) (n m : ℕ) : Type 0 where
   pub live : (run s0 n).ending ≡ None
   pub here : Here (end_of_walk g.text (graph_in g) entry s0 n) (point_of (run s0 n)) (run t0 m)
-  pub items : (item : Item) → IsItem item → K n item → IsSameAt item (run s0 n) (run t0 m)
+  pub items : (item : StateItem) → IsItem item → K n item → IsSameAt item (run s0 n) (run t0 m)
   pub kept : KeepsLoaded g entry s0 n (run t0 m)
   pub together : AreTogether g entry s0 t0 n m
 
@@ -106,7 +106,7 @@ pub record Closed (g : Setting) (entry : ℕ) (s0 t0 : State) (n m : ℕ) (d : E
 
 -- What is proved of the files, the pieces and the items.
 pub record Rests (g : Setting) (entry : ℕ) (Inside : Point → Type 0)
-    (Here : Node → Point → State → Type 0) (Short : Type 0) (K : ℕ → Item → Type 0) (s0 t0 : State) : Type 0 where
+    (Here : Node → Point → State → Type 0) (Short : Type 0) (K : ℕ → StateItem → Type 0) (s0 t0 : State) : Type 0 where
   pub text : IsText g.text
   pub first_valid : IsValid s0
   pub second_valid : IsValid t0

@@ -3,7 +3,7 @@ use Rattle.std.specs.Prelude.{◌≡◌, ℕ, zero, suc, ◌<◌, ◌≤◌, All
 use Rattle.eel_base.specs.CodeText.{IsText}
 use Rattle.v8_step.specs.State.{State}
 use Rattle.v8_step.specs.Run.{run}
-use Rattle.v8_step.specs.Items.{Item}
+use Rattle.v8_step.specs.Items.{StateItem}
 use Rattle.two_runs.specs.Needed.{IsUntouched}
 use Rattle.two_runs.specs.Visits.{pages_of}
 use Rattle.two_runs.specs.TwoRuns.{Answers, IsLeast, IsBounded}
@@ -21,7 +21,7 @@ use Rattle.edit_core.specs.Runs.{Keeping, Rests, Spares, limits_in}
 use Rattle.edit_core.specs.RunsAlike.{EndsAtNode, IsStop, visits_by}
 
 -- what is kept: what the original's run still needs, and what snippets name that come before it is written
-abbrev pub KeptIn : Setting → ℕ → State → ℕ → Item → Type 0
+abbrev pub KeptIn : Setting → ℕ → State → ℕ → StateItem → Type 0
 KeptIn g entry s0 n item = IsKeptAt g.text (graph_in g) (named_on g.snips) entry s0 n item
 
 -- Where just what isn't live is dead behind each edge's snippet, all that is kept which has to be.

@@ -42,7 +42,7 @@ use Rattle.tool_kit.specs.declared.edge_ref.ToolKind.TheVariants as tools
 use Rattle.tool_kit.specs.Plans.{AreCounters, Plan}
 use Rattle.edit_core.specs.Dead.{AreDead}
 use Rattle.edit_core.specs.Taken.{CanEdit, bound_by}
-use Rattle.edit_core.specs.declared.taking.Asked.{Asked}
+use Rattle.edit_core.specs.declared.taking.Request.{Request}
 use Rattle.edit_core.specs.RunsAlike.{HaveRunsAlike, short_bound}
 use Rattle.edit_core.specs.Faithful.{editor_page, page_size, note_edges, tool_number}
 
@@ -326,13 +326,13 @@ abbrev pub placement_in : Placed → Placement
 placement_in placed = placement_of placed.code.items placed.at.items placed.ranges.items
 
 -- what is asked, with the words that are marked
-abbrev pub plan_of : List ℕ → Asked → Plan
+abbrev pub plan_of : List ℕ → Request → Plan
 plan_of marks asked = record { kind = asked.kind; marks = marks; cells = asked.cells; snips = asked.snips.items }
 
 -- ---- new code of a view
 
 -- There is as much room above a program as the edit asks for.
-pub record HasRoom (image : Program) (g : Graph) (asked : Asked) : Type 0 where
+pub record HasRoom (image : Program) (g : Graph) (asked : Request) : Type 0 where
   pub text : IsText image.text
   pub graph : IsGraphOf image.text g
   pub work : IsWorkable g asked.kind asked.cells asked.snips.items
@@ -342,7 +342,7 @@ pub record HasRoom (image : Program) (g : Graph) (asked : Asked) : Type 0 where
 
 -- Pieces are those of a view, with snippets that take what is dead behind them. These are the pieces of the words, of
 -- the Case edges, of what lies outside the text, and the one at which the program begins.
-pub record AreMade (image : Program) (graph : Graph) (asked : Asked) (pieces : List (List Item))
+pub record AreMade (image : Program) (graph : Graph) (asked : Request) (pieces : List (List Item))
     (words ways : List PieceNo) (outside begin : PieceNo) : Type 0 where
   pub dead : ℕ → List Part
   pub exact : AreDead image.text graph (named_on asked.snips.items) dead

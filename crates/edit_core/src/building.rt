@@ -8,7 +8,7 @@ ghost use Rattle.edit_core.specs.Written.{addr, cells_size as cells_size_of, ent
 
 use crate::addresses::{AddressMap, cells_size, tables_size};
 use crate::segments::zeros;
-use crate::taking::Asked;
+use crate::taking::Request;
 use addr_translate::{build, build_halves, table_size};
 use cfg_normal::FlowGraph;
 use eel_base::{Addr, NoMemory, PieceNo, Text};
@@ -33,7 +33,7 @@ pub(crate) fn new_code(
     alloc: Global,
     image: &Image,
     graph: &FlowGraph,
-    asked: &Asked,
+    asked: &Request,
 ) -> Result<NewCode, NoMemory>
     requires { HasRoom image.now graph.now asked.now }
     ensures built { IfOk result (λ new. IsBuilt image.now.text graph.now image.now.base asked.now.cells
@@ -54,7 +54,7 @@ fn make_pieces(
     alloc: Global,
     image: &Image,
     graph: &FlowGraph,
-    asked: &Asked,
+    asked: &Request,
 ) -> Result<PieceList, NoMemory>
     requires { HasRoom image.now graph.now asked.now }
     ensures { IfOk result (λ made. AreMade image.now graph.now asked.now made.list.items made.landing.items

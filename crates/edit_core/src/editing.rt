@@ -15,7 +15,7 @@ use crate::addresses::AddressMap;
 use crate::building::{NewCode, new_code};
 use crate::noting::notes;
 use crate::segments::{cells_segment, code_segment, page_segment, tables_segment};
-use crate::taking::{Asked, EditFault, bound};
+use crate::taking::{EditFault, Request, bound};
 use cfg_normal::FlowGraph;
 use cfg_view::{View, look};
 use eel_base::NoMemory;
@@ -76,13 +76,13 @@ pub fn edit_view<F: Chooser>(
 }
 
 // What a tool asks of a graph, where the snippets of a profile count edges.
-fn ask<F: Chooser>(alloc: Global, tool: &Tool<F>, graph: &FlowGraph) -> Result<Asked, NoMemory>
+fn ask<F: Chooser>(alloc: Global, tool: &Tool<F>, graph: &FlowGraph) -> Result<Request, NoMemory>
     requires { (plan : Plan) → IsPlanOf F.says tool.now graph.now.edges plan → AreCounted 2 plan }
     ensures plan { IfOk result (λ asked.
         IsPlanOf F.says tool.now graph.now.edges (plan_of (numbers tool.now.marks) asked)) }
     ensures work { IfOk result (λ asked. IsWorkable graph.now asked.kind asked.cells asked.snips.items) }
 {
-    Ok(Asked {
+    Ok(Request {
         kind: tool.kind(),
         cells: tool.cells(),
         snips: snips(alloc, tool, graph)?,
@@ -95,7 +95,7 @@ fn write_edit(
     bytes: &[u8],
     image: &Image,
     graph: &FlowGraph,
-    asked: &Asked,
+    asked: &Request,
 ) -> Result<Vec<u8>, NoMemory>
     requires limit { length bytes.now ≤ 2 ^ 26 }
     requires asked { (marks : List ℕ) × IsViewOf bytes.now (plan_of marks asked.now) image.now graph.now

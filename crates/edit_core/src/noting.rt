@@ -10,7 +10,7 @@ ghost use Rattle.edit_core.specs.Written.{is_off as is_off_of, notes_on, off_ran
 
 use crate::addresses::AddressMap;
 use crate::segments::{EDITOR_PAGE, PAGE_SIZE};
-use crate::taking::Asked;
+use crate::taking::Request;
 use cfg_normal::{Edge, FlowGraph, Slot, kind_number, node_number};
 use eel_base::{Addr, BlockNo, NoMemory, Range, Text, WordNo};
 use elf32_sparc::Image;
@@ -30,7 +30,7 @@ pub(crate) fn notes(
     bytes: &[u8],
     image: &Image,
     graph: &FlowGraph,
-    asked: &Asked,
+    asked: &Request,
     placed: Placed,
     size: u32,
 ) -> Result<Notes, NoMemory>
@@ -169,7 +169,7 @@ fn first_words(alloc: Global, graph: &FlowGraph) -> Result<Vec<u32>, NoMemory>
     Ok(firsts)
 }
 
-fn note_edges(alloc: Global, graph: &FlowGraph, asked: &Asked) -> Result<Vec<NoteEdge>, NoMemory>
+fn note_edges(alloc: Global, graph: &FlowGraph, asked: &Request) -> Result<Vec<NoteEdge>, NoMemory>
     ensures { IfOk result (λ v. map edge_seen v.items
         ≡ note_edges_of graph.now asked.now.kind graph.now.edges asked.now.snips.items) }
 {

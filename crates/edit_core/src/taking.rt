@@ -53,7 +53,7 @@ impl From<ReadFault> for EditFault {
 
 /// What a tool asks of a graph.
 #[derive(Drop)]
-pub(crate) struct Asked {
+pub(crate) struct Request {
     pub kind: ToolKind,
     pub cells: u32,
     /// The snippet on each edge.

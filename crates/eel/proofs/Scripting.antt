@@ -22,8 +22,6 @@ edit_refused input bytes script lines plan (faults.Room needed had) scripted (ot
     (plan, refl, scripted, subst (IsCramped needed had bytes) same cramped)
 edit_refused input bytes script lines plan faults.NoMemory scripted is = is
 
-)
-
 -- ---- the command, by its status
 
 not_scripted : (input bytes script lines : List ℕ) (outcome : Outcome) → IsNotScripted input bytes script lines outcome

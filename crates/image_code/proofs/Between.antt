@@ -10,7 +10,7 @@ use Rattle.v8_step.specs.declared.Ending.{Ending}
 use Rattle.v8_step.specs.declared.Slot.TheVariants.{NoSlot}
 use Rattle.v8_step.specs.State.{State}
 use Rattle.v8_step.specs.Run.{run}
-use Rattle.v8_step.specs.Items.{Item as Thing, Register, Codes, YRegister, IsSameAt}
+use Rattle.v8_step.specs.Items.{StateItem, Register, Codes, YRegister, IsSameAt}
 use Rattle.v8_step.specs.Valid.{IsValid}
 use Rattle.two_runs.specs.Visits.{visit_of, visited, if_live, in_pages}
 use Rattle.cfg_walk.proofs.Walks as walks
@@ -54,7 +54,7 @@ region_refl (Some r) = refl
 pub outside_refl : (pages : List Span) (m : Memory) → IsSameOutside pages m m
 outside_refl pages m = record { heap = refl; outside = λ a c some apart. region_refl _ }
 
-pub same_at : (item : Thing) (s t : State) → s.registers ≡ t.registers → s.codes ≡ t.codes → s.y ≡ t.y
+pub same_at : (item : StateItem) (s t : State) → s.registers ≡ t.registers → s.codes ≡ t.codes → s.y ≡ t.y
     → IsSameAt item s t
 same_at (Register n) s t a b c = ap (λ z. slice_index z n) a
 same_at Codes s t a b c = b

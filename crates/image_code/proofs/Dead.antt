@@ -19,7 +19,7 @@ use Rattle.v8_step.specs.declared.Slot.{Slot}
 use Rattle.v8_step.specs.declared.Slot.TheVariants.{NoSlot, Taken, Untaken}
 use Rattle.v8_step.specs.State.{State}
 use Rattle.two_runs.specs.Visits.{pages_of}
-use Rattle.v8_step.specs.Items.{Item as Thing, Register, Codes, YRegister, IsSameAt}
+use Rattle.v8_step.specs.Items.{StateItem, Register, Codes, YRegister, IsSameAt}
 use Rattle.cfg_blocks.specs.declared.EdgeKind.{EdgeKind}
 use Rattle.cfg_blocks.specs.declared.EdgeKind.TheVariants as kinds
 use Rattle.cfg_normal.specs.declared.Edge.{Edge}
@@ -72,7 +72,7 @@ pub nothing_parted : (g : Setting) (first others : List ℕ) → NothingDead g (
 nothing_parted g [] others d = (tt, d)
 nothing_parted g (edge ∷ first) others d = let more = nothing_parted g first others d.1 in ((d.0, more.0), more.1)
 
-pub kept_parted : (g : Setting) (first others : List ℕ) (window : ℕ) (item : Thing)
+pub kept_parted : (g : Setting) (first others : List ℕ) (window : ℕ) (item : StateItem)
     → IsKept g (first ++ others) window item → IsKept g first window item × IsKept g others window item
 kept_parted g [] others window item k = (tt, k)
 kept_parted g (edge ∷ first) others window item k =
@@ -88,7 +88,7 @@ pub record IsAlike (g : Setting) (edges : List ℕ) (a b : State) : Type 0 where
   pub valid : b.valid ≡ a.valid
   pub input : b.input ≡ a.input
   pub registers : length b.registers ≡ length a.registers
-  pub items : (item : Thing) → IsKept g edges a.window item → IsSameAt item a b
+  pub items : (item : StateItem) → IsKept g edges a.window item → IsSameAt item a b
 
 pub alike_itself : (g : Setting) (edges : List ℕ) (a : State) → IsAlike g edges a a
 alike_itself g edges a = record {
@@ -101,19 +101,19 @@ alike_itself g edges a = record {
 }
 
 -- the place and memory are none of its items
-pub same_hopped : (item : Thing) (a b : State) (to : ℕ) (m : Memory) → IsSameAt item a b
+pub same_hopped : (item : StateItem) (a b : State) (to : ℕ) (m : Memory) → IsSameAt item a b
     → IsSameAt item a (hopped b to m)
 same_hopped (Register n) a b to m e = e
 same_hopped Codes a b to m e = e
 same_hopped YRegister a b to m e = e
 
-pub same_from : (item : Thing) (a b c : State) → a.registers ≡ b.registers → a.codes ≡ b.codes → a.y ≡ b.y
+pub same_from : (item : StateItem) (a b c : State) → a.registers ≡ b.registers → a.codes ≡ b.codes → a.y ≡ b.y
     → IsSameAt item b c → IsSameAt item a c
 same_from (Register n) a b c e f h same = ap (λ z. slice_index z n) e ∙ same
 same_from Codes a b c e f h same = f ∙ same
 same_from YRegister a b c e f h same = h ∙ same
 
-same_then : (item : Thing) (a b c : State) (to : ℕ) (m : Memory) → IsSameAt item a b
+same_then : (item : StateItem) (a b c : State) (to : ℕ) (m : Memory) → IsSameAt item a b
     → IsSameAt item (hopped b to m) c → IsSameAt item a c
 same_then (Register n) a b c to m e f = e ∙ f
 same_then Codes a b c to m e f = e ∙ f

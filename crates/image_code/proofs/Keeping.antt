@@ -19,7 +19,7 @@ use Rattle.v8_step.specs.declared.Ending.{Ending}
 use Rattle.v8_step.specs.declared.Slot.{Slot}
 use Rattle.v8_step.specs.declared.Slot.TheVariants.{NoSlot}
 use Rattle.v8_step.specs.State.{State, sum_of}
-use Rattle.v8_step.specs.Items.{Item as Thing, Register, Codes, YRegister, IsSameAt, is_transfer}
+use Rattle.v8_step.specs.Items.{StateItem, Register, Codes, YRegister, IsSameAt, is_transfer}
 use Rattle.v8_step.specs.Step.{act, on_word}
 use Rattle.v8_step.specs.Run.{run, run_puts}
 use Rattle.v8_step.specs.Valid.{IsValid}
@@ -86,7 +86,7 @@ sum_past : (s : State) (count : ℕ) (m : Memory) (rs1 : ℕ) (op2 : Op2) → su
 sum_past s count m rs1 (Reg r) = refl
 sum_past s count m rs1 (Imm n) = refl
 
-same_past : (thing : Thing) (v s : State) (count : ℕ) (m : Memory) → IsSameAt thing v s
+same_past : (thing : StateItem) (v s : State) (count : ℕ) (m : Memory) → IsSameAt thing v s
     → IsSameAt thing v (past s count m s)
 same_past (Register n) v s count m e = e
 same_past Codes v s count m e = e

@@ -13,7 +13,7 @@ use Rattle.v8_step.specs.declared.Slot.TheVariants.{NoSlot}
 use Rattle.v8_step.specs.State.{State, register_of, sum_of}
 use Rattle.v8_step.specs.Step.{on_word, puts_on_word}
 use Rattle.v8_step.specs.Run.{run, run_puts}
-use Rattle.v8_step.specs.Items.{Item, IsAmong, IsItem, IsSameAt, is_transfer}
+use Rattle.v8_step.specs.Items.{StateItem, IsAmong, IsItem, IsSameAt, is_transfer}
 use Rattle.two_runs.specs.Needed.{judged_in}
 use Rattle.two_runs.specs.Visits.{in_pages, visit_of, pages_of}
 use Rattle.cfg_blocks.specs.declared.EdgeKind.TheVariants as kinds
@@ -117,7 +117,7 @@ store_of g entry s0 (suc n) =
 -- ---- what a way along some edges leaves, and what it spills
 
 -- an item that is dead behind the snippet of none of some edges
-abbrev pub IsKept : Setting → List ℕ → ℕ → Item → Type 0
+abbrev pub IsKept : Setting → List ℕ → ℕ → StateItem → Type 0
 IsKept g [] window item = Unit {0}
 IsKept g (edge ∷ edges) window item = (IsAmong item window (g.dead edge) → ⊥) × IsKept g edges window item
 
@@ -153,14 +153,14 @@ pub record Onward (g : Setting) (limit : ℕ) (t after : State) (count : ℕ) : 
   pub quiet : (j : ℕ) → 0 < j → j < count → IsOnWay g t (run t j)
 
 -- the same but for where it goes on, the pages, and items that are not kept
-pub record IsFollowedBy (pages : List Span) (Kept : Item → Type 0) (v after : State) : Type 0 where
+pub record IsFollowedBy (pages : List Span) (Kept : StateItem → Type 0) (v after : State) : Type 0 where
   pub ending : after.ending ≡ v.ending
   pub window : after.window ≡ v.window
   pub valid : after.valid ≡ v.valid
   pub registers : length after.registers ≡ length v.registers
   pub input : after.input ≡ v.input
   pub memory : IsSameOutside pages v.memory after.memory
-  pub items : v.ending ≡ None → (item : Item) → IsItem item → Kept item → IsSameAt item v after
+  pub items : v.ending ≡ None → (item : StateItem) → IsItem item → Kept item → IsSameAt item v after
 
 -- ---- how sparing the code is
 

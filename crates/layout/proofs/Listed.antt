@@ -220,8 +220,6 @@ pub record IsListed (pieces : List (List Item)) (order : List ℕ) (entries : Li
   pub len : length starts ≡ length pieces
   pub known : (k : ℕ) → is_laid (take i order) k ≡ true → slice_index starts k ≡ start_of (entries_from pieces order) k
 
-}
-
 distinct_before : (fs rs : List ℕ) (k : ℕ) → IsDistinct eqb (fs ++ k ∷ rs) → is_laid fs k ≡ false
 unfolding IsDistinct
 distinct_before [] rs k d = refl

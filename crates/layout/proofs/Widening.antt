@@ -117,8 +117,6 @@ pub record IsWidening (entries : List Entry) (long : Forms) : Type 0 where
   pub needed : (n : ℕ) → long n ≡ true → is_far entries long n ≡ true
   pub fewest : (other : Forms) → NoneLeft entries other → IsWithin long other
 
-}
-
 -- Any of those that are out of reach may be widened.
 pub widening_more : (entries : List Entry) (long more : Forms) → IsWidening entries long
     → IsWithin long more → ((n : ℕ) → more n ≡ true → (long n ≡ true) ⊎ (is_far entries long n ≡ true))

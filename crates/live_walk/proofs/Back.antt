@@ -15,7 +15,7 @@ use Rattle.v8_step.specs.declared.Slot.{Slot}
 use Rattle.v8_step.specs.declared.Slot.TheVariants.{NoSlot, Taken, Untaken}
 use Rattle.v8_step.specs.State.{State}
 use Rattle.v8_step.specs.Run.{run}
-use Rattle.v8_step.specs.Items.{Item, item_of, IsAmong}
+use Rattle.v8_step.specs.Items.{StateItem, item_of, IsAmong}
 use Rattle.two_runs.specs.Needed.{Reads, Writes, decoded, ReadsIn}
 use Rattle.v8_step.proofs.Live.{live_step}
 use Rattle.v8_step.proofs.Executable.{code_stays}
@@ -41,7 +41,7 @@ use Rattle.live_walk.proofs.Edges.{IsPointBy}
 use Rattle.live_walk.proofs.Steps.{IsPoint, trip, went}
 
 -- what a state reads, by its word
-pub reads_here : (s : State) (item : Item) → Reads s item
+pub reads_here : (s : State) (item : StateItem) → Reads s item
     → (s.ending ≡ None) × (word : ℕ) × (fetch_of s.memory s.pc ≡ Some word)
     × ((reads_all (decode_of word) ≡ true) ⊎ IsAmong item s.window (reads_of (decode_of word)))
 reads_here s item h = by s.ending refl (fetch_of s.memory s.pc) refl h
@@ -202,7 +202,7 @@ module _ (text : Words) (given : List ℕ) (opens : List Open) (entry : ℕ) (s0
 
   -- ---- from the reader back
 
-  back : (d k : ℕ) (p : Part) → is_member p ≡ true → (j : ℕ) → k + d ≡ j → (item : Item) → Reads (at j) item
+  back : (d k : ℕ) (p : Part) → is_member p ≡ true → (j : ℕ) → k + d ≡ j → (item : StateItem) → Reads (at j) item
       → ((i : ℕ) → k ≤ i → i < j → ¬ Writes (at i) item) → item ≡ item_of (at k).window p → LivesAt k p
   back zero k p m j e item reads un is_item =
       let r = reads_here (at k) item (let s : j ≡ k = omega arith in rw s at reads) in
@@ -212,7 +212,7 @@ module _ (text : Words) (given : List ℕ) (opens : List Open) (entry : ℕ) (s0
         (
           [],
           ap (λ s. has s p) st.reads ∙ read_by_word (at k).window r.1 p m
-              (subst (λ (x : Item). (reads_all (decode_of r.1) ≡ true)
+              (subst (λ (x : StateItem). (reads_all (decode_of r.1) ≡ true)
               ⊎ IsAmong x (at k).window (reads_of (decode_of r.1))) is_item r.3),
         ),
       )
@@ -254,7 +254,7 @@ module _ (text : Words) (given : List ℕ) (opens : List Open) (entry : ℕ) (s0
 
   back_named : (d k : ℕ) (p : Part) → is_member p ≡ true → (j f : ℕ) (q : Part) → k + d ≡ j
       → Contains (gone_in text graph entry s0 j) f
-      → is_member q ≡ true → has (named f) q ≡ true → (item : Item) → item_of (at (suc j)).window q ≡ item
+      → is_member q ≡ true → has (named f) q ≡ true → (item : StateItem) → item_of (at (suc j)).window q ≡ item
       → ((i : ℕ) → k ≤ i → i ≤ j → ¬ Writes (at i) item) → item ≡ item_of (at k).window p → LivesAt k p
   back_named zero k p m j f q e c mq h item is_named un is_item =
       let s : j ≡ k = omega arith in

@@ -11,7 +11,7 @@ use Rattle.v8_memory.specs.Regions.{fetch_of}
 use Rattle.v8_step.specs.declared.Ending.{Ending}
 use Rattle.v8_step.specs.State.{State}
 use Rattle.v8_step.specs.Run.{run}
-use Rattle.v8_step.specs.Items.{Item, Register, Codes, YRegister, IsItem, IsAmong, item_of}
+use Rattle.v8_step.specs.Items.{StateItem, Register, Codes, YRegister, IsItem, IsAmong, item_of}
 use Rattle.two_runs.specs.Needed.{ReadsIn, Writes, WritesIn, decoded}
 use Rattle.v8_step.proofs.Executable.{code_stays}
 use Rattle.code_runs.specs.PointsAlike.{instr_of}
@@ -26,7 +26,7 @@ use Rattle.live_walk.proofs.Back.{goes_live, live_below, named_is_live, needed_i
 
 -- ---- whether a step writes an item
 
-same_item : (one other : Item) → (one ≡ other) ⊎ (one ≡ other → ⊥)
+same_item : (one other : StateItem) → (one ≡ other) ⊎ (one ≡ other → ⊥)
 same_item (Register a) (Register b) = elim (cases_eq a b) [
   | inl e ↦ inl (ap Register e)
   | inr not ↦ inr (λ e. not (cc))
@@ -40,7 +40,7 @@ same_item YRegister (Register b) = inr (λ e. absurd (cc))
 same_item YRegister Codes = inr (λ e. absurd (cc))
 same_item YRegister YRegister = inl refl
 
-among_or_not : (item : Item) (w : ℕ) (ps : List Part) → IsAmong item w ps ⊎ (IsAmong item w ps → ⊥)
+among_or_not : (item : StateItem) (w : ℕ) (ps : List Part) → IsAmong item w ps ⊎ (IsAmong item w ps → ⊥)
 among_or_not item w [] = inr (λ a. a)
 among_or_not item w (p ∷ ps) = by (same_item (item_of w p) item) (among_or_not item w ps)
   where
@@ -54,7 +54,7 @@ among_or_not item w (p ∷ ps) = by (same_item (item_of w p) item) (among_or_not
         neither not none (inl e) = not e
         neither not none (inr a) = none a
 
-written_or_not : (instr : Option Instr) (w : ℕ) (item : Item) → WritesIn instr w item ⊎ (WritesIn instr w item → ⊥)
+written_or_not : (instr : Option Instr) (w : ℕ) (item : StateItem) → WritesIn instr w item ⊎ (WritesIn instr w item → ⊥)
 written_or_not None w item = inr (λ h. h)
 written_or_not (Some instr) w item = among_or_not item w (writes_of instr)
 
@@ -81,10 +81,10 @@ module _ (text : Words) (given : List ℕ) (opens : List Open) (entry : ℕ) (s0
   abbrev at : ℕ → State
   at k = run s0 k
 
-  abbrev Kept : ℕ → Item → Type 0
+  abbrev Kept : ℕ → StateItem → Type 0
   Kept n item = IsKeptAt text graph named entry s0 n item
 
-  abbrev Written : ℕ → Item → Type 0
+  abbrev Written : ℕ → StateItem → Type 0
   Written n item = WritesIn (instr_after text s0 n) (run s0 n).window item
 
   -- a live state carries out what the text has there
@@ -94,10 +94,10 @@ module _ (text : Words) (given : List ℕ) (opens : List Open) (entry : ℕ) (s0
       ap instr_of (sym (code_stays.1 s0 n (at n).pc ∙ fetches (at n).pc))
       ∙ decoded_live (at n).ending (fetch_of (at n).memory (at n).pc) live
 
-  writes_now : (n : ℕ) (item : Item) → (at n).ending ≡ None → (Written n item → ⊥) → ¬ Writes (at n) item
+  writes_now : (n : ℕ) (item : StateItem) → (at n).ending ≡ None → (Written n item → ⊥) → ¬ Writes (at n) item
   writes_now n item live none w = none (rw (carried n live) w)
 
-  read_now : (n : ℕ) (item : Item) → (at n).ending ≡ None → IsItem item
+  read_now : (n : ℕ) (item : StateItem) → (at n).ending ≡ None → IsItem item
       → ReadsIn (instr_after text s0 n) (at n).window item → Kept n item
   read_now n item live is_item r =
       inl (record {
@@ -114,14 +114,14 @@ module _ (text : Words) (given : List ℕ) (opens : List Open) (entry : ℕ) (s0
       live_below text given opens entry s0 named is fetches begins are cases n (m - n)
       (ap (λ (k : ℕ). (at k).ending) (omega arith) ∙ h)
 
-  kept_lives : (n : ℕ) (item : Item) → Kept n item → (at n).ending ≡ None
+  kept_lives : (n : ℕ) (item : StateItem) → Kept n item → (at n).ending ≡ None
   kept_lives n item (inl needed) =
       live_up_to n needed.reader needed.later (reads_here (at needed.reader) item needed.reads).0
   kept_lives n item (inr later) =
       live_up_to n later.step later.later (live_before (at later.step)
       (goes_live text given opens entry s0 named is fetches begins are cases later.step later.edge later.completed))
 
-  kept_before : (n : ℕ) (item : Item) → Kept (suc n) item → ¬ Writes (at n) item → Kept n item
+  kept_before : (n : ℕ) (item : StateItem) → Kept (suc n) item → ¬ Writes (at n) item → Kept n item
   kept_before n item (inl needed) none =
       inl (record {
         is_item = needed.is_item;
@@ -146,7 +146,7 @@ module _ (text : Words) (given : List ℕ) (opens : List Open) (entry : ℕ) (s0
         unwritten = from_next (λ (j : ℕ). ¬ Writes (at j) item) n later.step none later.unwritten;
       })
 
-  back : (n : ℕ) (item : Item) → Kept (suc n) item → Written n item ⊎ Kept n item
+  back : (n : ℕ) (item : StateItem) → Kept (suc n) item → Written n item ⊎ Kept n item
   back n item kept = by (written_or_not (instr_after text s0 n) (at n).window item)
     where
       by : Written n item ⊎ (Written n item → ⊥) → Written n item ⊎ Kept n item
@@ -154,7 +154,7 @@ module _ (text : Words) (given : List ℕ) (opens : List Open) (entry : ℕ) (s0
       by (inr none) =
           inr (kept_before n item kept (writes_now n item (live_before (at n) (kept_lives (suc n) item kept)) none))
 
-  live : (n : ℕ) (item : Item) → Kept (suc n) item
+  live : (n : ℕ) (item : StateItem) → Kept (suc n) item
       → IsKeptBehind text graph named (gone_in text graph entry s0 n) (at (suc n)).window item
   live n item (inl needed) front e last p member dead same =
       dead (needed_is_live text given opens entry s0 named is fetches begins are cases n e front p member last

@@ -8,7 +8,7 @@ use Rattle.v8_decode.specs.Parts.{has, is_same}
 use Rattle.v8_alu.specs.declared.Codes.{Codes}
 use Rattle.v8_windows.specs.Registers.{place_of, register_in}
 use Rattle.v8_step.specs.State.{State, register_of}
-use Rattle.v8_step.specs.Items.{Item, Register, Codes as CodesItem, YRegister, IsAmong, IsSameAt, item_of}
+use Rattle.v8_step.specs.Items.{StateItem, Register, Codes as CodesItem, YRegister, IsAmong, IsSameAt, item_of}
 use Rattle.code_runs.proofs.Hops.{equal_or_not}
 use Rattle.code_runs.proofs.Leads.{split_below}
 use Rattle.scavenge.specs.Picks.{ArePicked}
@@ -65,7 +65,7 @@ pub item_stays : {s : State} {count : ℕ} {May : ℕ → Type 0} {want : ℕ} {
     (p : ArePicked dead avoid want regs spilled)
     → ((j : ℕ) → want - spilled ≤ j → j < want → f j ≡ register_of s (slice_index regs j))
     → (u : State) → IsAlike s May (slice_index regs) want g codes f u → (has dead parts.Icc ≡ false → codes ≡ s.codes)
-    → (y : Item) → (IsAmong y s.window dead → ⊥) → IsSameAt y s u
+    → (y : StateItem) → (IsAmong y s.window dead → ⊥) → IsSameAt y s u
 item_stays {s} {want = want} {dead = dead} {regs = regs} {spilled = spilled} {f = f} c p back u h kept (Register n) ne =
     go (picked_or_not s.window (slice_index regs) want n)
   where

@@ -16,7 +16,7 @@ use Rattle.v8_step.specs.declared.Slot.TheVariants.{NoSlot}
 use Rattle.v8_step.specs.declared.Ending.{Ending}
 use Rattle.v8_alu.specs.declared.Codes.{Codes}
 use Rattle.v8_step.specs.State.{State, register_of}
-use Rattle.v8_step.specs.Items.{Item, Register, Codes as CodesItem, YRegister, IsAmong, IsSameAt}
+use Rattle.v8_step.specs.Items.{StateItem, Register, Codes as CodesItem, YRegister, IsAmong, IsSameAt}
 use Rattle.code_runs.specs.Counted.{any_of_word}
 use Rattle.code_runs.specs.Hops.{hopped}
 use Rattle.code_runs.specs.StoredWords.{memory_word, CanStore}
@@ -148,7 +148,7 @@ same_state s u to e1 e2 e3 e4 e5 e6 e7 e8 e9 e10 =
 
 -- where nothing is dead, so that each item is as it was
 nothing_dead : (s u : State) (to : ℕ) → length s.registers ≡ 136 → length u.registers ≡ 136
-    → ((item : Item) → (IsAmong item s.window [] → ⊥) → IsSameAt item s u)
+    → ((item : StateItem) → (IsAmong item s.window [] → ⊥) → IsSameAt item s u)
     → u.pc ≡ to → u.npc ≡ to + 4 → to + 4 < 2 ^ 32 → u.slot ≡ NoSlot
     → u.window ≡ s.window → u.valid ≡ s.valid → u.input ≡ s.input → u.ending ≡ s.ending → u ≡ hopped s to u.memory
 nothing_dead s u to ls lu items e1 e2 low e3 e5 e6 e9 e10 =
@@ -295,7 +295,7 @@ module _ (counted : ℕ → Bool) (base : ℕ) (dead avoid : List Part) (ops : L
         registers = a.held.count;
         items = items;
         all = λ none. nothing_dead s x.after (s.pc + 4 * length words) h.valid.registers.count a.held.count
-            (subst (λ (z : List Part). (item : Item) → (IsAmong item s.window z → ⊥) → IsSameAt item s x.after) none
+            (subst (λ (z : List Part). (item : StateItem) → (IsAmong item s.window z → ⊥) → IsSameAt item s x.after) none
             items)
             x.pc x.npc (omega arith) w4.slot a.same.window a.same.valid a.same.input (a.same.live ∙ sym h.ready.live);
         cells = cells_are regs_of out x.after low h a.memory.words

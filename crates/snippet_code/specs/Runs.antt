@@ -5,7 +5,7 @@ use Rattle.v8_memory.specs.Regions.{code_of}
 use Rattle.v8_step.specs.declared.Slot.TheVariants.{NoSlot}
 use Rattle.v8_step.specs.State.{State, register_of}
 use Rattle.v8_step.specs.Valid.{IsValid}
-use Rattle.v8_step.specs.Items.{Item, IsAmong, IsSameAt}
+use Rattle.v8_step.specs.Items.{StateItem, IsAmong, IsSameAt}
 use Rattle.code_runs.specs.Hops.{hopped}
 use Rattle.code_runs.specs.Leads.{Leads, IsSilent}
 use Rattle.code_runs.specs.StoredWords.{Stores, CanStore}
@@ -52,7 +52,7 @@ pub record RunsPast (counted : ℕ → Bool) (base : ℕ) (dead : List Part) (op
   pub windows : after.valid ≡ s.valid
   pub input : after.input ≡ s.input
   pub registers : length after.registers ≡ 136
-  pub items : (item : Item) → (IsAmong item s.window dead → ⊥) → IsSameAt item s after
+  pub items : (item : StateItem) → (IsAmong item s.window dead → ⊥) → IsSameAt item s after
   -- where nothing is dead, all is as it was but the place and memory
   pub all : dead ≡ [] → after ≡ hopped s (s.pc + 4 * count) after.memory
   pub cells : (n : ℕ) → ((k : ℕ) → IsCellOf ops k → k < n) → cell_at base n ≤ 2 ^ 31

@@ -22,7 +22,7 @@ use Rattle.v8_step.specs.Traps.{mem_address_not_aligned, data_access_exception}
 use Rattle.v8_step.specs.Transfers.{next, trapped}
 use Rattle.v8_step.specs.Accesses.{load_size, store_size, loaded, stored, on_bytes, on_memory, load_step, store_step, exchange_step, ldstub_step, swap_step}
 use Rattle.v8_step.specs.Step.{act, puts_by}
-use Rattle.v8_step.specs.Items.{Item, Register, Codes, YRegister, IsAmong, IsSameAt, AreSameAt}
+use Rattle.v8_step.specs.Items.{StateItem, Register, Codes, YRegister, IsAmong, IsSameAt, AreSameAt}
 use Rattle.two_runs.specs.Alike.{IsSameWorld, AreSameAfter, ActsAlike}
 use Rattle.two_runs.proofs.Reading.{same_assoc, same_first, same_rest, same_register, same_sum, place_one, among_split, no_codes, no_y, ended_alike, same_lengths}
 use Rattle.v8_step.proofs.KeptOutside.{length-stored, store_some}
@@ -103,7 +103,7 @@ loaded_y loads.LDSH w rd h = no_y w rd h
 abbrev after_load : State → LoadKind → ℕ → List ℕ → State
 after_load s kind rd bytes = next (record s { registers = loaded s.registers s.window kind rd bytes })
 
-loaded_items : (kind : LoadKind) (rd : ℕ) (bytes : List ℕ) (s t : State) (item : Item) → s.window ≡ t.window
+loaded_items : (kind : LoadKind) (rd : ℕ) (bytes : List ℕ) (s t : State) (item : StateItem) → s.window ≡ t.window
     → length s.registers ≡ length t.registers → IsAmong item s.window (loaded_parts kind rd) ⊎ IsSameAt item s t
     → IsSameAt item (after_load s kind rd bytes) (after_load t kind rd bytes)
 loaded_items kind rd bytes s t (Register n) w e h =
@@ -166,7 +166,7 @@ stored_alike stores.STD rd s t w g =
     ap (λ n. to_be_bytes w32 n ++ to_be_bytes w32 (register_of s (suc rd))) e
     ∙ ap (λ n. to_be_bytes w32 (register_of t rd) ++ to_be_bytes w32 n) f
 
-stored_items : (s t : State) (m n : Memory) (item : Item) → ⊥ ⊎ IsSameAt item s t
+stored_items : (s t : State) (m n : Memory) (item : StateItem) → ⊥ ⊎ IsSameAt item s t
     → IsSameAt item (next (record s { memory = m })) (next (record t { memory = n }))
 stored_items s t m n item (inl h) = absurd h
 stored_items s t m n (Register k) (inr h) = h
@@ -227,7 +227,7 @@ store_acts kind rd rs1 op2 pages s t ready =
 -- ---- LDSTUB and SWAP: an instruction that writes rd alone
 
 -- memory and rd are written
-exchanged_items : (rd v : ℕ) (m n : Memory) (s t : State) (item : Item) → s.window ≡ t.window
+exchanged_items : (rd v : ℕ) (m n : Memory) (s t : State) (item : StateItem) → s.window ≡ t.window
     → length s.registers ≡ length t.registers → IsAmong item s.window (reg rd) ⊎ IsSameAt item s t
     → IsSameAt item (next (with_register (record s { memory = m }) rd v)) (next (with_register (record t { memory = n }) rd v))
 exchanged_items rd v m n s t (Register k) w e h =
@@ -239,7 +239,7 @@ exchanged_items rd v m n s t YRegister w e (inr h) = h
 exchanged_items rd v m n s t YRegister w e (inl h) = absurd (no_y s.window rd h)
 
 module _ (pages : List Span) (instr : Instr) (rd : ℕ)
-    (named : (item : Item) (w : ℕ) → IsAmong item w (writes_of instr) → IsAmong item w (reg rd)) where
+    (named : (item : StateItem) (w : ℕ) → IsAmong item w (writes_of instr) → IsAmong item w (reg rd)) where
   exchange_written : (s t : State) (v : ℕ) (m n : Option Memory) → s.ending ≡ None → t.ending ≡ None
       → IsSameWorld pages s t → AreSameWrites pages m n
       → AreSameAfter pages instr s t
@@ -256,7 +256,7 @@ module _ (pages : List Span) (instr : Instr) (rd : ℕ)
     items = λ _ item z. exchanged_items rd v m n s t item h.window h.registers (among item z);
   }
     where
-      among : (item : Item) → IsAmong item s.window (writes_of instr) ⊎ IsSameAt item s t
+      among : (item : StateItem) → IsAmong item s.window (writes_of instr) ⊎ IsSameAt item s t
           → IsAmong item s.window (reg rd) ⊎ IsSameAt item s t
       among item (inl x) = inl (named item s.window x)
       among item (inr x) = inr x

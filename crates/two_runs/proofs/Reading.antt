@@ -13,7 +13,7 @@ use Rattle.v8_windows.specs.Registers.{place_of, register_set}
 use Rattle.v8_step.specs.declared.Ending.{Ending}
 use Rattle.v8_step.specs.State.{State, register_of, operand_of, sum_of}
 use Rattle.v8_step.specs.Transfers.{ended}
-use Rattle.v8_step.specs.Items.{Item, Register, Codes, YRegister, IsAmong, AreSameAt}
+use Rattle.v8_step.specs.Items.{StateItem, Register, Codes, YRegister, IsAmong, AreSameAt}
 use Rattle.two_runs.specs.Alike.{IsSameWorld, AreSameAfter}
 use Rattle.v8_alu.specs.Alike.{AgreeOn}
 
@@ -67,14 +67,14 @@ place_one rs qs w (suc r) v n e (inl (inl h)) = set_alike rs qs _ n v e (inl (cc
 place_one rs qs w (suc r) v n e (inl (inr h)) = absurd h
 place_one rs qs w (suc r) v n e (inr h) = set_alike rs qs _ n v e (inr h)
 
-pub among_split : (item : Item) (w : ℕ) (ps qs : List Part) → IsAmong item w (ps ++ qs)
+pub among_split : (item : StateItem) (w : ℕ) (ps qs : List Part) → IsAmong item w (ps ++ qs)
     → IsAmong item w ps ⊎ IsAmong item w qs
 among_split item w [] qs h = inr h
 among_split item w (p ∷ ps) qs (inl e) = inl (inl e)
 among_split item w (p ∷ ps) qs (inr h) =
     elim (among_split item w ps qs h) [ inl y ↦ inl (inr y) | inr y ↦ inr y ]
 
-pub among_assoc : (item : Item) (w : ℕ) (ps qs rs : List Part) → IsAmong item w (ps ++ qs ++ rs)
+pub among_assoc : (item : StateItem) (w : ℕ) (ps qs rs : List Part) → IsAmong item w (ps ++ qs ++ rs)
     → IsAmong item w (ps ++ (qs ++ rs))
 among_assoc item w [] qs rs h = h
 among_assoc item w (p ∷ ps) qs rs (inl e) = inl e

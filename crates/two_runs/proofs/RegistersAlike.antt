@@ -20,7 +20,7 @@ use Rattle.v8_step.specs.State.{State, register_of, with_register, operand_of}
 use Rattle.v8_step.specs.Traps.{division_by_zero, tag_overflow, illegal_instruction, privileged_instruction, fp_disabled, cp_disabled}
 use Rattle.v8_step.specs.Transfers.{next}
 use Rattle.v8_step.specs.Step.{act, alu_step, puts_by}
-use Rattle.v8_step.specs.Items.{Item, Register, Codes, YRegister, IsAmong, IsSameAt}
+use Rattle.v8_step.specs.Items.{StateItem, Register, Codes, YRegister, IsAmong, IsSameAt}
 use Rattle.two_runs.specs.Alike.{IsSameWorld, AreSameAfter, ActsAlike}
 use Rattle.v8_alu.specs.Alike.{AreAlike}
 use Rattle.v8_alu.proofs.Alike.{alu_of-alike}
@@ -51,7 +51,7 @@ named_y w false false e = absurd e
 items_after : (sets writes : Bool) (rd : ℕ) (s t : State) (v v' : ℕ) (k k' : Flags) (y y' : ℕ)
     → s.window ≡ t.window → length s.registers ≡ length t.registers → v ≡ v'
     → ((sets ≡ true) ⊎ (s.codes ≡ t.codes) → k ≡ k') → ((writes ≡ true) ⊎ (s.y ≡ t.y) → y ≡ y')
-    → (item : Item)
+    → (item : StateItem)
     → IsAmong item s.window (reg rd ++ when sets (Icc ∷ []) ++ when writes (Y ∷ [])) ⊎ IsSameAt item s t
     → IsSameAt item (next (record (with_register s rd v) { codes = k; y = y }))
     (next (record (with_register t rd v') { codes = k'; y = y' }))
@@ -93,7 +93,7 @@ world_after pages rd s t v v' k k' y y' h =
     (length-register_set s.registers s.window rd v) (length-register_set t.registers t.window rd v'))
 
 register_items : (rd : ℕ) (s t : State) (v v' : ℕ) → s.window ≡ t.window → length s.registers ≡ length t.registers
-    → v ≡ v' → (item : Item) → IsAmong item s.window (reg rd) ⊎ IsSameAt item s t
+    → v ≡ v' → (item : StateItem) → IsAmong item s.window (reg rd) ⊎ IsSameAt item s t
     → IsSameAt item (next (with_register s rd v)) (next (with_register t rd v'))
 register_items rd s t v v' w l ev (Register n) h =
     place_one s.registers t.registers s.window rd v n l h
@@ -149,7 +149,7 @@ alu_acts op sets rd rs1 op2 pages s t ready =
 -- rd alone is written, with the same value
 register_acts : (pages : List Span) (instr : Instr) (rd v v' : ℕ) (s t : State) → s.ending ≡ None → t.ending ≡ None
     → IsSameWorld pages s t → v ≡ v'
-    → ((item : Item) → IsAmong item s.window (writes_of instr) → IsAmong item s.window (reg rd))
+    → ((item : StateItem) → IsAmong item s.window (writes_of instr) → IsAmong item s.window (reg rd))
     → AreSameAfter pages instr s t (next (with_register s rd v)) (next (with_register t rd v'))
 register_acts pages instr rd v v' s t e f h ev named = record {
   ending = e ∙ sym f;
@@ -157,7 +157,7 @@ register_acts pages instr rd v v' s t e f h ev named = record {
   items = λ _ item g. register_items rd s t v v' h.window h.registers ev item (among item g);
 }
   where
-    among : (item : Item) → IsAmong item s.window (writes_of instr) ⊎ IsSameAt item s t
+    among : (item : StateItem) → IsAmong item s.window (writes_of instr) ⊎ IsSameAt item s t
         → IsAmong item s.window (reg rd) ⊎ IsSameAt item s t
     among item (inl x) = inl (named item x)
     among item (inr x) = inr x
@@ -177,7 +177,7 @@ read_y_acts rd pages s t ready = (
 )
 
 -- nothing that the items or the world have is changed but Y
-y_items : (s t : State) (y y' : ℕ) → y ≡ y' → (item : Item) → IsAmong item s.window (Y ∷ []) ⊎ IsSameAt item s t
+y_items : (s t : State) (y y' : ℕ) → y ≡ y' → (item : StateItem) → IsAmong item s.window (Y ∷ []) ⊎ IsSameAt item s t
     → IsSameAt item (next (record s { y = y })) (next (record t { y = y' }))
 y_items s t y y' e (Register n) (inr h) = h
 y_items s t y y' e (Register n) (inl (inl h)) = absurd (cc)
@@ -202,7 +202,7 @@ write_y_acts rs1 op2 pages s t ready =
       λ _. refl,
     )
 
-idle_items : (s t : State) (item : Item) → ⊥ ⊎ IsSameAt item s t → IsSameAt item (next s) (next t)
+idle_items : (s t : State) (item : StateItem) → ⊥ ⊎ IsSameAt item s t → IsSameAt item (next s) (next t)
 idle_items s t item (inl h) = absurd h
 idle_items s t (Register n) (inr h) = h
 idle_items s t Codes (inr h) = h

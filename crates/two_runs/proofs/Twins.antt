@@ -25,7 +25,7 @@ use Rattle.v8_step.specs.Accesses.{on_memory}
 use Rattle.v8_step.specs.WindowMoves.{frame_written, frame_read, oldest_window, save_address, saved_memory, spill, spill_many, fill, fill_from, enter, leave, save_step, restore_step}
 use Rattle.v8_step.specs.Calls.{answered, succeeds, refuses, read_into, read_call, is_output, write_from, write_call, heap_call, system_call, system_step, trap_step}
 use Rattle.v8_step.specs.Step.{act, puts_by}
-use Rattle.v8_step.specs.Items.{Item, Register, Codes, YRegister, IsSameAt}
+use Rattle.v8_step.specs.Items.{StateItem, Register, Codes, YRegister, IsSameAt}
 use Rattle.v8_step.specs.Judged.{buffer_span, judged_by_call, saved_span, frame_span, judged_after, judged_by_spills, judged_by_trap}
 use Rattle.two_runs.specs.Twins.{AreTwins}
 use Rattle.two_runs.specs.Alike.{AreSameAfter, IsSameWorld, IsReady, ActsAlike}
@@ -47,7 +47,7 @@ twins_of pages instr s t all ready =
         let count : length s.registers ≡ 136 = ready.first_registers.count in
         ready.items.0 all (Register (suc k)) (omega arith, omega arith)
 
-pub twins_same : (pages : List Span) (s t : State) → AreTwins pages s t → (item : Item) → IsSameAt item s t
+pub twins_same : (pages : List Span) (s t : State) → AreTwins pages s t → (item : StateItem) → IsSameAt item s t
 twins_same pages s t h (Register k) = ap (λ z. slice_index z k) h.registers
 twins_same pages s t h Codes = h.codes
 twins_same pages s t h YRegister = h.y

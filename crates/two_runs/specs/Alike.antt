@@ -6,7 +6,7 @@ use Rattle.v8_memory.specs.Spans.{Span, AllApart, IsSameOutside}
 use Rattle.v8_windows.specs.Registers.{AreRegisters}
 use Rattle.v8_step.specs.State.{State}
 use Rattle.v8_step.specs.Step.{act, puts_by, step_of, puts_of}
-use Rattle.v8_step.specs.Items.{Item, IsAmong, IsSameAt, IsSameForReading, is_transfer}
+use Rattle.v8_step.specs.Items.{StateItem, IsAmong, IsSameAt, IsSameForReading, is_transfer}
 use Rattle.v8_step.specs.Judged.{judged_by}
 use Rattle.v8_decode.specs.Words.{decode_of}
 use Rattle.v8_memory.specs.Regions.{fetch_of}
@@ -24,7 +24,7 @@ pub record IsSameWorld (pages : List Span) (s t : State) : Type 0 where
 pub record AreSameAfter (pages : List Span) (instr : Instr) (s t s_after t_after : State) : Type 0 where
   pub ending : s_after.ending ≡ t_after.ending
   pub world : IsSameWorld pages s_after t_after
-  pub items : s_after.ending ≡ None → (item : Item)
+  pub items : s_after.ending ≡ None → (item : StateItem)
       → (IsAmong item s.window (writes_of instr) ⊎ IsSameAt item s t) → IsSameAt item s_after t_after
 
 -- Both states are live, share what the instruction needs, and judge no byte of the pages.

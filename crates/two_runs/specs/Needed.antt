@@ -8,7 +8,7 @@ use Rattle.v8_memory.specs.Spans.{Span, IsApartFromAll, AllApart}
 use Rattle.v8_step.specs.declared.Ending.{Ending}
 use Rattle.v8_step.specs.State.{State}
 use Rattle.v8_step.specs.Run.{run}
-use Rattle.v8_step.specs.Items.{Item, IsItem, IsAmong}
+use Rattle.v8_step.specs.Items.{StateItem, IsItem, IsAmong}
 use Rattle.v8_step.specs.Judged.{judged_by}
 
 -- ---- the instruction that the next step carries out, where there is one
@@ -23,23 +23,23 @@ instr_at s = decoded s.ending (fetch_of s.memory s.pc)
 
 -- ---- needed items
 
-abbrev pub ReadsIn : Option Instr → ℕ → Item → Type 0
+abbrev pub ReadsIn : Option Instr → ℕ → StateItem → Type 0
 ReadsIn None window item = ⊥
 ReadsIn (Some instr) window item = (reads_all instr ≡ true) ⊎ IsAmong item window (reads_of instr)
 
-abbrev pub WritesIn : Option Instr → ℕ → Item → Type 0
+abbrev pub WritesIn : Option Instr → ℕ → StateItem → Type 0
 WritesIn None window item = ⊥
 WritesIn (Some instr) window item = IsAmong item window (writes_of instr)
 
 -- the next step reads the item, or writes it
-abbrev pub Reads : State → Item → Type 0
+abbrev pub Reads : State → StateItem → Type 0
 Reads s item = ReadsIn (instr_at s) s.window item
 
-abbrev pub Writes : State → Item → Type 0
+abbrev pub Writes : State → StateItem → Type 0
 Writes s item = WritesIn (instr_at s) s.window item
 
 -- After n steps an item is needed where a later step reads it, and no step before that one writes it.
-pub record IsNeeded (s0 : State) (n : ℕ) (item : Item) : Type 0 where
+pub record IsNeeded (s0 : State) (n : ℕ) (item : StateItem) : Type 0 where
   pub is_item : IsItem item
   pub reader : ℕ
   pub later : n ≤ reader

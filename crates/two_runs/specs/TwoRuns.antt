@@ -5,7 +5,7 @@ use Rattle.v8_memory.specs.Regions.{byte_at, heap_end_of}
 use Rattle.v8_step.specs.declared.Ending.{Ending}
 use Rattle.v8_step.specs.State.{State}
 use Rattle.v8_step.specs.Run.{run, run_puts}
-use Rattle.v8_step.specs.Items.{Item, IsSameAt}
+use Rattle.v8_step.specs.Items.{StateItem, IsSameAt}
 use Rattle.two_runs.specs.Needed.{IsNeeded}
 use Rattle.two_runs.specs.Visits.{visit_of, in_pages, trail_of, own_trail}
 
@@ -23,7 +23,7 @@ pub record GoesOn (notes : Notes) (s0 t0 : State) (n m : ℕ) : Type 0 where
   pub visit : visit_of notes (run t0 m) ≡ Some (run s0 n).pc
   pub window : (run s0 n).window ≡ (run t0 m).window
   pub valid : (run s0 n).valid ≡ (run t0 m).valid
-  pub needed : (item : Item) → IsNeeded s0 n item → IsSameAt item (run s0 n) (run t0 m)
+  pub needed : (item : StateItem) → IsNeeded s0 n item → IsSameAt item (run s0 n) (run t0 m)
   pub world : HasSameOutside notes s0 t0 n m
 
 -- Ending: both have ended alike.

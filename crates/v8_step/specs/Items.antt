@@ -10,29 +10,29 @@ use Rattle.v8_windows.specs.Registers.{place_of}
 use Rattle.v8_step.specs.State.{State}
 
 -- the items of a machine are the registers but %g0, the codes and Y
-pub data Item : Type 0 where
-  Register : ℕ → Item
-  Codes : Item
-  YRegister : Item
+pub data StateItem : Type 0 where
+  Register : ℕ → StateItem
+  Codes : StateItem
+  YRegister : StateItem
 
-abbrev pub IsItem : Item → Type 0
+abbrev pub IsItem : StateItem → Type 0
 IsItem (Register n) = (0 < n) × (n < 136)
 IsItem Codes = Unit {0}
 IsItem YRegister = Unit {0}
 
 -- the item that a part names in a window
-abbrev pub item_of : ℕ → Part → Item
+abbrev pub item_of : ℕ → Part → StateItem
 item_of window (Reg r) = Register (place_of window r)
 item_of window Icc = Codes
 item_of window Y = YRegister
 
 -- one of the parts names the item
-abbrev pub IsAmong : Item → ℕ → List Part → Type 0
+abbrev pub IsAmong : StateItem → ℕ → List Part → Type 0
 IsAmong item window [] = ⊥
 IsAmong item window (p ∷ ps) = (item_of window p ≡ item) ⊎ IsAmong item window ps
 
 -- two states have the same there
-abbrev pub IsSameAt : Item → State → State → Type 0
+abbrev pub IsSameAt : StateItem → State → State → Type 0
 IsSameAt (Register n) s t = slice_index s.registers n ≡ slice_index t.registers n
 IsSameAt Codes s t = s.codes ≡ t.codes
 IsSameAt YRegister s t = s.y ≡ t.y
@@ -44,7 +44,7 @@ AreSameAt (p ∷ ps) s t = IsSameAt (item_of s.window p) s t × AreSameAt ps s t
 -- they have the same wherever an instruction reads; SAVE, RESTORE and Ticc read every item
 abbrev pub IsSameForReading : Instr → State → State → Type 0
 IsSameForReading instr s t =
-    (reads_all instr ≡ true → (item : Item) → IsItem item → IsSameAt item s t) × AreSameAt (reads_of instr) s t
+    (reads_all instr ≡ true → (item : StateItem) → IsItem item → IsSameAt item s t) × AreSameAt (reads_of instr) s t
 
 -- the instructions that transfer control to an address of their own
 abbrev pub is_transfer : Instr → Bool

@@ -174,8 +174,6 @@ Fits w = w < 2 ^ 32
 fit_one : (w : ℕ) → w < 2 ^ 32 → All Fits (w ∷ [])
 fit_one w fits = All-cons Fits w [] fits (All-nil Fits)
 
-}
-
 All-front : (words others : List ℕ) → All Fits (words ++ others) → All Fits words
 All-front [] others fit = All-nil Fits
 All-front (w ∷ words) others fit =
