@@ -1,6 +1,6 @@
 //! That the objects of the outside are made and used, those in memory and the real ones.
 use eel_base::{
-    FetchFault, Files, MemFiles, MemSink, MemSource, RealFiles, StdSink, StdSource, put_all,
+    FetchFault, Files, MemFiles, MemSink, MemSource, RealFiles, Sink, StdSink, StdSource, put_all,
     read_all,
 };
 use std::fs;
@@ -56,6 +56,7 @@ fn std_streams_are_sources_and_sinks(rt: HostRuntime) -> Result<(), Fail> {
     let name = "std_stream";
     let mut sink = StdSink::new(fs::create(&rt, name)?);
     assert!(rt; put_all(&mut sink, b"a stream").is_ok());
+    assert!(rt; sink.write(b"").is_ok());
     let mut source = StdSource::new(fs::open(&rt, name)?);
     fs::remove_file(&rt, name)?;
     let read = read_all(rt.alloc(), &mut source, 8).map_err(|_| Fail::from("read"))?;
