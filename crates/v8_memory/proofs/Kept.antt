@@ -37,18 +37,6 @@ kept_at code address (x ∷ kept) (suc n) d h within =
     subst (λ a. IsKept code (a % 2 ^ 32) (get_or kept n d)) (omega arith)
     (kept_at code (address + 4) kept n d h.1 (omega arith))
 
--- as the code finds it: the place is the offset's quarter
-pub kept_op : (code : List Region) (first address offset : ℕ) (kept : List Op) (x : Op) → AreKept code first kept
-    → first < 2 ^ 32 → address < 2 ^ 32 → offset ≡ (address + (2 ^ 32 - first)) % 2 ^ 32 → offset % 4 ≡ 0 → offset / 4 < length kept
-    → x ≡ get_or kept (offset / 4) x → IsKept code address x
-kept_op code first address offset kept x h below fits is even within item =
-    subst (λ a. IsKept code a x) whole
-    (subst (IsKept code ((first + 4 * (offset / 4)) % 2 ^ 32)) (sym item)
-    (kept_at code first kept (offset / 4) x h within))
-  where
-    whole : (first + 4 * (offset / 4)) % 2 ^ 32 ≡ address
-    whole = omega arith
-
 map_in_place : (f : Region → Region) (xs : List Region)
     → take (length xs) (map f xs ++ drop (length (map f xs)) xs) ≡ map f xs
 map_in_place f [] = refl

@@ -355,19 +355,6 @@ impl Memory {
         }
     }
 
-    /// The region that has all these bytes.
-    #[inline(always)]
-    fn region(&self, address: u32, count: u64) -> Option<&Region>
-        requires { 0 < count }
-        ensures { MatchOption result (region_at self.now address count ≡ None) (λ region. (region_at self.now address count ≡ Some region.now) × IsTrue (covers address count region.now)) }
-    {
-        if self.heap.covers(address, count) {
-            Some(&self.heap)
-        } else {
-            self.searched(address, count)
-        }
-    }
-
     /// The region at this place, which has all these bytes.
     #[inline(always)]
     fn region_in(&self, index: usize, address: u32, count: u64) -> &Region
@@ -382,7 +369,7 @@ impl Memory {
     }
 
     /// The region that has all these bytes. The heap is asked last.
-    #[inline(never)]
+    #[inline]
     fn searched(&self, address: u32, count: u64) -> Option<&Region>
         requires { 0 < count }
         ensures { MatchOption result (region_at self.now address count ≡ None) (λ region. (region_at self.now address count ≡ Some region.now) × IsTrue (covers address count region.now)) }
@@ -426,14 +413,28 @@ impl Memory {
             .part(address, count)
     }
 
-    /// The same, where no region was asked yet.
-    #[inline]
+    /// The same, where the region that a hint tells was asked in vain.
+    #[inline(always)]
     #[tactic(auto, unfolding(crate::specs::Regions::bytes_at))]
     fn read_elsewhere(&self, address: u32, count: u32) -> Option<&[u8]>
         requires { 0 < count }
         ensures { MatchOption result (bytes_at self.now address count ≡ None) (λ bytes. (bytes_at self.now address count ≡ Some bytes.now) × (length bytes.now ≡ count)) }
     {
-        match self.region(address, u64::from(count)) {
+        if self.heap.may_read(address, u64::from(count)) {
+            Some(self.heap.part(address, count))
+        } else {
+            self.read_searched(address, count)
+        }
+    }
+
+    /// The same, where all regions are asked, and the heap last.
+    #[inline(never)]
+    #[tactic(auto, unfolding(crate::specs::Regions::bytes_at))]
+    fn read_searched(&self, address: u32, count: u32) -> Option<&[u8]>
+        requires { 0 < count }
+        ensures { MatchOption result (bytes_at self.now address count ≡ None) (λ bytes. (bytes_at self.now address count ≡ Some bytes.now) × (length bytes.now ≡ count)) }
+    {
+        match self.searched(address, u64::from(count)) {
             Some(region) => {
                 if region.is_readable() {
                     Some(region.part(address, count))
@@ -457,8 +458,9 @@ impl Memory {
                 true
             }
             None => {
-                if self.heap.covers(address, bytes.len() as u64) {
-                    self.heap.write(address, bytes)
+                if self.heap.may_write(address, bytes.len() as u64) {
+                    self.heap.put(address, bytes);
+                    true
                 } else {
                     self.write_searched(address, bytes)
                 }
@@ -519,22 +521,6 @@ impl Memory {
     }
 }
 
-/// The record of the word at an address, where the records begin with that of the word at `first`.
-#[inline(always)]
-pub fn op_at(ops: &[Op], first: u32, address: Addr) -> Option<&Op>
-    ensures { (code : List Region) → AreKept code first ops.now
-        → MatchOption result (Unit {0}) (λ op. IsKept code address.0 op.now) }
-{
-    let offset = address.0.wrapping_sub(first);
-    if offset % 4 != 0 {
-        return None;
-    }
-    match ops.get((offset / 4) as usize) {
-        Some(op) => Some(op),
-        None => None,
-    }
-}
-
 /// The record at a place among those that begin with that of the word at `first`.
 #[inline(always)]
 #[tactic(auto, using(crate::proofs::Kept::kept_at))]
@@ -578,11 +564,11 @@ fn hint_all(hints: &mut [u8], regions: &[Region]) {
     }
 }
 
-/// Hints to the first region.
+/// Hints to no region, so that the heap is asked at once.
 fn no_hints(alloc: Global, count: usize) -> Result<Vec<u8>, NoMemory>
     ensures { IfOk result (λ hints. vec_len hints ≡ count) }
 {
-    let hints = vec![in alloc; 0; count]?;
+    let hints = vec![in alloc; u8::MAX; count]?;
     Ok(hints)
 }
 

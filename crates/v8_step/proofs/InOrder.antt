@@ -13,7 +13,6 @@ use Rattle.v8_alu.specs.Numbers.{wrapped}
 use Rattle.v8_decode.specs.declared.AluOp.{AluOp}
 use Rattle.v8_decode.specs.declared.Instr.{Instr}
 use Rattle.v8_memory.specs.declared.ops.Op.{Op}
-use Rattle.v8_memory.specs.declared.ops.OpCode.{OpCode}
 use Rattle.v8_memory.specs.declared.ops.OpCode.TheVariants.{Other}
 use Rattle.v8_memory.specs.Kept.{AreKept, IsKept}
 use Rattle.v8_memory.specs.Ops.{instr_of, is_record}
@@ -25,7 +24,7 @@ use Rattle.v8_step.specs.Ahead.{GoesOn, HasTurned, address_at, at_here, at_place
 use Rattle.v8_step.specs.State.{State, Slot, NoSlot}
 use Rattle.v8_step.specs.Step.{act}
 use Rattle.v8_step.specs.Turns.{IsQuietRun}
-use Rattle.v8_step.proofs.QuietRuns.{no_step, one_more, says_some, still_kept, turned_by}
+use Rattle.v8_step.proofs.QuietRuns.{no_step, one_more, says_some, still_kept}
 
 pub next_address : (first place : ℕ) → wrapped (address_at first place + 4) ≡ address_at first (place + 1)
 next_address first place = omega arith
@@ -80,35 +79,35 @@ codes_kept op a b codes y o is = go (result_of op a b codes y) is
     go (Err t) e = absurd (cc)
 
 -- a turn that is made is of a record that says something
-pub says : (t : Turn) (code : OpCode) → (t ≡ Stop) ⊎ IsTrue (is_record code) → (t ≡ Stop → ⊥) → code ≡ Other → ⊥
-says t code (inl stops) goes = absurd (goes stops)
-says t code (inr some) goes = says_some code some
+abbrev pub IsSaid : Turn → Op → Type 0
+IsSaid t x = (t ≡ Stop) ⊎ IsTrue (is_record x.code)
+
+pub says : (t : Turn) (x : Op) → IsSaid t x → (t ≡ Stop → ⊥) → x.code ≡ Other → ⊥
+says t x (inl stops) goes = absurd (goes stops)
+says t x (inr some) goes = says_some x.code some
 
 -- and so it isn't the last record, which says nothing
-pub not_last : (ops : List Op) (x last : Op) (cur len : ℕ) → ((d : Op) → x ≡ get_or ops cur d)
-    → ((d : Op) → last ≡ get_or ops (len - 1) d) → last.code ≡ Other → (x.code ≡ Other → ⊥) → cur < len → cur + 1 < len
-not_last ops x last cur len is at_end other some within = go (cases_lt (cur + 1) len)
+pub not_last : (ops : List Op) (x last : Op) (cur len : ℕ) (t : Turn) → ((d : Op) → x ≡ get_or ops cur d)
+    → ((d : Op) → last ≡ get_or ops (len - 1) d) → last.code ≡ Other → IsSaid t x → (t ≡ Stop → ⊥) → cur < len
+    → cur + 1 < len
+not_last ops x last cur len t is at_end other said goes within = go (cases_lt (cur + 1) len)
   where
     go : (cur + 1 < len) ⊎ (len ≤ cur + 1) → cur + 1 < len
     go (inl less) = less
     go (inr least) =
         let same : cur ≡ len - 1 = omega arith in
-        absurd (some (ap (λ (z : Op). z.code) (is x ∙ ap (λ n. get_or ops n x) same ∙ sym (at_end x)) ∙ other))
+        absurd (says t x said goes (ap (λ (z : Op). z.code) (is x ∙ ap (λ n. get_or ops n x) same ∙ sym (at_end x)) ∙ other))
 
--- one turn more
-pub turn_made : (s0 m t : State) (h : Here) (c n made more : ℕ) (slot new : Slot) (x : Op) → m.ending ≡ None
-    → IsQuietRun s0 made (at_here m h) → IsKept (code_of m.memory) (address_at h.first h.cur) x
-    → act (at_here m h) (instr_of x) ≡ at_places t h.first c n slot → (x.code ≡ Other → ⊥) → made + 1 ≡ more
-    → slot ≡ new → IsQuietRun s0 more (at_places t h.first c n new)
-turn_made s0 m t h c n made more slot new x going run kept is some count same =
-    subst (λ k. IsQuietRun s0 k (at_places t h.first c n new)) count
-    (one_more s0 (at_here m h) (at_places t h.first c n new) made x going run kept
-    (sym (is ∙ ap (at_places t h.first c n) same) ∙ sym (turned_by x.code (at_here m h) x some)) some)
-
-pub turn_keeps : (m t : State) (h : Here) (c n : ℕ) (slot : Slot) (x : Op) (ops : List Op) → m.ending ≡ None
-    → IsKept (code_of m.memory) (address_at h.first h.cur) x
-    → act (at_here m h) (instr_of x) ≡ at_places t h.first c n slot → (x.code ≡ Other → ⊥)
-    → AreKept (code_of m.memory) h.first ops → AreKept (code_of t.memory) h.first ops
-turn_keeps m t h c n slot x ops going kept is some =
-    still_kept (at_here m h) (at_places t h.first c n slot) x h.first ops going kept
-    (sym is ∙ sym (turned_by x.code (at_here m h) x some)) some
+-- one turn more: the run goes on, and the records are those of its memory
+pub comes_on : (s0 m t : State) (h : Here) (turn : Turn) (c n made more : ℕ) (slot new : Slot) (x : Op) (ops : List Op)
+    → m.ending ≡ None → IsQuietRun s0 made (at_here m h) → AreKept (code_of m.memory) h.first ops
+    → IsKept (code_of m.memory) (address_at h.first h.cur) x → act (at_here m h) (instr_of x) ≡ at_places t h.first c n slot
+    → IsSaid turn x → (turn ≡ Stop → ⊥) → made + 1 ≡ more → slot ≡ new
+    → IsQuietRun s0 more (at_places t h.first c n new) × AreKept (code_of t.memory) h.first ops
+comes_on s0 m t h turn c n made more slot new x ops going run all kept is said goes count same =
+    let some : x.code ≡ Other → ⊥ = says turn x said goes in (
+      subst (λ k. IsQuietRun s0 k (at_places t h.first c n new)) count
+          (one_more s0 (at_here m h) (at_places t h.first c n new) made x going run kept
+          (is ∙ ap (at_places t h.first c n) same) some),
+      still_kept (at_here m h) (at_places t h.first c n slot) x h.first ops going kept is some all,
+    )

@@ -11,7 +11,7 @@ use Rattle.v8_memory.specs.Regions.{code_of, fetch_from, fetch_of}
 use Rattle.v8_step.specs.State.{State}
 use Rattle.v8_step.specs.Step.{act, puts_of, step_of}
 use Rattle.v8_step.specs.Run.{run}
-use Rattle.v8_step.specs.Turns.{IsQuietRun, turned}
+use Rattle.v8_step.specs.Turns.{IsQuietRun}
 use Rattle.v8_step.proofs.Executable.{code_of-step}
 use Rattle.v8_step.proofs.Ops.{kept_puts, kept_steps}
 
@@ -20,10 +20,6 @@ no_step s = record { state = refl; made = λ k below. absurd (omega arith); quie
 
 pub says_some : (code : OpCode) → IsTrue (is_record code) → code ≡ Other → ⊥
 says_some code some is = let h : IsTrue (is_record Other) = subst (λ c. IsTrue (is_record c)) is some in absurd (cc)
-
-pub turned_by : (code : OpCode) (s : State) (x : Op) → (code ≡ Other → ⊥) → turned code s x ≡ act s (instr_of x)
-turned_by Other s x some = absurd (some refl)
-turned_by _ s x some = refl
 
 stands_for : (s : State) (x : Op) → IsKept (code_of s.memory) s.pc x → (x.code ≡ Other → ⊥)
     → StandsFor x (fetch_of s.memory s.pc)
@@ -35,15 +31,14 @@ stands_for s x kept some = go kept.1
     go (inl other) = absurd (some other)
     go (inr stands) = stands
 
--- the turn of a record is the step
-pub step_turned : (s t : State) (x : Op) → s.ending ≡ None → IsKept (code_of s.memory) s.pc x
-    → t ≡ turned x.code s x → (x.code ≡ Other → ⊥) → t ≡ step_of s
-step_turned s t x going kept is some =
-    is ∙ turned_by x.code s x some ∙ kept_steps s x going (stands_for s x kept some)
+-- the instruction of a record is the step
+step_turned : (s t : State) (x : Op) → s.ending ≡ None → IsKept (code_of s.memory) s.pc x
+    → act s (instr_of x) ≡ t → (x.code ≡ Other → ⊥) → t ≡ step_of s
+step_turned s t x going kept is some = sym is ∙ kept_steps s x going (stands_for s x kept some)
 
 -- one step more
 pub one_more : (s0 s t : State) (n : ℕ) (x : Op) → s.ending ≡ None → IsQuietRun s0 n s
-    → IsKept (code_of s.memory) s.pc x → t ≡ turned x.code s x → (x.code ≡ Other → ⊥) → IsQuietRun s0 (n + 1) t
+    → IsKept (code_of s.memory) s.pc x → act s (instr_of x) ≡ t → (x.code ≡ Other → ⊥) → IsQuietRun s0 (n + 1) t
 one_more s0 s t n x going h kept is some = subst (λ k. IsQuietRun s0 k t) (omega arith) more
   where
     split : (k : ℕ) → k < suc n → (k < n) ⊎ (n ≤ k) → (run s0 k).ending ≡ None
@@ -63,7 +58,7 @@ one_more s0 s t n x going h kept is some = subst (λ k. IsQuietRun s0 k t) (omeg
 
 -- the records are still those of the words that may be executed
 pub still_kept : (s t : State) (x : Op) (first : ℕ) (ops : List Op) → s.ending ≡ None
-    → IsKept (code_of s.memory) s.pc x → t ≡ turned x.code s x → (x.code ≡ Other → ⊥)
+    → IsKept (code_of s.memory) s.pc x → act s (instr_of x) ≡ t → (x.code ≡ Other → ⊥)
     → AreKept (code_of s.memory) first ops → AreKept (code_of t.memory) first ops
 still_kept s t x first ops going kept is some =
     subst (λ code. AreKept code first ops)

@@ -1,17 +1,7 @@
 -- Many steps of instructions that have records.
 use Rattle.std.specs.Prelude.{◌≡◌, ℕ, ◌<◌, [], None}
-use Rattle.v8_memory.specs.declared.ops.Op.{Op}
-use Rattle.v8_memory.specs.declared.ops.OpCode.{OpCode}
-use Rattle.v8_memory.specs.declared.ops.OpCode.TheVariants.{Other}
-use Rattle.v8_memory.specs.Ops.{instr_of}
 use Rattle.v8_step.specs.State.{State}
-use Rattle.v8_step.specs.Step.{act}
 use Rattle.v8_step.specs.Run.{run, run_puts}
-
--- a state after the instruction of a record with this code, if it says one
-abbrev pub turned : OpCode → State → Op → State
-turned Other s x = s
-turned _ s x = act s (instr_of x)
 
 -- each of the first `steps` steps is made by a state that hasn't ended
 abbrev pub AreMade : State → ℕ → Type 0

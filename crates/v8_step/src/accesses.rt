@@ -23,30 +23,25 @@ impl Machine {
         ensures { self.new ≡ load_step self.old kind rd address }
     {
         if kind == LoadKind::LDD {
-            let _goes = self.load_pair(rd, address);
+            self.load_pair(rd, address);
         } else {
-            let _goes = self.load_one(kind, rd, address);
+            self.load_one(kind, rd, address);
         }
     }
 
-    /// A load into one register. It tells whether the run goes on.
+    /// A load into one register.
     #[inline(always)]
     #[tactic(auto, unfolding(crate::specs::Accesses::load_step))]
-    pub(crate) fn load_one(&mut self, kind: LoadKind, rd: Reg, address: u32) -> bool
+    fn load_one(&mut self, kind: LoadKind, rd: Reg, address: u32)
         requires single { kind ≡ LoadKind.LDD → ⊥ }
-        ensures state { self.new ≡ load_step self.old kind rd address }
-        ensures goes { result ≡ true → self.new.ending ≡ self.old.ending }
+        ensures { self.new ≡ load_step self.old kind rd address }
     {
         match self.loaded(kind, Addr(address)) {
             Ok(value) => {
                 self.set(rd, value);
                 self.go_on();
-                true
             }
-            Err(fault) => {
-                self.refuse_access(fault);
-                false
-            }
+            Err(fault) => self.refuse_access(fault),
         }
     }
 
@@ -129,35 +124,28 @@ impl Machine {
         }
     }
 
-    /// LDD: the word of rd comes first. It tells whether the run goes on.
+    /// LDD: the word of rd comes first.
     #[inline]
     #[tactic(auto, unfolding(crate::specs::Accesses::load_step))]
-    pub(crate) fn load_pair(&mut self, rd: Reg, address: u32) -> bool
+    fn load_pair(&mut self, rd: Reg, address: u32)
         requires pair { rd % 2 ≡ 0 }
-        ensures state { self.new ≡ load_step self.old LoadKind.LDD rd address }
-        ensures goes { result ≡ true → self.new.ending ≡ self.old.ending }
+        ensures { self.new ≡ load_step self.old LoadKind.LDD rd address }
     {
         match self.memory.load64(Addr(address)) {
             Ok((first, second)) => {
                 self.set(rd, first);
                 self.set(next_register(rd), second);
                 self.go_on();
-                true
             }
-            Err(fault) => {
-                self.refuse_access(fault);
-                false
-            }
+            Err(fault) => self.refuse_access(fault),
         }
     }
 
-    /// A store. It tells whether the run goes on.
     #[inline(always)]
     #[tactic(auto, unfolding(crate::specs::Accesses::store_step))]
-    pub(crate) fn store(&mut self, kind: StoreKind, rd: Reg, address: u32) -> bool
+    pub(crate) fn store(&mut self, kind: StoreKind, rd: Reg, address: u32)
         requires pair { kind ≡ StoreKind.STD → rd % 2 ≡ 0 }
-        ensures state { self.new ≡ store_step self.old kind rd address }
-        ensures goes { result ≡ true → self.new.ending ≡ self.old.ending }
+        ensures { self.new ≡ store_step self.old kind rd address }
     {
         let value = self.reg(rd);
         let at = Addr(address);
@@ -171,14 +159,8 @@ impl Machine {
             }
         };
         match stored {
-            Ok(()) => {
-                self.go_on();
-                true
-            }
-            Err(fault) => {
-                self.refuse_access(fault);
-                false
-            }
+            Ok(()) => self.go_on(),
+            Err(fault) => self.refuse_access(fault),
         }
     }
 

@@ -1,5 +1,5 @@
 //! The machine, and what all its instructions are made of.
-ghost use Rattle.std.specs.Prelude.{◌≡◌, ◌<◌, ◌%◌, suc, true, None};
+ghost use Rattle.std.specs.Prelude.{◌≡◌, ◌<◌};
 ghost use Rattle.v8_step.specs.Run.{first_state};
 ghost use Rattle.v8_step.specs.State.{register_of, with_register, operand_of, sum_of};
 ghost use Rattle.v8_step.specs.Transfers.{next, ended, trapped};
@@ -129,14 +129,6 @@ impl Machine {
         ensures { result ≡ self.now.ending }
     {
         self.ending
-    }
-
-    /// Whether the run hasn't ended.
-    #[inline]
-    pub(crate) fn is_going(&self) -> bool
-        ensures { result ≡ true → self.now.ending ≡ None }
-    {
-        self.ending.is_none()
     }
 
     #[inline]

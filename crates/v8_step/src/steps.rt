@@ -1,5 +1,5 @@
 //! One step of the machine.
-ghost use Rattle.std.specs.Prelude.{[], ◌≡◌, ◌⊎◌, ◌≤◌, IsTrue, Some, None, OnOk, OnErr, true};
+ghost use Rattle.std.specs.Prelude.{[], ◌≡◌, ◌⊎◌, ◌≤◌, IsTrue, Some, None, OnOk, OnErr};
 ghost use Rattle.v8_step.specs.declared.Ending.{Ending};
 ghost use Rattle.v8_decode.specs.Ranges.{has_even_pair};
 ghost use Rattle.v8_alu.specs.Alu.{alu_has_form};
@@ -164,12 +164,8 @@ impl Machine {
                 cond,
                 annul,
                 disp22,
-            } => {
-                let _goes = self.branch(cond, annul, disp22);
-            }
-            Instr::Call { disp30 } => {
-                let _goes = self.call(disp30);
-            }
+            } => self.branch(cond, annul, disp22),
+            Instr::Call { disp30 } => self.call(disp30),
             Instr::Alu {
                 op,
                 cc,
@@ -185,7 +181,7 @@ impl Machine {
                     self.flags.codes(),
                     self.y,
                 );
-                let _goes = self.finish_alu(rd, outcome);
+                self.finish_alu(rd, outcome);
             }
             Instr::ReadY { rd } => {
                 self.set(rd, self.y);
@@ -195,15 +191,11 @@ impl Machine {
                 self.y = self.reg(rs1) ^ self.operand(op2);
                 self.go_on();
             }
-            Instr::Jmpl { rd, rs1, op2 } => {
-                let _goes = self.jump(rd, self.sum(rs1, op2));
-            }
+            Instr::Jmpl { rd, rs1, op2 } => self.jump(rd, self.sum(rs1, op2)),
             Instr::Save { rd, rs1, op2 } => self.save(rd, self.sum(rs1, op2)),
             Instr::Restore { rd, rs1, op2 } => self.restore(rd, self.sum(rs1, op2)),
             Instr::Load { kind, rd, rs1, op2 } => self.load(kind, rd, self.sum(rs1, op2)),
-            Instr::Store { kind, rd, rs1, op2 } => {
-                let _goes = self.store(kind, rd, self.sum(rs1, op2));
-            }
+            Instr::Store { kind, rd, rs1, op2 } => self.store(kind, rd, self.sum(rs1, op2)),
             Instr::Ldstub { rd, rs1, op2 } => self.load_store_byte(rd, self.sum(rs1, op2)),
             Instr::Swap { rd, rs1, op2 } => self.swap(rd, self.sum(rs1, op2)),
             Instr::Ticc { .. } | Instr::Flush { .. } | Instr::Stbar => self.go_on(),
@@ -214,12 +206,11 @@ impl Machine {
         }
     }
 
-    /// The outcome of an operation goes to rd, the codes and Y, or traps. It tells whether the run goes on.
+    /// The outcome of an operation goes to rd, the codes and Y, or traps.
     #[inline(always)]
     #[tactic(auto, unfolding(crate::specs::Step::alu_step))]
-    pub(crate) fn finish_alu(&mut self, rd: Reg, outcome: Result<AluOut, AluTrap>) -> bool
-        ensures state { self.new ≡ alu_step self.old rd outcome }
-        ensures goes { result ≡ true → self.new.ending ≡ self.old.ending }
+    fn finish_alu(&mut self, rd: Reg, outcome: Result<AluOut, AluTrap>)
+        ensures { self.new ≡ alu_step self.old rd outcome }
     {
         match outcome {
             Ok(outcome) => {
@@ -227,16 +218,9 @@ impl Machine {
                 self.y = outcome.y;
                 self.set(rd, outcome.value);
                 self.go_on();
-                true
             }
-            Err(AluTrap::DivZero) => {
-                self.trap(DIVISION_BY_ZERO);
-                false
-            }
-            Err(AluTrap::TagOverflow) => {
-                self.trap(TAG_OVERFLOW);
-                false
-            }
+            Err(AluTrap::DivZero) => self.trap(DIVISION_BY_ZERO),
+            Err(AluTrap::TagOverflow) => self.trap(TAG_OVERFLOW),
         }
     }
 }

@@ -1,5 +1,5 @@
 //! Branches, CALL and JMPL, with their delay slots.
-ghost use Rattle.std.specs.Prelude.{◌≡◌, true};
+ghost use Rattle.std.specs.Prelude.{◌≡◌};
 ghost use Rattle.v8_step.specs.Machine.{in_slot};
 ghost use Rattle.v8_step.specs.Transfers.{target_of, delayed, branched, unless_couple, branch_step, call_step, jump_step};
 
@@ -17,57 +17,47 @@ const LINK: u8 = 15;
 impl Machine {
     #[inline(always)]
     #[tactic(auto, unfolding(crate::specs::Transfers::branch_step))]
-    pub(crate) fn branch(&mut self, cond: Cond, annul: bool, disp22: i32) -> bool
-        ensures state { self.new ≡ unless_couple self.old.slot self.old (branch_step self.old cond annul disp22) }
-        ensures goes { result ≡ true → self.new.ending ≡ self.old.ending }
+    pub(crate) fn branch(&mut self, cond: Cond, annul: bool, disp22: i32)
+        ensures { self.new ≡ unless_couple self.old.slot self.old (branch_step self.old cond annul disp22) }
     {
         if self.is_in_slot() {
             self.end(Ending::Couple);
-            false
         } else {
             let target = self.target(disp22);
             let taken = self.flags.holds(cond);
             self.branch_to(taken, cond.number() == ALWAYS, annul, target);
-            true
         }
     }
 
     #[inline]
     #[tactic(auto, unfolding(crate::specs::Transfers::call_step))]
-    pub(crate) fn call(&mut self, disp30: i32) -> bool
-        ensures state { self.new ≡ unless_couple self.old.slot self.old (call_step self.old disp30) }
-        ensures goes { result ≡ true → self.new.ending ≡ self.old.ending }
+    pub(crate) fn call(&mut self, disp30: i32)
+        ensures { self.new ≡ unless_couple self.old.slot self.old (call_step self.old disp30) }
     {
         if self.is_in_slot() {
             self.end(Ending::Couple);
-            false
         } else {
             let target = self.target(disp30);
             let pc = self.pc;
             self.set(register(LINK), pc);
             self.delay(target);
-            true
         }
     }
 
     /// JMPL: the target is judged before rd is written.
     #[inline]
     #[tactic(auto, unfolding(crate::specs::Transfers::jump_step))]
-    pub(crate) fn jump(&mut self, rd: Reg, target: u32) -> bool
-        ensures state { self.new ≡ unless_couple self.old.slot self.old (jump_step self.old rd target) }
-        ensures goes { result ≡ true → self.new.ending ≡ self.old.ending }
+    pub(crate) fn jump(&mut self, rd: Reg, target: u32)
+        ensures { self.new ≡ unless_couple self.old.slot self.old (jump_step self.old rd target) }
     {
         if self.is_in_slot() {
             self.end(Ending::Couple);
-            false
         } else if target % 4 == 0 {
             let pc = self.pc;
             self.set(rd, pc);
             self.delay(target);
-            true
         } else {
             self.trap(MEM_ADDRESS_NOT_ALIGNED);
-            false
         }
     }
 
