@@ -91,6 +91,24 @@ build_crate() {
     tell "$1"
 }
 
+# The crates that are to be built, those first behind which most is left: by what each took, and the longest chain of
+# those that stand on it.
+longest_first() {
+    awk -v wanted=" $wanted " '
+        /^#/ { next }
+        FILENAME ~ /build_times\.txt$/ { took[$1] = $2; next }
+        { sub(":", "", $1); if (index(wanted, " " $1 " ")) line[++count] = $0 }
+        END {
+            for (; count; count--) {
+                fields = split(line[count], names)
+                left = behind[names[1]] + (names[1] in took ? took[names[1]] : 60)
+                for (field = 2; field <= fields; field++) if (left > behind[names[field]]) behind[names[field]] = left
+                if (names[1] != "eel_main") print left, names[1]
+            }
+        }
+    ' "$here/build_times.txt" "$here/crates.txt" | sort -rn | cut -d ' ' -f 2
+}
+
 # A rule of make for each crate, behind those that it stands on. Make begins what is named first where it can.
 rules() {
     echo "all: $*"
@@ -122,7 +140,7 @@ build_all() {
     export here logs times wanted count started most at_once
     echo "eel: proving and building the program, once: $count parts, $at_once at once, about $(minutes_left) min" >&2
     if command -v make >/dev/null; then
-        rules "$@" | make -s -k -j "$at_once" -f - all >&2 2>"$logs/make.log"
+        rules $(longest_first) | make -s -k -j "$at_once" -f - all >&2 2>"$logs/make.log"
     else
         echo "eel: make isn't there, so that one crate is proved after the other; with make it goes faster" >&2
         one_by_one "$@" >&2
