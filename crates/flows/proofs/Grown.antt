@@ -1,15 +1,13 @@
 -- A tree that is grown from a set of nodes, each time by an edge that no other crossing edge outweighs.
-use Rattle.std.proofs.Common.{◌≡◌, ℕ, ◌+◌, ◌<◌, ◌≤◌, ◌⊎◌, inl, inr, Bool, true, false, not, ◌&&◌, cond, List, [], ◌∷◌, refl, ap, sym, ◌∙◌, subst, arith}
+use Rattle.std.proofs.Common.{◌≡◌, ℕ, ◌+◌, ◌<◌, ◌≤◌, ◌⊎◌, inl, inr, Bool, true, false, not, cond, List, [], ◌∷◌, ◌∙◌, subst, arith}
 use Rattle.std.specs.Prelude.{ℤ, pos, ◌-ℤ◌, ◌*ℤ◌, nat_abs, ◌==◌}
 use Rattle.std.proofs.lemmas.Int.{ints}
-use Rattle.std.proofs.lemmas.Bool.{cases_Bool, cases_eq, cases_lt, eq-eqb, ne_eqb, and_left, or_from}
+use Rattle.std.proofs.lemmas.Bool.{cases_eq, cases_lt, ne_eqb, and_left, false_from_ne_true, or_from}
 use lib.IntN.{*ℤ_comm, *ℤ-zero}
-use Rattle.std.proofs.Math.Bool.{and-false}
 use Rattle.flows.specs.Flows.{Graph, NodeSet, EdgeSet, IsGraph, weight_of}
-use Rattle.flows.specs.Trees.{only, and_also, differ, crosses, far_end, Grows, HasEveryEnd}
-use Rattle.flows.proofs.Bools.{true_or_false}
+use Rattle.flows.specs.Trees.{only, and_also, crosses, far_end, Grows, HasEveryEnd}
 use Rattle.flows.proofs.Sums.{zero_or_not, factor_zero, total_zero}
-use Rattle.flows.proofs.Nets.{part, net, net_mix, part_zero}
+use Rattle.flows.proofs.Nets.{net, net_mix}
 use Rattle.flows.proofs.Cuts.{Balanced, balanced_out, net_and_also, none_crosses, some_or_none}
 use Rattle.flows.proofs.Weights.{weight_none, weight_less, without}
 
@@ -24,8 +22,8 @@ Independent g s f = (x : ℕ → ℤ) → Within g f x → Balanced g s x → (e
 -- ---- a larger set of nodes
 mix_zero : (k l y z : ℤ) → y ≡ pos 0 → z ≡ pos 0 → k *ℤ y -ℤ l *ℤ z ≡ pos 0
 mix_zero k l y z a b =
-    let c : k *ℤ y ≡ pos 0 = ap (λ t. k *ℤ t) a ∙ *ℤ-zero k in
-    let d : l *ℤ z ≡ pos 0 = ap (λ t. l *ℤ t) b ∙ *ℤ-zero l in
+    let c : k *ℤ y ≡ pos 0 = rw a (*ℤ-zero k) in
+    let d : l *ℤ z ≡ pos 0 = rw b (*ℤ-zero l) in
     omega (arith, ints, c, d)
 
 -- with an x that is unbalanced at v alone, the set without an edge that x uses is independent where v is in too
@@ -45,11 +43,7 @@ module _ (g : Graph) (s : NodeSet) (v : ℕ) (f : ℕ → Bool) (x : ℕ → ℤ
   elsewhere t b c e = by t b (or_from (s t) (t == v) c (ne_eqb t v e))
 
   at : (t : ℕ) → t < g.nodes → s t ≡ false → (t ≡ v) ⊎ (t ≡ v → ⊥) → k *ℤ net g (only t) y -ℤ l *ℤ net g (only t) x ≡ pos 0
-  at t b c (inl e) =
-      let p : net g (only t) y ≡ l = ap (λ t. net g (only t) y) e in
-      let q : net g (only t) x ≡ k = ap (λ t. net g (only t) x) e in
-      let r = *ℤ_comm k l in
-      ap (λ z. k *ℤ z -ℤ l *ℤ net g (only t) x) p ∙ ap (λ z. k *ℤ l -ℤ l *ℤ z) q ∙ omega (arith, ints, r)
+  at t b c (inl e) = rw e (let r = *ℤ_comm k l in omega (arith, ints, r))
   at t b c (inr e) = mix_zero k l _ _ (elsewhere t b c e) (bx t b (or_from (s t) (t == v) c (ne_eqb t v e)))
 
   zero_at : k *ℤ y h -ℤ l *ℤ x h ≡ pos 0
@@ -57,22 +51,11 @@ module _ (g : Graph) (s : NodeSet) (v : ℕ) (f : ℕ → Bool) (x : ℕ → ℤ
 
   l_zero : l ≡ pos 0
   l_zero =
-      let a : y h ≡ pos 0 = wy h lh (ap (λ b. f h && not b) (eq-eqb h h refl) ∙ and-false (f h)) in
-      let c : k *ℤ y h ≡ pos 0 = ap (λ t. k *ℤ t) a ∙ *ℤ-zero k in
-      let z = zero_at in
-      let d : l *ℤ x h ≡ pos 0 = omega (arith, ints, c, z) in
-      factor_zero l (x h) nh d
+      let c : k *ℤ y h ≡ pos 0 = rw (wy h lh (grind arith)) (*ℤ-zero k) in
+      factor_zero l (x h) nh (omega (arith, ints, c, zero_at))
 
   pub all_zero : (e : ℕ) → e < g.edges → y e ≡ pos 0
-  all_zero = ind y within (λ t b c. go t b c (cases_eq t v))
-    where
-      go : (t : ℕ) → t < g.nodes → s t ≡ false → (t ≡ v) ⊎ (t ≡ v → ⊥) → net g (only t) y ≡ pos 0
-      go t b c (inl e) = ap (λ t. net g (only t) y) e ∙ l_zero
-      go t b c (inr e) = elsewhere t b c e
-
-independent_less : (g : Graph) (s : NodeSet) (v : ℕ) (f : ℕ → Bool) (x : ℕ → ℤ) (h : ℕ) →
-    Independent g s f → Within g f x → Balanced g (and_also s v) x → h < g.edges → 0 < nat_abs (x h) → Independent g (and_also s v) (without f h)
-independent_less g s v f x h ind wx bx lh nh y wy by = all_zero g s v f x h ind wx bx lh nh y wy by
+  all_zero = ind y within (λ t b c. elim (cases_eq t v) [ inl e ↦ rw e l_zero | inr e ↦ elsewhere t b c e ])
 
 -- ---- one step: what holds of every independent set beyond v holds here, with an edge that no crossing edge outweighs
 module _ (g : Graph) (w : ℕ → ℕ) (s : NodeSet) (v : ℕ) (f : ℕ → Bool) (c r : ℕ) (ok : IsGraph g)
@@ -80,86 +63,41 @@ module _ (g : Graph) (w : ℕ → ℕ) (s : NodeSet) (v : ℕ) (f : ℕ → Bool
     (heaviest : (h : ℕ) → h < g.edges → crosses g s h ≡ true → w h ≤ c)
     (rest : (f : ℕ → Bool) → Independent g (and_also s v) f → weight_of g w f ≤ r) where
   used : (x : ℕ → ℤ) (h : ℕ) → Within g f x → 0 < nat_abs (x h) → h < g.edges → f h ≡ true
-  used x h wx n l = go (cases_Bool (f h))
-    where
-      go : (f h ≡ true) ⊎ (f h ≡ false) → f h ≡ true
-      go (inl t) = t
-      go (inr t) = let a : nat_abs (x h) ≡ 0 = ap nat_abs (wx h l t) in absurd (omega arith)
+  used x h wx n l = let a = wx h l in grind arith
 
   balanced : (x : ℕ → ℤ) → Balanced g (and_also s v) x → net g (only v) x ≡ pos 0 → Balanced g s x
-  balanced x b z t l c = go (cases_eq t v)
-    where
-      go : (t ≡ v) ⊎ (t ≡ v → ⊥) → net g (only t) x ≡ pos 0
-      go (inl e) = ap (λ t. net g (only t) x) e ∙ z
-      go (inr e) = b t l (or_from (s t) (t == v) c (ne_eqb t v e))
+  balanced x b z t l c = elim (cases_eq t v) [ inl e ↦ rw e z | inr e ↦ b t l (or_from (s t) (t == v) c (ne_eqb t v e)) ]
 
   at_all : (x : ℕ → ℤ) → c + r < weight_of g w f → Within g f x → Balanced g (and_also s v) x → (net g (only v) x ≡ pos 0) ⊎ (0 < nat_abs (net g (only v) x)) → (e : ℕ) → e < g.edges → x e ≡ pos 0
   at_all x over wx bx (inl z) = ind x wx (balanced x bx z)
-  at_all x over wx bx (inr n) = go (some_or_none g.edges (λ e. crosses g s e) x)
-    where
-      go : ((e : ℕ) → e < g.edges → crosses g s e ≡ true → x e ≡ pos 0) ⊎ ((e : ℕ) × (e < g.edges) × (crosses g s e ≡ true) × (0 < nat_abs (x e))) → (e : ℕ) → e < g.edges → x e ≡ pos 0
-      go (inl none) =
-          let a = none_crosses g s x none in
-          let b = net_and_also g s v x sv in
-          let d = balanced_out g (and_also s v) x ok bx in
-          let z : net g (only v) x ≡ pos 0 = omega (arith, ints, a, b, d) in
-          let y : nat_abs (net g (only v) x) ≡ 0 = ap nat_abs z in
-          absurd (omega arith)
-      go (inr (h, l, t, m)) =
-          let a = heaviest h l t in
-          let b = rest (without f h) (independent_less g s v f x h ind wx bx l m) in
-          let d = weight_less g.edges w f h l (used x h wx m l) in
-          absurd (omega (arith, a, b, d))
+  at_all x over wx bx (inr n) = elim (some_or_none g.edges (λ e. crosses g s e) x) [
+    | inl none ↦
+        let z : net g (only v) x ≡ pos 0 = omega (arith, ints, none_crosses g s x none, net_and_also g s v x sv, balanced_out g (and_also s v) x ok bx) in
+        absurd (omega (arith, rw z at n))
+    | inr (h, l, t, m) ↦
+        let b = rest (without f h) (all_zero g s v f x h ind wx bx l m) in
+        absurd (omega (arith, heaviest h l t, b, weight_less g.edges w f h l (used x h wx m l)))
+  ]
 
   pub bound : weight_of g w f ≤ c + r
-  bound = go (cases_lt (c + r) (weight_of g w f))
-    where
-      go : (c + r < weight_of g w f) ⊎ (weight_of g w f ≤ c + r) → weight_of g w f ≤ c + r
-      go (inr l) = l
-      go (inl over) = let a = rest f (λ x wx bx. at_all x over wx bx (zero_or_not (net g (only v) x))) in absurd (omega (arith, a))
+  bound = elim (cases_lt (c + r) (weight_of g w f)) [
+    | inr l ↦ l
+    | inl over ↦ let a = rest f (λ x wx bx. at_all x over wx bx (zero_or_not (net g (only v) x))) in absurd (omega (arith, a))
+  ]
 
 abbrev pub listed_weight : (ℕ → ℕ) → List ℕ → ℕ
 listed_weight w [] = 0
 listed_weight w (e ∷ es) = w e + listed_weight w es
 
 pub far_out : (g : Graph) (s : NodeSet) (e : ℕ) → crosses g s e ≡ true → s (far_end g s e) ≡ false
-far_out g s e c = go (s (g.from e)) refl
-  where
-    back : (b : Bool) → not b ≡ true → b ≡ false
-    back true h = absurd (cc)
-    back false h = refl
-
-    go : (p : Bool) → s (g.from e) ≡ p → s (cond (s (g.from e)) (g.to e) (g.from e)) ≡ false
-    go true h = ap (λ p. s (cond p (g.to e) (g.from e))) h ∙ back (s (g.to e)) (ap (λ p. differ p (s (g.to e))) (sym h) ∙ c)
-    go false h = ap (λ p. s (cond p (g.to e) (g.from e))) h ∙ h
+far_out g s e c = grind arith
 
 -- where both ends of each edge are in s, no edge is independent
 none_at_end : (g : Graph) (s : NodeSet) (f : EdgeSet) → HasEveryEnd g s → Independent g s f → (e : ℕ) → e < g.edges → f e ≡ false
-none_at_end g s f ends ind e l = go (cases_Bool (f e))
-  where
-    within : f e ≡ true → (i : ℕ) → f i ≡ false → (i ≡ e) ⊎ (i ≡ e → ⊥) → cond (i == e) (pos 1) (pos 0) ≡ pos 0
-    within t i h (inl c) = let d : true ≡ false = sym t ∙ ap f (sym c) ∙ h in absurd (cc)
-    within t i h (inr c) = ap (λ b. cond b (pos 1) (pos 0)) (ne_eqb i e c)
-
-    apart : (v u : ℕ) → s v ≡ false → s u ≡ true → (u == v) ≡ false
-    apart v u c d = ne_eqb u v (λ k. true_or_false (s u) d (ap s k ∙ c))
-
-    nothing : (v i : ℕ) → s v ≡ false → (i ≡ e) ⊎ (i ≡ e → ⊥) → part (g.to i == v) (g.from i == v) (cond (i == e) (pos 1) (pos 0)) ≡ pos 0
-    nothing v i c (inl k) =
-        ap (λ j. part (g.to j == v) (g.from j == v) (cond (i == e) (pos 1) (pos 0))) k
-        ∙ ap (λ b. part b (g.from e == v) (cond (i == e) (pos 1) (pos 0))) (apart v (g.to e) c (ends e l).1)
-        ∙ ap (λ b. part false b (cond (i == e) (pos 1) (pos 0))) (apart v (g.from e) c (ends e l).0)
-    nothing v i c (inr k) = ap (λ b. part (g.to i == v) (g.from i == v) (cond b (pos 1) (pos 0))) (ne_eqb i e k) ∙ part_zero (g.to i == v) (g.from i == v)
-
-    balanced : Balanced g s (λ i. cond (i == e) (pos 1) (pos 0))
-    balanced v b c = total_zero g.edges _ (λ i m. nothing v i c (cases_eq i e))
-
-    go : (f e ≡ true) ⊎ (f e ≡ false) → f e ≡ false
-    go (inr h) = h
-    go (inl t) =
-        let z : cond (e == e) (pos 1) (pos 0) ≡ pos 0 = ind (λ i. cond (i == e) (pos 1) (pos 0)) (λ i b h. within t i h (cases_eq i e)) balanced e l in
-        let o : pos 1 ≡ pos 0 = sym (ap (λ b. cond b (pos 1) (pos 0)) (eq-eqb e e refl)) ∙ z in
-        absurd (omega (arith, ints, o))
+none_at_end g s f ends ind e l =
+    let (p, q) = ends e l in
+    let z = ind (λ i. cond (i == e) (pos 1) (pos 0)) in
+    false_from_ne_true (f e) (λ t. absurd (let o = z (λ i b h. grind arith) (λ v b c. total_zero g.edges _ (λ i m. grind arith)) e l in grind (arith, o)))
 
 -- no independent set outweighs what was grown
 pub heaviest_tree : (g : Graph) (w : ℕ → ℕ) (es : List ℕ) (s t : NodeSet) → IsGraph g → Grows g w s es t → HasEveryEnd g t →

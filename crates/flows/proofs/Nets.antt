@@ -1,5 +1,5 @@
 -- What crosses into a set of nodes, and independent sets of edges.
-use Rattle.std.proofs.Common.{◌≡◌, ℕ, Bool, true, false, not, cond, refl, ap, sym, ◌∙◌, arith}
+use Rattle.std.proofs.Common.{◌≡◌, ℕ, Bool, true, false, not, cond, refl, ◌∙◌, arith}
 use Rattle.std.specs.Prelude.{ℤ, pos, ◌+ℤ◌, ◌-ℤ◌, ◌*ℤ◌, neg_ℤ, ◌==◌, if◌then◌else◌}
 use Rattle.std.proofs.lemmas.Int.{ints}
 use lib.IntN.{*ℤ-zero}
@@ -23,39 +23,25 @@ all_but s = λ w. not (s w)
 
 -- ---- parts
 pub part_zero : (p q : Bool) → part p q (pos 0) ≡ pos 0
-part_zero true true = refl
-part_zero true false = refl
-part_zero false true = refl
-part_zero false false = refl
+part_zero p q = grind arith
 
 part_split : (p q : Bool) (z : ℤ) → part p q z ≡ cond p z (pos 0) -ℤ cond q z (pos 0)
-part_split true true z = omega (arith, ints)
-part_split true false z = omega (arith, ints)
-part_split false true z = omega (arith, ints)
-part_split false false z = refl
+part_split p q z = grind arith
 
 pub part_same : (p : Bool) (z : ℤ) → part p p z ≡ pos 0
-part_same true z = refl
-part_same false z = refl
+part_same p z = grind arith
+
+mul_neg : (k y : ℤ) → k *ℤ neg_ℤ y ≡ neg_ℤ (k *ℤ y)
+mul_neg k y = let c : neg_ℤ y +ℤ y ≡ pos 0 = omega (arith, ints) in omega (arith, ints, rw (c, *ℤ-zero k) at (mul_add k (neg_ℤ y) y))
 
 part_mix : (p q : Bool) (k l y z : ℤ) → part p q (k *ℤ y -ℤ l *ℤ z) ≡ k *ℤ part p q y -ℤ l *ℤ part p q z
-part_mix true true k l y z = omega (arith, ints, *ℤ-zero k, *ℤ-zero l)
 part_mix true false k l y z = refl
-part_mix false true k l y z =
-    let a : k *ℤ neg_ℤ y +ℤ k *ℤ y ≡ k *ℤ (neg_ℤ y +ℤ y) = sym (mul_add k (neg_ℤ y) y) in
-    let b : l *ℤ neg_ℤ z +ℤ l *ℤ z ≡ l *ℤ (neg_ℤ z +ℤ z) = sym (mul_add l (neg_ℤ z) z) in
-    let c : neg_ℤ y +ℤ y ≡ pos 0 = omega (arith, ints) in
-    let d : neg_ℤ z +ℤ z ≡ pos 0 = omega (arith, ints) in
-    let e : k *ℤ (neg_ℤ y +ℤ y) ≡ pos 0 = ap (λ t. k *ℤ t) c ∙ *ℤ-zero k in
-    let f : l *ℤ (neg_ℤ z +ℤ z) ≡ pos 0 = ap (λ t. l *ℤ t) d ∙ *ℤ-zero l in
-    omega (arith, ints, a, b, e, f)
+part_mix false true k l y z = omega (arith, ints, mul_neg k y, mul_neg l z)
+part_mix true true k l y z = omega (arith, ints, *ℤ-zero k, *ℤ-zero l)
 part_mix false false k l y z = omega (arith, ints, *ℤ-zero k, *ℤ-zero l)
 
 part_sub : (p q : Bool) (y z : ℤ) → part p q (y -ℤ z) ≡ part p q y -ℤ part p q z
-part_sub true true y z = refl
-part_sub true false y z = refl
-part_sub false true y z = omega (arith, ints)
-part_sub false false y z = refl
+part_sub p q y z = grind arith
 
 -- ---- nets
 pub net_is : (g : Graph) (v : ℕ) (x : ℕ → ℤ) → net g (only v) x ≡ sum_in g x v -ℤ sum_out g x v

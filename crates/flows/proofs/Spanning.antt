@@ -1,13 +1,13 @@
 -- Spanning trees, and how growth tells them.
-use Rattle.std.proofs.Common.{◌≡◌, ℕ, zero, suc, ◌+◌, ◌<◌, ◌≤◌, ◌⊎◌, inl, inr, Bool, true, false, not, ◌||◌, cond, List, [], ◌∷◌, refl, ap, sym, ◌∙◌, arith}
+use Rattle.std.proofs.Common.{◌≡◌, ℕ, zero, suc, ◌+◌, ◌<◌, ◌≤◌, ◌⊎◌, inl, inr, Bool, true, not, ◌||◌, ◌&&◌, List, [], ◌∷◌, refl, ap, sym, ◌∙◌, arith}
 use Rattle.std.specs.Prelude.{◌==◌, if◌then◌else◌}
-use Rattle.std.proofs.lemmas.Bool.{cases_Bool, cases_eq, eqb-true, eq-eqb, ne_eqb, or_left, or_right, or_cases}
-use Rattle.std.proofs.Math.Bool.{or-false, or_comm}
+use Rattle.std.proofs.lemmas.Bool.{cases_Bool, eqb-true, eq-eqb, or_left, or_right, and_parts}
+use Rattle.std.proofs.Math.Bool.{or_comm}
 use Rattle.flows.specs.Flows.{Graph, NodeSet, EdgeSet, rest, IsGraph, Determines, count_below}
 use Rattle.flows.specs.Trees.{NoneCrosses, JoinsAll, IsSpanningTree, HasEveryEnd, only, and_also, crosses, far_end, IsWhole, IsHeaviest, Grows, on, IsConnected}
 use Rattle.flows.proofs.Bools.{true_or_false, not_twice, differ_equal}
 use Rattle.flows.proofs.Grown.{far_out, listed_weight}
-use Rattle.flows.proofs.Least.{Ends, ends_of, far_inside, listed_is, no_cycle, determines_if, grows_keeps}
+use Rattle.flows.proofs.Least.{far_inside, listed_is, no_cycle, determines_if, grows_keeps}
 use Rattle.flows.proofs.Weights.{weight_same, weight_more, weight_one}
 
 -- ---- counting
@@ -16,53 +16,29 @@ one = 1
 
 pub all_count : (n : ℕ) (s : ℕ → Bool) → ((e : ℕ) → e < n → s e ≡ true) → count_below n s ≡ n
 all_count zero s h = refl
-all_count (suc n) s h =
-    let a = all_count n s (λ e l. h e (omega arith)) in
-    let b : cond (s n) one 0 ≡ one = ap (λ b. cond b one 0) (h n (omega arith)) in
-    omega (arith, a, b)
+all_count (suc n) s h = let a = all_count n s (λ e l. h e (omega arith)) in let b = h n (omega arith) in grind (arith, a, b)
 
 -- a set with more than no numbers has a number
 pub some_number : (n : ℕ) (s : ℕ → Bool) → 0 < count_below n s → (v : ℕ) × (v < n) × (s v ≡ true)
 some_number zero s h = absurd (omega arith)
-some_number (suc n) s h = go (cases_Bool (s n)) (some_number n s)
-  where
-    go : (s n ≡ true) ⊎ (s n ≡ false) → (0 < count_below n s → (v : ℕ) × (v < n) × (s v ≡ true)) → (v : ℕ) × (v < suc n) × (s v ≡ true)
-    go (inl c) r = (n, omega arith, c)
-    go (inr c) r =
-        let z : cond (s n) one 0 ≡ 0 = ap (λ b. cond b one 0) c in
-        let (v, l, t) = r (omega (arith, z)) in (v, omega arith, t)
+some_number (suc n) s h = elim (cases_Bool (s n)) [
+  | inl c ↦ (n, omega arith, c)
+  | inr c ↦ let (v, l, t) = some_number n s (grind arith) in (v, omega arith, t)
+]
 
 -- a set in another has no more numbers, and with as many it is the other
 pub part_count : (n : ℕ) (s d : ℕ → Bool) → ((e : ℕ) → e < n → s e ≡ true → d e ≡ true) → count_below n s ≤ count_below n d
 part_count zero s d h = omega arith
-part_count (suc n) s d h =
-    let a = part_count n s d (λ e l. h e (omega arith)) in
-    let b = step (s n) (d n) (h n (omega arith)) in omega (arith, a, b)
-  where
-    step : (p q : Bool) → (p ≡ true → q ≡ true) → cond p 1 0 ≤ cond q 1 0
-    step true true f = omega arith
-    step true false f = let c : false ≡ true = f refl in absurd (cc)
-    step false q f = omega arith
+part_count (suc n) s d h = let a = part_count n s d (λ e l. h e (omega arith)) in let b = h n (omega arith) in grind (arith, a, b)
 
 pub same_set : (n : ℕ) (s d : ℕ → Bool) → ((e : ℕ) → e < n → s e ≡ true → d e ≡ true) → count_below n d ≤ count_below n s → (e : ℕ) → e < n → s e ≡ d e
 same_set zero s d h l e m = absurd (omega arith)
-same_set (suc n) s d h l e m = go (cases_eq e n) (same_set n s d (λ e l. h e (omega arith)))
-  where
-    first : count_below n s ≤ count_below n d
-    first = part_count n s d (λ e l. h e (omega arith))
-
-    step : (p q : Bool) → (p ≡ true → q ≡ true) → count_below n d + cond q 1 0 ≤ count_below n s + cond p 1 0 → count_below n s ≤ count_below n d → (p ≡ q) × (count_below n d ≤ count_below n s)
-    step true true f a b = (refl, omega arith)
-    step true false f a b = let c : false ≡ true = f refl in absurd (cc)
-    step false true f a b = absurd (omega arith)
-    step false false f a b = (refl, omega arith)
-
-    last : (s n ≡ d n) × (count_below n d ≤ count_below n s)
-    last = step (s n) (d n) (h n (omega arith)) l first
-
-    go : (e ≡ n) ⊎ (e ≡ n → ⊥) → (count_below n d ≤ count_below n s → (e : ℕ) → e < n → s e ≡ d e) → s e ≡ d e
-    go (inl c) f = ap s c ∙ last.0 ∙ ap d (sym c)
-    go (inr c) f = f last.1 e (omega arith)
+same_set (suc n) s d h l e m =
+    let f = same_set n s d (λ e l. h e (omega arith)) in
+    let a = part_count n s d (λ e l. h e (omega arith)) in
+    let b = h n (omega arith) in
+    let k = (λ (l : count_below n d ≤ count_below n s). f l e) in
+    grind (arith, k, a, b)
 
 -- ---- growth counts nodes
 -- each edge that is grown joins one node more
@@ -79,21 +55,12 @@ grown_count g w (e ∷ es) s t ok h =
 kept : (g : Graph) (w : ℕ → ℕ) (es : List ℕ) (s t q : NodeSet) (c : Bool) → Grows g w s es t → NoneCrosses g (on es) q → ((u : ℕ) → s u ≡ true → q u ≡ c) → (u : ℕ) → t u ≡ true → q u ≡ c
 kept g w [] s t q c h n a u m = a u (ap (λ (r : NodeSet). r u) (sym h) ∙ m)
 kept g w (e ∷ es) s t q c h n a u m =
-    kept g w es (and_also s (far_end g s e)) t q c h.1 (λ i l o. n i l (or_right (i == e) (on es i) o)) (λ u p. go u (cases_Bool (s u)) p) u m
+    kept g w es (and_also s (far_end g s e)) t q c h.1 (λ i l o. n i l (or_right (i == e) (on es i) o)) (λ u p. go u p) u m
   where
-    d : Ends g s e
-    d = ends_of g s e h.0.across
-
-    same : q (g.from e) ≡ q (g.to e)
-    same = n e h.0.inside (or_left (e == e) (on es e) (eq-eqb e e refl))
-
-    new : ((far_end g s e ≡ g.to e) × (s (g.from e) ≡ true)) ⊎ ((far_end g s e ≡ g.from e) × (s (g.to e) ≡ true)) → q (far_end g s e) ≡ c
-    new (inl p) = ap q p.0 ∙ sym same ∙ a (g.from e) p.1
-    new (inr p) = ap q p.0 ∙ same ∙ a (g.to e) p.1
-
-    go : (u : ℕ) → (s u ≡ true) ⊎ (s u ≡ false) → (s u || (u == far_end g s e)) ≡ true → q u ≡ c
-    go u (inl p) o = a u p
-    go u (inr p) o = ap q (eqb-true u (far_end g s e) (sym (ap (λ b. b || (u == far_end g s e)) p) ∙ o)) ∙ new d.one_new
+    go : (u : ℕ) → and_also s (far_end g s e) u ≡ true → q u ≡ c
+    go u o =
+        let same : q (g.from e) ≡ q (g.to e) = n e h.0.inside (or_left (e == e) (on es e) (eq-eqb e e refl)) in
+        let k = h.0.across in let i = a (g.from e) in let j = a (g.to e) in let f = a u in grind (arith, same, k, i, j, f)
 
 pub grown_joins : (g : Graph) (is_node : NodeSet) (w : ℕ → ℕ) (r : ℕ) (es : List ℕ) (t : NodeSet) → Grows g w (only r) es t →
     ((v : ℕ) → v < g.nodes → is_node v ≡ true → t v ≡ true) → JoinsAll g is_node (on es)
@@ -125,22 +92,13 @@ one_if d e = if d e then 1 else 0
 -- an edge of d crosses s, or none does
 pub search_edge : (g : Graph) (d : ℕ → Bool) (s : NodeSet) (n : ℕ) → ((e : ℕ) × (e < n) × (d e ≡ true) × (crosses g s e ≡ true)) ⊎ ((e : ℕ) → e < n → d e ≡ true → s (g.from e) ≡ s (g.to e))
 search_edge g d s zero = inr (λ e l. absurd (omega arith))
-search_edge g d s (suc n) = go (search_edge g d s n) (cases_Bool (d n)) (cases_Bool (crosses g s n))
-  where
-    go : ((e : ℕ) × (e < n) × (d e ≡ true) × (crosses g s e ≡ true)) ⊎ ((e : ℕ) → e < n → d e ≡ true → s (g.from e) ≡ s (g.to e)) → (d n ≡ true) ⊎ (d n ≡ false) → (crosses g s n ≡ true) ⊎ (crosses g s n ≡ false)
-        → ((e : ℕ) × (e < suc n) × (d e ≡ true) × (crosses g s e ≡ true)) ⊎ ((e : ℕ) → e < suc n → d e ≡ true → s (g.from e) ≡ s (g.to e))
-    go (inl (e, l, p, q)) a b = inl (e, omega arith, p, q)
-    go (inr f) (inl p) (inl q) = inl (n, omega arith, p, q)
-    go (inr f) (inr p) b = inr (λ e l m. at e l m (cases_eq e n))
-      where
-        at : (e : ℕ) → e < suc n → d e ≡ true → (e ≡ n) ⊎ (e ≡ n → ⊥) → s (g.from e) ≡ s (g.to e)
-        at e l m (inl c) = true_or_false (d e) m (ap d c ∙ p)
-        at e l m (inr c) = f e (omega arith) m
-    go (inr f) (inl p) (inr q) = inr (λ e l m. at e l m (cases_eq e n))
-      where
-        at : (e : ℕ) → e < suc n → d e ≡ true → (e ≡ n) ⊎ (e ≡ n → ⊥) → s (g.from e) ≡ s (g.to e)
-        at e l m (inl c) = ap (λ e. s (g.from e)) c ∙ differ_equal (s (g.from n)) (s (g.to n)) q ∙ ap (λ e. s (g.to e)) (sym c)
-        at e l m (inr c) = f e (omega arith) m
+search_edge g d s (suc n) = elim (search_edge g d s n) [
+  | inl (e, l, p, q) ↦ inl (e, omega arith, p, q)
+  | inr f ↦ elim (cases_Bool (d n && crosses g s n)) [
+    | inl p ↦ let (p, q) = and_parts (d n) (crosses g s n) p in inl (n, omega arith, p, q)
+    | inr p ↦ inr (λ e l m. let h = f e in grind (arith, h, p))
+  ]
+]
 
 abbrev pub AllIn : (ℕ → Bool) → List ℕ → Type 0
 AllIn d [] = Unit {0}
@@ -149,35 +107,22 @@ AllIn d (e ∷ es) = (d e ≡ true) × AllIn d es
 -- what is on a list in d is in d
 pub on_in : (d : ℕ → Bool) (es : List ℕ) (e : ℕ) → AllIn d es → on es e ≡ true → d e ≡ true
 on_in d [] e h o = absurd (cc)
-on_in d (x ∷ xs) e h o = go (cases_Bool (e == x)) (on_in d xs e h.1)
-  where
-    go : ((e == x) ≡ true) ⊎ ((e == x) ≡ false) → (on xs e ≡ true → d e ≡ true) → d e ≡ true
-    go (inl c) f = ap d (eqb-true e x c) ∙ h.0
-    go (inr c) f = f (sym (ap (λ b. b || on xs e) c) ∙ o)
+on_in d (x ∷ xs) e h o = let f = on_in d xs e h.1 in let a = h.0 in grind (arith, f, a)
+
+far_node : (g : Graph) (is_node s : NodeSet) (e : ℕ) → HasEveryEnd g is_node → e < g.edges → is_node (far_end g s e) ≡ true
+far_node g is_node s e ends l = let h = ends e l in grind (arith, h)
 
 -- a set d that joins all nodes, where the ends of all edges are nodes: only edges of d are grown
 pub grown_in : (g : Graph) (is_node : NodeSet) (d : EdgeSet) (r : ℕ) (es : List ℕ) (s t : NodeSet) → IsGraph g → HasEveryEnd g is_node → r < g.nodes → is_node r ≡ true → s r ≡ true → JoinsAll g is_node d → Grows g (one_if d) s es t → AllIn d es
 grown_in g is_node d r [] s t ok ends lr nr sr j h = tt
 grown_in g is_node d r (e ∷ es) s t ok ends lr nr sr j h =
-    (here (search_edge g d s g.edges), grown_in g is_node d r es (and_also s (far_end g s e)) t ok ends lr nr (or_left (s r) _ sr) j h.1)
+    (here, grown_in g is_node d r es (and_also s (far_end g s e)) t ok ends lr nr (or_left (s r) _ sr) j h.1)
   where
-    in_d : (b : Bool) → 1 ≤ cond b 1 0 → b ≡ true
-    in_d true l = refl
-    in_d false l = absurd (omega arith)
-
-    pick : (b : Bool) (p q : ℕ) → is_node p ≡ true → is_node q ≡ true → is_node (cond b p q) ≡ true
-    pick true p q h k = h
-    pick false p q h k = k
-
-    far_node : is_node (far_end g s e) ≡ true
-    far_node = pick (s (g.from e)) (g.to e) (g.from e) (ends e h.0.inside).1 (ends e h.0.inside).0
-
-    here : ((i : ℕ) × (i < g.edges) × (d i ≡ true) × (crosses g s i ≡ true)) ⊎ ((i : ℕ) → i < g.edges → d i ≡ true → s (g.from i) ≡ s (g.to i)) → d e ≡ true
-    here (inl (i, l, p, q)) =
-        let a = h.0.heaviest i l q in
-        let b : cond (d i) one 0 ≡ one = ap (λ b. cond b one 0) p in
-        in_d (d e) (omega (arith, a, b))
-    here (inr n) = true_or_false (s r) sr (j s n r (far_end g s e) lr (far_inside g s e ok h.0.inside) nr far_node ∙ far_out g s e h.0.across)
+    here : d e ≡ true
+    here = elim (search_edge g d s g.edges) [
+      | inl (i, l, p, q) ↦ let a = h.0.heaviest i l q in grind (arith, a, p)
+      | inr n ↦ true_or_false (s r) sr (j s n r (far_end g s e) lr (far_inside g s e ok h.0.inside) nr (far_node g is_node s e ends h.0.inside) ∙ far_out g s e h.0.across)
+    ]
 
 -- ---- the check of a spanning tree, by growth from r that ends at t
 pub tree_if : (g : Graph) (is_node : NodeSet) (d : EdgeSet) (r : ℕ) (es : List ℕ) (t : NodeSet) → IsGraph g → r < g.nodes → Grows g (one_if d) (only r) es t →
@@ -208,39 +153,26 @@ pub record GrownIn (g : Graph) (d : EdgeSet) (s : NodeSet) : Type 0 where
   pub none : NoneCrosses g d reached
 
 step_heaviest : (g : Graph) (d : EdgeSet) (s : NodeSet) (e : ℕ) → e < g.edges → d e ≡ true → crosses g s e ≡ true → IsHeaviest g (one_if d) s e
-step_heaviest g d s e l t c = record { inside = l; across = c; heaviest = λ h m k. let a : cond (d e) one 0 ≡ one = ap (λ b. cond b one 0) t in let b = at_most (d h) in omega (arith, a, b) }
-  where
-    at_most : (b : Bool) → cond b one 0 ≤ one
-    at_most true = omega arith
-    at_most false = omega arith
+step_heaviest g d s e l t c = record { inside = l; across = c; heaviest = λ h m k. grind arith }
 
 fewer_outside : (g : Graph) (s : NodeSet) (e : ℕ) → IsGraph g → e < g.edges → crosses g s e ≡ true →
     count_below g.nodes (λ v. not (s v)) ≡ 1 + count_below g.nodes (λ v. not (and_also s (far_end g s e) v))
 fewer_outside g s e ok l c =
-    weight_same g.nodes (λ e. 1) (λ v. not (s v)) (λ v. (v == far_end g s e) || not (s v || (v == far_end g s e))) (λ v m. same v (cases_eq v (far_end g s e)))
-    ∙ weight_more g.nodes (λ e. 1) (λ v. not (s v || (v == far_end g s e))) (far_end g s e) (far_inside g s e ok l)
-    (ap not (or_right (s (far_end g s e)) _ (eq-eqb (far_end g s e) (far_end g s e) refl)))
-  where
-    same : (v : ℕ) → (v ≡ far_end g s e) ⊎ (v ≡ far_end g s e → ⊥) → not (s v) ≡ ((v == far_end g s e) || not (s v || (v == far_end g s e)))
-    same v (inl k) = ap not (ap s k ∙ far_out g s e c) ∙ sym (or_left (v == far_end g s e) _ (eq-eqb v (far_end g s e) k))
-    same v (inr k) = ap not (sym (or-false (s v))) ∙ ap (λ b. b || not (s v || b)) (sym (ne_eqb v (far_end g s e) k))
+    weight_same g.nodes (λ e. 1) (λ v. not (s v)) (λ v. (v == far_end g s e) || not (s v || (v == far_end g s e))) (λ v m. let f = far_out g s e c in grind (arith, f))
+    ∙ weight_more g.nodes (λ e. 1) (λ v. not (s v || (v == far_end g s e))) (far_end g s e) (far_inside g s e ok l) (grind arith)
 
 -- `most` bounds the number of nodes outside s
 pub grow_in : (g : Graph) (d : EdgeSet) (most : ℕ) (s : NodeSet) → IsGraph g → count_below g.nodes (λ v. not (s v)) ≤ most → GrownIn g d s
-grow_in g d zero s ok small = go (search_edge g d s g.edges)
-  where
-    go : ((e : ℕ) × (e < g.edges) × (d e ≡ true) × (crosses g s e ≡ true)) ⊎ ((e : ℕ) → e < g.edges → d e ≡ true → s (g.from e) ≡ s (g.to e)) → GrownIn g d s
-    go (inr n) = record { edges = []; reached = s; grows = refl; inside = tt; none = n }
-    go (inl (e, l, t, c)) = let k = fewer_outside g s e ok l c in absurd (omega (arith, k))
-grow_in g d (suc most) s ok small = go (search_edge g d s g.edges) (λ e. grow_in g d most (and_also s (far_end g s e)) ok)
-  where
-    go : ((e : ℕ) × (e < g.edges) × (d e ≡ true) × (crosses g s e ≡ true)) ⊎ ((e : ℕ) → e < g.edges → d e ≡ true → s (g.from e) ≡ s (g.to e)) →
-        ((e : ℕ) → count_below g.nodes (λ v. not (and_also s (far_end g s e) v)) ≤ most → GrownIn g d (and_also s (far_end g s e))) → GrownIn g d s
-    go (inr n) more = record { edges = []; reached = s; grows = refl; inside = tt; none = n }
-    go (inl (e, l, t, c)) more =
-        let k = fewer_outside g s e ok l c in
-        let r = more e (omega (arith, k)) in
-        record { edges = e ∷ r.edges; reached = r.reached; grows = (step_heaviest g d s e l t c, r.grows); inside = (t, r.inside); none = r.none }
+grow_in g d zero s ok small = elim (search_edge g d s g.edges) [
+  | inr n ↦ record { edges = []; reached = s; grows = refl; inside = tt; none = n }
+  | inl (e, l, t, c) ↦ absurd (omega (arith, fewer_outside g s e ok l c))
+]
+grow_in g d (suc most) s ok small = elim (search_edge g d s g.edges) [
+  | inr n ↦ record { edges = []; reached = s; grows = refl; inside = tt; none = n }
+  | inl (e, l, t, c) ↦
+      let r = grow_in g d most (and_also s (far_end g s e)) ok (omega (arith, fewer_outside g s e ok l c)) in
+      record { edges = e ∷ r.edges; reached = r.reached; grows = (step_heaviest g d s e l t c, r.grows); inside = (t, r.inside); none = r.none }
+]
 
 -- from one node
 pub grow_from : (g : Graph) (d : EdgeSet) (r : ℕ) → IsGraph g → GrownIn g d (only r)
@@ -269,22 +201,8 @@ pub reached_nodes : (g : Graph) (is_node : NodeSet) (w : ℕ → ℕ) (es : List
 reached_nodes g is_node w [] s t ends h a v m = a v (ap (λ (u : NodeSet). u v) (sym h) ∙ m)
 reached_nodes g is_node w (e ∷ es) s t ends h a v m = reached_nodes g is_node w es (and_also s (far_end g s e)) t ends h.1 more v m
   where
-    pick : (b : Bool) (p q : ℕ) → is_node p ≡ true → is_node q ≡ true → is_node (cond b p q) ≡ true
-    pick true p q h k = h
-    pick false p q h k = k
-
     more : (v : ℕ) → and_also s (far_end g s e) v ≡ true → is_node v ≡ true
-    more v m = go (or_cases (s v) (v == far_end g s e) m)
-      where
-        go : (s v ≡ true) ⊎ ((v == far_end g s e) ≡ true) → is_node v ≡ true
-        go (inl k) = a v k
-        go (inr k) = ap is_node (eqb-true v (far_end g s e) k) ∙ pick (s (g.from e)) (g.to e) (g.from e) (ends e h.0.inside).1 (ends e h.0.inside).0
-
-both_ways : (p q : Bool) → (p ≡ true → q ≡ true) → (q ≡ true → p ≡ true) → p ≡ q
-both_ways true true f h = refl
-both_ways true false f h = let k : false ≡ true = f refl in absurd (cc)
-both_ways false true f h = let k : false ≡ true = h refl in absurd (cc)
-both_ways false false f h = refl
+    more v m = let f = a v in let k = far_node g is_node s e ends h.0.inside in grind (arith, f, k)
 
 -- such a tree has every node
 connected_all : (g : Graph) (is_node : NodeSet) (w : ℕ → ℕ) (r : ℕ) (es : List ℕ) (t : NodeSet) → r < g.nodes → IsConnected g is_node r → Grows g w (only r) es t → IsWhole g t →
@@ -298,7 +216,7 @@ connected_ends g is_node w r es t ok lr c h whole e l =
 
 pub connected_spans : (g : Graph) (is_node : NodeSet) (w : ℕ → ℕ) (r : ℕ) (es : List ℕ) (t : NodeSet) → IsGraph g → r < g.nodes → IsConnected g is_node r → Grows g w (only r) es t → IsWhole g t → IsSpanningTree g is_node (on es)
 connected_spans g is_node w r es t ok lr c h whole =
-    grown_spans g is_node w r es t ok lr h (λ v l. both_ways (t v) (is_node v) (inside v) (connected_all g is_node w r es t lr c h whole v l))
+    grown_spans g is_node w r es t ok lr h (λ v l. let f = inside v in let k = connected_all g is_node w r es t lr c h whole v l in grind (arith, f, k))
   where
     inside : (v : ℕ) → t v ≡ true → is_node v ≡ true
     inside = reached_nodes g is_node w es (only r) t c.ends h (λ v m. ap is_node (eqb-true v r m) ∙ c.root)
