@@ -1,14 +1,14 @@
 -- One step of the peeling, on lists.
-use Rattle.std.proofs.Common.{◌≡◌, ℕ, ◌<◌, ◌≤◌, ◌⊎◌, inl, inr, Bool, true, false, cond, List, [], ◌∷◌, ◌++◌, not, length, get_or, set, refl, ap, sym, ◌∙◌, subst, arith}
+use Rattle.std.proofs.Common.{◌≡◌, ℕ, ◌<◌, ◌≤◌, ◌⊎◌, inl, inr, true, false, cond, List, [], ◌∷◌, ◌++◌, not, length, set, refl, ap, sym, ◌∙◌, arith}
 use Rattle.std.specs.Prelude.{ℤ, pos, ◌+ℤ◌, ◌==◌, if◌then◌else◌}
 use Rattle.std.proofs.lemmas.Int.{ints}
 use Rattle.std.proofs.lemmas.Bool.{cases_eq, eq-eqb, ne_eqb}
 use Rattle.std.proofs.lemmas.List.{get_or-set_same, get_or-set_other, length-set, length-append}
-use Rattle.flows.specs.Flows.{Graph, IsFlow, NodeSet, one_at, IsTheFlow, rest}
+use Rattle.flows.specs.Flows.{Graph, IsFlow, NodeSet, IsTheFlow, rest}
 use Rattle.flows.specs.Links.{graph_of, link_at, IsLinked}
 use Rattle.flows.specs.Trees.{only, far_end, Grows, on, joined_by, HasEveryEnd}
 use Rattle.flows.specs.declared.Link.{Link}
-use Rattle.flows.proofs.Bools.{true_or_false, eqb_swap, not_twice}
+use Rattle.flows.proofs.Bools.{eqb_swap, not_twice}
 use Rattle.flows.proofs.Least.{off_grown_determines, far_inside}
 use Rattle.flows.proofs.Sums.{total_zero}
 use Rattle.flow_rebuild.specs.Excess.{excess}
@@ -16,28 +16,27 @@ use Rattle.flow_rebuild.specs.Values.{int_at, abs_sum, other_node, carries}
 use Rattle.flow_tree.specs.Tree.{reached_by, edges_of, IsGrown, nodes_in, edges_in}
 use Rattle.flow_tree.specs.declared.Join.{Join}
 use Rattle.flow_tree.specs.declared.Tree.{Tree}
-use Rattle.flow_rebuild.proofs.Changed.{with_at, Moved}
-use Rattle.flow_rebuild.proofs.Settling.{Settled, settle_last, moved, last_of, Last, other_end, carried, on_pushed, settled_flow, on_in_push}
+use Rattle.flow_rebuild.proofs.Changed.{Moved, carried, other_end, with_at}
+use Rattle.flow_rebuild.proofs.Settling.{Settled, settle_last, moved, last_of, Last, on_pushed, settled_flow, on_in_push}
 use Rattle.flow_rebuild.proofs.Sums.{abs_moved}
 use Rattle.flow_tree.proofs.Check.{marked_below}
 use Rattle.flow_tree.proofs.Steps.{graph_ok, edges-push, nodes-push}
 
 pub int_set : (xs : List ℤ) (e : ℕ) (z : ℤ) → e < length xs → int_at (set xs e z) ≡ with_at (int_at xs) e z
-int_set xs e z l = λ i u. at u (cases_eq u e) i
+int_set xs e z l = λ i u. at u i
   where
-    at : (u : ℕ) → (u ≡ e) ⊎ (u ≡ e → ⊥) → int_at (set xs e z) u ≡ with_at (int_at xs) e z u
-    at u (inl c) = ap (λ u. get_or (set xs e z) u (pos 0)) c ∙ get_or-set_same xs e z (pos 0) l ∙ ap (λ (b : Bool). cond b z (int_at xs u)) (sym (eq-eqb u e c))
-    at u (inr c) = get_or-set_other xs e u z (pos 0) c ∙ ap (λ (b : Bool). cond b z (int_at xs u)) (sym (ne_eqb u e c))
+    at : (u : ℕ) → int_at (set xs e z) u ≡ with_at (int_at xs) e z u
+    at u = elim (cases_eq u e) [
+      | inl c ↦ rw (c, eq-eqb e e refl) (get_or-set_same xs e z (pos 0) l)
+      | inr c ↦ rw (ne_eqb u e c) (get_or-set_other xs e u z (pos 0) c)
+    ]
 
 -- edges with a node each are apart from their last one
 snoc_equal : (xs ys : List ℕ) (x y : ℕ) → xs ++ x ∷ [] ≡ ys ++ y ∷ [] → (xs ≡ ys) × (x ≡ y)
 snoc_equal [] [] x y e = (refl, cc)
-snoc_equal [] (b ∷ ys) x y e = let k : [] ≡ ys ++ y ∷ [] = cc in let l = ap length k in let m = length-append ys (y ∷ []) in absurd (omega (arith, l, m))
-snoc_equal (a ∷ xs) [] x y e = let k : xs ++ x ∷ [] ≡ [] = cc in let l = ap length k in let m = length-append xs (x ∷ []) in absurd (omega (arith, l, m))
-snoc_equal (a ∷ xs) (b ∷ ys) x y e =
-    let r = snoc_equal xs ys x y cc in
-    let h : a ≡ b = cc in
-    (ap (λ (zs : List ℕ). a ∷ zs) r.0 ∙ ap (λ (z : ℕ). z ∷ ys) h, r.1)
+snoc_equal [] (b ∷ ys) x y e = absurd (omega (arith, ap length e, length-append ys (y ∷ [])))
+snoc_equal (a ∷ xs) [] x y e = absurd (omega (arith, ap length e, length-append xs (x ∷ [])))
+snoc_equal (a ∷ xs) (b ∷ ys) x y e = let r = snoc_equal xs ys x y cc in let h : a ≡ b = cc in (cc, r.1)
 
 -- the joins `left` carry nothing yet, and the nodes that came in after them have no excess
 pub record IsPeeled (n : ℕ) (links : List Link) (root a b : ℕ) (left : List Join) (values ex : List ℤ) : Type 0 where
@@ -48,97 +47,92 @@ pub record IsPeeled (n : ℕ) (links : List Link) (root a b : ℕ) (left : List 
   pub excesses : (u : ℕ) → u < n → int_at ex u ≡ excess (graph_of n links) a b (int_at values) u
 
 -- the last join
-module _ (n : ℕ) (links : List Link) (root a b : ℕ) (left : List Join) (j : Join) (values ex : List ℤ)
+module _ {n : ℕ} {links : List Link} {root a b : ℕ} (left : List Join) (j : Join) {values ex : List ℤ}
     (ok : IsLinked n links) (h : IsPeeled n links root a b (left ++ j ∷ []) values ex) where
-  grows : Grows (graph_of n links) (λ e. 0) (only root) (edges_in left ++ j.edge ∷ []) h.settled.reached
-  grows = subst (λ (es : List ℕ). Grows (graph_of n links) (λ e. 0) (only root) es h.settled.reached) (edges-push left j) h.settled.grows
+  abbrev g : Graph
+  g = graph_of n links
 
-  abbrev la : Last (graph_of n links) (λ e. 0) (only root) (edges_in left) j.edge h.settled.reached
-  la = last_of (graph_of n links) (λ e. 0) (only root) (edges_in left) j.edge h.settled.reached grows
+  abbrev other : ℕ
+  other = other_node (link_at links j.edge) j.node
 
-  apart : (nodes_in left ≡ joined_by (graph_of n links) (only root) (edges_in left)) × (j.node ≡ far_end (graph_of n links) la.before j.edge)
-  apart = snoc_equal _ _ _ _ (sym (nodes-push left j) ∙ h.joined ∙ ap (joined_by (graph_of n links) (only root)) (edges-push left j) ∙ la.joined)
+  -- the values and excesses with the excess of its node at its edge's other end
+  abbrev values' : ℕ → ℤ
+  values' = with_at (int_at values) j.edge (carried g j.edge j.node (excess g a b (int_at values) j.node))
+
+  abbrev ex' : List ℤ
+  ex' = set ex other (int_at ex other +ℤ int_at ex j.node)
+
+  grows : Grows g (λ e. 0) (only root) (edges_in left ++ j.edge ∷ []) h.settled.reached
+  grows = rw (edges-push left j) at h.settled.grows
+
+  abbrev la : Last g (λ e. 0) (only root) (edges_in left) j.edge h.settled.reached
+  la = last_of g (λ e. 0) (only root) (edges_in left) j.edge h.settled.reached grows
+
+  apart : (nodes_in left ≡ joined_by g (only root) (edges_in left)) × (j.node ≡ far_end g la.before j.edge)
+  apart = snoc_equal _ _ _ _ (sym (nodes-push left j) ∙ h.joined ∙ ap (joined_by g (only root)) (edges-push left j) ∙ la.joined)
 
   pub edge_inside : j.edge < length links
   edge_inside = la.heaviest.inside
 
   pub node_inside : j.node < n
-  node_inside = subst (λ (z : ℕ). z < n) (sym apart.1) (far_inside (graph_of n links) la.before j.edge (graph_ok n links ok) la.heaviest.inside)
+  node_inside = rw apart.1 (far_inside g la.before j.edge (graph_ok n links ok) la.heaviest.inside)
 
   unset : int_at values j.edge ≡ pos 0
-  unset = h.settled.unset j.edge la.heaviest.inside (subst (λ (es : List ℕ). on es j.edge ≡ true) (sym (edges-push left j)) (on_pushed (edges_in left) j.edge))
+  unset = h.settled.unset j.edge la.heaviest.inside (rw (edges-push left j) (on_pushed (edges_in left) j.edge))
 
-  -- its edge takes the excess of its node to the other end
-  moves : Moved (graph_of n links) a b (int_at values) (with_at (int_at values) j.edge (carried (graph_of n links) j.edge j.node (excess (graph_of n links) a b (int_at values) j.node))) j.node (other_end (graph_of n links) j.edge j.node)
-      × (la.before (other_end (graph_of n links) j.edge j.node) ≡ true) × (other_end (graph_of n links) j.edge j.node ≡ j.node → ⊥)
-  moves = moved (graph_of n links) la.before a b (int_at values) j.edge j.node la.heaviest.inside la.heaviest.across apart.1 unset
+  moves : Moved g a b (int_at values) values' j.node (other_end g j.edge j.node)
+      × (la.before (other_end g j.edge j.node) ≡ true) × (other_end g j.edge j.node ≡ j.node → ⊥)
+  moves = moved g la.before a b (int_at values) j.edge j.node la.heaviest.inside la.heaviest.across apart.1 unset
 
-  other_inside : other_node (link_at links j.edge) j.node < n
-  other_inside = pick ((link_at links j.edge).to == j.node) (link_at links j.edge).from (link_at links j.edge).to (ok j.edge _ la.heaviest.inside).0 (ok j.edge _ la.heaviest.inside).1
+  other_inside : other < n
+  other_inside =
+      let k : ((link_at links j.edge).from < n) × ((link_at links j.edge).to < n) = ok j.edge _ la.heaviest.inside in
+      by (link_at links j.edge).to (link_at links j.edge).from k.0 k.1
     where
-      pick : (c : Bool) (x y : ℕ) → x < n → y < n → cond c x y < n
-      pick true x y a b = a
-      pick false x y a b = b
+      by : (t f : ℕ) → f < n → t < n → (if t == j.node then f else t) < n
+      by t f p q = grind arith
 
   node_there : j.node < length ex
-  node_there = let k = node_inside in let l = h.excess_len in omega (arith, k, l)
+  node_there = omega (arith, node_inside, h.excess_len)
 
-  other_there : other_node (link_at links j.edge) j.node < length ex
-  other_there = let k = other_inside in let l = h.excess_len in omega (arith, k, l)
+  other_there : other < length ex
+  other_there = omega (arith, other_inside, h.excess_len)
 
-  edge_there : j.edge < length values
-  edge_there = let k = edge_inside in let l = h.values_len in omega (arith, k, l)
+  values_are : int_at (set values j.edge (carries (link_at links j.edge) j.node (int_at ex j.node))) ≡ values'
+  values_are = rw (h.excesses j.node node_inside) (int_set values j.edge _ (omega (arith, edge_inside, h.values_len)))
 
-  values_are : int_at (set values j.edge (carries (link_at links j.edge) j.node (int_at ex j.node))) ≡ with_at (int_at values) j.edge (carried (graph_of n links) j.edge j.node (excess (graph_of n links) a b (int_at values) j.node))
-  values_are = int_set values j.edge (carries (link_at links j.edge) j.node (int_at ex j.node)) edge_there ∙ ap (λ (z : ℤ). with_at (int_at values) j.edge (carries (link_at links j.edge) j.node z)) (h.excesses j.node node_inside)
-
-  excess_at : (u : ℕ) → u < n → (u ≡ j.node) ⊎ (u ≡ j.node → ⊥) → (u ≡ other_node (link_at links j.edge) j.node) ⊎ (u ≡ other_node (link_at links j.edge) j.node → ⊥) →
-      int_at (set (set ex (other_node (link_at links j.edge) j.node) (int_at ex (other_node (link_at links j.edge) j.node) +ℤ int_at ex j.node)) j.node (pos 0)) u
-      ≡ excess (graph_of n links) a b (with_at (int_at values) j.edge (carried (graph_of n links) j.edge j.node (excess (graph_of n links) a b (int_at values) j.node))) u
+  excess_at : (u : ℕ) → u < n → (u ≡ j.node) ⊎ (u ≡ j.node → ⊥) → (u ≡ other) ⊎ (u ≡ other → ⊥) →
+      int_at (set ex' j.node (pos 0)) u ≡ excess g a b values' u
   excess_at u l (inl c) d =
-      ap (int_at (set (set ex (other_node (link_at links j.edge) j.node) (int_at ex (other_node (link_at links j.edge) j.node) +ℤ int_at ex j.node)) j.node (pos 0))) c
-      ∙ get_or-set_same (set ex (other_node (link_at links j.edge) j.node) (int_at ex (other_node (link_at links j.edge) j.node) +ℤ int_at ex j.node)) j.node (pos 0) (pos 0)
-      (let k = length-set ex (other_node (link_at links j.edge) j.node) (int_at ex (other_node (link_at links j.edge) j.node) +ℤ int_at ex j.node) in let i = node_there in omega (arith, k, i))
-      ∙ sym (ap (excess (graph_of n links) a b (with_at (int_at values) j.edge (carried (graph_of n links) j.edge j.node (excess (graph_of n links) a b (int_at values) j.node)))) c ∙ moves.0.none_left)
+      rw c (get_or-set_same ex' j.node (pos 0) (pos 0) (omega (arith, length-set ex other (int_at ex other +ℤ int_at ex j.node), node_there)) ∙ sym moves.0.none_left)
   excess_at u l (inr c) (inl d) =
-      get_or-set_other (set ex (other_node (link_at links j.edge) j.node) (int_at ex (other_node (link_at links j.edge) j.node) +ℤ int_at ex j.node)) j.node u (pos 0) (pos 0) c
-      ∙ ap (int_at (set ex (other_node (link_at links j.edge) j.node) (int_at ex (other_node (link_at links j.edge) j.node) +ℤ int_at ex j.node))) d
-      ∙ get_or-set_same ex (other_node (link_at links j.edge) j.node) (int_at ex (other_node (link_at links j.edge) j.node) +ℤ int_at ex j.node) (pos 0) other_there
-      ∙ ap (λ (z : ℤ). z +ℤ int_at ex j.node) (h.excesses (other_node (link_at links j.edge) j.node) other_inside)
-      ∙ ap (λ (z : ℤ). excess (graph_of n links) a b (int_at values) (other_node (link_at links j.edge) j.node) +ℤ z) (h.excesses j.node node_inside)
-      ∙ sym (ap (excess (graph_of n links) a b (with_at (int_at values) j.edge (carried (graph_of n links) j.edge j.node (excess (graph_of n links) a b (int_at values) j.node)))) d ∙ moves.0.taken)
+      rw d (get_or-set_other ex' j.node other (pos 0) (pos 0) moves.2 ∙ get_or-set_same ex other _ (pos 0) other_there
+      ∙ cc (h.excesses other other_inside, h.excesses j.node node_inside, moves.0.taken))
   excess_at u l (inr c) (inr d) =
-      get_or-set_other (set ex (other_node (link_at links j.edge) j.node) (int_at ex (other_node (link_at links j.edge) j.node) +ℤ int_at ex j.node)) j.node u (pos 0) (pos 0) c
-      ∙ get_or-set_other ex (other_node (link_at links j.edge) j.node) u (int_at ex (other_node (link_at links j.edge) j.node) +ℤ int_at ex j.node) (pos 0) d
-      ∙ h.excesses u l
-      ∙ sym (moves.0.others u c d)
+      get_or-set_other ex' j.node u (pos 0) (pos 0) c ∙ get_or-set_other ex other u _ (pos 0) d ∙ h.excesses u l ∙ sym (moves.0.others u c d)
 
-  pub peel_small : abs_sum (set (set ex (other_node (link_at links j.edge) j.node) (int_at ex (other_node (link_at links j.edge) j.node) +ℤ int_at ex j.node)) j.node (pos 0)) ≤ abs_sum ex
-  peel_small = abs_moved ex (other_node (link_at links j.edge) j.node) j.node other_there node_there moves.2
+  pub peel_small : abs_sum (set ex' j.node (pos 0)) ≤ abs_sum ex
+  peel_small = abs_moved ex other j.node other_there node_there moves.2
 
-  pub peel_step : IsPeeled n links root a b left (set values j.edge (carries (link_at links j.edge) j.node (int_at ex j.node)))
-      (set (set ex (other_node (link_at links j.edge) j.node) (int_at ex (other_node (link_at links j.edge) j.node) +ℤ int_at ex j.node)) j.node (pos 0))
+  pub peel_step : IsPeeled n links root a b left (set values j.edge (carries (link_at links j.edge) j.node (int_at ex j.node))) (set ex' j.node (pos 0))
   peel_step = record {
     values_len = length-set values j.edge _ ∙ h.values_len;
-    excess_len = length-set (set ex (other_node (link_at links j.edge) j.node) _) j.node _ ∙ length-set ex (other_node (link_at links j.edge) j.node) _ ∙ h.excess_len;
-    settled = subst (λ (x : ℕ → ℤ). Settled (graph_of n links) (λ e. 0) root a b (edges_in left) x) (sym values_are)
-        (settle_last (graph_of n links) (λ e. 0) root a b (edges_in left) j.edge j.node (int_at values) h.settled.reached grows apart.1
-        (λ i l o. h.settled.unset i l (subst (λ (es : List ℕ). on es i ≡ true) (sym (edges-push left j)) o)) h.settled.done);
+    excess_len = length-set ex' j.node _ ∙ length-set ex other _ ∙ h.excess_len;
+    settled = rw values_are (settle_last g (λ e. 0) root a b (edges_in left) j.edge j.node (int_at values) h.settled.reached grows apart.1
+        (λ i l o. h.settled.unset i l (rw (edges-push left j) o)) h.settled.done);
     joined = apart.0;
-    excesses = λ u l. excess_at u l (cases_eq u j.node) (cases_eq u (other_node (link_at links j.edge) j.node)) ∙ ap (λ (x : ℕ → ℤ). excess (graph_of n links) a b x u) (sym values_are);
+    excesses = λ u l. excess_at u l (cases_eq u j.node) (cases_eq u other) ∙ ap (λ (x : ℕ → ℤ). excess g a b x u) (sym values_are);
   }
 
 -- a node outside the tree has no edge, and is not the start or the end
 excess_outside : (g : Graph) (a b : ℕ) (x : ℕ → ℤ) (t : NodeSet) (u : ℕ) → HasEveryEnd g t → t a ≡ true → t b ≡ true → t u ≡ false → excess g a b x u ≡ pos 0
 excess_outside g a b x t u ends ta tb h =
-    let p = total_zero g.edges (λ e. if g.to e == u then x e else pos 0) (λ e l. ap (λ c. cond c (x e) (pos 0)) (apart (g.to e) (ends e l).1)) in
-    let q = total_zero g.edges (λ e. if g.from e == u then x e else pos 0) (λ e l. ap (λ c. cond c (x e) (pos 0)) (apart (g.from e) (ends e l).0)) in
-    let r : one_at a u ≡ pos 0 = ap (λ c. cond c (pos 1) (pos 0)) (eqb_swap u a ∙ apart a ta) in
-    let k : one_at b u ≡ pos 0 = ap (λ c. cond c (pos 1) (pos 0)) (eqb_swap u b ∙ apart b tb) in
-    omega (arith, ints, p, q, r, k)
+    let p = total_zero g.edges (λ e. if g.to e == u then x e else pos 0) (λ e l. apart (g.to e) (ends e l).1 (x e)) in
+    let q = total_zero g.edges (λ e. if g.from e == u then x e else pos 0) (λ e l. apart (g.from e) (ends e l).0 (x e)) in
+    omega (arith, ints, p, q, rw (eqb_swap a u) at (apart a ta (pos 1)), rw (eqb_swap b u) at (apart b tb (pos 1)))
   where
-    apart : (v : ℕ) → t v ≡ true → (v == u) ≡ false
-    apart v k = ne_eqb v u (λ c. true_or_false (t v) k (ap t c ∙ h))
+    apart : (v : ℕ) → t v ≡ true → (z : ℤ) → cond (v == u) z (pos 0) ≡ pos 0
+    apart v k z = grind arith
 
 pub start_settled : (n : ℕ) (links : List Link) (tree : Tree) (a b : ℕ) (values : List ℤ) → IsGrown (graph_of n links) tree → HasEveryEnd (graph_of n links) (reached_by tree) → reached_by tree a ≡ true → reached_by tree b ≡ true →
     ((e : ℕ) → on (edges_of tree) e ≡ true → int_at values e ≡ pos 0) → Settled (graph_of n links) (λ e. 0) tree.root a b (edges_of tree) (int_at values)
@@ -153,7 +147,7 @@ pub start_peeled : (n m : ℕ) (links : List Link) (tree : Tree) (a b : ℕ) (le
     IsGrown (graph_of n links) tree → HasEveryEnd (graph_of n links) (reached_by tree) → reached_by tree a ≡ true → reached_by tree b ≡ true → length values ≡ length links → length ex ≡ m →
     ((e : ℕ) → on (edges_of tree) e ≡ true → int_at values e ≡ pos 0) → ((u : ℕ) → u < m → int_at ex u ≡ excess (graph_of m links) a b (int_at values) u) →
     IsPeeled n links tree.root a b left values ex
-start_peeled n m links tree a b left values ex c e h ends ta tb lv le unset is = subst (λ (js : List Join). IsPeeled n links tree.root a b js values ex) (sym e) (record {
+start_peeled n m links tree a b left values ex c e h ends ta tb lv le unset is = rw e (record {
   values_len = lv;
   excess_len = le ∙ c;
   settled = start_settled n links tree a b values h ends ta tb unset;
@@ -163,21 +157,14 @@ start_peeled n m links tree a b left values ex c e h ends ta tb lv le unset is =
 
 -- a tree has numbers of nodes alone
 pub reached_below : (n : ℕ) (links : List Link) (tree : Tree) (v : ℕ) → IsGrown (graph_of n links) tree → reached_by tree v ≡ true → v < n
-reached_below n links tree v h t = let k = marked_below tree.reached.items v t in let l = h.len in omega (arith, k, l)
+reached_below n links tree v h t = omega (arith, marked_below tree.reached.items v t, h.len)
 
 -- as the loop meets these facts
-pub last_peeled : (n : ℕ) (links : List Link) (root a b : ℕ) (all left : List Join) (j : Join) (values ex : List ℤ) → all ≡ left ++ j ∷ [] → IsPeeled n links root a b all values ex → IsPeeled n links root a b (left ++ j ∷ []) values ex
-last_peeled n links root a b all left j values ex e h = subst (λ (js : List Join). IsPeeled n links root a b js values ex) e h
-
-pub peeled_as : (n : ℕ) (links : List Link) (root a b : ℕ) (left : List Join) (values ex values' ex' : List ℤ) → values' ≡ values → ex' ≡ ex → IsPeeled n links root a b left values ex → IsPeeled n links root a b left values' ex'
-peeled_as n links root a b left values ex values' ex' c d h =
-    subst (λ (v : List ℤ). IsPeeled n links root a b left v ex') (sym c) (subst (λ (x : List ℤ). IsPeeled n links root a b left values x) (sym d) h)
-
 pub on_longer : (left : List Join) (j : Join) (all : List Join) (e : ℕ) → all ≡ left ++ j ∷ [] → on (edges_in left) e ≡ true → on (edges_in all) e ≡ true
-on_longer left j all e h o = ap (λ (js : List Join). on (edges_in js) e) h ∙ ap (λ (es : List ℕ). on es e) (edges-push left j) ∙ on_in_push (edges_in left) j.edge e o
+on_longer left j all e h o = rw (h, edges-push left j) (on_in_push (edges_in left) j.edge e o)
 
 pub on_last : (left : List Join) (j : Join) (all : List Join) → all ≡ left ++ j ∷ [] → on (edges_in all) j.edge ≡ true
-on_last left j all h = ap (λ (js : List Join). on (edges_in js) j.edge) h ∙ ap (λ (es : List ℕ). on es j.edge) (edges-push left j) ∙ on_pushed (edges_in left) j.edge
+on_last left j all h = rw (h, edges-push left j) (on_pushed (edges_in left) j.edge)
 
 pub none_left : (n : ℕ) (links : List Link) (root a b : ℕ) (left : List Join) (values ex : List ℤ) → length left ≡ 0 → IsPeeled n links root a b left values ex → Settled (graph_of n links) (λ e. 0) root a b [] (int_at values)
 none_left n links root a b [] values ex e h = h.settled

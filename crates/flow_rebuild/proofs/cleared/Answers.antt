@@ -9,10 +9,7 @@ pub loop-join-preserved : goal.loop-join-preserved
 loop-join-preserved c = record {
   len = search rules;
   small = All-set (λ (z : ℤ). nat_abs z < 2 ^ 64) c.loop-join.cleared.items _ (pos 0) (omega arith) c.loop-join.invariant.small;
-  less =
-      let a = abs_set c.loop-join.cleared.items (get_or c.args.joins.now c.loop-join.join-index none).edge (pos 0) there in
-      let b = c.loop-join.invariant.less in
-      omega (arith, a, b);
+  less = omega (arith, abs_set c.loop-join.cleared.items (get_or c.args.joins.now c.loop-join.join-index none).edge (pos 0) there, c.loop-join.invariant.less);
   kept = cleared_more c.args.values.now c.loop-join.cleared.items c.args.joins.now c.loop-join.join-index none c.loop-join-test.true there c.loop-join.invariant.kept;
   unset = cleared_on c.loop-join.cleared.items c.args.joins.now c.loop-join.join-index none c.loop-join-test.true there c.loop-join.invariant.unset;
 }
@@ -21,4 +18,4 @@ loop-join-preserved c = record {
     none = record { edge = 0; node = 0 }
 
     there : (get_or c.args.joins.now c.loop-join.join-index none).edge < length c.loop-join.cleared.items
-    there = let k = c.requires.joins c.loop-join.join-index none c.loop-join-test.true in let l = c.loop-join.invariant.len in omega (arith, k, l)
+    there = omega (arith, c.requires.joins c.loop-join.join-index none c.loop-join-test.true, c.loop-join.invariant.len)

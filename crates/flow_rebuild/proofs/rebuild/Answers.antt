@@ -1,7 +1,6 @@
-use Rattle.std.proofs.Common.{rules, ◌≡◌, ◌≤◌, ◌+◌, ◌*◌, ℕ, ◌<◌, List, length, sym, subst, arith, ap, ◌∙◌, true, false}
+use Rattle.std.proofs.Common.{rules, ◌≡◌, ◌≤◌, ◌+◌, ◌*◌, List, length, arith, ap, ◌∙◌}
 use Rattle.std.specs.Prelude.{ℤ, pos, nat_abs}
 use Rattle.std.proofs.lemmas.List.{get_or-set_other}
-use Rattle.std.specs.List.{All}
 use Rattle.std.proofs.lemmas.List.Elements.{All-from_get_or, All-set}
 use Rattle.std.specs.Slice.Iter.{iter_rest}
 use Rattle.flows.specs.Links.{graph_of, link_at}
@@ -9,63 +8,50 @@ use Rattle.flows.specs.Trees.{on}
 use Rattle.flows.proofs.Bools.{true_or_false}
 use Rattle.flow_rebuild.specs.Excess.{excess}
 use Rattle.flow_rebuild.specs.Values.{abs_sum, carries, int_at}
-use Rattle.flow_tree.specs.Tree.{edges_in, edges_of}
-use Rattle.flow_tree.specs.declared.Join.{Join}
-use Rattle.flow_rebuild.proofs.Peel.{last_peeled, peel_step, on_longer, the_flow, none_left, on_last, node_inside, reached_below, edge_inside, start_peeled, peel_small, peeled_as}
+use Rattle.flow_tree.specs.Tree.{edges_of}
+use Rattle.flow_rebuild.proofs.Peel.{peel_step, on_longer, the_flow, none_left, on_last, node_inside, reached_below, edge_inside, start_peeled, peel_small}
 use Rattle.flow_rebuild.proofs.Sums.{abs_bound, abs_carries, small_at}
 use Rattle.flow_tree.proofs.Check.{linked_nodes}
 use Rattle.flow_rebuild.proofs.rebuild.Goals as goal
 
 pub cleared-requires-clause-joins : goal.cleared-requires-clause-joins
-cleared-requires-clause-joins c = subst (λ (js : List Join). All (λ j. j.edge < length c.args.values.now) js) (sym c.deref.ensures.value)
-    (subst (λ (n : ℕ). All (λ j. j.edge < n) c.args.tree.now.joins.items) (sym c.requires.values) c.requires.tree.inside)
+cleared-requires-clause-joins c = rw (c.deref.ensures.value, c.requires.values) c.requires.tree.inside
 
 pub excesses-requires-clause-small : goal.excesses-requires-clause-small
 excesses-requires-clause-small c = abs_bound c.deref-2.result.now (search rules) (search rules)
 
 pub bounds-links-join : goal.bounds-links-join
-bounds-links-join c = edge_inside (length c.args.tree.now.reached.items) c.args.links.now c.args.tree.now.root c.args.start c.args.end (iter_rest c.next.new.self.iter) c.in-Some.join.now c.loop-join.flow.items c.loop-join.excess.items (linked_nodes c.args.tree.now.reached.items c.args.links.now c.requires.ends) (last_peeled _ _ _ _ _ _ (iter_rest c.next.new.self.iter) c.in-Some.join.now _ _ c.in-Some.ensures.steps c.loop-join.invariant.peeled)
+bounds-links-join c = edge_inside _ _ (linked_nodes c.args.tree.now.reached.items c.args.links.now c.requires.ends) (rw c.in-Some.ensures.steps at c.loop-join.invariant.peeled)
 
 pub offset_bounds-links-join : goal.offset_bounds-links-join
-offset_bounds-links-join c = let k = edge_inside (length c.args.tree.now.reached.items) c.args.links.now c.args.tree.now.root c.args.start c.args.end (iter_rest c.next.new.self.iter) c.in-Some.join.now c.loop-join.flow.items c.loop-join.excess.items (linked_nodes c.args.tree.now.reached.items c.args.links.now c.requires.ends) (last_peeled _ _ _ _ _ _ (iter_rest c.next.new.self.iter) c.in-Some.join.now _ _ c.in-Some.ensures.steps c.loop-join.invariant.peeled) in omega (arith, k)
+offset_bounds-links-join c = let k = edge_inside _ _ (linked_nodes c.args.tree.now.reached.items c.args.links.now c.requires.ends) (rw c.in-Some.ensures.steps at c.loop-join.invariant.peeled) in omega (arith, k)
 
-pub settle-requires-clause-edge : goal.settle-requires-clause-edge
-settle-requires-clause-edge c = let k = edge_inside (length c.args.tree.now.reached.items) c.args.links.now c.args.tree.now.root c.args.start c.args.end (iter_rest c.next.new.self.iter) c.in-Some.join.now c.loop-join.flow.items c.loop-join.excess.items (linked_nodes c.args.tree.now.reached.items c.args.links.now c.requires.ends) (last_peeled _ _ _ _ _ _ (iter_rest c.next.new.self.iter) c.in-Some.join.now _ _ c.in-Some.ensures.steps c.loop-join.invariant.peeled) in let l = c.loop-join.invariant.peeled.values_len in omega (arith, k, l)
-
-pub settle-requires-clause-node : goal.settle-requires-clause-node
-settle-requires-clause-node c = let k = node_inside (length c.args.tree.now.reached.items) c.args.links.now c.args.tree.now.root c.args.start c.args.end (iter_rest c.next.new.self.iter) c.in-Some.join.now c.loop-join.flow.items c.loop-join.excess.items (linked_nodes c.args.tree.now.reached.items c.args.links.now c.requires.ends) (last_peeled _ _ _ _ _ _ (iter_rest c.next.new.self.iter) c.in-Some.join.now _ _ c.in-Some.ensures.steps c.loop-join.invariant.peeled) in let l = c.loop-join.invariant.peeled.excess_len in omega (arith, k, l)
-
-pub settle-requires-clause-from : goal.settle-requires-clause-from
-settle-requires-clause-from c = let k = linked_nodes c.args.tree.now.reached.items c.args.links.now c.requires.ends c.in-Some.join.now.edge (record { from = 0; to = 0 }) (edge_inside (length c.args.tree.now.reached.items) c.args.links.now c.args.tree.now.root c.args.start c.args.end (iter_rest c.next.new.self.iter) c.in-Some.join.now c.loop-join.flow.items c.loop-join.excess.items (linked_nodes c.args.tree.now.reached.items c.args.links.now c.requires.ends) (last_peeled _ _ _ _ _ _ (iter_rest c.next.new.self.iter) c.in-Some.join.now _ _ c.in-Some.ensures.steps c.loop-join.invariant.peeled)) in let l = c.loop-join.invariant.peeled.excess_len in omega (arith, k.0, l)
-
-pub settle-requires-clause-to : goal.settle-requires-clause-to
-settle-requires-clause-to c = let k = linked_nodes c.args.tree.now.reached.items c.args.links.now c.requires.ends c.in-Some.join.now.edge (record { from = 0; to = 0 }) (edge_inside (length c.args.tree.now.reached.items) c.args.links.now c.args.tree.now.root c.args.start c.args.end (iter_rest c.next.new.self.iter) c.in-Some.join.now c.loop-join.flow.items c.loop-join.excess.items (linked_nodes c.args.tree.now.reached.items c.args.links.now c.requires.ends) (last_peeled _ _ _ _ _ _ (iter_rest c.next.new.self.iter) c.in-Some.join.now _ _ c.in-Some.ensures.steps c.loop-join.invariant.peeled)) in let l = c.loop-join.invariant.peeled.excess_len in omega (arith, k.1, l)
-
-pub settle-requires-clause-small : goal.settle-requires-clause-small
-settle-requires-clause-small c =
-    let k = abs_bound c.args.values.now (search rules) c.requires.small in
-    let m = c.loop-join.invariant.small in
-    omega (arith, k, m)
+pub settle-requires : goal.settle-requires
+settle-requires c =
+    let ok = linked_nodes c.args.tree.now.reached.items c.args.links.now c.requires.ends in
+    let h = rw c.in-Some.ensures.steps at c.loop-join.invariant.peeled in
+    let inside = edge_inside _ _ ok h in
+    let ends = ok c.in-Some.join.now.edge (record { from = 0; to = 0 }) inside in
+    record {
+      edge = omega (arith, inside, h.values_len);
+      from = omega (arith, ends.0, h.excess_len);
+      to = omega (arith, ends.1, h.excess_len);
+      node = omega (arith, node_inside _ _ ok h, h.excess_len);
+      small = omega (arith, abs_bound c.args.values.now (search rules) c.requires.small, c.loop-join.invariant.small);
+    }
 
 pub loop-join-preserved : goal.loop-join-preserved
 loop-join-preserved c = record {
-  peeled = peeled_as _ _ _ _ _ _ _ _ _ _ c.settle.ensures.values c.settle.ensures.excess (peel_step (length c.args.tree.now.reached.items) c.args.links.now c.args.tree.now.root c.args.start c.args.end (iter_rest c.next.new.self.iter) c.in-Some.join.now c.loop-join.flow.items c.loop-join.excess.items (linked_nodes c.args.tree.now.reached.items c.args.links.now c.requires.ends) (last_peeled _ _ _ _ _ _ (iter_rest c.next.new.self.iter) c.in-Some.join.now _ _ c.in-Some.ensures.steps c.loop-join.invariant.peeled));
+  peeled = rw (c.settle.ensures.values, c.settle.ensures.excess) (peel_step _ _ (linked_nodes c.args.tree.now.reached.items c.args.links.now c.requires.ends) (rw c.in-Some.ensures.steps at c.loop-join.invariant.peeled));
   small =
-      let k = peel_small (length c.args.tree.now.reached.items) c.args.links.now c.args.tree.now.root c.args.start c.args.end (iter_rest c.next.new.self.iter) c.in-Some.join.now c.loop-join.flow.items c.loop-join.excess.items (linked_nodes c.args.tree.now.reached.items c.args.links.now c.requires.ends) (last_peeled _ _ _ _ _ _ (iter_rest c.next.new.self.iter) c.in-Some.join.now _ _ c.in-Some.ensures.steps c.loop-join.invariant.peeled) in
-      let l = ap abs_sum c.settle.ensures.excess in
-      let m = c.loop-join.invariant.small in
-      omega (arith, k, l, m);
+      let k = peel_small _ _ (linked_nodes c.args.tree.now.reached.items c.args.links.now c.requires.ends) (rw c.in-Some.ensures.steps at c.loop-join.invariant.peeled) in
+      omega (arith, k, ap abs_sum c.settle.ensures.excess, c.loop-join.invariant.small);
   values =
-      let limit = 2 * abs_sum c.args.values.now + 2 in
-      let edge = c.in-Some.join.now.edge in
-      let node = c.in-Some.join.now.node in
+      let edge = c.in-Some.join.now.edge in let node = c.in-Some.join.now.node in
       let moved = int_at c.loop-join.excess.items node in
-      let k = small_at c.loop-join.excess.items node in
-      let l = abs_carries (link_at c.args.links.now edge) node moved in
-      let m = c.loop-join.invariant.small in
-      subst (All (λ (z : ℤ). nat_abs z ≤ limit)) (sym c.settle.ensures.values)
-      (All-set (λ (z : ℤ). nat_abs z ≤ limit) c.loop-join.flow.items edge
-      (carries (link_at c.args.links.now edge) node moved) (omega (arith, k, l, m)) c.loop-join.invariant.values);
+      let k = small_at c.loop-join.excess.items node in let l = abs_carries (link_at c.args.links.now edge) node moved in
+      rw c.settle.ensures.values (All-set (λ (z : ℤ). nat_abs z ≤ 2 * abs_sum c.args.values.now + 2) c.loop-join.flow.items edge
+      (carries (link_at c.args.links.now edge) node moved) (omega (arith, k, l, c.loop-join.invariant.small)) c.loop-join.invariant.values);
   inside = λ e o. c.loop-join.invariant.inside e (on_longer (iter_rest c.next.new.self.iter) c.in-Some.join.now (iter_rest c.loop-join.join-iterator.iter) e c.in-Some.ensures.steps o);
   agrees = λ e o. ap (λ xs. int_at xs e) c.settle.ensures.values
       ∙ get_or-set_other c.loop-join.flow.items c.in-Some.join.now.edge e _ (pos 0)
@@ -78,20 +64,15 @@ pub loop-join-init : goal.loop-join-init
 loop-join-init c = record {
   peeled = start_peeled (length c.args.tree.now.reached.items) c.len.result c.args.links.now c.args.tree.now c.args.start c.args.end _ c.in_ok-flow.flow.items c.in_ok-excess.excess.items (search rules) left c.requires.tree (λ e l. c.requires.ends e _ l) c.requires.start c.requires.end
       (c.in_ok-flow.ensures.len ∙ c.requires.values) c.in_ok-excess.ensures.len
-      (λ e o. c.in_ok-flow.ensures.unset e (subst (λ (js : List Join). on (edges_in js) e ≡ true) (sym c.deref.ensures.value) o))
+      (λ e o. c.in_ok-flow.ensures.unset e (rw c.deref.ensures.value o))
       (λ u l. c.in_ok-excess.ensures.excess u l ∙ ap (λ (xs : List ℤ). excess (graph_of c.len.result c.args.links.now) c.args.start c.args.end (int_at xs) u) c.deref-2.ensures.value);
   small =
-      let k = c.in_ok-excess.ensures.small in
       let l : abs_sum c.deref-2.result.now ≡ abs_sum c.in_ok-flow.flow.items = ap abs_sum c.deref-2.ensures.value in
-      let m = c.in_ok-flow.ensures.less in
-      omega (arith, k, l, m);
+      omega (arith, c.in_ok-excess.ensures.small, l, c.in_ok-flow.ensures.less);
   values = All-from_get_or (λ (z : ℤ). nat_abs z ≤ 2 * abs_sum c.args.values.now + 2) c.in_ok-flow.flow.items (pos 0)
-      (λ e l.
-      let k = small_at c.in_ok-flow.flow.items e in
-      let m = c.in_ok-flow.ensures.less in
-      omega (arith, k, m));
-  inside = λ e o. subst (λ (js : List Join). on (edges_in js) e ≡ true) left o;
-  agrees = λ e o. c.in_ok-flow.ensures.kept e (subst (λ (js : List Join). on (edges_in js) e ≡ false) (sym c.deref.ensures.value) o);
+      (λ e l. omega (arith, small_at c.in_ok-flow.flow.items e, c.in_ok-flow.ensures.less));
+  inside = λ e o. rw left at o;
+  agrees = λ e o. c.in_ok-flow.ensures.kept e (rw c.deref.ensures.value o);
 }
   where
     left : iter_rest c.into_iter-join-iterator.result.iter ≡ c.args.tree.now.joins.items
