@@ -30,8 +30,7 @@ abbrev count_if : Bool → ℕ
 count_if x = if x then 1 else 0
 
 only_runs : (x y : Bool) → y ≡ true → count_if (x && y) ≡ count_if x
-only_runs true y h = ap count_if h
-only_runs false y h = refl
+only_runs x y h = grind arith
 
 pub record About (text : Words) (b : Blocks) (entry : ℕ) (o : Open) (cond : ℕ) (annul : Bool) : Type 0 where
   pub from_in : o.switch.compare.0 < length b.firsts

@@ -12,7 +12,6 @@ use Rattle.v8_step.specs.State.{State, sum_of}
 use Rattle.v8_step.specs.Step.{act, step_of}
 use Rattle.v8_step.specs.Run.{run}
 use Rattle.v8_step.specs.Items.{is_transfer as transfers}
-use Rattle.cfg_blocks.specs.declared.EdgeKind.TheVariants as kinds
 use Rattle.cfg_blocks.specs.Switches.{is_taken, runs_slot}
 use Rattle.cfg_walk.specs.Walk.{way_of}
 use Rattle.std.specs.Int.{w32, cast_unsigned}
@@ -37,11 +36,7 @@ TellsBy cond annul disp t y holds =
 
 tells_taken : (cond : ℕ) (annul : Bool) (disp : ℤ) (s : State) (to : ℕ) (y : Slot)
     → TellsBy cond annul disp (delayed s to) y true
-tells_taken cond annul disp s to Taken not e = (refl, by annul)
-  where
-    by : (annul : Bool) → runs_slot annul kinds.Taken ≡ true
-    by true = refl
-    by false = refl
+tells_taken cond annul disp s to Taken not e = (refl, grind arith)
 tells_taken cond annul disp s to NoSlot not e = absurd (not refl)
 tells_taken cond annul disp s to Untaken not e = absurd (cc)
 

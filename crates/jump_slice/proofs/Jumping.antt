@@ -8,16 +8,14 @@ use Rattle.eel_base.specs.CodeText.{Words, word_at}
 use Rattle.v8_step.specs.declared.Slot.TheVariants.{NoSlot, Taken}
 use Rattle.v8_step.specs.State.{State, register_of}
 use Rattle.v8_step.specs.Run.{run}
-use Rattle.cfg_blocks.specs.Blocks.{Blocks, blocks_of, holding_of, last_word}
-use Rattle.cfg_blocks.specs.Entries.{Entered, entered_of}
+use Rattle.cfg_blocks.specs.Blocks.{holding_of, last_word}
+use Rattle.cfg_blocks.specs.Entries.{entered_of}
 use Rattle.cfg_blocks.specs.Switches.{runs_slot}
 use Rattle.cfg_normal.specs.declared.Node.{Node}
 use Rattle.cfg_normal.specs.declared.Node.TheVariants.{Block, Landed, X}
 use Rattle.cfg_normal.specs.Opens.{Open, jumps_in}
-use Rattle.cfg_normal.specs.Graph.{Graph, graph_of}
 use Rattle.cfg_walk.specs.Walk.{point_of}
 use Rattle.cfg_walk.specs.Matches.{GoesByCase, IsTarget}
-use Rattle.cfg_walk.proofs.Cut.{IsCut, cut}
 use Rattle.cfg_walk.proofs.Edges.{block}
 use Rattle.cfg_blocks.specs.declared.switches.Approach.{Approach}
 use Rattle.cfg_walk.proofs.Leaving.{transfer_ends}
@@ -28,24 +26,12 @@ use Rattle.jump_slice.specs.Runs.{ComesAlong, GoesIntoTable, to_branch, to_jump}
 use Rattle.jump_slice.proofs.About.{About, about, in_targets, target_among}
 use Rattle.jump_slice.proofs.Whole.{switches_hold}
 use Rattle.jump_slice.proofs.Branching.{run_add, taken_not}
-use Rattle.jump_slice.proofs.Known.{Carries, IsRun, Tells, carried, holds_word, known_outside, sets_transfer}
+use Rattle.jump_slice.proofs.Known.{Carries, IsRun, Tells, b, carried, holds_word, known_outside, list, parts, sets_transfer}
 
 module _ {text : Words} {given : List ℕ} {entry : ℕ} {opens : List Open} {s0 : State}
     (r : IsRun text given entry opens s0) where
-  abbrev list : Entered
-  list = entered_of text given
-
-  abbrev b : Blocks
-  b = blocks_of text given
-
-  abbrev graph : Graph
-  graph = graph_of b opens
-
-  parts : IsCut text b
-  parts = cut text given r.is_text.some
-
   -- the law of one switch, for an open one
-  held : (o : Open) (is : IsOpen text list entry o) (runs : Bool) → runs_slot is.annul o.way ≡ runs → (m : ℕ)
+  held : (o : Open) (is : IsOpen text (list r) entry o) (runs : Bool) → runs_slot is.annul o.way ≡ runs → (m : ℕ)
       → ComesAlong text o.approach is.cond is.annul o.way (run s0 m)
       → GoesIntoTable text o.switch (register_of (run s0 m) o.approach.compare.register)
       (run (run s0 m) (to_jump o.approach runs))
@@ -67,18 +53,18 @@ module _ {text : Words} {given : List ℕ} {entry : ℕ} {opens : List Open} {s0
       c : Carries r n (block k)
       c = carried r n (block k) live
 
-      from : ComesFromCompare text list entry opens s0 n k c.word
+      from : ComesFromCompare text (list r) entry opens s0 n k c.word
       from = (known_outside r n (block k) h slot).1 k refl jumps c.word c.at
 
       o : Open
       o = from.switch
 
-      a : About text b entry o from.is.cond from.is.annul
+      a : About text (b r) entry o from.is.cond from.is.annul
       a = about text given entry r.is_text o from.is
 
-      last : c.word ≡ last_word b.firsts b.words (holding_of b c.word)
+      last : c.word ≡ last_word (b r).firsts (b r).words (holding_of (b r) c.word)
       last =
-          transfer_ends text b opens parts c.word c.low
+          transfer_ends text (b r) opens (parts r) c.word c.low
           (transfer_at text c.word (sets_transfer r n (block k) c (λ e. taken_not (sym taken ∙ e))))
 
       at_jump : c.word ≡ o.approach.jump

@@ -1,8 +1,8 @@
 -- What is known of a run where its walk stands about open switches, and what a step carries out there.
-use Rattle.std.proofs.Common.{◌≡◌, ◌≢◌, ℕ, suc, ◌+◌, ◌-◌, ◌<◌, Bool, true, false, not, ◌&&◌, List, length, Option, Some, None, refl, ap, sym, ◌∙◌, arith, slice_index}
-use Rattle.std.specs.Prelude.{if◌then◌else◌, ◌==◌}
+use Rattle.std.proofs.Common.{◌≡◌, ◌≢◌, ℕ, suc, ◌+◌, ◌-◌, ◌<◌, true, ◌&&◌, List, length, Option, Some, None, inl, inr, refl, ap, sym, ◌∙◌, arith, slice_index}
+use Rattle.std.specs.Prelude.{◌==◌}
 use Rattle.std.specs.List.{Contains}
-use Rattle.std.proofs.lemmas.Bool.{and_parts, eqb-true, false≢true, lt-ltb}
+use Rattle.std.proofs.lemmas.Bool.{and_parts, cases_Bool, eqb-true, false≢true, lt-ltb}
 use Rattle.eel_base.specs.CodeText.{Words, IsText, word_at}
 use Rattle.v8_step.specs.declared.Slot.{Slot}
 use Rattle.v8_step.specs.declared.Slot.TheVariants.{NoSlot}
@@ -24,7 +24,7 @@ use Rattle.cfg_normal.specs.Graph.{Graph, IsNodeIn, directed, graph_of, is_compa
 use Rattle.cfg_walk.specs.Walk.{instr_at, point_of, same_kind, way_of}
 use Rattle.cfg_walk.specs.Matches.{AreOpen, BeginsAt, FetchesOnly, Matches, MatchesBy}
 use Rattle.cfg_walk.proofs.Cut.{IsCut, cut}
-use Rattle.cfg_walk.proofs.Edges.{block, copy}
+use Rattle.cfg_walk.proofs.Edges.{block}
 use Rattle.cfg_blocks.specs.Ends.{within}
 use Rattle.cfg_blocks.proofs.Targets.{IsWord}
 use Rattle.cfg_walk.proofs.Addresses.{word_at-address}
@@ -51,14 +51,7 @@ block_number X = 0
 -- where an edge leads to the block itself of a jump, it is that of the comparison
 compared_edge : (opens : List Open) (from : Node) (kind : EdgeKind) (to k : ℕ)
     → directed opens from kind (block to) ≡ block k → jumps_in opens k ≡ true → is_compared opens from kind k ≡ true
-compared_edge opens from kind to k e jumps = by (jumps_in opens to) refl (is_compared opens from kind to) refl e
-  where
-    by : (x : Bool) → jumps_in opens to ≡ x → (y : Bool) → is_compared opens from kind to ≡ y
-        → (if x && not y then copy to else block to) ≡ block k → is_compared opens from kind k ≡ true
-    by true f true g e = let same : to ≡ k = ap block_number e in rw same at g
-    by true f false g e = absurd (cc)
-    by false f y g e =
-        let same : to ≡ k = ap block_number e in absurd (false≢true (sym f ∙ ap (jumps_in opens) same ∙ jumps))
+compared_edge opens from kind to k e jumps = grind arith
 
 -- so it leaves the comparison's block by the way of an open switch
 pub record IsWayOf (text : Words) (list : Entered) (entry : ℕ) (opens : List Open) (from : Node) (kind : EdgeKind) (k : ℕ)
@@ -78,14 +71,8 @@ way_of_open text list entry opens all (Block c) kind k h =
     (λ (o : Open). (o.block == k) && (o.switch.compare.0 == c.0) && same_kind kind o.way) h in
     let one = and_parts ((o.0.block == k) && (o.0.switch.compare.0 == c.0)) (same_kind kind o.0.way) o.2 in
     let two = and_parts (o.0.block == k) (o.0.switch.compare.0 == c.0) one.0 in
-    record {
-      o = o.0;
-      among = o.1;
-      is = o.3;
-      block_is = eqb-true o.0.block k two.0;
-      from_is = ap block (sym (eqb-true o.0.switch.compare.0 c.0 two.1));
-      kind_is = same_kinds kind o.0.way one.1;
-    }
+    let from = ap block (sym (eqb-true o.0.switch.compare.0 c.0 two.1)) in
+    record { o = o.0; among = o.1; is = o.3; block_is = eqb-true o.0.block k two.0; from_is = from; kind_is = same_kinds kind o.0.way one.1 }
 way_of_open text list entry opens all (Landed c) kind k h = absurd (false≢true h)
 way_of_open text list entry opens all X kind k h = absurd (false≢true h)
 
@@ -100,16 +87,16 @@ pub record IsRun (text : Words) (given : List ℕ) (entry : ℕ) (opens : List O
 
 module _ {text : Words} {given : List ℕ} {entry : ℕ} {opens : List Open} {s0 : State}
     (r : IsRun text given entry opens s0) where
-  abbrev list : Entered
+  abbrev pub list : Entered
   list = entered_of text given
 
-  abbrev b : Blocks
+  abbrev pub b : Blocks
   b = blocks_of text given
 
-  abbrev graph : Graph
+  abbrev pub graph : Graph
   graph = graph_of b opens
 
-  parts : IsCut text b
+  pub parts : IsCut text b
   parts = cut text given r.is_text.some
 
   pub opened : AreOpen b opens
@@ -255,8 +242,7 @@ module _ {text : Words} {given : List ℕ} {entry : ℕ} {opens : List Open} {s0
   -- a step that sets a slot carries out a transfer
   pub sets_transfer : (n : ℕ) (node : Node) (c : Carries n node) → (run s0 (suc n)).slot ≢ NoSlot
       → transfers (word_instr text c.word) ≡ true
-  sets_transfer n node c sets = by (transfers (word_instr text c.word)) refl
-    where
-      by : (t : Bool) → transfers (word_instr text c.word) ≡ t → transfers (word_instr text c.word) ≡ true
-      by true e = e
-      by false e = absurd (sets (cc (c.acts, (goes_act (run s0 n) (word_instr text c.word) e c.acted).2)))
+  sets_transfer n node c sets = elim (cases_Bool (transfers (word_instr text c.word))) [
+    | inl e ↦ e
+    | inr e ↦ absurd (sets (cc (c.acts, (goes_act (run s0 n) (word_instr text c.word) e c.acted).2)))
+  ]

@@ -1,7 +1,7 @@
 -- An open switch's jump goes to an entry that an LD of its own block loads.
 use Rattle.std.proofs.Common.{◌≡◌, ◌≢◌, ℕ, zero, suc, ◌+◌, ◌-◌, ◌<◌, ◌≤◌, true, false, List, [], ◌∷◌, map, slice_set, refl, ap, sym, ◌∙◌, arith, inl, inr}
 use Rattle.std.specs.Prelude.{◌==◌, ◌⊎◌, slice_index_or}
-use Rattle.std.proofs.lemmas.Bool.{cond_both, false≢true}
+use Rattle.std.proofs.lemmas.Bool.{cond_both}
 use Rattle.eel_base.specs.CodeText.{Words}
 use Rattle.v8_decode.specs.declared.Op2.{Op2}
 use Rattle.v8_decode.specs.declared.Op2.TheVariants as o
@@ -13,11 +13,88 @@ use Rattle.cfg_blocks.specs.declared.switches.Approach.{Approach}
 use Rattle.cfg_blocks.specs.declared.switches.Value.{Value}
 use Rattle.cfg_blocks.specs.declared.switches.Value.TheVariants.{Unknown, Const, Index, Place, Entry}
 use Rattle.cfg_blocks.specs.Switches.{after_slot, before_jump}
-use Rattle.cfg_blocks.specs.Values.{after, all_unknown, either, either_const, followed, if_zero, instr_at, loaded_at, operand_in, plus, plus_const, put, shifted, sum_in, unknown, value_in}
+use Rattle.cfg_blocks.specs.Values.{after, either, either_const, followed, if_zero, instr_at, loaded_at, operand_in, plus, plus_const, put, shifted, sum_in, unknown, value_in}
 use Rattle.cfg_normal.specs.Opens.{Open, is_entry, loaded_here, loads_by, loads_here, unloaded}
-use Rattle.cfg_walk.proofs.Lists.{Each, each, each-map}
+use Rattle.cfg_walk.proofs.Lists.{each}
 use Rattle.jump_slice.specs.Joined.{HasLoad}
 use Rattle.jump_slice.proofs.Parts.{IsJump}
+
+-- ---- what is so of the values of two lists, register by register, stays so after an instruction
+
+record IsKept (R : Value → Value → Type 0) : Type 0 where
+  none : R Unknown Unknown
+  const : (n : ℕ) → R (Const n) (Const n)
+  plus : (u v s t : Value) → R u v → R s t → R (plus u s) (plus v t)
+  either : (u v s t : Value) → R u v → R s t → R (either u s) (either v t)
+  shifted : (u v s t : Value) → R u v → R s t → R (shifted u s) (shifted v t)
+
+module _ (R : Value → Value → Type 0) (kept : IsKept R) where
+  abbrev All : List Value → List Value → Type 0
+  All [] [] = Unit {0}
+  All (u ∷ us) (v ∷ vs) = R u v × All us vs
+  All _ _ = ⊥
+
+  all_unloaded : ((v : Value) → R (unloaded v) v) → (vs : List Value) → All (map unloaded vs) vs
+  all_unloaded each [] = tt
+  all_unloaded each (v ∷ vs) = (each v, all_unloaded each vs)
+
+  all_none : (n : ℕ) → All (unknown n) (unknown n)
+  all_none zero = tt
+  all_none (suc n) = (kept.none, all_none n)
+
+  all_at : (us vs : List Value) (r : ℕ) → All us vs → R (slice_index_or us r Unknown) (slice_index_or vs r Unknown)
+  all_at [] [] r h = kept.none
+  all_at (u ∷ us) (v ∷ vs) zero h = h.0
+  all_at (u ∷ us) (v ∷ vs) (suc r) h = all_at us vs r h.1
+  all_at [] (v ∷ vs) r h = absurd h
+  all_at (u ∷ us) [] r h = absurd h
+
+  all_set : (us vs : List Value) (r : ℕ) (u v : Value) → All us vs → R u v → All (slice_set us r u) (slice_set vs r v)
+  all_set [] [] r u v h k = tt
+  all_set (x ∷ us) (y ∷ vs) zero u v h k = (k, h.1)
+  all_set (x ∷ us) (y ∷ vs) (suc r) u v h k = (h.0, all_set us vs r u v h.1 k)
+  all_set [] (y ∷ vs) r u v h k = absurd h
+  all_set (x ∷ us) [] r u v h k = absurd h
+
+  all_put : (us vs : List Value) (r : ℕ) (u v : Value) → All us vs → R u v → All (put us r u) (put vs r v)
+  all_put us vs zero u v h k = h
+  all_put us vs (suc r) u v h k = all_set us vs (suc r) u v h k
+
+  all_value : (us vs : List Value) (r : ℕ) → All us vs → R (value_in us r) (value_in vs r)
+  all_value us vs zero h = kept.const 0
+  all_value us vs (suc r) h = all_at us vs (suc r) h
+
+  all_operand : (us vs : List Value) (op2 : Op2) → All us vs → R (operand_in us op2) (operand_in vs op2)
+  all_operand us vs (o.Reg r) h = all_value us vs r h
+  all_operand us vs (o.Imm n) h = kept.const _
+
+  all_sum : (us vs : List Value) (rs1 : ℕ) (op2 : Op2) → All us vs → R (sum_in us rs1 op2) (sum_in vs rs1 op2)
+  all_sum us vs rs1 op2 h = kept.plus _ _ _ _ (all_value us vs rs1 h) (all_operand us vs op2 h)
+
+  all_after : (us vs : List Value) (instr : Instr) → All us vs
+      → ((rd rs1 : ℕ) (op2 : Op2) → instr ≡ i.Load loads.LD rd rs1 op2 → R (loaded_at (sum_in us rs1 op2)) (loaded_at (sum_in vs rs1 op2)))
+      → All (after us instr) (after vs instr)
+  unfolding after
+  all_after us vs (i.Sethi rd imm22) h k = all_put us vs rd _ _ h (kept.const _)
+  all_after us vs (i.Alu ops.ADD false rd rs1 op2) h k = all_put us vs rd _ _ h (all_sum us vs rs1 op2 h)
+  all_after us vs (i.Alu ops.OR false rd rs1 op2) h k =
+      all_put us vs rd _ _ h (kept.either _ _ _ _ (all_value us vs rs1 h) (all_operand us vs op2 h))
+  all_after us vs (i.Alu ops.SLL false rd rs1 op2) h k =
+      all_put us vs rd _ _ h (kept.shifted _ _ _ _ (all_value us vs rs1 h) (all_operand us vs op2 h))
+  all_after us vs (i.Alu op cc rd rs1 op2) h k = all_put us vs rd _ _ h kept.none
+  all_after us vs (i.Load loads.LD rd rs1 op2) h k = all_put us vs rd _ _ h (k rd rs1 op2 refl)
+  all_after us vs (i.Load loads.LDD rd rs1 op2) h k =
+      all_put (put us rd Unknown) (put vs rd Unknown) (suc rd) _ _ (all_put us vs rd _ _ h kept.none) kept.none
+  all_after us vs (i.Load kind rd rs1 op2) h k = all_put us vs rd _ _ h kept.none
+  all_after us vs (i.ReadY rd) h k = all_put us vs rd _ _ h kept.none
+  all_after us vs (i.Ldstub rd rs1 op2) h k = all_put us vs rd _ _ h kept.none
+  all_after us vs (i.Swap rd rs1 op2) h k = all_put us vs rd _ _ h kept.none
+  all_after us vs (i.Call disp30) h k = all_put us vs 15 _ _ h kept.none
+  all_after us vs (i.Jmpl rd rs1 op2) h k = all_put us vs rd _ _ h kept.none
+  all_after us vs (i.Save rd rs1 op2) h k = all_none 32
+  all_after us vs (i.Restore rd rs1 op2) h k = all_none 32
+  all_after us vs (i.Ticc cond rs1 op2) h k = all_none 32
+  all_after us vs _ h k = h
 
 -- ---- values of which less is known
 
@@ -27,126 +104,30 @@ Less u v = (u ≡ Unknown) ⊎ (u ≡ v)
 -- an operation that knows nothing where it knows nothing of an operand
 less_by : (f : Value → Value → Value) → ((v : Value) → f Unknown v ≡ Unknown) → ((u : Value) → f u Unknown ≡ Unknown)
     → (u v s t : Value) → Less u v → Less s t → Less (f u s) (f v t)
-less_by f first second u v s t (inl e) k = inl (ap (λ x. f x s) e ∙ first s)
-less_by f first second u v s t (inr e) (inl g) = inl (ap (f u) g ∙ second u)
-less_by f first second u v s t (inr e) (inr g) = inr (ap (λ x. f x s) e ∙ ap (f v) g)
+less_by f first second u v s t (inl e) k = inl (cc (e, first s))
+less_by f first second u v s t (inr e) (inl g) = inl (cc (g, second u))
+less_by f first second u v s t (inr e) (inr g) = inr (cc)
 
-nothing_of : (a : ℕ) → if_zero a Unknown ≡ Unknown
-nothing_of a = cond_both (a == 0) Unknown Unknown (λ (v : Value). v ≡ Unknown) (λ _. refl) (λ _. refl)
-
-plus_first : (v : Value) → plus Unknown v ≡ Unknown
-plus_first (Const b) = nothing_of b
-plus_first _ = refl
-
-plus_second : (u : Value) → plus u Unknown ≡ Unknown
-plus_second (Const a) = nothing_of a
-plus_second _ = refl
-
-either_first : (v : Value) → either Unknown v ≡ Unknown
-either_first (Const b) = nothing_of b
-either_first _ = refl
-
-either_second : (u : Value) → either u Unknown ≡ Unknown
-either_second (Const a) = nothing_of a
-either_second _ = refl
-
-shifted_second : (u : Value) → shifted u Unknown ≡ Unknown
-shifted_second Index = refl
-shifted_second _ = refl
+less_kept : IsKept Less
+less_kept = record {
+  none = inl refl;
+  const = λ n. inr refl;
+  plus = less_by plus (λ v. grind arith) (λ u. grind arith);
+  either = less_by either (λ v. grind arith) (λ u. grind arith);
+  shifted = less_by shifted (λ v. refl) (λ u. grind arith);
+}
 
 less_loaded : (u v : Value) → Less u v → Less (loaded_at u) (loaded_at v)
 less_loaded u v (inl e) = inl (ap loaded_at e)
 less_loaded u v (inr e) = inr (ap loaded_at e)
 
--- ---- of registers
-
-abbrev AllLess : List Value → List Value → Type 0
-AllLess [] [] = Unit {0}
-AllLess (u ∷ us) (v ∷ vs) = Less u v × AllLess us vs
-AllLess _ _ = ⊥
-
-less_same : (vs : List Value) → AllLess vs vs
-less_same [] = tt
-less_same (v ∷ vs) = (inr refl, less_same vs)
-
-less_unloaded : (vs : List Value) → AllLess (map unloaded vs) vs
-less_unloaded [] = tt
-less_unloaded (v ∷ vs) = (by v, less_unloaded vs)
-  where
-    by : (v : Value) → Less (unloaded v) v
-    by (Entry c) = inl refl
-    by _ = inr refl
-
-less_at : (us vs : List Value) (r : ℕ) → AllLess us vs
-    → Less (slice_index_or us r Unknown) (slice_index_or vs r Unknown)
-less_at [] [] r h = inl refl
-less_at (u ∷ us) (v ∷ vs) zero h = h.0
-less_at (u ∷ us) (v ∷ vs) (suc r) h = less_at us vs r h.1
-less_at [] (v ∷ vs) r h = absurd h
-less_at (u ∷ us) [] r h = absurd h
-
-less_set : (us vs : List Value) (r : ℕ) (u v : Value) → AllLess us vs → Less u v
-    → AllLess (slice_set us r u) (slice_set vs r v)
-less_set [] [] r u v h k = tt
-less_set (x ∷ us) (y ∷ vs) zero u v h k = (k, h.1)
-less_set (x ∷ us) (y ∷ vs) (suc r) u v h k = (h.0, less_set us vs r u v h.1 k)
-less_set [] (y ∷ vs) r u v h k = absurd h
-less_set (x ∷ us) [] r u v h k = absurd h
-
-less_put : (us vs : List Value) (r : ℕ) (u v : Value) → AllLess us vs → Less u v → AllLess (put us r u) (put vs r v)
-less_put us vs zero u v h k = h
-less_put us vs (suc r) u v h k = less_set us vs (suc r) u v h k
-
-less_value : (us vs : List Value) (r : ℕ) → AllLess us vs → Less (value_in us r) (value_in vs r)
-less_value us vs zero h = inr refl
-less_value us vs (suc r) h = less_at us vs (suc r) h
-
-less_operand : (us vs : List Value) (op2 : Op2) → AllLess us vs → Less (operand_in us op2) (operand_in vs op2)
-less_operand us vs (o.Reg r) h = less_value us vs r h
-less_operand us vs (o.Imm n) h = inr refl
-
--- an operation on two operands
-less_on : (f : Value → Value → Value) → ((v : Value) → f Unknown v ≡ Unknown) → ((u : Value) → f u Unknown ≡ Unknown)
-    → (us vs : List Value) (rs1 : ℕ) (op2 : Op2) → AllLess us vs
-    → Less (f (value_in us rs1) (operand_in us op2)) (f (value_in vs rs1) (operand_in vs op2))
-less_on f first second us vs rs1 op2 h =
-    less_by f first second (value_in us rs1) (value_in vs rs1) (operand_in us op2) (operand_in vs op2)
-    (less_value us vs rs1 h) (less_operand us vs op2 h)
-
-less_sum : (us vs : List Value) (rs1 : ℕ) (op2 : Op2) → AllLess us vs → Less (sum_in us rs1 op2) (sum_in vs rs1 op2)
-less_sum us vs rs1 op2 h = less_on plus plus_first plus_second us vs rs1 op2 h
-
-less_after : (us vs : List Value) (instr : Instr) → AllLess us vs → AllLess (after us instr) (after vs instr)
-unfolding after
-less_after us vs (i.Sethi rd imm22) h = less_put us vs rd _ _ h (inr refl)
-less_after us vs (i.Alu ops.ADD false rd rs1 op2) h = less_put us vs rd _ _ h (less_sum us vs rs1 op2 h)
-less_after us vs (i.Alu ops.OR false rd rs1 op2) h =
-    less_put us vs rd _ _ h (less_on either either_first either_second us vs rs1 op2 h)
-less_after us vs (i.Alu ops.SLL false rd rs1 op2) h =
-    less_put us vs rd _ _ h (less_on shifted (λ v. refl) shifted_second us vs rs1 op2 h)
-less_after us vs (i.Alu op cc rd rs1 op2) h = less_put us vs rd Unknown Unknown h (inl refl)
-less_after us vs (i.Load loads.LD rd rs1 op2) h =
-    less_put us vs rd _ _ h (less_loaded (sum_in us rs1 op2) (sum_in vs rs1 op2) (less_sum us vs rs1 op2 h))
-less_after us vs (i.Load loads.LDD rd rs1 op2) h =
-    less_put (put us rd Unknown) (put vs rd Unknown) (suc rd) Unknown Unknown
-    (less_put us vs rd Unknown Unknown h (inl refl)) (inl refl)
-less_after us vs (i.Load kind rd rs1 op2) h = less_put us vs rd Unknown Unknown h (inl refl)
-less_after us vs (i.ReadY rd) h = less_put us vs rd Unknown Unknown h (inl refl)
-less_after us vs (i.Ldstub rd rs1 op2) h = less_put us vs rd Unknown Unknown h (inl refl)
-less_after us vs (i.Swap rd rs1 op2) h = less_put us vs rd Unknown Unknown h (inl refl)
-less_after us vs (i.Call disp30) h = less_put us vs 15 Unknown Unknown h (inl refl)
-less_after us vs (i.Jmpl rd rs1 op2) h = less_put us vs rd Unknown Unknown h (inl refl)
-less_after us vs (i.Save rd rs1 op2) h = less_same all_unknown
-less_after us vs (i.Restore rd rs1 op2) h = less_same all_unknown
-less_after us vs (i.Ticc cond rs1 op2) h = less_same all_unknown
-less_after us vs _ h = h
-
-less_followed : (text : Words) (us vs : List Value) (from n : ℕ) → AllLess us vs
-    → AllLess (followed text us from n) (followed text vs from n)
+less_followed : (text : Words) (us vs : List Value) (from n : ℕ) → All Less less_kept us vs
+    → All Less less_kept (followed text us from n) (followed text vs from n)
 less_followed text us vs from zero h = h
 less_followed text us vs from (suc n) h =
-    less_after (followed text us from n) (followed text vs from n) (instr_at text (from + n))
-    (less_followed text us vs from n h)
+    let before = less_followed text us vs from n h in
+    all_after Less less_kept (followed text us from n) (followed text vs from n) (instr_at text (from + n)) before
+    (λ rd rs1 op2 e. less_loaded _ _ (all_sum Less less_kept (followed text us from n) (followed text vs from n) rs1 op2 before))
 
 -- ---- where an entry comes from
 
@@ -186,69 +167,22 @@ module _ (P : ℕ → Type 0) where
   has_shifted Index (Const b) = cond_both (b == 2) (Place 0) Unknown Has (λ _. tt) (λ _. tt)
   has_shifted _ _ = tt
 
-  -- ---- of registers
+  -- of the first list's values
+  abbrev First : Value → Value → Type 0
+  First u v = Has u
 
-  abbrev AllHave : List Value → Type 0
-  AllHave = Each Has
-
-  has_at : (us : List Value) (r : ℕ) → AllHave us → Has (slice_index_or us r Unknown)
-  has_at [] r h = tt
-  has_at (u ∷ us) zero h = h.0
-  has_at (u ∷ us) (suc r) h = has_at us r h.1
-
-  has_set : (us : List Value) (r : ℕ) (u : Value) → AllHave us → Has u → AllHave (slice_set us r u)
-  has_set [] r u h k = tt
-  has_set (x ∷ us) zero u h k = (k, h.1)
-  has_set (x ∷ us) (suc r) u h k = (h.0, has_set us r u h.1 k)
-
-  has_put : (us : List Value) (r : ℕ) (u : Value) → AllHave us → Has u → AllHave (put us r u)
-  has_put us zero u h k = h
-  has_put us (suc r) u h k = has_set us (suc r) u h k
-
-  has_value : (us : List Value) (r : ℕ) → AllHave us → Has (value_in us r)
-  has_value us zero h = tt
-  has_value us (suc r) h = has_at us (suc r) h
-
-  has_operand : (us : List Value) (op2 : Op2) → AllHave us → Has (operand_in us op2)
-  has_operand us (o.Reg r) h = has_value us r h
-  has_operand us (o.Imm n) h = tt
-
-  has_sum : (us : List Value) (rs1 : ℕ) (op2 : Op2) → AllHave us → Has (sum_in us rs1 op2)
-  has_sum us rs1 op2 h = has_plus (value_in us rs1) (operand_in us op2) (has_value us rs1 h) (has_operand us op2 h)
-
-  has_none : (n : ℕ) → AllHave (unknown n)
-  has_none zero = tt
-  has_none (suc n) = (tt, has_none n)
+  has_kept : IsKept First
+  has_kept = record {
+    none = tt;
+    const = λ n. tt;
+    plus = λ u v s t h k. has_plus u s h k;
+    either = λ u v s t h k. has_either u s h k;
+    shifted = λ u v s t h k. has_shifted u s;
+  }
 
   has_loaded : (v : Value) → ((c : ℕ) → v ≡ Place c → P c) → Has (loaded_at v)
   has_loaded (Place c) h = h c refl
   has_loaded _ h = tt
-
-  has_after : (us : List Value) (instr : Instr) → AllHave us
-      → ((rd rs1 : ℕ) (op2 : Op2) → instr ≡ i.Load loads.LD rd rs1 op2 → (c : ℕ) → sum_in us rs1 op2 ≡ Place c → P c)
-      → AllHave (after us instr)
-  unfolding after
-  has_after us (i.Sethi rd imm22) h k = has_put us rd _ h tt
-  has_after us (i.Alu ops.ADD false rd rs1 op2) h k = has_put us rd _ h (has_sum us rs1 op2 h)
-  has_after us (i.Alu ops.OR false rd rs1 op2) h k =
-      has_put us rd _ h (has_either (value_in us rs1) (operand_in us op2) (has_value us rs1 h) (has_operand us op2 h))
-  has_after us (i.Alu ops.SLL false rd rs1 op2) h k =
-      has_put us rd _ h (has_shifted (value_in us rs1) (operand_in us op2))
-  has_after us (i.Alu op cc rd rs1 op2) h k = has_put us rd Unknown h tt
-  has_after us (i.Load loads.LD rd rs1 op2) h k =
-      has_put us rd _ h (has_loaded (sum_in us rs1 op2) (k rd rs1 op2 refl))
-  has_after us (i.Load loads.LDD rd rs1 op2) h k =
-      has_put (put us rd Unknown) (suc rd) Unknown (has_put us rd Unknown h tt) tt
-  has_after us (i.Load kind rd rs1 op2) h k = has_put us rd Unknown h tt
-  has_after us (i.ReadY rd) h k = has_put us rd Unknown h tt
-  has_after us (i.Ldstub rd rs1 op2) h k = has_put us rd Unknown h tt
-  has_after us (i.Swap rd rs1 op2) h k = has_put us rd Unknown h tt
-  has_after us (i.Call disp30) h k = has_put us 15 Unknown h tt
-  has_after us (i.Jmpl rd rs1 op2) h k = has_put us rd Unknown h tt
-  has_after us (i.Save rd rs1 op2) h k = has_none 32
-  has_after us (i.Restore rd rs1 op2) h k = has_none 32
-  has_after us (i.Ticc cond rs1 op2) h k = has_none 32
-  has_after us _ h k = h
 
 -- ---- the LD of an open switch
 
@@ -262,13 +196,15 @@ record Origin (text : Words) (us : List Value) (from count c : ℕ) : Type 0 whe
   is : instr_at text (from + word) ≡ i.Load loads.LD rd rs1 op2
   place : sum_in (followed text us from word) rs1 op2 ≡ Place c
 
-have_origin : (text : Words) (us : List Value) (from count n : ℕ) → n ≤ count → AllHave (Origin text us from count) us
-    → AllHave (Origin text us from count) (followed text us from n)
-have_origin text us from count zero l h = h
-have_origin text us from count (suc n) l h =
-    has_after (Origin text us from count) (followed text us from n) (instr_at text (from + n))
-    (have_origin text us from count n (omega arith) h) (λ rd rs1 op2 is c place.
-    record { word = n; below = omega arith; rd = rd; rs1 = rs1; op2 = op2; is = is; place = place })
+have_origin : (text : Words) (us vs : List Value) (from count n : ℕ) → n ≤ count
+    → All (First (Origin text us from count)) (has_kept (Origin text us from count)) us vs
+    → All (First (Origin text us from count)) (has_kept (Origin text us from count)) (followed text us from n) (followed text vs from n)
+have_origin text us vs from count zero l h = h
+have_origin text us vs from count (suc n) l h =
+    all_after (First (Origin text us from count)) (has_kept (Origin text us from count)) (followed text us from n) (followed text vs from n)
+    (instr_at text (from + n)) (have_origin text us vs from count n (omega arith) h)
+    (λ rd rs1 op2 is. has_loaded (Origin text us from count) (sum_in (followed text us from n) rs1 op2) (λ c place.
+    record { word = n; below = omega arith; rd = rd; rs1 = rs1; op2 = op2; is = is; place = place }))
 
 none_unloaded : (P : ℕ → Type 0) (v : Value) → Has P (unloaded v)
 none_unloaded P (Entry c) = tt
@@ -279,22 +215,19 @@ none_unloaded P (Place c) = tt
 
 entry_is : (v : Value) → is_entry v ≡ true → (c : ℕ) × (v ≡ Entry c)
 entry_is (Entry c) h = (c, refl)
-entry_is Unknown h = absurd (false≢true h)
-entry_is (Const c) h = absurd (false≢true h)
-entry_is Index h = absurd (false≢true h)
-entry_is (Place c) h = absurd (false≢true h)
+entry_is Unknown h = absurd (cc)
+entry_is (Const c) h = absurd (cc)
+entry_is Index h = absurd (cc)
+entry_is (Place c) h = absurd (cc)
 
 -- what is known with less is so
-known : (u v w : Value) → Less u v → u ≡ w → w ≢ Unknown → v ≡ w
-known u v w (inl e) is some = absurd (some (sym is ∙ e))
-known u v w (inr e) is some = sym e ∙ is
-
-sum_known : (text : Words) (us vs : List Value) (from n rs1 : ℕ) (op2 : Op2) (w : Value) → AllLess us vs
+sum_known : (text : Words) (us vs : List Value) (from n rs1 : ℕ) (op2 : Op2) (w : Value) → All Less less_kept us vs
     → sum_in (followed text us from n) rs1 op2 ≡ w → w ≢ Unknown → sum_in (followed text vs from n) rs1 op2 ≡ w
 sum_known text us vs from n rs1 op2 w less is some =
-    known (sum_in (followed text us from n) rs1 op2) (sum_in (followed text vs from n) rs1 op2) w
-    (less_sum (followed text us from n) (followed text vs from n) rs1 op2 (less_followed text us vs from n less)) is
-    some
+    elim (all_sum Less less_kept (followed text us from n) (followed text vs from n) rs1 op2 (less_followed text us vs from n less)) [
+      | inl e ↦ absurd (some (sym is ∙ e))
+      | inr e ↦ sym e ∙ is
+    ]
 
 same_entry : (c d : ℕ) → Entry c ≡ Entry d → c ≡ d
 same_entry c d e = cc
@@ -314,8 +247,7 @@ has_load text o here jumps = record {
     place =
         let e : a.first + from.word - a.first ≡ from.word = omega arith in
         ap (λ n. sum_in (followed text vs a.first n) from.rs1 from.op2) e
-        ∙ sum_known text us vs a.first from.word from.rs1 from.op2 (Place o.switch.table.0) (less_unloaded vs)
-        from.place (λ e. absurd (cc));
+        ∙ sum_known text us vs a.first from.word from.rs1 from.op2 (Place o.switch.table.0) less from.place (λ e. absurd (cc));
   };
 }
   where
@@ -328,6 +260,9 @@ has_load text o here jumps = record {
     us : List Value
     us = map unloaded vs
 
+    less : All Less less_kept us vs
+    less = all_unloaded Less less_kept (λ v. grind arith) vs
+
     steps : ℕ
     steps = a.jump - a.first
 
@@ -337,13 +272,13 @@ has_load text o here jumps = record {
     same : entry.0 ≡ o.switch.table.0
     same =
         same_entry entry.0 o.switch.table.0
-        (sym (sum_known text us vs a.first steps jumps.rs1 jumps.op2 (Entry entry.0) (less_unloaded vs) entry.1
+        (sym (sum_known text us vs a.first steps jumps.rs1 jumps.op2 (Entry entry.0) less entry.1
         (λ e. absurd (cc))) ∙ jumps.sum)
 
     from : Origin text us a.first steps o.switch.table.0
     from =
-        rw same at (rw entry.1 at (has_sum (Origin text us a.first steps) (loaded_here text a) jumps.rs1 jumps.op2
-        (have_origin text us a.first steps steps (omega arith)
-        (each-map (Has (Origin text us a.first steps)) unloaded vs
-        (each (λ v. Has (Origin text us a.first steps) (unloaded v)) vs
-        (none_unloaded (Origin text us a.first steps)))))))
+        rw same at (rw entry.1 at (all_sum (First (Origin text us a.first steps)) (has_kept (Origin text us a.first steps))
+        (loaded_here text a) (followed text vs a.first steps) jumps.rs1 jumps.op2
+        (have_origin text us vs a.first steps steps (omega arith)
+        (all_unloaded (First (Origin text us a.first steps)) (has_kept (Origin text us a.first steps))
+        (none_unloaded (Origin text us a.first steps)) vs))))

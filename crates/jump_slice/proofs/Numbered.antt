@@ -9,7 +9,6 @@ use Rattle.v8_step.specs.Run.{run}
 use Rattle.cfg_blocks.specs.declared.BlockEnd.TheVariants as ends
 use Rattle.cfg_blocks.specs.declared.EdgeKind.{EdgeKind}
 use Rattle.cfg_blocks.specs.declared.Into.TheVariants as into
-use Rattle.cfg_blocks.specs.declared.switches.Approach.{Approach}
 use Rattle.cfg_blocks.specs.declared.switches.Switch.{Switch}
 use Rattle.eel_base.specs.declared.numbers.WordNo.{WordNo}
 use Rattle.cfg_blocks.specs.Blocks.{blocks_of}
@@ -123,10 +122,6 @@ same_some a b e = cc
 same_annul : (c d : ℕ) (a e : Bool) (t u : Option WordNo) → ends.Branch c a t ≡ ends.Branch d e u → a ≡ e
 same_annul c d a e t u h = cc
 
-abbrev open_with : Switch → ℕ → EdgeKind → Approach → List ℕ → Open
-open_with switch block way approach targets =
-    record { switch = switch; block = block; way = way; approach = approach; targets = targets }
-
 pub opens_are_one : OpensAreOne
 opens_are_one text list entry one other p q block =
     let switch : one.switch ≡ other.switch = same_some one.switch other.switch
@@ -139,8 +134,5 @@ opens_are_one text list entry one other p q block =
     let compare : one.approach.compare ≡ other.approach.compare =
     same_some one.approach.compare other.approach.compare (cc (p.parts.sets, from, q.parts.sets)) in
     let approach : one.approach ≡ other.approach = cc (p.approach, block, from, annul, way, compare, q.approach) in
-    made switch block way approach (p.targets ∙ ap (targets_of text) switch ∙ sym q.targets)
-  where
-    made : one.switch ≡ other.switch → one.block ≡ other.block → one.way ≡ other.way → one.approach ≡ other.approach
-        → one.targets ≡ other.targets → one ≡ other
-    made a b c d e = rw (a, b, c, d, e)
+    let targets : one.targets ≡ other.targets = p.targets ∙ ap (targets_of text) switch ∙ sym q.targets in
+    rw (switch, block, way, approach, targets)

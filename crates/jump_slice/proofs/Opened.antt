@@ -1,9 +1,9 @@
 -- What is known of each open switch of a text.
-use Rattle.std.proofs.Common.{◌≡◌, ℕ, suc, ◌+◌, ◌<◌, Bool, true, false, not, ◌&&◌, ◌||◌, nat_lt, List, [], ◌∷◌, ◌++◌, length, Option, Some, None, refl, ap, sym, ◌∙◌, arith, slice_index}
+use Rattle.std.proofs.Common.{◌≡◌, ℕ, suc, ◌+◌, ◌<◌, Bool, true, false, not, ◌&&◌, nat_lt, List, [], ◌∷◌, ◌++◌, length, Option, Some, None, refl, ap, sym, ◌∙◌, arith, slice_index, inl, inr}
 use Rattle.std.specs.Prelude.{if◌then◌else◌, ◌==◌, slice_index_or}
 use Rattle.std.specs.List.{Contains, list_any}
 use Rattle.std.specs.Option.{option_to_list}
-use Rattle.std.proofs.lemmas.Bool.{and_parts, cond_both, eq-eqb, eqb-true, false≢true}
+use Rattle.std.proofs.lemmas.Bool.{and_parts, cases_Bool, cond_both, eq-eqb, eqb-true, false≢true}
 use Rattle.std.proofs.lemmas.Bool.Decides.{nat_tests}
 use Rattle.eel_base.specs.CodeText.{Words, IsText}
 use Rattle.eel_base.specs.declared.numbers.BlockNo.{BlockNo}
@@ -93,12 +93,8 @@ module _ (text : Words) (list : Entered) (block : ℕ) (switch : Switch) where
       let both = and_parts (is_jump (end_of b block)) (not (slice_index b.firsts block == entry)) outer.0 in (
         found_into (slice_index_or list.intos block into.Nothing) refl outer.1,
         both.0,
-        turned (slice_index b.firsts block == entry) both.1,
+        (let e = both.1 in grind arith),
       )
-    where
-      turned : (x : Bool) → not x ≡ true → x ≡ false
-      turned true h = absurd (cc)
-      turned false h = refl
 
 -- ---- candidates
 
@@ -139,13 +135,10 @@ candidate_is text list entry block switch held is f =
           };
           approach = ap (λ (n : BlockNo). approach_of text list.blocks block n.0 f.annul f.way f.compare) (sym f.compare_is);
           loads = two.0;
-          last = below one.1;
-          jump = below two.1;
+          last = let e = one.1 in grind (arith, nat_tests);
+          jump = let e = two.1 in grind (arith, nat_tests);
           targets = refl;
         }
-      where
-        below : {m n : ℕ} → nat_lt m n ≡ true → m < n
-        below h = grind (arith, h, nat_tests)
 
 -- ---- all of them
 
@@ -164,16 +157,13 @@ module _ (text : Words) (list : Entered) (entry : ℕ) where
   pub open_found : (opens : List Open) → AreIsOpen opens → (p : Open → Bool) → list_any p opens ≡ true
       → (o : Open) × Contains opens o × (p o ≡ true) × IsOpen text list entry o
   open_found [] h p any = absurd (false≢true any)
-  open_found (x ∷ xs) h p any = by (p x) refl any (open_found xs h.1 p)
-    where
-      by : (t : Bool) → p x ≡ t → (t || list_any p xs) ≡ true
-          → (list_any p xs ≡ true → (o : Open) × Contains xs o × (p o ≡ true) × IsOpen text list entry o)
-          → (o : Open) × Contains (x ∷ xs) o × (p o ≡ true) × IsOpen text list entry o
-      by true e any next = (x, (0, omega arith, refl), e, h.0)
-      by false e any next =
-          let rest = next any in
-          let at = rest.1 in
-          (rest.0, (suc at.0, omega (arith, at.1), at.2), rest.2, rest.3)
+  open_found (x ∷ xs) h p any = elim (cases_Bool (p x)) [
+    | inl e ↦ (x, (0, omega arith, refl), e, h.0)
+    | inr e ↦
+        let rest = open_found xs h.1 p (rw e at any) in
+        let at = rest.1 in
+        (rest.0, (suc at.0, omega (arith, at.1), at.2), rest.2, rest.3)
+  ]
 
   pub are_open : (opens : List Open) → AreIsOpen opens → AreOpen list.blocks opens
   are_open opens h block jumps =

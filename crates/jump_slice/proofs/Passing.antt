@@ -14,20 +14,17 @@ use Rattle.v8_step.specs.Run.{run}
 use Rattle.v8_step.specs.Items.{is_transfer as transfers}
 use Rattle.cfg_blocks.specs.declared.EdgeKind.{EdgeKind}
 use Rattle.cfg_blocks.specs.declared.EdgeKind.TheVariants as kinds
-use Rattle.cfg_blocks.specs.Blocks.{Blocks, blocks_of, holding_of, last_word}
-use Rattle.cfg_blocks.specs.Entries.{Entered, entered_of}
+use Rattle.cfg_blocks.specs.Blocks.{holding_of, last_word}
 use Rattle.cfg_blocks.specs.Switches.{is_taken, runs_slot}
 use Rattle.cfg_blocks.specs.Values.{instr_at as word_instr}
 use Rattle.cfg_blocks.proofs.Targets.{word_at-some}
 use Rattle.cfg_normal.specs.declared.Node.{Node}
-use Rattle.cfg_normal.specs.declared.Node.TheVariants.{X}
 use Rattle.cfg_normal.specs.Nodes.{home_of}
 use Rattle.cfg_normal.specs.Opens.{Open, is_behind, jumps_in}
-use Rattle.cfg_normal.specs.Graph.{Graph, graph_of, lands_of, node_of}
+use Rattle.cfg_normal.specs.Graph.{lands_of, node_of}
 use Rattle.cfg_walk.specs.Walk.{slot_left, instr_at, node_after, point_of, same_kind, way_of}
 use Rattle.cfg_walk.specs.Matches.{Begins, IsOnItsWay, MatchesBy}
-use Rattle.cfg_walk.proofs.Cut.{IsCut, cut}
-use Rattle.cfg_walk.proofs.Edges.{block, copy, node_at}
+use Rattle.cfg_walk.proofs.Edges.{block, node_at}
 use Rattle.cfg_walk.proofs.Slots.{jump_lands, way_leads}
 use Rattle.cfg_walk.proofs.Leaving.{node_is, transfer_ends}
 use Rattle.jump_slice.proofs.Blocks.{transfer_at}
@@ -38,7 +35,7 @@ use Rattle.jump_slice.specs.Cases.{HasCompared}
 use Rattle.jump_slice.specs.Runs.{to_branch}
 use Rattle.jump_slice.proofs.About.{About, about}
 use Rattle.jump_slice.proofs.Branching.{branch_tells}
-use Rattle.jump_slice.proofs.Known.{Carries, Compared, IsRun, Passed, Passing, Tells, block_number, carried, heads, holds_word, known_outside, sets_transfer}
+use Rattle.jump_slice.proofs.Known.{Carries, Compared, IsRun, Passed, Passing, Tells, b, carried, graph, heads, holds_word, known_outside, parts, sets_transfer}
 
 -- one of them passes
 pub any_of : (xs : List Open) (o : Open) (p : Open → Bool) → Contains xs o → p o ≡ true → list_any p xs ≡ true
@@ -48,18 +45,6 @@ any_of (x ∷ xs) o p (suc k, l, e) h = or_right _ _ (any_of xs o p (k, omega (a
 
 module _ {text : Words} {given : List ℕ} {entry : ℕ} {opens : List Open} {s0 : State}
     (r : IsRun text given entry opens s0) where
-  abbrev list : Entered
-  list = entered_of text given
-
-  abbrev b : Blocks
-  b = blocks_of text given
-
-  abbrev graph : Graph
-  graph = graph_of b opens
-
-  parts : IsCut text b
-  parts = cut text given r.is_text.some
-
   -- into a slot: a branch behind the comparison has passed
   pub passes : (n : ℕ) (node : Node) → Tells r n node → (run s0 (suc n)).ending ≡ None → (run s0 n).slot ≡ NoSlot → (y : Slot)
       → (run s0 (suc n)).slot ≡ y → y ≢ NoSlot
@@ -77,7 +62,7 @@ module _ {text : Words} {given : List ℕ} {entry : ℕ} {opens : List Open} {s0
       c : Carries r n node
       c = carried r n node live
 
-      a : About text b entry o is.cond is.annul
+      a : About text (b r) entry o is.cond is.annul
       a = about text given entry r.is_text o is
 
       t : transfers (word_instr text c.word) ≡ true
@@ -85,7 +70,7 @@ module _ {text : Words} {given : List ℕ} {entry : ℕ} {opens : List Open} {s0
 
       at_last : c.word ≡ o.approach.last
       at_last =
-          transfer_ends text b opens parts c.word c.low (transfer_at text c.word t) ∙ ap (last_word b.firsts b.words)
+          transfer_ends text (b r) opens (parts r) c.word c.low (transfer_at text c.word t) ∙ ap (last_word (b r).firsts (b r).words)
           (holds_word r n node o.switch.compare.0 h.matches slot (ap home_of there) c.word c.at c.low) ∙ sym a.last
 
       before : HasCompared text o s0 n (c.word - o.approach.compare.word)
@@ -106,7 +91,7 @@ module _ {text : Words} {given : List ℕ} {entry : ℕ} {opens : List Open} {s0
       previous : instr_at text ((run s0 (suc n)).pc - 4) ≡ Some (i.Branch is.cond is.annul a.disp)
       previous = cc (pc_back, c.at, instr)
         where
-          matched : MatchesBy text graph node (point_of (run s0 n)) NoSlot
+          matched : MatchesBy text (graph r) node (point_of (run s0 n)) NoSlot
           matched = rw slot at h.matches
 
           pc_next : (run s0 (suc n)).pc ≡ (run s0 n).npc
@@ -124,69 +109,59 @@ module _ {text : Words} {given : List ℕ} {entry : ℕ} {opens : List Open} {s0
       kind : way_of (Some (i.Branch is.cond is.annul a.disp)) y ≡ o.way
       kind = ap (λ x. way_of x y) (sym previous) ∙ way
 
-  landing_knows : (n : ℕ) (node : Node) → node ≡ lands_of b opens (word_at text (run s0 n).pc)
+  landing_knows : (n : ℕ) (node : Node) → node ≡ lands_of (b r) opens (word_at text (run s0 n).pc)
       → Compared r n node × Passed r n node
   landing_knows n node is = (compared, passed)
     where
       -- where control lands at a block itself, it stands before the comparison, and not at a jump
-      lands_plain : (k w : ℕ) → lands_of b opens (Some w) ≡ block k
+      lands_plain : (k w : ℕ) → lands_of (b r) opens (Some w) ≡ block k
           → (jumps_in opens k || is_behind opens k w) ≡ false
-      lands_plain k w e = by (nat_lt w b.words) (jumps_in opens (holding_of b w) || is_behind opens (holding_of b w) w) refl e
-        where
-          by : (x y : Bool) → (jumps_in opens (holding_of b w) || is_behind opens (holding_of b w) w) ≡ y
-              → (if x then (if y then copy (holding_of b w) else block (holding_of b w)) else X) ≡ block k
-              → (jumps_in opens k || is_behind opens k w) ≡ false
-          by true true f e = absurd (cc)
-          by true false f e = rw (← (ap block_number e), f)
-          by false y f e = absurd (cc)
+      lands_plain k w e = grind arith
 
       compared : Compared r n node
       compared o among f there w here behind =
-          let plain = lands_plain o.switch.compare.0 w (ap (lands_of b opens) (sym here) ∙ sym is ∙ there) in
+          let plain = lands_plain o.switch.compare.0 w (ap (lands_of (b r) opens) (sym here) ∙ sym is ∙ there) in
           absurd (false≢true (sym plain ∙ or_right _ _ (any_of opens o
           (λ (x : Open). (x.switch.compare.0 == o.switch.compare.0) && nat_lt x.approach.compare.word w) among
           (and_from _ _ (eq-eqb o.switch.compare.0 o.switch.compare.0 refl) (lt-ltb _ _ behind)))))
 
       passed : Passed r n node
       passed k there jumps w here =
-          let plain = lands_plain k w (ap (lands_of b opens) (sym here) ∙ sym is ∙ there) in
+          let plain = lands_plain k w (ap (lands_of (b r) opens) (sym here) ∙ sym is ∙ there) in
           absurd (false≢true (sym plain ∙ or_left _ _ jumps))
 
-  begun_head : (node : Node) (k v : ℕ) → home_of node ≡ block k → Begins graph node (Some v)
-      → slice_index b.firsts k ≡ v
-  begun_head node k v home h = elim (node_at node k home) [
-    | inl here ↦ subst (λ (m : Node). Begins graph m (Some v) → slice_index b.firsts k ≡ v) (sym here) (λ e. e) h
-    | inr there ↦ subst (λ (m : Node). Begins graph m (Some v) → slice_index b.firsts k ≡ v) (sym there) (λ e. e) h
-  ]
+  begun_head : (node : Node) (k v : ℕ) → home_of node ≡ block k → Begins (graph r) node (Some v)
+      → slice_index (b r).firsts k ≡ v
+  begun_head node k v home h = elim (node_at node k home) [ inl here ↦ rw here at h | inr there ↦ rw there at h ]
 
-  pub leaves_slot : (n : ℕ) (node : Node) (way : EdgeKind) → IsOnItsWay text graph node (point_of (run s0 n)) way
+  pub leaves_slot : (n : ℕ) (node : Node) (way : EdgeKind) → IsOnItsWay text (graph r) node (point_of (run s0 n)) way
       → Passing r n node way → (run s0 (suc n)).pc ≡ (run s0 n).npc
-      → let next = node_after graph node (slot_left text graph node way (run s0 (suc n)).pc) in
+      → let next = node_after (graph r) node (slot_left text (graph r) node way (run s0 (suc n)).pc) in
       Compared r (suc n) next × Passed r (suc n) next
   leaves_slot n node way h passing pc = by (same_kind way kinds.Out) refl
     where
       next : Node
-      next = node_after graph node (slot_left text graph node way (run s0 (suc n)).pc)
+      next = node_after (graph r) node (slot_left text (graph r) node way (run s0 (suc n)).pc)
 
       by : (x : Bool) → same_kind way kinds.Out ≡ x → Compared r (suc n) next × Passed r (suc n) next
       by true e =
           let out : way ≡ kinds.Out = same_kinds way kinds.Out e in
           landing_knows (suc n) next
-          (ap (λ k. node_after graph node (slot_left text graph node k (run s0 (suc n)).pc)) out
-          ∙ ap (λ a. node_after graph node (slot_left text graph node kinds.Out a)) pc
-          ∙ jump_lands text b opens parts node (point_of (run s0 n))
-          (subst (λ (k : EdgeKind). IsOnItsWay text graph node (point_of (run s0 n)) k) out h)
-          ∙ ap (λ a. lands_of b opens (word_at text a)) (sym pc))
+          (ap (λ k. node_after (graph r) node (slot_left text (graph r) node k (run s0 (suc n)).pc)) out
+          ∙ ap (λ a. node_after (graph r) node (slot_left text (graph r) node kinds.Out a)) pc
+          ∙ jump_lands text (b r) opens (parts r) node (point_of (run s0 n))
+          (subst (λ (k : EdgeKind). IsOnItsWay text (graph r) node (point_of (run s0 n)) k) out h)
+          ∙ ap (λ a. lands_of (b r) opens (word_at text a)) (sym pc))
       by false e =
           let leads = h.leads e in
-          heads r (suc n) next node way (cc (pc, way_leads text b opens parts node (point_of (run s0 n)) way h e))
+          heads r (suc n) next node way (cc (pc, way_leads text (b r) opens (parts r) node (point_of (run s0 n)) way h e))
           (λ w here.
           let there : word_at text (run s0 n).npc ≡ Some w = ap (word_at text) (sym pc) ∙ here in
-          let low : w < b.words = omega (arith, (word_at-some text (run s0 n).npc w there).within, parts.words) in (
+          let low : w < (b r).words = omega (arith, (word_at-some text (run s0 n).npc w there).within, (parts r).words) in (
             low,
-            begun_head h.edge.to (holding_of b w) w
-                (ap home_of leads.1 ∙ home_directed opens node way (node_of b (word_at text (run s0 n).npc))
-                ∙ home_of_node b (word_at text (run s0 n).npc) ∙ ap (node_of b) there ∙ node_is b w low)
+            begun_head h.edge.to (holding_of (b r) w) w
+                (ap home_of leads.1 ∙ home_directed opens node way (node_of (b r) (word_at text (run s0 n).npc))
+                ∙ home_of_node (b r) (word_at text (run s0 n).npc) ∙ ap (node_of (b r)) there ∙ node_is (b r) w low)
                 (rw there at leads.0),
           )) (λ o among is from kind.
           let p = passing o among is from kind in

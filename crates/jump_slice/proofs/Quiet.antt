@@ -1,7 +1,7 @@
 -- What is known after a step that neither sets a slot nor leaves one.
 use Rattle.std.proofs.Common.{◌≡◌, ℕ, suc, ◌+◌, ◌<◌, Bool, true, false, List, [], length, Some, None, refl, ap, sym, ◌∙◌, subst, arith, slice_index, inl, inr}
 use Rattle.std.specs.Prelude.{if◌then◌else◌, ◌==◌, ℤ}
-use Rattle.std.proofs.lemmas.Bool.{cases_lt, eqb-true, false≢true}
+use Rattle.std.proofs.lemmas.Bool.{cases_Bool, cases_lt, eqb-true, false≢true}
 use Rattle.eel_base.specs.CodeText.{Words, address_of, word_at}
 use Rattle.v8_decode.specs.declared.Instr.TheVariants as i
 use Rattle.v8_step.specs.declared.Slot.TheVariants.{NoSlot}
@@ -10,17 +10,15 @@ use Rattle.v8_step.specs.Run.{run}
 use Rattle.v8_step.specs.Items.{is_transfer as transfers}
 use Rattle.cfg_blocks.specs.declared.EdgeKind.{EdgeKind}
 use Rattle.cfg_blocks.specs.declared.EdgeKind.TheVariants as kinds
-use Rattle.cfg_blocks.specs.Blocks.{Blocks, blocks_of, holding_of, last_word}
-use Rattle.cfg_blocks.specs.Entries.{Entered, entered_of}
+use Rattle.cfg_blocks.specs.Blocks.{holding_of, last_word}
 use Rattle.cfg_blocks.specs.Switches.{bounds}
 use Rattle.cfg_blocks.specs.Values.{instr_at as word_instr}
 use Rattle.cfg_normal.specs.declared.Node.{Node}
 use Rattle.cfg_normal.specs.Nodes.{home_of}
 use Rattle.cfg_normal.specs.Opens.{Open}
-use Rattle.cfg_normal.specs.Graph.{Graph, directed, graph_of, node_of}
+use Rattle.cfg_normal.specs.Graph.{directed, node_of}
 use Rattle.cfg_walk.specs.Walk.{Point, edge_from, left_at, node_after, point_of, same_kind}
 use Rattle.cfg_walk.specs.Matches.{MatchesBy}
-use Rattle.cfg_walk.proofs.Cut.{IsCut, cut}
 use Rattle.cfg_walk.proofs.Edges.{block}
 use Rattle.cfg_walk.proofs.Slots.{LeadsIfThere}
 use Rattle.cfg_walk.proofs.Holding.{IsIn, Leads, ends_at_next, ends_at_words, first_held, in_held, some_words}
@@ -35,7 +33,7 @@ use Rattle.jump_slice.specs.Cases.{IsOpen}
 use Rattle.jump_slice.specs.Runs.{to_branch}
 use Rattle.jump_slice.proofs.About.{about}
 use Rattle.jump_slice.proofs.Branching.{Annulled, annul_of, annulled_is, cond_of}
-use Rattle.jump_slice.proofs.Known.{Carries, Compared, IsHead, IsRun, Passed, Tells, carried, heads, holds_word, known_outside, opened}
+use Rattle.jump_slice.proofs.Known.{Carries, Compared, IsHead, IsRun, Passed, Tells, b, carried, graph, heads, holds_word, known_outside, list, opened, parts}
 
 -- a way of an open switch is that of a conditional branch
 bounded_fall : (cond : ℕ) (way : EdgeKind) → same_kind kinds.Fall way ≡ true → bounds cond way ≡ true → ⊥
@@ -44,80 +42,68 @@ bounded_fall cond _ e h = absurd (false≢true e)
 
 module _ {text : Words} {given : List ℕ} {entry : ℕ} {opens : List Open} {s0 : State}
     (r : IsRun text given entry opens s0) where
-  abbrev list : Entered
-  list = entered_of text given
-
-  abbrev b : Blocks
-  b = blocks_of text given
-
-  abbrev graph : Graph
-  graph = graph_of b opens
-
-  parts : IsCut text b
-  parts = cut text given r.is_text.some
-
   abbrev pub Left : ℕ → Node → Node
-  Left n node = node_after graph node (left_at text graph node (word_at text (run s0 n).pc))
+  Left n node = node_after (graph r) node (left_at text (graph r) node (word_at text (run s0 n).pc))
 
-  next_leads : (k w : ℕ) → w < b.words → w ≡ last_word b.firsts b.words k → k < length b.firsts → w + 1 < b.words
-      → Leads b.firsts (w + 1)
-  next_leads k w low last within more = elim (cases_lt (suc k) (length b.firsts)) [
+  next_leads : (k w : ℕ) → w < (b r).words → w ≡ last_word (b r).firsts (b r).words k → k < length (b r).firsts → w + 1 < (b r).words
+      → Leads (b r).firsts (w + 1)
+  next_leads k w low last within more = elim (cases_lt (suc k) (length (b r).firsts)) [
     | inl l ↦ record {
       block = suc k;
       within = l;
-      is = let some = some_words b.words b.firsts parts.firsts k within in
-          omega (arith, last, some, ends_at_next b.words b.firsts parts.firsts k l);
+      is = let some = some_words (b r).words (b r).firsts (parts r).firsts k within in
+          omega (arith, last, some, ends_at_next (b r).words (b r).firsts (parts r).firsts k l);
     }
     | inr m ↦
-        let end = ends_at_words b.words b.firsts parts.firsts k m in
-        absurd (omega (arith, last, some_words b.words b.firsts parts.firsts k within, end, more))
+        let end = ends_at_words (b r).words (b r).firsts (parts r).firsts k m in
+        absurd (omega (arith, last, some_words (b r).words (b r).firsts (parts r).firsts k within, end, more))
   ]
 
   -- a word that is no transfer
   straight_knows : (n : ℕ) (node : Node) → Tells r n node → (run s0 (suc n)).ending ≡ None → (run s0 n).slot ≡ NoSlot
       → (c : Carries r n node) → transfers (word_instr text c.word) ≡ false
       → Compared r (suc n) (Left n node) × Passed r (suc n) (Left n node)
-  straight_knows n node h live slot c straight = by (c.word == last_word b.firsts b.words k) refl
+  straight_knows n node h live slot c straight = by (c.word == last_word (b r).firsts (b r).words k) refl
     where
       k : ℕ
-      k = holding_of b c.word
+      k = holding_of (b r) c.word
 
-      matched : MatchesBy text graph node (point_of (run s0 n)) NoSlot
+      matched : MatchesBy text (graph r) node (point_of (run s0 n)) NoSlot
       matched = rw slot at h.matches
 
       home : home_of node ≡ block k
-      home = matched.0 ∙ ap (node_of b) c.at ∙ node_is b c.word c.low
+      home = matched.0 ∙ ap (node_of (b r)) c.at ∙ node_is (b r) c.word c.low
 
-      inside : IsIn b.words b.firsts c.word k
-      inside = in_held b.words b.firsts parts.firsts c.word c.low
+      inside : IsIn (b r).words (b r).firsts c.word k
+      inside = in_held (b r).words (b r).firsts (parts r).firsts c.word c.low
 
-      next : word_at text (run s0 (suc n)).pc ≡ within b.words (c.word + 1)
+      next : word_at text (run s0 (suc n)).pc ≡ within (b r).words (c.word + 1)
       next =
           ap (word_at text)
           (ap (λ (u : State). u.pc) c.acts ∙ (goes_act (run s0 n) (word_instr text c.word) straight c.acted).0 ∙ matched.1)
           ∙ next_word text (run s0 n).pc c.word r.is_text c.is
-          ∙ ap (λ count. within count (c.word + 1)) (sym parts.words)
+          ∙ ap (λ count. within count (c.word + 1)) (sym (parts r).words)
 
       left_is : Left n node
-          ≡ node_after graph node (if c.word == last_word b.firsts b.words k then edge_from graph node kinds.Fall else [])
+          ≡ node_after (graph r) node (if c.word == last_word (b r).firsts (b r).words k then edge_from (graph r) node kinds.Fall else [])
       left_is =
-          ap (λ o. node_after graph node (left_at text graph node o)) c.at
-          ∙ ap (node_after graph node) (straight_left graph node c.word (word_instr text c.word) straight)
-          ∙ ap (λ (x : Bool). node_after graph node (if x then edge_from graph node kinds.Fall else []))
-          (ends_home b opens node k c.word home)
+          ap (λ o. node_after (graph r) node (left_at text (graph r) node o)) c.at
+          ∙ ap (node_after (graph r) node) (straight_left (graph r) node c.word (word_instr text c.word) straight)
+          ∙ ap (λ (x : Bool). node_after (graph r) node (if x then edge_from (graph r) node kinds.Fall else []))
+          (ends_home (b r) opens node k c.word home)
 
-      by : (x : Bool) → (c.word == last_word b.firsts b.words k) ≡ x
+      by : (x : Bool) → (c.word == last_word (b r).firsts (b r).words k) ≡ x
           → Compared r (suc n) (Left n node) × Passed r (suc n) (Left n node)
       by true e =
-          let last : c.word ≡ last_word b.firsts b.words k = eqb-true _ _ e in
+          let last : c.word ≡ last_word (b r).firsts (b r).words k = eqb-true _ _ e in
           heads r (suc n) (Left n node) node kinds.Fall
-          (left_is ∙ ap (λ (x : Bool). node_after graph node (if x then edge_from graph node kinds.Fall else [])) e
-          ∙ falls_to text b opens parts c.word c.low (opened r) node h.inside home
+          (left_is ∙ ap (λ (x : Bool). node_after (graph r) node (if x then edge_from (graph r) node kinds.Fall else [])) e
+          ∙ falls_to text (b r) opens (parts r) c.word c.low (opened r) node h.inside home
           (end_is text c.word (word_instr text c.word) refl ∙ straight_end text c.word (word_instr text c.word) straight) last
-          ∙ ap (λ o. directed opens node kinds.Fall (node_of b o)) (sym next)) (λ w here.
-          let at = within_some b.words (c.word + 1) w (sym next ∙ here) in (
+          ∙ ap (λ o. directed opens node kinds.Fall (node_of (b r) o)) (sym next)) (λ w here.
+          let at = within_some (b r).words (c.word + 1) w (sym next ∙ here) in (
             rw at.1 at at.0,
-            first_held b.words b.firsts parts.firsts w
+            first_held (b r).words (b r).firsts (parts r).firsts w
                 (rw at.1 at (next_leads k c.word c.low last inside.within at.0)),
           )) (λ o among is from kind.
           absurd (bounded_fall is.cond o.way (ap (same_kind kinds.Fall) (sym kind)) (about text given entry r.is_text o is).bounded))
@@ -129,7 +115,7 @@ module _ {text : Words} {given : List ℕ} {entry : ℕ} {opens : List Open} {s0
           known = known_outside r n node h slot
 
           follows : (w : ℕ) → word_at text (run s0 (suc n)).pc ≡ Some w → c.word + 1 ≡ w
-          follows w here = (within_some b.words (c.word + 1) w (sym next ∙ here)).1
+          follows w here = (within_some (b r).words (c.word + 1) w (sym next ∙ here)).1
 
           compared : Compared r (suc n) node
           compared o among is there w here behind = elim (cases_lt o.approach.compare.word c.word) [
@@ -155,8 +141,8 @@ module _ {text : Words} {given : List ℕ} {entry : ℕ} {opens : List Open} {s0
               let p = known.1 j there jumps c.word c.at in
               let a = about text given entry r.is_text p.switch p.is in
               let held : k ≡ j = holds_word r n node j h.matches slot (ap home_of there) c.word c.at c.low in
-              let first : p.switch.approach.first ≡ slice_index b.firsts k =
-              a.first ∙ ap (slice_index b.firsts) (p.block_is ∙ sym held) in
+              let first : p.switch.approach.first ≡ slice_index (b r).firsts k =
+              a.first ∙ ap (slice_index (b r).firsts) (p.block_is ∙ sym held) in
               record {
                 switch = p.switch;
                 among = p.among;
@@ -175,15 +161,35 @@ module _ {text : Words} {given : List ℕ} {entry : ℕ} {opens : List Open} {s0
       → (c : Carries r n node) (cond : ℕ) (disp : ℤ) → word_instr text c.word ≡ i.Branch cond true disp
       → Annulled (run s0 n) (run s0 (suc n)) cond disp
       → Compared r (suc n) (Left n node) × Passed r (suc n) (Left n node)
-  annulled_knows n node h live slot c cond disp instr went = by went
+  annulled_knows n node h live slot c cond disp instr went = elim went [
+    | inl (holds, always, pc) ↦
+        let to = always_goes cond true disp (run s0 n).codes stands after holds always pc in
+        heads r (suc n) (Left n node) node kinds.Taken to.0 (first to.1) (λ o among is from kind.
+        let not_always = (is_conditional is.cond o.way (about text given entry r.is_text o is).bounded).0 in
+        absurd (false≢true (cc (not_always, cond_of (conds o is from), always))))
+    | inr (holds, pc) ↦
+        let to = untaken_goes cond true disp (run s0 n).codes stands after holds pc in
+        heads r (suc n) (Left n node) node kinds.Untaken to.0 (first to.1) (λ o among is from kind.
+        let a = about text given entry r.is_text o is in
+        let last = at_last o is from in
+        let p = (known_outside r n node h slot).0 o among is from c.word c.at (omega (arith, a.below, last)) in
+        let none : o.approach.slot ≡ 0 = cc (a.slot, annul_of (conds o is from), kind) in
+        let back : p.moment + to_branch o.approach ≡ n = let e = p.ago in omega arith in
+        record {
+          moment = p.moment;
+          ago = let e = p.ago in omega arith;
+          compares = p.compares;
+          goes = cc (back, cond_of (conds o is from), holds, kind);
+        })
+  ]
     where
-      matched : MatchesBy text graph node (point_of (run s0 n)) NoSlot
+      matched : MatchesBy text (graph r) node (point_of (run s0 n)) NoSlot
       matched = rw slot at h.matches
 
-      stands : Stands text b opens node (point_of (run s0 n)) c.word (i.Branch cond true disp)
+      stands : Stands text (b r) opens node (point_of (run s0 n)) c.word (i.Branch cond true disp)
       stands = record {
         text_is = r.is_text;
-        cut = parts;
+        cut = (parts r);
         is = c.is;
         npc = matched.1;
         decodes = instr;
@@ -195,55 +201,30 @@ module _ {text : Words} {given : List ℕ} {entry : ℕ} {opens : List Open} {s0
       after : Point
       after = point_of (run s0 (suc n))
 
-      at_last : (o : Open) → IsOpen text list entry o → node ≡ block o.switch.compare.0 → c.word ≡ o.approach.last
+      at_last : (o : Open) → IsOpen text (list r) entry o → node ≡ block o.switch.compare.0 → c.word ≡ o.approach.last
       at_last o is from =
-          transfer_ends text b opens parts c.word c.low
-          (ap is_transfer (end_is text c.word (i.Branch cond true disp) instr)) ∙ ap (last_word b.firsts b.words)
+          transfer_ends text (b r) opens (parts r) c.word c.low
+          (ap is_transfer (end_is text c.word (i.Branch cond true disp) instr)) ∙ ap (last_word (b r).firsts (b r).words)
           (holds_word r n node o.switch.compare.0 h.matches slot (ap home_of from) c.word c.at c.low)
           ∙ sym (about text given entry r.is_text o is).last
 
-      conds : (o : Open) (is : IsOpen text list entry o) → node ≡ block o.switch.compare.0
+      conds : (o : Open) (is : IsOpen text (list r) entry o) → node ≡ block o.switch.compare.0
           → i.Branch is.cond is.annul (about text given entry r.is_text o is).disp ≡ i.Branch cond true disp
       conds o is from = cc ((about text given entry r.is_text o is).branch, at_last o is from, instr)
 
-      first : LeadsIfThere b (word_at text (run s0 (suc n)).pc) → (w : ℕ) → word_at text (run s0 (suc n)).pc ≡ Some w
-          → (w < b.words) × IsHead r w
+      first : LeadsIfThere (b r) (word_at text (run s0 (suc n)).pc) → (w : ℕ) → word_at text (run s0 (suc n)).pc ≡ Some w
+          → (w < (b r).words) × IsHead r w
       first leads w here =
-          let l = leads w here in (l.0, first_held b.words b.firsts parts.firsts w l.1)
-
-      by : Annulled (run s0 n) (run s0 (suc n)) cond disp
-          → Compared r (suc n) (Left n node) × Passed r (suc n) (Left n node)
-      by (inl (holds, always, pc)) =
-          let to = always_goes cond true disp (run s0 n).codes stands after holds always pc in
-          heads r (suc n) (Left n node) node kinds.Taken to.0 (first to.1) (λ o among is from kind.
-          let not_always = (is_conditional is.cond o.way (about text given entry r.is_text o is).bounded).0 in
-          absurd (false≢true (cc (not_always, cond_of (conds o is from), always))))
-      by (inr (holds, pc)) =
-          let to = untaken_goes cond true disp (run s0 n).codes stands after holds pc in
-          heads r (suc n) (Left n node) node kinds.Untaken to.0 (first to.1) (λ o among is from kind.
-          let a = about text given entry r.is_text o is in
-          let last = at_last o is from in
-          let p = (known_outside r n node h slot).0 o among is from c.word c.at (omega (arith, a.below, last)) in
-          let none : o.approach.slot ≡ 0 = cc (a.slot, annul_of (conds o is from), kind) in
-          let back : p.moment + to_branch o.approach ≡ n = let e = p.ago in omega arith in
-          record {
-            moment = p.moment;
-            ago = let e = p.ago in omega arith;
-            compares = p.compares;
-            goes = cc (back, cond_of (conds o is from), holds, kind);
-          })
+          let l = leads w here in (l.0, first_held (b r).words (b r).firsts (parts r).firsts w l.1)
 
   pub quiet_knows : (n : ℕ) (node : Node) → Tells r n node → (run s0 (suc n)).ending ≡ None → (run s0 n).slot ≡ NoSlot
       → (run s0 (suc n)).slot ≡ NoSlot → Compared r (suc n) (Left n node) × Passed r (suc n) (Left n node)
-  quiet_knows n node h live slot now = by (transfers (word_instr text c.word)) refl
+  quiet_knows n node h live slot now = elim (cases_Bool (transfers (word_instr text c.word))) [
+    | inr e ↦ straight_knows n node h live slot c e
+    | inl e ↦
+        let q = annulled_is (run s0 n) (word_instr text c.word) slot e c.acted (ap (λ (u : State). u.slot) (sym c.acts) ∙ now) in
+        annulled_knows n node h live slot c q.0 q.1 q.2 (subst (λ (u : State). Annulled (run s0 n) u q.0 q.1) (sym c.acts) q.3)
+  ]
     where
       c : Carries r n node
       c = carried r n node live
-
-      by : (t : Bool) → transfers (word_instr text c.word) ≡ t
-          → Compared r (suc n) (Left n node) × Passed r (suc n) (Left n node)
-      by false e = straight_knows n node h live slot c e
-      by true e =
-          let q = annulled_is (run s0 n) (word_instr text c.word) slot e c.acted (ap (λ (u : State). u.slot) (sym c.acts) ∙ now) in
-          annulled_knows n node h live slot c q.0 q.1 q.2
-          (subst (λ (u : State). Annulled (run s0 n) u q.0 q.1) (sym c.acts) q.3)

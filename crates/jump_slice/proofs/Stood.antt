@@ -1,6 +1,6 @@
 -- In the jump's block of an open switch: the machine stands at each word so many steps after the comparison, and where
 -- the walk is at the block itself at the jump, it was so before.
-use Rattle.std.proofs.Common.{◌≡◌, ℕ, zero, suc, ◌+◌, ◌<◌, ◌≤◌, Bool, true, false, List, [], length, Option, Some, None, ap, sym, ◌∙◌, subst, arith, slice_index}
+use Rattle.std.proofs.Common.{◌≡◌, ℕ, zero, suc, ◌+◌, ◌<◌, ◌≤◌, Bool, true, false, List, [], length, Option, Some, None, ap, sym, ◌∙◌, arith, slice_index}
 use Rattle.std.specs.Prelude.{if◌then◌else◌}
 use Rattle.std.proofs.lemmas.Bool.{ne_eqb}
 use Rattle.eel_base.specs.CodeText.{Words, word_at}
@@ -11,7 +11,7 @@ use Rattle.v8_step.specs.State.{State}
 use Rattle.v8_step.specs.Items.{is_transfer}
 use Rattle.v8_step.specs.Run.{run}
 use Rattle.cfg_blocks.specs.declared.EdgeKind.TheVariants as kinds
-use Rattle.cfg_blocks.specs.Blocks.{Blocks, below, blocks_of, holding_of, is_among, last_word}
+use Rattle.cfg_blocks.specs.Blocks.{below, blocks_of, holding_of, is_among, last_word}
 use Rattle.cfg_blocks.specs.Ends.{within}
 use Rattle.cfg_blocks.specs.Entries.{entered_of}
 use Rattle.cfg_blocks.specs.Switches.{runs_slot}
@@ -19,10 +19,9 @@ use Rattle.cfg_blocks.specs.Values.{instr_at}
 use Rattle.cfg_normal.specs.declared.Node.{Node}
 use Rattle.cfg_normal.specs.Nodes.{home_of}
 use Rattle.cfg_normal.specs.Opens.{Open}
-use Rattle.cfg_normal.specs.Graph.{Graph, graph_of, node_of}
+use Rattle.cfg_normal.specs.Graph.{node_of}
 use Rattle.cfg_walk.specs.Walk.{Point, completed, edge_from, end_of_walk, gone, left_at, node_after, point_of, unless_ended}
 use Rattle.cfg_walk.specs.Matches.{MatchesBy}
-use Rattle.cfg_walk.proofs.Cut.{IsCut, cut}
 use Rattle.cfg_walk.proofs.Edges.{block}
 use Rattle.cfg_walk.proofs.Holding.{ends_within, is_held}
 use Rattle.cfg_walk.proofs.Leaving.{ends_home, node_is, straight_left}
@@ -34,7 +33,7 @@ use Rattle.jump_slice.proofs.Arriving.{at_jump}
 use Rattle.jump_slice.proofs.Coming.{IsAt, Ready}
 use Rattle.jump_slice.proofs.Blocks.{no_transfer}
 use Rattle.jump_slice.proofs.Branching.{run_add}
-use Rattle.jump_slice.proofs.Known.{IsRun, Tells}
+use Rattle.jump_slice.proofs.Known.{IsRun, Tells, b, graph, parts}
 use Rattle.jump_slice.proofs.Steps.{lived_to}
 use Rattle.jump_slice.proofs.Walking.{tells}
 use Rattle.jump_slice.proofs.Whole.{up_to}
@@ -44,57 +43,46 @@ use Rattle.jump_slice.proofs.Numbered.{goes_way, ready_at}
 
 module _ {text : Words} {given : List ℕ} {entry : ℕ} {opens : List Open} {s0 : State}
     (r : IsRun text given entry opens s0) (among : is_among given entry ≡ true) where
-  abbrev b : Blocks
-  b = blocks_of text given
-
-  abbrev graph : Graph
-  graph = graph_of b opens
-
-  parts : IsCut text b
-  parts = cut text given r.is_text.some
-
   abbrev walked : ℕ → Node
-  walked n = end_of_walk text graph entry s0 n
+  walked n = end_of_walk text (graph r) entry s0 n
 
   -- a word of a block before its last leaves the walk where it stands
   walk_stays : (n k word : ℕ) → (run s0 (suc n)).ending ≡ None → (run s0 n).slot ≡ NoSlot
-      → (run s0 (suc n)).slot ≡ NoSlot → word_at text (run s0 n).pc ≡ Some word → k < length b.firsts
-      → slice_index b.firsts k ≤ word → word < last_word b.firsts b.words k → walked (suc n) ≡ walked n
+      → (run s0 (suc n)).slot ≡ NoSlot → word_at text (run s0 n).pc ≡ Some word → k < length (b r).firsts
+      → slice_index (b r).firsts k ≤ word → word < last_word (b r).firsts (b r).words k → walked (suc n) ≡ walked n
   unfolding end_of_walk
   walk_stays n k word live was now at within above inner =
-      let node : Node = end_of_walk text graph entry s0 n in
+      let node : Node = end_of_walk text (graph r) entry s0 n in
       let p : Point = point_of (run s0 n) in
       let q : Point = point_of (run s0 (suc n)) in
-      ap (λ (x : Option Ending). node_after graph node (gone text graph node p (unless_ended x q))) live
-      ∙ ap (λ (x : Slot). node_after graph node (completed text graph node p q x (run s0 (suc n)).slot)) was
-      ∙ ap (λ (x : Slot). node_after graph node (completed text graph node p q NoSlot x)) now
-      ∙ ap (λ o. node_after graph node (left_at text graph node o)) at
-      ∙ ap (node_after graph node) (straight_left graph node word (instr_at text word) straight)
-      ∙ ap (λ (x : Bool). node_after graph node (if x then edge_from graph node kinds.Fall else []))
-      (ends_home b opens node k word home ∙ ne_eqb word (last_word b.firsts b.words k) (λ e. omega arith))
+      ap (λ (x : Option Ending). node_after (graph r) node (gone text (graph r) node p (unless_ended x q))) live
+      ∙ ap (λ (x : Slot). node_after (graph r) node (completed text (graph r) node p q x (run s0 (suc n)).slot)) was
+      ∙ ap (λ (x : Slot). node_after (graph r) node (completed text (graph r) node p q NoSlot x)) now
+      ∙ ap (λ o. node_after (graph r) node (left_at text (graph r) node o)) at
+      ∙ ap (node_after (graph r) node) (straight_left (graph r) node word (instr_at text word) straight)
+      ∙ ap (λ (x : Bool). node_after (graph r) node (if x then edge_from (graph r) node kinds.Fall else []))
+      (ends_home (b r) opens node k word home ∙ ne_eqb word (last_word (b r).firsts (b r).words k) (λ e. omega arith))
     where
-      low : word < b.words
-      low = omega (arith, ends_within b.words b.firsts parts.firsts k within)
+      low : word < (b r).words
+      low = omega (arith, ends_within (b r).words (b r).firsts (parts r).firsts k within)
 
       straight : is_transfer (instr_at text word) ≡ false
-      straight = no_transfer text b parts k word within above inner
+      straight = no_transfer text (b r) (parts r) k word within above inner
 
-      held : holding_of b word ≡ k
+      held : holding_of (b r) word ≡ k
       held =
-          is_held b.words b.firsts parts.firsts word k
+          is_held (b r).words (b r).firsts (parts r).firsts word k
           (record { within = within; above = above; below = omega arith })
 
-      home : home_of (end_of_walk text graph entry s0 n) ≡ block k
+      home : home_of (end_of_walk text (graph r) entry s0 n) ≡ block k
       home =
-          let h : Tells r n (end_of_walk text graph entry s0 n) = tells r among n (live_before (run s0 n) live) in
-          let matched : MatchesBy text graph (end_of_walk text graph entry s0 n) (point_of (run s0 n)) NoSlot =
-          subst (λ (x : Slot). MatchesBy text graph (end_of_walk text graph entry s0 n) (point_of (run s0 n)) x) was
-          h.matches in
-          matched.0 ∙ ap (node_of b) at ∙ node_is b word low ∙ ap block held
+          let h : Tells r n (end_of_walk text (graph r) entry s0 n) = tells r among n (live_before (run s0 n) live) in
+          let matched : MatchesBy text (graph r) (end_of_walk text (graph r) entry s0 n) (point_of (run s0 n)) NoSlot = rw was at h.matches in
+          matched.0 ∙ ap (node_of (b r)) at ∙ node_is (b r) word low ∙ ap block held
 
   -- so where it ends at the block itself, it stood there before
-  pub stood_before : (start k word steps : ℕ) → k < length b.firsts → slice_index b.firsts k ≤ word
-      → word + steps ≡ last_word b.firsts b.words k
+  pub stood_before : (start k word steps : ℕ) → k < length (b r).firsts → slice_index (b r).firsts k ≤ word
+      → word + steps ≡ last_word (b r).firsts (b r).words k
       → ((j : ℕ) → j ≤ steps → ((run s0 (start + j)).ending ≡ None) × IsAt text (word + j) (run s0 (start + j))
       × (word_at text (run s0 (start + j)).pc ≡ Some (word + j)))
       → walked (start + steps) ≡ block k → (left j : ℕ) → j + left ≡ steps → walked (start + j) ≡ block k
