@@ -1,12 +1,12 @@
 -- The edges of a graph, found by the node that they leave, or to which they lead, and by their kind.
-use Rattle.std.proofs.Common.{◌≡◌, ℕ, ◌<◌, Bool, true, false, ◌&&◌, ◌||◌, cond, List, [], ◌∷◌, ◌++◌, length, map, Option, Some, None, refl, ap, sym, ◌∙◌, subst, inl, inr}
+use Rattle.std.proofs.Common.{◌≡◌, ℕ, ◌<◌, Bool, true, false, ◌&&◌, ◌||◌, List, [], ◌∷◌, ◌++◌, length, map, Option, Some, None, refl, ap, sym, ◌∙◌, subst, inl, inr, arith}
 use Rattle.std.specs.Prelude.{if◌then◌else◌, ◌⊎◌, ◌==◌}
 use Rattle.std.specs.List.{filter, list_any, flat_map, slice_get, position}
 use Rattle.std.specs.Option.{option_to_list}
 use Rattle.std.proofs.lemmas.List.Folds.{list_any-append}
 use Rattle.std.proofs.lemmas.List.Quantifiers.{position-Some}
 use Rattle.std.proofs.lemmas.Option.{get_or_from_slice_get}
-use Rattle.std.proofs.lemmas.Bool.{and_parts, cond_both, eq-eqb, eqb-true, false≢true, or_left, or_right}
+use Rattle.std.proofs.lemmas.Bool.{and_parts, cases_Bool, cond_both, eq-eqb, false≢true, or_left, or_right}
 use Rattle.cfg_blocks.specs.declared.EdgeKind.{EdgeKind}
 use Rattle.cfg_blocks.specs.declared.EdgeKind.TheVariants as kinds
 use Rattle.cfg_blocks.specs.Ends.{Way}
@@ -46,20 +46,13 @@ edge_is graph p edge h = record { number = h.number; only = ap option_to_list h.
 -- ---- nodes
 
 pub same_nodes : (one other : Node) → same_node one other ≡ true → one ≡ other
-same_nodes (Block a) (Block b) e = ap (λ n. Block (record { 0 = n })) (eqb-true a.0 b.0 e)
-same_nodes (Landed a) (Landed b) e = ap (λ n. Landed (record { 0 = n })) (eqb-true a.0 b.0 e)
-same_nodes X X e = refl
-same_nodes (Block a) (Landed b) e = absurd (false≢true e)
-same_nodes (Block a) X e = absurd (false≢true e)
-same_nodes (Landed a) (Block b) e = absurd (false≢true e)
-same_nodes (Landed a) X e = absurd (false≢true e)
-same_nodes X (Block b) e = absurd (false≢true e)
-same_nodes X (Landed b) e = absurd (false≢true e)
+same_nodes one other e = grind arith
 
 pub same_itself : (node : Node) → same_node node node ≡ true
-same_itself (Block a) = eq-eqb a.0 a.0 refl
-same_itself (Landed a) = eq-eqb a.0 a.0 refl
-same_itself X = refl
+same_itself node = grind arith
+
+same_swap : (one other : Node) → same_node one other ≡ same_node other one
+same_swap one other = grind arith
 
 -- a node whose home is a block is that block or its copy
 pub node_at : (node : Node) (k : ℕ) → home_of node ≡ block k → (node ≡ block k) ⊎ (node ≡ copy k)
@@ -89,48 +82,21 @@ any_in_flat : {A : Type 0} (p : A → Bool) (f : ℕ → List A) (xs : List ℕ)
     → list_any p (f k) ≡ true → list_any p (flat_map f xs) ≡ true
 any_in_flat p f [] k l h = absurd (false≢true l)
 any_in_flat p f (x ∷ xs) k l h =
-    list_any-append p (f x) (flat_map f xs) ∙ by (x == k) refl l (λ rest. any_in_flat p f xs k rest h)
-  where
-    by : (b : Bool) → (x == k) ≡ b → (b || list_any (λ y. y == k) xs) ≡ true
-        → (list_any (λ y. y == k) xs ≡ true → list_any p (flat_map f xs) ≡ true)
-        → (list_any p (f x) || list_any p (flat_map f xs)) ≡ true
-    by true e l rest = or_left _ _ (ap (λ j. list_any p (f j)) (eqb-true x k e) ∙ h)
-    by false e l rest = or_right _ _ (rest l)
+    list_any-append p (f x) (flat_map f xs) ∙ (let rest = any_in_flat p f xs k in grind (arith, rest))
 
 any_filtered : (q : ℕ → Bool) (xs : List ℕ) (k : ℕ) → has k xs ≡ true → q k ≡ true → has k (filter q xs) ≡ true
 any_filtered q [] k l h = absurd (false≢true l)
-any_filtered q (x ∷ xs) k l h = by (x == k) refl (q x) refl l (λ rest. any_filtered q xs k rest h)
-  where
-    by : (b : Bool) → (x == k) ≡ b → (c : Bool) → q x ≡ c → (b || list_any (λ y. y == k) xs) ≡ true
-        → (list_any (λ y. y == k) xs ≡ true → list_any (λ y. y == k) (filter q xs) ≡ true)
-        → list_any (λ y. y == k) (cond c (x ∷ filter q xs) (filter q xs)) ≡ true
-    by true e true f l rest = ap (λ b. b || list_any (λ y. y == k) (filter q xs)) e
-    by true e false f l rest = absurd (false≢true (sym f ∙ ap q (eqb-true x k e) ∙ h))
-    by false e true f l rest = or_right _ _ (rest l)
-    by false e false f l rest = rest l
+any_filtered q (x ∷ xs) k l h = let rest = any_filtered q xs k in grind (arith, rest)
 
 -- a node that is among others
-turned_at : (node x : Node) (rest : List Node) (t : Bool) → same_node node x ≡ t
-    → (list_any (same_node node) rest ≡ true → list_any (is_it node) rest ≡ true)
-    → (t || list_any (same_node node) rest) ≡ true → (same_node x node || list_any (is_it node) rest) ≡ true
-turned_at node x rest true e next any =
-    or_left _ _ (ap (same_node x) (same_nodes node x e) ∙ same_itself x)
-turned_at node x rest false e next any = or_right _ _ (next any)
-
 turned : (node : Node) (xs : List Node) → list_any (same_node node) xs ≡ true → list_any (is_it node) xs ≡ true
 turned node [] any = any
-turned node (x ∷ xs) any = turned_at node x xs (same_node node x) refl (turned node xs) any
-
-alike_at : (node : Node) (rest : List Node) (t : Bool)
-    → (list_any (is_it node) rest ≡ true → list_any (λ n. same_node n node && true) rest ≡ true)
-    → (t || list_any (is_it node) rest) ≡ true → ((t && true) || list_any (λ n. same_node n node && true) rest) ≡ true
-alike_at node rest true next h = refl
-alike_at node rest false next h = next h
+turned node (x ∷ xs) any = let rest = turned node xs in let swap = same_swap node x in grind (arith, rest, swap)
 
 alike : (node : Node) (xs : List Node) → list_any (is_it node) xs ≡ true
     → list_any (λ n. same_node n node && true) xs ≡ true
 alike node [] h = h
-alike node (x ∷ xs) h = alike_at node xs (same_node x node) (alike node xs) h
+alike node (x ∷ xs) h = let rest = alike node xs in grind (arith, rest)
 
 pub number_of_list : (o : Option ℕ) (number : ℕ) → option_to_list o ≡ number ∷ [] → o ≡ Some number
 number_of_list None number e = absurd (cc)
@@ -196,17 +162,14 @@ module _ (b : Blocks) (opens : List Open) where
       (leaves : (edge : Edge) → p edge ≡ true → same_node edge.from node ≡ true)
       (only : Each (λ edge. p edge ≡ true → edge ≡ v) (edges_at node)) where
     no_other : (other : Node) → Each (λ edge. p edge ≡ true → edge ≡ v) (edges_at other)
-    no_other other = by (same_node other node) refl
-      where
-        by : (s : Bool) → same_node other node ≡ s → Each (λ edge. p edge ≡ true → edge ≡ v) (edges_at other)
-        by true e =
-            subst (λ (n : Node). Each (λ edge. p edge ≡ true → edge ≡ v) (edges_at n)) (sym (same_nodes other node e))
-            only
-        by false e =
-            each-then (λ edge. edge.from ≡ other) (λ edge. p edge ≡ true → edge ≡ v) (edges_at other)
-            (λ x from passes.
-            absurd (false≢true (sym e ∙ ap (λ n. same_node n node) (sym from) ∙ leaves x passes)))
-            (leave_node other)
+    no_other other = elim (cases_Bool (same_node other node)) [
+      | inl e ↦
+          subst (λ (n : Node). Each (λ edge. p edge ≡ true → edge ≡ v) (edges_at n)) (sym (same_nodes other node e)) only
+      | inr e ↦
+          each-then (λ edge. edge.from ≡ other) (λ edge. p edge ≡ true → edge ≡ v) (edges_at other)
+          (λ x from passes. absurd (false≢true (sym e ∙ ap (λ n. same_node n node) (sym from) ∙ leaves x passes)))
+          (leave_node other)
+    ]
 
     pub found_at : list_any p (edges_at node) ≡ true → IsFound p (edges_in b opens) v
     found_at any =
@@ -230,18 +193,13 @@ module _ (b : Blocks) (opens : List Open) where
   -- ---- the edge of a way
 
   not_outside : (node : Node) (k : ℕ) → home_of node ≡ block k → same_node X node ≡ false
-  not_outside (Block a) k e = refl
-  not_outside (Landed a) k e = refl
-  not_outside X k e = absurd (cc)
+  not_outside node k e = grind arith
 
   plain_edges : (node : Node) (k : ℕ) → home_of node ≡ block k → has_cases opens node ≡ false
       → edges_at node ≡ ways_out b opens node k
   plain_edges node k e quiet = elim (node_at node k e) [
-    | inl here ↦
-        subst (λ (n : Node). has_cases opens n ≡ false → edges_at n ≡ ways_out b opens n k) (sym here)
-        (λ quiet. ap (λ (x : Bool). if x then map (case_of b k) (case_nodes b opens k) else ways_out b opens (block k) k)
-        quiet) quiet
-    | inr there ↦ subst (λ (n : Node). edges_at n ≡ ways_out b opens n k) (sym there) refl
+    | inl here ↦ rw here (ap (λ (x : Bool). if x then map (case_of b k) (case_nodes b opens k) else ways_out b opens (block k) k) (rw here at quiet))
+    | inr there ↦ rw there
   ]
 
   pub edge_found : (node : Node) (k : ℕ) (w : Way) → IsNodeIn b opens node → home_of node ≡ block k
@@ -268,31 +226,13 @@ module _ (b : Blocks) (opens : List Open) where
       → list_any (is_it to) xs ≡ true
   kept node to xs any is = subst (λ (n : Node). list_any (is_it n) xs ≡ true) (same_nodes node to is) (turned node xs any)
 
-  once_next : (to node : Node) (seen nodes : List Node) (s : Bool) → list_any (same_node node) seen ≡ s → (t : Bool)
-      → same_node node to ≡ t → (u : Bool) → list_any (is_it to) seen ≡ u
-      → (u || (t || list_any (is_it to) nodes)) ≡ true
-      → (list_any (is_it to) (cond s seen (seen ++ node ∷ [])) || list_any (is_it to) nodes) ≡ true
-  once_next to node seen nodes true e t f true g h = or_left _ _ g
-  once_next to node seen nodes true e true f false g h = or_left _ _ (kept node to seen e f)
-  once_next to node seen nodes true e false f false g h = or_right _ _ h
-  once_next to node seen nodes false e t f true g h =
-      or_left _ _ (list_any-append (is_it to) seen (node ∷ []) ∙ or_left _ _ g)
-  once_next to node seen nodes false e true f false g h =
-      or_left _ _ (list_any-append (is_it to) seen (node ∷ []) ∙ or_right _ _ (or_left _ _ f))
-  once_next to node seen nodes false e false f false g h = or_right _ _ h
-
-  or_none : (x : Bool) → (x || false) ≡ true → x ≡ true
-  or_none true h = refl
-  or_none false h = h
-
   pub any_once : (to : Node) (seen nodes : List Node)
       → (list_any (is_it to) seen || list_any (is_it to) nodes) ≡ true
       → list_any (is_it to) (once_onto seen nodes) ≡ true
-  any_once to seen [] h = or_none _ h
+  any_once to seen [] h = grind arith
   any_once to seen (node ∷ nodes) h =
       any_once to (if list_any (same_node node) seen then seen else seen ++ node ∷ []) nodes
-      (once_next to node seen nodes (list_any (same_node node) seen) refl (same_node node to) refl
-      (list_any (is_it to) seen) refl h)
+      (let k = kept node to seen in let a = list_any-append (is_it to) seen (node ∷ []) in grind (arith, k, a))
 
   pub case_found : (k : ℕ) (to : Node) → k < length b.firsts → jumps_in opens k ≡ true
       → list_any (λ n. same_node n to) (case_nodes b opens k) ≡ true

@@ -1,7 +1,7 @@
 -- Leaving a block from its last word.
 use Rattle.std.proofs.Common.{◌≡◌, ℕ, suc, ◌+◌, ◌<◌, Bool, true, false, ◌==◌, List, [], inl, inr, slice_index, Some, refl, ap, sym, ◌∙◌, subst, arith}
 use Rattle.std.specs.Prelude.{if◌then◌else◌}
-use Rattle.std.proofs.lemmas.Bool.{lt-ltb, cond_both, eqb-true, eqb-false, false≢true}
+use Rattle.std.proofs.lemmas.Bool.{cond_both, eqb-false, eqb-true, false_from_ne_true, false≢true, lt-ltb}
 use Rattle.eel_base.specs.CodeText.{Words}
 use Rattle.v8_decode.specs.declared.Instr.{Instr}
 use Rattle.v8_decode.specs.declared.Instr.TheVariants as i
@@ -43,10 +43,7 @@ end_is text word instr e = ap (end_by text word) e
 
 pub straight_end : (text : Words) (word : ℕ) (instr : Instr) → transfers instr ≡ false
     → end_by text word instr ≡ ends.Fall
-straight_end text word (i.Branch cond annul disp22) e = absurd (cc)
-straight_end text word (i.Call disp30) e = absurd (cc)
-straight_end text word (i.Jmpl rd rs1 op2) e = absurd (cc)
-straight_end text word _ e = refl
+straight_end text word instr e = grind arith
 
 pub straight_left : (graph : Graph) (node : Node) (word : ℕ) (instr : Instr) → transfers instr ≡ false
     → left_by graph node word instr
@@ -58,22 +55,15 @@ straight_left graph node word _ e = refl
 
 pub ends_home : (b : Blocks) (opens : List Open) (node : Node) (k word : ℕ) → home_of node ≡ block k
     → ends_block (graph_of b opens) node word ≡ (word == last_word b.firsts b.words k)
-ends_home b opens node k word h = elim (node_at node k h) [
-  | inl here ↦ subst (λ (n : Node). ends_block (graph_of b opens) n word ≡ (word == last_word b.firsts b.words k)) (sym here) refl
-  | inr there ↦ subst (λ (n : Node). ends_block (graph_of b opens) n word ≡ (word == last_word b.firsts b.words k)) (sym there) refl
-]
+ends_home b opens node k word h = elim (node_at node k h) [ inl here ↦ rw here | inr there ↦ rw there ]
 
 -- a node of a block that ends in no jump has no Case edges
 pub no_cases : (b : Blocks) (opens : List Open) → AreOpen b opens → (node : Node) (k : ℕ) → home_of node ≡ block k
     → is_jump (end_of b k) ≡ false → has_cases opens node ≡ false
 no_cases b opens are node k h plain = elim (node_at node k h) [
-  | inl here ↦ subst (λ (n : Node). has_cases opens n ≡ false) (sym here) (by (jumps_in opens k) refl)
-  | inr there ↦ subst (λ (n : Node). has_cases opens n ≡ false) (sym there) refl
+  | inl here ↦ rw here (false_from_ne_true (jumps_in opens k) (λ e. false≢true (sym plain ∙ are k e)))
+  | inr there ↦ rw there
 ]
-  where
-    by : (x : Bool) → jumps_in opens k ≡ x → jumps_in opens k ≡ false
-    by true e = absurd (false≢true (sym plain ∙ are k e))
-    by false e = e
 
 module _ (text : Words) (b : Blocks) (opens : List Open) (c : IsCut text b) (word : ℕ) (l : word < b.words) where
   -- the block that holds the word

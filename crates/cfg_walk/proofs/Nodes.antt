@@ -1,9 +1,9 @@
 -- The nodes about open switches.
-use Rattle.std.proofs.Common.{◌≡◌, ℕ, ◌<◌, ◌≤◌, nat_le, Bool, true, false, not, ◌&&◌, ◌||◌, nat_lt, cond, List, [], ◌∷◌, ◌++◌, length, map, Option, Some, None, refl, ap, sym, ◌∙◌, subst, arith}
+use Rattle.std.proofs.Common.{◌≡◌, ℕ, ◌<◌, ◌≤◌, nat_le, Bool, true, false, not, ◌&&◌, ◌||◌, nat_lt, List, [], ◌∷◌, ◌++◌, length, map, Option, Some, None, refl, ap, sym, ◌∙◌, subst, arith, inl, inr}
 use Rattle.std.specs.Prelude.{if◌then◌else◌, ◌==◌}
 use Rattle.std.specs.List.{filter, flat_map, list_any, slice_get}
 use Rattle.std.proofs.lemmas.List.Sums.{count_by-le-length}
-use Rattle.std.proofs.lemmas.Bool.{and_parts, cond_both, eqb-true, false≢true, lt-ltb, or_left, or_right}
+use Rattle.std.proofs.lemmas.Bool.{and_parts, cond_both, eqb-true, false≢true, lt-ltb, or_cases, or_left, or_right}
 use Rattle.cfg_blocks.specs.declared.EdgeKind.{EdgeKind}
 use Rattle.cfg_blocks.specs.Blocks.{Blocks, holding_of}
 use Rattle.cfg_normal.specs.declared.Node.{Node}
@@ -20,17 +20,11 @@ use Rattle.cfg_walk.specs.Walk.{led_to, node_after}
 use Rattle.cfg_walk.proofs.Lists.{Each, each, each-append, each-below, each-flat_map, each-map, each-then, each_at}
 
 pub home_of_node : (b : Blocks) (to : Option ℕ) → home_of (node_of b to) ≡ node_of b to
-home_of_node b None = refl
-home_of_node b (Some word) =
-    cond_both (nat_lt word b.words) (block (holding_of b word)) X (λ n. home_of n ≡ n) (λ _. refl) (λ _. refl)
+home_of_node b to = grind arith
 
 pub home_directed : (opens : List Open) (from : Node) (kind : EdgeKind) (to : Node)
     → home_of (directed opens from kind to) ≡ home_of to
-home_directed opens from kind (Block to) =
-    cond_both (jumps_in opens to.0 && not (is_compared opens from kind to.0)) (Landed to) (Block to)
-    (λ n. home_of n ≡ Block to) (λ _. refl) (λ _. refl)
-home_directed opens from kind (Landed to) = refl
-home_directed opens from kind X = refl
+home_directed opens from kind to = grind arith
 
 -- the node at which a word's landing goes on: the block that holds the word, or its copy
 pub lands_as : (b : Blocks) (opens : List Open) (word : ℕ) → word < b.words → (P : Node → Type 0)
@@ -46,14 +40,7 @@ lands_as b opens word l P one other =
     (cond_both (jumps_in opens k || is_behind opens k word) (copy k) (block k) P one other)
 
 pub home_lands : (b : Blocks) (opens : List Open) (to : Option ℕ) → home_of (lands_of b opens to) ≡ node_of b to
-home_lands b opens None = refl
-home_lands b opens (Some word) =
-    let k : ℕ = holding_of b word in
-    cond_both (nat_lt word b.words) (if jumps_in opens k || is_behind opens k word then copy k else block k) X
-    (λ n. home_of n ≡ (if nat_lt word b.words then block k else X))
-    (λ e. rw e (cond_both (jumps_in opens k || is_behind opens k word) (copy k) (block k) (λ n. home_of n ≡ block k)
-    (λ _. refl) (λ _. refl)))
-    (λ e. rw e refl)
+home_lands b opens to = grind arith
 
 -- there is a landing there
 pub lands_there : (b : Blocks) (opens : List Open) (word : ℕ) → word < b.words
@@ -63,22 +50,11 @@ lands_there b opens word l =
     (λ h. at_copy (holding_of b word) (copied_where opens (holding_of b word) word h)) (λ h. at_block (holding_of b word) h)
   where
     at_copy : (k : ℕ) → is_copied opens k ≡ true → list_any (is_it (copy k)) (landings_of opens k) ≡ true
-    at_copy k h =
-        cond_both (jumps_in opens k) (copy k ∷ []) (if is_copied opens k then block k ∷ copy k ∷ [] else block k ∷ [])
-        (λ ns. list_any (is_it (copy k)) ns ≡ true) (λ _. or_left _ _ (same_itself (copy k)))
-        (λ _. cond_both (is_copied opens k) (block k ∷ copy k ∷ []) (block k ∷ [])
-        (λ ns. list_any (is_it (copy k)) ns ≡ true) (λ _. or_left _ _ (same_itself (copy k)))
-        (λ e. absurd (false≢true (sym e ∙ h))))
+    at_copy k h = grind arith
 
     at_block : (k : ℕ) → (jumps_in opens k || is_behind opens k word) ≡ false
         → list_any (is_it (block k)) (landings_of opens k) ≡ true
-    at_block k h =
-        cond_both (jumps_in opens k) (copy k ∷ []) (if is_copied opens k then block k ∷ copy k ∷ [] else block k ∷ [])
-        (λ ns. list_any (is_it (block k)) ns ≡ true)
-        (λ e. absurd (false≢true (sym h ∙ or_left _ _ e)))
-        (λ _. cond_both (is_copied opens k) (block k ∷ copy k ∷ []) (block k ∷ [])
-        (λ ns. list_any (is_it (block k)) ns ≡ true) (λ _. or_left _ _ (same_itself (block k)))
-        (λ _. or_left _ _ (same_itself (block k))))
+    at_block k h = grind arith
 
 -- ---- nodes of the graph
 
@@ -120,17 +96,10 @@ lands_in b opens some (Some word) =
 any_to : (b : Blocks) (opens : List Open) (word : ℕ) (words : List ℕ) → list_any (λ x. x == word) words ≡ true
     → list_any (is_it (lands_of b opens (Some word))) (map (λ w. lands_of b opens (Some w)) words) ≡ true
 any_to b opens word [] h = absurd (false≢true h)
-any_to b opens word (x ∷ xs) h = by (x == word) refl h (any_to b opens word xs)
-  where
-    by : (t : Bool) → (x == word) ≡ t → (t || list_any (λ y. y == word) xs) ≡ true
-        → (list_any (λ y. y == word) xs ≡ true
-        → list_any (is_it (lands_of b opens (Some word))) (map (λ w. lands_of b opens (Some w)) xs) ≡ true)
-        → (same_node (lands_of b opens (Some x)) (lands_of b opens (Some word))
-        || list_any (is_it (lands_of b opens (Some word))) (map (λ w. lands_of b opens (Some w)) xs)) ≡ true
-    by true e h next =
-        or_left _ _ (ap (λ w. same_node (lands_of b opens (Some w)) (lands_of b opens (Some word))) (eqb-true x word e)
-        ∙ same_itself (lands_of b opens (Some word)))
-    by false e h next = or_right _ _ (next h)
+any_to b opens word (x ∷ xs) h = elim (or_cases (x == word) _ h) [
+  | inl e ↦ or_left _ _ (ap (λ w. same_node (lands_of b opens (Some w)) (lands_of b opens (Some word))) (eqb-true x word e) ∙ same_itself (lands_of b opens (Some word)))
+  | inr e ↦ or_right _ _ (any_to b opens word xs e)
+]
 
 pub case_any : (b : Blocks) (opens : List Open) (k word : ℕ) → list_any (λ x. x == word) (targets_in opens k) ≡ true
     → list_any (is_it (lands_of b opens (Some word))) (case_nodes b opens k) ≡ true
@@ -143,11 +112,9 @@ case_any b opens k word h =
 each-filtered : (q : ℕ → Bool) (xs : List ℕ) (P Q : ℕ → Type 0) → ((k : ℕ) → P k → q k ≡ true → Q k) → Each P xs
     → Each Q (filter q xs)
 each-filtered q [] P Q f h = tt
-each-filtered q (x ∷ xs) P Q f h = by (q x) refl (each-filtered q xs P Q f h.1)
-  where
-    by : (t : Bool) → q x ≡ t → Each Q (filter q xs) → Each Q (cond t (x ∷ filter q xs) (filter q xs))
-    by true e rest = (f x h.0 e, rest)
-    by false e rest = rest
+each-filtered q (x ∷ xs) P Q f h =
+    let rest = each-filtered q xs P Q f h.1 in
+    cond_both (q x) (x ∷ filter q xs) (filter q xs) (Each Q) (λ e. (f x h.0 e, rest)) (λ _. rest)
 
 module _ (b : Blocks) (opens : List Open) (some : 1 ≤ length b.firsts) where
   abbrev LeadsIn : Edge → Type 0

@@ -1,5 +1,5 @@
 -- The graph where no switch is open: blocks and X are its nodes, and a block has an edge for each way out of it.
-use Rattle.std.proofs.Common.{◌≡◌, ℕ, suc, ◌+◌, ◌≤◌, Bool, true, false, nat_lt, List, [], ◌∷◌, ◌++◌, append-nil, length, map, Option, Some, None, refl, ap, sym, ◌∙◌, arith}
+use Rattle.std.proofs.Common.{◌≡◌, ℕ, suc, ◌+◌, ◌≤◌, Bool, true, false, nat_lt, List, [], ◌∷◌, ◌++◌, append-nil, length, map, Option, Some, refl, ap, sym, ◌∙◌, arith}
 use Rattle.std.specs.Prelude.{if◌then◌else◌}
 use Rattle.std.specs.List.{filter, flat_map, slice_get}
 use Rattle.std.proofs.lemmas.Bool.{cond_both, false≢true}
@@ -34,18 +34,13 @@ home_none b (Landed k) h = absurd (false≢true h.1)
 home_none b X h = refl
 
 pub directed_none : (from : Node) (kind : EdgeKind) (to : Node) → directed [] from kind to ≡ to
-directed_none from kind (Block k) = refl
-directed_none from kind (Landed k) = refl
-directed_none from kind X = refl
+directed_none from kind to = grind arith
 
 pub lands_none : (b : Blocks) (word : Option ℕ) → lands_of b [] word ≡ node_of b word
-lands_none b None = refl
-lands_none b (Some word) = refl
+lands_none b word = grind arith
 
 pub cases_none : (node : Node) → has_cases [] node ≡ false
-cases_none (Block k) = refl
-cases_none (Landed k) = refl
-cases_none X = refl
+cases_none node = grind arith
 
 -- so no jump goes by case
 pub open_none : (b : Blocks) → AreOpen b []

@@ -2,7 +2,7 @@
 use Rattle.std.proofs.Common.{◌≡◌, ℕ, ◌+◌, ◌<◌, inl, inr, not, ◌&&◌, List, Bool, true, false, nat_lt, [], ◌++◌, Option, Some, None, refl, ap, sym, ◌∙◌, subst, arith, append-nil}
 use Rattle.std.specs.Prelude.{if◌then◌else◌, slice_index}
 use Rattle.std.specs.List.{list_any}
-use Rattle.std.proofs.lemmas.Bool.{cond_both, false≢true}
+use Rattle.std.proofs.lemmas.Bool.{cases_Bool, cond_both, false≢true}
 use Rattle.std.proofs.lemmas.Bool.Decides.{nat_tests}
 use Rattle.eel_base.specs.CodeText.{Words, address_of, word_at}
 use Rattle.v8_decode.specs.Words.{decode_of}
@@ -72,10 +72,7 @@ module _ (text : Words) (b : Blocks) (opens : List Open) (c : IsCut text b) wher
 
   last_home : (node : Node) (k : ℕ) → home_of node ≡ block k
       → last_in graph node ≡ last_word b.firsts b.words k
-  last_home node k h = elim (node_at node k h) [
-    | inl here ↦ subst (λ (n : Node). last_in graph n ≡ last_word b.firsts b.words k) (sym here) refl
-    | inr there ↦ subst (λ (n : Node). last_in graph n ≡ last_word b.firsts b.words k) (sym there) refl
-  ]
+  last_home node k h = elim (node_at node k h) [ inl here ↦ rw here | inr there ↦ rw there ]
 
   module _ (word : ℕ) (l : word < b.words) (t : is_transfer (end_at text word) ≡ true) (are : AreOpen b opens)
       (node : Node) (there : IsNodeIn b opens node) (home : home_of node ≡ block (here text b opens c word l)) where
@@ -215,31 +212,28 @@ module _ (text : Words) (b : Blocks) (opens : List Open) (c : IsCut text b) wher
   -- where a jump lands, by case or not
   pub jump_lands : (node : Node) (point : Point) → IsOnItsWay text graph node point kinds.Out
       → node_after graph node (slot_left text graph node kinds.Out point.npc) ≡ lands_of b opens (word_at text point.npc)
-  jump_lands node point h = by (has_cases opens node) refl
-    where
-      by : (x : Bool) → has_cases opens node ≡ x
-          → node_after graph node (slot_left text graph node kinds.Out point.npc)
-          ≡ lands_of b opens (word_at text point.npc)
-      by true e =
-          let way : WayOut = record { kind = kinds.Case; to = Some (lands_of b opens (word_at text point.npc)) } in
-          let is : way_to text graph node kinds.Out point.npc ≡ way =
-          ap (λ (x : Bool). if x then way else by_kind kinds.Out) e in
-          ap (λ (w : WayOut). node_after graph node (left_along text graph node w point.npc)) is
-          ∙ ap (node_after graph node) (append-nil (edge_along graph node way))
-          ∙ leads_along graph node _ h.edge
-          (record { number = h.number; only = ap (edge_along graph node) (sym is) ∙ h.only; is = h.is })
-          ∙ h.lands_at refl
-          ∙ ap (λ (x : Bool). if x then lands_of b opens (word_at text point.npc) else X) e
-      by false e =
-          let is : way_to text graph node kinds.Out point.npc ≡ by_kind kinds.Out =
-          ap (λ (x : Bool). if x then record { kind = kinds.Case; to = Some (lands_of b opens (word_at text point.npc)) } else by_kind kinds.Out) e in
-          let landings = landed text graph kinds.Out point.npc in
-          ap (λ (w : WayOut). node_after graph node (left_along text graph node w point.npc)) is
-          ∙ ap (λ numbers. node_after graph node (numbers ++ landings)) (ap (edge_along graph node) (sym is) ∙ h.only)
-          ∙ ap (λ o. node_after graph (led_to node o) landings) h.is
-          ∙ ap (λ to. node_after graph to landings)
-          (h.lands_at refl ∙ ap (λ (x : Bool). if x then lands_of b opens (word_at text point.npc) else X) e)
-          ∙ landed_out point.npc (word_at text point.npc) refl
+  jump_lands node point h = elim (cases_Bool (has_cases opens node)) [
+    | inl e ↦
+        let way : WayOut = record { kind = kinds.Case; to = Some (lands_of b opens (word_at text point.npc)) } in
+        let is : way_to text graph node kinds.Out point.npc ≡ way =
+        ap (λ (x : Bool). if x then way else by_kind kinds.Out) e in
+        ap (λ (w : WayOut). node_after graph node (left_along text graph node w point.npc)) is
+        ∙ ap (node_after graph node) (append-nil (edge_along graph node way))
+        ∙ leads_along graph node _ h.edge
+        (record { number = h.number; only = ap (edge_along graph node) (sym is) ∙ h.only; is = h.is })
+        ∙ h.lands_at refl
+        ∙ ap (λ (x : Bool). if x then lands_of b opens (word_at text point.npc) else X) e
+    | inr e ↦
+        let is : way_to text graph node kinds.Out point.npc ≡ by_kind kinds.Out =
+        ap (λ (x : Bool). if x then record { kind = kinds.Case; to = Some (lands_of b opens (word_at text point.npc)) } else by_kind kinds.Out) e in
+        let landings = landed text graph kinds.Out point.npc in
+        ap (λ (w : WayOut). node_after graph node (left_along text graph node w point.npc)) is
+        ∙ ap (λ numbers. node_after graph node (numbers ++ landings)) (ap (edge_along graph node) (sym is) ∙ h.only)
+        ∙ ap (λ o. node_after graph (led_to node o) landings) h.is
+        ∙ ap (λ to. node_after graph to landings)
+        (h.lands_at refl ∙ ap (λ (x : Bool). if x then lands_of b opens (word_at text point.npc) else X) e)
+        ∙ landed_out point.npc (word_at text point.npc) refl
+  ]
 
   pub out_of_slot : (node : Node) (point : Point) (way : EdgeKind)
       → IsOnItsWay text graph node point way → GoesOut node way point.npc

@@ -1,8 +1,8 @@
 -- The walk follows each step of the machine.
-use Rattle.std.proofs.Common.{◌≡◌, ◌≢◌, ℕ, ◌+◌, ◌-◌, ◌%◌, ◌^◌, List, Bool, true, false, not, ◌==◌, Option, Some, None, refl, ap, sym, ◌∙◌, subst, arith, slice_index}
+use Rattle.std.proofs.Common.{◌≡◌, ◌≢◌, ℕ, ◌+◌, ◌-◌, ◌%◌, ◌^◌, List, Bool, true, false, not, ◌==◌, Option, Some, None, refl, ap, sym, ◌∙◌, subst, arith, slice_index, inl, inr}
 use Rattle.std.specs.Prelude.{ℤ}
 use Rattle.std.specs.Option.{option_map}
-use Rattle.std.proofs.lemmas.Bool.{cond_both}
+use Rattle.std.proofs.lemmas.Bool.{cases_Bool, cond_both}
 use Rattle.eel_base.specs.CodeText.{Words, IsText, word_at}
 use Rattle.v8_decode.specs.declared.Op2.{Op2}
 use Rattle.v8_decode.specs.declared.Instr.{Instr}
@@ -57,12 +57,9 @@ coupled Untaken s t h = refl
 pub couples : (x : Slot) (s : State) (instr : Instr) → x ≢ NoSlot → s.slot ≡ x → is_transfer instr ≡ true
     → (act s instr).ending ≡ Some Couple
 unfolding act
-couples x s (i.Branch cond annul disp22) h e t =
-    ap (λ y. (unless_couple y s (branch_step s cond annul disp22)).ending) e ∙ coupled x s _ h
-couples x s (i.Call disp30) h e t =
-    ap (λ y. (unless_couple y s (call_step s disp30)).ending) e ∙ coupled x s _ h
-couples x s (i.Jmpl rd rs1 op2) h e t =
-    ap (λ y. (unless_couple y s (jump_step s rd (sum_of s rs1 op2))).ending) e ∙ coupled x s _ h
+couples x s (i.Branch cond annul disp22) h e t = ap (λ y. (unless_couple y s (branch_step s cond annul disp22)).ending) e ∙ coupled x s _ h
+couples x s (i.Call disp30) h e t = ap (λ y. (unless_couple y s (call_step s disp30)).ending) e ∙ coupled x s _ h
+couples x s (i.Jmpl rd rs1 op2) h e t = ap (λ y. (unless_couple y s (jump_step s rd (sum_of s rs1 op2))).ending) e ∙ coupled x s _ h
 couples x s _ h e t = absurd (cc)
 
 -- a step out of a slot goes on where the transfer before leads
@@ -125,15 +122,10 @@ module _ (text : Words) (is : IsText text) (b : Blocks) (opens : List Open) (c :
   inside : (x : Slot) → x ≢ NoSlot → s.slot ≡ x → (instr : Instr)
       → IsOnItsWay text graph node (point_of s) (way_in x)
       → (act s instr).ending ≡ None → GoesTo text graph node s (act s instr)
-  inside x not e instr way live = by (is_transfer instr) refl
-    where
-      by : (t : Bool) → is_transfer instr ≡ t → GoesTo text graph node s (act s instr)
-      by true t =
-          let ended : (act s instr).ending ≡ Some Couple = couples x s instr not e t in
-          absurd (cc)
-      by false f =
-          let went = goes_act s instr f live in
-          leaves x not e (act s instr) way went.0 went.1 went.2
+  inside x not e instr way live = elim (cases_Bool (is_transfer instr)) [
+    | inl t ↦ let ended : (act s instr).ending ≡ Some Couple = couples x s instr not e t in absurd (cc)
+    | inr f ↦ let went = goes_act s instr f live in leaves x not e (act s instr) way went.0 went.1 went.2
+  ]
 
   -- ---- outside
 

@@ -1,8 +1,8 @@
 -- What the walk does at each transfer outside a slot.
-use Rattle.std.proofs.Common.{◌≡◌, ℕ, ◌+◌, ◌*◌, ◌%◌, ◌^◌, Bool, true, false, not, ◌==◌, ◌||◌, List, Option, Some, None, refl, ap, sym, ◌∙◌, subst}
+use Rattle.std.proofs.Common.{◌≡◌, ℕ, ◌+◌, ◌*◌, ◌%◌, ◌^◌, Bool, true, false, not, ◌==◌, ◌||◌, List, Option, Some, None, refl, ap, sym, ◌∙◌, subst, inl, inr}
 use Rattle.std.specs.Prelude.{if◌then◌else◌, ℤ}
 use Rattle.std.specs.Int.{w32, cast_unsigned}
-use Rattle.std.proofs.lemmas.Bool.{false≢true}
+use Rattle.std.proofs.lemmas.Bool.{cases_Bool, false≢true}
 use Rattle.eel_base.specs.CodeText.{Words, numbered, target_of, word_at}
 use Rattle.eel_base.specs.declared.numbers.WordNo.{WordNo}
 use Rattle.v8_decode.specs.declared.Op2.{Op2}
@@ -56,15 +56,11 @@ module _ {text : Words} {b : Blocks} {opens : List Open} {node : Node} {before :
 
     one_taken : holds_of cond codes ≡ true → IsOne taken (ways_of b.words word (end_at text word))
     unfolding taken
-    one_taken holds =
-        subst (λ (e : BlockEnd). IsOne taken (ways_of b.words word e)) (sym end)
-        (taken_is_one b.words word cond annul target (not_never cond codes holds))
+    one_taken holds = rw end (taken_is_one b.words word cond annul target (not_never cond codes holds))
 
     one_untaken : holds_of cond codes ≡ false → IsOne untaken (ways_of b.words word (end_at text word))
     unfolding untaken
-    one_untaken holds =
-        subst (λ (e : BlockEnd). IsOne untaken (ways_of b.words word e)) (sym end)
-        (untaken_is_one b.words word cond annul target (not_always cond codes holds))
+    one_untaken holds = rw end (untaken_is_one b.words word cond annul target (not_always cond codes holds))
 
     is_target : holds_of cond codes ≡ true → target ≡ numbered (target_of text word disp22)
     unfolding target
@@ -163,20 +159,16 @@ module _ {text : Words} {b : Blocks} {opens : List Open} {node : Node} {before :
       → Stands text b opens node before word (i.Jmpl rd rs1 op2) → after.pc ≡ before.npc → after.slot ≡ Taken
       → (has_cases opens node ≡ true → IsTarget text opens node after.npc)
       → StepsTo text (graph_of b opens) node before after NoSlot Taken
-  jump_delayed rd rs1 op2 after h pc slot by_case = by (has_cases opens node) refl
+  jump_delayed rd rs1 op2 after h pc slot by_case = elim (cases_Bool (has_cases opens node)) [
+    | inl e ↦
+        into_case h after (ap is_transfer end) Taken refl e (by_case e)
+        (ap (λ (x : BlockEnd). runs_slot x kinds.Case) end) pc slot
+    | inr e ↦
+        into_slot h after (ap is_transfer end) Taken (way kinds.Out None) (rw end (jump_is_one b.words word)) refl
+        (ap (λ (x : Bool). if x then record { kind = kinds.Case; to = Some (lands_of b opens (word_at text after.npc)) } else by_kind kinds.Out) e)
+        e (ap (λ (e : BlockEnd). runs_slot e kinds.Out) end) pc (λ jump. absurd (false≢true (sym jump)))
+        (λ jump. absurd (false≢true (sym jump))) (λ _. (slot, refl))
+  ]
     where
       end : end_at text word ≡ ends.Jump
       end = end_is text word (i.Jmpl rd rs1 op2) h.decodes
-
-      by : (x : Bool) → has_cases opens node ≡ x → StepsTo text (graph_of b opens) node before after NoSlot Taken
-      by true e =
-          into_case h after (ap is_transfer end) Taken refl e (by_case e)
-          (ap (λ (x : BlockEnd). runs_slot x kinds.Case) end) pc slot
-      by false e =
-          into_slot h after (ap is_transfer end) Taken (way kinds.Out None)
-          (subst (λ (e : BlockEnd). IsOne (way kinds.Out None) (ways_of b.words word e)) (sym end)
-          (jump_is_one b.words word))
-          refl
-          (ap (λ (x : Bool). if x then record { kind = kinds.Case; to = Some (lands_of b opens (word_at text after.npc)) } else by_kind kinds.Out) e)
-          e (ap (λ (e : BlockEnd). runs_slot e kinds.Out) end) pc (λ jump. absurd (false≢true (sym jump)))
-          (λ jump. absurd (false≢true (sym jump))) (λ _. (slot, refl))
