@@ -1,21 +1,21 @@
 -- What is added up to the visits of each word.
-use Rattle.std.proofs.Common.{◌≡◌, ℕ, zero, suc, ◌+◌, ◌*◌, ◌<◌, Bool, true, false, List, length, slice_index, Some, refl, ap, ◌∙◌, arith}
+use Rattle.std.proofs.Common.{◌≡◌, ℕ, suc, ◌+◌, ◌*◌, ◌<◌, Bool, List, length, slice_index, Some, refl, ap, ◌∙◌, arith}
 use Rattle.std.specs.Prelude.{◌==◌, if◌then◌else◌}
 use Rattle.std.proofs.lemmas.Bool.{lt-ltb}
 use Rattle.flows.specs.Flows.{weight_below}
 use Rattle.cfg_blocks.specs.Blocks.{AreFirsts, Blocks, holding_of}
 use Rattle.cfg_normal.specs.declared.Node.{Node}
-use Rattle.cfg_normal.specs.declared.Node.TheVariants.{Block, Landed, X}
+use Rattle.cfg_normal.specs.declared.Node.TheVariants.{Block, X}
 use Rattle.cfg_normal.specs.Nodes.{same_node}
 use Rattle.cfg_normal.specs.Graph.{Graph, node_of}
 use Rattle.span_tree.specs.Links.{edge_at}
 use Rattle.instr_counts.specs.Answers.{along, as_slot, edge_in, is_block}
 use Rattle.instr_counts.specs.Visits.{AreSingle, finished, leads_to, one_if, runs_slot, sum_where}
 use Rattle.instr_counts.proofs.Single.{holds_itself}
+use Rattle.flows.proofs.Weights.{weight_same}
 
 weight_if : (b : Bool) (x : ℕ) → (if b then x else 0) ≡ x * one_if b
-weight_if true x = omega arith
-weight_if false x = omega arith
+weight_if b x = grind arith
 
 -- one number more
 pub one_more : (n : ℕ) (f : ℕ → ℕ) (s : ℕ → Bool)
@@ -23,13 +23,6 @@ pub one_more : (n : ℕ) (f : ℕ → ℕ) (s : ℕ → Bool)
 one_more n f s =
     let next : n + 1 ≡ suc n = omega arith in
     ap (λ k. weight_below k f s) next ∙ ap (λ x. weight_below n f s + x) (weight_if (s n) (f n))
-
-same_weights : (n : ℕ) (f : ℕ → ℕ) (s t : ℕ → Bool) → ((e : ℕ) → s e ≡ t e) → weight_below n f s ≡ weight_below n f t
-same_weights zero f s t same = refl
-same_weights (suc n) f s t same =
-    let before = same_weights n f s t same in
-    let last : (if s n then f n else 0) ≡ (if t n then f n else 0) = ap (λ (b : Bool). if b then f n else 0) (same n) in
-    omega (arith, before, last)
 
 module _ (b : Blocks) (f : AreFirsts b.words b.firsts) (single : AreSingle b) (word : ℕ) (inside : word < b.words) where
   home : node_of b (Some word) ≡ Block (record { 0 = word })
@@ -39,15 +32,13 @@ module _ (b : Blocks) (f : AreFirsts b.words b.firsts) (single : AreSingle b) (w
 
   -- an edge leads to the word's block where that has the word's number
   leads_there : (to : Node) → same_node to (node_of b (Some word)) ≡ is_block word to
-  leads_there (Block k) = ap (same_node (Block k)) home
-  leads_there (Landed k) = ap (same_node (Landed k)) home
-  leads_there X = ap (same_node X) home
+  leads_there to = rw home (grind arith)
 
   pub along_is : (graph : Graph) (counts : List ℕ)
       → sum_where graph (slice_index counts) (leads_to b word) ≡ along graph.edges counts (length graph.edges) word
   along_is graph counts =
-      same_weights (length graph.edges) (slice_index counts) (λ n. leads_to b word (edge_at graph n))
-      (λ n. is_block word (edge_in graph.edges n).to) (λ n. leads_there (edge_at graph n).to)
+      weight_same (length graph.edges) (slice_index counts) (λ n. leads_to b word (edge_at graph n))
+      (λ n. is_block word (edge_in graph.edges n).to) (λ n l. leads_there (edge_at graph n).to)
 
 -- ---- all that is added up for a word
 

@@ -1,5 +1,5 @@
 -- The place that is found, as notes have it.
-use Rattle.std.proofs.Common.{◌≡◌, ℕ, Bool, true, false, cond, ◌&&◌, List, [], ◌∷◌, map, Option, Some, refl, ap, ◌∙◌}
+use Rattle.std.proofs.Common.{◌≡◌, ℕ, Bool, ◌&&◌, List, [], ◌∷◌, map, Option, refl, ap, ◌∙◌, arith}
 use Rattle.std.specs.Prelude.{nat_le, nat_lt}
 use Rattle.std.specs.List.{find}
 use Rattle.std.specs.Option.{option_map}
@@ -14,12 +14,7 @@ use Rattle.instr_counts.specs.Answers.{begun_in}
 find-map : {A B : Type 0} (p : B → Bool) (f : A → B) (xs : List A)
     → find p (map f xs) ≡ option_map f (find (λ x. p (f x)) xs)
 find-map p f [] = refl
-find-map {A = A} {B = B} p f (x ∷ xs) = by (p (f x)) (find-map p f xs)
-  where
-    by : (c : Bool) → find p (map f xs) ≡ option_map f (find (λ x. p (f x)) xs)
-        → cond c (Some (f x)) (find p (map f xs)) ≡ option_map f (cond c (Some x) (find (λ x. p (f x)) xs))
-    by true earlier = refl
-    by false earlier = earlier
+find-map p f (x ∷ xs) = let rest = find-map p f xs in grind (arith, rest)
 
 -- as the code finds it
 module _ (n : declared_notes.Notes) (address : ℕ) where

@@ -6,7 +6,6 @@ use Rattle.std.proofs.lemmas.Bool.{cases_lt, cond_both}
 use Rattle.std.proofs.lemmas.List.{length-map}
 use Rattle.eel_base.specs.CodeText.{Words, IsText}
 use Rattle.v8_decode.specs.declared.Instr.{Instr}
-use Rattle.v8_decode.specs.declared.Instr.TheVariants as i
 use Rattle.v8_decode.specs.Words.{decode_of}
 use Rattle.eel_base.specs.declared.numbers.WordNo.{WordNo}
 use Rattle.cfg_blocks.specs.declared.BlockEnd.{BlockEnd}
@@ -30,9 +29,7 @@ use Rattle.instr_counts.proofs.Single.{first_is, last_is, words_are_blocks}
 -- a branch sets no codes
 branch_quiet : (text : Words) (word cond : ℕ) (annul : Bool) (target : Option WordNo) (instr : Instr)
     → end_by text word instr ≡ ends.Branch cond annul target → sets_codes instr ≡ false
-branch_quiet text word cond annul target (i.Branch c a d) e = refl
-branch_quiet text word cond annul target (i.Alu op sets rd rs1 op2) e = absurd (cc)
-branch_quiet text word cond annul target _ e = refl
+branch_quiet text word cond annul target instr e = grind arith
 
 module _ (text : Words) (given : List ℕ) (is : IsText text) (each : HasEach text given) where
   abbrev b : Blocks

@@ -1,9 +1,9 @@
 -- What a step counts, where each block has one word and no switch is open: along the edges that it completes the run
 -- comes to the word where it goes on, and has run the slot out of which it goes.
-use Rattle.std.proofs.Common.{◌≡◌, ◌≢◌, ℕ, ◌+◌, ◌-◌, ◌%◌, ◌<◌, ◌⊎◌, inl, inr, Bool, true, false, not, List, [], ◌++◌, length, slice_index, Option, Some, None, refl, ap, sym, ◌∙◌, subst, arith}
+use Rattle.std.proofs.Common.{◌≡◌, ◌≢◌, ℕ, ◌+◌, ◌-◌, ◌%◌, ◌<◌, inl, inr, Bool, true, false, not, List, [], ◌++◌, length, slice_index, Option, Some, None, refl, ap, sym, ◌∙◌, subst, arith}
 use Rattle.std.specs.Prelude.{◌==◌, if◌then◌else◌, ℤ}
 use Rattle.std.specs.Option.{option_map}
-use Rattle.std.proofs.lemmas.Bool.{cases_eq, cond_both, eq-eqb, eqb-true, false≢true, lt-ltb, ne_eqb}
+use Rattle.std.proofs.lemmas.Bool.{cases_Bool, cond_both, eq-eqb, eqb-true, false≢true, lt-ltb, ne_eqb}
 use Rattle.std.proofs.lemmas.Option.{get_or_from_slice_get}
 use Rattle.eel_base.specs.CodeText.{Words, IsText, address_of, word_at}
 use Rattle.eel_base.specs.declared.numbers.WordNo.{WordNo}
@@ -65,10 +65,7 @@ IsPassed _ = Unit {0}
 
 annuls : (holds all annul : Bool) (s : State) (target : ℕ) → (branched holds all annul s target).slot ≡ NoSlot
     → annul ≡ true
-annuls holds all true s target e = refl
-annuls true true false s target e = absurd (cc)
-annuls true false false s target e = absurd (cc)
-annuls false all false s target e = absurd (cc)
+annuls holds all annul s target e = grind arith
 
 jump_slot : (s : State) (rd target : ℕ) → (jump_step s rd target).ending ≡ None
     → (jump_step s rd target).slot ≡ NoSlot → ⊥
@@ -99,17 +96,10 @@ unfolding step_of
 out_slot s live in_slot = by s.ending refl (fetch_of s.memory s.pc) refl live
   where
     acts : (instr : Instr) → (act s instr).ending ≡ None → (act s instr).slot ≡ NoSlot
-    acts instr live = at_slot (is_transfer instr) refl s.slot refl
-      where
-        at_slot : (t : Bool) → is_transfer instr ≡ t → (x : Slot) → s.slot ≡ x → (act s instr).slot ≡ NoSlot
-        at_slot false f x e = (goes_act s instr f live).2
-        at_slot true f NoSlot e = absurd (in_slot e)
-        at_slot true f Taken e =
-            let ended : (act s instr).ending ≡ Some Couple = couples Taken s instr (λ g. absurd (cc)) e f in
-            absurd (cc)
-        at_slot true f Untaken e =
-            let ended : (act s instr).ending ≡ Some Couple = couples Untaken s instr (λ g. absurd (cc)) e f in
-            absurd (cc)
+    acts instr live = elim (cases_Bool (is_transfer instr)) [
+      | inr f ↦ (goes_act s instr f live).2
+      | inl f ↦ let ended : (act s instr).ending ≡ Some Couple = couples s.slot s instr in_slot refl f in absurd (cc)
+    ]
 
     by : (x : Option Ending) → s.ending ≡ x → (o : Option ℕ) → fetch_of s.memory s.pc ≡ o
         → (unless_over s x (on_word s o)).ending ≡ None → (unless_over s x (on_word s o)).slot ≡ NoSlot
@@ -157,15 +147,7 @@ module _ (text : Words) (is : IsText text) (b : Blocks) (c : IsCut text b) (sing
   w_low = omega (arith, inside, c.words)
 
   pub same_place : (v a : ℕ) → a ≡ address_of text v → one_if (v == w) ≡ here_at a
-  same_place v a e = by (cases_eq v w)
-    where
-      by : (v ≡ w) ⊎ (v ≡ w → ⊥) → one_if (v == w) ≡ here_at a
-      by (inl same) =
-          ap one_if (eq-eqb v w same)
-          ∙ sym (ap one_if (eq-eqb a (address_of text w) (e ∙ ap (address_of text) same)))
-      by (inr apart) =
-          ap one_if (ne_eqb v w apart)
-          ∙ sym (ap one_if (ne_eqb a (address_of text w) (λ same. apart (omega (arith, same, e)))))
+  same_place v a e = grind arith
 
   -- what comes to the node of an address comes to the word where that is the word's
   leads_node : (a : ℕ) → one_if (same_node (node_of b (word_at text a)) (node_of b (Some w))) ≡ here_at a
@@ -242,7 +224,7 @@ module _ (text : Words) (is : IsText text) (b : Blocks) (c : IsCut text b) (sing
         ∙ ap (λ (t : Bool). if t then edge_from graph node kinds.Fall else [])
         (ends_home b [] node k word (home h) ∙ eq-eqb _ _ (last_of (low h)))))
         (quiet_way instr h x
-        (subst (λ (e : BlockEnd). IsOne x (ways_of b.words word e)) (sym end) (fall_is_one b.words word))
+        (rw end (fall_is_one b.words word))
         (ap (λ (e : BlockEnd). runs_on e kinds.Fall) end))
 
     branch_quiet : (cond : ℕ) (disp22 : ℤ) → Stands text b [] node before word (i.Branch cond true disp22)
@@ -254,14 +236,11 @@ module _ (text : Words) (is : IsText text) (b : Blocks) (c : IsCut text b) (sing
         cond_both (cond == always) kinds.Taken kinds.Untaken (λ (kind : EdgeKind). IsQuiet (edge_from graph node kind))
         (λ all.
         quiet_way (i.Branch cond true disp22) h (way kinds.Taken (number_of target))
-        (subst (λ (e : BlockEnd). IsOne (way kinds.Taken (number_of target)) (ways_of b.words word e)) (sym end)
-        (taken_is_one b.words word cond true target (ap (λ (n : ℕ). n == never) (eqb-true cond 8 all))))
+        (rw end (taken_is_one b.words word cond true target (ap (λ (n : ℕ). n == never) (eqb-true cond 8 all))))
         (ap (λ (e : BlockEnd). runs_on e kinds.Taken) end ∙ ap not all))
         (λ some.
         quiet_way (i.Branch cond true disp22) h (way kinds.Untaken (within b.words (word + 2)))
-        (subst (λ (e : BlockEnd). IsOne (way kinds.Untaken (within b.words (word + 2))) (ways_of b.words word e))
-        (sym end)
-        (untaken_is_one b.words word cond true target some))
+        (rw end (untaken_is_one b.words word cond true target some))
         (ap (λ (e : BlockEnd). runs_on e kinds.Untaken) end))
 
     left_quiet : (instr : Instr) → Stands text b [] node before word instr → IsPassed instr
@@ -394,12 +373,10 @@ module _ (text : Words) (is : IsText text) (b : Blocks) (c : IsCut text b) (sing
         (ap (λ n. one_if (same_node n (node_of b (Some w)))) to ∙ none_to_x) (omega arith)
 
     on_counts : AreCounting (along ++ behind) (here_at point.npc) (here_at point.pc)
-    on_counts = by (same_kind kind kinds.Out) refl
-      where
-        by : (x : Bool) → same_kind kind kinds.Out ≡ x
-            → AreCounting (along ++ behind) (here_at point.npc) (here_at point.pc)
-        by false e = by_displacement e
-        by true e = by_jump (same_kinds kind kinds.Out e)
+    on_counts = elim (cases_Bool (same_kind kind kinds.Out)) [
+      | inr e ↦ by_displacement e
+      | inl e ↦ by_jump (same_kinds kind kinds.Out e)
+    ]
 
   -- ---- a step
 

@@ -1,6 +1,6 @@
 -- How often each word is visited, along a run.
 use Rattle.std.proofs.Common.{◌≡◌, ℕ, zero, suc, ◌+◌, ◌-◌, ◌<◌, ◌⊎◌, inl, inr, Bool, true, false, not, ◌&&◌, nat_lt, List, [], ◌∷◌, length, Option, Some, None, refl, ap, sym, ◌∙◌, subst, arith}
-use Rattle.std.specs.Prelude.{◌==◌, if◌then◌else◌}
+use Rattle.std.specs.Prelude.{◌==◌}
 use Rattle.std.specs.List.{filter, flat_map}
 use Rattle.std.proofs.lemmas.Bool.{and_parts, cases_eq, eq-eqb, false≢true, lt-ltb, ne_eqb}
 use Rattle.std.proofs.lemmas.List.Quantifiers.{position-Some}
@@ -51,6 +51,7 @@ use Rattle.instr_counts.proofs.Closed.{none_are_open}
 use Rattle.instr_counts.proofs.Single.{holds_itself, last_is, words_are_blocks}
 use Rattle.instr_counts.proofs.Passing.{passing, passing-append, times-append, weighed}
 use Rattle.instr_counts.proofs.Completed.{added, as_slot, begun_at, here_at, into_word, same_place}
+use Rattle.cfg_walk.proofs.Ways.{same_kinds}
 
 -- ---- a slot is run from a block
 
@@ -85,9 +86,7 @@ no_landing _ NoSlot = refl
 
 land_kind : (kind other : EdgeKind) → same_kind kind other ≡ true → same_kind kind kinds.Land ≡ true
     → same_kind other kinds.Land ≡ true
-land_kind kinds.Land kinds.Land e f = refl
-land_kind kinds.Land _ e f = absurd (false≢true e)
-land_kind _ other e f = absurd (false≢true f)
+land_kind kind other e f = rw (same_kinds kind other e) at f
 
 none_from_x : (b : Blocks) (kind : EdgeKind) (number : ℕ) (edge : Edge) → same_kind kind kinds.Land ≡ false
     → edge_from (graph_of b []) X kind ≡ number ∷ [] → ⊥
@@ -121,9 +120,7 @@ module _ (text : Words) (is : IsText text) (b : Blocks) (c : IsCut text b) (sing
       (ne_eqb a (address_of text w) apart)
 
   none_begun : (x y z : Bool) → z ≡ true → one_if (x && (y && not z)) ≡ 0
-  none_begun true true z e = ap (λ (t : Bool). one_if (not t)) e
-  none_begun true false z e = refl
-  none_begun false y z e = refl
+  none_begun x y z e = grind arith
 
   -- in a slot, at the node of a block, that is of the word before
   in_slot : (x : Slot) (point : Point) (node : Node) → IsNodeIn b [] node
@@ -219,16 +216,7 @@ module _ (text : Words) (given : List ℕ) (entry : ℕ) (s0 : State) (is : IsTe
   matching_after n live = matching (suc n) live
 
   times_one : (a : ℕ) → times (a ∷ []) (address_of text w) ≡ here_at text is b c single w inside a
-  times_one a = by (cases_eq a (address_of text w))
-    where
-      by : (a ≡ address_of text w) ⊎ (a ≡ address_of text w → ⊥)
-          → times (a ∷ []) (address_of text w) ≡ here_at text is b c single w inside a
-      by (inl same) =
-          ap (λ (t : Bool). (if t then 1 else 0) + 0) (eq-eqb (address_of text w) a (sym same))
-          ∙ sym (ap one_if (eq-eqb a (address_of text w) same))
-      by (inr apart) =
-          ap (λ (t : Bool). (if t then 1 else 0) + 0) (ne_eqb (address_of text w) a (λ e. apart (sym e)))
-          ∙ sym (ap one_if (ne_eqb a (address_of text w) apart))
+  times_one a = grind arith
 
   entry_low : entry < b.words
   entry_low = omega (arith, starts.within, c.words)

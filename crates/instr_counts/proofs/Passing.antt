@@ -1,7 +1,6 @@
 -- What is counted of the numbers of a list.
-use Rattle.std.proofs.Common.{◌≡◌, ℕ, zero, suc, ◌+◌, ◌<◌, ◌≤◌, ◌⊎◌, inl, inr, Bool, true, false, cond, List, [], ◌∷◌, ◌++◌, refl, ap, ◌∙◌, arith}
+use Rattle.std.proofs.Common.{◌≡◌, ℕ, zero, suc, ◌+◌, ◌<◌, ◌≤◌, Bool, List, [], ◌∷◌, ◌++◌, refl, arith}
 use Rattle.std.specs.Prelude.{◌==◌, if◌then◌else◌}
-use Rattle.std.proofs.lemmas.Bool.{cases_eq, eq-eqb, ne_eqb}
 use Rattle.flows.specs.Flows.{weight_below}
 use Rattle.flows.specs.Walks.{times}
 use Rattle.cfg_walk.proofs.Lists.{Each}
@@ -24,11 +23,7 @@ times-append (x ∷ es) more e = let later = times-append es more e in omega (ar
 
 none_weighed : (n : ℕ) (s : ℕ → Bool) → weight_below n (λ e. 0) s ≡ 0
 none_weighed zero s = refl
-none_weighed (suc n) s = let before = none_weighed n s in omega (arith, before, nothing (s n))
-  where
-    nothing : (b : Bool) → ◌≡◌ {A = ℕ} (if b then 0 else 0) 0
-    nothing true = refl
-    nothing false = refl
+none_weighed (suc n) s = let before = none_weighed n s in grind (arith, before)
 
 abbrev one_at : ℕ → ℕ → ℕ
 one_at x e = if e == x then 1 else 0
@@ -36,45 +31,16 @@ one_at x e = if e == x then 1 else 0
 both_weighed : (n : ℕ) (f g : ℕ → ℕ) (s : ℕ → Bool)
     → weight_below n (λ e. f e + g e) s ≡ weight_below n f s + weight_below n g s
 both_weighed zero f g s = refl
-both_weighed (suc n) f g s =
-    let before = both_weighed n f g s in
-    let last = apart (s n) (f n) (g n) in
-    omega (arith, before, last)
-  where
-    apart : (b : Bool) (x y : ℕ) → (if b then x + y else 0) ≡ (if b then x else 0) + (if b then y else 0)
-    apart true x y = refl
-    apart false x y = refl
-
-other_weight : (x e : ℕ) (b : Bool) → (e ≡ x → ⊥) → (if b then one_at x e else 0) ≡ 0
-other_weight x e true not = ap (λ (t : Bool). cond {A = ℕ} t 1 0) (ne_eqb e x not)
-other_weight x e false not = refl
+both_weighed (suc n) f g s = let before = both_weighed n f g s in grind (arith, before)
 
 past_weighed : (n x : ℕ) (s : ℕ → Bool) → n ≤ x → weight_below n (one_at x) s ≡ 0
 past_weighed zero x s past = refl
-past_weighed (suc n) x s past =
-    let before = past_weighed n x s (omega (arith, past)) in
-    let last = other_weight x n (s n) (λ same. omega (arith, past, same)) in
-    omega (arith, before, last)
+past_weighed (suc n) x s past = let before = past_weighed n x s in grind (arith, before)
 
 one_weighed : (n x : ℕ) (s : ℕ → Bool) → x < n → weight_below n (one_at x) s ≡ one_if (s x)
 one_weighed zero x s l = absurd (omega (arith, l))
-one_weighed (suc n) x s l = by (cases_eq n x) (one_weighed n x s)
-  where
-    here : (b : Bool) → n ≡ x → (if b then one_at x n else 0) ≡ one_if b
-    here true same = ap (λ (t : Bool). cond {A = ℕ} t 1 0) (eq-eqb n x same)
-    here false same = refl
-
-    by : (n ≡ x) ⊎ (n ≡ x → ⊥) → (x < n → weight_below n (one_at x) s ≡ one_if (s x))
-        → weight_below (suc n) (one_at x) s ≡ one_if (s x)
-    by (inl same) earlier =
-        let before = past_weighed n x s (omega (arith, same)) in
-        let last : (if s n then one_at x n else 0) ≡ one_if (s x) =
-        here (s n) same ∙ ap (λ (e : ℕ). one_if (s e)) same in
-        omega (arith, before, last)
-    by (inr not) earlier =
-        let before = earlier (omega (arith, l, not)) in
-        let last = other_weight x n (s n) not in
-        omega (arith, before, last)
+one_weighed (suc n) x s l =
+    let before = one_weighed n x s in let none = past_weighed n x s in grind (arith, before, none)
 
 pub weighed : (n : ℕ) (s : ℕ → Bool) (es : List ℕ) → Each (λ e. e < n) es → weight_below n (times es) s ≡ passing s es
 weighed n s [] within = none_weighed n s

@@ -27,16 +27,10 @@ module _ (b : Blocks) (f : AreFirsts b.words b.firsts) (single : AreSingle b) wh
   first_is zero l = f.begin
   first_is (suc k) l =
       let before = first_is k (omega (arith, l)) in
-      let size = single k (omega (arith, l)) in
-      let next = ends_at_next b.words b.firsts f k l in
-      omega (arith, before, size, next)
+      omega (arith, before, single k (omega (arith, l)), ends_at_next b.words b.firsts f k l)
 
   pub end_is : (block : ℕ) → block < length b.firsts → block_end b.firsts b.words block ≡ block + 1
-  end_is block l =
-      let first = first_is block l in
-      let size = single block l in
-      let some = some_words b.words b.firsts f block l in
-      omega (arith, first, size, some)
+  end_is block l = omega (arith, first_is block l, single block l, some_words b.words b.firsts f block l)
 
   pub last_is : (block : ℕ) → block < length b.firsts → last_word b.firsts b.words block ≡ block
   last_is block l = let ends = end_is block l in omega (arith, ends)
