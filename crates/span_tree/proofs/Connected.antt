@@ -34,9 +34,7 @@ plain_is g n links nodes are = ap (λ (n : ℕ). plain_of n links) nodes
     ∙ ap (plain_of (node_numbers g)) are ∙ links_are g
 
 pub number_inside : (g : Graph) (node : Node) → IsNodeIn g.blocks g.opens node → node_number g node < node_numbers g
-number_inside g (Block block) h = omega (arith, h)
-number_inside g (Landed block) h = omega (arith, h.0)
-number_inside g X h = omega arith
+number_inside g node h = grind arith
 
 linked : (g : Graph) → IsGraph g → IsLinked (node_numbers g) (map (link_of g) g.edges)
 linked g is =
@@ -47,9 +45,7 @@ linked g is =
 
 pub linked_as : (g : Graph) (n : ℕ) (links : List Link) → IsGraph g → n ≡ node_numbers g
     → links ≡ map (link_of g) g.edges → IsLinked n links
-linked_as g n links is nodes are =
-    subst (λ (n : ℕ). IsLinked n links) (sym nodes)
-    (subst (IsLinked (node_numbers g)) (sym are) (linked g is))
+linked_as g n links is nodes are = rw (nodes, are) (linked g is)
 
 -- ---- the numbers of nodes are those that pass the test
 

@@ -1,16 +1,16 @@
 -- What holds of each edge of a flow graph holds of the landings at its nodes, and of an edge from each jump's block.
-use Rattle.std.proofs.Common.{◌≡◌, ℕ, zero, suc, ◌<◌, ◌≤◌, Bool, true, false, ◌||◌, List, [], ◌∷◌, ◌++◌, length, map, Some, inl, inr, refl, sym, subst, arith}
-use Rattle.std.specs.Prelude.{if◌then◌else◌, nat_lt, ◌==◌}
+use Rattle.std.proofs.Common.{◌≡◌, ℕ, zero, suc, ◌<◌, ◌≤◌, Bool, true, false, List, [], ◌∷◌, ◌++◌, length, map, Some, inl, inr, refl, sym, subst, arith}
+use Rattle.std.specs.Prelude.{if◌then◌else◌}
 use Rattle.std.specs.List.{AllByRecursion, filter, flat_map, list_any}
-use Rattle.std.proofs.lemmas.Bool.{cases_lt, false≢true}
+use Rattle.std.proofs.lemmas.Bool.{cases_lt, cond_both, false≢true}
 use Rattle.std.proofs.lemmas.Grind.{flat_map-append}
 use Rattle.std.proofs.lemmas.List.{length-append}
-use Rattle.cfg_blocks.specs.Blocks.{Blocks, below, holding_of}
+use Rattle.cfg_blocks.specs.Blocks.{Blocks, below}
 use Rattle.cfg_normal.specs.declared.Edge.{Edge}
 use Rattle.cfg_normal.specs.declared.Node.{Node}
-use Rattle.cfg_normal.specs.declared.Node.TheVariants.{Block, Landed, X}
+use Rattle.cfg_normal.specs.declared.Node.TheVariants.{Block, Landed}
 use Rattle.cfg_normal.specs.Nodes.{same_node}
-use Rattle.cfg_normal.specs.Opens.{Open, is_behind, is_copied, jumps_in, targets_in}
+use Rattle.cfg_normal.specs.Opens.{Open, is_copied, jumps_in, targets_in}
 use Rattle.cfg_normal.specs.Graph.{case_nodes, case_of, copied_edges, edges_in, edges_of, has_cases, landing_at, landings_of, lands_of, once_onto, ways_out}
 
 abbrev pub block : ℕ → Node
@@ -53,12 +53,9 @@ of_below P f (suc n) k l h = elim (cases_lt k n) [
 kept : (P : Node → Type 0) (seen nodes : List Node) → Each P (once_onto seen nodes) → Each P seen
 kept P seen [] h = h
 kept P seen (node ∷ nodes) h =
-    by (list_any (same_node node) seen)
+    cond_both (list_any (same_node node) seen) seen (seen ++ node ∷ []) (λ xs. Each P xs → Each P seen) (λ _ h. h)
+    (λ _ h. left_part P seen (node ∷ []) h)
     (kept P (if list_any (same_node node) seen then seen else seen ++ node ∷ []) nodes h)
-  where
-    by : (x : Bool) → Each P (if x then seen else seen ++ node ∷ []) → Each P seen
-    by true h = h
-    by false h = left_part P seen (node ∷ []) h
 
 -- ---- the targets of a jump
 
@@ -74,27 +71,14 @@ first_of (x ∷ xs) h = record { first = x; rest = xs; is = refl }
 pub targets_some : (opens : List Open) (k : ℕ) → jumps_in opens k ≡ true → Each (λ (o : Open). 1 ≤ length o.targets) opens
     → 1 ≤ length (targets_in opens k)
 targets_some [] k h some = absurd (false≢true h)
-targets_some (o ∷ opens) k h some = by (o.block == k) h some.0 (λ rest. targets_some opens k rest some.1)
-  where
-    by : (x : Bool) → (x || jumps_in opens k) ≡ true → 1 ≤ length o.targets
-        → (jumps_in opens k ≡ true → 1 ≤ length (targets_in opens k))
-        → 1 ≤ length ((if x then o.targets else []) ++ targets_in opens k)
-    by true h some next = omega (arith, some, length-append o.targets (targets_in opens k))
-    by false h some next = next h
+targets_some (o ∷ opens) k h some =
+    let rest = (λ (r : jumps_in opens k ≡ true). targets_some opens k r some.1) in
+    let a = length-append o.targets (targets_in opens k) in
+    let s = some.0 in grind (arith, rest, a, s)
 
 -- a jump never lands at a node that has Case edges
 pub lands_plain : (b : Blocks) (opens : List Open) (word : ℕ) → has_cases opens (lands_of b opens (Some word)) ≡ false
-lands_plain b opens word = by (nat_lt word b.words) (jumps_in opens k) refl (is_behind opens k word)
-  where
-    k : ℕ
-    k = holding_of b word
-
-    by : (x y : Bool) → jumps_in opens k ≡ y → (z : Bool)
-        → has_cases opens (if x then (if y || z then copy k else block k) else X) ≡ false
-    by false y e z = refl
-    by true true e z = refl
-    by true false e true = refl
-    by true false e false = e
+lands_plain b opens word = grind arith
 
 -- ---- the edges
 

@@ -1,9 +1,8 @@
 -- One loop more, and what the sums of beginnings and ends say.
-use Rattle.std.proofs.Common.{◌≡◌, ℕ, zero, suc, ◌+◌, ◌-◌, ◌<◌, ◌≤◌, ◌⊎◌, inl, inr, Bool, true, false, ◌&&◌, cond, List, [], ◌∷◌, ◌++◌, length, map, set, slice_index, add-one, refl, ap, sym, ◌∙◌, subst, arith}
+use Rattle.std.proofs.Common.{◌≡◌, ℕ, zero, suc, ◌+◌, ◌-◌, ◌<◌, ◌≤◌, ◌⊎◌, inl, inr, Bool, true, false, ◌&&◌, cond, List, [], ◌∷◌, ◌++◌, length, map, set, slice_index, add-one, refl, ap, sym, ◌∙◌, arith}
 use Rattle.std.specs.Prelude.{Some, None, nat_le}
 use Rattle.std.specs.List.{All}
-use Rattle.std.proofs.lemmas.Bool.{cases_eq, cases_lt, le-leb}
-use Rattle.std.proofs.lemmas.Bool.Decides.{leb_tells}
+use Rattle.std.proofs.lemmas.Bool.{cases_eq, cases_lt}
 use Rattle.std.proofs.lemmas.List.{get_or-map, get_or-set_other, get_or-set_same, length-map, length-set, map-append}
 use Rattle.std.proofs.lemmas.List.Elements.{All-get_or, All-set, All-weaker}
 use Rattle.eel_base.specs.declared.numbers.WordNo.{WordNo}
@@ -12,6 +11,7 @@ use Rattle.cfg_blocks.specs.Blocks.{Blocks, below, end_of, last_word}
 use Rattle.cfg_blocks.proofs.Below.{get_or-below, length-below}
 use Rattle.span_tree.specs.Bounds.{AreBounds, sum_below}
 use Rattle.span_tree.specs.Weights.{branch_target, is_between, is_in_loop, loops_at}
+use Rattle.std.proofs.lemmas.Bool.Decides.{nat_tests}
 
 abbrev pub raised : List ℕ → ℕ → List ℕ
 raised xs i = set xs i (slice_index xs i + 1)
@@ -27,42 +27,17 @@ sum_before (suc n) xs i h =
 
 sum_after : (n : ℕ) (xs : List ℕ) (i : ℕ) → i < length xs → i < n → sum_below n (raised xs i) ≡ sum_below n xs + 1
 sum_after zero xs i l h = absurd (omega (arith, h))
-sum_after (suc n) xs i l h = by (cases_eq n i) (sum_after n xs i l)
-  where
-    by : (n ≡ i) ⊎ (n ≡ i → ⊥) → (i < n → sum_below n (raised xs i) ≡ sum_below n xs + 1)
-        → sum_below (suc n) (raised xs i) ≡ sum_below (suc n) xs + 1
-    by (inl e) rec =
-        let before = sum_before n xs i (omega (arith, e)) in
-        let here : slice_index (raised xs i) n ≡ slice_index xs i + 1 =
-        ap (slice_index (raised xs i)) e ∙ get_or-set_same xs i (slice_index xs i + 1) 0 l in
-        let was : slice_index xs n ≡ slice_index xs i = ap (slice_index xs) e in
-        omega (arith, before, here, was)
-    by (inr e) rec =
-        let before = rec (omega (arith, h, e)) in
-        let other = get_or-set_other xs i n (slice_index xs i + 1) 0 e in
-        omega (arith, before, other)
+sum_after (suc n) xs i l h = elim (cases_eq n i) [
+  | inl e ↦ rw e (omega (arith, sum_before i xs i (omega arith), get_or-set_same xs i (slice_index xs i + 1) 0 l))
+  | inr e ↦ omega (arith, sum_after n xs i l (omega (arith, h, e)), get_or-set_other xs i n (slice_index xs i + 1) 0 e)
+]
 
 pub counted_few : (n : ℕ) (s : ℕ → Bool) → count_below n s ≤ n
 counted_few zero s = omega arith
-counted_few (suc n) s = by (s n) (counted_few n s)
-  where
-    by : (b : Bool) → count_below n s ≤ n → count_below n s + cond b 1 0 ≤ suc n
-    by true h = omega (arith, h)
-    by false h = omega (arith, h)
-
-le_no : (a b : ℕ) → b < a → nat_le a b ≡ false
-le_no a b h = by (leb_tells a b)
-  where
-    by : ((nat_le a b ≡ true) × (a ≤ b)) ⊎ ((nat_le a b ≡ false) × (b < a)) → nat_le a b ≡ false
-    by (inl t) = absurd (omega (arith, h, t.1))
-    by (inr f) = f.0
+counted_few (suc n) s = let before = counted_few n s in grind (arith, before)
 
 abbrev one : Bool → ℕ
 one c = cond c 1 0
-
-and_false : (c : Bool) → (c && false) ≡ false
-and_false true = refl
-and_false false = refl
 
 -- ---- a block without a loop
 
@@ -89,11 +64,7 @@ module _ (b : Blocks) (k : ℕ) (begins ends : List ℕ) (h : AreBounds b k begi
   no_branch e = none (λ word. ap (is_between last word) e)
 
   between_no : (t word : ℕ) → last < t → (nat_le t word && nat_le word last) ≡ false
-  between_no t word l = by (cases_lt word t)
-    where
-      by : (word < t) ⊎ (t ≤ word) → (nat_le t word && nat_le word last) ≡ false
-      by (inl m) = ap (λ (c : Bool). c && nat_le word last) (le_no t word m)
-      by (inr m) = ap (λ (c : Bool). nat_le t word && c) (le_no word last (omega (arith, l, m))) ∙ and_false (nat_le t word)
+  between_no t word l = grind (arith, nat_tests)
 
   pub forward : (t : WordNo) → branch_target (end_of b k) ≡ Some t → last < t.0 → AreBounds b (suc k) begins ends
   forward t e l = none (λ word. ap (is_between last word) e ∙ between_no t.0 word l)
@@ -129,43 +100,26 @@ module _ (b : Blocks) (k : ℕ) (begins ends : List ℕ) (h : AreBounds b k begi
           → sum_below (suc word) (raised begins t.0)
           ≡ sum_below word (raised ends last) + count_below (suc k) (is_in_loop b word)
       about word (inl m) over =
-          let now = is word false (ap (λ (c : Bool). c && nat_le word last) (le_no t.0 word m)) in
-          let before = sum_before (suc word) begins t.0 (omega (arith, m)) in
-          let after = sum_before word ends last (omega (arith, m, l)) in
-          omega (arith, now, before, after, h.about word)
+          let now = is word false (grind (arith, nat_tests)) in
+          omega (arith, now, sum_before (suc word) begins t.0 (omega (arith, m)), sum_before word ends last (omega (arith, m, l)), h.about word)
       about word (inr m) (inl over) =
-          let now = is word false (ap (λ (c : Bool). nat_le t.0 word && c) (le_no word last over) ∙ and_false (nat_le t.0 word)) in
-          let before = sum_after (suc word) begins t.0 first (omega (arith, m)) in
-          let after = sum_after word ends last ended over in
-          omega (arith, now, before, after, h.about word)
+          let now = is word false (grind (arith, nat_tests)) in
+          omega (arith, now, sum_after (suc word) begins t.0 first (omega (arith, m)), sum_after word ends last ended over, h.about word)
       about word (inr m) (inr over) =
-          let now = is word true (ap (λ (c : Bool). c && nat_le word last) (le-leb t.0 word m) ∙ le-leb word last over) in
-          let before = sum_after (suc word) begins t.0 first (omega (arith, m)) in
-          let after = sum_before word ends last over in
-          omega (arith, now, before, after, h.about word)
+          let now = is word true (grind (arith, nat_tests)) in
+          omega (arith, now, sum_after (suc word) begins t.0 first (omega (arith, m)), sum_before word ends last over, h.about word)
 
       begun : (n : ℕ) → (last < n) ⊎ (n ≤ last) → (t.0 < n) ⊎ (n ≤ t.0)
           → sum_below n (raised ends last) ≤ sum_below n (raised begins t.0)
-      begun n (inl o) m =
-          let before = sum_after n begins t.0 first (omega (arith, o, l)) in
-          let after = sum_after n ends last ended o in
-          omega (arith, before, after, h.begun n)
-      begun n (inr o) (inl m) =
-          let before = sum_after n begins t.0 first m in
-          let after = sum_before n ends last o in
-          omega (arith, before, after, h.begun n)
-      begun n (inr o) (inr m) =
-          let before = sum_before n begins t.0 m in
-          let after = sum_before n ends last o in
-          omega (arith, before, after, h.begun n)
+      begun n (inl o) m = omega (arith, sum_after n begins t.0 first (omega (arith, o, l)), sum_after n ends last ended o, h.begun n)
+      begun n (inr o) (inl m) = omega (arith, sum_after n begins t.0 first m, sum_before n ends last o, h.begun n)
+      begun n (inr o) (inr m) = omega (arith, sum_before n begins t.0 m, sum_before n ends last o, h.begun n)
 
   -- as the code meets these facts
   pub put : (t : WordNo) (at : ℕ) (begun ended : List ℕ) → begun ≡ raised begins t.0 → ended ≡ raised ends at → at ≡ last
       → branch_target (end_of b k) ≡ Some t → t.0 ≤ at → at < b.words → AreBounds b (k + 1) begun ended
-  put t at begun ended first second is e l within = rw add-one (
-      subst (λ (xs : List ℕ). AreBounds b (suc k) xs ended) (sym first)
-      (subst (AreBounds b (suc k) (raised begins t.0)) (sym (second ∙ ap (raised ends) is))
-      (backward t e (omega (arith, l, is)) (omega (arith, within, is)))))
+  put t at begun ended first second is e l within =
+      rw (add-one, first, second, is) (backward t e (omega (arith, l, is)) (omega (arith, within, is)))
 
 -- ---- the list for all words
 

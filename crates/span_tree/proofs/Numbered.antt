@@ -1,9 +1,9 @@
 -- Cells that are given in the order of the counted edges.
-use Rattle.std.proofs.Common.{◌≡◌, ℕ, zero, suc, ◌<◌, ◌≤◌, ◌⊎◌, inl, inr, Bool, true, false, cond, List, length, map, refl, ap, sym, ◌∙◌, subst, arith}
+use Rattle.std.proofs.Common.{◌≡◌, ℕ, zero, suc, ◌<◌, ◌≤◌, inl, inr, Bool, true, false, cond, List, length, map, refl, ap, sym, ◌∙◌, subst, arith}
 use Rattle.std.specs.Prelude.{Option, Some, None, IfSome, unwrap_or}
 use Rattle.std.specs.Option.{is_some}
 use mir.Val.{bool_byte}
-use Rattle.std.proofs.lemmas.Bool.{cases_eq, cases_lt, false≢true}
+use Rattle.std.proofs.lemmas.Bool.{cases_lt, false≢true}
 use Rattle.std.proofs.lemmas.List.{get_or-map, get_or_past, length-map}
 use Rattle.flows.specs.Flows.{EdgeSet, count_below}
 use Rattle.flows.specs.Links.{marked}
@@ -19,12 +19,10 @@ abbrev pub one : Bool → ℕ
 one c = cond c 1 0
 
 pub byte_is : (c : Bool) → bool_byte c ≡ one c
-byte_is true = refl
-byte_is false = refl
+byte_is c = grind arith
 
 pub one_most : (c : Bool) → one c ≤ 1
-one_most true = omega arith
-one_most false = omega arith
+one_most c = grind arith
 
 module _ (marks : List Bool) where
   abbrev cells : List (Option ℕ)
@@ -34,20 +32,15 @@ module _ (marks : List Bool) where
   length_is = length-map (below (length marks)) (cell_of (marked marks)) ∙ length-below (length marks)
 
   some_is : (c : Bool) (n : ℕ) → is_some (cond c (Some n) None) ≡ c
-  some_is true n = refl
-  some_is false n = refl
+  some_is c n = grind arith
 
   cell_is : (e : ℕ) → cell_at cells e ≡ cell_of (marked marks) e
-  cell_is e = by (cases_lt e (length marks))
-    where
-      by : (e < length marks) ⊎ (length marks ≤ e) → cell_at cells e ≡ cell_of (marked marks) e
-      by (inl l) =
-          get_or-map (cell_of (marked marks)) (below (length marks)) e 0 None (omega (arith, l, length-below (length marks)))
-          ∙ ap (cell_of (marked marks)) (get_or-below (length marks) e 0 l)
-      by (inr l) =
-          let no : marked marks e ≡ false = get_or_past marks e false l in
-          get_or_past cells e None (omega (arith, l, length_is))
-          ∙ sym (ap (λ (c : Bool). cond c (Some (count_below e (marked marks))) None) no)
+  cell_is e = elim (cases_lt e (length marks)) [
+    | inl l ↦
+        get_or-map (cell_of (marked marks)) (below (length marks)) e 0 None (omega (arith, l, length-below (length marks)))
+        ∙ ap (cell_of (marked marks)) (get_or-below (length marks) e 0 l)
+    | inr l ↦ rw (get_or_past marks e false l) (get_or_past cells e None (omega (arith, l, length_is)))
+  ]
 
   same : has_cell cells ≡ marked marks
   same = λ i e. (ap is_some (cell_is e) ∙ some_is (marked marks e) (count_below e (marked marks))) i
@@ -75,32 +68,21 @@ module _ (marks : List Bool) (given : List (Option ℕ)) (n : ℕ) (all : n ≡ 
       e ∙ ap (λ (k : ℕ). count_below k (marked marks)) (all ∙ sym length_given)
       ∙ ap (count_below (length given)) (sym same_given)
 
--- ---- one edge more
-
 -- ---- a cell is below their number
 
 count_grows : (s : EdgeSet) (e n : ℕ) → e < n → s e ≡ true → count_below e s < count_below n s
 count_grows s e zero l t = absurd (omega (arith, l))
-count_grows s e (suc n) l t = by (cases_eq e n) (count_grows s e n)
-  where
-    by : (e ≡ n) ⊎ (e ≡ n → ⊥) → (e < n → s e ≡ true → count_below e s < count_below n s)
-        → count_below e s < count_below (suc n) s
-    by (inl k) rec =
-        let last : one (s n) ≡ 1 = ap (λ (e : ℕ). one (s e)) (sym k) ∙ ap one t in
-        let same : count_below e s ≡ count_below n s = ap (λ (n : ℕ). count_below n s) k in
-        omega (arith, last, same)
-    by (inr k) rec = let before = rec (omega (arith, l, k)) t in omega (arith, before)
+count_grows s e (suc n) l t = let before = count_grows s e n in grind (arith, before)
 
 pub cell_within : (cells : List (Option ℕ)) (e : ℕ) → AreNumbered cells
     → IfSome (cell_at cells e) (λ cell. cell < cell_count cells)
 cell_within cells e h = by (cell_at cells e) refl
   where
     inside : is_some (cell_at cells e) ≡ true → e < length cells
-    inside some = by (cases_lt e (length cells))
-      where
-        by : (e < length cells) ⊎ (length cells ≤ e) → e < length cells
-        by (inl l) = l
-        by (inr l) = absurd (false≢true (sym (ap is_some (get_or_past cells e None l)) ∙ some))
+    inside some = elim (cases_lt e (length cells)) [
+      | inl l ↦ l
+      | inr l ↦ absurd (false≢true (sym (ap is_some (get_or_past cells e None l)) ∙ some))
+    ]
 
     by : (o : Option ℕ) → cell_at cells e ≡ o → IfSome o (λ cell. cell < cell_count cells)
     by None is = tt

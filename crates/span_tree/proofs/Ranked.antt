@@ -1,37 +1,24 @@
 -- The ranks of edges, and that weights rise with them.
-use Rattle.std.proofs.Common.{◌≡◌, ℕ, ◌^◌, ◌<◌, ◌≤◌, Bool, true, false, List, [], ◌∷◌, length, map, slice_index, ap, ◌∙◌, arith}
+use Rattle.std.proofs.Common.{◌≡◌, ℕ, ◌^◌, ◌<◌, ◌≤◌, List, [], ◌∷◌, length, map, slice_index, ap, ◌∙◌, arith}
 use Rattle.std.specs.List.{All}
-use Rattle.std.specs.Prelude.{if◌then◌else◌}
 use Rattle.std.proofs.lemmas.List.{get_or-map, length-map}
 use Rattle.std.proofs.lemmas.List.Elements.{All-cons, All-nil}
 use Rattle.flows.specs.Links.{weight_in}
 use Rattle.flow_tree.specs.Tree.{RisesWith}
 use Rattle.cfg_blocks.specs.declared.EdgeKind.{EdgeKind}
-use Rattle.cfg_blocks.specs.declared.EdgeKind.TheVariants as kinds
 use Rattle.cfg_blocks.specs.Blocks.{Blocks, below}
 use Rattle.cfg_blocks.proofs.Below.{get_or-below, length-below}
 use Rattle.cfg_normal.specs.declared.Edge.{Edge}
 use Rattle.cfg_normal.specs.declared.Node.{Node}
-use Rattle.cfg_normal.specs.declared.Node.TheVariants.{Block, Landed, X}
 use Rattle.cfg_normal.specs.Graph.{Graph}
 use Rattle.span_tree.specs.Links.{edge_at}
-use Rattle.span_tree.specs.Ties.{is_behind_call, rank_of, tie_by}
+use Rattle.span_tree.specs.Ties.{rank_of, tie_by}
 use Rattle.span_tree.specs.Weights.{weight_from, weights_of}
 
 -- ---- ties
 
-one_of_two : (c : Bool) → (if c then 2 else 0) < 4
-one_of_two true = omega arith
-one_of_two false = omega arith
-
 pub tie_few : (b : Blocks) (kind : EdgeKind) (to : Node) → tie_by b kind to < 4
-tie_few b kinds.Call to = omega arith
-tie_few b kinds.Out to = omega arith
-tie_few b kinds.Land to = one_of_two (is_behind_call b to)
-tie_few b kinds.Fall to = omega arith
-tie_few b kinds.Taken to = omega arith
-tie_few b kinds.Untaken to = omega arith
-tie_few b kinds.Case to = omega arith
+tie_few b kind to = grind arith
 
 -- ---- the list of ranks
 
@@ -56,9 +43,7 @@ module _ (g : Graph) (weights ranks : List ℕ) (n : ℕ) (are : ranks ≡ map (
 -- ---- weights
 
 weight_most : (b : Blocks) (node : Node) → weight_from b node ≤ 2 ^ 32
-weight_most b (Block block) = omega arith
-weight_most b (Landed block) = omega arith
-weight_most b X = omega arith
+weight_most b node = grind arith
 
 pub weights_most : (b : Blocks) (edges : List Edge) → All (λ weight. weight ≤ 2 ^ 32) (weights_of b edges)
 weights_most b [] = All-nil (λ weight. weight ≤ 2 ^ 32)

@@ -1,8 +1,8 @@
-use Rattle.std.proofs.Common.{◌≡◌, ℕ, List, ◌+◌, ◌*◌, ◌∙◌, ap, length, subst, sym}
+use Rattle.std.proofs.Common.{◌≡◌, ℕ, ◌+◌, ◌*◌, ◌∙◌, ap, length, sym}
 use Rattle.std.proofs.lemmas.List.{length-map}
-use Rattle.flows.specs.Flows.{Graph, IsLeast, rest}
+use Rattle.flows.specs.Flows.{Graph, IsLeast}
 use Rattle.flows.specs.Links.{graph_of, marked, weight_in}
-use Rattle.flows.specs.Trees.{IsConnected, IsSpanningTree}
+use Rattle.flows.specs.Trees.{IsConnected}
 use Rattle.flow_tree.specs.Tree.{RisesWith}
 use Rattle.cfg_normal.specs.Numbers.{is_node}
 use Rattle.span_tree.specs.Links.{link_of, links_of}
@@ -29,26 +29,18 @@ graph_is c =
 
 joined : (c : goal.After-drop-ranks-2)
     → IsConnected (graph_of (2 * c.count-outside.result + 1) c.deref.result.now) (is_node c.args.graph.now) c.count-outside.result
-joined c =
-    subst (λ (g : Graph). IsConnected g (is_node c.args.graph.now) c.count-outside.result) (sym (graph_is c))
-    (subst (IsConnected (links_of c.args.graph.now) (is_node c.args.graph.now)) (sym c.count-outside.ensures.count)
-    (connected c.args.graph.now c.in_ok-links.ensures.graph))
+joined c = rw (graph_is c, c.count-outside.ensures.count) (connected c.args.graph.now c.in_ok-links.ensures.graph)
 
 -- what counts least by a weight that rises with the ranks
 least : (c : goal.After-drop-ranks-2) (weight : ℕ → ℕ)
     → RisesWith (length c.args.graph.now.edges) (weight_in c.in_ok-ranks.ranks.items) weight
     → IsLeast (links_of c.args.graph.now) weight (marked c.in_ok-counted.counted.items)
 least c weight rises =
-    subst (λ (g : Graph). IsLeast g weight (marked c.in_ok-counted.counted.items)) (graph_is c)
-    (c.in_ok-counted.ensures.least (is_node c.args.graph.now) weight
-    (subst (λ (xs : List ℕ). RisesWith (length c.deref.result.now) (weight_in xs) weight) (sym c.deref-2.ensures.value)
-    (subst (λ (n : ℕ). RisesWith n (weight_in c.in_ok-ranks.ranks.items) weight) (sym (ap (λ (g : Graph). g.edges) (graph_is c))) rises))
-    (joined c))
+    rw (graph_is c) at (c.in_ok-counted.ensures.least (is_node c.args.graph.now) weight
+    (rw (c.deref-2.ensures.value, ap (λ (g : Graph). g.edges) (graph_is c)) rises) (joined c))
 
 pub returns-clause-spans : goal.returns-clause-spans
-returns-clause-spans c =
-    subst (λ (g : Graph). IsSpanningTree g (is_node c.args.graph.now) (rest (marked c.in_ok-counted.counted.items))) (graph_is c)
-    (c.in_ok-counted.ensures.spans (is_node c.args.graph.now) (joined c))
+returns-clause-spans c = rw (graph_is c) at (c.in_ok-counted.ensures.spans (is_node c.args.graph.now) (joined c))
 
 pub returns-clause-least : goal.returns-clause-least
 returns-clause-least c =

@@ -1,8 +1,5 @@
-use Rattle.std.proofs.Common.{◌^◌, ◌≤◌, sym, subst}
-use Rattle.std.specs.List.{All}
 use Rattle.span_tree.proofs.Ranked.{weights_most}
 use Rattle.span_tree.proofs.weighing.weights.Goals as goal
 
 pub returns-clause-most : goal.returns-clause-most
-returns-clause-most c =
-    subst (All (λ weight. weight ≤ 2 ^ 32)) (sym c.loop-edge.invariant) (weights_most c.args.blocks.now.blocks _)
+returns-clause-most c = rw c.loop-edge.invariant (weights_most c.args.blocks.now.blocks _)

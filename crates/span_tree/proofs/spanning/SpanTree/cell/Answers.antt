@@ -1,13 +1,11 @@
-use Rattle.std.proofs.Common.{rules, ◌≡◌, ℕ, ◌<◌, Option, subst, sym}
-use Rattle.std.specs.Prelude.{IfSome}
-use Rattle.span_tree.specs.Cells.{AreNumbered, cell_at, cell_count}
+use Rattle.std.proofs.Common.{rules, ◌≡◌}
+use Rattle.span_tree.specs.Cells.{AreNumbered, cell_at}
 use Rattle.span_tree.proofs.Numbered.{cell_within}
 use Rattle.span_tree.proofs.spanning.SpanTree.cell.Goals as goal
 
 pub returns-clause-within : goal.returns-clause-within
 returns-clause-within c =
-    subst (λ (o : Option ℕ). IfSome o (λ cell. cell < cell_count c.args.self.now)) (sym is)
-    (cell_within c.args.self.now c.args.e.0 numbered)
+    rw is (cell_within c.args.self.now c.args.e.0 numbered)
   where
     is : c.flatten.result ≡ cell_at c.args.self.now c.args.e.0
     is = search rules
