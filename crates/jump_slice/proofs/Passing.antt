@@ -2,7 +2,7 @@
 use Rattle.std.proofs.Common.{◌≡◌, ◌≢◌, ℕ, zero, suc, ◌+◌, ◌-◌, ◌<◌, Bool, true, false, ◌&&◌, ◌||◌, nat_lt, List, [], ◌∷◌, Some, None, refl, ap, sym, ◌∙◌, subst, arith, slice_index, inl, inr}
 use Rattle.std.specs.Prelude.{if◌then◌else◌, ◌==◌}
 use Rattle.std.specs.List.{Contains, list_any}
-use Rattle.std.proofs.lemmas.Bool.{and_from, eq-eqb, false≢true, lt-ltb, or_left, or_right}
+use Rattle.std.proofs.lemmas.Bool.{and_from, cases_Bool, eq-eqb, false≢true, lt-ltb, or_left, or_right}
 use Rattle.eel_base.specs.CodeText.{Words, word_at}
 use Rattle.v8_decode.specs.declared.Instr.TheVariants as i
 use Rattle.v8_alu.specs.Conditions.{holds_of}
@@ -138,37 +138,36 @@ module _ {text : Words} {given : List ℕ} {entry : ℕ} {opens : List Open} {s0
       → Passing r n node way → (run s0 (suc n)).pc ≡ (run s0 n).npc
       → let next = node_after (graph r) node (slot_left text (graph r) node way (run s0 (suc n)).pc) in
       Compared r (suc n) next × Passed r (suc n) next
-  leaves_slot n node way h passing pc = by (same_kind way kinds.Out) refl
+  leaves_slot n node way h passing pc = elim (cases_Bool (same_kind way kinds.Out)) [
+    | inl e ↦
+        let out : way ≡ kinds.Out = same_kinds way kinds.Out e in
+        landing_knows (suc n) next
+        (ap (λ k. node_after (graph r) node (slot_left text (graph r) node k (run s0 (suc n)).pc)) out
+        ∙ ap (λ a. node_after (graph r) node (slot_left text (graph r) node kinds.Out a)) pc
+        ∙ jump_lands text (b r) opens (parts r) node (point_of (run s0 n))
+        (subst (λ (k : EdgeKind). IsOnItsWay text (graph r) node (point_of (run s0 n)) k) out h)
+        ∙ ap (λ a. lands_of (b r) opens (word_at text a)) (sym pc))
+    | inr e ↦
+        let leads = h.leads e in
+        heads r (suc n) next node way (cc (pc, way_leads text (b r) opens (parts r) node (point_of (run s0 n)) way h e))
+        (λ w here.
+        let there : word_at text (run s0 n).npc ≡ Some w = ap (word_at text) (sym pc) ∙ here in
+        let low : w < (b r).words = omega (arith, (word_at-some text (run s0 n).npc w there).within, (parts r).words) in (
+          low,
+          begun_head h.edge.to (holding_of (b r) w) w
+              (ap home_of leads.1 ∙ home_directed opens node way (node_of (b r) (word_at text (run s0 n).npc))
+              ∙ home_of_node (b r) (word_at text (run s0 n).npc) ∙ ap (node_of (b r)) there ∙ node_is (b r) w low)
+              (rw there at leads.0),
+        )) (λ o among is from kind.
+        let p = passing o among is from kind in
+        let a = about text given entry r.is_text o is in
+        record {
+          moment = p.0.moment;
+          ago = omega (arith, p.0.ago, a.slot ∙ ap (λ (x : Bool). if x then 1 else 0) p.1);
+          compares = p.0.compares;
+          goes = p.0.goes;
+        })
+  ]
     where
       next : Node
       next = node_after (graph r) node (slot_left text (graph r) node way (run s0 (suc n)).pc)
-
-      by : (x : Bool) → same_kind way kinds.Out ≡ x → Compared r (suc n) next × Passed r (suc n) next
-      by true e =
-          let out : way ≡ kinds.Out = same_kinds way kinds.Out e in
-          landing_knows (suc n) next
-          (ap (λ k. node_after (graph r) node (slot_left text (graph r) node k (run s0 (suc n)).pc)) out
-          ∙ ap (λ a. node_after (graph r) node (slot_left text (graph r) node kinds.Out a)) pc
-          ∙ jump_lands text (b r) opens (parts r) node (point_of (run s0 n))
-          (subst (λ (k : EdgeKind). IsOnItsWay text (graph r) node (point_of (run s0 n)) k) out h)
-          ∙ ap (λ a. lands_of (b r) opens (word_at text a)) (sym pc))
-      by false e =
-          let leads = h.leads e in
-          heads r (suc n) next node way (cc (pc, way_leads text (b r) opens (parts r) node (point_of (run s0 n)) way h e))
-          (λ w here.
-          let there : word_at text (run s0 n).npc ≡ Some w = ap (word_at text) (sym pc) ∙ here in
-          let low : w < (b r).words = omega (arith, (word_at-some text (run s0 n).npc w there).within, (parts r).words) in (
-            low,
-            begun_head h.edge.to (holding_of (b r) w) w
-                (ap home_of leads.1 ∙ home_directed opens node way (node_of (b r) (word_at text (run s0 n).npc))
-                ∙ home_of_node (b r) (word_at text (run s0 n).npc) ∙ ap (node_of (b r)) there ∙ node_is (b r) w low)
-                (rw there at leads.0),
-          )) (λ o among is from kind.
-          let p = passing o among is from kind in
-          let a = about text given entry r.is_text o is in
-          record {
-            moment = p.0.moment;
-            ago = omega (arith, p.0.ago, a.slot ∙ ap (λ (x : Bool). if x then 1 else 0) p.1);
-            compares = p.0.compares;
-            goes = p.0.goes;
-          })

@@ -27,7 +27,7 @@ use Rattle.cfg_blocks.specs.Ends.{within}
 use Rattle.cfg_walk.proofs.Addresses.{word_at-address}
 use Rattle.cfg_walk.proofs.Leaving.{node_is}
 use Rattle.v8_step.proofs.CopiedMoves.{goes_act}
-use Rattle.jump_slice.proofs.Arriving.{couples}
+use Rattle.cfg_walk.proofs.States.{couples}
 use Rattle.cfg_walk.proofs.Walks.{first as first_matches, live_before, steps_match}
 use Rattle.cfg_walk.proofs.Nodes.{node_in}
 use Rattle.v8_step.proofs.Executable.{code_stays}
@@ -51,7 +51,7 @@ module _ {text : Words} {given : List ℕ} {entry : ℕ} {opens : List Open} {s0
   slot_straight : (n : ℕ) (node : Node) → (run s0 n).slot ≢ NoSlot → (c : Carries r n node) → transfers (word_instr text c.word) ≡ false
   slot_straight n node was c = elim (cases_Bool (transfers (word_instr text c.word))) [
     | inr e ↦ e
-    | inl e ↦ absurd (ended_live (sym (couples (run s0 n) (word_instr text c.word) was e) ∙ c.acted))
+    | inl e ↦ absurd (ended_live (sym (couples (run s0 n).slot (run s0 n) (word_instr text c.word) was refl e) ∙ c.acted))
   ]
     where
       ended_live : Some Couple ≡ None → ⊥
