@@ -6,7 +6,7 @@ use Rattle.std.proofs.lemmas.List.{append-nil, get_or_past}
 use Rattle.std.proofs.lemmas.List.Elements.{All-head, All-nil, All-push, All-tail}
 use Rattle.std.proofs.lemmas.List.Quantifiers.{all_pairs_push}
 use Rattle.std.proofs.lemmas.List.Sums.{count_by-le-length, sum_by_push}
-use Rattle.std.proofs.lemmas.Bool.{cases_eq, cases_lt, cond_both, eqb-true, ne_eqb, or_parts}
+use Rattle.std.proofs.lemmas.Bool.{cases_lt, cond_both, eqb-true, or_parts}
 use Rattle.eel_base.specs.CodeText.{Words}
 use Rattle.cfg_blocks.specs.declared.BlockEnd.{BlockEnd}
 use Rattle.cfg_blocks.specs.declared.BlockEnd.TheVariants as ends
@@ -101,10 +101,7 @@ one_more (x ∷ opens) o one new =
     )
   where
     eqb-sym : (m n : ℕ) → (m == n) ≡ (n == m)
-    eqb-sym m n = elim (cases_eq m n) [
-      | inl e ↦ rw e refl
-      | inr other ↦ ne_eqb m n other ∙ sym (ne_eqb n m (λ e. other (sym e)))
-    ]
+    eqb-sym m n = grind arith
 
 module _ (text : Words) (list : Entered) (made : list.blocks.words ≡ length text.words) (is : IsBlockList list) where
   abbrev b : Blocks

@@ -6,12 +6,10 @@ use Rattle.std.proofs.lemmas.List.{append-nil, append_assoc, get_or-map, length-
 use Rattle.std.proofs.lemmas.List.Concat.{flat_map-append}
 use Rattle.std.proofs.lemmas.List.Elements.{filter-append}
 use Rattle.std.proofs.lemmas.Bool.{cases_eq, cases_Bool, eq-eqb, ne_eqb, or_right}
-use Rattle.eel_base.specs.declared.numbers.BlockNo.{BlockNo}
 use Rattle.eel_base.specs.declared.numbers.WordNo.{WordNo}
 use Rattle.cfg_blocks.specs.Blocks.{Blocks, below}
 use Rattle.cfg_normal.specs.declared.Edge.{Edge}
 use Rattle.cfg_normal.specs.declared.Node.{Node}
-use Rattle.cfg_normal.specs.declared.Node.TheVariants.{Block, Landed, X}
 use Rattle.cfg_normal.specs.Nodes.{same_node}
 use Rattle.cfg_normal.specs.Graph.{case_of, lands_of, once_onto}
 use Rattle.cfg_normal.specs.Landings.{IsNumbered, landed_once, number_in, seen_mark, unseen_case}
@@ -20,36 +18,15 @@ use Rattle.cfg_normal.proofs.TableWords.{any_push, or_none}
 
 -- ---- nodes and their numbers
 
-block_is : (m n : BlockNo) → m.0 ≡ n.0 → m ≡ n
-block_is m n e = ap (λ (k : ℕ). record { 0 = k }) e
-
 number_one : (count : ℕ) (m n : Node) → IsNumbered count m → IsNumbered count n
     → number_in count m ≡ number_in count n → m ≡ n
-number_one count (Block m) (Block n) h k e = ap Block (block_is m n e)
-number_one count (Landed m) (Landed n) h k e = ap Landed (block_is m n (omega arith))
-number_one count X X h k e = refl
-number_one count (Block m) X h k e = absurd (omega arith)
-number_one count (Block m) (Landed n) h k e = absurd (omega arith)
-number_one count X (Block n) h k e = absurd (omega arith)
-number_one count X (Landed n) h k e = absurd (omega arith)
-number_one count (Landed m) (Block n) h k e = absurd (omega arith)
-number_one count (Landed m) X h k e = absurd (omega arith)
+number_one count m n h k e = grind arith
 
 same_self : (m : Node) → same_node m m ≡ true
-same_self (Block m) = eq-eqb m.0 m.0 refl
-same_self (Landed m) = eq-eqb m.0 m.0 refl
-same_self X = refl
+same_self m = grind arith
 
 not_same : (count : ℕ) (m n : Node) → (number_in count m ≡ number_in count n → ⊥) → same_node m n ≡ false
-not_same count (Block m) (Block n) h = ne_eqb m.0 n.0 h
-not_same count (Landed m) (Landed n) h = ne_eqb m.0 n.0 (λ e. h (ap (λ k. count + 1 + k) e))
-not_same count X X h = absurd (h refl)
-not_same count (Block m) X h = refl
-not_same count (Block m) (Landed n) h = refl
-not_same count X (Block n) h = refl
-not_same count X (Landed n) h = refl
-not_same count (Landed m) (Block n) h = refl
-not_same count (Landed m) X h = refl
+not_same count m n h = grind arith
 
 -- ---- each node once
 

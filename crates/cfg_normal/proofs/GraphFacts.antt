@@ -1,18 +1,17 @@
 -- The edges of a graph lie between its nodes, and their slots in its text; they are at most seven for each word.
-use Rattle.std.proofs.Common.{◌≡◌, ℕ, zero, suc, ◌+◌, ◌*◌, ◌<◌, ◌≤◌, nat_le, nat_lt, Bool, true, false, ◌||◌, List, [], ◌∷◌, ◌++◌, length, map, Option, Some, None, refl, ap, ◌∙◌, arith, cond, get_or, inl, inr}
+use Rattle.std.proofs.Common.{◌≡◌, ℕ, zero, suc, ◌+◌, ◌*◌, ◌<◌, ◌≤◌, nat_le, nat_lt, Bool, true, ◌||◌, List, [], ◌∷◌, ◌++◌, length, map, Option, Some, None, refl, ap, ◌∙◌, arith, cond, get_or}
 use Rattle.std.specs.Prelude.{◌==◌, ◌&&◌, not}
 use Rattle.std.specs.List.{All, filter, flat_map, list_any, sum_by}
 use Rattle.std.proofs.lemmas.List.{length-append, length-map}
 use Rattle.std.proofs.lemmas.List.Concat.{flat_map-append}
 use Rattle.std.proofs.lemmas.List.Elements.{All-append, All-cons, All-filter, All-head, All-map, All-nil, All-tail, All-weaker, filter_passes}
 use Rattle.std.proofs.lemmas.List.Sums.{count_by-le-length, length-filter, sum_by-cons}
-use Rattle.std.proofs.lemmas.Bool.{and_parts, cases_eq, cond_both, eq-eqb, ne_eqb, or_left}
+use Rattle.std.proofs.lemmas.Bool.{and_parts, cond_both, or_left}
 use Rattle.std.proofs.lemmas.Bool.Decides.{nat_tests}
 use Rattle.cfg_blocks.specs.Blocks.{Blocks, below, end_of, holding_of, last_word}
-use Rattle.cfg_blocks.specs.Ends.{Way, always, never, number_of, way, ways_of, within}
+use Rattle.cfg_blocks.specs.Ends.{ways_of}
 use Rattle.cfg_blocks.specs.Entries.{Entered, IsBlockList, ways_from}
 use Rattle.cfg_blocks.specs.declared.BlockEnd.{BlockEnd}
-use Rattle.cfg_blocks.specs.declared.BlockEnd.TheVariants as ends
 use Rattle.cfg_blocks.specs.declared.EdgeKind.{EdgeKind}
 use Rattle.cfg_blocks.specs.declared.EdgeKind.TheVariants as kinds
 use Rattle.cfg_blocks.proofs.Below.{get_or-below, length-below}
@@ -45,22 +44,11 @@ All-below P n each =
 behind_compares : (opens : List Open) (block word : ℕ) → is_behind opens block word ≡ true
     → compares_in opens block ≡ true
 behind_compares [] block word h = absurd (cc)
-behind_compares (o ∷ opens) block word h =
-    by (o.switch.compare.0 == block) (nat_lt o.approach.compare.word word) h (behind_compares opens block word)
-  where
-    by : (s t : Bool) → ((s && t) || is_behind opens block word) ≡ true
-        → (is_behind opens block word ≡ true → compares_in opens block ≡ true)
-        → (s || compares_in opens block) ≡ true
-    by true t h next = refl
-    by false t h next = next h
+behind_compares (o ∷ opens) block word h = let next = behind_compares opens block word in grind (arith, next)
 
 pub copied_where : (opens : List Open) (block word : ℕ) → (jumps_in opens block || is_behind opens block word) ≡ true
     → is_copied opens block ≡ true
-copied_where opens block word h = by (jumps_in opens block) h
-  where
-    by : (j : Bool) → (j || is_behind opens block word) ≡ true → (j || compares_in opens block) ≡ true
-    by true h = refl
-    by false h = behind_compares opens block word h
+copied_where opens block word h = let next = behind_compares opens block word in grind (arith, next)
 
 module _ (b : Blocks) (opens : List Open) (some : 1 ≤ length b.firsts) where
   abbrev IsNode : Node → Type 0
@@ -185,15 +173,7 @@ module _ (b : Blocks) (opens : List Open) (some : 1 ≤ length b.firsts) where
 
 -- a block has at most two ways out of it
 pub ways_few : (count word : ℕ) (end : BlockEnd) → length (ways_of count word end) ≤ 2
-ways_few count word ends.Fall = omega arith
-ways_few count word (ends.Branch cond annul target) =
-    let taken : Way = way kinds.Taken (number_of target) in
-    let untaken : Way = way kinds.Untaken (within count (word + 2)) in
-    cond_both (cond == always) (taken ∷ []) _ (λ ways. length ways ≤ 2) (λ h. omega arith)
-    (λ h. cond_both (cond == never) (untaken ∷ []) (taken ∷ untaken ∷ []) (λ ways. length ways ≤ 2) (λ k. omega arith)
-    (λ k. omega arith))
-ways_few count word (ends.Call target) = omega arith
-ways_few count word ends.Jump = omega arith
+ways_few count word end = grind arith
 
 pub flat_few : {X A : Type 0} (f : X → List A) (xs : List X) → ((x : X) → length (f x) ≤ 2)
     → length (flat_map f xs) ≤ 2 * length xs
@@ -232,14 +212,7 @@ pub total_at : (at m n : ℕ) → (n ≤ at → total (λ k. cond (at == k) m 0)
 unfolding total
 total_at at m zero = (λ h. refl, omega arith)
 total_at at m (suc n) =
-    let before = total_at at m n in
-    elim (cases_eq at n) [
-      | inl e ↦
-          let none : total (λ k. cond (at == k) m 0) n ≡ 0 = before.0 (omega arith) in
-          (λ h. absurd (omega arith), rw (eq-eqb at n e) (omega arith))
-      | inr other ↦
-          (λ h. rw (ne_eqb at n other) (omega (arith, before.0 (omega arith))), rw (ne_eqb at n other) (omega (arith, before.1)))
-    ]
+    let before = total_at at m n in let none = before.0 in let few = before.1 in (λ h. grind (arith, none), grind (arith, none, few))
 
 pub entries_of : List Open → ℕ
 entries_of opens = sum_by (λ (o : Open). length o.targets) opens
@@ -270,17 +243,14 @@ targets_few (o ∷ opens) n =
     )
   where
     cut : (t : Bool) → length (cond t o.targets []) ≡ cond t (length o.targets) 0
-    cut true = refl
-    cut false = refl
+    cut t = grind arith
 
 pub once_few : (seen nodes : List Node) → length (once_onto seen nodes) ≤ length seen + length nodes
 once_few seen [] = omega arith
 once_few seen (node ∷ nodes) =
-    let next = cond (list_any (same_node node) seen) seen (seen ++ node ∷ []) in
-    let longer : length next ≤ length seen + 1 =
-    cond_both (list_any (same_node node) seen) seen (seen ++ node ∷ []) (λ xs. length xs ≤ length seen + 1)
-    (λ _. omega arith) (λ _. omega (arith, length-append seen (node ∷ []))) in
-    omega (arith, longer, once_few next nodes)
+    let rest = once_few (cond (list_any (same_node node) seen) seen (seen ++ node ∷ [])) nodes in
+    let longer = length-append seen (node ∷ []) in
+    grind (arith, rest, longer)
 
 module _ (b : Blocks) (opens : List Open) where
   pub ways_out-few : (from : Node) (block : ℕ) → length (ways_out b opens from block) ≤ 2
@@ -303,13 +273,7 @@ module _ (b : Blocks) (opens : List Open) where
       (λ _. omega (arith, ways_out-few (Block (record { 0 = block })) block))
 
   landings_of-few : (block : ℕ) → length (landings_of opens block) ≤ 2
-  landings_of-few block =
-      let home : Node = Block (record { 0 = block }) in
-      let copy : Node = Landed (record { 0 = block }) in
-      cond_both (jumps_in opens block) (copy ∷ []) (cond (is_copied opens block) (home ∷ copy ∷ []) (home ∷ []))
-      (λ ns. length ns ≤ 2) (λ _. omega arith)
-      (λ _. cond_both (is_copied opens block) (home ∷ copy ∷ []) (home ∷ []) (λ ns. length ns ≤ 2)
-      (λ _. omega arith) (λ _. omega arith))
+  landings_of-few block = grind arith
 
   edges_few : entries_of opens ≤ b.words → length b.firsts ≤ b.words → length (edges_in b opens) ≤ 7 * b.words
   unfolding edges_in

@@ -4,7 +4,7 @@ use Rattle.std.specs.Prelude.{◌==◌, ◌&&◌, not, nat_lt}
 use Rattle.std.specs.List.{All, list_any}
 use Rattle.std.proofs.lemmas.List.{append-nil, get_or_append_left, get_or_push, length_push}
 use Rattle.std.proofs.lemmas.List.Recursion.{or_at}
-use Rattle.std.proofs.lemmas.Bool.{ne_eqb, or_parts, cases_Bool, cases_lt, cond_both, eq-eqb, eqb-true, false≢true, ltb-true, ltb-false, lt-ltb, le-ltb, or_left}
+use Rattle.std.proofs.lemmas.Bool.{ne_eqb, or_parts, cases_Bool, eq-eqb, eqb-true, false≢true, or_left}
 use Rattle.eel_base.specs.CodeText.{Words, word_at}
 use Rattle.cfg_blocks.specs.declared.EdgeKind.{EdgeKind}
 use Rattle.cfg_blocks.specs.declared.switches.Switch.{Switch}
@@ -22,6 +22,7 @@ use Rattle.cfg_normal.specs.declared.landings.Landing.TheVariants.{Home, Behind,
 use Rattle.cfg_normal.specs.Landings.{AreTabled, AreTargetsIn, IsJumpOf, IsLanding, has_copy, is_from, is_jump_block, lands_by, noted, with_compare}
 use Rattle.cfg_normal.specs.Opens.{AreOne, AreOpenIn, Open, compares_in, is_behind, is_closed, is_copied, is_tabled, jumps_in, meets_any, targets_in, words_from}
 use Rattle.cfg_normal.proofs.TableWords.{any_push, or_none, table_is}
+use Rattle.std.proofs.lemmas.Bool.Decides.{nat_tests}
 
 -- a number in the list of them, with its block
 pub jumps_at : (opens : List Open) (block k : ℕ) → k < length opens
@@ -54,9 +55,7 @@ copied_as opens block (Copied k) is = rw (jumps_at opens block k is.0 is.1) refl
 none_jumps : (opens : List Open) (block : ℕ) (p : Open → Bool) → jumps_in opens block ≡ false
     → list_any (λ (o : Open). (o.block == block) && p o) opens ≡ false
 none_jumps [] block p h = refl
-none_jumps (o ∷ opens) block p h =
-    let parts = or_parts (o.block == block) (jumps_in opens block) h in
-    rw parts.0 (none_jumps opens block p parts.1)
+none_jumps (o ∷ opens) block p h = let rest = none_jumps opens block p in grind (arith, rest)
 
 -- a test is asked of it alone
 pub asked_at : (opens : List Open) → AreOne opens → (block k : ℕ) (p : Open → Bool) (d : Open) → k < length opens
@@ -104,15 +103,10 @@ pub compared_at : (opens : List Open) → AreOne opens → (from : Node) (kind :
 compared_at opens one (Block from) kind block k d l at =
     any_same opens ∙ asked_at opens one block k (λ (o : Open). (o.switch.compare.0 == from.0) && same_kind kind o.way) d l at
   where
-    and_assoc : (a b c : Bool) → ((a && b) && c) ≡ (a && (b && c))
-    and_assoc true b c = refl
-    and_assoc false b c = refl
-
     any_same : (opens : List Open) → is_compared opens (Block from) kind block
         ≡ list_any (λ (o : Open). (o.block == block) && ((o.switch.compare.0 == from.0) && same_kind kind o.way)) opens
     any_same [] = refl
-    any_same (o ∷ opens) =
-        rw (and_assoc (o.block == block) (o.switch.compare.0 == from.0) (same_kind kind o.way), any_same opens) refl
+    any_same (o ∷ opens) = let rest = any_same opens in grind (arith, rest)
 compared_at opens one X kind block k d l at = refl
 compared_at opens one (Landed from) kind block k d l at = refl
 
@@ -130,26 +124,12 @@ directed_at opens one from kind to k is t h =
     same : (t : Bool) → t ≡ is_compared opens from kind to.0
         → cond t (Block to) (Landed to)
         ≡ cond (not (is_compared opens from kind to.0)) (Landed to) (Block to)
-    same true e = rw (← e) refl
-    same false e = rw (← e) refl
+    same t e = grind arith
 
 -- ---- one open switch more
 
 earlier : (c d w : ℕ) → (nat_lt d w || nat_lt c w) ≡ lands_by (with_compare (Behind d) c) w
-earlier c d w =
-    cond_both (nat_lt c d) (Behind c) (Behind d) (λ l. (nat_lt d w || nat_lt c w) ≡ lands_by l w)
-    (λ h. elim (cases_lt c w) [
-      | inl l ↦ rw (lt-ltb c w l) (or_true (nat_lt d w))
-      | inr m ↦ let c_below = ltb-true c d h in rw (le-ltb c w m, le-ltb d w (omega arith)) refl
-    ])
-    (λ h. elim (cases_lt c w) [
-      | inl l ↦ let d_below = ltb-false c d h in rw (lt-ltb c w l, lt-ltb d w (omega arith)) refl
-      | inr m ↦ rw (le-ltb c w m) (or_none (nat_lt d w))
-    ])
-  where
-    or_true : (b : Bool) → (b || true) ≡ true
-    or_true true = refl
-    or_true false = refl
+earlier c d w = grind (arith, nat_tests)
 
 module _ (opens : List Open) (o : Open) (block : ℕ) where
   abbrev more : List Open

@@ -8,20 +8,19 @@ use Rattle.std.proofs.lemmas.List.Concat.{flat_map-append}
 use Rattle.std.proofs.lemmas.List.Elements.{All-append, All-cons, All-nil, All-same}
 use Rattle.std.proofs.lemmas.List.Folds.{list_any-append}
 use Rattle.std.proofs.lemmas.List.Recursion.{or_at}
-use Rattle.std.proofs.lemmas.Bool.{and_parts, cases_eq, cond_both, eq-eqb, false≢true, ltb-true, ne_eqb, or_from, or_parts, both_ways, cases_lt, eqb-true, false_from_ne_true, leb-true}
+use Rattle.std.proofs.lemmas.Bool.{and_parts, cond_both, eq-eqb, ltb-true, ne_eqb, or_from, or_parts, both_ways, cases_lt, false_from_ne_true}
 use Rattle.eel_base.specs.CodeText.{Words, word_at}
 use Rattle.cfg_blocks.specs.declared.switches.Switch.{Switch}
 use Rattle.cfg_blocks.specs.Blocks.{below}
 use Rattle.cfg_blocks.proofs.Below.{get_or-below, length-below}
 use Rattle.cfg_normal.specs.Opens.{IsTableIn, Open, is_tabled, table_words, targets_of, words_from}
+use Rattle.cfg_blocks.proofs.Targets.{word_at-some}
 
 pub or_none : (b : Bool) → (b || false) ≡ b
-or_none true = refl
-or_none false = refl
+or_none b = grind arith
 
 or_assoc : (a b c : Bool) → (a || (b || c)) ≡ ((a || b) || c)
-or_assoc true b c = refl
-or_assoc false b c = refl
+or_assoc a b c = grind arith
 
 pub any_push : {X : Type 0} (p : X → Bool) (xs : List X) (x : X)
     → list_any p (xs ++ x ∷ []) ≡ (list_any p xs || p x)
@@ -74,8 +73,7 @@ entries_within text address =
     (λ h. All-nil (λ w. w < n))
 
 one_entry : (o : Option ℕ) → is_some o ≡ true → length (option_to_list o) ≡ 1
-one_entry None h = absurd (false≢true h)
-one_entry (Some word) h = refl
+one_entry o h = grind arith
 
 module _ (text : Words) (from : ℕ) where
   abbrev entries : ℕ → List ℕ
@@ -118,32 +116,19 @@ tally p (suc n) = tally p n + cond (p n) 1 0
 
 pub tally_few : (p : ℕ → Bool) (n : ℕ) → tally p n ≤ n
 tally_few p zero = omega arith
-tally_few p (suc n) =
-    let one : cond (p n) 1 0 ≤ 1 = cond_both (p n) 1 0 (λ x. x ≤ 1) (λ _. omega arith) (λ _. omega arith) in
-    omega (arith, tally_few p n)
+tally_few p (suc n) = let before = tally_few p n in grind (arith, before)
 
 pub tally_same : (p q : ℕ → Bool) (n : ℕ) → ((k : ℕ) → k < n → p k ≡ q k) → tally p n ≡ tally q n
 tally_same p q zero same = refl
-tally_same p q (suc n) same =
-    let before : tally p n ≡ tally q n = tally_same p q n (λ k l. same k (omega arith)) in
-    let last : p n ≡ q n = same n (omega arith) in
-    cc
+tally_same p q (suc n) same = cc (tally_same p q n (λ k l. same k (omega arith)), same n (omega arith))
 
 -- one number more
 tally_more : (p : ℕ → Bool) (x n : ℕ) → x < n → p x ≡ false → tally (λ k. p k || (x == k)) n ≡ tally p n + 1
 tally_more p x zero l none = absurd (omega arith)
-tally_more p x (suc n) l none = elim (cases_eq x n) [
-  | inl e ↦
-      let here : (x == n) ≡ true = eq-eqb x n e in
-      let p_is : p n ≡ false = rw (sym e) none in
-      let before : tally (λ k. p k || (x == k)) n ≡ tally p n =
-      tally_same (λ k. p k || (x == k)) p n (λ k h. rw (ne_eqb x k (λ f. omega arith)) (or_none (p k))) in
-      rw (here, p_is) (omega arith)
-  | inr other ↦
-      let there : (x == n) ≡ false = ne_eqb x n other in
-      let before : tally (λ k. p k || (x == k)) n ≡ tally p n + 1 = tally_more p x n (omega arith) none in
-      rw (there, or_none (p n)) (omega arith)
-]
+tally_more p x (suc n) l none =
+    let before = tally_more p x n in
+    let past = (λ (e : x ≡ n). tally_same (λ k. p k || (x == k)) p n (λ k h. rw (ne_eqb x k (λ f. omega arith)) (or_none (p k)))) in
+    grind (arith, before, past)
 
 -- so many words from one on
 pub tally_table : (p : ℕ → Bool) (from c n : ℕ) → from + c ≤ n → list_any p (words_from from c) ≡ false
@@ -201,29 +186,12 @@ none_tabled text opens from c none i d l k m =
     (sym (ap (is_tabled text opens) (word_of from c k m))
     ∙ none_at (is_tabled text opens) (words_from from c) k 0 (omega (arith, length-words from c)) none)
 
-at_address : (text : Words) (address word : ℕ) → word_at text address ≡ Some word → address ≡ text.start + 4 * word
-at_address text address word =
-    let n = length text.words in
-    let at = (address - text.start) / 4 in
-    let above = nat_le text.start address in
-    let aligned = (address - text.start) % 4 == 0 in
-    cond_both (above && aligned && nat_lt at n) (Some at) None
-    (λ (o : Option ℕ). o ≡ Some word → address ≡ text.start + 4 * word)
-    (λ h e.
-    let front = and_parts (above && aligned) (nat_lt at n) h in
-    let two = and_parts above aligned front.0 in
-    let same : at ≡ word = cc in
-    let lower : text.start ≤ address = leb-true text.start address two.0 in
-    let whole : (address - text.start) % 4 ≡ 0 = eqb-true ((address - text.start) % 4) 0 two.1 in
-    omega arith)
-    (λ h e. absurd (cc))
-
 pub tables_apart : (text : Words) (one other : Switch) → IsTableIn text one → (t : IsTableIn text other)
     → ((k : ℕ) → k < other.count → list_any (λ x. x == t.begins + k) (table_words text one) ≡ false)
     → (one.table.0 + 4 * one.count ≤ other.table.0) ⊎ (other.table.0 + 4 * other.count ≤ one.table.0)
 tables_apart text one other s t none =
-    let a = at_address text one.table.0 s.begins s.at in
-    let b = at_address text other.table.0 t.begins t.at in
+    let a = (word_at-some text one.table.0 s.begins s.at).is in
+    let b = (word_at-some text other.table.0 t.begins t.at).is in
     elim (cases_lt s.begins t.begins) [
       | inl l ↦ elim (cases_lt t.begins (s.begins + one.count)) [
         | inl m ↦ absurd (meet (t.begins - s.begins) 0 (omega arith) (omega arith) (omega (arith, t.some)))

@@ -79,7 +79,6 @@ impl Nodes {
         ensures within { result < 2 * length self.now.blocks.firsts + 1 }
         ensures few { length self.now.blocks.firsts ≤ 2 ^ 20 }
     {
-        let _words = self.words();
         let count = self.blocks.count() as usize;
         match node {
             Node::Block(block) => block.0 as usize,
