@@ -1,5 +1,5 @@
 -- The edges of a graph, found by the node that they leave, or to which they lead, and by their kind.
-use Rattle.std.proofs.Common.{◌≡◌, ℕ, ◌<◌, Bool, true, false, ◌&&◌, ◌||◌, List, [], ◌∷◌, ◌++◌, length, map, Option, Some, None, refl, ap, sym, ◌∙◌, subst, inl, inr, arith}
+use Rattle.std.proofs.Common.{◌≡◌, ℕ, ◌<◌, Bool, true, false, ◌&&◌, ◌||◌, List, [], ◌∷◌, ◌++◌, length, map, Option, Some, refl, ap, sym, ◌∙◌, subst, inl, inr, arith}
 use Rattle.std.specs.Prelude.{if◌then◌else◌, ◌⊎◌, ◌==◌}
 use Rattle.std.specs.List.{filter, list_any, flat_map, slice_get, position}
 use Rattle.std.specs.Option.{option_to_list}
@@ -99,8 +99,7 @@ alike node [] h = h
 alike node (x ∷ xs) h = let rest = alike node xs in grind (arith, rest)
 
 pub number_of_list : (o : Option ℕ) (number : ℕ) → option_to_list o ≡ number ∷ [] → o ≡ Some number
-number_of_list None number e = absurd (cc)
-number_of_list (Some n) number e = cc
+number_of_list o number e = grind arith
 
 module _ (b : Blocks) (opens : List Open) where
   abbrev graph : Graph

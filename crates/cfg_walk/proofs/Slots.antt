@@ -35,8 +35,7 @@ LeadsIfThere b to = (word : ℕ) → to ≡ Some word → (word < b.words) × Le
 -- only a jump has a landing behind its edge
 pub lands_not : (text : Words) (graph : Graph) (kind : EdgeKind) (next : ℕ) → same_kind kind kinds.Out ≡ false
     → landed text graph kind next ≡ []
-lands_not text graph kinds.Out next e = absurd (false≢true (sym e))
-lands_not text graph _ next e = refl
+lands_not text graph kind next e = grind arith
 
 module _ (text : Words) (b : Blocks) (opens : List Open) (c : IsCut text b) where
   abbrev graph : Graph

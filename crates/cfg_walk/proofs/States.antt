@@ -50,9 +50,7 @@ at_slots text graph node s t was now e f h =
 -- ---- a transfer in a slot ends the run
 
 coupled : (x : Slot) (s t : State) → x ≢ NoSlot → (unless_couple x s t).ending ≡ Some Couple
-coupled NoSlot s t h = absurd (h refl)
-coupled Taken s t h = refl
-coupled Untaken s t h = refl
+coupled x s t h = grind arith
 
 pub couples : (x : Slot) (s : State) (instr : Instr) → x ≢ NoSlot → s.slot ≡ x → is_transfer instr ≡ true
     → (act s instr).ending ≡ Some Couple
@@ -68,15 +66,10 @@ unfolding step_of
 out_goes s live in_slot = by s.ending refl (fetch_of s.memory s.pc) refl live
   where
     acts : (instr : Instr) → (act s instr).ending ≡ None → (act s instr).pc ≡ s.npc
-    acts instr live = at (is_transfer instr) refl s.slot refl
-      where
-        at : (t : Bool) → is_transfer instr ≡ t → (x : Slot) → s.slot ≡ x → (act s instr).pc ≡ s.npc
-        at false f x e = (goes_act s instr f live).0
-        at true f NoSlot e = absurd (in_slot e)
-        at true f Taken e =
-            let ended : (act s instr).ending ≡ Some Couple = couples Taken s instr (λ g. absurd (cc)) e f in absurd (cc)
-        at true f Untaken e =
-            let ended : (act s instr).ending ≡ Some Couple = couples Untaken s instr (λ g. absurd (cc)) e f in absurd (cc)
+    acts instr live = elim (cases_Bool (is_transfer instr)) [
+      | inr f ↦ (goes_act s instr f live).0
+      | inl f ↦ let ended : (act s instr).ending ≡ Some Couple = couples s.slot s instr in_slot refl f in absurd (cc)
+    ]
 
     by : (x : Option Ending) → s.ending ≡ x → (o : Option ℕ) → fetch_of s.memory s.pc ≡ o
         → (unless_ended s x (on_word s o)).ending ≡ None → (unless_ended s x (on_word s o)).pc ≡ s.npc

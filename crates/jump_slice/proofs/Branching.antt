@@ -1,5 +1,5 @@
 -- How a branch goes: by its condition, with its slot or past it.
-use Rattle.std.proofs.Common.{◌≡◌, ◌≢◌, ℕ, zero, suc, ◌+◌, ◌*◌, ◌%◌, Bool, true, false, not, Some, None, refl, ap, sym, ◌∙◌, subst, arith, inl, inr}
+use Rattle.std.proofs.Common.{◌≡◌, ◌≢◌, ℕ, zero, suc, ◌+◌, ◌*◌, ◌%◌, Bool, true, false, not, Some, None, refl, ap, sym, ◌∙◌, subst, arith, inl, inr, ◌⊎◌}
 use Rattle.std.specs.Prelude.{◌==◌, ◌⊎◌, ℤ}
 use Rattle.std.proofs.lemmas.Bool.{cond_both, false≢true}
 use Rattle.v8_decode.specs.declared.Instr.{Instr}
@@ -26,6 +26,12 @@ taken_not e = absurd (cc)
 
 pub untaken_not : Untaken ≢ NoSlot
 untaken_not e = absurd (cc)
+
+-- there is a slot or none
+pub slot_cases : (x : Slot) → (x ≡ NoSlot) ⊎ (x ≢ NoSlot)
+slot_cases NoSlot = inl refl
+slot_cases Taken = inr taken_not
+slot_cases Untaken = inr untaken_not
 
 -- ---- how a branch goes
 

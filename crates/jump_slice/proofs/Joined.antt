@@ -1,5 +1,5 @@
 -- From the load of an entry to the jump of an open switch.
-use Rattle.std.proofs.Common.{◌≡◌, ℕ, suc, ◌+◌, ◌-◌, ◌<◌, ◌≤◌, true, List, length, Some, None, refl, ap, sym, ◌∙◌, subst, arith}
+use Rattle.std.proofs.Common.{◌≡◌, ℕ, suc, ◌+◌, ◌-◌, ◌<◌, ◌≤◌, true, List, length, Some, None, refl, ap, sym, ◌∙◌, arith}
 use Rattle.std.specs.Prelude.{◌==◌, ◌*◌}
 use Rattle.std.proofs.lemmas.Bool.{eq-eqb, lt-ltb}
 use Rattle.eel_base.specs.CodeText.{Words, IsText, word_at}
@@ -78,9 +78,8 @@ module _ (text : Words) (given : List ℕ) (entry : ℕ) (s0 : State) (is_text :
     way j l =
         let there = at_word r o from.is n at.live passed (load + j) (omega (arith, above)) (omega (arith, below, l)) in
         let e : from.passed.moment + steps_to o (load + j) ≡ start + j = omega (arith, above) in
-        let ends : (run s0 (start + j)).ending ≡ None = subst (λ (i : ℕ). (run s0 i).ending ≡ None) e there.0 in
-        let stands : IsAt text (load + j) (run s0 (start + j)) =
-        subst (λ (i : ℕ). IsAt text (load + j) (run s0 i)) e there.1 in
+        let ends : (run s0 (start + j)).ending ≡ None = rw e at there.0 in
+        let stands : IsAt text (load + j) (run s0 (start + j)) = rw e at there.1 in
         let low : load + j < length text.words = omega (arith, below, l, block_of.behind) in
         (ends, stands, ap (word_at text) stands.pc ∙ word_at-address text (load + j) ∙ rw (lt-ltb _ _ low))
 
