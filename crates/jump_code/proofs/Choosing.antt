@@ -1,5 +1,5 @@
 -- The words of a switch's JMPL, one by one, and beside the original's step.
-use Rattle.std.proofs.Common.{◌≡◌, ℕ, zero, suc, ◌+◌, ◌*◌, ◌^◌, ◌<◌, inl, None, List, refl, ap, sym, ◌∙◌, subst, arith}
+use Rattle.std.proofs.Common.{◌≡◌, ℕ, zero, suc, ◌+◌, ◌-◌, ◌*◌, ◌^◌, ◌<◌, inl, None, List, refl, ap, sym, ◌∙◌, subst, arith}
 use Rattle.std.specs.Prelude.{pos}
 use Rattle.v8_decode.specs.declared.Op2.{Op2}
 use Rattle.v8_decode.specs.declared.Op2.TheVariants.{Reg, Imm}
@@ -162,16 +162,8 @@ comes rd rs1 op2 address distance count s m live path silent stores =
 
 pub choices_simulate : ChoicesSimulate
 choices_simulate zero rs1 op2 address distance s h live =
-    let low = h.low in
-    let hop = choices_hop distance s (record {
-      valid = h.valid;
-      ready = h.ready;
-      low = omega arith;
-      words = h.words;
-      near = h.near;
-      page = h.page;
-      choice = h.choice;
-    }) in
+    let low : s.pc + 4 * 9 < 2 ^ 32 - 4 = omega (arith, h.low) in
+    let hop = choices_hop distance s assumption in
     comes zero rs1 op2 address distance 9 s (chosen_memory s) live hop.path hop.silent hop.stores
 choices_simulate (suc r) rs1 op2 address distance s h live =
     let low = h.low in
@@ -196,12 +188,7 @@ choices_simulate (suc r) rs1 op2 address distance s h live =
           (let e : s.pc + 4 + 4 ≡ s.pc + 4 * 2 = omega arith in e) h.words.1.1;
       near = h.near;
       page = h.page;
-      choice = record {
-        aligned = h.choice.aligned;
-        below = h.choice.below;
-        loads = h.choice.loads;
-        target = h.choice.target;
-      };
+      choice = assumption;
     }) in
     comes (suc r) rs1 op2 address distance 11 s (chosen_memory linked) live
     (leads_then (IsBetween s 11 IsPageWord) s linked _ 2 9 path

@@ -65,39 +65,8 @@ find_fits x y rd rs1 op2 table address a b fits low near short =
     let x_there = both (nat_lt x 32) _ lx at_either in
     let sum = both (nat_lt x 32) _ lx (both (nat_lt rs1 32) _ (lt rs1 32 a.rs1_below) low) in
     let high = lt (table / 1024) (2 ^ 22) (omega arith) in
-    let links = link_fits rd address a.rd_below short in (
-      x_only,
-      refl,
-      (
-        y_only,
-        refl,
-        (
-          sum,
-          fits,
-          (
-            x_only,
-            refl,
-            (
-              y_by_x,
-              refl,
-              (
-                y_by_y,
-                refl,
-                (
-                  lx,
-                  high,
-                  (
-                    y_there,
-                    refl,
-                    (sum, fits, (x_there, refl, (x_only, refl, (y_only, refl, links)))),
-                  ),
-                ),
-              ),
-            ),
-          ),
-        ),
-      ),
-    )
+    let links = link_fits rd address a.rd_below short in
+    assumption (x_only, y_only, y_by_x, y_by_y, y_there, x_there, sum, fits, lx, high, links)
 
 pub long_jump_fits : (to : ℕ) → to < 2 ^ 32 → Fit (long_jump to)
 long_jump_fits to short =
