@@ -1,6 +1,6 @@
 -- What is known of the words that are JMPLs, and the register that one doesn't name.
-use Rattle.std.proofs.Common.{◌≡◌, ◌≢◌, ℕ, ◌<◌, Bool, true, false, not, ◌||◌, ◌==◌, nat_lt, refl, sym, ◌∙◌, arith}
-use Rattle.std.proofs.lemmas.Bool.{and_parts, cond_both, eqb-false, ltb-true}
+use Rattle.std.proofs.Common.{◌≡◌, ◌≢◌, ℕ, ◌<◌, true, false, not, nat_lt, sym, arith}
+use Rattle.std.proofs.lemmas.Bool.{and_parts, cond_both, ltb-true}
 use Rattle.std.proofs.lemmas.Bool.Decides.{nat_tests}
 use Rattle.v8_decode.specs.declared.Op2.{Op2}
 use Rattle.v8_decode.specs.declared.Op2.TheVariants.{Reg, Imm}
@@ -22,22 +22,14 @@ record IsFree (number a b c : ℕ) : Type 0 where
   pub second : b ≢ number
   pub third : c ≢ number
 
-none_of : (p q r : Bool) → (not (p || q || r)) ≡ true → (p ≡ false) × (q ≡ false) × (r ≡ false)
-none_of false false false e = (refl, refl, refl)
-none_of true q r e = absurd (cc)
-none_of false true r e = absurd (cc)
-none_of false false true e = absurd (cc)
-
 free_if : (number a b c : ℕ) → 0 < number → number < 5 → not (is_one_of number a b c) ≡ true → IsFree number a b c
-free_if number a b c some few e =
-    let n = none_of (a == number) (b == number) (c == number) e in
-    record {
-      some = some;
-      few = few;
-      first = eqb-false a number n.0;
-      second = eqb-false b number n.1;
-      third = eqb-false c number n.2;
-    }
+free_if number a b c some few e = record {
+  some = some;
+  few = few;
+  first = λ q. grind (q, e, arith, nat_tests);
+  second = λ q. grind (q, e, arith, nat_tests);
+  third = λ q. grind (q, e, arith, nat_tests);
+}
 
 -- where 1 to 3 are all named, 4 isn't
 fourth : (a b c : ℕ) → not (is_one_of 1 a b c) ≡ false → not (is_one_of 2 a b c) ≡ false
@@ -68,35 +60,16 @@ record IsNext (number a b c d : ℕ) : Type 0 where
   pub third : c ≢ number
   pub fourth : d ≢ number
 
-none_of_four : (p q r s : Bool) → (not (p || q || r || s)) ≡ true → (p ≡ false) × (q ≡ false) × (r ≡ false)
-    × (s ≡ false)
-none_of_four false false false false e = (refl, refl, refl, refl)
-none_of_four true q r s e = absurd (cc)
-none_of_four false true r s e = absurd (cc)
-none_of_four false false true s e = absurd (cc)
-none_of_four false false false true e = absurd (cc)
-
 next_if : (number a b c d : ℕ) → 0 < number → number < 6 → not (is_one_of_four number a b c d) ≡ true
     → IsNext number a b c d
-next_if number a b c d some few e =
-    let shape : not (is_one_of_four number a b c d)
-    ≡ not ((a == number) || (b == number) || (c == number) || (d == number)) =
-    three (a == number) (b == number) (c == number) (d == number) in
-    let n = none_of_four (a == number) (b == number) (c == number) (d == number) (sym shape ∙ e) in
-    record {
-      some = some;
-      few = few;
-      first = eqb-false a number n.0;
-      second = eqb-false b number n.1;
-      third = eqb-false c number n.2;
-      fourth = eqb-false d number n.3;
-    }
-  where
-    three : (p q r s : Bool) → not ((p || q || r) || s) ≡ not (p || q || r || s)
-    three true q r s = refl
-    three false true r s = refl
-    three false false true s = refl
-    three false false false s = refl
+next_if number a b c d some few e = record {
+  some = some;
+  few = few;
+  first = λ q. grind (q, e, arith, nat_tests);
+  second = λ q. grind (q, e, arith, nat_tests);
+  third = λ q. grind (q, e, arith, nat_tests);
+  fourth = λ q. grind (q, e, arith, nat_tests);
+}
 
 -- where 1 to 4 are all named, 5 isn't
 fifth : (a b c d : ℕ) → not (is_one_of_four 1 a b c d) ≡ false → not (is_one_of_four 2 a b c d) ≡ false
