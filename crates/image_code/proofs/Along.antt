@@ -27,12 +27,7 @@ use Rattle.image_code.specs.Parts.{items_of}
 
 no_out : (kind : EdgeKind) → (kind ≡ kinds.Out → ⊥) → same_kind kind kinds.Out ≡ false
 no_out kinds.Out n = absurd (n refl)
-no_out kinds.Fall n = refl
-no_out kinds.Taken n = refl
-no_out kinds.Untaken n = refl
-no_out kinds.Call n = refl
-no_out kinds.Land n = refl
-no_out kinds.Case n = refl
+no_out _ n = refl
 
 -- any edge but a Fall or a Case edge has its way
 pub way_is : (text : Words) (graph : Graph) (table : ℕ) (codes : ℕ → List ℕ) (number : ℕ) (edge : Edge)
@@ -45,11 +40,7 @@ way_is text graph table codes number edge items fall case = go edge.kind fall ca
         → (if is_fall kind then jump_to 0 else if same_kind kind kinds.Case then jump_to 0 else items) ≡ items
     go kinds.Fall n m = absurd (n refl)
     go kinds.Case n m = absurd (m refl)
-    go kinds.Taken n m = refl
-    go kinds.Untaken n m = refl
-    go kinds.Call n m = refl
-    go kinds.Out n m = refl
-    go kinds.Land n m = refl
+    go _ n m = refl
 
 -- What is made is what it should be, where it goes on as the edge does.
 module _ (text : Words) (graph : Graph) (table : ℕ) (edge : Edge) (made : Result (List Item) NoMemory)

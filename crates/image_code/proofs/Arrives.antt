@@ -6,6 +6,7 @@ use Rattle.std.specs.Option.{option_map}
 use Rattle.std.proofs.lemmas.Bool.{cases_lt}
 use Rattle.std.proofs.lemmas.List.{length-append, map-append, append_assoc}
 use Rattle.std.proofs.lemmas.List.Concat.{flat_map-cons}
+use Rattle.std.proofs.lemmas.Option.{slice_get_within}
 use Rattle.eel_base.specs.declared.numbers.PieceNo.{PieceNo}
 use Rattle.v8_alu.specs.Numbers.{wrapped}
 use Rattle.v8_memory.specs.Regions.{Memory, code_of, fetch_from}
@@ -42,7 +43,7 @@ use Rattle.layout.proofs.Going.{stays, jumps_hop}
 use Rattle.image_code.specs.Simulates.{Setting, IsOnWay, cells_in, in_first_word, is_spill, operations_on, snippet_on, spills_at, spills_on, updates}
 use Rattle.image_code.specs.Images.{Pieces, Frame, HasImages, IsPlaced}
 use Rattle.image_code.specs.Cases.{IsFar, LeadsTo, LeadsOn, rest_from, words_on}
-use Rattle.image_code.proofs.Between.{can_run, get_below, item_below, item_size, on_none, stores_weaker}
+use Rattle.image_code.proofs.Between.{can_run, item_below, item_size, on_none, stores_weaker}
 use Rattle.image_code.proofs.Cells.{cell_low, cells_above, cell_stored, first_above, may_below, may_beside, may_own, operations_then, updates_same, updates_then, word_kept}
 use Rattle.image_code.proofs.Dead.{IsAlike, LastDead, NothingDead, alike_itself, alike_then, last_first, last_others, last_parted, nothing_parted}
 use Rattle.image_code.proofs.Memories.{images_stored}
@@ -91,7 +92,7 @@ pub record Rest (l : Pieces) (k n : ℕ) (xs : List Item) : Type 0 where
 
 pub rest_whole : (l : Pieces) (k : ℕ) (xs : List Item) → AreUnmarked xs → slice_get l.list k ≡ Some xs → Rest l k 0 xs
 rest_whole l k xs are is = record {
-  within = get_below l.list k xs is;
+  within = slice_get_within l.list k xs is;
   size = ap (λ (v : Option (List Item)). items_in v) is ∙ (let e : length xs ≡ 0 + length xs = omega arith in e);
   items = λ j.
       let e : 0 + j ≡ j = omega arith in
@@ -106,7 +107,7 @@ rest_whole l k xs are is = record {
 pub rest_marked : (l : Pieces) (k : ℕ) (address : _) (node : ℕ) (y : Item) (xs : List Item) → AreUnmarked xs
     → slice_get l.list k ≡ Some (it.Mark address node ∷ y ∷ it.EndMark ∷ xs) → Rest l k 3 xs
 rest_marked l k address node y xs are is = record {
-  within = get_below l.list k _ is;
+  within = slice_get_within l.list k _ is;
   size = ap (λ (v : Option (List Item)). items_in v) is
       ∙ (let e : suc (suc (suc (length xs))) ≡ 3 + length xs = omega arith in e);
   items = λ j.
@@ -208,19 +209,10 @@ module _ (g : Setting) (l : Pieces) (base : ℕ) (p : Placement) (place : ℕ �
   arrived edges a to most k low w =
       hopped_fit a w.other to k (w.alike.ending ∙ k.runs.ready.live) low w.count w.memory w.path.steps w.stores
 
-  -- word 1 of the page can be stored in
-  pub second_there : (a : State) → IsFit a → CanStore a.memory (page_word 1)
-  second_there a fit =
-      stores_there (page_word 1) a.memory (fit.has.ours.words (page_word 1) (h.frame.page 1 (omega arith)))
-
-  pub seventh_there : (a : State) → IsFit a → CanStore a.memory (page_word 7)
-  seventh_there a fit =
-      stores_there (page_word 7) a.memory (fit.has.ours.words (page_word 7) (h.frame.page 7 (omega arith)))
-
-  seventh_kept : (a : State) (m : Memory) → IsFit a → Stores IsFirstWord a.memory m
-      → memory_word m (page_word 7) ≡ memory_word a.memory (page_word 7)
-  seventh_kept a m fit stores =
-      word_kept IsFirstWord (page_word 7) (λ z e. inr (omega (arith, e))) a.memory m stores (seventh_there a fit)
+  -- the words of the page can be stored in
+  pub page_there : (a : State) → IsFit a → (n : ℕ) → n < 8 → CanStore a.memory (page_word n)
+  page_there a fit n few =
+      stores_there (page_word n) a.memory (fit.has.ours.words (page_word n) (h.frame.page n (omega (arith, few))))
 
   -- stores in word 0 of the page
   pub first_kept : (a : State) (m : Memory) → IsFit a → Stores IsFirstWord a.memory m
@@ -231,7 +223,8 @@ module _ (g : Setting) (l : Pieces) (base : ℕ) (p : Placement) (place : ℕ �
     stores_weaker IsFirstWord (IsAmongWords f.own) a.memory m
         (λ z e. subst (IsAmongWords f.own) (sym e) h.frame.own.first) stores,
     (
-      word_kept IsFirstWord (page_word 1) (λ z e. inr (omega (arith, e))) a.memory m stores (second_there a fit),
+      word_kept IsFirstWord (page_word 1) (λ z e. inr (omega (arith, e))) a.memory m stores
+          (page_there a fit 1 (omega arith)),
       cells_above g l f h.frame h.cells IsFirstWord first_above a.memory m fit.has.ours stores,
     ),
   )
@@ -257,7 +250,8 @@ module _ (g : Setting) (l : Pieces) (base : ℕ) (p : Placement) (place : ℕ �
         silent = silent;
         stores = kept.0;
         waits = kept.1.0;
-        found = λ _. seventh_kept a m fit stores;
+        found = λ _. word_kept IsFirstWord (page_word 7) (λ z e. inr (omega (arith, e))) a.memory m stores
+            (page_there a fit 7 (omega arith));
         cells = λ _. kept.1.1 ∙ sym (no_updates g.snips edges (cells_in g a) a none);
         begins = begins;
         alike = alike_itself g edges a;
@@ -486,9 +480,11 @@ module _ (g : Setting) (l : Pieces) (base : ℕ) (p : Placement) (place : ℕ �
         stores = stores_weaker (MayStore g.notes.base (snippet_on g.snips edge)) (IsAmongWords f.own) a.memory
             past.after.memory (may_own g l f h.frame h.cells edge) past.stores;
         waits = word_kept (MayStore g.notes.base (snippet_on g.snips edge)) (page_word 1)
-            (may_beside g l f h.frame h.cells edge) a.memory past.after.memory past.stores (second_there a fit);
+            (may_beside g l f h.frame h.cells edge) a.memory past.after.memory past.stores
+            (page_there a fit 1 (omega arith));
         found = λ _. word_kept (MayStore g.notes.base (snippet_on g.snips edge)) (page_word 7)
-            (may_below g l f h.frame h.cells edge) a.memory past.after.memory past.stores (seventh_there a fit);
+            (may_below g l f h.frame h.cells edge) a.memory past.after.memory past.stores
+            (page_there a fit 7 (omega arith));
         cells = λ _. past.cells g.notes.cells (h.cells.named edge) h.cells.low;
         begins = λ some. there.bare a (omega (arith, at)) (omega (arith, at, some, few));
         alike = record {

@@ -3,6 +3,7 @@ use Rattle.std.proofs.Common.{◌≡◌, ℕ, zero, suc, ◌+◌, ◌-◌, ◌*�
 use Rattle.std.specs.Prelude.{if◌then◌else◌, slice_get, slice_index, ◌==◌}
 use Rattle.std.specs.Option.{option_map, option_or}
 use Rattle.std.proofs.lemmas.Bool.Decides.{nat_tests}
+use Rattle.std.proofs.lemmas.Option.{slice_get_within}
 use Rattle.notes.specs.Format.{NoteRange, range_at, node_at}
 use Rattle.v8_memory.specs.Regions.{Memory, Region}
 use Rattle.v8_memory.specs.Spans.{Span, IsSameOutside, IsSameRegion}
@@ -64,25 +65,20 @@ pub open_rest : (rest : List Item) → open_from rest 3 0 None ≡ None
 open_rest [] = refl
 open_rest (x ∷ xs) = refl
 
-pub get_below : {A : Type 0} (xs : List A) (n : ℕ) (x : A) → slice_get xs n ≡ Some x → n < length xs
-get_below [] n x e = absurd (cc)
-get_below (y ∷ ys) zero x e = omega arith
-get_below (y ∷ ys) (suc n) x e = let f = get_below ys n x e in omega arith
-
 pub item_size : (pieces : List (List Item)) (k n : ℕ) (x : Item) → item_at pieces k n ≡ Some x
     → suc n ≤ size_of pieces k
 item_size pieces k n x e = go (slice_get pieces k) e
   where
     go : (o : Option (List Item)) → item_in o n ≡ Some x → suc n ≤ items_in o
     go None e = absurd (cc)
-    go (Some items) e = let f = get_below items n x e in omega arith
+    go (Some items) e = let f = slice_get_within items n x e in omega arith
 
 pub item_below : (pieces : List (List Item)) (k n : ℕ) (x : Item) → item_at pieces k n ≡ Some x → k < length pieces
 item_below pieces k n x e = go (slice_get pieces k) refl e
   where
     go : (o : Option (List Item)) → slice_get pieces k ≡ o → item_in o n ≡ Some x → k < length pieces
     go None f e = absurd (cc)
-    go (Some items) f e = get_below pieces k items f
+    go (Some items) f e = slice_get_within pieces k items f
 
 module _ (g : Setting) (l : Pieces) (base : ℕ) (p : Placement) (place : ℕ → ℕ → ℕ) (f : Frame)
     (h : IsPlaced g l base p place f) where

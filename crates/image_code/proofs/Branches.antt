@@ -1,7 +1,7 @@
 -- Branches, their ways, and the words of their images.
-use Rattle.std.proofs.Common.{◌≡◌, ◌≢◌, ℕ, ◌<◌, Bool, true, false, Option, Some, None, List, ◌∷◌, refl, ap, sym}
+use Rattle.std.proofs.Common.{◌≡◌, ◌≢◌, ℕ, ◌<◌, Bool, false, Option, Some, None, List, ◌∷◌, refl, sym}
 use Rattle.std.specs.Prelude.{nat_lt, pos, slice_index, ℤ}
-use Rattle.std.proofs.lemmas.Bool.{cond_both, eqb-true, ltb-true}
+use Rattle.std.proofs.lemmas.Bool.{cond_both, ltb-true}
 use Rattle.eel_base.specs.CodeText.{Words}
 use Rattle.eel_base.specs.declared.numbers.Addr.{Addr}
 use Rattle.v8_decode.specs.declared.Instr.{Instr}
@@ -9,16 +9,15 @@ use Rattle.v8_decode.specs.declared.Instr.TheVariants as i
 use Rattle.v8_decode.specs.Words.{decode_of, branch_or_sethi}
 use Rattle.v8_decode.proofs.Rows.{decoded_range}
 use Rattle.v8_step.specs.declared.Slot.{Slot}
-use Rattle.v8_step.specs.declared.Slot.TheVariants.{NoSlot, Taken, Untaken}
+use Rattle.v8_step.specs.declared.Slot.TheVariants.{Untaken}
 use Rattle.v8_step.specs.Items.{is_transfer}
 use Rattle.cfg_blocks.specs.declared.EdgeKind.{EdgeKind}
 use Rattle.cfg_blocks.specs.declared.EdgeKind.TheVariants as kinds
 use Rattle.cfg_blocks.specs.Ends.{within}
 use Rattle.cfg_blocks.specs.Entries.{is_fall}
 use Rattle.cfg_normal.specs.declared.Node.{Node}
-use Rattle.cfg_normal.specs.declared.Node.TheVariants.{Block, Landed, X}
 use Rattle.cfg_normal.specs.Graph.{Graph}
-use Rattle.cfg_walk.specs.Walk.{same_kind, same_node, way_of}
+use Rattle.cfg_walk.specs.Walk.{same_kind, way_of}
 use Rattle.cfg_normal.specs.Numbers.{node_number}
 use Rattle.layout.specs.declared.items.Item.{Item}
 use Rattle.layout.specs.declared.items.Item.TheVariants as it
@@ -52,28 +51,7 @@ pub way_is_own : (o : Option Instr) (slot : Slot) → IsTransfersWay (way_of o s
 way_is_own (Some (i.Call disp30)) slot = record { fall = refl; land = refl; caseless = refl }
 way_is_own (Some (i.Jmpl rd rs1 op2)) slot = record { fall = refl; land = refl; caseless = refl }
 way_is_own _ Untaken = record { fall = refl; land = refl; caseless = refl }
-way_is_own _ NoSlot = record { fall = refl; land = refl; caseless = refl }
-way_is_own _ Taken = record { fall = refl; land = refl; caseless = refl }
-
-pub same_is : (k j : EdgeKind) → same_kind k j ≡ true → k ≡ j
-same_is kinds.Fall kinds.Fall e = refl
-same_is kinds.Taken kinds.Taken e = refl
-same_is kinds.Untaken kinds.Untaken e = refl
-same_is kinds.Call kinds.Call e = refl
-same_is kinds.Out kinds.Out e = refl
-same_is kinds.Land kinds.Land e = refl
-same_is kinds.Case kinds.Case e = refl
-same_is _ _ e = absurd (cc)
-
-pub node_same : (n m : Node) → same_node n m ≡ true → n ≡ m
-node_same (Block one) (Block other) e =
-    let k : one.0 ≡ other.0 = eqb-true _ _ e in
-    ap (λ z. Block (record { 0 = z })) k
-node_same (Landed one) (Landed other) e =
-    let k : one.0 ≡ other.0 = eqb-true _ _ e in
-    ap (λ z. Landed (record { 0 = z })) k
-node_same X X e = refl
-node_same _ _ e = absurd (cc)
+way_is_own _ _ = record { fall = refl; land = refl; caseless = refl }
 
 pub image_straight : (text : Words) (graph : Graph) (jumps cases : ℕ) (codes : ℕ → List ℕ) (address : Addr)
     (node : Node)
@@ -98,8 +76,7 @@ pub record HeadOf (address : Addr) (node : ℕ) (xs : List Item) : Type 0 where
   pub is : xs ≡ it.Mark address node ∷ item ∷ rest
 
 pub within_is : (count word other : ℕ) → within count word ≡ Some other → word ≡ other
-within_is count word other e = cond_both (nat_lt word count) _ _ (λ (o : Option ℕ). o ≡ Some other → word ≡ other)
-    (λ _ q. cc) (λ _ q. absurd (cc)) e
+within_is count word other e = (within_some count word other e).1
 
 pub is_there : (o : Option ℕ) → o ≢ None → (word : ℕ) × (o ≡ Some word)
 is_there None h = absurd (h refl)

@@ -45,7 +45,7 @@ use Rattle.code_runs.specs.StoredWords.{memory_word}
 use Rattle.image_code.proofs.Ended.{stops_act}
 use Rattle.image_code.proofs.Sparing.{uncounted}
 use Rattle.image_code.proofs.Memories.{fetch_is, images_stay, images_stored, same_stored}
-pub use Rattle.image_code.proofs.Between.{at_range, can_run, ended_none, first_own, get_below, item_below, item_size, live_before, node_is, on_none, on_range, there_in, open_rest, outside_refl, quiet_of, same_at, stores_weaker}
+pub use Rattle.image_code.proofs.Between.{at_range, can_run, ended_none, first_own, item_below, item_size, live_before, node_is, on_none, on_range, there_in, open_rest, outside_refl, quiet_of, same_at, stores_weaker}
 pub use Rattle.image_code.proofs.Arrives.{Arrives, Tail, IsBare, IsFit, arrive, arrived, bare_on, far_on, hopped_fit, jump_on, jump_then, on_then, tail, weaker_arrives, weaker_tail}
 pub use Rattle.image_code.proofs.Dead.{LastDead, alike_hopped, alike_itself, followed_alike, gone_last}
 use Rattle.image_code.proofs.Dead.{IsAlike}
@@ -177,10 +177,7 @@ module _ (g : Setting) (l : Pieces) (base : ℕ) (p : Placement) (place : ℕ �
         (act (at_point x t) (decode_of c.word)) after
     followed edges after alike outside =
         followed_alike g edges (act (at_point x t) (decode_of c.word)) (act t (decode_of c.word)) after
-        (sym (ap (λ (z : State). z.ending) same)) (sym (ap (λ (z : State). z.window) same))
-        (sym (ap (λ (z : State). z.valid) same)) (sym (ap (λ (z : State). z.registers) same))
-        (sym (ap (λ (z : State). z.codes) same)) (sym (ap (λ (z : State). z.y) same))
-        (sym (ap (λ (z : State). z.input) same))
+        (sym (ap (λ (z : State). hopped z 0 after.memory) same))
         (subst (λ (z : Memory). IsSameOutside (pages_of g.notes) z after.memory) (ap (λ (z : State). z.memory) same)
         outside) alike
 

@@ -74,23 +74,8 @@ and_fits [] ys f h = h
 and_fits (x ∷ xs) ys f h = (f.0, f.1, and_fits xs ys f.2 h)
 
 choose_fits : (distance : ℕ) → distance < 2 ^ 32 → Fit (choose distance)
-choose_fits distance short = (
-  refl,
-  refl,
-  (
-    refl,
-    refl,
-    (
-      refl,
-      refl,
-      (
-        refl,
-        lt (distance / 1024) (2 ^ 22) (omega arith),
-        (refl, lt (distance % 1024) 4096 (omega arith), (refl, refl, (refl, refl, (refl, refl, (refl, refl, tt))))),
-      ),
-    ),
-  ),
-)
+choose_fits distance short =
+    assumption (lt (distance / 1024) (2 ^ 22) (omega arith), lt (distance % 1024) 4096 (omega arith))
 
 -- ---- the step
 
@@ -222,8 +207,7 @@ module _ (g : Setting) (l : Pieces) (base : ℕ) (p : Placement) (place : ℕ �
               ∙ sym (ap (λ (o : Option ℕ). puts_on_word (at_point x t) o descriptor) c.is_word
               ∙ quiet_transfer (at_point x t) (decode_of c.word) descriptor (ap is_transfer c.says));
           followed = followed_alike g [] after_jump after_jump (hopped after_jump (chosen c.distance t) k.memory)
-              refl refl refl refl refl refl refl
-              (subst (λ (z : Memory). IsSameOutside (pages_of g.notes) z k.memory) (sym k.same)
+              refl (subst (λ (z : Memory). IsSameOutside (pages_of g.notes) z k.memory) (sym k.same)
               (same_stored g f h.frame base p t.memory k.memory here.memory own))
               (alike_hopped g [] after_jump after_jump (chosen c.distance t) k.memory (alike_itself g [] after_jump));
           cells = page_cells k.memory k.stores;

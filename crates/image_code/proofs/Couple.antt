@@ -8,7 +8,7 @@ use Rattle.v8_alu.specs.Numbers.{wrapped}
 use Rattle.v8_memory.specs.Regions.{code_of, fetch_from}
 use Rattle.v8_step.specs.declared.Ending.TheVariants.{Couple}
 use Rattle.v8_step.specs.declared.Slot.{Slot}
-use Rattle.v8_step.specs.declared.Slot.TheVariants.{NoSlot, Taken, Untaken}
+use Rattle.v8_step.specs.declared.Slot.TheVariants.{NoSlot, Taken}
 use Rattle.v8_step.specs.State.{State}
 use Rattle.v8_step.specs.Transfers.{ended, target_of, unless_couple}
 use Rattle.v8_step.specs.Step.{act, step_of, on_word, puts_of, puts_by, puts_on_word}
@@ -39,30 +39,13 @@ couple_acts s x e ne = go x e
   where
     by : (z : Slot) (after : State) → z ≢ NoSlot → unless_couple z s after ≡ ended s Couple
     by NoSlot after k = absurd (k refl)
-    by Taken after k = refl
-    by Untaken after k = refl
+    by _ after k = refl
 
     go : (x : Instr) → is_transfer x ≡ true → act s x ≡ ended s Couple
     go (i.Branch cond annul disp) e = by s.slot _ ne
     go (i.Call disp) e = by s.slot _ ne
     go (i.Jmpl rd rs1 op2) e = by s.slot _ ne
-    go (i.Sethi rd imm22) e = absurd (cc)
-    go (i.Alu op sets rd rs1 op2) e = absurd (cc)
-    go (i.ReadY rd) e = absurd (cc)
-    go (i.WriteY rs1 op2) e = absurd (cc)
-    go (i.Ticc cond rs1 op2) e = absurd (cc)
-    go (i.Flush rs1 op2) e = absurd (cc)
-    go i.Stbar e = absurd (cc)
-    go (i.Save rd rs1 op2) e = absurd (cc)
-    go (i.Restore rd rs1 op2) e = absurd (cc)
-    go (i.Load kind rd rs1 op2) e = absurd (cc)
-    go (i.Store kind rd rs1 op2) e = absurd (cc)
-    go (i.Ldstub rd rs1 op2) e = absurd (cc)
-    go (i.Swap rd rs1 op2) e = absurd (cc)
-    go i.Illegal e = absurd (cc)
-    go i.Privileged e = absurd (cc)
-    go i.FpOff e = absurd (cc)
-    go i.CpOff e = absurd (cc)
+    go _ e = absurd (cc)
 
 pub quiet_transfer : (s : State) (x : Instr) (descriptor : ℕ) → is_transfer x ≡ true → puts_by s x descriptor ≡ []
 unfolding puts_by

@@ -104,8 +104,7 @@ alike_itself g edges a = record {
 pub same_hopped : (item : StateItem) (a b : State) (to : ℕ) (m : Memory) → IsSameAt item a b
     → IsSameAt item a (hopped b to m)
 same_hopped (Register n) a b to m e = e
-same_hopped Codes a b to m e = e
-same_hopped YRegister a b to m e = e
+same_hopped _ a b to m e = e
 
 pub same_from : (item : StateItem) (a b c : State) → a.registers ≡ b.registers → a.codes ≡ b.codes → a.y ≡ b.y
     → IsSameAt item b c → IsSameAt item a c
@@ -116,8 +115,7 @@ same_from YRegister a b c e f h same = h ∙ same
 same_then : (item : StateItem) (a b c : State) (to : ℕ) (m : Memory) → IsSameAt item a b
     → IsSameAt item (hopped b to m) c → IsSameAt item a c
 same_then (Register n) a b c to m e f = e ∙ f
-same_then Codes a b c to m e f = e ∙ f
-same_then YRegister a b c to m e f = e ∙ f
+same_then _ a b c to m e f = e ∙ f
 
 pub alike_hopped : (g : Setting) (edges : List ℕ) (a b : State) (to : ℕ) (m : Memory) → IsAlike g edges a b
     → IsAlike g edges a (hopped b to m)
@@ -131,19 +129,21 @@ alike_hopped g edges a b to m one = record {
 }
 
 -- what is alike to a state with the items of the original follows it
-pub followed_alike : (g : Setting) (edges : List ℕ) (v a after : State) → v.ending ≡ a.ending → v.window ≡ a.window
-    → v.valid ≡ a.valid → v.registers ≡ a.registers → v.codes ≡ a.codes → v.y ≡ a.y → v.input ≡ a.input
+pub followed_alike : (g : Setting) (edges : List ℕ) (v a after : State)
+    → hopped v 0 after.memory ≡ hopped a 0 after.memory
     → IsSameOutside (pages_of g.notes) v.memory after.memory → IsAlike g edges a after
     → IsFollowedBy (pages_of g.notes) (IsKept g edges v.window) v after
-followed_alike g edges v a after e1 e2 e3 e4 e5 e6 e7 outside alike = record {
-  ending = alike.ending ∙ sym e1;
-  window = alike.window ∙ sym e2;
-  valid = alike.valid ∙ sym e3;
-  registers = alike.registers ∙ sym (ap length e4);
-  input = alike.input ∙ sym e7;
+followed_alike g edges v a after same outside alike = record {
+  ending = alike.ending ∙ sym (ap (λ (z : State). z.ending) same);
+  window = alike.window ∙ sym (ap (λ (z : State). z.window) same);
+  valid = alike.valid ∙ sym (ap (λ (z : State). z.valid) same);
+  registers = alike.registers ∙ sym (ap (λ (z : State). length z.registers) same);
+  input = alike.input ∙ sym (ap (λ (z : State). z.input) same);
   memory = outside;
   items = λ _ item _ kept.
-      same_from item v a after e4 e5 e6 (alike.items item (subst (λ z. IsKept g edges z item) e2 kept));
+      same_from item v a after (ap (λ (z : State). z.registers) same) (ap (λ (z : State). z.codes) same)
+      (ap (λ (z : State). z.y) same)
+      (alike.items item (subst (λ z. IsKept g edges z item) (ap (λ (z : State). z.window) same) kept));
 }
 
 pub alike_then : (g : Setting) (edges first others : List ℕ) → edges ≡ first ++ others → (a b c : State) (to : ℕ)
@@ -211,12 +211,7 @@ module _ (g : Setting) (l : Pieces) (f : Frame) (has : HasCells g l f) where
       (record { kind = kinds.Out; to = None })
       (λ (way : WayOut). LastDead g (left_along g.text (graph_in g) node way next))
       (λ _. alone _) (λ _. of_jump node next _ refl)
-  by_kind node kinds.Fall next = alone _
-  by_kind node kinds.Taken next = alone _
-  by_kind node kinds.Untaken next = alone _
-  by_kind node kinds.Call next = alone _
-  by_kind node kinds.Land next = alone _
-  by_kind node kinds.Case next = alone _
+  by_kind node _ next = alone _
 
   if_last : (b : Bool) (o : Option ℕ) → LastDead g (if b then option_to_list o else [])
   if_last true o = listed_last g o

@@ -21,15 +21,16 @@ use Rattle.cfg_normal.specs.Graph.{Graph, IsSlotIn, edges_in, lands}
 use Rattle.cfg_walk.specs.Walk.{WayOut, edge_along, leads_along, same_kind, same_node}
 use Rattle.cfg_walk.specs.Matches.{target_along}
 use Rattle.cfg_walk.proofs.Cut.{IsCut, cut}
-use Rattle.cfg_walk.proofs.Edges.{block, number_of_list}
+use Rattle.cfg_walk.proofs.Edges.{block, number_of_list, same_nodes}
 use Rattle.cfg_walk.proofs.NoneOpen.{edge_lies_in}
+use Rattle.cfg_walk.proofs.Ways.{same_kinds}
 use Rattle.image_code.specs.Simulates.{Setting, graph_in}
 use Rattle.image_code.specs.Cases.{IsFar}
 use Rattle.image_code.specs.Made.{case_by, first_word, jump_to, piece_list, way_by}
 use Rattle.image_code.specs.Numbered.{case_piece, place_in}
 use Rattle.image_code.proofs.CaseTables.{IsKnown}
 use Rattle.layout.specs.declared.items.Item.{Item}
-use Rattle.image_code.proofs.Branches.{IsTransfersWay, node_same, same_is}
+use Rattle.image_code.proofs.Branches.{IsTransfersWay}
 use Rattle.image_code.proofs.Listed.{case_entry_at, own_at, place_is, way_at}
 
 -- ---- addresses to which a long jump can lead
@@ -90,8 +91,8 @@ module _ (g : Setting) (is : IsKnown g) (table cases : ℕ) where
       record {
         only = only;
         found = found;
-        leaves = node_same edge.from node parts.0;
-        same = same_is edge.kind way.kind parts.1;
+        leaves = same_nodes edge.from node parts.0;
+        same = same_kinds edge.kind way.kind parts.1;
       }
 
   -- the piece of its way

@@ -16,6 +16,7 @@ use Rattle.cfg_normal.specs.Landings.{IsNumbered}
 use Rattle.cfg_normal.specs.Nodes.{same_kind, same_node}
 use Rattle.cfg_normal.specs.Numbers.{kind_number, node_number}
 use Rattle.cfg_walk.specs.Walk.{edge_along, edge_from, landing_at}
+use Rattle.cfg_walk.proofs.Ways.{same_kinds}
 use Rattle.image_code.specs.Lookups.{AreFirstEdges, is_case, is_edge_at, is_land, mark_at, mark_of, node_of_edge}
 use Rattle.image_code.proofs.FirstPlaces.{mark_same, position-cons, position-same}
 
@@ -30,29 +31,13 @@ eqb-same a b c d to from = go (c == d) refl
 
 pub kinds_same : (one other : EdgeKind) → (kind_number one == kind_number other) ≡ same_kind one other
 kinds_same kinds.Fall kinds.Fall = refl
-kinds_same kinds.Fall _ = refl
 kinds_same kinds.Taken kinds.Taken = refl
-kinds_same kinds.Taken _ = refl
 kinds_same kinds.Untaken kinds.Untaken = refl
-kinds_same kinds.Untaken _ = refl
 kinds_same kinds.Call kinds.Call = refl
-kinds_same kinds.Call _ = refl
 kinds_same kinds.Out kinds.Out = refl
-kinds_same kinds.Out _ = refl
 kinds_same kinds.Land kinds.Land = refl
-kinds_same kinds.Land _ = refl
 kinds_same kinds.Case kinds.Case = refl
-kinds_same kinds.Case _ = refl
-
-kind_is : (one other : EdgeKind) → same_kind one other ≡ true → one ≡ other
-kind_is kinds.Fall kinds.Fall e = refl
-kind_is kinds.Taken kinds.Taken e = refl
-kind_is kinds.Untaken kinds.Untaken e = refl
-kind_is kinds.Call kinds.Call e = refl
-kind_is kinds.Out kinds.Out e = refl
-kind_is kinds.Land kinds.Land e = refl
-kind_is kinds.Case kinds.Case e = refl
-kind_is one other e = absurd (cc)
+kinds_same _ _ = refl
 
 abbrev IsOneOf : Graph → Node → Type 0
 IsOneOf graph node = IsNumbered (length graph.blocks.firsts) node
@@ -82,12 +67,7 @@ neither a b t e = ap (λ u. a && u) e ∙ and_comm a false ∙ sym (ap (λ u. b 
 
 lands_apart : (k : EdgeKind) → is_land k ≡ false → same_kind kinds.Land k ≡ false
 lands_apart kinds.Land h = absurd (cc)
-lands_apart kinds.Fall h = refl
-lands_apart kinds.Taken h = refl
-lands_apart kinds.Untaken h = refl
-lands_apart kinds.Call h = refl
-lands_apart kinds.Out h = refl
-lands_apart kinds.Case h = refl
+lands_apart _ h = refl
 
 module _ (graph : Graph) (g : IsGraph graph) (rows : List (List ℕ)) (first : AreFirstEdges graph graph.edges rows)
     (node : Node) (here : IsOneOf graph node) (found : Option ℕ) where
@@ -113,7 +93,7 @@ module _ (graph : Graph) (g : IsGraph graph) (rows : List (List ℕ)) (first : A
       go false e = found_by kind edge edge.from (numbered graph edge.from inside.from) (ap (number_by edge) e)
       go true e =
           let apart : same_kind edge.kind kind ≡ false =
-          ap (λ k. same_kind k kind) (kind_is edge.kind kinds.Land e) ∙ lands_apart kind other in
+          ap (λ k. same_kind k kind) (same_kinds edge.kind kinds.Land e) ∙ lands_apart kind other in
           found_by kind edge edge.to (numbered graph edge.to inside.to) (ap (number_by edge) e)
           ∙ neither (same_node edge.to node) (same_node edge.from node) (same_kind edge.kind kind) apart
 

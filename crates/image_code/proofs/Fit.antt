@@ -3,9 +3,10 @@ use Rattle.std.proofs.Common.{◌≡◌, ℕ, suc, ◌+◌, ◌-◌, ◌*◌, �
 use Rattle.std.specs.Prelude.{if◌then◌else◌, nat_lt, slice_get, slice_index}
 use Rattle.std.specs.List.{flat_map, position, range_with_len, sum_by}
 use Rattle.std.specs.Option.{option_to_list}
-use Rattle.std.proofs.lemmas.Bool.{and_parts, cond_both, false≢true, ltb-true}
+use Rattle.std.proofs.lemmas.Bool.{and_parts, cond_both, ltb-true}
 use Rattle.std.proofs.lemmas.List.FromFn.{length-range_with_len}
-use Rattle.std.proofs.lemmas.List.Sums.{sum_by-append, sum_by-cons}
+use Rattle.std.proofs.lemmas.List.Folds.{fold-map}
+use Rattle.std.proofs.lemmas.List.Sums.{sum_by-append, sum_by-cons, sum_by-le}
 use Rattle.std.proofs.lemmas.List.Quantifiers.{position-Some}
 use Rattle.std.proofs.lemmas.Option.{get_or_from_slice_get, slice_get-get_or}
 use Rattle.eel_base.specs.CodeText.{Words, IsText, address_of, word_at}
@@ -18,7 +19,7 @@ use Rattle.v8_step.specs.Items.{is_transfer}
 use Rattle.cfg_blocks.specs.declared.EdgeKind.{EdgeKind}
 use Rattle.cfg_blocks.specs.declared.EdgeKind.TheVariants as kinds
 use Rattle.cfg_blocks.specs.Ends.{always, never}
-use Rattle.cfg_blocks.specs.Blocks.{below, last_word, size_of}
+use Rattle.cfg_blocks.specs.Blocks.{below, blocks_of, last_word, size_of}
 use Rattle.cfg_blocks.proofs.Below.{length-below}
 use Rattle.cfg_blocks.specs.Entries.{is_fall}
 use Rattle.cfg_normal.specs.declared.Edge.{Edge}
@@ -35,7 +36,8 @@ use Rattle.cfg_walk.specs.Matches.{way_address}
 use Rattle.cfg_walk.proofs.Edges.{block, copy, same_nodes}
 use Rattle.cfg_walk.proofs.Holding.{some_words}
 use Rattle.cfg_walk.proofs.Leaving.{straight_left}
-use Rattle.cfg_walk.proofs.Lists.{Each, each, each_at, each-append, each-below, each-then}
+use Rattle.cfg_walk.proofs.Ways.{same_kinds}
+use Rattle.cfg_walk.proofs.Lists.{Each, each, each_at, each-append, each-below}
 use Rattle.jump_code.specs.Finding.{go_found}
 use Rattle.jump_code.specs.Pieces.{foreign_piece, word_items}
 use Rattle.layout.specs.declared.items.Item.{Item}
@@ -46,9 +48,12 @@ use Rattle.image_code.specs.Cases.{plain_piece}
 use Rattle.image_code.specs.Loads.{load_of}
 use Rattle.image_code.specs.Numbered.{enter_number, foreign_number, jump_number, node_in_order, or_zero, own_edges, pieces_of, place_in}
 use Rattle.image_code.specs.Made.{case_at, case_by, cases_from, choice_of, first_way, first_word, goes_along, goes_on, image, image_by, images_in_order, is_slots, jump_by, jump_image_by, jump_to, jumps_at, keep_by, landing, next_at, next_to, open_pieces, piece_list, rest_after, way_along, way_by, way_out, ways_from}
+use Rattle.image_code.specs.Graphs.{IsGraphOf, opens_in}
 use Rattle.image_code.specs.Fit.{AreFit, AreShort, PiecesFit, PlacesSay, marks_in, operations_in}
+use Rattle.image_code.proofs.Listed.{count_is}
 use Rattle.image_code.proofs.OpenBlocks.{IsSwitchIn, IsTextGraph, text_graph, words_of}
-use Rattle.image_code.proofs.OpenNumbers.{IsWordOf, case_number_below, count_of, each_index, enter_below, first_word_of, foreign_is, lands_below, lands_word}
+use Rattle.image_code.proofs.OpenNumbers.{IsWordOf, case_number_below, each_index, enter_below, first_word_of, foreign_is, lands_below, lands_word}
+use Rattle.image_code.proofs.Opened.{cased_of}
 use Rattle.image_code.proofs.OpenSums.{code_length}
 use Rattle.image_code.proofs.Sized.{case_code, case_edge, code_by, entries_in, image_code, landing_code, no_code, order_code, snippets_few, way_code, ways_code}
 use Rattle.image_code.proofs.SmallPieces.{IsSmall, ItemsLead, MarksSay, IsTail, any_leads, any_says, small_branch, small_call, small_choice, small_couple, small_foreign, small_jmpl, small_more, small_plain, small_tail, small_wide, tail_behind, tail_empty, tail_far, tail_found, tail_jump, tail_keep, tail_more, transfer_says, word_says}
@@ -59,31 +64,12 @@ number_of_list : (o : Option ℕ) (number : ℕ) (rest : List ℕ) → option_to
 number_of_list None number rest e = absurd (cc)
 number_of_list (Some n) number rest e = let q : n ≡ number = cc in ap (λ z. Some z) q
 
-no_landing : (one kind : EdgeKind) → same_kind one kind ≡ true → same_kind kind kinds.Land ≡ false
-    → same_kind one kinds.Land ≡ false
-no_landing kinds.Land kinds.Land e f = f
-no_landing kinds.Land kinds.Fall e f = absurd (false≢true e)
-no_landing kinds.Land kinds.Taken e f = absurd (false≢true e)
-no_landing kinds.Land kinds.Untaken e f = absurd (false≢true e)
-no_landing kinds.Land kinds.Call e f = absurd (false≢true e)
-no_landing kinds.Land kinds.Out e f = absurd (false≢true e)
-no_landing kinds.Land kinds.Case e f = absurd (false≢true e)
-no_landing _ kind e f = refl
-
--- at most so much for each
-most_of : {A : Type 0} (f : A → ℕ) (most : ℕ) (xs : List A) → Each (λ x. f x ≤ most) xs → sum_by f xs ≤ length xs * most
-most_of f most [] each = omega arith
-most_of f most (x ∷ xs) each =
-    let rest = most_of f most xs each.1 in
-    omega (arith, sum_by-cons f x xs, each.0)
-
 sum-map : {A B : Type 0} (f : B → ℕ) (h : A → B) (xs : List A) → sum_by f (map h xs) ≡ sum_by (λ x. f (h x)) xs
-sum-map f h [] = refl
-sum-map f h (x ∷ xs) =
-    omega (arith, sum_by-cons f (h x) (map h xs), sum_by-cons (λ y. f (h y)) x xs, sum-map f h xs)
+sum-map f h xs = fold-map (λ a y. a + f y) h 0 xs
 
 module _ (text : Words) (graph : Graph) (table cases : ℕ) (codes : ℕ → List ℕ) (is : IsText text)
-    (g : IsTextGraph text graph) where
+    (g : IsTextGraph text graph)
+    (many : length (piece_list text graph table cases codes) ≡ foreign_number text graph + 1) where
   abbrev pieces : List (List Item)
   pieces = piece_list text graph table cases codes
 
@@ -93,9 +79,6 @@ module _ (text : Words) (graph : Graph) (table cases : ℕ) (codes : ℕ → Lis
 
   abbrev Tail : ℕ → List Item → Type 0
   Tail = IsTail text (length pieces)
-
-  many : length pieces ≡ foreign_number text graph + 1
-  many = count_of text graph table cases codes g
 
   entered : (node : Node) (word : ℕ) → IsWordOf graph node word → enter_number text graph node word < length pieces
   entered node word inside = omega (arith, many, enter_below text graph g node word inside)
@@ -114,9 +97,9 @@ module _ (text : Words) (graph : Graph) (table cases : ℕ) (codes : ℕ → Lis
   found_below node kind other number e =
       let found = position-Some (Leaves node kind) graph.edges number no_edge e in
       g.before number (get_or graph.edges number no_edge) (slice_get-get_or graph.edges number no_edge found.0)
-      (no_landing (get_or graph.edges number no_edge).kind kind
+      (ap (λ (k : EdgeKind). same_kind k kinds.Land) (same_kinds (get_or graph.edges number no_edge).kind kind
       (and_parts (same_node (get_or graph.edges number no_edge).from node)
-      (same_kind (get_or graph.edges number no_edge).kind kind) found.1).1 other)
+      (same_kind (get_or graph.edges number no_edge).kind kind) found.1).1) ∙ other)
 
   way_by_number : (node : Node) (kind : EdgeKind) → same_kind kind kinds.Land ≡ false → (o : Option ℕ)
       → position (Leaves node kind) graph.edges ≡ o → first_way text graph (option_to_list o) < length pieces
@@ -350,34 +333,22 @@ module _ (text : Words) (graph : Graph) (table cases : ℕ) (codes : ℕ → Lis
 
   one_small : (base most : ℕ) (items : List Item) → (AreFew → most ≤ 176) → Small base most items
       → Have (base + most) 1 (items ∷ [])
-  one_small base most items few small = record {
-    each = (
+  one_small base most items few small =
+      let many : AreFew → length items ≤ 197 = λ f. omega (arith, small.few, few f) in
       record {
-        few = λ f. omega (arith, small.few, few f);
-        marked = small.marked;
-        leads = small.leads;
-        says = small.says;
-      },
-      tt,
-    );
-    words_few = omega (arith, small.words, sum_by-cons piece_words items []);
-    marks_few = omega (arith, small.marks, sum_by-cons marks_in items []);
-  }
+        each = (assumption, tt);
+        words_few = omega (arith, small.words, sum_by-cons piece_words items []);
+        marks_few = omega (arith, small.marks, sum_by-cons marks_in items []);
+      }
 
   one_tail : (most : ℕ) (items : List Item) → (AreFew → most ≤ 176) → Tail most items → Have (4 + most) 0 (items ∷ [])
-  one_tail most items few tail = record {
-    each = (
+  one_tail most items few tail =
+      let many : AreFew → length items ≤ 197 = λ f. omega (arith, tail.few, few f) in
       record {
-        few = λ f. omega (arith, tail.few, few f);
-        marked = tail.marked;
-        leads = tail.leads;
-        says = tail.says;
-      },
-      tt,
-    );
-    words_few = omega (arith, tail.words, sum_by-cons piece_words items []);
-    marks_few = omega (arith, tail.marks, sum_by-cons marks_in items []);
-  }
+        each = (assumption, tt);
+        words_few = omega (arith, tail.words, sum_by-cons piece_words items []);
+        marks_few = omega (arith, tail.marks, sum_by-cons marks_in items []);
+      }
 
   -- one for each item of a list, of so many words and those of its snippets
   mapped : {A : Type 0} (f : A → List Item) (base marks : ℕ) (code : A → ℕ) (xs : List A)
@@ -599,9 +570,8 @@ module _ (text : Words) (graph : Graph) (table cases : ℕ) (codes : ℕ → Lis
   pub fits : (snips : List (List Op)) → AreShort snips codes → AreFit text graph snips pieces
   fits snips short =
       let few : AreFew = (λ number. omega (arith, short.short number, short.few number)) in
-      let items : sum_by length pieces ≤ length pieces * 197 =
-      most_of length 197 pieces (each-then IsPiece (λ items. length items ≤ 197) pieces (λ items its. its.few few)
-      have_all.each) in
+      let items = sum_by-le length 197 pieces (λ k d l.
+      (each_at IsPiece pieces k _ have_all.each (slice_get-get_or pieces k d l)).few few) in
       let words : sum_by piece_words pieces ≤ 113 * length text.words + 8 + 22 * operations_in graph snips =
       omega (
         arith,
@@ -629,15 +599,24 @@ module _ (text : Words) (graph : Graph) (table cases : ℕ) (codes : ℕ → Lis
         bytes = omega (arith, words, is.few);
       }
 
+counted : (text : Words) (graph : Graph) (table cases : ℕ) (codes : ℕ → List ℕ) → IsText text → IsGraphOf text graph
+    → length (piece_list text graph table cases codes) ≡ foreign_number text graph + 1
+counted text graph table cases codes is h =
+    subst (λ (g : Graph). length (piece_list text g table cases codes) ≡ foreign_number text g + 1) (sym h.is)
+    (count_is text (blocks_of text h.given) (opens_in text h.given h.entry) (cased_of text h.given h.entry is) table cases
+    codes)
+
 pub pieces_fit : PiecesFit
 pieces_fit text graph table cases snips codes is h low short =
-    fits text graph table cases codes is (text_graph text graph is h) snips short
+    fits text graph table cases codes is (text_graph text graph is h) (counted text graph table cases codes is h) snips
+    short
 
 pub places_say : PlacesSay
 places_say text graph table cases codes base p place is h laid n r e word at plain =
     let m = laid.marks n r e in
     let g = text_graph text graph is h in
-    let item = item_says text graph table cases codes is g m.piece m.item m.address r.node m.mark
-    word (ap (word_at text) (sym m.says) ∙ at) plain in
+    let many = counted text graph table cases codes is h in
+    let item = item_says text graph table cases codes is g many m.piece m.item m.address r.node m.mark word
+    (ap (word_at text) (sym m.says) ∙ at) plain in
     let stands = laid.items m.piece (suc m.item) (it.Word (slice_index text.words word)) item in
     subst (λ a. IsWordAt base p.code a (slice_index text.words word)) (sym m.lo) stands.1

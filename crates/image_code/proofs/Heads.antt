@@ -1,7 +1,8 @@
 -- Each point outside the pages has a place: its piece begins with its Mark, or it lies outside the text.
-use Rattle.std.proofs.Common.{◌≡◌, ◌≢◌, ℕ, zero, suc, ◌+◌, ◌/◌, ◌<◌, inl, Bool, true, false, Option, Some, None, List, length, refl, ap, sym, ◌∙◌, subst}
+use Rattle.std.proofs.Common.{◌≡◌, ◌≢◌, ℕ, zero, suc, ◌+◌, ◌<◌, inl, Bool, true, false, Option, Some, None, List, ◌∷◌, length, refl, ap, sym, ◌∙◌, subst}
 use Rattle.std.specs.Prelude.{if◌then◌else◌, slice_get, slice_index, ◌==◌}
 use Rattle.std.proofs.lemmas.Bool.{cond_both}
+use Rattle.std.proofs.lemmas.Option.{slice_get_within}
 use Rattle.eel_base.specs.CodeText.{Words, address_of, word_at}
 use Rattle.eel_base.specs.declared.numbers.Addr.{Addr}
 use Rattle.v8_decode.specs.declared.Op2.{Op2}
@@ -9,7 +10,6 @@ use Rattle.v8_decode.specs.declared.Instr.{Instr}
 use Rattle.v8_decode.specs.declared.Instr.TheVariants as i
 use Rattle.v8_decode.specs.declared.StoreKind.TheVariants as stores
 use Rattle.v8_decode.specs.Words.{decode_of}
-use Rattle.v8_encode.specs.Encoding.{word_of as word_for}
 use Rattle.v8_step.specs.declared.Slot.{Slot}
 use Rattle.v8_step.specs.declared.Slot.TheVariants.{NoSlot, Taken, Untaken}
 use Rattle.v8_step.specs.Items.{is_transfer}
@@ -27,40 +27,31 @@ use Rattle.cfg_normal.specs.Graph.{Graph, graph_of, has_cases, node_of}
 use Rattle.cfg_walk.specs.Walk.{Point, same_kind}
 use Rattle.cfg_normal.specs.Numbers.{node_number}
 use Rattle.cfg_walk.specs.Matches.{IsOnItsWay, MatchesBy}
-use Rattle.code_runs.specs.Page.{of_page}
-use Rattle.jump_code.specs.FreeRegister.{free_register}
 use Rattle.layout.specs.declared.items.Item.{Item}
 use Rattle.layout.specs.declared.items.Item.TheVariants as it
 use Rattle.layout.specs.Laid.{Placement}
 use Rattle.image_code.specs.Simulates.{MatchesIn, Setting, graph_in, number_in}
 use Rattle.image_code.specs.Choices.{choice_piece}
 use Rattle.image_code.specs.Images.{Frame, slot_piece, visited_at}
-use Rattle.image_code.specs.Imaged.{IsHead, IsVisited, head, outside, beyond}
-use Rattle.image_code.specs.Made.{IsOffNoted, choice_of, couple_word, distance_of, first_word, image_by, jump_by, jump_image_by, jumps_at, nop_word, slot_copy, way_by, way_out}
+use Rattle.image_code.specs.Imaged.{IsHead, IsVisited, TakesWords, head, outside, beyond}
+use Rattle.image_code.specs.Made.{IsOffNoted, choice_of, distance_of, first_word, image_by, jump_by, jump_image_by, jumps_at, slot_copy, way_by}
 use Rattle.image_code.specs.Numbered.{case_piece, first_entry, jump_number, or_zero}
 use Rattle.image_code.specs.Outside.{IsForeign, IsOff, IsOpen}
 use Rattle.image_code.proofs.Branches.{HeadOf}
 use Rattle.image_code.proofs.CaseTables.{IsKnown}
 use Rattle.image_code.proofs.ImageNumbers.{jump_numbered}
-use Rattle.image_code.proofs.Cases.{get_below}
 use Rattle.image_code.proofs.Visited.{case_items, case_piece_is, edge_is, has_its_image, image_items, l, off, off_address, on, on_its_way, plain_items, plain_piece_is, target, visited_slot, visited_word, way_in}
 
 -- ---- what pieces begin with
 
+headed : {address : Addr} {number : ℕ} {item : Item} {rest : List Item} → TakesWords item
+    → HeadOf address number (it.Mark address number ∷ item ∷ rest)
+headed takes = record { item = _; takes = takes; rest = _; is = refl }
+
 choice_head : (rd : ℕ) (address : Addr) (number distance : ℕ)
     → HeadOf address number (choice_piece rd address number distance)
-choice_head zero address number distance = record {
-  item = it.Word (word_for (i.Store stores.ST 1 0 (of_page 2)));
-  takes = tt;
-  rest = _;
-  is = refl;
-}
-choice_head (suc r) address number distance = record {
-  item = it.Word (word_for (i.Sethi (suc r) (address.0 / 1024)));
-  takes = tt;
-  rest = _;
-  is = refl;
-}
+choice_head zero address number distance = headed tt
+choice_head (suc r) address number distance = headed tt
 
 -- no Case edges leave the node by which a jump goes, or it goes along one of them
 pub by_cases : (A : Type 0) (out cased : Bool) → ((out ≡ true → cased ≡ false) → A) → (out ≡ true → cased ≡ true → A)
@@ -78,12 +69,7 @@ module _ (text : Words) (b : Blocks) (opens : List Open) (jumps cases : ℕ) (co
 
   find_head : (address : Addr) (node : Node) (rd rs1 : ℕ) (op2 : Op2)
       → Begins address node (jump_by text graph jumps cases address node rd rs1 op2)
-  find_head address node rd rs1 op2 = record {
-    item = it.Word (word_for (i.Store stores.ST (free_register rd rs1 op2) 0 (of_page 7)));
-    takes = tt;
-    rest = _;
-    is = refl;
-  }
+  find_head address node rd rs1 op2 = headed tt
 
   jump_head : (address : Addr) (node : Node) (rd rs1 : ℕ) (op2 : Op2)
       → Begins address node (jump_image_by text graph jumps cases address node rd rs1 op2)
@@ -111,37 +97,18 @@ module _ (text : Words) (b : Blocks) (opens : List Open) (jumps cases : ℕ) (co
       → HeadOf address (node_number graph node) (image_by text graph jumps cases codes address node word instr)
   image_head address node word (i.Branch cond annul disp) =
       cond_both (cond == always) _ _ (HeadOf address (node_number graph node))
-      (λ _. record { item = it.Word nop_word; takes = tt; rest = _; is = refl })
-      (λ _. cond_both (cond == never) _ _ (HeadOf address (node_number graph node))
-      (λ _. record { item = it.Word nop_word; takes = tt; rest = _; is = refl })
-      (λ _. record {
-        item = it.Branch cond (record { 0 = way_out text graph node kinds.Taken });
-        takes = tt;
-        rest = _;
-        is = refl;
-      }))
-  image_head address node word (i.Call disp) = record {
-    item = it.Word (word_for (i.Sethi 15 (address.0 / 1024)));
-    takes = tt;
-    rest = _;
-    is = refl;
-  }
+      (λ _. headed tt)
+      (λ _. cond_both (cond == never) _ _ (HeadOf address (node_number graph node)) (λ _. headed tt) (λ _. headed tt))
+  image_head address node word (i.Call disp) = headed tt
   image_head address node word (i.Jmpl rd rs1 op2) = jump_head address node rd rs1 op2
-  image_head address node word instr = record {
-    item = it.Word (slice_index text.words word);
-    takes = tt;
-    rest = _;
-    is = refl;
-  }
+  image_head address node word instr = headed tt
 
   copy_head : (table : ℕ) (address : Addr) (node word number : ℕ) (edge : Edge) (to : ℕ)
       → HeadOf address node (slot_copy text graph table codes address node word number edge to)
   copy_head table address node word number edge to =
       cond_both (is_transfer (decode_of word)) _ _ (HeadOf address node)
-      (λ _. record { item = it.Word couple_word; takes = tt; rest = _; is = refl })
-      (λ _. cond_both (same_kind edge.kind kinds.Out) _ _ (HeadOf address node)
-      (λ _. record { item = it.Word word; takes = tt; rest = _; is = refl })
-      (λ _. record { item = it.Word word; takes = tt; rest = _; is = refl }))
+      (λ _. headed tt)
+      (λ _. cond_both (same_kind edge.kind kinds.Out) _ _ (HeadOf address node) (λ _. headed tt) (λ _. headed tt))
 
 home_outside : (node : Node) → home_of node ≡ X → node ≡ X
 home_outside (Block k) e = absurd (cc)
@@ -238,7 +205,7 @@ module _ (g : Setting) (codes : ℕ → List ℕ) (is : IsKnown g) (p : Placemen
       → IsHead g (l g codes is p f) p f node x
   head_of node x piece xs address at original found begins = record {
     piece = piece;
-    within = get_below (l g codes is p f).list piece xs found;
+    within = slice_get_within (l g codes is p f).list piece xs found;
     here = at;
     address = address;
     original = original;

@@ -40,11 +40,15 @@ module _ (g : Setting) (l : Pieces) (base : ℕ) (p : Placement) (place : ℕ �
   stands = stands_at g l base p place f h node x t here c.piece c.within c.here c.address (number_in g node) c.word
       (it.Jump c.way ∷ []) c.items
 
-  idle_acts : act t nop ≡ record t { pc = t.npc; npc = wrapped (t.npc + 4); slot = NoSlot }
+  -- behind the nop
+  abbrev mid : State
+  mid = record t { pc = t.npc; npc = wrapped (t.npc + 4); slot = NoSlot }
+
+  idle_acts : act t nop ≡ mid
   unfolding act
   idle_acts = refl
 
-  idle_step : step_of t ≡ record t { pc = t.npc; npc = wrapped (t.npc + 4); slot = NoSlot }
+  idle_step : step_of t ≡ mid
   idle_step = stands.one ∙ ap (act t) c.idle ∙ idle_acts
 
   idle_puts : (s : State) (descriptor : ℕ) → puts_by s nop descriptor ≡ []
@@ -76,36 +80,17 @@ module _ (g : Setting) (l : Pieces) (base : ℕ) (p : Placement) (place : ℕ �
       (point_of (does_at g x t)) in
       let on : wrapped (t.npc + 4) ≡ t.npc + 4 = omega arith in
       let pc : t.npc ≡ place c.piece 3 = omega arith in
-      let valid : IsValid (record t {
-        pc = t.npc;
-        npc = wrapped
-            (t.npc + 4);
-        slot = NoSlot;
-      }) = subst IsValid idle_step (run-valid t 1 here.valid) in
-      let mid : State = record t { pc = t.npc; npc = wrapped (t.npc + 4); slot = NoSlot } in
-      let fit : IsFit g l base p place f h (record t {
-        pc = t.npc;
-        npc = wrapped
-            (t.npc + 4);
-        slot = NoSlot;
-      }) = record {
+      let valid : IsValid mid = subst IsValid idle_step (run-valid t 1 here.valid) in
+      let fit : IsFit g l base p place f h mid = record {
         valid = valid;
         has = here.memory;
-        runs = can_run g l base p place f h (record t {
-          pc = t.npc;
-          npc = wrapped
-              (t.npc + 4);
-          slot = NoSlot;
-        }) valid here.live on refl here.memory;
+        runs = can_run g l base p place f h mid valid here.live on refl here.memory;
       } in
       let edges = gone_at g node x (does_at g x t) in
       let rest = jump_then g l base p place f h c.piece 3 c.way
       (rest_marked l c.piece c.address (number_in g node) (it.Word c.word) (it.Jump c.way ∷ []) (tt, tt) c.items)
-      (gone_at g node x (does_at g x t)) (record t { pc = t.npc; npc = wrapped (t.npc + 4); slot = NoSlot })
-      (word_ahead g x t) to fit pc c.leads in
-      let way = leads_then (IsBare g l base p place f h) t
-      (record t { pc = t.npc; npc = wrapped (t.npc + 4); slot = NoSlot })
-      (hopped rest.other to rest.memory) 1 rest.count
+      (gone_at g node x (does_at g x t)) mid (word_ahead g x t) to fit pc c.leads in
+      let way = leads_then (IsBare g l base p place f h) t mid (hopped rest.other to rest.memory) 1 rest.count
       (leads_one _ t _ idle_step) rest.path (λ _ some. rest.begins some) in
       let few = rest.few in
       let stores = rest.stores in
@@ -131,18 +116,13 @@ module _ (g : Setting) (l : Pieces) (base : ℕ) (p : Placement) (place : ℕ �
               ∙ ap (λ (q : Instr). puts_by (at_point x t) q descriptor) c.says
               ∙ no_puts (at_point x t) c.cond c.annul c.disp descriptor);
           followed = followed_alike g (gone_at g node x (does_at g x t)) (does_at g x t)
-              (record t { pc = t.npc; npc = wrapped (t.npc + 4); slot = NoSlot }) (hopped rest.other to rest.memory)
-              (ap (λ (z : State). z.ending) same) (ap (λ (z : State). z.window) same) (ap (λ (z : State). z.valid) same)
-              (ap (λ (z : State). z.registers) same) (ap (λ (z : State). z.codes) same) (ap (λ (z : State). z.y) same)
-              (ap (λ (z : State). z.input) same)
+              mid (hopped rest.other to rest.memory) (ap (λ (z : State). hopped z 0 rest.memory) same)
               (subst (λ (z : Memory). IsSameOutside (pages_of g.notes) z rest.memory)
               (sym (ap (λ (z : State). z.memory) same))
               (same_stored g f h.frame base p t.memory rest.memory here.memory stores))
-              (alike_hopped g (gone_at g node x (does_at g x t))
-              (record t { pc = t.npc; npc = wrapped (t.npc + 4); slot = NoSlot }) rest.other to rest.memory rest.alike);
+              (alike_hopped g (gone_at g node x (does_at g x t)) mid rest.other to rest.memory rest.alike);
           cells = rest.cells (gone_last g l f h.cells node x (does_at g x t))
-              ∙ updates_same g.snips (gone_at g node x (does_at g x t)) (cells_in g t)
-              (record t { pc = t.npc; npc = wrapped (t.npc + 4); slot = NoSlot }) (does_at g x t)
+              ∙ updates_same g.snips (gone_at g node x (does_at g x t)) (cells_in g t) mid (does_at g x t)
               (sym (ap (λ (z : State). register_of z) same));
           here = λ _. record {
             valid = subst IsValid way.steps (run-valid t (1 + rest.count) here.valid);
@@ -150,23 +130,19 @@ module _ (g : Setting) (l : Pieces) (base : ℕ) (p : Placement) (place : ℕ �
             at = refl;
             npc = refl;
             slot = refl;
-            memory = images_stored g f h.frame base p
-                (record t { pc = t.npc; npc = wrapped (t.npc + 4); slot = NoSlot }) _
-                rest.count rest.path.steps stores here.memory;
+            memory = images_stored g f h.frame base p mid _ rest.count rest.path.steps stores here.memory;
             waits = λ a b _. absurd (c.never a b);
           };
           place = λ e. absurd (e (ap (λ (z : State). z.ending) same ∙ here.live));
           sparing = λ w.
               let none = first_none (is_spill g.notes) in
               let more = rest.spares w.inside in
-              let both = count_add (is_spill g.notes) t
-              (record t { pc = t.npc; npc = wrapped (t.npc + 4); slot = NoSlot }) 1 idle_step rest.count in
+              let both = count_add (is_spill g.notes) t mid 1 idle_step rest.count in
               let moves = transfers g.text x.pc c.original_word c.is_word (ap is_transfer c.says) in
               record {
                 spills = omega (arith, none, more, both);
                 first = λ short.
-                    none_then in_first_word t (record t { pc = t.npc; npc = wrapped (t.npc + 4); slot = NoSlot }) 1
-                    rest.count
+                    none_then in_first_word t mid 1 rest.count
                     idle_step (first_none in_first_word) (rest.leaves_first w.inside short);
                 alone = λ _ _ straight. absurd (cc);
                 few = λ short no_operations.

@@ -19,7 +19,7 @@ use Rattle.v8_step.specs.declared.Ending.{Ending}
 use Rattle.v8_step.specs.declared.Slot.{Slot}
 use Rattle.v8_step.specs.declared.Slot.TheVariants.{NoSlot}
 use Rattle.v8_step.specs.State.{State, sum_of}
-use Rattle.v8_step.specs.Items.{StateItem, Register, Codes, YRegister, IsSameAt, is_transfer}
+use Rattle.v8_step.specs.Items.{StateItem, Register, IsSameAt, is_transfer}
 use Rattle.v8_step.specs.Step.{act, on_word}
 use Rattle.v8_step.specs.Run.{run, run_puts}
 use Rattle.v8_step.specs.Valid.{IsValid}
@@ -53,7 +53,7 @@ use Rattle.jump_code.specs.Keeping.{KeepsLoad, keep_load, kept_memory}
 use Rattle.jump_code.proofs.Keeping.{loads_are_kept}
 use Rattle.layout.specs.Emitting.{words_of}
 use Rattle.layout.specs.Laid.{HasShortForms, Placement}
-use Rattle.image_code.specs.Simulates.{CaseTable, Enters, IsAtWord, IsNoLoad, IsOnWay, Setting, Steps, StepsOn, at_point, cells_in, does_at, gone_at, graph_in, is_spill, is_transfer_at, word_of}
+use Rattle.image_code.specs.Simulates.{CaseTable, Enters, IsAtWord, IsNoLoad, IsOnWay, limit_by, Setting, Steps, StepsOn, at_point, cells_in, does_at, gone_at, graph_in, is_spill, is_transfer_at, word_of}
 use Rattle.image_code.specs.Images.{Entered, Frame, Here, IsPlaced, Pieces, entered_at, visited_at}
 use Rattle.image_code.specs.Keeping.{AreCaseTables, IsEntered, IsKeeping, at_once, keeping}
 use Rattle.image_code.proofs.Arrives.{AreUnmarked, IsFit, Rest, Stood, bare_on, first_kept, rest_whole, stood, stood_low}
@@ -69,8 +69,7 @@ region_trans None None None h k = tt
 region_trans (Some a) (Some b) (Some c) h k = h ∙ k
 region_trans None (Some b) z h k = absurd h
 region_trans (Some a) None z h k = absurd h
-region_trans None None (Some c) h k = absurd k
-region_trans (Some a) (Some b) None h k = absurd k
+region_trans _ _ _ h k = absurd k
 
 outside_trans : (pages : List Span) (m n o : Memory) → IsSameOutside pages m n → IsSameOutside pages n o
     → IsSameOutside pages m o
@@ -89,8 +88,7 @@ sum_past s count m rs1 (Imm n) = refl
 same_past : (thing : StateItem) (v s : State) (count : ℕ) (m : Memory) → IsSameAt thing v s
     → IsSameAt thing v (past s count m s)
 same_past (Register n) v s count m e = e
-same_past Codes v s count m e = e
-same_past YRegister v s count m e = e
+same_past _ v s count m e = e
 
 -- ---- within a switch's block
 
@@ -144,8 +142,6 @@ module _ (g : Setting) (are : AreCaseTables g) where
       left_none : (instr : Instr) → is_transfer instr ≡ false → ends_block (graph_in g) node word ≡ false
           → left_by (graph_in g) node word instr ≡ []
       left_none (i.Branch cond annul disp) e f = absurd (cc)
-      left_none (i.Call disp) e f = ap (λ (b : Bool). if b then edge_from (graph_in g) node kinds.Fall else []) f
-      left_none (i.Jmpl rd rs1 op2) e f = ap (λ (b : Bool). if b then edge_from (graph_in g) node kinds.Fall else []) f
       left_none instr e f = ap (λ (b : Bool). if b then edge_from (graph_in g) node kinds.Fall else []) f
 
   -- so that isn't a load's address to be kept
@@ -182,30 +178,15 @@ module _ (g : Setting) (l : Pieces) (base : ℕ) (p : Placement) (place : ℕ �
       → StepsOn g (Here g l base p f) (Forms × IsNoLoad g v) 64 edges node x t v
   stays_on node x t v edges e same =
       let s = e.on in
-      let few = s.path.few in
+      let few : s.count ≤ limit_by 64 g edges = omega (arith, s.path.few) in
       record {
         count = s.count;
         after = s.after;
-        path = record {
-          steps = s.path.steps;
-          some = s.path.some;
-          few = omega (arith, few);
-          quiet = s.path.quiet;
-        };
+        path = assumption (few, s.path);
         puts = s.puts;
         followed = s.followed;
         cells = s.cells;
-        here = λ live.
-            let k = s.here live in
-            record {
-              valid = k.valid;
-              live = k.live;
-              at = k.at ∙ same live;
-              npc = k.npc;
-              slot = k.slot;
-              memory = k.memory;
-              waits = k.waits;
-            };
+        here = λ live. let k = s.here live in assumption (k.at ∙ same live, k);
         place = s.place;
         sparing = λ w.
             let q = s.sparing w in

@@ -17,14 +17,13 @@ use Rattle.two_runs.specs.Visits.{pages_of}
 use Rattle.v8_step.proofs.CopiedMoves.{goes_act}
 use Rattle.cfg_normal.specs.declared.Node.{Node}
 use Rattle.cfg_walk.specs.Walk.{Point, node_after, point_of}
-use Rattle.code_runs.specs.Hops.{hopped}
-use Rattle.code_runs.specs.Leads.{Leads}
+use Rattle.code_runs.specs.Hops.{Hops, hopped}
 use Rattle.code_runs.specs.Page.{page_word}
-use Rattle.code_runs.specs.StoredWords.{CanStore, store_word}
+use Rattle.code_runs.specs.StoredWords.{store_word}
 use Rattle.code_runs.specs.Straight.{StandIn}
 use Rattle.code_runs.proofs.Leads.{leads_weaker}
 use Rattle.code_runs.proofs.StoredWords.{other_word_stored}
-use Rattle.code_runs.proofs.Stays.{stores_there, words_stay}
+use Rattle.code_runs.proofs.Stays.{words_stay}
 use Rattle.addr_translate.specs.Halves.{found_in}
 use Rattle.jump_code.specs.Finding.{IsAboutToGoOn, go_found}
 use Rattle.jump_code.specs.Leaving.{IsAboutToLeave, foreign}
@@ -41,7 +40,7 @@ use Rattle.image_code.specs.Simulates.{NoneIsOut, Setting, at_point, does_at, go
 use Rattle.image_code.specs.Images.{Pieces, Frame, Here, IsPlaced, place_by}
 use Rattle.image_code.specs.Cases.{LeadsTo, next_entry, words_on}
 use Rattle.image_code.specs.Landings.{IsJumpsSlot, JumpSlotsStep, Lands}
-use Rattle.image_code.proofs.Arrives.{Arrives, IsBare, IsFit, Rest, arrive, arrived, bare_here, eased, length_words, on_then, rest_behind, rest_marked, rest_whole, second_there, snippets_run, unwatched, stood, stood_low, weaker_arrives, words_unmarked}
+use Rattle.image_code.proofs.Arrives.{Arrives, IsBare, IsFit, Rest, arrive, arrived, bare_here, eased, length_words, on_then, rest_behind, rest_marked, page_there, rest_whole, snippets_run, unwatched, Stood, stood, stood_low, weaker_arrives, words_unmarked}
 use Rattle.image_code.proofs.Cases.{IsMarkedWord, judged_moved, marked_step}
 use Rattle.image_code.proofs.Cells.{cells_above, page_above}
 use Rattle.image_code.proofs.Dead.{alike_itself}
@@ -59,10 +58,37 @@ found_fits through below =
 
 module _ (g : Setting) (l : Pieces) (base : ℕ) (p : Placement) (place : ℕ → ℕ → ℕ) (f : Frame)
     (h : IsPlaced g l base p place f) where
-  page_there : (a : State) → IsFit g l base p place f h a → (n : ℕ) → n < 8
-      → CanStore a.memory (page_word n)
-  page_there a fit n few =
-      stores_there (page_word n) a.memory (fit.has.ours.words (page_word n) (h.frame.page n (omega (arith, few))))
+  -- Words that keep a register in one of the page's words above word 1, and jump: of such a way no more is asked.
+  hops_out : (k n count to : ℕ) (ws : List ℕ) (a : State) → IsFit g l base p place f h a
+      → Stood g l base p place f h a.memory k n ws → length ws ≡ count → 0 < count → a.pc ≡ place k n → (word v : ℕ)
+      → 1 < word → Hops a count IsPageWord to (store_word a.memory (page_word word) v)
+      → Arrives g l base p place f h None [] a to count
+  hops_out k n count to ws a fit there many some at word v above hops =
+      let left = store_word a.memory (page_word word) v in
+      record {
+        count = count;
+        other = a;
+        memory = left;
+        few = omega arith;
+        path = leads_weaker _ (IsBare g l base p place f h) a _ count
+            (λ u q.
+            let b = q.past in
+            let d = q.before in
+            there.bare u (omega (arith, at, b)) (omega (arith, at, d, many)))
+            hops.path;
+        silent = hops.silent;
+        stores = own_stored g f h.frame a.memory left hops.stores;
+        waits = other_word_stored a.memory (page_word 1) (page_word word) v
+            (page_there g l base p place f h a fit 1 (omega arith)) (inl (omega (arith, above)));
+        found = λ there. absurd (there refl);
+        cells = λ _. cells_above g l f h.frame h.cells IsPageWord page_above a.memory left fit.has.ours hops.stores;
+        begins = λ _. there.bare a (omega (arith, at)) (omega (arith, at, many, some));
+        alike = alike_itself g [] a;
+        still = λ _. refl;
+        spares = λ there. absurd (there refl);
+        leaves_first = λ there _. absurd (there refl);
+        brief = λ there _. absurd (there refl);
+      }
 
   -- ---- the jump to what was found
 
@@ -82,33 +108,12 @@ module _ (g : Setting) (l : Pieces) (base : ℕ) (p : Placement) (place : ℕ �
         below = below;
         words = subst (λ z. StandIn (code_of a.memory) z (go_found through)) (sym at)
             (words_mean (code_of a.memory) (place k n) (go_found through) (found_fits through below) there.words);
-        page = page_there a fit;
+        page = page_there g l base p place f h a fit;
         aligned = ap (λ z. z % 4) found ∙ aligned;
       } in
-      let hops = found_hops through a about in
-      let left = store_word a.memory (page_word 7) (register_of a through) in
-      record {
-        count = 3;
-        other = a;
-        memory = left;
-        few = omega arith;
-        path = subst (λ z. Leads (IsBare g l base p place f h) a (hopped a z left) 3) found
-            (leads_weaker _ (IsBare g l base p place f h) a _ 3
-            (λ u q. let b = q.past in let d = q.before in there.bare u (omega (arith, at, b)) (omega (arith, at, d)))
-            hops.path);
-        silent = hops.silent;
-        stores = own_stored g f h.frame a.memory left hops.stores;
-        waits = other_word_stored a.memory (page_word 1) (page_word 7) (register_of a through)
-            (second_there g l base p place f h a fit) (inl (omega arith));
-        found = λ there. absurd (there refl);
-        cells = λ _. cells_above g l f h.frame h.cells IsPageWord page_above a.memory left fit.has.ours hops.stores;
-        begins = λ _. there.bare a (omega (arith, at)) (omega (arith, at));
-        alike = alike_itself g [] a;
-        still = λ _. refl;
-        spares = λ there. absurd (there refl);
-        leaves_first = λ there _. absurd (there refl);
-        brief = λ there _. absurd (there refl);
-      }
+      subst (λ z. Arrives g l base p place f h None [] a z 3) found
+      (hops_out k n 3 (found_there a) (words_of (go_found through)) a fit there refl (omega arith) at 7
+      (register_of a through) (omega arith) (found_hops through a about))
 
   -- ---- the foreign piece
 
@@ -129,34 +134,12 @@ module _ (g : Setting) (l : Pieces) (base : ℕ) (p : Placement) (place : ℕ �
         words = subst (λ z. StandIn (code_of a.memory) z foreign) (sym at)
             (words_mean (code_of a.memory) (place k 0) foreign
             (refl, refl, (refl, refl, (refl, refl, (refl, refl, tt)))) there.words);
-        page = λ n few. page_there a fit n (omega (arith, few));
+        page = λ n few. page_there g l base p place f h a fit n (omega (arith, few));
         aligned = ap (λ z. z % 4) waits ∙ aligned;
       } in
-      let hops = foreign_leaves a about in
-      let left = store_word a.memory (page_word 2) (register_of a 1) in
-      record {
-        count = 4;
-        other = a;
-        memory = left;
-        few = omega arith;
-        path = subst (λ z. Leads (IsBare g l base p place f h) a (hopped a z left) 4) waits
-            (leads_weaker _ (IsBare g l base p place f h) a _ 4
-            (λ u q. let b = q.past in let d = q.before in there.bare u (omega (arith, at, b)) (omega (arith, at, d)))
-            hops.path);
-        silent = hops.silent;
-        stores = own_stored g f h.frame a.memory left hops.stores;
-        waits = other_word_stored a.memory (page_word 1) (page_word 2) (register_of a 1)
-            (second_there g l base p place f h a fit)
-            (inl (omega arith));
-        found = λ there. absurd (there refl);
-        cells = λ _. cells_above g l f h.frame h.cells IsPageWord page_above a.memory left fit.has.ours hops.stores;
-        begins = λ _. there.bare a (omega (arith, at)) (omega (arith, at));
-        alike = alike_itself g [] a;
-        still = λ _. refl;
-        spares = λ there. absurd (there refl);
-        leaves_first = λ there _. absurd (there refl);
-        brief = λ there _. absurd (there refl);
-      }
+      subst (λ z. Arrives g l base p place f h None [] a z 4) waits
+      (hops_out k 0 4 (waiting a) (words_of foreign) a fit there refl (omega arith) at 2 (register_of a 1) (omega arith)
+      (foreign_leaves a about))
 
   -- ---- the whole way
 

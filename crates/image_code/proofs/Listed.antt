@@ -5,6 +5,7 @@ use Rattle.std.specs.List.{filter, flat_map, sum_by}
 use Rattle.std.specs.Option.{option_map}
 use Rattle.std.proofs.lemmas.Bool.{cases_lt, eqb-true, eq-eqb, lt-ltb, le-ltb, false≢true}
 use Rattle.std.proofs.lemmas.List.{length-map}
+use Rattle.std.proofs.lemmas.List.FromFn.{length-map-range_with_len}
 use Rattle.std.proofs.lemmas.Option.{slice_get-map, slice_get-get_or}
 use Rattle.eel_base.specs.CodeText.{Words}
 use Rattle.cfg_blocks.specs.declared.EdgeKind.TheVariants as kinds
@@ -24,7 +25,7 @@ use Rattle.image_code.specs.Loads.{load_of}
 use Rattle.image_code.specs.Made.{case_at, cases_from, image, images_of, jumps_at, keep_by, landing, open_pieces, piece_list, way_along, ways_from}
 use Rattle.image_code.specs.Numbered.{case_begin, compare_image, entries_of, first_entry, foreign_number, jump_begin, jump_enter, jump_image, landing_number, node_in_order, open_begin, or_zero, own_edges, pieces_of, place_in}
 use Rattle.image_code.proofs.Opened.{AreCased, load_is}
-use Rattle.image_code.proofs.Positions.{Sized, flat_count, flat_get, get_behind, get_first, get_second, get_taken, placed, any_at, range_count, range_get}
+use Rattle.image_code.proofs.Positions.{Sized, flat_count, flat_get, get_behind, get_first, get_second, get_taken, placed, any_at, range_get}
 
 pub get_below : (n k : ℕ) → k < n → slice_get (below n) k ≡ Some k
 get_below n k l = slice_get-get_or (below n) k 0 (omega (arith, length-below n))
@@ -146,7 +147,7 @@ module _ (text : Words) (b : Blocks) (opens : List Open) (cased : AreCased text 
   kept o = keep_by (instr_at text (load_of text o))
 
   compared_count : (o : Open) → length (compared o) ≡ size_of b o.switch.compare.0
-  compared_count o = range_count (image_of (copy o.switch.compare.0)) (slice_index b.firsts o.switch.compare.0)
+  compared_count o = length-map-range_with_len (image_of (copy o.switch.compare.0)) (slice_index b.firsts o.switch.compare.0)
       (size_of b o.switch.compare.0)
 
   before_count : (o : Open) → length (compared o ++ before_load o)
@@ -155,7 +156,7 @@ module _ (text : Words) (b : Blocks) (opens : List Open) (cased : AreCased text 
       length-append (compared o) (before_load o)
       ∙ ap (λ (n : ℕ). n + length (before_load o)) (compared_count o)
       ∙ ap (λ (n : ℕ). size_of b o.switch.compare.0 + n)
-      (range_count (image_of (block o.block)) (slice_index b.firsts o.block)
+      (length-map-range_with_len (image_of (block o.block)) (slice_index b.firsts o.block)
       (load_of text o - slice_index b.firsts o.block))
 
   pub pieces_sized : Sized its_pieces (pieces_of text graph) opens
@@ -164,7 +165,7 @@ module _ (text : Words) (b : Blocks) (opens : List Open) (cased : AreCased text 
       let above = l.above in
       let low = l.below in
       let count : length (from_load o) ≡ slice_index b.firsts o.block + size_of b o.block - load_of text o =
-      range_count (image_of (block o.block)) (load_of text o)
+      length-map-range_with_len (image_of (block o.block)) (load_of text o)
       (slice_index b.firsts o.block + size_of b o.block - load_of text o) in
       let before = before_count o in
       length-append (compared o ++ before_load o) (kept o ∷ from_load o) ∙ omega (arith, count, before)

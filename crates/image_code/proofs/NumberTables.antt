@@ -1,7 +1,8 @@
 -- The numbers of the pieces of open switches, and where they stand.
-use Rattle.std.proofs.Common.{◌≡◌, ℕ, zero, suc, ◌+◌, ◌-◌, ◌<◌, ◌≤◌, Bool, true, false, cond, List, Option, Some, None, length, refl, ap, ◌∙◌, subst, arith}
+use Rattle.std.proofs.Common.{◌≡◌, ℕ, zero, suc, ◌+◌, ◌-◌, ◌<◌, ◌≤◌, Bool, true, false, cond, List, Option, Some, None, length, take, refl, ap, sym, ◌∙◌, subst, arith}
 use Rattle.std.specs.Prelude.{slice_index, slice_index_or}
-use Rattle.std.specs.List.{find, range_with_len}
+use Rattle.std.specs.List.{find, range_with_len, sum_by}
+use Rattle.std.proofs.lemmas.List.Sums.{sum_by_more}
 use Rattle.eel_base.specs.CodeText.{Words}
 use Rattle.cfg_blocks.specs.Blocks.{Blocks, last_word, size_of}
 use Rattle.cfg_blocks.specs.Values.{instr_at}
@@ -10,7 +11,13 @@ use Rattle.cfg_normal.specs.Opens.{Open}
 use Rattle.image_code.specs.Loads.{load_of, loads_by, or_first}
 use Rattle.image_code.specs.Lookups.{StandsInText}
 use Rattle.image_code.specs.Numbered.{entries_of, first_entry, open_begin, pieces_of}
-use Rattle.image_code.proofs.Pushed.{sum_more}
+
+-- a sum over the open switches, with the next one
+part_more : (f : Open → ℕ) (opens all : List Open) → opens ≡ all → (n : ℕ) (o : Open) → n < length opens
+    → o ≡ slice_index_or opens n o → sum_by f (take (n + 1) all) ≡ sum_by f (take n all) + f o
+part_more f opens all same n o l is =
+    subst (λ (os : List Open). sum_by f (take (n + 1) os) ≡ sum_by f (take n os) + f o) same
+    (sum_by_more f opens n o l ∙ ap (λ (x : Open). sum_by f (take n opens) + f x) (sym is))
 
 -- where the pieces of the next open switch begin
 pub open_more : (text : Words) (graph : Graph) (opens : List Open) → opens ≡ graph.opens → (n : ℕ) (o : Open)
@@ -18,22 +25,14 @@ pub open_more : (text : Words) (graph : Graph) (opens : List Open) → opens ≡
     → count ≡ size_of graph.blocks o.switch.compare.0 + size_of graph.blocks o.block + 1
     → begin + count ≡ open_begin text graph (n + 1)
 open_more text graph opens same n o l is begin count here many =
-    let low : n < length graph.opens = subst (λ (os : List Open). n < length os) same l in
-    let next = sum_more (pieces_of text graph) graph.opens n o low in
-    let its : pieces_of text graph o ≡ pieces_of text graph (slice_index_or graph.opens n o) =
-    ap (pieces_of text graph) (is ∙ ap (λ (os : List Open). slice_index_or os n o) same) in
-    omega (arith, next, its, here, many)
+    omega (arith, part_more (pieces_of text graph) opens graph.opens same n o l is, here, many)
 
 -- the number of its first entry
 pub entry_more : (text : Words) (graph : Graph) (opens : List Open) → opens ≡ graph.opens → (n : ℕ) (o : Open)
     → n < length opens → o ≡ slice_index_or opens n o → (entry count : ℕ) → entry ≡ first_entry text graph n
     → count ≡ length o.targets → entry + count ≡ first_entry text graph (n + 1)
 entry_more text graph opens same n o l is entry count here many =
-    let low : n < length graph.opens = subst (λ (os : List Open). n < length os) same l in
-    let next = sum_more (entries_of text graph) graph.opens n o low in
-    let its : entries_of text graph o ≡ entries_of text graph (slice_index_or graph.opens n o) =
-    ap (entries_of text graph) (is ∙ ap (λ (os : List Open). slice_index_or os n o) same) in
-    omega (arith, next, its, here, many)
+    omega (arith, part_more (entries_of text graph) opens graph.opens same n o l is, here, many)
 
 -- ---- the load stands in the jump's block
 

@@ -1,45 +1,39 @@
 -- How many pieces there are, and that the numbers of pieces are below that.
-use Rattle.std.proofs.Common.{◌≡◌, ℕ, zero, suc, ◌+◌, ◌-◌, ◌*◌, ◌<◌, ◌≤◌, ◌==◌, nat_lt, Option, Some, None, List, [], ◌∷◌, ◌++◌, length, map, take, get_or, refl, ap, sym, ◌∙◌, subst, arith}
+use Rattle.std.proofs.Common.{◌≡◌, ℕ, suc, ◌+◌, ◌-◌, ◌*◌, ◌<◌, ◌≤◌, ◌==◌, nat_lt, Option, Some, None, List, [], ◌∷◌, ◌++◌, length, map, take, get_or, refl, ap, sym, ◌∙◌, subst, arith}
 use Rattle.std.specs.Prelude.{slice_get, slice_index}
-use Rattle.std.specs.List.{flat_map, position, range_with_len, sum_by}
+use Rattle.std.specs.List.{position, sum_by}
 use Rattle.std.proofs.lemmas.Bool.{cond_both, eqb-true}
-use Rattle.std.proofs.lemmas.List.{length-append, length-map}
-use Rattle.std.proofs.lemmas.List.FromFn.{length-range_with_len}
+use Rattle.std.proofs.lemmas.List.{length-append}
 use Rattle.std.proofs.lemmas.List.Quantifiers.{position-Some}
-use Rattle.std.proofs.lemmas.List.Sums.{sum_by-cons}
-use Rattle.std.proofs.lemmas.Option.{get_or_from_slice_get}
+use Rattle.std.proofs.lemmas.List.Sums.{sum_by_more_le}
+use Rattle.std.proofs.lemmas.Option.{get_or_from_slice_get, slice_get_within}
 use Rattle.std.proofs.Math.Seq.{take-length}
 use Rattle.eel_base.specs.CodeText.{Words}
-use Rattle.v8_decode.specs.Words.{decode_of}
-use Rattle.cfg_blocks.specs.Blocks.{below, block_end, size_of as block_size}
-use Rattle.cfg_blocks.proofs.Below.{length-below}
-use Rattle.cfg_normal.specs.declared.Edge.{Edge}
+use Rattle.cfg_blocks.specs.Blocks.{below, size_of as block_size}
 use Rattle.cfg_normal.specs.declared.Node.{Node}
 use Rattle.cfg_normal.specs.declared.Node.TheVariants.{Block, Landed, X}
 use Rattle.cfg_normal.specs.Opens.{Open}
 use Rattle.cfg_normal.specs.Graph.{Graph, IsNodeIn, lands}
-use Rattle.cfg_walk.proofs.Edges.{block, copy}
+use Rattle.cfg_walk.proofs.Edges.{block}
 use Rattle.cfg_walk.proofs.Holding.{IsIn, ends_within, in_held, some_words}
 use Rattle.cfg_walk.proofs.Lists.{Each, each, each-append, each-map, each_at}
 use Rattle.cfg_walk.proofs.Nodes.{lands_as}
-use Rattle.jump_code.specs.Pieces.{foreign_piece}
 use Rattle.snippets.specs.declared.snippet.Op.{Op}
 use Rattle.image_code.specs.Loads.{load_of}
-use Rattle.image_code.specs.Numbered.{at_open, by_open, case_numbers, case_piece, cases_of, compare_image, compare_number, enter_number, entries_of, foreign_number, jump_enter, jump_image, jump_number, landing_number, node_in_order, open_begin, or_zero, own_edges, pieces_of, place_in}
-use Rattle.image_code.specs.Made.{cases_from, first_word, image, images_in_order, images_of, jumps_at, keep_by, landing, lands_at, open_pieces, piece_list, ways_from}
-use Rattle.image_code.proofs.OpenBlocks.{IsSwitchIn, IsTextGraph}
+use Rattle.image_code.specs.Numbered.{at_open, by_open, case_numbers, case_piece, cases_of, compare_image, compare_number, enter_number, entries_of, foreign_number, jump_enter, jump_image, jump_number, landing_number, open_begin, or_zero, own_edges, pieces_of, place_in}
+use Rattle.image_code.specs.Made.{first_word, lands_at}
+use Rattle.image_code.proofs.OpenBlocks.{IsTextGraph}
 
 -- ---- sums over the first of some
 
 at_most : {A : Type 0} (f : A → ℕ) (xs : List A) (j : ℕ) (x : A) → slice_get xs j ≡ Some x
     → sum_by f (take j xs) + f x ≤ sum_by f xs
-at_most f [] j x e = absurd (cc)
-at_most f (y ∷ xs) zero x e =
-    let same : y ≡ x = cc in
-    let alike : f y ≡ f x = ap f same in
-    omega (arith, sum_by-cons f y xs)
-at_most f (y ∷ xs) (suc j) x e =
-    omega (arith, sum_by-cons f y xs, sum_by-cons f y (take j xs), at_most f xs j x e)
+at_most f xs j x e =
+    omega (
+      arith,
+      sum_by_more_le f xs j x (slice_get_within xs j x e),
+      ap f (get_or_from_slice_get xs j x x e),
+    )
 
 get_behind : {A : Type 0} (xs : List A) (y : A) (ys : List A) → slice_get (xs ++ y ∷ ys) (length xs) ≡ Some y
 get_behind [] y ys = refl
@@ -210,18 +204,6 @@ module _ (text : Words) (graph : Graph) (g : IsTextGraph text graph) where
 
 -- ---- how many pieces there are
 
-flat_length : {A B : Type 0} (f : A → List B) (size : A → ℕ) (xs : List A) → Each (λ x. length (f x) ≡ size x) xs
-    → length (flat_map f xs) ≡ sum_by size xs
-flat_length f size [] each = refl
-flat_length f size (x ∷ xs) each =
-    omega (
-      arith,
-      length-append (f x) (flat_map f xs),
-      sum_by-cons size x xs,
-      each.0,
-      flat_length f size xs each.1,
-    )
-
 -- the foreign piece comes behind all others
 pub foreign_is : (text : Words) (graph : Graph) → foreign_number text graph
     ≡ 2 * length text.words + length (own_edges graph) + sum_by (pieces_of text graph) graph.opens
@@ -232,94 +214,3 @@ foreign_is text graph =
     let chosen : sum_by (entries_of text graph) (take (length graph.opens) graph.opens)
     ≡ sum_by (entries_of text graph) graph.opens = ap (sum_by (entries_of text graph)) (take-length graph.opens) in
     omega arith
-
-module _ (text : Words) (graph : Graph) (table cases : ℕ) (codes : ℕ → List ℕ) where
-  pub ways_length : (number : ℕ) (edges : List Edge) → length (ways_from text graph table codes number edges)
-      ≡ length edges
-  ways_length number [] = refl
-  ways_length number (edge ∷ edges) = ap suc (ways_length (suc number) edges)
-
-  cases_length : (o : Open) (entry : ℕ) (words : List ℕ) → length (cases_from text graph table codes o entry words)
-      ≡ length words
-  cases_length o entry [] = refl
-  cases_length o entry (word ∷ words) = ap suc (cases_length o (suc entry) words)
-
-  images_length : (node : Node) (from count : ℕ) → length (images_of text graph table cases codes node from count)
-      ≡ count
-  images_length node from count =
-      length-map (range_with_len from count) (image text graph (jumps_at text table) cases codes node)
-      ∙ length-range_with_len from count
-
-  pub open_length : (o : Open) → IsSwitchIn text graph.blocks o
-      → slice_index graph.blocks.firsts o.block < block_end graph.blocks.firsts graph.blocks.words o.block
-      → length (open_pieces text graph table cases codes o) ≡ pieces_of text graph o
-  open_length o is room =
-      let one = images_of text graph table cases codes (copy o.switch.compare.0)
-      (slice_index graph.blocks.firsts o.switch.compare.0) (block_size graph.blocks o.switch.compare.0) in
-      let two = images_of text graph table cases codes (block o.block) (slice_index graph.blocks.firsts o.block)
-      (load_of text o - slice_index graph.blocks.firsts o.block) in
-      let three = images_of text graph table cases codes (block o.block) (load_of text o)
-      (slice_index graph.blocks.firsts o.block + block_size graph.blocks o.block - load_of text o) in
-      let keep = keep_by (decode_of (slice_index text.words (load_of text o))) in
-      let a = length-append (one ++ two) (keep ∷ three) in
-      let b = length-append one two in
-      omega (
-        arith,
-        a,
-        b,
-        images_length (copy o.switch.compare.0) (slice_index graph.blocks.firsts o.switch.compare.0)
-            (block_size graph.blocks o.switch.compare.0),
-        images_length (block o.block) (slice_index graph.blocks.firsts o.block)
-            (load_of text o - slice_index graph.blocks.firsts o.block),
-        images_length (block o.block) (load_of text o)
-            (slice_index graph.blocks.firsts o.block + block_size graph.blocks o.block - load_of text o),
-        is.above,
-        is.below,
-      )
-
-  pub chosen_many : length (flat_map (λ (o : Open). cases_from text graph table codes o 0 o.targets) graph.opens)
-      ≡ sum_by (λ (o : Open). length o.targets) graph.opens
-  chosen_many =
-      flat_length (λ (o : Open). cases_from text graph table codes o 0 o.targets)
-      (λ (o : Open). length o.targets) graph.opens
-      (each _ graph.opens (λ o. cases_length o 0 o.targets))
-
-  module _ (g : IsTextGraph text graph) where
-    opens_length : (opens : List Open) → Each (IsSwitchIn text graph.blocks) opens
-        → Each (λ o. length (open_pieces text graph table cases codes o) ≡ pieces_of text graph o) opens
-    opens_length [] are = tt
-    opens_length (o ∷ opens) are = (
-      open_length o are.0 (some_words graph.blocks.words graph.blocks.firsts g.cut.firsts o.block are.0.block_in),
-      opens_length opens are.1,
-    )
-
-    pub opens_many : length (flat_map (open_pieces text graph table cases codes) graph.opens)
-        ≡ sum_by (pieces_of text graph) graph.opens
-    opens_many =
-        flat_length (open_pieces text graph table cases codes) (pieces_of text graph) graph.opens
-        (opens_length graph.opens g.switches)
-
-    pub count_of : length (piece_list text graph table cases codes) ≡ foreign_number text graph + 1
-    unfolding piece_list
-    count_of =
-        let images = images_in_order text graph table cases codes in
-        let ways = ways_from text graph table codes 0 (own_edges graph) in
-        let landings = map (landing text graph codes) (below (length text.words)) in
-        let opened = flat_map (open_pieces text graph table cases codes) graph.opens in
-        let chosen = flat_map (λ (o : Open). cases_from text graph table codes o 0 o.targets) graph.opens in
-        omega (
-          arith,
-          foreign_is text graph,
-          opens_many,
-          chosen_many,
-          length-append images ways,
-          length-append (images ++ ways) landings,
-          length-append (images ++ ways ++ landings) opened,
-          length-append (images ++ ways ++ landings ++ opened) chosen,
-          length-append (images ++ ways ++ landings ++ opened ++ chosen) (foreign_piece ∷ []),
-          length-map (below (length text.words))
-              (λ word. image text graph (jumps_at text table) cases codes (node_in_order graph word) word),
-          length-map (below (length text.words)) (landing text graph codes),
-          length-below (length text.words),
-          ways_length 0 (own_edges graph),
-        )

@@ -91,7 +91,7 @@ pub record AreCased (text : Words) (b : Blocks) (opens : List Open) : Type 0 whe
       → (is_transfer (end_of b o.switch.compare.0) ≡ true) × (is_jump (end_of b o.switch.compare.0) ≡ false)
   pub jumps : AreOpen b opens
 
-cased_of : (text : Words) (given : List ℕ) (entry : ℕ) → IsText text
+pub cased_of : (text : Words) (given : List ℕ) (entry : ℕ) → IsText text
     → AreCased text (blocks_of text given) (opens_in text given entry)
 unfolding entered_of
 cased_of text given entry is_text = record {

@@ -1,9 +1,12 @@
 -- Items of lists by their places: behind other lists, in the lists of items, and the first that passes a test.
-use Rattle.std.proofs.Common.{◌≡◌, ℕ, zero, suc, ◌+◌, ◌<◌, ◌≤◌, Bool, true, false, not, cond, ◌||◌, Some, None, List, [], ◌∷◌, ◌++◌, length, map, take, length-append, refl, ap, sym, ◌∙◌, arith}
+use Rattle.std.proofs.Common.{◌≡◌, ℕ, zero, suc, ◌+◌, ◌<◌, ◌≤◌, Bool, true, false, not, cond, ◌||◌, Some, None, List, [], ◌∷◌, ◌++◌, length, get_or, map, take, length-append, refl, ap, sym, ◌∙◌, arith, inl, inr}
 use Rattle.std.specs.Prelude.{slice_get}
 use Rattle.std.specs.List.{Contains, find, flat_map, list_any, position, position_or_len, range_with_len, sum_by}
-use Rattle.std.proofs.lemmas.Bool.{false≢true, lt-ltb, le-ltb}
-use Rattle.std.proofs.lemmas.List.Sums.{sum_by-cons}
+use Rattle.std.proofs.lemmas.Bool.{cases_lt, false≢true, lt-ltb, le-ltb}
+use Rattle.std.proofs.lemmas.List.Folds.{Any-from_list_any, find_at, list_any_at}
+use Rattle.std.proofs.lemmas.List.FromFn.{get_or-map-range_with_len, get_or-range_with_len, length-map-range_with_len, length-range_with_len}
+use Rattle.std.proofs.lemmas.List.Sums.{fails_before_first, passes_at_first, sum_by-cons}
+use Rattle.std.proofs.lemmas.Option.{get_or_from_slice_get, slice_get-get_or, slice_get_within}
 
 -- ---- lists behind others
 
@@ -31,25 +34,15 @@ get_taken (suc n) zero (x ∷ xs) l = refl
 get_taken (suc n) (suc k) (x ∷ xs) l = get_taken n k xs (omega arith)
 
 pub contains : {A : Type 0} (xs : List A) (k : ℕ) (x : A) → slice_get xs k ≡ Some x → Contains xs x
-contains [] k x e = absurd (cc)
-contains (y ∷ xs) zero x e = (0, omega arith, (let same : y ≡ x = cc in same))
-contains (y ∷ xs) (suc k) x e =
-    let rest = contains xs k x e in
-    (suc rest.0, omega (arith, rest.1), rest.2)
+contains xs k x e = (k, slice_get_within xs k x e, get_or_from_slice_get xs k x x e)
 
 -- ---- ranges
 
-pub range_count : {A : Type 0} (f : ℕ → A) (from count : ℕ) → length (map f (range_with_len from count)) ≡ count
-range_count f from zero = refl
-range_count f from (suc count) = ap suc (range_count f (from + 1) count)
-
 pub range_get : {A : Type 0} (f : ℕ → A) (from count n : ℕ) → n < count
     → slice_get (map f (range_with_len from count)) n ≡ Some (f (from + n))
-range_get f from zero n l = absurd (omega arith)
-range_get f from (suc count) zero l = let e : from ≡ from + 0 = omega arith in ap (λ (m : ℕ). Some (f m)) e
-range_get f from (suc count) (suc n) l =
-    let e : from + 1 + n ≡ from + suc n = omega arith in
-    range_get f (from + 1) count n (omega (arith, l)) ∙ ap (λ (m : ℕ). Some (f m)) e
+range_get {A = A} f from count n l =
+    slice_get-get_or (map f (range_with_len from count)) n (f 0) (omega (arith, l, length-map-range_with_len f from count))
+    ∙ ap (λ (x : A). Some x) (get_or-map-range_with_len f from count n (from + n) (f 0) l refl)
 
 -- ---- the lists of items, each of which is so long
 
@@ -90,36 +83,27 @@ pub record IsPlace {A : Type 0} (p : A → Bool) (xs : List A) : Type 0 where
   pub item : A
   pub at : position p xs ≡ Some number
   pub is : slice_get xs number ≡ Some item
+  pub first : find p xs ≡ Some item
   pub passes : p item ≡ true
-
-record IsFirst {A : Type 0} (p : A → Bool) (xs : List A) (number : ℕ) : Type 0 where
-  pub within : number < length xs
-  pub item : A
-  pub is : slice_get xs number ≡ Some item
-  pub passes : p item ≡ true
-
-first_is : {A : Type 0} (p : A → Bool) (xs : List A) → list_any p xs ≡ true → IsFirst p xs (position_or_len p xs)
-first_is p [] any = absurd (cc)
-first_is p (x ∷ xs) any = here (p x) refl any (λ rest. first_is p xs rest)
-  where
-    here : (b : Bool) → p x ≡ b → (b || list_any p xs) ≡ true
-        → (list_any p xs ≡ true → IsFirst p xs (position_or_len p xs))
-        → IsFirst p (x ∷ xs) (cond (not b) (1 + position_or_len p xs) 0)
-    here true passes any next = record { within = omega arith; item = x; is = refl; passes = passes }
-    here false fails any next =
-        let rest = next any in
-        let later : 1 + position_or_len p xs ≡ suc (position_or_len p xs) = omega arith in
-        rw later (record { within = omega (arith, rest.within); item = rest.item; is = rest.is; passes = rest.passes })
 
 pub placed : {A : Type 0} (p : A → Bool) (xs : List A) → list_any p xs ≡ true → IsPlace p xs
 placed p xs any =
-    let first = first_is p xs any in
+    let some = Any-from_list_any p xs any in
+    let n = position_or_len p xs in
+    let within : n < length xs = elim (cases_lt n (length xs)) [
+      | inl l ↦ l
+      | inr m ↦
+          let fails = fails_before_first p xs some.0 some.1 (omega (arith, m, some.2)) in
+          absurd (false≢true (sym fails ∙ ap p some.3 ∙ some.4))
+    ] in
+    let is = slice_get-get_or xs n some.1 within in
     record {
-      number = position_or_len p xs;
-      item = first.item;
-      at = ap (λ (b : Bool). cond b (Some (position_or_len p xs)) None) (lt-ltb _ _ first.within);
-      is = first.is;
-      passes = first.passes;
+      number = n;
+      item = get_or xs n some.1;
+      at = ap (λ (b : Bool). cond b (Some n) None) (lt-ltb _ _ within);
+      is = is;
+      first = find_at p xs ∙ is;
+      passes = passes_at_first p xs some.1 within;
     }
 
 none_is : {A : Type 0} (p : A → Bool) (xs : List A) → list_any p xs ≡ false → position_or_len p xs ≡ length xs
@@ -139,15 +123,8 @@ not_placed p xs none =
 
 pub any_at : {A : Type 0} (p : A → Bool) (xs : List A) (k : ℕ) (x : A) → slice_get xs k ≡ Some x → p x ≡ true
     → list_any p xs ≡ true
-any_at p [] k x e h = absurd (cc)
-any_at p (y ∷ xs) zero x e h =
-    let same : y ≡ x = cc in
-    ap (λ (b : Bool). b || list_any p xs) (ap p same ∙ h)
-any_at p (y ∷ xs) (suc k) x e h = by (p y) (any_at p xs k x e h)
-  where
-    by : (b : Bool) → list_any p xs ≡ true → (b || list_any p xs) ≡ true
-    by true rest = refl
-    by false rest = rest
+any_at p xs k x e h =
+    list_any_at p xs k x (slice_get_within xs k x e) (ap p (get_or_from_slice_get xs k x x e) ∙ h)
 
 -- one that is found in a range
 pub record IsFoundIn (p : ℕ → Bool) (from count word : ℕ) : Type 0 where
@@ -158,32 +135,19 @@ pub record IsFoundIn (p : ℕ → Bool) (from count word : ℕ) : Type 0 where
 
 pub found_in_range : (p : ℕ → Bool) (from count : ℕ) → (n : ℕ) → n < count → p (from + n) ≡ true
     → (word : ℕ) × IsFoundIn p from count word
-found_in_range p from zero n l h = absurd (omega arith)
-found_in_range p from (suc count) n l h = by (p from) refl n l h (found_in_range p (from + 1) count)
-  where
-    by : (b : Bool) → p from ≡ b → (n : ℕ) → n < suc count → p (from + n) ≡ true
-        → ((k : ℕ) → k < count → p (from + 1 + k) ≡ true → (word : ℕ) × IsFoundIn p (from + 1) count word)
-        → (word : ℕ) × IsFoundIn p from (suc count) word
-    by true e n l h next = (
-      from,
+found_in_range p from count n l h =
+    let xs = range_with_len from count in
+    let many = length-range_with_len from count in
+    let found = placed p xs (list_any_at p xs n 0 (omega (arith, l, many))
+    (ap p (get_or-range_with_len from count n 0 l) ∙ h)) in
+    let low = slice_get_within xs found.number found.item found.is in
+    let at = get_or-range_with_len from count found.number 0 (omega (arith, low, many)) in
+    let same = get_or_from_slice_get xs found.number found.item 0 found.is in (
+      found.item,
       record {
-        is = ap (λ (b : Bool). cond b (Some from) (find p (range_with_len (from + 1) count))) e;
-        above = omega arith;
-        below = omega arith;
-        passes = e;
+        is = found.first;
+        above = omega (arith, at, same);
+        below = omega (arith, at, same, low, many);
+        passes = found.passes;
       },
     )
-    by false e zero l h next =
-        let here : from + 0 ≡ from = omega arith in
-        absurd (false≢true (sym e ∙ ap p (sym here) ∙ h))
-    by false e (suc n) l h next =
-        let there : from + suc n ≡ from + 1 + n = omega arith in
-        let rest = next n (omega (arith, l)) (ap p (sym there) ∙ h) in (
-          rest.0,
-          record {
-            is = ap (λ (b : Bool). cond b (Some from) (find p (range_with_len (from + 1) count))) e ∙ rest.1.is;
-            above = omega (arith, rest.1.above);
-            below = omega (arith, rest.1.below);
-            passes = rest.1.passes;
-          },
-        )

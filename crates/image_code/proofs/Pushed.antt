@@ -1,10 +1,11 @@
 -- Lists that grow by one item in each turn of a loop.
-use Rattle.std.proofs.Common.{◌≡◌, ℕ, zero, suc, ◌+◌, ◌-◌, ◌<◌, ◌≤◌, List, [], ◌∷◌, ◌++◌, Some, length, length-append, map, take, refl, ap, sym, ◌∙◌, arith, append_assoc}
+use Rattle.std.proofs.Common.{◌≡◌, ℕ, suc, ◌+◌, ◌-◌, ◌<◌, ◌≤◌, List, [], ◌∷◌, ◌++◌, Some, length, length-append, map, take, ap, sym, ◌∙◌, arith, append_assoc}
 use Rattle.std.specs.Prelude.{slice_get, slice_index_or}
-use Rattle.std.specs.List.{Contains, flat_map, fold, range_with_len, sum_by}
+use Rattle.std.specs.List.{flat_map, range_with_len}
 use Rattle.std.proofs.lemmas.Grind.{flat_map-append}
-use Rattle.std.proofs.lemmas.List.{append-nil, get_or-map, map-append, take_all, take_more}
+use Rattle.std.proofs.lemmas.List.{append-nil, get_or-map, map-append, take_more}
 use Rattle.std.proofs.lemmas.List.FromFn.{map-range_with_len_more}
+use Rattle.std.proofs.lemmas.Option.{get_or_from_slice_get, slice_get_within}
 use Rattle.cfg_blocks.specs.Blocks.{below}
 use Rattle.cfg_blocks.proofs.Below.{get_or-below, length-below}
 use Rattle.eel_base.specs.declared.numbers.PieceNo.{PieceNo}
@@ -68,45 +69,13 @@ flat_count f n =
     ∙ length-append (flat_map f (below n)) (flat_map f (n ∷ []))
     ∙ ap (λ ys. length (flat_map f (below n)) + length ys) (append-nil (f n))
 
-fold_more : {A B : Type 0} (g : B → A → B) (a : B) (xs : List A) (x : A)
-    → fold g a (xs ++ x ∷ []) ≡ g (fold g a xs) x
-fold_more g a [] x = refl
-fold_more g a (y ∷ ys) x = fold_more g (g a y) ys x
-
-pub sum_more : {A : Type 0} (f : A → ℕ) (xs : List A) (n : ℕ) (d : A) → n < length xs
-    → sum_by f (take (n + 1) xs) ≡ sum_by f (take n xs) + f (slice_index_or xs n d)
-sum_more f xs n d l =
-    ap (sum_by f) (take_more xs n d l) ∙ fold_more (λ a x. a + f x) 0 (take n xs) (slice_index_or xs n d)
-
 -- ---- what stands at a place
 
 pub at_below : (f : ℕ → ℕ) (n k : ℕ) → k < n → slice_index_or (map f (below n)) k 0 ≡ f k
 at_below f n k l =
     get_or-map f (below n) k 0 0 (omega (arith, l, length-below n)) ∙ ap f (get_or-below n k 0 l)
 
-pub gets : {A : Type 0} (xs : List A) (k : ℕ) (d : A) → k < length xs → slice_get xs k ≡ Some (slice_index_or xs k d)
-gets [] k d l = absurd (omega arith)
-gets (x ∷ xs) zero d l = refl
-gets (x ∷ xs) (suc k) d l = gets xs k d (omega (arith, l))
-
 pub map_at : {A : Type 0} (f : A → ℕ) (xs : List A) (k : ℕ) (x : A) → slice_get xs k ≡ Some x
     → slice_index_or (map f xs) k 0 ≡ f x
-map_at f [] k x e = absurd (cc)
-map_at f (y ∷ ys) zero x e = let same : y ≡ x = cc in ap f same
-map_at f (y ∷ ys) (suc k) x e = map_at f ys k x e
-
-pub gets_within : {A : Type 0} (xs : List A) (k : ℕ) (x : A) → slice_get xs k ≡ Some x → k < length xs
-gets_within [] k x e = absurd (cc)
-gets_within (y ∷ ys) zero x e = omega arith
-gets_within (y ∷ ys) (suc k) x e = omega (arith, gets_within ys k x e)
-
-pub gets_is : {A : Type 0} (xs : List A) (k : ℕ) (x d : A) → slice_get xs k ≡ Some x → slice_index_or xs k d ≡ x
-gets_is [] k x d e = absurd (cc)
-gets_is (y ∷ ys) zero x d e = cc
-gets_is (y ∷ ys) (suc k) x d e = gets_is ys k x d e
-
-pub gets_in : {A : Type 0} (xs : List A) (k : ℕ) (x : A) → slice_get xs k ≡ Some x → Contains xs x
-gets_in xs k x e = (k, gets_within xs k x e, gets_is xs k x x e)
-
-pub take_whole : {A : Type 0} (xs : List A) (n : ℕ) → length xs ≤ n → take n xs ≡ xs
-take_whole xs n l = take_all n xs l
+map_at f xs k x e =
+    get_or-map f xs k x 0 (slice_get_within xs k x e) ∙ ap f (get_or_from_slice_get xs k x x e)

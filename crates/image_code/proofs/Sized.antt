@@ -6,7 +6,8 @@ use Rattle.std.specs.List.{count_by, position, sum_by}
 use Rattle.std.specs.Option.{option_to_list}
 use native.Mathlib.Nat.{mul-le-mul_left, mul-le-mul_right, mul_left_comm}
 use Rattle.std.proofs.lemmas.Bool.{and_parts, and_right, cases_eq, cases_lt, eqb-true, false≢true, le-ltb, ne_eqb}
-use Rattle.std.proofs.lemmas.List.Sums.{sum_by-append, sum_by-cons}
+use Rattle.std.proofs.lemmas.List.Folds.{fold-map}
+use Rattle.std.proofs.lemmas.List.Sums.{sum_by-append}
 use Rattle.eel_base.specs.CodeText.{Words}
 use Rattle.v8_decode.specs.declared.Instr.{Instr}
 use Rattle.v8_decode.specs.Words.{decode_of}
@@ -80,14 +81,7 @@ same_turned : (one other : Node) → same_node one other ≡ true → same_node 
 same_turned one other e = ap (same_node other) (same_nodes one other e) ∙ same_itself other
 
 count-map : {A B : Type 0} (p : B → Bool) (f : A → B) (xs : List A) → count_by p (map f xs) ≡ count_by (λ x. p (f x)) xs
-count-map p f [] = refl
-count-map p f (x ∷ xs) =
-    omega (
-      arith,
-      sum_by-cons (λ y. cond (p y) 1 0) (f x) (map f xs),
-      sum_by-cons (λ y. cond (p (f y)) 1 0) x xs,
-      count-map p f xs,
-    )
+count-map p f xs = fold-map (λ a y. a + cond (p y) 1 0) f 0 xs
 
 eqb-turned : (m n : ℕ) → (m == n) ≡ (n == m)
 eqb-turned m n = elim (cases_eq m n) [
@@ -182,31 +176,20 @@ module _ (text : Words) (graph : Graph) (codes : ℕ → List ℕ) where
         (slice_index graph.blocks.firsts k ≤ word)
         × (word < slice_index graph.blocks.firsts k + size_of graph.blocks k)
 
-    in_block : (k word : ℕ) → IsIn graph.blocks.words graph.blocks.firsts word k → StandsIn k word
-    in_block k word is = (is.above, omega (arith, is.above, is.below))
-
-    at_block : (k word : ℕ) → same_node (lands graph (Some word)) (block k) ≡ true → StandsIn k word
-    at_block k word e = elim (cases_lt word (length text.words)) [
+    at_node : (k word : ℕ) (node : Node) → same_node X node ≡ false
+        → (same_node (block (holding_of graph.blocks word)) node ≡ true → holding_of graph.blocks word ≡ k)
+        → (same_node (copy (holding_of graph.blocks word)) node ≡ true → holding_of graph.blocks word ≡ k)
+        → same_node (lands graph (Some word)) node ≡ true → StandsIn k word
+    at_node k word node none itself copied e = elim (cases_lt word (length text.words)) [
       | inl l ↦
           let low : word < graph.blocks.words = omega (arith, g.cut.words) in
           let held = in_held graph.blocks.words graph.blocks.firsts g.cut.firsts word low in
-          lands_as graph.blocks graph.opens word low (λ (n : Node). same_node n (block k) ≡ true → StandsIn k word)
-          (λ _ h. absurd (false≢true h))
-          (λ _ h. in_block k word (subst (λ (j : ℕ). IsIn graph.blocks.words graph.blocks.firsts word j)
-          (eqb-true (holding_of graph.blocks word) k h) held)) e
-      | inr m ↦ absurd (false≢true (sym (ap (λ (n : Node). same_node n (block k)) (outside word m)) ∙ e))
-    ]
-
-    at_copy : (k word : ℕ) → same_node (lands graph (Some word)) (copy k) ≡ true → StandsIn k word
-    at_copy k word e = elim (cases_lt word (length text.words)) [
-      | inl l ↦
-          let low : word < graph.blocks.words = omega (arith, g.cut.words) in
-          let held = in_held graph.blocks.words graph.blocks.firsts g.cut.firsts word low in
-          lands_as graph.blocks graph.opens word low (λ (n : Node). same_node n (copy k) ≡ true → StandsIn k word)
-          (λ _ h. in_block k word (subst (λ (j : ℕ). IsIn graph.blocks.words graph.blocks.firsts word j)
-          (eqb-true (holding_of graph.blocks word) k h) held))
-          (λ _ h. absurd (false≢true h)) e
-      | inr m ↦ absurd (false≢true (sym (ap (λ (n : Node). same_node n (copy k)) (outside word m)) ∙ e))
+          let there : holding_of graph.blocks word ≡ k → StandsIn k word =
+          λ same. let is = subst (IsIn graph.blocks.words graph.blocks.firsts word) same held in
+          (is.above, omega (arith, is.above, is.below)) in
+          lands_as graph.blocks graph.opens word low (λ (n : Node). same_node n node ≡ true → StandsIn k word)
+          (λ _ h. there (copied h)) (λ _ h. there (itself h)) e
+      | inr m ↦ absurd (false≢true (sym (ap (λ (n : Node). same_node n node) (outside word m) ∙ none) ∙ e))
     ]
 
     block_end_within : (k : ℕ) → k < length graph.blocks.firsts
@@ -223,10 +206,12 @@ module _ (text : Words) (graph : Graph) (codes : ℕ → List ℕ) where
         → count_by (is_at graph node) (below (length text.words)) ≤ count_by (is_at graph node) (words_at graph node)
     node_count (Block k) l =
         count_within (is_at graph (Block k)) (length text.words) (slice_index graph.blocks.firsts k.0)
-        (size_of graph.blocks k.0) (block_end_within k.0 l) (at_block k.0)
+        (size_of graph.blocks k.0) (block_end_within k.0 l)
+        (λ word. at_node k.0 word (Block k) refl (eqb-true _ k.0) (λ e. absurd (false≢true e)))
     node_count (Landed k) l =
         count_within (is_at graph (Landed k)) (length text.words) (slice_index graph.blocks.firsts k.0)
-        (size_of graph.blocks k.0) (block_end_within k.0 l.0) (at_copy k.0)
+        (size_of graph.blocks k.0) (block_end_within k.0 l.0)
+        (λ word. at_node k.0 word (Landed k) refl (λ e. absurd (false≢true e)) (eqb-true _ k.0))
     node_count X l =
         omega (
           arith,
@@ -338,59 +323,21 @@ abbrev own_code : (ℕ → List ℕ) → ℕ → List Edge → ℕ
 own_code codes number [] = 0
 own_code codes number (edge ∷ edges) = own_kind edge.kind (length (codes number)) + own_code codes (suc number) edges
 
+products : (a b c x y z l : ℕ) → a ≤ x → b ≤ y → c ≤ z → a * l + b * l + c * l ≤ (x + y + z) * l
+products a b c x y z l f g h =
+    omega (arith, mul-le-mul_right {m = a} l f, mul-le-mul_right {m = b} l g, mul-le-mul_right {m = c} l h)
+
 kinds_few : (kind : EdgeKind) (a b c l m n : ℕ) → a ≤ (if same_kind kind kinds.Fall then 1 else 0)
     → b ≤ (if same_kind kind kinds.Land then m else 0) → c ≤ (if same_kind kind kinds.Case then n else 0)
     → a * l + own_kind kind l + b * l + c * l
     ≤ (if same_kind kind kinds.Land then m else if same_kind kind kinds.Case then n else 1) * l
-kinds_few kinds.Fall a b c l m n f g h =
-    omega (
-      arith,
-      mul-le-mul_right {m = a} {n = 1} l f,
-      mul-le-mul_right {m = b} {n = 0} l g,
-      mul-le-mul_right {m = c} {n = 0} l h,
-    )
-kinds_few kinds.Taken a b c l m n f g h =
-    omega (
-      arith,
-      mul-le-mul_right {m = a} {n = 0} l f,
-      mul-le-mul_right {m = b} {n = 0} l g,
-      mul-le-mul_right {m = c} {n = 0} l h,
-    )
-kinds_few kinds.Untaken a b c l m n f g h =
-    omega (
-      arith,
-      mul-le-mul_right {m = a} {n = 0} l f,
-      mul-le-mul_right {m = b} {n = 0} l g,
-      mul-le-mul_right {m = c} {n = 0} l h,
-    )
-kinds_few kinds.Call a b c l m n f g h =
-    omega (
-      arith,
-      mul-le-mul_right {m = a} {n = 0} l f,
-      mul-le-mul_right {m = b} {n = 0} l g,
-      mul-le-mul_right {m = c} {n = 0} l h,
-    )
-kinds_few kinds.Out a b c l m n f g h =
-    omega (
-      arith,
-      mul-le-mul_right {m = a} {n = 0} l f,
-      mul-le-mul_right {m = b} {n = 0} l g,
-      mul-le-mul_right {m = c} {n = 0} l h,
-    )
-kinds_few kinds.Land a b c l m n f g h =
-    omega (
-      arith,
-      mul-le-mul_right {m = a} {n = 0} l f,
-      mul-le-mul_right {m = b} {n = m} l g,
-      mul-le-mul_right {m = c} {n = 0} l h,
-    )
-kinds_few kinds.Case a b c l m n f g h =
-    omega (
-      arith,
-      mul-le-mul_right {m = a} {n = 0} l f,
-      mul-le-mul_right {m = b} {n = 0} l g,
-      mul-le-mul_right {m = c} {n = n} l h,
-    )
+kinds_few kinds.Fall a b c l m n f g h = omega (arith, products a b c 1 0 0 l f g h)
+kinds_few kinds.Taken a b c l m n f g h = omega (arith, products a b c 0 0 0 l f g h)
+kinds_few kinds.Untaken a b c l m n f g h = omega (arith, products a b c 0 0 0 l f g h)
+kinds_few kinds.Call a b c l m n f g h = omega (arith, products a b c 0 0 0 l f g h)
+kinds_few kinds.Out a b c l m n f g h = omega (arith, products a b c 0 0 0 l f g h)
+kinds_few kinds.Land a b c l m n f g h = omega (arith, products a b c 0 m 0 l f g h)
+kinds_few kinds.Case a b c l m n f g h = omega (arith, products a b c 0 0 n l f g h)
 
 ways_own : (codes : ℕ → List ℕ) (number count : ℕ) (edges : List Edge)
     → Each (λ edge. same_kind edge.kind kinds.Land ≡ false) (take count edges)

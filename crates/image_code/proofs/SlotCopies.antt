@@ -24,6 +24,7 @@ use Rattle.cfg_walk.specs.Matches.{Begins, IsOnItsWay, last_in, way_address}
 use Rattle.cfg_walk.proofs.Edges.{block}
 use Rattle.cfg_walk.proofs.Nodes.{home_lands, lands_as, lands_in}
 use Rattle.cfg_walk.proofs.Slots.{jump_lands}
+use Rattle.cfg_walk.proofs.Ways.{same_kinds}
 use Rattle.addr_translate.specs.Halves.{found_in}
 use Rattle.code_runs.specs.Page.{page_word}
 use Rattle.code_runs.proofs.StoredWords.{memory_word-range}
@@ -40,7 +41,7 @@ use Rattle.image_code.specs.Made.{IsTableFor, couple_word, first_word, goes_alon
 use Rattle.image_code.specs.Numbered.{enter_number, foreign_number, landing_number}
 use Rattle.image_code.proofs.CaseTables.{IsKnown, table_of}
 use Rattle.image_code.proofs.EdgePieces.{IsAlong, along_far, cut_in}
-use Rattle.image_code.proofs.Branches.{couple_says, same_is}
+use Rattle.image_code.proofs.Branches.{couple_says}
 use Rattle.std.proofs.lemmas.Option.{slice_get_within}
 use Rattle.image_code.proofs.Heads.{HasCopy, by_cases, case_copy, copy_visited, plain_copy}
 use Rattle.image_code.proofs.ImageNumbers.{jump_of}
@@ -78,12 +79,7 @@ goes_out text graph X word address (Some w) h e = absurd h
 not_landed : (text : Words) (graph : Graph) (kind : EdgeKind) (address : ℕ) → same_kind kind kinds.Out ≡ false
     → landed text graph kind address ≡ []
 not_landed text graph kinds.Out address e = absurd (cc)
-not_landed text graph kinds.Fall address e = refl
-not_landed text graph kinds.Taken address e = refl
-not_landed text graph kinds.Untaken address e = refl
-not_landed text graph kinds.Call address e = refl
-not_landed text graph kinds.Land address e = refl
-not_landed text graph kinds.Case address e = refl
+not_landed text graph _ address e = refl
 
 -- at a word that at which a run lands there, and outside the text none
 abbrev landing_of : Graph → Option ℕ → List ℕ
@@ -92,8 +88,8 @@ landing_of graph (Some word) = edge_landing graph (lands graph (Some word))
 
 landed_out : (text : Words) (graph : Graph) (address : ℕ) (o : Option ℕ) → word_at text address ≡ o
     → landed text graph kinds.Out address ≡ landing_of graph o
-landed_out text graph address None e = rw e refl
-landed_out text graph address (Some word) e = rw e refl
+landed_out text graph address None e = rw e
+landed_out text graph address (Some word) e = rw e
 
 -- a node without Case edges is no jump's block of an open switch
 pub no_cases : (g : Setting) → IsKnown g → (node : Node) → has_cases g.switches node ≡ false → HasNoCases g node
@@ -348,7 +344,7 @@ module _ (g : Setting) (codes : ℕ → List ℕ) (is : IsKnown g) (p : Placemen
       caseless = no_cases g is node quiet
 
       kind_out : way.edge.kind ≡ kinds.Out
-      kind_out = kind_is g codes is p f node x way (λ _. quiet) ∙ same_is (way_in g codes is p f x) kinds.Out out
+      kind_out = kind_is g codes is p f node x way (λ _. quiet) ∙ same_kinds (way_in g codes is p f x) kinds.Out out
 
       edge_out : same_kind way.edge.kind kinds.Out ≡ true
       edge_out = ap (λ (k : EdgeKind). same_kind k kinds.Out) kind_out
@@ -370,7 +366,7 @@ module _ (g : Setting) (codes : ℕ → List ℕ) (is : IsKnown g) (p : Placemen
 
       goes_out_by : IsOnItsWay g.text (graph_in g) node x kinds.Out
       goes_out_by = subst (λ (k : EdgeKind). IsOnItsWay g.text (graph_in g) node x k)
-          (same_is (way_in g codes is p f x) kinds.Out out) way
+          (same_kinds (way_in g codes is p f x) kinds.Out out) way
 
       lands_to : (v : State) → does_at g x t ≡ v → v.ending ≡ None
           → node_after (graph_in g) node (gone_at g node x v) ≡ lands (graph_in g) (word_at g.text x.npc)
@@ -378,7 +374,7 @@ module _ (g : Setting) (codes : ℕ → List ℕ) (is : IsKnown g) (p : Placemen
           let w = went v e live in
           ap (node_after (graph_in g) node) (gone_left v w.0 w.1 live
           ∙ ap (λ (k : EdgeKind). slot_left g.text (graph_in g) node k x.npc)
-          (same_is (way_in g codes is p f x) kinds.Out out))
+          (same_kinds (way_in g codes is p f x) kinds.Out out))
           ∙ jump_lands g.text b g.switches (cut_in g is f.table.base f.cases.base) node x goes_out_by
 
       landed_at : (v : State) → does_at g x t ≡ v → v.ending ≡ None

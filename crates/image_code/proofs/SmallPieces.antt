@@ -1,6 +1,7 @@
 -- Pieces by how large they are: what may be placed, and how many words it takes.
 use Rattle.std.proofs.Common.{◌≡◌, ℕ, zero, suc, ◌+◌, ◌<◌, ◌≤◌, true, false, cond, Some, List, [], ◌∷◌, ◌++◌, length, map, ap, sym, ◌∙◌, arith}
 use Rattle.std.specs.Prelude.{if◌then◌else◌, slice_get, slice_index}
+use Rattle.std.proofs.lemmas.Bool.{false≢true}
 use Rattle.std.proofs.lemmas.List.Sums.{sum_by-cons}
 use Rattle.eel_base.specs.CodeText.{Words, address_of, word_at}
 use Rattle.eel_base.specs.declared.numbers.Addr.{Addr}
@@ -11,14 +12,10 @@ use Rattle.v8_decode.specs.declared.Instr.TheVariants as i
 use Rattle.v8_decode.specs.Words.{decode_of}
 use Rattle.v8_step.specs.Items.{is_transfer}
 use Rattle.cfg_walk.proofs.Addresses.{word_at-address}
-use Rattle.code_runs.specs.LongJump.{long_jump}
 use Rattle.jump_code.specs.Choosing.{choice_image}
 use Rattle.jump_code.specs.Finding.{find_image, go_found}
-use Rattle.jump_code.specs.Keeping.{keep_load}
-use Rattle.jump_code.specs.Leaving.{foreign}
 use Rattle.jump_code.specs.Links.{link}
 use Rattle.jump_code.specs.Pieces.{call_piece, far_piece, find_piece, foreign_piece, word_items}
-use Rattle.layout.specs.Emitting.{words_of}
 use Rattle.layout.specs.declared.items.Item.{Item}
 use Rattle.layout.specs.declared.items.Item.TheVariants as it
 use Rattle.layout.specs.Laid.{AreMarked, LeadsBelow, long_words, piece_words}
@@ -62,15 +59,6 @@ pub record IsSmall (text : Words) (count base most : ℕ) (items : List Item) : 
   pub leads : ItemsLead count items
   pub says : MarksSay text items
 
-words_lead : (count : ℕ) (ws : List ℕ) (rest : List Item) → ItemsLead count rest
-    → ItemsLead count (map it.Word ws ++ rest)
-words_lead count [] rest l = l
-words_lead count (w ∷ ws) rest l = (tt, words_lead count ws rest l)
-
-only_words_lead : (count : ℕ) (ws : List ℕ) → ItemsLead count (map it.Word ws)
-only_words_lead count [] = tt
-only_words_lead count (w ∷ ws) = (tt, only_words_lead count ws)
-
 words_more : (x : Item) (rest : List Item) → piece_words (x ∷ rest) ≡ long_words x + piece_words rest
 words_more x rest = sum_by-cons long_words x rest
 
@@ -81,112 +69,44 @@ module _ (text : Words) (count : ℕ) where
   -- ---- outside Marks
 
   pub tail_empty : IsTail text count 0 []
-  tail_empty = record {
-    few = omega arith;
-    words = omega arith;
-    marks = omega arith;
-    marked = tt;
-    leads = tt;
-    says = tt;
-  }
+  tail_empty = omega arith
 
   pub tail_jump : (to : ℕ) → to < count → IsTail text count 0 (jump_to to)
-  tail_jump to l = record {
-    few = omega arith;
-    words = omega arith;
-    marks = omega arith;
-    marked = tt;
-    leads = (l, tt);
-    says = tt;
-  }
+  tail_jump to l = omega arith
 
   pub tail_far : (to : ℕ) → IsTail text count 0 (far_piece to)
-  tail_far to = record {
-    few = omega arith;
-    words = omega arith;
-    marks = omega arith;
-    marked = tt;
-    leads = only_words_lead count (words_of (long_jump to));
-    says = tt;
-  }
+  tail_far to = omega arith
 
   pub tail_found : (x : ℕ) → IsTail text count 0 (word_items (go_found x))
-  tail_found x = record {
-    few = omega arith;
-    words = omega arith;
-    marks = omega arith;
-    marked = tt;
-    leads = only_words_lead count (words_of (go_found x));
-    says = tt;
-  }
+  tail_found x = omega arith
 
   -- the words that keep a load's address
   pub tail_keep : (instr : Instr) → IsTail text count 0 (keep_by instr)
-  tail_keep (i.Load kind rd rs1 op2) = record {
-    few = omega arith;
-    words = omega arith;
-    marks = omega arith;
-    marked = tt;
-    leads = only_words_lead count (words_of (keep_load rs1 op2));
-    says = tt;
-  }
+  tail_keep (i.Load kind rd rs1 op2) = omega arith
   tail_keep _ = tail_empty
 
   -- behind a snippet's words
   pub tail_behind : (most : ℕ) (ws : List ℕ) (rest : List Item) → IsTail text count most rest
       → IsTail text count (length ws + most) (map it.Word ws ++ rest)
-  tail_behind most [] rest t = record {
-    few = omega (arith, t.few);
-    words = omega (arith, t.words);
-    marks = t.marks;
-    marked = t.marked;
-    leads = t.leads;
-    says = t.says;
-  }
+  tail_behind most [] rest t = search arith
   tail_behind most (w ∷ ws) rest t =
       let r = tail_behind most ws rest t in
-      record {
-        few = omega (arith, r.few);
-        words = omega (arith, r.words, words_more (it.Word w) (map it.Word ws ++ rest));
-        marks = omega (arith, r.marks, marks_more (it.Word w) (map it.Word ws ++ rest));
-        marked = r.marked;
-        leads = (tt, r.leads);
-        says = r.says;
-      }
+      let words = words_more (it.Word w) (map it.Word ws ++ rest) in
+      let marks = marks_more (it.Word w) (map it.Word ws ++ rest) in
+      search arith
 
   pub tail_more : (most other : ℕ) (items : List Item) → most ≤ other → IsTail text count most items
       → IsTail text count other items
-  tail_more most other items l t = record {
-    few = omega (arith, t.few);
-    words = omega (arith, t.words);
-    marks = t.marks;
-    marked = t.marked;
-    leads = t.leads;
-    says = t.says;
-  }
+  tail_more most other items l t = search arith
 
   -- ---- pieces
 
   pub small_tail : (most : ℕ) (items : List Item) → IsTail text count most items → IsSmall text count 8 most items
-  small_tail most items t = record {
-    few = omega (arith, t.few);
-    words = omega (arith, t.words);
-    marks = omega (arith, t.marks);
-    marked = t.marked;
-    leads = t.leads;
-    says = t.says;
-  }
+  small_tail most items t = search arith
 
   pub small_more : (base most large other : ℕ) (items : List Item) → base ≤ large → most ≤ other
       → IsSmall text count base most items → IsSmall text count large other items
-  small_more base most large other items m l s = record {
-    few = omega (arith, s.few);
-    words = omega (arith, s.words);
-    marks = s.marks;
-    marked = s.marked;
-    leads = s.leads;
-    says = s.says;
-  }
+  small_more base most large other items m l s = search arith
 
   -- an image's piece is the largest
   pub small_wide : (most : ℕ) (items : List Item) → IsSmall text count 8 most items → IsSmall text count 19 most items
@@ -195,121 +115,45 @@ module _ (text : Words) (count : ℕ) where
   pub small_plain : (most : ℕ) (address : Addr) (node word : ℕ) (rest : List Item) → IsTail text count most rest
       → SaysWord text address.0 (it.Word word ∷ it.EndMark ∷ rest)
       → IsSmall text count 8 most (plain_piece address node word rest)
-  small_plain most address node word rest t says = record {
-    few = omega (arith, t.few);
-    words = omega (
-      arith,
-      t.words,
-      words_more (it.Mark address node) (it.Word word ∷ it.EndMark ∷ rest),
-      words_more (it.Word word) (it.EndMark ∷ rest),
-      words_more it.EndMark rest,
-    );
-    marks = omega (
-      arith,
-      t.marks,
-      marks_more (it.Mark address node) (it.Word word ∷ it.EndMark ∷ rest),
-      marks_more (it.Word word) (it.EndMark ∷ rest),
-      marks_more it.EndMark rest,
-    );
-    marked = t.marked;
-    leads = (tt, (tt, (tt, t.leads)));
-    says = (says, t.says);
-  }
+  small_plain most address node word rest t says =
+      let words = words_more (it.Mark address node) (it.Word word ∷ it.EndMark ∷ rest) in
+      let more_words = words_more (it.Word word) (it.EndMark ∷ rest) in
+      let last_words = words_more it.EndMark rest in
+      let marks = marks_more (it.Mark address node) (it.Word word ∷ it.EndMark ∷ rest) in
+      let more_marks = marks_more (it.Word word) (it.EndMark ∷ rest) in
+      let last_marks = marks_more it.EndMark rest in
+      search arith
 
   pub small_foreign : IsSmall text count 8 0 foreign_piece
-  small_foreign = record {
-    few = omega arith;
-    words = omega arith;
-    marks = omega arith;
-    marked = tt;
-    leads = only_words_lead count (words_of foreign);
-    says = tt;
-  }
+  small_foreign = search arith
 
   pub small_branch : (address : Addr) (node c taken untaken : ℕ) → taken < count → untaken < count
       → SaysWord text address.0 (it.Branch c (record { 0 = taken }) ∷ it.EndMark ∷ it.Jump
       (record { 0 = untaken }) ∷ [])
       → IsSmall text count 19 0 (branch_piece address node c taken untaken)
-  small_branch address node c taken untaken l m says = record {
-    few = omega arith;
-    words = omega arith;
-    marks = omega arith;
-    marked = tt;
-    leads = (tt, (l, (tt, (m, tt))));
-    says = (says, tt);
-  }
+  small_branch address node c taken untaken l m says = search arith
 
   pub small_call : (address : Addr) (node : ℕ) (way : PieceNo) → way.0 < count
       → SaysWord text address.0 (word_items (link 15 address.0) ++ it.EndMark ∷ it.Jump way ∷ [])
       → IsSmall text count 19 0 (call_piece address node way)
-  small_call address node way l says = record {
-    few = omega arith;
-    words = omega arith;
-    marks = omega arith;
-    marked = tt;
-    leads = (tt, words_lead count (words_of (link 15 address.0)) (it.EndMark ∷ it.Jump way ∷ []) (tt, (l, tt)));
-    says = (says, tt);
-  }
+  small_call address node way l says = search arith
 
   pub small_jmpl : (x y rd rs1 : ℕ) (op2 : Op2) (jumps : ℕ) (address : Addr) (node : ℕ) (way : PieceNo) → way.0 < count
       → SaysWord text address.0
       (word_items (find_image x y rd rs1 op2 jumps address.0) ++ it.EndMark ∷ it.Jump way ∷ [])
       → IsSmall text count 19 0 (find_piece x y rd rs1 op2 jumps address node way)
-  small_jmpl x y zero rs1 op2 jumps address node way l says = record {
-    few = omega arith;
-    words = omega arith;
-    marks = omega arith;
-    marked = tt;
-    leads = (
-      tt,
-      words_lead count (words_of (find_image x y zero rs1 op2 jumps address.0)) (it.EndMark ∷ it.Jump way ∷ [])
-          (tt, (l, tt)),
-    );
-    says = (says, tt);
-  }
-  small_jmpl x y (suc r) rs1 op2 jumps address node way l says = record {
-    few = omega arith;
-    words = omega arith;
-    marks = omega arith;
-    marked = tt;
-    leads = (
-      tt,
-      words_lead count (words_of (find_image x y (suc r) rs1 op2 jumps address.0)) (it.EndMark ∷ it.Jump way ∷ [])
-          (tt, (l, tt)),
-    );
-    says = (says, tt);
-  }
+  small_jmpl x y zero rs1 op2 jumps address node way l says = search arith
+  small_jmpl x y (suc r) rs1 op2 jumps address node way l says = search arith
 
   pub small_choice : (rd : ℕ) (address : Addr) (node distance : ℕ)
       → SaysWord text address.0 (word_items (choice_image rd address.0 distance) ++ it.EndMark ∷ [])
       → IsSmall text count 19 0 (choice_piece rd address node distance)
-  small_choice zero address node distance says = record {
-    few = omega arith;
-    words = omega arith;
-    marks = omega arith;
-    marked = tt;
-    leads = (tt, words_lead count (words_of (choice_image zero address.0 distance)) (it.EndMark ∷ []) (tt, tt));
-    says = (says, tt);
-  }
-  small_choice (suc r) address node distance says = record {
-    few = omega arith;
-    words = omega arith;
-    marks = omega arith;
-    marked = tt;
-    leads = (tt, words_lead count (words_of (choice_image (suc r) address.0 distance)) (it.EndMark ∷ []) (tt, tt));
-    says = (says, tt);
-  }
+  small_choice zero address node distance says = search arith
+  small_choice (suc r) address node distance says = search arith
 
   pub small_couple : (address : Addr) (node word : ℕ) → SaysWord text address.0
       (it.Word word ∷ it.Word word ∷ it.EndMark ∷ []) → IsSmall text count 8 0 (couple_piece address node word [])
-  small_couple address node word says = record {
-    few = omega arith;
-    words = omega arith;
-    marks = omega arith;
-    marked = tt;
-    leads = (tt, (tt, (tt, (tt, tt))));
-    says = (says, tt);
-  }
+  small_couple address node word says = search arith
 
 -- ---- what stands behind a Mark
 
@@ -319,16 +163,11 @@ at_same text word other e = within_is (length text.words) word other (sym (word_
 -- a transfer may have anything in its place
 pub transfer_says : (text : Words) (word : ℕ) (items : List Item)
     → is_transfer (decode_of (slice_index text.words word)) ≡ true → SaysWord text (address_of text word) items
-transfer_says text word items t = record { says = λ other e f. none other e f }
-  where
-    none : (other : ℕ) → word_at text (address_of text word) ≡ Some other
-        → is_transfer (decode_of (slice_index text.words other)) ≡ false
-        → slice_get items 0 ≡ Some (it.Word (slice_index text.words other))
-    none other e f =
-        let same : word ≡ other = at_same text word other e in
-        let g : is_transfer (decode_of (slice_index text.words word)) ≡ false = ap
-        (λ n. is_transfer (decode_of (slice_index text.words n))) same ∙ f in
-        absurd (cc)
+transfer_says text word items t = record {
+  says = λ other e f.
+      let same = ap (λ n. is_transfer (decode_of (slice_index text.words n))) (at_same text word other e) in
+      absurd (false≢true (sym f ∙ sym same ∙ t));
+}
 
 pub word_says : (text : Words) (word : ℕ) (items : List Item)
     → SaysWord text (address_of text word) (it.Word (slice_index text.words word) ∷ items)
@@ -345,20 +184,11 @@ any_says text [] says n address node e word at plain = absurd (cc)
 any_says text (it.Mark a m ∷ items) says zero address node e word at plain =
     let same : a ≡ address = cc in
     says.0.says word (ap (λ (z : Addr). word_at text z.0) same ∙ at) plain
-any_says text (it.Word w ∷ items) says zero address node e word at plain = absurd (cc)
-any_says text (it.Jump to ∷ items) says zero address node e word at plain = absurd (cc)
-any_says text (it.Branch c to ∷ items) says zero address node e word at plain = absurd (cc)
-any_says text (it.EndMark ∷ items) says zero address node e word at plain = absurd (cc)
-any_says text (it.Mark a m ∷ items) says
-    (suc n) address node e word at plain = any_says text items says.1 n address node e word at plain
-any_says text (it.Word w ∷ items) says
-    (suc n) address node e word at plain = any_says text items says n address node e word at plain
-any_says text (it.Jump to ∷ items) says
-    (suc n) address node e word at plain = any_says text items says n address node e word at plain
-any_says text (it.Branch c to ∷ items) says
-    (suc n) address node e word at plain = any_says text items says n address node e word at plain
-any_says text (it.EndMark ∷ items) says
-    (suc n) address node e word at plain = any_says text items says n address node e word at plain
+any_says text (x ∷ items) says zero address node e word at plain = absurd (cc)
+any_says text (it.Mark a m ∷ items) says (suc n) address node e word at plain =
+    any_says text items says.1 n address node e word at plain
+any_says text (x ∷ items) says (suc n) address node e word at plain =
+    any_says text items says n address node e word at plain
 
 pub any_leads : (count n : ℕ) (items : List Item) → ItemsLead count items → LeadsBelow count (slice_get items n)
 any_leads count n [] l = tt

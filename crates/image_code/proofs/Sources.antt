@@ -22,7 +22,7 @@ use Rattle.jump_slice.proofs.Opened.{opens_are}
 use Rattle.image_code.specs.Graphs.{IsGraphOf, opens_in}
 use Rattle.image_code.specs.Lookups.{StandsInText, IsSource}
 use Rattle.image_code.proofs.Numbers.{words_are}
-use Rattle.image_code.proofs.Pushed.{gets_in}
+use Rattle.image_code.proofs.Positions.{contains}
 
 slot_few : (t : Bool) → (if t then 1 else 0) ≤ 1
 slot_few true = omega arith
@@ -86,7 +86,7 @@ source_is text graph is_text is_graph h = record {
 pub open_stands : (text : Words) (graph : Graph) → IsSource text graph → (k : ℕ) (o : Open) → slice_get graph.opens k
     ≡ Some o
     → StandsInText text graph.blocks o
-open_stands text graph h k o e = h.stands o (gets_in graph.opens k o e)
+open_stands text graph h k o e = h.stands o (contains graph.opens k o e)
 
 -- one of a list that has them
 pub item_stands : (text : Words) (graph : Graph) → IsSource text graph → (opens : List Open) → opens ≡ graph.opens

@@ -184,7 +184,7 @@ module _ (g : Setting) (l : Pieces) (base : ℕ) (p : Placement) (place : ℕ �
               silent_then t (past t (length xs) m v) (length xs) rest.count w.path.steps w.silent rest.silent descriptor
               ∙ sym (w.quiet descriptor);
           followed = followed_alike g edges v (past t (length xs) m v) (hopped rest.other (entered_at g l p f
-              (node_after (graph_in g) node edges) (point_of v)) rest.memory) refl refl refl refl refl refl refl
+              (node_after (graph_in g) node edges) (point_of v)) rest.memory) refl
               (subst (λ (z : Memory). IsSameOutside (pages_of g.notes) z rest.memory) (sym w.memory)
               (same_stored g f h.frame base p t.memory rest.memory here.memory stores))
               (alike_hopped g edges (past t (length xs) m v) rest.other (entered_at g l p f

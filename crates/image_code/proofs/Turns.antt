@@ -2,9 +2,9 @@
 use Rattle.std.proofs.Common.{◌≡◌, ◌≢◌, ℕ, ◌+◌, ◌-◌, ◌*◌, ◌^◌, ◌<◌, ◌≤◌, ◌⊎◌, inl, inr, Bool, true, false, Option, Some, None, List, [], ◌∷◌, length, refl, ap, sym, ◌∙◌, subst, arith}
 use Rattle.std.specs.Prelude.{if◌then◌else◌, slice_get, slice_index}
 use Rattle.eel_base.specs.CodeText.{word_at}
+use Rattle.notes.specs.Format.{NoteRange}
 use Rattle.v8_decode.specs.declared.Instr.{Instr}
 use Rattle.v8_alu.specs.Conditions.{holds_of}
-use Rattle.v8_alu.specs.Numbers.{wrapped}
 use Rattle.v8_memory.specs.Regions.{Memory}
 use Rattle.v8_memory.specs.Spans.{IsSameOutside}
 use Rattle.v8_step.specs.declared.Slot.{Slot}
@@ -42,79 +42,75 @@ use Rattle.image_code.proofs.BranchMoves.{IsMoved, branch_moves}
 use Rattle.image_code.proofs.Memories.{images_stored, same_stored}
 use Rattle.image_code.proofs.Arrives.{first_kept, rest_marked}
 use Rattle.image_code.proofs.Dead.{IsAlike, alike_then}
-use Rattle.image_code.proofs.Cases.{LastDead, alike_hopped, alike_itself, can_run, followed_alike, gone_last, jump_then, arrive, quiet_of, bare_on, IsBare, IsFit, hopped_fit, Arrives, on_range, no_puts}
+use Rattle.image_code.proofs.Cases.{LastDead, alike_hopped, alike_itself, can_run, followed_alike, gone_last, jump_then, arrive, weaker_arrives, quiet_of, bare_on, IsBare, IsFit, hopped_fit, Arrives, on_range, no_puts}
 use Rattle.image_code.proofs.Cells.{updates_same}
 use Rattle.image_code.proofs.Sparing.{spill_first, transfers}
 
 module _ (g : Setting) (l : Pieces) (base : ℕ) (p : Placement) (place : ℕ → ℕ → ℕ) (f : Frame)
     (h : IsPlaced g l base p place f)
     (node : Node) (x : Point) (t : State) (here : Here g l base p f node x t) (c : IsTurn g l p f node x t) where
-  b_item : (n : ℕ) → item_at l.list (l.image node c.number) n ≡ slice_get
+  -- the piece of the branch
+  abbrev piece : ℕ
+  piece = l.image node c.number
+
+  b_item : (n : ℕ) → item_at l.list piece n ≡ slice_get
       (branch_piece c.address (number_in g node) c.cond c.taken c.untaken) n
   b_item n = ap (λ (v : Option (List Item)). item_in v n) c.items
 
-  b_size : size_of l.list (l.image node c.number) ≡ 4
+  b_size : size_of l.list piece ≡ 4
   b_size = ap (λ (v : Option (List Item)). items_in v) c.items
 
-  b_mark : place (l.image node c.number) 1 ≡ place (l.image node c.number) 0
-  b_mark = h.laid.items (l.image node c.number) 0 (it.Mark c.address (number_in g node)) (b_item 0)
+  b_mark : place piece 1 ≡ place piece 0
+  b_mark = h.laid.items piece 0 (it.Mark c.address (number_in g node)) (b_item 0)
 
-  b_closes : place (l.image node c.number) 3 ≡ place (l.image node c.number) 2
-  b_closes = h.laid.items (l.image node c.number) 2 it.EndMark (b_item 2)
+  b_closes : place piece 3 ≡ place piece 2
+  b_closes = h.laid.items piece 2 it.EndMark (b_item 2)
 
-  b_at : t.pc ≡ place (l.image node c.number) 1
+  b_at : t.pc ≡ place piece 1
   b_at =
       here.at ∙ ap (λ (o : Option ℕ). visited_by g l p f node x o x.slot) c.is_number
       ∙ ap (λ (s : Slot). visited_by g l p f node x (Some c.number) s) c.none
-      ∙ h.laid.starts (l.image node c.number) c.within ∙ sym b_mark
+      ∙ h.laid.starts piece c.within ∙ sym b_mark
 
   b_ready : CanRun base p.code t
   b_ready =
       let s = b_size in
-      let b = (h.laid.within (l.image node c.number) 1 c.within (omega arith)).ends in
+      let b = (h.laid.within piece 1 c.within (omega arith)).ends in
       let low = h.laid.low in
       let a = b_at in
       let n = here.npc in
-      can_run g l base p place f h t here.valid here.live
-      (let e : t.npc ≡ t.pc + 4 = n ∙ (let q : wrapped (t.pc + 4)
-      ≡ t.pc + 4 = omega arith in q) in e) here.slot here.memory
+      can_run g l base p place f h t here.valid here.live (omega arith) here.slot here.memory
 
-  hop : Goes t (if holds_of c.cond t.codes then slice_index p.at c.taken else place (l.image node c.number) 2)
-      (place (l.image node c.number) 2) 1 6 2
-  hop = branches_hop l.list base p place h.laid (l.image node c.number) 1 c.cond (record { 0 = c.taken })
-      (b_item 1) c.small t b_ready b_at
+  hop : Goes t (if holds_of c.cond t.codes then slice_index p.at c.taken else place piece 2) (place piece 2) 1 6 2
+  hop =
+      branches_hop l.list base p place h.laid piece 1 c.cond (record { 0 = c.taken }) (b_item 1) c.small t b_ready b_at
 
-  b_inside : (base ≤ t.pc) × (t.pc + 4 ≤ place (l.image node c.number) 2)
-      × (place (l.image node c.number) 2 ≤ base + 4 * length p.code)
-      × (place (l.image node c.number) 4 ≤ base + 4 * length p.code)
+  b_inside : (base ≤ t.pc) × (t.pc + 4 ≤ place piece 2) × (place piece 2 ≤ base + 4 * length p.code)
+      × (place piece 4 ≤ base + 4 * length p.code)
   b_inside =
       let s = b_size in
       let a = b_at in
       let some = hop.some in
       let ins = hop.inside in
-      let b = (h.laid.within (l.image node c.number) 1 c.within (omega arith)).begins in (
+      let b = (h.laid.within piece 1 c.within (omega arith)).begins in (
         omega arith,
         omega arith,
-        (h.laid.within (l.image node c.number) 2 c.within (omega arith)).ends,
-        (h.laid.within (l.image node c.number) 4 c.within (omega arith)).ends,
+        (h.laid.within piece 2 c.within (omega arith)).ends,
+        (h.laid.within piece 4 c.within (omega arith)).ends,
       )
 
-  b_range : (a : ℕ) → place (l.image node c.number) 1 ≤ a → a < place (l.image node c.number) 2 → range_in p.ranges a
-      ≡ Some (record {
-        lo = place (l.image node c.number) 1;
-        hi = place
-            (l.image node c.number) 2;
-        address = c.address.0;
-        node = number_in g node;
-      })
+  abbrev range : NoteRange
+  range = record { lo = place piece 1; hi = place piece 2; address = c.address.0; node = number_in g node }
+
+  b_range : (a : ℕ) → place piece 1 ≤ a → a < place piece 2 → range_in p.ranges a ≡ Some range
   b_range a low high =
-      h.laid.ranges (l.image node c.number) 1 a (it.Branch c.cond (record { 0 = c.taken })) (b_item 1) low high
-      ∙ ap (λ (v : Option (List Item)). range_of (place (l.image node c.number)) (open_in v 1)) c.items
+      h.laid.ranges piece 1 a (it.Branch c.cond (record { 0 = c.taken })) (b_item 1) low high
+      ∙ ap (λ (v : Option (List Item)). range_of (place piece) (open_in v 1)) c.items
 
   -- on the way: in the branch's place, or on Jumps after it
   IsOn : State → Type 0
   IsOn u =
-      ((t.pc < u.pc) × (u.pc < place (l.image node c.number) 2) × Stores IsFirstWord t.memory u.memory)
+      ((t.pc < u.pc) × (u.pc < place piece 2) × Stores IsFirstWord t.memory u.memory)
       ⊎ IsBare g l base p place f h u
 
   here_fit : IsFit g l base p place f h t
@@ -128,31 +124,24 @@ module _ (g : Setting) (l : Pieces) (base : ℕ) (p : Placement) (place : ℕ �
       let n2 = b_inside.2 in
       let z0 = z.0 in
       let z1 = z.1 in
-      on_range g l base p place f h t u (record {
-        lo = place (l.image node c.number) 1;
-        hi = place
-            (l.image node c.number) 2;
-        address = c.address.0;
-        node = number_in g node;
-      })
-      live (omega arith) z0 (omega arith) (b_range t.pc (omega arith) (omega arith)) (b_range u.pc (omega arith) z1)
-      (sym a)
+      on_range g l base p place f h t u range live (omega arith) z0 (omega arith)
+      (b_range t.pc (omega arith) (omega arith)) (b_range u.pc (omega arith) z1) (sym a)
       (first_kept g l base p place f h t u.memory here_fit z.2).1.1
   on_way u live (inr z) = bare_on g l base p place f h t u live z
 
   -- a short branch takes two words
-  b_short : HasShortForms l.list place → place (l.image node c.number) 2 ≤ t.pc + 4 * 2
+  b_short : HasShortForms l.list place → place piece 2 ≤ t.pc + 4 * 2
   b_short short =
-      let end = short (l.image node c.number) 1 (it.Branch c.cond (record { 0 = c.taken })) (b_item 1) in
+      let end = short piece 1 (it.Branch c.cond (record { 0 = c.taken })) (b_item 1) in
       let a = b_at in
       omega (arith, end, a)
 
-  record Comes (next : Option ℕ) (edges : List ℕ) (to most : ℕ) : Type 0 where
+  record Comes (next : Option ℕ) (edges : List ℕ) (to : ℕ) : Type 0 where
     pub count : ℕ
     pub other : State
     pub memory : Memory
     pub some : 0 < count
-    pub few : count ≤ most + 22 * operations_on g.snips edges
+    pub few : count ≤ 14 + 22 * operations_on g.snips edges
     pub path : Leads IsOn t (hopped other to memory) count
     pub silent : IsSilent t count
     pub stores : Stores (IsAmongWords f.own) t.memory memory
@@ -163,27 +152,24 @@ module _ (g : Setting) (l : Pieces) (base : ℕ) (p : Placement) (place : ℕ �
     pub brief : next ≢ None → HasShortForms l.list place → operations_on g.snips edges ≡ 0 → count ≤ 8
 
   -- the branch's words lead on
-  of_hop : (to : ℕ) → (j : Goes t to (place (l.image node c.number) 2) 1 6 2)
-      → Leads IsOn t (hopped t to j.memory) j.count
+  of_hop : (to : ℕ) → (j : Goes t to (place piece 2) 1 6 2) → Leads IsOn t (hopped t to j.memory) j.count
   unfolding IsOn
   of_hop to j =
       let ins = j.inside in
-      leads_weaker _ _ t _ j.count (λ u q. let b = q.past in let d = q.before in
-      inl (omega arith, omega arith, q.stores))
-      j.hops.path
+      leads_weaker _ _ t _ j.count
+      (λ u q. let b = q.past in let d = q.before in inl (omega arith, omega arith, q.stores)) j.hops.path
 
-  of_hop_fit : (to : ℕ) → to ≤ 2 ^ 31 → (j : Goes t to (place (l.image node c.number) 2) 1 6 2)
+  of_hop_fit : (to : ℕ) → to ≤ 2 ^ 31 → (j : Goes t to (place piece 2) 1 6 2)
       → IsFit g l base p place f h (hopped t to j.memory)
   of_hop_fit to low j =
       hopped_fit g l base p place f h t t to here_fit here.live low j.count j.memory j.hops.path.steps
       (first_kept g l base p place f h t j.memory here_fit j.hops.stores).0
 
   -- on from where the branch leads
-  then_on : (next : Option ℕ) (edges : List ℕ) (mid to most : ℕ) → most ≤ 8
-      → (j : Goes t mid (place (l.image node c.number) 2) 1 6 2)
-      → Arrives g l base p place f h next edges (hopped t mid j.memory) to most → Comes next edges to (6 + most)
+  then_on : (next : Option ℕ) (edges : List ℕ) (mid to : ℕ) (j : Goes t mid (place piece 2) 1 6 2)
+      → Arrives g l base p place f h next edges (hopped t mid j.memory) to 8 → Comes next edges to
   unfolding IsOn
-  then_on next edges mid to most bound k rest =
+  then_on next edges mid to k rest =
       let kept = first_kept g l base p place f h t k.memory here_fit k.hops.stores in
       let some = k.some in
       let few = k.few in
@@ -216,39 +202,34 @@ module _ (g : Setting) (l : Pieces) (base : ℕ) (p : Placement) (place : ℕ �
             let two = b_short short in
             let ins = k.inside in
             let brief = rest.brief there short in
-            omega (arith, two, ins, brief, none, bound);
+            omega (arith, two, ins, brief, none);
       }
 
-  takes : (edges : List ℕ) (next : Option ℕ) (to : ℕ)
-      → Goes t (slice_index p.at c.taken) (place (l.image node c.number) 2) 1 6 2
-      → LeadsTo l p (record { 0 = c.taken }) edges next to → Comes next edges to 10
-  takes edges next to j leads =
-      then_on next edges (slice_index p.at c.taken) to 4 (omega arith) j
+  -- whichever way it leads
+  comes : (edges : List ℕ) (next : Option ℕ) (to : ℕ) (taken : Bool)
+      → Goes t (if taken then slice_index p.at c.taken else place piece 2) (place piece 2) 1 6 2
+      → LeadsTo l p (record { 0 = if taken then c.taken else c.untaken }) edges next to → Comes next edges to
+  comes edges next to true j leads =
+      then_on next edges (slice_index p.at c.taken) to j
+      (weaker_arrives g l base p place f h edges _ to 4 8 (omega arith)
       (arrive g l base p place f h (record { 0 = c.taken }) edges (hopped t (slice_index p.at c.taken) j.memory) next to
-      (of_hop_fit (slice_index p.at c.taken) (h.laid.aligned c.taken).1 j) refl leads)
-
-  passes : (edges : List ℕ) (next : Option ℕ) (to : ℕ)
-      → Goes t (place (l.image node c.number) 2) (place (l.image node c.number) 2) 1 6 2
-      → LeadsTo l p (record { 0 = c.untaken }) edges next to → Comes next edges to 14
-  passes edges next to j leads =
+      (of_hop_fit (slice_index p.at c.taken) (h.laid.aligned c.taken).1 j) refl leads))
+  comes edges next to false j leads =
       let low = h.laid.low in
       let n2 = b_inside.2 in
-      then_on next edges (place (l.image node c.number) 2) to 8 (omega arith) j
-      (jump_then g l base p place f h (l.image node c.number) 3 (record { 0 = c.untaken })
-      (rest_marked l (l.image node c.number) c.address (number_in g node) (it.Branch c.cond (record { 0 = c.taken }))
-      (it.Jump (record { 0 = c.untaken }) ∷ []) (tt, tt) c.items) edges
-      (hopped t (place (l.image node c.number) 2) j.memory) next to
-      (of_hop_fit (place (l.image node c.number) 2) (omega arith) j) (sym b_closes) leads)
+      then_on next edges (place piece 2) to j
+      (jump_then g l base p place f h piece 3 (record { 0 = c.untaken })
+      (rest_marked l piece c.address (number_in g node) (it.Branch c.cond (record { 0 = c.taken }))
+      (it.Jump (record { 0 = c.untaken }) ∷ []) (tt, tt) c.items) edges (hopped t (place piece 2) j.memory) next to
+      (of_hop_fit (place piece 2) (omega arith) j) (sym b_closes) leads)
 
-  turned : (edges : List ℕ) → LastDead g edges → (to most : ℕ) (v : State) → IsMoved (at_point x t) v
-      → Comes (word_at g.text v.pc) edges to most → most ≤ 61
-      → to ≡ entered_at g l p f (node_after (graph_in g) node edges) (point_of v)
+  turned : (edges : List ℕ) → LastDead g edges → (to : ℕ) (v : State) → IsMoved (at_point x t) v
+      → Comes (word_at g.text v.pc) edges to → to ≡ entered_at g l p f (node_after (graph_in g) node edges) (point_of v)
       → (v.slot ≡ Taken → same_kind (way_of (instr_at g.text (v.pc - 4)) v.slot) kinds.Out ≡ true → ⊥)
       → Enters g (Entered g l base p f) (HasShortForms l.list place) edges node x t v
-  turned edges last to most v m j bound is never =
+  turned edges last to v m j is never =
       let few = j.few in
       let stores = j.stores in
-      let w : State = moved m.pc m.npc m.slot t in
       let same : v ≡ moved m.pc m.npc m.slot t = m.is in
       let lives : j.other.ending ≡ None = j.alike.ending ∙ here.live in
       record {
@@ -258,7 +239,7 @@ module _ (g : Setting) (l : Pieces) (base : ℕ) (p : Placement) (place : ℕ �
           path = record {
             steps = j.path.steps;
             some = j.some;
-            few = omega (arith, few, bound);
+            few = omega (arith, few);
             quiet = quiet_of g l base p place f h t _ j.count IsOn j.path lives on_way;
           };
           puts = λ descriptor. j.silent descriptor
@@ -266,9 +247,7 @@ module _ (g : Setting) (l : Pieces) (base : ℕ) (p : Placement) (place : ℕ �
               ∙ ap (λ (q : Instr). puts_by (at_point x t) q descriptor) c.says
               ∙ no_puts (at_point x t) c.cond c.annul c.disp descriptor);
           followed = followed_alike g edges v t (hopped j.other to j.memory)
-              (ap (λ (z : State). z.ending) same) (ap (λ (z : State). z.window) same) (ap (λ (z : State). z.valid) same)
-              (ap (λ (z : State). z.registers) same) (ap (λ (z : State). z.codes) same) (ap (λ (z : State). z.y) same)
-              (ap (λ (z : State). z.input) same)
+              (ap (λ (z : State). hopped z 0 j.memory) same)
               (subst (λ (z : Memory). IsSameOutside (pages_of g.notes) z j.memory)
               (sym (ap (λ (z : State). z.memory) same))
               (same_stored g f h.frame base p t.memory j.memory here.memory stores))
@@ -299,34 +278,14 @@ module _ (g : Setting) (l : Pieces) (base : ℕ) (p : Placement) (place : ℕ �
             absurd (cc);
       }
 
-  b_step : (flag : Bool) → holds_of c.cond t.codes ≡ flag
-      → Enters g (Entered g l base p f) (HasShortForms l.list place) (gone_at g node x (does_at g x t)) node x t
+  b_step : Enters g (Entered g l base p f) (HasShortForms l.list place) (gone_at g node x (does_at g x t)) node x t
       (does_at g x t)
-  b_step true e =
-      let to = entered_at g l p f (node_after (graph_in g) node (gone_at g node x (does_at g x t)))
-      (point_of (does_at g x t)) in
-      let way = subst (λ (b : Bool). Goes t (if b then slice_index p.at c.taken else place (l.image node c.number) 2)
-      (place (l.image node c.number) 2) 1 6 2) e hop in
-      turned (gone_at g node x (does_at g x t)) (gone_last g l f h.cells node x (does_at g x t)) to 10 (does_at g x t)
+  b_step =
+      let edges = gone_at g node x (does_at g x t) in
+      let to = entered_at g l p f (node_after (graph_in g) node edges) (point_of (does_at g x t)) in
+      turned edges (gone_last g l f h.cells node x (does_at g x t)) to (does_at g x t)
       (branch_moves g x t c.none c.word c.is_word c.cond c.annul c.disp c.says)
-      (takes (gone_at g node x (does_at g x t)) (word_ahead g x t) to way (subst (λ (b : Bool).
-      LeadsTo l p (record { 0 = if b then c.taken else c.untaken }) (gone_at g node x (does_at g x t))
-      (word_ahead g x t) to) e
-      c.leads))
-      (omega arith) refl c.never
-  b_step false e =
-      let to = entered_at g l p f (node_after (graph_in g) node (gone_at g node x (does_at g x t)))
-      (point_of (does_at g x t)) in
-      let way = subst (λ (b : Bool). Goes t (if b then slice_index p.at c.taken else place (l.image node c.number) 2)
-      (place (l.image node c.number) 2) 1 6 2) e hop in
-      turned (gone_at g node x (does_at g x t)) (gone_last g l f h.cells node x (does_at g x t)) to 14 (does_at g x t)
-      (branch_moves g x t c.none c.word c.is_word c.cond c.annul c.disp c.says)
-      (passes (gone_at g node x (does_at g x t)) (word_ahead g x t) to way (subst (λ (b : Bool).
-      LeadsTo l p (record { 0 = if b then c.taken else c.untaken }) (gone_at g node x (does_at g x t))
-      (word_ahead g x t) to) e
-      c.leads))
-      (omega arith) refl c.never
+      (comes edges (word_ahead g x t) to (holds_of c.cond t.codes) hop c.leads) refl c.never
 
 pub turns_step : TurnsStep
 turns_step g l base p place f node x t h here c = b_step g l base p place f h node x t here c
-    (holds_of c.cond t.codes) refl

@@ -10,7 +10,7 @@ use Rattle.v8_decode.specs.declared.Instr.{Instr}
 use Rattle.v8_decode.specs.Words.{decode_of}
 use Rattle.v8_step.specs.declared.Ending.{Ending}
 use Rattle.v8_step.specs.declared.Slot.{Slot}
-use Rattle.v8_step.specs.declared.Slot.TheVariants.{NoSlot, Taken, Untaken}
+use Rattle.v8_step.specs.declared.Slot.TheVariants.{NoSlot}
 use Rattle.v8_step.specs.State.{State}
 use Rattle.cfg_blocks.specs.declared.EdgeKind.{EdgeKind}
 use Rattle.cfg_blocks.specs.declared.EdgeKind.TheVariants as kinds
@@ -18,7 +18,7 @@ use Rattle.cfg_blocks.specs.Blocks.{Blocks, blocks_of}
 use Rattle.cfg_blocks.proofs.Targets.{word_at-some}
 use Rattle.cfg_normal.specs.declared.Edge.{Edge}
 use Rattle.cfg_normal.specs.declared.Node.{Node}
-use Rattle.cfg_normal.specs.declared.Node.TheVariants.{Block, Landed, X}
+use Rattle.cfg_normal.specs.declared.Node.TheVariants.{Block}
 use Rattle.cfg_normal.specs.declared.Slot.{Slot as Carried}
 use Rattle.cfg_normal.specs.declared.Slot.TheVariants as carried
 use Rattle.cfg_normal.specs.Nodes.{home_of}
@@ -28,6 +28,7 @@ use Rattle.cfg_walk.specs.Walk.{Point, WayOut, by_kind, completed, edge_along, g
 use Rattle.cfg_walk.specs.Matches.{IsCarried, IsOnItsWay, IsTarget, MatchesBy}
 use Rattle.cfg_walk.proofs.Addresses.{word_at-address}
 use Rattle.cfg_walk.proofs.Edges.{block}
+use Rattle.cfg_walk.proofs.Ways.{same_kinds}
 use Rattle.addr_translate.specs.Lookup.{IsTable}
 use Rattle.layout.specs.Laid.{Placement}
 use Rattle.image_code.specs.Simulates.{Setting, gone_at, graph_in, word_of}
@@ -38,7 +39,7 @@ use Rattle.image_code.specs.Numbered.{along_case, along_number, case_piece, ente
 use Rattle.image_code.proofs.CaseTables.{IsKnown}
 use Rattle.image_code.proofs.EdgePieces.{IsAlong, along, by_case, cut_in, items_along, items_case, slot_in}
 use Rattle.image_code.proofs.Positions.{placed}
-use Rattle.image_code.proofs.Branches.{IsTransfersWay, same_is, way_is_own, within_is}
+use Rattle.image_code.proofs.Branches.{IsTransfersWay, way_is_own, within_is}
 use Rattle.image_code.proofs.ImageNumbers.{HasImage, jump_numbered, open_is}
 use Rattle.image_code.proofs.ImagePieces.{image_at, stands_at}
 
@@ -109,8 +110,7 @@ module _ (g : Setting) where
     where
       still : (s : Slot) → s ≢ NoSlot → completed g.text (graph_in g) node x (point_of v) NoSlot s ≡ []
       still NoSlot n = absurd (n refl)
-      still Taken n = refl
-      still Untaken n = refl
+      still _ n = refl
 
   -- a step from one word to another, outside slots, completes the edge that it leaves along
   pub left_gone : (node : Node) (x : Point) (v : State) → x.slot ≡ NoSlot → v.slot ≡ NoSlot → v.ending ≡ None
@@ -134,8 +134,7 @@ module _ (g : Setting) where
       by : (s : Slot) → s ≢ NoSlot → completed g.text (graph_in g) node x (point_of v) s NoSlot
           ≡ slot_left g.text (graph_in g) node (way_of (instr_at g.text (x.pc - 4)) s) v.pc
       by NoSlot n = absurd (n refl)
-      by Taken n = refl
-      by Untaken n = refl
+      by _ n = refl
 
 module _ (g : Setting) (codes : ℕ → List ℕ) (is : IsKnown g) (p : Placement) (f : Frame) where
   abbrev b : Blocks
@@ -168,8 +167,7 @@ module _ (g : Setting) (codes : ℕ → List ℕ) (is : IsKnown g) (p : Placemen
         by : (s : Slot) → s ≢ NoSlot → place_by image g l p f node x (Some word) s ≡ slice_index p.at
             (slot_piece g l node x)
         by NoSlot n = absurd (n refl)
-        by Taken n = refl
-        by Untaken n = refl
+        by _ n = refl
 
     placed_off : (node : Node) (x : Point) → word_at g.text x.pc ≡ None → x.slot ≢ NoSlot
         → placed_at node x ≡ f.table.base
@@ -177,8 +175,7 @@ module _ (g : Setting) (codes : ℕ → List ℕ) (is : IsKnown g) (p : Placemen
       where
         by : (s : Slot) → s ≢ NoSlot → place_by image g l p f node x None s ≡ f.table.base
         by NoSlot n = absurd (n refl)
-        by Taken n = refl
-        by Untaken n = refl
+        by _ n = refl
 
   pub visited_word : (node : Node) (x : Point) (word : ℕ) → word_at g.text x.pc ≡ Some word → x.slot ≡ NoSlot
       → visited_at g l p f node x ≡ slice_index p.at (image_number g.text (graph_in g) node word)
@@ -214,11 +211,7 @@ module _ (g : Setting) (codes : ℕ → List ℕ) (is : IsKnown g) (p : Placemen
       by : (o : Option ℕ) → word_at g.text x.pc ≡ o → (s : Slot) → x.slot ≡ s
           → place_by l.enter g l p f node x o s ≡ place_by l.image g l p f node x o s
       by (Some word) e NoSlot n = ap (slice_index p.at) (same word e n)
-      by None e NoSlot n = refl
-      by (Some word) e Taken n = refl
-      by None e Taken n = refl
-      by (Some word) e Untaken n = refl
-      by None e Untaken n = refl
+      by _ e _ n = refl
 
   -- ---- the image of a word
 
@@ -251,9 +244,7 @@ module _ (g : Setting) (codes : ℕ → List ℕ) (is : IsKnown g) (p : Placemen
   pub on_its_way : (node : Node) (x : Point) (s : Slot) → x.slot ≡ s → s ≢ NoSlot
       → MatchesBy g.text (graph_in g) node x s → IsOnItsWay g.text (graph_in g) node x (way_in x)
   on_its_way node x NoSlot e n m = absurd (n refl)
-  on_its_way node x Taken e n m =
-      subst (λ (s : Slot). IsOnItsWay g.text (graph_in g) node x (way_of (instr_at g.text (x.pc - 4)) s)) (sym e) m
-  on_its_way node x Untaken e n m =
+  on_its_way node x _ e n m =
       subst (λ (s : Slot). IsOnItsWay g.text (graph_in g) node x (way_of (instr_at g.text (x.pc - 4)) s)) (sym e) m
 
   word_at_same : (word other : ℕ) → word_at g.text (address_of g.text word) ≡ Some other → word ≡ other
@@ -265,12 +256,7 @@ module _ (g : Setting) (codes : ℕ → List ℕ) (is : IsKnown g) (p : Placemen
   way_to_plain node kinds.Out next h =
       ap (λ (t : Bool). if t then by_case (lands (graph_in g) (word_at g.text next))
       else by_kind kinds.Out) (h refl)
-  way_to_plain node kinds.Fall next h = refl
-  way_to_plain node kinds.Taken next h = refl
-  way_to_plain node kinds.Untaken next h = refl
-  way_to_plain node kinds.Call next h = refl
-  way_to_plain node kinds.Land next h = refl
-  way_to_plain node kinds.Case next h = refl
+  way_to_plain node _ next h = refl
 
   module _ (node : Node) (x : Point) (way : IsOnItsWay g.text (graph_in g) node x (way_in x)) where
     pub edge_is : IsAlong g is f.table.base f.cases.base node (way_now node x) way.number way.edge
@@ -355,7 +341,7 @@ module _ (g : Setting) (codes : ℕ → List ℕ) (is : IsKnown g) (p : Placemen
     module _ (out : same_kind (way_in x) kinds.Out ≡ true) (cased : has_cases g.switches node ≡ true) where
       pub case_way : way_now node x ≡ by_case (lands (graph_in g) (word_at g.text x.npc))
       case_way =
-          ap (λ (k : EdgeKind). way_to g.text (graph_in g) node k x.npc) (same_is (way_in x) kinds.Out out)
+          ap (λ (k : EdgeKind). way_to g.text (graph_in g) node k x.npc) (same_kinds (way_in x) kinds.Out out)
           ∙ ap (λ (t : Bool). if t then by_case (lands (graph_in g) (word_at g.text x.npc))
           else by_kind kinds.Out) cased
 
@@ -394,8 +380,7 @@ module _ (g : Setting) (codes : ℕ → List ℕ) (is : IsKnown g) (p : Placemen
                 at = ap (λ (o : Open). slice_get o.targets found.entry) (sym equal) ∙ found.at;
                 goes = to.1;
               }
-          by (Landed k) same to has = absurd to
-          by X same to has = absurd to
+          by _ same to has = absurd to
 
       pub case_piece_is : slot_piece g l node x ≡ case_piece g.text (graph_in g) target.k target.o target.word
       case_piece_is =

@@ -1,7 +1,7 @@
 use Rattle.std.proofs.Common.{arith}
 use Rattle.std.specs.Coded.{le_prop}
+use Rattle.std.proofs.lemmas.Option.{slice_get_within}
 use Rattle.image_code.proofs.Found.{found_stands}
-use Rattle.image_code.proofs.Pushed.{gets_within}
 use Rattle.image_code.proofs.maker.Maker.compare_piece.Goals as goal
 
 pub first-first-requires : goal.first-first-requires
@@ -11,5 +11,5 @@ first-first-requires c =
 
 pub begin-requires : goal.begin-requires
 begin-requires c = record {
-  number = omega (arith, gets_within c.args.self.now.graph.now.opens c.args.number c.args.found.now c.requires.found);
+  number = omega (arith, slice_get_within c.args.self.now.graph.now.opens c.args.number c.args.found.now c.requires.found);
 }

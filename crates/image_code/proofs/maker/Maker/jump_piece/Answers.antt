@@ -1,7 +1,7 @@
 use Rattle.std.proofs.Common.{arith}
 use Rattle.std.specs.Coded.{le_prop}
+use Rattle.std.proofs.lemmas.Option.{slice_get_within}
 use Rattle.image_code.proofs.Found.{found_stands}
-use Rattle.image_code.proofs.Pushed.{gets_within}
 use Rattle.image_code.proofs.maker.Maker.jump_piece.Goals as goal
 
 pub words-requires : goal.words-requires
@@ -16,10 +16,10 @@ first-first-requires c =
 
 pub load-requires : goal.load-requires
 load-requires c = record {
-  number = omega (arith, gets_within c.args.self.now.graph.now.opens c.args.number c.args.found.now c.requires.found);
+  number = omega (arith, slice_get_within c.args.self.now.graph.now.opens c.args.number c.args.found.now c.requires.found);
 }
 
 pub begin-requires : goal.begin-requires
 begin-requires c = record {
-  number = omega (arith, gets_within c.args.self.now.graph.now.opens c.args.number c.args.found.now c.requires.found);
+  number = omega (arith, slice_get_within c.args.self.now.graph.now.opens c.args.number c.args.found.now c.requires.found);
 }

@@ -2,6 +2,7 @@ use Rattle.std.proofs.Common.{◌≡◌, ℕ, ◌++◌, List, map, ap, sym, nat_
 use Rattle.std.specs.Prelude.{◌==◌}
 use Rattle.std.specs.List.{position}
 use Rattle.std.specs.Coded.{le_prop}
+use Rattle.std.proofs.lemmas.List.{take_all}
 use Rattle.indexmap.specs.IndexMap.{get}
 use Rattle.eel_base.specs.declared.numbers.PieceNo.{PieceNo}
 use Rattle.eel_base.specs.declared.numbers.WordNo.{WordNo}
@@ -9,7 +10,6 @@ use Rattle.image_code.specs.Made.{cases_from}
 use Rattle.image_code.specs.Numbered.{case_piece}
 use Rattle.image_code.specs.Parts.{code_at}
 use Rattle.image_code.proofs.CasePieces.{case_pushed, entry_number, number_pushed}
-use Rattle.image_code.proofs.Pushed.{take_whole}
 use Rattle.image_code.proofs.Found.{found_stands}
 use Rattle.image_code.proofs.maker.Maker.push_entries.Goals as goal
 
@@ -45,7 +45,7 @@ returns-clause-list c =
     let cases = cases_from maker.text.now maker.graph.now maker.table.0 (code_at maker.codes.now) c.args.found.now 0 in
     c.loop-entry.invariant.list
     ∙ ap (λ (ws : List WordNo). c.args.list.now.items ++ cases (map (λ (w : WordNo). w.0) ws))
-    (take_whole c.targets-word-items.result.now c.loop-entry.entry (omega (arith, c.loop-entry-test.false)))
+    (take_all c.loop-entry.entry c.targets-word-items.result.now (omega (arith, c.loop-entry-test.false)))
     ∙ ap (λ (ws : List ℕ). c.args.list.now.items ++ cases ws) c.targets-word-items.ensures
 
 pub returns-clause-numbers : goal.returns-clause-numbers
@@ -55,6 +55,6 @@ returns-clause-numbers c =
     c.loop-entry.invariant.numbers
     ∙ ap (λ (ws : List WordNo). map (λ (n : PieceNo). n.0) c.args.numbers.now.items
     ++ map piece (map (λ (w : WordNo). w.0) ws))
-    (take_whole c.targets-word-items.result.now c.loop-entry.entry (omega (arith, c.loop-entry-test.false)))
+    (take_all c.loop-entry.entry c.targets-word-items.result.now (omega (arith, c.loop-entry-test.false)))
     ∙ ap (λ (ws : List ℕ). map (λ (n : PieceNo). n.0) c.args.numbers.now.items ++ map piece ws)
     c.targets-word-items.ensures
