@@ -3,7 +3,7 @@ use Rattle.std.proofs.Common.{◌≡◌, ℕ, zero, suc, ◌+◌, ◌-◌, ◌<�
 use Rattle.std.specs.Prelude.{◌==◌, if◌then◌else◌, slice_get, slice_index}
 use Rattle.std.specs.List.{filter, flat_map, sum_by}
 use Rattle.std.specs.Option.{option_map}
-use Rattle.std.proofs.lemmas.Bool.{cases_lt, eqb-true, eq-eqb, lt-ltb, le-ltb, false≢true}
+use Rattle.std.proofs.lemmas.Bool.{cases_lt, eqb-true, eq-eqb, lt-ltb, le-ltb, ne_eqb}
 use Rattle.std.proofs.lemmas.List.{length-map}
 use Rattle.std.proofs.lemmas.List.FromFn.{length-map-range_with_len}
 use Rattle.std.proofs.lemmas.Option.{slice_get-map, slice_get-get_or}
@@ -318,23 +318,20 @@ module _ (text : Words) (b : Blocks) (opens : List Open) (cased : AreCased text 
         (omega (arith, above, below, low))))
         ∙ ap (λ (n : ℕ). Some (image_of (block o.block) n)) here
 
+    early_is : (word : ℕ) → word < load → jump_image text graph k o word ≡ jump_begin text graph k o + (word - first) + 0
+    early_is word l =
+        ap (λ (t : Bool). jump_begin text graph k o + (word - first) + (if t then 0 else 1)) (lt-ltb _ _ l)
+
+    late_is : (word : ℕ) → load ≤ word → jump_image text graph k o word ≡ jump_begin text graph k o + (word - first) + 1
+    late_is word m =
+        ap (λ (t : Bool). jump_begin text graph k o + (word - first) + (if t then 0 else 1)) (le-ltb _ _ m)
+
     pub jump_at : (word : ℕ) → first ≤ word → word < block_end b.firsts b.words o.block
         → slice_get all (jump_image text graph k o word) ≡ Some (image_of (block o.block) word)
     jump_at word above below = elim (cases_lt word load) [
-      | inl l ↦
-          ap (λ (t : Bool). slice_get all (jump_begin text graph k o + (word - first) + (if t then 0 else 1)))
-          (lt-ltb _ _ l)
-          ∙ early word above l
-      | inr m ↦
-          ap (λ (t : Bool). slice_get all (jump_begin text graph k o + (word - first) + (if t then 0 else 1)))
-          (le-ltb _ _ m)
-          ∙ late word m below
+      | inl l ↦ ap (slice_get all) (early_is word l) ∙ early word above l
+      | inr m ↦ ap (slice_get all) (late_is word m) ∙ late word m below
     ]
-
-    load_image : jump_image text graph k o load ≡ jump_begin text graph k o + (load - first) + 1
-    load_image =
-        let still : load ≤ load = omega arith in
-        ap (λ (t : Bool). jump_begin text graph k o + (load - first) + (if t then 0 else 1)) (le-ltb load load still)
 
     -- before the load its address is kept
     pub enter_load : suc (jump_enter text graph k o load) ≡ jump_image text graph k o load
@@ -342,12 +339,12 @@ module _ (text : Words) (b : Blocks) (opens : List Open) (cased : AreCased text 
         let at : jump_enter text graph k o load ≡ jump_image text graph k o load - 1 =
         ap (λ (t : Bool). if t then jump_image text graph k o load - 1 else jump_image text graph k o load)
         (eq-eqb load load refl) in
-        omega (arith, at, load_image)
+        omega (arith, at, late_is load (omega arith))
 
     pub keep_at : slice_get all (jump_enter text graph k o load) ≡ Some (kept o)
     keep_at =
         let at = enter_load in
-        let image = load_image in
+        let image = late_is load (omega arith) in
         let there : jump_enter text graph k o load ≡ open_begin text graph k + (size + (load - first) + 0) =
         omega (arith, at, image) in
         ap (slice_get all) there
@@ -355,60 +352,28 @@ module _ (text : Words) (b : Blocks) (opens : List Open) (cased : AreCased text 
         (get_behind (compared o ++ before_load o) (kept o ∷ from_load o) (size + (load - first)) 0 _
         (before_count o) refl)
 
+    pub enter_other : (word : ℕ) → (word ≡ load → ⊥) → jump_enter text graph k o word ≡ jump_image text graph k o word
+    enter_other word not =
+        ap (λ (t : Bool). if t then jump_image text graph k o word - 1 else jump_image text graph k o word)
+        (ne_eqb word load not)
+
     -- within the block the pieces follow each other
     pub enter_next : (word : ℕ) → first ≤ word → jump_enter text graph k o (suc word)
         ≡ suc (jump_image text graph k o word)
-    enter_next word above = elim (cases_lt word load) [
+    enter_next word above = elim (cases_lt (suc word) load) [
       | inl l ↦
-          let now : jump_image text graph k o word ≡ jump_begin text graph k o + (word - first) =
-          ap (λ (t : Bool). jump_begin text graph k o + (word - first) + (if t then 0 else 1)) (lt-ltb _ _ l)
-          ∙ omega arith in
-          before_it l now
-      | inr m ↦
-          let now : jump_image text graph k o word ≡ jump_begin text graph k o + (word - first) + 1 =
-          ap (λ (t : Bool). jump_begin text graph k o + (word - first) + (if t then 0 else 1)) (le-ltb _ _ m) in
-          let past : load ≤ suc word = omega (arith, m) in
-          let after : jump_image text graph k o (suc word) ≡ jump_begin text graph k o + (suc word - first) + 1 =
-          ap (λ (t : Bool). jump_begin text graph k o + (suc word - first) + (if t then 0 else 1)) (le-ltb _ _ past) in
-          other (omega (arith, m)) ∙ after ∙ omega (arith, now, above)
+          enter_other (suc word) (omega (arith, l)) ∙ early_is (suc word) l
+          ∙ omega (arith, early_is word (omega (arith, l)), above)
+      | inr m ↦ elim (cases_lt word load) [
+        | inl l ↦
+            let same : suc word ≡ load = omega (arith, l, m) in
+            let at = enter_load in
+            let image = late_is load (omega arith) in
+            ap (jump_enter text graph k o) same ∙ omega (arith, at, image, early_is word l, same, above)
+        | inr n ↦
+            enter_other (suc word) (omega (arith, n)) ∙ late_is (suc word) m ∙ omega (arith, late_is word n, above)
+      ]
     ]
-      where
-        other : (suc word ≡ load → ⊥) → jump_enter text graph k o (suc word) ≡ jump_image text graph k o (suc word)
-        other not = by (suc word == load) refl
-          where
-            by : (t : Bool) → (suc word == load) ≡ t
-                → jump_enter text graph k o (suc word) ≡ jump_image text graph k o (suc word)
-            by true e = absurd (not (eqb-true (suc word) load e))
-            by false e =
-                ap (λ (t : Bool). if t then jump_image text graph k o (suc word) - 1 else jump_image text graph k o
-                (suc word)) e
-
-        before_it : word < load → jump_image text graph k o word ≡ jump_begin text graph k o + (word - first)
-            → jump_enter text graph k o (suc word) ≡ suc (jump_image text graph k o word)
-        before_it l now = by (suc word == load) refl
-          where
-            by : (t : Bool) → (suc word == load) ≡ t
-                → jump_enter text graph k o (suc word) ≡ suc (jump_image text graph k o word)
-            by true e =
-                let same : suc word ≡ load = eqb-true (suc word) load e in
-                let at = enter_load in
-                let image = load_image in
-                ap (jump_enter text graph k o) same ∙ omega (arith, at, image, now, same, above)
-            by false e =
-                let not : suc word ≡ load → ⊥ = λ same. absurd (false≢true (sym e ∙ eq-eqb (suc word) load same)) in
-                let more : suc word < load = omega (arith, l, not) in
-                let after : jump_image text graph k o (suc word) ≡ jump_begin text graph k o + (suc word - first) + 0 =
-                ap (λ (t : Bool). jump_begin text graph k o + (suc word - first) + (if t then 0 else 1))
-                (lt-ltb _ _ more) in
-                other not ∙ after ∙ omega (arith, now, above)
-
-    pub enter_other : (word : ℕ) → (word ≡ load → ⊥) → jump_enter text graph k o word ≡ jump_image text graph k o word
-    enter_other word not = by (word == load) refl
-      where
-        by : (t : Bool) → (word == load) ≡ t → jump_enter text graph k o word ≡ jump_image text graph k o word
-        by true e = absurd (not (eqb-true word load e))
-        by false e =
-            ap (λ (t : Bool). if t then jump_image text graph k o word - 1 else jump_image text graph k o word) e
 
     -- the entries of its table
     pub case_entry_at : (entry word : ℕ) → slice_get o.targets entry ≡ Some word
