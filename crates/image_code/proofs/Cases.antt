@@ -352,16 +352,8 @@ plains_visit g l base p place f node x t h here c =
 pub judged_moved : (notes : Notes) (x : Point) (t : State) (instr : Instr)
     → AllApart (pages_of notes) (judged_by (at_point x t) instr)
     → AllApart (pages_of notes) (judged_by t instr)
-judged_moved notes x t instr apart = judged_alike notes instr (at_point x t) t (record {
-  registers = refl;
-  codes = refl;
-  y = refl;
-  window = refl;
-  valid = refl;
-  input = refl;
-  ending = refl;
-  memory = outside_refl (pages_of notes) t.memory;
-}) apart
+judged_moved notes x t instr apart =
+    judged_alike notes instr (at_point x t) t (assumption (outside_refl (pages_of notes) t.memory)) apart
 
 -- The word ends the run as the original's does, or control goes on from item 3 of its piece.
 pub marked_step : (next : Option ℕ) (g : Setting) (l : Pieces) (base : ℕ) (p : Placement) (place : ℕ → ℕ → ℕ)

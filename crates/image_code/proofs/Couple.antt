@@ -31,7 +31,7 @@ use Rattle.image_code.specs.Images.{Pieces, Frame, Here, IsPlaced, Entered}
 use Rattle.image_code.specs.Couple.{couple_piece, IsCouple, CouplesStep}
 use Rattle.image_code.proofs.Memories.{fetch_is}
 use Rattle.image_code.proofs.Sparing.{transfers}
-use Rattle.image_code.proofs.Cases.{ended_none, on_range, there_in, outside_refl, no_puts}
+use Rattle.image_code.proofs.Cases.{alike_itself, ended_none, followed_alike, on_range, there_in, outside_refl, no_puts}
 
 couple_acts : (s : State) (x : Instr) → is_transfer x ≡ true → s.slot ≢ NoSlot → act s x ≡ ended s Couple
 unfolding act
@@ -181,15 +181,8 @@ module _ (g : Setting) (l : Pieces) (base : ℕ) (p : Placement) (place : ℕ �
       puts = λ descriptor. silent descriptor
           ∙ sym (ap (λ (o : Option ℕ). puts_on_word (at_point x t) o descriptor) c.is_word
           ∙ quiet_transfer (at_point x t) (decode_of c.word) descriptor c.transfer);
-      followed = record {
-        ending = refl;
-        window = refl;
-        valid = refl;
-        registers = refl;
-        input = refl;
-        memory = outside_refl (pages_of g.notes) t.memory;
-        items = λ live thing _ _. absurd (cc);
-      };
+      followed = followed_alike g [] (ended (at_point x t) Couple) (ended mid Couple) (ended mid Couple) refl
+          (outside_refl (pages_of g.notes) t.memory) (alike_itself g [] (ended mid Couple));
       cells = refl;
       here = λ live. absurd (cc);
       place = λ _.

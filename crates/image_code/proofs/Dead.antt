@@ -91,14 +91,10 @@ pub record IsAlike (g : Setting) (edges : List ℕ) (a b : State) : Type 0 where
   pub items : (item : StateItem) → IsKept g edges a.window item → IsSameAt item a b
 
 pub alike_itself : (g : Setting) (edges : List ℕ) (a : State) → IsAlike g edges a a
-alike_itself g edges a = record {
-  ending = refl;
-  window = refl;
-  valid = refl;
-  input = refl;
-  registers = refl;
-  items = λ item _. same_at item a a refl refl refl;
-}
+alike_itself g edges a =
+    let items : (item : StateItem) → IsKept g edges a.window item → IsSameAt item a a =
+    λ item _. same_at item a a refl refl refl in
+    assumption
 
 -- the place and memory are none of its items
 pub same_hopped : (item : StateItem) (a b : State) (to : ℕ) (m : Memory) → IsSameAt item a b
@@ -119,14 +115,10 @@ same_then _ a b c to m e f = e ∙ f
 
 pub alike_hopped : (g : Setting) (edges : List ℕ) (a b : State) (to : ℕ) (m : Memory) → IsAlike g edges a b
     → IsAlike g edges a (hopped b to m)
-alike_hopped g edges a b to m one = record {
-  ending = one.ending;
-  window = one.window;
-  valid = one.valid;
-  input = one.input;
-  registers = one.registers;
-  items = λ item kept. same_hopped item a b to m (one.items item kept);
-}
+alike_hopped g edges a b to m one =
+    let items : (item : StateItem) → IsKept g edges a.window item → IsSameAt item a (hopped b to m) =
+    λ item kept. same_hopped item a b to m (one.items item kept) in
+    assumption
 
 -- what is alike to a state with the items of the original follows it
 pub followed_alike : (g : Setting) (edges : List ℕ) (v a after : State)

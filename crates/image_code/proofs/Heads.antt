@@ -11,7 +11,7 @@ use Rattle.v8_decode.specs.declared.Instr.TheVariants as i
 use Rattle.v8_decode.specs.declared.StoreKind.TheVariants as stores
 use Rattle.v8_decode.specs.Words.{decode_of}
 use Rattle.v8_step.specs.declared.Slot.{Slot}
-use Rattle.v8_step.specs.declared.Slot.TheVariants.{NoSlot, Taken, Untaken}
+use Rattle.v8_step.specs.declared.Slot.TheVariants.{NoSlot}
 use Rattle.v8_step.specs.Items.{is_transfer}
 use Rattle.cfg_blocks.specs.declared.EdgeKind.TheVariants as kinds
 use Rattle.cfg_blocks.specs.Blocks.{Blocks, blocks_of}
@@ -247,9 +247,6 @@ module _ (g : Setting) (codes : ℕ → List ℕ) (is : IsKnown g) (p : Placemen
           (decode_of (slice_index g.text.words word)) refl)
           (image_head g.text b g.switches (jumps_at g.text f.table.base) f.cases.base codes
           (record { 0 = address_of g.text word }) node word (decode_of (slice_index g.text.words word))))
-      by Taken some m0 o e =
-          let not : x.slot ≢ NoSlot = λ n. let q : Taken ≡ NoSlot = sym some ∙ n in absurd (cc) in
-          in_slot not (on_its_way g codes is p f node x Taken some (λ q. absurd (cc)) m0) o e
-      by Untaken some m0 o e =
-          let not : x.slot ≢ NoSlot = λ n. let q : Untaken ≡ NoSlot = sym some ∙ n in absurd (cc) in
-          in_slot not (on_its_way g codes is p f node x Untaken some (λ q. absurd (cc)) m0) o e
+      by s some m0 o e =
+          let not : x.slot ≢ NoSlot = λ n. let q : s ≡ NoSlot = sym some ∙ n in absurd (cc) in
+          in_slot not (on_its_way g codes is p f node x s some (λ q. absurd (cc)) m0) o e

@@ -1,6 +1,7 @@
 -- The number of a word's image at a node: in the order of the text, or among the pieces of an open switch.
 use Rattle.std.proofs.Common.{◌≡◌, ℕ, Bool, true, false, ◌||◌, Option, Some, List, refl, ap, sym, ◌∙◌}
 use Rattle.std.specs.Prelude.{◌==◌, if◌then◌else◌, slice_get}
+use Rattle.std.specs.List.{list_any, position}
 use Rattle.std.proofs.lemmas.Bool.{eqb-true, eq-eqb, false≢true}
 use Rattle.eel_base.specs.CodeText.{Words}
 use Rattle.cfg_blocks.specs.Blocks.{Blocks, end_of, holding_of}
@@ -72,18 +73,24 @@ module _ (text : Words) (b : Blocks) (opens : List Open) where
 
   -- ---- the nodes of a word's block
 
-  -- the first open switch whose jump ends the block
-  pub jump_numbered : (k : ℕ) → jumps_in opens k ≡ true
-      → (j : ℕ) × (o : Open) × (jump_number text graph o.block ≡ Some j) × (slice_get opens j ≡ Some o) × (o.block ≡ k)
-  jump_numbered k e =
-      let found = placed (λ (o : Open). o.block == k) opens e in
-      let same : found.item.block ≡ k = eqb-true found.item.block k found.passes in (
+  -- the first open switch with such a key
+  by_place : (key : Open → ℕ) (k : ℕ) → list_any (λ (o : Open). key o == k) opens ≡ true
+      → (j : ℕ) × (o : Open) × (position (λ (q : Open). key q == key o) opens ≡ Some j) × (slice_get opens j ≡ Some o)
+      × (key o ≡ k)
+  by_place key k e =
+      let found = placed (λ (o : Open). key o == k) opens e in
+      let same : key found.item ≡ k = eqb-true (key found.item) k found.passes in (
         found.number,
         found.item,
-        ap (jump_number text graph) same ∙ found.at,
+        ap (λ n. position (λ (q : Open). key q == n) opens) same ∙ found.at,
         found.is,
         same,
       )
+
+  -- the first one whose jump ends the block
+  pub jump_numbered : (k : ℕ) → jumps_in opens k ≡ true
+      → (j : ℕ) × (o : Open) × (jump_number text graph o.block ≡ Some j) × (slice_get opens j ≡ Some o) × (o.block ≡ k)
+  jump_numbered k e = by_place (λ (o : Open). o.block) k e
 
   pub jump_of : (j : ℕ) (o : Open) → slice_get opens j ≡ Some o → jumps_in opens o.block ≡ true
   jump_of j o is = any_at (λ (q : Open). q.block == o.block) opens j o is (eq-eqb o.block o.block refl)
@@ -91,15 +98,7 @@ module _ (text : Words) (b : Blocks) (opens : List Open) where
   compare_place : (k : ℕ) → compares_in opens k ≡ true
       → (j : ℕ) × (o : Open) × (compare_number text graph o.switch.compare.0 ≡ Some j) × (slice_get opens j ≡ Some o)
       × (o.switch.compare.0 ≡ k)
-  compare_place k e =
-      let found = placed (λ (o : Open). o.switch.compare.0 == k) opens e in
-      let same : found.item.switch.compare.0 ≡ k = eqb-true found.item.switch.compare.0 k found.passes in (
-        found.number,
-        found.item,
-        ap (compare_number text graph) same ∙ found.at,
-        found.is,
-        same,
-      )
+  compare_place k e = by_place (λ (o : Open). o.switch.compare.0) k e
 
   order_block : (k word : ℕ) → k ≡ holding_of b word → jumps_in opens k ≡ false → HasImage (block k) word
   order_block k word held e =

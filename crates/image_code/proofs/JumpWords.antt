@@ -23,24 +23,12 @@ record IsFree (number a b c : ℕ) : Type 0 where
   pub third : c ≢ number
 
 free_if : (number a b c : ℕ) → 0 < number → number < 5 → not (is_one_of number a b c) ≡ true → IsFree number a b c
-free_if number a b c some few e = record {
-  some = some;
-  few = few;
-  first = λ q. grind (q, e, arith, nat_tests);
-  second = λ q. grind (q, e, arith, nat_tests);
-  third = λ q. grind (q, e, arith, nat_tests);
-}
+free_if number a b c some few e = grind (e, arith, nat_tests)
 
 -- where 1 to 3 are all named, 4 isn't
 fourth : (a b c : ℕ) → not (is_one_of 1 a b c) ≡ false → not (is_one_of 2 a b c) ≡ false
     → not (is_one_of 3 a b c) ≡ false → IsFree 4 a b c
-fourth a b c one two three = record {
-  some = omega arith;
-  few = omega arith;
-  first = λ e. grind (e, one, two, three, arith, nat_tests);
-  second = λ e. grind (e, one, two, three, arith, nat_tests);
-  third = λ e. grind (e, one, two, three, arith, nat_tests);
-}
+fourth a b c one two three = grind (one, two, three, arith, nat_tests)
 
 first_is_free : (a b c : ℕ) → IsFree (first_free a b c) a b c
 first_is_free a b c =
@@ -62,26 +50,12 @@ record IsNext (number a b c d : ℕ) : Type 0 where
 
 next_if : (number a b c d : ℕ) → 0 < number → number < 6 → not (is_one_of_four number a b c d) ≡ true
     → IsNext number a b c d
-next_if number a b c d some few e = record {
-  some = some;
-  few = few;
-  first = λ q. grind (q, e, arith, nat_tests);
-  second = λ q. grind (q, e, arith, nat_tests);
-  third = λ q. grind (q, e, arith, nat_tests);
-  fourth = λ q. grind (q, e, arith, nat_tests);
-}
+next_if number a b c d some few e = grind (e, arith, nat_tests)
 
 -- where 1 to 4 are all named, 5 isn't
 fifth : (a b c d : ℕ) → not (is_one_of_four 1 a b c d) ≡ false → not (is_one_of_four 2 a b c d) ≡ false
     → not (is_one_of_four 3 a b c d) ≡ false → not (is_one_of_four 4 a b c d) ≡ false → IsNext 5 a b c d
-fifth a b c d one two three four = record {
-  some = omega arith;
-  few = omega arith;
-  first = λ e. grind (e, one, two, three, four, arith, nat_tests);
-  second = λ e. grind (e, one, two, three, four, arith, nat_tests);
-  third = λ e. grind (e, one, two, three, four, arith, nat_tests);
-  fourth = λ e. grind (e, one, two, three, four, arith, nat_tests);
-}
+fifth a b c d one two three four = grind (one, two, three, four, arith, nat_tests)
 
 next_is_free : (a b c d : ℕ) → IsNext (next_free a b c d) a b c d
 next_is_free a b c d =

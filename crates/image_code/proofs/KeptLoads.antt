@@ -6,11 +6,11 @@ use Rattle.std.proofs.lemmas.Bool.{eqb-true, eq-eqb, false≢true}
 use Rattle.std.proofs.lemmas.Option.{slice_get_within}
 use Rattle.eel_base.specs.CodeText.{word_at}
 use Rattle.v8_step.specs.declared.Slot.{Slot}
-use Rattle.v8_step.specs.declared.Slot.TheVariants.{NoSlot, Taken, Untaken}
+use Rattle.v8_step.specs.declared.Slot.TheVariants.{NoSlot}
 use Rattle.cfg_blocks.specs.Blocks.{Blocks, blocks_of}
 use Rattle.cfg_blocks.specs.Values.{instr_at}
 use Rattle.cfg_normal.specs.declared.Node.{Node}
-use Rattle.cfg_normal.specs.declared.Node.TheVariants.{Block, Landed, X}
+use Rattle.cfg_normal.specs.declared.Node.TheVariants.{Block}
 use Rattle.cfg_normal.specs.Opens.{Open, jumps_in}
 use Rattle.cfg_walk.specs.Walk.{Point}
 use Rattle.cfg_walk.proofs.Edges.{block}
@@ -160,12 +160,9 @@ module _ (g : Setting) (codes : ℕ → List ℕ) (is : IsKnown g) (p : Placemen
       at_word k o among numbered itself None at NoSlot none =
           other_word k o among numbered itself
           (λ other there _ _. let s : None ≡ Some other = sym at ∙ there in absurd (cc))
-      at_word k o among numbered itself w at Taken some =
+      at_word k o among numbered itself w at s some =
           other_word k o among numbered itself
-          (λ other _ outside _. let s : Taken ≡ NoSlot = sym some ∙ outside in absurd (cc))
-      at_word k o among numbered itself w at Untaken some =
-          other_word k o among numbered itself
-          (λ other _ outside _. let s : Untaken ≡ NoSlot = sym some ∙ outside in absurd (cc))
+          (λ other _ outside _. let q : s ≡ NoSlot = sym some ∙ outside in absurd (cc))
 
       in_block : (k : ℕ) → node ≡ block k → (t : Bool) → jumps_in g.switches k ≡ t
           → IsEntered g (l g codes is p f) p place f node x
@@ -176,13 +173,8 @@ module _ (g : Setting) (codes : ℕ → List ℕ) (is : IsKnown g) (p : Placemen
 
       by : (n : Node) → node ≡ n → IsEntered g (l g codes is p f) p place f node x
       by (Block k) here = in_block k.0 here (jumps_in g.switches k.0) refl
-      by (Landed k) here =
+      by n here =
           comes_itself
           (λ word _ _. ap (λ (n : Node). enter_number g.text (graph_in g) n word) here
           ∙ sym (ap (λ (n : Node). image_number g.text (graph_in g) n word) here))
-          (λ j table e a. let s : Landed k ≡ block table.block = sym here ∙ a.itself in absurd (cc))
-      by X here =
-          comes_itself
-          (λ word _ _. ap (λ (n : Node). enter_number g.text (graph_in g) n word) here
-          ∙ sym (ap (λ (n : Node). image_number g.text (graph_in g) n word) here))
-          (λ j table e a. let s : X ≡ block table.block = sym here ∙ a.itself in absurd (cc))
+          (λ j table e a. let s : n ≡ block table.block = sym here ∙ a.itself in absurd (cc))

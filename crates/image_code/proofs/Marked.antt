@@ -126,16 +126,11 @@ module _ (l : List (List Item)) (base : ℕ) (p : Placement) (place : ℕ → �
 -- The way to another piece stands behind them.
 pub record StandMarked (l : List (List Item)) (base : ℕ) (p : Placement) (place : ℕ → ℕ → ℕ)
     (k : ℕ) (address node : ℕ) (way : PieceNo) (count : ℕ) : Type 0 where
-  pub mark : place k 1 ≡ place k 0
+  pub words : StandWords l base p place k address node count
+  pub open words use {mark, begins, ends, low, range}
   pub behind : place k (suc (suc count)) ≡ place k 1 + 4 * count
   pub jump : item_at l k (suc (suc count)) ≡ Some (it.Jump way)
   pub shut : open_in (slice_get l k) (suc (suc count)) ≡ None
-  pub begins : base ≤ place k 1
-  pub ends : place k 1 + 4 * count ≤ base + 4 * length p.code
-  pub low : place k 1 + 4 * count ≤ 2 ^ 31
-  pub range : (a : ℕ) → place k 1 ≤ a → a < place k 1 + 4 * count
-      → range_in p.ranges a ≡ Some
-      (record { lo = place k 1; hi = place k (suc count); address = address; node = node })
 
 module _ (l : List (List Item)) (base : ℕ) (p : Placement) (place : ℕ → ℕ → ℕ) (laid : IsLaid l base p place)
     (k : ℕ) (within : k < length l) (xs : List Instr) (address : Addr) (node : ℕ) (way : PieceNo)
@@ -148,13 +143,9 @@ module _ (l : List (List Item)) (base : ℕ) (p : Placement) (place : ℕ → �
       let close : place k (suc (suc (length xs))) ≡ place k (suc (length xs)) =
       laid.items k (suc (length xs)) it.EndMark (item (suc (length xs)) ∙ end_behind xs it.EndMark rest) in
       record {
-        mark = words.mark;
+        words = words;
         behind = close ∙ words.behind;
         jump = item (suc (suc (length xs))) ∙ jump_behind xs it.EndMark (it.Jump way) [];
         shut = ap (λ (v : Option (List Item)). open_in v (suc (suc (length xs)))) is
             ∙ shut_behind xs (it.Jump way) 1 _;
-        begins = words.begins;
-        ends = words.ends;
-        low = words.low;
-        range = words.range;
       }

@@ -24,7 +24,7 @@ use Rattle.image_code.specs.Cases.{visits_it}
 use Rattle.image_code.specs.Outside.{IsForeign, IsOff, ForeignStep, OffsStep}
 use Rattle.image_code.proofs.Memories.{fetch_is}
 use Rattle.image_code.proofs.Sparing.{out_of_pages}
-use Rattle.image_code.proofs.Cases.{ended_none, outside_refl}
+use Rattle.image_code.proofs.Cases.{alike_itself, ended_none, followed_alike, outside_refl}
 
 -- ---- a step of no word
 
@@ -70,15 +70,9 @@ module _ (g : Setting) (l : Pieces) (base : ℕ) (p : Placement) (place : ℕ �
       };
       puts = λ descriptor. unfetched_puts t descriptor here.live fetched
           ∙ sym (ap (λ (o : Option ℕ). puts_on_word (at_point x t) o descriptor) no_word);
-      followed = record {
-        ending = refl;
-        window = refl;
-        valid = refl;
-        registers = refl;
-        input = refl;
-        memory = outside_refl (pages_of g.notes) t.memory;
-        items = λ live thing _ _. absurd (cc);
-      };
+      followed = followed_alike g [] (trapped (at_point x t) instruction_access_exception)
+          (trapped t instruction_access_exception) (trapped t instruction_access_exception) refl
+          (outside_refl (pages_of g.notes) t.memory) (alike_itself g [] (trapped t instruction_access_exception));
       cells = refl;
       here = λ live. absurd (cc);
       place = λ _. record { range = refl; page = refl };
