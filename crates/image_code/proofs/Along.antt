@@ -1,5 +1,5 @@
 -- Ways along edges, by their kinds and slots.
-use Rattle.std.proofs.Common.{◌≡◌, ℕ, suc, ◌+◌, ◌<◌, Bool, false, List, [], ◌∷◌, ◌++◌, append-nil, append_assoc, get_or, length, length-take, map, take, refl, ap, sym, ◌∙◌, subst, arith}
+use Rattle.std.proofs.Common.{◌≡◌, ℕ, suc, ◌+◌, ◌<◌, false, List, [], ◌∷◌, ◌++◌, append-nil, append_assoc, get_or, length, length-take, map, take, refl, ap, sym, ◌∙◌, arith}
 use Rattle.std.specs.Prelude.{if◌then◌else◌, Result}
 use Rattle.std.specs.Result.{IfOk}
 use Rattle.std.proofs.lemmas.List.{take_more}
@@ -21,8 +21,7 @@ use Rattle.layout.specs.declared.items.Item.TheVariants as it
 use Rattle.jump_code.specs.Pieces.{found_piece}
 use Rattle.image_code.specs.declared.parts.Next.{Next}
 use Rattle.image_code.specs.Cases.{plain_piece}
-use Rattle.image_code.specs.Couple.{couple_piece}
-use Rattle.image_code.specs.Made.{couple_word, goes_along, goes_on, jump_to, past_slot, slot_copy, snippet_items, way_along, way_by, ways_from}
+use Rattle.image_code.specs.Made.{goes_along, goes_on, jump_to, slot_copy, snippet_items, way_along, way_by, ways_from}
 use Rattle.image_code.specs.Parts.{items_of}
 
 no_out : (kind : EdgeKind) → (kind ≡ kinds.Out → ⊥) → same_kind kind kinds.Out ≡ false
@@ -52,15 +51,7 @@ module _ (text : Words) (graph : Graph) (table : ℕ) (edge : Edge) (made : Resu
       → edge.kind ≡ kinds.Out
       → IfOk made (λ p. p ≡ found_piece address node word (map it.Word code) 1)
       → IfOk made (λ p. p ≡ slot_copy text graph table codes address node word number edge to)
-  out_copy address node word straight kind is =
-      subst (λ (items : List Item). IfOk made (λ p. p ≡ items))
-      (ap (λ (items : List Item). found_piece address node word items 1) alone ∙ sym (
-      ap (λ (b : Bool). if b then couple_piece address node couple_word []
-      else past_slot text graph table codes address node word number edge to) straight
-      ∙ ap (λ (b : Bool). if b
-      then found_piece address node word (snippet_items codes (number ∷ [])) 1
-      else plain_piece address node word (goes_along text graph codes number edge to))
-      (ap (λ (k : EdgeKind). same_kind k kinds.Out) kind))) is
+  out_copy address node word straight kind is = rw (straight, kind) (rw alone at is)
 
   module _ (next : Next)
       (goes : items_of next ≡ goes_on text graph edge.to to (way_address text graph edge.from edge.kind)) where
@@ -72,22 +63,13 @@ module _ (text : Words) (graph : Graph) (table : ℕ) (edge : Edge) (made : Resu
     pub bare_way : edge.slot ≡ slots.Nothing
         → IfOk made (λ p. p ≡ map it.Word code ++ items_of next)
         → IfOk made (λ p. p ≡ way_by text graph table codes number edge to edge.slot)
-    bare_way slot is =
-        subst (λ (items : List Item). IfOk made (λ p. p ≡ items)) (along_is ∙ sym (
-        ap (way_by text graph table codes number edge to) slot)) is
+    bare_way slot is = rw slot (rw along_is at is)
 
     pub plain_copy : (address : Addr) (node word : ℕ) → is_transfer (decode_of word) ≡ false
         → (edge.kind ≡ kinds.Out → ⊥)
         → IfOk made (λ p. p ≡ plain_piece address node word (map it.Word code ++ items_of next))
         → IfOk made (λ p. p ≡ slot_copy text graph table codes address node word number edge to)
-    plain_copy address node word straight other is =
-        subst (λ (items : List Item). IfOk made (λ p. p ≡ items))
-        (ap (plain_piece address node word) along_is ∙ sym (
-        ap (λ (b : Bool). if b then couple_piece address node couple_word []
-        else past_slot text graph table codes address node word number edge to) straight
-        ∙ ap (λ (b : Bool). if b
-        then found_piece address node word (snippet_items codes (number ∷ [])) 1
-        else plain_piece address node word (goes_along text graph codes number edge to)) (no_out edge.kind other))) is
+    plain_copy address node word straight other is = rw (straight, no_out edge.kind other) (rw along_is at is)
 
 -- ---- ways by the numbers of their edges
 
@@ -111,10 +93,7 @@ pub ways_next : (text : Words) (graph : Graph) (table : ℕ) (codes : ℕ → Li
     ++ way_along text graph table codes n (get_or edges n d) ∷ []
 ways_next text graph table codes edges n d l =
     let count : 0 + length (take n edges) ≡ n = omega (arith, length-take n edges) in
-    ap (ways_from text graph table codes 0) (take_more edges n d l)
-    ∙ ways_more text graph table codes 0 (take n edges) (get_or edges n d)
-    ∙ ap (λ (k : ℕ). ways_from text graph table codes 0 (take n edges)
-    ++ way_along text graph table codes k (get_or edges n d) ∷ []) count
+    rw (take_more edges n d l, ways_more text graph table codes 0 (take n edges) (get_or edges n d), count)
 
 pub ways_pushed : (text : Words) (graph : Graph) (table : ℕ) (codes : ℕ → List ℕ) (edges : List Edge) (n : ℕ) (d : Edge)
     (before list new : List (List Item)) (piece : List Item) → n < length edges
@@ -122,9 +101,6 @@ pub ways_pushed : (text : Words) (graph : Graph) (table : ℕ) (codes : ℕ → 
     → list ≡ before ++ ways_from text graph table codes 0 (take n edges)
     → new ≡ before ++ ways_from text graph table codes 0 (take (n + 1) edges)
 ways_pushed text graph table codes edges n d before list new piece l pushed made held =
-    pushed
-    ∙ ap (λ (items : List Item). list ++ items ∷ []) made
-    ∙ ap (λ (pieces : List (List Item)). pieces ++ way_along text graph table codes n (get_or edges n d) ∷ []) held
-    ∙ append_assoc before (ways_from text graph table codes 0 (take n edges))
-    (way_along text graph table codes n (get_or edges n d) ∷ [])
-    ∙ ap (λ (ways : List (List Item)). before ++ ways) (sym (ways_next text graph table codes edges n d l))
+    rw (pushed, made, held, ways_next text graph table codes edges n d l)
+    (append_assoc before (ways_from text graph table codes 0 (take n edges))
+    (way_along text graph table codes n (get_or edges n d) ∷ []))

@@ -36,13 +36,15 @@ pub entries_more : (targets : List WordNo) (n : ℕ) (d : WordNo) (word entry : 
     → now ≡ option_or was (number_where ((slice_index_or targets n d).0 == word) entry)
     → now ≡ position (λ t. t == word) (map word_of (take (n + 1) targets))
 entries_more targets n d word entry was now l is held next =
-    next
-    ∙ ap (λ (m : ℕ). option_or was (number_where ((slice_index_or targets n d).0 == word) m)) is
-    ∙ ap (λ (o : Option ℕ). option_or o (number_where ((slice_index_or targets n d).0 == word) n)) held
-    ∙ ap (λ (m : ℕ). option_or (position (λ t. t == word) (map word_of (take n targets)))
-    (number_where ((slice_index_or targets n d).0 == word) m)) (sym (words_many targets n l))
-    ∙ sym (position_more (λ t. t == word) (map word_of (take n targets)) (slice_index_or targets n d).0)
-    ∙ ap (position (λ t. t == word)) (sym (words_more targets n d l))
+    let xs = map word_of (take n targets) in
+    rw (
+      next,
+      is,
+      held,
+      words_more targets n d l,
+      position_more (λ t. t == word) xs (slice_index_or targets n d).0,
+      words_many targets n l,
+    )
 
 -- the number of the piece of an entry that leads to a word
 pub entry_number : (text : Words) (graph : Graph) (k : ℕ) (o : Open) (items : List WordNo) (word place first number : ℕ)
@@ -76,18 +78,11 @@ module _ (text : Words) (graph : Graph) where
       → list ≡ before ++ cases_from text graph table codes o 0 (map word_of (take n targets))
       → new ≡ before ++ cases_from text graph table codes o 0 (map word_of (take (n + 1) targets))
   case_pushed table codes o targets n d before list new piece l pushed made held =
+      let words = map word_of (take n targets) in
       let word = (slice_index_or targets n d).0 in
-      let many : 0 + length (map word_of (take n targets)) ≡ n = omega (arith, words_many targets n l) in
-      pushed
-      ∙ ap (λ (items : List Item). list ++ items ∷ []) made
-      ∙ ap (λ (pieces : List (List Item)). pieces ++ case_at text graph table codes o n word ∷ []) held
-      ∙ append_assoc before (cases_from text graph table codes o 0 (map word_of (take n targets)))
-      (case_at text graph table codes o n word ∷ [])
-      ∙ ap (λ (m : ℕ). before ++ (cases_from text graph table codes o 0 (map word_of (take n targets))
-      ++ case_at text graph table codes o m word ∷ [])) (sym many)
-      ∙ ap (λ (pieces : List (List Item)). before ++ pieces)
-      (sym (cases_more table codes o 0 (map word_of (take n targets)) word))
-      ∙ ap (λ (words : List ℕ). before ++ cases_from text graph table codes o 0 words) (sym (words_more targets n d l))
+      let many : 0 + length words ≡ n = omega (arith, words_many targets n l) in
+      rw (pushed, made, held, words_more targets n d l, cases_more table codes o 0 words word, many)
+      (append_assoc before (cases_from text graph table codes o 0 words) (case_at text graph table codes o n word ∷ []))
 
   -- the number of an entry
   pub number_pushed : (k : ℕ) (o : Open) (targets : List WordNo) (n : ℕ) (d : WordNo) (before list new : List PieceNo)
@@ -96,15 +91,17 @@ module _ (text : Words) (graph : Graph) where
       → map piece_of list ≡ map piece_of before ++ map (case_piece text graph k o) (map word_of (take n targets))
       → map piece_of new ≡ map piece_of before ++ map (case_piece text graph k o) (map word_of (take (n + 1) targets))
   number_pushed k o targets n d before list new piece l pushed made held =
+      let words = map word_of (take n targets) in
       let word = (slice_index_or targets n d).0 in
       let number = case_piece text graph k o in
-      ap (map piece_of) pushed ∙ map-append piece_of list (piece ∷ [])
-      ∙ ap (λ (m : ℕ). map piece_of list ++ m ∷ []) made
-      ∙ ap (λ (ms : List ℕ). ms ++ number word ∷ []) held
-      ∙ append_assoc (map piece_of before) (map number (map word_of (take n targets))) (number word ∷ [])
-      ∙ ap (λ (ms : List ℕ). map piece_of before ++ ms)
-      (sym (map-append number (map word_of (take n targets)) (word ∷ [])))
-      ∙ ap (λ (ws : List ℕ). map piece_of before ++ map number ws) (sym (words_more targets n d l))
+      rw (
+        pushed,
+        map-append piece_of list (piece ∷ []),
+        made,
+        held,
+        words_more targets n d l,
+        map-append number words (word ∷ []),
+      ) (append_assoc (map piece_of before) (map number words) (number word ∷ []))
 
   cases_of_more : (k : ℕ) (opens : List Open) (o : Open)
       → cases_of text graph k (opens ++ o ∷ [])
@@ -130,8 +127,4 @@ module _ (text : Words) (graph : Graph) where
   numbers_pushed opens n d list new l pushed held =
       let o = slice_index_or opens n d in
       let many : 0 + length (take n opens) ≡ n = omega (arith, length-take n opens, l) in
-      pushed
-      ∙ ap (λ (ns : List ℕ). ns ++ map (case_piece text graph n o) o.targets) held
-      ∙ ap (λ (m : ℕ). cases_of text graph 0 (take n opens) ++ map (case_piece text graph m o) o.targets) (sym many)
-      ∙ sym (cases_of_more 0 (take n opens) o)
-      ∙ ap (cases_of text graph 0) (sym (take_more opens n d l))
+      rw (pushed, held, take_more opens n d l, cases_of_more 0 (take n opens) o, many)

@@ -1,5 +1,5 @@
 -- Where an item first stands in a list, and the tables that say so.
-use Rattle.std.proofs.Common.{◌≡◌, ℕ, suc, ◌+◌, ◌<◌, Bool, true, false, not, ◌==◌, cond, List, [], ◌∷◌, ◌++◌, Option, Some, None, length, length-take, take, nat_lt, refl, ap, sym, ◌∙◌, arith, inl, inr}
+use Rattle.std.proofs.Common.{◌≡◌, ℕ, suc, ◌+◌, ◌<◌, Bool, true, false, ◌==◌, cond, List, [], ◌∷◌, ◌++◌, Option, Some, None, length, length-take, take, refl, ap, sym, ◌∙◌, arith, inl, inr}
 use Rattle.std.specs.Prelude.{if◌then◌else◌, slice_index, slice_index_or}
 use Rattle.std.specs.List.{All, position, position_or_len}
 use Rattle.std.specs.Option.{option_map, option_or}
@@ -13,27 +13,14 @@ use Rattle.image_code.specs.Lookups.{AreFirst, first_mark, mark_of, number_where
 module _ {A : Type 0} (p : A → Bool) where
   at_head : (x : A) (xs : List A) (b : Bool) → p x ≡ b
       → position p (x ∷ xs) ≡ cond b (Some 0) (option_map suc (position p xs))
-  at_head x xs true e =
-      ap (λ (t : Bool). let m = cond (not t) (1 + position_or_len p xs) 0 in
-      cond (nat_lt m (suc (length xs))) (Some m) None) e
-      ∙ ap (λ (t : Bool). cond t (Some 0) None) (lt-ltb 0 (suc (length xs)) (omega arith))
+  at_head x xs true e = rw (e, lt-ltb 0 (suc (length xs)) (omega arith))
   at_head x xs false e =
-      ap (λ (t : Bool). let m = cond (not t) (1 + position_or_len p xs) 0 in
-      cond (nat_lt m (suc (length xs))) (Some m) None) e
-      ∙ elim (cases_lt (position_or_len p xs) (length xs)) [
-        | inl l ↦
-            let next : 1 + position_or_len p xs ≡ suc (position_or_len p xs) = omega arith in
-            ap (λ (t : Bool). cond t (Some (1 + position_or_len p xs)) None)
-            (lt-ltb (1 + position_or_len p xs) (suc (length xs)) (omega (arith, l)))
-            ∙ ap (λ (n : ℕ). Some n) next
-            ∙ sym (ap (λ (t : Bool). option_map suc (cond t (Some (position_or_len p xs)) None))
-            (lt-ltb (position_or_len p xs) (length xs) l))
-        | inr m ↦
-            ap (λ (t : Bool). cond t (Some (1 + position_or_len p xs)) None)
-            (le-ltb (1 + position_or_len p xs) (suc (length xs)) (omega (arith, m)))
-            ∙ sym (ap (λ (t : Bool). option_map suc (cond t (Some (position_or_len p xs)) None))
-            (le-ltb (position_or_len p xs) (length xs) m))
-      ]
+      let m = position_or_len p xs in
+      let next : 1 + m ≡ suc m = omega arith in
+      rw e (elim (cases_lt m (length xs)) [
+        | inl l ↦ rw (lt-ltb (1 + m) (suc (length xs)) (omega (arith, l)), lt-ltb m (length xs) l, next)
+        | inr m2 ↦ rw (le-ltb (1 + m) (suc (length xs)) (omega (arith, m2)), le-ltb m (length xs) m2)
+      ])
 
   pub position-cons : (x : A) (xs : List A)
       → position p (x ∷ xs) ≡ cond (p x) (Some 0) (option_map suc (position p xs))
@@ -92,11 +79,7 @@ pub positions_more : {A : Type 0} (p : A → Bool) (xs : List A) (n : ℕ) (d : 
     → now ≡ position p (take (n + 1) xs)
 positions_more p xs n d was now l held next =
     let many : length (take n xs) ≡ n = omega (arith, length-take n xs, l) in
-    next
-    ∙ ap (λ (o : Option ℕ). option_or o (number_where (p (slice_index_or xs n d)) n)) held
-    ∙ ap (λ (m : ℕ). option_or (position p (take n xs)) (number_where (p (slice_index_or xs n d)) m)) (sym many)
-    ∙ sym (position_more p (take n xs) (slice_index_or xs n d))
-    ∙ ap (position p) (sym (take_more xs n d l))
+    rw (next, held, take_more xs n d l, position_more p (take n xs) (slice_index_or xs n d), many)
 
 -- ---- marks
 

@@ -7,7 +7,7 @@ use Rattle.v8_decode.specs.declared.Instr.TheVariants as i
 use Rattle.v8_decode.specs.declared.LoadKind.TheVariants as loads
 use Rattle.cfg_blocks.specs.declared.switches.Value.{Value}
 use Rattle.cfg_blocks.specs.Switches.{after_slot, before_jump}
-use Rattle.cfg_blocks.specs.Values.{after, followed, instr_at}
+use Rattle.cfg_blocks.specs.Values.{followed, instr_at}
 use Rattle.cfg_normal.specs.Opens.{Open}
 use Rattle.image_code.specs.Loads.{load_of, loads_by, or_first}
 use Rattle.image_code.specs.Lookups.{is_load, load_after, loads_at, or_word}
@@ -43,10 +43,7 @@ pub followed_more : (text : Words) (values old new : List Value) (first word : �
 followed_more text values old new first word above held next =
     let more : suc (word - first) ≡ word + 1 - first = omega arith in
     let here : word + 0 ≡ first + (word - first) = omega arith in
-    next
-    ∙ ap (λ v. after v (instr_at text (word + 0))) held
-    ∙ ap (λ w. after (followed text values first (word - first)) (instr_at text w)) here
-    ∙ ap (followed text values first) more
+    rw (next, held, here) (ap (followed text values first) more)
 
 -- ---- the load
 

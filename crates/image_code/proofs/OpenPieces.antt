@@ -1,5 +1,5 @@
 -- The pieces of an open switch, as they are added.
-use Rattle.std.proofs.Common.{◌≡◌, ℕ, ◌+◌, ◌-◌, List, ◌∷◌, ◌++◌, map, ap, ◌∙◌, append_assoc}
+use Rattle.std.proofs.Common.{◌≡◌, ℕ, ◌+◌, ◌-◌, List, ◌∷◌, ◌++◌, map, append_assoc}
 use Rattle.std.specs.Prelude.{slice_index}
 use Rattle.std.specs.List.{range_with_len}
 use Rattle.eel_base.specs.CodeText.{Words}
@@ -39,20 +39,4 @@ module _ (text : Words) (graph : Graph) (table cases : ℕ) (codes : ℕ → Lis
       → list ≡ old ++ copy_by jumps compare from count → new ≡ list ++ block_by jumps block load
       → new ≡ old ++ open_pieces text graph table cases codes o
   open_added o jumps from count block load compare list new j c f n b l first then =
-      let at = jumps_at text table in
-      let firsts = graph.blocks.firsts in
-      let here = o.switch.compare in
-      then
-      ∙ ap (λ (pieces : List (List Item)). pieces ++ block_by jumps block load) first
-      ∙ ap (λ (k : ℕ). added k compare from count block load) j
-      ∙ ap (λ (k : ℕ). added at compare k count block load) f
-      ∙ ap (λ (k : ℕ). added at compare (slice_index firsts compare.0) k block load) n
-      ∙ ap (λ (k : BlockNo). added at k (slice_index firsts k.0) (size_of graph.blocks k.0) block load) c
-      ∙ ap (λ (k : ℕ). added at here (slice_index firsts here.0) (size_of graph.blocks here.0) k load) b
-      ∙ ap (λ (k : ℕ). added at here (slice_index firsts here.0) (size_of graph.blocks here.0) o.block k) l
-      ∙ regroup (copy_by at here (slice_index firsts here.0) (size_of graph.blocks here.0))
-      (map (image text graph at cases codes (Block (record { 0 = o.block })))
-      (range_with_len (slice_index firsts o.block) (load_of text o - slice_index firsts o.block)))
-      (keep_by (decode_of (slice_index text.words (load_of text o)))
-      ∷ map (image text graph at cases codes (Block (record { 0 = o.block })))
-      (range_with_len (load_of text o) (slice_index firsts o.block + size_of graph.blocks o.block - load_of text o)))
+      rw (then, first, j, f, n, c, b, l) (regroup _ _ _)

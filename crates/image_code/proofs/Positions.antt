@@ -67,8 +67,7 @@ module _ {A B : Type 0} (f : A → List B) (size : A → ℕ) where
   flat_get (z ∷ xs) sized zero x e n y at =
       let same : z ≡ x = cc in
       let here : 0 + n ≡ n = omega arith in
-      get_first (f z) (flat_map f xs) (0 + n) y (ap (slice_get (f z)) here ∙ ap (λ (w : A). slice_get (f w) n) same
-      ∙ at)
+      get_first (f z) (flat_map f xs) (0 + n) y (rw (here, same) at)
   flat_get (z ∷ xs) sized (suc k) x e n y at =
       let sum : sum_by size (z ∷ take k xs) ≡ size z + sum_by size (take k xs) = sum_by-cons size z (take k xs) in
       let there : sum_by size (z ∷ take k xs) + n ≡ size z + (sum_by size (take k xs) + n) = omega (arith, sum) in

@@ -17,9 +17,7 @@ below_next f n = let e : n + 1 ≡ suc n = omega arith in ap (λ k. map f (below
 pub pushed_below : {A : Type 0} (f : ℕ → A) (n : ℕ) (before list new : List A) (x : A) → new ≡ list ++ x ∷ []
     → x ≡ f n → list ≡ before ++ map f (below n) → new ≡ before ++ map f (below (n + 1))
 pushed_below f n before list new x pushed made held =
-    pushed ∙ ap (λ y. list ++ y ∷ []) made ∙ ap (λ ys. ys ++ f n ∷ []) held
-    ∙ append_assoc before (map f (below n)) (f n ∷ [])
-    ∙ ap (λ ys. before ++ ys) (sym (below_next f n))
+    rw (pushed, made, held, below_next f n) (append_assoc before (map f (below n)) (f n ∷ []))
 
 pub pushed_alone : {A : Type 0} (f : ℕ → A) (n : ℕ) (list new : List A) (x : A) → new ≡ list ++ x ∷ [] → x ≡ f n
     → list ≡ map f (below n) → new ≡ map f (below (n + 1))
@@ -28,10 +26,7 @@ pushed_alone f n list new x pushed made held = pushed_below f n [] list new x pu
 pub pushed_number : (f : ℕ → ℕ) (n : ℕ) (list new : List PieceNo) (x : PieceNo) → new ≡ list ++ x ∷ [] → x.0 ≡ f n
     → map (λ (k : PieceNo). k.0) list ≡ map f (below n) → map (λ (k : PieceNo). k.0) new ≡ map f (below (n + 1))
 pushed_number f n list new x pushed made held =
-    ap (map (λ (k : PieceNo). k.0)) pushed ∙ map-append (λ (k : PieceNo). k.0) list (x ∷ [])
-    ∙ ap (λ (k : ℕ). map (λ (k : PieceNo). k.0) list ++ k ∷ []) made
-    ∙ ap (λ (ks : List ℕ). ks ++ f n ∷ []) held
-    ∙ sym (below_next f n)
+    rw (pushed, map-append (λ (k : PieceNo). k.0) list (x ∷ []), made, held, below_next f n)
 
 -- of the numbers from one on
 pub pushed_range : {A : Type 0} (f : ℕ → A) (first word : ℕ) (before list new : List A) (x : A) → first ≤ word
