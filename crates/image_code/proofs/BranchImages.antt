@@ -8,11 +8,10 @@ use Rattle.v8_decode.specs.declared.Instr.TheVariants as i
 use Rattle.v8_decode.specs.Words.{decode_of}
 use Rattle.v8_alu.specs.Conditions.{holds_of}
 use Rattle.v8_alu.specs.Numbers.{wrapped}
-use Rattle.v8_step.specs.declared.Slot.{Slot}
 use Rattle.v8_step.specs.declared.Slot.TheVariants.{NoSlot, Taken, Untaken}
 use Rattle.v8_step.specs.State.{State}
-use Rattle.v8_step.specs.Transfers.{branched, branch_step, unless_couple, target_of as target_from}
-use Rattle.v8_step.specs.Step.{act, on_word}
+use Rattle.v8_step.specs.Transfers.{branched, branch_step, target_of as target_from}
+use Rattle.v8_step.specs.Step.{act}
 use Rattle.cfg_blocks.specs.declared.BlockEnd.{BlockEnd}
 use Rattle.cfg_blocks.specs.declared.BlockEnd.TheVariants as ends
 use Rattle.cfg_blocks.specs.declared.EdgeKind.{EdgeKind}
@@ -28,7 +27,7 @@ use Rattle.cfg_normal.specs.declared.Node.{Node}
 use Rattle.cfg_normal.specs.Nodes.{home_of}
 use Rattle.cfg_normal.specs.Opens.{Open, jumps_in}
 use Rattle.cfg_normal.specs.declared.Slot.TheVariants as carried
-use Rattle.cfg_normal.specs.Graph.{IsNodeIn, directed, edge_of, graph_of, has_cases, is_compared, node_of, runs_slot, slot_behind, slot_on}
+use Rattle.cfg_normal.specs.Graph.{IsNodeIn, directed, edge_of, graph_of, has_cases, is_compared, node_of, runs_slot}
 use Rattle.cfg_walk.specs.Walk.{Point, edge_from, node_after, point_of, same_kind}
 use Rattle.cfg_walk.specs.Matches.{last_in, target_along}
 use Rattle.cfg_walk.proofs.Addresses.{second_address}
@@ -50,7 +49,7 @@ use Rattle.image_code.specs.Cases.{LeadsTo, branch_piece, next_entry, plain_piec
 use Rattle.image_code.specs.Imaged.{IsCase, turn, idle}
 use Rattle.image_code.specs.Turns.{IsNoJumpsSlot}
 use Rattle.image_code.specs.Numbered.{enter_number, image_number}
-use Rattle.image_code.specs.Made.{first_way, first_word, goes_on, jump_to, nop_word, way_by, way_out}
+use Rattle.image_code.specs.Made.{first_way, first_word, goes_on, jump_to, nop_word, way_out}
 use Rattle.image_code.proofs.CaseTables.{IsKnown}
 use Rattle.image_code.proofs.EdgePieces.{along_far, cut_in}
 use Rattle.image_code.proofs.ImageNumbers.{HasImage}
@@ -167,24 +166,10 @@ module _ (g : Setting) (codes : ℕ → List ℕ) (is : IsKnown g) (p : Placemen
         let number : way_out g.text (graph_in g) node w.kind ≡ length g.text.words + found.number =
         ap (first_way g.text (graph_in g)) found.only in
         let last_there : last_in (graph_in g) node ≡ word = last_home b g.switches node k home ∙ sym last in
-        let goes_by = (λ (address : ℕ). its_code ++ goes_on g.text (graph_in g) edge.to
-        (first_word (graph_in g) edge.to) address) in
         ap (slice_get (l g codes is p f).list) number
         ∙ way_at g.text b g.switches is.cased f.table.base f.cases.base codes found.number edge
         (own_at b g.switches found.number edge found.is land)
-        ∙ ap (λ (t : Bool). Some (if t then jump_to 0 else if same_kind w.kind kinds.Case then jump_to 0 else
-        way_by g.text (graph_in g) f.table.base codes found.number edge (first_word (graph_in g) edge.to)
-        (slot_on b k w.kind))) fall
-        ∙ ap (λ (t : Bool). Some (if t then jump_to 0 else
-        way_by g.text (graph_in g) f.table.base codes found.number edge (first_word (graph_in g) edge.to)
-        (slot_on b k w.kind))) no_case
-        ∙ ap (λ (r : Bool). Some (way_by g.text (graph_in g) f.table.base codes found.number edge
-        (first_word (graph_in g) edge.to)
-        (if r then slot_behind b.words (last_word b.firsts b.words k) else carried.Nothing)))
-        (ap (λ (d : BlockEnd). runs_slot d w.kind) ended ∙ bare)
-        ∙ ap (λ (n : ℕ). Some (goes_by (target_along g.text n w.kind
-        (decode_of (slice_index g.text.words n))))) last_there
-        ∙ ap (λ (d : Instr). Some (goes_by (target_along g.text word w.kind d))) says
+        ∙ rw (fall, no_case, ended, bare, last_there, says)
 
     bare_in : LeadsIfThere b w.to → (to : ℕ) → w.to ≡ Some to
         → slice_get (l g codes is p f).list (way_out g.text (graph_in g) node w.kind)
@@ -195,11 +180,8 @@ module _ (g : Setting) (codes : ℕ → List ℕ) (is : IsKnown g) (p : Placemen
         ap (λ (o : Option ℕ). directed g.switches node w.kind (node_of b o)) e
         ∙ ap (directed g.switches node w.kind) (node_is b to target.0) in
         bare_items
-        ∙ ap (λ (n : Node). Some (way_items n)) same
-        ∙ ap (λ (r : List Item). Some (its_code ++ r))
-        (goes_there g.text b g.switches node w.kind (holding_of b to) to goal_address
-        (first_held b.words b.firsts cut.firsts to target.1))
-        ∙ ap (λ (n : Node). Some (its_code ++ jump_to (enter_number g.text (graph_in g) n to))) (sym same)
+        ∙ rw same (ap (λ (r : List Item). Some (its_code ++ r)) (goes_there g.text b g.switches node w.kind (holding_of b to) to goal_address
+        (first_held b.words b.firsts cut.firsts to target.1)))
 
     bare_out : w.to ≡ None
         → slice_get (l g codes is p f).list (way_out g.text (graph_in g) node w.kind)
@@ -310,44 +292,36 @@ module _ (g : Setting) (codes : ℕ → List ℕ) (is : IsKnown g) (p : Placemen
         ∙ second_address g.text word is.text inside)
 
     goes : (flag all ann : Bool) → holds_of cond t.codes ≡ flag → (cond == always) ≡ all → annul ≡ ann
-        → t.ending ≡ None → (v : State) → v ≡ branched flag all ann (at_point x t) to
-        → Goes (if flag then kinds.Taken else kinds.Untaken) v
-    goes true true true holds all annulled live v e =
-        past_taken holds annulled all v (ap (λ (z : State). z.ending) e ∙ live)
-        (ap (λ (z : State). z.slot) e ∙ none) (ap (λ (z : State). z.pc) e)
-    goes true true false holds all kept live v e =
-        into_taken holds (ap (λ (a : Bool). not a || not (cond == always)) kept) v
-        (ap (λ (z : State). z.ending) e ∙ live) (ap (λ (z : State). z.pc) e) (ap (λ (z : State). z.npc) e)
-        (ap (λ (z : State). z.slot) e)
-    goes true false true holds all annulled live v e =
-        into_taken holds (ap (λ (a : Bool). not a || not (cond == always)) annulled ∙ ap not all) v
-        (ap (λ (z : State). z.ending) e ∙ live) (ap (λ (z : State). z.pc) e) (ap (λ (z : State). z.npc) e)
-        (ap (λ (z : State). z.slot) e)
-    goes true false false holds all kept live v e =
-        into_taken holds (ap (λ (a : Bool). not a || not (cond == always)) kept) v
-        (ap (λ (z : State). z.ending) e ∙ live) (ap (λ (z : State). z.pc) e) (ap (λ (z : State). z.npc) e)
-        (ap (λ (z : State). z.slot) e)
-    goes false all true holds _ annulled live v e =
-        past_untaken holds annulled v (ap (λ (z : State). z.ending) e ∙ live)
-        (ap (λ (z : State). z.slot) e ∙ none) (ap (λ (z : State). z.pc) e)
-    goes false all false holds _ kept live v e =
-        into_untaken holds kept v (ap (λ (z : State). z.ending) e ∙ live) (ap (λ (z : State). z.pc) e)
-        (ap (λ (z : State). z.npc) e) (ap (λ (z : State). z.slot) e)
+        → t.ending ≡ None
+        → Goes (if flag then kinds.Taken else kinds.Untaken) (branched flag all ann (at_point x t) to)
+    goes true true true holds all annulled live =
+        past_taken holds annulled all (branched true true true (at_point x t) to) live none refl
+    goes true true false holds all kept live =
+        into_taken holds (ap (λ (a : Bool). not a || not (cond == always)) kept)
+        (branched true true false (at_point x t) to) live refl refl refl
+    goes true false true holds all annulled live =
+        into_taken holds (ap (λ (a : Bool). not a || not (cond == always)) annulled ∙ ap not all)
+        (branched true false true (at_point x t) to) live refl refl refl
+    goes true false false holds all kept live =
+        into_taken holds (ap (λ (a : Bool). not a || not (cond == always)) kept)
+        (branched true false false (at_point x t) to) live refl refl refl
+    goes false all true holds _ annulled live =
+        past_untaken holds annulled (branched false all true (at_point x t) to) live none refl
+    goes false all false holds _ kept live =
+        into_untaken holds kept (branched false all false (at_point x t) to) live refl refl refl
 
     -- ---- the step
 
     acts : does_at g x t ≡ branched (holds_of cond t.codes) (cond == always) annul (at_point x t) to
     unfolding act branch_step
-    acts =
-        ap (on_word (at_point x t)) (word_is g x word at) ∙ ap (act (at_point x t)) says
-        ∙ ap (λ (z : Slot). unless_couple z (at_point x t)
-        (branched (holds_of cond t.codes) (cond == 8) annul (at_point x t) to)) none
+    acts = rw (word_is g x word at, says, none)
 
     leads : t.ending ≡ None → (flag : Bool) → holds_of cond t.codes ≡ flag
         → Goes (if flag then kinds.Taken else kinds.Untaken) (does_at g x t)
     leads live flag holds =
-        goes flag (cond == always) annul holds refl refl live (does_at g x t)
-        (acts ∙ ap (λ (h : Bool). branched h (cond == always) annul (at_point x t) to) holds)
+        subst (Goes (if flag then kinds.Taken else kinds.Untaken))
+        (sym (acts ∙ ap (λ (h : Bool). branched h (cond == always) annul (at_point x t) to) holds))
+        (goes flag (cond == always) annul holds refl refl live)
 
     no_jumps_slot : IsNoJumpsSlot g (does_at g x t)
     no_jumps_slot =

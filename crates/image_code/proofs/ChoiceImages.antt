@@ -1,8 +1,7 @@
 -- The image of an open switch's jump, at the jump's block itself: the Case edge that it chooses leads to the slot.
-use Rattle.std.proofs.Common.{◌≡◌, ◌≢◌, ℕ, zero, suc, ◌+◌, ◌*◌, ◌%◌, ◌^◌, ◌<◌, Bool, true, Option, Some, None, List, [], ◌∷◌, ◌++◌, length, map, take, refl, ap, sym, ◌∙◌, subst, arith}
+use Rattle.std.proofs.Common.{◌≡◌, ◌≢◌, ℕ, zero, suc, ◌+◌, ◌*◌, ◌%◌, ◌^◌, ◌<◌, Bool, true, Some, None, List, [], ◌∷◌, length, map, take, refl, ap, sym, ◌∙◌, subst, arith}
 use Rattle.std.specs.Prelude.{◌==◌, if◌then◌else◌, slice_get, slice_index}
 use Rattle.std.specs.List.{sum_by}
-use Rattle.std.specs.Option.{option_map}
 use Rattle.std.proofs.lemmas.Bool.{and_parts, eq-eqb, lt-ltb, ltb-true}
 use Rattle.std.proofs.lemmas.List.{length-map}
 use Rattle.std.proofs.lemmas.List.Sums.{sum_by-cons}
@@ -46,7 +45,7 @@ use Rattle.image_code.specs.Cases.{next_entry}
 use Rattle.image_code.specs.Choices.{IsChoice, choice_piece}
 use Rattle.image_code.specs.Graphs.{case_table}
 use Rattle.image_code.specs.Images.{Frame, entered_at, slot_piece}
-use Rattle.image_code.specs.Made.{AreCasesFor, choice_of, distance_of, jump_by, jump_image_by, jumps_at}
+use Rattle.image_code.specs.Made.{AreCasesFor, distance_of, jump_image_by, jumps_at}
 use Rattle.image_code.specs.Numbered.{case_numbers, case_piece, cases_of, entries_of, first_entry, image_number, jump_number, or_zero}
 use Rattle.image_code.specs.Simulates.{CaseTable, Chooses, IsChosen, Setting, does_at, gone_at, graph_in, number_in}
 use Rattle.image_code.proofs.CaseTables.{IsKnown, known_at}
@@ -70,11 +69,7 @@ case_number_at text graph (q ∷ opens) begin zero o e entry word at =
     let here : begin ≡ begin + 0 = omega arith in
     let there : 0 + entry ≡ entry = omega arith in
     get_first (map (case_piece text graph begin q) q.targets) (cases_of text graph (suc begin) opens) (0 + entry) _
-    (ap (slice_get (map (case_piece text graph begin q) q.targets)) there
-    ∙ ap (λ (z : Open). slice_get (map (case_piece text graph begin z) z.targets) entry) same
-    ∙ slice_get-map (case_piece text graph begin o) o.targets entry
-    ∙ ap (option_map (case_piece text graph begin o)) at
-    ∙ ap (λ (n : ℕ). Some (case_piece text graph n o word)) here)
+    (rw (there, same, slice_get-map (case_piece text graph begin o) o.targets entry, at, ← here))
 case_number_at text graph (q ∷ opens) begin (suc k) o e entry word at =
     let sum : sum_by (entries_of text graph) (q ∷ take k opens)
     ≡ length q.targets + sum_by (entries_of text graph) (take k opens) =
@@ -82,12 +77,11 @@ case_number_at text graph (q ∷ opens) begin (suc k) o e entry word at =
     let there : sum_by (entries_of text graph) (q ∷ take k opens) + entry
     ≡ length q.targets + (sum_by (entries_of text graph) (take k opens) + entry) = omega (arith, sum) in
     let next : suc begin + k ≡ begin + suc k = omega arith in
-    ap (slice_get (map (case_piece text graph begin q) q.targets ++ cases_of text graph (suc begin) opens)) there
-    ∙ get_behind (map (case_piece text graph begin q) q.targets) (cases_of text graph (suc begin) opens)
+    rw (there, ← next)
+    (get_behind (map (case_piece text graph begin q) q.targets) (cases_of text graph (suc begin) opens)
     (length q.targets)
     (sum_by (entries_of text graph) (take k opens) + entry) _ (length-map q.targets (case_piece text graph begin q))
-    (case_number_at text graph opens (suc begin) k o e entry word at)
-    ∙ ap (λ (n : ℕ). Some (case_piece text graph n o word)) next
+    (case_number_at text graph opens (suc begin) k o e entry word at))
 
 -- where the word of an entry stands
 word_place : (cases first table entry : ℕ) → table < 2 ^ 32 → cases + 4 * (first + entry) < 2 ^ 32
@@ -102,14 +96,7 @@ choice_is : (text : Words) (graph : Graph) (jumps cases : ℕ) (codes : ℕ → 
     → jump_image_by text graph jumps cases address (Block (record { 0 = block })) rd rs1 op2
     ≡ choice_piece rd address block (distance_of cases (first_entry text graph k) o.switch.table.0)
 choice_is text graph jumps cases codes address block k o rd rs1 op2 jumping numbered is =
-    let node : Node = Block (record { 0 = block }) in
-    ap (λ (t : Bool). if t then choice_of text graph jumps cases address node rd (jump_number text graph block)
-    (slice_get graph.opens
-    (or_zero (jump_number text graph block))) else jump_by text graph jumps cases address node rd rs1 op2)
-    jumping
-    ∙ ap (λ (n : Option ℕ). choice_of text graph jumps cases address node rd n
-    (slice_get graph.opens (or_zero n))) numbered
-    ∙ ap (choice_of text graph jumps cases address node rd (Some k)) is
+    rw (jumping, numbered, is)
 
 module _ (g : Setting) (codes : ℕ → List ℕ) (is : IsKnown g) (p : Placement) (f : Frame) (whole : IsTable f.table)
     (cases : AreCasesFor g.text (graph_in g) p f.cases)
@@ -305,13 +292,8 @@ module _ (g : Setting) (codes : ℕ → List ℕ) (is : IsKnown g) (p : Placemen
   items : slice_get (l g codes is p f).list piece ≡ Some (choice_piece rd address (number_in g node) distance)
   items =
       image_items g codes is p f node x word at has (i.Jmpl rd rs1 op2) says
-      ∙ ap (λ (n : Node). Some (jump_image_by g.text (graph_in g)
-      (jumps_at g.text f.table.base) f.cases.base address n
-      rd rs1 op2)) itself
-      ∙ ap (λ (xs : List Item). Some xs) (choice_is g.text (graph_in g)
-      (jumps_at g.text f.table.base) f.cases.base codes address
-      o.block k o rd rs1 op2 jumping numbered among)
-      ∙ ap (λ (n : Node). Some (choice_piece rd address (number_in g n) distance)) (sym itself)
+      ∙ rw itself (ap (λ (xs : List Item). Some xs) (choice_is g.text (graph_in g) (jumps_at g.text f.table.base)
+      f.cases.base codes address o.block k o rd rs1 op2 jumping numbered among))
 
   pub choice_case : IsChoice g (l g codes is p f) p f node x t
   choice_case =

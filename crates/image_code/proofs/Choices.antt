@@ -10,10 +10,8 @@ use Rattle.v8_decode.specs.Words.{decode_of}
 use Rattle.v8_alu.specs.Numbers.{wrapped}
 use Rattle.v8_memory.specs.Regions.{Memory, code_of}
 use Rattle.v8_memory.specs.Spans.{IsSameOutside}
-use Rattle.v8_step.specs.declared.Slot.{Slot}
-use Rattle.v8_step.specs.declared.Slot.TheVariants.{NoSlot}
 use Rattle.v8_step.specs.State.{State}
-use Rattle.v8_step.specs.Step.{act, on_word, puts_on_word}
+use Rattle.v8_step.specs.Step.{puts_on_word}
 use Rattle.v8_step.specs.Items.{is_transfer}
 use Rattle.v8_step.specs.Valid.{IsValid}
 use Rattle.two_runs.specs.Visits.{pages_of}
@@ -24,7 +22,6 @@ use Rattle.code_runs.specs.Hops.{hopped}
 use Rattle.code_runs.specs.Ours.{HasWordAt}
 use Rattle.addr_translate.specs.Lookup.{table_word}
 use Rattle.code_runs.specs.Page.{page_word}
-use Rattle.code_runs.specs.Points.{moved}
 use Rattle.code_runs.specs.Straight.{StandIn}
 use Rattle.code_runs.specs.StoredWords.{Stores, memory_word}
 use Rattle.code_runs.specs.TwoRegisters.{IsBetween}
@@ -97,15 +94,8 @@ module _ (g : Setting) (l : Pieces) (base : ℕ) (p : Placement) (place : ℕ �
   some : 9 ≤ length image
   some = let m = count_is in omega (arith, m)
 
-  point_is : at_point x t ≡ moved c.address.0 (wrapped (c.address.0 + 4)) NoSlot t
-  point_is =
-      ap (λ (z : Slot). moved x.pc x.npc z t) c.none ∙ ap (λ z. moved x.pc z NoSlot t) c.next
-      ∙ ap (λ z. moved z (wrapped (z + 4)) NoSlot t) (sym c.original)
-
   does_is : does_at g x t ≡ after_jump
-  does_is =
-      ap (on_word (at_point x t)) c.is_word ∙ ap (act (at_point x t)) c.says
-      ∙ ap (λ (z : State). act z (i.Jmpl c.rd c.rs1 c.op2)) point_is
+  does_is = rw (c.is_word, c.says, c.none, c.next, c.original)
 
   live : (jumped c.address.0 c.rd c.rs1 c.op2 t).ending ≡ None
   live = ap (λ (z : State). z.ending) (sym does_is) ∙ c.live

@@ -1,5 +1,5 @@
 -- A nop and then the way.
-use Rattle.std.proofs.Common.{◌≡◌, ℕ, ◌+◌, Bool, Option, None, [], ◌∷◌, ◌++◌, append-nil, refl, ap, sym, ◌∙◌, subst, arith}
+use Rattle.std.proofs.Common.{◌≡◌, ℕ, ◌+◌, Bool, Option, None, [], ◌∷◌, refl, ap, sym, ◌∙◌, subst, arith}
 use Rattle.v8_decode.specs.declared.Instr.{Instr}
 use Rattle.v8_alu.specs.Numbers.{wrapped}
 use Rattle.v8_memory.specs.Regions.{Memory}
@@ -19,7 +19,7 @@ use Rattle.code_runs.specs.Points.{moved}
 use Rattle.code_runs.specs.Hops.{hopped}
 use Rattle.code_runs.specs.Counted.{count_stores}
 use Rattle.code_runs.proofs.Counted.{count_add, no_stores, none_then}
-use Rattle.code_runs.proofs.Leads.{leads_one, leads_then, puts_add}
+use Rattle.code_runs.proofs.Leads.{leads_one, leads_then, silent_then}
 use Rattle.layout.specs.declared.items.Item.TheVariants as it
 use Rattle.layout.specs.Laid.{HasShortForms, nop, Placement}
 use Rattle.image_code.specs.Simulates.{Setting, in_first_word, is_spill, at_point, cells_in, does_at, gone_at, graph_in, number_in, Enters}
@@ -107,11 +107,7 @@ module _ (g : Setting) (l : Pieces) (base : ℕ) (p : Placement) (place : ℕ �
                 (IsBare g l base p place f h) way lives (bare_on g l base p place f h t) j p1 p2;
           };
           puts = λ descriptor.
-              ap (λ n. run_puts t n descriptor) (let e : 1 + rest.count ≡ rest.count + 1 = omega arith in e)
-              ∙ puts_add t 1 rest.count descriptor
-              ∙ ap (λ (z : State). run_puts t 1 descriptor ++ run_puts z rest.count descriptor) idle_step
-              ∙ ap (λ z. run_puts t 1 descriptor ++ z) (rest.silent descriptor) ∙ append-nil (run_puts t 1 descriptor)
-              ∙ puts_first descriptor
+              silent_then t mid 1 rest.count idle_step puts_first rest.silent descriptor
               ∙ sym (ap (λ (o : Option ℕ). puts_on_word (at_point x t) o descriptor) c.is_word
               ∙ ap (λ (q : Instr). puts_by (at_point x t) q descriptor) c.says
               ∙ no_puts (at_point x t) c.cond c.annul c.disp descriptor);

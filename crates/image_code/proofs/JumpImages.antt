@@ -1,5 +1,5 @@
 -- The images of CALL and JMPL: the way of the edge leads into the slot.
-use Rattle.std.proofs.Common.{◌≡◌, ℕ, ◌+◌, ◌%◌, ◌^◌, ◌<◌, Bool, false, Some, None, List, refl, ap, sym, ◌∙◌, arith}
+use Rattle.std.proofs.Common.{◌≡◌, ℕ, ◌+◌, ◌%◌, ◌^◌, ◌<◌, false, Some, None, List, refl, ap, sym, ◌∙◌, arith}
 use Rattle.std.specs.Prelude.{if◌then◌else◌, slice_get, slice_index, ◌==◌, ℤ}
 use Rattle.std.proofs.lemmas.Bool.{cond_both, false≢true}
 use Rattle.eel_base.specs.CodeText.{Words, address_of, word_at}
@@ -7,17 +7,16 @@ use Rattle.eel_base.specs.declared.numbers.Addr.{Addr}
 use Rattle.v8_decode.specs.declared.Op2.{Op2}
 use Rattle.v8_decode.specs.declared.Instr.TheVariants as i
 use Rattle.v8_decode.specs.Words.{decode_of}
-use Rattle.v8_step.specs.declared.Slot.{Slot}
 use Rattle.v8_step.specs.declared.Slot.TheVariants.{NoSlot, Taken}
 use Rattle.v8_step.specs.State.{State, sum_of, with_register}
 use Rattle.v8_step.specs.Traps.{mem_address_not_aligned}
-use Rattle.v8_step.specs.Transfers.{call_step, delayed, jump_step, target_of, trapped, unless_couple}
-use Rattle.v8_step.specs.Step.{act, on_word}
+use Rattle.v8_step.specs.Transfers.{call_step, delayed, jump_step, target_of, trapped}
+use Rattle.v8_step.specs.Step.{act}
 use Rattle.cfg_blocks.specs.declared.EdgeKind.TheVariants as kinds
 use Rattle.cfg_blocks.specs.Blocks.{blocks_of}
 use Rattle.cfg_blocks.proofs.Targets.{word_at-some}
 use Rattle.cfg_normal.specs.declared.Node.{Node}
-use Rattle.cfg_normal.specs.declared.Node.TheVariants.{Block, Landed, X}
+use Rattle.cfg_normal.specs.declared.Node.TheVariants.{Block}
 use Rattle.cfg_normal.specs.Nodes.{home_of}
 use Rattle.cfg_normal.specs.Graph.{Graph, IsNodeIn, has_cases, node_of}
 use Rattle.cfg_walk.specs.Walk.{Point, point_of}
@@ -30,8 +29,8 @@ use Rattle.image_code.specs.Simulates.{Setting, at_point, does_at, graph_in, num
 use Rattle.image_code.specs.Images.{Frame}
 use Rattle.image_code.specs.Calls.{IsCall, IsJump}
 use Rattle.layout.specs.declared.items.Item.{Item}
-use Rattle.image_code.specs.Made.{choice_of, jump_by, jump_image_by, jumps_at, way_out}
-use Rattle.image_code.specs.Numbered.{image_number, jump_number, or_zero}
+use Rattle.image_code.specs.Made.{jump_by, jump_image_by, jumps_at, way_out}
+use Rattle.image_code.specs.Numbered.{image_number}
 use Rattle.image_code.proofs.CaseTables.{IsKnown}
 use Rattle.image_code.proofs.ImageNumbers.{HasImage}
 use Rattle.std.proofs.lemmas.Option.{slice_get_within}
@@ -45,12 +44,8 @@ jump_plain : (text : Words) (graph : Graph) (jumps cases : ℕ) (codes : ℕ →
     → has_cases graph.opens node ≡ false
     → jump_image_by text graph jumps cases address node rd rs1 op2
     ≡ jump_by text graph jumps cases address node rd rs1 op2
-jump_plain text graph jumps cases codes address (Block k) rd rs1 op2 e =
-    ap (λ (t : Bool). if t then choice_of text graph jumps cases address (Block k) rd (jump_number text graph k.0)
-    (slice_get graph.opens (or_zero (jump_number text graph k.0))) else jump_by text graph jumps cases address
-    (Block k) rd rs1 op2) e
-jump_plain text graph jumps cases codes address (Landed k) rd rs1 op2 e = refl
-jump_plain text graph jumps cases codes address X rd rs1 op2 e = refl
+jump_plain text graph jumps cases codes address (Block k) rd rs1 op2 e = rw e
+jump_plain text graph jumps cases codes address _ rd rs1 op2 e = refl
 
 module _ (g : Setting) (codes : ℕ → List ℕ) (is : IsKnown g) (p : Placement) (f : Frame) (whole : IsTable f.table)
     (node : Node) (x : Point) (word : ℕ) (at : word_at g.text x.pc ≡ Some word) (none : x.slot ≡ NoSlot)
@@ -80,10 +75,7 @@ module _ (g : Setting) (codes : ℕ → List ℕ) (is : IsKnown g) (p : Placemen
   module _ (disp : ℤ) (says : decode_of (slice_index g.text.words word) ≡ i.Call disp) where
     call_acts : does_at g x t ≡ delayed (with_register (at_point x t) 15 x.pc) (target_of (at_point x t) disp)
     unfolding act call_step
-    call_acts =
-        ap (on_word (at_point x t)) (word_is g x word at) ∙ ap (act (at_point x t)) says
-        ∙ ap (λ (z : Slot). unless_couple z (at_point x t)
-        (delayed (with_register (at_point x t) 15 x.pc) (target_of (at_point x t) disp))) none
+    call_acts = rw (word_is g x word at, says, none)
 
     call_items : slice_get (l g codes is p f).list number ≡ Some (call_piece address (number_in g node)
         (record { 0 = way_out g.text (graph_in g) node kinds.Call }))
@@ -134,9 +126,7 @@ module _ (g : Setting) (codes : ℕ → List ℕ) (is : IsKnown g) (p : Placemen
 
     pub jump_acts : does_at g x t ≡ jumped
     unfolding act jump_step
-    jump_acts =
-        ap (on_word (at_point x t)) (word_is g x word at) ∙ ap (act (at_point x t)) says
-        ∙ ap (λ (z : Slot). unless_couple z (at_point x t) jumped) none
+    jump_acts = rw (word_is g x word at, says, none)
 
     pub goes : (v : State) → v ≡ jumped → v.ending ≡ None → (v.pc ≡ x.npc) × (v.slot ≡ Taken)
     goes v e live =

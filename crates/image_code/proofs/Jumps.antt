@@ -8,10 +8,9 @@ use Rattle.v8_alu.specs.Numbers.{wrapped}
 use Rattle.v8_memory.specs.Regions.{Memory, code_of}
 use Rattle.v8_memory.specs.Spans.{IsSameOutside}
 use Rattle.v8_step.specs.declared.Ending.{Ending}
-use Rattle.v8_step.specs.declared.Slot.{Slot}
 use Rattle.v8_step.specs.declared.Slot.TheVariants.{NoSlot}
 use Rattle.v8_step.specs.State.{State, sum_of}
-use Rattle.v8_step.specs.Step.{act, on_word, puts_on_word}
+use Rattle.v8_step.specs.Step.{puts_on_word}
 use Rattle.v8_step.specs.Run.{run}
 use Rattle.v8_step.specs.Items.{is_transfer}
 use Rattle.v8_step.specs.Valid.{IsValid}
@@ -60,15 +59,8 @@ module _ (g : Setting) (l : Pieces) (base : ℕ) (p : Placement) (place : ℕ �
   few : length image ≤ 14
   few = let n = link_few c.rd c.address.0 in omega arith
 
-  point_is : at_point x t ≡ moved c.address.0 (wrapped (c.address.0 + 4)) NoSlot t
-  point_is =
-      ap (λ (z : Slot). moved x.pc x.npc z t) c.none ∙ ap (λ z. moved x.pc z NoSlot t) c.next
-      ∙ ap (λ z. moved z (wrapped (z + 4)) NoSlot t) (sym c.original)
-
   does_is : does_at g x t ≡ after_jump
-  does_is =
-      ap (on_word (at_point x t)) c.is_word ∙ ap (act (at_point x t)) c.says
-      ∙ ap (λ (z : State). act z (i.Jmpl c.rd c.rs1 c.op2)) point_is
+  does_is = rw (c.is_word, c.says, c.none, c.next, c.original)
 
   ahead : AtWords g t (place c.piece 1) (length image)
   ahead = at_words g l base p place f h node x t here c.piece c.within c.here image c.address c.way c.items
