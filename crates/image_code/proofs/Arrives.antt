@@ -37,7 +37,7 @@ use Rattle.jump_code.proofs.Laid.{words_after}
 use Rattle.layout.specs.Emitting.{words_of}
 use Rattle.layout.specs.declared.items.Item.{Item}
 use Rattle.layout.specs.declared.items.Item.TheVariants as it
-use Rattle.layout.specs.Laid.{HasShortForms, Placement, item_at, item_in, items_in, size_of, open_in, open_from, range_in, range_of, IsWordAt}
+use Rattle.layout.specs.Laid.{HasShortForms, Placement, item_at, size_of, open_in, open_from, range_in, range_of, IsWordAt}
 use Rattle.layout.specs.Running.{CanRun, HasCode}
 use Rattle.layout.proofs.Going.{stays, jumps_hop}
 use Rattle.image_code.specs.Simulates.{Setting, IsOnWay, cells_in, in_first_word, is_spill, operations_on, snippet_on, spills_at, spills_on, updates}
@@ -93,13 +93,9 @@ pub record Rest (l : Pieces) (k n : ℕ) (xs : List Item) : Type 0 where
 pub rest_whole : (l : Pieces) (k : ℕ) (xs : List Item) → AreUnmarked xs → slice_get l.list k ≡ Some xs → Rest l k 0 xs
 rest_whole l k xs are is = record {
   within = slice_get_within l.list k xs is;
-  size = ap (λ (v : Option (List Item)). items_in v) is ∙ (let e : length xs ≡ 0 + length xs = omega arith in e);
-  items = λ j.
-      let e : 0 + j ≡ j = omega arith in
-      ap (item_at l.list k) e ∙ ap (λ (v : Option (List Item)). item_in v j) is;
-  shut = λ j.
-      let e : 0 + j ≡ j = omega arith in
-      ap (open_in (slice_get l.list k)) e ∙ ap (λ (v : Option (List Item)). open_in v j) is ∙ unmarked_open xs 0 j are;
+  size = rw is (omega arith);
+  items = λ j. let e : 0 + j ≡ j = omega arith in rw (e, is);
+  shut = λ j. let e : 0 + j ≡ j = omega arith in rw (e, is) (unmarked_open xs 0 j are);
   unmarked = are;
 }
 
@@ -108,15 +104,9 @@ pub rest_marked : (l : Pieces) (k : ℕ) (address : _) (node : ℕ) (y : Item) (
     → slice_get l.list k ≡ Some (it.Mark address node ∷ y ∷ it.EndMark ∷ xs) → Rest l k 3 xs
 rest_marked l k address node y xs are is = record {
   within = slice_get_within l.list k _ is;
-  size = ap (λ (v : Option (List Item)). items_in v) is
-      ∙ (let e : suc (suc (suc (length xs))) ≡ 3 + length xs = omega arith in e);
-  items = λ j.
-      let e : 3 + j ≡ suc (suc (suc j)) = omega arith in
-      ap (item_at l.list k) e ∙ ap (λ (v : Option (List Item)). item_in v (suc (suc (suc j)))) is;
-  shut = λ j.
-      let e : 3 + j ≡ suc (suc (suc j)) = omega arith in
-      ap (open_in (slice_get l.list k)) e
-      ∙ ap (λ (v : Option (List Item)). open_in v (suc (suc (suc j)))) is ∙ unmarked_open xs 3 j are;
+  size = rw is (omega arith);
+  items = λ j. let e : 3 + j ≡ suc (suc (suc j)) = omega arith in rw (e, is);
+  shut = λ j. let e : 3 + j ≡ suc (suc (suc j)) = omega arith in rw (e, is) (unmarked_open xs 3 j are);
   unmarked = are;
 }
 
@@ -355,10 +345,7 @@ module _ (g : Setting) (l : Pieces) (base : ℕ) (p : Placement) (place : ℕ �
       read_alike : (others ≡ []) ⊎ NothingDead g first
           → updates g.snips others (words_at g.notes.base g.notes.cells one.memory) (hopped one.other mid one.memory)
           ≡ updates g.snips others (words_at g.notes.base g.notes.cells one.memory) a
-      read_alike (inl none) =
-          ap (λ z. updates g.snips z (words_at g.notes.base g.notes.cells one.memory) (hopped one.other mid one.memory))
-          none
-          ∙ sym (ap (λ z. updates g.snips z (words_at g.notes.base g.notes.cells one.memory) a) none)
+      read_alike (inl none) = rw none
       read_alike (inr nothing) =
           updates_same g.snips others (words_at g.notes.base g.notes.cells one.memory)
           (hopped one.other mid one.memory) a

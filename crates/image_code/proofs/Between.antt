@@ -13,7 +13,7 @@ use Rattle.v8_step.specs.State.{State}
 use Rattle.v8_step.specs.Run.{run}
 use Rattle.v8_step.specs.Items.{StateItem, Register, Codes, YRegister, IsSameAt}
 use Rattle.v8_step.specs.Valid.{IsValid}
-use Rattle.two_runs.specs.Visits.{visit_of, visited, if_live, in_pages}
+use Rattle.two_runs.specs.Visits.{visit_of, visited}
 use Rattle.cfg_walk.proofs.Walks as walks
 use Rattle.cfg_walk.specs.Walk.{Point, gone, point_of, unless_ended}
 use Rattle.cfg_normal.specs.declared.Node.{Node}
@@ -86,19 +86,12 @@ module _ (g : Setting) (l : Pieces) (base : ℕ) (p : Placement) (place : ℕ �
 
   pub node_is : (a : ℕ) (o : Option NoteRange) → base ≤ a → a < base + 4 * length p.code → range_in p.ranges a ≡ o
       → node_at g.notes a ≡ option_or (option_map (λ (r : NoteRange). r.node) o) None
-  node_is a o low high r =
-      ap (λ (z : Option NoteRange). option_or (option_map (λ (r : NoteRange). r.node) z)
-      (if in_pages g.notes a then None else Some (length g.notes.blocks))) (h.noted.ranges a low high ∙ r)
-      ∙ ap (λ (b : Bool). option_or (option_map (λ (r : NoteRange). r.node) o)
-      (if b then None else Some (length g.notes.blocks))) (h.noted.inside a low high)
+  node_is a o low high r = rw (h.noted.ranges a low high ∙ r, h.noted.inside a low high)
 
   visit_is : (u : State) (o : Option NoteRange) → u.ending ≡ None → base ≤ u.pc → u.pc < base + 4 * length p.code
       → range_in p.ranges u.pc ≡ o
       → visit_of g.notes u ≡ visited o true u.pc
-  visit_is u o live low high r =
-      ap (λ (e : Option Ending). if_live e (visited (range_at g.notes u.pc) (in_pages g.notes u.pc) u.pc)) live
-      ∙ ap (λ (z : Option NoteRange). visited z (in_pages g.notes u.pc) u.pc) (h.noted.ranges u.pc low high ∙ r)
-      ∙ ap (λ (b : Bool). visited o b u.pc) (h.noted.inside u.pc low high)
+  visit_is u o live low high r = rw (live, h.noted.ranges u.pc low high ∙ r, h.noted.inside u.pc low high)
 
   -- between places
   pub on_none : (t u : State) → u.ending ≡ None → base ≤ u.pc → u.pc < base + 4 * length p.code

@@ -1,12 +1,12 @@
 -- What is dead on a way along some edges: only behind the snippet of the last of them, so that no snippet reads a
 -- register in which an earlier one left anything else.
-use Rattle.std.proofs.Common.{◌≡◌, ℕ, ◌<◌, ◌≤◌, ◌⊎◌, inl, inr, Bool, true, false, ◌&&◌, Option, Some, None, List, [], ◌∷◌, ◌++◌, length, refl, ap, sym, ◌∙◌, subst, arith}
-use Rattle.std.specs.Prelude.{if◌then◌else◌, ◌-◌, get_or, slice_get, slice_index}
+use Rattle.std.proofs.Common.{◌≡◌, ℕ, ◌⊎◌, inl, inr, Bool, true, false, ◌&&◌, Option, Some, None, List, [], ◌∷◌, ◌++◌, length, refl, ap, sym, ◌∙◌, subst}
+use Rattle.std.specs.Prelude.{if◌then◌else◌, ◌-◌, slice_index}
 use Rattle.std.specs.List.{position}
 use Rattle.std.specs.Option.{option_to_list}
 use Rattle.std.proofs.lemmas.Bool.{and_parts, cond_both}
 use Rattle.std.proofs.lemmas.List.Quantifiers.{position-Some}
-use Rattle.std.proofs.lemmas.Option.{slice_get_cases}
+use Rattle.std.proofs.lemmas.Option.{slice_get-get_or}
 use Rattle.eel_base.specs.CodeText.{word_at}
 use Rattle.v8_decode.specs.Parts.{every_part, has, members}
 use Rattle.v8_decode.specs.declared.Instr.{Instr}
@@ -162,18 +162,10 @@ listed_last g (Some edge) = (inl refl, tt)
 module _ (g : Setting) (l : Pieces) (f : Frame) (has : HasCells g l f) where
   found_out : (p : Edge → Bool) → ((edge : Edge) → p edge ≡ true → same_kind edge.kind kinds.Out ≡ true) → (edge : ℕ)
       → position p (graph_in g).edges ≡ Some edge → g.dead edge ≡ []
-  found_out p outs edge e = go (slice_get_cases (graph_in g).edges edge).1
-    where
-      go : ((x : Edge) × (edge < length (graph_in g).edges) × (slice_get (graph_in g).edges edge ≡ Some x)
-          × (get_or (graph_in g).edges edge x ≡ x))
-          ⊎ ((length (graph_in g).edges ≤ edge) × (slice_get (graph_in g).edges edge ≡ None)) → g.dead edge ≡ []
-      go (inl (x, within, is, same)) =
-          let passes = (position-Some p (graph_in g).edges edge x e).1 in
-          has.jumps edge (ap is_out is ∙ outs x (ap p (sym same) ∙ passes))
-      go (inr (past, none)) =
-          let some : Edge = record { from = X; to = X; kind = kinds.Land; slot = Nothing } in
-          let within = (position-Some p (graph_in g).edges edge some e).0 in
-          absurd (omega (arith, past, within))
+  found_out p outs edge e =
+      let some : Edge = record { from = X; to = X; kind = kinds.Land; slot = Nothing } in
+      let found = position-Some p (graph_in g).edges edge some e in
+      has.jumps edge (ap is_out (slice_get-get_or (graph_in g).edges edge some found.0) ∙ outs _ found.1)
 
   landing : (next : ℕ) (o : Option ℕ) → word_at g.text next ≡ o → LastDead g (landed g.text (graph_in g) kinds.Out next)
   landing next None e = rw e tt

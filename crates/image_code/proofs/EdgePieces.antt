@@ -1,6 +1,6 @@
 -- The edges of a text's graph, and the pieces of the ways along them.
 use Rattle.std.proofs.Common.{◌≡◌, ℕ, ◌+◌, ◌*◌, ◌%◌, ◌^◌, ◌<◌, Bool, true, Some, List, [], ◌∷◌, length, refl, ap, sym, ◌∙◌, arith}
-use Rattle.std.specs.Prelude.{if◌then◌else◌, ◌&&◌, slice_get}
+use Rattle.std.specs.Prelude.{◌&&◌, slice_get}
 use Rattle.std.specs.Int.{w32, cast_unsigned}
 use Rattle.std.specs.List.{position}
 use Rattle.std.proofs.lemmas.Bool.{and_parts, eq-eqb}
@@ -26,10 +26,9 @@ use Rattle.cfg_walk.proofs.NoneOpen.{edge_lies_in}
 use Rattle.cfg_walk.proofs.Ways.{same_kinds}
 use Rattle.image_code.specs.Simulates.{Setting, graph_in}
 use Rattle.image_code.specs.Cases.{IsFar}
-use Rattle.image_code.specs.Made.{case_by, first_word, jump_to, piece_list, way_by}
+use Rattle.image_code.specs.Made.{case_by, first_word, piece_list, way_by}
 use Rattle.image_code.specs.Numbered.{case_piece, place_in}
 use Rattle.image_code.proofs.CaseTables.{IsKnown}
-use Rattle.layout.specs.declared.items.Item.{Item}
 use Rattle.image_code.proofs.Branches.{IsTransfersWay}
 use Rattle.image_code.proofs.Listed.{case_entry_at, own_at, place_is, way_at}
 
@@ -101,15 +100,9 @@ module _ (g : Setting) (is : IsKnown g) (table cases : ℕ) where
       → slice_get (piece_list g.text (graph_in g) table cases codes) (length g.text.words + number)
       ≡ Some (way_by g.text (graph_in g) table codes number edge (first_word (graph_in g) edge.to) to)
   items_along codes node way number edge k own to e =
-      let its_way = way_by g.text (graph_in g) table codes number edge (first_word (graph_in g) edge.to) in
       way_at g.text b g.switches is.cased table cases codes number edge
       (own_at b g.switches number edge k.found (ap (λ (j : EdgeKind). same_kind j kinds.Land) k.same ∙ own.land))
-      ∙ ap (λ (t : Bool). Some (if t then jump_to 0 else
-      if same_kind edge.kind kinds.Case then jump_to 0 else its_way edge.slot))
-      (ap is_fall k.same ∙ own.fall)
-      ∙ ap (λ (t : Bool). Some (if t then jump_to 0 else its_way edge.slot))
-      (ap (λ (j : EdgeKind). same_kind j kinds.Case) k.same ∙ own.caseless)
-      ∙ ap (λ (s : Carried). Some (its_way s)) e
+      ∙ rw (ap is_fall k.same ∙ own.fall, ap (λ (j : EdgeKind). same_kind j kinds.Case) k.same ∙ own.caseless, e)
 
   -- the piece of a Case edge, where control goes on at a target
   pub items_case : (codes : ℕ → List ℕ) (k : ℕ) (o : Open) → slice_get g.switches k ≡ Some o → (entry word : ℕ)
@@ -123,11 +116,7 @@ module _ (g : Setting) (is : IsKnown g) (table cases : ℕ) where
       let way : WayOut = by_case (lands (graph_in g) (Some word)) in
       case_entry_at g.text b g.switches is.cased table cases codes k o e place word
       (place_is g.text (graph_in g) o.targets entry word at)
-      ∙ ap (λ (t : Bool). Some (if t then case_by g.text (graph_in g) table codes word
-      (edge_along (graph_in g) (block o.block) way) else jump_to 0)) (eq-eqb place place refl)
-      ∙ ap (λ (ns : List ℕ). Some (case_by g.text (graph_in g) table codes word ns)) along.only
-      ∙ ap (λ (xs : List Item). Some xs) (case_by_is g.text (graph_in g) table codes word number edge along.found)
-      ∙ ap (λ (s : Carried). Some (way_by g.text (graph_in g) table codes number edge word s)) slot
+      ∙ rw (eq-eqb place place refl, along.only, along.found, slot)
 
   -- the slot that an edge carries stands in the text, or behind its end
   pub slot_in : (number : ℕ) (edge : Edge) → slice_get (edges_in b g.switches) number ≡ Some edge → IsSlotIn b edge.slot

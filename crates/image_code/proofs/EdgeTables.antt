@@ -75,10 +75,7 @@ module _ (graph : Graph) (g : IsGraph graph) (rows : List (List ℕ)) (first : A
   found_by : (kind : EdgeKind) (edge : Edge) (one : Node) → IsOneOf graph one
       → node_of_edge graph edge ≡ node_number graph one
       → is_edge_at graph (node_number graph node) (kind_number kind) edge ≡ (same_node one node && same_kind edge.kind kind)
-  found_by kind edge one inside by =
-      ap (λ (n : ℕ). (n == node_number graph node) && (kind_number edge.kind == kind_number kind)) by
-      ∙ ap (λ (t : Bool). t && (kind_number edge.kind == kind_number kind)) (nodes_same graph one node inside here)
-      ∙ ap (λ (t : Bool). same_node one node && t) (kinds_same edge.kind kind)
+  found_by kind edge one inside by = rw (by, nodes_same graph one node inside here, kinds_same edge.kind kind)
 
   abbrev number_by : Edge → Bool → ℕ
   number_by edge t = if t then node_number graph edge.to else node_number graph edge.from
@@ -146,12 +143,11 @@ case_edge_is graph g block to l h found is =
         → is_case graph (record { from = block.0; to = node_number graph to }) edge
         ≡ (same_node edge.to to && (same_node edge.from (Block block) && same_kind edge.kind kinds.Case))
     same edge inside =
-        ap (λ (t : Bool). same_kind edge.kind kinds.Case && t)
-        (ap (λ (t : Bool). t && (node_number graph edge.to == node_number graph to))
-        (nodes_same graph edge.from (Block block) (numbered graph edge.from inside.from) l)
-        ∙ ap (λ (t : Bool). same_node edge.from (Block block) && t)
-        (nodes_same graph edge.to to (numbered graph edge.to inside.to) h))
-        ∙ shuffle (same_kind edge.kind kinds.Case) (same_node edge.from (Block block)) (same_node edge.to to)
+        rw (
+          nodes_same graph edge.from (Block block) (numbered graph edge.from inside.from) l,
+          nodes_same graph edge.to to (numbered graph edge.to inside.to) h,
+        )
+        (shuffle (same_kind edge.kind kinds.Case) (same_node edge.from (Block block)) (same_node edge.to to))
 
 -- ---- whether there is one
 

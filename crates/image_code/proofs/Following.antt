@@ -1,7 +1,7 @@
 -- Where a word that is no transfer goes on: to the next word, and at which node.
-use Rattle.std.proofs.Common.{◌≡◌, ◌≢◌, ℕ, ◌+◌, ◌<◌, Bool, true, false, not, Some, List, [], ◌∷◌, refl, ap, sym, ◌∙◌, subst, arith}
+use Rattle.std.proofs.Common.{◌≡◌, ◌≢◌, ℕ, ◌+◌, ◌<◌, Bool, true, false, not, Some, List, [], ◌∷◌, refl, ap, sym, ◌∙◌, subst, arith, inl, inr}
 use Rattle.std.specs.Prelude.{◌==◌, ◌&&◌, if◌then◌else◌, slice_get, slice_index}
-use Rattle.std.proofs.lemmas.Bool.{and_parts, eqb-true, eq-eqb, false≢true}
+use Rattle.std.proofs.lemmas.Bool.{and_parts, cases_eq, eqb-true, eq-eqb, false≢true, ne_eqb}
 use Rattle.v8_decode.specs.declared.Instr.{Instr}
 use Rattle.v8_decode.specs.Words.{decode_of}
 use Rattle.v8_step.specs.Items.{is_transfer}
@@ -102,14 +102,9 @@ module _ (g : Setting) (is : IsKnown g) where
     pub last_edges : word ≡ last_word b.firsts b.words its_block → edges ≡ edge_from (graph_in g) node kinds.Fall
     last_edges last = edges_if true (eq-eqb word (last_word b.firsts b.words its_block) last)
 
-    not_eq : (word ≡ last_word b.firsts b.words its_block → ⊥) → (t : Bool)
-        → (word == last_word b.firsts b.words its_block) ≡ t → t ≡ false
-    not_eq inner true e = absurd (inner (eqb-true word (last_word b.firsts b.words its_block) e))
-    not_eq inner false e = refl
-
     pub inner_edges : (word ≡ last_word b.firsts b.words its_block → ⊥) → edges ≡ []
     inner_edges inner =
-        edges_if false (not_eq inner (word == last_word b.firsts b.words its_block) refl)
+        edges_if false (ne_eqb word (last_word b.firsts b.words its_block) inner)
 
     -- the edge to the next block
     pub some_edge : word ≡ last_word b.firsts b.words its_block → edges ≢ []
@@ -139,22 +134,17 @@ module _ (g : Setting) (is : IsKnown g) where
 
     pub next_in_order : word + 1 < b.words → node ≡ node_in_order (graph_in g) word
         → node_after (graph_in g) node edges ≡ node_in_order (graph_in g) (word + 1)
-    next_in_order more same = by (word == last_word b.firsts b.words its_block) refl
-      where
-        by : (t : Bool) → (word == last_word b.firsts b.words its_block) ≡ t
-            → node_after (graph_in g) node edges ≡ node_in_order (graph_in g) (word + 1)
-        by true e =
-            let last = eqb-true word (last_word b.firsts b.words its_block) e in
-            ap (node_after (graph_in g) node) (last_edges last)
-            ∙ falls_to g.text b g.switches cut word low is.cased.jumps node there home falls last
-            ∙ ap (directed g.switches node kinds.Fall) (node_within b (word + 1) more)
-            ∙ directed_order node kinds.Fall (holding_of b (word + 1))
-            (not_compared node its_block home (ap ends_block_after (ended last)) kinds.Fall (holding_of b (word + 1)))
-        by false e =
-            let inner : word ≡ last_word b.firsts b.words its_block → ⊥ =
-            λ last. absurd (false≢true (sym e ∙ eq-eqb word (last_word b.firsts b.words its_block) last)) in
-            ap (node_after (graph_in g) node) (inner_edges inner) ∙ same
-            ∙ ap (λ (k : ℕ). if jumps_in g.switches k then copy k else block k) (sym (held_next inner))
+    next_in_order more same = elim (cases_eq word (last_word b.firsts b.words its_block)) [
+      | inl last ↦
+          ap (node_after (graph_in g) node) (last_edges last)
+          ∙ falls_to g.text b g.switches cut word low is.cased.jumps node there home falls last
+          ∙ ap (directed g.switches node kinds.Fall) (node_within b (word + 1) more)
+          ∙ directed_order node kinds.Fall (holding_of b (word + 1))
+          (not_compared node its_block home (ap ends_block_after (ended last)) kinds.Fall (holding_of b (word + 1)))
+      | inr inner ↦
+          ap (node_after (graph_in g) node) (inner_edges inner) ∙ same
+          ∙ ap (λ (k : ℕ). if jumps_in g.switches k then copy k else block k) (sym (held_next inner))
+    ]
 
     -- ---- at the block itself of a jump, and at the landed copy of a comparison's
 
@@ -176,16 +166,11 @@ module _ (g : Setting) (is : IsKnown g) where
     pub jump_apart : (k : ℕ) (o : Open) → slice_get g.switches k ≡ Some o → node ≡ block o.block → its_block ≡ o.block
         → same_node node (node_in_order (graph_in g) word) ≡ false
     jump_apart k o e here held =
-        ap (λ (n : Node). same_node n (node_in_order (graph_in g) word)) here
-        ∙ ap (λ (t : Bool). same_node (block o.block) (if t then copy its_block else block its_block))
-        (ap (jumps_in g.switches) held ∙ jump_of g.text b g.switches k o e)
+        rw (here, ap (jumps_in g.switches) held ∙ jump_of g.text b g.switches k o e)
 
     pub compare_apart : (k : ℕ) (o : Open) → slice_get g.switches k ≡ Some o → node ≡ copy o.switch.compare.0
         → its_block ≡ o.switch.compare.0 → same_node node (node_in_order (graph_in g) word) ≡ false
-    compare_apart k o e here held =
-        ap (λ (n : Node). same_node n (node_in_order (graph_in g) word)) here
-        ∙ ap (λ (t : Bool). same_node (copy o.switch.compare.0) (if t then copy its_block else block its_block))
-        (no_jump (jumps_in g.switches its_block) refl)
+    compare_apart k o e here held = rw (here, no_jump (jumps_in g.switches its_block) refl)
       where
         no_jump : (t : Bool) → jumps_in g.switches its_block ≡ t → jumps_in g.switches its_block ≡ false
         no_jump false e = e

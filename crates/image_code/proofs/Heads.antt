@@ -134,10 +134,7 @@ module _ (g : Setting) (codes : ℕ → List ℕ) (is : IsKnown g) (p : Placemen
         → way_by g.text (graph_in g) f.table.base codes way.number way.edge to (carried.Word (record { 0 = slot }))
         ≡ slot_copy g.text (graph_in g) f.table.base codes (record { 0 = address_of g.text slot })
         (number_in g node) (slice_index g.text.words slot) way.number way.edge to
-    leaves to =
-        ap (λ (n : Node). slot_copy g.text (graph_in g) f.table.base codes
-        (record { 0 = address_of g.text slot }) (number_in g n) (slice_index g.text.words slot) way.number way.edge to)
-        (edge_is g codes is p f node x way).leaves
+    leaves to = rw (edge_is g codes is p f node x way).leaves
 
     pub plain_copy : (same_kind (way_in g codes is p f x) kinds.Out ≡ true → has_cases g.switches node ≡ false)
         → HasCopy (length g.text.words + way.number) (first_word (graph_in g) way.edge.to)

@@ -102,26 +102,14 @@ module _ (text : Words) (b : Blocks) (opens : List Open) where
 
   order_block : (k word : ℕ) → k ≡ holding_of b word → jumps_in opens k ≡ false → HasImage (block k) word
   order_block k word held e =
-      in_order
-      (ap block held
-      ∙ sym (ap (λ (t : Bool). if t then copy (holding_of b word) else block (holding_of b word))
-      (ap (jumps_in opens) (sym held) ∙ e)))
-      (ap (λ (n : Option ℕ). at_open text graph (jump_image text graph) n word)
-      (not_placed (λ (o : Open). o.block == k) opens e))
-      (ap (λ (n : Option ℕ). at_open text graph (jump_enter text graph) n word)
-      (not_placed (λ (o : Open). o.block == k) opens e))
+      in_order (rw (← held, e)) (rw (not_placed (λ (o : Open). o.block == k) opens e))
+      (rw (not_placed (λ (o : Open). o.block == k) opens e))
 
   order_copy : (k word : ℕ) → k ≡ holding_of b word → jumps_in opens k ≡ true → compares_in opens k ≡ false
       → HasImage (copy k) word
   order_copy k word held e none =
-      in_order
-      (ap copy held
-      ∙ sym (ap (λ (t : Bool). if t then copy (holding_of b word) else block (holding_of b word))
-      (ap (jumps_in opens) (sym held) ∙ e)))
-      (ap (λ (n : Option ℕ). at_open text graph (compare_image text graph) n word)
-      (not_placed (λ (o : Open). o.switch.compare.0 == k) opens none))
-      (ap (λ (n : Option ℕ). at_open text graph (compare_image text graph) n word)
-      (not_placed (λ (o : Open). o.switch.compare.0 == k) opens none))
+      in_order (rw (← held, e)) (rw (not_placed (λ (o : Open). o.switch.compare.0 == k) opens none))
+      (rw (not_placed (λ (o : Open). o.switch.compare.0 == k) opens none))
 
   pub has_image : (node : Node) (word : ℕ) → home_of node ≡ block (holding_of b word) → IsNodeIn b opens node
       → HasImage node word

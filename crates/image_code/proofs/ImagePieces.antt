@@ -49,19 +49,15 @@ module _ (g : Setting) (is : IsKnown g) (table cases : ℕ) (codes : ℕ → Lis
   pub image_at : (node : Node) (word : ℕ) → word < length g.text.words → HasImage g.text b g.switches node word
       → slice_get all (image_number g.text (graph_in g) node word) ≡ Some (image_of node word)
   image_at node word low (in_order same number enter) =
-      ap (slice_get all) number
-      ∙ order_at g.text b g.switches is.cased table cases codes word low
-      ∙ ap (λ (n : Node). Some (image_of n word)) (sym same)
+      rw (number, same) (order_at g.text b g.switches is.cased table cases codes word low)
   image_at node word low (at_jump k o at e here held) =
       let inside = in_block word low o.block held in
-      ap (slice_get all) (jump_image_is g.text b g.switches k o node word at e here)
-      ∙ jump_at g.text b g.switches is.cased table cases codes k o e word inside.above inside.below
-      ∙ ap (λ (n : Node). Some (image_of n word)) (sym here)
+      rw (jump_image_is g.text b g.switches k o node word at e here, here)
+      (jump_at g.text b g.switches is.cased table cases codes k o e word inside.above inside.below)
   image_at node word low (at_compare k o at e here held) =
       let inside = in_block word low o.switch.compare.0 held in
-      ap (slice_get all) (compare_image_is g.text b g.switches k o node word at e here)
-      ∙ compare_at g.text b g.switches is.cased table cases codes k o e word inside.above inside.below
-      ∙ ap (λ (n : Node). Some (image_of n word)) (sym here)
+      rw (compare_image_is g.text b g.switches k o node word at e here, here)
+      (compare_at g.text b g.switches is.cased table cases codes k o e word inside.above inside.below)
 
   -- where control enters stands some piece
   pub enter_at : (node : Node) (word : ℕ) → word < length g.text.words → HasImage g.text b g.switches node word

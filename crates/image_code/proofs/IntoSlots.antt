@@ -1,7 +1,6 @@
 -- A transfer at a word goes into its slot, where the way of its edge leads.
 use Rattle.std.proofs.Common.{◌≡◌, ◌≢◌, ℕ, ◌+◌, ◌-◌, ◌%◌, ◌^◌, ◌<◌, true, false, Option, Some, None, List, ap, sym, ◌∙◌, subst, arith}
 use Rattle.std.specs.Prelude.{slice_index}
-use Rattle.std.specs.Option.{option_map}
 use Rattle.std.proofs.lemmas.Bool.{false≢true}
 use Rattle.eel_base.specs.CodeText.{word_at}
 use Rattle.v8_decode.specs.declared.Instr.{Instr}
@@ -61,8 +60,7 @@ module _ (g : Setting) (codes : ℕ → List ℕ) (is : IsKnown g) (p : Placemen
   pub before : (v : State) → v.pc ≡ x.npc → instr_at g.text (v.pc - 4) ≡ Some instr
   before v pc =
       let back : v.pc - 4 ≡ x.pc = (let low = address_low in omega arith) in
-      ap (instr_at g.text) back ∙ ap (option_map (λ w. decode_of (slice_index g.text.words w))) at
-      ∙ ap (λ z. Some z) says
+      rw (back, at, says)
 
   -- the way of the edge leads to the slot
   abbrev pub LeadsThere : EdgeKind → State → Type 0

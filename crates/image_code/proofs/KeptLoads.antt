@@ -17,13 +17,13 @@ use Rattle.cfg_walk.proofs.Edges.{block}
 use Rattle.jump_code.specs.Keeping.{keep_load}
 use Rattle.jump_code.specs.Pieces.{word_items}
 use Rattle.layout.specs.declared.items.Item.{Item}
-use Rattle.layout.specs.Laid.{IsLaid, Placement, is_jump, item_at, item_in, items_in, size_of}
+use Rattle.layout.specs.Laid.{IsLaid, Placement, is_jump, item_at, items_in, size_of}
 use Rattle.image_code.specs.Graphs.{case_table}
 use Rattle.image_code.specs.Images.{Frame}
 use Rattle.image_code.specs.Keeping.{IsEntered, at_once, keeping}
 use Rattle.image_code.specs.Loads.{first_operand, load_of, second_operand}
 use Rattle.image_code.specs.Made.{keep_by}
-use Rattle.image_code.specs.Numbered.{at_open, enter_number, image_number, jump_enter, jump_image, jump_number}
+use Rattle.image_code.specs.Numbered.{enter_number, image_number, jump_enter, jump_image, jump_number}
 use Rattle.image_code.specs.Simulates.{CaseTable, IsAtWord, Setting, graph_in}
 use Rattle.image_code.proofs.CaseTables.{IsKnown, known_at, table_of}
 use Rattle.image_code.proofs.ImageNumbers.{block_of, jump_enter_is, jump_image_is, jump_numbered, jump_of}
@@ -75,8 +75,7 @@ module _ (g : Setting) (codes : ℕ → List ℕ) (is : IsKnown g) (p : Placemen
         let size : size_of (l g codes is p f).list piece ≡ 3 = ap (λ (v : Option (List Item)). items_in v) items in
         let closed : is_jump (item_at (l g codes is p f).list piece (size_of (l g codes is p f).list piece - 1))
         ≡ false =
-        ap (λ n. is_jump (item_at (l g codes is p f).list piece (n - 1))) size
-        ∙ ap (λ (v : Option (List Item)). is_jump (item_in v 2)) items in
+        rw (size, items) in
         ap (place piece) (sym size) ∙ laid.falls piece next_within closed ∙ sym (laid.starts (suc piece) next_within)
 
     pub keeps : IsEntered g (l g codes is p f) p place f node x
@@ -108,12 +107,7 @@ module _ (g : Setting) (codes : ℕ → List ℕ) (is : IsKnown g) (p : Placemen
   other_block k here quiet =
       comes_itself
       (λ word _ _.
-      ap (λ (n : Node). enter_number g.text (graph_in g) n word) here
-      ∙ ap (λ (n : Option ℕ). at_open g.text (graph_in g) (jump_enter g.text (graph_in g)) n word)
-      (not_placed (λ (o : Open). o.block == k) g.switches quiet)
-      ∙ sym (ap (λ (n : Node). image_number g.text (graph_in g) n word) here
-      ∙ ap (λ (n : Option ℕ). at_open g.text (graph_in g) (jump_image g.text (graph_in g)) n word)
-      (not_placed (λ (o : Open). o.block == k) g.switches quiet)))
+      rw (here, not_placed (λ (o : Open). o.block == k) g.switches quiet))
       (λ j table e a.
       let t = table_of g is.known j table e in
       let same : k ≡ t.o.block =
@@ -175,6 +169,5 @@ module _ (g : Setting) (codes : ℕ → List ℕ) (is : IsKnown g) (p : Placemen
       by (Block k) here = in_block k.0 here (jumps_in g.switches k.0) refl
       by n here =
           comes_itself
-          (λ word _ _. ap (λ (n : Node). enter_number g.text (graph_in g) n word) here
-          ∙ sym (ap (λ (n : Node). image_number g.text (graph_in g) n word) here))
+          (λ word _ _. rw here)
           (λ j table e a. let s : n ≡ block table.block = sym here ∙ a.itself in absurd (cc))

@@ -46,8 +46,7 @@ way_among text graph table codes number k [] edge e = absurd (cc)
 way_among text graph table codes number zero (other ∷ edges) edge e =
     let same : other ≡ edge = cc in
     let here : number ≡ number + 0 = omega arith in
-    ap (λ (x : Edge). Some (way_along text graph table codes number x)) same
-    ∙ ap (λ (n : ℕ). Some (way_along text graph table codes n edge)) here
+    rw (same, ← here)
 way_among text graph table codes number (suc k) (other ∷ edges) edge e =
     let next : suc number + k ≡ number + suc k = omega arith in
     way_among text graph table codes (suc number) k edges edge e
@@ -68,8 +67,7 @@ case_among text graph table codes o entry k [] word e = absurd (cc)
 case_among text graph table codes o entry zero (other ∷ words) word e =
     let same : other ≡ word = cc in
     let here : entry ≡ entry + 0 = omega arith in
-    ap (λ (x : ℕ). Some (case_at text graph table codes o entry x)) same
-    ∙ ap (λ (n : ℕ). Some (case_at text graph table codes o n word)) here
+    rw (same, ← here)
 case_among text graph table codes o entry (suc k) (other ∷ words) word e =
     let next : suc entry + k ≡ entry + suc k = omega arith in
     case_among text graph table codes o (suc entry) k words word e
@@ -153,11 +151,13 @@ module _ (text : Words) (b : Blocks) (opens : List Open) (cased : AreCased text 
   before_count : (o : Open) → length (compared o ++ before_load o)
       ≡ size_of b o.switch.compare.0 + (load_of text o - slice_index b.firsts o.block)
   before_count o =
-      length-append (compared o) (before_load o)
-      ∙ ap (λ (n : ℕ). n + length (before_load o)) (compared_count o)
-      ∙ ap (λ (n : ℕ). size_of b o.switch.compare.0 + n)
-      (length-map-range_with_len (image_of (block o.block)) (slice_index b.firsts o.block)
-      (load_of text o - slice_index b.firsts o.block))
+      let first = slice_index b.firsts o.block in
+      omega (
+        arith,
+        length-append (compared o) (before_load o),
+        compared_count o,
+        length-map-range_with_len (image_of (block o.block)) first (load_of text o - first),
+      )
 
   pub pieces_sized : Sized its_pieces (pieces_of text graph) opens
   pieces_sized k o e =
@@ -181,35 +181,39 @@ module _ (text : Words) (b : Blocks) (opens : List Open) (cased : AreCased text 
 
   pub ways_end : length (images ++ ways) ≡ length text.words + length (own_edges graph)
   ways_end =
-      length-append images ways
-      ∙ ap (λ n. n + length ways) images_end
-      ∙ ap (λ n. length text.words + n) (ways_count text graph table codes 0 (own_edges graph))
+      omega (arith, length-append images ways, images_end, ways_count text graph table codes 0 (own_edges graph))
 
   pub landings_end : length (images ++ ways ++ landings)
       ≡ length text.words + length (own_edges graph) + length text.words
   landings_end =
-      length-append (images ++ ways) landings
-      ∙ ap (λ n. n + length landings) ways_end
-      ∙ ap (λ n. length text.words + length (own_edges graph) + n)
-      (length-map (below (length text.words)) (landing text graph codes) ∙ length-below (length text.words))
+      omega (
+        arith,
+        length-append (images ++ ways) landings,
+        ways_end,
+        length-map (below (length text.words)) (landing text graph codes),
+        length-below (length text.words),
+      )
 
   pub opens_end : length (images ++ ways ++ landings ++ flat_map its_pieces opens) ≡ case_begin text graph
   opens_end =
-      length-append (images ++ ways ++ landings) (flat_map its_pieces opens)
-      ∙ ap (λ n. n + length (flat_map its_pieces opens)) landings_end
-      ∙ ap (λ n. length text.words + length (own_edges graph) + length text.words + n)
-      (flat_count its_pieces (pieces_of text graph) opens pieces_sized)
-      ∙ ap (λ (os : List Open). length text.words + length (own_edges graph) + length text.words
-      + sum_by (pieces_of text graph) os) (sym (take_all (length opens) opens (omega arith)))
+      omega (
+        arith,
+        length-append (images ++ ways ++ landings) (flat_map its_pieces opens),
+        landings_end,
+        flat_count its_pieces (pieces_of text graph) opens pieces_sized,
+        ap (sum_by (pieces_of text graph)) (take_all (length opens) opens (omega arith)),
+      )
 
   pub cases_end : length before_foreign
       ≡ foreign_number text graph
   cases_end =
-      length-append (images ++ ways ++ landings ++ flat_map its_pieces opens) (flat_map its_cases opens)
-      ∙ ap (λ n. n + length (flat_map its_cases opens)) opens_end
-      ∙ ap (λ n. case_begin text graph + n) (flat_count its_cases (entries_of text graph) opens cases_sized)
-      ∙ ap (λ (os : List Open). case_begin text graph + sum_by (entries_of text graph) os)
-      (sym (take_all (length opens) opens (omega arith)))
+      omega (
+        arith,
+        length-append (images ++ ways ++ landings ++ flat_map its_pieces opens) (flat_map its_cases opens),
+        opens_end,
+        flat_count its_cases (entries_of text graph) opens cases_sized,
+        ap (sum_by (entries_of text graph)) (take_all (length opens) opens (omega arith)),
+      )
 
   pub count_is : length all ≡ foreign_number text graph + 1
   unfolding piece_list

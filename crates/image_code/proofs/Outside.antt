@@ -1,11 +1,11 @@
 -- Nothing can be fetched outside the code: there the run ends, as the original's does.
-use Rattle.std.proofs.Common.{◌≡◌, ◌≢◌, ℕ, ◌+◌, ◌*◌, inl, inr, Bool, true, false, Option, Some, None, [], length, refl, ap, sym, ◌∙◌, subst, arith}
-use Rattle.std.specs.Prelude.{if◌then◌else◌, ◌==◌}
-use Rattle.std.specs.Option.{option_map, option_or}
+use Rattle.std.proofs.Common.{◌≡◌, ◌≢◌, ℕ, ◌+◌, ◌*◌, inl, inr, true, false, Option, Some, None, [], length, refl, ap, sym, ◌∙◌, subst, arith}
+use Rattle.std.specs.Prelude.{◌==◌}
+use Rattle.std.specs.Option.{option_map}
 use Rattle.std.proofs.lemmas.Bool.{cases_lt}
 use Rattle.std.proofs.lemmas.Bool.Decides.{nat_tests}
 use Rattle.eel_base.specs.CodeText.{word_at}
-use Rattle.notes.specs.Format.{NoteRange, range_at}
+use Rattle.notes.specs.Format.{range_at}
 use Rattle.v8_memory.specs.Regions.{fetch_of}
 use Rattle.v8_step.specs.declared.Ending.{Ending}
 use Rattle.v8_step.specs.declared.Slot.{Slot}
@@ -14,7 +14,7 @@ use Rattle.v8_step.specs.State.{State}
 use Rattle.v8_step.specs.Traps.{instruction_access_exception}
 use Rattle.v8_step.specs.Transfers.{trapped}
 use Rattle.v8_step.specs.Step.{step_of, on_word, unless_ended, puts_of, puts_on_word, puts_unless_ended}
-use Rattle.two_runs.specs.Visits.{if_live, in_pages, pages_of, visited}
+use Rattle.two_runs.specs.Visits.{in_pages, pages_of}
 use Rattle.cfg_normal.specs.declared.Node.{Node}
 use Rattle.cfg_walk.specs.Walk.{Point}
 use Rattle.layout.specs.Laid.{HasShortForms, Placement}
@@ -115,13 +115,8 @@ module _ (g : Setting) (l : Pieces) (base : ℕ) (p : Placement) (place : ℕ �
 
   foreign_visits : visits_it g node x t
   foreign_visits = (
-    ap (λ (e : Option Ending). if_live e (visited (range_at g.notes t.pc) (in_pages g.notes t.pc) t.pc)) here.live
-        ∙ ap (λ (r : Option NoteRange). visited r (in_pages g.notes t.pc) t.pc) nowhere
-        ∙ ap (λ (b : Bool). visited None b t.pc) outside ∙ ap (λ z. Some z) foreign_at,
-    ap (λ (r : Option NoteRange). option_or (option_map (λ (r : NoteRange). r.node) r)
-        (if in_pages g.notes t.pc then None else Some (length g.notes.blocks))) nowhere
-        ∙ ap (λ (b : Bool). if b then None else Some (length g.notes.blocks)) outside
-        ∙ ap (λ z. Some z) (h.noted.blocks ∙ sym (ap (number_in g) c.beyond)),
+    rw (here.live, nowhere, outside) (ap (λ z. Some z) foreign_at),
+    rw (nowhere, outside) (ap (λ z. Some z) (h.noted.blocks ∙ sym (ap (number_in g) c.beyond))),
   )
 
 pub foreign_step : ForeignStep
@@ -152,12 +147,8 @@ module _ (g : Setting) (l : Pieces) (base : ℕ) (p : Placement) (f : Frame)
 
   off_visits : visits_it g node x t
   off_visits = (
-    ap (λ (e : Option Ending). if_live e (visited (range_at g.notes t.pc) (in_pages g.notes t.pc) t.pc)) here.live
-        ∙ ap (λ (r : Option NoteRange). visited r (in_pages g.notes t.pc) t.pc) range_is
-        ∙ ap (λ (b : Bool). if b then Some c.range.address else None) first ∙ ap (λ z. Some z) c.address,
-    ap (λ (r : Option NoteRange). option_or (option_map (λ (r : NoteRange). r.node) r)
-        (if in_pages g.notes t.pc then None else Some (length g.notes.blocks))) range_is
-        ∙ ap (λ z. Some z) c.number,
+    rw (here.live, range_is, first) (ap (λ z. Some z) c.address),
+    rw range_is (ap (λ z. Some z) c.number),
   )
 
 pub offs_step : OffsStep

@@ -30,7 +30,7 @@ use Rattle.cfg_walk.proofs.Leaving.{end_is, is_in, node_is}
 use Rattle.jump_code.specs.Pieces.{far_piece}
 use Rattle.layout.specs.declared.items.Item.{Item}
 use Rattle.layout.specs.declared.items.Item.TheVariants as it
-use Rattle.layout.specs.Laid.{Placement, IsLaid, item_at, item_in, items_in, is_jump, size_of}
+use Rattle.layout.specs.Laid.{Placement, IsLaid, item_at, is_jump, size_of}
 use Rattle.image_code.specs.Simulates.{Setting, at_point, does_at, gone_at, graph_in, number_in}
 use Rattle.image_code.specs.Images.{Frame, entered_at}
 use Rattle.image_code.specs.Cases.{IsFar, IsPlain, JumpsOn, LeadsOn, plain_piece, words_on}
@@ -125,14 +125,10 @@ module _ (g : Setting) (codes : ℕ → List ℕ) (is : IsKnown g) (p : Placemen
   next_begins k ends after =
       let many : length code ≡ length (flat_map codes edges) = length-map (flat_map codes edges) it.Word in
       let size : size_of (l g codes is p f).list k ≡ 3 + length (flat_map codes edges) =
-      ap (λ (v : Option (List Item)). items_in v) ends
-      ∙ (let e : suc (suc (suc (length code))) ≡ 3 + length (flat_map codes edges) = omega arith in e) in
+      rw ends (omega arith) in
       let last : 3 + length (flat_map codes edges) - 1 ≡ suc (suc (length (flat_map codes edges))) = omega arith in
       let closed : is_jump (item_at (l g codes is p f).list k (size_of (l g codes is p f).list k - 1)) ≡ false =
-      ap (λ n. is_jump (item_at (l g codes is p f).list k (n - 1))) size
-      ∙ ap (λ n. is_jump (item_at (l g codes is p f).list k n)) last
-      ∙ ap (λ (v : Option (List Item)). is_jump (item_in v (suc (suc (length (flat_map codes edges)))))) ends
-      ∙ ends_without_jump it.EndMark (flat_map codes edges) refl in
+      rw (size, last, ends) (ends_without_jump it.EndMark (flat_map codes edges) refl) in
       ap (place k) (sym size) ∙ laid.falls k after closed ∙ sym (laid.starts (suc k) after)
 
   -- where the step leads

@@ -17,7 +17,7 @@ use Rattle.cfg_blocks.specs.declared.EdgeKind.TheVariants as kinds
 use Rattle.cfg_blocks.specs.Blocks.{Blocks, blocks_of}
 use Rattle.cfg_blocks.proofs.Targets.{word_at-some}
 use Rattle.cfg_normal.specs.declared.Node.{Node}
-use Rattle.cfg_normal.specs.declared.Node.TheVariants.{Block, Landed, X}
+use Rattle.cfg_normal.specs.declared.Node.TheVariants.{X}
 use Rattle.cfg_normal.specs.Graph.{Graph, has_cases, lands}
 use Rattle.cfg_walk.specs.Walk.{Point, landed, landing_at as edge_landing, led_to, node_after, point_of, same_kind, slot_left}
 use Rattle.cfg_walk.specs.Matches.{Begins, IsOnItsWay, last_in, way_address}
@@ -54,25 +54,19 @@ use Rattle.image_code.proofs.Visited.{case_kind, edge_is, entered_none, entered_
 goes_begins : (text : Words) (graph : Graph) (node : Node) (address : ℕ) (o : Option ℕ)
     → Begins graph node o → (word : ℕ) → o ≡ Some word
     → goes_on text graph node (first_word graph node) address ≡ jump_to (enter_number text graph node word)
-goes_begins text graph (Block k) address None h word e = absurd h
-goes_begins text graph (Block k) address (Some w) h word e =
-    let q : w ≡ word = cc in
-    ap (λ (n : ℕ). jump_to (enter_number text graph (Block k) n)) (h ∙ q)
-goes_begins text graph (Landed k) address None h word e = absurd h
-goes_begins text graph (Landed k) address (Some w) h word e =
-    let q : w ≡ word = cc in
-    ap (λ (n : ℕ). jump_to (enter_number text graph (Landed k) n)) (h ∙ q)
 goes_begins text graph X address None h word e = absurd (cc)
 goes_begins text graph X address (Some w) h word e = absurd h
+goes_begins text graph node address None h word e = absurd h
+goes_begins text graph node address (Some w) h word e =
+    let q : w ≡ word = cc in
+    ap (λ (n : ℕ). jump_to (enter_number text graph node n)) (h ∙ q)
 
 goes_out : (text : Words) (graph : Graph) (node : Node) (word address : ℕ) (o : Option ℕ)
     → Begins graph node o → o ≡ None → goes_on text graph node word address ≡ far_piece address
-goes_out text graph (Block k) word address None h e = absurd h
-goes_out text graph (Block k) word address (Some w) h e = absurd (cc)
-goes_out text graph (Landed k) word address None h e = absurd h
-goes_out text graph (Landed k) word address (Some w) h e = absurd (cc)
 goes_out text graph X word address None h e = refl
 goes_out text graph X word address (Some w) h e = absurd h
+goes_out text graph node word address None h e = absurd h
+goes_out text graph node word address (Some w) h e = absurd (cc)
 
 -- ---- landings
 
@@ -264,15 +258,7 @@ module _ (g : Setting) (codes : ℕ → List ℕ) (is : IsKnown g) (p : Placemen
       kind = kind_is g codes is p f node x way quiet
 
       there : on_there ≡ goes_on g.text (graph_in g) way.edge.to (first_word (graph_in g) way.edge.to) x.npc
-      there =
-          ap (λ (n : ℕ). goes_on g.text (graph_in g) way.edge.to n
-          (way_address g.text (graph_in g) way.edge.from way.edge.kind)) first
-          ∙ ap (λ (n : Node). goes_on g.text (graph_in g) way.edge.to (first_word (graph_in g) way.edge.to)
-          (way_address g.text (graph_in g) n way.edge.kind)) its_edge.leaves
-          ∙ ap (λ (k : EdgeKind). goes_on g.text (graph_in g) way.edge.to (first_word (graph_in g) way.edge.to)
-          (way_address g.text (graph_in g) node k)) kind
-          ∙ ap (λ (a : ℕ). goes_on g.text (graph_in g) way.edge.to (first_word (graph_in g) way.edge.to) a)
-          (sym (way.goes other))
+      there = rw (first, its_edge.leaves, kind, ← (way.goes other))
 
       npc_far : IsFar x.npc
       npc_far =

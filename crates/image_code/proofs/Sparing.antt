@@ -1,7 +1,6 @@
 -- Which stores are counted, and what is known of them.
 use Rattle.std.proofs.Common.{◌≡◌, ℕ, zero, suc, ◌+◌, ◌*◌, ◌%◌, ◌^◌, ◌<◌, ◌≤◌, ◌⊎◌, inl, inr, Bool, true, false, not, ◌&&◌, ◌||◌, Option, Some, None, List, [], ◌∷◌, ◌++◌, map, refl, ap, sym, ◌∙◌, arith}
 use Rattle.std.specs.Prelude.{if◌then◌else◌, ◌==◌, nat_le, nat_lt, slice_index}
-use Rattle.std.specs.Int.{w8, w32, from_be_bytes, to_be_bytes}
 use Rattle.std.specs.List.{list_any}
 use Rattle.std.specs.Option.{option_map}
 use Rattle.std.proofs.lemmas.Bool.Decides.{nat_tests}
@@ -12,17 +11,15 @@ use Rattle.v8_decode.specs.declared.Instr.TheVariants as i
 use Rattle.v8_decode.specs.declared.Op2.{Op2}
 use Rattle.v8_decode.specs.declared.StoreKind.{StoreKind}
 use Rattle.v8_decode.specs.Words.{decode_of}
-use Rattle.v8_memory.specs.Regions.{bytes_at, with_bytes}
 use Rattle.v8_memory.specs.Spans.{AllApart, IsApart, IsApartFromAll, Span}
-use Rattle.v8_step.specs.declared.Ending.TheVariants.{Trap}
-use Rattle.v8_step.specs.State.{State, register_of, sum_of, with_register}
-use Rattle.v8_step.specs.Accesses.{ldstub_step, on_bytes, on_memory, store_size, store_step, stored, swap_step}
+use Rattle.v8_step.specs.State.{State, sum_of}
+use Rattle.v8_step.specs.Accesses.{ldstub_step, store_size, store_step, swap_step}
 use Rattle.v8_step.specs.Items.{is_transfer}
 use Rattle.v8_step.specs.Judged.{judged_by}
 use Rattle.v8_step.specs.Step.{act}
 use Rattle.v8_step.specs.Run.{run}
-use Rattle.v8_step.specs.Traps.{data_access_exception, mem_address_not_aligned}
-use Rattle.v8_step.specs.Transfers.{next, trapped}
+use Rattle.v8_step.specs.Traps.{mem_address_not_aligned}
+use Rattle.v8_step.specs.Transfers.{trapped}
 use Rattle.two_runs.specs.Visits.{in_pages, page_of, pages_of}
 use Rattle.cfg_walk.specs.Walk.{instr_at}
 use Rattle.code_runs.specs.Counted.{any_of_word, one_if, stores_at}
@@ -122,25 +119,17 @@ first_out (page ∷ pages) a (inr inside) (apart, more) = first_out pages a insi
 store_traps : (s : State) (kind : StoreKind) (rd rs1 : ℕ) (x : Op2) → (sum_of s rs1 x % store_size kind == 0) ≡ false
     → act s (i.Store kind rd rs1 x) ≡ trapped s mem_address_not_aligned
 unfolding act store_step
-store_traps s kind rd rs1 x e =
-    ap (λ (b : Bool). if b then on_memory s (Trap data_access_exception)
-    (with_bytes s.memory (sum_of s rs1 x) (stored s kind rd)) next else trapped s mem_address_not_aligned) e
+store_traps s kind rd rs1 x e = rw e
 
 ldstub_traps : (s : State) (rd rs1 : ℕ) (x : Op2) → (sum_of s rs1 x % 1 == 0) ≡ false
     → act s (i.Ldstub rd rs1 x) ≡ trapped s mem_address_not_aligned
 unfolding act ldstub_step
-ldstub_traps s rd rs1 x e =
-    ap (λ (b : Bool). if b then on_bytes s (bytes_at s.memory (sum_of s rs1 x) 1) (λ old.
-    on_memory s (Trap data_access_exception) (with_bytes s.memory (sum_of s rs1 x) (0xff ∷ []))
-    (λ t. next (with_register t rd (from_be_bytes w8 old)))) else trapped s mem_address_not_aligned) e
+ldstub_traps s rd rs1 x e = rw e
 
 swap_traps : (s : State) (rd rs1 : ℕ) (x : Op2) → (sum_of s rs1 x % 4 == 0) ≡ false
     → act s (i.Swap rd rs1 x) ≡ trapped s mem_address_not_aligned
 unfolding act swap_step
-swap_traps s rd rs1 x e =
-    ap (λ (b : Bool). if b then on_bytes s (bytes_at s.memory (sum_of s rs1 x) 4) (λ old.
-    on_memory s (Trap data_access_exception) (with_bytes s.memory (sum_of s rs1 x) (to_be_bytes w32 (register_of s rd)))
-    (λ t. next (with_register t rd (from_be_bytes w32 old)))) else trapped s mem_address_not_aligned) e
+swap_traps s rd rs1 x e = rw e
 
 module _ (notes : Notes) (own : IsIn (pages_of notes) (page_word 0)) (s : State) where
   abbrev IsUncounted : Instr → Type 0

@@ -24,7 +24,7 @@ use Rattle.cfg_normal.specs.declared.Slot.TheVariants as carried
 use Rattle.cfg_normal.specs.Nodes.{home_of}
 use Rattle.cfg_normal.specs.Opens.{Open, targets_in}
 use Rattle.cfg_normal.specs.Graph.{IsNodeIn, IsSlotIn, has_cases, lands, node_of}
-use Rattle.cfg_walk.specs.Walk.{Point, WayOut, by_kind, completed, edge_along, gone, instr_at, left_at, left_by, point_of, same_kind, slot_left, unless_ended, way_of, way_to}
+use Rattle.cfg_walk.specs.Walk.{Point, WayOut, by_kind, completed, edge_along, gone, instr_at, left_by, point_of, same_kind, slot_left, unless_ended, way_of, way_to}
 use Rattle.cfg_walk.specs.Matches.{IsCarried, IsOnItsWay, IsTarget, MatchesBy}
 use Rattle.cfg_walk.proofs.Addresses.{word_at-address}
 use Rattle.cfg_walk.proofs.Edges.{block}
@@ -104,9 +104,7 @@ module _ (g : Setting) where
 
   pub nothing_gone : (node : Node) (x : Point) (v : State) → x.slot ≡ NoSlot → v.slot ≢ NoSlot → v.ending ≡ None
       → gone_at g node x v ≡ []
-  nothing_gone node x v none slot live =
-      ap (λ (e : Option Ending). gone g.text (graph_in g) node x (unless_ended e (point_of v))) live
-      ∙ ap (λ (s : Slot). completed g.text (graph_in g) node x (point_of v) s v.slot) none ∙ still v.slot slot
+  nothing_gone node x v none slot live = rw (live, none) (still v.slot slot)
     where
       still : (s : Slot) → s ≢ NoSlot → completed g.text (graph_in g) node x (point_of v) NoSlot s ≡ []
       still NoSlot n = absurd (n refl)
@@ -117,12 +115,7 @@ module _ (g : Setting) where
       → (word : ℕ) → word_at g.text x.pc ≡ Some word → (instr : Instr)
       → decode_of (slice_index g.text.words word) ≡ instr
       → gone_at g node x v ≡ left_by (graph_in g) node word instr
-  left_gone node x v none after live word at instr says =
-      ap (λ (e : Option Ending). gone g.text (graph_in g) node x (unless_ended e (point_of v))) live
-      ∙ ap (λ (s : Slot). completed g.text (graph_in g) node x (point_of v) s v.slot) none
-      ∙ ap (completed g.text (graph_in g) node x (point_of v) NoSlot) after
-      ∙ ap (left_at g.text (graph_in g) node) at
-      ∙ ap (left_by (graph_in g) node word) says
+  left_gone node x v none after live word at instr says = rw (live, none, after, at, says)
 
   -- one from a slot completes the edge of the transfer before, and after a jump a landing
   pub slot_gone : (node : Node) (x : Point) (v : State) → x.slot ≢ NoSlot → v.slot ≡ NoSlot → v.ending ≡ None
@@ -151,14 +144,10 @@ module _ (g : Setting) (codes : ℕ → List ℕ) (is : IsKnown g) (p : Placemen
 
     placed_word : (node : Node) (x : Point) (word : ℕ) → word_at g.text x.pc ≡ Some word → x.slot ≡ NoSlot
         → placed_at node x ≡ slice_index p.at (image node word)
-    placed_word node x word e n =
-        ap (λ (o : Option ℕ). place_by image g l p f node x o x.slot) e
-        ∙ ap (λ (s : Slot). place_by image g l p f node x (Some word) s) n
+    placed_word node x word e n = rw (e, n)
 
     placed_none : (node : Node) (x : Point) → word_at g.text x.pc ≡ None → x.slot ≡ NoSlot → placed_at node x ≡ x.pc
-    placed_none node x e n =
-        ap (λ (o : Option ℕ). place_by image g l p f node x o x.slot) e
-        ∙ ap (λ (s : Slot). place_by image g l p f node x None s) n
+    placed_none node x e n = rw (e, n)
 
     placed_slot : (node : Node) (x : Point) (word : ℕ) → word_at g.text x.pc ≡ Some word → x.slot ≢ NoSlot
         → placed_at node x ≡ slice_index p.at (slot_piece g l node x)
@@ -222,8 +211,7 @@ module _ (g : Setting) (codes : ℕ → List ℕ) (is : IsKnown g) (p : Placemen
       (record { 0 = address_of g.text word }) node word instr)
   image_items node x word at has instr e =
       image_at g is f.table.base f.cases.base codes node word (word_at-some g.text x.pc word at).within has
-      ∙ ap (λ (d : Instr). Some (image_by g.text (graph_in g) (jumps_at g.text f.table.base) f.cases.base codes
-      (record { 0 = address_of g.text word }) node word d)) e
+      ∙ rw e
 
   pub has_its_image : (node : Node) (x : Point) (word : ℕ) → word_at g.text x.pc ≡ Some word
       → home_of node ≡ node_of b (word_at g.text x.pc) → IsNodeIn b g.switches node
@@ -253,9 +241,7 @@ module _ (g : Setting) (codes : ℕ → List ℕ) (is : IsKnown g) (p : Placemen
   way_to_plain : (node : Node) (kind : EdgeKind) (next : ℕ)
       → (same_kind kind kinds.Out ≡ true → has_cases g.switches node ≡ false)
       → way_to g.text (graph_in g) node kind next ≡ by_kind kind
-  way_to_plain node kinds.Out next h =
-      ap (λ (t : Bool). if t then by_case (lands (graph_in g) (word_at g.text next))
-      else by_kind kinds.Out) (h refl)
+  way_to_plain node kinds.Out next h = rw (h refl)
   way_to_plain node _ next h = refl
 
   module _ (node : Node) (x : Point) (way : IsOnItsWay g.text (graph_in g) node x (way_in x)) where
@@ -322,11 +308,7 @@ module _ (g : Setting) (codes : ℕ → List ℕ) (is : IsKnown g) (p : Placemen
       own = way_is_own (instr_at g.text (x.pc - 4)) x.slot
 
       pub plain_piece_is : slot_piece g l node x ≡ length g.text.words + way.number
-      plain_piece_is =
-          piece_along
-          ∙ ap (λ (t : Bool). if t then along_case g.text (graph_in g) way.edge.from way.number (word_at g.text x.npc)
-          else way_piece g.text (graph_in g) way.number)
-          (ap (λ (k : EdgeKind). same_kind k kinds.Case) kind_is ∙ own.caseless)
+      plain_piece_is = piece_along ∙ rw (kind_is, own.caseless)
 
       pub plain_items : (to : Carried) → way.edge.slot ≡ to
           → slice_get l.list (length g.text.words + way.number)
@@ -340,10 +322,7 @@ module _ (g : Setting) (codes : ℕ → List ℕ) (is : IsKnown g) (p : Placemen
 
     module _ (out : same_kind (way_in x) kinds.Out ≡ true) (cased : has_cases g.switches node ≡ true) where
       pub case_way : way_now node x ≡ by_case (lands (graph_in g) (word_at g.text x.npc))
-      case_way =
-          ap (λ (k : EdgeKind). way_to g.text (graph_in g) node k x.npc) (same_kinds (way_in x) kinds.Out out)
-          ∙ ap (λ (t : Bool). if t then by_case (lands (graph_in g) (word_at g.text x.npc))
-          else by_kind kinds.Out) cased
+      case_way = rw (same_kinds (way_in x) kinds.Out out, cased)
 
       pub case_kind : way.edge.kind ≡ kinds.Case
       case_kind = edge_is.same ∙ ap (λ (w : WayOut). w.kind) case_way
