@@ -327,18 +327,14 @@ module _ (g : Setting) (l : Pieces) (base : ℕ) (p : Placement) (place : ℕ �
             let both = nothing_parted g first others (subst (NothingDead g) all d) in
             other.still both.1 ∙ ap (λ (z : State). hopped z to other.memory) (one.still both.0);
         spares = λ there.
-            let first_spares = one.spares there in
-            let other_spares = other.spares there in
             let all_spills = ap (spills_on g) all ∙ spills_then g first others in
             let both = count_add (is_spill g.notes) a b one.count one.path.steps other.count in
-            omega (arith, first_spares, other_spares, all_spills, both);
+            omega (arith, one.spares there, other.spares there, all_spills, both);
         leaves_first = λ there short.
             none_then in_first_word a b one.count other.count one.path.steps (one.leaves_first there short)
             (other.leaves_first there short);
         brief = λ there short.
-            let first_brief = one.brief there short in
-            let other_brief = other.brief there short in
-            omega (arith, first_brief, other_brief, sum);
+            omega (arith, one.brief there short, other.brief there short, sum);
       }
     where
       -- the later snippets read what the earlier ones left
@@ -388,11 +384,9 @@ module _ (g : Setting) (l : Pieces) (base : ℕ) (p : Placement) (place : ℕ �
       (subst (λ z. Rest l k z (map it.Word ws ++ xs)) one
       (rest_behind l k n (it.Word w ∷ []) (map it.Word ws ++ xs) r)) in
       let all : n + suc (length ws) ≡ suc n + length ws = omega arith in
-      let end = ap (place k) all in
-      let after = more.end in
       record {
         words = (word_fetched m has (place k n) w at.1, subst (λ z. HasWords (code_of m) z ws) next more.words);
-        end = omega (arith, end, after, next);
+        end = omega (arith, ap (place k) all, more.end, next);
         bare = λ u from to. elim (cases_lt u.pc (place k (suc n))) [
           | inl before ↦ bare_item k n (it.Word w) item shut u from before
           | inr behind ↦ more.bare u behind (omega (arith, to, next))
@@ -403,12 +397,9 @@ module _ (g : Setting) (l : Pieces) (base : ℕ) (p : Placement) (place : ℕ �
   pub stood_low : (k n : ℕ) (ws : List ℕ) (xs : List Item) → Rest l k n (map it.Word ws ++ xs)
       → place k (n + length ws) ≤ 2 ^ 31
   stood_low k n ws xs r =
-      let size = r.size in
       let both = length-append (map it.Word ws) xs in
-      let words = length_words ws in
-      let ends = (h.laid.within k (n + length ws) r.within (omega (arith, size, both, words))).ends in
-      let low = h.laid.low in
-      omega (arith, ends, low)
+      let ends = (h.laid.within k (n + length ws) r.within (omega (arith, r.size, both, length_words ws))).ends in
+      omega (arith, ends, h.laid.low)
 
   -- ---- the snippets of some edges
 
@@ -607,12 +598,11 @@ module _ (g : Setting) (l : Pieces) (base : ℕ) (p : Placement) (place : ℕ �
   unfoldable pub eased : {next after : Option ℕ} (edges : List ℕ) (a : State) (to few most : ℕ)
       → (after ≢ None → next ≢ None) → few ≤ most → Arrives next edges a to few → Arrives after edges a to most
   eased edges a to few most asked less one =
-      let short = one.few in
       record {
         count = one.count;
         other = one.other;
         memory = one.memory;
-        few = omega (arith, less, short);
+        few = omega (arith, less, one.few);
         path = one.path;
         silent = one.silent;
         stores = one.stores;

@@ -379,17 +379,11 @@ module _ (g : Setting) (codes : ℕ → List ℕ) (is : IsKnown g) (p : Placemen
         never = no_jumps_slot;
       })
 
-      either : t.ending ≡ None → (flag : Bool) → holds_of cond t.codes ≡ flag
-          → LeadsTo (l g codes is p f) p (record { 0 = if holds_of cond t.codes then taken else untaken })
+      either : (flag : Bool) → Goes (if flag then kinds.Taken else kinds.Untaken) (does_at g x t)
+          → LeadsTo (l g codes is p f) p (record { 0 = if flag then taken else untaken })
           (gone_at g node x (does_at g x t)) (word_ahead g x t) (next_entry g (l g codes is p f) p f node x t)
-      either live true e =
-          subst (λ (h : Bool). LeadsTo (l g codes is p f) p (record { 0 = if h then taken else untaken })
-          (gone_at g node x (does_at g x t)) (word_ahead g x t) (next_entry g (l g codes is p f) p f node x t))
-          (sym e) (leads live true e)
-      either live false e =
-          subst (λ (h : Bool). LeadsTo (l g codes is p f) p (record { 0 = if h then taken else untaken })
-          (gone_at g node x (does_at g x t)) (word_ahead g x t) (next_entry g (l g codes is p f) p f node x t))
-          (sym e) (leads live false e)
+      either true leads = leads
+      either false leads = leads
 
       two_ways : t.ending ≡ None
           → slice_get (l g codes is p f).list number ≡ Some (branch_piece address (number_in g node) cond taken untaken)
@@ -411,7 +405,7 @@ module _ (g : Setting) (codes : ℕ → List ℕ) (is : IsKnown g) (p : Placemen
         taken = taken;
         untaken = untaken;
         items = found;
-        leads = either live (holds_of cond t.codes) refl;
+        leads = either (holds_of cond t.codes) (leads live (holds_of cond t.codes) refl);
         never = no_jumps_slot;
       })
 

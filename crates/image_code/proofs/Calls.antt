@@ -96,10 +96,6 @@ module _ (g : Setting) (l : Pieces) (base : ℕ) (p : Placement) (place : ℕ �
 pub calls_step : CallsStep
 calls_step g l base p place f node x t h here c =
     let is = does_is g l base p place f h node x t here c in
-    subst (λ (z : State). Enters g (Entered g l base p f) (HasShortForms l.list place) (gone_at g node x z) node x t z)
-    (sym is)
+    rw is
     (steps g l base p place f h node x t here c (gone_at g node x (called x c.disp t))
-    (gone_last g l f h.cells node x (called x c.disp t))
-    (subst (λ (z : State). LeadsTo l p c.way (gone_at g node x z) (word_at g.text z.pc)
-    (entered_at g l p f (node_after (graph_in g) node (gone_at g node x z)) (point_of z))) is c.leads)
-    (subst (IsNoJumpsSlot g) is c.never))
+    (gone_last g l f h.cells node x (called x c.disp t)) (rw is at c.leads) (rw is at c.never))

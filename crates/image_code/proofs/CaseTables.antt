@@ -55,11 +55,10 @@ module _ (g : Setting) (known : g.opens ≡ map (case_table g.text) g.switches) 
     table_is k o e =
         let c = cased.each k o e in
         let l = load_is g.text (blocks_of g.text g.given) o c in
-        let behind = c.behind in
         let load = instr_at g.text (load_of g.text o) in
         record {
           order = l.below;
-          within = omega (arith, behind);
+          within = omega (arith, c.behind);
           last = sym c.last;
           rd = l.rd;
           loads = l.is;
@@ -70,8 +69,7 @@ module _ (g : Setting) (known : g.opens ≡ map (case_table g.text) g.switches) 
           fits = load_fits (slice_index g.text.words (load_of g.text o)) loads.LD l.rd (first_operand load)
               (second_operand load) l.is;
           straight = λ word above below.
-              let low = l.above in
-              c.straight word (omega (arith, low, above)) below;
+              c.straight word (omega (arith, l.above, above)) below;
         }
 
     pub are_tables : AreCaseTables g

@@ -317,11 +317,9 @@ module _ (g : Setting) (l : Pieces) (base : ℕ) (p : Placement) (place : ℕ �
             place = λ e. absurd (e live);
             sparing = λ w.
                 let there = watched w in
-                let first_word = spared.0 in
-                let more = rest.spares there in
                 let both = count_add (is_spill g.notes) t (act t (decode_of c.word)) 1 stands.one rest.count in
                 record {
-                  spills = omega (arith, first_word, more, both);
+                  spills = omega (arith, spared.0, rest.spares there, both);
                   first = λ short.
                       none_then in_first_word t (act t (decode_of c.word)) 1 rest.count stands.one spared.1
                       (rest.leaves_first there short);
@@ -369,12 +367,7 @@ pub marked_step : (next : Option ℕ) (g : Setting) (l : Pieces) (base : ℕ) (p
     (does_at g x t)
 marked_step next g l base p place f node x t h here c apart onward watched =
     let is : does_at g x t ≡ act (at_point x t) (decode_of c.word) = ap (on_word (at_point x t)) c.is_word in
-    subst (λ (z : State). Enters g (Entered g l base p f) (HasShortForms l.list place) (gone_at g node x z) node x t z)
-    (sym is)
-    (by (act (at_point x t) (decode_of c.word)).ending refl
-    (subst (λ (z : State). z.ending ≡ None → Onward (gone_at g node x z)
-    (entered_at g l p f (node_after (graph_in g) node (gone_at g node x z)) (point_of z))) is onward)
-    (subst (λ (z : State). z.ending ≡ None → IsWatched g (gone_at g node x z) x z → next ≢ None) is watched))
+    rw is (by (act (at_point x t) (decode_of c.word)).ending refl (rw is at onward) (rw is at watched))
   where
     Onward : List ℕ → ℕ → Type 0
     Onward edges to =
@@ -397,9 +390,7 @@ marked_step next g l base p place f node x t h here c apart onward watched =
         (gone_last g l f h.cells node x (act (at_point x t) (decode_of c.word))) e apart
         (judged_moved g.notes x t (decode_of c.word) apart) (onward e) (watched e)
     by (Some d) e onward watched =
-        subst (λ z. Enters g (Entered g l base p f) (HasShortForms l.list place) z node x t
-        (act (at_point x t) (decode_of c.word)))
-        (sym (ended_none g node x (act (at_point x t) (decode_of c.word)) d e))
+        rw (ended_none g node x (act (at_point x t) (decode_of c.word)) d e)
         (ends g l base p place f h node x t here c d e (judged_moved g.notes x t (decode_of c.word) apart))
 
 pub plains_step : PlainsStep

@@ -70,8 +70,7 @@ pub operations_then : (snips : List (List Op)) (first others : List ℕ)
     → operations_on snips (first ++ others) ≡ operations_on snips first + operations_on snips others
 operations_then snips [] others = omega arith
 operations_then snips (edge ∷ edges) others =
-    let more = operations_then snips edges others in
-    omega (arith, more)
+    omega (arith, operations_then snips edges others)
 
 module _ (g : Setting) (l : Pieces) (f : Frame) (framed : IsFramed g f) (has : HasCells g l f) where
   pub cell_low : (cell : ℕ) → cell < g.notes.cells → cell_at g.notes.base cell + 4 ≤ 2 ^ 31
@@ -88,9 +87,8 @@ module _ (g : Setting) (l : Pieces) (f : Frame) (framed : IsFramed g f) (has : H
       → words_at g.notes.base g.notes.cells n ≡ words_at g.notes.base g.notes.cells m
   cells_above May above m n ours stores =
       words_same g.notes.base g.notes.cells m n (λ cell within.
-      let low = cell_low cell within in
       word_kept May (cell_at g.notes.base cell)
-      (λ z may. let high = above z may in inl (omega (arith, low, high))) m n stores
+      (λ z may. let high = above z may in inl (omega (arith, cell_low cell within, high))) m n stores
       (cell_stored m ours cell within))
 
   -- an instruction that judges no byte of the pages
@@ -112,15 +110,13 @@ module _ (g : Setting) (l : Pieces) (f : Frame) (framed : IsFramed g f) (has : H
   pub may_beside : (edge z : ℕ) → MayStore g.notes.base (snippet_on g.snips edge) z
       → (page_word 1 + 4 ≤ z) ⊎ (z + 4 ≤ page_word 1)
   may_beside edge z (inl (cell, named, is)) =
-      let low = cell_low cell (has.named edge cell named) in
-      inr (omega (arith, low, is))
+      inr (omega (arith, cell_low cell (has.named edge cell named), is))
   may_beside edge z (inr (n, few, is)) = inl (omega (arith, few, is))
 
   pub may_below : (edge z : ℕ) → MayStore g.notes.base (snippet_on g.snips edge) z
       → (page_word 7 + 4 ≤ z) ⊎ (z + 4 ≤ page_word 7)
   may_below edge z (inl (cell, named, is)) =
-      let low = cell_low cell (has.named edge cell named) in
-      inr (omega (arith, low, is))
+      inr (omega (arith, cell_low cell (has.named edge cell named), is))
   may_below edge z (inr (n, few, is)) = inr (omega (arith, few, is))
 
 pub first_above : (z : ℕ) → IsFirstWord z → 2 ^ 31 ≤ z

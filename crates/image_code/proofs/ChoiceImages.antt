@@ -264,9 +264,8 @@ module _ (g : Setting) (codes : ℕ → List ℕ) (is : IsKnown g) (p : Placemen
 
   slot_there : word_at g.text v.pc ≡ Some (word + 1)
   slot_there =
-      let more = block_is.behind in
       ap (word_at g.text) (acts.0 ∙ npc) ∙ next_word g.text x.pc word is.text (word_at-some g.text x.pc word at)
-      ∙ ap (λ (c : Bool). if c then Some (word + 1) else None) (lt-ltb _ _ (omega (arith, jump_is, more)))
+      ∙ ap (λ (c : Bool). if c then Some (word + 1) else None) (lt-ltb _ _ (omega (arith, jump_is, block_is.behind)))
 
   gone_nothing : gone_at g node x v ≡ []
   gone_nothing = nothing_gone g node x v none not chosen.live

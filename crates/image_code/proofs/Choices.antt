@@ -112,25 +112,19 @@ module _ (g : Setting) (l : Pieces) (base : ℕ) (p : Placement) (place : ℕ �
 
   about : IsAboutToChoose c.rd c.address.0 c.distance t
   about =
-      let low = there.low in
-      let a = at in
-      let s = some in
-      let q = few in
       let n = here.npc in
-      let small : wrapped (t.pc + 4) ≡ t.pc + 4 = omega (arith, a, low, s) in
-      let o = c.original in
-      let below = c.low in
+      let small : wrapped (t.pc + 4) ≡ t.pc + 4 = omega (arith, at, there.low, some) in
       record {
         valid = here.valid;
         ready = record { live = here.live; npc = n ∙ small };
-        low = omega (arith, a, low, s, q);
+        low = omega (arith, at, there.low, some, few);
         words = subst (λ z. StandIn (code_of t.memory) z image) (sym at)
             (stand_in l.list base p place h.laid c.piece c.within image c.address (number_in g node) c.items
             (and_fits (link c.rd c.address.0) (choose c.distance)
-            (link_fits c.rd c.address.0 c.register (omega (arith, o, below))) (choose_fits c.distance c.near))
+            (link_fits c.rd c.address.0 c.register (omega (arith, c.original, c.low))) (choose_fits c.distance c.near))
             t.memory here.memory.code);
         register = c.register;
-        short = omega (arith, o, below);
+        short = omega (arith, c.original, c.low);
         near = c.near;
         page = λ n less. stores_there (page_word n) t.memory
             (here.memory.ours.words (page_word n) (h.frame.page n (omega (arith, less))));
@@ -158,7 +152,6 @@ module _ (g : Setting) (l : Pieces) (base : ℕ) (p : Placement) (place : ℕ �
   on : (u : State) → u.ending ≡ None → IsBetween t (length image) IsPageWord u → IsOnWay g t u
   on u running z =
       let a = at in
-      let low = there.begins in
       let high = there.ends in
       let q1 = z.past in
       let q2 = z.before in
@@ -169,9 +162,8 @@ module _ (g : Setting) (l : Pieces) (base : ℕ) (p : Placement) (place : ℕ �
         address = c.address.0;
         node = number_in g node;
       } in
-      let s = some in
-      on_range g l base p place f h t u range running (omega (arith, a, low)) q1 (omega (arith, a, high, q2))
-      (there.range t.pc (omega (arith, a)) (omega (arith, a, s)))
+      on_range g l base p place f h t u range running (omega (arith, a, there.begins)) q1 (omega (arith, a, high, q2))
+      (there.range t.pc (omega (arith, a)) (omega (arith, a, some)))
       (there.range u.pc (omega (arith, a, q1)) (omega (arith, a, q2)))
       (sym at) (page_cells u.memory z.stores)
 

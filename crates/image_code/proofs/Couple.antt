@@ -26,7 +26,7 @@ use Rattle.layout.specs.declared.items.Item.{Item}
 use Rattle.layout.specs.declared.items.Item.TheVariants as it
 use Rattle.layout.specs.Laid.{HasShortForms, Placement, item_at, item_in, items_in, size_of, open_in, range_in, range_of, IsWordAt}
 use Rattle.layout.proofs.Going.{taken_acts, word_is}
-use Rattle.image_code.specs.Simulates.{Setting, IsOnWay, in_first_word, is_spill, at_point, does_at, gone_at, number_in, Enters}
+use Rattle.image_code.specs.Simulates.{Setting, IsOnWay, in_first_word, is_spill, at_point, does_at, number_in, Enters}
 use Rattle.image_code.specs.Images.{Pieces, Frame, Here, IsPlaced, Entered}
 use Rattle.image_code.specs.Couple.{couple_piece, IsCouple, CouplesStep}
 use Rattle.image_code.proofs.Memories.{fetch_is}
@@ -211,7 +211,5 @@ module _ (g : Setting) (l : Pieces) (base : ℕ) (p : Placement) (place : ℕ �
 
 pub couples_step : CouplesStep
 couples_step g l base p place f node x t h here c =
-    subst (λ (z : State). Enters g (Entered g l base p f) (HasShortForms l.list place) (gone_at g node x z) node x t z)
-    (sym (does_is g l base p place f h node x t here c))
-    (subst (λ z. Enters g (Entered g l base p f) (HasShortForms l.list place) z node x t (ended (at_point x t) Couple))
-    (sym (ended_none g node x (ended (at_point x t) Couple) Couple refl)) (steps g l base p place f h node x t here c))
+    rw (does_is g l base p place f h node x t here c, ended_none g node x (ended (at_point x t) Couple) Couple refl)
+    (steps g l base p place f h node x t here c)

@@ -531,10 +531,7 @@ module _ (text : Words) (graph : Graph) (table cases : ℕ) (codes : ℕ → Lis
   have_all =
       let ways = ways_from text graph table codes 0 (own_edges graph) in
       let sizes = length-below (length text.words) in
-      let room = g.room in
-      let entries = g.entries in
-      let own = g.own_few in
-      within _ (omega (arith, sizes)) (omega (arith, sizes, room, entries, own))
+      within _ (omega (arith, sizes)) (omega (arith, sizes, g.room, g.entries, g.own_few))
       (joined (ordered ++ ways ++ landings ++ opened graph.opens ++ chosen graph.opens) (foreign_piece ∷ [])
       (joined (ordered ++ ways ++ landings ++ opened graph.opens) (chosen graph.opens)
       (joined (ordered ++ ways ++ landings) (opened graph.opens)

@@ -1,5 +1,5 @@
 -- Each point outside the pages has a place: its piece begins with its Mark, or it lies outside the text.
-use Rattle.std.proofs.Common.{◌≡◌, ◌≢◌, ℕ, zero, suc, ◌+◌, ◌<◌, inl, Bool, true, false, Option, Some, None, List, ◌∷◌, length, refl, ap, sym, ◌∙◌, subst}
+use Rattle.std.proofs.Common.{◌≡◌, ◌≢◌, ℕ, zero, suc, ◌+◌, ◌<◌, inl, Bool, true, false, Option, Some, None, List, ◌∷◌, length, refl, ap, sym, ◌∙◌}
 use Rattle.std.specs.Prelude.{if◌then◌else◌, slice_get, slice_index, ◌==◌}
 use Rattle.std.proofs.lemmas.Bool.{cond_both}
 use Rattle.std.proofs.lemmas.Option.{slice_get_within}
@@ -85,13 +85,9 @@ module _ (text : Words) (b : Blocks) (opens : List Open) (jumps cases : ℕ) (co
           let found = jump_numbered text b opens k.0 e in
           let number : jump_number text graph k.0 ≡ Some found.0 = ap (jump_number text graph) (sym found.4)
           ∙ found.2 in
-          subst (λ (n : Option ℕ). Begins address (Block k)
-          (choice_of text graph jumps cases address (Block k) rd n (slice_get opens (or_zero n)))) (sym number)
-          (subst (λ (o : Option Open). Begins address (Block k)
-          (choice_of text graph jumps cases address (Block k) rd (Some found.0) o)) (sym found.3)
-          (choice_head rd address k.0 (distance_of cases (first_entry text graph found.0) found.1.switch.table.0)))
-  jump_head address (Landed k) rd rs1 op2 = find_head address (Landed k) rd rs1 op2
-  jump_head address X rd rs1 op2 = find_head address X rd rs1 op2
+          rw (number, found.3)
+          (choice_head rd address k.0 (distance_of cases (first_entry text graph found.0) found.1.switch.table.0))
+  jump_head address node rd rs1 op2 = find_head address node rd rs1 op2
 
   image_head : (address : Addr) (node : Node) (word : ℕ) (instr : Instr)
       → HeadOf address (node_number graph node) (image_by text graph jumps cases codes address node word instr)

@@ -1,5 +1,5 @@
 -- A transfer at a word goes into its slot, where the way of its edge leads.
-use Rattle.std.proofs.Common.{◌≡◌, ◌≢◌, ℕ, ◌+◌, ◌-◌, ◌%◌, ◌^◌, ◌<◌, true, false, Option, Some, None, List, ap, sym, ◌∙◌, subst, arith}
+use Rattle.std.proofs.Common.{◌≡◌, ◌≢◌, ℕ, ◌+◌, ◌-◌, ◌%◌, ◌^◌, ◌<◌, true, false, Option, Some, None, List, ap, sym, ◌∙◌, arith}
 use Rattle.std.specs.Prelude.{slice_index}
 use Rattle.std.proofs.lemmas.Bool.{false≢true}
 use Rattle.eel_base.specs.CodeText.{word_at}
@@ -76,10 +76,7 @@ module _ (g : Setting) (codes : ℕ → List ℕ) (is : IsKnown g) (p : Placemen
       let not : v.slot ≢ NoSlot = λ n. some (sym slot ∙ n) in
       let same : way_of (instr_at g.text (v.pc - 4)) v.slot ≡ way_of (Some instr) now =
       ap (λ (o : Option Instr). way_of o v.slot) (before v pc) ∙ ap (way_of (Some instr)) slot in
-      subst (λ (edges : List ℕ). LeadsTo (l g codes is p f) p
-      (record { 0 = way_out g.text (graph_in g) node (way_of (Some instr) now) }) edges (word_at g.text v.pc)
-      (entered_at g (l g codes is p f) p f (node_after (graph_in g) node edges) (point_of v)))
-      (sym (nothing_gone g node x v none not live))
+      rw (nothing_gone g node x v none not live)
       (enters g codes is p f whole node (point_of v) not (on_its_way g codes is p f node (point_of v) now slot some m)
       (λ out. caseless (ap (λ (k : EdgeKind). same_kind k kinds.Out) (sym same) ∙ out))
       (way_of (Some instr) now) same)

@@ -223,15 +223,9 @@ module _ (g : Setting) (l : Pieces) (base : ℕ) (p : Placement) (place : ℕ �
       → Enters g (Entered g l base p f) (HasShortForms l.list place) (gone_at g node x after_jump) node x t after_jump
   steps None e leads = going (gone_at g node x after_jump) (gone_last g l f h.cells node x after_jump) e (leads e)
   steps (Some d) e leads =
-      subst (λ z. Enters g (Entered g l base p f) (HasShortForms l.list place) z node x t after_jump)
-      (sym (ended_none g node x after_jump d e)) (ends d e)
+      rw (ended_none g node x after_jump d e) (ends d e)
 
 pub jumps_step : JumpsStep
 jumps_step g l base p place f node x t h here c =
     let is = does_is g l base p place f h node x t here c in
-    subst (λ (z : State). Enters g (Entered g l base p f) (HasShortForms l.list place) (gone_at g node x z) node x t z)
-    (sym is)
-    (steps g l base p place f h node x t here c _ refl
-    (subst (λ (z : State). z.ending ≡ None
-    → LeadsTo l p c.way (gone_at g node x z) (word_at g.text z.pc)
-    (entered_at g l p f (node_after (graph_in g) node (gone_at g node x z)) (point_of z))) is c.leads))
+    rw is (steps g l base p place f h node x t here c _ refl (rw is at c.leads))

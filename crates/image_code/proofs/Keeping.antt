@@ -234,10 +234,7 @@ module _ (g : Setting) (l : Pieces) (base : ℕ) (p : Placement) (place : ℕ �
     npc : e.on.after.npc ≡ e.on.after.pc + 4
     npc =
         let n = here.npc in
-        let b = begin in
-        let z = end in
-        let w = low in
-        let small : wrapped (e.on.after.pc + 4) ≡ e.on.after.pc + 4 = omega (arith, b, z, w) in
+        let small : wrapped (e.on.after.pc + 4) ≡ e.on.after.pc + 4 = omega (arith, begin, end, low) in
         n ∙ small
 
     fit : IsFit g l base p place f h e.on.after
@@ -250,13 +247,11 @@ module _ (g : Setting) (l : Pieces) (base : ℕ) (p : Placement) (place : ℕ �
     keeps : KeepsLoad o.rs1 o.op2 e.on.after
     keeps =
         let q = are.each k o is in
-        let b = begin in
         let z = end in
-        let w = low in
         loads_are_kept o.rs1 o.op2 e.on.after (record {
           valid = here.valid;
           ready = record { live = here.live; npc = npc };
-          low = omega (arith, b, z, w);
+          low = omega (arith, begin, z, low);
           words = subst (λ z. StandIn (code_of e.on.after.memory) z (keep_load o.rs1 o.op2)) (sym begin)
               (words_mean (code_of e.on.after.memory) (place c.piece 0) (keep_load o.rs1 o.op2)
               (keep_fits o.rs1 o.op2 q.in_range q.fits) stands.words);
@@ -366,9 +361,8 @@ module _ (g : Setting) (l : Pieces) (base : ℕ) (p : Placement) (place : ℕ �
               let none = keeps.elsewhere (is_spill g.notes) (spill_first g.notes) in
               let all = count_add (is_spill g.notes) t s.after s.count s.path.steps 3 in
               let same_count : 3 + s.count ≡ s.count + 3 = omega arith in
-              let total = ap (count_stores (is_spill g.notes) t) same_count in
               record {
-                spills = omega (arith, spills, none, all, total);
+                spills = omega (arith, spills, none, all, ap (count_stores (is_spill g.notes) t) same_count);
                 first = λ forms. absurd (forms.1 k o is at.stands);
                 alone = λ forms. absurd (forms.1 k o is at.stands);
                 few = λ forms. absurd (forms.1 k o is at.stands);

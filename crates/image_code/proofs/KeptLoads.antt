@@ -1,8 +1,8 @@
 -- Before the load of an open switch control comes to a piece that keeps its address; everywhere else it comes to the
 -- visit itself.
-use Rattle.std.proofs.Common.{◌≡◌, ℕ, suc, ◌-◌, ◌<◌, Bool, true, false, Option, Some, None, List, length, refl, ap, sym, ◌∙◌, arith}
+use Rattle.std.proofs.Common.{◌≡◌, ℕ, suc, ◌-◌, ◌<◌, Bool, true, false, Option, Some, None, List, length, refl, ap, sym, ◌∙◌, arith, inl, inr}
 use Rattle.std.specs.Prelude.{◌==◌, slice_get, slice_index}
-use Rattle.std.proofs.lemmas.Bool.{eqb-true, eq-eqb, false≢true}
+use Rattle.std.proofs.lemmas.Bool.{cases_eq, false≢true}
 use Rattle.std.proofs.lemmas.Option.{slice_get_within}
 use Rattle.eel_base.specs.CodeText.{word_at}
 use Rattle.v8_step.specs.declared.Slot.{Slot}
@@ -140,17 +140,14 @@ module _ (g : Setting) (codes : ℕ → List ℕ) (is : IsKnown g) (p : Placemen
       at_word : (k : ℕ) (o : Open) → slice_get g.switches k ≡ Some o → jump_number g.text (graph_in g) o.block ≡ Some k
           → node ≡ block o.block → (w : Option ℕ) → word_at g.text x.pc ≡ w → (s : Slot) → x.slot ≡ s
           → IsEntered g (l g codes is p f) p place f node x
-      at_word k o among numbered itself (Some word) at NoSlot none = same (word == load_of g.text o) refl
-        where
-          same : (t : Bool) → (word == load_of g.text o) ≡ t → IsEntered g (l g codes is p f) p place f node x
-          same true e =
-              keeps k o among numbered itself none
-              (at ∙ ap (λ (n : ℕ). Some n) (eqb-true word (load_of g.text o) e))
-          same false e =
-              other_word k o among numbered itself
-              (λ other there _ q.
-              let one : word ≡ other = (let s : Some word ≡ Some other = sym at ∙ there in cc) in
-              false≢true (sym e ∙ eq-eqb word (load_of g.text o) (one ∙ q)))
+      at_word k o among numbered itself (Some word) at NoSlot none = elim (cases_eq word (load_of g.text o)) [
+        | inl e ↦ keeps k o among numbered itself none (at ∙ ap (λ (n : ℕ). Some n) e)
+        | inr n ↦
+            other_word k o among numbered itself
+            (λ other there _ q.
+            let one : word ≡ other = (let s : Some word ≡ Some other = sym at ∙ there in cc) in
+            n (one ∙ q))
+      ]
       at_word k o among numbered itself None at NoSlot none =
           other_word k o among numbered itself
           (λ other there _ _. let s : None ≡ Some other = sym at ∙ there in absurd (cc))

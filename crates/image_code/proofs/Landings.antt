@@ -227,8 +227,7 @@ module _ (g : Setting) (l : Pieces) (base : ℕ) (p : Placement) (place : ℕ �
     lands to fit at (inr (no_landing, (piece, within, found, is, none))) out =
         let place_there = h.laid.aligned piece.0 in
         let multiple : found_in f.halves x.npc % 4 ≡ 0 = ap (λ z. z % 4) found ∙ place_there.0 in
-        let low = place_there.1 in
-        onward to fit at multiple (omega (arith, found, low)) (λ b fit2 there waits.
+        onward to fit at multiple (omega (arith, found, place_there.1)) (λ b fit2 there waits.
         subst (λ z. Arrives g l base p place f h None z b to 4) (sym no_landing)
         (subst (λ z. Arrives g l base p place f h None [] b z 4) (sym (out none))
         (leaves piece.0 is b fit2 (there ∙ found ∙ h.laid.starts piece.0 within) x.npc waits

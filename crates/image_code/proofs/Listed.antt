@@ -167,8 +167,7 @@ module _ (text : Words) (b : Blocks) (opens : List Open) (cased : AreCased text 
       let count : length (from_load o) ≡ slice_index b.firsts o.block + size_of b o.block - load_of text o =
       length-map-range_with_len (image_of (block o.block)) (load_of text o)
       (slice_index b.firsts o.block + size_of b o.block - load_of text o) in
-      let before = before_count o in
-      length-append (compared o ++ before_load o) (kept o ∷ from_load o) ∙ omega (arith, count, before)
+      length-append (compared o ++ before_load o) (kept o ∷ from_load o) ∙ omega (arith, count, before_count o)
 
   pub cases_sized : Sized its_cases (entries_of text graph) opens
   cases_sized k o e = cases_count text graph table codes o 0 o.targets
@@ -310,16 +309,15 @@ module _ (text : Words) (b : Blocks) (opens : List Open) (cased : AreCased text 
         → slice_get all (jump_begin text graph k o + (word - first) + 1) ≡ Some (image_of (block o.block) word)
     late word above below =
         let l = load_in k o e in
-        let low = l.above in
         let there : jump_begin text graph k o + (word - first) + 1
-        ≡ open_begin text graph k + (size + (load - first) + suc (word - load)) = omega (arith, above, low) in
+        ≡ open_begin text graph k + (size + (load - first) + suc (word - load)) = omega (arith, above, l.above) in
         let here : load + (word - load) ≡ word = omega (arith, above) in
         ap (slice_get all) there
         ∙ own_piece_at k o e (size + (load - first) + suc (word - load)) _
         (get_behind (compared o ++ before_load o) (kept o ∷ from_load o) (size + (load - first)) (suc (word - load)) _
         (before_count o)
         (range_get (image_of (block o.block)) load (first + size_of b o.block - load) (word - load)
-        (omega (arith, above, below, low))))
+        (omega (arith, above, below, l.above))))
         ∙ ap (λ (n : ℕ). Some (image_of (block o.block) n)) here
 
     early_is : (word : ℕ) → word < load → jump_image text graph k o word ≡ jump_begin text graph k o + (word - first) + 0
@@ -348,9 +346,8 @@ module _ (text : Words) (b : Blocks) (opens : List Open) (cased : AreCased text 
     pub keep_at : slice_get all (jump_enter text graph k o load) ≡ Some (kept o)
     keep_at =
         let at = enter_load in
-        let image = late_is load (omega arith) in
         let there : jump_enter text graph k o load ≡ open_begin text graph k + (size + (load - first) + 0) =
-        omega (arith, at, image) in
+        omega (arith, at, late_is load (omega arith)) in
         ap (slice_get all) there
         ∙ own_piece_at k o e (size + (load - first) + 0) _
         (get_behind (compared o ++ before_load o) (kept o ∷ from_load o) (size + (load - first)) 0 _

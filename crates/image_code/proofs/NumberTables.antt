@@ -1,8 +1,11 @@
 -- The numbers of the pieces of open switches, and where they stand.
-use Rattle.std.proofs.Common.{◌≡◌, ℕ, zero, suc, ◌+◌, ◌-◌, ◌<◌, ◌≤◌, Bool, true, false, cond, List, Option, Some, None, length, take, refl, ap, sym, ◌∙◌, subst, arith}
-use Rattle.std.specs.Prelude.{slice_index, slice_index_or}
-use Rattle.std.specs.List.{find, range_with_len, sum_by}
+use Rattle.std.proofs.Common.{◌≡◌, ℕ, ◌+◌, ◌-◌, ◌<◌, ◌≤◌, Bool, List, Option, Some, None, length, take, refl, ap, sym, ◌∙◌, subst, arith}
+use Rattle.std.specs.Prelude.{slice_get, slice_index, slice_index_or}
+use Rattle.std.specs.List.{find, position_or_len, range_with_len, sum_by}
+use Rattle.std.proofs.lemmas.List.Folds.{find_at}
+use Rattle.std.proofs.lemmas.List.FromFn.{get_or-range_with_len, length-range_with_len}
 use Rattle.std.proofs.lemmas.List.Sums.{sum_by_more}
+use Rattle.std.proofs.lemmas.Option.{get_or_from_slice_get, slice_get_within}
 use Rattle.eel_base.specs.CodeText.{Words}
 use Rattle.cfg_blocks.specs.Blocks.{Blocks, last_word, size_of}
 use Rattle.cfg_blocks.specs.Values.{instr_at}
@@ -37,13 +40,12 @@ entry_more text graph opens same n o l is entry count here many =
 -- ---- the load stands in the jump's block
 
 found_within : (p : ℕ → Bool) (a n word : ℕ) → find p (range_with_len a n) ≡ Some word → (a ≤ word) × (word < a + n)
-found_within p a zero word e = absurd (cc)
-found_within p a (suc n) word e = by (p a) (λ h. found_within p (a + 1) n word h) e
-  where
-    by : (t : Bool) → (find p (range_with_len (a + 1) n) ≡ Some word → (a + 1 ≤ word) × (word < a + 1 + n))
-        → cond t (Some a) (find p (range_with_len (a + 1) n)) ≡ Some word → (a ≤ word) × (word < a + suc n)
-    by true next h = let same : a ≡ word = cc in (omega (arith, same), omega (arith, same))
-    by false next h = let later = next h in (omega (arith, later.0), omega (arith, later.1))
+found_within p a n word e =
+    let xs = range_with_len a n in
+    let k = position_or_len p xs in
+    let at : slice_get xs k ≡ Some word = sym (find_at p xs) ∙ e in
+    let low : k < n = omega (arith, slice_get_within xs k word at, length-range_with_len a n) in
+    omega (arith, low, get_or-range_with_len a n k word low, get_or_from_slice_get xs k word word at)
 
 pub load_between : (text : Words) (o : Open) → o.approach.first ≤ o.approach.jump
     → (o.approach.first ≤ load_of text o) × (load_of text o ≤ o.approach.jump)

@@ -62,11 +62,9 @@ pub load_is : (text : Words) (b : Blocks) (o : Open) → IsCaseBlock text b o �
 unfolding load_of
 load_is text b o c =
     let h = c.loaded in
-    let above = h.above in
-    let below = h.below in
-    let here : o.approach.first + (h.load - o.approach.first) ≡ h.load = omega (arith, above) in
+    let here : o.approach.first + (h.load - o.approach.first) ≡ h.load = omega (arith, h.above) in
     let found = found_in_range (λ (word : ℕ). loads_by text o word (instr_at text word)) o.approach.first
-    (o.approach.jump - o.approach.first) (h.load - o.approach.first) (omega (arith, above, below))
+    (o.approach.jump - o.approach.first) (h.load - o.approach.first) (omega (arith, h.above, h.below))
     (ap (λ (word : ℕ). loads_by text o word (instr_at text word)) here ∙ load_passes text o h.load h.loads) in
     let at : or_first o (find (λ (word : ℕ). loads_by text o word (instr_at text word))
     (range_with_len o.approach.first (o.approach.jump - o.approach.first))) ≡ found.0 =

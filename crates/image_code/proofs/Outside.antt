@@ -83,11 +83,8 @@ module _ (g : Setting) (l : Pieces) (base : ℕ) (p : Placement) (place : ℕ �
 
   ends : Enters g (Entered g l base p f) (HasShortForms l.list place) (gone_at g node x (does_at g x t)) node x t
       (does_at g x t)
-  ends = subst (λ (z : State). Enters g (Entered g l base p f) (HasShortForms l.list place)
-      (gone_at g node x z) node x t z) (sym does_is)
-      (subst (λ z. Enters g (Entered g l base p f) (HasShortForms l.list place) z node x t
-      (trapped (at_point x t) instruction_access_exception))
-      (sym (ended_none g node x (trapped (at_point x t) instruction_access_exception) _ refl)) steps)
+  ends =
+      rw (does_is, ended_none g node x (trapped (at_point x t) instruction_access_exception) _ refl) steps
 
 -- ---- outside a slot
 

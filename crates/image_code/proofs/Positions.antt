@@ -116,9 +116,8 @@ none_is p (x ∷ xs) none = here (p x) none (λ rest. none_is p xs rest)
 
 pub not_placed : {A : Type 0} (p : A → Bool) (xs : List A) → list_any p xs ≡ false → position p xs ≡ None
 not_placed p xs none =
-    let all = none_is p xs none in
     ap (λ (b : Bool). cond b (Some (position_or_len p xs)) None)
-    (le-ltb (position_or_len p xs) (length xs) (omega (arith, all)))
+    (le-ltb (position_or_len p xs) (length xs) (omega (arith, none_is p xs none)))
 
 pub any_at : {A : Type 0} (p : A → Bool) (xs : List A) (k : ℕ) (x : A) → slice_get xs k ≡ Some x → p x ≡ true
     → list_any p xs ≡ true

@@ -6,14 +6,12 @@ use Rattle.notes.specs.Format.{NoteRange}
 use Rattle.v8_decode.specs.declared.Instr.{Instr}
 use Rattle.v8_alu.specs.Conditions.{holds_of}
 use Rattle.v8_memory.specs.Regions.{Memory}
-use Rattle.v8_memory.specs.Spans.{IsSameOutside}
 use Rattle.v8_step.specs.declared.Slot.{Slot}
 use Rattle.v8_step.specs.declared.Slot.TheVariants.{Taken}
 use Rattle.v8_step.specs.State.{State, register_of}
 use Rattle.v8_step.specs.Step.{puts_by, puts_on_word}
 use Rattle.v8_step.specs.Items.{is_transfer}
 use Rattle.v8_step.specs.Valid.{IsValid}
-use Rattle.two_runs.specs.Visits.{pages_of}
 use Rattle.v8_step.proofs.ValidSteps.{run-valid}
 use Rattle.cfg_blocks.specs.declared.EdgeKind.TheVariants as kinds
 use Rattle.cfg_walk.specs.Walk.{Point, point_of, node_after, instr_at, way_of, same_kind}
@@ -133,8 +131,7 @@ module _ (g : Setting) (l : Pieces) (base : ℕ) (p : Placement) (place : ℕ �
   b_short : HasShortForms l.list place → place piece 2 ≤ t.pc + 4 * 2
   b_short short =
       let end = short piece 1 (it.Branch c.cond (record { 0 = c.taken })) (b_item 1) in
-      let a = b_at in
-      omega (arith, end, a)
+      omega (arith, end, b_at)
 
   record Comes (next : Option ℕ) (edges : List ℕ) (to : ℕ) : Type 0 where
     pub count : ℕ
@@ -192,17 +189,13 @@ module _ (g : Setting) (l : Pieces) (base : ℕ) (p : Placement) (place : ℕ �
         alike = alike_then g edges [] edges refl t t rest.other mid k.memory (alike_itself g [] t) rest.alike;
         spares = λ there.
             let none = k.stored (is_spill g.notes) (inl (spill_first g.notes)) in
-            let more = rest.spares there in
             let both = count_add (is_spill g.notes) t (hopped t mid k.memory) k.count k.hops.path.steps rest.count in
-            omega (arith, none, more, both);
+            omega (arith, none, rest.spares there, both);
         leaves_first = λ there short.
             none_then in_first_word t (hopped t mid k.memory) k.count rest.count k.hops.path.steps
             (k.stored in_first_word (inr (b_short short))) (rest.leaves_first there short);
         brief = λ there short none.
-            let two = b_short short in
-            let ins = k.inside in
-            let brief = rest.brief there short in
-            omega (arith, two, ins, brief, none);
+            omega (arith, b_short short, k.inside, rest.brief there short, none);
       }
 
   -- whichever way it leads
@@ -248,9 +241,7 @@ module _ (g : Setting) (l : Pieces) (base : ℕ) (p : Placement) (place : ℕ �
               ∙ no_puts (at_point x t) c.cond c.annul c.disp descriptor);
           followed = followed_alike g edges v t (hopped j.other to j.memory)
               (ap (λ (z : State). hopped z 0 j.memory) same)
-              (subst (λ (z : Memory). IsSameOutside (pages_of g.notes) z j.memory)
-              (sym (ap (λ (z : State). z.memory) same))
-              (same_stored g f h.frame base p t.memory j.memory here.memory stores))
+              (rw same (same_stored g f h.frame base p t.memory j.memory here.memory stores))
               (alike_hopped g edges t j.other to j.memory j.alike);
           cells = j.cells last
               ∙ updates_same g.snips edges (cells_in g t) t v (sym (ap (λ (z : State). register_of z) same));
