@@ -1,10 +1,9 @@
 -- A built table of two levels finds every aligned address.
-use Rattle.std.proofs.Common.{◌≡◌, ℕ, ◌+◌, ◌-◌, ◌*◌, ◌/◌, ◌%◌, ◌^◌, ◌<◌, ◌≤◌, ◌⊎◌, inl, inr, Bool, true, false, None, List, length, map, take, drop, refl, ap, sym, ◌∙◌, subst, arith}
-use Rattle.std.specs.Prelude.{if◌then◌else◌, nat_lt, slice_index}
-use Rattle.std.specs.Int.{w32, to_be_bytes, from_be_bytes}
-use Rattle.std.specs.List.{flat_map, range_with_len}
+use Rattle.std.proofs.Common.{◌≡◌, ℕ, ◌+◌, ◌-◌, ◌*◌, ◌/◌, ◌%◌, ◌^◌, ◌<◌, ◌≤◌, ◌⊎◌, inl, inr, Bool, true, false, None, List, length, map, refl, ap, sym, ◌∙◌, arith}
+use Rattle.std.specs.Prelude.{if◌then◌else◌, nat_lt}
+use Rattle.std.specs.List.{range_with_len}
 use Rattle.std.proofs.lemmas.Bool.Decides.{nat_tests}
-use Rattle.std.proofs.lemmas.List.FromFn.{length-map-range_with_len, get_or-map-range_with_len}
+use Rattle.std.proofs.lemmas.List.FromFn.{length-map-range_with_len}
 use Rattle.eel_base.specs.CodeText.{Words, IsText, word_at}
 use Rattle.eel_base.specs.declared.numbers.Addr.{Addr}
 use Rattle.v8_alu.specs.Numbers.{wrapped}
@@ -12,7 +11,7 @@ use Rattle.addr_translate.specs.Lookup.{table_word}
 use Rattle.addr_translate.specs.Table.{last_byte, target_of, target_for}
 use Rattle.addr_translate.specs.Halves.{IsHalvesOf, entry_at, first_half, halves, halves_size, span_of}
 use Rattle.addr_translate.specs.HalfEntries.{half_bytes, half_entry, half_table, half_word, half_words}
-use Rattle.addr_translate.proofs.Tables.{IsIn, IsOff, among, length-words, outside, word_among}
+use Rattle.addr_translate.proofs.Tables.{IsIn, IsOff, among, entry_found, length-words, outside}
 
 -- ---- the entry's address from what the first level has
 
@@ -27,11 +26,7 @@ far b a low short = omega arith
 -- ---- parts that hold no text
 
 off_half : (t : Words) (a : ℕ) → IsText t → IsOff (first_half t) (halves t) (a / 2 ^ 16) → word_at t a ≡ None
-off_half t a text h = outside t a (clash h)
-  where
-    clash : IsOff (first_half t) (halves t) (a / 2 ^ 16) → t.start ≤ a → (a - t.start) / 4 < length t.words → ⊥
-    clash (inl k) e f = omega arith
-    clash (inr k) e f = omega arith
+off_half t a text h = outside t a (λ from below. omega arith)
 
 past_text : (t : Words) (a : ℕ) → IsText t → last_byte t < a → word_at t a ≡ None
 past_text t a text h = outside t a (λ e f. (let some = text.some in omega arith))
@@ -52,15 +47,7 @@ module _ (t : Words) (targets : List Addr) (foreign : Addr) (base : ℕ) (text :
   in_words : (n : ℕ) → n < halves_size t / 4
       → table_word (half_table t targets foreign base) (base + 4 * n) ≡ half_entry t targets foreign base n
   unfolding half_bytes half_words table_word
-  in_words n h =
-      let ws = map (half_entry t targets foreign base) (range_with_len 0 (halves_size t / 4)) in
-      let is : slice_index (map (half_entry t targets foreign base) (range_with_len 0 (halves_size t / 4))) n
-      ≡ half_entry t targets foreign base n =
-      get_or-map-range_with_len (half_entry t targets foreign base) 0 (halves_size t / 4) n n 0 h (omega arith) in
-      let long = length-map-range_with_len (half_entry t targets foreign base) 0 (halves_size t / 4) in
-      ap (λ z. from_be_bytes w32 (take 4 (drop z (flat_map (to_be_bytes w32) ws))))
-      (let e : base + 4 * n - base ≡ 4 * n = omega arith in e)
-      ∙ word_among ws n (omega arith) (subst (λ z. z < 2 ^ 32) (sym is) (fits n h)) ∙ is
+  in_words n h = entry_found (half_entry t targets foreign base) (halves_size t / 4) base n fits h
 
   -- a word of the first level
   half_is : (half : ℕ) → half < 2 ^ 16

@@ -43,6 +43,17 @@ word_among (w ∷ ws) (suc n) below small =
     ap (λ z. from_be_bytes w32 (take 4 (drop z (flat_map (to_be_bytes w32) (w ∷ ws))))) e
     ∙ word_among ws n (omega arith) small
 
+-- a word of a table that has its entries in order
+pub entry_found : (f : ℕ → ℕ) (count base n : ℕ) → ((k : ℕ) → k < count → f k < 2 ^ 32) → n < count
+    → from_be_bytes w32 (take 4 (drop (base + 4 * n - base)
+    (flat_map (to_be_bytes w32) (map f (range_with_len 0 count))))) ≡ f n
+entry_found f count base n fits h =
+    let is : slice_index (map f (range_with_len 0 count)) n ≡ f n =
+    get_or-map-range_with_len f 0 count n n 0 h (omega arith) in
+    let long = length-map-range_with_len f 0 count in
+    let e : base + 4 * n - base ≡ 4 * n = omega arith in
+    rw e (word_among (map f (range_with_len 0 count)) n (omega (arith, h, long)) (rw is (fits n h)) ∙ is)
+
 pub length-words : (ws : List ℕ) → length (flat_map (to_be_bytes w32) ws) ≡ 4 * length ws
 length-words [] = refl
 length-words (w ∷ ws) = let e = length-words ws in omega arith
@@ -68,12 +79,7 @@ among first count n y o = go (nat_le first n) (nat_lt n (first + count)) refl re
     go false q e f = inr (refl, inl (grind (arith, nat_tests)))
 
 second_below : (t : Words) (part : ℕ) → second_for t part < blocks t
-second_below t part = go (among (first_part t) (parts t) part (3 + (part - first_part t)) 1)
-  where
-    go : ((second_for t part ≡ 3 + (part - first_part t)) × IsIn (first_part t) (parts t) part)
-        ⊎ ((second_for t part ≡ 1) × IsOff (first_part t) (parts t) part) → second_for t part < blocks t
-    go (inl h) = omega arith
-    go (inr h) = omega arith
+second_below t part = let h = among (first_part t) (parts t) part (3 + (part - first_part t)) 1 in omega arith
 
 block_of : (block place : ℕ) → place < 1024 → (1024 * block + place) / 1024 ≡ block
 block_of block place h = omega arith
@@ -93,20 +99,10 @@ outside t b h = go (nat_le t.start b) ((b - t.start) % 4 == 0) (nat_lt ((b - t.s
     go false y z e f = refl
 
 off_part : (t : Words) (a : ℕ) → IsText t → IsOff (first_part t) (parts t) (a / 2 ^ 22) → word_at t (a - a % 4) ≡ None
-off_part t a text h = outside t (a - a % 4) (clash h)
-  where
-    clash : IsOff (first_part t) (parts t) (a / 2 ^ 22) → t.start ≤ a - a % 4
-        → (a - a % 4 - t.start) / 4 < length t.words → ⊥
-    clash (inl k) e f = omega arith
-    clash (inr k) e f = omega arith
+off_part t a text h = outside t (a - a % 4) (λ from below. omega arith)
 
 off_page : (t : Words) (a : ℕ) → IsText t → IsOff (first_page t) (pages t) (a / 2 ^ 12) → word_at t (a - a % 4) ≡ None
-off_page t a text h = outside t (a - a % 4) (clash h)
-  where
-    clash : IsOff (first_page t) (pages t) (a / 2 ^ 12) → t.start ≤ a - a % 4
-        → (a - a % 4 - t.start) / 4 < length t.words → ⊥
-    clash (inl k) e f = omega arith
-    clash (inr k) e f = omega arith
+off_page t a text h = outside t (a - a % 4) (λ from below. omega arith)
 
 pub length-table_bytes : (t : Words) (targets : List Addr) (foreign : Addr) (base : ℕ)
     → length (table_bytes t targets foreign base) ≡ size_of t
@@ -124,15 +120,7 @@ module _ (t : Words) (targets : List Addr) (foreign : Addr) (base : ℕ) (text :
   in_words : (n : ℕ) → n < 1024 * blocks t
       → table_word (built t targets foreign base) (base + 4 * n) ≡ entry t targets foreign base n
   unfolding table_bytes table_words table_word
-  in_words n h =
-      let ws = map (entry t targets foreign base) (range_with_len 0 (1024 * blocks t)) in
-      let is : slice_index (map (entry t targets foreign base) (range_with_len 0 (1024 * blocks t))) n
-      ≡ entry t targets foreign base n =
-      get_or-map-range_with_len (entry t targets foreign base) 0 (1024 * blocks t) n n 0 h (omega arith) in
-      let long = length-map-range_with_len (entry t targets foreign base) 0 (1024 * blocks t) in
-      ap (λ z. from_be_bytes w32 (take 4 (drop z (flat_map (to_be_bytes w32) ws))))
-      (let e : base + 4 * n - base ≡ 4 * n = omega arith in e)
-      ∙ word_among ws n (omega arith) (subst (λ z. z < 2 ^ 32) (sym is) (fits n h)) ∙ is
+  in_words n h = entry_found (entry t targets foreign base) (1024 * blocks t) base n fits h
 
   -- the word at a place of a block
   in_block : (block place a : ℕ) → block < blocks t → place < 1024 → a ≡ base + 4096 * block + 4 * place
