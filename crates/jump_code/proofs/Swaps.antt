@@ -1,17 +1,14 @@
 -- A register and a word change places.
-use Rattle.std.proofs.Common.{◌≡◌, ◌≢◌, ℕ, suc, ◌%◌, Bool, true, Option, List, refl, ap, sym, ◌∙◌, subst}
-use Rattle.std.specs.Prelude.{if◌then◌else◌, ◌==◌}
-use Rattle.std.specs.Int.{w32, to_be_bytes, from_be_bytes}
+use Rattle.std.proofs.Common.{◌≡◌, ◌≢◌, ℕ, suc, ◌%◌, true, refl, sym, ◌∙◌, subst}
+use Rattle.std.specs.Prelude.{◌==◌}
 use Rattle.v8_decode.specs.declared.Op2.{Op2}
 use Rattle.v8_decode.specs.declared.Instr.TheVariants as i
-use Rattle.v8_memory.specs.Regions.{Memory, bytes_at, with_bytes}
+use Rattle.v8_memory.specs.Regions.{Memory}
 use Rattle.v8_windows.specs.Registers.{place_of}
 use Rattle.v8_windows.proofs.Places.{register_in-set, register_in-other, length-register_set}
-use Rattle.v8_step.specs.declared.Ending.TheVariants.{Trap}
 use Rattle.v8_step.specs.State.{State, register_of, with_register, sum_of}
-use Rattle.v8_step.specs.Traps.{mem_address_not_aligned, data_access_exception}
-use Rattle.v8_step.specs.Transfers.{next, trapped}
-use Rattle.v8_step.specs.Accesses.{exchange_step, on_bytes, on_memory, swap_step}
+use Rattle.v8_step.specs.Transfers.{next}
+use Rattle.v8_step.specs.Accesses.{swap_step}
 use Rattle.v8_step.specs.Step.{act}
 use Rattle.code_runs.specs.StoredWords.{memory_word, store_word, CanStore}
 use Rattle.code_runs.specs.TwoRegisters.{HasScratch, IsAlike, Works, IsNext, IsSumIn}
@@ -24,15 +21,7 @@ pub swap_acts : (s : State) (rd rs1 : ℕ) (x : Op2) (a : ℕ) → sum_of s rs1 
 unfolding act swap_step
 swap_acts s rd rs1 x a e z h =
     let b = word_bytes s.memory a (can_load s.memory a h) in
-    let new = to_be_bytes w32 (register_of s rd) in
-    ap (λ n. exchange_step s w32 rd n new) e
-    ∙ ap (λ (n : Bool). if n then on_bytes s (bytes_at s.memory a 4) (λ old. on_memory s (Trap data_access_exception)
-    (with_bytes s.memory a new) (λ t. next (with_register t rd (from_be_bytes w32 old)))) else trapped s mem_address_not_aligned) z
-    ∙ ap (λ (n : Option (List ℕ)). on_bytes s n (λ old. on_memory s (Trap data_access_exception)
-    (with_bytes s.memory a new) (λ t. next (with_register t rd (from_be_bytes w32 old))))) b.1
-    ∙ ap (λ (n : Option Memory). on_memory s (Trap data_access_exception) n
-    (λ t. next (with_register t rd (from_be_bytes w32 b.0)))) (word_written s.memory a (register_of s rd) h)
-    ∙ ap (λ n. next (with_register (record s { memory = store_word s.memory a (register_of s rd) }) rd n)) b.2
+    rw (e, z, b.1, word_written s.memory a (register_of s rd) h, b.2)
 
 module _ (s : State) (count : ℕ) (May : ℕ → Type 0) (a b : ℕ) (c : HasScratch s count a b) where
   alike_swapped : (m n : Memory) (x y v : ℕ) (u : State) → IsAlike s a b m x y u
@@ -65,9 +54,6 @@ module _ (s : State) (count : ℕ) (May : ℕ → Type 0) (a b : ℕ) (c : HasSc
       (with_register (record w.after { memory = store_word m address x }) a v)
       (swap_acts w.after a rs1 op2 address (at.sums w.after h) at.aligned
       (subst (λ (z : Memory). CanStore z address) (sym h.memory) can)
-      ∙ ap (λ (z : Memory). next (with_register (record w.after { memory = store_word z address (register_of w.after a) }) a
-      (memory_word z address))) h.memory
-      ∙ ap (λ z. next (with_register (record w.after { memory = store_word m address z }) a (memory_word m address))) h.first
-      ∙ ap (λ z. next (with_register (record w.after { memory = store_word m address x }) a z)) e)
+      ∙ rw (h.memory, h.first, e))
       refl refl (alike_swapped m (store_word m address x) x y v w.after h)
       (stores_more May s.memory m address x w.stores may) (code-store_word m address x ∙ w.code)
