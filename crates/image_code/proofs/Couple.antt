@@ -1,5 +1,5 @@
 -- A transfer in the slot of another one.
-use Rattle.std.proofs.Common.{◌≡◌, ◌≢◌, ℕ, suc, ◌+◌, ◌*◌, ◌^◌, ◌<◌, ◌≤◌, Bool, true, false, Option, Some, List, [], ◌++◌, length, refl, ap, sym, ◌∙◌, subst, arith}
+use Rattle.std.proofs.Common.{◌≡◌, ◌≢◌, ℕ, ◌+◌, ◌*◌, ◌^◌, ◌<◌, ◌≤◌, Bool, true, false, Option, Some, List, [], ◌++◌, length, refl, ap, sym, ◌∙◌, subst, arith}
 use Rattle.std.specs.Prelude.{slice_get}
 use Rattle.v8_decode.specs.declared.Instr.{Instr}
 use Rattle.v8_decode.specs.declared.Instr.TheVariants as i
@@ -24,7 +24,7 @@ use Rattle.code_runs.proofs.Acts.{step_is}
 use Rattle.code_runs.proofs.Counted.{no_stores, none_then}
 use Rattle.layout.specs.declared.items.Item.{Item}
 use Rattle.layout.specs.declared.items.Item.TheVariants as it
-use Rattle.layout.specs.Laid.{HasShortForms, Placement, item_at, item_in, items_in, size_of, open_in, range_in, range_of, IsWordAt}
+use Rattle.layout.specs.Laid.{HasShortForms, Placement, item_at, item_in, size_of, open_in, range_in, range_of, IsWordAt}
 use Rattle.layout.proofs.Going.{taken_acts, word_is}
 use Rattle.image_code.specs.Simulates.{Setting, IsOnWay, in_first_word, is_spill, at_point, does_at, number_in, Enters}
 use Rattle.image_code.specs.Images.{Pieces, Frame, Here, IsPlaced, Entered}
@@ -59,8 +59,7 @@ module _ (g : Setting) (l : Pieces) (base : ℕ) (p : Placement) (place : ℕ �
   item n = ap (λ (v : Option (List Item)). item_in v n) c.items
 
   size : size_of l.list c.piece ≡ 4 + length c.rest
-  size = ap (λ (v : Option (List Item)). items_in v) c.items
-      ∙ (let s : suc (suc (suc (suc (length c.rest)))) ≡ 4 + length c.rest = omega arith in s)
+  size = rw c.items (omega arith)
 
   mark : place c.piece 1 ≡ place c.piece 0
   mark = h.laid.items c.piece 0 (it.Mark c.address (number_in g node)) (item 0)

@@ -98,10 +98,12 @@ module _ (g : Setting) (is : IsKnown g) (table cases : ℕ) (codes : ℕ → Lis
       → enter_number g.text (graph_in g) node (word + 1) ≡ suc (image_number g.text (graph_in g) node word)
   jump_next k o node word at e here above =
       let next : word + 1 ≡ suc word = omega arith in
-      ap (enter_number g.text (graph_in g) node) next
-      ∙ jump_enter_is g.text b g.switches k o node (suc word) at e here
-      ∙ enter_next g.text b g.switches is.cased table cases codes k o e word above
-      ∙ ap suc (sym (jump_image_is g.text b g.switches k o node word at e here))
+      rw (
+        next,
+        jump_enter_is g.text b g.switches k o node (suc word) at e here,
+        jump_image_is g.text b g.switches k o node word at e here,
+      )
+      (enter_next g.text b g.switches is.cased table cases codes k o e word above)
 
   pub compare_next : (k : ℕ) (o : Open) (node : Node) (word : ℕ)
       → compare_number g.text (graph_in g) o.switch.compare.0 ≡ Some k
@@ -112,7 +114,8 @@ module _ (g : Setting) (is : IsKnown g) (table cases : ℕ) (codes : ℕ → Lis
       let next : word + 1 ≡ suc word = omega arith in
       let more : compare_image g.text (graph_in g) k o (suc word) ≡ suc (compare_image g.text (graph_in g) k o word) =
       omega (arith, above) in
-      ap (enter_number g.text (graph_in g) node) next
-      ∙ compare_enter_is g.text b g.switches k o node (suc word) at e here
-      ∙ more
-      ∙ ap suc (sym (compare_image_is g.text b g.switches k o node word at e here))
+      rw (
+        next,
+        compare_enter_is g.text b g.switches k o node (suc word) at e here,
+        compare_image_is g.text b g.switches k o node word at e here,
+      ) more

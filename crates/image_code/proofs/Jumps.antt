@@ -1,5 +1,5 @@
 -- The words of a JMPL, and then the way; or the ending that a misaligned target has.
-use Rattle.std.proofs.Common.{◌≡◌, ◌≢◌, ℕ, ◌+◌, ◌-◌, ◌%◌, ◌^◌, ◌<◌, ◌≤◌, ◌⊎◌, inl, inr, false, Option, Some, None, List, [], length, refl, ap, sym, ◌∙◌, subst, arith}
+use Rattle.std.proofs.Common.{◌≡◌, ◌≢◌, ℕ, ◌+◌, ◌-◌, ◌%◌, ◌^◌, ◌<◌, ◌≤◌, inl, inr, false, Option, Some, None, List, [], length, refl, ap, sym, ◌∙◌, subst, arith}
 use Rattle.eel_base.specs.CodeText.{word_at}
 use Rattle.v8_decode.specs.declared.Instr.{Instr}
 use Rattle.v8_decode.specs.declared.Instr.TheVariants as i
@@ -93,46 +93,40 @@ module _ (g : Setting) (l : Pieces) (base : ℕ) (p : Placement) (place : ℕ �
       short : c.address.0 < 2 ^ 32
       short = let o = c.original in let low = c.low in omega arith
 
+  -- the target is a multiple of 4, or it isn't
+  either : {A : Type 0} → (sum_of t c.rs1 c.op2 % 4 ≡ 0 → A) → (sum_of t c.rs1 c.op2 % 4 ≢ 0 → A) → A
+  either going stopping = elim (equal_or_not (sum_of t c.rs1 c.op2 % 4) 0) [ inl e ↦ going e | inr ne ↦ stopping ne ]
+
   memory_is : after_jump.memory ≡ t.memory
-  memory_is = go (equal_or_not (sum_of t c.rs1 c.op2 % 4) 0)
-    where
-      go : (sum_of t c.rs1 c.op2 % 4 ≡ 0) ⊎ (sum_of t c.rs1 c.op2 % 4 ≢ 0)
-          → after_jump.memory ≡ t.memory
-      go (inl e) = ap (λ (z : State). z.memory)
-          (goes c.scratch c.second c.rd c.rs1 c.op2 c.address.0 f.halves t about e)
-      go (inr ne) = ap (λ (z : State). z.memory)
-          (stops c.scratch c.second c.rd c.rs1 c.op2 c.address.0 f.halves t about ne)
+  memory_is =
+      either
+      (λ e. ap (λ (z : State). z.memory) (goes c.scratch c.second c.rd c.rs1 c.op2 c.address.0 f.halves t about e))
+      (λ ne. ap (λ (z : State). z.memory) (stops c.scratch c.second c.rd c.rs1 c.op2 c.address.0 f.halves t about ne))
 
   -- a JMPL goes on to a multiple of 4
   aligned : after_jump.ending ≡ None → after_jump.npc % 4 ≡ 0
-  aligned live = go (equal_or_not (sum_of t c.rs1 c.op2 % 4) 0)
-    where
-      go : (sum_of t c.rs1 c.op2 % 4 ≡ 0) ⊎ (sum_of t c.rs1 c.op2 % 4 ≢ 0)
-          → after_jump.npc % 4 ≡ 0
-      go (inl e) = ap (λ (z : State). z.npc % 4)
-          (goes c.scratch c.second c.rd c.rs1 c.op2 c.address.0 f.halves t about e) ∙ e
-      go (inr ne) =
-          let over = ap (λ (z : State). z.ending)
-          (stops c.scratch c.second c.rd c.rs1 c.op2 c.address.0 f.halves t about ne) in
-          absurd (cc)
+  aligned live =
+      either
+      (λ e. ap (λ (z : State). z.npc % 4)
+      (goes c.scratch c.second c.rd c.rs1 c.op2 c.address.0 f.halves t about e) ∙ e)
+      (λ ne.
+      let over = ap (λ (z : State). z.ending)
+      (stops c.scratch c.second c.rd c.rs1 c.op2 c.address.0 f.halves t about ne) in
+      absurd (cc))
 
   -- one that ends the run changes nothing else
   only_ends : (d : Ending) → after_jump.ending ≡ Some d
       → after_jump ≡ record (moved c.address.0 (wrapped (c.address.0 + 4)) NoSlot t) { ending = Some d }
-  only_ends d is = go (equal_or_not (sum_of t c.rs1 c.op2 % 4) 0)
-    where
-      go : (sum_of t c.rs1 c.op2 % 4 ≡ 0) ⊎ (sum_of t c.rs1 c.op2 % 4 ≢ 0) → after_jump
-          ≡ record (moved c.address.0 (wrapped (c.address.0 + 4)) NoSlot t) { ending = Some d }
-      go (inl e) =
-          let live = ap (λ (z : State). z.ending)
-          (goes c.scratch c.second c.rd c.rs1 c.op2 c.address.0 f.halves t about e)
-          ∙ here.live in
-          absurd (cc)
-      go (inr ne) =
-          let end = stops c.scratch c.second c.rd c.rs1 c.op2 c.address.0 f.halves t about ne in
-          end
-          ∙ ap (λ (z : Option Ending). record (moved c.address.0 (wrapped (c.address.0 + 4)) NoSlot t) { ending = z })
-          (sym (ap (λ (z : State). z.ending) end) ∙ is)
+  only_ends d is =
+      either
+      (λ e.
+      let live = ap (λ (z : State). z.ending)
+      (goes c.scratch c.second c.rd c.rs1 c.op2 c.address.0 f.halves t about e) ∙ here.live in
+      absurd (cc))
+      (λ ne.
+      let end = stops c.scratch c.second c.rd c.rs1 c.op2 c.address.0 f.halves t about ne in
+      end ∙ ap (λ (z : Option Ending). record (moved c.address.0 (wrapped (c.address.0 + 4)) NoSlot t) { ending = z })
+      (sym (ap (λ (z : State). z.ending) end) ∙ is))
 
   quiet : (descriptor : ℕ) → puts_on_word (at_point x t) (word_of g.text x.pc) descriptor ≡ []
   quiet descriptor =

@@ -6,7 +6,7 @@ use Rattle.eel_base.specs.declared.numbers.PieceNo.{PieceNo}
 use Rattle.v8_decode.specs.declared.Instr.{Instr}
 use Rattle.layout.specs.declared.items.Item.{Item}
 use Rattle.layout.specs.declared.items.Item.TheVariants as it
-use Rattle.layout.specs.Laid.{Placement, OpenMark as Open, IsLaid, IsWordAt, item_at, item_in, items_in, size_of, open_in, open_from, end_from, range_in, range_of}
+use Rattle.layout.specs.Laid.{Placement, OpenMark as Open, IsLaid, IsWordAt, item_at, item_in, size_of, open_in, open_from, end_from, range_in, range_of}
 use Rattle.jump_code.specs.Links.{link}
 use Rattle.jump_code.specs.Pieces.{marked_piece, word_items}
 
@@ -74,8 +74,7 @@ module _ (l : List (List Item)) (base : ℕ) (p : Placement) (place : ℕ → �
   item_is n = ap (λ (v : Option (List Item)). item_in v n) is
 
   size : size_of l k ≡ 2 + length xs + length rest
-  size = ap (λ (v : Option (List Item)). items_in v) is ∙ ap suc (items_more xs (it.EndMark ∷ rest))
-      ∙ (let e : suc (length xs + suc (length rest)) ≡ 2 + length xs + length rest = omega arith in e)
+  size = rw is (omega (arith, items_more xs (it.EndMark ∷ rest)))
 
   word : (j : ℕ) → j < length xs → (w : ℕ) × (item_at l k (suc j) ≡ Some (it.Word w))
   word j low = let w = word_item xs (it.EndMark ∷ rest) j low in (w.0, item_is (suc j) ∙ w.1)

@@ -8,7 +8,6 @@ use Rattle.std.proofs.lemmas.List.Folds.{list_any-append}
 use Rattle.eel_base.specs.CodeText.{address_of, word_at}
 use Rattle.v8_decode.specs.declared.Instr.{Instr}
 use Rattle.v8_decode.specs.Words.{decode_of}
-use Rattle.v8_step.specs.declared.Ending.{Ending}
 use Rattle.v8_step.specs.declared.Slot.{Slot}
 use Rattle.v8_step.specs.declared.Slot.TheVariants.{NoSlot}
 use Rattle.v8_step.specs.State.{State}
@@ -24,7 +23,7 @@ use Rattle.cfg_normal.specs.declared.Slot.TheVariants as carried
 use Rattle.cfg_normal.specs.Nodes.{home_of}
 use Rattle.cfg_normal.specs.Opens.{Open, targets_in}
 use Rattle.cfg_normal.specs.Graph.{IsNodeIn, IsSlotIn, has_cases, lands, node_of}
-use Rattle.cfg_walk.specs.Walk.{Point, WayOut, by_kind, completed, edge_along, gone, instr_at, left_by, point_of, same_kind, slot_left, unless_ended, way_of, way_to}
+use Rattle.cfg_walk.specs.Walk.{Point, WayOut, by_kind, completed, edge_along, instr_at, left_by, point_of, same_kind, slot_left, way_of, way_to}
 use Rattle.cfg_walk.specs.Matches.{IsCarried, IsOnItsWay, IsTarget, MatchesBy}
 use Rattle.cfg_walk.proofs.Addresses.{word_at-address}
 use Rattle.cfg_walk.proofs.Edges.{block}
@@ -120,9 +119,7 @@ module _ (g : Setting) where
   -- one from a slot completes the edge of the transfer before, and after a jump a landing
   pub slot_gone : (node : Node) (x : Point) (v : State) → x.slot ≢ NoSlot → v.slot ≡ NoSlot → v.ending ≡ None
       → gone_at g node x v ≡ slot_left g.text (graph_in g) node (way_of (instr_at g.text (x.pc - 4)) x.slot) v.pc
-  slot_gone node x v slot after live =
-      ap (λ (e : Option Ending). gone g.text (graph_in g) node x (unless_ended e (point_of v))) live
-      ∙ ap (completed g.text (graph_in g) node x (point_of v) x.slot) after ∙ by x.slot slot
+  slot_gone node x v slot after live = rw (live, after) (by x.slot slot)
     where
       by : (s : Slot) → s ≢ NoSlot → completed g.text (graph_in g) node x (point_of v) s NoSlot
           ≡ slot_left g.text (graph_in g) node (way_of (instr_at g.text (x.pc - 4)) s) v.pc
