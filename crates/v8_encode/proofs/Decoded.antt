@@ -1,5 +1,5 @@
 -- The word of an instruction decodes to it.
-use Rattle.std.proofs.Common.{◌≡◌, ℕ, ◌+◌, ◌*◌, ◌%◌, ◌^◌, ◌<◌, Bool, true, false, cond, ◌&&◌, nat_lt, ◌==◌, ℤ, refl, sym, ap, ◌∙◌, arith}
+use Rattle.std.proofs.Common.{◌≡◌, ℕ, ◌+◌, ◌*◌, ◌%◌, ◌^◌, ◌<◌, Bool, true, false, cond, ◌&&◌, nat_lt, ◌==◌, ℤ, refl, sym, ap, ap₂, ◌∙◌, arith}
 use Rattle.std.specs.Prelude.{if◌then◌else◌}
 use Rattle.std.proofs.lemmas.Bool.{and_parts, true≢false, ltb-true}
 use Rattle.v8_decode.specs.declared.Instr.{Instr}
@@ -21,131 +21,48 @@ use Rattle.v8_encode.proofs.Fields.{format3_fields, op2_field-lt, op2_of-field, 
 
 -- the row of an operation's form
 arithmetic-row : (op : AluOp) (sets : Bool) → has_form op sets ≡ true → (w : ℕ) → row_of arithmetic_rows (alu_op3 op sets) w ≡ alu op sets w
-arithmetic-row ops.ADD false h w = refl
-arithmetic-row ops.ADD true h w = refl
-arithmetic-row ops.AND false h w = refl
-arithmetic-row ops.AND true h w = refl
-arithmetic-row ops.OR false h w = refl
-arithmetic-row ops.OR true h w = refl
-arithmetic-row ops.XOR false h w = refl
-arithmetic-row ops.XOR true h w = refl
-arithmetic-row ops.SUB false h w = refl
-arithmetic-row ops.SUB true h w = refl
-arithmetic-row ops.ANDN false h w = refl
-arithmetic-row ops.ANDN true h w = refl
-arithmetic-row ops.ORN false h w = refl
-arithmetic-row ops.ORN true h w = refl
-arithmetic-row ops.XNOR false h w = refl
-arithmetic-row ops.XNOR true h w = refl
-arithmetic-row ops.ADDX false h w = refl
-arithmetic-row ops.ADDX true h w = refl
-arithmetic-row ops.UMUL false h w = refl
-arithmetic-row ops.UMUL true h w = refl
-arithmetic-row ops.SMUL false h w = refl
-arithmetic-row ops.SMUL true h w = refl
-arithmetic-row ops.SUBX false h w = refl
-arithmetic-row ops.SUBX true h w = refl
-arithmetic-row ops.UDIV false h w = refl
-arithmetic-row ops.UDIV true h w = refl
-arithmetic-row ops.SDIV false h w = refl
-arithmetic-row ops.SDIV true h w = refl
 arithmetic-row ops.TADDcc false h w = absurd (true≢false (sym h))
-arithmetic-row ops.TADDcc true h w = refl
 arithmetic-row ops.TSUBcc false h w = absurd (true≢false (sym h))
-arithmetic-row ops.TSUBcc true h w = refl
 arithmetic-row ops.TADDccTV false h w = absurd (true≢false (sym h))
-arithmetic-row ops.TADDccTV true h w = refl
 arithmetic-row ops.TSUBccTV false h w = absurd (true≢false (sym h))
-arithmetic-row ops.TSUBccTV true h w = refl
 arithmetic-row ops.MULScc false h w = absurd (true≢false (sym h))
-arithmetic-row ops.MULScc true h w = refl
-arithmetic-row ops.SLL false h w = refl
 arithmetic-row ops.SLL true h w = absurd (true≢false (sym h))
-arithmetic-row ops.SRL false h w = refl
 arithmetic-row ops.SRL true h w = absurd (true≢false (sym h))
-arithmetic-row ops.SRA false h w = refl
 arithmetic-row ops.SRA true h w = absurd (true≢false (sym h))
+arithmetic-row op true h w = refl
+arithmetic-row op false h w = refl
 
 load-row : (kind : LoadKind) (w : ℕ) → has_even_pair (i.Load kind (rd_of w) (rs1_of w) (op2_of w)) ≡ true → row_of memory_rows (load_op3 kind) w ≡ load kind w
-load-row loads.LD w h = refl
-load-row loads.LDUB w h = refl
-load-row loads.LDUH w h = refl
 load-row loads.LDD w h = ap (λ b. if b then load loads.LDD w else i.Illegal) h
-load-row loads.LDSB w h = refl
-load-row loads.LDSH w h = refl
+load-row kind w h = refl
 
 store-row : (kind : StoreKind) (w : ℕ) → has_even_pair (i.Store kind (rd_of w) (rs1_of w) (op2_of w)) ≡ true → row_of memory_rows (store_op3 kind) w ≡ store kind w
-store-row stores.ST w h = refl
-store-row stores.STB w h = refl
-store-row stores.STH w h = refl
 store-row stores.STD w h = ap (λ b. if b then store stores.STD w else i.Illegal) h
+store-row kind w h = refl
 
-alu_op3-lt : (op : AluOp) (sets : Bool) → alu_op3 op sets < 64
-alu_op3-lt ops.ADD true = omega arith
-alu_op3-lt ops.ADD false = omega arith
-alu_op3-lt ops.AND true = omega arith
-alu_op3-lt ops.AND false = omega arith
-alu_op3-lt ops.OR true = omega arith
-alu_op3-lt ops.OR false = omega arith
-alu_op3-lt ops.XOR true = omega arith
-alu_op3-lt ops.XOR false = omega arith
-alu_op3-lt ops.SUB true = omega arith
-alu_op3-lt ops.SUB false = omega arith
-alu_op3-lt ops.ANDN true = omega arith
-alu_op3-lt ops.ANDN false = omega arith
-alu_op3-lt ops.ORN true = omega arith
-alu_op3-lt ops.ORN false = omega arith
-alu_op3-lt ops.XNOR true = omega arith
-alu_op3-lt ops.XNOR false = omega arith
-alu_op3-lt ops.ADDX true = omega arith
-alu_op3-lt ops.ADDX false = omega arith
-alu_op3-lt ops.UMUL true = omega arith
-alu_op3-lt ops.UMUL false = omega arith
-alu_op3-lt ops.SMUL true = omega arith
-alu_op3-lt ops.SMUL false = omega arith
-alu_op3-lt ops.SUBX true = omega arith
-alu_op3-lt ops.SUBX false = omega arith
-alu_op3-lt ops.UDIV true = omega arith
-alu_op3-lt ops.UDIV false = omega arith
-alu_op3-lt ops.SDIV true = omega arith
-alu_op3-lt ops.SDIV false = omega arith
-alu_op3-lt ops.TADDcc sets = omega arith
-alu_op3-lt ops.TSUBcc sets = omega arith
-alu_op3-lt ops.TADDccTV sets = omega arith
-alu_op3-lt ops.TSUBccTV sets = omega arith
-alu_op3-lt ops.MULScc sets = omega arith
-alu_op3-lt ops.SLL sets = omega arith
-alu_op3-lt ops.SRL sets = omega arith
-alu_op3-lt ops.SRA sets = omega arith
+-- each opcode has six bits
+alu_op3-small : (op : AluOp) (sets : Bool) → nat_lt (alu_op3 op sets) 64 ≡ true
+alu_op3-small ops.ADD true = refl
+alu_op3-small ops.ADD false = refl
+alu_op3-small op true = refl
+alu_op3-small op false = refl
 
-load_op3-lt : (kind : LoadKind) → load_op3 kind < 64
-load_op3-lt loads.LD = omega arith
-load_op3-lt loads.LDUB = omega arith
-load_op3-lt loads.LDUH = omega arith
-load_op3-lt loads.LDD = omega arith
-load_op3-lt loads.LDSB = omega arith
-load_op3-lt loads.LDSH = omega arith
+load_op3-small : (kind : LoadKind) → nat_lt (load_op3 kind) 64 ≡ true
+load_op3-small loads.LD = refl
+load_op3-small kind = refl
 
-store_op3-lt : (kind : StoreKind) → store_op3 kind < 64
-store_op3-lt stores.ST = omega arith
-store_op3-lt stores.STB = omega arith
-store_op3-lt stores.STH = omega arith
-store_op3-lt stores.STD = omega arith
+store_op3-small : (kind : StoreKind) → nat_lt (store_op3 kind) 64 ≡ true
+store_op3-small stores.ST = refl
+store_op3-small kind = refl
 
 -- whether a doubleword's rd is even rests on rd alone
 load_pair : (kind : LoadKind) (r rd rs1 : ℕ) (op2 : Op2) (w : ℕ) → r ≡ rd → has_even_pair (i.Load kind rd rs1 op2) ≡ true → has_even_pair (i.Load kind r (rs1_of w) (op2_of w)) ≡ true
-load_pair loads.LD r rd rs1 op2 w e h = refl
-load_pair loads.LDUB r rd rs1 op2 w e h = refl
-load_pair loads.LDUH r rd rs1 op2 w e h = refl
 load_pair loads.LDD r rd rs1 op2 w e h = ap (λ x. x % 2 == 0) e ∙ h
-load_pair loads.LDSB r rd rs1 op2 w e h = refl
-load_pair loads.LDSH r rd rs1 op2 w e h = refl
+load_pair kind r rd rs1 op2 w e h = refl
 
 store_pair : (kind : StoreKind) (r rd rs1 : ℕ) (op2 : Op2) (w : ℕ) → r ≡ rd → has_even_pair (i.Store kind rd rs1 op2) ≡ true → has_even_pair (i.Store kind r (rs1_of w) (op2_of w)) ≡ true
-store_pair stores.ST r rd rs1 op2 w e h = refl
-store_pair stores.STB r rd rs1 op2 w e h = refl
-store_pair stores.STH r rd rs1 op2 w e h = refl
 store_pair stores.STD r rd rs1 op2 w e h = ap (λ x. x % 2 == 0) e ∙ h
+store_pair kind r rd rs1 op2 w e h = refl
 
 -- what a word of format 3 says of its fields
 record Says (op rd op3 rs1 : ℕ) (op2 : Op2) (w : ℕ) : Type 0 where
@@ -169,7 +86,7 @@ says op rd op3 rs1 op2 h0 h1 h2 range fits =
     }
 
 operands : {op rd op3 rs1 : ℕ} {op2 : Op2} {w : ℕ} → (row : ℕ → Op2 → Instr) → Says op rd op3 rs1 op2 w → row (rs1_of w) (op2_of w) ≡ row rs1 op2
-operands {rs1 = rs1} {w = w} row s = ap (λ x. row x (op2_of w)) s.the_rs1 ∙ ap (λ x. row rs1 x) s.the_op2
+operands row s = ap₂ row s.the_rs1 s.the_op2
 
 all_fields : {op rd op3 rs1 : ℕ} {op2 : Op2} {w : ℕ} → (row : ℕ → ℕ → Op2 → Instr) → Says op rd op3 rs1 op2 w → row (rd_of w) (rs1_of w) (op2_of w) ≡ row rd rs1 op2
 all_fields {rd = rd} {w = w} row s = ap (λ x. row x (rs1_of w) (op2_of w)) s.the_rd ∙ operands (row rd) s
@@ -209,7 +126,7 @@ decoded_sethi rd imm22 range fits =
     let op2 : field w 22 3 ≡ 4 = omega arith in
     let the_rd : rd_of w ≡ rd = omega arith in
     let the_imm22 : field w 0 22 ≡ imm22 = omega arith in
-    decode_of-format2 w 4 op op2 ∙ ap (λ x. i.Sethi x (field w 0 22)) the_rd ∙ ap (λ x. i.Sethi rd x) the_imm22
+    decode_of-format2 w 4 op op2 ∙ ap₂ i.Sethi the_rd the_imm22
 
 decoded_branch : (cond : ℕ) (annul : Bool) (disp22 : ℤ) → nat_lt cond 16 ≡ true → fits_signed 22 disp22 ≡ true
     → decode_of (format2 (annul_bit annul * 2 ^ 4 + cond) 2 (signed_field 22 disp22)) ≡ i.Branch cond annul disp22
@@ -224,11 +141,7 @@ decoded_branch cond annul disp22 range fits =
     let the_annul : field w 29 1 ≡ annul_bit annul = omega arith in
     let the_disp22 : field w 0 22 ≡ signed_field 22 disp22 = omega arith in
     decode_of-format2 w 2 op op2
-    ∙ ap (λ x. i.Branch x (field w 29 1 == 1) (signed 22 (field w 0 22))) the_cond
-    ∙ ap (λ x. i.Branch cond (x == 1) (signed 22 (field w 0 22))) the_annul
-    ∙ ap (λ b. i.Branch cond b (signed 22 (field w 0 22))) (annul_bit-is annul)
-    ∙ ap (λ x. i.Branch cond annul (signed 22 x)) the_disp22
-    ∙ ap (λ z. i.Branch cond annul z) (signed-signed_field 22 disp22 refl fits)
+    ∙ rw (the_cond, the_annul, the_disp22, annul_bit-is annul, signed-signed_field 22 disp22 refl fits) refl
 
 decoded_call : (disp30 : ℤ) → fits_signed 30 disp30 ≡ true → decode_of (2 ^ 30 + signed_field 30 disp30) ≡ i.Call disp30
 decoded_call disp30 fits =
@@ -236,7 +149,7 @@ decoded_call disp30 fits =
     let w = 2 ^ 30 + signed_field 30 disp30 in
     let op : field w 30 2 ≡ 1 = omega arith in
     let the_disp30 : field w 0 30 ≡ signed_field 30 disp30 = omega arith in
-    decode_of-call w op ∙ ap (λ x. i.Call (signed 30 x)) the_disp30 ∙ ap i.Call (signed-signed_field 30 disp30 refl fits)
+    decode_of-call w op ∙ ap i.Call (ap (signed 30) the_disp30 ∙ signed-signed_field 30 disp30 refl fits)
 
 decoded_read_y : (rd : ℕ) → nat_lt rd 32 ≡ true → decode_of (format3 2 rd 0x28 0 (o.Reg 0)) ≡ i.ReadY rd
 decoded_read_y rd range =
@@ -280,7 +193,7 @@ decode_of-word_of (i.Branch cond annul disp22) range has = decoded_branch cond a
 decode_of-word_of (i.Call disp30) range has = decoded_call disp30 has
 decode_of-word_of (i.Alu op sets rd rs1 op2) range has =
     let parts = and_parts (has_form op sets) (op2_fits op2) has in
-    decoded3 (i.Alu op sets) rd (alu_op3 op sets) rs1 op2 (alu_op3-lt op sets) (arithmetic-row op sets parts.0) range parts.1
+    decoded3 (i.Alu op sets) rd (alu_op3 op sets) rs1 op2 (ltb-true _ 64 (alu_op3-small op sets)) (arithmetic-row op sets parts.0) range parts.1
 decode_of-word_of (i.ReadY rd) range has = decoded_read_y rd range
 decode_of-word_of (i.WriteY rs1 op2) range has = decoded_write_y rs1 op2 range has
 decode_of-word_of (i.Jmpl rd rs1 op2) range has = decoded3 i.Jmpl rd 0x38 rs1 op2 (omega arith) (λ w. refl) range has
@@ -291,13 +204,10 @@ decode_of-word_of (i.Save rd rs1 op2) range has = decoded3 i.Save rd 0x3c rs1 op
 decode_of-word_of (i.Restore rd rs1 op2) range has = decoded3 i.Restore rd 0x3d rs1 op2 (omega arith) (λ w. refl) range has
 decode_of-word_of (i.Load kind rd rs1 op2) range has =
     let parts = and_parts (has_even_pair (i.Load kind rd rs1 op2)) (op2_fits op2) has in
-    decoded_memory (i.Load kind) rd (load_op3 kind) rs1 op2 (load_op3-lt kind) (λ w the_rd. load-row kind w (load_pair kind (rd_of w) rd rs1 op2 w the_rd parts.0)) range parts.1
+    decoded_memory (i.Load kind) rd (load_op3 kind) rs1 op2 (ltb-true _ 64 (load_op3-small kind)) (λ w the_rd. load-row kind w (load_pair kind (rd_of w) rd rs1 op2 w the_rd parts.0)) range parts.1
 decode_of-word_of (i.Store kind rd rs1 op2) range has =
     let parts = and_parts (has_even_pair (i.Store kind rd rs1 op2)) (op2_fits op2) has in
-    decoded_memory (i.Store kind) rd (store_op3 kind) rs1 op2 (store_op3-lt kind) (λ w the_rd. store-row kind w (store_pair kind (rd_of w) rd rs1 op2 w the_rd parts.0)) range parts.1
+    decoded_memory (i.Store kind) rd (store_op3 kind) rs1 op2 (ltb-true _ 64 (store_op3-small kind)) (λ w the_rd. store-row kind w (store_pair kind (rd_of w) rd rs1 op2 w the_rd parts.0)) range parts.1
 decode_of-word_of (i.Ldstub rd rs1 op2) range has = decoded_memory i.Ldstub rd 0x0d rs1 op2 (omega arith) (λ w _. refl) range has
 decode_of-word_of (i.Swap rd rs1 op2) range has = decoded_memory i.Swap rd 0x0f rs1 op2 (omega arith) (λ w _. refl) range has
-decode_of-word_of i.Illegal range has = absurd (true≢false (sym has))
-decode_of-word_of i.Privileged range has = absurd (true≢false (sym has))
-decode_of-word_of i.FpOff range has = absurd (true≢false (sym has))
-decode_of-word_of i.CpOff range has = absurd (true≢false (sym has))
+decode_of-word_of instr range has = absurd (true≢false (sym has))

@@ -43,9 +43,7 @@ signed-signed_field width (negsuc n) twice fits =
     let high : 2 ^ (width - 1) ≤ 2 ^ width - suc n = omega arith in
     let below : 2 ^ width - suc n < 2 ^ width = omega arith in
     let back : 2 ^ width - suc (2 ^ width - suc n) ≡ n = omega arith in
-    ap (λ b. if b then pos (2 ^ width - suc n) else (pos (2 ^ width - suc n) -ℤ pos (2 ^ width))) (le-ltb _ _ high)
-    ∙ minus (2 ^ width - suc n) (2 ^ width) below
-    ∙ ap negsuc back
+    rw (le-ltb _ _ high, minus (2 ^ width - suc n) (2 ^ width) below, back) refl
 
 pub signed_field-signed : (width n : ℕ) → 2 ^ width ≡ 2 * 2 ^ (width - 1) → n < 2 ^ width → (fits_signed width (signed width n) ≡ true) × (signed_field width (signed width n) ≡ n)
 signed_field-signed width n twice below = go (nat_lt n (2 ^ (width - 1))) refl
@@ -72,15 +70,12 @@ op2_of-field (o.Reg rs2) w fits range e =
     let low = ltb-true rs2 32 range in
     let i : field w 13 1 ≡ 0 = omega arith in
     let number : field w 0 5 ≡ rs2 = omega arith in
-    ap (λ b. if b == 0 then o.Reg (field w 0 5) else o.Imm (signed 13 (field w 0 13))) i
-    ∙ ap o.Reg number
+    rw (i, number) refl
 op2_of-field (o.Imm simm13) w fits range e =
     let low = signed_field-lt 13 simm13 refl fits in
     let i : field w 13 1 ≡ 1 = omega arith in
     let value : field w 0 13 ≡ signed_field 13 simm13 = omega arith in
-    ap (λ b. if b == 0 then o.Reg (field w 0 5) else o.Imm (signed 13 (field w 0 13))) i
-    ∙ ap (λ n. o.Imm (signed 13 n)) value
-    ∙ ap o.Imm (signed-signed_field 13 simm13 refl fits)
+    rw (i, value, signed-signed_field 13 simm13 refl fits) refl
 
 -- a word's operand fits its field
 pub op2_fits-op2_of : (w : ℕ) → op2_fits (op2_of w) ≡ true
@@ -99,9 +94,7 @@ op2_of-same v w e =
     let i : field v 13 1 ≡ field w 13 1 = omega arith in
     let number : field v 0 5 ≡ field w 0 5 = omega arith in
     let value : field v 0 13 ≡ field w 0 13 = omega arith in
-    ap (λ b. if b == 0 then o.Reg (field v 0 5) else o.Imm (signed 13 (field v 0 13))) i
-    ∙ ap (λ n. if field w 13 1 == 0 then o.Reg n else o.Imm (signed 13 (field v 0 13))) number
-    ∙ ap (λ n. if field w 13 1 == 0 then o.Reg (field w 0 5) else o.Imm (signed 13 n)) value
+    rw (i, number, value) refl
 
 -- a word of format 3, put together again of its fields
 pub format3-fields : (w : ℕ) → w < 2 ^ 32 → format3 (field w 30 2) (rd_of w) (op3_of w) (rs1_of w) (op2_of w) ≡ cleared (ignored_beside (op2_of w)) w

@@ -44,23 +44,16 @@ cleared_rd rs1 op2 range fits =
     ap (cleared (ignored_beside op2)) none ∙ cleared_operand 2 0 0x3b rs1 op2 range
 
 pub cleared-word_of : (instr : Instr) → is_in_range instr ≡ true → has_word instr ≡ true → cleared (ignored_of instr) (word_of instr) ≡ word_of instr
-cleared-word_of (i.Sethi rd imm22) range has = refl
-cleared-word_of (i.Branch cond annul disp22) range has = refl
-cleared-word_of (i.Call disp30) range has = refl
 cleared-word_of (i.Alu op sets rd rs1 op2) range has = cleared_operand 2 rd (alu_op3 op sets) rs1 op2 (and_parts (nat_lt rd 32) (operands_in_range rs1 op2) range).1
 cleared-word_of (i.ReadY rd) range has = cleared_below rd 0
 cleared-word_of (i.WriteY rs1 op2) range has = cleared_operand 2 0 0x30 rs1 op2 range
 cleared-word_of (i.Jmpl rd rs1 op2) range has = cleared_operand 2 rd 0x38 rs1 op2 (and_parts (nat_lt rd 32) (operands_in_range rs1 op2) range).1
 cleared-word_of (i.Ticc cond rs1 op2) range has = cleared_bit_29 cond rs1 op2 range has
 cleared-word_of (i.Flush rs1 op2) range has = cleared_rd rs1 op2 range has
-cleared-word_of i.Stbar range has = refl
 cleared-word_of (i.Save rd rs1 op2) range has = cleared_operand 2 rd 0x3c rs1 op2 (and_parts (nat_lt rd 32) (operands_in_range rs1 op2) range).1
 cleared-word_of (i.Restore rd rs1 op2) range has = cleared_operand 2 rd 0x3d rs1 op2 (and_parts (nat_lt rd 32) (operands_in_range rs1 op2) range).1
 cleared-word_of (i.Load kind rd rs1 op2) range has = cleared_operand 3 rd (load_op3 kind) rs1 op2 (and_parts (nat_lt rd 32) (operands_in_range rs1 op2) range).1
 cleared-word_of (i.Store kind rd rs1 op2) range has = cleared_operand 3 rd (store_op3 kind) rs1 op2 (and_parts (nat_lt rd 32) (operands_in_range rs1 op2) range).1
 cleared-word_of (i.Ldstub rd rs1 op2) range has = cleared_operand 3 rd 0x0d rs1 op2 (and_parts (nat_lt rd 32) (operands_in_range rs1 op2) range).1
 cleared-word_of (i.Swap rd rs1 op2) range has = cleared_operand 3 rd 0x0f rs1 op2 (and_parts (nat_lt rd 32) (operands_in_range rs1 op2) range).1
-cleared-word_of i.Illegal range has = refl
-cleared-word_of i.Privileged range has = refl
-cleared-word_of i.FpOff range has = refl
-cleared-word_of i.CpOff range has = refl
+cleared-word_of instr range has = refl
