@@ -30,8 +30,7 @@ end-more end (first ∷ before) line = let rest = end-more end before line in om
 pub ops-more : (edge : ℕ) (before : List Said) (line : Said)
     → ops_on edge (before ++ line ∷ []) ≡ ops_on edge before ++ on_edge edge line
 ops-more edge [] line = append-nil (on_edge edge line)
-ops-more edge (first ∷ before) line = ap (λ (ops : List Op). on_edge edge first ++ ops) (ops-more edge before line)
-    ∙ sym (append_assoc (on_edge edge first) (ops_on edge before) (on_edge edge line))
+ops-more edge (first ∷ before) line = rw (ops-more edge before line, append_assoc) refl
 
 off_edge : (edge : ℕ) (line : Said) → edge_end line ≤ edge → on_edge edge line ≡ []
 off_edge edge Nothing past = refl
@@ -130,9 +129,7 @@ fault-same : (edges : ℕ) (before : List Said) (number : ℕ) (snips : List (Li
     → fault_in edges number snips line ≡ fault_of edges before line
 fault-same edges before number snips Nothing place same = refl
 fault-same edges before number snips (Does edge op) place same =
-    let ops : get_or snips edge [] ≡ ops_on edge before = ap (λ (ss : List (List Op)). get_or ss edge []) same
-    ∙ get-snips before edge in
-    rw (ops, place) refl
+    rw (same, get-snips before edge, place) refl
 fault-same edges before number snips Wrong place same = rw place refl
 
 good_more : (edges : ℕ) (before : List Said) (line : Said) → IsGood edges before → fault_of edges before line ≡ None
@@ -183,7 +180,7 @@ pub at : (edges number count : ℕ) (lines : List (List ℕ)) (line : List ℕ) 
     → number ≡ count → (count < length lines) × (line ≡ get_or lines count line)
     → Held edges (take number (map said_of lines)) snips cells → At edges number lines line snips cells
 at edges number count lines line snips cells same here held =
-    let there = subst (λ (n : ℕ). (n < length lines) × (line ≡ get_or lines n line)) (sym same) here in
+    let there = rw (← same) at here in
     record { within = there.0; is = there.1; held = held }
 
 next_said : (lines : List (List ℕ)) (n : ℕ) (line : List ℕ) → n < length lines → line ≡ get_or lines n line
@@ -219,9 +216,8 @@ module _ (edges number : ℕ) (lines : List (List ℕ)) (line : List ℕ) (snips
       → Held edges (take (number + 1) (map said_of lines)) new_snips new_cells
   unfolding said
   turned new_snips new_cells none snips_are cells_are =
-      let more = take_more said number Nothing within ∙ ap (λ (s : Said). take number said ++ s ∷ []) here in
-      let after = held_more edges (take number said) (number + 1) snips cells (said_of line) place held none in
-      rw (snips_are, cells_are, more) after
+      rw (snips_are, cells_are, take_more said number Nothing within, here)
+      (held_more edges (take number said) (number + 1) snips cells (said_of line) place held none)
 
   -- where it is
   first_fault : (fault : ScriptFault) → fault_in edges (number + 1) snips (said_of line) ≡ Some fault
@@ -242,19 +238,15 @@ module _ (edges number : ℕ) (lines : List (List ℕ)) (line : List ℕ) (snips
 
   by_fault : (fault : ScriptFault) → IsCause fault (fault_in edges (number + 1) snips (said_of line))
       → IsFault edges said fault
-  by_fault (faults.Line n) cause = first_fault (faults.Line n) cause
-  by_fault (faults.Edge n) cause = first_fault (faults.Edge n) cause
-  by_fault (faults.Cell n) cause = first_fault (faults.Cell n) cause
-  by_fault (faults.Ops n) cause = first_fault (faults.Ops n) cause
   by_fault faults.NoMemory cause = tt
+  by_fault fault cause = first_fault fault cause
 
   pub stopped : (fault : ScriptFault) (result : Result Script ScriptFault)
       → IsCause fault (fault_in edges (number + 1) snips (said_of line)) → IsErrAnd result (λ other. other ≡ fault)
       → Answers edges (map said_of lines) result
   unfolding said
   stopped fault (Ok script) cause is = absurd is
-  stopped fault (Err other) cause is =
-      subst (λ (e : ScriptFault). IsFault edges (map said_of lines) e) (sym is) (by_fault fault cause)
+  stopped fault (Err other) cause is = rw is (by_fault fault cause)
 
 -- after the last line
 pub finished : (edges number count : ℕ) (lines : List (List ℕ)) (script : Script) → number ≡ count
@@ -262,7 +254,5 @@ pub finished : (edges number count : ℕ) (lines : List (List ℕ)) (script : Sc
     → IsScript edges (map said_of lines) script
 finished edges number count lines script same all held =
     let long = length-map lines said_of in
-    let whole : take number (map said_of lines) ≡ map said_of lines =
-    ap (λ (n : ℕ). take n (map said_of lines)) (same ∙ all ∙ sym long) ∙ take-length (map said_of lines) in
-    let is = subst (λ (said : List Said). Held edges said script.snips.items script.cells) whole held in
+    let is = rw (same, all, ← long, take-length (map said_of lines)) at held in
     record { good = is.good; snips = is.snips_are; cells = is.cells_are }

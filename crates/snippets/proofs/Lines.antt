@@ -63,12 +63,8 @@ said_alone line Wrong h = wrong_alone line (said_of line) h (said_says line)
 
 -- what is spelled has a ring of at most 16 bits, since it has none
 spelled_ring : (op : Op) → IsSpelled op → HasRing op
-spelled_ring (Add cell amount) fits = tt
-spelled_ring (Put cell value) fits = tt
-spelled_ring (Keep cell reg) fits = tt
-spelled_ring (Top cell reg) fits = tt
-spelled_ring (Count cell) fits = tt
 spelled_ring (Log cell bits value) fits = absurd fits
+spelled_ring op fits = tt
 
 pub said_ring : (line : List ℕ) (edge : ℕ) (op : Op) → Does edge op ≡ said_of line → HasRing op
 said_ring line edge op is = spelled_ring op (subst (Says line) (sym is) (said_says line)).op_fits

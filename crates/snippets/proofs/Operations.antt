@@ -1,5 +1,5 @@
 -- Operations on edges.
-use Rattle.std.proofs.Common.{◌≡◌, ℕ, ◌<◌, ◌^◌, true, List, [], ◌∷◌, ◌++◌, Option, Some, None, inl, inr, decimal, codes, refl, ap, ap₂, sym, subst, ◌∙◌}
+use Rattle.std.proofs.Common.{if◌then◌else◌, ◌≡◌, ℕ, ◌<◌, ◌^◌, true, List, [], ◌∷◌, ◌++◌, Option, Some, None, inl, inr, decimal, codes, refl, ap, ap₂, sym, subst, ◌∙◌}
 use Rattle.std.specs.Option.{option_map, option_or}
 use Rattle.std.specs.Str.{bytes_eq}
 use Rattle.std.proofs.lemmas.Slice.Eq.{bytes_eq-Decides}
@@ -50,61 +50,41 @@ record OpRead (kind : List ℕ) (cell : ℕ) (operand : List ℕ) (op : Op) : Ty
   same_operand : operand ≡ operand_text op
   fits : cell < 2 ^ 32 → HasOperand op
 
-number_op : (make : ℕ → ℕ → Op) (kind : List ℕ) (cell : ℕ) (operand : List ℕ) (op : Op)
-    → option_map (make cell) (number_of operand) ≡ Some op
-    → ((n : ℕ) → n < 2 ^ 32 → OpRead kind cell (decimal n) (make cell n)) → OpRead kind cell operand op
-number_op make kind cell operand op h says =
-    let found = mapped (make cell) (number_of operand) op h in
-    let number = number_read operand found.got found.is in
-    subst (OpRead kind cell operand) found.same
-    (subst (λ (w : List ℕ). OpRead kind cell w (make cell found.got)) (sym number.0) (says found.got number.1))
+module _ (kind : List ℕ) (cell : ℕ) (operand : List ℕ) (op : Op) where
+  -- a word of an operation with an operand
+  operand_op : {of : List ℕ → Option ℕ} {text : ℕ → List ℕ} {bound : ℕ}
+      → ((word : List ℕ) (n : ℕ) → of word ≡ Some n → (word ≡ text n) × (n < bound)) → (make : ℕ → ℕ → Op)
+      → ((n : ℕ) → n < bound → OpRead kind cell (text n) (make cell n)) → option_map (make cell) (of operand) ≡ Some op
+      → OpRead kind cell operand op
+  operand_op {of} {text} read make says h =
+      let found = mapped (make cell) (of operand) op h in
+      let is = read operand found.got found.is in
+      subst (OpRead kind cell operand) found.same
+      (subst (λ (w : List ℕ). OpRead kind cell w (make cell found.got)) (sym is.0) (says found.got is.1))
 
-register_op : (make : ℕ → ℕ → Op) (kind : List ℕ) (cell : ℕ) (operand : List ℕ) (op : Op)
-    → option_map (make cell) (register_of operand) ≡ Some op
-    → ((reg : ℕ) → reg < 32 → OpRead kind cell (register_text reg) (make cell reg)) → OpRead kind cell operand op
-register_op make kind cell operand op h says =
-    let found = mapped (make cell) (register_of operand) op h in
-    let reg = register_read operand found.got found.is in
-    subst (OpRead kind cell operand) found.same
-    (subst (λ (w : List ℕ). OpRead kind cell w (make cell found.got)) (sym reg.0) (says found.got reg.1))
-
-op_read : (kind : List ℕ) (cell : ℕ) (operand : List ℕ) (op : Op) → op_of kind cell operand ≡ Some op
-    → OpRead kind cell operand op
-unfolding op_of
-op_read kind cell operand op h =
-    elim (chosen (bytes_eq kind (codes "add")) _ _ op h) as (λ _. OpRead kind cell operand op) [
-      | inl is ↦ number_op Add kind cell operand op is.1 (λ n fits. record {
-        same_cell = refl;
-        same_kind = (bytes_eq-Decides kind (codes "add")).0 is.0;
-        same_operand = refl;
-        fits = λ small. (small, fits);
-      })
-      | inr other ↦ elim (chosen (bytes_eq kind (codes "put")) _ _ op other.1) as (λ _. OpRead kind cell operand op) [
-        | inl is ↦ number_op Put kind cell operand op is.1 (λ n fits. record {
-          same_cell = refl;
-          same_kind = (bytes_eq-Decides kind (codes "put")).0 is.0;
-          same_operand = refl;
-          fits = λ small. (small, fits);
-        })
-        | inr more ↦ elim (chosen (bytes_eq kind (codes "keep")) _ _ op more.1) as (λ _. OpRead kind cell operand op) [
-          | inl is ↦ register_op Keep kind cell operand op is.1 (λ reg fits. record {
-            same_cell = refl;
-            same_kind = (bytes_eq-Decides kind (codes "keep")).0 is.0;
-            same_operand = refl;
-            fits = λ small. (small, fits);
-          })
-          | inr end ↦ elim (chosen (bytes_eq kind (codes "top")) _ _ op end.1) as (λ _. OpRead kind cell operand op) [
-            | inl is ↦ register_op Top kind cell operand op is.1 (λ reg fits. record {
-              same_cell = refl;
-              same_kind = (bytes_eq-Decides kind (codes "top")).0 is.0;
-              same_operand = refl;
-              fits = λ small. (small, fits);
-            })
-            | inr none ↦ absurd (cc none.1)
-          ]
-        ]
+  asked : (word : List ℕ) (one others : Option Op) → (if bytes_eq kind word then one else others) ≡ Some op
+      → (kind ≡ word → one ≡ Some op → OpRead kind cell operand op) → (others ≡ Some op → OpRead kind cell operand op)
+      → OpRead kind cell operand op
+  asked word one others h first rest =
+      elim (chosen (bytes_eq kind word) one others op h) as (λ _. OpRead kind cell operand op) [
+        | inl is ↦ first ((bytes_eq-Decides kind word).0 is.0) is.1
+        | inr is ↦ rest is.1
       ]
-    ]
+
+  -- what is left to say of one with an operand
+  with_operand : (read : Op) → cell_of read ≡ cell → kind ≡ kind_text read → (cell < 2 ^ 32 → HasOperand read)
+      → OpRead kind cell (operand_text read) read
+  with_operand read same_cell same_kind fits =
+      record { same_cell = same_cell; same_kind = same_kind; same_operand = refl; fits = fits }
+
+  op_read : op_of kind cell operand ≡ Some op → OpRead kind cell operand op
+  unfolding op_of
+  op_read h =
+      asked (codes "add") _ _ h (λ is. operand_op number_read Add (λ n fits. with_operand (Add cell n) refl is (λ small. (small, fits))))
+      (λ h. asked (codes "put") _ _ h (λ is. operand_op number_read Put (λ n fits. with_operand (Put cell n) refl is (λ small. (small, fits))))
+      (λ h. asked (codes "keep") _ _ h (λ is. operand_op register_read Keep (λ n fits. with_operand (Keep cell n) refl is (λ small. (small, fits))))
+      (λ h. asked (codes "top") _ _ h (λ is. operand_op register_read Top (λ n fits. with_operand (Top cell n) refl is (λ small. (small, fits))))
+      (λ h. absurd (cc h)))))
 
 op_back : (op : Op) → HasOperand op → op_of (kind_text op) (cell_of op) (operand_text op) ≡ Some op
 unfolding op_of
@@ -112,16 +92,11 @@ op_back (Add cell amount) fits = rw (number_back amount fits.1) refl
 op_back (Put cell value) fits = rw (number_back value fits.1) refl
 op_back (Keep cell reg) fits = rw (register_back reg fits.1) refl
 op_back (Top cell reg) fits = rw (register_back reg fits.1) refl
-op_back (Count cell) fits = absurd fits
-op_back (Log cell bits value) fits = absurd fits
+op_back op fits = absurd fits
 
 kind_whole : (op : Op) → is_whole 32 (kind_text op) ≡ true
-kind_whole (Add cell amount) = refl
-kind_whole (Put cell value) = refl
-kind_whole (Keep cell reg) = refl
-kind_whole (Top cell reg) = refl
 kind_whole (Count cell) = refl
-kind_whole (Log cell bits value) = refl
+kind_whole op = refl
 
 -- ---- the words behind the edge
 
@@ -150,13 +125,10 @@ count_back cell small = rw (number_back cell small) refl
 
 found_back : (op : Op) → IsSpelled op → found_of (kind_text op) (rest_text op) ≡ Some op
 unfolding bare_of
-found_back (Add cell amount) fits = full_back (Add cell amount) fits fits.0
-found_back (Put cell value) fits = full_back (Put cell value) fits fits.0
-found_back (Keep cell reg) fits = full_back (Keep cell reg) fits fits.0
-found_back (Top cell reg) fits = full_back (Top cell reg) fits fits.0
 found_back (Count cell) fits =
     ap (λ (found : Option Op). option_or found (full_of (codes "count") (decimal cell))) (count_back cell fits)
 found_back (Log cell bits value) fits = absurd fits
+found_back op fits = full_back op fits fits.0
 
 -- what was read
 record Found (kind words : List ℕ) (op : Op) : Type 0 where
@@ -182,12 +154,9 @@ bare_read kind words op h =
 
 found_full : (kind words : List ℕ) (op : Op) → kind ≡ kind_text op
     → words ≡ glued (decimal (cell_of op)) (operand_text op) → HasOperand op → Found kind words op
-found_full kind words (Add cell amount) a b has = record { kind_is = a; words_are = b; fits = has }
-found_full kind words (Put cell value) a b has = record { kind_is = a; words_are = b; fits = has }
-found_full kind words (Keep cell reg) a b has = record { kind_is = a; words_are = b; fits = has }
-found_full kind words (Top cell reg) a b has = record { kind_is = a; words_are = b; fits = has }
 found_full kind words (Count cell) a b has = absurd has
 found_full kind words (Log cell bits value) a b has = absurd has
+found_full kind words op a b has = record { kind_is = a; words_are = b; fits = has }
 
 full_joined : (kind words : List ℕ) (parts : List ℕ × List ℕ) (cell : ℕ) (op : Op) → split_at 32 words ≡ Some parts
     → number_of parts.0 ≡ Some cell → op_of kind cell parts.1 ≡ Some op → Found kind words op
@@ -222,12 +191,8 @@ spaced edge kind rest = codes "edge" ++ (32 ∷ (edge ++ (32 ∷ (kind ++ (32 �
 
 line_spaced : (edge : ℕ) (op : Op) → IsSpelled op
     → line_text edge op ≡ spaced (decimal edge) (kind_text op) (rest_text op)
-line_spaced edge (Add cell amount) fits = refl
-line_spaced edge (Put cell value) fits = refl
-line_spaced edge (Keep cell reg) fits = refl
-line_spaced edge (Top cell reg) fits = refl
-line_spaced edge (Count cell) fits = refl
 line_spaced edge (Log cell bits value) fits = absurd fits
+line_spaced edge op fits = refl
 
 -- words that can be read
 words_back : (line first edge_word second kind third : List ℕ) (edge : ℕ) (op : Op)

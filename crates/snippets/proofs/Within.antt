@@ -1,4 +1,5 @@
 -- A script without a bad line keeps its limits.
+use Rattle.std.proofs.Math.Nat.{le_refl, le_trans}
 use Rattle.std.proofs.Common.{◌≡◌, ℕ, zero, suc, ◌+◌, ◌<◌, ◌≤◌, ◌^◌, ◌==◌, Bool, true, false, if◌then◌else◌, List, [], ◌∷◌, ◌++◌, append-nil, length, take, get_or, Some, None, refl, ap, subst, ◌∙◌, arith}
 use Rattle.std.specs.Prelude.{nat_le, nat_lt}
 use Rattle.std.proofs.lemmas.Bool.{eqb-true, leb-false, ltb-false}
@@ -15,21 +16,13 @@ use Rattle.snippets.specs.Scripts.{IsGood, cell_end, edge_end, end_of, fault_of,
 use Rattle.snippets.proofs.Held.{end-more, ops-more}
 
 works_more : (m n : ℕ) (op : Op) → m ≤ n → WorksIn m op → WorksIn n op
-works_more m n (Add cell amount) few works = omega arith
-works_more m n (Put cell value) few works = omega arith
-works_more m n (Keep cell reg) few works = omega arith
-works_more m n (Top cell reg) few works = omega arith
-works_more m n (Count cell) few works = omega arith
 works_more m n (Log cell bits value) few works = (works.0, works.1, omega (arith, works.2))
+works_more m n op few works = le_trans works few
 
 -- an operation works below its end
 works_own : (op : Op) → IsSpelled op → WorksIn (cells_end op) op
-works_own (Add cell amount) fits = omega arith
-works_own (Put cell value) fits = omega arith
-works_own (Keep cell reg) fits = omega arith
-works_own (Top cell reg) fits = omega arith
-works_own (Count cell) fits = omega arith
 works_own (Log cell bits value) fits = absurd fits
+works_own op fits = le_refl _
 
 below_more : (m n : ℕ) (ops : List Op) → m ≤ n → WorksBelow m ops → WorksBelow n ops
 below_more m n ops few below = λ k d within. works_more m n (get_or ops k d) few (below k d within)
@@ -118,11 +111,8 @@ kept_more edges before (Does edge op) kept none =
       cells_few = omega arith;
       ops_few = λ e.
           rw (ops-more e before (Does edge op))
-          (one_more e edge op (ops_on e before) (λ same. free e same room) (kept.ops_few e));
+          (one_more e edge op (ops_on e before) (λ same. rw same at room) (kept.ops_few e));
     }
-  where
-    free : (e : ℕ) → edge ≡ e → length (ops_on edge before) < 8 → length (ops_on e before) < 8
-    free e same room = subst (λ (n : ℕ). length (ops_on n before) < 8) same room
 kept_more edges before Wrong kept none = absurd (cc none)
 
 kept_so_far : (edges : ℕ) (said : List Said) → IsGood edges said → (k : ℕ) → k ≤ length said
