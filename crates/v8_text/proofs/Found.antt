@@ -38,8 +38,7 @@ behind_back mark rest = rw (eq-eqb mark mark refl) refl
 
 by_mark : (mark byte : ℕ) (bytes rest : List ℕ) (b : Bool) → (byte == mark) ≡ b
     → cond b (Some bytes) None ≡ Some rest → byte ∷ bytes ≡ mark ∷ rest
-by_mark mark byte bytes rest true is h =
-    ap (λ (first : ℕ). first ∷ bytes) (eqb-true byte mark is) ∙ ap (λ (others : List ℕ). mark ∷ others) (cc h)
+by_mark mark byte bytes rest true is h = cc (eqb-true byte mark is)
 by_mark mark byte bytes rest false is h = absurd (cc h)
 
 pub behind_read : (mark : ℕ) (word rest : List ℕ) → behind mark word ≡ Some rest → word ≡ mark ∷ rest
@@ -74,5 +73,4 @@ no_register byte bytes other = go (register_of (byte ∷ bytes)) refl
     go : (found : Option ℕ) → register_of (byte ∷ bytes) ≡ found → found ≡ None
     go None is = refl
     go (Some reg) is =
-        let read = register_read (byte ∷ bytes) reg is in
-        let first : byte ≡ 37 = cc read.0 in absurd (cc (sym (eq-eqb byte 37 first) ∙ other))
+        let first : byte ≡ 37 = cc (register_read (byte ∷ bytes) reg is).0 in absurd (cc (eq-eqb byte 37 first))

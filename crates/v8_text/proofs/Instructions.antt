@@ -2,7 +2,7 @@
 use Rattle.std.proofs.Common.{◌≡◌, ℕ, ◌<◌, ◌^◌, Bool, true, false, nat_lt, ◌&&◌, List, codes, Option, Some, None, ℤ, pos, negsuc, inl, inr, refl, ap, ap₂, sym, subst, ◌∙◌, arith}
 use Rattle.std.specs.Str.{bytes_eq}
 use Rattle.std.specs.Option.{option_map}
-use Rattle.std.proofs.lemmas.Bool.{and_parts, lt-ltb, ltb-true}
+use Rattle.std.proofs.lemmas.Bool.{and_parts, lt-ltb, ltb-true, true≢false}
 use Rattle.line_words.specs.Words.{number_of, register_of, split_at}
 use Rattle.line_words.proofs.Numbers.{number_read}
 use Rattle.line_words.proofs.Registers.{register_read}
@@ -53,26 +53,12 @@ fit rs1 op2 range fits =
     record { low = ltb-true rs1 32 parts.0; range = parts.1; fits = fits }
 
 -- operands that are read, of an instruction with three
-three : (make : ℕ → ℕ → Op2 → Instr) (rd rs1 : ℕ) (op2 : Op2)
-    → (nat_lt rd 32 && operands_in_range rs1 op2) ≡ true → op2_fits op2 ≡ true
-    → with_operands make (operands_of (operands rd rs1 op2)) ≡ Some (make rd rs1 op2)
-three make rd rs1 op2 range fits =
+three : (make : ℕ → ℕ → Op2 → Instr) {rd rs1 : ℕ} {op2 : Op2} {found : Option (ℕ × ℕ × Op2)}
+    → (rd < 32 → AreFit rs1 op2 → found ≡ Some (rd, rs1, op2)) → (nat_lt rd 32 && operands_in_range rs1 op2) ≡ true
+    → op2_fits op2 ≡ true → with_operands make found ≡ Some (make rd rs1 op2)
+three make {rd} {rs1} {op2} back range fits =
     let parts = and_parts (nat_lt rd 32) (operands_in_range rs1 op2) range in
-    ap (with_operands make) (operands_back rd rs1 op2 (ltb-true rd 32 parts.0) (fit rs1 op2 parts.1 fits))
-
-from : (make : ℕ → ℕ → Op2 → Instr) (rd rs1 : ℕ) (op2 : Op2)
-    → (nat_lt rd 32 && operands_in_range rs1 op2) ≡ true → op2_fits op2 ≡ true
-    → with_operands make (loaded_of (loaded rd rs1 op2)) ≡ Some (make rd rs1 op2)
-from make rd rs1 op2 range fits =
-    let parts = and_parts (nat_lt rd 32) (operands_in_range rs1 op2) range in
-    ap (with_operands make) (loaded_back rd rs1 op2 (ltb-true rd 32 parts.0) (fit rs1 op2 parts.1 fits))
-
-onto : (make : ℕ → ℕ → Op2 → Instr) (rd rs1 : ℕ) (op2 : Op2)
-    → (nat_lt rd 32 && operands_in_range rs1 op2) ≡ true → op2_fits op2 ≡ true
-    → with_operands make (stored_of (stored rd rs1 op2)) ≡ Some (make rd rs1 op2)
-onto make rd rs1 op2 range fits =
-    let parts = and_parts (nat_lt rd 32) (operands_in_range rs1 op2) range in
-    ap (with_operands make) (stored_back rd rs1 op2 (ltb-true rd 32 parts.0) (fit rs1 op2 parts.1 fits))
+    ap (with_operands make) (back (ltb-true rd 32 parts.0) (fit rs1 op2 parts.1 fits))
 
 two : (make : ℕ → Op2 → Instr) (rs1 : ℕ) (op2 : Op2) → operands_in_range rs1 op2 ≡ true → op2_fits op2 ≡ true
     → with_sources make (sources_of (sources rs1 op2)) ≡ Some (make rs1 op2)
@@ -103,13 +89,13 @@ instr_back at (i.Call disp30) low range has =
 instr_back at (i.Alu op cc rd rs1 op2) low range has =
     let parts = and_parts (has_form op cc) (op2_fits op2) has in
     named_back at (alu_text op cc) _ (n.Alu op cc) _ (alu_plain op cc) (alu_back op cc parts.0)
-    (three (i.Alu op cc) rd rs1 op2 range parts.1)
+    (three (i.Alu op cc) (operands_back rd rs1 op2) range parts.1)
 instr_back at (i.ReadY rd) low range has =
     named_back at (codes "rd") _ n.ReadY _ refl singles.read_y (read_y_back rd (ltb-true rd 32 range))
 instr_back at (i.WriteY rs1 op2) low range has =
     named_back at (codes "wr") _ n.WriteY _ refl singles.write_y (write_y_back rs1 op2 (fit rs1 op2 range has))
 instr_back at (i.Jmpl rd rs1 op2) low range has =
-    named_back at (codes "jmpl") _ n.Jmpl _ refl singles.jmpl (three i.Jmpl rd rs1 op2 range has)
+    named_back at (codes "jmpl") _ n.Jmpl _ refl singles.jmpl (three i.Jmpl (operands_back rd rs1 op2) range has)
 instr_back at (i.Ticc cond rs1 op2) low range has =
     let parts = and_parts (nat_lt cond 16) (operands_in_range rs1 op2) range in
     let small = ltb-true cond 16 parts.0 in
@@ -119,25 +105,22 @@ instr_back at (i.Flush rs1 op2) low range has =
     named_back at (codes "flush") _ n.Flush _ refl singles.flush (two i.Flush rs1 op2 range has)
 instr_back at i.Stbar low range has = stbar_back at
 instr_back at (i.Save rd rs1 op2) low range has =
-    named_back at (codes "save") _ n.Save _ refl singles.save (three i.Save rd rs1 op2 range has)
+    named_back at (codes "save") _ n.Save _ refl singles.save (three i.Save (operands_back rd rs1 op2) range has)
 instr_back at (i.Restore rd rs1 op2) low range has =
-    named_back at (codes "restore") _ n.Restore _ refl singles.restore (three i.Restore rd rs1 op2 range has)
+    named_back at (codes "restore") _ n.Restore _ refl singles.restore (three i.Restore (operands_back rd rs1 op2) range has)
 instr_back at (i.Load kind rd rs1 op2) low range has =
     let parts = and_parts (has_even_pair (i.Load kind rd rs1 op2)) (op2_fits op2) has in
     named_back at (load_text kind) _ (n.Load kind) _ (load_plain kind) (load_back kind)
-    (from (i.Load kind) rd rs1 op2 range parts.1)
+    (three (i.Load kind) (loaded_back rd rs1 op2) range parts.1)
 instr_back at (i.Store kind rd rs1 op2) low range has =
     let parts = and_parts (has_even_pair (i.Store kind rd rs1 op2)) (op2_fits op2) has in
     named_back at (store_text kind) _ (n.Store kind) _ (store_plain kind) (store_back kind)
-    (onto (i.Store kind) rd rs1 op2 range parts.1)
+    (three (i.Store kind) (stored_back rd rs1 op2) range parts.1)
 instr_back at (i.Ldstub rd rs1 op2) low range has =
-    named_back at (codes "ldstub") _ n.Ldstub _ refl singles.ldstub (from i.Ldstub rd rs1 op2 range has)
+    named_back at (codes "ldstub") _ n.Ldstub _ refl singles.ldstub (three i.Ldstub (loaded_back rd rs1 op2) range has)
 instr_back at (i.Swap rd rs1 op2) low range has =
-    named_back at (codes "swap") _ n.Swap _ refl singles.swap (from i.Swap rd rs1 op2 range has)
-instr_back at i.Illegal low range has = absurd (cc has)
-instr_back at i.Privileged low range has = absurd (cc has)
-instr_back at i.FpOff low range has = absurd (cc has)
-instr_back at i.CpOff low range has = absurd (cc has)
+    named_back at (codes "swap") _ n.Swap _ refl singles.swap (three i.Swap (loaded_back rd rs1 op2) range has)
+instr_back at instr low range has = absurd (true≢false (sym has))
 
 -- ---- and nothing else
 
@@ -181,19 +164,19 @@ module _ (at : ℕ) where
       ∙ ap₂ comma (op2_read second.0 op2 d) (text_is second.1 (codes "%y") end.0)))))))) instr h
 
   module _ (name word : List ℕ) (instr : Instr) where
-    by_operands : (make : ℕ → ℕ → Op2 → Instr) (parts : Option (ℕ × ℕ × Op2))
-        → ((p : ℕ × ℕ × Op2) → parts ≡ Some p → named name word ≡ instr_text at (make p.0 p.1 p.2))
+    by_operands : (make : ℕ → ℕ → Op2 → Instr) {parts : Option (ℕ × ℕ × Op2)} {rest : ℕ × ℕ × Op2 → List ℕ}
+        → ((p : ℕ × ℕ × Op2) → parts ≡ Some p → word ≡ rest p)
+        → ((p : ℕ × ℕ × Op2) → named name (rest p) ≡ instr_text at (make p.0 p.1 p.2))
         → with_operands make parts ≡ Some instr → IsText name word instr
-    by_operands make parts each h =
+    by_operands make {parts} read spelled h =
         let found = mapped (λ (p : ℕ × ℕ × Op2). make p.0 p.1 p.2) parts instr h in
-        each found.got found.is ∙ ap (instr_text at) found.same
+        ap (named name) (read found.got found.is) ∙ spelled found.got ∙ ap (instr_text at) found.same
 
-    by_sources : (make : ℕ → Op2 → Instr) (parts : Option (ℕ × Op2))
-        → ((p : ℕ × Op2) → parts ≡ Some p → named name word ≡ instr_text at (make p.0 p.1))
-        → with_sources make parts ≡ Some instr → IsText name word instr
-    by_sources make parts each h =
-        let found = mapped (λ (p : ℕ × Op2). make p.0 p.1) parts instr h in
-        each found.got found.is ∙ ap (instr_text at) found.same
+    by_sources : (make : ℕ → Op2 → Instr) → ((p : ℕ × Op2) → named name (sources p.0 p.1) ≡ instr_text at (make p.0 p.1))
+        → with_sources make (sources_of word) ≡ Some instr → IsText name word instr
+    by_sources make spelled h =
+        let found = mapped (λ (p : ℕ × Op2). make p.0 p.1) (sources_of word) instr h in
+        ap (named name) (sources_read word found.got found.is) ∙ spelled found.got ∙ ap (instr_text at) found.same
 
     by_displacement : (make : ℤ → Instr) → at < 2 ^ 32
         → ((z : ℤ) → named name (number_text (target_of at z)) ≡ instr_text at (make z))
@@ -211,27 +194,19 @@ module _ (at : ℕ) where
       by_displacement (branch_text cond annul) word instr (i.Branch cond annul) low (λ z. refl) h
   in_read n.Call word instr low h = by_displacement (codes "call") word instr i.Call low (λ z. refl) h
   in_read (n.Alu op cc) word instr low h =
-      by_operands (alu_text op cc) word instr (i.Alu op cc) _ (λ p is. ap (named (alu_text op cc)) (operands_read word p is)) h
+      by_operands (alu_text op cc) word instr (i.Alu op cc) (operands_read word) (λ p. refl) h
   in_read n.ReadY word instr low h = read_y_read word instr h
   in_read n.WriteY word instr low h = write_y_read word instr h
-  in_read n.Jmpl word instr low h =
-      by_operands (codes "jmpl") word instr i.Jmpl _ (λ p is. ap (named (codes "jmpl")) (operands_read word p is)) h
-  in_read (n.Ticc cond) word instr low h =
-      by_sources (trap_text cond) word instr (i.Ticc cond) _ (λ p is. ap (named (trap_text cond)) (sources_read word p is)) h
-  in_read n.Flush word instr low h =
-      by_sources (codes "flush") word instr i.Flush _ (λ p is. ap (named (codes "flush")) (sources_read word p is)) h
-  in_read n.Save word instr low h =
-      by_operands (codes "save") word instr i.Save _ (λ p is. ap (named (codes "save")) (operands_read word p is)) h
-  in_read n.Restore word instr low h =
-      by_operands (codes "restore") word instr i.Restore _ (λ p is. ap (named (codes "restore")) (operands_read word p is)) h
-  in_read (n.Load kind) word instr low h =
-      by_operands (load_text kind) word instr (i.Load kind) _ (λ p is. ap (named (load_text kind)) (loaded_read word p is)) h
+  in_read n.Jmpl word instr low h = by_operands (codes "jmpl") word instr i.Jmpl (operands_read word) (λ p. refl) h
+  in_read (n.Ticc cond) word instr low h = by_sources (trap_text cond) word instr (i.Ticc cond) (λ p. refl) h
+  in_read n.Flush word instr low h = by_sources (codes "flush") word instr i.Flush (λ p. refl) h
+  in_read n.Save word instr low h = by_operands (codes "save") word instr i.Save (operands_read word) (λ p. refl) h
+  in_read n.Restore word instr low h = by_operands (codes "restore") word instr i.Restore (operands_read word) (λ p. refl) h
+  in_read (n.Load kind) word instr low h = by_operands (load_text kind) word instr (i.Load kind) (loaded_read word) (λ p. refl) h
   in_read (n.Store kind) word instr low h =
-      by_operands (store_text kind) word instr (i.Store kind) _ (λ p is. ap (named (store_text kind)) (stored_read word p is)) h
-  in_read n.Ldstub word instr low h =
-      by_operands (codes "ldstub") word instr i.Ldstub _ (λ p is. ap (named (codes "ldstub")) (loaded_read word p is)) h
-  in_read n.Swap word instr low h =
-      by_operands (codes "swap") word instr i.Swap _ (λ p is. ap (named (codes "swap")) (loaded_read word p is)) h
+      by_operands (store_text kind) word instr (i.Store kind) (stored_read word) (λ p. refl) h
+  in_read n.Ldstub word instr low h = by_operands (codes "ldstub") word instr i.Ldstub (loaded_read word) (λ p. refl) h
+  in_read n.Swap word instr low h = by_operands (codes "swap") word instr i.Swap (loaded_read word) (λ p. refl) h
 
   pub instr_read : (text : List ℕ) (instr : Instr) → at < 2 ^ 32 → instr_of at text ≡ Some instr
       → text ≡ instr_text at instr

@@ -36,6 +36,11 @@ pub word_behind : (at w : ℕ) → split_at 32 (line_of at w) ≡ Some (hex_of a
 word_behind at w =
     split_back 32 (hex_of at) (word_text at w) (plain_whole 32 (omega arith) (hex_of at) (hex_plain at))
 
+both : {a b c d : List ℕ} → ◌≡◌ {A = Option (List ℕ × List ℕ)} (Some (a, b)) (Some (c, d)) → (a ≡ c) × (b ≡ d)
+both {a} {b} {c} {d} h =
+    let same : ◌≡◌ {A = List ℕ × List ℕ} (a, b) (c, d) = cc h in
+    (ap (λ (p : List ℕ × List ℕ). p.0) same, ap (λ (p : List ℕ × List ℕ). p.1) same)
+
 pub record SameLine (at w : ℕ) (after : List ℕ) (other v : ℕ) (rest : List ℕ) : Type 0 where
   pub address : at ≡ other
   pub word : w ≡ v
@@ -44,47 +49,36 @@ pub record SameLine (at w : ℕ) (after : List ℕ) (other v : ℕ) (rest : List
 pub same_line : (at w : ℕ) (after : List ℕ) (other v : ℕ) (rest : List ℕ) → at < 2 ^ 32 → w < 2 ^ 32 → other < 2 ^ 32
     → v < 2 ^ 32 → line_text at w ++ after ≡ line_text other v ++ rest → SameLine at w after other v rest
 same_line at w after other v rest a b c d same =
-    let parts : Some (line_of at w, after) ≡ Some (line_of other v, rest) =
-    sym (line_back at w after) ∙ ap (split_at 10) same ∙ line_back other v rest in
-    let lines : (line_of at w, after) ≡ (line_of other v, rest) = cc parts in
-    let line : line_of at w ≡ line_of other v = ap (λ (p : List ℕ × List ℕ). p.0) lines in
-    let words : Some (hex_of at, word_text at w) ≡ Some (hex_of other, word_text other v) =
-    sym (word_behind at w) ∙ ap (split_at 32) line ∙ word_behind other v in
-    let are : (hex_of at, word_text at w) ≡ (hex_of other, word_text other v) = cc words in
-    let digits : hex_of at ≡ hex_of other = ap (λ (p : List ℕ × List ℕ). p.0) are in
-    let text : word_text at w ≡ word_text other v = ap (λ (p : List ℕ × List ℕ). p.1) are in
-    let numbers : Some at ≡ Some other = sym (address_back at a) ∙ ap hex_number_of digits ∙ address_back other c in
-    let address : at ≡ other = cc numbers in
-    let found : Some w ≡ Some v =
-    sym (word_back at w a b) ∙ ap (word_in at) text ∙ ap (λ (x : ℕ). word_in x (word_text other v)) address
-    ∙ word_back other v c d in
+    let lines = both (sym (line_back at w after) ∙ ap (split_at 10) same ∙ line_back other v rest) in
+    let words = both (sym (word_behind at w) ∙ ap (split_at 32) lines.0 ∙ word_behind other v) in
+    let address : at ≡ other = cc (words.0, address_back at a, address_back other c) in
     record {
       address = address;
-      word = cc found;
-      after_is = ap (λ (p : List ℕ × List ℕ). p.1) lines;
+      word = cc (words.1, address, word_back at w a b, word_back other v c d);
+      after_is = lines.1;
     }
 
 -- ---- what is told of a line
 
 pub no_line : (line : List ℕ) → split_at 32 line ≡ None → (at w : ℕ) → line ≢ line_of at w
-no_line line none at w same = cc (sym none ∙ ap (split_at 32) same ∙ word_behind at w)
+no_line line none at w same = cc (word_behind at w)
 
 -- the parts of a line that was split
 parts_of : (line : List ℕ) (parts : List ℕ × List ℕ) → split_at 32 line ≡ Some parts → (at w : ℕ) → line ≡ line_of at w
     → parts ≡ (hex_of at, word_text at w)
-parts_of line parts split at w same = cc (sym split ∙ ap (split_at 32) same ∙ word_behind at w)
+parts_of line parts split at w same = cc (word_behind at w)
 
 pub no_address : (line : List ℕ) (parts : List ℕ × List ℕ) → split_at 32 line ≡ Some parts → hex_number_of parts.0 ≡ None
     → (at w : ℕ) → at < 2 ^ 32 → line ≢ line_of at w
 no_address line parts split none at w low same =
     let are = parts_of line parts split at w same in
-    cc (sym none ∙ ap hex_number_of (ap (λ (p : List ℕ × List ℕ). p.0) are) ∙ address_back at low)
+    cc (ap (λ (p : List ℕ × List ℕ). hex_number_of p.0) are, address_back at low)
 
 address_same : (line : List ℕ) (parts : List ℕ × List ℕ) (at : ℕ) → split_at 32 line ≡ Some parts
     → hex_number_of parts.0 ≡ Some at → (other w : ℕ) → other < 2 ^ 32 → line ≡ line_of other w → other ≡ at
 address_same line parts at split is other w low same =
     let are = parts_of line parts split other w same in
-    cc (sym (address_back other low) ∙ ap hex_number_of (sym (ap (λ (p : List ℕ × List ℕ). p.0) are)) ∙ is)
+    cc (ap (λ (p : List ℕ × List ℕ). hex_number_of p.0) are, address_back other low)
 
 pub no_word : (line : List ℕ) (parts : List ℕ × List ℕ) (at : ℕ) → split_at 32 line ≡ Some parts
     → hex_number_of parts.0 ≡ Some at → IsWordOf at parts.1 None → (other w : ℕ) → other < 2 ^ 32 → w < 2 ^ 32
@@ -97,20 +91,18 @@ no_word line parts at split is none other w low fits same =
 pub line_is : (line : List ℕ) (parts : List ℕ × List ℕ) (at w : ℕ) → split_at 32 line ≡ Some parts
     → hex_number_of parts.0 ≡ Some at → parts.1 ≡ word_text at w → line ≡ line_of at w
 line_is line parts at w split is text =
-    split_read 32 line parts split
-    ∙ ap (λ (digits : List ℕ). digits ++ (32 ∷ parts.1)) (address_read parts.0 at is).0
-    ∙ ap (λ (rest : List ℕ). hex_of at ++ (32 ∷ rest)) text
+    split_read 32 line parts split ∙ rw ((address_read parts.0 at is).0, text) refl
 
 -- ---- the next line
 
 module _ (bytes : List ℕ) (next : Option ℕ) where
   pub no_newline : split_at 10 bytes ≡ None → (at w : ℕ) (after : List ℕ) → bytes ≢ line_text at w ++ after
-  no_newline none at w after same = cc (sym none ∙ ap (split_at 10) same ∙ line_back at w after)
+  no_newline none at w after same = cc (line_back at w after)
 
   module _ (parts : List ℕ × List ℕ) (split : split_at 10 bytes ≡ Some parts) where
     line_there : (at w : ℕ) (after : List ℕ) → bytes ≡ line_text at w ++ after → parts.0 ≡ line_of at w
     line_there at w after same =
-        let are : parts ≡ (line_of at w, after) = cc (sym split ∙ ap (split_at 10) same ∙ line_back at w after) in
+        let are : parts ≡ (line_of at w, after) = cc (line_back at w after) in
         ap (λ (p : List ℕ × List ℕ). p.0) are
 
     pub not_a_line : IsLineOf parts.0 None → (at w : ℕ) (after : List ℕ) → at < 2 ^ 32 → w < 2 ^ 32
@@ -121,14 +113,13 @@ module _ (bytes : List ℕ) (next : Option ℕ) where
         → (other v : ℕ) (after : List ℕ) → other < 2 ^ 32 → v < 2 ^ 32 → is_next next other ≡ true
         → bytes ≢ line_text other v ++ after
     elsewhere at w low fits line isnt other v after a b is same =
-        let lines = sym line ∙ line_there other v after same in
+        let there = line_there other v after same in
         let one = same_line at w [] other v [] low fits a b
-        (line_split at w [] ∙ ap (λ (l : List ℕ). l ++ (10 ∷ [])) lines ∙ sym (line_split other v [])) in
-        cc (sym isnt ∙ ap (is_next next) one.address ∙ is)
+        (line_split at w [] ∙ ap (λ (l : List ℕ). l ++ (10 ∷ [])) (sym line ∙ there) ∙ sym (line_split other v [])) in
+        cc one.address
 
     pub here : (at w : ℕ) → parts.0 ≡ line_of at w → bytes ≡ line_text at w ++ parts.1
-    here at w line =
-        split_read 10 bytes parts split ∙ ap (λ (l : List ℕ). l ++ (10 ∷ parts.1)) line ∙ sym (line_split at w parts.1)
+    here at w line = split_read 10 bytes parts split ∙ rw (line, line_split at w parts.1) refl
 
 -- ---- the lines of some words
 
@@ -137,23 +128,18 @@ pub lines-append : (at : ℕ) (words others : List ℕ)
 lines-append at [] others = ap (λ (a : ℕ). lines_from a others) (omega arith)
 lines-append at (w ∷ words) others =
     let behind : at + 4 + 4 * length words ≡ at + 4 * suc (length words) = omega arith in
-    ap (λ (rest : List ℕ). line_text at w ++ rest)
-    (lines-append (at + 4) words others ∙ ap (λ (a : ℕ). lines_from (at + 4) words ++ lines_from a others) behind)
-    ∙ sym (append_assoc (line_text at w) (lines_from (at + 4) words) (lines_from (at + 4 * suc (length words)) others))
+    rw (lines-append (at + 4) words others, behind, append_assoc) refl
 
 -- one line more
 lines-push : (at : ℕ) (words : List ℕ) (w : ℕ)
     → lines_from at (words ++ w ∷ []) ≡ lines_from at words ++ line_text (at + 4 * length words) w
-lines-push at words w =
-    lines-append at words (w ∷ [])
-    ∙ ap (λ (line : List ℕ). lines_from at words ++ line) (append-nil (line_text (at + 4 * length words) w))
+lines-push at words w = rw (lines-append at words (w ∷ []), append-nil (line_text (at + 4 * length words) w)) refl
 
 pub lines-take : (at : ℕ) (words : List ℕ) (k : ℕ) → k < length words
     → lines_from at (take (k + 1) words) ≡ lines_from at (take k words) ++ line_text (at + 4 * k) (slice_index words k)
 lines-take at words k within =
     let count : length (take k words) ≡ k = length-take-le k words (omega arith) in
-    ap (lines_from at) (take_more words k 0 within) ∙ lines-push at (take k words) (slice_index words k)
-    ∙ ap (λ (n : ℕ). lines_from at (take k words) ++ line_text (at + 4 * n) (slice_index words k)) count
+    rw (take_more words k 0 within, lines-push at (take k words) (slice_index words k), count) refl
 
 -- ---- a listing that is read
 
@@ -188,8 +174,7 @@ pub read_more : (bytes words : List ℕ) (next : Option ℕ) (rest : List ℕ) �
     → (at w : ℕ) (after : List ℕ) → at < 2 ^ 32 → w < 2 ^ 32 → is_next next at ≡ true → rest ≡ line_text at w ++ after
     → IsReading bytes (words ++ w ∷ []) (Some (at + 4)) after
 read_more bytes [] next rest read at w after low fits is line =
-    let aligned : at % 4 ≡ 0 =
-    eqb-true (at % 4) 0 (ap (λ (n : Option ℕ). is_next n at) (sym read.next_is) ∙ is) in
+    let aligned = eqb-true (at % 4) 0 (rw read.next_is at is) in
     record {
       start = at;
       listed = record {
@@ -202,8 +187,7 @@ read_more bytes [] next rest read at w after low fits is line =
     }
 read_more bytes (v ∷ words) next rest read at w after low fits is line =
     let all : List ℕ = v ∷ words in
-    let here : at ≡ read.start + 4 * length all =
-    eqb-true at (read.start + 4 * length all) (ap (λ (n : Option ℕ). is_next n at) (sym read.next_is) ∙ is) in
+    let here = eqb-true at (read.start + 4 * length all) (rw read.next_is at is) in
     let long : length (all ++ w ∷ []) ≡ length all + 1 = length-append all (w ∷ []) in
     record {
       start = read.start;
@@ -211,8 +195,7 @@ read_more bytes (v ∷ words) next rest read at w after low fits is line =
         aligned = read.listed.aligned;
         below = omega (arith, here, long, low, read.listed.aligned);
         fit = All-append Fits all (w ∷ []) read.listed.fit (fit_one w fits);
-        is = read.listed.is ∙ ap (λ (l : List ℕ). lines_from read.start all ++ l) line
-            ∙ ap (λ (a : ℕ). lines_from read.start all ++ (line_text a w ++ after)) here
+        is = read.listed.is ∙ ap (λ (l : List ℕ). lines_from read.start all ++ l) (rw here at line)
             ∙ sym (append_assoc (lines_from read.start all) (line_text (read.start + 4 * length all) w) after)
             ∙ ap (λ (l : List ℕ). l ++ after) (sym (lines-push read.start all w));
       };
@@ -225,8 +208,7 @@ last_line : (bytes words : List ℕ) (start : ℕ) (rest : List ℕ) → bytes �
     → rest ≡ line_text (start + 4 * length words) w ++ after
 last_line bytes words start rest is w after more =
     append_cancel_left (lines_from start words) rest (line_text (start + 4 * length words) w ++ after)
-    (sym is ∙ more ∙ ap (λ (l : List ℕ). l ++ after) (lines-push start words w)
-    ∙ append_assoc (lines_from start words) (line_text (start + 4 * length words) w) after)
+    (sym is ∙ more ∙ rw (lines-push start words w, append_assoc) refl)
 
 -- both begin with the same word's line
 same_start : (bytes : List ℕ) (v : ℕ) (words : List ℕ) (start : ℕ) (rest : List ℕ) → AreListed bytes start (v ∷ words) rest
@@ -241,18 +223,17 @@ no_line_more : (bytes words : List ℕ) (next : Option ℕ) (rest : List ℕ) �
     → IsNextLine rest next None → (from w : ℕ) (after : List ℕ) → ¬ AreListed bytes from (words ++ w ∷ []) after
 no_line_more bytes [] next rest read none from w after more =
     none from w after (omega (arith, more.below)) (All-head Fits w [] more.fit)
-    (ap (λ (n : Option ℕ). is_next n from) read.next_is ∙ eq-eqb (from % 4) 0 more.aligned)
+    (rw read.next_is (eq-eqb (from % 4) 0 more.aligned))
     (sym read.listed.is ∙ more.is ∙ ap (λ (l : List ℕ). l ++ after) (append-nil (line_text from w)))
 no_line_more bytes (v ∷ words) next rest read none from w after more =
     let all : List ℕ = v ∷ words in
     let start = read.start in
     let at : ℕ = start + 4 * length all in
     let same : from ≡ start = same_start bytes v words start rest read.listed from (words ++ w ∷ []) after more in
-    let again : AreListed bytes start (all ++ w ∷ []) after =
-    subst (λ (a : ℕ). AreListed bytes a (all ++ w ∷ []) after) same more in
+    let again = rw same at more in
     let long : length (all ++ w ∷ []) ≡ length all + 1 = length-append all (w ∷ []) in
     none at w after (omega (arith, again.below, long)) (last_fits all w again.fit)
-    (ap (λ (n : Option ℕ). is_next n at) read.next_is ∙ eq-eqb at at refl)
+    (rw read.next_is (eq-eqb at at refl))
     (last_line bytes all start rest read.listed.is w after again.is)
 
 pub stopped : (bytes words : List ℕ) (next : Option ℕ) (rest : List ℕ) → IsReading bytes words next rest → rest ≢ []
@@ -287,7 +268,7 @@ split_off at (w ∷ words) a fit from (v ∷ lines) b lit rest some same =
     (same ∙ append_assoc (line_text from v) (lines_from (from + 4) lines) rest) in
     let more = split_off (at + 4) words (omega (arith, a)) (All-tail Fits w words fit) (from + 4) lines (omega (arith, b))
     (All-tail Fits v lines lit) rest some one.after_is in
-    record { word = more.word; others = more.others; is = ap (λ (x : ℕ). x ∷ words) one.word ∙ ap (λ (l : List ℕ). v ∷ l) more.is }
+    record { word = more.word; others = more.others; is = cc (one.word, more.is) }
 
 same_words : (at : ℕ) (words : List ℕ) → at + 4 * length words ≤ 2 ^ 32 → All Fits words → (from : ℕ) (lines : List ℕ)
     → from + 4 * length lines ≤ 2 ^ 32 → All Fits lines → lines_from at words ≡ lines_from from lines → lines ≡ words
@@ -298,9 +279,11 @@ same_words at (w ∷ words) a fit from (v ∷ lines) b lit same =
     let one : SameLine at w (lines_from (at + 4) words) from v (lines_from (from + 4) lines) =
     same_line at w _ from v _ (omega (arith, a)) (All-head Fits w words fit) (omega (arith, b)) (All-head Fits v lines lit)
     same in
-    ap (λ (x : ℕ). x ∷ lines) (sym one.word)
-    ∙ ap (λ (l : List ℕ). w ∷ l) (same_words (at + 4) words (omega (arith, a)) (All-tail Fits w words fit) (from + 4) lines
-    (omega (arith, b)) (All-tail Fits v lines lit) one.after_is)
+    cc (
+      one.word,
+      same_words (at + 4) words (omega (arith, a)) (All-tail Fits w words fit) (from + 4) lines (omega (arith, b))
+          (All-tail Fits v lines lit) one.after_is,
+    )
 
 module _ (text : Words) (is : IsText text) (fit : All Fits text.words) where
   fits_below : text.start + 4 * length text.words ≤ 2 ^ 32
@@ -311,15 +294,12 @@ module _ (text : Words) (is : IsText text) (fit : All Fits text.words) where
       let behind = split_off text.start text.words fits_below fit bad.start bad.words bad.listed.below bad.listed.fit bad.rest
       bad.some bad.listed.is in
       let more : List ℕ = bad.words ++ behind.word ∷ [] in
-      let parts : text.words ≡ more ++ behind.others =
-      behind.is ∙ sym (append_assoc bad.words (behind.word ∷ []) behind.others) in
-      let fits : All Fits (more ++ behind.others) = subst (All Fits) parts fit in
-      let size : length text.words ≡ length more + length behind.others =
-      ap length parts ∙ length-append more behind.others in
+      let parts : text.words ≡ more ++ behind.others = rw append_assoc behind.is in
+      let size : length text.words ≡ length more + length behind.others = ap length parts ∙ length-append more behind.others in
       bad.bad text.start behind.word (lines_from (text.start + 4 * length more) behind.others) (record {
         aligned = is.aligned;
         below = omega (arith, size, fits_below);
-        fit = All-front more behind.others fits;
+        fit = All-front more behind.others (rw parts at fit);
         is = ap (lines_from text.start) parts ∙ lines-append text.start more behind.others;
       })
 

@@ -70,66 +70,26 @@ trap_back cond low = each_condition trap_text n.Ticc all_traps cond low
 
 pub alu_back : (op : AluOp) (cc : Bool) → has_form op cc ≡ true → name_of (alu_text op cc) ≡ Some (n.Alu op cc)
 unfolding name_of joined_of single_of
-alu_back ops.ADD true has = refl
-alu_back ops.ADD false has = refl
-alu_back ops.AND true has = refl
-alu_back ops.AND false has = refl
-alu_back ops.OR true has = refl
-alu_back ops.OR false has = refl
-alu_back ops.XOR true has = refl
-alu_back ops.XOR false has = refl
-alu_back ops.SUB true has = refl
-alu_back ops.SUB false has = refl
-alu_back ops.ANDN true has = refl
-alu_back ops.ANDN false has = refl
-alu_back ops.ORN true has = refl
-alu_back ops.ORN false has = refl
-alu_back ops.XNOR true has = refl
-alu_back ops.XNOR false has = refl
-alu_back ops.ADDX true has = refl
-alu_back ops.ADDX false has = refl
-alu_back ops.UMUL true has = refl
-alu_back ops.UMUL false has = refl
-alu_back ops.SMUL true has = refl
-alu_back ops.SMUL false has = refl
-alu_back ops.SUBX true has = refl
-alu_back ops.SUBX false has = refl
-alu_back ops.UDIV true has = refl
-alu_back ops.UDIV false has = refl
-alu_back ops.SDIV true has = refl
-alu_back ops.SDIV false has = refl
-alu_back ops.TADDcc true has = refl
 alu_back ops.TADDcc false has = absurd (cc has)
-alu_back ops.TSUBcc true has = refl
 alu_back ops.TSUBcc false has = absurd (cc has)
-alu_back ops.TADDccTV true has = refl
 alu_back ops.TADDccTV false has = absurd (cc has)
-alu_back ops.TSUBccTV true has = refl
 alu_back ops.TSUBccTV false has = absurd (cc has)
-alu_back ops.MULScc true has = refl
 alu_back ops.MULScc false has = absurd (cc has)
 alu_back ops.SLL true has = absurd (cc has)
-alu_back ops.SLL false has = refl
 alu_back ops.SRL true has = absurd (cc has)
-alu_back ops.SRL false has = refl
 alu_back ops.SRA true has = absurd (cc has)
-alu_back ops.SRA false has = refl
+alu_back op true has = refl
+alu_back op false has = refl
 
 pub load_back : (kind : LoadKind) → name_of (load_text kind) ≡ Some (n.Load kind)
 unfolding name_of joined_of single_of
 load_back loads.LD = refl
-load_back loads.LDUB = refl
-load_back loads.LDUH = refl
-load_back loads.LDD = refl
-load_back loads.LDSB = refl
-load_back loads.LDSH = refl
+load_back kind = refl
 
 pub store_back : (kind : StoreKind) → name_of (store_text kind) ≡ Some (n.Store kind)
 unfolding name_of joined_of single_of
 store_back stores.ST = refl
-store_back stores.STB = refl
-store_back stores.STH = refl
-store_back stores.STD = refl
+store_back kind = refl
 
 -- of the names that stand for one instruction
 abbrev IsSingle : Name → Type 0
@@ -167,14 +127,12 @@ singles = record {
 
 -- ---- and no others
 
-by_first : {A : Type 0} (test : A → Bool) (y x : A) (others : Option A) (b : Bool) → test y ≡ b
-    → (if b then Some y else others) ≡ Some x → (others ≡ Some x → test x ≡ true) → test x ≡ true
-by_first test y x others true is same rest = let one : y ≡ x = cc same in ap test (sym one) ∙ is
-by_first test y x others false is same rest = rest same
-
 found_in : {A : Type 0} (test : A → Bool) (xs : List A) (x : A) → find test xs ≡ Some x → test x ≡ true
 found_in test [] x h = absurd (cc h)
-found_in test (y ∷ ys) x h = by_first test y x (find test ys) (test y) refl h (found_in test ys x)
+found_in test (y ∷ ys) x h = elim (chosen (test y) (Some y) (find test ys) x h) as (λ _. test x ≡ true) [
+  | inl is ↦ cc (is.0, is.1)
+  | inr is ↦ found_in test ys x is.1
+]
 
 -- a name that was found among some
 among : {A : Type 0} (text : A → List ℕ) (make : A → Name) (xs : List A) (word : List ℕ) (name : Name)
@@ -185,50 +143,21 @@ among text make xs word name spelled h =
     text_is word (text found.got) (found_in (λ x. bytes_eq word (text x)) xs found.got found.is)
     ∙ sym (spelled found.got) ∙ ap name_text found.same
 
-module _ (word : List ℕ) where
-  abbrev leaves : Option Name
-  leaves = option_map (λ op. n.Alu op false) (alu_in leaving false word)
-
-  abbrev sets : Option Name
-  sets = option_map (λ op. n.Alu op true) (alu_in setting true word)
-
-  abbrev branches : Option Name
-  branches = option_map (λ cond. n.Branch cond false) (condition_in (λ cond. branch_text cond false) word)
-
-  abbrev annuls : Option Name
-  annuls = option_map (λ cond. n.Branch cond true) (condition_in (λ cond. branch_text cond true) word)
-
-  abbrev traps : Option Name
-  traps = option_map n.Ticc (condition_in trap_text word)
-
-  abbrev loading : Option Name
-  loading = option_map n.Load (load_in word)
-
-  abbrev storing : Option Name
-  storing = option_map n.Store (store_in word)
-
-  joined_read : (name : Name) → joined_of word ≡ Some name → word ≡ name_text name
-  unfolding joined_of
-  joined_read name h =
-      one leaves (first_of sets (first_of branches (first_of annuls (first_of traps (first_of loading storing))))) h
-      (λ is. among (λ op. alu_text op false) (λ op. n.Alu op false) leaving word name (λ op. refl) is)
-      (λ h. one sets (first_of branches (first_of annuls (first_of traps (first_of loading storing)))) h
-      (λ is. among (λ op. alu_text op true) (λ op. n.Alu op true) setting word name (λ op. refl) is)
-      (λ h. one branches (first_of annuls (first_of traps (first_of loading storing))) h
-      (λ is. among (λ cond. branch_text cond false) (λ cond. n.Branch cond false) (range_with_len 0 16) word name
-      (λ cond. refl) is)
-      (λ h. one annuls (first_of traps (first_of loading storing)) h
-      (λ is. among (λ cond. branch_text cond true) (λ cond. n.Branch cond true) (range_with_len 0 16) word name
-      (λ cond. refl) is)
-      (λ h. one traps (first_of loading storing) h
-      (λ is. among trap_text n.Ticc (range_with_len 0 16) word name (λ cond. refl) is)
-      (λ h. one loading storing h (λ is. among load_text n.Load all_loads word name (λ kind. refl) is)
-      (λ is. among store_text n.Store all_stores word name (λ kind. refl) is))))))
-    where
-      one : (a b : Option Name) → first_of a b ≡ Some name → (a ≡ Some name → word ≡ name_text name)
-          → (b ≡ Some name → word ≡ name_text name) → word ≡ name_text name
-      one (Some x) b is first rest = first is
-      one None b is first rest = rest is
+joined_read : (word : List ℕ) (name : Name) → joined_of word ≡ Some name → word ≡ name_text name
+unfolding joined_of
+joined_read word name h =
+    one _ _ h (among (λ op. alu_text op false) (λ op. n.Alu op false) leaving word name (λ op. refl))
+    (λ h. one _ _ h (among (λ op. alu_text op true) (λ op. n.Alu op true) setting word name (λ op. refl))
+    (λ h. one _ _ h (among (λ k. branch_text k false) (λ k. n.Branch k false) (range_with_len 0 16) word name (λ k. refl))
+    (λ h. one _ _ h (among (λ k. branch_text k true) (λ k. n.Branch k true) (range_with_len 0 16) word name (λ k. refl))
+    (λ h. one _ _ h (among trap_text n.Ticc (range_with_len 0 16) word name (λ k. refl))
+    (λ h. one _ _ h (among load_text n.Load all_loads word name (λ kind. refl))
+    (among store_text n.Store all_stores word name (λ kind. refl)))))))
+  where
+    one : (a b : Option Name) → first_of a b ≡ Some name → (a ≡ Some name → word ≡ name_text name)
+        → (b ≡ Some name → word ≡ name_text name) → word ≡ name_text name
+    one (Some x) b is first rest = first is
+    one None b is first rest = rest is
 
 -- one name that is asked for, or another
 asked : (word text : List ℕ) (here name : Name) (others : Option Name) → name_text here ≡ text

@@ -50,54 +50,16 @@ trap_plain cond low = at_each (λ k. is_plain (trap_text k)) 16 refl cond low
 pub alu_plain : (op : AluOp) (cc : Bool) → is_plain (alu_text op cc) ≡ true
 alu_plain ops.ADD true = refl
 alu_plain ops.ADD false = refl
-alu_plain ops.AND true = refl
-alu_plain ops.AND false = refl
-alu_plain ops.OR true = refl
-alu_plain ops.OR false = refl
-alu_plain ops.XOR true = refl
-alu_plain ops.XOR false = refl
-alu_plain ops.SUB true = refl
-alu_plain ops.SUB false = refl
-alu_plain ops.ANDN true = refl
-alu_plain ops.ANDN false = refl
-alu_plain ops.ORN true = refl
-alu_plain ops.ORN false = refl
-alu_plain ops.XNOR true = refl
-alu_plain ops.XNOR false = refl
-alu_plain ops.ADDX true = refl
-alu_plain ops.ADDX false = refl
-alu_plain ops.UMUL true = refl
-alu_plain ops.UMUL false = refl
-alu_plain ops.SMUL true = refl
-alu_plain ops.SMUL false = refl
-alu_plain ops.SUBX true = refl
-alu_plain ops.SUBX false = refl
-alu_plain ops.UDIV true = refl
-alu_plain ops.UDIV false = refl
-alu_plain ops.SDIV true = refl
-alu_plain ops.SDIV false = refl
-alu_plain ops.TADDcc cc = refl
-alu_plain ops.TSUBcc cc = refl
-alu_plain ops.TADDccTV cc = refl
-alu_plain ops.TSUBccTV cc = refl
-alu_plain ops.MULScc cc = refl
-alu_plain ops.SLL cc = refl
-alu_plain ops.SRL cc = refl
-alu_plain ops.SRA cc = refl
+alu_plain op true = refl
+alu_plain op false = refl
 
 pub load_plain : (kind : LoadKind) → is_plain (load_text kind) ≡ true
 load_plain loads.LD = refl
-load_plain loads.LDUB = refl
-load_plain loads.LDUH = refl
-load_plain loads.LDD = refl
-load_plain loads.LDSB = refl
-load_plain loads.LDSH = refl
+load_plain kind = refl
 
 pub store_plain : (kind : StoreKind) → is_plain (store_text kind) ≡ true
 store_plain stores.ST = refl
-store_plain stores.STB = refl
-store_plain stores.STH = refl
-store_plain stores.STD = refl
+store_plain kind = refl
 
 -- ---- operands
 
@@ -198,7 +160,6 @@ instr_whole at (i.Ticc cond rs1 op2) range has =
     (sources_plain rs1 op2 parts.1 has)
 instr_whole at (i.Flush rs1 op2) range has =
     named_whole (codes "flush") (sources rs1 op2) refl (sources_plain rs1 op2 range has)
-instr_whole at i.Stbar range has = refl
 instr_whole at (i.Save rd rs1 op2) range has =
     named_whole (codes "save") (operands rd rs1 op2) refl (operands_plain rd rs1 op2 range has)
 instr_whole at (i.Restore rd rs1 op2) range has =
@@ -213,7 +174,4 @@ instr_whole at (i.Ldstub rd rs1 op2) range has =
     named_whole (codes "ldstub") (loaded rd rs1 op2) refl (loaded_plain rd rs1 op2 range has)
 instr_whole at (i.Swap rd rs1 op2) range has =
     named_whole (codes "swap") (loaded rd rs1 op2) refl (loaded_plain rd rs1 op2 range has)
-instr_whole at i.Illegal range has = refl
-instr_whole at i.Privileged range has = refl
-instr_whole at i.FpOff range has = refl
-instr_whole at i.CpOff range has = refl
+instr_whole at instr range has = refl

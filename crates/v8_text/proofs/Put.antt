@@ -5,6 +5,4 @@ use Rattle.v8_text.specs.Texts.{named}
 -- a name, and then its operands
 pub named_put : (old name mid operands new : List ℕ) → mid ≡ old ++ (name ++ 32 ∷ []) → new ≡ mid ++ operands
     → new ≡ old ++ named name operands
-named_put old name mid operands new first then =
-    then ∙ ap (λ (text : List ℕ). text ++ operands) first ∙ append_assoc old (name ++ 32 ∷ []) operands
-    ∙ ap (λ (text : List ℕ). old ++ text) (append_assoc name (32 ∷ []) operands)
+named_put old name mid operands new first then = rw (then, first) (simp append_assoc)

@@ -77,9 +77,6 @@ address_whole rs1 op2 h =
     whole_append 93 (register_text rs1) (44 ∷ op2_text op2) (register_whole-93 rs1 h.low)
     (op2_whole-93 op2 h.range h.fits)
 
-sources_whole : (rs1 : ℕ) (op2 : Op2) → AreFit rs1 op2 → is_whole 93 (sources rs1 op2) ≡ true
-sources_whole rs1 op2 h = address_whole rs1 op2 h
-
 pub loaded_back : (rd rs1 : ℕ) (op2 : Op2) → rd < 32 → AreFit rs1 op2
     → loaded_of (loaded rd rs1 op2) ≡ Some (rd, rs1, op2)
 unfolding loaded_of
@@ -119,7 +116,7 @@ stored_back rd rs1 op2 low h =
       split_back 44 (register_text rd) ((91 ∷ sources rs1 op2) ++ (93 ∷ [])) (register_whole-44 rd low),
       register_back rd low,
       behind_back 91 (sources rs1 op2 ++ (93 ∷ [])),
-      split_back 93 (sources rs1 op2) [] (sources_whole rs1 op2 h),
+      split_back 93 (sources rs1 op2) [] (address_whole rs1 op2 h),
       sources_back rs1 op2 h,
     ) refl
 

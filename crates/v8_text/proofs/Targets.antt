@@ -27,8 +27,7 @@ number_in_read word n h =
     step (IsNumber word) (behind 48 word) _ (λ rest a.
     step (IsNumber word) (behind 120 rest) _ (λ digits b n c.
     let read = address_read digits n c in record {
-      text = behind_read 48 word rest a
-          ∙ ap (λ (others : List ℕ). 48 ∷ others) (behind_read 120 rest digits b ∙ ap (λ (others : List ℕ). 120 ∷ others) read.0);
+      text = cc (behind_read 48 word rest a, behind_read 120 rest digits b, read.0);
       fits = read.1;
     })) n h
 
@@ -72,8 +71,7 @@ between_read at target z low fits h =
     let few : far / 4 < 2 ^ 30 = omega arith in
     let field = signed_field-signed 30 (far / 4) refl few in
     led_to at target (far / 4) z low fits (omega (arith, whole)) few
-    (subst (λ (y : ℤ). fits_signed 30 y ≡ true) found.1 field.0)
-    (subst (λ (y : ℤ). signed_field 30 y ≡ far / 4) found.1 field.1)
+    (rw found.1 at field.0) (rw found.1 at field.1)
 
 pub displacement_back : (at : ℕ) (z : ℤ) → at < 2 ^ 32 → fits_signed 30 z ≡ true
     → displacement_of at (number_text (target_of at z)) ≡ Some z

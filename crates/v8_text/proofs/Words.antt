@@ -61,9 +61,8 @@ pub spelled_read : (at w : ℕ) (text : List ℕ) (instr : Instr) → at < 2 ^ 3
     → encode_of instr ≡ Some w → decode_of w ≡ instr → text ≡ word_text at w
 unfolding word_text
 spelled_read at w text instr low is encoded decoded =
-    let again : is_spelled w ≡ true =
-    ap (λ (x : Instr). is_word w (encode_of x)) decoded ∙ ap (is_word w) encoded ∙ eq-eqb w w refl in
-    instr_read at text instr low is ∙ ap (instr_text at) (sym decoded) ∙ sym (rw again refl)
+    let again : is_spelled w ≡ true = rw (decoded, encoded) (eq-eqb w w refl) in
+    rw (again, decoded) (instr_read at text instr low is)
 
 -- and as a number
 raw_is : (at w : ℕ) → is_spelled w ≡ false → raw_text w ≡ word_text at w
@@ -92,7 +91,7 @@ raw_read at w text h =
 -- what isn't read is the text of no word
 pub unread : (at : ℕ) (text : List ℕ) → at < 2 ^ 32 → word_in at text ≡ None → (w : ℕ) → w < 2 ^ 32
     → text ≢ word_text at w
-unread at text low none w fits same = cc (sym none ∙ ap (word_in at) same ∙ word_back at w low fits)
+unread at text low none w fits same = cc (word_back at w low fits)
 
 -- nothing was read either way
 pub nothing_read : (at : ℕ) (text : List ℕ) → (instr_of at text >>= encode_of) ≡ None → raw_of text ≡ None
