@@ -35,10 +35,7 @@ pub says_puts : (s : State) (x : Instr) → IsPlain x → Says (code_of s.memory
     → puts_of s descriptor ≡ []
 unfolding puts_of fetch_of
 says_puts s x h says descriptor =
-    ap (λ z. puts_unless_ended s.ending (puts_on_word s z descriptor)) says.fetched
-    ∙ ap (λ z. puts_unless_ended s.ending (puts_by s z descriptor)) says.decodes
-    ∙ ap (puts_unless_ended s.ending) (puts_nothing s x descriptor h)
-    ∙ go s.ending
+    rw (says.fetched, says.decodes, puts_nothing s x descriptor h) (go s.ending)
   where
     go : (e : Option _) → puts_unless_ended e [] ≡ []
     go None = refl
@@ -49,50 +46,29 @@ pub ld_acts : (s : State) (rd rs1 : ℕ) (x : Op2) (a : ℕ) → sum_of s rs1 x 
 unfolding act load_step
 ld_acts s rd rs1 x a e z h =
     let b = word_bytes s.memory a h in
-    ap (λ n. if n % 4 == 0 then on_bytes s (bytes_at s.memory n 4)
-    (λ bs. next (record s { registers = loaded s.registers s.window loads.LD rd bs })) else trapped s mem_address_not_aligned) e
-    ∙ ap (λ (n : Bool). if n then on_bytes s (bytes_at s.memory a 4)
-    (λ bs. next (record s { registers = loaded s.registers s.window loads.LD rd bs })) else trapped s mem_address_not_aligned) z
-    ∙ ap (λ (n : Option (List ℕ)). on_bytes s n (λ bs. next
-    (record s { registers = loaded s.registers s.window loads.LD rd bs }))) b.1
-    ∙ ap (λ n. next (with_register s rd n)) b.2
+    rw (e, z, b.1, ← b.2) refl
 
 pub st_acts : (s : State) (rd rs1 : ℕ) (x : Op2) (a : ℕ) → sum_of s rs1 x ≡ a → (a % 4 == 0) ≡ true
     → CanStore s.memory a → act s (i.Store stores.ST rd rs1 x) ≡ next
     (record s { memory = store_word s.memory a (register_of s rd) })
 unfolding act store_step
 st_acts s rd rs1 x a e z h =
-    ap (λ n. if n % 4 == 0 then on_memory s (Trap data_access_exception)
-    (with_bytes s.memory n (stored s stores.ST rd)) next else trapped s mem_address_not_aligned) e
-    ∙ ap (λ (n : Bool). if n then on_memory s (Trap data_access_exception)
-    (with_bytes s.memory a (stored s stores.ST rd)) next else trapped s mem_address_not_aligned) z
-    ∙ ap (λ (n : Option Memory). on_memory s (Trap data_access_exception) n next)
-    (word_written s.memory a (register_of s rd) h)
+    rw (e, z, word_written s.memory a (register_of s rd) h) refl
 
 -- a load that isn't aligned ends the run, whatever may be read
 pub ld_traps : (s : State) (rd rs1 : ℕ) (x : Op2) → (sum_of s rs1 x % 4 == 0) ≡ false
     → act s (i.Load loads.LD rd rs1 x) ≡ trapped s mem_address_not_aligned
 unfolding act load_step
-ld_traps s rd rs1 x z =
-    ap (λ (n : Bool). if n then on_bytes s (bytes_at s.memory (sum_of s rs1 x) 4)
-    (λ bs. next (record s { registers = loaded s.registers s.window loads.LD rd bs })) else trapped s mem_address_not_aligned) z
+ld_traps s rd rs1 x z = rw z refl
 
 -- a jump that goes
 pub jump_acts : (s : State) (rd rs1 : ℕ) (x : Op2) (to : ℕ) → s.slot ≡ NoSlot → sum_of s rs1 x ≡ to
     → (to % 4 == 0) ≡ true → act s (i.Jmpl rd rs1 x) ≡ delayed (with_register s rd s.pc) to
 unfolding act jump_step
-jump_acts s rd rs1 x to n e z =
-    ap (λ (v : Slot). unless_couple v s (if sum_of s rs1 x % 4 == 0 then delayed (with_register s rd s.pc)
-    (sum_of s rs1 x) else trapped s mem_address_not_aligned)) n
-    ∙ ap (λ v. if v % 4 == 0 then delayed (with_register s rd s.pc) v else trapped s mem_address_not_aligned) e
-    ∙ ap (λ (v : Bool). if v then delayed (with_register s rd s.pc) to else trapped s mem_address_not_aligned) z
+jump_acts s rd rs1 x to n e z = rw (n, e, z) refl
 
 -- and one that doesn't
 pub jump_traps : (s : State) (rd rs1 : ℕ) (x : Op2) → s.slot ≡ NoSlot → (sum_of s rs1 x % 4 == 0) ≡ false
     → act s (i.Jmpl rd rs1 x) ≡ trapped s mem_address_not_aligned
 unfolding act jump_step
-jump_traps s rd rs1 x n z =
-    ap (λ (v : Slot). unless_couple v s (if sum_of s rs1 x % 4 == 0 then delayed (with_register s rd s.pc)
-    (sum_of s rs1 x) else trapped s mem_address_not_aligned)) n
-    ∙ ap (λ (v : Bool). if v then delayed (with_register s rd s.pc)
-    (sum_of s rs1 x) else trapped s mem_address_not_aligned) z
+jump_traps s rd rs1 x n z = rw (n, z) refl

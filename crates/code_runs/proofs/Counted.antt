@@ -57,19 +57,16 @@ ends_stores counted s ending over =
 pub stores_there : (counted : ℕ → Bool) (s : State) (code : List Region) (a : ℕ) (x : Instr) → s.ending ≡ None
     → code_of s.memory ≡ code → s.pc ≡ a → Says code a x → stores_in_step counted s ≤ one_if counted (stores_at s x)
 stores_there counted s code a x live same at says =
-    says_stores counted s x live
-    (subst (λ (z : List Region). Says z s.pc x) (sym same) (subst (λ z. Says code z x) (sym at) says))
+    says_stores counted s x live (rw (same, at) says)
 
 -- a way, and then the next one
 pub count_add : (counted : ℕ → Bool) (s t : State) (k : ℕ) → run s k ≡ t → (l : ℕ)
     → count_stores counted s (k + l) ≡ count_stores counted s k + count_stores counted t l
 count_add counted s t k e zero = ap (count_stores counted s) (let f : k + 0 ≡ k = omega arith in f) ∙ omega arith
 count_add counted s t k e (suc l) =
-    ap (count_stores counted s) (let f : k + suc l ≡ suc (k + l) = omega arith in f)
-    ∙ ap (λ z. z + stores_in_step counted (run s (k + l))) (count_add counted s t k e l)
-    ∙ ap (λ (z : State). count_stores counted s k + count_stores counted t l + stores_in_step counted z)
-    ((let f : k + l ≡ l + k = omega arith in ap (run s) f) ∙ run_add s k l ∙ ap (λ (z : State). run z l) e)
-    ∙ omega arith
+    let there : run s (k + l) ≡ run t l = rw ((let f : k + l ≡ l + k = omega arith in f), run_add s k l, e) refl in
+    let next = ap (count_stores counted s) (let f : k + suc l ≡ suc (k + l) = omega arith in f) in
+    omega (arith, next, count_add counted s t k e l, ap (stores_in_step counted) there)
 
 pub count_one : (counted : ℕ → Bool) (s : State) → count_stores counted s 1 ≡ stores_in_step counted s
 count_one counted s = omega arith

@@ -23,14 +23,10 @@ use Rattle.code_runs.specs.Hops.{hopped, Hops}
 use Rattle.code_runs.proofs.Acts.{says_step, says_puts, ld_acts, jump_acts}
 use Rattle.code_runs.proofs.Leads.{leads_one, leads_then, silent_one, silent_then, split_below}
 use Rattle.code_runs.proofs.TwoRegisters.{places_differ, set_stays, other_is}
+use Rattle.std.proofs.lemmas.Bool.{cases_eq}
 
 pub equal_or_not : (p q : ℕ) → (p ≡ q) ⊎ (p ≢ q)
-equal_or_not p q = go (split_below p q) (split_below q p)
-  where
-    go : (p < q) ⊎ (q ≤ p) → (q < p) ⊎ (p ≤ q) → (p ≡ q) ⊎ (p ≢ q)
-    go (inl h) k = inr (omega arith)
-    go (inr h) (inl k) = inr (omega arith)
-    go (inr h) (inr k) = inl (omega arith)
+equal_or_not p q = cases_eq p q
 
 -- ---- stores after stores
 store_all-then : (ws vs : List (ℕ × ℕ)) (m : Memory) → store_all (ws ++ vs) m ≡ store_all vs (store_all ws m)
@@ -63,16 +59,7 @@ same_state : (u : State) (pc npc : ℕ) (slot : Slot) (registers : List ℕ) (wi
     → u.codes ≡ codes → u.y ≡ y → u.memory ≡ memory → u.input ≡ input → u.ending ≡ ending
     → u ≡ record { pc = pc; npc = npc; slot = slot; registers = registers; window = window; valid = valid; codes = codes; y = y; memory = memory; input = input; ending = ending }
 same_state u pc npc slot registers window valid codes y memory input ending e1 e2 e3 e4 e5 e6 e7 e8 e9 e10 e11 =
-    ap (λ z. record u { pc = z }) e1 ∙ ap (λ z. record u { pc = pc; npc = z }) e2
-    ∙ ap (λ (z : Slot). record u { pc = pc; npc = npc; slot = z }) e3
-    ∙ ap (λ (z : List ℕ). record u { pc = pc; npc = npc; slot = slot; registers = z }) e4
-    ∙ ap (λ z. record u { pc = pc; npc = npc; slot = slot; registers = registers; window = z }) e5
-    ∙ ap (λ z. record u { pc = pc; npc = npc; slot = slot; registers = registers; window = window; valid = z }) e6
-    ∙ ap (λ (z : Codes). record u { pc = pc; npc = npc; slot = slot; registers = registers; window = window; valid = valid; codes = z }) e7
-    ∙ ap (λ z. record u { pc = pc; npc = npc; slot = slot; registers = registers; window = window; valid = valid; codes = codes; y = z }) e8
-    ∙ ap (λ (z : Memory). record u { pc = pc; npc = npc; slot = slot; registers = registers; window = window; valid = valid; codes = codes; y = y; memory = z }) e9
-    ∙ ap (λ (z : List ℕ). record u { pc = pc; npc = npc; slot = slot; registers = registers; window = window; valid = valid; codes = codes; y = y; memory = memory; input = z }) e10
-    ∙ ap (λ (z : Option Ending). record { pc = pc; npc = npc; slot = slot; registers = registers; window = window; valid = valid; codes = codes; y = y; memory = memory; input = input; ending = z }) e11
+    rw (← e1, ← e2, ← e3, ← e4, ← e5, ← e6, ← e7, ← e8, ← e9, ← e10, ← e11) refl
 
 in_place : (registers : List ℕ) (w r : ℕ) → 0 < r → register_in registers w r ≡ slice_index registers (place_of w r)
 in_place registers w zero some = absurd (omega arith)
@@ -87,10 +74,8 @@ both_same us qs w a b sa sb lu lq ea eb others = ext_get_or 0 us qs (lu
   where
     at : (p : ℕ) → (p ≡ place_of w a) ⊎ (p ≢ place_of w a) → (p ≡ place_of w b) ⊎ (p ≢ place_of w b)
         → slice_index us p ≡ slice_index qs p
-    at p (inl e) k = ap (slice_index us) e ∙ sym (in_place us w a sa) ∙ ea ∙ in_place qs w a sa
-        ∙ ap (slice_index qs) (sym e)
-    at p (inr n) (inl e) = ap (slice_index us) e ∙ sym (in_place us w b sb) ∙ eb ∙ in_place qs w b sb
-        ∙ ap (slice_index qs) (sym e)
+    at p (inl e) k = rw e (sym (in_place us w a sa) ∙ ea ∙ in_place qs w a sa)
+    at p (inr n) (inl e) = rw e (sym (in_place us w b sb) ∙ eb ∙ in_place qs w b sb)
     at p (inr n) (inr k) = others p n k
 
 module _ (s : State) (count : ℕ) (May : ℕ → Type 0) (a b : ℕ) (c : HasScratch s count a b) where
@@ -131,11 +116,10 @@ module _ (s : State) (count : ℕ) (May : ℕ → Type 0) (a b : ℕ) (c : HasSc
   -- a register that isn't the first, as long as the second is as it was
   pub read_is : (m : Memory) (x : ℕ) (u : State) (r : ℕ) → IsAlike s a b m x (register_of s b) u → r < 32 → r ≢ a
       → register_of u r ≡ register_of s r
-  read_is m x u r h low na = go (equal_or_not r b)
-    where
-      go : (r ≡ b) ⊎ (r ≢ b) → register_of u r ≡ register_of s r
-      go (inl e) = ap (register_of u) e ∙ h.second ∙ ap (register_of s) (sym e)
-      go (inr n) = other_is s count May a b c m x (register_of s b) u r h low na n
+  read_is m x u r h low na = elim (equal_or_not r b) [
+    | inl e ↦ rw e h.second
+    | inr n ↦ other_is s count May a b c m x (register_of s b) u r h low na n
+  ]
 
   -- a jump through the first register, which is loaded back in the jump's slot
   pub hops_through : (n : ℕ) (m : Memory) (x to : ℕ) (through back : Op2) (address : ℕ)
@@ -153,12 +137,8 @@ module _ (s : State) (count : ℕ) (May : ℕ → Type 0) (a b : ℕ) (c : HasSc
       let l = c.low in
       let s2 = delayed (with_register w.after 0 w.after.pc) to in
       let code_is : code_of w.after.memory ≡ code_of s.memory = ap code_of h.memory ∙ w.code in
-      let jump_here : Says (code_of w.after.memory) w.after.pc (i.Jmpl 0 a through) =
-      subst (λ (z : List Region). Says z w.after.pc (i.Jmpl 0 a through)) (sym code_is)
-      (subst (λ z. Says (code_of s.memory) z (i.Jmpl 0 a through)) (sym w.pc) jump) in
-      let load_here : Says (code_of w.after.memory) w.after.npc (i.Load loads.LD a 0 back) =
-      subst (λ (z : List Region). Says z w.after.npc (i.Load loads.LD a 0 back)) (sym code_is)
-      (subst (λ z. Says (code_of s.memory) z (i.Load loads.LD a 0 back)) (sym w.npc) load) in
+      let jump_here : Says (code_of w.after.memory) w.after.pc (i.Jmpl 0 a through) = rw (code_is, w.pc) jump in
+      let load_here : Says (code_of w.after.memory) w.after.npc (i.Load loads.LD a 0 back) = rw (code_is, w.npc) load in
       let one : step_of w.after ≡ s2 = says_step w.after (i.Jmpl 0 a through) h.live jump_here
       ∙ jump_acts w.after 0 a through to (w.slot some) (target w.after h) four in
       let two : step_of s2 ≡ next (with_register s2 a (register_of s a)) =
@@ -182,7 +162,7 @@ module _ (s : State) (count : ℕ) (May : ℕ → Type 0) (a b : ℕ) (c : HasSc
       (λ z na nb. set_stays w.after.registers w.after.window a (register_of s a) z
       (subst (λ (wd : ℕ). z ≢ place_of wd a) (sym h.window) na) ∙ h.others z na nb))
       h.window h.valid h.codes h.y_register h.memory h.input (h.live ∙ sym c.ready.live) in
-      let inside : Stores May s.memory w.after.memory = subst (Stores May s.memory) (sym h.memory) w.stores in
+      let inside : Stores May s.memory w.after.memory = rw h.memory w.stores in
       let last = leads_then (IsBetween s count May) w.after s2 (hopped s to m) 1 1 (leads_one _ w.after s2 one)
       (leads_one _ s2 _ (two ∙ there)) (λ _ _. record { past = omega arith; before = omega arith; stores = inside }) in
       record {

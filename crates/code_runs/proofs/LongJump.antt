@@ -97,7 +97,7 @@ module _ (to : ℕ) (s : State) (valid : IsValid s) (ready : IsReady s) (low : s
   jumped =
       ap step_of high.path.steps
       ∙ says_step high.after (i.Jmpl 0 1 (Imm (pos (to % 1024)))) high.alike.live
-      (subst (λ (z : List Region). Says z high.after.pc (i.Jmpl 0 1 (Imm (pos (to % 1024))))) (sym same_code) jump_says)
+      (rw same_code jump_says)
       ∙ jump_acts high.after 0 1 (Imm (pos (to % 1024))) to (high.slot (omega arith)) (leads_there high.after high.alike)
       (ap (λ z. z == 0) aligned)
 

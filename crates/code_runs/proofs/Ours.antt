@@ -51,8 +51,7 @@ module _ (pages : List Span) (own : List ℕ) where
   same_stored m a v h among = record {
     heap = sym (unwritten a v m.heap (not_heap a true m (h.words a among)));
     outside = λ b c some apart.
-        subst (λ (z : Option Region). IsSameRegion (find (covers b c) m.regions) z)
-        (sym (find-written b c a (to_be_bytes w32 v) m.regions))
+        rw (find-written b c a (to_be_bytes w32 v) m.regions)
         (same_unwritten a v (find (covers b c) m.regions) (h.alone a b c among some apart));
   }
 
@@ -109,5 +108,4 @@ ours_stay pages own s x are h apart = still_ours pages own s x are h apart
 
 pub ours_are_stored : OursAreStored
 ours_are_stored pages own m n h k =
-    subst (λ (z : Memory). IsOurs pages own z × IsSameOutside pages m z) (sym k.result)
-    (all_stored pages own k.writes m h k.each)
+    rw k.result (all_stored pages own k.writes m h k.each)

@@ -42,6 +42,7 @@ use Rattle.v8_step.proofs.CopiedMoves.{goes_act}
 use Rattle.two_runs.proofs.Alike.{acts_alike}
 use Rattle.code_runs.specs.Points.{moved}
 use Rattle.code_runs.specs.PointsAlike.{AreAtOnePoint, AreAlikeOn, PointsActAlike}
+use Rattle.std.proofs.lemmas.Bool.{true≢false}
 
 -- ---- what is read are items
 
@@ -74,17 +75,11 @@ named_both r x = named_then (reg r) (op2_parts x) (named_reg r) (named_op2 x)
 named_inputs : (op : AluOp) → AreNamed (alu_inputs op)
 unfolding AreNamed
 named_inputs ops.ADDX = tt
-named_inputs ops.SUBX = tt
-named_inputs ops.MULScc = tt
-named_inputs ops.UDIV = tt
-named_inputs ops.SDIV = tt
 named_inputs _ = tt
 
 named_stored : (kind : StoreKind) (rd : ℕ) → AreNamed (stored_parts kind rd)
 named_stored stores.STD rd = named_then (reg rd) (reg (suc rd)) (named_reg rd) (named_reg (suc rd))
-named_stored stores.ST rd = named_reg rd
-named_stored stores.STB rd = named_reg rd
-named_stored stores.STH rd = named_reg rd
+named_stored _ rd = named_reg rd
 
 named_codes : (b : Bool) → AreNamed (when b (Icc ∷ []))
 unfolding AreNamed
@@ -156,36 +151,19 @@ module _ (notes : Notes) (s u : State) (rs : AreRegisters s.registers) (ru : Are
 
   judged_same : (instr : Instr) → IsSameForReading instr s u → AllApart (pages_of notes) (judged_by s instr)
       → AllApart (pages_of notes) (judged_by u instr)
-  judged_same (i.Load kind rd rs1 op2) h apart =
-      subst (λ (z : ℕ). AllApart (pages_of notes) (aligned_span (load_size kind) z (load_size kind)))
-      (sum_same rs1 op2 h.1) apart
+  judged_same (i.Load kind rd rs1 op2) h apart = rw (← sum_same rs1 op2 h.1) apart
   judged_same (i.Store kind rd rs1 op2) h apart =
-      subst (λ (z : ℕ). AllApart (pages_of notes) (aligned_span (store_size kind) z (store_size kind)))
-      (sum_same rs1 op2 (same_first (reg rs1 ++ op2_parts op2) (stored_parts kind rd) s u h.1)) apart
-  judged_same (i.Ldstub rd rs1 op2) h apart =
-      subst (λ (z : ℕ). AllApart (pages_of notes) (aligned_span 1 z 1)) (sum_same rs1 op2 h.1) apart
+      rw (← sum_same rs1 op2 (same_first (reg rs1 ++ op2_parts op2) (stored_parts kind rd) s u h.1)) apart
+  judged_same (i.Ldstub rd rs1 op2) h apart = rw (← sum_same rs1 op2 h.1) apart
   judged_same (i.Swap rd rs1 op2) h apart =
-      subst (λ (z : ℕ). AllApart (pages_of notes) (aligned_span 4 z 4))
-      (sum_same rs1 op2 (same_first (reg rs1 ++ op2_parts op2) (reg rd) s u h.1)) apart
+      rw (← sum_same rs1 op2 (same_first (reg rs1 ++ op2_parts op2) (reg rd) s u h.1)) apart
   judged_same (i.Save rd rs1 op2) h apart = judged_alike notes (i.Save rd rs1 op2) s u
       (twins_from (pages_of notes) s u rs ru e w (h.0 refl)) apart
   judged_same (i.Restore rd rs1 op2) h apart = judged_alike notes (i.Restore rd rs1 op2) s u
       (twins_from (pages_of notes) s u rs ru e w (h.0 refl)) apart
   judged_same (i.Ticc cond rs1 op2) h apart = judged_alike notes (i.Ticc cond rs1 op2) s u
       (twins_from (pages_of notes) s u rs ru e w (h.0 refl)) apart
-  judged_same (i.Sethi rd imm22) h apart = apart
-  judged_same (i.Branch cond annul disp22) h apart = apart
-  judged_same (i.Call disp30) h apart = apart
-  judged_same (i.Alu op with_codes rd rs1 op2) h apart = apart
-  judged_same (i.ReadY rd) h apart = apart
-  judged_same (i.WriteY rs1 op2) h apart = apart
-  judged_same (i.Jmpl rd rs1 op2) h apart = apart
-  judged_same (i.Flush rs1 op2) h apart = apart
-  judged_same i.Stbar h apart = apart
-  judged_same i.Illegal h apart = apart
-  judged_same i.Privileged h apart = apart
-  judged_same i.FpOff h apart = apart
-  judged_same i.CpOff h apart = apart
+  judged_same _ h apart = apart
 
 -- ---- where they go
 
@@ -256,9 +234,8 @@ module _ (pages : List Span) (s u : State) (live : s.ending ≡ None) (live' : u
   still_items : (pc npc pc' npc' : ℕ) (slot slot' : Slot) (item : StateItem) → ⊥ ⊎ IsSameAt item s u
       → IsSameAt item (moved pc npc slot s) (moved pc' npc' slot' u)
   still_items pc npc pc' npc' slot slot' item (inl h) = absurd h
-  still_items pc npc pc' npc' slot slot' (Register n) (inr h) = h
   still_items pc npc pc' npc' slot slot' Codes (inr h) = h
-  still_items pc npc pc' npc' slot slot' YRegister (inr h) = h
+  still_items pc npc pc' npc' slot slot' item (inr h) = h
 
   led_moved : (cond : ℕ) (annul : Bool) (disp : ℤ) (pc npc pc' npc' : ℕ) (slot slot' : Slot) → pc ≡ pc' → npc ≡ npc'
       → slot ≡ slot'
@@ -310,10 +287,7 @@ module _ (pages : List Span) (s u : State) (live : s.ending ≡ None) (live' : u
   unfolding act branch_step call_step jump_step
   transfers_alike (i.Branch cond annul disp22) e h =
       led_unless pages (i.Branch cond annul disp22) s u _ _ s.slot u.slot at.slot w
-      (subst (λ (z : Bool). AreLed pages (i.Branch cond annul disp22) s u
-      (branched (holds_of cond s.codes) (cond == 8) annul s (target_of s disp22))
-      (branched z (cond == 8) annul u (target_of u disp22)))
-      (holds_same cond (cond == 0) (cond == 8) refl refl h.1)
+      (rw (← holds_same cond (cond == 0) (cond == 8) refl refl h.1)
       (led_branched cond annul disp22 (holds_of cond s.codes) (cond == 8) annul (target_of s disp22)
       (target_of u disp22) (target_same disp22)))
   transfers_alike (i.Call disp30) e h =
@@ -324,28 +298,8 @@ module _ (pages : List Span) (s u : State) (live : s.ending ≡ None) (live' : u
       same_sum rs1 op2 s u w.window (same_first (reg rs1) (op2_parts op2) s u h.1)
       (same_rest (reg rs1) (op2_parts op2) s u h.1) in
       led_unless pages (i.Jmpl rd rs1 op2) s u _ _ s.slot u.slot at.slot w
-      (subst (λ (z : ℕ). AreLed pages (i.Jmpl rd rs1 op2) s u
-      (if sum_of s rs1 op2 % 4 == 0 then delayed (with_register s rd s.pc)
-      (sum_of s rs1 op2) else trapped s mem_address_not_aligned)
-      (if z % 4 == 0 then delayed (with_register u rd u.pc) z else trapped u mem_address_not_aligned)) sum
-      (led_jump rd rs1 op2 (sum_of s rs1 op2 % 4 == 0) (sum_of s rs1 op2) (sum_of s rs1 op2) refl))
-  transfers_alike (i.Sethi rd imm22) e h = absurd (cc)
-  transfers_alike (i.Alu op with_codes rd rs1 op2) e h = absurd (cc)
-  transfers_alike (i.ReadY rd) e h = absurd (cc)
-  transfers_alike (i.WriteY rs1 op2) e h = absurd (cc)
-  transfers_alike (i.Ticc cond rs1 op2) e h = absurd (cc)
-  transfers_alike (i.Flush rs1 op2) e h = absurd (cc)
-  transfers_alike i.Stbar e h = absurd (cc)
-  transfers_alike (i.Save rd rs1 op2) e h = absurd (cc)
-  transfers_alike (i.Restore rd rs1 op2) e h = absurd (cc)
-  transfers_alike (i.Load kind rd rs1 op2) e h = absurd (cc)
-  transfers_alike (i.Store kind rd rs1 op2) e h = absurd (cc)
-  transfers_alike (i.Ldstub rd rs1 op2) e h = absurd (cc)
-  transfers_alike (i.Swap rd rs1 op2) e h = absurd (cc)
-  transfers_alike i.Illegal e h = absurd (cc)
-  transfers_alike i.Privileged e h = absurd (cc)
-  transfers_alike i.FpOff e h = absurd (cc)
-  transfers_alike i.CpOff e h = absurd (cc)
+      (rw (← sum) (led_jump rd rs1 op2 (sum_of s rs1 op2 % 4 == 0) (sum_of s rs1 op2) (sum_of s rs1 op2) refl))
+  transfers_alike _ e h = absurd (true≢false (sym e))
 
 no_puts : (s : State) (instr : Instr) (descriptor : ℕ) → is_transfer instr ≡ true → puts_by s instr descriptor ≡ []
 unfolding puts_by

@@ -13,53 +13,8 @@ use Rattle.v8_memory.proofs.Same.{find-written}
 use Rattle.v8_step.specs.Step.{act}
 use Rattle.code_runs.specs.StoredWords.{word_in, memory_word, CanLoad, CanStore}
 use Rattle.code_runs.specs.Ours.{HasWordAt, IsIn, WordsStay}
-use Rattle.code_runs.proofs.StoredWords.{covered, covers_first, spliced_other}
+use Rattle.code_runs.proofs.StoredWords.{covered, covers_first, part, shape}
 use Rattle.v8_step.proofs.KeptOutside.{kept_act}
-
-pub record SameShape (r q : Region) : Type 0 where
-  pub start : q.start ≡ r.start
-  pub size : q.size ≡ r.size
-  pub readable : q.readable ≡ r.readable
-  pub writable : q.writable ≡ r.writable
-  pub whole : r.size ≤ length r.bytes → q.size ≤ length q.bytes
-
-pub shape : (b : ℕ) (bs : List ℕ) (r : Region) → SameShape r (written b bs r)
-shape b bs r = go (covers b (length bs) r) refl r.writable
-  where
-    go : (c : Bool) → covers b (length bs) r ≡ c → (w : Bool) → SameShape r (if c && w then changed b bs r else r)
-    go true e true = record {
-      start = refl;
-      size = refl;
-      readable = refl;
-      writable = refl;
-      whole = λ h. (let i = covered b (length bs) r e in
-          omega (
-            arith,
-            length-append (take (b - r.start) r.bytes ++ bs)
-                (drop (b - r.start + length bs) r.bytes),
-            length-append (take (b - r.start) r.bytes) bs,
-            length-take
-                (b - r.start) r.bytes,
-            length-drop (b - r.start + length bs) r.bytes,
-            i.0,
-            i.1,
-          ));
-    }
-    go true e false = record { start = refl; size = refl; readable = refl; writable = refl; whole = λ h. h }
-    go false e w = record { start = refl; size = refl; readable = refl; writable = refl; whole = λ h. h }
-
-part : (r : Region) (a b : ℕ) (bs : List ℕ) → r.size ≤ length r.bytes → covers a 4 r ≡ true
-    → (a + 4 ≤ b) ⊎ (b + length bs ≤ a) → part_of (written b bs r) a 4 ≡ part_of r a 4
-part r a b bs whole has apart = go (covers b (length bs) r) refl r.writable apart
-  where
-    go : (c : Bool) → covers b (length bs) r ≡ c → (w : Bool) → (a + 4 ≤ b) ⊎ (b + length bs ≤ a)
-        → part_of (if c && w then changed b bs r else r) a 4 ≡ part_of r a 4
-    go true e true (inl s) = let i = covered b (length bs) r e in let j = covered a 4 r has in spliced_other r.bytes bs
-        (b - r.start) (a - r.start) 4 (omega (arith, i.0, i.1)) (inl (omega (arith, i.0, i.1, j.0, j.1)))
-    go true e true (inr s) = let i = covered b (length bs) r e in let j = covered a 4 r has in spliced_other r.bytes bs
-        (b - r.start) (a - r.start) 4 (omega (arith, i.0, i.1)) (inr (omega (arith, i.0, i.1, j.0, j.1)))
-    go true e false s = refl
-    go false e w s = refl
 
 -- what is apart from all of the pages is apart from the word
 abbrev IsWithin : List Span → ℕ → Type 0
@@ -96,7 +51,7 @@ there_written a b writable bs m h =
     let t = shape b bs m.heap in
     record {
       start = t.start ∙ h.start;
-      size = subst (λ z. z ≤ heap_room) (sym t.size) h.size;
+      size = rw t.size h.size;
       away = h.away;
       region = written b bs h.region;
       at = find-written a 4 b bs m.regions ∙ ap (option_map (written b bs)) h.at;
@@ -140,14 +95,11 @@ keeps_heap a f m b e = record {
 
 -- such a word is the one that is loaded and stored
 pub not_heap : (a : ℕ) (f : Bool) (m : Memory) → HasWordAt a f m → covers a 4 m.heap ≡ false
-not_heap a f m h = go (covers a 4 m.heap) refl h.away
+not_heap a f m h = go (covers a 4 m.heap) refl
   where
-    go : (c : Bool) → covers a 4 m.heap ≡ c → (a + 4 ≤ heap_start) ⊎ (heap_start + heap_room ≤ a) → c ≡ false
-    go false e o = refl
-    go true e (inl k) = let i = covered a 4 m.heap e in let s = h.start in let z = h.size in absurd
-        (omega (arith, i.0, i.1))
-    go true e (inr k) = let i = covered a 4 m.heap e in let s = h.start in let z = h.size in absurd
-        (omega (arith, i.0, i.1))
+    go : (c : Bool) → covers a 4 m.heap ≡ c → c ≡ false
+    go false e = refl
+    go true e = let i = covered a 4 m.heap e in absurd (omega (arith, i.0, i.1, h.away, h.start, h.size))
 
 pub region_of_word : (a : ℕ) (f : Bool) (m : Memory) → HasWordAt a f m → region_at m a 4 ≡ find (covers a 4) m.regions
 region_of_word a f m h = ap (λ (z : Bool). if z then Some m.heap else find (covers a 4) m.regions) (not_heap a f m h)

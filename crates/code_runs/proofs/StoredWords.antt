@@ -9,7 +9,7 @@ use Rattle.std.proofs.lemmas.List.{take-append-le, drop-append-le, take-append-d
 use Rattle.std.proofs.lemmas.List.Elements.{All-cons, All-head, All-tail, All-weaker, All-take, All-drop}
 use Rattle.std.proofs.Math.Seq.{take-append_seam, drop-append_seam, drop-append-add}
 use Rattle.std.proofs.lemmas.Bool.Decides.{nat_tests}
-use Rattle.v8_memory.specs.Regions.{Memory, Region, covers, region_at, part_of, written, all_written, with_bytes, write_region, bytes_at, read_region, if_allowed, code_of}
+use Rattle.v8_memory.specs.Regions.{Memory, Region, covers, region_at, part_of, changed, written, all_written, with_bytes, write_region, bytes_at, read_region, if_allowed, code_of}
 use Rattle.v8_memory.proofs.Same.{find-written}
 use Rattle.v8_memory.proofs.Executable.{filter-written}
 use Rattle.v8_step.specs.Valid.{AreBytes, IsValidMemory, IsValidRegion}
@@ -18,7 +18,7 @@ use Rattle.code_runs.specs.StoredWords.{word_in, memory_word, store_word, CanLoa
 
 covers_case : (p : Region → Bool) (q r : Region) (rs : List Region) (b : Bool) → p q ≡ b
     → (if b then Some q else find p rs) ≡ Some r → (find p rs ≡ Some r → p r ≡ true) → p r ≡ true
-covers_case p q r rs true h f k = let g : q ≡ r = cc in subst (λ (z : Region). p z ≡ true) g h
+covers_case p q r rs true h f k = cc
 covers_case p q r rs false h f k = k f
 
 pub covers_first : (p : Region → Bool) (rs : List Region) (r : Region) → find p rs ≡ Some r → p r ≡ true
@@ -92,60 +92,62 @@ written_when a bs r h k = ap (λ (z : Bool). if z && r.writable then record r {
 pub covered : (a n : ℕ) (r : Region) → covers a n r ≡ true → (r.start ≤ a) × (a + n ≤ r.start + r.size)
 covered a n r h = grind (arith, nat_tests)
 
--- a region that has the cell still has it after a write
-kept : (b v : ℕ) (r : Region) → r.size ≤ length r.bytes
-    → (written b (to_be_bytes w32 v) r).size ≤ length (written b (to_be_bytes w32 v) r).bytes
-kept b v r h = go (covers b 4 r) refl r.writable
-  where
-    go : (c : Bool) → covers b 4 r ≡ c → (w : Bool)
-        → (if c && w then record r {
-          bytes = take (b - r.start) r.bytes ++ to_be_bytes w32 v ++ drop
-              (b - r.start + 4) r.bytes;
-        } else r).size
-        ≤ length (if c && w then record r {
-          bytes = take (b - r.start) r.bytes ++ to_be_bytes w32 v ++ drop
-              (b - r.start + 4) r.bytes;
-        } else r).bytes
-    go true e true =
-        let i = covered b 4 r e in
-        omega (
-          arith,
-          length-append (take (b - r.start) r.bytes ++ to_be_bytes w32 v)
-              (drop (b - r.start + 4) r.bytes),
-          length-append (take (b - r.start) r.bytes)
-              (to_be_bytes w32 v),
-          width v,
-          length-take (b - r.start) r.bytes,
-          length-drop
-              (b - r.start + 4) r.bytes,
-          i.0,
-          i.1,
-        )
-    go true e false = h
-    go false e w = h
+-- a write leaves a region its shape, and its other words
+pub record SameShape (r q : Region) : Type 0 where
+  pub start : q.start ≡ r.start
+  pub size : q.size ≡ r.size
+  pub readable : q.readable ≡ r.readable
+  pub writable : q.writable ≡ r.writable
+  pub whole : r.size ≤ length r.bytes → q.size ≤ length q.bytes
 
-flags : (b v : ℕ) (r : Region) → ((written b (to_be_bytes w32 v) r).readable ≡ r.readable)
-    × ((written b (to_be_bytes w32 v) r).writable ≡ r.writable)
-flags b v r = go (covers b 4 r && r.writable)
+pub shape : (b : ℕ) (bs : List ℕ) (r : Region) → SameShape r (written b bs r)
+shape b bs r = go (covers b (length bs) r) refl r.writable
   where
-    go : (c : Bool) → ((if c then record r {
-      bytes = take (b - r.start) r.bytes ++ to_be_bytes w32 v ++ drop
-          (b - r.start + 4) r.bytes;
-    } else r).readable ≡ r.readable)
-        × ((if c then record r {
-          bytes = take (b - r.start) r.bytes ++ to_be_bytes w32 v ++ drop
-              (b - r.start + 4) r.bytes;
-        } else r).writable ≡ r.writable)
-    go true = (refl, refl)
-    go false = (refl, refl)
+    go : (c : Bool) → covers b (length bs) r ≡ c → (w : Bool) → SameShape r (if c && w then changed b bs r else r)
+    go true e true = record {
+      start = refl;
+      size = refl;
+      readable = refl;
+      writable = refl;
+      whole = λ h. (let i = covered b (length bs) r e in
+          omega (
+            arith,
+            length-append (take (b - r.start) r.bytes ++ bs)
+                (drop (b - r.start + length bs) r.bytes),
+            length-append (take (b - r.start) r.bytes) bs,
+            length-take
+                (b - r.start) r.bytes,
+            length-drop (b - r.start + length bs) r.bytes,
+            i.0,
+            i.1,
+          ));
+    }
+    go true e false = record { start = refl; size = refl; readable = refl; writable = refl; whole = λ h. h }
+    go false e w = record { start = refl; size = refl; readable = refl; writable = refl; whole = λ h. h }
+
+pub part : (r : Region) (a b : ℕ) (bs : List ℕ) → r.size ≤ length r.bytes → covers a 4 r ≡ true
+    → (a + 4 ≤ b) ⊎ (b + length bs ≤ a) → part_of (written b bs r) a 4 ≡ part_of r a 4
+part r a b bs whole has apart = go (covers b (length bs) r) refl r.writable
+  where
+    go : (c : Bool) → covers b (length bs) r ≡ c → (w : Bool)
+        → part_of (if c && w then changed b bs r else r) a 4 ≡ part_of r a 4
+    go true e true =
+        let i = covered b (length bs) r e in
+        let j = covered a 4 r has in
+        spliced_other r.bytes bs (b - r.start) (a - r.start) 4 (omega (arith, i.0, i.1)) (elim apart [
+          | inl s ↦ inl (omega (arith, i.0, i.1, j.0, j.1))
+          | inr s ↦ inr (omega (arith, i.0, i.1, j.0, j.1))
+        ])
+    go true e false = refl
+    go false e w = refl
 
 pub still_stored : (m : Memory) (a b v : ℕ) → CanStore m a → CanStore (store_word m b v) a
 still_stored m a b v h = record {
   region = written b (to_be_bytes w32 v) h.region;
   at = placed_in m a b v ∙ ap (option_map (written b (to_be_bytes w32 v))) h.at;
-  readable = (flags b v h.region).0 ∙ h.readable;
-  writable = (flags b v h.region).1 ∙ h.writable;
-  whole = kept b v h.region h.whole;
+  readable = (shape b (to_be_bytes w32 v) h.region).readable ∙ h.readable;
+  writable = (shape b (to_be_bytes w32 v) h.region).writable ∙ h.writable;
+  whole = (shape b (to_be_bytes w32 v) h.region).whole h.whole;
 }
 
 has : (m : Memory) (a : ℕ) (h : CanStore m a) → covers a 4 h.region ≡ true
@@ -160,31 +162,6 @@ word_stored m a v small h =
     ∙ ap (from_be_bytes w32) (spliced_same h.region.bytes (to_be_bytes w32 v) (a - h.region.start)
     (let w = h.whole in omega (arith, i.0, i.1)))
     ∙ from_be_bytes-to_be_bytes_4 v small
-
-other_part : (r : Region) (a b v : ℕ) → r.size ≤ length r.bytes → r.start ≤ a → (a + 4 ≤ b) ⊎ (b + 4 ≤ a)
-    → part_of (written b (to_be_bytes w32 v) r) a 4 ≡ part_of r a 4
-other_part r a b v whole low apart = go (covers b 4 r) refl r.writable apart
-  where
-    go : (c : Bool) → covers b 4 r ≡ c → (w : Bool) → (a + 4 ≤ b) ⊎ (b + 4 ≤ a)
-        → part_of (if c && w then record r {
-          bytes = take (b - r.start) r.bytes ++ to_be_bytes w32 v ++ drop
-              (b - r.start + 4) r.bytes;
-        } else r) a 4 ≡ part_of r a 4
-    go true e true (inl s) = let i = covered b 4 r e in spliced_other r.bytes (to_be_bytes w32 v) (b - r.start)
-        (a - r.start) 4 (omega (arith, width v, i.0, i.1)) (inl (omega (arith, i.0, i.1)))
-    go true e true (inr s) = let i = covered b 4 r e in spliced_other r.bytes (to_be_bytes w32 v) (b - r.start)
-        (a - r.start) 4 (omega (arith, width v, i.0, i.1)) (inr (omega (arith, width v, i.0, i.1)))
-    go true e false s = refl
-    go false e w s = refl
-
-pub other_word_stored : (m : Memory) (a b v : ℕ) → CanStore m a → (a + 4 ≤ b) ⊎ (b + 4 ≤ a)
-    → memory_word (store_word m b v) a ≡ memory_word m a
-unfolding memory_word
-other_word_stored m a b v h apart =
-    let i = covered a 4 h.region (has m a h) in
-    ap (word_in a) (placed_in m a b v ∙ ap (option_map (written b (to_be_bytes w32 v))) h.at)
-    ∙ ap (from_be_bytes w32) (other_part h.region a b v h.whole i.0 apart)
-    ∙ ap (word_in a) (sym h.at)
 
 -- what the machine reads and writes there
 pub can_load : (m : Memory) (a : ℕ) → CanStore m a → CanLoad m a
@@ -223,7 +200,7 @@ pub loads_stored : (m : Memory) (a b v : ℕ) → CanLoad m a → CanLoad (store
 loads_stored m a b v h = record {
   region = written b (to_be_bytes w32 v) h.region;
   at = placed_in m a b v ∙ ap (option_map (written b (to_be_bytes w32 v))) h.at;
-  readable = (flags b v h.region).0 ∙ h.readable;
+  readable = (shape b (to_be_bytes w32 v) h.region).readable ∙ h.readable;
 }
 
 -- the bytes of a region of valid memory are there
@@ -241,10 +218,15 @@ pub other_loaded : (m : Memory) (a b v : ℕ) (h : CanLoad m a) → h.region.siz
     → (a + 4 ≤ b) ⊎ (b + 4 ≤ a) → memory_word (store_word m b v) a ≡ memory_word m a
 unfolding memory_word
 other_loaded m a b v h whole apart =
-    let i = covered a 4 h.region (covers_first (covers a 4) (m.heap ∷ m.regions) h.region h.at) in
     ap (word_in a) (placed_in m a b v ∙ ap (option_map (written b (to_be_bytes w32 v))) h.at)
-    ∙ ap (from_be_bytes w32) (other_part h.region a b v whole i.0 apart)
+    ∙ ap (from_be_bytes w32) (part h.region a b (to_be_bytes w32 v) whole
+    (covers_first (covers a 4) (m.heap ∷ m.regions) h.region h.at) apart)
     ∙ ap (word_in a) (sym h.at)
+
+pub other_word_stored : (m : Memory) (a b v : ℕ) → CanStore m a → (a + 4 ≤ b) ⊎ (b + 4 ≤ a)
+    → memory_word (store_word m b v) a ≡ memory_word m a
+other_word_stored m a b v h apart =
+    other_loaded m a b v (record { region = h.region; at = h.at; readable = h.readable }) h.whole apart
 
 -- a word of valid memory has 32 bits
 pub memory_word-range : (m : Memory) (a : ℕ) → IsValidMemory m → memory_word m a < 2 ^ 32

@@ -53,18 +53,19 @@ alu_keeps s rd (Ok o) = record { code = refl; pc = refl; npc = refl; ending = re
 alu_keeps s rd (Err e) = same s
 
 keeps : (s : State) (x : Instr) → Keeps s (does s x)
-keeps s (i.Sethi rd imm) = record { code = refl; pc = refl; npc = refl; ending = refl }
 keeps s (i.Alu op cc rd rs1 x) = alu_keeps s rd (alu_of op cc (register_of s rs1) (operand_of s x) s.codes s.y)
-keeps s (i.ReadY rd) = record { code = refl; pc = refl; npc = refl; ending = refl }
 keeps s (i.Load loads.LD rd rs1 x) = record { code = refl; pc = refl; npc = refl; ending = refl }
-keeps s (i.Store stores.ST rd rs1 x) = record {
-  code = code-store_word s.memory (sum_of s rs1 x)
-      (register_of s rd);
-  pc = refl;
-  npc = refl;
-  ending = refl;
-}
-keeps s _ = same s
+keeps s (i.Store stores.ST rd rs1 x) =
+    record { code = code-store_word s.memory (sum_of s rs1 x) (register_of s rd); pc = refl; npc = refl; ending = refl }
+keeps s _ = record { code = refl; pc = refl; npc = refl; ending = refl }
+
+-- after one word the machine is ready for the next
+goes_on : (x : Instr) (s : State) → IsReady s → s.pc < 2 ^ 32 - 8 → ((went s x).pc ≡ s.pc + 4) × IsReady (went s x)
+goes_on x s h low =
+    let g = keeps s x in
+    let e = h.npc in
+    let p : (went s x).pc ≡ s.pc + 4 = g.npc ∙ e in
+    (p, record { live = g.ending ∙ h.live; npc = (let a = g.npc in omega arith) })
 
 -- where the machine is after n words
 pub record HasArrived (s t : State) (n : ℕ) : Type 0 where
@@ -77,16 +78,12 @@ pub arrives : (xs : List Instr) (s : State) → IsReady s → s.pc + 4 * length 
     → HasArrived s (went_all s xs) (length xs)
 arrives [] s h low = record { code = refl; pc = omega arith; npc = let e = h.npc in omega arith; live = h.live }
 arrives (x ∷ xs) s h low =
-    let g = keeps s x in
-    let e = h.npc in
-    let p : (went s x).pc ≡ s.pc + 4 = g.npc ∙ e in
-    let q : (went s x).npc ≡ (went s x).pc + 4 = (let a = g.npc in omega arith) in
-    let r = arrives xs (went s x) (record { live = g.ending ∙ h.live; npc = q }) (omega arith) in
+    let n = goes_on x s h (omega arith) in
+    let r = arrives xs (went s x) n.1 (omega arith) in
     record {
-      code = r.code ∙ g.code;
+      code = r.code ∙ (keeps s x).code;
       pc = (let a = r.pc in omega arith);
-      npc =
-          (let a = r.npc in omega arith);
+      npc = (let a = r.npc in omega arith);
       live = r.live;
     }
 
@@ -100,14 +97,9 @@ pub straight : (P : State → Type 0) (xs : List Instr) (s : State) → IsReady 
     → StandIn (code_of s.memory) s.pc xs → AreFine s xs → Along P s xs → Leads P s (went_all s xs) (length xs)
 straight P [] s h low stand fine along = leads_none P s
 straight P (x ∷ xs) s h low stand fine along =
-    let g = keeps s x in
-    let e = h.npc in
-    let p : (went s x).pc ≡ s.pc + 4 = g.npc ∙ e in
-    let q : (went s x).npc ≡ (went s x).pc + 4 = (let a = g.npc in omega arith) in
+    let n = goes_on x s h (omega arith) in
     let one : step_of s ≡ went s x = says_step s x h.live stand.0 ∙ fine_acts s x fine.0 in
-    let rest = straight P xs (went s x) (record { live = g.ending ∙ h.live; npc = q }) (omega arith)
-    (subst (λ (z : List Region). StandIn z (went s x).pc xs) (sym g.code)
-    (subst (λ (z : ℕ). StandIn (code_of s.memory) z xs) (sym p) stand.1)) fine.1 along.1 in
+    let rest = straight P xs (went s x) n.1 (omega arith) (rw ((keeps s x).code, n.0) stand.1) fine.1 along.1 in
     subst (λ (z : ℕ). Leads P s (went_all s (x ∷ xs)) z) (let z : 1 + length xs ≡ suc (length xs) = omega arith in z)
     (leads_then P s (went s x) (went_all s (x ∷ xs)) 1 (length xs) (leads_one P s (went s x) one) rest (λ _. along.0))
 
@@ -116,14 +108,9 @@ pub straight_silent : (xs : List Instr) (s : State) → IsReady s → s.pc + 4 *
     → StandIn (code_of s.memory) s.pc xs → AreFine s xs → IsSilent s (length xs)
 straight_silent [] s h low stand fine = silent_none s
 straight_silent (x ∷ xs) s h low stand fine =
-    let g = keeps s x in
-    let e = h.npc in
-    let p : (went s x).pc ≡ s.pc + 4 = g.npc ∙ e in
-    let q : (went s x).npc ≡ (went s x).pc + 4 = (let a = g.npc in omega arith) in
+    let n = goes_on x s h (omega arith) in
     let one : step_of s ≡ went s x = says_step s x h.live stand.0 ∙ fine_acts s x fine.0 in
-    let rest = straight_silent xs (went s x) (record { live = g.ending ∙ h.live; npc = q }) (omega arith)
-    (subst (λ (z : List Region). StandIn z (went s x).pc xs) (sym g.code)
-    (subst (λ (z : ℕ). StandIn (code_of s.memory) z xs) (sym p) stand.1)) fine.1 in
+    let rest = straight_silent xs (went s x) n.1 (omega arith) (rw ((keeps s x).code, n.0) stand.1) fine.1 in
     subst (λ (z : ℕ). IsSilent s z) (let z : 1 + length xs ≡ suc (length xs) = omega arith in z)
     (silent_then s (went s x) 1 (length xs) one (silent_one s (says_puts s x (plain s x fine.0) stand.0)) rest)
 
@@ -133,16 +120,9 @@ pub along_pcs : (P : State → Type 0) (lo hi : ℕ) → ((u : State) → lo < u
     → s.pc + 4 * length xs ≤ hi → Along P s xs
 along_pcs P lo hi f [] s h low a b = tt
 along_pcs P lo hi f (x ∷ xs) s h low a b =
-    let g = keeps s x in
-    let e = h.npc in
-    let p : (went s x).pc ≡ s.pc + 4 = g.npc ∙ e in
-    let q : (went s x).npc ≡ (went s x).pc + 4 = (let a = g.npc in omega arith) in (
+    let n = goes_on x s h (omega arith) in (
       λ more. f (went s x) (omega arith) (omega arith),
-      along_pcs P lo hi f xs (went s x) (record {
-        live = g.ending
-            ∙ h.live;
-        npc = q;
-      }) (omega arith) (omega arith) (omega arith),
+      along_pcs P lo hi f xs (went s x) n.1 (omega arith) (omega arith) (omega arith),
     )
 
 pub straight_leads : StraightLeads

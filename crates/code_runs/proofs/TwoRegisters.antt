@@ -109,9 +109,7 @@ module _ (s : State) (count : ℕ) (May : ℕ → Type 0) (a b : ℕ) (c : HasSc
       let p = w.pc in
       let q = w.npc in
       let code_is : code_of w.after.memory ≡ code_of s.memory = ap code_of w.alike.memory ∙ w.code in
-      let here : Says (code_of w.after.memory) w.after.pc instr =
-      subst (λ (z : List Region). Says z w.after.pc instr) (sym code_is)
-      (subst (λ z. Says (code_of s.memory) z instr) (sym w.pc) is.1) in
+      let here : Says (code_of w.after.memory) w.after.pc instr = rw (code_is, w.pc) is.1 in
       let below : n < count = is.0 in
       let one : step_of w.after ≡ next v = says_step w.after instr w.alike.live here ∙ acts in
       record {
@@ -121,68 +119,39 @@ module _ (s : State) (count : ℕ) (May : ℕ → Type 0) (a b : ℕ) (c : HasSc
             (λ some _. record {
               past = omega arith;
               before = omega arith;
-              stores = subst (Stores May s.memory)
-                  (sym w.alike.memory) w.stores;
+              stores = rw w.alike.memory w.stores;
             }));
         silent = subst (λ z. IsSilent s z) (let z : n + 1 ≡ suc n = omega arith in z)
             (silent_then s w.after n 1 w.path.steps w.silent (silent_one w.after (says_puts w.after instr plain here)));
         pc = (let z : v.npc ≡ s.pc + 4 * suc n = omega arith in z);
         npc = (let z : wrapped (v.npc + 4) ≡ s.pc + 4 * suc n + 4 = omega arith in z);
         slot = λ _. refl;
-        alike = record {
-          live = alike.live;
-          window = alike.window;
-          valid = alike.valid;
-          input = alike.input;
-          codes = alike.codes;
-          y_register = alike.y_register;
-          registers = alike.registers;
-          first = alike.first;
-          second = alike.second;
-          others = alike.others;
-          memory = alike.memory;
-        };
+        alike = assumption alike;
         stores = stores;
         code = code;
       }
 
   -- ---- a register written
   alike_first : (m : Memory) (x y v : ℕ) (u : State) → IsAlike s a b m x y u → IsAlike s a b m v y (with_register u a v)
-  alike_first m x y v u h = record {
-    live = h.live;
-    window = h.window;
-    valid = h.valid;
-    input = h.input;
-    codes = h.codes;
-    y_register = h.y_register;
-    registers = length-register_set u.registers u.window a v ∙ h.registers;
-    first = register_in-set u.registers u.window a v h.registers c.first_some;
-    second = register_in-other u.registers u.window a v u.window b
-        (subst (λ w. place_of w a ≢ place_of w b) (sym h.window)
-        (places_differ s.window a b c.window c.first_below c.second_below c.differ)) ∙ h.second;
-    others = λ p na nb. set_stays u.registers u.window a v p (subst (λ w. p ≢ place_of w a) (sym h.window) na)
-        ∙ h.others p na nb;
-    memory = h.memory;
-  }
+  alike_first m x y v u h = assumption (
+    h,
+    length-register_set u.registers u.window a v ∙ h.registers,
+    register_in-set u.registers u.window a v h.registers c.first_some,
+    register_in-other u.registers u.window a v u.window b
+        (rw h.window (places_differ s.window a b c.window c.first_below c.second_below c.differ)) ∙ h.second,
+    λ (p : ℕ) (na : p ≢ place_of s.window a) (nb : p ≢ place_of s.window b). set_stays u.registers u.window a v p (rw h.window na) ∙ h.others p na nb,
+  )
 
   alike_second : (m : Memory) (x y v : ℕ) (u : State) → IsAlike s a b m x y u
       → IsAlike s a b m x v (with_register u b v)
-  alike_second m x y v u h = record {
-    live = h.live;
-    window = h.window;
-    valid = h.valid;
-    input = h.input;
-    codes = h.codes;
-    y_register = h.y_register;
-    registers = length-register_set u.registers u.window b v ∙ h.registers;
-    first = register_in-other u.registers u.window b v u.window a
-        (subst (λ w. place_of w b ≢ place_of w a) (sym h.window)
-        (places_differ s.window b a c.window c.second_below c.first_below (λ e. c.differ (sym e)))) ∙ h.first;
-    second = register_in-set u.registers u.window b v h.registers c.second_some;
-    others = λ p na nb. set_stays u.registers u.window b v p (subst (λ w. p ≢ place_of w b) (sym h.window) nb)
-        ∙ h.others p na nb;
-    memory = h.memory;
-  }
+  alike_second m x y v u h = assumption (
+    h,
+    length-register_set u.registers u.window b v ∙ h.registers,
+    register_in-other u.registers u.window b v u.window a
+        (rw h.window (places_differ s.window b a c.window c.second_below c.first_below (λ e. c.differ (sym e)))) ∙ h.first,
+    register_in-set u.registers u.window b v h.registers c.second_some,
+    λ (p : ℕ) (na : p ≢ place_of s.window a) (nb : p ≢ place_of s.window b). set_stays u.registers u.window b v p (rw h.window nb) ∙ h.others p na nb,
+  )
 
   -- ---- SETHI
   sethi_first : (n : ℕ) (m : Memory) (x y imm v : ℕ) → Works s count May a b n m x y → IsNext s count n (i.Sethi a imm)
