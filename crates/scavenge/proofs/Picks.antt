@@ -1,22 +1,13 @@
 -- The picked registers are different, and as many as are wanted.
 use Rattle.std.proofs.Common.{◌≡◌, ◌≢◌, ℕ, zero, suc, ◌+◌, ◌-◌, ◌<◌, ◌≤◌, ◌⊎◌, inl, inr, Bool, true, false, not, ◌&&◌, ◌||◌, List, [], ◌∷◌, ◌++◌, length, refl, ap, sym, ◌∙◌, subst, arith, length-append, length-take}
 use Rattle.std.specs.Prelude.{if◌then◌else◌, slice_index, filter}
+use Rattle.std.proofs.lemmas.Bool.{and_parts, cases_lt}
 use Rattle.std.proofs.lemmas.Bool.Decides.{nat_tests}
 use Rattle.std.proofs.lemmas.List.{get_or-take, get_or_append_left, get_or-append-add}
 use Rattle.v8_decode.specs.declared.Part.{Part}
 use Rattle.v8_decode.specs.declared.Part.TheVariants as parts
 use Rattle.v8_decode.specs.Parts.{has, is_same}
 use Rattle.scavenge.specs.Picks.{registers, picked, spills, register_count, ArePicked}
-
-split_below : (j k : ℕ) → (j < k) ⊎ (k ≤ j)
-split_below zero zero = inr (omega arith)
-split_below zero (suc k) = inl (omega arith)
-split_below (suc j) zero = inr (omega arith)
-split_below (suc j) (suc k) = go (split_below j k)
-  where
-    go : (j < k) ⊎ (k ≤ j) → (suc j < suc k) ⊎ (suc k ≤ suc j)
-    go (inl h) = inl (omega arith)
-    go (inr h) = inr (omega arith)
 
 -- ---- ascending lists
 abbrev pub Ascends : ℕ → List ℕ → Type 0
@@ -131,14 +122,6 @@ pub registers_count : length registers ≡ 31
 unfolding registers
 registers_count = refl
 
-first_of : (a b : Bool) → (a && b) ≡ true → a ≡ true
-first_of true b e = refl
-first_of false b e = absurd (cc)
-
-second_of : (a b : Bool) → (a && b) ≡ true → b ≡ true
-second_of true b e = e
-second_of false b e = absurd (cc)
-
 of_not : (b : Bool) → not b ≡ true → b ≡ false
 of_not true e = absurd (cc)
 of_not false e = refl
@@ -164,97 +147,62 @@ module _ (dead avoid : List Part) (want : ℕ) (few : register_count avoid ≤ 8
       omega arith
 
   -- each is one of the first list, or of the second
-  in_first : (k : ℕ) → k < want → k < length (filter p registers)
-      → slice_index (picked dead avoid want) k ≡ slice_index (filter p registers) k
-  in_first k b l =
-      get_or-take want (filter p registers ++ filter q registers) k 0 b
-      ∙ get_or_append_left (filter p registers) (filter q registers) 0 k l
+  in_first : (k : ℕ) → k < want → k < length xs → slice_index (picked dead avoid want) k ≡ slice_index xs k
+  in_first k b l = get_or-take want (xs ++ ys) k 0 b ∙ get_or_append_left xs ys 0 k l
 
-  in_second : (j : ℕ) → length (filter p registers) + j < want
-      → slice_index (picked dead avoid want) (length (filter p registers) + j) ≡ slice_index (filter q registers) j
-  in_second j b = get_or-take want (filter p registers ++ filter q registers) (length (filter p registers) + j) 0 b
-      ∙ get_or-append-add (filter p registers) (filter q registers) j 0
+  in_second : (k : ℕ) → k < want → length xs ≤ k
+      → slice_index (picked dead avoid want) k ≡ slice_index ys (k - length xs)
+  in_second k b h =
+      get_or-take want (xs ++ ys) k 0 b
+      ∙ ap (slice_index (xs ++ ys)) (let e : k ≡ length xs + (k - length xs) = omega arith in e)
+      ∙ get_or-append-add xs ys (k - length xs) 0
 
-  firsts : (k : ℕ) → k < length (filter p registers)
-      → (0 < slice_index (filter p registers) k) × (slice_index (filter p registers) k < 32) ×
-      (p (slice_index (filter p registers) k) ≡ true)
-  firsts k l = passing_at p 0 (filter p registers) k (filtered p 0 registers registers_ascend) l
+  firsts : (k : ℕ) → k < length xs → (0 < slice_index xs k) × (slice_index xs k < 32) × (p (slice_index xs k) ≡ true)
+  firsts k l = passing_at p 0 xs k (filtered p 0 registers registers_ascend) l
 
-  seconds : (k : ℕ) → k < length (filter q registers)
-      → (0 < slice_index (filter q registers) k) × (slice_index (filter q registers) k < 32) ×
-      (q (slice_index (filter q registers) k) ≡ true)
-  seconds k l = passing_at q 0 (filter q registers) k (filtered q 0 registers registers_ascend) l
+  seconds : (k : ℕ) → k < length ys → (0 < slice_index ys k) × (slice_index ys k < 32) × (q (slice_index ys k) ≡ true)
+  seconds k l = passing_at q 0 ys k (filtered q 0 registers registers_ascend) l
 
   -- what holds of both holds of each
-  of_both : (P : ℕ → Type 0) → ((k : ℕ) → k < length (filter p registers) → P (slice_index (filter p registers) k))
-      → ((k : ℕ) → k < length (filter q registers) → P (slice_index (filter q registers) k))
-      → (k : ℕ) → k < want → P (slice_index (picked dead avoid want) k)
-  of_both P f g k b = go (split_below k (length (filter p registers)))
-    where
-      go : (k < length (filter p registers)) ⊎ (length (filter p registers) ≤ k)
-          → P (slice_index (picked dead avoid want) k)
-      go (inl l) = subst P (sym (in_first k b l)) (f k l)
-      go (inr l) =
-          let e : k ≡ length (filter p registers) + (k - length (filter p registers)) = omega arith in
-          let n = enough in
-          subst P (sym
-          (ap (slice_index (picked dead avoid want)) e
-          ∙ in_second (k - length (filter p registers)) (subst (λ z. z < want) e b)))
-          (g (k - length (filter p registers)) (omega arith))
+  of_both : (P : ℕ → Type 0) → ((k : ℕ) → k < length xs → P (slice_index xs k))
+      → ((k : ℕ) → k < length ys → P (slice_index ys k)) → (k : ℕ) → k < want → P (slice_index (picked dead avoid want) k)
+  of_both P f g k b = elim (cases_lt k (length xs)) [
+    | inl l ↦ subst P (sym (in_first k b l)) (f k l)
+    | inr l ↦ let n = enough in subst P (sym (in_second k b l)) (g (k - length xs) (omega arith))
+  ]
 
   differ_below : (j k : ℕ) → j < k → k < want
       → slice_index (picked dead avoid want) j ≢ slice_index (picked dead avoid want) k
-  differ_below j k l b e =
-      go (split_below j (length (filter p registers))) (split_below k (length (filter p registers)))
+  differ_below j k l b e = go (cases_lt j (length xs)) (cases_lt k (length xs))
     where
-      n : want ≤ length (filter p registers) + length (filter q registers)
-      n = enough
-
-      second : (m : ℕ) → m < want → length (filter p registers) ≤ m
-          → slice_index (picked dead avoid want) m ≡ slice_index (filter q registers)
-          (m - length (filter p registers))
-      second m c h =
-          let f : m ≡ length (filter p registers) + (m - length (filter p registers)) = omega arith in
-          ap (slice_index (picked dead avoid want)) f
-          ∙ in_second (m - length (filter p registers)) (subst (λ z. z < want) f c)
-
-      go : (j < length (filter p registers)) ⊎ (length (filter p registers) ≤ j)
-          → (k < length (filter p registers)) ⊎ (length (filter p registers) ≤ k) → ⊥
+      go : (j < length xs) ⊎ (length xs ≤ j) → (k < length xs) ⊎ (length xs ≤ k) → ⊥
       go (inl h) (inl i) =
-          let a = ascends_at p 0 (filter p registers) j k (filtered p 0 registers registers_ascend) l i in
+          let a = ascends_at p 0 xs j k (filtered p 0 registers registers_ascend) l i in
           let x = in_first j (omega arith) h in
           let y = in_first k b i in
           omega arith
       go (inl h) (inr i) =
-          let all : want ≤ length (filter p registers) + length (filter q registers) = enough in
-          let same : slice_index (filter p registers) j ≡ slice_index (filter q registers)
-          (k - length (filter p registers)) = sym (in_first j (omega arith) h) ∙ e ∙ second k b i in
-          let x : has dead (parts.Reg (slice_index (filter p registers) j)) ≡ true =
-          first_of (has dead (parts.Reg (slice_index (filter p registers) j)))
-          (not (has avoid (parts.Reg (slice_index (filter p registers) j)))) (firsts j h).2 in
-          let y : has dead (parts.Reg (slice_index (filter q registers) (k - length (filter p registers)))) ≡ false =
-          of_not _ (first_of
-          (not (has dead (parts.Reg (slice_index (filter q registers) (k - length (filter p registers))))))
-          (not (has avoid (parts.Reg (slice_index (filter q registers) (k - length (filter p registers))))))
-          (seconds (k - length (filter p registers)) (omega arith)).2) in
+          let all = enough in
+          let same : slice_index xs j ≡ slice_index ys (k - length xs) = sym (in_first j (omega arith) h) ∙ e ∙ in_second k b i in
+          let x : has dead (parts.Reg (slice_index xs j)) ≡ true = (and_parts _ _ (firsts j h).2).0 in
+          let y : has dead (parts.Reg (slice_index ys (k - length xs))) ≡ false =
+          of_not _ (and_parts _ _ (seconds (k - length xs) (omega arith)).2).0 in
           cc
       go (inr h) (inl i) = omega arith
       go (inr h) (inr i) =
-          let all : want ≤ length (filter p registers) + length (filter q registers) = enough in
-          let a = ascends_at q 0 (filter q registers) (j - length (filter p registers))
-          (k - length (filter p registers)) (filtered q 0 registers registers_ascend) (omega arith)
+          let all = enough in
+          let a = ascends_at q 0 ys (j - length xs) (k - length xs) (filtered q 0 registers registers_ascend) (omega arith)
           (omega arith) in
-          let x = second j (omega arith) h in
-          let y = second k b i in
+          let x = in_second j (omega arith) h in
+          let y = in_second k b i in
           omega arith
 
   differ_both : (j k : ℕ) → j < want → k < want → j ≢ k
       → slice_index (picked dead avoid want) j ≢ slice_index (picked dead avoid want) k
-  differ_both j k a b ne = go (split_below j k)
-    where
-      go : (j < k) ⊎ (k ≤ j) → slice_index (picked dead avoid want) j ≢ slice_index (picked dead avoid want) k
-      go (inl l) = differ_below j k l b
-      go (inr l) = λ e. differ_below k j (let z : k < j = omega arith in z) a (sym e)
+  differ_both j k a b ne = elim (cases_lt j k) [
+    | inl l ↦ differ_below j k l b
+    | inr l ↦ λ e. differ_below k j (omega arith) a (sym e)
+  ]
 
   pub are_picked : ArePicked dead avoid want (picked dead avoid want) (spills dead avoid want)
   are_picked =
@@ -268,9 +216,9 @@ module _ (dead avoid : List Part) (want : ℕ) (few : register_count avoid ≤ 8
         some = of_both (λ r. 0 < r) (λ k l. (firsts k l).0) (λ k l. (seconds k l).0);
         below = of_both (λ r. r < 32) (λ k l. (firsts k l).1) (λ k l. (seconds k l).1);
         differ = differ_both;
-        unavoided = of_both (λ r. has avoid (parts.Reg r) ≡ false) (λ k l. of_not _ (second_of _ _ (firsts k l).2))
-            (λ k l. of_not _ (second_of _ _ (seconds k l).2));
+        unavoided = of_both (λ r. has avoid (parts.Reg r) ≡ false) (λ k l. of_not _ (and_parts _ _ (firsts k l).2).1)
+            (λ k l. of_not _ (and_parts _ _ (seconds k l).2).1);
         dead_first = λ k l. subst (λ r. has dead (parts.Reg r) ≡ true) (sym (in_first k (omega arith) (omega arith)))
-            (first_of _ _ (firsts k (omega arith)).2);
+            (and_parts _ _ (firsts k (omega arith)).2).0;
         few = refl;
       }

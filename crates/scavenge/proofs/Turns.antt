@@ -36,5 +36,4 @@ pub are_picked_in : (dead avoid : List Part) (want spilled : ℕ) (regs : List �
     → take want regs ≡ picked dead avoid want → spilled ≡ spills dead avoid want
     → ArePicked dead avoid want (take want regs) spilled
 are_picked_in dead avoid want spilled regs few low is e =
-    subst (λ (z : List ℕ). ArePicked dead avoid want z spilled) (sym is)
-    (subst (ArePicked dead avoid want (picked dead avoid want)) (sym e) (are_picked dead avoid want few low))
+    rw (is, e) (are_picked dead avoid want few low)
