@@ -42,9 +42,7 @@ module _ (count : ℕ) (m : Memory) (sp : ℕ) where
       let is = drawn.turns in
       let few = drawn.few in
       let same : k * r.amount ≡ suc drawn.more * r.amount = ap (λ n. n * r.amount) is in
-      let all : Way count start end (4 * k) =
-      subst (λ (n : ℕ). Way count (at m sp a (a + 4) NoSlot (holding n sum o7 codes))
-      (at m sp (a + 16) (a + 20) NoSlot (holding 0 (sum + n * r.amount) o7 (left 0))) (4 * n)) (sym is)
+      let all : Way count start end (4 * k) = rw is
       (turns count m sp a r.amount o7 body (omega arith) drawn.small drawn.more sum codes drawn.few
       (omega (arith, same, fits))) in
       as_long count first last (1 + (4 * k + 2)) (4 * k + 3) (omega arith)
@@ -80,9 +78,7 @@ module _ (count : ℕ) (m : Memory) (sp : ℕ) where
   comes s pc sum k pc2 sum2 k2 o7 codes a b c w = record {
     o7 = o7;
     codes = codes;
-    way = as_long count s (at m sp pc2 (pc2 + 4) NoSlot (holding 0 sum2 o7 codes)) k k2 c
-        (subst (λ (n : ℕ). Way count s (at m sp pc2 (pc2 + 4) NoSlot (holding 0 n o7 codes)) k) b
-        (subst (λ (n : ℕ). Way count s (at m sp n (n + 4) NoSlot (holding 0 sum o7 codes)) k) a w));
+    way = rw (← c, ← b, ← a) w;
   }
 
   -- all calls from one on

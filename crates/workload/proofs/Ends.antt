@@ -63,7 +63,7 @@ module _ (count : ℕ) (m : Memory) (sp : ℕ) where
       let first = calls count m sp rs 0 0x10054 (0x10054 + 4 * first_word count 0) 0 0 codes drawn
       (omega (arith, size)) few
       (omega arith) (omega arith)
-      (subst (λ (n : ℕ). Stand count m 0x10054 (flat_map (call_of count) (range_with_len 0 n))) (sym size) caller.first)
+      (rw size caller.first)
       (moved_to count m _ (0x10054 + 4 * first_word count 0) (flat_map routine_code rs)
       (omega (arith, long)) all.second)
       (omega arith) in
@@ -107,21 +107,19 @@ module _ (count : ℕ) (s : State) (sum k : ℕ) (e : Ends count s sum k) where
   holds_at = ap (λ (z : State). register_of z 8) e.way.arrives ∙ e.holds
 
   pub in_text : (n : ℕ) → IsTextWord count (run s n).pc
-  in_text n = by (cases_lt n k)
-    where
-      by : (n < k) ⊎ (k ≤ n) → IsTextWord count (run s n).pc
-      by (inl early) = (e.way.during n early).inside
-      by (inr late) = subst (λ (z : State). IsTextWord count z.pc) (sym (over n late)) e.inside
+  in_text n = elim (cases_lt n k) [
+    | inl early ↦ (e.way.during n early).inside
+    | inr late ↦ subst (λ (z : State). IsTextWord count z.pc) (sym (over n late)) e.inside
+  ]
 
   none_judged : judged_in e.last (instr_at e.last) ≡ []
   none_judged = ap (λ x. judged_in e.last (decoded x (fetch_of e.last.memory e.last.pc))) e.ending
 
   pub judges_none : (n : ℕ) → judged_in (run s n) (instr_at (run s n)) ≡ []
-  judges_none n = by (cases_lt n k)
-    where
-      by : (n < k) ⊎ (k ≤ n) → judged_in (run s n) (instr_at (run s n)) ≡ []
-      by (inl early) = (e.way.during n early).judges_none
-      by (inr late) = subst (λ (z : State). judged_in z (instr_at z) ≡ []) (sym (over n late)) none_judged
+  judges_none n = elim (cases_lt n k) [
+    | inl early ↦ (e.way.during n early).judges_none
+    | inr late ↦ subst (λ (z : State). judged_in z (instr_at z) ≡ []) (sym (over n late)) none_judged
+  ]
 
   apart : (pc : ℕ) → IsTextWord count pc → (page : Span) → IsApart page (text_span count)
       → IsApart page (record { from = pc; count = 1 })
@@ -136,5 +134,5 @@ module _ (count : ℕ) (s : State) (sum k : ℕ) (e : Ends count s sum k) where
   pub untouched : (pages : List Span) → IsApartFromAll pages (text_span count) → (n : ℕ) → IsUntouched pages s n
   untouched pages all n = record {
     outside = λ j l. all_apart (run s j).pc (in_text j) pages all;
-    unjudged = λ j l. subst (λ (spans : List Span). AllApart pages spans) (sym (judges_none j)) tt;
+    unjudged = λ j l. rw (judges_none j) tt;
   }

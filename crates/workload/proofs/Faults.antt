@@ -86,19 +86,8 @@ module _ (size : ℕ) (some : 4 ≤ size) (few : size ≤ 2 ^ 22) where
       let some_text : nat_eq (text_count (text_entry size ∷ [])) 0 ≡ false = rw (r.count) refl in
       let one_text : nat_lt 1 (text_count (text_entry size ∷ [])) ≡ false = rw (r.count) refl in
       let memory : nat_lt (128 * 2 ^ 20) (memory_size (text_entry size ∷ [])) ≡ false =
-      rw (r.memory) (le-ltb (128 * 2 ^ 20) size (omega arith)) in (
-        refl,
-        (
-          r.bytes,
-          (
-            r.room,
-            (
-              r.order,
-              (r.align, (some_text, (one_text, (r.shape, (r.large, (r.entry, (memory, tt))))))),
-            ),
-          ),
-        ),
-      )
+      rw (r.memory) (le-ltb (128 * 2 ^ 20) size (omega arith)) in
+      search (r, some_text, one_text, memory)
 
   load_none : NoneHolds (load_rows (84 + size) (text_entry size ∷ []))
   load_none =

@@ -78,9 +78,7 @@ table_read : (ws : List ℕ) → 4 * length ws < 2 ^ 32 → e_phoff (file_of ws)
     → program_headers (file_of ws) ≡ text_entry (4 * length ws) ∷ []
 unfolding program_headers
 table_read ws fits at count =
-    ap (λ n. headers_from (file_of ws) n (e_phnum (file_of ws))) at
-    ∙ ap (λ n. headers_from (file_of ws) 52 n) count
-    ∙ ap (λ h. h ∷ []) (entry_read ws fits)
+    rw (at, count, entry_read ws fits) refl
 
 pub header_facts : (ws : List ℕ) → 4 * length ws < 2 ^ 32 → HeaderFacts ws
 header_facts ws fits =

@@ -23,10 +23,7 @@ code_bytes-append xs ys = ap bytes_of (map-append word_of xs ys) ∙ bytes_of-ap
 pub moved : (now next whole words : List ℕ) (piece rest : List Instr) → words ≡ map word_of piece
     → next ≡ now ++ bytes_of words → now ++ code_bytes (piece ++ rest) ≡ whole → next ++ code_bytes rest ≡ whole
 moved now next whole words piece rest is added before =
-    ap (λ bytes. bytes ++ code_bytes rest) (added ∙ ap (λ ws. now ++ bytes_of ws) is)
-    ∙ append_assoc now (code_bytes piece) (code_bytes rest)
-    ∙ ap (λ bytes. now ++ bytes) (sym (code_bytes-append piece rest))
-    ∙ before
+    rw (added, is, append_assoc, ← code_bytes-append piece rest) before
 
 pub one_call : (count routine : ℕ) → routine < count
     → flat_map (call_of count) (range_with_len routine (count - routine)) ++ exit_code
@@ -34,15 +31,14 @@ pub one_call : (count routine : ℕ) → routine < count
     (range_with_len (routine + 1) (count - (routine + 1))) ++ exit_code)
 one_call count routine below =
     let more : count - routine ≡ suc (count - (routine + 1)) = omega arith in
-    ap (λ n. flat_map (call_of count) (range_with_len routine n) ++ exit_code) more
+    rw more refl
 
 pub one_routine : (count done x next : ℕ) → done < count → next ≡ stirred (stirred x)
     → flat_map routine_code (routines_from (count - done) x)
     ≡ routine_code (routine_from x) ++ flat_map routine_code (routines_from (count - (done + 1)) next)
 one_routine count done x next below is =
     let more : count - done ≡ suc (count - (done + 1)) = omega arith in
-    ap (λ n. flat_map routine_code (routines_from n x)) more
-    ∙ ap (λ y. routine_code (routine_from x) ++ flat_map routine_code (routines_from (count - (done + 1)) y)) (sym is)
+    rw (more, is) refl
 
 -- ---- the whole file
 

@@ -30,13 +30,9 @@ are_drawn (suc count) x = (
 -- a routine adds less than 1,024
 small_sum : (r : Routine) → IsDrawn r → routine_sum r ≤ 1024
 small_sum r d =
-    let turns = d.turns in
-    let few = d.few in
-    let small = d.small in
-    let most : r.turns ≤ 16 = omega arith in
-    let below : r.amount ≤ 64 = omega arith in
-    let product : r.turns * r.amount ≤ 16 * 64 = mul-le-mul most below in
-    product
+    let most : r.turns ≤ 16 = omega (arith, d.turns, d.few) in
+    let below : r.amount ≤ 64 = omega (arith, d.small) in
+    mul-le-mul most below
 
 small_sums : (rs : List Routine) → AreDrawn rs → sum_by routine_sum rs ≤ 1024 * length rs
 small_sums [] d = omega arith
@@ -86,7 +82,7 @@ module _ (number count : ℕ) (some : 1 ≤ count) (few : count ≤ 100000) wher
       let size = length-routines count number in
       let words = word_count number count in
       let sums = small_sums rs drawn in
-      subst (λ (s : State). Ends count s (total number count) (step_count number count)) (sym starts)
+      rw starts
       (whole_run count m sp rs clear drawn size few
       (text_stands rs count (program_name ∷ []) drawn some few words) (omega (arith, sums, size)))
 

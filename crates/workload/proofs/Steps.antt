@@ -74,8 +74,7 @@ module _ (m : Memory) (sp : ℕ) where
       → act (at m sp pc npc NoSlot h) (i.Call (pos distance))
       ≡ at m sp npc to Taken (record { g1 = h.g1; g2 = h.g2; o0 = h.o0; o7 = pc; codes = h.codes })
   unfolding act call_step
-  call_acts pc npc to distance h e =
-      ap (λ n. at m sp npc n Taken (record { g1 = h.g1; g2 = h.g2; o0 = h.o0; o7 = pc; codes = h.codes })) e
+  call_acts pc npc to distance h e = rw e refl
 
   -- mov value,%g2
   pub count_acts : (pc npc next value : ℕ) (slot : Slot) (h : Held) → wrapped (npc + 4) ≡ next → value < 2 ^ 32
@@ -83,45 +82,27 @@ module _ (m : Memory) (sp : ℕ) where
       ≡ at m sp npc next NoSlot (record { g1 = h.g1; g2 = value; o0 = h.o0; o7 = h.o7; codes = h.codes })
   unfolding act alu_step alu_of
   count_acts pc npc next value slot h e fits =
-      ap (λ n. at m sp npc n NoSlot (record {
-        g1 = h.g1;
-        g2 = bit_or 0 (wrapped (cast_unsigned w32 (pos value)));
-        o0 = h.o0;
-        o7 = h.o7;
-        codes = h.codes;
-      })) e
-      ∙ ap (λ n. at m sp npc next NoSlot (record { g1 = h.g1; g2 = n; o0 = h.o0; o7 = h.o7; codes = h.codes }))
-      (or_zero_l (wrapped (cast_unsigned w32 (pos value))) ∙ immediate value fits)
+      rw (e, or_zero_l (wrapped (cast_unsigned w32 (pos value))), immediate value fits) refl
 
   -- mov 1,%g1
   pub number_acts : (pc npc next : ℕ) (slot : Slot) (h : Held) → wrapped (npc + 4) ≡ next
       → act (at m sp pc npc slot h) (move 1 1)
       ≡ at m sp npc next NoSlot (record { g1 = 1; g2 = h.g2; o0 = h.o0; o7 = h.o7; codes = h.codes })
   unfolding act alu_step alu_of
-  number_acts pc npc next slot h e =
-      ap (λ n. at m sp npc n NoSlot (record { g1 = 1; g2 = h.g2; o0 = h.o0; o7 = h.o7; codes = h.codes })) e
+  number_acts pc npc next slot h e = rw e refl
 
   pub add_acts : (pc npc next amount sum : ℕ) (slot : Slot) (h : Held) → wrapped (npc + 4) ≡ next
       → wrapped (h.o0 + wrapped (cast_unsigned w32 (pos amount)) + 0) ≡ sum
       → act (at m sp pc npc slot h) (i.Alu ops.ADD false 8 8 (Imm (pos amount)))
       ≡ at m sp npc next NoSlot (record { g1 = h.g1; g2 = h.g2; o0 = sum; o7 = h.o7; codes = h.codes })
   unfolding act alu_step alu_of
-  add_acts pc npc next amount sum slot h e f =
-      ap (λ n. at m sp npc n NoSlot (record {
-        g1 = h.g1;
-        g2 = h.g2;
-        o0 = wrapped (h.o0 + wrapped (cast_unsigned w32 (pos amount)) + 0);
-        o7 = h.o7;
-        codes = h.codes;
-      })) e
-      ∙ ap (λ n. at m sp npc next NoSlot (record { g1 = h.g1; g2 = h.g2; o0 = n; o7 = h.o7; codes = h.codes })) f
+  add_acts pc npc next amount sum slot h e f = rw (e, f) refl
 
   count_down : (pc npc next n : ℕ) (slot : Slot) (h : Held) → wrapped (npc + 4) ≡ next
       → alu_step (at m sp pc npc slot h) 2 (out n (left n) 0)
       ≡ at m sp npc next NoSlot (record { g1 = h.g1; g2 = n; o0 = h.o0; o7 = h.o7; codes = left n })
   unfolding alu_step
-  count_down pc npc next n slot h e =
-      ap (λ (k : ℕ). at m sp npc k NoSlot (record { g1 = h.g1; g2 = n; o0 = h.o0; o7 = h.o7; codes = left n })) e
+  count_down pc npc next n slot h e = rw e refl
 
   -- subcc %g2,1,%g2
   pub subtract_acts : (pc npc next n : ℕ) (slot : Slot) (h : Held) → wrapped (npc + 4) ≡ next → h.g2 ≡ suc n
@@ -131,26 +112,19 @@ module _ (m : Memory) (sp : ℕ) where
   unfolding act
   subtract_acts pc npc next n slot h e turns few =
       ap (λ a. alu_step (at m sp pc npc slot h) 2 (alu_of ops.SUB true a 1 h.codes 0)) turns
-      ∙ ap (alu_step (at m sp pc npc slot h) 2) (subtracted n h.codes few)
-      ∙ count_down pc npc next n slot h e
+      ∙ rw (subtracted n h.codes few) (count_down pc npc next n slot h e)
 
   -- bne, with turns left or without
   pub again_acts : (pc npc to : ℕ) (h : Held) → wrapped (pc + 4 * cast_unsigned w32 (negsuc 1)) ≡ to
       → h.codes.z ≡ false
       → act (at m sp pc npc NoSlot h) (i.Branch 9 false (negsuc 1)) ≡ at m sp npc to Taken h
   unfolding act branch_step holds_of
-  again_acts pc npc to h e more =
-      ap (λ z. branched (not z) false false (at m sp pc npc NoSlot h) (wrapped (pc + 4 * cast_unsigned w32 (negsuc 1))))
-      more
-      ∙ ap (λ n. at m sp npc n Taken h) e
+  again_acts pc npc to h e more = rw (more, e) refl
 
   pub done_acts : (pc npc next : ℕ) (h : Held) → wrapped (npc + 4) ≡ next → h.codes.z ≡ true
       → act (at m sp pc npc NoSlot h) (i.Branch 9 false (negsuc 1)) ≡ at m sp npc next Untaken h
   unfolding act branch_step holds_of
-  done_acts pc npc next h e none =
-      ap (λ z. branched (not z) false false (at m sp pc npc NoSlot h) (wrapped (pc + 4 * cast_unsigned w32 (negsuc 1))))
-      none
-      ∙ ap (λ n. at m sp npc n Untaken h) e
+  done_acts pc npc next h e none = rw (none, e) refl
 
   -- retl
   pub return_acts : (pc npc to : ℕ) (h : Held) → wrapped (h.o7 + 8) ≡ to → to % 4 ≡ 0

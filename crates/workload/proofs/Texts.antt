@@ -21,9 +21,7 @@ words_back : (code : List Instr) → AreFit code
     → words_of (length (map word_of code)) (bytes_of (map word_of code)) ≡ map word_of code
 words_back [] fit = refl
 words_back (x ∷ code) fit =
-    ap (λ (w : ℕ). w ∷ words_of (length (map word_of code)) (bytes_of (map word_of code)))
-    (big_number-reads_back 4 (word_of x) (bytes_of (map word_of code)) fit.0.small)
-    ∙ ap (λ ws. word_of x ∷ ws) (words_back code fit.1)
+    cc (big_number-reads_back 4 (word_of x) (bytes_of (map word_of code)) fit.0.small, words_back code fit.1)
 
 module _ (ws : List ℕ) (some : 1 ≤ length ws) (few : length ws ≤ 2 ^ 20) where
   memory : take (4 * length ws) (bytes_of ws) ++ replicate (4 * length ws - 4 * length ws) 0 ≡ bytes_of ws
@@ -39,14 +37,7 @@ module _ (ws : List ℕ) (some : 1 ≤ length ws) (few : length ws ≤ 2 ^ 20) w
   text_read =
       let facts = header_facts ws (omega arith) in
       let quarter : 4 * length ws / 4 ≡ length ws = omega arith in
-      ap (λ hs. option_map_or (text_from (file_of ws)) (text_header hs) no_text) facts.entries
-      ∙ ap (λ h. option_map_or (text_from (file_of ws)) h no_text)
-      (text_is_first (4 * length ws) (omega arith) (omega arith))
-      ∙ ap (λ (n : ℕ). record {
-        start = 0x10054;
-        words = words_of n (take (4 * length ws) (bytes_of ws) ++ replicate (4 * length ws - 4 * length ws) 0);
-      }) quarter
-      ∙ ap (λ bytes. record { start = 0x10054; words = words_of (length ws) bytes }) memory
+      rw (facts.entries, text_is_first (4 * length ws) (omega arith) (omega arith), quarter, memory) refl
 
 pub generated_holds_its_code : GeneratedHoldsItsCode
 unfolding image_of generated

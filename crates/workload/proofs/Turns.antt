@@ -90,7 +90,7 @@ module _ (count : ℕ) (m : Memory) (sp a amount o7 : ℕ) (body : Body count m 
       let s = at m sp a (a + 4) NoSlot (holding 1 sum o7 codes) in
       let t = at m sp (a + 8) (a + 12) NoSlot (holding 0 (sum + amount) o7 (left 0)) in
       let u = at m sp (a + 16) (a + 20) NoSlot (holding 0 (sum + amount) o7 (left 0)) in
-      subst (λ (o0 : ℕ). Way count s (at m sp (a + 16) (a + 20) NoSlot (holding 0 o0 o7 (left 0))) 4) once
+      rw (← once)
       (follows count s t u 2 2 (counted 0 sum codes few (omega arith))
       (past (holding 0 (sum + amount) o7 (left 0)) refl))
   turns (suc n) sum codes few fits =
@@ -100,8 +100,7 @@ module _ (count : ℕ) (m : Memory) (sp a amount o7 : ℕ) (body : Body count m 
       let t = at m sp (a + 8) (a + 12) NoSlot (holding (suc n) (sum + amount) o7 (left (suc n))) in
       let u = at m sp a (a + 4) NoSlot (holding (suc n) (sum + amount) o7 (left (suc n))) in
       let v = at m sp (a + 16) (a + 20) NoSlot (holding 0 (sum + amount + suc n * amount) o7 (left 0)) in
-      subst (λ (o0 : ℕ). Way count s (at m sp (a + 16) (a + 20) NoSlot (holding 0 o0 o7 (left 0)))
-      (4 * suc (suc n))) all
+      rw (← all)
       (as_long count s v (2 + (2 + 4 * suc n)) (4 * suc (suc n)) (omega arith)
       (follows count s t v 2 (2 + 4 * suc n) (counted (suc n) sum codes few (omega arith))
       (follows count t u v 2 (4 * suc n)

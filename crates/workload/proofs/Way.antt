@@ -65,10 +65,7 @@ no_way count s = record { arrives = refl; during = λ j l. absurd (omega arith) 
 judges : (s : State) (x : Instr) → s.ending ≡ None → fetch_of s.memory s.pc ≡ Some (word_of x)
     → decode_of (word_of x) ≡ x → judged_by s x ≡ [] → judged_in s (instr_at s) ≡ []
 judges s x live fetched decodes none =
-    ap (λ e. judged_in s (decoded e (fetch_of s.memory s.pc))) live
-    ∙ ap (λ w. judged_in s (decoded None w)) fetched
-    ∙ ap (judged_by s) decodes
-    ∙ none
+    ap (λ e. judged_in s (decoded e (fetch_of s.memory s.pc))) live ∙ rw (fetched, decodes) none
 
 pub good : (count : ℕ) (s : State) (x : Instr) → s.ending ≡ None → Says count s.memory s.pc x → judged_by s x ≡ []
     → IsGood count s
@@ -85,24 +82,22 @@ pub one : (count : ℕ) (s t : State) (x : Instr) → s.ending ≡ None → Says
     → act s x ≡ t → Way count s t 1
 one count s t x live says none acts = record {
   arrives = steps s x count live says ∙ acts;
-  during = λ j l. let zero : j ≡ 0 = omega arith in subst (λ (k : ℕ). IsGood count (run s k)) (sym zero)
-      (good count s x live says none);
+  during = λ j l. let zero : j ≡ 0 = omega arith in rw zero (good count s x live says none);
 }
 
 pub follows : (count : ℕ) (s t u : State) (k l : ℕ) → Way count s t k → Way count t u l → Way count s u (k + l)
 follows count s t u k l w v = record {
   arrives = (let e : k + l ≡ l + k = omega arith in ap (run s) e) ∙ run_add s k l ∙ ap (λ z. run z l) w.arrives
       ∙ v.arrives;
-  during = λ j b. go j b (cases_lt j k);
-}
-  where
-    go : (j : ℕ) → j < k + l → (j < k) ⊎ (k ≤ j) → IsGood count (run s j)
-    go j b (inl early) = w.during j early
-    go j b (inr late) =
+  during = λ j b. elim (cases_lt j k) [
+    | inl early ↦ w.during j early
+    | inr late ↦
         let e : run s j ≡ run t (j - k) =
         (let f : j ≡ (j - k) + k = omega arith in ap (run s) f) ∙ run_add s k (j - k)
         ∙ ap (λ z. run z (j - k)) w.arrives in
-        subst (IsGood count) (sym e) (v.during (j - k) (omega arith))
+        rw e (v.during (j - k) (omega arith))
+  ];
+}
 
 pub as_long : (count : ℕ) (s t : State) (k l : ℕ) → k ≡ l → Way count s t k → Way count s t l
 as_long count s t k l e w = subst (λ (n : ℕ). Way count s t n) e w
