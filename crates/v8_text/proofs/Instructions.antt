@@ -17,13 +17,13 @@ use Rattle.v8_encode.specs.Encoding.{fits_signed, has_word, op2_fits}
 use Rattle.v8_text.specs.declared.names.Name.{Name}
 use Rattle.v8_text.specs.declared.names.Name.TheVariants as n
 use Rattle.v8_text.specs.Texts.{alu_text, branch_text, comma, instr_text, load_text, named, number_text, operands, loaded, sources, store_text, stored, target_of, trap_text}
-use Rattle.v8_text.specs.Parts.{displacement_of, instr_in, instr_of, loaded_of, name_of, op2_of, operands_of, read_y_of, sethi_of, sources_of, stored_of, with_operands, with_sources, write_y_of}
+use Rattle.v8_text.specs.Parts.{displacement_of, instr_in, instr_of, loaded_of, joined_of, name_of, single_of, op2_of, operands_of, read_y_of, sethi_of, sources_of, stored_of, with_operands, with_sources, write_y_of}
 use Rattle.v8_text.proofs.Found.{text_is}
 use Rattle.v8_text.proofs.Integers.{op2_read}
 use Rattle.v8_text.proofs.Rows.{AreFit, loaded_back, loaded_read, operands_back, operands_read, read_y_back, sethi_back, sources_back, sources_read, stored_back, stored_read, write_y_back}
 use Rattle.v8_text.proofs.Plain.{alu_plain, branch_plain, is_plain, load_plain, plain_whole, store_plain, trap_plain}
 use Rattle.v8_text.proofs.Targets.{displacement_back, displacement_read}
-use Rattle.v8_text.proofs.Named.{alu_back, branch_back, load_back, name_read, name_text, singles, store_back, trap_back}
+use Rattle.v8_text.proofs.Named.{alu_back, branch_back, load_back, name_read, name_text, store_back, trap_back}
 
 -- ---- a text with operands
 
@@ -75,9 +75,9 @@ stbar_back at = refl
 -- what is written is read
 pub instr_back : (at : ℕ) (instr : Instr) → at < 2 ^ 32 → is_in_range instr ≡ true → has_word instr ≡ true
     → instr_of at (instr_text at instr) ≡ Some instr
-unfolding instr_in
+unfolding instr_in name_of joined_of single_of
 instr_back at (i.Sethi rd imm22) low range has =
-    named_back at (codes "sethi") _ n.Sethi _ refl singles.sethi
+    named_back at (codes "sethi") _ n.Sethi _ refl refl
     (sethi_back rd imm22 (ltb-true rd 32 range) (ltb-true imm22 (2 ^ 22) has))
 instr_back at (i.Branch cond annul disp22) low range has =
     let small = ltb-true cond 16 range in
@@ -85,29 +85,29 @@ instr_back at (i.Branch cond annul disp22) low range has =
     (branch_back cond annul small)
     (ap (option_map (i.Branch cond annul)) (displacement_back at disp22 low (wider disp22 has)))
 instr_back at (i.Call disp30) low range has =
-    named_back at (codes "call") _ n.Call _ refl singles.call (ap (option_map i.Call) (displacement_back at disp30 low has))
+    named_back at (codes "call") _ n.Call _ refl refl (ap (option_map i.Call) (displacement_back at disp30 low has))
 instr_back at (i.Alu op cc rd rs1 op2) low range has =
     let parts = and_parts (has_form op cc) (op2_fits op2) has in
     named_back at (alu_text op cc) _ (n.Alu op cc) _ (alu_plain op cc) (alu_back op cc parts.0)
     (three (i.Alu op cc) (operands_back rd rs1 op2) range parts.1)
 instr_back at (i.ReadY rd) low range has =
-    named_back at (codes "rd") _ n.ReadY _ refl singles.read_y (read_y_back rd (ltb-true rd 32 range))
+    named_back at (codes "rd") _ n.ReadY _ refl refl (read_y_back rd (ltb-true rd 32 range))
 instr_back at (i.WriteY rs1 op2) low range has =
-    named_back at (codes "wr") _ n.WriteY _ refl singles.write_y (write_y_back rs1 op2 (fit rs1 op2 range has))
+    named_back at (codes "wr") _ n.WriteY _ refl refl (write_y_back rs1 op2 (fit rs1 op2 range has))
 instr_back at (i.Jmpl rd rs1 op2) low range has =
-    named_back at (codes "jmpl") _ n.Jmpl _ refl singles.jmpl (three i.Jmpl (operands_back rd rs1 op2) range has)
+    named_back at (codes "jmpl") _ n.Jmpl _ refl refl (three i.Jmpl (operands_back rd rs1 op2) range has)
 instr_back at (i.Ticc cond rs1 op2) low range has =
     let parts = and_parts (nat_lt cond 16) (operands_in_range rs1 op2) range in
     let small = ltb-true cond 16 parts.0 in
     named_back at (trap_text cond) _ (n.Ticc cond) _ (trap_plain cond small) (trap_back cond small)
     (two (i.Ticc cond) rs1 op2 parts.1 has)
 instr_back at (i.Flush rs1 op2) low range has =
-    named_back at (codes "flush") _ n.Flush _ refl singles.flush (two i.Flush rs1 op2 range has)
+    named_back at (codes "flush") _ n.Flush _ refl refl (two i.Flush rs1 op2 range has)
 instr_back at i.Stbar low range has = stbar_back at
 instr_back at (i.Save rd rs1 op2) low range has =
-    named_back at (codes "save") _ n.Save _ refl singles.save (three i.Save (operands_back rd rs1 op2) range has)
+    named_back at (codes "save") _ n.Save _ refl refl (three i.Save (operands_back rd rs1 op2) range has)
 instr_back at (i.Restore rd rs1 op2) low range has =
-    named_back at (codes "restore") _ n.Restore _ refl singles.restore (three i.Restore (operands_back rd rs1 op2) range has)
+    named_back at (codes "restore") _ n.Restore _ refl refl (three i.Restore (operands_back rd rs1 op2) range has)
 instr_back at (i.Load kind rd rs1 op2) low range has =
     let parts = and_parts (has_even_pair (i.Load kind rd rs1 op2)) (op2_fits op2) has in
     named_back at (load_text kind) _ (n.Load kind) _ (load_plain kind) (load_back kind)
@@ -117,9 +117,9 @@ instr_back at (i.Store kind rd rs1 op2) low range has =
     named_back at (store_text kind) _ (n.Store kind) _ (store_plain kind) (store_back kind)
     (three (i.Store kind) (stored_back rd rs1 op2) range parts.1)
 instr_back at (i.Ldstub rd rs1 op2) low range has =
-    named_back at (codes "ldstub") _ n.Ldstub _ refl singles.ldstub (three i.Ldstub (loaded_back rd rs1 op2) range has)
+    named_back at (codes "ldstub") _ n.Ldstub _ refl refl (three i.Ldstub (loaded_back rd rs1 op2) range has)
 instr_back at (i.Swap rd rs1 op2) low range has =
-    named_back at (codes "swap") _ n.Swap _ refl singles.swap (three i.Swap (loaded_back rd rs1 op2) range has)
+    named_back at (codes "swap") _ n.Swap _ refl refl (three i.Swap (loaded_back rd rs1 op2) range has)
 instr_back at instr low range has = absurd (true≢false (sym has))
 
 -- ---- and nothing else

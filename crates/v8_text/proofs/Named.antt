@@ -91,40 +91,6 @@ unfolding name_of joined_of single_of
 store_back stores.ST = refl
 store_back kind = refl
 
--- of the names that stand for one instruction
-abbrev IsSingle : Name → Type 0
-IsSingle name = name_of (name_text name) ≡ Some name
-
-pub record Singles : Type 0 where
-  pub sethi : IsSingle n.Sethi
-  pub call : IsSingle n.Call
-  pub jmpl : IsSingle n.Jmpl
-  pub save : IsSingle n.Save
-  pub restore : IsSingle n.Restore
-  pub read_y : IsSingle n.ReadY
-  pub write_y : IsSingle n.WriteY
-  pub flush : IsSingle n.Flush
-  pub ldstub : IsSingle n.Ldstub
-  pub swap : IsSingle n.Swap
-  -- and that of a number stands for none
-  pub raw : name_of (codes ".word") ≡ None
-
-pub singles : Singles
-unfolding name_of joined_of single_of
-singles = record {
-  sethi = refl;
-  call = refl;
-  jmpl = refl;
-  save = refl;
-  restore = refl;
-  read_y = refl;
-  write_y = refl;
-  flush = refl;
-  ldstub = refl;
-  swap = refl;
-  raw = refl;
-}
-
 -- ---- and no others
 
 found_in : {A : Type 0} (test : A → Bool) (xs : List A) (x : A) → find test xs ≡ Some x → test x ≡ true

@@ -10,12 +10,11 @@ use Rattle.v8_decode.specs.Words.{decode_of}
 use Rattle.v8_decode.proofs.Rows.{decode_of-ranges}
 use Rattle.v8_encode.specs.Encoding.{encode_of, has_word, word_of}
 use Rattle.v8_text.specs.Texts.{instr_text, is_spelled, is_word, named, number_text, raw_text, word_text}
-use Rattle.v8_text.specs.Parts.{instr_of, number_in, raw_of, unspelled, word_in}
+use Rattle.v8_text.specs.Parts.{instr_of, joined_of, name_of, single_of, number_in, raw_of, unspelled, word_in}
 use Rattle.v8_text.specs.Laws.{TextsReadBack}
 use Rattle.v8_text.proofs.Found.{text_is}
 use Rattle.v8_text.proofs.Plain.{hex_plain, instr_whole, named_whole}
 use Rattle.v8_text.proofs.Targets.{number_in_back, number_in_read}
-use Rattle.v8_text.proofs.Named.{singles}
 use Rattle.v8_text.proofs.Instructions.{instr_back, instr_read}
 
 -- ---- words that are told as instructions
@@ -37,9 +36,9 @@ spelled_back at w low is =
 -- ---- words that are told as numbers
 
 no_instr : (at w : ℕ) → instr_of at (raw_text w) ≡ None
-unfolding instr_of
+unfolding instr_of name_of joined_of single_of
 no_instr at w =
-    rw (split_back 32 (codes ".word") (number_text w) refl, singles.raw) refl
+    rw (split_back 32 (codes ".word") (number_text w) refl) refl
 
 raw_back : (at w : ℕ) → w < 2 ^ 32 → is_spelled w ≡ false → word_in at (raw_text w) ≡ Some w
 unfolding word_in raw_of
