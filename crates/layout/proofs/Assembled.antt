@@ -22,14 +22,10 @@ use Rattle.layout.proofs.Laying.{exits_lead, follows, item_is, whole_is}
 use Rattle.layout.proofs.Listed.{items_at, from_append, split_at, start_at, before_absent}
 use Rattle.layout.proofs.Widening.{offset_more, rises}
 use Rattle.layout.proofs.Emitted.{near_enough}
-use Rattle.layout.proofs.Standing.{code_length, has_code, item_stands, GoesTo, IsNextAt, IsNearTo}
+use Rattle.layout.proofs.Standing.{code_length, get_rest, has_code, item_stands, GoesTo, IsNextAt, IsNearTo}
 use Rattle.layout.proofs.Ranging.{seen, AreStill, piece_ranges, seen_both, count_more, order_ascends, order_finds, AllOf, all_then, at_next, at_this, get_low, one_of, piece_made}
 
 -- ---- lists
-
-get_rest : (xs ys : List Entry) (j : ℕ) → slice_get (xs ++ ys) (length xs + j) ≡ slice_get ys j
-get_rest [] ys j = ap (slice_get ys) (let e : 0 + j ≡ j = omega arith in e)
-get_rest (x ∷ xs) ys j = cc ((let e : suc (length xs) + j ≡ suc (length xs + j) = omega arith in e), get_rest xs ys j)
 
 get_item : (items : List Item) (ys : List Entry) (n : ℕ) (x : Item) → slice_get items n ≡ Some x
     → slice_get (map en.Item items ++ ys) n ≡ Some (en.Item x)
@@ -106,9 +102,7 @@ module _ (pieces : List (List Item)) (leads : AllLead pieces) where
         arith,
         s.start,
       ) in
-      ap (slice_get (entries_of pieces)) e
-      ∙ ap (λ (xs : List Entry). slice_get xs (length (entries_from pieces s.before) + suc n)) s.entries
-      ∙ get_rest (entries_from pieces s.before) _ (suc n)
+      rw (e, s.entries) (get_rest (entries_from pieces s.before) _ (suc n))
 
   pub entry_is : (k n : ℕ) (x : Item) → item_at pieces k n ≡ Some x
       → slice_get (entries_of pieces) (start_of (entries_of pieces) k + 1 + n) ≡ Some (en.Item x)
@@ -121,9 +115,7 @@ module _ (pieces : List (List Item)) (leads : AllLead pieces) where
   start_entry k l =
       let s = piece_is_at k l in
       let e : start_of (entries_of pieces) k ≡ length (entries_from pieces s.before) + 0 = omega (arith, s.start) in
-      ap (slice_get (entries_of pieces)) e
-      ∙ ap (λ (xs : List Entry). slice_get xs (length (entries_from pieces s.before) + 0)) s.entries
-      ∙ get_rest (entries_from pieces s.before) _ 0
+      rw (e, s.entries) (get_rest (entries_from pieces s.before) _ 0)
 
   pub piece_inside : (k : ℕ) → k < length pieces
       → start_of (entries_of pieces) k + 1 + length (items_at pieces k) ≤ length (entries_of pieces)
@@ -150,7 +142,17 @@ module _ (pieces : List (List Item)) (leads : AllLead pieces) where
   jump_next : (k n : ℕ) (x : Item) (to : PieceNo) → item_at pieces k n ≡ Some x
       → leads_next to (slice_get (entries_of pieces) (suc (start_of (entries_of pieces) k + 1 + n))) ≡ true
       → suc (start_of (entries_of pieces) k + 1 + n) ≡ start_of (entries_of pieces) to.0
-  jump_next k n x to e h = by (cases_lt (suc n) (length (items_at pieces k)))
+  jump_next k n x to e h = elim (cases_lt (suc n) (length (items_at pieces k))) [
+    | inl l ↦
+        let y = get_within (items_at pieces k) (suc n) l in
+        absurd (false≢true (ap (leads_next to) (sym (get_item (items_at pieces k) (entries_from pieces s.after) (suc n)
+        y.0 y.1)) ∙ behind))
+    | inr l ↦
+        let m : suc n ≡ length (items_at pieces k) = omega (arith, inside, l) in
+        let g : leads_next to (slice_get (entries_from pieces s.after) 0) ≡ true
+        = cc (get_behind (items_at pieces k) (entries_from pieces s.after), m, behind) in
+        omega (arith, first s.after refl g, m)
+  ]
     where
       at : k < length pieces
       at = (piece_at pieces k n x e).0
@@ -171,18 +173,6 @@ module _ (pieces : List (List Item)) (leads : AllLead pieces) where
           → start_of (entries_of pieces) to.0 ≡ start_of (entries_of pieces) k + 1 + length (items_at pieces k)
       first [] f g = absurd (false≢true g)
       first (j ∷ js) f g = ap (start_of (entries_of pieces)) (eqb-true to.0 j g) ∙ next_start k j s js f
-
-      by : (suc n < length (items_at pieces k)) ⊎ (length (items_at pieces k) ≤ suc n)
-          → suc (start_of (entries_of pieces) k + 1 + n) ≡ start_of (entries_of pieces) to.0
-      by (inl l) =
-          let y = get_within (items_at pieces k) (suc n) l in
-          absurd (false≢true (ap (leads_next to) (sym (get_item (items_at pieces k) (entries_from pieces s.after) (suc n)
-          y.0 y.1)) ∙ behind))
-      by (inr l) =
-          let m : suc n ≡ length (items_at pieces k) = omega (arith, inside, l) in
-          let g : leads_next to (slice_get (entries_from pieces s.after) 0) ≡ true
-          = cc (get_behind (items_at pieces k) (entries_from pieces s.after), m, behind) in
-          omega (arith, first s.after refl g, m)
 
   first_after : (before after : List ℕ) (k : ℕ) → slice_get (before ++ k ∷ after) (length before) ≡ Some k
   first_after [] after k = refl
@@ -212,10 +202,7 @@ module _ (pieces : List (List Item)) (leads : AllLead pieces) where
       go : (after : List ℕ) → s.after ≡ after → slice_get after 0 ≡ Some (suc k)
           → start_of (entries_of pieces) (suc k) ≡ start_of (entries_of pieces) k + 1 + length (items_at pieces k)
       go [] e f = absurd (cc)
-      go (j ∷ js) e f = ap (start_of (entries_of pieces)) (sym (some_is j (suc k) f)) ∙ next_start k j s js e
-        where
-          some_is : (a b : ℕ) → Some a ≡ Some b → a ≡ b
-          some_is a b e = cc
+      go (j ∷ js) e f = let same : j ≡ suc k = cc f in ap (start_of (entries_of pieces)) (sym same) ∙ next_start k j s js e
 
 -- ---- the layout
 
@@ -247,8 +234,18 @@ module _ (pieces : List (List Item)) (leads : AllLead pieces) (marked : AllMarke
   abbrev at : ℕ → ℕ
   at n = base + 4 * offset (entries_of pieces) long n
 
+  -- an item's entry, the one behind it, and the words before it
+  abbrev entry_no : ℕ → ℕ → ℕ
+  entry_no k n = start_of (entries_of pieces) k + 1 + n
+
+  abbrev next_entry : ℕ → ℕ → Option Entry
+  next_entry k n = slice_get (entries_of pieces) (suc (entry_no k n))
+
+  abbrev words_to : ℕ → ℕ → ℕ
+  words_to k n = offset (entries_of pieces) long (entry_no k n)
+
   abbrev place : ℕ → ℕ → ℕ
-  place k n = base + 4 * offset (entries_of pieces) long (start_of (entries_of pieces) k + 1 + n)
+  place k n = base + 4 * words_to k n
 
   up : (n : ℕ) → at n ≤ at (suc n)
   up n = let r = rises entries long n (suc n) (omega arith) in omega (arith, r)
@@ -262,15 +259,13 @@ module _ (pieces : List (List Item)) (leads : AllLead pieces) (marked : AllMarke
   ranges_are : placed.ranges ≡ seen (ranges_from (address_of base entries long) 0 None entries)
   ranges_are = ap (map note_range) h.ranges
 
-  start_value : (k : ℕ) → k < length pieces → slice_index placed.at k ≡ base + 4 * offset (entries_of pieces) long
-      (start_of (entries_of pieces) k)
+  start_value : (k : ℕ) → k < length pieces → slice_index placed.at k ≡ base + 4 * offset entries long (start_of entries k)
   start_value k l =
       let m : k < length starts = omega (arith, h.count, l) in
       cc (at_is, get_map (address_of base entries long) starts k m, h.listing.are k m)
 
   -- a start takes no word
-  start_still : (k : ℕ) → k < length pieces → offset (entries_of pieces) long (start_of (entries_of pieces) k + 1 + 0)
-      ≡ offset (entries_of pieces) long (start_of (entries_of pieces) k)
+  start_still : (k : ℕ) → k < length pieces → words_to k 0 ≡ offset entries long (start_of entries k)
   start_still k l =
       let s = start_of entries k in
       let e : start_of entries k + 1 + 0 ≡ suc (start_of entries k) = omega arith in
@@ -286,18 +281,16 @@ module _ (pieces : List (List Item)) (leads : AllLead pieces) (marked : AllMarke
   offset_low n l = let r = rises entries long n (length (entries_of pieces)) l in omega (arith, r, low)
 
   start_low : (k : ℕ) → (slice_index placed.at k % 4 ≡ 0) × (slice_index placed.at k ≤ 2 ^ 31)
-  start_low k = go (cases_lt k (length pieces))
-    where
-      go : (k < length pieces) ⊎ (length pieces ≤ k) → (slice_index placed.at k % 4 ≡ 0) × (slice_index placed.at k ≤
-          2 ^ 31)
-      go (inl l) =
-          let v = start_value k l in
-          let w = offset_low (start_of entries k) (omega (arith, piece_inside pieces leads k l)) in
-          (omega (arith, v, aligned), omega (arith, v, w))
-      go (inr l) =
-          let v : slice_index placed.at k ≡ 0 = ap (λ (z : List ℕ). slice_index z k) at_is
-          ∙ get_past (address_of base entries long) starts k (omega (arith, h.count, l)) in
-          (omega (arith, v), omega (arith, v))
+  start_low k = elim (cases_lt k (length pieces)) [
+    | inl l ↦
+        let v = start_value k l in
+        let w = offset_low (start_of entries k) (omega (arith, piece_inside pieces leads k l)) in
+        (omega (arith, v, aligned), omega (arith, v, w))
+    | inr l ↦
+        let v : slice_index placed.at k ≡ 0 = ap (λ (z : List ℕ). slice_index z k) at_is
+        ∙ get_past (address_of base entries long) starts k (omega (arith, h.count, l)) in
+        (omega (arith, v), omega (arith, v))
+  ]
 
   within : (k n : ℕ) → k < length pieces → n ≤ size_of pieces k → IsPlaceIn base placed (place k n)
   within k n l m =
@@ -308,9 +301,6 @@ module _ (pieces : List (List Item)) (leads : AllLead pieces) (marked : AllMarke
 
   next_is : (k n : ℕ) → start_of (entries_of pieces) k + 1 + suc n ≡ suc (start_of (entries_of pieces) k + 1 + n)
   next_is k n = omega arith
-
-  abbrev entry_no : ℕ → ℕ → ℕ
-  entry_no k n = start_of (entries_of pieces) k + 1 + n
 
   -- the words before the piece to which an item leads
   abbrev goal_words : ℕ → ℕ → ℕ
@@ -343,35 +333,30 @@ module _ (pieces : List (List Item)) (leads : AllLead pieces) (marked : AllMarke
   goal_low k n x e = let g = goal_is k n x None e refl in omega (arith, g, low)
 
   step : (k n : ℕ) (x : Item) → item_at pieces k n ≡ Some x
-      → offset (entries_of pieces) long (start_of (entries_of pieces) k + 1 + suc n)
-      ≡ offset (entries_of pieces) long (start_of (entries_of pieces) k + 1 + n)
-      + width (long (entry_no k n)) (Some (en.Item x)) (slice_get (entries_of pieces) (suc (entry_no k n)))
+      → words_to k (suc n) ≡ words_to k n + width (long (entry_no k n)) (Some (en.Item x)) (next_entry k n)
   step k n x e =
-      let c = ap (λ (z : Option Entry). width (long (entry_no k n)) z (slice_get entries (suc (entry_no k n))))
-      (entry_is pieces leads k n x e) in
+      let c = ap (λ (z : Option Entry). width (long (entry_no k n)) z (next_entry k n)) (entry_is pieces leads k n x e) in
       omega (arith, ap (offset entries long) (next_is k n), offset_more entries long (entry_no k n), c)
 
   -- a Jump takes no word where its target starts right behind it
   here : (k n : ℕ) (to : PieceNo) → item_at pieces k n ≡ Some (it.Jump to)
-      → leads_next to (slice_get (entries_of pieces) (suc (entry_no k n))) ≡ true
-      → offset (entries_of pieces) long (start_of (entries_of pieces) k + 1 + n) ≡ goal_words k n
+      → leads_next to (next_entry k n) ≡ true → words_to k n ≡ goal_words k n
   here k n to e b =
-      let c = ap (λ (z : Option Entry). width (long (entry_no k n)) z (slice_get entries (suc (entry_no k n))))
+      let c = ap (λ (z : Option Entry). width (long (entry_no k n)) z (next_entry k n))
       (entry_is pieces leads k n (it.Jump to) e) in
-      let w : width (long (entry_no k n)) (Some (en.Item (it.Jump to))) (slice_get entries (suc (entry_no k n))) ≡ 0
+      let w : width (long (entry_no k n)) (Some (en.Item (it.Jump to))) (next_entry k n) ≡ 0
       = ap (λ (z : Bool). if z then 0 else (if long (entry_no k n) then 4 else 1)) b in
       let same = ap (offset entries long) (jump_next pieces leads k n (it.Jump to) to e b) in
       omega (arith, same, offset_more entries long (entry_no k n), c, w, goal_is k n (it.Jump to) (Some to.0) e refl)
 
   nexts : (k n : ℕ) (x : Item) → item_at pieces k n ≡ Some x
-      → IsNextAt base placed x (slice_get (entries_of pieces) (suc (entry_no k n))) (offset (entries_of pieces) long
-      (start_of (entries_of pieces) k + 1 + n)) (goal_words k n)
+      → IsNextAt base placed x (next_entry k n) (words_to k n) (goal_words k n)
   nexts k n (it.Jump to) e = here k n to e
   nexts k n _ e = tt
 
   near : (k n : ℕ) (to : ℕ) → target (slice_get (entries_of pieces) (entry_no k n)) ≡ Some to
       → long (entry_no k n) ≡ false
-      → far (offset (entries_of pieces) long (start_of (entries_of pieces) k + 1 + n)) (goal_words k n) ≡ false
+      → far (words_to k n) (goal_words k n) ≡ false
   near k n to t short =
       let o : target_offset entries long (entry_no k n) ≡ Some (offset entries long (start_of entries to))
       = ap (λ (o : Option ℕ). option_map (offset entries long) (option_map (start_of entries) o)) t in
@@ -379,8 +364,7 @@ module _ (pieces : List (List Item)) (leads : AllLead pieces) (marked : AllMarke
       cc (o, f)
 
   nears : (k n : ℕ) (x : Item) → item_at pieces k n ≡ Some x
-      → IsNearTo base placed x (long (entry_no k n)) (offset (entries_of pieces) long (start_of (entries_of pieces) k
-      + 1 + n)) (goal_words k n)
+      → IsNearTo base placed x (long (entry_no k n)) (words_to k n) (goal_words k n)
   nears k n (it.Jump to) e = near k n to.0 (ap target (entry_is pieces leads k n (it.Jump to) e))
   nears k n (it.Branch c to) e = near k n to.0 (ap target (entry_is pieces leads k n (it.Branch c to) e))
   nears k n _ e = tt
@@ -389,14 +373,13 @@ module _ (pieces : List (List Item)) (leads : AllLead pieces) (marked : AllMarke
   items k n x e =
       let i = piece_inside pieces leads k (piece_at pieces k n x e).0 in
       let g = get_low (items_at pieces k) n x (sym (item_is pieces k n) ∙ e) in
-      let l : start_of (entries_of pieces) k + 1 + n < length (entries_of pieces) = omega (arith, i, g) in
+      let l : entry_no k n < length (entries_of pieces) = omega (arith, i, g) in
       let t = step k n x e in
-      item_stands base placed x (slice_get entries (suc (entry_no k n))) (long (entry_no k n)) (offset entries long
-      (entry_no k n)) (goal_words k n)
+      item_stands base placed x (next_entry k n) (long (entry_no k n)) (words_to k n) (goal_words k n)
       (place k n) (place k (suc n)) refl (omega (arith, t)) (offset_low (entry_no k n) (omega (arith, l))) (goal_low k
       n x e) (cc (entry_is pieces leads k n x e, h.emitted.conditions (entry_no k n) l))
       (goes k n x e) (nexts k n x e) (nears k n x e)
-      (λ j w f. ap (λ (ws : List ℕ). slice_get ws (offset entries long (entry_no k n) + j)) h.emitted.is
+      (λ j w f. ap (λ (ws : List ℕ). slice_get ws (words_to k n + j)) h.emitted.is
       ∙ has_code base entries long (length (entries_of pieces)) (entry_no k n) l j w
       (cc (entry_is pieces leads k n x e, f)))
 
@@ -407,13 +390,13 @@ module _ (pieces : List (List Item)) (leads : AllLead pieces) (marked : AllMarke
       let none : exit_at pieces k ≡ None
       = ap jump_to (cc (item_is pieces k (length (items_at pieces k) - 1), z))
       ∙ no_jump (item_at pieces k (size_of pieces k - 1)) j in
-      let same = ap (λ (m : ℕ). offset entries long (start_of entries k + 1 + m)) z in
+      let same = ap (λ (m : ℕ). words_to k m) z in
       omega (arith, ap (offset entries long) (fall_start pieces leads k l none), start_still (suc k) l, same)
 
   -- Marks take no room
   mark_still : (k n : ℕ) (x : Item) → item_at pieces k n ≡ Some x
       → ((long : Bool) (next : Option Entry) → width long (Some (en.Item x)) next ≡ 0) → place k (suc n) ≡ place k n
-  mark_still k n x e w = omega (arith, step k n x e, w (long (entry_no k n)) (slice_get entries (suc (entry_no k n))))
+  mark_still k n x e w = omega (arith, step k n x e, w (long (entry_no k n)) (next_entry k n))
 
   still_from : (k : ℕ) (xs : List Item) (i : ℕ) → ((j : ℕ) (x : Item) → slice_get xs j ≡ Some x
       → item_at pieces k (i + j) ≡ Some x) → AreStill (place k) i xs

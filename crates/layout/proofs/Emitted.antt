@@ -19,8 +19,7 @@ code_more base entries long n = refl
 pub emitted_none : (base : ℕ) (entries : List Entry) (long : Forms) → IsEmitted base entries long [] 0
 emitted_none base entries long = record {
   is = sym (code_none base entries long);
-  conditions = λ k l. absurd (omega
-      arith);
+  conditions = λ k l. absurd (omega arith);
 }
 
 pub emitted_more : (base : ℕ) (entries : List Entry) (long : Forms) (code new : List ℕ) (n : ℕ)
@@ -29,22 +28,20 @@ pub emitted_more : (base : ℕ) (entries : List Entry) (long : Forms) (code new 
     → IsEmitted base entries long new (n + 1)
 emitted_more base entries long code new n h e c = rw add-one record {
   is = cc (e, h.is, code_more base entries long n);
-  conditions = λ k l. conditions k l (cases_lt k n);
+  conditions = λ k l. elim (cases_lt k n) [
+    | inl u ↦ h.conditions k u
+    | inr u ↦ let s : k ≡ n = omega arith in ap (λ (k : ℕ). has_condition (slice_get entries k)) s ∙ c
+  ];
 }
-  where
-    conditions : (k : ℕ) → k < suc n → (k < n) ⊎ (n ≤ k) → has_condition (slice_get entries k) ≡ true
-    conditions k l (inl u) = h.conditions k u
-    conditions k l (inr u) = let s : k ≡ n = omega arith in ap (λ (k : ℕ). has_condition (slice_get entries k)) s ∙ c
 
 -- what is short is near
 pub near_enough : (entries : List Entry) (long : Forms) (n : ℕ) → NoneLeft entries long → long n ≡ false
     → far_of (offset entries long n) (target_offset entries long n) ≡ false
-near_enough entries long n none short = by (goal_of entries n) (not_far (cases_Bool (is_far entries long n)))
+near_enough entries long n none short = by (goal_of entries n) (elim (cases_Bool (is_far entries long n)) [
+  | inl t ↦ absurd (false≢true (sym short ∙ none n t))
+  | inr f ↦ f
+])
   where
-    not_far : (is_far entries long n ≡ true) ⊎ (is_far entries long n ≡ false) → is_far entries long n ≡ false
-    not_far (inl t) = absurd (false≢true (sym short ∙ none n t))
-    not_far (inr f) = f
-
     by : (o : Option ℕ) → far_from entries long n o ≡ false → far_of (offset entries long n) (option_map (offset
         entries long) o) ≡ false
     by None f = refl

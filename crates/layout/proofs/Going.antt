@@ -30,6 +30,7 @@ use Rattle.layout.specs.Laid.{Placement, IsLaid, IsWordAt, SaysFrom, JumpStands,
 use Rattle.code_runs.specs.LongJump.{long_jump, IsFirstWord}
 use Rattle.code_runs.specs.Page.{page_word}
 use Rattle.layout.specs.Running.{HasCode, CanRun, Goes, JumpsHop, BranchesHop, WordsStand}
+use Rattle.layout.proofs.Ranging.{get_low}
 
 -- ---- words
 
@@ -49,9 +50,7 @@ pub stays : (s : State) (to : ℕ) → s.pc ≡ to → s.npc ≡ s.pc + 4 → s.
     → hopped s to s.memory ≡ s
 stays s to e f n low =
     let g : wrapped (to + 4) ≡ s.npc = omega arith in
-    ap (λ z. record s { pc = z; npc = wrapped (to + 4); slot = NoSlot }) (sym e)
-    ∙ ap (λ z. record s { npc = z; slot = NoSlot }) g
-    ∙ ap (λ (z : Slot). record s { slot = z }) (sym n)
+    rw (g, ← e, ← n) refl
 
 always_acts : (s : State) (to : ℕ) (disp22 : ℤ) → s.slot ≡ NoSlot → Reaches s.pc to disp22
     → act s (i.Branch 8 true disp22) ≡ hopped s to s.memory
@@ -118,11 +117,6 @@ item_low pieces base p place h k n x e =
     let w = (h.within k (suc n) (piece_size pieces k n x e) (item_size pieces k n x e)).ends in
     omega arith
   where
-    get_below : {A : Type 0} (xs : List A) (n : ℕ) (x : A) → slice_get xs n ≡ Some x → n < length xs
-    get_below [] n x e = absurd (cc)
-    get_below (y ∷ ys) zero x e = omega arith
-    get_below (y ∷ ys) (suc n) x e = let f = get_below ys n x e in omega arith
-
     piece_size : (pieces : List (List Item)) (k n : ℕ) (x : Item) → item_at pieces k n ≡ Some x → k < length pieces
     piece_size [] k n x e = absurd (cc)
     piece_size (p ∷ pieces) zero n x e = omega arith
@@ -134,7 +128,7 @@ item_low pieces base p place h k n x e =
       where
         go : (o : Option (List Item)) → item_in o n ≡ Some x → suc n ≤ items_in o
         go None e = absurd (cc)
-        go (Some items) e = let f = get_below items n x e in omega arith
+        go (Some items) e = let f = get_low items n x e in omega arith
 
 pub jumps_hop : JumpsHop
 jumps_hop pieces base p place h k n to e s w is =
@@ -164,15 +158,6 @@ twice false = refl
 
 opposed : (c : ℕ) (k : Codes) → c < 16 → holds_of (opposite c) k ≡ not (holds_of c k)
 unfolding holds_of
-opposed zero k low = refl
-opposed (suc zero) k low = refl
-opposed (suc (suc zero)) k low = refl
-opposed (suc (suc (suc zero))) k low = refl
-opposed (suc (suc (suc (suc zero)))) k low = refl
-opposed (suc (suc (suc (suc (suc zero))))) k low = refl
-opposed (suc (suc (suc (suc (suc (suc zero)))))) k low = refl
-opposed (suc (suc (suc (suc (suc (suc (suc zero))))))) k low = refl
-opposed (suc (suc (suc (suc (suc (suc (suc (suc zero)))))))) k low = refl
 opposed (suc (suc (suc (suc (suc (suc (suc (suc (suc zero))))))))) k low = twice _
 opposed (suc (suc (suc (suc (suc (suc (suc (suc (suc (suc zero)))))))))) k low = twice _
 opposed (suc (suc (suc (suc (suc (suc (suc (suc (suc (suc (suc zero))))))))))) k low = twice _
@@ -182,16 +167,14 @@ opposed (suc (suc (suc (suc (suc (suc (suc (suc (suc (suc (suc (suc (suc (suc ze
 opposed (suc (suc (suc (suc (suc (suc (suc (suc (suc (suc (suc (suc (suc (suc (suc zero))))))))))))))) k low = twice _
 opposed (suc (suc (suc (suc (suc (suc (suc (suc (suc (suc (suc (suc (suc (suc (suc (suc n)))))))))))))))) k low = absurd
     (omega arith)
+opposed c k low = refl
 
 -- a branch that isn't annulled
 pub taken_acts : (s : State) (c : ℕ) (disp22 : ℤ) (always : Bool) → s.slot ≡ NoSlot → holds_of c s.codes ≡ true
     → (c == 8) ≡ always
     → act s (i.Branch c false disp22) ≡ record s { pc = s.npc; npc = target_of s disp22; slot = Taken }
 unfolding act branch_step
-taken_acts s c disp22 true n h e =
-    ap (λ (z : Slot). unless_couple z s (branched (holds_of c s.codes) (c == 8) false s (target_of s disp22))) n
-    ∙ ap (λ z. branched z (c == 8) false s (target_of s disp22)) h
-    ∙ ap (λ z. branched true z false s (target_of s disp22)) e
+taken_acts s c disp22 true n h e = rw (n, h, e) refl
 taken_acts s c disp22 false n h e = cc (n, h, e)
 
 pub untaken_acts : (s : State) (c : ℕ) (disp22 : ℤ) → s.slot ≡ NoSlot → holds_of c s.codes ≡ false

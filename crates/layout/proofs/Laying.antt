@@ -3,7 +3,7 @@ use Rattle.std.proofs.Common.{◌≡◌, ◌≢◌, ℕ, zero, suc, ◌+◌, ◌
 use Rattle.std.specs.Prelude.{if◌then◌else◌}
 use Rattle.std.specs.Cmp.{IsEquivalence}
 use Rattle.std.specs.List.{All, IsDistinct}
-use Rattle.std.proofs.lemmas.Bool.{cases_lt, cases_eq, eqb-true, eq-eqb, cases_Bool, ltb-true, lt-ltb, false≢true, ne_eqb}
+use Rattle.std.proofs.lemmas.Bool.{and_parts, cases_lt, cases_eq, eqb-true, eq-eqb, cases_Bool, ltb-true, lt-ltb, false≢true, ne_eqb}
 use Rattle.std.proofs.lemmas.List.Folds.{list_any-append, Any-from_list_any}
 use Rattle.std.proofs.lemmas.Map.Keys.{any_passes_from_place, IsDistinct-push}
 use Rattle.std.proofs.lemmas.List.Elements.{All-push}
@@ -19,13 +19,12 @@ use Rattle.eel_base.specs.declared.numbers.PieceNo.{PieceNo}
 pub the_equality : IsEquivalence eqb
 the_equality = record {
   refl = λ x. eq-eqb x x refl;
-  symm = λ x y. both x y (cases_eq x y);
+  symm = λ x y. elim (cases_eq x y) [
+    | inl e ↦ eq-eqb x y e ∙ sym (eq-eqb y x (sym e))
+    | inr d ↦ ne_eqb x y d ∙ sym (ne_eqb y x (λ e. d (sym e)))
+  ];
   congr = λ x y z e. ap (λ (v : ℕ). eqb v z) (eqb-true x y e);
 }
-  where
-    both : (x y : ℕ) → (x ≡ y) ⊎ (x ≡ y → ⊥) → eqb x y ≡ eqb y x
-    both x y (inl e) = eq-eqb x y e ∙ sym (eq-eqb y x (sym e))
-    both x y (inr d) = ne_eqb x y d ∙ sym (ne_eqb y x (λ e. d (sym e)))
 
 pub laid_push : (laid : List ℕ) (x k : ℕ) → is_laid (laid ++ x ∷ []) k ≡ (is_laid laid k || (eqb k x || false))
 laid_push laid x k = list_any-append (λ j. eqb k j) laid (x ∷ [])
@@ -51,22 +50,20 @@ laid_kept laid x k h = laid_push laid x k ∙ ap (λ (b : Bool). b || (eqb k x |
 pub first_left_is : (laid : List ℕ) (k room m : ℕ) → k ≤ m → m < k + room
     → ((j : ℕ) → k ≤ j → j < m → is_laid laid j ≡ true) → is_laid laid m ≡ false → first_left laid k room ≡ m
 first_left_is laid k zero m a b h f = absurd (omega arith)
-first_left_is laid k (suc room) m a b h f = go (cases_eq k m) (λ s. first_left_is laid (suc k) room m s (omega arith)
-    (λ j u v. h j (omega arith) v) f)
-  where
-    go : (k ≡ m) ⊎ (k ≡ m → ⊥) → (suc k ≤ m → first_left laid (suc k) room ≡ m) → first_left laid k (suc room) ≡ m
-    go (inl e) more = rw (ap (is_laid laid) e ∙ f) e
-    go (inr d) more = rw (h k (omega arith) (omega arith)) (more (omega arith))
+first_left_is laid k (suc room) m a b h f = elim (cases_eq k m) [
+  | inl e ↦ rw (ap (is_laid laid) e ∙ f) e
+  | inr d ↦ rw (h k (omega arith) (omega arith))
+      (first_left_is laid (suc k) room m (omega arith) (omega arith) (λ j u v. h j (omega arith) v) f)
+]
 
 -- while pieces are left, the first free number is one
 pub left_inside : (laid : List ℕ) (n low : ℕ) → length laid < n → ((k : ℕ) → k < low → is_laid laid k ≡ true) → low < n
-left_inside laid n low short below = go (cases_lt low n)
-  where
-    go : (low < n) ⊎ (n ≤ low) → low < n
-    go (inl l) = l
-    go (inr l) =
-        let all : n ≤ length laid = le-length_from_below laid n (λ q u. below q (omega arith)) in
-        absurd (omega arith)
+left_inside laid n low short below = elim (cases_lt low n) [
+  | inl l ↦ l
+  | inr l ↦
+      let all : n ≤ length laid = le-length_from_below laid n (λ q u. below q (omega arith)) in
+      absurd (omega arith)
+]
 
 pushed_at : (laid : List ℕ) (x : ℕ) → slice_get (laid ++ x ∷ []) (length laid) ≡ Some x
 pushed_at [] x = refl
@@ -94,7 +91,10 @@ through_next : (pieces : List (List Item)) (laid : List ℕ) (last : ℕ) → Is
     → IsNext pieces laid (suc last)
 through_next pieces laid last h end none more = record {
   inside = more;
-  free = free (cases_Bool (is_laid laid (suc last)));
+  free = elim (cases_Bool (is_laid laid (suc last))) [
+    | inl e ↦ absurd ((h.falls last no_exit e).1 end)
+    | inr e ↦ e
+  ];
   falls = λ j e f. ap (is_laid laid) (same j last e) ∙ last_laid laid last end;
 }
   where
@@ -103,10 +103,6 @@ through_next pieces laid last h end none more = record {
 
     no_exit : ends_in_jump pieces last ≡ false
     no_exit = ap (λ (o : Option PieceNo). is_some o) none
-
-    free : (is_laid laid (suc last) ≡ true) ⊎ (is_laid laid (suc last) ≡ false) → is_laid laid (suc last) ≡ false
-    free (inl e) = absurd ((h.falls last no_exit e).1 end)
-    free (inr e) = e
 
 target_next : (pieces : List (List Item)) (laid : List ℕ) (to : ℕ)
     → to < length pieces → is_laid laid to ≡ false → ends_in_jump pieces (to - 1) ≡ true → IsNext pieces laid to
@@ -121,32 +117,29 @@ target_next pieces laid to inside free jump = record {
 
 left_below : (laid : List ℕ) (k room j : ℕ) → k ≤ j → j < first_left laid k room → is_laid laid j ≡ true
 left_below laid k zero j a b = absurd (omega arith)
-left_below laid k (suc room) j a b = go (cases_Bool (is_laid laid k)) (cases_eq k j) (left_below laid (suc k) room j)
-  where
-    go : (is_laid laid k ≡ true) ⊎ (is_laid laid k ≡ false) → (k ≡ j) ⊎ (k ≡ j → ⊥)
-        → (suc k ≤ j → j < first_left laid (suc k) room → is_laid laid j ≡ true) → is_laid laid j ≡ true
-    go (inl e) (inl s) more = ap (is_laid laid) (sym s) ∙ e
-    go (inl e) (inr d) more =
+left_below laid k (suc room) j a b = elim (cases_Bool (is_laid laid k)) [
+  | inl e ↦ elim (cases_eq k j) [
+    | inl s ↦ ap (is_laid laid) (sym s) ∙ e
+    | inr d ↦
         let f : first_left laid k (suc room) ≡ first_left laid (suc k) room = rw e refl in
-        more (omega (arith, a, d)) (omega (arith, b, f))
-    go (inr e) s more =
-        let f : first_left laid k (suc room) ≡ k = rw e refl in
-        absurd (omega (arith, a, b, f))
+        left_below laid (suc k) room j (omega (arith, a, d)) (omega (arith, b, f))
+  ]
+  | inr e ↦
+      let f : first_left laid k (suc room) ≡ k = rw e refl in
+      absurd (omega (arith, a, b, f))
+]
 
 left_free : (laid : List ℕ) (k room : ℕ) → first_left laid k room < k + room
     → is_laid laid (first_left laid k room) ≡ false
 left_free laid k zero l = absurd (omega arith)
-left_free laid k (suc room) l = go (cases_Bool (is_laid laid k)) (left_free laid (suc k) room)
-  where
-    go : (is_laid laid k ≡ true) ⊎ (is_laid laid k ≡ false)
-        → (first_left laid (suc k) room < suc k + room → is_laid laid (first_left laid (suc k) room) ≡ false)
-        → is_laid laid (first_left laid k (suc room)) ≡ false
-    go (inl e) more =
-        let f : first_left laid k (suc room) ≡ first_left laid (suc k) room = rw e refl in
-        ap (is_laid laid) f ∙ more (omega (arith, l, f))
-    go (inr e) more =
-        let f : first_left laid k (suc room) ≡ k = rw e refl in
-        ap (is_laid laid) f ∙ e
+left_free laid k (suc room) l = elim (cases_Bool (is_laid laid k)) [
+  | inl e ↦
+      let f : first_left laid k (suc room) ≡ first_left laid (suc k) room = rw e refl in
+      ap (is_laid laid) f ∙ left_free laid (suc k) room (omega (arith, l, f))
+  | inr e ↦
+      let f : first_left laid k (suc room) ≡ k = rw e refl in
+      ap (is_laid laid) f ∙ e
+]
 
 lowest_is_left : (pieces : List (List Item)) (laid : List ℕ) → length laid < length pieces
     → IsLowestLeft pieces laid (lowest_left pieces laid)
@@ -180,10 +173,6 @@ not_left : (a b : Bool) → (not a && b) ≡ true → a ≡ false
 not_left false b e = refl
 not_left true b e = absurd (false≢true e)
 
-not_right : (a b : Bool) → (not a && b) ≡ true → b ≡ true
-not_right false b e = e
-not_right true b e = absurd (false≢true e)
-
 next_is : (pieces : List (List Item)) (laid : List ℕ) → LeadsInside pieces → IsLaying pieces laid
     → length laid < length pieces → IsNext pieces laid (next_piece pieces laid)
 next_is pieces laid leads h short = start (slice_get laid (length laid - 1)) refl
@@ -200,7 +189,7 @@ next_is pieces laid leads h short = start (slice_get laid (length laid - 1)) ref
     lead : (to : PieceNo) (test : Bool) → (not (is_laid laid to.0) && ends_in_jump pieces (to.0 - 1)) ≡ test
         → to.0 < length pieces → IsNext pieces laid (if test then to.0 else lowest_left pieces laid)
     lead to true t l = target_next pieces laid to.0 l (not_left (is_laid laid to.0) (ends_in_jump pieces (to.0 - 1)) t)
-        (not_right (is_laid laid to.0) (ends_in_jump pieces (to.0 - 1)) t)
+        (and_parts (not (is_laid laid to.0)) (ends_in_jump pieces (to.0 - 1)) t).1
     lead to false t l = lowest
 
     exits : (last : ℕ) (o : Option PieceNo) → exit_at pieces last ≡ o → IfSome o (λ to. to.0 < length pieces)
@@ -220,7 +209,10 @@ laying_more : (pieces : List (List Item)) (laid : List ℕ) (x : ℕ) → IsLayi
     → IsLaying pieces (laid ++ x ∷ [])
 laying_more pieces laid x h next = record {
   inside = All-push (λ k. k < length pieces) laid x h.inside next.inside;
-  falls = λ k e l. after k e l (cases_eq (suc k) x);
+  falls = λ k e l. both k (elim (cases_eq (suc k) x) [
+    | inl s ↦ next.falls k s e
+    | inr d ↦ (h.falls k e (sym (laid_other laid x (suc k) d) ∙ l)).0
+  ]);
   distinct = IsDistinct-push the_equality laid x h.distinct next.free;
 }
   where
@@ -235,12 +227,6 @@ laying_more pieces laid x h next = record {
     both : (k : ℕ) → is_laid laid k ≡ true
         → (is_laid (laid ++ x ∷ []) k ≡ true) × (slice_get (laid ++ x ∷ []) (length (laid ++ x ∷ []) - 1) ≢ Some k)
     both k l = (laid_kept laid x k l, not_last k l)
-
-    after : (k : ℕ) → ends_in_jump pieces k ≡ false → is_laid (laid ++ x ∷ []) (suc k) ≡ true
-        → (suc k ≡ x) ⊎ (suc k ≡ x → ⊥)
-        → (is_laid (laid ++ x ∷ []) k ≡ true) × (slice_get (laid ++ x ∷ []) (length (laid ++ x ∷ []) - 1) ≢ Some k)
-    after k e l (inl s) = both k (next.falls k s e)
-    after k e l (inr d) = both k ((h.falls k e (sym (laid_other laid x (suc k) d) ∙ l)).0)
 
 laying_none : (pieces : List (List Item)) → IsLaying pieces []
 unfolding IsDistinct
@@ -289,24 +275,20 @@ pub whole_is : (pieces : List (List Item)) → LeadsInside pieces → IsWhole pi
 whole_is pieces leads = record {
   laying = h.laying;
   len = h.len;
-  once = λ k l. go k l (cases_Bool (is_laid (compact_order pieces) k));
+  once = λ k l. elim (cases_Bool (is_laid (compact_order pieces) k)) [
+    | inl t ↦ t
+    | inr f ↦
+        let laid = compact_order pieces in
+        let d = IsDistinct-push the_equality laid k h.laying.distinct f in
+        let in' = All-push (λ j. j < length pieces) laid k h.laying.inside l in
+        let m = length-le_from_distinct_below (laid ++ k ∷ []) (length pieces) d
+        (λ q u. laid_inside (laid ++ k ∷ []) (length pieces) q in' u) in
+        absurd (omega (arith, length-append laid (k ∷ []), m, h.len))
+  ];
 }
   where
     h : AreFirst pieces (compact_order pieces) (length pieces)
     h = first_are pieces leads (length pieces) (omega arith)
-
-    go : (k : ℕ) → k < length pieces → (is_laid (compact_order pieces) k ≡ true) ⊎ (is_laid (compact_order pieces) k ≡
-        false) → is_laid (compact_order pieces) k ≡ true
-    go k l (inl t) = t
-    go k l (inr f) =
-        let laid = compact_order pieces in
-        let d : IsDistinct eqb (compact_order pieces ++ k ∷ []) = IsDistinct-push the_equality laid k
-        h.laying.distinct f in
-        let in' : All (λ j. j < length pieces) (compact_order pieces ++ k ∷ []) = All-push (λ j. j < length pieces)
-        laid k h.laying.inside l in
-        let m : length (compact_order pieces ++ k ∷ []) ≤ length pieces = length-le_from_distinct_below (laid ++ k ∷
-        []) (length pieces) d (λ q u. laid_inside (laid ++ k ∷ []) (length pieces) q in' u) in
-        absurd (omega (arith, length-append laid (k ∷ []), m, h.len))
 
 -- ---- what follows
 
@@ -320,22 +302,18 @@ laid_at : (pieces : List (List Item)) → LeadsInside pieces → (n i : ℕ) →
     → slice_get (first_laid pieces n) i ≡ Some (next_piece pieces (first_laid pieces i))
 unfolding first_laid
 laid_at pieces leads zero i l m = absurd (omega arith)
-laid_at pieces leads (suc n) i l m = go (cases_eq i n) (laid_at pieces leads n i (omega arith))
+laid_at pieces leads (suc n) i l m = elim (cases_eq i n) [
+  | inl e ↦
+      ap (slice_get (first_laid pieces n ++ next_piece pieces (first_laid pieces n) ∷ [])) (e ∙ sym len)
+      ∙ pushed_at (first_laid pieces n) (next_piece pieces (first_laid pieces n))
+      ∙ ap (λ (i : ℕ). Some (next_piece pieces (first_laid pieces i))) (sym e)
+  | inr d ↦
+      get_push_old (first_laid pieces n) (next_piece pieces (first_laid pieces n)) i (omega (arith, len, d))
+      ∙ laid_at pieces leads n i (omega arith) (omega (arith, d))
+]
   where
     len : length (first_laid pieces n) ≡ n
     len = (first_are pieces leads n (omega arith)).len
-
-    go : (i ≡ n) ⊎ (i ≡ n → ⊥) → (i < n → slice_get (first_laid pieces n) i ≡ Some (next_piece pieces (first_laid
-        pieces i)))
-        → slice_get (first_laid pieces n ++ next_piece pieces (first_laid pieces n) ∷ []) i ≡ Some (next_piece pieces
-        (first_laid pieces i))
-    go (inl e) more =
-        ap (slice_get (first_laid pieces n ++ next_piece pieces (first_laid pieces n) ∷ [])) (e ∙ sym len)
-        ∙ pushed_at (first_laid pieces n) (next_piece pieces (first_laid pieces n))
-        ∙ ap (λ (i : ℕ). Some (next_piece pieces (first_laid pieces i))) (sym e)
-    go (inr d) more =
-        get_push_old (first_laid pieces n) (next_piece pieces (first_laid pieces n)) i (omega (arith, len, d))
-        ∙ more (omega (arith, d))
 
 first_grows : (pieces : List (List Item)) (i : ℕ) → first_laid pieces (suc i) ≡ first_laid pieces i ++ next_piece
     pieces (first_laid pieces i) ∷ []
@@ -347,7 +325,14 @@ pub follows : (pieces : List (List Item)) → LeadsInside pieces → (k i : ℕ)
     → exit_at pieces k ≡ None
     → i < length pieces → slice_get (compact_order pieces) i ≡ Some k → slice_get (compact_order pieces) (suc i) ≡
     Some (suc k)
-follows pieces leads k i more none within is = go (cases_eq (suc i) (length pieces))
+follows pieces leads k i more none within is = elim (cases_eq (suc i) (length pieces)) [
+  | inl e ↦
+      let end : slice_get (compact_order pieces) (length (compact_order pieces) - 1) ≡ Some k = rw e at last in
+      absurd ((whole.laying.falls k (ap (λ (o : Option PieceNo). is_some o) none) (whole.once (suc k) more)).1 end)
+  | inr d ↦
+      laid_at pieces leads (length pieces) (suc i) (omega arith) (omega (arith, d))
+      ∙ rw (last, none, lt-ltb (suc k) (length pieces) more) refl
+]
   where
     whole : IsWhole pieces (compact_order pieces)
     whole = whole_is pieces leads
@@ -358,18 +343,6 @@ follows pieces leads k i more none within is = go (cases_eq (suc i) (length piec
     last : slice_get (first_laid pieces (suc i)) (length (first_laid pieces (suc i)) - 1) ≡ Some k
     last =
         cc (first_grows pieces i, last_pushed (first_laid pieces i) (next_piece pieces (first_laid pieces i)), next_k)
-
-    go : (suc i ≡ length pieces) ⊎ (suc i ≡ length pieces → ⊥) → slice_get (compact_order pieces) (suc i) ≡ Some (suc k)
-    go (inl e) =
-        let end : slice_get (compact_order pieces) (length (compact_order pieces) - 1) ≡ Some k
-        = rw e at last in
-        absurd ((whole.laying.falls k (ap (λ (o : Option PieceNo). is_some o) none) (whole.once (suc k) more)).1 end)
-    go (inr d) =
-        laid_at pieces leads (length pieces) (suc i) (omega arith) (omega (arith, d))
-        ∙ ap (λ (o : Option ℕ). Some (next_after pieces (first_laid pieces (suc i)) o)) last
-        ∙ ap (λ (o : Option PieceNo). Some (behind pieces (first_laid pieces (suc i)) k o)) none
-        ∙ ap (λ (b : Bool). Some (if b then suc k else lowest_left pieces (first_laid pieces (suc i)))) (lt-ltb (suc
-        k) (length pieces) more)
 
 -- ---- marks
 
@@ -387,11 +360,10 @@ lowest_is pieces laid marks low k h more within above passed free = record {
 }
   where
     below : (j : ℕ) → j < k → is_laid laid j ≡ true
-    below j l = go (cases_lt j low)
-      where
-        go : (j < low) ⊎ (low ≤ j) → is_laid laid j ≡ true
-        go (inl u) = h.below j u
-        go (inr u) = sym (h.shown j (omega (arith, h.len))) ∙ passed j u l
+    below j l = elim (cases_lt j low) [
+      | inl u ↦ h.below j u
+      | inr u ↦ sym (h.shown j (omega (arith, h.len))) ∙ passed j u l
+    ]
 
     inside : k < length pieces
     inside = left_inside laid (length pieces) k more below
@@ -415,7 +387,12 @@ pub marking_more : (pieces : List (List Item)) (laid : List ℕ) (marks : List B
 marking_more pieces laid marks low x h is inside = record {
   order = grown;
   len = length-set marks x true ∙ h.len;
-  shown = λ k l. shown k l (cases_eq k x);
+  shown = λ k l. elim (cases_eq k x) [
+    | inl e ↦
+        let at : get_or (set marks x true) x false ≡ true = get_or-set_same marks x true false (omega (arith, h.len, inside)) in
+        cc (e, at, laid_same laid x)
+    | inr d ↦ get_or-set_other marks x k true false d ∙ h.shown k l ∙ sym (laid_other laid x k d)
+  ];
   within = h.within;
   below = λ k l. laid_kept laid x k (h.below k l);
 }
@@ -425,17 +402,6 @@ marking_more pieces laid marks low x h is inside = record {
 
     grown : laid ++ x ∷ [] ≡ first_laid pieces (length (laid ++ x ∷ []))
     grown = cc (is, h.order, first_grows pieces (length laid), more)
-
-    shown : (k : ℕ) → k < length pieces → (k ≡ x) ⊎ (k ≡ x → ⊥) → get_or (set marks x true) k false ≡ is_laid (laid ++
-        x ∷ []) k
-    shown k l (inl e) =
-        let at : get_or (set marks x true) x false ≡ true = get_or-set_same marks x true false (omega (
-          arith,
-          h.len,
-          inside,
-        )) in
-        cc (e, at, laid_same laid x)
-    shown k l (inr d) = get_or-set_other marks x k true false d ∙ h.shown k l ∙ sym (laid_other laid x k d)
 
 pub marking_none : (pieces : List (List Item)) → IsMarking pieces [] (replicate (length pieces) false) 0
 unfolding first_laid

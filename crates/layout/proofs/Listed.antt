@@ -1,10 +1,10 @@
 -- Pieces become entries one after the other.
-use Rattle.std.proofs.Common.{◌≡◌, ℕ, zero, suc, ◌+◌, ◌<◌, ◌≤◌, ◌⊎◌, inl, inr, Bool, true, false, ◌||◌, eqb, List, [], ◌∷◌, ◌++◌, length, get_or, set, take, drop, slice_get, slice_index, Some, IfSome, map, subst, refl, ap, sym, ◌∙◌, add-one, append_assoc, drop-cons, arith}
+use Rattle.std.proofs.Common.{append-nil, ◌≡◌, ℕ, zero, suc, ◌+◌, ◌<◌, ◌≤◌, ◌⊎◌, inl, inr, Bool, true, false, ◌||◌, eqb, List, [], ◌∷◌, ◌++◌, length, get_or, set, take, drop, slice_get, slice_index, Some, IfSome, map, subst, refl, ap, sym, ◌∙◌, add-one, append_assoc, drop-cons, arith}
 use Rattle.std.specs.Prelude.{if◌then◌else◌}
 use Rattle.std.specs.List.{All, AllByRecursion, IsDistinct, sum_by}
 use Rattle.std.proofs.lemmas.Bool.{cases_eq, cases_Bool, eqb-true, eq-eqb, false≢true, ne_eqb}
 use Rattle.std.proofs.lemmas.List.Sums.{sum_by-cons}
-use Rattle.std.proofs.lemmas.List.{length-append, length-map, length-set, get_or-set_same, get_or-set_other, take_more, take_all}
+use Rattle.std.proofs.lemmas.List.{take-append-drop, length-append, length-map, length-set, get_or-set_same, get_or-set_other, take_more, take_all}
 use Rattle.layout.specs.declared.items.Item.{Item}
 use Rattle.layout.specs.declared.items.Item.TheVariants as it
 use Rattle.layout.specs.declared.entries.Entry.{Entry}
@@ -25,8 +25,7 @@ pub from_append : (pieces : List (List Item)) (fs rs : List ℕ)
     → entries_from pieces (fs ++ rs) ≡ entries_from pieces fs ++ entries_from pieces rs
 from_append pieces [] rs = refl
 from_append pieces (k ∷ fs) rs =
-    ap (λ (xs : List Entry). entries_in k (items_at pieces k) ++ xs) (from_append pieces fs rs)
-    ∙ sym (append_assoc (entries_in k (items_at pieces k)) (entries_from pieces fs) (entries_from pieces rs))
+    rw (from_append pieces fs rs, append_assoc (entries_in k (items_at pieces k)) (entries_from pieces fs) (entries_from pieces rs)) refl
 
 -- an order by its first part, a piece that isn't in it, and the rest
 pub record IsSplit (order : List ℕ) (k : ℕ) : Type 0 where
@@ -49,19 +48,17 @@ or_right false b e = e
 
 pub split_at : (order : List ℕ) (k : ℕ) → is_laid order k ≡ true → IsSplit order k
 split_at [] k e = absurd (false≢true e)
-split_at (j ∷ js) k e = go (cases_Bool (eqb k j)) (split_at js k)
-  where
-    go : (eqb k j ≡ true) ⊎ (eqb k j ≡ false) → (is_laid js k ≡ true → IsSplit js k) → IsSplit (j ∷ js) k
-    go (inl s) more =
-        record { before = []; after = js; is = ap (λ (j : ℕ). j ∷ js) (sym (eqb-true k j s)); absent = refl }
-    go (inr d) more =
-        let h = more (sym (or_false (eqb k j) (is_laid js k) d) ∙ e) in
-        record {
-          before = j ∷ h.before;
-          after = h.after;
-          is = ap (λ (xs : List ℕ). j ∷ xs) h.is;
-          absent = or_false (eqb k j) (is_laid h.before k) d ∙ h.absent;
-        }
+split_at (j ∷ js) k e = elim (cases_Bool (eqb k j)) [
+  | inl s ↦ record { before = []; after = js; is = ap (λ (j : ℕ). j ∷ js) (sym (eqb-true k j s)); absent = refl }
+  | inr d ↦
+      let h = split_at js k (sym (or_false (eqb k j) (is_laid js k) d) ∙ e) in
+      record {
+        before = j ∷ h.before;
+        after = h.after;
+        is = ap (λ (xs : List ℕ). j ∷ xs) h.is;
+        absent = or_false (eqb k j) (is_laid h.before k) d ∙ h.absent;
+      }
+]
 
 -- ---- where pieces start
 
@@ -126,8 +123,7 @@ rest_less f (p ∷ ps) i zero ks l e =
 rest_less f (p ∷ ps) i (suc d) ks l e =
     let z : suc i + d ≡ i + suc d = omega arith in
     let h : rest_of f ps (suc i) ks ≡ rest_of f ps (suc i) ((i + suc d) ∷ ks) + f (items_at ps d)
-    = subst (λ (n : ℕ). rest_of f ps (suc i) ks ≡ rest_of f ps (suc i) (n ∷ ks) + f (items_at ps d)) z
-    (rest_less f ps (suc i) d ks (omega arith) (ap (is_laid ks) z ∙ e)) in
+    = rw z at (rest_less f ps (suc i) d ks (omega arith) (ap (is_laid ks) z ∙ e)) in
     let q : eqb i (i + suc d) ≡ false = ne_eqb i (i + suc d) (λ e. omega (arith, e)) in
     let g : (if eqb i (i + suc d) || is_laid ks i then 0 else f p) ≡ (if is_laid ks i then 0 else f p)
     = ap (λ (b : Bool). if b then 0 else f p) (or_false (eqb i (i + suc d)) (is_laid ks i) q) in
@@ -233,34 +229,31 @@ pub before_absent : (pieces : List (List Item)) (order fs rs : List ℕ) (k : �
     → order ≡ fs ++ k ∷ rs → is_laid fs k ≡ false
 before_absent pieces order fs rs k h e = distinct_before fs rs k (rw e at h.laying.distinct)
 
-take_drop : (xs : List ℕ) (n : ℕ) → take n xs ++ drop n xs ≡ xs
-take_drop xs zero = refl
-take_drop [] (suc n) = refl
-take_drop (x ∷ xs) (suc n) = ap (λ (ys : List ℕ). x ∷ ys) (take_drop xs n)
-
 pub listed_more : (pieces : List (List Item)) (order : List ℕ) (entries : List Entry) (starts : List ℕ) (i j : ℕ)
     → IsListed pieces order entries starts i → IsWhole pieces order → i < length order → j ≡ get_or order i 0
     → IsListed pieces order (entries ++ entries_in j (items_at pieces j)) (set starts j (length entries)) (i + 1)
 listed_more pieces order entries starts i j h whole l same = record {
   are = cc (h.are, grown);
   len = length-set starts j (length entries) ∙ h.len;
-  known = λ k t. known k t (cases_eq k j);
+  known = λ k t. elim (cases_eq k j) [
+    | inl s ↦
+        let a = get_or-set_same starts j (length entries) 0 (omega (arith, h.len, inside)) in
+        ap (slice_index (set starts j (length entries))) s ∙ a ∙ here ∙ ap (start_of (entries_from pieces order)) (sym s)
+    | inr d ↦
+        get_or-set_other starts j k (length entries) 0 d ∙ h.known k (cc (laid_other (take i order) j k d, taken, t))
+  ];
 }
   where
     taken : take (i + 1) order ≡ take i order ++ j ∷ []
     taken = cc (take_more order i 0 l, same)
 
-    one : (xs : List Entry) → xs ++ [] ≡ xs
-    one [] = refl
-    one (x ∷ xs) = ap (λ (ys : List Entry). x ∷ ys) (one xs)
-
     grown : entries_from pieces (take (i + 1) order) ≡ entries_from pieces (take i order) ++ entries_in j (items_at
         pieces j)
-    grown = cc (taken, from_append pieces (take i order) (j ∷ []), one (entries_in j (items_at pieces j)))
+    grown = cc (taken, from_append pieces (take i order) (j ∷ []), append-nil (entries_in j (items_at pieces j)))
 
     split : order ≡ take i order ++ j ∷ drop (i + 1) order
     split =
-        sym (take_drop order i)
+        sym (take-append-drop i order)
         ∙ ap (λ (xs : List ℕ). take i order ++ xs) (let e : drop i order ≡ j ∷ drop (i + 1) order = rw (add-one, same)
         (drop-cons order i 0 l) in e)
 
@@ -272,16 +265,6 @@ listed_more pieces order entries starts i j h whole l same = record {
         ap length h.are ∙ sym (start_at pieces (take i order) (drop (i + 1) order) j
         (before_absent pieces order (take i order) (drop (i + 1) order) j whole split))
         ∙ ap (λ (xs : List ℕ). start_of (entries_from pieces xs) j) (sym split)
-
-    known : (k : ℕ) → is_laid (take (i + 1) order) k ≡ true → (k ≡ j) ⊎ (k ≡ j → ⊥)
-        → slice_index (set starts j (length entries)) k ≡ start_of (entries_from pieces order) k
-    known k t (inl s) =
-        let a : slice_index (set starts j (length entries)) j ≡ length entries = get_or-set_same starts j (length
-        entries) 0 (omega (arith, h.len, inside)) in
-        ap (slice_index (set starts j (length entries))) s ∙ a ∙ here ∙ ap (start_of (entries_from pieces order)) (sym
-        s)
-    known k t (inr d) =
-        get_or-set_other starts j k (length entries) 0 d ∙ h.known k (cc (laid_other (take i order) j k d, taken, t))
 
 pub start_inside : (pieces : List (List Item)) (order : List ℕ) (k : ℕ) → IsWhole pieces order → k < length pieces
     → start_of (entries_from pieces order) k < length (entries_from pieces order)

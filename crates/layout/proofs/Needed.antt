@@ -13,6 +13,8 @@ use Rattle.layout.specs.Laid.{AllLead, LeadsBelow, IsLaid, Placement, item_at, l
 use Rattle.layout.specs.Order.{compact_order}
 use Rattle.layout.specs.Forms.{Forms, entries_in, entries_from, entries_of, far, far_from, goal_of, is_far, leads_next, offset, start_of, target, width}
 use Rattle.layout.specs.Compact.{IsCompact, LongIsEnough, NeededOnce, ShortIsEnough}
+use Rattle.layout.proofs.Offsets.{offset_none}
+use Rattle.std.proofs.lemmas.Bool.Decides.{nat_tests}
 use Rattle.layout.proofs.Laying.{exits_lead, item_is, whole_is}
 use Rattle.layout.proofs.Listed.{items_at, weigh, weighs_less}
 use Rattle.layout.proofs.Ranging.{get_low}
@@ -20,10 +22,6 @@ use Rattle.layout.proofs.Widening.{far_means, offset_more, widened_once}
 use Rattle.layout.proofs.Assembled.{entry_is, piece_at, size_is}
 
 -- ---- one number
-
-offset_none : (entries : List Entry) (long : Forms) → offset entries long 0 ≡ 0
-unfolding offset
-offset_none entries long = refl
 
 same_offset : (entries : List Entry) (long other : Forms) → ((n : ℕ) → long n ≡ other n) → (n : ℕ)
     → offset entries long n ≡ offset entries other n
@@ -98,15 +96,7 @@ long_is_enough pieces bytes are n =
 -- ---- short where all is near
 
 not_far : (a b : ℕ) → a < 2 ^ 21 → b < 2 ^ 21 → far a b ≡ false
-not_far a b l m = go (cases_Bool (far a b))
-  where
-    by : (a + 2 ^ 21 ≤ b) ⊎ (b + 2 ^ 21 < a) → ⊥
-    by (inl x) = omega arith
-    by (inr x) = omega arith
-
-    go : (far a b ≡ true) ⊎ (far a b ≡ false) → far a b ≡ false
-    go (inl t) = absurd (by (far_means a b t))
-    go (inr f) = f
+not_far a b l m = grind (arith, nat_tests)
 
 pick : (b : Bool) (m n : ℕ) → b ≡ false → (if b then m else n) ≡ n
 pick true m n e = absurd (false≢true (sym e))
@@ -141,7 +131,10 @@ module _ (pieces : List (List Item)) (base : ℕ) (p : Placement) (place : ℕ �
 
   short : (k n : ℕ) (x : Item) → item_at pieces k n ≡ Some x → (to : ℕ) → target (Some (en.Item x)) ≡ Some to
       → to < length pieces → c.long (entry_no k n) ≡ false
-  short k n x e to t l = go (cases_Bool (c.long (entry_no k n)))
+  short k n x e to t l = elim (cases_Bool (c.long (entry_no k n))) [
+    | inl f ↦ absurd (false≢true (sym reach ∙ c.widened.needed (entry_no k n) f))
+    | inr f ↦ f
+  ]
     where
       goal_is : goal_of (entries_of pieces) (entry_no k n) ≡ Some (start_of (entries_of pieces) to)
       goal_is = cc (entry_is pieces leads k n x e, t)
@@ -151,10 +144,6 @@ module _ (pieces : List (List Item)) (base : ℕ) (p : Placement) (place : ℕ �
           ap (far_from (entries_of pieces) c.long (entry_no k n)) goal_is
           ∙ not_far _ _ (near k n (piece_at pieces k n x e).0 (let s = item_size k n x e in omega (arith, s)))
           (start_near to l)
-
-      go : (c.long (entry_no k n) ≡ true) ⊎ (c.long (entry_no k n) ≡ false) → c.long (entry_no k n) ≡ false
-      go (inl f) = absurd (false≢true (sym reach ∙ c.widened.needed (entry_no k n) f))
-      go (inr f) = f
 
   step : (k n : ℕ) (x : Item) → item_at pieces k n ≡ Some x
       → place k (suc n) ≡ place k n + 4 * width (c.long (entry_no k n)) (Some (en.Item x)) (slice_get (entries_of

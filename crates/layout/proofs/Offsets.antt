@@ -1,7 +1,7 @@
 -- The words before each entry, and before each piece.
 use Rattle.std.proofs.Common.{◌≡◌, ℕ, zero, suc, ◌+◌, ◌*◌, ◌<◌, ◌≤◌, ◌⊎◌, inl, inr, Bool, true, false, List, [], ◌∷◌, ◌++◌, length, get_or, slice_get, slice_index, Option, Some, None, refl, ap, sym, ◌∙◌, add-one, arith, drop}
 use Rattle.std.specs.Prelude.{if◌then◌else◌}
-use Rattle.std.proofs.lemmas.Bool.{cases_lt, eqb-true}
+use Rattle.std.proofs.lemmas.Bool.{leb-true, cases_lt, eqb-true}
 use Rattle.std.proofs.Math.Seq.{drop-cons}
 use Rattle.std.proofs.lemmas.List.{append_assoc}
 use Rattle.std.proofs.lemmas.Option.{slice_get-get_or}
@@ -25,9 +25,6 @@ unfolding offset
 offset_none entries long = refl
 
 width_small : (long : Bool) (x next : Option Entry) → width long x next ≤ 6
-width_small long None next = omega arith
-width_small long (Some (en.Start k)) next = omega arith
-width_small long (Some (en.Item (it.Word word))) next = omega arith
 width_small long (Some (en.Item (it.Jump to))) next = by (leads_next to next) long
   where
     by : (skip long : Bool) → (if skip then 0 else (if long then 4 else 1)) ≤ 6
@@ -36,8 +33,7 @@ width_small long (Some (en.Item (it.Jump to))) next = by (leads_next to next) lo
     by false false = omega arith
 width_small true (Some (en.Item (it.Branch cond to))) next = omega arith
 width_small false (Some (en.Item (it.Branch cond to))) next = omega arith
-width_small long (Some (en.Item (it.Mark address node))) next = omega arith
-width_small long (Some (en.Item it.EndMark)) next = omega arith
+width_small long x next = leb-true _ 6 refl
 
 pub offset_small : (entries : List Entry) (long : Forms) (n : ℕ) → offset entries long n ≤ 6 * n
 offset_small entries long zero = omega (arith, offset_none entries long)
@@ -79,22 +75,21 @@ pub offsets_more : (entries : List Entry) (starts : List ℕ) (long : Forms) (ol
     → ((k : ℕ) → slice_index starts k < n → slice_index new k ≡ slice_index old k)
     → AreOffsets entries long new (n + 1)
 offsets_more entries starts long old new n here x listing was is inside at e h hit others k l m =
-    by (cases_lt (start_of entries k) n)
+    elim (cases_lt (start_of entries k) n) [
+      | inl u ↦ others k (omega (arith, u, start)) ∙ h k (omega (arith, l, is)) u
+      | inr u ↦
+          let s : start_of entries k ≡ n = omega (arith, u, m) in
+          let there : slice_get entries n ≡ Some (en.Start (record { 0 = k })) =
+          cc (s, started entries k (omega (arith, s, inside))) in
+          let same : x ≡ en.Start (record { 0 = k }) = cc (sym at ∙ there) in
+          hit k below (start ∙ s) same ∙ e ∙ ap (offset entries long) (sym s)
+    ]
   where
     below : k < length starts
     below = omega (arith, l, was, is)
 
     start : slice_index starts k ≡ start_of entries k
     start = listing.are k below
-
-    by : (start_of entries k < n) ⊎ (n ≤ start_of entries k) → slice_index new k ≡ offset entries long (start_of entries k)
-    by (inl u) = others k (omega (arith, u, start)) ∙ h k (omega (arith, l, is)) u
-    by (inr u) =
-        let s : start_of entries k ≡ n = omega (arith, u, m) in
-        let there : slice_get entries n ≡ Some (en.Start (record { 0 = k })) =
-        cc (s, started entries k (omega (arith, s, inside))) in
-        let same : x ≡ en.Start (record { 0 = k }) = cc (sym at ∙ there) in
-        hit k below (start ∙ s) same ∙ e ∙ ap (offset entries long) (sym s)
 
 pub all_offsets : (entries : List Entry) (starts : List ℕ) (long : Forms) (at : List ℕ) (n : ℕ) → IsListing entries starts
     → length at ≡ length starts → n ≡ length entries → AreOffsets entries long at n → IsOffsets entries long at

@@ -14,6 +14,7 @@ use Rattle.layout.specs.Laid.{note_range, range_in, item_at, AreMarked, OpenMark
 use Rattle.layout.specs.Forms.{entries_in, entries_from}
 use Rattle.layout.specs.Emitting.{closed, closes, opens, ranges_from}
 use Rattle.layout.proofs.Listed.{items_at}
+use Rattle.std.proofs.lemmas.Bool.{lt-ltb, ltb-true}
 
 -- the ranges as notes say them
 abbrev pub seen : List Range → List NoteRange
@@ -107,21 +108,16 @@ rises_to place up a b l =
     let e : place (a + (b - a)) ≡ place b = ap place (omega arith) in
     omega (arith, h, e)
 
+-- the range of an open Mark that ends here
+abbrev ended_at : OpenRange → ℕ → Range
+ended_at m here = record { lo = m.lo; hi = record { 0 = here }; address = m.address; node = m.node }
+
 closed_ascends : (m : OpenRange) (here to : ℕ) (rest : List Range) → m.lo.0 ≤ here → Ascend here to (seen rest)
     → Ascend m.lo.0 to (seen (closed (Some m) here ++ rest))
 closed_ascends m here to rest h k = go (nat_lt m.lo.0 here) refl
   where
-    go : (b : Bool) → nat_lt m.lo.0 here ≡ b → Ascend m.lo.0 to (seen ((if b then record {
-      lo = m.lo;
-      hi = record { 0 = here };
-      address = m.address;
-      node =
-          m.node;
-    } ∷ [] else []) ++ rest))
-    go true e = (omega arith, less m.lo.0 here e, k)
-      where
-        less : (a b : ℕ) → nat_lt a b ≡ true → a < b
-        less a b e = grind (arith, nat_tests)
+    go : (b : Bool) → nat_lt m.lo.0 here ≡ b → Ascend m.lo.0 to (seen ((if b then ended_at m here ∷ [] else []) ++ rest))
+    go true e = (omega arith, ltb-true m.lo.0 here e, k)
     go false e = ascend_from here (seen rest) m.lo.0 to h k
 
 -- past an item that closes nothing
@@ -178,10 +174,7 @@ range_at m hi = record { lo = m.lo.0; hi = hi; address = m.address.0; node = m.n
 
 closes_here : (m : OpenRange) (here a : ℕ) (rest : List Range) → m.lo.0 ≤ a → a < here
     → range_in (seen (closed (Some m) here ++ rest)) a ≡ Some (range_at m here)
-closes_here m here a rest h k = cc (less m.lo.0 here (omega arith), holds m.lo.0 here a h k)
-  where
-    less : (a b : ℕ) → a < b → nat_lt a b ≡ true
-    less a b e = grind (arith, nat_tests)
+closes_here m here a rest h k = cc (lt-ltb m.lo.0 here (omega arith), holds m.lo.0 here a h k)
 
 -- a Mark that is open before these items, at an address before them
 closes_at : (place : ℕ → ℕ) → Rises place → (items : List Item) (i a : ℕ) (m : OpenRange) → AreMarked true items
@@ -224,13 +217,7 @@ closed_past : (mark : Option OpenRange) (here a : ℕ) (rest : List Range) → h
 closed_past None here a rest h = refl
 closed_past (Some m) here a rest h = go (nat_lt m.lo.0 here)
   where
-    go : (b : Bool) → range_in (seen ((if b then record {
-      lo = m.lo;
-      hi = record { 0 = here };
-      address = m.address;
-      node = m.node;
-    } ∷ [] else []) ++ rest)) a
-        ≡ range_in (seen rest) a
+    go : (b : Bool) → range_in (seen ((if b then ended_at m here ∷ [] else []) ++ rest)) a ≡ range_in (seen rest) a
     go true = ap (λ (z : Bool). if z then Some (range_at m here) else range_in (seen rest) a) (past m.lo.0 here a h)
     go false = refl
 
@@ -239,7 +226,7 @@ low_on : (place : ℕ → ℕ) → Rises place → (i : ℕ) (mark : Option Open
 low_on place up i None h = omega arith
 low_on place up i (Some m) h = let u = up i in omega (arith, u, h)
 
-pub get_low : (xs : List Item) (n : ℕ) (x : Item) → slice_get xs n ≡ Some x → n < length xs
+pub get_low : {A : Type 0} (xs : List A) (n : ℕ) (x : A) → slice_get xs n ≡ Some x → n < length xs
 get_low [] n x e = absurd (cc)
 get_low (y ∷ ys) zero x e = omega arith
 get_low (y ∷ ys) (suc n) x e = let f = get_low ys n x e in omega arith
@@ -367,9 +354,7 @@ module _ (at : ℕ → ℕ) (up : (n : ℕ) → at n ≤ at (suc n)) where
         → range_in (seen (ranges_from at c None (entries_from pieces (before ++ k ∷ after)))) a
         ≡ range_of (λ n. at (s + 1 + n)) (open_from (items_at pieces k) 0 n None)
     order_finds [] after c s k n a x e still is h l =
-        subst (λ (c : ℕ). range_in (seen (ranges_from at c None (entries_from pieces (k ∷ after)))) a
-        ≡ range_of (λ n. at (s + 1 + n)) (open_from (items_at pieces k) 0 n None)) (let f : s ≡ c = omega (arith, e)
-        in f) here
+        rw (let f : c ≡ s = omega (arith, e) in f) here
       where
         below : a < at (behind_at s k)
         below =
@@ -431,13 +416,7 @@ module _ (pieces : List (List Item)) (place : ℕ → ℕ → ℕ) where
   closed_made None here h = tt
   closed_made (Some m) here h = go (nat_lt m.lo.0 here)
     where
-      go : (b : Bool) → AllOf (seen (if b then record {
-        lo = m.lo;
-        hi = record { 0 = here };
-        address = m.address;
-        node
-            = m.node;
-      } ∷ [] else []))
+      go : (b : Bool) → AllOf (seen (if b then ended_at m here ∷ [] else []))
       go true = (h here, tt)
       go false = tt
 

@@ -3,7 +3,7 @@ use Rattle.std.proofs.Common.{◌≡◌, ℕ, zero, suc, ◌+◌, ◌-◌, ◌*�
 use Rattle.std.proofs.lemmas.Int.{ints}
 use Rattle.std.specs.Prelude.{pos, negsuc, ℤ, nat_lt, if◌then◌else◌, slice_index}
 use Rattle.std.proofs.lemmas.Bool.Decides.{nat_tests}
-use Rattle.std.proofs.lemmas.Bool.{cases_lt, false≢true}
+use Rattle.std.proofs.lemmas.Bool.{lt-ltb, cases_lt, false≢true}
 use Rattle.v8_decode.specs.declared.Op2.TheVariants.{Imm}
 use Rattle.v8_decode.specs.declared.Instr.{Instr}
 use Rattle.v8_decode.specs.declared.Instr.TheVariants as i
@@ -27,15 +27,7 @@ use Rattle.layout.proofs.Offsets.{offset_none}
 use Rattle.layout.proofs.Widening.{far_if, offset_more}
 
 near_means : (f t : ℕ) → far f t ≡ false → (t < f + 2 ^ 21) × (f ≤ t + 2 ^ 21)
-near_means f t h = (up (cases_lt t (f + 2 ^ 21)), down (cases_lt (t + 2 ^ 21) f))
-  where
-    up : (t < f + 2 ^ 21) ⊎ (f + 2 ^ 21 ≤ t) → t < f + 2 ^ 21
-    up (inl l) = l
-    up (inr l) = absurd (false≢true (sym h ∙ far_if f t (inl l)))
-
-    down : (t + 2 ^ 21 < f) ⊎ (f ≤ t + 2 ^ 21) → f ≤ t + 2 ^ 21
-    down (inl l) = absurd (false≢true (sym h ∙ far_if f t (inr l)))
-    down (inr l) = l
+near_means f t h = (grind (arith, nat_tests), grind (arith, nat_tests))
 
 up_is : (f t : ℕ) → f ≤ t → between f t ≡ pos (t - f)
 up_is f t l = omega (arith, ints)
@@ -44,26 +36,17 @@ down_is : (f t : ℕ) → t < f → between f t ≡ negsuc (f - t - 1)
 down_is f t l = omega (arith, ints)
 
 fits : (f t : ℕ) → far f t ≡ false → fits_signed 22 (between f t) ≡ true
-fits f t h = go (cases_lt t f)
-  where
-    below : (n : ℕ) → n < 2 ^ 21 → nat_lt n (2 ^ (22 - 1)) ≡ true
-    below n w = grind (arith, nat_tests)
-
-    go : (t < f) ⊎ (f ≤ t) → fits_signed 22 (between f t) ≡ true
-    go (inl l) =
-        let w : f - t - 1 < 2 ^ 21 = omega (arith, (near_means f t h).1, l) in
-        ap (fits_signed 22) (down_is f t l) ∙ below (f - t - 1) w
-    go (inr l) =
-        let w : t - f < 2 ^ 21 = omega (arith, (near_means f t h).0, l) in
-        ap (fits_signed 22) (up_is f t l) ∙ below (t - f) w
+fits f t h = elim (cases_lt t f) [
+  | inl l ↦ rw (down_is f t l) (lt-ltb (f - t - 1) (2 ^ 21) (omega (arith, (near_means f t h).1, l)))
+  | inr l ↦ rw (up_is f t l) (lt-ltb (t - f) (2 ^ 21) (omega (arith, (near_means f t h).0, l)))
+]
 
 pub reaches : (base f t : ℕ) → base + 4 * f ≤ 2 ^ 31 → base + 4 * t ≤ 2 ^ 31
     → Reaches (base + 4 * f) (base + 4 * t) (between f t)
-reaches base f t a b = go (cases_lt t f)
-  where
-    go : (t < f) ⊎ (f ≤ t) → Reaches (base + 4 * f) (base + 4 * t) (between f t)
-    go (inl l) = rw (down_is f t l) (omega arith)
-    go (inr l) = rw (up_is f t l) (omega arith)
+reaches base f t a b = elim (cases_lt t f) [
+  | inl l ↦ rw (down_is f t l) (omega arith)
+  | inr l ↦ rw (up_is f t l) (omega arith)
+]
 
 -- ---- words in code
 
@@ -76,7 +59,7 @@ get_first [] ys j w e = absurd (cc)
 get_first (x ∷ xs) ys zero w e = e
 get_first (x ∷ xs) ys (suc j) w e = get_first xs ys j w e
 
-get_rest : (xs ys : List ℕ) (j : ℕ) → slice_get (xs ++ ys) (length xs + j) ≡ slice_get ys j
+pub get_rest : {A : Type 0} (xs ys : List A) (j : ℕ) → slice_get (xs ++ ys) (length xs + j) ≡ slice_get ys j
 get_rest [] ys j = ap (slice_get ys) (let e : 0 + j ≡ j = omega arith in e)
 get_rest (x ∷ xs) ys j = cc ((let e : suc (length xs) + j ≡ suc (length xs + j) = omega arith in e), get_rest xs ys j)
 
@@ -102,17 +85,14 @@ says_words base code (x ∷ xs) n a e d h = (
       (λ j w f. cc ((let g : n + 1 + j ≡ n + suc j = omega arith in g), h (suc j) w f)),
 )
 
-decodes : (x : Instr) → is_in_range x ≡ true → has_word x ≡ true → decode_of (word_of x) ≡ x
-decodes x r w = decode_of-word_of x r w
-
 long_jump_decodes : (to : ℕ) → to < 2 ^ 32 → AllDecode (long_jump to)
 long_jump_decodes to low = (
-  decodes (i.Store stores.ST 1 0 (of_page 0)) refl refl,
+  decode_of-word_of (i.Store stores.ST 1 0 (of_page 0)) refl refl,
   (
-    decodes (i.Sethi 1 (to / 1024)) refl (high (to / 1024) (omega arith)),
+    decode_of-word_of (i.Sethi 1 (to / 1024)) refl (high (to / 1024) (omega arith)),
     (
-      decodes (i.Jmpl 0 1 (Imm (pos (to % 1024)))) refl (rest (to % 1024) (omega arith)),
-      (decodes (i.Load loads.LD 1 0 (of_page 0)) refl refl, tt),
+      decode_of-word_of (i.Jmpl 0 1 (Imm (pos (to % 1024)))) refl (rest (to % 1024) (omega arith)),
+      (decode_of-word_of (i.Load loads.LD 1 0 (of_page 0)) refl refl, tt),
     ),
   ),
 )
@@ -132,7 +112,7 @@ opposite_low cond h = go (nat_lt cond 8) refl
 
 branch_decodes : (cond : ℕ) (annul : Bool) (disp : ℤ) → nat_lt cond 16 ≡ true → fits_signed 22 disp ≡ true
     → decode_of (word_of (i.Branch cond annul disp)) ≡ i.Branch cond annul disp
-branch_decodes cond annul disp h f = decodes (i.Branch cond annul disp) h f
+branch_decodes cond annul disp h f = decode_of-word_of (i.Branch cond annul disp) h f
 
 -- ---- how many words an entry has
 
@@ -153,13 +133,9 @@ unless_next false long base from to = jump_length long base from to
 
 entry_length : (base : ℕ) (long : Bool) (from to : ℕ) (x next : Option Entry)
     → length (entry_code base long from to x next) ≡ width long x next
-entry_length base long from to None next = refl
-entry_length base long from to (Some (en.Start k)) next = refl
-entry_length base long from to (Some (en.Item (it.Word word))) next = refl
 entry_length base long from to (Some (en.Item (it.Jump k))) next = unless_next (leads_next k next) long base from to
 entry_length base long from to (Some (en.Item (it.Branch c k))) next = branch_length long base c from to
-entry_length base long from to (Some (en.Item (it.Mark a n))) next = refl
-entry_length base long from to (Some (en.Item it.EndMark)) next = refl
+entry_length base long from to _ next = refl
 
 pub code_length : (base : ℕ) (entries : List Entry) (long : Forms) (n : ℕ)
     → length (code_to base entries long n) ≡ offset entries long n
@@ -178,23 +154,17 @@ has_more code xs ys n ws e h j w f = cc (e, get_first xs ys (n + j) w (h j w f))
 pub has_code : (base : ℕ) (entries : List Entry) (long : Forms) (m n : ℕ) → n < m
     → Has (code_to base entries long m) (offset entries long n) (code_at base entries long n)
 has_code base entries long zero n l = absurd (omega arith)
-has_code base entries long (suc m) n l = go (cases_lt n m) (has_code base entries long m n)
+has_code base entries long (suc m) n l = elim (cases_lt n m) [
+  | inl u ↦
+      has_more (code_to base entries long (suc m)) (code_to base entries long m) (code_at base entries long m)
+      (offset entries long n) (code_at base entries long n) (code_more base entries long m) (has_code base entries long m n u)
+  | inr u ↦ rw (let s : n ≡ m = omega arith in s) last
+]
   where
-    go : (n < m) ⊎ (m ≤ n) → (n < m → Has (code_to base entries long m) (offset entries long n) (code_at base entries
-        long n)) → Has (code_to base entries long (suc m)) (offset entries long n) (code_at base entries long n)
-    go (inl u) more =
-        has_more (code_to base entries long (suc m)) (code_to base entries long m) (code_at base entries long m)
-        (offset entries long n) (code_at base entries long n) (code_more base entries long m) (more u)
-    go (inr u) more =
-        let s : m ≡ n = omega arith in
-        rw (← s) last
-      where
-        last : Has (code_to base entries long (suc m)) (offset entries long m) (code_at base entries long m)
-        last j w f =
-            ap (λ (zs : List ℕ). slice_get zs (offset entries long m + j)) (code_more base entries long m)
-            ∙ ap (λ (z : ℕ). slice_get (code_to base entries long m ++ code_at base entries long m) (z + j)) (sym
-            (code_length base entries long m))
-            ∙ get_rest (code_to base entries long m) (code_at base entries long m) j ∙ f
+    last : Has (code_to base entries long (suc m)) (offset entries long m) (code_at base entries long m)
+    last j w f =
+        rw (code_more base entries long m) (ap (λ (z : ℕ). slice_get (code_to base entries long m ++ code_at base entries long m)
+        (z + j)) (sym (code_length base entries long m)) ∙ get_rest (code_to base entries long m) (code_at base entries long m) j ∙ f)
 
 -- ---- what an item says
 
@@ -222,7 +192,7 @@ module _ (base : ℕ) (p : Placement) where
       let first = i.Branch (opposite c) false (pos 6) ∷ nop ∷ [] in
       branch_long (omega (arith, eb)) (says_words base p.code first f a ea (
         branch_decodes (opposite c) false (pos 6) (opposite_low c range) refl,
-        (decodes nop refl refl, tt),
+        (decode_of-word_of nop refl refl, tt),
       ) (has_first p.code (words_of first) (words_of (long_jump (base + 4 * t))) f h)) (rw ek
       (says_words base p.code (long_jump (base + 4 * t)) (f + 2) (a + 8) (omega (arith, ea))
       (long_jump_decodes (base + 4 * t) (omega (arith, lt)))
@@ -230,7 +200,7 @@ module _ (base : ℕ) (p : Placement) where
   branch_says false c f t a b k range ea ek la lt near eb h =
       branch_short (between f t) (omega (arith, eb)) (rw ek (rw ea (reaches base f t la lt)))
       (says_words base p.code (i.Branch c true (between f t) ∷ nop ∷ []) f a ea
-      (branch_decodes c true (between f t) range (fits f t (near refl)), (decodes nop refl refl, tt)) h)
+      (branch_decodes c true (between f t) range (fits f t (near refl)), (decode_of-word_of nop refl refl, tt)) h)
 
   -- the piece to which an item leads starts at word t
   abbrev pub GoesTo : Item → ℕ → Type 0

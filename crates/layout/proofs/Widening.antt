@@ -22,13 +22,9 @@ unless true a b h = omega arith
 unless false a b h = choice a b 1 4 (omega arith) h
 
 wider : (x next : Option Entry) (a b : Bool) → (a ≡ true → b ≡ true) → width a x next ≤ width b x next
-wider None next a b h = omega arith
-wider (Some (e.Start k)) next a b h = omega arith
-wider (Some (e.Item (i.Word w))) next a b h = omega arith
 wider (Some (e.Item (i.Jump to))) next a b h = unless (leads_next to next) a b h
 wider (Some (e.Item (i.Branch c to))) next a b h = choice a b 2 6 (omega arith) h
-wider (Some (e.Item (i.Mark a n))) next x b h = omega arith
-wider (Some (e.Item i.EndMark)) next a b h = omega arith
+wider x next a b h = leb-true _ _ refl
 
 pub offset_more : (entries : List Entry) (long : Forms) (n : ℕ) → offset entries long (suc n)
     ≡ offset entries long n + width (long n) (slice_get entries n) (slice_get entries (suc n))
@@ -71,30 +67,26 @@ rises entries long a b l =
     rw e at (rises_by entries long a (b - a))
 
 pub far_means : (a b : ℕ) → far a b ≡ true → (a + 2 ^ 21 ≤ b) ⊎ (b + 2 ^ 21 < a)
-far_means a b h = go (cases_Bool (leb (a + 2 ^ 21) b)) h
-  where
-    go : (leb (a + 2 ^ 21) b ≡ true) ⊎ (leb (a + 2 ^ 21) b ≡ false) → far a b ≡ true
-        → (a + 2 ^ 21 ≤ b) ⊎ (b + 2 ^ 21 < a)
-    go (inl t) h = inl (leb-true (a + 2 ^ 21) b t)
-    go (inr f) h = inr (ltb-true (b + 2 ^ 21) a (sym (ap (λ (x : Bool). x || ltb (b + 2 ^ 21) a) f) ∙ h))
+far_means a b h = elim (cases_Bool (leb (a + 2 ^ 21) b)) [
+  | inl t ↦ inl (leb-true (a + 2 ^ 21) b t)
+  | inr f ↦ inr (ltb-true (b + 2 ^ 21) a (sym (ap (λ (x : Bool). x || ltb (b + 2 ^ 21) a) f) ∙ h))
+]
 
 pub far_if : (a b : ℕ) → (a + 2 ^ 21 ≤ b) ⊎ (b + 2 ^ 21 < a) → far a b ≡ true
 far_if a b (inl l) = ap (λ (x : Bool). x || ltb (b + 2 ^ 21) a) (le-leb (a + 2 ^ 21) b l)
 far_if a b (inr l) = or_right (leb (a + 2 ^ 21) b) (ltb (b + 2 ^ 21) a) (lt-ltb (b + 2 ^ 21) a l)
 
 further_up : (a b c d : ℕ) → a ≤ b → b + c ≤ d + a → far a b ≡ true → far c d ≡ true
-further_up a b c d l m h = go (far_means a b h)
-  where
-    go : (a + 2 ^ 21 ≤ b) ⊎ (b + 2 ^ 21 < a) → far c d ≡ true
-    go (inl x) = far_if c d (inl (omega arith))
-    go (inr x) = absurd (omega arith)
+further_up a b c d l m h = elim (far_means a b h) [
+  | inl x ↦ far_if c d (inl (omega arith))
+  | inr x ↦ absurd (omega arith)
+]
 
 further_down : (a b c d : ℕ) → b ≤ a → a + d ≤ c + b → far a b ≡ true → far c d ≡ true
-further_down a b c d l m h = go (far_means a b h)
-  where
-    go : (a + 2 ^ 21 ≤ b) ⊎ (b + 2 ^ 21 < a) → far c d ≡ true
-    go (inl x) = absurd (omega arith)
-    go (inr x) = far_if c d (inr (omega arith))
+further_down a b c d l m h = elim (far_means a b h) [
+  | inl x ↦ absurd (omega arith)
+  | inr x ↦ far_if c d (inr (omega arith))
+]
 
 -- what is out of reach stays so when more are long
 pub stays_far : (entries : List Entry) (long other : Forms) → IsWithin long other → (n : ℕ)
@@ -122,18 +114,15 @@ pub widening_more : (entries : List Entry) (long more : Forms) → IsWidening en
     → IsWithin long more → ((n : ℕ) → more n ≡ true → (long n ≡ true) ⊎ (is_far entries long n ≡ true))
     → IsWidening entries more
 widening_more entries long more h grown new = record {
-  needed = λ n e. needed n (new n e);
-  fewest = λ other o n e. fewest other o n (new n e);
+  needed = λ n e. elim (new n e) [
+    | inl l ↦ stays_far entries long more grown n (h.needed n l)
+    | inr f ↦ stays_far entries long more grown n f
+  ];
+  fewest = λ other o n e. elim (new n e) [
+    | inl l ↦ h.fewest other o n l
+    | inr f ↦ o n (stays_far entries long other (h.fewest other o) n f)
+  ];
 }
-  where
-    needed : (n : ℕ) → (long n ≡ true) ⊎ (is_far entries long n ≡ true) → is_far entries more n ≡ true
-    needed n (inl l) = stays_far entries long more grown n (h.needed n l)
-    needed n (inr f) = stays_far entries long more grown n f
-
-    fewest : (other : Forms) → NoneLeft entries other → (n : ℕ) → (long n ≡ true) ⊎ (is_far entries long n ≡ true)
-        → other n ≡ true
-    fewest other o n (inl l) = h.fewest other o n l
-    fewest other o n (inr f) = o n (stays_far entries long other (h.fewest other o) n f)
 
 -- All at once.
 pub widening_all : (entries : List Entry) (long more : Forms) → IsWidening entries long

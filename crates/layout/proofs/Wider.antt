@@ -14,16 +14,14 @@ pub wider_more : (entries : List Entry) (forms wide : List Bool) (n : ℕ) (x : 
     → x ≡ (get_or forms n false || is_far entries (forms_in forms) n) → AreWider entries forms (wide ++ x ∷ []) (n + 1)
 wider_more entries forms wide n x h e = record {
   len = let y = length-append wide (x ∷ []) in omega (arith, y, h.len);
-  each = λ k l. each k l (cases_lt k n);
-}
-  where
-    each : (k : ℕ) → k < n + 1 → (k < n) ⊎ (n ≤ k) → get_or (wide ++ x ∷ []) k false ≡ (get_or forms k false || is_far
-        entries (forms_in forms) k)
-    each k l (inl u) = get_or_append_left wide (x ∷ []) false k (omega (arith, h.len)) ∙ h.each k u
-    each k l (inr u) =
+  each = λ k l. elim (cases_lt k n) [
+    | inl u ↦ get_or_append_left wide (x ∷ []) false k (omega (arith, h.len)) ∙ h.each k u
+    | inr u ↦
         let s : k ≡ n = omega arith in
         let t : length wide ≡ k = h.len ∙ sym s in
         cc (get_or_push wide x false k t, e, s)
+  ];
+}
 
 -- past the entries none is out of reach
 not_far : (entries : List Entry) (long : Forms) (n : ℕ) → length entries ≤ n → is_far entries long n ≡ false
@@ -34,18 +32,16 @@ not_far entries long n l =
 pub wider_all : (entries : List Entry) (forms wide : List Bool) → length forms ≡ length entries
     → AreWider entries forms wide (length forms) → (n : ℕ) → forms_in wide n ≡ (forms_in forms n || is_far entries
     (forms_in forms) n)
-wider_all entries forms wide e h n = go (cases_lt n (length forms))
-  where
-    go : (n < length forms) ⊎ (length forms ≤ n) → forms_in wide n ≡ (forms_in forms n || is_far entries (forms_in
-        forms) n)
-    go (inl l) = h.each n l
-    go (inr l) =
-        rw (
-          (get_or_past wide n false (omega (arith, h.len))),
-          get_or_past forms n false l,
-          not_far entries
-              (forms_in forms) n (omega arith),
-        ) refl
+wider_all entries forms wide e h n = elim (cases_lt n (length forms)) [
+  | inl l ↦ h.each n l
+  | inr l ↦
+      rw (
+        (get_or_past wide n false (omega (arith, h.len))),
+        get_or_past forms n false l,
+        not_far entries
+            (forms_in forms) n (omega arith),
+      ) refl
+]
 
 counted : (x : Bool) (xs : List Bool) → count_by (λ b. b) (x ∷ xs) ≡ cond x 1 0 + count_by (λ b. b) xs
 counted x xs = sum_by-cons (λ (b : Bool). cond b 1 0) x xs
@@ -93,19 +89,16 @@ pass_counts entries forms wide e h =
 pub widening_last : (entries : List Entry) (forms wide : List Bool) → length forms ≡ length entries
     → AreWider entries forms wide (length forms) → IsWidening entries (forms_in forms)
     → count_by (λ b. b) wide ≡ count_by (λ b. b) forms → IsWidened entries (forms_in forms)
-widening_last entries forms wide e h w c = go (pass_counts entries forms wide e h)
-  where
-    go : (forms ≡ wide) ⊎ (count_by (λ b. b) forms < count_by (λ b. b) wide) → IsWidened entries (forms_in forms)
-    go (inl s) = widening_ends entries (forms_in forms) w (λ n. cc (s, wider_all entries forms wide e h n))
-    go (inr l) = absurd (omega arith)
+widening_last entries forms wide e h w c = elim (pass_counts entries forms wide e h) [
+  | inl s ↦ widening_ends entries (forms_in forms) w (λ n. cc (s, wider_all entries forms wide e h n))
+  | inr l ↦ absurd (omega arith)
+]
 
 -- a pass that changes the count has fewer left to widen
 pub pass_smaller : (entries : List Entry) (forms wide : List Bool) (long count : ℕ) → length forms ≡ length entries
     → AreWider entries forms wide (length forms) → long ≡ count_by (λ b. b) forms → count ≡ count_by (λ b. b) wide
     → count ≤ length wide → (count ≡ long → ⊥) → length entries - count < length entries - long
-pass_smaller entries forms wide long count e h a b l n = go (pass_counts entries forms wide e h)
-  where
-    go : (forms ≡ wide) ⊎ (count_by (λ b. b) forms < count_by (λ b. b) wide)
-        → length entries - count < length entries - long
-    go (inl s) = absurd (n (b ∙ ap (count_by (λ b. b)) (sym s) ∙ sym a))
-    go (inr m) = omega (arith, h.len)
+pass_smaller entries forms wide long count e h a b l n = elim (pass_counts entries forms wide e h) [
+  | inl s ↦ absurd (n (b ∙ ap (count_by (λ b. b)) (sym s) ∙ sym a))
+  | inr m ↦ omega (arith, h.len)
+]

@@ -5,33 +5,24 @@ use Rattle.layout.proofs.forms.widened.Goals as goal
 
 pub returns-then-count-long-clause-widened : goal.returns-then-count-long-clause-widened
 returns-then-count-long-clause-widened c =
-    let f : c.deref-in-loop-forms.result.now ≡ c.in_ok-wide.wide.items = c.deref-in-loop-forms.ensures.value in
-    let w : AreWider c.args.entries.now c.loop-forms.forms.items c.in_ok-wide.wide.items (length
-    c.loop-forms.forms.items) = rw c.deref.ensures.value at c.in_ok-wide.ensures in
-    let n : c.count_long-count.result ≡ count_by (λ b. b) c.in_ok-wide.wide.items = rw f at
-    c.count_long-count.ensures.count in
+    let w = rw c.deref.ensures.value at c.in_ok-wide.ensures in
+    let n = rw c.deref-in-loop-forms.ensures.value at c.count_long-count.ensures.count in
     widening_last c.args.entries.now c.loop-forms.forms.items c.in_ok-wide.wide.items c.loop-forms.invariant.len w
     c.loop-forms.invariant.widening (sym n ∙ c.if-count-long.true ∙ c.loop-forms.invariant.count)
 
 pub loop-forms-smaller : goal.loop-forms-smaller
 loop-forms-smaller c =
-    let f : c.deref-in-loop-forms.result.now ≡ c.in_ok-wide.wide.items = c.deref-in-loop-forms.ensures.value in
-    let w : AreWider c.args.entries.now c.loop-forms.forms.items c.in_ok-wide.wide.items (length
-    c.loop-forms.forms.items) = rw c.deref.ensures.value at c.in_ok-wide.ensures in
-    let n : c.count_long-count.result ≡ count_by (λ b. b) c.in_ok-wide.wide.items = rw f at
-    c.count_long-count.ensures.count in
-    let m : c.count_long-count.result ≤ length c.in_ok-wide.wide.items = rw f at c.count_long-count.ensures.at_most in
+    let w = rw c.deref.ensures.value at c.in_ok-wide.ensures in
+    let n = rw c.deref-in-loop-forms.ensures.value at c.count_long-count.ensures.count in
+    let m = rw c.deref-in-loop-forms.ensures.value at c.count_long-count.ensures.at_most in
     pass_smaller c.args.entries.now c.loop-forms.forms.items c.in_ok-wide.wide.items c.loop-forms.long
     c.count_long-count.result c.loop-forms.invariant.len w
     c.loop-forms.invariant.count n m c.if-count-long.false
 
 pub loop-forms-preserved : goal.loop-forms-preserved
 loop-forms-preserved c =
-    let f : c.deref-in-loop-forms.result.now ≡ c.in_ok-wide.wide.items = c.deref-in-loop-forms.ensures.value in
-    let w : AreWider c.args.entries.now c.loop-forms.forms.items c.in_ok-wide.wide.items (length
-    c.loop-forms.forms.items) = rw c.deref.ensures.value at c.in_ok-wide.ensures in
-    let n : c.count_long-count.result ≡ count_by (λ b. b) c.in_ok-wide.wide.items = rw f at
-    c.count_long-count.ensures.count in
+    let w = rw c.deref.ensures.value at c.in_ok-wide.ensures in
+    let n = rw c.deref-in-loop-forms.ensures.value at c.count_long-count.ensures.count in
     record {
       len = w.len ∙ c.loop-forms.invariant.len;
       count = n;
