@@ -1,7 +1,7 @@
 -- A word that is an instruction is encoded again, with 0 in the bits that its form ignores.
 use Rattle.std.proofs.Common.{◌≡◌, ℕ, ◌-◌, ◌*◌, ◌%◌, ◌^◌, ◌<◌, Bool, true, false, [], ◌∷◌, Some, None, ◌==◌, refl, sym, ap, ◌∙◌, arith}
 use Rattle.std.specs.Prelude.{if◌then◌else◌}
-use Rattle.std.proofs.lemmas.Bool.{and_from, true≢false, eqb-true, eqb-false, lt-ltb}
+use Rattle.std.proofs.lemmas.Bool.{and_from, true≢false, eqb-true, eqb-false, lt-ltb, cond_both}
 use Rattle.v8_decode.specs.declared.Instr.{Instr}
 use Rattle.v8_decode.specs.declared.Instr.TheVariants as i
 use Rattle.v8_decode.specs.declared.AluOp.{AluOp}
@@ -56,23 +56,18 @@ refitted_three w op op3 instr has word ignored below the_op the_op3 =
 
 -- one that a test allows
 if_so : (w : ℕ) (b : Bool) (instr : Instr) → (b ≡ true → Refits w instr) → Refits w (if b then instr else i.Illegal)
-if_so w true instr fits = fits refl
-if_so w false instr fits = none w i.Illegal refl
+if_so w b instr fits = cond_both b instr i.Illegal (Refits w) fits (λ _. none w i.Illegal refl)
 
 -- RDY and STBAR ignore all below rs1
 refitted_read_state : (w : ℕ) → w < 2 ^ 32 → field w 30 2 ≡ 2 → op3_of w ≡ 0x28
     → Refits w (if rs1_of w == 0 then i.ReadY (rd_of w) else (if rs1_of w == 15 then (if rd_of w == 0 then i.Stbar else i.Illegal) else i.Illegal))
-refitted_read_state w below the_op the_op3 = go (rs1_of w == 0) refl
-  where
-    go : (a : Bool) → (rs1_of w == 0) ≡ a
-        → Refits w (if a then i.ReadY (rd_of w) else (if rs1_of w == 15 then (if rd_of w == 0 then i.Stbar else i.Illegal) else i.Illegal))
-    go true e =
-        let rs1 = eqb-true (rs1_of w) 0 e in
-        refitted w (i.ReadY (rd_of w)) refl (omega arith)
-    go false e = if_so w (rs1_of w == 15) _ (λ f. if_so w (rd_of w == 0) i.Stbar (λ g.
-        let rs1 = eqb-true (rs1_of w) 15 f in
-        let rd = eqb-true (rd_of w) 0 g in
-        refitted w i.Stbar refl (omega arith)))
+refitted_read_state w below the_op the_op3 = cond_both (rs1_of w == 0) (i.ReadY (rd_of w)) _ (Refits w) (λ e.
+    let rs1 = eqb-true (rs1_of w) 0 e in
+    refitted w (i.ReadY (rd_of w)) refl (omega arith))
+    (λ e. if_so w (rs1_of w == 15) _ (λ f. if_so w (rd_of w == 0) i.Stbar (λ g.
+    let rs1 = eqb-true (rs1_of w) 15 f in
+    let rd = eqb-true (rd_of w) 0 g in
+    refitted w i.Stbar refl (omega arith))))
 
 refitted_write_state : (w : ℕ) → w < 2 ^ 32 → field w 30 2 ≡ 2 → op3_of w ≡ 0x30 → Refits w (if rd_of w == 0 then i.WriteY (rs1_of w) (op2_of w) else i.Illegal)
 refitted_write_state w below the_op the_op3 = if_so w (rd_of w == 0) (i.WriteY (rs1_of w) (op2_of w)) (λ e.

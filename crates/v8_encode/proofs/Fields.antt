@@ -1,7 +1,7 @@
 -- The fields of a word that was put together, and a word put together of its fields.
 use Rattle.std.proofs.Common.{◌≡◌, ℕ, suc, ◌+◌, ◌-◌, ◌*◌, ◌^◌, ◌<◌, ◌≤◌, Bool, true, false, nat_lt, ◌==◌, ℤ, pos, negsuc, ◌-ℤ◌, refl, ap, ◌∙◌, arith}
 use Rattle.std.specs.Prelude.{if◌then◌else◌}
-use Rattle.std.proofs.lemmas.Bool.{eqb-true, eqb-false, ltb-true, ltb-false, le-ltb, lt-ltb}
+use Rattle.std.proofs.lemmas.Bool.{eqb-true, eqb-false, ltb-true, ltb-false, le-ltb, lt-ltb, cond_both}
 use Rattle.std.proofs.lemmas.Int.{ints}
 use Rattle.v8_decode.specs.declared.Op2.{Op2}
 use Rattle.v8_decode.specs.declared.Op2.TheVariants as o
@@ -46,17 +46,13 @@ signed-signed_field width (negsuc n) twice fits =
     rw (le-ltb _ _ high, minus (2 ^ width - suc n) (2 ^ width) below, back) refl
 
 pub signed_field-signed : (width n : ℕ) → 2 ^ width ≡ 2 * 2 ^ (width - 1) → n < 2 ^ width → (fits_signed width (signed width n) ≡ true) × (signed_field width (signed width n) ≡ n)
-signed_field-signed width n twice below = go (nat_lt n (2 ^ (width - 1))) refl
-  where
-    go : (b : Bool) → nat_lt n (2 ^ (width - 1)) ≡ b
-        → (fits_signed width (if b then pos n else (pos n -ℤ pos (2 ^ width))) ≡ true) × (signed_field width (if b then pos n else (pos n -ℤ pos (2 ^ width))) ≡ n)
-    go true e = (e, refl)
-    go false e =
-        let high = ltb-false n (2 ^ (width - 1)) e in
-        let small : 2 ^ width - suc n < 2 ^ (width - 1) = omega arith in
-        let back : 2 ^ width - suc (2 ^ width - suc n) ≡ n = omega arith in
-        let value = minus n (2 ^ width) below in
-        (ap (fits_signed width) value ∙ lt-ltb _ _ small, ap (signed_field width) value ∙ back)
+signed_field-signed width n twice below = cond_both (nat_lt n (2 ^ (width - 1))) (pos n) (pos n -ℤ pos (2 ^ width))
+    (λ z. (fits_signed width z ≡ true) × (signed_field width z ≡ n)) (λ e. (e, refl)) (λ e.
+    let high = ltb-false n (2 ^ (width - 1)) e in
+    let small : 2 ^ width - suc n < 2 ^ (width - 1) = omega arith in
+    let back : 2 ^ width - suc (2 ^ width - suc n) ≡ n = omega arith in
+    let value = minus n (2 ^ width) below in
+    (ap (fits_signed width) value ∙ lt-ltb _ _ small, ap (signed_field width) value ∙ back))
 
 -- ---- the second operand
 
@@ -79,14 +75,8 @@ op2_of-field (o.Imm simm13) w fits range e =
 
 -- a word's operand fits its field
 pub op2_fits-op2_of : (w : ℕ) → op2_fits (op2_of w) ≡ true
-op2_fits-op2_of w = go (field w 13 1 == 0)
-  where
-    below : field w 0 13 < 2 ^ 13
-    below = omega arith
-
-    go : (b : Bool) → op2_fits (if b then o.Reg (field w 0 5) else o.Imm (signed 13 (field w 0 13))) ≡ true
-    go true = refl
-    go false = (signed_field-signed 13 (field w 0 13) refl below).0
+op2_fits-op2_of w = cond_both (field w 13 1 == 0) (o.Reg (field w 0 5)) (o.Imm (signed 13 (field w 0 13)))
+    (λ x. op2_fits x ≡ true) (λ _. refl) (λ _. (signed_field-signed 13 (field w 0 13) refl (omega arith)).0)
 
 -- the operand is told by bits 13 to 0
 pub op2_of-same : (v w : ℕ) → field v 0 14 ≡ field w 0 14 → op2_of v ≡ op2_of w
@@ -98,14 +88,10 @@ op2_of-same v w e =
 
 -- a word of format 3, put together again of its fields
 pub format3-fields : (w : ℕ) → w < 2 ^ 32 → format3 (field w 30 2) (rd_of w) (op3_of w) (rs1_of w) (op2_of w) ≡ cleared (ignored_beside (op2_of w)) w
-format3-fields w below = go (field w 13 1 == 0) refl
-  where
-    go : (b : Bool) → (field w 13 1 == 0) ≡ b
-        → format3 (field w 30 2) (rd_of w) (op3_of w) (rs1_of w) (if b then o.Reg (field w 0 5) else o.Imm (signed 13 (field w 0 13)))
-        ≡ cleared (ignored_beside (if b then o.Reg (field w 0 5) else o.Imm (signed 13 (field w 0 13)))) w
-    go true e = let i = eqb-true (field w 13 1) 0 e in omega arith
-    go false e =
-        let i = eqb-false (field w 13 1) 0 e in
-        let low : field w 0 13 < 2 ^ 13 = omega arith in
-        let back = (signed_field-signed 13 (field w 0 13) refl low).1 in
-        ap (λ x. field w 30 2 * 2 ^ 30 + rd_of w * 2 ^ 25 + op3_of w * 2 ^ 19 + rs1_of w * 2 ^ 14 + (2 ^ 13 + x)) back ∙ omega arith
+format3-fields w below = cond_both (field w 13 1 == 0) (o.Reg (field w 0 5)) (o.Imm (signed 13 (field w 0 13)))
+    (λ x. format3 (field w 30 2) (rd_of w) (op3_of w) (rs1_of w) x ≡ cleared (ignored_beside x) w)
+    (λ e. let i = eqb-true (field w 13 1) 0 e in omega arith) (λ e.
+    let i = eqb-false (field w 13 1) 0 e in
+    let low : field w 0 13 < 2 ^ 13 = omega arith in
+    let back = (signed_field-signed 13 (field w 0 13) refl low).1 in
+    ap (λ x. field w 30 2 * 2 ^ 30 + rd_of w * 2 ^ 25 + op3_of w * 2 ^ 19 + rs1_of w * 2 ^ 14 + (2 ^ 13 + x)) back ∙ omega arith)
