@@ -61,7 +61,7 @@ same_state : (u : State) (pc npc : ℕ) (slot : Slot) (registers : List ℕ) (wi
 same_state u pc npc slot registers window valid codes y memory input ending e1 e2 e3 e4 e5 e6 e7 e8 e9 e10 e11 =
     rw (← e1, ← e2, ← e3, ← e4, ← e5, ← e6, ← e7, ← e8, ← e9, ← e10, ← e11) refl
 
-in_place : (registers : List ℕ) (w r : ℕ) → 0 < r → register_in registers w r ≡ slice_index registers (place_of w r)
+pub in_place : (registers : List ℕ) (w r : ℕ) → 0 < r → register_in registers w r ≡ slice_index registers (place_of w r)
 in_place registers w zero some = absurd (omega arith)
 in_place registers w (suc r) some = refl
 

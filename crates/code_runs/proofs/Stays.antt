@@ -1,5 +1,6 @@
 -- Words of the pages stay.
 use Rattle.std.proofs.Common.{◌≡◌, ℕ, ◌+◌, ◌-◌, ◌<◌, ◌≤◌, ◌⊎◌, inl, inr, Bool, true, false, ◌&&◌, Some, List, [], ◌∷◌, ◌++◌, length, take, drop, refl, ap, sym, ◌∙◌, subst, arith, length-append, length-drop}
+use Rattle.std.proofs.lemmas.Bool.{false_from_ne_true}
 use Rattle.std.specs.Prelude.{if◌then◌else◌}
 use Rattle.std.specs.Int.{w32, from_be_bytes}
 use Rattle.std.specs.List.{find}
@@ -95,11 +96,8 @@ keeps_heap a f m b e = record {
 
 -- such a word is the one that is loaded and stored
 pub not_heap : (a : ℕ) (f : Bool) (m : Memory) → HasWordAt a f m → covers a 4 m.heap ≡ false
-not_heap a f m h = go (covers a 4 m.heap) refl
-  where
-    go : (c : Bool) → covers a 4 m.heap ≡ c → c ≡ false
-    go false e = refl
-    go true e = let i = covered a 4 m.heap e in absurd (omega (arith, i.0, i.1, h.away, h.start, h.size))
+not_heap a f m h = false_from_ne_true (covers a 4 m.heap) (λ e.
+    let i = covered a 4 m.heap e in omega (arith, i.0, i.1, h.away, h.start, h.size))
 
 pub region_of_word : (a : ℕ) (f : Bool) (m : Memory) → HasWordAt a f m → region_at m a 4 ≡ find (covers a 4) m.regions
 region_of_word a f m h = ap (λ (z : Bool). if z then Some m.heap else find (covers a 4) m.regions) (not_heap a f m h)

@@ -1,5 +1,6 @@
 -- What loads and stores of words do.
 use Rattle.std.proofs.Common.{◌≡◌, ℕ, ◌+◌, ◌-◌, ◌^◌, ◌<◌, ◌≤◌, ◌⊎◌, inl, inr, Bool, true, false, ◌&&◌, Option, Some, None, List, [], ◌∷◌, ◌++◌, length, take, drop, refl, ap, sym, ◌∙◌, subst, arith, length-append, length-drop, append_assoc, drop-drop, All, IfSome}
+use Rattle.std.proofs.lemmas.Bool.{cond_both}
 use Rattle.std.specs.Prelude.{if◌then◌else◌}
 use Rattle.std.specs.Int.{w32, to_be_bytes, from_be_bytes}
 use Rattle.std.specs.List.{find}
@@ -16,14 +17,10 @@ use Rattle.v8_step.specs.Valid.{AreBytes, IsValidMemory, IsValidRegion}
 use Rattle.v8_step.proofs.ValidNumbers.{word_of-range}
 use Rattle.code_runs.specs.StoredWords.{word_in, memory_word, store_word, CanLoad, CanStore}
 
-covers_case : (p : Region → Bool) (q r : Region) (rs : List Region) (b : Bool) → p q ≡ b
-    → (if b then Some q else find p rs) ≡ Some r → (find p rs ≡ Some r → p r ≡ true) → p r ≡ true
-covers_case p q r rs true h f k = cc
-covers_case p q r rs false h f k = k f
-
 pub covers_first : (p : Region → Bool) (rs : List Region) (r : Region) → find p rs ≡ Some r → p r ≡ true
 covers_first p [] r e = absurd (cc)
-covers_first p (q ∷ rs) r e = covers_case p q r rs (p q) refl e (λ f. covers_first p rs r f)
+covers_first p (q ∷ rs) r e = cond_both (p q) (Some q) (find p rs) (λ x. x ≡ Some r → p r ≡ true) (λ h s. cc)
+    (λ h s. covers_first p rs r s) e
 
 -- a part of what was spliced in
 spliced_same : (xs bs : List ℕ) (k : ℕ) → k ≤ length xs
@@ -73,7 +70,7 @@ spliced_other xs bs k j n h (inr s) =
 width : (v : ℕ) → length (to_be_bytes w32 v) ≡ 4
 width v = refl
 
-placed_in : (m : Memory) (a b v : ℕ) → region_at (store_word m b v) a 4 ≡ option_map (written b (to_be_bytes w32 v))
+pub placed_in : (m : Memory) (a b v : ℕ) → region_at (store_word m b v) a 4 ≡ option_map (written b (to_be_bytes w32 v))
     (region_at m a 4)
 unfolding store_word
 placed_in m a b v = find-written a 4 b (to_be_bytes w32 v) (m.heap ∷ m.regions)
@@ -185,11 +182,8 @@ word_written m a v h = ap (write_region a (to_be_bytes w32 v) m) h.at
 -- ---- all that is known of a word of valid memory
 found : (P : Region → Type 0) (p : Region → Bool) (rs : List Region) → All P rs → IfSome (find p rs) P
 found P p [] h = tt
-found P p (r ∷ rs) h = go (p r) (find p rs) (found P p rs (All-tail P r rs h))
-  where
-    go : (b : Bool) (x : Option Region) → IfSome x P → IfSome (if b then Some r else x) P
-    go true x k = All-head P r rs h
-    go false x k = k
+found P p (r ∷ rs) h = cond_both (p r) (Some r) (find p rs) (λ x. IfSome x P) (λ _. All-head P r rs h)
+    (λ _. found P p rs (All-tail P r rs h))
 
 -- a store changes nothing that can be executed, and no word that can't be
 pub code-store_word : (m : Memory) (a v : ℕ) → code_of (store_word m a v) ≡ code_of m

@@ -62,6 +62,12 @@ stores_more May m n a v h k = record {
   result = ap (λ (z : Memory). store_word z a v) h.result ∙ sym (store_all-append h.writes a v m);
 }
 
+-- an operation that leaves the codes and Y
+pub alu_acts : (u : State) (op : AluOp) (rd rs1 : ℕ) (op2 : Op2) (v : ℕ) → Gives op rs1 op2 v u
+    → act u (i.Alu op false rd rs1 op2) ≡ next (with_register u rd v)
+unfolding act alu_step
+alu_acts u op rd rs1 op2 v e = ap (alu_step u rd) e
+
 module _ (s : State) (count : ℕ) (May : ℕ → Type 0) (a b : ℕ) (c : HasScratch s count a b) where
   -- before the first word
   works_none : Works s count May a b 0 s.memory (register_of s a) (register_of s b)
@@ -169,11 +175,6 @@ module _ (s : State) (count : ℕ) (May : ℕ → Type 0) (a b : ℕ) (c : HasSc
       (ap (λ z. next (with_register w.after b z)) e) refl refl (alike_second m x y v w.after w.alike) w.stores w.code
 
   -- ---- operations that leave the codes and Y
-  alu_acts : (u : State) (op : AluOp) (rd rs1 : ℕ) (op2 : Op2) (v : ℕ) → Gives op rs1 op2 v u
-      → act u (i.Alu op false rd rs1 op2) ≡ next (with_register u rd v)
-  unfolding act alu_step
-  alu_acts u op rd rs1 op2 v e = ap (alu_step u rd) e
-
   alu_first : (n : ℕ) (m : Memory) (x y : ℕ) (op : AluOp) (rs1 : ℕ) (op2 : Op2) (v : ℕ) → Works s count May a b n m x y
       → IsNext s count n (i.Alu op false a rs1 op2) → ((u : State) → IsAlike s a b m x y u → Gives op rs1 op2 v u)
       → Works s count May a b (suc n) m v y
