@@ -2,7 +2,7 @@
 use Rattle.std.proofs.Common.{◌≡◌, ℕ, ◌<◌, ◌^◌, Bool, true, false, nat_lt, ◌&&◌, List, codes, Option, Some, None, ℤ, pos, negsuc, inl, inr, refl, ap, ap₂, sym, subst, ◌∙◌, arith}
 use Rattle.std.specs.Str.{bytes_eq}
 use Rattle.std.specs.Option.{option_map}
-use Rattle.std.proofs.lemmas.Bool.{and_parts, lt-ltb, ltb-true, true≢false}
+use Rattle.std.proofs.lemmas.Bool.{and_parts, lt-ltb, ltb-true, true≢false, false_from_ne_true}
 use Rattle.line_words.specs.Words.{number_of, register_of, split_at}
 use Rattle.line_words.proofs.Numbers.{number_read}
 use Rattle.line_words.proofs.Registers.{register_read}
@@ -32,13 +32,8 @@ unfolding split_at
 one_word = refl
 
 pub apart : (name rest : List ℕ) → is_whole 32 name ≡ true → bytes_eq (named name rest) (codes "stbar") ≡ false
-apart name rest whole = go (bytes_eq (named name rest) (codes "stbar")) refl
-  where
-    go : (b : Bool) → bytes_eq (named name rest) (codes "stbar") ≡ b → b ≡ false
-    go false is = refl
-    go true is =
-        let same = ap (split_at 32) (text_is (named name rest) (codes "stbar") is) in
-        absurd (cc (sym (split_back 32 name rest whole) ∙ same ∙ one_word))
+apart name rest whole = false_from_ne_true _ (λ is.
+    cc (sym (split_back 32 name rest whole) ∙ ap (split_at 32) (text_is (named name rest) (codes "stbar") is) ∙ one_word))
 
 named_back : (at : ℕ) (name rest : List ℕ) (what : Name) (instr : Instr) → is_plain name ≡ true
     → name_of name ≡ Some what → instr_in at what rest ≡ Some instr → instr_of at (named name rest) ≡ Some instr
