@@ -77,13 +77,7 @@ says : (op rd op3 rs1 : ℕ) (op2 : Op2) → op < 4 → rd < 32 → op3 < 64 →
 says op rd op3 rs1 op2 h0 h1 h2 range fits =
     let parts = and_parts (nat_lt rs1 32) (op2_in_range op2) range in
     let fields = format3_fields op rd op3 rs1 (op2_field op2) h0 h1 h2 (ltb-true rs1 32 parts.0) (op2_field-lt op2 fits parts.1) in
-    record {
-      the_op = fields.the_op;
-      the_rd = fields.the_rd;
-      the_op3 = fields.the_op3;
-      the_rs1 = fields.the_rs1;
-      the_op2 = op2_of-field op2 (format3 op rd op3 rs1 op2) fits parts.1 fields.the_low;
-    }
+    assumption (fields, op2_of-field op2 (format3 op rd op3 rs1 op2) fits parts.1 fields.the_low)
 
 operands : {op rd op3 rs1 : ℕ} {op2 : Op2} {w : ℕ} → (row : ℕ → Op2 → Instr) → Says op rd op3 rs1 op2 w → row (rs1_of w) (op2_of w) ≡ row rs1 op2
 operands row s = ap₂ row s.the_rs1 s.the_op2
