@@ -127,16 +127,8 @@ same_reading instr s u f = (
 twins_from : (pages : List Span) (s u : State) → AreRegisters s.registers → AreRegisters u.registers
     → s.ending ≡ u.ending → IsSameWorld pages s u → ((item : StateItem) → IsItem item → IsSameAt item s u)
     → AreTwins pages s u
-twins_from pages s u rs ru e w f = record {
-  registers = ext_get_or 0 s.registers u.registers w.registers register;
-  codes = f Codes tt;
-  y = f YRegister tt;
-  window = w.window;
-  valid = w.valid;
-  input = w.input;
-  ending = e;
-  memory = w.memory;
-}
+twins_from pages s u rs ru e w f =
+    assumption (ext_get_or 0 s.registers u.registers w.registers register, f Codes tt, f YRegister tt)
   where
     register : (k : ℕ) → k < length s.registers → slice_index s.registers k ≡ slice_index u.registers k
     register zero below = rs.zero ∙ sym ru.zero
@@ -211,16 +203,12 @@ module _ (pages : List Span) (s u : State) (live : s.ending ≡ None) (live' : u
   led_delayed instr rd to to' e f = record {
     alike = record {
       ending = live ∙ sym live';
-      world = record {
-        window = w.window;
-        valid = w.valid;
-        input = w.input;
-        memory = w.memory;
-        registers = same_lengths s.registers u.registers (register_set s.registers s.window rd s.pc)
-            (register_set u.registers u.window rd u.pc)
-            w.registers (length-register_set s.registers s.window rd s.pc)
-            (length-register_set u.registers u.window rd u.pc);
-      };
+      world = assumption (
+        w,
+        same_lengths s.registers u.registers (register_set s.registers s.window rd s.pc)
+            (register_set u.registers u.window rd u.pc) w.registers (length-register_set s.registers s.window rd s.pc)
+            (length-register_set u.registers u.window rd u.pc),
+      );
       items = λ _ item g. linked_items rd s.pc u.pc to to' at.pc item (among item g);
     };
     point = λ _. record { pc = at.npc; npc = e; slot = refl };

@@ -78,19 +78,7 @@ module _ (s : State) (count : ℕ) (May : ℕ → Type 0) (a b : ℕ) (c : HasSc
     pc = omega arith;
     npc = (let e = c.ready.npc in omega arith);
     slot = λ z. absurd (omega arith);
-    alike = record {
-      live = c.ready.live;
-      window = refl;
-      valid = refl;
-      input = refl;
-      codes = refl;
-      y_register = refl;
-      registers = c.registers;
-      first = refl;
-      second = refl;
-      others = λ p x y. refl;
-      memory = refl;
-    };
+    alike = assumption c;
     stores = stores_none May s.memory;
     code = refl;
   }
@@ -232,19 +220,7 @@ module _ (s : State) (count : ℕ) (May : ℕ → Type 0) (a b : ℕ) (c : HasSc
       (ap (λ (z : Memory). store_word z address (register_of w.after rd)) h.memory
       ∙ ap (store_word m address) (value w.after w.alike)))
       refl refl
-      (record {
-        live = h.live;
-        window = h.window;
-        valid = h.valid;
-        input = h.input;
-        codes = h.codes;
-        y_register = h.y_register;
-        registers = h.registers;
-        first = h.first;
-        second = h.second;
-        others = h.others;
-        memory = refl;
-      })
+      (assumption h)
       (stores_more May s.memory m address v w.stores may) (code-store_word m address v ∙ w.code)
 
   pub block_rules : BlockRules s count May a b
