@@ -86,10 +86,8 @@ module _ (s : State) (count : ℕ) (May : ℕ → Type 0) (a b : ℕ) (c : HasSc
       let h = w.alike in
       same_state w.after _ _ _ (register_set s.registers s.window b y) _ _ _ _ _ _ s.ending w.pc w.npc (w.slot some)
       (both_same w.after.registers (register_set s.registers s.window b y) s.window a b c.first_some c.second_some h.registers (length-register_set s.registers s.window b y ∙ c.registers)
-      (subst (λ (wd : ℕ). register_in w.after.registers wd a ≡ register_in s.registers s.window a) h.window h.first
-      ∙ sym (kept y))
-      (subst (λ (wd : ℕ). register_in w.after.registers wd b ≡ y) h.window h.second
-      ∙ sym (register_in-set s.registers s.window b y c.registers c.second_some))
+      ((rw h.window at h.first) ∙ sym (kept y))
+      ((rw h.window at h.second) ∙ sym (register_in-set s.registers s.window b y c.registers c.second_some))
       (λ p na nb. h.others p na nb ∙ sym (set_stays s.registers s.window b y p nb)))
       h.window h.valid h.codes h.y_register h.memory h.input (h.live ∙ sym c.ready.live)
     where
@@ -143,24 +141,20 @@ module _ (s : State) (count : ℕ) (May : ℕ → Type 0) (a b : ℕ) (c : HasSc
       ∙ jump_acts w.after 0 a through to (w.slot some) (target w.after h) four in
       let two : step_of s2 ≡ next (with_register s2 a (register_of s a)) =
       says_step s2 (i.Load loads.LD a 0 back) h.live load_here
-      ∙ ld_acts s2 a 0 back address (sums s2) aligned (subst (λ (z : Memory). CanLoad z address) (sym h.memory) can)
+      ∙ ld_acts s2 a 0 back address (sums s2) aligned (rw h.memory can)
       ∙ ap (λ z. next (with_register s2 a z)) (ap (λ (z : Memory). memory_word z address) h.memory ∙ value) in
       let there : next (with_register s2 a (register_of s a)) ≡ hopped s to m =
       same_state (next (with_register s2 a (register_of s a))) _ _ _ s.registers _ _ _ _ _ _ s.ending refl refl refl
       (both_same (register_set w.after.registers w.after.window a
       (register_of s a)) s.registers s.window a b c.first_some c.second_some
       (length-register_set w.after.registers w.after.window a (register_of s a) ∙ h.registers) c.registers
-      (subst (λ (wd : ℕ). register_in (register_set w.after.registers wd a
-      (register_of s a)) s.window a ≡ register_of s a) (sym h.window) (register_in-set w.after.registers s.window a (register_of s a) h.registers c.first_some))
-      (subst (λ (wd : ℕ). register_in (register_set w.after.registers wd a
-      (register_of s a)) s.window b ≡ register_of s b) (sym h.window)
-      (in_place _ s.window b c.second_some ∙ set_stays w.after.registers s.window a (register_of s a)
+      (rw h.window (register_in-set w.after.registers s.window a (register_of s a) h.registers c.first_some))
+      (rw h.window (in_place _ s.window b c.second_some ∙ set_stays w.after.registers s.window a (register_of s a)
       (place_of s.window b) (places_differ s.window b a c.window c.second_below c.first_below
       (λ e. c.differ (sym e)))
-      ∙ sym (in_place _ s.window b c.second_some) ∙ subst
-      (λ (wd : ℕ). register_in w.after.registers wd b ≡ register_of s b) h.window h.second))
+      ∙ sym (in_place _ s.window b c.second_some) ∙ (rw h.window at h.second)))
       (λ z na nb. set_stays w.after.registers w.after.window a (register_of s a) z
-      (subst (λ (wd : ℕ). z ≢ place_of wd a) (sym h.window) na) ∙ h.others z na nb))
+      (rw h.window na) ∙ h.others z na nb))
       h.window h.valid h.codes h.y_register h.memory h.input (h.live ∙ sym c.ready.live) in
       let inside : Stores May s.memory w.after.memory = rw h.memory w.stores in
       let last = leads_then (IsBetween s count May) w.after s2 (hopped s to m) 1 1 (leads_one _ w.after s2 one)
