@@ -1,7 +1,7 @@
 -- The picked registers are different, and as many as are wanted.
 use Rattle.std.proofs.Common.{◌≡◌, ◌≢◌, ℕ, zero, suc, ◌+◌, ◌-◌, ◌<◌, ◌≤◌, ◌⊎◌, inl, inr, Bool, true, false, not, ◌&&◌, ◌||◌, List, [], ◌∷◌, ◌++◌, length, refl, ap, sym, ◌∙◌, subst, arith, length-append, length-take}
 use Rattle.std.specs.Prelude.{if◌then◌else◌, slice_index, filter}
-use Rattle.std.proofs.lemmas.Bool.{and_parts, cases_lt}
+use Rattle.std.proofs.lemmas.Bool.{and_parts, cases_lt, cond_both}
 use Rattle.std.proofs.lemmas.Bool.Decides.{nat_tests}
 use Rattle.std.proofs.lemmas.List.{get_or-take, get_or_append_left, get_or-append-add}
 use Rattle.v8_decode.specs.declared.Part.{Part}
@@ -25,11 +25,9 @@ passing_more p lo x (y ∷ ys) l h = (let a = h.0 in omega arith, h.1, h.2, h.3)
 
 filtered : (p : ℕ → Bool) (lo : ℕ) (xs : List ℕ) → Ascends lo xs → Passing p lo (filter p xs)
 filtered p lo [] h = tt
-filtered p lo (x ∷ xs) h = go (p x) refl (filtered p x xs h.2)
-  where
-    go : (b : Bool) → p x ≡ b → Passing p x (filter p xs) → Passing p lo (if b then x ∷ filter p xs else filter p xs)
-    go true e k = (h.0, h.1, e, k)
-    go false e k = passing_more p lo x (filter p xs) (let a = h.0 in omega arith) k
+filtered p lo (x ∷ xs) h = cond_both (p x) (x ∷ filter p xs) (filter p xs) (Passing p lo)
+    (λ e. (h.0, h.1, e, filtered p x xs h.2))
+    (λ e. passing_more p lo x (filter p xs) (let a = h.0 in omega arith) (filtered p x xs h.2))
 
 passing_at : (p : ℕ → Bool) (lo : ℕ) (xs : List ℕ) (k : ℕ) → Passing p lo xs → k < length xs
     → (lo < slice_index xs k) × (slice_index xs k < 32) × (p (slice_index xs k) ≡ true)
