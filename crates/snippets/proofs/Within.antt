@@ -2,7 +2,7 @@
 use Rattle.std.proofs.Math.Nat.{le_refl, le_trans}
 use Rattle.std.proofs.Common.{◌≡◌, ℕ, zero, suc, ◌+◌, ◌<◌, ◌≤◌, ◌^◌, ◌==◌, Bool, true, false, if◌then◌else◌, List, [], ◌∷◌, ◌++◌, append-nil, length, take, get_or, Some, None, refl, ap, subst, ◌∙◌, arith}
 use Rattle.std.specs.Prelude.{nat_le, nat_lt}
-use Rattle.std.proofs.lemmas.Bool.{eqb-true, leb-false, ltb-false}
+use Rattle.std.proofs.lemmas.Bool.{eqb-true, leb-false, ltb-false, cond_both}
 use Rattle.std.proofs.lemmas.List.{length-append, take_more}
 use Rattle.std.proofs.lemmas.List.Elements.{All-append}
 use Rattle.std.proofs.Math.Seq.{take-length}
@@ -74,14 +74,9 @@ passes false false false x y z h = record { first = refl; second = refl; third =
 
 one_more : (edge other : ℕ) (op : Op) (before : List Op) → (other ≡ edge → length before < 8) → length before ≤ 8
     → length (before ++ on_edge edge (Does other op)) ≤ 8
-one_more edge other op before room few = by_test (other == edge) refl
-  where
-    by_test : (b : Bool) → (other == edge) ≡ b → length (before ++ (if b then op ∷ [] else [])) ≤ 8
-    by_test true is =
-        let size = length-append before (op ∷ []) in
-        let free = room (eqb-true other edge is) in
-        omega arith
-    by_test false is = rw (append-nil before) few
+one_more edge other op before room few = cond_both (other == edge) (op ∷ []) [] (λ more. length (before ++ more) ≤ 8)
+    (λ is. omega (arith, length-append before (op ∷ []), room (eqb-true other edge is)))
+    (λ is. rw (append-nil before) few)
 
 kept_more : (edges : ℕ) (before : List Said) (line : Said) → Kept edges before → fault_of edges before line ≡ None
     → Kept edges (before ++ line ∷ [])
