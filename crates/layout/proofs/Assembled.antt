@@ -23,7 +23,7 @@ use Rattle.layout.proofs.Listed.{items_at, from_append, split_at, start_at, befo
 use Rattle.layout.proofs.Widening.{offset_more, rises}
 use Rattle.layout.proofs.Emitted.{near_enough}
 use Rattle.layout.proofs.Standing.{code_length, get_rest, has_code, item_stands, GoesTo, IsNextAt, IsNearTo}
-use Rattle.layout.proofs.Ranging.{seen, AreStill, piece_ranges, seen_both, count_more, order_ascends, order_finds, AllOf, all_then, at_next, at_this, get_low, one_of, piece_made}
+use Rattle.layout.proofs.Ranging.{ascend_from, seen, AreStill, piece_ranges, seen_both, count_more, order_ascends, order_finds, AllOf, all_then, at_next, at_this, get_low, one_of, piece_made}
 
 -- ---- lists
 
@@ -434,15 +434,8 @@ module _ (pieces : List (List Item)) (leads : AllLead pieces) (marked : AllMarke
 
   ascend : Ascend base (base + 4 * length placed.code) placed.ranges
   ascend =
-      let first : base + 4 * offset (entries_of pieces) long 0 ≡ base = (let f = first_at entries long in omega
-      (arith, f)) in
-      subst (Ascend base (base + 4 * length placed.code)) (sym ranges_are)
-      (subst (λ (z : ℕ). Ascend z (base + 4 * length placed.code) (seen (ranges_from (address_of base entries long) 0
-      None entries))) first
-      (subst (λ (z : ℕ). Ascend (base + 4 * offset (entries_of pieces) long 0) z (seen (ranges_from (address_of base
-      entries long) 0 None entries))) (sym end_is)
-      (order_ascends at up pieces (marked_at pieces marked) (compact_order pieces) 0 (length (entries_of pieces))
-      (omega arith))))
+      rw (ranges_are, end_is) (ascend_from (at 0) _ base _ (omega (arith, first_at entries long))
+      (order_ascends at up pieces (marked_at pieces marked) (compact_order pieces) 0 (length (entries_of pieces)) (omega arith)))
 
   order_made : (ks before : List ℕ) (c : ℕ) → compact_order pieces ≡ before ++ ks
       → c ≡ length (entries_from pieces before)

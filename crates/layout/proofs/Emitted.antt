@@ -1,7 +1,7 @@
 -- The words of one entry more.
 use Rattle.std.proofs.Common.{◌≡◌, ℕ, suc, ◌+◌, ◌*◌, ◌^◌, ◌<◌, ◌≤◌, ◌⊎◌, inl, inr, true, false, List, [], ◌++◌, length, slice_get, is_some, IfSome, Option, None, Some, refl, ap, sym, ◌∙◌, add-one, arith}
 use Rattle.std.specs.Option.{option_map}
-use Rattle.std.proofs.lemmas.Bool.{cases_lt, cases_Bool, false≢true}
+use Rattle.std.proofs.lemmas.Bool.{cases_lt, cases_Bool, false≢true, false_from_ne_true}
 use Rattle.layout.specs.declared.entries.Entry.{Entry}
 use Rattle.layout.specs.Forms.{Forms, far_from, goal_of, is_far, offset, start_of, NoneLeft}
 use Rattle.layout.specs.Emitting.{code_at, code_to, far_of, has_condition, target_offset, IsEmitted, IsOffsets}
@@ -37,10 +37,8 @@ emitted_more base entries long code new n h e c = rw add-one record {
 -- what is short is near
 pub near_enough : (entries : List Entry) (long : Forms) (n : ℕ) → NoneLeft entries long → long n ≡ false
     → far_of (offset entries long n) (target_offset entries long n) ≡ false
-near_enough entries long n none short = by (goal_of entries n) (elim (cases_Bool (is_far entries long n)) [
-  | inl t ↦ absurd (false≢true (sym short ∙ none n t))
-  | inr f ↦ f
-])
+near_enough entries long n none short = by (goal_of entries n)
+    (false_from_ne_true (is_far entries long n) (λ t. false≢true (sym short ∙ none n t)))
   where
     by : (o : Option ℕ) → far_from entries long n o ≡ false → far_of (offset entries long n) (option_map (offset
         entries long) o) ≡ false

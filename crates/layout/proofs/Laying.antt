@@ -3,7 +3,7 @@ use Rattle.std.proofs.Common.{◌≡◌, ◌≢◌, ℕ, zero, suc, ◌+◌, ◌
 use Rattle.std.specs.Prelude.{if◌then◌else◌}
 use Rattle.std.specs.Cmp.{IsEquivalence}
 use Rattle.std.specs.List.{All, IsDistinct}
-use Rattle.std.proofs.lemmas.Bool.{and_parts, cases_lt, cases_eq, eqb-true, eq-eqb, cases_Bool, ltb-true, lt-ltb, false≢true, ne_eqb}
+use Rattle.std.proofs.lemmas.Bool.{and_parts, cases_lt, cases_eq, eqb-true, eq-eqb, cases_Bool, ltb-true, lt-ltb, false≢true, ne_eqb, false_from_ne_true}
 use Rattle.std.proofs.lemmas.List.Folds.{list_any-append, Any-from_list_any}
 use Rattle.std.proofs.lemmas.Map.Keys.{any_passes_from_place, IsDistinct-push}
 use Rattle.std.proofs.lemmas.List.Elements.{All-push}
@@ -91,10 +91,7 @@ through_next : (pieces : List (List Item)) (laid : List ℕ) (last : ℕ) → Is
     → IsNext pieces laid (suc last)
 through_next pieces laid last h end none more = record {
   inside = more;
-  free = elim (cases_Bool (is_laid laid (suc last))) [
-    | inl e ↦ absurd ((h.falls last no_exit e).1 end)
-    | inr e ↦ e
-  ];
+  free = false_from_ne_true (is_laid laid (suc last)) (λ e. (h.falls last no_exit e).1 end);
   falls = λ j e f. ap (is_laid laid) (same j last e) ∙ last_laid laid last end;
 }
   where
@@ -373,13 +370,8 @@ lowest_is pieces laid marks low k h more within above passed free = record {
 
 pub marking_higher : (pieces : List (List Item)) (laid : List ℕ) (marks : List Bool) (low k : ℕ)
     → IsMarking pieces laid marks low → IsLowestLeft pieces laid k → IsMarking pieces laid marks k
-marking_higher pieces laid marks low k h l = record {
-  order = h.order;
-  len = h.len;
-  shown = h.shown;
-  within = omega (arith, l.inside);
-  below = l.below;
-}
+marking_higher pieces laid marks low k h l =
+    let within : k ≤ length pieces = omega (arith, l.inside) in assumption (within, h, l)
 
 pub marking_more : (pieces : List (List Item)) (laid : List ℕ) (marks : List Bool) (low x : ℕ)
     → IsMarking pieces laid marks low

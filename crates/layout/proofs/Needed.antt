@@ -1,7 +1,7 @@
 -- How much room the compact layout needs.
 use Rattle.std.proofs.Common.{◌≡◌, ℕ, zero, suc, ◌+◌, ◌*◌, ◌^◌, ◌<◌, ◌≤◌, ◌⊎◌, inl, inr, Bool, true, false, List, [], ◌∷◌, ◌++◌, length, map, get_or, take, slice_get, Option, Some, None, refl, ap, sym, ◌∙◌, arith}
 use Rattle.std.specs.Prelude.{if◌then◌else◌}
-use Rattle.std.proofs.lemmas.Bool.{cases_Bool, false≢true}
+use Rattle.std.proofs.lemmas.Bool.{cases_Bool, false≢true, false_from_ne_true}
 use Rattle.std.proofs.lemmas.List.Sums.{sum_by-cons}
 use Rattle.std.proofs.lemmas.List.{take_more, take_all}
 use Rattle.std.proofs.lemmas.Option.{slice_get-get_or}
@@ -131,10 +131,8 @@ module _ (pieces : List (List Item)) (base : ℕ) (p : Placement) (place : ℕ �
 
   short : (k n : ℕ) (x : Item) → item_at pieces k n ≡ Some x → (to : ℕ) → target (Some (en.Item x)) ≡ Some to
       → to < length pieces → c.long (entry_no k n) ≡ false
-  short k n x e to t l = elim (cases_Bool (c.long (entry_no k n))) [
-    | inl f ↦ absurd (false≢true (sym reach ∙ c.widened.needed (entry_no k n) f))
-    | inr f ↦ f
-  ]
+  short k n x e to t l =
+      false_from_ne_true (c.long (entry_no k n)) (λ f. false≢true (sym reach ∙ c.widened.needed (entry_no k n) f))
     where
       goal_is : goal_of (entries_of pieces) (entry_no k n) ≡ Some (start_of (entries_of pieces) to)
       goal_is = cc (entry_is pieces leads k n x e, t)

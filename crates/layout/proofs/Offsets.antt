@@ -1,7 +1,7 @@
 -- The words before each entry, and before each piece.
 use Rattle.std.proofs.Common.{◌≡◌, ℕ, zero, suc, ◌+◌, ◌*◌, ◌<◌, ◌≤◌, ◌⊎◌, inl, inr, Bool, true, false, List, [], ◌∷◌, ◌++◌, length, get_or, slice_get, slice_index, Option, Some, None, refl, ap, sym, ◌∙◌, add-one, arith, drop}
 use Rattle.std.specs.Prelude.{if◌then◌else◌}
-use Rattle.std.proofs.lemmas.Bool.{leb-true, cases_lt, eqb-true}
+use Rattle.std.proofs.lemmas.Bool.{leb-true, cases_lt, eqb-true, cond_both}
 use Rattle.std.proofs.Math.Seq.{drop-cons}
 use Rattle.std.proofs.lemmas.List.{append_assoc}
 use Rattle.std.proofs.lemmas.Option.{slice_get-get_or}
@@ -58,14 +58,9 @@ start_is k (en.Item item) e = absurd (cc)
 started : (entries : List Entry) (k : ℕ) → start_of entries k < length entries
     → slice_get entries (start_of entries k) ≡ Some (en.Start (record { 0 = k }))
 started [] k l = absurd (omega (arith, l))
-started (x ∷ xs) k l = by (is_start k x) refl (started xs k) l
-  where
-    by : (b : Bool) → is_start k x ≡ b
-        → (start_of xs k < length xs → slice_get xs (start_of xs k) ≡ Some (en.Start (record { 0 = k })))
-        → (if b then 0 else suc (start_of xs k)) < suc (length xs)
-        → slice_get (x ∷ xs) (if b then 0 else suc (start_of xs k)) ≡ Some (en.Start (record { 0 = k }))
-    by true e rec l = ap Some (start_is k x e)
-    by false e rec l = rec (omega (arith, l))
+started (x ∷ xs) k l = cond_both (is_start k x) 0 (suc (start_of xs k))
+    (λ n. n < suc (length xs) → slice_get (x ∷ xs) n ≡ Some (en.Start (record { 0 = k })))
+    (λ e _. ap Some (start_is k x e)) (λ e m. started xs k (omega (arith, m))) l
 
 -- one entry more, which has `here` words before it
 pub offsets_more : (entries : List Entry) (starts : List ℕ) (long : Forms) (old new : List ℕ) (n here : ℕ) (x : Entry)

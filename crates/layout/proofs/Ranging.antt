@@ -14,7 +14,7 @@ use Rattle.layout.specs.Laid.{note_range, range_in, item_at, AreMarked, OpenMark
 use Rattle.layout.specs.Forms.{entries_in, entries_from}
 use Rattle.layout.specs.Emitting.{closed, closes, opens, ranges_from}
 use Rattle.layout.proofs.Listed.{items_at}
-use Rattle.std.proofs.lemmas.Bool.{lt-ltb, ltb-true}
+use Rattle.std.proofs.lemmas.Bool.{lt-ltb, ltb-true, cond_both}
 
 -- the ranges as notes say them
 abbrev pub seen : List Range → List NoteRange
@@ -22,7 +22,7 @@ seen ranges = map note_range ranges
 
 -- ---- one after the other
 
-ascend_from : (b : ℕ) (rs : List NoteRange) (a c : ℕ) → a ≤ b → Ascend b c rs → Ascend a c rs
+pub ascend_from : (b : ℕ) (rs : List NoteRange) (a c : ℕ) → a ≤ b → Ascend b c rs → Ascend a c rs
 ascend_from b [] a c h k = omega arith
 ascend_from b (r ∷ rs) a c h k = let x = k.0 in (omega arith, k.1, k.2)
 
@@ -114,11 +114,9 @@ ended_at m here = record { lo = m.lo; hi = record { 0 = here }; address = m.addr
 
 closed_ascends : (m : OpenRange) (here to : ℕ) (rest : List Range) → m.lo.0 ≤ here → Ascend here to (seen rest)
     → Ascend m.lo.0 to (seen (closed (Some m) here ++ rest))
-closed_ascends m here to rest h k = go (nat_lt m.lo.0 here) refl
-  where
-    go : (b : Bool) → nat_lt m.lo.0 here ≡ b → Ascend m.lo.0 to (seen ((if b then ended_at m here ∷ [] else []) ++ rest))
-    go true e = (omega arith, ltb-true m.lo.0 here e, k)
-    go false e = ascend_from here (seen rest) m.lo.0 to h k
+closed_ascends m here to rest h k = cond_both (nat_lt m.lo.0 here) (ended_at m here ∷ []) []
+    (λ rs. Ascend m.lo.0 to (seen (rs ++ rest))) (λ e. (omega arith, ltb-true m.lo.0 here e, k))
+    (λ e. ascend_from here (seen rest) m.lo.0 to h k)
 
 -- past an item that closes nothing
 past_item : (place : ℕ → ℕ) → Rises place → (i to : ℕ) (mark : Option OpenRange) (xs : List Item)
@@ -201,25 +199,21 @@ at_first place up x xs i a None None e same marked low h k =
 at_first place up x xs i a (Some o) (Some m) e same marked low h k =
     closes_at place up xs (suc i) a m marked (omega arith) k
     ∙ same_range place o m (place (end_from xs (suc i))) same.0 (ap place (same.1 ∙ e)) same.2 same.3
-at_first place up x xs i a None (Some m) e same marked low h k = absurd same
-at_first place up x xs i a (Some o) None e same marked low h k = absurd same
+at_first place up x xs i a o mark e same marked low h k = absurd same
 
 same_on : (place : ℕ → ℕ) (x : Item) (xs : List Item) (i : ℕ) (o : Option OpenMark) (mark : Option OpenRange)
     → end_from (x ∷ xs) i ≡ end_from xs (suc i) → AreSame place (x ∷ xs) i o mark → AreSame place xs (suc i) o mark
 same_on place x xs i None None e h = tt
 same_on place x xs i (Some o) (Some m) e h = (h.0, h.1 ∙ e, h.2, h.3)
-same_on place x xs i None (Some m) e h = absurd h
-same_on place x xs i (Some o) None e h = absurd h
+same_on place x xs i o mark e h = absurd h
 
 -- the range of a Mark that has ended isn't found any more
 closed_past : (mark : Option OpenRange) (here a : ℕ) (rest : List Range) → here ≤ a
     → range_in (seen (closed mark here ++ rest)) a ≡ range_in (seen rest) a
 closed_past None here a rest h = refl
-closed_past (Some m) here a rest h = go (nat_lt m.lo.0 here)
-  where
-    go : (b : Bool) → range_in (seen ((if b then ended_at m here ∷ [] else []) ++ rest)) a ≡ range_in (seen rest) a
-    go true = ap (λ (z : Bool). if z then Some (range_at m here) else range_in (seen rest) a) (past m.lo.0 here a h)
-    go false = refl
+closed_past (Some m) here a rest h = cond_both (nat_lt m.lo.0 here) (ended_at m here ∷ []) []
+    (λ rs. range_in (seen (rs ++ rest)) a ≡ range_in (seen rest) a)
+    (λ _. ap (λ (z : Bool). if z then Some (range_at m here) else range_in (seen rest) a) (past m.lo.0 here a h)) (λ _. refl)
 
 low_on : (place : ℕ → ℕ) → Rises place → (i : ℕ) (mark : Option OpenRange) → begin_of mark (place i) ≤ place i
     → begin_of mark (place (suc i)) ≤ place (suc i)
@@ -414,11 +408,8 @@ module _ (pieces : List (List Item)) (place : ℕ → ℕ → ℕ) where
 
   closed_made : (mark : Option OpenRange) (here : ℕ) → IsMade mark → AllOf (seen (closed mark here))
   closed_made None here h = tt
-  closed_made (Some m) here h = go (nat_lt m.lo.0 here)
-    where
-      go : (b : Bool) → AllOf (seen (if b then ended_at m here ∷ [] else []))
-      go true = (h here, tt)
-      go false = tt
+  closed_made (Some m) here h =
+      cond_both (nat_lt m.lo.0 here) (ended_at m here ∷ []) [] (λ rs. AllOf (seen rs)) (λ _. (h here, tt)) (λ _. tt)
 
   pub piece_made : (items : List Item) (k i : ℕ) (mark : Option OpenRange)
       → ((j : ℕ) (x : Item) → slice_get items j ≡ Some x → item_at pieces k (i + j) ≡ Some x)

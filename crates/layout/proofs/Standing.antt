@@ -3,7 +3,7 @@ use Rattle.std.proofs.Common.{◌≡◌, ℕ, zero, suc, ◌+◌, ◌-◌, ◌*�
 use Rattle.std.proofs.lemmas.Int.{ints}
 use Rattle.std.specs.Prelude.{pos, negsuc, ℤ, nat_lt, if◌then◌else◌, slice_index}
 use Rattle.std.proofs.lemmas.Bool.Decides.{nat_tests}
-use Rattle.std.proofs.lemmas.Bool.{lt-ltb, cases_lt, false≢true}
+use Rattle.std.proofs.lemmas.Bool.{lt-ltb, cases_lt, false≢true, cond_both}
 use Rattle.v8_decode.specs.declared.Op2.TheVariants.{Imm}
 use Rattle.v8_decode.specs.declared.Instr.{Instr}
 use Rattle.v8_decode.specs.declared.Instr.TheVariants as i
@@ -104,11 +104,8 @@ long_jump_decodes to low = (
     rest n h = grind (arith, nat_tests)
 
 opposite_low : (cond : ℕ) → nat_lt cond 16 ≡ true → nat_lt (opposite cond) 16 ≡ true
-opposite_low cond h = go (nat_lt cond 8) refl
-  where
-    go : (b : Bool) → nat_lt cond 8 ≡ b → nat_lt (if b then cond + 8 else cond - 8) 16 ≡ true
-    go true e = grind (arith, nat_tests)
-    go false e = grind (arith, nat_tests)
+opposite_low c h = cond_both (nat_lt c 8) (c + 8) (c - 8) (λ n. nat_lt n 16 ≡ true) (λ e. grind (arith, nat_tests))
+    (λ e. grind (arith, nat_tests))
 
 branch_decodes : (cond : ℕ) (annul : Bool) (disp : ℤ) → nat_lt cond 16 ≡ true → fits_signed 22 disp ≡ true
     → decode_of (word_of (i.Branch cond annul disp)) ≡ i.Branch cond annul disp

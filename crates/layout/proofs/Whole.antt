@@ -28,14 +28,7 @@ module _ (pieces : List (List Item)) (base room : ℕ) (entries : List Entry) (s
   made p h =
       let q = subst (λ (es : List Entry). IsListing es starts × IsPut base es starts (forms_in forms) p) f.entries_are
       (f.listing, h) in
-      record {
-        widened = widened;
-        count = f.count;
-        listing = q.0;
-        emitted = q.1.emitted;
-        at = q.1.at;
-        ranges = q.1.ranges;
-      }
+      assumption (widened, f.count, q)
 
   needed : (n : ℕ) → n ≡ 4 * offset entries (forms_in forms) (length entries) → IsNeeded pieces n
   needed n e = record { long = forms_in forms; widened = widened; value = cc (e, f.entries_are) }

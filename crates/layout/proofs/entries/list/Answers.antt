@@ -9,24 +9,18 @@ loop-k-preserved c =
     let p : c.put_at.new.entries.items ≡ c.loop-k.entries.items ++ entries_in j (get_or c.args.pieces.now j []) =
     c.in_ok-put_at.ensures in
     let m : c.len.result ≡ length c.loop-k.entries.items = search rules in
-    rw (p, m) (listed_more c.args.pieces.now c.args.order.now c.loop-k.entries.items c.loop-k.starts.items
-    c.loop-k.k-index j
-    c.loop-k.invariant c.requires.whole c.loop-k-test.true refl)
+    rw (p, m) (listed_more _ _ _ _ _ j c.loop-k.invariant c.requires.whole c.loop-k-test.true refl)
 
 pub returns-clause-entries : goal.returns-clause-entries
 returns-clause-entries c =
-    listed_entries c.args.pieces.now c.args.order.now c.loop-k.entries.items c.loop-k.starts.items c.loop-k.k-index
-    c.loop-k.invariant (omega arith)
+    listed_entries _ _ _ _ _ c.loop-k.invariant (omega arith)
 
 pub returns-clause-listing : goal.returns-clause-listing
 returns-clause-listing c =
-    listed_all c.args.pieces.now c.args.order.now c.loop-k.entries.items c.loop-k.starts.items c.loop-k.k-index
-    c.loop-k.invariant
-    c.requires.whole c.requires.leads (omega arith)
+    listed_all _ _ _ _ _ c.loop-k.invariant c.requires.whole c.requires.leads (omega arith)
 
 pub returns-clause-small : goal.returns-clause-small
 returns-clause-small c =
-    let e = ap length (listed_entries c.args.pieces.now c.args.order.now c.loop-k.entries.items c.loop-k.starts.items
-    c.loop-k.k-index c.loop-k.invariant (omega arith)) in
+    let e = ap length (listed_entries _ _ _ _ _ c.loop-k.invariant (omega arith)) in
     let f = few_entries c.args.pieces.now c.args.order.now c.requires.whole in
     omega (arith, e, f, c.requires.few, c.requires.items)

@@ -18,8 +18,7 @@ overflow_add-here c =
 
 pub loop-n-preserved : goal.loop-n-preserved
 loop-n-preserved c = record {
-  here = offset_next c.args.entries.now (forms_in c.args.forms.now) c.loop-n.n c.loop-n.here c.width_at-here.result
-      c.loop-n.invariant.here c.width_at-here.ensures.value;
+  here = offset_next _ _ _ _ _ c.loop-n.invariant.here c.width_at-here.ensures.value;
   len = c.note_start.ensures.len ∙ c.loop-n.invariant.len;
   so_far = offsets_more c.args.entries.now c.args.starts.now (forms_in c.args.forms.now) c.loop-n.at.items
       c.note_start.new.at.items c.loop-n.n c.loop-n.here c.index-entries-n.result c.requires.listing
@@ -31,6 +30,5 @@ loop-n-preserved c = record {
 
 pub returns-clause-at : goal.returns-clause-at
 returns-clause-at c =
-    all_offsets c.args.entries.now c.args.starts.now (forms_in c.args.forms.now) c.loop-n.at.items c.loop-n.n
-    c.requires.listing c.loop-n.invariant.len (omega (arith, c.loop-n-test.false, c.loop-n.auto.n-end))
+    all_offsets _ _ _ _ _ c.requires.listing c.loop-n.invariant.len (omega (arith, c.loop-n-test.false, c.loop-n.auto.n-end))
     c.loop-n.invariant.so_far

@@ -15,8 +15,6 @@ pub loop-n-preserved : goal.loop-n-preserved
 loop-n-preserved c =
     let e : c.push.new.self.items ≡ c.loop-n.wide.items ++ c.form_after.result ∷ [] = c.in_ok-push.ensures.items in
     record {
-      wider = rw e (wider_more c.args.entries.now c.args.forms.now c.loop-n.wide.items c.loop-n.n c.form_after.result
-          c.loop-n.invariant.wider c.form_after.ensures);
-      here = offset_next c.args.entries.now (forms_in c.args.forms.now) c.loop-n.n c.loop-n.here c.width_at-here.result
-          c.loop-n.invariant.here c.width_at-here.ensures.value;
+      wider = rw e (wider_more _ _ _ _ _ c.loop-n.invariant.wider c.form_after.ensures);
+      here = offset_next _ _ _ _ _ c.loop-n.invariant.here c.width_at-here.ensures.value;
     }

@@ -7,7 +7,7 @@ pub returns-then-count-long-clause-widened : goal.returns-then-count-long-clause
 returns-then-count-long-clause-widened c =
     let w = rw c.deref.ensures.value at c.in_ok-wide.ensures in
     let n = rw c.deref-in-loop-forms.ensures.value at c.count_long-count.ensures.count in
-    widening_last c.args.entries.now c.loop-forms.forms.items c.in_ok-wide.wide.items c.loop-forms.invariant.len w
+    widening_last _ _ _ c.loop-forms.invariant.len w
     c.loop-forms.invariant.widening (sym n ∙ c.if-count-long.true ∙ c.loop-forms.invariant.count)
 
 pub loop-forms-smaller : goal.loop-forms-smaller

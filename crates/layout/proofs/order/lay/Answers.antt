@@ -8,5 +8,4 @@ returns-clause-marking c =
     let is : c.next-next.result ≡ next_piece c.args.pieces.now c.args.laid.now.items = rw c.deref.ensures.value at
     c.next-next.ensures.value in
     let e : c.push.new.self.items ≡ c.args.laid.now.items ++ c.next-next.result ∷ [] = c.in_ok-push.ensures.items in
-    rw e (marking_more c.args.pieces.now c.args.laid.now.items c.args.marks.now.items c.args.lowest c.next-next.result
-    c.requires.marking is c.next-next.ensures.inside)
+    rw e (marking_more _ _ _ _ _ c.requires.marking is c.next-next.ensures.inside)

@@ -24,9 +24,6 @@ loop-n-preserved c =
     let layout = c.args.self.now in
     let long = forms_in layout.forms.now in
     record {
-      emitted = emitted_more layout.base.0 layout.entries.now long c.loop-n.code.items
-          c.put_at.new.code.items c.loop-n.n
-          c.loop-n.invariant.emitted c.in_ok-put_at.ensures.code c.in_ok-put_at.ensures.condition;
-      here = offset_next layout.entries.now long c.loop-n.n c.loop-n.here c.width_at-here.result
-          c.loop-n.invariant.here c.width_at-here.ensures.value;
+      emitted = emitted_more _ _ _ _ _ _ c.loop-n.invariant.emitted c.in_ok-put_at.ensures.code c.in_ok-put_at.ensures.condition;
+      here = offset_next _ _ _ _ _ c.loop-n.invariant.here c.width_at-here.ensures.value;
     }

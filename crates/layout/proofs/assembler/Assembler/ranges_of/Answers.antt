@@ -33,6 +33,5 @@ loop-n-preserved c =
           c.loop-n.ranges.items c.put_entry.new.ranges.items _ (omega (arith, c.loop-n-test.true)) c.entry-item.is
           (cc (c.address.ensures, c.loop-n.invariant.here))
           c.loop-n.invariant.ranges c.in_ok-open_mark.ensures.ranges c.in_ok-open_mark.ensures.mark;
-      here = offset_next layout.entries.now long c.loop-n.n c.loop-n.here c.width_at-here.result
-          c.loop-n.invariant.here c.width_at-here.ensures.value;
+      here = offset_next _ _ _ _ _ c.loop-n.invariant.here c.width_at-here.ensures.value;
     }

@@ -19,13 +19,13 @@ module _ (entries : List Entry) (long : Forms) (at : List ℕ) (offsets : IsOffs
 pub bounds-self-k : goal.bounds-self-k
 bounds-self-k c =
     let layout = c.args.self.now in
-    inside layout.entries.now (forms_in layout.forms.now) layout.at.now layout.offsets c.args.n c.in-Some.k
+    inside _ _ _ layout.offsets c.args.n c.in-Some.k
     (leads layout.entries.now c.args.n c.index-self-n.result c.in-Some.k c.requires.inside
     (sym c.target.ensures ∙ c.in-Some.is))
 
 pub returns-in-Some : goal.returns-in-Some
 returns-in-Some c =
     let layout = c.args.self.now in
-    offset_is layout.entries.now (forms_in layout.forms.now) layout.at.now layout.offsets c.args.n c.in-Some.k
+    offset_is _ _ _ layout.offsets c.args.n c.in-Some.k
     (leads layout.entries.now c.args.n c.index-self-n.result c.in-Some.k c.requires.inside
     (sym c.target.ensures ∙ c.in-Some.is))
