@@ -35,21 +35,19 @@ module _ (count : ℕ) (m : Memory) (sp : ℕ) where
       let a = t + 4 in
       let k = r.turns in
       let body = body_of count m t r stand in
-      let first = at m sp t (t + 4) NoSlot (holding 0 sum o7 codes) in
       let start = at m sp a (a + 4) NoSlot (holding k sum o7 codes) in
       let end = at m sp (a + 16) (a + 20) NoSlot (holding 0 (sum + k * r.amount) o7 (left 0)) in
-      let last = at m sp (o7 + 8) (o7 + 8 + 4) NoSlot (holding 0 (sum + k * r.amount) o7 (left 0)) in
       let is = drawn.turns in
       let few = drawn.few in
       let same : k * r.amount ≡ suc drawn.more * r.amount = ap (λ n. n * r.amount) is in
       let all : Way count start end (4 * k) = rw is
       (turns count m sp a r.amount o7 body (omega arith) drawn.small drawn.more sum codes drawn.few
       (omega (arith, same, fits))) in
-      as_long count first last (1 + (4 * k + 2)) (4 * k + 3) (omega arith)
-      (follows count first start last 1 (4 * k + 2)
-      (one count first start _ refl stand.0 refl
+      as_long count _ _ (1 + (4 * k + 2)) (4 * k + 3) (omega arith)
+      (follows count _ _ _ 1 (4 * k + 2)
+      (one count _ _ _ refl stand.0 refl
       (count_acts m sp t (t + 4) (a + 4) k NoSlot (holding 0 sum o7 codes) (omega arith) (omega (arith, is, few))))
-      (follows count start end last (4 * k) 2 all
+      (follows count _ _ _ (4 * k) 2 all
       (returns count m sp a r.amount o7 body (omega arith) drawn.small (holding 0 (sum + k * r.amount) o7 (left 0))
       (omega arith) aligned)))
 
@@ -59,12 +57,9 @@ module _ (count : ℕ) (m : Memory) (sp : ℕ) where
       → Way count (at m sp c (c + 4) NoSlot (holding 0 sum o7 codes))
       (at m sp t (t + 4) NoSlot (holding 0 sum c codes)) 2
   called c t distance sum o7 codes stand leads low =
-      let s = at m sp c (c + 4) NoSlot (holding 0 sum o7 codes) in
-      let u = at m sp (c + 4) t Taken (holding 0 sum c codes) in
-      let v = at m sp t (t + 4) NoSlot (holding 0 sum c codes) in
-      follows count s u v 1 1
-      (one count s u _ refl stand.0 refl (call_acts m sp c (c + 4) t distance (holding 0 sum o7 codes) (omega arith)))
-      (one count u v _ refl stand.1.0 refl
+      follows count _ _ _ 1 1
+      (one count _ _ _ refl stand.0 refl (call_acts m sp c (c + 4) t distance (holding 0 sum o7 codes) (omega arith)))
+      (one count _ _ _ refl stand.1.0 refl
       (nop_acts m sp (c + 4) t (t + 4) Taken (holding 0 sum c codes) (omega arith)))
 
   -- the state after some calls
@@ -98,9 +93,6 @@ module _ (count : ℕ) (m : Memory) (sp : ℕ) where
       let all_sums = sum_by-cons routine_sum r rs in
       let more : n + suc (length rs) ≤ count = within in
       let parts = both count m t (routine_code r) (flat_map routine_code rs) ts in
-      let start = at m sp c (c + 4) NoSlot (holding 0 sum o7 codes) in
-      let entered = at m sp t (t + 4) NoSlot (holding 0 sum c codes) in
-      let back = at m sp (c + 8) (c + 8 + 4) NoSlot (holding 0 (sum + routine_sum r) c (left 0)) in
       let rest = calls rs (n + 1) (c + 8) (t + 28) (sum + routine_sum r) c (left 0) drawn.1 (omega (arith, more)) few
       (omega arith) (omega arith)
       (moved_to count m (c + 4 + 4) (c + 8) (flat_map (call_of count) (range_with_len (n + 1) (length rs)))
@@ -108,16 +100,15 @@ module _ (count : ℕ) (m : Memory) (sp : ℕ) where
       parts.second (omega (arith, all_sums, fits)) in
       let pc = c + 8 + 8 * length rs in
       let after = sum + routine_sum r + sum_by routine_sum rs in
-      let last = at m sp pc (pc + 4) NoSlot (holding 0 after rest.o7 rest.codes) in
       let rest_steps = 2 * length rs + sum_by routine_steps rs in
-      comes start pc after (2 + (routine_steps r + rest_steps)) (c + 8 * suc (length rs))
+      comes _ pc after (2 + (routine_steps r + rest_steps)) (c + 8 * suc (length rs))
       (sum + sum_by routine_sum (r ∷ rs))
       (2 * suc (length rs) + sum_by routine_steps (r ∷ rs)) rest.o7 rest.codes (omega arith) (omega (arith, all_sums))
       (omega (arith, all_steps))
-      (follows count start entered last 2 (routine_steps r + rest_steps)
+      (follows count _ _ _ 2 (routine_steps r + rest_steps)
       (called c t (first_word count n - 2 * n) sum o7 codes (cs.0, (cs.1.0, tt)) (omega (arith, more))
       (omega (arith, more)))
-      (follows count entered back last (routine_steps r) rest_steps
+      (follows count _ _ _ (routine_steps r) rest_steps
       (routine t sum c codes r drawn.0 parts.first (omega (arith, more)) (omega (arith, more)) (omega arith)
       (omega (arith, all_sums, fits)))
       rest.way))

@@ -36,18 +36,15 @@ module _ (count : ℕ) (m : Memory) (sp : ℕ) where
       → Ends count (at m sp x (x + 4) NoSlot (holding 0 sum o7 codes)) sum 2
   exits x sum o7 codes stand low =
       let h : Held = record { g1 = 1; g2 = 0; o0 = sum; o7 = o7; codes = codes } in
-      let s = at m sp x (x + 4) NoSlot (holding 0 sum o7 codes) in
-      let t = at m sp (x + 4) (x + 4 + 4) NoSlot h in
-      let u = ended t (Exit (sum % 256)) in
       record {
-        last = u;
+        last = ended (at m sp (x + 4) (x + 4 + 4) NoSlot h) (Exit (sum % 256));
         ending = refl;
         holds = refl;
         inside = stand.1.0.inside;
-        way = follows count s t u 1 1
-            (one count s t _ refl stand.0 refl
+        way = follows count _ _ _ 1 1
+            (one count _ _ _ refl stand.0 refl
             (number_acts m sp x (x + 4) (x + 4 + 4) NoSlot (holding 0 sum o7 codes) (omega arith)))
-            (one count t u _ refl stand.1.0 (exit_judges m sp (x + 4) (x + 4 + 4) NoSlot h refl)
+            (one count _ _ _ refl stand.1.0 (exit_judges m sp (x + 4) (x + 4 + 4) NoSlot h refl)
             (exit_acts m sp (x + 4) (x + 4 + 4) NoSlot h refl));
       }
 

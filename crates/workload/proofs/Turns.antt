@@ -47,14 +47,11 @@ module _ (count : ℕ) (m : Memory) (sp a amount o7 : ℕ) (body : Body count m 
       → Way count (at m sp a (a + 4) NoSlot (holding (suc n) sum o7 codes))
       (at m sp (a + 8) (a + 12) NoSlot (holding n (sum + amount) o7 (left n))) 2
   counted n sum codes few fits =
-      let s = at m sp a (a + 4) NoSlot (holding (suc n) sum o7 codes) in
-      let t = at m sp (a + 4) (a + 8) NoSlot (holding (suc n) (sum + amount) o7 codes) in
-      let u = at m sp (a + 8) (a + 12) NoSlot (holding n (sum + amount) o7 (left n)) in
-      follows count s t u 1 1
-      (one count s t _ refl body.add refl
+      follows count _ _ _ 1 1
+      (one count _ _ _ refl body.add refl
       (add_acts m sp a (a + 4) (a + 8) amount (sum + amount) NoSlot (holding (suc n) sum o7 codes) (omega arith)
       (omega arith)))
-      (one count t u _ refl body.subtract refl
+      (one count _ _ _ refl body.subtract refl
       (subtract_acts m sp (a + 4) (a + 8) (a + 12) n NoSlot (holding (suc n) (sum + amount) o7 codes)
       (omega arith) refl (omega arith)))
 
@@ -62,23 +59,17 @@ module _ (count : ℕ) (m : Memory) (sp a amount o7 : ℕ) (body : Body count m 
   again : (h : Held) → h.codes.z ≡ false
       → Way count (at m sp (a + 8) (a + 12) NoSlot h) (at m sp a (a + 4) NoSlot h) 2
   again h more =
-      let s = at m sp (a + 8) (a + 12) NoSlot h in
-      let t = at m sp (a + 12) a Taken h in
-      let u = at m sp a (a + 4) NoSlot h in
-      follows count s t u 1 1
-      (one count s t _ refl body.branch refl (again_acts m sp (a + 8) (a + 12) a h (omega arith) more))
-      (one count t u _ refl body.branch_slot refl (nop_acts m sp (a + 12) a (a + 4) Taken h (omega arith)))
+      follows count _ _ _ 1 1
+      (one count _ _ _ refl body.branch refl (again_acts m sp (a + 8) (a + 12) a h (omega arith) more))
+      (one count _ _ _ refl body.branch_slot refl (nop_acts m sp (a + 12) a (a + 4) Taken h (omega arith)))
 
   -- or past them
   past : (h : Held) → h.codes.z ≡ true
       → Way count (at m sp (a + 8) (a + 12) NoSlot h) (at m sp (a + 16) (a + 20) NoSlot h) 2
   past h none =
-      let s = at m sp (a + 8) (a + 12) NoSlot h in
-      let t = at m sp (a + 12) (a + 16) Untaken h in
-      let u = at m sp (a + 16) (a + 20) NoSlot h in
-      follows count s t u 1 1
-      (one count s t _ refl body.branch refl (done_acts m sp (a + 8) (a + 12) (a + 16) h (omega arith) none))
-      (one count t u _ refl body.branch_slot refl
+      follows count _ _ _ 1 1
+      (one count _ _ _ refl body.branch refl (done_acts m sp (a + 8) (a + 12) (a + 16) h (omega arith) none))
+      (one count _ _ _ refl body.branch_slot refl
       (nop_acts m sp (a + 12) (a + 16) (a + 20) Untaken h (omega arith)))
 
   -- all turns of the loop
@@ -87,23 +78,16 @@ module _ (count : ℕ) (m : Memory) (sp a amount o7 : ℕ) (body : Body count m 
       (at m sp (a + 16) (a + 20) NoSlot (holding 0 (sum + suc n * amount) o7 (left 0))) (4 * suc n)
   turns zero sum codes few fits =
       let once : sum + amount ≡ sum + 1 * amount = omega arith in
-      let s = at m sp a (a + 4) NoSlot (holding 1 sum o7 codes) in
-      let t = at m sp (a + 8) (a + 12) NoSlot (holding 0 (sum + amount) o7 (left 0)) in
-      let u = at m sp (a + 16) (a + 20) NoSlot (holding 0 (sum + amount) o7 (left 0)) in
       rw (← once)
-      (follows count s t u 2 2 (counted 0 sum codes few (omega arith))
+      (follows count _ _ _ 2 2 (counted 0 sum codes few (omega arith))
       (past (holding 0 (sum + amount) o7 (left 0)) refl))
   turns (suc n) sum codes few fits =
       let more : suc (suc n) * amount ≡ amount + suc n * amount = omega arith in
       let all : sum + amount + suc n * amount ≡ sum + suc (suc n) * amount = omega arith in
-      let s = at m sp a (a + 4) NoSlot (holding (suc (suc n)) sum o7 codes) in
-      let t = at m sp (a + 8) (a + 12) NoSlot (holding (suc n) (sum + amount) o7 (left (suc n))) in
-      let u = at m sp a (a + 4) NoSlot (holding (suc n) (sum + amount) o7 (left (suc n))) in
-      let v = at m sp (a + 16) (a + 20) NoSlot (holding 0 (sum + amount + suc n * amount) o7 (left 0)) in
       rw (← all)
-      (as_long count s v (2 + (2 + 4 * suc n)) (4 * suc (suc n)) (omega arith)
-      (follows count s t v 2 (2 + 4 * suc n) (counted (suc n) sum codes few (omega arith))
-      (follows count t u v 2 (4 * suc n)
+      (as_long count _ _ (2 + (2 + 4 * suc n)) (4 * suc (suc n)) (omega arith)
+      (follows count _ _ _ 2 (2 + 4 * suc n) (counted (suc n) sum codes few (omega arith))
+      (follows count _ _ _ 2 (4 * suc n)
       (again (holding (suc n) (sum + amount) o7 (left (suc n))) (ne_eqb (suc n) 0 (λ (e : suc n ≡ 0). omega arith)))
       (turns n (sum + amount) (left (suc n)) (omega arith) (omega arith)))))
 
@@ -111,11 +95,8 @@ module _ (count : ℕ) (m : Memory) (sp a amount o7 : ℕ) (body : Body count m 
   pub returns : (h : Held) → h.o7 < 2 ^ 31 → h.o7 % 4 ≡ 0
       → Way count (at m sp (a + 16) (a + 20) NoSlot h) (at m sp (h.o7 + 8) (h.o7 + 8 + 4) NoSlot h) 2
   returns h below aligned =
-      let s = at m sp (a + 16) (a + 20) NoSlot h in
-      let t = at m sp (a + 20) (h.o7 + 8) Taken h in
-      let u = at m sp (h.o7 + 8) (h.o7 + 8 + 4) NoSlot h in
-      follows count s t u 1 1
-      (one count s t _ refl body.return refl
+      follows count _ _ _ 1 1
+      (one count _ _ _ refl body.return refl
       (return_acts m sp (a + 16) (a + 20) (h.o7 + 8) h (omega arith) (omega arith)))
-      (one count t u _ refl body.return_slot refl
+      (one count _ _ _ refl body.return_slot refl
       (nop_acts m sp (a + 20) (h.o7 + 8) (h.o7 + 8 + 4) Taken h (omega arith)))
