@@ -28,7 +28,7 @@ use Rattle.code_runs.specs.TwoRegisters.{IsBetween, Gives}
 use Rattle.code_runs.proofs.StoredWords.{code-store_word, word_stored, other_word_stored, still_stored, can_load, memory_word-range}
 use Rattle.code_runs.proofs.Acts.{says_step, says_puts, ld_acts, st_acts}
 use Rattle.code_runs.proofs.Leads.{leads_none, leads_one, leads_then, silent_none, silent_one, silent_then, split_below}
-use Rattle.code_runs.proofs.TwoRegisters.{places_differ, set_stays, stores_none, stores_more}
+use Rattle.code_runs.proofs.TwoRegisters.{alu_acts, places_differ, set_stays, stores_none, stores_more}
 use Rattle.code_runs.proofs.Hops.{equal_or_not}
 use Rattle.code_runs.specs.Counted.{any_of_word, stores_at, one_if, stores_in_step, count_stores, word_span}
 use Rattle.code_runs.proofs.Counted.{says_stores, count_add}
@@ -42,22 +42,14 @@ put_same k v f = ap (λ b. if b then v else f k) (let e : (k == k) ≡ true = gr
 pub put_other : (k v : ℕ) (f : ℕ → ℕ) (j : ℕ) → j ≢ k → put k v f j ≡ f j
 put_other k v f j ne = ap (λ b. if b then v else f j) (let e : (j == k) ≡ false = grind (arith, nat_tests) in e)
 
-apart_case : (a b : ℕ) → (a < b) ⊎ (b ≤ a) → (b < a) ⊎ (a ≤ b) → a ≢ b → a % 4 ≡ 0 → b % 4 ≡ 0
-    → (a + 4 ≤ b) ⊎ (b + 4 ≤ a)
-apart_case a b (inl h) k ne x y = inl (omega arith)
-apart_case a b (inr h) (inl k) ne x y = inr (omega arith)
-apart_case a b (inr h) (inr k) ne x y = absurd (ne (let e : a ≡ b = omega arith in e))
-
 -- two words at different multiples of 4
 pub words_apart : (a b : ℕ) → a ≢ b → a % 4 ≡ 0 → b % 4 ≡ 0 → (a + 4 ≤ b) ⊎ (b + 4 ≤ a)
-words_apart a b = apart_case a b (split_below a b) (split_below b a)
+words_apart a b ne x y = elim (split_below a b) [
+  | inl h ↦ inl (omega arith)
+  | inr h ↦ inr (omega arith)
+]
 
 -- ---- what operations do
-alu_acts : (u : State) (op : AluOp) (rd rs1 : ℕ) (op2 : Op2) (v : ℕ) → Gives op rs1 op2 v u
-    → act u (i.Alu op false rd rs1 op2) ≡ next (with_register u rd v)
-unfolding act alu_step
-alu_acts u op rd rs1 op2 v e = ap (alu_step u rd) e
-
 codes_acts : (u : State) (op : AluOp) (rs1 : ℕ) (op2 : Op2) (v : ℕ) (codes : Codes)
     → alu_of op true (register_of u rs1) (operand_of u op2) u.codes u.y ≡ Ok
     (record { value = v; codes = codes; y = u.y })
@@ -207,20 +199,14 @@ module _ {s : State} {count : ℕ} {May : ℕ → Type 0} {counted : ℕ → Boo
               (leads_one _ w.after (next v) one) (λ some _. record {
                 past = (let x : 0 < w.steps = some in omega arith);
                 before = omega arith;
-                stores =
-                    w.alike.memory.stores;
+                stores = w.alike.memory.stores;
               });
           silent = silent_then s w.after w.steps 1 w.path.steps w.silent
               (silent_one w.after (says_puts w.after instr plain here));
           stored = omega arith;
           pc = (let z : v.npc ≡ s.pc + 4 * suc n = omega arith in z);
           npc = (let z : wrapped (v.npc + 4) ≡ s.pc + 4 * suc n + 4 = omega arith in z);
-          alike = record {
-            same = alike.same;
-            codes_are = alike.codes_are;
-            held = alike.held;
-            memory = alike.memory;
-          };
+          alike = assumption alike;
         };
         slot = refl;
       }

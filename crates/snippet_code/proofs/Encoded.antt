@@ -1,5 +1,6 @@
 -- The words of a snippet decode to its instructions.
 use Rattle.std.proofs.Common.{◌≡◌, ℕ, zero, suc, ◌+◌, ◌-◌, ◌^◌, ◌<◌, ◌≤◌, Bool, true, false, ◌==◌, List, [], ◌∷◌, ◌++◌, length, map, refl, arith, All}
+use Rattle.std.proofs.lemmas.Bool.{cond_both}
 use Rattle.std.specs.Prelude.{if◌then◌else◌, nat_lt, slice_index, pos, negsuc}
 use Rattle.std.proofs.lemmas.Bool.Decides.{nat_tests}
 use Rattle.std.proofs.lemmas.List.Elements.{All-head, All-tail}
@@ -77,12 +78,9 @@ branch_has : HasWord next_if_greater
 branch_has = (refl, refl)
 
 small_fits : (amount : ℕ) → is_small amount ≡ true → amount < 2 ^ 32 → fits_signed 13 (small amount) ≡ true
-small_fits amount h l = go (nat_lt amount 4096) refl
-  where
-    go : (b : Bool) → nat_lt amount 4096 ≡ b
-        → fits_signed 13 (if b then pos amount else negsuc (2 ^ 32 - 1 - amount)) ≡ true
-    go true e = e
-    go false e = grind (arith, nat_tests)
+small_fits amount h l =
+    cond_both (nat_lt amount 4096) (pos amount) (negsuc (2 ^ 32 - 1 - amount)) (λ z. fits_signed 13 z ≡ true) (λ e. e)
+    (λ e. grind (arith, nat_tests))
 
 amount_has : (amount rs1 rd : ℕ) → is_small amount ≡ true → amount < 2 ^ 32 → rs1 < 32 → rd < 32
     → HasWord (with_number ops.ADD rs1 (small amount) rd)
@@ -92,23 +90,15 @@ save_has : (n reg : ℕ) → n < 5 → reg < 32 → HasWord (save n reg)
 save_has n reg h k = (grind (arith, nat_tests), go n h)
   where
     go : (m : ℕ) → m < 5 → has_word (save m reg) ≡ true
-    go zero h = refl
-    go (suc zero) h = refl
-    go (suc (suc zero)) h = refl
-    go (suc (suc (suc zero))) h = refl
-    go (suc (suc (suc (suc zero)))) h = refl
     go (suc (suc (suc (suc (suc m))))) h = absurd (omega arith)
+    go m h = refl
 
 restore_has : (n reg : ℕ) → n < 5 → reg < 32 → HasWord (restore n reg)
 restore_has n reg h k = (grind (arith, nat_tests), go n h)
   where
     go : (m : ℕ) → m < 5 → has_word (restore m reg) ≡ true
-    go zero h = refl
-    go (suc zero) h = refl
-    go (suc (suc zero)) h = refl
-    go (suc (suc (suc zero))) h = refl
-    go (suc (suc (suc (suc zero)))) h = refl
     go (suc (suc (suc (suc (suc m))))) h = absurd (omega arith)
+    go m h = refl
 
 -- ---- operations, which work in registers below 32
 module _ (r : ℕ → ℕ) (want : ℕ) (below : (k : ℕ) → k < want → r k < 32) where
@@ -193,10 +183,8 @@ module _ (r : ℕ → ℕ) (want : ℕ) (below : (k : ℕ) → k < want → r k 
   op_have base d (Put cell value) is h room =
       put_have (cell_at base cell) value (value == 0) refl (omega arith) is.1 room
   op_have base d (Keep cell reg) is h room =
-      let r0 = below 0 (omega arith) in (
-        high_has (cell_at base cell) (r 0) (omega arith) r0,
-        (store_has (cell_at base cell) (r 0) reg r0 is.1, tt),
-      )
+      let r0 = below 0 (omega arith) in
+      high_has (cell_at base cell) (r 0) (omega arith) r0 & store_has (cell_at base cell) (r 0) reg r0 is.1 & tt
   op_have base d (Top cell reg) is h room = top_have (cell_at base cell) reg d (omega arith) is.1 room
   op_have base d (Count cell) is h room = count_have (cell_at base cell) d (omega arith) room
   op_have base d (Log cell bits value) is h room = log_have (cell_at base cell) bits value (omega arith) is.2 room

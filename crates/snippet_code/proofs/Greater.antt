@@ -46,11 +46,9 @@ is_greater x y v lx ly = go (nat_lt x (y + 0)) (wrapped (2 ^ 33 + x - (y + 0)) =
     go : (a b e : Bool) → nat_lt x (y + 0) ≡ a → (wrapped (2 ^ 33 + x - (y + 0)) == 0) ≡ b → nat_lt y x ≡ e
         → not (a || b) ≡ e
     go true b true h k l = absurd (grind (arith, nat_tests))
-    go true b false h k l = refl
     go false true true h k l = absurd (grind (arith, nat_tests))
-    go false true false h k l = refl
-    go false false true h k l = refl
     go false false false h k l = absurd (grind (arith, nat_tests))
+    go a b e h k l = refl
 
 -- what is stored or not is what the greater would store
 stored_or_not : (a x : ℕ) (g : ℕ → ℕ) (b : Bool) → nat_lt (g a) x ≡ b → (k : ℕ)
@@ -66,35 +64,6 @@ stored_or_not a x g false e k = go (equal_or_not k a)
     go (inr h) = sym (put_other a (max (g a) x) g k h)
 
 -- ---- without the codes: each of the words gives the value that the law speaks of
-value_sub : (a b : ℕ) (k0 : Codes) (y0 : ℕ) (codes : Codes) (z : ℕ)
-    → alu_of ops.SUB false a b codes z ≡ Ok (record { value = laws.alu k0 y0 ops.SUB a b; codes = codes; y = z })
-unfolding alu_of
-value_sub a b k0 y0 codes z = refl
-
-value_orn : (a b : ℕ) (k0 : Codes) (y0 : ℕ) (codes : Codes) (z : ℕ)
-    → alu_of ops.ORN false a b codes z ≡ Ok (record { value = laws.alu k0 y0 ops.ORN a b; codes = codes; y = z })
-unfolding alu_of
-value_orn a b k0 y0 codes z = refl
-
-value_and : (a b : ℕ) (k0 : Codes) (y0 : ℕ) (codes : Codes) (z : ℕ)
-    → alu_of ops.AND false a b codes z ≡ Ok (record { value = laws.alu k0 y0 ops.AND a b; codes = codes; y = z })
-unfolding alu_of
-value_and a b k0 y0 codes z = refl
-
-value_andn : (a b : ℕ) (k0 : Codes) (y0 : ℕ) (codes : Codes) (z : ℕ)
-    → alu_of ops.ANDN false a b codes z ≡ Ok (record { value = laws.alu k0 y0 ops.ANDN a b; codes = codes; y = z })
-unfolding alu_of
-value_andn a b k0 y0 codes z = refl
-
-value_or : (a b : ℕ) (k0 : Codes) (y0 : ℕ) (codes : Codes) (z : ℕ)
-    → alu_of ops.OR false a b codes z ≡ Ok (record { value = laws.alu k0 y0 ops.OR a b; codes = codes; y = z })
-unfolding alu_of
-value_or a b k0 y0 codes z = refl
-
-value_sra : (a b : ℕ) (k0 : Codes) (y0 : ℕ) (codes : Codes) (z : ℕ)
-    → alu_of ops.SRA false a b codes z ≡ Ok (record { value = laws.alu k0 y0 ops.SRA a b; codes = codes; y = z })
-unfolding alu_of
-value_sra a b k0 y0 codes z = refl
 
 top_is : (k0 : Codes) (y0 cell reg : ℕ) → cell < 2 ^ 32 → reg < 2 ^ 32 →
     laws.alu k0 y0 ops.SUB cell (laws.alu k0 y0 ops.AND (laws.alu k0 y0 ops.SRA (laws.alu k0 y0 ops.OR
@@ -144,6 +113,7 @@ module _ {s : State} {count : ℕ} {May : ℕ → Type 0} {counted : ℕ → Boo
       of_two ops.AND (r 3) (r 2) (r 3)
       ∷ of_two ops.SUB (r 1) (r 3) (r 1) ∷ store_low a (r 0) (r 1) ∷ [])
       → (f' : ℕ → ℕ) × Works s count May counted r want (n + 11) t (put a (max (g a) x) g) codes f'
+  unfolding alu_of
   tops_long a q x room enough ok free below small reg unpicked value stand =
       let fits : x < 2 ^ 32 = rw value at (register_of-range s q c.valid) in
       let is = λ (op : AluOp) (y z : ℕ). laws.alu s.codes s.y op y z in
@@ -159,33 +129,33 @@ module _ {s : State} {count : ℕ} {May : ℕ → Type 0} {counted : ℕ → Boo
       (λ u h. sum_low u (r 0) a (h.held.picked 0 (omega arith)) below) ok in
       let w3 = alu c 2 ops.SUB (r 1) (o.Reg q) d w2 (omega arith) (omega arith) (at stand.1.1.0 (omega arith))
       (λ u h. gives u ops.SUB (r 1) (o.Reg q) (g a) x d (h.held.picked 1 (omega arith))
-      (unpicked_is c u q h reg unpicked ∙ value) (value_sub (g a) x s.codes s.y)) in
+      (unpicked_is c u q h reg unpicked ∙ value) (λ codes z. refl)) in
       let w4 = alu c 3 ops.ORN q (o.Reg (r 1)) e w3 (omega arith) (omega arith) (at stand.1.1.1.0 (omega arith))
       (λ u h. gives u ops.ORN q (o.Reg (r 1)) x (g a) e (unpicked_is c u q h reg unpicked ∙ value)
-      (h.held.picked 1 (omega arith)) (value_orn x (g a) s.codes s.y)) in
+      (h.held.picked 1 (omega arith)) (λ codes z. refl)) in
       let w5 = alu c 3 ops.AND (r 3) (o.Reg (r 2)) l w4 (omega arith) (omega arith) (at stand.1.1.1.1.0 (omega arith))
       (λ u h. gives u ops.AND (r 3) (o.Reg (r 2)) e d l (h.held.picked 3 (omega arith)) (h.held.picked 2 (omega arith))
-      (value_and e d s.codes s.y)) in
+      (λ codes z. refl)) in
       let w6 = alu c 4 ops.ANDN q (o.Reg (r 1)) b w5 (omega arith) (omega arith) (at stand.1.1.1.1.1.0 (omega arith))
       (λ u h. gives u ops.ANDN q (o.Reg (r 1)) x (g a) b (unpicked_is c u q h reg unpicked ∙ value)
-      (h.held.picked 1 (omega arith)) (value_andn x (g a) s.codes s.y)) in
+      (h.held.picked 1 (omega arith)) (λ codes z. refl)) in
       let w7 = alu c 3 ops.OR (r 3) (o.Reg (r 4)) o1 w6 (omega arith) (omega arith)
       (at stand.1.1.1.1.1.1.0 (omega arith))
       (λ u h. gives u ops.OR (r 3) (o.Reg (r 4)) l b o1 (h.held.picked 3 (omega arith)) (h.held.picked 4 (omega arith))
-      (value_or l b s.codes s.y)) in
+      (λ codes z. refl)) in
       let w8 = alu c 3 ops.SRA (r 3) (o.Imm (pos 31)) m w7 (omega arith) (omega arith)
       (at stand.1.1.1.1.1.1.1.0 (omega arith))
       (λ u h. gives u ops.SRA (r 3) (o.Imm (pos 31)) o1 31 m (h.held.picked 3 (omega arith)) refl
-      (value_sra o1 31 s.codes s.y)) in
+      (λ codes z. refl)) in
       let w9 = alu c 3 ops.AND (r 3) (o.Reg (r 2)) k w8 (omega arith) (omega arith)
       (at stand.1.1.1.1.1.1.1.1.0 (omega arith))
       (λ u h. gives u ops.AND (r 3) (o.Reg (r 2)) m d k (h.held.picked 3 (omega arith)) (h.held.picked 2 (omega arith))
-      (value_and m d s.codes s.y)) in
+      (λ codes z. refl)) in
       let w10 = alu c 1 ops.SUB (r 1) (o.Reg (r 3)) (max (g a) x) w9 (omega arith) (omega arith)
       (at stand.1.1.1.1.1.1.1.1.1.0 (omega arith))
       (λ u h. gives u ops.SUB (r 1) (o.Reg (r 3)) (g a) k (max (g a) x) (h.held.picked 1 (omega arith))
       (h.held.picked 3 (omega arith))
-      (λ codes' z. cc (value_sub (g a) k s.codes s.y codes' z, top_is s.codes s.y (g a) x small fits))) in
+      (λ codes' z. ap (λ v. Ok (record { value = v; codes = codes'; y = z })) (top_is s.codes s.y (g a) x small fits))) in
       let w11 = st c t (r 1) (r 0) (o.Imm (pos (a % 1024))) a (max (g a) x) w10 (omega arith)
       (at stand.1.1.1.1.1.1.1.1.1.1.0 (omega arith)) (λ u h. sum_low u (r 0) a (h.held.picked 0 (omega arith)) below)
       ok (λ u h. h.held.picked 1 (omega arith)) (omega arith) (free_store counted t a free) in (

@@ -9,7 +9,7 @@ use Rattle.v8_alu.specs.declared.Codes.{Codes}
 use Rattle.v8_windows.specs.Registers.{place_of, register_in}
 use Rattle.v8_step.specs.State.{State, register_of}
 use Rattle.v8_step.specs.Items.{StateItem, Register, Codes as CodesItem, YRegister, IsAmong, IsSameAt, item_of}
-use Rattle.code_runs.proofs.Hops.{equal_or_not}
+use Rattle.code_runs.proofs.Hops.{equal_or_not, in_place}
 use Rattle.code_runs.proofs.Leads.{split_below}
 use Rattle.scavenge.specs.Picks.{ArePicked}
 use Rattle.snippet_code.proofs.Working.{HasBlock, IsAlike}
@@ -54,10 +54,6 @@ picked_or_not w r (suc n) p = go (equal_or_not p (place_of w (r n))) (picked_or_
     go (inl e) h = inl (n, omega arith, e)
     go (inr ne) (inl h) = inl (h.0, (let b = h.1 in omega arith), h.2)
     go (inr ne) (inr h) = inr (λ k b. last ne h k b (equal_or_not k n))
-
-in_place : (registers : List ℕ) (w q : ℕ) → 0 < q → register_in registers w q ≡ slice_index registers (place_of w q)
-in_place registers w zero some = absurd (omega arith)
-in_place registers w (suc q) some = refl
 
 -- An item that isn't dead stays: a picked register that isn't dead has its value again, and the others kept theirs.
 pub item_stays : {s : State} {count : ℕ} {May : ℕ → Type 0} {want : ℕ} {dead avoid : List Part} {regs : List ℕ}

@@ -45,10 +45,8 @@ listed_put base n g c v inside =
     each : (k : ℕ) → k < n → (k ≡ c) ⊎ (k ≢ c)
         → get_or (listed base n (put (cell_at base c) v g)) k 0 ≡ get_or (set (listed base n g) c v) k 0
     each k below (inl e) =
-        ap (λ j. get_or (listed base n (put (cell_at base c) v g)) j 0) e
-        ∙ listed_at base n (put (cell_at base c) v g) c inside ∙ put_same (cell_at base c) v g
-        ∙ sym (get_or-set_same (listed base n g) c v 0 (omega (arith, listed_length base n g)))
-        ∙ ap (λ j. get_or (set (listed base n g) c v) j 0) (sym e)
+        rw e (listed_at base n (put (cell_at base c) v g) c inside ∙ put_same (cell_at base c) v g
+        ∙ sym (get_or-set_same (listed base n g) c v 0 (omega (arith, listed_length base n g))))
     each k below (inr ne) =
         listed_at base n (put (cell_at base c) v g) k below
         ∙ put_other (cell_at base c) v g (cell_at base k) (λ e. ne (let f : k ≡ c = omega arith in f))

@@ -28,18 +28,12 @@ or_true false = refl
 
 has_read : (ops : List Op) (q : ℕ) → IsReadIn ops q → has (read_by ops) (Reg q) ≡ true
 has_read [] q h = absurd h
-has_read (Add cell amount ∷ ops) q (inl h) = absurd h
-has_read (Add cell amount ∷ ops) q (inr h) = has_read ops q h
-has_read (Put cell value ∷ ops) q (inl h) = absurd h
-has_read (Put cell value ∷ ops) q (inr h) = has_read ops q h
-has_read (Count cell ∷ ops) q (inl h) = absurd h
-has_read (Count cell ∷ ops) q (inr h) = has_read ops q h
-has_read (Log cell bits value ∷ ops) q (inl h) = absurd h
-has_read (Log cell bits value ∷ ops) q (inr h) = has_read ops q h
 has_read (Keep cell reg ∷ ops) q (inl h) = first_has reg q (read_by ops) h
 has_read (Keep cell reg ∷ ops) q (inr h) = cc (has_read ops q h, or_true _)
 has_read (Top cell reg ∷ ops) q (inl h) = first_has reg q (read_by ops) h
 has_read (Top cell reg ∷ ops) q (inr h) = cc (has_read ops q h, or_true _)
+has_read (op ∷ ops) q (inl h) = absurd h
+has_read (op ∷ ops) q (inr h) = has_read ops q h
 
 -- a register that is read is named, but for %g0
 pub has_named : (ops : List Op) (q : ℕ) → IsReadIn ops q → 0 < q → q < 32 → has (named_by ops) (Reg q) ≡ true
@@ -91,14 +85,11 @@ all_true [] = refl
 all_true (x ∷ xs) = ap suc (all_true xs)
 
 and_true : (p : ℕ → Bool) (xs : List ℕ) → filter (λ r. p r && true) xs ≡ filter p xs
-and_true p [] = refl
-and_true p (x ∷ xs) = go (p x) (and_true p xs)
+and_true p xs = ap (λ (q : ℕ → Bool). filter q xs) (λ i r. same (p r) i)
   where
-    go : (b : Bool) → filter (λ r. p r && true) xs ≡ filter p xs
-        → cond (b && true) (x ∷ filter (λ r. p r && true) xs) (filter (λ r. p r && true) xs)
-        ≡ cond b (x ∷ filter p xs) (filter p xs)
-    go true e = ap (λ (z : List ℕ). x ∷ z) e
-    go false e = e
+    same : (b : Bool) → (b && true) ≡ b
+    same true = refl
+    same false = refl
 
 pub set_few : (ps : List Part) → register_count (set_of ps) ≤ register_count ps
 set_few ps =

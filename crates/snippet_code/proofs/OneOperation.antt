@@ -1,5 +1,6 @@
 -- The operations of snippets, one by one.
 use Rattle.std.proofs.Common.{◌≡◌, ◌≢◌, ℕ, suc, ◌+◌, ◌-◌, ◌*◌, ◌/◌, ◌%◌, ◌^◌, ◌<◌, ◌≤◌, Bool, true, false, Ok, Some, List, [], ◌∷◌, length, refl, ap, ◌∙◌, arith}
+use Rattle.std.proofs.lemmas.Bool.{cond_both}
 use Rattle.std.specs.Prelude.{if◌then◌else◌, ◌==◌, nat_lt, pos, negsuc}
 use Rattle.std.specs.Int.{w32, cast_unsigned}
 use Rattle.std.proofs.lemmas.Bool.Decides.{nat_tests}
@@ -18,6 +19,7 @@ use Rattle.code_runs.specs.Straight.{Says, StandIn}
 use Rattle.code_runs.specs.TwoRegisters.{Gives}
 use Rattle.snippets.specs.declared.snippet.Op.{Op}
 use Rattle.snippets.specs.declared.snippet.Op.TheVariants.{Add, Put, Keep}
+use Rattle.code_runs.specs.StoredWords.{memory_word}
 use Rattle.snippet_code.specs.Cells.{cell_at}
 use Rattle.snippet_code.specs.Words.{op_words, is_small, small, low, high, load_low, store_low, of_two, with_number}
 use Rattle.snippet_code.proofs.Working.{HasBlock, Works, put, update_one, IsFit, Does}
@@ -51,11 +53,8 @@ add_is x y v e codes z =
     ap (λ n. Ok (record { value = n; codes = codes; y = z })) (let f : wrapped (x + y + 0) ≡ v = omega arith in f)
 
 pub small_is : (amount : ℕ) → amount < 2 ^ 32 → wrapped (cast_unsigned w32 (small amount)) ≡ amount
-small_is amount h = go (nat_lt amount 4096)
-  where
-    go : (b : Bool) → wrapped (cast_unsigned w32 (if b then pos amount else negsuc (2 ^ 32 - 1 - amount))) ≡ amount
-    go true = omega arith
-    go false = omega arith
+small_is amount h = cond_both (nat_lt amount 4096) (pos amount) (negsuc (2 ^ 32 - 1 - amount))
+    (λ z. wrapped (cast_unsigned w32 z) ≡ amount) (λ _. omega arith) (λ _. omega arith)
 
 pub free_store : (counted : ℕ → Bool) (t a : ℕ) → any_of_word counted a ≡ false
     → t + one_if counted (Some (word_span a)) ≤ t
@@ -73,6 +72,8 @@ module _ {s : State} {count : ℕ} {May : ℕ → Type 0} {counted : ℕ → Boo
   works_words g' same w =
       let x = w.reach in
       let h = x.alike in
+      let words : (b : ℕ) → May b → memory_word x.after.memory b ≡ g' b = λ b m. h.memory.words b m ∙ same b in
+      let range : (b : ℕ) → May b → g' b < 2 ^ 32 = λ b m. rw (same b) at (h.memory.range b m) in
       record {
         reach = record {
           after = x.after;
@@ -83,18 +84,7 @@ module _ {s : State} {count : ℕ} {May : ℕ → Type 0} {counted : ℕ → Boo
           stored = x.stored;
           pc = x.pc;
           npc = x.npc;
-          alike = record {
-            same = h.same;
-            codes_are = h.codes_are;
-            held = h.held;
-            memory = record {
-              can = h.memory.can;
-              words = λ b m. h.memory.words b m ∙ same b;
-              range = λ b m. rw (same b) at (h.memory.range b m);
-              stores = h.memory.stores;
-              code = h.memory.code;
-            };
-          };
+          alike = assumption (words, range, h);
         };
         slot = w.slot;
       }
@@ -191,14 +181,7 @@ module _ {s : State} {count : ℕ} {May : ℕ → Type 0} {counted : ℕ → Boo
 
     pub done : {g' : ℕ → ℕ} {f' : ℕ → ℕ} (m l : ℕ) → m ≡ n + l → Works s count May counted r want m t g' codes f'
         → Does s count May counted r want d (n + l) t g'
-    done {g'} {f'} m l e x =
-        record {
-          codes = codes;
-          picked = f';
-          works = rw e at
-              x;
-          kept = kept;
-        }
+    done {g'} {f'} m l e x = record { codes = codes; picked = f'; works = rw e at x; kept = kept }
 
     pub add_works : (cell amount : ℕ) → Doing (Add cell amount) (op_words cells d r (Add cell amount))
     add_works cell amount fit = go (is_small amount) fit.enough fit

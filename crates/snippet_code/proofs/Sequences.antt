@@ -111,12 +111,8 @@ one_more : (cost t n : ℕ) → t + cost + cost * n ≡ t + cost * suc n
 one_more cost t n = let e : cost * suc n ≡ cost + cost * n = grind (arith) in omega (arith, e)
 
 page_sum : (u : State) (m : ℕ) → m < 5 → sum_of u 0 (of_page (m + 2)) ≡ kept_word m
-page_sum u zero h = refl
-page_sum u (suc zero) h = refl
-page_sum u (suc (suc zero)) h = refl
-page_sum u (suc (suc (suc zero))) h = refl
-page_sum u (suc (suc (suc (suc zero)))) h = refl
 page_sum u (suc (suc (suc (suc (suc m))))) h = absurd (omega arith)
+page_sum u m h = refl
 
 module _ {s : State} {count : ℕ} {May : ℕ → Type 0} {counted : ℕ → Bool} {r : ℕ → ℕ} {want : ℕ}
     (c : HasBlock s count May r want) where
@@ -148,9 +144,7 @@ module _ {s : State} {count : ℕ} {May : ℕ → Type 0} {counted : ℕ → Boo
       let one = op_works w.works cells d w.kept op h.0 (omega arith) two.0 in
       let more = all_work cells d rest one h.1 (omega arith)
       (stand_at code (s.pc + 4 * n + 4 * length xs) (s.pc + 4 * (n + length xs)) ys two.1 (omega arith)) in
-      subst (λ z. Does s count May counted r want d z t
-      (update_all (cell_at cells) (register_of s) rest (update_one (cell_at cells) (register_of s) op g)))
-      (let e : n + length xs + length ys ≡ n + length (xs ++ ys) = omega arith in e) more
+      rw (let e : n + length xs + length ys ≡ n + length (xs ++ ys) = omega arith in e) at more
 
   -- ---- saved before
   pub saves : (cost : ℕ) → IsCost counted cost → (k m : ℕ) (qs : List ℕ) {n t : ℕ} {g : ℕ → ℕ} {codes : Codes}

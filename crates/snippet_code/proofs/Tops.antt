@@ -74,7 +74,16 @@ positive_borrow c x lc lx l =
 
 pub top_is_greater : TopIsGreater
 unfolding top_of alu_of
-top_is_greater codes y c x lc lx = by (cases_lt c x)
+top_is_greater codes y c x lc lx = elim (cases_lt c x) [
+  | inl l ↦
+      let e : bit_and (shifted_right (borrow c x (difference c x)) 31) (difference c x) ≡ difference c x =
+      m ∙ ap (λ b. cond b (difference c x) 0) (negative_borrow c x lc lx l) in
+      ap (λ n. wrapped (2 ^ 33 + c - (n + 0))) e ∙ omega arith
+  | inr l ↦
+      let e : bit_and (shifted_right (borrow c x (difference c x)) 31) (difference c x) ≡ 0 =
+      m ∙ ap (λ b. cond b (difference c x) 0) (positive_borrow c x lc lx l) in
+      ap (λ n. wrapped (2 ^ 33 + c - (n + 0))) e ∙ omega arith
+]
   where
     d : ℕ
     d = difference c x
@@ -85,15 +94,3 @@ top_is_greater codes y c x lc lx = by (cases_lt c x)
     m : bit_and (shifted_right (borrow c x (difference c x)) 31) (difference c x) ≡ cond
         (is_negative (borrow c x (difference c x))) (difference c x) 0
     m = masked (borrow c x (difference c x)) (difference c x) (borrow_below c x (difference c x) lc lx below) below
-
-    by : (c < x) ⊎ (x ≤ c)
-        → wrapped (2 ^ 33 + c - (bit_and (shifted_right (borrow c x (difference c x)) 31) (difference c x) + 0)) ≡
-        max c x
-    by (inl l) =
-        let e : bit_and (shifted_right (borrow c x (difference c x)) 31) (difference c x) ≡ difference c x =
-        m ∙ ap (λ b. cond b (difference c x) 0) (negative_borrow c x lc lx l) in
-        ap (λ n. wrapped (2 ^ 33 + c - (n + 0))) e ∙ omega arith
-    by (inr l) =
-        let e : bit_and (shifted_right (borrow c x (difference c x)) 31) (difference c x) ≡ 0 =
-        m ∙ ap (λ b. cond b (difference c x) 0) (positive_borrow c x lc lx l) in
-        ap (λ n. wrapped (2 ^ 33 + c - (n + 0))) e ∙ omega arith

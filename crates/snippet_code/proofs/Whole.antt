@@ -77,12 +77,9 @@ cell_low base (op ∷ rest) low k (inl h) =
 cell_low base (op ∷ rest) low k (inr h) = cell_low base rest (All-tail (EndsLow base) op rest low) k h
 
 read_below : (op : Op) (q : ℕ) → IsOp op → IsRead op q → q < 32
-read_below (Add cell amount) q h e = absurd e
-read_below (Put cell value) q h e = absurd e
-read_below (Count cell) q h e = absurd e
-read_below (Log cell bits value) q h e = absurd e
 read_below (Keep cell reg) q h e = rw e h.1
 read_below (Top cell reg) q h e = rw e h.1
+read_below op q h e = absurd e
 
 module _ (counted : ℕ → Bool) (base : ℕ) (r : ℕ → ℕ) (want : ℕ) (d : Bool) (May : ℕ → Type 0) (avoid : List Part)
     (un : (k : ℕ) → k < want → has avoid (parts.Reg (r k)) ≡ false) (some : (k : ℕ) → k < want → 0 < r k) where
@@ -90,7 +87,7 @@ module _ (counted : ℕ → Bool) (base : ℕ) (r : ℕ → ℕ) (want : ℕ) (d
   unpicked q k h b e =
       let f = un k b in
       let g : has avoid (parts.Reg (r k)) ≡ true =
-      ap (λ z. has avoid (parts.Reg z)) (sym e) ∙ h (subst (λ z. 0 < z) (sym e) (some k b)) in
+      rw (← e) (h (rw e (some k b))) in
       cc
 
   fits_of : (ops : List Op) → All IsOp ops → EndLow base ops
@@ -135,16 +132,7 @@ pub same_state : (s u : State) (to : ℕ) → u.pc ≡ to → u.npc ≡ wrapped 
     → u.registers ≡ s.registers → u.window ≡ s.window → u.valid ≡ s.valid → u.codes ≡ s.codes → u.y ≡ s.y
     → u.input ≡ s.input → u.ending ≡ s.ending → u ≡ hopped s to u.memory
 same_state s u to e1 e2 e3 e4 e5 e6 e7 e8 e9 e10 =
-    let n = wrapped (to + 4) in
-    ap (λ z. record u { pc = z }) e1 ∙ ap (λ z. record u { pc = to; npc = z }) e2
-    ∙ ap (λ (z : Slot). record u { pc = to; npc = n; slot = z }) e3
-    ∙ ap (λ (z : List ℕ). record u { pc = to; npc = n; slot = NoSlot; registers = z }) e4
-    ∙ ap (λ z. record u { pc = to; npc = n; slot = NoSlot; registers = s.registers; window = z }) e5
-    ∙ ap (λ z. record u { pc = to; npc = n; slot = NoSlot; registers = s.registers; window = s.window; valid = z }) e6
-    ∙ ap (λ (z : Codes). record (hopped s to u.memory) { codes = z; y = u.y; input = u.input; ending = u.ending }) e7
-    ∙ ap (λ z. record (hopped s to u.memory) { y = z; input = u.input; ending = u.ending }) e8
-    ∙ ap (λ (z : List ℕ). record (hopped s to u.memory) { input = z; ending = u.ending }) e9
-    ∙ ap (λ (z : Option Ending). record (hopped s to u.memory) { ending = z }) e10
+    rw (← e2, ← e1, ← e3, ← e4, ← e5, ← e6, ← e7, ← e8, ← e9, ← e10) refl
 
 -- where nothing is dead, so that each item is as it was
 nothing_dead : (s u : State) (to : ℕ) → length s.registers ≡ 136 → length u.registers ≡ 136
@@ -167,17 +155,7 @@ module _ (counted : ℕ → Bool) (base : ℕ) (dead avoid : List Part) (ops : L
   -- what a block needs
   block : (regs : List ℕ) (spills : ℕ) → base % 4 ≡ 0 → ArePicked dead avoid Want regs spills
       → IsAboutToRun words base ops s → HasBlock s (length words) (MayStore base ops) (slice_index regs) Want
-  block regs spills four p h = record {
-    valid = h.valid;
-    ready = h.ready;
-    slot = h.slot;
-    low = h.low;
-    some = p.some;
-    below = p.below;
-    differ = p.differ;
-    aligned = λ a m. aligned a m;
-    can = λ a m. can a m;
-  }
+  block regs spills four p h = assumption (aligned, can)
     where
       aligned : (a : ℕ) → MayStore base ops a → a % 4 ≡ 0
       aligned a (inl (k, m, e)) = omega arith

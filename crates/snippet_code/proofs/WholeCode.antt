@@ -33,7 +33,7 @@ code_decodes base dead ops can =
     let out = spilled dead avoid want in
     let first = want - spills dead avoid want in
     let size : length out ≡ want - first = omega (arith, length-drop first (picked dead avoid want), p.count) in
-    let below = are_below out (λ k b. subst (λ z. z < 32) (sym (get_or-drop first (picked dead avoid want) k 0))
+    let below = are_below out (λ k b. rw (get_or-drop first (picked dead avoid want) k 0)
     (p.below (first + k) (omega arith))) in
     decoded (snippet_words base dead avoid ops) (have-append (numbered save 0 out)
     (all_words base d (slice_index (picked dead avoid want)) ops ++ numbered restore 0 out)
@@ -58,10 +58,8 @@ all_numbered f regs n before now h e =
 three_parts : (xs ys zs : List Instr) (a b c : List ℕ) → a ≡ map word_of xs → b ≡ a ++ map word_of ys
     → c ≡ b ++ map word_of zs → c ≡ map word_of (xs ++ (ys ++ zs))
 three_parts xs ys zs a b c e f g =
-    g ∙ ap (λ (z : List ℕ). z ++ map word_of zs) (f ∙ ap (λ (z : List ℕ). z ++ map word_of ys) e)
-    ∙ append_assoc (map word_of xs) (map word_of ys) (map word_of zs)
-    ∙ ap (λ (z : List ℕ). map word_of xs ++ z) (sym (map-append word_of ys zs))
-    ∙ sym (map-append word_of xs (ys ++ zs))
+    let joined = append_assoc (map word_of xs) (map word_of ys) (map word_of zs) in
+    cc (g, f, e, joined, map-append word_of ys zs, map-append word_of xs (ys ++ zs))
 
 pub whole_code : (base : ℕ) (dead avoid : List Part) (ops : List Op) (used out : List ℕ) (a b c : List ℕ)
     → used ≡ picked dead avoid (registers_for (has dead Icc) ops)
@@ -69,13 +67,8 @@ pub whole_code : (base : ℕ) (dead avoid : List Part) (ops : List Op) (used out
     → b ≡ a ++ map word_of (all_words base (has dead Icc) (slice_index used) ops)
     → c ≡ b ++ map word_of (numbered restore 0 out) → c ≡ code_of_snippet base dead avoid ops
 whole_code base dead avoid ops used out a b c e f g h k =
-    three_parts (numbered save 0 out) (all_words base (has dead Icc) (slice_index used) ops) (numbered restore 0 out)
-    a b c g h k
-    ∙ ap (λ (z : List ℕ). map word_of (numbered save 0 out
-    ++ (all_words base (has dead Icc) (slice_index z) ops ++ numbered restore 0 out))) e
-    ∙ ap (λ (z : List ℕ). map word_of (numbered save 0 z
-    ++ (all_words base (has dead Icc) (slice_index (picked dead avoid (registers_for (has dead Icc) ops))) ops
-    ++ numbered restore 0 z))) f
+    rw (e, f) at (three_parts (numbered save 0 out) (all_words base (has dead Icc) (slice_index used) ops)
+    (numbered restore 0 out) a b c g h k)
 
 -- ---- what the calls give
 
