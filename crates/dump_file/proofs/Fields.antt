@@ -9,7 +9,7 @@ use Rattle.byteorder.specs.Numbers.{big_number-reads_back, length-bytes_high_fir
 use Rattle.dump_file.specs.Dump.{Dump, kind_of, number_of}
 use Rattle.dump_file.specs.Written.{mark}
 use Rattle.dump_file.specs.Reading.{◌>>=◌, count_place, found, field_at, kept, length_at}
-use Rattle.dump_file.proofs.Words.{AreBytes, bytes_dropped, written_4, written_8}
+use Rattle.dump_file.proofs.Words.{AreBytes, bytes_dropped}
 
 -- The fields that a dump has before its cells.
 pub record Found (bytes : List ℕ) (dump : Dump) : Type 0 where
@@ -54,21 +54,16 @@ field_fits size at n bytes are h =
     rw ((reached size at n bytes h).is) (big_from-lt 0 size (drop at bytes) (bytes_dropped at bytes are))
 
 -- the bytes from an offset on begin with those of the number that was read there
-pub after_4 : (at next n : ℕ) (bytes : List ℕ) → AreBytes bytes → field_at 4 bytes at ≡ Ok n → at + 4 ≡ next
-    → drop at bytes ≡ big_bytes 4 n ++ drop next bytes
-after_4 at next n bytes are h place =
-    let is = reached 4 at n bytes h in
+pub after : {size : ℕ}
+    → ((bytes : List ℕ) → size ≤ length bytes → AreBytes bytes
+    → bytes ≡ big_bytes size (big_number size bytes) ++ drop size bytes)
+    → (at next n : ℕ) (bytes : List ℕ) → AreBytes bytes → field_at size bytes at ≡ Ok n → at + size ≡ next
+    → drop at bytes ≡ big_bytes size n ++ drop next bytes
+after {size} written at next n bytes are h place =
+    let is = reached size at n bytes h in
     let there = is.there in
-    let size = length-drop at bytes in
-    rw (is.is, ← place, ← drop-drop 4 at bytes) (written_4 (drop at bytes) (omega arith) (bytes_dropped at bytes are))
-
-pub after_8 : (at next n : ℕ) (bytes : List ℕ) → AreBytes bytes → field_at 8 bytes at ≡ Ok n → at + 8 ≡ next
-    → drop at bytes ≡ big_bytes 8 n ++ drop next bytes
-after_8 at next n bytes are h place =
-    let is = reached 8 at n bytes h in
-    let there = is.there in
-    let size = length-drop at bytes in
-    rw (is.is, ← place, ← drop-drop 8 at bytes) (written_8 (drop at bytes) (omega arith) (bytes_dropped at bytes are))
+    let long = length-drop at bytes in
+    rw (is.is, ← place, ← drop-drop size at bytes) (written (drop at bytes) (omega arith) (bytes_dropped at bytes are))
 
 -- a reading that succeeds is a step that succeeds, and then the rest
 pub record Then {A B : Type 0} (m : Result A ℕ) (f : A → Result B ℕ) (y : B) : Type 0 where

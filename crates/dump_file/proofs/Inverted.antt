@@ -10,8 +10,8 @@ use Rattle.v8_step.specs.declared.Ending.{Ending}
 use Rattle.dump_file.specs.Dump.{Dump, IsDump, kind_of, number_of}
 use Rattle.dump_file.specs.Written.{mark, words_bytes, length_words, dump_bytes}
 use Rattle.dump_file.specs.Reading.{count_at, count_place, field_at, version_at, kept, length_at, number_limit, ending_of, ending_at, fits, words_of, read_dump}
-use Rattle.dump_file.proofs.Words.{AreBytes, are_bytes, bytes_dropped, words_again, length-words, words_fit}
-use Rattle.dump_file.proofs.Fields.{Found, after_4, after_8, field_fits, parted, met}
+use Rattle.dump_file.proofs.Words.{AreBytes, are_bytes, bytes_dropped, words_again, length-words, words_fit, written_4, written_8}
+use Rattle.dump_file.proofs.Fields.{Found, after, field_fits, parted, met}
 use Rattle.dump_file.proofs.ReadsBack.{parts as fields_stand}
 
 ending_parts : (kind number : ℕ) → kind ≤ 4 → number ≤ number_limit kind
@@ -37,7 +37,7 @@ ending_read bytes ending h =
     let number = parted (field_at 4 bytes 12) _ ending kind.rest in
     let last =
     met (nat_le number.got (number_limit kind.got)) 12 (ending_of kind.got number.got) ending number.rest in
-    let few : kind.got ≤ 4 = subst (λ (k : ℕ). k ≤ 4) low.same (leb-true read.got 4 low.met) in
+    let few : kind.got ≤ 4 = rw low.same at (leb-true read.got 4 low.met) in
     let parts = ending_parts kind.got number.got few (leb-true number.got (number_limit kind.got) last.met) in
     let whole : EndingRead bytes (ending_of kind.got number.got) = record {
       kind = read.is ∙ ap Ok (low.same ∙ sym parts.0);
@@ -112,7 +112,7 @@ told_again : (narrow : Bool) (size : ℕ) (bytes : List ℕ) → AreBytes bytes 
     → drop 28 bytes ≡ words_bytes (if narrow then [] else size ∷ []) ++ drop (if narrow then 28 else 32) bytes
 unfolding words_bytes
 told_again true size bytes are told = refl
-told_again false size bytes are told = after_4 28 32 size bytes are told refl
+told_again false size bytes are told = after written_4 28 32 size bytes are told refl
 
 none_told : (narrow : Bool) (size : ℕ) (bytes : List ℕ) → told_at narrow bytes ≡ Ok size → narrow ≡ true → size ≡ 0
 none_told true size bytes told is = cc told
@@ -128,7 +128,7 @@ cells_again : (place : ℕ) (bytes cells : List ℕ) → AreBytes bytes → fiel
     → drop place bytes ≡ big_bytes 4 (length cells) ++ words_bytes cells
 cells_again place bytes cells are count all same =
     let size = length-drop (place + 4) bytes in
-    after_4 place (place + 4) (length cells) bytes are count refl
+    after written_4 place (place + 4) (length cells) bytes are count refl
     ∙ ap (λ (rest : List ℕ). big_bytes 4 (length cells) ++ rest)
     (words_again (length cells) (drop (place + 4) bytes) (omega arith) (bytes_dropped (place + 4) bytes are)
     ∙ ap words_bytes (sym same))
@@ -136,22 +136,16 @@ cells_again place bytes cells are count all same =
 again : (bytes : List ℕ) (dump : Dump) → AreBytes bytes → Read bytes dump → bytes ≡ dump_bytes dump
 again bytes dump are read =
     let found = read.found in
-    let count = cells_again (count_place dump.version) bytes dump.cells are found.count found.size read.cells in
-    let told_words = words_bytes (length_words dump) in
-    let told = told_again (dump.version == 1) dump.length bytes are found.told
-    ∙ ap (λ (rest : List ℕ). told_words ++ rest) count in
-    let steps = after_8 20 28 dump.steps bytes are found.steps refl
-    ∙ ap (λ (rest : List ℕ). big_bytes 8 dump.steps ++ rest) told in
-    let pc = after_4 16 20 dump.pc bytes are found.pc refl
-    ∙ ap (λ (rest : List ℕ). big_bytes 4 dump.pc ++ rest) steps in
-    let number = after_4 12 16 (number_of dump.ending) bytes are found.number refl
-    ∙ ap (λ (rest : List ℕ). big_bytes 4 (number_of dump.ending) ++ rest) pc in
-    let kind = after_4 8 12 (kind_of dump.ending) bytes are found.kind refl
-    ∙ ap (λ (rest : List ℕ). big_bytes 4 (kind_of dump.ending) ++ rest) number in
-    let version = after_4 4 8 dump.version bytes are found.version refl
-    ∙ ap (λ (rest : List ℕ). big_bytes 4 dump.version ++ rest) kind in
-    after_4 0 4 mark bytes are found.first refl ∙ ap (λ (rest : List ℕ). big_bytes 4 mark ++ rest) version
-    ∙ sym (fields_stand dump)
+    after written_4 0 4 mark bytes are found.first refl
+    ∙ rw (
+      after written_4 4 8 dump.version bytes are found.version refl,
+      after written_4 8 12 (kind_of dump.ending) bytes are found.kind refl,
+      after written_4 12 16 (number_of dump.ending) bytes are found.number refl,
+      after written_4 16 20 dump.pc bytes are found.pc refl,
+      after written_8 20 28 dump.steps bytes are found.steps refl,
+      told_again (dump.version == 1) dump.length bytes are found.told,
+      cells_again (count_place dump.version) bytes dump.cells are found.count found.size read.cells,
+    ) (sym (fields_stand dump))
 
 pub read_again : (bytes : List ℕ) (dump : Dump) → All (λ byte. byte < 256) bytes → read_dump bytes ≡ Ok dump
     → (bytes ≡ dump_bytes dump) × IsDump dump

@@ -1,6 +1,6 @@
 -- What was written reads back.
 use Rattle.std.proofs.Common.{◌≡◌, ◌∙◌, ℕ, ◌+◌, ◌*◌, ◌<◌, ◌^◌, ◌==◌, Bool, true, false, ◌||◌, List, [], ◌∷◌, ◌++◌, length, drop, Option, Some, None, Ok, if◌then◌else◌, refl, ap, sym, arith}
-use Rattle.std.proofs.lemmas.Bool.{le-leb, eq-eqb, eqb-true, false≢true}
+use Rattle.std.proofs.lemmas.Bool.{ltb-true, le-leb, eq-eqb, eqb-true, false≢true}
 use Rattle.std.proofs.lemmas.List.{append_assoc, length-append}
 use Rattle.std.proofs.Math.Seq.{drop-append_seam}
 use Rattle.byteorder.specs.Endian.{big_bytes}
@@ -99,11 +99,8 @@ found_in dump bytes cells is long same =
     }
   where
     kind_small : (ending : Option Ending) → kind_of ending < 5
-    kind_small None = omega arith
-    kind_small (Some (Exit n)) = omega arith
-    kind_small (Some (Trap n)) = omega arith
-    kind_small (Some Window) = omega arith
-    kind_small (Some Couple) = omega arith
+    kind_small (Some Window) = ltb-true _ 5 refl
+    kind_small ending = ltb-true _ 5 refl
 
     version_small : (version : ℕ) → is_version version ≡ true → version < 3
     version_small version is = by (version == 1) (version == 2) refl refl is

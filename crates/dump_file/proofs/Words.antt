@@ -97,7 +97,7 @@ words_read (word ∷ words) bytes is =
     let later : IsRead big_number 4 (drop 4 bytes) words =
     λ k below. is (suc k) (omega arith) ∙ ap (big_number 4) (moved k) in
     let rest = words_read words (drop 4 bytes) later in
-    ap (λ (w : ℕ). w ∷ words) first ∙ ap (λ (ws : List ℕ). big_number 4 bytes ∷ ws) rest
+    cc (first, rest)
   where
     moved : (k : ℕ) → drop (4 * suc k) bytes ≡ drop (4 * k) (drop 4 bytes)
     moved k =
