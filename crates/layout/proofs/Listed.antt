@@ -2,7 +2,7 @@
 use Rattle.std.proofs.Common.{append-nil, ◌≡◌, ℕ, zero, suc, ◌+◌, ◌<◌, ◌≤◌, ◌⊎◌, inl, inr, Bool, true, false, ◌||◌, eqb, List, [], ◌∷◌, ◌++◌, length, get_or, set, take, drop, slice_get, slice_index, Some, IfSome, map, subst, refl, ap, sym, ◌∙◌, add-one, append_assoc, drop-cons, arith}
 use Rattle.std.specs.Prelude.{if◌then◌else◌}
 use Rattle.std.specs.List.{All, AllByRecursion, IsDistinct, sum_by}
-use Rattle.std.proofs.lemmas.Bool.{cases_eq, cases_Bool, eqb-true, eq-eqb, false≢true, ne_eqb}
+use Rattle.std.proofs.lemmas.Bool.{cases_eq, cases_Bool, eqb-true, eq-eqb, false≢true, ne_eqb, or_parts}
 use Rattle.std.proofs.lemmas.List.Sums.{sum_by-cons}
 use Rattle.std.proofs.lemmas.List.{take-append-drop, length-append, length-map, length-set, get_or-set_same, get_or-set_other, take_more, take_all}
 use Rattle.layout.specs.declared.items.Item.{Item}
@@ -38,14 +38,6 @@ or_false : (a b : Bool) → a ≡ false → (a || b) ≡ b
 or_false true b e = absurd (false≢true (sym e))
 or_false false b e = refl
 
-or_left : (a b : Bool) → (a || b) ≡ false → a ≡ false
-or_left true b e = e
-or_left false b e = refl
-
-or_right : (a b : Bool) → (a || b) ≡ false → b ≡ false
-or_right true b e = absurd (false≢true (sym e))
-or_right false b e = e
-
 pub split_at : (order : List ℕ) (k : ℕ) → is_laid order k ≡ true → IsSplit order k
 split_at [] k e = absurd (false≢true e)
 split_at (j ∷ js) k e = elim (cases_Bool (eqb k j)) [
@@ -78,10 +70,10 @@ pub start_at : (pieces : List (List Item)) (fs rs : List ℕ) (k : ℕ) → is_l
     → start_of (entries_from pieces (fs ++ k ∷ rs)) k ≡ length (entries_from pieces fs)
 start_at pieces [] rs k e = start_self k _
 start_at pieces (j ∷ fs) rs k e =
-    let d : eqb k j ≡ false = or_left (eqb k j) (is_laid fs k) e in
+    let d : eqb k j ≡ false = (or_parts (eqb k j) (is_laid fs k) e).0 in
     let a = start_past k j (map en.Item (items_at pieces j) ++ entries_from pieces (fs ++ k ∷ rs)) d in
     let ahead = start_items k (items_at pieces j) (entries_from pieces (fs ++ k ∷ rs)) in
-    let there = start_at pieces fs rs k (or_right (eqb k j) (is_laid fs k) e) in
+    let there = start_at pieces fs rs k (or_parts (eqb k j) (is_laid fs k) e).1 in
     let both = length-append (entries_in j (items_at pieces j)) (entries_from pieces fs) in
     omega (arith, a, ahead, there, both, length-map (items_at pieces j) en.Item)
 

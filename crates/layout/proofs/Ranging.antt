@@ -13,6 +13,7 @@ use Rattle.layout.specs.declared.ranges.OpenRange.{OpenRange}
 use Rattle.layout.specs.Laid.{note_range, range_in, item_at, AreMarked, OpenMark, end_from, open_from, range_of, Ascend, IsRangeOf}
 use Rattle.layout.specs.Forms.{entries_in, entries_from}
 use Rattle.layout.specs.Emitting.{closed, closes, opens, ranges_from}
+use Rattle.layout.proofs.Widening.{rises_by, rises_to}
 use Rattle.layout.proofs.Listed.{items_at}
 use Rattle.std.proofs.lemmas.Bool.{lt-ltb, ltb-true, cond_both}
 
@@ -93,20 +94,6 @@ AreStill place i (_ ∷ xs) = AreStill place (suc i) xs
 
 abbrev pub Rises : (ℕ → ℕ) → Type 0
 Rises place = (n : ℕ) → place n ≤ place (suc n)
-
-rises_by : (place : ℕ → ℕ) → Rises place → (a n : ℕ) → place a ≤ place (a + n)
-rises_by place up a zero = let e : place a ≡ place (a + 0) = ap place (omega arith) in omega (arith, e)
-rises_by place up a (suc n) =
-    let h = rises_by place up a n in
-    let u = up (a + n) in
-    let e : place (suc (a + n)) ≡ place (a + suc n) = ap place (omega arith) in
-    omega (arith, h, u, e)
-
-rises_to : (place : ℕ → ℕ) → Rises place → (a b : ℕ) → a ≤ b → place a ≤ place b
-rises_to place up a b l =
-    let h = rises_by place up a (b - a) in
-    let e : place (a + (b - a)) ≡ place b = ap place (omega arith) in
-    omega (arith, h, e)
 
 -- the range of an open Mark that ends here
 abbrev ended_at : OpenRange → ℕ → Range

@@ -56,15 +56,16 @@ grows_to entries long other h a b l =
     let e : a + (b - a) ≡ b = omega arith in
     rw e at (grows entries long other h a (b - a))
 
-rises_by : (entries : List Entry) (long : Forms) (a n : ℕ) → offset entries long a ≤ offset entries long (a + n)
-rises_by entries long a zero = let e : a + 0 ≡ a = omega arith in rw e (omega arith)
-rises_by entries long a (suc n) =
-    rw (add_more a n) (omega (arith, rises_by entries long a n, offset_more entries long (a + n)))
+-- a number that doesn't get less
+pub rises_by : (f : ℕ → ℕ) → ((n : ℕ) → f n ≤ f (suc n)) → (a n : ℕ) → f a ≤ f (a + n)
+rises_by f up a zero = let e : f a ≡ f (a + 0) = ap f (omega arith) in omega (arith, e)
+rises_by f up a (suc n) = rw (add_more a n) (omega (arith, rises_by f up a n, up (a + n)))
+
+pub rises_to : (f : ℕ → ℕ) → ((n : ℕ) → f n ≤ f (suc n)) → (a b : ℕ) → a ≤ b → f a ≤ f b
+rises_to f up a b l = let e : a + (b - a) ≡ b = omega arith in rw e at (rises_by f up a (b - a))
 
 pub rises : (entries : List Entry) (long : Forms) (a b : ℕ) → a ≤ b → offset entries long a ≤ offset entries long b
-rises entries long a b l =
-    let e : a + (b - a) ≡ b = omega arith in
-    rw e at (rises_by entries long a (b - a))
+rises entries long = rises_to (offset entries long) (λ n. omega (arith, offset_more entries long n))
 
 pub far_means : (a b : ℕ) → far a b ≡ true → (a + 2 ^ 21 ≤ b) ⊎ (b + 2 ^ 21 < a)
 far_means a b h = elim (cases_Bool (leb (a + 2 ^ 21) b)) [
