@@ -1,7 +1,7 @@
 -- The picked registers are different, and as many as are wanted.
 use Rattle.std.proofs.Common.{◌≡◌, ◌≢◌, ℕ, zero, suc, ◌+◌, ◌-◌, ◌<◌, ◌≤◌, ◌⊎◌, inl, inr, Bool, true, false, not, ◌&&◌, ◌||◌, List, [], ◌∷◌, ◌++◌, length, refl, ap, sym, ◌∙◌, subst, arith, length-append, length-take}
 use Rattle.std.specs.Prelude.{if◌then◌else◌, slice_index, filter}
-use Rattle.std.proofs.lemmas.Bool.{and_parts, cases_lt, cond_both}
+use Rattle.std.proofs.lemmas.Bool.{and_parts, cases_lt, cond_both, not-true}
 use Rattle.std.proofs.lemmas.Bool.Decides.{nat_tests}
 use Rattle.std.proofs.lemmas.List.{get_or-take, get_or_append_left, get_or-append-add}
 use Rattle.v8_decode.specs.declared.Part.{Part}
@@ -120,10 +120,6 @@ pub registers_count : length registers ≡ 31
 unfolding registers
 registers_count = refl
 
-of_not : (b : Bool) → not b ≡ true → b ≡ false
-of_not true e = absurd (cc)
-of_not false e = refl
-
 module _ (dead avoid : List Part) (want : ℕ) (few : register_count avoid ≤ 8) (low : want ≤ 5) where
   abbrev p : ℕ → Bool
   p r = has dead (parts.Reg r) && not (has avoid (parts.Reg r))
@@ -184,7 +180,7 @@ module _ (dead avoid : List Part) (want : ℕ) (few : register_count avoid ≤ 8
           let same : slice_index xs j ≡ slice_index ys (k - length xs) = sym (in_first j (omega arith) h) ∙ e ∙ in_second k b i in
           let x : has dead (parts.Reg (slice_index xs j)) ≡ true = (and_parts _ _ (firsts j h).2).0 in
           let y : has dead (parts.Reg (slice_index ys (k - length xs))) ≡ false =
-          of_not _ (and_parts _ _ (seconds (k - length xs) (omega arith)).2).0 in
+          not-true _ (and_parts _ _ (seconds (k - length xs) (omega arith)).2).0 in
           cc
       go (inr h) (inl i) = omega arith
       go (inr h) (inr i) =
@@ -214,8 +210,8 @@ module _ (dead avoid : List Part) (want : ℕ) (few : register_count avoid ≤ 8
         some = of_both (λ r. 0 < r) (λ k l. (firsts k l).0) (λ k l. (seconds k l).0);
         below = of_both (λ r. r < 32) (λ k l. (firsts k l).1) (λ k l. (seconds k l).1);
         differ = differ_both;
-        unavoided = of_both (λ r. has avoid (parts.Reg r) ≡ false) (λ k l. of_not _ (and_parts _ _ (firsts k l).2).1)
-            (λ k l. of_not _ (and_parts _ _ (seconds k l).2).1);
+        unavoided = of_both (λ r. has avoid (parts.Reg r) ≡ false) (λ k l. not-true _ (and_parts _ _ (firsts k l).2).1)
+            (λ k l. not-true _ (and_parts _ _ (seconds k l).2).1);
         dead_first = λ k l. subst (λ r. has dead (parts.Reg r) ≡ true) (sym (in_first k (omega arith) (omega arith)))
             (and_parts _ _ (firsts k (omega arith)).2).0;
         few = refl;
