@@ -1,5 +1,6 @@
 -- The registers that a snippet names.
 use Rattle.std.proofs.Common.{◌≡◌, ℕ, zero, suc, ◌+◌, ◌<◌, ◌≤◌, ◌⊎◌, inl, inr, Bool, true, false, not, ◌&&◌, ◌||◌, cond, List, [], ◌∷◌, length, refl, ap, ◌∙◌, arith, length-append}
+use Rattle.std.proofs.lemmas.Bool.{or_right}
 use Rattle.std.specs.Prelude.{filter, nat_lt}
 use Rattle.std.specs.List.{range_with_len}
 use Rattle.std.proofs.lemmas.Bool.Decides.{nat_tests}
@@ -22,16 +23,12 @@ IsReadIn (op ∷ ops) q = IsRead op q ⊎ IsReadIn ops q
 first_has : (reg q : ℕ) (ps : List Part) → q ≡ reg → has (Reg reg ∷ ps) (Reg q) ≡ true
 first_has reg q ps e = cc (e, is_same-self (Reg reg))
 
-or_true : (b : Bool) → (b || true) ≡ true
-or_true true = refl
-or_true false = refl
-
 has_read : (ops : List Op) (q : ℕ) → IsReadIn ops q → has (read_by ops) (Reg q) ≡ true
 has_read [] q h = absurd h
 has_read (Keep cell reg ∷ ops) q (inl h) = first_has reg q (read_by ops) h
-has_read (Keep cell reg ∷ ops) q (inr h) = cc (has_read ops q h, or_true _)
+has_read (Keep cell reg ∷ ops) q (inr h) = or_right _ _ (has_read ops q h)
 has_read (Top cell reg ∷ ops) q (inl h) = first_has reg q (read_by ops) h
-has_read (Top cell reg ∷ ops) q (inr h) = cc (has_read ops q h, or_true _)
+has_read (Top cell reg ∷ ops) q (inr h) = or_right _ _ (has_read ops q h)
 has_read (op ∷ ops) q (inl h) = absurd h
 has_read (op ∷ ops) q (inr h) = has_read ops q h
 

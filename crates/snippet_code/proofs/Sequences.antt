@@ -1,5 +1,6 @@
 -- Operations one after the other, and the registers that are saved before them and loaded after them.
 use Rattle.std.proofs.Common.{◌≡◌, ◌≢◌, ℕ, zero, suc, ◌+◌, ◌*◌, ◌<◌, ◌≤◌, ◌⊎◌, inl, inr, Bool, true, false, Some, List, [], ◌∷◌, ◌++◌, length, refl, ap, sym, ◌∙◌, subst, arith, length-append}
+use Rattle.std.proofs.lemmas.Bool.{or_parts, or_from}
 use Rattle.std.specs.Prelude.{if◌then◌else◌, ◌||◌}
 use Rattle.v8_decode.specs.declared.Instr.{Instr}
 use Rattle.v8_decode.specs.declared.Instr.TheVariants as i
@@ -50,14 +51,6 @@ if_one : (b : Bool) → (if b then 1 else 0) ≤ 1
 if_one true = omega arith
 if_one false = omega arith
 
-or_none : (a b : Bool) → a ≡ false → b ≡ false → (a || b) ≡ false
-or_none false b e f = f
-or_none true b e f = absurd (cc)
-
-none_of : (a b : Bool) → (a || b) ≡ false → (a ≡ false) × (b ≡ false)
-none_of true b e = absurd (cc)
-none_of false b e = (refl, e)
-
 module _ (counted : ℕ → Bool) where
   abbrev any_from3 : Bool
   any_from3 = any_of_word counted (kept_word 3) || any_of_word counted (kept_word 4)
@@ -73,10 +66,10 @@ module _ (counted : ℕ → Bool) where
 
   none_kept : any ≡ false → (n : ℕ) → n < 5 → any_of_word counted (kept_word n) ≡ false
   none_kept e n few =
-      let after0 = none_of (any_of_word counted (kept_word 0)) any_from1 e in
-      let after1 = none_of (any_of_word counted (kept_word 1)) any_from2 after0.1 in
-      let after2 = none_of (any_of_word counted (kept_word 2)) any_from3 after1.1 in
-      let after3 = none_of (any_of_word counted (kept_word 3)) (any_of_word counted (kept_word 4)) after2.1 in
+      let after0 = or_parts (any_of_word counted (kept_word 0)) any_from1 e in
+      let after1 = or_parts (any_of_word counted (kept_word 1)) any_from2 after0.1 in
+      let after2 = or_parts (any_of_word counted (kept_word 2)) any_from3 after1.1 in
+      let after3 = or_parts (any_of_word counted (kept_word 3)) (any_of_word counted (kept_word 4)) after2.1 in
       by n few after0.0 after1.0 after2.0 after3.0 after3.1
     where
       by : (n : ℕ) → n < 5 → any_of_word counted (kept_word 0) ≡ false → any_of_word counted (kept_word 1) ≡ false
@@ -91,10 +84,10 @@ module _ (counted : ℕ → Bool) where
 
   any_none : ((n : ℕ) → n < 5 → any_of_word counted (kept_word n) ≡ false) → any ≡ false
   any_none h =
-      or_none (any_of_word counted (kept_word 0)) any_from1 (h 0 (omega arith))
-      (or_none (any_of_word counted (kept_word 1)) any_from2 (h 1 (omega arith))
-      (or_none (any_of_word counted (kept_word 2)) any_from3 (h 2 (omega arith))
-      (or_none (any_of_word counted (kept_word 3)) (any_of_word counted (kept_word 4)) (h 3 (omega arith))
+      or_from (any_of_word counted (kept_word 0)) any_from1 (h 0 (omega arith))
+      (or_from (any_of_word counted (kept_word 1)) any_from2 (h 1 (omega arith))
+      (or_from (any_of_word counted (kept_word 2)) any_from3 (h 2 (omega arith))
+      (or_from (any_of_word counted (kept_word 3)) (any_of_word counted (kept_word 4)) (h 3 (omega arith))
       (h 4 (omega arith)))))
 
   pub cost_of_page : (cost : ℕ) × IsCost counted cost
