@@ -1,5 +1,5 @@
 -- What sets have after each step of the computation.
-use Rattle.std.proofs.Common.{◌≡◌, ◌↔◌, ℕ, zero, suc, ◌+◌, ◌<◌, ◌≤◌, ◌⊎◌, inl, inr, true, false, not, ◌&&◌, ◌||◌, List, [], ◌∷◌, ◌++◌, length, length-take, map, take, ap, sym, ◌∙◌, subst, arith}
+use Rattle.std.proofs.Common.{◌≡◌, ◌↔◌, ℕ, zero, suc, ◌+◌, ◌<◌, ◌≤◌, ◌⊎◌, inl, inr, true, false, not, ◌&&◌, ◌||◌, List, [], ◌∷◌, ◌++◌, length, length-take, map, take, ap, sym, ◌∙◌, arith}
 use Rattle.std.proofs.lemmas.Bool.{cases_lt, false≢true, or_cases, or_left, or_right}
 use Rattle.std.proofs.lemmas.List.{get_or-take, get_or_append_left, get_or_push}
 use Rattle.v8_decode.specs.declared.Part.{Part}
@@ -25,41 +25,26 @@ everything_less s =
 pub adds_union : (live more grown : List Part) (Q : Part → Type 0)
     → ((x : Part) → has grown x ≡ (has live x || has more x)) → ((x : Part) → (has more x ≡ true) ↔ Q x)
     → Adds {A = Part} (λ x. has live x ≡ true) (λ x. has grown x ≡ true) Q
-adds_union live more grown Q union is = λ x. (λ k. to x (or_cases _ _ (sym (union x) ∙ k)), λ k. from x k)
-  where
-    to : (x : Part) → (has live x ≡ true) ⊎ (has more x ≡ true) → (has live x ≡ true) ⊎ Q x
-    to x (inl k) = inl k
-    to x (inr k) = inr ((is x).0 k)
-
-    from : (x : Part) → (has live x ≡ true) ⊎ Q x → has grown x ≡ true
-    from x (inl k) = union x ∙ or_left _ _ k
-    from x (inr k) = union x ∙ or_right _ _ ((is x).1 k)
+adds_union live more grown Q union is = λ x. (
+  λ k. elim (or_cases _ _ (sym (union x) ∙ k)) [ inl m ↦ inl m | inr m ↦ inr ((is x).0 m) ],
+  λ k. union x ∙ elim k [ inl m ↦ or_left _ _ m | inr m ↦ or_right _ _ ((is x).1 m) ],
+)
 
 -- that of all, from nothing on
 pub union_all : (live : List Part) (Q : ℕ → Part → Type 0) (first n end : ℕ)
     → Adds {A = Part} (λ x. has [] x ≡ true) (λ x. has live x ≡ true) (Between Q first n) → n ≡ end
     → (x : Part) → (has live x ≡ true) ↔ Between Q first end x
 union_all live Q first n end g e =
-    subst (λ (m : ℕ). (x : Part) → (has live x ≡ true) ↔ Between Q first m x) e
-    (λ x. (λ k. some x ((g x).0 k), λ k. (g x).1 (inr k)))
-  where
-    some : (x : Part) → (has [] x ≡ true) ⊎ Between Q first n x → Between Q first n x
-    some x (inl k) = absurd (false≢true k)
-    some x (inr k) = k
+    rw (← e) (λ x. (λ k. elim ((g x).0 k) [ inl m ↦ absurd (false≢true m) | inr m ↦ m ], λ k. (g x).1 (inr k)))
 
 -- one set more
 pub pushed : (P : ℕ → List Part → Type 0) (xs : Sets) (y : List Part) (i : ℕ) → length xs ≡ i
     → ((j : ℕ) → j < i → P j (at xs j)) → P i y
     → (j : ℕ) → j < i + 1 → P j (at (xs ++ y ∷ []) j)
-pushed P xs y i len below here j l = by (cases_lt j i)
-  where
-    by : (j < i) ⊎ (i ≤ j) → P j (at (xs ++ y ∷ []) j)
-    by (inl less) =
-        subst (λ (s : List Part). P j s) (sym (get_or_append_left xs (y ∷ []) [] j (omega arith))) (below j less)
-    by (inr more) =
-        let same : i ≡ j = omega arith in
-        subst (λ (k : ℕ). P k (at (xs ++ y ∷ []) k)) same
-        (subst (λ (s : List Part). P i s) (sym (get_or_push xs y [] i len)) here)
+pushed P xs y i len below here j l = elim (cases_lt j i) [
+  | inl less ↦ rw (get_or_append_left xs (y ∷ []) [] j (omega arith)) (below j less)
+  | inr more ↦ let same : j ≡ i = omega arith in rw same (rw (get_or_push xs y [] i len) here)
+]
 
 -- sets of nothing
 pub none_in : (ns : List ℕ) (p : ℕ) (x : Part) → has (at (map (λ n. []) ns) p) x ≡ true → ⊥
@@ -70,33 +55,34 @@ none_in (n ∷ ns) (suc p) x h = none_in ns p x h
 -- what is live at a word of a block, where there is a copy of that, and where there is none
 module _ (graph : Graph) (f : AreFirsts graph.blocks.words graph.blocks.firsts) (sets : Sets) (b w : ℕ)
     (holds : HoldsIn graph b w) where
+  -- no other block holds it
+  alone : (d : ℕ) → HoldsIn graph d w → d ≡ b
+  alone d held = same_number graph.blocks.words graph.blocks.firsts f d b w held.0 holds.0 held.1 held.2 holds.1 holds.2
+
   pub live_copied : (here copy grown : List Part) → is_copied graph.opens b ≡ true → here ≡ at sets w
       → copy ≡ at sets (place_of graph (Landed (record { 0 = b })) w)
       → ((x : Part) → has grown x ≡ (has here x || has copy x))
       → (x : Part) → (has grown x ≡ true) ↔ (In sets w x ⊎ LivesInCopy graph sets w x)
-  live_copied here copy grown copied h c union x = (λ k. to (or_cases _ _ (sym (union x) ∙ k)), λ k. from k)
-    where
-      to : (has here x ≡ true) ⊎ (has copy x ≡ true) → In sets w x ⊎ LivesInCopy graph sets w x
-      to (inl k) = inl (sym (ap (λ s. has s x) h) ∙ k)
-      to (inr k) = inr (b, copied, holds, sym (ap (λ s. has s x) c) ∙ k)
-
-      from : In sets w x ⊎ LivesInCopy graph sets w x → has grown x ≡ true
-      from (inl k) = union x ∙ or_left _ _ (ap (λ s. has s x) h ∙ k)
-      from (inr (d, copied, held, k)) =
-          let same : d ≡ b =
-          same_number graph.blocks.words graph.blocks.firsts f d b w held.0 holds.0 held.1 held.2 holds.1 holds.2 in
-          union x ∙ or_right _ _ (ap (λ s. has s x) c ∙ rw same at k)
+  live_copied here copy grown copied h c union x = (
+    λ k. elim (or_cases _ _ (sym (union x) ∙ k)) [
+      | inl m ↦ inl (sym (ap (λ s. has s x) h) ∙ m)
+      | inr m ↦ inr (b, copied, holds, sym (ap (λ s. has s x) c) ∙ m)
+    ],
+    λ k. union x ∙ elim k [
+      | inl m ↦ or_left _ _ (ap (λ s. has s x) h ∙ m)
+      | inr m ↦ or_right _ _ (ap (λ s. has s x) c ∙ rw (alone m.0 m.2) at m.3)
+    ],
+  )
 
   pub live_plain : (here : List Part) → is_copied graph.opens b ≡ false → here ≡ at sets w
       → (x : Part) → (has here x ≡ true) ↔ (In sets w x ⊎ LivesInCopy graph sets w x)
-  live_plain here none h x = (λ k. inl (sym (ap (λ s. has s x) h) ∙ k), λ k. from k)
-    where
-      from : In sets w x ⊎ LivesInCopy graph sets w x → has here x ≡ true
-      from (inl k) = ap (λ s. has s x) h ∙ k
-      from (inr (d, copied, held, k)) =
-          let same : d ≡ b =
-          same_number graph.blocks.words graph.blocks.firsts f d b w held.0 holds.0 held.1 held.2 holds.1 holds.2 in
-          absurd (false≢true (sym none ∙ subst (λ (n : ℕ). is_copied graph.opens n ≡ true) same copied))
+  live_plain here none h x = (
+    λ k. inl (sym (ap (λ s. has s x) h) ∙ k),
+    λ k. elim k [
+      | inl m ↦ ap (λ s. has s x) h ∙ m
+      | inr m ↦ absurd (false≢true (sym none ∙ rw (alone m.0 m.2) at m.1))
+    ],
+  )
 
 -- where no block has a copy, a word's own set has all
 pub joined_alone : (graph : Graph) (f : AreFirsts graph.blocks.words graph.blocks.firsts) (sets : Sets)
@@ -105,14 +91,13 @@ pub joined_alone : (graph : Graph) (f : AreFirsts graph.blocks.words graph.block
 joined_alone graph f sets none len = record {
   len = simp length-take (omega arith);
   joined = λ w l x.
-      let is : at (take graph.blocks.words sets) w ≡ at sets w = get_or-take graph.blocks.words sets w [] l in
-      (λ k. inl (sym (ap (λ s. has s x) is) ∙ k), λ k. from w x is k);
+      let is : at (take graph.blocks.words sets) w ≡ at sets w = get_or-take graph.blocks.words sets w [] l in (
+        λ k. inl (sym (ap (λ s. has s x) is) ∙ k),
+        λ k. elim k [
+          | inl m ↦ ap (λ s. has s x) is ∙ m
+          | inr m ↦
+              let low = place_within graph f (Landed (record { 0 = m.0 })) w (m.1, m.2) in
+              absurd (omega (arith, low, place_behind graph f m.0 w, none))
+        ],
+      );
 }
-  where
-    from : (w : ℕ) (x : Part) → at (take graph.blocks.words sets) w ≡ at sets w
-        → In sets w x ⊎ LivesInCopy graph sets w x → In (take graph.blocks.words sets) w x
-    from w x is (inl k) = ap (λ s. has s x) is ∙ k
-    from w x is (inr (b, copied, held, k)) =
-        let copy = Landed (record { 0 = b }) in
-        let low = place_within graph f copy w (copied, held) in
-        absurd (omega (arith, low, place_behind graph f b w, none))
