@@ -1,5 +1,5 @@
 -- What is live at places, by links, is so at points, by paths, and back.
-use Rattle.std.proofs.Common.{◌≡◌, ◌↔◌, ℕ, suc, ◌+◌, ◌<◌, ◌⊎◌, Bool, true, false, not, ◌&&◌, ◌||◌, List, [], ◌∷◌, ◌++◌, length, refl, sym, ◌∙◌, subst, arith, inl, inr}
+use Rattle.std.proofs.Common.{◌≡◌, ◌↔◌, ℕ, suc, ◌+◌, ◌<◌, ◌⊎◌, Bool, true, false, ◌||◌, List, [], ◌∷◌, ◌++◌, length, refl, sym, ◌∙◌, subst, arith, inl, inr}
 use Rattle.std.specs.List.{Contains}
 use Rattle.std.proofs.lemmas.Bool.{cases_lt, cond_both, false≢true, or_cases, or_from, or_left, or_parts, or_right, and_parts, and_from, not-true, not_from_false}
 use Rattle.std.proofs.lemmas.List.{get_or_default}
@@ -22,7 +22,7 @@ use Rattle.cfg_normal.specs.declared.Node.TheVariants.{Block, Landed, X}
 use Rattle.cfg_normal.specs.declared.Slot.{Slot}
 use Rattle.cfg_normal.specs.declared.Slot.TheVariants.{Nothing, Word, Off}
 use Rattle.liveness.specs.Paths.{ReadsFirst}
-use Rattle.liveness.specs.Live.{edge_at, Holds, HoldsIn, IsFirst, IsLast, LandsAt, GoesOnAt, instr_of, is_landing, is_outside, slot_reads, slot_writes, beyond, Point, At, Along, Behind, After, reads_at, writes_at, Goes, IsLive, IsLiveAt, IsLiveOn}
+use Rattle.liveness.specs.Live.{edge_at, Holds, HoldsIn, IsFirst, IsLast, LandsAt, GoesOnAt, instr_of, is_landing, is_outside, slot_writes, beyond, Point, At, Along, Behind, After, reads_at, writes_at, Goes, IsLive, IsLiveAt, IsLiveOn}
 use Rattle.liveness.specs.Search.{AreLinksOf, AreLivePlaces, AreMarks, AreRead, In, IsInside, IsOf, IsOnward, LinksAlongAny, LinksInAny, LinksNext, LinksOnto, LinksOntoAny, LivesInCopy, LivesOnto, ReadsIn, ReadsOfAny, ReadsOnAny, edge_link, first_in, is_ahead, is_marked, landing_link, last_in, next_link, node_place, nodes_from, place_of, target_of}
 use Rattle.liveness.proofs.Held.{some_block}
 use Rattle.liveness.proofs.Spots.{first_held, held_inside, held_of, inside_of, is_inside, last_held, number_once, of_held, place_once, place_within}
@@ -30,24 +30,20 @@ use Rattle.liveness.proofs.Spots.{first_held, held_inside, held_of, inside_of, i
 -- ---- the first and the last word of a node
 
 first_is : (graph : Graph) (node : Node) (w : ℕ) → IsFirst graph node w → w ≡ first_in graph node
-first_is graph (Block b) w h = h
-first_is graph (Landed b) w h = h
 first_is graph X w h = absurd h
+first_is graph _ w h = h
 
 is_first : (graph : Graph) (node : Node) → IsInside graph node → IsFirst graph node (first_in graph node)
-is_first graph (Block b) h = refl
-is_first graph (Landed b) h = refl
 is_first graph X h = absurd h
+is_first graph _ h = refl
 
 last_is : (graph : Graph) (node : Node) (w : ℕ) → IsLast graph node w → w ≡ last_in graph node
-last_is graph (Block b) w h = h
-last_is graph (Landed b) w h = h
 last_is graph X w h = absurd h
+last_is graph _ w h = h
 
 is_last : (graph : Graph) (node : Node) → IsInside graph node → IsLast graph node (last_in graph node)
-is_last graph (Block b) h = refl
-is_last graph (Landed b) h = refl
 is_last graph X h = absurd h
+is_last graph _ h = refl
 
 -- ---- what is killed
 
@@ -172,8 +168,7 @@ module _ (text : Words) (graph : Graph) (g : IsGraph graph) (marks : List Bool)
       let edge = edge_at graph e in
       subst IsWithin is (
         word_placed edge.from _ (last_held graph g.firsts edge.from from),
-        cond_both (is_landing edge.kind) (node_place graph edge.to) (place_of graph edge.to (first_in graph edge.to))
-            IsPlace (λ landing. node_placed edge.to (marked_to e l from landing))
+        cond_both (is_landing edge.kind) _ _ IsPlace (λ landing. node_placed edge.to (marked_to e l from landing))
             (λ _. word_placed edge.to _ (first_held graph g.firsts edge.to to)),
       )
   step_within link (onto node w h mark is) = subst IsWithin is (node_placed node mark, word_placed node w h.0)
@@ -228,13 +223,13 @@ module _ (text : Words) (graph : Graph) (g : IsGraph graph) (marks : List Bool)
 
       plain_word : (node : Node) (w : ℕ) → Holds graph node w → has (read_set (instr_of text w)) x ≡ true
           → Plain (place_of graph node w)
-      plain_word node w h k = ([], (r.read (place_of graph node w) x).1 (inl (by node h (words_between node w h k))))
-        where
-          by : (node : Node) → Holds graph node w → ReadsIn text graph (place_of graph node w) node x
-              → ReadsOfAny text graph (place_of graph node w) x
-          by (Block b) h i = (b.0, omega arith, h.0, inl i)
-          by (Landed b) h i = (b.0, omega arith, h.1.0, inr (h.0, i))
-          by X h i = absurd h
+      plain_word (Block b) w h k =
+          let i = words_between (Block b) w h k in
+          ([], (r.read (place_of graph (Block b) w) x).1 (inl (b.0, omega arith, h.0, inl i)))
+      plain_word (Landed b) w h k =
+          let i = words_between (Landed b) w h k in
+          ([], (r.read (place_of graph (Landed b) w) x).1 (inl (b.0, omega arith, h.1.0, inr (h.0, i))))
+      plain_word X w h k = absurd h
 
       abbrev Leaving : ℕ → Type 0
       Leaving e =
@@ -271,8 +266,7 @@ module _ (text : Words) (graph : Graph) (g : IsGraph graph) (marks : List Bool)
           → Plain (place_of graph (edge_at graph e).to w) → Plain (target_of graph (edge_at graph e))
       plain_target e w l from goes k =
           let edge = edge_at graph e in
-          cond_both (is_landing edge.kind) (node_place graph edge.to) (place_of graph edge.to (first_in graph edge.to))
-          Plain (λ landing.
+          cond_both (is_landing edge.kind) _ _ Plain (λ landing.
           plain_step (landing_link graph edge.to w)
           (onto edge.to w (rw landing at goes) (marked_to e l from landing) refl) refl k)
           (λ other. rw (first_is graph edge.to w (rw other at goes).1) at k)
@@ -314,12 +308,7 @@ module _ (text : Words) (graph : Graph) (g : IsGraph graph) (marks : List Bool)
       numbered_step (Along e) (Behind d) u f h = rw f at (h (rw f u))
       numbered_step (Behind e) (After d) u f h = onward e (rw f at h)
       numbered_step (After e) (At node w) u f h =
-          let edge = edge_at graph e in
-          inr (
-            w,
-            rw f.0 f.1,
-            rw f.0 (h f.1.0),
-          )
+          inr (w, rw f.0 f.1, rw f.0 (h f.1.0))
       numbered_step _ _ u f h = absurd f
 
       numbered : (path : List Point) (p : Point)
@@ -353,29 +342,24 @@ module _ (text : Words) (graph : Graph) (g : IsGraph graph) (marks : List Bool)
       }
 
       behind : (e : ℕ) → (has (named e) x || has (beyond (edge_at graph e)) x) ≡ true → Lives (Behind e)
-      behind e h = by (or_cases _ _ h)
-        where
-          by : (has (named e) x ≡ true) ⊎ (has (beyond (edge_at graph e)) x ≡ true) → Lives (Behind e)
-          by (inl k) = read (Behind e) k
-          by (inr k) = step (Behind e) (After e) refl refl (read (After e) k)
+      behind e h = elim (or_cases _ _ h) [
+        | inl k ↦ read (Behind e) k
+        | inr k ↦ step (Behind e) (After e) refl refl (read (After e) k)
+      ]
 
       along_read : (e : ℕ) → is_ahead text (edge_at graph e) (named e) x ≡ true → Lives (Along e)
-      along_read e h = by (or_cases _ _ h)
-        where
-          by : (has (slot_reads text (edge_at graph e).slot) x ≡ true)
-              ⊎ (((has (named e) x || has (beyond (edge_at graph e)) x)
-              && not (has (slot_writes text (edge_at graph e).slot) x)) ≡ true) → Lives (Along e)
-          by (inl k) = read (Along e) k
-          by (inr k) =
-              let parts = and_parts _ _ k in
-              step (Along e) (Behind e) (not-true _ parts.1) refl (behind e parts.0)
+      along_read e h = elim (or_cases _ _ h) [
+        | inl k ↦ read (Along e) k
+        | inr k ↦
+            let parts = and_parts _ _ k in
+            step (Along e) (Behind e) (not-true _ parts.1) refl (behind e parts.0)
+      ]
 
       after : (e : ℕ) → IsInside graph (edge_at graph e).to → Pointed (target_of graph (edge_at graph e))
           → Lives (After e)
       after e to h =
           let edge = edge_at graph e in
-          cond_both (is_landing edge.kind) (node_place graph edge.to) (place_of graph edge.to (first_in graph edge.to))
-          (λ p. Pointed p → Lives (After e)) (λ landing t.
+          cond_both (is_landing edge.kind) _ _ (λ p. Pointed p → Lives (After e)) (λ landing t.
           let there = t.landing edge.to to refl in
           step (After e) (At edge.to there.0) refl (refl, rw landing there.1) there.2) (λ other t.
           let held = first_held graph g.firsts edge.to to in
@@ -468,13 +452,8 @@ module _ (text : Words) (graph : Graph) (named : ℕ → List Part) (sets : Sets
       → IsOnward graph (edge_at graph e) sets x
   after_goes e x [] h = inl h
   after_goes e x (At node w ∷ path) h =
-      let edge = edge_at graph e in
-      let is : node ≡ edge.to = sym h.1.0 in
-      inr (
-        w,
-        rw is at h.1.1,
-        rw is at ((live.live node w h.1.1.0 x).1 (path, h.2)),
-      )
+      let is : node ≡ (edge_at graph e).to = sym h.1.0 in
+      inr (w, rw is at h.1.1, rw is at ((live.live node w h.1.1.0 x).1 (path, h.2)))
   after_goes e x (_ ∷ path) h = absurd h.1
 
   pub onward_is : (e : ℕ) (x : Part) → IsOnward graph (edge_at graph e) sets x ↔ IsLiveOn text graph named e x

@@ -187,8 +187,7 @@ module _ (graph : Graph) (f : AreFirsts graph.blocks.words graph.blocks.firsts) 
   place_once (Block a) (Landed b) w v h k e = absurd (omega (arith, held_within (Block a) w h, place_behind b.0 v, e))
   place_once (Landed a) (Block b) w v h k e = absurd (omega (arith, held_within (Block b) v k, place_behind a.0 w, e))
   place_once X other w v h k e = absurd h
-  place_once (Block a) X w v h k e = absurd k
-  place_once (Landed a) X w v h k e = absurd k
+  place_once _ X w v h k e = absurd k
 
   -- ---- nodes by numbers
 
@@ -201,24 +200,20 @@ module _ (graph : Graph) (f : AreFirsts graph.blocks.words graph.blocks.firsts) 
   number_once (Block a) (Landed b) h k e = absurd (omega (arith, e))
   number_once (Landed a) (Block b) h k e = absurd (omega (arith, e))
   number_once X other h k e = absurd h
-  number_once (Block a) X h k e = absurd k
-  number_once (Landed a) X h k e = absurd k
+  number_once _ X h k e = absurd k
 
   pub inside_of : (node : Node) → IsNodeIn graph.blocks graph.opens node → is_outside node ≡ false
       → IsInside graph node
-  inside_of (Block b) h o = h
-  inside_of (Landed b) h o = h
   inside_of X h o = absurd (false≢true (sym o))
+  inside_of _ h o = h
 
   pub node_in : (node : Node) → IsInside graph node → IsNodeIn graph.blocks graph.opens node
-  node_in (Block b) h = h
-  node_in (Landed b) h = h
   node_in X h = absurd h
+  node_in _ h = h
 
   pub is_inside : (node : Node) → IsInside graph node → is_outside node ≡ false
-  is_inside (Block b) h = refl
-  is_inside (Landed b) h = refl
   is_inside X h = absurd h
+  is_inside _ h = refl
 
   -- control lands in the block itself where it has no copy
   pub lands_plain : (b w : ℕ) → HoldsIn graph b w → is_copied graph.opens b ≡ false
