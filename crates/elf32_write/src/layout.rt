@@ -36,7 +36,7 @@ impl Layout {
         ensures sections { result.sections ≡ sections_at bytes.now (map segment_seen added.now) notes.now }
         ensures small { result.notes + length notes.now < 2 ^ 31 }
     {
-        let delta = delta_above(image.segments());
+        let delta = delta(image);
         let original_end = delta + bytes.len() as u32;
         let notes_at = next_word(segments_end(original_end, added));
         let notes_end = notes_at + notes.len() as u32;
