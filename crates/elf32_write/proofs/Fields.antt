@@ -1,6 +1,6 @@
 -- The fields of program headers are words.
-use Rattle.std.proofs.Common.{ℕ, zero, suc, ◌+◌, ◌^◌, ◌<◌, Bool, true, false, cond, nat_le, List, [], ◌∷◌, length, map, drop, slice_index, unwrap_or, get_or, Some, None, arith, lit<, All}
-use Rattle.std.specs.Prelude.{if◌then◌else◌}
+use Rattle.std.proofs.Common.{ℕ, zero, suc, ◌+◌, ◌^◌, ◌<◌, Bool, true, false, cond, nat_le, List, [], ◌∷◌, length, map, drop, slice_index, unwrap_or, Some, None, arith, lit<, All}
+use Rattle.std.proofs.lemmas.Bool.{cond_both}
 use Rattle.std.specs.List.{filter}
 use Rattle.std.specs.Int.Bits.{and_lt}
 use Rattle.std.proofs.lemmas.List.Elements.{All-map, All-filter, All-append, All-drop, All-cons, All-nil}
@@ -32,35 +32,26 @@ byte_below [] bytes k = omega arith
 byte_below (b ∷ file) bytes zero = bytes zero b (omega arith)
 byte_below (b ∷ file) bytes (suc k) = byte_below file (λ n d below. bytes (suc n) d (omega arith)) k
 
-number_below : (bytes : List ℕ) → All (λ byte. byte < 256) bytes → big_number 4 bytes < 2 ^ 32
-number_below bytes all = big_from-lt 0 4 bytes (byte_below bytes all)
-
 -- a field that is there, or is not
-there_below : (there : Bool) (n : ℕ) → n < 2 ^ 32 → unwrap_or (cond there (Some n) None) 0 < 2 ^ 32
-there_below true n below = below
-there_below false n below = omega arith
+there_below : (there : Bool) (n most : ℕ) → n < most → unwrap_or (cond there (Some n) None) 0 < most
+there_below true n most below = below
+there_below false n most below = omega arith
 
 word_below : (file : List ℕ) → All (λ byte. byte < 256) file → (at : ℕ) → word_at file at < 2 ^ 32
 unfolding word_at
-word_below file bytes at = there_below (nat_le (at + 4) (length file)) (big_number 4 (drop at file)) (number_below (drop at file) (All-drop (λ byte. byte < 256) at file bytes))
-
-half_number_below : (bytes : List ℕ) → All (λ byte. byte < 256) bytes → big_number 2 bytes < 2 ^ 16
-half_number_below bytes all = big_from-lt 0 2 bytes (byte_below bytes all)
-
-half_there_below : (there : Bool) (n : ℕ) → n < 2 ^ 16 → unwrap_or (cond there (Some n) None) 0 < 2 ^ 16
-half_there_below true n below = below
-half_there_below false n below = omega arith
+word_below file bytes at =
+    there_below (nat_le (at + 4) (length file)) (big_number 4 (drop at file)) (2 ^ 32)
+    (big_from-lt 0 4 (drop at file) (byte_below (drop at file) (All-drop (λ byte. byte < 256) at file bytes)))
 
 half_below : (file : List ℕ) → All (λ byte. byte < 256) file → (at : ℕ) → half_at file at < 2 ^ 16
 unfolding half_at
-half_below file bytes at = half_there_below (nat_le (at + 2) (length file)) (big_number 2 (drop at file)) (half_number_below (drop at file) (All-drop (λ byte. byte < 256) at file bytes))
+half_below file bytes at =
+    there_below (nat_le (at + 2) (length file)) (big_number 2 (drop at file)) (2 ^ 16)
+    (big_from-lt 0 2 (drop at file) (byte_below (drop at file) (All-drop (λ byte. byte < 256) at file bytes)))
 
 pub few_sections : (file : List ℕ) → All (λ byte. byte < 256) file → section_count file < 2 ^ 16
-few_sections file bytes = go (has_sections file)
-  where
-    go : (there : Bool) → (if there then e_shnum file else 0) < 2 ^ 16
-    go true = half_below file bytes 48
-    go false = omega arith
+few_sections file bytes =
+    cond_both (has_sections file) (e_shnum file) 0 (λ n. n < 2 ^ 16) (λ _. half_below file bytes 48) (λ _. omega arith)
 
 header_fields : (file : List ℕ) → All (λ byte. byte < 256) file → (at : ℕ) → HasFields (program_header file at)
 unfolding program_header
@@ -83,10 +74,6 @@ pub program_headers-fields : (file : List ℕ) → All (λ byte. byte < 256) fil
 unfolding program_headers
 program_headers-fields file bytes = headers_fields file bytes (e_phoff file) (e_phnum file)
 
-flags_below : (text : Bool) (flags : ℕ) → flags < 2 ^ 32 → cond text (not_executable flags) flags < 2 ^ 32
-flags_below true flags below = and_lt 32 flags 0xfffffffe below (lit< tt)
-flags_below false flags below = below
-
 carried_fields : (delta : ℕ) (h : ProgramHeader) → HasFields h → HasFields (carried_on delta h)
 carried_fields delta h fields = record {
   p_type = fields.p_type;
@@ -95,33 +82,28 @@ carried_fields delta h fields = record {
   p_paddr = fields.p_paddr;
   p_filesz = fields.p_filesz;
   p_memsz = fields.p_memsz;
-  p_flags = flags_below (is_text h) h.p_flags fields.p_flags;
+  p_flags = cond_both (is_text h) (not_executable h.p_flags) h.p_flags (λ n. n < 2 ^ 32)
+      (λ _. and_lt 32 h.p_flags 0xfffffffe fields.p_flags (lit< tt)) (λ _. fields.p_flags);
   p_align = fields.p_align;
 }
 
-all_carried : (delta : ℕ) (hs : List ProgramHeader) → All HasFields hs → All (λ h. HasFields (carried_on delta h)) hs
-all_carried delta hs fields k d below = carried_fields delta (get_or hs k d) (fields k d below)
-
 pub carried-fields : (delta : ℕ) (hs : List ProgramHeader) → All HasFields hs → All HasFields (map (carried_on delta) (filter is_carried hs))
-carried-fields delta hs fields = All-map HasFields (carried_on delta) (filter is_carried hs) (all_carried delta (filter is_carried hs) (All-filter is_carried HasFields hs fields))
+carried-fields delta hs fields = All-map HasFields (carried_on delta) (filter is_carried hs) (λ k d below. carried_fields delta _ (All-filter is_carried HasFields hs fields k d below))
 
 added-fields : (end : ℕ) (added : List AddedSegment) → segments_end end added < 2 ^ 32 → All HasWords added → All HasFields (added_headers end added)
 added-fields end [] fits words = All-nil HasFields
 added-fields end (s ∷ added) fits words =
     let rest = segments_end-from (next_page end + length s.bytes) added in
     let here : HasWords s = words zero s (omega arith) in
-    let first = here.0 in
-    let second = here.1 in
-    let third = here.2 in
     All-cons HasFields (added_header (next_page end) s) (added_headers (next_page end + length s.bytes) added)
     (record {
       p_type = omega arith;
       p_offset = omega (arith, rest, fits);
-      p_vaddr = first;
-      p_paddr = first;
+      p_vaddr = here.0;
+      p_paddr = here.0;
       p_filesz = omega (arith, rest, fits);
-      p_memsz = second;
-      p_flags = third;
+      p_memsz = here.1;
+      p_flags = here.2;
       p_align = omega arith;
     })
     (added-fields (next_page end + length s.bytes) added fits (λ k d below. words (suc k) d (omega arith)))

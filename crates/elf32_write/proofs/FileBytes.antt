@@ -1,6 +1,6 @@
 -- A written file is made of bytes, where its parts are.
-use Rattle.std.proofs.Common.{ℕ, zero, suc, ◌+◌, ◌-◌, ◌*◌, ◌%◌, ◌^◌, ◌<◌, Bool, true, false, nat_eq, List, [], ◌∷◌, ◌++◌, length, take, drop, replicate, slice_index, arith, All}
-use Rattle.std.specs.Prelude.{if◌then◌else◌}
+use Rattle.std.proofs.Common.{ℕ, zero, suc, ◌+◌, ◌-◌, ◌*◌, ◌%◌, ◌^◌, ◌<◌, nat_eq, List, [], ◌∷◌, ◌++◌, length, take, drop, replicate, slice_index, arith, All}
+use Rattle.std.proofs.lemmas.Bool.{cond_both}
 use Rattle.std.specs.List.{flat_map, range_with_len}
 use Rattle.std.specs.Int.{bytes_high_first}
 use Rattle.std.proofs.lemmas.List.Concat.{flat_map-cons}
@@ -79,11 +79,8 @@ moved-bytes delta entry all =
 
 copy-bytes : (delta : ℕ) (entry : List ℕ) → AreBytes entry → AreBytes (section_copy delta entry)
 unfolding section_copy
-copy-bytes delta entry all = go (nat_eq (word_at entry 4) 0)
-  where
-    go : (null : Bool) → AreBytes (if null then entry else moved delta entry)
-    go true = all
-    go false = moved-bytes delta entry all
+copy-bytes delta entry all =
+    cond_both (nat_eq (word_at entry 4) 0) entry (moved delta entry) AreBytes (λ _. all) (λ _. moved-bytes delta entry all)
 
 table-bytes : (delta : ℕ) (original : List ℕ) → AreBytes original → AreBytes (section_table delta original)
 unfolding section_table

@@ -1,5 +1,5 @@
 -- That a written file can be run.
-use Rattle.std.proofs.Common.{◌≡◌, ℕ, zero, suc, ◌+◌, ◌*◌, ◌/◌, ◌%◌, ◌^◌, ◌≤◌, inl, inr, max, Bool, true, false, not, ◌&&◌, ◌||◌, nat_lt, nat_le, nat_eq, List, [], ◌∷◌, ◌++◌, length, map, Option, Some, None, refl, sym, ap, ◌∙◌, subst, arith, length-append, All}
+use Rattle.std.proofs.Common.{◌≡◌, ℕ, zero, suc, ◌+◌, ◌*◌, ◌%◌, ◌^◌, ◌≤◌, inl, inr, max, Bool, true, false, not, ◌&&◌, ◌||◌, nat_lt, nat_le, nat_eq, List, [], ◌∷◌, ◌++◌, length, map, Option, Some, None, refl, sym, ap, ◌∙◌, subst, arith, length-append, All}
 use Rattle.std.specs.List.{filter, fold, list_any, sum_by}
 use Rattle.std.specs.Int.{is_power_of_two}
 use Rattle.std.proofs.lemmas.Bool.{or_parts, or_from, and_from, and_left, and_right, ltb-false, le-ltb, eq-eqb, ne_eqb, not_from_true, false≢true}
@@ -9,7 +9,7 @@ use Rattle.elf32_sparc.specs.declared.header.ProgramHeader.{ProgramHeader}
 use Rattle.elf32_sparc.specs.Header.{ei_version, e_version, e_phoff, e_ehsize, e_phentsize, e_phnum, program_headers, is_loadable, loadable, end_of, text_header}
 use Rattle.elf32_sparc.specs.FileFault.{header_rows, load_rows, load_fault, leaves_file, leaves_room, is_last_page, descends_from, is_aligned, is_short, has_other_magic, has_other_class, has_other_order, has_other_version, has_other_type, has_other_machine, has_other_sizes, has_bad_table, has_bytes_outside, has_memory_outside, has_memory_outside_a_run, has_disorder, has_misaligned, memory_size}
 use Rattle.elf32_sparc.specs.Image.{segment_of, segment_end, highest_end, text_from, image_of}
-use Rattle.elf32_sparc.proofs.Accepted.{Accepted, HeaderAccepted, IsFit, accepted, has_text, text_passes, text_is_fit}
+use Rattle.elf32_sparc.proofs.Accepted.{Accepted, HeaderAccepted, NoneHolds, IsFit, accepted, has_text, text_passes, text_is_fit}
 use Rattle.elf32_write.specs.Bytes.{next_page}
 use Rattle.elf32_write.specs.Headers.{AddedSegment, segments_end, added_header, added_headers, is_carried, carried_on, carried_headers}
 use Rattle.elf32_write.specs.Written.{delta_in, original_end, segment_headers, written}
@@ -20,7 +20,7 @@ use Rattle.elf32_write.proofs.LoadParts.{passes, any-map, any-filter, any-append
 use Rattle.elf32_write.proofs.Segments.{segments_end-from, few-segment_headers}
 use Rattle.elf32_write.proofs.Deltas.{delta-to, notes-beyond}
 use Rattle.elf32_write.proofs.Fields.{segments-fields}
-use Rattle.elf32_write.proofs.WrittenParts.{written_stands}
+use Rattle.elf32_write.proofs.WrittenParts.{next_word_from, written_stands}
 use Rattle.elf32_write.proofs.WrittenHeader.{HeaderFacts, header_facts, headers_are}
 use Rattle.elf32_write.proofs.Carried.{loadable-carried, loadable-segment_headers}
 
@@ -48,8 +48,7 @@ no_fault : (p : ProgramHeader → Bool) (Q : AddedSegment → Type 0) → ((offs
     → (end : ℕ) (added : List AddedSegment) → All Q added → list_any p (added_headers end added) ≡ false
 no_fault p Q each end [] all = refl
 no_fault p Q each end (s ∷ added) all =
-    or_from (p (added_header (next_page end) s)) (list_any p (added_headers (next_page end + length s.bytes) added))
-    (each end s (all zero s (omega arith)))
+    or_from _ _ (each end s (all zero s (omega arith)))
     (no_fault p Q each (next_page end + length s.bytes) added (λ k d below. all (suc k) d (omega arith)))
 
 added-inside : (new end : ℕ) (added : List AddedSegment) → segments_end end added ≤ new → All (λ s. length s.bytes ≤ s.memsz) added → list_any (leaves_file new) (added_headers end added) ≡ false
@@ -57,10 +56,8 @@ added-inside new end [] inside fits = refl
 added-inside new end (s ∷ added) inside fits =
     let rest = segments_end-from (next_page end + length s.bytes) added in
     let room : length s.bytes ≤ s.memsz = fits zero s (omega arith) in
-    or_from (leaves_file new (added_header (next_page end) s)) (list_any (leaves_file new) (added_headers (next_page end + length s.bytes) added))
-    (or_from (nat_lt s.memsz (length s.bytes)) (nat_lt 0 (length s.bytes) && nat_lt new (next_page end + length s.bytes))
-    (le-ltb s.memsz (length s.bytes) room)
-    (and_right (nat_lt 0 (length s.bytes)) (nat_lt new (next_page end + length s.bytes)) (le-ltb new (next_page end + length s.bytes) (omega (arith, rest, inside)))))
+    or_from _ _ (or_from _ _ (le-ltb s.memsz (length s.bytes) room)
+    (and_right _ _ (le-ltb new (next_page end + length s.bytes) (omega (arith, rest, inside)))))
     (added-inside new (next_page end + length s.bytes) added inside (λ k d below. fits (suc k) d (omega arith)))
 
 placed_all : (end : ℕ) (added : List AddedSegment) → 0x1000 ≤ end → Ascend end added → All IsInReach added → All (λ s. (0x1000 ≤ s.vaddr) × IsInReach s) added
@@ -73,26 +70,20 @@ placed_all end (s ∷ added) above order reached (suc k) d below =
 in_room : (offset : ℕ) (s : AddedSegment) → (0x1000 ≤ s.vaddr) × IsInReach s → (leaves_room (added_header offset s) && not (is_last_page (added_header offset s))) ≡ false
 in_room offset s placed = elim (placed.1) [
   | inl below ↦
-      and_left (leaves_room (added_header offset s)) (not (is_last_page (added_header offset s)))
-      (or_from (nat_lt s.vaddr 0x1000) (nat_lt 0x80000000 (s.vaddr + s.memsz)) (le-ltb s.vaddr 0x1000 placed.0) (le-ltb 0x80000000 (s.vaddr + s.memsz) below))
+      and_left _ _ (or_from _ _ (le-ltb s.vaddr 0x1000 placed.0) (le-ltb 0x80000000 (s.vaddr + s.memsz) below))
   | inr last ↦
-      and_right (leaves_room (added_header offset s)) (not (is_last_page (added_header offset s)))
-      (not_from_true (is_last_page (added_header offset s)) (and_from (nat_eq s.vaddr 0xfffff000) (nat_eq s.memsz 4096) (eq-eqb s.vaddr 0xfffff000 last.0) (eq-eqb s.memsz 4096 last.1)))
+      and_right _ _ (not_from_true _ (and_from _ _ (eq-eqb s.vaddr 0xfffff000 last.0) (eq-eqb s.memsz 4096 last.1)))
 ]
 
 added-order : (end from below : ℕ) (added : List AddedSegment) → below ≤ from → Ascend from added → descends_from below (added_headers end added) ≡ false
 added-order end from below [] le order = refl
 added-order end from below (s ∷ added) le order =
-    let above = order.0 in
-    or_from (nat_lt s.vaddr below) (descends_from (s.vaddr + s.memsz) (added_headers (next_page end + length s.bytes) added))
-    (le-ltb s.vaddr below (omega arith))
+    or_from _ _ (le-ltb s.vaddr below (omega (arith, order.0)))
     (added-order (next_page end + length s.bytes) (s.vaddr + s.memsz) (s.vaddr + s.memsz) added (omega arith) order.1)
 
 page_aligned : (vaddr offset : ℕ) → vaddr % 4096 ≡ 0 → offset % 4096 ≡ 0 → (is_power_of_two 4096 && nat_le 4096 (2 ^ 20) && nat_eq (vaddr % 4096) (offset % 4096)) ≡ true
 page_aligned vaddr offset first second =
-    and_from (is_power_of_two 4096 && nat_le 4096 (2 ^ 20)) (nat_eq (vaddr % 4096) (offset % 4096))
-    (and_from (is_power_of_two 4096) (nat_le 4096 (2 ^ 20)) power-4096 refl)
-    (eq-eqb (vaddr % 4096) (offset % 4096) (first ∙ sym second))
+    and_from _ _ (and_from _ _ power-4096 refl) (eq-eqb (vaddr % 4096) (offset % 4096) (first ∙ sym second))
 
 whole_page : (n : ℕ) → next_page n % 4096 ≡ 0
 whole_page n = omega arith
@@ -133,8 +124,7 @@ some_headers original added ok =
 
 good_table : (phnum phoff size : ℕ) → 1 ≤ phnum → phnum ≤ 72 → phoff ≡ 52 → 4096 ≤ size → ((nat_eq phnum 0 || nat_lt 80 phnum) || nat_lt size (phoff + 32 * phnum)) ≡ false
 good_table phnum phoff size some few place long =
-    or_from (nat_eq phnum 0 || nat_lt 80 phnum) (nat_lt size (phoff + 32 * phnum))
-    (or_from (nat_eq phnum 0) (nat_lt 80 phnum) (ne_eqb phnum 0 (λ e. omega arith)) (le-ltb 80 phnum (omega arith)))
+    or_from _ _ (or_from _ _ (ne_eqb phnum 0 (λ e. omega arith)) (le-ltb 80 phnum (omega arith)))
     (le-ltb size (phoff + 32 * phnum) (omega arith))
 
 header_passes : (original : List ℕ) (added : List AddedSegment) (entry : ℕ) (notes new : List ℕ) → CanWrite original added notes → HeaderFacts original added entry new → 4096 ≤ length new → HeaderAccepted 80 new
@@ -232,40 +222,13 @@ entry-memory original added notes can loads =
 
 by_rows : (new : List ℕ) → HeaderAccepted 80 new → EntryPasses (length new) (program_headers new) → load_fault new ≡ None
 unfolding load_fault
-by_rows new header entry =
-    passes (header_rows 80 new ++ load_rows (length new) (program_headers new)) (
-      header.short,
-      (
-        header.magic,
-        (
-          header.«class»,
-          (
-            header.order,
-            (
-              header.version,
-              (
-                header.kind,
-                (
-                  header.machine,
-                  (
-                    header.header_size,
-                    (
-                      header.headers,
-                      (entry.segment_file, (entry.segment_room, (entry.segment_order, (entry.align, (entry.memory_large, tt))))),
-                    ),
-                  ),
-                ),
-              ),
-            ),
-          ),
-        ),
-      ),
-    )
+by_rows new h e =
+    let loads : NoneHolds (load_rows (length new) (program_headers new)) =
+    (e.segment_file, (e.segment_room, (e.segment_order, (e.align, (e.memory_large, tt))))) in
+    passes (header_rows 80 new ++ load_rows (length new) (program_headers new))
+    (h.short, (h.magic, (h.«class», (h.order, (h.version, (h.kind, (h.machine, (h.header_size, (h.headers, loads)))))))))
 
 -- ---- the file
-
-next_word_from : (n : ℕ) → n ≤ (n + 3) / 4 * 4
-next_word_from n = omega arith
 
 pub file_loads : FileLoads
 file_loads original added entry notes can are loads =

@@ -1,5 +1,5 @@
 -- What a written file maps of its original.
-use Rattle.std.proofs.Common.{◌≡◌, ℕ, zero, suc, ◌+◌, ◌-◌, ◌%◌, ◌^◌, ◌<◌, ◌≤◌, Bool, true, false, not, ◌&&◌, ◌||◌, cond, nat_lt, List, [], ◌∷◌, length, take, drop, map, refl, sym, ap, ◌∙◌, arith}
+use Rattle.std.proofs.Common.{◌≡◌, ℕ, zero, suc, ◌+◌, ◌-◌, ◌%◌, ◌^◌, ◌<◌, ◌≤◌, Bool, true, false, not, ◌&&◌, cond, nat_lt, List, [], ◌∷◌, length, take, drop, map, refl, sym, ap, ◌∙◌, arith}
 use Rattle.std.specs.List.{list_any}
 use Rattle.std.proofs.lemmas.List.{take-take, drop-drop, drop-take}
 use Rattle.std.proofs.lemmas.Bool.{or_parts, and_parts, ltb-false, lt-ltb}
@@ -17,16 +17,11 @@ part-within xs at n size fits =
     let inner : drop at (take size xs) ≡ take (size - at) (drop at xs) = ap (λ z. drop at (take z xs)) split ∙ drop-take at (size - at) xs in
     ap (take n) inner ∙ take-take n (size - at) (drop at xs) (omega arith)
 
-both-false : (a b : Bool) → (a && b) ≡ false → a ≡ true → b ≡ false
-both-false true b none is = none
-both-false false b none is = cc
-
 -- an entry that doesn't leave the file has its bytes in it
 inside : (size : ℕ) (h : ProgramHeader) → is_load h ≡ true → leaves_file size h ≡ false → 0 < h.p_filesz → h.p_offset + h.p_filesz ≤ size
 inside size h load none some =
-    let parts = both-false (is_load h) (nat_lt h.p_memsz h.p_filesz || (nat_lt 0 h.p_filesz && nat_lt size (h.p_offset + h.p_filesz))) none load in
-    let tail = (or_parts (nat_lt h.p_memsz h.p_filesz) (nat_lt 0 h.p_filesz && nat_lt size (h.p_offset + h.p_filesz)) parts).1 in
-    ltb-false size (h.p_offset + h.p_filesz) (both-false (nat_lt 0 h.p_filesz) (nat_lt size (h.p_offset + h.p_filesz)) tail (lt-ltb 0 h.p_filesz some))
+    let tail = (or_parts (nat_lt h.p_memsz h.p_filesz) (nat_lt 0 h.p_filesz && nat_lt size (h.p_offset + h.p_filesz)) (rw load at none)).1 in
+    ltb-false size (h.p_offset + h.p_filesz) (rw (lt-ltb 0 h.p_filesz some) at tail)
 
 -- bytes of the original stand `delta` further on
 bytes-at : (file new : List ℕ) (delta offset n : ℕ) → take (length file) (drop delta new) ≡ file → length file + delta < 2 ^ 32 → (0 < n → offset + n ≤ length file) → take n (drop ((offset + delta) % 2 ^ 32) new) ≡ take n (drop offset file)
@@ -40,8 +35,7 @@ bytes-at file new delta offset (suc k) whole small fits =
     ∙ ap (λ z. take (suc k) (drop offset z)) whole
 
 without-first : (l a b : Bool) → l ≡ true → (l && a && b) ≡ (a && b)
-without-first true a b is = refl
-without-first false a b is = cc
+without-first l a b is = rw is refl
 
 -- a carried entry maps what the original's does, no longer executable where it is the text
 carried-mapping : (file new : List ℕ) (delta : ℕ) (h : ProgramHeader) → take (length file) (drop delta new) ≡ file → length file + delta < 2 ^ 32 → leaves_file (length file) h ≡ false → is_loadable h ≡ true → mapping_of new (carried_on delta h) ≡ kept (mapping_of file h)

@@ -7,6 +7,7 @@ use Rattle.std.proofs.Math.Nat.{mod-mod_of_dvd, add-mul-mod_self_left, mul-mod_r
 use Rattle.std.proofs.lemmas.Nat.{ones_cat, ones_le_self, zero_from_ones, pow-add, pow_pos}
 use Rattle.std.proofs.lemmas.Nat.Gcd.{dvd_of_mod-eq-zero}
 use Rattle.std.proofs.lemmas.Bool.{cases_lt, cases_eq, eqb-true}
+use Rattle.std.proofs.lemmas.List.Elements.{All-cons}
 use Rattle.elf32_sparc.specs.declared.header.ProgramHeader.{ProgramHeader}
 
 abbrev pub IsPower : ℕ → Type 0
@@ -90,8 +91,5 @@ greatest_above [] least = (omega arith, λ k d below. absurd (omega arith))
 greatest_above (h ∷ hs) least =
     let later = greatest_above hs (max least h.p_align) in
     let here = later.0 in
-    (omega arith, above h hs (fold (λ most h. max most h.p_align) (max least h.p_align) hs) (omega arith) later.1)
-  where
-    above : (h : ProgramHeader) (hs : List ProgramHeader) (top : ℕ) → h.p_align ≤ top → All (λ h. h.p_align ≤ top) hs → All (λ h. h.p_align ≤ top) (h ∷ hs)
-    above h hs top here later zero d below = here
-    above h hs top here later (suc k) d below = later k d (omega arith)
+    let top = fold (λ most g. max most g.p_align) (max least h.p_align) hs in
+    (omega arith, All-cons (λ g. g.p_align ≤ top) h hs (omega arith) later.1)

@@ -1,6 +1,6 @@
 -- The section table: an entry more, and how long it is.
-use Rattle.std.proofs.Common.{◌≡◌, ℕ, suc, ◌+◌, ◌*◌, ◌%◌, ◌^◌, ◌≤◌, Bool, true, false, nat_eq, List, [], ◌∷◌, ◌++◌, length, take, drop, append-nil, length-append, ap, ◌∙◌, arith}
-use Rattle.std.specs.Prelude.{if◌then◌else◌}
+use Rattle.std.proofs.Common.{◌≡◌, ℕ, suc, ◌+◌, ◌*◌, ◌%◌, ◌^◌, ◌≤◌, nat_eq, List, [], ◌∷◌, ◌++◌, length, take, drop, append-nil, length-append, ap, ◌∙◌, arith}
+use Rattle.std.proofs.lemmas.Bool.{cond_both}
 use Rattle.std.specs.List.{flat_map, range_with_len}
 use Rattle.std.proofs.lemmas.List.{length-take, length-drop}
 use Rattle.std.proofs.lemmas.List.FromFn.{length-range_with_len}
@@ -33,11 +33,9 @@ length-moved delta entry few =
 
 length-section_copy : (delta : ℕ) (entry : List ℕ) → length entry ≤ 40 → length (section_copy delta entry) ≤ 40
 unfolding section_copy
-length-section_copy delta entry few = go (nat_eq (word_at entry 4) 0)
-  where
-    go : (null : Bool) → length (if null then entry else moved delta entry) ≤ 40
-    go true = few
-    go false = length-moved delta entry few
+length-section_copy delta entry few =
+    cond_both (nat_eq (word_at entry 4) 0) entry (moved delta entry) (λ e. length e ≤ 40) (λ _. few)
+    (λ _. length-moved delta entry few)
 
 length-entries : (h : ℕ → List ℕ) → ((n : ℕ) → length (h n) ≤ 40) → (ns : List ℕ) → length (flat_map h ns) ≤ 40 * length ns
 length-entries h each [] = omega arith
@@ -47,14 +45,12 @@ length-entries h each (n ∷ ns) =
     let later = length-entries h each ns in
     omega (arith, both, here, later)
 
-few_taken : (n : ℕ) (xs : List ℕ) → length (take n xs) ≤ n
-few_taken n xs = let size = length-take n xs in omega (arith, size)
-
 pub length-section_table : (delta : ℕ) (original : List ℕ) → length (section_table delta original) ≤ 40 * section_count original
 unfolding section_table
 length-section_table delta original =
     let count = section_count original in
-    let entry = λ (n : ℕ). length-section_copy delta (section_entry original n) (few_taken 40 (drop (e_shoff original + 40 * n) original)) in
+    let entry = λ (n : ℕ). length-section_copy delta (section_entry original n)
+    (omega (arith, length-take 40 (drop (e_shoff original + 40 * n) original))) in
     let all = length-entries (λ n. section_copy delta (section_entry original n)) entry (range_with_len 0 count) in
     let numbers = length-range_with_len 0 count in
     omega (arith, all, numbers)

@@ -164,12 +164,7 @@ header_parts : (original : List ℕ) (added : List AddedSegment) (entry : ℕ) (
     (halves_bytes (52 ∷ 32 ∷ length (segment_headers original added) ∷ 40 ∷ section_count original ∷ section_names original ∷ []))
     (flat_map program_header (segment_headers original added))
 header_parts original added entry notes whole file p =
-    five_parts file (take 16 original) (halves_bytes (2 ∷ 2 ∷ []))
-    (words_bytes (1 ∷ entry ∷ 52 ∷ sections_at original added notes ∷ word_at original 36 ∷ []))
-    (halves_bytes (52 ∷ 32 ∷ length (segment_headers original added) ∷ 40 ∷ section_count original ∷ section_names original ∷ []))
-    (flat_map program_header (segment_headers original added))
-    (length-take-le 16 original (omega (arith, whole)))
-    (length-halves_bytes (2 ∷ 2 ∷ []))
+    five_parts file _ _ _ _ _ (length-take-le 16 original (omega (arith, whole))) (length-halves_bytes (2 ∷ 2 ∷ []))
     (length-words_bytes (1 ∷ entry ∷ 52 ∷ sections_at original added notes ∷ word_at original 36 ∷ []))
     (length-halves_bytes (52 ∷ 32 ∷ length (segment_headers original added) ∷ 40 ∷ section_count original ∷ section_names original ∷ []))
     p

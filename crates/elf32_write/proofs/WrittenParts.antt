@@ -1,5 +1,5 @@
 -- Where the parts of a written file stand.
-use Rattle.std.proofs.Common.{◌≡◌, ℕ, ◌+◌, ◌-◌, ◌*◌, ◌/◌, ◌≤◌, List, [], ◌∷◌, ◌++◌, length, take, replicate, refl, ap, ◌∙◌, length-append, arith}
+use Rattle.std.proofs.Common.{◌≡◌, ℕ, ◌+◌, ◌-◌, ◌*◌, ◌/◌, ◌≤◌, List, [], ◌∷◌, ◌++◌, length, replicate, refl, ap, ◌∙◌, length-append, arith}
 use Rattle.std.specs.List.{flat_map}
 use Rattle.std.proofs.lemmas.List.{length-replicate, length-take-le}
 use Rattle.elf32_sparc.specs.declared.header.ProgramHeader.{ProgramHeader}
@@ -7,7 +7,7 @@ use Rattle.elf32_sparc.specs.Header.{word_at}
 use Rattle.elf32_sparc.specs.Symbols.{section_count}
 use Rattle.elf32_sparc.proofs.Accepted.{accepted}
 use Rattle.elf32_sparc.proofs.Tables.{whole_header}
-use Rattle.elf32_write.specs.Bytes.{words_bytes, halves_bytes, padded_to, next_page}
+use Rattle.elf32_write.specs.Bytes.{padded_to, next_page}
 use Rattle.elf32_write.specs.Headers.{AddedSegment, segments_end, program_header, section_names}
 use Rattle.elf32_write.specs.Sections.{section_table}
 use Rattle.elf32_write.specs.Written.{delta_in, original_end, notes_at, sections_at, locator_at, segment_headers, headers, locator, with_segments, written}
@@ -92,12 +92,8 @@ length-five t a b c s lt la lb lc =
 length-headers : (original : List ℕ) (added : List AddedSegment) (entry : ℕ) (notes : List ℕ) → 52 ≤ length original
     → length (headers original added entry notes) ≡ 52 + 32 * length (segment_headers original added)
 length-headers original added entry notes whole =
-    length-five (take 16 original) (halves_bytes (2 ∷ 2 ∷ []))
-    (words_bytes (1 ∷ entry ∷ 52 ∷ sections_at original added notes ∷ word_at original 36 ∷ []))
-    (halves_bytes (52 ∷ 32 ∷ length (segment_headers original added) ∷ 40 ∷ section_count original ∷ section_names original ∷ []))
-    (flat_map program_header (segment_headers original added))
-    (length-take-le 16 original (omega (arith, whole)))
-    (length-halves_bytes (2 ∷ 2 ∷ []))
+    length-five _ _ _ _ (flat_map program_header (segment_headers original added))
+    (length-take-le 16 original (omega (arith, whole))) (length-halves_bytes (2 ∷ 2 ∷ []))
     (length-words_bytes (1 ∷ entry ∷ 52 ∷ sections_at original added notes ∷ word_at original 36 ∷ []))
     (length-halves_bytes (52 ∷ 32 ∷ length (segment_headers original added) ∷ 40 ∷ section_count original ∷ section_names original ∷ []))
     ∙ ap (λ z. 52 + z) (length-table (segment_headers original added))
@@ -157,7 +153,7 @@ stands h l o added n s delta end fits =
 
 -- ---- the parts of a written file
 
-next_word_from : (n : ℕ) → n ≤ (n + 3) / 4 * 4
+pub next_word_from : (n : ℕ) → n ≤ (n + 3) / 4 * 4
 next_word_from n = omega arith
 
 fits : (original : List ℕ) (added : List AddedSegment) (entry : ℕ) (notes : List ℕ) → CanWrite original added notes
