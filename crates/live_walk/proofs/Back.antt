@@ -134,8 +134,7 @@ module _ (text : Words) (given : List ℕ) (opens : List Open) (entry : ℕ) (s0
       by : (x : Slot) → (at k).slot ≡ x → MatchesBy text graph (node_at k) (point_of (at k)) x → Standing k word
       by NoSlot e m = record {
         point = At (node_at k) at_word.0;
-        is_point =
-            rw e (at_word.0, at_word.1, refl);
+        is_point = rw e (at_word.0, at_word.1, refl);
         reads = ap (λ n. read_set (decode_of n)) at_word.2;
         writes = ap (λ n. write_set (decode_of n)) at_word.2;
       }

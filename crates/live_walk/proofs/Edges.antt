@@ -44,11 +44,7 @@ goes_on_first : (graph : Graph) (kind : EdgeKind) (node : Node) (w : ℕ) → sa
     → same_kind kind kinds.Case ≡ false → Holds graph node w → IsFirst graph node w → GoesOnAt graph kind node w
 goes_on_first graph kinds.Land node w e f h g = absurd (false≢true (sym e))
 goes_on_first graph kinds.Case node w e f h g = absurd (false≢true (sym f))
-goes_on_first graph kinds.Fall node w e f h g = (h, g)
-goes_on_first graph kinds.Taken node w e f h g = (h, g)
-goes_on_first graph kinds.Untaken node w e f h g = (h, g)
-goes_on_first graph kinds.Call node w e f h g = (h, g)
-goes_on_first graph kinds.Out node w e f h g = (h, g)
+goes_on_first graph _ node w e f h g = (h, g)
 
 abbrev no_edge : Edge
 no_edge = record { from = X; to = X; kind = kinds.Land; slot = carried.Nothing }
@@ -90,8 +86,7 @@ module _ (text : Words) (b : Blocks) (opens : List Open) (c : IsCut text b) (are
       → IsFirst graph node v
   first_at node v l leads home = elim (node_at node (holding_of b v) (home ∙ node_is b v l)) [
     | inl here ↦ rw here (sym (first_held b.words b.firsts c.firsts v leads))
-    | inr there ↦
-        rw there (sym (first_held b.words b.firsts c.firsts v leads))
+    | inr there ↦ rw there (sym (first_held b.words b.firsts c.firsts v leads))
   ]
 
   last_at : (node : Node) (k word : ℕ) → home_of node ≡ block k → word ≡ last_word b.firsts b.words k
@@ -198,6 +193,9 @@ module _ (text : Words) (b : Blocks) (opens : List Open) (c : IsCut text b) (are
     low_at : (v : ℕ) → word_at text before.npc ≡ Some v → v < b.words
     low_at v e = let i = word_at-some text before.npc v e in omega (arith, i.within, c.words)
 
+    edge_is : (way : EdgeKind) (h : IsOnItsWay text graph node before way) → edge_at graph h.number ≡ h.edge
+    edge_is way h = get_or_from_slice_get graph.edges h.number _ no_edge h.is
+
     -- along an edge that is no jump's
     along_trip : (way : EdgeKind) → same_kind way kinds.Out ≡ false → same_kind way kinds.Land ≡ false
         → same_kind way kinds.Case ≡ false → way_to text graph node way before.npc ≡ by_kind way
@@ -213,9 +211,6 @@ module _ (text : Words) (b : Blocks) (opens : List Open) (c : IsCut text b) (are
 
         eq : es ≡ edge_from graph node way ++ []
         eq = cc (plain, lands_not text graph way before.npc no_jump)
-
-        is_edge : edge_at graph h.number ≡ h.edge
-        is_edge = get_or_from_slice_get graph.edges h.number _ no_edge h.is
 
         kind_is : same_kind (edge_at graph h.number).kind way ≡ true
         kind_is = (along_is graph node (by_kind way) h.number (ap (edge_along graph node) (sym plain) ∙ h.only)).2
@@ -233,7 +228,7 @@ module _ (text : Words) (b : Blocks) (opens : List Open) (c : IsCut text b) (are
             let begins : Begins graph h.edge.to (Some v) = rw here at to.0 in
             let inside' : IsNodeIn b opens h.edge.to = rw arrives at (after_in b opens c.firsts.some node es there) in
             rw is (
-              ap (λ (d : Edge). d.to) is_edge ∙ sym arrives,
+              ap (λ (d : Edge). d.to) (edge_is way h) ∙ sym arrives,
               rw arrives (rw (same_kinds _ way kind_is) (goes_on_first graph way h.edge.to v no_land no_case
                   (held_at h.edge.to v (low_at v here) inside' home') (begun_at h.edge.to v begins))),
             )
@@ -267,9 +262,6 @@ module _ (text : Words) (b : Blocks) (opens : List Open) (c : IsCut text b) (are
         only : edge_along graph node way ≡ h.number ∷ []
         only = ap (edge_along graph node) (sym is_way) ∙ h.only
 
-        is_edge : edge_at graph h.number ≡ h.edge
-        is_edge = get_or_from_slice_get graph.edges h.number _ no_edge h.is
-
         kind_is : (edge_at graph h.number).kind ≡ kinds.Case
         kind_is = same_kinds _ kinds.Case (along_is graph node way h.number only).2
 
@@ -282,7 +274,7 @@ module _ (text : Words) (b : Blocks) (opens : List Open) (c : IsCut text b) (are
             let here : word_at text before.npc ≡ Some v = ap (word_at text) (sym pc) ∙ at in
             let arrives : node_after graph node es ≡ lands_of b opens (Some v) =
             jump_lands text b opens c node before h ∙ ap (lands_of b opens) here in
-            rw is (cc (is_edge, to_is, here, arrives), rw arrives (rw kind_is (lands_at v here)))
+            rw is (cc (edge_is kinds.Out h, to_is, here, arrives), rw arrives (rw kind_is (lands_at v here)))
 
     -- another jump, and then the landing where the text has the word
     jump_trip : (h : IsOnItsWay text graph node before kinds.Out) → has_cases opens node ≡ false → (o : Option ℕ)
@@ -307,13 +299,10 @@ module _ (text : Words) (b : Blocks) (opens : List Open) (c : IsCut text b) (are
         only : edge_from graph node kinds.Out ≡ h.number ∷ []
         only = ap (edge_along graph node) (sym is_way) ∙ h.only
 
-        is_edge : edge_at graph h.number ≡ h.edge
-        is_edge = get_or_from_slice_get graph.edges h.number _ no_edge h.is
-
         unknown : is_unknown (edge_at graph h.number) ≡ true
         unknown =
             or_right (is_call_or_jump (edge_at graph h.number).kind) _ (ap is_outside
-            (ap (λ (d : Edge). d.to) is_edge ∙ h.lands_at refl
+            (ap (λ (d : Edge). d.to) (edge_is kinds.Out h) ∙ h.lands_at refl
             ∙ ap (λ (x : Bool). if x then lands_of b opens (word_at text before.npc) else X) plain))
 
         by : (o : Option ℕ) → word_at text before.npc ≡ o → Trip text graph named (Along h.number) (Next es) es

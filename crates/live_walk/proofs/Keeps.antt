@@ -31,14 +31,9 @@ same_item (Register a) (Register b) = elim (cases_eq a b) [
   | inl e ↦ inl (ap Register e)
   | inr not ↦ inr (λ e. not (cc))
 ]
-same_item (Register a) Codes = inr (λ e. absurd (cc))
-same_item (Register a) YRegister = inr (λ e. absurd (cc))
-same_item Codes (Register b) = inr (λ e. absurd (cc))
 same_item Codes Codes = inl refl
-same_item Codes YRegister = inr (λ e. absurd (cc))
-same_item YRegister (Register b) = inr (λ e. absurd (cc))
-same_item YRegister Codes = inr (λ e. absurd (cc))
 same_item YRegister YRegister = inl refl
+same_item _ _ = inr (λ e. absurd (cc))
 
 among_or_not : (item : StateItem) (w : ℕ) (ps : List Part) → IsAmong item w ps ⊎ (IsAmong item w ps → ⊥)
 among_or_not item w [] = inr (λ a. a)
@@ -48,11 +43,7 @@ among_or_not item w (p ∷ ps) = by (same_item (item_of w p) item) (among_or_not
         → IsAmong item w (p ∷ ps) ⊎ (IsAmong item w (p ∷ ps) → ⊥)
     by (inl e) rest = inl (inl e)
     by (inr not) (inl a) = inl (inr a)
-    by (inr not) (inr none) = inr (λ a. neither not none a)
-      where
-        neither : (item_of w p ≡ item → ⊥) → (IsAmong item w ps → ⊥) → IsAmong item w (p ∷ ps) → ⊥
-        neither not none (inl e) = not e
-        neither not none (inr a) = none a
+    by (inr not) (inr none) = inr (λ a. elim a [ inl e ↦ not e | inr b ↦ none b ])
 
 written_or_not : (instr : Option Instr) (w : ℕ) (item : StateItem) → WritesIn instr w item ⊎ (WritesIn instr w item → ⊥)
 written_or_not None w item = inr (λ h. h)
@@ -147,12 +138,11 @@ module _ (text : Words) (given : List ℕ) (opens : List Open) (entry : ℕ) (s0
       })
 
   back : (n : ℕ) (item : StateItem) → Kept (suc n) item → Written n item ⊎ Kept n item
-  back n item kept = by (written_or_not (instr_after text s0 n) (at n).window item)
-    where
-      by : Written n item ⊎ (Written n item → ⊥) → Written n item ⊎ Kept n item
-      by (inl w) = inl w
-      by (inr none) =
-          inr (kept_before n item kept (writes_now n item (live_before (at n) (kept_lives (suc n) item kept)) none))
+  back n item kept = elim (written_or_not (instr_after text s0 n) (at n).window item) [
+    | inl w ↦ inl w
+    | inr none ↦
+        inr (kept_before n item kept (writes_now n item (live_before (at n) (kept_lives (suc n) item kept)) none))
+  ]
 
   live : (n : ℕ) (item : StateItem) → Kept (suc n) item
       → IsKeptBehind text graph named (gone_in text graph entry s0 n) (at (suc n)).window item
@@ -167,28 +157,23 @@ module _ (text : Words) (given : List ℕ) (opens : List Open) (entry : ℕ) (s0
   named_items : (n e : ℕ) (p : Part) → Contains (gone_in text graph entry s0 n) e → is_member p ≡ true
       → has (named e) p ≡ true → Written n (item_of (at (suc n)).window p) ⊎ Kept n (item_of (at (suc n)).window p)
   named_items n e p gone member names =
-      by (written_or_not (instr_after text s0 n) (at n).window (item_of (at (suc n)).window p))
-    where
-      now : (at n).ending ≡ None
-      now = live_before (at n) (goes_live text given opens entry s0 named is fetches begins are cases n e gone)
-
-      by : Written n (item_of (at (suc n)).window p) ⊎ (Written n (item_of (at (suc n)).window p) → ⊥)
-          → Written n (item_of (at (suc n)).window p) ⊎ Kept n (item_of (at (suc n)).window p)
-      by (inl w) = inl w
-      by (inr none) =
-          inr (inr (record {
-            step = n;
-            later = omega arith;
-            edge = e;
-            completed = gone;
-            part = p;
-            is_part = member;
-            is_named = names;
-            names = refl;
-            unwritten = λ k low high.
-                let same : n ≡ k = omega arith in
-                rw (← same) (writes_now n _ now none);
-          }))
+      let now = live_before (at n) (goes_live text given opens entry s0 named is fetches begins are cases n e gone) in
+      elim (written_or_not (instr_after text s0 n) (at n).window (item_of (at (suc n)).window p)) [
+        | inl w ↦ inl w
+        | inr none ↦ inr (inr (record {
+          step = n;
+          later = omega arith;
+          edge = e;
+          completed = gone;
+          part = p;
+          is_part = member;
+          is_named = names;
+          names = refl;
+          unwritten = λ k low high.
+              let same : n ≡ k = omega arith in
+              rw (← same) (writes_now n _ now none);
+        }))
+      ]
 
 pub what_lives_is_kept : WhatLivesIsKept
 what_lives_is_kept text given opens entry s0 named is fetches begins are cases = record {

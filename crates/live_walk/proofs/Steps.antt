@@ -97,12 +97,9 @@ way_own : (o : Option Instr) (x : Slot)
     → (same_kind (way_of o x) kinds.Land ≡ false) × (same_kind (way_of o x) kinds.Case ≡ false)
 way_own (Some (i.Call disp30)) x = (refl, refl)
 way_own (Some (i.Jmpl rd rs1 op2)) x = (refl, refl)
-way_own None Untaken = (refl, refl)
-way_own None Taken = (refl, refl)
-way_own None NoSlot = (refl, refl)
-way_own (Some _) Untaken = (refl, refl)
-way_own (Some _) Taken = (refl, refl)
-way_own (Some _) NoSlot = (refl, refl)
+way_own _ Untaken = (refl, refl)
+way_own _ Taken = (refl, refl)
+way_own _ NoSlot = (refl, refl)
 
 heads : {d e : ℕ} → d ∷ [] ≡ e ∷ [] → d ≡ e
 heads h = cc
@@ -173,12 +170,9 @@ module _ (text : Words) (is : IsText text) (b : Blocks) (opens : List Open) (c :
 
         by : (x : Slot) → x ≢ NoSlot → Goal after x
         by NoSlot no_slot = absurd (no_slot refl)
-        by Taken no_slot =
-            into_trip text b opens c are named word (low h) node h.there (home h) (IsPointBy text graph node after Taken)
-            last [] refl (way_to text graph node (way_of (instr_at text (after.pc - 4)) Taken) after.npc) (λ r n. n)
-        by Untaken no_slot =
-            into_trip text b opens c are named word (low h) node h.there (home h) (IsPointBy text graph node after Untaken)
-            last [] refl (way_to text graph node (way_of (instr_at text (after.pc - 4)) Untaken) after.npc) (λ r n. n)
+        by x no_slot =
+            into_trip text b opens c are named word (low h) node h.there (home h) (IsPointBy text graph node after x)
+            last [] refl (way_to text graph node (way_of (instr_at text (after.pc - 4)) x) after.npc) (λ r n. n)
 
   -- ---- the machine
   module _ (s : State) (node : Node) where
@@ -292,22 +286,16 @@ module _ (text : Words) (is : IsText text) (b : Blocks) (opens : List Open) (c :
             let same : h.number ≡ d = heads (sym h.only ∙ from) in
             subst (λ (a : ℕ). Trip text graph named q
             (IsPointBy text graph (node_after graph node (slot_left text graph node way a))
-            (point_of (act s instr)) NoSlot) (slot_left text graph node way a)) (sym pc) (subst
-            (λ (r : Point). Trip text graph named r
-            (IsPointBy text graph (node_after graph node (slot_left text graph node way s.npc))
-            (point_of (act s instr)) NoSlot) (slot_left text graph node way s.npc)) (ap Along same ∙ sym is)
+            (point_of (act s instr)) NoSlot) (slot_left text graph node way a)) (sym pc) (rw (is ∙ ap Along (sym same))
             (out_trip text b opens c are named node there (point_of s) (point_of (act s instr)) pc way k l h))
 
         slots : (x : Slot) → x ≢ NoSlot → MatchesBy text graph node (point_of s) x
             → IsPointBy text graph node (point_of s) x q → (act s instr).pc ≡ s.npc
             → TripBy text graph named node (point_of s) (point_of (act s instr)) x NoSlot q
         slots NoSlot not m p pc = absurd (not refl)
-        slots Taken not m p pc =
-            goes (way_of (instr_at text (s.pc - 4)) Taken) (way_own (instr_at text (s.pc - 4)) Taken).0
-            (way_own (instr_at text (s.pc - 4)) Taken).1 pc m p
-        slots Untaken not m p pc =
-            goes (way_of (instr_at text (s.pc - 4)) Untaken) (way_own (instr_at text (s.pc - 4)) Untaken).0
-            (way_own (instr_at text (s.pc - 4)) Untaken).1 pc m p
+        slots x not m p pc =
+            goes (way_of (instr_at text (s.pc - 4)) x) (way_own (instr_at text (s.pc - 4)) x).0
+            (way_own (instr_at text (s.pc - 4)) x).1 pc m p
 
         by : (f : Bool) → is_transfer instr ≡ f → TripBy text graph named node (point_of s) (point_of (act s instr)) x
             (act s instr).slot q
@@ -347,11 +335,9 @@ module _ (text : Words) (is : IsText text) (b : Blocks) (opens : List Open) (c :
           → t ≡ act s (decode_of (slice_index text.words word)) → t.ending ≡ None
           → TripBy text (graph_of b opens) named node (point_of s) (point_of t) s.slot t.slot q
       acts word at x e m p t t_is l =
-          subst (λ (u : State). TripBy text (graph_of b opens) named node (point_of s) (point_of u) s.slot u.slot q)
-          (sym t_is) (subst (λ (y : Slot). TripBy text (graph_of b opens) named node (point_of s)
+          rw t_is (subst (λ (y : Slot). TripBy text (graph_of b opens) named node (point_of s)
           (point_of (act s (decode_of (slice_index text.words word)))) y
-          (act s (decode_of (slice_index text.words word))).slot q) (sym e)
-          (slots x e m p (ap (λ (u : State). u.ending) (sym t_is) ∙ l)))
+          (act s (decode_of (slice_index text.words word))).slot q) (sym e) (slots x e m p (rw t_is at l)))
         where
           slots : (x : Slot) → s.slot ≡ x → MatchesBy text (graph_of b opens) node (point_of s) x
               → IsPointBy text (graph_of b opens) node (point_of s) x q
@@ -375,9 +361,7 @@ module _ (text : Words) (is : IsText text) (b : Blocks) (opens : List Open) (c :
                 there = there;
                 held = m.0;
               }) l)
-          slots Taken e m p l = in_slot text is b opens c are named s node there Taken (λ f. absurd (cc)) e _ m l q p
-          slots Untaken e m p l =
-              in_slot text is b opens c are named s node there Untaken (λ f. absurd (cc)) e _ m l q p
+          slots x e m p l = in_slot text is b opens c are named s node there x (λ f. absurd (cc)) e _ m l q p
 
       by : (o : Option ℕ) → word_at text s.pc ≡ o → (word : ℕ) × (fetch_of s.memory s.pc ≡ Some word)
           → TripTo q (step_of s)
