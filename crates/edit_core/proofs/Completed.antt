@@ -41,31 +41,19 @@ unknown_lives text graph named e unknown p member = ([], cc (unknown, has-every_
 pub jump_kind : (kind : EdgeKind) → same_kind kind kinds.Out ≡ true → is_call_or_jump kind ≡ true
 jump_kind kinds.Out h = refl
 jump_kind kinds.Call h = refl
-jump_kind kinds.Fall h = absurd (cc)
-jump_kind kinds.Taken h = absurd (cc)
-jump_kind kinds.Untaken h = absurd (cc)
-jump_kind kinds.Land h = absurd (cc)
-jump_kind kinds.Case h = absurd (cc)
+jump_kind _ h = absurd (cc)
 
 out_or_land : (kind : EdgeKind) → same_kind kind kinds.Out ≡ true → same_kind kind kinds.Land ≡ true → ⊥
-out_or_land kinds.Fall out land = absurd (cc)
-out_or_land kinds.Taken out land = absurd (cc)
-out_or_land kinds.Untaken out land = absurd (cc)
-out_or_land kinds.Call out land = absurd (cc)
 out_or_land kinds.Out out land = absurd (cc)
-out_or_land kinds.Land out land = absurd (cc)
-out_or_land kinds.Case out land = absurd (cc)
+out_or_land _ out land = absurd (cc)
 
 module _ (graph : Graph) where
   -- the edge that a search finds
   found : (test : Edge → Bool) (e : ℕ) → position test graph.edges ≡ Some e
       → IsIn graph e × (test (edge_at graph e) ≡ true)
   found test e h =
-      let at = position-Some test graph.edges e no_edge h in
+      let at = position-Some test graph.edges e (record { from = X; to = X; kind = kinds.Land; slot = carried.Nothing }) h in
       (at.0, at.1)
-    where
-      no_edge : Edge
-      no_edge = record { from = X; to = X; kind = kinds.Land; slot = carried.Nothing }
 
   at_most_one : (test : Edge → Bool) → Completes graph (option_to_list (position test graph.edges))
   at_most_one test = by (position test graph.edges) refl

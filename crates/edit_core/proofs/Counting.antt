@@ -1,6 +1,6 @@
 -- The entries of tables, counted by the edges along which they lead.
-use Rattle.std.proofs.Common.{◌≡◌, ◌≢◌, ℕ, zero, suc, ◌+◌, ◌^◌, ◌≤◌, ◌==◌, ◌&&◌, Bool, true, false, cond, nat_eq, Option, Some, List, [], ◌∷◌, length, length-append, take, refl, ap, ◌∙◌, arith}
-use Rattle.std.specs.Prelude.{if◌then◌else◌, slice_get}
+use Rattle.std.proofs.Common.{◌≡◌, ◌≢◌, ℕ, zero, suc, ◌+◌, ◌^◌, ◌≤◌, ◌==◌, ◌&&◌, Bool, true, false, cond, nat_eq, Option, Some, List, [], ◌∷◌, length, length-append, refl, ap, ◌∙◌, arith}
+use Rattle.std.specs.Prelude.{if◌then◌else◌}
 use Rattle.std.specs.List.{count_by, range_with_len, sum_by}
 use Rattle.std.proofs.lemmas.List.FromFn.{length-range_with_len}
 use Rattle.std.proofs.lemmas.Bool.{and_parts, eqb-true}
@@ -58,17 +58,6 @@ range_more p from (suc n) =
 
 pub range_few : (p : ℕ → Bool) (from n : ℕ) → count_by p (range_with_len from n) ≤ n
 range_few p from n = omega (arith, count_by-le-length p (range_with_len from n), length-range_with_len from n)
-
-more_summed : (f : Open → ℕ) (xs : List Open) (i : ℕ) (x : Open) → slice_get xs i ≡ Some x
-    → sum_by f (take (suc i) xs) ≡ f x + sum_by f (take i xs)
-more_summed f [] i x e = absurd (cc)
-more_summed f (y ∷ xs) zero x e = omega (arith, sum_by-cons f y [], ap f (let q : y ≡ x = cc in q))
-more_summed f (y ∷ xs) (suc i) x e =
-    omega (arith, sum_by-cons f y (take (suc i) xs), sum_by-cons f y (take i xs), more_summed f xs i x e)
-
-pub sum_more : (f : Open → ℕ) (xs : List Open) (i : ℕ) (x : Open) → slice_get xs i ≡ Some x
-    → sum_by f (take (i + 1) xs) ≡ f x + sum_by f (take i xs)
-sum_more f xs i x e = cc ((let q : i + 1 ≡ suc i = omega arith in q), more_summed f xs i x e)
 
 -- ---- keys
 

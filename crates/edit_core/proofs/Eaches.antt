@@ -1,7 +1,7 @@
 -- What holds of each element.
-use Rattle.std.proofs.Common.{◌≡◌, ℕ, zero, suc, List, [], ◌∷◌, Some, take, refl, arith, All}
-use Rattle.std.specs.Prelude.{slice_get}
-use Rattle.cfg_walk.proofs.Lists.{Each}
+use Rattle.std.proofs.Common.{ℕ, zero, suc, List, [], ◌∷◌, take, arith, All}
+use Rattle.std.specs.List.{flat_map}
+use Rattle.cfg_walk.proofs.Lists.{Each, each-append}
 
 pub all_each : {A : Type 0} (P : A → Type 0) (xs : List A) → Each P xs → All P xs
 all_each P [] each k d l = absurd (omega arith)
@@ -12,10 +12,10 @@ pub each_all : {A : Type 0} (P : A → Type 0) (xs : List A) → All P xs → Ea
 each_all P [] all = tt
 each_all P (x ∷ xs) all = (all zero x (omega arith), each_all P xs (λ k d l. all (suc k) d (omega arith)))
 
-pub each_index : {A : Type 0} (P : A → Type 0) (xs : List A) → ((k : ℕ) (x : A) → slice_get xs k ≡ Some x → P x)
-    → Each P xs
-each_index P [] h = tt
-each_index P (x ∷ xs) h = (h 0 x refl, each_index P xs (λ k y e. h (suc k) y e))
+pub each_flat : {A B : Type 0} (P : B → Type 0) (f : A → List B) (xs : List A) → Each (λ x. Each P (f x)) xs
+    → Each P (flat_map f xs)
+each_flat P f [] each = tt
+each_flat P f (x ∷ xs) each = each-append P (f x) (flat_map f xs) each.0 (each_flat P f xs each.1)
 
 pub each_taken : {A : Type 0} (P : A → Type 0) (n : ℕ) (xs : List A) → Each P xs → Each P (take n xs)
 each_taken P zero xs each = tt

@@ -1,5 +1,5 @@
 -- What is written is an edit: its notes meet their rules, and the laws of written files give the rest.
-use Rattle.std.proofs.Common.{◌≡◌, ℕ, zero, suc, ◌+◌, ◌*◌, ◌%◌, ◌^◌, ◌<◌, ◌≤◌, List, [], ◌∷◌, ◌++◌, length, length-append, replicate, nat_le, None, inl, inr, refl, ap, ◌∙◌, arith, All}
+use Rattle.std.proofs.Common.{◌≡◌, ℕ, zero, suc, ◌+◌, ◌*◌, ◌%◌, ◌^◌, ◌<◌, ◌≤◌, List, [], ◌∷◌, ◌++◌, length, length-append, nat_le, None, inl, inr, refl, ap, ◌∙◌, arith, All}
 use Rattle.std.specs.List.{sum_by}
 use Rattle.std.proofs.lemmas.List.{length-replicate}
 use Rattle.std.proofs.lemmas.List.Sums.{count_by-le-length}
@@ -27,6 +27,7 @@ use Rattle.v8_step.proofs.ValidNumbers.{high_first-bytes, flat_map-bytes}
 use Rattle.cfg_blocks.specs.Blocks.{Blocks, holding_of}
 use Rattle.cfg_normal.specs.Graph.{Graph}
 use Rattle.addr_translate.specs.Lookup.{TableAt}
+use Rattle.cfg_walk.proofs.Lists.{Each}
 use Rattle.layout.specs.Laid.{Placement}
 use Rattle.image_code.specs.Fit.{AreFit}
 use Rattle.edit_core.specs.Taken.{CanEdit}
@@ -38,9 +39,9 @@ use Rattle.tool_kit.specs.declared.edge_ref.ToolKind.TheVariants as tools
 use Rattle.tool_kit.specs.Plans.{Plan}
 use Rattle.edit_core.specs.Written.{CanDo, IsNewCode, IsEdit, if_any, cells_at, cells_base, text_of, graph_in, table_base, code_base, pieces_of, entry_of, table_at, segment_size, cases_at, code_segment, page_segment, added, notes_on, edit_file}
 use Rattle.edit_core.proofs.Bounds.{operations_few}
-use Rattle.edit_core.proofs.Fronts.{any_length}
+use Rattle.edit_core.proofs.Fronts.{any_length, each_any}
 use Rattle.edit_core.proofs.Counted.{ranges_few}
-use Rattle.edit_core.proofs.Eaches.{each_all}
+use Rattle.edit_core.proofs.Eaches.{all_each, each_all}
 use Rattle.edit_core.proofs.Graphs.{edges_inside, entries_few, graph_cut, graph_facts, graph_is}
 use Rattle.edit_core.proofs.Originals.{image_text, image_room, base_above}
 use Rattle.edit_core.proofs.Views.{bound_is}
@@ -50,12 +51,6 @@ use Rattle.edit_core.proofs.Steps.{segment_is}
 use Rattle.edit_core.proofs.Noted.{IsNoted, are_notes, are_words, few_bytes}
 
 -- ---- three segments
-
-all_three : {A : Type 0} (P : A → Type 0) (x y z : A) → P x → P y → P z → All P (x ∷ y ∷ z ∷ [])
-all_three P x y z px py pz zero d l = px
-all_three P x y z px py pz (suc zero) d l = py
-all_three P x y z px py pz (suc (suc zero)) d l = pz
-all_three P x y z px py pz (suc (suc (suc k))) d l = absurd (omega arith)
 
 -- tables, code right behind them, and a page that can be added
 record AreThree (end : ℕ) (t s w : AddedSegment) : Type 0 where
@@ -87,14 +82,9 @@ record AreBefore (count end : ℕ) (z t : AddedSegment) : Type 0 where
   pub cells_few : z.memsz ≤ 2 ^ 25
   pub cells_flags : z.flags < 2 ^ 32
 
-all_cons : {A : Type 0} (P : A → Type 0) (z : A) (xs : List A) → P z → All P xs → All P (z ∷ xs)
-all_cons P z xs here all zero d l = here
-all_cons P z xs here all (suc k) d l = all k d (omega arith)
-
-pub all_any : {A : Type 0} (P : A → Type 0) (count : ℕ) (z : A) (xs : List A) → (0 < count → P z) → All P xs
+pub all_any : {A : Type 0} (P : A → Type 0) (count : ℕ) (z : A) (xs : List A) → (0 < count → P z) → Each P xs
     → All P (if_any count z ++ xs)
-all_any P zero z xs here all = all
-all_any P (suc n) z xs here all = all_cons P z xs (here (omega arith)) all
+all_any P count z xs here each = all_each P (if_any count z ++ xs) (each_any P count z xs here each)
 
 -- how many bytes they have in the file
 sum_few : (count : ℕ) (z t s w : AddedSegment) (end : ℕ) → AreBefore count end z t → AreThree end t s w
@@ -114,8 +104,7 @@ can_write original count z t s w notes sound limit before three few = record {
   few = omega (arith, any_length count z, length-append (if_any count z) (t ∷ s ∷ w ∷ []));
   above = above count;
   fits = all_any (λ x. length x.bytes ≤ x.memsz) count z (t ∷ s ∷ w ∷ []) (λ some. omega (arith, before.none))
-      (all_three (λ x. length x.bytes ≤ x.memsz) t s w (omega (arith, three.table_filled)) (omega (arith, three.filled))
-      (omega (arith, three.bytes, three.size)));
+      (omega (arith, three.table_filled), (omega (arith, three.filled), (omega (arith, three.bytes, three.size), tt)));
   small = let sum = sum_few count z t s w _ before three in omega (arith, sum, limit, few);
 }
   where
@@ -133,9 +122,10 @@ are_numbers : (original : List ℕ) (count : ℕ) (z t s w : AddedSegment) (entr
 are_numbers original count z t s w entry end before three bytes l =
     record {
       bytes = bytes;
-      words = all_any HasWords count z (t ∷ s ∷ w ∷ []) (λ _. (omega arith, omega arith, before.cells_flags))
-          (all_three HasWords t s w (omega arith, omega arith, three.table_flags)
-          (omega arith, omega arith, three.flags) (omega arith, omega arith, three.page_flags));
+      words = all_any HasWords count z (t ∷ s ∷ w ∷ []) (λ _. (omega arith, omega arith, before.cells_flags)) (
+        (omega arith, omega arith, three.table_flags),
+        ((omega arith, omega arith, three.flags), ((omega arith, omega arith, three.page_flags), tt)),
+      );
       address = l;
     }
 
@@ -145,11 +135,11 @@ can_load count z t s w end before three =
     let page = three.page in
     record {
       pages = all_any (λ x. x.vaddr % 4096 ≡ 0) count z (t ∷ s ∷ w ∷ []) (λ _. before.whole)
-          (all_three (λ x. x.vaddr % 4096 ≡ 0) t s w three.aligned (omega arith) (ap (λ z. z % 4096) page));
+          (three.aligned, (omega arith, (ap (λ z. z % 4096) page, tt)));
       filled = all_any (λ x. 0 < x.memsz) count z (t ∷ s ∷ w ∷ []) before.filled
-          (all_three (λ x. 0 < x.memsz) t s w three.table_some three.some (omega arith));
+          (three.table_some, (three.some, (omega arith, tt)));
       reached = all_any IsInReach count z (t ∷ s ∷ w ∷ []) (λ _. inl (omega arith))
-          (all_three IsInReach t s w (inl (omega arith)) (inl three.low) (inr (page, three.size)));
+          (inl (omega arith), (inl three.low, (inr (page, three.size), tt)));
       memory = memory count;
     }
   where
@@ -164,9 +154,6 @@ words_are_bytes words = flat_map-bytes (big_bytes 4) (high_first-bytes 4) words
 notes_are_bytes : (n : Notes) → AreBytes (notes_bytes n)
 unfolding notes_bytes note_bytes
 notes_are_bytes n = flat_map-bytes (big_bytes 4) (high_first-bytes 4) (notes_words n)
-
-zeros : (n : ℕ) → length {A = ℕ} (replicate n 0) ≡ n
-zeros n = length-replicate n 0
 
 held_few : (b : Blocks) (word : ℕ) → 1 ≤ length b.firsts → holding_of b word < length b.firsts
 held_few b word some = let c = count_by-le-length (λ first. nat_le first word) b.firsts in omega arith
@@ -274,7 +261,7 @@ module _ (original : List ℕ) (plan : Plan) (limit : length original ≤ 2 ^ 26
         flags = omega arith;
         page = refl;
         size = refl;
-        bytes = zeros page_size;
+        bytes = length-replicate {A = ℕ} page_size 0;
         page_flags = omega arith;
       }
 
@@ -369,8 +356,7 @@ module _ (original : List ℕ) (plan : Plan) (limit : length original ≤ 2 ^ 26
           bytes = file_is_bytes original segments entry_at ns bytes
               (all_any (λ s. AreBytes s.bytes) plan.cells cells (table_at table ∷ its_code ∷ page_segment ∷ [])
               (λ _ k d l. absurd (omega (arith, l)))
-              (all_three (λ s. AreBytes s.bytes) (table_at table) its_code page_segment code.bytes
-              (words_are_bytes p.code) (All-replicate (λ b. b < 256) page_size 0 (omega arith))))
+              (code.bytes, (words_are_bytes p.code, (All-replicate (λ b. b < 256) page_size 0 (omega arith), tt))))
               (notes_are_bytes notes);
           loads = file_loads original segments entry_at ns can_be_written numbers loadable;
           reads = notes_are_read original segments entry_at ns can_be_written

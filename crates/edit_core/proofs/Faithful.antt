@@ -1,5 +1,5 @@
 -- An edit is faithful.
-use Rattle.std.proofs.Common.{◌≡◌, ℕ, zero, suc, ◌+◌, ◌*◌, ◌^◌, ◌<◌, ◌≤◌, true, List, [], ◌∷◌, ◌++◌, length, map, slice_index, Some, refl, ap, sym, ◌∙◌, subst, arith, All}
+use Rattle.std.proofs.Common.{◌≡◌, ℕ, ◌+◌, ◌*◌, ◌^◌, ◌<◌, ◌≤◌, true, List, [], ◌∷◌, ◌++◌, length, map, slice_index, Some, refl, ap, sym, ◌∙◌, subst, arith, All}
 use Rattle.std.specs.Prelude.{slice_get}
 use Rattle.std.specs.List.{list_any}
 use Rattle.std.proofs.lemmas.Bool.{le-leb, lt-ltb}
@@ -24,9 +24,10 @@ use Rattle.image_code.specs.Fit.{AreFit, PlacesSay}
 use Rattle.image_code.specs.Parts.{codes_of}
 use Rattle.tool_kit.specs.Plans.{Plan}
 use Rattle.edit_core.specs.Taken.{CanEdit}
-use Rattle.edit_core.specs.Faithful.{editor_page, page_size, IsFaithful, HasGraph, HasPages, IsInRoom, IsPlace, holds_cells, note_edges, note_of, word_mapped}
+use Rattle.edit_core.specs.Faithful.{IsFaithful, HasGraph, HasPages, IsInRoom, IsPlace, holds_cells, note_edges, note_of, word_mapped}
 use Rattle.edit_core.specs.Written.{CanDo, IsNewCode, IsEdit, EditsRunAlike, added, cases_at, cells_at, cells_base, if_any, segment_size, text_of, graph_in, table_base, code_base, pieces_of, off_range, off_ranges, table_at, code_segment, page_segment, notes_on, edit_file}
-use Rattle.edit_core.proofs.Eaches.{all_each, each_index}
+use Rattle.image_code.proofs.OpenNumbers.{each_index}
+use Rattle.edit_core.proofs.Eaches.{all_each}
 use Rattle.edit_core.proofs.Graphs.{edges_inside, entries_few, graph_is, number_of}
 use Rattle.edit_core.proofs.Steps.{segment_is}
 use Rattle.edit_core.proofs.Off.{off_each}
@@ -54,11 +55,6 @@ has_graph original plan p places =
       cells = refl;
       places = subst (λ (g : Graph). All (λ range. is_node g range.node ≡ true) (notes_on original plan p).ranges) same places;
     }
-
-all_two : (P : Mapping → Type 0) (x y : Mapping) → P x → P y → All P (x ∷ y ∷ [])
-all_two P x y px py zero d l = px
-all_two P x y px py (suc zero) d l = py
-all_two P x y px py (suc (suc k)) d l = absurd (omega arith)
 
 pub word_here : (original : List ℕ) (plan : Plan) (word : ℕ) → word < length (text_of original plan).words
     → word_at (text_of original plan) (address_of (text_of original plan) word) ≡ Some word
@@ -132,11 +128,6 @@ module _ (original : List ℕ) (plan : Plan) (p : Placement) (place : ℕ → �
       (mapping_added (table_at table) ∷ mapping_added its_code ∷ mapping_added page_segment ∷ [])
       ∙ ap (λ (segments : List NoteSegment). if_any plan.cells (note_of (mapping_added cells)) ++ segments)
       (cc (base, long))
-    where
-      noted_after : List NoteSegment
-      noted_after =
-          record { start = code_from; length = 4 * length p.code }
-          ∷ record { start = editor_page; length = page_size } ∷ []
 
   has_pages : AreFit text graph plan.snips (pieces_of original plan is.code.dead) → HasPages original plan file notes
   has_pages fit =
@@ -153,9 +144,9 @@ module _ (original : List ℕ) (plan : Plan) (p : Placement) (place : ℕ → �
         editor = mapping_added page_segment;
         mapped = is.mapped ∙ ap (λ (ms : List Mapping). map kept (mappings original) ++ ms) pages_mapped;
         noted = pages_noted;
-        inside = all_any (IsInRoom original plan) plan.cells (mapping_added cells) _ (λ some. (omega arith, omega arith))
-            (all_two (IsInRoom original plan) (mapping_added (table_at table))
-            (mapping_added its_code) (omega arith, omega arith) (omega arith, omega arith));
+        inside = all_any (IsInRoom original plan) plan.cells (mapping_added cells)
+            (mapping_added (table_at table) ∷ mapping_added its_code ∷ []) (λ some. (omega arith, omega arith))
+            ((omega arith, omega arith), ((omega arith, omega arith), tt));
         own = (refl, refl);
         cells = has_cells;
       }

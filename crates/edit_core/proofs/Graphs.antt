@@ -1,6 +1,6 @@
 -- The graph of an original, with its open switches.
-use Rattle.std.proofs.Common.{◌≡◌, ℕ, zero, suc, ◌+◌, ◌-◌, ◌*◌, ◌<◌, ◌≤◌, ◌==◌, inl, inr, true, false, Bool, ◌||◌, cond, Some, List, [], ◌∷◌, length, length-append, map, refl, ap, sym, ◌∙◌, arith}
-use Rattle.std.specs.Prelude.{slice_get, slice_index}
+use Rattle.std.proofs.Common.{◌≡◌, ℕ, suc, ◌+◌, ◌-◌, ◌*◌, ◌<◌, ◌≤◌, ◌==◌, inl, inr, true, false, Bool, ◌||◌, cond, List, [], ◌∷◌, length, length-append, map, refl, ap, sym, ◌∙◌, arith}
+use Rattle.std.specs.Prelude.{slice_index}
 use Rattle.std.specs.List.{list_any, sum_by}
 use Rattle.std.proofs.lemmas.Bool.{cond_both, eq-eqb, eqb-true, false≢true, le-ltb, lt-ltb, or_cases, or_left, or_right}
 use Rattle.std.proofs.lemmas.List.{length-map}
@@ -26,7 +26,8 @@ use Rattle.image_code.specs.Graphs.{IsGraphOf, opens_in}
 use Rattle.image_code.specs.Numbered.{case_numbers, case_piece, cases_of, node_in_order}
 use Rattle.image_code.proofs.OpenBlocks.{are_open, is_list, text_graph}
 use Rattle.tool_kit.specs.Plans.{Plan}
-use Rattle.edit_core.proofs.Eaches.{each_index}
+use Rattle.image_code.proofs.OpenNumbers.{each_index}
+use Rattle.image_code.proofs.Positions.{any_at}
 use Rattle.edit_core.specs.Written.{given_of, graph_in, text_of}
 
 pub graph_is : (original : List ℕ) (plan : Plan) → IsGraphOf (text_of original plan) (graph_in original plan)
@@ -62,12 +63,6 @@ in_order graph firsts word l =
     let held = in_held graph.blocks.words graph.blocks.firsts firsts word l in
     cond_both (jumps_in graph.opens (holding_of graph.blocks word)) _ _ (IsNodeIn graph.blocks graph.opens)
     (λ h. (held.within, or_left _ _ h)) (λ _. held.within)
-
-pub any_at : {A : Type 0} (p : A → Bool) (xs : List A) (k : ℕ) (x : A) → slice_get xs k ≡ Some x → p x ≡ true
-    → list_any p xs ≡ true
-any_at p [] k x e h = absurd (cc)
-any_at p (y ∷ xs) zero x e h = or_left (p y) (list_any p xs) (let same : y ≡ x = cc in ap p same ∙ h)
-any_at p (y ∷ xs) (suc k) x e h = or_right (p y) (list_any p xs) (any_at p xs k x e h)
 
 -- the comparison of an open switch stands in a block that has a copy
 pub compares_copied : (opens : List Open) → Each (λ (o : Open). is_copied opens o.switch.compare.0 ≡ true) opens

@@ -2,14 +2,13 @@
 use Rattle.std.proofs.Common.{◌≡◌, ◌≢◌, ℕ, zero, suc, ◌+◌, ◌-◌, ◌<◌, ◌≤◌, ◌⊎◌, inl, inr, Option, Some, None, List, ◌++◌, append-nil, refl, ap, sym, ◌∙◌, subst, arith}
 use Rattle.eel_base.specs.CodeText.{word_at}
 use Rattle.notes.specs.Format.{node_at}
-use Rattle.v8_decode.specs.declared.Instr.{Instr}
 use Rattle.v8_memory.specs.Regions.{Memory, Region, fetch_of}
 use Rattle.v8_memory.specs.Spans.{Span, AllApart, IsSameOutside, IsSameRegion}
 use Rattle.v8_step.specs.declared.Ending.{Ending}
 use Rattle.v8_step.specs.State.{State, sum_of}
 use Rattle.v8_step.specs.Step.{step_of, puts_of, on_word, puts_on_word}
 use Rattle.v8_step.specs.Run.{run, run_puts}
-use Rattle.v8_step.specs.Items.{AreSameAt, IsAmong, StateItem, Register, Codes, YRegister, IsItem, IsSameAt}
+use Rattle.v8_step.specs.Items.{AreSameAt, IsAmong, StateItem, Register, IsItem, IsSameAt}
 use Rattle.two_runs.proofs.Reading.{same_sum}
 use Rattle.v8_windows.specs.Registers.{place_of}
 use Rattle.v8_windows.proofs.Places.{place_of-below, place_of-some}
@@ -29,12 +28,12 @@ use Rattle.v8_step.proofs.Live.{stays_ended, puts_nothing}
 use Rattle.two_runs.proofs.Outside.{byte_outside, heap_end_same}
 use Rattle.v8_step.proofs.ValidSteps.{run-valid}
 use Rattle.cfg_normal.specs.declared.Node.{Node}
-use Rattle.cfg_walk.specs.Walk.{Point, point_of, goes_on_at, gone, gone_in, node_after, end_of_walk, unless_ended as point_unless}
+use Rattle.cfg_walk.specs.Walk.{Point, point_of, goes_on_at, gone, gone_in, node_after, end_of_walk}
 use Rattle.cfg_walk.proofs.Walks.{walks_match}
 use Rattle.code_runs.proofs.Leads.{run_add, puts_add, split_below}
 use Rattle.code_runs.specs.PointsAlike.{AreAlikeOn, AreAtOnePoint, instr_of}
 use Rattle.code_runs.proofs.PointsAlike.{points_act_alike}
-use Rattle.image_code.specs.Simulates.{CaseTable, IsAtWord, IsChosen, IsNoLoad, KeepsAddress, Steps, IsFollowedBy, IsOnWay, IsSparing, IsThere, MatchesIn, Setting, StepsOn, at_point, cells_in, does_at, graph_in, number_in, store_of, updates, word_of}
+use Rattle.image_code.specs.Simulates.{CaseTable, IsAtWord, IsChosen, IsNoLoad, KeepsAddress, Steps, IsFollowedBy, IsOnWay, IsThere, MatchesIn, Setting, StepsOn, at_point, cells_in, does_at, graph_in, number_in, store_of, updates, word_of}
 use Rattle.jump_code.specs.PageWords.{kept_address}
 use Rattle.edit_core.specs.RunsAlike.{EndsAtNode, TellsStep}
 use Rattle.edit_core.specs.Runs.{KeepsLoaded, AreTogether, Closed, Follows, Linked, Rests, Spares, StaysInside, Tells, instr_in, limits_in}
@@ -46,16 +45,13 @@ use Rattle.edit_core.proofs.Places.{node_of_place, placed_between, step_stays, t
 
 same_trans : (item : StateItem) (s t u : State) → IsSameAt item s t → IsSameAt item t u → IsSameAt item s u
 same_trans (Register n) s t u h k = h ∙ k
-same_trans Codes s t u h k = h ∙ k
-same_trans YRegister s t u h k = h ∙ k
+same_trans _ s t u h k = h ∙ k
 
 region_trans : (x y z : Option Region) → IsSameRegion x y → IsSameRegion y z → IsSameRegion x z
-region_trans None None None h k = tt
+region_trans None None z h k = k
 region_trans (Some a) (Some b) (Some c) h k = h ∙ k
-region_trans None (Some b) z h k = absurd h
-region_trans (Some a) None z h k = absurd h
-region_trans None None (Some c) h k = absurd k
-region_trans (Some a) (Some b) None h k = absurd k
+region_trans (Some a) (Some b) None h k = k
+region_trans _ _ z h k = absurd h
 
 pub outside_trans : (pages : List Span) (m n o : Memory) → IsSameOutside pages m n → IsSameOutside pages n o
     → IsSameOutside pages m o
@@ -81,8 +77,7 @@ world_moved pages s t p h =
 
 same_moved : (item : StateItem) (s t : State) (p : Point) → IsSameAt item s t → IsSameAt item s (at_point p t)
 same_moved (Register n) s t p h = h
-same_moved Codes s t p h = h
-same_moved YRegister s t p h = h
+same_moved _ s t p h = h
 
 instr_same : (e : Option Ending) (o : Option ℕ) → e ≡ None → decoded e o ≡ instr_of o
 instr_same None None h = refl
@@ -101,9 +96,7 @@ puts_live s o descriptor e f = cc (e, f)
 goes_same : (x : Option Ending) (s v : State) → s.ending ≡ x → s.ending ≡ v.ending
     → (s.ending ≡ None → point_of s ≡ point_of v) → goes_on_at v ≡ goes_on_at s
 goes_same None s v e h k =
-    ap (λ (z : Option Ending). point_unless z (point_of v)) (sym h ∙ e)
-    ∙ ap (λ (z : Point). point_unless None z) (sym (k e))
-    ∙ sym (ap (λ (z : Option Ending). point_unless z (point_of s)) e)
+    cc (h, e, k e)
 goes_same (Some d) s v e h k = cc (h, e)
 
 -- the same point, as one
@@ -208,16 +201,13 @@ module _ (g : Setting) (entry : ℕ) (Inside : Point → Type 0) (Here : Node �
     next_of n m h apart within inside =
         let visits = r.simulates.visits _ _ _ (matched n h.live) within h.here in
         let stepped : s (suc n) ≡ on_word (s n) (word n) = step_live (s n) _ h.live (fetched n) in
-        let judged : AllApart pages (judged_in (s n) (instr_of (word n))) =
-        subst (λ (z : Option Instr). AllApart pages (judged_in (s n) z))
-        (ap (decoded (s n).ending) (fetched n) ∙ instr_same (s n).ending (word n) h.live) apart in
+        let judged = rw (ap (decoded (s n).ending) (fetched n) ∙ instr_same (s n).ending (word n) h.live) at apart in
         let a = points_act_alike g.notes (word n) (s n) (at_point (point n) (t m)) h.live visits.0
         (run-valid s0 n r.first_valid).registers (run-valid t0 m r.second_valid).registers
         (record { pc = refl; npc = refl; slot = refl }) (world_moved pages (s n) (t m) (point n) h.together.world)
         (λ item is d. same_moved item (s n) (t m) (point n)
         (h.items item is (r.keeping.reads n item is h.live d))) judged in
-        let b : IsAlike n m = subst (λ (z : State). AreAlikeOn pages (word n) (s n)
-        (at_point (point n) (t m)) z (does n m)) (sym stepped) a in
+        let b : IsAlike n m = rw stepped a in
         let whole = subst (λ (z : Option Point). Steps g Here Short (gone g.text (graph_in g) (node n) (point n) z)
         (node n) (point n) (t m) (does n m)) (goes_same (s (suc n)).ending (s (suc n)) (does n m) refl b.ending
         (λ live. one_point (s (suc n)) (does n m) (b.point live))) (r.simulates.steps (node n) (point n) (t m)
@@ -302,19 +292,17 @@ module _ (g : Setting) (entry : ℕ) (Inside : Point → Type 0) (Here : Node �
         let now : suc n ≡ start = omega (arith, e) in
         let first : IsAtWord g o (node (suc n)) (point (suc n)) o.load =
         (let q : o.load + 0 ≡ o.load = omega arith in let z : 0 + start ≡ suc n = omega (arith, now) in
-        subst (λ w. IsAtWord g o (node (suc n)) (point (suc n)) w) q
-        (subst (λ a. IsAtWord g o (node a) (point a) (o.load + 0)) z (came 0 (omega arith)))) in
+        rw q at (rw z at (came 0 (omega arith)))) in
         let go : (does n m).ending ≡ None = sym x.alike.ending ∙ live in
         ap (λ (z : State). kept_address z) (arrived n m x) ∙ x.keeps.loaded go k o is
         (subst (λ (z : Point). IsAtWord g o (node_after (graph_in g) (node n) (edges n)) z o.load)
-        (one_point (s (suc n)) (does n m) (x.alike.point live))
-        (subst (λ (z : Node). IsAtWord g o z (point (suc n)) o.load) (sym (end_next n)) first))
+        (one_point (s (suc n)) (does n m) (x.alike.point live)) (rw (← end_next n) at first))
         ∙ sym (sums_next n m h x live k o is first.stands) ∙ ap (λ a. sum_of (s a) o.rs1 o.op2) now
     kept_next n m h x live k o is start (suc more) e low came =
         let before_it : n ≡ more + start = omega (arith, e) in
         let go : (does n m).ending ≡ None = sym x.alike.ending ∙ live in
         ap (λ (z : State). kept_address z) (arrived n m x) ∙ x.keeps.carried go k o is (o.load + more)
-        (subst (λ a. IsAtWord g o (node a) (point a) (o.load + more)) (sym before_it) (came more (omega arith)))
+        (rw (← before_it) at (came more (omega arith)))
         (omega arith) (omega (arith, low))
         ∙ h.kept k o is start more before_it (omega (arith, low)) (λ j less. came j (omega (arith, less)))
 
@@ -347,8 +335,7 @@ module _ (g : Setting) (entry : ℕ) (Inside : Point → Type 0) (Here : Node �
           inside = subst (λ (z : ℕ). word_at g.text z ≢ None) x.pc watched.inside;
         }) in
         let all : x.on.count ≡ x.on.count + m - m = omega arith in
-        subst (λ (z : ℕ). IsSparing g (((s n).ending ≡ None) × Short × IsNoLoad g (s (suc n))) (edges n)
-        (point n) (t m) z) all (record {
+        rw (← all) (record {
           spills = sparing.spills;
           first = λ short. sparing.first (short.1, no_load short.2);
           alone = λ short. sparing.alone (short.1, no_load short.2);
@@ -362,8 +349,7 @@ module _ (g : Setting) (entry : ℕ) (Inside : Point → Type 0) (Here : Node �
     spares_ended : (n m : ℕ) (d : Ending) → (s n).ending ≡ Some d → Saves n m m
     spares_ended n m d over watched =
         let none : 0 ≡ m - m = omega arith in
-        subst (λ (z : ℕ). IsSparing g (((s n).ending ≡ None) × Short × IsNoLoad g (s (suc n))) (edges n)
-        (point n) (t m) z) none (record {
+        rw (← none) (record {
           spills = omega arith;
           first = λ short. refl;
           alone = λ short. absurd (let live : (s n).ending ≡ None = short.0 in cc);
@@ -544,8 +530,7 @@ module _ (g : Setting) (entry : ℕ) (Inside : Point → Type 0) (Here : Node �
       told_from : (n m k : ℕ) → n ≤ last → (h : Links n m) (x : IsNext n m) → m ≤ k → k < x.on.count + m
           → (m < k) ⊎ (k ≤ m) → Tells g entry s0 t0 n k
       told_from n m k l h x a b (inr c) =
-          let e : m ≡ k = omega arith in
-          subst (λ (z : ℕ). Tells g entry s0 t0 n z) e (λ some. tells_there n m l h)
+          let e : k ≡ m = omega arith in rw e (λ some. tells_there n m l h)
       told_from n m k l h x a b (inl c) =
           on_the_way n m k h x (run (t m) (k - m)) (quiet_at m k a)
           (x.on.path.quiet (k - m) (omega arith) (omega arith))

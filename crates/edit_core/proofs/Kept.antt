@@ -1,12 +1,12 @@
 -- What lives is kept: the code of a snippet takes only what isn't live behind it, and what a snippet makes of the cells
 -- depends on the registers alone that it names.
 use Rattle.std.proofs.Common.{◌≡◌, ℕ, zero, suc, ◌+◌, ◌-◌, ◌*◌, ◌%◌, ◌<◌, ◌⊎◌, inl, inr, true, nat_lt, List, [], ◌∷◌, length, slice_index, refl, ap, sym, ◌∙◌, arith, All, Contains}
-use Rattle.std.proofs.lemmas.Bool.{and_parts, cases_lt, cond_both, eq-eqb, or_left, or_right}
+use Rattle.std.proofs.lemmas.Bool.{and_parts, cases_lt, cond_both, or_left, or_right}
 use Rattle.std.proofs.lemmas.List.{get_or_past}
 use Rattle.v8_decode.specs.declared.Part.{Part}
-use Rattle.v8_decode.specs.declared.Part.TheVariants.{Reg, Icc, Y}
-use Rattle.v8_decode.specs.Parts.{has, is_member, is_same, set_of}
-use Rattle.v8_decode.proofs.Members.{has-members}
+use Rattle.v8_decode.specs.declared.Part.TheVariants.{Reg}
+use Rattle.v8_decode.specs.Parts.{has, is_member, set_of}
+use Rattle.v8_decode.proofs.Members.{has-members, is_same-self}
 use Rattle.v8_windows.specs.Registers.{place_of}
 use Rattle.v8_windows.proofs.Places.{place_of-below}
 use Rattle.v8_step.specs.State.{State, register_of}
@@ -57,23 +57,16 @@ place_some window r =
 name_among : (item : StateItem) (window : ℕ) (parts : List Part) → IsAmong item window parts
     → (part : Part) × (has parts part ≡ true) × (item ≡ item_of window part)
 name_among item window [] among = absurd among
-name_among item window (p ∷ ps) (inl is) = (p, or_left _ _ (part_self p), sym is)
-  where
-    part_self : (p : Part) → is_same p p ≡ true
-    part_self (Reg r) = eq-eqb r r refl
-    part_self Icc = refl
-    part_self Y = refl
+name_among item window (p ∷ ps) (inl is) = (p, or_left _ _ (is_same-self p), sym is)
 name_among item window (p ∷ ps) (inr among) =
     let rest = name_among item window ps among in
     (rest.0, or_right _ _ rest.1, rest.2)
 
 module _ (g : Setting) (dead : AreDead g.text (graph_in g) (named_on g.snips) g.dead) (item : StateItem) (window : ℕ) where
-  abbrev Lives : ℕ → Part → Type 0
-  Lives e p = IsLiveOn g.text (graph_in g) (named_on g.snips) e p
-
   -- no part that is dead behind an edge names an item that only live ones name
   not_dead : (e : ℕ) → e < length (graph_in g).edges
-      → ((p : Part) → is_member p ≡ true → ¬ Lives e p → item ≡ item_of window p → ⊥)
+      → ((p : Part) → is_member p ≡ true → ¬ IsLiveOn g.text (graph_in g) (named_on g.snips) e p
+      → item ≡ item_of window p → ⊥)
       → IsAmong item window (g.dead e) → ⊥
   not_dead e within live among =
       let name = name_among item window (g.dead e) among in

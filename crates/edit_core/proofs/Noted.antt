@@ -33,7 +33,7 @@ use Rattle.tool_kit.specs.Plans.{AreCounters}
 use Rattle.edit_core.specs.Faithful.{cell_noted, editor_page, kind_number, note_edge, note_edges, page_size}
 use Rattle.edit_core.specs.Written.{if_any, off_range, off_ranges, segments_noted, table_after}
 use Rattle.edit_core.proofs.Fronts.{any_length, any_past, each_any}
-use Rattle.edit_core.proofs.Eaches.{all_each, each_all}
+use Rattle.edit_core.proofs.Eaches.{all_each, each_all, each_flat}
 use Rattle.edit_core.proofs.Off.{off_each, off_few}
 use Rattle.edit_core.proofs.Ranges.{IsWhole, ends_by, ranges_rule}
 use Rattle.edit_core.proofs.Snippets.{begins_within}
@@ -149,12 +149,6 @@ edges_count graph kind (e ∷ es) (ops ∷ snips) = let later = edges_count grap
 
 abbrev Fits : ℕ → Type 0
 Fits word = word < 2 ^ 32
-
-rows_fit : {R : Type 0} (words : R → List ℕ) (rows : List R) → Each (λ row. Each Fits (words row)) rows
-    → Each Fits (flat_map words rows)
-rows_fit words [] each = tt
-rows_fit words (row ∷ rows) each = each-append Fits (words row) (flat_map words rows) each.0
-    (rows_fit words rows each.1)
 
 cell_fits : (cells : ℕ) (kind : ToolKind) (ops : List Op) → cells ≤ 2 ^ 23 → WorksBelow cells ops
     → cell_word (cell_noted kind ops) < 2 ^ 32
@@ -377,14 +371,14 @@ module _ (graph : Graph) (size : ℕ) (p : Placement) (n : Notes) (is : IsNoted 
         rw (is.segments) segment_words_fit,
       )) (omega (arith, ap length is.blocks, nodes_few), rw (is.blocks) first_words)) (
         omega (arith, edges_fewer, is.edge_count),
-        rw (is.edges) (rows_fit edge_words (note_edges graph is.kind graph.edges is.snips)
+        rw (is.edges) (each_flat Fits edge_words (note_edges graph is.kind graph.edges is.snips)
             (edges_fit graph is.kind n.cells graph.edges is.snips nodes_few is.cells is.edges_in is.below)),
       ))
-      (omega (arith, r), rw (is.ranges) (rows_fit range_words (off_ranges is.text graph table ++ p.ranges) all_fit)))
+      (omega (arith, r), rw (is.ranges) (each_flat Fits range_words (off_ranges is.text graph table ++ p.ranges) all_fit)))
     where
       segment_words_fit : Each Fits (flat_map segment_words pages)
       segment_words_fit =
-          rows_fit segment_words pages (each_any (λ segment. Each Fits (segment_words segment)) n.cells
+          each_flat Fits segment_words pages (each_any (λ segment. Each Fits (segment_words segment)) n.cells
           (record { start = n.base; length = 4 * n.cells }) behind (λ some. (omega arith, (omega arith, tt)))
           ((omega arith, (omega arith, tt)), ((omega arith, (omega arith, tt)), ((omega arith, (omega arith, tt)), tt))))
 
@@ -396,9 +390,8 @@ module _ (graph : Graph) (size : ℕ) (p : Placement) (n : Notes) (is : IsNoted 
 
       all_fit : Each (λ range. Each Fits (range_words range)) (off_ranges is.text graph table ++ p.ranges)
       all_fit =
-          each-append _ (off_ranges is.text graph table) p.ranges
-          (off_each is.text graph table (IsEdgeIn graph.blocks graph.opens) (Each (λ range. Each Fits (range_words range)))
-          is.edges_in tt off_fits)
+          each-append _ _ _ (off_each is.text graph table (IsEdgeIn graph.blocks graph.opens)
+          (Each (λ range. Each Fits (range_words range))) is.edges_in tt off_fits)
           (ranges_fit graph (table + size) (table + size + 4 * length p.code) p.ranges nodes_few is.low is.ascend
           is.whole)
 

@@ -2,7 +2,7 @@
 use Rattle.std.proofs.Common.{◌≡◌, ℕ, zero, suc, ◌+◌, ◌-◌, ◌*◌, ◌^◌, ◌<◌, ◌≤◌, ◌⊎◌, inl, inr, Bool, true, false, ◌&&◌, cond, nat_le, List, [], ◌∷◌, ◌++◌, length, length-append, map, replicate, take, drop, Option, Some, None, refl, ap, ◌∙◌, arith}
 use Rattle.std.specs.List.{find, range_with_len}
 use Rattle.std.specs.Option.{option_map, option_or}
-use Rattle.std.proofs.lemmas.Bool.{and_from, and_parts, cases_lt, le-leb, leb-true, lt-leb}
+use Rattle.std.proofs.lemmas.Bool.{and_from, and_parts, cases_lt, false_from_ne_true, le-leb, leb-true, lt-leb}
 use Rattle.std.proofs.lemmas.Bool.Decides.{nat_tests}
 use Rattle.std.specs.Int.{from_be_bytes, w32}
 use Rattle.std.proofs.lemmas.List.{append-nil, append_assoc, drop-replicate, length-drop, take-replicate, length-replicate, map-append}
@@ -13,7 +13,7 @@ use Rattle.elf32_sparc.proofs.Images.{accepted-program}
 use Rattle.elf32_write.specs.Headers.{AddedSegment}
 use Rattle.elf32_write.specs.Laws.{kept, mapping_added}
 use Rattle.v8_memory.specs.Regions.{Memory, Region, covers, region_at}
-use Rattle.v8_memory.specs.Segments.{empty_heap, region_of}
+use Rattle.v8_memory.specs.Segments.{empty_heap, heap_room, heap_start, region_of}
 use Rattle.v8_memory.specs.Spans.{IsApart, IsApartFromAll, Span}
 use Rattle.v8_process.specs.Start.{start_memory, stack_region}
 use Rattle.code_runs.specs.Ours.{HasNot, HasWordAt, IsAmongWords, IsIn, IsOurs}
@@ -131,7 +131,7 @@ apart_first zero page pages y some apart = absurd (omega (arith, some))
 apart_first (suc n) page pages y some apart = apart.0
 
 module _ (original : List ℕ) (plan : Plan) (p : Placement) where
-  abbrev cells_span : Span
+  abbrev pub cells_span : Span
   cells_span = record { from = cells_base original plan; count = 4 * plan.cells }
 
   abbrev behind_spans : List Span
@@ -141,12 +141,7 @@ module _ (original : List ℕ) (plan : Plan) (p : Placement) where
       ∷ record { from = editor_page; count = page_size } ∷ []
 
   pub spans_are : pages_of (notes_on original plan p) ≡ if_any plan.cells cells_span ++ behind_spans
-  spans_are =
-      any-map segment_span plan.cells (record { start = cells_base original plan; length = 4 * plan.cells }) (record {
-        start = table_base original plan;
-        length = segment_size (text_of original plan) (graph_in original plan);
-      } ∷ record { start = code_base original plan; length = 4 * length p.code }
-      ∷ record { start = editor_page; length = page_size } ∷ [])
+  spans_are = any-map segment_span plan.cells (record { start = cells_base original plan; length = 4 * plan.cells }) _
 
 -- the pages of the notes: that of the cells, the tables', the code's and the editor's
 pub is_framed : (original : List ℕ) (plan : Plan) (p : Placement) (table : TableAt) (g : Setting)
@@ -370,6 +365,21 @@ module _ (original : List ℕ) (plan : Plan) (p : Placement) (place : ℕ → �
       (unless_found a (covers from count page_region) page_region _ beside.page
       (unless_found a (covers from count (stack_region texts)) (stack_region texts) None beside.stack tt))))))
 
+  -- a word of the region that covers it first
+  word_at : (a : ℕ) (m : Mapping) → find (covers a 4) memory.regions ≡ Some (region_of m)
+      → (region_of m).readable ≡ true → (a + 4 ≤ heap_start) ⊎ (heap_start + heap_room ≤ a)
+      → HasWordAt a (region_of m).writable memory
+  word_at a m at readable away = record {
+    start = refl;
+    size = omega arith;
+    away = away;
+    region = region_of m;
+    at = at;
+    readable = readable;
+    may_write = refl;
+    whole = region_whole m;
+  }
+
   -- ---- the tables
 
   table_below : table.base + length table.bytes ≤ 2 ^ 31
@@ -390,16 +400,7 @@ module _ (original : List ℕ) (plan : Plan) (p : Placement) (place : ℕ → �
     table_at_all = cc (heap_low a (omega (arith, to, table_below)), table_found)
 
     word_of_table : HasWordAt a false memory
-    word_of_table = record {
-      start = refl;
-      size = omega arith;
-      away = inl (omega (arith, to, table_below));
-      region = table_region;
-      at = table_found;
-      readable = refl;
-      may_write = refl;
-      whole = region_whole (mapping_added (table_at table));
-    }
+    word_of_table = word_at a (mapping_added (table_at table)) table_found refl (inl (omega (arith, to, table_below)))
 
   table_bytes : table_region.bytes ≡ table.bytes
   table_bytes =
@@ -457,16 +458,7 @@ module _ (original : List ℕ) (plan : Plan) (p : Placement) (place : ℕ → �
     page_found = cc (found_behind (covers a 4) none_kept cells_low, table_low, code_low, page_covers)
 
     word_at_page : HasWordAt a true memory
-    word_at_page = let from = of.from in record {
-      start = refl;
-      size = omega arith;
-      away = inr (omega (arith, from));
-      region = page_region;
-      at = page_found;
-      readable = refl;
-      may_write = refl;
-      whole = region_whole (mapping_added page_segment);
-    }
+    word_at_page = word_at a (mapping_added page_segment) page_found refl (inr (omega (arith, of.from)))
 
     alone_at_page : (from count : ℕ) → 0 < count → IsApartFromAll (pages_of notes) (record { from = from; count = count })
         → HasNot a (find (covers from count) memory.regions)
@@ -498,16 +490,7 @@ module _ (original : List ℕ) (plan : Plan) (p : Placement) (place : ℕ → �
         cc (found_in (covers a 4), cell_kept, any_some (covers a 4) plan.cells cells_region of.some cell_covers)
 
     word_at_cell : HasWordAt a true memory
-    word_at_cell = record {
-      start = refl;
-      size = omega arith;
-      away = inl (omega (arith, cells_under, table_below));
-      region = cells_region;
-      at = cell_found;
-      readable = refl;
-      may_write = refl;
-      whole = region_whole (mapping_added cells);
-    }
+    word_at_cell = word_at a (mapping_added cells) cell_found refl (inl (omega (arith, cells_under, table_below)))
 
     table_past : covers a 4 table_region ≡ false
     table_past = below_covers a table_region (omega (arith, cells_under))
@@ -527,20 +510,13 @@ module _ (original : List ℕ) (plan : Plan) (p : Placement) (place : ℕ → �
         let beside = apart_first plan.cells (cells_span original plan p) (behind_spans original plan p) _ of.some
         (rw (spans_are original plan p) at apart) in
         alone_among a from count cell_kept
-        (front_has_not (any_none (covers from count) plan.cells cells_region (λ _. not_found (covers from count cells_region)
-        (apart_outside cells_region from count some beside)))) (record {
+        (rw (any_none (covers from count) plan.cells cells_region (λ _. false_from_ne_true (covers from count cells_region)
+        (apart_outside cells_region from count some beside))) tt) (record {
           tables = λ found. table_past;
           code = λ found. code_past;
           page = λ found. page_past;
           stack = λ found. stack_past;
         })
-      where
-        not_found : (b : Bool) → (b ≡ true → ⊥) → b ≡ false
-        not_found true no_way = absurd (no_way refl)
-        not_found false no_way = refl
-
-        front_has_not : {o : Option Region} → o ≡ None → HasNot a o
-        front_has_not e = rw e tt
 
   either_word : (a : ℕ) → IsEither cells_from plan.cells a → HasWordAt a true memory
   either_word a (inl is) = word_at_page a is

@@ -20,7 +20,7 @@ use Rattle.image_code.specs.Imaged.{TakesWords}
 use Rattle.image_code.specs.Made.{cases_from, images_in_order, landing, open_pieces, piece_list, ways_from}
 use Rattle.image_code.specs.Numbered.{own_edges}
 use Rattle.image_code.specs.Graphs.{IsGraphOf}
-use Rattle.edit_core.proofs.Eaches.{each_index}
+use Rattle.image_code.proofs.OpenNumbers.{each_index}
 use Rattle.edit_core.proofs.Graphs.{IsNumber}
 use Rattle.edit_core.proofs.Shapes.{IsMark, NoMarks, MarksFirst, all_marked}
 use Rattle.edit_core.proofs.Fronts.{passed}
@@ -151,9 +151,9 @@ module _ (text : Words) (graph : Graph) (table cases : ℕ) (codes : ℕ → Lis
       record {
         lo = ap (λ z. z % 4) lo ∙ (laid.within k 1 inside (omega (arith, size))).aligned;
         hi = ap (λ (z : NoteRange). z.hi % 4) same ∙ last.aligned;
-        address = ap (λ z. z % 4) says ∙ m.aligned;
-        low = omega (arith, says, m.low);
-        node = m.inside;
+        address = ap (λ z. z % 4) says ∙ m.visit.aligned;
+        low = omega (arith, says, m.visit.low);
+        node = m.visit.inside;
       }
     where
       some_same : {a b : NoteRange} → Some a ≡ Some b → a ≡ b

@@ -1,9 +1,9 @@
 -- What was written of an original has runs like the original's.
-use Rattle.std.proofs.Common.{◌≡◌, ℕ, suc, ◌+◌, ◌-◌, ◌*◌, ◌%◌, ◌^◌, ◌<◌, ◌≤◌, ◌⊎◌, inl, inr, Bool, true, false, ◌&&◌, cond, nat_le, nat_lt, List, [], ◌∷◌, ◌++◌, length, map, replicate, slice_index, Option, Some, None, refl, ap, sym, ◌∙◌, subst, arith}
+use Rattle.std.proofs.Common.{◌≡◌, ℕ, suc, ◌+◌, ◌-◌, ◌*◌, ◌%◌, ◌^◌, ◌<◌, ◌≤◌, ◌⊎◌, inl, inr, true, false, nat_le, nat_lt, List, [], ◌∷◌, ◌++◌, length, map, replicate, slice_index, Option, Some, None, refl, ap, sym, ◌∙◌, subst, arith}
 use Rattle.std.specs.Prelude.{slice_get}
 use Rattle.std.specs.List.{list_any}
 use Rattle.std.proofs.lemmas.Option.{get_or_from_slice_get, slice_get_within}
-use Rattle.std.proofs.lemmas.Bool.{and_from, cases_lt, le-leb, lt-leb, or_left, or_parts, or_right}
+use Rattle.std.proofs.lemmas.Bool.{and_from, cases_lt, false_from_ne_true, le-leb, le-ltb, lt-leb, or_left, or_parts, or_right}
 use Rattle.std.proofs.lemmas.Bool.Decides.{nat_tests}
 use Rattle.std.proofs.Math.Seq.{ext_get_or}
 use Rattle.std.proofs.lemmas.List.{get_or-replicate, length-replicate}
@@ -17,9 +17,8 @@ use Rattle.v8_decode.specs.declared.Part.{Part}
 use Rattle.v8_decode.specs.Parts.{every_part, has, is_member, members, set_of}
 use Rattle.v8_decode.proofs.Marks.{same_sets}
 use Rattle.v8_step.specs.State.{State}
-use Rattle.v8_step.specs.Run.{run}
 use Rattle.v8_step.specs.declared.Slot.TheVariants.{NoSlot}
-use Rattle.v8_step.specs.Items.{IsSameAt, StateItem, Register, Codes, YRegister}
+use Rattle.v8_step.specs.Items.{IsSameAt, StateItem, Register}
 use Rattle.two_runs.specs.Needed.{IsUntouched}
 use Rattle.v8_step.specs.Valid.{AreBytes}
 use Rattle.two_runs.specs.Visits.{in_pages, pages_of}
@@ -35,6 +34,7 @@ use Rattle.cfg_normal.specs.Graph.{Graph, node_of}
 use Rattle.cfg_walk.specs.Matches.{AreOpen, BeginsAt, FetchesOnly, JumpsGoByCase}
 use Rattle.cfg_walk.specs.Walk.{Point, end_of_walk, point_of, same_kind}
 use Rattle.liveness.specs.Live.{edge_at, is_call_or_jump, is_outside, is_unknown, named_on}
+use Rattle.cfg_view.proofs.Given.{entry_leads}
 use Rattle.walk_counts.proofs.Fetching.{only_text_is_fetched}
 use Rattle.walk_counts.proofs.Files.{begins, by_case, entry_is, opened}
 use Rattle.jump_slice.specs.Held.{HoldsText}
@@ -47,7 +47,7 @@ use Rattle.code_runs.specs.StoredWords.{memory_word}
 use Rattle.snippet_code.specs.Cells.{cell_at, words_at}
 use Rattle.tool_kit.specs.Plans.{Plan}
 use Rattle.image_code.specs.Fit.{PiecesFit}
-use Rattle.image_code.specs.Simulates.{CaseTable, IsAtWord, Setting, Simulates, is_out, snippet_on}
+use Rattle.image_code.specs.Simulates.{CaseTable, Setting, Simulates, is_out, snippet_on}
 use Rattle.image_code.specs.Images.{AreNoted, Frame, HasCells, Here, IsPlaced, Pieces, visited_by}
 use Rattle.image_code.specs.Parts.{codes_of}
 use Rattle.image_code.specs.Made.{IsOffNoted, IsTableFor, PiecesMakeImages, lands_at, piece_list, pieces_in}
@@ -65,12 +65,12 @@ use Rattle.edit_core.proofs.ByTable.{by_table}
 use Rattle.edit_core.proofs.Completed.{jump_kind, unknown_lives}
 use Rattle.edit_core.proofs.Kept.{keeps_what_lives}
 use Rattle.edit_core.proofs.CodeFetched.{has_code, only_code}
-use Rattle.edit_core.proofs.Entering.{entry_enters, entry_given, entry_outside}
+use Rattle.edit_core.proofs.Entering.{entry_enters, entry_outside}
 use Rattle.edit_core.proofs.Faithful.{word_here}
 use Rattle.edit_core.proofs.Graphs.{copied_inside, graph_cut, graph_is}
 use Rattle.edit_core.proofs.Landings.{map_below}
 use Rattle.edit_core.proofs.Off.{off_here, off_is, ranges_beside}
-use Rattle.edit_core.proofs.Fronts.{any_past, past_fails}
+use Rattle.edit_core.proofs.Fronts.{any_past, passed, past_fails}
 use Rattle.edit_core.proofs.Originals.{image_text}
 use Rattle.edit_core.proofs.Snippets.{cells_in_range, code_short, good_on, snippet_does}
 use Rattle.elf32_sparc.proofs.Images.{accepted-program}
@@ -86,14 +86,8 @@ use Rattle.edit_core.proofs.Whole.{edits_answer}
 all_live_none : (set : List Part) → set_of set ≡ set → ((part : Part) → is_member part ≡ true → has set part ≡ true → ⊥)
     → set ≡ []
 unfolding members every_part
-all_live_none set is none = same_sets set [] is no_set (λ part member. no_part (has set part) (none part member))
-  where
-    no_set : set_of [] ≡ []
-    no_set = refl
-
-    no_part : (b : Bool) → (b ≡ true → ⊥) → b ≡ false
-    no_part true no_true = absurd (no_true refl)
-    no_part false no_true = refl
+all_live_none set is none =
+    same_sets set [] is refl (λ part member. false_from_ne_true (has set part) (none part member))
 
 -- ---- an edit
 
@@ -112,11 +106,8 @@ none_past : (from to a : ℕ) (rs : List NoteRange) → Ascend from to rs → to
 none_past from to a [] ascend past = refl
 none_past from to a (r ∷ rs) ascend past =
     let later = ends_by r.hi to rs ascend.2 in
-    unfound r a (range_in rs a) (omega (arith, later, past)) ∙ none_past r.hi to a rs ascend.2 past
-  where
-    unfound : (r : NoteRange) (a : ℕ) (rest : Option NoteRange) → r.hi ≤ a
-        → cond (nat_le r.lo a && nat_lt a r.hi) (Some r) rest ≡ rest
-    unfound r a rest past = grind (arith, nat_tests)
+    passed (nat_le r.lo a) (nat_lt a r.hi) r (range_in rs a) (le-ltb a r.hi (omega (arith, later, past)))
+    ∙ none_past r.hi to a rs ascend.2 past
 
 -- an address that a page doesn't hold
 beside_page : (segment : NoteSegment) (a : ℕ) → holds a (a + 1) segment ≡ false
@@ -185,12 +176,10 @@ module _ (original : List ℕ) (plan : Plan) (p : Placement) where
         let behind = past_fails (holds a (a + 1)) plan.cells cells_page (table_page ∷ code_page ∷ own_page ∷ []) out in
         let first = or_parts (holds a (a + 1) table_page) (list_any (holds a (a + 1)) (code_page ∷ own_page ∷ [])) behind in
         let second = or_parts (holds a (a + 1) code_page) (list_any (holds a (a + 1)) (own_page ∷ [])) first.1 in
-        ranges_beside text graph tables_from p.ranges a (off_table (beside_page table_page a first.0))
-        ∙ none_beside code_from p a ascend (beside_page code_page a second.0)
-      where
-        off_table : (a < tables_from) ⊎ (tables_from + size ≤ a) → (a < tables_from) ⊎ (tables_from + 4 ≤ a)
-        off_table (inl below) = inl below
-        off_table (inr past) = inr (omega (arith, past))
+        ranges_beside text graph tables_from p.ranges a (elim (beside_page table_page a first.0) [
+          | inl below ↦ inl below
+          | inr past ↦ inr (omega (arith, past))
+        ]) ∙ none_beside code_from p a ascend (beside_page code_page a second.0)
 
     are_noted : Ascend code_from code_end p.ranges → AreNoted (setting original plan dead p) code_from p
     are_noted ascend = record {
@@ -355,7 +344,7 @@ module _ (original : List ℕ) (plan : Plan) (p : Placement) where
 
       -- a routine starts at the entry
       entry_among : is_among (given_of original plan) entry ≡ true
-      entry_among = entry_given (image_of original) plan.marks begins_at.within
+      entry_among = entry_leads (image_of original) plan.marks begins_at.within
 
       abbrev entry_at : Node
       entry_at = node_of graph.blocks (Some entry)
@@ -383,8 +372,7 @@ module _ (original : List ℕ) (plan : Plan) (p : Placement) where
       same_items : (item : StateItem) → IsSameAt item s0 t0
       unfolding start_of
       same_items (Register n) = refl
-      same_items Codes = refl
-      same_items YRegister = refl
+      same_items _ = refl
 
       -- the cells begin as zeros
       cells_begin : words_at cells_from plan.cells t0.memory ≡ replicate plan.cells 0
@@ -408,9 +396,7 @@ module _ (original : List ℕ) (plan : Plan) (p : Placement) where
       entry_unloaded k o some start more e low came =
           let t = table_of its refl k o some in
           let none : 0 + start ≡ 0 = omega (arith, e) in
-          let first : IsAtWord its o (end_of_walk text graph entry s0 0) (point_of s0) (o.load + 0) =
-          subst (λ (n : ℕ). IsAtWord its o (end_of_walk text graph entry s0 n)
-          (point_of (run s0 n)) (o.load + 0)) none (came 0 (omega arith)) in
+          let first = rw none at (came 0 (omega arith)) in
           entry_outside text (given_of original plan) entry text_is entry_among begins_at.within k t.o t.is
           (first.itself ∙ ap (λ (c : CaseTable). Block (record { 0 = c.block })) (sym t.same))
 

@@ -1,5 +1,5 @@
 -- Each piece that is made: if it has a Mark, it begins with it and ends it.
-use Rattle.std.proofs.Common.{◌≡◌, ℕ, zero, suc, ◌+◌, ◌-◌, ◌%◌, ◌^◌, ◌<◌, ◌≤◌, ◌==◌, Option, Some, None, true, cond, List, [], ◌∷◌, ◌++◌, length, length-append, map, refl, arith}
+use Rattle.std.proofs.Common.{◌≡◌, ℕ, zero, suc, ◌+◌, ◌%◌, ◌^◌, ◌<◌, ◌≤◌, ◌==◌, Option, Some, None, true, cond, List, [], ◌∷◌, ◌++◌, length, length-append, map, refl, arith}
 use Rattle.std.specs.Prelude.{nat_lt, slice_get, slice_index}
 use Rattle.std.specs.List.{flat_map, range_with_len}
 use Rattle.std.proofs.lemmas.Bool.{cond_both}
@@ -47,17 +47,21 @@ use Rattle.image_code.specs.Couple.{couple_piece}
 use Rattle.image_code.specs.Imaged.{TakesWords}
 use Rattle.image_code.specs.Graphs.{IsGraphOf}
 use Rattle.image_code.specs.Loads.{load_of}
-use Rattle.image_code.specs.Made.{case_at, case_by, cases_from, choice_of, distance_of, first_word, goes_along, goes_on, image, image_by, images_in_order, images_of, is_slots, jump_by, jump_image_by, jump_to, jumps_at, keep_by, landing, next_at, open_pieces, piece_list, rest_after, way_along, way_by, way_out, ways_from}
+use Rattle.image_code.specs.Made.{case_at, case_by, cases_from, choice_of, distance_of, first_word, goes_along, goes_on, image, image_by, images_of, is_slots, jump_by, jump_image_by, jump_to, jumps_at, keep_by, landing, next_at, open_pieces, piece_list, rest_after, way_along, way_by, way_out, ways_from}
 use Rattle.image_code.specs.Numbered.{enter_number, first_entry, jump_number, node_in_order, or_zero, own_edges, place_in}
 use Rattle.image_code.proofs.OpenBlocks.{IsSwitchIn, text_graph}
-use Rattle.edit_core.proofs.Eaches.{each_taken}
+use Rattle.edit_core.proofs.Eaches.{each_flat, each_taken}
 use Rattle.edit_core.proofs.Graphs.{IsNumber, compares_copied, edges_inside, graph_cut, in_order, number_of}
 
--- a Mark, which covers an item that takes words, and ends in its piece
-pub record IsMark (graph : Graph) (address : Addr) (node : ℕ) (rest : List Item) : Type 0 where
+-- a Mark with a number of a text's word and of a node
+pub record IsVisit (graph : Graph) (address : Addr) (node : ℕ) : Type 0 where
   pub aligned : address.0 % 4 ≡ 0
   pub low : address.0 < 2 ^ 31
   pub inside : IsNumber graph node
+
+-- a Mark, which covers an item that takes words, and ends in its piece
+pub record IsMark (graph : Graph) (address : Addr) (node : ℕ) (rest : List Item) : Type 0 where
+  pub visit : IsVisit graph address node
   pub item : Item
   pub more : List Item
   pub is : rest ≡ item ∷ more
@@ -97,20 +101,12 @@ ends_inside (x ∷ items) n =
 ends_from_one : (items : List Item) → end_from items 1 ≤ suc (length items)
 ends_from_one items = let e = ends_inside items 1 in omega arith
 
--- a Mark with a number of a text's word and of a node
-record IsVisit (graph : Graph) (address : Addr) (node : ℕ) : Type 0 where
-  aligned : address.0 % 4 ≡ 0
-  low : address.0 < 2 ^ 31
-  inside : IsNumber graph node
-
 module _ (graph : Graph) (address : Addr) (node : ℕ) (visit : IsVisit graph address node) where
   marked : (item : Item) (more : List Item) → TakesWords item → NoMarks (item ∷ more)
       → MarksFirst graph (it.Mark address node ∷ item ∷ more)
   marked item more takes none = (
     record {
-      aligned = visit.aligned;
-      low = visit.low;
-      inside = visit.inside;
+      visit = visit;
       item = item;
       more = more;
       is = refl;
@@ -159,11 +155,6 @@ each_from : (P : ℕ → Type 0) (from count to : ℕ) → from + count ≤ to �
     → Each P (range_with_len from count)
 each_from P from zero to l h = tt
 each_from P from (suc n) to l h = (h from (omega arith), each_from P (from + 1) n to (omega arith) h)
-
-each_flat : {A B : Type 0} (P : B → Type 0) (f : A → List B) (xs : List A) → Each (λ x. Each P (f x)) xs
-    → Each P (flat_map f xs)
-each_flat P f [] each = tt
-each_flat P f (x ∷ xs) each = each-append P (f x) (flat_map f xs) each.0 (each_flat P f xs each.1)
 
 module _ (text : Words) (graph : Graph) (table cases : ℕ) (codes : ℕ → List ℕ) (is : IsText text)
     (h : IsGraphOf text graph) where
@@ -337,19 +328,9 @@ module _ (text : Words) (graph : Graph) (table cases : ℕ) (codes : ℕ → Lis
       let below = s.below in
       let some = some_words graph.blocks.words graph.blocks.firsts (graph_cut text graph is h).firsts o.block
       s.block_in in
-      each-append (MarksFirst graph) (images_of text graph table cases codes (copy o.switch.compare.0)
-      (slice_index graph.blocks.firsts o.switch.compare.0) (size_of graph.blocks o.switch.compare.0)
-      ++ images_of text graph table cases codes (block o.block) (slice_index graph.blocks.firsts o.block)
-      (load_of text o - slice_index graph.blocks.firsts o.block))
-      (keep_by (decode_of (slice_index text.words (load_of text o)))
-      ∷ images_of text graph table cases codes (block o.block) (load_of text o)
-      (slice_index graph.blocks.firsts o.block + size_of graph.blocks o.block - load_of text o))
-      (each-append (MarksFirst graph) (images_of text graph table cases codes (copy o.switch.compare.0)
-      (slice_index graph.blocks.firsts o.switch.compare.0) (size_of graph.blocks o.switch.compare.0))
-      (images_of text graph table cases codes (block o.block) (slice_index graph.blocks.firsts o.block)
-      (load_of text o - slice_index graph.blocks.firsts o.block))
-      (images_marked (copy o.switch.compare.0) (s.compare_in, copied) _ _ (block_within o.switch.compare.0
-      s.compare_in)) (images_marked (block o.block) s.block_in _ _ (omega (arith, within, above, below, some)))) (
+      each-append (MarksFirst graph) _ _ (each-append (MarksFirst graph) _ _
+      (images_marked (copy o.switch.compare.0) (s.compare_in, copied) _ _ (block_within o.switch.compare.0 s.compare_in))
+      (images_marked (block o.block) s.block_in _ _ (omega (arith, within, above, below, some)))) (
         unmarked graph (keep_by (decode_of (slice_index text.words (load_of text o))))
             (keep_unmarked (decode_of (slice_index text.words (load_of text o)))),
         images_marked (block o.block) s.block_in _ _ (omega (arith, within, above, below, some)),
@@ -372,31 +353,13 @@ module _ (text : Words) (graph : Graph) (table cases : ℕ) (codes : ℕ → Lis
       → MarksFirst graph (image text graph (jumps_at text table) cases codes (node_in_order graph word) word)
   ordered_marked word l = image_marked (node_in_order graph word) (ordered_in word l) word l
 
-  abbrev ordered : List (List Item)
-  ordered = images_in_order text graph table cases codes
-
-  abbrev ways : List (List Item)
-  ways = ways_from text graph table codes 0 (own_edges graph)
-
-  abbrev landings : List (List Item)
-  landings = map (landing text graph codes) (below (length text.words))
-
-  abbrev opened : List (List Item)
-  opened = flat_map (open_pieces text graph table cases codes) graph.opens
-
-  abbrev chosen : List (List Item)
-  chosen = flat_map (λ (o : Open). cases_from text graph table codes o 0 o.targets) graph.opens
-
   each_own : Each (IsEdgeIn graph.blocks graph.opens) (own_edges graph)
   each_own = each_taken _ _ graph.edges (edges_inside text graph is h)
 
   pub all_marked : Each (MarksFirst graph) (piece_list text graph table cases codes)
   unfolding piece_list
   all_marked =
-      each-append _ (ordered ++ ways ++ landings ++ opened ++ chosen) (foreign_piece ∷ [])
-      (each-append _ (ordered ++ ways ++ landings ++ opened) chosen
-      (each-append _ (ordered ++ ways ++ landings) opened (each-append _ (ordered ++ ways) landings
-      (each-append _ ordered ways
+      each-append _ _ (foreign_piece ∷ []) (each-append _ _ _ (each-append _ _ _ (each-append _ _ _ (each-append _ _ _
       (each-map _ (λ word. image text graph (jumps_at text table) cases codes (node_in_order graph word) word)
       (below (length text.words)) (each-below _ (length text.words) ordered_marked))
       (ways_marked 0 (own_edges graph) each_own)) (each-map _ (landing text graph codes) (below (length text.words))

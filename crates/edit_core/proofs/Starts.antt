@@ -1,5 +1,5 @@
 -- An original and its written file start in valid states, which are the same but for the pages and where they stand.
-use Rattle.std.proofs.Common.{◌≡◌, ℕ, ◌*◌, Bool, true, false, cond, nat_eq, List, [], ◌∷◌, ◌++◌, length, map, refl, ap, sym, ◌∙◌}
+use Rattle.std.proofs.Common.{◌≡◌, ℕ, Bool, true, false, cond, nat_eq, List, [], ◌∷◌, ◌++◌, length, map, refl, ap, sym, ◌∙◌}
 use Rattle.std.specs.Prelude.{bit_and}
 use Rattle.std.proofs.lemmas.Nat.{and_assoc}
 use Rattle.elf32_sparc.specs.Header.{has_flag, program_headers}
@@ -20,12 +20,11 @@ use Rattle.v8_process.proofs.Arguments.{arguments_fit}
 use Rattle.v8_process.proofs.Valid.{mappings_have_room, starts_valid}
 use Rattle.addr_translate.specs.Lookup.{TableAt}
 use Rattle.layout.specs.Laid.{Placement}
-use Rattle.edit_core.specs.Faithful.{editor_page, page_size}
 use Rattle.tool_kit.specs.Plans.{Plan}
-use Rattle.edit_core.specs.Written.{IsEdit, added, cells_at, cells_base, code_base, code_segment, if_any, notes_on, graph_in, page_segment, segment_size, table_at, table_base, text_of}
+use Rattle.edit_core.specs.Written.{IsEdit, added, cells_at, cells_base, code_segment, if_any, notes_on, graph_in, page_segment, table_at, text_of}
+use Rattle.edit_core.proofs.Owned.{cells_span, spans_are}
 use Rattle.edit_core.proofs.Steps.{segment_is}
 use Rattle.edit_core.proofs.Fronts.{any-map}
-use Rattle.notes.specs.Format.{NoteSegment}
 
 -- ---- valid states
 
@@ -58,9 +57,6 @@ all_kept : (ms : List Mapping) → AreSameMappings ms (map kept ms)
 all_kept [] = tt
 all_kept (m ∷ ms) = (same_kept m, all_kept ms)
 
-abbrev span : ℕ → ℕ → Span
-span from count = record { from = from; count = count }
-
 module _ (original : List ℕ) (plan : Plan) (p : Placement) (place : ℕ → ℕ → ℕ) (table : TableAt) (file : List ℕ)
     (is : IsEdit original plan p place table file) where
   -- what is added is what the notes say
@@ -71,19 +67,9 @@ module _ (original : List ℕ) (plan : Plan) (p : Placement) (place : ℕ → �
       (table_at table ∷ code_segment original plan p ∷ page_segment ∷ []))
       ∙ any-map span_of plan.cells (mapping_added (cells_at (cells_base original plan) plan.cells))
       (map mapping_added (table_at table ∷ code_segment original plan p ∷ page_segment ∷ []))
-      ∙ ap (λ (spans : List Span). if_any plan.cells (span (cells_base original plan) (4 * plan.cells)) ++ spans)
+      ∙ ap (λ (spans : List Span). if_any plan.cells (cells_span original plan p) ++ spans)
       (cc (is.code.base, size))
-      ∙ sym (any-map (λ (s : NoteSegment). span s.start s.length) plan.cells
-      (record { start = cells_base original plan; length = 4 * plan.cells }) (record {
-        start = table_base original plan;
-        length = segment_size (text_of original plan) (graph_in original
-            plan);
-      }
-      ∷ record { start = code_base original plan; length = 4 * length p.code }
-      ∷ record { start = editor_page; length = page_size } ∷ []))
-    where
-      behind : List Span
-      behind = span (code_base original plan) (4 * length p.code) ∷ span editor_page page_size ∷ []
+      ∙ sym (spans_are original plan p)
 
   pub memory_alike : (texts : List (List ℕ)) → IsSameOutside (pages_of (notes_on original plan p))
       (start_memory original texts) (start_memory file texts)

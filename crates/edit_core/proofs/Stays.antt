@@ -109,20 +109,15 @@ stays_trap s live number =
 
 stays_act : (s : State) → s.ending ≡ None → (instr : Instr) → StaysAt s.pc (act s instr)
 unfolding act branch_step call_step jump_step load_step store_step ldstub_step swap_step save_step restore_step
-stays_act s live (i.Sethi rd imm22) = λ e. absurd (e live)
 stays_act s live (i.Branch cond annul disp22) =
     stays_couple s live s.slot _ (stays_branched s live (holds_of cond s.codes) (cond == 8) annul _)
 stays_act s live (i.Call disp30) = stays_couple s live s.slot _ (λ e. absurd (e live))
 stays_act s live (i.Alu op cc rd rs1 op2) = stays_alu s live rd _
-stays_act s live (i.ReadY rd) = λ e. absurd (e live)
-stays_act s live (i.WriteY rs1 op2) = λ e. absurd (e live)
 stays_act s live (i.Jmpl rd rs1 op2) =
     stays_couple s live s.slot _
     (stays_if s.pc (sum_of s rs1 op2 % 4 == 0) _ _ (λ e. absurd (e live)) (stays_ended s _))
 stays_act s live (i.Ticc cond rs1 op2) =
     stays_if s.pc (holds_of cond s.codes) _ _ (stays_trap s live (trap_number s rs1 op2)) (λ e. absurd (e live))
-stays_act s live (i.Flush rs1 op2) = λ e. absurd (e live)
-stays_act s live i.Stbar = λ e. absurd (e live)
 stays_act s live (i.Save rd rs1 op2) =
     stays_if s.pc (s.valid == 7) _ _
     (stays_on s live Window (saved_memory s) _ (λ n e. absurd (e live))) (λ e. absurd (e live))
@@ -142,6 +137,7 @@ stays_act s live i.Illegal = stays_ended s _
 stays_act s live i.Privileged = stays_ended s _
 stays_act s live i.FpOff = stays_ended s _
 stays_act s live i.CpOff = stays_ended s _
+stays_act s live _ = λ e. absurd (e live)
 
 -- whatever the word
 pub ended_stays : (s : State) (o : Option ℕ) → s.ending ≡ None → StaysAt s.pc (on_word s o)

@@ -1,8 +1,8 @@
 -- Tables, one behind the other.
-use Rattle.std.proofs.Common.{◌≡◌, ℕ, zero, suc, ◌+◌, ◌-◌, ◌*◌, ◌%◌, ◌^◌, ◌<◌, ◌≤◌, List, [], ◌∷◌, ◌++◌, length, length-append, replicate, take, drop, refl, ap, sym, ◌∙◌, subst, arith}
+use Rattle.std.proofs.Common.{◌≡◌, ℕ, zero, suc, ◌+◌, ◌-◌, ◌*◌, ◌%◌, ◌^◌, ◌<◌, ◌≤◌, List, [], ◌∷◌, ◌++◌, length, length-append, replicate, take, drop, ap, sym, ◌∙◌, subst, arith}
 use Rattle.std.specs.Prelude.{slice_index}
 use Rattle.std.specs.Int.{w32, from_be_bytes}
-use Rattle.std.proofs.lemmas.List.{append_assoc, drop-drop, get_or-map, length-map, length-replicate}
+use Rattle.std.proofs.lemmas.List.{append_assoc, drop-drop, drop-take, get_or-map, length-map, length-replicate, take-take}
 use Rattle.std.proofs.lemmas.Nat.{from_be_bytes-to_be_bytes_4}
 use Rattle.std.proofs.lemmas.Option.{get_or_from_slice_get, slice_get_within}
 use Rattle.std.proofs.Math.Seq.{drop-append_seam, take-append_seam}
@@ -77,22 +77,11 @@ second_word text tables a from to long =
     (let e : size_of text + (a - jumps_at text tables.base) ≡ a - tables.base = omega (arith, from) in e))))
   where
     -- four bytes among the first of some
-    four : (n : ℕ) (xs : List ℕ) → 4 ≤ n → take 4 (take n xs) ≡ take 4 xs
-    four zero xs l = absurd (omega (arith, l))
-    four (suc zero) xs l = absurd (omega (arith, l))
-    four (suc (suc zero)) xs l = absurd (omega (arith, l))
-    four (suc (suc (suc zero))) xs l = absurd (omega (arith, l))
-    four (suc (suc (suc (suc n)))) [] l = refl
-    four (suc (suc (suc (suc n)))) (a ∷ []) l = refl
-    four (suc (suc (suc (suc n)))) (a ∷ b ∷ []) l = refl
-    four (suc (suc (suc (suc n)))) (a ∷ b ∷ c ∷ []) l = refl
-    four (suc (suc (suc (suc n)))) (a ∷ b ∷ c ∷ d ∷ xs) l = refl
-
     taken : (n k : ℕ) (xs : List ℕ) → k + 4 ≤ n → take 4 (drop k (take n xs)) ≡ take 4 (drop k xs)
-    taken n zero xs l = four n xs (omega (arith, l))
-    taken zero (suc k) xs l = absurd (omega (arith, l))
-    taken (suc n) (suc k) [] l = refl
-    taken (suc n) (suc k) (x ∷ xs) l = taken n k xs (omega (arith, l))
+    taken n k xs l =
+        let split : n ≡ k + (n - k) = omega (arith, l) in
+        ap (λ z. take 4 (drop k (take z xs))) split ∙ ap (take 4) (drop-take k (n - k) xs)
+        ∙ take-take 4 (n - k) (drop k xs) (omega (arith, l))
 
 -- and so is one of the last
 pub cases_word : (text : Words) (tables : TableAt) (a : ℕ) → cases_at text tables.base ≤ a

@@ -1,21 +1,15 @@
-use Rattle.std.proofs.Common.{◌≡◌, Some, map, ap, sym, ◌∙◌, arith}
+use Rattle.std.proofs.Common.{◌≡◌, map, ap, ◌∙◌, arith}
 use Rattle.std.specs.List.{count_by}
-use Rattle.std.proofs.lemmas.Option.{slice_get-get_or}
 use Rattle.eel_base.specs.declared.numbers.WordNo.{WordNo}
 use Rattle.cfg_normal.specs.Opens.{Open}
 use Rattle.edit_core.specs.Taken.{is_entry}
-use Rattle.edit_core.proofs.Counting.{sum_more}
+use Rattle.std.proofs.lemmas.List.Sums.{sum_by_more}
 use Rattle.edit_core.proofs.taking.case_counts.Goals as goal
 
 pub loop-found-preserved : goal.loop-found-preserved
 loop-found-preserved c = λ key.
     let graph = c.args.graph.now in
     let x = c.found-item.result in
-    let at = slice_get-get_or c.opens-found-items.result.now c.loop-found.found-index x (omega (
-      arith,
-      c.loop-found-test.true,
-    ))
-    ∙ ap (λ (y : Open). Some y) (sym c.found-item.is) in
     let same : count_by (is_entry graph c.block.result.0 key) (map (λ (w : WordNo). w.0) c.targets.result.now)
     ≡ count_by (is_entry graph x.block key) x.targets =
     ap (λ b. count_by (is_entry graph b key) (map (λ (w : WordNo). w.0) c.targets.result.now)) c.block.ensures
@@ -25,6 +19,7 @@ loop-found-preserved c = λ key.
       c.in_ok-count_entries.ensures key,
       same,
       c.loop-found.invariant key,
-      sum_more (λ (o : Open). count_by (is_entry graph o.block key) o.targets) c.opens-found-items.result.now
-          c.loop-found.found-index x at,
+      sum_by_more (λ (o : Open). count_by (is_entry graph o.block key) o.targets) c.opens-found-items.result.now
+          c.loop-found.found-index x c.loop-found-test.true,
+      ap (λ (o : Open). count_by (is_entry graph o.block key) o.targets) c.found-item.is,
     )
