@@ -10,23 +10,18 @@ use Rattle.elf32_sparc.proofs.Tables.{aligned}
 use Rattle.elf32_write.specs.Headers.{AddedSegment}
 use Rattle.elf32_write.specs.Written.{delta_in, original_end, notes_at}
 use Rattle.elf32_write.specs.Conditions.{CanWrite}
+use Rattle.elf32_write.proofs.Powers.{greatest_above}
 use Rattle.elf32_write.proofs.Segments.{segments_end-from, segments_end-to}
 
-abbrev greatest : ℕ → List ProgramHeader → ℕ
-greatest least headers = fold (λ most header. max most header.p_align) least headers
-
-greatest-from : (headers : List ProgramHeader) (least : ℕ) → least ≤ greatest least headers
-greatest-from [] least = omega arith
-greatest-from (h ∷ headers) least = let later = greatest-from headers (max least h.p_align) in omega arith
-
-greatest-to : (headers : List ProgramHeader) (least : ℕ) → least ≤ 2 ^ 20 → All (λ h. h.p_align ≤ 2 ^ 20) headers → greatest least headers ≤ 2 ^ 20
+greatest-to : (headers : List ProgramHeader) (least : ℕ) → least ≤ 2 ^ 20 → All (λ h. h.p_align ≤ 2 ^ 20) headers
+    → fold (λ most header. max most header.p_align) least headers ≤ 2 ^ 20
 greatest-to [] least small all = small
 greatest-to (h ∷ headers) least small all =
     let here : h.p_align ≤ 2 ^ 20 = all zero h (omega arith) in
     greatest-to headers (max least h.p_align) (omega arith) (λ k d below. all (suc k) d (omega arith))
 
 pub delta-from : (original : List ℕ) → 4096 ≤ delta_in original
-delta-from original = greatest-from (loadable (program_headers original)) 4096
+delta-from original = (greatest_above (loadable (program_headers original)) 4096).0
 
 pub delta-to : (original : List ℕ) (added : List AddedSegment) (notes : List ℕ) → CanWrite original added notes → delta_in original ≤ 2 ^ 20
 delta-to original added notes can =

@@ -1,9 +1,9 @@
 -- Parts of a proof that a written file can be run: what holds of the entries of the original still holds
 -- of them as they are carried on.
-use Rattle.std.proofs.Common.{◌≡◌, ℕ, zero, suc, ◌+◌, ◌%◌, ◌^◌, ◌≤◌, ◌⊎◌, inl, inr, max, Bool, true, false, not, ◌&&◌, ◌||◌, cond, nat_lt, nat_le, nat_eq, List, [], ◌∷◌, ◌++◌, map, Some, None, refl, sym, ap, ◌∙◌, arith, All}
+use Rattle.std.proofs.Common.{◌≡◌, ℕ, zero, suc, ◌+◌, ◌%◌, ◌^◌, ◌≤◌, ◌⊎◌, inl, inr, max, Bool, true, false, not, ◌&&◌, cond, nat_lt, nat_le, nat_eq, List, [], ◌∷◌, ◌++◌, map, Some, None, refl, sym, ap, ◌∙◌, arith, All}
 use Rattle.std.specs.List.{filter, fold, list_any}
 use Rattle.std.specs.Int.{is_power_of_two}
-use Rattle.std.proofs.lemmas.Bool.{or_parts, or_from, or_left, or_right, or_cases, and_parts, and_from, and_left, and_right, and_cases, ltb-false, eqb-true, le-ltb, eq-eqb, not-false, not_from_true}
+use Rattle.std.proofs.lemmas.Bool.{or_parts, or_from, or_left, or_right, or_cases, and_parts, and_from, and_left, and_right, and_cases, cond_both, ltb-false, eqb-true, le-ltb, eq-eqb, not-false, not_from_true}
 use Rattle.std.proofs.lemmas.List.Folds.{list_any-append}
 use Rattle.elf32_sparc.specs.declared.header.ProgramHeader.{ProgramHeader}
 use Rattle.elf32_sparc.specs.declared.fault.FileFault.{FileFault}
@@ -26,17 +26,15 @@ pub any-map : (p q : ProgramHeader → Bool) (f : ProgramHeader → ProgramHeade
 any-map p q f each [] none = refl
 any-map p q f each (h ∷ hs) none =
     let parts = or_parts (p h) (list_any p hs) none in
-    or_from (q (f h)) (list_any q (map f hs)) (each h parts.0) (any-map p q f each hs parts.1)
-
-any-kept : (p : ProgramHeader → Bool) (h : ProgramHeader) (kept : List ProgramHeader) (keep : Bool) → p h ≡ false → list_any p kept ≡ false → list_any p (cond keep (h ∷ kept) kept) ≡ false
-any-kept p h kept true here later = or_from (p h) (list_any p kept) here later
-any-kept p h kept false here later = later
+    or_from _ _ (each h parts.0) (any-map p q f each hs parts.1)
 
 pub any-filter : (p keep : ProgramHeader → Bool) (hs : List ProgramHeader) → list_any p hs ≡ false → list_any p (filter keep hs) ≡ false
 any-filter p keep [] none = refl
 any-filter p keep (h ∷ hs) none =
     let parts = or_parts (p h) (list_any p hs) none in
-    any-kept p h (filter keep hs) (keep h) parts.0 (any-filter p keep hs parts.1)
+    let later = any-filter p keep hs parts.1 in
+    cond_both (keep h) (h ∷ filter keep hs) (filter keep hs) (λ kept. list_any p kept ≡ false)
+    (λ _. or_from _ _ parts.0 later) (λ _. later)
 
 pub any-append : (p : ProgramHeader → Bool) (xs ys : List ProgramHeader) → list_any p xs ≡ false → list_any p ys ≡ false → list_any p (xs ++ ys) ≡ false
 any-append p xs ys first second = list_any-append p xs ys ∙ or_from (list_any p xs) (list_any p ys) first second
@@ -45,22 +43,19 @@ any-append p xs ys first second = list_any-append p xs ys ∙ or_from (list_any 
 
 inside : (delta size new offset filesz : ℕ) → delta + size ≤ new → (nat_lt 0 filesz && nat_lt size (offset + filesz)) ≡ false → (nat_lt 0 filesz && nat_lt new ((offset + delta) % 2 ^ 32 + filesz)) ≡ false
 inside delta size new offset filesz fits none = elim (and_cases (nat_lt 0 filesz) (nat_lt size (offset + filesz)) none) [
-  | inl empty ↦ and_left (nat_lt 0 filesz) (nat_lt new ((offset + delta) % 2 ^ 32 + filesz)) empty
+  | inl empty ↦ and_left _ _ empty
   | inr within ↦
       let e : offset + filesz ≤ size = ltb-false size (offset + filesz) within in
-      and_right (nat_lt 0 filesz) (nat_lt new ((offset + delta) % 2 ^ 32 + filesz)) (le-ltb new ((offset + delta) % 2 ^ 32 + filesz) (omega arith))
+      and_right _ _ (le-ltb new ((offset + delta) % 2 ^ 32 + filesz) (omega arith))
 ]
 
 pub carried-inside : (delta size new : ℕ) → delta + size ≤ new → (h : ProgramHeader) → leaves_file size h ≡ false → leaves_file new (carried_on delta h) ≡ false
 carried-inside delta size new fits h none =
-    let more = nat_lt h.p_memsz h.p_filesz in
-    let was = nat_lt 0 h.p_filesz && nat_lt size (h.p_offset + h.p_filesz) in
-    let is = nat_lt 0 h.p_filesz && nat_lt new ((h.p_offset + delta) % 2 ^ 32 + h.p_filesz) in
-    elim (and_cases (is_load h) (more || was) none) [
-      | inl other ↦ and_left (is_load h) (more || is) other
+    elim (and_cases (is_load h) _ none) [
+      | inl other ↦ and_left (is_load h) _ other
       | inr within ↦
-          let parts = or_parts more was within in
-          and_right (is_load h) (more || is) (or_from more is parts.0 (inside delta size new h.p_offset h.p_filesz fits parts.1))
+          let parts = or_parts (nat_lt h.p_memsz h.p_filesz) _ within in
+          and_right (is_load h) _ (or_from (nat_lt h.p_memsz h.p_filesz) _ parts.0 (inside delta size new h.p_offset h.p_filesz fits parts.1))
     ]
 
 -- Order.
@@ -77,8 +72,7 @@ in_order delta [] added end top below ends order then = then end below
 in_order delta (h ∷ hs) added end top below ends order then =
     let under = or_parts (nat_lt top (end_of h)) (list_any (λ g. nat_lt top (end_of g)) hs) ends in
     let parts = or_parts (nat_lt h.p_vaddr end) (descends_from (end_of h) hs) order in
-    or_from (nat_lt h.p_vaddr end) (descends_from (end_of h) (map (carried_on delta) hs ++ added)) parts.0
-    (in_order delta hs added (end_of h) top (ltb-false top (end_of h) under.0) under.1 parts.1 then)
+    or_from _ _ parts.0 (in_order delta hs added (end_of h) top (ltb-false top (end_of h) under.0) under.1 parts.1 then)
 
 -- Alignment.
 
@@ -96,9 +90,6 @@ aligns_of [] none k d below = absurd (omega arith)
 aligns_of (h ∷ hs) none zero d below = align_of h (not-false (is_aligned h) (or_parts (not (is_aligned h)) (list_any (λ g. not (is_aligned g)) hs) none).0)
 aligns_of (h ∷ hs) none (suc k) d below = aligns_of hs (or_parts (not (is_aligned h)) (list_any (λ g. not (is_aligned g)) hs) none).1 k d (omega arith)
 
-word_power : IsPower (2 ^ 32)
-word_power = (32, refl)
-
 carried-aligned : (delta : ℕ) → IsPower delta → delta ≤ 2 ^ 20 → (h : ProgramHeader) → h.p_align ≤ delta → is_aligned h ≡ true → is_aligned (carried_on delta h) ≡ true
 carried-aligned delta power small h below holds =
     let some = is_power_of_two h.p_align && nat_le h.p_align (2 ^ 20) in
@@ -111,7 +102,7 @@ carried-aligned delta power small h below holds =
           let align : IsPower h.p_align = power_of_two h.p_align (and_parts (is_power_of_two h.p_align) (nat_le h.p_align (2 ^ 20)) parts.0).0 in
           let same : h.p_vaddr % h.p_align ≡ h.p_offset % h.p_align = eqb-true (h.p_vaddr % h.p_align) (h.p_offset % h.p_align) parts.1 in
           let further : (h.p_offset + delta) % 2 ^ 32 % h.p_align ≡ h.p_offset % h.p_align =
-          shifted h.p_align delta h.p_offset (power_divides h.p_align delta align power below) (power_divides h.p_align (2 ^ 32) align word_power (omega arith)) in
+          shifted h.p_align delta h.p_offset (power_divides h.p_align delta align power below) (power_divides h.p_align (2 ^ 32) align (32, refl) (omega arith)) in
           or_right (nat_eq h.p_align 0) (some && is) (and_from some is parts.0 (eq-eqb (h.p_vaddr % h.p_align) ((h.p_offset + delta) % 2 ^ 32 % h.p_align) (same ∙ sym further)))
     ]
 
@@ -119,8 +110,7 @@ pub all-aligned : (delta : ℕ) → IsPower delta → delta ≤ 2 ^ 20 → (hs :
 all-aligned delta power small [] all none = refl
 all-aligned delta power small (h ∷ hs) all none =
     let parts = or_parts (not (is_aligned h)) (list_any (λ g. not (is_aligned g)) hs) none in
-    or_from (not (is_aligned (carried_on delta h))) (list_any (λ g. not (is_aligned g)) (map (carried_on delta) hs))
-    (not_from_true (is_aligned (carried_on delta h)) (carried-aligned delta power small h (all zero h (omega arith)) (not-false (is_aligned h) parts.0)))
+    or_from _ _ (not_from_true (is_aligned (carried_on delta h)) (carried-aligned delta power small h (all zero h (omega arith)) (not-false (is_aligned h) parts.0)))
     (all-aligned delta power small hs (λ k d below. all (suc k) d (omega arith)) parts.1)
 
 -- Memory.

@@ -6,7 +6,7 @@ use Rattle.std.proofs.lemmas.Bool.{or_parts, or_from, and_from, and_left, and_ri
 use Rattle.std.proofs.lemmas.List.{length-map}
 use Rattle.std.proofs.lemmas.List.Sums.{sum_by-cons, length-filter, count_by-le-length}
 use Rattle.elf32_sparc.specs.declared.header.ProgramHeader.{ProgramHeader}
-use Rattle.elf32_sparc.specs.Header.{ei_version, e_version, e_phoff, e_ehsize, e_phentsize, e_phnum, program_headers, is_loadable, loadable, end_of, text_header}
+use Rattle.elf32_sparc.specs.Header.{e_phoff, e_ehsize, e_phentsize, e_phnum, program_headers, is_loadable, loadable, end_of, text_header}
 use Rattle.elf32_sparc.specs.FileFault.{header_rows, load_rows, load_fault, leaves_file, leaves_room, is_last_page, descends_from, is_aligned, is_short, has_other_magic, has_other_class, has_other_order, has_other_version, has_other_type, has_other_machine, has_other_sizes, has_bad_table, has_bytes_outside, has_memory_outside, has_memory_outside_a_run, has_disorder, has_misaligned, memory_size}
 use Rattle.elf32_sparc.specs.Image.{segment_of, segment_end, highest_end, text_from, image_of}
 use Rattle.elf32_sparc.proofs.Accepted.{Accepted, HeaderAccepted, NoneHolds, IsFit, accepted, has_text, text_passes, text_is_fit}
@@ -139,8 +139,7 @@ header_passes original added entry notes new can facts long =
       magic = ap (λ n. not (nat_eq n 0x7f454c46)) facts.magic ∙ ok.header.magic;
       «class» = ap (λ n. not (nat_eq n 1)) facts.file_class ∙ ok.header.«class»;
       order = ap (λ n. not (nat_eq n 2)) facts.order ∙ ok.header.order;
-      version = or_from (not (nat_eq (ei_version new) 1)) (not (nat_eq (e_version new) 1))
-          (ap (λ n. not (nat_eq n 1)) facts.ident_version ∙ (or_parts (not (nat_eq (ei_version original) 1)) (not (nat_eq (e_version original) 1)) ok.header.version).0)
+      version = or_from _ _ (ap (λ n. not (nat_eq n 1)) facts.ident_version ∙ (or_parts _ _ ok.header.version).0)
           (ap (λ n. not (nat_eq n 1)) facts.version);
       kind = ap (λ n. not (nat_eq n 2)) facts.kind;
       machine = ap (λ n. not (nat_eq n 2)) facts.machine;

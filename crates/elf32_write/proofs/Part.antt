@@ -1,8 +1,8 @@
 -- A part of a file, by its place, and the fields that are read in it.
-use Rattle.std.proofs.Common.{◌≡◌, ℕ, ◌+◌, ◌^◌, ◌<◌, ◌≤◌, List, [], ◌++◌, length, take, drop, Some, refl, sym, ap, ◌∙◌, append_assoc, append-nil, length-append, arith}
+use Rattle.std.proofs.Common.{◌≡◌, ℕ, ◌+◌, ◌^◌, ◌<◌, List, [], ◌++◌, length, take, drop, Some, refl, sym, ap, ◌∙◌, append_assoc, append-nil, length-append, arith}
 use Rattle.std.proofs.lemmas.Bool.{le-leb}
 use Rattle.std.proofs.lemmas.List.{take_at, drop_at}
-use Rattle.byteorder.specs.Endian.{big_bytes, big_number}
+use Rattle.byteorder.specs.Endian.{big_bytes}
 use Rattle.byteorder.specs.Numbers.{big_number-reads_back, length-bytes_high_first}
 use Rattle.eel_base.specs.Fields.{be_field}
 use Rattle.elf32_sparc.specs.Header.{word_at, half_at}
@@ -58,16 +58,15 @@ length_part file at part p =
     omega (arith, whole, end, there)
 
 -- a field
-field_there : (n : ℕ) (bytes : List ℕ) (at : ℕ) → at + n ≤ length bytes → be_field n bytes at ≡ Some (big_number n (drop at bytes))
-field_there n bytes at fits = rw (le-leb (at + n) (length bytes) fits) refl
-
 pub field_part : (n : ℕ) (file : List ℕ) (at x : ℕ) → x < 256 ^ n → Part file at (big_bytes n x) → be_field n file at ≡ Some x
 field_part n file at x fits p =
     let size = length-bytes_high_first n x in
     let whole = length_part file at (big_bytes n x) p in
-    field_there n file at (omega arith)
-    ∙ ap (λ z. Some (big_number n z)) (drop_part file at (big_bytes n x) p)
-    ∙ ap (λ z. Some z) (big_number-reads_back n x p.after fits)
+    rw (
+      le-leb (at + n) (length file) (omega arith),
+      drop_part file at (big_bytes n x) p,
+      big_number-reads_back n x p.after fits,
+    ) refl
 
 pub word_part : (file : List ℕ) (at x : ℕ) → x < 2 ^ 32 → Part file at (big_bytes 4 x) → word_at file at ≡ x
 unfolding word_at

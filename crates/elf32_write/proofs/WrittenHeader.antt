@@ -169,46 +169,6 @@ header_parts original added entry notes whole file p =
     (length-halves_bytes (52 ∷ 32 ∷ length (segment_headers original added) ∷ 40 ∷ section_count original ∷ section_names original ∷ []))
     p
 
-record Kinds (file : List ℕ) : Type 0 where
-  kind : half_at file 16 ≡ 2
-  machine : half_at file 18 ≡ 2
-
-kinds_read : (file : List ℕ) → Part file 16 (halves_bytes (2 ∷ 2 ∷ [])) → Kinds file
-kinds_read file p = record {
-  kind = half_first file 16 2 (2 ∷ []) (omega arith) p;
-  machine = half_first file 18 2 [] (omega arith) (halves_rest file 16 18 2 (2 ∷ []) (omega arith) p);
-}
-
-record Versions (file : List ℕ) (e : ℕ) : Type 0 where
-  version : word_at file 20 ≡ 1
-  entry : word_at file 24 ≡ e
-  table : word_at file 28 ≡ 52
-
-versions_read : (file : List ℕ) (entry : ℕ) (ws : List ℕ) → entry < 2 ^ 32 → Part file 20 (words_bytes (1 ∷ entry ∷ 52 ∷ ws)) → Versions file entry
-versions_read file entry ws fits p =
-    let p2 = words_rest file 20 24 1 (entry ∷ 52 ∷ ws) (omega arith) p in
-    let p3 = words_rest file 24 28 entry (52 ∷ ws) (omega arith) p2 in
-    record {
-      version = word_first file 20 1 (entry ∷ 52 ∷ ws) (omega arith) p;
-      entry = word_first file 24 entry (52 ∷ ws) fits p2;
-      table = word_first file 28 52 ws (omega arith) p3;
-    }
-
-record Sizes (file : List ℕ) (e : ℕ) : Type 0 where
-  header_size : half_at file 40 ≡ 52
-  entry_size : half_at file 42 ≡ 32
-  entries : half_at file 44 ≡ e
-
-sizes_read : (file : List ℕ) (entries : ℕ) (hs : List ℕ) → entries < 2 ^ 16 → Part file 40 (halves_bytes (52 ∷ 32 ∷ entries ∷ hs)) → Sizes file entries
-sizes_read file entries hs fits p =
-    let p2 = halves_rest file 40 42 52 (32 ∷ entries ∷ hs) (omega arith) p in
-    let p3 = halves_rest file 42 44 32 (entries ∷ hs) (omega arith) p2 in
-    record {
-      header_size = half_first file 40 52 (32 ∷ entries ∷ hs) (omega arith) p;
-      entry_size = half_first file 42 32 (entries ∷ hs) (omega arith) p2;
-      entries = half_first file 44 entries hs fits p3;
-    }
-
 -- What the header says, where the entry is a word.
 
 pub record HeaderFacts (original : List ℕ) (added : List AddedSegment) (entry : ℕ) (file : List ℕ) : Type 0 where
@@ -236,22 +196,23 @@ header_facts original added entry notes can below =
     let long = notes-beyond original added in
     let whole = s.whole in
     let ident : take 16 file ≡ take 16 original = take_part file 0 16 (take 16 original) (length-take-le 16 original (omega (arith, old))) parts.ident in
-    let kinds = kinds_read file parts.kinds in
-    let versions = versions_read file entry (sections_at original added notes ∷ word_at original 36 ∷ []) below parts.words in
-    let sizes = sizes_read file (length (segment_headers original added)) (40 ∷ section_count original ∷ section_names original ∷ []) (omega (arith, few)) parts.sizes in
+    let words2 = words_rest file 20 24 1 _ (omega arith) parts.words in
+    let words3 = words_rest file 24 28 entry _ (omega arith) words2 in
+    let sizes2 = halves_rest file 40 42 52 _ (omega arith) parts.sizes in
+    let sizes3 = halves_rest file 42 44 32 _ (omega arith) sizes2 in
     record {
       magic = same_magic file original (omega (arith, long, whole)) (omega (arith, old)) ident;
       file_class = same_byte file original 4 (omega arith) ident;
       order = same_byte file original 5 (omega arith) ident;
       ident_version = same_byte file original 6 (omega arith) ident;
-      kind = kinds.kind;
-      machine = kinds.machine;
-      version = versions.version;
-      start = versions.entry;
-      table = versions.table;
-      header_size = sizes.header_size;
-      entry_size = sizes.entry_size;
-      entries = sizes.entries;
+      kind = half_first file 16 2 _ (omega arith) parts.kinds;
+      machine = half_first file 18 2 _ (omega arith) (halves_rest file 16 18 2 _ (omega arith) parts.kinds);
+      version = word_first file 20 1 _ (omega arith) parts.words;
+      start = word_first file 24 entry _ below words2;
+      table = word_first file 28 52 _ (omega arith) words3;
+      header_size = half_first file 40 52 _ (omega arith) parts.sizes;
+      entry_size = half_first file 42 32 _ (omega arith) sizes2;
+      entries = half_first file 44 (length (segment_headers original added)) _ (omega (arith, few)) sizes3;
     }
 
 -- the program headers are those that were written, where their fields are words
