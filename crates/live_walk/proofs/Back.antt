@@ -153,12 +153,6 @@ module _ (text : Words) (given : List ℕ) (opens : List Open) (entry : ℕ) (s0
   abbrev LivesAt : ℕ → Part → Type 0
   LivesAt k p = (q : Point) × IsPoint text graph (node_at k) (at k) q × Lives q p
 
-  abbrev Fetched : ℕ → Type 0
-  Fetched k = (word : ℕ) × (fetch_of (at k).memory (at k).pc ≡ Some word)
-
-  fetched_at : (k : ℕ) → (at k).ending ≡ None → (at (suc k)).ending ≡ None → Fetched k
-  fetched_at k live after = went (at k) live after
-
   not_written : (k word : ℕ) → (at k).ending ≡ None → fetch_of (at k).memory (at k).pc ≡ Some word → (p : Part)
       → ¬ Writes (at k) (item_of (at k).window p) → has (write_set (decode_of word)) p ≡ false
   not_written k word live fetched p h = unwritten (at k).window (decode_of word) p (λ a. h (rw live (rw fetched a)))
@@ -181,7 +175,7 @@ module _ (text : Words) (given : List ℕ) (opens : List Open) (entry : ℕ) (s0
       → ((word : ℕ) (st : Standing k word) → fetch_of (at k).memory (at k).pc ≡ Some word → (at (suc k)).window
       ≡ (at k).window → Lives st.point p) → LivesAt k p
   live_if k p m live after rest =
-      let f = fetched_at k live after in
+      let f = went (at k) live after in
       let st = standing k f.0 live f.1 in
       (st.point, st.is_point, by f.0 f.1 st (reads_all (decode_of f.0)) refl)
     where
@@ -245,7 +239,7 @@ module _ (text : Words) (given : List ℕ) (opens : List Open) (entry : ℕ) (s0
   behind_last k e front p m h l =
       let after = goes_last k e front h in
       let live = live_before (at k) after in
-      let f = fetched_at k live after in
+      let f = went (at k) live after in
       let st = standing k f.0 live f.1 in
       left_on text graph named p m st.point _ _ front e (trip_at k live after st.point st.is_point) h l.0 l.1 l.2
 
