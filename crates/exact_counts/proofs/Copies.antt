@@ -2,7 +2,7 @@
 use Rattle.std.proofs.Common.{◌≡◌, ℕ, zero, suc, ◌+◌, ◌-◌, ◌*◌, ◌<◌, ◌≤◌, Bool, true, false, ◌||◌, ◌==◌, cond, List, [], ◌∷◌, ◌++◌, append-nil, length, map, Some, refl, ap, sym, ◌∙◌, arith}
 use Rattle.std.specs.Prelude.{if◌then◌else◌, slice_index}
 use Rattle.std.specs.List.{count_by, filter, flat_map, list_any, range_with_len, sum_by}
-use Rattle.std.proofs.lemmas.Bool.{cond_both, eq-eqb, false≢true, or_parts}
+use Rattle.std.proofs.lemmas.Bool.{cond_both, eq-eqb, false≢true, or_parts, false_from_ne_true}
 use Rattle.std.proofs.lemmas.Grind.{flat_map-append}
 use Rattle.std.proofs.lemmas.List.{length-map}
 use Rattle.std.proofs.lemmas.List.Folds.{list_any-append}
@@ -161,12 +161,8 @@ module _ (to : ℕ → Node) where
 -- ---- the nodes to which a jump goes stand once
 
 same_turned : (one other : Node) → same_node one other ≡ false → same_node other one ≡ false
-same_turned one other e = by (same_node other one) refl
-  where
-    by : (b : Bool) → same_node other one ≡ b → same_node other one ≡ false
-    by false f = f
-    by true f =
-        absurd (false≢true (sym e ∙ ap (λ (n : Node). same_node one n) (same_nodes other one f) ∙ same_itself one))
+same_turned one other e = false_from_ne_true (same_node other one) (λ f.
+    false≢true (sym e ∙ ap (λ (n : Node). same_node one n) (same_nodes other one f) ∙ same_itself one))
 
 apart_behind : (node : Node) (seen : List Node) → AreApart seen → list_any (same_node node) seen ≡ false
     → AreApart (seen ++ node ∷ [])

@@ -160,15 +160,13 @@ module _ (version : ℕ) where
   none_or_counter next ([] ∷ snips) (suc e) are = none_or_counter next snips e are
   none_or_counter next ((op ∷ []) ∷ snips) zero are =
       inr (record { cell = next; from = omega arith; is = ap (λ (o : Op). o ∷ []) are.0 })
-  none_or_counter next ((op ∷ []) ∷ snips) (suc e) are = later (none_or_counter (cells_end op) snips e are.1)
-    where
-      later : (snippet_on snips e ≡ []) ⊎ IsCounterFrom (cells_end op) (snippet_on snips e)
-          → (snippet_on snips e ≡ []) ⊎ IsCounterFrom next (snippet_on snips e)
-      later (inl none) = inl none
-      later (inr some) =
-          let from = some.from in
-          let end = end_of_first next op are.0 in
-          inr (record { cell = some.cell; from = omega (arith, from, end); is = some.is })
+  none_or_counter next ((op ∷ []) ∷ snips) (suc e) are = elim (none_or_counter (cells_end op) snips e are.1) [
+    | inl none ↦ inl none
+    | inr some ↦
+        let from = some.from in
+        let end = end_of_first next op are.0 in
+        inr (record { cell = some.cell; from = omega (arith, from, end); is = some.is })
+  ]
   none_or_counter next ((op ∷ other ∷ ops) ∷ snips) e are = absurd are
 
   same_op : (a b : Op) → a ∷ [] ≡ b ∷ [] → a ≡ b
@@ -185,14 +183,10 @@ module _ (version : ℕ) where
   -- a counter among those from `next` on
   not_below : (next : ℕ) (snips : List (List Op)) (e cell : ℕ) → AreCounters version next snips
       → snippet_on snips e ≡ counter cell → next ≤ cell
-  not_below next snips e cell are is = by (none_or_counter next snips e are)
-    where
-      by : (snippet_on snips e ≡ []) ⊎ IsCounterFrom next (snippet_on snips e) → next ≤ cell
-      by (inl none) = absurd (not_empty cell (sym none ∙ is))
-      by (inr some) =
-          let same = same_cell some.cell cell (sym some.is ∙ is) in
-          let from = some.from in
-          omega (arith, same, from)
+  not_below next snips e cell are is = elim (none_or_counter next snips e are) [
+    | inl none ↦ absurd (not_empty cell (sym none ∙ is))
+    | inr some ↦ omega (arith, same_cell some.cell cell (sym some.is ∙ is), some.from)
+  ]
 
   -- the cells of two edges' counters are apart
   abbrev AreApart : ℕ → ℕ → Type 0
@@ -229,13 +223,12 @@ module _ (version : ℕ) where
   -- a counter's cells are some of them
   cells_below : (cells : ℕ) (snips : List (List Op)) (e cell : ℕ) → All (WorksBelow cells) snips
       → snippet_on snips e ≡ counter cell → cell + width ≤ cells
-  cells_below cells snips e cell below is = by (cases_lt e (length snips))
-    where
-      by : (e < length snips) ⊎ (length snips ≤ e) → cell + width ≤ cells
-      by (inl inside) =
-          let works : WorksBelow cells (counter cell) = subst (WorksBelow cells) is (below e [] inside) in
-          ends_by is_narrow cells cell (works 0 (Add 0 0) (omega arith))
-      by (inr past) = absurd (not_empty cell (sym (get_or_past snips e [] past) ∙ is))
+  cells_below cells snips e cell below is = elim (cases_lt e (length snips)) [
+    | inl inside ↦
+        let works : WorksBelow cells (counter cell) = subst (WorksBelow cells) is (below e [] inside) in
+        ends_by is_narrow cells cell (works 0 (Add 0 0) (omega arith))
+    | inr past ↦ absurd (not_empty cell (sym (get_or_past snips e [] past) ∙ is))
+  ]
 
 -- ---- how many cells there are
 
@@ -303,12 +296,10 @@ module _ (version : ℕ) (snips : List (List Op)) (are : AreCounters version 0 s
           ∙ ap (λ k. (value cells + k) % limit) (sym (ap (λ b. cond b 1 0) (eq-eqb e h same)))
       in_cell c at (inr beside) =
           ap (λ ops. value (update registers ops cells)) at
-          ∙ leaves_other (is_narrow version) registers cells c cell (cells_apart (apart version 0 snips h e c cell are at is))
-          ∙ kept beside
-        where
-          cells_apart : (h ≡ e) ⊎ AreApart version c cell → AreApart version c cell
-          cells_apart (inl same) = absurd (beside (sym same))
-          cells_apart (inr far) = far
+          ∙ leaves_other (is_narrow version) registers cells c cell (elim (apart version 0 snips h e c cell are at is) [
+            | inl same ↦ absurd (beside (sym same))
+            | inr far ↦ far
+          ]) ∙ kept beside
 
       by : (snippet_on snips h ≡ []) ⊎ IsCounterFrom version 0 (snippet_on snips h)
           → value (update registers (snippet_on snips h) cells) ≡ (value cells + once h) % limit

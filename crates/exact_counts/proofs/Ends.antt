@@ -6,6 +6,7 @@ use Rattle.v8_step.specs.State.{State}
 use Rattle.v8_step.specs.Run.{run}
 use Rattle.two_runs.specs.TwoRuns.{GoesOn}
 use Rattle.two_runs.specs.Visits.{trail_of}
+use Rattle.jump_slice.proofs.Steps.{lived_to}
 use Rattle.image_code.specs.Simulates.{Setting}
 use Rattle.edit_core.specs.RunsAlike.{IsAnswered}
 use Rattle.edit_core.proofs.Trails.{ending, few_visits, going, longer, none_over, over_or_not, own_live, quiet_more, stays, visit_more}
@@ -14,18 +15,10 @@ use Rattle.exact_counts.specs.Stops.{EndedRunsTell, EndsWithStep, visits_by}
 -- two moments at which it has
 both_over : (s : State) (m k : ℕ) (d c : Ending) → (run s m).ending ≡ Some d → (run s k).ending ≡ Some c
     → run s m ≡ run s k
-both_over s m k d c over ended = by (cases_lt m k)
-  where
-    by : (m < k) ⊎ (k ≤ m) → run s m ≡ run s k
-    by (inl below) = sym (stays s m k d (omega (arith, below)) over)
-    by (inr above) = stays s k m c above ended
-
-lives_until : (s : State) (n m : ℕ) → n ≤ m → (run s m).ending ≡ None → (run s n).ending ≡ None
-lives_until s n m below live = by (over_or_not (run s n).ending)
-  where
-    by : ((run s n).ending ≡ None) ⊎ ((d : Ending) × ((run s n).ending ≡ Some d)) → (run s n).ending ≡ None
-    by (inl is) = is
-    by (inr (d, over)) = ap (λ (t : State). t.ending) (sym (stays s n m d below over)) ∙ live
+both_over s m k d c over ended = elim (cases_lt m k) [
+  | inl below ↦ sym (stays s m k d (omega (arith, below)) over)
+  | inr above ↦ stays s k m c above ended
+]
 
 module _ (g : Setting) (entry : ℕ) (s0 t0 : State) (m : ℕ) (d : Ending)
     (over : (run t0 m).ending ≡ Some d) where
@@ -75,7 +68,7 @@ ended_runs_tell g bound entry s0 t0 m begins alike h = by (over_or_not (run t0 m
         record {
           some = stop.some placed;
           few = omega (arith, few, last);
-          before = λ n below. lives_until s0 n (visits_by g.notes t0 m - 1) (omega (arith, below)) (stop.lives placed);
+          before = λ n below. lived_to s0 n (visits_by g.notes t0 m - 1) (omega (arith, below)) (stop.lives placed);
           ending = ends_alike g entry s0 t0 m d over (alike.answered (visits_by g.notes t0 m) h.untouched)
               (run s0 (visits_by g.notes t0 m)).ending refl;
           cells = told.cells;

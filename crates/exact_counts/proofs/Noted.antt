@@ -3,7 +3,7 @@ use Rattle.std.proofs.Common.{◌≡◌, ℕ, zero, suc, ◌+◌, ◌-◌, ◌*�
 use Rattle.std.specs.Prelude.{◌==◌, if◌then◌else◌, IsTrue, ℤ, pos, ◌+ℤ◌}
 use Rattle.std.specs.Option.{is_some}
 use Rattle.std.specs.List.{AllByRecursion, list_any}
-use Rattle.std.proofs.lemmas.Bool.{cases_lt, eq-eqb, eqb-true, false≢true, le-leb, le-ltb, lt-leb, lt-ltb, or_left, or_right}
+use Rattle.std.proofs.lemmas.Bool.{cases_lt, eq-eqb, eqb-true, false≢true, le-leb, le-ltb, lt-leb, lt-ltb, or_left, or_right, false_from_ne_true}
 use Rattle.notes.specs.Format.{NoteEdge, NoteRange, Notes}
 use Rattle.flows.specs.Flows.{EdgeSet, NodeSet, Graph as PlainGraph, IsFlow, count_below, one_at, rest, total}
 use Rattle.flows.specs.Trees.{IsSpanningTree}
@@ -156,11 +156,8 @@ module _ (graph : Graph) (snips : List (List Op)) (notes : Notes) (are : AreNote
   module _ (inside : Each (IsEdgeIn graph.blocks graph.opens) graph.edges) (v : ℕ)
       (none : is_node graph v ≡ false) where
     other_number : (number : ℕ) → is_node graph number ≡ true → (number == v) ≡ false
-    other_number number there = by (number == v) refl
-      where
-        by : (b : Bool) → (number == v) ≡ b → (number == v) ≡ false
-        by true e = absurd (false≢true (sym none ∙ ap (is_node graph) (sym (eqb-true number v e)) ∙ there))
-        by false e = e
+    other_number number there = false_from_ne_true (number == v) (λ e.
+        false≢true (sym none ∙ ap (is_node graph) (sym (eqb-true number v e)) ∙ there))
 
     other_node : (node : Node) → IsNodeIn graph.blocks graph.opens node → (node_number graph node == v) ≡ false
     other_node node there = other_number (node_number graph node) (numbered graph node there)

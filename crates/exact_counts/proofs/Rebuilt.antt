@@ -3,7 +3,7 @@ use Rattle.std.proofs.Common.{◌≡◌, ◌≢◌, ℕ, ◌^◌, ◌<◌, ◌�
 use Rattle.std.specs.Prelude.{◌==◌, ℤ, pos}
 use Rattle.std.specs.List.{All}
 use Rattle.std.specs.Option.{is_some}
-use Rattle.std.proofs.lemmas.Bool.{leb-true}
+use Rattle.std.proofs.lemmas.Bool.{false≢true, leb-true}
 use Rattle.std.proofs.lemmas.List.FromFn.{length-map-range_with_len}
 use Rattle.notes.specs.Format.{NoteEdge, node_at}
 use Rattle.v8_step.specs.declared.Ending.{Ending}
@@ -51,15 +51,6 @@ pub record StandsBehind (g : Setting) (entry : ℕ) (s0 t0 : State) (m n : ℕ) 
   pub tells : node_at g.notes (run t0 m).pc ≢ None → TellsStep g entry s0 t0 m n
   pub placed : (run t0 m).ending ≢ None → node_at g.notes (run t0 m).pc ≢ None
 
-same_number : (a b : ℕ) → pos a ≡ pos b → a ≡ b
-same_number a b e = cc
-
-same_some : (a b : ℕ) → Some a ≡ Some b → a ≡ b
-same_some a b e = cc
-
-not_none : (a : ℕ) → Some a ≡ None → ⊥
-not_none a e = cc
-
 module _ (g : Setting) (entry : ℕ) (s0 t0 : State) (m n : ℕ) (is : StandsBehind g entry s0 t0 m n) where
   abbrev dump : Dump
   dump = dump_at g.notes t0 m
@@ -93,13 +84,10 @@ module _ (g : Setting) (entry : ℕ) (s0 t0 : State) (m n : ℕ) (is : StandsBeh
       noted = ap (λ (edge : NoteEdge). edge.cell)
           (edge_is (graph_in g) g.snips g.notes is.are e (omega (arith, edges, l)))
 
-      none_has : false ≡ true → ⊥
-      none_has e = cc
-
       by : (snippet_on g.snips e ≡ []) ⊎ IsCounterFrom version 0 (snippet_on g.snips e)
           → cell_counts g.notes dump e ≡ pos (made_in g entry s0 n e)
       by (inl none) =
-          absurd (none_has (sym (ap (λ o. is_some o) (noted ∙ ap (cell_noted tools.Profile) none)) ∙ has))
+          absurd (false≢true (sym (ap (λ o. is_some o) (noted ∙ ap (cell_noted tools.Profile) none)) ∙ has))
       by (inr some) =
           ap (cell_value version dump.cells)
           (noted ∙ ap (cell_noted tools.Profile) some.is ∙ ap Some (counter_cell version some.cell))
@@ -109,9 +97,8 @@ module _ (g : Setting) (entry : ℕ) (s0 t0 : State) (m n : ℕ) (is : StandsBeh
   flow_tells : (node : ℕ) (flow : ℕ → ℤ) → StandsAt g.notes dump node → IsFlowTo g.notes dump node flow → (e : ℕ)
       → e < length g.notes.edges → flow e ≡ pos (made_in g entry s0 n e)
   flow_tells node flow stands h e l =
-      let told = is.tells (λ none. not_none node (sym stands.at ∙ none)) in
-      let same : node_in g entry s0 n ≡ node =
-      same_some (node_in g entry s0 n) node (sym told.node ∙ stands.at) in
+      let told = is.tells (λ none. absurd (cc (stands.at, none))) in
+      let same : node_in g entry s0 n ≡ node = cc (told.node, stands.at) in
       h.only (λ e. pos (made_in g entry s0 n e))
       (subst (λ (b : ℕ). IsFlow (noted_graph g.notes) g.notes.entry b (λ e. pos (made_in g entry s0 n e))) same
       is.flow)
@@ -120,8 +107,7 @@ module _ (g : Setting) (entry : ℕ) (s0 t0 : State) (m n : ℕ) (is : StandsBeh
   pub counts_tell : (counts : List ℕ) → AreCounts g.notes dump counts → (e : ℕ) → e < length g.notes.edges
       → slice_index counts e ≡ made_in g entry s0 n e
   counts_tell counts h e l =
-      same_number (slice_index counts e) (made_in g entry s0 n e)
-      (flow_tells h.node (λ e. pos (slice_index counts e)) h.stands h.flow e l)
+      cc (flow_tells h.node (λ e. pos (slice_index counts e)) h.stands h.flow e l)
 
   negative_not : (value : ℤ) (k : ℕ) → value ≡ pos k → is_negative value ≡ true → ⊥
   negative_not value k e negative = let no : is_negative value ≡ false = ap is_negative e in cc (no, negative)

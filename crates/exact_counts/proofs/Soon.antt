@@ -1,5 +1,5 @@
 -- A profile's runs end soon after the original's.
-use Rattle.std.proofs.Common.{◌≡◌, ℕ, zero, suc, ◌+◌, ◌*◌, ◌≤◌, ◌⊎◌, inl, inr, List, [], ◌∷◌, length, Some, None, ap, sym, ◌∙◌, arith}
+use Rattle.std.proofs.Common.{◌≡◌, ℕ, zero, suc, ◌+◌, ◌*◌, ◌≤◌, inl, inr, List, [], ◌∷◌, length, Some, ap, ◌∙◌, arith}
 use Rattle.notes.specs.Format.{Notes}
 use Rattle.v8_step.specs.declared.Ending.{Ending}
 use Rattle.v8_step.specs.State.{State}
@@ -11,7 +11,7 @@ use Rattle.tool_kit.specs.Plans.{AreCounters}
 use Rattle.image_code.specs.Simulates.{Setting, graph_in, limit_on, operations_on, snippet_on}
 use Rattle.edit_core.specs.RunsAlike.{AreRunsAlike}
 use Rattle.exact_counts.specs.Sizes.{HasEndedBy, ProfilesEndSoon}
-use Rattle.exact_counts.proofs.Counters.{IsCounterFrom, none_or_counter}
+use Rattle.exact_counts.proofs.Counters.{none_or_counter}
 use Rattle.edit_core.proofs.Trails.{over_or_not, ending}
 use Rattle.exact_counts.proofs.Gone.{step_few}
 
@@ -25,12 +25,10 @@ fewer notes s0 k n below h = record {
 
 module _ (version : ℕ) (g : Setting) (are : AreCounters version 0 g.snips) where
   one_operation : (e : ℕ) → length (snippet_on g.snips e) ≤ 1
-  one_operation e = by (none_or_counter version 0 g.snips e are)
-    where
-      by : (snippet_on g.snips e ≡ []) ⊎ IsCounterFrom version 0 (snippet_on g.snips e)
-          → length (snippet_on g.snips e) ≤ 1
-      by (inl none) = let size : length (snippet_on g.snips e) ≡ 0 = ap length none in omega (arith, size)
-      by (inr some) = let size : length (snippet_on g.snips e) ≡ 1 = ap length some.is in omega (arith, size)
+  one_operation e = elim (none_or_counter version 0 g.snips e are) [
+    | inl none ↦ let size : length (snippet_on g.snips e) ≡ 0 = ap length none in omega (arith, size)
+    | inr some ↦ let size : length (snippet_on g.snips e) ≡ 1 = ap length some.is in omega (arith, size)
+  ]
 
   few_operations : (es : List ℕ) → operations_on g.snips es ≤ length es
   few_operations [] = omega arith
@@ -72,15 +70,11 @@ module _ (version : ℕ) (g : Setting) (are : AreCounters version 0 g.snips) whe
         record {
           steps = a.moment;
           few = moments n untouched;
-          ended = λ none. has_none d (sym same ∙ none);
+          ended = λ none. absurd (cc);
         }
-      where
-        has_none : (d : Ending) → Some d ≡ None → ⊥
-        has_none d e = cc
 
 pub profiles_end_soon : ProfilesEndSoon
-profiles_end_soon version g bound entry s0 t0 n are alike ended untouched = by (over_or_not (run s0 n).ending)
-  where
-    by : ((run s0 n).ending ≡ None) ⊎ ((d : Ending) × ((run s0 n).ending ≡ Some d)) → HasEndedBy t0 (64 + 128 * n)
-    by (inl live) = absurd (ended live)
-    by (inr (d, over)) = ends_by version g are bound entry s0 t0 alike n d over untouched
+profiles_end_soon version g bound entry s0 t0 n are alike ended untouched = elim (over_or_not (run s0 n).ending) [
+  | inl live ↦ absurd (ended live)
+  | inr over ↦ ends_by version g are bound entry s0 t0 alike n over.0 over.1 untouched
+]
