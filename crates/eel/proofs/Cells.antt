@@ -31,7 +31,7 @@ use Rattle.v8_step.specs.Judged.{judged_by}
 use Rattle.v8_process.specs.Start.{program_name, stack_region, start_memory, start_of}
 use Rattle.code_runs.specs.StoredWords.{CanLoad, memory_word, word_in}
 use Rattle.v8_step.proofs.KeptOutside.{kept_act}
-use Rattle.code_runs.proofs.Stays.{shape}
+use Rattle.code_runs.proofs.StoredWords.{shape}
 use Rattle.snippet_code.specs.Cells.{cell_at, words_at}
 use Rattle.notes.specs.Rules.{AreNotes}
 use Rattle.edit_core.specs.Faithful.{holds_cells}
