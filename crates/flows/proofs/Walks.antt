@@ -1,10 +1,14 @@
 -- How often a walk takes each edge is a flow.
-use Rattle.std.proofs.Common.{◌≡◌, ℕ, ◌<◌, List, [], ◌∷◌, arith}
+use Rattle.std.proofs.Common.{◌≡◌, ℕ, ◌+◌, ◌<◌, List, [], ◌∷◌, ◌++◌, arith}
 use Rattle.std.specs.Prelude.{pos, ◌+ℤ◌, ◌==◌, if◌then◌else◌}
 use Rattle.std.proofs.lemmas.Int.{ints}
 use Rattle.flows.specs.Flows.{Graph, total, one_at, IsFlow}
 use Rattle.flows.specs.Walks.{IsWalk, times}
 use Rattle.flows.proofs.Sums.{total_zero, total_change}
+
+pub times-append : (es more : List ℕ) (e : ℕ) → times (es ++ more) e ≡ times es e + times more e
+times-append [] more e = omega arith
+times-append (x ∷ es) more e = let later = times-append es more e in omega (arith, later)
 
 -- the edges into or out of v, by their ends
 ends_total : (n : ℕ) (end : ℕ → ℕ) (v x : ℕ) (xs : List ℕ) → x < n →

@@ -1,5 +1,5 @@
 -- Words as bytes, and back.
-use Rattle.std.proofs.Common.{◌≡◌, ℕ, List, [], ◌∷◌, ◌++◌, map, length, refl, ap, sym, ◌∙◌, append_assoc}
+use Rattle.std.proofs.Common.{◌≡◌, ℕ, ◌+◌, ◌*◌, List, [], ◌∷◌, ◌++◌, map, length, length-append, refl, ap, sym, ◌∙◌, append_assoc, arith}
 use Rattle.std.specs.List.{flat_map}
 use Rattle.std.proofs.lemmas.Grind.{flat_map-append}
 use Rattle.byteorder.specs.Endian.{big_bytes}
@@ -18,6 +18,11 @@ words_bytes-append xs ys = flat_map-append (big_bytes 4) xs ys
 pub words_bytes-cons : (w : ℕ) (ws : List ℕ) → words_bytes (w ∷ ws) ≡ big_bytes 4 w ++ words_bytes ws
 unfolding words_bytes
 words_bytes-cons w ws = refl
+
+-- each item is n bytes
+pub length-flat_map : {X : Type 0} (f : X → List ℕ) (n : ℕ) → ((x : X) → length (f x) ≡ n) → (xs : List X) → length (flat_map f xs) ≡ n * length xs
+length-flat_map f n each [] = omega arith
+length-flat_map f n each (x ∷ xs) = simp (length-append, each x, length-flat_map f n each xs) (omega arith)
 
 -- the bytes of rows are those of the rows' words
 rows-bytes : {X Y : Type 0} (seen : X → Y) (words : Y → List ℕ) (bytes : X → List ℕ) → ((x : X) → bytes x ≡ words_bytes (words (seen x))) → (rows : List X) → flat_map bytes rows ≡ words_bytes (flat_map words (map seen rows))
@@ -43,9 +48,7 @@ ranges-bytes rows = rows-bytes range_seen range_words range_bytes (λ row. refl)
 -- a count and its table
 counted : (before : List ℕ) (count : ℕ) (words : List ℕ) → (words_bytes before ++ words_bytes (count ∷ [])) ++ words_bytes words ≡ words_bytes (before ++ (count ∷ words))
 counted before count words =
-    append_assoc (words_bytes before) (words_bytes (count ∷ [])) (words_bytes words)
-    ∙ ap (λ (rest : List ℕ). words_bytes before ++ rest) (sym (words_bytes-append (count ∷ []) words))
-    ∙ sym (words_bytes-append before (count ∷ words))
+    rw (append_assoc, words_bytes-append before (count ∷ words), ← words_bytes-append (count ∷ []) words)
 
 -- the parts that were written are all
 pub whole : (head : List ℕ) (segments blocks edges ranges : ℕ) (s b e r : List ℕ)

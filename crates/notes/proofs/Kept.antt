@@ -1,5 +1,5 @@
 -- What was read meets its rules.
-use Rattle.std.proofs.Common.{◌≡◌, ℕ, zero, suc, ◌+◌, ◌*◌, ◌%◌, ◌<◌, ◌≤◌, ◌^◌, Bool, true, false, not, ◌&&◌, ◌||◌, ◌==◌, List, [], ◌∷◌, Option, Some, None, Result, Ok, Err, refl, ap, sym, subst, subst₂, ◌∙◌, length, arith}
+use Rattle.std.proofs.Common.{◌≡◌, ℕ, zero, suc, ◌+◌, ◌*◌, ◌%◌, ◌<◌, ◌≤◌, ◌^◌, Bool, true, false, not, ◌&&◌, ◌||◌, ◌==◌, List, [], ◌∷◌, Option, Some, None, Result, Ok, Err, refl, ap, sym, subst, ◌∙◌, length, arith}
 use Rattle.std.specs.Prelude.{nat_le, nat_lt}
 use Rattle.std.specs.List.{list_any}
 use Rattle.std.proofs.lemmas.Bool.{and_parts, and_from, leb-true, ltb-true, eqb-true, cond_both, ne_eqb}
@@ -36,6 +36,12 @@ that rule notes at x h =
     let found = met (rule read.got) at read.got x read.rest in
     subst (λ (w : ℕ). rule w ≡ true) found.same found.met
 
+abbrev ok : {A : Type 0} → A → Result A NoNotes
+ok x = Ok x
+
+ok_same : {A : Type 0} (x y : A) → ok x ≡ ok y → x ≡ y
+ok_same x y h = cc h
+
 segment_rule : (end : ℕ) (notes : List ℕ) (at : ℕ) (segment : NoteSegment) → segment_at end notes at ≡ Ok segment → is_segment end segment ≡ true
 unfolding segment_at
 segment_rule end notes at segment h =
@@ -53,15 +59,12 @@ one_more row rows count h = omega arith
 
 pub segments_kept : (notes : List ℕ) (at end count : ℕ) (rows : List NoteSegment) → segments_at notes at end count ≡ Ok rows → Rows (are_segments end rows) count rows
 unfolding segments_at
-segments_kept notes at end zero rows h =
-    let same : [] ≡ rows = cc h in
-    subst (λ (rs : List NoteSegment). Rows (are_segments end rs) zero rs) same (record { rule_met = refl; count_is = refl })
+segments_kept notes at end zero rows h = rw (← ok_same [] rows h) (record { rule_met = refl; count_is = refl })
 segments_kept notes at end (suc count) rows h =
     let first = parted (segment_at end notes at) _ rows (sym (segments-next notes at end count) ∙ h) in
     let others = parted (segments_at notes (at + 8) (first.got.start + first.got.length) count) _ rows first.rest in
     let rest = segments_kept notes (at + 8) (first.got.start + first.got.length) count others.got others.is in
-    let same : first.got ∷ others.got ≡ rows = cc (others.rest) in
-    subst (λ (rs : List NoteSegment). Rows (are_segments end rs) (suc count) rs) same
+    rw (← ok_same (first.got ∷ others.got) rows others.rest)
     (record { rule_met = and_from (is_segment end first.got) (are_segments (first.got.start + first.got.length) others.got) (segment_rule end notes at first.got first.is) rest.rule_met; count_is = one_more first.got others.got count rest.count_is })
 
 block_rule : (words : ℕ) (before : Option ℕ) (notes : List ℕ) (at first : ℕ) → block_at words before notes at ≡ Ok first → (follows before first && nat_lt first words) ≡ true
@@ -70,15 +73,12 @@ block_rule words before notes at first h = that (λ first. follows before first 
 
 pub blocks_kept : (words : ℕ) (notes : List ℕ) (at : ℕ) (before : Option ℕ) (count : ℕ) (rows : List ℕ) → blocks_at words notes at before count ≡ Ok rows → Rows (are_blocks words before rows) count rows
 unfolding blocks_at
-blocks_kept words notes at before zero rows h =
-    let same : [] ≡ rows = cc h in
-    subst (λ (rs : List ℕ). Rows (are_blocks words before rs) zero rs) same (record { rule_met = refl; count_is = refl })
+blocks_kept words notes at before zero rows h = rw (← ok_same [] rows h) (record { rule_met = refl; count_is = refl })
 blocks_kept words notes at before (suc count) rows h =
     let first = parted (block_at words before notes at) _ rows (sym (blocks-next words notes at before count) ∙ h) in
     let others = parted (blocks_at words notes (at + 4) (Some first.got) count) _ rows first.rest in
     let rest = blocks_kept words notes (at + 4) (Some first.got) count others.got others.is in
-    let same : first.got ∷ others.got ≡ rows = cc (others.rest) in
-    subst (λ (rs : List ℕ). Rows (are_blocks words before rs) (suc count) rs) same
+    rw (← ok_same (first.got ∷ others.got) rows others.rest)
     (record { rule_met = and_from (follows before first.got && nat_lt first.got words) (are_blocks words (Some first.got) others.got) (block_rule words before notes at first.got first.is) rest.rule_met; count_is = one_more first.got others.got count rest.count_is })
 
 range_rule : (blocks : ℕ) (segments : List NoteSegment) (end : ℕ) (notes : List ℕ) (at : ℕ) (range : NoteRange) → range_at blocks segments end notes at ≡ Ok range → is_range blocks segments end range ≡ true
@@ -93,15 +93,12 @@ range_rule blocks segments end notes at range h =
 
 pub ranges_kept : (blocks : ℕ) (segments : List NoteSegment) (notes : List ℕ) (at end count : ℕ) (rows : List NoteRange) → ranges_at blocks segments notes at end count ≡ Ok rows → Rows (are_ranges blocks segments end rows) count rows
 unfolding ranges_at
-ranges_kept blocks segments notes at end zero rows h =
-    let same : [] ≡ rows = cc h in
-    subst (λ (rs : List NoteRange). Rows (are_ranges blocks segments end rs) zero rs) same (record { rule_met = refl; count_is = refl })
+ranges_kept blocks segments notes at end zero rows h = rw (← ok_same [] rows h) (record { rule_met = refl; count_is = refl })
 ranges_kept blocks segments notes at end (suc count) rows h =
     let first = parted (range_at blocks segments end notes at) _ rows (sym (ranges-next blocks segments notes at end count) ∙ h) in
     let others = parted (ranges_at blocks segments notes (at + 16) first.got.hi count) _ rows first.rest in
     let rest = ranges_kept blocks segments notes (at + 16) first.got.hi count others.got others.is in
-    let same : first.got ∷ others.got ≡ rows = cc (others.rest) in
-    subst (λ (rs : List NoteRange). Rows (are_ranges blocks segments end rs) (suc count) rs) same
+    rw (← ok_same (first.got ∷ others.got) rows others.rest)
     (record { rule_met = and_from (is_range blocks segments end first.got) (are_ranges blocks segments first.got.hi others.got) (range_rule blocks segments end notes at first.got first.is) rest.rule_met; count_is = one_more first.got others.got count rest.count_is })
 
 -- two lists in which the same cells stand
@@ -148,9 +145,7 @@ pub edges_kept : (width blocks cells : ℕ) → 0 < width → cells ≤ 2 ^ 23 �
     → edges_at width blocks cells notes at words count ≡ Ok rows → Rows (are_edges width blocks cells taken rows) count rows
 unfolding edges_at
 edges_kept width blocks cells wide few notes at words taken alike zero rows h =
-    let same : [] ≡ rows = cc h in
-    subst (λ (rs : List NoteEdge). Rows (are_edges width blocks cells taken rs) zero rs) same
-    (record { rule_met = refl; count_is = refl })
+    rw (← ok_same [] rows h) (record { rule_met = refl; count_is = refl })
 edges_kept width blocks cells wide few notes at words taken alike (suc count) rows h =
     let first = parted (edge_at blocks (is_cell width cells words) notes at) _ rows
     (sym (edges-next width blocks cells notes at words count) ∙ h) in
@@ -158,13 +153,9 @@ edges_kept width blocks cells wide few notes at words taken alike (suc count) ro
     let others = parted (edges_at width blocks cells notes (at + 16) (cell_word cell ∷ words) count) _ rows first.rest in
     let rest = edges_kept width blocks cells wide few notes (at + 16) (cell_word cell ∷ words) (with_cell cell taken)
     (alike_more cells few words taken cell alike) count others.got others.is in
-    let same : first.got ∷ others.got ≡ rows = cc (others.rest) in
     let rule = edge_rule width blocks cells wide words taken notes at first.got alike first.is in
-    subst (λ (rs : List NoteEdge). Rows (are_edges width blocks cells taken rs) (suc count) rs) same
-    (record {
-      rule_met = and_from (is_edge width blocks cells taken first.got) (are_edges width blocks cells (with_cell cell taken) others.got) rule rest.rule_met;
-      count_is = one_more first.got others.got count rest.count_is;
-    })
+    rw (← ok_same (first.got ∷ others.got) rows others.rest)
+    (record { rule_met = and_from (is_edge width blocks cells taken first.got) (are_edges width blocks cells (with_cell cell taken) others.got) rule rest.rule_met; count_is = one_more first.got others.got count rest.count_is })
 
 -- the numbers before the tables
 pub record HeadKept (version : ℕ) (head : Head) : Type 0 where
@@ -191,41 +182,24 @@ head_with version delta length tool start words entry base cells segment_count =
   segment_count = segment_count;
 }
 
-abbrev ok : {A : Type 0} → A → Result A NoNotes
-ok x = Ok x
-
-ok_same : {A : Type 0} (x y : A) → ok x ≡ ok y → x ≡ y
-ok_same x y h = cc h
-
-head_from : (version delta length tool start words entry base cells segment_count : ℕ) → nat_le 4096 delta ≡ true → nat_le tool (last_tool version) ≡ true → ((start % 4 == 0) && nat_le 0x1000 start) ≡ true
-    → (nat_le 1 words && nat_le words (2 ^ 20) && nat_le (start + 4 * words) 0x80000000) ≡ true → ((base % 4 == 0) && nat_le (base + 4 * cells) (2 ^ 32)) ≡ true → nat_le cells (most_cells version) ≡ true → nat_le segment_count 8 ≡ true
-    → HeadKept version (head_with version delta length tool start words entry base cells segment_count)
-head_from version delta length tool start words entry base cells segment_count is_delta is_tool is_start is_words is_base is_cells is_segments =
+head_is : (version delta length tool start words entry base_read base cells_read cells segment_count : ℕ) (head : Head) → nat_le 4096 delta ≡ true → nat_le tool (last_tool version) ≡ true → ((start % 4 == 0) && nat_le 0x1000 start) ≡ true
+    → (nat_le 1 words && nat_le words (2 ^ 20) && nat_le (start + 4 * words) 0x80000000) ≡ true → Met ((base_read % 4 == 0) && nat_le (base_read + 4 * cells_read) (2 ^ 32)) base_read base → Met (nat_le cells_read (most_cells version)) cells_read cells → nat_le segment_count 8 ≡ true
+    → head_with version delta length tool start words entry base cells segment_count ≡ head → HeadKept version head
+head_is version delta length tool start words entry base_read base cells_read cells segment_count head is_delta is_tool is_start is_words base_met cells_met is_segments h =
     let starts = and_parts (start % 4 == 0) (nat_le 0x1000 start) is_start in
     let texts = and_parts (nat_le 1 words && nat_le words (2 ^ 20)) (nat_le (start + 4 * words) 0x80000000) is_words in
     let counts = and_parts (nat_le 1 words) (nat_le words (2 ^ 20)) texts.0 in
-    let bases = and_parts (base % 4 == 0) (nat_le (base + 4 * cells) (2 ^ 32)) is_base in
-    record {
+    let bases = and_parts (base_read % 4 == 0) (nat_le (base_read + 4 * cells_read) (2 ^ 32)) base_met.met in
+    rw (← h, ← base_met.same, ← cells_met.same) (record {
       version_is = refl;
       delta = leb-true 4096 delta is_delta;
       tool = leb-true tool (last_tool version) is_tool;
       start = (eqb-true (start % 4) 0 starts.0, leb-true 0x1000 start starts.1);
       words = (leb-true 1 words counts.0, leb-true words (2 ^ 20) counts.1, leb-true (start + 4 * words) 0x80000000 texts.1);
-      base = (eqb-true (base % 4) 0 bases.0, leb-true (base + 4 * cells) (2 ^ 32) bases.1);
-      cells = leb-true cells (most_cells version) is_cells;
+      base = (eqb-true (base_read % 4) 0 bases.0, leb-true (base_read + 4 * cells_read) (2 ^ 32) bases.1);
+      cells = leb-true cells_read (most_cells version) cells_met.met;
       segments = leb-true segment_count 8 is_segments;
-    }
-
-head_is : (version delta length tool start words entry base_read base cells_read cells segment_count : ℕ) (head : Head) → nat_le 4096 delta ≡ true → nat_le tool (last_tool version) ≡ true → ((start % 4 == 0) && nat_le 0x1000 start) ≡ true
-    → (nat_le 1 words && nat_le words (2 ^ 20) && nat_le (start + 4 * words) 0x80000000) ≡ true → Met ((base_read % 4 == 0) && nat_le (base_read + 4 * cells_read) (2 ^ 32)) base_read base → Met (nat_le cells_read (most_cells version)) cells_read cells → nat_le segment_count 8 ≡ true
-    → head_with version delta length tool start words entry base cells segment_count ≡ head → HeadKept version head
-head_is version delta length tool start words entry base_read base cells_read cells segment_count head is_delta is_tool is_start is_words base_met cells_met is_segments h =
-    let base_is : base_read ≡ base = base_met.same in
-    let cells_is : cells_read ≡ cells = cells_met.same in
-    subst (HeadKept version) h
-    (head_from version delta length tool start words entry base cells segment_count is_delta is_tool is_start is_words
-    (subst₂ (λ (b c : ℕ). ((b % 4 == 0) && nat_le (b + 4 * c) (2 ^ 32)) ≡ true) base_is cells_is base_met.met)
-    (subst (λ (c : ℕ). nat_le c (most_cells version) ≡ true) cells_is cells_met.met) is_segments)
+    })
 
 -- what holds of each success of a step and then the rest
 step : {A B : Type 0} (P : B → Type 0) (m : Result A NoNotes) (f : A → Result B NoNotes) → ((x : A) → m ≡ Ok x → (y : B) → f x ≡ Ok y → P y) → (y : B) → (m >>= f) ≡ Ok y → P y

@@ -9,6 +9,7 @@ use Rattle.byteorder.specs.Numbers.{length-bytes_high_first}
 use Rattle.notes.specs.Format.{NoteSegment, NoteEdge, NoteRange, Notes, note_at, follows, no_cell, cell_of, is_cell, is_counter, counter_width, last_tool, most_cells, byte_count, segments_at, blocks_at, edges_at, ranges_at, read_notes, NoteHead as Head, block_count_at, head_of, tables_of}
 use Rattle.notes.specs.Rules.{AreNotes, is_segment, are_segments, are_blocks, is_free, is_edge, with_cell, are_edges, is_range, are_ranges}
 use Rattle.notes.specs.Written.{words_bytes, cell_word, segment_words, edge_words, range_words, notes_words, notes_bytes}
+use Rattle.notes.proofs.Bytes.{length-flat_map}
 use Rattle.notes.proofs.CellMarks.{counter_below, few_cells, has_width}
 use Rattle.notes.proofs.Kept.{Alike, alike_more}
 use Rattle.notes.proofs.Whole.{in_parts}
@@ -156,18 +157,9 @@ read_back n size bytes found are inside =
     in_parts n.version size bytes ∙ rw (head_back size bytes n found are inside) (tables_back bytes n found are _ refl)
 
 -- each row has so many words
-rows_long : {X : Type 0} (words : X → List ℕ) (n : ℕ) → ((x : X) → length (words x) ≡ n) → (rows : List X) → length (flat_map words rows) ≡ n * length rows
-rows_long words n each [] = omega arith
-rows_long words n each (row ∷ rows) =
-    let here = each row in
-    let rest = rows_long words n each rows in
-    let all = length-append (words row) (flat_map words rows) in
-    let more : n * (length rows + 1) ≡ n * length rows + n = omega arith in
-    omega (arith, here, rest, all, more)
-
 words_long : (ws : List ℕ) → length (words_bytes ws) ≡ 4 * length ws
 unfolding words_bytes
-words_long ws = rows_long (big_bytes 4) 4 (length-bytes_high_first 4) ws
+words_long ws = length-flat_map (big_bytes 4) 4 (length-bytes_high_first 4) ws
 
 found_in : (n : Notes) (bytes : List ℕ) → HasWords bytes 0 (notes_words n) → length bytes ≡ 4 * length (notes_words n) → Found bytes n
 found_in n bytes has whole =
@@ -181,9 +173,9 @@ found_in n bytes has whole =
     let to_blocks = both bytes 0 (numbers ++ segments) blocks to_edges.first in
     let to_segments = both bytes 0 numbers segments to_blocks.first in
     let first = to_segments.first in
-    let s = rows_long segment_words 2 (λ x. refl) n.segments in
-    let e = rows_long edge_words 4 (λ x. refl) n.edges in
-    let r = rows_long range_words 4 (λ x. refl) n.ranges in
+    let s = length-flat_map segment_words 2 (λ x. refl) n.segments in
+    let e = length-flat_map edge_words 4 (λ x. refl) n.edges in
+    let r = length-flat_map range_words 4 (λ x. refl) n.ranges in
     let l1 = length-append numbers segments in
     let l2 = length-append (numbers ++ segments) blocks in
     let l3 = length-append (numbers ++ segments ++ blocks) edges in
@@ -191,25 +183,8 @@ found_in n bytes has whole =
     let blocks_are = move bytes blocks (0 + 4 * length (numbers ++ segments)) (36 + 8 * length n.segments) (omega arith) to_blocks.second in
     let edges_are = move bytes edges (0 + 4 * length (numbers ++ segments ++ blocks)) (36 + 8 * length n.segments + 4 + 4 * length n.blocks) (omega arith) to_edges.second in
     let ranges_are = move bytes ranges (0 + 4 * length (numbers ++ segments ++ blocks ++ edges)) (36 + 8 * length n.segments + 4 + 4 * length n.blocks + 4 + 16 * length n.edges) (omega arith) to_ranges.second in
-    record {
-      delta = first.0;
-      length_is = first.1.0;
-      tool = first.1.1.0;
-      start = first.1.1.1.0;
-      words = first.1.1.1.1.0;
-      entry = first.1.1.1.1.1.0;
-      base = first.1.1.1.1.1.1.0;
-      cells = first.1.1.1.1.1.1.1.0;
-      segment_count = to_segments.second.0;
-      segments = to_segments.second.1;
-      block_count = blocks_are.0;
-      blocks = blocks_are.1;
-      edge_count = edges_are.0;
-      edges = edges_are.1;
-      range_count = ranges_are.0;
-      ranges = ranges_are.1;
-      size = omega arith;
-    }
+    let size : byte_count bytes ≡ 36 + 8 * length n.segments + 4 + 4 * length n.blocks + 4 + 16 * length n.edges + 4 + 16 * length n.ranges = omega arith in
+    assumption
 
 pub written_back : (n : Notes) (size : ℕ) → AreNotes n → All (λ word. word < 2 ^ 32) (notes_words n) → n.delta + n.length ≤ size → read_notes n.version size (notes_bytes n) ≡ Ok n
 unfolding notes_bytes

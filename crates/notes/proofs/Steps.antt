@@ -36,9 +36,8 @@ after_next rows (Err e) rest = refl
 
 -- the fault of a step is that of the whole
 pub through : {A B : Type 0} (fault : NotesFault) (step : Result A NoNotes) (f : A → Result B NoNotes) → IsFault fault step → IsFault fault (step >>= f)
-through faults.Absent step f is = ap (λ s. s >>= f) is
-through (faults.Bad at) step f is = ap (λ s. s >>= f) is
 through faults.NoMemory step f is = tt
+through fault step f is = ap (λ s. s >>= f) is
 
 -- an answer that is a fault
 pub fault_out : {A B : Type 0} (seen : A → B) (result : Result A NotesFault) (fault : NotesFault) (read : Result B NoNotes) → IsErrAnd result (λ other. other ≡ fault) → IsFault fault read → Answers seen result read
@@ -56,13 +55,10 @@ wanting_out held holds (Ok x) fault is wants so = tt
 wanting_out held holds (Err other) fault is wants so = subst (WantsMemoryIf holds) (sym is) (more fault wants)
   where
     more : (fault : NotesFault) → WantsMemoryIf held fault → WantsMemoryIf holds fault
-    more faults.Absent wants = tt
-    more (faults.Bad at) wants = tt
     more faults.NoMemory wants = so wants
+    more fault wants = tt
 
 -- memory may be wanting where it holds
 pub wanting_held : {A : Type 0} (holds : Type 0) (result : Result A NotesFault) → holds → IfErr result (WantsMemoryIf holds)
-wanting_held holds (Ok x) is = tt
-wanting_held holds (Err faults.Absent) is = tt
-wanting_held holds (Err (faults.Bad at)) is = tt
 wanting_held holds (Err faults.NoMemory) is = is
+wanting_held holds result is = tt

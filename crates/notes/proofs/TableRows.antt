@@ -1,6 +1,6 @@
 -- A table is its first row, and then the others.
-use Rattle.std.proofs.Common.{◌≡◌, ℕ, suc, ◌+◌, ◌*◌, ◌-◌, ◌<◌, ◌≤◌, ◌^◌, Bool, false, List, [], ◌∷◌, ◌++◌, Option, Some, Result, Ok, refl, ap, sym, subst, ◌∙◌, length, replicate, arith}
-use Rattle.std.proofs.lemmas.List.{append-nil, length-replicate}
+use Rattle.std.proofs.Common.{◌≡◌, ℕ, suc, ◌+◌, ◌*◌, ◌-◌, ◌<◌, ◌≤◌, ◌^◌, Bool, false, List, [], ◌∷◌, ◌++◌, Option, Some, Result, Ok, refl, ap, sym, subst, ◌∙◌, length, replicate, arith, add-zero}
+use Rattle.std.proofs.lemmas.List.{length-replicate}
 use Rattle.notes.specs.Format.{is_cell, NoteSegment, NoteEdge, NoteRange, NoNotes, ◌>>=◌, segments_at, blocks_at, edges_at, ranges_at}
 use Rattle.notes.specs.Parts.{AreMarks, is_open, with_mark, segment_at, block_at, edge_at, range_at}
 use Rattle.notes.proofs.Steps.{bind_assoc, kept_then, after, after_none, after_next, through}
@@ -34,38 +34,17 @@ pub segments-row : (rows : List NoteSegment) (notes : List ℕ) (at end count ro
 segments-row rows notes at end count row below =
     rw (one-more count row below, segments-next notes (at + 8 * row) end (count - (row + 1)), next-place at 8 row) (after_next rows (segment_at end notes (at + 8 * row)) (λ segment. segments_at notes (at + 8 * (row + 1)) (segment.start + segment.length) (count - (row + 1))))
 
--- a row that can be read
-pub segments-more : (rows : List NoteSegment) (notes : List ℕ) (at end count row : ℕ) (whole : Result (List NoteSegment) NoNotes) (segment : NoteSegment) → row < count → segment_at end notes (at + 8 * row) ≡ Ok segment
-    → whole ≡ after rows (segments_at notes (at + 8 * row) end (count - row)) → whole ≡ after (rows ++ segment ∷ []) (segments_at notes (at + 8 * (row + 1)) (segment.start + segment.length) (count - (row + 1)))
-segments-more rows notes at end count row whole segment below is so_far = so_far ∙ segments-row rows notes at end count row below ∙ rw is refl
+-- a row that can be read, and one that can't
+pub row_read : {A B : Type 0} (row : Result A NoNotes) (f : A → Result B NoNotes) (whole : Result B NoNotes) (x : A) → row ≡ Ok x → whole ≡ (row >>= f) → whole ≡ f x
+row_read row f whole x is so_far = rw is at so_far
 
--- a row that can't be read
-pub segments-fault : (fault : NotesFault) (rows : List NoteSegment) (notes : List ℕ) (at end count row : ℕ) (whole : Result (List NoteSegment) NoNotes) → row < count → IsFault fault (segment_at end notes (at + 8 * row))
-    → whole ≡ after rows (segments_at notes (at + 8 * row) end (count - row)) → IsFault fault whole
-segments-fault fault rows notes at end count row whole below is so_far =
-    subst (IsFault fault) (sym (so_far ∙ segments-row rows notes at end count row below)) (through fault (segment_at end notes (at + 8 * row)) _ is)
-
-pub segments-none : (rows : List NoteSegment) (notes : List ℕ) (at end : ℕ) → after rows (segments_at notes at end 0) ≡ Ok rows
-unfolding segments_at
-segments-none rows notes at end = ap Ok (append-nil rows)
+pub row_fault : {A B : Type 0} (fault : NotesFault) (row : Result A NoNotes) (f : A → Result B NoNotes) (whole : Result B NoNotes) → IsFault fault row → whole ≡ (row >>= f) → IsFault fault whole
+row_fault fault row f whole is so_far = rw so_far (through fault row f is)
 
 pub blocks-row : (rows : List ℕ) (words : ℕ) (notes : List ℕ) (at : ℕ) (before : Option ℕ) (count row : ℕ) → row < count
     → after rows (blocks_at words notes (at + 4 * row) before (count - row)) ≡ (block_at words before notes (at + 4 * row) >>= (λ first. after (rows ++ first ∷ []) (blocks_at words notes (at + 4 * (row + 1)) (Some first) (count - (row + 1)))))
 blocks-row rows words notes at before count row below =
     rw (one-more count row below, blocks-next words notes (at + 4 * row) before (count - (row + 1)), next-place at 4 row) (after_next rows (block_at words before notes (at + 4 * row)) (λ first. blocks_at words notes (at + 4 * (row + 1)) (Some first) (count - (row + 1))))
-
-pub blocks-more : (rows : List ℕ) (words : ℕ) (notes : List ℕ) (at : ℕ) (before : Option ℕ) (count row : ℕ) (whole : Result (List ℕ) NoNotes) (first : ℕ) → row < count → block_at words before notes (at + 4 * row) ≡ Ok first
-    → whole ≡ after rows (blocks_at words notes (at + 4 * row) before (count - row)) → whole ≡ after (rows ++ first ∷ []) (blocks_at words notes (at + 4 * (row + 1)) (Some first) (count - (row + 1)))
-blocks-more rows words notes at before count row whole first below is so_far = so_far ∙ blocks-row rows words notes at before count row below ∙ rw is refl
-
-pub blocks-fault : (fault : NotesFault) (rows : List ℕ) (words : ℕ) (notes : List ℕ) (at : ℕ) (before : Option ℕ) (count row : ℕ) (whole : Result (List ℕ) NoNotes) → row < count → IsFault fault (block_at words before notes (at + 4 * row))
-    → whole ≡ after rows (blocks_at words notes (at + 4 * row) before (count - row)) → IsFault fault whole
-blocks-fault fault rows words notes at before count row whole below is so_far =
-    subst (IsFault fault) (sym (so_far ∙ blocks-row rows words notes at before count row below)) (through fault (block_at words before notes (at + 4 * row)) _ is)
-
-pub blocks-none : (rows : List ℕ) (words : ℕ) (notes : List ℕ) (at : ℕ) (before : Option ℕ) → after rows (blocks_at words notes at before 0) ≡ Ok rows
-unfolding blocks_at
-blocks-none rows words notes at before = ap Ok (append-nil rows)
 
 pub ranges-next : (blocks : ℕ) (segments : List NoteSegment) (notes : List ℕ) (at end count : ℕ)
     → ranges_at blocks segments notes at end (suc count) ≡ (range_at blocks segments end notes at >>= (λ range. ranges_at blocks segments notes (at + 16) range.hi count >>= (λ others. Ok (range ∷ others))))
@@ -76,19 +55,6 @@ pub ranges-row : (rows : List NoteRange) (blocks : ℕ) (segments : List NoteSeg
     → after rows (ranges_at blocks segments notes (at + 16 * row) end (count - row)) ≡ (range_at blocks segments end notes (at + 16 * row) >>= (λ range. after (rows ++ range ∷ []) (ranges_at blocks segments notes (at + 16 * (row + 1)) range.hi (count - (row + 1)))))
 ranges-row rows blocks segments notes at end count row below =
     rw (one-more count row below, ranges-next blocks segments notes (at + 16 * row) end (count - (row + 1)), next-place at 16 row) (after_next rows (range_at blocks segments end notes (at + 16 * row)) (λ range. ranges_at blocks segments notes (at + 16 * (row + 1)) range.hi (count - (row + 1))))
-
-pub ranges-more : (rows : List NoteRange) (blocks : ℕ) (segments : List NoteSegment) (notes : List ℕ) (at end count row : ℕ) (whole : Result (List NoteRange) NoNotes) (range : NoteRange) → row < count → range_at blocks segments end notes (at + 16 * row) ≡ Ok range
-    → whole ≡ after rows (ranges_at blocks segments notes (at + 16 * row) end (count - row)) → whole ≡ after (rows ++ range ∷ []) (ranges_at blocks segments notes (at + 16 * (row + 1)) range.hi (count - (row + 1)))
-ranges-more rows blocks segments notes at end count row whole range below is so_far = so_far ∙ ranges-row rows blocks segments notes at end count row below ∙ rw is refl
-
-pub ranges-fault : (fault : NotesFault) (rows : List NoteRange) (blocks : ℕ) (segments : List NoteSegment) (notes : List ℕ) (at end count row : ℕ) (whole : Result (List NoteRange) NoNotes) → row < count → IsFault fault (range_at blocks segments end notes (at + 16 * row))
-    → whole ≡ after rows (ranges_at blocks segments notes (at + 16 * row) end (count - row)) → IsFault fault whole
-ranges-fault fault rows blocks segments notes at end count row whole below is so_far =
-    subst (IsFault fault) (sym (so_far ∙ ranges-row rows blocks segments notes at end count row below)) (through fault (range_at blocks segments end notes (at + 16 * row)) _ is)
-
-pub ranges-none : (rows : List NoteRange) (blocks : ℕ) (segments : List NoteSegment) (notes : List ℕ) (at end : ℕ) → after rows (ranges_at blocks segments notes at end 0) ≡ Ok rows
-unfolding ranges_at
-ranges-none rows blocks segments notes at end = ap Ok (append-nil rows)
 
 pub edges-next : (width blocks cells : ℕ) (notes : List ℕ) (at : ℕ) (taken : List ℕ) (count : ℕ)
     → edges_at width blocks cells notes at taken (suc count) ≡ (edge_at blocks (is_cell width cells taken) notes at >>= (λ edge. edges_at width blocks cells notes (at + 16) (cell_word edge.cell ∷ taken) count >>= (λ others. Ok (edge ∷ others))))
@@ -108,18 +74,14 @@ pub record EdgesRead (width blocks cells : ℕ) (notes : List ℕ) (at count row
   pub so_far : whole ≡ after rows (edges_at width blocks cells notes (at + 16 * row) taken (count - row))
 
 pub edges-none-read : (width blocks cells : ℕ) (notes : List ℕ) (at count : ℕ) → EdgesRead width blocks cells notes at count 0 [] (replicate cells false) (edges_at width blocks cells notes at [] count)
-edges-none-read width blocks cells notes at count = record {
-  taken = [];
-  size = length-replicate cells false;
-  marked = none_marked cells;
-  so_far = sym (rw (zero-place at, zero-rows count) (after_none (edges_at width blocks cells notes at [] count)));
-}
-  where
-    zero-place : (at : ℕ) → at + 16 * 0 ≡ at
-    zero-place at = omega arith
-
-    zero-rows : (count : ℕ) → count - 0 ≡ count
-    zero-rows count = omega arith
+edges-none-read width blocks cells notes at count =
+    let rows : count - 0 ≡ count = omega arith in
+    record {
+      taken = [];
+      size = length-replicate cells false;
+      marked = none_marked cells;
+      so_far = sym (rw (add-zero, rows) (after_none (edges_at width blocks cells notes at [] count)));
+    }
 
 -- an edge by its marks, and by the cells that they mark
 edge-same : (width blocks cells : ℕ) (notes : List ℕ) (at : ℕ) (marks : List Bool) (taken : List ℕ) → 0 < width → length marks ≡ cells → AreMarks marks taken → edge_at blocks (is_open width marks) notes at ≡ edge_at blocks (is_cell width cells taken) notes at
@@ -138,8 +100,4 @@ pub edges-fault : (fault : NotesFault) (width blocks cells : ℕ) (notes : List 
     → EdgesRead width blocks cells notes at count row rows marks whole → IsFault fault whole
 edges-fault fault width blocks cells notes at count row rows marks whole wide below is read =
     let judged = subst (IsFault fault) (edge-same width blocks cells notes (at + 16 * row) marks read.taken wide read.size read.marked) is in
-    subst (IsFault fault) (sym (read.so_far ∙ edges-row rows width blocks cells notes at read.taken count row below)) (through fault (edge_at blocks (is_cell width cells read.taken) notes (at + 16 * row)) _ judged)
-
-pub edges-none : (rows : List NoteEdge) (width blocks cells : ℕ) (notes : List ℕ) (at : ℕ) (taken : List ℕ) → after rows (edges_at width blocks cells notes at taken 0) ≡ Ok rows
-unfolding edges_at
-edges-none rows width blocks cells notes at taken = ap Ok (append-nil rows)
+    row_fault fault _ _ whole judged (read.so_far ∙ edges-row rows width blocks cells notes at read.taken count row below)

@@ -1,8 +1,9 @@
-use Rattle.std.proofs.Common.{◌≡◌, ◌-◌, ◌<◌, ◌∙◌, ◌∷◌, [], map, ap, arith}
+use Rattle.std.proofs.Common.{◌≡◌, ◌-◌, ◌<◌, ◌∙◌, ◌∷◌, [], map, Ok, ap, append-nil, arith}
 use Rattle.std.proofs.lemmas.List.{map-append}
 use Rattle.notes.specs.Seen.{edge_seen}
+use Rattle.notes.specs.Format.{edges_at}
 use Rattle.notes.proofs.Steps.{fault_out}
-use Rattle.notes.proofs.TableRows.{edges-more, edges-fault, edges-none, edges-none-read}
+use Rattle.notes.proofs.TableRows.{edges-more, edges-fault, edges-none-read}
 use Rattle.notes.proofs.tables.read_edges.Goals as goal
 
 pub loop-row-init : goal.loop-row-init
@@ -27,7 +28,8 @@ loop-row-preserved c =
     )
 
 pub returns : goal.returns
+unfolding edges_at
 returns c =
     let left : c.args.count - c.loop-row.row ≡ 0 = omega arith in
     let read = c.loop-row.invariant.1 in
-    read.so_far ∙ rw left (edges-none _ _ _ _ _ _ _)
+    read.so_far ∙ rw left (ap Ok (append-nil _))
