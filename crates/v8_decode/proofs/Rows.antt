@@ -1,13 +1,11 @@
 -- The tables of opcodes, looked up, and what holds of whatever a word decodes to.
-use Rattle.std.proofs.Common.{◌≡◌, ℕ, ◌+◌, ◌*◌, ◌%◌, ◌<◌, Bool, true, false, ◌&&◌, List, [], ◌∷◌, nat_lt, ◌==◌, refl, ap, ◌∙◌, arith}
-use Rattle.std.specs.Prelude.{if◌then◌else◌}
-use Rattle.std.proofs.lemmas.Bool.{and_from, eqb-true, lt-ltb}
+use Rattle.std.proofs.Common.{◌≡◌, ℕ, ◌+◌, ◌*◌, ◌%◌, true, ◌&&◌, List, [], ◌∷◌, nat_lt, ◌==◌, refl, ap, ◌∙◌, arith}
+use Rattle.std.proofs.lemmas.Bool.{and_from, cond_both, eqb-true, lt-ltb}
 use Rattle.v8_decode.specs.declared.Instr.{Instr}
 use Rattle.v8_decode.specs.declared.Instr.TheVariants as i
-use Rattle.v8_decode.specs.declared.Op2.TheVariants as o
 use Rattle.v8_decode.specs.declared.LoadKind.TheVariants as loads
 use Rattle.v8_decode.specs.declared.StoreKind.TheVariants as stores
-use Rattle.v8_decode.specs.Words.{field, signed, rd_of, op3_of, rs1_of, cond_of, op2_of, Row, row_of, load, store, op2_rows, arithmetic_rows, memory_rows, branch_or_sethi, arithmetic, memory, call, decode_of}
+use Rattle.v8_decode.specs.Words.{field, rd_of, op3_of, rs1_of, cond_of, op2_of, Row, row_of, load, store, even_rd, read_state, write_state, op2_rows, arithmetic_rows, memory_rows, branch_or_sethi, arithmetic, memory, call, decode_of}
 use Rattle.v8_decode.specs.Ranges.{has_even_pair, op2_in_range, operands_in_range, is_in_range}
 
 -- the tables at a word whose op, and op3 or op2, are known
@@ -15,24 +13,9 @@ abbrev formats : List (ℕ × Row)
 formats = (0, branch_or_sethi) ∷ (1, call) ∷ (2, arithmetic) ∷ (3, memory) ∷ []
 
 -- op is bits 31 and 30
-op_of_bits : (w high low : ℕ) → field w 31 1 ≡ high → field w 30 1 ≡ low → field w 30 2 ≡ 2 * high + low
-op_of_bits w high low h l = omega arith
-
-pub decode_of-0 : (w : ℕ) → field w 31 1 ≡ 0 → field w 30 1 ≡ 0 → decode_of w ≡ branch_or_sethi w
+pub decode_of-bits : (w high low : ℕ) → field w 31 1 ≡ high → field w 30 1 ≡ low → decode_of w ≡ row_of formats (2 * high + low) w
 unfolding decode_of
-decode_of-0 w h l = ap (λ n. row_of formats n w) (op_of_bits w 0 0 h l)
-
-pub decode_of-1 : (w : ℕ) → field w 31 1 ≡ 0 → field w 30 1 ≡ 1 → decode_of w ≡ call w
-unfolding decode_of
-decode_of-1 w h l = ap (λ n. row_of formats n w) (op_of_bits w 0 1 h l)
-
-pub decode_of-2 : (w : ℕ) → field w 31 1 ≡ 1 → field w 30 1 ≡ 0 → decode_of w ≡ arithmetic w
-unfolding decode_of
-decode_of-2 w h l = ap (λ n. row_of formats n w) (op_of_bits w 1 0 h l)
-
-pub decode_of-3 : (w : ℕ) → field w 31 1 ≡ 1 → field w 30 1 ≡ 1 → decode_of w ≡ memory w
-unfolding decode_of
-decode_of-3 w h l = ap (λ n. row_of formats n w) (op_of_bits w 1 1 h l)
+decode_of-bits w high low h l = let op : field w 30 2 ≡ 2 * high + low = omega arith in ap (λ n. row_of formats n w) op
 
 pub decode_of-call : (w : ℕ) → field w 30 2 ≡ 1 → decode_of w ≡ call w
 unfolding decode_of
@@ -58,11 +41,8 @@ Each P n w (r ∷ rows) = (n ≡ r.0 → P (r.1 w)) × Each P n w rows
 pub row_by_row : (P : Instr → Type 0) (n w : ℕ) (rows : List (ℕ × Row)) → P i.Illegal → Each P n w rows → P (row_of rows n w)
 unfolding Each
 row_by_row P n w [] illegal each = illegal
-row_by_row P n w (r ∷ rows) illegal each = go (n == r.0) refl (row_by_row P n w rows illegal each.1)
-  where
-    go : (b : Bool) → (n == r.0) ≡ b → P (row_of rows n w) → P (if b then r.1 w else row_of rows n w)
-    go true e rest = each.0 (eqb-true n r.0 e)
-    go false e rest = rest
+row_by_row P n w (r ∷ rows) illegal each =
+    cond_both (n == r.0) _ _ P (λ e. each.0 (eqb-true n r.0 e)) (λ _. row_by_row P n w rows illegal each.1)
 
 -- ---- ranges
 
@@ -70,14 +50,7 @@ rd_below : (w : ℕ) → nat_lt (rd_of w) 32 ≡ true
 rd_below w = lt-ltb _ _ (omega arith)
 
 op2_below : (w : ℕ) → op2_in_range (op2_of w) ≡ true
-op2_below w = go (field w 13 1 == 0)
-  where
-    below : field w 0 5 < 32
-    below = omega arith
-
-    go : (b : Bool) → op2_in_range (if b then o.Reg (field w 0 5) else o.Imm (signed 13 (field w 0 13))) ≡ true
-    go true = lt-ltb _ _ below
-    go false = refl
+op2_below w = cond_both (field w 13 1 == 0) _ _ (λ o. op2_in_range o ≡ true) (λ _. lt-ltb _ _ (omega arith)) (λ _. refl)
 
 operands : (w : ℕ) → operands_in_range (rs1_of w) (op2_of w) ≡ true
 operands w = and_from (nat_lt (rs1_of w) 32) (op2_in_range (op2_of w)) (lt-ltb _ _ (omega arith)) (op2_below w)
@@ -92,325 +65,36 @@ cond_and_operands w = and_from (nat_lt (cond_of w) 16) (operands_in_range (rs1_o
 abbrev pub InRanges : Instr → Type 0
 InRanges instr = (is_in_range instr ≡ true) × (has_even_pair instr ≡ true)
 
-read_state_ranges : (w : ℕ) → InRanges (if rs1_of w == 0 then i.ReadY (rd_of w) else (if rs1_of w == 15 then (if rd_of w == 0 then i.Stbar else i.Illegal) else i.Illegal))
-read_state_ranges w = go (rs1_of w == 0) (rs1_of w == 15) (rd_of w == 0)
-  where
-    go : (a b c : Bool) → InRanges (if a then i.ReadY (rd_of w) else (if b then (if c then i.Stbar else i.Illegal) else i.Illegal))
-    go true b c = (rd_below w, refl)
-    go false true true = (refl, refl)
-    go false true false = (refl, refl)
-    go false false c = (refl, refl)
+read_state_ranges : (w : ℕ) → InRanges (read_state w)
+read_state_ranges w =
+    cond_both (rs1_of w == 0) _ _ InRanges (λ _. (rd_below w, refl)) (λ _.
+    cond_both (rs1_of w == 15) _ _ InRanges
+    (λ _. cond_both (rd_of w == 0) _ _ InRanges (λ _. (refl, refl)) (λ _. (refl, refl)))
+    (λ _. (refl, refl)))
 
-write_state_ranges : (w : ℕ) → InRanges (if rd_of w == 0 then i.WriteY (rs1_of w) (op2_of w) else i.Illegal)
-write_state_ranges w = go (rd_of w == 0)
-  where
-    go : (b : Bool) → InRanges (if b then i.WriteY (rs1_of w) (op2_of w) else i.Illegal)
-    go true = (operands w, refl)
-    go false = (refl, refl)
+write_state_ranges : (w : ℕ) → InRanges (write_state w)
+write_state_ranges w = cond_both (rd_of w == 0) _ _ InRanges (λ _. (operands w, refl)) (λ _. (refl, refl))
 
-even_load : (w : ℕ) → InRanges (if rd_of w % 2 == 0 then load loads.LDD w else i.Illegal)
-even_load w = go (rd_of w % 2 == 0) refl
-  where
-    go : (b : Bool) → (rd_of w % 2 == 0) ≡ b → InRanges (if b then load loads.LDD w else i.Illegal)
-    go true e = (fields w, e)
-    go false e = (refl, refl)
+even_load : (w : ℕ) → InRanges (even_rd (load loads.LDD) w)
+even_load w = cond_both (rd_of w % 2 == 0) _ _ InRanges (λ e. (fields w, e)) (λ _. (refl, refl))
 
-even_store : (w : ℕ) → InRanges (if rd_of w % 2 == 0 then store stores.STD w else i.Illegal)
-even_store w = go (rd_of w % 2 == 0) refl
-  where
-    go : (b : Bool) → (rd_of w % 2 == 0) ≡ b → InRanges (if b then store stores.STD w else i.Illegal)
-    go true e = (fields w, e)
-    go false e = (refl, refl)
+even_store : (w : ℕ) → InRanges (even_rd (store stores.STD) w)
+even_store w = cond_both (rd_of w % 2 == 0) _ _ InRanges (λ e. (fields w, e)) (λ _. (refl, refl))
 
 arithmetic_ranges : (w : ℕ) → InRanges (arithmetic w)
 unfolding arithmetic Each
-arithmetic_ranges w = row_by_row InRanges (op3_of w) w arithmetic_rows (refl, refl) (
-  (λ _. (fields w, refl)),
-  (
-    (λ _. (fields w, refl)),
-    (
-      (λ _. (fields w, refl)),
-      (
-        (λ _. (fields w, refl)),
-        (
-          (λ _. (fields w, refl)),
-          (
-            (λ _. (fields w, refl)),
-            (
-              (λ _. (fields w, refl)),
-              (
-                (λ _. (fields w, refl)),
-                (
-                  (λ _. (fields w, refl)),
-                  (
-                    (λ _. (fields w, refl)),
-                    (
-                      (λ _. (fields w, refl)),
-                      (
-                        (λ _. (fields w, refl)),
-                        (
-                          (λ _. (fields w, refl)),
-                          (
-                            (λ _. (fields w, refl)),
-                            (
-                              (λ _. (fields w, refl)),
-                              (
-                                (λ _. (fields w, refl)),
-                                (
-                                  (λ _. (fields w, refl)),
-                                  (
-                                    (λ _. (fields w, refl)),
-                                    (
-                                      (λ _. (fields w, refl)),
-                                      (
-                                        (λ _. (fields w, refl)),
-                                        (
-                                          (λ _. (fields w, refl)),
-                                          (
-                                            (λ _. (fields w, refl)),
-                                            (
-                                              (λ _. (fields w, refl)),
-                                              (
-                                                (λ _. (fields w, refl)),
-                                                (
-                                                  (λ _. (fields w, refl)),
-                                                  (
-                                                    (λ _. (fields w, refl)),
-                                                    (
-                                                      (λ _. (fields w, refl)),
-                                                      (
-                                                        (λ _. (fields w, refl)),
-                                                        (
-                                                          (λ _. (fields w, refl)),
-                                                          (
-                                                            (λ _. (fields w, refl)),
-                                                            (
-                                                              (λ _. (fields w, refl)),
-                                                              (
-                                                                (λ _. (fields w, refl)),
-                                                                (
-                                                                  (λ _. (fields w, refl)),
-                                                                  (
-                                                                    (λ _. (fields w, refl)),
-                                                                    (
-                                                                      (λ _. (fields w, refl)),
-                                                                      (
-                                                                        (λ _. (fields w, refl)),
-                                                                        (
-                                                                          (λ _. read_state_ranges w),
-                                                                          (
-                                                                            (λ _. (refl, refl)),
-                                                                            (
-                                                                              (λ _. (refl, refl)),
-                                                                              (
-                                                                                (λ _. (refl, refl)),
-                                                                                (
-                                                                                  (λ _. write_state_ranges w),
-                                                                                  (
-                                                                                    (λ _. (refl, refl)),
-                                                                                    (
-                                                                                      (λ _. (refl, refl)),
-                                                                                      (
-                                                                                        (λ _. (refl, refl)),
-                                                                                        (
-                                                                                          (λ _. (refl, refl)),
-                                                                                          (
-                                                                                            (λ _. (refl, refl)),
-                                                                                            (
-                                                                                              (λ _. (refl, refl)),
-                                                                                              (
-                                                                                                (λ _. (refl, refl)),
-                                                                                                (
-                                                                                                  (λ _. (fields w, refl)),
-                                                                                                  (
-                                                                                                    (λ _. (refl, refl)),
-                                                                                                    (
-                                                                                                      (λ _. (cond_and_operands w, refl)),
-                                                                                                      (
-                                                                                                        (λ _. (operands w, refl)),
-                                                                                                        (
-                                                                                                          (λ _. (fields w, refl)),
-                                                                                                          (
-                                                                                                            (λ _. (fields w, refl)),
-                                                                                                            tt,
-                                                                                                          ),
-                                                                                                        ),
-                                                                                                      ),
-                                                                                                    ),
-                                                                                                  ),
-                                                                                                ),
-                                                                                              ),
-                                                                                            ),
-                                                                                          ),
-                                                                                        ),
-                                                                                      ),
-                                                                                    ),
-                                                                                  ),
-                                                                                ),
-                                                                              ),
-                                                                            ),
-                                                                          ),
-                                                                        ),
-                                                                      ),
-                                                                    ),
-                                                                  ),
-                                                                ),
-                                                              ),
-                                                            ),
-                                                          ),
-                                                        ),
-                                                      ),
-                                                    ),
-                                                  ),
-                                                ),
-                                              ),
-                                            ),
-                                          ),
-                                        ),
-                                      ),
-                                    ),
-                                  ),
-                                ),
-                              ),
-                            ),
-                          ),
-                        ),
-                      ),
-                    ),
-                  ),
-                ),
-              ),
-            ),
-          ),
-        ),
-      ),
-    ),
-  ),
-)
+arithmetic_ranges w =
+    row_by_row InRanges (op3_of w) w arithmetic_rows (refl, refl)
+    (search (fields, read_state_ranges, write_state_ranges, cond_and_operands, operands))
 
 memory_ranges : (w : ℕ) → InRanges (memory w)
 unfolding memory Each
-memory_ranges w = row_by_row InRanges (op3_of w) w memory_rows (refl, refl) (
-  (λ _. (fields w, refl)),
-  (
-    (λ _. (fields w, refl)),
-    (
-      (λ _. (fields w, refl)),
-      (
-        (λ _. even_load w),
-        (
-          (λ _. (fields w, refl)),
-          (
-            (λ _. (fields w, refl)),
-            (
-              (λ _. (fields w, refl)),
-              (
-                (λ _. even_store w),
-                (
-                  (λ _. (fields w, refl)),
-                  (
-                    (λ _. (fields w, refl)),
-                    (
-                      (λ _. (fields w, refl)),
-                      (
-                        (λ _. (fields w, refl)),
-                        (
-                          (λ _. (refl, refl)),
-                          (
-                            (λ _. (refl, refl)),
-                            (
-                              (λ _. (refl, refl)),
-                              (
-                                (λ _. (refl, refl)),
-                                (
-                                  (λ _. (refl, refl)),
-                                  (
-                                    (λ _. (refl, refl)),
-                                    (
-                                      (λ _. (refl, refl)),
-                                      (
-                                        (λ _. (refl, refl)),
-                                        (
-                                          (λ _. (refl, refl)),
-                                          (
-                                            (λ _. (refl, refl)),
-                                            (
-                                              (λ _. (refl, refl)),
-                                              (
-                                                (λ _. (refl, refl)),
-                                                (
-                                                  (λ _. (refl, refl)),
-                                                  (
-                                                    (λ _. (refl, refl)),
-                                                    (
-                                                      (λ _. (refl, refl)),
-                                                      (
-                                                        (λ _. (refl, refl)),
-                                                        (
-                                                          (λ _. (refl, refl)),
-                                                          (
-                                                            (λ _. (refl, refl)),
-                                                            (
-                                                              (λ _. (refl, refl)),
-                                                              (
-                                                                (λ _. (refl, refl)),
-                                                                (
-                                                                  (λ _. (refl, refl)),
-                                                                  (
-                                                                    (λ _. (refl, refl)),
-                                                                    (
-                                                                      (λ _. (refl, refl)),
-                                                                      (
-                                                                        (λ _. (refl, refl)),
-                                                                        (
-                                                                          (λ _. (refl, refl)),
-                                                                          (
-                                                                            (λ _. (refl, refl)),
-                                                                            tt,
-                                                                          ),
-                                                                        ),
-                                                                      ),
-                                                                    ),
-                                                                  ),
-                                                                ),
-                                                              ),
-                                                            ),
-                                                          ),
-                                                        ),
-                                                      ),
-                                                    ),
-                                                  ),
-                                                ),
-                                              ),
-                                            ),
-                                          ),
-                                        ),
-                                      ),
-                                    ),
-                                  ),
-                                ),
-                              ),
-                            ),
-                          ),
-                        ),
-                      ),
-                    ),
-                  ),
-                ),
-              ),
-            ),
-          ),
-        ),
-      ),
-    ),
-  ),
-)
+memory_ranges w = row_by_row InRanges (op3_of w) w memory_rows (refl, refl) (search (fields, even_load, even_store))
 
 format2_ranges : (w : ℕ) → InRanges (branch_or_sethi w)
 unfolding branch_or_sethi Each
 format2_ranges w =
-    row_by_row InRanges (field w 22 3) w op2_rows (refl, refl)
-    ((λ _. (lt-ltb _ _ (omega arith), refl)), ((λ _. (rd_below w, refl)), ((λ _. (refl, refl)), ((λ _. (refl, refl)), tt))))
+    row_by_row InRanges (field w 22 3) w op2_rows (refl, refl) ((λ _. (lt-ltb _ _ (omega arith), refl)), search rd_below)
 
 pub decode_of-ranges : (w : ℕ) → InRanges (decode_of w)
 unfolding decode_of Each
