@@ -1,10 +1,11 @@
 -- Decimal numbers.
-use Rattle.std.proofs.Common.{◌≡◌, ℕ, zero, suc, ◌<◌, ◌≤◌, ◌^◌, ◌==◌, ◌&&◌, ◌||◌, not, true, false, nat_lt, List, length, slice_index, Some, None, Result, Ok, Err, decimal, refl, ap, sym, subst, ◌∙◌, arith, rules}
+use Rattle.std.proofs.Common.{◌≡◌, ℕ, ◌<◌, ◌≤◌, ◌^◌, ◌==◌, ◌&&◌, ◌||◌, not, true, nat_lt, List, length, slice_index, Some, Result, Ok, Err, decimal, refl, ap, sym, arith, rules}
 use Rattle.std.specs.List.{list_all}
 use Rattle.std.specs.Result.{result_ok}
 use Rattle.std.specs.Str.{IsUtf8}
 use Rattle.std.specs.Str.Parse.{digits_value, ParsesUnsigned}
-use Rattle.std.proofs.lemmas.Bool.{and_parts, lt-ltb, ltb-true, eqb-true, eq-eqb, ne_eqb, false_from_ne_true}
+use Rattle.std.proofs.lemmas.Bool.{and_parts, lt-ltb, ltb-true, false_from_ne_true}
+use Rattle.std.proofs.lemmas.Bool.Decides.{nat_tests}
 use Rattle.std.proofs.lemmas.Str.{IsUtf8-from_ascii}
 use Rattle.std.proofs.lemmas.Str.Parse.{IsNumeralModel, numerals_by_value, parse_digits}
 use Rattle.std.proofs.lemmas.Fmt.{decimal_digit, decimal_is_IsNumeral_wide, IsAscii-from_digits}
@@ -24,11 +25,9 @@ pub record Decimal (word : List ℕ) : Type 0 where
 
 pub decimal_parts : (word : List ℕ) → is_decimal word ≡ true → Decimal word
 decimal_parts word h =
-    let outer =
-    and_parts (list_all is_digit word && nat_lt 0 (length word))
-    (not (slice_index word 0 == 48) || (length word == 1)) h in
-    let inner = and_parts (list_all is_digit word) (nat_lt 0 (length word)) outer.0 in
-    record { digits = inner.0; some = ltb-true 0 (length word) inner.1; front = outer.1 }
+    let outer = and_parts (list_all is_digit word && nat_lt 0 (length word)) _ h in
+    let inner = and_parts (list_all is_digit word) _ outer.0 in
+    record { digits = inner.0; some = ltb-true _ _ inner.1; front = outer.1 }
 
 pub decimal_utf8 : (word : List ℕ) → is_decimal word ≡ true → IsUtf8 word
 decimal_utf8 word h = IsUtf8-from_ascii word (IsAscii-from_digits word (own.to word (decimal_parts word h).digits))
@@ -38,33 +37,24 @@ module _ {E : Type 0} (bits : ℕ) (word : List ℕ) where
   pub number-parsed : (r : Result ℕ E) → ParsesUnsigned bits 10 word r → is_decimal word ≡ true
       → result_ok r ≡ number_below (2 ^ bits) word
   number-parsed (Ok n) parsed h =
-      let parts = decimal_parts word h in
-      let (fits, value) = parse_digits own {E = E} bits word (Ok n) parsed parts.digits in
-      ap Some value ∙ sym (rw (h, lt-ltb (digits_value 10 word) (2 ^ bits) fits.1) refl)
+      let (fits, value) = parse_digits own {E = E} bits word (Ok n) parsed (decimal_parts word h).digits in
+      rw (h, lt-ltb (digits_value 10 word) (2 ^ bits) fits.1) (ap Some value)
   number-parsed (Err e) parsed h =
       let parts = decimal_parts word h in
       let refused = parse_digits own {E = E} bits word (Err e) parsed parts.digits in
-      let over = false_from_ne_true _ (λ below. refused (parts.some, ltb-true (digits_value 10 word) (2 ^ bits) below)) in
-      sym (rw (h, over) refl)
-
-pub number-not_decimal : (limit : ℕ) (word : List ℕ) → is_decimal word ≡ false → number_below limit word ≡ None
-number-not_decimal limit word h = rw h refl
+      rw (h, false_from_ne_true _ (λ below. refused (parts.some, ltb-true (digits_value 10 word) (2 ^ bits) below))) refl
 
 -- ---- what is written is read
 
 front_right : (n : ℕ) → n < 10 ^ 64 → (not (slice_index (decimal n) 0 == 48) || (length (decimal n) == 1)) ≡ true
-front_right zero small = rw (decimal_digit 0 (omega arith)) refl
-front_right (suc n) small =
-    let first = (first_digit (suc n) small).1 (omega arith) in
-    rw (ne_eqb (slice_index (decimal (suc n)) 0) 48 (λ is. absurd (omega arith))) refl
+front_right n small = grind (arith, nat_tests, first_digit n small, decimal_digit 0)
 
 below_back : (limit : ℕ) → limit ≤ 10 ^ 64 → (n : ℕ) → n < limit → number_below limit (decimal n) ≡ Some n
 below_back limit low n fits =
     let small : n < 10 ^ 64 = omega arith in
     let numeral = decimal_is_IsNumeral_wide n small in
     let digits = own.from (decimal n) numeral.0.1 in
-    let value : digits_value 10 (decimal n) ≡ n = numeral.1 in
-    rw (digits, lt-ltb 0 (length (decimal n)) numeral.0.0, front_right n small, value, lt-ltb n limit fits) refl
+    rw (digits, lt-ltb 0 (length (decimal n)) numeral.0.0, front_right n small, numeral.1, lt-ltb n limit fits) refl
 
 -- numbers that are written are read
 pub number_back : (n : ℕ) → n < 2 ^ 32 → number_of (decimal n) ≡ Some n
@@ -81,21 +71,16 @@ sum_back = below_back (2 ^ 128) (omega arith)
 
 -- ---- and nothing else is
 
-lone_zero : (x n : ℕ) → (not (x == 48) || (n == 1)) ≡ true → x ≡ 48 → n ≡ 1
-lone_zero x n h is = eqb-true n 1 (sym (rw (eq-eqb x 48 is) refl) ∙ h)
-
 below_read : (limit : ℕ) → limit ≤ 10 ^ 64 → (word : List ℕ) (n : ℕ) → number_below limit word ≡ Some n
     → (word ≡ decimal n) × (n < limit)
 below_read limit low word n h =
     let found = tested (is_decimal word && nat_lt (digits_value 10 word) limit) (digits_value 10 word) n h in
-    let tests = and_parts (is_decimal word) (nat_lt (digits_value 10 word) limit) found.0 in
+    let tests = and_parts (is_decimal word) _ found.0 in
     let parts = decimal_parts word tests.0 in
     let fits = ltb-true (digits_value 10 word) limit tests.1 in
-    let small : digits_value 10 word < 10 ^ 64 = omega arith in
-    let text =
-    digits_written word (own.to word parts.digits) parts.some
-    (lone_zero (slice_index word 0) (length word) parts.front) small in
-    (sym text ∙ ap decimal found.1, subst (λ (m : ℕ). m < limit) found.1 fits)
+    let front = parts.front in
+    let text = digits_written word (own.to word parts.digits) parts.some (grind (arith, nat_tests)) (omega arith) in
+    rw (← found.1) (sym text, fits)
 
 pub number_read : (word : List ℕ) (n : ℕ) → number_of word ≡ Some n → (word ≡ decimal n) × (n < 2 ^ 32)
 unfolding number_of

@@ -1,11 +1,11 @@
 -- The names of registers.
-use Rattle.std.proofs.Common.{◌≡◌, ℕ, zero, suc, ◌+◌, ◌<◌, Bool, true, false, cond, List, get_or, map, Option, Some, None, refl, ap, sym, ◌∙◌, arith}
+use Rattle.std.proofs.Common.{◌≡◌, ℕ, zero, suc, ◌+◌, ◌<◌, Bool, true, List, get_or, map, Option, Some, None, refl, ap, sym, ◌∙◌, arith}
 use Rattle.std.specs.List.{find, range_with_len}
 use Rattle.std.specs.Str.{bytes_eq}
+use Rattle.std.proofs.lemmas.Bool.Decides.{nat_tests}
 use Rattle.std.proofs.lemmas.List.FromFn.{get_or-map-range_with_len}
 use Rattle.std.proofs.lemmas.Slice.Eq.{bytes_eq-Decides}
-use Rattle.line_words.specs.Words.{register_text}
-use Rattle.line_words.specs.Words.{register_of}
+use Rattle.line_words.specs.Words.{register_of, register_text}
 
 all_back : map (λ reg. register_of (register_text reg)) (range_with_len 0 32) ≡ map Some (range_with_len 0 32)
 unfolding register_of
@@ -18,22 +18,10 @@ register_back reg small =
     ∙ ap (λ (found : List (Option ℕ)). get_or found reg None) all_back
     ∙ get_or-map-range_with_len Some 0 32 reg reg None small (omega arith)
 
-by_test : (test : ℕ → Bool) (from count x : ℕ) (b : Bool) → test from ≡ b
-    → (find test (range_with_len (from + 1) count) ≡ Some x → (test x ≡ true) × (x < from + 1 + count))
-    → cond b (Some from) (find test (range_with_len (from + 1) count)) ≡ Some x
-    → (test x ≡ true) × (x < from + suc count)
-by_test test from count x true is later h =
-    let same : from ≡ x = cc h in
-    (ap test (sym same) ∙ is, omega arith)
-by_test test from count x false is later h =
-    let found = later h in
-    let below = found.1 in
-    (found.0, omega arith)
-
 found_one : (test : ℕ → Bool) (from count x : ℕ) → find test (range_with_len from count) ≡ Some x
     → (test x ≡ true) × (x < from + count)
 found_one test from zero x h = absurd (cc h)
-found_one test from (suc count) x h = by_test test from count x (test from) refl (found_one test (from + 1) count x) h
+found_one test from (suc count) x h = grind (arith, nat_tests, found_one test (from + 1) count x)
 
 -- and no other word is
 pub register_read : (word : List ℕ) (reg : ℕ) → register_of word ≡ Some reg → (word ≡ register_text reg) × (reg < 32)

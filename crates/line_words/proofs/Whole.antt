@@ -6,21 +6,7 @@ use Rattle.line_words.proofs.Registers.{register_back, register_read}
 use Rattle.line_words.proofs.Split.{split_back, split_read}
 
 pub words_back : WordsReadBack
-words_back = record {
-  splits = split_back;
-  numbers = number_back;
-  counts = count_back;
-  sums = sum_back;
-  addresses = address_back;
-  registers = register_back;
-}
+words_back = assumption (split_back, number_back, count_back, sum_back, address_back, register_back)
 
 pub nothing_else : NothingElseReads
-nothing_else = record {
-  splits = split_read;
-  numbers = number_read;
-  counts = count_read;
-  sums = sum_read;
-  addresses = address_read;
-  registers = register_read;
-}
+nothing_else = assumption (split_read, number_read, count_read, sum_read, address_read, register_read)

@@ -1,19 +1,19 @@
 -- The word of an instruction decodes to it.
-use Rattle.std.proofs.Common.{◌≡◌, ℕ, ◌+◌, ◌*◌, ◌%◌, ◌^◌, ◌<◌, Bool, true, false, cond, ◌&&◌, nat_lt, ◌==◌, ℤ, refl, sym, ap, ap₂, ◌∙◌, arith}
+use Rattle.std.proofs.Common.{◌≡◌, ℕ, ◌+◌, ◌*◌, ◌^◌, ◌<◌, Bool, true, cond, ◌&&◌, nat_lt, ◌==◌, ℤ, refl, sym, ap, ap₂, ◌∙◌, arith}
 use Rattle.std.specs.Prelude.{if◌then◌else◌}
 use Rattle.std.proofs.lemmas.Bool.{and_parts, true≢false, ltb-true}
+use Rattle.std.proofs.lemmas.Bool.Decides.{nat_tests}
 use Rattle.v8_decode.specs.declared.Instr.{Instr}
 use Rattle.v8_decode.specs.declared.Instr.TheVariants as i
 use Rattle.v8_decode.specs.declared.Op2.{Op2}
 use Rattle.v8_decode.specs.declared.Op2.TheVariants as o
 use Rattle.v8_decode.specs.declared.AluOp.{AluOp}
-use Rattle.v8_decode.specs.declared.AluOp.TheVariants as ops
 use Rattle.v8_decode.specs.declared.LoadKind.{LoadKind}
 use Rattle.v8_decode.specs.declared.LoadKind.TheVariants as loads
 use Rattle.v8_decode.specs.declared.StoreKind.{StoreKind}
 use Rattle.v8_decode.specs.declared.StoreKind.TheVariants as stores
 use Rattle.v8_decode.specs.Forms.{has_form}
-use Rattle.v8_decode.specs.Words.{field, signed, rd_of, op3_of, rs1_of, cond_of, op2_of, row_of, alu, load, store, arithmetic_rows, memory_rows, arithmetic, decode_of}
+use Rattle.v8_decode.specs.Words.{field, signed, rd_of, op3_of, rs1_of, cond_of, op2_of, Row, row_of, alu, load, store, arithmetic_rows, memory_rows, arithmetic, decode_of}
 use Rattle.v8_decode.specs.Ranges.{has_even_pair, op2_in_range, operands_in_range, is_in_range}
 use Rattle.v8_decode.proofs.Rows.{decode_of-call, decode_of-format2, decode_of-arithmetic, decode_of-memory}
 use Rattle.v8_encode.specs.Encoding.{fits_signed, signed_field, op2_fits, op2_field, alu_op3, load_op3, store_op3, format2, format3, has_word, word_of, annul_bit}
@@ -21,48 +21,27 @@ use Rattle.v8_encode.proofs.Fields.{format3_fields, op2_field-lt, op2_of-field, 
 
 -- the row of an operation's form
 arithmetic-row : (op : AluOp) (sets : Bool) → has_form op sets ≡ true → (w : ℕ) → row_of arithmetic_rows (alu_op3 op sets) w ≡ alu op sets w
-arithmetic-row ops.TADDcc false h w = absurd (true≢false (sym h))
-arithmetic-row ops.TSUBcc false h w = absurd (true≢false (sym h))
-arithmetic-row ops.TADDccTV false h w = absurd (true≢false (sym h))
-arithmetic-row ops.TSUBccTV false h w = absurd (true≢false (sym h))
-arithmetic-row ops.MULScc false h w = absurd (true≢false (sym h))
-arithmetic-row ops.SLL true h w = absurd (true≢false (sym h))
-arithmetic-row ops.SRL true h w = absurd (true≢false (sym h))
-arithmetic-row ops.SRA true h w = absurd (true≢false (sym h))
-arithmetic-row op true h w = refl
-arithmetic-row op false h w = refl
+arithmetic-row op sets h w = grind arith
 
-load-row : (kind : LoadKind) (w : ℕ) → has_even_pair (i.Load kind (rd_of w) (rs1_of w) (op2_of w)) ≡ true → row_of memory_rows (load_op3 kind) w ≡ load kind w
-load-row loads.LDD w h = ap (λ b. if b then load loads.LDD w else i.Illegal) h
-load-row kind w h = refl
+load-row : (kind : LoadKind) (rd rs1 w : ℕ) (op2 : Op2) → rd_of w ≡ rd → has_even_pair (i.Load kind rd rs1 op2) ≡ true
+    → row_of memory_rows (load_op3 kind) w ≡ load kind w
+load-row loads.LDD rd rs1 w op2 e h = rw (e, h) refl
+load-row kind rd rs1 w op2 e h = refl
 
-store-row : (kind : StoreKind) (w : ℕ) → has_even_pair (i.Store kind (rd_of w) (rs1_of w) (op2_of w)) ≡ true → row_of memory_rows (store_op3 kind) w ≡ store kind w
-store-row stores.STD w h = ap (λ b. if b then store stores.STD w else i.Illegal) h
-store-row kind w h = refl
+store-row : (kind : StoreKind) (rd rs1 w : ℕ) (op2 : Op2) → rd_of w ≡ rd → has_even_pair (i.Store kind rd rs1 op2) ≡ true
+    → row_of memory_rows (store_op3 kind) w ≡ store kind w
+store-row stores.STD rd rs1 w op2 e h = rw (e, h) refl
+store-row kind rd rs1 w op2 e h = refl
 
 -- each opcode has six bits
 alu_op3-small : (op : AluOp) (sets : Bool) → nat_lt (alu_op3 op sets) 64 ≡ true
-alu_op3-small ops.ADD true = refl
-alu_op3-small ops.ADD false = refl
-alu_op3-small op true = refl
-alu_op3-small op false = refl
+alu_op3-small op sets = grind (arith, nat_tests)
 
 load_op3-small : (kind : LoadKind) → nat_lt (load_op3 kind) 64 ≡ true
-load_op3-small loads.LD = refl
-load_op3-small kind = refl
+load_op3-small kind = grind (arith, nat_tests)
 
 store_op3-small : (kind : StoreKind) → nat_lt (store_op3 kind) 64 ≡ true
-store_op3-small stores.ST = refl
-store_op3-small kind = refl
-
--- whether a doubleword's rd is even rests on rd alone
-load_pair : (kind : LoadKind) (r rd rs1 : ℕ) (op2 : Op2) (w : ℕ) → r ≡ rd → has_even_pair (i.Load kind rd rs1 op2) ≡ true → has_even_pair (i.Load kind r (rs1_of w) (op2_of w)) ≡ true
-load_pair loads.LDD r rd rs1 op2 w e h = ap (λ x. x % 2 == 0) e ∙ h
-load_pair kind r rd rs1 op2 w e h = refl
-
-store_pair : (kind : StoreKind) (r rd rs1 : ℕ) (op2 : Op2) (w : ℕ) → r ≡ rd → has_even_pair (i.Store kind rd rs1 op2) ≡ true → has_even_pair (i.Store kind r (rs1_of w) (op2_of w)) ≡ true
-store_pair stores.STD r rd rs1 op2 w e h = ap (λ x. x % 2 == 0) e ∙ h
-store_pair kind r rd rs1 op2 w e h = refl
+store_op3-small kind = grind (arith, nat_tests)
 
 -- what a word of format 3 says of its fields
 record Says (op rd op3 rs1 : ℕ) (op2 : Op2) (w : ℕ) : Type 0 where
@@ -85,31 +64,22 @@ operands row s = ap₂ row s.the_rs1 s.the_op2
 all_fields : {op rd op3 rs1 : ℕ} {op2 : Op2} {w : ℕ} → (row : ℕ → ℕ → Op2 → Instr) → Says op rd op3 rs1 op2 w → row (rd_of w) (rs1_of w) (op2_of w) ≡ row rd rs1 op2
 all_fields {rd = rd} {w = w} row s = ap (λ x. row x (rs1_of w) (op2_of w)) s.the_rd ∙ operands (row rd) s
 
--- an arithmetic word with rd, rs1 and op2
-decoded3 : (row : ℕ → ℕ → Op2 → Instr) (rd op3 rs1 : ℕ) (op2 : Op2) → op3 < 64
-    → ((w : ℕ) → row_of arithmetic_rows op3 w ≡ row (rd_of w) (rs1_of w) (op2_of w))
-    → (nat_lt rd 32 && operands_in_range rs1 op2) ≡ true → op2_fits op2 ≡ true → decode_of (format3 2 rd op3 rs1 op2) ≡ row rd rs1 op2
-decoded3 row rd op3 rs1 op2 below is range fits =
+-- a word of table F-3 or F-4 with rd, rs1 and op2
+decoded3 : {op rd rs1 : ℕ} {op2 : Op2} {rows : ℕ → Row} → ((w n : ℕ) → field w 30 2 ≡ op → op3_of w ≡ n → decode_of w ≡ rows n w)
+    → (row : ℕ → ℕ → Op2 → Instr) (op3 : ℕ) → (op < 4) × (op3 < 64)
+    → ((w : ℕ) → rd_of w ≡ rd → rows op3 w ≡ row (rd_of w) (rs1_of w) (op2_of w))
+    → (nat_lt rd 32 && operands_in_range rs1 op2) ≡ true → op2_fits op2 ≡ true
+    → decode_of (format3 op rd op3 rs1 op2) ≡ row rd rs1 op2
+decoded3 {op} {rd} {rs1} {op2} decoded row op3 below is range fits =
     let parts = and_parts (nat_lt rd 32) (operands_in_range rs1 op2) range in
-    let s = says 2 rd op3 rs1 op2 (omega arith) (ltb-true rd 32 parts.0) below parts.1 fits in
-    decode_of-arithmetic (format3 2 rd op3 rs1 op2) op3 s.the_op s.the_op3 ∙ is (format3 2 rd op3 rs1 op2) ∙ all_fields row s
-
--- a word of table F-4 with rd, rs1 and op2
-decoded_memory : (row : ℕ → ℕ → Op2 → Instr) (rd op3 rs1 : ℕ) (op2 : Op2) → op3 < 64
-    → ((w : ℕ) → rd_of w ≡ rd → row_of memory_rows op3 w ≡ row (rd_of w) (rs1_of w) (op2_of w))
-    → (nat_lt rd 32 && operands_in_range rs1 op2) ≡ true → op2_fits op2 ≡ true → decode_of (format3 3 rd op3 rs1 op2) ≡ row rd rs1 op2
-decoded_memory row rd op3 rs1 op2 below is range fits =
-    let parts = and_parts (nat_lt rd 32) (operands_in_range rs1 op2) range in
-    let s = says 3 rd op3 rs1 op2 (omega arith) (ltb-true rd 32 parts.0) below parts.1 fits in
-    decode_of-memory (format3 3 rd op3 rs1 op2) op3 s.the_op s.the_op3 ∙ is (format3 3 rd op3 rs1 op2) s.the_rd ∙ all_fields row s
+    let s = says op rd op3 rs1 op2 below.0 (ltb-true rd 32 parts.0) below.1 parts.1 fits in
+    decoded (format3 op rd op3 rs1 op2) op3 s.the_op s.the_op3 ∙ is (format3 op rd op3 rs1 op2) s.the_rd ∙ all_fields row s
 
 annul_bit-is : (annul : Bool) → (annul_bit annul == 1) ≡ annul
-annul_bit-is true = refl
-annul_bit-is false = refl
+annul_bit-is annul = grind arith
 
 annul_bit-lt : (annul : Bool) → annul_bit annul < 2
-annul_bit-lt true = omega arith
-annul_bit-lt false = omega arith
+annul_bit-lt annul = grind arith
 
 decoded_sethi : (rd imm22 : ℕ) → nat_lt rd 32 ≡ true → nat_lt imm22 (2 ^ 22) ≡ true → decode_of (format2 rd 4 imm22) ≡ i.Sethi rd imm22
 decoded_sethi rd imm22 range fits =
@@ -187,21 +157,24 @@ decode_of-word_of (i.Branch cond annul disp22) range has = decoded_branch cond a
 decode_of-word_of (i.Call disp30) range has = decoded_call disp30 has
 decode_of-word_of (i.Alu op sets rd rs1 op2) range has =
     let parts = and_parts (has_form op sets) (op2_fits op2) has in
-    decoded3 (i.Alu op sets) rd (alu_op3 op sets) rs1 op2 (ltb-true _ 64 (alu_op3-small op sets)) (arithmetic-row op sets parts.0) range parts.1
+    decoded3 decode_of-arithmetic (i.Alu op sets) (alu_op3 op sets) (omega arith, ltb-true _ 64 (alu_op3-small op sets))
+    (λ w _. arithmetic-row op sets parts.0 w) range parts.1
 decode_of-word_of (i.ReadY rd) range has = decoded_read_y rd range
 decode_of-word_of (i.WriteY rs1 op2) range has = decoded_write_y rs1 op2 range has
-decode_of-word_of (i.Jmpl rd rs1 op2) range has = decoded3 i.Jmpl rd 0x38 rs1 op2 (omega arith) (λ w. refl) range has
+decode_of-word_of (i.Jmpl rd rs1 op2) range has = decoded3 decode_of-arithmetic i.Jmpl 0x38 (omega arith) (λ w _. refl) range has
 decode_of-word_of (i.Ticc cond rs1 op2) range has = decoded_ticc cond rs1 op2 range has
 decode_of-word_of (i.Flush rs1 op2) range has = decoded_flush rs1 op2 range has
 decode_of-word_of i.Stbar range has = decoded_stbar
-decode_of-word_of (i.Save rd rs1 op2) range has = decoded3 i.Save rd 0x3c rs1 op2 (omega arith) (λ w. refl) range has
-decode_of-word_of (i.Restore rd rs1 op2) range has = decoded3 i.Restore rd 0x3d rs1 op2 (omega arith) (λ w. refl) range has
+decode_of-word_of (i.Save rd rs1 op2) range has = decoded3 decode_of-arithmetic i.Save 0x3c (omega arith) (λ w _. refl) range has
+decode_of-word_of (i.Restore rd rs1 op2) range has = decoded3 decode_of-arithmetic i.Restore 0x3d (omega arith) (λ w _. refl) range has
 decode_of-word_of (i.Load kind rd rs1 op2) range has =
     let parts = and_parts (has_even_pair (i.Load kind rd rs1 op2)) (op2_fits op2) has in
-    decoded_memory (i.Load kind) rd (load_op3 kind) rs1 op2 (ltb-true _ 64 (load_op3-small kind)) (λ w the_rd. load-row kind w (load_pair kind (rd_of w) rd rs1 op2 w the_rd parts.0)) range parts.1
+    decoded3 decode_of-memory (i.Load kind) (load_op3 kind) (omega arith, ltb-true _ 64 (load_op3-small kind))
+    (λ w the_rd. load-row kind rd rs1 w op2 the_rd parts.0) range parts.1
 decode_of-word_of (i.Store kind rd rs1 op2) range has =
     let parts = and_parts (has_even_pair (i.Store kind rd rs1 op2)) (op2_fits op2) has in
-    decoded_memory (i.Store kind) rd (store_op3 kind) rs1 op2 (ltb-true _ 64 (store_op3-small kind)) (λ w the_rd. store-row kind w (store_pair kind (rd_of w) rd rs1 op2 w the_rd parts.0)) range parts.1
-decode_of-word_of (i.Ldstub rd rs1 op2) range has = decoded_memory i.Ldstub rd 0x0d rs1 op2 (omega arith) (λ w _. refl) range has
-decode_of-word_of (i.Swap rd rs1 op2) range has = decoded_memory i.Swap rd 0x0f rs1 op2 (omega arith) (λ w _. refl) range has
+    decoded3 decode_of-memory (i.Store kind) (store_op3 kind) (omega arith, ltb-true _ 64 (store_op3-small kind))
+    (λ w the_rd. store-row kind rd rs1 w op2 the_rd parts.0) range parts.1
+decode_of-word_of (i.Ldstub rd rs1 op2) range has = decoded3 decode_of-memory i.Ldstub 0x0d (omega arith) (λ w _. refl) range has
+decode_of-word_of (i.Swap rd rs1 op2) range has = decoded3 decode_of-memory i.Swap 0x0f (omega arith) (λ w _. refl) range has
 decode_of-word_of instr range has = absurd (true≢false (sym has))

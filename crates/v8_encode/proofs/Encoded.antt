@@ -1,7 +1,8 @@
 -- A word that is an instruction is encoded again, with 0 in the bits that its form ignores.
 use Rattle.std.proofs.Common.{◌≡◌, ℕ, ◌-◌, ◌*◌, ◌%◌, ◌^◌, ◌<◌, Bool, true, false, [], ◌∷◌, Some, None, ◌==◌, refl, sym, ap, ◌∙◌, arith}
 use Rattle.std.specs.Prelude.{if◌then◌else◌}
-use Rattle.std.proofs.lemmas.Bool.{and_from, true≢false, eqb-true, eqb-false, lt-ltb, cond_both}
+use Rattle.std.proofs.lemmas.Bool.{and_from, true≢false, eqb-true, lt-ltb, cond_both}
+use Rattle.std.proofs.lemmas.Bool.Decides.{nat_tests}
 use Rattle.v8_decode.specs.declared.Instr.{Instr}
 use Rattle.v8_decode.specs.declared.Instr.TheVariants as i
 use Rattle.v8_decode.specs.declared.AluOp.{AluOp}
@@ -121,11 +122,7 @@ refitted_memory w below op = row_by_row (Refits w) (op3_of w) w memory_rows (non
 ))
 
 annul_bit-field : (w : ℕ) → annul_bit (field w 29 1 == 1) ≡ field w 29 1
-annul_bit-field w = go (field w 29 1 == 1) refl
-  where
-    go : (b : Bool) → (field w 29 1 == 1) ≡ b → annul_bit b ≡ field w 29 1
-    go true e = sym (eqb-true (field w 29 1) 1 e)
-    go false e = let other = eqb-false (field w 29 1) 1 e in omega arith
+annul_bit-field w = grind (arith, nat_tests)
 
 refitted_branch : (w : ℕ) → w < 2 ^ 32 → field w 30 2 ≡ 0 → field w 22 3 ≡ 2 → Refits w (i.Branch (cond_of w) (field w 29 1 == 1) (signed 22 (field w 0 22)))
 refitted_branch w below the_op the_op2 =

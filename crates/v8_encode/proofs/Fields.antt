@@ -1,7 +1,8 @@
 -- The fields of a word that was put together, and a word put together of its fields.
-use Rattle.std.proofs.Common.{◌≡◌, ℕ, suc, ◌+◌, ◌-◌, ◌*◌, ◌^◌, ◌<◌, ◌≤◌, Bool, true, false, nat_lt, ◌==◌, ℤ, pos, negsuc, ◌-ℤ◌, refl, ap, ◌∙◌, arith}
+use Rattle.std.proofs.Common.{◌≡◌, ℕ, suc, ◌+◌, ◌-◌, ◌*◌, ◌^◌, ◌<◌, ◌≤◌, true, nat_lt, ◌==◌, ℤ, pos, negsuc, ◌-ℤ◌, refl, ap, ◌∙◌, arith}
 use Rattle.std.specs.Prelude.{if◌then◌else◌}
 use Rattle.std.proofs.lemmas.Bool.{eqb-true, eqb-false, ltb-true, ltb-false, le-ltb, lt-ltb, cond_both}
+use Rattle.std.proofs.lemmas.Bool.Decides.{nat_tests}
 use Rattle.std.proofs.lemmas.Int.{ints}
 use Rattle.v8_decode.specs.declared.Op2.{Op2}
 use Rattle.v8_decode.specs.declared.Op2.TheVariants as o
@@ -19,13 +20,7 @@ pub record IsFormat3 (op rd op3 rs1 low w : ℕ) : Type 0 where
 
 pub format3_fields : (op rd op3 rs1 low : ℕ) → op < 4 → rd < 32 → op3 < 64 → rs1 < 32 → low < 2 ^ 14
     → IsFormat3 op rd op3 rs1 low (op * 2 ^ 30 + rd * 2 ^ 25 + op3 * 2 ^ 19 + rs1 * 2 ^ 14 + low)
-format3_fields op rd op3 rs1 low h0 h1 h2 h3 h4 = record {
-  the_op = omega arith;
-  the_rd = omega arith;
-  the_op3 = omega arith;
-  the_rs1 = omega arith;
-  the_low = omega arith;
-}
+format3_fields op rd op3 rs1 low h0 h1 h2 h3 h4 = omega arith
 
 -- ---- numbers in two's complement
 
@@ -33,8 +28,7 @@ minus : (n m : ℕ) → n < m → pos n -ℤ pos m ≡ negsuc (m - suc n)
 minus n m h = omega (arith, ints)
 
 pub signed_field-lt : (width : ℕ) (z : ℤ) → 2 ^ width ≡ 2 * 2 ^ (width - 1) → fits_signed width z ≡ true → signed_field width z < 2 ^ width
-signed_field-lt width (pos n) twice fits = let low = ltb-true n (2 ^ (width - 1)) fits in omega arith
-signed_field-lt width (negsuc n) twice fits = let low = ltb-true n (2 ^ (width - 1)) fits in omega arith
+signed_field-lt width z twice fits = grind (arith, nat_tests)
 
 pub signed-signed_field : (width : ℕ) (z : ℤ) → 2 ^ width ≡ 2 * 2 ^ (width - 1) → fits_signed width z ≡ true → signed width (signed_field width z) ≡ z
 signed-signed_field width (pos n) twice fits = ap (λ b. if b then pos n else (pos n -ℤ pos (2 ^ width))) fits
@@ -57,8 +51,7 @@ signed_field-signed width n twice below = cond_both (nat_lt n (2 ^ (width - 1)))
 -- ---- the second operand
 
 pub op2_field-lt : (op2 : Op2) → op2_fits op2 ≡ true → op2_in_range op2 ≡ true → op2_field op2 < 2 ^ 14
-op2_field-lt (o.Reg rs2) fits range = let low = ltb-true rs2 32 range in omega arith
-op2_field-lt (o.Imm simm13) fits range = let low = signed_field-lt 13 simm13 refl fits in omega arith
+op2_field-lt op2 fits range = grind (arith, nat_tests, signed_field-lt 13)
 
 -- what is put into a word is read back
 pub op2_of-field : (op2 : Op2) (w : ℕ) → op2_fits op2 ≡ true → op2_in_range op2 ≡ true → field w 0 14 ≡ op2_field op2 → op2_of w ≡ op2

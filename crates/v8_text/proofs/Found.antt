@@ -1,13 +1,14 @@
 -- What is read one step after the other.
-use Rattle.std.proofs.Common.{◌≡◌, ℕ, ◌<◌, ◌==◌, not, Bool, true, false, cond, List, [], ◌∷◌, ◌++◌, get_or, map, Option, Some, None, ◌⊎◌, inl, inr, refl, ap, sym, ◌∙◌, arith}
+use Rattle.std.proofs.Common.{◌≡◌, ℕ, ◌<◌, ◌==◌, Bool, true, false, List, [], ◌∷◌, get_or, map, Option, Some, None, ◌⊎◌, inl, inr, refl, ap, sym, ◌∙◌, arith}
 use Rattle.std.specs.List.{range_with_len}
 use Rattle.std.specs.Str.{bytes_eq}
-use Rattle.std.proofs.lemmas.Bool.{and_from, and_parts, eq-eqb, eqb-true}
+use Rattle.std.proofs.lemmas.Bool.{eq-eqb}
+use Rattle.std.proofs.lemmas.Bool.Decides.{nat_tests}
 use Rattle.std.proofs.lemmas.List.FromFn.{get_or-map-range_with_len}
 use Rattle.std.proofs.lemmas.Slice.Eq.{bytes_eq-Decides}
 use Rattle.line_words.specs.Words.{register_of, register_text}
 use Rattle.line_words.proofs.Registers.{register_read}
-use Rattle.line_words.proofs.Split.{is_whole}
+pub use Rattle.line_words.proofs.Split.{is_whole, whole_append}
 use Rattle.v8_text.specs.Parts.{behind, first_of}
 
 -- what the first or the second of two gives
@@ -36,15 +37,10 @@ pub behind_back : (mark : ℕ) (rest : List ℕ) → behind mark (mark ∷ rest)
 unfolding behind
 behind_back mark rest = rw (eq-eqb mark mark refl) refl
 
-by_mark : (mark byte : ℕ) (bytes rest : List ℕ) (b : Bool) → (byte == mark) ≡ b
-    → cond b (Some bytes) None ≡ Some rest → byte ∷ bytes ≡ mark ∷ rest
-by_mark mark byte bytes rest true is h = cc (eqb-true byte mark is)
-by_mark mark byte bytes rest false is h = absurd (cc h)
-
 pub behind_read : (mark : ℕ) (word rest : List ℕ) → behind mark word ≡ Some rest → word ≡ mark ∷ rest
 unfolding behind
 behind_read mark [] rest h = absurd (cc h)
-behind_read mark (byte ∷ bytes) rest h = by_mark mark byte bytes rest (byte == mark) refl h
+behind_read mark (byte ∷ bytes) rest h = grind (arith, nat_tests)
 
 -- where another byte comes first there is nothing
 pub not_behind : (mark byte : ℕ) (bytes : List ℕ) → (byte == mark) ≡ false → behind mark (byte ∷ bytes) ≡ None
@@ -52,13 +48,6 @@ unfolding behind
 not_behind mark byte bytes other = rw other refl
 
 -- ---- words without a byte
-
-pub whole_append : (mark : ℕ) (one other : List ℕ) → is_whole mark one ≡ true → is_whole mark other ≡ true
-    → is_whole mark (one ++ other) ≡ true
-whole_append mark [] other a b = b
-whole_append mark (byte ∷ one) other a b =
-    let parts = and_parts (not (byte == mark)) (is_whole mark one) a in
-    and_from (not (byte == mark)) (is_whole mark (one ++ other)) parts.0 (whole_append mark one other parts.1 b)
 
 pub register_whole-44 : (reg : ℕ) → reg < 32 → is_whole 44 (register_text reg) ≡ true
 register_whole-44 = at_each (λ reg. is_whole 44 (register_text reg)) 32 refl

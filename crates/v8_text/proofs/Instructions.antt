@@ -1,8 +1,9 @@
 -- Instructions.
-use Rattle.std.proofs.Common.{◌≡◌, ℕ, ◌<◌, ◌^◌, Bool, true, false, nat_lt, ◌&&◌, List, codes, Option, Some, None, ℤ, pos, negsuc, inl, inr, refl, ap, ap₂, sym, subst, ◌∙◌, arith}
+use Rattle.std.proofs.Common.{◌≡◌, ℕ, ◌<◌, ◌^◌, true, false, nat_lt, ◌&&◌, List, codes, Option, Some, None, ℤ, inl, inr, refl, ap, ap₂, sym, subst, ◌∙◌, arith}
 use Rattle.std.specs.Str.{bytes_eq}
 use Rattle.std.specs.Option.{option_map}
-use Rattle.std.proofs.lemmas.Bool.{and_parts, lt-ltb, ltb-true, true≢false, false_from_ne_true}
+use Rattle.std.proofs.lemmas.Bool.{and_parts, ltb-true, true≢false, false_from_ne_true}
+use Rattle.std.proofs.lemmas.Bool.Decides.{nat_tests}
 use Rattle.line_words.specs.Words.{number_of, register_of, split_at}
 use Rattle.line_words.proofs.Numbers.{number_read}
 use Rattle.line_words.proofs.Registers.{register_read}
@@ -16,8 +17,8 @@ use Rattle.v8_decode.specs.Ranges.{has_even_pair, is_in_range, op2_in_range, ope
 use Rattle.v8_encode.specs.Encoding.{fits_signed, has_word, op2_fits}
 use Rattle.v8_text.specs.declared.names.Name.{Name}
 use Rattle.v8_text.specs.declared.names.Name.TheVariants as n
-use Rattle.v8_text.specs.Texts.{alu_text, branch_text, comma, instr_text, load_text, named, number_text, operands, loaded, sources, store_text, stored, target_of, trap_text}
-use Rattle.v8_text.specs.Parts.{displacement_of, instr_in, instr_of, loaded_of, joined_of, name_of, single_of, op2_of, operands_of, read_y_of, sethi_of, sources_of, stored_of, with_operands, with_sources, write_y_of}
+use Rattle.v8_text.specs.Texts.{alu_text, branch_text, comma, instr_text, load_text, named, number_text, sources, store_text, target_of, trap_text}
+use Rattle.v8_text.specs.Parts.{displacement_of, instr_in, instr_of, joined_of, name_of, single_of, op2_of, read_y_of, sethi_of, sources_of, with_operands, with_sources, write_y_of}
 use Rattle.v8_text.proofs.Found.{text_is}
 use Rattle.v8_text.proofs.Integers.{op2_read}
 use Rattle.v8_text.proofs.Rows.{AreFit, loaded_back, loaded_read, operands_back, operands_read, read_y_back, sethi_back, sources_back, sources_read, stored_back, stored_read, write_y_back}
@@ -60,8 +61,7 @@ two : (make : ℕ → Op2 → Instr) (rs1 : ℕ) (op2 : Op2) → operands_in_ran
 two make rs1 op2 range fits = ap (with_sources make) (sources_back rs1 op2 (fit rs1 op2 range fits))
 
 wider : (z : ℤ) → fits_signed 22 z ≡ true → fits_signed 30 z ≡ true
-wider (pos k) fits = let low = ltb-true k (2 ^ 21) fits in lt-ltb k (2 ^ 29) (omega arith)
-wider (negsuc k) fits = let low = ltb-true k (2 ^ 21) fits in lt-ltb k (2 ^ 29) (omega arith)
+wider z fits = grind (arith, nat_tests)
 
 stbar_back : (at : ℕ) → instr_of at (codes "stbar") ≡ Some i.Stbar
 unfolding instr_of

@@ -21,8 +21,7 @@ digits_other : (mark : ℕ) (word : List ℕ) → is_digit mark ≡ false → li
 unfolding behind
 digits_other mark [] other digits = refl
 digits_other mark (byte ∷ bytes) other digits =
-    let parts = and_parts (is_digit byte) (list_all is_digit bytes) digits in
-    rw (ne_eqb byte mark (λ is. cc (ap is_digit (sym is) ∙ parts.0, other))) refl
+    rw (ne_eqb byte mark (λ is. cc (ap is_digit (sym is) ∙ (and_parts (is_digit byte) _ digits).0, other))) refl
 
 no_letters : register_of [] ≡ None
 unfolding register_of
@@ -31,8 +30,7 @@ no_letters = refl
 no_digits : (word : List ℕ) → list_all is_digit word ≡ true → register_of word ≡ None
 no_digits [] digits = no_letters
 no_digits (byte ∷ bytes) digits =
-    let parts = and_parts (is_digit byte) (list_all is_digit bytes) digits in
-    no_register byte bytes (ne_eqb byte 37 (λ is. cc (ap is_digit (sym is) ∙ parts.0)))
+    no_register byte bytes (ne_eqb byte 37 (λ is. cc (ap is_digit (sym is) ∙ (and_parts (is_digit byte) _ digits).0)))
 
 small_is : (n : ℕ) → n ≤ 4096 → small n ≡ Some n
 small_is n low = rw (le-leb n 4096 low) refl
@@ -41,11 +39,7 @@ pub integer_back : (z : ℤ) → fits_signed 13 z ≡ true → integer_of (integ
 unfolding integer_of
 integer_back (pos n) fits =
     let low = ltb-true n (2 ^ 12) fits in
-    rw (
-      digits_other 45 (decimal n) refl (decimal_digits n (omega arith)),
-      number_back n (omega arith),
-      small_is n (omega arith),
-    ) refl
+    rw (digits_other 45 _ refl (decimal_digits n (omega arith)), number_back n (omega arith), small_is n (omega arith)) refl
 integer_back (negsuc n) fits =
     let low = ltb-true n (2 ^ 12) fits in
     rw (behind_back 45 (decimal (suc n)), number_back (suc n) (omega arith), small_is (suc n) (omega arith)) refl

@@ -1,5 +1,5 @@
 -- Listings that are read, line by line.
-use Rattle.std.proofs.Common.{◌≡◌, ◌≢◌, ℕ, suc, ◌+◌, ◌*◌, ◌%◌, ◌^◌, ◌<◌, ◌≤◌, true, false, List, [], ◌∷◌, ◌++◌, length, take, slice_index, Option, Some, None, refl, ap, sym, subst, ◌∙◌, append_assoc, arith}
+use Rattle.std.proofs.Common.{◌≡◌, ◌≢◌, ℕ, suc, ◌+◌, ◌*◌, ◌%◌, ◌^◌, ◌<◌, ◌≤◌, true, false, List, [], ◌∷◌, ◌++◌, length, take, slice_index, Option, Some, None, refl, ap, sym, ◌∙◌, append_assoc, arith}
 use Rattle.std.specs.List.{All}
 use Rattle.std.proofs.lemmas.Bool.{eq-eqb, eqb-true}
 use Rattle.std.proofs.lemmas.List.{append_cancel_left, append-nil, length-append, length-take-le, take_more}
@@ -12,7 +12,6 @@ use Rattle.line_words.proofs.Split.{split_back, split_read}
 use Rattle.v8_text.specs.Texts.{line_text, lines_from, listing_text, word_text}
 use Rattle.v8_text.specs.Listings.{is_next, AreListed, IsBadLine, IsLineOf, IsNextLine, ListingsReadBack, ReadsBack, line_of}
 use Rattle.v8_text.specs.Laws.{IsWordOf}
-use Rattle.v8_text.specs.Parts.{word_in}
 use Rattle.v8_text.proofs.Found.{whole_append}
 use Rattle.v8_text.proofs.Plain.{hex_plain, plain_whole}
 use Rattle.v8_text.proofs.Words.{word_back, word_whole}

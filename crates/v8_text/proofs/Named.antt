@@ -4,18 +4,16 @@ use Rattle.std.specs.List.{find, range_with_len}
 use Rattle.std.specs.Option.{option_map}
 use Rattle.std.specs.Str.{bytes_eq}
 use Rattle.std.proofs.lemmas.List.FromFn.{get_or-map-range_with_len}
+use Rattle.std.proofs.lemmas.Bool.Decides.{nat_tests}
 use Rattle.line_words.proofs.Steps.{chosen, mapped}
 use Rattle.v8_decode.specs.declared.AluOp.{AluOp}
-use Rattle.v8_decode.specs.declared.AluOp.TheVariants as ops
 use Rattle.v8_decode.specs.declared.LoadKind.{LoadKind}
-use Rattle.v8_decode.specs.declared.LoadKind.TheVariants as loads
 use Rattle.v8_decode.specs.declared.StoreKind.{StoreKind}
-use Rattle.v8_decode.specs.declared.StoreKind.TheVariants as stores
 use Rattle.v8_decode.specs.Forms.{has_form}
 use Rattle.v8_text.specs.declared.names.Name.{Name}
 use Rattle.v8_text.specs.declared.names.Name.TheVariants as n
 use Rattle.v8_text.specs.Texts.{alu_text, branch_text, load_text, store_text, trap_text}
-use Rattle.v8_text.specs.Parts.{all_loads, all_stores, alu_in, condition_in, first_of, joined_of, leaving, load_in, name_of, setting, single_of, store_in}
+use Rattle.v8_text.specs.Parts.{all_loads, all_stores, first_of, joined_of, leaving, name_of, setting, single_of}
 use Rattle.v8_text.proofs.Found.{either_of, text_is}
 
 abbrev pub name_text : Name → List ℕ
@@ -70,35 +68,21 @@ trap_back cond low = each_condition trap_text n.Ticc all_traps cond low
 
 pub alu_back : (op : AluOp) (cc : Bool) → has_form op cc ≡ true → name_of (alu_text op cc) ≡ Some (n.Alu op cc)
 unfolding name_of joined_of single_of
-alu_back ops.TADDcc false has = absurd (cc has)
-alu_back ops.TSUBcc false has = absurd (cc has)
-alu_back ops.TADDccTV false has = absurd (cc has)
-alu_back ops.TSUBccTV false has = absurd (cc has)
-alu_back ops.MULScc false has = absurd (cc has)
-alu_back ops.SLL true has = absurd (cc has)
-alu_back ops.SRL true has = absurd (cc has)
-alu_back ops.SRA true has = absurd (cc has)
-alu_back op true has = refl
-alu_back op false has = refl
+alu_back op cc has = grind arith
 
 pub load_back : (kind : LoadKind) → name_of (load_text kind) ≡ Some (n.Load kind)
 unfolding name_of joined_of single_of
-load_back loads.LD = refl
-load_back kind = refl
+load_back kind = grind arith
 
 pub store_back : (kind : StoreKind) → name_of (store_text kind) ≡ Some (n.Store kind)
 unfolding name_of joined_of single_of
-store_back stores.ST = refl
-store_back kind = refl
+store_back kind = grind arith
 
 -- ---- and no others
 
 found_in : {A : Type 0} (test : A → Bool) (xs : List A) (x : A) → find test xs ≡ Some x → test x ≡ true
 found_in test [] x h = absurd (cc h)
-found_in test (y ∷ ys) x h = elim (chosen (test y) (Some y) (find test ys) x h) as (λ _. test x ≡ true) [
-  | inl is ↦ cc (is.0, is.1)
-  | inr is ↦ found_in test ys x is.1
-]
+found_in test (y ∷ ys) x h = grind (arith, nat_tests, found_in test ys x)
 
 -- a name that was found among some
 among : {A : Type 0} (text : A → List ℕ) (make : A → Name) (xs : List A) (word : List ℕ) (name : Name)

@@ -1,7 +1,8 @@
 -- Texts in print: names and operands have neither a space nor a newline.
-use Rattle.std.proofs.Common.{◌≡◌, ℕ, suc, ◌*◌, ◌/◌, ◌%◌, ◌<◌, ◌≤◌, ◌^◌, ◌==◌, not, Bool, true, false, nat_le, nat_lt, ◌&&◌, List, [], ◌∷◌, ◌++◌, codes, decimal, ℤ, pos, negsuc, refl, arith}
+use Rattle.std.proofs.Common.{◌≡◌, ℕ, suc, ◌*◌, ◌/◌, ◌%◌, ◌<◌, ◌≤◌, ◌^◌, Bool, true, false, nat_lt, ◌&&◌, List, [], ◌∷◌, ◌++◌, codes, decimal, ℤ, pos, negsuc, refl, arith}
 use Rattle.std.specs.List.{list_all}
-use Rattle.std.proofs.lemmas.Bool.{and_from, and_parts, leb-true, lt-ltb, ltb-true, ne_eqb}
+use Rattle.std.proofs.lemmas.Bool.{and_parts, ltb-true}
+use Rattle.std.proofs.lemmas.Bool.Decides.{nat_tests}
 use Rattle.eel_base.specs.Fields.{hex_digit, hex_digit_at, hex_of}
 use Rattle.line_words.specs.Words.{is_digit, register_text}
 use Rattle.line_words.proofs.Split.{decimal_digits, is_whole}
@@ -10,11 +11,8 @@ use Rattle.v8_decode.specs.declared.Instr.TheVariants as i
 use Rattle.v8_decode.specs.declared.Op2.{Op2}
 use Rattle.v8_decode.specs.declared.Op2.TheVariants as o
 use Rattle.v8_decode.specs.declared.AluOp.{AluOp}
-use Rattle.v8_decode.specs.declared.AluOp.TheVariants as ops
 use Rattle.v8_decode.specs.declared.LoadKind.{LoadKind}
-use Rattle.v8_decode.specs.declared.LoadKind.TheVariants as loads
 use Rattle.v8_decode.specs.declared.StoreKind.{StoreKind}
-use Rattle.v8_decode.specs.declared.StoreKind.TheVariants as stores
 use Rattle.v8_decode.specs.Ranges.{is_in_range, op2_in_range, operands_in_range}
 use Rattle.v8_encode.specs.Encoding.{fits_signed, has_word, op2_fits}
 use Rattle.v8_text.specs.Texts.{alu_text, branch_text, comma, instr_text, integer_text, load_text, loaded, named, number_text, op2_text, operands, sources, store_text, stored, target_of, trap_text}
@@ -26,17 +24,11 @@ is_plain word = list_all (λ byte. nat_lt 32 byte) word
 
 pub plain_whole : (mark : ℕ) → mark ≤ 32 → (word : List ℕ) → is_plain word ≡ true → is_whole mark word ≡ true
 plain_whole mark low [] h = refl
-plain_whole mark low (byte ∷ word) h =
-    let parts = and_parts (nat_lt 32 byte) (is_plain word) h in
-    let above = ltb-true 32 byte parts.0 in
-    and_from (not (byte == mark)) (is_whole mark word) (rw (ne_eqb byte mark (λ is. absurd (omega arith))) refl)
-    (plain_whole mark low word parts.1)
+plain_whole mark low (byte ∷ word) h = grind (arith, nat_tests, plain_whole mark low word)
 
 plain_append : (one other : List ℕ) → is_plain one ≡ true → is_plain other ≡ true → is_plain (one ++ other) ≡ true
 plain_append [] other a b = b
-plain_append (byte ∷ one) other a b =
-    let parts = and_parts (nat_lt 32 byte) (is_plain one) a in
-    and_from (nat_lt 32 byte) (is_plain (one ++ other)) parts.0 (plain_append one other parts.1 b)
+plain_append (byte ∷ one) other a b = grind (arith, nat_tests, plain_append one other)
 
 -- ---- names
 
@@ -48,27 +40,19 @@ pub trap_plain : (cond : ℕ) → cond < 16 → is_plain (trap_text cond) ≡ tr
 trap_plain cond low = at_each (λ k. is_plain (trap_text k)) 16 refl cond low
 
 pub alu_plain : (op : AluOp) (cc : Bool) → is_plain (alu_text op cc) ≡ true
-alu_plain ops.ADD true = refl
-alu_plain ops.ADD false = refl
-alu_plain op true = refl
-alu_plain op false = refl
+alu_plain op cc = grind arith
 
 pub load_plain : (kind : LoadKind) → is_plain (load_text kind) ≡ true
-load_plain loads.LD = refl
-load_plain kind = refl
+load_plain kind = grind arith
 
 pub store_plain : (kind : StoreKind) → is_plain (store_text kind) ≡ true
-store_plain stores.ST = refl
-store_plain kind = refl
+store_plain kind = grind arith
 
 -- ---- operands
 
 digits_plain : (word : List ℕ) → list_all is_digit word ≡ true → is_plain word ≡ true
 digits_plain [] h = refl
-digits_plain (byte ∷ word) h =
-    let parts = and_parts (is_digit byte) (list_all is_digit word) h in
-    let low = leb-true 48 byte (and_parts (nat_le 48 byte) (nat_le byte 57) parts.0).0 in
-    and_from (nat_lt 32 byte) (is_plain word) (lt-ltb 32 byte (omega arith)) (digits_plain word parts.1)
+digits_plain (byte ∷ word) h = grind (arith, nat_tests, digits_plain word)
 
 decimal_plain : (n : ℕ) → n < 2 ^ 32 → is_plain (decimal n) ≡ true
 decimal_plain n fits = digits_plain (decimal n) (decimal_digits n fits)

@@ -1,5 +1,5 @@
 -- Texts that are put together.
-use Rattle.std.proofs.Common.{◌≡◌, List, ℕ, [], ◌∷◌, ◌++◌, ap, ◌∙◌, append_assoc}
+use Rattle.std.proofs.Common.{◌≡◌, List, ℕ, [], ◌∷◌, ◌++◌, append_assoc}
 use Rattle.v8_text.specs.Texts.{named}
 
 -- a name, and then its operands

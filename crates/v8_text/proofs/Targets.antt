@@ -1,6 +1,7 @@
 -- Where transfers lead.
-use Rattle.std.proofs.Common.{◌≡◌, ℕ, ◌+◌, ◌-◌, ◌*◌, ◌/◌, ◌%◌, ◌<◌, ◌^◌, ◌==◌, true, List, ◌∷◌, Some, ℤ, pos, negsuc, refl, ap, sym, subst, ◌∙◌, arith}
-use Rattle.std.proofs.lemmas.Bool.{eq-eqb, eqb-true, ltb-true}
+use Rattle.std.proofs.Common.{◌≡◌, ℕ, ◌+◌, ◌-◌, ◌*◌, ◌/◌, ◌%◌, ◌<◌, ◌^◌, ◌==◌, true, List, ◌∷◌, Some, ℤ, refl, ap, sym, ◌∙◌, arith}
+use Rattle.std.proofs.lemmas.Bool.{eq-eqb, eqb-true}
+use Rattle.std.proofs.lemmas.Bool.Decides.{nat_tests}
 use Rattle.eel_base.specs.Fields.{hex_of}
 use Rattle.line_words.proofs.Digits.{address_back, address_read}
 use Rattle.line_words.proofs.Steps.{step, tested}
@@ -26,10 +27,8 @@ unfolding number_in
 number_in_read word n h =
     step (IsNumber word) (behind 48 word) _ (λ rest a.
     step (IsNumber word) (behind 120 rest) _ (λ digits b n c.
-    let read = address_read digits n c in record {
-      text = cc (behind_read 48 word rest a, behind_read 120 rest digits b, read.0);
-      fits = read.1;
-    })) n h
+    let read = address_read digits n c in
+    record { text = cc (behind_read 48 word rest a, behind_read 120 rest digits b, read.0); fits = read.1 })) n h
 
 -- ---- displacements
 
@@ -39,16 +38,14 @@ distance at target = (target + (2 ^ 32 - at)) % 2 ^ 32
 distance_is : (at : ℕ) (z : ℤ) → at < 2 ^ 32 → fits_signed 30 z ≡ true
     → distance at (target_of at z) ≡ 4 * signed_field 30 z
 unfolding distance
-distance_is at (pos n) low fits = let small = ltb-true n (2 ^ 29) fits in omega arith
-distance_is at (negsuc n) low fits = let small = ltb-true n (2 ^ 29) fits in omega arith
+distance_is at z low fits = grind (arith, nat_tests)
 
 by_distance : (at target words : ℕ) (z : ℤ) → distance at target ≡ 4 * words → signed 30 words ≡ z
     → words_between at target ≡ Some z
 unfolding distance
 by_distance at target words z is value =
-    let whole : 4 * words % 4 ≡ 0 = omega arith in
     let part : 4 * words / 4 ≡ words = omega arith in
-    rw (is, eq-eqb (4 * words % 4) 0 whole, part, value) refl
+    rw (is, eq-eqb (4 * words % 4) 0 (omega arith), part, value) refl
 
 between_back : (at : ℕ) (z : ℤ) → at < 2 ^ 32 → fits_signed 30 z ≡ true → words_between at (target_of at z) ≡ Some z
 between_back at z low fits =
@@ -57,9 +54,7 @@ between_back at z low fits =
 led_to : (at target words : ℕ) (z : ℤ) → at < 2 ^ 32 → target < 2 ^ 32 → distance at target ≡ 4 * words
     → words < 2 ^ 30 → fits_signed 30 z ≡ true → signed_field 30 z ≡ words → target_of at z ≡ target
 unfolding distance
-led_to at target words (pos n) low fits far few small same = omega (arith, low, fits, far, few, same)
-led_to at target words (negsuc n) low fits far few small same =
-    let above = ltb-true n (2 ^ 29) small in omega (arith, low, fits, far, few, same, above)
+led_to at target words z low fits far few small same = grind (arith, nat_tests)
 
 between_read : (at target : ℕ) (z : ℤ) → at < 2 ^ 32 → target < 2 ^ 32 → words_between at target ≡ Some z
     → target_of at z ≡ target

@@ -1,7 +1,8 @@
 -- Words.
-use Rattle.std.proofs.Common.{◌≡◌, ◌≢◌, ℕ, ◌<◌, ◌^◌, Bool, true, false, if◌then◌else◌, List, codes, Option, Some, None, refl, ap, sym, ◌∙◌}
+use Rattle.std.proofs.Common.{◌≡◌, ◌≢◌, ℕ, ◌<◌, ◌^◌, true, false, if◌then◌else◌, List, codes, Option, Some, None, refl, ap, sym, ◌∙◌, arith}
 use Rattle.std.specs.Str.{bytes_eq}
-use Rattle.std.proofs.lemmas.Bool.{eq-eqb, eqb-true}
+use Rattle.std.proofs.lemmas.Bool.{cond_both, eq-eqb, eqb-true}
+use Rattle.std.proofs.lemmas.Bool.Decides.{nat_tests}
 use Rattle.line_words.specs.Words.{◌>>=◌, split_at}
 use Rattle.line_words.proofs.Split.{is_whole, split_back, split_read}
 use Rattle.line_words.proofs.Steps.{step, tested}
@@ -47,13 +48,10 @@ raw_back at w fits is =
 
 -- ---- both
 
-by_spelling : (at w : ℕ) (b : Bool) → is_spelled w ≡ b → at < 2 ^ 32 → w < 2 ^ 32 → word_in at (word_text at w) ≡ Some w
-unfolding word_text
-by_spelling at w true is low fits = rw is (spelled_back at w low is)
-by_spelling at w false is low fits = rw is (raw_back at w fits is)
-
 pub word_back : TextsReadBack
-word_back at w low fits = by_spelling at w (is_spelled w) refl low fits
+unfolding word_text
+word_back at w low fits =
+    cond_both (is_spelled w) _ _ (λ text. word_in at text ≡ Some w) (spelled_back at w low) (raw_back at w fits)
 
 -- what is read as an instruction
 pub spelled_read : (at w : ℕ) (text : List ℕ) (instr : Instr) → at < 2 ^ 32 → instr_of at text ≡ Some instr
@@ -69,11 +67,7 @@ unfolding word_text
 raw_is at w is = sym (rw is refl)
 
 unspelled_is : (w v : ℕ) → unspelled w ≡ Some v → (is_spelled w ≡ false) × (w ≡ v)
-unspelled_is w v h = go (is_spelled w) refl h
-  where
-    go : (b : Bool) → is_spelled w ≡ b → (if b then None else Some w) ≡ Some v → (is_spelled w ≡ false) × (w ≡ v)
-    go true is h = absurd (cc h)
-    go false is h = (is, cc h)
+unspelled_is w v h = grind (arith, nat_tests)
 
 pub raw_read : (at w : ℕ) (text : List ℕ) → raw_of text ≡ Some w → text ≡ word_text at w
 unfolding raw_of
@@ -100,12 +94,9 @@ nothing_read at text a b = rw (a, b) refl
 
 -- ---- and no text has a newline
 
-whole_by : (at w : ℕ) (b : Bool) → is_spelled w ≡ b → is_whole 10 (word_text at w) ≡ true
-unfolding word_text
-whole_by at w true is =
-    let encoded = again_is w (encode_of (decode_of w)) is in
-    rw is (instr_whole at (decode_of w) (decode_of-ranges w).0 (has (decode_of w) w encoded))
-whole_by at w false is = rw is (named_whole (codes ".word") (number_text w) refl (hex_plain w))
-
 pub word_whole : (at w : ℕ) → is_whole 10 (word_text at w) ≡ true
-word_whole at w = whole_by at w (is_spelled w) refl
+unfolding word_text
+word_whole at w =
+    cond_both (is_spelled w) _ _ (λ text. is_whole 10 text ≡ true)
+    (λ is. instr_whole at (decode_of w) (decode_of-ranges w).0 (has (decode_of w) w (again_is w (encode_of (decode_of w)) is)))
+    (λ _. named_whole (codes ".word") (number_text w) refl (hex_plain w))

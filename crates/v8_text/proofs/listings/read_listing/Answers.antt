@@ -1,6 +1,5 @@
 use Rattle.std.proofs.Common.{rules, ◌≡◌, ◌≢◌, [], length, ◌+◌, ℕ, subst, sym, ◌∙◌, ap}
 use Rattle.std.proofs.lemmas.Result.{err_from_is_err_and}
-use Rattle.v8_text.specs.declared.listings.ListFault.{ListFault}
 use Rattle.v8_text.specs.declared.listings.ListFault.TheVariants as faults
 use Rattle.v8_text.specs.Listings.{IsUnlisted}
 use Rattle.v8_text.proofs.Listed.{read_more, stopped}
