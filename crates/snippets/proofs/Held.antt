@@ -1,9 +1,9 @@
 -- What a script holds once some lines were read.
-use Rattle.std.proofs.Common.{◌≡◌, ℕ, zero, suc, ◌+◌, ◌-◌, ◌<◌, ◌≤◌, ◌==◌, max, nat_lt, Bool, true, false, List, [], ◌∷◌, ◌++◌, ◌≢◌, append-nil, append_assoc, length, take, get_or, map, replicate, Result, Ok, Err, Some, None, refl, ap, ap₂, sym, subst, ◌∙◌, arith}
+use Rattle.std.proofs.Common.{◌≡◌, ℕ, zero, suc, ◌+◌, ◌-◌, ◌<◌, ◌≤◌, ◌==◌, max, Bool, inl, inr, true, false, List, [], ◌∷◌, ◌++◌, ◌≢◌, append-nil, append_assoc, length, take, get_or, map, replicate, Result, Ok, Err, Some, None, refl, ap, ap₂, sym, ◌∙◌, arith}
 use Rattle.std.specs.List.{range_with_len}
-use Rattle.std.proofs.lemmas.Bool.{ltb-true, ltb-false, eqb-true, eq-eqb, ne_eqb}
+use Rattle.std.proofs.lemmas.Bool.{cases_lt, eqb-true, eq-eqb, ne_eqb}
 use Rattle.std.proofs.lemmas.Grind.{get_or-set_at}
-use Rattle.std.proofs.lemmas.List.{length-append, length-map, length-set, length-take, length-replicate, get_or-map, get_or-set_other, get_or-take, get_or_append_left, take-append-le, take-take, take_more}
+use Rattle.std.proofs.lemmas.List.{length-append, length-map, length-set, length-take, length-replicate, get_or-map, get_or-set_other, get_or-take, get_or_append_left, get_or_past, take-append-le, take-take, take_more}
 use Rattle.std.proofs.lemmas.List.FromFn.{fill_by_all, get_or-map-range_with_len, length-map-range_with_len}
 use Rattle.std.proofs.Math.Seq.{take-append_seam, take-length, get_or-append_seam}
 use Rattle.std.specs.Result.{IsErrAnd}
@@ -12,7 +12,7 @@ use Rattle.snippets.specs.declared.script.Script.{Script}
 use Rattle.snippets.specs.declared.script.ScriptFault.{ScriptFault}
 use Rattle.snippets.specs.declared.script.ScriptFault.TheVariants as faults
 use Rattle.snippets.specs.Grammar.{Said, Nothing, Does, Wrong}
-use Rattle.snippets.specs.Scripts.{Answers, IsFault, IsFirstFault, IsGood, IsScript, cell_end, edge_end, end_of, fault_at, fault_of, on_edge, ops_on, snips_of}
+use Rattle.snippets.specs.Scripts.{Answers, IsFault, IsFirstFault, IsGood, IsScript, cell_end, edge_end, end_of, fault_of, on_edge, ops_on, snips_of}
 use Rattle.snippets.specs.Parts.{IsCause, cells_after, fault_in, ops_at, padded, said_of, snips_after, with_op}
 
 pub record Held (edges : ℕ) (before : List Said) (snips : List (List Op)) (cells : ℕ) : Type 0 where
@@ -43,24 +43,16 @@ none_past [] edge past = refl
 none_past (line ∷ before) edge past =
     ap₂ (λ (xs ys : List Op). xs ++ ys) (off_edge edge line (omega arith)) (none_past before edge (omega arith))
 
-get-past : (snips : List (List Op)) (k : ℕ) → length snips ≤ k → get_or snips k [] ≡ []
-get-past [] k past = refl
-get-past (snip ∷ snips) zero past = absurd (omega arith)
-get-past (snip ∷ snips) (suc k) past = get-past snips k (omega arith)
-
 -- the snippet of each edge
 get-snips : (before : List Said) (edge : ℕ) → get_or (snips_of before) edge [] ≡ ops_on edge before
-get-snips before edge = by_test (nat_lt edge (end_of edge_end before)) refl
-  where
-    by_test : (b : Bool) → nat_lt edge (end_of edge_end before) ≡ b
-        → get_or (snips_of before) edge [] ≡ ops_on edge before
-    by_test true is =
-        let within = ltb-true edge (end_of edge_end before) is in
-        get_or-map-range_with_len (λ e. ops_on e before) 0 (end_of edge_end before) edge edge [] within (omega arith)
-    by_test false is =
-        let past = ltb-false edge (end_of edge_end before) is in
-        let long = length-map-range_with_len (λ e. ops_on e before) 0 (end_of edge_end before) in
-        get-past (snips_of before) edge (omega arith) ∙ sym (none_past before edge past)
+get-snips before edge =
+    let end = end_of edge_end before in
+    elim (cases_lt edge end) [
+      | inl within ↦ get_or-map-range_with_len (λ e. ops_on e before) 0 end edge edge [] within (omega arith)
+      | inr past ↦
+          let long = length-map-range_with_len (λ e. ops_on e before) 0 end in
+          get_or_past (snips_of before) edge [] (omega arith) ∙ sym (none_past before edge past)
+    ]
 
 empties : ℕ → List (List Op)
 empties count = replicate count []
@@ -134,21 +126,16 @@ fault-same edges before number snips Wrong place same = rw place refl
 
 good_more : (edges : ℕ) (before : List Said) (line : Said) → IsGood edges before → fault_of edges before line ≡ None
     → IsGood edges (before ++ line ∷ [])
-good_more edges before line good next = λ k below. at k below (nat_lt k (length before)) refl
-  where
-    at : (k : ℕ) → k < length (before ++ line ∷ []) → (b : Bool) → nat_lt k (length before) ≡ b
-        → fault_at edges (before ++ line ∷ []) k ≡ None
-    at k below true is =
-        let within = ltb-true k (length before) is in
-        let front = take-append-le k before (line ∷ []) (omega arith) in
-        let here = get_or_append_left before (line ∷ []) Nothing k within in
-        ap₂ (fault_of edges) front here ∙ good k within
-    at k below false is =
-        let past = ltb-false k (length before) is in
-        let all = length-append before (line ∷ []) in
-        let last : k ≡ length before = omega arith in
-        let front = take-append_seam before (line ∷ []) in
-        rw last (ap₂ (fault_of edges) front (get_or-append_seam before line [] Nothing) ∙ next)
+good_more edges before line good next = λ k below. elim (cases_lt k (length before)) [
+  | inl within ↦
+      ap₂ (fault_of edges) (take-append-le k before (line ∷ []) (omega arith))
+      (get_or_append_left before (line ∷ []) Nothing k within) ∙ good k within
+  | inr past ↦
+      let all = length-append before (line ∷ []) in
+      let last : k ≡ length before = omega arith in
+      let front = take-append_seam before (line ∷ []) in
+      rw last (ap₂ (fault_of edges) front (get_or-append_seam before line [] Nothing) ∙ next)
+]
 
 held_more : (edges : ℕ) (before : List Said) (number : ℕ) (snips : List (List Op)) (cells : ℕ) (line : Said)
     → number ≡ length before + 1 → Held edges before snips cells → fault_in edges number snips line ≡ None
