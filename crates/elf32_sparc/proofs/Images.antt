@@ -35,14 +35,8 @@ pub is_read : (file : List ℕ) (h : ProgramHeader) (segments : List Segment) (t
     → text_header (program_headers file) ≡ Some h → segments ≡ map segment_of (loadable (program_headers file)) → text ≡ text_from file h
     → funcs ≡ funcs_of file text → address ≡ e_entry file → base ≡ rounded_up (highest_end segments)
     → IsRead file h segments text funcs ((address - h.p_vaddr) / 4) base
-is_read file h segments text funcs address base found segments_are text_is funcs_are entry_is base_is = record {
-  found = found;
-  segments_are = segments_are;
-  text_is = text_is;
-  funcs_are = funcs_are;
-  entry_is = ap (λ e. (e - h.p_vaddr) / 4) entry_is;
-  base_is = base_is;
-}
+is_read file h segments text funcs address base found segments_are text_is funcs_are entry_is base_is =
+    assumption (ap (λ e. (e - h.p_vaddr) / 4) entry_is)
 
 abbrev program : List Segment → Words → List Func → ℕ → ℕ → Program
 program segments text funcs entry base = record { segments = segments; text = text; funcs = funcs; entry = entry; base = base; room = room_from base }
@@ -53,15 +47,9 @@ image_is file h segments text funcs entry base read =
     let text_found : text ≡ text_of file = read.text_is ∙ text_of-found file h read.found in
     let start : h.p_vaddr ≡ (text_of file).start = ap (λ t. t.start) (text_of-found file h read.found) in
     let entry_found : entry ≡ word_number (text_of file) (e_entry file) = read.entry_is ∙ ap (λ s. (e_entry file - s) / 4) start in
-    let all = map segment_of (loadable (program_headers file)) in
-    let base_found : base ≡ rounded_up (highest_end all) = read.base_is ∙ ap (λ s. rounded_up (highest_end s)) read.segments_are in
+    let base_found = read.base_is ∙ ap (λ s. rounded_up (highest_end s)) read.segments_are in
     let funcs_found : funcs ≡ funcs_of file (text_of file) = read.funcs_are ∙ ap (funcs_of file) text_found in
-    let all_funcs = funcs_of file (text_of file) in
-    ap (λ s. program s text funcs entry base) read.segments_are
-    ∙ (ap (λ t. program all t funcs entry base) text_found
-    ∙ (ap (λ f. program all (text_of file) f entry base) funcs_found
-    ∙ (ap (λ e. program all (text_of file) all_funcs e base) entry_found
-    ∙ ap (λ b. program all (text_of file) all_funcs (word_number (text_of file) (e_entry file)) b) base_found)))
+    rw (read.segments_are, text_found, funcs_found, entry_found, base_found)
 
 pub image_is_program : (file : List ℕ) (h : ProgramHeader) (segments : List Segment) (text : Words) (funcs : List Func) (entry base : ℕ) → IsFit file h → highest_end segments ≤ 0x80000000 → IsRead file h segments text funcs entry base → IsProgram (program segments text funcs entry base)
 unfolding text_from

@@ -16,16 +16,7 @@ pub loadable_file : (file : List ℕ) → load_fault file ≡ None → Loadable 
 unfolding load_fault
 loadable_file file none =
     let rows = load_rows (length file) (program_headers file) in
-    let all = header_accepted 80 file rows (none_holds (header_rows 80 file ++ rows) none) in
-    let later = all.1 in
-    record {
-      header = all.0;
-      segment_file = later.0;
-      segment_room = later.1.0;
-      segment_order = later.1.1.0;
-      align = later.1.1.1.0;
-      memory_large = later.1.1.1.1.0;
-    }
+    let all = header_accepted 80 file rows (none_holds (header_rows 80 file ++ rows) none) in assumption
 
 pub loads_inside : (file : List ℕ) → load_fault file ≡ None → has_bytes_outside (length file) (program_headers file) ≡ false
 loads_inside file none = (loadable_file file none).segment_file

@@ -1,13 +1,13 @@
 -- What a survey of headers shows is what is true of all of them.
-use Rattle.std.proofs.Common.{◌≡◌, ℕ, ◌+◌, Bool, true, false, ◌&&◌, ◌||◌, cond, not, ltb, List, [], ◌∷◌, Option, Some, None, refl, sym, ap, ◌∙◌, arith}
+use Rattle.std.proofs.Common.{◌≡◌, ℕ, ◌+◌, Bool, true, false, ◌&&◌, ◌||◌, cond, ltb, List, [], ◌∷◌, Option, Some, None, refl, sym, ap, ◌∙◌, arith}
 use Rattle.std.proofs.Math.Bool.{or_assoc}
 use Rattle.std.specs.List.{fold, find, list_any}
 use Rattle.std.specs.Option.{option_or}
 use Rattle.elf32_sparc.specs.declared.header.ProgramHeader.{ProgramHeader}
 use Rattle.elf32_sparc.specs.declared.survey.Survey.{Survey}
 use Rattle.elf32_sparc.specs.Header.{is_loadable, end_of, is_text, loadable}
-use Rattle.elf32_sparc.specs.FileFault.{is_dynamic, leaves_file, leaves_room, is_aligned, descends_from}
-use Rattle.elf32_sparc.specs.Survey.{leaves_run, noted}
+use Rattle.elf32_sparc.specs.FileFault.{descends_from}
+use Rattle.elf32_sparc.specs.Survey.{noted}
 
 or-false : (a : Bool) → a ≡ (a || false)
 or-false true = refl
@@ -18,30 +18,15 @@ any_more : {X : Type 0} (p : X → Bool) (x : X) (rest : List X) (a b : Bool) �
 any_more p x rest a true = or_assoc a (p x) (list_any p rest)
 any_more p x rest a false = ap (λ v. v || list_any p rest) (sym (or-false a))
 
-pub fold-has_dynamic : (size : ℕ) (s : Survey) (hs : List ProgramHeader) → (fold (noted size) s hs).has_dynamic ≡ (s.has_dynamic || list_any is_dynamic hs)
-unfolding noted
-fold-has_dynamic size s [] = or-false s.has_dynamic
-fold-has_dynamic size s (h ∷ hs) = fold-has_dynamic size (noted size s h) hs ∙ or_assoc s.has_dynamic (is_dynamic h) (list_any is_dynamic hs)
+-- a field of a survey that adds up what is true of each header, and of each that is kept
+module _ (size : ℕ) (read : Survey → Bool) (p : ProgramHeader → Bool) where
+  pub fold-any : ((s : Survey) (h : ProgramHeader) → read (noted size s h) ≡ (read s || p h)) → (s : Survey) (hs : List ProgramHeader) → read (fold (noted size) s hs) ≡ (read s || list_any p hs)
+  fold-any adds s [] = or-false (read s)
+  fold-any adds s (h ∷ hs) = fold-any adds (noted size s h) hs ∙ rw (adds s h) (or_assoc (read s) (p h) (list_any p hs))
 
-pub fold-leaves_file : (size : ℕ) (s : Survey) (hs : List ProgramHeader) → (fold (noted size) s hs).leaves_file ≡ (s.leaves_file || list_any (leaves_file size) hs)
-unfolding noted
-fold-leaves_file size s [] = or-false s.leaves_file
-fold-leaves_file size s (h ∷ hs) = fold-leaves_file size (noted size s h) hs ∙ or_assoc s.leaves_file (leaves_file size h) (list_any (leaves_file size) hs)
-
-pub fold-leaves_room : (size : ℕ) (s : Survey) (hs : List ProgramHeader) → (fold (noted size) s hs).leaves_room ≡ (s.leaves_room || list_any leaves_room (loadable hs))
-unfolding noted
-fold-leaves_room size s [] = or-false s.leaves_room
-fold-leaves_room size s (h ∷ hs) = fold-leaves_room size (noted size s h) hs ∙ any_more leaves_room h (loadable hs) s.leaves_room (is_loadable h)
-
-pub fold-leaves_run : (size : ℕ) (s : Survey) (hs : List ProgramHeader) → (fold (noted size) s hs).leaves_run ≡ (s.leaves_run || list_any leaves_run (loadable hs))
-unfolding noted
-fold-leaves_run size s [] = or-false s.leaves_run
-fold-leaves_run size s (h ∷ hs) = fold-leaves_run size (noted size s h) hs ∙ any_more leaves_run h (loadable hs) s.leaves_run (is_loadable h)
-
-pub fold-is_misaligned : (size : ℕ) (s : Survey) (hs : List ProgramHeader) → (fold (noted size) s hs).is_misaligned ≡ (s.is_misaligned || list_any (λ h. not (is_aligned h)) (loadable hs))
-unfolding noted
-fold-is_misaligned size s [] = or-false s.is_misaligned
-fold-is_misaligned size s (h ∷ hs) = fold-is_misaligned size (noted size s h) hs ∙ any_more (λ h'. not (is_aligned h')) h (loadable hs) s.is_misaligned (is_loadable h)
+  pub fold-kept : ((s : Survey) (h : ProgramHeader) → read (noted size s h) ≡ (read s || (is_loadable h && p h))) → (s : Survey) (hs : List ProgramHeader) → read (fold (noted size) s hs) ≡ (read s || list_any p (loadable hs))
+  fold-kept adds s [] = or-false (read s)
+  fold-kept adds s (h ∷ hs) = fold-kept adds (noted size s h) hs ∙ rw (adds s h) (any_more p h (loadable hs) (read s) (is_loadable h))
 
 descends_more : (h : ProgramHeader) (rest : List ProgramHeader) (end : ℕ) (a b : Bool) → ((a || (b && ltb h.p_vaddr end)) || descends_from (cond b (end_of h) end) rest) ≡ (a || descends_from end (cond b (h ∷ rest) rest))
 descends_more h rest end a true = or_assoc a (ltb h.p_vaddr end) (descends_from (end_of h) rest)
@@ -62,8 +47,7 @@ fold-memory size s [] = refl
 fold-memory size s (h ∷ hs) = fold-memory size (noted size s h) hs ∙ memory_more h (loadable hs) s.memory (is_loadable h)
 
 one_more : (n : ℕ) (b : Bool) → cond b (n + 1) n ≡ n + cond b 1 0
-one_more n true = refl
-one_more n false = omega arith
+one_more n b = grind arith
 
 pub fold-texts : (size : ℕ) (s : Survey) (hs : List ProgramHeader) → (fold (noted size) s hs).texts ≡ fold (λ a h. a + cond (is_text h) 1 0) s.texts hs
 unfolding noted

@@ -1,5 +1,5 @@
 -- A survey of headers, one after the other, and what it says of all of them.
-use Rattle.std.proofs.Common.{◌≡◌, ℕ, suc, ◌+◌, ◌-◌, ◌*◌, ◌<◌, ◌≤◌, List, ◌∷◌, length, sym, ap, ◌∙◌, arith}
+use Rattle.std.proofs.Common.{◌≡◌, ℕ, suc, ◌+◌, ◌-◌, ◌*◌, ◌<◌, ◌≤◌, List, ◌∷◌, length, sym, ap, ◌∙◌, arith, add-zero}
 use Rattle.std.specs.List.{fold}
 use Rattle.std.proofs.lemmas.Bool.{cond_both}
 use Rattle.elf32_sparc.specs.declared.header.ProgramHeader.{ProgramHeader}
@@ -21,12 +21,15 @@ headers_from-more file at count i below =
     let next : at + 32 * i + 32 ≡ at + 32 * (i + 1) = omega arith in
     ap (headers_from file (at + 32 * i)) left ∙ ap (λ a. program_header file (at + 32 * i) ∷ headers_from file a (count - (i + 1))) next
 
-pub starts : (file : List ℕ) → fold (noted (length file)) no_survey (headers_from file (e_phoff file + 32 * 0) (e_phnum file - 0)) ≡ survey_of file
-unfolding survey_of program_headers
-starts file =
-    let place : e_phoff file + 32 * 0 ≡ e_phoff file = omega arith in
+pub headers-none : (file : List ℕ) → headers_from file (e_phoff file + 32 * 0) (e_phnum file - 0) ≡ program_headers file
+unfolding program_headers
+headers-none file =
     let count : e_phnum file - 0 ≡ e_phnum file = omega arith in
-    ap (λ a. fold (noted (length file)) no_survey (headers_from file a (e_phnum file - 0))) place ∙ ap (λ n. fold (noted (length file)) no_survey (headers_from file (e_phoff file) n)) count
+    rw (add-zero, count)
+
+pub starts : (file : List ℕ) → fold (noted (length file)) no_survey (headers_from file (e_phoff file + 32 * 0) (e_phnum file - 0)) ≡ survey_of file
+unfolding survey_of
+starts file = ap (fold (noted (length file)) no_survey) (headers-none file)
 
 pub goes_on : (file : List ℕ) (size : ℕ) (s whole : Survey) (at count i : ℕ) → i < count → fold (noted size) s (headers_from file (at + 32 * i) (count - i)) ≡ whole → fold (noted size) (noted size s (program_header file (at + 32 * i))) (headers_from file (at + 32 * (i + 1)) (count - (i + 1))) ≡ whole
 goes_on file size s whole at count i below so_far = sym (ap (fold (noted size) s) (headers_from-more file at count i below)) ∙ so_far

@@ -1,9 +1,9 @@
 -- The table of program headers of a file without a fault.
-use Rattle.std.proofs.Common.{◌≡◌, ℕ, zero, suc, ◌+◌, ◌-◌, ◌*◌, ◌^◌, ◌<◌, ◌≤◌, Bool, true, false, not, ◌||◌, nat_eq, List, [], ◌∷◌, ◌++◌, length, refl, sym, ap, ◌∙◌, append_assoc, append-nil, arith, All}
+use Rattle.std.proofs.Common.{◌≡◌, ℕ, zero, suc, ◌+◌, ◌-◌, ◌*◌, ◌^◌, ◌<◌, ◌≤◌, true, false, not, nat_eq, List, [], ◌∷◌, ◌++◌, length, sym, ap, ◌∙◌, append_assoc, append-nil, arith, All, inl, inr}
 use Rattle.std.specs.List.{list_any}
-use Rattle.std.proofs.lemmas.Bool.{or_parts, and_parts, ltb-false, leb-true, eqb-true, not-false}
+use Rattle.std.proofs.lemmas.Bool.{or_cases, or_parts, and_parts, ltb-false, leb-true, eqb-true, not-false}
 use Rattle.elf32_sparc.specs.declared.header.ProgramHeader.{ProgramHeader}
-use Rattle.elf32_sparc.specs.Header.{e_phoff, e_phnum, program_header, headers_from, program_headers, loadable}
+use Rattle.elf32_sparc.specs.Header.{e_phnum, program_header, headers_from, program_headers, loadable}
 use Rattle.elf32_sparc.specs.FileFault.{is_short, has_bad_table, has_misaligned, is_aligned}
 use Rattle.elf32_sparc.proofs.Accepted.{Accepted}
 use Rattle.elf32_sparc.proofs.Surveys.{headers_from-more}
@@ -16,12 +16,11 @@ pub whole_header : (file : List ℕ) → Accepted file → 52 ≤ length file
 unfolding is_short
 whole_header file ok = ltb-false (length file) 52 ok.header.short
 
-small : (align : ℕ) (zero other : Bool) → (zero ≡ true → align ≡ 0) → (other ≡ true → align ≤ 2 ^ 20) → (zero || other) ≡ true → align ≤ 2 ^ 20
-small align true other is bounded holds = let e = is refl in omega arith
-small align false other is bounded holds = bounded holds
-
 small_align : (h : ProgramHeader) → is_aligned h ≡ true → h.p_align ≤ 2 ^ 20
-small_align h holds = small h.p_align (nat_eq h.p_align 0) _ (eqb-true h.p_align 0) (λ both. leb-true h.p_align (2 ^ 20) (and_parts _ _ (and_parts _ _ both).0).1) holds
+small_align h holds = elim (or_cases (nat_eq h.p_align 0) _ holds) [
+  | inl is ↦ let none = eqb-true h.p_align 0 is in omega arith
+  | inr both ↦ leb-true h.p_align (2 ^ 20) (and_parts _ _ (and_parts _ _ both).0).1
+]
 
 small_aligns : (hs : List ProgramHeader) → list_any (λ h. not (is_aligned h)) hs ≡ false → All (λ h. h.p_align ≤ 2 ^ 20) hs
 small_aligns [] none k d below = absurd (omega arith)
@@ -33,13 +32,6 @@ unfolding has_misaligned
 aligned file ok = small_aligns (loadable (program_headers file)) ok.align
 
 -- reading one after the other
-pub headers-none : (file : List ℕ) → headers_from file (e_phoff file + 32 * 0) (e_phnum file - 0) ≡ program_headers file
-unfolding program_headers
-headers-none file =
-    let place : e_phoff file + 32 * 0 ≡ e_phoff file = omega arith in
-    let count : e_phnum file - 0 ≡ e_phnum file = omega arith in
-    ap (λ a. headers_from file a (e_phnum file - 0)) place ∙ ap (headers_from file (e_phoff file)) count
-
 pub headers-more : (file : List ℕ) (xs ys whole : List ProgramHeader) (h : ProgramHeader) (at count i : ℕ) → i < count → h ≡ program_header file (at + 32 * i) → ys ≡ xs ++ h ∷ [] → xs ++ headers_from file (at + 32 * i) (count - i) ≡ whole → ys ++ headers_from file (at + 32 * (i + 1)) (count - (i + 1)) ≡ whole
 headers-more file xs ys whole h at count i below is more so_far =
     let hs = headers_from file (at + 32 * (i + 1)) (count - (i + 1)) in

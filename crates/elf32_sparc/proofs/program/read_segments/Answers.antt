@@ -1,11 +1,12 @@
 use Rattle.std.proofs.Common.{◌++◌, ◌∷◌, [], sym, ap, ◌∙◌}
-use Rattle.elf32_sparc.proofs.Readings.{segments-none, segments-kept, segments-passed, segments-all}
+use Rattle.elf32_sparc.proofs.Readings.{segments-kept, segments-passed, segments-all}
+use Rattle.elf32_sparc.proofs.Surveys.{headers-none}
 use Rattle.elf32_sparc.proofs.program.read_segments.Goals as goal
 use Rattle.elf32_sparc.proofs.program.read_segments.Goals.{then-is_loadable+in_ok-push, else-is_loadable}
 
 pub loop-number-init : goal.loop-number-init
 loop-number-init c =
-    rw (c.new-segments.ensures.items, c.word_at-table.ensures, c.half_at-number-end.ensures) (segments-none c.args.bytes.now)
+    rw (c.new-segments.ensures.items, c.word_at-table.ensures, c.half_at-number-end.ensures) (rw headers-none)
 
 pub loop-number-preserved : goal.loop-number-preserved
 loop-number-preserved c =

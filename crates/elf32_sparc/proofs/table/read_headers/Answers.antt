@@ -1,6 +1,7 @@
 use Rattle.std.proofs.Common.{arith}
 use Rattle.elf32_sparc.proofs.Accepted.{accepted}
-use Rattle.elf32_sparc.proofs.Tables.{few_headers, whole_header, aligned, headers-none, headers-more, headers-all}
+use Rattle.elf32_sparc.proofs.Surveys.{headers-none}
+use Rattle.elf32_sparc.proofs.Tables.{few_headers, whole_header, aligned, headers-more, headers-all}
 use Rattle.elf32_sparc.proofs.table.read_headers.Goals as goal
 
 pub loop-number-init : goal.loop-number-init

@@ -1,6 +1,3 @@
-use Rattle.std.proofs.Common.{ap, ◌∙◌}
-use Rattle.elf32_sparc.specs.FileFault.{first_that_holds}
-use Rattle.elf32_sparc.specs.Survey.{run_survey_rows}
 use Rattle.elf32_sparc.proofs.FirstFaults.{load_fault-by_header, load_fault-by_survey}
 use Rattle.elf32_sparc.proofs.verdicts.load_verdict.Goals as goal
 
@@ -9,6 +6,5 @@ returns-in-Some c = load_fault-by_header c.args.bytes.now c.header_fault.result 
 
 pub returns : goal.returns
 returns c =
-    c.run_fault.ensures
-    ∙ ap (λ survey. first_that_holds (run_survey_rows survey)) c.of.ensures
-    ∙ load_fault-by_survey c.args.bytes.now c.header_fault.result c.header_fault.ensures c.in_default.is
+    rw (c.run_fault.ensures, c.of.ensures)
+    (load_fault-by_survey c.args.bytes.now c.header_fault.result c.header_fault.ensures c.in_default.is)
