@@ -17,8 +17,7 @@ greatest-to : (headers : List ProgramHeader) (least : ℕ) → least ≤ 2 ^ 20 
     → fold (λ most header. max most header.p_align) least headers ≤ 2 ^ 20
 greatest-to [] least small all = small
 greatest-to (h ∷ headers) least small all =
-    let here : h.p_align ≤ 2 ^ 20 = all zero h (omega arith) in
-    greatest-to headers (max least h.p_align) (omega arith) (λ k d below. all (suc k) d (omega arith))
+    greatest-to headers _ (omega (arith, all zero h (omega arith))) (λ k d below. all (suc k) d (omega arith))
 
 pub delta-from : (original : List ℕ) → 4096 ≤ delta_in original
 delta-from original = (greatest_above (loadable (program_headers original)) 4096).0
@@ -36,15 +35,9 @@ delta-image original = fold-map (λ most segment. max most segment.align) segmen
 pub offsets_fit : (original : List ℕ) (added : List AddedSegment) (notes : List ℕ) → CanWrite original added notes
     → notes_at original added + length notes < 1544 * 2 ^ 20
 offsets_fit original added notes can =
-    let end = segments_end-to (original_end original) added in
-    let delta = delta-to original added notes can in
-    let few = can.few in
-    let small = can.small in
-    omega (arith, end, delta, few, small)
+    omega (arith, segments_end-to (original_end original) added, delta-to original added notes can, can.few, can.small)
 
 -- the notes stand behind the locator's page
 pub notes-beyond : (original : List ℕ) (added : List AddedSegment) → 4096 ≤ notes_at original added
 notes-beyond original added =
-    let end = segments_end-from (original_end original) added in
-    let delta = delta-from original in
-    omega (arith, end, delta)
+    omega (arith, segments_end-from (original_end original) added, delta-from original)

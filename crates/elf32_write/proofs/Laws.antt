@@ -2,7 +2,7 @@
 use Rattle.std.proofs.Common.{◌≡◌, ℕ, ◌+◌, ◌≤◌, true, false, nat_lt, List, length, take, drop, refl, arith}
 use Rattle.std.proofs.lemmas.Bool.{le-ltb}
 use Rattle.notes.specs.Format.{has_locator, notes_version, notes_offset, notes_length, notes_of, read_notes}
-use Rattle.elf32_write.specs.Written.{delta_in, original_end, notes_at, written}
+use Rattle.elf32_write.specs.Written.{delta_in, original_end, notes_at}
 use Rattle.elf32_write.specs.Laws.{OriginalIsHeld, NotesAreRead, EntryIsGiven, SizeIsBounded}
 use Rattle.elf32_write.proofs.Part.{take_part, length_part}
 use Rattle.elf32_write.proofs.Deltas.{delta-from, delta-to}
@@ -15,13 +15,11 @@ use Rattle.elf32_write.proofs.WrittenHeader.{locator_facts, header_facts}
 pub original_is_held : OriginalIsHeld
 original_is_held original added entry notes can =
     let s = written_stands original added entry notes can in
-    let file = written original added entry notes in
-    let size = length_part file (delta_in original) original s.original in
     record {
-      holds = take_part file (delta_in original) (length original) original refl s.original;
+      holds = take_part _ (delta_in original) (length original) original refl s.original;
       from = delta-from original;
       to = delta-to original added notes can;
-      inside = omega (arith, size);
+      inside = omega (arith, length_part _ (delta_in original) original s.original);
     }
 
 -- notes that stand where the locator says
@@ -34,23 +32,22 @@ located file bytes version offset size there numbered at long within are =
 
 pub notes_are_read : NotesAreRead
 notes_are_read original added entry notes can =
-    let file = written original added entry notes in
     let s = written_stands original added entry notes can in
     let facts = locator_facts original added entry notes can in
-    let size = length_part file (notes_at original added) notes s.notes in
-    located file notes 2 (notes_at original added) (length notes) facts.there facts.version facts.offset facts.size (omega (arith, size))
-    (take_part file (notes_at original added) (length notes) notes refl s.notes)
+    located _ notes 2 (notes_at original added) (length notes) facts.there facts.version facts.offset facts.size
+    (omega (arith, length_part _ (notes_at original added) notes s.notes)) (take_part _ _ (length notes) notes refl s.notes)
 
 pub entry_is_given : EntryIsGiven
 entry_is_given original added entry notes can are = (header_facts original added entry notes can are.address).start
 
 pub size_is_bounded : SizeIsBounded
 size_is_bounded original added entry notes can are =
-    let s = written_stands original added entry notes can in
-    let whole = s.whole in
-    let end = segments_end-to (original_end original) added in
-    let delta = delta-to original added notes can in
-    let few = can.few in
-    let table = length-section_table (delta_in original) original in
-    let sections = few_sections original are.bytes in
-    omega (arith, whole, end, delta, few, table, sections)
+    omega (
+      arith,
+      (written_stands original added entry notes can).whole,
+      segments_end-to (original_end original) added,
+      can.few,
+      delta-to original added notes can,
+      length-section_table (delta_in original) original,
+      few_sections original are.bytes,
+    )

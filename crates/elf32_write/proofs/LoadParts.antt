@@ -1,13 +1,13 @@
 -- Parts of a proof that a written file can be run: what holds of the entries of the original still holds
 -- of them as they are carried on.
-use Rattle.std.proofs.Common.{◌≡◌, ℕ, zero, suc, ◌+◌, ◌%◌, ◌^◌, ◌≤◌, ◌⊎◌, inl, inr, max, Bool, true, false, not, ◌&&◌, cond, nat_lt, nat_le, nat_eq, List, [], ◌∷◌, ◌++◌, map, Some, None, refl, sym, ap, ◌∙◌, arith, All}
+use Rattle.std.proofs.Common.{◌≡◌, ℕ, zero, suc, ◌+◌, ◌^◌, ◌≤◌, ◌⊎◌, inl, inr, max, Bool, true, false, not, cond, nat_lt, nat_le, nat_eq, List, [], ◌∷◌, ◌++◌, map, Some, None, refl, ap, ◌∙◌, arith, All}
 use Rattle.std.specs.List.{filter, fold, list_any}
-use Rattle.std.specs.Int.{is_power_of_two}
-use Rattle.std.proofs.lemmas.Bool.{or_parts, or_from, or_left, or_right, or_cases, and_parts, and_from, and_left, and_right, and_cases, cond_both, ltb-false, eqb-true, le-ltb, eq-eqb, not-false, not_from_true}
+use Rattle.std.proofs.lemmas.Bool.{or_parts, or_from, or_cases, and_parts, cond_both, ltb-false, eqb-true, le-ltb, not-false, not_from_true}
 use Rattle.std.proofs.lemmas.List.Folds.{list_any-append}
+use Rattle.std.proofs.lemmas.Bool.Decides.{nat_tests}
 use Rattle.elf32_sparc.specs.declared.header.ProgramHeader.{ProgramHeader}
 use Rattle.elf32_sparc.specs.declared.fault.FileFault.{FileFault}
-use Rattle.elf32_sparc.specs.Header.{is_load, end_of}
+use Rattle.elf32_sparc.specs.Header.{end_of}
 use Rattle.elf32_sparc.specs.FileFault.{first_that_holds, leaves_file, descends_from, is_aligned}
 use Rattle.elf32_sparc.specs.Image.{segment_of, segment_end}
 use Rattle.elf32_sparc.proofs.Accepted.{NoneHolds}
@@ -41,22 +41,8 @@ any-append p xs ys first second = list_any-append p xs ys ∙ or_from (list_any 
 
 -- Bytes inside the file.
 
-inside : (delta size new offset filesz : ℕ) → delta + size ≤ new → (nat_lt 0 filesz && nat_lt size (offset + filesz)) ≡ false → (nat_lt 0 filesz && nat_lt new ((offset + delta) % 2 ^ 32 + filesz)) ≡ false
-inside delta size new offset filesz fits none = elim (and_cases (nat_lt 0 filesz) (nat_lt size (offset + filesz)) none) [
-  | inl empty ↦ and_left _ _ empty
-  | inr within ↦
-      let e : offset + filesz ≤ size = ltb-false size (offset + filesz) within in
-      and_right _ _ (le-ltb new ((offset + delta) % 2 ^ 32 + filesz) (omega arith))
-]
-
 pub carried-inside : (delta size new : ℕ) → delta + size ≤ new → (h : ProgramHeader) → leaves_file size h ≡ false → leaves_file new (carried_on delta h) ≡ false
-carried-inside delta size new fits h none =
-    elim (and_cases (is_load h) _ none) [
-      | inl other ↦ and_left (is_load h) _ other
-      | inr within ↦
-          let parts = or_parts (nat_lt h.p_memsz h.p_filesz) _ within in
-          and_right (is_load h) _ (or_from (nat_lt h.p_memsz h.p_filesz) _ parts.0 (inside delta size new h.p_offset h.p_filesz fits parts.1))
-    ]
+carried-inside delta size new fits h none = grind (arith, nat_tests)
 
 -- Order.
 
@@ -78,11 +64,9 @@ in_order delta (h ∷ hs) added end top below ends order then =
 
 pub align_of : (h : ProgramHeader) → is_aligned h ≡ true → (h.p_align ≡ 0) ⊎ IsPower h.p_align
 align_of h holds =
-    let power = is_power_of_two h.p_align && nat_le h.p_align (2 ^ 20) in
-    let same = nat_eq (h.p_vaddr % h.p_align) (h.p_offset % h.p_align) in
-    elim (or_cases (nat_eq h.p_align 0) (power && same) holds) [
+    elim (or_cases (nat_eq h.p_align 0) _ holds) [
       | inl none ↦ inl (eqb-true h.p_align 0 none)
-      | inr both ↦ inr (power_of_two h.p_align (and_parts (is_power_of_two h.p_align) (nat_le h.p_align (2 ^ 20)) (and_parts power same both).0).0)
+      | inr both ↦ inr (power_of_two h.p_align (and_parts _ (nat_le h.p_align (2 ^ 20)) (and_parts _ _ both).0).0)
     ]
 
 pub aligns_of : (hs : List ProgramHeader) → list_any (λ h. not (is_aligned h)) hs ≡ false → All (λ h. (h.p_align ≡ 0) ⊎ IsPower h.p_align) hs
@@ -91,20 +75,12 @@ aligns_of (h ∷ hs) none zero d below = align_of h (not-false (is_aligned h) (o
 aligns_of (h ∷ hs) none (suc k) d below = aligns_of hs (or_parts (not (is_aligned h)) (list_any (λ g. not (is_aligned g)) hs) none).1 k d (omega arith)
 
 carried-aligned : (delta : ℕ) → IsPower delta → delta ≤ 2 ^ 20 → (h : ProgramHeader) → h.p_align ≤ delta → is_aligned h ≡ true → is_aligned (carried_on delta h) ≡ true
-carried-aligned delta power small h below holds =
-    let some = is_power_of_two h.p_align && nat_le h.p_align (2 ^ 20) in
-    let was = nat_eq (h.p_vaddr % h.p_align) (h.p_offset % h.p_align) in
-    let is = nat_eq (h.p_vaddr % h.p_align) ((h.p_offset + delta) % 2 ^ 32 % h.p_align) in
-    elim (or_cases (nat_eq h.p_align 0) (some && was) holds) [
-      | inl none ↦ or_left (nat_eq h.p_align 0) (some && is) none
-      | inr both ↦
-          let parts = and_parts some was both in
-          let align : IsPower h.p_align = power_of_two h.p_align (and_parts (is_power_of_two h.p_align) (nat_le h.p_align (2 ^ 20)) parts.0).0 in
-          let same : h.p_vaddr % h.p_align ≡ h.p_offset % h.p_align = eqb-true (h.p_vaddr % h.p_align) (h.p_offset % h.p_align) parts.1 in
-          let further : (h.p_offset + delta) % 2 ^ 32 % h.p_align ≡ h.p_offset % h.p_align =
-          shifted h.p_align delta h.p_offset (power_divides h.p_align delta align power below) (power_divides h.p_align (2 ^ 32) align (32, refl) (omega arith)) in
-          or_right (nat_eq h.p_align 0) (some && is) (and_from some is parts.0 (eq-eqb (h.p_vaddr % h.p_align) ((h.p_offset + delta) % 2 ^ 32 % h.p_align) (same ∙ sym further)))
-    ]
+carried-aligned delta power small h below holds = elim (align_of h holds) [
+  | inl none ↦ rw none refl
+  | inr align ↦
+      rw (shifted h.p_align delta h.p_offset (power_divides h.p_align delta align power below)
+      (power_divides h.p_align (2 ^ 32) align (32, refl) (omega arith))) holds
+]
 
 pub all-aligned : (delta : ℕ) → IsPower delta → delta ≤ 2 ^ 20 → (hs : List ProgramHeader) → All (λ h. h.p_align ≤ delta) hs → list_any (λ h. not (is_aligned h)) hs ≡ false → list_any (λ h. not (is_aligned h)) (map (carried_on delta) hs) ≡ false
 all-aligned delta power small [] all none = refl

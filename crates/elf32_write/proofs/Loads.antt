@@ -1,15 +1,15 @@
 -- That a written file can be run.
-use Rattle.std.proofs.Common.{◌≡◌, ℕ, zero, suc, ◌+◌, ◌*◌, ◌%◌, ◌^◌, ◌≤◌, inl, inr, max, Bool, true, false, not, ◌&&◌, ◌||◌, nat_lt, nat_le, nat_eq, List, [], ◌∷◌, ◌++◌, length, map, Option, Some, None, refl, sym, ap, ◌∙◌, subst, arith, length-append, All}
+use Rattle.std.proofs.Common.{◌≡◌, ℕ, zero, suc, ◌+◌, ◌*◌, ◌%◌, ◌^◌, ◌≤◌, max, Bool, true, false, not, ◌&&◌, ◌||◌, nat_lt, nat_eq, List, [], ◌∷◌, ◌++◌, length, map, Option, Some, None, refl, sym, ap, ◌∙◌, subst, arith, length-append, All}
 use Rattle.std.specs.List.{filter, fold, list_any, sum_by}
-use Rattle.std.specs.Int.{is_power_of_two}
-use Rattle.std.proofs.lemmas.Bool.{or_parts, or_from, and_from, and_left, and_right, ltb-false, le-ltb, eq-eqb, ne_eqb, not_from_true, false≢true}
+use Rattle.std.proofs.lemmas.Bool.{or_parts, or_from, and_left, and_right, ltb-false, le-ltb, false≢true}
 use Rattle.std.proofs.lemmas.List.{length-map}
 use Rattle.std.proofs.lemmas.List.Sums.{sum_by-cons, length-filter, count_by-le-length}
+use Rattle.std.proofs.lemmas.Bool.Decides.{nat_tests}
 use Rattle.elf32_sparc.specs.declared.header.ProgramHeader.{ProgramHeader}
 use Rattle.elf32_sparc.specs.Header.{e_phoff, e_ehsize, e_phentsize, e_phnum, program_headers, is_loadable, loadable, end_of, text_header}
 use Rattle.elf32_sparc.specs.FileFault.{header_rows, load_rows, load_fault, leaves_file, leaves_room, is_last_page, descends_from, is_aligned, is_short, has_other_magic, has_other_class, has_other_order, has_other_version, has_other_type, has_other_machine, has_other_sizes, has_bad_table, has_bytes_outside, has_memory_outside, has_memory_outside_a_run, has_disorder, has_misaligned, memory_size}
 use Rattle.elf32_sparc.specs.Image.{segment_of, segment_end, highest_end, text_from, image_of}
-use Rattle.elf32_sparc.proofs.Accepted.{Accepted, HeaderAccepted, NoneHolds, IsFit, accepted, has_text, text_passes, text_is_fit}
+use Rattle.elf32_sparc.proofs.Accepted.{Accepted, HeaderAccepted, NoneHolds, accepted, has_text, text_passes, text_is_fit}
 use Rattle.elf32_write.specs.Bytes.{next_page}
 use Rattle.elf32_write.specs.Headers.{AddedSegment, segments_end, added_header, added_headers, is_carried, carried_on, carried_headers}
 use Rattle.elf32_write.specs.Written.{delta_in, original_end, segment_headers, written}
@@ -36,8 +36,7 @@ top_beyond : (original : List ℕ) → Accepted original → (found : Option Pro
 unfolding text_from
 top_beyond original ok None none = absurd (has_text original ok none)
 top_beyond original ok (Some h) found =
-    let fit : IsFit original h = text_is_fit original h ok found in
-    let above : 0x1000 ≤ h.p_vaddr = fit.text.above in
+    let above : 0x1000 ≤ h.p_vaddr = (text_is_fit original h ok found).text.above in
     let top = highest_end (image_of original).segments in
     let ends : h.p_vaddr + h.p_memsz ≤ top = ltb-false top (end_of h) (text_passes (λ g. nat_lt top (end_of g)) (program_headers original) h found (ends_under original)) in
     omega arith
@@ -68,12 +67,7 @@ placed_all end (s ∷ added) above order reached (suc k) d below =
     placed_all (s.vaddr + s.memsz) added (omega arith) order.1 (λ i e under. reached (suc i) e (omega arith)) k d (omega arith)
 
 in_room : (offset : ℕ) (s : AddedSegment) → (0x1000 ≤ s.vaddr) × IsInReach s → (leaves_room (added_header offset s) && not (is_last_page (added_header offset s))) ≡ false
-in_room offset s placed = elim (placed.1) [
-  | inl below ↦
-      and_left _ _ (or_from _ _ (le-ltb s.vaddr 0x1000 placed.0) (le-ltb 0x80000000 (s.vaddr + s.memsz) below))
-  | inr last ↦
-      and_right _ _ (not_from_true _ (and_from _ _ (eq-eqb s.vaddr 0xfffff000 last.0) (eq-eqb s.memsz 4096 last.1)))
-]
+in_room offset s placed = grind (arith, nat_tests)
 
 added-order : (end from below : ℕ) (added : List AddedSegment) → below ≤ from → Ascend from added → descends_from below (added_headers end added) ≡ false
 added-order end from below [] le order = refl
@@ -81,22 +75,15 @@ added-order end from below (s ∷ added) le order =
     or_from _ _ (le-ltb s.vaddr below (omega (arith, order.0)))
     (added-order (next_page end + length s.bytes) (s.vaddr + s.memsz) (s.vaddr + s.memsz) added (omega arith) order.1)
 
-page_aligned : (vaddr offset : ℕ) → vaddr % 4096 ≡ 0 → offset % 4096 ≡ 0 → (is_power_of_two 4096 && nat_le 4096 (2 ^ 20) && nat_eq (vaddr % 4096) (offset % 4096)) ≡ true
-page_aligned vaddr offset first second =
-    and_from _ _ (and_from _ _ power-4096 refl) (eq-eqb (vaddr % 4096) (offset % 4096) (first ∙ sym second))
-
-whole_page : (n : ℕ) → next_page n % 4096 ≡ 0
-whole_page n = omega arith
-
 at_page : (offset : ℕ) (s : AddedSegment) → s.vaddr % 4096 ≡ 0 → not (is_aligned (added_header (next_page offset) s)) ≡ false
-at_page offset s whole = not_from_true (is_aligned (added_header (next_page offset) s)) (page_aligned s.vaddr (next_page offset) whole (whole_page offset))
+at_page offset s whole =
+    let page : next_page offset % 4096 ≡ 0 = omega arith in
+    rw (power-4096, whole, page) refl
 
 added-memory : (end n : ℕ) (added : List AddedSegment) → fold (λ a h. a + h.p_memsz) n (added_headers end added) ≡ n + sum_by (λ s. s.memsz) added
 added-memory end n [] = omega arith
 added-memory end n (s ∷ added) =
-    let later = added-memory (next_page end + length s.bytes) (n + s.memsz) added in
-    let sum = sum_by-cons (λ s. s.memsz) s added in
-    omega (arith, later, sum)
+    omega (arith, added-memory (next_page end + length s.bytes) (n + s.memsz) added, sum_by-cons (λ s. s.memsz) s added)
 
 -- ---- the header of the file
 
@@ -112,20 +99,18 @@ some_text original ok (Some h) found = some_loadable (program_headers original) 
 some_headers : (original : List ℕ) (added : List AddedSegment) → Accepted original → 1 ≤ length (segment_headers original added)
 some_headers original added ok =
     let hs = program_headers original in
-    let delta = delta_in original in
-    let carried = carried_headers delta hs in
-    let loads = ap length (loadable-carried delta hs) in
-    let mapped = length-map (loadable hs) (carried_on delta) in
-    let kept = length-filter is_loadable carried in
-    let few = count_by-le-length is_loadable carried in
-    let both = length-append carried (added_headers (original_end original) added) in
-    let some = some_text original ok (text_header hs) refl in
-    omega (arith, loads, mapped, kept, few, both, some)
+    let carried = carried_headers (delta_in original) hs in
+    let loads = simp length-map at (ap length (loadable-carried (delta_in original) hs)) in
+    simp length-append (omega (
+      arith,
+      loads,
+      length-filter is_loadable carried,
+      count_by-le-length is_loadable carried,
+      some_text original ok (text_header hs) refl,
+    ))
 
 good_table : (phnum phoff size : ℕ) → 1 ≤ phnum → phnum ≤ 72 → phoff ≡ 52 → 4096 ≤ size → ((nat_eq phnum 0 || nat_lt 80 phnum) || nat_lt size (phoff + 32 * phnum)) ≡ false
-good_table phnum phoff size some few place long =
-    or_from _ _ (or_from _ _ (ne_eqb phnum 0 (λ e. omega arith)) (le-ltb 80 phnum (omega arith)))
-    (le-ltb size (phoff + 32 * phnum) (omega arith))
+good_table phnum phoff size some few place long = grind (arith, nat_tests)
 
 header_passes : (original : List ℕ) (added : List AddedSegment) (entry : ℕ) (notes new : List ℕ) → CanWrite original added notes → HeaderFacts original added entry new → 4096 ≤ length new → HeaderAccepted 80 new
 unfolding is_short has_other_magic has_other_class has_other_order has_other_version has_other_type has_other_machine has_other_sizes has_bad_table

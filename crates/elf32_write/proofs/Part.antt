@@ -52,10 +52,7 @@ take_part file at n part size p = ap (take n) (drop_part file at part p) ∙ tak
 
 pub length_part : (file : List ℕ) (at : ℕ) (part : List ℕ) (p : Part file at part) → length file ≡ at + length part + length p.after
 length_part file at part p =
-    let whole = ap length p.is ∙ length-append p.before (part ++ p.after) in
-    let end = length-append part p.after in
-    let there = p.place in
-    omega (arith, whole, end, there)
+    omega (arith, simp length-append at (ap length p.is))
 
 -- a field
 pub field_part : (n : ℕ) (file : List ℕ) (at x : ℕ) → x < 256 ^ n → Part file at (big_bytes n x) → be_field n file at ≡ Some x

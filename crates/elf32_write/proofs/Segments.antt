@@ -11,8 +11,8 @@ use Rattle.elf32_write.specs.Bytes.{next_page, next_word, padded_to}
 use Rattle.elf32_sparc.specs.Header.{headers_from, program_headers, e_phoff, e_phnum}
 use Rattle.elf32_sparc.proofs.Accepted.{accepted}
 use Rattle.elf32_sparc.proofs.Tables.{few_headers}
-use Rattle.elf32_write.specs.Headers.{AddedSegment, segment_seen, segments_end, added_header, added_headers, is_carried, carried_on, carried_headers, program_header}
-use Rattle.elf32_write.specs.Written.{delta_in, original_end, segment_headers, with_segments}
+use Rattle.elf32_write.specs.Headers.{AddedSegment, segment_seen, segments_end, added_header, added_headers, is_carried, program_header}
+use Rattle.elf32_write.specs.Written.{segment_headers, with_segments}
 use Rattle.elf32_write.specs.Conditions.{CanWrite}
 
 -- ---- one more at the end
@@ -33,8 +33,7 @@ with_segments-append file (x ∷ xs) ys = with_segments-append (padded_to (next_
 pub seen_more : (added : List NewSegment) (i : ℕ) (x : NewSegment) → i < length added → x ≡ get_or added i x
     → map segment_seen (take (i + 1) added) ≡ map segment_seen (take i added) ++ segment_seen x ∷ []
 seen_more added i x below is =
-    ap (map segment_seen) (take_more added i x below) ∙ map-append segment_seen (take i added) (get_or added i x ∷ [])
-    ∙ ap (λ y. map segment_seen (take i added) ++ segment_seen y ∷ []) (sym is)
+    rw (take_more added i x below, map-append, ← is) refl
 
 -- ---- where they end
 
@@ -45,9 +44,7 @@ segments_end-from end (x ∷ xs) = let later = segments_end-from (next_page end 
 pub segments_end-to : (end : ℕ) (xs : List AddedSegment) → segments_end end xs ≤ end + 4095 * length xs + sum_by (λ s. length s.bytes) xs
 segments_end-to end [] = omega arith
 segments_end-to end (x ∷ xs) =
-    let later = segments_end-to (next_page end + length x.bytes) xs in
-    let sum = sum_by-cons (λ s. length s.bytes) x xs in
-    omega (arith, later, sum)
+    omega (arith, segments_end-to (next_page end + length x.bytes) xs, sum_by-cons (λ s. length s.bytes) x xs)
 
 -- one segment's bytes end where all do, or before
 pub one_ends : (end : ℕ) (xs : List AddedSegment) (x : AddedSegment) (ys : List AddedSegment)
@@ -71,28 +68,21 @@ pub end_more : (end : ℕ) (added : List NewSegment) (i : ℕ) (x : NewSegment) 
     → segments_end end (map segment_seen (take (i + 1) added))
     ≡ next_page (segments_end end (map segment_seen (take i added))) + length x.bytes.items
 end_more end added i x below is =
-    ap (segments_end end) (seen_more added i x below is)
-    ∙ segments_end-append end (map segment_seen (take i added)) (segment_seen x ∷ [])
+    rw (seen_more added i x below is, segments_end-append) refl
 
 pub headers_more : (end : ℕ) (added : List NewSegment) (i : ℕ) (x : NewSegment) → i < length added → x ≡ get_or added i x
     → flat_map program_header (added_headers end (map segment_seen (take (i + 1) added)))
     ≡ flat_map program_header (added_headers end (map segment_seen (take i added)))
     ++ program_header (added_header (next_page (segments_end end (map segment_seen (take i added)))) (segment_seen x))
 headers_more end added i x below is =
-    let before = map segment_seen (take i added) in
-    let header = added_header (next_page (segments_end end before)) (segment_seen x) in
-    ap (λ z. flat_map program_header (added_headers end z)) (seen_more added i x below is)
-    ∙ ap (flat_map program_header) (added_headers-append end before (segment_seen x ∷ []))
-    ∙ flat_map-append program_header (added_headers end before) (header ∷ [])
-    ∙ ap (λ z. flat_map program_header (added_headers end before) ++ z) (append-nil (program_header header))
+    rw (seen_more added i x below is, added_headers-append, flat_map-append, append-nil) refl
 
 pub bytes_more : (file : List ℕ) (added : List NewSegment) (i : ℕ) (x : NewSegment) → i < length added → x ≡ get_or added i x
     → with_segments file (map segment_seen (take (i + 1) added))
     ≡ padded_to (next_page (length (with_segments file (map segment_seen (take i added))))) (with_segments file (map segment_seen (take i added)))
     ++ x.bytes.items
 bytes_more file added i x below is =
-    ap (with_segments file) (seen_more added i x below is)
-    ∙ with_segments-append file (map segment_seen (take i added)) (segment_seen x ∷ [])
+    rw (seen_more added i x below is, with_segments-append) refl
 
 -- the next page, as std has it
 pub page_is : (n : ℕ) → next_multiple_of n 4096 ≡ next_page n
@@ -111,12 +101,7 @@ pub length-segment_headers : (original : List ℕ) (added : List NewSegment)
     → length (segment_headers original (map segment_seen added))
     ≡ length (filter is_carried (program_headers original)) + length added
 length-segment_headers original added =
-    let headers = program_headers original in
-    let both = length-append (carried_headers (delta_in original) headers) (added_headers (original_end original) (map segment_seen added)) in
-    let carried = length-map (filter is_carried headers) (carried_on (delta_in original)) in
-    let more = length-added_headers (original_end original) (map segment_seen added) in
-    let seen = length-map added segment_seen in
-    omega (arith, both, carried, more, seen)
+    simp (length-append, length-map, length-added_headers)
 
 length-headers_from : (file : List ℕ) (at n : ℕ) → length (headers_from file at n) ≡ n
 length-headers_from file at zero = refl
@@ -131,12 +116,12 @@ pub few-segment_headers : (original : List ℕ) (added : List AddedSegment) (not
     → length (segment_headers original added) ≤ 72
 few-segment_headers original added notes can =
     let headers = program_headers original in
-    let both = length-append (carried_headers (delta_in original) headers) (added_headers (original_end original) added) in
-    let carried = length-map (filter is_carried headers) (carried_on (delta_in original)) in
-    let kept = length-filter is_carried headers in
-    let less = count_by-le-length is_carried headers in
-    let all = length-program_headers original in
     let few = few_headers original (accepted original can.sound) in
-    let more = length-added_headers (original_end original) added in
-    let eight = can.few in
-    omega (arith, both, carried, kept, less, all, few, more, eight)
+    simp (length-append, length-map, length-added_headers) (omega (
+      arith,
+      length-filter is_carried headers,
+      count_by-le-length is_carried headers,
+      length-program_headers original,
+      few,
+      can.few,
+    ))

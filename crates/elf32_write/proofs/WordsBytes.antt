@@ -1,9 +1,9 @@
 -- Words as bytes.
-use Rattle.std.proofs.Common.{◌≡◌, ℕ, List, [], ◌∷◌, ◌++◌, ◌+◌, refl, ◌*◌, length, length-append, arith}
-use Rattle.std.specs.List.{flat_map}
+use Rattle.std.proofs.Common.{◌≡◌, ℕ, List, ◌∷◌, ◌++◌, refl, ◌*◌, length}
 use Rattle.byteorder.specs.Endian.{big_bytes}
 use Rattle.byteorder.specs.Numbers.{length-bytes_high_first}
 use Rattle.elf32_write.specs.Bytes.{words_bytes, halves_bytes}
+pub use Rattle.notes.proofs.Bytes.{length-flat_map}
 
 -- words and halfwords as bytes
 
@@ -14,16 +14,6 @@ words_bytes-cons w ws = refl
 pub halves_bytes-cons : (h : ℕ) (hs : List ℕ) → halves_bytes (h ∷ hs) ≡ big_bytes 2 h ++ halves_bytes hs
 unfolding halves_bytes
 halves_bytes-cons h hs = refl
-
--- each item is n bytes
-pub length-flat_map : {X : Type 0} (f : X → List ℕ) (n : ℕ) → ((x : X) → length (f x) ≡ n) → (xs : List X) → length (flat_map f xs) ≡ n * length xs
-length-flat_map f n each [] = omega arith
-length-flat_map f n each (x ∷ xs) =
-    let here = each x in
-    let rest = length-flat_map f n each xs in
-    let both = length-append (f x) (flat_map f xs) in
-    let more : n * (length xs + 1) ≡ n * length xs + n = omega arith in
-    omega (arith, here, rest, both, more)
 
 pub length-words_bytes : (ws : List ℕ) → length (words_bytes ws) ≡ 4 * length ws
 unfolding words_bytes

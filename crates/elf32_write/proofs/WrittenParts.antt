@@ -1,16 +1,14 @@
 -- Where the parts of a written file stand.
-use Rattle.std.proofs.Common.{◌≡◌, ℕ, ◌+◌, ◌-◌, ◌*◌, ◌/◌, ◌≤◌, List, [], ◌∷◌, ◌++◌, length, replicate, refl, ap, ◌∙◌, length-append, arith}
+use Rattle.std.proofs.Common.{length-take, ◌≡◌, ℕ, ◌+◌, ◌-◌, ◌*◌, ◌/◌, ◌≤◌, List, [], ◌∷◌, ◌++◌, length, replicate, refl, ap, ◌∙◌, length-append, arith}
 use Rattle.std.specs.List.{flat_map}
-use Rattle.std.proofs.lemmas.List.{length-replicate, length-take-le}
+use Rattle.std.proofs.lemmas.List.{length-replicate}
 use Rattle.elf32_sparc.specs.declared.header.ProgramHeader.{ProgramHeader}
-use Rattle.elf32_sparc.specs.Header.{word_at}
-use Rattle.elf32_sparc.specs.Symbols.{section_count}
 use Rattle.elf32_sparc.proofs.Accepted.{accepted}
 use Rattle.elf32_sparc.proofs.Tables.{whole_header}
 use Rattle.elf32_write.specs.Bytes.{padded_to, next_page}
-use Rattle.elf32_write.specs.Headers.{AddedSegment, segments_end, program_header, section_names}
+use Rattle.elf32_write.specs.Headers.{AddedSegment, segments_end, program_header}
 use Rattle.elf32_write.specs.Sections.{section_table}
-use Rattle.elf32_write.specs.Written.{delta_in, original_end, notes_at, sections_at, locator_at, segment_headers, headers, locator, with_segments, written}
+use Rattle.elf32_write.specs.Written.{delta_in, original_end, notes_at, locator_at, segment_headers, headers, locator, with_segments, written}
 use Rattle.elf32_write.specs.Conditions.{CanWrite}
 use Rattle.elf32_write.proofs.WordsBytes.{length-words_bytes, length-halves_bytes, length-flat_map}
 use Rattle.elf32_write.proofs.Part.{Part, part_more, part_last}
@@ -29,9 +27,7 @@ length-table hs = length-flat_map program_header 32 length-program_header hs
 pub length-padded_to : (offset : ℕ) (bytes : List ℕ) → length bytes ≤ offset → length (padded_to offset bytes) ≡ offset
 unfolding padded_to
 length-padded_to offset bytes fits =
-    let both = length-append bytes (replicate (offset - length bytes) 0) in
-    let zeros = length-replicate {A = ℕ} (offset - length bytes) 0 in
-    omega (arith, both, zeros)
+    simp (length-append, length-replicate) (omega arith)
 
 part_padded : (offset : ℕ) (bytes : List ℕ) (at : ℕ) (part : List ℕ) → Part bytes at part → Part (padded_to offset bytes) at part
 unfolding padded_to
@@ -73,30 +69,17 @@ length-segment s file = length-after (next_page (length file)) file s.bytes (pag
 pub length-with_segments : (added : List AddedSegment) (file : List ℕ) → length (with_segments file added) ≡ segments_end (length file) added
 length-with_segments [] file = refl
 length-with_segments (s ∷ added) file =
-    length-with_segments added (padded_to (next_page (length file)) file ++ s.bytes)
-    ∙ ap (λ n. segments_end n added) (length-segment s file)
+    rw (length-with_segments added _, length-segment s file) refl
 
 -- ---- the lengths of the first parts
 
 pub length-locator : (original : List ℕ) (added : List AddedSegment) (notes : List ℕ) → length (locator original added notes) ≡ 16
 length-locator original added notes = length-words_bytes (0x45454c4e ∷ 2 ∷ notes_at original added ∷ length notes ∷ [])
 
-length-five : (t a b c s : List ℕ) → length t ≡ 16 → length a ≡ 4 → length b ≡ 20 → length c ≡ 12 → length (t ++ a ++ b ++ c ++ s) ≡ 52 + length s
-length-five t a b c s lt la lb lc =
-    let one = length-append t a in
-    let two = length-append (t ++ a) b in
-    let three = length-append (t ++ a ++ b) c in
-    let four = length-append (t ++ a ++ b ++ c) s in
-    omega (arith, one, two, three, four)
-
 length-headers : (original : List ℕ) (added : List AddedSegment) (entry : ℕ) (notes : List ℕ) → 52 ≤ length original
     → length (headers original added entry notes) ≡ 52 + 32 * length (segment_headers original added)
 length-headers original added entry notes whole =
-    length-five _ _ _ _ (flat_map program_header (segment_headers original added))
-    (length-take-le 16 original (omega (arith, whole))) (length-halves_bytes (2 ∷ 2 ∷ []))
-    (length-words_bytes (1 ∷ entry ∷ 52 ∷ sections_at original added notes ∷ word_at original 36 ∷ []))
-    (length-halves_bytes (52 ∷ 32 ∷ length (segment_headers original added) ∷ 40 ∷ section_count original ∷ section_names original ∷ []))
-    ∙ ap (λ z. 52 + z) (length-table (segment_headers original added))
+    simp (length-append, length-take, length-words_bytes, length-halves_bytes, length-table) (omega arith)
 
 -- ---- a file of such parts, and where they stand in it
 
@@ -124,31 +107,24 @@ pub record Stands (file h l o : List ℕ) (added : List AddedSegment) (n s : Lis
 stands : (h l o : List ℕ) (added : List AddedSegment) (n s : List ℕ) (delta end : ℕ) → Fits h l o added delta end → Stands (file_of h l o added n s delta end) h l o added n s delta end
 unfolding file_of front
 stands h l o added n s delta end fits =
-    let e_h = fits.headers in
-    let e_l = fits.locator in
-    let e_d = fits.from in
-    let e_n = fits.notes in
     let located = padded_to locator_at h ++ l in
-    let located_size : length located ≡ locator_at + length l = length-after locator_at h l e_h in
+    let located_size : length located ≡ locator_at + length l = length-after locator_at h l fits.headers in
     let located_fits : length located ≤ delta = omega arith in
     let whole = padded_to delta located ++ o in
     let whole_size : length whole ≡ delta + length o = length-after delta located o located_fits in
     let segmented = with_segments whole added in
-    let segmented_size : length segmented ≡ segments_end (delta + length o) added = length-with_segments added whole ∙ ap (λ z. segments_end z added) whole_size in
-    let segmented_fits : length segmented ≤ end = omega arith in
-    let noted_size : length (padded_to end segmented ++ n) ≡ end + length n = length-after end segmented n segmented_fits in
-    let all_size = length-append (padded_to end segmented ++ n) s in
+    let segmented_fits : length segmented ≤ end = rw (length-with_segments added whole, whole_size) fits.notes in
     let outer = λ (at : ℕ) (part : List ℕ) (p : Part segmented at part). part_more (padded_to end segmented ++ n) s at part (part_under end segmented n at part p) in
     let middle = λ (at : ℕ) (part : List ℕ) (p : Part whole at part). outer at part (part_segments added whole at part p) in
     let inner = λ (at : ℕ) (part : List ℕ) (p : Part located at part). middle at part (part_under delta located o at part p) in
     record {
       headers = inner 0 h (part_under locator_at h l 0 h (part_itself h));
-      locator = inner locator_at l (part_after locator_at h l e_h);
+      locator = inner locator_at l (part_after locator_at h l fits.headers);
       original = middle delta o (part_after delta located o located_fits);
       segments = outer;
       start = whole_size;
       notes = part_more (padded_to end segmented ++ n) s end n (part_after end segmented n segmented_fits);
-      whole = all_size ∙ ap (λ z. z + length s) noted_size;
+      whole = rw (length-append, length-after end segmented n segmented_fits) refl;
     }
 
 -- ---- the parts of a written file
@@ -159,10 +135,9 @@ next_word_from n = omega arith
 fits : (original : List ℕ) (added : List AddedSegment) (entry : ℕ) (notes : List ℕ) → CanWrite original added notes
     → Fits (headers original added entry notes) (locator original added notes) original added (delta_in original) (notes_at original added)
 fits original added entry notes can =
-    let few = few-segment_headers original added notes can in
     let size = length-headers original added entry notes (whole_header original (accepted original can.sound)) in
     record {
-      headers = omega (arith, few, size);
+      headers = omega (arith, few-segment_headers original added notes can, size);
       locator = length-locator original added notes;
       from = delta-from original;
       notes = next_word_from (segments_end (original_end original) added);
