@@ -32,28 +32,16 @@ trap_alike true value n z c y y' = refl
 trap_alike false value n z c y y' = (refl, refl, kept y y')
 
 result_alike : (op : AluOp) (a b : ℕ) (codes codes' : Codes) (y y' : ℕ) → AgreeOn (alu_inputs op) codes codes' y y' → SetAlike (writes_y op) y y' (result_of op a b codes y) (result_of op a b codes' y')
-result_alike ops.ADD a b codes codes' y y' h = (refl, refl, kept y y')
-result_alike ops.AND a b codes codes' y y' h = (refl, refl, kept y y')
-result_alike ops.OR a b codes codes' y y' h = (refl, refl, kept y y')
-result_alike ops.XOR a b codes codes' y y' h = (refl, refl, kept y y')
-result_alike ops.SUB a b codes codes' y y' h = (refl, refl, kept y y')
-result_alike ops.ANDN a b codes codes' y y' h = (refl, refl, kept y y')
-result_alike ops.ORN a b codes codes' y y' h = (refl, refl, kept y y')
-result_alike ops.XNOR a b codes codes' y y' h = (refl, refl, kept y y')
 result_alike ops.ADDX a b codes codes' y y' h = subst (λ (z : Codes). SetAlike false y y' (result_of ops.ADDX a b codes y) (result_of ops.ADDX a b z y')) h.0 (refl, refl, kept y y')
 result_alike ops.UMUL a b codes codes' y y' h = (refl, refl, λ _. refl)
 result_alike ops.SMUL a b codes codes' y y' h = (refl, refl, λ _. refl)
 result_alike ops.SUBX a b codes codes' y y' h = subst (λ (z : Codes). SetAlike false y y' (result_of ops.SUBX a b codes y) (result_of ops.SUBX a b z y')) h.0 (refl, refl, kept y y')
 result_alike ops.UDIV a b codes codes' y y' h = same_at false y y' (λ z. result_of ops.UDIV a b codes z) h.0
 result_alike ops.SDIV a b codes codes' y y' h = same_at false y y' (λ z. result_of ops.SDIV a b codes z) h.0
-result_alike ops.TADDcc a b codes codes' y y' h = (refl, refl, kept y y')
-result_alike ops.TSUBcc a b codes codes' y y' h = (refl, refl, kept y y')
 result_alike ops.TADDccTV a b codes codes' y y' h = trap_alike _ _ _ _ _ y y'
 result_alike ops.TSUBccTV a b codes codes' y y' h = trap_alike _ _ _ _ _ y y'
 result_alike ops.MULScc a b codes codes' y y' h = subst (λ (z : Codes). SetAlike true y y' (result_of ops.MULScc a b codes y) (result_of ops.MULScc a b z y')) h.0 (same_at true y y' (λ z. result_of ops.MULScc a b codes z) h.1.0)
-result_alike ops.SLL a b codes codes' y y' h = (refl, refl, kept y y')
-result_alike ops.SRL a b codes codes' y y' h = (refl, refl, kept y y')
-result_alike ops.SRA a b codes codes' y y' h = (refl, refl, kept y y')
+result_alike op a b codes codes' y y' h = (refl, refl, kept y y')
 
 kept_codes : (codes codes' : Codes) → (false ≡ true) ⊎ (codes ≡ codes') → codes ≡ codes'
 kept_codes codes codes' (inl e) = absurd (cc)
@@ -62,12 +50,9 @@ kept_codes codes codes' (inr e) = e
 keeping_alike : (sets writes : Bool) (codes codes' : Codes) (y y' : ℕ) (r q : Result AluOut AluTrap) → SetAlike writes y y' r q → AreAlike sets writes codes codes' y y' (keeping sets codes r) (keeping sets codes' q)
 keeping_alike true writes codes codes' y y' (Ok o) (Ok p) h = (h.0, (λ _. h.1), h.2)
 keeping_alike true writes codes codes' y y' (Err d) (Err e) h = h
-keeping_alike true writes codes codes' y y' (Ok o) (Err e) h = h
-keeping_alike true writes codes codes' y y' (Err d) (Ok p) h = h
 keeping_alike false writes codes codes' y y' (Ok o) (Ok p) h = (h.0, kept_codes codes codes', h.2)
 keeping_alike false writes codes codes' y y' (Err d) (Err e) h = h
-keeping_alike false writes codes codes' y y' (Ok o) (Err e) h = h
-keeping_alike false writes codes codes' y y' (Err d) (Ok p) h = h
+keeping_alike sets writes codes codes' y y' r q h = h
 
 pub alu_of-alike : (op : AluOp) (sets : Bool) (a b : ℕ) (codes codes' : Codes) (y y' : ℕ) → AgreeOn (alu_inputs op) codes codes' y y' → AreAlike sets (writes_y op) codes codes' y y' (alu_of op sets a b codes y) (alu_of op sets a b codes' y')
 unfolding alu_of

@@ -17,10 +17,8 @@ read_state_form : (w : ℕ) → HasForm (read_state w)
 read_state_form w = go (rs1_of w == 0) (rs1_of w == 15) (rd_of w == 0)
   where
     go : (a b c : Bool) → HasForm (if a then i.ReadY (rd_of w) else (if b then (if c then i.Stbar else i.Illegal) else i.Illegal))
-    go true b c = refl
     go false true true = refl
-    go false true false = refl
-    go false false c = refl
+    go a b c = refl
 
 write_state_form : (w : ℕ) → HasForm (write_state w)
 write_state_form w = go (rd_of w == 0)

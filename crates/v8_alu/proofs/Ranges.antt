@@ -91,9 +91,8 @@ result_range ops.SRL a b codes y ha hb hy =
 result_range ops.SRA a b codes y ha hb hy = (shifted_range a (count_of b) ha, hy)
 
 kept_range : (cc : Bool) (codes : Codes) (r : Result AluOut AluTrap) → IsOutInRange r → IsOutInRange (keeping cc codes r)
-kept_range true codes r h = h
 kept_range false codes (Ok o) h = h
-kept_range false codes (Err trap) h = h
+kept_range cc codes r h = h
 
 pub alu_of-range : (op : AluOp) (cc : Bool) (a b : ℕ) (codes : Codes) (y : ℕ) → a < 2 ^ 32 → b < 2 ^ 32 → y < 2 ^ 32 → IsOutInRange (alu_of op cc a b codes y)
 unfolding alu_of

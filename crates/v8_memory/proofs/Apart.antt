@@ -1,9 +1,11 @@
 -- Where regions are apart, one of them at most has given bytes.
-use Rattle.std.proofs.Common.{◌≡◌, ℕ, zero, suc, ◌+◌, ◌<◌, ◌≤◌, ◌⊎◌, inl, inr, Bool, true, false, ◌&&◌, ◌||◌, nat_le, Option, Some, None, List, [], ◌∷◌, length, map, take, drop, ◌++◌, get_or, slice_set, refl, ap, sym, subst, ◌∙◌, arith}
+use Rattle.std.proofs.Common.{◌≡◌, ℕ, zero, suc, ◌+◌, ◌<◌, ◌≤◌, inl, inr, Bool, true, false, ◌&&◌, Option, Some, None, List, [], ◌∷◌, length, map, take, drop, ◌++◌, get_or, slice_set, refl, ap, sym, ◌∙◌, arith}
 use Rattle.std.specs.Prelude.{if◌then◌else◌}
 use Rattle.std.specs.List.{filter, find}
 use Rattle.std.specs.Option.{option_map}
-use Rattle.std.proofs.lemmas.Bool.{and_parts, and_left, and_right, leb-true, lt-leb}
+use Rattle.std.proofs.lemmas.Bool.{and_parts, and_right, cases_Bool, cond_both, cond-true, false_from_ne_true, both_ways}
+use Rattle.std.proofs.lemmas.Bool.Decides.{nat_tests}
+use Rattle.std.proofs.lemmas.List.{drop_all}
 use Rattle.v8_memory.specs.declared.ops.Op.{Op}
 use Rattle.v8_memory.specs.Calls.{Fills}
 use Rattle.v8_memory.specs.Kept.{AreKept}
@@ -13,52 +15,19 @@ use Rattle.v8_memory.specs.Segments.{heap_start, heap_room, region_of}
 use Rattle.v8_memory.specs.Spans.{Span, is_apart, is_apart_from, are_apart, heap_span, span_of, span_of_mapping, regions_apart, mappings_apart}
 use Rattle.v8_memory.proofs.Kept.{kept_written, written_through}
 
-either : (x y : Bool) → (x || y) ≡ true → (x ≡ true) ⊎ (y ≡ true)
-either true y h = inl refl
-either false y h = inr h
-
 -- a region that lies in a span has no byte of what is apart from it
 pub not_both : (address count : ℕ) (x : Span) (r q : Region) → 0 < count → is_apart x (span_of q) ≡ true
     → x.from ≤ r.start → r.start + r.size ≤ x.from + x.count → covers address count r ≡ true
     → covers address count q ≡ false
-not_both address count x r q some apart low high has =
-    go (either (nat_le (x.from + x.count) q.start) (nat_le (q.start + q.size) x.from) apart)
-  where
-    within : (nat_le r.start address ≡ true) × (nat_le (address + count) (r.start + r.size) ≡ true)
-    within = and_parts (nat_le r.start address) (nat_le (address + count) (r.start + r.size)) has
-
-    from : r.start ≤ address
-    from = leb-true r.start address within.0
-
-    to : address + count ≤ r.start + r.size
-    to = leb-true (address + count) (r.start + r.size) within.1
-
-    beyond : address + count ≤ q.start ⊎ q.start + q.size ≤ address → covers address count q ≡ false
-    beyond (inl before) = and_left (nat_le q.start address) (nat_le (address + count) (q.start + q.size))
-        (lt-leb q.start address (omega (arith, before, some)))
-    beyond (inr after) = and_right (nat_le q.start address) (nat_le (address + count) (q.start + q.size))
-        (lt-leb (address + count) (q.start + q.size) (omega (arith, after, some)))
-
-    go : (nat_le (x.from + x.count) q.start ≡ true) ⊎ (nat_le (q.start + q.size) x.from ≡ true)
-        → covers address count q ≡ false
-    go (inl first) =
-        let e : x.from + x.count ≤ q.start = leb-true (x.from + x.count) q.start first in
-        beyond (inl (omega (arith, e, high, to)))
-    go (inr last) =
-        let e : q.start + q.size ≤ x.from = leb-true (q.start + q.size) x.from last in
-        beyond (inr (omega (arith, e, low, from)))
+not_both address count x r q some apart low high has = grind (arith, nat_tests)
 
 -- a region that hasn't all of the bytes stays
 stays : (address : ℕ) (bytes : List ℕ) (q : Region) → covers address (length bytes) q ≡ false → written address bytes q ≡ q
-stays address bytes q none = ap (λ (b : Bool). if b && q.writable then changed address bytes q else q) none
+stays address bytes q none = rw none
 
 -- and so does one that may not be written
 refuses : (address : ℕ) (bytes : List ℕ) (q : Region) → q.writable ≡ false → written address bytes q ≡ q
-refuses address bytes q no_leave = go (covers address (length bytes) q) q.writable no_leave
-  where
-    go : (c w : Bool) → w ≡ false → (if c && w then changed address bytes q else q) ≡ q
-    go true w e = ap (λ (b : Bool). if b then changed address bytes q else q) e
-    go false w e = refl
+refuses address bytes q no_leave = rw (and_right (covers address (length bytes) q) q.writable no_leave)
 
 -- where a region in a span has the bytes, those apart from the span stay
 others_stay : (address : ℕ) (bytes : List ℕ) (x : Span) (r : Region) (rs : List Region) → 0 < length bytes
@@ -67,9 +36,10 @@ others_stay : (address : ℕ) (bytes : List ℕ) (x : Span) (r : Region) (rs : L
 others_stay address bytes x r [] some apart low high has = refl
 others_stay address bytes x r (q ∷ rs) some apart low high has =
     let parts = and_parts (is_apart x (span_of q)) (is_apart_from x (map span_of rs)) apart in
-    ap (λ z. z ∷ map (written address bytes) rs)
-    (stays address bytes q (not_both address (length bytes) x r q some parts.0 low high has))
-    ∙ ap (λ z. q ∷ z) (others_stay address bytes x r rs some parts.1 low high has)
+    rw (
+      stays address bytes q (not_both address (length bytes) x r q some parts.0 low high has),
+      others_stay address bytes x r rs some parts.1 low high has,
+    )
 
 -- and the heap's span has none of them where a region has
 apart_at : (x : Span) (rs : List Region) (i : ℕ) (d : Region) → is_apart_from x (map span_of rs) ≡ true → i < length rs
@@ -80,13 +50,7 @@ apart_at x (q ∷ rs) (suc i) d apart within =
     apart_at x rs i d (and_parts (is_apart x (span_of q)) (is_apart_from x (map span_of rs)) apart).1 (omega arith)
 
 apart_sym : (x y : Span) → is_apart x y ≡ true → is_apart y x ≡ true
-apart_sym x y h = go (nat_le (x.from + x.count) y.from) (nat_le (y.from + y.count) x.from) h
-  where
-    go : (p q : Bool) → (p || q) ≡ true → (q || p) ≡ true
-    go true true e = refl
-    go true false e = refl
-    go false true e = refl
-    go false false e = e
+apart_sym x y h = grind (arith, nat_tests)
 
 -- the region that has the bytes is written, and no other
 pub write_once : (address : ℕ) (bytes : List ℕ) (rs : List Region) (i : ℕ) (d : Region) → 0 < length bytes
@@ -95,48 +59,39 @@ pub write_once : (address : ℕ) (bytes : List ℕ) (rs : List Region) (i : ℕ)
 write_once address bytes [] i d some apart within has = absurd (omega arith)
 write_once address bytes (r ∷ rs) zero d some apart within has =
     let parts = and_parts (is_apart_from (span_of r) (map span_of rs)) (are_apart (map span_of rs)) apart in
-    ap (λ z. written address bytes r ∷ z)
-    (sym (others_stay address bytes (span_of r) r rs some parts.0 (omega arith) (omega arith) has))
+    rw (others_stay address bytes (span_of r) r rs some parts.0 (omega arith) (omega arith) has)
 write_once address bytes (r ∷ rs) (suc i) d some apart within has =
     let parts = and_parts (is_apart_from (span_of r) (map span_of rs)) (are_apart (map span_of rs)) apart in
     let q : Region = get_or rs i d in
     let away : is_apart (span_of q) (span_of r) ≡ true =
     apart_sym (span_of r) (span_of q) (apart_at (span_of r) rs i d parts.0 (omega arith)) in
-    ap (λ z. r ∷ z) (write_once address bytes rs i d some parts.1 (omega arith) has)
-    ∙ ap (λ z. z ∷ map (written address bytes) rs)
-    (sym (stays address bytes r
-    (not_both address (length bytes) (span_of q) q r some away (omega arith) (omega arith) has)))
+    rw (
+      write_once address bytes rs i d some parts.1 (omega arith) has,
+      stays address bytes r (not_both address (length bytes) (span_of q) q r some away (omega arith) (omega arith) has),
+    )
 
 -- of regions that are apart, any one that has the bytes is the one that is found
 pub found_any : (address count : ℕ) (rs : List Region) (i : ℕ) (d : Region) → 0 < count
     → are_apart (map span_of rs) ≡ true → i < length rs → covers address count (get_or rs i d) ≡ true
     → find (covers address count) rs ≡ Some (get_or rs i d)
 found_any address count [] i d some apart within has = absurd (omega arith)
-found_any address count (r ∷ rs) zero d some apart within has =
-    ap (λ (b : Bool). if b then Some r else find (covers address count) rs) has
+found_any address count (r ∷ rs) zero d some apart within has = rw has
 found_any address count (r ∷ rs) (suc i) d some apart within has =
     let parts = and_parts (is_apart_from (span_of r) (map span_of rs)) (are_apart (map span_of rs)) apart in
     let q : Region = get_or rs i d in
     let away : is_apart (span_of q) (span_of r) ≡ true =
     apart_sym (span_of r) (span_of q) (apart_at (span_of r) rs i d parts.0 (omega arith)) in
-    ap (λ (b : Bool). if b then Some r else find (covers address count) rs)
-    (not_both address count (span_of q) q r some away (omega arith) (omega arith) has)
-    ∙ found_any address count rs i d some parts.1 (omega arith) has
+    rw (not_both address count (span_of q) q r some away (omega arith) (omega arith) has)
+    (found_any address count rs i d some parts.1 (omega arith) has)
 
 -- where none has the bytes, none is written
 none_written : (address : ℕ) (bytes : List ℕ) (rs : List Region) → find (covers address (length bytes)) rs ≡ None
     → map (written address bytes) rs ≡ rs
 none_written address bytes [] none = refl
-none_written address bytes (r ∷ rs) none =
-    go (covers address (length bytes) r) refl none (λ e. none_written address bytes rs e)
-  where
-    go : (b : Bool) → covers address (length bytes) r ≡ b
-        → (if b then Some r else find (covers address (length bytes)) rs) ≡ None
-        → (find (covers address (length bytes)) rs ≡ None → map (written address bytes) rs ≡ rs)
-        → map (written address bytes) (r ∷ rs) ≡ r ∷ rs
-    go true has e later = absurd (cc)
-    go false has e later =
-        ap (λ z. z ∷ map (written address bytes) rs) (stays address bytes r has) ∙ ap (λ z. r ∷ z) (later e)
+none_written address bytes (r ∷ rs) none = elim (cases_Bool (covers address (length bytes) r)) [
+  | inl has ↦ absurd (cc (rw has at none))
+  | inr has ↦ rw (stays address bytes r has, none_written address bytes rs (rw has at none))
+]
 
 -- where the one that has them may not be written, none is
 none_changed : (address : ℕ) (bytes : List ℕ) (rs : List Region) (q : Region) → 0 < length bytes
@@ -145,21 +100,12 @@ none_changed : (address : ℕ) (bytes : List ℕ) (rs : List Region) (q : Region
 none_changed address bytes [] q some apart is no_leave = absurd (cc)
 none_changed address bytes (r ∷ rs) q some apart is no_leave =
     let parts = and_parts (is_apart_from (span_of r) (map span_of rs)) (are_apart (map span_of rs)) apart in
-    go (covers address (length bytes) r) refl is parts.0 (λ e. none_changed address bytes rs q some parts.1 e no_leave)
-  where
-    go : (b : Bool) → covers address (length bytes) r ≡ b
-        → (if b then Some r else find (covers address (length bytes)) rs) ≡ Some q
-        → is_apart_from (span_of r) (map span_of rs) ≡ true
-        → (find (covers address (length bytes)) rs ≡ Some q → map (written address bytes) rs ≡ rs)
-        → map (written address bytes) (r ∷ rs) ≡ r ∷ rs
-    go true has e away later =
-        let same : r ≡ q = cc in
-        ap (λ z. z ∷ map (written address bytes) rs)
-        (refuses address bytes r (ap (λ (z : Region). z.writable) same ∙ no_leave))
-        ∙ ap (λ z. r ∷ z)
-        (others_stay address bytes (span_of r) r rs some away (omega arith) (omega arith) has)
-    go false has e away later =
-        ap (λ z. z ∷ map (written address bytes) rs) (stays address bytes r has) ∙ ap (λ z. r ∷ z) (later e)
+    elim (cases_Bool (covers address (length bytes) r)) [
+      | inl has ↦
+          let same : Some r ≡ Some q = rw has at is in
+          rw (refuses address bytes r (cc), others_stay address bytes (span_of r) r rs some parts.0 (omega arith) (omega arith) has)
+      | inr has ↦ rw (stays address bytes r has, none_changed address bytes rs q some parts.1 (rw has at is) no_leave)
+    ]
 
 -- a region that is found has the bytes, and the heap hasn't
 found_apart : (address count : ℕ) (heap : Region) (rs : List Region) (q : Region) → 0 < count
@@ -168,72 +114,53 @@ found_apart : (address count : ℕ) (heap : Region) (rs : List Region) (q : Regi
 found_apart address count heap [] q some apart start room is = absurd (cc)
 found_apart address count heap (r ∷ rs) q some apart start room is =
     let parts = and_parts (is_apart heap_span (span_of r)) (is_apart_from heap_span (map span_of rs)) apart in
-    go (covers address count r) refl is parts.0 (λ e. found_apart address count heap rs q some parts.1 start room e)
-  where
-    heap_apart : (b : Bool) → covers address count heap ≡ b → is_apart heap_span (span_of r) ≡ true
-        → covers address count r ≡ true → b ≡ false
-    heap_apart false h away has = refl
-    heap_apart true h away has =
-        let none : covers address count r ≡ false =
-        not_both address count heap_span heap r some away (omega (arith, start)) (omega (arith, start, room)) h in
-        absurd (cc)
-
-    go : (b : Bool) → covers address count r ≡ b
-        → (if b then Some r else find (covers address count) rs) ≡ Some q → is_apart heap_span (span_of r) ≡ true
-        → (find (covers address count) rs ≡ Some q → covers address count heap ≡ false)
-        → covers address count heap ≡ false
-    go true has e away later = heap_apart (covers address count heap) refl away has
-    go false has e away later = later e
+    elim (cases_Bool (covers address count r)) [
+      | inl has ↦ false_from_ne_true _ (λ h. both_ways _
+          (not_both address count heap_span heap r some parts.0 (omega (arith, start)) (omega (arith, start, room)) h) has)
+      | inr has ↦ found_apart address count heap rs q some parts.1 start room (rw has at is)
+    ]
 
 -- the heap may be asked last
 pub heap_last : (m : Memory) (address count : ℕ) (q : Region) → 0 < count → regions_apart m.regions ≡ true
     → m.heap.start ≡ heap_start → m.heap.size ≤ heap_room → find (covers address count) m.regions ≡ Some q
     → region_at m address count ≡ Some q
 heap_last m address count q some apart start room is =
-    ap (λ (b : Bool). if b then Some m.heap else find (covers address count) m.regions)
-    (found_apart address count m.heap m.regions q some
-    (and_parts (is_apart_from heap_span (map span_of m.regions)) (are_apart (map span_of m.regions)) apart).0 start room is)
-    ∙ is
+    let parts = and_parts (is_apart_from heap_span (map span_of m.regions)) (are_apart (map span_of m.regions)) apart in
+    rw (found_apart address count m.heap m.regions q some parts.0 start room is) is
 
 pub heap_or_none : (m : Memory) (address count : ℕ) → find (covers address count) m.regions ≡ None
     → region_at m address count ≡ (if covers address count m.heap then Some m.heap else None)
-heap_or_none m address count none = ap (λ z. if covers address count m.heap then Some m.heap else z) none
+heap_or_none m address count none = rw none
 
 -- regions that are written stay where they are
 spans_stay : (address : ℕ) (bytes : List ℕ) (rs : List Region) → map span_of (map (written address bytes) rs) ≡ map span_of rs
 spans_stay address bytes [] = refl
 spans_stay address bytes (r ∷ rs) =
-    ap (λ z. z ∷ map span_of (map (written address bytes) rs)) (go (covers address (length bytes) r && r.writable))
+    ap (λ z. z ∷ map span_of (map (written address bytes) rs))
+    (cond_both (covers address (length bytes) r && r.writable) (changed address bytes r) r (λ z. span_of z ≡ span_of r)
+    (λ _. refl) (λ _. refl))
     ∙ ap (λ z. span_of r ∷ z) (spans_stay address bytes rs)
-  where
-    go : (b : Bool) → span_of (if b then changed address bytes r else r) ≡ span_of r
-    go true = refl
-    go false = refl
 
 apart_written : (address : ℕ) (bytes : List ℕ) (old new : List Region) → new ≡ map (written address bytes) old
     → regions_apart old ≡ true → regions_apart new ≡ true
 apart_written address bytes old new is h =
-    ap (λ z. are_apart (heap_span ∷ z)) (ap (map span_of) is ∙ spans_stay address bytes old) ∙ h
+    rw (is, spans_stay address bytes old) h
 
--- what a memory's invariant says of its regions stays where they are written through a slice of them all
-pub all_stay : (address : ℕ) (bytes : List ℕ) (count : ℕ) (items slice new : List Region) (first : ℕ) (kept : List Op)
-    → length items ≡ count → slice ≡ items → new ≡ map (written address bytes) slice → regions_apart items ≡ true
-    → AreKept (filter is_code items) first kept
-    → (regions_apart (take count (new ++ drop (length new) items)) ≡ true)
-    × AreKept (filter is_code (take count (new ++ drop (length new) items))) first kept
-all_stay address bytes count items slice new first kept whole same is apart are =
-    let through =
-    written_through (written address bytes) count items slice new whole same is in (
-      apart_written address bytes items (take count (new ++ drop (length new) items)) through apart,
-      kept_written address bytes items (take count (new ++ drop (length new) items)) first kept through are,
-    )
-
--- and where one of them is written in its place
+-- what a memory's invariant says of its regions stays where one of them is written in its place
 pub stay_at : (address : ℕ) (bytes : List ℕ) (items new : List Region) (first : ℕ) (kept : List Op)
     → new ≡ map (written address bytes) items → regions_apart items ≡ true → AreKept (filter is_code items) first kept
     → (regions_apart new ≡ true) × AreKept (filter is_code new) first kept
 stay_at address bytes items new first kept is apart are =
     (apart_written address bytes items new is apart, kept_written address bytes items new first kept is are)
+
+-- and where they are written through a slice of them all
+pub all_stay : (address : ℕ) (bytes : List ℕ) (count : ℕ) (items slice new : List Region) (first : ℕ) (kept : List Op)
+    → length items ≡ count → slice ≡ items → new ≡ map (written address bytes) slice → regions_apart items ≡ true
+    → AreKept (filter is_code items) first kept
+    → (regions_apart (take count (new ++ drop (length new) items)) ≡ true)
+    × AreKept (filter is_code (take count (new ++ drop (length new) items))) first kept
+all_stay address bytes count items slice new first kept whole same is =
+    stay_at address bytes items _ first kept (written_through (written address bytes) count items slice new whole same is)
 
 -- the region in a place that has the bytes is found, and no other
 pub found_at : (address count : ℕ) (rs : List Region) (i : ℕ) (q : Region) → 0 < count → regions_apart rs ≡ true
@@ -282,22 +209,15 @@ pub found_here : (address count : ℕ) (rs : List Region) (i : ℕ) (r d : Regio
     → covers address count r ≡ true → find (covers address count) (drop i rs) ≡ Some r
 found_here address count [] i r d within is has = absurd (omega arith)
 found_here address count (q ∷ rs) zero r d within is has =
-    ap (λ (b : Bool). if b then Some q else find (covers address count) rs) (ap (covers address count) (sym is) ∙ has)
-    ∙ ap (λ (z : Region). Some z) (sym is)
+    rw (is, rw is at has)
 found_here address count (q ∷ rs) (suc i) r d within is has = found_here address count rs i r d (omega arith) is has
-
-none_left : (address count : ℕ) (rs : List Region) (i : ℕ) → length rs ≤ i → find (covers address count) (drop i rs) ≡ None
-none_left address count [] zero past = refl
-none_left address count [] (suc i) past = refl
-none_left address count (r ∷ rs) zero past = absurd (omega arith)
-none_left address count (r ∷ rs) (suc i) past = none_left address count rs i (omega arith)
 
 -- where no region is found, none is written
 pub none_written_here : (address : ℕ) (bytes : List ℕ) (rs : List Region) (i : ℕ) → length rs ≤ i
     → find (covers address (length bytes)) rs ≡ find (covers address (length bytes)) (drop i rs)
     → rs ≡ map (written address bytes) rs
 none_written_here address bytes rs i past left =
-    sym (none_written address bytes rs (left ∙ none_left address (length bytes) rs i past))
+    sym (none_written address bytes rs (rw (drop_all i rs past) at left))
 
 -- ---- a write as it is made
 
@@ -317,30 +237,26 @@ unfolding with_bytes
 write_region_done m n address bytes done some apart start room same is was =
     go (find (covers address (length bytes)) m.regions) refl was
   where
-    rest : are_apart (map span_of m.regions) ≡ true
-    rest = (and_parts (is_apart_from heap_span (map span_of m.regions)) (are_apart (map span_of m.regions)) apart).1
+    parts : (is_apart_from heap_span (map span_of m.regions) ≡ true) × (are_apart (map span_of m.regions) ≡ true)
+    parts = and_parts (is_apart_from heap_span (map span_of m.regions)) (are_apart (map span_of m.regions)) apart
 
     heap_is : (q : Region) → find (covers address (length bytes)) m.regions ≡ Some q → written address bytes m.heap ≡ m.heap
     heap_is q e =
         stays address bytes m.heap
-        (found_apart address (length bytes) m.heap m.regions q some
-        (and_parts (is_apart_from heap_span (map span_of m.regions)) (are_apart (map span_of m.regions)) apart).0 start
-        room e)
+        (found_apart address (length bytes) m.heap m.regions q some parts.0 start room e)
 
     made : (q : Region) (b : Bool) → find (covers address (length bytes)) m.regions ≡ Some q → q.writable ≡ b
         → done ≡ b → Fills (if_allowed b (all_written address bytes m)) m n done
     made q true e may d = (d, memory_is (all_written address bytes m) n (same ∙ sym (heap_is q e)) is)
     made q false e may d =
-        (d, memory_is m n same (is ∙ none_changed address bytes m.regions q some rest e may))
+        (d, memory_is m n same (is ∙ none_changed address bytes m.regions q some parts.1 e may))
 
     go : (x : Option Region) → find (covers address (length bytes)) m.regions ≡ x
         → Some done ≡ option_map (λ (r : Region). r.writable) x → Fills (with_bytes m address bytes) m n done
     go None e w = absurd (cc)
     go (Some q) e w =
         let d : done ≡ q.writable = cc in
-        subst (λ (x : Option Region). Fills (write_region address bytes m x) m n done)
-        (sym (heap_last m address (length bytes) q some apart start room e))
-        (made q q.writable e refl d)
+        rw (heap_last m address (length bytes) q some apart start room e) (made q q.writable e refl d)
 
 -- the heap has them
 pub write_heap_first : (m n : Memory) (address : ℕ) (bytes : List ℕ) (done : Bool) → 0 < length bytes
@@ -349,8 +265,7 @@ pub write_heap_first : (m n : Memory) (address : ℕ) (bytes : List ℕ) (done :
     → done ≡ m.heap.writable → Fills (with_bytes m address bytes) m n done
 unfolding with_bytes
 write_heap_first m n address bytes done some apart start room has heap regions was =
-    subst (λ (x : Option Region). Fills (write_region address bytes m x) m n done)
-    (sym (ap (λ (b : Bool). if b then Some m.heap else find (covers address (length bytes)) m.regions) has))
+    rw (cond-true (covers address (length bytes) m.heap) (Some m.heap) (find (covers address (length bytes)) m.regions) has)
     (allowed m.heap.writable refl)
   where
     others : map (written address bytes) m.regions ≡ m.regions
@@ -372,9 +287,7 @@ pub write_heap_done : (m n : Memory) (address : ℕ) (bytes : List ℕ) (done : 
     → Fills (with_bytes m address bytes) m n done
 unfolding with_bytes
 write_heap_done m n address bytes done found heap regions was =
-    subst (λ (x : Option Region). Fills (write_region address bytes m x) m n done)
-    (sym (heap_or_none m address (length bytes) none))
-    (go (covers address (length bytes) m.heap) refl)
+    rw (heap_or_none m address (length bytes) none) (go (covers address (length bytes) m.heap) refl)
   where
     is_none : (x : Option Region) → None ≡ option_map (λ (r : Region). r.writable) x → x ≡ None
     is_none None e = refl

@@ -1,5 +1,5 @@
 -- The records that a memory keeps.
-use Rattle.std.proofs.Common.{◌≡◌, ◌+◌, ◌-◌, ◌*◌, ◌/◌, ◌%◌, ◌^◌, ◌<◌, ℕ, zero, suc, List, [], ◌∷◌, ◌++◌, length, get_or, slice_set, replicate, inl, refl, sym, ap, subst, arith, pos, map, take, drop, ◌∙◌}
+use Rattle.std.proofs.Common.{◌≡◌, ◌+◌, ◌*◌, ◌%◌, ◌^◌, ◌<◌, ℕ, zero, suc, List, [], ◌∷◌, ◌++◌, length, get_or, slice_set, replicate, inl, refl, ap, subst, arith, pos, map, take, drop}
 use Rattle.std.specs.List.{filter}
 use Rattle.v8_decode.specs.declared.Op2.TheVariants.{Reg}
 use Rattle.v8_memory.specs.declared.ops.Op.{Op}
@@ -46,14 +46,10 @@ map_in_place f (x ∷ xs) = ap (λ z. f x ∷ z) (map_in_place f xs)
 pub written_through : (f : Region → Region) (count : ℕ) (items slice new : List Region) → length items ≡ count
     → slice ≡ items → new ≡ map f slice → take count (new ++ drop (length new) items) ≡ map f items
 written_through f count items slice new whole same is =
-    ap (λ z. take count (z ++ drop (length z) items)) (is ∙ ap (map f) same)
-    ∙ ap (λ n. take n (map f items ++ drop (length (map f items)) items)) (sym whole)
-    ∙ map_in_place f items
+    rw (is, same, ← whole) (map_in_place f items)
 
 -- a write changes no word that has a record
 pub kept_written : (address : ℕ) (bytes : List ℕ) (old new : List Region) (first : ℕ) (kept : List Op)
     → new ≡ map (written address bytes) old → AreKept (filter is_code old) first kept
     → AreKept (filter is_code new) first kept
-kept_written address bytes old new first kept is h =
-    subst (λ rs. AreKept (filter is_code rs) first kept) (sym is)
-    (subst (λ code. AreKept code first kept) (sym (filter-written address bytes old)) h)
+kept_written address bytes old new first kept is h = rw (is, filter-written address bytes old) h

@@ -1,5 +1,5 @@
 -- Loading a frame, register by register.
-use Rattle.std.proofs.Common.{◌≡◌, ℕ, zero, suc, ◌+◌, ◌<◌, List, [], ◌∷◌, length, take, get_or, set, refl, ap, sym, ◌∙◌, arith, add-one, get_or-set_other}
+use Rattle.std.proofs.Common.{◌≡◌, ℕ, zero, suc, ◌+◌, ◌<◌, List, [], ◌∷◌, length, take, get_or, set, refl, arith, add-one, get_or-set_other}
 use Rattle.std.proofs.lemmas.List.FromFn.{get_or-range_with_len}
 use Rattle.v8_windows.specs.Registers.{place_of, register_set}
 use Rattle.v8_windows.specs.Frames.{frame_registers}
@@ -26,12 +26,8 @@ pub word_loaded : (registers loaded : List ℕ) (window : ℕ) (words : List ℕ
     → set loaded (place_of window (16 + i)) (get_or words i 0)
     ≡ registers_of_words registers window (take (i + 1) frame_registers) (take (i + 1) words)
 word_loaded registers loaded window words i below count so_far =
-    written_in_place loaded window (16 + i) (get_or words i 0) (omega arith)
-    ∙ ap (λ rs. register_set rs window (16 + i) (get_or words i 0)) so_far
-    ∙ ap (λ r. register_set (registers_of_words registers window (take i frame_registers) (take i words)) window r
-    (get_or words i 0)) (sym (frame_register i below))
-    ∙ sym (one_more registers window frame_registers words i below (omega arith))
-    ∙ ap (λ n. registers_of_words registers window (take n frame_registers) (take n words)) (sym (add-one i))
+    rw (add-one i, one_more registers window frame_registers words i below (omega arith), frame_register i below, ← so_far)
+    (written_in_place loaded window (16 + i) (get_or words i 0) (omega arith))
 
 pub zero_kept : (loaded : List ℕ) (window value i : ℕ)
     → get_or (set loaded (place_of window (16 + i)) value) 0 0 ≡ get_or loaded 0 0

@@ -1,7 +1,7 @@
 -- All registers, where those of the current window are in an array of their own.
-use Rattle.std.proofs.Common.{◌≡◌, ◌≢◌, ℕ, zero, suc, ◌+◌, ◌-◌, ◌*◌, ◌%◌, ◌<◌, ◌≤◌, ◌⊎◌, inl, inr, Bool, List, length, replicate, refl, ap, sym, ◌∙◌, subst, arith, length-set, get_or-set_other, get_or-set_same}
-use Rattle.std.specs.Prelude.{if◌then◌else◌, nat_lt, slice_index, slice_set}
-use Rattle.std.proofs.lemmas.Bool.{cases_lt, lt-ltb, le-ltb}
+use Rattle.std.proofs.Common.{◌≡◌, ◌≢◌, ℕ, zero, suc, ◌+◌, ◌-◌, ◌*◌, ◌%◌, ◌<◌, ◌≤◌, ◌⊎◌, inl, inr, List, length, replicate, refl, ap, sym, ◌∙◌, arith, length-set, get_or-set_other, get_or-set_same, zero-add}
+use Rattle.std.specs.Prelude.{slice_index, slice_set}
+use Rattle.std.proofs.lemmas.Bool.{cases_eq, cases_lt, lt-ltb, le-ltb}
 use Rattle.std.proofs.lemmas.List.FromFn.{fill_by_all, get_or-map-range_with_len, length-map-range_with_len}
 use Rattle.v8_windows.specs.Registers.{place_of, register_in, register_set, window_after, window_before}
 use Rattle.v8_windows.specs.Calls.{IsCopied, after_outs, registers_seen, seen_at}
@@ -28,40 +28,23 @@ as_seen current others window registers count h = fill_by_all (seen_at current o
 
 at_global : (current others : List ℕ) (window place : ℕ) → place < 8
     → seen_at current others window place ≡ slice_index current place
-at_global current others window place low =
-    ap (λ (b : Bool). if b then slice_index current place else
-    if nat_lt (after_outs window place) 24 then slice_index current (8 + after_outs window place) else slice_index others place)
-    (lt-ltb place 8 low)
-
-past_globals : (current others : List ℕ) (window place : ℕ) → 8 ≤ place
-    → seen_at current others window place
-    ≡ (if nat_lt (after_outs window place) 24 then slice_index current (8 + after_outs window place) else slice_index others place)
-past_globals current others window place high =
-    ap (λ (b : Bool). if b then slice_index current place else
-    if nat_lt (after_outs window place) 24 then slice_index current (8 + after_outs window place) else slice_index others place)
-    (le-ltb place 8 high)
+at_global current others window place low = rw (lt-ltb place 8 low)
 
 at_own : (current others : List ℕ) (window place : ℕ) → 8 ≤ place → after_outs window place < 24
     → seen_at current others window place ≡ slice_index current (8 + after_outs window place)
-at_own current others window place high own =
-    past_globals current others window place high
-    ∙ ap (λ (b : Bool). if b then slice_index current (8 + after_outs window place) else slice_index others place)
-    (lt-ltb (after_outs window place) 24 own)
+at_own current others window place high own = rw (le-ltb place 8 high, lt-ltb (after_outs window place) 24 own)
 
 at_other : (current others : List ℕ) (window place : ℕ) → 8 ≤ place → 24 ≤ after_outs window place
     → seen_at current others window place ≡ slice_index others place
-at_other current others window place high away =
-    past_globals current others window place high
-    ∙ ap (λ (b : Bool). if b then slice_index current (8 + after_outs window place) else slice_index others place)
-    (le-ltb (after_outs window place) 24 away)
+at_other current others window place high away = rw (le-ltb place 8 high, le-ltb (after_outs window place) 24 away)
 
 -- ---- where the registers of the window stand
 
 place_low : (window r : ℕ) → r < 8 → place_of window r ≡ r
-place_low window r low = ap (λ (b : Bool). if b then r else 8 + (16 * window + (r - 8)) % 128) (lt-ltb r 8 low)
+place_low window r low = rw (lt-ltb r 8 low)
 
 place_high : (window r : ℕ) → 8 ≤ r → place_of window r ≡ 8 + (16 * window + (r - 8)) % 128
-place_high window r high = ap (λ (b : Bool). if b then r else 8 + (16 * window + (r - 8)) % 128) (le-ltb r 8 high)
+place_high window r high = rw (le-ltb r 8 high)
 
 -- from a number behind the outs to the place, and back
 behind : (window k : ℕ) → window < 8 → k < 128 → after_outs window (8 + (16 * window + k) % 128) ≡ k
@@ -73,16 +56,14 @@ back window place w high below = omega arith
 
 register_is : (current others : List ℕ) (window r : ℕ) → window < 8 → r < 32
     → seen_at current others window (place_of window r) ≡ slice_index current r
-register_is current others window r w below = go (cases_lt r 8)
-  where
-    go : (r < 8) ⊎ (8 ≤ r) → seen_at current others window (place_of window r) ≡ slice_index current r
-    go (inl low) =
-        ap (seen_at current others window) (place_low window r low) ∙ at_global current others window r low
-    go (inr high) =
-        let k : after_outs window (8 + (16 * window + (r - 8)) % 128) ≡ r - 8 = behind window (r - 8) w (omega arith) in
-        ap (seen_at current others window) (place_high window r high)
-        ∙ at_own current others window (8 + (16 * window + (r - 8)) % 128) (omega arith) (omega (arith, k))
-        ∙ ap (slice_index current) (omega (arith, k))
+register_is current others window r w below = elim (cases_lt r 8) [
+  | inl low ↦ rw (place_low window r low) (at_global current others window r low)
+  | inr high ↦
+      let k : after_outs window (8 + (16 * window + (r - 8)) % 128) ≡ r - 8 = behind window (r - 8) w (omega arith) in
+      rw (place_high window r high)
+      (at_own current others window (8 + (16 * window + (r - 8)) % 128) (omega arith) (omega (arith, k))
+      ∙ ap (slice_index current) (omega (arith, k)))
+]
 
 pub register_seen : (current others : List ℕ) (window r : ℕ) → slice_index current 0 ≡ 0 → window < 8 → r < 32
     → slice_index current r ≡ register_in (registers_seen current others window) window r
@@ -128,41 +109,26 @@ pub set_seen : (current others : List ℕ) (window r value : ℕ) → length cur
 set_seen current others window r value count w below some =
     sym (as_seen (slice_set current r value) others window (slice_set all (place_of window r) value)
     (length-set all (place_of window r) value ∙ length-seen current others window)
-    (λ place within. each place within (same_or_not place (place_of window r))))
+    (λ place within. each place within (cases_eq place (place_of window r))))
     ∙ written_in_place all window r value some
   where
     all : List ℕ
     all = registers_seen current others window
 
-    same_or_not : (a b : ℕ) → (a ≡ b) ⊎ (a ≢ b)
-    same_or_not a b = go (cases_lt a b) (cases_lt b a)
-      where
-        go : (a < b) ⊎ (b ≤ a) → (b < a) ⊎ (a ≤ b) → (a ≡ b) ⊎ (a ≢ b)
-        go (inl less) q = inr (λ same. omega (arith, less, same))
-        go (inr least) (inl more) = inr (λ same. omega (arith, more, same))
-        go (inr least) (inr most) = inl (omega (arith, least, most))
-
     each : (place : ℕ) → place < 136 → (place ≡ place_of window r) ⊎ (place ≢ place_of window r)
         → slice_index (slice_set all (place_of window r) value) place
         ≡ seen_at (slice_set current r value) others window place
     each place within (inl same) =
-        ap (slice_index (slice_set all (place_of window r) value)) same
-        ∙ get_or-set_same all (place_of window r) value 0
-        (subst (λ n. place_of window r < n) (sym (length-seen current others window)) (place_of-below window r))
-        ∙ sym (get_or-set_same current r value 0 (subst (λ n. r < n) (sym count) below))
-        ∙ sym (register_is (slice_set current r value) others window r w below)
-        ∙ ap (seen_at (slice_set current r value) others window) (sym same)
+        rw same
+        (get_or-set_same all (place_of window r) value 0 (rw (length-seen current others window) (place_of-below window r))
+        ∙ sym (get_or-set_same current r value 0 (rw count below))
+        ∙ sym (register_is (slice_set current r value) others window r w below))
     each place within (inr apart) =
         get_or-set_other all (place_of window r) place value 0 apart
         ∙ seen current others window place within
         ∙ other_seen current others window r value place w below within apart
 
 -- ---- all registers of a window
-
-global_copied : (words old new : List ℕ) (place : ℕ) → IsCopied 0 0 8 words old new → place < 8
-    → slice_index new place ≡ slice_index words place
-global_copied words old new place h low =
-    subst (λ n. slice_index new n ≡ slice_index words n) (omega arith) (h.inside place low)
 
 -- the window's registers are put away
 pub put_away_seen : (current old first second new : List ℕ) (window : ℕ) → window < 8 → length new ≡ 136
@@ -179,8 +145,7 @@ put_away_seen current old first second new window w count globals outs ins =
         → (after_outs window place < 16) ⊎ (24 ≤ after_outs window place)
         → slice_index new place ≡ slice_index second place
     beside place (inl low) high within k = ins.below place low
-    beside place (inr up) high within (inl k) = ins.above place (omega (arith, up, high, within, k, w))
-    beside place (inr up) high within (inr k) = ins.above place (omega (arith, up, high, within, k, w))
+    beside place (inr up) high within k = ins.above place (omega (arith, up, high, within, k, w))
 
     far : (place : ℕ) → (place < 8 + 16 * window) ⊎ (8 + 16 * window ≤ place) → 8 ≤ place → place < 136
         → 24 ≤ after_outs window place → slice_index second place ≡ slice_index first place
@@ -209,7 +174,7 @@ put_away_seen current old first second new window w count globals outs ins =
         → slice_index new place ≡ seen_at current old window place
     each place within (inl low) =
         ins.below place (omega (arith, low)) ∙ outs.below place (omega (arith, low))
-        ∙ global_copied current old first place globals low ∙ sym (at_global current old window place low)
+        ∙ (rw zero-add at (globals.inside place low)) ∙ sym (at_global current old window place low)
     each place within (inr high) =
         past place high within (cases_lt (after_outs window place) 16) (cases_lt (after_outs window place) 24)
 
@@ -243,7 +208,7 @@ bring_seen registers old first second new window w count globals outs ins =
         → slice_index registers place ≡ seen_at new registers window place
     each place within (inl low) =
         sym (at_global new registers window place low ∙ ins.below place (omega (arith, low))
-        ∙ outs.below place (omega (arith, low)) ∙ global_copied registers old first place globals low)
+        ∙ outs.below place (omega (arith, low)) ∙ (rw zero-add at (globals.inside place low)))
     each place within (inr high) =
         past place high within (cases_lt (after_outs window place) 16) (cases_lt (after_outs window place) 24)
 
@@ -289,8 +254,7 @@ before_seen current others put kept shifted new window w locals ins outs brought
     beside : (place : ℕ) → (place < next) ⊎ (next ≤ place) → 8 ≤ place → place < 136
         → (after_outs window place < 16) ⊎ (24 ≤ after_outs window place) → slice_index kept place ≡ slice_index put place
     beside place (inl low) high within k = ins.below place low
-    beside place (inr up) high within (inl k) = ins.above place (omega (arith, up, high, within, k, w))
-    beside place (inr up) high within (inr k) = ins.above place (omega (arith, up, high, within, k, w))
+    beside place (inr up) high within k = ins.above place (omega (arith, up, high, within, k, w))
 
     far : (place : ℕ) → (place < 8 + 16 * window + 8) ⊎ (8 + 16 * window + 8 ≤ place) → 8 ≤ place → place < 136
         → 24 ≤ after_outs window place → slice_index put place ≡ slice_index others place

@@ -1,6 +1,4 @@
-use Rattle.std.proofs.Common.{rules, slice_set, true, refl, subst}
-use Rattle.v8_memory.specs.Calls.{Fills}
-use Rattle.v8_memory.specs.Regions.{with_bytes}
+use Rattle.std.proofs.Common.{rules, slice_set, true, refl}
 use Rattle.v8_memory.proofs.Apart.{may_at, stay_at, write_region_done, written_at}
 use Rattle.v8_memory.proofs.memory.Memory.write_in.Goals as goal
 
@@ -21,10 +19,7 @@ returns c =
     let bytes = c.args.bytes.now in
     let old = c.self.inside.regions.items in
     let new = slice_set old c.args.index c.put.new.self in
-    subst
-    (λ m. Fills (with_bytes m address bytes) m (record { heap = c.self.inside.heap; regions = new }) true)
-    c.self.view_is
-    (write_region_done (record { heap = c.self.inside.heap; regions = old })
+    rw c.self.view_is at (write_region_done (record { heap = c.self.inside.heap; regions = old })
     (record { heap = c.self.inside.heap; regions = new }) address bytes true (search rules) (search rules)
     (search rules) (search rules) refl
     (written_at address bytes old c.args.index c.index_mut.result.now c.put.new.self (search rules) (search rules)

@@ -1,8 +1,7 @@
-use Rattle.std.proofs.Common.{rules, length, take, drop, ◌++◌, refl, ap, subst, ◌∙◌}
+use Rattle.std.proofs.Common.{rules, length, take, drop, ◌++◌, refl, ap, ◌∙◌}
 use Rattle.std.specs.List.{find}
 use Rattle.std.specs.Option.{option_map}
-use Rattle.v8_memory.specs.Calls.{Fills}
-use Rattle.v8_memory.specs.Regions.{Region, covers, with_bytes, written}
+use Rattle.v8_memory.specs.Regions.{Region, covers, written}
 use Rattle.v8_memory.proofs.Apart.{all_stay, write_heap_done, write_region_done}
 use Rattle.v8_memory.proofs.Kept.{written_through}
 use Rattle.v8_memory.proofs.memory.Memory.write_searched.Goals as goal
@@ -29,10 +28,7 @@ returns-in-Some c =
     let bytes = c.args.bytes.now in
     let old = c.self.inside.regions.items in
     let new = take c.self.inside.regions.len (c.write_one.new.regions ++ drop (length c.write_one.new.regions) old) in
-    subst
-    (λ m. Fills (with_bytes m address bytes) m (record { heap = c.self.inside.heap; regions = new }) c.in-Some.done)
-    c.self.view_is
-    (write_region_done (record { heap = c.self.inside.heap; regions = old })
+    rw c.self.view_is at (write_region_done (record { heap = c.self.inside.heap; regions = old })
     (record { heap = c.self.inside.heap; regions = new }) address bytes c.in-Some.done (search rules) (search rules)
     (search rules) (search rules) refl
     (written_through (written address bytes) c.self.inside.regions.len old c.deref_mut.result.now
@@ -47,11 +43,7 @@ returns-in-None c =
     let bytes = c.args.bytes.now in
     let old = c.self.inside.regions.items in
     let new = take c.self.inside.regions.len (c.write_one.new.regions ++ drop (length c.write_one.new.regions) old) in
-    subst
-    (λ m. Fills (with_bytes m address bytes) m (record { heap = c.write_heap.new.heap; regions = new })
-    c.write_heap.result)
-    c.self.view_is
-    (write_heap_done (record { heap = c.self.inside.heap; regions = old })
+    rw c.self.view_is at (write_heap_done (record { heap = c.self.inside.heap; regions = old })
     (record { heap = c.write_heap.new.heap; regions = new }) address bytes c.write_heap.result
     (c.in-None.ensures.may
     ∙ ap (λ rs. option_map (λ (r : Region). r.writable) (find (covers address (length bytes)) rs))
