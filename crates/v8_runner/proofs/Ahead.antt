@@ -1,29 +1,12 @@
 -- Runs that go on by steps that put nothing out.
-use Rattle.std.proofs.Common.{◌≡◌, ◌+◌, ◌-◌, ◌<◌, ◌≤◌, ◌⊎◌, inl, inr, ℕ, zero, suc, List, [], ◌++◌, append_assoc, None, refl, sym, ap, ◌∙◌, subst, arith}
+use Rattle.std.proofs.Common.{◌≡◌, ◌+◌, ◌-◌, ◌<◌, ◌≤◌, ◌⊎◌, inl, inr, ℕ, ◌++◌, None, sym, ap, ◌∙◌, arith}
 use Rattle.std.proofs.lemmas.Bool.{cases_lt}
 use Rattle.std.proofs.lemmas.List.{append-nil}
 use Rattle.v8_step.specs.State.{State}
-use Rattle.v8_step.specs.Step.{puts_of, step_of}
 use Rattle.v8_step.specs.Run.{run, run_puts}
 use Rattle.v8_step.specs.Turns.{IsQuietRun}
+use Rattle.v8_step.proofs.RunsOn.{puts_add, run_add}
 use Rattle.v8_runner.specs.Runs.{AreMade, IsAhead}
-
-run_add : (s : State) (k l : ℕ) → run s (l + k) ≡ run (run s k) l
-run_add s k zero = ap (run s) (omega arith)
-run_add s k (suc l) = let e : suc l + k ≡ suc (l + k) = omega arith in ap (run s) e ∙ ap step_of (run_add s k l)
-
-puts_add : (s : State) (k l descriptor : ℕ)
-    → run_puts s (l + k) descriptor ≡ run_puts s k descriptor ++ run_puts (run s k) l descriptor
-puts_add s k zero descriptor =
-    let e : zero + k ≡ k = omega arith in
-    ap (λ n. run_puts s n descriptor) e ∙ sym (append-nil (run_puts s k descriptor))
-puts_add s k (suc l) descriptor =
-    let e : suc l + k ≡ suc (l + k) = omega arith in
-    ap (λ n. run_puts s n descriptor) e
-    ∙ ap (λ z. z ++ puts_of (run s (l + k)) descriptor) (puts_add s k l descriptor)
-    ∙ ap (λ (z : State). run_puts s k descriptor ++ run_puts (run s k) l descriptor ++ puts_of z descriptor)
-    (run_add s k l)
-    ∙ append_assoc (run_puts s k descriptor) (run_puts (run s k) l descriptor) (puts_of (run (run s k) l) descriptor)
 
 pub ahead : (s0 s t : State) (n k : ℕ) → s ≡ run s0 n → AreMade s0 n → IsQuietRun s k t → IsAhead s0 n (n + k) t
 ahead s0 s t n k is made h = record {

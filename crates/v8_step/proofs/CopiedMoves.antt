@@ -104,17 +104,12 @@ goes_exchange s width rd address bytes =
 
 pub goes_act : (s : State) (instr : Instr) → is_transfer instr ≡ false → GoesTo s.npc (act s instr)
 unfolding act load_step store_step ldstub_step swap_step save_step restore_step
-goes_act s (i.Sethi rd imm22) h = λ e. (refl, refl, refl)
 goes_act s (i.Branch cond annul disp22) h = absurd (cc)
 goes_act s (i.Call disp30) h = absurd (cc)
 goes_act s (i.Alu op cc rd rs1 op2) h = goes_alu s rd _
-goes_act s (i.ReadY rd) h = λ e. (refl, refl, refl)
-goes_act s (i.WriteY rs1 op2) h = λ e. (refl, refl, refl)
 goes_act s (i.Jmpl rd rs1 op2) h = absurd (cc)
 goes_act s (i.Ticc cond rs1 op2) h =
     goes_if s.npc (holds_of cond s.codes) _ _ (goes_trap s (trap_number s rs1 op2)) (goes_next s)
-goes_act s (i.Flush rs1 op2) h = goes_next s
-goes_act s i.Stbar h = goes_next s
 goes_act s (i.Save rd rs1 op2) h =
     goes_if s.npc (s.valid == 7) _ _
     (goes_on s Window (saved_memory s) _ (λ n e. (refl, refl, refl))) (λ e. (refl, refl, refl))
@@ -135,3 +130,4 @@ goes_act s i.Illegal h = goes_ended s.npc s _
 goes_act s i.Privileged h = goes_ended s.npc s _
 goes_act s i.FpOff h = goes_ended s.npc s _
 goes_act s i.CpOff h = goes_ended s.npc s _
+goes_act s instr h = λ e. (refl, refl, refl)

@@ -1,6 +1,6 @@
 -- What a memory exchanged, as the state sees it.
 use Rattle.std.proofs.Common.{ℕ, List, ap}
-use Rattle.std.specs.Prelude.{Result, Ok, Err}
+use Rattle.std.specs.Prelude.{Result, Ok}
 use Rattle.std.specs.Int.{Width}
 use Rattle.v8_memory.specs.declared.fault.MemFault.{MemFault}
 use Rattle.v8_memory.specs.Calls.{Exchanges as MemoryExchanges}
@@ -12,5 +12,4 @@ pub exchanged : (width : Width) (read : Result (List ℕ) MemFault) (stored : Re
     (after : Memory) (result : Result ℕ MemFault) → MemoryExchanges width read stored s.memory after result
     → Exchanges width read stored s (record s { memory = after }) result
 exchanged width (Ok bytes) (Ok m) s after result h = (h.0, ap (λ x. record s { memory = x }) h.1)
-exchanged width (Ok bytes) (Err fault) s after result h = (h.0, ap (λ x. record s { memory = x }) h.1)
-exchanged width (Err fault) stored s after result h = (h.0, ap (λ x. record s { memory = x }) h.1)
+exchanged width read stored s after result h = (h.0, ap (λ x. record s { memory = x }) h.1)

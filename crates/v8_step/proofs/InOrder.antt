@@ -44,16 +44,11 @@ unfolding slot_by
 no_slot next slot_end slot least = ap (λ (b : Bool). if b then slot else NoSlot) (le-ltb next slot_end least)
 
 -- at first
-pub at_start : (s : State) (first cur next made : ℕ) → address_at first cur ≡ s.pc → address_at first next ≡ s.npc
-    → made ≡ 0 → IsQuietRun s made (at_places s first cur next (slot_by next (next + 1) s.slot))
-at_start s first cur next made pc npc none =
-    subst (λ n. IsQuietRun s n (at_places s first cur next (slot_by next (next + 1) s.slot))) (sym none)
-    (subst (IsQuietRun s 0) (sym all) (no_step s))
-  where
-    all : at_places s first cur next (slot_by next (next + 1) s.slot) ≡ s
-    all =
-        ap (at_places s first cur next) (in_slot next (next + 1) s.slot (omega arith))
-        ∙ ap (λ n. placed s n (address_at first next) s.slot) pc ∙ ap (λ n. placed s s.pc n s.slot) npc
+pub at_start : (s : State) (first cur next made : ℕ) (slot : Slot) → address_at first cur ≡ s.pc
+    → address_at first next ≡ s.npc → slot ≡ s.slot → made ≡ 0
+    → IsQuietRun s made (at_places s first cur next (slot_by next (next + 1) slot))
+at_start s first cur next made slot pc npc same none =
+    rw (none, same, in_slot next (next + 1) s.slot (omega arith), pc, npc) (no_step s)
 
 pub target_place : (first cur : ℕ) (d : ℤ) → FitsSigned w32 d
     → address_at first ((cur + cast_unsigned w64 d) % 2 ^ 64) ≡ wrapped (address_at first cur + 4 * cast_unsigned w32 d)
@@ -90,13 +85,10 @@ says t x (inr some) goes = says_some x.code some
 pub not_last : (ops : List Op) (x last : Op) (cur len : ℕ) (t : Turn) → ((d : Op) → x ≡ get_or ops cur d)
     → ((d : Op) → last ≡ get_or ops (len - 1) d) → last.code ≡ Other → IsSaid t x → (t ≡ Stop → ⊥) → cur < len
     → cur + 1 < len
-not_last ops x last cur len t is at_end other said goes within = go (cases_lt (cur + 1) len)
-  where
-    go : (cur + 1 < len) ⊎ (len ≤ cur + 1) → cur + 1 < len
-    go (inl less) = less
-    go (inr least) =
-        let same : cur ≡ len - 1 = omega arith in
-        absurd (says t x said goes (ap (λ (z : Op). z.code) (is x ∙ ap (λ n. get_or ops n x) same ∙ sym (at_end x)) ∙ other))
+not_last ops x last cur len t is at_end other said goes within = elim (cases_lt (cur + 1) len) [
+  | inl less ↦ less
+  | inr least ↦ let same : cur ≡ len - 1 = omega arith in absurd (says t x said goes (cc (is x, at_end x)))
+]
 
 -- one turn more: the run goes on, and the records are those of its memory
 pub comes_on : (s0 m t : State) (h : Here) (turn : Turn) (c n made more : ℕ) (slot new : Slot) (x : Op) (ops : List Op)

@@ -28,14 +28,10 @@ module _ (Rel : Memory → Memory → Type 0) (same : (m : Memory) → Rel m m)
       kept_outside [] Rel same and_then (λ address bytes n some apart. by_write address bytes n)
       (λ n address is. by_heap n address) m s instr h (none_near (judged_by s instr))
 
-  kept_word : (m : Memory) (s : State) (o : Option ℕ) → Keeps m s → Keeps m (on_word s o)
-  kept_word m s None h = h
-  kept_word m s (Some word) h = kept_act m s (decode_of word) h
-
   pub kept_step : (m : Memory) (s : State) → Keeps m s → Keeps m (step_of s)
   unfolding step_of
-  kept_step m s h = go s.ending
+  kept_step m s h = go s.ending (fetch_of s.memory s.pc)
     where
-      go : (e : Option Ending) → Keeps m (unless_ended s e (on_word s (fetch_of s.memory s.pc)))
-      go None = kept_word m s (fetch_of s.memory s.pc) h
-      go (Some e) = h
+      go : (e : Option Ending) (o : Option ℕ) → Keeps m (unless_ended s e (on_word s o))
+      go None (Some word) = kept_act m s (decode_of word) h
+      go e o = h

@@ -1,27 +1,27 @@
 -- What each write outside some pages keeps, and each move of the heap's end, an instruction keeps that judges no byte
 -- of the pages.
-use Rattle.std.proofs.Common.{◌≡◌, ℕ, zero, suc, ◌-◌, ◌%◌, ◌<◌, Bool, true, false, Option, Some, None, Result, Ok, Err, List, [], ◌∷◌, length, take, refl, sym, subst, arith, ◌++◌}
+use Rattle.std.proofs.Common.{◌≡◌, ℕ, zero, suc, ◌-◌, ◌%◌, ◌<◌, Bool, true, false, Option, Some, None, Result, Err, List, [], ◌∷◌, length, take, refl, arith, ◌++◌}
 use Rattle.std.specs.Prelude.{if◌then◌else◌, ◌==◌}
+use Rattle.std.proofs.lemmas.Bool.{cond_both}
 use Rattle.std.specs.Int.{Width, byte_len, w8, w32}
 use Rattle.v8_decode.specs.declared.Instr.{Instr}
 use Rattle.v8_decode.specs.declared.Instr.TheVariants as i
 use Rattle.v8_memory.specs.Regions.{Memory, Region, all_written, write_region, with_bytes, bytes_at, if_allowed, region_at, with_heap_end, is_heap_end, buffer_written, buffer_read}
 use Rattle.v8_memory.specs.Spans.{Span, IsApartFromAll, AllApart}
-use Rattle.v8_windows.specs.Frames.{frame_bytes}
 use Rattle.v8_windows.proofs.Places.{length-frame_bytes}
 use Rattle.v8_alu.specs.declared.AluOut.{AluOut}
 use Rattle.v8_alu.specs.declared.AluTrap.{AluTrap}
-use Rattle.v8_alu.specs.declared.AluTrap.TheVariants.{DivZero, TagOverflow}
+use Rattle.v8_alu.specs.declared.AluTrap.TheVariants.{DivZero}
 use Rattle.v8_step.specs.declared.Ending.{Ending}
 use Rattle.v8_step.specs.declared.Ending.TheVariants.{Exit, Trap, Window}
 use Rattle.v8_step.specs.declared.Slot.{Slot}
-use Rattle.v8_step.specs.declared.Slot.TheVariants.{NoSlot, Taken, Untaken}
+use Rattle.v8_step.specs.declared.Slot.TheVariants.{NoSlot}
 use Rattle.v8_alu.specs.Conditions.{holds_of}
 use Rattle.v8_step.specs.State.{State, register_of, sum_of}
 use Rattle.v8_step.specs.Traps.{flush_windows, call_system, trap_instruction, data_access_exception, EBADF, ENOSYS}
 use Rattle.v8_step.specs.Transfers.{next, ended, trapped, target_of, branched, unless_couple, branch_step, call_step, jump_step}
-use Rattle.v8_step.specs.Accesses.{load_size, store_size, loaded, stored, on_bytes, on_memory, load_step, store_step, exchange_step, ldstub_step, swap_step}
-use Rattle.v8_step.specs.WindowMoves.{oldest_window, save_address, saved_memory, spill, spill_many, fill_from, enter, leave, save_step, restore_step}
+use Rattle.v8_step.specs.Accesses.{load_size, store_size, stored, on_bytes, on_memory, load_step, store_step, exchange_step, ldstub_step, swap_step}
+use Rattle.v8_step.specs.WindowMoves.{oldest_window, saved_memory, spill_many, fill_from, leave, save_step, restore_step}
 use Rattle.v8_step.specs.Calls.{is_output, read_into, write_from, heap_call, refuses, system_call, trap_step}
 use Rattle.v8_step.specs.Judged.{buffer_span, judged_by_call, saved_span, judged_after, judged_by_spills, judged_by}
 use Rattle.v8_step.specs.Step.{alu_step, trap_number, act}
@@ -30,15 +30,10 @@ use Rattle.v8_decode.specs.declared.StoreKind.TheVariants as stores
 
 pub length-stored : (kind : StoreKind) (rd : ℕ) (s : State) → length (stored s kind rd) ≡ store_size kind
 length-stored stores.ST rd s = refl
-length-stored stores.STB rd s = refl
-length-stored stores.STH rd s = refl
-length-stored stores.STD rd s = refl
+length-stored kind rd s = refl
 
 pub store_some : (kind : StoreKind) → 0 < store_size kind
-store_some stores.ST = omega arith
-store_some stores.STB = omega arith
-store_some stores.STH = omega arith
-store_some stores.STD = omega arith
+store_some kind = grind arith
 
 pub apart_first : (pages xs ys : List Span) → AllApart pages (xs ++ ys) → AllApart pages xs
 apart_first pages [] ys h = tt
@@ -76,8 +71,7 @@ module _ (pages : List Span) (Rel : Memory → Memory → Type 0) (same : (m : M
   kept_aligned : (m : Memory) (a count : ℕ) (bs : List ℕ) (b : Bool) → length bs ≡ count → 0 < count
       → AllApart pages (if b then record { from = a; count = count } ∷ [] else [])
       → KeptIn m (if b then with_bytes m a bs else None)
-  kept_aligned m a count bs true e some apart = kept_write m a bs (omega arith)
-      (subst (λ (z : ℕ). IsApartFromAll pages (record { from = a; count = z })) (sym e) apart.0)
+  kept_aligned m a count bs true e some apart = kept_write m a bs (omega arith) (rw e apart.0)
   kept_aligned m a count bs false e some apart = tt
 
   kept_buffer : (m : Memory) (a : ℕ) (bs : List ℕ) → AllApart pages (buffer_span a (length bs))
@@ -101,22 +95,9 @@ module _ (pages : List Span) (Rel : Memory → Memory → Type 0) (same : (m : M
   kept_when m true xs s t a h k = h refl a
   kept_when m false xs s t a h k = k
 
-  kept_if_true : (m : Memory) (b : Bool) (s t : State) → (b ≡ true → Keeps m s) → Keeps m t
-      → Keeps m (if b then s else t)
-  kept_if_true m true s t h k = h refl
-  kept_if_true m false s t h k = k
-
-  kept_if : (m : Memory) (b : Bool) (s t : State) → Keeps m s → Keeps m t → Keeps m (if b then s else t)
-  kept_if m true s t h k = h
-  kept_if m false s t h k = k
-
   frame_kept : (m : Memory) (s : State) → AllApart pages (saved_span s) → KeptIn s.memory (saved_memory s)
-  frame_kept m s apart = kept_aligned s.memory (save_address s) 64 (frame_bytes s.registers (oldest_window s))
-      (save_address s % 8 == 0) (length-frame_bytes s.registers (oldest_window s)) (omega arith) apart
-
-  kept_spill : (m : Memory) (s : State) (f : State → State) → Keeps m s → AllApart pages (saved_span s)
-      → ((p : State) → Keeps m p → Keeps m (f p)) → Keeps m (spill s f)
-  kept_spill m s f h apart k = kept_on m s Window (saved_memory s) _ h (frame_kept m s apart) (λ n e. k _ e)
+  frame_kept m s apart =
+      kept_aligned s.memory _ 64 _ _ (length-frame_bytes s.registers (oldest_window s)) (omega arith) apart
 
   spilled_on : (m : Memory) (n : ℕ) (s : State) (o : Option Memory) → Keeps m s → KeptIn s.memory o
       → AllApart pages (judged_after (judged_by_spills n) s o)
@@ -163,56 +144,43 @@ module _ (pages : List Span) (Rel : Memory → Memory → Type 0) (same : (m : M
           (if w then heap_call s a else refuses ENOSYS s))))
       go true y z w p q e = h
       go false true z w true q e = kept_read m s _ _ h (kept_buffer s.memory b (take c s.input) e)
-      go false true z w false q e = h
       go false false true w p true e = kept_wrote m s c (buffer_read s.memory b c) h
-      go false false true w p false e = h
-      go false false false true p q e = kept_if_true m (is_heap_end a) _ _
-          (λ f. and_then m s.memory (with_heap_end s.memory a) h (by_heap s.memory a f)) h
-      go false false false false p q e = h
+      go false false false true p q e = cond_both (is_heap_end a) _ _ (Keeps m)
+          (λ f. and_then m s.memory (with_heap_end s.memory a) h (by_heap s.memory a f)) (λ f. h)
+      go x y z w p q e = h
 
   kept_alu : (m : Memory) (s : State) (rd : ℕ) (r : Result AluOut AluTrap) → Keeps m s → Keeps m (alu_step s rd r)
   unfolding alu_step
-  kept_alu m s rd (Ok o) h = h
   kept_alu m s rd (Err DivZero) h = h
-  kept_alu m s rd (Err TagOverflow) h = h
+  kept_alu m s rd r h = h
 
   kept_slot : (m : Memory) (x : Slot) (s t : State) → Keeps m s → Keeps m t → Keeps m (unless_couple x s t)
   kept_slot m NoSlot s t h k = k
-  kept_slot m Taken s t h k = h
-  kept_slot m Untaken s t h k = h
+  kept_slot m x s t h k = h
 
   kept_branch : (m : Memory) (taken always annul : Bool) (s : State) (to : ℕ) → Keeps m s
       → Keeps m (branched taken always annul s to)
   kept_branch m true true true s to h = h
-  kept_branch m true true false s to h = h
-  kept_branch m true false annul s to h = h
   kept_branch m false always true s to h = h
-  kept_branch m false always false s to h = h
+  kept_branch m taken always annul s to h = h
 
-  kept_exchange : (m : Memory) (s : State) (w : Width) (size rd a : ℕ) (bs : List ℕ) → byte_len w ≡ size
-      → length bs ≡ size → 0 < size → Keeps m s → AllApart pages
-      (if a % size == 0 then record { from = a; count = size } ∷ [] else []) → Keeps m (exchange_step s w rd a bs)
-  kept_exchange m s w size rd a bs lw l some h apart =
-      kept_when m (a % byte_len w == 0) _ _ _ (subst
-      (λ z. AllApart pages (if a % z == 0 then record { from = a; count = z } ∷ [] else [])) (sym lw) apart)
+  kept_exchange : (m : Memory) (s : State) (w : Width) (rd a : ℕ) (bs : List ℕ) → length bs ≡ byte_len w
+      → 0 < byte_len w → Keeps m s
+      → AllApart pages (if a % byte_len w == 0 then record { from = a; count = byte_len w } ∷ [] else [])
+      → Keeps m (exchange_step s w rd a bs)
+  kept_exchange m s w rd a bs l some h apart =
+      kept_when m (a % byte_len w == 0) _ _ _ apart
       (λ _ f. kept_bytes m s (bytes_at s.memory a (byte_len w)) _ h (λ old.
       kept_on m s (Trap data_access_exception) (with_bytes s.memory a bs) _ h
-      (kept_write s.memory a bs (omega arith) (subst (λ (z : ℕ). IsApartFromAll pages (record { from = a; count = z }))
-      (joined lw l) f.0)) (λ n e. e))) h
-    where
-      joined : byte_len w ≡ size → length bs ≡ size → byte_len w ≡ length bs
-      joined e f = cc
+      (kept_write s.memory a bs (omega arith) (rw l f.0)) (λ n e. e))) h
 
   pub kept_act : (m : Memory) (s : State) (x : Instr) → Keeps m s → AllApart pages (judged_by s x) → Keeps m (act s x)
   unfolding act branch_step call_step jump_step load_step store_step ldstub_step swap_step save_step restore_step trap_step
-  kept_act m s (i.Sethi rd imm) h apart = h
   kept_act m s (i.Branch cond annul disp) h apart = kept_slot m s.slot s _ h
       (kept_branch m (holds_of cond s.codes) (cond == 8) annul s (target_of s disp) h)
   kept_act m s (i.Call disp) h apart = kept_slot m s.slot s _ h h
   kept_act m s (i.Alu op cc rd rs1 op2) h apart = kept_alu m s rd _ h
-  kept_act m s (i.ReadY rd) h apart = h
-  kept_act m s (i.WriteY rs1 op2) h apart = h
-  kept_act m s (i.Jmpl rd rs1 op2) h apart = kept_slot m s.slot s _ h (kept_if m (sum_of s rs1 op2 % 4 == 0) _ _ h h)
+  kept_act m s (i.Jmpl rd rs1 op2) h apart = kept_slot m s.slot s _ h (cond_both (sum_of s rs1 op2 % 4 == 0) _ _ (Keeps m) (λ _. h) (λ _. h))
   kept_act m s (i.Ticc cond rs1 op2) h apart = kept_when m (holds_of cond s.codes) _ _ _ apart
       (λ _ f. kept_trap (trap_number s rs1 op2 == flush_windows) (trap_number s rs1 op2 == call_system) f) h
     where
@@ -224,23 +192,16 @@ module _ (pages : List Span) (Rel : Memory → Memory → Type 0) (same : (m : M
       kept_trap true y f = kept_spills m (s.valid - 1) s h f
       kept_trap false true f = kept_call m s _ _ _ _ h f
       kept_trap false false f = h
-  kept_act m s (i.Flush rs1 op2) h apart = h
-  kept_act m s i.Stbar h apart = h
   kept_act m s (i.Save rd rs1 op2) h apart = kept_when m (s.valid == 7) _ _ _ apart
-      (λ _ f. kept_spill m s (enter rd (sum_of s rs1 op2)) h f (λ p e. e)) h
-  kept_act m s (i.Restore rd rs1 op2) h apart = kept_if m (s.valid == 1) _ _ (kept_fill m s _ rd (sum_of s rs1 op2) h) h
-  kept_act m s (i.Load kind rd rs1 op2) h apart = kept_if m (sum_of s rs1 op2 % load_size kind == 0) _ _
-      (kept_bytes m s (bytes_at s.memory (sum_of s rs1 op2) (load_size kind))
-      (λ bs. next (record s { registers = loaded s.registers s.window kind rd bs })) h (λ bs. h)) h
+      (λ _ f. kept_on m s Window (saved_memory s) _ h (frame_kept m s f) (λ n e. e)) h
+  kept_act m s (i.Restore rd rs1 op2) h apart = cond_both (s.valid == 1) _ _ (Keeps m)
+      (λ _. kept_fill m s _ rd (sum_of s rs1 op2) h) (λ _. h)
+  kept_act m s (i.Load kind rd rs1 op2) h apart = cond_both (sum_of s rs1 op2 % load_size kind == 0) _ _
+      (Keeps m) (λ _. kept_bytes m s (bytes_at s.memory (sum_of s rs1 op2) (load_size kind)) _ h (λ bs. h)) (λ _. h)
   kept_act m s (i.Store kind rd rs1 op2) h apart = kept_when m (sum_of s rs1 op2 % store_size kind == 0) _ _ _ apart
       (λ _ f. kept_on m s (Trap data_access_exception) _ next h
-      (kept_write s.memory (sum_of s rs1 op2) (stored s kind rd)
-      (subst (λ (z : ℕ). 0 < z) (sym (length-stored kind rd s)) (store_some kind))
-      (subst (λ (z : ℕ). IsApartFromAll pages (record { from = sum_of s rs1 op2; count = z }))
-      (sym (length-stored kind rd s)) f.0)) (λ n e. e)) h
-  kept_act m s (i.Ldstub rd rs1 op2) h apart = kept_exchange m s w8 1 rd _ _ refl refl (omega arith) h apart
-  kept_act m s (i.Swap rd rs1 op2) h apart = kept_exchange m s w32 4 rd _ _ refl refl (omega arith) h apart
-  kept_act m s i.Illegal h apart = h
-  kept_act m s i.Privileged h apart = h
-  kept_act m s i.FpOff h apart = h
-  kept_act m s i.CpOff h apart = h
+      (kept_write s.memory (sum_of s rs1 op2) (stored s kind rd) (rw (length-stored kind rd s) (store_some kind))
+      (rw (length-stored kind rd s) f.0)) (λ n e. e)) h
+  kept_act m s (i.Ldstub rd rs1 op2) h apart = kept_exchange m s w8 rd _ _ refl (omega arith) h apart
+  kept_act m s (i.Swap rd rs1 op2) h apart = kept_exchange m s w32 rd _ _ refl (omega arith) h apart
+  kept_act m s x h apart = h

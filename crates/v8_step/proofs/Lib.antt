@@ -9,6 +9,7 @@ pub mod Live
 pub mod Ops
 pub mod Quiet
 pub mod QuietRuns
+pub mod RunsOn
 pub mod Spills
 pub mod ValidAccesses
 pub mod ValidCalls

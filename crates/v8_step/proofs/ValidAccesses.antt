@@ -1,6 +1,6 @@
 -- Loads and stores keep a state valid.
 use Rattle.std.proofs.Common.{ℕ, suc, ◌%◌, ◌^◌, ◌<◌, List, [], ◌∷◌, take, drop, ◌==◌, arith}
-use Rattle.std.specs.Int.{Width, byte_len, w8, w16, w32, to_be_bytes, from_be_bytes}
+use Rattle.std.specs.Int.{Width, byte_len, w8, w32, to_be_bytes, from_be_bytes}
 use Rattle.std.proofs.lemmas.List.Elements.{All-nil, All-cons, All-append, All-take, All-drop}
 use Rattle.v8_decode.specs.declared.LoadKind.{LoadKind}
 use Rattle.v8_decode.specs.declared.LoadKind.TheVariants as loads
@@ -22,11 +22,9 @@ loaded-valid : (registers : List ℕ) (window : ℕ) (kind : LoadKind) (rd : ℕ
     → AreBytes bytes → AreRegisters (loaded registers window kind rd bytes)
 loaded-valid registers window loads.LD rd bytes h k = register_set-valid registers window rd _ h (word_of-range bytes k)
 loaded-valid registers window loads.LDUB rd bytes h k =
-    let low : from_be_bytes w8 bytes < 2 ^ 8 = single-range bytes k in
-    register_set-valid registers window rd _ h (omega arith)
+    register_set-valid registers window rd _ h (omega (arith, single-range bytes k))
 loaded-valid registers window loads.LDUH rd bytes h k =
-    let low : from_be_bytes w16 bytes < 2 ^ 16 = half-range bytes k in
-    register_set-valid registers window rd _ h (omega arith)
+    register_set-valid registers window rd _ h (omega (arith, half-range bytes k))
 loaded-valid registers window loads.LDD rd bytes h k =
     register_set-valid _ window (suc rd) _
     (register_set-valid registers window rd _ h (word_of-range (take 4 bytes) (All-take (λ b. b < 256) 4 bytes k)))
@@ -59,8 +57,7 @@ unfolding store_step
 store_step-valid s kind rd address h =
     if-valid (address % store_size kind == 0) _ _
     (on-valid s (Trap data_access_exception) (with_bytes s.memory address (stored s kind rd)) next h
-    (with_bytes-valid s.memory address (stored s kind rd) (stored-bytes s kind rd) h.memory)
-    (λ m k. next-valid _ k))
+    (with_bytes-valid s.memory address (stored s kind rd) (stored-bytes s kind rd) h.memory) (λ m k. next-valid _ k))
     (ended-valid s _ h)
 
 exchange_step-valid : (s : State) (width : Width) (rd address : ℕ) (new : List ℕ) → IsValid s → AreBytes new
@@ -78,9 +75,8 @@ exchange_step-valid s width rd address new h k low =
 pub ldstub_step-valid : (s : State) (rd address : ℕ) → IsValid s → IsValid (ldstub_step s rd address)
 unfolding ldstub_step
 ldstub_step-valid s rd address h =
-    exchange_step-valid s w8 rd address (0xff ∷ []) h
-    (All-cons (λ b. b < 256) 0xff [] (omega arith) (All-nil (λ b. b < 256)))
-    (λ old k. let low : from_be_bytes w8 old < 2 ^ 8 = single-range old k in omega arith)
+    exchange_step-valid s w8 rd address (0xff ∷ []) h (All-cons (λ b. b < 256) 0xff [] (omega arith) (All-nil _))
+    (λ old k. omega (arith, single-range old k))
 
 pub swap_step-valid : (s : State) (rd address : ℕ) → IsValid s → IsValid (swap_step s rd address)
 unfolding swap_step

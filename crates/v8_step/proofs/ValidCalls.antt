@@ -1,12 +1,11 @@
 -- Software traps keep a state valid.
-use Rattle.std.proofs.Common.{◌≡◌, ℕ, ◌-◌, ◌^◌, ◌<◌, Bool, true, false, ◌&&◌, List, [], ◌∷◌, length, take, drop, Option, Some, None, IfSome, nat_le, ◌==◌, refl, arith, length-take}
-use Rattle.std.specs.Prelude.{if◌then◌else◌}
-use Rattle.std.proofs.lemmas.Bool.{leb-true}
+use Rattle.std.proofs.Common.{ℕ, ◌-◌, ◌^◌, ◌<◌, Bool, true, false, List, [], ◌∷◌, length, take, drop, Option, Some, None, IfSome, nat_le, ◌==◌, arith, length-take}
+use Rattle.std.proofs.lemmas.Bool.{leb-true, and_parts, cond_both}
 use Rattle.std.proofs.lemmas.List.Elements.{All-take, All-drop}
 use Rattle.v8_memory.specs.Regions.{Memory, with_heap_end, buffer_written, buffer_read, is_heap_end}
 use Rattle.v8_step.specs.State.{State, register_of, with_register}
 use Rattle.v8_step.specs.Traps.{flush_windows, call_system, EBADF, ENOMEM, EFAULT, ENOSYS}
-use Rattle.v8_step.specs.Calls.{answered, succeeds, refuses, read_into, write_from, is_output, heap_call, system_call, trap_step}
+use Rattle.v8_step.specs.Calls.{answered, refuses, read_into, write_from, is_output, heap_call, system_call, trap_step}
 use Rattle.v8_step.specs.Valid.{AreBytes, IsValidMemory, IsValid}
 use Rattle.v8_step.proofs.ValidMemory.{with_bytes-valid, with_heap_end-valid}
 use Rattle.v8_step.proofs.ValidStates.{register_of-range, register-valid, memory-valid, input-valid, codes-valid, ended-valid, next-valid, if-valid}
@@ -39,23 +38,12 @@ write_from-valid count s None h k = refuses-valid EFAULT s h (omega arith)
 write_from-valid count s (Some bytes) h k = answered-valid false count s h k
 
 heap_call-valid : (s : State) (address : ℕ) → IsValid s → IsValid (heap_call s address)
-heap_call-valid s address h = go (is_heap_end address) refl
-  where
-    high : (a b : Bool) → (a && b) ≡ true → b ≡ true
-    high true true e = refl
-    high true false e = e
-    high false true e = refl
-    high false false e = e
-
-    go : (b : Bool) → is_heap_end address ≡ b
-        → IsValid (if b then succeeds 0 (record s { memory = with_heap_end s.memory address }) else refuses ENOMEM s)
-    go true e =
-        answered-valid false 0 _
-        (memory-valid s (with_heap_end s.memory address) h
-        (with_heap_end-valid s.memory address
-        (leb-true _ _ (high (nat_le 0x80000000 address) (nat_le address 0x81000000) e)) h.memory))
-        (omega arith)
-    go false e = refuses-valid ENOMEM s h (omega arith)
+heap_call-valid s address h = cond_both (is_heap_end address) _ _ IsValid
+    (λ e. answered-valid false 0 _
+    (memory-valid s (with_heap_end s.memory address) h
+    (with_heap_end-valid s.memory address (leb-true _ _ (and_parts (nat_le 0x80000000 address) _ e).1) h.memory))
+    (omega arith))
+    (λ e. refuses-valid ENOMEM s h (omega arith))
 
 system_call-valid : (s : State) (number o0 o1 o2 : ℕ) → IsValid s → o2 < 2 ^ 32
     → IsValid (system_call s number o0 o1 o2)

@@ -1,21 +1,18 @@
 -- Writes and moves of the heap's end keep memory valid, and reads give bytes.
-use Rattle.std.proofs.Common.{◌≡◌, ℕ, ◌+◌, ◌-◌, ◌<◌, ◌≤◌, Bool, true, false, ◌&&◌, List, [], ◌∷◌, ◌++◌, length, take, drop, nat_le, All, Option, Some, None, IfSome, refl, ◌∙◌, arith, length-append, length-take, length-drop}
-use Rattle.std.specs.Prelude.{if◌then◌else◌}
+use Rattle.std.proofs.Common.{◌≡◌, ℕ, ◌+◌, ◌-◌, ◌<◌, ◌≤◌, Bool, true, false, ◌&&◌, List, [], ◌∷◌, ◌++◌, length, take, drop, All, Option, Some, None, IfSome, ◌∙◌, arith, length-append, length-take, length-drop}
 use Rattle.std.specs.List.{find}
-use Rattle.std.proofs.lemmas.Bool.{leb-true}
+use Rattle.std.proofs.lemmas.Bool.{leb-true, and_parts, cond_both}
 use Rattle.std.proofs.lemmas.List.Elements.{All-cons, All-head, All-tail, All-append, All-take, All-drop, All-map, All-weaker}
 use Rattle.v8_memory.specs.Regions.{Region, Memory, covers, region_at, part_of, if_allowed, read_region, bytes_at, changed, written, all_written, write_region, with_bytes, with_heap_end}
+use Rattle.v8_memory.specs.Segments.{heap_room}
 use Rattle.v8_step.specs.Valid.{AreBytes, IsValidRegion, IsValidHeap, IsValidMemory}
 
 -- ---- reading
 
 find-holds : (P : Region → Type 0) (p : Region → Bool) (rs : List Region) → All P rs → IfSome (find p rs) P
 find-holds P p [] h = tt
-find-holds P p (r ∷ rs) h = go (p r) (find p rs) (find-holds P p rs (All-tail P r rs h))
-  where
-    go : (b : Bool) (x : Option Region) → IfSome x P → IfSome (if b then Some r else x) P
-    go true x k = All-head P r rs h
-    go false x k = k
+find-holds P p (r ∷ rs) h =
+    cond_both (p r) _ _ (λ x. IfSome x P) (λ _. All-head P r rs h) (λ _. find-holds P p rs (All-tail P r rs h))
 
 part_of-bytes : (r : Region) (address count : ℕ) → AreBytes r.bytes → AreBytes (part_of r address count)
 part_of-bytes r address count h =
@@ -39,11 +36,6 @@ bytes_at-bytes m address count h =
 
 -- ---- writing
 
-both : (x y z : Bool) → ((x && y) && z) ≡ true → (x ≡ true) × (y ≡ true)
-both true true z e = (refl, refl)
-both true false z e = absurd (cc)
-both false y z e = absurd (cc)
-
 changed-bytes : (address : ℕ) (bytes : List ℕ) (r : Region) → AreBytes bytes → AreBytes r.bytes
     → AreBytes (changed address bytes r).bytes
 changed-bytes address bytes r h k =
@@ -53,14 +45,7 @@ changed-bytes address bytes r h k =
 
 length-pasted : (at : ℕ) (bytes old : List ℕ) → at + length bytes ≤ length old
     → length (take at old ++ bytes ++ drop (at + length bytes) old) ≡ length old
-length-pasted at bytes old fits =
-    omega (
-      arith,
-      length-append (take at old ++ bytes) (drop (at + length bytes) old),
-      length-append (take at old) bytes,
-      length-take at old,
-      length-drop (at + length bytes) old,
-    )
+length-pasted at bytes old fits = simp (length-append, length-take, length-drop) (omega arith)
 
 length-changed : (address : ℕ) (bytes : List ℕ) (r : Region) → r.start ≤ address
     → address + length bytes ≤ r.start + r.size → r.size ≤ length r.bytes
@@ -71,13 +56,10 @@ length-changed address bytes r low high room = length-pasted (address - r.start)
 either : (P : Region → Type 0) (address : ℕ) (bytes : List ℕ) (r : Region) → P r
     → (r.start ≤ address → address + length bytes ≤ r.start + r.size → P (changed address bytes r))
     → P (written address bytes r)
-either P address bytes r h k = go (covers address (length bytes) r && r.writable) refl
-  where
-    go : (b : Bool) → (covers address (length bytes) r && r.writable) ≡ b → P (if b then changed address bytes r else r)
-    go true e =
-        let parts = both (nat_le r.start address) (nat_le (address + length bytes) (r.start + r.size)) r.writable e in
-        k (leb-true _ _ parts.0) (leb-true _ _ parts.1)
-    go false e = h
+either P address bytes r h k = cond_both (covers address (length bytes) r && r.writable) _ _ P
+    (λ e.
+    let parts = and_parts _ _ (and_parts _ r.writable e).0 in k (leb-true _ _ parts.0) (leb-true _ _ parts.1))
+    (λ e. h)
 
 region_written : (address : ℕ) (bytes : List ℕ) (r : Region) → AreBytes bytes → IsValidRegion r
     → IsValidRegion (written address bytes r)
@@ -124,12 +106,5 @@ with_bytes-valid m address bytes k h = go (region_at m address (length bytes))
 
 pub with_heap_end-valid : (m : Memory) (end : ℕ) → end ≤ 0x81000000 → IsValidMemory m
     → IsValidMemory (with_heap_end m end)
-with_heap_end-valid m end high h = record {
-  heap = record {
-    start = h.heap.start;
-    size = omega (arith, h.heap.start);
-    count = h.heap.count;
-    bytes = h.heap.bytes;
-  };
-  regions = h.regions;
-}
+with_heap_end-valid m end high h =
+    let size : end - m.heap.start ≤ heap_room = omega (arith, h.heap.start) in assumption

@@ -1,7 +1,7 @@
 -- Registers stay words, bytes make words, and words make bytes.
-use Rattle.std.proofs.Common.{◌≡◌, ◌≢◌, ℕ, zero, suc, ◌+◌, ◌-◌, ◌*◌, ◌%◌, ◌^◌, ◌<◌, Bool, true, false, List, [], ◌∷◌, take, drop, slice_index, nat_lt, flat_map, sym, subst, ◌∙◌, arith, length-set, get_or-set_other}
-use Rattle.std.specs.Prelude.{if◌then◌else◌}
+use Rattle.std.proofs.Common.{◌≢◌, ℕ, zero, suc, ◌^◌, ◌<◌, List, [], ◌∷◌, take, drop, slice_index, flat_map, sym, ◌∙◌, arith, length-set, get_or-set_other}
 use Rattle.std.specs.Int.{w8, w16, w32, to_be_bytes, from_be_bytes, bytes_high_first}
+use Rattle.std.proofs.lemmas.Bool.Decides.{nat_tests}
 use Rattle.std.proofs.lemmas.List.Elements.{All-nil, All-cons, All-head, All-tail, All-set, All-append, All-take, All-drop, All-same}
 use Rattle.std.proofs.lemmas.List.Concat.{flat_map-cons}
 use Rattle.v8_windows.specs.Registers.{AreRegisters, place_of, register_in, register_set}
@@ -14,11 +14,7 @@ use Rattle.v8_step.specs.Valid.{AreBytes}
 
 -- no register but %g0 stands at the first place
 place_some : (window r : ℕ) → place_of window (suc r) ≢ 0
-place_some window r = go (nat_lt (suc r) 8)
-  where
-    go : (b : Bool) → (if b then suc r else 8 + (16 * window + (suc r - 8)) % 128) ≢ 0
-    go true e = let f : suc r ≡ 0 = e in omega arith
-    go false e = let f : 8 + (16 * window + (suc r - 8)) % 128 ≡ 0 = e in omega arith
+place_some window r = grind (arith, nat_tests)
 
 pub register_set-valid : (registers : List ℕ) (window r value : ℕ) → AreRegisters registers → value < 2 ^ 32
     → AreRegisters (register_set registers window r value)
@@ -34,8 +30,7 @@ pub register_in-range : (registers : List ℕ) (window r : ℕ) → AreRegisters
     → register_in registers window r < 2 ^ 32
 register_in-range registers window zero h = omega arith
 register_in-range registers window (suc r) h =
-    let below : place_of window (suc r) < 136 = place_of-below window (suc r) in
-    h.words (place_of window (suc r)) 0 (subst (λ (n : ℕ). place_of window (suc r) < n) (sym h.count) below)
+    h.words (place_of window (suc r)) 0 (rw h.count (place_of-below window (suc r)))
 
 -- ---- words from bytes
 
@@ -55,18 +50,10 @@ pub single-range : (bytes : List ℕ) → AreBytes bytes → from_be_bytes w8 by
 single-range bytes h = omega (arith, byte-range bytes 0 h)
 
 pub extended_8-range : (n : ℕ) → n < 2 ^ 8 → extended 8 n < 2 ^ 32
-extended_8-range n h = go (nat_lt n 128)
-  where
-    go : (b : Bool) → (if b then n else 2 ^ 32 - 2 ^ 8 + n) < 2 ^ 32
-    go true = omega arith
-    go false = omega arith
+extended_8-range n h = grind (arith, nat_tests)
 
 pub extended_16-range : (n : ℕ) → n < 2 ^ 16 → extended 16 n < 2 ^ 32
-extended_16-range n h = go (nat_lt n 32768)
-  where
-    go : (b : Bool) → (if b then n else 2 ^ 32 - 2 ^ 16 + n) < 2 ^ 32
-    go true = omega arith
-    go false = omega arith
+extended_16-range n h = grind (arith, nat_tests)
 
 -- ---- bytes from words
 

@@ -63,8 +63,7 @@ if-valid false s t h k = k
 
 pub slot-valid : (x : Slot) (s t : State) → IsValid s → IsValid t → IsValid (unless_couple x s t)
 slot-valid NoSlot s t h k = k
-slot-valid Taken s t h k = ended-valid s _ h
-slot-valid Untaken s t h k = ended-valid s _ h
+slot-valid x s t h k = ended-valid s _ h
 
 pub branched-valid : (taken always annul : Bool) (s : State) (target : ℕ) → IsValid s → target < 2 ^ 32
     → IsValid (branched taken always annul s target)

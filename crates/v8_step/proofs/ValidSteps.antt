@@ -1,5 +1,5 @@
 -- A step keeps a valid state valid.
-use Rattle.std.proofs.Common.{ℕ, zero, suc, ◌%◌, ◌^◌, ◌<◌, Option, Some, None, Result, Ok, Err, ◌==◌, ℤ}
+use Rattle.std.proofs.Common.{ℕ, zero, suc, ◌%◌, ◌^◌, ◌<◌, Option, Some, None, Result, Ok, Err, ◌==◌}
 use Rattle.std.proofs.lemmas.Nat.{xor_lt}
 use Rattle.v8_decode.specs.declared.Op2.{Op2}
 use Rattle.v8_decode.specs.declared.Op2.TheVariants.{Reg, Imm}
@@ -30,12 +30,6 @@ operand_of-range : (s : State) (op2 : Op2) → IsValid s → operand_of s op2 < 
 operand_of-range s (Reg r) h = register_of-range s r h
 operand_of-range s (Imm n) h = wrapped-range _
 
-sum_of-range : (s : State) (rs1 : ℕ) (op2 : Op2) → sum_of s rs1 op2 < 2 ^ 32
-sum_of-range s rs1 op2 = wrapped-range _
-
-target_of-range : (s : State) (disp : ℤ) → target_of s disp < 2 ^ 32
-target_of-range s disp = wrapped-range _
-
 alu_step-valid : (s : State) (rd : ℕ) (r : Result AluOut AluTrap) → IsValid s → IsOutInRange r
     → IsValid (alu_step s rd r)
 unfolding alu_step
@@ -49,11 +43,11 @@ unfolding act branch_step call_step jump_step
 act-valid s (i.Sethi rd imm22) h = next-valid _ (register-valid s rd _ h (wrapped-range _))
 act-valid s (i.Branch cond annul disp22) h =
     slot-valid s.slot s _ h
-    (branched-valid (holds_of cond s.codes) (cond == 8) annul s (target_of s disp22) h (target_of-range s disp22))
+    (branched-valid (holds_of cond s.codes) (cond == 8) annul s (target_of s disp22) h (wrapped-range _))
 act-valid s (i.Call disp30) h =
     slot-valid s.slot s _ h
     (delayed-valid (with_register s 15 s.pc) (target_of s disp30) (register-valid s 15 s.pc h h.pc)
-    (target_of-range s disp30))
+    (wrapped-range _))
 act-valid s (i.Alu op cc rd rs1 op2) h =
     alu_step-valid s rd _ h
     (alu_of-range op cc (register_of s rs1) (operand_of s op2) s.codes s.y (register_of-range s rs1 h)
@@ -66,34 +60,28 @@ act-valid s (i.Jmpl rd rs1 op2) h =
     slot-valid s.slot s _ h
     (if-valid (sum_of s rs1 op2 % 4 == 0) _ _
     (delayed-valid (with_register s rd s.pc) (sum_of s rs1 op2) (register-valid s rd s.pc h h.pc)
-    (sum_of-range s rs1 op2))
+    (wrapped-range _))
     (ended-valid s _ h))
 act-valid s (i.Ticc cond rs1 op2) h =
     if-valid (holds_of cond s.codes) _ _ (trap_step-valid s (trap_number s rs1 op2) h) (next-valid s h)
 act-valid s (i.Flush rs1 op2) h = next-valid s h
 act-valid s i.Stbar h = next-valid s h
-act-valid s (i.Save rd rs1 op2) h = save_step-valid s rd (sum_of s rs1 op2) h (sum_of-range s rs1 op2)
-act-valid s (i.Restore rd rs1 op2) h = restore_step-valid s rd (sum_of s rs1 op2) h (sum_of-range s rs1 op2)
+act-valid s (i.Save rd rs1 op2) h = save_step-valid s rd (sum_of s rs1 op2) h (wrapped-range _)
+act-valid s (i.Restore rd rs1 op2) h = restore_step-valid s rd (sum_of s rs1 op2) h (wrapped-range _)
 act-valid s (i.Load kind rd rs1 op2) h = load_step-valid s kind rd (sum_of s rs1 op2) h
 act-valid s (i.Store kind rd rs1 op2) h = store_step-valid s kind rd (sum_of s rs1 op2) h
 act-valid s (i.Ldstub rd rs1 op2) h = ldstub_step-valid s rd (sum_of s rs1 op2) h
 act-valid s (i.Swap rd rs1 op2) h = swap_step-valid s rd (sum_of s rs1 op2) h
-act-valid s i.Illegal h = ended-valid s _ h
-act-valid s i.Privileged h = ended-valid s _ h
-act-valid s i.FpOff h = ended-valid s _ h
-act-valid s i.CpOff h = ended-valid s _ h
-
-on_word-valid : (s : State) (o : Option ℕ) → IsValid s → IsValid (on_word s o)
-on_word-valid s None h = ended-valid s _ h
-on_word-valid s (Some word) h = act-valid s (decode_of word) h
+act-valid s instr h = ended-valid s _ h
 
 pub step-valid : (s : State) → IsValid s → IsValid (step_of s)
 unfolding step_of
-step-valid s h = go s.ending
+step-valid s h = go s.ending (fetch_of s.memory s.pc)
   where
-    go : (e : Option Ending) → IsValid (unless_ended s e (on_word s (fetch_of s.memory s.pc)))
-    go None = on_word-valid s (fetch_of s.memory s.pc) h
-    go (Some e) = h
+    go : (e : Option Ending) (o : Option ℕ) → IsValid (unless_ended s e (on_word s o))
+    go None None = ended-valid s _ h
+    go None (Some word) = act-valid s (decode_of word) h
+    go (Some e) o = h
 
 pub run-valid : (s : State) (n : ℕ) → IsValid s → IsValid (run s n)
 run-valid s zero h = h

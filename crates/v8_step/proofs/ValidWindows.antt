@@ -1,14 +1,14 @@
 -- SAVE, RESTORE and the saving of windows keep a state valid.
-use Rattle.std.proofs.Common.{◌≡◌, ℕ, zero, suc, ◌+◌, ◌-◌, ◌%◌, ◌^◌, ◌<◌, ◌≤◌, Bool, true, false, List, Option, Some, None, IfSome, ◌==◌, refl, arith}
+use Rattle.std.proofs.Common.{ℕ, zero, suc, ◌+◌, ◌-◌, ◌%◌, ◌^◌, ◌<◌, ◌≤◌, Bool, true, false, List, Option, Some, None, IfSome, ◌==◌, arith}
 use Rattle.std.specs.Prelude.{if◌then◌else◌}
-use Rattle.std.proofs.lemmas.Bool.{eqb-true}
+use Rattle.std.proofs.lemmas.Bool.{eqb-true, cond_both}
 use Rattle.std.proofs.lemmas.Bool.Decides.{nat_tests}
 use Rattle.v8_memory.specs.Regions.{Memory, with_bytes, bytes_at}
 use Rattle.v8_windows.specs.Registers.{window_after, window_before}
 use Rattle.v8_windows.specs.Frames.{frame_bytes, with_frame, frame_pointer}
 use Rattle.v8_step.specs.declared.Ending.TheVariants.{Window}
 use Rattle.v8_step.specs.State.{State, register_of}
-use Rattle.v8_step.specs.WindowMoves.{frame_read, oldest_window, save_address, saved_memory, spill, spill_many, fill_from, enter, leave, save_step, restore_step}
+use Rattle.v8_step.specs.WindowMoves.{oldest_window, save_address, saved_memory, spill, spill_many, fill_from, enter, leave, save_step, restore_step}
 use Rattle.v8_step.specs.Valid.{AreBytes, IsValidMemory, IsValid}
 use Rattle.v8_step.proofs.ValidNumbers.{frame_bytes-bytes, with_frame-valid}
 use Rattle.v8_step.proofs.ValidMemory.{bytes_at-bytes, with_bytes-valid}
@@ -56,13 +56,9 @@ leave-valid rd value s h more k =
 
 pub save_step-valid : (s : State) (rd value : ℕ) → IsValid s → value < 2 ^ 32 → IsValid (save_step s rd value)
 unfolding save_step
-save_step-valid s rd value h k = go (s.valid == 7) refl
-  where
-    go : (b : Bool) → (s.valid == 7) ≡ b → IsValid (if b then spill s (enter rd value) else enter rd value s)
-    go true e =
-        let full : s.valid ≡ 7 = eqb-true _ _ e in
-        spill-valid s (enter rd value) h (omega arith) (λ m j. enter-valid rd value _ j (omega arith) k)
-    go false e = enter-valid rd value s h (grind (arith, nat_tests, h.most_valid)) k
+save_step-valid s rd value h k = cond_both (s.valid == 7) _ _ IsValid
+    (λ e. spill-valid s (enter rd value) h (omega (arith, eqb-true _ _ e)) (λ m j. enter-valid rd value _ j (omega arith) k))
+    (λ e. enter-valid rd value s h (grind (arith, nat_tests, h.most_valid)) k)
 
 fill-valid : (s : State) (o : Option (List ℕ)) (rd value : ℕ) → IsValid s → IfSome o AreBytes → value < 2 ^ 32
     → IsValid (fill_from s o (leave rd value))
@@ -76,12 +72,6 @@ fill-valid s (Some bytes) rd value h e k =
 
 pub restore_step-valid : (s : State) (rd value : ℕ) → IsValid s → value < 2 ^ 32 → IsValid (restore_step s rd value)
 unfolding restore_step
-restore_step-valid s rd value h k = go (s.valid == 1) refl
-  where
-    go : (b : Bool) → (s.valid == 1) ≡ b
-        → IsValid (if b then fill_from s (frame_read s.memory (register_of s frame_pointer)) (leave rd value)
-        else leave rd value s)
-    go true e =
-        fill-valid s _ rd value h
-        (frame_read-bytes s.memory (register_of s frame_pointer) (register_of s frame_pointer % 8 == 0) h.memory) k
-    go false e = leave-valid rd value s h (grind (arith, nat_tests, h.some_valid)) k
+restore_step-valid s rd value h k = cond_both (s.valid == 1) _ _ IsValid
+    (λ e. fill-valid s _ rd value h (frame_read-bytes s.memory _ (register_of s frame_pointer % 8 == 0) h.memory) k)
+    (λ e. leave-valid rd value s h (grind (arith, nat_tests, h.some_valid)) k)

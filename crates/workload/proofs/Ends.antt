@@ -1,11 +1,12 @@
 -- The whole run of the program, in a memory that has its text.
-use Rattle.std.proofs.Common.{◌≡◌, ℕ, zero, suc, ◌+◌, ◌-◌, ◌*◌, ◌%◌, ◌^◌, ◌<◌, ◌≤◌, ◌⊎◌, inl, inr, List, [], ◌∷◌, length, length-append, Some, None, refl, ap, sym, ◌∙◌, subst, arith}
+use Rattle.std.proofs.Common.{◌≡◌, ℕ, zero, suc, ◌+◌, ◌-◌, ◌*◌, ◌%◌, ◌^◌, ◌<◌, ◌≤◌, inl, inr, List, [], ◌∷◌, length, length-append, Some, None, refl, ap, sym, ◌∙◌, subst, arith}
 use Rattle.std.specs.List.{flat_map, range_with_len, sum_by}
 use Rattle.std.proofs.lemmas.Bool.{cases_lt}
 use Rattle.v8_memory.specs.Regions.{Memory, fetch_of}
-use Rattle.v8_memory.specs.Spans.{Span, IsApart, IsApartFromAll, AllApart}
+use Rattle.v8_memory.specs.Spans.{Span, IsApart, IsApartFromAll}
 use Rattle.v8_alu.specs.declared.Codes.{Codes}
 use Rattle.v8_step.specs.declared.Ending.TheVariants.{Exit}
+use Rattle.v8_step.proofs.RunsOn.{run_add}
 use Rattle.v8_step.specs.declared.Slot.TheVariants.{NoSlot}
 use Rattle.v8_step.specs.State.{State, register_of}
 use Rattle.v8_step.specs.Run.{run}
@@ -18,7 +19,7 @@ use Rattle.workload.specs.Generated.{first_word, call_of, exit_code, routine_cod
 use Rattle.workload.specs.Laws.{routine_steps, routine_sum, text_span, IsTextWord}
 use Rattle.workload.proofs.Made.{length-caller}
 use Rattle.workload.proofs.Steps.{Held, at, number_acts, exit_acts, exit_judges}
-use Rattle.workload.proofs.Way.{Stand, both, moved_to, Way, one, follows, as_long, run_add}
+use Rattle.workload.proofs.Way.{Stand, both, moved_to, Way, one, follows, as_long}
 use Rattle.workload.proofs.Turns.{holding}
 use Rattle.workload.proofs.Calls.{AreDrawn, calls}
 

@@ -1,5 +1,5 @@
 -- Ways of several steps through words of the text, none of which judges a byte.
-use Rattle.std.proofs.Common.{◌≡◌, ℕ, zero, suc, ◌+◌, ◌-◌, ◌*◌, ◌<◌, ◌≤◌, ◌⊎◌, inl, inr, List, [], ◌∷◌, ◌++◌, length, Some, None, refl, ap, sym, ◌∙◌, subst, arith}
+use Rattle.std.proofs.Common.{◌≡◌, ℕ, zero, suc, ◌+◌, ◌-◌, ◌*◌, ◌<◌, inl, inr, List, [], ◌∷◌, ◌++◌, length, Some, None, refl, ap, ◌∙◌, subst, arith}
 use Rattle.std.proofs.lemmas.Bool.{cases_lt}
 use Rattle.v8_decode.specs.declared.Instr.{Instr}
 use Rattle.v8_decode.specs.Words.{decode_of}
@@ -8,6 +8,7 @@ use Rattle.v8_memory.specs.Regions.{Memory, fetch_of}
 use Rattle.v8_step.specs.State.{State}
 use Rattle.v8_step.specs.Step.{act, step_of}
 use Rattle.v8_step.specs.Run.{run}
+use Rattle.v8_step.proofs.RunsOn.{run_add}
 use Rattle.v8_step.specs.Judged.{judged_by}
 use Rattle.two_runs.specs.Needed.{decoded, instr_at, judged_in}
 use Rattle.v8_step.proofs.Live.{live_step}
@@ -54,10 +55,6 @@ pub record IsGood (count : ℕ) (s : State) : Type 0 where
 pub record Way (count : ℕ) (s t : State) (k : ℕ) : Type 0 where
   pub arrives : run s k ≡ t
   pub during : (j : ℕ) → j < k → IsGood count (run s j)
-
-pub run_add : (s : State) (k l : ℕ) → run s (l + k) ≡ run (run s k) l
-run_add s k zero = ap (run s) (omega arith)
-run_add s k (suc l) = let e : suc l + k ≡ suc (l + k) = omega arith in ap (run s) e ∙ ap step_of (run_add s k l)
 
 pub no_way : (count : ℕ) (s : State) → Way count s s 0
 no_way count s = record { arrives = refl; during = λ j l. absurd (omega arith) }

@@ -1,10 +1,9 @@
 -- One turn more.
-use Rattle.std.proofs.Common.{rules, arith, length, ℕ, ◌≡◌, ◌+◌, ◌-◌, ◌<◌, ◌∙◌, ap, sym, subst}
+use Rattle.std.proofs.Common.{rules, arith, length, ℕ, ◌+◌, ◌-◌, ◌<◌, ◌∙◌, ap, sym}
 use Rattle.v8_step.specs.declared.ahead.Here.{Here}
 use Rattle.v8_step.specs.declared.ahead.Turn.TheVariants.{On, Past, To, At}
 use Rattle.v8_step.specs.State.{State, Slot, NoSlot, Untaken, Taken}
-use Rattle.v8_step.specs.Ahead.{address_at, at_places, slot_by}
-use Rattle.v8_step.specs.Turns.{IsQuietRun}
+use Rattle.v8_step.specs.Ahead.{slot_by}
 use Rattle.v8_step.proofs.InOrder.{at_start, comes_on, in_slot, jump_place, no_slot, not_last}
 use Rattle.v8_step.proofs.ahead.go_far.Goals as goal
 
@@ -19,17 +18,10 @@ here first len cur next spare slot_end slot = record {
   slot = slot;
 }
 
-started : (s : State) (first cur next made : ℕ) (slot : Slot) → address_at first cur ≡ s.pc
-    → address_at first next ≡ s.npc → slot ≡ s.slot → made ≡ 0
-    → IsQuietRun s made (at_places s first cur next (slot_by next (next + 1) slot))
-started s first cur next made slot pc npc same none =
-    subst (λ x. IsQuietRun s made (at_places s first cur next (slot_by next (next + 1) x))) (sym same)
-    (at_start s first cur next made pc npc none)
-
 pub turns-init : goal.turns-init
 turns-init c = record {
   live = c.requires.going;
-  run = started c.args.m.now c.args.first _ _ _ c.m.inside.slot
+  run = at_start c.args.m.now c.args.first _ _ _ c.m.inside.slot
       (jump_place c.args.first c.m.inside.pc (omega arith) (omega arith) (search rules)
       ∙ ap (λ (t : State). t.pc) c.m.view_is)
       (jump_place c.args.first c.m.inside.npc (omega arith) (omega arith) (search rules)
@@ -46,8 +38,7 @@ turns-init c = record {
 pub overflow_add-next : goal.overflow_add-next
 overflow_add-next c =
     let more : c.turns.cur + 1 < length c.args.ops.now =
-    not_last c.args.ops.now c.op_in-op.result.now c.op_in-last.result.now c.turns.cur _ On c.op_in-op.ensures.item
-    c.op_in-last.ensures.item (search rules) c.in-On.ensures.said (λ e. absurd (cc)) c.turns.invariant.cur in
+    not_last c.args.ops.now _ _ c.turns.cur _ On c.op_in-op.ensures.item c.op_in-last.ensures.item (search rules) c.in-On.ensures.said (λ e. absurd (cc)) c.turns.invariant.cur in
     search (rules, c.turns.invariant.ahead more)
 
 pub overflow_add-next-in-Past : goal.overflow_add-next-in-Past
@@ -61,8 +52,7 @@ pub turns-preserved-in-On : goal.turns-preserved-in-On
 turns-preserved-in-On c =
     let i = c.turns.invariant in
     let more : c.turns.cur + 1 < length c.args.ops.now =
-    not_last c.args.ops.now c.op_in-op.result.now c.op_in-last.result.now c.turns.cur _ On c.op_in-op.ensures.item
-    c.op_in-last.ensures.item (search rules) c.in-On.ensures.said (λ e. absurd (cc)) i.cur in
+    not_last c.args.ops.now _ _ c.turns.cur _ On c.op_in-op.ensures.item c.op_in-last.ensures.item (search rules) c.in-On.ensures.said (λ e. absurd (cc)) i.cur in
     let on =
     comes_on c.args.m.now c.turns.m c.turn.new.self (here c.args.first (length c.args.ops.now) c.turns.cur c.turns.next
     c.turns.spare c.turns.slot_end c.turns.slot) On c.turns.next (c.turns.next + 1)

@@ -1,4 +1,4 @@
-use Rattle.std.proofs.Common.{◌≡◌, ◌-◌, Bool, true, false, ℕ, List, Option, Some, None, refl, ap, sym, ◌∙◌, subst}
+use Rattle.std.proofs.Common.{◌≡◌, ◌-◌, Bool, true, false, ℕ, List, Option, Some, None, refl, ap, sym, ◌∙◌}
 use Rattle.std.specs.Int.{w32, to_be_bytes}
 use Rattle.std.specs.List.{flat_map}
 use Rattle.v8_memory.specs.Regions.{Memory}
@@ -13,17 +13,14 @@ use Rattle.v8_step.proofs.machine.Machine.spill.Goals as goal
 saves : (s : State) (address : ℕ) (words : List ℕ) → address ≡ save_address s
     → words ≡ frame_of s.registers (oldest_window s)
     → frame_written s.memory address (flat_map (to_be_bytes w32) words) ≡ saved_memory s
-saves s address words is_address are_words =
-    ap (λ a. frame_written s.memory a (flat_map (to_be_bytes w32) words)) is_address
-    ∙ ap (λ ws. frame_written s.memory (save_address s) (flat_map (to_be_bytes w32) ws)) are_words
+saves s address words is_address are_words = rw (is_address, are_words)
 
 -- the state as it was passed, and as its parts say it
 spills : (passed s new : State) (saved : Option Memory) (after : Memory) (result : Bool) → passed ≡ s
     → saved ≡ saved_memory s → Written saved s.memory after result → result ≡ true
     → new ≡ record s { memory = after; valid = s.valid - 1 } → Spills (saved_memory passed) passed new result
 spills passed s new saved after result is_view is_saved written done made =
-    subst (λ (t : State). Spills (saved_memory t) t new result) (sym is_view)
-    (subst (λ (m : Option Memory). Spills m s new result) is_saved (go saved written))
+    rw (is_view, ← is_saved) (go saved written)
   where
     go : (m : Option Memory) → Written m s.memory after result → Spills m s new result
     go None h = absurd (cc)
@@ -33,8 +30,7 @@ stays : (passed s new : State) (saved : Option Memory) (after : Memory) (result 
     → saved ≡ saved_memory s → Written saved s.memory after result → result ≡ false
     → new ≡ record s { memory = after } → Spills (saved_memory passed) passed new result
 stays passed s new saved after result is_view is_saved written refused made =
-    subst (λ (t : State). Spills (saved_memory t) t new result) (sym is_view)
-    (subst (λ (m : Option Memory). Spills m s new result) is_saved (go saved written))
+    rw (is_view, ← is_saved) (go saved written)
   where
     go : (m : Option Memory) → Written m s.memory after result → Spills m s new result
     go None h = (h.0, made ∙ ap (λ x. record s { memory = x }) h.1)
