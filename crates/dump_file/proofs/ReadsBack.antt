@@ -1,6 +1,7 @@
 -- What was written reads back.
-use Rattle.std.proofs.Common.{◌≡◌, ◌∙◌, ℕ, ◌+◌, ◌*◌, ◌<◌, ◌^◌, ◌==◌, Bool, true, false, ◌||◌, List, [], ◌∷◌, ◌++◌, length, drop, Option, Some, None, Ok, if◌then◌else◌, refl, ap, sym, arith}
-use Rattle.std.proofs.lemmas.Bool.{ltb-true, le-leb, eq-eqb, eqb-true, false≢true}
+use Rattle.std.proofs.Common.{◌≡◌, ◌∙◌, ℕ, ◌+◌, ◌*◌, ◌<◌, ◌^◌, ◌==◌, Bool, true, false, List, [], ◌∷◌, ◌++◌, length, drop, Option, Some, None, Ok, if◌then◌else◌, refl, ap, sym, arith}
+use Rattle.std.proofs.lemmas.Bool.{ltb-true, le-leb, eq-eqb, eqb-true}
+use Rattle.std.proofs.lemmas.Bool.Decides.{nat_tests}
 use Rattle.std.proofs.lemmas.List.{append_assoc, length-append}
 use Rattle.std.proofs.Math.Seq.{drop-append_seam}
 use Rattle.byteorder.specs.Endian.{big_bytes}
@@ -103,12 +104,7 @@ found_in dump bytes cells is long same =
     kind_small ending = ltb-true _ 5 refl
 
     version_small : (version : ℕ) → is_version version ≡ true → version < 3
-    version_small version is = by (version == 1) (version == 2) refl refl is
-      where
-        by : (one two : Bool) → (version == 1) ≡ one → (version == 2) ≡ two → (one || two) ≡ true → version < 3
-        by true two same other known = let is = eqb-true version 1 same in omega (arith, is)
-        by false true same other known = let is = eqb-true version 2 other in omega (arith, is)
-        by false false same other known = absurd (false≢true known)
+    version_small version is = grind (arith, nat_tests)
 
 -- the number of cells, as bytes
 abbrev count_bytes : Dump → List ℕ

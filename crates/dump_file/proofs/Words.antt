@@ -45,10 +45,6 @@ written_8 (a ∷ b ∷ c ∷ d ∷ e ∷ f ∷ g ∷ h ∷ rest) long are =
     ap (λ (front : List ℕ). front ++ rest) (sym is)
 written_8 _ long are = absurd (omega arith)
 
-pub words-bytes : (word : ℕ) (words : List ℕ) → words_bytes (word ∷ words) ≡ big_bytes 4 word ++ words_bytes words
-unfolding words_bytes
-words-bytes word words = refl
-
 -- words are read from what was written of them
 pub words_back : (words : List ℕ) → All (λ word. word < 2 ^ 32) words
     → words_of (words_bytes words) (length words) ≡ words

@@ -1,10 +1,10 @@
 -- Which words a program fetches before its first step.
 use Rattle.std.proofs.Common.{◌≡◌, ℕ, zero, suc, ◌+◌, ◌-◌, ◌*◌, ◌/◌, ◌%◌, ◌<◌, ◌≤◌, Bool, true, false, not, ◌&&◌, cond, nat_le, nat_eq, Option, Some, None, List, [], ◌∷◌, ◌++◌, length, map, take, drop, replicate, slice_index, get_or, refl, sym, ap, ◌∙◌, arith}
 use Rattle.std.specs.Int.{w32, from_be_bytes}
-use Rattle.std.specs.List.{filter, find, list_any}
-use Rattle.std.specs.Option.{option_map, option_map_or}
+use Rattle.std.specs.List.{filter, list_any}
+use Rattle.std.specs.Option.{option_map_or}
 use Rattle.std.proofs.Math.Bool.{and_assoc}
-use Rattle.std.proofs.lemmas.Bool.{or_parts, or_from, and_from, cond-true, cond-false, le-leb, eq-eqb}
+use Rattle.std.proofs.lemmas.Bool.{or_parts, or_from, and_from, le-leb, eq-eqb}
 use Rattle.std.proofs.lemmas.List.{get_or-take, get_or-drop, drop-drop}
 use Rattle.std.proofs.lemmas.List.Elements.{All-take, All-drop}
 use Rattle.byteorder.specs.Endian.{big_number}
@@ -14,7 +14,7 @@ use Rattle.elf32_sparc.specs.Header.{program_headers, has_flag, is_loadable, loa
 use Rattle.elf32_sparc.specs.Mapping.{Mapping, mapping_of, mappings, file_bytes, memory_bytes}
 use Rattle.elf32_sparc.specs.Image.{words_of, text_from, text_of, no_text, image_of}
 use Rattle.elf32_sparc.proofs.Accepted.{Accepted, accepted, has_text, IsFit, text_is_fit}
-use Rattle.v8_memory.specs.Regions.{Region, covers, is_code, code_of, word_in, fetch_from, fetch_of}
+use Rattle.v8_memory.specs.Regions.{Region, covers, is_code, word_in, fetch_from, fetch_of}
 use Rattle.v8_memory.specs.Segments.{region_of}
 use Rattle.v8_step.specs.Valid.{AreBytes}
 use Rattle.v8_process.specs.Start.{start_memory, stack_region}
@@ -25,11 +25,12 @@ use Rattle.v8_process.specs.Fetched.{IsFirstCode, CodeIsFetched, TextIsFetched}
 -- the first four bytes make the same word by either definition
 word_of-bytes : (bytes : List ℕ) → from_be_bytes w32 (take 4 bytes) ≡ big_number 4 bytes
 word_of-bytes bytes =
-    let first = get_or-take 4 bytes 0 0 (omega arith) in
-    let second = get_or-take 4 bytes 1 0 (omega arith) in
-    let third = get_or-take 4 bytes 2 0 (omega arith) in
-    let last = get_or-take 4 bytes 3 0 (omega arith) in
-    omega arith
+    rw (
+      get_or-take 4 bytes 0 0 (omega arith),
+      get_or-take 4 bytes 1 0 (omega arith),
+      get_or-take 4 bytes 2 0 (omega arith),
+      get_or-take 4 bytes 3 0 (omega arith),
+    ) (omega arith)
 
 word_in-region : (r : Region) (k : ℕ) → word_in (r.start + k) r ≡ big_number 4 (drop k r.bytes)
 word_in-region r k =
@@ -41,39 +42,28 @@ pub code-from : (before after : List Mapping) (rest : List Region) (code : Mappi
     → list_any (λ m. is_code (region_of m)) before ≡ false → is_code (region_of code) ≡ true
     → filter is_code (map region_of (before ++ code ∷ after) ++ rest)
     ≡ region_of code ∷ filter is_code (map region_of after ++ rest)
-code-from [] after rest code none is =
-    cond-true (is_code (region_of code)) (region_of code ∷ filter is_code (map region_of after ++ rest))
-    (filter is_code (map region_of after ++ rest)) is
+code-from [] after rest code none is = rw is
 code-from (m ∷ before) after rest code none is =
     let parts = or_parts (is_code (region_of m)) (list_any (λ z. is_code (region_of z)) before) none in
-    let later : List Region = filter is_code (map region_of (before ++ code ∷ after) ++ rest) in
-    cond-false (is_code (region_of m)) (region_of m ∷ later) later parts.0
-    ∙ code-from before after rest code parts.1 is
+    rw parts.0 (code-from before after rest code parts.1 is)
 
 fetched-first : (r : Region) (others : List Region) (k : ℕ) → r.start % 4 ≡ 0 → 4 * k + 4 ≤ r.size
     → fetch_from (r ∷ others) (r.start + 4 * k) ≡ Some (big_number 4 (drop (4 * k) r.bytes))
 fetched-first r others k aligned inside =
     let address : ℕ = r.start + 4 * k in
-    let found : Option ℕ = option_map (word_in address) (find (covers address 4) (r ∷ others)) in
     let multiple : nat_eq (address % 4) 0 ≡ true = eq-eqb (address % 4) 0 (omega arith) in
     let covered : covers address 4 r ≡ true =
     and_from (nat_le r.start address) (nat_le (address + 4) (r.start + r.size))
     (le-leb r.start address (omega arith)) (le-leb (address + 4) (r.start + r.size) (omega arith)) in
-    cond-true (nat_eq (address % 4) 0) found None multiple
-    ∙ ap (option_map (word_in address))
-    (cond-true (covers address 4 r) (Some r) (find (covers address 4) others) covered)
-    ∙ ap (λ (w : ℕ). Some w) (word_in-region r (4 * k))
+    rw (multiple, covered) (ap Some (word_in-region r (4 * k)))
 
 pub code_is_fetched : CodeIsFetched
 unfolding fetch_of
 code_is_fetched file texts code first aligned bytes k inside =
     let stack : List Region = stack_region texts ∷ [] in
     let others : List Region = filter is_code (map region_of first.after ++ stack) in
-    let starts : code_of (start_memory file texts) ≡ region_of code ∷ others =
-    ap (λ (ms : List Mapping). filter is_code (map region_of ms ++ stack)) first.mapped
-    ∙ code-from first.before first.after stack code first.none_before first.executable in
-    ap (λ (rs : List Region). fetch_from rs (code.start + 4 * k)) starts
-    ∙ fetched-first (region_of code) others k aligned inside
+    rw (first.mapped, code-from first.before first.after stack code first.none_before first.executable)
+    (fetched-first (region_of code) others k aligned inside)
 
 -- ---- the text is the first code of a file
 
@@ -109,8 +99,7 @@ first-with file x h hs later true false is after found =
           (list_any (λ m. is_code (region_of m)) first.before) is first.none_before;
       executable = first.executable;
     }
-first-with file x h hs later false true is after found = after found
-first-with file x h hs later false false is after found = after found
+first-with file x h hs later false code is after found = after found
 
 text-first : (file : List ℕ) (hs : List ProgramHeader) (h : ProgramHeader) → text_header hs ≡ Some h
     → IsFirstOf (map (mapping_of file) (loadable hs)) (mapping_of file h)

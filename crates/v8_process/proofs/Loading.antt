@@ -1,7 +1,8 @@
 -- What is mapped for a program that starts.
-use Rattle.std.proofs.Common.{◌≡◌, ℕ, ◌+◌, ◌-◌, ◌^◌, ◌≤◌, ◌⊎◌, inl, inr, Bool, true, false, not, ◌&&◌, nat_lt, nat_le, ◌==◌, List, [], ◌∷◌, ◌++◌, length, map, replicate, All, None, refl, sym, subst, ap, ◌∙◌, arith}
+use Rattle.std.proofs.Common.{◌≡◌, ℕ, ◌+◌, ◌-◌, ◌^◌, ◌≤◌, ◌⊎◌, true, false, not, ◌&&◌, nat_lt, nat_le, List, [], ◌∷◌, ◌++◌, length, map, replicate, All, None, refl, sym, subst, ap, ◌∙◌, arith}
 use Rattle.std.specs.List.{list_any}
-use Rattle.std.proofs.lemmas.Bool.{or_parts, or_left, or_right, and_parts, and_from, ltb-false, le-leb, eqb-true, false≢true}
+use Rattle.std.proofs.lemmas.Bool.{or_parts, or_left, and_from, ltb-false, le-leb}
+use Rattle.std.proofs.lemmas.Bool.Decides.{nat_tests}
 use Rattle.std.proofs.lemmas.List.{append-nil, map-append}
 use Rattle.std.proofs.lemmas.Simd.{map-map}
 use Rattle.std.proofs.lemmas.List.Elements.{All-nil, All-cons, All-head, All-tail, All-push}
@@ -15,7 +16,7 @@ use Rattle.elf32_sparc.proofs.Loadable.{loadable_file}
 use Rattle.elf32_sparc.proofs.Ranges.{mappings-room}
 use Rattle.v8_memory.specs.declared.memory.RegionPlan as declared
 use Rattle.v8_memory.specs.Regions.{Region, Memory}
-use Rattle.v8_memory.specs.Segments.{region_of, empty_heap}
+use Rattle.v8_memory.specs.Segments.{region_of}
 use Rattle.v8_memory.specs.Calls.{IsPlan, mapping_of_plan, memory_of}
 use Rattle.v8_memory.specs.Spans.{Span, are_apart, heap_span, is_apart, is_apart_from, mappings_apart, span_of_mapping}
 use Rattle.v8_step.specs.Run.{first_state}
@@ -29,23 +30,13 @@ use Rattle.v8_process.proofs.Valid.{stack-count}
 abbrev Ends : Mapping → Type 0
 Ends m = m.start + m.length ≤ 2 ^ 32
 
--- below the addresses of a program's end, or with the last page
+-- a segment ends below the heap, or is the last page
+lies : (h : ProgramHeader) → (leaves_room h && not (is_last_page h)) ≡ false
+    → (h.p_vaddr + h.p_memsz ≤ 0x80000000) ⊎ (h.p_vaddr ≡ 0xfffff000)
+lies h none = grind (arith, nat_tests)
+
 ends : (file : List ℕ) (h : ProgramHeader) → (leaves_room h && not (is_last_page h)) ≡ false → Ends (mapping_of file h)
-ends file h none = go (leaves_room h) (is_last_page h) refl refl none
-  where
-    go : (outside last : Bool) → leaves_room h ≡ outside → is_last_page h ≡ last → (outside && not last) ≡ false
-        → Ends (mapping_of file h)
-    go false last inside page no_fault =
-        let below : h.p_vaddr + h.p_memsz ≤ 0x80000000 =
-        ltb-false 0x80000000 (end_of h)
-        (or_parts (nat_lt h.p_vaddr 0x1000) (nat_lt 0x80000000 (end_of h)) inside).1 in
-        omega arith
-    go true true inside page no_fault =
-        let parts = and_parts (h.p_vaddr == 0xfffff000) (h.p_memsz == 4096) page in
-        let start : h.p_vaddr ≡ 0xfffff000 = eqb-true _ _ parts.0 in
-        let count : h.p_memsz ≡ 4096 = eqb-true _ _ parts.1 in
-        omega arith
-    go true false inside page no_fault = absurd (false≢true (sym no_fault))
+ends file h none = grind (arith, nat_tests)
 
 each_ends : (file : List ℕ) (hs : List ProgramHeader) → list_any (λ h. leaves_room h && not (is_last_page h)) hs ≡ false
     → All Ends (map (mapping_of file) hs)
@@ -96,11 +87,7 @@ pub plans-mapped : (file : List ℕ) (all : List (List ℕ)) (segments : List Se
     → map mapping_of_plan plans ≡ map (segment_mapping file) segments ++ stack_mapping stack ∷ []
     → ArePlans file all plans
 plans-mapped file all segments stack plans read made planned = record {
-  mapped =
-      planned
-      ∙ ap (λ (all : List Segment). map (segment_mapping file) all ++ stack_mapping stack ∷ []) read
-      ∙ ap (λ (ms : List Mapping). ms ++ stack_mapping stack ∷ []) (segments-mapped file)
-      ∙ ap (λ (bytes : List ℕ). mappings file ++ stack_mapping bytes ∷ []) made;
+  mapped = rw (planned, read, segments-mapped file, made);
 }
 
 pub plans-fit : (file : List ℕ) (all : List (List ℕ)) (plans : List declared.RegionPlan) → ArePlans file all plans
@@ -113,35 +100,15 @@ plans-fit file all plans are none fits =
 
 -- ---- no two of them have a common address
 
--- a segment ends below the heap, or is the last page
-lies : (h : ProgramHeader) → (leaves_room h && not (is_last_page h)) ≡ false
-    → (h.p_vaddr + h.p_memsz ≤ 0x80000000) ⊎ (h.p_vaddr ≡ 0xfffff000)
-lies h none = go (leaves_room h) (is_last_page h) refl refl none
-  where
-    go : (outside last : Bool) → leaves_room h ≡ outside → is_last_page h ≡ last → (outside && not last) ≡ false
-        → (h.p_vaddr + h.p_memsz ≤ 0x80000000) ⊎ (h.p_vaddr ≡ 0xfffff000)
-    go false last inside page no_fault =
-        inl (ltb-false 0x80000000 (end_of h)
-        (or_parts (nat_lt h.p_vaddr 0x1000) (nat_lt 0x80000000 (end_of h)) inside).1)
-    go true true inside page no_fault =
-        inr (eqb-true _ _ (and_parts (h.p_vaddr == 0xfffff000) (h.p_memsz == 4096) page).0)
-    go true false inside page no_fault = absurd (false≢true (sym no_fault))
-
 beside_heap : (h : ProgramHeader) (file : List ℕ)
     → (h.p_vaddr + h.p_memsz ≤ 0x80000000) ⊎ (h.p_vaddr ≡ 0xfffff000)
     → is_apart heap_span (span_of_mapping (mapping_of file h)) ≡ true
-beside_heap h file (inl low) =
-    or_right (nat_le 0x81000000 h.p_vaddr) (nat_le (h.p_vaddr + h.p_memsz) 0x80000000) (le-leb _ _ low)
-beside_heap h file (inr last) =
-    or_left (nat_le 0x81000000 h.p_vaddr) (nat_le (h.p_vaddr + h.p_memsz) 0x80000000) (le-leb _ _ (omega (arith, last)))
+beside_heap h file lies = grind (arith, nat_tests)
 
 beside_stack : (h : ProgramHeader) (file stack : List ℕ)
     → (h.p_vaddr + h.p_memsz ≤ 0x80000000) ⊎ (h.p_vaddr ≡ 0xfffff000)
     → is_apart (span_of_mapping (mapping_of file h)) (span_of_mapping (stack_mapping stack)) ≡ true
-beside_stack h file stack (inl low) =
-    or_left (nat_le (h.p_vaddr + h.p_memsz) stack_start) (nat_le stack_end h.p_vaddr) (le-leb _ _ (omega (arith, low)))
-beside_stack h file stack (inr last) =
-    or_right (nat_le (h.p_vaddr + h.p_memsz) stack_start) (nat_le stack_end h.p_vaddr) (le-leb _ _ (omega (arith, last)))
+beside_stack h file stack lies = grind (arith, nat_tests)
 
 -- what ends before the segments do begin, and is no part of the stack
 apart_from_rest : (file stack : List ℕ) (x : Span) (end : ℕ) (hs : List ProgramHeader) → x.from + x.count ≤ end
@@ -201,39 +168,21 @@ plans-apart file all plans are none =
 -- ---- the memory
 
 no_zeros : (n : ℕ) (bytes : List ℕ) → length bytes ≡ n → bytes ++ replicate (n - length bytes) 0 ≡ bytes
-no_zeros n bytes count =
-    ap (λ (z : ℕ). bytes ++ replicate z 0) (none_left (length bytes) n count) ∙ append-nil bytes
-  where
-    none_left : (long n : ℕ) → long ≡ n → n - long ≡ 0
-    none_left long n same = omega arith
-
-abbrev stack_with : List ℕ → Region
-stack_with bytes = record {
-  start = stack_start;
-  size = stack_end - stack_start;
-  readable = true;
-  writable = true;
-  executable = false;
-  bytes = bytes;
-}
+no_zeros n bytes count = let none : n - length bytes ≡ 0 = omega arith in rw none (append-nil bytes)
 
 stack-mapped : (all : List (List ℕ)) → FitsStack all
     → region_of (stack_mapping (stack_region all).bytes) ≡ stack_region all
-stack-mapped all fits = ap stack_with (no_zeros (stack_end - stack_start) (stack_region all).bytes (stack-count all fits))
+stack-mapped all fits = rw (no_zeros (stack_end - stack_start) (stack_region all).bytes (stack-count all fits))
 
 regions-made : (file : List ℕ) (all : List (List ℕ)) (plans : List declared.RegionPlan) → ArePlans file all plans
     → FitsStack all → map region_of (map mapping_of_plan plans) ≡ (start_memory file all).regions
 regions-made file all plans are fits =
-    ap (map region_of) are.mapped
-    ∙ map-append region_of (mappings file) (stack_mapping (stack_region all).bytes ∷ [])
-    ∙ ap (λ (r : Region). map region_of (mappings file) ++ r ∷ []) (stack-mapped all fits)
-
-abbrev memory_with : List Region → Memory
-memory_with regions = record { heap = empty_heap; regions = regions }
+    rw are.mapped (map-append region_of (mappings file) (stack_mapping (stack_region all).bytes ∷ [])
+    ∙ ap (λ (r : Region). map region_of (mappings file) ++ r ∷ []) (stack-mapped all fits))
 
 pub plans-made : (file : List ℕ) (all : List (List ℕ)) (plans : List declared.RegionPlan) → ArePlans file all plans
     → FitsStack all → memory_of (map mapping_of_plan plans) ≡ start_memory file all
-plans-made file all plans are fits = ap memory_with (regions-made file all plans are fits)
+plans-made file all plans are fits = rw (regions-made file all plans are fits)
 
 -- ---- the state
 
@@ -241,7 +190,4 @@ pub started : (file : List ℕ) (args : List (List ℕ)) (input : List ℕ) (mem
     → memory ≡ start_memory file (program_name ∷ args) → entry ≡ e_entry file
     → sp ≡ first_sp (program_name ∷ args) → first_state memory entry sp input ≡ start_of file args input
 unfolding start_of
-started file args input memory entry sp loaded at top =
-    ap (λ (m : Memory). first_state m entry sp input) loaded
-    ∙ ap (λ (n : ℕ). first_state (start_memory file (program_name ∷ args)) n sp input) at
-    ∙ ap (λ (n : ℕ). first_state (start_memory file (program_name ∷ args)) (e_entry file) n input) top
+started file args input memory entry sp loaded at top = rw (loaded, at, top)

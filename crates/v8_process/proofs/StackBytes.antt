@@ -1,5 +1,5 @@
 -- The bytes of the stack, part after part.
-use Rattle.std.proofs.Common.{◌≡◌, ℕ, ◌+◌, ◌-◌, List, ◌++◌, length, replicate, append_assoc, ap, ◌∙◌, arith}
+use Rattle.std.proofs.Common.{◌≡◌, ℕ, ◌+◌, ◌-◌, List, ◌++◌, length, replicate, append_assoc, arith}
 use Rattle.std.specs.Int.{w32, to_be_bytes}
 use Rattle.std.specs.List.{flat_map}
 use Rattle.v8_process.specs.declared.stack.Layout.{Layout}
@@ -11,12 +11,6 @@ pub record IsLaidOut (all : List (List ℕ)) (at : Layout) : Type 0 where
   pub words_end : at.words_end ≡ words_address all + argument_size all
   pub first : at.strings ≡ strings_address all
   pub last : at.strings_end ≡ strings_address all + length (strings all)
-
--- the parts in order, however they are grouped
-grouped : (a b c d e : List ℕ) → (a ++ b ++ c ++ d) ++ e ≡ a ++ (b ++ c ++ d ++ e)
-grouped a b c d e =
-    ap (λ z. z ++ e) (ap (λ z. z ++ d) (append_assoc a b c) ∙ append_assoc a (b ++ c) d)
-    ∙ append_assoc a (b ++ c ++ d) e
 
 minus_sum : (n a b : ℕ) → n - (a + b) ≡ n - a - b
 minus_sum n a b = omega arith
@@ -31,25 +25,5 @@ pub parts : (all : List (List ℕ)) (at : Layout) → IsLaidOut all at
     (at.words - stack_start) (at.strings - at.words_end) (stack_end - at.strings_end)
     ≡ (stack_region all).bytes
 parts all at is =
-    ap (λ n. among_zeros words (strings all) n (at.strings - at.words_end) (stack_end - at.strings_end)) below
-    ∙ ap (λ n. among_zeros words (strings all) zeros n (stack_end - at.strings_end)) middle
-    ∙ ap (λ n. among_zeros words (strings all) zeros between n) above
-    ∙ grouped (replicate zeros 0) words (replicate between 0) (strings all) (replicate _ 0)
-  where
-    zeros : ℕ
-    zeros = words_address all - stack_start
-
-    words : List ℕ
-    words = flat_map (to_be_bytes w32) (argument_words all)
-
-    between : ℕ
-    between = strings_address all - (words_address all + argument_size all)
-
-    below : at.words - stack_start ≡ zeros
-    below = ap (λ n. n - stack_start) is.words
-
-    middle : at.strings - at.words_end ≡ between
-    middle = ap (λ n. n - at.words_end) is.first ∙ ap (λ n. strings_address all - n) is.words_end
-
-    above : stack_end - at.strings_end ≡ stack_end - strings_address all - length (strings all)
-    above = ap (λ n. stack_end - n) is.last ∙ minus_sum stack_end (strings_address all) (length (strings all))
+    rw (is.words, is.first, is.words_end, is.last, minus_sum stack_end (strings_address all) (length (strings all)))
+    (simp append_assoc)

@@ -114,11 +114,7 @@ filled start end long strings_long words_long sp a b c d = omega arith
 five_parts : (first second third fourth fifth : List ℕ)
     → length (first ++ (second ++ third ++ fourth ++ fifth))
     ≡ length first + (length second + length third + length fourth + length fifth)
-five_parts first second third fourth fifth =
-    length-append first (second ++ third ++ fourth ++ fifth)
-    ∙ ap (λ (z : ℕ). length first + z) (length-append (second ++ third ++ fourth) fifth
-    ∙ ap (λ (z : ℕ). z + length fifth) (length-append (second ++ third) fourth
-    ∙ ap (λ (z : ℕ). z + length fourth) (length-append second third)))
+five_parts first second third fourth fifth = simp length-append
 
 rounded_up-least : (n : ℕ) → n ≤ rounded_up n
 rounded_up-least n = omega arith
@@ -154,11 +150,7 @@ stack-count texts fits =
     sizes : (a b c d : ℕ) → a ≡ below → b ≡ argument_size texts → c ≡ between → d ≡ above
         → a + (b + c + length (strings texts) + d)
         ≡ below + (argument_size texts + between + length (strings texts) + above)
-    sizes a b c d e f g h =
-        ap (λ (z : ℕ). z + (b + c + length (strings texts) + d)) e
-        ∙ ap (λ (z : ℕ). below + (z + c + length (strings texts) + d)) f
-        ∙ ap (λ (z : ℕ). below + (argument_size texts + z + length (strings texts) + d)) g
-        ∙ ap (λ (z : ℕ). below + (argument_size texts + between + length (strings texts) + z)) h
+    sizes a b c d e f g h = rw (e, f, g, h)
 
 stack-valid : (texts : List (List ℕ)) → All AreBytes texts → FitsStack texts
     → IsValidRegion (stack_region texts)
