@@ -35,7 +35,7 @@ second_place x = omega arith
 high_part : (base : ℕ) → base % 4096 ≡ 0 → base < 2 ^ 32 → wrapped (1024 * (base / 1024)) ≡ base
 high_part base h low = omega arith
 
-four : (n : ℕ) → n % 4 ≡ 0 → (n % 4 == 0) ≡ true
+pub four : (n : ℕ) → n % 4 ≡ 0 → (n % 4 == 0) ≡ true
 four n e = ap (λ z. z == 0) e
 
 -- ---- operations on register a

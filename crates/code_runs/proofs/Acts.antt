@@ -1,21 +1,19 @@
 -- What one word of such code does.
-use Rattle.std.proofs.Common.{◌≡◌, ℕ, ◌%◌, Bool, true, false, Option, Some, None, List, [], refl, ap, ◌∙◌}
-use Rattle.std.specs.Prelude.{if◌then◌else◌, ◌==◌}
+use Rattle.std.proofs.Common.{◌≡◌, ℕ, ◌%◌, true, false, Option, Some, None, [], refl, ap, ◌∙◌}
+use Rattle.std.specs.Prelude.{◌==◌}
 use Rattle.v8_decode.specs.declared.Op2.{Op2}
 use Rattle.v8_decode.specs.declared.Instr.{Instr}
 use Rattle.v8_decode.specs.declared.Instr.TheVariants as i
 use Rattle.v8_decode.specs.declared.LoadKind.TheVariants as loads
 use Rattle.v8_decode.specs.declared.StoreKind.TheVariants as stores
 use Rattle.v8_decode.specs.Words.{decode_of}
-use Rattle.v8_memory.specs.Regions.{Memory, with_bytes, bytes_at, code_of, fetch_of, fetch_from}
-use Rattle.v8_step.specs.declared.Ending.TheVariants.{Trap}
-use Rattle.v8_step.specs.declared.Slot.{Slot}
+use Rattle.v8_memory.specs.Regions.{code_of, fetch_of, fetch_from}
 use Rattle.v8_step.specs.declared.Slot.TheVariants.{NoSlot}
 use Rattle.v8_step.specs.State.{State, register_of, with_register, sum_of}
-use Rattle.v8_step.specs.Traps.{mem_address_not_aligned, data_access_exception}
-use Rattle.v8_step.specs.Transfers.{next, trapped, delayed, unless_couple, jump_step}
-use Rattle.v8_step.specs.Accesses.{load_step, store_step, on_bytes, on_memory, loaded, stored}
-use Rattle.v8_step.specs.Step.{act, step_of, on_word, unless_ended, puts_of, puts_by, puts_on_word, puts_unless_ended}
+use Rattle.v8_step.specs.Traps.{mem_address_not_aligned}
+use Rattle.v8_step.specs.Transfers.{next, trapped, delayed, jump_step}
+use Rattle.v8_step.specs.Accesses.{load_step, store_step}
+use Rattle.v8_step.specs.Step.{act, step_of, on_word, unless_ended, puts_of, puts_unless_ended}
 use Rattle.v8_step.proofs.Quiet.{IsPlain, puts_nothing}
 use Rattle.code_runs.specs.StoredWords.{memory_word, store_word, CanLoad, CanStore}
 use Rattle.code_runs.specs.Straight.{Says}

@@ -1,5 +1,5 @@
 -- Stores that are counted.
-use Rattle.std.proofs.Common.{◌≡◌, ℕ, zero, suc, ◌+◌, ◌<◌, ◌≤◌, Bool, false, ◌||◌, Option, Some, None, List, refl, ap, ◌∙◌, subst, sym, arith}
+use Rattle.std.proofs.Common.{◌≡◌, ℕ, zero, suc, ◌+◌, ◌<◌, ◌≤◌, Bool, false, ◌||◌, Option, Some, None, List, refl, ap, ◌∙◌, arith}
 use Rattle.std.specs.List.{list_any, range_with_len}
 use Rattle.v8_decode.specs.declared.Instr.{Instr}
 use Rattle.v8_memory.specs.Regions.{Region, code_of, fetch_of, fetch_from}
@@ -46,12 +46,7 @@ pub ends_stores : (counted : ℕ → Bool) (s : State) (ending : Ending) → (st
     → stores_in_step counted s ≡ 0
 unfolding stores_in_step
 ends_stores counted s ending over =
-    ap (λ z. unless_over s.ending (unless_over z (on_fetched counted s (fetch_of s.memory s.pc)))) over
-    ∙ none s.ending
-  where
-    none : (e : Option Ending) → unless_over e 0 ≡ 0
-    none None = refl
-    none (Some e) = refl
+    rw over (omega (arith, over_less s.ending 0))
 
 -- that word where the machine stands, in another machine's code
 pub stores_there : (counted : ℕ → Bool) (s : State) (code : List Region) (a : ℕ) (x : Instr) → s.ending ≡ None

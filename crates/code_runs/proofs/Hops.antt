@@ -1,14 +1,15 @@
 -- Several blocks in one, and jumps through a register that is kept in memory meanwhile.
-use Rattle.std.proofs.Common.{◌≡◌, ◌≢◌, ℕ, zero, suc, ◌+◌, ◌*◌, ◌%◌, ◌<◌, ◌≤◌, ◌⊎◌, inl, inr, true, Option, List, [], ◌∷◌, ◌++◌, length, refl, ap, sym, ◌∙◌, subst, arith}
+use Rattle.std.proofs.Common.{◌≡◌, ◌≢◌, ℕ, ◌+◌, ◌*◌, ◌%◌, ◌<◌, ◌⊎◌, inl, inr, true, Option, List, [], ◌∷◌, ◌++◌, length, refl, ap, sym, ◌∙◌, subst, arith}
 use Rattle.std.specs.Prelude.{◌==◌, slice_index}
 use Rattle.std.proofs.Math.Seq.{ext_get_or}
 use Rattle.v8_decode.specs.declared.Op2.{Op2}
 use Rattle.v8_decode.specs.declared.Instr.TheVariants as i
 use Rattle.v8_decode.specs.declared.LoadKind.TheVariants as loads
 use Rattle.v8_alu.specs.declared.Codes.{Codes}
-use Rattle.v8_memory.specs.Regions.{Memory, Region, code_of}
+use Rattle.v8_memory.specs.Regions.{Memory, code_of}
 use Rattle.v8_windows.specs.Registers.{place_of, register_in, register_set}
-use Rattle.v8_windows.proofs.Places.{register_in-set, length-register_set}
+pub use Rattle.v8_windows.proofs.Places.{in_place}
+use Rattle.v8_windows.proofs.Places.{register_in-set, register_in-other, length-register_set}
 use Rattle.v8_step.specs.declared.Ending.{Ending}
 use Rattle.v8_step.specs.declared.Slot.{Slot}
 use Rattle.v8_step.specs.declared.Slot.TheVariants.{NoSlot}
@@ -21,7 +22,7 @@ use Rattle.code_runs.specs.Straight.{Says}
 use Rattle.code_runs.specs.TwoRegisters.{HasScratch, IsAlike, IsBetween, Works}
 use Rattle.code_runs.specs.Hops.{hopped, Hops}
 use Rattle.code_runs.proofs.Acts.{says_step, says_puts, ld_acts, jump_acts}
-use Rattle.code_runs.proofs.Leads.{leads_one, leads_then, silent_one, silent_then, split_below}
+use Rattle.code_runs.proofs.Leads.{leads_one, leads_then, silent_one, silent_then}
 use Rattle.code_runs.proofs.TwoRegisters.{places_differ, set_stays, other_is}
 use Rattle.std.proofs.lemmas.Bool.{cases_eq}
 
@@ -61,10 +62,6 @@ same_state : (u : State) (pc npc : ℕ) (slot : Slot) (registers : List ℕ) (wi
 same_state u pc npc slot registers window valid codes y memory input ending e1 e2 e3 e4 e5 e6 e7 e8 e9 e10 e11 =
     rw (← e1, ← e2, ← e3, ← e4, ← e5, ← e6, ← e7, ← e8, ← e9, ← e10, ← e11) refl
 
-pub in_place : (registers : List ℕ) (w r : ℕ) → 0 < r → register_in registers w r ≡ slice_index registers (place_of w r)
-in_place registers w zero some = absurd (omega arith)
-in_place registers w (suc r) some = refl
-
 -- both registers as they are in another list
 both_same : (us qs : List ℕ) (w a b : ℕ) → 0 < a → 0 < b → length us ≡ 136 → length qs ≡ 136
     → register_in us w a ≡ register_in qs w a → register_in us w b ≡ register_in qs w b
@@ -79,6 +76,10 @@ both_same us qs w a b sa sb lu lq ea eb others = ext_get_or 0 us qs (lu
     at p (inr n) (inr k) = others p n k
 
 module _ (s : State) (count : ℕ) (May : ℕ → Type 0) (a b : ℕ) (c : HasScratch s count a b) where
+  kept : (v : ℕ) → register_in (register_set s.registers s.window b v) s.window a ≡ register_in s.registers s.window a
+  kept v = register_in-other s.registers s.window b v s.window a
+      (places_differ s.window b a c.window c.second_below c.first_below (λ e. c.differ (sym e)))
+
   -- the first register as it was, the second with another value
   pub works_state : (n : ℕ) (m : Memory) (y : ℕ) (w : Works s count May a b n m (register_of s a) y) → 0 < n
       → w.after ≡ record (with_register s b y) { pc = s.pc + 4 * n; npc = s.pc + 4 * n + 4; slot = NoSlot; memory = m }
@@ -90,19 +91,11 @@ module _ (s : State) (count : ℕ) (May : ℕ → Type 0) (a b : ℕ) (c : HasSc
       ((rw h.window at h.second) ∙ sym (register_in-set s.registers s.window b y c.registers c.second_some))
       (λ p na nb. h.others p na nb ∙ sym (set_stays s.registers s.window b y p nb)))
       h.window h.valid h.codes h.y_register h.memory h.input (h.live ∙ sym c.ready.live)
-    where
-      kept : (v : ℕ) → register_in (register_set s.registers s.window b v) s.window a ≡ register_in s.registers s.window a
-      kept v = in_place _ s.window a c.first_some ∙ set_stays s.registers s.window b v (place_of s.window a)
-          (places_differ s.window a b c.window c.first_below c.second_below c.differ)
-          ∙ sym (in_place _ s.window a c.first_some)
 
   set_own : register_set s.registers s.window b (register_of s b) ≡ s.registers
   set_own = both_same _ _ s.window a b c.first_some c.second_some
       (length-register_set s.registers s.window b (register_of s b) ∙ c.registers) c.registers
-      (in_place _ s.window a c.first_some ∙ set_stays s.registers s.window b (register_of s b) (place_of s.window a)
-      (places_differ s.window a b c.window c.first_below c.second_below c.differ)
-      ∙ sym (in_place _ s.window a c.first_some))
-      (register_in-set s.registers s.window b (register_of s b) c.registers c.second_some)
+      (kept (register_of s b)) (register_in-set s.registers s.window b (register_of s b) c.registers c.second_some)
       (λ p na nb. set_stays s.registers s.window b (register_of s b) p nb)
 
   -- both registers as they were
@@ -149,10 +142,8 @@ module _ (s : State) (count : ℕ) (May : ℕ → Type 0) (a b : ℕ) (c : HasSc
       (register_of s a)) s.registers s.window a b c.first_some c.second_some
       (length-register_set w.after.registers w.after.window a (register_of s a) ∙ h.registers) c.registers
       (rw h.window (register_in-set w.after.registers s.window a (register_of s a) h.registers c.first_some))
-      (rw h.window (in_place _ s.window b c.second_some ∙ set_stays w.after.registers s.window a (register_of s a)
-      (place_of s.window b) (places_differ s.window b a c.window c.second_below c.first_below
-      (λ e. c.differ (sym e)))
-      ∙ sym (in_place _ s.window b c.second_some) ∙ (rw h.window at h.second)))
+      (rw h.window (register_in-other w.after.registers s.window a (register_of s a) s.window b
+      (places_differ s.window a b c.window c.first_below c.second_below c.differ) ∙ (rw h.window at h.second)))
       (λ z na nb. set_stays w.after.registers w.after.window a (register_of s a) z
       (rw h.window na) ∙ h.others z na nb))
       h.window h.valid h.codes h.y_register h.memory h.input (h.live ∙ sym c.ready.live) in

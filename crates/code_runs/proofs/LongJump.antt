@@ -1,5 +1,5 @@
 -- A jump to any address, through a register that waits in the page meanwhile.
-use Rattle.std.proofs.Common.{◌≡◌, ℕ, ◌+◌, ◌-◌, ◌*◌, ◌/◌, ◌%◌, ◌^◌, ◌<◌, ◌≤◌, Bool, false, Some, refl, ap, sym, ◌∙◌, subst, arith, List}
+use Rattle.std.proofs.Common.{◌≡◌, ℕ, ◌+◌, ◌-◌, ◌*◌, ◌/◌, ◌%◌, ◌^◌, ◌<◌, ◌≤◌, Bool, false, Some, refl, ap, ◌∙◌, subst, arith, List}
 use Rattle.std.specs.Prelude.{◌==◌, if◌then◌else◌, pos}
 use Rattle.v8_decode.specs.declared.Op2.TheVariants.{Imm}
 use Rattle.v8_decode.specs.declared.Instr.{Instr}
@@ -107,16 +107,13 @@ module _ (to : ℕ) (s : State) (valid : IsValid s) (ready : IsReady s) (low : s
       let one : stores_in_step counted s ≤ one_if counted (Some (word_span (page_word 0))) =
       stores_there counted s code s.pc (i.Store stores.ST 1 0 (of_page 0)) ready.live refl refl words.0 in
       let two : stores_in_step counted (run s 1) ≤ 0 =
-      subst (λ (z : State). stores_in_step counted z ≤ 0) (sym stored.path.steps)
-      (stores_there counted stored.after code (s.pc + 4 * 1) (i.Sethi 1 (to / 1024)) stored.alike.live
+      rw stored.path.steps (stores_there counted stored.after code (s.pc + 4 * 1) (i.Sethi 1 (to / 1024)) stored.alike.live
       (ap code_of stored.alike.memory ∙ stored.code) stored.pc (says_at code _ _ _ (omega arith) words.1.0)) in
       let three : stores_in_step counted (run s 2) ≤ 0 =
-      subst (λ (z : State). stores_in_step counted z ≤ 0) (sym high.path.steps)
-      (stores_there counted high.after code high.after.pc (i.Jmpl 0 1 (Imm (pos (to % 1024)))) high.alike.live
+      rw high.path.steps (stores_there counted high.after code high.after.pc (i.Jmpl 0 1 (Imm (pos (to % 1024)))) high.alike.live
       same_code refl jump_says) in
       let four : stores_in_step counted (run s 3) ≤ 0 =
-      subst (λ (z : State). stores_in_step counted z ≤ 0) (sym jumped)
-      (stores_there counted (delayed (with_register high.after 0 high.after.pc) to) code high.after.npc
+      rw jumped (stores_there counted (delayed (with_register high.after 0 high.after.pc) to) code high.after.npc
       (i.Load loads.LD 1 0 (of_page 0)) high.alike.live same_code refl
       (let e = high.npc in says_at code _ _ _ (omega arith) words.1.1.1.0)) in
       omega (arith, none, one, two, three, four)

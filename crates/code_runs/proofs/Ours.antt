@@ -35,12 +35,10 @@ same_region None = tt
 same_region (Some r) = refl
 
 region_then : (x y z : Option Region) → IsSameRegion x y → IsSameRegion y z → IsSameRegion x z
-region_then None None None h k = tt
+region_then None None z h k = k
 region_then (Some a) (Some b) (Some c) h k = h ∙ k
-region_then None (Some b) z h k = absurd h
-region_then (Some a) None z h k = absurd h
-region_then None None (Some c) h k = absurd k
 region_then (Some a) (Some b) None h k = absurd k
+region_then x y z h k = absurd h
 
 module _ (pages : List Span) (own : List ℕ) where
   -- ---- words stored

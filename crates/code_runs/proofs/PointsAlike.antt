@@ -29,9 +29,8 @@ use Rattle.v8_step.specs.State.{State, with_register, sum_of}
 use Rattle.v8_step.specs.Step.{act, puts_by}
 use Rattle.v8_step.specs.Transfers.{delayed, branched, target_of, trapped, unless_couple, branch_step, call_step, jump_step}
 use Rattle.v8_step.specs.Traps.{mem_address_not_aligned}
-use Rattle.v8_step.specs.Accesses.{load_size, store_size}
 use Rattle.v8_step.specs.Items.{StateItem, Register, Codes, YRegister, IsItem, IsAmong, IsSameAt, AreSameAt, IsSameForReading, is_transfer}
-use Rattle.v8_step.specs.Judged.{judged_by, aligned_span}
+use Rattle.v8_step.specs.Judged.{judged_by}
 use Rattle.two_runs.specs.Alike.{IsSameWorld, AreSameAfter}
 use Rattle.two_runs.specs.Needed.{ReadsIn}
 use Rattle.two_runs.specs.Twins.{AreTwins}
@@ -179,8 +178,7 @@ led_unless pages instr s u a b x y e w h =
   where
     go : (z : Slot) → AreLed pages instr s u (unless_couple z s a) (unless_couple z u b)
     go NoSlot = h
-    go Taken = record { alike = ended_alike pages instr s u Couple w; point = λ f. absurd (cc) }
-    go Untaken = record { alike = ended_alike pages instr s u Couple w; point = λ f. absurd (cc) }
+    go z = record { alike = ended_alike pages instr s u Couple w; point = λ f. absurd (cc) }
 
 module _ (pages : List Span) (s u : State) (live : s.ending ≡ None) (live' : u.ending ≡ None)
     (w : IsSameWorld pages s u) (at : AreAtOnePoint s u) where
@@ -191,10 +189,9 @@ module _ (pages : List Span) (s u : State) (live : s.ending ≡ None) (live' : u
       place_one s.registers u.registers s.window rd v n w.registers h
       ∙ ap (λ z. slice_index (register_set u.registers z rd v) n) w.window
       ∙ ap (λ z. slice_index (register_set u.registers u.window rd z) n) e
-  linked_items rd v v' to to' e Codes (inr h) = h
   linked_items rd v v' to to' e Codes (inl h) = absurd (no_codes s.window rd h)
-  linked_items rd v v' to to' e YRegister (inr h) = h
   linked_items rd v v' to to' e YRegister (inl h) = absurd (no_y s.window rd h)
+  linked_items rd v v' to to' e item (inr h) = h
 
   -- a transfer with a link and a slot
   led_delayed : (instr : Instr) (rd to to' : ℕ) → to ≡ to'
@@ -209,15 +206,10 @@ module _ (pages : List Span) (s u : State) (live : s.ending ≡ None) (live' : u
             (register_set u.registers u.window rd u.pc) w.registers (length-register_set s.registers s.window rd s.pc)
             (length-register_set u.registers u.window rd u.pc),
       );
-      items = λ _ item g. linked_items rd s.pc u.pc to to' at.pc item (among item g);
+      items = λ _ item g. linked_items rd s.pc u.pc to to' at.pc item (elim g [ inl x ↦ inl (f item x) | inr x ↦ inr x ]);
     };
     point = λ _. record { pc = at.npc; npc = e; slot = refl };
   }
-    where
-      among : (item : StateItem) → IsAmong item s.window (writes_of instr) ⊎ IsSameAt item s u
-          → IsAmong item s.window (reg rd) ⊎ IsSameAt item s u
-      among item (inl x) = inl (f item x)
-      among item (inr x) = inr x
 
   still_items : (pc npc pc' npc' : ℕ) (slot slot' : Slot) (item : StateItem) → ⊥ ⊎ IsSameAt item s u
       → IsSameAt item (moved pc npc slot s) (moved pc' npc' slot' u)
@@ -242,8 +234,7 @@ module _ (pages : List Span) (s u : State) (live : s.ending ≡ None) (live' : u
   led_branched cond a disp true true true to to' e = led_moved cond a disp _ _ _ _ s.slot u.slot e
       (ap (λ z. wrapped (z + 4)) e) at.slot
   led_branched cond a disp true true false to to' e = led_moved cond a disp _ _ _ _ Taken Taken at.npc e refl
-  led_branched cond a disp true false true to to' e = led_moved cond a disp _ _ _ _ Taken Taken at.npc e refl
-  led_branched cond a disp true false false to to' e = led_moved cond a disp _ _ _ _ Taken Taken at.npc e refl
+  led_branched cond a disp true false annul to to' e = led_moved cond a disp _ _ _ _ Taken Taken at.npc e refl
   led_branched cond a disp false always true to to' e =
       led_moved cond a disp _ _ _ _ s.slot u.slot (ap (λ z. wrapped (z + 8)) at.pc)
       (ap (λ z. wrapped (z + 12)) at.pc) at.slot
@@ -289,7 +280,7 @@ module _ (pages : List Span) (s u : State) (live : s.ending ≡ None) (live' : u
       (rw (← sum) (led_jump rd rs1 op2 (sum_of s rs1 op2 % 4 == 0) (sum_of s rs1 op2) (sum_of s rs1 op2) refl))
   transfers_alike _ e h = absurd (true≢false (sym e))
 
-no_puts : (s : State) (instr : Instr) (descriptor : ℕ) → is_transfer instr ≡ true → puts_by s instr descriptor ≡ []
+pub no_puts : (s : State) (instr : Instr) (descriptor : ℕ) → is_transfer instr ≡ true → puts_by s instr descriptor ≡ []
 unfolding puts_by
 no_puts s (i.Ticc cond rs1 op2) descriptor e = absurd (cc)
 no_puts s _ descriptor e = refl
@@ -324,16 +315,7 @@ points_act_alike notes (Some word) s u live live' rs ru at w f apart = by (is_tr
           point = h.point;
         }
     by false e =
-        let h = acts_alike (decode_of word) e (pages_of notes) s u (record {
-          first_live = live;
-          second_live = live';
-          first_registers = rs;
-          second_registers = ru;
-          world = w;
-          items = reading;
-          first_apart = apart;
-          second_apart = judged;
-        }) in
+        let h = acts_alike (decode_of word) e (pages_of notes) s u (assumption (reading, judged)) in
         record {
           judged = judged;
           ending = h.0.ending;

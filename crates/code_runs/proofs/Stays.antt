@@ -1,14 +1,12 @@
 -- Words of the pages stay.
-use Rattle.std.proofs.Common.{◌≡◌, ℕ, ◌+◌, ◌-◌, ◌<◌, ◌≤◌, ◌⊎◌, inl, inr, Bool, true, false, ◌&&◌, Some, List, [], ◌∷◌, ◌++◌, length, take, drop, refl, ap, sym, ◌∙◌, subst, arith, length-append, length-drop}
+use Rattle.std.proofs.Common.{◌≡◌, ℕ, ◌+◌, ◌<◌, ◌≤◌, ◌⊎◌, inl, inr, Bool, true, false, Some, List, [], ◌∷◌, length, refl, ap, sym, ◌∙◌, arith}
 use Rattle.std.proofs.lemmas.Bool.{false_from_ne_true}
 use Rattle.std.specs.Prelude.{if◌then◌else◌}
 use Rattle.std.specs.Int.{w32, from_be_bytes}
 use Rattle.std.specs.List.{find}
 use Rattle.std.specs.Option.{option_map}
-use Rattle.std.proofs.lemmas.List.{length-take}
 use Rattle.std.proofs.lemmas.Bool.Decides.{nat_tests}
-use Rattle.v8_memory.specs.Regions.{Memory, Region, covers, part_of, changed, written, all_written, with_heap_end, is_heap_end, region_at}
-use Rattle.v8_memory.specs.Segments.{heap_start, heap_room}
+use Rattle.v8_memory.specs.Regions.{Memory, covers, written, all_written, with_heap_end, is_heap_end, region_at}
 use Rattle.v8_memory.specs.Spans.{Span, IsApartFromAll}
 use Rattle.v8_memory.proofs.Same.{find-written}
 use Rattle.v8_step.specs.Step.{act}
@@ -22,12 +20,10 @@ abbrev IsWithin : List Span → ℕ → Type 0
 IsWithin pages a = (x : Span) → 0 < x.count → IsApartFromAll pages x → (a + 4 ≤ x.from) ⊎ (x.from + x.count ≤ a)
 
 is_within : (pages : List Span) (a : ℕ) → IsIn pages a → IsWithin pages a
-is_within (page ∷ pages) a (inl h) = λ x some apart. go x (apart.0)
-  where
-    go : (x : Span) → (page.from + page.count ≤ x.from) ⊎ (x.from + x.count ≤ page.from)
-        → (a + 4 ≤ x.from) ⊎ (x.from + x.count ≤ a)
-    go x (inl k) = let b = h.0 in let c = h.1 in inl (omega arith)
-    go x (inr k) = let b = h.0 in let c = h.1 in inr (omega arith)
+is_within (page ∷ pages) a (inl h) = λ x some apart. elim apart.0 [
+  | inl k ↦ inl (omega (arith, h.0, h.1, k))
+  | inr k ↦ inr (omega (arith, h.0, h.1, k))
+]
 is_within (page ∷ pages) a (inr h) = λ x some apart. is_within pages a h x some apart.1
 is_within [] a h = absurd h
 
@@ -78,8 +74,7 @@ keeps_heap a f m b e = record {
   keeps = λ h. (
     record {
       start = h.start;
-      size =
-          (let s = h.start in let g : b ≤ 0x81000000 = top b e in omega arith);
+      size = (let most : b ≤ 0x81000000 = grind (arith, nat_tests) in omega (arith, most, h.start));
       away = h.away;
       region = h.region;
       at = h.at;
@@ -90,9 +85,6 @@ keeps_heap a f m b e = record {
     refl,
   );
 }
-  where
-    top : (b : ℕ) → is_heap_end b ≡ true → b ≤ 0x81000000
-    top b e = grind (arith, nat_tests)
 
 -- such a word is the one that is loaded and stored
 pub not_heap : (a : ℕ) (f : Bool) (m : Memory) → HasWordAt a f m → covers a 4 m.heap ≡ false
@@ -108,8 +100,7 @@ loads_there a f m h = record { region = h.region; at = region_of_word a f m h �
 pub stores_there : (a : ℕ) (m : Memory) → HasWordAt a true m → CanStore m a
 stores_there a m h = record {
   region = h.region;
-  at = region_of_word a true m h
-      ∙ h.at;
+  at = region_of_word a true m h ∙ h.at;
   readable = h.readable;
   writable = h.may_write;
   whole = h.whole;

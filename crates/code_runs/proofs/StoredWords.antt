@@ -1,5 +1,5 @@
 -- What loads and stores of words do.
-use Rattle.std.proofs.Common.{◌≡◌, ℕ, ◌+◌, ◌-◌, ◌^◌, ◌<◌, ◌≤◌, ◌⊎◌, inl, inr, Bool, true, false, ◌&&◌, Option, Some, None, List, [], ◌∷◌, ◌++◌, length, take, drop, refl, ap, sym, ◌∙◌, subst, arith, length-append, length-drop, append_assoc, drop-drop, All, IfSome}
+use Rattle.std.proofs.Common.{◌≡◌, ℕ, ◌+◌, ◌-◌, ◌^◌, ◌<◌, ◌≤◌, ◌⊎◌, inl, inr, Bool, true, ◌&&◌, Option, Some, None, List, [], ◌∷◌, ◌++◌, length, take, drop, refl, ap, sym, ◌∙◌, subst, arith, length-append, length-drop, append_assoc, drop-drop, All, IfSome}
 use Rattle.std.proofs.lemmas.Bool.{cond_both}
 use Rattle.std.specs.Prelude.{if◌then◌else◌}
 use Rattle.std.specs.Int.{w32, to_be_bytes, from_be_bytes}
@@ -10,7 +10,7 @@ use Rattle.std.proofs.lemmas.List.{take-append-le, drop-append-le, take-append-d
 use Rattle.std.proofs.lemmas.List.Elements.{All-cons, All-head, All-tail, All-weaker, All-take, All-drop}
 use Rattle.std.proofs.Math.Seq.{take-append_seam, drop-append_seam, drop-append-add}
 use Rattle.std.proofs.lemmas.Bool.Decides.{nat_tests}
-use Rattle.v8_memory.specs.Regions.{Memory, Region, covers, region_at, part_of, changed, written, all_written, with_bytes, write_region, bytes_at, read_region, if_allowed, code_of}
+use Rattle.v8_memory.specs.Regions.{Memory, Region, covers, region_at, part_of, changed, written, with_bytes, bytes_at, read_region, if_allowed, code_of}
 use Rattle.v8_memory.proofs.Same.{find-written}
 use Rattle.v8_memory.proofs.Executable.{filter-written}
 use Rattle.v8_step.specs.Valid.{AreBytes, IsValidMemory, IsValidRegion}
@@ -77,14 +77,7 @@ placed_in m a b v = find-written a 4 b (to_be_bytes w32 v) (m.heap ∷ m.regions
 
 written_when : (a : ℕ) (bs : List ℕ) (r : Region) → covers a (length bs) r ≡ true → r.writable ≡ true
     → written a bs r ≡ record r { bytes = take (a - r.start) r.bytes ++ bs ++ drop (a - r.start + length bs) r.bytes }
-written_when a bs r h k = ap (λ (z : Bool). if z && r.writable then record r {
-  bytes = take
-      (a - r.start) r.bytes ++ bs ++ drop (a - r.start + length bs) r.bytes;
-} else r) h
-    ∙ ap (λ (z : Bool). if z then record r {
-      bytes = take (a - r.start) r.bytes ++ bs ++ drop
-          (a - r.start + length bs) r.bytes;
-    } else r) k
+written_when a bs r h k = rw (h, k)
 
 pub covered : (a n : ℕ) (r : Region) → covers a n r ≡ true → (r.start ≤ a) × (a + n ≤ r.start + r.size)
 covered a n r h = grind (arith, nat_tests)
@@ -107,20 +100,9 @@ shape b bs r = go (covers b (length bs) r) refl r.writable
       readable = refl;
       writable = refl;
       whole = λ h. (let i = covered b (length bs) r e in
-          omega (
-            arith,
-            length-append (take (b - r.start) r.bytes ++ bs)
-                (drop (b - r.start + length bs) r.bytes),
-            length-append (take (b - r.start) r.bytes) bs,
-            length-take
-                (b - r.start) r.bytes,
-            length-drop (b - r.start + length bs) r.bytes,
-            i.0,
-            i.1,
-          ));
+          simp (length-append, length-take, length-drop) (omega (arith, i.0, i.1)));
     }
-    go true e false = record { start = refl; size = refl; readable = refl; writable = refl; whole = λ h. h }
-    go false e w = record { start = refl; size = refl; readable = refl; writable = refl; whole = λ h. h }
+    go c e w = record { start = refl; size = refl; readable = refl; writable = refl; whole = λ h. h }
 
 pub part : (r : Region) (a b : ℕ) (bs : List ℕ) → r.size ≤ length r.bytes → covers a 4 r ≡ true
     → (a + 4 ≤ b) ⊎ (b + length bs ≤ a) → part_of (written b bs r) a 4 ≡ part_of r a 4
@@ -135,8 +117,7 @@ part r a b bs whole has apart = go (covers b (length bs) r) refl r.writable
           | inl s ↦ inl (omega (arith, i.0, i.1, j.0, j.1))
           | inr s ↦ inr (omega (arith, i.0, i.1, j.0, j.1))
         ])
-    go true e false = refl
-    go false e w = refl
+    go c e w = refl
 
 pub still_stored : (m : Memory) (a b v : ℕ) → CanStore m a → CanStore (store_word m b v) a
 still_stored m a b v h = record {
@@ -176,8 +157,7 @@ word_bytes m a h = (
 
 pub word_written : (m : Memory) (a v : ℕ) → CanStore m a → with_bytes m a (to_be_bytes w32 v) ≡ Some (store_word m a v)
 unfolding with_bytes store_word
-word_written m a v h = ap (write_region a (to_be_bytes w32 v) m) h.at
-    ∙ ap (λ z. if_allowed z (all_written a (to_be_bytes w32 v) m)) h.writable
+word_written m a v h = rw (h.at, h.writable)
 
 -- ---- all that is known of a word of valid memory
 found : (P : Region → Type 0) (p : Region → Bool) (rs : List Region) → All P rs → IfSome (find p rs) P

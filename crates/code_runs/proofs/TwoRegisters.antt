@@ -1,6 +1,6 @@
 -- Code in two registers, word by word.
-use Rattle.std.proofs.Common.{◌≡◌, ◌≢◌, ℕ, zero, suc, ◌+◌, ◌-◌, ◌*◌, ◌%◌, ◌<◌, Bool, true, false, List, [], ◌∷◌, ◌++◌, refl, ap, sym, ◌∙◌, subst, arith, get_or-set_other}
-use Rattle.std.specs.Prelude.{if◌then◌else◌, nat_lt, slice_index}
+use Rattle.std.proofs.Common.{◌≡◌, ◌≢◌, ℕ, zero, suc, ◌+◌, ◌*◌, ◌<◌, false, List, [], ◌∷◌, ◌++◌, refl, ap, sym, ◌∙◌, subst, arith, get_or-set_other}
+use Rattle.std.specs.Prelude.{slice_index}
 use Rattle.std.proofs.lemmas.Bool.Decides.{nat_tests}
 use Rattle.v8_decode.specs.declared.Op2.{Op2}
 use Rattle.v8_decode.specs.declared.AluOp.{AluOp}
@@ -9,7 +9,7 @@ use Rattle.v8_decode.specs.declared.Instr.TheVariants as i
 use Rattle.v8_decode.specs.declared.LoadKind.TheVariants as loads
 use Rattle.v8_decode.specs.declared.StoreKind.TheVariants as stores
 use Rattle.v8_alu.specs.Numbers.{wrapped}
-use Rattle.v8_memory.specs.Regions.{Memory, Region, code_of}
+use Rattle.v8_memory.specs.Regions.{Memory, code_of}
 use Rattle.v8_windows.specs.Registers.{place_of, register_set, windows}
 use Rattle.v8_windows.proofs.Places.{register_in-set, register_in-other, length-register_set}
 use Rattle.v8_step.specs.State.{State, register_of, with_register}
@@ -27,14 +27,7 @@ use Rattle.code_runs.proofs.Leads.{leads_none, leads_one, leads_then, silent_non
 
 -- ---- registers of one window stand at different places
 pub places_differ : (w r q : ℕ) → w < windows → r < 32 → q < 32 → r ≢ q → place_of w r ≢ place_of w q
-places_differ w r q a b c ne = λ e. go (nat_lt r 8) (nat_lt q 8) refl refl e
-  where
-    go : (x y : Bool) → nat_lt r 8 ≡ x → nat_lt q 8 ≡ y
-        → (if x then r else 8 + (16 * w + (r - 8)) % 128) ≡ (if y then q else 8 + (16 * w + (q - 8)) % 128) → ⊥
-    go true true f g e = ne e
-    go true false f g e = grind (arith, nat_tests)
-    go false true f g e = grind (arith, nat_tests)
-    go false false f g e = grind (arith, nat_tests)
+places_differ w r q a b c ne = grind (arith, nat_tests)
 
 -- what a write to a register leaves
 pub set_stays : (registers : List ℕ) (w r v p : ℕ) → p ≢ place_of w r

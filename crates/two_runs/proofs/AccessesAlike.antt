@@ -1,5 +1,5 @@
 -- Loads, stores, LDSTUB and SWAP do the same from states that agree on what they read, outside the pages.
-use Rattle.std.proofs.Common.{◌≡◌, ℕ, suc, ◌^◌, ◌%◌, ◌<◌, ◌⊎◌, inl, inr, Bool, true, false, Option, Some, None, List, [], ◌∷◌, ◌++◌, length, refl, ap, sym, ◌∙◌, subst, arith}
+use Rattle.std.proofs.Common.{◌≡◌, ℕ, suc, ◌^◌, ◌%◌, ◌<◌, ◌⊎◌, inl, inr, Bool, true, false, Option, Some, None, List, [], ◌∷◌, ◌++◌, length, refl, ap, sym, ◌∙◌, arith}
 use Rattle.std.specs.Prelude.{slice_index, if◌then◌else◌, ◌==◌}
 use Rattle.std.specs.Int.{Width, byte_len, w8, w16, w32, to_be_bytes, from_be_bytes}
 use Rattle.v8_decode.specs.declared.Op2.{Op2}
@@ -11,7 +11,7 @@ use Rattle.v8_decode.specs.declared.StoreKind.{StoreKind}
 use Rattle.v8_decode.specs.declared.StoreKind.TheVariants as stores
 use Rattle.v8_decode.specs.Effects.{reg, op2_parts, pair, loaded_parts, stored_parts, writes_of}
 use Rattle.v8_memory.specs.Regions.{Memory, bytes_at, with_bytes}
-use Rattle.v8_memory.specs.Spans.{Span, AllApart, IsApartFromAll}
+use Rattle.v8_memory.specs.Spans.{Span, AllApart}
 use Rattle.v8_memory.specs.Laws.{AreSameWrites}
 use Rattle.v8_memory.proofs.Same.{bytes_same, with_bytes-same}
 use Rattle.v8_windows.specs.Registers.{register_set, pair_set}
@@ -20,7 +20,7 @@ use Rattle.v8_step.specs.declared.Ending.TheVariants.{Trap}
 use Rattle.v8_step.specs.State.{State, register_of, with_register, sum_of}
 use Rattle.v8_step.specs.Traps.{mem_address_not_aligned, data_access_exception}
 use Rattle.v8_step.specs.Transfers.{next, trapped}
-use Rattle.v8_step.specs.Accesses.{load_size, store_size, loaded, stored, on_bytes, on_memory, load_step, store_step, exchange_step, ldstub_step, swap_step}
+use Rattle.v8_step.specs.Accesses.{load_size, store_size, loaded, stored, on_bytes, on_memory, load_step, store_step, ldstub_step, swap_step}
 use Rattle.v8_step.specs.Step.{act, puts_by}
 use Rattle.v8_step.specs.Items.{StateItem, Register, Codes, YRegister, IsAmong, IsSameAt, AreSameAt}
 use Rattle.two_runs.specs.Alike.{IsSameWorld, AreSameAfter, ActsAlike}
@@ -47,29 +47,16 @@ place_pair rs qs w rd u v n e h =
 place_loaded : (kind : LoadKind) (rs qs : List ℕ) (w rd n : ℕ) (bytes : List ℕ) → length rs ≡ length qs
     → IsAmong (Register n) w (loaded_parts kind rd) ⊎ (slice_index rs n ≡ slice_index qs n)
     → slice_index (loaded rs w kind rd bytes) n ≡ slice_index (loaded qs w kind rd bytes) n
-place_loaded loads.LD rs qs w rd n bytes e h = place_one rs qs w rd _ n e h
-place_loaded loads.LDUB rs qs w rd n bytes e h = place_one rs qs w rd _ n e h
-place_loaded loads.LDUH rs qs w rd n bytes e h = place_one rs qs w rd _ n e h
 place_loaded loads.LDD rs qs w rd n bytes e h = place_pair rs qs w rd _ _ n e h
-place_loaded loads.LDSB rs qs w rd n bytes e h = place_one rs qs w rd _ n e h
-place_loaded loads.LDSH rs qs w rd n bytes e h = place_one rs qs w rd _ n e h
+place_loaded kind rs qs w rd n bytes e h = place_one rs qs w rd _ n e h
 
 pub length-loaded : (kind : LoadKind) (rs : List ℕ) (w rd : ℕ) (bytes : List ℕ)
     → length (loaded rs w kind rd bytes) ≡ length rs
-length-loaded loads.LD rs w rd bytes = length-register_set rs w rd _
-length-loaded loads.LDUB rs w rd bytes = length-register_set rs w rd _
-length-loaded loads.LDUH rs w rd bytes = length-register_set rs w rd _
 length-loaded loads.LDD rs w rd bytes = length-register_set _ w (suc rd) _ ∙ length-register_set rs w rd _
-length-loaded loads.LDSB rs w rd bytes = length-register_set rs w rd _
-length-loaded loads.LDSH rs w rd bytes = length-register_set rs w rd _
+length-loaded kind rs w rd bytes = length-register_set rs w rd _
 
 pub load_some : (kind : LoadKind) → 0 < load_size kind
-load_some loads.LD = omega arith
-load_some loads.LDUB = omega arith
-load_some loads.LDUH = omega arith
-load_some loads.LDD = omega arith
-load_some loads.LDSB = omega arith
-load_some loads.LDSH = omega arith
+load_some kind = grind arith
 
 pair_codes : (w rd : ℕ) → IsAmong Codes w (pair rd) → ⊥
 pair_codes w rd h = elim (among_split Codes w (reg rd) (reg (suc rd)) h) [
@@ -84,20 +71,12 @@ pair_y w rd h = elim (among_split YRegister w (reg rd) (reg (suc rd)) h) [
 ]
 
 loaded_codes : (kind : LoadKind) (w rd : ℕ) → IsAmong Codes w (loaded_parts kind rd) → ⊥
-loaded_codes loads.LD w rd h = no_codes w rd h
-loaded_codes loads.LDUB w rd h = no_codes w rd h
-loaded_codes loads.LDUH w rd h = no_codes w rd h
 loaded_codes loads.LDD w rd h = pair_codes w rd h
-loaded_codes loads.LDSB w rd h = no_codes w rd h
-loaded_codes loads.LDSH w rd h = no_codes w rd h
+loaded_codes kind w rd h = no_codes w rd h
 
 loaded_y : (kind : LoadKind) (w rd : ℕ) → IsAmong YRegister w (loaded_parts kind rd) → ⊥
-loaded_y loads.LD w rd h = no_y w rd h
-loaded_y loads.LDUB w rd h = no_y w rd h
-loaded_y loads.LDUH w rd h = no_y w rd h
 loaded_y loads.LDD w rd h = pair_y w rd h
-loaded_y loads.LDSB w rd h = no_y w rd h
-loaded_y loads.LDSH w rd h = no_y w rd h
+loaded_y kind w rd h = no_y w rd h
 
 -- the state after a load
 abbrev after_load : State → LoadKind → ℕ → List ℕ → State
@@ -109,10 +88,9 @@ loaded_items : (kind : LoadKind) (rd : ℕ) (bytes : List ℕ) (s t : State) (it
 loaded_items kind rd bytes s t (Register n) w e h =
     place_loaded kind s.registers t.registers s.window rd n bytes e h
     ∙ ap (λ z. slice_index (loaded t.registers z kind rd bytes) n) w
-loaded_items kind rd bytes s t Codes w e (inr h) = h
 loaded_items kind rd bytes s t Codes w e (inl h) = absurd (loaded_codes kind s.window rd h)
-loaded_items kind rd bytes s t YRegister w e (inr h) = h
 loaded_items kind rd bytes s t YRegister w e (inl h) = absurd (loaded_y kind s.window rd h)
+loaded_items kind rd bytes s t item w e (inr h) = h
 
 load_after : (pages : List Span) (kind : LoadKind) (rd rs1 : ℕ) (op2 : Op2) (s t : State) (o : Option (List ℕ))
     → s.ending ≡ None → t.ending ≡ None → IsSameWorld pages s t
@@ -146,9 +124,7 @@ load_acts kind rd rs1 op2 pages s t ready =
     let p : sum_of s rs1 op2 ≡ sum_of t rs1 op2 =
     same_sum rs1 op2 s t h.window (same_first (reg rs1) (op2_parts op2) s t ready.items.1)
     (same_rest (reg rs1) (op2_parts op2) s t ready.items.1) in (
-      subst (λ (z : ℕ). AreSameAfter pages (i.Load kind rd rs1 op2) s t
-          (load_step s kind rd (sum_of s rs1 op2)) (load_step t kind rd z)) p
-          (load_aligned pages kind rd rs1 op2 s t (sum_of s rs1 op2) (sum_of s rs1 op2 % load_size kind == 0)
+      rw (← p) (load_aligned pages kind rd rs1 op2 s t (sum_of s rs1 op2) (sum_of s rs1 op2 % load_size kind == 0)
           ready.first_live ready.second_live h ready.first_apart),
       λ _. refl,
     )
@@ -168,10 +144,7 @@ stored_alike stores.STD rd s t w g =
 
 stored_items : (s t : State) (m n : Memory) (item : StateItem) → ⊥ ⊎ IsSameAt item s t
     → IsSameAt item (next (record s { memory = m })) (next (record t { memory = n }))
-stored_items s t m n item (inl h) = absurd h
-stored_items s t m n (Register k) (inr h) = h
-stored_items s t m n Codes (inr h) = h
-stored_items s t m n YRegister (inr h) = h
+stored_items s t m n item h = grind arith
 
 store_after : (pages : List Span) (kind : StoreKind) (rd rs1 : ℕ) (op2 : Op2) (s t : State) (m n : Option Memory)
     → s.ending ≡ None → t.ending ≡ None → IsSameWorld pages s t → AreSameWrites pages m n
@@ -179,13 +152,12 @@ store_after : (pages : List Span) (kind : StoreKind) (rd rs1 : ℕ) (op2 : Op2) 
     (on_memory s (Trap data_access_exception) m next) (on_memory t (Trap data_access_exception) n next)
 store_after pages kind rd rs1 op2 s t None None e f h g =
     ended_alike pages (i.Store kind rd rs1 op2) s t (Trap data_access_exception) h
-store_after pages kind rd rs1 op2 s t None (Some n) e f h g = absurd g
-store_after pages kind rd rs1 op2 s t (Some m) None e f h g = absurd g
 store_after pages kind rd rs1 op2 s t (Some m) (Some n) e f h g = record {
   ending = e ∙ sym f;
   world = assumption;
   items = λ _ item z. stored_items s t m n item z;
 }
+store_after pages kind rd rs1 op2 s t m n e f h g = absurd g
 
 store_aligned : (pages : List Span) (kind : StoreKind) (rd rs1 : ℕ) (op2 : Op2) (s t : State) (a : ℕ) (bytes : List ℕ) (b : Bool)
     → s.ending ≡ None → t.ending ≡ None → IsSameWorld pages s t → length bytes ≡ store_size kind
@@ -197,8 +169,7 @@ store_aligned pages kind rd rs1 op2 s t a bytes false e f h l apart =
     ended_alike pages (i.Store kind rd rs1 op2) s t (Trap mem_address_not_aligned) h
 store_aligned pages kind rd rs1 op2 s t a bytes true e f h l apart =
     store_after pages kind rd rs1 op2 s t _ _ e f h
-    (with_bytes-same pages s.memory t.memory a bytes h.memory (subst (λ (n : ℕ). 0 < n) (sym l) (store_some kind))
-    (subst (λ (n : ℕ). IsApartFromAll pages (record { from = a; count = n })) (sym l) apart.0))
+    (with_bytes-same pages s.memory t.memory a bytes h.memory (rw l (store_some kind)) (rw l apart.0))
 
 pub store_acts : (kind : StoreKind) (rd rs1 : ℕ) (op2 : Op2) → ActsAlike (i.Store kind rd rs1 op2)
 unfolding act puts_by store_step
@@ -211,16 +182,9 @@ store_acts kind rd rs1 op2 pages s t ready =
     (same_first (op2_parts op2) (stored_parts kind rd) s t rest) in
     let q : stored s kind rd ≡ stored t kind rd =
     stored_alike kind rd s t h.window (same_rest (op2_parts op2) (stored_parts kind rd) s t rest) in (
-      subst (λ (z : ℕ). AreSameAfter pages (i.Store kind rd rs1 op2) s t
-          (store_step s kind rd (sum_of s rs1 op2)) (store_step t kind rd z)) p
-          (subst (λ (z : List ℕ). AreSameAfter pages (i.Store kind rd rs1 op2) s t
-          (store_step s kind rd (sum_of s rs1 op2))
-          (if sum_of s rs1 op2 % store_size kind == 0
-          then on_memory t (Trap data_access_exception) (with_bytes t.memory (sum_of s rs1 op2) z) next
-          else trapped t mem_address_not_aligned)) q
-          (store_aligned pages kind rd rs1 op2 s t (sum_of s rs1 op2) (stored s kind rd)
+      rw (← p, ← q) (store_aligned pages kind rd rs1 op2 s t (sum_of s rs1 op2) (stored s kind rd)
           (sum_of s rs1 op2 % store_size kind == 0) ready.first_live ready.second_live h (length-stored kind rd s)
-          ready.first_apart)),
+          ready.first_apart),
       λ _. refl,
     )
 
@@ -233,10 +197,9 @@ exchanged_items : (rd v : ℕ) (m n : Memory) (s t : State) (item : StateItem) �
 exchanged_items rd v m n s t (Register k) w e h =
     place_one s.registers t.registers s.window rd v k e h
     ∙ ap (λ z. slice_index (register_set t.registers z rd v) k) w
-exchanged_items rd v m n s t Codes w e (inr h) = h
 exchanged_items rd v m n s t Codes w e (inl h) = absurd (no_codes s.window rd h)
-exchanged_items rd v m n s t YRegister w e (inr h) = h
 exchanged_items rd v m n s t YRegister w e (inl h) = absurd (no_y s.window rd h)
+exchanged_items rd v m n s t item w e (inr h) = h
 
 module _ (pages : List Span) (instr : Instr) (rd : ℕ)
     (named : (item : StateItem) (w : ℕ) → IsAmong item w (writes_of instr) → IsAmong item w (reg rd)) where
@@ -246,20 +209,15 @@ module _ (pages : List Span) (instr : Instr) (rd : ℕ)
       (on_memory s (Trap data_access_exception) m (λ p. next (with_register p rd v)))
       (on_memory t (Trap data_access_exception) n (λ p. next (with_register p rd v)))
   exchange_written s t v None None e f h g = ended_alike pages instr s t (Trap data_access_exception) h
-  exchange_written s t v None (Some n) e f h g = absurd g
-  exchange_written s t v (Some m) None e f h g = absurd g
   exchange_written s t v (Some m) (Some n) e f h g = record {
     ending = e ∙ sym f;
     world =
         assumption (same_lengths s.registers t.registers _ _ h.registers
         (length-register_set s.registers s.window rd v) (length-register_set t.registers t.window rd v));
-    items = λ _ item z. exchanged_items rd v m n s t item h.window h.registers (among item z);
+    items = λ _ item z. exchanged_items rd v m n s t item h.window h.registers
+        (elim z [ inl x ↦ inl (named item s.window x) | inr x ↦ inr x ]);
   }
-    where
-      among : (item : StateItem) → IsAmong item s.window (writes_of instr) ⊎ IsSameAt item s t
-          → IsAmong item s.window (reg rd) ⊎ IsSameAt item s t
-      among item (inl x) = inl (named item s.window x)
-      among item (inr x) = inr x
+  exchange_written s t v m n e f h g = absurd g
 
   exchange_read : (s t : State) (width : Width) (a : ℕ) (new : List ℕ) (o : Option (List ℕ)) → s.ending ≡ None
       → t.ending ≡ None → IsSameWorld pages s t
@@ -287,8 +245,7 @@ module _ (pages : List Span) (instr : Instr) (rd : ℕ)
   exchange_aligned s t width a new true e f h l some apart =
       rw (sym (bytes_same pages s.memory t.memory a (byte_len width) h.memory some apart.0))
       (exchange_read s t width a new (bytes_at s.memory a (byte_len width)) e f h
-      (with_bytes-same pages s.memory t.memory a new h.memory (subst (λ (n : ℕ). 0 < n) (sym l) some)
-      (subst (λ (n : ℕ). IsApartFromAll pages (record { from = a; count = n })) (sym l) apart.0)))
+      (with_bytes-same pages s.memory t.memory a new h.memory (rw l some) (rw l apart.0)))
 
 pub ldstub_acts : (rd rs1 : ℕ) (op2 : Op2) → ActsAlike (i.Ldstub rd rs1 op2)
 unfolding act puts_by ldstub_step
@@ -297,9 +254,7 @@ ldstub_acts rd rs1 op2 pages s t ready =
     let p : sum_of s rs1 op2 ≡ sum_of t rs1 op2 =
     same_sum rs1 op2 s t h.window (same_first (reg rs1) (op2_parts op2) s t ready.items.1)
     (same_rest (reg rs1) (op2_parts op2) s t ready.items.1) in (
-      subst (λ (z : ℕ). AreSameAfter pages (i.Ldstub rd rs1 op2) s t
-          (ldstub_step s rd (sum_of s rs1 op2)) (ldstub_step t rd z)) p
-          (exchange_aligned pages (i.Ldstub rd rs1 op2) rd (λ item w x. x) s t w8 (sum_of s rs1 op2) (0xff ∷ [])
+      rw (← p) (exchange_aligned pages (i.Ldstub rd rs1 op2) rd (λ item w x. x) s t w8 (sum_of s rs1 op2) (0xff ∷ [])
           (sum_of s rs1 op2 % byte_len w8 == 0) ready.first_live ready.second_live h refl (omega arith) ready.first_apart),
       λ _. refl,
     )
@@ -313,14 +268,9 @@ swap_acts rd rs1 op2 pages s t ready =
     let p : sum_of s rs1 op2 ≡ sum_of t rs1 op2 =
     same_sum rs1 op2 s t h.window (same_first (reg rs1) (op2_parts op2 ++ reg rd) s t same)
     (same_first (op2_parts op2) (reg rd) s t rest) in
-    let q : to_be_bytes w32 (register_of s rd) ≡ to_be_bytes w32 (register_of t rd) =
-    ap (to_be_bytes w32) (same_register rd s t h.window (same_rest (op2_parts op2) (reg rd) s t rest)) in (
-      subst (λ (z : ℕ). AreSameAfter pages (i.Swap rd rs1 op2) s t
-          (swap_step s rd (sum_of s rs1 op2)) (swap_step t rd z)) p
-          (subst (λ (z : List ℕ). AreSameAfter pages (i.Swap rd rs1 op2) s t
-          (swap_step s rd (sum_of s rs1 op2)) (exchange_step t w32 rd (sum_of s rs1 op2) z)) q
-          (exchange_aligned pages (i.Swap rd rs1 op2) rd (λ item w x. x) s t w32 (sum_of s rs1 op2)
+    let q = same_register rd s t h.window (same_rest (op2_parts op2) (reg rd) s t rest) in (
+      rw (← p, ← q) (exchange_aligned pages (i.Swap rd rs1 op2) rd (λ item w x. x) s t w32 (sum_of s rs1 op2)
           (to_be_bytes w32 (register_of s rd)) (sum_of s rs1 op2 % byte_len w32 == 0)
-          ready.first_live ready.second_live h refl (omega arith) ready.first_apart)),
+          ready.first_live ready.second_live h refl (omega arith) ready.first_apart),
       λ _. refl,
     )

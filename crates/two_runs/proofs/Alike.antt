@@ -1,12 +1,10 @@
 -- Every instruction that is no transfer does the same from two states that agree on what it reads.
-use Rattle.std.proofs.Common.{◌≡◌, false, sym, ◌∙◌, subst}
+use Rattle.std.proofs.Common.{◌≡◌, false, sym, ◌∙◌}
 use Rattle.v8_decode.specs.declared.Instr.{Instr}
 use Rattle.v8_decode.specs.declared.Instr.TheVariants as i
 use Rattle.v8_decode.specs.Words.{decode_of}
-use Rattle.v8_step.specs.State.{State}
-use Rattle.v8_step.specs.Step.{act, step_of}
 use Rattle.v8_step.specs.Items.{is_transfer}
-use Rattle.two_runs.specs.Alike.{AreSameAfter, ActsAlike, StepsAlike}
+use Rattle.two_runs.specs.Alike.{ActsAlike, StepsAlike}
 use Rattle.two_runs.proofs.RegistersAlike.{alu_acts, sethi_acts, read_y_acts, write_y_acts, stbar_acts, flush_acts, illegal_acts, privileged_acts, fp_off_acts, cp_off_acts}
 use Rattle.two_runs.proofs.AccessesAlike.{load_acts, store_acts, ldstub_acts, swap_acts}
 use Rattle.two_runs.proofs.Twins.{save_acts, restore_acts}
@@ -15,12 +13,9 @@ use Rattle.v8_step.proofs.Live.{live_step, live_puts}
 
 pub acts_alike : (instr : Instr) → is_transfer instr ≡ false → ActsAlike instr
 acts_alike (i.Sethi rd imm22) e = sethi_acts rd imm22
-acts_alike (i.Branch cond annul disp22) e = absurd (cc)
-acts_alike (i.Call disp30) e = absurd (cc)
 acts_alike (i.Alu op cc rd rs1 op2) e = alu_acts op cc rd rs1 op2
 acts_alike (i.ReadY rd) e = read_y_acts rd
 acts_alike (i.WriteY rs1 op2) e = write_y_acts rs1 op2
-acts_alike (i.Jmpl rd rs1 op2) e = absurd (cc)
 acts_alike (i.Ticc cond rs1 op2) e = ticc_acts cond rs1 op2
 acts_alike (i.Flush rs1 op2) e = flush_acts rs1 op2
 acts_alike i.Stbar e = stbar_acts
@@ -34,14 +29,14 @@ acts_alike i.Illegal e = illegal_acts
 acts_alike i.Privileged e = privileged_acts
 acts_alike i.FpOff e = fp_off_acts
 acts_alike i.CpOff e = cp_off_acts
+acts_alike instr e = absurd (cc)
 
 pub steps_alike : StepsAlike
 steps_alike word e pages s t ready fetched fetched' =
     let h = acts_alike (decode_of word) e pages s t ready in
     let p = live_step s word ready.first_live fetched in
     let q = live_step t word ready.second_live fetched' in (
-      subst (λ (z : State). AreSameAfter pages (decode_of word) s t z (step_of t)) (sym p)
-          (subst (λ (z : State). AreSameAfter pages (decode_of word) s t (act s (decode_of word)) z) (sym q) h.0),
+      rw (p, q) h.0,
       λ descriptor. live_puts s word descriptor ready.first_live fetched ∙ h.1 descriptor
           ∙ sym (live_puts t word descriptor ready.second_live fetched'),
     )

@@ -1,13 +1,12 @@
 -- From one step to whole runs.
-use Rattle.std.proofs.Common.{◌≡◌, ℕ, zero, suc, ◌+◌, ◌-◌, ◌<◌, ◌≤◌, Option, Some, None, [], ◌∷◌, ◌++◌, length, refl, ap, sym, ◌∙◌, subst, arith, ◌⊎◌, inl, inr, length-append, append-nil, add-suc}
+use Rattle.std.proofs.Common.{◌≡◌, ℕ, zero, suc, ◌+◌, ◌-◌, ◌<◌, ◌≤◌, Option, Some, None, [], ◌∷◌, ◌++◌, length, refl, ap, sym, ◌∙◌, subst, arith, inl, inr, length-append, append-nil, add-suc}
 use Rattle.std.proofs.lemmas.Bool.{cases_lt}
-use Rattle.notes.specs.Format.{Notes, range_at}
-use Rattle.v8_memory.specs.Regions.{byte_at, heap_end_of}
+use Rattle.notes.specs.Format.{Notes}
 use Rattle.v8_step.specs.declared.Ending.{Ending}
 use Rattle.v8_step.specs.State.{State}
 use Rattle.v8_step.specs.Step.{step_of}
 use Rattle.v8_step.specs.Run.{run, run_puts}
-use Rattle.two_runs.specs.Visits.{visit_of, visited, in_pages, trail_of, own_trail, as_list, if_live}
+use Rattle.two_runs.specs.Visits.{visit_of, trail_of, own_trail, as_list, if_live}
 use Rattle.two_runs.specs.TwoRuns.{GoesOn, Ends, MatchesBy, Answers, IsLeast, IsBounded}
 use Rattle.two_runs.specs.Follows.{IsQuiet, IsFollowed, RunsFollow}
 use Rattle.v8_step.proofs.Live.{stays_ended, puts_nothing}
@@ -17,9 +16,7 @@ use Rattle.v8_step.proofs.Live.{stays_ended, puts_nothing}
 still_ended : (t0 : State) (m k : ℕ) (d : Ending) → (run t0 m).ending ≡ Some d → (run t0 (m + k)).ending ≡ Some d
 still_ended t0 m zero d e = let s : m + 0 ≡ m = omega arith in ap (λ n. (run t0 n).ending) s ∙ e
 still_ended t0 m (suc k) d e =
-    let before = still_ended t0 m k d e in
-    ap (λ n. (run t0 n).ending) (add-suc m k)
-    ∙ ap (λ (s : State). s.ending) (stays_ended (run t0 (m + k)) d before) ∙ before
+    let before = still_ended t0 m k d e in rw (add-suc m k, stays_ended (run t0 (m + k)) d before) before
 
 ended_later : (t0 : State) (m k : ℕ) (d : Ending) → m ≤ k → (run t0 m).ending ≡ Some d → (run t0 k).ending ≡ Some d
 ended_later t0 m k d l e =
@@ -27,9 +24,7 @@ ended_later t0 m k d l e =
 
 -- a visit is of a run that goes on
 visit_lives : (notes : Notes) (t : State) (pc : ℕ) → visit_of notes t ≡ Some pc → (d : Ending) → t.ending ≡ Some d → ⊥
-visit_lives notes t pc v d e =
-    let none : visit_of notes t ≡ None =
-    ap (λ x. if_live x (visited (range_at notes t.pc) (in_pages notes t.pc) t.pc)) e in absurd (cc (v, none))
+visit_lives notes t pc v d e = cc (rw e at v)
 
 -- ---- trails
 
@@ -37,10 +32,8 @@ quiet_trail : (notes : Notes) (t0 : State) (m k : ℕ) → IsQuiet notes t0 m (m
     → trail_of notes t0 (m + k) ≡ trail_of notes t0 m
 quiet_trail notes t0 m zero q = let e : m + 0 ≡ m = omega arith in ap (trail_of notes t0) e
 quiet_trail notes t0 m (suc k) q =
-    ap (trail_of notes t0) (add-suc m k)
-    ∙ ap (λ x. trail_of notes t0 (m + k) ++ as_list x) (q (m + k) (omega arith) (omega arith)).1
-    ∙ append-nil (trail_of notes t0 (m + k))
-    ∙ quiet_trail notes t0 m k (λ j a b. q j a (omega arith))
+    rw (add-suc m k, (q (m + k) (omega arith) (omega arith)).1, append-nil (trail_of notes t0 (m + k)))
+    (quiet_trail notes t0 m k (λ j a b. q j a (omega arith)))
 
 quiet_between : (notes : Notes) (t0 : State) (m k : ℕ) → m ≤ k → IsQuiet notes t0 m k
     → trail_of notes t0 k ≡ trail_of notes t0 m
@@ -84,8 +77,7 @@ own_more s0 n e = ap (λ x. own_trail s0 n ++ as_list (if_live x (Some (run s0 n
 
 own_stays : (s0 : State) (n : ℕ) (d : Ending) → (run s0 n).ending ≡ Some d
     → own_trail s0 (suc n) ≡ own_trail s0 n
-own_stays s0 n d e =
-    ap (λ x. own_trail s0 n ++ as_list (if_live x (Some (run s0 n).pc))) e ∙ append-nil (own_trail s0 n)
+own_stays s0 n d e = rw (e, append-nil (own_trail s0 n))
 
 going : (notes : Notes) (s0 t0 : State) (n m : ℕ) (x : Option Ending) → x ≡ None
     → MatchesBy x notes s0 t0 n m → GoesOn notes s0 t0 n m
@@ -114,10 +106,8 @@ ends_still notes s0 t0 n m d e h =
         output = λ descriptor.
             ap (λ x. run_puts s0 n descriptor ++ x) (puts_nothing (run s0 n) d descriptor e)
             ∙ append-nil (run_puts s0 n descriptor) ∙ h.world.output descriptor;
-        heap_end = subst (λ (s : State). heap_end_of s.memory ≡ heap_end_of (run t0 m).memory) (sym same) h.world.heap_end;
-        memory = λ address l.
-            subst (λ (s : State). byte_at s.memory address ≡ byte_at (run t0 m).memory address) (sym same)
-            (h.world.memory address l);
+        heap_end = rw same h.world.heap_end;
+        memory = λ address l. rw same (h.world.memory address l);
       };
     }
 
@@ -161,26 +151,23 @@ module _ (notes : Notes) (s0 t0 : State) (early : ℕ) (limits moments : ℕ →
           let same : (run s0 (suc n)).ending ≡ Some c = ap (λ (s : State). s.ending) (stays_ended (run s0 n) c was) ∙ was in
           let one : Some c ≡ Some d = sym same ∙ e in
           subst (λ m. m ≤ k) (sym (f.stays n l c was)) (before (was ∙ one))
-      by None was = past (cases_lt k (moments (suc n)))
-        where
-          at : k < moments (suc n) → (moments n < k) ⊎ (k ≤ moments n) → moments (suc n) ≤ k
-          at less (inl after) = absurd (cc (((f.goes n l was).quiet k after less).0, h))
-          at less (inr earlier) =
+      by None was = elim (cases_lt k (moments (suc n))) [
+        | inr more ↦ more
+        | inl less ↦ elim (cases_lt (moments n) k) [
+          | inl after ↦ absurd (cc (((f.goes n l was).quiet k after less).0, h))
+          | inr earlier ↦
               absurd (visit_lives notes (run t0 (moments n)) (run s0 n).pc
               (going notes s0 t0 n (moments n) (run s0 n).ending was (f.matches n (omega arith))).visit d
               (ended_later t0 k (moments n) d earlier h))
-
-          past : (k < moments (suc n)) ⊎ (moments (suc n) ≤ k) → moments (suc n) ≤ k
-          past (inr more) = more
-          past (inl less) = at less (cases_lt (moments n) k)
+        ]
+      ]
 
   ends_at : (n : ℕ) (d : Ending) (k : ℕ) → n ≤ last → (run s0 n).ending ≡ Some d → (run t0 k).ending ≡ Some d
       → moments n ≤ k
-  ends_at zero d k l e h = by (cases_lt k (moments zero))
-    where
-      by : (k < moments zero) ⊎ (moments zero ≤ k) → moments zero ≤ k
-      by (inl less) = absurd (cc ((f.quiet k (omega arith) less).0, h))
-      by (inr more) = more
+  ends_at zero d k l e h = elim (cases_lt k (moments zero)) [
+    | inl less ↦ absurd (cc ((f.quiet k (omega arith) less).0, h))
+    | inr more ↦ more
+  ]
   ends_at (suc n) d k l e h = ends_next n d k l e h (λ was. ends_at n d k (omega arith) was h)
 
   least_by : (n : ℕ) (x : Option Ending) → (run s0 n).ending ≡ x → n ≤ last → (k : ℕ) → Answers notes s0 t0 n k

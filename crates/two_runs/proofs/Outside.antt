@@ -1,38 +1,27 @@
 -- Addresses outside the pages: their bytes, and the end of the heap, are the same in memories that are the
 -- same outside.
-use Rattle.std.proofs.Common.{◌≡◌, ℕ, ◌+◌, inl, inr, Bool, true, false, ◌&&◌, ◌||◌, nat_le, Option, Some, None, List, [], ◌∷◌, map, refl, ap, arith}
+use Rattle.std.proofs.Common.{◌≡◌, ℕ, ◌+◌, false, Option, Some, None, List, [], ◌∷◌, map, refl, ap, arith}
 use Rattle.std.specs.List.{list_any}
 use Rattle.std.specs.Option.{option_map}
-use Rattle.std.proofs.lemmas.Bool.{leb-false}
+use Rattle.std.proofs.lemmas.Bool.{or_parts}
+use Rattle.std.proofs.lemmas.Bool.Decides.{nat_tests}
 use Rattle.notes.specs.Format.{Notes, NoteSegment, holds}
 use Rattle.v8_memory.specs.Regions.{Memory, Region, part_of, region_at, byte_at, heap_end_of}
 use Rattle.v8_memory.specs.Spans.{Span, IsApart, IsApartFromAll, IsSameRegion, IsSameOutside}
 use Rattle.v8_memory.proofs.Same.{same_region}
 use Rattle.two_runs.specs.Visits.{page_of, pages_of, in_pages}
 
-apart_one : (address : ℕ) (segment : NoteSegment) (low high : Bool) → nat_le segment.start address ≡ low
-    → nat_le (address + 1) (segment.start + segment.length) ≡ high → (low && high) ≡ false
+apart_one : (address : ℕ) (segment : NoteSegment) → holds address (address + 1) segment ≡ false
     → IsApart (page_of segment) (record { from = address; count = 1 })
-apart_one address segment false high e f h = inr (omega (leb-false _ _ e, arith))
-apart_one address segment true false e f h = inl (omega (leb-false _ _ f, arith))
-apart_one address segment true true e f h = absurd (cc)
+apart_one address segment h = grind (arith, nat_tests)
 
 apart_all : (address : ℕ) (segments : List NoteSegment)
     → list_any (holds address (address + 1)) segments ≡ false
     → IsApartFromAll (map page_of segments) (record { from = address; count = 1 })
 apart_all address [] h = tt
-apart_all address (segment ∷ segments) h = (
-  apart_one address segment _ _ refl refl (first (holds address (address + 1) segment) _ h),
-  apart_all address segments (second (holds address (address + 1) segment) _ h),
-)
-  where
-    first : (a b : Bool) → (a || b) ≡ false → a ≡ false
-    first false b h = refl
-    first true b h = absurd (cc)
-
-    second : (a b : Bool) → (a || b) ≡ false → b ≡ false
-    second false b h = h
-    second true b h = absurd (cc)
+apart_all address (segment ∷ segments) h =
+    let parts = or_parts (holds address (address + 1) segment) _ h in
+    (apart_one address segment parts.0, apart_all address segments parts.1)
 
 pub apart_outside : (notes : Notes) (address : ℕ) → in_pages notes address ≡ false
     → IsApartFromAll (pages_of notes) (record { from = address; count = 1 })
@@ -42,8 +31,7 @@ byte_same : (address : ℕ) (x y : Option Region) → IsSameRegion x y
     → option_map (λ r. part_of r address 1) x ≡ option_map (λ r. part_of r address 1) y
 byte_same address None None h = refl
 byte_same address (Some r) (Some q) h = ap (λ (z : Region). Some (part_of z address 1)) h
-byte_same address None (Some q) h = absurd h
-byte_same address (Some r) None h = absurd h
+byte_same address x y h = absurd h
 
 pub byte_outside : (notes : Notes) (m n : Memory) (address : ℕ) → IsSameOutside (pages_of notes) m n
     → in_pages notes address ≡ false → byte_at m address ≡ byte_at n address

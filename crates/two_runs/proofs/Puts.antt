@@ -38,15 +38,13 @@ puts_call pages s t number a b c descriptor h apart =
         (if y then (if is_output a then buffer_span b c else []) else []))
         → (if y && z && w then unwrap_or (buffer_read s.memory b c) [] else [])
         ≡ (if y && z && w then unwrap_or (buffer_read t.memory b c) [] else [])
-    go x false z w e f g k apart = refl
-    go x true false w e f g k apart = refl
-    go x true true false e f g k apart = refl
     go true true true true e f g k apart = absurd (grind (arith, nat_tests))
     go false true true true e f g k apart =
         let q : is_output a ≡ true = ap is_output (eqb-true a descriptor g) ∙ k in
         ap (λ z. unwrap_or z [])
         (buffer_reads pages s.memory t.memory b c h.memory
-        (subst (λ (z : Bool). AllApart pages (if z then buffer_span b c else [])) q apart))
+        (rw q at apart))
+    go x y z w e f g k apart = refl
 
 written_same : (pages : List Span) (s t : State) (descriptor : ℕ) → AreTwins pages s t
     → AllApart pages (judged_by_call s (register_of s 1) (register_of s 8) (register_of s 9) (register_of s 10))

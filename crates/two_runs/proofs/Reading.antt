@@ -1,12 +1,12 @@
 -- States that agree on the parts that are read agree on the values read, and the same write leaves them so.
-use Rattle.std.proofs.Common.{◌≡◌, ℕ, zero, suc, ◌+◌, ◌^◌, ◌%◌, ◌⊎◌, inl, inr, List, [], ◌∷◌, ◌++◌, length, get_or, set, refl, ap, sym, ◌∙◌, arith}
+use Rattle.std.proofs.Common.{◌≡◌, ℕ, zero, suc, ◌⊎◌, inl, inr, List, [], ◌∷◌, ◌++◌, length, get_or, set, refl, ap, sym, ◌∙◌, arith}
 use Rattle.std.specs.Prelude.{slice_index}
 use Rattle.std.proofs.lemmas.Grind.{common_steps}
 use Rattle.v8_decode.specs.declared.Op2.{Op2}
 use Rattle.v8_decode.specs.declared.Op2.TheVariants as o
 use Rattle.v8_decode.specs.declared.Instr.{Instr}
 use Rattle.v8_decode.specs.declared.Part.{Part}
-use Rattle.v8_decode.specs.declared.Part.TheVariants.{Reg, Icc, Y}
+use Rattle.v8_decode.specs.declared.Part.TheVariants.{Reg}
 use Rattle.v8_decode.specs.Effects.{reg, op2_parts}
 use Rattle.v8_memory.specs.Spans.{Span}
 use Rattle.v8_windows.specs.Registers.{place_of, register_set}
@@ -42,14 +42,11 @@ same_operand (o.Imm z) s t w h = refl
 pub same_inputs : (ps : List Part) (s t : State) → AreSameAt ps s t → AgreeOn ps s.codes t.codes s.y t.y
 same_inputs [] s t h = tt
 same_inputs (Reg r ∷ ps) s t h = same_inputs ps s t h.1
-same_inputs (Icc ∷ ps) s t h = (h.0, same_inputs ps s t h.1)
-same_inputs (Y ∷ ps) s t h = (h.0, same_inputs ps s t h.1)
+same_inputs (p ∷ ps) s t h = (h.0, same_inputs ps s t h.1)
 
 pub same_sum : (rs1 : ℕ) (op2 : Op2) (s t : State) → s.window ≡ t.window → AreSameAt (reg rs1) s t
     → AreSameAt (op2_parts op2) s t → sum_of s rs1 op2 ≡ sum_of t rs1 op2
-same_sum rs1 op2 s t w h g =
-    ap (λ z. (z + operand_of s op2) % 2 ^ 32) (same_register rs1 s t w h)
-    ∙ ap (λ z. (register_of t rs1 + z) % 2 ^ 32) (same_operand op2 s t w g)
+same_sum rs1 op2 s t w h g = rw (same_register rs1 s t w h, same_operand op2 s t w g)
 
 -- ---- writing
 
@@ -82,14 +79,10 @@ among_assoc item w (p ∷ ps) qs rs (inr h) = inr (among_assoc item w ps qs rs h
 
 -- a register names neither the codes nor Y
 pub no_codes : (w r : ℕ) → IsAmong Codes w (reg r) → ⊥
-no_codes w zero h = h
-no_codes w (suc r) (inl e) = cc
-no_codes w (suc r) (inr e) = e
+no_codes w r h = grind arith
 
 pub no_y : (w r : ℕ) → IsAmong YRegister w (reg r) → ⊥
-no_y w zero h = h
-no_y w (suc r) (inl e) = cc
-no_y w (suc r) (inr e) = e
+no_y w r h = grind arith
 
 -- ---- states that end alike
 

@@ -1,5 +1,5 @@
 -- Instructions on registers alone do the same from states that agree on what they read.
-use Rattle.std.proofs.Common.{◌≡◌, ℕ, ◌⊎◌, inl, inr, Bool, true, false, None, Result, Ok, Err, List, [], ◌∷◌, ◌++◌, length, refl, ap, sym, ◌∙◌, subst}
+use Rattle.std.proofs.Common.{◌≡◌, ℕ, ◌⊎◌, inl, inr, Bool, true, None, Result, Ok, Err, List, [], ◌∷◌, ◌++◌, length, refl, ap, sym, ◌∙◌, arith}
 use Rattle.std.specs.Prelude.{slice_index, bit_xor}
 use Rattle.v8_decode.specs.declared.AluOp.{AluOp}
 use Rattle.v8_decode.specs.declared.Op2.{Op2}
@@ -15,7 +15,6 @@ use Rattle.v8_alu.specs.declared.AluOut.{AluOut}
 use Rattle.v8_alu.specs.declared.AluTrap.{AluTrap}
 use Rattle.v8_alu.specs.declared.AluTrap.TheVariants.{DivZero, TagOverflow}
 use Rattle.v8_step.specs.declared.Ending.TheVariants.{Trap}
-use Rattle.v8_alu.specs.Alu.{alu_of}
 use Rattle.v8_step.specs.State.{State, register_of, with_register, operand_of}
 use Rattle.v8_step.specs.Traps.{division_by_zero, tag_overflow, illegal_instruction, privileged_instruction, fp_disabled, cp_disabled}
 use Rattle.v8_step.specs.Transfers.{next}
@@ -27,26 +26,13 @@ use Rattle.v8_alu.proofs.Alike.{alu_of-alike}
 use Rattle.two_runs.proofs.Reading.{same_assoc, same_first, same_rest, same_register, same_operand, same_inputs, place_one, among_split, among_assoc, no_codes, no_y, ended_alike, same_lengths}
 
 no_place : (n w : ℕ) (sets writes : Bool) → IsAmong (Register n) w (when sets (Icc ∷ []) ++ when writes (Y ∷ [])) → ⊥
-no_place n w true true (inl e) = cc
-no_place n w true true (inr (inl e)) = cc
-no_place n w true true (inr (inr e)) = e
-no_place n w true false (inl e) = cc
-no_place n w true false (inr e) = e
-no_place n w false true (inl e) = cc
-no_place n w false true (inr e) = e
-no_place n w false false e = e
+no_place n w sets writes h = grind arith
 
 named_codes : (w : ℕ) (sets writes : Bool) → IsAmong Codes w (when sets (Icc ∷ []) ++ when writes (Y ∷ [])) → sets ≡ true
-named_codes w true writes h = refl
-named_codes w false true (inl e) = absurd (cc)
-named_codes w false true (inr e) = absurd e
-named_codes w false false e = absurd e
+named_codes w sets writes h = grind arith
 
 named_y : (w : ℕ) (sets writes : Bool) → IsAmong YRegister w (when sets (Icc ∷ []) ++ when writes (Y ∷ [])) → writes ≡ true
-named_y w sets true h = refl
-named_y w true false (inl e) = absurd (cc)
-named_y w true false (inr e) = absurd e
-named_y w false false e = absurd e
+named_y w sets writes h = grind arith
 
 items_after : (sets writes : Bool) (rd : ℕ) (s t : State) (v v' : ℕ) (k k' : Flags) (y y' : ℕ)
     → s.window ≡ t.window → length s.registers ≡ length t.registers → v ≡ v'
@@ -99,10 +85,9 @@ register_items rd s t v v' w l ev (Register n) h =
     place_one s.registers t.registers s.window rd v n l h
     ∙ ap (λ z. slice_index (register_set t.registers z rd v) n) w
     ∙ ap (λ z. slice_index (register_set t.registers t.window rd z) n) ev
-register_items rd s t v v' w l ev Codes (inr h) = h
 register_items rd s t v v' w l ev Codes (inl h) = absurd (no_codes s.window rd h)
-register_items rd s t v v' w l ev YRegister (inr h) = h
 register_items rd s t v v' w l ev YRegister (inl h) = absurd (no_y s.window rd h)
+register_items rd s t v v' w l ev item (inr h) = h
 
 outs_alike : (pages : List Span) (op : AluOp) (sets : Bool) (rd rs1 : ℕ) (op2 : Op2) (s t : State)
     (r q : Result AluOut AluTrap) → s.ending ≡ None → t.ending ≡ None → IsSameWorld pages s t
@@ -121,8 +106,7 @@ outs_alike pages op sets rd rs1 op2 s t (Err TagOverflow) (Err TagOverflow) e f 
     ended_alike pages (i.Alu op sets rd rs1 op2) s t (Trap tag_overflow) h
 outs_alike pages op sets rd rs1 op2 s t (Err DivZero) (Err TagOverflow) e f h z = absurd (cc)
 outs_alike pages op sets rd rs1 op2 s t (Err TagOverflow) (Err DivZero) e f h z = absurd (cc)
-outs_alike pages op sets rd rs1 op2 s t (Ok o) (Err d) e f h z = absurd z
-outs_alike pages op sets rd rs1 op2 s t (Err d) (Ok p) e f h z = absurd z
+outs_alike pages op sets rd rs1 op2 s t r q e f h z = absurd z
 
 pub alu_acts : (op : AluOp) (sets : Bool) (rd rs1 : ℕ) (op2 : Op2) → ActsAlike (i.Alu op sets rd rs1 op2)
 unfolding act puts_by
@@ -134,13 +118,7 @@ alu_acts op sets rd rs1 op2 pages s t ready =
     let q = same_operand op2 s t h.window (same_first (op2_parts op2) (alu_inputs op) s t rest) in
     let u = same_inputs (alu_inputs op) s t (same_rest (op2_parts op2) (alu_inputs op) s t rest) in (
       outs_alike pages op sets rd rs1 op2 s t _ _ ready.first_live ready.second_live h
-          (subst (λ (n : ℕ). AreAlike sets (writes_y op) s.codes t.codes s.y t.y
-          (alu_of op sets (register_of s rs1) (operand_of s op2) s.codes s.y)
-          (alu_of op sets n (operand_of t op2) t.codes t.y)) p
-          (subst (λ (n : ℕ). AreAlike sets (writes_y op) s.codes t.codes s.y t.y
-          (alu_of op sets (register_of s rs1) (operand_of s op2) s.codes s.y)
-          (alu_of op sets (register_of s rs1) n t.codes t.y)) q
-          (alu_of-alike op sets (register_of s rs1) (operand_of s op2) s.codes t.codes s.y t.y u))),
+          (rw (← p, ← q) (alu_of-alike op sets (register_of s rs1) (operand_of s op2) s.codes t.codes s.y t.y u)),
       λ _. refl,
     )
 
@@ -154,13 +132,9 @@ register_acts : (pages : List Span) (instr : Instr) (rd v v' : ℕ) (s t : State
 register_acts pages instr rd v v' s t e f h ev named = record {
   ending = e ∙ sym f;
   world = world_after pages rd s t v v' s.codes t.codes s.y t.y h;
-  items = λ _ item g. register_items rd s t v v' h.window h.registers ev item (among item g);
+  items = λ _ item g. register_items rd s t v v' h.window h.registers ev item
+      (elim g [ inl x ↦ inl (named item x) | inr x ↦ inr x ]);
 }
-  where
-    among : (item : StateItem) → IsAmong item s.window (writes_of instr) ⊎ IsSameAt item s t
-        → IsAmong item s.window (reg rd) ⊎ IsSameAt item s t
-    among item (inl x) = inl (named item x)
-    among item (inr x) = inr x
 
 pub sethi_acts : (rd imm22 : ℕ) → ActsAlike (i.Sethi rd imm22)
 unfolding act puts_by
@@ -179,13 +153,7 @@ read_y_acts rd pages s t ready = (
 -- nothing that the items or the world have is changed but Y
 y_items : (s t : State) (y y' : ℕ) → y ≡ y' → (item : StateItem) → IsAmong item s.window (Y ∷ []) ⊎ IsSameAt item s t
     → IsSameAt item (next (record s { y = y })) (next (record t { y = y' }))
-y_items s t y y' e (Register n) (inr h) = h
-y_items s t y y' e (Register n) (inl (inl h)) = absurd (cc)
-y_items s t y y' e (Register n) (inl (inr h)) = absurd h
-y_items s t y y' e Codes (inr h) = h
-y_items s t y y' e Codes (inl (inl h)) = absurd (cc)
-y_items s t y y' e Codes (inl (inr h)) = absurd h
-y_items s t y y' e YRegister h = e
+y_items s t y y' e item h = grind arith
 
 pub write_y_acts : (rs1 : ℕ) (op2 : Op2) → ActsAlike (i.WriteY rs1 op2)
 unfolding act puts_by
@@ -203,34 +171,25 @@ write_y_acts rs1 op2 pages s t ready =
     )
 
 idle_items : (s t : State) (item : StateItem) → ⊥ ⊎ IsSameAt item s t → IsSameAt item (next s) (next t)
-idle_items s t item (inl h) = absurd h
-idle_items s t (Register n) (inr h) = h
-idle_items s t Codes (inr h) = h
-idle_items s t YRegister (inr h) = h
+idle_items s t item h = grind arith
 
-idle_after : (pages : List Span) (s t : State) → s.ending ≡ None → t.ending ≡ None → IsSameWorld pages s t
-    → AreSameAfter pages i.Stbar s t (next s) (next t)
-idle_after pages s t e f h = record {
+idle_after : (pages : List Span) (instr : Instr) (s t : State) → writes_of instr ≡ [] → s.ending ≡ None
+    → t.ending ≡ None → IsSameWorld pages s t → AreSameAfter pages instr s t (next s) (next t)
+idle_after pages instr s t none e f h = record {
   ending = e ∙ sym f;
   world = assumption;
-  items = λ _ item g. idle_items s t item g;
+  items = λ _ item g. idle_items s t item (rw none at g);
 }
 
 pub stbar_acts : ActsAlike i.Stbar
 unfolding act puts_by
-stbar_acts pages s t ready = (idle_after pages s t ready.first_live ready.second_live ready.world, λ _. refl)
+stbar_acts pages s t ready =
+    (idle_after pages i.Stbar s t refl ready.first_live ready.second_live ready.world, λ _. refl)
 
 pub flush_acts : (rs1 : ℕ) (op2 : Op2) → ActsAlike (i.Flush rs1 op2)
 unfolding act puts_by
 flush_acts rs1 op2 pages s t ready =
-    let h = ready.world in (
-      record {
-        ending = ready.first_live ∙ sym ready.second_live;
-        world = assumption;
-        items = λ _ item g. idle_items s t item g;
-      },
-      λ _. refl,
-    )
+    (idle_after pages (i.Flush rs1 op2) s t refl ready.first_live ready.second_live ready.world, λ _. refl)
 
 -- ---- the words that end the run
 

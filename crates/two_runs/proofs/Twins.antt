@@ -1,6 +1,6 @@
 -- Twins: states that are the same but for pc, npc, slot, and memory in the pages. SAVE, RESTORE and Ticc, which
 -- read every item, lead twins to twins.
-use Rattle.std.proofs.Common.{◌≡◌, ◌<◌, ℕ, zero, suc, ◌+◌, ◌-◌, ◌^◌, ◌%◌, Bool, true, false, Option, Some, None, List, [], ◌∷◌, length, take, drop, refl, ap, sym, ◌∙◌, subst, arith}
+use Rattle.std.proofs.Common.{◌≡◌, ◌<◌, ℕ, zero, suc, ◌+◌, ◌-◌, ◌%◌, Bool, true, false, Option, Some, None, List, [], ◌∷◌, length, take, drop, refl, ap, sym, ◌∙◌, subst, arith}
 use Rattle.std.specs.Prelude.{slice_index, if◌then◌else◌, ◌==◌}
 use Rattle.std.proofs.Math.Seq.{ext_get_or}
 use Rattle.v8_decode.specs.declared.Op2.{Op2}
@@ -9,7 +9,7 @@ use Rattle.v8_decode.specs.declared.Instr.{Instr}
 use Rattle.v8_decode.specs.declared.Instr.TheVariants as i
 use Rattle.v8_decode.specs.Effects.{reads_all}
 use Rattle.v8_memory.specs.Regions.{Memory, Region, bytes_at, with_bytes, with_heap_end, buffer_written, buffer_read, is_heap_end}
-use Rattle.v8_memory.specs.Spans.{Span, AllApart, IsApartFromAll, IsSameOutside}
+use Rattle.v8_memory.specs.Spans.{Span, AllApart, IsSameOutside}
 use Rattle.v8_memory.specs.Laws.{AreSameWrites}
 use Rattle.v8_memory.proofs.Same.{bytes_same, with_bytes-same}
 use Rattle.v8_windows.specs.Registers.{register_in, register_set, window_before, window_after}
@@ -95,8 +95,7 @@ same_arguments pages s t f h =
 pub twin_sum : (pages : List Span) (s t : State) (rs1 : ℕ) (op2 : Op2) → AreTwins pages s t
     → sum_of s rs1 op2 ≡ sum_of t rs1 op2
 twin_sum pages s t rs1 op2 h =
-    ap (λ z. (z + operand_of s op2) % 2 ^ 32) (twin_register pages s t rs1 h)
-    ∙ ap (λ z. (register_of t rs1 + z) % 2 ^ 32) (operand op2)
+    rw (twin_register pages s t rs1 h, operand op2)
   where
     operand : (op2 : Op2) → operand_of s op2 ≡ operand_of t op2
     operand (o.Reg r) = twin_register pages s t r h
@@ -109,8 +108,7 @@ twins_on_memory : (pages : List Span) (s t : State) (d : Ending) (m n : Option M
     → AreTwins pages (on_memory s d m f) (on_memory t d n f)
 twins_on_memory pages s t d None None f h e k = twins_ended pages s t d h
 twins_on_memory pages s t d (Some m) (Some n) f h e k = k m n e
-twins_on_memory pages s t d None (Some n) f h e k = absurd e
-twins_on_memory pages s t d (Some m) None f h e k = absurd e
+twins_on_memory pages s t d m n f h e k = absurd e
 
 -- ---- SAVE
 
@@ -119,8 +117,7 @@ frame_writes : (pages : List Span) (m n : Memory) (a : ℕ) (bytes : List ℕ) (
     → AreSameWrites pages (if b then with_bytes m a bytes else None) (if b then with_bytes n a bytes else None)
 frame_writes pages m n a bytes false h l apart = tt
 frame_writes pages m n a bytes true h l apart =
-    with_bytes-same pages m n a bytes h (omega arith)
-    (subst (λ (z : ℕ). IsApartFromAll pages (record { from = a; count = z })) (sym l) apart.0)
+    with_bytes-same pages m n a bytes h (omega arith) (rw l apart.0)
 
 same_oldest : (pages : List Span) (s t : State) → AreTwins pages s t → oldest_window s ≡ oldest_window t
 same_oldest pages s t h = ap (λ z. oldest_of z s.valid) h.window ∙ ap (λ z. oldest_of t.window z) h.valid
@@ -241,8 +238,7 @@ spills_after pages n s t h rec None None e f = twins_ended pages s t Window h
 spills_after pages n s t h rec (Some a) (Some b) e f =
     rec (record s { memory = a; valid = s.valid - 1 }) (record t { memory = b; valid = t.valid - 1 })
     (twins_saved pages s t a b h e) f
-spills_after pages n s t h rec None (Some b) e f = absurd e
-spills_after pages n s t h rec (Some a) None e f = absurd e
+spills_after pages n s t h rec a b e f = absurd e
 
 twins_spills : (pages : List Span) (n : ℕ) (s t : State) → AreTwins pages s t → AllApart pages (judged_by_spills n s)
     → AreTwins pages (spill_many n s) (spill_many n t)
@@ -278,8 +274,7 @@ twins_read pages s t k None None h e = twins_answered pages s t true EFAULT h
 twins_read pages s t k (Some a) (Some b) h e =
     twins_answered pages (record s { memory = a; input = drop k s.input }) (record t { memory = b; input = drop k t.input })
     false k (assumption (ap (drop k) h.input))
-twins_read pages s t k None (Some b) h e = absurd e
-twins_read pages s t k (Some a) None h e = absurd e
+twins_read pages s t k a b h e = absurd e
 
 twins_wrote : (pages : List Span) (s t : State) (k : ℕ) (x : Option (List ℕ)) → AreTwins pages s t
     → AreTwins pages (write_from k s x) (write_from k t x)
@@ -343,8 +338,7 @@ trap_by : (pages : List Span) (s t : State) (n : ℕ) (spills call : Bool) → A
     (if spills then spill_many (s.valid - 1) s else if call then system_step s else ended s (Trap (trap_instruction n)))
     (if spills then spill_many (t.valid - 1) t else if call then system_step t else ended t (Trap (trap_instruction n)))
 trap_by pages s t n true call h apart =
-    subst (λ (z : ℕ). AreTwins pages (spill_many (s.valid - 1) s) (spill_many (z - 1) t)) h.valid
-    (twins_spills pages (s.valid - 1) s t h apart)
+    subst (λ z. AreTwins pages (spill_many (s.valid - 1) s) (spill_many (z - 1) t)) h.valid (twins_spills pages _ s t h apart)
 trap_by pages s t n false true h apart =
     subst (λ (z : State). AreTwins pages (system_step s) z) (same_arguments pages s t (system_call t) h)
     (twins_call pages s t (register_of s 1) (register_of s 8) (register_of s 9) (register_of s 10) h apart)
