@@ -1,31 +1,30 @@
 -- The lists from which blocks are made say what the definitions say.
-use Rattle.std.proofs.Common.{◌≡◌, ℕ, zero, suc, ◌-◌, ◌<◌, ◌≤◌, Bool, true, false, not, ◌||◌, ◌&&◌, ◌==◌, nat_le, cond, List, [], ◌∷◌, ◌++◌, length, map, filter, slice_index, refl, ap, sym, ◌∙◌, arith, inl, inr, ◌⊎◌}
+use Rattle.std.proofs.Common.{◌≡◌, ℕ, zero, suc, ◌-◌, ◌<◌, ◌≤◌, Bool, true, false, not, ◌||◌, ◌&&◌, nat_le, List, [], ◌∷◌, ◌++◌, length, map, filter, slice_index, refl, ap, ◌∙◌, arith}
 use Rattle.std.specs.List.{list_any, flat_map}
 use Rattle.std.proofs.lemmas.List.{append-nil, get_or-map, length-map}
 use Rattle.std.proofs.lemmas.List.Elements.{filter-append}
 use Rattle.std.proofs.lemmas.List.Folds.{list_any-append}
 use Rattle.std.proofs.lemmas.Grind.{flat_map-append}
-use Rattle.std.proofs.lemmas.Bool.{cases_lt, lt-ltb, le-ltb}
 use Rattle.eel_base.specs.CodeText.{Words}
 use Rattle.eel_base.specs.declared.numbers.WordNo.{WordNo}
 use Rattle.cfg_blocks.specs.declared.BlockEnd.{BlockEnd}
 use Rattle.cfg_blocks.specs.declared.BlockEnd.TheVariants.{Fall}
 use Rattle.cfg_blocks.specs.declared.Into.{Into}
 use Rattle.cfg_blocks.specs.declared.Into.TheVariants.{Nothing}
-use Rattle.cfg_blocks.specs.Ends.{Way, end_at, is_transfer, target_in}
-use Rattle.cfg_blocks.specs.Blocks.{Blocks, below, is_it, is_target, follows_transfer, is_among, leads, leaders, blocks_of, last_word, AreFirsts}
+use Rattle.cfg_blocks.specs.Ends.{Way, end_at, is_transfer}
+use Rattle.cfg_blocks.specs.Blocks.{Blocks, below, is_target, follows_transfer, is_among, leads, leaders, blocks_of, last_word, AreFirsts}
 use Rattle.cfg_blocks.specs.Entries.{Entered, Entry, all_entries, entered_of, entries_from, into_of, is_bare_slot, is_counted, is_empty, is_fall, leads_to, ways_from}
 use Rattle.cfg_blocks.specs.Marks.{block_end_in, end_in, is_in, leads_in, marked, numbers, word_ends}
-use Rattle.cfg_blocks.specs.Arrivals.{added_all, counted, counted_from, entered_in, into_in, is_bare_by, is_led_by, is_led_from}
+use Rattle.cfg_blocks.specs.Arrivals.{added_all, counted, counted_from, entered_in, into_in, is_bare_by, is_led_from}
 use Rattle.cfg_blocks.proofs.Below.{any_below_same, length-below, get_or-below, list_any-map, filter_below_same, filter_below_firsts, map_below_same}
-use Rattle.cfg_blocks.proofs.Entering.{counted_from_more, counted_from_same, into_by-added}
+use Rattle.cfg_blocks.proofs.Entering.{counted_from_same, into_by-added}
+use Rattle.cfg_blocks.proofs.Held.{ends_within, some_words}
 
 -- ---- how control leaves each word
 
 pub length-word_ends : (text : Words) → length (word_ends text) ≡ length text.words
 unfolding word_ends
-length-word_ends text = length-map (below (length text.words)) (end_at text)
-    ∙ length-below (length text.words)
+length-word_ends text = simp (length-map, length-below)
 
 end_in-word_ends : (text : Words) (k : ℕ) → k < length text.words → end_in (word_ends text) k ≡ end_at text k
 unfolding word_ends
@@ -37,8 +36,7 @@ end_in-word_ends text k h =
 is_target-word_ends : (text : Words) (k : ℕ)
     → is_target (length (word_ends text)) (end_in (word_ends text)) k ≡ is_target (length text.words) (end_at text) k
 is_target-word_ends text k =
-    rw (length-word_ends text) (any_below_same (length text.words) _ _
-    (λ other h. ap (λ end. is_it k (target_in end)) (end_in-word_ends text other h)))
+    rw (length-word_ends text) (any_below_same _ _ _ (λ other h. rw (end_in-word_ends text other h) refl))
 
 follows-word_ends : (text : Words) (back k : ℕ) → k < length text.words
     → follows_transfer (end_in (word_ends text)) back k ≡ follows_transfer (end_at text) back k
@@ -49,14 +47,7 @@ follows-word_ends text back k h =
 
 pub given_by : (starts marks : List WordNo) (k : ℕ)
     → (is_in starts k || is_in marks k) ≡ is_among (numbers starts ++ numbers marks) k
-given_by starts marks k =
-    let front : list_any (λ other. other == k) (numbers starts) ≡ is_in starts k =
-    list_any-map (λ other. other == k) (λ word. word.0) starts in
-    let back : list_any (λ other. other == k) (numbers marks) ≡ is_in marks k =
-    list_any-map (λ other. other == k) (λ word. word.0) marks in
-    sym (list_any-append (λ other. other == k) (numbers starts) (numbers marks)
-    ∙ ap (λ x. x || list_any (λ other. other == k) (numbers marks)) front
-    ∙ ap (λ x. is_in starts k || x) back)
+given_by starts marks k = simp (list_any-append, list_any-map)
 
 abbrev IsGiven : Words → List ℕ → List Bool → Type 0
 IsGiven text given marks = (k : ℕ) → k < length text.words
@@ -81,21 +72,13 @@ firsts_of : (text : Words) (given : List ℕ) → 1 ≤ length text.words
 unfolding leaders
 firsts_of text given some = filter_below_firsts (length text.words) (leads (length text.words) (end_at text) (is_among given)) some refl
 
-last_word_within : (words : ℕ) (firsts : List ℕ) (block : ℕ) → AreFirsts words firsts
-    → block < length firsts → last_word firsts words block < words
-last_word_within words firsts block f h = next (cases_lt (suc block) (length firsts))
-  where
-    next : (suc block < length firsts) ⊎ (length firsts ≤ suc block) → last_word firsts words block < words
-    next (inl l) = rw (lt-ltb _ _ l) (omega (arith, f.within (suc block) l))
-    next (inr m) = rw (le-ltb _ _ m) (omega (arith, f.within block h))
-
 block_end_alike : (text : Words) (firsts : List ℕ) (block : ℕ) → AreFirsts (length text.words) firsts
     → block < length firsts
     → block_end_in (word_ends text) firsts block ≡ end_at text (last_word firsts (length text.words) block)
 unfolding block_end_in
 block_end_alike text firsts block f h =
-    rw (length-word_ends text) (end_in-word_ends text (last_word firsts (length text.words) block)
-    (last_word_within (length text.words) firsts block f h))
+    let some = some_words _ firsts f block h in
+    rw (length-word_ends text) (end_in-word_ends text _ (omega (arith, ends_within _ firsts f block h)))
 
 -- ---- what leads to a block
 
@@ -111,12 +94,7 @@ is_empty-append (x ∷ xs) ys = refl
 is_empty-map : (f : Way → Entry) (p : Way → Bool) (ways : List Way)
     → is_empty (map f (filter p ways)) ≡ not (list_any p ways)
 is_empty-map f p [] = refl
-is_empty-map f p (way ∷ ways) = first (p way) (is_empty-map f p ways)
-  where
-    first : (b : Bool) → is_empty (map f (filter p ways)) ≡ not (list_any p ways)
-        → is_empty (map f (cond b (way ∷ filter p ways) (filter p ways))) ≡ not (b || list_any p ways)
-    first true h = refl
-    first false h = h
+is_empty-map f p (way ∷ ways) = grind (arith, is_empty-map f p ways)
 
 not-or : (x y : Bool) → (not x && not y) ≡ not (x || y)
 not-or true y = refl
@@ -126,16 +104,12 @@ is_empty-flat_map : (f : ℕ → List Entry) (led : ℕ → Bool) (xs : List ℕ
     → ((x : ℕ) → is_empty (f x) ≡ not (led x)) → is_empty (flat_map f xs) ≡ not (list_any led xs)
 is_empty-flat_map f led [] each = refl
 is_empty-flat_map f led (x ∷ xs) each =
-    is_empty-append (f x) (flat_map f xs) ∙ ap (λ b. b && is_empty (flat_map f xs)) (each x)
-    ∙ ap (λ b. not (led x) && b) (is_empty-flat_map f led xs each) ∙ not-or (led x) (list_any led xs)
+    simp (is_empty-append, each x, is_empty-flat_map f led xs each, not-or)
 
 is_empty-all_entries : (b : Blocks) (block : ℕ)
     → is_empty (all_entries b block) ≡ not (is_led_from b (length b.firsts) (slice_index b.firsts block))
 is_empty-all_entries b block =
-    is_empty-flat_map (entries_from b (slice_index b.firsts block))
-    (λ other. is_led_by (ways_from b other) (slice_index b.firsts block)) (below (length b.firsts))
-    (λ other. is_empty-map (λ way. record { from = other; kind = way.kind })
-    (λ way. leads_to (slice_index b.firsts block) way.to) (ways_from b other))
+    is_empty-flat_map _ _ (below (length b.firsts)) (λ other. is_empty-map _ _ (ways_from b other))
 
 bare_alike : (text : Words) (given : List ℕ) (marks : List Bool) (b : Blocks) (block : ℕ)
     → IsGiven text given marks → slice_index b.firsts block < length text.words
@@ -149,26 +123,13 @@ counted_alike : (text : Words) (given : List ℕ) (b : Blocks) (count word : ℕ
     ≡ counted_from b (is_bare_slot (end_at text) (is_among given) b) count word
 counted_alike text given b zero word = refl
 counted_alike text given b (suc count) word =
-    let entries : flat_map (entries_from b word) (below count ++ count ∷ [])
-    ≡ flat_map (entries_from b word) (below count) ++ flat_map (entries_from b word) (count ∷ []) =
-    flat_map-append (entries_from b word) (below count) (count ∷ []) in
-    let last : flat_map (entries_from b word) (count ∷ []) ≡ entries_from b word count =
-    append-nil (entries_from b word count) in
     let here : filter (is_counted (end_at text) (is_among given) b) (entries_from b word count)
     ≡ counted count (is_bare_slot (end_at text) (is_among given) b count) (ways_from b count) word =
     filter_map_same (is_counted (end_at text) (is_among given) b)
     (λ entry. not (is_fall entry.kind && is_bare_slot (end_at text) (is_among given) b count))
     (λ way. record { from = count; kind = way.kind })
     (filter (λ way. leads_to word way.to) (ways_from b count)) (λ way. refl) in
-    ap (filter (is_counted (end_at text) (is_among given) b)) entries
-    ∙ filter-append (is_counted (end_at text) (is_among given) b) (flat_map (entries_from b word) (below count))
-    (flat_map (entries_from b word) (count ∷ []))
-    ∙ ap (λ es. filter (is_counted (end_at text) (is_among given) b) (flat_map (entries_from b word) (below count)) ++ filter
-    (is_counted (end_at text) (is_among given) b) es) last
-    ∙ ap (λ es. es ++ filter (is_counted (end_at text) (is_among given) b) (entries_from b word count))
-    (counted_alike text given b count word)
-    ∙ ap (λ es. counted_from b (is_bare_slot (end_at text) (is_among given) b) count word ++ es) here
-    ∙ sym (counted_from_more b (is_bare_slot (end_at text) (is_among given) b) count word)
+    simp (flat_map-append, append-nil, filter-append, counted_alike text given b count word, here)
 
 into_alike : (text : Words) (given : List ℕ) (marks : List Bool) (b : Blocks) (block : ℕ)
     → IsGiven text given marks
@@ -176,14 +137,9 @@ into_alike : (text : Words) (given : List ℕ) (marks : List Bool) (b : Blocks) 
     → into_in b (word_ends text) marks block ≡ into_of text given b block
 unfolding into_in into_of
 into_alike text given marks b block g within =
-    let first = slice_index b.firsts block in
-    let edges : counted_from b (is_bare_by b (word_ends text) marks) (length b.firsts) first
-    ≡ filter (is_counted (end_at text) (is_among given) b) (all_entries b block) =
-    counted_from_same b _ _ (length b.firsts) first
-    (λ k h. bare_alike text given marks b k g (within k h))
-    ∙ sym (counted_alike text given b (length b.firsts) first) in
-    ap (λ es. added_all Nothing es) edges
-    ∙ sym (into_by-added (filter (is_counted (end_at text) (is_among given) b) (all_entries b block)))
+    rw (into_by-added, counted_alike) (ap (added_all Nothing) (counted_from_same b
+    (is_bare_by b (word_ends text) marks) (is_bare_slot (end_at text) (is_among given) b) _ _
+    (λ k h. bare_alike text given marks b k g (within k h))))
 
 -- ---- the whole list
 

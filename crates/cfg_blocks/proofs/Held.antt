@@ -1,10 +1,10 @@
 -- The block that holds a word.
-use Rattle.std.proofs.Common.{◌≡◌, ℕ, zero, suc, ◌-◌, ◌<◌, ◌≤◌, true, false, nat_le, List, length, slice_index, count_by, sym, arith, inl, inr, subst}
+use Rattle.std.proofs.Common.{◌≡◌, ℕ, zero, suc, ◌-◌, ◌<◌, ◌≤◌, true, false, nat_le, List, length, slice_index, count_by, arith, inl, inr}
 use Rattle.std.specs.List.Sorted.{IsPartitionPoint}
-use Rattle.std.proofs.lemmas.Bool.{cases_order, cases_lt, lt-ltb, le-ltb, le-leb, lt-leb}
+use Rattle.std.proofs.lemmas.Bool.{cases_lt, lt-ltb, le-ltb, le-leb, lt-leb, leb-true, leb-false}
 use Rattle.std.proofs.lemmas.Grind.{get_or_default_zero}
 use Rattle.cfg_blocks.specs.Blocks.{AreFirsts, block_end}
-use Rattle.cfg_blocks.proofs.Counts.{count_at_point}
+use Rattle.cfg_blocks.proofs.Counts.{count_at_point, not_down, some_begun}
 
 -- the word stands in the block
 pub record IsIn (words : ℕ) (firsts : List ℕ) (word block : ℕ) : Type 0 where
@@ -14,10 +14,7 @@ pub record IsIn (words : ℕ) (firsts : List ℕ) (word block : ℕ) : Type 0 wh
 
 module _ (words : ℕ) (firsts : List ℕ) (f : AreFirsts words firsts) where
   pub ordered : (i j : ℕ) → i ≤ j → j < length firsts → slice_index firsts i ≤ slice_index firsts j
-  ordered i j l h = elim (cases_order i j) [
-    | inl e ↦ rw e (omega arith)
-    | inr o ↦ elim o [ inl less ↦ omega (arith, f.ascend i j less h) | inr more ↦ absurd (omega arith) ]
-  ]
+  ordered i j = not_down firsts i j f.ascend
 
   -- the next block begins where this one ends
   pub ends_at_next : (i : ℕ) → suc i < length firsts → block_end firsts words i ≡ slice_index firsts (suc i)
@@ -59,6 +56,21 @@ module _ (words : ℕ) (firsts : List ℕ) (f : AreFirsts words firsts) where
   is_held word i h =
       omega (arith, count_at_point (λ first. nat_le first word) firsts (suc i) h.within (point word i h))
 
+  -- so is the place at which a partition answers
+  pub held : (word i : ℕ) → word < words → i ≤ length firsts
+      → IsPartitionPoint (λ first. nat_le first word ≡ true) (λ first. nat_le first word ≡ false) firsts i
+      → IsIn words firsts word (i - 1)
+  held word i h bound point =
+      let some = some_begun firsts words word i f point in
+      record {
+        within = omega arith;
+        above = leb-true _ _ (point.0 (i - 1) 0 (omega arith) (omega arith));
+        below = elim (cases_lt (suc (i - 1)) (length firsts)) [
+          | inl l ↦ omega (arith, ends_at_next _ l, leb-false _ _ (point.1 _ 0 (omega arith) l))
+          | inr m ↦ omega (arith, ends_at_words _ m)
+        ];
+      }
+
   -- and some block holds it
   pub some_block : (word : ℕ) → word < words → (block : ℕ) × IsIn words firsts word block
   some_block zero l = (
@@ -71,10 +83,9 @@ module _ (words : ℕ) (firsts : List ℕ) (f : AreFirsts words firsts) where
   )
   some_block (suc word) l =
       let before = some_block word (omega arith) in
-      next before.0 before.1
-    where
-      next : (i : ℕ) → IsIn words firsts word i → (block : ℕ) × IsIn words firsts (suc word) block
-      next i h = elim (cases_lt (suc word) (block_end firsts words i)) [
+      let i = before.0 in
+      let h = before.1 in
+      elim (cases_lt (suc word) (block_end firsts words i)) [
         | inl here ↦ (i, record { within = h.within; above = omega (arith, h.above); below = here })
         | inr past ↦ elim (cases_lt (suc i) (length firsts)) [
           | inl more ↦ (
@@ -91,6 +102,4 @@ module _ (words : ℕ) (firsts : List ℕ) (f : AreFirsts words firsts) where
 
   pub in_held : (word : ℕ) → word < words
       → IsIn words firsts word (count_by (λ first. nat_le first word) firsts - 1)
-  in_held word l =
-      let h = some_block word l in
-      subst (λ (i : ℕ). IsIn words firsts word i) (sym (is_held word h.0 h.1)) h.1
+  in_held word l = let h = some_block word l in rw (is_held word h.0 h.1) h.1

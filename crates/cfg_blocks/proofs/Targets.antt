@@ -1,5 +1,5 @@
 -- Where a transfer of a text leads to a word, the text has that word.
-use Rattle.std.proofs.Common.{◌≡◌, ℕ, ◌<◌, ◌≤◌, ◌==◌, List, length, map, Option, Some, None, IfSome, ◌⊎◌, inl, inr, refl, arith}
+use Rattle.std.proofs.Common.{◌≡◌, ℕ, ◌<◌, ◌==◌, List, length, map, Option, Some, None, IfSome, inl, inr, refl, arith}
 use Rattle.std.specs.Prelude.{slice_index}
 use Rattle.std.specs.List.{All}
 use Rattle.std.proofs.Math.ListN.{get_or-eq_default}
@@ -41,7 +41,6 @@ end_by-within text word (i.Branch cond annul disp22) =
     cond_both (cond == never) None (numbered (target_of text word disp22))
     (λ to. IfSome to (λ other. other.0 < length text.words)) (λ h. tt) (λ h. word_at-within text _)
 end_by-within text word (i.Call disp30) = word_at-within text _
-end_by-within text word (i.Jmpl rd rs1 op2) = tt
 end_by-within text word _ = tt
 
 end_at-within : (text : Words) (word : ℕ) → TargetsWithin (length text.words) (end_at text word)
@@ -56,11 +55,10 @@ word_ends-within text =
 
 end_in-within : (words : ℕ) (ends : List BlockEnd) (word : ℕ) → All (TargetsWithin words) ends
     → TargetsWithin words (end_in ends word)
-end_in-within words ends word each = at (cases_lt word (length ends))
-  where
-    at : (word < length ends) ⊎ (length ends ≤ word) → TargetsWithin words (end_in ends word)
-    at (inl l) = All-get_or (TargetsWithin words) ends word Fall l each
-    at (inr m) = rw (get_or-eq_default ends Fall m) tt
+end_in-within words ends word each = elim (cases_lt word (length ends)) [
+  | inl l ↦ All-get_or (TargetsWithin words) ends word Fall l each
+  | inr m ↦ rw (get_or-eq_default ends Fall m) tt
+]
 
 block_ends-within : (words : ℕ) (ends : List BlockEnd) (firsts blocks : List ℕ)
     → All (TargetsWithin words) ends

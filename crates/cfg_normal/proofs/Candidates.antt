@@ -18,7 +18,7 @@ use Rattle.cfg_blocks.specs.declared.switches.Switch.{Switch}
 use Rattle.cfg_blocks.specs.Blocks.{Blocks, end_of, holding_of}
 use Rattle.cfg_blocks.specs.Entries.{Entered, IsBlockList}
 use Rattle.cfg_blocks.specs.Switches.{approach_of, compare_of}
-use Rattle.cfg_normal.specs.Opens.{AreApart, AreOne, AreOpenIn, IsOpenIn, IsTableIn, Open, candidate, candidate_behind, candidate_into, candidate_on, is_candidate, is_closed, is_tabled, jumps_in, meets_any, open_by, opened, opens_of, table_words, targets_of, with_switch, words_from}
+use Rattle.cfg_normal.specs.Opens.{AreApart, AreOne, AreOpenIn, IsOpenIn, IsTableIn, Open, candidate, candidate_behind, candidate_into, candidate_on, is_candidate, is_closed, is_tabled, jumps_in, meets_any, open_by, opened, opens_of, targets_of, with_switch, words_from}
 use Rattle.cfg_normal.proofs.TableWords.{any_push, are_targets, none_tabled, table_is, tables_apart, tally, tally_few, tally_same, tally_table}
 
 pub candidate_at : (text : Words) (list : Entered) (switch : Switch) (block : ℕ)
@@ -64,17 +64,14 @@ module _ (text : Words) (list : Entered) (switch : Switch) (P : List Open → Ty
   by_behind from way (ends.Branch cond annul target) e same =
       let h : from < length list.blocks.ends = is_block list.blocks from _ e (λ f. absurd (cc)) in
       by_on from way annul (compare_of text list.blocks from) (rw (eqb-true switch.compare.0 from same) h)
-  by_behind from way ends.Fall e same = none
-  by_behind from way (ends.Call target) e same = none
-  by_behind from way ends.Jump e same = none
+  by_behind from way _ e same = none
 
   by_into : (x : Into) → P (candidate_into text list.blocks switch block x)
   by_into (into.One from way) =
       cond_both (switch.compare.0 == from.0)
       (candidate_behind text list.blocks switch block from.0 way (end_of list.blocks from.0)) [] P
       (λ h. by_behind from.0 way (end_of list.blocks from.0) refl h) (λ _. none)
-  by_into into.Nothing = none
-  by_into into.More = none
+  by_into _ = none
 
   candidate_is : P (candidate text list switch)
   unfolding candidate
@@ -118,9 +115,7 @@ module _ (text : Words) (list : Entered) (made : list.blocks.words ≡ length te
       let count : length o.targets ≡ switch.count = ap length c.targets_are ∙ t.count in
       let tables : (k : ℕ) → is_tabled text (opens ++ o ∷ []) k
       ≡ (is_tabled text opens k || list_any (λ x. x == k) (words_from table.begins switch.count)) =
-      (λ k. any_push (λ (p : Open). list_any (λ x. x == k) (table_words text p.switch)) opens o
-      ∙ ap (λ (s : Switch). is_tabled text opens k || list_any (λ x. x == k) (table_words text s)) c.switch_is
-      ∙ ap (λ ws. is_tabled text opens k || list_any (λ x. x == k) ws) words) in
+      (λ k. rw (any_push, c.switch_is, words) refl) in
       let tallied : tally (is_tabled text (opens ++ o ∷ [])) n ≡ tally (is_tabled text opens) n + switch.count =
       tally_same _ _ n (λ k h. tables k)
       ∙ tally_table (is_tabled text opens) table.begins switch.count n table.within

@@ -4,6 +4,7 @@ use Rattle.std.specs.Prelude.{◌==◌}
 use Rattle.std.specs.List.{All, filter, flat_map, list_any}
 use Rattle.std.proofs.lemmas.List.{append-nil, append_assoc, get_or-map, length-map, map-append, take_more}
 use Rattle.std.proofs.lemmas.List.Concat.{flat_map-append}
+use Rattle.std.proofs.Math.Bool.{or-false}
 use Rattle.std.proofs.lemmas.List.Elements.{filter-append}
 use Rattle.std.proofs.lemmas.Bool.{cases_eq, cases_Bool, eq-eqb, ne_eqb, or_right}
 use Rattle.eel_base.specs.declared.numbers.WordNo.{WordNo}
@@ -14,7 +15,7 @@ use Rattle.cfg_normal.specs.Nodes.{same_node}
 use Rattle.cfg_normal.specs.Graph.{case_of, lands_of, once_onto}
 use Rattle.cfg_normal.specs.Landings.{IsNumbered, landed_once, number_in, seen_mark, unseen_case}
 use Rattle.cfg_normal.specs.Opens.{Open}
-use Rattle.cfg_normal.proofs.TableWords.{any_push, or_none}
+use Rattle.cfg_normal.proofs.TableWords.{any_push}
 
 -- ---- nodes and their numbers
 
@@ -69,7 +70,7 @@ module _ (count mark : ℕ) where
     unfolding with_node
     has_other other apart = elim (cases_Bool (list_any (same_node node) nodes)) [
       | inl t ↦ rw t refl
-      | inr f ↦ rw f (any_push (same_node other) nodes node ∙ rw apart (or_none _))
+      | inr f ↦ rw f (any_push (same_node other) nodes node ∙ rw apart (or-false _))
     ]
 
     marked_more : AreMarked count mark after (with_node nodes node)
@@ -103,11 +104,7 @@ landed_more : (b : Blocks) (opens : List Open) (targets : List WordNo) (target :
     → landed_once b opens (targets ++ target ∷ [])
     ≡ with_node (landed_once b opens targets) (lands_of b opens (Some target.0))
 landed_more b opens targets target =
-    ap (λ ws. once_onto [] (map (λ word. lands_of b opens (Some word)) ws))
-    (map-append (λ (w : WordNo). w.0) targets (target ∷ []))
-    ∙ ap (once_onto []) (map-append (λ word. lands_of b opens (Some word)) (map (λ (w : WordNo). w.0) targets) (target.0 ∷ []))
-    ∙ once_more [] (map (λ word. lands_of b opens (Some word)) (map (λ (w : WordNo). w.0) targets))
-    (lands_of b opens (Some target.0))
+    simp (map-append, once_more)
 
 module _ (b : Blocks) (opens : List Open) (block : ℕ) (targets : List WordNo) (i : ℕ) (d : WordNo) (l : i < length targets)
     (node : Node) (lands : node ≡ lands_of b opens (Some (get_or targets i d).0)) where
@@ -116,8 +113,7 @@ module _ (b : Blocks) (opens : List Open) (block : ℕ) (targets : List WordNo) 
 
   next_is : landed_once b opens (take (i + 1) targets) ≡ with_node so_far node
   next_is =
-      ap (landed_once b opens) (take_more targets i d l) ∙ landed_more b opens (take i targets) (get_or targets i d)
-      ∙ ap (with_node so_far) (sym lands)
+      rw (take_more targets i d l, landed_more b opens (take i targets), ← lands) refl
 
   pub edges_next : (before now later : List Edge) (seen : List ℕ)
       → AreMarked (length b.firsts) (block + 1) seen so_far → IsNumbered (length b.firsts) node
@@ -125,9 +121,7 @@ module _ (b : Blocks) (opens : List Open) (block : ℕ) (targets : List WordNo) 
       → later ≡ now ++ unseen_case b block node (slice_index seen (number_in (length b.firsts) node) == block + 1)
       → later ≡ before ++ map (case_of b block) (landed_once b opens (take (i + 1) targets))
   edges_next before now later seen marks is e f =
-      f ∙ ap (λ es. es ++ unseen_case b block node (slice_index seen (number_in (length b.firsts) node) == block + 1)) e
-      ∙ cases_more b block so_far node before _ (marks.each node is)
-      ∙ ap (λ nodes. before ++ map (case_of b block) nodes) (sym next_is)
+      rw (f, e, next_is) (cases_more b block so_far node before _ (marks.each node is))
 
   pub marks_next : (before after : List ℕ) → IsNumbered (length b.firsts) node
       → AreMarked (length b.firsts) (block + 1) before so_far
@@ -150,8 +144,4 @@ words_within n words within = λ k d l.
 pub copies_more : (f : ℕ → List Edge) (p : ℕ → Bool) (edges : List Edge) (n : ℕ)
     → (edges ++ flat_map f (filter p (below n))) ++ flat_map f (filter p (n ∷ []))
     ≡ edges ++ flat_map f (filter p (below (n + 1)))
-copies_more f p edges n =
-    append_assoc edges (flat_map f (filter p (below n))) (flat_map f (filter p (n ∷ [])))
-    ∙ ap (λ es. edges ++ es) (sym (flat_map-append f (filter p (below n)) (filter p (n ∷ []))))
-    ∙ ap (λ ks. edges ++ flat_map f ks) (sym (filter-append p (below n) (n ∷ [])))
-    ∙ ap (λ m. edges ++ flat_map f (filter p (below m))) (sym (add-one n))
+copies_more f p edges n = simp (add-one, filter-append, flat_map-append, append_assoc)

@@ -1,8 +1,8 @@
 -- The edges of a graph lie between its nodes, and their slots in its text; they are at most seven for each word.
-use Rattle.std.proofs.Common.{◌≡◌, ℕ, zero, suc, ◌+◌, ◌*◌, ◌<◌, ◌≤◌, nat_le, nat_lt, Bool, true, ◌||◌, List, [], ◌∷◌, ◌++◌, length, map, Option, Some, None, refl, ap, ◌∙◌, arith, cond, get_or}
+use Rattle.std.proofs.Common.{◌≡◌, ℕ, zero, suc, ◌+◌, ◌*◌, ◌<◌, ◌≤◌, nat_le, nat_lt, Bool, true, ◌||◌, List, [], ◌∷◌, ◌++◌, length, map, Option, Some, None, refl, ap, arith, cond, get_or}
 use Rattle.std.specs.Prelude.{◌==◌, ◌&&◌, not}
 use Rattle.std.specs.List.{All, filter, flat_map, list_any, sum_by}
-use Rattle.std.proofs.lemmas.List.{length-append, length-map}
+use Rattle.std.proofs.lemmas.List.{append-nil, length-append, length-map}
 use Rattle.std.proofs.lemmas.List.Concat.{flat_map-append}
 use Rattle.std.proofs.lemmas.List.Elements.{All-append, All-cons, All-filter, All-head, All-map, All-nil, All-tail, All-weaker, filter_passes}
 use Rattle.std.proofs.lemmas.List.Sums.{count_by-le-length, length-filter, sum_by-cons}
@@ -189,8 +189,7 @@ pub total_flat : {A : Type 0} (f : ℕ → List A) (n : ℕ) → length (flat_ma
 unfolding total
 total_flat f zero = refl
 total_flat f (suc n) =
-    ap length (flat_map-append f (below n) (n ∷ [])) ∙ length-append (flat_map f (below n)) (f n ++ [])
-    ∙ omega (arith, total_flat f n, length-append (f n) [])
+    simp (flat_map-append, append-nil, length-append, total_flat f n)
 
 pub total_le : (f g : ℕ → ℕ) (n : ℕ) → ((k : ℕ) → f k ≤ 2 + g k) → total f n ≤ 2 * n + total g n
 unfolding total
@@ -226,21 +225,13 @@ targets_few [] n = omega (arith, none n)
     none (suc n) = omega (arith, none n)
 targets_few (o ∷ opens) n =
     let here : ℕ → ℕ = λ k. cond (o.block == k) (length o.targets) 0 in
-    let split : total (λ k. length (targets_in (o ∷ opens) k)) n
-    ≡ total (λ k. here k + length (targets_in opens k)) n =
-    total_same (λ k. length (targets_in (o ∷ opens) k)) (λ k. here k + length (targets_in opens k)) n
-    (λ k. length-append (cond (o.block == k) o.targets []) (targets_in opens k) ∙ omega (arith, cut (o.block == k))) in
-    let sum : sum_by (λ (o : Open). length o.targets) (o ∷ opens)
-    ≡ length o.targets + sum_by (λ (o : Open). length o.targets) opens =
-    sum_by-cons (λ (o : Open). length o.targets) o opens in
-    omega (
+    simp (length-append, cut) (omega (
       arith,
-      split,
       total_plus here (λ k. length (targets_in opens k)) n,
       (total_at o.block (length o.targets) n).1,
       targets_few opens n,
-      sum,
-    )
+      sum_by-cons (λ (o : Open). length o.targets) o opens,
+    ))
   where
     cut : (t : Bool) → length (cond t o.targets []) ≡ cond t (length o.targets) 0
     cut t = grind arith
@@ -261,15 +252,11 @@ module _ (b : Blocks) (opens : List Open) where
   pub edges_of-few : (block : ℕ) → length (edges_of b opens block) ≤ 2 + length (targets_in opens block)
   edges_of-few block =
       let nodes = map (λ word. lands_of b opens (Some word)) (targets_in opens block) in
+      let few = simp length-map at (once_few [] nodes) in
       cond_both (jumps_in opens block) (map (case_of b block) (case_nodes b opens block))
       (ways_out b opens (Block (record { 0 = block })) block)
       (λ es. length es ≤ 2 + length (targets_in opens block))
-      (λ _. omega (
-        arith,
-        length-map (case_nodes b opens block) (case_of b block),
-        once_few [] nodes,
-        length-map (targets_in opens block) (λ word. lands_of b opens (Some word)),
-      ))
+      (λ _. simp length-map (omega (arith, few)))
       (λ _. omega (arith, ways_out-few (Block (record { 0 = block })) block))
 
   landings_of-few : (block : ℕ) → length (landings_of opens block) ≤ 2
@@ -281,28 +268,22 @@ module _ (b : Blocks) (opens : List Open) where
       let n = length b.firsts in
       let own = flat_map (edges_of b opens) (below n) in
       let blocks = filter (is_copied opens) (below n) in
-      let copied = flat_map (copied_edges b opens) blocks in
-      let landed = flat_map (landings_of opens) (below n) in
       let own_few : length own ≤ 2 * n + total (λ k. length (targets_in opens k)) n =
       rw (total_flat (edges_of b opens) n)
       (total_le (λ k. length (edges_of b opens k)) (λ k. length (targets_in opens k)) n edges_of-few) in
-      let copied_few : length copied ≤ 2 * length blocks =
-      flat_few (copied_edges b opens) blocks (λ block. ways_out-few (Landed (record { 0 = block })) block) in
-      let landed_few : length landed ≤ 2 * length (below n) = flat_few (landings_of opens) (below n) landings_of-few in
-      omega (
+      let copied_few = flat_few (copied_edges b opens) blocks (λ block. ways_out-few (Landed (record { 0 = block })) block) in
+      let landed_few = flat_few (landings_of opens) (below n) landings_of-few in
+      simp (length-append, length-map) (omega (
         arith,
         own_few,
         targets_few opens n,
         entries,
         copied_few,
+        landed_few,
         length-filter (is_copied opens) (below n),
         count_by-le-length (is_copied opens) (below n),
         length-below n,
-        landed_few,
-        length-map landed landing_at,
-        length-append own copied,
-        length-append (own ++ copied) (map landing_at landed),
-      )
+      ))
 
 -- blocks and open switches, with their edges, are a graph
 pub is_graph : (list : Entered) (opens : List Open) (edges : List Edge) → IsBlockList list

@@ -3,12 +3,13 @@ use Rattle.std.proofs.Common.{◌≡◌, ℕ, zero, suc, ◌+◌, ◌<◌, ◌�
 use Rattle.std.specs.Prelude.{◌==◌, ◌&&◌, not, nat_lt}
 use Rattle.std.specs.List.{All, list_any}
 use Rattle.std.proofs.lemmas.List.{append-nil, get_or_append_left, get_or_push, length_push}
-use Rattle.std.proofs.lemmas.List.Recursion.{or_at}
-use Rattle.std.proofs.lemmas.Bool.{ne_eqb, or_parts, cases_Bool, eq-eqb, eqb-true, false≢true, or_left}
+use Rattle.std.proofs.lemmas.List.Folds.{list_any-append, list_any_at}
+use Rattle.std.proofs.Math.Bool.{or-false}
+use Rattle.std.proofs.lemmas.Bool.{ne_eqb, or_parts, cases_Bool, eq-eqb, eqb-true, or_left}
 use Rattle.eel_base.specs.CodeText.{Words, word_at}
 use Rattle.cfg_blocks.specs.declared.EdgeKind.{EdgeKind}
 use Rattle.cfg_blocks.specs.declared.switches.Switch.{Switch}
-use Rattle.cfg_blocks.specs.Blocks.{Blocks, below, holding_of}
+use Rattle.cfg_blocks.specs.Blocks.{Blocks, holding_of}
 use Rattle.cfg_blocks.specs.Entries.{Entered}
 use Rattle.cfg_blocks.specs.Marks.{marked}
 use Rattle.cfg_blocks.proofs.Below.{any_below_same, list_any-map}
@@ -21,7 +22,7 @@ use Rattle.cfg_normal.specs.declared.landings.Landing.{Landing}
 use Rattle.cfg_normal.specs.declared.landings.Landing.TheVariants.{Home, Behind, Copied}
 use Rattle.cfg_normal.specs.Landings.{AreTabled, AreTargetsIn, IsJumpOf, IsLanding, has_copy, is_from, is_jump_block, lands_by, noted, with_compare}
 use Rattle.cfg_normal.specs.Opens.{AreOne, AreOpenIn, Open, compares_in, is_behind, is_closed, is_copied, is_tabled, jumps_in, meets_any, targets_in, words_from}
-use Rattle.cfg_normal.proofs.TableWords.{any_push, or_none, table_is}
+use Rattle.cfg_normal.proofs.TableWords.{table_is}
 use Rattle.std.proofs.lemmas.Bool.Decides.{nat_tests}
 
 -- a number in the list of them, with its block
@@ -29,8 +30,7 @@ pub jumps_at : (opens : List Open) (block k : ℕ) → k < length opens
     → ((d : Open) → (get_or opens k d).block ≡ block) → jumps_in opens block ≡ true
 jumps_at [] block k l at = absurd (omega arith)
 jumps_at (o ∷ opens) block k l at =
-    or_at (λ os. jumps_in os block) (λ (o : Open). o.block == block) refl (λ _ _. refl) (o ∷ opens) k o l
-    (eq-eqb (get_or (o ∷ opens) k o).block block (at o))
+    list_any_at (λ (o : Open). o.block == block) (o ∷ opens) k o l (eq-eqb (get_or (o ∷ opens) k o).block block (at o))
 
 pub jumps_by : (opens : List Open) (block : ℕ) (landing : Landing) → IsLanding opens block landing
     → is_jump_block landing ≡ jumps_in opens block
@@ -64,11 +64,10 @@ pub asked_at : (opens : List Open) → AreOne opens → (block k : ℕ) (p : Ope
 asked_at [] one block k p d l at = absurd (omega arith)
 asked_at (o ∷ opens) one block zero p d l at =
     let here : o.block ≡ block = at d in
-    rw (eq-eqb o.block block here, none_jumps opens block p (rw here at one.0)) (or_none (p o))
+    rw (eq-eqb o.block block here, none_jumps opens block p (rw here at one.0)) (or-false (p o))
 asked_at (o ∷ opens) one block (suc k) p d l at =
     let later : jumps_in opens block ≡ true = jumps_at opens block k (omega arith) at in
-    let other : (o.block == block) ≡ false =
-    ne_eqb o.block block (λ e. false≢true (sym one.0 ∙ ap (jumps_in opens) e ∙ later)) in
+    let other : (o.block == block) ≡ false = ne_eqb o.block block (λ e. cc (one.0, later)) in
     rw other (asked_at opens one.1 block k p d (omega arith) at)
 
 pub targets_at : (opens : List Open) → AreOne opens → (block k : ℕ) (d : Open) → k < length opens
@@ -85,8 +84,7 @@ targets_at (o ∷ opens) one block zero d l at =
         rw parts.0 (no_targets opens block parts.1)
 targets_at (o ∷ opens) one block (suc k) d l at =
     let later : jumps_in opens block ≡ true = jumps_at opens block k (omega arith) at in
-    let other : (o.block == block) ≡ false =
-    ne_eqb o.block block (λ e. false≢true (sym one.0 ∙ ap (jumps_in opens) e ∙ later)) in
+    let other : (o.block == block) ≡ false = ne_eqb o.block block (λ e. cc (one.0, later)) in
     rw other (targets_at opens one.1 block k d (omega arith) at)
 
 pub targets_known : (b : Blocks) (opens : List Open) → AreOpenIn b opens → (block k : ℕ) → IsJumpOf opens block k
@@ -135,29 +133,18 @@ module _ (opens : List Open) (o : Open) (block : ℕ) where
   abbrev more : List Open
   more = opens ++ o ∷ []
 
-  jumps_more : jumps_in more block ≡ (jumps_in opens block || (o.block == block))
-  jumps_more = any_push (λ (p : Open). p.block == block) opens o
-
-  compares_more : compares_in more block ≡ (compares_in opens block || (o.switch.compare.0 == block))
-  compares_more = any_push (λ (p : Open). p.switch.compare.0 == block) opens o
-
-  behind_more : (word : ℕ) → is_behind more block word
-      ≡ (is_behind opens block word || ((o.switch.compare.0 == block) && nat_lt o.approach.compare.word word))
-  behind_more word =
-      any_push (λ (p : Open). (p.switch.compare.0 == block) && nat_lt p.approach.compare.word word) opens o
-
   -- neither of its blocks is this one
   kept_apart : (landing : Landing) → (o.block == block) ≡ false → (o.switch.compare.0 == block) ≡ false
       → IsLanding opens block landing → IsLanding more block landing
   kept_apart Home j c is = (
-    jumps_more ∙ rw (is.0, j) refl,
-    compares_more ∙ rw (is.1, c) refl,
-    λ word. behind_more word ∙ rw (is.2 word, c) refl,
+    simp (list_any-append, is.0, j),
+    simp (list_any-append, is.1, c),
+    λ word. simp (list_any-append, is.2 word, c),
   )
   kept_apart (Behind compare) j c is = (
-    jumps_more ∙ rw (is.0, j) refl,
-    compares_more ∙ rw is.1 refl,
-    λ word. behind_more word ∙ rw (is.2 word, c) (or_none (nat_lt compare word)),
+    simp (list_any-append, is.0, j),
+    simp (list_any-append, is.1),
+    λ word. simp (list_any-append, is.2 word, c, or-false),
   )
   kept_apart (Copied k) j c is =
       (omega (arith, is.0, length_push opens o), λ d. rw (get_or_append_left opens (o ∷ []) d k is.0) (is.1 d))
@@ -165,15 +152,15 @@ module _ (opens : List Open) (o : Open) (block : ℕ) where
   compared : (landing : Landing) → (o.block == block) ≡ false → (o.switch.compare.0 == block) ≡ true
       → IsLanding opens block landing → IsLanding more block (with_compare landing o.approach.compare.word)
   compared Home j c is = (
-    jumps_more ∙ rw (is.0, j) refl,
-    compares_more ∙ rw (is.1, c) refl,
-    λ word. behind_more word ∙ rw (is.2 word, c) refl,
+    simp (list_any-append, is.0, j),
+    simp (list_any-append, is.1, c),
+    λ word. simp (list_any-append, is.2 word, c, or-false),
   )
   compared (Behind compare) j c is =
       let word = o.approach.compare.word in
       let found : (x : ℕ) → is_behind more block x ≡ lands_by (with_compare (Behind compare) word) x =
-      (λ x. behind_more x ∙ rw (is.2 x, c) (earlier word compare x)) in
-      least word compare (nat_lt word compare) (jumps_more ∙ rw (is.0, j) refl) (compares_more ∙ rw is.1 refl) found
+      (λ x. simp (list_any-append, is.2 x, c, or-false) (earlier word compare x)) in
+      least word compare (nat_lt word compare) (simp (list_any-append, is.0, j)) (simp (list_any-append, is.1)) found
     where
       least : (m n : ℕ) (t : Bool) → jumps_in more block ≡ false → compares_in more block ≡ true
           → ((x : ℕ) → is_behind more block x ≡ lands_by (cond t (Behind m) (Behind n)) x)
@@ -213,9 +200,5 @@ pub closed_meets : (text : Words) (list : Entered) (opens : List Open) (switch :
 closed_meets text list opens switch block landing marks from at is jumps tabled table within =
     let no_jump : jumps_in opens (holding_of list.blocks switch.jump.0) ≡ false =
     rw (← at) (sym (jumps_by opens block landing is) ∙ jumps) in
-    rw no_jump (
-    list_any-map (marked marks) (λ k. from + k) (below switch.count)
-    ∙ any_below_same switch.count (λ k. marked marks (from + k)) (λ k. is_tabled text opens (from + k))
-    (λ k h. tabled.each (from + k) (omega arith))
-    ∙ sym (list_any-map (is_tabled text opens) (λ k. from + k) (below switch.count))
-    ∙ sym (ap (list_any (is_tabled text opens)) (table_is text switch from table)))
+    rw (no_jump, table_is text switch from table, list_any-map (marked marks), list_any-map (is_tabled text opens))
+    (any_below_same switch.count _ _ (λ k h. tabled.each (from + k) (omega arith)))

@@ -1,13 +1,14 @@
 -- The words of tables.
-use Rattle.std.proofs.Common.{◌≡◌, ℕ, zero, suc, ◌+◌, ◌<◌, ◌≤◌, Bool, true, false, ◌||◌, List, [], ◌∷◌, ◌++◌, length, Option, Some, None, refl, ap, sym, ◌∙◌, arith, add-one, cond, slice_index, inl, inr, ◌*◌, ◌⊎◌, get_or, subst}
+use Rattle.std.proofs.Common.{◌≡◌, ℕ, zero, suc, ◌+◌, ◌<◌, ◌≤◌, Bool, true, false, ◌||◌, List, [], ◌∷◌, ◌++◌, length, Option, Some, None, refl, ap, sym, ◌∙◌, arith, add-one, cond, slice_index, inl, inr, ◌*◌, ◌⊎◌, get_or}
 use Rattle.std.specs.Prelude.{◌==◌, nat_le, nat_lt, ◌-◌, ◌/◌, ◌%◌, ◌&&◌}
 use Rattle.std.specs.List.{All, flat_map, list_any}
 use Rattle.std.specs.Option.{is_some, option_to_list}
-use Rattle.std.proofs.lemmas.List.{append-nil, length-append, map-append, get_or-map, length-map}
+use Rattle.std.proofs.lemmas.List.{append-nil, length-append, map-append, length-map}
 use Rattle.std.proofs.lemmas.List.Concat.{flat_map-append}
-use Rattle.std.proofs.lemmas.List.Elements.{All-append, All-cons, All-nil, All-same}
-use Rattle.std.proofs.lemmas.List.Folds.{list_any-append}
-use Rattle.std.proofs.lemmas.List.Recursion.{or_at}
+use Rattle.std.proofs.lemmas.List.Elements.{All-append, All-cons, All-nil}
+use Rattle.std.proofs.lemmas.List.Folds.{list_any-append, list_any_at}
+use Rattle.std.proofs.lemmas.Grind.{common_steps}
+use Rattle.std.proofs.Math.Bool.{or-false, or_assoc}
 use Rattle.std.proofs.lemmas.Bool.{and_parts, cond_both, eq-eqb, ltb-true, ne_eqb, or_from, or_parts, both_ways, cases_lt, false_from_ne_true}
 use Rattle.eel_base.specs.CodeText.{Words, word_at}
 use Rattle.cfg_blocks.specs.declared.switches.Switch.{Switch}
@@ -16,15 +17,9 @@ use Rattle.cfg_blocks.proofs.Below.{get_or-below, length-below}
 use Rattle.cfg_normal.specs.Opens.{IsTableIn, Open, is_tabled, table_words, targets_of, words_from}
 use Rattle.cfg_blocks.proofs.Targets.{word_at-some}
 
-pub or_none : (b : Bool) → (b || false) ≡ b
-or_none b = grind arith
-
-or_assoc : (a b c : Bool) → (a || (b || c)) ≡ ((a || b) || c)
-or_assoc a b c = grind arith
-
 pub any_push : {X : Type 0} (p : X → Bool) (xs : List X) (x : X)
     → list_any p (xs ++ x ∷ []) ≡ (list_any p xs || p x)
-any_push p xs x = list_any-append p xs (x ∷ []) ∙ ap (λ b. list_any p xs || b) (or_none (p x))
+any_push p xs x = simp (list_any-append, or-false)
 
 words_next : (from n : ℕ) → words_from from (suc n) ≡ words_from from n ++ (from + n) ∷ []
 words_next from n = map-append (λ k. from + k) (below n) (n ∷ [])
@@ -35,8 +30,7 @@ words_more from n = rw add-one (words_next from n)
 pub table_is : (text : Words) (switch : Switch) (from : ℕ) → word_at text switch.table.0 ≡ Some from
     → table_words text switch ≡ words_from from switch.count
 table_is text switch from at =
-    ap (λ (o : Option ℕ). flat_map (λ from. words_from from switch.count) (option_to_list o)) at
-    ∙ append-nil (words_from from switch.count)
+    rw (at, append-nil) refl
 
 -- the words to which an entry leads
 abbrev pub entry_in : Words → ℕ → List ℕ
@@ -51,9 +45,7 @@ targets_next : (text : Words) (from n : ℕ)
     → flat_map (entry_in text) (words_from from (suc n))
     ≡ flat_map (entry_in text) (words_from from n) ++ entry_in text (from + n)
 targets_next text from n =
-    ap (flat_map (entry_in text)) (words_next from n)
-    ∙ flat_map-append (entry_in text) (words_from from n) ((from + n) ∷ [])
-    ∙ ap (λ xs. flat_map (entry_in text) (words_from from n) ++ xs) (append-nil (entry_in text (from + n)))
+    rw (words_next from n, flat_map-append, append-nil) refl
 
 pub targets_more : (text : Words) (from n : ℕ)
     → flat_map (entry_in text) (words_from from (n + 1))
@@ -82,18 +74,18 @@ module _ (text : Words) (from : ℕ) where
   all_entries : (n : ℕ) → All (λ w. w < length text.words) (entries n)
   all_entries zero = All-nil (λ w. w < length text.words)
   all_entries (suc n) =
-      All-same (λ w. w < length text.words) (entries (suc n)) (entries n ++ entry_in text (from + n))
-      (targets_next text from n)
-      (All-append (λ w. w < length text.words) (entries n) (entry_in text (from + n)) (all_entries n)
-      (entries_within text (slice_index text.words (from + n))))
+      rw (targets_next text from n) (All-append (λ w. w < length text.words) (entries n) (entry_in text (from + n))
+      (all_entries n) (entries_within text (slice_index text.words (from + n))))
 
   count_entries : (n : ℕ) → ((k : ℕ) → k < n → is_some (word_at text (slice_index text.words (from + k))) ≡ true)
       → length (entries n) ≡ n
   count_entries zero leads = refl
   count_entries (suc n) leads =
-      let before : length (entries n) ≡ n = count_entries n (λ k l. leads k (omega arith)) in
-      let last : length (entry_in text (from + n)) ≡ 1 = one_entry _ (leads n (omega arith)) in
-      ap length (targets_next text from n) ∙ length-append (entries n) (entry_in text (from + n)) ∙ omega arith
+      rw (targets_next text from n, length-append) (omega (
+        arith,
+        count_entries n (λ k l. leads k (omega arith)),
+        one_entry (word_at text (slice_index text.words (from + n))) (leads n (omega arith)),
+      ))
 
 -- what is known of the targets of a table
 pub record AreTargets (text : Words) (switch : Switch) (targets : List ℕ) : Type 0 where
@@ -127,55 +119,45 @@ tally_more : (p : ℕ → Bool) (x n : ℕ) → x < n → p x ≡ false → tall
 tally_more p x zero l none = absurd (omega arith)
 tally_more p x (suc n) l none =
     let before = tally_more p x n in
-    let past = (λ (e : x ≡ n). tally_same (λ k. p k || (x == k)) p n (λ k h. rw (ne_eqb x k (λ f. omega arith)) (or_none (p k)))) in
+    let past = (λ (e : x ≡ n). tally_same (λ k. p k || (x == k)) p n (λ k h. rw (ne_eqb x k (λ f. omega arith)) (or-false (p k)))) in
     grind (arith, before, past)
 
 -- so many words from one on
 pub tally_table : (p : ℕ → Bool) (from c n : ℕ) → from + c ≤ n → list_any p (words_from from c) ≡ false
     → tally (λ k. p k || list_any (λ x. x == k) (words_from from c)) n ≡ tally p n + c
 tally_table p from zero n l none =
-    tally_same (λ k. p k || false) p n (λ k h. or_none (p k)) ∙ omega arith
+    tally_same (λ k. p k || false) p n (λ k h. or-false (p k)) ∙ omega arith
 tally_table p from (suc c) n l none =
     let p_c : ℕ → Bool = λ k. p k || list_any (λ x. x == k) (words_from from c) in
-    let parts = or_parts (list_any p (words_from from c)) (p (from + c))
-    (sym (ap (list_any p) (words_next from c) ∙ any_push p (words_from from c) (from + c)) ∙ none) in
-    let before : tally p_c n ≡ tally p n + c = tally_table p from c n (omega arith) parts.0 in
-    let fresh : p_c (from + c) ≡ false =
-    or_from (p (from + c)) (list_any (λ x. x == from + c) (words_from from c)) parts.1 (smaller from c c (omega arith)) in
-    let more : tally (λ k. p_c k || ((from + c) == k)) n ≡ tally p_c n + 1 = tally_more p_c (from + c) n (omega arith) fresh in
+    let parts = or_parts (list_any p (words_from from c)) (p (from + c)) (simp (map-append, list_any-append, or-false) at none) in
+    let fresh : p_c (from + c) ≡ false = or_from _ _ parts.1 (smaller from c c (omega arith)) in
     tally_same (λ k. p k || list_any (λ x. x == k) (words_from from (suc c))) (λ k. p_c k || ((from + c) == k)) n
-    (λ k h. ap (λ b. p k || b) (ap (list_any (λ x. x == k)) (words_next from c)
-    ∙ any_push (λ x. x == k) (words_from from c) (from + c))
-    ∙ or_assoc (p k) (list_any (λ x. x == k) (words_from from c)) ((from + c) == k))
-    ∙ omega arith
+    (λ k h. simp (map-append, list_any-append, or-false, or_assoc))
+    ∙ omega (arith, tally_more p_c (from + c) n (omega arith) fresh, tally_table p from c n (omega arith) parts.0)
   where
     smaller : (from c m : ℕ) → m ≤ c → list_any (λ x. x == from + c) (words_from from m) ≡ false
     smaller from c zero l = refl
     smaller from c (suc m) l =
-        ap (list_any (λ x. x == from + c)) (words_next from m)
-        ∙ any_push (λ x. x == from + c) (words_from from m) (from + m)
-        ∙ or_from _ _ (smaller from c m (omega arith)) (ne_eqb (from + m) (from + c) (λ e. omega arith))
+        simp (map-append, list_any-append, or-false, smaller from c m (omega arith))
+        (ne_eqb (from + m) (from + c) (λ e. omega arith))
 
 -- ---- tables that share no word
 
 none_at : {X : Type 0} (p : X → Bool) (xs : List X) (i : ℕ) (d : X) → i < length xs → list_any p xs ≡ false
     → p (get_or xs i d) ≡ false
 none_at p xs i d l none =
-    false_from_ne_true (p (get_or xs i d)) (λ t. both_ways (list_any p xs) none
-    (or_at (list_any p) p refl (λ _ _. refl) xs i d l t))
+    false_from_ne_true (p (get_or xs i d)) (λ t. both_ways (list_any p xs) none (list_any_at p xs i d l t))
 
 word_of : (from c k : ℕ) → k < c → get_or (words_from from c) k 0 ≡ from + k
 word_of from c k l =
-    get_or-map (λ j. from + j) (below c) k 0 0 (omega (arith, length-below c))
-    ∙ ap (λ j. from + j) (get_or-below c k 0 l)
+    grind (arith, common_steps, length-below c, get_or-below c k 0)
 
 length-words : (from c : ℕ) → length (words_from from c) ≡ c
 length-words from c = length-map (below c) (λ j. from + j) ∙ length-below c
 
 in_table : (from c k : ℕ) → k < c → list_any (λ x. x == from + k) (words_from from c) ≡ true
 in_table from c k l =
-    or_at (list_any (λ x. x == from + k)) (λ x. x == from + k) refl (λ _ _. refl) (words_from from c) k 0
-    (omega (arith, length-words from c)) (eq-eqb (get_or (words_from from c) k 0) (from + k) (word_of from c k l))
+    list_any_at _ (words_from from c) k 0 (omega (arith, length-words from c)) (eq-eqb _ _ (word_of from c k l))
 
 -- no word of a table is tabled
 pub none_tabled : (text : Words) (opens : List Open) (from c : ℕ)
@@ -206,6 +188,4 @@ tables_apart text one other s t none =
     meet : (i k : ℕ) → s.begins + i ≡ t.begins + k → i < one.count → k < other.count → ⊥
     meet i k e l m =
         both_ways (list_any (λ x. x == t.begins + k) (table_words text one)) (none k m)
-        (ap (list_any (λ x. x == t.begins + k)) (table_is text one s.begins s.at)
-        ∙ subst (λ (w : ℕ). list_any (λ x. x == w) (words_from s.begins one.count) ≡ true) e
-        (in_table s.begins one.count i l))
+        (rw (table_is text one s.begins s.at, ← e) (in_table s.begins one.count i l))

@@ -6,7 +6,8 @@ use Rattle.std.specs.Option.{option_to_list}
 use Rattle.std.proofs.lemmas.List.Folds.{list_any-append}
 use Rattle.std.proofs.lemmas.List.Quantifiers.{position-Some}
 use Rattle.std.proofs.lemmas.Option.{get_or_from_slice_get}
-use Rattle.std.proofs.lemmas.Bool.{and_parts, cases_Bool, cond_both, eq-eqb, false≢true, or_left, or_right}
+use Rattle.std.proofs.lemmas.Bool.{and_parts, cases_Bool, cond_both, eq-eqb, false≢true}
+use Rattle.std.proofs.Math.Bool.{or-true}
 use Rattle.cfg_blocks.specs.declared.EdgeKind.{EdgeKind}
 use Rattle.cfg_blocks.specs.declared.EdgeKind.TheVariants as kinds
 use Rattle.cfg_blocks.specs.Ends.{Way}
@@ -120,18 +121,15 @@ module _ (b : Blocks) (opens : List Open) where
 
   any_own : (p : Edge → Bool) → list_any p own ≡ true → list_any p (edges_in b opens) ≡ true
   unfolding edges_in
-  any_own p h =
-      list_any-append p (own ++ copied) landings ∙ or_left _ _ (list_any-append p own copied ∙ or_left _ _ h)
+  any_own p h = simp (list_any-append, h)
 
   any_copied : (p : Edge → Bool) → list_any p copied ≡ true → list_any p (edges_in b opens) ≡ true
   unfolding edges_in
-  any_copied p h =
-      list_any-append p (own ++ copied) landings ∙ or_left _ _ (list_any-append p own copied ∙ or_right _ _ h)
+  any_copied p h = simp (list_any-append, h, or-true)
 
   any_landing : (p : Edge → Bool) → list_any p landings ≡ true → list_any p (edges_in b opens) ≡ true
   unfolding edges_in
-  any_landing p h =
-      list_any-append p (own ++ copied) landings ∙ or_right _ _ h
+  any_landing p h = simp (list_any-append, h, or-true)
 
   -- ---- edges that leave a node
 

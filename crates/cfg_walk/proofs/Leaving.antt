@@ -1,5 +1,5 @@
 -- Leaving a block from its last word.
-use Rattle.std.proofs.Common.{◌≡◌, ℕ, suc, ◌+◌, ◌<◌, Bool, true, false, ◌==◌, List, [], inl, inr, slice_index, Some, refl, ap, sym, ◌∙◌, subst, arith}
+use Rattle.std.proofs.Common.{◌≡◌, ℕ, suc, ◌+◌, ◌<◌, true, false, ◌==◌, List, [], inl, inr, slice_index, Some, refl, ap, sym, ◌∙◌, subst, arith}
 use Rattle.std.specs.Prelude.{if◌then◌else◌}
 use Rattle.std.proofs.lemmas.Bool.{cond_both, eqb-false, eqb-true, false_from_ne_true, false≢true, lt-ltb}
 use Rattle.eel_base.specs.CodeText.{Words}
@@ -79,8 +79,7 @@ module _ (text : Words) (b : Blocks) (opens : List Open) (c : IsCut text b) (wor
   pub ways_at : word ≡ last_word b.firsts b.words here
       → ways_from b here ≡ ways_of b.words word (end_at text word)
   ways_at last =
-      ap (λ end. ways_of b.words (last_word b.firsts b.words here) end) (c.ends here is_in.within)
-      ∙ ap (λ w. ways_of b.words w (end_at text w)) (sym last)
+      rw (c.ends here is_in.within, ← last) refl
 
   -- a transfer is the last word of its block
   pub transfer_ends : is_transfer (end_at text word) ≡ true → word ≡ last_word b.firsts b.words here
@@ -108,15 +107,12 @@ module _ (text : Words) (b : Blocks) (opens : List Open) (c : IsCut text b) (wor
         no_cases b opens are node here home (ap is_jump (end_here last ∙ e)) in
         leads_along graph node _ (edge_of b opens node here (way kinds.Fall (within b.words (word + 1))))
         (way_found (way kinds.Fall (within b.words (word + 1))) last quiet
-        (subst (λ end. IsOne (way kinds.Fall (within b.words (word + 1))) (ways_of b.words word end)) (sym e)
-        (fall_is_one b.words word)))
+        (rw e (fall_is_one b.words word)))
 
     falls : end_at text word ≡ ends.Fall → word ≡ last_word b.firsts b.words here
         → home_of (node_after graph node (edge_from graph node kinds.Fall)) ≡ node_of b (within b.words (word + 1))
     falls e last =
-        ap home_of (falls_to e last)
-        ∙ home_directed opens node kinds.Fall (node_of b (within b.words (word + 1)))
-        ∙ home_of_node b (within b.words (word + 1))
+        rw (falls_to e last, home_directed, home_of_node) refl
 
     stays : (word ≡ last_word b.firsts b.words here → ⊥) → block here ≡ node_of b (within b.words (word + 1))
     stays inner =
@@ -132,11 +128,8 @@ module _ (text : Words) (b : Blocks) (opens : List Open) (c : IsCut text b) (wor
         → home_of (node_after graph node (left_at text graph node (Some word)))
         ≡ node_of b (within b.words (word + 1))
     straight_on instr is straight =
-        ap (λ d. home_of (node_after graph node (left_by graph node word d))) is
-        ∙ ap (λ ns. home_of (node_after graph node ns)) (straight_left graph node word instr straight)
-        ∙ ap (λ (x : Bool). home_of (node_after graph node (if x then edge_from graph node kinds.Fall else [])))
-        (ends_home b opens node here word home)
-        ∙ cond_both (word == last_word b.firsts b.words here) (edge_from graph node kinds.Fall) []
+        rw (is, straight_left graph node word instr straight, ends_home b opens node here word home)
+        (cond_both (word == last_word b.firsts b.words here) (edge_from graph node kinds.Fall) []
         (λ numbers. home_of (node_after graph node numbers) ≡ node_of b (within b.words (word + 1)))
         (λ e. falls (end_is text word instr is ∙ straight_end text word instr straight) (eqb-true _ _ e))
-        (λ e. home ∙ stays (eqb-false _ _ e))
+        (λ e. home ∙ stays (eqb-false _ _ e)))

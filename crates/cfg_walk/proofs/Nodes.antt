@@ -1,9 +1,10 @@
 -- The nodes about open switches.
-use Rattle.std.proofs.Common.{◌≡◌, ℕ, ◌<◌, ◌≤◌, nat_le, Bool, true, false, not, ◌&&◌, ◌||◌, nat_lt, List, [], ◌∷◌, ◌++◌, length, map, Option, Some, None, refl, ap, sym, ◌∙◌, subst, arith, inl, inr}
+use Rattle.std.proofs.Common.{◌≡◌, ℕ, ◌<◌, ◌≤◌, nat_le, Bool, true, false, not, ◌&&◌, ◌||◌, nat_lt, List, [], ◌∷◌, ◌++◌, length, map, Option, Some, None, refl, sym, subst, arith}
 use Rattle.std.specs.Prelude.{if◌then◌else◌, ◌==◌}
 use Rattle.std.specs.List.{filter, flat_map, list_any, slice_get}
 use Rattle.std.proofs.lemmas.List.Sums.{count_by-le-length}
-use Rattle.std.proofs.lemmas.Bool.{and_parts, cond_both, eqb-true, false≢true, lt-ltb, or_cases, or_left, or_right}
+use Rattle.std.proofs.lemmas.Bool.{and_parts, cond_both, false≢true, lt-ltb, or_left}
+use Rattle.std.proofs.lemmas.Bool.Decides.{nat_tests}
 use Rattle.cfg_blocks.specs.declared.EdgeKind.{EdgeKind}
 use Rattle.cfg_blocks.specs.Blocks.{Blocks, holding_of}
 use Rattle.cfg_normal.specs.declared.Node.{Node}
@@ -35,9 +36,7 @@ pub lands_as : (b : Blocks) (opens : List Open) (word : ℕ) → word < b.words 
     → P (lands_of b opens (Some word))
 lands_as b opens word l P one other =
     let k : ℕ = holding_of b word in
-    subst (λ (x : Bool). P (if x then (if jumps_in opens k || is_behind opens k word then copy k else block k) else X))
-    (sym (lt-ltb _ _ l))
-    (cond_both (jumps_in opens k || is_behind opens k word) (copy k) (block k) P one other)
+    rw (lt-ltb _ _ l) (cond_both (jumps_in opens k || is_behind opens k word) (copy k) (block k) P one other)
 
 pub home_lands : (b : Blocks) (opens : List Open) (to : Option ℕ) → home_of (lands_of b opens to) ≡ node_of b to
 home_lands b opens to = grind arith
@@ -96,10 +95,9 @@ lands_in b opens some (Some word) =
 any_to : (b : Blocks) (opens : List Open) (word : ℕ) (words : List ℕ) → list_any (λ x. x == word) words ≡ true
     → list_any (is_it (lands_of b opens (Some word))) (map (λ w. lands_of b opens (Some w)) words) ≡ true
 any_to b opens word [] h = absurd (false≢true h)
-any_to b opens word (x ∷ xs) h = elim (or_cases (x == word) _ h) [
-  | inl e ↦ or_left _ _ (ap (λ w. same_node (lands_of b opens (Some w)) (lands_of b opens (Some word))) (eqb-true x word e) ∙ same_itself (lands_of b opens (Some word)))
-  | inr e ↦ or_right _ _ (any_to b opens word xs e)
-]
+any_to b opens word (x ∷ xs) h =
+    let rest = any_to b opens word xs in
+    let self = same_itself (lands_of b opens (Some word)) in grind (arith, nat_tests, rest, self)
 
 pub case_any : (b : Blocks) (opens : List Open) (k word : ℕ) → list_any (λ x. x == word) (targets_in opens k) ≡ true
     → list_any (is_it (lands_of b opens (Some word))) (case_nodes b opens k) ≡ true

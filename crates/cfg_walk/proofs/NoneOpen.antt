@@ -115,12 +115,7 @@ pub edges_none : (b : Blocks)
     → edges_in b []
     ≡ flat_map (edges_of b []) (below (length b.firsts)) ++ map block_landing (below (length b.firsts))
 unfolding edges_in
-edges_none b =
-    let own = flat_map (edges_of b []) (below (length b.firsts)) in
-    let landings = map landing_at (flat_map (landings_of []) (below (length b.firsts))) in
-    ap (λ (ks : List ℕ). own ++ flat_map (copied_edges b []) ks ++ landings) (filter_none (below (length b.firsts)))
-    ∙ ap (λ (es : List Edge). es ++ landings) (append-nil own)
-    ∙ ap (λ (es : List Edge). own ++ es) (landings_none (below (length b.firsts)))
+edges_none b = rw (filter_none (below (length b.firsts)), append-nil, landings_none) refl
 
 -- ---- edges lie in their graph, whatever switches are open
 

@@ -217,11 +217,8 @@ module _ (text : Words) (b : Blocks) (opens : List Open) (c : IsCut text b) wher
         let is : way_to text graph node kinds.Out point.npc ≡ way =
         ap (λ (x : Bool). if x then way else by_kind kinds.Out) e in
         ap (λ (w : WayOut). node_after graph node (left_along text graph node w point.npc)) is
-        ∙ ap (node_after graph node) (append-nil (edge_along graph node way))
-        ∙ leads_along graph node _ h.edge
-        (record { number = h.number; only = ap (edge_along graph node) (sym is) ∙ h.only; is = h.is })
-        ∙ h.lands_at refl
-        ∙ ap (λ (x : Bool). if x then lands_of b opens (word_at text point.npc) else X) e
+        ∙ rw append-nil (leads_along graph node _ h.edge
+        (record { number = h.number; only = rw is at h.only; is = h.is }) ∙ rw e at (h.lands_at refl))
     | inr e ↦
         let is : way_to text graph node kinds.Out point.npc ≡ by_kind kinds.Out =
         ap (λ (x : Bool). if x then record { kind = kinds.Case; to = Some (lands_of b opens (word_at text point.npc)) } else by_kind kinds.Out) e in

@@ -18,7 +18,7 @@ use Rattle.cfg_blocks.specs.Blocks.{Blocks}
 use Rattle.cfg_normal.specs.declared.Node.{Node}
 use Rattle.cfg_normal.specs.Opens.{Open}
 use Rattle.cfg_normal.specs.Graph.{directed, graph_of, has_cases, lands_of, node_of, runs_slot}
-use Rattle.cfg_walk.specs.Walk.{Point, by_kind, edge_from, left_at, node_after}
+use Rattle.cfg_walk.specs.Walk.{Point, by_kind, left_at, node_after}
 use Rattle.cfg_walk.proofs.Slots.{LeadsIfThere}
 use Rattle.cfg_blocks.specs.declared.EdgeKind.{EdgeKind}
 use Rattle.cfg_walk.specs.Matches.{IsTarget}
@@ -65,8 +65,7 @@ module _ {text : Words} {b : Blocks} {opens : List Open} {node : Node} {before :
     is_target : holds_of cond codes ≡ true → target ≡ numbered (target_of text word disp22)
     unfolding target
     is_target holds =
-        ap (λ (x : Bool). if x then None else numbered (target_of text word disp22))
-        (not_never cond codes holds)
+        rw (not_never cond codes holds) refl
 
     module _ (after : Point) where
       -- `ba,a`
@@ -77,7 +76,7 @@ module _ {text : Words} {b : Blocks} {opens : List Open} {node : Node} {before :
       unfolding taken
       always_annulled holds all pc npc =
           annulled h after transfer taken (one_taken holds) plain
-          (λ n. ap (λ (x : Bool). edge_from (graph_of b opens) n (if x then kinds.Taken else kinds.Untaken)) all)
+          (λ n. rw all refl)
           (jumps_to h after transfer target disp22 after.pc (ap target_in end) (is_target holds) pc).0 npc
 
       pub untaken_annulled : holds_of cond codes ≡ false
@@ -86,8 +85,7 @@ module _ {text : Words} {b : Blocks} {opens : List Open} {node : Node} {before :
       unfolding untaken
       untaken_annulled holds pc npc =
           annulled h after transfer untaken (one_untaken holds) plain
-          (λ n. ap (λ (x : Bool). edge_from (graph_of b opens) n (if x then kinds.Taken else kinds.Untaken))
-          (not_always cond codes holds))
+          (λ n. rw (not_always cond codes holds) refl)
           (skips h after transfer pc) npc
 
       pub taken_delayed : holds_of cond codes ≡ true → (not annul || not (cond == always)) ≡ true
@@ -122,7 +120,7 @@ module _ {text : Words} {b : Blocks} {opens : List Open} {node : Node} {before :
     always_goes after holds all pc =
         let to = jumps_to h after transfer target disp22 after.pc (ap target_in end) (is_target holds) pc in (
           annulled_to h after transfer taken (one_taken holds) plain
-              (λ n. ap (λ (x : Bool). edge_from (graph_of b opens) n (if x then kinds.Taken else kinds.Untaken)) all)
+              (λ n. rw all refl)
               ∙ ap (λ o. directed opens node kinds.Taken (node_of b o)) (sym to.0),
           subst (LeadsIfThere b) (sym to.0) to.1,
         )
@@ -133,8 +131,7 @@ module _ {text : Words} {b : Blocks} {opens : List Open} {node : Node} {before :
     untaken_goes after holds pc =
         let to = skips h after transfer pc in (
           annulled_to h after transfer untaken (one_untaken holds) plain
-              (λ n. ap (λ (x : Bool). edge_from (graph_of b opens) n (if x then kinds.Taken else kinds.Untaken))
-              (not_always cond codes holds))
+              (λ n. rw (not_always cond codes holds) refl)
               ∙ ap (λ o. directed opens node kinds.Untaken (node_of b o)) (sym to),
           subst (LeadsIfThere b) (sym to) (leads_second h after transfer),
         )
@@ -149,8 +146,7 @@ module _ {text : Words} {b : Blocks} {opens : List Open} {node : Node} {before :
       let end : end_at text word ≡ ends.Call target = end_is text word (i.Call disp30) h.decodes in
       let transfer : is_transfer (end_at text word) ≡ true = ap is_transfer end in
       into_slot h after transfer Taken (way kinds.Call (number_of target))
-      (subst (λ (e : BlockEnd). IsOne (way kinds.Call (number_of target)) (ways_of b.words word e)) (sym end)
-      (call_is_one b.words word target))
+      (rw end (call_is_one b.words word target))
       refl refl (quiet h transfer (ap is_jump end)) (ap (λ (e : BlockEnd). runs_slot e kinds.Call) end) pc
       (λ _. jumps_to h after transfer target disp30 after.npc (ap target_in end) refl npc)
       (λ _. jumps_along h after transfer disp30 after.npc npc) (λ jump. absurd (false≢true jump))

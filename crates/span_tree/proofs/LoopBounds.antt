@@ -1,10 +1,11 @@
 -- One loop more, and what the sums of beginnings and ends say.
-use Rattle.std.proofs.Common.{◌≡◌, ℕ, zero, suc, ◌+◌, ◌-◌, ◌<◌, ◌≤◌, ◌⊎◌, inl, inr, Bool, true, false, ◌&&◌, cond, List, [], ◌∷◌, ◌++◌, length, map, set, slice_index, add-one, refl, ap, sym, ◌∙◌, arith}
+use Rattle.std.proofs.Common.{◌≡◌, ℕ, zero, suc, ◌+◌, ◌-◌, ◌<◌, ◌≤◌, ◌⊎◌, inl, inr, Bool, true, false, ◌&&◌, cond, List, [], ◌∷◌, ◌++◌, length, map, set, slice_index, add-one, refl, ap, ◌∙◌, arith}
 use Rattle.std.specs.Prelude.{Some, None, nat_le}
 use Rattle.std.specs.List.{All}
 use Rattle.std.proofs.lemmas.Bool.{cases_eq, cases_lt}
-use Rattle.std.proofs.lemmas.List.{get_or-map, get_or-set_other, get_or-set_same, length-map, length-set, map-append}
+use Rattle.std.proofs.lemmas.List.{get_or-set_other, get_or-set_same, length-map, length-set, map-append}
 use Rattle.std.proofs.lemmas.List.Elements.{All-get_or, All-set, All-weaker}
+use Rattle.std.proofs.lemmas.Grind.{common_steps}
 use Rattle.eel_base.specs.declared.numbers.WordNo.{WordNo}
 use Rattle.flows.specs.Flows.{count_below}
 use Rattle.cfg_blocks.specs.Blocks.{Blocks, below, end_of, last_word}
@@ -129,9 +130,7 @@ loops_length b loops e = ap length e ∙ length-map (below b.words) (loops_at b)
 pub loops_read : (b : Blocks) (loops : List ℕ) (word : ℕ) → loops ≡ map (loops_at b) (below b.words) → word < b.words
     → slice_index loops word ≡ loops_at b word
 loops_read b loops word e l =
-    ap (λ (xs : List ℕ). slice_index xs word) e
-    ∙ get_or-map (loops_at b) (below b.words) word 0 0 (omega (arith, l, length-below b.words))
-    ∙ ap (loops_at b) (get_or-below b.words word 0 l)
+    rw e (grind (arith, common_steps, length-below b.words, get_or-below b.words word 0))
 
 -- a turn of the loop over the words: what is about one, and what stays about the next
 module _ (b : Blocks) (begins ends : List ℕ) (h : AreBounds b (length b.firsts) begins ends) (about word : ℕ)
@@ -151,6 +150,4 @@ module _ (b : Blocks) (begins ends : List ℕ) (h : AreBounds b (length b.firsts
 
 pub loops_more : (b : Blocks) (loops : List ℕ) (word n : ℕ) → loops ≡ map (loops_at b) (below word) → n ≡ loops_at b word
     → loops ++ n ∷ [] ≡ map (loops_at b) (below (word + 1))
-loops_more b loops word n e is = rw add-one (
-    ap (λ (xs : List ℕ). xs ++ n ∷ []) e ∙ ap (λ (n : ℕ). map (loops_at b) (below word) ++ n ∷ []) is
-    ∙ sym (map-append (loops_at b) (below word) (word ∷ [])))
+loops_more b loops word n e is = rw (add-one, e, is, map-append) refl

@@ -1,10 +1,11 @@
 -- The ranks of edges, and that weights rise with them.
-use Rattle.std.proofs.Common.{◌≡◌, ℕ, ◌^◌, ◌<◌, ◌≤◌, List, [], ◌∷◌, length, map, slice_index, ap, ◌∙◌, arith}
+use Rattle.std.proofs.Common.{◌≡◌, ℕ, ◌^◌, ◌<◌, ◌≤◌, List, [], ◌∷◌, length, map, ap, ◌∙◌, arith}
 use Rattle.std.specs.List.{All}
-use Rattle.std.proofs.lemmas.List.{get_or-map, length-map}
+use Rattle.std.proofs.lemmas.List.{length-map}
 use Rattle.std.proofs.lemmas.List.Elements.{All-cons, All-nil}
 use Rattle.flows.specs.Links.{weight_in}
 use Rattle.flow_tree.specs.Tree.{RisesWith}
+use Rattle.std.proofs.lemmas.Grind.{common_steps}
 use Rattle.cfg_blocks.specs.declared.EdgeKind.{EdgeKind}
 use Rattle.cfg_blocks.specs.Blocks.{Blocks, below}
 use Rattle.cfg_blocks.proofs.Below.{get_or-below, length-below}
@@ -27,9 +28,7 @@ ranks_length g weights ranks n are = ap length are ∙ length-map (below n) (ran
 
 module _ (g : Graph) (weights ranks : List ℕ) (n : ℕ) (are : ranks ≡ map (rank_of g weights) (below n)) where
   rank_at : (e : ℕ) → e < n → weight_in ranks e ≡ rank_of g weights e
-  rank_at e l = ap (λ (xs : List ℕ). slice_index xs e) are
-      ∙ get_or-map (rank_of g weights) (below n) e 0 0 (omega (arith, l, length-below n))
-      ∙ ap (rank_of g weights) (get_or-below n e 0 l)
+  rank_at e l = rw are (grind (arith, common_steps, length-below n, get_or-below n e 0))
 
   pub ranks_rise : RisesWith n (weight_in ranks) (rank_of g weights)
   ranks_rise e h le lh below = omega (arith, below, rank_at e le, rank_at h lh)

@@ -21,11 +21,8 @@ quiet_sum : (s : ℕ → Bool) (a n : ℕ) → ((w : ℕ) → a ≤ w → w < a 
     → count_below (a + n) s ≡ count_below a s
 quiet_sum s a zero h = let same : a + 0 ≡ a = omega arith in ap (λ (n : ℕ). count_below n s) same
 quiet_sum s a (suc n) h =
-    let before = quiet_sum s a n (λ w l m. h w l (omega (arith, m))) in
-    let last : one (s (a + n)) ≡ 0 = ap one (h (a + n) (omega arith) (omega arith)) in
     let next : a + suc n ≡ suc (a + n) = omega arith in
-    let is : count_below (a + suc n) s ≡ count_below (suc (a + n)) s = ap (λ (n : ℕ). count_below n s) next in
-    omega (arith, before, last, is)
+    rw (next, h (a + n) (omega arith) (omega arith), quiet_sum s a n (λ w l m. h w l (omega (arith, m)))) (omega arith)
 
 -- from a on only the last number before an end may pass
 last_sum : (s : ℕ → Bool) (a end : ℕ) → a < end → ((w : ℕ) → a ≤ w → suc w < end → s w ≡ false)
@@ -41,10 +38,8 @@ last_sum s a (suc last) l h =
     omega (arith, before, same, now)
 
 no_target : (end : BlockEnd) → is_transfer end ≡ false → branch_target end ≡ None
-no_target ends.Fall h = refl
 no_target (ends.Branch cond annul target) h = absurd (cc)
-no_target (ends.Call target) h = refl
-no_target ends.Jump h = refl
+no_target _ h = refl
 
 module _ (text : Words) (b : Blocks) (h : IsCut text b) (word : ℕ) where
   -- the word stands in the loop of a branch
@@ -71,8 +66,7 @@ module _ (text : Words) (b : Blocks) (h : IsCut text b) (word : ℕ) where
   blocks_sum : (i : ℕ) → i < length b.firsts
       → count_below (block_end b.firsts b.words i) about ≡ count_below (suc i) (λ block. about (last block))
   blocks_sum zero l =
-      let first : count_below (slice_index b.firsts 0) about ≡ 0 = ap (λ (n : ℕ). count_below n about) h.firsts.begin in
-      omega (arith, block_sum 0 l, first)
+      omega (arith, rw h.firsts.begin at (block_sum 0 l))
   blocks_sum (suc i) l =
       let before = blocks_sum i (omega (arith, l)) in
       let next : block_end b.firsts b.words i ≡ slice_index b.firsts (suc i) = rw (lt-ltb _ _ l) refl in

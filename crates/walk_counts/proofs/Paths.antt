@@ -1,6 +1,6 @@
 -- The walk of a run is a walk of the plain graph.
 use Rattle.std.specs.Prelude.{if◌then◌else◌}
-use Rattle.std.proofs.Common.{◌≡◌, ◌≢◌, ℕ, zero, suc, ◌<◌, Bool, true, false, ◌&&◌, List, [], ◌∷◌, ◌++◌, length, Option, Some, None, refl, ap, sym, ◌∙◌, subst}
+use Rattle.std.proofs.Common.{◌-◌, ◌≡◌, ◌≢◌, ℕ, zero, suc, ◌<◌, Bool, true, false, ◌&&◌, List, [], ◌∷◌, ◌++◌, length, Option, Some, None, refl, ap, sym, ◌∙◌, subst}
 use Rattle.std.specs.List.{position, slice_get}
 use Rattle.std.specs.Option.{option_to_list}
 use Rattle.std.proofs.lemmas.Bool.{and_parts, cond_both, false≢true}
@@ -11,7 +11,7 @@ use Rattle.v8_decode.specs.declared.Instr.{Instr}
 use Rattle.v8_decode.specs.declared.Instr.TheVariants as i
 use Rattle.v8_step.specs.declared.Ending.{Ending}
 use Rattle.v8_step.specs.declared.Slot.{Slot}
-use Rattle.v8_step.specs.declared.Slot.TheVariants.{NoSlot, Taken, Untaken}
+use Rattle.v8_step.specs.declared.Slot.TheVariants.{NoSlot}
 use Rattle.v8_step.specs.State.{State}
 use Rattle.v8_step.specs.Run.{run}
 use Rattle.flows.specs.Flows.{Graph as PlainGraph}
@@ -25,7 +25,7 @@ use Rattle.cfg_normal.specs.declared.Node.{Node}
 use Rattle.cfg_normal.specs.declared.Node.TheVariants.{X}
 use Rattle.cfg_normal.specs.Opens.{Open}
 use Rattle.cfg_normal.specs.Graph.{Graph, graph_of, has_cases, lands_of}
-use Rattle.cfg_walk.specs.Walk.{Point, WayOut, by_kind, completed, edge_along, leads_along as is_to, way_to, edge_from, end_of_walk, ends_block, gone, landed, landing_at, led_to, left_at, left_by, node_after, point_of, same_kind, same_node, slot_left, unless_ended, walk}
+use Rattle.cfg_walk.specs.Walk.{instr_at, way_of, Point, WayOut, by_kind, completed, edge_along, leads_along as is_to, way_to, edge_from, end_of_walk, ends_block, gone, landed, landing_at, led_to, left_at, left_by, node_after, point_of, same_kind, same_node, slot_left, unless_ended, walk}
 use Rattle.cfg_walk.specs.Matches.{IsOnItsWay, MatchesBy}
 use Rattle.cfg_normal.specs.Numbers.{node_number}
 use Rattle.span_tree.specs.Links.{edge_at, links_of}
@@ -159,14 +159,9 @@ module _ (text : Words) (b : Blocks) (opens : List Open) where
       → (was ≢ NoSlot → now ≡ NoSlot → after.pc ≡ before.npc)
       → IsPath graph node (completed text graph node before after was now)
   step_path node before after NoSlot NoSlot h goes = path_at graph text node (word_at text before.pc)
-  step_path node before after NoSlot Taken h goes = refl
-  step_path node before after NoSlot Untaken h goes = refl
-  step_path node before after Taken NoSlot h goes = slot_path node before _ after.pc (goes (λ e. absurd (cc)) refl) h
-  step_path node before after Taken Taken h goes = refl
-  step_path node before after Taken Untaken h goes = refl
-  step_path node before after Untaken NoSlot h goes = slot_path node before _ after.pc (goes (λ e. absurd (cc)) refl) h
-  step_path node before after Untaken Taken h goes = refl
-  step_path node before after Untaken Untaken h goes = refl
+  step_path node before after was NoSlot h goes =
+      slot_path node before (way_of (instr_at text (before.pc - 4)) was) after.pc (goes (λ e. absurd (cc)) refl) h
+  step_path node before after _ _ h goes = refl
 
   pub gone_path : (node : Node) (s t : State) (o : Option Ending)
       → (o ≡ None → MatchesBy text graph node (point_of s) s.slot)
