@@ -4,9 +4,10 @@ use Rattle.std.specs.Prelude.{if◌then◌else◌, ◌==◌, slice_index_or, ℤ
 use Rattle.std.specs.List.{Contains, flat_map, list_any}
 use Rattle.std.specs.Option.{option_to_list}
 use Rattle.std.proofs.lemmas.List.Folds.{list_any-append}
-use Rattle.std.proofs.lemmas.List.{append-nil, get_or-map, length-map}
+use Rattle.std.proofs.lemmas.List.{append-nil, length-map}
 use Rattle.cfg_blocks.proofs.Below.{get_or-below, length-below}
 use Rattle.std.proofs.lemmas.Bool.{eq-eqb, false≢true, lt-ltb, or_left, or_right}
+use Rattle.std.proofs.lemmas.Grind.{common_steps}
 use Rattle.eel_base.specs.CodeText.{Words, IsText, word_at}
 use Rattle.v8_decode.specs.declared.Instr.TheVariants as i
 use Rattle.cfg_blocks.specs.declared.BlockEnd.TheVariants as ends
@@ -110,9 +111,7 @@ any_from p text from count number to l is h =
     in_range = omega (arith, l, length-map (below count) (λ k. from + k), length-below count)
 
     at_number : slice_index_or (words_from from count) number (from + number) ≡ from + number
-    at_number =
-        get_or-map (λ k. from + k) (below count) number 0 (from + number) (omega (arith, l, length-below count))
-        ∙ ap (λ k. from + k) (get_or-below count number 0 l)
+    at_number = grind (arith, common_steps, length-below count, get_or-below count number 0)
 
 pub target_among : (text : Words) (switch : Switch) (number entry to : ℕ) → IsText text
     → is_table text switch.table.0 switch.count ≡ true → number < switch.count

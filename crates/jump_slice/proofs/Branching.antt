@@ -24,14 +24,10 @@ run_add s k (suc l) = let e : k + suc l ≡ suc (k + l) = omega arith in ap (run
 pub taken_not : Taken ≢ NoSlot
 taken_not e = absurd (cc)
 
-pub untaken_not : Untaken ≢ NoSlot
-untaken_not e = absurd (cc)
-
 -- there is a slot or none
 pub slot_cases : (x : Slot) → (x ≡ NoSlot) ⊎ (x ≢ NoSlot)
 slot_cases NoSlot = inl refl
-slot_cases Taken = inr taken_not
-slot_cases Untaken = inr untaken_not
+slot_cases _ = inr (λ e. absurd (cc))
 
 -- ---- how a branch goes
 
@@ -50,8 +46,7 @@ branched_tells : (cond : ℕ) (annul : Bool) (disp : ℤ) (s : State) (to : ℕ)
     → s.slot ≡ NoSlot → TellsBy cond annul disp (branched holds always annul s to) y holds
 branched_tells cond true disp s to y true true slot not e = absurd (not (sym e ∙ slot))
 branched_tells cond false disp s to y true true slot not e = tells_taken cond false disp s to y not e
-branched_tells cond true disp s to y true false slot not e = tells_taken cond true disp s to y not e
-branched_tells cond false disp s to y true false slot not e = tells_taken cond false disp s to y not e
+branched_tells cond annul disp s to y true always slot not e = tells_taken cond annul disp s to y not e
 branched_tells cond true disp s to y false always slot not e = absurd (not (sym e ∙ slot))
 branched_tells cond false disp s to Untaken false always slot not e = (refl, refl)
 branched_tells cond false disp s to NoSlot false always slot not e = absurd (not refl)
@@ -78,11 +73,8 @@ annulled_branch : (s : State) (cond : ℕ) (annul : Bool) (disp : ℤ) (holds al
     → IsAnnulled s (branched holds always annul s (target_of s disp)) (i.Branch cond annul disp)
 annulled_branch s cond true disp true true h a e = (cond, disp, refl, inl (h, a, refl))
 annulled_branch s cond true disp true false h a e = absurd (cc)
-annulled_branch s cond false disp true always h a e = absurd (taken_delayed s (target_of s disp) always e)
-  where
-    taken_delayed : (s : State) (to : ℕ) (always : Bool) → (branched true always false s to).slot ≡ NoSlot → ⊥
-    taken_delayed s to true e = absurd (cc)
-    taken_delayed s to false e = absurd (cc)
+annulled_branch s cond false disp true true h a e = absurd (cc)
+annulled_branch s cond false disp true false h a e = absurd (cc)
 annulled_branch s cond true disp false always h a e = (cond, disp, refl, inr (h, refl))
 annulled_branch s cond false disp false always h a e = absurd (cc)
 

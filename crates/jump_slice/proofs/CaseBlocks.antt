@@ -4,8 +4,9 @@ use Rattle.std.specs.Prelude.{slice_index_or}
 use Rattle.std.specs.List.{Contains, flat_map}
 use Rattle.std.specs.Option.{is_some, option_to_list}
 use Rattle.std.proofs.lemmas.Bool.{false≢true}
-use Rattle.std.proofs.lemmas.List.{get_or-map, length-map}
+use Rattle.std.proofs.lemmas.List.{length-map}
 use Rattle.eel_base.specs.CodeText.{Words, IsText, word_at}
+use Rattle.std.proofs.lemmas.Grind.{common_steps}
 use Rattle.cfg_blocks.specs.declared.switches.Switch.{Switch}
 use Rattle.cfg_blocks.specs.Blocks.{Blocks, below, blocks_of}
 use Rattle.cfg_blocks.specs.Entries.{entered_of}
@@ -50,9 +51,7 @@ target_of text switch t k l =
     (ap (entry_in text) here ∙ ap (λ (o : Option ℕ). option_to_list o) to.1) ∙ sym to.1
   where
     here : slice_index_or (words_from t.begins switch.count) k 0 ≡ t.begins + k
-    here =
-        get_or-map (λ j. t.begins + j) (below switch.count) k 0 0 (omega (arith, l, length-below switch.count))
-        ∙ ap (λ j. t.begins + j) (get_or-below switch.count k 0 l)
+    here = grind (arith, common_steps, length-below switch.count, get_or-below switch.count k 0)
 
 -- ---- what is known of the block
 

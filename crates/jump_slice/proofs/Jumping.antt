@@ -12,7 +12,7 @@ use Rattle.cfg_blocks.specs.Blocks.{holding_of, last_word}
 use Rattle.cfg_blocks.specs.Entries.{entered_of}
 use Rattle.cfg_blocks.specs.Switches.{runs_slot}
 use Rattle.cfg_normal.specs.declared.Node.{Node}
-use Rattle.cfg_normal.specs.declared.Node.TheVariants.{Block, Landed, X}
+use Rattle.cfg_normal.specs.declared.Node.TheVariants.{Block}
 use Rattle.cfg_normal.specs.Opens.{Open, jumps_in}
 use Rattle.cfg_walk.specs.Walk.{point_of}
 use Rattle.cfg_walk.specs.Matches.{GoesByCase, IsTarget}
@@ -106,5 +106,4 @@ module _ {text : Words} {given : List ℕ} {entry : ℕ} {opens : List Open} {s0
   pub goes_by_case : (n : ℕ) (node : Node) → Tells r n node → (run s0 (suc n)).ending ≡ None
       → GoesByCase text opens node (point_of (run s0 n)) (point_of (run s0 (suc n)))
   goes_by_case n (Block k) h live cased slot taken = jump_goes n k.0 h live cased slot taken
-  goes_by_case n (Landed k) h live cased slot taken = absurd (false≢true cased)
-  goes_by_case n X h live cased slot taken = absurd (false≢true cased)
+  goes_by_case n _ h live cased slot taken = absurd (false≢true cased)

@@ -73,8 +73,7 @@ way_of_open text list entry opens all (Block c) kind k h =
     let two = and_parts (o.0.block == k) (o.0.switch.compare.0 == c.0) one.0 in
     let from = ap block (sym (eqb-true o.0.switch.compare.0 c.0 two.1)) in
     record { o = o.0; among = o.1; is = o.3; block_is = eqb-true o.0.block k two.0; from_is = from; kind_is = same_kinds kind o.0.way one.1 }
-way_of_open text list entry opens all (Landed c) kind k h = absurd (false≢true h)
-way_of_open text list entry opens all X kind k h = absurd (false≢true h)
+way_of_open text list entry opens all _ kind k h = absurd (false≢true h)
 
 -- a run of a program from its entry, with these open switches
 pub record IsRun (text : Words) (given : List ℕ) (entry : ℕ) (opens : List Open) (s0 : State) : Type 0 where

@@ -46,15 +46,13 @@ module _ (R : Value → Value → Type 0) (kept : IsKept R) where
   all_at [] [] r h = kept.none
   all_at (u ∷ us) (v ∷ vs) zero h = h.0
   all_at (u ∷ us) (v ∷ vs) (suc r) h = all_at us vs r h.1
-  all_at [] (v ∷ vs) r h = absurd h
-  all_at (u ∷ us) [] r h = absurd h
+  all_at _ _ r h = absurd h
 
   all_set : (us vs : List Value) (r : ℕ) (u v : Value) → All us vs → R u v → All (slice_set us r u) (slice_set vs r v)
   all_set [] [] r u v h k = tt
   all_set (x ∷ us) (y ∷ vs) zero u v h k = (k, h.1)
   all_set (x ∷ us) (y ∷ vs) (suc r) u v h k = (h.0, all_set us vs r u v h.1 k)
-  all_set [] (y ∷ vs) r u v h k = absurd h
-  all_set (x ∷ us) [] r u v h k = absurd h
+  all_set _ _ r u v h k = absurd h
 
   all_put : (us vs : List Value) (r : ℕ) (u v : Value) → All us vs → R u v → All (put us r u) (put vs r v)
   all_put us vs zero u v h k = h
@@ -142,16 +140,11 @@ module _ (P : ℕ → Type 0) where
   has_plus_const : (a : ℕ) (v : Value) → Has v → Has (plus_const a v)
   has_plus_const a (Const b) h = tt
   has_plus_const a (Place c) h = tt
-  has_plus_const a Unknown h = has_zero a Unknown h
-  has_plus_const a Index h = has_zero a Index h
-  has_plus_const a (Entry c) h = has_zero a (Entry c) h
+  has_plus_const a v h = has_zero a v h
 
   has_either_const : (a : ℕ) (v : Value) → Has v → Has (either_const a v)
   has_either_const a (Const b) h = tt
-  has_either_const a (Place c) h = has_zero a (Place c) h
-  has_either_const a Unknown h = has_zero a Unknown h
-  has_either_const a Index h = has_zero a Index h
-  has_either_const a (Entry c) h = has_zero a (Entry c) h
+  has_either_const a v h = has_zero a v h
 
   has_plus : (u v : Value) → Has u → Has v → Has (plus u v)
   has_plus (Const a) v h k = has_plus_const a v k
@@ -208,17 +201,11 @@ have_origin text us vs from count (suc n) l h =
 
 none_unloaded : (P : ℕ → Type 0) (v : Value) → Has P (unloaded v)
 none_unloaded P (Entry c) = tt
-none_unloaded P Unknown = tt
-none_unloaded P (Const c) = tt
-none_unloaded P Index = tt
-none_unloaded P (Place c) = tt
+none_unloaded P _ = tt
 
 entry_is : (v : Value) → is_entry v ≡ true → (c : ℕ) × (v ≡ Entry c)
 entry_is (Entry c) h = (c, refl)
-entry_is Unknown h = absurd (cc)
-entry_is (Const c) h = absurd (cc)
-entry_is Index h = absurd (cc)
-entry_is (Place c) h = absurd (cc)
+entry_is _ h = absurd (cc)
 
 -- what is known with less is so
 sum_known : (text : Words) (us vs : List Value) (from n rs1 : ℕ) (op2 : Op2) (w : Value) → All Less less_kept us vs

@@ -75,15 +75,12 @@ module _ (text : Words) (list : Entered) (block : ℕ) (switch : Switch) where
   found_behind from way (ends.Branch cond annul target) e f h =
       found_on from way cond annul target (compare_of text b from.0) e f refl
       (if_some (bounds cond way) (switch_on text b block from.0 annul way (compare_of text b from.0)) switch h).1
-  found_behind from way ends.Fall e f h = absurd (cc)
-  found_behind from way (ends.Call target) e f h = absurd (cc)
-  found_behind from way ends.Jump e f h = absurd (cc)
+  found_behind from way _ e f h = absurd (cc)
 
   found_into : (x : Into) → slice_index_or list.intos block into.Nothing ≡ x
       → switch_into text b block x ≡ Some switch → Found text list block switch
   found_into (into.One from way) e h = found_behind from way (end_of b from.0) e refl h
-  found_into into.Nothing e h = absurd (cc)
-  found_into into.More e h = absurd (cc)
+  found_into _ e h = absurd (cc)
 
   pub found_in : (entry : ℕ) → switch_of text list entry block ≡ Some switch
       → Found text list block switch × (is_jump (end_of b block) ≡ true) × ((slice_index b.firsts block == entry) ≡ false)

@@ -5,7 +5,7 @@ use Rattle.std.proofs.lemmas.Bool.{cases_Bool, eq-eqb, eqb-true, false≢true, l
 use Rattle.eel_base.specs.CodeText.{Words, IsText, word_at}
 use Rattle.v8_step.specs.declared.Ending.{Ending}
 use Rattle.v8_step.specs.declared.Slot.{Slot}
-use Rattle.v8_step.specs.declared.Slot.TheVariants.{NoSlot, Taken, Untaken}
+use Rattle.v8_step.specs.declared.Slot.TheVariants.{NoSlot}
 use Rattle.v8_step.specs.State.{State}
 use Rattle.v8_step.specs.Run.{run}
 use Rattle.v8_step.specs.Valid.{IsValid}
@@ -36,7 +36,6 @@ use Rattle.jump_slice.proofs.Opened.{opens_are, open_found}
 use Rattle.jump_slice.specs.Cases.{JumpsAreCases, SwitchesAreCompared, SwitchWalksMatch, ComesFromCompare}
 use Rattle.jump_slice.specs.Held.{HoldsText}
 use Rattle.jump_slice.proofs.About.{about}
-use Rattle.jump_slice.proofs.Branching.{taken_not, untaken_not}
 use Rattle.jump_slice.proofs.Known.{Carries, Compared, IsHead, IsRun, KnownBy, Passed, Tells, b, block_number, carried, graph, known_outside, list, opened, parts, same_some, sets_transfer}
 use Rattle.jump_slice.proofs.Jumping.{goes_by_case}
 use Rattle.jump_slice.proofs.Passing.{leaves_slot, passes}
@@ -77,22 +76,11 @@ module _ {text : Words} {given : List ℕ} {entry : ℕ} {opens : List Open} {s0
   next_knows : (n : ℕ) (node : Node) → Tells r n node → (run s0 (suc n)).ending ≡ None → (x y : Slot)
       → (run s0 n).slot ≡ x → (run s0 (suc n)).slot ≡ y → KnownBy r (suc n) (Next n node x y) y
   next_knows n node h live NoSlot NoSlot was now = quiet_knows r n node h live was now
-  next_knows n node h live NoSlot Taken was now = passes r n node h live was Taken now (λ e. absurd (cc))
-  next_knows n node h live NoSlot Untaken was now = passes r n node h live was Untaken now (λ e. absurd (cc))
-  next_knows n node h live Taken NoSlot was now =
-      leaves_slot r n node (WayIn n Taken) (subst (λ (x : Slot). MatchesBy text (graph r) node (point_of (run s0 n)) x) was h.matches)
-      (rw was at h.known) (pc_after n node live (λ e. taken_not (sym was ∙ e)))
-  next_knows n node h live Untaken NoSlot was now =
-      leaves_slot r n node (WayIn n Untaken) (subst (λ (x : Slot). MatchesBy text (graph r) node (point_of (run s0 n)) x) was h.matches)
-      (rw was at h.known) (pc_after n node live (λ e. untaken_not (sym was ∙ e)))
-  next_knows n node h live Taken Taken was now =
-      absurd (never_both n node live (λ e. taken_not (sym was ∙ e)) (λ e. taken_not (sym now ∙ e)))
-  next_knows n node h live Taken Untaken was now =
-      absurd (never_both n node live (λ e. taken_not (sym was ∙ e)) (λ e. untaken_not (sym now ∙ e)))
-  next_knows n node h live Untaken Taken was now =
-      absurd (never_both n node live (λ e. untaken_not (sym was ∙ e)) (λ e. taken_not (sym now ∙ e)))
-  next_knows n node h live Untaken Untaken was now =
-      absurd (never_both n node live (λ e. untaken_not (sym was ∙ e)) (λ e. untaken_not (sym now ∙ e)))
+  next_knows n node h live NoSlot y was now = passes r n node h live was y now (λ e. absurd (cc))
+  next_knows n node h live x NoSlot was now =
+      leaves_slot r n node (WayIn n x) (subst (λ (x : Slot). MatchesBy text (graph r) node (point_of (run s0 n)) x) was h.matches)
+      (subst (λ (x : Slot). KnownBy r n node x) was h.known) (pc_after n node live (λ e. absurd (cc)))
+  next_knows n node h live x y was now = absurd (never_both n node live (λ e. absurd (cc)) (λ e. absurd (cc)))
 
   fetches_at : (n : ℕ) → FetchesOnly text (run s0 n)
   fetches_at n a = code_stays.1 s0 n a ∙ r.fetches a
@@ -167,14 +155,7 @@ pub run_of : (text : Words) (given : List ℕ) (entry : ℕ) (s0 : State) → Is
     → HoldsText text s0.memory → BeginsAt text entry s0
     → let list = entered_of text given in
     IsRun text given entry (opens_of text list (switches_of text list entry)) s0
-run_of text given entry s0 is valid fetches holds begins = record {
-  is_text = is;
-  valid = valid;
-  fetches = fetches;
-  holds = holds;
-  begins = begins;
-  all = opens_are text given entry is;
-}
+run_of text given entry s0 is valid fetches holds begins = assumption (opens_are text given entry is)
 
 pub switches_are_compared : SwitchesAreCompared
 unfolding entered_of
