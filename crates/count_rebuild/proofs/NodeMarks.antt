@@ -1,58 +1,27 @@
 -- Marks of numbers, one more or many.
-use Rattle.std.proofs.Common.{◌≡◌, ℕ, ◌+◌, ◌*◌, ◌<◌, Bool, true, false, ◌||◌, List, [], ◌∷◌, ◌++◌, length, map, nat_le, get_or, set, take, drop, refl, ap, sym, ◌∙◌, arith, inl, inr, eq-eqb}
+use Rattle.std.proofs.Common.{◌≡◌, ℕ, ◌+◌, ◌*◌, ◌<◌, Bool, true, false, ◌||◌, List, ◌++◌, length, map, nat_le, get_or, set, take, drop, ap, sym, ◌∙◌, arith}
 use Rattle.std.specs.Prelude.{◌==◌}
 use Rattle.std.specs.List.{list_any, range_with_len}
-use Rattle.std.proofs.lemmas.Bool.{cases_eq, eqb-true, or_right}
-use Rattle.std.proofs.lemmas.List.{append-nil, drop_all, get_or-map, get_or-set_other, get_or-set_same, length-map, take_all, take_more}
+use Rattle.std.proofs.lemmas.List.{append-nil, drop_all, get_or-map, length-map, take_all, take_more}
 use Rattle.std.proofs.lemmas.List.FromFn.{get_or-range_with_len, length-range_with_len}
 use Rattle.std.proofs.lemmas.List.Folds.{list_any-append}
+use Rattle.std.proofs.lemmas.Bool.Decides.{nat_tests}
+use Rattle.std.proofs.lemmas.Grind.{common_steps}
+use Rattle.std.proofs.Math.Bool.{or-false, or_assoc}
 use Rattle.flows.specs.Links.{marked}
 use Rattle.notes.specs.Seen.{edge_seen, notes_seen, range_seen}
 use Rattle.notes.specs.declared.note.Notes as declared_notes
 use Rattle.count_rebuild.specs.Noted.{AreNodes, ends_at, lies_at}
-use Rattle.count_rebuild.proofs.Rules.{any-map}
-
--- another number adds nothing
-pub or_other : (x : Bool) (number node : ℕ) → (number ≡ node → ⊥) → (x || (number == node)) ≡ x
-or_other x number node other = by x (number == node) refl
-  where
-    by : (x t : Bool) → (number == node) ≡ t → (x || t) ≡ x
-    by true t e = refl
-    by false true e = absurd (other (eqb-true number node e))
-    by false false e = refl
+use Rattle.notes.proofs.Steps.{any_map}
 
 pub marked_more : (marks : List Bool) (number : ℕ) → number < length marks → (node : ℕ)
     → marked (set marks number true) node ≡ (marked marks node || (number == node))
-marked_more marks number l node = elim (cases_eq node number) [
-  | inl same ↦
-      ap (marked (set marks number true)) same ∙ get_or-set_same marks number true false l
-      ∙ sym (or_right (marked marks node) (number == node) (eq-eqb number node (sym same)))
-  | inr other ↦
-      get_or-set_other marks number node true false other
-      ∙ sym (or_other (marked marks node) number node (λ e. other (sym e)))
-]
+marked_more marks number l node = grind (arith, common_steps, nat_tests)
 
 -- one more of a list, which passes by one test or another
 pub any_more : {X : Type 0} (p : X → Bool) (xs : List X) (i : ℕ) (d : X) → i < length xs → (first : Bool)
     → ((first || list_any p (take i xs)) || p (get_or xs i d)) ≡ (first || list_any p (take (i + 1) xs))
-any_more p xs i d l first =
-    by first (list_any p (take i xs)) (p (get_or xs i d))
-    ∙ ap (λ x. first || x) (sym (list_any-append p (take i xs) (get_or xs i d ∷ [])))
-    ∙ ap (λ ys. first || list_any p ys) (sym (take_more xs i d l))
-  where
-    by : (a b c : Bool) → ((a || b) || c) ≡ (a || (b || (c || false)))
-    by true b c = refl
-    by false true c = refl
-    by false false true = refl
-    by false false false = refl
-
-pub or_assoc : (a b c : Bool) → ((a || b) || c) ≡ (a || (b || c))
-or_assoc true b c = refl
-or_assoc false b c = refl
-
-pub or_none : (a : Bool) → a ≡ (a || false)
-or_none true = refl
-or_none false = refl
+any_more p xs i d l first = simp (take_more xs i d l, list_any-append, or-false, or_assoc)
 
 -- ---- all of them
 
@@ -60,8 +29,7 @@ or_none false = refl
 pub written : (new old : List Bool) (len : ℕ) → length new ≡ len → length old ≡ len
     → take len (new ++ drop (length new) old) ≡ new
 written new old len one two =
-    ap (λ rest. take len (new ++ rest)) (drop_all (length new) old (omega (arith, one, two)))
-    ∙ ap (take len) (append-nil new) ∙ take_all len new (omega (arith, one))
+    rw (drop_all (length new) old (omega (arith, one, two)), append-nil) (take_all len new (omega (arith, one)))
 
 module _ (n : declared_notes.Notes) (first edges all : List Bool)
     (blocks : first ≡ map (λ number. nat_le number (length n.blocks.items)) (range_with_len 0 (2 * length n.blocks.items + 1)))
@@ -97,7 +65,7 @@ module _ (n : declared_notes.Notes) (first edges all : List Bool)
         ∙ ap (λ (x : Bool). x || list_any (λ edge. ends_at node (edge_seen edge)) n.edges.items)
         (first_is node (omega (arith, before, first_len)))
         ∙ ap (λ (x : Bool). nat_le node (length n.blocks.items) || x)
-        (sym (any-map (ends_at node) edge_seen n.edges.items)))
+        (sym (any_map (ends_at node) edge_seen n.edges.items)))
         ∙ ap (λ (x : Bool). (nat_le node (length n.blocks.items) || list_any (ends_at node) (map edge_seen n.edges.items)) || x)
-        (sym (any-map (lies_at node) range_seen n.ranges.items));
+        (sym (any_map (lies_at node) range_seen n.ranges.items));
   }

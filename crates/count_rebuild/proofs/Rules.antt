@@ -1,5 +1,5 @@
 -- What the notes' rules and lists say of their graph.
-use Rattle.std.proofs.Common.{◌≡◌, ℕ, zero, suc, ◌+◌, ◌*◌, ◌<◌, ◌≤◌, Bool, true, false, ◌&&◌, ◌||◌, cond, List, [], ◌∷◌, get_or, length, map, nat_le, nat_lt, Option, Some, None, refl, ap, sym, ◌∙◌, arith}
+use Rattle.std.proofs.Common.{◌≡◌, ℕ, ◌+◌, ◌*◌, ◌<◌, ◌≤◌, Bool, true, false, ◌&&◌, List, [], ◌∷◌, get_or, length, map, nat_le, nat_lt, Option, Some, None, refl, ap, sym, ◌∙◌, arith}
 use Rattle.std.specs.Prelude.{IfSome, ℤ, if◌then◌else◌}
 use Rattle.std.specs.List.{All, find, list_any}
 use Rattle.std.specs.Option.{option_map, option_or}
@@ -7,6 +7,7 @@ use Rattle.std.proofs.Math.ListN.{get_or-map}
 use Rattle.std.proofs.lemmas.Bool.{and_parts, cond_both, eq-eqb, le-leb, leb-true, or_left, or_right}
 use Rattle.std.proofs.lemmas.List.{length-map}
 use Rattle.std.proofs.lemmas.List.Elements.{All-cons, All-head, All-nil, All-tail}
+use Rattle.std.proofs.lemmas.List.Folds.{list_any_at}
 use Rattle.notes.specs.Format.{NoteEdge, NoteRange, NoteSegment, Notes, holds, node_at, range_at}
 use Rattle.flows.specs.Flows.{EdgeSet, Graph, NodeSet}
 use Rattle.flows.specs.Links.{graph_of, marked}
@@ -17,6 +18,7 @@ use Rattle.flow_rebuild.specs.Values.{int_at}
 use Rattle.notes.specs.Rules.{are_edges, are_ranges, is_edge, is_range, with_cell}
 use Rattle.eel_base.specs.declared.range.Range as declared_range
 use Rattle.notes.specs.Seen.{edge_seen, notes_seen, range_seen, segment_seen}
+use Rattle.notes.proofs.Steps.{any_map}
 use Rattle.notes.specs.declared.note.NoteEdge as declared_edge
 use Rattle.notes.specs.declared.note.Notes as declared_notes
 use Rattle.count_rebuild.specs.Counts.{cell_value}
@@ -42,9 +44,7 @@ noted_is notes = λ i. record {
 pub graph_is : (n : declared_notes.Notes) (count : ℕ) (links : List Link) → count ≡ 2 * length n.blocks.items + 1
     → links ≡ map (λ edge. link_of (edge_seen edge)) n.edges.items → graph_of count links ≡ noted_graph (notes_seen n)
 graph_is n count links nodes are =
-    ap (λ (count : ℕ). graph_of count links) nodes
-    ∙ ap (graph_of (2 * length n.blocks.items + 1)) (are ∙ sym (map-map edge_seen link_of n.edges.items))
-    ∙ noted_is (notes_seen n)
+    rw (nodes, are, ← map-map edge_seen link_of n.edges.items) (noted_is (notes_seen n))
 
 pub counted_is : (n : declared_notes.Notes) (counted : List Bool)
     → counted ≡ map (λ edge. is_counted (edge_seen edge)) n.edges.items → marked counted ≡ has_cell (notes_seen n)
@@ -100,15 +100,9 @@ ranges_inside blocks segments end (range ∷ ranges) h =
 
 -- ---- ends of edges and nodes of places are nodes
 
-any_at : {X : Type 0} (p : X → Bool) (xs : List X) (i : ℕ) (d : X) → i < length xs → p (get_or xs i d) ≡ true
-    → list_any p xs ≡ true
-any_at p [] i d l h = absurd (omega arith)
-any_at p (x ∷ xs) zero d l h = or_left _ _ h
-any_at p (x ∷ xs) (suc i) d l h = or_right _ _ (any_at p xs i d (omega (arith, l)) h)
-
 pub edge_named : (notes : Notes) (node k : ℕ) (d : NoteEdge) → k < length notes.edges
     → ends_at node (get_or notes.edges k d) ≡ true → is_node notes node ≡ true
-edge_named notes node k d l h = or_left _ _ (or_right _ _ (any_at (ends_at node) notes.edges k d l h))
+edge_named notes node k d l h = or_left _ _ (or_right _ _ (list_any_at (ends_at node) notes.edges k d l h))
 
 pub block_is_node : (notes : Notes) (node : ℕ) → node ≤ length notes.blocks → is_node notes node ≡ true
 block_is_node notes node l = or_left _ _ (or_left _ _ (le-leb node (length notes.blocks) l))
@@ -132,7 +126,7 @@ node_inside notes address h =
     (λ range. nat_le range.lo address && nat_lt address range.hi) notes.ranges
     (λ k d l. (
       ranges_inside (length notes.blocks) notes.segments 0 notes.ranges h k d l,
-      or_right _ _ (any_at (lies_at (get_or notes.ranges k d).node) notes.ranges k d l (eq-eqb _ _ refl)),
+      or_right _ _ (list_any_at (lies_at (get_or notes.ranges k d).node) notes.ranges k d l (eq-eqb _ _ refl)),
     )))
   where
     by : (o : Option NoteRange) → IfSome o (λ (range : NoteRange). IsInside notes range.node)
@@ -147,16 +141,7 @@ node_inside notes address h =
 
 find-map : {A B : Type 0} (p : B → Bool) (f : A → B) (xs : List A) → find p (map f xs) ≡ option_map f (find (λ x. p (f x)) xs)
 find-map p f [] = refl
-find-map {A = A} {B = B} p f (x ∷ xs) = by (p (f x)) (find-map p f xs)
-  where
-    by : (c : Bool) → find p (map f xs) ≡ option_map f (find (λ x. p (f x)) xs)
-        → cond c (Some (f x)) (find p (map f xs)) ≡ option_map f (cond c (Some x) (find (λ x. p (f x)) xs))
-    by true h = refl
-    by false h = h
-
-pub any-map : {A B : Type 0} (p : B → Bool) (f : A → B) (xs : List A) → list_any p (map f xs) ≡ list_any (λ x. p (f x)) xs
-any-map p f [] = refl
-any-map p f (x ∷ xs) = ap (λ (c : Bool). p (f x) || c) (any-map p f xs)
+find-map p f (x ∷ xs) = let rest = find-map p f xs in grind (arith, rest)
 
 -- as the code finds it
 module _ (n : declared_notes.Notes) (address : ℕ) where
@@ -173,11 +158,10 @@ module _ (n : declared_notes.Notes) (address : ℕ) where
 
   node_is : node_at (notes_seen n) address ≡ node_by found paged
   node_is =
-      ap (λ (o : Option NoteRange). option_or (option_map (λ (range : NoteRange). range.node) o)
-      (if list_any (holds address (address + 1)) (map segment_seen n.segments.items) then None
-      else Some (length n.blocks.items)))
-      (find-map (λ range. nat_le range.lo address && nat_lt address range.hi) range_seen n.ranges.items)
-      ∙ ap (node_by found) (any-map (holds address (address + 1)) segment_seen n.segments.items)
+      rw (
+        find-map (λ range. nat_le range.lo address && nat_lt address range.hi) range_seen n.ranges.items,
+        any_map (holds address (address + 1)) segment_seen n.segments.items,
+      ) refl
 
   pub at_place : (range : declared_range.Range) → found ≡ Some range → Some range.node ≡ node_at (notes_seen n) address
   at_place range e = sym (node_is ∙ ap (λ o. node_by o paged) e)

@@ -63,12 +63,6 @@ stands_inside n d node rules h =
 pub impossible : (notes : Notes) (dump : Dump) (node : ℕ) (flow : List ℤ) → StandsAt notes dump node
     → IsFlowTo notes dump node (int_at flow) → length flow ≡ length notes.edges
     → (fault : CountFault) → IsBad flow fault → IsRefused notes dump fault
-impossible notes dump node flow stands is many faults.NoProfile h = absurd h
-impossible notes dump node flow stands is many (faults.Version of wanted) h = absurd h
-impossible notes dump node flow stands is many (faults.Other length wanted) h = absurd h
-impossible notes dump node flow stands is many (faults.Shape cells wanted) h = absurd h
-impossible notes dump node flow stands is many (faults.TooLong steps) h = absurd h
-impossible notes dump node flow stands is many (faults.Between pc) h = absurd h
 impossible notes dump node flow stands is many (faults.Negative edge value) h = record {
   node = node;
   flow = int_at flow;
@@ -86,3 +80,4 @@ impossible notes dump node flow stands is many (faults.Large edge value) h = rec
 }
 impossible notes dump node flow stands is many faults.NoMemory h =
     stands.short.theirs.for_them.alike.profile.tool
+impossible notes dump node flow stands is many _ h = absurd h

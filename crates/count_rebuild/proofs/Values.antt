@@ -1,9 +1,9 @@
 -- The values of counters, and the numbers of a flow.
-use Rattle.std.proofs.Common.{◌≡◌, ℕ, ◌+◌, ◌*◌, ◌^◌, ◌<◌, ◌≤◌, ◌⊎◌, ◌==◌, inl, inr, true, false, List, [], ◌∷◌, length, map, get_or, Option, Some, None, refl, ap, sym, ◌∙◌, subst, arith}
+use Rattle.std.proofs.Common.{below_more, ◌≡◌, ℕ, ◌+◌, ◌*◌, ◌^◌, ◌<◌, ◌==◌, false, List, [], ◌∷◌, length, map, get_or, Option, Some, None, refl, ap, sym, ◌∙◌, subst, arith}
 use Rattle.std.specs.Prelude.{ℤ, pos, negsuc, nat_abs, slice_index}
 use Rattle.std.specs.List.{All}
 use Rattle.std.proofs.Math.ListN.{get_or-map}
-use Rattle.std.proofs.lemmas.Bool.{cases_lt, cond_both, false≢true, leb-false, lt-leb}
+use Rattle.std.proofs.lemmas.Bool.{cond_both, false≢true, leb-false, lt-leb}
 use Rattle.std.proofs.lemmas.List.{length-map}
 use Rattle.std.proofs.lemmas.List.Elements.{All-cons, All-nil}
 use Rattle.flow_rebuild.specs.Values.{int_at}
@@ -76,10 +76,5 @@ small_counts flow counts are whole small e l =
 
 pub small_more : (flow : List ℤ) (edge : ℕ) → ((e : ℕ) → e < edge → is_large (int_at flow e) ≡ false)
     → nat_abs (int_at flow edge) < 2 ^ 64 → (e : ℕ) → e < edge + 1 → is_large (int_at flow e) ≡ false
-small_more flow edge h now e l = by (cases_lt e edge)
-  where
-    by : (e < edge) ⊎ (edge ≤ e) → is_large (int_at flow e) ≡ false
-    by (inl m) = h e m
-    by (inr m) =
-        let is : e ≡ edge = omega (arith, l, m) in
-        ap (λ (e : ℕ). is_large (int_at flow e)) is ∙ is_large_below (int_at flow edge) now
+small_more flow edge h now =
+    below_more (λ e. is_large (int_at flow e) ≡ false) edge h (is_large_below (int_at flow edge) now)

@@ -1,8 +1,8 @@
 -- How many edges a graph has, and how often the snippets on all of them are made, by the words of its text.
-use Rattle.std.proofs.Common.{◌≡◌, ℕ, zero, suc, ◌+◌, ◌-◌, ◌*◌, ◌<◌, ◌≤◌, Bool, true, false, ◌||◌, ◌==◌, cond, List, [], ◌∷◌, ◌++◌, append-nil, length, map, Some, refl, ap, sym, ◌∙◌, arith}
+use Rattle.std.proofs.Common.{inl, inr, ◌≡◌, ℕ, zero, suc, ◌+◌, ◌-◌, ◌*◌, ◌<◌, ◌≤◌, Bool, true, false, ◌||◌, ◌==◌, cond, List, [], ◌∷◌, ◌++◌, append-nil, length, map, Some, refl, ap, sym, ◌∙◌, arith}
 use Rattle.std.specs.Prelude.{if◌then◌else◌, slice_index}
 use Rattle.std.specs.List.{count_by, filter, flat_map, list_any, range_with_len, sum_by}
-use Rattle.std.proofs.lemmas.Bool.{cond_both, eq-eqb, false≢true, or_parts, false_from_ne_true}
+use Rattle.std.proofs.lemmas.Bool.{cases_Bool, cond_both, eq-eqb, false≢true, or_parts, false_from_ne_true}
 use Rattle.std.proofs.lemmas.Grind.{flat_map-append}
 use Rattle.std.proofs.lemmas.List.{length-map}
 use Rattle.std.proofs.lemmas.List.Folds.{list_any-append}
@@ -40,9 +40,7 @@ use Rattle.image_code.proofs.OpenSums.{AreDistinct, distinct_sum, total, total_a
 total_below : (f g : ℕ → ℕ) (n : ℕ) → ((k : ℕ) → k < n → f k ≤ g k) → total f n ≤ total g n
 total_below f g zero each = omega arith
 total_below f g (suc n) each =
-    let before = total_below f g n (λ k l. each k (omega (arith, l))) in
-    let last = each n (omega arith) in
-    omega (arith, before, last)
+    omega (arith, total_below f g n (λ k l. each k (omega (arith, l))), each n (omega arith))
 
 total_ones : (n : ℕ) → total (λ k. 1) n ≡ n
 total_ones zero = refl
@@ -56,32 +54,18 @@ sum_map f g (x ∷ xs) =
 sum_flat : {A : Type 0} (f : A → ℕ) (g : ℕ → List A) (n : ℕ)
     → sum_by f (flat_map g (below n)) ≡ total (λ k. sum_by f (g k)) n
 sum_flat f g zero = refl
-sum_flat f g (suc n) =
-    let split : sum_by f (flat_map g (below n ++ n ∷ [])) ≡ sum_by f (flat_map g (below n) ++ (g n ++ [])) =
-    ap (sum_by f) (flat_map-append g (below n) (n ∷ [])) in
-    let last : sum_by f (g n ++ []) ≡ sum_by f (g n) = ap (sum_by f) (append-nil (g n)) in
-    omega (arith, split, sum_by-append f (flat_map g (below n)) (g n ++ []), last, sum_flat f g n)
+sum_flat f g (suc n) = simp (flat_map-append, append-nil, sum_by-append) (omega (arith, sum_flat f g n))
 
 flat_filtered : {A : Type 0} (g : ℕ → List A) (p : ℕ → Bool) (ks : List ℕ)
     → flat_map g (filter p ks) ≡ flat_map (λ k. cond (p k) (g k) []) ks
 flat_filtered g p [] = refl
-flat_filtered g p (k ∷ ks) = by (p k) (flat_filtered g p ks)
-  where
-    by : (b : Bool) → flat_map g (filter p ks) ≡ flat_map (λ j. cond (p j) (g j) []) ks
-        → flat_map g (cond b (k ∷ filter p ks) (filter p ks))
-        ≡ cond b (g k) [] ++ flat_map (λ j. cond (p j) (g j) []) ks
-    by true rest = ap (λ later. g k ++ later) rest
-    by false rest = rest
+flat_filtered g p (k ∷ ks) = let rest = flat_filtered g p ks in grind (arith, rest)
 
 sum_filtered : {A : Type 0} (f : A → ℕ) (g : ℕ → List A) (p : ℕ → Bool) (n : ℕ)
     → sum_by f (flat_map g (filter p (below n))) ≡ total (λ k. cond (p k) (sum_by f (g k)) 0) n
 sum_filtered f g p n =
     ap (sum_by f) (flat_filtered g p (below n)) ∙ sum_flat f (λ k. cond (p k) (g k) []) n
-    ∙ total_same (λ k. sum_by f (cond (p k) (g k) [])) (λ k. cond (p k) (sum_by f (g k)) 0) n (λ k. by k (p k))
-  where
-    by : (k : ℕ) (b : Bool) → sum_by f (cond b (g k) []) ≡ cond b (sum_by f (g k)) 0
-    by k true = refl
-    by k false = refl
+    ∙ total_same (λ k. sum_by f (cond (p k) (g k) [])) (λ k. cond (p k) (sum_by f (g k)) 0) n (λ k. grind arith)
 
 sum_few : {A : Type 0} (f : A → ℕ) (xs : List A) → Each (λ x. f x ≤ 1) xs → sum_by f xs ≤ length xs
 sum_few f [] each = omega arith
@@ -101,30 +85,18 @@ none_counted : {A : Type 0} (p : A → Bool) (xs : List A) → list_any p xs ≡
 none_counted p [] none = refl
 none_counted p (x ∷ xs) none =
     let parts = or_parts (p x) (list_any p xs) none in
-    omega (
-      arith,
-      sum_by-cons (λ y. cond (p y) 1 0) x xs,
-      ap (λ (b : Bool). cond {A = ℕ} b 1 0) parts.0,
-      none_counted p xs parts.1,
-    )
+    simp (sum_by-cons, parts.0, none_counted p xs parts.1)
 
 one_at_most : (node : Node) (nodes : List Node) → AreApart nodes → count_by (same_node node) nodes ≤ 1
 one_at_most node [] apart = omega arith
-one_at_most node (other ∷ nodes) apart =
-    let all : count_by (same_node node) (other ∷ nodes)
-    ≡ cond (same_node node other) 1 0 + count_by (same_node node) nodes =
-    sum_by-cons (λ n. cond (same_node node n) 1 0) other nodes in
-    let many = by (same_node node other) refl (one_at_most node nodes apart.1) in
-    omega (arith, all, many)
-  where
-    by : (b : Bool) → same_node node other ≡ b → count_by (same_node node) nodes ≤ 1
-        → cond b 1 0 + count_by (same_node node) nodes ≤ 1
-    by true e rest =
-        let none : count_by (same_node node) nodes ≡ 0 =
-        none_counted (same_node node) nodes
-        (ap (λ (n : Node). list_any (same_node n) nodes) (same_nodes node other e) ∙ apart.0) in
-        omega (arith, none)
-    by false e rest = omega (arith, rest)
+one_at_most node (other ∷ nodes) apart = elim (cases_Bool (same_node node other)) [
+  | inl e ↦
+      let none = none_counted (same_node node) nodes
+      (ap (λ (n : Node). list_any (same_node n) nodes) (same_nodes node other e) ∙ apart.0) in
+      rw (sum_by-cons (λ n. cond (same_node node n) 1 0) other nodes, e, none) (omega arith)
+  | inr e ↦
+      rw (sum_by-cons (λ n. cond (same_node node n) 1 0) other nodes, e) (omega (arith, one_at_most node nodes apart.1))
+]
 
 module _ (to : ℕ → Node) where
   -- how many words of a list are at a node
@@ -185,13 +157,11 @@ once_apart seen (node ∷ nodes) apart =
 
 caseless : (count word : ℕ) (end : BlockEnd) → Each (λ (w : Way). same_kind w.kind kinds.Case ≡ false)
     (ways_of count word end)
-caseless count word ends.Fall = (refl, tt)
-caseless count word (ends.Call target) = (refl, tt)
-caseless count word ends.Jump = (refl, tt)
 caseless count word (ends.Branch c annul target) =
     cond_both (c == always) _ _ (Each (λ (w : Way). same_kind w.kind kinds.Case ≡ false)) (λ _. (refl, tt))
     (λ _. cond_both (c == never) _ _ (Each (λ (w : Way). same_kind w.kind kinds.Case ≡ false)) (λ _. (refl, tt))
     (λ _. (refl, (refl, tt))))
+caseless count word _ = (refl, tt)
 
 -- ---- sums over the edges of a graph
 
@@ -286,18 +256,12 @@ module _ (b : Blocks) (opens : List Open) (f : Edge → ℕ) (most : ℕ → ℕ
   edges_sum : sum_by f (edges_in b opens) ≡ total in_block count + total in_copy count + total in_landings count
   unfolding edges_in
   edges_sum =
-      let own = flat_map (edges_of b opens) (below count) in
-      let copied = flat_map (copied_edges b opens) (filter (is_copied opens) (below count)) in
-      let nodes = flat_map (landings_of opens) (below count) in
-      omega (
+      simp (sum_by-append, sum_map) (omega (
         arith,
-        sum_by-append f (own ++ copied) (map landing_at nodes),
-        sum_by-append f own copied,
         sum_flat f (edges_of b opens) count,
         sum_filtered f (copied_edges b opens) (is_copied opens) count,
-        sum_map f landing_at nodes,
         sum_flat (λ node. f (landing_at node)) (landings_of opens) count,
-      )
+      ))
 
   pub few_in_all : sum_by f (edges_in b opens)
       ≤ 2 * count + (2 * length opens + entries_of opens) + total most count

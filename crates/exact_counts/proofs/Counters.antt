@@ -9,15 +9,15 @@ use Rattle.v8_step.specs.State.{State, register_of}
 use Rattle.v8_step.specs.Run.{run}
 use Rattle.flows.specs.Walks.{times}
 use Rattle.snippets.specs.declared.snippet.Op.{Op}
-use Rattle.snippets.specs.declared.snippet.Op.TheVariants.{Add, Put, Keep, Top, Count, Log}
-use Rattle.snippets.specs.Cells.{WorksBelow, WorksIn, place_in, update, updated_by, wide_at, with_wide}
+use Rattle.snippets.specs.declared.snippet.Op.TheVariants.{Add, Count}
+use Rattle.snippets.specs.Cells.{WorksBelow, WorksIn, update, updated_by, wide_at, with_wide}
 use Rattle.snippets.specs.Ops.{cell_of, cells_end}
 use Rattle.tool_kit.specs.Plans.{AreCounters, counter_op}
 use Rattle.cfg_walk.specs.Walk.{gone_in, walk}
 use Rattle.image_code.specs.Simulates.{Setting, graph_in, snippet_on, store_of, updates}
 use Rattle.count_rebuild.specs.Counts.{counter_value}
 use Rattle.exact_counts.specs.Laws.{CellsCount, counter_limit}
-use Rattle.exact_counts.proofs.Few.{times-append}
+use Rattle.flows.proofs.Walks.{times-append}
 
 -- ---- a counter of either version: `narrow` says that it has 32 bits
 
@@ -34,12 +34,10 @@ abbrev narrow_value : Bool → List ℕ → ℕ → ℕ
 narrow_value narrow cells cell = if narrow then get_or cells cell 0 else wide_at cells cell
 
 cell_is : (narrow : Bool) (cell : ℕ) → cell_of (narrow_op narrow cell) ≡ cell
-cell_is true cell = refl
-cell_is false cell = refl
+cell_is narrow cell = grind arith
 
 pub end_is : (narrow : Bool) (cell : ℕ) → cells_end (narrow_op narrow cell) ≡ cell + narrow_width narrow
-end_is true cell = refl
-end_is false cell = refl
+end_is narrow cell = grind arith
 
 ends_by : (narrow : Bool) (cells cell : ℕ) → WorksIn cells (narrow_op narrow cell) → cell + narrow_width narrow ≤ cells
 ends_by true cells cell works = works
@@ -108,12 +106,10 @@ leaves_other false registers cells own cell apart =
 
 -- sums of counts
 kept_small : (narrow : Bool) (value : ℕ) → value < narrow_limit narrow → value ≡ (value + 0) % narrow_limit narrow
-kept_small true value small = omega (arith, small)
-kept_small false value small = omega (arith, small)
+kept_small narrow value small = grind arith
 
 rest_small : (narrow : Bool) (value : ℕ) → value % narrow_limit narrow < narrow_limit narrow
-rest_small true value = omega arith
-rest_small false value = omega arith
+rest_small narrow value = grind arith
 
 joined : (narrow : Bool) (before value made more : ℕ) → value ≡ made % narrow_limit narrow
     → before ≡ (value + more) % narrow_limit narrow → before ≡ (made + more) % narrow_limit narrow
@@ -121,12 +117,10 @@ joined true before value made more one two = omega (arith, one, two)
 joined false before value made more one two = omega (arith, one, two)
 
 pub small_rest : (narrow : Bool) (value : ℕ) → value < narrow_limit narrow → value % narrow_limit narrow ≡ value
-small_rest true value small = omega (arith, small)
-small_rest false value small = omega (arith, small)
+small_rest narrow value small = grind arith
 
 pub limit_few : (narrow : Bool) (value : ℕ) → value < narrow_limit narrow → value < 2 ^ 64
-limit_few true value small = omega (arith, small)
-limit_few false value small = omega (arith, small)
+limit_few narrow value small = grind arith
 
 -- ---- counters
 
@@ -233,16 +227,7 @@ module _ (version : ℕ) where
 -- ---- how many cells there are
 
 length_updated : (registers : ℕ → ℕ) (op : Op) (cells : List ℕ) → length (updated_by registers op cells) ≡ length cells
-length_updated registers (Add cell amount) cells = length-set cells _ _
-length_updated registers (Put cell value) cells = length-set cells _ _
-length_updated registers (Keep cell reg) cells = length-set cells _ _
-length_updated registers (Top cell reg) cells = length-set cells _ _
-length_updated registers (Count cell) cells =
-    let number = (wide_at cells cell + 1) % 2 ^ 64 in
-    length-set (set cells cell (number / 2 ^ 32)) (cell + 1) (number % 2 ^ 32)
-    ∙ length-set cells cell (number / 2 ^ 32)
-length_updated registers (Log cell bits value) cells =
-    length-set (set cells (place_in cells cell bits) value) _ _ ∙ length-set cells (place_in cells cell bits) value
+length_updated registers op cells = grind (arith, length-set)
 
 length_update : (registers : ℕ → ℕ) (ops : List Op) (cells : List ℕ)
     → length (update registers ops cells) ≡ length cells
@@ -284,16 +269,13 @@ module _ (version : ℕ) (snips : List (List Op)) (are : AreCounters version 0 s
     where
       kept : e ≢ h → value cells ≡ (value cells + once h) % limit
       kept beside =
-          kept_small (is_narrow version) (value cells) small
-          ∙ ap (λ k. (value cells + k) % limit) (sym (ap (λ b. cond b 1 0) (ne_eqb e h beside)))
+          rw (ne_eqb e h beside) (kept_small (is_narrow version) (value cells) small)
 
       in_cell : (c : ℕ) → snippet_on snips h ≡ counter version c → (e ≡ h) ⊎ (e ≢ h)
           → value (update registers (snippet_on snips h) cells) ≡ (value cells + once h) % limit
       in_cell c at (inl same) =
           let here : c ≡ cell = same_cell version c cell (sym at ∙ ap (snippet_on snips) (sym same) ∙ is) in
-          ap (λ ops. value (update registers ops cells)) (at ∙ ap (counter version) here)
-          ∙ counts_one (is_narrow version) registers cells cell inside
-          ∙ ap (λ k. (value cells + k) % limit) (sym (ap (λ b. cond b 1 0) (eq-eqb e h same)))
+          rw (at, here, eq-eqb e h same) (counts_one (is_narrow version) registers cells cell inside)
       in_cell c at (inr beside) =
           ap (λ ops. value (update registers ops cells)) at
           ∙ leaves_other (is_narrow version) registers cells c cell (elim (apart version 0 snips h e c cell are at is) [
@@ -304,8 +286,7 @@ module _ (version : ℕ) (snips : List (List Op)) (are : AreCounters version 0 s
       by : (snippet_on snips h ≡ []) ⊎ IsCounterFrom version 0 (snippet_on snips h)
           → value (update registers (snippet_on snips h) cells) ≡ (value cells + once h) % limit
       by (inl none) =
-          ap (λ ops. value (update registers ops cells)) none
-          ∙ kept (λ same. not_empty version cell (sym none ∙ ap (snippet_on snips) (sym same) ∙ is))
+          rw none (kept (λ same. not_empty version cell (sym none ∙ ap (snippet_on snips) (sym same) ∙ is)))
       by (inr some) = in_cell some.cell some.is (cases_eq e h)
 
   counted : (es cells : List ℕ) (s : State) → cell + width version ≤ length cells → value cells < limit

@@ -1,17 +1,15 @@
 -- No step completes an edge twice.
-use Rattle.std.proofs.Common.{◌≡◌, ℕ, zero, suc, ◌+◌, ◌≤◌, ◌⊎◌, inl, inr, Bool, true, false, cond, List, [], ◌∷◌, ◌++◌, ap, sym, ◌∙◌, arith}
+use Rattle.std.proofs.Common.{◌≡◌, ℕ, zero, suc, ◌≤◌, Bool, cond, List, [], ◌∷◌, ap, arith}
 use Rattle.std.specs.Prelude.{◌==◌}
-use Rattle.std.proofs.lemmas.Bool.{cases_eq, ne_eqb}
+use Rattle.std.proofs.lemmas.Bool.Decides.{nat_tests}
+use Rattle.std.proofs.lemmas.Bool.{ne_eqb}
 use Rattle.v8_step.specs.Run.{run}
 use Rattle.flows.specs.Walks.{times}
+use Rattle.flows.proofs.Walks.{times-append}
 use Rattle.cfg_normal.specs.Graph.{Graph}
 use Rattle.cfg_walk.specs.Walk.{end_of_walk, gone_in, goes_on_at, point_of, walk}
 use Rattle.edit_core.proofs.Completed.{Completes, gone_completes, none, one, two}
 use Rattle.exact_counts.specs.Laws.{ExecutionsAreFew}
-
-pub times-append : (es more : List ℕ) (e : ℕ) → times (es ++ more) e ≡ times es e + times more e
-times-append [] more e = omega arith
-times-append (x ∷ es) more e = let later = times-append es more e in omega (arith, later)
 
 abbrev IsOnce : List ℕ → Type 0
 IsOnce es = (e : ℕ) → times es e ≤ 1
@@ -20,8 +18,7 @@ none_once : IsOnce []
 none_once e = omega arith
 
 at_most_one : (b : Bool) → cond b 1 0 ≤ 1
-at_most_one true = omega arith
-at_most_one false = omega arith
+at_most_one b = grind arith
 
 pub no_other : (e x : ℕ) → (e ≡ x → ⊥) → cond {A = ℕ} (e == x) 1 0 ≡ 0
 no_other e x apart = ap (λ (b : Bool). cond {A = ℕ} b 1 0) (ne_eqb e x apart)
@@ -31,17 +28,7 @@ one_once x e = let one = at_most_one (e == x) in omega (arith, one)
 
 -- two edges that aren't the same
 two_once : (x y : ℕ) → (x ≡ y → ⊥) → IsOnce (x ∷ y ∷ [])
-two_once x y apart e = by (cases_eq e x)
-  where
-    by : (e ≡ x) ⊎ (e ≡ x → ⊥) → times (x ∷ y ∷ []) e ≤ 1
-    by (inl is) =
-        let other = no_other e y (λ same. apart (sym is ∙ same)) in
-        let one = at_most_one (e == x) in
-        omega (arith, other, one)
-    by (inr beside) =
-        let other = no_other e x beside in
-        let one = at_most_one (e == y) in
-        omega (arith, other, one)
+two_once x y apart e = grind (arith, nat_tests)
 
 -- what a step completes
 completed_once : (graph : Graph) (es : List ℕ) → Completes graph es → IsOnce es
@@ -53,8 +40,11 @@ pub executions_are_few : ExecutionsAreFew
 unfolding walk
 executions_are_few text graph entry s0 zero e = omega arith
 executions_are_few text graph entry s0 (suc n) e =
-    let before = executions_are_few text graph entry s0 n e in
     let step = completed_once graph (gone_in text graph entry s0 n)
     (gone_completes graph text (end_of_walk text graph entry s0 n) (point_of (run s0 n)) (goes_on_at (run s0 (suc n)))) e in
-    let both = times-append (walk text graph entry s0 n) (gone_in text graph entry s0 n) e in
-    omega (arith, before, step, both)
+    omega (
+      arith,
+      executions_are_few text graph entry s0 n e,
+      step,
+      times-append (walk text graph entry s0 n) (gone_in text graph entry s0 n) e,
+    )

@@ -33,9 +33,7 @@ module _ (version : ℕ) (g : Setting) (are : AreCounters version 0 g.snips) whe
   few_operations : (es : List ℕ) → operations_on g.snips es ≤ length es
   few_operations [] = omega arith
   few_operations (e ∷ es) =
-      let first = one_operation e in
-      let later = few_operations es in
-      omega (arith, first, later)
+      omega (arith, one_operation e, few_operations es)
 
   module _ (bound entry : ℕ) (s0 t0 : State) (alike : AreRunsAlike g bound entry s0 t0) where
     abbrev gone : ℕ → List ℕ
@@ -43,9 +41,7 @@ module _ (version : ℕ) (g : Setting) (are : AreCounters version 0 g.snips) whe
 
     step_limit : (n : ℕ) → limit_on g (gone n) ≤ 128
     step_limit n =
-        let few = (step_few g.text (graph_in g) entry s0 n).few in
-        let operations = few_operations (gone n) in
-        omega (arith, few, operations)
+        omega (arith, (step_few g.text (graph_in g) entry s0 n).few, few_operations (gone n))
 
     moments : (n : ℕ) (untouched : IsUntouched (pages_of g.notes) s0 n)
         → (alike.answered n untouched).moment ≤ 64 + 128 * n

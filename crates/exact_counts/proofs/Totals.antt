@@ -1,8 +1,8 @@
 -- How often each edge is completed is in all how long the walk is.
-use Rattle.std.proofs.Common.{◌≡◌, ℕ, zero, suc, ◌+◌, ◌<◌, ◌≤◌, ◌⊎◌, inl, inr, Bool, cond, List, [], ◌∷◌, length, slice_index, refl, ap, sym, ◌∙◌, subst, arith}
+use Rattle.std.proofs.Common.{◌≡◌, ℕ, zero, suc, ◌+◌, ◌<◌, ◌≤◌, Bool, cond, List, [], ◌∷◌, length, slice_index, refl, ap, sym, ◌∙◌, subst, arith}
 use Rattle.std.specs.Prelude.{◌==◌}
 use Rattle.std.specs.List.{sum}
-use Rattle.std.proofs.lemmas.Bool.{cases_eq, ne_eqb, eq-eqb}
+use Rattle.std.proofs.lemmas.Bool.{ne_eqb, eq-eqb}
 use Rattle.std.proofs.lemmas.List.Sums.{sum_by-cons}
 use Rattle.flows.specs.Walks.{times}
 use Rattle.cfg_walk.specs.Walk.{walk}
@@ -22,9 +22,7 @@ total_first (suc n) f = let before = total_first n f in omega (arith, before)
 total_same : (n : ℕ) (f g : ℕ → ℕ) → ((i : ℕ) → i < n → f i ≡ g i) → total n f ≡ total n g
 total_same zero f g same = refl
 total_same (suc n) f g same =
-    let before = total_same n f g (λ i l. same i (omega (arith, l))) in
-    let last = same n (omega arith) in
-    omega (arith, before, last)
+    omega (arith, total_same n f g (λ i l. same i (omega (arith, l))), same n (omega arith))
 
 total_both : (n : ℕ) (f g : ℕ → ℕ) → total n (λ i. f i + g i) ≡ total n f + total n g
 total_both zero f g = omega arith
@@ -49,34 +47,18 @@ total_past n x past =
 
 total_one : (n x : ℕ) → x < n → total n (one_at x) ≡ 1
 total_one zero x l = absurd (omega (arith, l))
-total_one (suc n) x l = by (cases_eq n x) (total_one n x)
-  where
-    by : (n ≡ x) ⊎ (n ≡ x → ⊥) → (x < n → total n (one_at x) ≡ 1) → total (suc n) (one_at x) ≡ 1
-    by (inl same) earlier =
-        let before = total_past n x (omega (arith, same)) in
-        let last = there x n same in
-        omega (arith, before, last)
-    by (inr apart) earlier =
-        let before = earlier (omega (arith, l, apart)) in
-        let last = not_there x n apart in
-        omega (arith, before, last)
+total_one (suc n) x l = let before = total_one n x in let none = total_past n x in grind (arith, before, none)
 
 -- each of some numbers is counted once
 times_all : (n : ℕ) (es : List ℕ) → Each (λ e. e < n) es → total n (times es) ≡ length es
 times_all n [] within = total_none n
 times_all n (x ∷ es) within =
-    let both = total_both n (one_at x) (times es) in
-    let first = total_one n x within.0 in
-    let later = times_all n es within.1 in
-    omega (arith, both, first, later)
+    omega (arith, total_both n (one_at x) (times es), total_one n x within.0, times_all n es within.1)
 
 sum_total : (xs : List ℕ) → sum xs ≡ total (length xs) (slice_index xs)
 sum_total [] = refl
 sum_total (x ∷ xs) =
-    let first = sum_by-cons (λ (n : ℕ). n) x xs in
-    let later = sum_total xs in
-    let whole = total_first (length xs) (slice_index (x ∷ xs)) in
-    omega (arith, first, later, whole)
+    omega (arith, sum_by-cons (λ (n : ℕ). n) x xs, sum_total xs, total_first (length xs) (slice_index (x ∷ xs)))
 
 pub executions_add_up : ExecutionsAddUp
 executions_add_up text graph entry s0 n counts size are =

@@ -5,7 +5,7 @@ use Rattle.std.proofs.lemmas.Bool.{lt-ltb}
 use Rattle.flows.specs.Flows.{weight_below}
 use Rattle.cfg_blocks.specs.Blocks.{AreFirsts, Blocks, holding_of}
 use Rattle.cfg_normal.specs.declared.Node.{Node}
-use Rattle.cfg_normal.specs.declared.Node.TheVariants.{Block, X}
+use Rattle.cfg_normal.specs.declared.Node.TheVariants.{Block}
 use Rattle.cfg_normal.specs.Nodes.{same_node}
 use Rattle.cfg_normal.specs.Graph.{Graph, node_of}
 use Rattle.span_tree.specs.Links.{edge_at}
@@ -27,8 +27,7 @@ one_more n f s =
 module _ (b : Blocks) (f : AreFirsts b.words b.firsts) (single : AreSingle b) (word : ℕ) (inside : word < b.words) where
   home : node_of b (Some word) ≡ Block (record { 0 = word })
   home =
-      ap (λ (t : Bool). if t then Block (record { 0 = holding_of b word }) else X) (lt-ltb _ _ inside)
-      ∙ ap (λ k. Block (record { 0 = k })) (holds_itself b f single word inside)
+      rw (lt-ltb _ _ inside, holds_itself b f single word inside) refl
 
   -- an edge leads to the word's block where that has the word's number
   leads_there : (to : Node) → same_node to (node_of b (Some word)) ≡ is_block word to
@@ -53,6 +52,5 @@ module _ (g : Graph) (f : AreFirsts g.blocks.words g.blocks.firsts) (single : Ar
       let slots : as_slot g.edges counts (length g.edges) word ≡ sum_where g (slice_index counts) (runs_slot word) =
       refl in
       let first : one_if (holding_of g.blocks entry == holding_of g.blocks word) ≡ one_if (entry == word) =
-      ap (λ (k : ℕ). one_if (k == holding_of g.blocks word)) (holds_itself g.blocks f single entry starts)
-      ∙ ap (λ (k : ℕ). one_if (entry == k)) (holds_itself g.blocks f single word inside) in
+      rw (holds_itself g.blocks f single entry starts, holds_itself g.blocks f single word inside) refl in
       omega (arith, led, slots, first)

@@ -3,7 +3,6 @@ use Rattle.std.proofs.Common.{◌≡◌, ℕ, ◌+◌, ◌<◌, ◌≤◌, inl, 
 use Rattle.std.specs.Prelude.{if◌then◌else◌, ◌==◌}
 use Rattle.std.proofs.Math.ListN.{get_or-eq_default}
 use Rattle.std.proofs.lemmas.Bool.{cases_lt, cond_both}
-use Rattle.std.proofs.lemmas.List.{length-map}
 use Rattle.eel_base.specs.CodeText.{Words, IsText}
 use Rattle.v8_decode.specs.declared.Instr.{Instr}
 use Rattle.v8_decode.specs.Words.{decode_of}
@@ -15,13 +14,13 @@ use Rattle.cfg_blocks.specs.declared.Into.{Into}
 use Rattle.cfg_blocks.specs.declared.Into.TheVariants as into
 use Rattle.cfg_blocks.specs.declared.switches.Switch.{Switch}
 use Rattle.cfg_blocks.specs.Ends.{end_at, end_by}
-use Rattle.cfg_blocks.specs.Blocks.{Blocks, below, blocks_of, end_of, holding_of, last_word, leaders}
+use Rattle.cfg_blocks.specs.Blocks.{Blocks, blocks_of, end_of, holding_of}
 use Rattle.cfg_blocks.specs.Entries.{Entered, entered_of}
 use Rattle.cfg_blocks.specs.Switches.{compare_at, compare_of, last_setting, sets_codes}
 use Rattle.cfg_blocks.specs.Values.{instr_at}
-use Rattle.cfg_blocks.proofs.Below.{length-below}
 use Rattle.cfg_normal.specs.Opens.{Open, candidate, candidate_behind, candidate_into, candidate_on, is_closed, opened, opens_of, with_switch}
 use Rattle.cfg_walk.proofs.Cut.{IsCut, cut}
+use Rattle.jump_slice.proofs.Whole.{ends_count}
 use Rattle.instr_counts.specs.Visits.{AreSingle}
 use Rattle.instr_counts.specs.Laws.{HasEach, NoneAreOpen}
 use Rattle.instr_counts.proofs.Single.{first_is, last_is, words_are_blocks}
@@ -41,20 +40,13 @@ module _ (text : Words) (given : List ℕ) (is : IsText text) (each : HasEach te
   single : AreSingle b
   single = words_are_blocks text given is each
 
-  ends_length : length b.ends ≡ length b.firsts
-  unfolding blocks_of
-  ends_length =
-      length-map (below (length (leaders text given)))
-      (λ k. end_at text (last_word (leaders text given) (length text.words) k))
-      ∙ length-below (length (leaders text given))
-
   -- what ends in a branch is a block
   branch_within : (from cond : ℕ) (annul : Bool) (target : Option WordNo)
       → end_of b from ≡ ends.Branch cond annul target → from < length b.firsts
   branch_within from cond annul target e = elim (cases_lt from (length b.firsts)) [
     | inl l ↦ l
     | inr m ↦
-        let past : length b.ends ≤ from = omega (arith, m, ends_length) in
+        let past : length b.ends ≤ from = omega (arith, m, ends_count text given) in
         let none : end_of b from ≡ ends.Fall = get_or-eq_default b.ends ends.Fall past in
         absurd (cc)
   ]
@@ -81,16 +73,13 @@ module _ (text : Words) (given : List ℕ) (is : IsText text) (each : HasEach te
       → candidate_behind text b switch block from way end ≡ []
   none_behind switch block from way (ends.Branch cond annul target) e =
       ap (candidate_on text b switch block from way annul) (no_compare from cond annul target e)
-  none_behind switch block from way ends.Fall e = refl
-  none_behind switch block from way (ends.Call target) e = refl
-  none_behind switch block from way ends.Jump e = refl
+  none_behind switch block from way _ e = refl
 
   none_into : (switch : Switch) (block : ℕ) (x : Into) → candidate_into text b switch block x ≡ []
   none_into switch block (into.One from way) =
       cond_both (switch.compare.0 == from.0) (candidate_behind text b switch block from.0 way (end_of b from.0)) []
       (λ (os : List Open). os ≡ []) (λ _. none_behind switch block from.0 way (end_of b from.0) refl) (λ _. refl)
-  none_into switch block into.Nothing = refl
-  none_into switch block into.More = refl
+  none_into switch block _ = refl
 
   none_with : (switch : Switch) → with_switch text list [] switch ≡ []
   unfolding candidate entered_of

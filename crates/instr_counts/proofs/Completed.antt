@@ -2,7 +2,6 @@
 -- comes to the word where it goes on, and has run the slot out of which it goes.
 use Rattle.std.proofs.Common.{◌≡◌, ◌≢◌, ℕ, ◌+◌, ◌-◌, ◌%◌, ◌<◌, inl, inr, Bool, true, false, not, List, [], ◌++◌, length, slice_index, Option, Some, None, refl, ap, sym, ◌∙◌, subst, arith}
 use Rattle.std.specs.Prelude.{◌==◌, if◌then◌else◌, ℤ}
-use Rattle.std.specs.Option.{option_map}
 use Rattle.std.proofs.lemmas.Bool.{cases_Bool, cond_both, eq-eqb, eqb-true, false≢true, lt-ltb, ne_eqb}
 use Rattle.std.proofs.lemmas.Option.{get_or_from_slice_get}
 use Rattle.eel_base.specs.CodeText.{Words, IsText, address_of, word_at}
@@ -19,7 +18,6 @@ use Rattle.v8_step.specs.State.{State, sum_of}
 use Rattle.v8_step.specs.Step.{act, on_word, step_of, unless_ended as unless_over}
 use Rattle.v8_step.specs.Transfers.{branch_step, branched, call_step, jump_step, target_of, unless_couple}
 use Rattle.v8_step.specs.Items.{is_transfer}
-use Rattle.v8_step.proofs.Live.{live_step}
 use Rattle.v8_step.proofs.CopiedMoves.{goes_act}
 use Rattle.v8_alu.specs.Conditions.{holds_of}
 use Rattle.cfg_blocks.specs.declared.BlockEnd.{BlockEnd}
@@ -48,8 +46,8 @@ use Rattle.cfg_walk.proofs.NoneOpen.{IsOnEdge, cases_none, home_none, lands_none
 use Rattle.cfg_walk.proofs.Points.{Stands, at, home, low}
 use Rattle.cfg_walk.proofs.Slots.{lands_not}
 use Rattle.cfg_walk.proofs.States.{couples, out_goes}
-use Rattle.cfg_walk.proofs.Walks.{live_before}
 use Rattle.cfg_walk.proofs.Ways.{IsOne, fall_is_one, same_kinds, taken_is_one, untaken_is_one}
+use Rattle.jump_slice.proofs.Steps.{carries_out, comes_to}
 use Rattle.span_tree.specs.Links.{edge_at, no_edge}
 use Rattle.instr_counts.specs.Visits.{AreSingle, is_slot, leads_to, one_if, runs_slot}
 use Rattle.instr_counts.proofs.Single.{as_many, holds_itself, last_is}
@@ -107,19 +105,6 @@ out_slot s live in_slot = by s.ending refl (fetch_of s.memory s.pc) refl live
     by None e None f live = absurd (cc)
     by (Some ending) e o f live = let ended : s.ending ≡ None = live in absurd (cc)
 
--- a word that isn't there ends the run
-not_fetched : (text : Words) (s : State) → FetchesOnly text s → s.ending ≡ None → (step_of s).ending ≡ None
-    → word_at text s.pc ≡ None → ⊥
-unfolding step_of
-not_fetched text s fetches was_live live none =
-    let nothing : fetch_of s.memory s.pc ≡ None =
-    fetches s.pc ∙ ap (option_map (λ x. slice_index text.words x)) none in
-    let over : unless_over s s.ending (on_word s (fetch_of s.memory s.pc)) ≡ on_word s None =
-    ap (λ (x : Option Ending). unless_over s x (on_word s (fetch_of s.memory s.pc))) was_live
-    ∙ ap (on_word s) nothing in
-    let trap : (on_word s None).ending ≡ None = ap (λ (x : State). x.ending) (sym over) ∙ live in
-    absurd (cc)
-
 -- ---- what is counted of an edge
 
 module _ (text : Words) (is : IsText text) (b : Blocks) (c : IsCut text b) (single : AreSingle b) (w : ℕ)
@@ -176,10 +161,7 @@ module _ (text : Words) (is : IsText text) (b : Blocks) (c : IsCut text b) (sing
       → passing (λ e. p (edge_at graph e)) numbers ≡ one_if (p edge)
   passing_edge p numbers edge h =
       let found : edge_at graph h.number ≡ edge = get_or_from_slice_get (edges_in b []) h.number edge no_edge h.is in
-      let one : passing (λ e. p (edge_at graph e)) numbers ≡ one_if (p (edge_at graph h.number)) + 0 =
-      ap (passing (λ e. p (edge_at graph e))) h.only in
-      let same : one_if (p (edge_at graph h.number)) ≡ one_if (p edge) = ap (λ x. one_if (p x)) found in
-      omega (arith, one, same)
+      rw (h.only, found) (omega arith)
 
   -- ---- without a slot
 
@@ -219,13 +201,8 @@ module _ (text : Words) (is : IsText text) (b : Blocks) (c : IsCut text b) (sing
     straight_quiet instr h f =
         let x : Way = way kinds.Fall (within b.words (word + 1)) in
         let end : end_at text word ≡ ends.Fall = end_is text word instr h.decodes ∙ straight_end text word instr f in
-        subst IsQuiet
-        (sym (straight_left graph node word instr f
-        ∙ ap (λ (t : Bool). if t then edge_from graph node kinds.Fall else [])
-        (ends_home b [] node k word (home h) ∙ eq-eqb _ _ (last_of (low h)))))
-        (quiet_way instr h x
-        (rw end (fall_is_one b.words word))
-        (ap (λ (e : BlockEnd). runs_on e kinds.Fall) end))
+        rw (straight_left graph node word instr f, ends_home b [] node k word (home h), eq-eqb _ _ (last_of (low h)))
+        (quiet_way instr h x (rw end (fall_is_one b.words word)) (ap (λ (e : BlockEnd). runs_on e kinds.Fall) end))
 
     branch_quiet : (cond : ℕ) (disp22 : ℤ) → Stands text b [] node before word (i.Branch cond true disp22)
         → IsQuiet (edge_from graph node (if cond == always then kinds.Taken else kinds.Untaken))
@@ -254,8 +231,7 @@ module _ (text : Words) (is : IsText text) (b : Blocks) (c : IsCut text b) (sing
     left_at_quiet : (instr : Instr) → Stands text b [] node before word instr → IsPassed instr
         → IsQuiet (left_at text graph node (word_at text before.pc))
     left_at_quiet instr h p =
-        subst IsQuiet
-        (sym (ap (left_at text graph node) (at h) ∙ ap (left_by graph node word) h.decodes)) (left_quiet instr h p)
+        rw (at h, h.decodes) (left_quiet instr h p)
 
   -- so much the edges count
   record AreCounting (numbers : List ℕ) (into slots : ℕ) : Type 0 where
@@ -283,13 +259,6 @@ module _ (text : Words) (is : IsText text) (b : Blocks) (c : IsCut text b) (sing
   slot_here carried.Off a h =
       sym (ap one_if (ne_eqb a (address_of text w) (λ same. omega (arith, same, h, inside))))
 
-  landed_nowhere : (next : ℕ) → word_at text next ≡ None → landed text graph kinds.Out next ≡ []
-  landed_nowhere next e = rw e refl
-
-  landed_at_word : (next v : ℕ) → word_at text next ≡ Some v
-      → landed text graph kinds.Out next ≡ landing_at graph (lands_of b [] (Some v))
-  landed_at_word next v e = rw e refl
-
   none_to_x : one_if (same_node X (node_of b (Some w))) ≡ 0
   none_to_x = ap (λ n. one_if (same_node X n)) (node_is b w w_low)
 
@@ -298,8 +267,7 @@ module _ (text : Words) (is : IsText text) (b : Blocks) (c : IsCut text b) (sing
     where
       by : (o : Option ℕ) → word_at text next ≡ o → AreCounting (landed text graph kinds.Out next) (here_at next) 0
       by None e =
-          subst (λ ns. AreCounting ns (here_at next) 0) (sym (landed_nowhere next e))
-          (record {
+          rw e (record {
             come =
                 sym none_to_x
                 ∙ ap (λ (o : Option ℕ). one_if (same_node (node_of b o) (node_of b (Some w)))) (sym e)
@@ -312,8 +280,7 @@ module _ (text : Words) (is : IsText text) (b : Blocks) (c : IsCut text b) (sing
           (in_held b.words b.firsts c.firsts v v_low).within (lands_there b [] v v_low) in
           let to : lands_of b [] (Some v) ≡ node_of b (word_at text next) =
           lands_none b (Some v) ∙ ap (node_of b) (sym e) in
-          subst (λ ns. AreCounting ns (here_at next) 0) (sym (landed_at_word next v e))
-          (record {
+          rw e (record {
             come =
                 passing_edge (leads_to b w) (landing_at graph (lands_of b [] (Some v)))
                 (landing (lands_of b [] (Some v))) found
@@ -346,13 +313,9 @@ module _ (text : Words) (is : IsText text) (b : Blocks) (c : IsCut text b) (sing
         → first + into ≡ here_at point.npc → AreCounting (along ++ behind) (here_at point.npc) (here_at point.pc)
     joined into first land one sum = record {
       come =
-          let split = passing-append into_word along behind in
-          let come = land.come in
-          omega (arith, split, come_edge, come, one, sum);
+          omega (arith, passing-append into_word along behind, come_edge, land.come, one, sum);
       ran =
-          let split = passing-append as_slot along behind in
-          let ran = land.ran in
-          omega (arith, split, ran_edge, ran);
+          omega (arith, passing-append as_slot along behind, ran_edge, land.ran);
     }
 
     by_displacement : same_kind kind kinds.Out ≡ false
@@ -400,40 +363,30 @@ module _ (text : Words) (is : IsText text) (b : Blocks) (c : IsCut text b) (sing
 
     -- a step without slots
     passed_on : s.slot ≡ NoSlot → t.slot ≡ NoSlot → AreCounting gone_here (here_at t.pc) 0
-    passed_on e f = by (word_at text s.pc) refl
-      where
-        was_live : s.ending ≡ None
-        was_live = live_before s live
-
-        -- the word is there, since it was fetched
-        by : (o : Option ℕ) → word_at text s.pc ≡ o → AreCounting gone_here (here_at t.pc) 0
-        by None none = absurd (not_fetched text s fetches was_live live none)
-        by (Some word) at_word =
-            let instr : Instr = decode_of (slice_index text.words word) in
-            let some : fetch_of s.memory s.pc ≡ Some (slice_index text.words word) =
-            fetches s.pc ∙ ap (option_map (λ x. slice_index text.words x)) at_word in
-            let went : t ≡ act s instr = live_step s (slice_index text.words word) was_live some in
-            let p : IsPassed instr =
-            passed s instr e (ap (λ (x : State). x.ending) (sym went) ∙ live)
-            (ap (λ (x : State). x.slot) (sym went) ∙ f) in
-            let held : MatchesBy text graph node (point_of s) NoSlot =
-            subst (λ (x : Slot). MatchesBy text graph node (point_of s) x) e m in
-            let on : MatchesBy text graph (node_after graph node gone_here) (point_of t) NoSlot =
-            subst (λ (x : Slot). MatchesBy text graph (node_after graph node gone_here) (point_of t) x) f leads in
-            let q : IsQuiet gone_here =
-            subst IsQuiet (sym (gone_is NoSlot NoSlot e f))
-            (left_at_quiet node (point_of s) word instr
-            (record {
-              text_is = is;
-              cut = c;
-              is = word_at-some text s.pc word at_word;
-              npc = held.1;
-              decodes = refl;
-              are = open_none b;
-              there = there;
-              held = held.0;
-            }) p) in
-            quiet_counts node gone_here t.pc q stays on.0
+    passed_on e f =
+        let here = comes_to text is s fetches 0 live in
+        let instr : Instr = decode_of (slice_index text.words here.0) in
+        let went : t ≡ act s instr = carries_out text is s fetches 0 here.0 here.1.is live in
+        let p : IsPassed instr =
+        passed s instr e (ap (λ (x : State). x.ending) (sym went) ∙ live) (ap (λ (x : State). x.slot) (sym went) ∙ f) in
+        let held : MatchesBy text graph node (point_of s) NoSlot =
+        subst (λ (x : Slot). MatchesBy text graph node (point_of s) x) e m in
+        let on : MatchesBy text graph (node_after graph node gone_here) (point_of t) NoSlot =
+        subst (λ (x : Slot). MatchesBy text graph (node_after graph node gone_here) (point_of t) x) f leads in
+        let q : IsQuiet gone_here =
+        subst IsQuiet (sym (gone_is NoSlot NoSlot e f))
+        (left_at_quiet node (point_of s) here.0 instr
+        (record {
+          text_is = is;
+          cut = c;
+          is = here.1;
+          npc = held.1;
+          decodes = refl;
+          are = open_none b;
+          there = there;
+          held = held.0;
+        }) p) in
+        quiet_counts node gone_here t.pc q stays on.0
 
     -- out of a slot
     left_slot : (was : Slot) → was ≢ NoSlot → s.slot ≡ was → t.slot ≡ NoSlot
@@ -445,10 +398,7 @@ module _ (text : Words) (is : IsText text) (b : Blocks) (c : IsCut text b) (sing
         let next : t.pc ≡ s.npc = out_goes s live (λ none. not (sym e ∙ none)) in
         let split : gone_here ≡ edge_from graph node kind ++ landed text graph kind s.npc =
         are ∙ ap (slot_left text graph node kind) next ∙ slot_none text b node kind s.npc in
-        subst (λ ns. AreCounting ns (here_at t.pc) (here_at s.pc)) (sym split)
-        (subst (λ a. AreCounting (edge_from graph node kind ++ landed text graph kind s.npc) (here_at a) (here_at s.pc))
-        (sym next)
-        (on_counts node (point_of s) kind way))
+        rw (split, next) (on_counts node (point_of s) kind way)
 
     -- So a step adds to what is counted of the word, with the slot that was begun, 1 where it leads to the word.
     abbrev pub IsAdded : Slot → Slot → Type 0
@@ -461,9 +411,7 @@ module _ (text : Words) (is : IsText text) (b : Blocks) (c : IsCut text b) (sing
         sum_up : (was now : Slot) (into slots : ℕ) → AreCounting gone_here into slots
             → into + slots + begun_at t.pc now ≡ begun_at s.pc was + here_at t.pc → IsAdded was now
         sum_up was now into slots counts sum =
-            let come = counts.come in
-            let ran = counts.ran in
-            omega (arith, come, ran, sum)
+            omega (arith, counts.come, counts.ran, sum)
 
         none_gone : (was now : Slot) → gone_here ≡ [] → begun_at t.pc now ≡ begun_at s.pc was + here_at t.pc
             → IsAdded was now
@@ -483,7 +431,4 @@ module _ (text : Words) (is : IsText text) (b : Blocks) (c : IsCut text b) (sing
             sum_up Untaken NoSlot (here_at t.pc) (here_at s.pc)
             (left_slot Untaken (λ none. absurd (cc)) e f (gone_is Untaken NoSlot e f)
             (subst (λ (x : Slot). MatchesBy text graph node (point_of s) x) e m)) (omega arith)
-        by Taken Taken e f = let none = out_slot s live (λ x. absurd (cc)) in absurd (cc)
-        by Taken Untaken e f = let none = out_slot s live (λ x. absurd (cc)) in absurd (cc)
-        by Untaken Taken e f = let none = out_slot s live (λ x. absurd (cc)) in absurd (cc)
-        by Untaken Untaken e f = let none = out_slot s live (λ x. absurd (cc)) in absurd (cc)
+        by was now e f = let none = out_slot s live (λ x. absurd (cc)) in absurd (cc)

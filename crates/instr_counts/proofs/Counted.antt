@@ -10,10 +10,11 @@ use Rattle.elf32_sparc.specs.Image.{image_of, text_of, word_number}
 use Rattle.v8_decode.specs.declared.Instr.{Instr}
 use Rattle.v8_decode.specs.declared.Instr.TheVariants as i
 use Rattle.flows.specs.Flows.{Graph as PlainGraph}
+use Rattle.flows.proofs.Walks.{times-append}
 use Rattle.flows.specs.Walks.{IsWalk, times}
 use Rattle.v8_step.specs.declared.Ending.{Ending}
 use Rattle.v8_step.specs.declared.Slot.{Slot}
-use Rattle.v8_step.specs.declared.Slot.TheVariants.{NoSlot, Taken, Untaken}
+use Rattle.v8_step.specs.declared.Slot.TheVariants.{NoSlot, Untaken}
 use Rattle.v8_step.specs.State.{State}
 use Rattle.v8_step.specs.Run.{run}
 use Rattle.two_runs.specs.Visits.{as_list, if_live, own_trail, own_visit}
@@ -49,7 +50,7 @@ use Rattle.instr_counts.specs.Visits.{AreSingle, is_begun, one_if, visits_by}
 use Rattle.instr_counts.specs.Laws.{AreVisited, HasEach, VisitsAreCounted}
 use Rattle.instr_counts.proofs.Closed.{none_are_open}
 use Rattle.instr_counts.proofs.Single.{holds_itself, last_is, words_are_blocks}
-use Rattle.instr_counts.proofs.Passing.{passing, passing-append, times-append, weighed}
+use Rattle.instr_counts.proofs.Passing.{passing, passing-append, weighed}
 use Rattle.instr_counts.proofs.Completed.{added, as_slot, begun_at, here_at, into_word, same_place}
 use Rattle.cfg_walk.proofs.Ways.{same_kinds}
 
@@ -81,8 +82,7 @@ no_landing : (o : Option Instr) (slot : Slot) → same_kind (way_of o slot) kind
 no_landing (Some (i.Call disp30)) slot = refl
 no_landing (Some (i.Jmpl rd rs1 op2)) slot = refl
 no_landing _ Untaken = refl
-no_landing _ Taken = refl
-no_landing _ NoSlot = refl
+no_landing _ _ = refl
 
 land_kind : (kind other : EdgeKind) → same_kind kind other ≡ true → same_kind kind kinds.Land ≡ true
     → same_kind other kinds.Land ≡ true
@@ -132,10 +132,7 @@ module _ (text : Words) (is : IsText text) (b : Blocks) (c : IsCut text b) (sing
       let before : k.0 + 1 ≡ w = omega (arith, pc, same, last) in
       let other : (k.0 == holding_of b w) ≡ false =
       ne_eqb k.0 (holding_of b w) (λ e. omega (arith, e, here, before)) in
-      ap (λ (t : Bool). one_if ((point.pc == address_of text w) && (t && not (k.0 == holding_of b w)))) (lt-ltb _ _ l)
-      ∙ ap (λ (t : Bool). one_if ((point.pc == address_of text w) && (true && not t))) other
-      ∙ ap (λ (t : Bool). one_if (t && true)) (eq-eqb point.pc (address_of text w) same)
-      ∙ sym (ap one_if (eq-eqb point.pc (address_of text w) same))
+      rw (lt-ltb _ _ l, other, eq-eqb point.pc (address_of text w) same) refl
   in_slot x point (Landed k) l way same = absurd (false≢true l.1)
   in_slot x point X l way same =
       let on = on_edge text b X point (way_of (instr_at text (point.pc - 4)) x) way in
@@ -169,10 +166,8 @@ module _ (text : Words) (is : IsText text) (b : Blocks) (c : IsCut text b) (sing
           ≡ begun_at text is b c single w inside point.pc x
       by NoSlot m (inr apart) = elsewhere point.pc (node_number graph node) apart
       by NoSlot m (inl same) = out_of_slot point node there m same
-      by Taken m (inr apart) = away apart
-      by Untaken m (inr apart) = away apart
-      by Taken m (inl same) = in_slot Taken point node there m same
-      by Untaken m (inl same) = in_slot Untaken point node there m same
+      by _ m (inr apart) = away apart
+      by x m (inl same) = in_slot x point node there m same
 
 -- ---- along the run
 
@@ -232,9 +227,7 @@ module _ (text : Words) (given : List ℕ) (entry : ℕ) (s0 : State) (is : IsTe
   visited zero live =
       let first : times (own_trail s0 1) (address_of text w) ≡ times (s0.pc ∷ []) (address_of text w) =
       ap (λ xs. times xs (address_of text w)) (live_visit s0 live) in
-      let one = times_one s0.pc in
-      let none = ap (begun_at text is b c single w inside s0.pc) starts.slot in
-      omega (arith, first, one, none, entered)
+      omega (arith, first, times_one s0.pc, ap (begun_at text is b c single w inside s0.pc) starts.slot, entered)
   visited (suc n) live =
       let before = live_before (run s0 n) live in
       let s : State = run s0 n in
@@ -242,17 +235,15 @@ module _ (text : Words) (given : List ℕ) (entry : ℕ) (s0 : State) (is : IsTe
       let es = gone_in text of_run entry s0 n in
       let m = matching n before in
       let on = matching_after n live in
-      let so_far = visited n before in
       let more = times-append (own_trail s0 (suc n)) (as_list (own_visit (run s0 (suc n)))) (address_of text w) in
       let last : times (as_list (own_visit (run s0 (suc n)))) (address_of text w)
       ≡ times ((run s0 (suc n)).pc ∷ []) (address_of text w) =
       ap (λ xs. times xs (address_of text w)) (live_visit (run s0 (suc n)) live) in
-      let one = times_one (run s0 (suc n)).pc in
       let into = passing-append (into_word text is b c single w inside) (walk text of_run entry s0 n) es in
       let slots = passing-append (as_slot text is b c single w inside) (walk text of_run entry s0 n) es in
       let step =
       added text is b c single w inside node m.1 s (λ a. code_stays.1 s0 n a ∙ fetches a) m.0 live on.0 on.1 in
-      omega (arith, so_far, more, last, one, into, slots, step)
+      omega (arith, visited n before, more, last, times_one (run s0 (suc n)).pc, into, slots, step)
 
   within : (n : ℕ) → Each (λ e. e < length of_run.edges) (walk text of_run entry s0 n)
   within n =

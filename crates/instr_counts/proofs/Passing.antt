@@ -15,10 +15,6 @@ pub passing-append : (s : ℕ → Bool) (es more : List ℕ) → passing s (es +
 passing-append s [] more = omega arith
 passing-append s (e ∷ es) more = let later = passing-append s es more in omega (arith, later)
 
-pub times-append : (es more : List ℕ) (e : ℕ) → times (es ++ more) e ≡ times es e + times more e
-times-append [] more e = omega arith
-times-append (x ∷ es) more e = let later = times-append es more e in omega (arith, later)
-
 -- ---- the weights of the numbers that pass, by how often each stands in the list
 
 none_weighed : (n : ℕ) (s : ℕ → Bool) → weight_below n (λ e. 0) s ≡ 0
@@ -45,7 +41,4 @@ one_weighed (suc n) x s l =
 pub weighed : (n : ℕ) (s : ℕ → Bool) (es : List ℕ) → Each (λ e. e < n) es → weight_below n (times es) s ≡ passing s es
 weighed n s [] within = none_weighed n s
 weighed n s (x ∷ es) within =
-    let both = both_weighed n (one_at x) (times es) s in
-    let first = one_weighed n x s within.0 in
-    let later = weighed n s es within.1 in
-    omega (arith, both, first, later)
+    omega (arith, both_weighed n (one_at x) (times es) s, one_weighed n x s within.0, weighed n s es within.1)

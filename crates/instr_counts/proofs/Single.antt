@@ -39,9 +39,8 @@ module _ (b : Blocks) (f : AreFirsts b.words b.firsts) (single : AreSingle b) wh
   pub as_many : length b.firsts ≡ b.words
   as_many =
       let last : length b.firsts - 1 < length b.firsts = omega (arith, f.some) in
-      let ends = end_is (length b.firsts - 1) last in
       let whole = ends_at_words b.words b.firsts f (length b.firsts - 1) (omega (arith, f.some)) in
-      omega (arith, ends, whole, f.some)
+      omega (arith, end_is (length b.firsts - 1) last, whole, f.some)
 
   pub holds_itself : (word : ℕ) → word < b.words → holding_of b word ≡ word
   holds_itself word l =

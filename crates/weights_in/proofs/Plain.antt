@@ -1,15 +1,15 @@
 -- Words that have neither a space nor a newline.
-use Rattle.std.proofs.Common.{◌≡◌, ℕ, ◌+◌, ◌<◌, ◌/◌, ◌%◌, ◌*◌, ◌^◌, ◌==◌, ◌&&◌, ◌||◌, not, Bool, true, false, nat_lt, List, [], ◌∷◌, ◌++◌, length, take, drop, Option, Some, None, codes, refl, ap, sym, ◌∙◌, arith}
+use Rattle.std.proofs.Common.{inl, inr, ◌≡◌, ℕ, ◌+◌, ◌<◌, ◌/◌, ◌%◌, ◌*◌, ◌^◌, ◌==◌, ◌&&◌, ◌||◌, not, Bool, true, false, nat_lt, List, [], ◌∷◌, ◌++◌, length, take, drop, Option, Some, None, codes, refl, ap, sym, ◌∙◌, arith}
 use Rattle.std.specs.List.{list_all, list_any}
 use Rattle.std.specs.Option.{is_some}
 use Rattle.std.specs.Str.{bytes_eq}
-use Rattle.std.proofs.lemmas.Bool.{and_from, and_parts, cond_both, ne_eqb}
+use Rattle.std.proofs.lemmas.Bool.{and_from, and_parts, cases_Bool, cond_both, ne_eqb}
 use Rattle.std.proofs.lemmas.List.{take-append-drop}
 use Rattle.std.proofs.lemmas.Slice.Eq.{bytes_eq-Decides}
 use Rattle.eel_base.specs.Fields.{hex_digit, hex_digit_at, hex_of}
 use Rattle.line_words.specs.Words.{hex_number_of}
 use Rattle.line_words.proofs.Digits.{address_read}
-use Rattle.line_words.proofs.Split.{is_whole}
+pub use Rattle.line_words.proofs.Split.{is_whole, whole_append}
 use Rattle.weights_in.specs.Weights.{is_address, is_kind, is_node}
 
 abbrev pub is_plain : List ℕ → Bool
@@ -24,13 +24,10 @@ one_plain : (word : List ℕ) (words : List (List ℕ)) → list_all is_plain wo
 one_plain word [] all h = absurd (cc h)
 one_plain word (first ∷ words) all h =
     let parts = and_parts (is_plain first) (list_all is_plain words) all in
-    by_test (bytes_eq word first) refl parts.0 (λ any. one_plain word words parts.1 any) h
-  where
-    by_test : (b : Bool) → bytes_eq word first ≡ b → is_plain first ≡ true
-        → (list_any (bytes_eq word) words ≡ true → is_plain word ≡ true)
-        → (b || list_any (bytes_eq word) words) ≡ true → is_plain word ≡ true
-    by_test true is plain later any = ap is_plain (same_text word first is) ∙ plain
-    by_test false is plain later any = later any
+    elim (cases_Bool (bytes_eq word first)) [
+      | inl is ↦ rw (same_text word first is) parts.0
+      | inr isnt ↦ one_plain word words parts.1 (rw isnt at h)
+    ]
 
 pub kind_plain : (word : List ℕ) → is_kind word ≡ true → is_plain word ≡ true
 kind_plain word h =
@@ -60,13 +57,6 @@ address_plain word h = by_number (hex_number_of word) refl h
     by_number : (found : Option ℕ) → hex_number_of word ≡ found → is_some found ≡ true → is_plain word ≡ true
     by_number (Some n) is some = ap is_plain (address_read word n is).0 ∙ hex_plain n
     by_number None is some = absurd (cc some)
-
-pub whole_append : (mark : ℕ) (one other : List ℕ) → is_whole mark one ≡ true → is_whole mark other ≡ true
-    → is_whole mark (one ++ other) ≡ true
-whole_append mark [] other a b = b
-whole_append mark (byte ∷ one) other a b =
-    let parts = and_parts (not (byte == mark)) (is_whole mark one) a in
-    and_from (not (byte == mark)) (is_whole mark (one ++ other)) parts.0 (whole_append mark one other parts.1 b)
 
 plain_append : (one other : List ℕ) → is_plain one ≡ true → is_plain other ≡ true → is_plain (one ++ other) ≡ true
 plain_append one other a b =

@@ -1,19 +1,20 @@
-use Rattle.std.proofs.Common.{◌<◌, Bool, ◌||◌, None, List, get_or, length, refl, ap, ◌∙◌, arith}
+use Rattle.std.proofs.Common.{sym, ◌<◌, Bool, ◌||◌, None, List, get_or, length, refl, ap, ◌∙◌, arith}
 use Rattle.std.specs.Prelude.{◌==◌}
 use Rattle.std.specs.List.{list_any}
 use Rattle.std.proofs.lemmas.List.{take_all}
+use Rattle.std.proofs.Math.Bool.{or-false, or_assoc}
 use Rattle.flows.specs.Links.{marked}
 use Rattle.notes.specs.Seen.{edge_seen}
 use Rattle.notes.specs.declared.note.NoteEdge as declared_edge
 use Rattle.count_rebuild.specs.Noted.{ends_at}
-use Rattle.count_rebuild.proofs.NodeMarks.{any_more, or_assoc, or_none}
+use Rattle.count_rebuild.proofs.NodeMarks.{any_more}
 use Rattle.count_rebuild.proofs.nodes.mark_edges.Goals as goal
 
 abbrev no_edge : declared_edge.NoteEdge
 no_edge = record { kind = 0; from = 0; to = 0; cell = None }
 
 pub loop-edge-init : goal.loop-edge-init
-loop-edge-init c = record { len = refl; marks = λ node l. or_none _ }
+loop-edge-init c = record { len = refl; marks = λ node l. sym (or-false _) }
 
 pub loop-edge-preserved : goal.loop-edge-preserved
 loop-edge-preserved c =

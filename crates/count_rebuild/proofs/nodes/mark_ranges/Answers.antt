@@ -1,19 +1,20 @@
-use Rattle.std.proofs.Common.{◌<◌, Bool, ◌||◌, List, get_or, length, refl, ap, ◌∙◌, arith}
+use Rattle.std.proofs.Common.{sym, ◌<◌, Bool, ◌||◌, List, get_or, length, refl, ap, ◌∙◌, arith}
 use Rattle.std.specs.Prelude.{◌==◌}
 use Rattle.std.specs.List.{list_any}
 use Rattle.std.proofs.lemmas.List.{take_all}
+use Rattle.std.proofs.Math.Bool.{or-false}
 use Rattle.eel_base.specs.declared.range.Range as declared_range
 use Rattle.flows.specs.Links.{marked}
 use Rattle.notes.specs.Seen.{range_seen}
 use Rattle.count_rebuild.specs.Noted.{lies_at}
-use Rattle.count_rebuild.proofs.NodeMarks.{any_more, or_none}
+use Rattle.count_rebuild.proofs.NodeMarks.{any_more}
 use Rattle.count_rebuild.proofs.nodes.mark_ranges.Goals as goal
 
 abbrev no_range : declared_range.Range
 no_range = record { lo = record { 0 = 0 }; hi = record { 0 = 0 }; address = record { 0 = 0 }; node = 0 }
 
 pub loop-range-init : goal.loop-range-init
-loop-range-init c = record { len = refl; marks = λ node l. or_none _ }
+loop-range-init c = record { len = refl; marks = λ node l. sym (or-false _) }
 
 pub loop-range-preserved : goal.loop-range-preserved
 loop-range-preserved c =
