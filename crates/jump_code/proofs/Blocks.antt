@@ -1,5 +1,5 @@
 -- What the proofs of these words share.
-use Rattle.std.proofs.Common.{◌≡◌, ◌≢◌, ℕ, suc, ◌+◌, ◌-◌, ◌*◌, ◌/◌, ◌%◌, ◌^◌, ◌<◌, ◌≤◌, inl, inr, true, false, Ok, refl, ap, ◌∙◌, subst, arith}
+use Rattle.std.proofs.Common.{◌≡◌, ◌≢◌, ℕ, suc, ◌+◌, ◌-◌, ◌*◌, ◌/◌, ◌%◌, ◌^◌, ◌<◌, ◌≤◌, inl, inr, false, Ok, refl, ap, ◌∙◌, subst, arith}
 use Rattle.std.specs.Prelude.{◌==◌, pos}
 use Rattle.std.proofs.lemmas.Bool.Decides.{nat_tests}
 use Rattle.v8_decode.specs.declared.Op2.{Op2}
@@ -16,11 +16,9 @@ use Rattle.code_runs.specs.Straight.{IsReady, StandIn}
 use Rattle.code_runs.specs.TwoRegisters.{HasScratch, Works, Gives, BlockRules}
 use Rattle.code_runs.proofs.LongJump.{says_at}
 use Rattle.code_runs.proofs.TwoRegisters.{block_rules}
+pub use Rattle.addr_translate.proofs.TwelveWords.{four}
 use Rattle.jump_code.specs.Links.{address_into}
 use Rattle.jump_code.specs.PageWords.{IsPageWord}
-
-pub four : (n : ℕ) → n % 4 ≡ 0 → (n % 4 == 0) ≡ true
-four n e = ap (λ z. z == 0) e
 
 pub not_four : (n : ℕ) → n % 4 ≢ 0 → (n % 4 == 0) ≡ false
 not_four n ne = grind (arith, nat_tests)

@@ -128,7 +128,7 @@ module _ (distance : ℕ) (s : State) (h : IsAboutToGo distance s) where
   hops =
       let to = chosen distance s in
       let small : to < 2 ^ 32 =
-      subst (λ z. z < 2 ^ 32) seven.alike.first
+      rw seven.alike.first at
       (register_of-range seven.after 1 (subst IsValid seven.path.steps (run-valid s 7 h.valid))) in
       hops_through s 9 IsPageWord 1 2 block 7 m2 to to (Imm (pos 0)) (of_page 2) (page_word 2) seven
       (omega arith) (omega arith) (four to h.choice.target)
@@ -177,8 +177,7 @@ choices_simulate (suc r) rs1 op2 address distance s h live =
     ) in
     let linked : State = past s 2 s.memory (with_register s (suc r) address) in
     let path : Leads (IsBetween s 11 IsPageWord) s linked 2 =
-    subst (λ (z : State). Leads (IsBetween s 11 IsPageWord) s z 2)
-    (works_state s 11 IsPageWord o.0 (suc r) c 2 s.memory address w (omega arith)) w.path in
+    rw (works_state s 11 IsPageWord o.0 (suc r) c 2 s.memory address w (omega arith)) at w.path in
     let hop : Hops linked 9 IsPageWord (chosen distance s) (chosen_memory linked) =
     choices_hop distance linked (record {
       valid = subst IsValid path.steps (run-valid s 2 h.valid);

@@ -1,5 +1,5 @@
 -- The image of a JMPL that looks its target up follows the original's step.
-use Rattle.std.proofs.Common.{◌≡◌, ◌≢◌, ℕ, ◌+◌, ◌%◌, ◌⊎◌, inl, inr, Some, None, length, refl, ap, sym, ◌∙◌, subst, arith}
+use Rattle.std.proofs.Common.{◌≡◌, ◌≢◌, ℕ, ◌+◌, ◌%◌, inl, inr, Some, None, length, refl, ap, sym, ◌∙◌, subst, arith}
 use Rattle.std.specs.Prelude.{pos}
 use Rattle.v8_decode.specs.declared.Op2.{Op2}
 use Rattle.v8_decode.specs.declared.Op2.TheVariants.{Imm}
@@ -66,16 +66,14 @@ module _ (x y rd rs1 : ℕ) (op2 : Op2) (address : ℕ) (t : TableAt) (s : State
   going live = comes (jump_aligned address rd rs1 op2 s live)
 
   ending_alike : (ending : Ending) → (jumped address rd rs1 op2 s).ending ≡ Some ending → EndsFinding x y s ending
-  ending_alike ending is = go (equal_or_not (sum_of s rs1 op2 % 4) 0)
-    where
-      never : None ≡ Some ending → ⊥
-      never k = cc
-
-      go : (sum_of s rs1 op2 % 4 ≡ 0) ⊎ (sum_of s rs1 op2 % 4 ≢ 0) → EndsFinding x y s ending
-      go (inl e) = absurd (never (sym (ap (λ (z : State). z.ending) (goes e) ∙ h.ready.live) ∙ is))
-      go (inr ne) =
-          let k = (finds_act x y rd rs1 op2 address t s h).1 ne in
-          record { traps = k; same = k.ending ∙ sym (ap (λ (z : State). z.ending) (stops ne)) ∙ is }
+  ending_alike ending is = elim (equal_or_not (sum_of s rs1 op2 % 4) 0) [
+    | inl e ↦
+        let lives : None ≡ Some ending = sym (ap (λ (z : State). z.ending) (goes e) ∙ h.ready.live) ∙ is in
+        absurd (cc)
+    | inr ne ↦
+        let k = (finds_act x y rd rs1 op2 address t s h).1 ne in
+        record { traps = k; same = k.ending ∙ sym (ap (λ (z : State). z.ending) (stops ne)) ∙ is }
+  ]
 
 pub finds_simulate : FindsSimulate
 finds_simulate x y rd rs1 op2 address t s h =

@@ -1,5 +1,5 @@
 -- The words of a JMPL that looks its target up, one by one.
-use Rattle.std.proofs.Common.{◌≡◌, ◌≢◌, ℕ, zero, suc, ◌+◌, ◌-◌, ◌*◌, ◌/◌, ◌%◌, ◌^◌, ◌<◌, ◌≤◌, ◌⊎◌, inl, inr, false, Ok, List, length, refl, ap, sym, ◌∙◌, subst, arith}
+use Rattle.std.proofs.Common.{◌≡◌, ◌≢◌, ℕ, zero, suc, ◌+◌, ◌-◌, ◌*◌, ◌/◌, ◌%◌, ◌^◌, ◌<◌, ◌≤◌, inl, inr, false, Ok, length, refl, ap, sym, ◌∙◌, subst, arith}
 use Rattle.std.specs.Prelude.{◌==◌, pos}
 use Rattle.v8_decode.specs.declared.Op2.{Op2}
 use Rattle.v8_decode.specs.declared.Op2.TheVariants.{Reg, Imm}
@@ -8,7 +8,7 @@ use Rattle.v8_decode.specs.declared.Instr.TheVariants as i
 use Rattle.v8_decode.specs.declared.LoadKind.TheVariants as loads
 use Rattle.v8_alu.specs.Alu.{alu_of}
 use Rattle.v8_alu.specs.Numbers.{wrapped}
-use Rattle.v8_memory.specs.Regions.{Memory, Region, code_of}
+use Rattle.v8_memory.specs.Regions.{Memory, code_of}
 use Rattle.v8_step.specs.declared.Slot.TheVariants.{NoSlot}
 use Rattle.v8_step.specs.State.{State, register_of, operand_of, with_register, sum_of}
 use Rattle.v8_step.specs.Step.{step_of}
@@ -55,9 +55,7 @@ gives_right u x t e = ap (λ z. Ok (record { value = z / 2 ^ 16; codes = u.codes
 gives_left : (u : State) (x t : ℕ) → register_of u x ≡ t → t < 2 ^ 16 → Gives ops.SLL x (Imm (pos 2)) (4 * t) u
 unfolding alu_of
 gives_left u x t e low =
-    ap (λ z. Ok (record { value = wrapped (z * 2 ^ 2); codes = u.codes; y = u.y })) e
-    ∙ ap (λ z. Ok (record { value = z; codes = u.codes; y = u.y }))
-    (let f : wrapped (t * 2 ^ 2) ≡ 4 * t = omega arith in f)
+    let f : wrapped (t * 2 ^ 2) ≡ 4 * t = omega arith in rw (e, f)
 
 -- what the word of a high half says of a target's low two bits
 same_low : (k a : ℕ) → wrapped (k + (a - a % 4)) % 4 ≡ 0 → wrapped (k + a) % 4 ≡ a % 4
@@ -75,11 +73,10 @@ entry_low t a h low =
 
 -- the second register of a block: any other
 pub another : (x : ℕ) → (b : ℕ) × (0 < b) × (b < 32) × (x ≢ b)
-another x = go (equal_or_not x 1)
-  where
-    go : (x ≡ 1) ⊎ (x ≢ 1) → (b : ℕ) × (0 < b) × (b < 32) × (x ≢ b)
-    go (inl e) = (2, omega arith, omega arith, omega arith)
-    go (inr n) = (1, omega arith, omega arith, n)
+another x = elim (equal_or_not x 1) [
+  | inl e ↦ (2, omega arith, omega arith, omega arith)
+  | inr n ↦ (1, omega arith, omega arith, n)
+]
 
 module _ (x y rd rs1 : ℕ) (op2 : Op2) (address : ℕ) (t : TableAt) (s : State)
     (h : IsAboutToFind x y rd rs1 op2 address t s) where
@@ -131,13 +128,12 @@ module _ (x y rd rs1 : ℕ) (op2 : Op2) (address : ℕ) (t : TableAt) (s : State
     sum_is : (m : Memory) (v w : ℕ) (u : State) → IsAlike s x y m v w u → (o : Op2) → IsNotIn x o → IsNotIn y o
         → sum_of u rs1 o ≡ sum_of s rs1 o
     sum_is m v w u k (Reg r) apart other =
-        ap (λ z. wrapped (z + register_of u r))
-        (other_is s count IsPageWord x y c m v w u rs1 k h.apart.rs1_below h.apart.rs1_not h.other.rs1_not)
-        ∙ ap (λ z. wrapped (register_of s rs1 + z))
-        (other_is s count IsPageWord x y c m v w u r k apart.0 apart.1 other.1)
+        rw (
+          other_is s count IsPageWord x y c m v w u rs1 k h.apart.rs1_below h.apart.rs1_not h.other.rs1_not,
+          other_is s count IsPageWord x y c m v w u r k apart.0 apart.1 other.1,
+        )
     sum_is m v w u k (Imm n) apart other =
-        ap (λ z. wrapped (z + operand_of s (Imm n)))
-        (other_is s count IsPageWord x y c m v w u rs1 k h.apart.rs1_below h.apart.rs1_not h.other.rs1_not)
+        rw (other_is s count IsPageWord x y c m v w u rs1 k h.apart.rs1_below h.apart.rs1_not h.other.rs1_not)
 
     kept_one : Works s count IsPageWord x y 4 m3 target gy
     kept_one =
@@ -221,8 +217,7 @@ module _ (x y rd rs1 : ℕ) (op2 : Op2) (address : ℕ) (t : TableAt) (s : State
         let load = i.Load loads.LD x y (Reg x) in
         let code_is : code_of w.after.memory ≡ code_of s.memory = ap code_of k.memory ∙ w.code in
         let here : Says (code_of w.after.memory) w.after.pc load =
-        subst (λ (z : List Region). Says z w.after.pc load) (sym code_is)
-        (says_at (code_of s.memory) _ _ load (omega arith) h.words.1.1.1.1.1.1.1.1.1.0) in
+        rw code_is (says_at (code_of s.memory) _ _ load (omega arith) h.words.1.1.1.1.1.1.1.1.1.0) in
         let low = entry_low t target h.table low_target in
         let not_aligned : (sum_of w.after y (Reg x) % 4 == 0) ≡ false =
         ap (λ z. z % 4 == 0) (entry_sum w.after k) ∙ not_four (entry_at t target) (λ e. odd (sym low ∙ e)) in
@@ -233,11 +228,7 @@ module _ (x y rd rs1 : ℕ) (op2 : Op2) (address : ℕ) (t : TableAt) (s : State
           after = trapped w.after mem_address_not_aligned;
           path = leads_then (IsBetween s 10 IsPageWord) s w.after _ 9 1
               (subst (λ z. Leads (IsBetween s z IsPageWord) s w.after 9) (sym ten) w.path) (leads_one _ w.after _ one)
-              (λ _ _. record {
-                past = omega arith;
-                before = omega arith;
-                stores = subst (Stores IsPageWord s.memory) (sym k.memory) w.stores;
-              });
+              (λ _ _. record { past = omega arith; before = omega arith; stores = rw k.memory w.stores });
           live = ap (λ (z : State). z.ending) w.path.steps ∙ k.live;
           silent = silent_then s w.after 9 1 w.path.steps w.silent
               (silent_one w.after (says_puts w.after load (λ cond r o e. cc) here));
@@ -311,8 +302,7 @@ linked r address u valid ready low below short stand =
     let w : Works u 2 IsPageWord o.0 (suc r) 2 u.memory (register_of u o.0) address =
     addressed u 2 o.0 (suc r) c 0 u.memory (register_of u o.0) (register_of u (suc r)) address
     (block_rules u 2 IsPageWord o.0 (suc r) c).none short (omega arith) stand in (
-      subst (λ (z : State). Leads (IsBetween u 2 IsPageWord) u z 2)
-          (works_state u 2 IsPageWord o.0 (suc r) c 2 u.memory address w (omega arith)) w.path,
+      rw (works_state u 2 IsPageWord o.0 (suc r) c 2 u.memory address w (omega arith)) at w.path,
       w.silent,
     )
 
@@ -330,8 +320,7 @@ goes x y zero rs1 op2 address t s h aligned =
     let c = beside x y zero rs1 op2 address t s h 12 (omega arith) in
     let w = restored x y zero rs1 op2 address t s h 12 c (omega arith) aligned in
     record {
-      path = subst (λ (z : State). Leads (IsBetween s 12 IsPageWord) s z 12)
-          (works_same s 12 IsPageWord x y c 12 m w (omega arith)) w.path;
+      path = rw (works_same s 12 IsPageWord x y c 12 m w (omega arith)) at w.path;
       silent = w.silent;
       stores = w.stores;
       target = kept_target x y zero rs1 op2 address t s h;
@@ -344,11 +333,9 @@ goes x y (suc r) rs1 op2 address t s h aligned =
     let low = h.low in
     let u : State = past s 12 m s in
     let is : w.after ≡ past s 12 m s = works_same s 14 IsPageWord x y c 12 m w (omega arith) in
-    let first : Leads (IsBetween s 14 IsPageWord) s (past s 12 m s) 12 =
-    subst (λ (z : State). Leads (IsBetween s 14 IsPageWord) s z 12) is w.path in
+    let first : Leads (IsBetween s 14 IsPageWord) s (past s 12 m s) 12 = rw is at w.path in
     let stand : StandIn (code_of m) (s.pc + 4 * 12 + 4 * 0) (address_into (suc r) address) =
-    subst (λ (z : List Region). StandIn z (s.pc + 4 * 12 + 4 * 0) (address_into (suc r) address)) (sym w.code)
-    (subst (λ z. StandIn (code_of s.memory) z (address_into (suc r) address)) (omega arith)
+    rw w.code (subst (λ z. StandIn (code_of s.memory) z (address_into (suc r) address)) (omega arith)
     h.words.1.1.1.1.1.1.1.1.1.1.1.1) in
     let k = linked r address (past s 12 m s) (subst IsValid first.steps (run-valid s 12 h.valid))
     (record { live = h.ready.live; npc = refl }) (omega arith) h.apart.rd_below h.short stand in

@@ -1,7 +1,7 @@
 -- Instructions that have words.
-use Rattle.std.proofs.Common.{◌≡◌, ℕ, zero, suc, ◌+◌, ◌/◌, ◌%◌, ◌^◌, ◌<◌, Bool, true, ◌&&◌, List, [], ◌∷◌, length, map, refl, ap, ◌∙◌, arith}
+use Rattle.std.proofs.Common.{◌≡◌, ℕ, zero, suc, ◌+◌, ◌/◌, ◌%◌, ◌^◌, ◌<◌, true, List, [], ◌∷◌, length, map, refl, ap, ◌∙◌, arith}
 use Rattle.std.specs.Prelude.{nat_lt}
-use Rattle.std.proofs.lemmas.Bool.Decides.{nat_tests}
+use Rattle.std.proofs.lemmas.Bool.{and_from, lt-ltb}
 use Rattle.v8_decode.specs.declared.Op2.{Op2}
 use Rattle.v8_decode.specs.declared.Instr.{Instr}
 use Rattle.v8_decode.specs.Ranges.{op2_in_range, is_in_range}
@@ -35,16 +35,13 @@ decoded (x ∷ xs) f =
     ∙ ap (λ (z : List Instr). x ∷ z) (decoded xs f.2)
 
 pub lt : (n m : ℕ) → n < m → nat_lt n m ≡ true
-lt n m h = grind (arith, nat_tests)
-
-both : (p q : Bool) → p ≡ true → q ≡ true → (p && q) ≡ true
-both p q e f = ap (λ z. z && q) e ∙ f
+lt n m h = lt-ltb n m h
 
 pub link_fits : (rd address : ℕ) → rd < 32 → address < 2 ^ 32 → Fit (link rd address)
 link_fits zero address low short = tt
 link_fits (suc r) address low short =
     let l = lt (suc r) 32 low in
-    let both_registers = both (nat_lt (suc r) 32) _ l (both (nat_lt (suc r) 32) true l refl) in
+    let both_registers = and_from (nat_lt (suc r) 32) _ l (and_from (nat_lt (suc r) 32) true l refl) in
     let high = lt (address / 1024) (2 ^ 22) (omega arith) in
     (l, high, (both_registers, lt (address % 1024) 4096 (omega arith), tt))
 
@@ -55,15 +52,15 @@ pub find_fits : (x y rd rs1 : ℕ) (op2 : Op2) (table address : ℕ) → IsApart
 find_fits x y rd rs1 op2 table address a b fits low near short =
     let lx = lt x 32 a.below in
     let ly = lt y 32 b.below in
-    let x_only = both (nat_lt x 32) true lx refl in
-    let y_only = both (nat_lt y 32) true ly refl in
-    let y_by_x = both (nat_lt y 32) _ ly x_only in
-    let y_by_y = both (nat_lt y 32) _ ly y_only in
-    let at_both = both (nat_lt x 32) (nat_lt y 32) lx ly in
-    let at_either = both (nat_lt y 32) (nat_lt x 32) ly lx in
-    let y_there = both (nat_lt y 32) _ ly at_both in
-    let x_there = both (nat_lt x 32) _ lx at_either in
-    let sum = both (nat_lt x 32) _ lx (both (nat_lt rs1 32) _ (lt rs1 32 a.rs1_below) low) in
+    let x_only = and_from (nat_lt x 32) true lx refl in
+    let y_only = and_from (nat_lt y 32) true ly refl in
+    let y_by_x = and_from (nat_lt y 32) _ ly x_only in
+    let y_by_y = and_from (nat_lt y 32) _ ly y_only in
+    let at_both = and_from (nat_lt x 32) (nat_lt y 32) lx ly in
+    let at_either = and_from (nat_lt y 32) (nat_lt x 32) ly lx in
+    let y_there = and_from (nat_lt y 32) _ ly at_both in
+    let x_there = and_from (nat_lt x 32) _ lx at_either in
+    let sum = and_from (nat_lt x 32) _ lx (and_from (nat_lt rs1 32) _ (lt rs1 32 a.rs1_below) low) in
     let high = lt (table / 1024) (2 ^ 22) (omega arith) in
     let links = link_fits rd address a.rd_below short in
     assumption (x_only, y_only, y_by_x, y_by_y, y_there, x_there, sum, fits, lx, high, links)

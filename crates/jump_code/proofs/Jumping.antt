@@ -1,5 +1,5 @@
 -- What a JMPL does at the original's address.
-use Rattle.std.proofs.Common.{◌≡◌, ◌≢◌, ℕ, ◌+◌, ◌%◌, ◌⊎◌, inl, inr, Some, None, refl, ap, sym, ◌∙◌}
+use Rattle.std.proofs.Common.{◌≡◌, ◌≢◌, ℕ, ◌+◌, ◌%◌, inl, inr, Some, None, refl, ap, sym, ◌∙◌}
 use Rattle.std.specs.Prelude.{◌==◌}
 use Rattle.v8_decode.specs.declared.Op2.{Op2}
 use Rattle.v8_decode.specs.declared.Op2.TheVariants.{Reg, Imm}
@@ -35,11 +35,9 @@ module _ (address rd rs1 : ℕ) (op2 : Op2) (s : State) where
 
   -- where it goes on, its target is aligned
   pub jump_aligned : (jumped address rd rs1 op2 s).ending ≡ None → sum_of s rs1 op2 % 4 ≡ 0
-  jump_aligned live = go (equal_or_not (sum_of s rs1 op2 % 4) 0)
-    where
-      never : Some (Trap mem_address_not_aligned) ≡ None → ⊥
-      never k = cc
-
-      go : (sum_of s rs1 op2 % 4 ≡ 0) ⊎ (sum_of s rs1 op2 % 4 ≢ 0) → sum_of s rs1 op2 % 4 ≡ 0
-      go (inl e) = e
-      go (inr ne) = absurd (never (sym (ap (λ (z : State). z.ending) (jump_stops ne)) ∙ live))
+  jump_aligned live = elim (equal_or_not (sum_of s rs1 op2 % 4) 0) [
+    | inl e ↦ e
+    | inr ne ↦
+        let traps : Some (Trap mem_address_not_aligned) ≡ None = sym (ap (λ (z : State). z.ending) (jump_stops ne)) ∙ live in
+        absurd (cc)
+  ]

@@ -1,5 +1,5 @@
 -- The words before the load of a switch, one by one.
-use Rattle.std.proofs.Common.{◌≡◌, ◌≢◌, ℕ, ◌+◌, ◌*◌, ◌<◌, ◌≤◌, ◌⊎◌, inl, inr, Bool, false, Some, List, refl, ap, sym, ◌∙◌, subst, arith}
+use Rattle.std.proofs.Common.{◌≡◌, ℕ, ◌+◌, ◌*◌, ◌<◌, ◌≤◌, inl, inr, Bool, false, Some, List, refl, ap, ◌∙◌, arith}
 use Rattle.std.specs.Prelude.{if◌then◌else◌}
 use Rattle.v8_decode.specs.declared.Op2.{Op2}
 use Rattle.v8_decode.specs.declared.Op2.TheVariants.{Reg, Imm}
@@ -12,11 +12,10 @@ use Rattle.v8_step.specs.State.{State, register_of, operand_of, sum_of}
 use Rattle.v8_step.specs.Run.{run}
 use Rattle.v8_step.proofs.ValidStates.{register_of-range, wrapped-range}
 use Rattle.code_runs.specs.Counted.{any_of_word, count_stores, one_if, stores_in_step, word_span}
-use Rattle.code_runs.specs.Leads.{Leads}
 use Rattle.code_runs.specs.LongJump.{IsFirstWord}
 use Rattle.code_runs.specs.Page.{page_word, of_page}
 use Rattle.code_runs.specs.StoredWords.{store_word, CanStore}
-use Rattle.code_runs.specs.TwoRegisters.{BlockRules, HasScratch, IsAlike, IsBetween, Works}
+use Rattle.code_runs.specs.TwoRegisters.{BlockRules, HasScratch, IsAlike, Works}
 use Rattle.code_runs.proofs.Counted.{stores_there}
 use Rattle.code_runs.proofs.Hops.{equal_or_not, works_same, read_is}
 use Rattle.code_runs.proofs.LongJump.{says_at}
@@ -51,17 +50,14 @@ module _ (rs1 : ℕ) (op2 : Op2) (s : State) (h : IsAboutToKeep rs1 op2 s) where
 
   -- no register has changed yet
   reads : (m : Memory) (u : State) → IsAlike s 1 2 m g1 g2 u → (r : ℕ) → r < 32 → register_of u r ≡ register_of s r
-  reads m u k r low = go (equal_or_not r 1)
-    where
-      go : (r ≡ 1) ⊎ (r ≢ 1) → register_of u r ≡ register_of s r
-      go (inl e) = ap (register_of u) e ∙ k.first ∙ ap (register_of s) (sym e)
-      go (inr n) = read_is s 3 IsFirstWord 1 2 block m g1 u r k low n
+  reads m u k r low = elim (equal_or_not r 1) [
+    | inl e ↦ rw e k.first
+    | inr n ↦ read_is s 3 IsFirstWord 1 2 block m g1 u r k low n
+  ]
 
   sums : (m : Memory) (u : State) → IsAlike s 1 2 m g1 g2 u → (o : Op2) → second_register o < 32
       → sum_of u rs1 o ≡ sum_of s rs1 o
-  sums m u k (Reg r) low =
-      ap (λ z. wrapped (z + register_of u r)) (reads m u k rs1 h.rs1_below)
-      ∙ ap (λ z. wrapped (register_of s rs1 + z)) (reads m u k r low)
+  sums m u k (Reg r) low = rw (reads m u k rs1 h.rs1_below, reads m u k r low)
   sums m u k (Imm n) low = ap (λ z. wrapped (z + operand_of s (Imm n))) (reads m u k rs1 h.rs1_below)
 
   one : Works s 3 IsFirstWord 1 2 1 waits g1 g2
@@ -91,20 +87,16 @@ module _ (rs1 : ℕ) (op2 : Op2) (s : State) (h : IsAboutToKeep rs1 op2 s) where
       let first : stores_in_step counted s ≤ one_if counted (Some (word_span (page_word 0))) =
       stores_there counted s code s.pc (i.Store stores.ST 1 0 (of_page 0)) h.ready.live refl refl h.words.0 in
       let second : stores_in_step counted (run s 1) ≤ 0 =
-      subst (λ (z : State). stores_in_step counted z ≤ 0) (sym one.path.steps)
-      (stores_there counted one.after code (s.pc + 4 * 1) (i.Alu ops.ADD false 1 rs1 op2) one.alike.live
+      rw one.path.steps (stores_there counted one.after code (s.pc + 4 * 1) (i.Alu ops.ADD false 1 rs1 op2) one.alike.live
       (ap code_of one.alike.memory ∙ one.code) one.pc (says_at code _ _ _ (omega arith) h.words.1.0)) in
       let third : stores_in_step counted (run s 2) ≤ one_if counted (Some (word_span (page_word 0))) =
-      subst (λ (z : State). stores_in_step counted z ≤ one_if counted (Some (word_span (page_word 0))))
-      (sym two.path.steps)
-      (stores_there counted two.after code (s.pc + 4 * 2) (i.Swap 1 0 (of_page 0)) two.alike.live
+      rw two.path.steps (stores_there counted two.after code (s.pc + 4 * 2) (i.Swap 1 0 (of_page 0)) two.alike.live
       (ap code_of two.alike.memory ∙ two.code) two.pc (says_at code _ _ _ (omega arith) h.words.1.1.0)) in
       omega (arith, none, first, second, third)
 
   keeps : KeepsLoad rs1 op2 s
   keeps = record {
-    path = subst (λ (z : State). Leads (IsBetween s 3 IsFirstWord) s z 3)
-        (works_same s 3 IsFirstWord 1 2 block 3 (kept_memory s rs1 op2) three (omega arith)) three.path;
+    path = rw (works_same s 3 IsFirstWord 1 2 block 3 (kept_memory s rs1 op2) three (omega arith)) at three.path;
     silent = three.silent;
     stores = three.stores;
     kept = word_stored waits (page_word 0) (sum_of s rs1 op2)

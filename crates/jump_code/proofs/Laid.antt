@@ -31,8 +31,7 @@ module _ (base : ℕ) (p : Placement) (m : Memory) (has : HasCode base p.code m)
   all_stand [] n h = tt
   all_stand (x ∷ xs) n h = (
     subst (λ z. Stands base p x (place z) (place (suc z))) (let e : n + 0 ≡ n = omega arith in e) (h 0 x refl),
-    all_stand xs (suc n) (λ j y e. subst (λ z. Stands base p y (place z) (place (suc z)))
-        (let f : n + suc j ≡ suc n + j = omega arith in f) (h (suc j) y e)),
+    all_stand xs (suc n) (λ j y e. rw (let f : n + suc j ≡ suc n + j = omega arith in f) at (h (suc j) y e)),
   )
 
   record Stood (n count : ℕ) (rest : List Item) : Type 0 where

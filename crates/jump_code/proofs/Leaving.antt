@@ -1,5 +1,5 @@
 -- The foreign piece, and long jumps out of the text.
-use Rattle.std.proofs.Common.{◌≡◌, ℕ, ◌+◌, ◌^◌, ◌<◌, inl, refl, ap, ◌∙◌, arith}
+use Rattle.std.proofs.Common.{◌≡◌, ◌+◌, ◌^◌, ◌<◌, inl, refl, ap, ◌∙◌, arith}
 use Rattle.std.specs.Prelude.{pos}
 use Rattle.v8_decode.specs.declared.Op2.TheVariants.{Imm}
 use Rattle.v8_alu.specs.Numbers.{wrapped}
@@ -47,16 +47,12 @@ foreign_leaves s h =
     (can_load m (page_word 2) (still_stored s.memory (page_word 2) (page_word 2) g1 p2))
     (word_stored s.memory (page_word 2) g1 (register_of-range s 1 h.valid) p2)
 
--- word 0 is one of the words of the page
-first_word : (z : ℕ) → IsFirstWord z → IsPageWord z
-first_word z e = inl e
-
 pub far_goes : FarGoes
 far_goes to s h =
     let low = h.low in
     let k = long_jumps_hop to s h.valid h.ready (omega arith) (h.page 0 (omega arith)) h.words h.short h.aligned in
     let more = λ (m : Memory) (z : Stores IsFirstWord s.memory m).
-    stores_then IsFirstWord IsPageWord s.memory s.memory m first_word (stores_none IsPageWord s.memory) z in
+    stores_then IsFirstWord IsPageWord s.memory s.memory m (λ z e. inl e) (stores_none IsPageWord s.memory) z in
     record {
       path = leads_weaker (IsBetween s 4 IsFirstWord) (IsBetween s 4 IsPageWord) s _ 4
           (λ u z. record { past = z.past; before = z.before; stores = more u.memory z.stores }) k.path;

@@ -9,9 +9,8 @@ use Rattle.v8_step.specs.Step.{act, step_of}
 use Rattle.v8_step.specs.Transfers.{call_step, next}
 use Rattle.v8_step.specs.State.{State, register_of, with_register}
 use Rattle.code_runs.specs.Counted.{count_stores}
-use Rattle.code_runs.specs.Leads.{Leads}
 use Rattle.code_runs.specs.Straight.{StandIn}
-use Rattle.code_runs.specs.TwoRegisters.{IsBetween, Works}
+use Rattle.code_runs.specs.TwoRegisters.{Works}
 use Rattle.code_runs.proofs.Acts.{says_step}
 use Rattle.code_runs.proofs.Counted.{no_stores, none_then}
 use Rattle.code_runs.proofs.Hops.{works_state}
@@ -33,8 +32,7 @@ calls_act address s h =
     let w : Works s 2 IsPageWord 1 15 2 s.memory (register_of s 1) address =
     addressed s 2 1 15 c 0 s.memory (register_of s 1) (register_of s 15) address
     (block_rules s 2 IsPageWord 1 15 c).none h.short (omega arith) stand in (
-      subst (λ (z : State). Leads (IsBetween s 2 IsPageWord) s z 2)
-          (works_state s 2 IsPageWord 1 15 c 2 s.memory address w (omega arith)) w.path,
+      rw (works_state s 2 IsPageWord 1 15 c 2 s.memory address w (omega arith)) at w.path,
       w.silent,
     )
 

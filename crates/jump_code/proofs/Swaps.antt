@@ -26,22 +26,14 @@ swap_acts s rd rs1 x a e z h =
 module _ (s : State) (count : ℕ) (May : ℕ → Type 0) (a b : ℕ) (c : HasScratch s count a b) where
   alike_swapped : (m n : Memory) (x y v : ℕ) (u : State) → IsAlike s a b m x y u
       → IsAlike s a b n v y (with_register (record u { memory = n }) a v)
-  alike_swapped m n x y v u h = record {
-    live = h.live;
-    window = h.window;
-    valid = h.valid;
-    input = h.input;
-    codes = h.codes;
-    y_register = h.y_register;
-    registers = length-register_set u.registers u.window a v ∙ h.registers;
-    first = register_in-set u.registers u.window a v h.registers c.first_some;
-    second = register_in-other u.registers u.window a v u.window b
-        (subst (λ w. place_of w a ≢ place_of w b) (sym h.window)
-        (places_differ s.window a b c.window c.first_below c.second_below c.differ)) ∙ h.second;
-    others = λ p na nb. set_stays u.registers u.window a v p (subst (λ w. p ≢ place_of w a) (sym h.window) na)
-        ∙ h.others p na nb;
-    memory = refl;
-  }
+  alike_swapped m n x y v u h = assumption (
+    h,
+    length-register_set u.registers u.window a v ∙ h.registers,
+    register_in-set u.registers u.window a v h.registers c.first_some,
+    register_in-other u.registers u.window a v u.window b
+        (rw h.window (places_differ s.window a b c.window c.first_below c.second_below c.differ)) ∙ h.second,
+    λ (p : ℕ) (na : p ≢ place_of s.window a) (nb : p ≢ place_of s.window b). set_stays u.registers u.window a v p (rw h.window na) ∙ h.others p na nb,
+  )
 
   -- the rule of a block for it
   pub swap_first : (n : ℕ) (m : Memory) (x y rs1 : ℕ) (op2 : Op2) (address v : ℕ) → Works s count May a b n m x y

@@ -1,6 +1,7 @@
 -- What placed items do.
-use Rattle.std.proofs.Common.{◌≡◌, ℕ, zero, suc, ◌+◌, ◌-◌, ◌%◌, ◌^◌, ◌<◌, ◌≤◌, inl, inr, Bool, true, false, not, Option, Some, None, List, [], ◌∷◌, length, refl, ap, sym, ◌∙◌, arith}
-use Rattle.std.specs.Prelude.{if◌then◌else◌, ◌==◌, slice_index, slice_get, ℤ, pos}
+use Rattle.std.proofs.Common.{◌≡◌, ℕ, zero, suc, ◌+◌, ◌-◌, ◌%◌, ◌^◌, ◌<◌, ◌≤◌, inl, inr, Bool, true, false, not, Some, List, [], ◌∷◌, length, refl, ap, sym, ◌∙◌, arith}
+use Rattle.std.specs.Prelude.{if◌then◌else◌, ◌==◌, slice_index, ℤ, pos}
+use Rattle.std.proofs.lemmas.Option.{slice_get_within}
 use Rattle.v8_decode.specs.declared.Instr.{Instr}
 use Rattle.v8_decode.specs.declared.Instr.TheVariants as i
 use Rattle.v8_alu.specs.declared.Codes.{Codes}
@@ -10,7 +11,7 @@ use Rattle.v8_memory.specs.Regions.{Memory, code_of, fetch_from}
 use Rattle.v8_step.specs.declared.Slot.{Slot}
 use Rattle.v8_step.specs.declared.Slot.TheVariants.{NoSlot, Taken, Untaken}
 use Rattle.v8_step.specs.State.{State, register_of}
-use Rattle.v8_step.specs.Transfers.{branched, branch_step, target_of, unless_couple}
+use Rattle.v8_step.specs.Transfers.{branched, branch_step, target_of}
 use Rattle.v8_step.specs.Step.{act, step_of}
 use Rattle.v8_step.specs.Valid.{IsValid}
 use Rattle.v8_step.proofs.ValidSteps.{run-valid}
@@ -26,11 +27,10 @@ use Rattle.code_runs.proofs.LongJump.{long_jumps_hop, long_jumps_store, says_at}
 use Rattle.code_runs.proofs.TwoRegisters.{stores_none}
 use Rattle.layout.specs.declared.items.Item.{Item}
 use Rattle.layout.specs.declared.items.Item.TheVariants as it
-use Rattle.layout.specs.Laid.{Placement, IsLaid, IsWordAt, SaysFrom, JumpStands, jump_nothing, jump_short, jump_long, BranchStands, branch_short, branch_long, Reaches, nop, opposite, item_at, item_in, items_in}
+use Rattle.layout.specs.Laid.{Placement, IsLaid, IsWordAt, SaysFrom, JumpStands, jump_nothing, jump_short, jump_long, BranchStands, branch_short, branch_long, Reaches, nop, opposite, item_at, size_of}
 use Rattle.code_runs.specs.LongJump.{long_jump, IsFirstWord}
 use Rattle.code_runs.specs.Page.{page_word}
 use Rattle.layout.specs.Running.{HasCode, CanRun, Goes, JumpsHop, BranchesHop, WordsStand}
-use Rattle.layout.proofs.Ranging.{get_low}
 
 -- ---- words
 
@@ -109,6 +109,12 @@ jump_goes base code to a b s (jump_long f say) w is low order low' aligned =
       ];
     }
 
+pub piece_size : (pieces : List (List Item)) (k n : ℕ) (x : Item) → item_at pieces k n ≡ Some x → k < length pieces
+piece_size pieces k n x e = grind (arith, slice_get_within)
+
+pub item_size : (pieces : List (List Item)) (k n : ℕ) (x : Item) → item_at pieces k n ≡ Some x → suc n ≤ size_of pieces k
+item_size pieces k n x e = grind (arith, slice_get_within)
+
 -- an item's address is below the end
 item_low : (pieces : List (List Item)) (base : ℕ) (p : Placement) (place : ℕ → ℕ → ℕ) → IsLaid pieces base p place
     → (k n : ℕ) (x : Item) → item_at pieces k n ≡ Some x → place k (suc n) ≤ 2 ^ 31
@@ -116,19 +122,6 @@ item_low pieces base p place h k n x e =
     let low = h.low in
     let w = (h.within k (suc n) (piece_size pieces k n x e) (item_size pieces k n x e)).ends in
     omega arith
-  where
-    piece_size : (pieces : List (List Item)) (k n : ℕ) (x : Item) → item_at pieces k n ≡ Some x → k < length pieces
-    piece_size [] k n x e = absurd (cc)
-    piece_size (p ∷ pieces) zero n x e = omega arith
-    piece_size (p ∷ pieces) (suc k) n x e = let f = piece_size pieces k n x e in omega arith
-
-    item_size : (pieces : List (List Item)) (k n : ℕ) (x : Item) → item_at pieces k n ≡ Some x
-        → suc n ≤ items_in (slice_get pieces k)
-    item_size pieces k n x e = go (slice_get pieces k) e
-      where
-        go : (o : Option (List Item)) → item_in o n ≡ Some x → suc n ≤ items_in o
-        go None e = absurd (cc)
-        go (Some items) e = let f = get_low items n x e in omega arith
 
 pub jumps_hop : JumpsHop
 jumps_hop pieces base p place h k n to e s w is =

@@ -1,13 +1,12 @@
 -- Pieces are laid one by one, each once.
-use Rattle.std.proofs.Common.{◌≡◌, ◌≢◌, ℕ, zero, suc, ◌+◌, ◌-◌, ◌<◌, ◌≤◌, ◌⊎◌, inl, inr, Bool, true, false, not, ◌&&◌, ◌||◌, eqb, List, [], ◌∷◌, ◌++◌, length, get_or, set, slice_get, Option, Some, None, is_some, IfSome, ltb, replicate, refl, ap, sym, ◌∙◌, arith}
-use Rattle.std.specs.Prelude.{if◌then◌else◌}
+use Rattle.std.proofs.Common.{◌≡◌, ◌≢◌, ℕ, zero, suc, ◌+◌, ◌-◌, ◌<◌, ◌≤◌, inl, inr, Bool, true, false, not, ◌&&◌, ◌||◌, eqb, List, [], ◌∷◌, ◌++◌, length, get_or, set, slice_get, Option, Some, None, is_some, IfSome, ltb, replicate, refl, ap, sym, ◌∙◌, arith}
 use Rattle.std.specs.Cmp.{IsEquivalence}
 use Rattle.std.specs.List.{All, IsDistinct}
-use Rattle.std.proofs.lemmas.Bool.{and_parts, cases_lt, cases_eq, eqb-true, eq-eqb, cases_Bool, ltb-true, lt-ltb, false≢true, ne_eqb, false_from_ne_true}
+use Rattle.std.proofs.lemmas.Bool.{and_parts, cond_both, not-true, or_right, cases_lt, cases_eq, eqb-true, eq-eqb, cases_Bool, ltb-true, lt-ltb, false≢true, ne_eqb, false_from_ne_true}
 use Rattle.std.proofs.lemmas.List.Folds.{list_any-append, Any-from_list_any}
 use Rattle.std.proofs.lemmas.Map.Keys.{any_passes_from_place, IsDistinct-push}
 use Rattle.std.proofs.lemmas.List.Elements.{All-push}
-use Rattle.std.proofs.lemmas.List.{length-set, length-replicate, length-append, get_or-set_same, get_or-set_other}
+use Rattle.std.proofs.lemmas.List.{get_or-replicate, length-set, length-replicate, length-append, get_or-set_same, get_or-set_other}
 use Rattle.std.proofs.lemmas.Map.Steps.{le-length_from_below, length-le_from_distinct_below}
 use Rattle.layout.specs.declared.items.Item.{Item}
 use Rattle.layout.specs.declared.items.Item.TheVariants as it
@@ -30,15 +29,10 @@ pub laid_push : (laid : List ℕ) (x k : ℕ) → is_laid (laid ++ x ∷ []) k �
 laid_push laid x k = list_any-append (λ j. eqb k j) laid (x ∷ [])
 
 or_false : (b : Bool) → (b || (false || false)) ≡ b
-or_false true = refl
-or_false false = refl
-
-or_true : (b : Bool) → (b || (true || false)) ≡ true
-or_true true = refl
-or_true false = refl
+or_false b = grind arith
 
 pub laid_same : (laid : List ℕ) (x : ℕ) → is_laid (laid ++ x ∷ []) x ≡ true
-laid_same laid x = cc (laid_push laid x x, eq-eqb x x refl, or_true (is_laid laid x))
+laid_same laid x = cc (laid_push laid x x, eq-eqb x x refl, or_right (is_laid laid x) true refl)
 
 pub laid_other : (laid : List ℕ) (x k : ℕ) → (k ≡ x → ⊥) → is_laid (laid ++ x ∷ []) k ≡ is_laid laid k
 laid_other laid x k h = cc (laid_push laid x k, ne_eqb k x h, or_false (is_laid laid k))
@@ -92,12 +86,9 @@ through_next : (pieces : List (List Item)) (laid : List ℕ) (last : ℕ) → Is
 through_next pieces laid last h end none more = record {
   inside = more;
   free = false_from_ne_true (is_laid laid (suc last)) (λ e. (h.falls last no_exit e).1 end);
-  falls = λ j e f. ap (is_laid laid) (same j last e) ∙ last_laid laid last end;
+  falls = λ j e f. ap (is_laid laid) (omega arith) ∙ last_laid laid last end;
 }
   where
-    same : (a b : ℕ) → suc a ≡ suc b → a ≡ b
-    same a b e = omega arith
-
     no_exit : ends_in_jump pieces last ≡ false
     no_exit = ap (λ (o : Option PieceNo). is_some o) none
 
@@ -166,10 +157,6 @@ none_last : (laid : List ℕ) → slice_get laid (length laid - 1) ≡ None → 
 none_last [] e = refl
 none_last (x ∷ xs) e = absurd (some_last x xs (ap (slice_get (x ∷ xs)) (sym (omega arith)) ∙ e))
 
-not_left : (a b : Bool) → (not a && b) ≡ true → a ≡ false
-not_left false b e = refl
-not_left true b e = absurd (false≢true e)
-
 next_is : (pieces : List (List Item)) (laid : List ℕ) → LeadsInside pieces → IsLaying pieces laid
     → length laid < length pieces → IsNext pieces laid (next_piece pieces laid)
 next_is pieces laid leads h short = start (slice_get laid (length laid - 1)) refl
@@ -177,22 +164,15 @@ next_is pieces laid leads h short = start (slice_get laid (length laid - 1)) ref
     lowest : IsNext pieces laid (lowest_left pieces laid)
     lowest = lowest_next pieces laid (lowest_left pieces laid) (lowest_is_left pieces laid short)
 
-    through : (last : ℕ) (more : Bool) → ltb (suc last) (length pieces) ≡ more
-        → slice_get laid (length laid - 1) ≡ Some last
-        → exit_at pieces last ≡ None → IsNext pieces laid (if more then suc last else lowest_left pieces laid)
-    through last true m end none = through_next pieces laid last h end none (ltb-true (suc last) (length pieces) m)
-    through last false m end none = lowest
-
-    lead : (to : PieceNo) (test : Bool) → (not (is_laid laid to.0) && ends_in_jump pieces (to.0 - 1)) ≡ test
-        → to.0 < length pieces → IsNext pieces laid (if test then to.0 else lowest_left pieces laid)
-    lead to true t l = target_next pieces laid to.0 l (not_left (is_laid laid to.0) (ends_in_jump pieces (to.0 - 1)) t)
-        (and_parts (not (is_laid laid to.0)) (ends_in_jump pieces (to.0 - 1)) t).1
-    lead to false t l = lowest
-
     exits : (last : ℕ) (o : Option PieceNo) → exit_at pieces last ≡ o → IfSome o (λ to. to.0 < length pieces)
         → slice_get laid (length laid - 1) ≡ Some last → IsNext pieces laid (behind pieces laid last o)
-    exits last None e l end = through last (ltb (suc last) (length pieces)) refl end e
-    exits last (Some to) e l end = lead to (not (is_laid laid to.0) && ends_in_jump pieces (to.0 - 1)) refl l
+    exits last None e l end =
+        cond_both (ltb (suc last) (length pieces)) (suc last) (lowest_left pieces laid) (IsNext pieces laid)
+        (λ m. through_next pieces laid last h end e (ltb-true (suc last) (length pieces) m)) (λ _. lowest)
+    exits last (Some to) e l end =
+        cond_both (not (is_laid laid to.0) && ends_in_jump pieces (to.0 - 1)) to.0 (lowest_left pieces laid) (IsNext pieces laid)
+        (λ t. let parts = and_parts (not (is_laid laid to.0)) _ t in
+        target_next pieces laid to.0 l (not-true (is_laid laid to.0) parts.0) parts.1) (λ _. lowest)
 
     start : (o : Option ℕ) → slice_get laid (length laid - 1) ≡ o → IsNext pieces laid (next_after pieces laid o)
     start None e =
@@ -213,12 +193,10 @@ laying_more pieces laid x h next = record {
   distinct = IsDistinct-push the_equality laid x h.distinct next.free;
 }
   where
-    some_is : (a b : ℕ) → Some a ≡ Some b → a ≡ b
-    some_is a b e = cc
-
     not_last : (k : ℕ) → is_laid laid k ≡ true → slice_get (laid ++ x ∷ []) (length (laid ++ x ∷ []) - 1) ≢ Some k
     not_last k l e =
-        let other : is_laid laid x ≡ true = ap (is_laid laid) (some_is x k (sym (last_pushed laid x) ∙ e)) ∙ l in
+        let same : x ≡ k = cc (last_pushed laid x, e) in
+        let other : is_laid laid x ≡ true = ap (is_laid laid) same ∙ l in
         absurd (false≢true (sym next.free ∙ other))
 
     both : (k : ℕ) → is_laid laid k ≡ true
@@ -400,15 +378,10 @@ unfolding first_laid
 marking_none pieces = record {
   order = refl;
   len = length-replicate (length pieces) false;
-  shown = λ k l. unmarked (length pieces) k;
+  shown = λ k l. get_or-replicate (length pieces) k false false l;
   within = omega arith;
   below = λ k l. absurd (omega arith);
 }
-  where
-    unmarked : (n k : ℕ) → get_or (replicate n false) k false ≡ false
-    unmarked zero k = refl
-    unmarked (suc n) zero = refl
-    unmarked (suc n) (suc k) = unmarked n k
 
 -- ---- Jumps at the end
 

@@ -1,12 +1,11 @@
 -- Pieces become entries one after the other.
-use Rattle.std.proofs.Common.{append-nil, ◌≡◌, ℕ, zero, suc, ◌+◌, ◌<◌, ◌≤◌, ◌⊎◌, inl, inr, Bool, true, false, ◌||◌, eqb, List, [], ◌∷◌, ◌++◌, length, get_or, set, take, drop, slice_get, slice_index, Some, IfSome, map, subst, refl, ap, sym, ◌∙◌, add-one, append_assoc, drop-cons, arith}
+use Rattle.std.proofs.Common.{append-nil, ◌≡◌, ℕ, zero, suc, ◌+◌, ◌<◌, ◌≤◌, inl, inr, Bool, true, false, ◌||◌, eqb, List, [], ◌∷◌, ◌++◌, length, get_or, set, take, drop, slice_get, slice_index, Some, IfSome, map, refl, ap, sym, ◌∙◌, add-one, append_assoc, drop-cons, arith}
 use Rattle.std.specs.Prelude.{if◌then◌else◌}
 use Rattle.std.specs.List.{All, AllByRecursion, IsDistinct, sum_by}
 use Rattle.std.proofs.lemmas.Bool.{cases_eq, cases_Bool, eqb-true, eq-eqb, false≢true, ne_eqb, or_parts}
 use Rattle.std.proofs.lemmas.List.Sums.{sum_by-cons}
 use Rattle.std.proofs.lemmas.List.{take-append-drop, length-append, length-map, length-set, get_or-set_same, get_or-set_other, take_more, take_all}
 use Rattle.layout.specs.declared.items.Item.{Item}
-use Rattle.layout.specs.declared.items.Item.TheVariants as it
 use Rattle.layout.specs.declared.entries.Entry.{Entry}
 use Rattle.layout.specs.declared.entries.Entry.TheVariants as en
 use Rattle.layout.specs.Laid.{AllLead, LeadsBelow}
@@ -176,9 +175,7 @@ lead_append n (x ∷ xs) ys g h zero = g 0
 lead_append n (x ∷ xs) ys g h (suc k) = lead_append n xs ys (λ k. g (suc k)) h k
 
 lead_item : (count : ℕ) (x : Item) → LeadsBelow count (Some x) → IfSome (target (Some (en.Item x))) (λ k. k < count)
-lead_item count (it.Jump to) h = h
-lead_item count (it.Branch c to) h = h
-lead_item count _ h = tt
+lead_item count x h = grind arith
 
 lead_items : (count : ℕ) (items : List Item) → ((n : ℕ) → LeadsBelow count (slice_get items n))
     → LeadBelow count (map en.Item items)

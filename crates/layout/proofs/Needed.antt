@@ -1,7 +1,6 @@
 -- How much room the compact layout needs.
-use Rattle.std.proofs.Common.{◌≡◌, ℕ, zero, suc, ◌+◌, ◌*◌, ◌^◌, ◌<◌, ◌≤◌, ◌⊎◌, inl, inr, Bool, true, false, List, [], ◌∷◌, ◌++◌, length, map, get_or, take, slice_get, Option, Some, None, refl, ap, sym, ◌∙◌, arith}
-use Rattle.std.specs.Prelude.{if◌then◌else◌}
-use Rattle.std.proofs.lemmas.Bool.{cases_Bool, false≢true, false_from_ne_true}
+use Rattle.std.proofs.Common.{◌≡◌, ℕ, zero, suc, ◌+◌, ◌*◌, ◌^◌, ◌<◌, ◌≤◌, Bool, false, List, [], ◌∷◌, ◌++◌, length, map, get_or, take, slice_get, Option, Some, None, refl, ap, sym, ◌∙◌, arith}
+use Rattle.std.proofs.lemmas.Bool.{false≢true, false_from_ne_true}
 use Rattle.std.proofs.lemmas.List.Sums.{sum_by-cons}
 use Rattle.std.proofs.lemmas.List.{take_more, take_all}
 use Rattle.std.proofs.lemmas.Option.{slice_get-get_or}
@@ -11,14 +10,14 @@ use Rattle.layout.specs.declared.entries.Entry.{Entry}
 use Rattle.layout.specs.declared.entries.Entry.TheVariants as en
 use Rattle.layout.specs.Laid.{AllLead, LeadsBelow, IsLaid, Placement, item_at, long_words, piece_words, short_words, size_of}
 use Rattle.layout.specs.Order.{compact_order}
-use Rattle.layout.specs.Forms.{Forms, entries_in, entries_from, entries_of, far, far_from, goal_of, is_far, leads_next, offset, start_of, target, width}
+use Rattle.layout.specs.Forms.{Forms, entries_in, entries_from, entries_of, far, far_from, goal_of, is_far, offset, start_of, target, width}
 use Rattle.layout.specs.Compact.{IsCompact, LongIsEnough, NeededOnce, ShortIsEnough}
 use Rattle.layout.proofs.Offsets.{offset_none}
 use Rattle.std.proofs.lemmas.Bool.Decides.{nat_tests}
 use Rattle.layout.proofs.Laying.{exits_lead, item_is, whole_is}
 use Rattle.layout.proofs.Listed.{items_at, weigh, weighs_less}
 use Rattle.layout.proofs.Ranging.{get_low}
-use Rattle.layout.proofs.Widening.{far_means, offset_more, widened_once}
+use Rattle.layout.proofs.Widening.{offset_more, widened_once}
 use Rattle.layout.proofs.Assembled.{entry_is, piece_at, size_is}
 
 -- ---- one number
@@ -50,16 +49,8 @@ full_append : (xs ys : List Entry) → full (xs ++ ys) ≡ full xs + full ys
 full_append [] ys = omega arith
 full_append (x ∷ xs) ys = let h = full_append xs ys in omega (arith, h)
 
-choose : (b : Bool) (m n k : ℕ) → m ≤ k → n ≤ k → (if b then m else n) ≤ k
-choose true m n k l r = l
-choose false m n k l r = r
-
 width_low : (long : Bool) (x : Entry) (next : Option Entry) → width long (Some x) next ≤ full_width x
-width_low long (en.Item (it.Jump to)) next =
-    choose (leads_next to next) 0 (if long then 4 else 1) 4 (omega arith) (choose long 4 1 4 (omega arith) (omega
-    arith))
-width_low long (en.Item (it.Branch c to)) next = choose long 6 2 6 (omega arith) (omega arith)
-width_low long _ next = omega arith
+width_low long x next = grind arith
 
 offset_low : (entries : List Entry) (long : Forms) (n : ℕ) → n ≤ length entries
     → offset entries long n ≤ full (take n entries)
@@ -98,17 +89,9 @@ long_is_enough pieces bytes are n =
 not_far : (a b : ℕ) → a < 2 ^ 21 → b < 2 ^ 21 → far a b ≡ false
 not_far a b l m = grind (arith, nat_tests)
 
-pick : (b : Bool) (m n : ℕ) → b ≡ false → (if b then m else n) ≡ n
-pick true m n e = absurd (false≢true (sym e))
-pick false m n e = refl
-
 short_low : (long : Bool) (x : Item) (next : Option Entry) → (target (Some (en.Item x)) ≡ None → ⊥) → long ≡ false
     → width long (Some (en.Item x)) next ≤ short_words x
-short_low long (it.Jump to) next t s =
-    choose (leads_next to next) 0 (if long then 4 else 1) 1 (omega arith)
-    (let e = pick long 4 1 s in omega (arith, e))
-short_low long (it.Branch c to) next t s = let e = pick long 6 2 s in omega (arith, e)
-short_low long _ next t s = absurd (t refl)
+short_low long x next t s = grind arith
 
 module _ (pieces : List (List Item)) (base : ℕ) (p : Placement) (place : ℕ → ℕ → ℕ) (leads : AllLead pieces)
     (h : IsLaid pieces base p place) (c : IsCompact pieces base place) (small : 4 * length p.code < 2 ^ 23) where

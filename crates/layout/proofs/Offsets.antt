@@ -1,16 +1,14 @@
 -- The words before each entry, and before each piece.
-use Rattle.std.proofs.Common.{◌≡◌, ℕ, zero, suc, ◌+◌, ◌*◌, ◌<◌, ◌≤◌, ◌⊎◌, inl, inr, Bool, true, false, List, [], ◌∷◌, ◌++◌, length, get_or, slice_get, slice_index, Option, Some, None, refl, ap, sym, ◌∙◌, add-one, arith, drop}
-use Rattle.std.specs.Prelude.{if◌then◌else◌}
-use Rattle.std.proofs.lemmas.Bool.{leb-true, cases_lt, eqb-true, cond_both}
+use Rattle.std.proofs.Common.{◌≡◌, ℕ, zero, suc, ◌+◌, ◌*◌, ◌<◌, ◌≤◌, inl, inr, Bool, true, List, [], ◌∷◌, ◌++◌, length, get_or, slice_get, slice_index, Option, Some, refl, ap, sym, ◌∙◌, add-one, arith, drop}
+use Rattle.std.proofs.lemmas.Bool.{cases_lt, eqb-true, cond_both}
 use Rattle.std.proofs.Math.Seq.{drop-cons}
 use Rattle.std.proofs.lemmas.List.{append_assoc}
 use Rattle.std.proofs.lemmas.Option.{slice_get-get_or}
 use Rattle.eel_base.specs.declared.range.Range.{Range}
-use Rattle.layout.specs.declared.items.Item.TheVariants as it
 use Rattle.layout.specs.declared.entries.Entry.{Entry}
 use Rattle.layout.specs.declared.entries.Entry.TheVariants as en
 use Rattle.layout.specs.declared.ranges.OpenRange.{OpenRange}
-use Rattle.layout.specs.Forms.{Forms, is_start, leads_next, offset, start_of, width}
+use Rattle.layout.specs.Forms.{Forms, is_start, offset, start_of, width}
 use Rattle.layout.specs.Emitting.{closes, opens, ranges_from, AreOffsets, IsListing, IsOffsets}
 use Rattle.layout.proofs.Widening.{offset_more}
 
@@ -25,15 +23,7 @@ unfolding offset
 offset_none entries long = refl
 
 width_small : (long : Bool) (x next : Option Entry) → width long x next ≤ 6
-width_small long (Some (en.Item (it.Jump to))) next = by (leads_next to next) long
-  where
-    by : (skip long : Bool) → (if skip then 0 else (if long then 4 else 1)) ≤ 6
-    by true long = omega arith
-    by false true = omega arith
-    by false false = omega arith
-width_small true (Some (en.Item (it.Branch cond to))) next = omega arith
-width_small false (Some (en.Item (it.Branch cond to))) next = omega arith
-width_small long x next = leb-true _ 6 refl
+width_small long x next = grind arith
 
 pub offset_small : (entries : List Entry) (long : Forms) (n : ℕ) → offset entries long n ≤ 6 * n
 offset_small entries long zero = omega (arith, offset_none entries long)

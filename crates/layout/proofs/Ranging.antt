@@ -1,5 +1,5 @@
 -- The ranges are those of the Marks.
-use Rattle.std.proofs.Common.{◌≡◌, ℕ, zero, suc, ◌+◌, ◌<◌, ◌≤◌, Bool, true, false, ◌&&◌, Option, Some, None, List, [], ◌∷◌, ◌++◌, length, map, slice_get, refl, ap, sym, ◌∙◌, subst, append_assoc, ◌-◌, arith}
+use Rattle.std.proofs.Common.{◌≡◌, ℕ, zero, suc, ◌+◌, ◌<◌, ◌≤◌, Bool, true, false, ◌&&◌, Option, Some, None, List, [], ◌∷◌, ◌++◌, length, map, slice_get, refl, ap, sym, ◌∙◌, append_assoc, arith}
 use Rattle.std.specs.Prelude.{nat_le, nat_lt, if◌then◌else◌}
 use Rattle.std.proofs.lemmas.Bool.Decides.{nat_tests}
 use Rattle.std.proofs.lemmas.List.{length-append, length-map, map-append}
@@ -254,10 +254,7 @@ finds place up (y ∷ xs) (suc n) i a o mark x s same marked low e h k =
 
 marked_on : (here : ℕ) (mark : Option OpenRange) (x : Item) (xs : List Item) → AreMarked (is_open mark) (x ∷ xs)
     → AreMarked (is_open (opens here mark (en.Item x))) xs
-marked_on here None (it.Mark address node) xs h = h
-marked_on here (Some m) (it.Mark address node) xs h = absurd h
-marked_on here mark it.EndMark xs h = h
-marked_on here mark _ xs h = h
+marked_on here mark x xs h = grind arith
 
 module _ (at : ℕ → ℕ) (up : (n : ℕ) → at n ≤ at (suc n)) where
   -- the places of items, the first of which is this entry

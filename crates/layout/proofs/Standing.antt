@@ -1,17 +1,16 @@
 -- Each entry's words stand in the code, and say what it is.
-use Rattle.std.proofs.Common.{◌≡◌, ℕ, zero, suc, ◌+◌, ◌-◌, ◌*◌, ◌/◌, ◌%◌, ◌^◌, ◌<◌, ◌≤◌, ◌⊎◌, inl, inr, Bool, true, false, List, [], ◌∷◌, ◌++◌, length, slice_get, Option, Some, None, refl, ap, sym, ◌∙◌, arith, length-append}
+use Rattle.std.proofs.Common.{◌≡◌, ℕ, zero, suc, ◌+◌, ◌-◌, ◌*◌, ◌/◌, ◌%◌, ◌^◌, ◌<◌, ◌≤◌, inl, inr, Bool, true, false, List, [], ◌∷◌, ◌++◌, length, slice_get, Option, Some, refl, ap, sym, ◌∙◌, arith, length-append}
 use Rattle.std.proofs.lemmas.Int.{ints}
 use Rattle.std.specs.Prelude.{pos, negsuc, ℤ, nat_lt, if◌then◌else◌, slice_index}
 use Rattle.std.proofs.lemmas.Bool.Decides.{nat_tests}
-use Rattle.std.proofs.lemmas.Bool.{lt-ltb, cases_lt, false≢true, cond_both}
+use Rattle.std.proofs.lemmas.Bool.{lt-ltb, cases_lt, cond_both}
 use Rattle.v8_decode.specs.declared.Op2.TheVariants.{Imm}
 use Rattle.v8_decode.specs.declared.Instr.{Instr}
 use Rattle.v8_decode.specs.declared.Instr.TheVariants as i
 use Rattle.v8_decode.specs.declared.LoadKind.TheVariants as loads
 use Rattle.v8_decode.specs.declared.StoreKind.TheVariants as stores
-use Rattle.v8_decode.specs.Ranges.{is_in_range}
 use Rattle.v8_decode.specs.Words.{decode_of}
-use Rattle.v8_encode.specs.Encoding.{has_word, word_of, fits_signed}
+use Rattle.v8_encode.specs.Encoding.{word_of, fits_signed}
 use Rattle.v8_encode.proofs.Decoded.{decode_of-word_of}
 use Rattle.code_runs.specs.LongJump.{long_jump}
 use Rattle.code_runs.specs.Page.{of_page}
@@ -24,7 +23,7 @@ use Rattle.layout.specs.Forms.{Forms, far, leads_next, offset, width}
 use Rattle.layout.specs.Emitting.{between, branch_code, code_at, code_to, entry_code, has_condition, jump_code, or_zero, target_offset, words_of}
 use Rattle.layout.proofs.Emitted.{code_more, code_none}
 use Rattle.layout.proofs.Offsets.{offset_none}
-use Rattle.layout.proofs.Widening.{far_if, offset_more}
+use Rattle.layout.proofs.Widening.{offset_more}
 
 near_means : (f t : ℕ) → far f t ≡ false → (t < f + 2 ^ 21) × (f ≤ t + 2 ^ 21)
 near_means f t h = (grind (arith, nat_tests), grind (arith, nat_tests))
@@ -54,7 +53,7 @@ reaches base f t a b = elim (cases_lt t f) [
 abbrev pub Has : List ℕ → ℕ → List ℕ → Type 0
 Has code n ws = (j w : ℕ) → slice_get ws j ≡ Some w → slice_get code (n + j) ≡ Some w
 
-get_first : (xs ys : List ℕ) (j w : ℕ) → slice_get xs j ≡ Some w → slice_get (xs ++ ys) j ≡ Some w
+pub get_first : {A : Type 0} (xs ys : List A) (j : ℕ) (w : A) → slice_get xs j ≡ Some w → slice_get (xs ++ ys) j ≡ Some w
 get_first [] ys j w e = absurd (cc)
 get_first (x ∷ xs) ys zero w e = e
 get_first (x ∷ xs) ys (suc j) w e = get_first xs ys j w e
@@ -113,26 +112,9 @@ branch_decodes cond annul disp h f = decode_of-word_of (i.Branch cond annul disp
 
 -- ---- how many words an entry has
 
-jump_length : (long : Bool) (base from to : ℕ) → length (words_of (jump_code long base from to)) ≡ (if long then 4
-    else 1)
-jump_length true base from to = refl
-jump_length false base from to = refl
-
-branch_length : (long : Bool) (base c from to : ℕ) → length (words_of (branch_code long base c from to)) ≡ (if long
-    then 6 else 2)
-branch_length true base c from to = refl
-branch_length false base c from to = refl
-
-unless_next : (b long : Bool) (base from to : ℕ)
-    → length (if b then [] else words_of (jump_code long base from to)) ≡ (if b then 0 else (if long then 4 else 1))
-unless_next true long base from to = refl
-unless_next false long base from to = jump_length long base from to
-
 entry_length : (base : ℕ) (long : Bool) (from to : ℕ) (x next : Option Entry)
     → length (entry_code base long from to x next) ≡ width long x next
-entry_length base long from to (Some (en.Item (it.Jump k))) next = unless_next (leads_next k next) long base from to
-entry_length base long from to (Some (en.Item (it.Branch c k))) next = branch_length long base c from to
-entry_length base long from to _ next = refl
+entry_length base long from to x next = grind arith
 
 pub code_length : (base : ℕ) (entries : List Entry) (long : Forms) (n : ℕ)
     → length (code_to base entries long n) ≡ offset entries long n

@@ -1,30 +1,17 @@
 -- Widening only grows, so that every way of widening ends at the same forms.
-use Rattle.std.proofs.Common.{◌≡◌, ℕ, zero, suc, ◌+◌, ◌-◌, ◌^◌, ◌<◌, ◌≤◌, ◌⊎◌, inl, inr, Bool, true, false, cond, ◌||◌, leb, ltb, List, slice_get, Option, Some, None, refl, ap, sym, ◌∙◌, arith}
-use Rattle.std.proofs.lemmas.Bool.{cases_lt, cases_Bool, ltb-true, leb-true, lt-ltb, le-leb, false≢true, or_cases, or_right}
-use Rattle.layout.specs.declared.items.Item.TheVariants as i
+use Rattle.std.proofs.Common.{◌≡◌, ℕ, zero, suc, ◌+◌, ◌-◌, ◌^◌, ◌<◌, ◌≤◌, ◌⊎◌, inl, inr, Bool, true, ◌||◌, List, slice_get, Option, Some, None, refl, ap, sym, ◌∙◌, arith}
+use Rattle.std.proofs.lemmas.Bool.Decides.{nat_tests}
+use Rattle.std.proofs.lemmas.Bool.{cases_lt, or_cases, or_right}
 use Rattle.layout.specs.declared.entries.Entry.{Entry}
-use Rattle.layout.specs.declared.entries.Entry.TheVariants as e
-use Rattle.layout.specs.Forms.{Forms, goal_of, width, leads_next, offset, far, far_from, is_far, NoneLeft, IsWidened}
+use Rattle.layout.specs.Forms.{Forms, goal_of, width, offset, far, far_from, is_far, NoneLeft, IsWidened}
 
 -- each that is long here is long there
 abbrev pub IsWithin : Forms → Forms → Type 0
 IsWithin long other = (n : ℕ) → long n ≡ true → other n ≡ true
 
-choice : (a b : Bool) (m n : ℕ) → m ≤ n → (a ≡ true → b ≡ true) → cond a n m ≤ cond b n m
-choice true true m n l h = omega arith
-choice true false m n l h = absurd (false≢true (h refl))
-choice false true m n l h = l
-choice false false m n l h = omega arith
-
--- a Jump without a word stays so
-unless : (skip a b : Bool) → (a ≡ true → b ≡ true) → cond skip 0 (cond a 4 1) ≤ cond skip 0 (cond b 4 1)
-unless true a b h = omega arith
-unless false a b h = choice a b 1 4 (omega arith) h
-
+-- a long entry has no fewer words
 wider : (x next : Option Entry) (a b : Bool) → (a ≡ true → b ≡ true) → width a x next ≤ width b x next
-wider (Some (e.Item (i.Jump to))) next a b h = unless (leads_next to next) a b h
-wider (Some (e.Item (i.Branch c to))) next a b h = choice a b 2 6 (omega arith) h
-wider x next a b h = leb-true _ _ refl
+wider x next a b h = grind arith
 
 pub offset_more : (entries : List Entry) (long : Forms) (n : ℕ) → offset entries long (suc n)
     ≡ offset entries long n + width (long n) (slice_get entries n) (slice_get entries (suc n))
@@ -68,26 +55,16 @@ pub rises : (entries : List Entry) (long : Forms) (a b : ℕ) → a ≤ b → of
 rises entries long = rises_to (offset entries long) (λ n. omega (arith, offset_more entries long n))
 
 pub far_means : (a b : ℕ) → far a b ≡ true → (a + 2 ^ 21 ≤ b) ⊎ (b + 2 ^ 21 < a)
-far_means a b h = elim (cases_Bool (leb (a + 2 ^ 21) b)) [
-  | inl t ↦ inl (leb-true (a + 2 ^ 21) b t)
-  | inr f ↦ inr (ltb-true (b + 2 ^ 21) a (sym (ap (λ (x : Bool). x || ltb (b + 2 ^ 21) a) f) ∙ h))
-]
+far_means a b h = grind (arith, nat_tests)
 
 pub far_if : (a b : ℕ) → (a + 2 ^ 21 ≤ b) ⊎ (b + 2 ^ 21 < a) → far a b ≡ true
-far_if a b (inl l) = ap (λ (x : Bool). x || ltb (b + 2 ^ 21) a) (le-leb (a + 2 ^ 21) b l)
-far_if a b (inr l) = or_right (leb (a + 2 ^ 21) b) (ltb (b + 2 ^ 21) a) (lt-ltb (b + 2 ^ 21) a l)
+far_if a b h = grind (arith, nat_tests)
 
 further_up : (a b c d : ℕ) → a ≤ b → b + c ≤ d + a → far a b ≡ true → far c d ≡ true
-further_up a b c d l m h = elim (far_means a b h) [
-  | inl x ↦ far_if c d (inl (omega arith))
-  | inr x ↦ absurd (omega arith)
-]
+further_up a b c d l m h = grind (arith, nat_tests)
 
 further_down : (a b c d : ℕ) → b ≤ a → a + d ≤ c + b → far a b ≡ true → far c d ≡ true
-further_down a b c d l m h = elim (far_means a b h) [
-  | inl x ↦ absurd (omega arith)
-  | inr x ↦ far_if c d (inr (omega arith))
-]
+further_down a b c d l m h = grind (arith, nat_tests)
 
 -- what is out of reach stays so when more are long
 pub stays_far : (entries : List Entry) (long other : Forms) → IsWithin long other → (n : ℕ)
@@ -142,10 +119,7 @@ widening_ends entries long h all = record {
 }
 
 either : (a b : Bool) → (a ≡ true → b ≡ true) → (b ≡ true → a ≡ true) → a ≡ b
-either true true f g = refl
-either true false f g = sym (f refl)
-either false true f g = g refl
-either false false f g = refl
+either a b f g = grind arith
 
 -- The least forms are one: no way of widening ends elsewhere.
 pub widened_once : (entries : List Entry) (long other : Forms) → IsWidened entries long → IsWidened entries other

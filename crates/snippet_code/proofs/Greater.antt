@@ -1,6 +1,6 @@
 -- The greater of a cell and a register: with the codes, where they are dead, and without.
-use Rattle.std.proofs.Common.{◌≡◌, ◌≢◌, ℕ, suc, ◌+◌, ◌-◌, ◌*◌, ◌/◌, ◌%◌, ◌^◌, ◌<◌, ◌≤◌, ◌⊎◌, inl, inr, max, Bool, true, false, not, ◌||◌, Ok, [], ◌∷◌, length, refl, ap, sym, ◌∙◌, arith}
-use Rattle.std.specs.Prelude.{if◌then◌else◌, ◌==◌, nat_lt, pos}
+use Rattle.std.proofs.Common.{◌≡◌, ◌≢◌, ℕ, suc, ◌+◌, ◌-◌, ◌*◌, ◌/◌, ◌%◌, ◌^◌, ◌<◌, ◌≤◌, inl, inr, max, Bool, true, false, Ok, [], ◌∷◌, length, refl, ap, sym, ◌∙◌, arith}
+use Rattle.std.specs.Prelude.{if◌then◌else◌, nat_lt, pos}
 use Rattle.std.proofs.lemmas.Bool.Decides.{nat_tests}
 use Rattle.v8_decode.specs.declared.Op2.TheVariants as o
 use Rattle.v8_decode.specs.declared.AluOp.{AluOp}
@@ -41,27 +41,18 @@ compared x y codes z = refl
 is_greater : (x y : ℕ) (v : Bool) → x < 2 ^ 32 → y < 2 ^ 32
     → holds_of 12 (codes_of (wrapped (2 ^ 33 + x - (y + 0))) v (nat_lt x (y + 0))) ≡ nat_lt y x
 unfolding holds_of
-is_greater x y v lx ly = go (nat_lt x (y + 0)) (wrapped (2 ^ 33 + x - (y + 0)) == 0) (nat_lt y x) refl refl refl
-  where
-    go : (a b e : Bool) → nat_lt x (y + 0) ≡ a → (wrapped (2 ^ 33 + x - (y + 0)) == 0) ≡ b → nat_lt y x ≡ e
-        → not (a || b) ≡ e
-    go true b true h k l = absurd (grind (arith, nat_tests))
-    go false true true h k l = absurd (grind (arith, nat_tests))
-    go false false false h k l = absurd (grind (arith, nat_tests))
-    go a b e h k l = refl
+is_greater x y v lx ly = grind (arith, nat_tests)
 
 -- what is stored or not is what the greater would store
 stored_or_not : (a x : ℕ) (g : ℕ → ℕ) (b : Bool) → nat_lt (g a) x ≡ b → (k : ℕ)
     → (if b then put a x g else g) k ≡ put a (max (g a) x) g k
 stored_or_not a x g true e k = ap (λ z. put a z g k) (let f : x ≡ max (g a) x = grind (arith, nat_tests) in f)
-stored_or_not a x g false e k = go (equal_or_not k a)
-  where
-    m : max (g a) x ≡ g a
-    m = grind (arith, nat_tests)
-
-    go : (k ≡ a) ⊎ (k ≢ a) → g k ≡ put a (max (g a) x) g k
-    go (inl h) = cc (h, m, put_same a (max (g a) x) g)
-    go (inr h) = sym (put_other a (max (g a) x) g k h)
+stored_or_not a x g false e k =
+    let m : max (g a) x ≡ g a = grind (arith, nat_tests) in
+    elim (equal_or_not k a) [
+      | inl h ↦ cc (h, m, put_same a (max (g a) x) g)
+      | inr h ↦ sym (put_other a (max (g a) x) g k h)
+    ]
 
 -- ---- without the codes: each of the words gives the value that the law speaks of
 

@@ -23,8 +23,7 @@ among w (p ∷ ps) q e = go p (is_same (parts.Reg q) p) refl e (among w ps q)
         → (item_of w z ≡ Register (place_of w q)) ⊎ IsAmong (Register (place_of w q)) w ps
     go (parts.Reg x) true f k rec =
         inl (ap (λ n. Register (place_of w n)) (let d : x ≡ q = grind (arith, nat_tests) in d))
-    go parts.Icc true f k rec = absurd (cc)
-    go parts.Y true f k rec = absurd (cc)
+    go z true f k rec = absurd (cc)
     go z false f k rec = inr (rec k)
 
 codes_among : (w : ℕ) (ps : List Part) → has ps parts.Icc ≡ true → IsAmong CodesItem w ps
@@ -33,9 +32,8 @@ codes_among w (p ∷ ps) e = go p e (codes_among w ps)
   where
     go : (z : Part) → (is_same parts.Icc z || has ps parts.Icc) ≡ true
         → (has ps parts.Icc ≡ true → IsAmong CodesItem w ps) → (item_of w z ≡ CodesItem) ⊎ IsAmong CodesItem w ps
-    go (parts.Reg x) k rec = inr (rec k)
     go parts.Icc k rec = inl refl
-    go parts.Y k rec = inr (rec k)
+    go z k rec = inr (rec k)
 
 -- a place is that of one of the picked registers, or of none
 picked_or_not : (w : ℕ) (r : ℕ → ℕ) (want p : ℕ)

@@ -1,30 +1,17 @@
 -- How many words a snippet has.
-use Rattle.std.proofs.Common.{◌≡◌, ℕ, suc, ◌-◌, ◌*◌, ◌≤◌, Bool, true, false, cond, ◌==◌, List, [], ◌∷◌, ◌++◌, length, refl, ap, arith, length-append, length-take, length-drop}
-use Rattle.std.specs.Prelude.{if◌then◌else◌, slice_index}
+use Rattle.std.proofs.Common.{◌≡◌, ℕ, suc, ◌-◌, ◌*◌, ◌≤◌, Bool, List, [], ◌∷◌, ◌++◌, length, refl, ap, arith, length-append, length-take, length-drop}
+use Rattle.std.specs.Prelude.{slice_index}
 use Rattle.v8_decode.specs.declared.Part.{Part}
 use Rattle.v8_decode.specs.declared.Part.TheVariants.{Icc}
 use Rattle.v8_decode.specs.Parts.{has}
 use Rattle.v8_decode.specs.declared.Instr.{Instr}
 use Rattle.scavenge.specs.Picks.{picked, spills, spilled, free_dead, free_live}
 use Rattle.snippets.specs.declared.snippet.Op.{Op}
-use Rattle.snippets.specs.declared.snippet.Op.TheVariants.{Add, Put, Keep, Top, Count, Log}
-use Rattle.snippet_code.specs.Words.{op_words, op_cost, op_registers, is_small, all_words, cost_of_all, cost_of, registers_for, numbered, save, restore}
+use Rattle.snippet_code.specs.Words.{op_words, op_cost, op_registers, all_words, cost_of_all, cost_of, registers_for, numbered, save, restore}
 use Rattle.snippet_code.specs.Laws.{CostsHold}
 
-chosen : (b : Bool) (xs ys : List Instr) (m n : ℕ) → length xs ≤ m → length ys ≤ n
-    → length (cond b xs ys) ≤ cond b m n
-chosen true xs ys m n h k = h
-chosen false xs ys m n h k = k
-
 op_length : (base : ℕ) (d : Bool) (r : ℕ → ℕ) (op : Op) → length (op_words base d r op) ≤ op_cost d op
-op_length base d r (Add cell amount) = chosen (is_small amount) _ _ 4 6 (omega arith) (omega arith)
-op_length base d r (Put cell value) = chosen (value == 0) _ _ 2 4 (omega arith) (omega arith)
-op_length base d r (Keep cell reg) = omega arith
-op_length base true r (Top cell reg) = omega arith
-op_length base false r (Top cell reg) = omega arith
-op_length base true r (Count cell) = omega arith
-op_length base false r (Count cell) = omega arith
-op_length base d r (Log cell bits value) = omega arith
+op_length base d r op = grind arith
 
 all_length : (base : ℕ) (d : Bool) (r : ℕ → ℕ) (ops : List Op) → length (all_words base d r ops) ≤ cost_of_all d ops
 all_length base d r [] = omega arith
@@ -49,25 +36,11 @@ spilled_length dead avoid want =
     )
 
 -- ---- a bound for all
-either : (b : Bool) (x y z : ℕ) → x ≤ z → y ≤ z → (if b then x else y) ≤ z
-either true x y z h k = h
-either false x y z h k = k
-
 op_cost_few : (d : Bool) (op : Op) → op_cost d op ≤ 12
-op_cost_few d (Add cell amount) = either (is_small amount) 4 6 12 (omega arith) (omega arith)
-op_cost_few d (Put cell value) = either (value == 0) 2 4 12 (omega arith) (omega arith)
-op_cost_few d (Keep cell reg) = omega arith
-op_cost_few d (Top cell reg) = either d 5 12 12 (omega arith) (omega arith)
-op_cost_few d (Count cell) = either d 7 9 12 (omega arith) (omega arith)
-op_cost_few d (Log cell bits value) = omega arith
+op_cost_few d op = grind arith
 
 op_registers_few : (d : Bool) (op : Op) → op_registers d op ≤ 5
-op_registers_few d (Add cell amount) = either (is_small amount) 2 3 5 (omega arith) (omega arith)
-op_registers_few d (Put cell value) = either (value == 0) 1 2 5 (omega arith) (omega arith)
-op_registers_few d (Keep cell reg) = omega arith
-op_registers_few d (Top cell reg) = either d 2 5 5 (omega arith) (omega arith)
-op_registers_few d (Count cell) = either d 2 3 5 (omega arith) (omega arith)
-op_registers_few d (Log cell bits value) = omega arith
+op_registers_few d op = grind arith
 
 pub registers_few : (d : Bool) (ops : List Op) → registers_for d ops ≤ 5
 registers_few d [] = omega arith

@@ -1,5 +1,5 @@
 -- The registers that a snippet names.
-use Rattle.std.proofs.Common.{◌≡◌, ℕ, zero, suc, ◌+◌, ◌<◌, ◌≤◌, ◌⊎◌, inl, inr, Bool, true, false, not, ◌&&◌, ◌||◌, cond, List, [], ◌∷◌, length, refl, ap, ◌∙◌, arith, length-append}
+use Rattle.std.proofs.Common.{◌≡◌, ℕ, zero, suc, ◌+◌, ◌<◌, ◌≤◌, ◌⊎◌, inl, inr, Bool, true, false, not, ◌&&◌, cond, List, [], ◌∷◌, length, refl, ap, ◌∙◌, arith, length-append}
 use Rattle.std.proofs.lemmas.Bool.{or_right}
 use Rattle.std.specs.Prelude.{filter, nat_lt}
 use Rattle.std.specs.List.{range_with_len}
@@ -12,7 +12,7 @@ use Rattle.v8_decode.proofs.Members.{has-members, is_same-self}
 use Rattle.scavenge.specs.Picks.{registers, is_register, register_count}
 use Rattle.scavenge.proofs.Picks.{all_off, joined, registers_ascend, registers_count}
 use Rattle.snippets.specs.declared.snippet.Op.{Op}
-use Rattle.snippets.specs.declared.snippet.Op.TheVariants.{Add, Put, Keep, Top, Count, Log}
+use Rattle.snippets.specs.declared.snippet.Op.TheVariants.{Keep, Top}
 use Rattle.snippets.specs.Cells.{read_by, named_by}
 use Rattle.snippet_code.proofs.Working.{IsRead}
 
@@ -56,13 +56,7 @@ count_from f first (suc count) =
     go false e = e
 
 rest_none : (f : Part → Bool) → length (filter is_register (filter f (Icc ∷ Y ∷ []))) ≡ 0
-rest_none f = go (f Icc) (f Y)
-  where
-    go : (a b : Bool) → length (filter is_register (cond a (Icc ∷ cond b (Y ∷ []) []) (cond b (Y ∷ []) []))) ≡ 0
-    go true true = refl
-    go true false = refl
-    go false true = refl
-    go false false = refl
+rest_none f = grind arith
 
 members_count : (f : Part → Bool) → register_count (members f) ≡ length (filter (λ (r : ℕ). f (Reg r)) registers)
 unfolding members every_part registers
@@ -103,12 +97,7 @@ set_few ps =
 
 read_few : (ops : List Op) → register_count (read_by ops) ≤ length ops
 read_few [] = omega arith
-read_few (Add cell amount ∷ ops) = let h = read_few ops in omega arith
-read_few (Put cell value ∷ ops) = let h = read_few ops in omega arith
-read_few (Count cell ∷ ops) = let h = read_few ops in omega arith
-read_few (Log cell bits value ∷ ops) = let h = read_few ops in omega arith
-read_few (Keep cell reg ∷ ops) = let h = read_few ops in omega arith
-read_few (Top cell reg ∷ ops) = let h = read_few ops in omega arith
+read_few (op ∷ ops) = grind (arith, read_few ops)
 
 pub named_few : (ops : List Op) → register_count (named_by ops) ≤ length ops
 named_few ops = omega (arith, set_few (read_by ops), read_few ops)

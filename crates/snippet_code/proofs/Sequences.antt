@@ -1,5 +1,5 @@
 -- Operations one after the other, and the registers that are saved before them and loaded after them.
-use Rattle.std.proofs.Common.{◌≡◌, ◌≢◌, ℕ, zero, suc, ◌+◌, ◌*◌, ◌<◌, ◌≤◌, ◌⊎◌, inl, inr, Bool, true, false, Some, List, [], ◌∷◌, ◌++◌, length, refl, ap, sym, ◌∙◌, subst, arith, length-append}
+use Rattle.std.proofs.Common.{◌≡◌, ◌≢◌, ℕ, zero, suc, ◌+◌, ◌*◌, ◌<◌, ◌≤◌, ◌⊎◌, inl, inr, Bool, false, Some, List, [], ◌∷◌, ◌++◌, length, refl, ap, sym, ◌∙◌, subst, arith, length-append}
 use Rattle.std.proofs.lemmas.Bool.{or_parts, or_from}
 use Rattle.std.specs.Prelude.{if◌then◌else◌, ◌||◌}
 use Rattle.v8_decode.specs.declared.Instr.{Instr}
@@ -16,7 +16,7 @@ use Rattle.snippets.specs.declared.snippet.Op.TheVariants.{Add, Put, Keep, Top, 
 use Rattle.snippet_code.specs.Cells.{cell_at, kept_word}
 use Rattle.code_runs.specs.Page.{of_page}
 use Rattle.snippet_code.specs.Words.{op_words, all_words, numbered, save, restore, low, high}
-use Rattle.snippet_code.proofs.Working.{HasBlock, Works, put, update_one, update_all, Does, AreFit, AreFrom, HavePage, saved, AreSaved}
+use Rattle.snippet_code.proofs.Working.{HasBlock, Works, put, update_all, Does, AreFit, AreFrom, HavePage, saved, AreSaved}
 use Rattle.code_runs.specs.Counted.{any_of_word, one_if, word_span}
 use Rattle.snippet_code.proofs.OneOperation.{as_many, Doing, add_works, put_works, keep_works}
 use Rattle.snippet_code.proofs.Greater.{top_works}
@@ -43,13 +43,10 @@ pub record IsCost (counted : ℕ → Bool) (cost : ℕ) : Type 0 where
   pub none : ((n : ℕ) → n < 5 → any_of_word counted (kept_word n) ≡ false) → cost ≡ 0
 
 if_below : (b c : Bool) → (c ≡ false → b ≡ false) → (if b then 1 else 0) ≤ (if c then 1 else 0)
-if_below false c h = omega arith
-if_below true true h = omega arith
-if_below true false h = let e : true ≡ false = h refl in absurd (cc)
+if_below b c h = grind arith
 
 if_one : (b : Bool) → (if b then 1 else 0) ≤ 1
-if_one true = omega arith
-if_one false = omega arith
+if_one b = grind arith
 
 module _ (counted : ℕ → Bool) where
   abbrev any_from3 : Bool

@@ -1,9 +1,8 @@
 -- A word of memory stays where no word is stored over it, whether it may be loaded or not.
-use Rattle.std.proofs.Common.{◌≡◌, ℕ, ◌+◌, ◌-◌, ◌≤◌, ◌⊎◌, inl, inr, Bool, true, false, ◌&&◌, Option, Some, None, List, [], ◌∷◌, ◌++◌, length, take, drop, refl, ap, ◌∙◌, arith}
-use Rattle.std.specs.Prelude.{if◌then◌else◌}
+use Rattle.std.proofs.Common.{◌≡◌, ℕ, ◌+◌, ◌≤◌, ◌⊎◌, true, Option, Some, None, List, [], ◌∷◌, length, refl, ap, ◌∙◌}
 use Rattle.std.specs.Int.{w32, to_be_bytes, from_be_bytes}
 use Rattle.std.specs.Option.{option_map}
-use Rattle.v8_memory.specs.Regions.{Memory, Region, covers, region_at, part_of, written}
+use Rattle.v8_memory.specs.Regions.{Memory, Region, covers, region_at, written}
 use Rattle.v8_memory.proofs.Same.{covers-written}
 use Rattle.v8_step.specs.Valid.{IsValidMemory}
 use Rattle.code_runs.specs.StoredWords.{word_in, memory_word, store_word, store_all, AllAt, Stores}

@@ -1,5 +1,5 @@
 -- What the words of a whole snippet do.
-use Rattle.std.proofs.Common.{◌≡◌, ◌≢◌, ℕ, zero, suc, ◌+◌, ◌-◌, ◌*◌, ◌%◌, ◌^◌, ◌<◌, ◌≤◌, ◌⊎◌, inl, inr, Bool, true, false, List, [], ◌∷◌, ◌++◌, length, Option, drop, map, refl, ap, sym, ◌∙◌, subst, arith, length-append, length-drop, All}
+use Rattle.std.proofs.Common.{◌≡◌, ◌≢◌, ℕ, suc, ◌+◌, ◌-◌, ◌*◌, ◌%◌, ◌^◌, ◌<◌, ◌≤◌, ◌⊎◌, inl, inr, Bool, true, false, List, [], ◌∷◌, ◌++◌, length, drop, map, refl, ap, sym, ◌∙◌, subst, arith, length-append, length-drop, All}
 use Rattle.std.specs.Prelude.{slice_index}
 use Rattle.std.proofs.Math.Seq.{ext_get_or}
 use Rattle.std.proofs.lemmas.List.{length-map, get_or-drop}
@@ -11,10 +11,7 @@ use Rattle.v8_decode.specs.declared.Part.TheVariants as parts
 use Rattle.v8_decode.specs.Parts.{has}
 use Rattle.v8_alu.specs.Numbers.{wrapped}
 use Rattle.v8_memory.specs.Regions.{code_of}
-use Rattle.v8_step.specs.declared.Slot.{Slot}
 use Rattle.v8_step.specs.declared.Slot.TheVariants.{NoSlot}
-use Rattle.v8_step.specs.declared.Ending.{Ending}
-use Rattle.v8_alu.specs.declared.Codes.{Codes}
 use Rattle.v8_step.specs.State.{State, register_of}
 use Rattle.v8_step.specs.Items.{StateItem, Register, Codes as CodesItem, YRegister, IsAmong, IsSameAt}
 use Rattle.code_runs.specs.Counted.{any_of_word}
@@ -26,7 +23,7 @@ use Rattle.code_runs.proofs.Straight.{words_say}
 use Rattle.scavenge.specs.Picks.{ArePicked, picked, spills}
 use Rattle.scavenge.proofs.Picks.{are_picked}
 use Rattle.snippets.specs.declared.snippet.Op.{Op}
-use Rattle.snippets.specs.declared.snippet.Op.TheVariants.{Add, Put, Keep, Top, Count, Log}
+use Rattle.snippets.specs.declared.snippet.Op.TheVariants.{Keep, Top}
 use Rattle.snippets.specs.Cells.{update, named_by}
 use Rattle.snippets.specs.Grammar.{IsOp}
 use Rattle.snippet_code.specs.Cells.{cell_at, words_at, IsCellOf, kept_word}
@@ -62,9 +59,7 @@ are_saved regs m (q ∷ qs) g h same = (
 
 -- what they cost
 at_most : (cost n : ℕ) → cost ≤ 1 → cost * n ≤ n
-at_most zero n h = omega arith
-at_most (suc zero) n h = omega arith
-at_most (suc (suc cost)) n h = absurd (omega arith)
+at_most cost n h = grind arith
 
 at_none : (cost n : ℕ) → cost ≡ 0 → cost * n ≡ 0
 at_none cost n e = ap (λ z. z * n) e ∙ (let f : 0 * n ≡ 0 = omega arith in f)

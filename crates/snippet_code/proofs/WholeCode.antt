@@ -1,5 +1,5 @@
 -- The words of a whole snippet.
-use Rattle.std.proofs.Common.{◌≡◌, ℕ, ◌+◌, ◌-◌, ◌%◌, ◌<◌, ◌≤◌, Bool, List, ◌++◌, length, map, take, drop, ap, sym, ◌∙◌, subst, arith, All, length-drop, append_assoc}
+use Rattle.std.proofs.Common.{◌≡◌, ℕ, ◌+◌, ◌-◌, ◌%◌, ◌≤◌, Bool, List, ◌++◌, length, map, take, drop, ap, ◌∙◌, arith, All, length-drop, append_assoc}
 use Rattle.std.specs.Prelude.{slice_index}
 use Rattle.std.proofs.lemmas.List.{length-map, map-append, get_or-drop, take_all}
 use Rattle.v8_decode.specs.Words.{decode_of}

@@ -37,11 +37,7 @@ carry_is x l =
 
 -- and by the code that the sum sets
 carried : (x : ℕ) → x < 2 ^ 32 → one_if (nat_le (2 ^ 32) (x + 1 + 0)) ≡ (x + 1) / 2 ^ 32
-carried x l = by (nat_le (2 ^ 32) (x + 1 + 0)) refl
-  where
-    by : (b : Bool) → nat_le (2 ^ 32) (x + 1 + 0) ≡ b → one_if b ≡ (x + 1) / 2 ^ 32
-    by true e = grind (arith, nat_tests)
-    by false e = grind (arith, nat_tests)
+carried x l = grind (arith, nat_tests)
 
 -- the two words of a number that was counted up
 high_word : (x y : ℕ) → x < 2 ^ 32 → y < 2 ^ 32
@@ -83,9 +79,7 @@ put_swap a x b y g apart k = by (k == a) (k == b) refl refl
     by : (p q : Bool) → (k == a) ≡ p → (k == b) ≡ q
         → (if p then x else (if q then y else g k)) ≡ (if q then y else (if p then x else g k))
     by true true e f = absurd (apart (let z : a ≡ b = grind (arith, nat_tests) in z))
-    by true false e f = refl
-    by false true e f = refl
-    by false false e f = refl
+    by p q e f = refl
 
 -- ---- what operations give
 

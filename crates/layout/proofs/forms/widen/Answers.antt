@@ -1,5 +1,4 @@
 use Rattle.std.proofs.Common.{◌≡◌, ◌∷◌, [], ◌++◌, arith}
-use Rattle.layout.specs.Emitting.{forms_in}
 use Rattle.layout.proofs.Offsets.{offset_next}
 use Rattle.layout.proofs.Wider.{wider_more}
 use Rattle.layout.proofs.forms.widen.Goals as goal

@@ -1,5 +1,4 @@
-use Rattle.std.proofs.Common.{◌≡◌, ◌≤◌, ◌∙◌, sym, length, count_by}
-use Rattle.layout.specs.Emitting.{AreWider}
+use Rattle.std.proofs.Common.{◌∙◌, sym}
 use Rattle.layout.proofs.Wider.{widening_pass, widening_last, pass_smaller}
 use Rattle.layout.proofs.forms.widened.Goals as goal
 

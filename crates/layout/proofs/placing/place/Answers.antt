@@ -1,6 +1,3 @@
-use Rattle.std.proofs.Common.{◌≡◌, ◌*◌, length, IfOk}
-use Rattle.layout.specs.Forms.{offset}
-use Rattle.layout.specs.Emitting.{forms_in, FitsIn, IsPut}
 use Rattle.layout.proofs.Whole.{all_laid, room_is}
 use Rattle.layout.proofs.placing.place.Goals as goal
 
