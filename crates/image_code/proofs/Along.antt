@@ -33,13 +33,7 @@ pub way_is : (text : Words) (graph : Graph) (table : ℕ) (codes : ℕ → List 
     (items : List Item)
     → (edge.kind ≡ kinds.Fall → ⊥) → (edge.kind ≡ kinds.Case → ⊥)
     → (if is_fall edge.kind then jump_to 0 else if same_kind edge.kind kinds.Case then jump_to 0 else items) ≡ items
-way_is text graph table codes number edge items fall case = go edge.kind fall case
-  where
-    go : (kind : EdgeKind) → (kind ≡ kinds.Fall → ⊥) → (kind ≡ kinds.Case → ⊥)
-        → (if is_fall kind then jump_to 0 else if same_kind kind kinds.Case then jump_to 0 else items) ≡ items
-    go kinds.Fall n m = absurd (n refl)
-    go kinds.Case n m = absurd (m refl)
-    go _ n m = refl
+way_is text graph table codes number edge items fall case = grind arith
 
 -- What is made is what it should be, where it goes on as the edge does.
 module _ (text : Words) (graph : Graph) (table : ℕ) (edge : Edge) (made : Result (List Item) NoMemory)

@@ -1,14 +1,13 @@
 -- Ways through words in no place: the snippets of some edges, Jumps and long jumps.
-use Rattle.std.proofs.Common.{◌≡◌, ℕ, zero, suc, ◌+◌, ◌*◌, ◌^◌, ◌<◌, ◌≤◌, ◌⊎◌, inl, inr, Option, Some, None, List, [], ◌∷◌, ◌++◌, drop, length, map, append-nil, refl, ap, sym, ◌∙◌, subst, arith}
+use Rattle.std.proofs.Common.{◌≡◌, ℕ, zero, suc, ◌+◌, ◌*◌, ◌^◌, ◌<◌, ◌≤◌, ◌⊎◌, inl, inr, Option, Some, None, List, [], ◌∷◌, ◌++◌, drop, length, map, append-nil, add-one, add-zero, zero-add, refl, ap, sym, ◌∙◌, subst, arith}
+use native.Mathlib.Nat.{add_assoc}
 use Rattle.std.specs.Prelude.{◌≢◌, slice_get, slice_index}
 use Rattle.std.specs.List.{flat_map}
 use Rattle.std.specs.Option.{option_map}
 use Rattle.std.proofs.lemmas.Bool.{cases_lt}
-use Rattle.std.proofs.lemmas.List.{length-append, map-append, append_assoc}
-use Rattle.std.proofs.lemmas.List.Concat.{flat_map-cons}
+use Rattle.std.proofs.lemmas.List.{length-append, length-map, map-append, append_assoc, nil_from_length}
 use Rattle.std.proofs.lemmas.Option.{slice_get_within}
 use Rattle.eel_base.specs.declared.numbers.PieceNo.{PieceNo}
-use Rattle.v8_alu.specs.Numbers.{wrapped}
 use Rattle.v8_memory.specs.Regions.{Memory, code_of, fetch_from}
 use Rattle.v8_step.specs.State.{State, register_of}
 use Rattle.v8_step.specs.Run.{run}
@@ -21,7 +20,7 @@ use Rattle.code_runs.specs.LongJump.{IsFirstWord, long_jump}
 use Rattle.code_runs.specs.Ours.{IsAmongWords}
 use Rattle.code_runs.specs.Page.{page_word}
 use Rattle.code_runs.specs.StoredWords.{CanStore, Stores, memory_word, store_word}
-use Rattle.code_runs.specs.Straight.{HasWords, StandIn}
+use Rattle.code_runs.specs.Straight.{HasWords}
 use Rattle.code_runs.proofs.Counted.{count_add, none_then}
 use Rattle.code_runs.proofs.Hops.{stores_then}
 use Rattle.code_runs.proofs.Leads.{leads_none, leads_then, leads_weaker, silent_none, silent_then}
@@ -29,8 +28,7 @@ use Rattle.code_runs.proofs.LongJump.{long_jumps_hop}
 use Rattle.code_runs.proofs.Stays.{stores_there}
 use Rattle.code_runs.proofs.TwoRegisters.{stores_none}
 use Rattle.snippets.specs.declared.snippet.Op.{Op}
-use Rattle.snippets.specs.Cells.{update}
-use Rattle.snippet_code.specs.Runs.{IsAboutToRun, MayStore, RunsPast, cell_at, kept_word, words_at}
+use Rattle.snippet_code.specs.Runs.{IsAboutToRun, kept_word, words_at}
 use Rattle.jump_code.specs.Pieces.{far_piece}
 use Rattle.jump_code.proofs.Fitting.{long_jump_fits}
 use Rattle.jump_code.proofs.Laid.{words_after}
@@ -40,7 +38,7 @@ use Rattle.layout.specs.declared.items.Item.TheVariants as it
 use Rattle.layout.specs.Laid.{HasShortForms, Placement, item_at, size_of, open_in, open_from, range_in, range_of, IsWordAt}
 use Rattle.layout.specs.Running.{CanRun, HasCode}
 use Rattle.layout.proofs.Going.{stays, jumps_hop}
-use Rattle.image_code.specs.Simulates.{Setting, IsOnWay, cells_in, in_first_word, is_spill, operations_on, snippet_on, spills_at, spills_on, updates}
+use Rattle.image_code.specs.Simulates.{Setting, IsOnWay, cells_in, in_first_word, is_spill, operations_on, snippet_on, spills_on, updates}
 use Rattle.image_code.specs.Images.{Pieces, Frame, HasImages, IsPlaced}
 use Rattle.image_code.specs.Cases.{IsFar, LeadsTo, LeadsOn, rest_from, words_on}
 use Rattle.image_code.proofs.Between.{can_run, item_below, item_size, on_none, stores_weaker}
@@ -68,19 +66,16 @@ words_unmarked (w ∷ ws) xs are = (tt, words_unmarked ws xs are)
 pub unmarked_open : (xs : List Item) (n k : ℕ) → AreUnmarked xs → open_from xs n k None ≡ None
 unmarked_open [] n k are = refl
 unmarked_open (x ∷ xs) n zero are = refl
-unmarked_open (it.Word w ∷ xs) n (suc k) are = unmarked_open xs (suc n) k are.1
-unmarked_open (it.Jump z ∷ xs) n (suc k) are = unmarked_open xs (suc n) k are.1
-unmarked_open (it.Branch c z ∷ xs) n (suc k) are = unmarked_open xs (suc n) k are.1
 unmarked_open (it.Mark a b ∷ xs) n (suc k) are = absurd are.0
 unmarked_open (it.EndMark ∷ xs) n (suc k) are = absurd are.0
+unmarked_open (x ∷ xs) n (suc k) are = unmarked_open xs (suc n) k are.1
 
 behind_unmarked : (xs ys : List Item) → AreUnmarked (xs ++ ys) → AreUnmarked ys
 behind_unmarked [] ys are = are
 behind_unmarked (x ∷ xs) ys are = behind_unmarked xs ys are.1
 
 pub length_words : (ws : List ℕ) → length (map it.Word ws) ≡ length ws
-length_words [] = refl
-length_words (w ∷ ws) = let e = length_words ws in omega (arith, e)
+length_words ws = length-map ws it.Word
 
 -- From its item n on, a piece is these items, none of them a Mark or the end of one.
 pub record Rest (l : Pieces) (k n : ℕ) (xs : List Item) : Type 0 where
@@ -111,20 +106,13 @@ rest_marked l k address node y xs are is = record {
 }
 
 pub rest_behind : (l : Pieces) (k n : ℕ) (xs ys : List Item) → Rest l k n (xs ++ ys) → Rest l k (n + length xs) ys
-rest_behind l k n xs ys r =
-    let size = r.size in
-    let both = length-append xs ys in
-    record {
-      within = r.within;
-      size = omega (arith, size, both);
-      items = λ j.
-          let e : n + length xs + j ≡ n + (length xs + j) = omega arith in
-          ap (item_at l.list k) e ∙ r.items (length xs + j) ∙ get_second xs ys j;
-      shut = λ j.
-          let e : n + length xs + j ≡ n + (length xs + j) = omega arith in
-          ap (open_in (slice_get l.list k)) e ∙ r.shut (length xs + j);
-      unmarked = behind_unmarked xs ys r.unmarked;
-    }
+rest_behind l k n xs ys r = record {
+  within = r.within;
+  size = omega (arith, r.size, length-append xs ys);
+  items = λ j. rw (add_assoc n (length xs) j, r.items (length xs + j)) (get_second xs ys j);
+  shut = λ j. rw (add_assoc n (length xs) j) (r.shut (length xs + j));
+  unmarked = behind_unmarked xs ys r.unmarked;
+}
 
 pub far_unmarked : (to : ℕ) → AreUnmarked (far_piece to)
 far_unmarked to = (tt, (tt, (tt, (tt, tt))))
@@ -134,13 +122,8 @@ no_updates : (snips : List (List Op)) (edges cells : List ℕ) (s : State) → o
     → updates snips edges cells s ≡ cells
 no_updates snips [] cells s none = refl
 no_updates snips (edge ∷ edges) cells s none =
-    by (snippet_on snips edge) (omega (arith, none))
-    ∙ no_updates snips edges cells s (omega (arith, none))
-  where
-    by : (ops : List Op) → length ops ≡ 0 → updates snips edges (update (register_of s) ops cells) s
-        ≡ updates snips edges cells s
-    by [] e = refl
-    by (op ∷ ops) e = absurd (omega (arith, e))
+    rw (nil_from_length (snippet_on snips edge) (omega (arith, none)))
+    (no_updates snips edges cells s (omega (arith, none)))
 
 module _ (g : Setting) (l : Pieces) (base : ℕ) (p : Placement) (place : ℕ → ℕ → ℕ) (f : Frame)
     (h : IsPlaced g l base p place f) where
@@ -183,13 +166,11 @@ module _ (g : Setting) (l : Pieces) (base : ℕ) (p : Placement) (place : ℕ �
       → run a count ≡ hopped b to m → Stores (IsAmongWords f.own) a.memory m → IsFit (hopped b to m)
   hopped_fit a b to k live low count m steps stores =
       let valid : IsValid (hopped b to m) = subst IsValid steps (run-valid a count k.valid) in
-      let has : HasImages g base p f m =
-      images_stored g f h.frame base p a (hopped b to m) count steps stores k.has in
-      let npc : wrapped (to + 4) ≡ to + 4 = omega arith in
+      let has = images_stored g f h.frame base p a (hopped b to m) count steps stores k.has in
       record {
         valid = valid;
         has = has;
-        runs = can_run g l base p place f h (hopped b to m) valid live npc refl has;
+        runs = can_run g l base p place f h (hopped b to m) valid live (omega arith) refl has;
       }
 
   -- where a way ends
@@ -210,8 +191,7 @@ module _ (g : Setting) (l : Pieces) (base : ℕ) (p : Placement) (place : ℕ �
       × ((memory_word m (page_word 1) ≡ memory_word a.memory (page_word 1))
       × (words_at g.notes.base g.notes.cells m ≡ cells_in g a))
   first_kept a m fit stores = (
-    stores_weaker IsFirstWord (IsAmongWords f.own) a.memory m
-        (λ z e. subst (IsAmongWords f.own) (sym e) h.frame.own.first) stores,
+    stores_weaker IsFirstWord (IsAmongWords f.own) a.memory m (λ z e. rw e h.frame.own.first) stores,
     (
       word_kept IsFirstWord (page_word 1) (λ z e. inr (omega (arith, e))) a.memory m stores
           (page_there a fit 1 (omega arith)),
@@ -246,9 +226,9 @@ module _ (g : Setting) (l : Pieces) (base : ℕ) (p : Placement) (place : ℕ �
         begins = begins;
         alike = alike_itself g edges a;
         still = λ _. refl;
-        spares = λ there. let spares = (brief there).spares in omega (arith, spares);
+        spares = λ there. omega (arith, (brief there).spares);
         leaves_first = λ there short. (brief there).leaves_first short;
-        brief = λ there short. let words = (brief there).brief short in omega (arith, words);
+        brief = λ there short. omega (arith, (brief there).brief short);
       }
 
   -- the way has no step
@@ -256,9 +236,8 @@ module _ (g : Setting) (l : Pieces) (base : ℕ) (p : Placement) (place : ℕ �
       → IsFit a → a.pc ≡ to → a.pc ≤ 2 ^ 31 → Arrives next edges a to most
   bare_here edges a to most none fit e low =
       hops_on edges none a to most 0 a.memory fit (stores_none IsFirstWord a.memory) (omega arith)
-      (subst (λ (q : State). Leads IsBare a q 0) (sym (stays a to e fit.runs.ready.npc fit.runs.slot (omega arith)))
-      (leads_none _ a))
-      (silent_none a) (λ q. absurd (omega arith))
+      (rw (stays a to e fit.runs.ready.npc fit.runs.slot (omega arith)) (leads_none _ a)) (silent_none a)
+      (λ q. absurd (omega arith))
       (λ _. record { spares = omega arith; leaves_first = λ _. refl; brief = λ _. omega arith })
 
   -- an item outside each Mark
@@ -283,15 +262,13 @@ module _ (g : Setting) (l : Pieces) (base : ℕ) (p : Placement) (place : ℕ �
       let j = jumps_hop l.list base p place h.laid k n z item a fit.runs at in
       let ins = j.inside in
       let none = bare_item k n (it.Jump z) item closed in
-      let few = j.few in
-      hops_on [] refl a (slice_index p.at z.0) 4 j.count j.memory fit j.hops.stores (omega (arith, few))
-      (leads_weaker _ _ a _ j.count (λ u q. let b = q.past in let c = q.before in none u (omega arith) (omega arith))
-      j.hops.path) j.hops.silent (λ q. none a (omega arith) (omega arith))
+      hops_on [] refl a (slice_index p.at z.0) 4 j.count j.memory fit j.hops.stores (omega (arith, j.few))
+      (leads_weaker _ _ a _ j.count (λ u q. none u (omega (arith, q.past)) (omega (arith, q.before))) j.hops.path)
+      j.hops.silent (λ q. none a (omega arith) (omega arith))
       (λ _. record {
-        spares = let stored = j.stored (is_spill g.notes) (inl (spill_first g.notes)) in omega (arith, stored);
-        leaves_first = λ short.
-            let end = short k n (it.Jump z) item in j.stored in_first_word (inr (omega (arith, end, at)));
-        brief = λ short. let end = short k n (it.Jump z) item in omega (arith, end, at, ins);
+        spares = omega (arith, j.stored (is_spill g.notes) (inl (spill_first g.notes)));
+        leaves_first = λ short. j.stored in_first_word (inr (omega (arith, short k n (it.Jump z) item, at)));
+        brief = λ short. omega (arith, short k n (it.Jump z) item, at, ins);
       })
 
   -- a way after another one
@@ -299,43 +276,40 @@ module _ (g : Setting) (l : Pieces) (base : ℕ) (p : Placement) (place : ℕ �
       (mid to few more : ℕ) (one : Arrives next first a mid few)
       → Arrives next others (hopped one.other mid one.memory) to more → Arrives next edges a to (few + more)
   on_then edges first others all a mid to few more one other =
-      let f1 = one.few in
-      let m1 = other.few in
-      let sum : operations_on g.snips edges ≡ operations_on g.snips first + operations_on g.snips others =
-      ap (operations_on g.snips) all ∙ operations_then g.snips first others in
       let b : State = hopped one.other mid one.memory in
-      record {
+      rw all (record {
         count = one.count + other.count;
         other = other.other;
         memory = other.memory;
-        few = omega (arith, f1, m1, sum);
+        few = omega (arith, one.few, other.few, operations_then g.snips first others);
         path = leads_then IsBare a b _ one.count other.count one.path other.path (λ _ some. other.begins some);
         silent = silent_then a b one.count other.count one.path.steps one.silent other.silent;
         stores = stores_then (IsAmongWords f.own) (IsAmongWords f.own) a.memory one.memory other.memory
             (λ z e. e) one.stores other.stores;
         waits = other.waits ∙ one.waits;
         found = λ there. other.found there ∙ one.found there;
-        cells = λ d. by_cells (subst (LastDead g) all d);
+        cells = λ d.
+            other.cells (last_others g first others d) ∙ read_alike (last_parted g first others d)
+            ∙ rw (one.cells (last_first g first others d)) (sym (updates_then g.snips first others (cells_in g a) a));
         begins = λ some. elim (cases_lt 0 one.count) [
           | inl more ↦ one.begins more
           | inr none ↦
               let still : one.count ≡ 0 = omega arith in
               subst IsBare (sym one.path.steps ∙ ap (run a) still) (other.begins (omega arith))
         ];
-        alike = alike_then g edges first others all a one.other other.other mid one.memory one.alike other.alike;
+        alike = alike_then g _ first others refl a one.other other.other mid one.memory one.alike other.alike;
         still = λ d.
-            let both = nothing_parted g first others (subst (NothingDead g) all d) in
+            let both = nothing_parted g first others d in
             other.still both.1 ∙ ap (λ (z : State). hopped z to other.memory) (one.still both.0);
         spares = λ there.
-            let all_spills = ap (spills_on g) all ∙ spills_then g first others in
             let both = count_add (is_spill g.notes) a b one.count one.path.steps other.count in
-            omega (arith, one.spares there, other.spares there, all_spills, both);
+            omega (arith, one.spares there, other.spares there, spills_then g first others, both);
         leaves_first = λ there short.
             none_then in_first_word a b one.count other.count one.path.steps (one.leaves_first there short)
             (other.leaves_first there short);
         brief = λ there short.
-            omega (arith, one.brief there short, other.brief there short, sum);
-      }
+            omega (arith, one.brief there short, other.brief there short, operations_then g.snips first others);
+      })
     where
       -- the later snippets read what the earlier ones left
       read_alike : (others ≡ []) ⊎ NothingDead g first
@@ -343,17 +317,7 @@ module _ (g : Setting) (l : Pieces) (base : ℕ) (p : Placement) (place : ℕ �
           ≡ updates g.snips others (words_at g.notes.base g.notes.cells one.memory) a
       read_alike (inl none) = rw none
       read_alike (inr nothing) =
-          updates_same g.snips others (words_at g.notes.base g.notes.cells one.memory)
-          (hopped one.other mid one.memory) a
-          (ap (λ (z : State). register_of z) (one.still nothing))
-
-      by_cells : LastDead g (first ++ others)
-          → words_at g.notes.base g.notes.cells other.memory ≡ updates g.snips edges (cells_in g a) a
-      by_cells d =
-          other.cells (last_others g first others d) ∙ read_alike (last_parted g first others d)
-          ∙ ap (λ z. updates g.snips others z a) (one.cells (last_first g first others d))
-          ∙ sym (updates_then g.snips first others (cells_in g a) a)
-          ∙ ap (λ z. updates g.snips z (cells_in g a) a) (sym all)
+          updates_same g.snips others _ _ a (ap (λ (z : State). register_of z) (one.still nothing))
 
   -- ---- words
 
@@ -369,27 +333,22 @@ module _ (g : Setting) (l : Pieces) (base : ℕ) (p : Placement) (place : ℕ �
 
   pub stood : (m : Memory) → HasCode base p.code m → (k n : ℕ) (ws : List ℕ) (xs : List Item)
       → Rest l k n (map it.Word ws ++ xs) → Stood m k n ws
-  stood m has k n [] xs r =
-      let e : n + 0 ≡ n = omega arith in
-      let same = ap (place k) e in
-      record { words = tt; end = omega (arith, same); bare = λ u from to. absurd (omega (arith, from, to)) }
+  stood m has k n [] xs r = record {
+    words = tt;
+    end = omega (arith, ap (place k) (add-zero n));
+    bare = λ u from to. absurd (omega (arith, from, to));
+  }
   stood m has k n (w ∷ ws) xs r =
-      let e : n + 0 ≡ n = omega arith in
-      let item : item_at l.list k n ≡ Some (it.Word w) = ap (item_at l.list k) (sym e) ∙ r.items 0 in
-      let shut : open_in (slice_get l.list k) n ≡ None = ap (open_in (slice_get l.list k)) (sym e) ∙ r.shut 0 in
+      let item : item_at l.list k n ≡ Some (it.Word w) = rw add-zero at (r.items 0) in
       let at = h.laid.items k n (it.Word w) item in
-      let next : place k (suc n) ≡ place k n + 4 = at.0 in
-      let one : n + 1 ≡ suc n = omega arith in
-      let more = stood m has k (suc n) ws xs
-      (subst (λ z. Rest l k z (map it.Word ws ++ xs)) one
-      (rest_behind l k n (it.Word w ∷ []) (map it.Word ws ++ xs) r)) in
+      let more = stood m has k (suc n) ws xs (rw add-one at (rest_behind l k n (it.Word w ∷ []) (map it.Word ws ++ xs) r)) in
       let all : n + suc (length ws) ≡ suc n + length ws = omega arith in
       record {
-        words = (word_fetched m has (place k n) w at.1, subst (λ z. HasWords (code_of m) z ws) next more.words);
-        end = omega (arith, ap (place k) all, more.end, next);
+        words = (word_fetched m has (place k n) w at.1, rw at.0 at more.words);
+        end = omega (arith, ap (place k) all, more.end, at.0);
         bare = λ u from to. elim (cases_lt u.pc (place k (suc n))) [
-          | inl before ↦ bare_item k n (it.Word w) item shut u from before
-          | inr behind ↦ more.bare u behind (omega (arith, to, next))
+          | inl before ↦ bare_item k n (it.Word w) item (rw add-zero at (r.shut 0)) u from before
+          | inr behind ↦ more.bare u behind (omega (arith, to, at.0))
         ];
       }
 
@@ -423,46 +382,30 @@ module _ (g : Setting) (l : Pieces) (base : ℕ) (p : Placement) (place : ℕ �
         page = λ i few. stores_there (kept_word i) a.memory (fit.has.ours.words (kept_word i) (h.frame.page (i + 2)
             (omega (arith, few))));
       } in
-      let past : RunsPast (is_spill g.notes) g.notes.base (g.dead edge) (snippet_on g.snips edge) (length words)
-      (spills_at g edge) a =
-      h.cells.does edge (is_spill g.notes) (λ cell named. spill_cell g.notes cell (h.cells.named edge cell named)) a
-      about in
-      let again : RunsPast in_first_word g.notes.base (g.dead edge) (snippet_on g.snips edge) (length words)
-      (spills_at g edge) a =
-      h.cells.does edge in_first_word (λ cell named.
-      first_cell (cell_at g.notes.base cell) (cell_low g l f h.frame h.cells cell (h.cells.named edge cell named))) a
-      about in
-      let fewer = again.few in
-      let past_stored = past.stored in
+      let past = h.cells.does edge (is_spill g.notes) (λ cell named.
+      spill_cell g.notes cell (h.cells.named edge cell named)) a about in
+      let again = h.cells.does edge in_first_word (λ cell named.
+      first_cell _ (cell_low g l f h.frame h.cells cell (h.cells.named edge cell named))) a about in
       let same : again.steps ≡ past.steps =
-      same_steps a again.steps past.steps (a.pc + 4 * length words)
-      (ap (λ (z : State). z.pc) again.path.steps ∙ again.pc) (ap (λ (z : State). z.pc) past.path.steps ∙ past.pc)
-      (λ j some less. (again.path.during j some less).before) (λ j some less. (past.path.during j some less).before)
-      (λ e. (let few1 = again.few in omega (arith, e, few1), let few2 = past.few in omega (arith, e, few2))) in
+      same_steps a again.steps past.steps (a.pc + 4 * length words) (rw again.path.steps again.pc)
+      (rw past.path.steps past.pc) (λ j some less. (again.path.during j some less).before)
+      (λ j some less. (past.path.during j some less).before)
+      (λ e. (omega (arith, e, again.few), omega (arith, e, past.few))) in
       let few = past.few in
       let pc = past.pc in
-      let npc = past.npc in
-      let to : a.pc + 4 * length words ≡ place k (n + length words) = omega (arith, at, end) in
       record {
         count = past.steps;
         other = past.after;
         memory = past.after.memory;
         few = omega (arith, few, short);
-        path = subst (λ (q : State). Leads IsBare a q past.steps)
-            (sym (stays past.after (place k (n + length words)) (pc ∙ to) (omega (arith, pc, npc)) past.slot
-            (omega (arith, low))))
+        path = rw (stays past.after (place k (n + length words)) (omega (arith, pc, at, end)) (omega (arith, pc, past.npc))
+            past.slot (omega (arith, low)))
             (leads_weaker _ IsBare a past.after past.steps
-            (λ u q. let b = q.past in let c = q.before in there.bare u (omega (arith, at, b)) (omega (arith, at, c)))
-            past.path);
+            (λ u q. there.bare u (omega (arith, at, q.past)) (omega (arith, at, q.before))) past.path);
         silent = past.silent;
-        stores = stores_weaker (MayStore g.notes.base (snippet_on g.snips edge)) (IsAmongWords f.own) a.memory
-            past.after.memory (may_own g l f h.frame h.cells edge) past.stores;
-        waits = word_kept (MayStore g.notes.base (snippet_on g.snips edge)) (page_word 1)
-            (may_beside g l f h.frame h.cells edge) a.memory past.after.memory past.stores
-            (page_there a fit 1 (omega arith));
-        found = λ _. word_kept (MayStore g.notes.base (snippet_on g.snips edge)) (page_word 7)
-            (may_below g l f h.frame h.cells edge) a.memory past.after.memory past.stores
-            (page_there a fit 7 (omega arith));
+        stores = stores_weaker _ _ _ _ (may_own g l f h.frame h.cells edge) past.stores;
+        waits = word_kept _ _ (may_beside g l f h.frame h.cells edge) _ _ past.stores (page_there a fit 1 (omega arith));
+        found = λ _. word_kept _ _ (may_below g l f h.frame h.cells edge) _ _ past.stores (page_there a fit 7 (omega arith));
         cells = λ _. past.cells g.notes.cells (h.cells.named edge) h.cells.low;
         begins = λ some. there.bare a (omega (arith, at)) (omega (arith, at, some, few));
         alike = record {
@@ -474,9 +417,8 @@ module _ (g : Setting) (l : Pieces) (base : ℕ) (p : Placement) (place : ℕ �
           items = λ item kept. past.items item kept.0;
         };
         still = λ d. ap (λ (z : State). hopped z (place k (n + length words)) past.after.memory) (past.all d.0);
-        spares = λ _. omega (arith, past_stored);
-        leaves_first = λ _ _.
-            ap (count_stores in_first_word a) (sym same) ∙ again.elsewhere (λ word _. first_kept_word word);
+        spares = λ _. omega (arith, past.stored);
+        leaves_first = λ _ _. rw (← same) (again.elsewhere (λ word _. first_kept_word word));
         brief = λ _ _. omega (arith, few, short);
       }
 
@@ -484,30 +426,22 @@ module _ (g : Setting) (l : Pieces) (base : ℕ) (p : Placement) (place : ℕ �
       → (a : State) → IsFit a → a.pc ≡ place k n
       → Arrives next edges a (place k (n + length (flat_map l.codes edges))) 0
   snippets_run next [] k n xs r a fit at =
-      let e : n + 0 ≡ n = omega arith in
-      let low = stood_low k n [] xs r in
-      let same = ap (place k) e in
-      bare_here [] a (place k (n + 0)) 0 refl fit (at ∙ sym same) (omega (arith, at, same, low))
+      rw add-zero
+      (bare_here [] a (place k n) 0 refl fit at (omega (arith, at, rw add-zero at (stood_low k n [] xs r))))
   snippets_run next (edge ∷ edges) k n xs r a fit at =
       let first = l.codes edge in
-      let both : flat_map l.codes (edge ∷ edges) ≡ first ++ flat_map l.codes edges = flat_map-cons l.codes edge edges in
-      let shape : words_on l (edge ∷ edges) ++ xs ≡ map it.Word first ++ (words_on l edges ++ xs) =
-      ap (λ z. map it.Word z ++ xs) both ∙ ap (λ z. z ++ xs) (map-append it.Word first (flat_map l.codes edges))
-      ∙ append_assoc (map it.Word first) (words_on l edges) xs in
-      let r2 : Rest l k n (map it.Word first ++ (words_on l edges ++ xs)) = subst (Rest l k n) shape r in
-      let size = length_words first in
-      let r3 : Rest l k (n + length first) (words_on l edges ++ xs) =
-      subst (λ z. Rest l k (n + z) (words_on l edges ++ xs)) size
-      (rest_behind l k n (map it.Word first) (words_on l edges ++ xs) r2) in
-      let one = snippet_runs next edge k n (words_on l edges ++ xs) r2 a fit at in
-      let low = stood_low k n first (words_on l edges ++ xs) r2 in
+      let rest = words_on l edges ++ xs in
+      let r2 : Rest l k n (map it.Word first ++ rest) =
+      rw (map-append it.Word first (flat_map l.codes edges), append_assoc) at r in
+      let one = snippet_runs next edge k n rest r2 a fit at in
       let mid = place k (n + length first) in
-      let fit2 : IsFit (hopped one.other mid one.memory) = arrived (edge ∷ []) a mid 0 fit low one in
-      let other = snippets_run next edges k (n + length first) xs r3 (hopped one.other mid one.memory) fit2 refl in
+      let fit2 = arrived (edge ∷ []) a mid 0 fit (stood_low k n first rest r2) one in
+      let other = snippets_run next edges k (n + length first) xs
+      (rw (length_words first) at (rest_behind l k n (map it.Word first) rest r2)) (hopped one.other mid one.memory) fit2
+      refl in
       let sum : n + length first + length (flat_map l.codes edges) ≡ n + length (flat_map l.codes (edge ∷ edges)) =
-      (let q = ap length both ∙ length-append first (flat_map l.codes edges) in omega (arith, q)) in
-      subst (λ z. Arrives next (edge ∷ edges) a z 0) (ap (place k) sum)
-      (on_then (edge ∷ edges) (edge ∷ []) edges refl a mid _ 0 0 one other)
+      omega (arith, length-append first (flat_map l.codes edges)) in
+      rw (← sum) (on_then (edge ∷ edges) (edge ∷ []) edges refl a mid _ 0 0 one other)
 
   -- and then whatever comes behind them
   pub snippets_then : (next : Option ℕ) (edges : List ℕ) (k n : ℕ) (xs : List Item)
@@ -519,15 +453,10 @@ module _ (g : Setting) (l : Pieces) (base : ℕ) (p : Placement) (place : ℕ �
   snippets_then next edges k n xs r a fit at others to more behind =
       let one = snippets_run next edges k n xs r a fit at in
       let mid = place k (n + length (flat_map l.codes edges)) in
-      let low = stood_low k n (flat_map l.codes edges) xs r in
-      let r2 : Rest l k (n + length (flat_map l.codes edges)) xs =
-      subst (λ z. Rest l k (n + z) xs) (length_words (flat_map l.codes edges))
-      (rest_behind l k n (words_on l edges) xs r) in
-      let fit2 : IsFit (hopped one.other mid one.memory) = arrived edges a mid 0 fit low one in
-      let none : 0 + more ≡ more = omega arith in
-      subst (λ z. Arrives next (edges ++ others) a to z) none
-      (on_then (edges ++ others) edges others refl a mid to 0 more one
-      (behind (hopped one.other mid one.memory) fit2 refl r2))
+      let fit2 = arrived edges a mid 0 fit (stood_low k n (flat_map l.codes edges) xs r) one in
+      rw zero-add at (on_then (edges ++ others) edges others refl a mid to 0 more one
+      (behind (hopped one.other mid one.memory) fit2 refl
+      (rw (length_words (flat_map l.codes edges)) at (rest_behind l k n (words_on l edges) xs r))))
 
   -- ---- long jumps
 
@@ -535,18 +464,13 @@ module _ (g : Setting) (l : Pieces) (base : ℕ) (p : Placement) (place : ℕ �
   pub far_on : (next : Option ℕ) → next ≡ None → (k n to : ℕ) → IsFar to → Rest l k n (far_piece to) → (a : State)
       → IsFit a → a.pc ≡ place k n → Arrives next [] a to 4
   far_on next out k n to far r a fit at =
-      let there = stood a.memory fit.has.code k n (words_of (long_jump to)) []
-      (subst (Rest l k n) (sym (append-nil (far_piece to))) r) in
-      let end = there.end in
-      let low = stood_low k n (words_of (long_jump to)) [] (subst (Rest l k n) (sym (append-nil (far_piece to))) r) in
-      let stand : StandIn (code_of a.memory) (place k n) (long_jump to) =
-      words_after l.list base p place h.laid a.memory fit.has.code k n (long_jump to) (long_jump_fits to far.0)
-      (λ i x e. r.items i ∙ e) in
-      let hops = long_jumps_hop to a fit.valid fit.runs.ready (omega (arith, at, end, low)) fit.runs.page
-      (subst (λ q. StandIn (code_of a.memory) q (long_jump to)) (sym at) stand) far.0 far.1 in
+      let there = stood a.memory fit.has.code k n (words_of (long_jump to)) [] r in
+      let low = stood_low k n (words_of (long_jump to)) [] r in
+      let hops = long_jumps_hop to a fit.valid fit.runs.ready (omega (arith, at, there.end, low)) fit.runs.page
+      (rw at (words_after l.list base p place h.laid a.memory fit.has.code k n (long_jump to) (long_jump_fits to far.0)
+      (λ i x e. r.items i ∙ e))) far.0 far.1 in
       hops_on [] refl a to 4 4 (store_word a.memory (page_word 0) (register_of a 1)) fit hops.stores (omega arith)
-      (leads_weaker _ _ a _ 4 (λ u q. let b = q.past in let c = q.before in there.bare u (omega (arith, at, b))
-      (omega (arith, at, c))) hops.path)
+      (leads_weaker _ _ a _ 4 (λ u q. there.bare u (omega (arith, at, q.past)) (omega (arith, at, q.before))) hops.path)
       hops.silent (λ q. there.bare a (omega (arith, at)) (omega (arith, at))) (λ there. absurd (there out))
 
   -- ---- from the beginning of a piece
@@ -556,9 +480,7 @@ module _ (g : Setting) (l : Pieces) (base : ℕ) (p : Placement) (place : ℕ �
 
   last_jump : (next : Option ℕ) (k n : ℕ) (z : PieceNo) → Rest l k n (it.Jump z ∷ []) → (a : State) → IsFit a
       → a.pc ≡ place k n → Arrives next [] a (slice_index p.at z.0) 4
-  last_jump next k n z r a fit at =
-      let e : n ≡ n + 0 = omega arith in
-      jump_on next k n z (ap (item_at l.list k) e ∙ r.items 0) (ap (open_in (slice_get l.list k)) e ∙ r.shut 0) a fit at
+  last_jump next k n z r a fit at = jump_on next k n z (rw add-zero at (r.items 0)) (rw add-zero at (r.shut 0)) a fit at
 
   -- nothing comes after the edges' snippets
   pub for_all : {next : Option ℕ} (edges : List ℕ) (a : State) (to most : ℕ) → Arrives next (edges ++ []) a to most
@@ -568,20 +490,16 @@ module _ (g : Setting) (l : Pieces) (base : ℕ) (p : Placement) (place : ℕ �
   pub arrive : (z : PieceNo) (edges : List ℕ) (a : State) (next : Option ℕ) (to : ℕ) → IsFit a
       → a.pc ≡ slice_index p.at z.0 → LeadsTo l p z edges next to → Arrives next edges a to 4
   arrive z edges a next to fit at (inl (none, e)) =
-      let low = (h.laid.aligned z.0).1 in
-      subst (λ q. Arrives next q a to 4) (sym none) (bare_here [] a to 4 refl fit (at ∙ e) (omega (arith, at, low)))
+      rw none (bare_here [] a to 4 refl fit (at ∙ e) (omega (arith, at, (h.laid.aligned z.0).1)))
   arrive z edges a next to fit at (inr (inl (y, is, e))) =
       let r = rest_whole l z.0 (words_on l edges ++ it.Jump y ∷ []) (jump_unmarked edges y) is in
       for_all edges a to 4 (snippets_then next edges z.0 0 (it.Jump y ∷ []) r a fit
-      (at ∙ h.laid.starts z.0 r.within) [] to 4
-      (λ b fit2 there r2. subst (λ q. Arrives next [] b q 4) e
-      (last_jump next z.0 (0 + length (flat_map l.codes edges)) y r2 b fit2 there)))
+      (at ∙ h.laid.starts z.0 r.within) [] to 4 (λ b fit2 there r2. rw (← e) (last_jump next z.0 _ y r2 b fit2 there)))
   arrive z edges a next to fit at (inr (inr (out, far, is))) =
       let r = rest_whole l z.0 (words_on l edges ++ far_piece to)
       (words_unmarked (flat_map l.codes edges) (far_piece to) (far_unmarked to)) is in
       for_all edges a to 4 (snippets_then next edges z.0 0 (far_piece to) r a fit
-      (at ∙ h.laid.starts z.0 r.within) [] to 4
-      (λ b fit2 there r2. far_on next out z.0 (0 + length (flat_map l.codes edges)) to far r2 b fit2 there))
+      (at ∙ h.laid.starts z.0 r.within) [] to 4 (λ b fit2 there r2. far_on next out z.0 _ to far r2 b fit2 there))
 
   -- a Jump to a piece that leads on
   pub jump_then : (k n : ℕ) (z : PieceNo) → Rest l k n (it.Jump z ∷ []) → (edges : List ℕ) (a : State)
@@ -645,35 +563,25 @@ module _ (g : Setting) (l : Pieces) (base : ℕ) (p : Placement) (place : ℕ �
       some_rest xs e = let q : Some rest ≡ Some xs = sym (ap (option_map (drop 3)) is) ∙ e in cc
 
       with_rest : (xs : List Item) → AreUnmarked xs → rest_from l k 3 ≡ Some xs → Rest l k 3 xs
-      with_rest xs are e =
-          rest_marked l k address number y xs are
-          (is ∙ ap (λ z. Some (it.Mark address number ∷ y ∷ it.EndMark ∷ z)) (some_rest xs e))
+      with_rest xs are e = rest_marked l k address number y xs are (is ∙ rw (some_rest xs e))
 
       by : LeadsOn l p place k 3 edges next to → Tail next edges a to 8
       by (inl (e, stands)) =
-          let shape : words_on l edges ≡ words_on l edges ++ [] = sym (append-nil (words_on l edges)) in
           let r = with_rest (words_on l edges ++ []) (words_unmarked (flat_map l.codes edges) [] tt)
-          (e ∙ ap (λ z. Some z) shape) in
+          (rw (append-nil (words_on l edges)) e) in
           let one = snippets_run next edges k 3 [] r a fit at in
-          subst (λ q. Tail next edges a q 8) stands (weaker_tail edges a _ 0 8 (omega arith) (
-            one,
-            λ there none.
-                let few = one.few in
-                let nothing = ap (operations_on g.snips) none in
-                omega (arith, few, nothing),
-          ))
+          rw (← stands) (weaker_tail edges a _ 0 8 (omega arith)
+          (one, λ there none. omega (arith, one.few, ap (operations_on g.snips) none)))
       by (inr (inl j)) =
           let r = with_rest (words_on l j.first ++ it.Jump j.piece ∷ []) (jump_unmarked j.first j.piece) j.rest in (
-            subst (λ q. Arrives next q a to 8) (sym j.all)
-                (snippets_then next j.first k 3 (it.Jump j.piece ∷ []) r a fit at j.others to 8 (λ b fit2 there r2.
-                jump_then k (3 + length (flat_map l.codes j.first)) j.piece r2 j.others b next to fit2 there j.leads)),
+            rw j.all (snippets_then next j.first k 3 (it.Jump j.piece ∷ []) r a fit at j.others to 8 (λ b fit2 there r2.
+                jump_then k _ j.piece r2 j.others b next to fit2 there j.leads)),
             λ there none. absurd (j.some none),
           )
       by (inr (inr (out, far, e))) =
           let r = with_rest (words_on l edges ++ far_piece to)
           (words_unmarked (flat_map l.codes edges) (far_piece to) (far_unmarked to)) e in (
             for_all edges a to 8 (snippets_then next edges k 3 (far_piece to) r a fit at [] to 8 (λ b fit2 there r2.
-                weaker_arrives [] b to 4 8 (omega arith)
-                (far_on next out k (3 + length (flat_map l.codes edges)) to far r2 b fit2 there))),
+                weaker_arrives [] b to 4 8 (omega arith) (far_on next out k _ to far r2 b fit2 there))),
             λ there none. absurd (there out),
           )

@@ -1,9 +1,8 @@
 -- Small things, and what the notes say of states between two visits.
-use Rattle.std.proofs.Common.{◌≡◌, ℕ, zero, suc, ◌+◌, ◌-◌, ◌*◌, ◌<◌, ◌≤◌, Bool, true, false, Option, Some, None, List, [], ◌∷◌, length, refl, ap, sym, ◌∙◌, subst, arith}
-use Rattle.std.specs.Prelude.{if◌then◌else◌, slice_get, slice_index, ◌==◌}
+use Rattle.std.proofs.Common.{◌≡◌, ℕ, zero, suc, ◌+◌, ◌-◌, ◌*◌, ◌<◌, ◌≤◌, Bool, true, Option, Some, None, List, [], ◌∷◌, length, refl, ap, sym, ◌∙◌, subst, arith}
+use Rattle.std.specs.Prelude.{if◌then◌else◌, slice_index}
 use Rattle.std.specs.Option.{option_map, option_or}
-use Rattle.std.proofs.lemmas.Bool.Decides.{nat_tests}
-use Rattle.std.proofs.lemmas.Option.{slice_get_within}
+use Rattle.std.proofs.lemmas.Bool.{eq-eqb, ne_eqb}
 use Rattle.notes.specs.Format.{NoteRange, range_at, node_at}
 use Rattle.v8_memory.specs.Regions.{Memory, Region}
 use Rattle.v8_memory.specs.Spans.{Span, IsSameOutside, IsSameRegion}
@@ -24,8 +23,9 @@ use Rattle.code_runs.proofs.Stays.{stores_there}
 use Rattle.code_runs.specs.LongJump.{IsFirstWord}
 use Rattle.code_runs.specs.Page.{page_word}
 use Rattle.layout.specs.declared.items.Item.{Item}
-use Rattle.layout.specs.Laid.{Placement, item_at, item_in, items_in, size_of, open_from, range_in}
+use Rattle.layout.specs.Laid.{Placement, open_from, range_in}
 use Rattle.layout.specs.Running.{CanRun}
+pub use Rattle.layout.proofs.Going.{item_size, piece_size as item_below}
 use Rattle.image_code.specs.Simulates.{Setting, cells_in, IsOnWay, IsThere, gone_at, graph_in, number_in}
 use Rattle.image_code.specs.Images.{Pieces, Frame, HasImages, IsPlaced}
 use Rattle.image_code.specs.Cases.{visits_it}
@@ -65,21 +65,6 @@ pub open_rest : (rest : List Item) → open_from rest 3 0 None ≡ None
 open_rest [] = refl
 open_rest (x ∷ xs) = refl
 
-pub item_size : (pieces : List (List Item)) (k n : ℕ) (x : Item) → item_at pieces k n ≡ Some x
-    → suc n ≤ size_of pieces k
-item_size pieces k n x e = go (slice_get pieces k) e
-  where
-    go : (o : Option (List Item)) → item_in o n ≡ Some x → suc n ≤ items_in o
-    go None e = absurd (cc)
-    go (Some items) e = let f = slice_get_within items n x e in omega arith
-
-pub item_below : (pieces : List (List Item)) (k n : ℕ) (x : Item) → item_at pieces k n ≡ Some x → k < length pieces
-item_below pieces k n x e = go (slice_get pieces k) refl e
-  where
-    go : (o : Option (List Item)) → slice_get pieces k ≡ o → item_in o n ≡ Some x → k < length pieces
-    go None f e = absurd (cc)
-    go (Some items) f e = slice_get_within pieces k items f
-
 module _ (g : Setting) (l : Pieces) (base : ℕ) (p : Placement) (place : ℕ → ℕ → ℕ) (f : Frame)
     (h : IsPlaced g l base p place f) where
   -- ---- what the notes say
@@ -111,12 +96,9 @@ module _ (g : Setting) (l : Pieces) (base : ℕ) (p : Placement) (place : ℕ �
       record {
         live = live;
         visit = visit_is u (Some r) live (omega (arith, low, past)) high is
-            ∙ ap (λ (b : Bool). if b then Some r.address else None) (not_first r.lo u.pc (omega (arith, lo, past)));
+            ∙ ap (λ (b : Bool). if b then Some r.address else None) (ne_eqb r.lo u.pc (λ e. absurd (omega arith)));
         place = λ q e. (at ∙ sym there ∙ e, cells);
       }
-    where
-      not_first : (a b : ℕ) → a < b → (a == b) ≡ false
-      not_first a b l = grind (arith, nat_tests)
 
   -- at an address of the visit's place
   pub there_in : (t u : State) (r : NoteRange) → base ≤ t.pc → t.pc < base + 4 * length p.code → base ≤ u.pc
@@ -133,13 +115,10 @@ module _ (g : Setting) (l : Pieces) (base : ℕ) (p : Placement) (place : ℕ �
       → range_in p.ranges t.pc ≡ Some r → r.lo ≡ t.pc → r.node ≡ number_in g node → r.address ≡ x.pc
       → visits_it g node x t
   at_range node x t r live low high is lo same address = (
-    visit_is t (Some r) live low high is ∙ ap (λ (b : Bool). if b then Some r.address else None) (first r.lo t.pc lo)
+    visit_is t (Some r) live low high is ∙ ap (λ (b : Bool). if b then Some r.address else None) (eq-eqb r.lo t.pc lo)
         ∙ ap (λ z. Some z) address,
     node_is t.pc (Some r) low high is ∙ ap (λ z. Some z) same,
   )
-    where
-      first : (a b : ℕ) → a ≡ b → (a == b) ≡ true
-      first a b e = grind (arith, nat_tests)
 
   pub quiet_of : (t after : State) (count : ℕ) (P : State → Type 0) → Leads P t after count
       → after.ending ≡ None

@@ -1,7 +1,7 @@
 -- The images of branches: each way leads into a slot, to a word's image, or out of the text.
-use Rattle.std.proofs.Common.{◌≡◌, ℕ, ◌+◌, ◌%◌, ◌^◌, ◌<◌, inl, inr, Bool, true, false, not, Option, Some, None, List, [], ◌∷◌, ◌++◌, length, refl, ap, sym, ◌∙◌, subst, arith}
+use Rattle.std.proofs.Common.{◌≡◌, ℕ, ◌+◌, ◌%◌, ◌^◌, ◌<◌, inl, inr, Bool, true, false, not, Option, Some, None, List, [], ◌∷◌, ◌++◌, length, refl, ap, sym, ◌∙◌, arith}
 use Rattle.std.specs.Prelude.{if◌then◌else◌, ◌&&◌, ◌||◌, slice_get, slice_index, ◌==◌, ℤ}
-use Rattle.eel_base.specs.CodeText.{Words, address_of, word_at, numbered, target_of}
+use Rattle.eel_base.specs.CodeText.{Words, address_of, word_at}
 use Rattle.eel_base.specs.declared.numbers.Addr.{Addr}
 use Rattle.v8_decode.specs.declared.Instr.{Instr}
 use Rattle.v8_decode.specs.declared.Instr.TheVariants as i
@@ -12,7 +12,6 @@ use Rattle.v8_step.specs.declared.Slot.TheVariants.{NoSlot, Taken, Untaken}
 use Rattle.v8_step.specs.State.{State}
 use Rattle.v8_step.specs.Transfers.{branched, branch_step, target_of as target_from}
 use Rattle.v8_step.specs.Step.{act}
-use Rattle.cfg_blocks.specs.declared.BlockEnd.{BlockEnd}
 use Rattle.cfg_blocks.specs.declared.BlockEnd.TheVariants as ends
 use Rattle.cfg_blocks.specs.declared.EdgeKind.{EdgeKind}
 use Rattle.cfg_blocks.specs.declared.EdgeKind.TheVariants as kinds
@@ -20,13 +19,12 @@ use Rattle.cfg_blocks.specs.Ends.{Way, always, branch_target, never, end_at, is_
 use Rattle.cfg_blocks.specs.Blocks.{Blocks, blocks_of, end_of, holding_of, last_word}
 use Rattle.cfg_blocks.specs.Entries.{is_fall}
 use Rattle.cfg_blocks.specs.Switches.{is_jump}
-use Rattle.std.proofs.lemmas.Bool.{cond_both}
+use Rattle.std.proofs.lemmas.Bool.{cases_Bool, cond_both}
 use Rattle.cfg_blocks.proofs.Targets.{word_at-some}
 use Rattle.cfg_normal.specs.declared.Edge.{Edge}
 use Rattle.cfg_normal.specs.declared.Node.{Node}
 use Rattle.cfg_normal.specs.Nodes.{home_of}
 use Rattle.cfg_normal.specs.Opens.{Open, jumps_in}
-use Rattle.cfg_normal.specs.declared.Slot.TheVariants as carried
 use Rattle.cfg_normal.specs.Graph.{IsNodeIn, directed, edge_of, graph_of, has_cases, is_compared, node_of, runs_slot}
 use Rattle.cfg_walk.specs.Walk.{Point, edge_from, node_after, point_of, same_kind}
 use Rattle.cfg_walk.specs.Matches.{last_in, target_along}
@@ -49,7 +47,7 @@ use Rattle.image_code.specs.Cases.{LeadsTo, branch_piece, next_entry, plain_piec
 use Rattle.image_code.specs.Imaged.{IsCase, turn, idle}
 use Rattle.image_code.specs.Turns.{IsNoJumpsSlot}
 use Rattle.image_code.specs.Numbered.{enter_number, image_number}
-use Rattle.image_code.specs.Made.{first_way, first_word, goes_on, jump_to, nop_word, way_out}
+use Rattle.image_code.specs.Made.{first_word, goes_on, jump_to, nop_word, way_out}
 use Rattle.image_code.proofs.CaseTables.{IsKnown}
 use Rattle.image_code.proofs.EdgePieces.{along_far, cut_in}
 use Rattle.image_code.proofs.ImageNumbers.{HasImage}
@@ -63,11 +61,8 @@ use Rattle.image_code.proofs.Visited.{entered_none, entered_word, has_its_image,
 slot_next : (flag all annul : Bool) (s : State) (to : ℕ) → s.slot ≡ NoSlot
     → (branched flag all annul s to).slot ≡ Taken → (branched flag all annul s to).pc ≡ s.npc
 slot_next true true true s to none e = let q : NoSlot ≡ Taken = sym none ∙ e in absurd (cc)
-slot_next true true false s to none e = refl
-slot_next true false true s to none e = refl
-slot_next true false false s to none e = refl
 slot_next false all true s to none e = let q : NoSlot ≡ Taken = sym none ∙ e in absurd (cc)
-slot_next false all false s to none e = refl
+slot_next flag all annul s to none e = refl
 
 -- a node's block begins with the word to which an edge leads
 goes_there : (text : Words) (b : Blocks) (opens : List Open) (from : Node) (kind : EdgeKind) (k to address : ℕ)
@@ -79,15 +74,11 @@ goes_there text b opens from kind k to address e =
     cond_both (jumps_in opens k && not (is_compared opens from kind k)) (copy k) (block k)
     (λ (n : Node). goes_on text (graph_of b opens) n (first_word (graph_of b opens) n) address
     ≡ jump_to (enter_number text (graph_of b opens) n to))
-    (λ _. ap (λ (w : ℕ). jump_to (enter_number text (graph_of b opens) (copy k) w)) e)
-    (λ _. ap (λ (w : ℕ). jump_to (enter_number text (graph_of b opens) (block k) w)) e)
+    (λ _. rw e) (λ _. rw e)
 
 pub last_home : (b : Blocks) (opens : List Open) (node : Node) (k : ℕ) → home_of node ≡ block k
     → last_in (graph_of b opens) node ≡ last_word b.firsts b.words k
-last_home b opens node k h = elim (node_at node k h) [
-  | inl here ↦ ap (last_in (graph_of b opens)) here
-  | inr there ↦ ap (last_in (graph_of b opens)) there
-]
+last_home b opens node k h = elim (node_at node k h) [ inl here ↦ rw here | inr there ↦ rw there ]
 
 module _ (g : Setting) (codes : ℕ → List ℕ) (is : IsKnown g) (p : Placement) (f : Frame) (whole : IsTable f.table)
     (node : Node) (x : Point) (word : ℕ) (at : word_at g.text x.pc ≡ Some word) (none : x.slot ≡ NoSlot)
@@ -163,32 +154,27 @@ module _ (g : Setting) (codes : ℕ → List ℕ) (is : IsKnown g) (p : Placemen
     bare_items =
         let ended : end_of b k ≡ end_at g.text word =
         cut.ends k (is_in g.text b g.switches cut word low).within ∙ ap (end_at g.text) (sym last) in
-        let number : way_out g.text (graph_in g) node w.kind ≡ length g.text.words + found.number =
-        ap (first_way g.text (graph_in g)) found.only in
         let last_there : last_in (graph_in g) node ≡ word = last_home b g.switches node k home ∙ sym last in
-        ap (slice_get (l g codes is p f).list) number
-        ∙ way_at g.text b g.switches is.cased f.table.base f.cases.base codes found.number edge
-        (own_at b g.switches found.number edge found.is land)
-        ∙ rw (fall, no_case, ended, bare, last_there, says)
+        rw found.only (way_at g.text b g.switches is.cased f.table.base f.cases.base codes found.number edge
+        (own_at b g.switches found.number edge found.is land) ∙ rw (fall, no_case, ended, bare, last_there, says))
 
     bare_in : LeadsIfThere b w.to → (to : ℕ) → w.to ≡ Some to
         → slice_get (l g codes is p f).list (way_out g.text (graph_in g) node w.kind)
         ≡ Some (its_code ++ jump_to (enter_number g.text (graph_in g) edge.to to))
     bare_in leads to e =
         let target = leads to e in
-        let same : edge.to ≡ directed g.switches node w.kind (block (holding_of b to)) =
-        ap (λ (o : Option ℕ). directed g.switches node w.kind (node_of b o)) e
-        ∙ ap (directed g.switches node w.kind) (node_is b to target.0) in
-        bare_items
-        ∙ rw same (ap (λ (r : List Item). Some (its_code ++ r)) (goes_there g.text b g.switches node w.kind (holding_of b to) to goal_address
-        (first_held b.words b.firsts cut.firsts to target.1)))
+        let same : edge.to ≡ directed g.switches node w.kind (block (holding_of b to)) = rw (e, node_is b to target.0) in
+        bare_items ∙ rw (
+          same,
+          goes_there g.text b g.switches node w.kind (holding_of b to) to goal_address
+              (first_held b.words b.firsts cut.firsts to target.1),
+        )
 
     bare_out : w.to ≡ None
         → slice_get (l g codes is p f).list (way_out g.text (graph_in g) node w.kind)
         ≡ Some (its_code ++ far_piece goal_address)
     bare_out e =
-        bare_items
-        ∙ ap (λ (o : Option ℕ). Some (way_items (directed g.switches node w.kind (node_of b o)))) e
+        bare_items ∙ ap (λ (o : Option ℕ). Some (way_items (directed g.switches node w.kind (node_of b o)))) e
 
     -- past a slot that is annulled
     past : (if cond == always then kinds.Taken else kinds.Untaken) ≡ w.kind → (v : State) → v.ending ≡ None
@@ -200,39 +186,25 @@ module _ (g : Setting) (codes : ℕ → List ℕ) (is : IsKnown g) (p : Placemen
         after = node_after (graph_in g) node (gone_at g node x v)
 
         goes_along : gone_at g node x v ≡ edge_from (graph_in g) node w.kind
-        goes_along =
-            left_gone g node x v none slot live word at branch says
-            ∙ ap (edge_from (graph_in g) node) kind_is
+        goes_along = left_gone g node x v none slot live word at branch says ∙ rw kind_is
 
         completes : gone_at g node x v ≡ found.number ∷ []
         completes = goes_along ∙ found.only
 
         after_is : after ≡ edge.to
-        after_is =
-            ap (node_after (graph_in g) node) goes_along
-            ∙ leads_along (graph_in g) node (edge_from (graph_in g) node w.kind) edge found
-
-        with_code : (rest : List Item)
-            → slice_get (l g codes is p f).list (way_out g.text (graph_in g) node w.kind) ≡ Some (its_code ++ rest)
-            → slice_get (l g codes is p f).list (way_out g.text (graph_in g) node w.kind)
-            ≡ Some (words_on (l g codes is p f) (gone_at g node x v) ++ rest)
-        with_code rest e =
-            e ∙ ap (λ (edges : List ℕ). Some (words_on (l g codes is p f) edges ++ rest)) (sym completes)
+        after_is = rw goes_along (leads_along (graph_in g) node (edge_from (graph_in g) node w.kind) edge found)
 
         by : (o : Option ℕ) → word_at g.text v.pc ≡ o
             → LeadsTo (l g codes is p f) p (record { 0 = way_out g.text (graph_in g) node w.kind })
             (gone_at g node x v) (word_at g.text v.pc) (entered_at g (l g codes is p f) p f after (point_of v))
         by None e =
-            subst (LeadsTo (l g codes is p f) p (record { 0 = way_out g.text (graph_in g) node w.kind })
-            (gone_at g node x v) (word_at g.text v.pc))
-            (sym (entered_none g codes is p f after (point_of v) e slot ∙ pc))
-            (inr (inr (e, along_far g.text word w.kind branch is.text inside, with_code _ (bare_out (sym to ∙ e)))))
+            rw (entered_none g codes is p f after (point_of v) e slot ∙ pc)
+            (inr (inr (e, along_far g.text word w.kind branch is.text inside, bare_out (sym to ∙ e) ∙ rw completes)))
         by (Some other) e =
             inr (inl (
               record { 0 = enter_number g.text (graph_in g) edge.to other },
-              with_code _ (bare_in leads other (sym to ∙ e)),
-              sym (entered_word g codes is p f after (point_of v) other e slot
-                  ∙ ap (λ (n : Node). slice_index p.at (enter_number g.text (graph_in g) n other)) after_is),
+              bare_in leads other (sym to ∙ e) ∙ rw completes,
+              rw (entered_word g codes is p f after (point_of v) other e slot, after_is),
             ))
 
   -- ---- each way that the branch goes
@@ -262,53 +234,37 @@ module _ (g : Setting) (codes : ℕ → List ℕ) (is : IsKnown g) (p : Placemen
     past_taken holds ann all v live slot pc =
         let target = branch_target g.text word cond disp in
         let some : (cond == never) ≡ false = not_never cond t.codes holds in
-        let one = subst (λ (e : BlockEnd). IsOne (way kinds.Taken
-        (number_of (branch_target g.text word cond disp))) (ways_of b.words word e)) (sym end)
-        (taken_is_one b.words word cond annul target some) in
-        let bare : runs_slot (end_at g.text word) kinds.Taken ≡ false =
-        ap (λ (e : BlockEnd). runs_slot e kinds.Taken) end
-        ∙ ap (λ (a : Bool). not a || (true && not (cond == always))) ann ∙ ap not all in
-        let there = jumps_to here (point_of v) transfer target disp v.pc (ap target_in end)
-        (ap (λ (n : Bool). if n then None else numbered (target_of g.text word disp)) some) pc in
-        past (way kinds.Taken (number_of (branch_target g.text word cond disp))) one bare refl refl refl
-        (ap (λ (z : Bool). if z then kinds.Taken else kinds.Untaken) all) v live slot
-        there.0 there.1 (jumps_along here (point_of v) transfer disp v.pc pc)
+        let one : IsOne (way kinds.Taken (number_of target)) (ways_of b.words word (end_at g.text word)) =
+        rw end (taken_is_one b.words word cond annul target some) in
+        let there = jumps_to here (point_of v) transfer target disp v.pc (ap target_in end) (rw some) pc in
+        past (way kinds.Taken (number_of target)) one (rw (end, ann, all)) refl refl refl (rw all) v live slot there.0 there.1
+        (jumps_along here (point_of v) transfer disp v.pc pc)
 
     past_untaken : holds_of cond t.codes ≡ false → annul ≡ true → (v : State) → v.ending ≡ None → v.slot ≡ NoSlot
         → v.pc ≡ wrapped (x.pc + 8) → Goes kinds.Untaken v
     past_untaken holds ann v live slot pc =
-        let one = subst (λ (e : BlockEnd). IsOne (way kinds.Untaken (within b.words (word + 2)))
-        (ways_of b.words word e)) (sym end)
-        (untaken_is_one b.words word cond annul (branch_target g.text word cond disp)
-        (not_always cond t.codes holds)) in
-        let bare : runs_slot (end_at g.text word) kinds.Untaken ≡ false =
-        ap (λ (e : BlockEnd). runs_slot e kinds.Untaken) end ∙ ap (λ (a : Bool). not a || false) ann in
+        let other = not_always cond t.codes holds in
+        let one : IsOne (way kinds.Untaken (within b.words (word + 2))) (ways_of b.words word (end_at g.text word)) =
+        rw end (untaken_is_one b.words word cond annul (branch_target g.text word cond disp) other) in
         let there = passes here (record { pc = x.pc; npc = (x.npc + 4) % 2 ^ 32; slot = NoSlot }) transfer refl in
         let far : v.pc ≡ (x.npc + 4) % 2 ^ 32 = omega arith in
-        past (way kinds.Untaken (within b.words (word + 2))) one bare refl refl refl
-        (ap (λ (z : Bool). if z then kinds.Taken else kinds.Untaken) (not_always cond t.codes holds)) v live slot
-        (ap (word_at g.text) far ∙ there.0) there.1
-        (pc ∙ ap (λ (a : ℕ). (a + 8) % 2 ^ 32) (word_at-some g.text x.pc word at).is
-        ∙ second_address g.text word is.text inside)
+        past (way kinds.Untaken (within b.words (word + 2))) one (rw (end, ann)) refl refl refl (rw other) v live slot
+        (rw far there.0) there.1
+        (pc ∙ rw (word_at-some g.text x.pc word at).is (second_address g.text word is.text inside))
+
+    abbrev after : Bool → Bool → Bool → State
+    after flag all ann = branched flag all ann (at_point x t) to
 
     goes : (flag all ann : Bool) → holds_of cond t.codes ≡ flag → (cond == always) ≡ all → annul ≡ ann
         → t.ending ≡ None
         → Goes (if flag then kinds.Taken else kinds.Untaken) (branched flag all ann (at_point x t) to)
-    goes true true true holds all annulled live =
-        past_taken holds annulled all (branched true true true (at_point x t) to) live none refl
-    goes true true false holds all kept live =
-        into_taken holds (ap (λ (a : Bool). not a || not (cond == always)) kept)
-        (branched true true false (at_point x t) to) live refl refl refl
+    goes true true true holds all annulled live = past_taken holds annulled all (after true true true) live none refl
+    goes true true false holds all kept live = into_taken holds (rw kept) (after true true false) live refl refl refl
     goes true false true holds all annulled live =
-        into_taken holds (ap (λ (a : Bool). not a || not (cond == always)) annulled ∙ ap not all)
-        (branched true false true (at_point x t) to) live refl refl refl
-    goes true false false holds all kept live =
-        into_taken holds (ap (λ (a : Bool). not a || not (cond == always)) kept)
-        (branched true false false (at_point x t) to) live refl refl refl
-    goes false all true holds _ annulled live =
-        past_untaken holds annulled (branched false all true (at_point x t) to) live none refl
-    goes false all false holds _ kept live =
-        into_untaken holds kept (branched false all false (at_point x t) to) live refl refl refl
+        into_taken holds (rw (annulled, all)) (after true false true) live refl refl refl
+    goes true false false holds all kept live = into_taken holds (rw kept) (after true false false) live refl refl refl
+    goes false all true holds _ annulled live = past_untaken holds annulled (after false all true) live none refl
+    goes false all false holds _ kept live = into_untaken holds kept (after false all false) live refl refl refl
 
     -- ---- the step
 
@@ -318,17 +274,12 @@ module _ (g : Setting) (codes : ℕ → List ℕ) (is : IsKnown g) (p : Placemen
 
     leads : t.ending ≡ None → (flag : Bool) → holds_of cond t.codes ≡ flag
         → Goes (if flag then kinds.Taken else kinds.Untaken) (does_at g x t)
-    leads live flag holds =
-        subst (Goes (if flag then kinds.Taken else kinds.Untaken))
-        (sym (acts ∙ ap (λ (h : Bool). branched h (cond == always) annul (at_point x t) to) holds))
-        (goes flag (cond == always) annul holds refl refl live)
+    leads live flag holds = rw (acts, holds) (goes flag (cond == always) annul holds refl refl live)
 
     no_jumps_slot : IsNoJumpsSlot g (does_at g x t)
     no_jumps_slot =
-        no_jump g codes is p f whole node x word at none held there npc branch says (does_at g x t)
-        (λ slot. ap (λ (z : State). z.pc) acts
-        ∙ slot_next (holds_of cond t.codes) (cond == always) annul (at_point x t) to none
-        (sym (ap (λ (z : State). z.slot) acts) ∙ slot)) refl
+        no_jump g codes is p f whole node x word at none held there npc branch says (does_at g x t) (λ slot. rw acts
+        (slot_next (holds_of cond t.codes) (cond == always) annul (at_point x t) to none (rw acts at slot))) refl
 
     -- ---- its image
 
@@ -349,9 +300,7 @@ module _ (g : Setting) (codes : ℕ → List ℕ) (is : IsKnown g) (p : Placemen
 
     made : (always_is never_is : Bool) → (cond == always) ≡ always_is → (cond == never) ≡ never_is
         → slice_get (l g codes is p f).list number ≡ Some (image_if always_is never_is)
-    made always_is never_is a n =
-        image_items g codes is p f node x word at has branch says
-        ∙ ap (λ (z : Bool). Some (image_if z (cond == never))) a ∙ ap (λ (z : Bool). Some (image_if always_is z)) n
+    made always_is never_is a n = image_items g codes is p f node x word at has branch says ∙ rw (a, n)
 
     module _ (base : ℕ) (place : ℕ → ℕ → ℕ) where
       one_way : (kind : EdgeKind)
@@ -409,13 +358,11 @@ module _ (g : Setting) (codes : ℕ → List ℕ) (is : IsKnown g) (p : Placemen
         never = no_jumps_slot;
       })
 
-      by_cond : t.ending ≡ None → (a : Bool) → (cond == always) ≡ a → (n : Bool) → (cond == never) ≡ n
-          → IsCase g (l g codes is p f) base p place f node x t
-      by_cond live true a n m =
-          one_way kinds.Taken (made true n a m) (leads live true (always_holds cond t.codes a))
-      by_cond live false a true m =
-          one_way kinds.Untaken (made false true a m) (leads live false (never_holds cond t.codes m))
-      by_cond live false a false m = two_ways live (made false false a m)
-
       pub branch_case : t.ending ≡ None → IsCase g (l g codes is p f) base p place f node x t
-      branch_case live = by_cond live (cond == always) refl (cond == never) refl
+      branch_case live = elim (cases_Bool (cond == always)) [
+        | inl a ↦ one_way kinds.Taken (made true _ a refl) (leads live true (always_holds cond t.codes a))
+        | inr a ↦ elim (cases_Bool (cond == never)) [
+          | inl n ↦ one_way kinds.Untaken (made false true a n) (leads live false (never_holds cond t.codes n))
+          | inr n ↦ two_ways live (made false false a n)
+        ]
+      ]

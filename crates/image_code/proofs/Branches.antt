@@ -1,7 +1,7 @@
 -- Branches, their ways, and the words of their images.
-use Rattle.std.proofs.Common.{◌≡◌, ◌≢◌, ℕ, ◌<◌, Bool, false, Option, Some, None, List, ◌∷◌, refl, sym}
-use Rattle.std.specs.Prelude.{nat_lt, pos, slice_index, ℤ}
-use Rattle.std.proofs.lemmas.Bool.{cond_both, ltb-true}
+use Rattle.std.proofs.Common.{◌≡◌, ◌≢◌, ℕ, ◌<◌, Bool, false, Option, Some, None, List, ◌∷◌, refl, sym, arith}
+use Rattle.std.specs.Prelude.{pos, slice_index, ℤ}
+use Rattle.std.proofs.lemmas.Bool.{ltb-true}
 use Rattle.eel_base.specs.CodeText.{Words}
 use Rattle.eel_base.specs.declared.numbers.Addr.{Addr}
 use Rattle.v8_decode.specs.declared.Instr.{Instr}
@@ -9,7 +9,6 @@ use Rattle.v8_decode.specs.declared.Instr.TheVariants as i
 use Rattle.v8_decode.specs.Words.{decode_of, branch_or_sethi}
 use Rattle.v8_decode.proofs.Rows.{decoded_range}
 use Rattle.v8_step.specs.declared.Slot.{Slot}
-use Rattle.v8_step.specs.declared.Slot.TheVariants.{Untaken}
 use Rattle.v8_step.specs.Items.{is_transfer}
 use Rattle.cfg_blocks.specs.declared.EdgeKind.{EdgeKind}
 use Rattle.cfg_blocks.specs.declared.EdgeKind.TheVariants as kinds
@@ -18,6 +17,7 @@ use Rattle.cfg_blocks.specs.Entries.{is_fall}
 use Rattle.cfg_normal.specs.declared.Node.{Node}
 use Rattle.cfg_normal.specs.Graph.{Graph}
 use Rattle.cfg_walk.specs.Walk.{same_kind, way_of}
+pub use Rattle.cfg_walk.proofs.Points.{within_some}
 use Rattle.cfg_normal.specs.Numbers.{node_number}
 use Rattle.layout.specs.declared.items.Item.{Item}
 use Rattle.layout.specs.declared.items.Item.TheVariants as it
@@ -48,10 +48,7 @@ pub record IsTransfersWay (kind : EdgeKind) : Type 0 where
   pub caseless : same_kind kind kinds.Case ≡ false
 
 pub way_is_own : (o : Option Instr) (slot : Slot) → IsTransfersWay (way_of o slot)
-way_is_own (Some (i.Call disp30)) slot = record { fall = refl; land = refl; caseless = refl }
-way_is_own (Some (i.Jmpl rd rs1 op2)) slot = record { fall = refl; land = refl; caseless = refl }
-way_is_own _ Untaken = record { fall = refl; land = refl; caseless = refl }
-way_is_own _ _ = record { fall = refl; land = refl; caseless = refl }
+way_is_own o slot = grind arith
 
 pub image_straight : (text : Words) (graph : Graph) (jumps cases : ℕ) (codes : ℕ → List ℕ) (address : Addr)
     (node : Node)
@@ -62,11 +59,6 @@ image_straight text graph jumps cases codes address node word (i.Branch cond ann
 image_straight text graph jumps cases codes address node word (i.Call disp) e = absurd (cc)
 image_straight text graph jumps cases codes address node word (i.Jmpl rd rs1 op2) e = absurd (cc)
 image_straight text graph jumps cases codes address node word _ e = refl
-
-pub within_some : (count word other : ℕ) → within count word ≡ Some other → (word < count) × (word ≡ other)
-within_some count word other e = cond_both (nat_lt word count) _ _
-    (λ (o : Option ℕ). o ≡ Some other → (word < count) × (word ≡ other))
-    (λ l q. (ltb-true _ _ l, let r : word ≡ other = cc in r)) (λ _ q. absurd (cc)) e
 
 -- a piece begins with a Mark and an item that takes words
 pub record HeadOf (address : Addr) (node : ℕ) (xs : List Item) : Type 0 where

@@ -55,11 +55,10 @@ module _ (g : Setting) (l : Pieces) (base : ℕ) (p : Placement) (place : ℕ �
 
   about : IsAboutToCall c.address.0 t
   about =
-      let low = ahead.low in
       record {
         valid = here.valid;
-        ready = record { live = here.live; npc = ahead.next (omega arith) };
-        low = omega arith;
+        ready = record { live = here.live; npc = ahead.next (omega (arith, ahead.low)) };
+        low = omega (arith, ahead.low);
         words = subst (λ z. StandIn (code_of t.memory) z image) (sym ahead.at)
             ((pieces_are_laid l.list base p place h.laid t.memory here.memory.code c.piece _ c.items).call
             c.address (number_in g node) c.way short refl).words;

@@ -1,10 +1,11 @@
 -- What the code knows of the open switches is true of the text.
-use Rattle.std.proofs.Common.{◌≡◌, ℕ, Option, Some, None, List, map, refl, ap, sym, ◌∙◌, subst, arith}
+use Rattle.std.proofs.Common.{◌≡◌, ℕ, Some, List, map, ap, sym, ◌∙◌, subst, arith}
 use Rattle.std.specs.Prelude.{nat_lt, slice_get}
 use Rattle.std.specs.Option.{option_map}
 use Rattle.std.proofs.lemmas.Bool.{and_parts}
 use Rattle.std.proofs.lemmas.Option.{slice_get-map}
 use Rattle.eel_base.specs.CodeText.{IsText}
+use Rattle.line_words.proofs.Steps.{mapped}
 use Rattle.v8_decode.specs.declared.Instr.TheVariants as i
 use Rattle.v8_decode.specs.declared.LoadKind.TheVariants as loads
 use Rattle.v8_decode.specs.Ranges.{operands_in_range}
@@ -32,18 +33,13 @@ pub record IsTableOf (g : Setting) (k : ℕ) (table : CaseTable) : Type 0 where
   pub is : slice_get g.switches k ≡ Some o
   pub same : case_table g.text o ≡ table
 
-inverted : {A B : Type 0} (f : A → B) (x : Option A) (y : B) → option_map f x ≡ Some y → (a : A) × (x ≡ Some a)
-    × (f a ≡ y)
-inverted f None y e = absurd (cc)
-inverted f (Some a) y e = (a, refl, (let same : f a ≡ y = cc in same))
-
 module _ (g : Setting) (known : g.opens ≡ map (case_table g.text) g.switches) where
   pub table_of : (k : ℕ) (table : CaseTable) → slice_get g.opens k ≡ Some table → IsTableOf g k table
   table_of k table e =
-      let found = inverted (case_table g.text) (slice_get g.switches k) table
+      let found = mapped (case_table g.text) (slice_get g.switches k) table
       (sym (slice_get-map (case_table g.text) g.switches k)
       ∙ ap (λ (ts : List CaseTable). slice_get ts k) (sym known) ∙ e) in
-      record { o = found.0; is = found.1; same = found.2 }
+      record { o = found.got; is = found.is; same = found.same }
 
   pub known_at : (k : ℕ) (o : Open) → slice_get g.switches k ≡ Some o → slice_get g.opens k ≡ Some (case_table g.text o)
   known_at k o e =

@@ -38,7 +38,7 @@ use Rattle.layout.specs.Laid.{HasShortForms, Placement, item_at, item_in, items_
 use Rattle.layout.specs.Running.{CanRun}
 use Rattle.layout.proofs.Going.{words_stand}
 use Rattle.image_code.specs.Simulates.{updates, Setting, NoneIsOut, cells_in, is_jmpl, is_transfer_at, IsFollowedBy, IsWatched, in_first_word, is_spill, IsKept, at_point, does_at, gone_at, graph_in, number_in, word_of, Enters}
-use Rattle.image_code.specs.Images.{Pieces, Frame, HasImages, Here, IsPlaced, visited_at, entered_at, Entered}
+use Rattle.image_code.specs.Images.{Pieces, Frame, Here, IsPlaced, visited_at, entered_at, Entered}
 use Rattle.image_code.specs.Cases.{next_entry, visits_it, plain_piece, IsPlain, PlainsVisit, PlainsStep, word_ahead}
 use Rattle.code_runs.proofs.Stays.{words_stay}
 use Rattle.code_runs.specs.StoredWords.{memory_word}
@@ -117,17 +117,14 @@ module _ (g : Setting) (l : Pieces) (base : ℕ) (p : Placement) (place : ℕ �
       let at : t.pc ≡ place piece 1 = here.at ∙ visited ∙ h.laid.starts piece within ∙ sym mark in
       let begins = (h.laid.within piece 1 within (omega arith)).begins in
       let ends = (h.laid.within piece 3 within (omega arith)).ends in
-      let low = h.laid.low in
-      let next = stands.0 in
-      let npc = here.npc in
       let small : wrapped (t.pc + 4) ≡ t.pc + 4 = omega arith in
       let ready : CanRun base p.code t =
-      can_run g l base p place f h t here.valid here.live (npc ∙ small) here.slot here.memory in
+      can_run g l base p place f h t here.valid here.live (here.npc ∙ small) here.slot here.memory in
       let fetched : fetch_from (code_of t.memory) t.pc ≡ Some word =
       (words_stand l.list base p place h.laid piece 1 word (item 1) t ready at).0 in
       record {
         size = size;
-        next = next;
+        next = stands.0;
         closes = closes;
         at = at;
         inside = (omega arith, omega arith, omega arith);
@@ -146,22 +143,24 @@ module _ (g : Setting) (l : Pieces) (base : ℕ) (p : Placement) (place : ℕ �
     in_range : range_in p.ranges t.pc ≡ Some
         (record { lo = place c.piece 1; hi = place c.piece 2; address = c.address.0; node = number_in g node })
     in_range =
-        let a = stands.at in
-        let w = stands.next in
         h.laid.ranges c.piece 1 t.pc (it.Word c.word) (ap (λ (v : Option (List Item)). item_in v 1) c.items)
-        (omega arith) (omega arith)
+        (omega (arith, stands.at)) (omega (arith, stands.at, stands.next))
         ∙ ap (λ (v : Option (List Item)). range_of (place c.piece) (open_in v 1)) c.items
 
     visits : visits_it g node x t
     visits =
-        let i0 = stands.inside.0 in
-        let i1 = stands.inside.1 in
         at_range g l base p place f h node x t
         (record { lo = place c.piece 1; hi = place c.piece 2; address = c.address.0; node = number_in g node })
-        here.live i0 (omega arith) in_range (sym stands.at) refl c.original
+        here.live stands.inside.0 (omega (arith, stands.inside.1)) in_range (sym stands.at) refl c.original
 
-    same : moved x.pc x.npc x.slot (act t (decode_of c.word)) ≡ moved x.pc x.npc x.slot
-        (act (at_point x t) (decode_of c.word))
+    -- the state after the word, of the machine and of the original
+    abbrev a : State
+    a = act t (decode_of c.word)
+
+    abbrev v : State
+    v = act (at_point x t) (decode_of c.word)
+
+    same : moved x.pc x.npc x.slot a ≡ moved x.pc x.npc x.slot v
     same = (acts_anywhere x.pc x.npc x.slot t (decode_of c.word) c.straight).0
 
     puts_one : (descriptor : ℕ) → run_puts t 1 descriptor ≡ puts_on_word (at_point x t) (word_of g.text x.pc) descriptor
@@ -171,31 +170,27 @@ module _ (g : Setting) (l : Pieces) (base : ℕ) (p : Placement) (place : ℕ �
         ∙ sym (ap (λ (o : Option ℕ). puts_on_word (at_point x t) o descriptor) c.is_word)
 
     -- the same but for where it goes on, what is dead, and what the pages hold
-    followed : (edges : List ℕ) (after : State) → IsAlike g edges (act t (decode_of c.word)) after
-        → IsSameOutside (pages_of g.notes) (act t (decode_of c.word)).memory after.memory
-        → IsFollowedBy (pages_of g.notes) (IsKept g edges (act (at_point x t) (decode_of c.word)).window)
-        (act (at_point x t) (decode_of c.word)) after
+    followed : (edges : List ℕ) (after : State) → IsAlike g edges a after
+        → IsSameOutside (pages_of g.notes) a.memory after.memory
+        → IsFollowedBy (pages_of g.notes) (IsKept g edges v.window) v after
     followed edges after alike outside =
-        followed_alike g edges (act (at_point x t) (decode_of c.word)) (act t (decode_of c.word)) after
-        (sym (ap (λ (z : State). hopped z 0 after.memory) same))
-        (subst (λ (z : Memory). IsSameOutside (pages_of g.notes) z after.memory) (ap (λ (z : State). z.memory) same)
-        outside) alike
+        followed_alike g edges v a after (sym (ap (λ (z : State). hopped z 0 after.memory) same))
+        (rw (ap (λ (z : State). z.memory) same) at outside) alike
 
     -- its cells, where it judges no byte of the pages
     still : AllApart (pages_of g.notes) (judged_by t (decode_of c.word))
-        → cells_in g (act t (decode_of c.word)) ≡ cells_in g t
+        → cells_in g a ≡ cells_in g t
     still apart = cells_stay g l f h.frame h.cells t (decode_of c.word) apart here.memory.ours
 
-    ends : (d : Ending) → (act (at_point x t) (decode_of c.word)).ending ≡ Some d
+    ends : (d : Ending) → v.ending ≡ Some d
         → AllApart (pages_of g.notes) (judged_by t (decode_of c.word))
-        → Enters g (Entered g l base p f) (HasShortForms l.list place) [] node x t
-        (act (at_point x t) (decode_of c.word))
+        → Enters g (Entered g l base p f) (HasShortForms l.list place) [] node x t v
     ends d over apart =
-        let stopped : (act t (decode_of c.word)).ending ≡ Some d = ap (λ (z : State). z.ending) same ∙ over in
+        let stopped : a.ending ≡ Some d = ap (λ (z : State). z.ending) same ∙ over in
         record {
           on = record {
             count = 1;
-            after = act t (decode_of c.word);
+            after = a;
             path = record {
               steps = stands.one;
               some = omega arith;
@@ -203,7 +198,7 @@ module _ (g : Setting) (l : Pieces) (base : ℕ) (p : Placement) (place : ℕ �
               quiet = λ j a b. absurd (omega arith);
             };
             puts = puts_one;
-            followed = followed [] (act t (decode_of c.word)) (alike_itself g [] (act t (decode_of c.word)))
+            followed = followed [] a (alike_itself g [] a)
                 (outside_refl (pages_of g.notes) _);
             cells = still apart;
             here = λ live. absurd (cc);
@@ -226,8 +221,7 @@ module _ (g : Setting) (l : Pieces) (base : ℕ) (p : Placement) (place : ℕ �
         }
 
     -- the word stores nothing that is counted
-    one_spares : AllApart (pages_of g.notes) (judged_by t (decode_of c.word))
-        → (act t (decode_of c.word)).ending ≡ None
+    one_spares : AllApart (pages_of g.notes) (judged_by t (decode_of c.word)) → a.ending ≡ None
         → (count_stores (is_spill g.notes) t 1 ≡ 0) × (count_stores in_first_word t 1 ≡ 0)
     one_spares apart alive =
         let out = uncounted g.notes (h.frame.own.within (page_word 0) h.frame.own.first) t
@@ -238,47 +232,33 @@ module _ (g : Setting) (l : Pieces) (base : ℕ) (p : Placement) (place : ℕ �
           no_stores in_first_word t (decode_of c.word) here.live says out.1,
         )
 
-    goes : (next : Option ℕ) (edges : List ℕ) → LastDead g edges → (act (at_point x t) (decode_of c.word)).ending ≡ None
+    goes : (next : Option ℕ) (edges : List ℕ) → LastDead g edges → v.ending ≡ None
         → AllApart (pages_of g.notes) (judged_by (at_point x t) (decode_of c.word))
         → AllApart (pages_of g.notes) (judged_by t (decode_of c.word))
-        → (IsFit g l base p place f h (act t (decode_of c.word)) → (act t (decode_of c.word)).pc ≡ place c.piece 3
-        → Tail g l base p place f h next edges (act t (decode_of c.word)) (entered_at g l p f
-        (node_after (graph_in g) node edges) (point_of (act (at_point x t) (decode_of c.word)))) 24)
-        → (IsWatched g edges x (act (at_point x t) (decode_of c.word)) → next ≢ None)
-        → Enters g (Entered g l base p f) (HasShortForms l.list place) edges node x t
-        (act (at_point x t) (decode_of c.word))
+        → (IsFit g l base p place f h a → a.pc ≡ place c.piece 3 → Tail g l base p place f h next edges a
+        (entered_at g l p f (node_after (graph_in g) node edges) (point_of v)) 24)
+        → (IsWatched g edges x v → next ≢ None)
+        → Enters g (Entered g l base p f) (HasShortForms l.list place) edges node x t v
     goes next edges last live apart' apart onward watched =
-        let a : State = act t (decode_of c.word) in
-        let alive : (act t (decode_of c.word)).ending ≡ None = ap (λ (z : State). z.ending) same ∙ live in
+        let alive : a.ending ≡ None = ap (λ (z : State). z.ending) same ∙ live in
         let went = goes_act t (decode_of c.word) c.straight alive in
         let vwent = goes_act (at_point x t) (decode_of c.word) c.straight live in
-        let npc = stands.ready.ready.npc in
-        let i0 = stands.inside.0 in
-        let i2 = stands.inside.2 in
-        let w = stands.next in
-        let k = stands.closes in
-        let b = stands.at in
-        let w0 = went.0 in
-        let w1 = went.1 in
-        let pc : (act t (decode_of c.word)).pc ≡ place c.piece 3 = omega arith in
-        let onpc : (act t (decode_of c.word)).npc ≡ (act t (decode_of c.word)).pc + 4 = omega arith in
-        let to = entered_at g l p f (node_after (graph_in g) node edges)
-        (point_of (act (at_point x t) (decode_of c.word))) in
-        let valid : IsValid (act t (decode_of c.word)) = subst IsValid stands.one (run-valid t 1 here.valid) in
-        let has : HasImages g base p f (act t (decode_of c.word)).memory =
-        images_stay g f h.frame base p t (decode_of c.word) stands.one apart here.memory in
-        let fit : IsFit g l base p place f h (act t (decode_of c.word)) = record {
+        let w = stands in
+        let pc : a.pc ≡ place c.piece 3 = omega arith in
+        let onpc : a.npc ≡ a.pc + 4 = omega arith in
+        let to = entered_at g l p f (node_after (graph_in g) node edges) (point_of v) in
+        let valid : IsValid a = subst IsValid stands.one (run-valid t 1 here.valid) in
+        let has = images_stay g f h.frame base p t (decode_of c.word) stands.one apart here.memory in
+        let fit : IsFit g l base p place f h a = record {
           valid = valid;
           has = has;
-          runs = can_run g l base p place f h (act t (decode_of c.word)) valid alive onpc went.2 has;
+          runs = can_run g l base p place f h a valid alive onpc went.2 has;
         } in
         let tail = onward fit pc in
         let rest = tail.0 in
         let spared = one_spares apart alive in
-        let way = leads_then (IsBare g l base p place f h) t (act t (decode_of c.word)) _ 1 rest.count
+        let way = leads_then (IsBare g l base p place f h) t a _ 1 rest.count
         (leads_one _ t _ stands.one) rest.path (λ _ some. rest.begins some) in
-        let few = rest.few in
-        let stores = rest.stores in
         let lives : rest.other.ending ≡ None = rest.alike.ending ∙ alive in
         record {
           on = record {
@@ -287,7 +267,7 @@ module _ (g : Setting) (l : Pieces) (base : ℕ) (p : Placement) (place : ℕ �
             path = record {
               steps = way.steps;
               some = omega arith;
-              few = omega (arith, few);
+              few = omega (arith, rest.few);
               quiet = λ j p1 p2. quiet_of g l base p place f h t _ (1 + rest.count) (IsBare g l base p place f h) way
                   lives (bare_on g l base p place f h t) j p1 p2;
             };
@@ -298,30 +278,28 @@ module _ (g : Setting) (l : Pieces) (base : ℕ) (p : Placement) (place : ℕ �
                 ∙ ap (λ z. run_puts t 1 descriptor ++ z) (rest.silent descriptor) ∙ append-nil (run_puts t 1 descriptor)
                 ∙ puts_one descriptor;
             followed = followed edges (hopped rest.other to rest.memory)
-                (alike_hopped g edges (act t (decode_of c.word)) rest.other to rest.memory rest.alike)
-                (same_stored g f h.frame base p _ rest.memory has stores);
+                (alike_hopped g edges a rest.other to rest.memory rest.alike)
+                (same_stored g f h.frame base p _ rest.memory has rest.stores);
             cells = rest.cells last
-                ∙ updates_same g.snips edges (cells_in g (act t (decode_of c.word))) (act t (decode_of c.word))
-                (act (at_point x t) (decode_of c.word)) (ap (λ (z : State). register_of z) same)
-                ∙ ap (λ z. updates g.snips edges z (act (at_point x t) (decode_of c.word))) (still apart);
+                ∙ updates_same g.snips edges (cells_in g a) a v (ap (λ (z : State). register_of z) same)
+                ∙ ap (λ z. updates g.snips edges z v) (still apart);
             here = λ _. record {
               valid = subst IsValid way.steps (run-valid t (1 + rest.count) here.valid);
               live = lives;
               at = refl;
               npc = refl;
               slot = refl;
-              memory = images_stored g f h.frame base p
-                  (act t (decode_of c.word)) _ rest.count rest.path.steps stores has;
+              memory = images_stored g f h.frame base p a _ rest.count rest.path.steps rest.stores has;
               waits = λ e. let none = vwent.2 in absurd (cc);
             };
             place = λ e. absurd (e live);
             sparing = λ w.
                 let there = watched w in
-                let both = count_add (is_spill g.notes) t (act t (decode_of c.word)) 1 stands.one rest.count in
+                let both = count_add (is_spill g.notes) t a 1 stands.one rest.count in
                 record {
                   spills = omega (arith, spared.0, rest.spares there, both);
                   first = λ short.
-                      none_then in_first_word t (act t (decode_of c.word)) 1 rest.count stands.one spared.1
+                      none_then in_first_word t a 1 rest.count stands.one spared.1
                       (rest.leaves_first there short);
                   alone = λ short none _. let nothing = tail.1 there none in omega (arith, nothing);
                   few = λ short none. let brief = rest.brief there short in omega (arith, none, brief);
@@ -334,8 +312,8 @@ module _ (g : Setting) (l : Pieces) (base : ℕ) (p : Placement) (place : ℕ �
                 inside = inside;
               }) in
               let nothing = tail.1 there none in
-              let same_memory : rest.memory ≡ (act t (decode_of c.word)).memory =
-              ap (λ (z : State). z.memory) (sym rest.path.steps ∙ ap (run (act t (decode_of c.word))) nothing) in
+              let same_memory : rest.memory ≡ a.memory =
+              ap (λ (z : State). z.memory) (sym rest.path.steps ∙ ap (run a) nothing) in
               ap (λ (m : Memory). memory_word m (page_word 0)) same_memory
               ∙ (words_stay (pages_of g.notes) (page_word 0) true t (decode_of c.word)
               (h.frame.own.within (page_word 0) h.frame.own.first) apart

@@ -43,7 +43,6 @@ pub words_same : (base count : ℕ) (m n : Memory)
 words_same base count m n same =
     let one : (m : Memory) → length (words_at base count m) ≡ count =
     λ m. length-map-range_with_len (λ k. memory_word m (cell_at base k)) 0 count in
-    let two = one m in
     ext_get_or 0 (words_at base count n) (words_at base count m) (one n ∙ sym (one m)) (λ i low.
     let all : length (words_at base count n) ≡ count = one n in
     let within : i < count = omega (arith, low, all) in
@@ -123,8 +122,4 @@ pub first_above : (z : ℕ) → IsFirstWord z → 2 ^ 31 ≤ z
 first_above z e = omega (arith, e)
 
 pub page_above : (z : ℕ) → IsPageWord z → 2 ^ 31 ≤ z
-page_above z (inl e) = omega (arith, e)
-page_above z (inr (inl e)) = omega (arith, e)
-page_above z (inr (inr (inl e))) = omega (arith, e)
-page_above z (inr (inr (inr (inl e)))) = omega (arith, e)
-page_above z (inr (inr (inr (inr e)))) = absurd e
+page_above z e = grind (arith, e)

@@ -71,11 +71,9 @@ case_number_at text graph (q ∷ opens) begin zero o e entry word at =
     get_first (map (case_piece text graph begin q) q.targets) (cases_of text graph (suc begin) opens) (0 + entry) _
     (rw (there, same, slice_get-map (case_piece text graph begin o) o.targets entry, at, ← here))
 case_number_at text graph (q ∷ opens) begin (suc k) o e entry word at =
-    let sum : sum_by (entries_of text graph) (q ∷ take k opens)
-    ≡ length q.targets + sum_by (entries_of text graph) (take k opens) =
-    sum_by-cons (entries_of text graph) q (take k opens) in
     let there : sum_by (entries_of text graph) (q ∷ take k opens) + entry
-    ≡ length q.targets + (sum_by (entries_of text graph) (take k opens) + entry) = omega (arith, sum) in
+    ≡ length q.targets + (sum_by (entries_of text graph) (take k opens) + entry) =
+    omega (arith, sum_by-cons (entries_of text graph) q (take k opens)) in
     let next : suc begin + k ≡ begin + suc k = omega arith in
     rw (there, ← next)
     (get_behind (map (case_piece text graph begin q) q.targets) (cases_of text graph (suc begin) opens)
@@ -180,33 +178,24 @@ module _ (g : Setting) (codes : ℕ → List ℕ) (is : IsKnown g) (p : Placemen
       ≡ Some (case_piece g.text (graph_in g) k o to)
   number_at =
       let here : 0 + k ≡ k = omega arith in
-      case_number_at g.text (graph_in g) g.switches 0 k o among entry to targeted
-      ∙ ap (λ (n : ℕ). Some (case_piece g.text (graph_in g) n o to)) here
+      case_number_at g.text (graph_in g) g.switches 0 k o among entry to targeted ∙ rw here refl
 
   many : first + entry < length (case_numbers g.text (graph_in g))
   many = slice_get_within (case_numbers g.text (graph_in g)) (first + entry) _ number_at
 
   kept : kept_address t ≡ o.switch.table.0 + 4 * entry
   kept =
-      let table_at = (word_at-some g.text o.switch.table.0 begins block_is.table.at).is in
-      let same = from_is in
-      let at = chosen.kept in
-      omega arith
+      omega (arith, (word_at-some g.text o.switch.table.0 begins block_is.table.at).is, from_is, chosen.kept)
 
   table_low : o.switch.table.0 < 2 ^ 32
   table_low =
       let w = word_at-some g.text o.switch.table.0 begins block_is.table.at in
-      let within = w.within in
-      let at = w.is in
-      let high = is.text.below in
-      omega arith
+      omega (arith, w.within, w.is, is.text.below)
 
   place_is : choice_at distance t ≡ f.cases.base + 4 * (first + entry)
   place_is =
-      let low = cases.low in
-      let long = cases.long in
       ap (λ (n : ℕ). (n + distance) % 2 ^ 32) kept
-      ∙ word_place f.cases.base first o.switch.table.0 entry table_low (omega (arith, many))
+      ∙ word_place f.cases.base first o.switch.table.0 entry table_low (omega (arith, many, cases.low, cases.long))
 
   -- ---- into the slot, along the Case edge
 
@@ -253,14 +242,11 @@ module _ (g : Setting) (codes : ℕ → List ℕ) (is : IsKnown g) (p : Placemen
           → case_piece g.text (graph_in g) r.k r.o r.word ≡ case_piece g.text (graph_in g) k o to
       same_piece r =
           let one : r.o ≡ o = is.cased.one r.k k r.o o r.among among (ap block_of (sym r.itself ∙ itself)) in
-          let number : Some r.k ≡ Some k = sym r.numbered
-          ∙ ap (λ (q : Open). jump_number g.text (graph_in g) q.block) one ∙ numbered in
-          let same_k : r.k ≡ k = cc in
+          let number : Some r.k ≡ Some k = sym r.numbered ∙ rw one numbered in
           let goes : Some r.word ≡ Some to = sym r.goes ∙ goes_to in
+          let same_k : r.k ≡ k = cc in
           let same_word : r.word ≡ to = cc in
-          ap (λ (n : ℕ). case_piece g.text (graph_in g) n r.o r.word) same_k
-          ∙ ap (λ (q : Open). case_piece g.text (graph_in g) k q r.word) one
-          ∙ ap (case_piece g.text (graph_in g) k o) same_word
+          rw (same_k, one, same_word) refl
 
   slot_there : word_at g.text v.pc ≡ Some (word + 1)
   slot_there =
@@ -297,14 +283,7 @@ module _ (g : Setting) (codes : ℕ → List ℕ) (is : IsKnown g) (p : Placemen
   pub choice_case : IsChoice g (l g codes is p f) p f node x t
   choice_case =
       let w = word_at-some g.text x.pc word at in
-      let here = w.is in
-      let inside = w.within in
-      let high = is.text.below in
-      let aligned = cases.aligned in
-      let low = cases.low in
-      let long = cases.long in
       let place = place_is in
-      let few = many in
       record {
         none = none;
         next = npc;
@@ -316,8 +295,8 @@ module _ (g : Setting) (codes : ℕ → List ℕ) (is : IsKnown g) (p : Placemen
         within = slice_get_within (l g codes is p f).list piece _ items;
         here = visited_word g codes is p f node x word at none;
         address = address;
-        original = sym here;
-        low = omega (arith, here, inside, high);
+        original = sym w.is;
+        low = omega (arith, w, is.text.below);
         word = slice_index g.text.words word;
         is_word = word_is g x word at;
         rd = rd;
@@ -329,10 +308,10 @@ module _ (g : Setting) (codes : ℕ → List ℕ) (is : IsKnown g) (p : Placemen
         distance = distance;
         near = omega arith;
         items = items;
-        aligned = omega (arith, place, aligned);
+        aligned = omega (arith, place, cases.aligned);
         from = omega (arith, place);
-        to = omega (arith, place, long, few);
-        below = omega (arith, place, long, few, low);
+        to = omega (arith, place, cases.long, many);
+        below = omega (arith, place, cases.long, many, cases.low);
         way = case_piece g.text (graph_in g) k o to;
         has = ap (table_word f.cases) place ∙ cases.words (first + entry) _ number_at;
         live = chosen.live;

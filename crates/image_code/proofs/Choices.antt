@@ -5,16 +5,13 @@ use Rattle.std.proofs.lemmas.List.{length-append}
 use Rattle.eel_base.specs.declared.numbers.Addr.{Addr}
 use Rattle.notes.specs.Format.{NoteRange}
 use Rattle.v8_decode.specs.declared.Instr.{Instr}
-use Rattle.v8_decode.specs.declared.Instr.TheVariants as i
 use Rattle.v8_decode.specs.Words.{decode_of}
 use Rattle.v8_alu.specs.Numbers.{wrapped}
 use Rattle.v8_memory.specs.Regions.{Memory, code_of}
-use Rattle.v8_memory.specs.Spans.{IsSameOutside}
 use Rattle.v8_step.specs.State.{State}
 use Rattle.v8_step.specs.Step.{puts_on_word}
 use Rattle.v8_step.specs.Items.{is_transfer}
 use Rattle.v8_step.specs.Valid.{IsValid}
-use Rattle.two_runs.specs.Visits.{pages_of}
 use Rattle.v8_step.proofs.ValidSteps.{run-valid}
 use Rattle.cfg_normal.specs.declared.Node.{Node}
 use Rattle.cfg_walk.specs.Walk.{Point, instr_at, node_after, point_of}
@@ -89,10 +86,10 @@ module _ (g : Setting) (l : Pieces) (base : ℕ) (p : Placement) (place : ℕ �
   count_is = length-append (link c.rd c.address.0) (choose c.distance)
 
   few : length image ≤ 11
-  few = let n = link_few c.rd c.address.0 in let m = count_is in omega (arith, n, m)
+  few = omega (arith, link_few c.rd c.address.0, count_is)
 
   some : 9 ≤ length image
-  some = let m = count_is in omega (arith, m)
+  some = omega (arith, count_is)
 
   does_is : does_at g x t ≡ after_jump
   does_is = rw (c.is_word, c.says, c.none, c.next, c.original)
@@ -112,11 +109,10 @@ module _ (g : Setting) (l : Pieces) (base : ℕ) (p : Placement) (place : ℕ �
 
   about : IsAboutToChoose c.rd c.address.0 c.distance t
   about =
-      let n = here.npc in
       let small : wrapped (t.pc + 4) ≡ t.pc + 4 = omega (arith, at, there.low, some) in
       record {
         valid = here.valid;
-        ready = record { live = here.live; npc = n ∙ small };
+        ready = record { live = here.live; npc = here.npc ∙ small };
         low = omega (arith, at, there.low, some, few);
         words = subst (λ z. StandIn (code_of t.memory) z image) (sym at)
             (stand_in l.list base p place h.laid c.piece c.within image c.address (number_in g node) c.items
@@ -151,10 +147,6 @@ module _ (g : Setting) (l : Pieces) (base : ℕ) (p : Placement) (place : ℕ �
 
   on : (u : State) → u.ending ≡ None → IsBetween t (length image) IsPageWord u → IsOnWay g t u
   on u running z =
-      let a = at in
-      let high = there.ends in
-      let q1 = z.past in
-      let q2 = z.before in
       let range : NoteRange =
       record {
         lo = place c.piece 1;
@@ -162,17 +154,15 @@ module _ (g : Setting) (l : Pieces) (base : ℕ) (p : Placement) (place : ℕ �
         address = c.address.0;
         node = number_in g node;
       } in
-      on_range g l base p place f h t u range running (omega (arith, a, there.begins)) q1 (omega (arith, a, high, q2))
-      (there.range t.pc (omega (arith, a)) (omega (arith, a, some)))
-      (there.range u.pc (omega (arith, a, q1)) (omega (arith, a, q2)))
+      on_range g l base p place f h t u range running (omega (arith, at, there.begins)) z.past (omega (arith, at, there.ends))
+      (there.range t.pc (omega (arith, at)) (omega (arith, at, some)))
+      (there.range u.pc (omega (arith, at)) (omega (arith, at)))
       (sym at) (page_cells u.memory z.stores)
 
   goes : entered_at g l p f (node_after (graph_in g) node []) (point_of after_jump) ≡ chosen c.distance t
       → Enters g (Entered g l base p f) (HasShortForms l.list place) [] node x t after_jump
   goes arrives =
       let k = comes in
-      let q = few in
-      let s = some in
       let own = own_stored g f h.frame t.memory k.memory k.stores in
       record {
         on = record {
@@ -180,8 +170,8 @@ module _ (g : Setting) (l : Pieces) (base : ℕ) (p : Placement) (place : ℕ �
           after = hopped after_jump (chosen c.distance t) k.memory;
           path = record {
             steps = k.path.steps;
-            some = omega (arith, s);
-            few = omega (arith, q);
+            some = omega (arith, some);
+            few = omega (arith, few);
             quiet = quiet_of g l base p place f h t _ (length image)
                 (IsBetween t (length image) IsPageWord) k.path live on;
           };
@@ -189,8 +179,7 @@ module _ (g : Setting) (l : Pieces) (base : ℕ) (p : Placement) (place : ℕ �
               ∙ sym (ap (λ (o : Option ℕ). puts_on_word (at_point x t) o descriptor) c.is_word
               ∙ quiet_transfer (at_point x t) (decode_of c.word) descriptor (ap is_transfer c.says));
           followed = followed_alike g [] after_jump after_jump (hopped after_jump (chosen c.distance t) k.memory)
-              refl (subst (λ (z : Memory). IsSameOutside (pages_of g.notes) z k.memory) (sym k.same)
-              (same_stored g f h.frame base p t.memory k.memory here.memory own))
+              refl (rw k.same (same_stored g f h.frame base p t.memory k.memory here.memory own))
               (alike_hopped g [] after_jump after_jump (chosen c.distance t) k.memory (alike_itself g [] after_jump));
           cells = page_cells k.memory k.stores;
           here = λ _. record {

@@ -22,6 +22,7 @@ use Rattle.cfg_walk.proofs.Ways.{always_holds}
 use Rattle.code_runs.specs.Counted.{count_stores}
 use Rattle.code_runs.proofs.Acts.{step_is}
 use Rattle.code_runs.proofs.Counted.{no_stores, none_then}
+pub use Rattle.code_runs.proofs.PointsAlike.{no_puts as quiet_transfer}
 use Rattle.layout.specs.declared.items.Item.{Item}
 use Rattle.layout.specs.declared.items.Item.TheVariants as it
 use Rattle.layout.specs.Laid.{HasShortForms, Placement, item_at, item_in, size_of, open_in, range_in, range_of, IsWordAt}
@@ -46,11 +47,6 @@ couple_acts s x e ne = go x e
     go (i.Call disp) e = by s.slot _ ne
     go (i.Jmpl rd rs1 op2) e = by s.slot _ ne
     go _ e = absurd (cc)
-
-pub quiet_transfer : (s : State) (x : Instr) (descriptor : ℕ) → is_transfer x ≡ true → puts_by s x descriptor ≡ []
-unfolding puts_by
-quiet_transfer s (i.Ticc cond rs1 op2) descriptor e = absurd (cc)
-quiet_transfer s _ descriptor e = refl
 
 module _ (g : Setting) (l : Pieces) (base : ℕ) (p : Placement) (place : ℕ → ℕ → ℕ) (f : Frame)
     (h : IsPlaced g l base p place f)
@@ -78,7 +74,6 @@ module _ (g : Setting) (l : Pieces) (base : ℕ) (p : Placement) (place : ℕ �
       let s = size in
       let b = (h.laid.within c.piece 1 c.within (omega arith)).begins in
       let d = (h.laid.within c.piece 3 c.within (omega arith)).ends in
-      let low = h.laid.low in
       let u = first.0 in
       let w = second.0 in
       let a = at in
@@ -109,10 +104,7 @@ module _ (g : Setting) (l : Pieces) (base : ℕ) (p : Placement) (place : ℕ �
 
   fetched_mid : fetch_from (code_of t.memory) t.npc ≡ Some c.ba
   fetched_mid =
-      let n = npc in
-      let a = at in
-      let u = first.0 in
-      ap (fetch_from (code_of t.memory)) (let e : t.npc ≡ place c.piece 2 = omega arith in e)
+      ap (fetch_from (code_of t.memory)) (let e : t.npc ≡ place c.piece 2 = omega (arith, first.0, at, npc) in e)
       ∙ word_is base (place c.piece 2) c.ba p.code t.memory here.memory.code second.1
 
   one : step_of t ≡ record t { pc = t.npc; npc = target_of t c.disp; slot = Taken }
@@ -137,7 +129,7 @@ module _ (g : Setting) (l : Pieces) (base : ℕ) (p : Placement) (place : ℕ �
       on_range g l base p place f h t mid
       (record { lo = place c.piece 1; hi = place c.piece 3; address = c.address.0; node = number_in g node })
       here.live (omega arith) (omega arith) (omega arith) (in_first t.pc (omega arith) (omega arith))
-      (in_range t.npc (omega arith) (omega arith)) (sym a) refl
+      (in_range t.npc (omega arith) (omega arith)) (sym at) refl
 
   does_is : does_at g x t ≡ ended (at_point x t) Couple
   does_is = ap (on_word (at_point x t)) c.is_word ∙ couple_acts (at_point x t) (decode_of c.word) c.transfer c.slot

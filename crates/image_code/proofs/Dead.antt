@@ -8,7 +8,7 @@ use Rattle.std.proofs.lemmas.Bool.{and_parts, cond_both}
 use Rattle.std.proofs.lemmas.List.Quantifiers.{position-Some}
 use Rattle.std.proofs.lemmas.Option.{slice_get-get_or}
 use Rattle.eel_base.specs.CodeText.{word_at}
-use Rattle.v8_decode.specs.Parts.{every_part, has, members}
+use Rattle.v8_decode.specs.Parts.{every_part, members}
 use Rattle.v8_decode.specs.declared.Instr.{Instr}
 use Rattle.v8_decode.specs.declared.Instr.TheVariants as i
 use Rattle.v8_decode.specs.Words.{decode_of}
@@ -198,8 +198,7 @@ module _ (g : Setting) (l : Pieces) (f : Frame) (has : HasCells g l f) where
   by_kind node _ next = alone _
 
   if_last : (b : Bool) (o : Option ℕ) → LastDead g (if b then option_to_list o else [])
-  if_last true o = listed_last g o
-  if_last false o = tt
+  if_last b o = cond_both b _ _ (LastDead g) (λ _. listed_last g o) (λ _. tt)
 
   left_last : (node : Node) (word : ℕ) (instr : Instr) → LastDead g (left_by (graph_in g) node word instr)
   left_last node word (i.Branch cond annul disp) = listed_last g _

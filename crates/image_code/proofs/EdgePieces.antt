@@ -36,8 +36,6 @@ use Rattle.image_code.proofs.Listed.{case_entry_at, own_at, place_is, way_at}
 
 pub past_far : (text : Words) (word : ℕ) → IsText text → word < length text.words → IsFar (address_of text (word + 2))
 past_far text word is l =
-    let a = is.aligned in
-    let h = is.below in
     (omega arith, omega arith)
 
 reached_far : (text : Words) (word displacement : ℕ) → IsText text

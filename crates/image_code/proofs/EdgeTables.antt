@@ -1,10 +1,11 @@
 -- The tables of first edges say which edges there are.
-use Rattle.std.proofs.Common.{◌≡◌, ℕ, ◌<◌, Bool, true, false, ◌&&◌, ◌||◌, ◌==◌, List, [], ◌∷◌, suc, Option, Some, None, length, refl, ap, sym, ◌∙◌, arith}
+use Rattle.std.proofs.Common.{◌≡◌, ℕ, ◌<◌, Bool, false, ◌&&◌, ◌==◌, List, [], ◌∷◌, Option, Some, length, refl, ap, ◌∙◌, arith, inl, inr}
+use Rattle.std.proofs.lemmas.Bool.{cases_Bool}
 use Rattle.std.specs.Prelude.{if◌then◌else◌}
 use Rattle.std.specs.List.{list_any, position}
-use Rattle.std.specs.Option.{is_some, option_map, option_to_list}
-use Rattle.std.proofs.lemmas.Bool.{eq-eqb, eqb-true, false≢true, ne_eqb}
-use Rattle.std.proofs.Math.Bool.{and_comm}
+use Rattle.std.specs.Option.{is_some, option_to_list}
+use Rattle.std.proofs.Math.Bool.{and-false}
+use Rattle.std.proofs.lemmas.Bool.Decides.{nat_tests}
 use Rattle.eel_base.specs.declared.numbers.BlockNo.{BlockNo}
 use Rattle.cfg_blocks.specs.declared.EdgeKind.{EdgeKind}
 use Rattle.cfg_blocks.specs.declared.EdgeKind.TheVariants as kinds
@@ -23,21 +24,10 @@ use Rattle.image_code.proofs.FirstPlaces.{mark_same, position-cons, position-sam
 -- ---- numbers by which nodes and kinds are told apart
 
 eqb-same : (a b c d : ℕ) → (a ≡ b → c ≡ d) → (c ≡ d → a ≡ b) → (a == b) ≡ (c == d)
-eqb-same a b c d to from = go (c == d) refl
-  where
-    go : (t : Bool) → (c == d) ≡ t → (a == b) ≡ (c == d)
-    go true e = eq-eqb a b (from (eqb-true c d e)) ∙ sym e
-    go false e = ne_eqb a b (λ h. false≢true (sym e ∙ eq-eqb c d (to h))) ∙ sym e
+eqb-same a b c d to from = grind (arith, nat_tests, to, from)
 
 pub kinds_same : (one other : EdgeKind) → (kind_number one == kind_number other) ≡ same_kind one other
-kinds_same kinds.Fall kinds.Fall = refl
-kinds_same kinds.Taken kinds.Taken = refl
-kinds_same kinds.Untaken kinds.Untaken = refl
-kinds_same kinds.Call kinds.Call = refl
-kinds_same kinds.Out kinds.Out = refl
-kinds_same kinds.Land kinds.Land = refl
-kinds_same kinds.Case kinds.Case = refl
-kinds_same _ _ = refl
+kinds_same one other = grind arith
 
 abbrev IsOneOf : Graph → Node → Type 0
 IsOneOf graph node = IsNumbered (length graph.blocks.firsts) node
@@ -49,19 +39,10 @@ numbered graph X h = tt
 
 pub nodes_same : (graph : Graph) (one other : Node) → IsOneOf graph one → IsOneOf graph other
     → (node_number graph one == node_number graph other) ≡ same_node one other
-nodes_same graph (Block one) (Block other) h k = refl
-nodes_same graph (Landed one) (Landed other) h k =
-    eqb-same _ _ one.0 other.0 (λ e. omega (arith, e)) (λ e. omega (arith, e))
-nodes_same graph X X h k = eq-eqb _ _ refl
-nodes_same graph (Block one) X h k = ne_eqb _ _ (λ e. absurd (omega (arith, h, e)))
-nodes_same graph (Block one) (Landed other) h k = ne_eqb _ _ (λ e. absurd (omega (arith, h, e)))
-nodes_same graph X (Block other) h k = ne_eqb _ _ (λ e. absurd (omega (arith, k, e)))
-nodes_same graph X (Landed other) h k = ne_eqb _ _ (λ e. absurd (omega (arith, e)))
-nodes_same graph (Landed one) (Block other) h k = ne_eqb _ _ (λ e. absurd (omega (arith, k, e)))
-nodes_same graph (Landed one) X h k = ne_eqb _ _ (λ e. absurd (omega (arith, e)))
+nodes_same graph one other h k = grind (arith, nat_tests)
 
 neither : (a b t : Bool) → t ≡ false → (a && t) ≡ (b && t)
-neither a b t e = ap (λ u. a && u) e ∙ and_comm a false ∙ sym (ap (λ u. b && u) e ∙ and_comm b false)
+neither a b t e = rw (e, and-false, and-false) refl
 
 -- ---- edges that leave a node, and landings
 
@@ -83,16 +64,14 @@ module _ (graph : Graph) (g : IsGraph graph) (rows : List (List ℕ)) (first : A
   leaves : (kind : EdgeKind) → is_land kind ≡ false → (edge : Edge) → IsEdgeIn graph.blocks graph.opens edge
       → is_edge_at graph (node_number graph node) (kind_number kind) edge
       ≡ (same_node edge.from node && same_kind edge.kind kind)
-  leaves kind other edge inside = go (is_land edge.kind) refl
-    where
-      go : (t : Bool) → is_land edge.kind ≡ t → is_edge_at graph (node_number graph node) (kind_number kind) edge
-          ≡ (same_node edge.from node && same_kind edge.kind kind)
-      go false e = found_by kind edge edge.from (numbered graph edge.from inside.from) (ap (number_by edge) e)
-      go true e =
-          let apart : same_kind edge.kind kind ≡ false =
-          ap (λ k. same_kind k kind) (same_kinds edge.kind kinds.Land e) ∙ lands_apart kind other in
-          found_by kind edge edge.to (numbered graph edge.to inside.to) (ap (number_by edge) e)
-          ∙ neither (same_node edge.to node) (same_node edge.from node) (same_kind edge.kind kind) apart
+  leaves kind other edge inside = elim (cases_Bool (is_land edge.kind)) [
+    | inl e ↦
+        let apart : same_kind edge.kind kind ≡ false =
+        ap (λ k. same_kind k kind) (same_kinds edge.kind kinds.Land e) ∙ lands_apart kind other in
+        found_by kind edge edge.to (numbered graph edge.to inside.to) (ap (number_by edge) e)
+        ∙ neither (same_node edge.to node) (same_node edge.from node) (same_kind edge.kind kind) apart
+    | inr e ↦ found_by kind edge edge.from (numbered graph edge.from inside.from) (ap (number_by edge) e)
+  ]
 
   pub leaving_is : (kind : EdgeKind) → is_land kind ≡ false
       → mark_of found ≡ mark_at rows (node_number graph node) (kind_number kind)
@@ -106,15 +85,12 @@ module _ (graph : Graph) (g : IsGraph graph) (rows : List (List ℕ)) (first : A
   lands : (edge : Edge) → IsEdgeIn graph.blocks graph.opens edge
       → is_edge_at graph (node_number graph node) (kind_number kinds.Land) edge
       ≡ (same_node edge.to node && is_land edge.kind)
-  lands edge inside = go (is_land edge.kind) refl
-    where
-      go : (t : Bool) → is_land edge.kind ≡ t
-          → is_edge_at graph (node_number graph node) (kind_number kinds.Land) edge
-          ≡ (same_node edge.to node && is_land edge.kind)
-      go true e = found_by kinds.Land edge edge.to (numbered graph edge.to inside.to) (ap (number_by edge) e)
-      go false e =
-          found_by kinds.Land edge edge.from (numbered graph edge.from inside.from) (ap (number_by edge) e)
-          ∙ neither (same_node edge.from node) (same_node edge.to node) (is_land edge.kind) e
+  lands edge inside = elim (cases_Bool (is_land edge.kind)) [
+    | inl e ↦ found_by kinds.Land edge edge.to (numbered graph edge.to inside.to) (ap (number_by edge) e)
+    | inr e ↦
+        found_by kinds.Land edge edge.from (numbered graph edge.from inside.from) (ap (number_by edge) e)
+        ∙ neither (same_node edge.from node) (same_node edge.to node) (is_land edge.kind) e
+  ]
 
   pub landing_is : mark_of found ≡ mark_at rows (node_number graph node) (kind_number kinds.Land)
       → option_to_list found ≡ landing_at graph node
@@ -134,11 +110,6 @@ case_edge_is graph g block to l h found is =
     (λ edge. same_node edge.to to && (same_node edge.from (Block block) && same_kind edge.kind kinds.Case)) graph.edges
     g.edges same)
   where
-    shuffle : (a b c : Bool) → (a && (b && c)) ≡ (c && (b && a))
-    shuffle true b c = and_comm b c ∙ ap (λ (t : Bool). c && t) (sym (and_comm b true))
-    shuffle false b true = sym (and_comm b false)
-    shuffle false b false = refl
-
     same : (edge : Edge) → IsEdgeIn graph.blocks graph.opens edge
         → is_case graph (record { from = block.0; to = node_number graph to }) edge
         ≡ (same_node edge.to to && (same_node edge.from (Block block) && same_kind edge.kind kinds.Case))
@@ -146,22 +117,11 @@ case_edge_is graph g block to l h found is =
         rw (
           nodes_same graph edge.from (Block block) (numbered graph edge.from inside.from) l,
           nodes_same graph edge.to to (numbered graph edge.to inside.to) h,
-        )
-        (shuffle (same_kind edge.kind kinds.Case) (same_node edge.from (Block block)) (same_node edge.to to))
+        ) (grind (arith, nat_tests))
 
 -- ---- whether there is one
 
 pub some_is_any : {A : Type 0} (p : A → Bool) (xs : List A) → is_some (position p xs) ≡ list_any p xs
 some_is_any p [] = refl
 some_is_any p (x ∷ xs) =
-    ap is_some (position-cons p x xs) ∙ by (p x) (position p xs) ∙ ap (λ t. if p x then true else t) (some_is_any p xs)
-    ∙ last (p x) (list_any p xs)
-  where
-    by : (t : Bool) (o : Option ℕ) → is_some (if t then Some 0 else option_map suc o) ≡ (if t then true else is_some o)
-    by true o = refl
-    by false (Some n) = refl
-    by false None = refl
-
-    last : (t u : Bool) → (if t then true else u) ≡ (t || u)
-    last true u = refl
-    last false u = refl
+    rw (position-cons p x xs) (grind (arith, nat_tests, some_is_any p xs))

@@ -1,9 +1,8 @@
 -- Where an item first stands in a list, and the tables that say so.
-use Rattle.std.proofs.Common.{◌≡◌, ℕ, suc, ◌+◌, ◌<◌, Bool, true, false, ◌==◌, cond, List, [], ◌∷◌, ◌++◌, Option, Some, None, length, length-take, take, refl, ap, sym, ◌∙◌, arith, inl, inr}
-use Rattle.std.specs.Prelude.{if◌then◌else◌, slice_index, slice_index_or}
-use Rattle.std.specs.List.{All, position, position_or_len}
+use Rattle.std.proofs.Common.{◌≡◌, ℕ, suc, ◌+◌, ◌<◌, Bool, ◌==◌, cond, List, [], ◌∷◌, ◌++◌, Option, Some, length, length-take, take, refl, ap, sym, ◌∙◌, arith}
+use Rattle.std.specs.Prelude.{slice_index, slice_index_or}
+use Rattle.std.specs.List.{All, position}
 use Rattle.std.specs.Option.{option_map, option_or}
-use Rattle.std.proofs.lemmas.Bool.{cases_lt, le-ltb, lt-ltb}
 use Rattle.std.proofs.lemmas.Bool.Decides.{nat_tests}
 use Rattle.std.proofs.lemmas.List.{take_more}
 use Rattle.image_code.specs.Lookups.{AreFirst, first_mark, mark_of, number_where}
@@ -11,56 +10,19 @@ use Rattle.image_code.specs.Lookups.{AreFirst, first_mark, mark_of, number_where
 -- ---- positions
 
 module _ {A : Type 0} (p : A → Bool) where
-  at_head : (x : A) (xs : List A) (b : Bool) → p x ≡ b
-      → position p (x ∷ xs) ≡ cond b (Some 0) (option_map suc (position p xs))
-  at_head x xs true e = rw (e, lt-ltb 0 (suc (length xs)) (omega arith))
-  at_head x xs false e =
-      let m = position_or_len p xs in
-      let next : 1 + m ≡ suc m = omega arith in
-      rw e (elim (cases_lt m (length xs)) [
-        | inl l ↦ rw (lt-ltb (1 + m) (suc (length xs)) (omega (arith, l)), lt-ltb m (length xs) l, next)
-        | inr m2 ↦ rw (le-ltb (1 + m) (suc (length xs)) (omega (arith, m2)), le-ltb m (length xs) m2)
-      ])
-
   pub position-cons : (x : A) (xs : List A)
       → position p (x ∷ xs) ≡ cond (p x) (Some 0) (option_map suc (position p xs))
-  position-cons x xs = at_head x xs (p x) refl
+  position-cons x xs = grind (arith, nat_tests)
 
   -- one item more
   pub position_more : (xs : List A) (x : A)
       → position p (xs ++ x ∷ []) ≡ option_or (position p xs) (number_where (p x) (length xs))
-  position_more [] x = position-cons x [] ∙ none (p x)
-    where
-      none : (b : Bool) → cond b (Some 0) (option_map suc (position p []))
-          ≡ option_or (position p []) (number_where b 0)
-      none true = refl
-      none false = refl
+  position_more [] x = grind (arith, nat_tests, position-cons x [])
   position_more (y ∷ ys) x =
-      position-cons y (ys ++ x ∷ [])
-      ∙ ap (λ (o : Option ℕ). cond (p y) (Some 0) (option_map suc o)) (position_more ys x)
-      ∙ by (p y) (position p ys) (p x)
-      ∙ ap (λ (o : Option ℕ). option_or o (number_where (p x) (suc (length ys)))) (sym (position-cons y ys))
-    where
-      by : (b : Bool) (o : Option ℕ) (c : Bool)
-          → cond b (Some 0) (option_map suc (option_or o (number_where c (length ys))))
-          ≡ option_or (cond b (Some 0) (option_map suc o)) (number_where c (suc (length ys)))
-      by true o c = refl
-      by false (Some n) c = refl
-      by false None true = refl
-      by false None false = refl
+      rw (position-cons y (ys ++ x ∷ []), position_more ys x, position-cons y ys) (grind (arith, nat_tests))
 
   pub position_within : (xs : List A) (n : ℕ) → position p xs ≡ Some n → n < length xs
-  position_within xs n e = elim (cases_lt (position_or_len p xs) (length xs)) [
-    | inl l ↦
-        let same : Some (position_or_len p xs) ≡ Some n =
-        sym (ap (λ (t : Bool). cond t (Some (position_or_len p xs)) None) (lt-ltb _ _ l)) ∙ e in
-        let number : position_or_len p xs ≡ n = cc in
-        omega (arith, l)
-    | inr m ↦
-        let same : None ≡ Some n =
-        sym (ap (λ (t : Bool). cond t (Some (position_or_len p xs)) None) (le-ltb _ _ m)) ∙ e in
-        absurd (cc)
-  ]
+  position_within xs n e = grind (arith, nat_tests)
 
 -- two tests that agree on all items
 pub position-same : {A : Type 0} (P : A → Type 0) (p q : A → Bool) (xs : List A) → All P xs
@@ -84,18 +46,10 @@ positions_more p xs n d was now l held next =
 -- ---- marks
 
 pub mark_same : (one other : Option ℕ) → mark_of one ≡ mark_of other → one ≡ other
-mark_same None None e = refl
-mark_same (Some m) (Some n) e = ap (λ (k : ℕ). Some k) (omega (arith, e))
-mark_same None (Some n) e = absurd (omega (arith, e))
-mark_same (Some m) None e = absurd (omega (arith, e))
+mark_same one other e = grind arith
 
 mark_or : (o : Option ℕ) (b : Bool) (n : ℕ) → mark_of (option_or o (number_where b n)) ≡ first_mark b n (mark_of o)
-mark_or None true n = refl
-mark_or None false n = refl
-mark_or (Some m) true n =
-    let other : (suc m == 0) ≡ false = grind (arith, nat_tests) in
-    sym (ap (λ (t : Bool). if t then suc n else suc m) other)
-mark_or (Some m) false n = refl
+mark_or o b n = grind (arith, nat_tests)
 
 -- one item more of a list
 pub mark_more : {A : Type 0} (p : A → Bool) (xs : List A) (n : ℕ) (d : A) (was now : ℕ) → n < length xs

@@ -1,7 +1,8 @@
 -- Where a word that is no transfer goes on: to the next word, and at which node.
-use Rattle.std.proofs.Common.{◌≡◌, ◌≢◌, ℕ, ◌+◌, ◌<◌, Bool, true, false, not, Some, List, [], ◌∷◌, refl, ap, sym, ◌∙◌, subst, arith, inl, inr}
+use Rattle.std.proofs.Common.{◌≡◌, ◌≢◌, ℕ, ◌+◌, ◌<◌, Bool, true, false, Some, List, [], ◌∷◌, refl, ap, sym, ◌∙◌, subst, arith, inl, inr}
 use Rattle.std.specs.Prelude.{◌==◌, ◌&&◌, if◌then◌else◌, slice_get, slice_index}
-use Rattle.std.proofs.lemmas.Bool.{and_parts, cases_eq, eqb-true, eq-eqb, false≢true, ne_eqb}
+use Rattle.std.proofs.Math.Bool.{and-true}
+use Rattle.std.proofs.lemmas.Bool.{and_parts, cases_eq, eq-eqb, eqb-true, false_from_ne_true, false≢true, ne_eqb}
 use Rattle.v8_decode.specs.declared.Instr.{Instr}
 use Rattle.v8_decode.specs.Words.{decode_of}
 use Rattle.v8_step.specs.Items.{is_transfer}
@@ -16,10 +17,10 @@ use Rattle.cfg_normal.specs.declared.Node.{Node}
 use Rattle.cfg_normal.specs.declared.Node.TheVariants.{Block, Landed, X}
 use Rattle.cfg_normal.specs.Nodes.{home_of}
 use Rattle.cfg_normal.specs.Opens.{Open, jumps_in}
-use Rattle.cfg_normal.specs.Graph.{IsNodeIn, directed, edge_of, has_cases, is_compared}
+use Rattle.cfg_normal.specs.Graph.{IsNodeIn, directed, is_compared}
 use Rattle.cfg_walk.specs.Walk.{edge_from, left_by, node_after, same_kind, same_node}
 use Rattle.cfg_walk.proofs.Cut.{IsCut}
-use Rattle.cfg_walk.proofs.Edges.{IsEdge, block, copy}
+use Rattle.cfg_walk.proofs.Edges.{block, copy}
 use Rattle.cfg_walk.proofs.Holding.{IsIn, ends_within, is_held}
 use Rattle.cfg_walk.proofs.Leaving.{end_here, end_is, ends_home, falls_to, is_in, no_cases, node_within, straight_end, straight_left, way_found}
 use Rattle.cfg_walk.proofs.Ways.{IsOne, fall_is_one}
@@ -42,34 +43,22 @@ module _ (g : Setting) (is : IsKnown g) where
   -- from a block that ends in no branch
   not_compared : (node : Node) (k : ℕ) → home_of node ≡ block k → ends_block_after (end_of b k) ≡ false
       → (kind : EdgeKind) (to : ℕ) → is_compared g.switches node kind to ≡ false
-  not_compared (Block from) k home plain kind to = by (is_compared g.switches (Block from) kind to) refl
-    where
-      by : (t : Bool) → is_compared g.switches (Block from) kind to ≡ t → t ≡ false
-      by false e = refl
-      by true e =
-          let p = (λ (o : Open). (o.block == to) && (o.switch.compare.0 == from.0) && same_kind kind o.way) in
-          let found = placed p g.switches e in
-          let o = found.item in
-          let parts = and_parts ((o.block == to) && (o.switch.compare.0 == from.0))
-          (same_kind kind o.way) found.passes in
-          let compares : o.switch.compare.0 ≡ from.0 =
-          eqb-true o.switch.compare.0 from.0 (and_parts (o.block == to) (o.switch.compare.0 == from.0) parts.0).1 in
-          let here : from.0 ≡ k = ap block_of home in
-          let ends : ends_block_after (end_of b k) ≡ true =
-          ap (λ (n : ℕ). ends_block_after (end_of b n)) (sym (compares ∙ here))
-          ∙ (is.cased.branches found.number o found.is).0 in
-          absurd (false≢true (sym plain ∙ ends))
+  not_compared (Block from) k home plain kind to = false_from_ne_true _ (λ e.
+      let p = (λ (o : Open). (o.block == to) && (o.switch.compare.0 == from.0) && same_kind kind o.way) in
+      let found = placed p g.switches e in
+      let o = found.item in
+      let parts = and_parts ((o.block == to) && (o.switch.compare.0 == from.0)) (same_kind kind o.way) found.passes in
+      let compares : o.switch.compare.0 ≡ from.0 = eqb-true _ _ (and_parts (o.block == to) _ parts.0).1 in
+      let ends : ends_block_after (end_of b k) ≡ true =
+      rw (← ap block_of home, ← compares) (is.cased.branches found.number o found.is).0 in
+      false≢true (sym plain ∙ ends))
   not_compared (Landed from) k home plain kind to = refl
   not_compared X k home plain kind to = refl
 
   pub directed_order : (node : Node) (kind : EdgeKind) (to : ℕ) → is_compared g.switches node kind to ≡ false
       → directed g.switches node kind (block to) ≡ (if jumps_in g.switches to then copy to else block to)
   directed_order node kind to e =
-      ap (λ (t : Bool). if jumps_in g.switches to && not t then copy to else block to) e ∙ by (jumps_in g.switches to)
-    where
-      by : (t : Bool) → (if t && true then copy to else block to) ≡ (if t then copy to else block to)
-      by true = refl
-      by false = refl
+      rw (e, and-true) refl
 
   module _ (node : Node) (word : ℕ) (low : word < b.words) (home : home_of node ≡ block (holding_of b word))
       (there : IsNodeIn b g.switches node) (straight : is_transfer (decode_of (slice_index g.text.words word))
@@ -110,11 +99,8 @@ module _ (g : Setting) (is : IsKnown g) where
     pub some_edge : word ≡ last_word b.firsts b.words its_block → edges ≢ []
     some_edge last none =
         let w = way kinds.Fall (within b.words (word + 1)) in
-        let quiet : has_cases g.switches node ≡ false =
-        no_cases b g.switches is.cased.jumps node its_block home (ap is_jump (ended last)) in
-        let found : IsEdge (graph_in g) (edge_from (graph_in g) node kinds.Fall)
-        (edge_of b g.switches node its_block w) =
-        way_found g.text b g.switches cut word low is.cased.jumps node there home w last quiet
+        let quiet = no_cases b g.switches is.cased.jumps node its_block home (ap is_jump (ended last)) in
+        let found = way_found g.text b g.switches cut word low is.cased.jumps node there home w last quiet
         (subst (λ (end : BlockEnd). IsOne w (ways_of b.words word end)) (sym falls) (fall_is_one b.words word)) in
         let one : found.number ∷ [] ≡ [] = sym found.only ∙ sym (last_edges last) ∙ none in
         absurd (cc)
@@ -170,11 +156,9 @@ module _ (g : Setting) (is : IsKnown g) where
 
     pub compare_apart : (k : ℕ) (o : Open) → slice_get g.switches k ≡ Some o → node ≡ copy o.switch.compare.0
         → its_block ≡ o.switch.compare.0 → same_node node (node_in_order (graph_in g) word) ≡ false
-    compare_apart k o e here held = rw (here, no_jump (jumps_in g.switches its_block) refl)
-      where
-        no_jump : (t : Bool) → jumps_in g.switches its_block ≡ t → jumps_in g.switches its_block ≡ false
-        no_jump false e = e
-        no_jump true j =
-            let plain : is_jump (end_of b its_block) ≡ false =
-            ap (λ (n : ℕ). is_jump (end_of b n)) held ∙ (is.cased.branches k o e).1 in
-            absurd (false≢true (sym plain ∙ is.cased.jumps its_block j))
+    compare_apart k o e here held = rw (
+      here,
+      false_from_ne_true (jumps_in g.switches its_block) (λ j.
+          let plain : is_jump (end_of b its_block) ≡ false = rw held (is.cased.branches k o e).1 in
+          false≢true (sym plain ∙ is.cased.jumps its_block j)),
+    )

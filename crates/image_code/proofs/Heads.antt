@@ -1,6 +1,6 @@
 -- Each point outside the pages has a place: its piece begins with its Mark, or it lies outside the text.
 use Rattle.std.proofs.Common.{◌≡◌, ◌≢◌, ℕ, zero, suc, ◌+◌, ◌<◌, inl, Bool, true, false, Option, Some, None, List, ◌∷◌, length, refl, ap, sym, ◌∙◌}
-use Rattle.std.specs.Prelude.{if◌then◌else◌, slice_get, slice_index, ◌==◌}
+use Rattle.std.specs.Prelude.{slice_get, slice_index, ◌==◌}
 use Rattle.std.proofs.lemmas.Bool.{cond_both}
 use Rattle.std.proofs.lemmas.Option.{slice_get_within}
 use Rattle.eel_base.specs.CodeText.{Words, address_of, word_at}
@@ -8,7 +8,6 @@ use Rattle.eel_base.specs.declared.numbers.Addr.{Addr}
 use Rattle.v8_decode.specs.declared.Op2.{Op2}
 use Rattle.v8_decode.specs.declared.Instr.{Instr}
 use Rattle.v8_decode.specs.declared.Instr.TheVariants as i
-use Rattle.v8_decode.specs.declared.StoreKind.TheVariants as stores
 use Rattle.v8_decode.specs.Words.{decode_of}
 use Rattle.v8_step.specs.declared.Slot.{Slot}
 use Rattle.v8_step.specs.declared.Slot.TheVariants.{NoSlot}
@@ -19,7 +18,7 @@ use Rattle.cfg_blocks.specs.Ends.{always, never}
 use Rattle.cfg_blocks.proofs.Targets.{word_at-some}
 use Rattle.cfg_normal.specs.declared.Edge.{Edge}
 use Rattle.cfg_normal.specs.declared.Node.{Node}
-use Rattle.cfg_normal.specs.declared.Node.TheVariants.{Block, Landed, X}
+use Rattle.cfg_normal.specs.declared.Node.TheVariants.{Block, X}
 use Rattle.cfg_normal.specs.declared.Slot.TheVariants as carried
 use Rattle.cfg_normal.specs.Nodes.{home_of}
 use Rattle.cfg_normal.specs.Opens.{Open, jumps_in}
@@ -34,8 +33,8 @@ use Rattle.image_code.specs.Simulates.{MatchesIn, Setting, graph_in, number_in}
 use Rattle.image_code.specs.Choices.{choice_piece}
 use Rattle.image_code.specs.Images.{Frame, slot_piece, visited_at}
 use Rattle.image_code.specs.Imaged.{IsHead, IsVisited, TakesWords, head, outside, beyond}
-use Rattle.image_code.specs.Made.{IsOffNoted, choice_of, distance_of, first_word, image_by, jump_by, jump_image_by, jumps_at, slot_copy, way_by}
-use Rattle.image_code.specs.Numbered.{case_piece, first_entry, jump_number, or_zero}
+use Rattle.image_code.specs.Made.{IsOffNoted, distance_of, first_word, image_by, jump_by, jump_image_by, jumps_at, slot_copy, way_by}
+use Rattle.image_code.specs.Numbered.{case_piece, first_entry}
 use Rattle.image_code.specs.Outside.{IsForeign, IsOff, IsOpen}
 use Rattle.image_code.proofs.Branches.{HeadOf}
 use Rattle.image_code.proofs.CaseTables.{IsKnown}
@@ -73,20 +72,13 @@ module _ (text : Words) (b : Blocks) (opens : List Open) (jumps cases : ℕ) (co
 
   jump_head : (address : Addr) (node : Node) (rd rs1 : ℕ) (op2 : Op2)
       → Begins address node (jump_image_by text graph jumps cases address node rd rs1 op2)
-  jump_head address (Block k) rd rs1 op2 = by (jumps_in opens k.0) refl
-    where
-      by : (t : Bool) → jumps_in opens k.0 ≡ t
-          → Begins address (Block k) (if t then choice_of text graph jumps cases address (Block k) rd
-          (jump_number text graph k.0)
-          (slice_get opens (or_zero (jump_number text graph k.0))) else jump_by text graph jumps cases address
-          (Block k) rd rs1 op2)
-      by false e = find_head address (Block k) rd rs1 op2
-      by true e =
-          let found = jump_numbered text b opens k.0 e in
-          let number : jump_number text graph k.0 ≡ Some found.0 = ap (jump_number text graph) (sym found.4)
-          ∙ found.2 in
-          rw (number, found.3)
-          (choice_head rd address k.0 (distance_of cases (first_entry text graph found.0) found.1.switch.table.0))
+  jump_head address (Block k) rd rs1 op2 =
+      cond_both (jumps_in opens k.0) _ _ (Begins address (Block k))
+      (λ e.
+      let found = jump_numbered text b opens k.0 e in
+      rw (rw found.4 at found.2, found.3)
+      (choice_head rd address k.0 (distance_of cases (first_entry text graph found.0) found.1.switch.table.0)))
+      (λ _. find_head address (Block k) rd rs1 op2)
   jump_head address node rd rs1 op2 = find_head address node rd rs1 op2
 
   image_head : (address : Addr) (node : Node) (word : ℕ) (instr : Instr)
@@ -107,9 +99,8 @@ module _ (text : Words) (b : Blocks) (opens : List Open) (jumps cases : ℕ) (co
       (λ _. cond_both (same_kind edge.kind kinds.Out) _ _ (HeadOf address node) (λ _. headed tt) (λ _. headed tt))
 
 home_outside : (node : Node) → home_of node ≡ X → node ≡ X
-home_outside (Block k) e = absurd (cc)
-home_outside (Landed k) e = absurd (cc)
 home_outside X e = refl
+home_outside _ e = absurd (cc)
 
 module _ (g : Setting) (codes : ℕ → List ℕ) (is : IsKnown g) (p : Placement) (f : Frame) where
   abbrev b : Blocks

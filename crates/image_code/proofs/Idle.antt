@@ -74,10 +74,10 @@ module _ (g : Setting) (l : Pieces) (base : ℕ) (p : Placement) (place : ℕ �
       let k = stands.closes in
       let b = stands.at in
       let v : State = does_at g x t in
+      let edges = gone_at g node x (does_at g x t) in
       let m = branch_moves g x t c.none c.original_word c.is_word c.cond c.annul c.disp c.says in
-      let same : does_at g x t ≡ moved m.pc m.npc m.slot t = m.is in
-      let to = entered_at g l p f (node_after (graph_in g) node (gone_at g node x (does_at g x t)))
-      (point_of (does_at g x t)) in
+      let same : v ≡ moved m.pc m.npc m.slot t = m.is in
+      let to = entered_at g l p f (node_after (graph_in g) node edges) (point_of v) in
       let on : wrapped (t.npc + 4) ≡ t.npc + 4 = omega arith in
       let pc : t.npc ≡ place c.piece 3 = omega arith in
       let valid : IsValid mid = subst IsValid idle_step (run-valid t 1 here.valid) in
@@ -86,14 +86,11 @@ module _ (g : Setting) (l : Pieces) (base : ℕ) (p : Placement) (place : ℕ �
         has = here.memory;
         runs = can_run g l base p place f h mid valid here.live on refl here.memory;
       } in
-      let edges = gone_at g node x (does_at g x t) in
       let rest = jump_then g l base p place f h c.piece 3 c.way
       (rest_marked l c.piece c.address (number_in g node) (it.Word c.word) (it.Jump c.way ∷ []) (tt, tt) c.items)
-      (gone_at g node x (does_at g x t)) mid (word_ahead g x t) to fit pc c.leads in
+      edges mid (word_ahead g x t) to fit pc c.leads in
       let way = leads_then (IsBare g l base p place f h) t mid (hopped rest.other to rest.memory) 1 rest.count
       (leads_one _ t _ idle_step) rest.path (λ _ some. rest.begins some) in
-      let few = rest.few in
-      let stores = rest.stores in
       let lives : rest.other.ending ≡ None = rest.alike.ending ∙ here.live in
       record {
         on = record {
@@ -102,7 +99,7 @@ module _ (g : Setting) (l : Pieces) (base : ℕ) (p : Placement) (place : ℕ �
           path = record {
             steps = way.steps;
             some = omega arith;
-            few = omega (arith, few);
+            few = omega (arith, rest.few);
             quiet = λ j p1 p2. quiet_of g l base p place f h t _ (1 + rest.count)
                 (IsBare g l base p place f h) way lives (bare_on g l base p place f h t) j p1 p2;
           };
@@ -111,22 +108,21 @@ module _ (g : Setting) (l : Pieces) (base : ℕ) (p : Placement) (place : ℕ �
               ∙ sym (ap (λ (o : Option ℕ). puts_on_word (at_point x t) o descriptor) c.is_word
               ∙ ap (λ (q : Instr). puts_by (at_point x t) q descriptor) c.says
               ∙ no_puts (at_point x t) c.cond c.annul c.disp descriptor);
-          followed = followed_alike g (gone_at g node x (does_at g x t)) (does_at g x t)
-              mid (hopped rest.other to rest.memory) (ap (λ (z : State). hopped z 0 rest.memory) same)
+          followed = followed_alike g edges v mid (hopped rest.other to rest.memory)
+              (ap (λ (z : State). hopped z 0 rest.memory) same)
               (subst (λ (z : Memory). IsSameOutside (pages_of g.notes) z rest.memory)
               (sym (ap (λ (z : State). z.memory) same))
-              (same_stored g f h.frame base p t.memory rest.memory here.memory stores))
-              (alike_hopped g (gone_at g node x (does_at g x t)) mid rest.other to rest.memory rest.alike);
-          cells = rest.cells (gone_last g l f h.cells node x (does_at g x t))
-              ∙ updates_same g.snips (gone_at g node x (does_at g x t)) (cells_in g t) mid (does_at g x t)
-              (sym (ap (λ (z : State). register_of z) same));
+              (same_stored g f h.frame base p t.memory rest.memory here.memory rest.stores))
+              (alike_hopped g edges mid rest.other to rest.memory rest.alike);
+          cells = rest.cells (gone_last g l f h.cells node x v)
+              ∙ updates_same g.snips edges (cells_in g t) mid v (sym (ap (λ (z : State). register_of z) same));
           here = λ _. record {
             valid = subst IsValid way.steps (run-valid t (1 + rest.count) here.valid);
             live = lives;
             at = refl;
             npc = refl;
             slot = refl;
-            memory = images_stored g f h.frame base p mid _ rest.count rest.path.steps stores here.memory;
+            memory = images_stored g f h.frame base p mid _ rest.count rest.path.steps rest.stores here.memory;
             waits = λ a b _. absurd (c.never a b);
           };
           place = λ e. absurd (e (ap (λ (z : State). z.ending) same ∙ here.live));

@@ -1,18 +1,19 @@
 -- The number of a word's image at a node: in the order of the text, or among the pieces of an open switch.
-use Rattle.std.proofs.Common.{◌≡◌, ℕ, Bool, true, false, ◌||◌, Option, Some, List, refl, ap, sym, ◌∙◌}
+use Rattle.std.proofs.Common.{◌≡◌, ℕ, Bool, true, false, Option, Some, List, refl, ap, sym, ◌∙◌, inl, inr}
 use Rattle.std.specs.Prelude.{◌==◌, if◌then◌else◌, slice_get}
 use Rattle.std.specs.List.{list_any, position}
-use Rattle.std.proofs.lemmas.Bool.{eqb-true, eq-eqb, false≢true}
+use Rattle.std.proofs.Math.Bool.{or-false}
+use Rattle.std.proofs.lemmas.Bool.{cases_Bool, eq-eqb, eqb-true, false_from_ne_true, false≢true}
 use Rattle.eel_base.specs.CodeText.{Words}
 use Rattle.cfg_blocks.specs.Blocks.{Blocks, end_of, holding_of}
 use Rattle.cfg_blocks.specs.Switches.{is_jump}
 use Rattle.cfg_normal.specs.declared.Node.{Node}
 use Rattle.cfg_normal.specs.declared.Node.TheVariants.{Block, Landed, X}
 use Rattle.cfg_normal.specs.Nodes.{home_of}
-use Rattle.cfg_normal.specs.Opens.{Open, compares_in, is_copied, jumps_in}
+use Rattle.cfg_normal.specs.Opens.{Open, compares_in, jumps_in}
 use Rattle.cfg_normal.specs.Graph.{Graph, IsNodeIn, graph_of}
 use Rattle.cfg_walk.proofs.Edges.{block, copy}
-use Rattle.image_code.specs.Numbered.{at_open, by_open, compare_image, compare_number, enter_number, image_number, jump_enter, jump_image, jump_number, node_in_order}
+use Rattle.image_code.specs.Numbered.{at_open, compare_image, compare_number, enter_number, image_number, jump_enter, jump_image, jump_number, node_in_order}
 use Rattle.image_code.proofs.Opened.{AreCased}
 use Rattle.image_code.proofs.Positions.{any_at, not_placed, placed}
 
@@ -39,37 +40,27 @@ module _ (text : Words) (b : Blocks) (opens : List Open) where
 
   pub open_is : (number : ℕ → Open → ℕ → ℕ) (k : ℕ) (o : Open) (n : Option ℕ) (word : ℕ) → n ≡ Some k
       → slice_get opens k ≡ Some o → at_open text graph number n word ≡ number k o word
-  open_is number k o n word at is =
-      ap (λ (m : Option ℕ). at_open text graph number m word) at
-      ∙ ap (λ (x : Option Open). by_open text graph number k x word) is
+  open_is number k o n word at is = rw (at, is) refl
 
   pub jump_image_is : (k : ℕ) (o : Open) (node : Node) (word : ℕ) → jump_number text graph o.block ≡ Some k
       → slice_get opens k ≡ Some o → node ≡ block o.block → image_number text graph node word
       ≡ jump_image text graph k o word
-  jump_image_is k o node word at is same =
-      ap (λ (n : Node). image_number text graph n word) same
-      ∙ open_is (jump_image text graph) k o (jump_number text graph o.block) word at is
+  jump_image_is k o node word at is same = rw same (open_is (jump_image text graph) k o _ word at is)
 
   pub jump_enter_is : (k : ℕ) (o : Open) (node : Node) (word : ℕ) → jump_number text graph o.block ≡ Some k
       → slice_get opens k ≡ Some o → node ≡ block o.block → enter_number text graph node word
       ≡ jump_enter text graph k o word
-  jump_enter_is k o node word at is same =
-      ap (λ (n : Node). enter_number text graph n word) same
-      ∙ open_is (jump_enter text graph) k o (jump_number text graph o.block) word at is
+  jump_enter_is k o node word at is same = rw same (open_is (jump_enter text graph) k o _ word at is)
 
   pub compare_image_is : (k : ℕ) (o : Open) (node : Node) (word : ℕ)
       → compare_number text graph o.switch.compare.0 ≡ Some k → slice_get opens k ≡ Some o
       → node ≡ copy o.switch.compare.0 → image_number text graph node word ≡ compare_image text graph k o word
-  compare_image_is k o node word at is same =
-      ap (λ (n : Node). image_number text graph n word) same
-      ∙ open_is (compare_image text graph) k o (compare_number text graph o.switch.compare.0) word at is
+  compare_image_is k o node word at is same = rw same (open_is (compare_image text graph) k o _ word at is)
 
   pub compare_enter_is : (k : ℕ) (o : Open) (node : Node) (word : ℕ)
       → compare_number text graph o.switch.compare.0 ≡ Some k → slice_get opens k ≡ Some o
       → node ≡ copy o.switch.compare.0 → enter_number text graph node word ≡ compare_image text graph k o word
-  compare_enter_is k o node word at is same =
-      ap (λ (n : Node). enter_number text graph n word) same
-      ∙ open_is (compare_image text graph) k o (compare_number text graph o.switch.compare.0) word at is
+  compare_enter_is k o node word at is same = rw same (open_is (compare_image text graph) k o _ word at is)
 
   -- ---- the nodes of a word's block
 
@@ -113,42 +104,31 @@ module _ (text : Words) (b : Blocks) (opens : List Open) where
 
   pub has_image : (node : Node) (word : ℕ) → home_of node ≡ block (holding_of b word) → IsNodeIn b opens node
       → HasImage node word
-  has_image (Block k) word home there = by (jumps_in opens k.0) refl
-    where
-      same : k.0 ≡ holding_of b word
-      same = let s : k.0 ≡ holding_of b word = cc in s
-
-      by : (t : Bool) → jumps_in opens k.0 ≡ t → HasImage (Block k) word
-      by false e = order_block k.0 word same e
-      by true e =
-          let found = jump_numbered k.0 e in
-          at_jump found.0 found.1 found.2 found.3 (ap block (sym found.4)) (sym same ∙ sym found.4)
-  has_image (Landed k) word home there = by (compares_in opens k.0) refl there.1
-    where
-      same : k.0 ≡ holding_of b word
-      same = let s : k.0 ≡ holding_of b word = cc in s
-
-      either : (s t : Bool) → t ≡ false → (s || t) ≡ true → s ≡ true
-      either true t e h = refl
-      either false t e h = absurd (false≢true (sym e ∙ h))
-
-      by : (t : Bool) → compares_in opens k.0 ≡ t → is_copied opens k.0 ≡ true → HasImage (Landed k) word
-      by false e copied =
-          order_copy k.0 word same (either (jumps_in opens k.0) (compares_in opens k.0) e copied) e
-      by true e copied =
-          let found = compare_place k.0 e in
-          at_compare found.0 found.1 found.2 found.3 (ap copy (sym found.4)) (sym same ∙ sym found.4)
+  has_image (Block k) word home there =
+      let same : k.0 ≡ holding_of b word = cc in
+      elim (cases_Bool (jumps_in opens k.0)) as (λ _. HasImage (Block k) word) [
+        | inl e ↦
+            let found = jump_numbered k.0 e in
+            at_jump found.0 found.1 found.2 found.3 (ap block (sym found.4)) (sym same ∙ sym found.4)
+        | inr e ↦ order_block k.0 word same e
+      ]
+  has_image (Landed k) word home there =
+      let same : k.0 ≡ holding_of b word = cc in
+      elim (cases_Bool (compares_in opens k.0)) as (λ _. HasImage (Landed k) word) [
+        | inl e ↦
+            let found = compare_place k.0 e in
+            at_compare found.0 found.1 found.2 found.3 (ap copy (sym found.4)) (sym same ∙ sym found.4)
+        | inr e ↦ order_copy k.0 word same (rw (e, or-false) at there.1) e
+      ]
   has_image X word home there = absurd (cc)
 
   -- control that comes to a word in the order of the text comes to the image that stands there
   module _ (cased : AreCased text b opens) where
-    no_compare : (k : ℕ) → jumps_in opens k ≡ true → (t : Bool) → compares_in opens k ≡ t → t ≡ false
-    no_compare k jumps false e = refl
-    no_compare k jumps true e =
+    no_compare : (k : ℕ) → jumps_in opens k ≡ true → compares_in opens k ≡ false
+    no_compare k jumps = false_from_ne_true _ (λ e.
         let found = compare_place k e in
-        let plain : is_jump (end_of b k) ≡ false =
-        ap (λ (n : ℕ). is_jump (end_of b n)) (sym found.4) ∙ (cased.branches found.0 found.1 found.3).1 in
-        absurd (false≢true (sym plain ∙ cased.jumps k jumps))
+        let plain : is_jump (end_of b k) ≡ false = rw (← found.4) (cased.branches found.0 found.1 found.3).1 in
+        false≢true (sym plain ∙ cased.jumps k jumps))
 
     pub enters_in_order : (word : ℕ) → enter_number text graph (node_in_order graph word) word ≡ word
     enters_in_order word = by (jumps_in opens (holding_of b word)) refl
@@ -167,17 +147,12 @@ module _ (text : Words) (b : Blocks) (opens : List Open) where
         by false e =
             enters (block (holding_of b word)) (order_block (holding_of b word) word refl e)
             (ap (λ (t : Bool). if t then copy (holding_of b word) else block (holding_of b word)) e)
-            (λ k o is here.
-            let same : holding_of b word ≡ o.block = ap block_of here in
-            absurd (false≢true (sym e ∙ ap (jumps_in opens) same ∙ jump_of k o is)))
+            (λ k o is here. absurd (false≢true (sym e ∙ ap (jumps_in opens) (ap block_of here) ∙ jump_of k o is)))
             (λ k o is here. absurd (cc))
         by true e =
-            let none = no_compare (holding_of b word) e (compares_in opens (holding_of b word)) refl in
+            let none = no_compare (holding_of b word) e in
             enters (copy (holding_of b word)) (order_copy (holding_of b word) word refl e none)
             (ap (λ (t : Bool). if t then copy (holding_of b word) else block (holding_of b word)) e)
             (λ k o is here. absurd (cc))
-            (λ k o is here.
-            let same : holding_of b word ≡ o.switch.compare.0 = ap block_of here in
-            absurd (false≢true (sym none ∙ ap (compares_in opens) same
-            ∙ any_at (λ (q : Open). q.switch.compare.0 == o.switch.compare.0) opens k o is
-            (eq-eqb o.switch.compare.0 o.switch.compare.0 refl))))
+            (λ k o is here. absurd (false≢true (sym none ∙ ap (compares_in opens) (ap block_of here)
+            ∙ any_at (λ (q : Open). q.switch.compare.0 == o.switch.compare.0) opens k o is (eq-eqb _ _ refl))))

@@ -1,5 +1,5 @@
 -- From the cases to the promise as a whole.
-use Rattle.std.proofs.Common.{◌≡◌, ℕ, suc, ◌+◌, ◌<◌, Option, Some, List, ◌∷◌, length, refl, ap, sym, ◌∙◌, subst, arith}
+use Rattle.std.proofs.Common.{◌≡◌, ℕ, suc, ◌+◌, ◌<◌, Option, Some, List, length, refl, ap, sym, ◌∙◌, subst, arith}
 use Rattle.std.specs.Prelude.{slice_index}
 use Rattle.v8_decode.specs.Words.{decode_of}
 use Rattle.v8_memory.specs.Spans.{AllApart}
@@ -11,7 +11,7 @@ use Rattle.cfg_normal.specs.declared.Node.{Node}
 use Rattle.cfg_walk.specs.Walk.{Point}
 use Rattle.layout.specs.declared.items.Item.{Item}
 use Rattle.layout.specs.declared.items.Item.TheVariants as it
-use Rattle.layout.specs.Laid.{HasShortForms, Placement, Stands, BranchStands, branch_short, branch_long, item_in, items_in, size_of, open_in, range_of, end_from}
+use Rattle.layout.specs.Laid.{HasShortForms, Placement, Stands, BranchStands, branch_short, branch_long, item_in, items_in, size_of, open_in, range_of}
 use Rattle.image_code.specs.Simulates.{at_point, does_at, gone_at, number_in, word_of, Enters}
 use Rattle.code_runs.specs.PointsAlike.{instr_of}
 use Rattle.image_code.specs.Images.{Here, Entered}
@@ -50,14 +50,7 @@ heads_visit g l base p place f node x t h here c =
     let at : t.pc ≡ place c.piece 1 = here.at ∙ c.here ∙ h.laid.starts c.piece c.within ∙ sym mark in
     let low = (h.laid.within c.piece 1 c.within (omega arith)).begins in
     let high = (h.laid.within c.piece 2 c.within (omega arith)).ends in
-    at_range g l base p place f h node x t
-    (record {
-      lo = place c.piece 1;
-      hi = place c.piece (end_from
-          (c.item ∷ c.rest) 1);
-      address = c.address.0;
-      node = number_in g node;
-    })
+    at_range g l base p place f h node x t _
     here.live (omega arith) (omega arith)
     (h.laid.ranges c.piece 1 t.pc c.item (item 1) (omega arith) (omega arith)
     ∙ ap (λ (v : Option (List Item)). range_of (place c.piece) (open_in v 1)) c.items)

@@ -52,9 +52,6 @@ module _ (g : Setting) (codes : ℕ → List ℕ) (is : IsKnown g) (p : Placemen
   address_low : x.pc + 4 < 2 ^ 32
   address_low =
       let w = word_at-some g.text x.pc word at in
-      let l = w.within in
-      let i = w.is in
-      let h = is.text.below in
       omega arith
 
   pub before : (v : State) → v.pc ≡ x.npc → instr_at g.text (v.pc - 4) ≡ Some instr

@@ -58,9 +58,6 @@ module _ (g : Setting) (codes : ℕ → List ℕ) (is : IsKnown g) (p : Placemen
   low : x.pc < 2 ^ 32
   low =
       let w = word_at-some g.text x.pc word at in
-      let l = w.within in
-      let i = w.is in
-      let h = is.text.below in
       omega arith
 
   has : HasImage g.text (blocks_of g.text g.given) g.switches node word

@@ -9,7 +9,7 @@ use Rattle.v8_decode.specs.Ranges.{op2_in_range, operands_in_range}
 use Rattle.v8_decode.specs.Words.{decode_of}
 use Rattle.v8_decode.proofs.Rows.{decoded_range}
 use Rattle.v8_encode.specs.Encoding.{op2_fits}
-use Rattle.jump_code.specs.FreeRegister.{first_free, free_register, is_one_of, is_one_of_four, next_free, other_register, second_register}
+use Rattle.jump_code.specs.FreeRegister.{first_free, free_register, is_one_of_four, next_free, other_register, second_register}
 use Rattle.jump_code.specs.FreeRegister.{IsApart, IsNotIn}
 use Rattle.image_code.proofs.Operands.{operand_fits}
 
@@ -22,21 +22,8 @@ record IsFree (number a b c : ℕ) : Type 0 where
   pub second : b ≢ number
   pub third : c ≢ number
 
-free_if : (number a b c : ℕ) → 0 < number → number < 5 → not (is_one_of number a b c) ≡ true → IsFree number a b c
-free_if number a b c some few e = grind (e, arith, nat_tests)
-
--- where 1 to 3 are all named, 4 isn't
-fourth : (a b c : ℕ) → not (is_one_of 1 a b c) ≡ false → not (is_one_of 2 a b c) ≡ false
-    → not (is_one_of 3 a b c) ≡ false → IsFree 4 a b c
-fourth a b c one two three = grind (one, two, three, arith, nat_tests)
-
 first_is_free : (a b c : ℕ) → IsFree (first_free a b c) a b c
-first_is_free a b c =
-    cond_both (not (is_one_of 1 a b c)) _ _ (λ (n : ℕ). IsFree n a b c) (free_if 1 a b c (omega arith) (omega arith))
-    (λ one. cond_both (not (is_one_of 2 a b c)) _ _ (λ (n : ℕ). IsFree n a b c)
-    (free_if 2 a b c (omega arith) (omega arith))
-    (λ two. cond_both (not (is_one_of 3 a b c)) _ _ (λ (n : ℕ). IsFree n a b c)
-    (free_if 3 a b c (omega arith) (omega arith)) (λ three. fourth a b c one two three)))
+first_is_free a b c = grind (arith, nat_tests)
 
 -- ---- the second one
 
@@ -87,13 +74,11 @@ jmpl_is word rd rs1 op2 says =
     (decoded_range (i.Jmpl rd rs1 op2) word (sym says)) in
     let more = and_parts (nat_lt rs1 32) (op2_in_range op2) parts.1 in
     let free = first_is_free rd rs1 (second_register op2) in
-    let few = free.few in
     let next = next_is_free rd rs1 (second_register op2) (free_register rd rs1 op2) in
-    let fewer = next.few in
     record {
       other = record {
         some = next.some;
-        below = omega (arith, fewer);
+        below = omega (arith, next.few);
         rd_below = ltb-true rd 32 parts.0;
         rs1_below = ltb-true rs1 32 more.0;
         rd_not = next.first;

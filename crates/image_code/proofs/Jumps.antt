@@ -2,11 +2,9 @@
 use Rattle.std.proofs.Common.{◌≡◌, ◌≢◌, ℕ, ◌+◌, ◌-◌, ◌%◌, ◌^◌, ◌<◌, ◌≤◌, inl, inr, false, Option, Some, None, List, [], length, refl, ap, sym, ◌∙◌, subst, arith}
 use Rattle.eel_base.specs.CodeText.{word_at}
 use Rattle.v8_decode.specs.declared.Instr.{Instr}
-use Rattle.v8_decode.specs.declared.Instr.TheVariants as i
 use Rattle.v8_decode.specs.Words.{decode_of}
 use Rattle.v8_alu.specs.Numbers.{wrapped}
-use Rattle.v8_memory.specs.Regions.{Memory, code_of}
-use Rattle.v8_memory.specs.Spans.{IsSameOutside}
+use Rattle.v8_memory.specs.Regions.{code_of}
 use Rattle.v8_step.specs.declared.Ending.{Ending}
 use Rattle.v8_step.specs.declared.Slot.TheVariants.{NoSlot}
 use Rattle.v8_step.specs.State.{State, sum_of}
@@ -14,13 +12,11 @@ use Rattle.v8_step.specs.Step.{puts_on_word}
 use Rattle.v8_step.specs.Run.{run}
 use Rattle.v8_step.specs.Items.{is_transfer}
 use Rattle.v8_step.specs.Valid.{IsValid}
-use Rattle.two_runs.specs.Visits.{pages_of}
 use Rattle.v8_step.proofs.ValidSteps.{run-valid}
 use Rattle.cfg_normal.specs.declared.Node.{Node}
 use Rattle.cfg_walk.specs.Walk.{Point, instr_at, point_of, node_after}
 use Rattle.code_runs.specs.Page.{page_word}
 use Rattle.code_runs.specs.Points.{moved}
-use Rattle.code_runs.specs.StoredWords.{Stores}
 use Rattle.code_runs.specs.TwoRegisters.{IsBetween}
 use Rattle.code_runs.specs.Straight.{StandIn}
 use Rattle.code_runs.proofs.Hops.{equal_or_not}
@@ -67,19 +63,17 @@ module _ (g : Setting) (l : Pieces) (base : ℕ) (p : Placement) (place : ℕ �
 
   about : IsAboutToFind c.scratch c.second c.rd c.rs1 c.op2 c.address.0 f.halves t
   about =
-      let low = ahead.low in
-      let n = many in
       record {
         valid = here.valid;
-        ready = record { live = here.live; npc = ahead.next (omega arith) };
-        low = omega arith;
+        ready = record { live = here.live; npc = ahead.next (omega (arith, many)) };
+        low = omega (arith, ahead.low);
         apart = c.apart;
         other = c.other;
         differ = c.differ;
         words = subst (λ z. StandIn (code_of t.memory) z image) (sym ahead.at)
             ((pieces_are_laid l.list base p place h.laid t.memory here.memory.code c.piece _ c.items).find
             c.scratch c.second c.rd c.rs1 c.op2 f.halves.base c.address (number_in g node) c.way c.apart c.other c.fits
-            c.in_range (let below = h.frame.whole.below in omega (arith, below)) short refl).words;
+            c.in_range (omega (arith, h.frame.whole.below)) short refl).words;
         short = short;
         table = h.frame.whole;
         stands = record {
@@ -91,7 +85,7 @@ module _ (g : Setting) (l : Pieces) (base : ℕ) (p : Placement) (place : ℕ �
       }
     where
       short : c.address.0 < 2 ^ 32
-      short = let o = c.original in let low = c.low in omega arith
+      short = omega (arith, c.original, c.low)
 
   -- the target is a multiple of 4, or it isn't
   either : {A : Type 0} → (sum_of t c.rs1 c.op2 % 4 ≡ 0 → A) → (sum_of t c.rs1 c.op2 % 4 ≢ 0 → A) → A
@@ -143,14 +137,12 @@ module _ (g : Setting) (l : Pieces) (base : ℕ) (p : Placement) (place : ℕ �
       → Enters g (Entered g l base p f) (HasShortForms l.list place) edges node x t after_jump
   going edges last live leads =
       let on = (finds_simulate c.scratch c.second c.rd c.rs1 c.op2 c.address.0 f.halves t about).0 live in
-      let n = many in
       goes_through g l base p place f h node x t here c.piece c.within c.here image c.address c.way c.items
-      after_jump (found_memory t c.scratch c.second c.rs1 c.op2 f.halves) edges last (omega arith) few
+      after_jump (found_memory t c.scratch c.second c.rs1 c.op2 f.halves) edges last (omega (arith, many)) few
       (record {
         path = on.path;
         silent = on.silent;
-        stores = subst (λ (z : Memory). Stores IsPageWord z (found_memory t c.scratch c.second c.rs1 c.op2 f.halves))
-            memory_is on.stores;
+        stores = rw memory_is at on.stores;
         live = live;
         memory = memory_is;
         quiet = quiet;
@@ -166,8 +158,6 @@ module _ (g : Setting) (l : Pieces) (base : ℕ) (p : Placement) (place : ℕ �
       let end = (finds_simulate c.scratch c.second c.rd c.rs1 c.op2 c.address.0 f.halves t about).1 d over in
       let traps = end.traps in
       let same = only_ends d over in
-      let n = many in
-      let pc = traps.pc in
       let valid : IsValid traps.after = subst IsValid traps.path.steps (run-valid t 10 here.valid) in
       record {
         on = record {
@@ -187,15 +177,14 @@ module _ (g : Setting) (l : Pieces) (base : ℕ) (p : Placement) (place : ℕ �
             registers = valid.registers.count
                 ∙ sym (ap (λ (z : State). length z.registers) same ∙ here.valid.registers.count);
             input = traps.input ∙ sym (ap (λ (z : State). z.input) same);
-            memory = subst (λ (z : Memory). IsSameOutside (pages_of g.notes) z traps.after.memory) (sym memory_is)
-                (same_stored g f h.frame base p t.memory traps.after.memory here.memory
+            memory = rw memory_is (same_stored g f h.frame base p t.memory traps.after.memory here.memory
                 (own_stored g f h.frame t.memory traps.after.memory traps.stores));
             items = λ live thing _ _. absurd (cc);
           };
           cells = page_cells g l base p place f h node x t here c.piece c.within c.here image c.address c.way c.items
               traps.after.memory traps.stores;
           here = λ live. absurd (cc);
-          place = λ _. ahead.there traps.after (omega arith) (omega arith);
+          place = λ _. ahead.there traps.after (omega (arith, traps.pc)) (omega (arith, traps.pc, many));
           sparing = λ watched. absurd (jumping watched.jump);
         };
         first = λ live _ _ _. absurd (cc);
@@ -204,11 +193,9 @@ module _ (g : Setting) (l : Pieces) (base : ℕ) (p : Placement) (place : ℕ �
       on_way : (run t 9).ending ≡ None → (j : ℕ) → 0 < j → j < 10 → IsBetween t 10 IsPageWord (run t j)
           → IsOnWay g t (run t j)
       on_way live j some below between =
-          let n = many in
-          let before = between.before in
           ahead.on (run t j)
           (live_before t (9 - j) j (ap (λ z. (run t z).ending) (let e : 9 - j + j ≡ 9 = omega arith in e) ∙ live))
-          between.past (omega arith) between.stores
+          between.past (omega (arith, between.before, many)) between.stores
 
   steps : (e : Option Ending) → after_jump.ending ≡ e
       → (after_jump.ending ≡ None → LeadsTo l p c.way (gone_at g node x after_jump) (word_at g.text after_jump.pc)
@@ -216,8 +203,7 @@ module _ (g : Setting) (l : Pieces) (base : ℕ) (p : Placement) (place : ℕ �
       (node_after (graph_in g) node (gone_at g node x after_jump)) (point_of after_jump)))
       → Enters g (Entered g l base p f) (HasShortForms l.list place) (gone_at g node x after_jump) node x t after_jump
   steps None e leads = going (gone_at g node x after_jump) (gone_last g l f h.cells node x after_jump) e (leads e)
-  steps (Some d) e leads =
-      rw (ended_none g node x after_jump d e) (ends d e)
+  steps (Some d) e leads = rw (ended_none g node x after_jump d e) (ends d e)
 
 pub jumps_step : JumpsStep
 jumps_step g l base p place f node x t h here c =

@@ -1,9 +1,8 @@
 -- From where control comes to a point, on to its visit: nothing is run between, but before the load of an open switch
 -- its address is kept.
-use Rattle.std.proofs.Common.{◌≡◌, ℕ, ◌+◌, ◌-◌, ◌*◌, ◌%◌, ◌^◌, ◌<◌, ◌≤◌, ◌⊎◌, inl, inr, Bool, true, false, Option, Some, None, List, [], ◌++◌, append-nil, refl, ap, sym, ◌∙◌, subst, arith}
+use Rattle.std.proofs.Common.{◌≡◌, ℕ, ◌+◌, ◌-◌, ◌*◌, ◌%◌, ◌^◌, ◌<◌, ◌≤◌, inl, inr, Bool, true, false, Option, Some, None, List, [], ◌++◌, append-nil, refl, ap, sym, ◌∙◌, subst, arith}
 use Rattle.std.specs.Prelude.{if◌then◌else◌, ◌==◌, slice_get, slice_index}
-use Rattle.std.proofs.lemmas.Bool.{and_parts, cases_lt, lt-ltb, ltb-true}
-use Rattle.std.proofs.lemmas.Bool.Decides.{nat_tests}
+use Rattle.std.proofs.lemmas.Bool.{and_parts, cases_lt, lt-ltb, ltb-true, ne_eqb}
 use Rattle.eel_base.specs.CodeText.{Words, address_of, word_at}
 use Rattle.v8_decode.specs.declared.Instr.{Instr}
 use Rattle.v8_decode.specs.declared.Instr.TheVariants as i
@@ -26,11 +25,9 @@ use Rattle.v8_step.specs.Valid.{IsValid}
 use Rattle.two_runs.specs.Visits.{pages_of}
 use Rattle.v8_step.proofs.CopiedMoves.{goes_act}
 use Rattle.v8_step.proofs.ValidSteps.{run-valid}
-use Rattle.cfg_blocks.specs.Ends.{within}
 use Rattle.cfg_blocks.proofs.Targets.{word_at-some}
 use Rattle.cfg_normal.specs.declared.Node.{Node}
 use Rattle.cfg_normal.specs.declared.Node.TheVariants.{Block, Landed, X}
-use Rattle.cfg_normal.specs.Graph.{Graph}
 use Rattle.cfg_walk.specs.Walk.{Point, edge_from, ends_block, instr_at, left_by, node_after, point_of}
 use Rattle.cfg_walk.specs.Matches.{Matches, MatchesBy}
 use Rattle.cfg_blocks.specs.declared.EdgeKind.TheVariants as kinds
@@ -53,10 +50,10 @@ use Rattle.jump_code.specs.Keeping.{KeepsLoad, keep_load, kept_memory}
 use Rattle.jump_code.proofs.Keeping.{loads_are_kept}
 use Rattle.layout.specs.Emitting.{words_of}
 use Rattle.layout.specs.Laid.{HasShortForms, Placement}
-use Rattle.image_code.specs.Simulates.{CaseTable, Enters, IsAtWord, IsNoLoad, IsOnWay, limit_by, Setting, Steps, StepsOn, at_point, cells_in, does_at, gone_at, graph_in, is_spill, is_transfer_at, word_of}
+use Rattle.image_code.specs.Simulates.{CaseTable, Enters, IsAtWord, IsNoLoad, IsOnWay, limit_by, Setting, Steps, StepsOn, at_point, cells_in, does_at, gone_at, graph_in, is_spill, is_transfer_at}
 use Rattle.image_code.specs.Images.{Entered, Frame, Here, IsPlaced, Pieces, entered_at, visited_at}
 use Rattle.image_code.specs.Keeping.{AreCaseTables, IsEntered, IsKeeping, at_once, keeping}
-use Rattle.image_code.proofs.Arrives.{AreUnmarked, IsFit, Rest, Stood, bare_on, first_kept, rest_whole, stood, stood_low}
+use Rattle.image_code.proofs.Arrives.{IsFit, Rest, Stood, bare_on, first_kept, rest_whole, stood, stood_low}
 use Rattle.image_code.proofs.Between.{can_run, live_before}
 use Rattle.image_code.proofs.Memories.{images_stored, same_stored}
 use Rattle.image_code.proofs.Sparing.{instr_is, spill_first}
@@ -65,11 +62,10 @@ use Rattle.image_code.proofs.Visited.{left_gone, word_is}
 -- ---- memory outside the pages, twice the same
 
 region_trans : (x y z : Option Region) → IsSameRegion x y → IsSameRegion y z → IsSameRegion x z
-region_trans None None None h k = tt
+region_trans None None z h k = k
 region_trans (Some a) (Some b) (Some c) h k = h ∙ k
-region_trans None (Some b) z h k = absurd h
-region_trans (Some a) None z h k = absurd h
-region_trans _ _ _ h k = absurd k
+region_trans (Some a) (Some b) None h k = k
+region_trans _ _ z h k = absurd h
 
 outside_trans : (pages : List Span) (m n o : Memory) → IsSameOutside pages m n → IsSameOutside pages n o
     → IsSameOutside pages m o
@@ -80,10 +76,8 @@ outside_trans pages m n o h k = record {
 }
 
 -- the operands of a state that is elsewhere
-sum_past : (s : State) (count : ℕ) (m : Memory) (rs1 : ℕ) (op2 : Op2) → sum_of (past s count m s) rs1 op2
-    ≡ sum_of s rs1 op2
-sum_past s count m rs1 (Reg r) = refl
-sum_past s count m rs1 (Imm n) = refl
+sum_past : (s : State) (count : ℕ) (m : Memory) (rs1 : ℕ) (op2 : Op2) → sum_of (past s count m s) rs1 op2 ≡ sum_of s rs1 op2
+sum_past s count m rs1 op2 = grind arith
 
 same_past : (thing : StateItem) (v s : State) (count : ℕ) (m : Memory) → IsSameAt thing v s
     → IsSameAt thing v (past s count m s)
@@ -104,17 +98,13 @@ record IsInner (g : Setting) (node : Node) (x : Point) (v : State) (word : ℕ) 
   pub next : word_at g.text v.pc ≡ Some (word + 1)
 
 module _ (g : Setting) (are : AreCaseTables g) where
-  graph : Graph
-  graph = graph_in g
-
   inner : (node : Node) (x : Point) (t : State) → Matches g.text (graph_in g) node x → (k : ℕ) (o : CaseTable)
       → slice_get g.opens k ≡ Some o → (word : ℕ) → IsAtWord g o node x word → o.load ≤ word → word < o.jump
       → (does_at g x t).ending ≡ None → IsInner g node x (does_at g x t) word
   inner node x t matches k o is word at from below live =
       let c = are.each k o is in
       let straight = c.straight word from below in
-      let here : word_of g.text x.pc ≡ Some (slice_index g.text.words word) =
-      word_is g x word at.stands in
+      let here = word_is g x word at.stands in
       let v_is : does_at g x t ≡ act (at_point x t) (decode_of (slice_index g.text.words word)) =
       ap (on_word (at_point x t)) here in
       let went = goes_act (at_point x t) (decode_of (slice_index g.text.words word)) straight
@@ -124,21 +114,17 @@ module _ (g : Setting) (are : AreCaseTables g) where
       let match : MatchesBy g.text (graph_in g) node x NoSlot =
       subst (λ (s : Slot). MatchesBy g.text (graph_in g) node x s) at.outside matches in
       let w = word_at-some g.text x.pc word at.stands in
-      let inside = c.within in
       record {
         none = left_gone g node x (does_at g x t) at.outside slot live word at.stands
             (decode_of (slice_index g.text.words word)) refl
             ∙ left_none (decode_of (slice_index g.text.words word)) straight
             (ap (λ (n : Node). ends_block (graph_in g) n word) at.itself ∙ ap (λ z. word == z) c.last
-            ∙ before word o.jump below);
+            ∙ ne_eqb word o.jump (λ e. absurd (omega arith)));
         straight = ap is_transfer_at (instr_is g.text x.pc (slice_index g.text.words word) here) ∙ straight;
         next = ap (word_at g.text) (pc ∙ match.1) ∙ next_word g.text x.pc word are.text w
-            ∙ ap (λ (b : Bool). if b then Some (word + 1) else None) (lt-ltb _ _ (omega (arith, below, inside)));
+            ∙ ap (λ (b : Bool). if b then Some (word + 1) else None) (lt-ltb _ _ (omega (arith, below, c.within)));
       }
     where
-      before : (a b : ℕ) → a < b → (a == b) ≡ false
-      before a b l = grind (l, arith, nat_tests)
-
       left_none : (instr : Instr) → is_transfer instr ≡ false → ends_block (graph_in g) node word ≡ false
           → left_by (graph_in g) node word instr ≡ []
       left_none (i.Branch cond annul disp) e f = absurd (cc)
@@ -205,18 +191,12 @@ module _ (g : Setting) (l : Pieces) (base : ℕ) (p : Placement) (place : ℕ �
       (is : slice_get g.opens k ≡ Some o)
       (at : IsAtWord g o (node_after (graph_in g) node edges) (point_of v) o.load)
       (c : IsKeeping g l p place f (node_after (graph_in g) node edges) (point_of v) o) where
-    a : State
-    a = e.on.after
-
     here : Entered g l base p f (node_after (graph_in g) node edges) (point_of v) e.on.after
     here = e.on.here live
 
-    unmarked : AreUnmarked (word_items (keep_load o.rs1 o.op2))
-    unmarked = (tt, (tt, (tt, tt)))
-
     whole : Rest l c.piece 0 (word_items (keep_load o.rs1 o.op2) ++ [])
     whole = subst (Rest l c.piece 0) (sym (append-nil (word_items (keep_load o.rs1 o.op2))))
-        (rest_whole l c.piece (word_items (keep_load o.rs1 o.op2)) unmarked c.items)
+        (rest_whole l c.piece (word_items (keep_load o.rs1 o.op2)) (tt, (tt, (tt, tt))) c.items)
 
     stands : Stood g l base p place f h e.on.after.memory c.piece 0 (words_of (keep_load o.rs1 o.op2))
     stands = stood g l base p place f h e.on.after.memory here.memory.code c.piece 0
@@ -233,9 +213,8 @@ module _ (g : Setting) (l : Pieces) (base : ℕ) (p : Placement) (place : ℕ �
 
     npc : e.on.after.npc ≡ e.on.after.pc + 4
     npc =
-        let n = here.npc in
         let small : wrapped (e.on.after.pc + 4) ≡ e.on.after.pc + 4 = omega (arith, begin, end, low) in
-        n ∙ small
+        here.npc ∙ small
 
     fit : IsFit g l base p place f h e.on.after
     fit = record {
@@ -247,11 +226,10 @@ module _ (g : Setting) (l : Pieces) (base : ℕ) (p : Placement) (place : ℕ �
     keeps : KeepsLoad o.rs1 o.op2 e.on.after
     keeps =
         let q = are.each k o is in
-        let z = end in
         loads_are_kept o.rs1 o.op2 e.on.after (record {
           valid = here.valid;
           ready = record { live = here.live; npc = npc };
-          low = omega (arith, begin, z, low);
+          low = omega (arith, begin, end, low);
           words = subst (λ z. StandIn (code_of e.on.after.memory) z (keep_load o.rs1 o.op2)) (sym begin)
               (words_mean (code_of e.on.after.memory) (place c.piece 0) (keep_load o.rs1 o.op2)
               (keep_fits o.rs1 o.op2 q.in_range q.fits) stands.words);
@@ -265,56 +243,46 @@ module _ (g : Setting) (l : Pieces) (base : ℕ) (p : Placement) (place : ℕ �
     m = kept_memory e.on.after o.rs1 o.op2
 
     abbrev after : State
-    after = past e.on.after 3 (kept_memory e.on.after o.rs1 o.op2) e.on.after
+    after = past e.on.after 3 m e.on.after
 
-    stored : Stores (IsAmongWords f.own) e.on.after.memory (kept_memory e.on.after o.rs1 o.op2)
-        × ((memory_word (kept_memory e.on.after o.rs1 o.op2) (page_word 1)
-        ≡ memory_word e.on.after.memory (page_word 1))
-        × (words_at g.notes.base g.notes.cells (kept_memory e.on.after o.rs1 o.op2) ≡ cells_in g e.on.after))
-    stored = first_kept g l base p place f h e.on.after (kept_memory e.on.after o.rs1 o.op2) fit keeps.stores
+    stored : Stores (IsAmongWords f.own) e.on.after.memory m
+        × ((memory_word m (page_word 1) ≡ memory_word e.on.after.memory (page_word 1))
+        × (words_at g.notes.base g.notes.cells m ≡ cells_in g e.on.after))
+    stored = first_kept g l base p place f h e.on.after m fit keeps.stores
 
-    steps : run t (3 + e.on.count) ≡ past e.on.after 3 (kept_memory e.on.after o.rs1 o.op2) e.on.after
+    steps : run t (3 + e.on.count) ≡ after
     steps = run_add t e.on.count 3 ∙ ap (λ (z : State). run z 3) e.on.path.steps ∙ keeps.path.steps
 
     on_way : (j : ℕ) → j < 3 → IsOnWay g t (run e.on.after j)
-    on_way j less = by (cases_lt 0 j)
+    on_way j less = elim (cases_lt 0 j) [
+      | inl some ↦
+          let z = keeps.path.during j some less in
+          bare (run e.on.after j) running (omega (arith, z.past)) z.before
+      | inr none ↦
+          let zero : j ≡ 0 = omega arith in
+          subst (λ n. IsOnWay g t (run e.on.after n)) (sym zero) (bare e.on.after here.live (omega arith) (omega arith))
+    ]
       where
         bare : (u : State) → u.ending ≡ None → e.on.after.pc ≤ u.pc → u.pc < e.on.after.pc + 12 → IsOnWay g t u
         bare u running from to =
-            let b = begin in
-            bare_on g l base p place f h t u running (stands.bare u (omega (arith, b, from)) (omega (arith, b, to)))
+            bare_on g l base p place f h t u running (stands.bare u (omega (arith, begin)) (omega (arith, begin)))
 
         running : (run e.on.after j).ending ≡ None
         running =
             live_before e.on.after (3 - j) j
-            (ap (λ z. (run e.on.after z).ending) (let q : 3 - j + j ≡ 3 = omega (arith, less) in q)
+            (ap (λ z. (run e.on.after z).ending) (let q : 3 - j + j ≡ 3 = omega arith in q)
             ∙ ap (λ (z : State). z.ending) keeps.path.steps ∙ here.live)
-
-        by : (0 < j) ⊎ (j ≤ 0) → IsOnWay g t (run e.on.after j)
-        by (inl some) =
-            let z = keeps.path.during j some less in
-            let p1 = z.past in
-            let p2 = z.before in
-            bare (run e.on.after j) running (omega (arith, p1)) p2
-        by (inr none) =
-            let zero : j ≡ 0 = omega (arith, none) in
-            subst (λ n. IsOnWay g t (run e.on.after n)) (sym zero)
-            (bare e.on.after here.live (omega arith) (omega arith))
 
     keeps_on : StepsOn g (Here g l base p f) (Forms × IsNoLoad g v) 64 edges node x t v
     keeps_on =
         let s = e.on in
-        let few = s.path.few in
-        let b = begin in
-        let z = end in
-        let w = low in
         record {
           count = 3 + s.count;
-          after = past s.after 3 (kept_memory s.after o.rs1 o.op2) s.after;
+          after = after;
           path = record {
             steps = steps;
             some = omega arith;
-            few = omega (arith, few);
+            few = omega (arith, s.path.few);
             quiet = λ j some less. elim (cases_lt j s.count) [
               | inl before ↦ s.path.quiet j some before
               | inr behind ↦
@@ -335,34 +303,32 @@ module _ (g : Setting) (l : Pieces) (base : ℕ) (p : Placement) (place : ℕ �
             valid = s.followed.valid;
             registers = s.followed.registers;
             input = s.followed.input;
-            memory = outside_trans (pages_of g.notes) v.memory s.after.memory
-                (kept_memory s.after o.rs1 o.op2) s.followed.memory
-                (same_stored g f h.frame base p s.after.memory (kept_memory s.after o.rs1 o.op2) here.memory stored.0);
+            memory = outside_trans (pages_of g.notes) v.memory s.after.memory m s.followed.memory
+                (same_stored g f h.frame base p s.after.memory m here.memory stored.0);
             items = λ running thing good kept.
-                same_past thing v s.after 3 (kept_memory s.after o.rs1 o.op2)
+                same_past thing v s.after 3 m
                 (s.followed.items running thing good kept);
           };
           cells = stored.1.1 ∙ s.cells;
           here = λ _. record {
             valid = subst IsValid keeps.path.steps (run-valid s.after 3 here.valid);
             live = here.live;
-            at = (let q : s.after.pc + 12 ≡ place c.piece 3 = omega (arith, b, z) in q) ∙ c.behind;
-            npc = (let q : s.after.pc + 12 + 4 ≡ wrapped (s.after.pc + 12 + 4) = omega (arith, b, z, w) in q);
+            at = (let q : s.after.pc + 12 ≡ place c.piece 3 = omega (arith, begin, end) in q) ∙ c.behind;
+            npc = (let q : s.after.pc + 12 + 4 ≡ wrapped (s.after.pc + 12 + 4) = omega (arith, begin, end, low) in q);
             slot = refl;
             memory = images_stored g f h.frame base p s.after
-                (past s.after 3 (kept_memory s.after o.rs1 o.op2) s.after) 3
+                (after) 3
                 keeps.path.steps stored.0 here.memory;
             waits = λ taken _. let none = at.outside in absurd (cc);
           };
           place = λ over. absurd (over live);
           sparing = λ watched.
               let q = s.sparing watched in
-              let spills = q.spills in
               let none = keeps.elsewhere (is_spill g.notes) (spill_first g.notes) in
               let all = count_add (is_spill g.notes) t s.after s.count s.path.steps 3 in
               let same_count : 3 + s.count ≡ s.count + 3 = omega arith in
               record {
-                spills = omega (arith, spills, none, all, ap (count_stores (is_spill g.notes) t) same_count);
+                spills = omega (arith, q.spills, none, all, ap (count_stores (is_spill g.notes) t) same_count);
                 first = λ forms. absurd (forms.1 k o is at.stands);
                 alone = λ forms. absurd (forms.1 k o is at.stands);
                 few = λ forms. absurd (forms.1 k o is at.stands);
@@ -371,73 +337,65 @@ module _ (g : Setting) (l : Pieces) (base : ℕ) (p : Placement) (place : ℕ �
 
     address_kept : kept_address keeps_on.after ≡ sum_of keeps_on.after o.rs1 o.op2
     unfolding keeps_on
-    address_kept = keeps.kept ∙ sym (sum_past e.on.after 3 (kept_memory e.on.after o.rs1 o.op2) o.rs1 o.op2)
+    address_kept = keeps.kept ∙ sym (sum_past e.on.after 3 m o.rs1 o.op2)
 
   -- ---- whatever the next point is
 
-  carries : (node : Node) (x : Point) (t : State) → Matches g.text (graph_in g) node x
-      → (e : Enters g (Entered g l base p f) Forms (gone_at g node x (does_at g x t)) node x t (does_at g x t))
-      → (after : State) → kept_address after ≡ kept_address e.on.after → (does_at g x t).ending ≡ None
-      → (k : ℕ) (o : CaseTable) → slice_get g.opens k ≡ Some o → (word : ℕ) → IsAtWord g o node x word → o.load ≤ word
-      → word < o.jump → kept_address after ≡ kept_address t
-  carries node x t matches e after same live k o is word at from below =
-      let i = inner g are node x t matches k o is word at from below live in
-      same ∙ e.first live i.none i.straight (λ none. let some = i.next in cc)
+  module _ (node : Node) (x : Point) (t : State) (matches : Matches g.text (graph_in g) node x)
+      (e : Enters g (Entered g l base p f) Forms (gone_at g node x (does_at g x t)) node x t (does_at g x t)) where
+    abbrev v : State
+    v = does_at g x t
 
-  by_next : (node : Node) (x : Point) (t : State) → Matches g.text (graph_in g) node x
-      → (e : Enters g (Entered g l base p f) Forms (gone_at g node x (does_at g x t)) node x t (does_at g x t))
-      → IsEntered g l p place f (node_after (graph_in g) node (gone_at g node x (does_at g x t)))
-      (point_of (does_at g x t))
-      → (does_at g x t).ending ≡ None
-      → Steps g (Here g l base p f) Forms (gone_at g node x (does_at g x t)) node x t (does_at g x t)
-  unfolding stays_on
-  by_next node x t matches e (at_once same none) live = record {
-    on = stays_on node x t (does_at g x t) (gone_at g node x (does_at g x t)) e (λ _. same);
-    keeps = record {
-      loaded = λ _ k o is at. absurd (none k o is at);
-      carried = carries node x t matches e e.on.after refl;
-    };
-  }
-  by_next node x t matches e (keeping k o is at c) live = record {
-    on = keeps_on node x t (does_at g x t) (gone_at g node x (does_at g x t)) e live k o is at c;
-    keeps = record {
-      loaded = λ _ j q iq there.
-          let same : o ≡ q = are.apart k j o q is iq (ap block_in (sym at.itself ∙ there.itself)) in
-          subst (λ (z : CaseTable). kept_address
-          (keeps_on node x t (does_at g x t) (gone_at g node x (does_at g x t)) e live k o is at c).after
-          ≡ sum_of (keeps_on node x t (does_at g x t) (gone_at g node x (does_at g x t)) e live k o is at c).after z.rs1
-          z.op2) same
-          (address_kept node x t (does_at g x t) (gone_at g node x (does_at g x t)) e live k o is at c);
-      carried = λ running j q iq word here from below.
-          let i = inner g are node x t matches j q iq word here from below running in
-          let same_node : node_after (graph_in g) node (gone_at g node x (does_at g x t)) ≡ node =
-          ap (node_after (graph_in g) node) i.none in
-          let there : IsAtWord g o node (point_of (does_at g x t)) o.load =
-          record { itself = sym same_node ∙ at.itself; outside = at.outside; stands = at.stands } in
-          absurd (no_load g are node x (point_of (does_at g x t)) j k q o iq is word here from i.next there);
-    };
-  }
+    abbrev gone : List ℕ
+    gone = gone_at g node x (does_at g x t)
 
-  by_ending : (node : Node) (x : Point) (t : State) → Matches g.text (graph_in g) node x
-      → Enters g (Entered g l base p f) Forms (gone_at g node x (does_at g x t)) node x t (does_at g x t)
-      → ((node : Node) (x : Point) → IsEntered g l p place f node x) → (d : Option Ending) → (does_at g x t).ending ≡ d
-      → Steps g (Here g l base p f) Forms (gone_at g node x (does_at g x t)) node x t (does_at g x t)
-  by_ending node x t matches e enters None live =
-      by_next node x t matches e (enters (node_after (graph_in g) node (gone_at g node x (does_at g x t)))
-      (point_of (does_at g x t))) live
-  by_ending node x t matches e enters (Some d) over = record {
-    on = stays_on node x t (does_at g x t) (gone_at g node x (does_at g x t)) e (λ live. absurd (cc));
-    keeps = record {
-      loaded = λ live k o is at. absurd (cc);
-      carried = λ live k o is word at from below. absurd (cc);
-    };
-  }
+    carries : (after : State) → kept_address after ≡ kept_address e.on.after → v.ending ≡ None → (k : ℕ) (o : CaseTable)
+        → slice_get g.opens k ≡ Some o → (word : ℕ) → IsAtWord g o node x word → o.load ≤ word → word < o.jump
+        → kept_address after ≡ kept_address t
+    carries after same live k o is word at from below =
+        let i = inner g are node x t matches k o is word at from below live in
+        same ∙ e.first live i.none i.straight (λ none. let some = i.next in cc)
+
+    by_next : IsEntered g l p place f (node_after (graph_in g) node gone) (point_of v) → v.ending ≡ None
+        → Steps g (Here g l base p f) Forms gone node x t v
+    unfolding stays_on
+    by_next (at_once same none) live = record {
+      on = stays_on node x t v gone e (λ _. same);
+      keeps = record {
+        loaded = λ _ k o is at. absurd (none k o is at);
+        carried = carries e.on.after refl;
+      };
+    }
+    by_next (keeping k o is at c) live = record {
+      on = keeps_on node x t v gone e live k o is at c;
+      keeps = record {
+        loaded = λ _ j q iq there.
+            let same : o ≡ q = are.apart k j o q is iq (ap block_in (sym at.itself ∙ there.itself)) in
+            rw (← same) (address_kept node x t v gone e live k o is at c);
+        carried = λ running j q iq word here from below.
+            let i = inner g are node x t matches j q iq word here from below running in
+            let there : IsAtWord g o node (point_of v) o.load =
+            assumption (ap (node_after (graph_in g) node) (sym i.none) ∙ at.itself, at) in
+            absurd (no_load g are node x (point_of v) j k q o iq is word here from i.next there);
+      };
+    }
+
+    by_ending : IsEntered g l p place f (node_after (graph_in g) node gone) (point_of v) → (d : Option Ending)
+        → v.ending ≡ d → Steps g (Here g l base p f) Forms gone node x t v
+    by_ending enters None live = by_next enters live
+    by_ending enters (Some d) over = record {
+      on = stays_on node x t v gone e (λ live. absurd (cc));
+      keeps = record {
+        loaded = λ live k o is at. absurd (cc);
+        carried = λ live k o is word at from below. absurd (cc);
+      };
+    }
 
   pub next_steps : ((node : Node) (x : Point) → IsEntered g l p place f node x) → (node : Node) (x : Point) (t : State)
       → Matches g.text (graph_in g) node x
       → Enters g (Entered g l base p f) Forms (gone_at g node x (does_at g x t)) node x t (does_at g x t)
       → Steps g (Here g l base p f) Forms (gone_at g node x (does_at g x t)) node x t (does_at g x t)
-  next_steps enters node x t matches e = by_ending node x t matches e enters (does_at g x t).ending refl
+  next_steps enters node x t matches e = by_ending node x t matches e (enters _ _) (does_at g x t).ending refl
 
 -- ---- what a list of pieces has to give
 

@@ -65,7 +65,6 @@ module _ (g : Setting) (codes : ℕ → List ℕ) (is : IsKnown g) (p : Placemen
     next_within : suc piece < length (l g codes is p f).list
     next_within =
         let low = load_in g.text b g.switches is.cased f.table.base f.cases.base codes k o among in
-        let before = low.before in
         slice_get_within (l g codes is p f).list (suc piece) _
         (ap (slice_get (l g codes is p f).list) next
         ∙ jump_at g.text b g.switches is.cased f.table.base f.cases.base codes k o among load low.above (omega arith))

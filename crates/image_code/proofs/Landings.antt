@@ -8,7 +8,6 @@ use Rattle.eel_base.specs.CodeText.{word_at}
 use Rattle.v8_decode.specs.Words.{decode_of}
 use Rattle.v8_memory.specs.Regions.{code_of}
 use Rattle.v8_memory.specs.Spans.{AllApart}
-use Rattle.v8_step.specs.declared.Slot.{Slot}
 use Rattle.v8_step.specs.declared.Slot.TheVariants.{NoSlot}
 use Rattle.v8_step.specs.State.{State, register_of}
 use Rattle.v8_step.specs.Step.{act, on_word}
@@ -16,7 +15,7 @@ use Rattle.v8_step.specs.Judged.{judged_by}
 use Rattle.two_runs.specs.Visits.{pages_of}
 use Rattle.v8_step.proofs.CopiedMoves.{goes_act}
 use Rattle.cfg_normal.specs.declared.Node.{Node}
-use Rattle.cfg_walk.specs.Walk.{Point, node_after, point_of}
+use Rattle.cfg_walk.specs.Walk.{Point}
 use Rattle.code_runs.specs.Hops.{Hops, hopped}
 use Rattle.code_runs.specs.Page.{page_word}
 use Rattle.code_runs.specs.StoredWords.{store_word}
@@ -37,7 +36,7 @@ use Rattle.layout.specs.declared.items.Item.TheVariants as it
 use Rattle.layout.specs.Emitting.{words_of}
 use Rattle.layout.specs.Laid.{Placement}
 use Rattle.image_code.specs.Simulates.{NoneIsOut, Setting, at_point, does_at, gone_at, graph_in, number_in, operations_on}
-use Rattle.image_code.specs.Images.{Pieces, Frame, Here, IsPlaced, place_by}
+use Rattle.image_code.specs.Images.{Pieces, Frame, Here, IsPlaced}
 use Rattle.image_code.specs.Cases.{LeadsTo, next_entry, words_on}
 use Rattle.image_code.specs.Landings.{IsJumpsSlot, JumpSlotsStep, Lands}
 use Rattle.image_code.proofs.Arrives.{Arrives, IsBare, IsFit, Rest, arrive, arrived, bare_here, eased, length_words, on_then, rest_behind, rest_marked, page_there, rest_whole, snippets_run, unwatched, Stood, stood, stood_low, weaker_arrives, words_unmarked}
@@ -72,9 +71,7 @@ module _ (g : Setting) (l : Pieces) (base : ℕ) (p : Placement) (place : ℕ �
         few = omega arith;
         path = leads_weaker _ (IsBare g l base p place f h) a _ count
             (λ u q.
-            let b = q.past in
-            let d = q.before in
-            there.bare u (omega (arith, at, b)) (omega (arith, at, d, many)))
+            there.bare u (omega (arith, at, q.past)) (omega (arith, at, q.before, many)))
             hops.path;
         silent = hops.silent;
         stores = own_stored g f h.frame a.memory left hops.stores;
@@ -98,12 +95,11 @@ module _ (g : Setting) (l : Pieces) (base : ℕ) (p : Placement) (place : ℕ �
   goes_found through k n some below rest a fit at to found aligned =
       let r : Rest l k n (going_on through ++ []) = subst (Rest l k n) (sym (append-nil (going_on through))) rest in
       let there = stood g l base p place f h a.memory fit.has.code k n (words_of (go_found through)) [] r in
-      let end = there.end in
       let low = stood_low g l base p place f h k n (words_of (go_found through)) [] r in
       let about : IsAboutToGoOn through a = record {
         valid = fit.valid;
         ready = fit.runs.ready;
-        low = omega (arith, at, end, low);
+        low = omega (arith, at, there.end, low);
         some = some;
         below = below;
         words = subst (λ z. StandIn (code_of a.memory) z (go_found through)) (sym at)
@@ -125,12 +121,11 @@ module _ (g : Setting) (l : Pieces) (base : ℕ) (p : Placement) (place : ℕ �
       subst (Rest l k 0) (sym (append-nil foreign_piece))
       (rest_whole l k foreign_piece (tt, (tt, (tt, (tt, tt)))) is) in
       let there = stood g l base p place f h a.memory fit.has.code k 0 (words_of foreign) [] r in
-      let end = there.end in
       let low = stood_low g l base p place f h k 0 (words_of foreign) [] r in
       let about : IsAboutToLeave a = record {
         valid = fit.valid;
         ready = fit.runs.ready;
-        low = omega (arith, at, end, low);
+        low = omega (arith, at, there.end, low);
         words = subst (λ z. StandIn (code_of a.memory) z foreign) (sym at)
             (words_mean (code_of a.memory) (place k 0) foreign
             (refl, refl, (refl, refl, (refl, refl, (refl, refl, tt)))) there.words);
@@ -162,8 +157,7 @@ module _ (g : Setting) (l : Pieces) (base : ℕ) (p : Placement) (place : ℕ �
         ∙ (here.waits c.slot c.out c.caseless).2 (there (word_at g.text x.pc) c.is_word)
       where
         there : (o : Option ℕ) → option_map (λ word. slice_index g.text.words word) o ≡ Some c.word → o ≢ None
-        there None e = λ _. cc
-        there (Some word) e = λ q. cc
+        there o e none = cc (rw none at e)
 
     rest : Rest l c.piece 3 (words_on l (c.edge ∷ []) ++ going_on c.through)
     rest = rest_marked l c.piece c.address (number_in g node) (it.Word c.word)
@@ -188,19 +182,16 @@ module _ (g : Setting) (l : Pieces) (base : ℕ) (p : Placement) (place : ℕ �
         let one = unwatched g l base p place f h (Some 0) (c.edge ∷ []) a mid 0 way in
         let low = stood_low g l base p place f h c.piece 3 (flat_map l.codes (c.edge ∷ [])) (going_on c.through) rest in
         let b : State = hopped way.other mid way.memory in
-        let fit2 : IsFit g l base p place f h (hopped way.other mid way.memory) =
-        arrived g l base p place f h (c.edge ∷ []) (act t (decode_of c.word)) mid 0 fit low way in
+        let fit2 = arrived g l base p place f h (c.edge ∷ []) (act t (decode_of c.word)) mid 0 fit low way in
         let r2 : Rest l c.piece (3 + length (flat_map l.codes (c.edge ∷ []))) (going_on c.through) =
         subst (λ z. Rest l c.piece (3 + z) (going_on c.through)) (length_words (flat_map l.codes (c.edge ∷ [])))
         (rest_behind l c.piece 3 (words_on l (c.edge ∷ [])) (going_on c.through) rest) in
         let there = found_in f.halves x.npc in
         let two = goes_found c.through c.piece n c.some c.below r2 b fit2 refl there (way.found (λ e. cc) ∙ found_waits)
         aligned in
-        let fit3 : IsFit g l base p place f h (hopped two.other there two.memory) =
-        arrived g l base p place f h [] b there 3 fit2 low_there two in
+        let fit3 = arrived g l base p place f h [] b there 3 fit2 low_there two in
         let three = behind (hopped two.other there two.memory) fit3 refl (two.waits ∙ way.waits ∙ target_waits) in
-        let both : Arrives g l base p place f h None c.landing b to (3 + 4) =
-        on_then g l base p place f h c.landing [] c.landing refl b there to 3 4 two three in
+        let both = on_then g l base p place f h c.landing [] c.landing refl b there to 3 4 two three in
         weaker_arrives g l base p place f h (c.edge ∷ c.landing) a to (0 + (3 + 4)) 24 (omega arith)
         (on_then g l base p place f h (c.edge ∷ c.landing) (c.edge ∷ []) c.landing refl a mid to 0 (3 + 4) one both)
 
@@ -211,8 +202,7 @@ module _ (g : Setting) (l : Pieces) (base : ℕ) (p : Placement) (place : ℕ �
     lands to fit at (inl (piece, within, found, leads)) out =
         let place_there = h.laid.aligned piece.0 in
         let multiple : found_in f.halves x.npc % 4 ≡ 0 = ap (λ z. z % 4) found ∙ place_there.0 in
-        let low = place_there.1 in
-        onward to fit at multiple (omega (arith, found, low)) (λ b fit2 there waits. by b fit2 (there ∙ found) leads)
+        onward to fit at multiple (omega (arith, found, place_there.1)) (λ b fit2 there waits. by b fit2 (there ∙ found) leads)
       where
         by : (b : State) → IsFit g l base p place f h b → b.pc ≡ slice_index p.at piece.0
             → LeadsTo l p piece c.landing (word_at g.text x.npc) to
@@ -246,7 +236,6 @@ jump_slots_step g l base p place f node x t h here c apart =
     -- along the edge of a jump it isn't told what is stored
     unwatched_out : (does_at g x t).ending ≡ None → NoneIsOut (graph_in g) (gone_at g node x (does_at g x t)) → ⊥
     unwatched_out live none =
-        let outward = c.outward in
         let other = (subst (NoneIsOut (graph_in g)) (c.completes live) none).0 in
         cc
 
@@ -272,8 +261,4 @@ jump_slots_step g l base p place f node x t h here c apart =
         (ap (λ (z : State). z.ending) (sym is) ∙ live) in
         let pc : (does_at g x t).pc ≡ x.npc = ap (λ (z : State). z.pc) is ∙ went.0 in
         let slot : (does_at g x t).slot ≡ NoSlot = ap (λ (z : State). z.slot) is ∙ went.2 in
-        let next = node_after (graph_in g) node (gone_at g node x (does_at g x t)) in
-        let v = point_of (does_at g x t) in
-        ap (λ z. place_by l.enter g l p f next v (word_at g.text z) (does_at g x t).slot) pc
-        ∙ ap (λ (o : Option ℕ). place_by l.enter g l p f next v o (does_at g x t).slot) none
-        ∙ ap (λ (s : Slot). place_by l.enter g l p f next v None s) slot ∙ pc
+        rw (pc, none, slot) refl

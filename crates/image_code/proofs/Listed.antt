@@ -1,12 +1,13 @@
 -- Which piece has which number.
-use Rattle.std.proofs.Common.{◌≡◌, ℕ, zero, suc, ◌+◌, ◌-◌, ◌<◌, ◌≤◌, Bool, true, false, Some, List, [], ◌∷◌, ◌++◌, length, map, take, take_all, length-append, refl, ap, sym, ◌∙◌, arith, inl, inr}
-use Rattle.std.specs.Prelude.{◌==◌, if◌then◌else◌, slice_get, slice_index}
-use Rattle.std.specs.List.{filter, flat_map, sum_by}
-use Rattle.std.specs.Option.{option_map}
-use Rattle.std.proofs.lemmas.Bool.{cases_lt, eqb-true, eq-eqb, lt-ltb, le-ltb, ne_eqb}
+use Rattle.std.proofs.Common.{◌≡◌, ℕ, zero, suc, ◌+◌, ◌-◌, ◌<◌, ◌≤◌, false, Some, List, [], ◌∷◌, ◌++◌, length, map, take, length-append, length-take, zero-add, refl, ap, ◌∙◌, arith, inl, inr}
+use Rattle.std.specs.Prelude.{◌==◌, if◌then◌else◌, nat_lt, slice_get, slice_index}
+use Rattle.std.specs.List.{flat_map, sum_by}
+use Rattle.std.proofs.lemmas.Bool.{cases_lt, eqb-true, eq-eqb, le-ltb, lt-ltb, ne_eqb}
+use Rattle.std.proofs.lemmas.Bool.Decides.{nat_tests}
 use Rattle.std.proofs.lemmas.List.{length-map}
 use Rattle.std.proofs.lemmas.List.FromFn.{length-map-range_with_len}
 use Rattle.std.proofs.lemmas.Option.{slice_get-map, slice_get-get_or}
+use Rattle.std.proofs.Math.Seq.{take-length}
 use Rattle.eel_base.specs.CodeText.{Words}
 use Rattle.cfg_blocks.specs.declared.EdgeKind.TheVariants as kinds
 use Rattle.cfg_blocks.specs.Blocks.{Blocks, below, block_end, last_word, size_of}
@@ -14,74 +15,55 @@ use Rattle.cfg_blocks.specs.Values.{instr_at}
 use Rattle.cfg_blocks.proofs.Below.{get_or-below, length-below}
 use Rattle.cfg_normal.specs.declared.Edge.{Edge}
 use Rattle.cfg_normal.specs.declared.Node.{Node}
-use Rattle.cfg_normal.specs.Opens.{Open, is_copied}
-use Rattle.cfg_normal.specs.Graph.{Graph, copied_edges, edges_in, edges_of, graph_of, landing_at as landing_edge, landings_of}
+use Rattle.cfg_normal.specs.Opens.{Open}
+use Rattle.cfg_normal.specs.Graph.{Graph, edges_in, graph_of}
 use Rattle.cfg_walk.specs.Walk.{same_kind}
 use Rattle.cfg_walk.proofs.Edges.{block, copy}
-use Rattle.cfg_walk.proofs.Lists.{each, each-map, each_at}
 use Rattle.jump_code.specs.Pieces.{foreign_piece}
 use Rattle.layout.specs.declared.items.Item.{Item}
 use Rattle.image_code.specs.Loads.{load_of}
 use Rattle.image_code.specs.Made.{case_at, cases_from, image, images_of, jumps_at, keep_by, landing, open_pieces, piece_list, way_along, ways_from}
-use Rattle.image_code.specs.Numbered.{case_begin, compare_image, entries_of, first_entry, foreign_number, jump_begin, jump_enter, jump_image, landing_number, node_in_order, open_begin, or_zero, own_edges, pieces_of, place_in}
+use Rattle.image_code.specs.Numbered.{case_begin, compare_image, entries_of, first_entry, foreign_number, jump_begin, jump_enter, jump_image, landing_count, landing_number, node_in_order, open_begin, own_edges, pieces_of, place_in}
+use Rattle.image_code.proofs.OpenBlocks.{own_before}
 use Rattle.image_code.proofs.Opened.{AreCased, load_is}
-use Rattle.image_code.proofs.Positions.{Sized, flat_count, flat_get, get_behind, get_first, get_second, get_taken, placed, any_at, range_get}
+use Rattle.image_code.proofs.Positions.{Sized, flat_count, flat_get, get_behind, get_first, get_taken, placed, any_at, range_get}
 
 pub get_below : (n k : ℕ) → k < n → slice_get (below n) k ≡ Some k
-get_below n k l = slice_get-get_or (below n) k 0 (omega (arith, length-below n))
-    ∙ ap (λ z. Some z) (get_or-below n k 0 l)
+get_below n k l = slice_get-get_or (below n) k 0 (omega (arith, length-below n)) ∙ rw (get_or-below n k 0 l)
 
--- the ways along some edges, by the edges' numbers
-ways_count : (text : Words) (graph : Graph) (table : ℕ) (codes : ℕ → List ℕ) (number : ℕ) (edges : List Edge)
-    → length (ways_from text graph table codes number edges) ≡ length edges
-ways_count text graph table codes number [] = refl
-ways_count text graph table codes number (edge ∷ edges) =
-    ap suc (ways_count text graph table codes (suc number) edges)
+-- what is made of the items of a list one by one, by their numbers: the ways along edges, the pieces of entries
+module _ {A B : Type 0} (f : ℕ → A → B) (made : ℕ → List A → List B) (none : (n : ℕ) → made n [] ≡ [])
+    (more : (n : ℕ) (x : A) (xs : List A) → made n (x ∷ xs) ≡ f n x ∷ made (suc n) xs) where
+  made_count : (n : ℕ) (xs : List A) → length (made n xs) ≡ length xs
+  made_count n [] = rw (none n)
+  made_count n (x ∷ xs) = rw (more n x xs) (ap suc (made_count (suc n) xs))
 
-way_among : (text : Words) (graph : Graph) (table : ℕ) (codes : ℕ → List ℕ) (number k : ℕ) (edges : List Edge)
-    (edge : Edge) → slice_get edges k ≡ Some edge
-    → slice_get (ways_from text graph table codes number edges) k
-    ≡ Some (way_along text graph table codes (number + k) edge)
-way_among text graph table codes number k [] edge e = absurd (cc)
-way_among text graph table codes number zero (other ∷ edges) edge e =
-    let same : other ≡ edge = cc in
-    let here : number ≡ number + 0 = omega arith in
-    rw (same, ← here)
-way_among text graph table codes number (suc k) (other ∷ edges) edge e =
-    let next : suc number + k ≡ number + suc k = omega arith in
-    way_among text graph table codes (suc number) k edges edge e
-    ∙ ap (λ (n : ℕ). Some (way_along text graph table codes n edge)) next
+  made_from : (n k : ℕ) (xs : List A) (x : A) → slice_get xs k ≡ Some x → slice_get (made n xs) k ≡ Some (f (n + k) x)
+  made_from n k [] x e = absurd (cc)
+  made_from n zero (y ∷ xs) x e =
+      let same : y ≡ x = cc in
+      let here : n ≡ n + 0 = omega arith in
+      rw (more n y xs, same, ← here)
+  made_from n (suc k) (y ∷ xs) x e =
+      let next : n + suc k ≡ suc n + k = omega arith in
+      rw (more n y xs, next) (made_from (suc n) k xs x e)
 
--- the pieces of a table's entries, by entries
-cases_count : (text : Words) (graph : Graph) (table : ℕ) (codes : ℕ → List ℕ) (o : Open) (entry : ℕ) (words : List ℕ)
-    → length (cases_from text graph table codes o entry words) ≡ length words
-cases_count text graph table codes o entry [] = refl
-cases_count text graph table codes o entry (word ∷ words) =
-    ap suc (cases_count text graph table codes o (suc entry) words)
+  made_at : (k : ℕ) (xs : List A) (x : A) → slice_get xs k ≡ Some x → slice_get (made 0 xs) k ≡ Some (f k x)
+  made_at k xs x e = rw zero-add at (made_from 0 k xs x e)
 
-case_among : (text : Words) (graph : Graph) (table : ℕ) (codes : ℕ → List ℕ) (o : Open) (entry k : ℕ) (words : List ℕ)
-    (word : ℕ) → slice_get words k ≡ Some word
-    → slice_get (cases_from text graph table codes o entry words) k
-    ≡ Some (case_at text graph table codes o (entry + k) word)
-case_among text graph table codes o entry k [] word e = absurd (cc)
-case_among text graph table codes o entry zero (other ∷ words) word e =
-    let same : other ≡ word = cc in
-    let here : entry ≡ entry + 0 = omega arith in
-    rw (same, ← here)
-case_among text graph table codes o entry (suc k) (other ∷ words) word e =
-    let next : suc entry + k ≡ entry + suc k = omega arith in
-    case_among text graph table codes o (suc entry) k words word e
-    ∙ ap (λ (n : ℕ). Some (case_at text graph table codes o n word)) next
+-- from a word's image to where control enters the next one's: the piece before the load's image keeps its address
+step_on : (begin first load word : ℕ) → first ≤ word
+    → (if suc word == load then begin + (suc word - first) + (if nat_lt (suc word) load then 0 else 1) - 1
+    else begin + (suc word - first) + (if nat_lt (suc word) load then 0 else 1))
+    ≡ suc (begin + (word - first) + (if nat_lt word load then 0 else 1))
+step_on begin first load word above = grind (arith, nat_tests)
 
 -- where a word first stands among the targets
 pub place_is : (text : Words) (graph : Graph) (targets : List ℕ) (k word : ℕ) → slice_get targets k ≡ Some word
     → slice_get targets (place_in text graph targets word) ≡ Some word
 place_is text graph targets k word e =
-    let found = placed (λ (t : ℕ). t == word) targets (any_at (λ (t : ℕ). t == word) targets k word e
-    (eq-eqb word word refl)) in
-    let same : found.item ≡ word = eqb-true found.item word found.passes in
-    let at : place_in text graph targets word ≡ found.number = ap or_zero found.at in
-    ap (slice_get targets) at ∙ found.is ∙ ap (λ (z : ℕ). Some z) same
+    let found = placed (λ (t : ℕ). t == word) targets (any_at _ _ k word e (eq-eqb word word refl)) in
+    rw (found.at, found.is, eqb-true found.item word found.passes)
 
 module _ (text : Words) (b : Blocks) (opens : List Open) (cased : AreCased text b opens) (table cases : ℕ)
     (codes : ℕ → List ℕ) where
@@ -123,11 +105,7 @@ module _ (text : Words) (b : Blocks) (opens : List Open) (cased : AreCased text 
   load_in k o e =
       let c = cased.each k o e in
       let l = load_is text b o c in
-      let above = l.above in
-      let below = l.below in
-      let first = c.first in
-      let last = c.last in
-      record { above = omega arith; below = omega arith; before = omega arith }
+      omega (arith, l.above, l.below, c.first, c.last)
 
   abbrev compared : Open → List (List Item)
   compared o = images_of text graph table cases codes (copy o.switch.compare.0)
@@ -144,6 +122,13 @@ module _ (text : Words) (b : Blocks) (opens : List Open) (cased : AreCased text 
   abbrev kept : Open → List Item
   kept o = keep_by (instr_at text (load_of text o))
 
+  -- the image of a word among those of so many
+  image_in : (node : Node) (from count word : ℕ) → from ≤ word → word < from + count
+      → slice_get (images_of text graph table cases codes node from count) (word - from) ≡ Some (image_of node word)
+  image_in node from count word above below =
+      let here : from + (word - from) ≡ word = omega arith in
+      rw here at (range_get (image_of node) from count (word - from) (omega arith))
+
   compared_count : (o : Open) → length (compared o) ≡ size_of b o.switch.compare.0
   compared_count o = length-map-range_with_len (image_of (copy o.switch.compare.0)) (slice_index b.firsts o.switch.compare.0)
       (size_of b o.switch.compare.0)
@@ -151,74 +136,51 @@ module _ (text : Words) (b : Blocks) (opens : List Open) (cased : AreCased text 
   before_count : (o : Open) → length (compared o ++ before_load o)
       ≡ size_of b o.switch.compare.0 + (load_of text o - slice_index b.firsts o.block)
   before_count o =
-      let first = slice_index b.firsts o.block in
-      omega (
-        arith,
-        length-append (compared o) (before_load o),
-        compared_count o,
-        length-map-range_with_len (image_of (block o.block)) first (load_of text o - first),
-      )
+      length-append (compared o) (before_load o) ∙ rw (compared_count o, length-map-range_with_len)
 
   pub pieces_sized : Sized its_pieces (pieces_of text graph) opens
   pieces_sized k o e =
       let l = load_in k o e in
-      let above = l.above in
-      let low = l.below in
       let count : length (from_load o) ≡ slice_index b.firsts o.block + size_of b o.block - load_of text o =
-      length-map-range_with_len (image_of (block o.block)) (load_of text o)
-      (slice_index b.firsts o.block + size_of b o.block - load_of text o) in
-      length-append (compared o ++ before_load o) (kept o ∷ from_load o) ∙ omega (arith, count, before_count o)
+      length-map-range_with_len _ _ _ in
+      length-append (compared o ++ before_load o) (kept o ∷ from_load o) ∙ omega (arith, count, before_count o, l.above, l.below)
 
   pub cases_sized : Sized its_cases (entries_of text graph) opens
-  cases_sized k o e = cases_count text graph table codes o 0 o.targets
+  cases_sized k o e =
+      made_count (case_at text graph table codes o) (cases_from text graph table codes o) (λ _. refl) (λ _ _ _. refl) 0 _
 
   -- ---- how many come before
 
   images_end : length images ≡ length text.words
-  images_end = length-map (below (length text.words)) (λ word. image_of (node_in_order graph word) word)
-      ∙ length-below (length text.words)
+  images_end = length-map (below (length text.words)) _ ∙ length-below (length text.words)
 
   pub ways_end : length (images ++ ways) ≡ length text.words + length (own_edges graph)
   ways_end =
-      omega (arith, length-append images ways, images_end, ways_count text graph table codes 0 (own_edges graph))
+      length-append images ways ∙ rw (
+        images_end,
+        made_count (way_along text graph table codes)
+            (ways_from text graph table codes) (λ _. refl) (λ _ _ _. refl) 0 (own_edges graph),
+      )
 
   pub landings_end : length (images ++ ways ++ landings)
       ≡ length text.words + length (own_edges graph) + length text.words
   landings_end =
-      omega (
-        arith,
-        length-append (images ++ ways) landings,
-        ways_end,
-        length-map (below (length text.words)) (landing text graph codes),
-        length-below (length text.words),
-      )
+      length-append (images ++ ways) landings
+      ∙ rw (ways_end, length-map (below (length text.words)) (landing text graph codes), length-below)
 
   pub opens_end : length (images ++ ways ++ landings ++ flat_map its_pieces opens) ≡ case_begin text graph
   opens_end =
-      omega (
-        arith,
-        length-append (images ++ ways ++ landings) (flat_map its_pieces opens),
-        landings_end,
-        flat_count its_pieces (pieces_of text graph) opens pieces_sized,
-        ap (sum_by (pieces_of text graph)) (take_all (length opens) opens (omega arith)),
-      )
+      length-append (images ++ ways ++ landings) (flat_map its_pieces opens)
+      ∙ rw (landings_end, flat_count its_pieces (pieces_of text graph) opens pieces_sized, take-length opens)
 
-  pub cases_end : length before_foreign
-      ≡ foreign_number text graph
+  pub cases_end : length before_foreign ≡ foreign_number text graph
   cases_end =
-      omega (
-        arith,
-        length-append (images ++ ways ++ landings ++ flat_map its_pieces opens) (flat_map its_cases opens),
-        opens_end,
-        flat_count its_cases (entries_of text graph) opens cases_sized,
-        ap (sum_by (entries_of text graph)) (take_all (length opens) opens (omega arith)),
-      )
+      length-append (images ++ ways ++ landings ++ flat_map its_pieces opens) (flat_map its_cases opens)
+      ∙ rw (opens_end, flat_count its_cases (entries_of text graph) opens cases_sized, take-length opens)
 
   pub count_is : length all ≡ foreign_number text graph + 1
   unfolding piece_list
-  count_is =
-      length-append before_foreign
-      (foreign_piece ∷ []) ∙ ap (λ n. n + 1) cases_end
+  count_is = length-append before_foreign (foreign_piece ∷ []) ∙ ap (λ n. n + 1) cases_end
 
   -- ---- each piece
 
@@ -226,9 +188,8 @@ module _ (text : Words) (b : Blocks) (opens : List Open) (cased : AreCased text 
       → slice_get all word ≡ Some (image_of (node_in_order graph word) word)
   unfolding piece_list
   order_at word l =
-      get_first _ _ word _ (get_first _ _ word _ (get_first _ _ word _ (get_first _ _ word _ (get_first _ _ word _
-      (slice_get-map (λ w. image_of (node_in_order graph w) w) (below (length text.words)) word
-      ∙ ap (option_map (λ w. image_of (node_in_order graph w) w)) (get_below (length text.words) word l))))))
+      get_first _ _ word _ (get_first _ _ word _ (get_first _ _ word _ (get_first _ _ word _ (get_first images _ word _
+      (rw (slice_get-map, get_below (length text.words) word l))))))
 
   pub way_at : (number : ℕ) (edge : Edge) → slice_get (own_edges graph) number ≡ Some edge
       → slice_get all (length text.words + number) ≡ Some (way_along text graph table codes number edge)
@@ -236,49 +197,36 @@ module _ (text : Words) (b : Blocks) (opens : List Open) (cased : AreCased text 
   way_at number edge e =
       let n = length text.words + number in
       get_first _ _ n _ (get_first _ _ n _ (get_first _ _ n _ (get_first _ _ n _
-      (get_behind images ways (length text.words) number _ images_end
-      (way_among text graph table codes 0 number (own_edges graph) edge e
-      ∙ (let e : 0 + number ≡ number = omega arith in ap (λ n. Some (way_along text graph table codes n edge)) e))))))
+      (get_behind images ways (length text.words) number _ images_end (made_at (way_along text graph table codes)
+      (ways_from text graph table codes) (λ _. refl) (λ _ _ _. refl) number (own_edges graph) edge e)))))
 
   pub landing_at : (word : ℕ) → word < length text.words
       → slice_get all (landing_number text graph word) ≡ Some (landing text graph codes word)
   unfolding piece_list
   landing_at word l =
       let n = landing_number text graph word in
-      get_first _ _ n _ (get_first _ _ n _ (get_first _ _ n _
-      (get_behind (images ++ ways) landings (length text.words + length (own_edges graph)) word _ ways_end
-      (slice_get-map (landing text graph codes) (below (length text.words)) word
-      ∙ ap (option_map (landing text graph codes)) (get_below (length text.words) word l)))))
+      get_first _ _ n _ (get_first _ _ n _ (get_first _ _ n _ (get_behind (images ++ ways) landings _ word _ ways_end
+      (rw (slice_get-map, get_below (length text.words) word l)))))
 
   -- one of an open switch's own
   pub own_piece_at : (k : ℕ) (o : Open) → slice_get opens k ≡ Some o → (n : ℕ) (xs : List Item)
       → slice_get (its_pieces o) n ≡ Some xs → slice_get all (open_begin text graph k + n) ≡ Some xs
   unfolding piece_list
   own_piece_at k o e n xs at =
-      let before = length text.words + length (own_edges graph) + length text.words in
-      let there : open_begin text graph k + n ≡ before + (sum_by (pieces_of text graph) (take k opens) + n) =
-      omega arith in
-      ap (slice_get (before_foreign ++ foreign_piece ∷ []))
-      there
-      ∙ get_first _ _ (before + (sum_by (pieces_of text graph) (take k opens) + n)) _
-      (get_first _ _ (before + (sum_by (pieces_of text graph) (take k opens) + n)) _
-      (get_behind (images ++ ways ++ landings) (flat_map its_pieces opens) before
-      (sum_by (pieces_of text graph) (take k opens) + n) xs landings_end
-      (flat_get its_pieces (pieces_of text graph) opens pieces_sized k o e n xs at)))
+      let m = sum_by (pieces_of text graph) (take k opens) + n in
+      let at_m = length text.words + length (own_edges graph) + length text.words + m in
+      let there : open_begin text graph k + n ≡ at_m = omega arith in
+      ap (slice_get all) there ∙ get_first _ _ at_m _ (get_first _ _ at_m _ (get_behind (images ++ ways ++ landings) _ _ m _
+      landings_end (flat_get its_pieces (pieces_of text graph) opens pieces_sized k o e n xs at)))
 
   -- the comparison's landed copy
   pub compare_at : (k : ℕ) (o : Open) → slice_get opens k ≡ Some o → (word : ℕ)
       → slice_index b.firsts o.switch.compare.0 ≤ word → word < block_end b.firsts b.words o.switch.compare.0
       → slice_get all (compare_image text graph k o word) ≡ Some (image_of (copy o.switch.compare.0) word)
   compare_at k o e word above below =
-      let first = slice_index b.firsts o.switch.compare.0 in
-      let here : first + (word - first) ≡ word = omega (arith, above) in
-      own_piece_at k o e (word - first) _
-      (get_first (compared o ++ before_load o) (kept o ∷ from_load o) (word - first) _
-      (get_first (compared o) (before_load o) (word - first) _
-      (range_get (image_of (copy o.switch.compare.0)) first (size_of b o.switch.compare.0) (word - first)
-      (omega (arith, above, below)))))
-      ∙ ap (λ (n : ℕ). Some (image_of (copy o.switch.compare.0) n)) here
+      own_piece_at k o e (word - slice_index b.firsts o.switch.compare.0) _
+      (get_first (compared o ++ before_load o) _ (word - slice_index b.firsts o.switch.compare.0) _ (get_first (compared o) _ _ _
+      (image_in (copy o.switch.compare.0) _ _ word above (omega (arith, above, below)))))
 
   -- ---- the block itself of the jump
 
@@ -292,55 +240,31 @@ module _ (text : Words) (b : Blocks) (opens : List Open) (cased : AreCased text 
     abbrev size : ℕ
     size = size_of b o.switch.compare.0
 
-    early : (word : ℕ) → first ≤ word → word < load
-        → slice_get all (jump_begin text graph k o + (word - first) + 0) ≡ Some (image_of (block o.block) word)
-    early word above below =
-        let there : jump_begin text graph k o + (word - first) + 0
-        ≡ open_begin text graph k + (size + (word - first)) = omega arith in
-        let here : first + (word - first) ≡ word = omega (arith, above) in
-        ap (slice_get all) there
-        ∙ own_piece_at k o e (size + (word - first)) _
-        (get_first (compared o ++ before_load o) (kept o ∷ from_load o) (size + (word - first)) _
-        (get_behind (compared o) (before_load o) size (word - first) _ (compared_count o)
-        (range_get (image_of (block o.block)) first (load - first) (word - first) (omega (arith, above, below)))))
-        ∙ ap (λ (n : ℕ). Some (image_of (block o.block) n)) here
-
-    late : (word : ℕ) → load ≤ word → word < block_end b.firsts b.words o.block
-        → slice_get all (jump_begin text graph k o + (word - first) + 1) ≡ Some (image_of (block o.block) word)
-    late word above below =
-        let l = load_in k o e in
-        let there : jump_begin text graph k o + (word - first) + 1
-        ≡ open_begin text graph k + (size + (load - first) + suc (word - load)) = omega (arith, above, l.above) in
-        let here : load + (word - load) ≡ word = omega (arith, above) in
-        ap (slice_get all) there
-        ∙ own_piece_at k o e (size + (load - first) + suc (word - load)) _
-        (get_behind (compared o ++ before_load o) (kept o ∷ from_load o) (size + (load - first)) (suc (word - load)) _
-        (before_count o)
-        (range_get (image_of (block o.block)) load (first + size_of b o.block - load) (word - load)
-        (omega (arith, above, below, l.above))))
-        ∙ ap (λ (n : ℕ). Some (image_of (block o.block) n)) here
-
-    early_is : (word : ℕ) → word < load → jump_image text graph k o word ≡ jump_begin text graph k o + (word - first) + 0
-    early_is word l =
-        ap (λ (t : Bool). jump_begin text graph k o + (word - first) + (if t then 0 else 1)) (lt-ltb _ _ l)
-
     late_is : (word : ℕ) → load ≤ word → jump_image text graph k o word ≡ jump_begin text graph k o + (word - first) + 1
-    late_is word m =
-        ap (λ (t : Bool). jump_begin text graph k o + (word - first) + (if t then 0 else 1)) (le-ltb _ _ m)
+    late_is word m = rw (le-ltb word load m)
 
     pub jump_at : (word : ℕ) → first ≤ word → word < block_end b.firsts b.words o.block
         → slice_get all (jump_image text graph k o word) ≡ Some (image_of (block o.block) word)
     jump_at word above below = elim (cases_lt word load) [
-      | inl l ↦ ap (slice_get all) (early_is word l) ∙ early word above l
-      | inr m ↦ ap (slice_get all) (late_is word m) ∙ late word m below
+      | inl l ↦
+          let there : jump_image text graph k o word ≡ open_begin text graph k + (size + (word - first)) =
+          rw (lt-ltb word load l) (omega arith) in
+          ap (slice_get all) there ∙ own_piece_at k o e (size + (word - first)) _
+          (get_first (compared o ++ before_load o) _ _ _ (get_behind (compared o) _ size (word - first) _ (compared_count o)
+          (image_in (block o.block) first (load - first) word above (omega (arith, above, l)))))
+      | inr m ↦
+          let low = (load_in k o e).above in
+          let there : jump_image text graph k o word
+          ≡ open_begin text graph k + (size + (load - first) + suc (word - load)) = omega (arith, late_is word m, above, low) in
+          ap (slice_get all) there ∙ own_piece_at k o e (size + (load - first) + suc (word - load)) _
+          (get_behind (compared o ++ before_load o) (kept o ∷ from_load o) _ (suc (word - load)) _ (before_count o)
+          (image_in (block o.block) load (first + size_of b o.block - load) word m (omega (arith, m, below, low))))
     ]
 
     -- before the load its address is kept
     pub enter_load : suc (jump_enter text graph k o load) ≡ jump_image text graph k o load
     enter_load =
-        let at : jump_enter text graph k o load ≡ jump_image text graph k o load - 1 =
-        ap (λ (t : Bool). if t then jump_image text graph k o load - 1 else jump_image text graph k o load)
-        (eq-eqb load load refl) in
+        let at : jump_enter text graph k o load ≡ jump_image text graph k o load - 1 = rw (eq-eqb load load refl) in
         omega (arith, at, late_is load (omega arith))
 
     pub keep_at : slice_get all (jump_enter text graph k o load) ≡ Some (kept o)
@@ -348,33 +272,16 @@ module _ (text : Words) (b : Blocks) (opens : List Open) (cased : AreCased text 
         let at = enter_load in
         let there : jump_enter text graph k o load ≡ open_begin text graph k + (size + (load - first) + 0) =
         omega (arith, at, late_is load (omega arith)) in
-        ap (slice_get all) there
-        ∙ own_piece_at k o e (size + (load - first) + 0) _
-        (get_behind (compared o ++ before_load o) (kept o ∷ from_load o) (size + (load - first)) 0 _
-        (before_count o) refl)
+        ap (slice_get all) there ∙ own_piece_at k o e (size + (load - first) + 0) _
+        (get_behind (compared o ++ before_load o) (kept o ∷ from_load o) _ 0 _ (before_count o) refl)
 
     pub enter_other : (word : ℕ) → (word ≡ load → ⊥) → jump_enter text graph k o word ≡ jump_image text graph k o word
-    enter_other word not =
-        ap (λ (t : Bool). if t then jump_image text graph k o word - 1 else jump_image text graph k o word)
-        (ne_eqb word load not)
+    enter_other word not = rw (ne_eqb word load not)
 
     -- within the block the pieces follow each other
     pub enter_next : (word : ℕ) → first ≤ word → jump_enter text graph k o (suc word)
         ≡ suc (jump_image text graph k o word)
-    enter_next word above = elim (cases_lt (suc word) load) [
-      | inl l ↦
-          enter_other (suc word) (omega (arith, l)) ∙ early_is (suc word) l
-          ∙ omega (arith, early_is word (omega (arith, l)), above)
-      | inr m ↦ elim (cases_lt word load) [
-        | inl l ↦
-            let same : suc word ≡ load = omega (arith, l, m) in
-            let at = enter_load in
-            let image = late_is load (omega arith) in
-            ap (jump_enter text graph k o) same ∙ omega (arith, at, image, early_is word l, same, above)
-        | inr n ↦
-            enter_other (suc word) (omega (arith, n)) ∙ late_is (suc word) m ∙ omega (arith, late_is word n, above)
-      ]
-    ]
+    enter_next word above = step_on (jump_begin text graph k o) first load word above
 
     -- the entries of its table
     pub case_entry_at : (entry word : ℕ) → slice_get o.targets entry ≡ Some word
@@ -384,44 +291,23 @@ module _ (text : Words) (b : Blocks) (opens : List Open) (cased : AreCased text 
     case_entry_at entry word at =
         let there : case_begin text graph + first_entry text graph k + entry
         ≡ case_begin text graph + (first_entry text graph k + entry) = omega arith in
-        ap (slice_get (before_foreign ++ foreign_piece ∷ []))
-        there
-        ∙ get_first _ _ (case_begin text graph + (first_entry text graph k + entry)) _
-        (get_behind (images ++ ways ++ landings ++ flat_map its_pieces opens) (flat_map its_cases opens)
-        (case_begin text graph) (first_entry text graph k + entry) _ opens_end
-        (flat_get its_cases (entries_of text graph) opens cases_sized k o e entry _
-        (case_among text graph table codes o 0 entry o.targets word at
-        ∙ (let e : 0 + entry ≡ entry = omega arith in ap (λ n. Some (case_at text graph table codes o n word)) e))))
+        ap (slice_get all) there ∙ get_first before_foreign _ (case_begin text graph + (first_entry text graph k + entry)) _
+        (get_behind (images ++ ways ++ landings ++ flat_map its_pieces opens) (flat_map its_cases opens) _
+        (first_entry text graph k + entry) _ opens_end
+        (flat_get its_cases (entries_of text graph) opens cases_sized k o e entry _ (made_at (case_at text graph table codes o)
+        (cases_from text graph table codes o) (λ _. refl) (λ _ _ _. refl) entry o.targets word at)))
 
   pub foreign_at : slice_get all (foreign_number text graph) ≡ Some foreign_piece
   unfolding piece_list
   foreign_at =
       let there : foreign_number text graph ≡ foreign_number text graph + 0 = omega arith in
-      ap (slice_get (before_foreign ++ foreign_piece ∷ []))
-      there
-      ∙ get_behind before_foreign
-      (foreign_piece ∷ []) (foreign_number text graph) 0 foreign_piece cases_end refl
+      ap (slice_get all) there ∙ get_behind before_foreign (foreign_piece ∷ []) _ 0 _ cases_end refl
 
 -- an edge that is no landing is among those that have ways
 pub own_at : (b : Blocks) (opens : List Open) (number : ℕ) (edge : Edge) → slice_get (edges_in b opens) number
     ≡ Some edge
     → same_kind edge.kind kinds.Land ≡ false → slice_get (own_edges (graph_of b opens)) number ≡ Some edge
-unfolding edges_in
 own_at b opens number edge e other =
-    let nodes = flat_map (landings_of opens) (below (length b.firsts)) in
-    let own : List Edge = flat_map (edges_of b opens) (below (length b.firsts))
-    ++ flat_map (copied_edges b opens) (filter (is_copied opens) (below (length b.firsts))) in
-    let landings : List Edge = map landing_edge nodes in
-    let many : length landings ≡ length nodes = length-map nodes landing_edge in
-    let all : length (own ++ landings) ≡ length own + length landings = length-append own landings in
-    elim (cases_lt number (length own)) [
-      | inl l ↦ get_taken (length (own ++ landings) - length nodes) number (own ++ landings) (omega arith) ∙ e
-      | inr m ↦
-          let past : length own + (number - length own) ≡ number = omega arith in
-          let there : slice_get landings (number - length own) ≡ Some edge =
-          sym (get_second own landings (number - length own)) ∙ ap (slice_get (own ++ landings)) past ∙ e in
-          let lands : same_kind edge.kind kinds.Land ≡ true =
-          each_at (λ (x : Edge). same_kind x.kind kinds.Land ≡ true) landings (number - length own) edge
-          (each-map _ landing_edge nodes (each _ nodes (λ j. refl))) there in
-          absurd (cc)
-    ]
+    let many = length-take (length (edges_in b opens) - landing_count (graph_of b opens)) (edges_in b opens) in
+    let low = own_before b opens number edge e other in
+    get_taken _ number (edges_in b opens) (omega arith) ∙ e

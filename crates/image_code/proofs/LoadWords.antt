@@ -1,5 +1,5 @@
 -- The load of an open switch, as it is found from word to word.
-use Rattle.std.proofs.Common.{◌≡◌, ℕ, suc, ◌+◌, ◌-◌, ◌<◌, ◌≤◌, Bool, true, false, cond, List, [], ◌∷◌, Option, Some, None, refl, ap, ◌∙◌, arith}
+use Rattle.std.proofs.Common.{◌≡◌, ℕ, suc, ◌+◌, ◌-◌, ◌<◌, ◌≤◌, Bool, true, false, List, [], ◌∷◌, Option, Some, None, refl, ap, ◌∙◌, arith}
 use Rattle.std.specs.List.{find, range_with_len}
 use Rattle.eel_base.specs.CodeText.{Words}
 use Rattle.v8_decode.specs.declared.Instr.{Instr}
@@ -15,8 +15,7 @@ use Rattle.image_code.specs.Lookups.{is_load, load_after, loads_at, or_word}
 find_same : (p q : ℕ → Bool) (xs : List ℕ) → ((x : ℕ) → p x ≡ q x) → find p xs ≡ find q xs
 find_same p q [] same = refl
 find_same p q (x ∷ xs) same =
-    ap (λ (b : Bool). cond b (Some x) (find p xs)) (same x)
-    ∙ ap (λ (o : Option ℕ). cond (q x) (Some x) o) (find_same p q xs same)
+    rw (same x, find_same p q xs same) refl
 
 -- ---- from word to word
 
@@ -24,15 +23,13 @@ pub found_here : (p : ℕ → Bool) (word end : ℕ) → word < end → p word �
     → find p (range_with_len word (end - word)) ≡ Some word
 found_here p word end l e =
     let more : end - word ≡ suc (end - (word + 1)) = omega arith in
-    ap (λ n. find p (range_with_len word n)) more
-    ∙ ap (λ (b : Bool). cond b (Some word) (find p (range_with_len (word + 1) (end - (word + 1))))) e
+    rw (more, e) refl
 
 pub found_later : (p : ℕ → Bool) (word end : ℕ) → word < end → p word ≡ false
     → find p (range_with_len word (end - word)) ≡ find p (range_with_len (word + 1) (end - (word + 1)))
 found_later p word end l e =
     let more : end - word ≡ suc (end - (word + 1)) = omega arith in
-    ap (λ n. find p (range_with_len word n)) more
-    ∙ ap (λ (b : Bool). cond b (Some word) (find p (range_with_len (word + 1) (end - (word + 1))))) e
+    rw (more, e) refl
 
 pub found_nowhere : (p : ℕ → Bool) (word end : ℕ) → end ≤ word → find p (range_with_len word (end - word)) ≡ None
 found_nowhere p word end l = let none : end - word ≡ 0 = omega arith in ap (λ n. find p (range_with_len word n)) none
@@ -56,8 +53,7 @@ by_same text o word (i.Load loads.LD rd rs1 op2) = refl
 by_same text o word _ = refl
 
 or_same : (o : Open) (found : Option ℕ) → or_word o.approach.first found ≡ or_first o found
-or_same o None = refl
-or_same o (Some word) = refl
+or_same o found = grind arith
 
 pub load_is : (text : Words) (o : Open)
     → load_after text (after_slot text o.approach) o.approach o.switch.table.0 ≡ load_of text o

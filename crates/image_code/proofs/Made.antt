@@ -7,7 +7,7 @@ use Rattle.v8_decode.specs.declared.Instr.{Instr}
 use Rattle.v8_decode.specs.declared.Instr.TheVariants as i
 use Rattle.v8_decode.specs.Words.{decode_of}
 use Rattle.v8_step.specs.declared.Slot.{Slot}
-use Rattle.v8_step.specs.declared.Slot.TheVariants.{NoSlot, Taken, Untaken}
+use Rattle.v8_step.specs.declared.Slot.TheVariants.{NoSlot}
 use Rattle.v8_step.specs.State.{State}
 use Rattle.v8_step.specs.Items.{is_transfer}
 use Rattle.cfg_blocks.specs.Blocks.{Blocks, blocks_of}
@@ -98,12 +98,9 @@ module _ (g : Setting) (codes : ℕ → List ℕ) (is : IsKnown g) (p : Placemen
       by NoSlot none m0 None e = foreign (foreign_is g codes is p f node x none e m0.0 open_there)
       by NoSlot none m0 (Some word) e =
           by_instr node x t word e none m0.0 m.1 m0.1 here.live chooses (decode_of (slice_index g.text.words word)) refl
-      by Taken some m0 o e =
-          let not : x.slot ≢ NoSlot = λ n. let q : Taken ≡ NoSlot = sym some ∙ n in absurd (cc) in
-          in_slot not (on_its_way g codes is p f node x Taken some (λ q. absurd (cc)) m0) o e
-      by Untaken some m0 o e =
-          let not : x.slot ≢ NoSlot = λ n. let q : Untaken ≡ NoSlot = sym some ∙ n in absurd (cc) in
-          in_slot not (on_its_way g codes is p f node x Untaken some (λ q. absurd (cc)) m0) o e
+      by s some m0 o e =
+          let not : x.slot ≢ NoSlot = λ n. let q : s ≡ NoSlot = sym some ∙ n in absurd (cc) in
+          in_slot not (on_its_way g codes is p f node x s some (λ q. absurd (cc)) m0) o e
 
 pub pieces_make_images : PiecesMakeImages
 pieces_make_images g codes base p place f text graph known placed tables cases below noted =

@@ -86,7 +86,6 @@ module _ (l : List (List Item)) (base : ℕ) (p : Placement) (place : ℕ → �
       let one : (place k (suc (suc j)) ≡ place k (suc j) + 4) × IsWordAt base p.code (place k (suc j)) w.0 =
       laid.items k (suc j) (it.Word w.0) w.1 in
       let before = stands j (omega (arith, low)) in
-      let step = one.0 in
       omega arith
 
   open_word : (j : ℕ) → j < length xs → open_in (slice_get l k) (suc j)
@@ -112,13 +111,12 @@ module _ (l : List (List Item)) (base : ℕ) (p : Placement) (place : ℕ → �
       let s = size in
       let last = stands (length xs) (omega arith) in
       let ends = (laid.within k (suc (length xs)) within (omega arith)).ends in
-      let low = laid.low in
       record {
         mark = laid.items k 0 (it.Mark address node) (item_is 0);
         begins = (laid.within k 1 within (omega arith)).begins;
         behind = last;
         ends = omega (arith, last, ends);
-        low = omega (arith, last, ends, low);
+        low = omega (arith, last, ends, laid.low);
         range = in_range;
       }
 

@@ -1,5 +1,5 @@
 -- The numbers of the pieces of open switches, and where they stand.
-use Rattle.std.proofs.Common.{◌≡◌, ℕ, ◌+◌, ◌-◌, ◌<◌, ◌≤◌, Bool, List, Option, Some, None, length, take, refl, ap, sym, ◌∙◌, subst, arith}
+use Rattle.std.proofs.Common.{◌≡◌, ℕ, ◌+◌, ◌-◌, ◌<◌, ◌≤◌, Bool, List, Option, Some, None, length, take, refl, sym, ◌∙◌, arith}
 use Rattle.std.specs.Prelude.{slice_get, slice_index, slice_index_or}
 use Rattle.std.specs.List.{find, position_or_len, range_with_len, sum_by}
 use Rattle.std.proofs.lemmas.List.Folds.{find_at}
@@ -19,8 +19,7 @@ use Rattle.image_code.specs.Numbered.{entries_of, first_entry, open_begin, piece
 part_more : (f : Open → ℕ) (opens all : List Open) → opens ≡ all → (n : ℕ) (o : Open) → n < length opens
     → o ≡ slice_index_or opens n o → sum_by f (take (n + 1) all) ≡ sum_by f (take n all) + f o
 part_more f opens all same n o l is =
-    subst (λ (os : List Open). sum_by f (take (n + 1) os) ≡ sum_by f (take n os) + f o) same
-    (sum_by_more f opens n o l ∙ ap (λ (x : Open). sum_by f (take n opens) + f x) (sym is))
+    rw (← same, sum_by_more f opens n o l, ← is) refl
 
 -- where the pieces of the next open switch begin
 pub open_more : (text : Words) (graph : Graph) (opens : List Open) → opens ≡ graph.opens → (n : ℕ) (o : Open)

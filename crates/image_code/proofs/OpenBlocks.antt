@@ -1,17 +1,16 @@
 -- What is known of the graph of a text with its open switches: where their blocks lie, that no two share one, and so
 -- how many words, entries and edges there are.
-use Rattle.std.proofs.Common.{◌≡◌, ℕ, zero, suc, ◌+◌, ◌-◌, ◌*◌, ◌<◌, ◌≤◌, Bool, true, false, ◌&&◌, ◌==◌, cond, Option, Some, None, List, [], ◌∷◌, ◌++◌, length, map, take, refl, ap, sym, ◌∙◌, subst, arith, inl, inr}
-use Rattle.std.specs.Prelude.{◌⊎◌, IfSome, if◌then◌else◌, slice_get, slice_index}
+use Rattle.std.proofs.Common.{◌≡◌, ℕ, zero, suc, ◌+◌, ◌-◌, ◌*◌, ◌<◌, ◌≤◌, Bool, true, false, ◌&&◌, ◌==◌, cond, Option, Some, None, List, [], ◌∷◌, ◌++◌, length, length-take, map, take, refl, ap, sym, ◌∙◌, subst, arith}
+use Rattle.std.specs.Prelude.{◌||◌, if◌then◌else◌, slice_get, slice_index}
 use Rattle.std.specs.List.{All, filter, flat_map, sum_by}
 use Rattle.std.specs.Option.{option_to_list}
-use Rattle.std.proofs.lemmas.Bool.{and_parts, cond_both, eq-eqb, eqb-true, false≢true, or_cases, or_parts}
-use Rattle.std.proofs.lemmas.List.{length-append, length-map}
-use Rattle.std.proofs.lemmas.List.Elements.{All-map}
+use Rattle.std.proofs.lemmas.Bool.{cond_both, eq-eqb, false≢true, or_parts}
+use Rattle.std.proofs.lemmas.Bool.Decides.{nat_tests}
+use Rattle.std.proofs.lemmas.List.{get_or-map, length-append, length-map}
+use Rattle.std.proofs.lemmas.Option.{slice_get_within}
 use Rattle.std.proofs.lemmas.List.Sums.{count_by-le-length, length-filter, sum_by-cons}
 use Rattle.std.proofs.Math.Seq.{take-append_seam}
-use Rattle.eel_base.specs.CodeText.{Words, IsText, numbered, target_of, word_at}
-use Rattle.v8_decode.specs.declared.Instr.{Instr}
-use Rattle.v8_decode.specs.declared.Instr.TheVariants as i
+use Rattle.eel_base.specs.CodeText.{Words, IsText}
 use Rattle.v8_decode.specs.Words.{decode_of}
 use Rattle.v8_step.specs.Items.{is_transfer}
 use Rattle.cfg_blocks.specs.declared.BlockEnd.{BlockEnd}
@@ -19,18 +18,20 @@ use Rattle.cfg_blocks.specs.declared.BlockEnd.TheVariants as ends
 use Rattle.cfg_blocks.specs.declared.EdgeKind.{EdgeKind}
 use Rattle.cfg_blocks.specs.declared.EdgeKind.TheVariants as kinds
 use Rattle.cfg_blocks.specs.declared.switches.Switch.{Switch}
-use Rattle.cfg_blocks.specs.Ends.{TargetsWithin, Way, end_at, end_by, never, number_of, within}
-use Rattle.cfg_blocks.specs.Blocks.{AreFirsts, Blocks, below, blocks_of, end_of, holding_of, last_word, leaders, size_of}
-use Rattle.cfg_blocks.specs.Entries.{IsBlockList, entered_of, ways_from}
+use Rattle.cfg_blocks.specs.Ends.{TargetsWithin, Way, number_of, within}
+use Rattle.cfg_blocks.specs.Blocks.{AreFirsts, Blocks, below, blocks_of, end_of, holding_of, is_among, last_word, size_of}
+use Rattle.cfg_blocks.specs.Arrivals.{entered_in}
+use Rattle.cfg_blocks.specs.Entries.{Entered, IsBlockList, entered_of, ways_from}
 use Rattle.cfg_blocks.specs.Switches.{is_jump, is_taken, is_untaken, switch_of, switches_of}
 use Rattle.cfg_blocks.specs.Values.{instr_at}
-use Rattle.cfg_blocks.proofs.Below.{length-below}
-use Rattle.cfg_blocks.proofs.Targets.{word_at-some}
+use Rattle.cfg_blocks.proofs.Agreement.{entered_alike}
+use Rattle.cfg_blocks.proofs.Below.{get_or-below, length-below}
+use Rattle.cfg_blocks.proofs.Targets.{targets_within}
 use Rattle.cfg_normal.specs.declared.Edge.{Edge}
 use Rattle.cfg_normal.specs.declared.Node.{Node}
 use Rattle.cfg_normal.specs.Nodes.{same_kind}
 use Rattle.cfg_normal.specs.Opens.{AreOne, AreOpenIn, IsOpenIn, IsTableIn, Open, is_copied, jumps_in, targets_in}
-use Rattle.cfg_normal.specs.Graph.{Graph, IsNodeIn, case_nodes, case_of, copied_edges, edge_of, edges_in, edges_of, graph_of, landing_at, landings_of, ways_out}
+use Rattle.cfg_normal.specs.Graph.{Graph, IsNodeIn, case_of, copied_edges, edge_of, edges_in, edges_of, graph_of, landing_at, landings_of, ways_out}
 use Rattle.cfg_normal.proofs.Candidates.{opens_are as open_in_blocks}
 use Rattle.cfg_normal.proofs.GraphFacts.{edges_of-few, flat_few, ways_out-few}
 use Rattle.cfg_walk.proofs.Cut.{IsCut, cut}
@@ -41,37 +42,16 @@ use Rattle.cfg_walk.proofs.Nodes.{edges_lead_in}
 use Rattle.cfg_walk.proofs.Ways.{IsOwn, ways_are_own}
 use Rattle.jump_slice.specs.Cases.{IsOpen}
 use Rattle.jump_slice.proofs.About.{about}
-use Rattle.jump_slice.proofs.Into.{LeadsIn, leads_in}
+use Rattle.jump_slice.proofs.Into.{leads_in}
 use Rattle.jump_slice.proofs.Opened.{found_in, opens_are}
-use Rattle.jump_slice.proofs.Parts.{IsSwitch, switch_of-is, table_in}
+use Rattle.jump_slice.proofs.Parts.{switch_of-is, table_in}
 use Rattle.jump_slice.proofs.Whole.{ends_count}
 use Rattle.image_code.specs.Loads.{load_of}
 use Rattle.image_code.specs.Numbered.{or_zero, own_edges}
 use Rattle.image_code.specs.Graphs.{IsGraphOf, opens_in}
 use Rattle.image_code.proofs.NumberTables.{load_between}
+use Rattle.image_code.proofs.Positions.{get_taken as taken}
 use Rattle.image_code.proofs.OpenSums.{AreDistinct, distinct_sum, total, total_at, total_flat, total_le, total_plus, total_same}
-
--- ---- the targets of blocks are words
-
-numbered_within : (text : Words) (address : ℕ) → IfSome (numbered (word_at text address))
-    (λ word. word.0 < length text.words)
-numbered_within text address = by (word_at text address) refl
-  where
-    by : (o : Option ℕ) → word_at text address ≡ o → IfSome (numbered o) (λ word. word.0 < length text.words)
-    by None e = tt
-    by (Some word) e = (word_at-some text address word e).within
-
-end_within : (text : Words) (word : ℕ) (instr : Instr) → TargetsWithin (length text.words) (end_by text word instr)
-end_within text word (i.Branch c annul disp22) =
-    cond_both (c == never) None (numbered (target_of text word disp22))
-    (λ to. IfSome to (λ other. other.0 < length text.words)) (λ h. tt) (λ h. numbered_within text _)
-end_within text word (i.Call disp30) = numbered_within text _
-end_within text word (i.Jmpl rd rs1 op2) = tt
-end_within text word _ = tt
-
-end_at_within : (text : Words) (word : ℕ) → TargetsWithin (length text.words) (end_at text word)
-unfolding end_at
-end_at_within text word = end_within text word (decode_of (slice_index text.words word))
 
 -- ---- one open switch
 
@@ -98,15 +78,15 @@ pub record IsSwitchIn (text : Words) (b : Blocks) (o : Open) : Type 0 where
   pub below : load_of text o ≤ last_word b.firsts b.words o.block
 
 untaken_is : (kind : EdgeKind) → is_untaken kind ≡ true → kind ≡ kinds.Untaken
-untaken_is kinds.Untaken e = refl
-untaken_is _ e = absurd (cc)
+untaken_is kind e = grind arith
 
 taken_is : (kind : EdgeKind) → is_taken kind ≡ true → kind ≡ kinds.Taken
-taken_is kinds.Taken e = refl
-taken_is _ e = absurd (cc)
+taken_is kind e = grind arith
 
-first_is : (x : Option ℕ) (first : ℕ) → x ≡ Some first → or_zero x ≡ first
-first_is x first e = ap or_zero e
+-- a bound's way, by its condition
+bounded_is : (cond : ℕ) (untaken taken : Bool) → (((cond == 12) && untaken) || ((cond == 4) && taken)) ≡ true
+    → (if cond == 12 then untaken else taken) ≡ true
+bounded_is cond untaken taken e = grind (arith, nat_tests)
 
 module _ (text : Words) (given : List ℕ) (entry : ℕ) (is_text : IsText text) where
   abbrev its : Blocks
@@ -120,38 +100,19 @@ module _ (text : Words) (given : List ℕ) (entry : ℕ) (is_text : IsText text)
   unfolding entered_of
   led_first o is =
       let a = about text given entry is_text o is in
-      let leads : LeadsIn its o.switch.compare.0 o.block o.way is.parts.target =
-      leads_in text given o.block o.switch.compare o.way a.block_in is.parts.edge is.cond is.annul is.parts.target
-      is.parts.branch in
+      let leads = leads_in text given o.block o.switch.compare o.way a.block_in is.parts.edge is.cond is.annul
+      is.parts.target is.parts.branch in
+      let way = bounded_is is.cond (is_untaken o.way) (is_taken o.way) a.bounded in
       ap (led_by its.words (last_word its.firsts its.words o.switch.compare.0)) is.parts.branch
-      ∙ by (is.cond == 12) refl (or_cases ((is.cond == 12) && is_untaken o.way)
-      ((is.cond == 4) && is_taken o.way) a.bounded) leads
-    where
-      by : (t : Bool) → (is.cond == 12) ≡ t
-          → (((is.cond == 12) && is_untaken o.way) ≡ true) ⊎ (((is.cond == 4) && is_taken o.way) ≡ true)
-          → LeadsIn its o.switch.compare.0 o.block o.way is.parts.target
-          → or_zero (if is.cond == 12 then within its.words (last_word its.firsts its.words o.switch.compare.0 + 2)
-          else number_of is.parts.target) ≡ slice_index its.firsts o.block
-      by true e (inl one) leads =
-          let way = untaken_is o.way (and_parts (is.cond == 12) (is_untaken o.way) one).1 in
-          rw e (first_is _ (slice_index its.firsts o.block) (leads.untaken way))
-      by true e (inr other) leads =
-          let twelve : is.cond ≡ 12 = eqb-true is.cond 12 e in
-          let four : is.cond ≡ 4 = eqb-true is.cond 4 (and_parts (is.cond == 4) (is_taken o.way) other).0 in
-          absurd (omega arith)
-      by false e (inl one) leads =
-          absurd (false≢true (sym e ∙ (and_parts (is.cond == 12) (is_untaken o.way) one).0))
-      by false e (inr other) leads =
-          let way = taken_is o.way (and_parts (is.cond == 4) (is_taken o.way) other).1 in
-          rw e (first_is _ (slice_index its.firsts o.block) (leads.taken way))
+      ∙ cond_both (is.cond == 12) _ _ (λ (to : Option ℕ). or_zero to ≡ slice_index its.firsts o.block)
+      (λ e. ap or_zero (leads.untaken (untaken_is o.way (rw e at way))))
+      (λ e. ap or_zero (leads.taken (taken_is o.way (rw e at way))))
 
   switch_in : (o : Open) → IsOpen text (entered_of text given) entry o → IsSwitchIn text its o
   unfolding entered_of
   switch_in o is =
       let a = about text given entry is_text o is in
-      let s : IsSwitch text (entered_of text given) o.block o.switch.compare o.way is.cond is.annul o.approach.compare
-      o.switch =
-      switch_of-is text (entered_of text given) entry o.block o.switch is.is_switch o.switch.compare o.way is.cond
+      let s = switch_of-is text (entered_of text given) entry o.block o.switch is.is_switch o.switch.compare o.way is.cond
       is.annul is.parts.target o.approach.compare is.parts.edge is.parts.branch is.parts.sets in
       let some = some_words its.words its.firsts parts.firsts o.block a.block_in in
       let load = load_between text o (omega (arith, a.first, a.jump)) in
@@ -162,21 +123,23 @@ module _ (text : Words) (given : List ℕ) (entry : ℕ) (is_text : IsText text)
         jumps = ap is_transfer s.jumps.is;
         branch = ap is_jump is.parts.branch;
         jump = (found_in text (entered_of text given) o.block o.switch entry is.is_switch).1;
-        led = sym (is_held its.words its.firsts parts.firsts (slice_index its.firsts o.block) o.block
-            (record { within = a.block_in; above = omega arith; below = some }))
-            ∙ ap (holding_of its) (sym (led_first o is));
+        led = rw (led_first o is) (sym (is_held its.words its.firsts parts.firsts (slice_index its.firsts o.block) o.block
+            (record { within = a.block_in; above = omega arith; below = some })));
         above = omega (arith, load.0, a.first);
         below = omega (arith, load.1, a.jump);
       }
 
   -- ---- the list of blocks, and the tables
 
+  -- the targets of blocks are words
   ends_within_text : All (TargetsWithin (length text.words)) its.ends
-  unfolding blocks_of
+  unfolding entered_in entered_of
   ends_within_text =
-      All-map (TargetsWithin (length text.words))
-      (λ k. end_at text (last_word (leaders text given) (length text.words) k)) (below (length (leaders text given)))
-      (λ k d l. end_at_within text _)
+      let marks = map (is_among given) (below (length text.words)) in
+      let alike = entered_alike text given marks is_text.some (λ k l. get_or-map (is_among given) _ k 0 false
+      (omega (arith, l, length-below (length text.words))) ∙ ap (is_among given) (get_or-below (length text.words) k 0 l)) in
+      subst (All (TargetsWithin (length text.words))) (ap (λ (list : Entered). list.blocks.ends) alike)
+      (targets_within text _ _ _ _ refl refl)
 
   words_are : its.words ≡ length text.words
   words_are = parts.words
@@ -206,11 +169,7 @@ module _ (text : Words) (given : List ℕ) (entry : ℕ) (is_text : IsText text)
 
   tables : Each (IsTableIn text) (switches_of text (entered_of text given) entry)
   unfolding entered_of
-  tables =
-      each-flat_map (IsTableIn text) (λ k. option_to_list (switch_of text (entered_of text given) entry k))
-      (below (length its.firsts))
-      (each-below (λ k. Each (IsTableIn text) (option_to_list (switch_of text (entered_of text given) entry k)))
-      (length its.firsts) (λ k l. by k l (switch_of text (entered_of text given) entry k) refl))
+  tables = each-flat_map _ _ _ (each-below _ (length its.firsts) (λ k l. by k l _ refl))
     where
       by : (k : ℕ) → k < length its.firsts → (o : Option Switch) → switch_of text (entered_of text given) entry k ≡ o
           → Each (IsTableIn text) (option_to_list o)
@@ -218,9 +177,7 @@ module _ (text : Words) (given : List ℕ) (entry : ℕ) (is_text : IsText text)
       by k l (Some switch) e = (table_of k switch l e, tt)
 
   pub are_switches : Each (IsSwitchIn text its) (opens_in text given entry)
-  are_switches =
-      each-then (IsOpen text (entered_of text given) entry) (IsSwitchIn text its) (opens_in text given entry) switch_in
-      (opens_are text given entry is_text)
+  are_switches = each-then _ _ _ switch_in (opens_are text given entry is_text)
 
   pub are_open : AreOpenIn its (opens_in text given entry)
   unfolding entered_of
@@ -243,38 +200,30 @@ module _ (text : Words) (b : Blocks) where
   keys_low [] are = tt
   keys_low (o ∷ opens) are = (are.0.compare_in, (are.0.block_in, keys_low opens are.1))
 
-  no_compare : (o : Open) → IsSwitchIn text b o → (opens : List Open) → AreIn opens → jumps_in opens o.block ≡ false
-      → Each (λ (j : ℕ). j ≡ o.switch.compare.0 → ⊥) (keys opens)
-  no_compare o is [] are new = tt
-  no_compare o is (p ∷ opens) are new =
-      let apart = or_parts (p.block == o.block) (jumps_in opens o.block) new in (
-        λ e.
-            false≢true (sym apart.0 ∙ eq-eqb p.block o.block
-            (are.0.led ∙ ap (λ k. holding_of b (led_word b k)) e ∙ sym is.led)),
-        (
-          λ e. false≢true (sym is.branch ∙ ap (λ k. is_jump (end_of b k)) (sym e) ∙ are.0.jump),
-          no_compare o is opens are.1 apart.1,
-        ),
-      )
+  -- a branch is no jump
+  branch_jump : (j k : ℕ) → is_jump (end_of b j) ≡ false → is_jump (end_of b k) ≡ true → j ≡ k → ⊥
+  branch_jump j k branch jump e = false≢true (sym branch ∙ rw e jump)
 
-  no_block : (o : Open) → IsSwitchIn text b o → (opens : List Open) → AreIn opens → jumps_in opens o.block ≡ false
-      → Each (λ (j : ℕ). j ≡ o.block → ⊥) (keys opens)
-  no_block o is [] are new = tt
-  no_block o is (p ∷ opens) are new =
-      let apart = or_parts (p.block == o.block) (jumps_in opens o.block) new in (
-        λ e. false≢true (sym are.0.branch ∙ ap (λ k. is_jump (end_of b k)) e ∙ is.jump),
-        (λ e. false≢true (sym apart.0 ∙ eq-eqb p.block o.block e), no_block o is opens are.1 apart.1),
+  abbrev IsNoneOf : Open → ℕ → Type 0
+  IsNoneOf o j = (j ≡ o.switch.compare.0 → ⊥) × (j ≡ o.block → ⊥)
+
+  no_other : (o : Open) → IsSwitchIn text b o → (opens : List Open) → AreIn opens → jumps_in opens o.block ≡ false
+      → Each (IsNoneOf o) (keys opens)
+  no_other o is [] are new = tt
+  no_other o is (p ∷ opens) are new =
+      let apart = or_parts (p.block == o.block) (jumps_in opens o.block) new in
+      let differ : p.block ≡ o.block → ⊥ = λ e. false≢true (sym apart.0 ∙ eq-eqb p.block o.block e) in (
+        (λ e. differ (are.0.led ∙ rw e (sym is.led)), branch_jump _ _ are.0.branch is.jump),
+        ((λ e. branch_jump _ _ is.branch are.0.jump (sym e), differ), no_other o is opens are.1 apart.1),
       )
 
   keys_apart : (opens : List Open) → AreIn opens → AreOne opens → AreDistinct (keys opens)
   keys_apart [] are one = tt
-  keys_apart (o ∷ opens) are one = (
-    (
-      λ e. false≢true (sym are.0.branch ∙ ap (λ k. is_jump (end_of b k)) (sym e) ∙ are.0.jump),
-      no_compare o are.0 opens are.1 one.0,
-    ),
-    (no_block o are.0 opens are.1 one.0, keys_apart opens are.1 one.1),
-  )
+  keys_apart (o ∷ opens) are one =
+      let others = no_other o are.0 opens are.1 one.0 in (
+        (λ e. branch_jump _ _ are.0.branch are.0.jump (sym e), each-then (IsNoneOf o) _ (keys opens) (λ j h. h.0) others),
+        (each-then (IsNoneOf o) _ (keys opens) (λ j h. h.1) others, keys_apart opens are.1 one.1),
+      )
 
 -- the words of both blocks
 abbrev pub words_of : Blocks → Open → ℕ
@@ -315,9 +264,8 @@ sizes_all b f (suc k) e =
       ends_at_words b.words b.firsts f k (omega (arith, e)),
     )
 
-room_of : (text : Words) (b : Blocks) → AreFirsts b.words b.firsts → (opens : List Open) → Each
-    (IsSwitchIn text b) opens
-    → AreOne opens → sum_by (words_of b) opens ≤ b.words
+room_of : (text : Words) (b : Blocks) → AreFirsts b.words b.firsts → (opens : List Open)
+    → Each (IsSwitchIn text b) opens → AreOne opens → sum_by (words_of b) opens ≤ b.words
 room_of text b f opens are one =
     omega (
       arith,
@@ -353,20 +301,14 @@ targets_few [] n = omega (arith, none n)
     none (suc n) = omega (arith, none n)
 targets_few (o ∷ opens) n =
     let here : ℕ → ℕ = λ k. cond (o.block == k) (length o.targets) 0 in
-    let split : total (λ k. length (targets_in (o ∷ opens) k)) n
-    ≡ total (λ k. here k + length (targets_in opens k)) n =
-    total_same (λ k. length (targets_in (o ∷ opens) k)) (λ k. here k + length (targets_in opens k)) n
-    (λ k. length-append (cond (o.block == k) o.targets []) (targets_in opens k) ∙ omega (arith, cut (o.block == k))) in
-    let sum : sum_by (λ (o : Open). length o.targets) (o ∷ opens)
-    ≡ length o.targets + sum_by (λ (o : Open). length o.targets) opens =
-    sum_by-cons (λ (o : Open). length o.targets) o opens in
     omega (
       arith,
-      split,
+      total_same (λ k. length (targets_in (o ∷ opens) k)) (λ k. here k + length (targets_in opens k)) n
+          (λ k. length-append (cond (o.block == k) o.targets []) (targets_in opens k) ∙ omega (arith, cut (o.block == k))),
       total_plus here (λ k. length (targets_in opens k)) n,
       (total_at o.block (length o.targets) n).1,
       targets_few opens n,
-      sum,
+      sum_by-cons (λ (o : Open). length o.targets) o opens,
     )
   where
     cut : (t : Bool) → length (cond t o.targets []) ≡ cond t (length o.targets) 0
@@ -374,10 +316,8 @@ targets_few (o ∷ opens) n =
     cut false = refl
 
 get_taken : {A : Type 0} (n k : ℕ) (xs : List A) (x : A) → slice_get (take n xs) k ≡ Some x → slice_get xs k ≡ Some x
-get_taken zero k xs x e = absurd (cc)
-get_taken (suc n) k [] x e = absurd (cc)
-get_taken (suc n) zero (y ∷ xs) x e = e
-get_taken (suc n) (suc k) (y ∷ xs) x e = get_taken n k xs x e
+get_taken n k xs x e =
+    let low = slice_get_within (take n xs) k x e in sym (taken n k xs (omega (arith, length-take n xs))) ∙ e
 
 -- an edge that is no landing stands before the landings
 before_landings : (xs : List Edge) (nodes : List Node) (number : ℕ) (edge : Edge)
@@ -410,8 +350,7 @@ module _ (b : Blocks) (opens : List Open) where
         length-append (blocks_edges ++ copies_edges) (map landing_at nodes),
         length-map nodes landing_at,
       ) in
-      ap (λ n. take n (blocks_edges ++ copies_edges ++ map landing_at nodes)) many
-      ∙ take-append_seam (blocks_edges ++ copies_edges) (map landing_at nodes)
+      rw many (take-append_seam (blocks_edges ++ copies_edges) (map landing_at nodes))
 
   own_few : entries_of opens ≤ b.words → length b.firsts ≤ b.words → length (own_edges (graph_of b opens)) ≤ 5 * b.words
   own_few entries firsts =
@@ -446,17 +385,12 @@ module _ (b : Blocks) (opens : List Open) where
 
   no_landings : Each NoLanding (own_edges (graph_of b opens))
   no_landings =
-      subst (Each NoLanding) (sym own_are)
-      (each-append NoLanding blocks_edges copies_edges
-      (each-flat_map NoLanding (edges_of b opens) (below (length b.firsts)) (each _ (below (length b.firsts)) (λ k.
-      cond_both (jumps_in opens k) (map (case_of b k) (case_nodes b opens k)) (ways_out b opens (block k) k)
-      (Each NoLanding)
-      (λ _. each-map NoLanding (case_of b k) (case_nodes b opens k) (each _ (case_nodes b opens k) (λ n. refl)))
-      (λ _. ways_no_landings (block k) k))))
-      (each-flat_map NoLanding (copied_edges b opens) (filter (is_copied opens) (below (length b.firsts)))
-      (each _ (filter (is_copied opens) (below (length b.firsts))) (λ k. ways_no_landings (copy k) k))))
+      rw own_are (each-append _ blocks_edges copies_edges
+      (each-flat_map _ (edges_of b opens) _ (each _ _ (λ k. cond_both (jumps_in opens k) _ _ (Each NoLanding)
+      (λ _. each-map _ (case_of b k) _ (each _ _ (λ n. refl))) (λ _. ways_no_landings (block k) k))))
+      (each-flat_map _ (copied_edges b opens) _ (each _ _ (λ k. ways_no_landings (copy k) k))))
 
-  own_before : (number : ℕ) (edge : Edge) → slice_get (edges_in b opens) number ≡ Some edge → NoLanding edge
+  pub own_before : (number : ℕ) (edge : Edge) → slice_get (edges_in b opens) number ≡ Some edge → NoLanding edge
       → number < length (own_edges (graph_of b opens))
   unfolding edges_in
   own_before number edge e other =
@@ -479,9 +413,10 @@ pub record IsTextGraph (text : Words) (graph : Graph) : Type 0 where
       → same_kind edge.kind kinds.Land ≡ false → number < length (own_edges graph)
   pub leads : Each (λ edge. IsNodeIn graph.blocks graph.opens edge.to) graph.edges
 
-each_from : {A : Type 0} (P : A → Type 0) (xs : List A) → All P xs → Each P xs
-each_from P [] h = tt
-each_from P (x ∷ xs) h = (h 0 x (omega arith), each_from P xs (λ k d l. h (suc k) d (omega (arith, l))))
+each_from : {A : Type 0} (P Q : A → Type 0) (xs : List A) → ((x : A) → P x → Q x) → All P xs → Each Q xs
+each_from P Q [] f h = tt
+each_from P Q (x ∷ xs) f h =
+    (f x (h 0 x (omega arith)), each_from P Q xs f (λ k d l. h (suc k) d (omega (arith, l))))
 
 pub text_graph : (text : Words) (graph : Graph) → IsText text → IsGraphOf text graph → IsTextGraph text graph
 unfolding entries_of
@@ -502,10 +437,8 @@ text_graph text graph is_text h =
       room = omega arith;
       few = omega (arith, few_of text b c.firsts opens switches);
       entries = omega arith;
-      targets = each-then (IsOpenIn b) (λ (o : Open). Each (λ word. word < length text.words) o.targets) opens
-          (λ o is. each-then (λ word. word < b.words) (λ word. word < length text.words) o.targets
-          (λ word l. omega (arith, l)) (each_from (λ word. word < b.words) o.targets is.targets))
-          (each_from (IsOpenIn b) opens are.each);
+      targets = each_from (IsOpenIn b) _ opens
+          (λ o is. each_from (λ word. word < b.words) _ o.targets (λ word l. omega (arith, l)) is.targets) are.each;
       own_few = omega arith;
       no_landings = no_landings b opens;
       own = λ number edge e. get_taken _ number (edges_in b opens) edge e;

@@ -1,5 +1,5 @@
 -- How many pieces there are, and that the numbers of pieces are below that.
-use Rattle.std.proofs.Common.{◌≡◌, ℕ, suc, ◌+◌, ◌-◌, ◌*◌, ◌<◌, ◌≤◌, ◌==◌, nat_lt, Option, Some, None, List, [], ◌∷◌, ◌++◌, length, map, take, get_or, refl, ap, sym, ◌∙◌, subst, arith}
+use Rattle.std.proofs.Common.{◌≡◌, ℕ, suc, ◌+◌, ◌-◌, ◌*◌, ◌<◌, ◌≤◌, ◌==◌, nat_lt, Option, Some, None, List, [], ◌∷◌, ◌++◌, length, map, take, refl, append_assoc, ap, ◌∙◌, arith}
 use Rattle.std.specs.Prelude.{slice_get, slice_index}
 use Rattle.std.specs.List.{position, sum_by}
 use Rattle.std.proofs.lemmas.Bool.{cond_both, eqb-true}
@@ -9,18 +9,17 @@ use Rattle.std.proofs.lemmas.List.Sums.{sum_by_more_le}
 use Rattle.std.proofs.lemmas.Option.{get_or_from_slice_get, slice_get_within}
 use Rattle.std.proofs.Math.Seq.{take-length}
 use Rattle.eel_base.specs.CodeText.{Words}
-use Rattle.cfg_blocks.specs.Blocks.{below, size_of as block_size}
+use Rattle.cfg_blocks.specs.Blocks.{size_of as block_size}
 use Rattle.cfg_normal.specs.declared.Node.{Node}
 use Rattle.cfg_normal.specs.declared.Node.TheVariants.{Block, Landed, X}
 use Rattle.cfg_normal.specs.Opens.{Open}
 use Rattle.cfg_normal.specs.Graph.{Graph, IsNodeIn, lands}
-use Rattle.cfg_walk.proofs.Edges.{block}
 use Rattle.cfg_walk.proofs.Holding.{IsIn, ends_within, in_held, some_words}
 use Rattle.cfg_walk.proofs.Lists.{Each, each, each-append, each-map, each_at}
 use Rattle.cfg_walk.proofs.Nodes.{lands_as}
 use Rattle.snippets.specs.declared.snippet.Op.{Op}
 use Rattle.image_code.specs.Loads.{load_of}
-use Rattle.image_code.specs.Numbered.{at_open, by_open, case_numbers, case_piece, cases_of, compare_image, compare_number, enter_number, entries_of, foreign_number, jump_enter, jump_image, jump_number, landing_number, open_begin, or_zero, own_edges, pieces_of, place_in}
+use Rattle.image_code.specs.Numbered.{at_open, by_open, case_numbers, case_piece, cases_of, compare_image, compare_number, enter_number, entries_of, foreign_number, jump_enter, jump_image, landing_number, open_begin, or_zero, own_edges, pieces_of, place_in}
 use Rattle.image_code.specs.Made.{first_word, lands_at}
 use Rattle.image_code.proofs.OpenBlocks.{IsTextGraph}
 
@@ -78,9 +77,7 @@ module _ (text : Words) (graph : Graph) (g : IsTextGraph text graph) where
       → open_begin text graph k + pieces_of text graph o ≤ foreign_number text graph
   open_below k o e =
       let some = at_most (pieces_of text graph) graph.opens k o e in
-      let all : sum_by (pieces_of text graph) (take (length graph.opens) graph.opens)
-      ≡ sum_by (pieces_of text graph) graph.opens = ap (sum_by (pieces_of text graph)) (take-length graph.opens) in
-      omega arith
+      rw (take-length graph.opens) (omega arith)
 
   word_below : (node : ℕ) (word : ℕ) → IsIn graph.blocks.words graph.blocks.firsts word node
       → word < foreign_number text graph
@@ -105,11 +102,6 @@ module _ (text : Words) (graph : Graph) (g : IsTextGraph text graph) where
       cond_both (word == load_of text o) (jump_image text graph j o word - 1) (jump_image text graph j o word)
       (λ (n : ℕ). n < foreign_number text graph) (λ _. omega arith) (λ _. low)
 
-  compare_below : (j : ℕ) (o : Open) (word : ℕ) → slice_get graph.opens j ≡ Some o
-      → IsIn graph.blocks.words graph.blocks.firsts word o.switch.compare.0
-      → compare_image text graph j o word < foreign_number text graph
-  compare_below j o word e is = omega (arith, open_below j o e, is.above, is.below)
-
   -- by the switch that is found
   module _ (key : Open → ℕ) (number : ℕ → Open → ℕ → ℕ) (k word : ℕ)
       (is : IsIn graph.blocks.words graph.blocks.firsts word k)
@@ -121,10 +113,8 @@ module _ (text : Words) (graph : Graph) (g : IsTextGraph text graph) where
     by_open_below j None e found = word_below k word is
     by_open_below j (Some o) e found =
         let at = position-Some (λ (o : Open). key o == k) graph.opens j o found in
-        let same : get_or graph.opens j o ≡ o = get_or_from_slice_get graph.opens j o o e in
-        let here : key o ≡ k =
-        eqb-true (key o) k (ap (λ (p : Open). key p == k) (sym same) ∙ at.1) in
-        low j o e (subst (λ (n : ℕ). IsIn graph.blocks.words graph.blocks.firsts word n) (sym here) is)
+        let found_is = rw (get_or_from_slice_get graph.opens j o o e) at at.1 in
+        low j o e (rw (eqb-true (key o) k found_is) is)
 
     at_open_below : (x : Option ℕ) → position (λ (o : Open). key o == k) graph.opens ≡ x
         → at_open text graph number x word < foreign_number text graph
@@ -134,26 +124,20 @@ module _ (text : Words) (graph : Graph) (g : IsTextGraph text graph) where
   pub enter_below : (node : Node) (word : ℕ) → IsWordOf graph node word
       → enter_number text graph node word < foreign_number text graph + 1
   enter_below (Block k) word is =
-      let low = at_open_below (λ (o : Open). o.block) (jump_enter text graph) k.0 word is
-      (λ j o e inside. jump_below j o word e inside)
-      (jump_number text graph k.0) refl in
+      let low = at_open_below _ (jump_enter text graph) k.0 word is (λ j o. jump_below j o word) _ refl in
       omega arith
   enter_below (Landed k) word is =
       let low = at_open_below (λ (o : Open). o.switch.compare.0) (compare_image text graph) k.0 word is
-      (λ j o e inside. compare_below j o word e inside) (compare_number text graph k.0) refl in
+      (λ j o e inside. omega (arith, open_below j o e, inside.above, inside.below)) (compare_number text graph k.0) refl in
       omega arith
   enter_below X word is = omega arith
-
-  pub landing_below : (word : ℕ) → word < length text.words
-      → landing_number text graph word < foreign_number text graph + 1
-  landing_below word l = omega arith
 
   pub lands_below : (snips : List (List Op)) (word : ℕ) → word < length text.words
       → lands_at text graph snips word < foreign_number text graph + 1
   lands_below snips word l =
       cond_both _ (enter_number text graph (lands graph (Some word)) word) (landing_number text graph word)
       (λ (n : ℕ). n < foreign_number text graph + 1)
-      (λ _. enter_below (lands graph (Some word)) word (lands_word word l)) (λ _. landing_below word l)
+      (λ _. enter_below (lands graph (Some word)) word (lands_word word l)) (λ _. omega arith)
 
   -- ---- Case edges
 
@@ -168,10 +152,7 @@ module _ (text : Words) (graph : Graph) (g : IsTextGraph text graph) where
       → case_piece text graph k o word < foreign_number text graph
   case_below k o word e some =
       let among = at_most (entries_of text graph) graph.opens k o e in
-      let all : sum_by (entries_of text graph) (take (length graph.opens) graph.opens)
-      ≡ sum_by (entries_of text graph) graph.opens = ap (sum_by (entries_of text graph)) (take-length graph.opens) in
-      let place = place_below o.targets word some in
-      omega arith
+      rw (take-length graph.opens) (omega (arith, place_below o.targets word some))
 
   each_some : (xs : List ℕ) (P : ℕ → Type 0) → (1 ≤ length xs → (x : ℕ) → P x) → Each P xs
   each_some [] P h = tt
@@ -181,20 +162,14 @@ module _ (text : Words) (graph : Graph) (g : IsTextGraph text graph) where
       → Each (λ n. n < foreign_number text graph) (cases_of text graph (length before) opens)
   cases_below before [] e = tt
   cases_below before (o ∷ opens) e =
-      let here : slice_get graph.opens (length before) ≡ Some o =
-      sym (ap (λ (os : List Open). slice_get os (length before)) e) ∙ get_behind before o opens in
+      let here : slice_get graph.opens (length before) ≡ Some o = rw (← e) (get_behind before o opens) in
       let next : length (before ++ o ∷ []) ≡ suc (length before) = omega (arith, length-append before (o ∷ [])) in
       each-append (λ n. n < foreign_number text graph) (map (case_piece text graph (length before) o) o.targets)
       (cases_of text graph (suc (length before)) opens)
       (each-map (λ n. n < foreign_number text graph) (case_piece text graph (length before) o) o.targets
       (each_some o.targets (λ word. case_piece text graph (length before) o word < foreign_number text graph)
       (λ some word. case_below (length before) o word here some)))
-      (subst (λ (k : ℕ). Each (λ n. n < foreign_number text graph) (cases_of text graph k opens)) next
-      (cases_below (before ++ o ∷ []) opens (append_one before o opens ∙ e)))
-    where
-      append_one : (xs : List Open) (y : Open) (ys : List Open) → (xs ++ y ∷ []) ++ ys ≡ xs ++ y ∷ ys
-      append_one [] y ys = refl
-      append_one (x ∷ xs) y ys = ap (λ zs. x ∷ zs) (append_one xs y ys)
+      (rw next at (cases_below (before ++ o ∷ []) opens (append_assoc before (o ∷ []) opens ∙ e)))
 
   pub case_number_below : (entry number : ℕ) → slice_get (case_numbers text graph) entry ≡ Some number
       → number < foreign_number text graph
@@ -209,8 +184,4 @@ pub foreign_is : (text : Words) (graph : Graph) → foreign_number text graph
     ≡ 2 * length text.words + length (own_edges graph) + sum_by (pieces_of text graph) graph.opens
     + sum_by (λ (o : Open). length o.targets) graph.opens
 foreign_is text graph =
-    let opened : sum_by (pieces_of text graph) (take (length graph.opens) graph.opens)
-    ≡ sum_by (pieces_of text graph) graph.opens = ap (sum_by (pieces_of text graph)) (take-length graph.opens) in
-    let chosen : sum_by (entries_of text graph) (take (length graph.opens) graph.opens)
-    ≡ sum_by (entries_of text graph) graph.opens = ap (sum_by (entries_of text graph)) (take-length graph.opens) in
-    omega arith
+    rw (take-length graph.opens) (omega arith)

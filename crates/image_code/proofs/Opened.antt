@@ -1,5 +1,5 @@
 -- What is known of the open switches of a setting's graph, each by its number.
-use Rattle.std.proofs.Common.{◌≡◌, ℕ, ◌+◌, ◌-◌, ◌<◌, ◌≤◌, true, false, Some, List, refl, ap, sym, ◌∙◌, subst, arith}
+use Rattle.std.proofs.Common.{◌≡◌, ℕ, ◌+◌, ◌-◌, ◌<◌, ◌≤◌, true, false, Some, List, refl, ap, ◌∙◌, arith}
 use Rattle.std.specs.Prelude.{slice_get}
 use Rattle.std.specs.List.{find, range_with_len}
 use Rattle.std.proofs.lemmas.Bool.{eq-eqb, eqb-true}
@@ -74,10 +74,8 @@ load_is text b o c =
       above = omega (arith, at, found.1.above);
       below = omega (arith, at, found.1.below, c.ordered);
       rd = is.0;
-      is = subst (λ (n : ℕ). instr_at text n
-          ≡ i.Load loads.LD is.0 (first_operand (instr_at text n)) (second_operand (instr_at text n))) (sym at) is.1;
-      place = subst (λ (n : ℕ). sum_in (before_jump text (approach_to o n)) (first_operand (instr_at text n))
-          (second_operand (instr_at text n)) ≡ Place o.switch.table.0) (sym at) is.2;
+      is = rw at is.1;
+      place = rw at is.2;
     }
 
 -- Each open switch has a block of its own, which ends in its jump; and a comparison's block ends in a branch.
@@ -117,6 +115,4 @@ pub cased : (g : Setting) → IsText g.text → IsGraphOf g.text (graph_in g)
 cased g is_text h =
     let same_blocks : blocks_of g.text g.given ≡ blocks_of g.text h.given = ap (λ (x : Graph). x.blocks) h.is in
     let same_opens : g.switches ≡ opens_in g.text h.given h.entry = ap (λ (x : Graph). x.opens) h.is in
-    subst (λ (b : Blocks). AreCased g.text b g.switches) (sym same_blocks)
-    (subst (λ (os : List Open). AreCased g.text (blocks_of g.text h.given) os) (sym same_opens)
-    (cased_of g.text h.given h.entry is_text))
+    rw (same_blocks, same_opens) (cased_of g.text h.given h.entry is_text)

@@ -1,6 +1,5 @@
 -- The second operand of a JMPL or of a load that a word is has a word.
-use Rattle.std.proofs.Common.{◌≡◌, ℕ, ◌%◌, Bool, true, false, ◌==◌, [], ◌∷◌, refl, ap, sym, ◌∙◌}
-use Rattle.std.specs.Prelude.{if◌then◌else◌}
+use Rattle.std.proofs.Common.{◌≡◌, ℕ, ◌%◌, Bool, true, ◌==◌, [], ◌∷◌, refl, ap, sym, ◌∙◌, arith}
 use Rattle.std.proofs.lemmas.Bool.{cond_both}
 use Rattle.v8_decode.specs.declared.Op2.{Op2}
 use Rattle.v8_decode.specs.declared.Instr.{Instr}
@@ -8,7 +7,7 @@ use Rattle.v8_decode.specs.declared.Instr.TheVariants as i
 use Rattle.v8_decode.specs.declared.LoadKind.{LoadKind}
 use Rattle.v8_decode.specs.declared.LoadKind.TheVariants as loads
 use Rattle.v8_decode.specs.declared.StoreKind.TheVariants as stores
-use Rattle.v8_decode.specs.Words.{field, rd_of, op3_of, rs1_of, op2_of, op2_rows, arithmetic_rows, memory_rows, branch_or_sethi, arithmetic, memory, call, load, store, read_state, write_state, even_rd, decode_of}
+use Rattle.v8_decode.specs.Words.{field, rd_of, op3_of, op2_rows, arithmetic_rows, memory_rows, branch_or_sethi, arithmetic, memory, call, load, store, read_state, write_state, even_rd, decode_of}
 use Rattle.v8_decode.proofs.Rows.{Each, row_by_row}
 use Rattle.v8_encode.specs.Encoding.{op2_fits}
 use Rattle.v8_encode.proofs.Fields.{op2_fits-op2_of}
@@ -22,21 +21,10 @@ abbrev Fits : Instr → Type 0
 Fits instr = second_fits instr ≡ true
 
 read_state_fits : (w : ℕ) → Fits (read_state w)
-read_state_fits w = go (rs1_of w == 0) (rs1_of w == 15) (rd_of w == 0)
-  where
-    go : (a b c : Bool)
-        → Fits (if a then i.ReadY (rd_of w) else (if b then (if c then i.Stbar else i.Illegal) else i.Illegal))
-    go true b c = refl
-    go false true true = refl
-    go false true false = refl
-    go false false c = refl
+read_state_fits w = grind arith
 
 write_state_fits : (w : ℕ) → Fits (write_state w)
-write_state_fits w = go (rd_of w == 0)
-  where
-    go : (b : Bool) → Fits (if b then i.WriteY (rs1_of w) (op2_of w) else i.Illegal)
-    go true = refl
-    go false = refl
+write_state_fits w = grind arith
 
 even_fits : (of : ℕ → Instr) (w : ℕ) → Fits (of w) → Fits (even_rd of w)
 even_fits of w h = cond_both (rd_of w % 2 == 0) (of w) i.Illegal Fits (λ _. h) (λ _. refl)

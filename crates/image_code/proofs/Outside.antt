@@ -7,13 +7,12 @@ use Rattle.std.proofs.lemmas.Bool.Decides.{nat_tests}
 use Rattle.eel_base.specs.CodeText.{word_at}
 use Rattle.notes.specs.Format.{range_at}
 use Rattle.v8_memory.specs.Regions.{fetch_of}
-use Rattle.v8_step.specs.declared.Ending.{Ending}
 use Rattle.v8_step.specs.declared.Slot.{Slot}
-use Rattle.v8_step.specs.declared.Slot.TheVariants.{NoSlot, Taken, Untaken}
+use Rattle.v8_step.specs.declared.Slot.TheVariants.{NoSlot}
 use Rattle.v8_step.specs.State.{State}
 use Rattle.v8_step.specs.Traps.{instruction_access_exception}
 use Rattle.v8_step.specs.Transfers.{trapped}
-use Rattle.v8_step.specs.Step.{step_of, on_word, unless_ended, puts_of, puts_on_word, puts_unless_ended}
+use Rattle.v8_step.specs.Step.{step_of, on_word, puts_of, puts_on_word}
 use Rattle.two_runs.specs.Visits.{in_pages, pages_of}
 use Rattle.cfg_normal.specs.declared.Node.{Node}
 use Rattle.cfg_walk.specs.Walk.{Point}
@@ -31,15 +30,12 @@ use Rattle.image_code.proofs.Cases.{alike_itself, ended_none, followed_alike, ou
 unfetched_step : (s : State) → s.ending ≡ None → fetch_of s.memory s.pc ≡ None
     → step_of s ≡ trapped s instruction_access_exception
 unfolding step_of
-unfetched_step s live fetched =
-    ap (λ (e : Option Ending). unless_ended s e (on_word s (fetch_of s.memory s.pc))) live ∙ ap (on_word s) fetched
+unfetched_step s live fetched = rw (live, fetched) refl
 
 unfetched_puts : (s : State) (descriptor : ℕ) → s.ending ≡ None → fetch_of s.memory s.pc ≡ None
     → puts_of s descriptor ≡ []
 unfolding puts_of
-unfetched_puts s descriptor live fetched =
-    ap (λ (e : Option Ending). puts_unless_ended e (puts_on_word s (fetch_of s.memory s.pc) descriptor)) live
-    ∙ ap (λ (o : Option ℕ). puts_on_word s o descriptor) fetched
+unfetched_puts s descriptor live fetched = rw (live, fetched) refl
 
 -- ---- both machines end
 
@@ -126,10 +122,9 @@ foreign_step g l base p place f node x t h here c = (
 
 off_at : (g : Setting) (l : Pieces) (p : Placement) (f : Frame) (node : Node) (x : Point) (o : Option ℕ) (s : Slot)
     → s ≢ NoSlot → o ≡ None → visited_by g l p f node x o s ≡ f.table.base
-off_at g l p f node x None NoSlot some none = absurd (some refl)
-off_at g l p f node x None Taken some none = refl
-off_at g l p f node x None Untaken some none = refl
 off_at g l p f node x (Some word) s some none = absurd (cc)
+off_at g l p f node x None NoSlot some none = absurd (some refl)
+off_at g l p f node x None _ some none = refl
 
 module _ (g : Setting) (l : Pieces) (base : ℕ) (p : Placement) (f : Frame)
     (node : Node) (x : Point) (t : State) (here : Here g l base p f node x t) (c : IsOff g base p f node x) where

@@ -3,7 +3,8 @@ use Rattle.std.proofs.Common.{◌≡◌, ◌≢◌, ℕ, suc, ◌+◌, ◌-◌, 
 use Rattle.std.specs.Prelude.{if◌then◌else◌, nat_lt, slice_get, slice_index}
 use Rattle.std.specs.List.{flat_map}
 use Rattle.std.specs.Option.{option_map}
-use Rattle.std.proofs.lemmas.Bool.{and_parts, cases_lt, le-ltb, lt-ltb, ltb-true}
+use Rattle.std.proofs.lemmas.Bool.{and_parts, cases_Bool, le-ltb, lt-ltb, ltb-true}
+use Rattle.std.proofs.lemmas.Bool.Decides.{nat_tests}
 use Rattle.std.proofs.lemmas.List.{length-map}
 use Rattle.std.proofs.lemmas.Option.{slice_get_within}
 use Rattle.eel_base.specs.CodeText.{Words, address_of, word_at}
@@ -46,12 +47,7 @@ use Rattle.image_code.proofs.Listed.{order_at}
 use Rattle.image_code.proofs.Visited.{entered_none, entered_word, has_its_image, image_items, l, left_gone, visited_word, word_is}
 
 last_one : (n count : ℕ) → within count n ≡ None → count ≤ n
-last_one n count e = elim (cases_lt n count) [
-  | inl l ↦
-      let some : within count n ≡ Some n = ap (λ (t : Bool). if t then Some n else None) (lt-ltb _ _ l) in
-      absurd (cc)
-  | inr m ↦ m
-]
+last_one n count e = grind (arith, nat_tests)
 
 -- behind an item that is no Jump, the last of some words is none
 ends_without_jump : (x : Item) (ws : List ℕ) → is_jump (Some x) ≡ false
@@ -165,21 +161,15 @@ module _ (g : Setting) (codes : ℕ → List ℕ) (is : IsKnown g) (p : Placemen
         if more then (if jumps then jump_to (word + 1) else []) else far_piece (address_of g.text (length g.text.words))
 
     found_in_order : slice_get (l g codes is p f).list number ≡ Some (image (code ++ next_to g.text word))
-    found_in_order =
-        found ∙ ap (λ (t : Bool). Some (image (code ++ (if t then next_to g.text word else []))))
-        (ap (same_node node) (sym same) ∙ same_itself node)
+    found_in_order = rw (← same, same_itself node) at found
 
     with_rest : (more jumps : Bool) → nat_lt (word + 1) (length g.text.words) ≡ more → is_slots g.text word ≡ jumps
         → slice_get (l g codes is p f).list number ≡ Some (image (code ++ on more jumps))
-    with_rest more jumps e s =
-        found_in_order ∙ ap (λ (t : Bool). Some (image (code ++ on t (is_slots g.text word)))) e
-        ∙ ap (λ (t : Bool). Some (image (code ++ on more t))) s
+    with_rest more jumps e s = rw (← e, ← s) found_in_order
 
     ends : word + 1 < length g.text.words → is_slots g.text word ≡ false
         → slice_get (l g codes is p f).list number ≡ Some (image code)
-    ends more alone =
-        with_rest true false (lt-ltb _ _ more) alone
-        ∙ ap (λ (r : List Item). Some (image r)) (append-nil code)
+    ends more alone = rw append-nil at (with_rest true false (lt-ltb _ _ more) alone)
 
     -- a slot's word ends its block
     slot_ends : is_slots g.text word ≡ true → edges ≢ []
@@ -187,15 +177,11 @@ module _ (g : Setting) (codes : ℕ → List ℕ) (is : IsKnown g) (p : Placemen
         let before = decode_of (slice_index g.text.words (word - 1)) in
         let two = and_parts (nat_lt 0 word) (is_transfer (decode_of (slice_index g.text.words (word - 1)))) slots in
         let some : 0 < word = ltb-true 0 word two.0 in
-        let words = cut.words in
-        let held_in = is_in g.text b g.switches cut word in_text in
         let transfer : ends_block_after (end_at g.text (word - 1)) ≡ true =
         ap ends_block_after (end_is g.text (word - 1) before refl) ∙ transfer_end g.text (word - 1) before two.1 in
         let next : word - 1 + 2 ≡ suc word = omega (arith, some) in
-        let last : word ≡ last_word b.firsts b.words (holding_of b word) =
-        is_last b.words b.firsts cut.firsts word (holding_of b word) held_in
-        (λ more. subst (λ (n : ℕ). Leads b.firsts n) next
-        (cut.second (word - 1) transfer (omega (arith, more, some)))) in
+        let last = is_last b.words b.firsts cut.firsts word (holding_of b word) (is_in g.text b g.switches cut word in_text)
+        (λ more. subst (λ (n : ℕ). Leads b.firsts n) next (cut.second (word - 1) transfer (omega (arith, cut.words)))) in
         some_edge g is node word in_text home there straight last
 
     -- so its image may end in a Jump
@@ -227,10 +213,7 @@ module _ (g : Setting) (codes : ℕ → List ℕ) (is : IsKnown g) (p : Placemen
     leaves last = ap (option_map (drop 3)) (with_rest false (is_slots g.text word) (le-ltb _ _ last) refl)
 
     end_far : IsFar (address_of g.text (length g.text.words))
-    end_far =
-        let a = is.text.aligned in
-        let h = is.text.below in
-        (omega arith, omega arith)
+    end_far = (omega (arith, is.text.aligned), omega (arith, is.text.below))
 
     order_goes : (v : State) → Goes v → LeadsFrom number edges v
     order_goes v w = by (word_at g.text v.pc) refl
@@ -256,13 +239,10 @@ module _ (g : Setting) (codes : ℕ → List ℕ) (is : IsKnown g) (p : Placemen
             ∙ ap (λ (n : Node). slice_index p.at (enter_number g.text (graph_in g) n (word + 1)))
             (next_in_order g is node word in_text home there straight (omega (arith, next.0, cut.words)) same)
             ∙ ap (slice_index p.at) (enters_in_order g.text b g.switches is.cased (word + 1))) in
-            to_next next.0 to (is_slots g.text word) refl
-          where
-            to_next : word + 1 < length g.text.words
-                → slice_index p.at (word + 1) ≡ entered_at g (l g codes is p f) p f after (point_of v)
-                → (slots : Bool) → is_slots g.text word ≡ slots → LeadsFrom number edges v
-            to_next more to true slots = inr (inl (jumps_on more slots _ _ to))
-            to_next more to false alone = inl (ap (option_map (drop 3)) (ends more alone), falls more alone ∙ to)
+            elim (cases_Bool (is_slots g.text word)) as (λ _. LeadsFrom number edges v) [
+              | inl slots ↦ inr (inl (jumps_on next.0 slots _ _ to))
+              | inr alone ↦ inl (ap (option_map (drop 3)) (ends next.0 alone), falls next.0 alone ∙ to)
+            ]
 
   -- ---- apart from it: within its block a word goes on to the next
 
@@ -277,9 +257,7 @@ module _ (g : Setting) (codes : ℕ → List ℕ) (is : IsKnown g) (p : Placemen
     more = omega (arith, next_low g is node word in_text home there straight inner, cut.words)
 
     ends_apart : slice_get (l g codes is p f).list number ≡ Some (image code)
-    ends_apart =
-        found ∙ ap (λ (t : Bool). Some (image (code ++ (if t then next_to g.text word else [])))) apart
-        ∙ ap (λ (r : List Item). Some (image r)) (append-nil code)
+    ends_apart = rw (apart, append-nil) at found
 
     falls_apart : place number (3 + length (flat_map codes edges))
         ≡ slice_index p.at (enter_number g.text (graph_in g) node (word + 1))
@@ -292,8 +270,7 @@ module _ (g : Setting) (codes : ℕ → List ℕ) (is : IsKnown g) (p : Placemen
 
     apart_goes : (v : State) → Goes v → LeadsFrom number edges v
     apart_goes v w =
-        let on_word : word_at g.text v.pc ≡ Some (word + 1) =
-        w.reaches ∙ ap (λ (t : Bool). if t then Some (word + 1) else None) (lt-ltb _ _ more) in
+        let on_word = rw (lt-ltb _ _ more) at w.reaches in
         inl (
           ap (option_map (drop 3)) ends_apart,
           falls_apart
@@ -307,19 +284,17 @@ module _ (g : Setting) (codes : ℕ → List ℕ) (is : IsKnown g) (p : Placemen
   by_image (in_order same is_number enter) v w = order_goes same is_number v w
   by_image (at_jump k o numbered e here block_is) v w =
       let inner = jump_inner g is node word in_text home there straight k o e block_is in
-      let inside = is_in g.text b g.switches cut word in_text in
       apart_goes inner
       (jump_apart g is node word in_text home there straight k o e here block_is)
       (jump_next g is f.table.base f.cases.base codes k o node word numbered e here
-      (subst (λ (n : ℕ). slice_index b.firsts n ≤ word) block_is inside.above))
+      (rw block_is at (is_in g.text b g.switches cut word in_text).above))
       (at_jump k o numbered e here (held_next g is node word in_text home there straight inner ∙ block_is)) v w
   by_image (at_compare k o numbered e here block_is) v w =
       let inner = compare_inner g is node word in_text home there straight k o e block_is in
-      let inside = is_in g.text b g.switches cut word in_text in
       apart_goes inner
       (compare_apart g is node word in_text home there straight k o e here block_is)
       (compare_next g is f.table.base f.cases.base codes k o node word numbered e here
-      (subst (λ (n : ℕ). slice_index b.firsts n ≤ word) block_is inside.above))
+      (rw block_is at (is_in g.text b g.switches cut word in_text).above))
       (at_compare k o numbered e here (held_next g is node word in_text home there straight inner ∙ block_is)) v w
 
   goes : (v : State) → does_at g x t ≡ v → v.ending ≡ None → LeadsFrom number (gone_at g node x v) v

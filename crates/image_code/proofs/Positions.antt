@@ -1,26 +1,16 @@
 -- Items of lists by their places: behind other lists, in the lists of items, and the first that passes a test.
-use Rattle.std.proofs.Common.{◌≡◌, ℕ, zero, suc, ◌+◌, ◌<◌, ◌≤◌, Bool, true, false, not, cond, ◌||◌, Some, None, List, [], ◌∷◌, ◌++◌, length, get_or, map, take, length-append, refl, ap, sym, ◌∙◌, arith, inl, inr}
+use Rattle.std.proofs.Common.{◌≡◌, ℕ, zero, suc, ◌+◌, ◌<◌, ◌≤◌, Bool, true, false, cond, Some, None, List, [], ◌∷◌, ◌++◌, length, get_or, map, take, length-append, refl, ap, sym, ◌∙◌, arith, inl, inr}
 use Rattle.std.specs.Prelude.{slice_get}
 use Rattle.std.specs.List.{Contains, find, flat_map, list_any, position, position_or_len, range_with_len, sum_by}
+use Rattle.std.proofs.lemmas.Bool.Decides.{nat_tests}
 use Rattle.std.proofs.lemmas.Bool.{cases_lt, false≢true, lt-ltb, le-ltb}
 use Rattle.std.proofs.lemmas.List.Folds.{Any-from_list_any, find_at, list_any_at}
 use Rattle.std.proofs.lemmas.List.FromFn.{get_or-map-range_with_len, get_or-range_with_len, length-map-range_with_len, length-range_with_len}
 use Rattle.std.proofs.lemmas.List.Sums.{fails_before_first, passes_at_first, sum_by-cons}
 use Rattle.std.proofs.lemmas.Option.{get_or_from_slice_get, slice_get-get_or, slice_get_within}
+pub use Rattle.layout.proofs.Standing.{get_first, get_rest as get_second}
 
 -- ---- lists behind others
-
-pub get_first : {A : Type 0} (xs ys : List A) (n : ℕ) (x : A) → slice_get xs n ≡ Some x → slice_get (xs ++ ys) n
-    ≡ Some x
-get_first [] ys n x e = absurd (cc)
-get_first (y ∷ xs) ys zero x e = e
-get_first (y ∷ xs) ys (suc n) x e = get_first xs ys n x e
-
-pub get_second : {A : Type 0} (xs ys : List A) (n : ℕ) → slice_get (xs ++ ys) (length xs + n) ≡ slice_get ys n
-get_second [] ys n = let e : 0 + n ≡ n = omega arith in ap (slice_get ys) e
-get_second (x ∷ xs) ys n =
-    let e : suc (length xs) + n ≡ suc (length xs + n) = omega arith in
-    ap (slice_get (x ∷ xs ++ ys)) e ∙ get_second xs ys n
 
 -- behind a list of so many
 pub get_behind : {A : Type 0} (xs ys : List A) (many n : ℕ) (x : A) → length xs ≡ many → slice_get ys n ≡ Some x
@@ -56,10 +46,7 @@ module _ {A B : Type 0} (f : A → List B) (size : A → ℕ) where
   pub flat_count : (xs : List A) → Sized xs → length (flat_map f xs) ≡ sum_by size xs
   flat_count [] sized = refl
   flat_count (y ∷ xs) sized =
-      length-append (f y) (flat_map f xs)
-      ∙ ap (λ (n : ℕ). n + length (flat_map f xs)) (sized 0 y refl)
-      ∙ ap (λ (n : ℕ). size y + n) (flat_count xs (later y xs sized))
-      ∙ sym (sum_by-cons size y xs)
+      omega (arith, length-append (f y) (flat_map f xs), sized 0 y refl, flat_count xs (later y xs sized), sum_by-cons size y xs)
 
   pub flat_get : (xs : List A) → Sized xs → (k : ℕ) (x : A) → slice_get xs k ≡ Some x → (n : ℕ) (y : B)
       → slice_get (f x) n ≡ Some y → slice_get (flat_map f xs) (sum_by size (take k xs) + n) ≡ Some y
@@ -107,12 +94,7 @@ placed p xs any =
 
 none_is : {A : Type 0} (p : A → Bool) (xs : List A) → list_any p xs ≡ false → position_or_len p xs ≡ length xs
 none_is p [] none = refl
-none_is p (x ∷ xs) none = here (p x) none (λ rest. none_is p xs rest)
-  where
-    here : (b : Bool) → (b || list_any p xs) ≡ false → (list_any p xs ≡ false → position_or_len p xs ≡ length xs)
-        → cond (not b) (1 + position_or_len p xs) 0 ≡ suc (length xs)
-    here true none next = absurd (cc)
-    here false none next = let rest = next none in omega (arith, rest)
+none_is p (x ∷ xs) none = grind (arith, nat_tests, none_is p xs)
 
 pub not_placed : {A : Type 0} (p : A → Bool) (xs : List A) → list_any p xs ≡ false → position p xs ≡ None
 not_placed p xs none =

@@ -1,5 +1,5 @@
 -- Lists that grow by one item in each turn of a loop.
-use Rattle.std.proofs.Common.{◌≡◌, ℕ, suc, ◌+◌, ◌-◌, ◌<◌, ◌≤◌, List, [], ◌∷◌, ◌++◌, Some, length, length-append, map, take, ap, sym, ◌∙◌, arith, append_assoc}
+use Rattle.std.proofs.Common.{◌≡◌, ℕ, suc, ◌+◌, ◌-◌, ◌<◌, ◌≤◌, List, [], ◌∷◌, ◌++◌, Some, length, length-append, map, take, refl, ap, ◌∙◌, arith, append_assoc}
 use Rattle.std.specs.Prelude.{slice_get, slice_index_or}
 use Rattle.std.specs.List.{flat_map, range_with_len}
 use Rattle.std.proofs.lemmas.Grind.{flat_map-append}
@@ -35,11 +35,8 @@ pub pushed_range : {A : Type 0} (f : ℕ → A) (first word : ℕ) (before list 
 pushed_range f first word before list new x above pushed made held =
     let here : first + (word - first) ≡ word = omega arith in
     let next : word - first + 1 ≡ word + 1 - first = omega arith in
-    pushed ∙ ap (λ y. list ++ y ∷ []) made ∙ ap (λ ys. ys ++ f word ∷ []) held
-    ∙ append_assoc before (map f (range_with_len first (word - first))) (f word ∷ [])
-    ∙ ap (λ ys. before ++ ys)
-    (sym (map-range_with_len_more f first (word - first) word here)
-    ∙ ap (λ (n : ℕ). map f (range_with_len first n)) next)
+    rw (pushed, made, held, ← next, map-range_with_len_more f first (word - first) word here)
+    (append_assoc before (map f (range_with_len first (word - first))) (f word ∷ []))
 
 -- of the items of a list
 pub pushed_all : {A B : Type 0} (f : A → List B) (xs : List A) (n : ℕ) (d : A) (before list new : List B)
@@ -47,11 +44,8 @@ pub pushed_all : {A B : Type 0} (f : A → List B) (xs : List A) (n : ℕ) (d : 
     → new ≡ list ++ f (slice_index_or xs n d) → list ≡ before ++ flat_map f (take n xs)
     → new ≡ before ++ flat_map f (take (n + 1) xs)
 pushed_all f xs n d before list new l pushed held =
-    pushed ∙ ap (λ ys. ys ++ f (slice_index_or xs n d)) held
-    ∙ append_assoc before (flat_map f (take n xs)) (f (slice_index_or xs n d))
-    ∙ ap (λ ys. before ++ (flat_map f (take n xs) ++ ys)) (sym (append-nil (f (slice_index_or xs n d))))
-    ∙ ap (λ ys. before ++ ys) (sym (flat_map-append f (take n xs) (slice_index_or xs n d ∷ [])))
-    ∙ ap (λ ys. before ++ flat_map f ys) (sym (take_more xs n d l))
+    rw (pushed, held, take_more xs n d l, flat_map-append f (take n xs) (slice_index_or xs n d ∷ []), append-nil (f _))
+    (append_assoc before (flat_map f (take n xs)) (f (slice_index_or xs n d)))
 
 -- ---- counts and sums
 
@@ -59,10 +53,7 @@ pub flat_count : {A : Type 0} (f : ℕ → List A) (n : ℕ)
     → length (flat_map f (below (n + 1))) ≡ length (flat_map f (below n)) + length (f n)
 flat_count f n =
     let e : n + 1 ≡ suc n = omega arith in
-    ap (λ k. length (flat_map f (below k))) e
-    ∙ ap length (flat_map-append f (below n) (n ∷ []))
-    ∙ length-append (flat_map f (below n)) (flat_map f (n ∷ []))
-    ∙ ap (λ ys. length (flat_map f (below n)) + length ys) (append-nil (f n))
+    rw (e, flat_map-append f (below n) (n ∷ []), length-append (flat_map f (below n)), append-nil (f n)) refl
 
 -- ---- what stands at a place
 

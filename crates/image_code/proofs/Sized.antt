@@ -1,11 +1,12 @@
 -- How many of the pieces' words are those of snippets: each edge's once, but a landing's once for each word that lands
 -- there, and a Case edge's once for each entry that does.
-use Rattle.std.proofs.Common.{◌≡◌, ℕ, zero, suc, ◌+◌, ◌*◌, ◌<◌, ◌≤◌, Bool, true, false, ◌&&◌, ◌==◌, cond, Some, List, [], ◌∷◌, ◌++◌, length, map, take, refl, ap, sym, ◌∙◌, subst, arith, inl, inr}
+use Rattle.std.proofs.Common.{◌≡◌, ℕ, zero, suc, ◌+◌, ◌*◌, ◌<◌, ◌≤◌, Bool, true, false, ◌&&◌, ◌==◌, cond, Some, List, [], ◌∷◌, ◌++◌, length, map, take, refl, sym, ◌∙◌, arith, inl, inr}
 use Rattle.std.specs.Prelude.{if◌then◌else◌, slice_index}
 use Rattle.std.specs.List.{count_by, position, sum_by}
 use Rattle.std.specs.Option.{option_to_list}
 use native.Mathlib.Nat.{mul-le-mul_left, mul-le-mul_right, mul_left_comm}
-use Rattle.std.proofs.lemmas.Bool.{and_parts, and_right, cases_eq, cases_lt, eqb-true, false≢true, le-ltb, ne_eqb}
+use Rattle.std.proofs.lemmas.Bool.{and_parts, and_right, cases_Bool, cases_lt, cond_both, eqb-true, false≢true, le-ltb, ne_eqb}
+use Rattle.std.proofs.lemmas.Bool.Decides.{nat_tests}
 use Rattle.std.proofs.lemmas.List.Folds.{fold-map}
 use Rattle.std.proofs.lemmas.List.Sums.{sum_by-append}
 use Rattle.eel_base.specs.CodeText.{Words}
@@ -24,7 +25,7 @@ use Rattle.cfg_normal.specs.Opens.{Open, targets_in}
 use Rattle.cfg_normal.specs.Graph.{Graph, IsNodeIn, lands}
 use Rattle.cfg_walk.specs.Walk.{edge_along, edge_from, ends_block, landing_at, left_by}
 use Rattle.cfg_walk.proofs.Edges.{block, copy, same_itself, same_nodes}
-use Rattle.cfg_walk.proofs.Holding.{IsIn, ends_within, in_held, some_words}
+use Rattle.cfg_walk.proofs.Holding.{ends_within, in_held, some_words}
 use Rattle.cfg_walk.proofs.Leaving.{straight_left}
 use Rattle.cfg_walk.proofs.Lists.{Each, each, each-below}
 use Rattle.cfg_walk.proofs.Nodes.{lands_as}
@@ -78,16 +79,10 @@ entries_in [] = []
 entries_in (o ∷ opens) = map (λ word. (o, word)) o.targets ++ entries_in opens
 
 same_turned : (one other : Node) → same_node one other ≡ true → same_node other one ≡ true
-same_turned one other e = ap (same_node other) (same_nodes one other e) ∙ same_itself other
-
-count-map : {A B : Type 0} (p : B → Bool) (f : A → B) (xs : List A) → count_by p (map f xs) ≡ count_by (λ x. p (f x)) xs
-count-map p f xs = fold-map (λ a y. a + cond (p y) 1 0) f 0 xs
+same_turned one other e = rw (same_nodes one other e) (same_itself other)
 
 eqb-turned : (m n : ℕ) → (m == n) ≡ (n == m)
-eqb-turned m n = elim (cases_eq m n) [
-  | inl e ↦ rw e refl
-  | inr other ↦ ne_eqb m n other ∙ sym (ne_eqb n m (λ e. other (sym e)))
-]
+eqb-turned m n = grind (arith, nat_tests)
 
 -- ---- how often an edge is found
 
@@ -101,8 +96,12 @@ module _ (text : Words) (graph : Graph) (codes : ℕ → List ℕ) where
 
   order_cover : (word : ℕ)
       → order_code text graph codes word ≤ code_length codes (option_to_list (position (falls word) graph.edges))
-  order_cover word =
-      by (decode_of (slice_index text.words word)) (is_transfer (decode_of (slice_index text.words word))) refl
+  order_cover word = elim (cases_Bool (is_transfer (decode_of (slice_index text.words word)))) [
+    | inl e ↦ rw e (omega arith)
+    | inr e ↦
+        rw (e, straight_left graph (node_in_order graph word) word (decode_of (slice_index text.words word)) e)
+        (found (ends_block graph (node_in_order graph word) word))
+  ]
     where
       found : (t : Bool)
           → code_length codes (if t then edge_from graph (node_in_order graph word) kinds.Fall else [])
@@ -111,14 +110,6 @@ module _ (text : Words) (graph : Graph) (codes : ℕ → List ℕ) where
       found true = omega arith
       found false = omega arith
 
-      by : (instr : Instr) (t : Bool) → is_transfer instr ≡ t
-          → code_by graph codes (node_in_order graph word) word instr
-          ≤ code_length codes (option_to_list (position (falls word) graph.edges))
-      by instr true e = rw e (omega arith)
-      by instr false e =
-          rw (e, straight_left graph (node_in_order graph word) word instr e)
-          (found (ends_block graph (node_in_order graph word) word))
-
   last_of : Node → ℕ
   last_of (Block k) = last_word graph.blocks.firsts graph.blocks.words k.0
   last_of (Landed k) = last_word graph.blocks.firsts graph.blocks.words k.0
@@ -126,38 +117,26 @@ module _ (text : Words) (graph : Graph) (codes : ℕ → List ℕ) where
 
   ends_last : (node : Node) (word : ℕ) → ends_block graph node word ≡ true → (word == last_of node) ≡ true
   unfolding last_of
-  ends_last (Block k) word e = e
-  ends_last (Landed k) word e = e
   ends_last X word e = absurd (false≢true e)
+  ends_last _ word e = e
 
   falls_count : (edge : Edge) → count_by (λ word. falls word edge) (below (length text.words))
       ≤ (if same_kind edge.kind kinds.Fall then 1 else 0)
-  falls_count edge = by (same_kind edge.kind kinds.Fall) refl
-    where
-      by : (t : Bool) → same_kind edge.kind kinds.Fall ≡ t
-          → count_by (λ word. falls word edge) (below (length text.words)) ≤ (if t then 1 else 0)
-      by false e =
-          omega (
-            arith,
-            count_none (λ word. falls word edge) (below (length text.words))
-                (each _ (below (length text.words)) (λ word.
-                and_right (ends_block graph (node_in_order graph word) word)
-                (same_node edge.from (node_in_order graph word) && same_kind edge.kind kinds.Fall)
-                (and_right (same_node edge.from (node_in_order graph word)) (same_kind edge.kind kinds.Fall) e))),
-          )
-      by true e =
-          omega (
-            arith,
-            count_le (λ word. falls word edge) (λ word. word == last_of edge.from) (below (length text.words))
-                (λ word h.
-                let one = and_parts (ends_block graph (node_in_order graph word) word)
-                (same_node edge.from (node_in_order graph word) && same_kind edge.kind kinds.Fall) h in
-                let two = and_parts (same_node edge.from (node_in_order graph word))
-                (same_kind edge.kind kinds.Fall) one.1 in
-                ap (λ (n : Node). word == last_of n) (same_nodes edge.from (node_in_order graph word) two.0)
-                ∙ ends_last (node_in_order graph word) word one.0),
-            (count_one (last_of edge.from) (length text.words)).1,
-          )
+  falls_count edge =
+      cond_both (same_kind edge.kind kinds.Fall) 1 0
+      (λ (n : ℕ). count_by (λ word. falls word edge) (below (length text.words)) ≤ n)
+      (λ _. omega (
+        arith,
+        count_le (λ word. falls word edge) (λ word. word == last_of edge.from) (below (length text.words)) (λ word h.
+            let ends = and_parts _ _ h in
+            let from = and_parts _ _ ends.1 in
+            rw (same_nodes edge.from (node_in_order graph word) from.0) (ends_last (node_in_order graph word) word ends.0)),
+        (count_one (last_of edge.from) (length text.words)).1,
+      ))
+      (λ e. omega (
+        arith,
+        count_none (λ word. falls word edge) (below (length text.words)) (each _ _ (λ word. and_right _ _ (and_right _ _ e))),
+      ))
 
   -- ---- at landings
 
@@ -165,17 +144,13 @@ module _ (text : Words) (graph : Graph) (codes : ℕ → List ℕ) where
   lands_there word edge = same_node edge.to (lands graph (Some word)) && same_kind edge.kind kinds.Land
 
   module _ (g : IsTextGraph text graph) where
-    -- where a run lands at a node, the word stands in the node's block
-    outside : (word : ℕ) → length text.words ≤ word → lands graph (Some word) ≡ X
-    outside word past =
-        rw (le-ltb word graph.blocks.words (omega (arith, past, g.cut.words))) refl
-
     -- the word stands in the block
     abbrev StandsIn : ℕ → ℕ → Type 0
     StandsIn k word =
         (slice_index graph.blocks.firsts k ≤ word)
         × (word < slice_index graph.blocks.firsts k + size_of graph.blocks k)
 
+    -- where a run lands at a node, the word stands in the node's block
     at_node : (k word : ℕ) (node : Node) → same_node X node ≡ false
         → (same_node (block (holding_of graph.blocks word)) node ≡ true → holding_of graph.blocks word ≡ k)
         → (same_node (copy (holding_of graph.blocks word)) node ≡ true → holding_of graph.blocks word ≡ k)
@@ -185,11 +160,11 @@ module _ (text : Words) (graph : Graph) (codes : ℕ → List ℕ) where
           let low : word < graph.blocks.words = omega (arith, g.cut.words) in
           let held = in_held graph.blocks.words graph.blocks.firsts g.cut.firsts word low in
           let there : holding_of graph.blocks word ≡ k → StandsIn k word =
-          λ same. let is = subst (IsIn graph.blocks.words graph.blocks.firsts word) same held in
-          (is.above, omega (arith, is.above, is.below)) in
+          λ same. rw (← same) (held.above, omega (arith, held.above, held.below)) in
           lands_as graph.blocks graph.opens word low (λ (n : Node). same_node n node ≡ true → StandsIn k word)
           (λ _ h. there (copied h)) (λ _ h. there (itself h)) e
-      | inr m ↦ absurd (false≢true (sym (ap (λ (n : Node). same_node n node) (outside word m) ∙ none) ∙ e))
+      | inr m ↦
+          absurd (false≢true (sym none ∙ rw (le-ltb word graph.blocks.words (omega (arith, m, g.cut.words))) at e))
     ]
 
     block_end_within : (k : ℕ) → k < length graph.blocks.firsts
@@ -205,46 +180,35 @@ module _ (text : Words) (graph : Graph) (codes : ℕ → List ℕ) where
     node_count : (node : Node) → IsNodeIn graph.blocks graph.opens node
         → count_by (is_at graph node) (below (length text.words)) ≤ count_by (is_at graph node) (words_at graph node)
     node_count (Block k) l =
-        count_within (is_at graph (Block k)) (length text.words) (slice_index graph.blocks.firsts k.0)
-        (size_of graph.blocks k.0) (block_end_within k.0 l)
+        count_within (is_at graph (Block k)) _ _ _ (block_end_within k.0 l)
         (λ word. at_node k.0 word (Block k) refl (eqb-true _ k.0) (λ e. absurd (false≢true e)))
     node_count (Landed k) l =
-        count_within (is_at graph (Landed k)) (length text.words) (slice_index graph.blocks.firsts k.0)
-        (size_of graph.blocks k.0) (block_end_within k.0 l.0)
+        count_within (is_at graph (Landed k)) _ _ _ (block_end_within k.0 l.0)
         (λ word. at_node k.0 word (Landed k) refl (λ e. absurd (false≢true e)) (eqb-true _ k.0))
     node_count X l =
         omega (
           arith,
-          count_none (is_at graph X) (below (length text.words)) (each-below (λ word. is_at graph X word ≡ false)
-              (length text.words) (λ word low.
+          count_none (is_at graph X) (below (length text.words)) (each-below _ (length text.words) (λ word low.
               lands_as graph.blocks graph.opens word (omega (arith, low, g.cut.words))
-              (λ (n : Node). same_node n X ≡ false)
-              (λ _. refl) (λ _. refl))),
+              (λ (n : Node). same_node n X ≡ false) (λ _. refl) (λ _. refl))),
         )
 
     landings_count : (edge : Edge) → IsNodeIn graph.blocks graph.opens edge.to
         → count_by (λ word. lands_there word edge) (below (length text.words))
         ≤ (if same_kind edge.kind kinds.Land then count_by (is_at graph edge.to) (words_at graph edge.to) else 0)
-    landings_count edge inside = by (same_kind edge.kind kinds.Land) refl
-      where
-        by : (t : Bool) → same_kind edge.kind kinds.Land ≡ t
-            → count_by (λ word. lands_there word edge) (below (length text.words))
-            ≤ (if t then count_by (is_at graph edge.to) (words_at graph edge.to) else 0)
-        by false e =
-            omega (
-              arith,
-              count_none (λ word. lands_there word edge) (below (length text.words))
-                  (each _ (below (length text.words)) (λ word.
-                  and_right (same_node edge.to (lands graph (Some word))) (same_kind edge.kind kinds.Land) e)),
-            )
-        by true e =
-            omega (
-              arith,
-              count_le (λ word. lands_there word edge) (is_at graph edge.to) (below (length text.words)) (λ word h.
-                  same_turned edge.to (lands graph (Some word))
-                  (and_parts (same_node edge.to (lands graph (Some word))) (same_kind edge.kind kinds.Land) h).0),
-              node_count edge.to inside,
-            )
+    landings_count edge inside =
+        cond_both (same_kind edge.kind kinds.Land) (count_by (is_at graph edge.to) (words_at graph edge.to)) 0
+        (λ (n : ℕ). count_by (λ word. lands_there word edge) (below (length text.words)) ≤ n)
+        (λ _. omega (
+          arith,
+          count_le (λ word. lands_there word edge) (is_at graph edge.to) (below (length text.words))
+              (λ word h. same_turned edge.to (lands graph (Some word)) (and_parts _ _ h).0),
+          node_count edge.to inside,
+        ))
+        (λ e. omega (
+          arith,
+          count_none (λ word. lands_there word edge) (below (length text.words)) (each _ _ (λ word. and_right _ _ e)),
+        ))
 
   -- ---- by entries
 
@@ -265,53 +229,41 @@ module _ (text : Words) (graph : Graph) (codes : ℕ → List ℕ) where
             (entries_in opens),
         sum_by-append (λ word. cond (is_at graph to word) 1 0) (if o.block == k then o.targets else [])
             (targets_in opens k),
-        count-map (leads_there (block k) to true) (λ (word : ℕ). (o, word)) o.targets,
-        here (o.block == k) refl,
+        fold-map (λ (a : ℕ) (x : Open × ℕ). a + cond (leads_there (block k) to true x) 1 0) (λ (word : ℕ). (o, word)) 0 o.targets,
+        cond_both (o.block == k) o.targets [] (λ (words : List ℕ).
+            count_by (λ word. leads_there (block k) to true (o, word)) o.targets ≤ count_by (is_at graph to) words)
+            (λ _. count_le (λ word. leads_there (block k) to true (o, word)) (is_at graph to) o.targets
+            (λ word h. same_turned to (lands graph (Some word)) (and_parts _ _ h).0))
+            (λ e. omega (
+              arith,
+              count_none (λ word. leads_there (block k) to true (o, word)) o.targets (each _ _
+                  (λ word. and_right (same_node to (lands graph (Some word))) _ (rw (eqb-turned k o.block, e) refl))),
+            )),
         cases_from_block k to opens,
       )
-    where
-      here : (t : Bool) → (o.block == k) ≡ t → count_by (λ word. leads_there (block k) to true (o, word)) o.targets
-          ≤ count_by (is_at graph to) (if t then o.targets else [])
-      here true e =
-          count_le (λ word. leads_there (block k) to true (o, word)) (is_at graph to) o.targets (λ word h.
-          same_turned to (lands graph (Some word)) (and_parts (same_node to (lands graph (Some word))) _ h).0)
-      here false e =
-          omega (
-            arith,
-            count_none (λ word. leads_there (block k) to true (o, word)) o.targets (each _ o.targets (λ word.
-                and_right (same_node to (lands graph (Some word))) ((k == o.block) && true)
-                (ap (λ (t : Bool). t && true) (eqb-turned k o.block ∙ e)))),
-          )
 
   cases_count : (edge : Edge) → count_by (λ entry. chooses entry edge) (entries_in graph.opens)
       ≤ (if same_kind edge.kind kinds.Case then count_by (is_at graph edge.to) (targets_from graph edge.from) else 0)
-  cases_count edge = by (same_kind edge.kind kinds.Case)
+  cases_count edge =
+      cond_both (same_kind edge.kind kinds.Case) (count_by (is_at graph edge.to) (targets_from graph edge.from)) 0
+      (λ (n : ℕ). count_by (λ entry. chooses entry edge) (entries_in graph.opens) ≤ n)
+      (λ e. rw e (leaving edge.from))
+      (λ e. omega (
+        arith,
+        count_none (λ entry. chooses entry edge) (entries_in graph.opens) (each _ _ (λ entry. and_right _ _ (and_right _ _ e))),
+      ))
     where
       none : (from : Node) → ((o : Open) → same_node from (block o.block) ≡ false)
           → count_by (leads_there from edge.to true) (entries_in graph.opens) ≡ 0
       none from apart =
-          count_none (leads_there from edge.to true) (entries_in graph.opens) (each _ (entries_in graph.opens) (λ entry.
-          and_right (same_node edge.to (lands graph (Some entry.1))) (same_node from (block entry.0.block) && true)
-          (ap (λ (t : Bool). t && true) (apart entry.0))))
+          count_none (leads_there from edge.to true) (entries_in graph.opens)
+          (each _ _ (λ entry. and_right (same_node edge.to (lands graph (Some entry.1))) _ (rw (apart entry.0) refl)))
 
       leaving : (from : Node) → count_by (leads_there from edge.to true) (entries_in graph.opens)
           ≤ count_by (is_at graph edge.to) (targets_from graph from)
       leaving (Block k) = cases_from_block k.0 edge.to graph.opens
       leaving (Landed k) = omega (arith, none (Landed k) (λ o. refl))
       leaving X = omega (arith, none X (λ o. refl))
-
-      by : (t : Bool) → count_by (leads_there edge.from edge.to t) (entries_in graph.opens)
-          ≤ (if t then count_by (is_at graph edge.to) (targets_from graph edge.from) else 0)
-      by true = leaving edge.from
-      by false =
-          omega (
-            arith,
-            count_none (leads_there edge.from edge.to false) (entries_in graph.opens)
-                (each _ (entries_in graph.opens) (λ entry.
-                and_right (same_node edge.to (lands graph (Some entry.1)))
-                (same_node edge.from (block entry.0.block) && false)
-                (and_right (same_node edge.from (block entry.0.block)) false refl))),
-          )
 
 -- ---- no more often than it is counted
 
@@ -331,13 +283,7 @@ kinds_few : (kind : EdgeKind) (a b c l m n : ℕ) → a ≤ (if same_kind kind k
     → b ≤ (if same_kind kind kinds.Land then m else 0) → c ≤ (if same_kind kind kinds.Case then n else 0)
     → a * l + own_kind kind l + b * l + c * l
     ≤ (if same_kind kind kinds.Land then m else if same_kind kind kinds.Case then n else 1) * l
-kinds_few kinds.Fall a b c l m n f g h = omega (arith, products a b c 1 0 0 l f g h)
-kinds_few kinds.Taken a b c l m n f g h = omega (arith, products a b c 0 0 0 l f g h)
-kinds_few kinds.Untaken a b c l m n f g h = omega (arith, products a b c 0 0 0 l f g h)
-kinds_few kinds.Call a b c l m n f g h = omega (arith, products a b c 0 0 0 l f g h)
-kinds_few kinds.Out a b c l m n f g h = omega (arith, products a b c 0 0 0 l f g h)
-kinds_few kinds.Land a b c l m n f g h = omega (arith, products a b c 0 m 0 l f g h)
-kinds_few kinds.Case a b c l m n f g h = omega (arith, products a b c 0 0 n l f g h)
+kinds_few kind a b c l m n f g h = let most = products a b c _ _ _ l f g h in grind arith
 
 ways_own : (codes : ℕ → List ℕ) (number count : ℕ) (edges : List Edge)
     → Each (λ edge. same_kind edge.kind kinds.Land ≡ false) (take count edges)
@@ -345,8 +291,7 @@ ways_own : (codes : ℕ → List ℕ) (number count : ℕ) (edges : List Edge)
 ways_own codes number zero edges own = omega arith
 ways_own codes number (suc count) [] own = omega arith
 ways_own codes number (suc count) (edge ∷ edges) own =
-    let here : own_kind edge.kind (length (codes number)) ≡ way_code codes number edge =
-    ap (λ (t : Bool). if t then 0 else way_kind edge.kind (length (codes number))) own.0 in
+    let here : own_kind edge.kind (length (codes number)) ≡ way_code codes number edge = rw own.0 in
     omega (arith, ways_own codes (suc number) count edges own.1)
 
 module _ (text : Words) (graph : Graph) (codes : ℕ → List ℕ) (g : IsTextGraph text graph) (snips : List (List Op))
@@ -358,22 +303,14 @@ module _ (text : Words) (graph : Graph) (codes : ℕ → List ℕ) (g : IsTextGr
       ≤ 22 * operations_from graph snips number edges
   edges_few number [] leads = omega arith
   edges_few number (edge ∷ edges) leads =
-      let one = kinds_few edge.kind
-      (count_by (λ word. falls text graph codes word edge) (below (length text.words)))
-      (count_by (λ word. lands_there text graph codes word edge) (below (length text.words)))
-      (count_by (λ entry. chooses text graph codes entry edge) (entries_in graph.opens))
-      (length (codes number))
-      (count_by (is_at graph edge.to) (words_at graph edge.to))
-      (count_by (is_at graph edge.to) (targets_from graph edge.from))
-      (falls_count text graph codes edge) (landings_count text graph codes g edge leads.0)
-      (cases_count text graph codes edge) in
-      let most : copies_of graph edge * length (codes number)
-      ≤ copies_of graph edge * (22 * length (snippet_on snips number)) =
-      mul-le-mul_left (copies_of graph edge) (short.short number) in
-      let turned : copies_of graph edge * (22 * length (snippet_on snips number))
-      ≡ 22 * (copies_of graph edge * length (snippet_on snips number)) =
-      mul_left_comm (copies_of graph edge) 22 (length (snippet_on snips number)) in
-      omega (arith, one, most, turned, edges_few (suc number) edges leads.1)
+      omega (
+        arith,
+        kinds_few edge.kind _ _ _ (length (codes number)) _ _ (falls_count text graph codes edge)
+            (landings_count text graph codes g edge leads.0) (cases_count text graph codes edge),
+        mul-le-mul_left (copies_of graph edge) (short.short number),
+        mul_left_comm (copies_of graph edge) 22 (length (snippet_on snips number)),
+        edges_few (suc number) edges leads.1,
+      )
 
   pub snippets_few : sum_by (order_code text graph codes) (below (length text.words)) + ways_code codes 0
       (own_edges graph)
@@ -381,15 +318,17 @@ module _ (text : Words) (graph : Graph) (codes : ℕ → List ℕ) (g : IsTextGr
       + sum_by (case_code graph codes) (entries_in graph.opens)
       ≤ 22 * operations_in graph snips
   snippets_few =
-      let images = uses_cover (falls text graph codes) codes graph.edges (order_code text graph codes)
-      (below (length text.words)) (each _ (below (length text.words)) (order_cover text graph codes)) in
-      let landings = uses_cover (lands_there text graph codes) codes graph.edges (landing_code graph codes)
-      (below (length text.words)) (each _ (below (length text.words)) (λ word. omega arith)) in
-      let chosen = uses_cover (chooses text graph codes) codes graph.edges (case_code graph codes)
-      (entries_in graph.opens) (each _ (entries_in graph.opens) (λ entry. omega arith)) in
-      let ways : ways_code codes 0 (own_edges graph) ≤ own_code codes 0 graph.edges =
-      ways_own codes 0 _ graph.edges g.no_landings in
-      omega (arith, images, landings, chosen, ways, edges_few 0 graph.edges g.leads)
+      omega (
+        arith,
+        uses_cover (falls text graph codes) codes graph.edges (order_code text graph codes) (below (length text.words))
+            (each _ _ (order_cover text graph codes)),
+        uses_cover (lands_there text graph codes) codes graph.edges (landing_code graph codes) (below (length text.words))
+            (each _ _ (λ word. omega arith)),
+        uses_cover (chooses text graph codes) codes graph.edges (case_code graph codes) (entries_in graph.opens)
+            (each _ _ (λ entry. omega arith)),
+        ways_own codes 0 _ graph.edges g.no_landings,
+        edges_few 0 graph.edges g.leads,
+      )
 
 -- ---- where a block ends in a transfer no snippet stands in its images
 
@@ -398,20 +337,7 @@ pub no_code : (text : Words) (graph : Graph) (codes : ℕ → List ℕ) (node : 
     → is_transfer (decode_of (slice_index text.words (last_word graph.blocks.firsts graph.blocks.words k))) ≡ true
     → image_code text graph codes node word ≡ 0
 no_code text graph codes node k word at ends =
-    by (decode_of (slice_index text.words word)) refl (is_transfer (decode_of (slice_index text.words word))) refl
-  where
-    by : (instr : Instr) → decode_of (slice_index text.words word) ≡ instr → (t : Bool)
-        → is_transfer (decode_of (slice_index text.words word)) ≡ t → code_by graph codes node word instr ≡ 0
-    by instr says true e = rw (sym (ap is_transfer says) ∙ e) refl
-    by instr says false e =
-        let straight : is_transfer instr ≡ false = sym (ap is_transfer says) ∙ e in
-        let inner : (word == last_word graph.blocks.firsts graph.blocks.words k) ≡ false =
-        not_last (word == last_word graph.blocks.firsts graph.blocks.words k) refl in
-        rw (straight, straight_left graph node word instr straight, at, inner) refl
-      where
-        not_last : (t : Bool) → (word == last_word graph.blocks.firsts graph.blocks.words k) ≡ t
-            → (word == last_word graph.blocks.firsts graph.blocks.words k) ≡ false
-        not_last false h = h
-        not_last true h =
-            absurd (false≢true (sym e ∙ ap (λ (w : ℕ). is_transfer (decode_of (slice_index text.words w)))
-            (eqb-true word (last_word graph.blocks.firsts graph.blocks.words k) h) ∙ ends))
+    cond_both (is_transfer (decode_of (slice_index text.words word))) 0 _ (λ (n : ℕ). n ≡ 0) (λ _. refl) (λ e.
+    let inner : (word == last_word graph.blocks.firsts graph.blocks.words k) ≡ false =
+    ne_eqb word _ (λ same. false≢true (sym e ∙ rw same ends)) in
+    rw (straight_left graph node word (decode_of (slice_index text.words word)) e, at, inner) refl)

@@ -2,7 +2,7 @@
 -- else the copy goes on to where the edge leads.
 use Rattle.std.proofs.Common.{◌≡◌, ◌≢◌, ℕ, ◌%◌, ◌^◌, ◌<◌, inl, inr, Bool, true, false, Option, Some, None, List, [], ◌∷◌, ◌++◌, drop, length, refl, ap, sym, ◌∙◌, subst, arith}
 use Rattle.std.specs.Prelude.{◌⊎◌, ◌==◌, if◌then◌else◌, pos, slice_get, slice_index}
-use Rattle.std.proofs.lemmas.Bool.{eqb-true, false≢true}
+use Rattle.std.proofs.lemmas.Bool.{cases_Bool, eqb-true, false≢true}
 use Rattle.std.specs.Option.{option_map}
 use Rattle.eel_base.specs.CodeText.{Words, address_of, word_at}
 use Rattle.eel_base.specs.declared.numbers.Addr.{Addr}
@@ -19,9 +19,8 @@ use Rattle.cfg_blocks.proofs.Targets.{word_at-some}
 use Rattle.cfg_normal.specs.declared.Node.{Node}
 use Rattle.cfg_normal.specs.declared.Node.TheVariants.{X}
 use Rattle.cfg_normal.specs.Graph.{Graph, has_cases, lands}
-use Rattle.cfg_walk.specs.Walk.{Point, landed, landing_at as edge_landing, led_to, node_after, point_of, same_kind, slot_left}
+use Rattle.cfg_walk.specs.Walk.{Point, landed, landing_at as edge_landing, node_after, point_of, same_kind, slot_left}
 use Rattle.cfg_walk.specs.Matches.{Begins, IsOnItsWay, last_in, way_address}
-use Rattle.cfg_walk.proofs.Edges.{block}
 use Rattle.cfg_walk.proofs.Nodes.{home_lands, lands_as, lands_in}
 use Rattle.cfg_walk.proofs.Slots.{jump_lands}
 use Rattle.cfg_walk.proofs.Ways.{same_kinds}
@@ -31,7 +30,7 @@ use Rattle.code_runs.proofs.StoredWords.{memory_word-range}
 use Rattle.jump_code.specs.Pieces.{far_piece, found_piece}
 use Rattle.layout.specs.declared.items.Item.{Item}
 use Rattle.layout.specs.Laid.{Placement}
-use Rattle.image_code.specs.Simulates.{CaseTable, Setting, at_point, does_at, gone_at, graph_in, number_in, is_out, operations_on}
+use Rattle.image_code.specs.Simulates.{Setting, at_point, does_at, gone_at, graph_in, number_in, is_out, operations_on}
 use Rattle.image_code.specs.Images.{Frame, Here, HasNoCases, entered_at, visited_at}
 use Rattle.image_code.specs.Cases.{IsFar, LeadsOn, plain_piece, words_on}
 use Rattle.image_code.specs.Couple.{couple_piece}
@@ -51,22 +50,15 @@ use Rattle.image_code.proofs.Visited.{case_kind, edge_is, entered_none, entered_
 
 -- ---- where control goes on at a node
 
-goes_begins : (text : Words) (graph : Graph) (node : Node) (address : ℕ) (o : Option ℕ)
-    → Begins graph node o → (word : ℕ) → o ≡ Some word
+goes_begins : (text : Words) (graph : Graph) (node : Node) (address word : ℕ) → Begins graph node (Some word)
     → goes_on text graph node (first_word graph node) address ≡ jump_to (enter_number text graph node word)
-goes_begins text graph X address None h word e = absurd (cc)
-goes_begins text graph X address (Some w) h word e = absurd h
-goes_begins text graph node address None h word e = absurd h
-goes_begins text graph node address (Some w) h word e =
-    let q : w ≡ word = cc in
-    ap (λ (n : ℕ). jump_to (enter_number text graph node n)) (h ∙ q)
+goes_begins text graph X address word h = absurd h
+goes_begins text graph node address word h = ap (λ (n : ℕ). jump_to (enter_number text graph node n)) h
 
-goes_out : (text : Words) (graph : Graph) (node : Node) (word address : ℕ) (o : Option ℕ)
-    → Begins graph node o → o ≡ None → goes_on text graph node word address ≡ far_piece address
-goes_out text graph X word address None h e = refl
-goes_out text graph X word address (Some w) h e = absurd h
-goes_out text graph node word address None h e = absurd h
-goes_out text graph node word address (Some w) h e = absurd (cc)
+goes_out : (text : Words) (graph : Graph) (node : Node) (word address : ℕ) → Begins graph node None
+    → goes_on text graph node word address ≡ far_piece address
+goes_out text graph X word address h = refl
+goes_out text graph node word address h = absurd h
 
 -- ---- landings
 
@@ -89,10 +81,7 @@ landed_out text graph address (Some word) e = rw e
 pub no_cases : (g : Setting) → IsKnown g → (node : Node) → has_cases g.switches node ≡ false → HasNoCases g node
 no_cases g is node none k table e same =
     let t = table_of g is.known k table e in
-    let here : node ≡ block t.o.block =
-    same ∙ ap (λ (c : CaseTable). block c.block) (sym t.same) in
-    false≢true (sym none ∙ ap (has_cases g.switches) here
-    ∙ jump_of g.text (blocks_of g.text g.given) g.switches k t.o t.is)
+    false≢true (sym none ∙ rw (same, ← t.same) (jump_of g.text (blocks_of g.text g.given) g.switches k t.o t.is))
 
 module _ (g : Setting) (codes : ℕ → List ℕ) (is : IsKnown g) (p : Placement) (f : Frame) (base : ℕ)
     (place : ℕ → ℕ → ℕ) (tables : IsTableFor g.text (graph_in g) g.snips p f.table f.halves)
@@ -126,7 +115,7 @@ module _ (g : Setting) (codes : ℕ → List ℕ) (is : IsKnown g) (p : Placemen
   its_edge = edge_is g codes is p f node x way
 
   made : (b : Bool) → is_transfer (decode_of word) ≡ b → slice_get (l g codes is p f).list piece ≡ Some (copy_by b)
-  made b e = copy.items ∙ ap (λ (z : Bool). Some (copy_by z)) e
+  made b e = copy.items ∙ rw e
 
   stands : visited_at g (l g codes is p f) p f node x ≡ slice_index p.at piece
   stands = copy_visited g codes is p f node x slot at way piece to copy not
@@ -141,28 +130,22 @@ module _ (g : Setting) (codes : ℕ → List ℕ) (is : IsKnown g) (p : Placemen
 
     past : (b : Bool) → same_kind way.edge.kind kinds.Out ≡ b
         → slice_get (l g codes is p f).list piece ≡ Some (past_by b)
-    past b e = made false straight ∙ ap (λ (z : Bool). Some (past_by z)) e
+    past b e = made false straight ∙ rw e
 
     went : (v : State) → does_at g x t ≡ v → v.ending ≡ None → (v.pc ≡ x.npc) × (v.slot ≡ NoSlot)
     went v e live =
         let same : v ≡ act (at_point x t) (decode_of word) =
         sym e ∙ ap (on_word (at_point x t)) (word_is g x slot at) in
-        let w = goes_act (at_point x t) (decode_of word) straight (ap (λ (z : State). z.ending) (sym same) ∙ live) in
-        (ap (λ (z : State). z.pc) same ∙ w.0, ap (λ (z : State). z.slot) same ∙ w.2)
+        let w = goes_act (at_point x t) (decode_of word) straight (rw (← same) live) in
+        rw same (w.0, w.2)
 
     gone_left : (v : State) → v.pc ≡ x.npc → v.slot ≡ NoSlot → v.ending ≡ None
         → gone_at g node x v ≡ slot_left g.text (graph_in g) node (way_in g codes is p f x) x.npc
-    gone_left v pc after live =
-        slot_gone g node x v not after live
-        ∙ ap (slot_left g.text (graph_in g) node (way_in g codes is p f x)) pc
+    gone_left v pc after live = slot_gone g node x v not after live ∙ rw pc
 
     gone_along : (v : State) → v.pc ≡ x.npc → v.slot ≡ NoSlot → v.ending ≡ None
         → gone_at g node x v ≡ way.number ∷ landed g.text (graph_in g) way.edge.kind x.npc
-    gone_along v pc after live =
-        gone_left v pc after live
-        ∙ ap (λ (edges : List ℕ). edges ++ landed g.text (graph_in g)
-        (way_now g codes is p f node x).kind x.npc) way.only
-        ∙ ap (λ (k : EdgeKind). way.number ∷ landed g.text (graph_in g) k x.npc) (sym its_edge.same)
+    gone_along v pc after live = gone_left v pc after live ∙ rw (way.only, its_edge.same)
 
     -- ---- the edge leads on
 
@@ -179,21 +162,13 @@ module _ (g : Setting) (codes : ℕ → List ℕ) (is : IsKnown g) (p : Placemen
     module _ (other : same_kind way.edge.kind kinds.Out ≡ false) (ends : Ends) where
       items : (rest : List Item) → on_there ≡ rest
           → slice_get (l g codes is p f).list piece ≡ Some (plain_piece address (number_in g node) word (code ++ rest))
-      items rest e = past false other
-          ∙ ap (λ (r : List Item). Some (plain_piece address (number_in g node) word (code ++ r))) e
-
-      after_is : node_after (graph_in g) node (way.number ∷ []) ≡ way.edge.to
-      after_is = ap (led_to node) way.is
+      items rest e = past false other ∙ rw e
 
       goes : (v : State) → does_at g x t ≡ v → v.ending ≡ None
           → LeadsOn (l g codes is p f) p place piece 3 (gone_at g node x v) (word_at g.text v.pc) (Visit v)
       goes v e live =
           let w = went v e live in
-          let completes : gone_at g node x v ≡ way.number ∷ [] =
-          gone_along v w.0 w.1 live
-          ∙ ap (λ (edges : List ℕ). way.number ∷ edges) (not_landed g.text (graph_in g) way.edge.kind x.npc other) in
-          subst (λ (gone : List ℕ). LeadsOn (l g codes is p f) p place piece 3 gone (word_at g.text v.pc)
-          (entered_at g (l g codes is p f) p f (node_after (graph_in g) node gone) (point_of v))) (sym completes)
+          rw (gone_along v w.0 w.1 live, not_landed g.text (graph_in g) way.edge.kind x.npc other)
           (elim ends [ inl out ↦ leaves w out | inr on ↦ goes_to w on ])
         where
           after : Node
@@ -206,13 +181,8 @@ module _ (g : Setting) (codes : ℕ → List ℕ) (is : IsKnown g) (p : Placemen
           leaves : (v.pc ≡ x.npc) × (v.slot ≡ NoSlot)
               → (word_at g.text x.npc ≡ None) × IsFar x.npc × (on_there ≡ far_piece x.npc) → Leads
           leaves w (none, far, there) =
-              subst (LeadsOn (l g codes is p f) p place piece 3 (way.number ∷ []) (word_at g.text v.pc))
-              (sym (entered_none g codes is p f after (point_of v) (ap (word_at g.text) w.0 ∙ none) w.1 ∙ w.0))
-              (inr (inr (
-                ap (word_at g.text) w.0 ∙ none,
-                far,
-                ap (option_map (drop 3)) (items (far_piece x.npc) there),
-              )))
+              rw (entered_none g codes is p f after (point_of v) (rw w.0 none) w.1, w.0)
+              (inr (inr (none, far, ap (option_map (drop 3)) (items (far_piece x.npc) there))))
 
           goes_to : (v.pc ≡ x.npc) × (v.slot ≡ NoSlot)
               → (n : ℕ) × (word_at g.text x.npc ≡ Some n)
@@ -224,13 +194,8 @@ module _ (g : Setting) (codes : ℕ → List ℕ) (is : IsKnown g) (p : Placemen
                 all = refl;
                 some = λ e. absurd (cc);
                 piece = record { 0 = enter_number g.text (graph_in g) way.edge.to n };
-                rest = ap (option_map (drop 3)) (items (jump_to
-                    (enter_number g.text (graph_in g) way.edge.to n)) there);
-                leads = inl (
-                  refl,
-                  sym (entered_word g codes is p f after (point_of v) n (ap (word_at g.text) w.0 ∙ some) w.1
-                      ∙ ap (λ (m : Node). slice_index p.at (enter_number g.text (graph_in g) m n)) after_is),
-                );
+                rest = ap (option_map (drop 3)) (items _ there);
+                leads = inl (refl, rw (entered_word g codes is p f after (point_of v) n (rw w.0 some) w.1, way.is) refl);
               }))
 
       plain_case : IsCase g (l g codes is p f) base p place f node x t
@@ -251,11 +216,8 @@ module _ (g : Setting) (codes : ℕ → List ℕ) (is : IsKnown g) (p : Placemen
     -- the ways but for a JMPL's
     module _ (other : same_kind (way_in g codes is p f x) kinds.Out ≡ false)
         (first : to ≡ first_word (graph_in g) way.edge.to) where
-      quiet : same_kind (way_in g codes is p f x) kinds.Out ≡ true → has_cases g.switches node ≡ false
-      quiet out = absurd (false≢true (sym other ∙ out))
-
       kind : way.edge.kind ≡ way_in g codes is p f x
-      kind = kind_is g codes is p f node x way quiet
+      kind = kind_is g codes is p f node x way (λ out. absurd (false≢true (sym other ∙ out)))
 
       there : on_there ≡ goes_on g.text (graph_in g) way.edge.to (first_word (graph_in g) way.edge.to) x.npc
       there = rw (first, its_edge.leaves, kind, ← (way.goes other))
@@ -263,64 +225,40 @@ module _ (g : Setting) (codes : ℕ → List ℕ) (is : IsKnown g) (p : Placemen
       npc_far : IsFar x.npc
       npc_far =
           let w = word_at-some g.text x.pc slot at in
-          let there = w.is in
-          let within = w.within in
-          let before = way.pc in
-          let low : last_in (graph_in g) node < length g.text.words = omega arith in
-          subst IsFar (sym (way.goes other))
+          rw (way.goes other)
           (along_far g.text (last_in (graph_in g) node) (way_in g codes is p f x)
-          (decode_of (slice_index g.text.words (last_in (graph_in g) node))) is.text low)
+          (decode_of (slice_index g.text.words (last_in (graph_in g) node))) is.text (omega (arith, w.is, w.within, way.pc)))
 
       plain_ends : Ends
       plain_ends = by (word_at g.text x.npc) refl
         where
           by : (o : Option ℕ) → word_at g.text x.npc ≡ o → Ends
           by None e =
-              inl (
-                e,
-                npc_far,
-                there ∙ goes_out g.text (graph_in g) way.edge.to (first_word (graph_in g) way.edge.to) x.npc
-                    (word_at g.text x.npc) (way.leads other).0 e,
-              )
+              inl (e, npc_far, there ∙ goes_out g.text (graph_in g) way.edge.to _ x.npc (rw e at (way.leads other).0))
           by (Some w) e =
-              inr (
-                w,
-                e,
-                there ∙ goes_begins g.text (graph_in g) way.edge.to x.npc (word_at g.text x.npc)
-                    (way.leads other).0 w e,
-              )
+              inr (w, e, there ∙ goes_begins g.text (graph_in g) way.edge.to x.npc w (rw e at (way.leads other).0))
 
       other_case : IsCase g (l g codes is p f) base p place f node x t
-      other_case = plain_case (ap (λ (k : EdgeKind). same_kind k kinds.Out) kind ∙ other) plain_ends
+      other_case = plain_case (rw kind other) plain_ends
 
     -- ---- a Case edge leads to where a run lands
 
     module _ (out : same_kind (way_in g codes is p f x) kinds.Out ≡ true) (cased : has_cases g.switches node ≡ true)
         (goes_there : word_at g.text x.npc ≡ Some to) where
       lands_at_it : way.edge.to ≡ lands (graph_in g) (Some to)
-      lands_at_it =
-          way.lands_at out
-          ∙ ap (λ (c : Bool). if c then lands (graph_in g) (word_at g.text x.npc) else X) cased
-          ∙ ap (lands (graph_in g)) goes_there
+      lands_at_it = way.lands_at out ∙ rw (cased, goes_there)
 
       on_case : on_there ≡ jump_to (enter_number g.text (graph_in g) way.edge.to to)
       on_case =
           let a = way_address g.text (graph_in g) way.edge.from way.edge.kind in
-          let low : to < b.words = omega (
-            arith,
-            (word_at-some g.text x.npc to goes_there).within,
-            (cut_in g is f.table.base f.cases.base).words,
-          ) in
-          subst (λ (n : Node). goes_on g.text (graph_in g) n to a ≡ jump_to (enter_number g.text (graph_in g) n to))
-          (sym lands_at_it)
-          (lands_as b g.switches to low
+          let within = (word_at-some g.text x.npc to goes_there).within in
+          rw lands_at_it
+          (lands_as b g.switches to (omega (arith, within, (cut_in g is f.table.base f.cases.base).words))
           (λ (n : Node). goes_on g.text (graph_in g) n to a ≡ jump_to (enter_number g.text (graph_in g) n to))
           (λ _. refl) (λ _. refl))
 
       along_case : IsCase g (l g codes is p f) base p place f node x t
-      along_case =
-          plain_case (ap (λ (k : EdgeKind). same_kind k kinds.Out) (case_kind g codes is p f node x way out cased))
-          (inr (to, goes_there, on_case))
+      along_case = plain_case (rw (case_kind g codes is p f node x way out cased)) (inr (to, goes_there, on_case))
 
     -- ---- a JMPL's slot: the table leads on
 
@@ -333,35 +271,24 @@ module _ (g : Setting) (codes : ℕ → List ℕ) (is : IsKnown g) (p : Placemen
       kind_out = kind_is g codes is p f node x way (λ _. quiet) ∙ same_kinds (way_in g codes is p f x) kinds.Out out
 
       edge_out : same_kind way.edge.kind kinds.Out ≡ true
-      edge_out = ap (λ (k : EdgeKind). same_kind k kinds.Out) kind_out
+      edge_out = rw kind_out
 
       waits : (x.npc < 2 ^ 32) × (x.npc % 4 ≡ 0)
       waits =
           let w = here.waits (way.jumps out) out caseless in
-          (subst (λ (z : ℕ). z < 2 ^ 32) w.0 (memory_word-range t.memory (page_word 1) here.valid.memory), w.1)
+          (rw w.0 at (memory_word-range t.memory (page_word 1) here.valid.memory), w.1)
 
       -- the landing at the node to which the jump leads
       abbrev lands_on : List ℕ
       lands_on = landed g.text (graph_in g) kinds.Out x.npc
 
-      completes : (v : State) → does_at g x t ≡ v → v.ending ≡ None → gone_at g node x v ≡ way.number ∷ lands_on
-      completes v e live =
-          let w = went v e live in
-          gone_along v w.0 w.1 live
-          ∙ ap (λ (k : EdgeKind). way.number ∷ landed g.text (graph_in g) k x.npc) kind_out
-
-      goes_out_by : IsOnItsWay g.text (graph_in g) node x kinds.Out
-      goes_out_by = subst (λ (k : EdgeKind). IsOnItsWay g.text (graph_in g) node x k)
-          (same_kinds (way_in g codes is p f x) kinds.Out out) way
-
       lands_to : (v : State) → does_at g x t ≡ v → v.ending ≡ None
           → node_after (graph_in g) node (gone_at g node x v) ≡ lands (graph_in g) (word_at g.text x.npc)
       lands_to v e live =
           let w = went v e live in
-          ap (node_after (graph_in g) node) (gone_left v w.0 w.1 live
-          ∙ ap (λ (k : EdgeKind). slot_left g.text (graph_in g) node k x.npc)
-          (same_kinds (way_in g codes is p f x) kinds.Out out))
-          ∙ jump_lands g.text b g.switches (cut_in g is f.table.base f.cases.base) node x goes_out_by
+          rw (gone_left v w.0 w.1 live, same_kinds (way_in g codes is p f x) kinds.Out out)
+          (jump_lands g.text b g.switches (cut_in g is f.table.base f.cases.base) node x
+          (subst (IsOnItsWay g.text (graph_in g) node x) (same_kinds _ kinds.Out out) way))
 
       landed_at : (v : State) → does_at g x t ≡ v → v.ending ≡ None
           → Lands g (l g codes is p f) p f lands_on x.npc (Visit v)
@@ -388,13 +315,30 @@ module _ (g : Setting) (codes : ℕ → List ℕ) (is : IsKnown g) (p : Placemen
                   none,
                 ),
               )
-          by (Some to) some = lands_by (operations_on g.snips (landing_of (graph_in g) (Some to)) == 0) refl
+          by (Some to) some = elim (cases_Bool (operations_on g.snips (landing_of (graph_in g) (Some to)) == 0)) [
+            | inl e ↦
+                inl (
+                  record { 0 = entry },
+                  slice_get_within (l g codes is p f).list entry _ image_there.1,
+                  led true e,
+                  inr (rw (landed_out g.text (graph_in g) x.npc (Some to) some) (eqb-true _ _ e), visit),
+                )
+            | inr e ↦
+                let landing_there = landing_at g.text b g.switches is.cased f.table.base f.cases.base codes to within in
+                inl (
+                  record { 0 = landing_number g.text (graph_in g) to },
+                  slice_get_within (l g codes is p f).list _ _ landing_there,
+                  led false e,
+                  inl (inr (inl (
+                    record { 0 = entry },
+                    landing_there ∙ rw (landed_out g.text (graph_in g) x.npc (Some to) some),
+                    visit,
+                  ))),
+                )
+          ]
             where
               within : to < length g.text.words
               within = (word_at-some g.text x.npc to some).within
-
-              there : Node
-              there = lands (graph_in g) (Some to)
 
               entry : ℕ
               entry = enter_number g.text (graph_in g) (lands (graph_in g) (Some to)) to
@@ -409,41 +353,10 @@ module _ (g : Setting) (codes : ℕ → List ℕ) (is : IsKnown g) (p : Placemen
               led : (b : Bool) → (operations_on g.snips (landing_of (graph_in g) (Some to)) == 0) ≡ b
                   → found_in f.halves x.npc ≡ slice_index p.at
                   (if b then entry else landing_number g.text (graph_in g) to)
-              led b e = tables.words x.npc to waits.0 waits.1 some
-                  ∙ ap (λ (z : Bool). slice_index p.at (if z then entry else landing_number g.text (graph_in g) to)) e
+              led b e = tables.words x.npc to waits.0 waits.1 some ∙ rw e
 
               visit : slice_index p.at entry ≡ entered_at g (l g codes is p f) p f after (point_of v)
-              visit = sym (entered_word g codes is p f after (point_of v) to (ap (word_at g.text) w.0 ∙ some) w.1
-                  ∙ ap (λ (n : Node). slice_index p.at (enter_number g.text (graph_in g) n to))
-                  (lands_to v e live ∙ ap (lands (graph_in g)) some))
-
-              lands_by : (b : Bool) → (operations_on g.snips (landing_of (graph_in g) (Some to)) == 0) ≡ b
-                  → Lands g (l g codes is p f) p f (landed g.text (graph_in g) kinds.Out x.npc) x.npc
-                  (entered_at g (l g codes is p f) p f after (point_of v))
-              lands_by true e =
-                  inl (
-                    record { 0 = entry },
-                    slice_get_within (l g codes is p f).list entry _ image_there.1,
-                    led true e,
-                    inr (
-                      ap (operations_on g.snips) (landed_out g.text (graph_in g) x.npc (Some to) some) ∙ eqb-true _ _ e,
-                      visit,
-                    ),
-                  )
-              lands_by false e =
-                  let landing_there =
-                  landing_at g.text b g.switches is.cased f.table.base f.cases.base codes to within in
-                  inl (
-                    record { 0 = landing_number g.text (graph_in g) to },
-                    slice_get_within (l g codes is p f).list _ _ landing_there,
-                    led false e,
-                    inl (inr (inl (
-                      record { 0 = entry },
-                      landing_there ∙ ap (λ (edges : List ℕ). Some (words_on (l g codes is p f) edges ++ jump_to entry))
-                          (sym (landed_out g.text (graph_in g) x.npc (Some to) some)),
-                      visit,
-                    ))),
-                  )
+              visit = rw (entered_word g codes is p f after (point_of v) to (rw w.0 some) w.1, lands_to v e live, some)
 
       jump_case : IsCase g (l g codes is p f) base p place f node x t
       jump_case = jumps_slot (record {
@@ -464,7 +377,7 @@ module _ (g : Setting) (codes : ℕ → List ℕ) (is : IsKnown g) (p : Placemen
         edge = way.number;
         outward = ap is_out way.is ∙ edge_out;
         landing = lands_on;
-        completes = λ live. completes (does_at g x t) refl live;
+        completes = λ live. let w = went (does_at g x t) refl live in gone_along (does_at g x t) w.0 w.1 live ∙ rw kind_out;
         items = past true edge_out;
         lands = λ live. landed_at (does_at g x t) refl live;
       })
@@ -490,27 +403,22 @@ module _ (g : Setting) (codes : ℕ → List ℕ) (is : IsKnown g) (p : Placemen
   -- ---- whatever the word
 
   by_word : ((straight : is_transfer (decode_of word) ≡ false) → IsCase g (l g codes is p f) base p place f node x t)
-      → (c : Bool) → is_transfer (decode_of word) ≡ c → IsCase g (l g codes is p f) base p place f node x t
-  by_word otherwise true e = couple_case e
-  by_word otherwise false e = otherwise e
+      → IsCase g (l g codes is p f) base p place f node x t
+  by_word otherwise = elim (cases_Bool (is_transfer (decode_of word))) [ inl e ↦ couple_case e | inr e ↦ otherwise e ]
 
   -- along an edge of which the node has one
   pub plain_copy_case : (same_kind (way_in g codes is p f x) kinds.Out ≡ true → has_cases g.switches node ≡ false)
       → to ≡ first_word (graph_in g) way.edge.to → IsCase g (l g codes is p f) base p place f node x t
   plain_copy_case caseless first =
-      by_word (λ straight. by straight (same_kind (way_in g codes is p f x) kinds.Out) refl)
-      (is_transfer (decode_of word)) refl
-    where
-      by : (straight : is_transfer (decode_of word) ≡ false) → (c : Bool)
-          → same_kind (way_in g codes is p f x) kinds.Out ≡ c → IsCase g (l g codes is p f) base p place f node x t
-      by straight true out = jump_case straight out (caseless out)
-      by straight false other = other_case straight other first
+      by_word (λ straight. elim (cases_Bool (same_kind (way_in g codes is p f x) kinds.Out)) [
+        | inl out ↦ jump_case straight out (caseless out)
+        | inr other ↦ other_case straight other first
+      ])
 
   -- along a Case edge
   pub case_copy_case : same_kind (way_in g codes is p f x) kinds.Out ≡ true → has_cases g.switches node ≡ true
       → word_at g.text x.npc ≡ Some to → IsCase g (l g codes is p f) base p place f node x t
-  case_copy_case out cased goes_there =
-      by_word (λ straight. along_case straight out cased goes_there) (is_transfer (decode_of word)) refl
+  case_copy_case out cased goes_there = by_word (λ straight. along_case straight out cased goes_there)
 
 -- each slot at a word
 pub copy_case : (g : Setting) (codes : ℕ → List ℕ) (is : IsKnown g) (p : Placement) (f : Frame) (base : ℕ)
@@ -520,11 +428,8 @@ pub copy_case : (g : Setting) (codes : ℕ → List ℕ) (is : IsKnown g) (p : P
     → IsOnItsWay g.text (graph_in g) node x (way_in g codes is p f x)
     → IsCase g (l g codes is p f) base p place f node x t
 copy_case g codes is p f base place tables node x t here slot at not way =
-    by_cases (IsCase g (l g codes is p f) base p place f node x t) (same_kind (way_in g codes is p f x) kinds.Out)
-    (has_cases g.switches node)
-    (λ caseless.
-    plain_copy_case g codes is p f base place tables node x t here slot at not way _ _
+    by_cases _ (same_kind (way_in g codes is p f x) kinds.Out) (has_cases g.switches node)
+    (λ caseless. plain_copy_case g codes is p f base place tables node x t here slot at not way _ _
     (plain_copy g codes is p f node x slot at way caseless) caseless refl)
-    (λ out cased.
-    case_copy_case g codes is p f base place tables node x t here slot at not way _ _
+    (λ out cased. case_copy_case g codes is p f base place tables node x t here slot at not way _ _
     (case_copy g codes is p f node x slot at way out cased) out cased (target g codes is p f node x way out cased).goes)

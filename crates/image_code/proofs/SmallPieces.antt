@@ -1,5 +1,5 @@
 -- Pieces by how large they are: what may be placed, and how many words it takes.
-use Rattle.std.proofs.Common.{◌≡◌, ℕ, zero, suc, ◌+◌, ◌<◌, ◌≤◌, true, false, cond, Some, List, [], ◌∷◌, ◌++◌, length, map, ap, sym, ◌∙◌, arith}
+use Rattle.std.proofs.Common.{◌≡◌, ℕ, zero, suc, ◌+◌, ◌<◌, ◌≤◌, true, false, cond, Some, List, [], ◌∷◌, ◌++◌, length, map, sym, ◌∙◌, arith}
 use Rattle.std.specs.Prelude.{if◌then◌else◌, slice_get, slice_index}
 use Rattle.std.proofs.lemmas.Bool.{false≢true}
 use Rattle.std.proofs.lemmas.List.Sums.{sum_by-cons}
@@ -41,26 +41,22 @@ abbrev pub ItemsLead : ℕ → List Item → Type 0
 ItemsLead count [] = Unit {0}
 ItemsLead count (x ∷ items) = LeadsBelow count (Some x) × ItemsLead count items
 
--- Items outside Marks, of which at most so many are a snippet's words.
-pub record IsTail (text : Words) (count most : ℕ) (items : List Item) : Type 0 where
-  pub few : length items ≤ 4 + most
-  pub words : piece_words items ≤ 4 + most
-  pub marks : marks_in items ≤ 0
-  pub marked : AreMarked false items
-  pub leads : ItemsLead count items
-  pub says : MarksSay text items
-
--- A whole piece of at most so many words, besides those of a snippet.
-pub record IsSmall (text : Words) (count base most : ℕ) (items : List Item) : Type 0 where
-  pub few : length items ≤ 21 + most
+-- At most so many items, words and Marks, besides the words of a snippet, of which there are at most so many.
+pub record IsSized (text : Words) (count long base marked_most most : ℕ) (items : List Item) : Type 0 where
+  pub few : length items ≤ long + most
   pub words : piece_words items ≤ base + most
-  pub marks : marks_in items ≤ 1
+  pub marks : marks_in items ≤ marked_most
   pub marked : AreMarked false items
   pub leads : ItemsLead count items
   pub says : MarksSay text items
 
-words_more : (x : Item) (rest : List Item) → piece_words (x ∷ rest) ≡ long_words x + piece_words rest
-words_more x rest = sum_by-cons long_words x rest
+-- items outside Marks
+abbrev pub IsTail : Words → ℕ → ℕ → List Item → Type 0
+IsTail text count = IsSized text count 4 4 0
+
+-- a whole piece
+abbrev pub IsSmall : Words → ℕ → ℕ → ℕ → List Item → Type 0
+IsSmall text count base = IsSized text count 21 base 1
 
 marks_more : (x : Item) (rest : List Item) → marks_in (x ∷ rest) ≡ (if is_mark x then 1 else 0) + marks_in rest
 marks_more x rest = sum_by-cons (λ (y : Item). cond (is_mark y) 1 0) x rest
@@ -91,7 +87,7 @@ module _ (text : Words) (count : ℕ) where
   tail_behind most [] rest t = search arith
   tail_behind most (w ∷ ws) rest t =
       let r = tail_behind most ws rest t in
-      let words = words_more (it.Word w) (map it.Word ws ++ rest) in
+      let words = sum_by-cons long_words (it.Word w) (map it.Word ws ++ rest) in
       let marks = marks_more (it.Word w) (map it.Word ws ++ rest) in
       search arith
 
@@ -104,27 +100,27 @@ module _ (text : Words) (count : ℕ) where
   pub small_tail : (most : ℕ) (items : List Item) → IsTail text count most items → IsSmall text count 8 most items
   small_tail most items t = search arith
 
-  pub small_more : (base most large other : ℕ) (items : List Item) → base ≤ large → most ≤ other
-      → IsSmall text count base most items → IsSmall text count large other items
-  small_more base most large other items m l s = search arith
+  pub small_more : (most other : ℕ) (items : List Item) → most ≤ other → IsSmall text count 8 most items
+      → IsSmall text count 8 other items
+  small_more most other items l s = search arith
 
   -- an image's piece is the largest
   pub small_wide : (most : ℕ) (items : List Item) → IsSmall text count 8 most items → IsSmall text count 19 most items
-  small_wide most items s = small_more 8 most 19 most items (omega arith) (omega arith) s
+  small_wide most items s = search arith
 
   pub small_plain : (most : ℕ) (address : Addr) (node word : ℕ) (rest : List Item) → IsTail text count most rest
       → SaysWord text address.0 (it.Word word ∷ it.EndMark ∷ rest)
       → IsSmall text count 8 most (plain_piece address node word rest)
   small_plain most address node word rest t says =
-      let words = words_more (it.Mark address node) (it.Word word ∷ it.EndMark ∷ rest) in
-      let more_words = words_more (it.Word word) (it.EndMark ∷ rest) in
-      let last_words = words_more it.EndMark rest in
+      let words = sum_by-cons long_words (it.Mark address node) (it.Word word ∷ it.EndMark ∷ rest) in
+      let more_words = sum_by-cons long_words (it.Word word) (it.EndMark ∷ rest) in
+      let last_words = sum_by-cons long_words it.EndMark rest in
       let marks = marks_more (it.Mark address node) (it.Word word ∷ it.EndMark ∷ rest) in
       let more_marks = marks_more (it.Word word) (it.EndMark ∷ rest) in
       let last_marks = marks_more it.EndMark rest in
       search arith
 
-  pub small_foreign : IsSmall text count 8 0 foreign_piece
+  pub small_foreign : IsSized text count 21 8 0 0 foreign_piece
   small_foreign = search arith
 
   pub small_branch : (address : Addr) (node c taken untaken : ℕ) → taken < count → untaken < count
@@ -164,16 +160,13 @@ at_same text word other e = within_is (length text.words) word other (sym (word_
 pub transfer_says : (text : Words) (word : ℕ) (items : List Item)
     → is_transfer (decode_of (slice_index text.words word)) ≡ true → SaysWord text (address_of text word) items
 transfer_says text word items t = record {
-  says = λ other e f.
-      let same = ap (λ n. is_transfer (decode_of (slice_index text.words n))) (at_same text word other e) in
-      absurd (false≢true (sym f ∙ sym same ∙ t));
+  says = λ other e f. absurd (false≢true (sym (rw (← (at_same text word other e)) at f) ∙ t));
 }
 
 pub word_says : (text : Words) (word : ℕ) (items : List Item)
     → SaysWord text (address_of text word) (it.Word (slice_index text.words word) ∷ items)
 word_says text word items = record {
-  says = λ other e f. ap (λ n. Some (it.Word (slice_index text.words n)))
-      (at_same text word other e);
+  says = λ other e f. rw (at_same text word other e);
 }
 
 pub any_says : (text : Words) (items : List Item) → MarksSay text items → (n : ℕ) (address : Addr) (node : ℕ)
@@ -183,7 +176,7 @@ pub any_says : (text : Words) (items : List Item) → MarksSay text items → (n
 any_says text [] says n address node e word at plain = absurd (cc)
 any_says text (it.Mark a m ∷ items) says zero address node e word at plain =
     let same : a ≡ address = cc in
-    says.0.says word (ap (λ (z : Addr). word_at text z.0) same ∙ at) plain
+    says.0.says word (rw same at) plain
 any_says text (x ∷ items) says zero address node e word at plain = absurd (cc)
 any_says text (it.Mark a m ∷ items) says (suc n) address node e word at plain =
     any_says text items says.1 n address node e word at plain

@@ -1,5 +1,5 @@
 -- What is known of a text, its graph and its open switches.
-use Rattle.std.proofs.Common.{◌≡◌, ℕ, ◌<◌, ◌≤◌, Bool, true, false, List, zero, suc, Some, refl, ap, sym, ◌∙◌, subst, arith, length, get_or}
+use Rattle.std.proofs.Common.{◌≡◌, ℕ, ◌<◌, ◌≤◌, Bool, List, Some, refl, ap, sym, ◌∙◌, subst, arith, length, get_or}
 use Rattle.std.specs.Prelude.{if◌then◌else◌, slice_get, slice_index, pos}
 use Rattle.std.specs.List.{Contains}
 use Rattle.eel_base.specs.CodeText.{Words, IsText}
@@ -25,12 +25,10 @@ use Rattle.image_code.proofs.Numbers.{words_are}
 use Rattle.image_code.proofs.Positions.{contains}
 
 slot_few : (t : Bool) → (if t then 1 else 0) ≤ 1
-slot_few true = omega arith
-slot_few false = omega arith
+slot_few t = grind arith
 
 positive : (n : ℕ) → (n ≡ 0 → ⊥) → 0 < n
-positive zero h = absurd (h refl)
-positive (suc n) h = omega arith
+positive n h = omega arith
 
 module _ (text : Words) (given : List ℕ) (entry : ℕ) (is_text : IsText text) (o : Open)
     (is : IsOpen text (entered_of text given) entry o) where

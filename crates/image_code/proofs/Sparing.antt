@@ -1,8 +1,8 @@
 -- Which stores are counted, and what is known of them.
-use Rattle.std.proofs.Common.{◌≡◌, ℕ, zero, suc, ◌+◌, ◌*◌, ◌%◌, ◌^◌, ◌<◌, ◌≤◌, ◌⊎◌, inl, inr, Bool, true, false, not, ◌&&◌, ◌||◌, Option, Some, None, List, [], ◌∷◌, ◌++◌, map, refl, ap, sym, ◌∙◌, arith}
+use Rattle.std.proofs.Common.{◌≡◌, ℕ, zero, suc, ◌+◌, ◌*◌, ◌%◌, ◌^◌, ◌<◌, ◌≤◌, ◌⊎◌, inl, inr, Bool, true, false, not, ◌&&◌, ◌||◌, Some, None, List, [], ◌∷◌, ◌++◌, map, refl, ap, sym, ◌∙◌, arith}
 use Rattle.std.specs.Prelude.{if◌then◌else◌, ◌==◌, nat_le, nat_lt, slice_index}
 use Rattle.std.specs.List.{list_any}
-use Rattle.std.specs.Option.{option_map}
+use Rattle.std.proofs.Math.Bool.{and-false}
 use Rattle.std.proofs.lemmas.Bool.Decides.{nat_tests}
 use Rattle.eel_base.specs.CodeText.{Words, word_at}
 use Rattle.notes.specs.Format.{Notes, NoteSegment, holds}
@@ -22,6 +22,7 @@ use Rattle.v8_step.specs.Traps.{mem_address_not_aligned}
 use Rattle.v8_step.specs.Transfers.{trapped}
 use Rattle.two_runs.specs.Visits.{in_pages, page_of, pages_of}
 use Rattle.cfg_walk.specs.Walk.{instr_at}
+use Rattle.line_words.proofs.Steps.{mapped}
 use Rattle.code_runs.specs.Counted.{any_of_word, one_if, stores_at}
 use Rattle.code_runs.specs.Ours.{IsIn}
 use Rattle.code_runs.specs.Page.{page_word}
@@ -50,17 +51,11 @@ out_of_pages notes a apart = held_by a notes.segments apart
 
 -- ---- bytes that aren't counted
 
-and_none : (b : Bool) → (b && false) ≡ false
-and_none true = refl
-and_none false = refl
-
 spill_out : (notes : Notes) (a : ℕ) → in_pages notes a ≡ false → is_spill notes a ≡ false
 spill_out notes a e = ap (λ (b : Bool). b && (not (is_cell notes a) && not (in_first_word a))) e
 
 spill_at_first : (notes : Notes) (a : ℕ) → in_first_word a ≡ true → is_spill notes a ≡ false
-spill_at_first notes a e =
-    ap (λ (b : Bool). in_pages notes a && (not (is_cell notes a) && not b)) e
-    ∙ ap (λ (b : Bool). in_pages notes a && b) (and_none (not (is_cell notes a))) ∙ and_none (in_pages notes a)
+spill_at_first notes a e = rw (e, and-false, and-false) refl
 
 -- word 0 of the page is no spill
 pub spill_first : (notes : Notes) → any_of_word (is_spill notes) (page_word 0) ≡ false
@@ -70,19 +65,15 @@ spill_first notes =
     (let e : (nat_le (page_word 0) a && nat_lt a (page_word 0 + 4)) ≡ true = grind (low, high, arith, nat_tests) in e))
 
 spill_in_cell : (notes : Notes) (a : ℕ) → is_cell notes a ≡ true → is_spill notes a ≡ false
-spill_in_cell notes a e =
-    ap (λ (b : Bool). in_pages notes a && (not b && not (in_first_word a))) e ∙ and_none (in_pages notes a)
+spill_in_cell notes a e = rw (e, and-false) refl
 
 -- nor is a cell
 pub spill_cell : (notes : Notes) (cell : ℕ) → cell < notes.cells
     → any_of_word (is_spill notes) (cell_at notes.base cell) ≡ false
 spill_cell notes cell within =
     uncounted_span (is_spill notes) (cell_at notes.base cell) 4 (λ a low high.
-    let from : notes.base ≤ a = omega (arith, low) in
-    let to : a < notes.base + 4 * notes.cells = omega (arith, within, high) in
     spill_in_cell notes a
-    (let e : (nat_le notes.base a && nat_lt a (notes.base + 4 * notes.cells)) ≡ true =
-    grind (from, to, arith, nat_tests) in e))
+    (let e : (nat_le notes.base a && nat_lt a (notes.base + 4 * notes.cells)) ≡ true = grind (arith, nat_tests) in e))
 
 -- word 0 of the page lies above each cell, and below what snippets keep
 first_above : (a : ℕ) → a < page_word 0 → in_first_word a ≡ false
@@ -168,12 +159,9 @@ module _ (notes : Notes) (own : IsIn (pages_of notes) (page_word 0)) (s : State)
 -- ---- the words of the text
 
 pub instr_is : (text : Words) (a word : ℕ) → word_of text a ≡ Some word → instr_at text a ≡ Some (decode_of word)
-instr_is text a word e = go (word_at text a) e
-  where
-    go : (o : Option ℕ) → option_map (λ n. slice_index text.words n) o ≡ Some word
-        → option_map (λ n. decode_of (slice_index text.words n)) o ≡ Some (decode_of word)
-    go None f = absurd (cc)
-    go (Some n) f = let same : slice_index text.words n ≡ word = cc in ap (λ z. Some (decode_of z)) same
+instr_is text a word e =
+    let found = mapped (λ n. slice_index text.words n) (word_at text a) word e in
+    rw (found.is, found.same) refl
 
 pub transfers : (text : Words) (a word : ℕ) → word_of text a ≡ Some word → is_transfer (decode_of word) ≡ true
     → is_transfer_at (instr_at text a) ≡ true
@@ -200,4 +188,4 @@ same_steps s k l end at_k at_l before_k before_l none = go (split_below k l) (sp
     go : (k < l) ⊎ (l ≤ k) → (l < k) ⊎ (k ≤ l) → k ≡ l
     go (inl less) d = absurd (never k l at_k before_l (λ e. (none e).1) less)
     go (inr more) (inl less) = absurd (never l k at_l before_k (λ e. (none e).0) less)
-    go (inr more) (inr less) = omega (arith, more, less)
+    go (inr more) (inr less) = omega arith

@@ -44,10 +44,10 @@ use Rattle.image_code.proofs.Marked.{StandMarked, stand_marked}
 
 -- the page's words are the editor's
 page_own : (g : Setting) (f : Frame) → IsFramed g f → (z : ℕ) → IsPageWord z → IsAmongWords f.own z
-page_own g f framed z (inl e) = subst (IsAmongWords f.own) (sym e) (framed.page 0 (omega arith))
-page_own g f framed z (inr (inl e)) = subst (IsAmongWords f.own) (sym e) (framed.page 1 (omega arith))
-page_own g f framed z (inr (inr (inl e))) = subst (IsAmongWords f.own) (sym e) (framed.page 2 (omega arith))
-page_own g f framed z (inr (inr (inr (inl e)))) = subst (IsAmongWords f.own) (sym e) (framed.page 7 (omega arith))
+page_own g f framed z (inl e) = rw e (framed.page 0 (omega arith))
+page_own g f framed z (inr (inl e)) = rw e (framed.page 1 (omega arith))
+page_own g f framed z (inr (inr (inl e))) = rw e (framed.page 2 (omega arith))
+page_own g f framed z (inr (inr (inr (inl e)))) = rw e (framed.page 7 (omega arith))
 page_own g f framed z (inr (inr (inr (inr e)))) = absurd e
 
 pub own_stored : (g : Setting) (f : Frame) → IsFramed g f → (m n : Memory) → Stores IsPageWord m n
@@ -139,11 +139,9 @@ module _ (g : Setting) (l : Pieces) (base : ℕ) (p : Placement) (place : ℕ �
       → LeadsTo l p way edges (word_at g.text v.pc) to
       → Arrives g l base p place f h (word_at g.text v.pc) edges (past t (length xs) m v) to 8
   on_along v m edges to w leads =
-      let a = at_words.at in
-      let b = stand.behind in
       let fit = past_fit v m w in
       let one = jump_on g l base p place f h (word_at g.text v.pc) k (suc (suc (length xs))) way stand.jump stand.shut
-      (past t (length xs) m v) fit (omega arith) in
+      (past t (length xs) m v) fit (omega (arith, stand.behind, at_words.at)) in
       on_then g l base p place f h edges [] edges refl (past t (length xs) m v) (slice_index p.at way.0) to 4 4 one
       (arrive g l base p place f h way edges (hopped one.other (slice_index p.at way.0) one.memory)
       (word_at g.text v.pc) to
@@ -157,38 +155,32 @@ module _ (g : Setting) (l : Pieces) (base : ℕ) (p : Placement) (place : ℕ �
       → Enters g (Entered g l base p f) (HasShortForms l.list place) edges node x t v
   unfolding On
   goes_through v m edges last some short w leads =
-      let rest = on_along v m edges (entered_at g l p f (node_after (graph_in g) node edges) (point_of v)) w leads in
-      let few = rest.few in
-      let path = leads_then On t (past t (length xs) m v)
-      (hopped rest.other (entered_at g l p f (node_after (graph_in g) node edges) (point_of v)) rest.memory)
-      (length xs) rest.count
+      let to = entered_at g l p f (node_after (graph_in g) node edges) (point_of v) in
+      let rest = on_along v m edges to w leads in
+      let path = leads_then On t (past t (length xs) m v) (hopped rest.other to rest.memory) (length xs) rest.count
       (leads_weaker _ On t (past t (length xs) m v) (length xs) (λ u q. inl q) w.path)
       (leads_weaker _ On (past t (length xs) m v) _ rest.count (λ u q. inr q) rest.path)
       (λ _ more. inr (rest.begins more)) in
-      let stores : Stores (IsAmongWords f.own) t.memory rest.memory =
-      stores_then (IsAmongWords f.own) (IsAmongWords f.own) t.memory m rest.memory (λ z e. e)
+      let stores = stores_then (IsAmongWords f.own) (IsAmongWords f.own) t.memory m rest.memory (λ z e. e)
       (own_stored g f h.frame t.memory m w.stores) rest.stores in
-      let still : memory_word rest.memory (page_word 1) ≡ memory_word m (page_word 1) = rest.waits in
       let lives : rest.other.ending ≡ None = rest.alike.ending ∙ w.live in
       record {
         on = record {
           count = length xs + rest.count;
-          after = hopped rest.other (entered_at g l p f (node_after (graph_in g) node edges) (point_of v)) rest.memory;
+          after = hopped rest.other to rest.memory;
           path = record {
             steps = path.steps;
             some = omega arith;
-            few = omega (arith, few, short);
+            few = omega (arith, rest.few, short);
             quiet = quiet_of g l base p place f h t _ (length xs + rest.count) On path lives on_way;
           };
           puts = λ descriptor.
               silent_then t (past t (length xs) m v) (length xs) rest.count w.path.steps w.silent rest.silent descriptor
               ∙ sym (w.quiet descriptor);
-          followed = followed_alike g edges v (past t (length xs) m v) (hopped rest.other (entered_at g l p f
-              (node_after (graph_in g) node edges) (point_of v)) rest.memory) refl
+          followed = followed_alike g edges v (past t (length xs) m v) (hopped rest.other to rest.memory) refl
               (subst (λ (z : Memory). IsSameOutside (pages_of g.notes) z rest.memory) (sym w.memory)
               (same_stored g f h.frame base p t.memory rest.memory here.memory stores))
-              (alike_hopped g edges (past t (length xs) m v) rest.other (entered_at g l p f
-              (node_after (graph_in g) node edges) (point_of v)) rest.memory rest.alike);
+              (alike_hopped g edges (past t (length xs) m v) rest.other to rest.memory rest.alike);
           cells = rest.cells last
               ∙ updates_same g.snips edges (words_at g.notes.base g.notes.cells m) (past t (length xs) m v) v refl
               ∙ ap (λ z. updates g.snips edges z v) (page_cells m w.stores);
@@ -199,14 +191,13 @@ module _ (g : Setting) (l : Pieces) (base : ℕ) (p : Placement) (place : ℕ �
             npc = refl;
             slot = refl;
             memory = images_stored g f h.frame base p t _ (length xs + rest.count) path.steps stores here.memory;
-            waits = λ a b _. let z = w.waits a b in (still ∙ z.0, z.1, λ there. rest.found there ∙ z.2 there);
+            waits = λ a b _. let z = w.waits a b in (rest.waits ∙ z.0, z.1, λ there. rest.found there ∙ z.2 there);
           };
           place = λ e. absurd (e w.live);
           sparing = λ watched.
               let none = w.stored watched.jump (is_spill g.notes) in
               let more = rest.spares watched.inside in
               let both = count_add (is_spill g.notes) t (past t (length xs) m v) (length xs) w.path.steps rest.count in
-              let moves = w.transfer in
               record {
                 spills = omega (arith, none, more, both);
                 first = λ forms.

@@ -72,12 +72,8 @@ module _ (g : Setting) (l : Pieces) (base : ℕ) (p : Placement) (place : ℕ �
 
   b_ready : CanRun base p.code t
   b_ready =
-      let s = b_size in
-      let b = (h.laid.within piece 1 c.within (omega arith)).ends in
-      let low = h.laid.low in
-      let a = b_at in
-      let n = here.npc in
-      can_run g l base p place f h t here.valid here.live (omega arith) here.slot here.memory
+      let b = (h.laid.within piece 1 c.within (omega (arith, b_size))).ends in
+      can_run g l base p place f h t here.valid here.live (omega (arith, b_at, b_size)) here.slot here.memory
 
   hop : Goes t (if holds_of c.cond t.codes then slice_index p.at c.taken else place piece 2) (place piece 2) 1 6 2
   hop =
@@ -120,10 +116,8 @@ module _ (g : Setting) (l : Pieces) (base : ℕ) (p : Placement) (place : ℕ �
       let a = b_at in
       let n0 = b_inside.0 in
       let n2 = b_inside.2 in
-      let z0 = z.0 in
-      let z1 = z.1 in
-      on_range g l base p place f h t u range live (omega arith) z0 (omega arith)
-      (b_range t.pc (omega arith) (omega arith)) (b_range u.pc (omega arith) z1) (sym a)
+      on_range g l base p place f h t u range live (omega arith) z.0 (omega arith)
+      (b_range t.pc (omega arith) (omega arith)) (b_range u.pc (omega arith) z.1) (sym b_at)
       (first_kept g l base p place f h t u.memory here_fit z.2).1.1
   on_way u live (inr z) = bare_on g l base p place f h t u live z
 
@@ -152,7 +146,6 @@ module _ (g : Setting) (l : Pieces) (base : ℕ) (p : Placement) (place : ℕ �
   of_hop : (to : ℕ) → (j : Goes t to (place piece 2) 1 6 2) → Leads IsOn t (hopped t to j.memory) j.count
   unfolding IsOn
   of_hop to j =
-      let ins = j.inside in
       leads_weaker _ _ t _ j.count
       (λ u q. let b = q.past in let d = q.before in inl (omega arith, omega arith, q.stores)) j.hops.path
 
@@ -168,9 +161,6 @@ module _ (g : Setting) (l : Pieces) (base : ℕ) (p : Placement) (place : ℕ �
   unfolding IsOn
   then_on next edges mid to k rest =
       let kept = first_kept g l base p place f h t k.memory here_fit k.hops.stores in
-      let some = k.some in
-      let few = k.few in
-      let rfew = rest.few in
       record {
         count = k.count + rest.count;
         other = rest.other;
@@ -208,21 +198,17 @@ module _ (g : Setting) (l : Pieces) (base : ℕ) (p : Placement) (place : ℕ �
       (arrive g l base p place f h (record { 0 = c.taken }) edges (hopped t (slice_index p.at c.taken) j.memory) next to
       (of_hop_fit (slice_index p.at c.taken) (h.laid.aligned c.taken).1 j) refl leads))
   comes edges next to false j leads =
-      let low = h.laid.low in
-      let n2 = b_inside.2 in
       then_on next edges (place piece 2) to j
       (jump_then g l base p place f h piece 3 (record { 0 = c.untaken })
       (rest_marked l piece c.address (number_in g node) (it.Branch c.cond (record { 0 = c.taken }))
       (it.Jump (record { 0 = c.untaken }) ∷ []) (tt, tt) c.items) edges (hopped t (place piece 2) j.memory) next to
-      (of_hop_fit (place piece 2) (omega arith) j) (sym b_closes) leads)
+      (of_hop_fit (place piece 2) (omega (arith, b_inside.2)) j) (sym b_closes) leads)
 
   turned : (edges : List ℕ) → LastDead g edges → (to : ℕ) (v : State) → IsMoved (at_point x t) v
       → Comes (word_at g.text v.pc) edges to → to ≡ entered_at g l p f (node_after (graph_in g) node edges) (point_of v)
       → (v.slot ≡ Taken → same_kind (way_of (instr_at g.text (v.pc - 4)) v.slot) kinds.Out ≡ true → ⊥)
       → Enters g (Entered g l base p f) (HasShortForms l.list place) edges node x t v
   turned edges last to v m j is never =
-      let few = j.few in
-      let stores = j.stores in
       let same : v ≡ moved m.pc m.npc m.slot t = m.is in
       let lives : j.other.ending ≡ None = j.alike.ending ∙ here.live in
       record {
@@ -232,7 +218,7 @@ module _ (g : Setting) (l : Pieces) (base : ℕ) (p : Placement) (place : ℕ �
           path = record {
             steps = j.path.steps;
             some = j.some;
-            few = omega (arith, few);
+            few = omega (arith, j.few);
             quiet = quiet_of g l base p place f h t _ j.count IsOn j.path lives on_way;
           };
           puts = λ descriptor. j.silent descriptor
@@ -241,7 +227,7 @@ module _ (g : Setting) (l : Pieces) (base : ℕ) (p : Placement) (place : ℕ �
               ∙ no_puts (at_point x t) c.cond c.annul c.disp descriptor);
           followed = followed_alike g edges v t (hopped j.other to j.memory)
               (ap (λ (z : State). hopped z 0 j.memory) same)
-              (rw same (same_stored g f h.frame base p t.memory j.memory here.memory stores))
+              (rw same (same_stored g f h.frame base p t.memory j.memory here.memory j.stores))
               (alike_hopped g edges t j.other to j.memory j.alike);
           cells = j.cells last
               ∙ updates_same g.snips edges (cells_in g t) t v (sym (ap (λ (z : State). register_of z) same));
@@ -252,7 +238,7 @@ module _ (g : Setting) (l : Pieces) (base : ℕ) (p : Placement) (place : ℕ �
             npc = refl;
             slot = refl;
             memory = images_stored g f h.frame base p t
-                (hopped j.other to j.memory) j.count j.path.steps stores here.memory;
+                (hopped j.other to j.memory) j.count j.path.steps j.stores here.memory;
             waits = λ a b _. absurd (never a b);
           };
           place = λ e. absurd (e (ap (λ (z : State). z.ending) same ∙ here.live));

@@ -1,9 +1,9 @@
 -- Where the points of a text are visited, and what stands there.
-use Rattle.std.proofs.Common.{◌≡◌, ◌≢◌, ℕ, ◌+◌, ◌-◌, ◌<◌, inl, inr, Bool, true, false, Option, Some, None, List, [], ◌∷◌, ◌||◌, suc, length, refl, ap, sym, ◌∙◌, subst, arith}
+use Rattle.std.proofs.Common.{◌≡◌, ◌≢◌, ℕ, ◌+◌, ◌-◌, ◌<◌, inl, inr, Bool, true, false, Option, Some, None, List, [], ◌∷◌, suc, length, refl, ap, sym, ◌∙◌, subst, arith}
 use Rattle.std.specs.Prelude.{◌==◌, if◌then◌else◌, slice_get, slice_index}
 use Rattle.std.specs.List.{list_any}
 use Rattle.std.specs.Option.{option_map}
-use Rattle.std.proofs.lemmas.Bool.{eqb-true, false≢true, lt-ltb}
+use Rattle.std.proofs.lemmas.Bool.{cond_both, eqb-true, false≢true, lt-ltb, or_cases}
 use Rattle.std.proofs.lemmas.List.Folds.{list_any-append}
 use Rattle.eel_base.specs.CodeText.{address_of, word_at}
 use Rattle.v8_decode.specs.declared.Instr.{Instr}
@@ -23,7 +23,7 @@ use Rattle.cfg_normal.specs.declared.Slot.TheVariants as carried
 use Rattle.cfg_normal.specs.Nodes.{home_of}
 use Rattle.cfg_normal.specs.Opens.{Open, targets_in}
 use Rattle.cfg_normal.specs.Graph.{IsNodeIn, IsSlotIn, has_cases, lands, node_of}
-use Rattle.cfg_walk.specs.Walk.{Point, WayOut, by_kind, completed, edge_along, instr_at, left_by, point_of, same_kind, slot_left, way_of, way_to}
+use Rattle.cfg_walk.specs.Walk.{Point, WayOut, by_kind, edge_along, instr_at, left_by, same_kind, slot_left, way_of, way_to}
 use Rattle.cfg_walk.specs.Matches.{IsCarried, IsOnItsWay, IsTarget, MatchesBy}
 use Rattle.cfg_walk.proofs.Addresses.{word_at-address}
 use Rattle.cfg_walk.proofs.Edges.{block}
@@ -62,37 +62,17 @@ among_targets : (opens : List Open) (block word : ℕ) → list_any (λ x. x == 
     → IsAmongTargets opens block word
 among_targets [] block word any = absurd (false≢true any)
 among_targets (o ∷ opens) block word any =
-    by (o.block == block) refl
-    (sym (list_any-append (λ x. x == word) (if o.block == block then o.targets else []) (targets_in opens block)) ∙ any)
-    (among_targets opens block word)
-  where
-    later : IsAmongTargets opens block word → IsAmongTargets (o ∷ opens) block word
-    later rest = record {
-      number = suc rest.number;
-      o = rest.o;
-      is = rest.is;
-      itself = rest.itself;
-      entry = rest.entry;
-      at = rest.at;
-    }
-
-    first : o.block ≡ block → (t : Bool) → list_any (λ x. x == word) o.targets ≡ t
-        → (t || list_any (λ x. x == word) (targets_in opens block)) ≡ true
-        → (list_any (λ x. x == word) (targets_in opens block) ≡ true → IsAmongTargets opens block word)
-        → IsAmongTargets (o ∷ opens) block word
-    first same true e any next =
-        let found = among_words o.targets word e in
-        record { number = 0; o = o; is = refl; itself = same; entry = found.0; at = found.1 }
-    first same false e any next = later (next any)
-
-    by : (t : Bool) → (o.block == block) ≡ t
-        → (list_any (λ x. x == word) (if t then o.targets else []) || list_any (λ x. x == word)
-        (targets_in opens block)) ≡ true
-        → (list_any (λ x. x == word) (targets_in opens block) ≡ true → IsAmongTargets opens block word)
-        → IsAmongTargets (o ∷ opens) block word
-    by true e any next =
-        first (eqb-true o.block block e) (list_any (λ x. x == word) o.targets) refl any next
-    by false e any next = later (next any)
+    elim (or_cases _ _ (sym (list_any-append _ (if o.block == block then o.targets else []) _) ∙ any)) [
+      | inl here ↦ cond_both (o.block == block) o.targets []
+          (λ ts. list_any (λ x. x == word) ts ≡ true → IsAmongTargets (o ∷ opens) block word)
+          (λ same e.
+          let found = among_words o.targets word e in
+          record { number = 0; o = o; is = refl; itself = eqb-true o.block block same; entry = found.0; at = found.1 })
+          (λ _ e. absurd (false≢true e)) here
+      | inr rest ↦
+          let r = among_targets opens block word rest in
+          record { number = suc r.number; o = r.o; is = r.is; itself = r.itself; entry = r.entry; at = r.at }
+    ]
 
 module _ (g : Setting) where
   pub word_is : (x : Point) (word : ℕ) → word_at g.text x.pc ≡ Some word
@@ -103,11 +83,7 @@ module _ (g : Setting) where
 
   pub nothing_gone : (node : Node) (x : Point) (v : State) → x.slot ≡ NoSlot → v.slot ≢ NoSlot → v.ending ≡ None
       → gone_at g node x v ≡ []
-  nothing_gone node x v none slot live = rw (live, none) (still v.slot slot)
-    where
-      still : (s : Slot) → s ≢ NoSlot → completed g.text (graph_in g) node x (point_of v) NoSlot s ≡ []
-      still NoSlot n = absurd (n refl)
-      still _ n = refl
+  nothing_gone node x v none slot live = rw (live, none) (grind arith)
 
   -- a step from one word to another, outside slots, completes the edge that it leaves along
   pub left_gone : (node : Node) (x : Point) (v : State) → x.slot ≡ NoSlot → v.slot ≡ NoSlot → v.ending ≡ None
@@ -119,12 +95,7 @@ module _ (g : Setting) where
   -- one from a slot completes the edge of the transfer before, and after a jump a landing
   pub slot_gone : (node : Node) (x : Point) (v : State) → x.slot ≢ NoSlot → v.slot ≡ NoSlot → v.ending ≡ None
       → gone_at g node x v ≡ slot_left g.text (graph_in g) node (way_of (instr_at g.text (x.pc - 4)) x.slot) v.pc
-  slot_gone node x v slot after live = rw (live, after) (by x.slot slot)
-    where
-      by : (s : Slot) → s ≢ NoSlot → completed g.text (graph_in g) node x (point_of v) s NoSlot
-          ≡ slot_left g.text (graph_in g) node (way_of (instr_at g.text (x.pc - 4)) s) v.pc
-      by NoSlot n = absurd (n refl)
-      by _ n = refl
+  slot_gone node x v slot after live = rw (live, after) (grind arith)
 
 module _ (g : Setting) (codes : ℕ → List ℕ) (is : IsKnown g) (p : Placement) (f : Frame) where
   abbrev b : Blocks
@@ -148,20 +119,11 @@ module _ (g : Setting) (codes : ℕ → List ℕ) (is : IsKnown g) (p : Placemen
 
     placed_slot : (node : Node) (x : Point) (word : ℕ) → word_at g.text x.pc ≡ Some word → x.slot ≢ NoSlot
         → placed_at node x ≡ slice_index p.at (slot_piece g l node x)
-    placed_slot node x word e n = ap (λ (o : Option ℕ). place_by image g l p f node x o x.slot) e ∙ by x.slot n
-      where
-        by : (s : Slot) → s ≢ NoSlot → place_by image g l p f node x (Some word) s ≡ slice_index p.at
-            (slot_piece g l node x)
-        by NoSlot n = absurd (n refl)
-        by _ n = refl
+    placed_slot node x word e n = rw e (grind arith)
 
     placed_off : (node : Node) (x : Point) → word_at g.text x.pc ≡ None → x.slot ≢ NoSlot
         → placed_at node x ≡ f.table.base
-    placed_off node x e n = ap (λ (o : Option ℕ). place_by image g l p f node x o x.slot) e ∙ by x.slot n
-      where
-        by : (s : Slot) → s ≢ NoSlot → place_by image g l p f node x None s ≡ f.table.base
-        by NoSlot n = absurd (n refl)
-        by _ n = refl
+    placed_off node x e n = rw e (grind arith)
 
   pub visited_word : (node : Node) (x : Point) (word : ℕ) → word_at g.text x.pc ≡ Some word → x.slot ≡ NoSlot
       → visited_at g l p f node x ≡ slice_index p.at (image_number g.text (graph_in g) node word)
@@ -392,10 +354,7 @@ module _ (g : Setting) (codes : ℕ → List ℕ) (is : IsKnown g) (p : Placemen
   -- ---- into a slot
 
   pub table_far : IsTable f.table → IsFar f.table.base
-  table_far whole =
-      let a = whole.aligned in
-      let h = whole.below in
-      (omega arith, omega arith)
+  table_far whole = (omega arith, omega arith)
 
   -- the way of the edge on which a slot is run leads to where that is visited
   pub enters : IsTable f.table → (node : Node) (x : Point) → x.slot ≢ NoSlot
