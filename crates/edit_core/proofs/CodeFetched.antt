@@ -1,9 +1,9 @@
 -- The code of a written file is fetched before its first step.
-use Rattle.std.proofs.Common.{◌≡◌, ℕ, ◌+◌, ◌-◌, ◌*◌, ◌<◌, ◌≤◌, ◌⊎◌, inl, inr, Bool, true, false, not, ◌&&◌, ◌||◌, cond, nat_eq, List, [], ◌∷◌, ◌++◌, length, drop, map, replicate, slice_index, Some, None, refl, sym, ap, ◌∙◌, arith}
-use Rattle.std.specs.List.{filter, list_any}
+use Rattle.std.proofs.Common.{◌≡◌, ℕ, ◌+◌, ◌-◌, ◌*◌, ◌<◌, ◌≤◌, ◌⊎◌, inl, inr, false, nat_eq, List, [], ◌∷◌, ◌++◌, length, drop, map, replicate, slice_index, Some, None, refl, ap, ◌∙◌, arith}
+use Rattle.std.specs.List.{list_any}
 use Rattle.std.specs.Int.Bits.{and_zero_r}
 use Rattle.std.proofs.lemmas.Nat.{and_assoc}
-use Rattle.std.proofs.lemmas.Bool.{and_left, or_from}
+use Rattle.std.proofs.lemmas.Bool.{cases_Bool}
 use Rattle.std.proofs.lemmas.Bool.Decides.{nat_tests}
 use Rattle.std.proofs.lemmas.List.{append-nil, append_assoc}
 use Rattle.std.proofs.lemmas.List.Folds.{list_any-append}
@@ -39,20 +39,14 @@ not_executable-flag : (flags : ℕ) → has_flag 1 (not_executable flags) ≡ fa
 not_executable-flag flags = ap (λ (n : ℕ). nat_eq n 1) (and_assoc 1 flags 0xfffffffe ∙ and_zero_r flags)
 
 kept-no_code : (m : Mapping) → regions.is_code (region_of (kept m)) ≡ false
-kept-no_code m = go (is_code m) refl
-  where
-    go : (code : Bool) → is_code m ≡ code → (has_flag 1 (cond code (not_executable m.flags) m.flags)
-        && not (has_flag 2 (cond code (not_executable m.flags) m.flags))) ≡ false
-    go true is =
-        and_left (has_flag 1 (not_executable m.flags)) (not (has_flag 2 (not_executable m.flags)))
-        (not_executable-flag m.flags)
-    go false is = is
+kept-no_code m = elim (cases_Bool (is_code m)) [
+  | inl is ↦ rw (is, not_executable-flag m.flags) refl
+  | inr is ↦ rw is is
+]
 
 none_kept : (ms : List Mapping) → list_any (λ m. regions.is_code (region_of m)) (map kept ms) ≡ false
 none_kept [] = refl
-none_kept (m ∷ ms) =
-    or_from (regions.is_code (region_of (kept m)))
-    (list_any (λ z. regions.is_code (region_of z)) (map kept ms)) (kept-no_code m) (none_kept ms)
+none_kept (m ∷ ms) = rw (kept-no_code m, none_kept ms) refl
 
 -- ---- the code
 
@@ -82,22 +76,14 @@ module _ (original : List ℕ) (plan : Plan) (p : Placement) (place : ℕ → �
 
   none_before : list_any (λ m. regions.is_code (region_of m)) before ≡ false
   none_before =
-      list_any-append (λ m. regions.is_code (region_of m)) (map kept (mappings original)) front
-      ∙ ap (λ (b : Bool). b || list_any (λ m. regions.is_code (region_of m)) front) (none_kept (mappings original))
-      ∙ list_any-append (λ m. regions.is_code (region_of m)) (if_any plan.cells cells) (mapping_added (table_at table) ∷ [])
-      ∙ ap (λ (b : Bool). b || false)
-      (any_fails (λ (m : Mapping). regions.is_code (region_of m)) plan.cells cells (λ some. refl))
+      simp (
+        list_any-append,
+        none_kept (mappings original),
+        any_fails (λ (m : Mapping). regions.is_code (region_of m)) plan.cells cells (λ some. refl),
+      )
 
   mapped : mappings file ≡ before ++ mapping_added (code_segment original plan p) ∷ mapping_added page_segment ∷ []
-  mapped =
-      is.mapped
-      ∙ ap (λ (ms : List Mapping). map kept (mappings original) ++ ms)
-      (any-map mapping_added plan.cells (cells_at (cells_base original plan) plan.cells)
-      (table_at table ∷ code_segment original plan p ∷ page_segment ∷ [])
-      ∙ sym (append_assoc (if_any plan.cells cells) (mapping_added (table_at table) ∷ [])
-      (mapping_added (code_segment original plan p) ∷ mapping_added page_segment ∷ [])))
-      ∙ sym (append_assoc (map kept (mappings original)) front
-      (mapping_added (code_segment original plan p) ∷ mapping_added page_segment ∷ []))
+  mapped = simp (is.mapped, any-map, append_assoc)
 
   first_code : IsFirstCode file (mapping_added (code_segment original plan p))
   first_code = record {
@@ -126,9 +112,8 @@ module _ (original : List ℕ) (plan : Plan) (p : Placement) (place : ℕ → �
 
   code_is : code_of (start_memory file texts) ≡ region_of (mapping_added (code_segment original plan p)) ∷ []
   code_is =
-      ap (λ (ms : List Mapping). filter regions.is_code (map region_of ms ++ stack_region texts ∷ [])) mapped
-      ∙ code-from before (mapping_added page_segment ∷ []) (stack_region texts ∷ [])
-      (mapping_added (code_segment original plan p)) none_before refl
+      rw mapped (code-from before (mapping_added page_segment ∷ []) (stack_region texts ∷ [])
+      (mapping_added (code_segment original plan p)) none_before refl)
 
   -- and nothing else is
   pub only_code : (a : ℕ) → IsBeside (code_base original plan) p.code a → fetch_from (code_of (start_memory file texts)) a

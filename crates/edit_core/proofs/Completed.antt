@@ -136,8 +136,7 @@ module _ (graph : Graph) where
   completes : (text : Words) (node : Node) (before after : Point) (was now : Slot)
       → Completes graph (completed text graph node before after was now)
   completes text node before after NoSlot NoSlot = left_one text node (word_at text before.pc)
-  completes text node before after Taken NoSlot = out_of_slot text node (way_of (instr_at text (before.pc - 4)) Taken) after.pc
-  completes text node before after Untaken NoSlot = out_of_slot text node (way_of (instr_at text (before.pc - 4)) Untaken) after.pc
+  completes text node before after was NoSlot = out_of_slot text node (way_of (instr_at text (before.pc - 4)) was) after.pc
   completes text node before after _ _ = none
 
   pub gone_completes : (text : Words) (node : Node) (before : Point) (after : Option Point)

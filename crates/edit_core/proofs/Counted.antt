@@ -1,5 +1,5 @@
 -- There are no more ranges than Marks, wherever pieces are laid.
-use Rattle.std.proofs.Common.{◌≡◌, ℕ, zero, suc, ◌+◌, ◌*◌, ◌<◌, ◌≤◌, Bool, true, false, ◌&&◌, cond, nat_le, nat_lt, List, [], ◌∷◌, length, Some, refl, ap, sym, ◌∙◌, arith}
+use Rattle.std.proofs.Common.{◌≡◌, ℕ, zero, suc, ◌+◌, ◌*◌, ◌<◌, ◌≤◌, Bool, true, ◌&&◌, cond, nat_le, nat_lt, List, [], ◌∷◌, length, Some, refl, ap, sym, ◌∙◌, arith}
 use Rattle.std.specs.Prelude.{slice_get}
 use Rattle.std.specs.List.{sum_by}
 use Rattle.std.proofs.lemmas.Bool.{and_from, le-leb, lt-ltb}
@@ -31,19 +31,7 @@ all_marked place (items ∷ pieces) k from to = marked (place k) items 0 from to
 
 one_split : (b : Bool) (a from mid to : ℕ) → from ≤ mid → mid ≤ to
     → one (b && between a from mid) + one (b && between a mid to) ≤ one (b && between a from to)
-one_split false a from mid to l m = omega arith
-one_split true a from mid to l m = by (nat_le from a) (nat_lt a mid) (nat_le mid a) (nat_lt a to) refl refl refl refl
-  where
-    by : (w x y z : Bool) → nat_le from a ≡ w → nat_lt a mid ≡ x → nat_le mid a ≡ y → nat_lt a to ≡ z
-        → one (w && x) + one (y && z) ≤ one (w && z)
-    by true true true z e f g h = absurd (grind (arith, nat_tests))
-    by true true false true e f g h = omega arith
-    by true true false false e f g h = absurd (grind (arith, nat_tests))
-    by true false true true e f g h = omega arith
-    by true false true false e f g h = omega arith
-    by true false false z e f g h = omega arith
-    by false x true z e f g h = absurd (grind (arith, nat_tests))
-    by false x false z e f g h = omega arith
+one_split b a from mid to l m = grind (arith, nat_tests)
 
 split : (place : ℕ → ℕ) (xs : List Item) (n from mid to : ℕ) → from ≤ mid → mid ≤ to
     → marked place xs n from mid + marked place xs n mid to ≤ marked place xs n from to
@@ -91,9 +79,7 @@ some_marked place (items ∷ pieces) (suc j) k m n from to x e mark at l h =
 -- ---- all Marks
 
 one_few : (b c : Bool) → one (b && c) ≤ one b
-one_few true true = omega arith
-one_few true false = omega arith
-one_few false c = omega arith
+one_few b c = grind arith
 
 few : (place : ℕ → ℕ) (xs : List Item) (n from to : ℕ) → marked place xs n from to ≤ marks_in xs
 unfolding marked

@@ -22,23 +22,11 @@ use Rattle.edit_core.specs.Taken.{case_key, count_of, entries_with, is_entry, sa
 count_same : (p q : ℕ → Bool) (xs : List ℕ) → ((x : ℕ) → p x ≡ q x) → count_by p xs ≡ count_by q xs
 count_same p q [] h = refl
 count_same p q (x ∷ xs) h =
-    omega (
-      arith,
-      sum_by-cons (λ y. cond (p y) 1 0) x xs,
-      sum_by-cons (λ y. cond (q y) 1 0) x xs,
-      ap {B = ℕ} (λ (t : Bool). cond t 1 0) (h x),
-      count_same p q xs h,
-    )
+    rw (sum_by-cons (λ y. cond (p y) 1 0) x xs, sum_by-cons (λ y. cond (q y) 1 0) x xs, h x, count_same p q xs h) refl
 
 count_none : (p : ℕ → Bool) (xs : List ℕ) → ((x : ℕ) → p x ≡ false) → count_by p xs ≡ 0
 count_none p [] h = refl
-count_none p (x ∷ xs) h =
-    omega (
-      arith,
-      sum_by-cons (λ y. cond (p y) 1 0) x xs,
-      ap {B = ℕ} (λ (t : Bool). cond t 1 0) (h x),
-      count_none p xs h,
-    )
+count_none p (x ∷ xs) h = simp (sum_by-cons, h x, count_none p xs h)
 
 -- one more
 pub range_more : (p : ℕ → Bool) (from n : ℕ)

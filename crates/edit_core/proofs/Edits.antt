@@ -108,13 +108,12 @@ can_write original count z t s w notes sound limit before three few = record {
   small = let sum = sum_few count z t s w _ before three in omega (arith, sum, limit, few);
 }
   where
+    rest : (from : ℕ) → from ≤ t.vaddr → Ascend from (t ∷ s ∷ w ∷ [])
+    rest from under = (under, (omega arith, (omega arith, omega arith)))
+
     above : (n : ℕ) → Ascend (highest_end (image_of original).segments) (if_any n z ++ t ∷ s ∷ w ∷ [])
-    above n = by n (λ from under. (under, (omega arith, (omega arith, omega arith))))
-      where
-        by : (n : ℕ) → ((from : ℕ) → from ≤ t.vaddr → Ascend from (t ∷ s ∷ w ∷ []))
-            → Ascend (highest_end (image_of original).segments) (if_any n z ++ t ∷ s ∷ w ∷ [])
-        by zero rest = rest _ three.above
-        by (suc k) rest = (before.front, rest _ before.behind)
+    above zero = rest _ three.above
+    above (suc k) = (before.front, rest _ before.behind)
 
 are_numbers : (original : List ℕ) (count : ℕ) (z t s w : AddedSegment) (entry end : ℕ) → AreBefore count end z t
     → AreThree end t s w → AreBytes original
@@ -161,10 +160,7 @@ held_few b word some = let c = count_by-le-length (λ first. nat_le first word) 
 -- ---- an edit
 
 tool_few : (kind : ToolKind) → tool_number kind ≤ 3
-tool_few tools.Plain = omega arith
-tool_few tools.Profile = omega arith
-tool_few tools.Script = omega arith
-tool_few tools.Trace = omega arith
+tool_few kind = grind arith
 
 module _ (original : List ℕ) (plan : Plan) (limit : length original ≤ 2 ^ 26) (can : CanEdit original plan)
     (work : CanDo original plan) (p : Placement) (place : ℕ → ℕ → ℕ) (table : TableAt)
@@ -209,13 +205,15 @@ module _ (original : List ℕ) (plan : Plan) (limit : length original ≤ 2 ^ 26
   -- the code needs no more than the room
   code_room : 4 * length p.code ≤ (image_of original).room
   code_room =
-      let long = code.size in
-      let bytes = fit.bytes in
-      let made = operations_few graph plan.kind plan.cells plan.snips work in
-      let bound = bound_is original plan in
-      let room = can.room in
-      let some = text_is.some in
-      omega arith
+      omega (
+        arith,
+        code.size,
+        fit.bytes,
+        operations_few graph plan.kind plan.cells plan.snips work,
+        bound_is original plan,
+        can.room,
+        text_is.some,
+      )
 
   before : AreBefore plan.cells (highest_end (image_of original).segments) cells (table_at table)
   before =
@@ -339,9 +337,12 @@ module _ (original : List ℕ) (plan : Plan) (limit : length original ≤ 2 ^ 26
 
     pub small_file : length (edit_file original plan p table) ≤ 1536 * 2 ^ 20
     small_file =
-        let size = size_is_bounded original segments entry_at (notes_bytes notes) can_be_written numbers in
-        let sum = sum_few plan.cells cells (table_at table) its_code page_segment _ before three in
-        omega (arith, notes_few, size, sum)
+        omega (
+          arith,
+          notes_few,
+          size_is_bounded original segments entry_at (notes_bytes notes) can_be_written numbers,
+          sum_few plan.cells cells (table_at table) its_code page_segment _ before three,
+        )
 
     pub is_edit : IsEdit original plan p place table (edit_file original plan p table)
     is_edit =

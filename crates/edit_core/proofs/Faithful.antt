@@ -113,21 +113,14 @@ module _ (original : List ℕ) (plan : Plan) (p : Placement) (place : ℕ → �
   room_pages = if_any plan.cells (mapping_added cells) ++ mapping_added (table_at table) ∷ mapping_added its_code ∷ []
 
   pages_mapped : map mapping_added (added original plan p table) ≡ room_pages ++ mapping_added page_segment ∷ []
-  pages_mapped =
-      any-map mapping_added plan.cells cells (table_at table ∷ its_code ∷ page_segment ∷ [])
-      ∙ sym (append_assoc (if_any plan.cells (mapping_added cells))
-      (mapping_added (table_at table) ∷ mapping_added its_code ∷ []) (mapping_added page_segment ∷ []))
+  pages_mapped = rw (any-map mapping_added plan.cells cells, append_assoc) refl
 
   pages_noted : map note_of (room_pages ++ mapping_added page_segment ∷ []) ≡ notes.segments
   pages_noted =
       let base = is.code.base in
       let long = size_is in
-      ap (map note_of) (append_assoc (if_any plan.cells (mapping_added cells))
-      (mapping_added (table_at table) ∷ mapping_added its_code ∷ []) (mapping_added page_segment ∷ []))
-      ∙ any-map note_of plan.cells (mapping_added cells)
-      (mapping_added (table_at table) ∷ mapping_added its_code ∷ mapping_added page_segment ∷ [])
-      ∙ ap (λ (segments : List NoteSegment). if_any plan.cells (note_of (mapping_added cells)) ++ segments)
-      (cc (base, long))
+      rw (append_assoc, any-map note_of plan.cells (mapping_added cells))
+      (ap (λ (segments : List NoteSegment). if_any plan.cells (note_of (mapping_added cells)) ++ segments) (cc (base, long)))
 
   has_pages : AreFit text graph plan.snips (pieces_of original plan is.code.dead) → HasPages original plan file notes
   has_pages fit =

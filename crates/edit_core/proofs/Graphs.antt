@@ -1,8 +1,8 @@
 -- The graph of an original, with its open switches.
-use Rattle.std.proofs.Common.{◌≡◌, ℕ, suc, ◌+◌, ◌-◌, ◌*◌, ◌<◌, ◌≤◌, ◌==◌, inl, inr, true, false, Bool, ◌||◌, cond, List, [], ◌∷◌, length, length-append, map, refl, ap, sym, ◌∙◌, arith}
+use Rattle.std.proofs.Common.{◌≡◌, ℕ, suc, ◌+◌, ◌-◌, ◌*◌, ◌<◌, ◌≤◌, ◌==◌, inl, inr, true, false, Bool, List, [], ◌∷◌, length, length-append, refl, ap, sym, ◌∙◌, arith}
 use Rattle.std.specs.Prelude.{slice_index}
 use Rattle.std.specs.List.{list_any, sum_by}
-use Rattle.std.proofs.lemmas.Bool.{cond_both, eq-eqb, eqb-true, false≢true, le-ltb, lt-ltb, or_cases, or_left, or_right}
+use Rattle.std.proofs.lemmas.Bool.{cases_Bool, cond_both, eq-eqb, eqb-true, false_from_ne_true, false≢true, le-ltb, lt-ltb, or_cases, or_left, or_right}
 use Rattle.std.proofs.lemmas.List.{length-map}
 use Rattle.std.proofs.lemmas.List.Sums.{sum_by-cons}
 use Rattle.eel_base.specs.CodeText.{Words, IsText}
@@ -23,7 +23,7 @@ use Rattle.jump_slice.specs.Cases.{IsOpen}
 use Rattle.jump_slice.proofs.About.{about}
 use Rattle.jump_slice.proofs.Opened.{opens_are}
 use Rattle.image_code.specs.Graphs.{IsGraphOf, opens_in}
-use Rattle.image_code.specs.Numbered.{case_numbers, case_piece, cases_of, node_in_order}
+use Rattle.image_code.specs.Numbered.{case_numbers, cases_of, node_in_order}
 use Rattle.image_code.proofs.OpenBlocks.{are_open, is_list, text_graph}
 use Rattle.tool_kit.specs.Plans.{Plan}
 use Rattle.image_code.proofs.OpenNumbers.{each_index}
@@ -40,19 +40,15 @@ pub record IsNumber (graph : Graph) (number : ℕ) : Type 0 where
 
 first_number : (graph : Graph) (number : ℕ) → number ≤ length graph.blocks.firsts → is_node graph number ≡ true
 first_number graph number l =
-    ap (λ (b : Bool). cond b (is_copied graph.opens (number - (length graph.blocks.firsts + 1))) true)
-    (le-ltb (length graph.blocks.firsts) number l)
+    rw (le-ltb (length graph.blocks.firsts) number l) refl
 
 pub number_of : (graph : Graph) (node : Node) → IsNodeIn graph.blocks graph.opens node
     → IsNumber graph (node_number graph node)
 number_of graph (Block k) l = record { few = omega (arith, l); is = first_number graph k.0 (omega (arith, l)) }
 number_of graph (Landed k) l = record {
   few = omega (arith, l.0);
-  is = ap (λ (b : Bool). cond b (is_copied graph.opens
-      (length graph.blocks.firsts + 1 + k.0 - (length graph.blocks.firsts + 1))) true)
-      (lt-ltb (length graph.blocks.firsts) (length graph.blocks.firsts + 1 + k.0) (omega arith))
-      ∙ ap (is_copied graph.opens)
-      (let e : length graph.blocks.firsts + 1 + k.0 - (length graph.blocks.firsts + 1) ≡ k.0 = omega arith in e) ∙ l.1;
+  is = let e : length graph.blocks.firsts + 1 + k.0 - (length graph.blocks.firsts + 1) ≡ k.0 = omega arith in
+      rw (lt-ltb (length graph.blocks.firsts) (length graph.blocks.firsts + 1 + k.0) (omega arith), e) l.1;
 }
 number_of graph X l = record { few = omega arith; is = first_number graph (length graph.blocks.firsts) (omega arith) }
 
@@ -93,13 +89,7 @@ module _ (text : Words) (graph : Graph) (is_text : IsText text) (h : IsGraphOf t
       ≡ sum_by (λ (o : Open). length o.targets) opens
   cases_count k [] = refl
   cases_count k (o ∷ opens) =
-      omega (
-        arith,
-        length-append (map (case_piece text graph k o) o.targets) (cases_of text graph (suc k) opens),
-        length-map o.targets (case_piece text graph k o),
-        cases_count (suc k) opens,
-        sum_by-cons (λ (o : Open). length o.targets) o opens,
-      )
+      simp (length-append, length-map, cases_count (suc k) opens, sum_by-cons)
 
   -- there are no more entries than words
   pub entries_few : length (case_numbers text graph) ≤ length text.words
@@ -114,11 +104,10 @@ record IsFound {A : Type 0} (p : A → Bool) (Q : A → Type 0) : Type 0 where
 
 any_found : {A : Type 0} (p : A → Bool) (Q : A → Type 0) (xs : List A) → Each Q xs → list_any p xs ≡ true → IsFound p Q
 any_found p Q [] each any = absurd (cc)
-any_found p Q (x ∷ xs) each any = by (p x) refl any (any_found p Q xs each.1)
-  where
-    by : (t : Bool) → p x ≡ t → (t || list_any p xs) ≡ true → (list_any p xs ≡ true → IsFound p Q) → IsFound p Q
-    by true e h later = record { found = x; passes = e; is = each.0 }
-    by false e h later = later h
+any_found p Q (x ∷ xs) each any = elim (cases_Bool (p x)) [
+  | inl e ↦ record { found = x; passes = e; is = each.0 }
+  | inr e ↦ any_found p Q xs each.1 (rw e at any)
+]
 
 -- behind both blocks comes a word, and the program isn't entered at the jump's
 record IsInside (b : Blocks) (entry : ℕ) (o : Open) : Type 0 where
@@ -169,15 +158,11 @@ module _ (text : Words) (given : List ℕ) (entry : ℕ) (is_text : IsText text)
   -- the program is entered at the block of no open switch's jump
   pub entry_apart : is_among given entry ≡ true → entry < length text.words
       → jumps_in opened (holding_of its entry) ≡ false
-  entry_apart among low = by (jumps_in opened (holding_of its entry)) refl
-    where
-      by : (t : Bool) → jumps_in opened (holding_of its entry) ≡ t → t ≡ false
-      by false e = refl
-      by true e =
-          let f = any_found (λ (o : Open). o.block == holding_of its entry) (IsInside its entry) opened
-          (are_inside text given entry is_text) e in
-          let same : f.found.block ≡ holding_of its entry = eqb-true f.found.block (holding_of its entry) f.passes in
-          let c = cut text given is_text.some in
-          let begins : slice_index its.firsts (holding_of its entry) ≡ entry =
-          first_held its.words its.firsts c.firsts entry (entry_leads text given entry among low) in
-          absurd (false≢true (sym f.is.apart ∙ eq-eqb _ _ (ap (slice_index its.firsts) same ∙ begins)))
+  entry_apart among low = false_from_ne_true (jumps_in opened (holding_of its entry)) (λ e.
+      let f = any_found (λ (o : Open). o.block == holding_of its entry) (IsInside its entry) opened
+      (are_inside text given entry is_text) e in
+      let same : f.found.block ≡ holding_of its entry = eqb-true f.found.block (holding_of its entry) f.passes in
+      let c = cut text given is_text.some in
+      let begins : slice_index its.firsts (holding_of its entry) ≡ entry =
+      first_held its.words its.firsts c.firsts entry (entry_leads text given entry among low) in
+      absurd (false≢true (sym f.is.apart ∙ eq-eqb _ _ (ap (slice_index its.firsts) same ∙ begins))))

@@ -72,8 +72,7 @@ world_then pages Kept s v t h k = record {
 }
 
 world_moved : (pages : List Span) (s t : State) (p : Point) → IsSameWorld pages s t → IsSameWorld pages s (at_point p t)
-world_moved pages s t p h =
-    record { window = h.window; valid = h.valid; input = h.input; memory = h.memory; registers = h.registers }
+world_moved pages s t p h = assumption
 
 same_moved : (item : StateItem) (s t : State) (p : Point) → IsSameAt item s t → IsSameAt item s (at_point p t)
 same_moved (Register n) s t p h = h
@@ -413,11 +412,8 @@ module _ (g : Setting) (entry : ℕ) (Inside : Point → Type 0) (Here : Node �
       moment_by n m h x None is = refl
       moment_by n m h x (Some d) is = refl
 
-      weaken : (n : ℕ) → n < last → n ≤ last
-      weaken n l = omega arith
-
       go_on : (n m : ℕ) → Links n m → (n < last) ⊎ (last ≤ n) → Reached last (suc n)
-      go_on n m h (inl l) = went_by n m h (next_of n m h (u.unjudged n l) (inside n (weaken n l) h.live)
+      go_on n m h (inl l) = went_by n m h (next_of n m h (u.unjudged n l) (inside n (omega arith) h.live)
           (inside (suc n) l)) (s (suc n)).ending refl
       go_on n m h (inr l) = past m (omega arith)
 
@@ -539,12 +535,12 @@ module _ (g : Setting) (entry : ℕ) (Inside : Point → Type 0) (Here : Node �
           → IsStep n m (moment_of (suc n) (go_on n m h c))
       unfolding go_on
       step_on n m h l (inl k) =
-          let x = next_of n m h (u.unjudged n k) (inside n (weaken n k) h.live) (inside (suc n) k) in
+          let x = next_of n m h (u.unjudged n k) (inside n (omega arith) h.live) (inside (suc n) k) in
           rw (moment_by n m h x (s (suc n)).ending refl) (record {
             goes = λ live. way_by n m x;
             stays = λ d over. absurd (let live : (s n).ending ≡ None = h.live in cc);
             spared = spares_next n m x;
-            between = λ j a b. told_from n m j (weaken n k) h x a b (split_below m j);
+            between = λ j a b. told_from n m j (omega arith) h x a b (split_below m j);
           })
       step_on n m h l (inr k) = absurd (omega arith)
 

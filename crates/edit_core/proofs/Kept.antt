@@ -1,8 +1,9 @@
 -- What lives is kept: the code of a snippet takes only what isn't live behind it, and what a snippet makes of the cells
 -- depends on the registers alone that it names.
-use Rattle.std.proofs.Common.{◌≡◌, ℕ, zero, suc, ◌+◌, ◌-◌, ◌*◌, ◌%◌, ◌<◌, ◌⊎◌, inl, inr, true, nat_lt, List, [], ◌∷◌, length, slice_index, refl, ap, sym, ◌∙◌, arith, All, Contains}
-use Rattle.std.proofs.lemmas.Bool.{and_parts, cases_lt, cond_both, or_left, or_right}
+use Rattle.std.proofs.Common.{◌≡◌, ℕ, zero, suc, ◌<◌, ◌⊎◌, inl, inr, true, List, [], ◌∷◌, length, slice_index, refl, ap, sym, ◌∙◌, arith, All, Contains}
+use Rattle.std.proofs.lemmas.Bool.{and_parts, cases_lt, or_left, or_right}
 use Rattle.std.proofs.lemmas.List.{get_or_past}
+use Rattle.std.proofs.lemmas.Bool.Decides.{nat_tests}
 use Rattle.v8_decode.specs.declared.Part.{Part}
 use Rattle.v8_decode.specs.declared.Part.TheVariants.{Reg}
 use Rattle.v8_decode.specs.Parts.{has, is_member, set_of}
@@ -47,9 +48,7 @@ updates_same snips are (edge ∷ edges) cells s v same =
     (λ other c. let l = c.1 in same other (suc c.0, omega (arith, l), c.2))
 
 place_some : (window r : ℕ) → 0 < place_of window (suc r)
-place_some window r =
-    cond_both (nat_lt (suc r) 8) (suc r) (8 + (16 * window + (suc r - 8)) % 128) (λ (n : ℕ). 0 < n) (λ _. omega arith)
-    (λ _. omega arith)
+place_some window r = grind (arith, nat_tests)
 
 -- ---- what is dead isn't kept
 

@@ -1,10 +1,10 @@
 -- The words of the code in the memory of a written file.
-use Rattle.std.proofs.Common.{◌≡◌, ℕ, zero, suc, ◌+◌, ◌-◌, ◌*◌, ◌^◌, ◌<◌, ◌≤◌, Bool, true, false, ◌&&◌, cond, nat_le, max, List, [], ◌∷◌, ◌++◌, length, drop, map, slice_index, Some, None, refl, ap, ◌∙◌, arith, All}
+use Rattle.std.proofs.Common.{◌≡◌, ℕ, zero, suc, ◌+◌, ◌-◌, ◌*◌, ◌^◌, ◌<◌, ◌≤◌, Bool, false, ◌&&◌, nat_le, max, List, [], ◌∷◌, ◌++◌, length, drop, map, slice_index, Some, None, refl, ap, ◌∙◌, arith, All}
 use Rattle.std.specs.List.{find, fold}
-use Rattle.std.specs.Option.{option_or}
 use Rattle.std.proofs.Math.Seq.{drop-append-add}
-use Rattle.std.proofs.lemmas.Bool.{and_from, le-leb, lt-leb}
+use Rattle.std.proofs.lemmas.Bool.{le-leb, lt-leb}
 use Rattle.std.proofs.lemmas.List.Folds.{find-append}
+use Rattle.std.proofs.lemmas.Bool.Decides.{nat_tests}
 use Rattle.byteorder.specs.Endian.{big_number, big_bytes}
 use Rattle.byteorder.specs.Numbers.{big_number-reads_back}
 use Rattle.elf32_sparc.specs.declared.header.ProgramHeader.{ProgramHeader}
@@ -57,13 +57,7 @@ word_among (w ∷ words) (suc word) inside all =
 -- cells below an address don't cover it
 pub cells_pass : (count : ℕ) (cells : Mapping) (address : ℕ) → cells.start + cells.length ≤ address
     → (0 < count → covers address cells ≡ false)
-cells_pass count cells address below some =
-    fails (nat_le cells.start address) (lt-leb (address + 4) (cells.start + cells.length) (omega arith))
-  where
-    fails : (b : Bool) → nat_le (address + 4) (cells.start + cells.length) ≡ false
-        → (b && nat_le (address + 4) (cells.start + cells.length)) ≡ false
-    fails true e = e
-    fails false e = refl
+cells_pass count cells address below some = grind (arith, nat_tests)
 
 -- the words of code that is mapped above the original and the cells, right behind a table
 pub code_mapped : (original file : List ℕ) (words : List ℕ) (count : ℕ) (cells table code : Mapping) (more : List Mapping)
@@ -74,14 +68,15 @@ pub code_mapped : (original file : List ℕ) (words : List ℕ) (count : ℕ) (c
 code_mapped original file words count cells table code more all fits base before behind size first n inside =
     let address : ℕ = code.start + 4 * n in
     let here : address - code.start ≡ 4 * n = omega arith in
-    let is_found : find (covers address) (mappings file) ≡ Some code = ap (find (covers address)) all
-    ∙ find-append (covers address) (map kept (mappings original)) (if_any count cells ++ table ∷ code ∷ more)
-    ∙ ap (λ o. option_or o (find (covers address) (if_any count cells ++ table ∷ code ∷ more)))
-    (original_covers original address (omega arith))
-    ∙ past_any (covers address) count cells (table ∷ code ∷ more) (cells_pass count cells address (omega arith))
-    ∙ passed (nat_le table.start address) (nat_le (address + 4) (table.start + table.length)) table
-    (find (covers address) (code ∷ more)) (lt-leb (address + 4) (table.start + table.length) (omega arith))
-    ∙ ap (λ (b : Bool). cond b (Some code) (find (covers address) more))
-    (and_from _ _ (le-leb code.start address (omega arith)) (le-leb (address + 4) (code.start + code.length)
-    (omega arith))) in
+    let is_found : find (covers address) (mappings file) ≡ Some code =
+    rw (
+      all,
+      find-append (covers address) (map kept (mappings original)),
+      original_covers original address (omega arith),
+      past_any (covers address) count cells (table ∷ code ∷ more) (cells_pass count cells address (omega arith)),
+      passed (nat_le table.start address) (nat_le (address + 4) (table.start + table.length)) table
+          (find (covers address) (code ∷ more)) (lt-leb (address + 4) (table.start + table.length) (omega arith)),
+      le-leb code.start address (omega arith),
+      le-leb (address + 4) (code.start + code.length) (omega arith),
+    ) refl in
     cc (is_found, here, first, word_among words n inside fits)

@@ -3,8 +3,7 @@ use Rattle.std.proofs.Common.{◌≡◌, ℕ, zero, suc, ◌+◌, ◌*◌, ◌%�
 use Rattle.std.specs.Prelude.{slice_index}
 use Rattle.std.specs.List.{flat_map, list_any}
 use Rattle.std.proofs.lemmas.Grind.{get_or_default_zero}
-use Rattle.std.proofs.lemmas.Bool.{and_from, eq-eqb, le-leb, lt-ltb, or_left, or_right}
-use Rattle.std.proofs.lemmas.Bool.Decides.{nat_tests}
+use Rattle.std.proofs.lemmas.Bool.{and_from, eq-eqb, le-leb, lt-ltb, ne_eqb, or_left, or_right}
 use Rattle.byteorder.specs.Endian.{big_bytes}
 use Rattle.byteorder.specs.Numbers.{length-bytes_high_first}
 use Rattle.elf32_write.proofs.WordsBytes.{length-flat_map}
@@ -60,13 +59,7 @@ blocks_rule words (x ∷ xs) before f g a w =
 -- ---- edges
 
 kind_few : (k : EdgeKind) → kind_number k ≤ 6
-kind_few kinds.Fall = omega arith
-kind_few kinds.Taken = omega arith
-kind_few kinds.Untaken = omega arith
-kind_few kinds.Call = omega arith
-kind_few kinds.Out = omega arith
-kind_few kinds.Land = omega arith
-kind_few kinds.Case = omega arith
+kind_few k = grind arith
 
 node_few : (graph : Graph) (node : Node) → IsNodeIn graph.blocks graph.opens node
     → node_number graph node ≤ 2 * length graph.blocks.firsts
@@ -83,10 +76,8 @@ is_next width cells taken cell whole few above =
     not_among : (others : List ℕ) → Each (λ other. other < cell) others
         → list_any (λ other. other == cell) others ≡ false
     not_among [] each = refl
-    not_among (other ∷ others) each = rw (not_same other each.0, not_among others each.1) refl
-      where
-        not_same : (other : ℕ) → other < cell → (other == cell) ≡ false
-        not_same other l = grind (arith, nat_tests)
+    not_among (other ∷ others) each =
+        rw (ne_eqb other cell (λ e. omega (arith, each.0)), not_among others each.1) refl
 
 -- the edges' rules but for the cell's
 module _ (graph : Graph) (kind : ToolKind) where
@@ -238,8 +229,7 @@ module _ (graph : Graph) (size : ℕ) (p : Placement) (n : Notes) (is : IsNoted 
 
   ranges_few : length n.ranges ≤ 2 ^ 23 + 1
   ranges_few =
-      let both = length-append (off_ranges is.text graph table) p.ranges in
-      omega (arith, ap length is.ranges, both, off_few is.text graph table, is.range_count)
+      rw is.ranges (simp length-append (omega (arith, off_few is.text graph table, is.range_count)))
 
   edges_fewer : length n.edges ≤ length graph.edges
   edges_fewer = rw is.edges (edges_count graph is.kind graph.edges is.snips)
@@ -308,8 +298,8 @@ module _ (graph : Graph) (size : ℕ) (p : Placement) (n : Notes) (is : IsNoted 
 
   pages_count : length n.segments ≤ 4
   pages_count =
-      let page : NoteSegment = record { start = n.base; length = 4 * n.cells } in
-      omega (arith, ap length is.segments, any_length n.cells page, length-append (if_any n.cells page) behind)
+      let page = any_length {A = NoteSegment} n.cells (record { start = n.base; length = 4 * n.cells }) in
+      rw is.segments (simp length-append (omega (arith, page)))
 
   pub are_notes : AreNotes n
   are_notes =
@@ -405,21 +395,11 @@ module _ (graph : Graph) (size : ℕ) (p : Placement) (n : Notes) (is : IsNoted 
   few_bytes =
       let text = is.is_text in
       let blocks = ap length is.blocks in
-      let w = length-flat_map (big_bytes 4) 4 (length-bytes_high_first 4) (notes_words n) in
-      let numbers : List ℕ = n.delta ∷ n.length ∷ n.tool ∷ n.start ∷ n.words ∷ n.entry ∷ n.base ∷ n.cells ∷ [] in
-      let segments : List ℕ = length n.segments ∷ flat_map segment_words n.segments in
-      let firsts : List ℕ = length n.blocks ∷ n.blocks in
-      let edges : List ℕ = length n.edges ∷ flat_map edge_words n.edges in
-      let ranges : List ℕ = length n.ranges ∷ flat_map range_words n.ranges in
-      let l1 = length-append numbers segments in
-      let l2 = length-append (numbers ++ segments) firsts in
-      let l3 = length-append (numbers ++ segments ++ firsts) edges in
-      let l4 = length-append (numbers ++ segments ++ firsts ++ edges) ranges in
+      let w = simp length-append at (length-flat_map (big_bytes 4) 4 (length-bytes_high_first 4) (notes_words n)) in
       let s = length-flat_map segment_words 2 (λ x. refl) n.segments in
-      let most = pages_count in
       let e = length-flat_map edge_words 4 (λ x. refl) n.edges in
       let g = length-flat_map range_words 4 (λ x. refl) n.ranges in
-      omega (arith, ranges_few, nodes_few, edges_fewer, is.edge_count, text.few)
+      omega (arith, pages_count, ranges_few, nodes_few, edges_fewer, is.edge_count, text.few)
 
 -- where no edge or no snippet is left
 pub none_first : (graph : Graph) (kind : ToolKind) (edges : List Edge) (snips : List (List Op)) → length edges ≡ 0

@@ -3,7 +3,7 @@ use Rattle.std.proofs.Common.{◌≡◌, ℕ, zero, suc, ◌+◌, ◌-◌, ◌<�
 use Rattle.std.specs.Prelude.{slice_get}
 use Rattle.std.specs.List.{find, flat_map}
 use Rattle.std.specs.Option.{option_map, option_or, option_to_list}
-use Rattle.std.proofs.lemmas.Bool.{and_from, cases_lt, cond_both, false≢true, le-leb, lt-ltb}
+use Rattle.std.proofs.lemmas.Bool.{cases_Bool, cases_lt, cond_both, false_from_ne_true, false≢true, le-leb, lt-ltb}
 use Rattle.std.proofs.lemmas.Bool.Decides.{nat_tests}
 use Rattle.std.proofs.lemmas.List.Folds.{find-append}
 use Rattle.eel_base.specs.CodeText.{Words}
@@ -37,21 +37,12 @@ found_in p Q [] k x each e is = absurd (cc)
 found_in p Q (y ∷ ys) zero x each e is =
     let here : p y ≡ true = ap p (cc) ∙ is in
     record { found = y; at = ap (λ b. cond b (Some y) (find p ys)) here; passes = here; each = each.0 }
-found_in p Q (y ∷ ys) (suc k) x each e is = by (p y) refl (found_in p Q ys k x each.1 e is)
-  where
-    by : (b : Bool) → p y ≡ b → IsFound p Q ys → IsFound p Q (y ∷ ys)
-    by true here later = record {
-      found = y;
-      at = ap (λ b. cond b (Some y) (find p ys)) here;
-      passes = here;
-      each = each.0;
-    }
-    by false here later = record {
-      found = later.found;
-      at = ap (λ b. cond b (Some y) (find p ys)) here ∙ later.at;
-      passes = later.passes;
-      each = later.each;
-    }
+found_in p Q (y ∷ ys) (suc k) x each e is = elim (cases_Bool (p y)) [
+  | inl here ↦ record { found = y; at = rw here refl; passes = here; each = each.0 }
+  | inr here ↦
+      let later = found_in p Q ys k x each.1 e is in
+      record { found = later.found; at = rw here later.at; passes = later.passes; each = later.each }
+]
 
 -- ---- edges that run a slot behind the text leave the last block
 
@@ -72,13 +63,9 @@ module _ (b : Blocks) (firsts : AreFirsts b.words b.firsts) where
       → is_behind (cond runs (slot_behind b.words (last_word b.firsts b.words block)) slots.Nothing) ≡ true
       → block ≡ length b.firsts - 1
   slot_last block l false e = absurd (cc)
-  slot_last block l true e = by (nat_lt (last_word b.firsts b.words block + 1) b.words) refl e
-    where
-      by : (inside : Bool) → nat_lt (last_word b.firsts b.words block + 1) b.words ≡ inside
-          → is_behind (cond inside (slots.Word (record { 0 = last_word b.firsts b.words block + 1 })) slots.Off) ≡ true
-          → block ≡ length b.firsts - 1
-      by true is e = absurd (cc)
-      by false is e = last_block block l is
+  slot_last block l true e =
+      last_block block l (false_from_ne_true (nat_lt (last_word b.firsts b.words block + 1) b.words)
+      (λ inside. let f = rw inside at e in absurd (cc)))
 
   -- an edge of a block, with the slot behind it
   edge_last : (edge : Edge) (block : ℕ) (kind : EdgeKind) → block < length b.firsts → edge.from ≡ block_at block
@@ -108,18 +95,14 @@ module _ (b : Blocks) (firsts : AreFirsts b.words b.firsts) where
 
     copied_last : (blocks : List ℕ) → Each IsLast (flat_map (copied_edges b opens) (filter (is_copied opens) blocks))
     copied_last [] = tt
-    copied_last (block ∷ blocks) = by (is_copied opens block) refl (copied_last blocks)
-      where
-        by : (t : Bool) → is_copied opens block ≡ t
-            → Each IsLast (flat_map (copied_edges b opens) (filter (is_copied opens) blocks))
-            → Each IsLast (flat_map (copied_edges b opens)
-            (cond t (block ∷ filter (is_copied opens) blocks) (filter (is_copied opens) blocks)))
-        by false e rest = rest
-        by true e rest =
-            each-append IsLast (copied_edges b opens block)
-            (flat_map (copied_edges b opens) (filter (is_copied opens) blocks))
-            (each-map IsLast (edge_of b opens (copy block) block) (ways_from b block)
-            (each _ (ways_from b block) (λ w f. absurd (no_slot block e (runs_slot (end_of b block) w.kind) f)))) rest
+    copied_last (block ∷ blocks) =
+        cond_both (is_copied opens block) (block ∷ filter (is_copied opens) blocks) (filter (is_copied opens) blocks)
+        (λ xs. Each IsLast (flat_map (copied_edges b opens) xs)) (λ e.
+        each-append IsLast (copied_edges b opens block)
+        (flat_map (copied_edges b opens) (filter (is_copied opens) blocks))
+        (each-map IsLast (edge_of b opens (copy block) block) (ways_from b block)
+        (each _ (ways_from b block) (λ w f. absurd (no_slot block e (runs_slot (end_of b block) w.kind) f))))
+        (copied_last blocks)) (λ _. copied_last blocks)
 
     pub all_last : Each IsLast (edges_in b opens)
     all_last =
@@ -169,12 +152,10 @@ module _ (text : Words) (graph : Graph) (table : ℕ) where
     where
       found : (xs : List Edge) → Each Q xs → (edge : Edge) → find is_off xs ≡ Some edge → Q edge
       found [] each edge e = absurd (cc)
-      found (x ∷ xs) each edge e = pick (is_off x) refl e (found xs each.1 edge)
-        where
-          pick : (b : Bool) → is_off x ≡ b → cond b (Some x) (find is_off xs) ≡ Some edge
-              → (find is_off xs ≡ Some edge → Q edge) → Q edge
-          pick true is e later = let same : x ≡ edge = cc in rw same at each.0
-          pick false is e later = later e
+      found (x ∷ xs) each edge e = elim (cases_Bool (is_off x)) [
+        | inl is ↦ let here = rw is at e in let same : x ≡ edge = cc in rw same at each.0
+        | inr is ↦ found xs each.1 edge (rw is at e)
+      ]
 
       by : (o : Option Edge) → find is_off graph.edges ≡ o
           → P (option_to_list (option_map (off_range text graph table) o))
@@ -202,6 +183,4 @@ module _ (text : Words) (graph : Graph) (table : ℕ) where
   pub off_here : (edge : Edge) (ranges : List NoteRange)
       → range_in ((off_range text graph table edge ∷ []) ++ ranges) table ≡ Some (off_range text graph table edge)
   off_here edge ranges =
-      ap (λ (b : Bool). cond b (Some (off_range text graph table edge)) (range_in ranges table))
-      (and_from (nat_le table table) (nat_lt table (table + 4)) (le-leb table table (omega arith))
-      (lt-ltb table (table + 4) (omega arith)))
+      rw (le-leb table table (omega arith), lt-ltb table (table + 4) (omega arith)) refl

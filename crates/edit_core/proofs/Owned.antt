@@ -1,8 +1,8 @@
 -- The words of the tables, of the cells and of the editor's page, in the memory with which a written file starts.
-use Rattle.std.proofs.Common.{◌≡◌, ℕ, zero, suc, ◌+◌, ◌-◌, ◌*◌, ◌^◌, ◌<◌, ◌≤◌, ◌⊎◌, inl, inr, Bool, true, false, ◌&&◌, cond, nat_le, List, [], ◌∷◌, ◌++◌, length, length-append, map, replicate, take, drop, Option, Some, None, refl, ap, ◌∙◌, arith}
+use Rattle.std.proofs.Common.{◌≡◌, ℕ, zero, suc, ◌+◌, ◌-◌, ◌*◌, ◌^◌, ◌<◌, ◌≤◌, ◌⊎◌, inl, inr, Bool, true, false, cond, List, [], ◌∷◌, ◌++◌, length, length-append, map, replicate, take, drop, Option, Some, None, refl, ap, ◌∙◌, arith}
 use Rattle.std.specs.List.{find, range_with_len}
 use Rattle.std.specs.Option.{option_map, option_or}
-use Rattle.std.proofs.lemmas.Bool.{and_from, and_parts, cases_lt, false_from_ne_true, le-leb, leb-true, lt-leb}
+use Rattle.std.proofs.lemmas.Bool.{and_from, cases_Bool, cases_lt, cond_both, false_from_ne_true, le-leb, lt-leb}
 use Rattle.std.proofs.lemmas.Bool.Decides.{nat_tests}
 use Rattle.std.specs.Int.{from_be_bytes, w32}
 use Rattle.std.proofs.lemmas.List.{append-nil, append_assoc, drop-replicate, length-drop, take-replicate, length-replicate, map-append}
@@ -31,7 +31,7 @@ use Rattle.two_runs.specs.Visits.{pages_of}
 use Rattle.snippet_code.specs.Cells.{cell_at}
 use Rattle.tool_kit.specs.Plans.{Plan}
 use Rattle.edit_core.specs.Faithful.{editor_page, page_size}
-use Rattle.edit_core.specs.Written.{IsEdit, LeadsTo, added, cells_at, cells_base, code_base, code_segment, cases_table, first_table, graph_in, if_any, notes_on, page_segment, second_table, segment_size, table_at, table_base, tables_size, text_of}
+use Rattle.edit_core.specs.Written.{IsEdit, LeadsTo, cells_at, cells_base, code_base, code_segment, cases_table, first_table, graph_in, if_any, notes_on, page_segment, second_table, segment_size, table_at, table_base, tables_size, text_of}
 use Rattle.edit_core.proofs.Fronts.{any-map, any_none, any_some}
 use Rattle.edit_core.proofs.Mapped.{original_covers}
 use Rattle.edit_core.proofs.Steps.{segment_is}
@@ -205,34 +205,20 @@ is_framed original plan p table g same base leads = record {
 find_regions : (p : Region → Bool) (ms : List Mapping)
     → find p (map region_of ms) ≡ option_map region_of (find (λ m. p (region_of m)) ms)
 find_regions p [] = refl
-find_regions p (m ∷ ms) = go (p (region_of m)) (find_regions p ms)
-  where
-    go : (b : Bool) → find p (map region_of ms) ≡ option_map region_of (find (λ x. p (region_of x)) ms)
-        → cond b (Some (region_of m)) (find p (map region_of ms))
-        ≡ option_map region_of (cond b (Some m) (find (λ x. p (region_of x)) ms))
-    go true later = refl
-    go false later = later
+find_regions p (m ∷ ms) = let rest = find_regions p ms in grind (arith, rest)
 
 -- where no region has a word, none that is found has it
 found_has_not : (rs : List Region) (a from count : ℕ) → find (covers a 4) rs ≡ None
     → HasNot a (find (covers from count) rs)
 found_has_not [] a from count none = tt
-found_has_not (r ∷ rs) a from count none = go (covers a 4 r) (covers from count r) refl none
-    (found_has_not rs a from count)
-  where
-    go : (word all : Bool) → covers a 4 r ≡ word → cond word (Some r) (find (covers a 4) rs) ≡ None
-        → (find (covers a 4) rs ≡ None → HasNot a (find (covers from count) rs))
-        → HasNot a (cond all (Some r) (find (covers from count) rs))
-    go true all is some later = absurd (cc)
-    go false true is none later = is
-    go false false is none later = later none
+found_has_not (r ∷ rs) a from count none = elim (cases_Bool (covers a 4 r)) [
+  | inl e ↦ let some = rw e at none in absurd (cc)
+  | inr e ↦ cond_both (covers from count r) (Some r) (find (covers from count) rs) (HasNot a) (λ _. e)
+      (λ _. found_has_not rs a from count (rw e at none))
+]
 
 region_whole : (m : Mapping) → (region_of m).size ≤ length (region_of m).bytes
-region_whole m =
-    let all = length-append m.first (replicate (m.length - length m.first) 0) in
-    let zeros : length {A = ℕ} (replicate (m.length - length m.first) 0) ≡ m.length - length m.first =
-    length-replicate (m.length - length m.first) 0 in
-    omega arith
+region_whole m = simp (length-append, length-replicate) (omega arith)
 
 or_has_not : (a : ℕ) (x y : Option Region) → HasNot a x → HasNot a y → HasNot a (option_or x y)
 or_has_not a None y hx hy = hy
@@ -240,8 +226,7 @@ or_has_not a (Some r) y hx hy = hx
 
 unless_found : (a : ℕ) (found : Bool) (r : Region) (rest : Option Region) → (found ≡ true → covers a 4 r ≡ false)
     → HasNot a rest → HasNot a (cond found (Some r) rest)
-unless_found a true r rest here later = here refl
-unless_found a false r rest here later = later
+unless_found a found r rest here later = cond_both found (Some r) rest (HasNot a) here (λ _. later)
 
 -- a region that ends below an address, or begins above it, has no word there
 past_covers : (a : ℕ) (r : Region) → r.start + r.size ≤ a → covers a 4 r ≡ false
@@ -251,18 +236,12 @@ below_covers : (a : ℕ) (r : Region) → a < r.start → covers a 4 r ≡ false
 below_covers a r over = grind (arith, nat_tests)
 
 none_covers : (a : ℕ) (r : Region) → r.start + r.size < a + 4 → covers a 4 r ≡ false
-none_covers a r low = go (nat_le r.start a) (lt-leb (a + 4) (r.start + r.size) low)
-  where
-    go : (b : Bool) → nat_le (a + 4) (r.start + r.size) ≡ false → (b && nat_le (a + 4) (r.start + r.size)) ≡ false
-    go true is = is
-    go false is = refl
+none_covers a r low = grind (arith, nat_tests)
 
 -- a region apart from some span has no bytes of it
 inside_region : (r : Region) (from count : ℕ) → covers from count r ≡ true
     → (r.start ≤ from) × (from + count ≤ r.start + r.size)
-inside_region r from count is =
-    let two = and_parts (nat_le r.start from) (nat_le (from + count) (r.start + r.size)) is in
-    (leb-true r.start from two.0, leb-true (from + count) (r.start + r.size) two.1)
+inside_region r from count is = (grind (arith, nat_tests), grind (arith, nat_tests))
 
 -- nothing apart from a region lies in it
 apart_outside : (r : Region) (from count : ℕ) → 0 < count
@@ -277,8 +256,7 @@ apart_outside r from count some (inr before) found =
 
 -- the heap has no byte below its start
 heap_low : (a : ℕ) → a < 2 ^ 31 → covers a 4 empty_heap ≡ false
-heap_low a below = ap (λ (b : Bool). b && nat_le (a + 4) (empty_heap.start + empty_heap.size))
-    (lt-leb empty_heap.start a below)
+heap_low a below = rw (lt-leb empty_heap.start a below) refl
 
 module _ (original : List ℕ) (plan : Plan) (p : Placement) (place : ℕ → ℕ → ℕ) (table : TableAt) (file : List ℕ)
     (is : IsEdit original plan p place table file) (texts : List (List ℕ)) where
@@ -320,22 +298,17 @@ module _ (original : List ℕ) (plan : Plan) (p : Placement) (place : ℕ → �
 
   regions_are : memory.regions ≡ kept_regions ++ (if_any plan.cells cells_region ++ behind)
   regions_are =
-      ap (λ ms. map region_of ms ++ stack_region texts ∷ []) is.mapped ∙ ap (λ rs. rs ++ stack_region texts ∷ [])
-      (map-append region_of (map kept (mappings original)) (map mapping_added (added original plan p table)))
-      ∙ ap (λ (rs : List Region). (kept_regions ++ rs) ++ stack_region texts ∷ [])
-      (ap (map region_of) (any-map mapping_added plan.cells cells (table_at table ∷ its_code ∷ page_segment ∷ []))
-      ∙ any-map region_of plan.cells (mapping_added cells)
-      (mapping_added (table_at table) ∷ mapping_added its_code ∷ mapping_added page_segment ∷ []))
-      ∙ append_assoc kept_regions (if_any plan.cells cells_region ++ table_region ∷ code_region ∷ page_region ∷ [])
-      (stack_region texts ∷ []) ∙ ap (λ (rs : List Region). kept_regions ++ rs)
-      (append_assoc (if_any plan.cells cells_region) (table_region ∷ code_region ∷ page_region ∷ [])
-      (stack_region texts ∷ []))
+      rw (
+        is.mapped,
+        map-append region_of (map kept (mappings original)),
+        any-map mapping_added plan.cells,
+        any-map region_of plan.cells,
+      ) (simp append_assoc)
 
   found_in : (q : Region → Bool) → find q memory.regions
       ≡ option_or (find q kept_regions) (option_or (find q (if_any plan.cells cells_region)) (find q behind))
   found_in q =
-      ap (find q) regions_are ∙ find-append q kept_regions (if_any plan.cells cells_region ++ behind)
-      ∙ ap (option_or (find q kept_regions)) (find-append q (if_any plan.cells cells_region) behind)
+      rw (regions_are, find-append q kept_regions, find-append q (if_any plan.cells cells_region)) refl
 
   -- where neither what is kept nor the cells have it
   found_behind : (q : Region → Bool) → find q kept_regions ≡ None → (0 < plan.cells → q cells_region ≡ false)

@@ -1,5 +1,5 @@
 -- What laid code has: words, and ranges that notes may have.
-use Rattle.std.proofs.Common.{◌≡◌, ℕ, zero, suc, ◌+◌, ◌*◌, ◌%◌, ◌^◌, ◌<◌, ◌≤◌, Bool, true, cond, nat_lt, nat_le, Option, Some, None, List, [], ◌∷◌, ◌++◌, length, map, refl, ap, sym, ◌∙◌, subst, arith}
+use Rattle.std.proofs.Common.{◌≡◌, ℕ, zero, suc, ◌+◌, ◌*◌, ◌%◌, ◌^◌, ◌<◌, ◌≤◌, true, nat_lt, nat_le, Option, Some, None, List, [], ◌∷◌, ◌++◌, length, map, refl, ap, sym, ◌∙◌, arith}
 use Rattle.std.specs.Prelude.{slice_get}
 use Rattle.std.specs.List.{flat_map, list_any}
 use Rattle.std.proofs.lemmas.Bool.{and_from, le-leb, le-ltb, lt-ltb, eq-eqb}
@@ -44,9 +44,7 @@ found : (from to : ℕ) (rs : List NoteRange) → Ascend from to rs → (n : ℕ
 found from to [] a n r e = absurd (cc)
 found from to (x ∷ rs) a zero r e =
     let same : x ≡ r = cc in
-    subst (λ (z : NoteRange). range_in (x ∷ rs) z.lo ≡ Some z) same
-    (ap (λ (b : Bool). cond b (Some x) (range_in rs x.lo)) (and_from (nat_le x.lo x.lo) (nat_lt x.lo x.hi)
-    (le-leb x.lo x.lo (omega arith)) (lt-ltb x.lo x.hi a.1)))
+    rw (← same, le-leb x.lo x.lo (omega arith), lt-ltb x.lo x.hi a.1) refl
 found from to (x ∷ rs) a (suc n) r e =
     let later : x.hi ≤ r.lo = begins_by x.hi to rs a.2 n r e in
     passed (nat_le x.lo r.lo) (nat_lt r.lo x.hi) x (range_in rs r.lo) (le-ltb r.lo x.hi later)
@@ -86,11 +84,8 @@ none_marked : (items : List Item) → NoMarks items → (n : ℕ) (address : Add
     → slice_get items n ≡ Some (it.Mark address node) → ⊥
 none_marked [] h n address node e = absurd (cc)
 none_marked (it.Mark a m ∷ items) h n address node e = h
-none_marked (it.Word w ∷ items) h zero address node e = absurd (cc)
-none_marked (it.Jump to ∷ items) h zero address node e = absurd (cc)
-none_marked (it.Branch c to ∷ items) h zero address node e = absurd (cc)
-none_marked (it.EndMark ∷ items) h zero address node e = absurd (cc)
 none_marked (_ ∷ items) h (suc n) address node e = none_marked items h n address node e
+none_marked (_ ∷ items) h zero address node e = absurd (cc)
 
 pub record IsHead (graph : Graph) (address : Addr) (node n : ℕ) (items : List Item) : Type 0 where
   pub rest : List Item
@@ -116,9 +111,7 @@ covers base p (it.Branch c to) a b t s = by s
     by : {to : ℕ} → BranchStands base p.code c to a b → a < b
     by (branch_short disp q r says) = omega (arith, q)
     by (branch_long q says more) = omega (arith, q)
-covers base p (it.Jump to) a b t s = absurd t
-covers base p (it.Mark x m) a b t s = absurd t
-covers base p it.EndMark a b t s = absurd t
+covers base p _ a b t s = absurd t
 
 module _ (text : Words) (graph : Graph) (table cases : ℕ) (codes : ℕ → List ℕ) (is : IsText text)
     (h : IsGraphOf text graph) (base : ℕ) (p : Placement) (place : ℕ → ℕ → ℕ)

@@ -309,11 +309,13 @@ module _ (original : List ℕ) (plan : Plan) (p : Placement) where
         in_bound : 4 * length p.code < short_bound
         in_bound =
             let fit = original_fit fits original plan is.taken is.workable dead in
-            let bytes = fit.bytes in
-            let long = is.code.size in
-            let made = operations_few graph plan.kind plan.cells plan.snips is.workable in
-            let bound = bound_is original plan in
-            omega arith
+            omega (
+              arith,
+              fit.bytes,
+              is.code.size,
+              operations_few graph plan.kind plan.cells plan.snips is.workable,
+              bound_is original plan,
+            )
 
     simulates : PiecesMakeImages → Simulates its (IsOpen its) IsHere Short
     simulates make =

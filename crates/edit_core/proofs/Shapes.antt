@@ -18,10 +18,10 @@ use Rattle.cfg_blocks.specs.Blocks.{below, size_of}
 use Rattle.cfg_blocks.specs.Entries.{is_fall}
 use Rattle.cfg_normal.specs.declared.Edge.{Edge}
 use Rattle.cfg_normal.specs.declared.Node.{Node}
-use Rattle.cfg_normal.specs.declared.Node.TheVariants.{Block, Landed, X}
+use Rattle.cfg_normal.specs.declared.Node.TheVariants.{Block, X}
 use Rattle.cfg_normal.specs.declared.Slot.{Slot}
 use Rattle.cfg_normal.specs.declared.Slot.TheVariants as slots
-use Rattle.cfg_normal.specs.Graph.{Graph, IsEdgeIn, IsNodeIn, IsSlotIn, lands}
+use Rattle.cfg_normal.specs.Graph.{Graph, IsEdgeIn, IsNodeIn, lands}
 use Rattle.cfg_normal.specs.Nodes.{same_node}
 use Rattle.cfg_normal.specs.Opens.{Open, is_copied, jumps_in}
 use Rattle.cfg_walk.specs.Walk.{edge_along, landing_at, left_by, same_kind}
@@ -98,9 +98,6 @@ ends_inside (x ∷ items) n =
     cond_both (is_end x) n (end_from items (suc n)) (λ (k : ℕ). k ≤ n + suc (length items)) (λ _. omega arith)
     (λ _. let later = ends_inside items (suc n) in omega arith)
 
-ends_from_one : (items : List Item) → end_from items 1 ≤ suc (length items)
-ends_from_one items = let e = ends_inside items 1 in omega arith
-
 module _ (graph : Graph) (address : Addr) (node : ℕ) (visit : IsVisit graph address node) where
   marked : (item : Item) (more : List Item) → TakesWords item → NoMarks (item ∷ more)
       → MarksFirst graph (it.Mark address node ∷ item ∷ more)
@@ -111,7 +108,7 @@ module _ (graph : Graph) (address : Addr) (node : ℕ) (visit : IsVisit graph ad
       more = more;
       is = refl;
       takes = takes;
-      ends = ends_from_one (item ∷ more);
+      ends = let e = ends_inside (item ∷ more) 1 in omega arith;
     },
     none,
   )
@@ -183,8 +180,7 @@ module _ (text : Words) (graph : Graph) (table cases : ℕ) (codes : ℕ → Lis
         let distance = distance_of cases (first_entry text graph k) o.switch.table.0 in
         all_words graph _ _ visit (choice_image rd (address_of text word) distance)
         (omega (arith, length-append (link rd (address_of text word)) (choose distance)))
-    choice_marked rd (Some k) None = tt
-    choice_marked rd None o = tt
+    choice_marked rd _ _ = tt
 
     jump_by_marked : (rd rs1 : ℕ) (op2 : Op2)
         → MarksFirst graph (jump_by text graph (jumps_at text table) cases (record { 0 = address_of text word })
@@ -202,8 +198,7 @@ module _ (text : Words) (graph : Graph) (table cases : ℕ) (codes : ℕ → Lis
       (λ _. choice_marked word (Block k) visit rd (jump_number text graph k.0)
       (slice_get graph.opens (or_zero (jump_number text graph k.0))))
       (λ _. jump_by_marked word (Block k) visit rd rs1 op2)
-  jump_marked word (Landed k) visit rd rs1 op2 = jump_by_marked word (Landed k) visit rd rs1 op2
-  jump_marked word X visit rd rs1 op2 = jump_by_marked word X visit rd rs1 op2
+  jump_marked word node visit rd rs1 op2 = jump_by_marked word node visit rd rs1 op2
 
   image_by_marked : (word : ℕ) (node : Node) → IsVisit graph (record { 0 = address_of text word })
       (node_number graph node)
@@ -228,9 +223,8 @@ module _ (text : Words) (graph : Graph) (table cases : ℕ) (codes : ℕ → Lis
       image_by_marked word node (visit_at word l node inside) (decode_of (slice_index text.words word))
 
   goes_unmarked : (node : Node) (word address : ℕ) → NoMarks (goes_on text graph node word address)
-  goes_unmarked (Block k) word address = tt
-  goes_unmarked (Landed k) word address = tt
   goes_unmarked X word address = far_unmarked address
+  goes_unmarked _ word address = tt
 
   along_unmarked : (number : ℕ) (edge : Edge) (word : ℕ) → NoMarks (goes_along text graph codes number edge word)
   along_unmarked number edge word =
@@ -254,12 +248,8 @@ module _ (text : Words) (graph : Graph) (table cases : ℕ) (codes : ℕ → Lis
       unmarked graph (goes_along text graph codes number edge to) (along_unmarked number edge to)
   way_by_marked number edge to inside slots.Off e = unmarked graph (far_piece table) (far_unmarked table)
   way_by_marked number edge to inside (slots.Word slot) e =
-      slot_marked number edge to inside slot.0 (in_slot edge.slot e inside.slot)
-    where
-      in_slot : (s : Slot) → s ≡ slots.Word slot → IsSlotIn graph.blocks s → slot.0 < length text.words
-      in_slot s e l =
-          let m : slot.0 < graph.blocks.words = rw e at l in
-          omega (arith, m, (graph_cut text graph is h).words)
+      let low : slot.0 < graph.blocks.words = rw e at inside.slot in
+      slot_marked number edge to inside slot.0 (omega (arith, low, (graph_cut text graph is h).words))
 
   way_marked : (number : ℕ) (edge : Edge) → IsEdgeIn graph.blocks graph.opens edge
       → MarksFirst graph (way_along text graph table codes number edge)

@@ -21,7 +21,7 @@ use Rattle.v8_process.proofs.Valid.{mappings_have_room, starts_valid}
 use Rattle.addr_translate.specs.Lookup.{TableAt}
 use Rattle.layout.specs.Laid.{Placement}
 use Rattle.tool_kit.specs.Plans.{Plan}
-use Rattle.edit_core.specs.Written.{IsEdit, added, cells_at, cells_base, code_segment, if_any, notes_on, graph_in, page_segment, table_at, text_of}
+use Rattle.edit_core.specs.Written.{IsEdit, added, if_any, notes_on, graph_in, text_of}
 use Rattle.edit_core.proofs.Owned.{cells_span, spans_are}
 use Rattle.edit_core.proofs.Steps.{segment_is}
 use Rattle.edit_core.proofs.Fronts.{any-map}
@@ -63,13 +63,8 @@ module _ (original : List ℕ) (plan : Plan) (p : Placement) (place : ℕ → �
   pages_are : map span_of (map mapping_added (added original plan p table)) ≡ pages_of (notes_on original plan p)
   pages_are =
       let size = segment_is (text_of original plan) (graph_in original plan) plan.snips p table is.code.leads in
-      ap (map span_of) (any-map mapping_added plan.cells (cells_at (cells_base original plan) plan.cells)
-      (table_at table ∷ code_segment original plan p ∷ page_segment ∷ []))
-      ∙ any-map span_of plan.cells (mapping_added (cells_at (cells_base original plan) plan.cells))
-      (map mapping_added (table_at table ∷ code_segment original plan p ∷ page_segment ∷ []))
-      ∙ ap (λ (spans : List Span). if_any plan.cells (cells_span original plan p) ++ spans)
-      (cc (is.code.base, size))
-      ∙ sym (spans_are original plan p)
+      rw (any-map mapping_added plan.cells, any-map span_of plan.cells, spans_are original plan p)
+      (ap (λ (spans : List Span). if_any plan.cells (cells_span original plan p) ++ spans) (cc (is.code.base, size)))
 
   pub memory_alike : (texts : List (List ℕ)) → IsSameOutside (pages_of (notes_on original plan p))
       (start_memory original texts) (start_memory file texts)

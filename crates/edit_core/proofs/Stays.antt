@@ -13,7 +13,7 @@ use Rattle.v8_alu.specs.Conditions.{holds_of}
 use Rattle.v8_step.specs.declared.Ending.{Ending}
 use Rattle.v8_step.specs.declared.Ending.TheVariants.{Trap, Window}
 use Rattle.v8_step.specs.declared.Slot.{Slot}
-use Rattle.v8_step.specs.declared.Slot.TheVariants.{NoSlot, Taken, Untaken}
+use Rattle.v8_step.specs.declared.Slot.TheVariants.{NoSlot}
 use Rattle.v8_step.specs.State.{State, sum_of}
 use Rattle.v8_step.specs.Traps.{flush_windows, call_system, data_access_exception}
 use Rattle.v8_step.specs.Transfers.{branched, branch_step, call_step, ended, jump_step, unless_couple}
@@ -46,18 +46,12 @@ module _ (s : State) (live : s.ending ≡ None) where
 
   stays_couple : (x : Slot) (t : State) → StaysAt s.pc t → StaysAt s.pc (unless_couple x s t)
   stays_couple NoSlot t h = h
-  stays_couple Taken t h = stays_ended s _
-  stays_couple Untaken t h = stays_ended s _
+  stays_couple _ t h = stays_ended s _
 
   stays_branched : (taken always annul : Bool) (target : ℕ) → StaysAt s.pc (branched taken always annul s target)
   stays_branched true true true target = λ e. absurd (e live)
-  stays_branched true true false target = λ e. absurd (e live)
-  stays_branched true false true target = λ e. absurd (e live)
-  stays_branched true false false target = λ e. absurd (e live)
-  stays_branched false true true target = λ e. absurd (e live)
-  stays_branched false true false target = λ e. absurd (e live)
-  stays_branched false false true target = λ e. absurd (e live)
-  stays_branched false false false target = λ e. absurd (e live)
+  stays_branched false always true target = λ e. absurd (e live)
+  stays_branched _ _ _ target = λ e. absurd (e live)
 
   stays_fill : (o : Option (List ℕ)) (rd value : ℕ) → StaysAt s.pc (fill_from s o (leave rd value))
   stays_fill None rd value = stays_ended s Window

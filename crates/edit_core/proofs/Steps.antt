@@ -70,14 +70,12 @@ module _ (fits : PiecesFit) {image : Program} {graph : Graph} {asked : Request} 
 
   pub new_room : cells_size asked.cells + segment_size image.text graph + long_bytes new_pieces ≤ image.room
   new_room =
-      let fit = new_fit in
-      let bytes = fit.bytes in
-      let made = operations_few graph asked.kind asked.cells asked.snips.items can.work in
+      let bytes = new_fit.bytes in
       let small = small_tables image.text can.text in
       let most = room_with_cases asked.cells (length image.text.words) (length (case_numbers image.text graph))
       (tables_size image.text) (long_bytes new_pieces) _
       (entries_few image.text graph can.text can.graph) small bytes in
-      omega (arith, can.room)
+      omega (arith, operations_few graph asked.kind asked.cells asked.snips.items can.work, can.room)
 
 -- how many bytes they have
 pub segment_is : (text : Words) (graph : Graph) (snips : List (List Op)) (p : Placement) (table : TableAt)
