@@ -44,8 +44,8 @@ pub fn look(alloc: Global, bytes: &[u8], marks: &[WordNo]) -> Result<View, ReadF
     Ok(view)
 }
 
-/// The view of an image.
-fn view_image(alloc: Global, image: Image, marks: &[WordNo]) -> Result<View, NoMemory>
+/// The view of an image. Marked words are taken as by `look`.
+pub fn view_image(alloc: Global, image: Image, marks: &[WordNo]) -> Result<View, NoMemory>
     ensures view { IfOk result (λ view. view_seen view ≡ view_with image (given_in image (numbers marks.now))) }
     ensures whole { IfOk result IsView }
 {

@@ -1,5 +1,5 @@
 -- What there is after a call, by its status.
-use Rattle.std.proofs.Common.{◌≡◌, ℕ, ◌≤◌, ◌⊎◌, inl, inr, Some, None, ap, sym, subst, arith}
+use Rattle.std.proofs.Common.{◌≡◌, ℕ, ◌≤◌, inl, inr, Some, None, ap, subst, arith}
 use Rattle.eel.specs.Command.{Command, EditPlain, EditScript, EditEvery, Run, Show, Restore, EditProfile, ReportRun, Demo, EditWeighed, ListWords, PutWords, Unknown, EditTrace}
 use Rattle.eel.specs.Outcome.{Outcome, Shows, Stream, shown, failed, status_of}
 use Rattle.eel.specs.Answers.{Ran, IsDone, IsUnrefused, IsRefusal, IsUnchanged, HasFailed, WasWanting, meaning_of, unknown_means}
@@ -67,63 +67,44 @@ has_run command old new status outcome err follows shows later at_last = record 
 
 pub done_shown : (command : Command) (old new : Outside) (status : ℕ) → Ran command old new status
     → status ≡ 0 → IsDone command old new
-done_shown command old new status r zero = at r.shown
-  where
-    at : Shows r.outcome status r.err new.err → IsDone command old new
-    at (shown is took) = (by_status command).done old new r.err r.outcome r.follows (omega (arith, is, zero)) took
-    at (failed is took rose) = absurd (omega (arith, is, zero))
+done_shown command old new status r zero = elim r.shown [
+  | shown is took ↦ (by_status command).done old new r.err r.outcome r.follows (omega (arith, is, zero)) took
+  | failed is took rose ↦ absurd (omega (arith, is, zero))
+]
 
 pub refused_shown : (command : Command) (old new : Outside) (status : ℕ) → Ran command old new status
     → IsRefusal status → IsUnchanged old new
-refused_shown command old new status r refusal = at r.shown
-  where
-    at : Shows r.outcome status r.err new.err → IsUnchanged old new
-    at (shown is took) =
-        let kept = (by_status command).refused old (with_err new r.err) r.outcome r.follows (subst IsRefusal is refusal) in
-        record { files = kept.files; out = kept.out }
-    at (failed is took rose) = absurd ((refusal_is_bad status refusal).not_failed is)
+refused_shown command old new status r refusal = elim r.shown [
+  | shown is took ↦
+      let kept = (by_status command).refused old (with_err new r.err) r.outcome r.follows (subst IsRefusal is refusal) in
+      record { files = kept.files; out = kept.out }
+  | failed is took rose ↦ absurd ((refusal_is_bad status refusal).not_failed is)
+]
 
 pub unrefused_shown : (command : Command) (old new : Outside) (status : ℕ) → Ran command old new status
     → IsUnrefused command status
-unrefused_shown (Demo number routines) old new status r = at r.shown
-  where
-    at : Shows r.outcome status r.err new.err → (status ≡ 0) ⊎ (status ≡ 70) ⊎ (status ≡ 74)
-    at (shown is took) =
-        subst (λ (n : ℕ). (n ≡ 0) ⊎ (n ≡ 70) ⊎ (n ≡ 74)) (sym is)
-        (status_told number routines old (with_err new r.err) r.outcome r.follows.0)
-    at (failed is took rose) = inr (inr is)
-unrefused_shown (EditPlain input output) old new status r = tt
-unrefused_shown (EditScript input output script) old new status r = tt
-unrefused_shown (Run file limit dump args) old new status r = tt
-unrefused_shown (Show file) old new status r = tt
-unrefused_shown (ListWords file) old new status r = tt
-unrefused_shown (PutWords listing output) old new status r = tt
-unrefused_shown (EditWeighed input output weights) old new status r = tt
-unrefused_shown (Restore written output) old new status r = tt
-unrefused_shown (EditProfile input output) old new status r = tt
-unrefused_shown (EditEvery input output) old new status r = tt
-unrefused_shown (ReportRun report written dump) old new status r = tt
-unrefused_shown (EditTrace input output bits) old new status r = tt
-unrefused_shown Unknown old new status r = tt
+unrefused_shown (Demo number routines) old new status r = elim r.shown [
+  | shown is took ↦ rw is (status_told number routines old (with_err new r.err) r.outcome r.follows.0)
+  | failed is took rose ↦ inr (inr is)
+]
+unrefused_shown _ old new status r = tt
 
 pub wanting_shown : (command : Command) (old new : Outside) (status : ℕ) → Ran command old new status
     → status ≡ 70 → WasWanting command old new
-wanting_shown command old new status r wants = at r.shown
-  where
-    at : Shows r.outcome status r.err new.err → WasWanting command old new
-    at (shown is took) =
-        let kept = (by_status command).wanting old new r.err r.outcome r.follows (omega (arith, is, wants)) in
-        record { files = kept.0; out = kept.1 }
-    at (failed is took rose) = absurd (omega (arith, is, wants))
+wanting_shown command old new status r wants = elim r.shown [
+  | shown is took ↦
+      let kept = (by_status command).wanting old new r.err r.outcome r.follows (omega (arith, is, wants)) in
+      record { files = kept.0; out = kept.1 }
+  | failed is took rose ↦ absurd (omega (arith, is, wants))
+]
 
 pub failed_shown : (command : Command) (old new : Outside) (status : ℕ) → Ran command old new status
     → status ≡ 74 → HasFailed command old new
-failed_shown command old new status r fails = at r.shown
-  where
-    at : Shows r.outcome status r.err new.err → HasFailed command old new
-    at (shown is took) =
-        elim ((by_status command).failed old new r.err r.outcome r.follows (omega (arith, is, fails))) [
-          | inl rose ↦ inl (rose-after old.err.faults r.err.faults new.err.faults r.at_last rose)
-          | inr fails ↦ inr fails
-        ]
-    at (failed is took rose) = inl (rose-before old.err.faults r.err.faults new.err.faults r.later rose)
+failed_shown command old new status r fails = elim r.shown [
+  | shown is took ↦
+      elim ((by_status command).failed old new r.err r.outcome r.follows (omega (arith, is, fails))) [
+        | inl rose ↦ inl (rose-after old.err.faults r.err.faults new.err.faults r.at_last rose)
+        | inr fails ↦ inr fails
+      ]
+  | failed is took rose ↦ inl (rose-before old.err.faults r.err.faults new.err.faults r.later rose)
+]

@@ -11,7 +11,8 @@ use Rattle.eel.specs.Outcome.{Outcome, Done, Stopped, BadNotes, OutOfMemory, Dev
 use Rattle.eel.specs.Answers.Shared.{Feed, Outside, Store, WasRead, outside, store, with_err, written_limit}
 use Rattle.eel.specs.Answers.Run.{HasRun, IsRun, WasBroken, WasFed, stopped_of, was_broken}
 use Rattle.eel.specs.Answers.Dump.{Dumps, unread, unfed, refused, unnoted, ran, AreUnmapped, HasPutAll, HasStopped, IsDumped, IsNotNoted, IsPutAfter, WasDumped, dump_after, dump_means}
-use Rattle.eel.proofs.Later.{appended-nil, put-later}
+use Rattle.v8_step.proofs.Quiet.{appended_nothing}
+use Rattle.eel.proofs.Later.{put-later}
 use Rattle.eel.proofs.Meanings.{IsByStatus, IsBad, bad, refusal_is_bad, refusal_not_wanting, wanting_is_bad, unread_not_done, unread_failed}
 use Rattle.eel.proofs.Restoring.{unnoted_is_bad}
 use Rattle.eel.proofs.Running.{not_run, unfed_failed, unfed_not_done}
@@ -48,7 +49,7 @@ module _ (notes : Notes) (s0 : State) (limit : ℕ) (dump : List ℕ) (old : Out
       out = is.out;
       err =
           took
-          ∙ ap (λ z. appended z (line_of (Stopped ending steps))) (is.err ∙ appended-nil _);
+          ∙ ap (λ z. appended z (line_of (Stopped ending steps))) (is.err ∙ appended_nothing _);
     };
     held = held;
   }

@@ -75,12 +75,7 @@ visit_count original marks notes dump counts visits are = are.len
 
 same_kind : (kind : EdgeKind) → noted_kind kind ≡ kind_number kind
 same_kind kinds.Fall = refl
-same_kind kinds.Taken = refl
-same_kind kinds.Untaken = refl
-same_kind kinds.Call = refl
-same_kind kinds.Out = refl
-same_kind kinds.Land = refl
-same_kind kinds.Case = refl
+same_kind _ = refl
 
 module _ (original : List ℕ) (plan : Plan) (file : List ℕ) (notes : Notes) (is : IsProfiled original plan file notes) where
   abbrev graph : Graph

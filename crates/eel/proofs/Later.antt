@@ -1,13 +1,8 @@
--- What was so from a later moment on is so from an earlier one, between which only faults were counted; and
--- taking nothing.
-use Rattle.std.proofs.Common.{◌≡◌, ℕ, ◌≤◌, List, [], Option, Some, None, inl, inr, refl, ap, sym, ◌∙◌, subst, append-nil, arith}
-use Rattle.eel_base.specs.Outside.{AreUnder, Holding, IsLonger, IsMissing, stored, SameBut, Rose, appended}
+-- What was so from a later moment on is so from an earlier one, between which only faults were counted.
+use Rattle.std.proofs.Common.{◌≡◌, ℕ, ◌≤◌, List, Option, inl, inr, ap, sym, ◌∙◌, subst, arith}
+use Rattle.eel_base.specs.Outside.{AreUnder, Holding, IsLonger, IsMissing, stored, SameBut, Rose}
 use Rattle.eel.specs.Outcome.{Outcome, Done, TooLong, OutOfMemory, DeviceFault}
 use Rattle.eel.specs.Answers.Shared.{Store, store, IsPut, IsUnread, WasRead}
-
-pub appended-nil : (old : Option (List ℕ)) → appended old [] ≡ old
-appended-nil None = refl
-appended-nil (Some bytes) = ap (λ z. Some z) (append-nil bytes)
 
 pub rose-before : (old mid new : ℕ) → old ≤ mid → Rose mid new → Rose old new
 rose-before old mid new later rose = omega arith

@@ -1,10 +1,10 @@
 -- What is true of each command, by the status: the statements, and what all commands share.
-use Rattle.std.proofs.Common.{◌≡◌, ℕ, ◌≤◌, ◌⊎◌, inl, inr, List, [], refl, ap, ◌∙◌, arith}
+use Rattle.std.proofs.Common.{◌≡◌, ℕ, ◌≤◌, ◌⊎◌, inr, List, [], refl, ap, ◌∙◌, arith}
 use Rattle.eel_base.specs.Outside.{Rose, IsMissing, appended, stored}
 use Rattle.eel.specs.Outcome.{Outcome, Done, TooLong, OutOfMemory, DeviceFault, Stream, status_of, line_of}
 use Rattle.eel.specs.Answers.{IsRefusal, IsUnchanged}
 use Rattle.eel.specs.Answers.Shared.{Store, Outside, Meaning, with_err, IsUnread, IsPut, IsPrinted, HaveFailed, files_mean, prints_mean}
-use Rattle.eel.proofs.Later.{appended-nil}
+use Rattle.v8_step.proofs.Quiet.{appended_nothing}
 
 pub record IsByStatus (m : Meaning) : Type 0 where
   pub done : (old new : Outside) (err : Stream) (outcome : Outcome) → m.follows old (with_err new err) outcome
@@ -25,16 +25,10 @@ pub bad : (status : ℕ) → 64 ≤ status → status ≤ 70 → IsBad status
 bad status from to = record { not_done = λ e. absurd (omega (arith, e)); not_failed = λ e. absurd (omega (arith, e)) }
 
 pub refusal_is_bad : (status : ℕ) → IsRefusal status → IsBad status
-refusal_is_bad status (inl is) = bad status (omega arith) (omega arith)
-refusal_is_bad status (inr (inl is)) = bad status (omega arith) (omega arith)
-refusal_is_bad status (inr (inr (inl is))) = bad status (omega arith) (omega arith)
-refusal_is_bad status (inr (inr (inr is))) = bad status (omega arith) (omega arith)
+refusal_is_bad status is = bad status (grind (arith, is)) (grind (arith, is))
 
 pub refusal_not_wanting : (status : ℕ) → IsRefusal status → status ≡ 70 → ⊥
-refusal_not_wanting status (inl is) wants = absurd (omega (arith, is, wants))
-refusal_not_wanting status (inr (inl is)) wants = absurd (omega (arith, is, wants))
-refusal_not_wanting status (inr (inr (inl is))) wants = absurd (omega (arith, is, wants))
-refusal_not_wanting status (inr (inr (inr is))) wants = absurd (omega (arith, is, wants))
+refusal_not_wanting status is wants = grind (arith, is, wants)
 
 pub wanting_is_bad : (status : ℕ) → status ≡ 70 → IsBad status
 wanting_is_bad status is = bad status (omega arith) (omega arith)
@@ -115,7 +109,7 @@ pub files_by_status : (follows : Store → Store → Outcome → Type 0) (does :
 files_by_status follows does lacks are = record {
   done = λ old new err outcome is zero took.
       let (line, done) = are.done old.files new.files outcome is.0 zero in
-      (done, is.1, (is.2.0, took ∙ ap (appended err.taken) line ∙ appended-nil err.taken ∙ is.2.1));
+      (done, is.1, (is.2.0, took ∙ ap (appended err.taken) line ∙ appended_nothing err.taken ∙ is.2.1));
   refused = λ old new outcome is refusal. record {
     files = are.unchanged old.files new.files outcome is.0 (refusal_is_bad _ refusal);
     out = ap (λ s. s.taken) is.2.0;

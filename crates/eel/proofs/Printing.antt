@@ -5,7 +5,7 @@ use Rattle.eel.specs.Outcome.{Outcome, BadFile, OutOfMemory, Stream, status_of, 
 use Rattle.eel.specs.Answers.Shared.{Outside, Store, HaveFailed, with_err, edit_limit}
 use Rattle.eel.specs.Answers.Files.{IsNotSound}
 use Rattle.eel.specs.Answers.Print.{Prints, unread, refused, printed, WerePrinted, print_means}
-use Rattle.eel.proofs.Later.{appended-nil}
+use Rattle.v8_step.proofs.Quiet.{appended_nothing}
 use Rattle.eel.proofs.Meanings.{IsByStatus, IsBad, bad, prints_by_status, unread_not_done, unread_failed, printed_done, printed_not_refused, printed_failed}
 
 not_sound : (name bytes : List ℕ) (outcome : Outcome) → IsNotSound name bytes outcome → IsBad (status_of outcome)
@@ -25,7 +25,7 @@ module _ (lines_of : List ℕ → List ℕ) where
         read = read;
         sound = sound;
         out = out;
-        err = took ∙ ap (appended err.taken) line ∙ appended-nil err.taken ∙ same;
+        err = took ∙ ap (appended err.taken) line ∙ appended_nothing err.taken ∙ same;
       }
 
   silent : (file : List ℕ) (old new : Outside) (outcome : Outcome) → Prints lines_of file old new outcome

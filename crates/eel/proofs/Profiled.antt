@@ -1,8 +1,9 @@
 -- What a profile asks for: the snippets of its callback are counters, by the cells of the edges.
-use Rattle.std.proofs.Common.{◌≡◌, ℕ, zero, suc, ◌+◌, ◌*◌, ◌<◌, cond, List, [], ◌∷◌, length, map, refl, ap, sym, ◌∙◌, subst, zero-add, arith}
-use Rattle.std.specs.Prelude.{Option, Some, None, get_or, slice_get, unwrap_or}
+use Rattle.std.proofs.Common.{◌≡◌, ℕ, zero, suc, ◌+◌, ◌*◌, ◌<◌, cond, List, [], ◌∷◌, length, map, ap, sym, ◌∙◌, subst, zero-add, arith}
+use Rattle.std.specs.Prelude.{Option, Some, None, get_or, unwrap_or}
 use Rattle.std.specs.Option.{is_some}
 use Rattle.std.proofs.lemmas.List.{ext_get_or, get_or-map, length-map}
+use Rattle.std.proofs.lemmas.Option.{slice_get-get_or}
 use Rattle.eel_base.specs.declared.numbers.WordNo.{WordNo}
 use Rattle.flows.specs.Flows.{count_below}
 use Rattle.span_tree.specs.Cells.{AreNumbered, cell_at, cell_count, has_cell}
@@ -57,11 +58,6 @@ are_counters cells numbered = counters_from 0 cells (λ e.
     numbered e
     ∙ ap (λ n. cond (has_cell cells e) (Some n) None) (sym (zero-add (count_below e (has_cell cells)))))
 
-edge_there : (edges : List Edge) (e : ℕ) → e < length edges → slice_get edges e ≡ Some (get_or edges e no_edge)
-edge_there [] e within = absurd (omega arith)
-edge_there (edge ∷ edges) zero within = refl
-edge_there (edge ∷ edges) (suc e) within = edge_there edges e (omega arith)
-
 -- What a callback answers for some edges, one after the other, where it answers for each what the edge's cell asks for.
 module _ {F : Type 0} (says : F → EdgeRef → List Op → Type 0) (choose : F) (cells : List (Option ℕ)) (edges : List Edge)
     (size : length cells ≡ length edges)
@@ -73,7 +69,7 @@ module _ {F : Type 0} (says : F → EdgeRef → List Op → Type 0) (choose : F)
       let inside : e < length edges = omega (arith, within, are.size) in
       let counted : e < length cells = omega (arith, inside, size) in
       answers (with_number e (get_or edges e no_edge)) (get_or snips e [])
-      (are.each e (get_or edges e no_edge) (edge_there edges e inside))
+      (are.each e (get_or edges e no_edge) (slice_get-get_or edges e no_edge inside))
       ∙ sym (get_or-map (counter_in 2) cells e None [] counted))
 
   pub plan_is : (count : ℕ) (marks : List WordNo) (plan : Plan) → count ≡ 2 * cell_count cells

@@ -12,7 +12,7 @@ use Rattle.eel.specs.Answers.Report.{Reports, unread, undumped, refused, printed
 use Rattle.eel.specs.Answers.Shared.{Outside, Store, HaveFailed, with_err, written_limit}
 use Rattle.eel.proofs.ExactProfiles.{are_exact}
 use Rattle.eel.proofs.ExactVisits.{exact_visits}
-use Rattle.eel.proofs.Later.{appended-nil}
+use Rattle.v8_step.proofs.Quiet.{appended_nothing}
 use Rattle.eel.proofs.Meanings.{IsByStatus, IsBad, prints_by_status, unread_not_done, unread_failed, printed_done, printed_not_refused, printed_failed}
 use Rattle.eel.proofs.ToldEdges.{are_the_last}
 use Rattle.eel.proofs.Unreported.{unreported_is_bad}
@@ -46,7 +46,7 @@ module _ (report : Report) (written dump : List ℕ) where
         told = told;
         exact = exact report file told.notes told.dump lines told.read.noted told.tell;
         out = out;
-        err = took ∙ ap (appended err.taken) line ∙ appended-nil err.taken ∙ same;
+        err = took ∙ ap (appended err.taken) line ∙ appended_nothing err.taken ∙ same;
       }
 
   silent : (old new : Outside) (outcome : Outcome) → Reports report written dump old new outcome

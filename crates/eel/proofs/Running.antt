@@ -16,7 +16,7 @@ use Rattle.v8_process.specs.Start.{start_of}
 use Rattle.eel.specs.Outcome.{Outcome, Stopped, BadFile, TooLong, OutOfMemory, DeviceFault, Stream, status_of, line_of}
 use Rattle.eel.specs.Answers.Shared.{Feed, Outside, with_err, written_limit}
 use Rattle.eel.specs.Answers.Run.{Runs, unread, unfed, refused, ran, HasRun, IsRun, IsNotRun, IsUnfed, WasRun, run_means, stopped_of}
-use Rattle.eel.proofs.Later.{appended-nil}
+use Rattle.v8_step.proofs.Quiet.{appended_nothing}
 use Rattle.eel.proofs.Meanings.{IsByStatus, IsBad, bad, refusal_is_bad, wanting_is_bad, unread_not_done, unread_failed}
 
 -- a part of b after all of a is a part of both
@@ -50,14 +50,14 @@ run_comes s0 s limit steps Limit old_out new_out old_err new_err is (all, none) 
   stops = inl all;
   ends = rw is at none;
   out = out;
-  err = err ∙ sym (appended-nil (appended old_err.taken (run_puts s0 steps 2)));
+  err = err ∙ sym (appended_nothing (appended old_err.taken (run_puts s0 steps 2)));
 }
 run_comes s0 s limit steps (Ended ending) old_out new_out old_err new_err is (within, ends) made out err cause = record {
   made = made;
   stops = inr (within, (ending, rw is at ends));
   ends = rw is at ends;
   out = out;
-  err = err ∙ sym (appended-nil (appended old_err.taken (run_puts s0 steps 2)));
+  err = err ∙ sym (appended_nothing (appended old_err.taken (run_puts s0 steps 2)));
 }
 run_comes s0 s limit steps SinkFault old_out new_out old_err new_err is (within, none) made out err cause = record {
   steps = steps;
@@ -105,7 +105,7 @@ ran_done s0 limit old_out new_out old_err err new_err (Stopped ending steps) is 
     stops = is.stops;
     ends = is.ends;
     out = is.out;
-    err = took ∙ ap (λ z. appended z (line_of (Stopped ending steps))) (is.err ∙ appended-nil (appended old_err.taken (run_puts s0 steps 2)));
+    err = took ∙ ap (λ z. appended z (line_of (Stopped ending steps))) (is.err ∙ appended_nothing (appended old_err.taken (run_puts s0 steps 2)));
   };
 }
 ran_done s0 limit old_out new_out old_err err new_err DeviceFault is zero took = absurd (omega arith)

@@ -55,13 +55,7 @@ only_memory : (dump : Dump) (fault : CountFault) → (dump.ending ≡ None → �
     → fault ≡ count_faults.NoMemory
 only_memory dump (count_faults.Between pc) ended may = absurd (ended may.1)
 only_memory dump count_faults.NoMemory ended may = refl
-only_memory dump count_faults.NoProfile ended may = absurd may
-only_memory dump (count_faults.Version of wanted) ended may = absurd may
-only_memory dump (count_faults.Other length wanted) ended may = absurd may
-only_memory dump (count_faults.Shape cells wanted) ended may = absurd may
-only_memory dump (count_faults.TooLong steps) ended may = absurd may
-only_memory dump (count_faults.Negative edge value) ended may = absurd may
-only_memory dump (count_faults.Large edge value) ended may = absurd may
+only_memory dump _ ended may = absurd may
 
 -- no counter begins at 0 again within so many steps
 in_each_version : (version m : ℕ) → m < 2 ^ 32 → m < counter_limit version

@@ -4,7 +4,7 @@ use Rattle.eel_base.specs.Outside.{Rose, appended}
 use Rattle.eel.specs.Outcome.{Outcome, Done, DeviceFault, Stream, status_of, line_of}
 use Rattle.eel.specs.Answers.Shared.{Outside, IsPrinted, with_err}
 use Rattle.eel.specs.Answers.Demo.{Tells, wanting, printed, WasTold, demo_means}
-use Rattle.eel.proofs.Later.{appended-nil}
+use Rattle.v8_step.proofs.Quiet.{appended_nothing}
 use Rattle.eel.proofs.Meanings.{IsByStatus, IsBad, prints_by_status, printed_done, printed_not_refused, printed_failed}
 
 module _ (number routines : ℕ) where
@@ -18,7 +18,7 @@ module _ (number routines : ℕ) where
         lines = lines;
         told = told;
         out = out;
-        err = took ∙ ap (appended err.taken) line ∙ appended-nil err.taken ∙ same;
+        err = took ∙ ap (appended err.taken) line ∙ appended_nothing err.taken ∙ same;
       }
 
   silent : (old new : Outside) (outcome : Outcome) → Tells number routines old new outcome

@@ -1,16 +1,18 @@
 -- What the tools of the words ask for is what their callbacks answer.
-use Rattle.std.proofs.Common.{◌≡◌, ℕ, zero, suc, ◌^◌, ◌<◌, ◌≤◌, Bool, true, false, nat_lt, List, [], ◌∷◌, length, map, Some, Result, Ok, Err, refl, ap, sym, subst, ◌∙◌, arith}
-use Rattle.std.specs.Prelude.{IfErr, IfOk, get_or, slice_get}
+use Rattle.std.proofs.Common.{◌≡◌, ℕ, ◌^◌, ◌<◌, ◌≤◌, inl, inr, List, [], length, map, Result, Ok, Err, ap, sym, subst, ◌∙◌, arith}
+use Rattle.std.specs.Prelude.{IfErr, IfOk, get_or}
 use Rattle.std.specs.List.{range_with_len}
-use Rattle.std.proofs.lemmas.Bool.{ltb-true, ltb-false}
-use Rattle.std.proofs.lemmas.List.{ext_get_or}
+use Rattle.std.proofs.lemmas.Bool.{cases_lt}
+use Rattle.std.proofs.lemmas.List.{ext_get_or, get_or_past}
 use Rattle.std.proofs.lemmas.List.FromFn.{get_or-map-range_with_len, length-map-range_with_len}
+use Rattle.std.proofs.lemmas.Option.{slice_get-get_or}
 use Rattle.snippets.specs.declared.snippet.Op.{Op}
 use Rattle.snippets.specs.declared.script.Script.{Script}
 use Rattle.snippets.specs.Cells.{WorksBelow}
 use Rattle.snippets.specs.Grammar.{AllSay}
 use Rattle.snippets.specs.Scripts.{IsScript, cell_end, edge_end, end_of, ops_on}
 use Rattle.snippets.proofs.Within.{good_within}
+use Rattle.span_tree.specs.Links.{no_edge}
 use Rattle.cfg_normal.specs.declared.Edge.{Edge}
 use Rattle.tool_kit.specs.declared.edge_ref.EdgeRef.{EdgeRef}
 use Rattle.tool_kit.specs.declared.edge_ref.ToolKind.{ToolKind}
@@ -26,28 +28,18 @@ use Rattle.edit_core.specs.Written.{IsTheEdit}
 use Rattle.eel.specs.Answers.Edit.{IsEditOf, asked}
 use Rattle.eel.specs.Answers.Script.{HasCells}
 
-get-past : (snips : List (List Op)) (k : ℕ) → length snips ≤ k → get_or snips k [] ≡ []
-get-past [] k past = refl
-get-past (snip ∷ snips) zero past = absurd (omega arith)
-get-past (snip ∷ snips) (suc k) past = get-past snips k (omega arith)
-
 none_below : (cells : ℕ) → WorksBelow cells []
 none_below cells = λ k d within. absurd (omega arith)
 
 -- a list that is made for each number up to some has only what each of them has, or nothing
 made_below : (cells : ℕ) (ops : ℕ → List Op) (count : ℕ) → ((edge : ℕ) → WorksBelow cells (ops edge)) → (edge : ℕ)
     → WorksBelow cells (get_or (map ops (range_with_len 0 count)) edge [])
-made_below cells ops count each edge = by_test (nat_lt edge count) refl
-  where
-    by_test : (b : Bool) → nat_lt edge count ≡ b → WorksBelow cells (get_or (map ops (range_with_len 0 count)) edge [])
-    by_test true is =
-        let within = ltb-true edge count is in
-        subst (WorksBelow cells) (sym (get_or-map-range_with_len ops 0 count edge edge [] within (omega arith))) (each edge)
-    by_test false is =
-        let past = ltb-false edge count is in
-        let long = length-map-range_with_len ops 0 count in
-        subst (WorksBelow cells) (sym (get-past (map ops (range_with_len 0 count)) edge (omega (arith, past, long))))
-        (none_below cells)
+made_below cells ops count each edge = elim (cases_lt edge count) [
+  | inl within ↦ rw (get_or-map-range_with_len ops 0 count edge edge [] within (omega arith)) (each edge)
+  | inr past ↦
+      let long = length-map-range_with_len ops 0 count in
+      rw (get_or_past (map ops (range_with_len 0 count)) edge [] (omega (arith, past, long))) (none_below cells)
+]
 
 -- a good script has few cells, and works on them
 pub script_has_cells : (edges : ℕ) (lines : List (List ℕ)) (said : _) (script : Script) → AllSay lines said
@@ -64,11 +56,6 @@ script_has_cells edges lines said script all is =
 
 -- ---- answers that are known
 
-read_within : (edges : List Edge) (k : ℕ) → k < length edges → (edge : Edge) × (slice_get edges k ≡ Some edge)
-read_within [] k within = absurd (omega arith)
-read_within (edge ∷ edges) zero within = (edge, refl)
-read_within (edge ∷ edges) (suc k) within = read_within edges k (omega (arith, within))
-
 -- Where the answer for each number is known, so is the whole list.
 pub all_asked : {F : Type 0} (says : F → EdgeRef → List Op → Type 0) (choose : F) (edges : List Edge)
     (snips : List (List Op)) (ops : ℕ → List Op)
@@ -79,8 +66,7 @@ all_asked says choose edges snips ops known are =
     (are.size ∙ sym (length-map-range_with_len ops 0 (length edges)))
     (λ k within.
     let low : k < length edges = subst (λ (n : ℕ). k < n) are.size within in
-    let there = read_within edges k low in
-    known k there.0 (get_or snips k []) (are.each k there.0 there.1)
+    known k (get_or edges k no_edge) (get_or snips k []) (are.each k _ (slice_get-get_or edges k no_edge low))
     ∙ sym (get_or-map-range_with_len ops 0 (length edges) k k [] low (omega arith)))
 
 -- ---- what an edit with such a tool is

@@ -13,9 +13,9 @@ ghost use Rattle.eel.specs.Answers.Every.{every_view, every_word, word_numbered}
 
 use crate::edit::{EDIT_LIMIT, refusal};
 use crate::outcome::Outcome;
-use crate::profile::profiled_with;
+use crate::profile::profiled_view;
 use crate::texts::{fetch_file, put_file};
-use cfg_view::{View, look};
+use cfg_view::{View, view_image};
 use edit_core::EditFault;
 use eel_base::{Files, NoMemory, WordNo};
 use elf32_sparc::{ReadFault, read_image};
@@ -50,28 +50,22 @@ fn marked(alloc: Global, bytes: &[u8]) -> Result<Vec<u8>, EditFault>
     ensures refused { let marks = every_word bytes.now in
         IfErr result (CountersRefuse marks (guessed_with bytes.now marks) bytes.now) }
 {
-    let marks = every_word(alloc, bytes)?;
-    profiled_with(alloc, bytes, marks)
+    let (view, marks) = look_at_words(alloc, bytes)?;
+    profiled_view(alloc, bytes, &view, marks)
 }
 
-/// The view of a file with every word of its text marked.
-pub fn look_at_words(alloc: Global, bytes: &[u8]) -> Result<View, ReadFault>
+/// The view of a file with every word of its text marked, and these marks.
+#[tactic(auto, unfolding(cfg_view::specs::View::view_of))]
+pub fn look_at_words(alloc: Global, bytes: &[u8]) -> Result<(View, Vec<WordNo>), ReadFault>
     ensures fault { refusal result ≡ fault bytes.now }
-    ensures view { IfOk result (λ view. view_seen view ≡ every_view bytes.now) }
-    ensures whole { IfOk result IsView }
-{
-    let marks = every_word(alloc, bytes)?;
-    look(alloc, bytes, &marks)
-}
-
-/// All words of a file's text.
-fn every_word(alloc: Global, bytes: &[u8]) -> Result<Vec<WordNo>, ReadFault>
-    ensures fault { refusal result ≡ fault bytes.now }
-    ensures words { IfOk result (λ words. numbers words.items ≡ every_word bytes.now) }
+    ensures view { IfOk result (λ looked. view_seen looked.0 ≡ every_view bytes.now) }
+    ensures whole { IfOk result (λ looked. IsView looked.0) }
+    ensures words { IfOk result (λ looked. numbers looked.1.items ≡ every_word bytes.now) }
 {
     let image = read_image(alloc, bytes)?;
-    let words = words_below(alloc, image.text().len())?;
-    Ok(words)
+    let marks = words_below(alloc, image.text().len())?;
+    let view = view_image(alloc, image, &marks)?;
+    Ok((view, marks))
 }
 
 /// The first words, so many of them.

@@ -67,7 +67,7 @@ fn every_word_in<'a>(
         IsNotEveryWord name.now file.now (notes_seen notes.now) (outcome_seen outcome)) }
 {
     let view = match look_at_words(alloc, original_in(file, notes)) {
-        Ok(view) => view,
+        Ok((view, _)) => view,
         Err(fault) => return Err(unmarked(name, fault)),
     };
     if matches(&view, notes) {
