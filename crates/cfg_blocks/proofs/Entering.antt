@@ -18,12 +18,6 @@ pub added_all-append : (into : Into) (xs ys : List Entry)
 added_all-append into [] ys = refl
 added_all-append into (x ∷ xs) ys = added_all-append (added into x) xs ys
 
--- the edges of one block more
-pub counted_from_more : (b : Blocks) (is_bare : ℕ → Bool) (count word : ℕ)
-    → counted_from b is_bare (suc count) word
-    ≡ counted_from b is_bare count word ++ counted count (is_bare count) (ways_from b count) word
-counted_from_more b is_bare count word = simp (flat_map-append, append-nil)
-
 -- where the blocks are bare alike
 pub counted_from_same : (b : Blocks) (p q : ℕ → Bool) (count word : ℕ) → ((k : ℕ) → k < count → p k ≡ q k)
     → counted_from b p count word ≡ counted_from b q count word

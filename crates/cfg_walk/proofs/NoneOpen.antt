@@ -97,26 +97,6 @@ on_edge text b node point way h = record {
       (to.0, to.1 ∙ directed_none node way (node_of b (word_at text point.npc)));
 }
 
--- ---- edges
-
-abbrev pub block_landing : ℕ → Edge
-block_landing k = landing_at (block k)
-
-filter_none : (xs : List ℕ) → filter (is_copied []) xs ≡ []
-filter_none [] = refl
-filter_none (x ∷ xs) = filter_none xs
-
-landings_none : (xs : List ℕ) → map landing_at (flat_map (landings_of []) xs) ≡ map block_landing xs
-landings_none [] = refl
-landings_none (x ∷ xs) = ap (λ (es : List Edge). block_landing x ∷ es) (landings_none xs)
-
--- those of the blocks, and a landing at each
-pub edges_none : (b : Blocks)
-    → edges_in b []
-    ≡ flat_map (edges_of b []) (below (length b.firsts)) ++ map block_landing (below (length b.firsts))
-unfolding edges_in
-edges_none b = rw (filter_none (below (length b.firsts)), append-nil, landings_none) refl
-
 -- ---- edges lie in their graph, whatever switches are open
 
 each_zip : {A : Type 0} (P Q R : A → Type 0) (xs : List A) → ((x : A) → P x → Q x → R x) → Each P xs → Each Q xs

@@ -13,14 +13,11 @@ use Rattle.notes.specs.Rules.{AreNotes}
 use Rattle.notes.specs.Seen.{edge_seen, notes_seen}
 use Rattle.notes.specs.declared.note.Notes as declared_notes
 use Rattle.count_rebuild.specs.Noted.{AreNodes, has_cell, is_counted, is_node, link_of, noted_graph}
-use Rattle.count_rebuild.proofs.Rules.{block_is_node, counted_is, edge_named, edges_inside, graph_is, links_seen, same_nodes}
+use Rattle.count_rebuild.proofs.Rules.{counted_is, edge_named, edges_inside, graph_is, links_seen, same_nodes}
 
 module _ (n : declared_notes.Notes) (nodes : List Bool) (are_nodes : AreNodes (notes_seen n) nodes) where
   pub node_marked : (v : ℕ) → v ≤ 2 * length n.blocks.items → is_node (notes_seen n) v ≡ true → marked nodes v ≡ true
   node_marked v l h = are_nodes.are v (let len = are_nodes.len in omega (arith, l, len)) ∙ h
-
-  pub block_marked : (v : ℕ) → v ≤ length n.blocks.items → marked nodes v ≡ true
-  block_marked v l = node_marked v (omega (arith, l)) (block_is_node (notes_seen n) v l)
 
   module _ (links : List Link) (are : links ≡ map (λ edge. link_of (edge_seen edge)) n.edges.items) where
     pub joins : AreNotes (notes_seen n) → JoinsNodes nodes links

@@ -79,5 +79,5 @@ impossible notes dump node flow stands is many (faults.Large edge value) h = rec
   first = subst (λ (edges : ℕ). IsFirst is_large edges (int_at flow) edge.0 value) many h.1;
 }
 impossible notes dump node flow stands is many faults.NoMemory h =
-    stands.short.theirs.for_them.alike.profile.tool
+    stands.short.theirs.for_them.alike.right.tool
 impossible notes dump node flow stands is many _ h = absurd h

@@ -1,8 +1,9 @@
 -- How often each edge was completed, by the cells of a dump and where the run stands.
-use Rattle.std.specs.Prelude.{◌≡◌, ℕ, ◌+◌, ◌*◌, ◌<◌, ◌^◌, ◌==◌, nat_le, if◌then◌else◌, Bool, true, false, List, length, slice_index_or, Option, Some, None, ℤ, pos, negsuc}
+use Rattle.std.specs.Prelude.{◌≡◌, ℕ, ◌+◌, ◌*◌, ◌<◌, ◌^◌, ◌==◌, nat_le, if◌then◌else◌, Bool, true, false, List, slice_index_or, Option, Some, None, ℤ, pos, negsuc}
 use Rattle.notes.specs.Format.{Notes, node_at}
 use Rattle.flows.specs.Flows.{IsTheFlow}
 use Rattle.dump_file.specs.Dump.{Dump}
+use Rattle.count_rebuild.specs.Dumps.{IsTheirs}
 use Rattle.count_rebuild.specs.Noted.{edge_at, has_cell, noted_graph, IsProfile}
 
 -- what a counter holds: a cell in version 1, and in version 2 a cell and the next one, the high word first
@@ -27,24 +28,9 @@ IsFlowTo notes dump node flow =
 
 -- ---- which dumps have one
 
--- a dump of the version of a profile's notes
-pub record IsAlike (notes : Notes) (dump : Dump) : Type 0 where
-  pub profile : IsProfile notes
-  pub version : dump.version ≡ notes.version
-
--- which in version 2 was made for the same original
-pub record IsForThem (notes : Notes) (dump : Dump) : Type 0 where
-  pub alike : IsAlike notes dump
-  pub length : notes.version ≡ 2 → dump.length ≡ notes.length
-
--- a dump of the notes' file: it has their cells
-pub record IsTheirs (notes : Notes) (dump : Dump) : Type 0 where
-  pub for_them : IsForThem notes dump
-  pub cells : length dump.cells ≡ notes.cells
-
 -- no counter can have begun at 0 again
 pub record IsShort (notes : Notes) (dump : Dump) : Type 0 where
-  pub theirs : IsTheirs notes dump
+  pub theirs : IsTheirs IsProfile notes dump
   pub steps : notes.version ≡ 1 → dump.steps < 2 ^ 32
 
 -- the run stands at a node

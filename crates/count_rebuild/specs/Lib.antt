@@ -1,4 +1,5 @@
 pub mod Noted
+pub mod Dumps
 pub mod Counts
 pub mod Answers
 pub mod Parts

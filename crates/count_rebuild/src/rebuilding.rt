@@ -4,7 +4,8 @@ ghost use Rattle.notes.specs.Rules.{AreNotes};
 ghost use Rattle.notes.specs.Seen.{edge_seen, notes_seen};
 ghost use Rattle.dump_file.specs.Dump.{Dump as DumpSeen, dump_seen};
 ghost use Rattle.count_rebuild.specs.Answers.{AreCounts, IsRefused};
-ghost use Rattle.count_rebuild.specs.Counts.{IsAlike, IsForThem, IsShort, IsTheirs, StandsAt};
+ghost use Rattle.count_rebuild.specs.Counts.{IsShort, StandsAt};
+ghost use Rattle.count_rebuild.specs.Dumps.{IsAlike, IsForThem, IsTheirs};
 ghost use Rattle.count_rebuild.specs.Noted.{link_of, IsProfile};
 ghost use Rattle.count_rebuild.specs.declared.fault.CountFault.TheVariants as faults;
 ghost use Rattle.count_rebuild.specs.Parts.{AreWhole, IsBad, IsSmall, IsTreeOf, IsWhole};
@@ -79,7 +80,7 @@ fn profile_tree(alloc: Global, n: &Notes, links: &[Link]) -> Result<Tree, CountF
 /// Refuses a dump of the other version.
 fn keep_alike(n: &Notes, d: &Dump) -> Result<(), CountFault>
     requires profile { IsProfile (notes_seen n.now) }
-    ensures alike { IfOk result (λ _. IsAlike (notes_seen n.now) (dump_seen d.now)) }
+    ensures alike { IfOk result (λ _. IsAlike IsProfile (notes_seen n.now) (dump_seen d.now)) }
     ensures refused { IfErr result (IsRefused (notes_seen n.now) (dump_seen d.now)) }
     ensures judged { IfErr result (λ fault. fault ≢ faults.NoMemory) }
 {
@@ -94,8 +95,8 @@ fn keep_alike(n: &Notes, d: &Dump) -> Result<(), CountFault>
 
 /// Refuses one that was made for another original; in version 1 it doesn't tell.
 fn keep_for_them(n: &Notes, d: &Dump) -> Result<(), CountFault>
-    requires alike { IsAlike (notes_seen n.now) (dump_seen d.now) }
-    ensures theirs { IfOk result (λ _. IsForThem (notes_seen n.now) (dump_seen d.now)) }
+    requires alike { IsAlike IsProfile (notes_seen n.now) (dump_seen d.now) }
+    ensures theirs { IfOk result (λ _. IsForThem IsProfile (notes_seen n.now) (dump_seen d.now)) }
     ensures refused { IfErr result (IsRefused (notes_seen n.now) (dump_seen d.now)) }
     ensures judged { IfErr result (λ fault. fault ≢ faults.NoMemory) }
 {
@@ -111,8 +112,8 @@ fn keep_for_them(n: &Notes, d: &Dump) -> Result<(), CountFault>
 /// Refuses one with another number of cells.
 fn keep_theirs(n: &Notes, d: &Dump) -> Result<(), CountFault>
     requires cells { length d.now.cells.items < 2 ^ 32 }
-    requires for_them { IsForThem (notes_seen n.now) (dump_seen d.now) }
-    ensures theirs { IfOk result (λ _. IsTheirs (notes_seen n.now) (dump_seen d.now)) }
+    requires for_them { IsForThem IsProfile (notes_seen n.now) (dump_seen d.now) }
+    ensures theirs { IfOk result (λ _. IsTheirs IsProfile (notes_seen n.now) (dump_seen d.now)) }
     ensures refused { IfErr result (IsRefused (notes_seen n.now) (dump_seen d.now)) }
     ensures judged { IfErr result (λ fault. fault ≢ faults.NoMemory) }
 {
@@ -128,7 +129,7 @@ fn keep_theirs(n: &Notes, d: &Dump) -> Result<(), CountFault>
 
 /// Refuses one after which a counter can have begun at 0 again.
 fn keep_short(n: &Notes, d: &Dump) -> Result<(), CountFault>
-    requires theirs { IsTheirs (notes_seen n.now) (dump_seen d.now) }
+    requires theirs { IsTheirs IsProfile (notes_seen n.now) (dump_seen d.now) }
     ensures short { IfOk result (λ _. IsShort (notes_seen n.now) (dump_seen d.now)) }
     ensures refused { IfErr result (IsRefused (notes_seen n.now) (dump_seen d.now)) }
     ensures judged { IfErr result (λ fault. fault ≢ faults.NoMemory) }

@@ -9,7 +9,7 @@ use Rattle.v8_step.specs.Run.{run}
 use Rattle.snippets.specs.declared.snippet.Op.{Op}
 use Rattle.snippets.specs.Cells.{update}
 use Rattle.cfg_walk.specs.Walk.{gone_in, walk}
-use Rattle.image_code.specs.Simulates.{Setting, graph_in, snippet_on, store_of, updates}
+use Rattle.image_code.specs.Store.{Edit, snippet_on, store_of, updates}
 use Rattle.edge_ring.specs.Ring.{IsRingOf, ring_on}
 use Rattle.edge_ring.specs.Stores.{StoresAreRings}
 use Rattle.edge_ring.proofs.Ring.{goes_on, zeros}
@@ -39,17 +39,17 @@ module _ (bits : ℕ) (few : bits ≤ 16) where
         (updated edges (before ++ edge ∷ []) (update (register_of s) (snippet_on snips edge) cells) s
         (All-tail HasRing edge edges have) one)
 
-  stores : (g : Setting) (entry : ℕ) (s0 : State) (n : ℕ) → g.notes.cells ≡ 1 + 2 ^ bits
-      → All (HasRing g.snips) (walk g.text (graph_in g) entry s0 n)
-      → IsRingOf bits (walk g.text (graph_in g) entry s0 n) (store_of g entry s0 n)
+  stores : (g : Edit) (entry : ℕ) (s0 : State) (n : ℕ) → g.notes.cells ≡ 1 + 2 ^ bits
+      → All (HasRing g.snips) (walk g.text g.graph entry s0 n)
+      → IsRingOf bits (walk g.text g.graph entry s0 n) (store_of g entry s0 n)
   unfolding walk
   stores g entry s0 zero size have = zeros bits few g.notes.cells (size_more size)
     where
       size_more : g.notes.cells ≡ 1 + 2 ^ bits → g.notes.cells ≡ suc (2 ^ bits)
       size_more is = omega (arith, is)
   stores g entry s0 (suc n) size have =
-      let before = walk g.text (graph_in g) entry s0 n in
-      let gone = gone_in g.text (graph_in g) entry s0 n in
+      let before = walk g.text g.graph entry s0 n in
+      let gone = gone_in g.text g.graph entry s0 n in
       updated g.snips gone before (store_of g entry s0 n) (run s0 (suc n)) (all_last (HasRing g.snips) before gone have)
       (stores g entry s0 n size (all_first (HasRing g.snips) before gone have))
 

@@ -3,12 +3,12 @@ use Rattle.std.specs.Prelude.{◌≡◌, ℕ, ◌+◌, ◌^◌, ◌≤◌}
 use Rattle.std.specs.List.{All}
 use Rattle.v8_step.specs.State.{State}
 use Rattle.cfg_walk.specs.Walk.{walk}
-use Rattle.image_code.specs.Simulates.{Setting, graph_in, snippet_on, store_of}
+use Rattle.image_code.specs.Store.{Edit, snippet_on, store_of}
 use Rattle.edge_ring.specs.Ring.{IsRingOf, ring_on}
 
 -- where the edges that the first n steps complete have the ring's snippets
 abbrev pub StoresAreRings : Type 0
 StoresAreRings =
-    (bits : ℕ) (g : Setting) (entry : ℕ) (s0 : State) (n : ℕ) → bits ≤ 16 → g.notes.cells ≡ 1 + 2 ^ bits
-    → All (λ edge. snippet_on g.snips edge ≡ ring_on bits edge) (walk g.text (graph_in g) entry s0 n)
-    → IsRingOf bits (walk g.text (graph_in g) entry s0 n) (store_of g entry s0 n)
+    (bits : ℕ) (e : Edit) (entry : ℕ) (s0 : State) (n : ℕ) → bits ≤ 16 → e.notes.cells ≡ 1 + 2 ^ bits
+    → All (λ edge. snippet_on e.snips edge ≡ ring_on bits edge) (walk e.text e.graph entry s0 n)
+    → IsRingOf bits (walk e.text e.graph entry s0 n) (store_of e entry s0 n)

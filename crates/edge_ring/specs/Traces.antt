@@ -3,6 +3,7 @@ use Rattle.std.specs.Prelude.{◌≡◌, ℕ, ◌+◌, ◌^◌, ◌≤◌, nat_l
 use Rattle.std.specs.List.{position}
 use Rattle.notes.specs.Format.{Notes, node_at}
 use Rattle.dump_file.specs.Dump.{Dump}
+use Rattle.count_rebuild.specs.Dumps.{IsTheirs}
 
 -- notes of a trace: behind the count its ring has 2 to 2^16 places, a power of 2
 pub record IsTrace (notes : Notes) : Type 0 where
@@ -12,24 +13,9 @@ pub record IsTrace (notes : Notes) : Type 0 where
   pub few : bits ≤ 16
   pub cells : notes.cells ≡ 1 + 2 ^ bits
 
--- a dump of the version of a trace's notes
-pub record IsAlike (notes : Notes) (dump : Dump) : Type 0 where
-  pub trace : IsTrace notes
-  pub version : dump.version ≡ notes.version
-
--- which in version 2 was made for the same original
-pub record IsForThem (notes : Notes) (dump : Dump) : Type 0 where
-  pub alike : IsAlike notes dump
-  pub length : notes.version ≡ 2 → dump.length ≡ notes.length
-
--- a dump of the notes' file: it has their cells
-pub record IsTheirs (notes : Notes) (dump : Dump) : Type 0 where
-  pub for_them : IsForThem notes dump
-  pub cells : length dump.cells ≡ notes.cells
-
 -- the run stands at a node
 pub record IsPlaced (notes : Notes) (dump : Dump) : Type 0 where
-  pub theirs : IsTheirs notes dump
+  pub theirs : IsTheirs IsTrace notes dump
   pub node : ℕ
   pub at : node_at notes dump.pc ≡ Some node
 

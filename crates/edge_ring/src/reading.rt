@@ -4,9 +4,10 @@ ghost use Rattle.std.specs.List.{All, filter_map, list_any, position, range_with
 ghost use Rattle.notes.specs.Rules.{AreNotes};
 ghost use Rattle.notes.specs.Seen.{notes_seen};
 ghost use Rattle.dump_file.specs.Dump.{dump_seen};
+ghost use Rattle.count_rebuild.specs.Dumps.{IsTheirs};
 ghost use Rattle.edge_ring.specs.Answers.{AreLast, IsRefused};
 ghost use Rattle.edge_ring.specs.Ring.{edge_no_in, edges_in};
-ghost use Rattle.edge_ring.specs.Traces.{IsPlaced, IsTheirs, IsTrace, IsWhole};
+ghost use Rattle.edge_ring.specs.Traces.{IsPlaced, IsTrace, IsWhole};
 
 use crate::RingFault;
 use count_rebuild::node_at;
@@ -43,7 +44,7 @@ pub fn last_edges(alloc: Global, n: &Notes, d: &Dump) -> Result<Vec<EdgeNo>, Rin
 /// Judges that the notes are those of a trace, and the dump is one of their file.
 fn judge_dump(n: &Notes, d: &Dump) -> Result<(), RingFault>
     requires { length d.now.cells.items < 2 ^ 32 }
-    ensures theirs { OnOk result (IsTheirs (notes_seen n.now) (dump_seen d.now)) }
+    ensures theirs { OnOk result (IsTheirs IsTrace (notes_seen n.now) (dump_seen d.now)) }
     ensures refused { IfErr result (IsRefused (notes_seen n.now) (dump_seen d.now)) }
 {
     if !is_trace(n) {
@@ -99,7 +100,7 @@ fn has_places(cells: u32, bits: u32) -> bool
 /// Judges that the run stands at a node.
 fn judge_place(n: &Notes, d: &Dump) -> Result<(), RingFault>
     requires notes { AreNotes (notes_seen n.now) }
-    requires theirs { IsTheirs (notes_seen n.now) (dump_seen d.now) }
+    requires theirs { IsTheirs IsTrace (notes_seen n.now) (dump_seen d.now) }
     ensures placed { OnOk result (IsPlaced (notes_seen n.now) (dump_seen d.now)) }
     ensures refused { IfErr result (IsRefused (notes_seen n.now) (dump_seen d.now)) }
 {

@@ -1,7 +1,8 @@
 -- An edit is faithful.
-use Rattle.std.proofs.Common.{◌≡◌, ℕ, ◌+◌, ◌*◌, ◌^◌, ◌<◌, ◌≤◌, true, List, [], ◌∷◌, ◌++◌, length, map, slice_index, Some, refl, ap, sym, ◌∙◌, subst, arith, All}
+use Rattle.std.proofs.Common.{◌≡◌, ℕ, suc, ◌+◌, ◌*◌, ◌^◌, ◌<◌, ◌≤◌, true, false, List, [], ◌∷◌, ◌++◌, length, map, slice_index, Some, refl, ap, sym, ◌∙◌, subst, arith, All}
 use Rattle.std.specs.Prelude.{slice_get}
 use Rattle.std.specs.List.{list_any}
+use Rattle.std.specs.Option.{option_map}
 use Rattle.std.proofs.lemmas.Bool.{le-leb, lt-ltb}
 use Rattle.std.proofs.lemmas.List.{append_assoc}
 use Rattle.std.proofs.lemmas.Option.{slice_get_within, get_or_from_slice_get}
@@ -10,6 +11,11 @@ use Rattle.elf32_sparc.specs.Image.{image_of}
 use Rattle.elf32_sparc.specs.Mapping.{Mapping, mappings}
 use Rattle.notes.specs.Format.{NoteRange, NoteSegment, Notes}
 use Rattle.v8_decode.specs.declared.Part.{Part}
+use Rattle.v8_decode.specs.Words.{decode_of}
+use Rattle.v8_step.specs.State.{State}
+use Rattle.v8_step.specs.Run.{run}
+use Rattle.v8_process.specs.Start.{start_of}
+use Rattle.cfg_walk.specs.Walk.{instr_at}
 use Rattle.elf32_write.specs.Headers.{AddedSegment}
 use Rattle.elf32_write.specs.Laws.{AreBytes, kept, mapping_added}
 use Rattle.cfg_blocks.specs.Blocks.{holding_of}
@@ -21,11 +27,17 @@ use Rattle.cfg_walk.proofs.Lists.{Each, each, each-append, each-then}
 use Rattle.addr_translate.specs.Lookup.{TableAt}
 use Rattle.layout.specs.Laid.{Placement, IsWordAt}
 use Rattle.image_code.specs.Fit.{AreFit, PlacesSay}
+use Rattle.image_code.specs.Keeping.{AreCaseTables}
+use Rattle.image_code.specs.Simulates.{IsNoLoad}
+use Rattle.image_code.proofs.CaseTables.{are_tables}
+use Rattle.image_code.proofs.Opened.{cased}
 use Rattle.image_code.specs.Parts.{codes_of}
 use Rattle.tool_kit.specs.Plans.{Plan}
-use Rattle.edit_core.specs.Taken.{CanEdit}
-use Rattle.edit_core.specs.Faithful.{IsFaithful, HasGraph, HasPages, IsInRoom, IsPlace, holds_cells, note_edges, note_of, word_mapped}
-use Rattle.edit_core.specs.Written.{CanDo, IsNewCode, IsEdit, EditsRunAlike, added, cases_at, cells_at, cells_base, if_any, segment_size, text_of, graph_in, table_base, code_base, pieces_of, off_range, off_ranges, table_at, code_segment, page_segment, notes_on, edit_file}
+use Rattle.edit_core.specs.Taken.{CanEdit, bound_in}
+use Rattle.edit_core.specs.Cost.{IsEdited, IsWithinBound, StoresLittle, is_ld}
+use Rattle.edit_core.specs.RunsAlike.{ForEachRun, edit_of}
+use Rattle.edit_core.specs.Faithful.{HasGraph, HasPages, IsInRoom, IsPlace, holds_cells, note_edges, note_of, word_mapped}
+use Rattle.edit_core.specs.Written.{CanDo, IsNewCode, IsEdit, EditsRunAlike, RunsOf, setting_of, added, cases_at, cells_at, cells_base, if_any, segment_size, text_of, graph_in, table_base, code_base, pieces_of, off_range, off_ranges, table_at, code_segment, page_segment, notes_on, edit_file}
 use Rattle.image_code.proofs.OpenNumbers.{each_index}
 use Rattle.edit_core.proofs.Eaches.{all_each}
 use Rattle.edit_core.proofs.Graphs.{edges_inside, entries_few, graph_is, number_of}
@@ -122,7 +134,7 @@ module _ (original : List ℕ) (plan : Plan) (p : Placement) (place : ℕ → �
       rw (append_assoc, any-map note_of plan.cells (mapping_added cells))
       (ap (λ (segments : List NoteSegment). if_any plan.cells (note_of (mapping_added cells)) ++ segments) (cc (base, long)))
 
-  has_pages : AreFit text graph plan.snips (pieces_of original plan is.code.dead) → HasPages original plan file notes
+  has_pages : AreFit text graph plan.snips (pieces_of original plan is.code.dead) → HasPages original file notes
   has_pages fit =
       let few = fit.bytes in
       let size = is.code.size in
@@ -132,12 +144,13 @@ module _ (original : List ℕ) (plan : Plan) (p : Placement) (place : ℕ → �
       let small = small_tables text text_is in
       let made = operations_few graph plan.kind plan.cells plan.snips is.workable in
       let bound = bound_is original plan in
+      let room = is.taken.room in
       record {
         room = room_pages;
         editor = mapping_added page_segment;
         mapped = is.mapped ∙ ap (λ (ms : List Mapping). map kept (mappings original) ++ ms) pages_mapped;
         noted = pages_noted;
-        inside = all_any (IsInRoom original plan) plan.cells (mapping_added cells)
+        inside = all_any (IsInRoom original) plan.cells (mapping_added cells)
             (mapping_added (table_at table) ∷ mapping_added its_code ∷ []) (λ some. (omega arith, omega arith))
             ((omega arith, omega arith), ((omega arith, omega arith), tt));
         own = (refl, refl);
@@ -150,6 +163,20 @@ module _ (original : List ℕ) (plan : Plan) (p : Placement) (place : ℕ → �
             le-leb cells_from cells_from (omega arith),
             le-leb (cells_from + 4 * plan.cells) (cells_from + 4 * plan.cells) (omega arith),
           ) refl)
+
+  within_bound : AreFit text graph plan.snips (pieces_of original plan is.code.dead)
+      → All (IsWithinBound original plan) notes.segments
+  within_bound fit =
+      let few = fit.bytes in
+      let size = is.code.size in
+      let entries = entries_few text graph text_is (graph_is original plan) in
+      let small = small_tables text text_is in
+      let made = operations_few graph plan.kind plan.cells plan.snips is.workable in
+      let bound = bound_is original plan in
+      all_any (IsWithinBound original plan) plan.cells (record { start = cells_from; length = 4 * plan.cells })
+      (record { start = tables_from; length = segment_size text graph }
+      ∷ record { start = code_from; length = 4 * length p.code } ∷ note_of (mapping_added page_segment) ∷ [])
+      (λ some low. omega arith) ((λ low. omega arith), ((λ low. omega arith), ((λ low. absurd (omega (arith, low))), tt)))
 
   place_is : PlacesSay → (n : ℕ) (r : NoteRange) → slice_get p.ranges n ≡ Some r → IsPlace original file r
   place_is say n r e word l plain same =
@@ -180,27 +207,73 @@ module _ (original : List ℕ) (plan : Plan) (p : Placement) (place : ℕ → �
       (each (λ edge. Unit {0}) graph.edges (λ edge. tt)) tt (λ edge any. (off_place edge, tt)))
       (each_index (IsPlace original file) p.ranges (place_is say)))
 
-pub faithful : EditsRunAlike → PlacesSay → (original : List ℕ) (plan : Plan) → ((dead : ℕ → List Part)
+-- what is kept before the load of an open switch is kept before an LD
+no_load : (original : List ℕ) (plan : Plan) (dead : ℕ → List Part) (p : Placement) (s : State)
+    → AreCaseTables (setting_of original plan dead (notes_on original plan p))
+    → is_ld (instr_at (text_of original plan) s.pc) ≡ false
+    → IsNoLoad (setting_of original plan dead (notes_on original plan p)) s
+no_load original plan dead p s tables none k o some at =
+    let table = tables.each k o some in
+    let is : is_ld (instr_at (text_of original plan) s.pc) ≡ true =
+    ap (λ found. is_ld (option_map (λ word. decode_of (slice_index (text_of original plan).words word)) found)) at
+    ∙ ap (λ instr. is_ld (Some instr)) table.loads in
+    absurd (cc (none, is))
+
+edit_tables : (original : List ℕ) (plan : Plan) (p : Placement) (place : ℕ → ℕ → ℕ) (table : TableAt) (file : List ℕ)
+    → (is : IsEdit original plan p place table file)
+    → AreCaseTables (setting_of original plan is.code.dead (notes_on original plan p))
+edit_tables original plan p place table file is =
+    let g = setting_of original plan is.code.dead (notes_on original plan p) in
+    let text = image_text original is.taken.sound in
+    are_tables g refl text (cased g text (graph_is original plan))
+
+weaker : (original : List ℕ) (plan : Plan) (dead : ℕ → List Part) (p : Placement) (file : List ℕ)
+    → AreCaseTables (setting_of original plan dead (notes_on original plan p))
+    → RunsOf original plan dead file (notes_on original plan p)
+    → ForEachRun original file (StoresLittle (edit_of original plan (notes_on original plan p)) dead
+    (λ s. is_ld (instr_at (text_of original plan) s.pc) ≡ false) (bound_in original plan) (image_of original).entry)
+weaker original plan dead p file tables runs args input given read n untouched watched m k first next =
+    let sparing = runs.stores args input given read n untouched watched m k first next in
+    let strict = no_load original plan dead p (run (start_of original args input) (suc n)) tables in
+    record {
+      spills = sparing.spills;
+      first = λ short. sparing.first (short.0, short.1, strict short.2);
+      alone = λ short. sparing.alone (short.0, short.1, strict short.2);
+      few = λ short. sparing.few (short.0, short.1, strict short.2);
+    }
+
+pub edited : EditsRunAlike → PlacesSay → (original : List ℕ) (plan : Plan) → ((dead : ℕ → List Part)
     → AreFit (text_of original plan) (graph_in original plan) plan.snips (pieces_of original plan dead))
     → length original ≤ 2 ^ 26 → AreBytes original → CanEdit original plan → CanDo original plan
     → (p : Placement) (place : ℕ → ℕ → ℕ) (table : TableAt) → IsNewCode original plan p place table
-    → IsFaithful original plan (edit_file original plan p table)
-faithful alike say original plan fit limit bytes can work p place table code =
+    → IsEdited original plan (edit_file original plan p table)
+edited alike say original plan fit limit bytes can work p place table code =
+    let file = edit_file original plan p table in
     let is = is_edit original plan limit can work p place table code (fit code.dead) bytes in
+    let runs = alike original plan p place table file is in
+    let tables = edit_tables original plan p place table file is in
     record {
-      notes = notes_on original plan p;
-      whole = record {
-        loads = is.loads;
-        reads = is.reads;
-        size = refl;
-        holds = (holds original plan limit can work p place table code (fit code.dead)).holds;
-        small = small_file original plan limit can work p place table code (fit code.dead) bytes;
+      faithful = record {
+        notes = notes_on original plan p;
+        whole = record {
+          loads = is.loads;
+          reads = is.reads;
+          size = refl;
+          holds = (holds original plan limit can work p place table code (fit code.dead)).holds;
+          small = small_file original plan limit can work p place table code (fit code.dead) bytes;
+        };
+        graph = has_graph original plan p (nodes_are original plan p place table file is);
+        pages = has_pages original plan p place table file is (fit is.code.dead);
+        places = places_are original plan p place table file is say;
+        runs = runs.alike;
+        counters = work.counters;
       };
-      graph = has_graph original plan p (nodes_are original plan p place table (edit_file original plan p table) is);
-      pages = has_pages original plan p place table (edit_file original plan p table) is (fit is.code.dead);
-      places = places_are original plan p place table (edit_file original plan p table) is say;
-      dead = is.code.dead;
-      exact = rw (view_graph original plan) is.code.exact;
-      runs = alike original plan p place table (edit_file original plan p table) is;
-      counters = work.counters;
+      version = refl;
+      cost = record {
+        room = within_bound original plan p place table file is (fit is.code.dead);
+        steps = runs.steps;
+        dead = is.code.dead;
+        exact = rw (view_graph original plan) is.code.exact;
+        stores = weaker original plan is.code.dead p file tables runs;
+      };
     }

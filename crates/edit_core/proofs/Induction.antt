@@ -33,13 +33,14 @@ use Rattle.cfg_walk.proofs.Walks.{walks_match}
 use Rattle.code_runs.proofs.Leads.{run_add, puts_add, split_below}
 use Rattle.code_runs.specs.PointsAlike.{AreAlikeOn, AreAtOnePoint, instr_of}
 use Rattle.code_runs.proofs.PointsAlike.{points_act_alike}
-use Rattle.image_code.specs.Simulates.{CaseTable, IsAtWord, IsChosen, IsNoLoad, KeepsAddress, Steps, IsFollowedBy, IsOnWay, IsThere, MatchesIn, Setting, StepsOn, at_point, cells_in, does_at, graph_in, number_in, store_of, updates, word_of}
+use Rattle.image_code.specs.Simulates.{CaseTable, IsAtWord, IsChosen, IsNoLoad, KeepsAddress, Steps, IsFollowedBy, IsOnWay, IsThere, MatchesIn, Setting, StepsOn, at_point, does_at, graph_in, number_in, word_of, edit_in}
+use Rattle.image_code.specs.Store.{cells_in, store_of, updates}
 use Rattle.jump_code.specs.PageWords.{kept_address}
 use Rattle.edit_core.specs.RunsAlike.{EndsAtNode, TellsStep}
 use Rattle.edit_core.specs.Runs.{KeepsLoaded, AreTogether, Closed, Follows, Linked, Rests, Spares, StaysInside, Tells, instr_in, limits_in}
-use Rattle.edit_core.proofs.Stays.{ended_stays}
+use Rattle.two_runs.proofs.Stays.{ended_stays, step_stays}
 use Rattle.edit_core.proofs.Stops.{gone_none, same_node, same_store}
-use Rattle.edit_core.proofs.Places.{node_of_place, placed_between, step_stays, there_node, visited_address}
+use Rattle.edit_core.proofs.Places.{node_of_place, placed_between, there_node, visited_address}
 
 -- ---- small things
 
@@ -151,7 +152,7 @@ module _ (g : Setting) (entry : ℕ) (Inside : Point → Type 0) (Here : Node �
   edges n = gone_in g.text (graph_in g) entry s0 n
 
   abbrev store : ℕ → List ℕ
-  store n = store_of g entry s0 n
+  store n = store_of (edit_in g) entry s0 n
 
   -- what its word does there to the state of the written file
   abbrev does : ℕ → ℕ → State
@@ -319,7 +320,7 @@ module _ (g : Setting) (entry : ℕ) (Inside : Point → Type 0) (Here : Node �
           together = record {
             world = world_next n m x;
             puts = puts_next n m h x;
-            cells = ap (cells_in g) at ∙ x.on.cells ∙ ap (λ z. updates g.snips (edges n) z (does n m)) h.together.cells
+            cells = ap (cells_in g.notes) at ∙ x.on.cells ∙ ap (λ z. updates g.snips (edges n) z (does n m)) h.together.cells
                 ∙ sym (r.keeping.named n (store n) (does n m) live x.alike.world.window
                 (λ item is k. x.alike.items live item is (before n m h item is k)));
           };
@@ -369,7 +370,7 @@ module _ (g : Setting) (entry : ℕ) (Inside : Point → Type 0) (Here : Node �
           together = record {
             world = world_next n m x;
             puts = puts_next n m h x;
-            cells = ap (cells_in g) at ∙ x.on.cells ∙ ap (λ es. updates g.snips es (cells_in g (t m)) (does n m))
+            cells = ap (cells_in g.notes) at ∙ x.on.cells ∙ ap (λ es. updates g.snips es (cells_in g.notes (t m)) (does n m))
                 (gone_none g entry s0 n d over) ∙ h.together.cells ∙ sym (same_store g entry s0 n d over);
           };
         }
@@ -433,9 +434,9 @@ module _ (g : Setting) (entry : ℕ) (Inside : Point → Type 0) (Here : Node �
 
       record IsMoment (n m : ℕ) : Type 0 where
         matches : Matches g.notes s0 t0 n m
-        cells : cells_in g (t m) ≡ store n
+        cells : cells_in g.notes (t m) ≡ store n
         told : Tells g entry s0 t0 n m
-        over : EndsAtNode g entry s0 t0 n m
+        over : EndsAtNode (edit_in g) entry s0 t0 n m
 
       same_outside : (n m : ℕ) → AreTogether g entry s0 t0 n m → HasSameOutside g.notes s0 t0 n m
       same_outside n m h = record {
@@ -446,7 +447,7 @@ module _ (g : Setting) (entry : ℕ) (Inside : Point → Type 0) (Here : Node �
       }
 
       -- at a visit
-      tells_there : (n m : ℕ) → n ≤ last → Links n m → TellsStep g entry s0 t0 m n
+      tells_there : (n m : ℕ) → n ≤ last → Links n m → TellsStep (edit_in g) entry s0 t0 m n
       tells_there n m l h =
           let visits = r.simulates.visits _ _ _ (matched n h.live) (inside n l h.live) h.here in
           record {
@@ -515,7 +516,7 @@ module _ (g : Setting) (entry : ℕ) (Inside : Point → Type 0) (Here : Node �
           let place = placed_between g.notes u on.live on.visit (λ none. some (same ∙ none)) in
           let there = on.place place.0 place.1 in
           record {
-            cells = ap (cells_in g) at ∙ there.1 ∙ h.together.cells;
+            cells = ap (cells_in g.notes) at ∙ there.1 ∙ h.together.cells;
             node = same ∙ node_of_place g.notes u.pc place.0 place.1
                 ∙ sym (node_of_place g.notes (t m).pc place.0 there.0) ∙ x.node;
             address = λ other is. visited_address g.notes (t m) (s n).pc other x.visit

@@ -22,7 +22,8 @@ use Rattle.snippets.specs.declared.snippet.Op.{Op}
 use Rattle.snippets.specs.Cells.{named_by, read_by, update}
 use Rattle.snippets.specs.Grammar.{IsOp}
 use Rattle.snippets.proofs.Decide.{decide}
-use Rattle.image_code.specs.Simulates.{IsKept, Setting, graph_in, snippet_on, updates}
+use Rattle.image_code.specs.Simulates.{IsKept, Setting, graph_in}
+use Rattle.image_code.specs.Store.{snippet_on, updates}
 use Rattle.edit_core.specs.Dead.{AreDead}
 use Rattle.edit_core.specs.Runs.{instr_in}
 use Rattle.edit_core.specs.Whole.{KeepsWhatLives, KeptIn}

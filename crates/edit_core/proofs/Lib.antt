@@ -1,4 +1,3 @@
-pub mod Stays
 pub mod Places
 pub mod Trails
 pub mod Stops
@@ -34,3 +33,4 @@ pub mod Owned
 pub mod CodeFetched
 pub mod Starts
 pub mod RunsAlike
+pub mod Outwardly

@@ -149,9 +149,6 @@ module _ (text : Words) (graph : Graph) (table cases : ℕ) (codes : ℕ → Lis
         node = m.visit.inside;
       }
     where
-      some_same : {a b : NoteRange} → Some a ≡ Some b → a ≡ b
-      some_same e = cc
-
       opens : (xs : List Item) → IsMark graph address r.node xs
           → range_of (place k) (open_in (Some (it.Mark address r.node ∷ xs)) 1)
           ≡ Some (record { lo = place k 1; hi = place k (end_from xs 1); address = address.0; node = r.node })

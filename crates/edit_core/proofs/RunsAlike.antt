@@ -34,6 +34,8 @@ use Rattle.cfg_normal.specs.Graph.{Graph, node_of}
 use Rattle.cfg_walk.specs.Matches.{AreOpen, BeginsAt, FetchesOnly, JumpsGoByCase}
 use Rattle.cfg_walk.specs.Walk.{Point, end_of_walk, point_of, same_kind}
 use Rattle.liveness.specs.Live.{edge_at, is_call_or_jump, is_outside, is_unknown, named_on}
+use Rattle.cfg_blocks.specs.Entries.{entered_of}
+use Rattle.cfg_view.specs.View.{view_of}
 use Rattle.cfg_view.proofs.Given.{entry_leads}
 use Rattle.walk_counts.proofs.Fetching.{only_text_is_fetched}
 use Rattle.walk_counts.proofs.Files.{begins, by_case, entry_is, opened}
@@ -47,7 +49,9 @@ use Rattle.code_runs.specs.StoredWords.{memory_word}
 use Rattle.snippet_code.specs.Cells.{cell_at, words_at}
 use Rattle.tool_kit.specs.Plans.{Plan}
 use Rattle.image_code.specs.Fit.{PiecesFit}
-use Rattle.image_code.specs.Simulates.{CaseTable, Setting, Simulates, is_out, snippet_on}
+use Rattle.image_code.specs.Simulates.{CaseTable, IsNoLoad, Setting, Simulates, edit_in}
+use Rattle.image_code.specs.Cost.{is_out}
+use Rattle.image_code.specs.Store.{Edit, snippet_on}
 use Rattle.image_code.specs.Images.{AreNoted, Frame, HasCells, Here, IsPlaced, Pieces, visited_by}
 use Rattle.image_code.specs.Parts.{codes_of}
 use Rattle.image_code.specs.Made.{IsOffNoted, IsTableFor, PiecesMakeImages, lands_at, piece_list, pieces_in}
@@ -56,10 +60,11 @@ use Rattle.image_code.proofs.CaseTables.{are_tables, table_of}
 use Rattle.image_code.proofs.Opened.{cased}
 use Rattle.edit_core.specs.Faithful.{editor_page, page_size}
 use Rattle.edit_core.specs.Runs.{CameFrom, Linked, Rests}
-use Rattle.edit_core.specs.RunsAlike.{AreRunsAlike, IsAnswered, edit_of, short_bound, visits_by}
+use Rattle.edit_core.specs.Cost.{StoresLittle, TakesFewSteps, short_bound}
+use Rattle.edit_core.specs.RunsAlike.{AreRunsAlike, IsAnswered, edit_of, visits_by}
 use Rattle.edit_core.specs.Taken.{bound_in}
 use Rattle.edit_core.specs.Whole.{Answered, KeptIn}
-use Rattle.edit_core.specs.Written.{EditsRunAlike, IsEdit, LeadsTo, addr, cases_at, cells_base, code_base, first_table, foreign_of, given_of, graph_in, landings_of, notes_on, second_table, segment_size, table_base, text_of}
+use Rattle.edit_core.specs.Written.{EditsRunAlike, IsEdit, setting_of, LeadsTo, addr, cases_at, cells_base, code_base, first_table, foreign_of, given_of, graph_in, landings_of, notes_on, second_table, segment_size, table_base, text_of}
 use Rattle.edit_core.proofs.Bounds.{operations_few}
 use Rattle.edit_core.proofs.ByTable.{by_table}
 use Rattle.edit_core.proofs.Completed.{jump_kind, unknown_lives}
@@ -92,7 +97,7 @@ all_live_none set is none =
 -- ---- an edit
 
 abbrev setting : List ℕ → Plan → (ℕ → List Part) → Placement → Setting
-setting original plan dead p = edit_of original plan dead (notes_on original plan p)
+setting original plan dead p = setting_of original plan dead (notes_on original plan p)
 
 -- ranges lie in the code's page
 none_below : (from to a : ℕ) (rs : List NoteRange) → Ascend from to rs → a < from → range_in rs a ≡ None
@@ -463,7 +468,7 @@ module _ (original : List ℕ) (plan : Plan) (p : Placement) where
       answers : (n : ℕ) → IsUntouched (pages_of notes) s0 n → Answered its entry Short s0 t0 n
       answers n untouched = edits_answer its parts code_from p place surroundings entry s0 t0 n rests untouched
 
-      answered : (n : ℕ) → IsUntouched (pages_of notes) s0 n → IsAnswered its entry s0 t0 n
+      answered : (n : ℕ) → IsUntouched (pages_of notes) s0 n → IsAnswered (edit_in its) entry s0 t0 n
       answered n untouched =
           let all = answers n untouched in
           record {
@@ -473,22 +478,47 @@ module _ (original : List ℕ) (plan : Plan) (p : Placement) where
             node = all.over n (omega arith);
           }
 
-      runs_alike : AreRunsAlike its (bound_in original plan) entry s0 t0
-      runs_alike = record {
+      alike : AreRunsAlike (edit_in its) entry s0 t0
+      alike = record {
         answered = answered;
-        soon = λ untouched m least. (answers 0 untouched).soon m least;
-        bounded = λ n untouched. (answers (suc n) untouched).bounded n (omega arith);
-        spared = λ n untouched watched m k first next.
-            let sparing = (answers (suc n) untouched).spared n (omega arith) m k first next watched in
-            record {
-              spills = sparing.spills;
-              first = λ small. sparing.first (small.0, small_short fits small.1, small.2);
-              alone = λ small. sparing.alone (small.0, small_short fits small.1, small.2);
-              few = λ small. sparing.few (small.0, small_short fits small.1, small.2);
-            };
         stops = λ m untouched. (answers (visits_by notes t0 m) untouched).stops m refl;
       }
 
+      steps : TakesFewSteps (edit_in its) entry s0 t0
+      steps = record {
+        soon = λ untouched m least. (answers 0 untouched).soon m least;
+        bounded = λ n untouched. (answers (suc n) untouched).bounded n (omega arith);
+      }
+
+      stores : StoresLittle (edit_in its) dead (IsNoLoad its) (bound_in original plan) entry s0 t0
+      stores n untouched watched m k first next =
+          let sparing = (answers (suc n) untouched).spared n (omega arith) m k first next watched in
+          record {
+            spills = sparing.spills;
+            first = λ small. sparing.first (small.0, small_short fits small.1, small.2);
+            alone = λ small. sparing.alone (small.0, small_short fits small.1, small.2);
+            few = λ small. sparing.few (small.0, small_short fits small.1, small.2);
+          }
+
+-- the graph of the view is that of the edit
+same_edit : (original : List ℕ) (plan : Plan) (dead : ℕ → List Part) (notes : Notes)
+    → edit_in (setting_of original plan dead notes) ≡ edit_of original plan notes
+unfolding view_of entered_of
+same_edit original plan dead notes = refl
+
 pub edits_run_alike : PiecesMakeImages → PiecesFit → EditsRunAlike
-edits_run_alike make fits original plan p place table file is args input given read =
-    runs_alike original plan p place table file is make fits args input given read
+edits_run_alike make fits original plan p place table file is =
+    let same = same_edit original plan is.code.dead (notes_on original plan p) in
+    let entry : ℕ = (image_of original).entry in
+    record {
+      alike = λ args input given read.
+          subst (λ (e : Edit). AreRunsAlike e entry (start_of original args input) (start_of file args input)) same
+          (alike original plan p place table file is make fits args input given read);
+      steps = λ args input given read.
+          subst (λ (e : Edit). TakesFewSteps e entry (start_of original args input) (start_of file args input)) same
+          (steps original plan p place table file is make fits args input given read);
+      stores = λ args input given read.
+          subst (λ (e : Edit). StoresLittle e is.code.dead (IsNoLoad (setting original plan is.code.dead p))
+          (bound_in original plan) entry (start_of original args input) (start_of file args input)) same
+          (stores original plan p place table file is make fits args input given read);
+    }

@@ -16,7 +16,7 @@ use Rattle.snippet_code.proofs.Lengths.{costs_hold}
 use Rattle.snippet_code.proofs.WholeCode.{snippet_code_runs}
 use Rattle.image_code.specs.Fit.{AreShort}
 use Rattle.image_code.specs.Parts.{codes_of}
-use Rattle.image_code.specs.Simulates.{snippet_on}
+use Rattle.image_code.specs.Store.{snippet_on}
 use Rattle.tool_kit.specs.Good.{IsGood}
 
 -- no operation is good

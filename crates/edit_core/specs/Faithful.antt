@@ -10,7 +10,6 @@ use Rattle.elf32_sparc.specs.Mapping.{Mapping, mappings}
 use Rattle.elf32_sparc.specs.Image.{image_of}
 use Rattle.notes.specs.Format.{Notes, NoteEdge, NoteSegment, NoteRange, notes_of}
 use Rattle.elf32_write.specs.Laws.{kept}
-use Rattle.v8_decode.specs.declared.Part.{Part}
 use Rattle.v8_decode.specs.Words.{decode_of}
 use Rattle.v8_step.specs.Items.{is_transfer}
 use Rattle.cfg_blocks.specs.Blocks.{holding_of}
@@ -20,7 +19,6 @@ use Rattle.cfg_normal.specs.Graph.{Graph}
 use Rattle.cfg_view.specs.View.{view_of}
 pub use Rattle.cfg_normal.specs.Numbers.{kind_number}
 use Rattle.cfg_normal.specs.Numbers.{is_node, node_number}
-use Rattle.liveness.specs.Live.{named_on}
 use Rattle.snippets.specs.declared.snippet.Op.{Op}
 use Rattle.snippets.specs.Ops.{cell_of}
 use Rattle.tool_kit.specs.declared.edge_ref.ToolKind.{ToolKind}
@@ -28,8 +26,6 @@ use Rattle.tool_kit.specs.declared.edge_ref.ToolKind.TheVariants as tools
 use Rattle.tool_kit.specs.declared.edge_ref.EdgeRef.{EdgeRef}
 use Rattle.tool_kit.specs.Kept.{Kept}
 use Rattle.tool_kit.specs.Plans.{AreCounters, IsPlanOf, Plan}
-use Rattle.edit_core.specs.Dead.{AreDead}
-use Rattle.edit_core.specs.Taken.{bound_in}
 use Rattle.edit_core.specs.RunsAlike.{HaveRunsAlike}
 
 -- Whole: the written file can be run, its notes read, and it holds the original whole at their delta.
@@ -92,11 +88,11 @@ page_size = 4096
 abbrev pub note_of : Mapping → NoteSegment
 note_of m = record { start = m.start; length = m.length }
 
--- a page lies from the base to at most the bound above it
-abbrev pub IsInRoom : List ℕ → Plan → Mapping → Type 0
-IsInRoom original plan m =
-    let base = (image_of original).base in
-    (base ≤ m.start) × (m.start + m.length ≤ base + bound_in original plan)
+-- a page lies in the room above the program
+abbrev pub IsInRoom : List ℕ → Mapping → Type 0
+IsInRoom original m =
+    let image = image_of original in
+    (image.base ≤ m.start) × (m.start + m.length ≤ image.base + image.room)
 
 abbrev pub IsEditorPage : Mapping → Type 0
 IsEditorPage m = (m.start ≡ editor_page) × (m.length ≡ page_size)
@@ -106,12 +102,12 @@ abbrev pub holds_cells : ℕ → ℕ → Mapping → Bool
 holds_cells base cells m =
     nat_le m.start base && nat_le (base + 4 * cells) (m.start + m.length) && has_flag 4 m.flags
 
-pub record HasPages (original : List ℕ) (plan : Plan) (file : List ℕ) (notes : Notes) : Type 0 where
+pub record HasPages (original file : List ℕ) (notes : Notes) : Type 0 where
   pub room : List Mapping
   pub editor : Mapping
   pub mapped : mappings file ≡ map kept (mappings original) ++ (room ++ editor ∷ [])
   pub noted : map note_of (room ++ editor ∷ []) ≡ notes.segments
-  pub inside : All (IsInRoom original plan) room
+  pub inside : All (IsInRoom original) room
   pub own : IsEditorPage editor
   pub cells : 0 < notes.cells → list_any (holds_cells notes.base notes.cells) room ≡ true
 
@@ -139,12 +135,9 @@ pub record IsFaithful (original : List ℕ) (plan : Plan) (file : List ℕ) : Ty
   pub notes : Notes
   pub whole : IsWhole original file notes
   pub graph : HasGraph original plan notes
-  pub pages : HasPages original plan file notes
+  pub pages : HasPages original file notes
   pub places : All (IsPlace original file) notes.ranges
-  -- what is dead behind the snippet of each edge, which may be taken there
-  pub dead : ℕ → List Part
-  pub exact : AreDead (image_of original).text (view_of original plan.marks).graph (named_on plan.snips) dead
-  pub runs : HaveRunsAlike original plan dead file notes
+  pub runs : HaveRunsAlike original plan file notes
   pub counters : AreCounted notes.version plan
 
 -- ---- by a tool: `says` tells what its callback may answer

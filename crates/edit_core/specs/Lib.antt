@@ -4,4 +4,6 @@ pub mod Whole
 pub mod Taken
 pub mod RunsAlike
 pub mod Faithful
+pub mod Cost
 pub mod Written
+pub mod Outwardly

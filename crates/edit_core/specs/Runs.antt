@@ -19,7 +19,9 @@ use Rattle.cfg_blocks.specs.Blocks.{blocks_of}
 use Rattle.cfg_walk.specs.Matches.{AreOpen, BeginsAt, FetchesOnly, JumpsGoByCase}
 use Rattle.edit_core.specs.RunsAlike.{EndsAtNode, TellsStep}
 use Rattle.image_code.specs.Keeping.{AreCaseTables}
-use Rattle.image_code.specs.Simulates.{CaseTable, IsAtWord, IsNoLoad, IsKept, IsSparing, IsWatched, Setting, Simulates, cells_in, graph_in, limit_on, number_in, store_of, updates, word_of}
+use Rattle.image_code.specs.Simulates.{CaseTable, IsAtWord, IsNoLoad, IsKept, Setting, Simulates, edit_in, graph_in, number_in, word_of}
+use Rattle.image_code.specs.Cost.{IsSparing, IsWatched, limit_on}
+use Rattle.image_code.specs.Store.{cells_in, store_of, updates}
 use Rattle.jump_code.specs.PageWords.{kept_address}
 
 -- ---- the items that are kept equal, step by step
@@ -84,7 +86,7 @@ KeepsLoaded g entry s0 n t =
 pub record AreTogether (g : Setting) (entry : ℕ) (s0 t0 : State) (n m : ℕ) : Type 0 where
   pub world : IsSameWorld (pages_of g.notes) (run s0 n) (run t0 m)
   pub puts : (descriptor : ℕ) → run_puts s0 n descriptor ≡ run_puts t0 m descriptor
-  pub cells : cells_in g (run t0 m) ≡ store_of g entry s0 n
+  pub cells : cells_in g.notes (run t0 m) ≡ store_of (edit_in g) entry s0 n
 
 -- the original while it runs, and the written file at its visit
 pub record Linked (g : Setting) (entry : ℕ) (Here : Node → Point → State → Type 0) (K : ℕ → StateItem → Type 0)
@@ -127,7 +129,7 @@ pub record Rests (g : Setting) (entry : ℕ) (Inside : Point → Type 0)
 
 -- how many steps may answer step n
 abbrev pub limits_in : Setting → ℕ → State → ℕ → ℕ
-limits_in g entry s0 n = limit_on g (gone_in g.text (graph_in g) entry s0 n)
+limits_in g entry s0 n = limit_on g.snips (gone_in g.text (graph_in g) entry s0 n)
 
 -- the first states of the original, up to the n-th, stand at points to which the pieces lead, while it runs
 abbrev pub StaysInside : (Point → Type 0) → State → ℕ → Type 0
@@ -135,25 +137,25 @@ StaysInside Inside s0 n = (k : ℕ) → k ≤ n → (run s0 k).ending ≡ None �
 
 -- a stop at moment m tells of step n, where it is in a place or outside the pages
 abbrev pub Tells : Setting → ℕ → State → State → ℕ → ℕ → Type 0
-Tells g entry s0 t0 n m = node_at g.notes (run t0 m).pc ≢ None → TellsStep g entry s0 t0 m n
+Tells g entry s0 t0 n m = node_at g.notes (run t0 m).pc ≢ None → TellsStep (edit_in g) entry s0 t0 m n
 
 -- What the written file stores and takes that answers step n, from one moment to another. `Short` says that no jump and
 -- no branch is long.
 abbrev pub Spares : Setting → ℕ → Type 0 → State → State → ℕ → ℕ → ℕ → Type 0
 Spares g entry Short s0 t0 n m k =
-    IsWatched g (gone_in g.text (graph_in g) entry s0 n) (point_of (run s0 n)) (run s0 (suc n))
-    → IsSparing g (((run s0 n).ending ≡ None) × Short × IsNoLoad g (run s0 (suc n)))
+    IsWatched (edit_in g) (gone_in g.text (graph_in g) entry s0 n) (point_of (run s0 n)) (run s0 (suc n))
+    → IsSparing (edit_in g) g.dead (((run s0 n).ending ≡ None) × Short × IsNoLoad g (run s0 (suc n)))
     (gone_in g.text (graph_in g) entry s0 n) (point_of (run s0 n)) (run t0 m) (k - m)
 
 -- what follows
 pub record Follows (g : Setting) (entry : ℕ) (Short : Type 0) (s0 t0 : State) (last : ℕ) : Type 0 where
   pub moments : ℕ → ℕ
   pub followed : IsFollowed g.notes s0 t0 64 (limits_in g entry s0) moments last
-  pub cells : (n : ℕ) → n ≤ last → cells_in g (run t0 (moments n)) ≡ store_of g entry s0 n
+  pub cells : (n : ℕ) → n ≤ last → cells_in g.notes (run t0 (moments n)) ≡ store_of (edit_in g) entry s0 n
   pub spared : (n : ℕ) → n < last → Spares g entry Short s0 t0 n (moments n) (moments (suc n))
   -- before the first visit in no place, at each visit and at the end as it tells, and between two as the first of them
   pub early : (m : ℕ) → m < moments zero → node_at g.notes (run t0 m).pc ≡ None
   pub told : (n : ℕ) → n ≤ last → Tells g entry s0 t0 n (moments n)
   pub between : (n m : ℕ) → n < last → moments n ≤ m → m < moments (suc n) → Tells g entry s0 t0 n m
   -- at the end in one
-  pub over : (n : ℕ) → n ≤ last → EndsAtNode g entry s0 t0 n (moments n)
+  pub over : (n : ℕ) → n ≤ last → EndsAtNode (edit_in g) entry s0 t0 n (moments n)

@@ -11,7 +11,8 @@ use Rattle.cfg_blocks.specs.Blocks.{blocks_of}
 use Rattle.cfg_walk.specs.Matches.{AreOpen, BeginsAt, FetchesOnly, JumpsGoByCase}
 use Rattle.snippets.specs.Grammar.{IsOp}
 use Rattle.layout.specs.Laid.{HasShortForms, Placement}
-use Rattle.image_code.specs.Simulates.{Setting, cells_in, graph_in, store_of}
+use Rattle.image_code.specs.Simulates.{Setting, edit_in, graph_in}
+use Rattle.image_code.specs.Store.{cells_in, store_of}
 use Rattle.image_code.specs.Images.{Pieces, Frame, Here}
 use Rattle.image_code.specs.Outside.{IsOpen}
 use Rattle.liveness.specs.Live.{named_on}
@@ -41,9 +42,9 @@ pub record Answered (g : Setting) (entry : ℕ) (Short : Type 0) (s0 t0 : State)
   pub bounded : (n : ℕ) → n < last → IsBounded g.notes s0 t0 n (limits_in g entry s0 n)
   pub spared : (n : ℕ) → n < last → (m k : ℕ) → IsLeast (Answers g.notes s0 t0 n) m
       → IsLeast (Answers g.notes s0 t0 (suc n)) k → Spares g entry Short s0 t0 n m k
-  pub cells : (n : ℕ) → n ≤ last → cells_in g (run t0 (moments n)) ≡ store_of g entry s0 n
-  pub stops : (m : ℕ) → visits_by g.notes t0 m ≡ last → IsStop g entry s0 t0 m last
-  pub over : (n : ℕ) → n ≤ last → EndsAtNode g entry s0 t0 n (moments n)
+  pub cells : (n : ℕ) → n ≤ last → cells_in g.notes (run t0 (moments n)) ≡ store_of (edit_in g) entry s0 n
+  pub stops : (m : ℕ) → visits_by g.notes t0 m ≡ last → IsStop (edit_in g) entry s0 t0 m last
+  pub over : (n : ℕ) → n ≤ last → EndsAtNode (edit_in g) entry s0 t0 n (moments n)
 
 abbrev pub EditsAnswer : Type 0
 EditsAnswer =

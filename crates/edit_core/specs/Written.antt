@@ -31,7 +31,9 @@ use Rattle.addr_translate.specs.Table.{IsTableOf, size_of}
 use Rattle.layout.specs.declared.items.Item.{Item}
 use Rattle.layout.specs.declared.items.Placed.{Placed}
 use Rattle.layout.specs.Laid.{HasShortForms, IsLaid, Placement, long_bytes, placement_of}
-use Rattle.image_code.specs.Graphs.{IsGraphOf, opens_in}
+use Rattle.cfg_normal.specs.Opens.{Open}
+use Rattle.image_code.specs.Graphs.{IsGraphOf, case_table, opens_in}
+use Rattle.image_code.specs.Simulates.{IsNoLoad, Setting}
 use Rattle.image_code.specs.Made.{jumps_at, lands_at, piece_list}
 use Rattle.image_code.specs.Numbered.{case_numbers, enter_number, foreign_number}
 use Rattle.image_code.specs.Parts.{codes_of}
@@ -41,9 +43,10 @@ use Rattle.tool_kit.specs.declared.edge_ref.ToolKind.{ToolKind}
 use Rattle.tool_kit.specs.declared.edge_ref.ToolKind.TheVariants as tools
 use Rattle.tool_kit.specs.Plans.{AreCounters, Plan}
 use Rattle.edit_core.specs.Dead.{AreDead}
-use Rattle.edit_core.specs.Taken.{CanEdit, bound_by}
+use Rattle.edit_core.specs.Taken.{CanEdit, bound_by, bound_in}
 use Rattle.edit_core.specs.declared.taking.Request.{Request}
-use Rattle.edit_core.specs.RunsAlike.{HaveRunsAlike, short_bound}
+use Rattle.edit_core.specs.Cost.{StoresLittle, TakesFewSteps, short_bound}
+use Rattle.edit_core.specs.RunsAlike.{ForEachRun, HaveRunsAlike, edit_of}
 use Rattle.edit_core.specs.Faithful.{editor_page, page_size, note_edges, tool_number}
 
 -- tables of addresses as a segment, with the flag PF_R
@@ -309,12 +312,36 @@ pub record IsWritten (original : List ℕ) (plan : Plan) (file : List ℕ) : Typ
 unfoldable pub IsTheEdit : List ℕ → Plan → List ℕ → Type 0
 IsTheEdit original plan file = IsWritten original plan file
 
--- Whatever meets this has runs like those of its original.
+-- the switches of an original that are open
+abbrev pub switches_in : List ℕ → Plan → List Open
+switches_in original plan = opens_in (text_of original plan) (given_of original plan) (image_of original).entry
+
+-- an edit as its code has it, with what is dead behind each edge's snippet
+abbrev pub setting_of : List ℕ → Plan → (ℕ → List Part) → Notes → Setting
+setting_of original plan dead notes = record {
+  text = text_of original plan;
+  given = given_of original plan;
+  snips = plan.snips;
+  dead = dead;
+  switches = switches_in original plan;
+  opens = map (case_table (text_of original plan)) (switches_in original plan);
+  notes = notes;
+}
+
+-- What the runs of a written file are, and what they take: no address is kept but before the load of an open switch.
+pub record RunsOf (original : List ℕ) (plan : Plan) (dead : ℕ → List Part) (file : List ℕ) (notes : Notes) : Type 0 where
+  pub alike : HaveRunsAlike original plan file notes
+  pub steps : ForEachRun original file (TakesFewSteps (edit_of original plan notes) (image_of original).entry)
+  pub stores : ForEachRun original file
+      (StoresLittle (edit_of original plan notes) dead (IsNoLoad (setting_of original plan dead notes))
+      (bound_in original plan) (image_of original).entry)
+
+-- Whatever meets this has such runs.
 abbrev pub EditsRunAlike : Type 0
 EditsRunAlike =
     (original : List ℕ) (plan : Plan) (p : Placement) (place : ℕ → ℕ → ℕ) (table : TableAt) (file : List ℕ)
     → (is : IsEdit original plan p place table file)
-    → HaveRunsAlike original plan is.code.dead file (notes_on original plan p)
+    → RunsOf original plan is.code.dead file (notes_on original plan p)
 
 -- ---- as the program keeps it
 

@@ -7,7 +7,9 @@ ghost use Rattle.cfg_blocks.specs.Marks.{numbers};
 ghost use Rattle.cfg_view.specs.View.{view_of, view_seen};
 ghost use Rattle.tool_kit.specs.Plans.{IsPlanOf, Plan};
 ghost use Rattle.edit_core.specs.Taken.{CanEdit, EditRefuses};
-ghost use Rattle.edit_core.specs.Faithful.{AreCounted, AsksOf, CountsEdges, IsFaithful};
+ghost use Rattle.edit_core.specs.Cost.{IsEdited};
+ghost use Rattle.edit_core.specs.Faithful.{AreCounted, AsksOf, CountsEdges};
+ghost use Rattle.edit_core.specs.Outwardly.{DoesTheSame};
 ghost use Rattle.edit_core.specs.Written.{cells_at, code_at, if_any, page_segment as page_segment_of, plan_of, table_after, table_at};
 ghost use Rattle.edit_core.specs.Written.{CanDo, IsTheEdit, IsViewOf, IsWorkable, IsWritten};
 
@@ -36,7 +38,8 @@ pub fn edit_bytes<F: Chooser>(
     requires counters { CountsEdges F.says tool.now bytes.now }
     ensures refused { IfErr result (EditRefuses bytes.now (AsksOf F.says tool.now bytes.now)) }
     ensures edited { IfOk result (λ file. (plan : Plan) × AsksOf F.says tool.now bytes.now plan
-        × CanEdit bytes.now plan × IsFaithful bytes.now plan file.items × IsTheEdit bytes.now plan file.items) }
+        × CanEdit bytes.now plan × IsEdited bytes.now plan file.items × IsTheEdit bytes.now plan file.items) }
+    ensures same { IfOk result (λ file. DoesTheSame bytes.now file.items) }
 {
     let view = look(alloc, bytes, tool.marks())?;
     edit_view(alloc, bytes, &view, tool)
@@ -55,7 +58,8 @@ pub fn edit_view<F: Chooser>(
     requires counters { CountsEdges F.says tool.now bytes.now }
     ensures refused { IfErr result (EditRefuses bytes.now (AsksOf F.says tool.now bytes.now)) }
     ensures edited { IfOk result (λ file. (plan : Plan) × AsksOf F.says tool.now bytes.now plan
-        × CanEdit bytes.now plan × IsFaithful bytes.now plan file.items × IsTheEdit bytes.now plan file.items) }
+        × CanEdit bytes.now plan × IsEdited bytes.now plan file.items × IsTheEdit bytes.now plan file.items) }
+    ensures same { IfOk result (λ file. DoesTheSame bytes.now file.items) }
 {
     let asked = ask(alloc, tool, &view.graph)?;
     let text = view.image.text();

@@ -1,6 +1,7 @@
 //! The edit of a file, and what ties the written file to its original.
 #![tactic(auto)]
 
+ghost use Rattle.edit_core.specs.Outwardly.{EditsAreUntouched, EditsCrashAlike, EditsDoTheSame, GrantedRunsAreAlike};
 ghost use Rattle.edit_core.specs.Whole.{EditsAnswer, KeepsWhatLives};
 ghost use Rattle.edit_core.specs.Written.{EditsRunAlike};
 
@@ -29,4 +30,25 @@ pub fn edits_answer()
 /// Whatever is written as an edit of an original runs as that does, with the same arguments and input.
 pub fn edits_run_alike()
     ensures { EditsRunAlike }
+{}
+
+/// Whoever sees how runs end and what they put out sees a faithful edit do what its original does.
+pub fn edits_do_the_same()
+    ensures { EditsDoTheSame }
+{}
+
+/// Where nothing is refused, the original touches no added page, so that all holds that is said of a faithful edit.
+pub fn edits_are_untouched()
+    ensures { EditsAreUntouched }
+{}
+
+/// So what is said of a faithful edit's runs up to a touch of an added page is so up to the first access that is refused.
+pub fn granted_runs_are_alike()
+    ensures { GrantedRunsAreAlike }
+{}
+
+/// A faithful edit looks as its original does up to the end of a run that is refused bytes below 4096 alone, as by a null
+/// pointer.
+pub fn edits_crash_alike()
+    ensures { EditsCrashAlike }
 {}

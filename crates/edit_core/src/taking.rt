@@ -1,5 +1,5 @@
 //! Which files are edited, and why others are not.
-ghost use Rattle.std.specs.Prelude.{◌≡◌, ℕ, if◌then◌else◌, ◌+◌, ◌*◌, ◌^◌, ◌<◌, ◌≤◌, length, map, slice_index, IfOk, OnOk};
+ghost use Rattle.std.specs.Prelude.{◌≡◌, ℕ, if◌then◌else◌, ◌+◌, ◌-◌, ◌*◌, ◌^◌, ◌<◌, ◌≤◌, length, map, slice_index, IfOk, OnErr, OnOk};
 ghost use Rattle.std.specs.List.{count_by, range_with_len};
 ghost use Rattle.indexmap.specs.IndexMap.{get};
 ghost use Rattle.cfg_blocks.specs.Blocks.{size_of};
@@ -159,16 +159,25 @@ pub(crate) struct CaseKey {
 // How many entries of tables lead along each Case edge.
 type CaseCounts = IndexMap<CaseKey, u32>;
 
-// Counts one more under a key. Where they are more than a `u32` has, memory holds no list of them.
+// One more than a number. Where no `u32` is more, memory holds no list of so many entries.
+fn one_more(count: u32) -> Result<u32, NoMemory>
+    ensures more { IfOk result (λ n. n ≡ count + 1) }
+    ensures many { OnErr result (count ≡ 2 ^ 32 - 1) }
+{
+    if count < u32::MAX {
+        Ok(count + 1)
+    } else {
+        Err(NoMemory)
+    }
+}
+
+// Counts one more under a key.
 fn count_key(cases: &mut CaseCounts, key: CaseKey) -> Result<(), NoMemory>
     ensures { OnOk result ((other : CaseKey) → count_of (get same_key cases.new other)
         ≡ (if same_key key other then 1 else 0) + count_of (get same_key cases.old other)) }
 {
-    let count = count_at(cases, key);
-    if count == u32::MAX {
-        return Err(NoMemory);
-    }
-    cases.insert(key, count + 1)?;
+    let count = one_more(count_at(cases, key))?;
+    cases.insert(key, count)?;
     Ok(())
 }
 

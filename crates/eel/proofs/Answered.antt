@@ -1,33 +1,29 @@
 -- What there is after a call, by its status.
-use Rattle.std.proofs.Common.{◌≡◌, ℕ, ◌≤◌, inl, inr, Some, None, ap, subst, arith}
-use Rattle.eel.specs.Command.{Command, EditPlain, EditScript, EditEvery, Run, Show, Restore, EditProfile, ReportRun, Demo, EditWeighed, ListWords, PutWords, Unknown, EditTrace}
-use Rattle.eel.specs.Outcome.{Outcome, Shows, Stream, shown, failed, status_of}
+use Rattle.std.proofs.Common.{◌≡◌, ℕ, ◌≤◌, inl, inr, ap, subst, arith}
+use Rattle.eel_said.specs.Command.{Command, EditPlain, EditScript, EditEvery, Run, Show, Restore, EditProfile, ReportRun, Demo, EditWeighed, ListWords, PutWords, Unknown, EditTrace}
+use Rattle.eel_said.specs.Outcome.{Outcome, Shows, Stream, shown, failed, status_of}
 use Rattle.eel.specs.Answers.{Ran, IsDone, IsUnrefused, IsRefusal, IsUnchanged, HasFailed, WasWanting, meaning_of, unknown_means}
-use Rattle.eel.specs.Answers.Shared.{Outside, with_err}
-use Rattle.eel.proofs.Later.{rose-before, rose-after}
-use Rattle.eel.proofs.Meanings.{IsByStatus, refusal_is_bad}
-use Rattle.eel.proofs.Editing.{edit_by_status}
-use Rattle.eel.proofs.Scripting.{script_by_status}
-use Rattle.eel.proofs.Running.{run_by_status}
-use Rattle.eel.proofs.Dumping.{dump_by_status}
-use Rattle.eel.specs.Answers.Edit.{plain_plan}
+use Rattle.eel_said.specs.Shared.{Outside, with_err}
+use Rattle.eel.specs.Answers.Edit.{plain}
 use Rattle.eel.specs.Answers.Every.{every_word}
 use Rattle.eel.specs.Answers.List.{listed_of}
-use Rattle.eel.specs.Answers.Profile.{no_words}
+use Rattle.eel.specs.Answers.Profile.{no_words, profiling}
+use Rattle.eel.specs.Answers.Script.{script_limit, scripting}
 use Rattle.eel.specs.Answers.Show.{shown_of}
-use Rattle.eel.specs.Answers.Trace.{trace_plan}
+use Rattle.eel.specs.Answers.Trace.{tracing}
+use Rattle.eel.specs.Answers.Weighed.{weighing, weights_limit}
+use Rattle.eel.proofs.Later.{rose-before, rose-after}
+use Rattle.eel.proofs.Meanings.{IsByStatus, refusal_is_bad}
+use Rattle.eel.proofs.Editing.{edit_by_status, lines_by_status}
+use Rattle.eel.proofs.Dumping.{run_by_status}
 use Rattle.eel.proofs.Assembling.{words_by_status}
 use Rattle.eel.proofs.Printing.{print_by_status}
-use Rattle.eel.proofs.WeighedEdits.{weighed_by_status}
 use Rattle.eel.proofs.Restoring.{restore_by_status}
-use Rattle.eel.proofs.ProfileEdits.{profile_by_status}
 use Rattle.eel.proofs.Reported.{report_by_status}
 use Rattle.eel.proofs.Telling.{demo_by_status, status_told}
 
 unknown_by_status : IsByStatus unknown_means
 unknown_by_status = record {
-  done = λ old new err outcome follows zero took.
-      let at : status_of outcome ≡ 64 = ap status_of follows.0 in absurd (omega (arith, zero, at));
   refused = λ old new outcome follows refusal. record { files = follows.1; out = ap (λ s. s.taken) follows.3.0 };
   wanting = λ old new err outcome follows wants.
       let at : status_of outcome ≡ 64 = ap status_of follows.0 in absurd (omega (arith, wants, at));
@@ -36,18 +32,17 @@ unknown_by_status = record {
 }
 
 by_status : (command : Command) → IsByStatus (meaning_of command)
-by_status (EditPlain input output) = edit_by_status plain_plan input output
-by_status (EditScript input output script) = script_by_status input output script
-by_status (Run file limit None args) = run_by_status file limit args
-by_status (Run file limit (Some dump) args) = dump_by_status file limit dump args
+by_status (EditPlain input output) = edit_by_status plain input output
+by_status (EditScript input output script) = lines_by_status scripting script_limit input output script
+by_status (Run file limit dump args) = run_by_status file limit args dump
 by_status (Show file) = print_by_status shown_of file
 by_status (ListWords file) = print_by_status listed_of file
 by_status (PutWords listing output) = words_by_status listing output
-by_status (EditWeighed input output weights) = weighed_by_status input output weights
+by_status (EditWeighed input output weights) = lines_by_status weighing weights_limit input output weights
 by_status (Restore written output) = restore_by_status written output
-by_status (EditProfile input output) = profile_by_status no_words input output
-by_status (EditEvery input output) = profile_by_status every_word input output
-by_status (EditTrace input output bits) = edit_by_status (trace_plan bits) input output
+by_status (EditProfile input output) = edit_by_status (profiling no_words) input output
+by_status (EditEvery input output) = edit_by_status (profiling every_word) input output
+by_status (EditTrace input output bits) = edit_by_status (tracing bits) input output
 by_status (ReportRun report written dump) = report_by_status report written dump
 by_status (Demo number routines) = demo_by_status number routines
 by_status Unknown = unknown_by_status
@@ -68,7 +63,13 @@ has_run command old new status outcome err follows shows later at_last = record 
 pub done_shown : (command : Command) (old new : Outside) (status : ℕ) → Ran command old new status
     → status ≡ 0 → IsDone command old new
 done_shown command old new status r zero = elim r.shown [
-  | shown is took ↦ (by_status command).done old new r.err r.outcome r.follows (omega (arith, is, zero)) took
+  | shown is took ↦ record {
+    outcome = r.outcome;
+    good = omega (arith, is, zero);
+    err = r.err;
+    follows = r.follows;
+    line = took;
+  }
   | failed is took rose ↦ absurd (omega (arith, is, zero))
 ]
 

@@ -1,21 +1,21 @@
--- A run with a dump, by its status.
-use Rattle.std.proofs.Common.{◌≡◌, ℕ, ◌⊎◌, inl, inr, List, [], Option, Some, None, true, false, ◌≤◌, ap, refl, sym, subst, ◌∙◌, lit≤, arith}
-use Rattle.eel_base.specs.Outside.{Holding, Rose, appended, stored}
+-- A run, with a dump or without one, by its status.
+use Rattle.std.proofs.Common.{◌≡◌, ◌≢◌, ℕ, ◌⊎◌, inl, inr, List, [], Option, Some, None, true, false, ◌≤◌, ap, refl, sym, subst, ◌∙◌, lit≤, arith}
+use Rattle.std.proofs.lemmas.Option.{none-some}
+use Rattle.eel_base.specs.Outside.{Holding, Rose}
 use Rattle.notes.specs.Format.{Notes}
 use Rattle.v8_step.specs.declared.Ending.{Ending}
 use Rattle.v8_step.specs.State.{State}
 use Rattle.v8_process.specs.Start.{start_of}
 use Rattle.v8_runner.specs.declared.Stop.{Stop}
 use Rattle.v8_runner.specs.declared.Stop.TheVariants.{Limit, Ended, SinkFault}
-use Rattle.eel.specs.Outcome.{Outcome, Done, Stopped, BadNotes, OutOfMemory, DeviceFault, Stream, status_of, line_of}
-use Rattle.eel.specs.Answers.Shared.{Feed, Outside, Store, WasRead, outside, store, with_err, written_limit}
+use Rattle.eel_said.specs.Outcome.{Outcome, Done, Stopped, BadNotes, OutOfMemory, DeviceFault, Stream, status_of}
+use Rattle.eel_said.specs.Shared.{Feed, Outside, Store, WasRead, outside, store, with_err, written_limit}
 use Rattle.eel.specs.Answers.Run.{HasRun, IsRun, WasBroken, WasFed, stopped_of, was_broken}
-use Rattle.eel.specs.Answers.Dump.{Dumps, unread, unfed, refused, unnoted, ran, AreUnmapped, HasPutAll, HasStopped, IsDumped, IsNotNoted, IsPutAfter, WasDumped, dump_after, dump_means}
-use Rattle.v8_step.proofs.Quiet.{appended_nothing}
+use Rattle.eel.specs.Answers.Dump.{Runs, unread, unfed, refused, ran, AreUnmapped, HasGone, HasPutAll, HasStopped, IsDumped, IsNotBegun, IsNotNoted, IsPutAfter, dump_after, run_means}
 use Rattle.eel.proofs.Later.{put-later}
-use Rattle.eel.proofs.Meanings.{IsByStatus, IsBad, bad, refusal_is_bad, refusal_not_wanting, wanting_is_bad, unread_not_done, unread_failed}
+use Rattle.eel.proofs.Meanings.{IsByStatus, IsBad, bad, refusal_is_bad, refusal_not_wanting, wanting_is_bad, unread_failed}
 use Rattle.eel.proofs.Restoring.{unnoted_is_bad}
-use Rattle.eel.proofs.Running.{not_run, unfed_failed, unfed_not_done}
+use Rattle.eel.proofs.Running.{not_run, ran_failed, ran_not_refused, unfed_failed}
 
 unmapped_is_bad : (name bytes : List ℕ) (outcome : Outcome) → AreUnmapped name bytes outcome → IsBad (status_of outcome)
 unmapped_is_bad name bytes (BadNotes named at) is = bad 65 (lit≤ tt) (lit≤ tt)
@@ -29,34 +29,6 @@ not_noted name bytes outcome (inr is) = unmapped_is_bad name bytes outcome is
 -- ---- the run itself, from a state
 
 module _ (notes : Notes) (s0 : State) (limit : ℕ) (dump : List ℕ) (old : Outside) where
-  -- with the ending line
-  record IsEnded (new : Outside) : Type 0 where
-    pub ending : Option Ending
-    pub steps : ℕ
-    pub ran : HasRun s0 limit ending steps (line_of (Stopped ending steps)) old.out new.out old.err new.err
-    pub held : new.files.held ≡ stored old.files.held dump (dump_after notes s0 steps)
-
-  dumped_done : (new : Outside) (err : Stream) (outcome : Outcome)
-      → IsDumped notes s0 limit dump old (with_err new err) outcome → status_of outcome ≡ 0
-      → new.err.taken ≡ appended err.taken (line_of outcome) → IsEnded new
-  dumped_done new err (Stopped ending steps) (is, held) zero took = record {
-    ending = ending;
-    steps = steps;
-    ran = record {
-      made = is.made;
-      stops = is.stops;
-      ends = is.ends;
-      out = is.out;
-      err =
-          took
-          ∙ ap (λ z. appended z (line_of (Stopped ending steps))) (is.err ∙ appended_nothing _);
-    };
-    held = held;
-  }
-  dumped_done new err OutOfMemory is zero took = absurd (omega arith)
-  dumped_done new err DeviceFault is zero took = absurd (omega arith)
-  dumped_done new err _ is zero took = absurd is
-
   dumped_failed : (new : Outside) (outcome : Outcome) → IsDumped notes s0 limit dump old new outcome
       → status_of outcome ≡ 74
       → Rose old.files.faults new.files.faults ⊎ Rose old.out.faults new.out.faults
@@ -142,46 +114,28 @@ dumped_later notes s0 limit dump held mid faults more x y z w new old_out new_ou
 
 -- ---- the command
 
-module _ (file : List ℕ) (limit : ℕ) (dump : List ℕ) (args : List (List ℕ)) where
-  done : (old new : Outside) (err : Stream) (outcome : Outcome)
-      → Dumps file limit dump args old (with_err new err) outcome → status_of outcome ≡ 0
-      → new.err.taken ≡ appended err.taken (line_of outcome) → WasDumped file limit dump args old new
-  done old new err outcome (unread is unused quiet held) zero took =
-      absurd (unread_not_done old.files new.files file written_limit outcome is zero)
-  done old new err outcome (unfed bytes read is quiet held) zero took =
-      absurd (unfed_not_done old.input new.input outcome is zero)
-  done old new err outcome (refused bytes read input fed is quiet held) zero took =
-      absurd ((not_run file bytes outcome is).not_done zero)
-  done old new err outcome (unnoted bytes read input fed loads is quiet held) zero took =
-      absurd ((not_noted file bytes outcome is).not_done zero)
-  done old new err outcome (ran bytes read input fed loads notes noted is) zero took =
-      let ended = dumped_done notes (start_of bytes args input) limit dump old new err outcome is zero took in
-      record {
-        bytes = bytes;
-        read = read;
-        loads = loads;
-        notes = notes;
-        noted = noted;
-        input = input;
-        fed = fed;
-        ending = ended.ending;
-        steps = ended.steps;
-        ran = ended.ran;
-        held = ended.held;
-      }
+not_begun : (file : List ℕ) (dump : Option (List ℕ)) (bytes : List ℕ) (outcome : Outcome)
+    → IsNotBegun file dump bytes outcome → IsBad (status_of outcome)
+not_begun file None bytes outcome is = not_run file bytes outcome is
+not_begun file (Some dump) bytes outcome (inl is) = not_run file bytes outcome is
+not_begun file (Some dump) bytes outcome (inr is) = not_noted file bytes outcome is.1
 
+module _ (file : List ℕ) (limit : ℕ) (args : List (List ℕ)) where
   -- neither done, nor a device fault, and nothing was put out: or memory was wanting for the dump
-  record Leaves (old new : Outside) (outcome : Outcome) : Type 0 where
+  record Leaves (dump : Option (List ℕ)) (old new : Outside) (outcome : Outcome) : Type 0 where
     pub held : new.files.held ≡ old.files.held
-    pub out : (new.out.taken ≡ old.out.taken) ⊎ (HasPutAll file limit args old new × (status_of outcome ≡ 70))
+    pub out : (new.out.taken ≡ old.out.taken)
+        ⊎ ((dump ≢ None) × HasPutAll file limit args old new × (status_of outcome ≡ 70))
 
-  left_by_run : (bytes input : List ℕ) (notes : Notes) (old new : Outside) (outcome : Outcome)
+  left_by_run : (bytes input dump : List ℕ) (notes : Notes) (old new : Outside) (outcome : Outcome)
       → IsDumped notes (start_of bytes args input) limit dump old new outcome → IsBad (status_of outcome)
-      → WasRead old.files file written_limit bytes → WasFed old.input new.input input → Leaves old new outcome
-  left_by_run bytes input notes old new (Stopped ending steps) is other read fed = absurd (other.not_done refl)
-  left_by_run bytes input notes old new OutOfMemory (is, held) other read fed = record {
+      → WasRead old.files file written_limit bytes → WasFed old.input new.input input
+      → Leaves (Some dump) old new outcome
+  left_by_run bytes input dump notes old new (Stopped ending steps) is other read fed = absurd (other.not_done refl)
+  left_by_run bytes input dump notes old new OutOfMemory (is, held) other read fed = record {
     held = held;
     out = inr (
+      (λ none. none-some dump (sym none)),
       record {
         bytes = bytes;
         read = read;
@@ -195,42 +149,56 @@ module _ (file : List ℕ) (limit : ℕ) (dump : List ℕ) (args : List (List �
       refl,
     );
   }
-  left_by_run bytes input notes old new DeviceFault is other read fed = absurd (other.not_failed refl)
-  left_by_run bytes input notes old new _ is other read fed = absurd is
+  left_by_run bytes input dump notes old new DeviceFault is other read fed = absurd (other.not_failed refl)
+  left_by_run bytes input dump notes old new _ is other read fed = absurd is
 
-  leaves : (old new : Outside) (outcome : Outcome) → Dumps file limit dump args old new outcome
-      → IsBad (status_of outcome) → Leaves old new outcome
-  leaves old new outcome (unread is unused quiet held) other =
-      record { held = held; out = inl (ap (λ s. s.taken) quiet.0) }
-  leaves old new outcome (unfed bytes read is quiet held) other =
-      record { held = held; out = inl (ap (λ s. s.taken) quiet.0) }
-  leaves old new outcome (refused bytes read input fed is quiet held) other =
-      record { held = held; out = inl (ap (λ s. s.taken) quiet.0) }
-  leaves old new outcome (unnoted bytes read input fed loads is quiet held) other =
-      record { held = held; out = inl (ap (λ s. s.taken) quiet.0) }
-  leaves old new outcome (ran bytes read input fed loads notes noted is) other =
-      left_by_run bytes input notes old new outcome is other read fed
+  gone : (dump : Option (List ℕ)) (bytes input : List ℕ) (old new : Outside) (outcome : Outcome)
+      → HasGone bytes (start_of bytes args input) limit dump old new outcome → IsBad (status_of outcome)
+      → WasRead old.files file written_limit bytes → WasFed old.input new.input input → Leaves dump old new outcome
+  gone None bytes input old new outcome is other read fed =
+      absurd (ran_not_refused (start_of bytes args input) limit old.out new.out old.err new.err outcome is.0 other)
+  gone (Some dump) bytes input old new outcome (notes, noted, is) other read fed =
+      left_by_run bytes input dump notes old new outcome is other read fed
 
-  failed : (old new : Outside) (outcome : Outcome) → Dumps file limit dump args old new outcome
-      → status_of outcome ≡ 74 → Rose old.err.faults new.err.faults ⊎ (dump_means file limit dump args).fails old new
-  failed old new outcome (unread is unused quiet held) fails =
-      inr (inl (elim (unread_failed old.files new.files file written_limit outcome is fails) [ inl lacks ↦ inr lacks | inr rose ↦ inl rose ]))
-  failed old new outcome (unfed bytes read is quiet held) fails =
-      inr (inr (inl (unfed_failed old.input new.input outcome is fails)))
-  failed old new outcome (refused bytes read input fed is quiet held) fails =
-      absurd ((not_run file bytes outcome is).not_failed fails)
-  failed old new outcome (unnoted bytes read input fed loads is quiet held) fails =
-      absurd ((not_noted file bytes outcome is).not_failed fails)
-  failed old new outcome (ran bytes read input fed loads notes noted is) fails =
+  leaves : (dump : Option (List ℕ)) (old new : Outside) (outcome : Outcome)
+      → Runs file limit dump args old new outcome → IsBad (status_of outcome) → Leaves dump old new outcome
+  leaves dump old new outcome (unread is unused quiet held) other =
+      record { held = held; out = inl (ap (λ s. s.taken) quiet.0) }
+  leaves dump old new outcome (unfed bytes read is quiet held) other =
+      record { held = held; out = inl (ap (λ s. s.taken) quiet.0) }
+  leaves dump old new outcome (refused bytes read input fed is quiet held) other =
+      record { held = held; out = inl (ap (λ s. s.taken) quiet.0) }
+  leaves dump old new outcome (ran bytes read input fed loads is) other =
+      gone dump bytes input old new outcome is other read fed
+
+  gone_failed : (dump : Option (List ℕ)) (bytes input : List ℕ) (old new : Outside) (outcome : Outcome)
+      → HasGone bytes (start_of bytes args input) limit dump old new outcome → status_of outcome ≡ 74
+      → Rose old.err.faults new.err.faults ⊎ (run_means file limit dump args).fails old new
+  gone_failed None bytes input old new outcome is fails =
+      elim (ran_failed (start_of bytes args input) limit old.out new.out old.err new.err outcome is.0 fails)
+      [ inl rose ↦ inr (inr (inr rose)) | inr rose ↦ inl rose ]
+  gone_failed (Some dump) bytes input old new outcome (notes, noted, is) fails =
       elim (dumped_failed notes (start_of bytes args input) limit dump old new outcome is fails) [
         | inl rose ↦ inr (inl (inl rose))
         | inr other ↦ elim other [ inl rose ↦ inr (inr (inr rose)) | inr rose ↦ inl rose ]
       ]
 
+  failed : (dump : Option (List ℕ)) (old new : Outside) (outcome : Outcome)
+      → Runs file limit dump args old new outcome → status_of outcome ≡ 74
+      → Rose old.err.faults new.err.faults ⊎ (run_means file limit dump args).fails old new
+  failed dump old new outcome (unread is unused quiet held) fails =
+      inr (inl (elim (unread_failed old.files new.files file written_limit outcome is fails) [ inl lacks ↦ inr lacks | inr rose ↦ inl rose ]))
+  failed dump old new outcome (unfed bytes read is quiet held) fails =
+      inr (inr (inl (unfed_failed old.input new.input outcome is fails)))
+  failed dump old new outcome (refused bytes read input fed is quiet held) fails =
+      absurd ((not_begun file dump bytes outcome is).not_failed fails)
+  failed dump old new outcome (ran bytes read input fed loads is) fails =
+      gone_failed dump bytes input old new outcome is fails
+
   -- any other refusal has put nothing out
-  silent : (old new : Outside) (outcome : Outcome) → Leaves old new outcome → (status_of outcome ≡ 70 → ⊥)
-      → new.out.taken ≡ old.out.taken
-  silent old new outcome left not = elim left.out [ inl same ↦ same | inr (put, wants) ↦ absurd (not wants) ]
+  silent : (dump : Option (List ℕ)) (old new : Outside) (outcome : Outcome) → Leaves dump old new outcome
+      → (status_of outcome ≡ 70 → ⊥) → new.out.taken ≡ old.out.taken
+  silent dump old new outcome left not = elim left.out [ inl same ↦ same | inr (some, put, wants) ↦ absurd (not wants) ]
 
   -- the error stream takes a line after that
   same_put : (old new : Outside) (err : Stream) → HasPutAll file limit args old (with_err new err)
@@ -246,19 +214,19 @@ module _ (file : List ℕ) (limit : ℕ) (dump : List ℕ) (args : List (List �
     out = put.out;
   }
 
-  quiet_or_all : (old new : Outside) (err : Stream) (outcome : Outcome) → Leaves old (with_err new err) outcome
-      → (new.out.taken ≡ old.out.taken) ⊎ HasPutAll file limit args old new
-  quiet_or_all old new err outcome left =
-      elim left.out [ inl same ↦ inl same | inr (put, wants) ↦ inr (same_put old new err put) ]
+  quiet_or_all : (dump : Option (List ℕ)) (old new : Outside) (err : Stream) (outcome : Outcome)
+      → Leaves dump old (with_err new err) outcome
+      → (new.out.taken ≡ old.out.taken) ⊎ ((dump ≢ None) × HasPutAll file limit args old new)
+  quiet_or_all dump old new err outcome left =
+      elim left.out [ inl same ↦ inl same | inr (some, put, wants) ↦ inr (some, same_put old new err put) ]
 
-  pub dump_by_status : IsByStatus (dump_means file limit dump args)
-  dump_by_status = record {
-    done = λ old new err outcome follows zero took. done old new err outcome follows zero took;
+  pub run_by_status : (dump : Option (List ℕ)) → IsByStatus (run_means file limit dump args)
+  run_by_status dump = record {
     refused = λ old new outcome follows refusal.
-        let left = leaves old new outcome follows (refusal_is_bad _ refusal) in
-        record { files = left.held; out = silent old new outcome left (refusal_not_wanting _ refusal) };
+        let left = leaves dump old new outcome follows (refusal_is_bad _ refusal) in
+        record { files = left.held; out = silent dump old new outcome left (refusal_not_wanting _ refusal) };
     wanting = λ old new err outcome follows wants.
-        let left = leaves old (with_err new err) outcome follows (wanting_is_bad _ wants) in
-        (left.held, quiet_or_all old new err outcome left);
-    failed = λ old new err outcome follows fails. failed old (with_err new err) outcome follows fails;
+        let left = leaves dump old (with_err new err) outcome follows (wanting_is_bad _ wants) in
+        (left.held, quiet_or_all dump old new err outcome left);
+    failed = λ old new err outcome follows fails. failed dump old (with_err new err) outcome follows fails;
   }

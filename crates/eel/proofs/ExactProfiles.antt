@@ -1,23 +1,25 @@
 -- The counts of a profile are exact.
-use Rattle.std.proofs.Common.{◌≡◌, ℕ, ◌-◌, List, [], refl, ap, sym, ◌∙◌, subst, arith}
+use Rattle.std.proofs.Common.{◌≡◌, ℕ, ◌-◌, ◌<◌, List, [], refl, ap, sym, ◌∙◌, subst, arith}
 use Rattle.std.specs.Prelude.{Option, None, Result, Ok, Err}
 use Rattle.std.proofs.lemmas.List.{get_or-map, length-map}
 use Rattle.notes.specs.Format.{NoNotes, Notes, notes_of}
 use Rattle.v8_step.specs.Valid.{AreBytes}
 use Rattle.cfg_normal.specs.Graph.{Graph}
+use Rattle.cfg_view.specs.View.{view_of}
 use Rattle.dump_file.specs.Dump.{Dump}
 use Rattle.tool_kit.specs.Plans.{Plan}
 use Rattle.count_rebuild.specs.Answers.{AreCounts}
 use Rattle.edit_core.specs.Faithful.{HasGraph}
 use Rattle.edit_core.specs.RunsAlike.{HaveRunsAlike}
-use Rattle.exact_counts.specs.Profiles.{CountsOffTree, IsProfiled, counter_in}
+use Rattle.exact_counts.specs.Profiles.{CountsOffTree, IsProfiled, counter_in, original_graph}
 use Rattle.exact_counts.proofs.Exact.{counts_are_exact}
+use Rattle.exact_counts.proofs.Exits.{counts_of_exits_are_exact}
 use Rattle.exact_counts.proofs.Trees.{trees_make_profiles}
-use Rattle.eel.specs.Answers.Profile.{AreCells, IsProfileOf, graph_in, plan_with, profile_plan}
+use Rattle.eel.specs.Answers.Profile.{AreCells, IsProfileOf, plan_with, profile_plan}
 use Rattle.v8_process.specs.Start.{start_of}
-use Rattle.exact_counts.specs.Laws.{IsExact}
+use Rattle.exact_counts.specs.Laws.{IsExact, counter_limit}
 use Rattle.exact_counts.specs.Stops.{dump_at, visits_by}
-use Rattle.eel.specs.Answers.Counts.{AreExact, IsOfRun, IsProfile}
+use Rattle.eel.specs.Answers.Counts.{AreExact, AreOfWholeRuns, IsOfRun, IsProfile}
 
 -- counters off a spanning tree are a profile's
 pub off_tree : (graph : Graph) (marks weights : List ℕ) (cells : List (Option ℕ)) → AreCells graph weights cells
@@ -52,8 +54,7 @@ is_profiled original plan file notes profile bytes read =
       bytes = bytes;
       counters = profile.counters;
       graph = subst (HasGraph original plan) same faithful.graph;
-      dead = faithful.dead;
-      runs = subst (HaveRunsAlike original plan faithful.dead file) same faithful.runs;
+      runs = subst (HaveRunsAlike original plan file) same faithful.runs;
     }
 
 -- the same of a file that was made with counters
@@ -62,7 +63,7 @@ pub edit_is_profiled : (weights original file : List ℕ) (notes : Notes) (profi
     → notes_of file ≡ Ok notes → IsProfiled original (profile_plan profile.cells) file notes
 edit_is_profiled weights original file notes profile bytes read =
     let faithful = profile.made.faithful in
-    let wide = off_tree (graph_in original) [] weights profile.cells profile.are in
+    let wide = off_tree (view_of original []).graph [] weights profile.cells profile.are in
     subst (λ (n : Notes). IsProfiled original (profile_plan profile.cells) file n)
     (one_notes file notes faithful.notes read faithful.whole.reads)
     (record {
@@ -76,7 +77,6 @@ edit_is_profiled weights original file notes profile bytes read =
         tree = wide.tree;
       };
       graph = faithful.graph;
-      dead = faithful.dead;
       runs = faithful.runs;
     })
 
@@ -93,4 +93,19 @@ pub are_exact : (file : List ℕ) (notes : Notes) (dump : Dump) (counts : List �
     → AreCounts notes dump counts → AreExact file notes dump counts
 are_exact file notes dump counts read are = λ original args input m run e inside.
     let exact = exact_in file notes dump read original args input m run in
+    exact.counts counts (subst (λ (d : Dump). AreCounts notes d counts) run.is are) e inside
+
+pub are_of_whole_runs : (file : List ℕ) (notes : Notes) (dump : Dump) (counts : List ℕ) → notes_of file ≡ Ok notes
+    → AreCounts notes dump counts → AreOfWholeRuns file notes dump counts
+are_of_whole_runs file notes dump counts read are = λ original args input n m run e inside.
+    let s0 = start_of original args input in
+    let t0 = start_of file args input in
+    let faithful = run.profile.faithful in
+    let same : faithful.notes ≡ notes = one_notes file notes faithful.notes read faithful.whole.reads in
+    let exact : IsExact original run.plan notes s0 (dump_at notes t0 m) n =
+    subst (λ (k : Notes). IsExact original run.plan k s0 (dump_at k t0 m) n) same
+    (counts_of_exits_are_exact original run.plan file args input n m run.profile.sound run.bytes faithful
+    (subst (λ (k : Notes). CountsOffTree k.version (original_graph original run.plan) run.plan) (sym same)
+    run.profile.counters)
+    run.arguments run.given run.exited (subst (λ (k : Notes). m < counter_limit k.version) (sym same) run.few)) in
     exact.counts counts (subst (λ (d : Dump). AreCounts notes d counts) run.is are) e inside

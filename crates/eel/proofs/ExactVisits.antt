@@ -30,7 +30,7 @@ use Rattle.edit_core.specs.RunsAlike.{IsStop, edit_of}
 use Rattle.edit_core.proofs.Originals.{image_text}
 use Rattle.exact_counts.specs.Profiles.{IsProfiled, original_graph}
 use Rattle.exact_counts.specs.Stops.{visits_by}
-use Rattle.exact_counts.proofs.Exact.{notes_of_graph, view_graph}
+use Rattle.exact_counts.proofs.Exact.{notes_of_graph}
 use Rattle.exact_counts.proofs.Noted.{AreNotesOf, edge_count, edge_is}
 use Rattle.instr_counts.specs.Answers.{AreVisits, begun_in}
 use Rattle.instr_counts.specs.Laws.{AreVisited, HasEach}
@@ -88,9 +88,7 @@ module _ (original : List ℕ) (plan : Plan) (file : List ℕ) (notes : Notes) (
   entry = (image_of original).entry
 
   noted : AreNotesOf graph plan.snips notes
-  noted =
-      subst (λ (g : Graph). AreNotesOf g plan.snips notes) (sym (view_graph original plan is.dead notes))
-      (notes_of_graph original plan is.dead notes is.counters is.graph)
+  noted = notes_of_graph original plan notes is.counters is.graph
 
   edges_noted : AreNoted graph notes.edges graph.edges
   edges_noted = record {
@@ -223,7 +221,7 @@ exact_visits file notes dump counts visits read flow are = λ original args inpu
     let at : node_at notes (run t0 m).pc ≡ Some flow.node =
     subst (λ (k : ℕ). node_at notes k ≡ Some flow.node) pc flow.stands.at in
     let placed : node_at notes (run t0 m).pc ≢ None = λ none. cc in
-    let stop : IsStop (edit_of original plan is.dead notes) (image_of original).entry s0 t0 m v =
+    let stop : IsStop (edit_of original plan notes) (image_of original).entry s0 t0 m v =
     (is.runs args input made.arguments made.given).stops m made.untouched in
     let some : 0 < v = stop.some placed in
     let tells = stop.tells placed in
@@ -233,9 +231,7 @@ exact_visits file notes dump counts visits read flow are = λ original args inpu
       len = visit_count original plan.marks notes dump counts visits own;
       each = λ word l.
           visits_are original plan file notes is (leads_marked original plan.marks marked) args input (v - 1) (run t0 m).pc
-          (subst (λ (graph : Graph). node_at notes (run t0 m).pc
-          ≡ Some (last_node (image_of original).text graph (image_of original).entry s0 (v - 1)))
-          (sym (view_graph original plan is.dead notes)) tells.node)
+          tells.node
           tells.address dump counts visits pc own (are_exact file notes dump counts read flow original args input m made)
           (stop.lives placed) word l
           ∙ ap (λ (k : ℕ). times (own_trail s0 k) (address_of (image_of original).text word)) count;

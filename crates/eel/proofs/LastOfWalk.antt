@@ -6,7 +6,6 @@ use Rattle.std.proofs.lemmas.List.Elements.{All-weaker}
 use Rattle.std.proofs.lemmas.List.FromFn.{get_or-map-range_with_len, length-map-range_with_len}
 use Rattle.elf32_sparc.specs.Image.{image_of}
 use Rattle.notes.specs.Format.{NoteEdge, Notes, node_at, notes_of}
-use Rattle.v8_decode.specs.declared.Part.{Part}
 use Rattle.v8_step.specs.declared.Ending.{Ending}
 use Rattle.v8_step.specs.State.{State}
 use Rattle.v8_step.specs.Run.{run}
@@ -22,12 +21,11 @@ use Rattle.cfg_walk.specs.Walk.{walk}
 use Rattle.tool_kit.specs.declared.edge_ref.ToolKind.{ToolKind}
 use Rattle.tool_kit.specs.Plans.{Plan}
 use Rattle.dump_file.specs.Dump.{Dump}
-use Rattle.image_code.specs.Simulates.{Setting, graph_in as graph_of_edit, snippet_on, store_of}
+use Rattle.image_code.specs.Store.{Edit, snippet_on}
 use Rattle.edit_core.specs.Faithful.{HasGraph, note_edges}
 use Rattle.edit_core.specs.RunsAlike.{HaveRunsAlike, IsStop, TellsStep, edit_of}
 use Rattle.edit_core.proofs.Eaches.{all_each}
 use Rattle.exact_counts.specs.Stops.{dump_at, visits_by}
-use Rattle.exact_counts.proofs.Exact.{view_graph}
 use Rattle.exact_counts.proofs.Gone.{walk_within}
 use Rattle.edge_ring.specs.declared.fault.RingFault.{RingFault}
 use Rattle.edge_ring.specs.declared.fault.RingFault.TheVariants as faults
@@ -38,7 +36,7 @@ use Rattle.edge_ring.specs.Traces.{IsTrace}
 use Rattle.edge_ring.proofs.Stores.{stores_are_rings}
 use Rattle.edge_ring.proofs.Told.{rings_tell}
 use Rattle.eel.specs.Answers.Edit.{edges_in}
-use Rattle.eel.specs.Answers.Profile.{graph_in}
+use Rattle.cfg_view.specs.View.{view_of}
 use Rattle.eel.specs.Answers.LastEdges.{EditsAreTraces, IsTraceOf}
 use Rattle.eel.specs.Answers.Trace.{trace_plan}
 use Rattle.eel.proofs.ExactProfiles.{one_notes}
@@ -62,17 +60,14 @@ module _ (bits : ℕ) (original file : List ℕ) (notes : Notes) (trace : IsTrac
   abbrev plan : Plan
   plan = trace_plan bits original
 
-  abbrev dead : ℕ → List Part
-  dead = trace.faithful.dead
-
   same : trace.faithful.notes ≡ notes
   same = one_notes file notes trace.faithful.notes read trace.faithful.whole.reads
 
   has : HasGraph original plan notes
   has = subst (HasGraph original plan) same trace.faithful.graph
 
-  runs : HaveRunsAlike original plan dead file notes
-  runs = subst (HaveRunsAlike original plan dead file) same trace.faithful.runs
+  runs : HaveRunsAlike original plan file notes
+  runs = subst (HaveRunsAlike original plan file) same trace.faithful.runs
 
   pub is_trace : IsTrace notes
   is_trace = record { tool = has.tool; bits = bits; some = trace.some; few = trace.few; cells = has.cells }
@@ -80,11 +75,11 @@ module _ (bits : ℕ) (original file : List ℕ) (notes : Notes) (trace : IsTrac
   edge_count : length notes.edges ≡ length (edges_in original)
   edge_count =
       ap (λ (es : List NoteEdge). length es) has.edges
-      ∙ length_noted (graph_in original) plan.kind (edges_in original) plan.snips
+      ∙ length_noted (view_of original []).graph plan.kind (edges_in original) plan.snips
       (length-map-range_with_len (ring_on bits) 0 (length (edges_in original)))
 
-  abbrev g : Setting
-  g = edit_of original plan dead notes
+  abbrev g : Edit
+  g = edit_of original plan notes
 
   module _ (args : List (List ℕ)) (input : List ℕ) (m : ℕ) (given : AreArguments args) (fed : AreBytes input)
       (untouched : IsUntouched (pages_of notes) (start_of original args input)
@@ -102,7 +97,7 @@ module _ (bits : ℕ) (original file : List ℕ) (notes : Notes) (trace : IsTrac
     steps = visits_by notes t0 m - 1
 
     abbrev path : List ℕ
-    path = walk (image_of original).text (graph_in original) entry s0 steps
+    path = walk (image_of original).text (view_of original []).graph entry s0 steps
 
     abbrev dump : Dump
     dump = dump_at notes t0 m
@@ -111,7 +106,7 @@ module _ (bits : ℕ) (original file : List ℕ) (notes : Notes) (trace : IsTrac
     stop = (runs args input given fed).stops m untouched
 
     within : All (λ edge. edge < length (edges_in original)) path
-    within = all_each _ path (walk_within (image_of original).text (graph_in original) entry s0 steps)
+    within = all_each _ path (walk_within (image_of original).text (view_of original []).graph entry s0 steps)
 
     -- each edge of the walk is written into the ring
     logged : All (λ edge. snippet_on plan.snips edge ≡ ring_on bits edge) path
@@ -120,18 +115,9 @@ module _ (bits : ℕ) (original file : List ℕ) (notes : Notes) (trace : IsTrac
         (λ edge l. get_or-map-range_with_len (ring_on bits) 0 (length (edges_in original)) edge edge [] l (omega arith))
         path within
 
-    graphs : graph_of_edit g ≡ graph_in original
-    graphs = sym (view_graph original plan dead notes)
-
     ring : TellsStep g entry s0 t0 m steps → IsRingOf bits path dump.cells
     ring told =
-        let walked : Graph → List ℕ = λ graph. walk (image_of original).text graph entry s0 steps in
-        let stored : IsRingOf bits (walked (graph_of_edit g)) (store_of g entry s0 steps) =
-        stores_are_rings bits g entry s0 steps trace.few has.cells
-        (subst (λ (graph : Graph). All (λ edge. snippet_on plan.snips edge ≡ ring_on bits edge) (walked graph))
-        (sym graphs) logged) in
-        subst (λ (graph : Graph). IsRingOf bits (walked graph) dump.cells) graphs
-        (subst (IsRingOf bits (walked (graph_of_edit g))) (sym told.cells) stored)
+        subst (IsRingOf bits path) (sym told.cells) (stores_are_rings bits g entry s0 steps trace.few has.cells logged)
 
     length_is : notes.version ≡ 2 → dump.length ≡ notes.length
     length_is two = ap (λ (b : _). if b then 0 else notes.length) (ap (λ (v : ℕ). v == 1) two)

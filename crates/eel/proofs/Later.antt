@@ -1,8 +1,8 @@
 -- What was so from a later moment on is so from an earlier one, between which only faults were counted.
 use Rattle.std.proofs.Common.{◌≡◌, ℕ, ◌≤◌, List, Option, inl, inr, ap, sym, ◌∙◌, subst, arith}
 use Rattle.eel_base.specs.Outside.{AreUnder, Holding, IsLonger, IsMissing, stored, SameBut, Rose}
-use Rattle.eel.specs.Outcome.{Outcome, Done, TooLong, OutOfMemory, DeviceFault}
-use Rattle.eel.specs.Answers.Shared.{Store, store, IsPut, IsUnread, WasRead}
+use Rattle.eel_said.specs.Outcome.{Outcome, Done, TooLong, OutOfMemory, DeviceFault}
+use Rattle.eel_said.specs.Shared.{Store, store, IsPut, IsUnread, WasRead}
 
 pub rose-before : (old mid new : ℕ) → old ≤ mid → Rose mid new → Rose old new
 rose-before old mid new later rose = omega arith

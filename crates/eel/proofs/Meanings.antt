@@ -1,14 +1,11 @@
 -- What is true of each command, by the status: the statements, and what all commands share.
-use Rattle.std.proofs.Common.{◌≡◌, ℕ, ◌≤◌, ◌⊎◌, inr, List, [], refl, ap, ◌∙◌, arith}
-use Rattle.eel_base.specs.Outside.{Rose, IsMissing, appended, stored}
-use Rattle.eel.specs.Outcome.{Outcome, Done, TooLong, OutOfMemory, DeviceFault, Stream, status_of, line_of}
+use Rattle.std.proofs.Common.{◌≡◌, ℕ, ◌≤◌, ◌⊎◌, inr, List, refl, ap, arith}
+use Rattle.eel_base.specs.Outside.{Rose, IsMissing}
+use Rattle.eel_said.specs.Outcome.{Outcome, Done, TooLong, OutOfMemory, DeviceFault, Stream, status_of}
 use Rattle.eel.specs.Answers.{IsRefusal, IsUnchanged}
-use Rattle.eel.specs.Answers.Shared.{Store, Outside, Meaning, with_err, IsUnread, IsPut, IsPrinted, HaveFailed, files_mean, prints_mean}
-use Rattle.v8_step.proofs.Quiet.{appended_nothing}
+use Rattle.eel_said.specs.Shared.{Store, Outside, Meaning, with_err, IsUnread, IsPut, IsPrinted, HaveFailed, files_mean, prints_mean}
 
 pub record IsByStatus (m : Meaning) : Type 0 where
-  pub done : (old new : Outside) (err : Stream) (outcome : Outcome) → m.follows old (with_err new err) outcome
-      → status_of outcome ≡ 0 → new.err.taken ≡ appended err.taken (line_of outcome) → m.does old new
   pub refused : (old new : Outside) (outcome : Outcome) → m.follows old new outcome → IsRefusal (status_of outcome)
       → IsUnchanged old new
   pub wanting : (old new : Outside) (err : Stream) (outcome : Outcome) → m.follows old (with_err new err) outcome
@@ -35,13 +32,6 @@ wanting_is_bad status is = bad status (omega arith) (omega arith)
 
 -- ---- reading
 
-pub unread_not_done : (old new : Store) (name : List ℕ) (limit : ℕ) (outcome : Outcome)
-    → IsUnread old new name limit outcome → status_of outcome ≡ 0 → ⊥
-unread_not_done old new name limit (TooLong named most) is zero = cc
-unread_not_done old new name limit OutOfMemory is zero = cc
-unread_not_done old new name limit DeviceFault is zero = cc
-unread_not_done old new name limit _ is zero = is
-
 pub unread_failed : (old new : Store) (name : List ℕ) (limit : ℕ) (outcome : Outcome)
     → IsUnread old new name limit outcome → status_of outcome ≡ 74
     → IsMissing old.held name ⊎ Rose old.faults new.faults
@@ -51,14 +41,6 @@ unread_failed old new name limit DeviceFault is fails = is
 unread_failed old new name limit _ is fails = absurd is
 
 -- ---- writing
-
-pub put_done : (old new : Store) (name bytes : List ℕ) (outcome : Outcome)
-    → IsPut old new name bytes outcome → status_of outcome ≡ 0
-    → (line_of outcome ≡ []) × (new.held ≡ stored old.held name bytes)
-put_done old new name bytes Done is zero = (refl, is)
-put_done old new name bytes OutOfMemory is zero = absurd (omega arith)
-put_done old new name bytes DeviceFault is zero = absurd (omega arith)
-put_done old new name bytes _ is zero = absurd is
 
 pub put_refused : (old new : Store) (name bytes : List ℕ) (outcome : Outcome)
     → IsPut old new name bytes outcome → IsBad (status_of outcome) → new.held ≡ old.held
@@ -74,13 +56,6 @@ put_failed old new name bytes OutOfMemory is fails = absurd (omega arith)
 put_failed old new name bytes DeviceFault is fails = is.0
 put_failed old new name bytes _ is fails = absurd is
 
-pub printed_done : (old new : Stream) (bytes : List ℕ) (outcome : Outcome)
-    → IsPrinted old new bytes outcome → status_of outcome ≡ 0
-    → (line_of outcome ≡ []) × (new.taken ≡ appended old.taken bytes)
-printed_done old new bytes Done is zero = (refl, is)
-printed_done old new bytes DeviceFault is zero = absurd (omega arith)
-printed_done old new bytes _ is zero = absurd is
-
 pub printed_not_refused : (old new : Stream) (bytes : List ℕ) (outcome : Outcome)
     → IsPrinted old new bytes outcome → IsBad (status_of outcome) → ⊥
 printed_not_refused old new bytes Done is other = other.not_done refl
@@ -95,21 +70,15 @@ printed_failed old new bytes _ is fails = absurd is
 
 -- ---- commands that read and write files, and do nothing else
 
-pub record AreByStatus (follows : Store → Store → Outcome → Type 0) (does : Store → Store → Type 0)
-    (lacks : Store → Type 0) : Type 0 where
-  pub done : (old new : Store) (outcome : Outcome) → follows old new outcome → status_of outcome ≡ 0
-      → (line_of outcome ≡ []) × does old new
+pub record AreByStatus (follows : Store → Store → Outcome → Type 0) (lacks : Store → Type 0) : Type 0 where
   pub unchanged : (old new : Store) (outcome : Outcome) → follows old new outcome → IsBad (status_of outcome)
       → new.held ≡ old.held
   pub failed : (old new : Store) (outcome : Outcome) → follows old new outcome → status_of outcome ≡ 74
       → HaveFailed lacks old new
 
-pub files_by_status : (follows : Store → Store → Outcome → Type 0) (does : Store → Store → Type 0)
-    (lacks : Store → Type 0) → AreByStatus follows does lacks → IsByStatus (files_mean follows does lacks)
-files_by_status follows does lacks are = record {
-  done = λ old new err outcome is zero took.
-      let (line, done) = are.done old.files new.files outcome is.0 zero in
-      (done, is.1, (is.2.0, took ∙ ap (appended err.taken) line ∙ appended_nothing err.taken ∙ is.2.1));
+pub files_by_status : (follows : Store → Store → Outcome → Type 0) (lacks : Store → Type 0)
+    → AreByStatus follows lacks → IsByStatus (files_mean follows lacks)
+files_by_status follows lacks are = record {
   refused = λ old new outcome is refusal. record {
     files = are.unchanged old.files new.files outcome is.0 (refusal_is_bad _ refusal);
     out = ap (λ s. s.taken) is.2.0;
@@ -121,19 +90,16 @@ files_by_status follows does lacks are = record {
 
 -- ---- commands that read files and print, and do nothing else
 
-pub record ArePrintedByStatus (follows : Outside → Outside → Outcome → Type 0) (does : Outside → Outside → Type 0)
-    (unread : Store → Store → Type 0) : Type 0 where
-  pub done : (old new : Outside) (err : Stream) (outcome : Outcome) → follows old (with_err new err) outcome
-      → status_of outcome ≡ 0 → new.err.taken ≡ appended err.taken (line_of outcome) → does old new
+pub record ArePrintedByStatus (follows : Outside → Outside → Outcome → Type 0) (unread : Store → Store → Type 0)
+    : Type 0 where
   pub silent : (old new : Outside) (outcome : Outcome) → follows old new outcome → IsBad (status_of outcome)
       → new.out.taken ≡ old.out.taken
   pub failed : (old new : Outside) (outcome : Outcome) → follows old new outcome → status_of outcome ≡ 74
       → unread old.files new.files ⊎ Rose old.out.faults new.out.faults
 
-pub prints_by_status : (follows : Outside → Outside → Outcome → Type 0) (does : Outside → Outside → Type 0)
-    (unread : Store → Store → Type 0) → ArePrintedByStatus follows does unread → IsByStatus (prints_mean follows does unread)
-prints_by_status follows does unread are = record {
-  done = λ old new err outcome is zero took. (are.done old new err outcome is.0 zero took, is.1, is.2);
+pub prints_by_status : (follows : Outside → Outside → Outcome → Type 0) (unread : Store → Store → Type 0)
+    → ArePrintedByStatus follows unread → IsByStatus (prints_mean follows unread)
+prints_by_status follows unread are = record {
   refused = λ old new outcome is refusal.
       record { files = is.1; out = are.silent old new outcome is.0 (refusal_is_bad _ refusal) };
   wanting = λ old new err outcome is wants.

@@ -4,7 +4,7 @@ use Rattle.std.proofs.Common.{◌≡◌, ℕ, List}
 use Rattle.std.specs.Prelude.{Ok}
 use Rattle.notes.specs.Format.{Notes, notes_of}
 use Rattle.dump_file.specs.Dump.{Dump}
-use Rattle.eel.specs.Outcome.{Outcome, NotEveryWord, NoProfile, NoCounts, OutOfMemory}
+use Rattle.eel_said.specs.Outcome.{Outcome, NotEveryWord, NoProfile, NoCounts, OutOfMemory}
 use Rattle.eel.specs.Answers.Counts.{IsOfRun, IsUncounted, MayMiss}
 use Rattle.eel.specs.Answers.Every.{every_word}
 use Rattle.eel.specs.Answers.Visits.{AreSeldomUnvisited, IsUnvisited}

@@ -11,13 +11,11 @@ use Rattle.v8_step.specs.Run.{run, run_puts}
 use Rattle.v8_runner.specs.Runs.{AreMade, IsStop, RunTakes}
 use Rattle.v8_runner.specs.declared.Stop.{Stop}
 use Rattle.v8_runner.specs.declared.Stop.TheVariants.{Limit, Ended, SinkFault}
-use Rattle.v8_step.specs.declared.Ending.{Ending}
-use Rattle.v8_process.specs.Start.{start_of}
-use Rattle.eel.specs.Outcome.{Outcome, Stopped, BadFile, TooLong, OutOfMemory, DeviceFault, Stream, status_of, line_of}
-use Rattle.eel.specs.Answers.Shared.{Feed, Outside, with_err, written_limit}
-use Rattle.eel.specs.Answers.Run.{Runs, unread, unfed, refused, ran, HasRun, IsRun, IsNotRun, IsUnfed, WasRun, run_means, stopped_of}
+use Rattle.eel_said.specs.Outcome.{Outcome, Stopped, BadFile, TooLong, OutOfMemory, DeviceFault, Stream, status_of}
+use Rattle.eel_said.specs.Shared.{Feed}
+use Rattle.eel.specs.Answers.Run.{IsRun, IsNotRun, IsUnfed, stopped_of}
 use Rattle.v8_step.proofs.Quiet.{appended_nothing}
-use Rattle.eel.proofs.Meanings.{IsByStatus, IsBad, bad, refusal_is_bad, wanting_is_bad, unread_not_done, unread_failed}
+use Rattle.eel.proofs.Meanings.{IsBad, bad}
 
 -- a part of b after all of a is a part of both
 took-rest : (old new : Option (List ℕ)) (a b : List ℕ) → TookPart (appended old a) new b → TookPart old new (a ++ b)
@@ -68,18 +66,12 @@ run_comes s0 s limit steps SinkFault old_out new_out old_err new_err is (within,
   failed = elim (cause refl) [ inl fails ↦ inl fails.1 | inr fails ↦ inr fails.1 ];
 }
 
--- ---- the command, by its status
+-- ---- its parts, by the status
 
 pub not_run : (name bytes : List ℕ) (outcome : Outcome) → IsNotRun name bytes outcome → IsBad (status_of outcome)
 not_run name bytes (BadFile named code) is = bad 65 (lit≤ tt) (lit≤ tt)
 not_run name bytes OutOfMemory is = bad 70 (lit≤ tt) (lit≤ tt)
 not_run name bytes _ is = absurd is
-
-pub unfed_not_done : (old new : Feed) (outcome : Outcome) → IsUnfed old new outcome → status_of outcome ≡ 0 → ⊥
-unfed_not_done old new (TooLong name limit) is zero = cc
-unfed_not_done old new OutOfMemory is zero = cc
-unfed_not_done old new DeviceFault is zero = cc
-unfed_not_done old new _ is zero = is
 
 pub unfed_failed : (old new : Feed) (outcome : Outcome) → IsUnfed old new outcome → status_of outcome ≡ 74
     → Rose old.faults new.faults
@@ -88,86 +80,15 @@ unfed_failed old new OutOfMemory is fails = absurd (omega arith)
 unfed_failed old new DeviceFault is fails = is
 unfed_failed old new _ is fails = absurd is
 
--- a run that wasn't broken off, with its line
-pub record IsEnded (s0 : State) (limit : ℕ) (old_out new_out old_err new_err : Stream) : Type 0 where
-  pub ending : Option Ending
-  pub steps : ℕ
-  pub ran : HasRun s0 limit ending steps (line_of (Stopped ending steps)) old_out new_out old_err new_err
-
-ran_done : (s0 : State) (limit : ℕ) (old_out new_out old_err err new_err : Stream) (outcome : Outcome)
-    → IsRun s0 limit old_out new_out old_err err outcome → status_of outcome ≡ 0
-    → new_err.taken ≡ appended err.taken (line_of outcome) → IsEnded s0 limit old_out new_out old_err new_err
-ran_done s0 limit old_out new_out old_err err new_err (Stopped ending steps) is zero took = record {
-  ending = ending;
-  steps = steps;
-  ran = record {
-    made = is.made;
-    stops = is.stops;
-    ends = is.ends;
-    out = is.out;
-    err = took ∙ ap (λ z. appended z (line_of (Stopped ending steps))) (is.err ∙ appended_nothing (appended old_err.taken (run_puts s0 steps 2)));
-  };
-}
-ran_done s0 limit old_out new_out old_err err new_err DeviceFault is zero took = absurd (omega arith)
-ran_done s0 limit old_out new_out old_err err new_err _ is zero took = absurd is
-
-ran_not_refused : (s0 : State) (limit : ℕ) (old_out new_out old_err new_err : Stream) (outcome : Outcome)
+pub ran_not_refused : (s0 : State) (limit : ℕ) (old_out new_out old_err new_err : Stream) (outcome : Outcome)
     → IsRun s0 limit old_out new_out old_err new_err outcome → IsBad (status_of outcome) → ⊥
 ran_not_refused s0 limit old_out new_out old_err new_err (Stopped ending steps) is other = other.not_done refl
 ran_not_refused s0 limit old_out new_out old_err new_err DeviceFault is other = other.not_failed refl
 ran_not_refused s0 limit old_out new_out old_err new_err _ is other = is
 
-ran_failed : (s0 : State) (limit : ℕ) (old_out new_out old_err new_err : Stream) (outcome : Outcome)
+pub ran_failed : (s0 : State) (limit : ℕ) (old_out new_out old_err new_err : Stream) (outcome : Outcome)
     → IsRun s0 limit old_out new_out old_err new_err outcome → status_of outcome ≡ 74
     → Rose old_out.faults new_out.faults ⊎ Rose old_err.faults new_err.faults
 ran_failed s0 limit old_out new_out old_err new_err (Stopped ending steps) is fails = absurd (omega arith)
 ran_failed s0 limit old_out new_out old_err new_err DeviceFault is fails = is.failed
 ran_failed s0 limit old_out new_out old_err new_err _ is fails = absurd is
-
-done : (file : List ℕ) (limit : ℕ) (args : List (List ℕ)) (old new : Outside) (err : Stream) (outcome : Outcome)
-    → Runs file limit args old (with_err new err) outcome → status_of outcome ≡ 0
-    → new.err.taken ≡ appended err.taken (line_of outcome) → WasRun file limit args old new
-done file limit args old new err outcome (unread is unused quiet) zero took = absurd (unread_not_done old.files new.files file written_limit outcome is zero)
-done file limit args old new err outcome (unfed bytes read is quiet) zero took = absurd (unfed_not_done old.input new.input outcome is zero)
-done file limit args old new err outcome (refused bytes read input fed is quiet) zero took = absurd ((not_run file bytes outcome is).not_done zero)
-done file limit args old new err outcome (ran bytes read input fed loads is) zero took =
-    let ended = ran_done (start_of bytes args input) limit old.out new.out old.err err new.err outcome is zero took in
-    record {
-      bytes = bytes;
-      read = read;
-      loads = loads;
-      input = input;
-      fed = fed;
-      ending = ended.ending;
-      steps = ended.steps;
-      ran = ended.ran;
-    }
-
-silent : (file : List ℕ) (limit : ℕ) (args : List (List ℕ)) (old new : Outside) (outcome : Outcome)
-    → Runs file limit args old new outcome → IsBad (status_of outcome) → new.out.taken ≡ old.out.taken
-silent file limit args old new outcome (unread is unused quiet) other = ap (λ s. s.taken) quiet.0
-silent file limit args old new outcome (unfed bytes read is quiet) other = ap (λ s. s.taken) quiet.0
-silent file limit args old new outcome (refused bytes read input fed is quiet) other = ap (λ s. s.taken) quiet.0
-silent file limit args old new outcome (ran bytes read input fed loads is) other =
-    absurd (ran_not_refused (start_of bytes args input) limit old.out new.out old.err new.err outcome is other)
-
-failed : (file : List ℕ) (limit : ℕ) (args : List (List ℕ)) (old new : Outside) (outcome : Outcome)
-    → Runs file limit args old new outcome → status_of outcome ≡ 74
-    → Rose old.err.faults new.err.faults ⊎ (run_means file limit args).fails old new
-failed file limit args old new outcome (unread is unused quiet) fails =
-    inr (inl (elim (unread_failed old.files new.files file written_limit outcome is fails) [ inl lacks ↦ inr lacks | inr rose ↦ inl rose ]))
-failed file limit args old new outcome (unfed bytes read is quiet) fails = inr (inr (inl (unfed_failed old.input new.input outcome is fails)))
-failed file limit args old new outcome (refused bytes read input fed is quiet) fails =
-    absurd ((not_run file bytes outcome is).not_failed fails)
-failed file limit args old new outcome (ran bytes read input fed loads is) fails =
-    elim (ran_failed (start_of bytes args input) limit old.out new.out old.err new.err outcome is fails) [ inl rose ↦ inr (inr (inr rose)) | inr rose ↦ inl rose ]
-
-pub run_by_status : (file : List ℕ) (limit : ℕ) (args : List (List ℕ)) → IsByStatus (run_means file limit args)
-run_by_status file limit args = record {
-  done = λ old new err outcome follows zero took. (done file limit args old new err outcome follows.0 zero took, follows.1);
-  refused = λ old new outcome follows refusal.
-      record { files = follows.1; out = silent file limit args old new outcome follows.0 (refusal_is_bad _ refusal) };
-  wanting = λ old new err outcome follows wants.
-      (follows.1, silent file limit args old (with_err new err) outcome follows.0 (wanting_is_bad _ wants));
-  failed = λ old new err outcome follows fails. failed file limit args old (with_err new err) outcome follows.0 fails;
-}

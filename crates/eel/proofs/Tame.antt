@@ -16,7 +16,6 @@ use Rattle.v8_step.specs.Run.{run}
 use Rattle.two_runs.specs.Needed.{IsUntouched}
 use Rattle.two_runs.specs.Visits.{page_of, pages_of}
 use Rattle.v8_process.specs.Arguments.{AreArguments}
-use Rattle.cfg_normal.specs.Graph.{Graph}
 use Rattle.cfg_walk.specs.Walk.{end_of_walk, gone, point_of, unless_ended, walk}
 use Rattle.span_tree.specs.Cells.{has_cell}
 use Rattle.span_tree.proofs.LoopBounds.{counted_few}
@@ -28,15 +27,15 @@ use Rattle.count_rebuild.specs.Answers.{AreCounts, IsRefused}
 use Rattle.edit_core.specs.declared.taking.EditFault.{EditFault}
 use Rattle.edit_core.specs.declared.taking.EditFault.TheVariants as faults
 use Rattle.edit_core.specs.Faithful.{HasPages, IsInRoom, holds_cells, note_of}
+use Rattle.edit_core.specs.Cost.{TakesFewSteps}
 use Rattle.edit_core.specs.RunsAlike.{AreRunsAlike, edit_of}
-use Rattle.edit_core.specs.Taken.{bound_in}
-use Rattle.image_code.specs.Simulates.{Setting, graph_in}
+use Rattle.image_code.specs.Store.{Edit}
 use Rattle.exact_counts.specs.Profiles.{IsProfiled, original_graph}
 use Rattle.exact_counts.specs.Sizes.{HasEndedBy}
 use Rattle.exact_counts.specs.Stops.{EndsWithStep, IsOver, dump_at, visits_by}
 use Rattle.exact_counts.specs.Laws.{IsExact, MayRefuse, counter_limit}
 use Rattle.exact_counts.proofs.Ends.{ended_runs_tell}
-use Rattle.exact_counts.proofs.Exact.{begins_live, counts_are_exact, notes_of_graph, view_graph}
+use Rattle.exact_counts.proofs.Exact.{begins_live, counts_are_exact, notes_of_graph}
 use Rattle.exact_counts.proofs.Little.{profiles_need_little}
 use Rattle.exact_counts.proofs.Noted.{edge_count}
 use Rattle.exact_counts.proofs.Soon.{profiles_end_soon}
@@ -91,14 +90,14 @@ low_base : (file : List ℕ) → 1 ≤ (image_of file).room → (image_of file).
 unfolding image_of
 low_base file some = omega (arith, some)
 
-room_above : (base : ℕ) (file : List ℕ) (plan : Plan) (room : List Mapping) (editor : Mapping)
-    → (image_of file).base ≡ base → All (IsInRoom file plan) room → base ≤ editor.start
+room_above : (base : ℕ) (file : List ℕ) (room : List Mapping) (editor : Mapping)
+    → (image_of file).base ≡ base → All (IsInRoom file) room → base ≤ editor.start
     → AreAbove base (map page_of (map note_of (room ++ editor ∷ [])))
-room_above base file plan [] editor same inside last = (last, tt)
-room_above base file plan (m ∷ room) editor same inside last =
-    let first = (All-head (IsInRoom file plan) m room inside).0 in (
+room_above base file [] editor same inside last = (last, tt)
+room_above base file (m ∷ room) editor same inside last =
+    let first = (All-head (IsInRoom file) m room inside).0 in (
       omega (arith, first, same),
-      room_above base file plan room editor same (All-tail (IsInRoom file plan) m room inside) last,
+      room_above base file room editor same (All-tail (IsInRoom file) m room inside) last,
     )
 
 no_arguments : AreArguments []
@@ -117,10 +116,10 @@ module _ (file written : List ℕ) (tame : IsTame file) (profile : IsProfileOf (
   pub loads : load_fault written ≡ None
   loads = profile.made.faithful.whole.loads
 
-  pages : HasPages file plan written notes
+  pages : HasPages file written notes
   pages =
       let faithful = profile.made.faithful in
-      subst (HasPages file plan written) (one_notes written notes faithful.notes reads faithful.whole.reads)
+      subst (HasPages file written) (one_notes written notes faithful.notes reads faithful.whole.reads)
       faithful.pages
 
   pub noted : IsNoted written notes
@@ -141,13 +140,13 @@ module _ (file written : List ℕ) (tame : IsTame file) (profile : IsProfileOf (
       let low = low_base file (omega (arith, room)) in
       let own = pages.own.0 in
       subst (λ (segments : List NoteSegment). AreAbove (image_of file).base (map page_of segments)) pages.noted
-      (room_above (image_of file).base file plan pages.room pages.editor refl pages.inside (omega (arith, low, own)))
+      (room_above (image_of file).base file pages.room pages.editor refl pages.inside (omega (arith, low, own)))
 
   untouched : (n : ℕ) → IsUntouched (pages_of notes) (alone file) n
   untouched n = tame.untouched (pages_of notes) above n
 
-  abbrev g : Setting
-  g = edit_of file plan is.dead notes
+  abbrev g : Edit
+  g = edit_of file plan notes
 
   abbrev entry : ℕ
   entry = (image_of file).entry
@@ -158,12 +157,19 @@ module _ (file written : List ℕ) (tame : IsTame file) (profile : IsProfileOf (
   abbrev t0 : State
   t0 = alone written
 
-  alike : AreRunsAlike g (bound_in file plan) entry s0 t0
+  alike : AreRunsAlike g entry s0 t0
   alike = is.runs [] [] no_arguments (All-nil _)
+
+  few_steps : TakesFewSteps g entry s0 t0
+  few_steps =
+      let faithful = profile.made.faithful in
+      subst (λ (n : Notes). TakesFewSteps (edit_of file plan n) entry s0 t0)
+      (one_notes written notes faithful.notes reads faithful.whole.reads)
+      (profile.made.cost.steps [] [] no_arguments (All-nil _))
 
   soon : HasEndedBy t0 (64 + 128 * tame.steps)
   soon =
-      profiles_end_soon notes.version g (bound_in file plan) entry s0 t0 tame.steps is.counters.counters alike
+      profiles_end_soon notes.version g entry s0 t0 tame.steps is.counters.counters alike few_steps
       (λ none. some_not_none tame.ending (sym tame.ran.ends ∙ none)) (untouched tame.steps)
 
   pub ends : EndsWithin t0 (2 ^ 32)
@@ -201,7 +207,7 @@ module _ (file written : List ℕ) (tame : IsTame file) (profile : IsProfileOf (
         (exact.refused fault (subst (λ (d : Dump). IsRefused notes d fault) last.is refused))
 
     told : EndsWithStep g entry s0 t0 m v
-    told = ended_runs_tell g (bound_in file plan) entry s0 t0 m (begins_live file [] []) alike over
+    told = ended_runs_tell g entry s0 t0 m (begins_live file [] []) alike over
 
     -- the original's run ends with its last visit
     last_visit : (ending : Ending) (steps : ℕ) → EndsAlone file ending steps → v ≡ steps
@@ -228,8 +234,7 @@ module _ (file written : List ℕ) (tame : IsTame file) (profile : IsProfileOf (
     counted : (counts : List ℕ) → AreCounts notes dump counts → length counts ≡ length (original_graph file plan).edges
     counted counts are =
         are.len
-        ∙ edge_count (graph_in g) plan.snips notes (notes_of_graph file plan is.dead notes is.counters is.graph)
-        ∙ ap (λ (graph : Graph). length graph.edges) (sym (view_graph file plan is.dead notes))
+        ∙ edge_count (original_graph file plan) plan.snips notes (notes_of_graph file plan notes is.counters is.graph)
 
     pub adds_up : (counts : List ℕ) → AreCounts notes dump counts → (ending : Ending) (steps : ℕ)
         → EndsAlone file ending steps → sum counts ≡ length (walk_alone file steps)

@@ -7,9 +7,9 @@ use Rattle.dump_file.specs.Dump.{Dump}
 use Rattle.edge_ring.specs.declared.fault.RingFault.{RingFault}
 use Rattle.edge_ring.specs.declared.fault.RingFault.TheVariants as faults
 use Rattle.edge_ring.specs.Answers.{AreLast, IsRefused}
-use Rattle.eel.specs.declared.outcome.CountCause.{CountCause}
-use Rattle.eel.specs.declared.outcome.CountCause.TheVariants as causes
-use Rattle.eel.specs.Outcome.{Outcome, NoTrace, NoCounts, BadCell, OutOfMemory}
+use Rattle.eel_said.specs.declared.outcome.CountCause.{CountCause}
+use Rattle.eel_said.specs.declared.outcome.CountCause.TheVariants as causes
+use Rattle.eel_said.specs.Outcome.{Outcome, NoTrace, NoCounts, BadCell, OutOfMemory}
 use Rattle.eel.specs.Answers.Counts.{MayMiss}
 use Rattle.eel.specs.Answers.LastEdges.{AreSeldomUntold, AreTheLast, HasRingCause, IsOfTraced, IsUntold}
 use Rattle.eel.proofs.LastOfWalk.{MayHide, hidden, last_told}

@@ -23,10 +23,12 @@ use Rattle.cfg_view.specs.View.{view_of}
 use Rattle.edit_core.specs.declared.taking.EditFault.{EditFault}
 use Rattle.edit_core.specs.declared.taking.EditFault.TheVariants as faults
 use Rattle.edit_core.specs.Taken.{CanEdit, EditRefuses}
-use Rattle.edit_core.specs.Faithful.{AsksOf, IsFaithful}
+use Rattle.edit_core.specs.Cost.{IsEdited}
+use Rattle.edit_core.specs.Faithful.{AsksOf}
 use Rattle.edit_core.specs.Written.{IsTheEdit}
 use Rattle.eel.specs.Answers.Edit.{IsEditOf, asked}
 use Rattle.eel.specs.Answers.Script.{HasCells}
+use Rattle.eel.proofs.EditOf.{is_edit_of}
 
 none_below : (cells : ℕ) → WorksBelow cells []
 none_below cells = λ k d within. absurd (omega arith)
@@ -91,11 +93,11 @@ module _ {F : Type 0} (says : F → EdgeRef → List Op → Type 0) (tool : Kept
 
   pub edits_made : {A E : Type 0} (items : A → List ℕ) (result : Result A E)
       → IfOk result (λ file. (plan : Plan) × AsksOf says tool bytes plan × CanEdit bytes plan
-      × IsFaithful bytes plan (items file) × IsTheEdit bytes plan (items file))
+      × IsEdited bytes plan (items file) × IsTheEdit bytes plan (items file))
       → IfOk result (λ file. IsEditOf bytes (plan_with kind [] cells (asked ops bytes)) (items file))
-  edits_made items (Ok file) (plan, asks, can, faithful, written) =
+  edits_made items (Ok file) (plan, asks, can, edited, written) =
       subst (λ p. IsEditOf bytes p (items file)) (plan_is plan asks)
-      (record { taken = can; faithful = faithful; written = written })
+      (is_edit_of bytes plan (items file) can edited)
   edits_made items (Err fault) is = is
 
   refusal_is : (fault : EditFault) → EditRefuses bytes (AsksOf says tool bytes) fault

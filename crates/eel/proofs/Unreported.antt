@@ -4,9 +4,9 @@ use Rattle.std.specs.Prelude.{Result, Ok, Err}
 use Rattle.notes.specs.Format.{Notes}
 use Rattle.dump_file.specs.Dump.{Dump}
 use Rattle.dump_file.specs.Reading.{read_dump}
-use Rattle.eel.specs.declared.report.Report.{Report}
-use Rattle.eel.specs.declared.report.Report.TheVariants as reports
-use Rattle.eel.specs.Outcome.{Outcome, NoNotes, BadNotes, BadDump, NotEveryWord, NoProfile, NoTrace, NoCounts, BadCell, OutOfMemory, status_of}
+use Rattle.eel_said.specs.declared.command.Report.{Report}
+use Rattle.eel_said.specs.declared.command.Report.TheVariants as reports
+use Rattle.eel_said.specs.Outcome.{Outcome, NoNotes, BadNotes, BadDump, NotEveryWord, NoProfile, NoTrace, NoCounts, BadCell, OutOfMemory, status_of}
 use Rattle.eel.specs.Answers.Counts.{IsUncounted, MayMiss}
 use Rattle.eel.specs.Answers.LastEdges.{IsUntold}
 use Rattle.eel.specs.Answers.Noted.{AreRead, IsUndumped, IsUnnoted}

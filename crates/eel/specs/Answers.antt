@@ -1,9 +1,7 @@
 -- What comes of the words of a call, and why, and what is there afterwards: each command has a file.
-pub mod Shared
 pub mod Files
 pub mod Noted
-pub mod Make
-pub mod MakeBy
+pub mod Steps
 pub mod Edit
 pub mod Script
 pub mod Tool
@@ -23,25 +21,24 @@ pub mod Trace
 pub mod LastEdges
 pub mod Report
 pub mod Demo
-use Rattle.std.specs.Prelude.{◌≡◌, ℕ, ◌≤◌, ◌⊎◌, Some, None}
-use Rattle.eel_base.specs.Outside.{Rose}
-use Rattle.eel.specs.Command.{Command}
-use Rattle.eel.specs.Command as words
-use Rattle.eel.specs.Outcome.{Outcome, BadWords, Stream, Shows}
-use Rattle.eel.specs.Answers.Shared.{Outside, Meaning, with_err, IsUnused, IsQuiet, IsSilent}
-use Rattle.eel.specs.Answers.Edit.{edit_means}
-use Rattle.eel.specs.Answers.Script.{script_means}
-use Rattle.eel.specs.Answers.Run.{run_means}
-use Rattle.eel.specs.Answers.Dump.{dump_means}
+use Rattle.std.specs.Prelude.{◌≡◌, ℕ, ◌≤◌, ◌⊎◌}
+use Rattle.eel_base.specs.Outside.{Rose, appended}
+use Rattle.eel_said.specs.Command.{Command}
+use Rattle.eel_said.specs.Command as words
+use Rattle.eel_said.specs.Outcome.{Outcome, BadWords, Stream, Shows, line_of, status_of}
+use Rattle.eel_said.specs.Shared.{Outside, Meaning, with_err, IsUnused, IsQuiet, IsSilent}
+use Rattle.eel.specs.Answers.Edit.{edit_by_means, edit_means, plain}
+use Rattle.eel.specs.Answers.Script.{script_limit, scripting}
+use Rattle.eel.specs.Answers.Dump.{run_means}
 use Rattle.eel.specs.Answers.Show.{show_means}
 use Rattle.eel.specs.Answers.List.{list_means}
 use Rattle.eel.specs.Answers.Words.{words_means}
 use Rattle.eel.specs.Answers.Restore.{restore_means}
-use Rattle.eel.specs.Answers.Profile.{no_words, profile_means}
-use Rattle.eel.specs.Answers.Every.{every_means}
-use Rattle.eel.specs.Answers.Weighed.{weighed_means}
+use Rattle.eel.specs.Answers.Profile.{no_words, profiling}
+use Rattle.eel.specs.Answers.Every.{every_word}
+use Rattle.eel.specs.Answers.Weighed.{weighing, weights_limit}
 use Rattle.eel.specs.Answers.Report.{report_means}
-use Rattle.eel.specs.Answers.Trace.{trace_edit_means}
+use Rattle.eel.specs.Answers.Trace.{tracing}
 use Rattle.eel.specs.Answers.Demo.{demo_means}
 
 -- words outside the grammar
@@ -49,24 +46,22 @@ abbrev pub unknown_means : Meaning
 unknown_means = record {
   follows = λ old new outcome.
       (outcome ≡ BadWords) × (new.files.held ≡ old.files.held) × IsUnused old new × IsQuiet old new;
-  does = λ old new. ⊥;
   wants = IsSilent;
   fails = λ old new. ⊥;
 }
 
 abbrev pub meaning_of : Command → Meaning
-meaning_of (words.EditPlain input output) = edit_means input output
-meaning_of (words.EditScript input output script) = script_means input output script
-meaning_of (words.Run file limit None args) = run_means file limit args
-meaning_of (words.Run file limit (Some dump) args) = dump_means file limit dump args
+meaning_of (words.EditPlain input output) = edit_means plain input output
+meaning_of (words.EditScript input output script) = edit_by_means scripting script_limit input output script
+meaning_of (words.Run file limit dump args) = run_means file limit dump args
 meaning_of (words.Show file) = show_means file
 meaning_of (words.ListWords file) = list_means file
 meaning_of (words.PutWords listing output) = words_means listing output
 meaning_of (words.Restore written output) = restore_means written output
-meaning_of (words.EditProfile input output) = profile_means no_words input output
-meaning_of (words.EditEvery input output) = every_means input output
-meaning_of (words.EditWeighed input output weights) = weighed_means input output weights
-meaning_of (words.EditTrace input output bits) = trace_edit_means input output bits
+meaning_of (words.EditProfile input output) = edit_means (profiling no_words) input output
+meaning_of (words.EditEvery input output) = edit_means (profiling every_word) input output
+meaning_of (words.EditWeighed input output weights) = edit_by_means weighing weights_limit input output weights
+meaning_of (words.EditTrace input output bits) = edit_means (tracing bits) input output
 meaning_of (words.ReportRun report written dump) = report_means report written dump
 meaning_of (words.Demo number routines) = demo_means number routines
 meaning_of words.Unknown = unknown_means
@@ -83,9 +78,13 @@ pub record Ran (command : Command) (old new : Outside) (status : ℕ) : Type 0 w
 
 -- ---- the same, by the status
 
--- Status 0: what was asked for is done, and nothing else.
-abbrev pub IsDone : Command → Outside → Outside → Type 0
-IsDone command old new = (meaning_of command).does old new
+-- Status 0: what was asked for is done, or a program has run, and nothing else; then the line was written.
+pub record IsDone (command : Command) (old new : Outside) : Type 0 where
+  pub outcome : Outcome
+  pub good : status_of outcome ≡ 0
+  pub err : Stream
+  pub follows : (meaning_of command).follows old (with_err new err) outcome
+  pub line : new.err.taken ≡ appended err.taken (line_of outcome)
 
 -- Statuses 64, 65, 66 and 69: no file has changed, and nothing is put out.
 abbrev pub IsRefusal : ℕ → Type 0

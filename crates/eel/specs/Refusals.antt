@@ -8,8 +8,8 @@ use Rattle.v8_text.specs.declared.listings.ListFault.{ListFault}
 use Rattle.v8_text.specs.declared.listings.ListFault.TheVariants as lists
 use Rattle.weights_in.specs.declared.reading.WeightFault.{WeightFault}
 use Rattle.weights_in.specs.declared.reading.WeightFault.TheVariants as weights
-use Rattle.eel.specs.declared.outcome.LineCause.TheVariants as causes
-use Rattle.eel.specs.Outcome.{Outcome, BadLine, NotEveryWord, TooLong, OutOfMemory, DeviceFault}
+use Rattle.eel_said.specs.declared.outcome.LineCause.TheVariants as causes
+use Rattle.eel_said.specs.Outcome.{Outcome, BadLine, NotEveryWord, TooLong, OutOfMemory, DeviceFault}
 
 -- of a text that has this name, and may have so many bytes
 abbrev pub unread_of : List ℕ → ℕ → FetchFault → Outcome

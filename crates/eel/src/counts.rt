@@ -3,12 +3,12 @@ ghost use Rattle.std.specs.Prelude.{◌≡◌, ◌<◌, ◌^◌, IfOk, IfErr, le
 ghost use Rattle.notes.specs.Rules.{AreNotes};
 ghost use Rattle.notes.specs.Seen.{notes_seen};
 ghost use Rattle.dump_file.specs.Dump.{dump_seen};
-ghost use Rattle.eel.specs.Outcome.{outcome_seen};
+ghost use Rattle.eel_said.specs.Outcome.{outcome_seen};
 ghost use Rattle.eel.specs.Answers.Counts.{EditsAreProfiles, IsUncounted, TellCounts, uncounted_of};
 
-use crate::outcome::{CountCause, Outcome};
 use count_rebuild::{CountFault, rebuild};
 use dump_file::Dump;
+use eel_said::{CountCause, Outcome};
 use notes::Notes;
 use show_text::counts;
 use std::alloc::Global;

@@ -13,16 +13,15 @@ ghost use Rattle.count_rebuild.specs.declared.fault.CountFault.{CountFault as Fa
 ghost use Rattle.count_rebuild.specs.declared.fault.CountFault.TheVariants as faults;
 ghost use Rattle.count_rebuild.specs.Answers.{AreCounts, IsRefused};
 ghost use Rattle.edit_core.specs.declared.taking.EditFault.TheVariants as edit_faults;
-ghost use Rattle.eel.specs.Outcome.{Stream, ending_text as ending_text_of, outcome_seen};
-ghost use Rattle.eel.specs.Seen.{stream_seen};
-ghost use Rattle.eel.specs.Answers.Shared.{Feed, Store, outside};
+ghost use Rattle.eel_said.specs.Outcome.{Stream, ending_text as ending_text_of, outcome_seen};
+ghost use Rattle.eel_said.specs.Seen.{stream_seen};
+ghost use Rattle.eel_said.specs.Shared.{Feed, Store, outside};
 ghost use Rattle.eel.specs.Answers.Dump.{IsNoted};
 ghost use Rattle.eel.specs.Answers.Profile.{IsProfileOf, guessed};
 ghost use Rattle.eel.specs.Answers.Demo.{EndsAlone, IsTold, TellOf, Tells, alone, demo_lines as demo_lines_of, ending_line, executions_line, name_line, size_in, size_line, walk_alone};
 ghost use Rattle.eel.specs.Tame.{EndsWithin, IsLastDump, IsNotedFile, IsTame};
 
 use crate::dumps::dump_of;
-use crate::outcome::Outcome;
 use crate::profile::profiled_view;
 use crate::texts::print;
 use cfg_view::{View, look};
@@ -30,6 +29,7 @@ use count_rebuild::{CountFault, rebuild};
 use dump_file::Dump;
 use edit_core::EditFault;
 use eel_base::{NoMemory, NullSink, Sink};
+use eel_said::Outcome;
 use elf32_sparc::ReadFault;
 use itoa::Buffer;
 use notes::{Notes, NotesFault, read_notes};

@@ -1,5 +1,5 @@
 //! The command `run` with a dump.
-ghost use Rattle.std.specs.Prelude.{◌≡◌, ◌≤◌, ◌<◌, ◌+◌, ◌*◌, ◌%◌, ◌^◌, ℕ, IfOk, IfErr, vec_len};
+ghost use Rattle.std.specs.Prelude.{◌≡◌, ◌≤◌, ◌<◌, ◌+◌, ◌*◌, ◌%◌, ◌^◌, ℕ, IfOk, IfErr, Some, vec_len};
 ghost use Rattle.std.specs.List.{list_any};
 ghost use Rattle.elf32_sparc.specs.Mapping.{mappings};
 ghost use Rattle.notes.specs.Rules.{AreNotes};
@@ -9,23 +9,23 @@ ghost use Rattle.snippet_code.specs.Cells.{cell_at, words_at};
 ghost use Rattle.code_runs.specs.StoredWords.{CanLoad, memory_word};
 ghost use Rattle.dump_file.specs.Dump.{dump_seen};
 ghost use Rattle.dump_file.specs.Written.{dump_bytes as dump_bytes_of};
-ghost use Rattle.eel.specs.Command.{texts};
-ghost use Rattle.eel.specs.Outcome.{outcome_seen};
-ghost use Rattle.eel.specs.Seen.{files_seen, outside_seen, stream_seen};
-ghost use Rattle.eel.specs.Answers.Shared.{Feed, outside};
+ghost use Rattle.eel_said.specs.Command.{texts};
+ghost use Rattle.eel_said.specs.Outcome.{outcome_seen};
+ghost use Rattle.eel_said.specs.Seen.{files_seen, outside_seen, stream_seen};
+ghost use Rattle.eel_said.specs.Shared.{Feed, outside};
 ghost use Rattle.edit_core.specs.Faithful.{holds_cells};
 ghost use Rattle.eel.specs.Answers.Run.{was_broken as was_broken_of};
-ghost use Rattle.eel.specs.Answers.Dump.{Dumps, IsDumped, IsNotNoted, IsNoted, IsPutAfter, dump_of as dump_of_state};
+ghost use Rattle.eel.specs.Answers.Dump.{Runs, IsDumped, IsNotNoted, IsNoted, IsPutAfter, dump_of as dump_of_state};
 ghost use Rattle.exact_counts.specs.Stops.{length_told as length_told_of};
 ghost use Rattle.eel.specs.Cells.{AreLoadable, KeepCells, has_cells as has_cells_of};
 
 use crate::inputs::notes_in;
-use crate::outcome::Outcome;
 use crate::run::{Job, WRITTEN_LIMIT, outcome_of, start};
 use crate::texts::{fetch_file, read_input};
 use bitflags::Flags;
 use dump_file::{Dump, write_dump};
 use eel_base::{Addr, Files, NoMemory, PutFault, Sink, Source};
+use eel_said::Outcome;
 use elf32_sparc::{SegFlags, Segment, read_segments};
 use notes::Notes;
 use std::alloc::Global;
@@ -50,7 +50,7 @@ pub fn run_for_dump<'a, F: Files, I: Source, O: Sink, E: Sink>(
     err: &mut E,
 ) -> Outcome<'a>
     requires few { AreArguments (texts job.args.now) }
-    ensures dumps { Dumps job.entry.file.now job.entry.limit dump.now (texts job.entry.args.now)
+    ensures dumps { Runs job.entry.file.now job.entry.limit (Some dump.now) (texts job.entry.args.now)
         (outside_seen F.Files I.Source O.Sink E.Sink files.old input.old out.old err.old)
         (outside_seen F.Files I.Source O.Sink E.Sink files.new input.new out.new err.new)
         (outcome_seen result) }

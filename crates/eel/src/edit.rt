@@ -2,20 +2,18 @@
 ghost use Rattle.std.specs.Prelude.{◌≡◌, ◌≤◌, ◌^◌, [], IfErr, IfOk, length};
 ghost use Rattle.cfg_view.specs.View.{view_of, view_seen};
 ghost use Rattle.edit_core.specs.Taken.{EditRefuses};
-ghost use Rattle.eel.specs.Outcome.{outcome_seen};
-ghost use Rattle.eel.specs.Seen.{files_seen};
+ghost use Rattle.eel_said.specs.Outcome.{outcome_seen};
+ghost use Rattle.eel_said.specs.Seen.{files_seen};
 ghost use Rattle.eel.specs.Answers.Files.{IsSound};
-ghost use Rattle.eel.specs.Answers.Edit.{IsEditOf, editing, plain_plan, refusal_of};
-ghost use Rattle.eel.specs.Answers.Make.{Makes};
-ghost use Rattle.eel.specs.Answers.MakeBy.{MakesBy};
-ghost use Rattle.eel.specs.Answers.Script.{HasCells, IsBadScript, IsNotScripted, IsReadAs, IsScriptEdit, script_plan, script_refusal_of, scripting};
+ghost use Rattle.eel.specs.Answers.Edit.{Edits, EditsBy, IsEditBy, IsEditOf, IsNotEdited, plain, plain_plan, refusal_of};
+ghost use Rattle.eel.specs.Answers.Script.{HasCells, IsBadScript, IsReadAs, script_limit, script_plan, script_refusal_of, scripting};
 
 use crate::inputs::view_in;
-use crate::outcome::{LineCause, Outcome};
 use crate::texts::{fetch_file, put_file};
 use cfg_view::View;
 use edit_core::{EditFault, edit_bytes, edit_view};
 use eel_base::Files;
+use eel_said::{LineCause, Outcome};
 use snippets::{Script, ScriptFault, Snippet, read_script};
 use std::alloc::Global;
 use tool_kit::{Chooser, EdgeRef, Tool, ToolKind};
@@ -33,7 +31,7 @@ pub fn edit_plain<'a, F: Files>(
     input: &'a str,
     output: &str,
 ) -> Outcome<'a>
-    ensures edits { Makes (editing plain_plan) input.now output.now
+    ensures edits { Edits plain input.now output.now
         (files_seen F.Files files.old) (files_seen F.Files files.new) (outcome_seen result) }
     ensures later { F.faults files.old ≤ F.faults files.new }
 {
@@ -55,7 +53,7 @@ pub fn edit_by_script<'a, F: Files>(
     output: &str,
     script: &'a str,
 ) -> Outcome<'a>
-    ensures scripts { MakesBy scripting input.now output.now script.now
+    ensures scripts { EditsBy scripting script_limit input.now output.now script.now
         (files_seen F.Files files.old) (files_seen F.Files files.new) (outcome_seen result) }
     ensures later { F.faults files.old ≤ F.faults files.new }
 {
@@ -127,9 +125,9 @@ fn scripted<'a>(
 ) -> Result<Vec<u8>, Outcome<'a>>
     requires bytes { length bytes.now ≤ 2 ^ 26 }
     requires lines { length lines.now ≤ 2 ^ 24 }
-    ensures edited { IfOk result (λ file. IsScriptEdit bytes.now lines.now file.items) }
+    ensures edited { IfOk result (λ file. IsEditBy scripting bytes.now lines.now file.items) }
     ensures refused { IfErr result (λ outcome.
-        IsNotScripted input.now bytes.now script.now lines.now (outcome_seen outcome)) }
+        IsNotEdited scripting input.now bytes.now script.now lines.now (outcome_seen outcome)) }
 {
     let view = view_in(alloc, input, bytes)?;
     scripted_in(alloc, input, bytes, &view, script, lines)
@@ -148,9 +146,9 @@ fn scripted_in<'a>(
     requires sound { IsSound bytes.now }
     requires view { view_seen view.now ≡ view_of bytes.now [] }
     requires lines { length lines.now ≤ 2 ^ 24 }
-    ensures edited { IfOk result (λ file. IsScriptEdit bytes.now lines.now file.items) }
+    ensures edited { IfOk result (λ file. IsEditBy scripting bytes.now lines.now file.items) }
     ensures refused { IfErr result (λ outcome.
-        IsNotScripted input.now bytes.now script.now lines.now (outcome_seen outcome)) }
+        IsNotEdited scripting input.now bytes.now script.now lines.now (outcome_seen outcome)) }
 {
     let script = script_in(alloc, script, lines, edge_count(view))?;
     with_snippets(alloc, bytes, view, &script).map_err(|fault| refusal(input, fault))

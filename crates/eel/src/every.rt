@@ -5,19 +5,19 @@ ghost use Rattle.elf32_sparc.specs.FileFault.{fault};
 ghost use Rattle.elf32_sparc.specs.Image.{refusal};
 ghost use Rattle.cfg_blocks.specs.Marks.{numbers};
 ghost use Rattle.cfg_view.specs.View.{view_seen, IsView};
-ghost use Rattle.eel.specs.Outcome.{outcome_seen};
-ghost use Rattle.eel.specs.Seen.{files_seen};
-ghost use Rattle.eel.specs.Answers.Make.{Makes};
-ghost use Rattle.eel.specs.Answers.Profile.{CountersRefuse, IsMadeOf, guessed_with, profiling};
+ghost use Rattle.eel_said.specs.Outcome.{outcome_seen};
+ghost use Rattle.eel_said.specs.Seen.{files_seen};
+ghost use Rattle.eel.specs.Answers.Edit.{Edits};
+ghost use Rattle.eel.specs.Answers.Profile.{CountersRefuse, IsMarkedProfile, guessed_with, profiling};
 ghost use Rattle.eel.specs.Answers.Every.{every_view, every_word, word_numbered};
 
 use crate::edit::{EDIT_LIMIT, refusal};
-use crate::outcome::Outcome;
 use crate::profile::profiled_view;
 use crate::texts::{fetch_file, put_file};
 use cfg_view::{View, view_image};
 use edit_core::EditFault;
 use eel_base::{Files, NoMemory, WordNo};
+use eel_said::Outcome;
 use elf32_sparc::{ReadFault, read_image};
 use std::alloc::Global;
 
@@ -29,7 +29,7 @@ pub fn edit_every_word<'a, F: Files>(
     input: &'a str,
     output: &str,
 ) -> Outcome<'a>
-    ensures profiles { Makes (profiling every_word) input.now output.now
+    ensures profiles { Edits (profiling every_word) input.now output.now
         (files_seen F.Files files.old) (files_seen F.Files files.new) (outcome_seen result) }
     ensures later { F.faults files.old ≤ F.faults files.new }
 {
@@ -46,7 +46,8 @@ pub fn edit_every_word<'a, F: Files>(
 /// The edit of a file with counters where every word is marked.
 fn marked(alloc: Global, bytes: &[u8]) -> Result<Vec<u8>, EditFault>
     requires { length bytes.now ≤ 2 ^ 26 }
-    ensures profile { IfOk result (λ file. IsMadeOf every_word bytes.now file.items) }
+    ensures profile { let marks = every_word bytes.now in
+        IfOk result (λ file. IsMarkedProfile marks (guessed_with bytes.now marks) bytes.now file.items) }
     ensures refused { let marks = every_word bytes.now in
         IfErr result (CountersRefuse marks (guessed_with bytes.now marks) bytes.now) }
 {

@@ -6,13 +6,13 @@ ghost use Rattle.notes.specs.Rules.{AreNotes};
 ghost use Rattle.notes.specs.Seen.{notes_seen};
 ghost use Rattle.dump_file.specs.Dump.{dump_seen};
 ghost use Rattle.dump_file.specs.Reading.{read_dump};
-ghost use Rattle.eel.specs.Outcome.{outcome_seen};
+ghost use Rattle.eel_said.specs.Outcome.{outcome_seen};
 ghost use Rattle.eel.specs.Answers.Files.{IsNotSound, IsSound};
 ghost use Rattle.eel.specs.Answers.Noted.{IsUndumped, IsUnnoted};
 
-use crate::outcome::Outcome;
 use cfg_view::{View, look};
 use dump_file::{Dump, DumpFault, read_dump};
+use eel_said::Outcome;
 use elf32_sparc::ReadFault;
 use notes::{Notes, NotesFault, read_notes};
 use std::alloc::Global;

@@ -2,7 +2,6 @@
 //! given.
 #![tactic(auto)]
 
-mod command;
 mod counts;
 mod demo;
 mod dumps;
@@ -11,7 +10,6 @@ mod every;
 mod inputs;
 mod last_edges;
 mod list;
-mod outcome;
 mod profile;
 mod program;
 mod report;
@@ -27,7 +25,7 @@ mod weights_edit;
 mod words;
 
 pub use counts::edits_are_profiles;
+pub use eel_said::Outcome;
 pub use last_edges::edits_are_traces;
-pub use outcome::Outcome;
 pub use program::run_words;
 pub use top::eel;

@@ -1,16 +1,16 @@
 //! The command `list`.
 ghost use Rattle.std.specs.Prelude.{◌≡◌, ◌≤◌, IfOk, IfErr};
-ghost use Rattle.eel.specs.Outcome.{Stream, outcome_seen};
-ghost use Rattle.eel.specs.Seen.{files_seen, stream_seen};
+ghost use Rattle.eel_said.specs.Outcome.{Stream, outcome_seen};
+ghost use Rattle.eel_said.specs.Seen.{files_seen, stream_seen};
 ghost use Rattle.eel.specs.Answers.Files.{IsNotSound, IsSound};
 ghost use Rattle.eel.specs.Answers.List.{listed_of};
-ghost use Rattle.eel.specs.Answers.Print.{Prints};
-ghost use Rattle.eel.specs.Answers.Shared.{Feed, outside};
+ghost use Rattle.eel.specs.Answers.Print.{PrintsFile};
+ghost use Rattle.eel_said.specs.Shared.{Feed, outside};
 
 use crate::edit::EDIT_LIMIT;
-use crate::outcome::Outcome;
 use crate::texts::{fetch_file, print};
 use eel_base::{Files, Sink};
+use eel_said::Outcome;
 use elf32_sparc::{ReadFault, read_image};
 use std::alloc::Global;
 use v8_text::listing;
@@ -23,7 +23,7 @@ pub fn list_words<'a, F: Files, O: Sink>(
     out: &mut O,
 ) -> Outcome<'a>
     // Whatever the input and the error stream are, they stay so.
-    ensures prints { (feed : Feed) (err : Stream) → Prints listed_of file.now
+    ensures prints { (feed : Feed) (err : Stream) → PrintsFile listed_of file.now
         (outside (files_seen F.Files files.old) feed (stream_seen O.Sink out.old) err)
         (outside (files_seen F.Files files.new) feed (stream_seen O.Sink out.new) err)
         (outcome_seen result) }

@@ -7,21 +7,21 @@ ghost use Rattle.cfg_view.specs.View.{view_of, view_seen, IsView};
 ghost use Rattle.edit_core.specs.Taken.{EditRefuses};
 ghost use Rattle.span_tree.specs.Cells.{cell_at, cell_count, AreNumbered};
 ghost use Rattle.span_tree.specs.Weights.{weights_of};
-ghost use Rattle.eel.specs.Outcome.{outcome_seen};
-ghost use Rattle.eel.specs.Seen.{files_seen};
+ghost use Rattle.eel_said.specs.Outcome.{outcome_seen};
+ghost use Rattle.eel_said.specs.Seen.{files_seen};
 ghost use Rattle.eel.specs.Answers.Edit.{IsEditOf};
 ghost use Rattle.eel.specs.Answers.Files.{IsSound};
-ghost use Rattle.eel.specs.Answers.Make.{Makes};
+ghost use Rattle.eel.specs.Answers.Edit.{Edits};
 ghost use Rattle.exact_counts.specs.Profiles.{counter_in};
-ghost use Rattle.eel.specs.Answers.Profile.{AreCells, CountersRefuse, IsMarkedProfile, IsProfileOf, ProfileRefuses, graph_with, guessed, guessed_with, no_words, plan_with, profiling};
+ghost use Rattle.eel.specs.Answers.Profile.{AreCells, CountersRefuse, IsMarkedProfile, IsProfileOf, ProfileRefuses, guessed, guessed_with, no_words, plan_with, profiling};
 
 use crate::edit::{EDIT_LIMIT, refusal};
-use crate::outcome::Outcome;
 use crate::texts::{fetch_file, put_file};
 use crate::tool_edit::edit_view_with;
 use cfg_view::{View, look};
 use edit_core::EditFault;
 use eel_base::{Files, NoMemory, WordNo};
+use eel_said::Outcome;
 use snippets::{Op, Snippet};
 use span_tree::{SpanTree, tree, weights};
 use std::alloc::Global;
@@ -34,7 +34,7 @@ pub fn edit_for_counts<'a, F: Files>(
     input: &'a str,
     output: &str,
 ) -> Outcome<'a>
-    ensures profiles { Makes (profiling no_words) input.now output.now
+    ensures profiles { Edits (profiling no_words) input.now output.now
         (files_seen F.Files files.old) (files_seen F.Files files.new) (outcome_seen result) }
     ensures later { F.faults files.old ≤ F.faults files.new }
 {
@@ -124,7 +124,7 @@ pub fn with_counters(
     requires bytes { length bytes.now ≤ 2 ^ 26 }
     requires sound { IsSound bytes.now }
     requires view { view_seen view.now ≡ view_of bytes.now (numbers marks.items) }
-    requires size { length tree.now ≡ length (graph_with bytes.now (numbers marks.items)).edges }
+    requires size { length tree.now ≡ length (view_of bytes.now (numbers marks.items)).graph.edges }
     requires numbered { AreNumbered tree.now }
     requires few { cell_count tree.now ≤ 2 ^ 22 }
     ensures edited { IfOk result (λ file. IsEditOf bytes.now (plan_with (numbers marks.items) tree.now) file.items) }

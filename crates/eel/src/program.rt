@@ -1,8 +1,8 @@
 //! The call that `main` makes: the words behind the name of the program are a command.
 ghost use Rattle.std.specs.Prelude.{◌≡◌, drop, map, string_bytes, IfOk, OnErr};
-ghost use Rattle.eel.specs.Command.{command_of, texts};
-ghost use Rattle.eel.specs.Seen.{outside_seen};
-ghost use Rattle.eel.specs.Answers.{Ran};
+ghost use Rattle.eel_said.specs.Command.{command_of, texts};
+ghost use Rattle.eel_said.specs.Seen.{outside_seen};
+ghost use Rattle.eel.specs.Answers.{HasFailed, IsDone, IsRefusal, IsUnchanged, IsUnrefused, Ran, WasWanting};
 
 use crate::top::eel;
 use eel_base::{Files, Sink, Source};
@@ -25,9 +25,27 @@ pub fn run_words<F: Files, I: Source, O: Sink, E: Sink>(
     out: &mut O,
     err: &mut E,
 ) -> Result<u8, AllocError>
+    // What comes of the words, the files and the input, and how it shows.
     ensures ran { IfOk result (Ran (command_of (map string_bytes (drop 1 all.now)))
         (outside_seen F.Files I.Source O.Sink E.Sink files.old input.old out.old err.old)
         (outside_seen F.Files I.Source O.Sink E.Sink files.new input.new out.new err.new)) }
+
+    // So it is by the status, as with `eel`.
+    ensures done { IfOk result (λ status. status ≡ 0 → IsDone (command_of (map string_bytes (drop 1 all.now)))
+        (outside_seen F.Files I.Source O.Sink E.Sink files.old input.old out.old err.old)
+        (outside_seen F.Files I.Source O.Sink E.Sink files.new input.new out.new err.new)) }
+    ensures refused { IfOk result (λ status. IsRefusal status → IsUnchanged
+        (outside_seen F.Files I.Source O.Sink E.Sink files.old input.old out.old err.old)
+        (outside_seen F.Files I.Source O.Sink E.Sink files.new input.new out.new err.new)) }
+    ensures unrefused { IfOk result (IsUnrefused (command_of (map string_bytes (drop 1 all.now)))) }
+    ensures wanting { IfOk result (λ status. status ≡ 70 → WasWanting (command_of (map string_bytes (drop 1 all.now)))
+        (outside_seen F.Files I.Source O.Sink E.Sink files.old input.old out.old err.old)
+        (outside_seen F.Files I.Source O.Sink E.Sink files.new input.new out.new err.new)) }
+    ensures failed { IfOk result (λ status. status ≡ 74 → HasFailed (command_of (map string_bytes (drop 1 all.now)))
+        (outside_seen F.Files I.Source O.Sink E.Sink files.old input.old out.old err.old)
+        (outside_seen F.Files I.Source O.Sink E.Sink files.new input.new out.new err.new)) }
+
+    // Where the words can't be had, nothing has changed.
     ensures unrun { OnErr result (
         outside_seen F.Files I.Source O.Sink E.Sink files.new input.new out.new err.new
         ≡ outside_seen F.Files I.Source O.Sink E.Sink files.old input.old out.old err.old) }

@@ -3,36 +3,25 @@ ghost use Rattle.std.specs.Prelude.{◌≡◌, ◌≤◌, ◌+◌, ◌<◌, ◌^
 ghost use Rattle.notes.specs.Rules.{AreNotes};
 ghost use Rattle.notes.specs.Seen.{notes_seen};
 ghost use Rattle.dump_file.specs.Dump.{dump_seen};
-ghost use Rattle.eel.specs.Outcome.{Stream, outcome_seen};
-ghost use Rattle.eel.specs.Seen.{files_seen, stream_seen};
-ghost use Rattle.eel.specs.Answers.Shared.{Feed, outside};
+ghost use Rattle.eel_said.specs.Outcome.{Stream, outcome_seen};
+ghost use Rattle.eel_said.specs.Seen.{files_seen, stream_seen};
+ghost use Rattle.eel_said.specs.Shared.{Feed, outside};
 ghost use Rattle.eel.specs.Answers.Report.{IsRefused, IsReported, IsUnreported, Reports, Tell};
 
 use crate::counts::count_lines;
 use crate::inputs::{dump_in, notes_in};
 use crate::last_edges::edge_lines;
-use crate::outcome::Outcome;
 use crate::run::WRITTEN_LIMIT;
 use crate::texts::{fetch_file, print};
 use crate::visits::visit_lines;
 use dump_file::Dump;
 use eel_base::{Files, Sink};
+use eel_said::{Outcome, Report};
 use notes::Notes;
 use std::alloc::Global;
 
 /// How many bytes a dump may have.
 const DUMP_LIMIT: u64 = 64 << 20;
-
-/// What is told of a run.
-#[derive(Clone, Copy)]
-pub enum Report {
-    /// How often each edge was completed.
-    Counts,
-    /// How often each instruction ran.
-    Visits,
-    /// The last edges that the run went along.
-    LastEdges,
-}
 
 /// Reads the file `written` and the dump `dump` of a run of it, and prints what is asked for.
 pub fn report_run<'a, F: Files, O: Sink>(

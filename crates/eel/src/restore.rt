@@ -1,17 +1,18 @@
 //! The command `restore`.
 ghost use Rattle.std.specs.Prelude.{◌≡◌, ◌≤◌, ◌+◌, IfOk, IfErr, length};
 ghost use Rattle.notes.specs.Seen.{notes_seen};
-ghost use Rattle.eel.specs.Outcome.{outcome_seen};
-ghost use Rattle.eel.specs.Seen.{files_seen};
-ghost use Rattle.eel.specs.Answers.Make.{Makes};
+ghost use Rattle.eel_said.specs.Outcome.{outcome_seen};
+ghost use Rattle.eel_said.specs.Seen.{files_seen};
+ghost use Rattle.eel.specs.Answers.Steps.{Makes};
+ghost use Rattle.eel_said.specs.Shared.{written_limit};
 ghost use Rattle.eel.specs.Answers.Noted.{IsUnnoted};
-ghost use Rattle.eel.specs.Answers.Restore.{HasOriginal, original_in, restoring};
+ghost use Rattle.eel.specs.Answers.Restore.{HasOriginal, original_in};
 
 use crate::inputs::notes_in;
-use crate::outcome::Outcome;
 use crate::run::WRITTEN_LIMIT;
 use crate::texts::{fetch_file, put_file};
 use eel_base::Files;
+use eel_said::Outcome;
 use notes::Notes;
 use std::alloc::Global;
 
@@ -22,7 +23,7 @@ pub fn restore_original<'a, F: Files>(
     written: &'a str,
     output: &str,
 ) -> Outcome<'a>
-    ensures restores { Makes restoring written.now output.now
+    ensures restores { Makes written_limit (IsUnnoted written.now) HasOriginal written.now output.now
         (files_seen F.Files files.old) (files_seen F.Files files.new) (outcome_seen result) }
     ensures later { F.faults files.old ≤ F.faults files.new }
 {

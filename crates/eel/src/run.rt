@@ -3,14 +3,15 @@ ghost use Rattle.std.specs.Prelude.{◌≡◌, ◌≤◌, IfOk, IfErr, OnOk, Non
 ghost use Rattle.elf32_sparc.specs.FileFault.{load_fault};
 ghost use Rattle.v8_process.specs.Arguments.{AreArguments};
 ghost use Rattle.v8_process.specs.Start.{start_of};
-ghost use Rattle.eel.specs.Command.{texts};
-ghost use Rattle.eel.specs.Outcome.{outcome_seen};
-ghost use Rattle.eel.specs.Seen.{outside_seen, stream_seen};
-ghost use Rattle.eel.specs.Answers.Run.{IsNotRun, IsRun, Runs, stopped_of};
+ghost use Rattle.eel_said.specs.Command.{texts};
+ghost use Rattle.eel_said.specs.Outcome.{outcome_seen};
+ghost use Rattle.eel_said.specs.Seen.{outside_seen, stream_seen};
+ghost use Rattle.eel.specs.Answers.Run.{IsNotRun, IsRun, stopped_of};
+ghost use Rattle.eel.specs.Answers.Dump.{Runs};
 
-use crate::outcome::Outcome;
 use crate::texts::{fetch_file, read_input};
 use eel_base::{Files, Sink, Source};
+use eel_said::Outcome;
 use std::alloc::Global;
 use v8_process::{LoadFault, load};
 use v8_runner::{RunEnd, Stop, run};
@@ -37,11 +38,10 @@ pub fn run_program<'a, F: Files, I: Source, O: Sink, E: Sink>(
     err: &mut E,
 ) -> Outcome<'a>
     requires few { AreArguments (texts job.args.now) }
-    ensures runs { Runs job.entry.file.now job.entry.limit (texts job.entry.args.now)
+    ensures runs { Runs job.entry.file.now job.entry.limit None (texts job.entry.args.now)
         (outside_seen F.Files I.Source O.Sink E.Sink files.old input.old out.old err.old)
         (outside_seen F.Files I.Source O.Sink E.Sink files.new input.new out.new err.new)
         (outcome_seen result) }
-    ensures kept { F.held files.new ≡ F.held files.old }
     ensures files_faults { F.faults files.old ≤ F.faults files.new }
     ensures input_faults { I.faults input.old ≤ I.faults input.new }
     ensures out_faults { O.faults out.old ≤ O.faults out.new }

@@ -1,19 +1,19 @@
 //! The command `show`.
 ghost use Rattle.std.specs.Prelude.{◌≡◌, ◌≤◌, IfOk, IfErr};
 ghost use Rattle.cfg_view.specs.View.{view_seen, IsView};
-ghost use Rattle.eel.specs.Outcome.{Stream, outcome_seen};
-ghost use Rattle.eel.specs.Seen.{files_seen, stream_seen};
+ghost use Rattle.eel_said.specs.Outcome.{Stream, outcome_seen};
+ghost use Rattle.eel_said.specs.Seen.{files_seen, stream_seen};
 ghost use Rattle.eel.specs.Answers.Files.{IsNotSound, IsSound};
-ghost use Rattle.eel.specs.Answers.Shared.{Feed, outside};
-ghost use Rattle.eel.specs.Answers.Print.{Prints};
+ghost use Rattle.eel_said.specs.Shared.{Feed, outside};
+ghost use Rattle.eel.specs.Answers.Print.{PrintsFile};
 ghost use Rattle.eel.specs.Answers.Show.{lines_of, shown_of};
 
 use crate::edit::EDIT_LIMIT;
 use crate::inputs::view_in;
-use crate::outcome::Outcome;
 use crate::texts::{fetch_file, print};
 use cfg_view::View;
 use eel_base::{Files, NoMemory, Sink};
+use eel_said::Outcome;
 use show_text::show;
 use std::alloc::Global;
 
@@ -25,7 +25,7 @@ pub fn show_program<'a, F: Files, O: Sink>(
     out: &mut O,
 ) -> Outcome<'a>
     // Whatever the input and the error stream are, they stay so.
-    ensures prints { (feed : Feed) (err : Stream) → Prints shown_of file.now
+    ensures prints { (feed : Feed) (err : Stream) → PrintsFile shown_of file.now
         (outside (files_seen F.Files files.old) feed (stream_seen O.Sink out.old) err)
         (outside (files_seen F.Files files.new) feed (stream_seen O.Sink out.new) err)
         (outcome_seen result) }

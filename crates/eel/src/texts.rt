@@ -1,13 +1,13 @@
 //! Texts that come in and go out: their bytes, or what comes of it where they can't be had or put.
 ghost use Rattle.std.specs.Prelude.{◌≡◌, ◌≤◌, IfOk, IfErr};
-ghost use Rattle.eel.specs.Outcome.{outcome_seen};
-ghost use Rattle.eel.specs.Seen.{files_seen, input_seen, stream_seen};
-ghost use Rattle.eel.specs.Answers.Shared.{IsPrinted, IsPut, IsUnread, WasRead};
+ghost use Rattle.eel_said.specs.Outcome.{outcome_seen};
+ghost use Rattle.eel_said.specs.Seen.{files_seen, input_seen, stream_seen};
+ghost use Rattle.eel_said.specs.Shared.{IsPrinted, IsPut, IsUnread, WasRead};
 ghost use Rattle.eel.specs.Answers.Run.{IsUnfed, WasFed};
 ghost use Rattle.eel.specs.Refusals.{unread_of};
 
-use crate::outcome::Outcome;
 use eel_base::{Failed, FetchFault, Files, PutFault, Sink, Source, put_all, read_all};
+use eel_said::Outcome;
 use std::alloc::Global;
 
 /// How many bytes the input of a run may have.

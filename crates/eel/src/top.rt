@@ -1,17 +1,15 @@
 //! The one call that the program makes.
 ghost use Rattle.std.specs.Prelude.{◌≡◌, ◌≤◌};
-ghost use Rattle.eel.specs.Command.{command_of, texts};
-ghost use Rattle.eel.specs.Outcome.{outcome_seen};
-ghost use Rattle.eel.specs.Seen.{outside_seen};
+ghost use Rattle.eel_said.specs.Command.{command_of, texts};
+ghost use Rattle.eel_said.specs.Outcome.{outcome_seen};
+ghost use Rattle.eel_said.specs.Seen.{outside_seen};
 ghost use Rattle.eel.specs.Answers.{HasFailed, IsDone, IsRefusal, IsUnchanged, IsUnrefused, Ran, WasWanting, meaning_of};
 
-use crate::command::{Command, parse};
 use crate::demo::demonstrate;
 use crate::dumps::run_for_dump;
 use crate::edit::{edit_by_script, edit_plain};
 use crate::every::edit_every_word;
 use crate::list::list_words;
-use crate::outcome::Outcome;
 use crate::profile::edit_for_counts;
 use crate::report::report_run;
 use crate::restore::restore_original;
@@ -21,6 +19,7 @@ use crate::trace_edit::edit_for_trace;
 use crate::weights_edit::edit_by_weights;
 use crate::words::assemble_words;
 use eel_base::{Files, Sink, Source};
+use eel_said::{Command, Outcome, parse};
 use std::alloc::Global;
 
 /// Does what the words ask for, with the files and streams given, and answers the status to end with.

@@ -3,18 +3,17 @@ ghost use Rattle.std.specs.Prelude.{◌≡◌, ◌+◌, ◌<◌, ◌≤◌, ◌^
 ghost use Rattle.snippets.specs.Cells.{WorksBelow};
 ghost use Rattle.edit_core.specs.Taken.{EditRefuses};
 ghost use Rattle.edge_ring.specs.Ring.{ring_on};
-ghost use Rattle.eel.specs.Outcome.{outcome_seen};
-ghost use Rattle.eel.specs.Seen.{files_seen};
-ghost use Rattle.eel.specs.Answers.Edit.{IsEditOf, editing};
-ghost use Rattle.eel.specs.Answers.Make.{Makes};
-ghost use Rattle.eel.specs.Answers.Trace.{trace_plan};
+ghost use Rattle.eel_said.specs.Outcome.{outcome_seen};
+ghost use Rattle.eel_said.specs.Seen.{files_seen};
+ghost use Rattle.eel.specs.Answers.Edit.{Edits, IsEditOf};
+ghost use Rattle.eel.specs.Answers.Trace.{trace_plan, tracing};
 
 use crate::edit::{EDIT_LIMIT, refusal};
-use crate::outcome::Outcome;
 use crate::texts::{fetch_file, put_file};
 use crate::tool_edit::edit_with;
 use edit_core::EditFault;
 use eel_base::Files;
+use eel_said::Outcome;
 use snippets::{Op, Snippet};
 use std::alloc::Global;
 use tool_kit::{Chooser, EdgeRef, ToolKind};
@@ -29,7 +28,7 @@ pub fn edit_for_trace<'a, F: Files>(
 ) -> Outcome<'a>
     requires some { 1 ≤ bits }
     requires few { bits ≤ 16 }
-    ensures traces { Makes (editing (trace_plan bits)) input.now output.now
+    ensures traces { Edits (tracing bits) input.now output.now
         (files_seen F.Files files.old) (files_seen F.Files files.new) (outcome_seen result) }
     ensures later { F.faults files.old ≤ F.faults files.new }
 {

@@ -4,21 +4,21 @@ ghost use Rattle.std.specs.List.{All};
 ghost use Rattle.cfg_view.specs.View.{view_of, view_seen, IsView};
 ghost use Rattle.span_tree.specs.Cells.{cell_count};
 ghost use Rattle.weights_in.specs.Weights.{AreWeights};
-ghost use Rattle.eel.specs.Outcome.{outcome_seen};
-ghost use Rattle.eel.specs.Seen.{files_seen};
-ghost use Rattle.eel.specs.Answers.MakeBy.{MakesBy};
+ghost use Rattle.eel_said.specs.Outcome.{outcome_seen};
+ghost use Rattle.eel_said.specs.Seen.{files_seen};
+ghost use Rattle.eel.specs.Answers.Edit.{EditsBy};
 ghost use Rattle.eel.specs.Answers.Files.{IsSound};
 ghost use Rattle.eel.specs.Answers.Profile.{AreCells};
-ghost use Rattle.eel.specs.Answers.Weighed.{AreNotWeights, IsNotWeighed, IsWeighedEdit, weighing};
+ghost use Rattle.eel.specs.Answers.Weighed.{AreNotWeights, IsNotWeighed, IsWeighedEdit, weighing, weights_limit};
 ghost use Rattle.eel.specs.Refusals.{unweighed_of};
 
 use crate::edit::{EDIT_LIMIT, refusal};
 use crate::inputs::view_in;
-use crate::outcome::{LineCause, Outcome};
 use crate::profile::{tree_by, with_counters};
 use crate::texts::{fetch_file, put_file};
 use cfg_view::View;
 use eel_base::Files;
+use eel_said::{LineCause, Outcome};
 use span_tree::SpanTree;
 use std::alloc::Global;
 use weights_in::{WeightFault, read_weights};
@@ -34,7 +34,7 @@ pub fn edit_by_weights<'a, F: Files>(
     output: &str,
     weights: &'a str,
 ) -> Outcome<'a>
-    ensures weighs { MakesBy weighing input.now output.now weights.now
+    ensures weighs { EditsBy weighing weights_limit input.now output.now weights.now
         (files_seen F.Files files.old) (files_seen F.Files files.new) (outcome_seen result) }
     ensures later { F.faults files.old ≤ F.faults files.new }
 {

@@ -2,15 +2,15 @@
 ghost use Rattle.std.specs.Prelude.{◌≡◌, ◌≤◌, IfOk, IfErr};
 ghost use Rattle.elf32_write.specs.Bytes.{words_bytes};
 ghost use Rattle.v8_text.specs.Listings.{IsListing};
-ghost use Rattle.eel.specs.Outcome.{outcome_seen};
-ghost use Rattle.eel.specs.Seen.{files_seen};
-ghost use Rattle.eel.specs.Answers.Make.{Makes};
-ghost use Rattle.eel.specs.Answers.Words.{IsAssembled, IsNotListing, assembling};
+ghost use Rattle.eel_said.specs.Outcome.{outcome_seen};
+ghost use Rattle.eel_said.specs.Seen.{files_seen};
+ghost use Rattle.eel.specs.Answers.Steps.{Makes};
+ghost use Rattle.eel.specs.Answers.Words.{IsAssembled, IsNotListing, listing_limit};
 ghost use Rattle.eel.specs.Refusals.{unlisted_of};
 
-use crate::outcome::{LineCause, Outcome};
 use crate::texts::{fetch_file, put_file};
 use eel_base::{Files, NoMemory};
+use eel_said::{LineCause, Outcome};
 use elf32_write::put_words;
 use std::alloc::Global;
 use v8_text::{ListFault, read_listing};
@@ -25,7 +25,7 @@ pub fn assemble_words<'a, F: Files>(
     listing: &'a str,
     output: &str,
 ) -> Outcome<'a>
-    ensures assembles { Makes assembling listing.now output.now
+    ensures assembles { Makes listing_limit (IsNotListing listing.now) IsAssembled listing.now output.now
         (files_seen F.Files files.old) (files_seen F.Files files.new) (outcome_seen result) }
     ensures later { F.faults files.old ≤ F.faults files.new }
 {

@@ -10,6 +10,7 @@ use Rattle.elf32_sparc.specs.Header.{e_entry, program_headers, is_loadable, load
 use Rattle.elf32_sparc.specs.FileFault.{first_that_holds, header_rows, entry_rows, fault, leaves_room, is_misshapen, is_word_address, word_count, is_short, has_other_magic, has_other_class, has_other_order, has_other_version, has_other_type, has_other_machine, has_other_sizes, has_bad_table, has_dynamic, has_bytes_outside, has_memory_outside, has_disorder, has_misaligned, has_misshapen_text, has_large_text, has_other_entry, memory_size}
 use Rattle.elf32_sparc.specs.Mapping.{memory_bytes}
 use Rattle.elf32_sparc.specs.Image.{segment_of, segment_end, highest_end, words_of, text_from, word_number}
+pub use Rattle.elf32_sparc.proofs.ThreeWords.{no_fault}
 
 -- no row holds
 abbrev pub NoneHolds : List (FileFault × Bool) → Type 0

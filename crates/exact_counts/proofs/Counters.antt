@@ -14,7 +14,7 @@ use Rattle.snippets.specs.Cells.{WorksBelow, WorksIn, update, updated_by, wide_a
 use Rattle.snippets.specs.Ops.{cell_of, cells_end}
 use Rattle.tool_kit.specs.Plans.{AreCounters, counter_op}
 use Rattle.cfg_walk.specs.Walk.{gone_in, walk}
-use Rattle.image_code.specs.Simulates.{Setting, graph_in, snippet_on, store_of, updates}
+use Rattle.image_code.specs.Store.{Edit, snippet_on, store_of, updates}
 use Rattle.count_rebuild.specs.Counts.{counter_value}
 use Rattle.exact_counts.specs.Laws.{CellsCount, counter_limit}
 use Rattle.flows.proofs.Walks.{times-append}
@@ -242,10 +242,10 @@ length_updates snips (e ∷ es) cells s =
     length_updates snips es (update (register_of s) (snippet_on snips e) cells) s
     ∙ length_update (register_of s) (snippet_on snips e) cells
 
-length_store : (g : Setting) (entry : ℕ) (s0 : State) (n : ℕ) → length (store_of g entry s0 n) ≡ g.notes.cells
+length_store : (g : Edit) (entry : ℕ) (s0 : State) (n : ℕ) → length (store_of g entry s0 n) ≡ g.notes.cells
 length_store g entry s0 zero = length-replicate g.notes.cells 0
 length_store g entry s0 (suc n) =
-    length_updates g.snips (gone_in g.text (graph_in g) entry s0 n) (store_of g entry s0 n) (run s0 (suc n))
+    length_updates g.snips (gone_in g.text g.graph entry s0 n) (store_of g entry s0 n) (run s0 (suc n))
     ∙ length_store g entry s0 n
 
 -- ---- one counter
@@ -307,14 +307,14 @@ cells_count version g entry s0 zero e cell are below is =
     none_yet (is_narrow version) g.notes.cells cell (cells_below version g.notes.cells g.snips e cell below is)
 cells_count version g entry s0 (suc n) e cell are below is =
     let store = store_of g entry s0 n in
-    let gone = gone_in g.text (graph_in g) entry s0 n in
+    let gone = gone_in g.text g.graph entry s0 n in
     let len = length_store g entry s0 n in
     let inside = cells_below version g.notes.cells g.snips e cell below is in
-    let made = times (walk g.text (graph_in g) entry s0 n) e in
+    let made = times (walk g.text g.graph entry s0 n) e in
     let before = cells_count version g entry s0 n e cell are below is in
     let small : counter_value version store cell < counter_limit version =
     subst (λ (k : ℕ). k < counter_limit version) (sym before) (rest_small (is_narrow version) made) in
     let step = counted version g.snips are e cell is gone store (run s0 (suc n)) (omega (arith, len, inside)) small in
     joined (is_narrow version) (counter_value version (store_of g entry s0 (suc n)) cell)
     (counter_value version store cell) made (times gone e) before step
-    ∙ ap (λ k. k % counter_limit version) (sym (times-append (walk g.text (graph_in g) entry s0 n) gone e))
+    ∙ ap (λ k. k % counter_limit version) (sym (times-append (walk g.text g.graph entry s0 n) gone e))

@@ -7,7 +7,7 @@ use Rattle.v8_step.specs.Run.{run}
 use Rattle.two_runs.specs.TwoRuns.{GoesOn}
 use Rattle.two_runs.specs.Visits.{trail_of}
 use Rattle.jump_slice.proofs.Steps.{lived_to}
-use Rattle.image_code.specs.Simulates.{Setting}
+use Rattle.image_code.specs.Store.{Edit}
 use Rattle.edit_core.specs.RunsAlike.{IsAnswered}
 use Rattle.edit_core.proofs.Trails.{ending, few_visits, going, longer, none_over, over_or_not, own_live, quiet_more, stays, visit_more}
 use Rattle.exact_counts.specs.Stops.{EndedRunsTell, EndsWithStep, visits_by}
@@ -20,7 +20,7 @@ both_over s m k d c over ended = elim (cases_lt m k) [
   | inr above ↦ stays s k m c above ended
 ]
 
-module _ (g : Setting) (entry : ℕ) (s0 t0 : State) (m : ℕ) (d : Ending)
+module _ (g : Edit) (entry : ℕ) (s0 t0 : State) (m : ℕ) (d : Ending)
     (over : (run t0 m).ending ≡ Some d) where
   abbrev v : ℕ
   v = visits_by g.notes t0 m
@@ -53,7 +53,7 @@ module _ (g : Setting) (entry : ℕ) (s0 t0 : State) (m : ℕ) (d : Ending)
       ∙ ap (λ (t : State). t.ending) (sym (both_over t0 m a.moment d c over (ends.ending ∙ ended)))
 
 pub ended_runs_tell : EndedRunsTell
-ended_runs_tell g bound entry s0 t0 m begins alike h = by (over_or_not (run t0 m).ending)
+ended_runs_tell g entry s0 t0 m begins alike h = by (over_or_not (run t0 m).ending)
   where
     by : ((run t0 m).ending ≡ None) ⊎ ((d : Ending) × ((run t0 m).ending ≡ Some d))
         → EndsWithStep g entry s0 t0 m (visits_by g.notes t0 m)

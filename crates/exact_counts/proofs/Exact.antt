@@ -7,7 +7,6 @@ use Rattle.elf32_sparc.specs.FileFault.{fault}
 use Rattle.elf32_sparc.specs.Image.{image_of}
 use Rattle.notes.specs.Format.{Notes}
 use Rattle.elf32_sparc.proofs.Accepted.{accepted}
-use Rattle.v8_decode.specs.declared.Part.{Part}
 use Rattle.v8_step.specs.State.{State}
 use Rattle.v8_step.specs.Valid.{AreBytes, IsValid}
 use Rattle.v8_process.specs.Arguments.{AreArguments}
@@ -26,16 +25,17 @@ use Rattle.cfg_walk.proofs.Cut.{cut}
 use Rattle.cfg_walk.proofs.Lists.{Each}
 use Rattle.tool_kit.specs.declared.edge_ref.ToolKind.{ToolKind}
 use Rattle.tool_kit.specs.Plans.{Plan}
-use Rattle.cfg_view.specs.View.{view_of}
 use Rattle.cfg_view.proofs.Given.{entry_leads}
 use Rattle.span_tree.specs.Links.{links_of}
 use Rattle.walk_counts.specs.Counts.{executions, first_node}
 use Rattle.walk_counts.proofs.Files.{begins, entry_is, executions_of_files_are_flows}
-use Rattle.image_code.specs.Simulates.{Setting, graph_in}
+use Rattle.image_code.specs.Store.{Edit}
 use Rattle.edit_core.specs.RunsAlike.{IsStop, edit_of}
 use Rattle.edit_core.proofs.Eaches.{each_all}
 use Rattle.edit_core.proofs.Originals.{image_text}
 use Rattle.edit_core.proofs.Trails.{few_visits}
+use Rattle.edit_core.proofs.Views.{view_graph}
+use Rattle.edit_core.specs.Written.{given_of, graph_in, text_of}
 use Rattle.edit_core.specs.Faithful.{HasGraph, note_edges, tool_number}
 use Rattle.count_rebuild.specs.Noted.{noted_graph}
 use Rattle.exact_counts.specs.Profiles.{CountsOffTree, counted_by, original_graph}
@@ -44,25 +44,29 @@ use Rattle.exact_counts.specs.Laws.{CountsAreExact}
 use Rattle.exact_counts.proofs.Noted.{AreNotesOf, flow_alike, graphs_alike, tree_noted}
 use Rattle.exact_counts.proofs.Rebuilt.{StandsBehind, counts_tell, made_in, node_in, refused_so}
 
-module _ (original : List ℕ) (plan : Plan) (dead : ℕ → List Part) (notes : Notes) where
-  abbrev g : Setting
-  g = edit_of original plan dead notes
+module _ (original : List ℕ) (plan : Plan) (notes : Notes) where
+  -- the edit, by the graph as it is made
+  abbrev g : Edit
+  g = record {
+    text = text_of original plan;
+    graph = graph_in original plan;
+    snips = plan.snips;
+    notes = notes;
+  }
 
-  -- the original's graph is that of the edit
-  pub view_graph : original_graph original plan ≡ graph_in g
-  unfolding view_of entered_of
-  view_graph = refl
+  same_edit : edit_of original plan notes ≡ g
+  same_edit = ap (λ (graph : Graph). record { text = text_of original plan; graph = graph; snips = plan.snips; notes = notes })
+      (view_graph original plan)
 
   pub notes_of_graph : CountsOffTree notes.version (original_graph original plan) plan → HasGraph original plan notes
-      → AreNotesOf (graph_in g) plan.snips notes
+      → AreNotesOf (original_graph original plan) plan.snips notes
   notes_of_graph counts has = record {
-    blocks = subst (λ (graph : Graph). notes.blocks ≡ graph.blocks.firsts) view_graph has.blocks;
-    edges = subst (λ (graph : Graph). notes.edges ≡ note_edges graph plan.kind graph.edges plan.snips) view_graph
-        has.edges
-        ∙ ap (λ (kind : ToolKind). note_edges (graph_in g) kind (graph_in g).edges plan.snips) counts.kind;
-    size = subst (λ (graph : Graph). length plan.snips ≡ length graph.edges) view_graph counts.size;
-    places = subst (λ (graph : Graph). Each (λ range. is_node graph range.node ≡ true) notes.ranges) view_graph
-        (each_all (λ range. is_node (original_graph original plan) range.node ≡ true) notes.ranges has.places);
+    blocks = has.blocks;
+    edges = has.edges
+        ∙ ap (λ (kind : ToolKind).
+        note_edges (original_graph original plan) kind (original_graph original plan).edges plan.snips) counts.kind;
+    size = counts.size;
+    places = each_all (λ range. is_node (original_graph original plan) range.node ≡ true) notes.ranges has.places;
   }
 
   -- ---- the flow of the original's run, over the graph of the notes
@@ -84,28 +88,28 @@ module _ (original : List ℕ) (plan : Plan) (dead : ℕ → List Part) (notes :
     unfolding image_of
     entry_within = (begins original args input (entry_is original sound)).within
 
-    own_flow : IsFlow (links_of (graph_in g)) (first_node g.text (graph_in g) entry s0 n) (node_in g entry s0 n)
+    own_flow : IsFlow (links_of g.graph) (first_node g.text g.graph entry s0 n) (node_in g entry s0 n)
         (λ e. pos (made_in g entry s0 n e))
     unfolding image_of entered_of
     own_flow =
-        executions_of_files_are_flows original args input g.given n sound bytes valid
+        executions_of_files_are_flows original args input (given_of original plan) n sound bytes valid
         (entry_leads (image_of original) plan.marks entry_within)
 
-    entry_node : first_node g.text (graph_in g) entry s0 n ≡ holding_of (graph_in g).blocks entry
+    entry_node : first_node g.text g.graph entry s0 n ≡ holding_of g.graph.blocks entry
     unfolding blocks_of
     entry_node =
-        ap (λ (b : Bool). node_number (graph_in g)
-        (cond b (Block (record { 0 = holding_of (graph_in g).blocks entry })) X))
+        ap (λ (b : Bool). node_number g.graph
+        (cond b (Block (record { 0 = holding_of g.graph.blocks entry })) X))
         (lt-ltb entry (length g.text.words) entry_within)
 
-    noted_flow : AreNotesOf (graph_in g) plan.snips notes → HasGraph original plan notes
+    noted_flow : AreNotesOf g.graph plan.snips notes → HasGraph original plan notes
         → IsFlow (noted_graph notes) notes.entry (node_in g entry s0 n) (λ e. pos (made_in g entry s0 n e))
     noted_flow are has =
-        let from : notes.entry ≡ holding_of (graph_in g).blocks entry =
-        subst (λ (graph : Graph). notes.entry ≡ holding_of graph.blocks entry) view_graph has.entry in
-        flow_alike (links_of (graph_in g)) (noted_graph notes) (graphs_alike (graph_in g) plan.snips notes are)
+        let from : notes.entry ≡ holding_of g.graph.blocks entry =
+        subst (λ (graph : Graph). notes.entry ≡ holding_of graph.blocks entry) (view_graph original plan) has.entry in
+        flow_alike (links_of g.graph) (noted_graph notes) (graphs_alike g.graph plan.snips notes are)
         notes.entry (node_in g entry s0 n) (λ e. pos (made_in g entry s0 n e))
-        (subst (λ (a : ℕ). IsFlow (links_of (graph_in g)) a (node_in g entry s0 n)
+        (subst (λ (a : ℕ). IsFlow (links_of g.graph) a (node_in g entry s0 n)
         (λ e. pos (made_in g entry s0 n e))) (entry_node ∙ sym from) own_flow)
 
 pub begins_live : (file : List ℕ) (args : List (List ℕ)) (input : List ℕ) → (start_of file args input).ending ≡ None
@@ -115,29 +119,33 @@ begins_live file args input = refl
 pub counts_are_exact : CountsAreExact
 counts_are_exact original plan file notes args input m is given read untouched short =
     let counts = is.counters in
-    let g : Setting = edit_of original plan is.dead notes in
+    let g : Edit = g original plan notes in
     let entry : ℕ = (image_of original).entry in
     let s0 : State = start_of original args input in
     let t0 : State = start_of file args input in
     let v : ℕ = visits_by notes t0 m in
     let n : ℕ = v - 1 in
-    let stop : IsStop g entry s0 t0 m v = (is.runs args input given read).stops m untouched in
-    let are : AreNotesOf (graph_in g) plan.snips notes = notes_of_graph original plan is.dead notes counts is.graph in
+    let stop : IsStop g entry s0 t0 m v =
+    subst (λ (e : Edit). IsStop e entry s0 t0 m v) (same_edit original plan notes)
+    ((is.runs args input given read).stops m untouched) in
+    let are : AreNotesOf g.graph plan.snips notes =
+    subst (λ (graph : Graph). AreNotesOf graph plan.snips notes) (view_graph original plan)
+    (notes_of_graph original plan notes counts is.graph) in
     let few = few_visits notes t0 (suc m) in
     let behind : StandsBehind g entry s0 t0 m n = record {
       profile = record {
         tool = is.graph.tool ∙ ap tool_number counts.kind;
-        tree = tree_noted (graph_in g) plan.snips notes are refl
-            (cut g.text g.given (image_text original is.sound).some).firsts.some
+        tree = tree_noted g.graph plan.snips notes are refl
+            (cut g.text (given_of original plan) (image_text original is.sound).some).firsts.some
             (subst (λ (graph : Graph). IsSpanningTree (links_of graph) (is_node graph) (rest (counted_by plan.snips)))
-            (view_graph original plan is.dead notes) counts.tree);
+            (view_graph original plan) counts.tree);
       };
       counters = counts.counters;
       below = subst (λ (cells : ℕ). All (WorksBelow cells) plan.snips) (sym is.graph.cells) counts.below;
       are = are;
       short = short;
       few = omega (arith, few, short);
-      flow = noted_flow original plan is.dead notes args input is.sound is.bytes given read n are is.graph;
+      flow = noted_flow original plan notes args input is.sound is.bytes given read n are is.graph;
       tells = stop.tells;
       placed = stop.placed;
     } in
@@ -146,5 +154,5 @@ counts_are_exact original plan file notes args input m is given read untouched s
       counts = λ given h e l.
           counts_tell g entry s0 t0 m n behind given h e l
           ∙ ap (λ (graph : Graph). executions (image_of original).text graph entry s0 n e)
-          (sym (view_graph original plan is.dead notes));
+          (sym (view_graph original plan));
     }

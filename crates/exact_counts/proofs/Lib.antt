@@ -4,6 +4,7 @@ pub mod Ends
 pub mod Noted
 pub mod Rebuilt
 pub mod Exact
+pub mod Exits
 pub mod Trees
 pub mod Gone
 pub mod Totals

@@ -20,7 +20,7 @@ use Rattle.tool_kit.specs.declared.edge_ref.ToolKind.TheVariants as tools
 use Rattle.span_tree.specs.Links.{edge_at as own_edge, links_of}
 use Rattle.span_tree.proofs.Connected.{numbered}
 use Rattle.span_tree.proofs.Landings.{landed_copy}
-use Rattle.image_code.specs.Simulates.{snippet_on}
+use Rattle.image_code.specs.Store.{snippet_on}
 use Rattle.edit_core.specs.Faithful.{cell_noted, note_edge, note_edges}
 use Rattle.cfg_walk.proofs.Lists.{Each}
 use Rattle.cfg_walk.proofs.NoneOpen.{edges_lie_in}

@@ -13,12 +13,11 @@ use Rattle.flows.specs.Flows.{AgreeOn, IsFlow}
 use Rattle.snippets.specs.Cells.{WorksBelow}
 use Rattle.tool_kit.specs.Plans.{AreCounters}
 use Rattle.tool_kit.specs.declared.edge_ref.ToolKind.TheVariants as tools
-use Rattle.cfg_walk.specs.Walk.{end_of_walk}
 use Rattle.walk_counts.specs.Counts.{executions}
 use Rattle.dump_file.specs.Dump.{Dump}
-use Rattle.image_code.specs.Simulates.{Setting, graph_in, number_in, snippet_on}
+use Rattle.image_code.specs.Store.{Edit, snippet_on}
 use Rattle.edit_core.specs.Faithful.{cell_noted}
-use Rattle.edit_core.specs.RunsAlike.{TellsStep}
+use Rattle.edit_core.specs.RunsAlike.{TellsStep, node_behind}
 use Rattle.count_rebuild.specs.declared.fault.CountFault.{CountFault}
 use Rattle.count_rebuild.specs.declared.fault.CountFault.TheVariants as faults
 use Rattle.count_rebuild.specs.Answers.{AreCounts, IsRefused}
@@ -31,19 +30,19 @@ use Rattle.exact_counts.proofs.Counters.{IsCounterFrom, cells_count, counter, co
 use Rattle.exact_counts.proofs.Noted.{AreNotesOf, edge_count, edge_is}
 
 -- the node where the walk of the first n steps ends, and how often they complete each edge
-abbrev pub node_in : Setting → ℕ → State → ℕ → ℕ
-node_in g entry s0 n = number_in g (end_of_walk g.text (graph_in g) entry s0 n)
+abbrev pub node_in : Edit → ℕ → State → ℕ → ℕ
+node_in g entry s0 n = node_behind g entry s0 n
 
-abbrev pub made_in : Setting → ℕ → State → ℕ → ℕ → ℕ
-made_in g entry s0 n e = executions g.text (graph_in g) entry s0 n e
+abbrev pub made_in : Edit → ℕ → State → ℕ → ℕ → ℕ
+made_in g entry s0 n e = executions g.text g.graph entry s0 n e
 
 -- a profile's run that was stopped, and stands at the end of the walk of the original's first n steps, or between places
-pub record StandsBehind (g : Setting) (entry : ℕ) (s0 t0 : State) (m n : ℕ) : Type 0 where
+pub record StandsBehind (g : Edit) (entry : ℕ) (s0 t0 : State) (m n : ℕ) : Type 0 where
   -- of its file
   pub profile : IsProfile g.notes
   pub counters : AreCounters g.notes.version 0 g.snips
   pub below : All (WorksBelow g.notes.cells) g.snips
-  pub are : AreNotesOf (graph_in g) g.snips g.notes
+  pub are : AreNotesOf g.graph g.snips g.notes
   -- of the run
   pub short : m < counter_limit g.notes.version
   pub few : n < counter_limit g.notes.version
@@ -51,7 +50,7 @@ pub record StandsBehind (g : Setting) (entry : ℕ) (s0 t0 : State) (m n : ℕ) 
   pub tells : node_at g.notes (run t0 m).pc ≢ None → TellsStep g entry s0 t0 m n
   pub placed : (run t0 m).ending ≢ None → node_at g.notes (run t0 m).pc ≢ None
 
-module _ (g : Setting) (entry : ℕ) (s0 t0 : State) (m n : ℕ) (is : StandsBehind g entry s0 t0 m n) where
+module _ (g : Edit) (entry : ℕ) (s0 t0 : State) (m n : ℕ) (is : StandsBehind g entry s0 t0 m n) where
   abbrev dump : Dump
   dump = dump_at g.notes t0 m
 
@@ -61,7 +60,7 @@ module _ (g : Setting) (entry : ℕ) (s0 t0 : State) (m n : ℕ) (is : StandsBeh
   -- no edge's counter has begun at 0 again
   made_few : (e : ℕ) → made_in g entry s0 n e < counter_limit version
   made_few e =
-      let most = executions_are_few g.text (graph_in g) entry s0 n e in
+      let most = executions_are_few g.text g.graph entry s0 n e in
       let few = is.few in
       omega (arith, most, few)
 
@@ -77,12 +76,12 @@ module _ (g : Setting) (entry : ℕ) (s0 t0 : State) (m n : ℕ) (is : StandsBeh
       (λ e. pos (made_in g entry s0 n e))
   agrees told e l has = by (none_or_counter version 0 g.snips e is.counters)
     where
-      edges : length g.notes.edges ≡ length (graph_in g).edges
-      edges = edge_count (graph_in g) g.snips g.notes is.are
+      edges : length g.notes.edges ≡ length g.graph.edges
+      edges = edge_count g.graph g.snips g.notes is.are
 
       noted : (edge_at g.notes e).cell ≡ cell_noted tools.Profile (snippet_on g.snips e)
       noted = ap (λ (edge : NoteEdge). edge.cell)
-          (edge_is (graph_in g) g.snips g.notes is.are e (omega (arith, edges, l)))
+          (edge_is g.graph g.snips g.notes is.are e (omega (arith, edges, l)))
 
       by : (snippet_on g.snips e ≡ []) ⊎ IsCounterFrom version 0 (snippet_on g.snips e)
           → cell_counts g.notes dump e ≡ pos (made_in g entry s0 n e)

@@ -8,7 +8,9 @@ use Rattle.two_runs.specs.Needed.{IsUntouched}
 use Rattle.two_runs.specs.Visits.{pages_of}
 use Rattle.cfg_walk.specs.Walk.{gone_in}
 use Rattle.tool_kit.specs.Plans.{AreCounters}
-use Rattle.image_code.specs.Simulates.{Setting, graph_in, limit_on, operations_on, snippet_on}
+use Rattle.image_code.specs.Cost.{limit_on}
+use Rattle.image_code.specs.Store.{Edit, operations_on, snippet_on}
+use Rattle.edit_core.specs.Cost.{TakesFewSteps}
 use Rattle.edit_core.specs.RunsAlike.{AreRunsAlike}
 use Rattle.exact_counts.specs.Sizes.{HasEndedBy, ProfilesEndSoon}
 use Rattle.exact_counts.proofs.Counters.{none_or_counter}
@@ -16,14 +18,14 @@ use Rattle.edit_core.proofs.Trails.{over_or_not, ending}
 use Rattle.exact_counts.proofs.Gone.{step_few}
 
 -- fewer steps touch no page either
-fewer : (notes : Notes) (s0 : State) (k n : ℕ) → k ≤ n → IsUntouched (pages_of notes) s0 n
+pub fewer : (notes : Notes) (s0 : State) (k n : ℕ) → k ≤ n → IsUntouched (pages_of notes) s0 n
     → IsUntouched (pages_of notes) s0 k
 fewer notes s0 k n below h = record {
   outside = λ j l. h.outside j (omega (arith, l, below));
   unjudged = λ j l. h.unjudged j (omega (arith, l, below));
 }
 
-module _ (version : ℕ) (g : Setting) (are : AreCounters version 0 g.snips) where
+module _ (version : ℕ) (g : Edit) (are : AreCounters version 0 g.snips) where
   one_operation : (e : ℕ) → length (snippet_on g.snips e) ≤ 1
   one_operation e = elim (none_or_counter version 0 g.snips e are) [
     | inl none ↦ let size : length (snippet_on g.snips e) ≡ 0 = ap length none in omega (arith, size)
@@ -35,23 +37,24 @@ module _ (version : ℕ) (g : Setting) (are : AreCounters version 0 g.snips) whe
   few_operations (e ∷ es) =
       omega (arith, one_operation e, few_operations es)
 
-  module _ (bound entry : ℕ) (s0 t0 : State) (alike : AreRunsAlike g bound entry s0 t0) where
+  module _ (entry : ℕ) (s0 t0 : State) (alike : AreRunsAlike g entry s0 t0)
+      (few : TakesFewSteps g entry s0 t0) where
     abbrev gone : ℕ → List ℕ
-    gone n = gone_in g.text (graph_in g) entry s0 n
+    gone n = gone_in g.text g.graph entry s0 n
 
-    step_limit : (n : ℕ) → limit_on g (gone n) ≤ 128
+    step_limit : (n : ℕ) → limit_on g.snips (gone n) ≤ 128
     step_limit n =
-        omega (arith, (step_few g.text (graph_in g) entry s0 n).few, few_operations (gone n))
+        omega (arith, (step_few g.text g.graph entry s0 n).few, few_operations (gone n))
 
     moments : (n : ℕ) (untouched : IsUntouched (pages_of g.notes) s0 n)
         → (alike.answered n untouched).moment ≤ 64 + 128 * n
     moments zero untouched =
-        let soon = alike.soon untouched (alike.answered 0 untouched).moment (alike.answered 0 untouched).first in
+        let soon = few.soon untouched (alike.answered 0 untouched).moment (alike.answered 0 untouched).first in
         omega (arith, soon)
     moments (suc n) untouched =
         let earlier = fewer g.notes s0 n (suc n) (omega arith) untouched in
         let before = moments n earlier in
-        let step = alike.bounded n untouched (alike.answered n earlier).moment
+        let step = few.bounded n untouched (alike.answered n earlier).moment
         (alike.answered (suc n) untouched).moment (alike.answered n earlier).first
         (alike.answered (suc n) untouched).first in
         let limit = step_limit n in
@@ -70,7 +73,7 @@ module _ (version : ℕ) (g : Setting) (are : AreCounters version 0 g.snips) whe
         }
 
 pub profiles_end_soon : ProfilesEndSoon
-profiles_end_soon version g bound entry s0 t0 n are alike ended untouched = elim (over_or_not (run s0 n).ending) [
+profiles_end_soon version g entry s0 t0 n are alike few ended untouched = elim (over_or_not (run s0 n).ending) [
   | inl live ↦ absurd (ended live)
-  | inr over ↦ ends_by version g are bound entry s0 t0 alike n over.0 over.1 untouched
+  | inr over ↦ ends_by version g are entry s0 t0 alike few n over.0 over.1 untouched
 ]

@@ -14,7 +14,7 @@ use Rattle.snippets.specs.Cells.{WorksBelow}
 use Rattle.tool_kit.specs.Plans.{AreCounters, Plan, counter_op}
 use Rattle.walk_counts.specs.Counts.{executions}
 use Rattle.dump_file.specs.Dump.{Dump}
-use Rattle.image_code.specs.Simulates.{Setting, graph_in, snippet_on, store_of}
+use Rattle.image_code.specs.Store.{Edit, snippet_on, store_of}
 use Rattle.count_rebuild.specs.declared.fault.CountFault.{CountFault}
 use Rattle.count_rebuild.specs.declared.fault.CountFault.TheVariants as faults
 use Rattle.count_rebuild.specs.Answers.{AreCounts, IsRefused}
@@ -36,11 +36,11 @@ counter_limit version = if version == 1 then 2 ^ 32 else 2 ^ 64
 -- an edge's counter holds how often the run completed the edge, in 32 or in 64 bits
 abbrev pub CellsCount : Type 0
 CellsCount =
-    (version : ℕ) (g : Setting) (entry : ℕ) (s0 : State) (n e cell : ℕ)
+    (version : ℕ) (g : Edit) (entry : ℕ) (s0 : State) (n e cell : ℕ)
     → AreCounters version 0 g.snips → All (WorksBelow g.notes.cells) g.snips
     → snippet_on g.snips e ≡ counter_op version cell ∷ []
     → counter_value version (store_of g entry s0 n) cell
-    ≡ executions g.text (graph_in g) entry s0 n e % counter_limit version
+    ≡ executions g.text g.graph entry s0 n e % counter_limit version
 
 -- Rebuilding may be refused where the run stands between places, which it doesn't where it has ended; and for want of
 -- memory.

@@ -2,3 +2,4 @@ pub mod Profiles
 pub mod Stops
 pub mod Laws
 pub mod Sizes
+pub mod Exits

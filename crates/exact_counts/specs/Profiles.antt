@@ -3,7 +3,6 @@ use Rattle.std.specs.Prelude.{◌≡◌, ℕ, ◌*◌, ◌<◌, Bool, true, fals
 use Rattle.std.specs.List.{All}
 use Rattle.elf32_sparc.specs.FileFault.{fault}
 use Rattle.notes.specs.Format.{Notes, counter_width}
-use Rattle.v8_decode.specs.declared.Part.{Part}
 use Rattle.v8_step.specs.Valid.{AreBytes}
 use Rattle.flows.specs.Flows.{EdgeSet, rest}
 use Rattle.flows.specs.Trees.{IsSpanningTree}
@@ -16,7 +15,7 @@ use Rattle.tool_kit.specs.Plans.{AreCounters, Plan, counter_op}
 use Rattle.cfg_view.specs.View.{view_of}
 use Rattle.span_tree.specs.Cells.{AreNumbered, cell_at, cell_count, has_cell}
 use Rattle.span_tree.specs.Links.{links_of}
-use Rattle.image_code.specs.Simulates.{snippet_on}
+use Rattle.image_code.specs.Store.{snippet_on}
 use Rattle.edit_core.specs.RunsAlike.{HaveRunsAlike}
 use Rattle.edit_core.specs.Faithful.{HasGraph}
 
@@ -68,5 +67,4 @@ pub record IsProfiled (original : List ℕ) (plan : Plan) (file : List ℕ) (not
   pub bytes : AreBytes original
   pub counters : CountsOffTree notes.version (original_graph original plan) plan
   pub graph : HasGraph original plan notes
-  pub dead : ℕ → List Part
-  pub runs : HaveRunsAlike original plan dead file notes
+  pub runs : HaveRunsAlike original plan file notes

@@ -13,8 +13,9 @@ use Rattle.cfg_walk.specs.Walk.{walk}
 use Rattle.tool_kit.specs.declared.edge_ref.ToolKind.TheVariants as tools
 use Rattle.tool_kit.specs.Plans.{AreCounters, Plan}
 use Rattle.walk_counts.specs.Counts.{executions}
-use Rattle.image_code.specs.Simulates.{Setting}
+use Rattle.image_code.specs.Store.{Edit}
 use Rattle.edit_core.specs.Taken.{bound_in}
+use Rattle.edit_core.specs.Cost.{TakesFewSteps}
 use Rattle.edit_core.specs.RunsAlike.{AreRunsAlike}
 use Rattle.exact_counts.specs.Profiles.{original_graph}
 
@@ -36,9 +37,9 @@ pub record HasEndedBy (t0 : State) (limit : ℕ) : Type 0 where
 -- steps and 128 for each of them: no step completes more than two edges.
 abbrev pub ProfilesEndSoon : Type 0
 ProfilesEndSoon =
-    (version : ℕ) (g : Setting) (bound entry : ℕ) (s0 t0 : State) (n : ℕ) → AreCounters version 0 g.snips
-    → AreRunsAlike g bound entry s0 t0
-    → (run s0 n).ending ≢ None → IsUntouched (pages_of g.notes) s0 n → HasEndedBy t0 (64 + 128 * n)
+    (version : ℕ) (e : Edit) (entry : ℕ) (s0 t0 : State) (n : ℕ) → AreCounters version 0 e.snips
+    → AreRunsAlike e entry s0 t0 → TakesFewSteps e entry s0 t0
+    → (run s0 n).ending ≢ None → IsUntouched (pages_of e.notes) s0 n → HasEndedBy t0 (64 + 128 * n)
 
 -- How often each edge is completed is in all how long the walk is.
 abbrev pub ExecutionsAddUp : Type 0

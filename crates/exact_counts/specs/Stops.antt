@@ -5,10 +5,10 @@ use Rattle.v8_step.specs.State.{State}
 use Rattle.v8_step.specs.Run.{run}
 use Rattle.two_runs.specs.Needed.{IsUntouched}
 use Rattle.two_runs.specs.Visits.{pages_of}
-use Rattle.cfg_walk.specs.Walk.{end_of_walk}
 use Rattle.snippet_code.specs.Cells.{words_at}
 use Rattle.dump_file.specs.Dump.{Dump}
-use Rattle.image_code.specs.Simulates.{Setting, cells_in, graph_in, number_in, store_of}
+use Rattle.image_code.specs.Store.{Edit, cells_in, store_of}
+use Rattle.edit_core.specs.RunsAlike.{node_behind}
 pub use Rattle.edit_core.specs.RunsAlike.{AreRunsAlike, visits_by}
 
 -- the size of the original, which dumps of version 1 don't tell
@@ -37,16 +37,15 @@ pub record IsOver (notes : Notes) (s0 t0 : State) (m : ℕ) : Type 0 where
 
 -- The original ends likewise, with step v. The cells are what the snippets make of the edges that the steps before
 -- complete, and the run stands in a place of the node where these lead.
-pub record EndsWithStep (g : Setting) (entry : ℕ) (s0 t0 : State) (m v : ℕ) : Type 0 where
+pub record EndsWithStep (e : Edit) (entry : ℕ) (s0 t0 : State) (m v : ℕ) : Type 0 where
   pub some : 0 < v
   pub few : v ≤ m
   pub before : (n : ℕ) → n < v → (run s0 n).ending ≡ None
   pub ending : (run s0 v).ending ≡ (run t0 m).ending
-  pub cells : cells_in g (run t0 m) ≡ store_of g entry s0 (v - 1)
-  pub node : node_at g.notes (run t0 m).pc ≡ Some (number_in g (end_of_walk g.text (graph_in g) entry s0 (v - 1)))
+  pub cells : cells_in e.notes (run t0 m) ≡ store_of e entry s0 (v - 1)
+  pub node : node_at e.notes (run t0 m).pc ≡ Some (node_behind e entry s0 (v - 1))
 
 abbrev pub EndedRunsTell : Type 0
 EndedRunsTell =
-    (g : Setting) (bound entry : ℕ) (s0 t0 : State) (m : ℕ) → s0.ending ≡ None
-    → AreRunsAlike g bound entry s0 t0
-    → IsOver g.notes s0 t0 m → EndsWithStep g entry s0 t0 m (visits_by g.notes t0 m)
+    (e : Edit) (entry : ℕ) (s0 t0 : State) (m : ℕ) → s0.ending ≡ None → AreRunsAlike e entry s0 t0
+    → IsOver e.notes s0 t0 m → EndsWithStep e entry s0 t0 m (visits_by e.notes t0 m)

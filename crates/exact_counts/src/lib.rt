@@ -2,6 +2,7 @@
 //! the original's run completes each edge. There is no code here, but definitions and laws.
 #![tactic(auto)]
 
+ghost use Rattle.exact_counts.specs.Exits.{CountsOfExitsAreExact};
 ghost use Rattle.exact_counts.specs.Laws.{CellsCount, CountsAreExact, ExecutionsAreFew};
 ghost use Rattle.exact_counts.specs.Profiles.{TreesMakeProfiles};
 ghost use Rattle.exact_counts.specs.Sizes.{ExecutionsAddUp, ProfilesEndSoon, ProfilesNeedLittle};
@@ -33,6 +34,11 @@ pub fn ended_runs_tell()
 /// where they have version 2. No refusal comes but for want of memory, and between places.
 pub fn counts_are_exact()
     ensures { CountsAreExact }
+{}
+
+/// The counts of a run that ended by `exit`, of an original none of whose buffers was refused, are those of its whole run.
+pub fn counts_of_exits_are_exact()
+    ensures { CountsOfExitsAreExact }
 {}
 
 /// The edit of a profile asks for little room, by the words of the text alone.

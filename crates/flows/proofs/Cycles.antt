@@ -150,9 +150,6 @@ not_below (suc n) e l = let r = not_below n e in grind (arith, r)
 abbrev first : EdgeSet → ℕ → EdgeSet
 first f n = λ e. f e && below n e
 
-first_less : (f : EdgeSet) (n e : ℕ) → first f n e ≡ false → (e ≡ n → ⊥) → first f (suc n) e ≡ false
-first_less f n e h c = grind arith
-
 first_without : (f : EdgeSet) (n e : ℕ) → f n ≡ false → first f n e ≡ false → first f (suc n) e ≡ false
 first_without f n e h k = grind arith
 

@@ -13,10 +13,6 @@ JoinsAll g is_node t =
     (s : NodeSet) → NoneCrosses g t s →
     (u v : ℕ) → u < g.nodes → v < g.nodes → IsTrue (is_node u) → IsTrue (is_node v) → s u ≡ s v
 
--- every number below that of nodes is one
-abbrev pub all_nodes : NodeSet
-all_nodes = λ v. true
-
 -- t joins all nodes, and has one edge fewer than there are nodes
 pub record IsSpanningTree (g : Graph) (is_node : NodeSet) (t : EdgeSet) : Type 0 where
   pub joins : JoinsAll g is_node t

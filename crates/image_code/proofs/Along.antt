@@ -12,7 +12,6 @@ use Rattle.cfg_blocks.specs.declared.EdgeKind.{EdgeKind}
 use Rattle.cfg_blocks.specs.declared.EdgeKind.TheVariants as kinds
 use Rattle.cfg_blocks.specs.Entries.{is_fall}
 use Rattle.cfg_normal.specs.declared.Edge.{Edge}
-use Rattle.cfg_normal.specs.declared.Slot.TheVariants as slots
 use Rattle.cfg_normal.specs.Graph.{Graph}
 use Rattle.cfg_walk.specs.Walk.{same_kind}
 use Rattle.cfg_walk.specs.Matches.{way_address}
@@ -21,7 +20,7 @@ use Rattle.layout.specs.declared.items.Item.TheVariants as it
 use Rattle.jump_code.specs.Pieces.{found_piece}
 use Rattle.image_code.specs.declared.parts.Next.{Next}
 use Rattle.image_code.specs.Cases.{plain_piece}
-use Rattle.image_code.specs.Made.{goes_along, goes_on, jump_to, slot_copy, snippet_items, way_along, way_by, ways_from}
+use Rattle.image_code.specs.Made.{goes_along, goes_on, jump_to, slot_copy, snippet_items, way_along, ways_from}
 use Rattle.image_code.specs.Parts.{items_of}
 
 no_out : (kind : EdgeKind) → (kind ≡ kinds.Out → ⊥) → same_kind kind kinds.Out ≡ false
@@ -53,11 +52,6 @@ module _ (text : Words) (graph : Graph) (table : ℕ) (edge : Edge) (made : Resu
     along_is =
         ap (λ (items : List Item). items ++ items_of next) alone
         ∙ ap (λ (items : List Item). snippet_items codes (number ∷ []) ++ items) goes
-
-    pub bare_way : edge.slot ≡ slots.Nothing
-        → IfOk made (λ p. p ≡ map it.Word code ++ items_of next)
-        → IfOk made (λ p. p ≡ way_by text graph table codes number edge to edge.slot)
-    bare_way slot is = rw slot (rw along_is at is)
 
     pub plain_copy : (address : Addr) (node word : ℕ) → is_transfer (decode_of word) ≡ false
         → (edge.kind ≡ kinds.Out → ⊥)

@@ -35,11 +35,13 @@ use Rattle.jump_code.proofs.Laid.{words_after}
 use Rattle.layout.specs.Emitting.{words_of}
 use Rattle.layout.specs.declared.items.Item.{Item}
 use Rattle.layout.specs.declared.items.Item.TheVariants as it
-use Rattle.layout.specs.Laid.{HasShortForms, Placement, item_at, size_of, open_in, open_from, range_in, range_of, IsWordAt}
+use Rattle.layout.specs.Laid.{item_at, size_of, open_in, open_from, range_in, range_of, IsWordAt}
 use Rattle.layout.specs.Running.{CanRun, HasCode}
 use Rattle.layout.proofs.Going.{stays, jumps_hop}
-use Rattle.image_code.specs.Simulates.{Setting, IsOnWay, cells_in, in_first_word, is_spill, operations_on, snippet_on, spills_on, updates}
-use Rattle.image_code.specs.Images.{Pieces, Frame, HasImages, IsPlaced}
+use Rattle.image_code.specs.Simulates.{IsOnWay}
+use Rattle.image_code.specs.Cost.{in_first_word, is_spill, spills_on}
+use Rattle.image_code.specs.Store.{cells_in, operations_on, snippet_on, updates}
+use Rattle.image_code.specs.Images.{Forms, HasImages, Pieces, Placed, Site}
 use Rattle.image_code.specs.Cases.{IsFar, LeadsTo, LeadsOn, rest_from, words_on}
 use Rattle.image_code.proofs.Between.{can_run, item_below, item_size, on_none, stores_weaker}
 use Rattle.image_code.proofs.Cells.{cell_low, cells_above, cell_stored, first_above, may_below, may_beside, may_own, operations_then, updates_same, updates_then, word_kept}
@@ -125,14 +127,15 @@ no_updates snips (edge ∷ edges) cells s none =
     rw (nil_from_length (snippet_on snips edge) (omega (arith, none)))
     (no_updates snips edges cells s (omega (arith, none)))
 
-module _ (g : Setting) (l : Pieces) (base : ℕ) (p : Placement) (place : ℕ → ℕ → ℕ) (f : Frame)
-    (h : IsPlaced g l base p place f) where
+module _ (site : Site) (h : Placed site) where
+  open site use {g, l, base, p, place, f}
+
   -- in the code, and in no place
   abbrev pub IsBare : State → Type 0
   IsBare u = (base ≤ u.pc) × (u.pc < base + 4 * length p.code) × (range_in p.ranges u.pc ≡ None)
 
   pub bare_on : (t u : State) → u.ending ≡ None → IsBare u → IsOnWay g t u
-  bare_on t u live bare = on_none g l base p place f h t u live bare.0 bare.1 bare.2
+  bare_on t u live bare = on_none site h t u live bare.0 bare.1 bare.2
 
   -- A way through such words and the snippets of some edges: all stays as it was but what is dead behind these and
   -- words of the editor's, and in them the cells are updated, and the target that waits in word 1 of the page stays.
@@ -148,13 +151,13 @@ module _ (g : Setting) (l : Pieces) (base : ℕ) (p : Placement) (place : ℕ �
     pub stores : Stores (IsAmongWords f.own) a.memory memory
     pub waits : memory_word memory (page_word 1) ≡ memory_word a.memory (page_word 1)
     pub found : next ≢ None → memory_word memory (page_word 7) ≡ memory_word a.memory (page_word 7)
-    pub cells : LastDead g edges → words_at g.notes.base g.notes.cells memory ≡ updates g.snips edges (cells_in g a) a
+    pub cells : LastDead g edges → words_at g.notes.base g.notes.cells memory ≡ updates g.snips edges (cells_in g.notes a) a
     pub begins : 0 < count → IsBare a
     pub alike : IsAlike g edges a other
     pub still : NothingDead g edges → hopped other to memory ≡ hopped a to memory
-    pub spares : next ≢ None → count_stores (is_spill g.notes) a count ≤ spills_on g edges
-    pub leaves_first : next ≢ None → HasShortForms l.list place → count_stores in_first_word a count ≡ 0
-    pub brief : next ≢ None → HasShortForms l.list place → 4 * count ≤ most + 88 * operations_on g.snips edges
+    pub spares : next ≢ None → count_stores (is_spill g.notes) a count ≤ spills_on g.snips g.dead edges
+    pub leaves_first : next ≢ None → Forms site → count_stores in_first_word a count ≡ 0
+    pub brief : next ≢ None → Forms site → 4 * count ≤ most + 88 * operations_on g.snips edges
 
   -- what it takes to run on
   pub record IsFit (a : State) : Type 0 where
@@ -170,7 +173,7 @@ module _ (g : Setting) (l : Pieces) (base : ℕ) (p : Placement) (place : ℕ �
       record {
         valid = valid;
         has = has;
-        runs = can_run g l base p place f h (hopped b to m) valid live (omega arith) refl has;
+        runs = can_run site h (hopped b to m) valid live (omega arith) refl has;
       }
 
   -- where a way ends
@@ -189,7 +192,7 @@ module _ (g : Setting) (l : Pieces) (base : ℕ) (p : Placement) (place : ℕ �
   pub first_kept : (a : State) (m : Memory) → IsFit a → Stores IsFirstWord a.memory m
       → Stores (IsAmongWords f.own) a.memory m
       × ((memory_word m (page_word 1) ≡ memory_word a.memory (page_word 1))
-      × (words_at g.notes.base g.notes.cells m ≡ cells_in g a))
+      × (words_at g.notes.base g.notes.cells m ≡ cells_in g.notes a))
   first_kept a m fit stores = (
     stores_weaker IsFirstWord (IsAmongWords f.own) a.memory m (λ z e. rw e h.frame.own.first) stores,
     (
@@ -202,8 +205,8 @@ module _ (g : Setting) (l : Pieces) (base : ℕ) (p : Placement) (place : ℕ �
   -- A way of stores in word 0 of the page alone, and what is known of it where the original goes on in the text.
   record IsBrief (a : State) (most count : ℕ) : Type 0 where
     spares : count_stores (is_spill g.notes) a count ≤ 0
-    leaves_first : HasShortForms l.list place → count_stores in_first_word a count ≡ 0
-    brief : HasShortForms l.list place → 4 * count ≤ most
+    leaves_first : Forms site → count_stores in_first_word a count ≡ 0
+    brief : Forms site → 4 * count ≤ most
 
   -- along edges without operations
   hops_on : {next : Option ℕ} (edges : List ℕ) → operations_on g.snips edges ≡ 0 → (a : State) (to most count : ℕ)
@@ -222,7 +225,7 @@ module _ (g : Setting) (l : Pieces) (base : ℕ) (p : Placement) (place : ℕ �
         waits = kept.1.0;
         found = λ _. word_kept IsFirstWord (page_word 7) (λ z e. inr (omega (arith, e))) a.memory m stores
             (page_there a fit 7 (omega arith));
-        cells = λ _. kept.1.1 ∙ sym (no_updates g.snips edges (cells_in g a) a none);
+        cells = λ _. kept.1.1 ∙ sym (no_updates g.snips edges (cells_in g.notes a) a none);
         begins = begins;
         alike = alike_itself g edges a;
         still = λ _. refl;
@@ -290,7 +293,7 @@ module _ (g : Setting) (l : Pieces) (base : ℕ) (p : Placement) (place : ℕ �
         found = λ there. other.found there ∙ one.found there;
         cells = λ d.
             other.cells (last_others g first others d) ∙ read_alike (last_parted g first others d)
-            ∙ rw (one.cells (last_first g first others d)) (sym (updates_then g.snips first others (cells_in g a) a));
+            ∙ rw (one.cells (last_first g first others d)) (sym (updates_then g.snips first others (cells_in g.notes a) a));
         begins = λ some. elim (cases_lt 0 one.count) [
           | inl more ↦ one.begins more
           | inr none ↦
@@ -502,13 +505,18 @@ module _ (g : Setting) (l : Pieces) (base : ℕ) (p : Placement) (place : ℕ �
       (at ∙ h.laid.starts z.0 r.within) [] to 4 (λ b fit2 there r2. far_on next out z.0 _ to far r2 b fit2 there))
 
   -- a Jump to a piece that leads on
-  pub jump_then : (k n : ℕ) (z : PieceNo) → Rest l k n (it.Jump z ∷ []) → (edges : List ℕ) (a : State)
-      (next : Option ℕ) (to : ℕ) → IsFit a → a.pc ≡ place k n → LeadsTo l p z edges next to → Arrives next edges a to 8
-  jump_then k n z r edges a next to fit at leads =
-      let one = last_jump next k n z r a fit at in
+  pub jump_along : (k n : ℕ) (z : PieceNo) → item_at l.list k n ≡ Some (it.Jump z)
+      → open_in (slice_get l.list k) n ≡ None → (edges : List ℕ) (a : State) (next : Option ℕ) (to : ℕ) → IsFit a
+      → a.pc ≡ place k n → LeadsTo l p z edges next to → Arrives next edges a to 8
+  jump_along k n z item shut edges a next to fit at leads =
+      let one = jump_on next k n z item shut a fit at in
       on_then edges [] edges refl a (slice_index p.at z.0) to 4 4 one
       (arrive z edges (hopped one.other (slice_index p.at z.0) one.memory) next to
       (arrived [] a (slice_index p.at z.0) 4 fit (h.laid.aligned z.0).1 one) refl leads)
+
+  pub jump_then : (k n : ℕ) (z : PieceNo) → Rest l k n (it.Jump z ∷ []) → (edges : List ℕ) (a : State)
+      (next : Option ℕ) (to : ℕ) → IsFit a → a.pc ≡ place k n → LeadsTo l p z edges next to → Arrives next edges a to 8
+  jump_then k n z r = jump_along k n z (rw add-zero at (r.items 0)) (rw add-zero at (r.shut 0))
 
   -- ---- from item 3 of a piece on
 

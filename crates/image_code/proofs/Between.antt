@@ -1,5 +1,5 @@
 -- Small things, and what the notes say of states between two visits.
-use Rattle.std.proofs.Common.{◌≡◌, ℕ, zero, suc, ◌+◌, ◌-◌, ◌*◌, ◌<◌, ◌≤◌, Bool, true, Option, Some, None, List, [], ◌∷◌, length, refl, ap, sym, ◌∙◌, subst, arith}
+use Rattle.std.proofs.Common.{◌≡◌, ℕ, zero, suc, ◌+◌, ◌-◌, ◌*◌, ◌<◌, ◌≤◌, Bool, true, Option, Some, None, List, [], ◌∷◌, length, refl, ap, sym, ◌∙◌, arith}
 use Rattle.std.specs.Prelude.{if◌then◌else◌, slice_index}
 use Rattle.std.specs.Option.{option_map, option_or}
 use Rattle.std.proofs.lemmas.Bool.{eq-eqb, ne_eqb}
@@ -18,16 +18,14 @@ use Rattle.cfg_walk.specs.Walk.{Point, gone, point_of, unless_ended}
 use Rattle.cfg_normal.specs.declared.Node.{Node}
 use Rattle.code_runs.specs.StoredWords.{AllAt, Stores}
 use Rattle.code_runs.specs.Leads.{Leads}
-use Rattle.code_runs.specs.Ours.{IsAmongWords}
 use Rattle.code_runs.proofs.Stays.{stores_there}
-use Rattle.code_runs.specs.LongJump.{IsFirstWord}
 use Rattle.code_runs.specs.Page.{page_word}
-use Rattle.layout.specs.declared.items.Item.{Item}
-use Rattle.layout.specs.Laid.{Placement, open_from, range_in}
+use Rattle.layout.specs.Laid.{range_in}
 use Rattle.layout.specs.Running.{CanRun}
 pub use Rattle.layout.proofs.Going.{item_size, piece_size as item_below}
-use Rattle.image_code.specs.Simulates.{Setting, cells_in, IsOnWay, IsThere, gone_at, graph_in, number_in}
-use Rattle.image_code.specs.Images.{Pieces, Frame, HasImages, IsPlaced}
+use Rattle.image_code.specs.Simulates.{Setting, IsOnWay, IsThere, gone_at, graph_in, number_in}
+use Rattle.image_code.specs.Store.{cells_in}
+use Rattle.image_code.specs.Images.{HasImages, Placed, Site}
 use Rattle.image_code.specs.Cases.{visits_it}
 
 -- ---- small things
@@ -61,12 +59,9 @@ same_at (Register n) s t a b c = ap (λ z. slice_index z n) a
 same_at Codes s t a b c = b
 same_at YRegister s t a b c = c
 
-pub open_rest : (rest : List Item) → open_from rest 3 0 None ≡ None
-open_rest [] = refl
-open_rest (x ∷ xs) = refl
+module _ (site : Site) (h : Placed site) where
+  open site use {g, base, p, place, f}
 
-module _ (g : Setting) (l : Pieces) (base : ℕ) (p : Placement) (place : ℕ → ℕ → ℕ) (f : Frame)
-    (h : IsPlaced g l base p place f) where
   -- ---- what the notes say
 
   pub node_is : (a : ℕ) (o : Option NoteRange) → base ≤ a → a < base + 4 * length p.code → range_in p.ranges a ≡ o
@@ -88,7 +83,7 @@ module _ (g : Setting) (l : Pieces) (base : ℕ) (p : Placement) (place : ℕ �
   -- in the place of the visit, past its first address
   pub on_range : (t u : State) (r : NoteRange) → u.ending ≡ None → base ≤ t.pc → t.pc < u.pc
       → u.pc < base + 4 * length p.code
-      → range_in p.ranges t.pc ≡ Some r → range_in p.ranges u.pc ≡ Some r → r.lo ≡ t.pc → cells_in g u ≡ cells_in g t
+      → range_in p.ranges t.pc ≡ Some r → range_in p.ranges u.pc ≡ Some r → r.lo ≡ t.pc → cells_in g.notes u ≡ cells_in g.notes t
       → IsOnWay g t u
   on_range t u r live low past high here is lo cells =
       let there : range_at g.notes u.pc ≡ Some r = h.noted.ranges u.pc (omega (arith, low, past)) high ∙ is in
@@ -138,12 +133,6 @@ module _ (g : Setting) (l : Pieces) (base : ℕ) (p : Placement) (place : ℕ �
     page = stores_there (page_word 0) t.memory (has.ours.words (page_word 0) h.frame.own.first);
     code = has.code;
   }
-
-  -- word 0 of the page is one of the editor's
-  pub first_own : (m n : Memory) → Stores IsFirstWord m n → Stores (IsAmongWords f.own) m n
-  first_own m n stores =
-      stores_weaker IsFirstWord (IsAmongWords f.own) m n
-      (λ z e. subst (IsAmongWords f.own) (sym e) h.frame.own.first) stores
 
 -- a step that ends the run completes no edge
 pub ended_none : (g : Setting) (node : Node) (x : Point) (v : State) (d : Ending) → v.ending ≡ Some d

@@ -25,7 +25,7 @@ use Rattle.cfg_normal.specs.declared.Edge.{Edge}
 use Rattle.cfg_normal.specs.declared.Node.{Node}
 use Rattle.cfg_normal.specs.Nodes.{home_of}
 use Rattle.cfg_normal.specs.Opens.{Open, jumps_in}
-use Rattle.cfg_normal.specs.Graph.{IsNodeIn, directed, edge_of, graph_of, has_cases, is_compared, node_of, runs_slot}
+use Rattle.cfg_normal.specs.Graph.{directed, edge_of, graph_of, has_cases, is_compared, node_of, runs_slot}
 use Rattle.cfg_walk.specs.Walk.{Point, edge_from, node_after, point_of, same_kind}
 use Rattle.cfg_walk.specs.Matches.{last_in, target_along}
 use Rattle.cfg_walk.proofs.Addresses.{second_address}
@@ -37,25 +37,21 @@ use Rattle.cfg_walk.proofs.Points.{Stands, jumps_along, jumps_to, passes, quiet}
 use Rattle.cfg_walk.proofs.Slots.{LeadsIfThere}
 use Rattle.cfg_walk.proofs.Transfers.{taken_delayed, untaken_delayed}
 use Rattle.cfg_walk.proofs.Ways.{IsOne, always_holds, never_holds, not_always, not_never, taken_is_one, untaken_is_one}
-use Rattle.addr_translate.specs.Lookup.{IsTable}
 use Rattle.jump_code.specs.Pieces.{far_piece}
 use Rattle.layout.specs.declared.items.Item.{Item}
-use Rattle.layout.specs.Laid.{Placement}
-use Rattle.image_code.specs.Simulates.{Setting, at_point, does_at, gone_at, graph_in, number_in}
-use Rattle.image_code.specs.Images.{Frame, entered_at}
+use Rattle.image_code.specs.Simulates.{at_point, does_at, gone_at, graph_in, number_in}
+use Rattle.image_code.specs.Images.{entered_at}
 use Rattle.image_code.specs.Cases.{LeadsTo, branch_piece, next_entry, plain_piece, word_ahead, words_on}
 use Rattle.image_code.specs.Imaged.{IsCase, turn, idle}
 use Rattle.image_code.specs.Turns.{IsNoJumpsSlot}
 use Rattle.image_code.specs.Numbered.{enter_number, image_number}
 use Rattle.image_code.specs.Made.{first_word, goes_on, jump_to, nop_word, way_out}
-use Rattle.image_code.proofs.CaseTables.{IsKnown}
 use Rattle.image_code.proofs.EdgePieces.{along_far, cut_in}
 use Rattle.image_code.proofs.ImageNumbers.{HasImage}
 use Rattle.image_code.proofs.Branches.{nop_says, small}
-use Rattle.std.proofs.lemmas.Option.{slice_get_within}
 use Rattle.image_code.proofs.IntoSlots.{LeadsThere, entered, entered_untaken, no_jump, stands}
 use Rattle.image_code.proofs.Listed.{own_at, way_at}
-use Rattle.image_code.proofs.Visited.{entered_none, entered_word, has_its_image, image_items, l, left_gone, visited_word, word_is}
+use Rattle.image_code.proofs.Visited.{AtWord, Edit, at_image, site, entered_none, entered_word, has_its_image, image_items, l, left_gone, word_is}
 
 -- a branch comes to a taken transfer's slot only at the next instruction
 slot_next : (flag all annul : Bool) (s : State) (to : ℕ) → s.slot ≡ NoSlot
@@ -80,12 +76,11 @@ pub last_home : (b : Blocks) (opens : List Open) (node : Node) (k : ℕ) → hom
     → last_in (graph_of b opens) node ≡ last_word b.firsts b.words k
 last_home b opens node k h = elim (node_at node k h) [ inl here ↦ rw here | inr there ↦ rw there ]
 
-module _ (g : Setting) (codes : ℕ → List ℕ) (is : IsKnown g) (p : Placement) (f : Frame) (whole : IsTable f.table)
-    (node : Node) (x : Point) (word : ℕ) (at : word_at g.text x.pc ≡ Some word) (none : x.slot ≡ NoSlot)
-    (held : home_of node ≡ node_of (blocks_of g.text g.given) (word_at g.text x.pc))
-    (there : IsNodeIn (blocks_of g.text g.given) g.switches node) (npc : x.npc ≡ (x.pc + 4) % 2 ^ 32)
-    (cond : ℕ) (annul : Bool) (disp : ℤ)
-    (says : decode_of (slice_index g.text.words word) ≡ i.Branch cond annul disp) where
+module _ (edit : Edit) (node : Node) (x : Point) (visit : AtWord edit node x) (cond : ℕ) (annul : Bool) (disp : ℤ)
+    (says : decode_of (slice_index edit.g.text.words visit.word) ≡ i.Branch cond annul disp) where
+  open edit use {g, codes, is, base, p, place, f}
+  open visit use {word, at, none, held, there, npc}
+
   abbrev b : Blocks
   b = blocks_of g.text g.given
 
@@ -96,7 +91,7 @@ module _ (g : Setting) (codes : ℕ → List ℕ) (is : IsKnown g) (p : Placemen
   cut = cut_in g is f.table.base f.cases.base
 
   here : Stands g.text b g.switches node x word branch
-  here = stands g codes is p f whole node x word at none held there npc branch says
+  here = stands edit node x visit branch says
 
   end : end_at g.text word ≡ ends.Branch cond annul (branch_target g.text word cond disp)
   end = end_is g.text word branch says
@@ -118,7 +113,7 @@ module _ (g : Setting) (codes : ℕ → List ℕ) (is : IsKnown g) (p : Placemen
   caseless = quiet here transfer (ap is_jump end)
 
   has : HasImage g.text b g.switches node word
-  has = has_its_image g codes is p f node x word at held there
+  has = has_its_image edit node x word at held there
 
   -- the piece of its image
   abbrev number : ℕ
@@ -145,12 +140,12 @@ module _ (g : Setting) (codes : ℕ → List ℕ) (is : IsKnown g) (p : Placemen
     found = way_found g.text b g.switches cut word low is.cased.jumps node there home w last caseless one
 
     abbrev its_code : List Item
-    its_code = words_on (l g codes is p f) (found.number ∷ [])
+    its_code = words_on (l edit) (found.number ∷ [])
 
     abbrev way_items : Node → List Item
     way_items to = its_code ++ goes_on g.text (graph_in g) to (first_word (graph_in g) to) goal_address
 
-    bare_items : slice_get (l g codes is p f).list (way_out g.text (graph_in g) node w.kind) ≡ Some (way_items edge.to)
+    bare_items : slice_get (l edit).list (way_out g.text (graph_in g) node w.kind) ≡ Some (way_items edge.to)
     bare_items =
         let ended : end_of b k ≡ end_at g.text word =
         cut.ends k (is_in g.text b g.switches cut word low).within ∙ ap (end_at g.text) (sym last) in
@@ -159,7 +154,7 @@ module _ (g : Setting) (codes : ℕ → List ℕ) (is : IsKnown g) (p : Placemen
         (own_at b g.switches found.number edge found.is land) ∙ rw (fall, no_case, ended, bare, last_there, says))
 
     bare_in : LeadsIfThere b w.to → (to : ℕ) → w.to ≡ Some to
-        → slice_get (l g codes is p f).list (way_out g.text (graph_in g) node w.kind)
+        → slice_get (l edit).list (way_out g.text (graph_in g) node w.kind)
         ≡ Some (its_code ++ jump_to (enter_number g.text (graph_in g) edge.to to))
     bare_in leads to e =
         let target = leads to e in
@@ -170,8 +165,7 @@ module _ (g : Setting) (codes : ℕ → List ℕ) (is : IsKnown g) (p : Placemen
               (first_held b.words b.firsts cut.firsts to target.1),
         )
 
-    bare_out : w.to ≡ None
-        → slice_get (l g codes is p f).list (way_out g.text (graph_in g) node w.kind)
+    bare_out : w.to ≡ None → slice_get (l edit).list (way_out g.text (graph_in g) node w.kind)
         ≡ Some (its_code ++ far_piece goal_address)
     bare_out e =
         bare_items ∙ ap (λ (o : Option ℕ). Some (way_items (directed g.switches node w.kind (node_of b o)))) e
@@ -179,7 +173,7 @@ module _ (g : Setting) (codes : ℕ → List ℕ) (is : IsKnown g) (p : Placemen
     -- past a slot that is annulled
     past : (if cond == always then kinds.Taken else kinds.Untaken) ≡ w.kind → (v : State) → v.ending ≡ None
         → v.slot ≡ NoSlot → word_at g.text v.pc ≡ w.to → LeadsIfThere b w.to → v.pc ≡ goal_address
-        → LeadsThere g codes is p f whole node x word at none held there npc branch says w.kind v
+        → LeadsThere edit node x visit branch says w.kind v
     past kind_is v live slot to leads pc = by (word_at g.text v.pc) refl
       where
         after : Node
@@ -195,16 +189,16 @@ module _ (g : Setting) (codes : ℕ → List ℕ) (is : IsKnown g) (p : Placemen
         after_is = rw goes_along (leads_along (graph_in g) node (edge_from (graph_in g) node w.kind) edge found)
 
         by : (o : Option ℕ) → word_at g.text v.pc ≡ o
-            → LeadsTo (l g codes is p f) p (record { 0 = way_out g.text (graph_in g) node w.kind })
-            (gone_at g node x v) (word_at g.text v.pc) (entered_at g (l g codes is p f) p f after (point_of v))
+            → LeadsTo (l edit) p (record { 0 = way_out g.text (graph_in g) node w.kind })
+            (gone_at g node x v) (word_at g.text v.pc) (entered_at (site edit) after (point_of v))
         by None e =
-            rw (entered_none g codes is p f after (point_of v) e slot ∙ pc)
+            rw (entered_none edit after (point_of v) e slot ∙ pc)
             (inr (inr (e, along_far g.text word w.kind branch is.text inside, bare_out (sym to ∙ e) ∙ rw completes)))
         by (Some other) e =
             inr (inl (
               record { 0 = enter_number g.text (graph_in g) edge.to other },
               bare_in leads other (sym to ∙ e) ∙ rw completes,
-              rw (entered_word g codes is p f after (point_of v) other e slot, after_is),
+              rw (entered_word edit after (point_of v) other e slot, after_is),
             ))
 
   -- ---- each way that the branch goes
@@ -214,18 +208,18 @@ module _ (g : Setting) (codes : ℕ → List ℕ) (is : IsKnown g) (p : Placemen
     to = target_from (at_point x t) disp
 
     abbrev Goes : EdgeKind → State → Type 0
-    Goes kind v = LeadsThere g codes is p f whole node x word at none held there npc branch says kind v
+    Goes kind v = LeadsThere edit node x visit branch says kind v
 
     into_taken : holds_of cond t.codes ≡ true → (not annul || not (cond == always)) ≡ true → (v : State)
         → v.ending ≡ None → v.pc ≡ x.npc → v.npc ≡ to → v.slot ≡ Taken → Goes kinds.Taken v
     into_taken holds runs v live pc next slot =
-        entered g codes is p f whole node x word at none held there npc branch says v live pc slot (λ out. absurd (cc))
+        entered edit node x visit branch says v live pc slot (λ out. absurd (cc))
         (taken_delayed cond annul disp t.codes here (point_of v) holds runs pc next)
 
     into_untaken : holds_of cond t.codes ≡ false → annul ≡ false → (v : State)
         → v.ending ≡ None → v.pc ≡ x.npc → v.npc ≡ wrapped (x.npc + 4) → v.slot ≡ Untaken → Goes kinds.Untaken v
     into_untaken holds kept v live pc next slot =
-        entered_untaken g codes is p f whole node x word at none held there npc branch says v live pc slot
+        entered_untaken edit node x visit branch says v live pc slot
         (λ out. absurd (cc))
         (untaken_delayed cond annul disp t.codes here (point_of v) holds kept pc next)
 
@@ -278,7 +272,7 @@ module _ (g : Setting) (codes : ℕ → List ℕ) (is : IsKnown g) (p : Placemen
 
     no_jumps_slot : IsNoJumpsSlot g (does_at g x t)
     no_jumps_slot =
-        no_jump g codes is p f whole node x word at none held there npc branch says (does_at g x t) (λ slot. rw acts
+        no_jump edit node x visit branch says (does_at g x t) (λ slot. rw acts
         (slot_next (holds_of cond t.codes) (cond == always) annul (at_point x t) to none (rw acts at slot))) refl
 
     -- ---- its image
@@ -299,70 +293,54 @@ module _ (g : Setting) (codes : ℕ → List ℕ) (is : IsKnown g) (p : Placemen
         branch_piece address (number_in g node) cond taken untaken
 
     made : (always_is never_is : Bool) → (cond == always) ≡ always_is → (cond == never) ≡ never_is
-        → slice_get (l g codes is p f).list number ≡ Some (image_if always_is never_is)
-    made always_is never_is a n = image_items g codes is p f node x word at has branch says ∙ rw (a, n)
+        → slice_get (l edit).list number ≡ Some (image_if always_is never_is)
+    made always_is never_is a n = image_items edit node x word at has branch says ∙ rw (a, n)
 
-    module _ (base : ℕ) (place : ℕ → ℕ → ℕ) where
-      one_way : (kind : EdgeKind)
-          → slice_get (l g codes is p f).list number ≡ Some (plain_piece address (number_in g node) nop_word
-          (jump_to (way_out g.text (graph_in g) node kind)))
-          → Goes kind (does_at g x t) → IsCase g (l g codes is p f) base p place f node x t
-      one_way kind found leads_there = idle (record {
-        none = none;
-        piece = number;
-        within = slice_get_within (l g codes is p f).list number _ found;
-        here = visited_word g codes is p f node x word at none;
-        address = address;
-        original = sym (word_at-some g.text x.pc word at).is;
-        cond = cond;
-        annul = annul;
-        disp = disp;
-        original_word = slice_index g.text.words word;
-        is_word = word_is g x word at;
-        says = says;
-        word = nop_word;
-        idle = nop_says;
-        way = record { 0 = way_out g.text (graph_in g) node kind };
-        items = found;
-        leads = leads_there;
-        never = no_jumps_slot;
-      })
+    one_way : (kind : EdgeKind) → slice_get (l edit).list number ≡ Some (plain_piece address (number_in g node) nop_word
+        (jump_to (way_out g.text (graph_in g) node kind)))
+        → Goes kind (does_at g x t) → IsCase (site edit) node x t
+    one_way kind found leads_there = idle (record {
+      none = none;
+      cond = cond;
+      annul = annul;
+      disp = disp;
+      says = says;
+      idle_word = nop_word;
+      idle = nop_says;
+      way = record { 0 = way_out g.text (graph_in g) node kind };
+      marked = at_image edit node x visit _ found;
+      leads = leads_there;
+      never = no_jumps_slot;
+    })
 
-      either : (flag : Bool) → Goes (if flag then kinds.Taken else kinds.Untaken) (does_at g x t)
-          → LeadsTo (l g codes is p f) p (record { 0 = if flag then taken else untaken })
-          (gone_at g node x (does_at g x t)) (word_ahead g x t) (next_entry g (l g codes is p f) p f node x t)
-      either true leads = leads
-      either false leads = leads
+    either : (flag : Bool) → Goes (if flag then kinds.Taken else kinds.Untaken) (does_at g x t)
+        → LeadsTo (l edit) p (if flag then record { 0 = taken } else record { 0 = untaken })
+        (gone_at g node x (does_at g x t)) (word_ahead g x t) (next_entry (site edit) node x t)
+    either true leads = leads
+    either false leads = leads
 
-      two_ways : t.ending ≡ None
-          → slice_get (l g codes is p f).list number ≡ Some (branch_piece address (number_in g node) cond taken untaken)
-          → IsCase g (l g codes is p f) base p place f node x t
-      two_ways live found = turn (record {
-        none = none;
-        number = word;
-        is_number = at;
-        cond = cond;
-        small = small (slice_index g.text.words word) cond annul disp says;
-        annul = annul;
-        disp = disp;
-        word = slice_index g.text.words word;
-        is_word = word_is g x word at;
-        says = says;
-        address = address;
-        original = sym (word_at-some g.text x.pc word at).is;
-        within = slice_get_within (l g codes is p f).list number _ found;
-        taken = taken;
-        untaken = untaken;
-        items = found;
-        leads = either (holds_of cond t.codes) (leads live (holds_of cond t.codes) refl);
-        never = no_jumps_slot;
-      })
+    two_ways : t.ending ≡ None
+        → slice_get (l edit).list number ≡ Some (branch_piece address (number_in g node) cond taken untaken)
+        → IsCase (site edit) node x t
+    two_ways live found = turn (record {
+      none = none;
+      cond = cond;
+      small = small (slice_index g.text.words word) cond annul disp says;
+      annul = annul;
+      disp = disp;
+      says = says;
+      taken = record { 0 = taken };
+      untaken = record { 0 = untaken };
+      marked = at_image edit node x visit _ found;
+      leads = either (holds_of cond t.codes) (leads live (holds_of cond t.codes) refl);
+      never = no_jumps_slot;
+    })
 
-      pub branch_case : t.ending ≡ None → IsCase g (l g codes is p f) base p place f node x t
-      branch_case live = elim (cases_Bool (cond == always)) [
-        | inl a ↦ one_way kinds.Taken (made true _ a refl) (leads live true (always_holds cond t.codes a))
-        | inr a ↦ elim (cases_Bool (cond == never)) [
-          | inl n ↦ one_way kinds.Untaken (made false true a n) (leads live false (never_holds cond t.codes n))
-          | inr n ↦ two_ways live (made false false a n)
-        ]
+    pub branch_case : t.ending ≡ None → IsCase (site edit) node x t
+    branch_case live = elim (cases_Bool (cond == always)) [
+      | inl a ↦ one_way kinds.Taken (made true _ a refl) (leads live true (always_holds cond t.codes a))
+      | inr a ↦ elim (cases_Bool (cond == never)) [
+        | inl n ↦ one_way kinds.Untaken (made false true a n) (leads live false (never_holds cond t.codes n))
+        | inr n ↦ two_ways live (made false false a n)
       ]
+    ]

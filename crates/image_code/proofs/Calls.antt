@@ -1,37 +1,36 @@
 -- The link of a CALL, and then the way.
-use Rattle.std.proofs.Common.{◌≡◌, ℕ, ◌^◌, ◌<◌, Option, List, length, refl, ap, sym, ◌∙◌, subst, arith}
+use Rattle.std.proofs.Common.{◌≡◌, ℕ, ◌^◌, ◌<◌, List, length, refl, ap, sym, ◌∙◌, subst, arith}
 use Rattle.std.specs.Prelude.{ℤ}
 use Rattle.eel_base.specs.CodeText.{word_at}
 use Rattle.v8_decode.specs.declared.Instr.{Instr}
 use Rattle.v8_decode.specs.declared.Instr.TheVariants as i
-use Rattle.v8_decode.specs.Words.{decode_of}
 use Rattle.v8_memory.specs.Regions.{code_of}
 use Rattle.v8_step.specs.declared.Slot.{Slot}
 use Rattle.v8_step.specs.declared.Slot.TheVariants.{NoSlot}
 use Rattle.v8_step.specs.State.{State, with_register}
 use Rattle.v8_step.specs.Transfers.{call_step, delayed, target_of, unless_couple}
-use Rattle.v8_step.specs.Step.{act, on_word, puts_on_word}
+use Rattle.v8_step.specs.Step.{act, on_word}
 use Rattle.v8_step.specs.Items.{is_transfer}
 use Rattle.cfg_normal.specs.declared.Node.{Node}
 use Rattle.cfg_walk.specs.Walk.{Point, point_of, node_after}
 use Rattle.code_runs.specs.Leads.{Leads}
 use Rattle.code_runs.specs.Straight.{StandIn}
 use Rattle.code_runs.specs.TwoRegisters.{IsBetween}
+use Rattle.code_runs.proofs.Leads.{leads_weaker}
 use Rattle.code_runs.proofs.TwoRegisters.{stores_none}
-use Rattle.layout.specs.Laid.{HasShortForms, Placement}
+use Rattle.layout.specs.Emitting.{words_of}
 use Rattle.jump_code.specs.Links.{IsAboutToCall, link, past}
 use Rattle.jump_code.specs.PageWords.{IsPageWord}
 use Rattle.jump_code.proofs.Laid.{pieces_are_laid}
 use Rattle.jump_code.proofs.Linking.{calls_act, calls_store}
-use Rattle.image_code.specs.Simulates.{Setting, at_point, does_at, gone_at, graph_in, number_in, Enters}
-use Rattle.image_code.specs.Images.{Pieces, Frame, Here, IsPlaced, entered_at, Entered}
+use Rattle.image_code.specs.Simulates.{at_point, does_at, gone_at, graph_in, number_in}
+use Rattle.image_code.specs.Images.{EntersNext, HereAt, Placed, Site, StepsFrom, entered_at}
 use Rattle.image_code.specs.Cases.{LeadsTo}
 use Rattle.image_code.specs.Turns.{IsNoJumpsSlot}
-use Rattle.image_code.specs.Calls.{IsCall, CallsStep}
-use Rattle.image_code.proofs.Couple.{quiet_transfer}
+use Rattle.image_code.specs.Calls.{IsCall}
 use Rattle.image_code.proofs.Dead.{LastDead, gone_last}
-use Rattle.image_code.proofs.Sparing.{transfers}
-use Rattle.image_code.proofs.Through.{AtWords, at_words, goes_through}
+use Rattle.image_code.proofs.Through.{ahead, goes_through}
+use Rattle.image_code.proofs.Marked.{AtWords}
 
 -- the original after its CALL
 abbrev called : Point → ℤ → State → State
@@ -41,25 +40,26 @@ call_acts : (x : Point) (disp : ℤ) (t : State) → x.slot ≡ NoSlot → act (
 unfolding act call_step
 call_acts x disp t none = ap (λ (z : Slot). unless_couple z (at_point x t) (called x disp t)) none
 
-module _ (g : Setting) (l : Pieces) (base : ℕ) (p : Placement) (place : ℕ → ℕ → ℕ) (f : Frame)
-    (h : IsPlaced g l base p place f)
-    (node : Node) (x : Point) (t : State) (here : Here g l base p f node x t) (c : IsCall g l p f node x t) where
+module _ (site : Site) (h : Placed site) (node : Node) (x : Point) (t : State) (here : HereAt site node x t)
+    (c : IsCall site node x t) where
+  open site use {g, l, base, p, place, f}
+
   does_is : does_at g x t ≡ called x c.disp t
   does_is = ap (on_word (at_point x t)) c.is_word ∙ ap (act (at_point x t)) c.says ∙ call_acts x c.disp t c.none
 
   abbrev image : List Instr
   image = link 15 c.address.0
 
-  ahead : AtWords g t (place c.piece 1) (length image)
-  ahead = at_words g l base p place f h node x t here c.piece c.within c.here image c.address c.way c.items
+  there : AtWords site node x t c.piece (length image) (words_of image)
+  there = ahead site h node x t here _ c.marked image c.way refl
 
   about : IsAboutToCall c.address.0 t
   about =
       record {
         valid = here.valid;
-        ready = record { live = here.live; npc = ahead.next (omega (arith, ahead.low)) };
-        low = omega (arith, ahead.low);
-        words = subst (λ z. StandIn (code_of t.memory) z image) (sym ahead.at)
+        ready = record { live = here.live; npc = there.next (omega (arith, there.low)) };
+        low = omega (arith, there.low);
+        words = subst (λ z. StandIn (code_of t.memory) z image) (sym there.at)
             ((pieces_are_laid l.list base p place h.laid t.memory here.memory.code c.piece _ c.items).call
             c.address (number_in g node) c.way short refl).words;
         short = short;
@@ -70,31 +70,36 @@ module _ (g : Setting) (l : Pieces) (base : ℕ) (p : Placement) (place : ℕ �
 
   steps : (edges : List ℕ) → LastDead g edges
       → LeadsTo l p c.way edges (word_at g.text (called x c.disp t).pc)
-      (entered_at g l p f (node_after (graph_in g) node edges) (point_of (called x c.disp t)))
-      → IsNoJumpsSlot g (called x c.disp t)
-      → Enters g (Entered g l base p f) (HasShortForms l.list place) edges node x t (called x c.disp t)
+      (entered_at site (node_after (graph_in g) node edges) (point_of (called x c.disp t)))
+      → IsNoJumpsSlot g (called x c.disp t) → EntersNext site edges node x t (called x c.disp t)
   steps edges last leads never =
       let acts = calls_act c.address.0 t about in
-      goes_through g l base p place f h node x t here c.piece c.within c.here image c.address c.way c.items
-      (called x c.disp t) t.memory edges last (omega arith) (omega arith)
+      let none = calls_store c.address.0 t about in
+      goes_through site h node x t here _ c.marked image c.way refl
+      (called x c.disp t) t.memory edges last
       (record {
-        path = subst (λ a. Leads (IsBetween t 2 IsPageWord) t (past t 2 t.memory (with_register t 15 a)) 2)
-            c.original acts.0;
-        silent = acts.1;
-        stores = stores_none IsPageWord t.memory;
-        live = here.live;
+        moves = record {
+          word = c.word;
+          is_word = c.is_word;
+          transfer = ap is_transfer c.says;
+          path = leads_weaker _ _ t _ 2 there.on (subst
+              (λ a. Leads (IsBetween t 2 IsPageWord) t (past t 2 t.memory (with_register t 15 a)) 2) c.original acts.0);
+          some = omega arith;
+          few = omega arith;
+          silent = acts.1;
+          stores = stores_none IsPageWord t.memory;
+          spares = λ _. record { spills = none _; first = λ _. none _; brief = λ _. omega arith };
+        };
+        same = refl;
         memory = refl;
-        quiet = λ descriptor. ap (λ (o : Option ℕ). puts_on_word (at_point x t) o descriptor) c.is_word
-            ∙ quiet_transfer (at_point x t) (decode_of c.word) descriptor (ap is_transfer c.says);
-        waits = λ a b. absurd (never a b);
-        transfer = transfers g.text x.pc c.word c.is_word (ap is_transfer c.says);
-        two = λ _. omega arith;
-        stored = λ _. calls_store c.address.0 t about;
+        live = here.live;
+        npc = refl;
+        slot = refl;
+        waits = λ a b _. absurd (never a b);
       }) leads
 
-pub calls_step : CallsStep
-calls_step g l base p place f node x t h here c =
-    let is = does_is g l base p place f h node x t here c in
-    rw is
-    (steps g l base p place f h node x t here c (gone_at g node x (called x c.disp t))
-    (gone_last g l f h.cells node x (called x c.disp t)) (rw is at c.leads) (rw is at c.never))
+  pub calls_step : StepsFrom site node x t
+  calls_step =
+      let is = does_is in
+      rw is (steps (gone_at g node x (called x c.disp t)) (gone_last g l f h.cells node x (called x c.disp t))
+      (rw is at c.leads) (rw is at c.never))

@@ -19,7 +19,8 @@ use Rattle.snippets.specs.declared.snippet.Op.{Op}
 use Rattle.snippets.specs.Cells.{update}
 use Rattle.snippet_code.specs.Runs.{MayStore, cell_at, words_at}
 use Rattle.jump_code.specs.PageWords.{IsPageWord}
-use Rattle.image_code.specs.Simulates.{Setting, cells_in, operations_on, snippet_on, updates}
+use Rattle.image_code.specs.Simulates.{Setting}
+use Rattle.image_code.specs.Store.{cells_in, operations_on, snippet_on, updates}
 use Rattle.image_code.specs.Images.{Frame, HasCells, IsFramed, Pieces}
 
 -- ---- a word that nothing is stored in
@@ -92,7 +93,7 @@ module _ (g : Setting) (l : Pieces) (f : Frame) (framed : IsFramed g f) (has : H
 
   -- an instruction that judges no byte of the pages
   pub cells_stay : (s : State) (x : Instr) → AllApart (pages_of g.notes) (judged_by s x)
-      → IsOurs (pages_of g.notes) f.own s.memory → cells_in g (act s x) ≡ cells_in g s
+      → IsOurs (pages_of g.notes) f.own s.memory → cells_in g.notes (act s x) ≡ cells_in g.notes s
   cells_stay s x apart ours =
       words_same g.notes.base g.notes.cells s.memory (act s x).memory (λ cell within.
       let own = has.own cell within in

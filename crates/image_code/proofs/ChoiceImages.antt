@@ -25,7 +25,7 @@ use Rattle.cfg_normal.specs.declared.Node.{Node}
 use Rattle.cfg_normal.specs.declared.Node.TheVariants.{Block}
 use Rattle.cfg_normal.specs.Nodes.{home_of}
 use Rattle.cfg_normal.specs.Opens.{Open, jumps_in}
-use Rattle.cfg_normal.specs.Graph.{Graph, IsNodeIn, has_cases, node_of}
+use Rattle.cfg_normal.specs.Graph.{Graph, has_cases, node_of}
 use Rattle.cfg_walk.specs.Walk.{Point, node_after, point_of, same_kind, way_of}
 use Rattle.cfg_walk.specs.Matches.{IsOnItsWay, IsTarget}
 use Rattle.cfg_walk.proofs.Addresses.{next_word}
@@ -33,28 +33,27 @@ use Rattle.cfg_walk.proofs.Cut.{IsCut}
 use Rattle.cfg_walk.proofs.Edges.{block}
 use Rattle.cfg_walk.proofs.Leaving.{end_is, node_is, transfer_ends}
 use Rattle.cfg_walk.proofs.Transfers.{jump_delayed}
-use Rattle.addr_translate.specs.Lookup.{IsTable, table_word}
+use Rattle.addr_translate.specs.Lookup.{table_word}
 use Rattle.jump_code.specs.Choosing.{choice_at}
 use Rattle.jump_code.specs.PageWords.{kept_address}
 use Rattle.jump_slice.proofs.About.{in_targets}
 use Rattle.jump_slice.proofs.CaseBlocks.{some_of}
 use Rattle.jump_slice.specs.Joined.{IsCaseBlock}
 use Rattle.layout.specs.declared.items.Item.{Item}
-use Rattle.layout.specs.Laid.{Placement}
 use Rattle.image_code.specs.Cases.{next_entry}
 use Rattle.image_code.specs.Choices.{IsChoice, choice_piece}
 use Rattle.image_code.specs.Graphs.{case_table}
-use Rattle.image_code.specs.Images.{Frame, entered_at, slot_piece}
-use Rattle.image_code.specs.Made.{AreCasesFor, distance_of, jump_image_by, jumps_at}
+use Rattle.image_code.specs.Images.{entered_at, slot_piece}
+use Rattle.image_code.specs.Made.{distance_of, jump_image_by, jumps_at}
 use Rattle.image_code.specs.Numbered.{case_numbers, case_piece, cases_of, entries_of, first_entry, image_number, jump_number, or_zero}
-use Rattle.image_code.specs.Simulates.{CaseTable, Chooses, IsChosen, Setting, does_at, gone_at, graph_in, number_in}
-use Rattle.image_code.proofs.CaseTables.{IsKnown, known_at}
+use Rattle.image_code.specs.Simulates.{CaseTable, Chooses, IsChosen, does_at, gone_at, graph_in, number_in}
+use Rattle.image_code.proofs.CaseTables.{known_at}
 use Rattle.image_code.proofs.EdgePieces.{cut_in}
 use Rattle.image_code.proofs.ImageNumbers.{HasImage, block_of}
 use Rattle.image_code.proofs.IntoSlots.{before, stands}
 use Rattle.image_code.proofs.JumpImages.{goes, jump_acts}
 use Rattle.image_code.proofs.Positions.{any_at, contains, get_behind, get_first}
-use Rattle.image_code.proofs.Visited.{IsTargetOf, case_piece_is, entered_slot, has_its_image, image_items, l, nothing_gone, on_its_way, target, visited_word, way_in, word_is}
+use Rattle.image_code.proofs.Visited.{AtWord, Edit, at_image, site, IsTargetOf, case_piece_is, entered_slot, has_its_image, image_items, l, nothing_gone, on_its_way, target, way_in}
 
 -- ---- the numbers of Case edges' pieces, by entries
 
@@ -96,17 +95,14 @@ choice_is : (text : Words) (graph : Graph) (jumps cases : ℕ) (codes : ℕ → 
 choice_is text graph jumps cases codes address block k o rd rs1 op2 jumping numbered is =
     rw (jumping, numbered, is)
 
-module _ (g : Setting) (codes : ℕ → List ℕ) (is : IsKnown g) (p : Placement) (f : Frame) (whole : IsTable f.table)
-    (cases : AreCasesFor g.text (graph_in g) p f.cases)
-    (node : Node) (x : Point) (word : ℕ) (at : word_at g.text x.pc ≡ Some word) (none : x.slot ≡ NoSlot)
-    (held : home_of node ≡ node_of (blocks_of g.text g.given) (word_at g.text x.pc))
-    (there : IsNodeIn (blocks_of g.text g.given) g.switches node) (npc : x.npc ≡ (x.pc + 4) % 2 ^ 32)
-    (t : State) (behind : f.halves.base ≡ jumps_at g.text f.table.base) (rd rs1 : ℕ) (op2 : Op2)
-    (says : decode_of (slice_index g.text.words word) ≡ i.Jmpl rd rs1 op2)
-    (chooses : Chooses g node x t (does_at g x t))
-    (k : ℕ) (o : Open) (among : slice_get g.switches k ≡ Some o)
-    (numbered : jump_number g.text (graph_in g) o.block ≡ Some k)
-    (jumping : jumps_in g.switches o.block ≡ true) (itself : node ≡ block o.block) where
+module _ (edit : Edit) (node : Node) (x : Point) (visit : AtWord edit node x) (t : State) (rd rs1 : ℕ) (op2 : Op2)
+    (says : decode_of (slice_index edit.g.text.words visit.word) ≡ i.Jmpl rd rs1 op2)
+    (chooses : Chooses edit.g node x t (does_at edit.g x t)) (k : ℕ) (o : Open)
+    (among : slice_get edit.g.switches k ≡ Some o) (numbered : jump_number edit.g.text (graph_in edit.g) o.block ≡ Some k)
+    (jumping : jumps_in edit.g.switches o.block ≡ true) (itself : node ≡ block o.block) where
+  open edit use {g, codes, is, p, place, f, cases}
+  open visit use {word, at, none, held, there, npc}
+
   abbrev b : Blocks
   b = blocks_of g.text g.given
 
@@ -201,8 +197,8 @@ module _ (g : Setting) (codes : ℕ → List ℕ) (is : IsKnown g) (p : Placemen
 
   acts : (v.pc ≡ x.npc) × (v.slot ≡ Taken)
   acts =
-      goes g codes is p f whole node x word at none held there npc t behind rd rs1 op2 says v
-      (jump_acts g codes is p f whole node x word at none held there npc t behind rd rs1 op2 says) chosen.live
+      goes edit node x visit t rd rs1 op2 says v
+      (jump_acts edit node x visit t rd rs1 op2 says) chosen.live
 
   not : v.slot ≢ NoSlot
   not n = let q : Taken ≡ NoSlot = sym acts.1 ∙ n in absurd (cc)
@@ -219,26 +215,26 @@ module _ (g : Setting) (codes : ℕ → List ℕ) (is : IsKnown g) (p : Placemen
   cased : has_cases g.switches node ≡ true
   cased = ap (has_cases g.switches) itself ∙ jumping
 
-  jumps_so : way_in g codes is p f (point_of v) ≡ kinds.Out
+  jumps_so : way_in edit (point_of v) ≡ kinds.Out
   jumps_so =
       ap (λ instr. way_of instr v.slot)
-      (before g codes is p f whole node x word at none held there npc (i.Jmpl rd rs1 op2) says v acts.0)
+      (before edit node x visit (i.Jmpl rd rs1 op2) says v acts.0)
 
-  way : IsOnItsWay g.text (graph_in g) node (point_of v) (way_in g codes is p f (point_of v))
+  way : IsOnItsWay g.text (graph_in g) node (point_of v) (way_in edit (point_of v))
   way =
-      on_its_way g codes is p f node (point_of v) Taken acts.1 (λ q. absurd (cc))
+      on_its_way edit node (point_of v) Taken acts.1 (λ q. absurd (cc))
       (jump_delayed rd rs1 op2 (point_of v)
-      (stands g codes is p f whole node x word at none held there npc (i.Jmpl rd rs1 op2) says) acts.0 acts.1
+      (stands edit node x visit (i.Jmpl rd rs1 op2) says) acts.0 acts.1
       (λ _. is_target))
 
-  out : same_kind (way_in g codes is p f (point_of v)) kinds.Out ≡ true
+  out : same_kind (way_in edit (point_of v)) kinds.Out ≡ true
   out = ap (λ (kind : EdgeKind). same_kind kind kinds.Out) jumps_so
 
-  its_piece : slot_piece g (l g codes is p f) node (point_of v) ≡ case_piece g.text (graph_in g) k o to
-  its_piece = case_piece_is g codes is p f node (point_of v) way out cased
-      ∙ same_piece (target g codes is p f node (point_of v) way out cased)
+  its_piece : slot_piece g (l edit) node (point_of v) ≡ case_piece g.text (graph_in g) k o to
+  its_piece = case_piece_is edit node (point_of v) way out cased
+      ∙ same_piece (target edit node (point_of v) way out cased)
     where
-      same_piece : (r : IsTargetOf g codes is p f node (point_of v) way out cased)
+      same_piece : (r : IsTargetOf edit node (point_of v) way out cased)
           → case_piece g.text (graph_in g) r.k r.o r.word ≡ case_piece g.text (graph_in g) k o to
       same_piece r =
           let one : r.o ≡ o = is.cased.one r.k k r.o o r.among among (ap block_of (sym r.itself ∙ itself)) in
@@ -256,11 +252,11 @@ module _ (g : Setting) (codes : ℕ → List ℕ) (is : IsKnown g) (p : Placemen
   gone_nothing : gone_at g node x v ≡ []
   gone_nothing = nothing_gone g node x v none not chosen.live
 
-  leads : slice_index p.at (case_piece g.text (graph_in g) k o to) ≡ next_entry g (l g codes is p f) p f node x t
+  leads : slice_index p.at (case_piece g.text (graph_in g) k o to) ≡ next_entry (site edit) node x t
   leads =
       ap (slice_index p.at) (sym its_piece)
-      ∙ sym (entered_slot g codes is p f node (point_of v) (word + 1) slot_there not)
-      ∙ ap (λ (edges : List ℕ). entered_at g (l g codes is p f) p f (node_after (graph_in g) node edges) (point_of v))
+      ∙ sym (entered_slot edit node (point_of v) (word + 1) slot_there not)
+      ∙ ap (λ (edges : List ℕ). entered_at (site edit) (node_after (graph_in g) node edges) (point_of v))
       (sym gone_nothing)
 
   -- ---- its image
@@ -269,18 +265,18 @@ module _ (g : Setting) (codes : ℕ → List ℕ) (is : IsKnown g) (p : Placemen
   address = record { 0 = address_of g.text word }
 
   has : HasImage g.text b g.switches node word
-  has = has_its_image g codes is p f node x word at held there
+  has = has_its_image edit node x word at held there
 
   abbrev piece : ℕ
   piece = image_number g.text (graph_in g) node word
 
-  items : slice_get (l g codes is p f).list piece ≡ Some (choice_piece rd address (number_in g node) distance)
+  items : slice_get (l edit).list piece ≡ Some (choice_piece rd address (number_in g node) distance)
   items =
-      image_items g codes is p f node x word at has (i.Jmpl rd rs1 op2) says
+      image_items edit node x word at has (i.Jmpl rd rs1 op2) says
       ∙ rw itself (ap (λ (xs : List Item). Some xs) (choice_is g.text (graph_in g) (jumps_at g.text f.table.base)
       f.cases.base codes address o.block k o rd rs1 op2 jumping numbered among))
 
-  pub choice_case : IsChoice g (l g codes is p f) p f node x t
+  pub choice_case : IsChoice (site edit) node x t
   choice_case =
       let w = word_at-some g.text x.pc word at in
       let place = place_is in
@@ -291,14 +287,7 @@ module _ (g : Setting) (codes : ℕ → List ℕ) (is : IsKnown g) (p : Placemen
         open_switch = table;
         among = known_at g is.known k o among;
         itself = itself;
-        piece = piece;
-        within = slice_get_within (l g codes is p f).list piece _ items;
-        here = visited_word g codes is p f node x word at none;
-        address = address;
-        original = sym w.is;
         low = omega (arith, w, is.text.below);
-        word = slice_index g.text.words word;
-        is_word = word_is g x word at;
         rd = rd;
         rs1 = rs1;
         op2 = op2;
@@ -307,7 +296,7 @@ module _ (g : Setting) (codes : ℕ → List ℕ) (is : IsKnown g) (p : Placemen
             (decoded_range (i.Jmpl rd rs1 op2) (slice_index g.text.words word) (sym says))).0;
         distance = distance;
         near = omega arith;
-        items = items;
+        marked = at_image edit node x visit _ items;
         aligned = omega (arith, place, cases.aligned);
         from = omega (arith, place);
         to = omega (arith, place, cases.long, many);

@@ -15,7 +15,7 @@ use Rattle.snippet_code.specs.Runs.{DoesJust}
 use Rattle.snippet_code.specs.Words.{snippet_words, spills_of}
 use Rattle.snippet_code.proofs.Lengths.{costs_hold}
 use Rattle.snippet_code.proofs.WholeCode.{snippet_code_runs}
-use Rattle.image_code.specs.Simulates.{snippet_on}
+use Rattle.image_code.specs.Store.{snippet_on}
 use Rattle.image_code.specs.Codes.{CodeDoes}
 use Rattle.image_code.specs.Parts.{code_at, codes_of}
 

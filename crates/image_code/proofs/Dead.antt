@@ -1,6 +1,6 @@
 -- What is dead on a way along some edges: only behind the snippet of the last of them, so that no snippet reads a
 -- register in which an earlier one left anything else.
-use Rattle.std.proofs.Common.{◌≡◌, ℕ, ◌⊎◌, inl, inr, Bool, true, false, ◌&&◌, Option, Some, None, List, [], ◌∷◌, ◌++◌, length, refl, ap, sym, ◌∙◌, subst}
+use Rattle.std.proofs.Common.{◌≡◌, ℕ, ◌⊎◌, inl, inr, Bool, true, ◌&&◌, Option, Some, None, List, [], ◌∷◌, ◌++◌, length, refl, ap, sym, ◌∙◌, subst}
 use Rattle.std.specs.Prelude.{if◌then◌else◌, ◌-◌, slice_index}
 use Rattle.std.specs.List.{position}
 use Rattle.std.specs.Option.{option_to_list}
@@ -8,7 +8,6 @@ use Rattle.std.proofs.lemmas.Bool.{and_parts, cond_both}
 use Rattle.std.proofs.lemmas.List.Quantifiers.{position-Some}
 use Rattle.std.proofs.lemmas.Option.{slice_get-get_or}
 use Rattle.eel_base.specs.CodeText.{word_at}
-use Rattle.v8_decode.specs.Parts.{every_part, members}
 use Rattle.v8_decode.specs.declared.Instr.{Instr}
 use Rattle.v8_decode.specs.declared.Instr.TheVariants as i
 use Rattle.v8_decode.specs.Words.{decode_of}
@@ -29,7 +28,8 @@ use Rattle.cfg_normal.specs.declared.Node.TheVariants.{X}
 use Rattle.cfg_normal.specs.declared.Slot.TheVariants.{Nothing}
 use Rattle.cfg_walk.specs.Walk.{Point, WayOut, completed, gone, instr_at, landed, leads_along, left_along, left_at, left_by, point_of, same_kind, same_node, slot_left, unless_ended, way_of}
 use Rattle.code_runs.specs.Hops.{hopped}
-use Rattle.image_code.specs.Simulates.{IsFollowedBy, IsKept, Setting, gone_at, graph_in, is_out}
+use Rattle.image_code.specs.Simulates.{IsFollowedBy, IsKept, Setting, gone_at, graph_in}
+use Rattle.image_code.specs.Cost.{is_out}
 use Rattle.image_code.specs.Images.{Frame, HasCells, Pieces}
 use Rattle.image_code.proofs.Between.{same_at}
 
@@ -223,9 +223,3 @@ module _ (g : Setting) (l : Pieces) (f : Frame) (has : HasCells g l f) where
       go : (e : Option Ending) → LastDead g (gone g.text (graph_in g) node x (unless_ended e (point_of v)))
       go None = completed_last node x (point_of v) x.slot v.slot
       go (Some d) = tt
-
--- ---- live sets
-
-nothing_but : members (λ part. false) ≡ []
-unfolding members every_part
-nothing_but = refl

@@ -17,7 +17,7 @@ use Rattle.cfg_normal.specs.declared.Edge.{Edge}
 use Rattle.cfg_normal.specs.declared.Node.{Node}
 use Rattle.cfg_normal.specs.declared.Slot.{Slot as Carried}
 use Rattle.cfg_normal.specs.Opens.{Open}
-use Rattle.cfg_normal.specs.Graph.{Graph, IsSlotIn, edges_in, lands}
+use Rattle.cfg_normal.specs.Graph.{IsSlotIn, edges_in, lands}
 use Rattle.cfg_walk.specs.Walk.{WayOut, edge_along, leads_along, same_kind, same_node}
 use Rattle.cfg_walk.specs.Matches.{target_along}
 use Rattle.cfg_walk.proofs.Cut.{IsCut, cut}
@@ -26,7 +26,7 @@ use Rattle.cfg_walk.proofs.NoneOpen.{edge_lies_in}
 use Rattle.cfg_walk.proofs.Ways.{same_kinds}
 use Rattle.image_code.specs.Simulates.{Setting, graph_in}
 use Rattle.image_code.specs.Cases.{IsFar}
-use Rattle.image_code.specs.Made.{case_by, first_word, piece_list, way_by}
+use Rattle.image_code.specs.Made.{first_word, piece_list, way_by}
 use Rattle.image_code.specs.Numbered.{case_piece, place_in}
 use Rattle.image_code.proofs.CaseTables.{IsKnown}
 use Rattle.image_code.proofs.Branches.{IsTransfersWay}
@@ -54,11 +54,6 @@ along_far text word kind instr is l = past_far text word is l
 -- the way along a Case edge to a node
 abbrev pub by_case : Node → WayOut
 by_case to = record { kind = kinds.Case; to = Some to }
-
-case_by_is : (text : Words) (graph : Graph) (table : ℕ) (codes : ℕ → List ℕ) (word number : ℕ) (edge : Edge)
-    → slice_get graph.edges number ≡ Some edge
-    → case_by text graph table codes word (number ∷ []) ≡ way_by text graph table codes number edge word edge.slot
-case_by_is text graph table codes word number edge e = rw e refl
 
 module _ (g : Setting) (is : IsKnown g) (table cases : ℕ) where
   abbrev b : Blocks

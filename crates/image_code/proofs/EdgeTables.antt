@@ -23,9 +23,6 @@ use Rattle.image_code.proofs.FirstPlaces.{mark_same, position-cons, position-sam
 
 -- ---- numbers by which nodes and kinds are told apart
 
-eqb-same : (a b c d : ℕ) → (a ≡ b → c ≡ d) → (c ≡ d → a ≡ b) → (a == b) ≡ (c == d)
-eqb-same a b c d to from = grind (arith, nat_tests, to, from)
-
 pub kinds_same : (one other : EdgeKind) → (kind_number one == kind_number other) ≡ same_kind one other
 kinds_same one other = grind arith
 

@@ -21,9 +21,6 @@ module _ {A : Type 0} (p : A → Bool) where
   position_more (y ∷ ys) x =
       rw (position-cons y (ys ++ x ∷ []), position_more ys x, position-cons y ys) (grind (arith, nat_tests))
 
-  pub position_within : (xs : List A) (n : ℕ) → position p xs ≡ Some n → n < length xs
-  position_within xs n e = grind (arith, nat_tests)
-
 -- two tests that agree on all items
 pub position-same : {A : Type 0} (P : A → Type 0) (p q : A → Bool) (xs : List A) → All P xs
     → ((x : A) → P x → p x ≡ q x) → position p xs ≡ position q xs

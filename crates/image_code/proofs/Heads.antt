@@ -1,5 +1,5 @@
 -- Each point outside the pages has a place: its piece begins with its Mark, or it lies outside the text.
-use Rattle.std.proofs.Common.{◌≡◌, ◌≢◌, ℕ, zero, suc, ◌+◌, ◌<◌, inl, Bool, true, false, Option, Some, None, List, ◌∷◌, length, refl, ap, sym, ◌∙◌}
+use Rattle.std.proofs.Common.{◌≡◌, ◌≢◌, ℕ, zero, suc, ◌+◌, inl, Bool, true, false, Option, Some, None, List, ◌∷◌, length, refl, ap, sym, ◌∙◌}
 use Rattle.std.specs.Prelude.{slice_get, slice_index, ◌==◌}
 use Rattle.std.proofs.lemmas.Bool.{cond_both}
 use Rattle.std.proofs.lemmas.Option.{slice_get_within}
@@ -28,18 +28,16 @@ use Rattle.cfg_normal.specs.Numbers.{node_number}
 use Rattle.cfg_walk.specs.Matches.{IsOnItsWay, MatchesBy}
 use Rattle.layout.specs.declared.items.Item.{Item}
 use Rattle.layout.specs.declared.items.Item.TheVariants as it
-use Rattle.layout.specs.Laid.{Placement}
-use Rattle.image_code.specs.Simulates.{MatchesIn, Setting, graph_in, number_in}
+use Rattle.image_code.specs.Simulates.{MatchesIn, graph_in, number_in}
 use Rattle.image_code.specs.Choices.{choice_piece}
-use Rattle.image_code.specs.Images.{Frame, slot_piece, visited_at}
+use Rattle.image_code.specs.Images.{slot_piece, visited_at}
 use Rattle.image_code.specs.Imaged.{IsHead, IsVisited, TakesWords, head, outside, beyond}
-use Rattle.image_code.specs.Made.{IsOffNoted, distance_of, first_word, image_by, jump_by, jump_image_by, jumps_at, slot_copy, way_by}
+use Rattle.image_code.specs.Made.{distance_of, first_word, image_by, jump_by, jump_image_by, jumps_at, slot_copy, way_by}
 use Rattle.image_code.specs.Numbered.{case_piece, first_entry}
 use Rattle.image_code.specs.Outside.{IsForeign, IsOff, IsOpen}
 use Rattle.image_code.proofs.Branches.{HeadOf}
-use Rattle.image_code.proofs.CaseTables.{IsKnown}
 use Rattle.image_code.proofs.ImageNumbers.{jump_numbered}
-use Rattle.image_code.proofs.Visited.{case_items, case_piece_is, edge_is, has_its_image, image_items, l, off, off_address, on, on_its_way, plain_items, plain_piece_is, target, visited_slot, visited_word, way_in}
+use Rattle.image_code.proofs.Visited.{Edit, site, case_items, case_piece_is, edge_is, has_its_image, image_items, l, off, off_address, on, on_its_way, plain_items, plain_piece_is, target, visited_slot, visited_word, way_in}
 
 -- ---- what pieces begin with
 
@@ -102,18 +100,20 @@ home_outside : (node : Node) → home_of node ≡ X → node ≡ X
 home_outside X e = refl
 home_outside _ e = absurd (cc)
 
-module _ (g : Setting) (codes : ℕ → List ℕ) (is : IsKnown g) (p : Placement) (f : Frame) where
+module _ (edit : Edit) where
+  open edit use {g, codes, base, p, f, below, noted}
+
   abbrev b : Blocks
   b = blocks_of g.text g.given
 
   -- ---- the copy of a slot's word
 
   module _ (node : Node) (x : Point) (slot : ℕ) (at : word_at g.text x.pc ≡ Some slot)
-      (way : IsOnItsWay g.text (graph_in g) node x (way_in g codes is p f x)) where
+      (way : IsOnItsWay g.text (graph_in g) node x (way_in edit x)) where
     -- its piece, from which control goes on to a word at the edge's node
     pub record HasCopy (piece to : ℕ) : Type 0 where
-      pub here : slot_piece g (l g codes is p f) node x ≡ piece
-      pub items : slice_get (l g codes is p f).list piece
+      pub here : slot_piece g (l edit) node x ≡ piece
+      pub items : slice_get (l edit).list piece
           ≡ Some (slot_copy g.text (graph_in g) f.table.base codes (record { 0 = address_of g.text slot })
           (number_in g node) (slice_index g.text.words slot) way.number way.edge to)
 
@@ -121,35 +121,35 @@ module _ (g : Setting) (codes : ℕ → List ℕ) (is : IsKnown g) (p : Placemen
         → way_by g.text (graph_in g) f.table.base codes way.number way.edge to (carried.Word (record { 0 = slot }))
         ≡ slot_copy g.text (graph_in g) f.table.base codes (record { 0 = address_of g.text slot })
         (number_in g node) (slice_index g.text.words slot) way.number way.edge to
-    leaves to = rw (edge_is g codes is p f node x way).leaves
+    leaves to = rw (edge_is edit node x way).leaves
 
-    pub plain_copy : (same_kind (way_in g codes is p f x) kinds.Out ≡ true → has_cases g.switches node ≡ false)
+    pub plain_copy : (same_kind (way_in edit x) kinds.Out ≡ true → has_cases g.switches node ≡ false)
         → HasCopy (length g.text.words + way.number) (first_word (graph_in g) way.edge.to)
     plain_copy caseless = record {
-      here = plain_piece_is g codes is p f node x way caseless;
+      here = plain_piece_is edit node x way caseless;
       items =
-          plain_items g codes is p f node x way caseless (carried.Word (record { 0 = slot }))
-          (on g codes is p f node x way slot at)
+          plain_items edit node x way caseless (carried.Word (record { 0 = slot }))
+          (on edit node x way slot at)
           ∙ ap (λ (xs : List Item). Some xs) (leaves (first_word (graph_in g) way.edge.to));
     }
 
-    pub case_copy : (out : same_kind (way_in g codes is p f x) kinds.Out ≡ true)
+    pub case_copy : (out : same_kind (way_in edit x) kinds.Out ≡ true)
         (cased : has_cases g.switches node ≡ true)
-        → let to = target g codes is p f node x way out cased in
+        → let to = target edit node x way out cased in
         HasCopy (case_piece g.text (graph_in g) to.k to.o to.word) to.word
     case_copy out cased =
-        let to = target g codes is p f node x way out cased in
+        let to = target edit node x way out cased in
         record {
-          here = case_piece_is g codes is p f node x way out cased;
+          here = case_piece_is edit node x way out cased;
           items =
-              case_items g codes is p f node x way out cased (carried.Word (record { 0 = slot }))
-              (on g codes is p f node x way slot at)
+              case_items edit node x way out cased (carried.Word (record { 0 = slot }))
+              (on edit node x way slot at)
               ∙ ap (λ (xs : List Item). Some xs) (leaves to.word);
         }
 
     pub copy_visited : (piece to : ℕ) → HasCopy piece to → x.slot ≢ NoSlot
-        → visited_at g (l g codes is p f) p f node x ≡ slice_index p.at piece
-    copy_visited piece to copy not = visited_slot g codes is p f node x slot at not ∙ ap (slice_index p.at) copy.here
+        → visited_at (site edit) node x ≡ slice_index p.at piece
+    copy_visited piece to copy not = visited_slot edit node x slot at not ∙ ap (slice_index p.at) copy.here
 
   -- ---- outside the text
 
@@ -162,10 +162,9 @@ module _ (g : Setting) (codes : ℕ → List ℕ) (is : IsKnown g) (p : Placemen
     apart = open_there;
   }
 
-  pub off_is : (base : ℕ) → f.table.base < base → IsOffNoted g f.table.base → (node : Node) (x : Point)
-      → x.slot ≢ NoSlot → word_at g.text x.pc ≡ None → IsOnItsWay g.text (graph_in g) node x (way_in g codes is p f x)
-      → IsOff g base p f node x
-  off_is base below noted node x slot none way = record {
+  pub off_is : (node : Node) (x : Point) → x.slot ≢ NoSlot → word_at g.text x.pc ≡ None
+      → IsOnItsWay g.text (graph_in g) node x (way_in edit x) → IsOff (site edit) node x
+  off_is node x slot none way = record {
     slot = slot;
     none = none;
     range = record {
@@ -174,22 +173,21 @@ module _ (g : Setting) (codes : ℕ → List ℕ) (is : IsKnown g) (p : Placemen
       address = address_of g.text (length g.text.words);
       node = number_in g way.edge.from;
     };
-    noted = noted way.number way.edge way.is (off g codes is p f node x way none);
+    noted = noted way.number way.edge way.is (off edit node x way none);
     lo = refl;
-    address = sym (off_address g codes is p f node x way none);
-    number = ap (number_in g) (edge_is g codes is p f node x way).leaves;
+    address = sym (off_address edit node x way none);
+    number = ap (number_in g) (edge_is edit node x way).leaves;
     beside = inl below;
   }
 
   -- ---- all points
 
   head_of : (node : Node) (x : Point) (piece : ℕ) (xs : List Item) (address : Addr)
-      → visited_at g (l g codes is p f) p f node x ≡ slice_index p.at piece → address.0 ≡ x.pc
-      → slice_get (l g codes is p f).list piece ≡ Some xs → HeadOf address (number_in g node) xs
-      → IsHead g (l g codes is p f) p f node x
+      → visited_at (site edit) node x ≡ slice_index p.at piece → address.0 ≡ x.pc
+      → slice_get (l edit).list piece ≡ Some xs → HeadOf address (number_in g node) xs → IsHead (site edit) node x
   head_of node x piece xs address at original found begins = record {
     piece = piece;
-    within = slice_get_within (l g codes is p f).list piece xs found;
+    within = slice_get_within (l edit).list piece xs found;
     here = at;
     address = address;
     original = original;
@@ -199,38 +197,37 @@ module _ (g : Setting) (codes : ℕ → List ℕ) (is : IsKnown g) (p : Placemen
     items = found ∙ ap (λ z. Some z) begins.is;
   }
 
-  pub visits : (base : ℕ) → f.table.base < base → IsOffNoted g f.table.base → (node : Node) (x : Point)
-      → MatchesIn g node x → IsOpen g x → IsVisited g (l g codes is p f) base p f node x
-  visits base below noted node x m open_there = by x.slot refl m.0 (word_at g.text x.pc) refl
+  pub visits : (node : Node) (x : Point) → MatchesIn g node x → IsOpen g x → IsVisited (site edit) node x
+  visits node x m open_there = by x.slot refl m.0 (word_at g.text x.pc) refl
     where
-      copied : x.slot ≢ NoSlot → (way : IsOnItsWay g.text (graph_in g) node x (way_in g codes is p f x)) → (slot : ℕ)
+      copied : x.slot ≢ NoSlot → (way : IsOnItsWay g.text (graph_in g) node x (way_in edit x)) → (slot : ℕ)
           → (e : word_at g.text x.pc ≡ Some slot) → (piece to : ℕ) → HasCopy node x slot e way piece to
-          → IsVisited g (l g codes is p f) base p f node x
+          → IsVisited (site edit) node x
       copied not way slot e piece to copy =
           head (head_of node x piece _ (record { 0 = address_of g.text slot })
           (copy_visited node x slot e way piece to copy not) (sym (word_at-some g.text x.pc slot e).is) copy.items
           (copy_head g.text b g.switches 0 f.cases.base codes f.table.base (record { 0 = address_of g.text slot })
           (number_in g node) (slice_index g.text.words slot) way.number way.edge to))
 
-      in_slot : x.slot ≢ NoSlot → IsOnItsWay g.text (graph_in g) node x (way_in g codes is p f x) → (o : Option ℕ)
-          → word_at g.text x.pc ≡ o → IsVisited g (l g codes is p f) base p f node x
-      in_slot not way None e = beyond (off_is base below noted node x not e way)
+      in_slot : x.slot ≢ NoSlot → IsOnItsWay g.text (graph_in g) node x (way_in edit x) → (o : Option ℕ)
+          → word_at g.text x.pc ≡ o → IsVisited (site edit) node x
+      in_slot not way None e = beyond (off_is node x not e way)
       in_slot not way (Some slot) e =
-          by_cases (IsVisited g (l g codes is p f) base p f node x) (same_kind (way_in g codes is p f x) kinds.Out)
+          by_cases (IsVisited (site edit) node x) (same_kind (way_in edit x) kinds.Out)
           (has_cases g.switches node)
           (λ caseless. copied not way slot e _ _ (plain_copy node x slot e way caseless))
           (λ out cased. copied not way slot e _ _ (case_copy node x slot e way out cased))
 
       by : (s : Slot) → x.slot ≡ s → MatchesBy g.text (graph_in g) node x s → (o : Option ℕ) → word_at g.text x.pc ≡ o
-          → IsVisited g (l g codes is p f) base p f node x
+          → IsVisited (site edit) node x
       by NoSlot none m0 None e = outside (foreign_is node x none e m0.0 open_there)
       by NoSlot none m0 (Some word) e =
           head (head_of node x _ _ (record { 0 = address_of g.text word })
-          (visited_word g codes is p f node x word e none) (sym (word_at-some g.text x.pc word e).is)
-          (image_items g codes is p f node x word e (has_its_image g codes is p f node x word e m0.0 m.1)
+          (visited_word edit node x word e none) (sym (word_at-some g.text x.pc word e).is)
+          (image_items edit node x word e (has_its_image edit node x word e m0.0 m.1)
           (decode_of (slice_index g.text.words word)) refl)
           (image_head g.text b g.switches (jumps_at g.text f.table.base) f.cases.base codes
           (record { 0 = address_of g.text word }) node word (decode_of (slice_index g.text.words word))))
       by s some m0 o e =
           let not : x.slot ≢ NoSlot = λ n. let q : s ≡ NoSlot = sym some ∙ n in absurd (cc) in
-          in_slot not (on_its_way g codes is p f node x s some (λ q. absurd (cc)) m0) o e
+          in_slot not (on_its_way edit node x s some (λ q. absurd (cc)) m0) o e

@@ -11,16 +11,19 @@ use Rattle.cfg_normal.specs.declared.Node.{Node}
 use Rattle.cfg_walk.specs.Walk.{Point}
 use Rattle.layout.specs.declared.items.Item.{Item}
 use Rattle.layout.specs.declared.items.Item.TheVariants as it
-use Rattle.layout.specs.Laid.{HasShortForms, Placement, Stands, BranchStands, branch_short, branch_long, item_in, items_in, size_of, open_in, range_of}
-use Rattle.image_code.specs.Simulates.{at_point, does_at, gone_at, number_in, word_of, Enters}
+use Rattle.layout.specs.Laid.{Placement, Stands, BranchStands, branch_short, branch_long, item_in, items_in, size_of, open_in, range_of}
+use Rattle.image_code.specs.Simulates.{Simulates, at_point, number_in, word_of}
 use Rattle.code_runs.specs.PointsAlike.{instr_of}
-use Rattle.image_code.specs.Images.{Here, Entered}
+use Rattle.image_code.specs.Images.{Forms, HereAt, Placed, Site, StepsFrom}
 use Rattle.image_code.specs.Cases.{visits_it}
-use Rattle.image_code.specs.Calls.{CallsStep, JumpsStep}
-use Rattle.image_code.specs.Landings.{JumpSlotsStep}
-use Rattle.image_code.specs.Imaged.{TakesWords, HeadsVisit, IsCase, plain, couple, turn, idle, call, jump, landing, choice, foreign, off, IsVisited, head, outside, beyond, ImagesSimulate}
-use Rattle.image_code.proofs.Cases.{at_range, plains_step}
+use Rattle.image_code.specs.Outside.{IsOpen}
+use Rattle.image_code.specs.Imaged.{TakesWords, IsCase, IsHead, IsImaged, plain, couple, turn, idle, call, jump, landing, choice, foreign, off, IsVisited, head, outside, beyond}
+use Rattle.image_code.proofs.Between.{at_range}
+use Rattle.image_code.proofs.Cases.{plains_step}
+use Rattle.image_code.proofs.Calls.{calls_step}
 use Rattle.image_code.proofs.Choices.{choices_step}
+use Rattle.image_code.proofs.Jumps.{jumps_step}
+use Rattle.image_code.proofs.Landings.{jump_slots_step}
 use Rattle.image_code.proofs.Keeping.{next_steps}
 use Rattle.image_code.proofs.Couple.{couples_step}
 use Rattle.image_code.proofs.Turns.{turns_step}
@@ -38,63 +41,61 @@ has_room base p (it.Jump to) a b takes h = absurd takes
 has_room base p (it.Mark address node) a b takes h = absurd takes
 has_room base p it.EndMark a b takes h = absurd takes
 
-pub heads_visit : HeadsVisit
-heads_visit g l base p place f node x t h here c =
-    let item = λ (n : ℕ). ap (λ (v : Option (List Item)). item_in v n) c.items in
-    let size : size_of l.list c.piece ≡ suc (suc (length c.rest)) = ap
-    (λ (v : Option (List Item)). items_in v) c.items in
-    let mark : place c.piece 1 ≡ place c.piece 0 = h.laid.items c.piece 0 (it.Mark c.address (number_in g node))
-    (item 0) in
-    let room : place c.piece 1 < place c.piece 2 = has_room base p c.item (place c.piece 1) (place c.piece 2) c.takes
-    (h.laid.items c.piece 1 c.item (item 1)) in
-    let at : t.pc ≡ place c.piece 1 = here.at ∙ c.here ∙ h.laid.starts c.piece c.within ∙ sym mark in
-    let low = (h.laid.within c.piece 1 c.within (omega arith)).begins in
-    let high = (h.laid.within c.piece 2 c.within (omega arith)).ends in
-    at_range g l base p place f h node x t _
-    here.live (omega arith) (omega arith)
-    (h.laid.ranges c.piece 1 t.pc c.item (item 1) (omega arith) (omega arith)
-    ∙ ap (λ (v : Option (List Item)). range_of (place c.piece) (open_in v 1)) c.items)
-    (sym at) refl c.original
+module _ (site : Site) (h : Placed site) where
+  open site use {g, l, base, p, place}
 
-module _ (calls : CallsStep) (jumps : JumpsStep) (slots : JumpSlotsStep) where
-  pub simulate : ImagesSimulate
-  simulate g l base p place f h c = record {
+  pub heads_visit : (node : Node) (x : Point) (t : State) → HereAt site node x t → IsHead site node x
+      → visits_it g node x t
+  heads_visit node x t here c =
+      let item = λ (n : ℕ). ap (λ (v : Option (List Item)). item_in v n) c.items in
+      let size : size_of l.list c.piece ≡ suc (suc (length c.rest)) = ap
+      (λ (v : Option (List Item)). items_in v) c.items in
+      let mark : place c.piece 1 ≡ place c.piece 0 = h.laid.items c.piece 0 (it.Mark c.address (number_in g node))
+      (item 0) in
+      let room : place c.piece 1 < place c.piece 2 = has_room base p c.item (place c.piece 1) (place c.piece 2) c.takes
+      (h.laid.items c.piece 1 c.item (item 1)) in
+      let at : t.pc ≡ place c.piece 1 = here.at ∙ c.here ∙ h.laid.starts c.piece c.within ∙ sym mark in
+      let low = (h.laid.within c.piece 1 c.within (omega arith)).begins in
+      let high = (h.laid.within c.piece 2 c.within (omega arith)).ends in
+      at_range site h node x t _
+      here.live (omega arith) (omega arith)
+      (h.laid.ranges c.piece 1 t.pc c.item (item 1) (omega arith) (omega arith)
+      ∙ ap (λ (v : Option (List Item)). range_of (place c.piece) (open_in v 1)) c.items)
+      (sym at) refl c.original
+
+  there : (node : Node) (x : Point) (t : State) → HereAt site node x t → IsVisited site node x → visits_it g node x t
+  there node x t here (head k) = heads_visit node x t here k
+  there node x t here (outside k) = (foreign_step site h node x t here k).0
+  there node x t here (beyond k) = (offs_step site h node x t here k).0
+
+  judged : (x : Point) (t : State) (word : ℕ) → word_of g.text x.pc ≡ Some word
+      → AllApart (pages_of g.notes) (judged_in (at_point x t) (instr_of (word_of g.text x.pc)))
+      → AllApart (pages_of g.notes) (judged_by (at_point x t) (decode_of word))
+  judged x t word is apart =
+      subst (λ (o : Option ℕ). AllApart (pages_of g.notes) (judged_in (at_point x t) (instr_of o))) is apart
+
+  by : (node : Node) (x : Point) (t : State) → HereAt site node x t
+      → AllApart (pages_of g.notes) (judged_in (at_point x t) (instr_of (word_of g.text x.pc))) → IsCase site node x t
+      → StepsFrom site node x t
+  by node x t here apart (plain k) = plains_step site h node x t here k (judged x t k.word k.is_word apart)
+  by node x t here apart (couple k) = couples_step site h node x t here k
+  by node x t here apart (turn k) = turns_step site h node x t here k
+  by node x t here apart (idle k) = idles_step site h node x t here k
+  by node x t here apart (call k) = calls_step site h node x t here k
+  by node x t here apart (jump k) = jumps_step site h node x t here k
+  by node x t here apart (landing k) = jump_slots_step site h node x t here k (judged x t k.word k.is_word apart)
+  by node x t here apart (choice k) = choices_step site h node x t here k
+  by node x t here apart (foreign k) = (foreign_step site h node x t here k).1
+  by node x t here apart (off k) = (offs_step site h node x t here k).1
+
+  pub simulate : IsImaged site → Simulates g (IsOpen g) (HereAt site) (Forms site)
+  simulate c = record {
     visits = λ node x t matches clear here. let at = there node x t here (c.visits node x matches clear) in (
       here.live,
       at.0,
       at.1,
     );
     steps = λ node x t matches clear here apart on chooses.
-        next_steps g l base p place f h c.opens c.enters node x t matches.0
+        next_steps site h c.opens c.enters node x t matches.0
         (by node x t here apart (c.cases node x t matches clear here on chooses));
   }
-    where
-      there : (node : Node) (x : Point) (t : State) → Here g l base p f node x t → IsVisited g l base p f node x
-          → visits_it g node x t
-      there node x t here (head k) = heads_visit g l base p place f node x t h here k
-      there node x t here (outside k) = (foreign_step g l base p place f node x t h here k).0
-      there node x t here (beyond k) = (offs_step g l base p place f node x t h here k).0
-
-      judged : (x : Point) (t : State) (word : ℕ) → word_of g.text x.pc ≡ Some word
-          → AllApart (pages_of g.notes) (judged_in (at_point x t) (instr_of (word_of g.text x.pc)))
-          → AllApart (pages_of g.notes) (judged_by (at_point x t) (decode_of word))
-      judged x t word is apart =
-          subst (λ (o : Option ℕ). AllApart (pages_of g.notes) (judged_in (at_point x t) (instr_of o))) is apart
-
-      by : (node : Node) (x : Point) (t : State) → Here g l base p f node x t
-          → AllApart (pages_of g.notes) (judged_in (at_point x t) (instr_of (word_of g.text x.pc)))
-          → IsCase g l base p place f node x t
-          → Enters g (Entered g l base p f) (HasShortForms l.list place) (gone_at g node x (does_at g x t)) node x t
-          (does_at g x t)
-      by node x t here apart (plain k) =
-          plains_step g l base p place f node x t h here k (judged x t k.word k.is_word apart)
-      by node x t here apart (couple k) = couples_step g l base p place f node x t h here k
-      by node x t here apart (turn k) = turns_step g l base p place f node x t h here k
-      by node x t here apart (idle k) = idles_step g l base p place f node x t h here k
-      by node x t here apart (call k) = calls g l base p place f node x t h here k
-      by node x t here apart (jump k) = jumps g l base p place f node x t h here k
-      by node x t here apart (landing k) =
-          slots g l base p place f node x t h here k (judged x t k.word k.is_word apart)
-      by node x t here apart (choice k) = choices_step g l base p place f node x t h here k
-      by node x t here apart (foreign k) = (foreign_step g l base p place f node x t h here k).1
-      by node x t here apart (off k) = (offs_step g l base p place f node x t h here k).1

@@ -1,5 +1,5 @@
 -- A transfer at a word goes into its slot, where the way of its edge leads.
-use Rattle.std.proofs.Common.{◌≡◌, ◌≢◌, ℕ, ◌+◌, ◌-◌, ◌%◌, ◌^◌, ◌<◌, true, false, Option, Some, None, List, ap, sym, ◌∙◌, arith}
+use Rattle.std.proofs.Common.{◌≡◌, ◌≢◌, ◌+◌, ◌-◌, ◌^◌, ◌<◌, true, false, Option, Some, None, ap, sym, ◌∙◌, arith}
 use Rattle.std.specs.Prelude.{slice_index}
 use Rattle.std.proofs.lemmas.Bool.{false≢true}
 use Rattle.eel_base.specs.CodeText.{word_at}
@@ -13,27 +13,22 @@ use Rattle.cfg_blocks.specs.declared.EdgeKind.TheVariants as kinds
 use Rattle.cfg_blocks.specs.Blocks.{Blocks, blocks_of}
 use Rattle.cfg_blocks.proofs.Targets.{word_at-some}
 use Rattle.cfg_normal.specs.declared.Node.{Node}
-use Rattle.cfg_normal.specs.Nodes.{home_of}
-use Rattle.cfg_normal.specs.Graph.{IsNodeIn, has_cases, node_of}
+use Rattle.cfg_normal.specs.Graph.{has_cases}
 use Rattle.cfg_walk.specs.Walk.{Point, instr_at, node_after, point_of, same_kind, way_of}
 use Rattle.cfg_walk.specs.Matches.{MatchesBy}
 use Rattle.cfg_walk.proofs.Points.{Stands, StepsTo}
-use Rattle.addr_translate.specs.Lookup.{IsTable}
-use Rattle.layout.specs.Laid.{Placement}
-use Rattle.image_code.specs.Simulates.{Setting, gone_at, graph_in}
-use Rattle.image_code.specs.Images.{Frame, entered_at}
+use Rattle.image_code.specs.Simulates.{gone_at, graph_in}
+use Rattle.image_code.specs.Images.{entered_at}
 use Rattle.image_code.specs.Cases.{LeadsTo}
 use Rattle.image_code.specs.Turns.{IsNoJumpsSlot}
 use Rattle.image_code.specs.Made.{way_out}
-use Rattle.image_code.proofs.CaseTables.{IsKnown}
 use Rattle.image_code.proofs.EdgePieces.{cut_in}
-use Rattle.image_code.proofs.Visited.{enters, l, nothing_gone, on_its_way}
+use Rattle.image_code.proofs.Visited.{AtWord, Edit, site, enters, l, nothing_gone, on_its_way}
 
-module _ (g : Setting) (codes : ℕ → List ℕ) (is : IsKnown g) (p : Placement) (f : Frame) (whole : IsTable f.table)
-    (node : Node) (x : Point) (word : ℕ) (at : word_at g.text x.pc ≡ Some word) (none : x.slot ≡ NoSlot)
-    (held : home_of node ≡ node_of (blocks_of g.text g.given) (word_at g.text x.pc))
-    (there : IsNodeIn (blocks_of g.text g.given) g.switches node) (npc : x.npc ≡ (x.pc + 4) % 2 ^ 32)
-    (instr : Instr) (says : decode_of (slice_index g.text.words word) ≡ instr) where
+module _ (edit : Edit) (node : Node) (x : Point) (visit : AtWord edit node x) (instr : Instr) (says : decode_of (slice_index edit.g.text.words visit.word) ≡ instr) where
+  open edit use {g, is, p, f}
+  open visit use {word, at, none, held, there, npc}
+
   abbrev b : Blocks
   b = blocks_of g.text g.given
 
@@ -62,9 +57,9 @@ module _ (g : Setting) (codes : ℕ → List ℕ) (is : IsKnown g) (p : Placemen
   -- the way of the edge leads to the slot
   abbrev pub LeadsThere : EdgeKind → State → Type 0
   LeadsThere kind v =
-      LeadsTo (l g codes is p f) p (record { 0 = way_out g.text (graph_in g) node kind }) (gone_at g node x v)
+      LeadsTo (l edit) p (record { 0 = way_out g.text (graph_in g) node kind }) (gone_at g node x v)
       (word_at g.text v.pc)
-      (entered_at g (l g codes is p f) p f (node_after (graph_in g) node (gone_at g node x v)) (point_of v))
+      (entered_at (site edit) (node_after (graph_in g) node (gone_at g node x v)) (point_of v))
 
   in_slot : (v : State) → v.ending ≡ None → v.pc ≡ x.npc → (now : Slot) → v.slot ≡ now → now ≢ NoSlot
       → (same_kind (way_of (Some instr) now) kinds.Out ≡ true → has_cases g.switches node ≡ false)
@@ -74,7 +69,7 @@ module _ (g : Setting) (codes : ℕ → List ℕ) (is : IsKnown g) (p : Placemen
       let same : way_of (instr_at g.text (v.pc - 4)) v.slot ≡ way_of (Some instr) now =
       ap (λ (o : Option Instr). way_of o v.slot) (before v pc) ∙ ap (way_of (Some instr)) slot in
       rw (nothing_gone g node x v none not live)
-      (enters g codes is p f whole node (point_of v) not (on_its_way g codes is p f node (point_of v) now slot some m)
+      (enters edit node (point_of v) not (on_its_way edit node (point_of v) now slot some m)
       (λ out. caseless (ap (λ (k : EdgeKind). same_kind k kinds.Out) (sym same) ∙ out))
       (way_of (Some instr) now) same)
 

@@ -1,15 +1,12 @@
 -- The words of a JMPL, and then the way; or the ending that a misaligned target has.
-use Rattle.std.proofs.Common.{◌≡◌, ◌≢◌, ℕ, ◌+◌, ◌-◌, ◌%◌, ◌^◌, ◌<◌, ◌≤◌, inl, inr, false, Option, Some, None, List, [], length, refl, ap, sym, ◌∙◌, subst, arith}
+use Rattle.std.proofs.Common.{◌≡◌, ◌≢◌, ℕ, ◌+◌, ◌%◌, ◌^◌, ◌<◌, ◌≤◌, inl, inr, false, Option, Some, None, List, [], length, refl, ap, sym, ◌∙◌, subst, arith}
 use Rattle.eel_base.specs.CodeText.{word_at}
 use Rattle.v8_decode.specs.declared.Instr.{Instr}
-use Rattle.v8_decode.specs.Words.{decode_of}
 use Rattle.v8_alu.specs.Numbers.{wrapped}
 use Rattle.v8_memory.specs.Regions.{code_of}
 use Rattle.v8_step.specs.declared.Ending.{Ending}
 use Rattle.v8_step.specs.declared.Slot.TheVariants.{NoSlot}
 use Rattle.v8_step.specs.State.{State, sum_of}
-use Rattle.v8_step.specs.Step.{puts_on_word}
-use Rattle.v8_step.specs.Run.{run}
 use Rattle.v8_step.specs.Items.{is_transfer}
 use Rattle.v8_step.specs.Valid.{IsValid}
 use Rattle.v8_step.proofs.ValidSteps.{run-valid}
@@ -17,31 +14,31 @@ use Rattle.cfg_normal.specs.declared.Node.{Node}
 use Rattle.cfg_walk.specs.Walk.{Point, instr_at, point_of, node_after}
 use Rattle.code_runs.specs.Page.{page_word}
 use Rattle.code_runs.specs.Points.{moved}
-use Rattle.code_runs.specs.TwoRegisters.{IsBetween}
 use Rattle.code_runs.specs.Straight.{StandIn}
 use Rattle.code_runs.proofs.Hops.{equal_or_not}
+use Rattle.code_runs.proofs.Leads.{leads_weaker}
 use Rattle.code_runs.proofs.Stays.{loads_there, stores_there}
-use Rattle.layout.specs.Laid.{HasShortForms, Placement}
+use Rattle.layout.specs.Emitting.{words_of}
 use Rattle.jump_code.specs.Jumped.{jumped}
 use Rattle.jump_code.specs.Finding.{IsAboutToFind, find_image, found_memory}
-use Rattle.jump_code.specs.PageWords.{IsPageWord}
 use Rattle.jump_code.proofs.FindFollowing.{goes, stops, finds_simulate}
 use Rattle.jump_code.proofs.Laid.{pieces_are_laid}
-use Rattle.image_code.specs.Simulates.{Setting, IsOnWay, is_jmpl, at_point, does_at, gone_at, graph_in, number_in, word_of, Enters}
-use Rattle.image_code.specs.Images.{Pieces, Frame, Here, IsPlaced, entered_at, Entered}
+use Rattle.image_code.specs.Simulates.{does_at, gone_at, graph_in, number_in}
+use Rattle.image_code.specs.Cost.{is_jmpl}
+use Rattle.image_code.specs.Images.{EntersNext, HereAt, Placed, Site, StepsFrom, entered_at}
 use Rattle.image_code.specs.Cases.{LeadsTo}
-use Rattle.image_code.specs.Calls.{IsJump, JumpsStep}
-use Rattle.image_code.proofs.Marked.{link_few}
+use Rattle.image_code.specs.Calls.{IsJump}
 use Rattle.image_code.proofs.Memories.{same_stored}
-use Rattle.image_code.proofs.Cases.{ended_none, live_before}
-use Rattle.image_code.proofs.Couple.{quiet_transfer}
 use Rattle.image_code.proofs.Dead.{LastDead, gone_last}
-use Rattle.image_code.proofs.Sparing.{instr_is, transfers}
-use Rattle.image_code.proofs.Through.{AtWords, at_words, own_stored, goes_through, page_cells}
+use Rattle.image_code.proofs.EntersBy.{ends_by, moves_past, own_stored}
+use Rattle.image_code.proofs.Sparing.{instr_is}
+use Rattle.image_code.proofs.Through.{ahead, goes_through}
+use Rattle.image_code.proofs.Marked.{AtWords, link_few}
 
-module _ (g : Setting) (l : Pieces) (base : ℕ) (p : Placement) (place : ℕ → ℕ → ℕ) (f : Frame)
-    (h : IsPlaced g l base p place f)
-    (node : Node) (x : Point) (t : State) (here : Here g l base p f node x t) (c : IsJump g l p f node x t) where
+module _ (site : Site) (h : Placed site) (node : Node) (x : Point) (t : State) (here : HereAt site node x t)
+    (c : IsJump site node x t) where
+  open site use {g, l, base, p, place, f}
+
   -- the original after its JMPL
   abbrev after_jump : State
   after_jump = jumped c.address.0 c.rd c.rs1 c.op2 t
@@ -58,19 +55,19 @@ module _ (g : Setting) (l : Pieces) (base : ℕ) (p : Placement) (place : ℕ �
   does_is : does_at g x t ≡ after_jump
   does_is = rw (c.is_word, c.says, c.none, c.next, c.original)
 
-  ahead : AtWords g t (place c.piece 1) (length image)
-  ahead = at_words g l base p place f h node x t here c.piece c.within c.here image c.address c.way c.items
+  there : AtWords site node x t c.piece (length image) (words_of image)
+  there = ahead site h node x t here _ c.marked image c.way refl
 
   about : IsAboutToFind c.scratch c.second c.rd c.rs1 c.op2 c.address.0 f.halves t
   about =
       record {
         valid = here.valid;
-        ready = record { live = here.live; npc = ahead.next (omega (arith, many)) };
-        low = omega (arith, ahead.low);
+        ready = record { live = here.live; npc = there.next (omega (arith, many)) };
+        low = omega (arith, there.low);
         apart = c.apart;
         other = c.other;
         differ = c.differ;
-        words = subst (λ z. StandIn (code_of t.memory) z image) (sym ahead.at)
+        words = subst (λ z. StandIn (code_of t.memory) z image) (sym there.at)
             ((pieces_are_laid l.list base p place h.laid t.memory here.memory.code c.piece _ c.items).find
             c.scratch c.second c.rd c.rs1 c.op2 f.halves.base c.address (number_in g node) c.way c.apart c.other c.fits
             c.in_range (omega (arith, h.frame.whole.below)) short refl).words;
@@ -122,90 +119,81 @@ module _ (g : Setting) (l : Pieces) (base : ℕ) (p : Placement) (place : ℕ �
       end ∙ ap (λ (z : Option Ending). record (moved c.address.0 (wrapped (c.address.0 + 4)) NoSlot t) { ending = z })
       (sym (ap (λ (z : State). z.ending) end) ∙ is))
 
-  quiet : (descriptor : ℕ) → puts_on_word (at_point x t) (word_of g.text x.pc) descriptor ≡ []
-  quiet descriptor =
-      ap (λ (o : Option ℕ). puts_on_word (at_point x t) o descriptor) c.is_word
-      ∙ quiet_transfer (at_point x t) (decode_of c.word) descriptor (ap is_transfer c.says)
-
   -- the instruction is a JMPL
   jumping : is_jmpl (instr_at g.text x.pc) ≡ false → ⊥
   jumping e = let is = ap is_jmpl (instr_is g.text x.pc c.word c.is_word ∙ ap (λ (z : Instr). Some z) c.says) in cc
 
   going : (edges : List ℕ) → LastDead g edges → after_jump.ending ≡ None
-      → LeadsTo l p c.way edges (word_at g.text after_jump.pc) (entered_at g l p f (node_after (graph_in g) node edges)
+      → LeadsTo l p c.way edges (word_at g.text after_jump.pc) (entered_at site (node_after (graph_in g) node edges)
       (point_of after_jump))
-      → Enters g (Entered g l base p f) (HasShortForms l.list place) edges node x t after_jump
+      → EntersNext site edges node x t after_jump
   going edges last live leads =
       let on = (finds_simulate c.scratch c.second c.rd c.rs1 c.op2 c.address.0 f.halves t about).0 live in
-      goes_through g l base p place f h node x t here c.piece c.within c.here image c.address c.way c.items
-      after_jump (found_memory t c.scratch c.second c.rs1 c.op2 f.halves) edges last (omega (arith, many)) few
+      goes_through site h node x t here _ c.marked image c.way refl
+      after_jump (found_memory t c.scratch c.second c.rs1 c.op2 f.halves) edges last
       (record {
-        path = on.path;
-        silent = on.silent;
-        stores = rw memory_is at on.stores;
-        live = live;
+        moves = record {
+          word = c.word;
+          is_word = c.is_word;
+          transfer = ap is_transfer c.says;
+          path = leads_weaker _ _ t _ (length image) there.on on.path;
+          some = omega (arith, many);
+          few = few;
+          silent = on.silent;
+          stores = rw memory_is at on.stores;
+          spares = λ watched. absurd (jumping watched.jump);
+        };
+        same = refl;
         memory = memory_is;
-        quiet = quiet;
-        waits = λ _ _. (on.waits, aligned live, λ _. on.found);
-        transfer = transfers g.text x.pc c.word c.is_word (ap is_transfer c.says);
-        two = λ other. absurd (jumping other);
-        stored = λ other. absurd (jumping other);
+        live = live;
+        npc = refl;
+        slot = refl;
+        waits = λ _ _ _. (on.waits, aligned live, λ there. (there, on.found));
       }) leads
 
-  ends : (d : Ending) → after_jump.ending ≡ Some d
-      → Enters g (Entered g l base p f) (HasShortForms l.list place) [] node x t after_jump
+  ends : (d : Ending) → after_jump.ending ≡ Some d → EntersNext site (gone_at g node x after_jump) node x t after_jump
   ends d over =
       let end = (finds_simulate c.scratch c.second c.rd c.rs1 c.op2 c.address.0 f.halves t about).1 d over in
       let traps = end.traps in
       let same = only_ends d over in
       let valid : IsValid traps.after = subst IsValid traps.path.steps (run-valid t 10 here.valid) in
-      record {
-        on = record {
-          count = 10;
-          after = traps.after;
-          path = record {
-            steps = traps.path.steps;
-            some = omega arith;
-            few = omega arith;
-            quiet = λ j some below. on_way traps.live j some below (traps.path.during j some below);
-          };
-          puts = λ descriptor. traps.silent descriptor ∙ sym (quiet descriptor);
-          followed = record {
-            ending = end.same ∙ sym over;
-            window = traps.window ∙ sym (ap (λ (z : State). z.window) same);
-            valid = traps.valid ∙ sym (ap (λ (z : State). z.valid) same);
-            registers = valid.registers.count
-                ∙ sym (ap (λ (z : State). length z.registers) same ∙ here.valid.registers.count);
-            input = traps.input ∙ sym (ap (λ (z : State). z.input) same);
-            memory = rw memory_is (same_stored g f h.frame base p t.memory traps.after.memory here.memory
-                (own_stored g f h.frame t.memory traps.after.memory traps.stores));
-            items = λ live thing _ _. absurd (cc);
-          };
-          cells = page_cells g l base p place f h node x t here c.piece c.within c.here image c.address c.way c.items
-              traps.after.memory traps.stores;
-          here = λ live. absurd (cc);
-          place = λ _. ahead.there traps.after (omega (arith, traps.pc)) (omega (arith, traps.pc, many));
-          sparing = λ watched. absurd (jumping watched.jump);
+      ends_by site h node x t here after_jump traps.after 9 (record {
+        past = moves_past site h node x t here [] after_jump traps.after 10 (record {
+          word = c.word;
+          is_word = c.is_word;
+          transfer = ap is_transfer c.says;
+          path = leads_weaker _ _ t _ 10 (λ u z.
+              there.on u (record { past = z.past; before = omega (arith, z.before, many); stores = z.stores })) traps.path;
+          some = omega arith;
+          few = omega arith;
+          silent = traps.silent;
+          stores = traps.stores;
+          spares = λ watched. absurd (jumping watched.jump);
+        });
+        before = traps.live;
+        ending = d;
+        over = over;
+        followed = record {
+          ending = end.same ∙ sym over;
+          window = traps.window ∙ sym (ap (λ (z : State). z.window) same);
+          valid = traps.valid ∙ sym (ap (λ (z : State). z.valid) same);
+          registers = valid.registers.count
+              ∙ sym (ap (λ (z : State). length z.registers) same ∙ here.valid.registers.count);
+          input = traps.input ∙ sym (ap (λ (z : State). z.input) same);
+          memory = rw memory_is (same_stored g f h.frame base p t.memory traps.after.memory here.memory
+              (own_stored g f h.frame t.memory traps.after.memory traps.stores));
+          items = λ live thing _ _. absurd (cc);
         };
-        first = λ live _ _ _. absurd (cc);
-      }
-    where
-      on_way : (run t 9).ending ≡ None → (j : ℕ) → 0 < j → j < 10 → IsBetween t 10 IsPageWord (run t j)
-          → IsOnWay g t (run t j)
-      on_way live j some below between =
-          ahead.on (run t j)
-          (live_before t (9 - j) j (ap (λ z. (run t z).ending) (let e : 9 - j + j ≡ 9 = omega arith in e) ∙ live))
-          between.past (omega (arith, between.before, many)) between.stores
+        there = there.there traps.after (omega (arith, traps.pc)) (omega (arith, traps.pc, many));
+      })
 
   steps : (e : Option Ending) → after_jump.ending ≡ e
       → (after_jump.ending ≡ None → LeadsTo l p c.way (gone_at g node x after_jump) (word_at g.text after_jump.pc)
-      (entered_at g l p f
+      (entered_at site
       (node_after (graph_in g) node (gone_at g node x after_jump)) (point_of after_jump)))
-      → Enters g (Entered g l base p f) (HasShortForms l.list place) (gone_at g node x after_jump) node x t after_jump
+      → EntersNext site (gone_at g node x after_jump) node x t after_jump
   steps None e leads = going (gone_at g node x after_jump) (gone_last g l f h.cells node x after_jump) e (leads e)
-  steps (Some d) e leads = rw (ended_none g node x after_jump d e) (ends d e)
+  steps (Some d) e leads = ends d e
 
-pub jumps_step : JumpsStep
-jumps_step g l base p place f node x t h here c =
-    let is = does_is g l base p place f h node x t here c in
-    rw is (steps g l base p place f h node x t here c _ refl (rw is at c.leads))
+  pub jumps_step : StepsFrom site node x t
+  jumps_step = let is = does_is in rw is (steps _ refl (rw is at c.leads))

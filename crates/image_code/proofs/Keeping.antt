@@ -49,9 +49,10 @@ use Rattle.jump_code.proofs.Fitting.{Fit, words_mean}
 use Rattle.jump_code.specs.Keeping.{KeepsLoad, keep_load, kept_memory}
 use Rattle.jump_code.proofs.Keeping.{loads_are_kept}
 use Rattle.layout.specs.Emitting.{words_of}
-use Rattle.layout.specs.Laid.{HasShortForms, Placement}
-use Rattle.image_code.specs.Simulates.{CaseTable, Enters, IsAtWord, IsNoLoad, IsOnWay, limit_by, Setting, Steps, StepsOn, at_point, cells_in, does_at, gone_at, graph_in, is_spill, is_transfer_at}
-use Rattle.image_code.specs.Images.{Entered, Frame, Here, IsPlaced, Pieces, entered_at, visited_at}
+use Rattle.image_code.specs.Simulates.{CaseTable, IsAtWord, IsNoLoad, IsOnWay, Setting, Steps, StepsOn, at_point, does_at, gone_at, graph_in}
+use Rattle.image_code.specs.Cost.{limit_by, is_spill, is_transfer_at}
+use Rattle.image_code.specs.Store.{cells_in}
+use Rattle.image_code.specs.Images.{Entered, EntersNext, Forms, HereAt, Placed, Site, StepsFrom, entered_at, visited_at}
 use Rattle.image_code.specs.Keeping.{AreCaseTables, IsEntered, IsKeeping, at_once, keeping}
 use Rattle.image_code.proofs.Arrives.{IsFit, Rest, Stood, bare_on, first_kept, rest_whole, stood, stood_low}
 use Rattle.image_code.proofs.Between.{can_run, live_before}
@@ -150,21 +151,18 @@ second_below (Imm simm13) e = omega arith
 keep_fits : (rs1 : ℕ) (op2 : Op2) → operands_in_range rs1 op2 ≡ true → op2_fits op2 ≡ true → Fit (keep_load rs1 op2)
 keep_fits rs1 op2 in_range fits = (refl, refl, (in_range, fits, (refl, refl, tt)))
 
-module _ (g : Setting) (l : Pieces) (base : ℕ) (p : Placement) (place : ℕ → ℕ → ℕ) (f : Frame)
-    (h : IsPlaced g l base p place f) (are : AreCaseTables g) where
-  abbrev Forms : Type 0
-  Forms = HasShortForms l.list place
+module _ (site : Site) (h : Placed site) (are : AreCaseTables site.g) where
+  open site use {g, l, base, p, place, f}
 
   -- ---- where nothing is run between
 
-  stays_on : (node : Node) (x : Point) (t v : State) (edges : List ℕ)
-      → (e : Enters g (Entered g l base p f) Forms edges node x t v)
-      → (v.ending ≡ None → entered_at g l p f (node_after (graph_in g) node edges) (point_of v)
-      ≡ visited_at g l p f (node_after (graph_in g) node edges) (point_of v))
-      → StepsOn g (Here g l base p f) (Forms × IsNoLoad g v) 64 edges node x t v
+  stays_on : (node : Node) (x : Point) (t v : State) (edges : List ℕ) → (e : EntersNext site edges node x t v)
+      → (v.ending ≡ None → entered_at site (node_after (graph_in g) node edges) (point_of v)
+      ≡ visited_at site (node_after (graph_in g) node edges) (point_of v))
+      → StepsOn g (HereAt site) (Forms site × IsNoLoad g v) 64 edges node x t v
   stays_on node x t v edges e same =
       let s = e.on in
-      let few : s.count ≤ limit_by 64 g edges = omega (arith, s.path.few) in
+      let few : s.count ≤ limit_by 64 g.snips edges = omega (arith, s.path.few) in
       record {
         count = s.count;
         after = s.after;
@@ -187,19 +185,19 @@ module _ (g : Setting) (l : Pieces) (base : ℕ) (p : Placement) (place : ℕ �
   -- ---- where an address is kept
 
   module _ (node : Node) (x : Point) (t v : State) (edges : List ℕ)
-      (e : Enters g (Entered g l base p f) Forms edges node x t v) (live : v.ending ≡ None) (k : ℕ) (o : CaseTable)
+      (e : EntersNext site edges node x t v) (live : v.ending ≡ None) (k : ℕ) (o : CaseTable)
       (is : slice_get g.opens k ≡ Some o)
       (at : IsAtWord g o (node_after (graph_in g) node edges) (point_of v) o.load)
-      (c : IsKeeping g l p place f (node_after (graph_in g) node edges) (point_of v) o) where
-    here : Entered g l base p f (node_after (graph_in g) node edges) (point_of v) e.on.after
+      (c : IsKeeping site (node_after (graph_in g) node edges) (point_of v) o) where
+    here : Entered site (node_after (graph_in g) node edges) (point_of v) e.on.after
     here = e.on.here live
 
     whole : Rest l c.piece 0 (word_items (keep_load o.rs1 o.op2) ++ [])
     whole = subst (Rest l c.piece 0) (sym (append-nil (word_items (keep_load o.rs1 o.op2))))
         (rest_whole l c.piece (word_items (keep_load o.rs1 o.op2)) (tt, (tt, (tt, tt))) c.items)
 
-    stands : Stood g l base p place f h e.on.after.memory c.piece 0 (words_of (keep_load o.rs1 o.op2))
-    stands = stood g l base p place f h e.on.after.memory here.memory.code c.piece 0
+    stands : Stood site h e.on.after.memory c.piece 0 (words_of (keep_load o.rs1 o.op2))
+    stands = stood site h e.on.after.memory here.memory.code c.piece 0
         (words_of (keep_load o.rs1 o.op2)) [] whole
 
     begin : e.on.after.pc ≡ place c.piece 0
@@ -209,18 +207,18 @@ module _ (g : Setting) (l : Pieces) (base : ℕ) (p : Placement) (place : ℕ �
     end = stands.end
 
     low : place c.piece 3 ≤ 2 ^ 31
-    low = stood_low g l base p place f h c.piece 0 (words_of (keep_load o.rs1 o.op2)) [] whole
+    low = stood_low site h c.piece 0 (words_of (keep_load o.rs1 o.op2)) [] whole
 
     npc : e.on.after.npc ≡ e.on.after.pc + 4
     npc =
         let small : wrapped (e.on.after.pc + 4) ≡ e.on.after.pc + 4 = omega (arith, begin, end, low) in
         here.npc ∙ small
 
-    fit : IsFit g l base p place f h e.on.after
+    fit : IsFit site h e.on.after
     fit = record {
       valid = here.valid;
       has = here.memory;
-      runs = can_run g l base p place f h e.on.after here.valid here.live npc here.slot here.memory;
+      runs = can_run site h e.on.after here.valid here.live npc here.slot here.memory;
     }
 
     keeps : KeepsLoad o.rs1 o.op2 e.on.after
@@ -247,8 +245,8 @@ module _ (g : Setting) (l : Pieces) (base : ℕ) (p : Placement) (place : ℕ �
 
     stored : Stores (IsAmongWords f.own) e.on.after.memory m
         × ((memory_word m (page_word 1) ≡ memory_word e.on.after.memory (page_word 1))
-        × (words_at g.notes.base g.notes.cells m ≡ cells_in g e.on.after))
-    stored = first_kept g l base p place f h e.on.after m fit keeps.stores
+        × (words_at g.notes.base g.notes.cells m ≡ cells_in g.notes e.on.after))
+    stored = first_kept site h e.on.after m fit keeps.stores
 
     steps : run t (3 + e.on.count) ≡ after
     steps = run_add t e.on.count 3 ∙ ap (λ (z : State). run z 3) e.on.path.steps ∙ keeps.path.steps
@@ -265,7 +263,7 @@ module _ (g : Setting) (l : Pieces) (base : ℕ) (p : Placement) (place : ℕ �
       where
         bare : (u : State) → u.ending ≡ None → e.on.after.pc ≤ u.pc → u.pc < e.on.after.pc + 12 → IsOnWay g t u
         bare u running from to =
-            bare_on g l base p place f h t u running (stands.bare u (omega (arith, begin)) (omega (arith, begin)))
+            bare_on site h t u running (stands.bare u (omega (arith, begin)) (omega (arith, begin)))
 
         running : (run e.on.after j).ending ≡ None
         running =
@@ -273,7 +271,7 @@ module _ (g : Setting) (l : Pieces) (base : ℕ) (p : Placement) (place : ℕ �
             (ap (λ z. (run e.on.after z).ending) (let q : 3 - j + j ≡ 3 = omega arith in q)
             ∙ ap (λ (z : State). z.ending) keeps.path.steps ∙ here.live)
 
-    keeps_on : StepsOn g (Here g l base p f) (Forms × IsNoLoad g v) 64 edges node x t v
+    keeps_on : StepsOn g (HereAt site) (Forms site × IsNoLoad g v) 64 edges node x t v
     keeps_on =
         let s = e.on in
         record {
@@ -342,7 +340,7 @@ module _ (g : Setting) (l : Pieces) (base : ℕ) (p : Placement) (place : ℕ �
   -- ---- whatever the next point is
 
   module _ (node : Node) (x : Point) (t : State) (matches : Matches g.text (graph_in g) node x)
-      (e : Enters g (Entered g l base p f) Forms (gone_at g node x (does_at g x t)) node x t (does_at g x t)) where
+      (e : StepsFrom site node x t) where
     abbrev v : State
     v = does_at g x t
 
@@ -356,8 +354,8 @@ module _ (g : Setting) (l : Pieces) (base : ℕ) (p : Placement) (place : ℕ �
         let i = inner g are node x t matches k o is word at from below live in
         same ∙ e.first live i.none i.straight (λ none. let some = i.next in cc)
 
-    by_next : IsEntered g l p place f (node_after (graph_in g) node gone) (point_of v) → v.ending ≡ None
-        → Steps g (Here g l base p f) Forms gone node x t v
+    by_next : IsEntered site (node_after (graph_in g) node gone) (point_of v) → v.ending ≡ None
+        → Steps g (HereAt site) (Forms site) gone node x t v
     unfolding stays_on
     by_next (at_once same none) live = record {
       on = stays_on node x t v gone e (λ _. same);
@@ -380,8 +378,8 @@ module _ (g : Setting) (l : Pieces) (base : ℕ) (p : Placement) (place : ℕ �
       };
     }
 
-    by_ending : IsEntered g l p place f (node_after (graph_in g) node gone) (point_of v) → (d : Option Ending)
-        → v.ending ≡ d → Steps g (Here g l base p f) Forms gone node x t v
+    by_ending : IsEntered site (node_after (graph_in g) node gone) (point_of v) → (d : Option Ending)
+        → v.ending ≡ d → Steps g (HereAt site) (Forms site) gone node x t v
     by_ending enters None live = by_next enters live
     by_ending enters (Some d) over = record {
       on = stays_on node x t v gone e (λ live. absurd (cc));
@@ -391,10 +389,9 @@ module _ (g : Setting) (l : Pieces) (base : ℕ) (p : Placement) (place : ℕ �
       };
     }
 
-  pub next_steps : ((node : Node) (x : Point) → IsEntered g l p place f node x) → (node : Node) (x : Point) (t : State)
-      → Matches g.text (graph_in g) node x
-      → Enters g (Entered g l base p f) Forms (gone_at g node x (does_at g x t)) node x t (does_at g x t)
-      → Steps g (Here g l base p f) Forms (gone_at g node x (does_at g x t)) node x t (does_at g x t)
+  pub next_steps : ((node : Node) (x : Point) → IsEntered site node x) → (node : Node) (x : Point) (t : State)
+      → Matches g.text (graph_in g) node x → StepsFrom site node x t
+      → Steps g (HereAt site) (Forms site) (gone_at g node x (does_at g x t)) node x t (does_at g x t)
   next_steps enters node x t matches e = by_ending node x t matches e (enters _ _) (does_at g x t).ending refl
 
 -- ---- what a list of pieces has to give

@@ -17,23 +17,23 @@ use Rattle.cfg_walk.proofs.Edges.{block}
 use Rattle.jump_code.specs.Keeping.{keep_load}
 use Rattle.jump_code.specs.Pieces.{word_items}
 use Rattle.layout.specs.declared.items.Item.{Item}
-use Rattle.layout.specs.Laid.{IsLaid, Placement, is_jump, item_at, items_in, size_of}
+use Rattle.layout.specs.Laid.{is_jump, item_at, items_in, size_of}
 use Rattle.image_code.specs.Graphs.{case_table}
-use Rattle.image_code.specs.Images.{Frame}
 use Rattle.image_code.specs.Keeping.{IsEntered, at_once, keeping}
 use Rattle.image_code.specs.Loads.{first_operand, load_of, second_operand}
 use Rattle.image_code.specs.Made.{keep_by}
 use Rattle.image_code.specs.Numbered.{enter_number, image_number, jump_enter, jump_image, jump_number}
-use Rattle.image_code.specs.Simulates.{CaseTable, IsAtWord, Setting, graph_in}
-use Rattle.image_code.proofs.CaseTables.{IsKnown, known_at, table_of}
+use Rattle.image_code.specs.Simulates.{CaseTable, IsAtWord, graph_in}
+use Rattle.image_code.proofs.CaseTables.{known_at, table_of}
 use Rattle.image_code.proofs.ImageNumbers.{block_of, jump_enter_is, jump_image_is, jump_numbered, jump_of}
 use Rattle.image_code.proofs.Listed.{enter_load, enter_other, jump_at, keep_at, load_in}
 use Rattle.image_code.proofs.Opened.{load_is}
 use Rattle.image_code.proofs.Positions.{not_placed}
-use Rattle.image_code.proofs.Visited.{entered_word, enters_itself, l, visited_word}
+use Rattle.image_code.proofs.Visited.{Edit, site, entered_word, enters_itself, l, visited_word}
 
-module _ (g : Setting) (codes : ℕ → List ℕ) (is : IsKnown g) (p : Placement) (f : Frame) (base : ℕ)
-    (place : ℕ → ℕ → ℕ) (laid : IsLaid (l g codes is p f).list base p place) (node : Node) (x : Point) where
+module _ (edit : Edit) (node : Node) (x : Point) where
+  open edit use {g, codes, is, p, place, f, placed.{laid}}
+
   abbrev b : Blocks
   b = blocks_of g.text g.given
 
@@ -54,7 +54,7 @@ module _ (g : Setting) (codes : ℕ → List ℕ) (is : IsKnown g) (p : Placemen
     abbrev kept : List Item
     kept = word_items (keep_load (first_operand (instr_at g.text load)) (second_operand (instr_at g.text load)))
 
-    items : slice_get (l g codes is p f).list piece ≡ Some kept
+    items : slice_get (l edit).list piece ≡ Some kept
     items =
         keep_at g.text b g.switches is.cased f.table.base f.cases.base codes k o among
         ∙ ap (λ i. Some (keep_by i)) (load_is g.text b o (is.cased.each k o among)).is
@@ -62,47 +62,46 @@ module _ (g : Setting) (codes : ℕ → List ℕ) (is : IsKnown g) (p : Placemen
     next : suc piece ≡ jump_image g.text (graph_in g) k o load
     next = enter_load g.text b g.switches is.cased f.table.base f.cases.base codes k o among
 
-    next_within : suc piece < length (l g codes is p f).list
+    next_within : suc piece < length (l edit).list
     next_within =
         let low = load_in g.text b g.switches is.cased f.table.base f.cases.base codes k o among in
-        slice_get_within (l g codes is p f).list (suc piece) _
-        (ap (slice_get (l g codes is p f).list) next
+        slice_get_within (l edit).list (suc piece) _
+        (ap (slice_get (l edit).list) next
         ∙ jump_at g.text b g.switches is.cased f.table.base f.cases.base codes k o among load low.above (omega arith))
 
     falls : place piece 3 ≡ slice_index p.at (suc piece)
     falls =
-        let size : size_of (l g codes is p f).list piece ≡ 3 = ap (λ (v : Option (List Item)). items_in v) items in
-        let closed : is_jump (item_at (l g codes is p f).list piece (size_of (l g codes is p f).list piece - 1))
+        let size : size_of (l edit).list piece ≡ 3 = ap (λ (v : Option (List Item)). items_in v) items in
+        let closed : is_jump (item_at (l edit).list piece (size_of (l edit).list piece - 1))
         ≡ false =
         rw (size, items) in
         ap (place piece) (sym size) ∙ laid.falls piece next_within closed ∙ sym (laid.starts (suc piece) next_within)
 
-    pub keeps : IsEntered g (l g codes is p f) p place f node x
+    pub keeps : IsEntered (site edit) node x
     keeps =
         keeping k (case_table g.text o) (known_at g is.known k o among)
         (record { itself = itself; outside = none; stands = at })
         (record {
           piece = piece;
           here =
-              entered_word g codes is p f node x load at none
+              entered_word edit node x load at none
               ∙ ap (slice_index p.at) (jump_enter_is g.text b g.switches k o node load numbered among itself);
           items = items;
           behind =
               falls ∙ ap (slice_index p.at) (next
               ∙ sym (jump_image_is g.text b g.switches k o node load numbered among itself))
-              ∙ sym (visited_word g codes is p f node x load at none);
+              ∙ sym (visited_word edit node x load at none);
         })
 
   -- ---- anywhere else
 
   comes_itself : ((word : ℕ) → word_at g.text x.pc ≡ Some word → x.slot ≡ NoSlot
       → enter_number g.text (graph_in g) node word ≡ image_number g.text (graph_in g) node word) → NotAtLoad
-      → IsEntered g (l g codes is p f) p place f node x
-  comes_itself same not = at_once (enters_itself g codes is p f node x same) not
+      → IsEntered (site edit) node x
+  comes_itself same not = at_once (enters_itself edit node x same) not
 
   -- no open switch's jump ends the block
-  other_block : (k : ℕ) → node ≡ block k → jumps_in g.switches k ≡ false
-      → IsEntered g (l g codes is p f) p place f node x
+  other_block : (k : ℕ) → node ≡ block k → jumps_in g.switches k ≡ false → IsEntered (site edit) node x
   other_block k here quiet =
       comes_itself
       (λ word _ _.
@@ -117,7 +116,7 @@ module _ (g : Setting) (codes : ℕ → List ℕ) (is : IsKnown g) (p : Placemen
   other_word : (k : ℕ) (o : Open) → slice_get g.switches k ≡ Some o → jump_number g.text (graph_in g) o.block ≡ Some k
       → node ≡ block o.block
       → ((word : ℕ) → word_at g.text x.pc ≡ Some word → x.slot ≡ NoSlot → word ≡ load_of g.text o → ⊥)
-      → IsEntered g (l g codes is p f) p place f node x
+      → IsEntered (site edit) node x
   other_word k o among numbered itself not =
       comes_itself
       (λ word at none.
@@ -133,12 +132,12 @@ module _ (g : Setting) (codes : ℕ → List ℕ) (is : IsKnown g) (p : Placemen
       ∙ ap (load_of g.text) equal in
       not table.load a.stands a.outside load)
 
-  pub entered_so : IsEntered g (l g codes is p f) p place f node x
+  pub entered_so : IsEntered (site edit) node x
   entered_so = by node refl
     where
       at_word : (k : ℕ) (o : Open) → slice_get g.switches k ≡ Some o → jump_number g.text (graph_in g) o.block ≡ Some k
           → node ≡ block o.block → (w : Option ℕ) → word_at g.text x.pc ≡ w → (s : Slot) → x.slot ≡ s
-          → IsEntered g (l g codes is p f) p place f node x
+          → IsEntered (site edit) node x
       at_word k o among numbered itself (Some word) at NoSlot none = elim (cases_eq word (load_of g.text o)) [
         | inl e ↦ keeps k o among numbered itself none (at ∙ ap (λ (n : ℕ). Some n) e)
         | inr n ↦
@@ -154,14 +153,13 @@ module _ (g : Setting) (codes : ℕ → List ℕ) (is : IsKnown g) (p : Placemen
           other_word k o among numbered itself
           (λ other _ outside _. let q : s ≡ NoSlot = sym some ∙ outside in absurd (cc))
 
-      in_block : (k : ℕ) → node ≡ block k → (t : Bool) → jumps_in g.switches k ≡ t
-          → IsEntered g (l g codes is p f) p place f node x
+      in_block : (k : ℕ) → node ≡ block k → (t : Bool) → jumps_in g.switches k ≡ t → IsEntered (site edit) node x
       in_block k here false e = other_block k here e
       in_block k here true e =
           let found = jump_numbered g.text b g.switches k e in
           at_word found.0 found.1 found.3 found.2 (here ∙ ap block (sym found.4)) (word_at g.text x.pc) refl x.slot refl
 
-      by : (n : Node) → node ≡ n → IsEntered g (l g codes is p f) p place f node x
+      by : (n : Node) → node ≡ n → IsEntered (site edit) node x
       by (Block k) here = in_block k.0 here (jumps_in g.switches k.0) refl
       by n here =
           comes_itself

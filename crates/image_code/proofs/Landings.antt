@@ -34,16 +34,17 @@ use Rattle.jump_code.proofs.Leaving.{foreign_leaves}
 use Rattle.layout.specs.declared.items.Item.{Item}
 use Rattle.layout.specs.declared.items.Item.TheVariants as it
 use Rattle.layout.specs.Emitting.{words_of}
-use Rattle.layout.specs.Laid.{Placement}
-use Rattle.image_code.specs.Simulates.{NoneIsOut, Setting, at_point, does_at, gone_at, graph_in, number_in, operations_on}
-use Rattle.image_code.specs.Images.{Pieces, Frame, Here, IsPlaced}
+use Rattle.image_code.specs.Simulates.{at_point, does_at, gone_at, graph_in, number_in}
+use Rattle.image_code.specs.Cost.{NoneIsOut}
+use Rattle.image_code.specs.Store.{operations_on}
+use Rattle.image_code.specs.Images.{HereAt, Placed, Site, StepsFrom}
 use Rattle.image_code.specs.Cases.{LeadsTo, next_entry, words_on}
-use Rattle.image_code.specs.Landings.{IsJumpsSlot, JumpSlotsStep, Lands}
+use Rattle.image_code.specs.Landings.{IsJumpsSlot, Lands}
 use Rattle.image_code.proofs.Arrives.{Arrives, IsBare, IsFit, Rest, arrive, arrived, bare_here, eased, length_words, on_then, rest_behind, rest_marked, page_there, rest_whole, snippets_run, unwatched, Stood, stood, stood_low, weaker_arrives, words_unmarked}
-use Rattle.image_code.proofs.Cases.{IsMarkedWord, judged_moved, marked_step}
+use Rattle.image_code.proofs.Cases.{judged_moved, marked_step}
 use Rattle.image_code.proofs.Cells.{cells_above, page_above}
 use Rattle.image_code.proofs.Dead.{alike_itself}
-use Rattle.image_code.proofs.Through.{own_stored}
+use Rattle.image_code.proofs.EntersBy.{own_stored}
 
 -- the jump to what was found
 abbrev going_on : ℕ → List Item
@@ -55,13 +56,14 @@ found_fits through below =
     let alone : (nat_lt through 32 && true) ≡ true = ap (λ z. z && true) low in
     (alone, refl, (alone, refl, (alone, refl, tt)))
 
-module _ (g : Setting) (l : Pieces) (base : ℕ) (p : Placement) (place : ℕ → ℕ → ℕ) (f : Frame)
-    (h : IsPlaced g l base p place f) where
+module _ (site : Site) (h : Placed site) where
+  open site use {g, l, p, place, f}
+
   -- Words that keep a register in one of the page's words above word 1, and jump: of such a way no more is asked.
-  hops_out : (k n count to : ℕ) (ws : List ℕ) (a : State) → IsFit g l base p place f h a
-      → Stood g l base p place f h a.memory k n ws → length ws ≡ count → 0 < count → a.pc ≡ place k n → (word v : ℕ)
+  hops_out : (k n count to : ℕ) (ws : List ℕ) (a : State) → IsFit site h a
+      → Stood site h a.memory k n ws → length ws ≡ count → 0 < count → a.pc ≡ place k n → (word v : ℕ)
       → 1 < word → Hops a count IsPageWord to (store_word a.memory (page_word word) v)
-      → Arrives g l base p place f h None [] a to count
+      → Arrives site h None [] a to count
   hops_out k n count to ws a fit there many some at word v above hops =
       let left = store_word a.memory (page_word word) v in
       record {
@@ -69,14 +71,14 @@ module _ (g : Setting) (l : Pieces) (base : ℕ) (p : Placement) (place : ℕ �
         other = a;
         memory = left;
         few = omega arith;
-        path = leads_weaker _ (IsBare g l base p place f h) a _ count
+        path = leads_weaker _ (IsBare site h) a _ count
             (λ u q.
             there.bare u (omega (arith, at, q.past)) (omega (arith, at, q.before, many)))
             hops.path;
         silent = hops.silent;
         stores = own_stored g f h.frame a.memory left hops.stores;
         waits = other_word_stored a.memory (page_word 1) (page_word word) v
-            (page_there g l base p place f h a fit 1 (omega arith)) (inl (omega (arith, above)));
+            (page_there site h a fit 1 (omega arith)) (inl (omega (arith, above)));
         found = λ there. absurd (there refl);
         cells = λ _. cells_above g l f h.frame h.cells IsPageWord page_above a.memory left fit.has.ours hops.stores;
         begins = λ _. there.bare a (omega (arith, at)) (omega (arith, at, many, some));
@@ -90,12 +92,11 @@ module _ (g : Setting) (l : Pieces) (base : ℕ) (p : Placement) (place : ℕ �
   -- ---- the jump to what was found
 
   goes_found : (through k n : ℕ) → 0 < through → through < 32 → Rest l k n (going_on through) → (a : State)
-      → IsFit g l base p place f h a → a.pc ≡ place k n → (to : ℕ) → found_there a ≡ to → to % 4 ≡ 0
-      → Arrives g l base p place f h None [] a to 3
+      → IsFit site h a → a.pc ≡ place k n → (to : ℕ) → found_there a ≡ to → to % 4 ≡ 0 → Arrives site h None [] a to 3
   goes_found through k n some below rest a fit at to found aligned =
       let r : Rest l k n (going_on through ++ []) = subst (Rest l k n) (sym (append-nil (going_on through))) rest in
-      let there = stood g l base p place f h a.memory fit.has.code k n (words_of (go_found through)) [] r in
-      let low = stood_low g l base p place f h k n (words_of (go_found through)) [] r in
+      let there = stood site h a.memory fit.has.code k n (words_of (go_found through)) [] r in
+      let low = stood_low site h k n (words_of (go_found through)) [] r in
       let about : IsAboutToGoOn through a = record {
         valid = fit.valid;
         ready = fit.runs.ready;
@@ -104,24 +105,23 @@ module _ (g : Setting) (l : Pieces) (base : ℕ) (p : Placement) (place : ℕ �
         below = below;
         words = subst (λ z. StandIn (code_of a.memory) z (go_found through)) (sym at)
             (words_mean (code_of a.memory) (place k n) (go_found through) (found_fits through below) there.words);
-        page = page_there g l base p place f h a fit;
+        page = page_there site h a fit;
         aligned = ap (λ z. z % 4) found ∙ aligned;
       } in
-      subst (λ z. Arrives g l base p place f h None [] a z 3) found
+      subst (λ z. Arrives site h None [] a z 3) found
       (hops_out k n 3 (found_there a) (words_of (go_found through)) a fit there refl (omega arith) at 7
       (register_of a through) (omega arith) (found_hops through a about))
 
   -- ---- the foreign piece
 
-  pub leaves : (k : ℕ) → slice_get l.list k ≡ Some foreign_piece → (a : State) → IsFit g l base p place f h a
-      → a.pc ≡ place k 0 → (target : ℕ) → waiting a ≡ target → target % 4 ≡ 0
-      → Arrives g l base p place f h None [] a target 4
+  pub leaves : (k : ℕ) → slice_get l.list k ≡ Some foreign_piece → (a : State) → IsFit site h a
+      → a.pc ≡ place k 0 → (target : ℕ) → waiting a ≡ target → target % 4 ≡ 0 → Arrives site h None [] a target 4
   leaves k is a fit at target waits aligned =
       let r : Rest l k 0 (foreign_piece ++ []) =
       subst (Rest l k 0) (sym (append-nil foreign_piece))
       (rest_whole l k foreign_piece (tt, (tt, (tt, (tt, tt)))) is) in
-      let there = stood g l base p place f h a.memory fit.has.code k 0 (words_of foreign) [] r in
-      let low = stood_low g l base p place f h k 0 (words_of foreign) [] r in
+      let there = stood site h a.memory fit.has.code k 0 (words_of foreign) [] r in
+      let low = stood_low site h k 0 (words_of foreign) [] r in
       let about : IsAboutToLeave a = record {
         valid = fit.valid;
         ready = fit.runs.ready;
@@ -129,17 +129,17 @@ module _ (g : Setting) (l : Pieces) (base : ℕ) (p : Placement) (place : ℕ �
         words = subst (λ z. StandIn (code_of a.memory) z foreign) (sym at)
             (words_mean (code_of a.memory) (place k 0) foreign
             (refl, refl, (refl, refl, (refl, refl, (refl, refl, tt)))) there.words);
-        page = λ n few. page_there g l base p place f h a fit n (omega (arith, few));
+        page = λ n few. page_there site h a fit n (omega (arith, few));
         aligned = ap (λ z. z % 4) waits ∙ aligned;
       } in
-      subst (λ z. Arrives g l base p place f h None [] a z 4) waits
+      subst (λ z. Arrives site h None [] a z 4) waits
       (hops_out k 0 4 (waiting a) (words_of foreign) a fit there refl (omega arith) at 2 (register_of a 1) (omega arith)
       (foreign_leaves a about))
 
   -- ---- the whole way
 
-  module _ (node : Node) (x : Point) (t : State) (here : Here g l base p f node x t)
-      (c : IsJumpsSlot g l p f node x t) (apart : AllApart (pages_of g.notes) (judged_by t (decode_of c.word))) where
+  module _ (node : Node) (x : Point) (t : State) (here : HereAt site node x t)
+      (c : IsJumpsSlot site node x t) (apart : AllApart (pages_of g.notes) (judged_by t (decode_of c.word))) where
     -- the target waits while the slot's word is run
     target_waits : waiting (act t (decode_of c.word)) ≡ x.npc
     target_waits =
@@ -165,96 +165,72 @@ module _ (g : Setting) (l : Pieces) (base : ℕ) (p : Placement) (place : ℕ �
         (words_unmarked (flat_map l.codes (c.edge ∷ [])) (going_on c.through) (tt, (tt, (tt, tt)))) c.items
 
     -- through the snippet and the jump to what was found, and on from there
-    onward : (to : ℕ) → IsFit g l base p place f h (act t (decode_of c.word))
+    onward : (to : ℕ) → IsFit site h (act t (decode_of c.word))
         → (act t (decode_of c.word)).pc ≡ place c.piece 3 → found_in f.halves x.npc % 4 ≡ 0
         → found_in f.halves x.npc ≤ 2 ^ 31
-        → ((b : State) → IsFit g l base p place f h b → b.pc ≡ found_in f.halves x.npc → waiting b ≡ x.npc
-        → Arrives g l base p place f h None c.landing b to 4)
-        → Arrives g l base p place f h None (c.edge ∷ c.landing) (act t (decode_of c.word)) to 24
+        → ((b : State) → IsFit site h b → b.pc ≡ found_in f.halves x.npc → waiting b ≡ x.npc
+        → Arrives site h None c.landing b to 4)
+        → Arrives site h None (c.edge ∷ c.landing) (act t (decode_of c.word)) to 24
     unfolding eased
     onward to fit at aligned low_there behind =
         let a : State = act t (decode_of c.word) in
         let edges = c.edge ∷ [] in
         let n = 3 + length (flat_map l.codes (c.edge ∷ [])) in
         let mid = place c.piece (3 + length (flat_map l.codes (c.edge ∷ []))) in
-        let way = snippets_run g l base p place f h (Some 0) (c.edge ∷ []) c.piece 3 (going_on c.through) rest
+        let way = snippets_run site h (Some 0) (c.edge ∷ []) c.piece 3 (going_on c.through) rest
         (act t (decode_of c.word)) fit at in
-        let one = unwatched g l base p place f h (Some 0) (c.edge ∷ []) a mid 0 way in
-        let low = stood_low g l base p place f h c.piece 3 (flat_map l.codes (c.edge ∷ [])) (going_on c.through) rest in
+        let one = unwatched site h (Some 0) (c.edge ∷ []) a mid 0 way in
+        let low = stood_low site h c.piece 3 (flat_map l.codes (c.edge ∷ [])) (going_on c.through) rest in
         let b : State = hopped way.other mid way.memory in
-        let fit2 = arrived g l base p place f h (c.edge ∷ []) (act t (decode_of c.word)) mid 0 fit low way in
+        let fit2 = arrived site h (c.edge ∷ []) (act t (decode_of c.word)) mid 0 fit low way in
         let r2 : Rest l c.piece (3 + length (flat_map l.codes (c.edge ∷ []))) (going_on c.through) =
         subst (λ z. Rest l c.piece (3 + z) (going_on c.through)) (length_words (flat_map l.codes (c.edge ∷ [])))
         (rest_behind l c.piece 3 (words_on l (c.edge ∷ [])) (going_on c.through) rest) in
         let there = found_in f.halves x.npc in
         let two = goes_found c.through c.piece n c.some c.below r2 b fit2 refl there (way.found (λ e. cc) ∙ found_waits)
         aligned in
-        let fit3 = arrived g l base p place f h [] b there 3 fit2 low_there two in
+        let fit3 = arrived site h [] b there 3 fit2 low_there two in
         let three = behind (hopped two.other there two.memory) fit3 refl (two.waits ∙ way.waits ∙ target_waits) in
-        let both = on_then g l base p place f h c.landing [] c.landing refl b there to 3 4 two three in
-        weaker_arrives g l base p place f h (c.edge ∷ c.landing) a to (0 + (3 + 4)) 24 (omega arith)
-        (on_then g l base p place f h (c.edge ∷ c.landing) (c.edge ∷ []) c.landing refl a mid to 0 (3 + 4) one both)
+        let both = on_then site h c.landing [] c.landing refl b there to 3 4 two three in
+        weaker_arrives site h (c.edge ∷ c.landing) a to (0 + (3 + 4)) 24 (omega arith)
+        (on_then site h (c.edge ∷ c.landing) (c.edge ∷ []) c.landing refl a mid to 0 (3 + 4) one both)
 
-    lands : (to : ℕ) → IsFit g l base p place f h (act t (decode_of c.word))
-        → (act t (decode_of c.word)).pc ≡ place c.piece 3 → Lands g l p f c.landing x.npc to
+    lands : (to : ℕ) → IsFit site h (act t (decode_of c.word))
+        → (act t (decode_of c.word)).pc ≡ place c.piece 3 → Lands site c.landing x.npc to
         → (word_at g.text x.npc ≡ None → to ≡ x.npc)
-        → Arrives g l base p place f h None (c.edge ∷ c.landing) (act t (decode_of c.word)) to 24
+        → Arrives site h None (c.edge ∷ c.landing) (act t (decode_of c.word)) to 24
     lands to fit at (inl (piece, within, found, leads)) out =
         let place_there = h.laid.aligned piece.0 in
         let multiple : found_in f.halves x.npc % 4 ≡ 0 = ap (λ z. z % 4) found ∙ place_there.0 in
         onward to fit at multiple (omega (arith, found, place_there.1)) (λ b fit2 there waits. by b fit2 (there ∙ found) leads)
       where
-        by : (b : State) → IsFit g l base p place f h b → b.pc ≡ slice_index p.at piece.0
+        by : (b : State) → IsFit site h b → b.pc ≡ slice_index p.at piece.0
             → LeadsTo l p piece c.landing (word_at g.text x.npc) to
             ⊎ ((operations_on g.snips c.landing ≡ 0) × (slice_index p.at piece.0 ≡ to))
-            → Arrives g l base p place f h None c.landing b to 4
+            → Arrives site h None c.landing b to 4
         by b fit2 there (inl leads) =
-            unwatched g l base p place f h (word_at g.text x.npc) c.landing b to 4
-            (arrive g l base p place f h piece c.landing b (word_at g.text x.npc) to fit2 there leads)
+            unwatched site h (word_at g.text x.npc) c.landing b to 4
+            (arrive site h piece c.landing b (word_at g.text x.npc) to fit2 there leads)
         by b fit2 there (inr (none, e)) =
             let low = (h.laid.aligned piece.0).1 in
-            bare_here g l base p place f h c.landing b to 4 none fit2 (there ∙ e) (omega (arith, there, low))
+            bare_here site h c.landing b to 4 none fit2 (there ∙ e) (omega (arith, there, low))
     lands to fit at (inr (no_landing, (piece, within, found, is, none))) out =
         let place_there = h.laid.aligned piece.0 in
         let multiple : found_in f.halves x.npc % 4 ≡ 0 = ap (λ z. z % 4) found ∙ place_there.0 in
         onward to fit at multiple (omega (arith, found, place_there.1)) (λ b fit2 there waits.
-        subst (λ z. Arrives g l base p place f h None z b to 4) (sym no_landing)
-        (subst (λ z. Arrives g l base p place f h None [] b z 4) (sym (out none))
+        subst (λ z. Arrives site h None z b to 4) (sym no_landing)
+        (subst (λ z. Arrives site h None [] b z 4) (sym (out none))
         (leaves piece.0 is b fit2 (there ∙ found ∙ h.laid.starts piece.0 within) x.npc waits
         (here.waits c.slot c.out c.caseless).1)))
 
-pub jump_slots_step : JumpSlotsStep
-jump_slots_step g l base p place f node x t h here c apart =
-    marked_step None g l base p place f node x t h here word apart (λ live fit at. (
-      subst (λ z. Arrives g l base p place f h None z (act t (decode_of c.word)) (next_entry g l p f node x t) 24)
-          (sym (c.completes live))
-          (lands g l base p place f h node x t here c (judged_moved g.notes x t (decode_of c.word) apart)
-          (next_entry g l p f node x t) fit at (c.lands live) (out live)),
-      λ there none. absurd (there refl),
-    )) (λ live w. absurd (unwatched_out live w.out))
-  where
     -- along the edge of a jump it isn't told what is stored
     unwatched_out : (does_at g x t).ending ≡ None → NoneIsOut (graph_in g) (gone_at g node x (does_at g x t)) → ⊥
     unwatched_out live none =
         let other = (subst (NoneIsOut (graph_in g)) (c.completes live) none).0 in
         cc
 
-    word : IsMarkedWord g l p f node x
-    word = record {
-      piece = c.piece;
-      within = c.within;
-      here = c.here;
-      address = c.address;
-      original = c.original;
-      word = c.word;
-      is_word = c.is_word;
-      straight = c.straight;
-      rest = _;
-      items = c.items;
-    }
-
     -- outside the text the next visit is at the target itself
-    out : (does_at g x t).ending ≡ None → word_at g.text x.npc ≡ None → next_entry g l p f node x t ≡ x.npc
+    out : (does_at g x t).ending ≡ None → word_at g.text x.npc ≡ None → next_entry site node x t ≡ x.npc
     out live none =
         let is : does_at g x t ≡ act (at_point x t) (decode_of c.word) = ap (on_word (at_point x t)) c.is_word in
         let went = goes_act (at_point x t) (decode_of c.word) c.straight
@@ -262,3 +238,16 @@ jump_slots_step g l base p place f node x t h here c apart =
         let pc : (does_at g x t).pc ≡ x.npc = ap (λ (z : State). z.pc) is ∙ went.0 in
         let slot : (does_at g x t).slot ≡ NoSlot = ap (λ (z : State). z.slot) is ∙ went.2 in
         rw (pc, none, slot) refl
+
+  pub jump_slots_step : (node : Node) (x : Point) (t : State) (here : HereAt site node x t)
+      (c : IsJumpsSlot site node x t) → AllApart (pages_of g.notes) (judged_by (at_point x t) (decode_of c.word))
+      → StepsFrom site node x t
+  jump_slots_step node x t here c apart =
+      let moved = judged_moved g.notes x t (decode_of c.word) apart in
+      marked_step site h node x t here _ c.marked None apart (λ live fit at. (
+        subst (λ z. Arrives site h None z (act t (decode_of c.word)) (next_entry site node x t) 24)
+            (sym (c.completes live))
+            (lands node x t here c moved (next_entry site node x t) fit at (c.lands live)
+            (out node x t here c moved live)),
+        λ there none. absurd (there refl),
+      )) (λ live w. absurd (unwatched_out node x t here c moved live w.out))

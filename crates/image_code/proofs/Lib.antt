@@ -13,6 +13,7 @@ pub mod Between
 pub mod Cells
 pub mod Sparing
 pub mod Arrives
+pub mod EntersBy
 pub mod Cases
 pub mod Couple
 pub mod Dead

@@ -1,5 +1,5 @@
 -- The pieces that are made are images.
-use Rattle.std.proofs.Common.{◌≡◌, ◌≢◌, ℕ, ◌+◌, ◌%◌, ◌^◌, ◌<◌, Bool, true, false, Option, Some, None, List, refl, ap, sym, ◌∙◌}
+use Rattle.std.proofs.Common.{◌≡◌, ◌≢◌, ℕ, Bool, true, false, Option, Some, None, refl, ap, sym, ◌∙◌}
 use Rattle.std.specs.Prelude.{slice_index}
 use Rattle.eel_base.specs.CodeText.{word_at}
 use Rattle.v8_decode.specs.declared.Op2.{Op2}
@@ -13,103 +13,100 @@ use Rattle.v8_step.specs.Items.{is_transfer}
 use Rattle.cfg_blocks.specs.Blocks.{Blocks, blocks_of}
 use Rattle.cfg_normal.specs.declared.Node.{Node}
 use Rattle.cfg_normal.specs.declared.Node.TheVariants.{Block, Landed, X}
-use Rattle.cfg_normal.specs.Nodes.{home_of}
 use Rattle.cfg_normal.specs.Opens.{jumps_in}
-use Rattle.cfg_normal.specs.Graph.{IsNodeIn, has_cases, node_of}
+use Rattle.cfg_normal.specs.Graph.{has_cases}
 use Rattle.cfg_walk.specs.Walk.{Point}
 use Rattle.cfg_walk.specs.Matches.{IsOnItsWay, MatchesBy}
 use Rattle.cfg_walk.proofs.Edges.{block}
-use Rattle.layout.specs.Laid.{Placement, IsLaid}
-use Rattle.image_code.specs.Simulates.{Chooses, MatchesIn, Setting, does_at, graph_in}
-use Rattle.image_code.specs.Images.{Frame, Here}
+use Rattle.image_code.specs.Simulates.{Chooses, MatchesIn, does_at, graph_in}
+use Rattle.image_code.specs.Images.{HereAt}
 use Rattle.image_code.specs.Imaged.{IsCase, call, choice, foreign, jump, off, plain}
-use Rattle.image_code.specs.Made.{AreCasesFor, IsOffNoted, IsTableFor, PiecesMakeImages, edit_pieces}
+use Rattle.image_code.specs.Made.{PiecesMakeImages}
 use Rattle.image_code.specs.Outside.{IsOpen}
 use Rattle.image_code.proofs.BranchImages.{branch_case}
-use Rattle.image_code.proofs.Calls.{calls_step}
 use Rattle.image_code.proofs.CaseTables.{IsKnown, are_tables}
 use Rattle.image_code.proofs.ChoiceImages.{choice_case}
 use Rattle.image_code.proofs.Heads.{foreign_is, off_is, visits}
 use Rattle.image_code.proofs.Imaged.{simulate}
 use Rattle.image_code.proofs.ImageNumbers.{jump_numbered}
 use Rattle.image_code.proofs.JumpImages.{call_is, jump_is}
-use Rattle.image_code.proofs.Jumps.{jumps_step}
 use Rattle.image_code.proofs.KeptLoads.{entered_so}
-use Rattle.image_code.proofs.Landings.{jump_slots_step}
 use Rattle.image_code.proofs.Opened.{cased}
 use Rattle.image_code.proofs.PlainWords.{plain_is}
 use Rattle.image_code.proofs.SlotCopies.{copy_case}
-use Rattle.image_code.proofs.Visited.{l, on_its_way, way_in}
+use Rattle.image_code.proofs.Visited.{AtWord, Edit, site, on_its_way, way_in}
 
-module _ (g : Setting) (codes : ℕ → List ℕ) (is : IsKnown g) (p : Placement) (f : Frame) (base : ℕ)
-    (place : ℕ → ℕ → ℕ) (laid : IsLaid (l g codes is p f).list base p place)
-    (tables : IsTableFor g.text (graph_in g) g.snips p f.table f.halves)
-    (cases : AreCasesFor g.text (graph_in g) p f.cases) (below : f.table.base < base)
-    (noted : IsOffNoted g f.table.base) where
+module _ (edit : Edit) where
+  open edit use {g}
+
   abbrev b : Blocks
   b = blocks_of g.text g.given
 
   -- ---- at a word, outside a slot
 
-  module _ (node : Node) (x : Point) (t : State) (word : ℕ) (at : word_at g.text x.pc ≡ Some word)
-      (none : x.slot ≡ NoSlot)
-      (held : home_of node ≡ node_of b (word_at g.text x.pc)) (there : IsNodeIn b g.switches node)
-      (npc : x.npc ≡ (x.pc + 4) % 2 ^ 32) (live : t.ending ≡ None) (chooses : Chooses g node x t (does_at g x t)) where
+  module _ (node : Node) (x : Point) (visit : AtWord edit node x) (t : State) (live : t.ending ≡ None)
+      (chooses : Chooses g node x t (does_at g x t)) where
     -- a JMPL chooses a Case edge, or its target is looked up
-    jump_case : (rd rs1 : ℕ) (op2 : Op2) → decode_of (slice_index g.text.words word) ≡ i.Jmpl rd rs1 op2
-        → (n : Node) → node ≡ n → (c : Bool) → has_cases g.switches n ≡ c
-        → IsCase g (l g codes is p f) base p place f node x t
+    jump_case : (rd rs1 : ℕ) (op2 : Op2) → decode_of (slice_index g.text.words visit.word) ≡ i.Jmpl rd rs1 op2
+        → (n : Node) → node ≡ n → (c : Bool) → has_cases g.switches n ≡ c → IsCase (site edit) node x t
     jump_case rd rs1 op2 says n same false e =
-        jump (jump_is g codes is p f tables.whole node x word at none held there npc t tables.behind rd rs1 op2 says
+        jump (jump_is edit node x visit t rd rs1 op2 says
         (ap (has_cases g.switches) same ∙ e))
     jump_case rd rs1 op2 says (Block k) same true e =
         let found = jump_numbered g.text b g.switches k.0 e in
-        choice (choice_case g codes is p f tables.whole cases node x word at none held there npc t tables.behind
+        choice (choice_case edit node x visit t
         rd rs1 op2 says chooses found.0 found.1 found.3 found.2 (ap (jumps_in g.switches) found.4 ∙ e)
         (same ∙ ap block (sym found.4)))
     jump_case rd rs1 op2 says (Landed k) same true e = absurd (cc)
     jump_case rd rs1 op2 says X same true e = absurd (cc)
 
-    by_instr : (instr : Instr) → decode_of (slice_index g.text.words word) ≡ instr
-        → IsCase g (l g codes is p f) base p place f node x t
-    by_instr (i.Branch cond annul disp) says =
-        branch_case g codes is p f tables.whole node x word at none held there npc cond annul disp says t base place
-        live
-    by_instr (i.Call disp) says =
-        call (call_is g codes is p f tables.whole node x word at none held there npc t disp says live)
+    by_instr : (instr : Instr) → decode_of (slice_index g.text.words visit.word) ≡ instr → IsCase (site edit) node x t
+    by_instr (i.Branch cond annul disp) says = branch_case edit node x visit cond annul disp says t live
+    by_instr (i.Call disp) says = call (call_is edit node x visit t disp says live)
     by_instr (i.Jmpl rd rs1 op2) says = jump_case rd rs1 op2 says node refl (has_cases g.switches node) refl
-    by_instr instr says =
-        plain (plain_is g codes is p f base place laid node x t word at none held there npc (ap is_transfer says))
+    by_instr instr says = plain (plain_is edit node x visit t (ap is_transfer says))
 
   -- ---- everywhere
 
   case : (node : Node) (x : Point) (t : State) → MatchesIn g node x → IsOpen g x
-      → Here g (l g codes is p f) base p f node x t → Chooses g node x t (does_at g x t)
-      → IsCase g (l g codes is p f) base p place f node x t
+      → HereAt (site edit) node x t → Chooses g node x t (does_at g x t) → IsCase (site edit) node x t
   case node x t m open_there here chooses = by x.slot refl m.0 (word_at g.text x.pc) refl
     where
-      in_slot : x.slot ≢ NoSlot → IsOnItsWay g.text (graph_in g) node x (way_in g codes is p f x) → (o : Option ℕ)
-          → word_at g.text x.pc ≡ o → IsCase g (l g codes is p f) base p place f node x t
-      in_slot not way None e = off (off_is g codes is p f base below noted node x not e way)
-      in_slot not way (Some slot) e = copy_case g codes is p f base place tables node x t here slot e not way
+      in_slot : x.slot ≢ NoSlot → IsOnItsWay g.text (graph_in g) node x (way_in edit x) → (o : Option ℕ)
+          → word_at g.text x.pc ≡ o → IsCase (site edit) node x t
+      in_slot not way None e = off (off_is edit node x not e way)
+      in_slot not way (Some slot) e = copy_case edit node x t here slot e not way
 
       by : (s : Slot) → x.slot ≡ s → MatchesBy g.text (graph_in g) node x s → (o : Option ℕ) → word_at g.text x.pc ≡ o
-          → IsCase g (l g codes is p f) base p place f node x t
-      by NoSlot none m0 None e = foreign (foreign_is g codes is p f node x none e m0.0 open_there)
+          → IsCase (site edit) node x t
+      by NoSlot none m0 None e = foreign (foreign_is edit node x none e m0.0 open_there)
       by NoSlot none m0 (Some word) e =
-          by_instr node x t word e none m0.0 m.1 m0.1 here.live chooses (decode_of (slice_index g.text.words word)) refl
+          by_instr node x
+          (record { word = word; at = e; none = none; held = m0.0; there = m.1; npc = m0.1 }) t here.live chooses (decode_of (slice_index g.text.words word)) refl
       by s some m0 o e =
           let not : x.slot ≢ NoSlot = λ n. let q : s ≡ NoSlot = sym some ∙ n in absurd (cc) in
-          in_slot not (on_its_way g codes is p f node x s some (λ q. absurd (cc)) m0) o e
+          in_slot not (on_its_way edit node x s some (λ q. absurd (cc)) m0) o e
 
 pub pieces_make_images : PiecesMakeImages
 pieces_make_images g codes base p place f text graph known placed tables cases below noted =
     let is : IsKnown g = record { text = text; cased = cased g text graph; known = known } in
-    simulate calls_step jumps_step jump_slots_step g (edit_pieces g f codes) base p place f placed
-    (record {
-      visits = visits g codes is p f base below noted;
-      cases = λ node x t m open_there here _ chooses.
-          case g codes is p f base place placed.laid tables cases below noted node x t m open_there here chooses;
+    let edit : Edit = record {
+      g = g;
+      codes = codes;
+      base = base;
+      p = p;
+      place = place;
+      f = f;
+      is = is;
+      placed = placed;
+      tables = tables;
+      cases = cases;
+      below = below;
+      noted = noted;
+    } in
+    simulate (site edit) placed (record {
+      visits = visits edit;
+      cases = λ node x t m clear here _ chooses. case edit node x t m clear here chooses;
       opens = are_tables g known text is.cased;
-      enters = entered_so g codes is p f base place placed.laid;
+      enters = entered_so edit;
     })

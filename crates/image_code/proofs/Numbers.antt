@@ -1,9 +1,8 @@
 -- What is known of the graph of a text.
-use Rattle.std.proofs.Common.{◌≡◌, ◌≤◌, length, refl, ap, sym, subst}
+use Rattle.std.proofs.Common.{◌≡◌, length, refl, ap, sym, subst}
 use Rattle.eel_base.specs.CodeText.{Words}
 use Rattle.cfg_blocks.specs.Blocks.{blocks_of}
 use Rattle.cfg_normal.specs.Graph.{Graph, edges_in, graph_of}
-use Rattle.cfg_walk.proofs.Cut.{IsCut, cut}
 use Rattle.image_code.specs.Graphs.{IsGraphOf}
 
 module _ (text : Words) (graph : Graph) (h : IsGraphOf text graph) where
@@ -16,6 +15,3 @@ module _ (text : Words) (graph : Graph) (h : IsGraphOf text graph) where
 
   pub graph_is : graph ≡ graph_of graph.blocks graph.opens
   graph_is = subst (λ (g : Graph). g ≡ graph_of g.blocks g.opens) (sym h.is) refl
-
-  pub cut_of : 1 ≤ length text.words → IsCut text graph.blocks
-  cut_of some = subst (λ (g : Graph). IsCut text g.blocks) (sym h.is) (cut text h.given some)

@@ -21,7 +21,7 @@ use Rattle.cfg_blocks.specs.Ends.{end_at, end_by, is_transfer as ends_block_afte
 use Rattle.cfg_blocks.proofs.Targets.{word_at-some}
 use Rattle.cfg_normal.specs.declared.Node.{Node}
 use Rattle.cfg_normal.specs.Nodes.{home_of, same_node}
-use Rattle.cfg_normal.specs.Graph.{IsNodeIn, node_of}
+use Rattle.cfg_normal.specs.Graph.{node_of}
 use Rattle.cfg_walk.specs.Walk.{Point, left_by, node_after, point_of}
 use Rattle.cfg_walk.proofs.Addresses.{next_address, next_word}
 use Rattle.cfg_walk.proofs.Cut.{IsCut}
@@ -31,20 +31,19 @@ use Rattle.cfg_walk.proofs.Leaving.{end_is, is_in, node_is}
 use Rattle.jump_code.specs.Pieces.{far_piece}
 use Rattle.layout.specs.declared.items.Item.{Item}
 use Rattle.layout.specs.declared.items.Item.TheVariants as it
-use Rattle.layout.specs.Laid.{Placement, IsLaid, item_at, is_jump, size_of}
-use Rattle.image_code.specs.Simulates.{Setting, at_point, does_at, gone_at, graph_in, number_in}
-use Rattle.image_code.specs.Images.{Frame, entered_at}
+use Rattle.layout.specs.Laid.{item_at, is_jump, size_of}
+use Rattle.image_code.specs.Simulates.{at_point, does_at, gone_at, graph_in, number_in}
+use Rattle.image_code.specs.Images.{entered_at}
 use Rattle.image_code.specs.Cases.{IsFar, IsPlain, JumpsOn, LeadsOn, plain_piece, words_on}
 use Rattle.image_code.specs.Made.{is_slots, jump_to, jumps_at, next_at, next_to}
 use Rattle.image_code.specs.Numbered.{enter_number, image_number, node_in_order}
 use Rattle.image_code.proofs.Branches.{image_straight, within_some}
-use Rattle.image_code.proofs.CaseTables.{IsKnown}
 use Rattle.image_code.proofs.EdgePieces.{cut_in}
 use Rattle.image_code.proofs.Following.{compare_apart, compare_inner, held_next, inner_edges, jump_apart, jump_inner, next_in_order, next_low, some_edge}
 use Rattle.image_code.proofs.ImageNumbers.{HasImage, at_compare, at_jump, enters_in_order, in_order}
 use Rattle.image_code.proofs.ImagePieces.{compare_next, enter_at, jump_next}
 use Rattle.image_code.proofs.Listed.{order_at}
-use Rattle.image_code.proofs.Visited.{entered_none, entered_word, has_its_image, image_items, l, left_gone, visited_word, word_is}
+use Rattle.image_code.proofs.Visited.{AtWord, Edit, at_image, site, entered_none, entered_word, has_its_image, image_items, l, left_gone, word_is}
 
 last_one : (n count : ℕ) → within count n ≡ None → count ≤ n
 last_one n count e = grind (arith, nat_tests)
@@ -63,12 +62,10 @@ transfer_end text word (i.Call disp30) e = refl
 transfer_end text word (i.Jmpl rd rs1 op2) e = refl
 transfer_end text word _ e = absurd (cc)
 
-module _ (g : Setting) (codes : ℕ → List ℕ) (is : IsKnown g) (p : Placement) (f : Frame) (base : ℕ)
-    (place : ℕ → ℕ → ℕ) (laid : IsLaid (l g codes is p f).list base p place)
-    (node : Node) (x : Point) (t : State) (word : ℕ) (at : word_at g.text x.pc ≡ Some word) (none : x.slot ≡ NoSlot)
-    (held : home_of node ≡ node_of (blocks_of g.text g.given) (word_at g.text x.pc))
-    (there : IsNodeIn (blocks_of g.text g.given) g.switches node) (npc : x.npc ≡ (x.pc + 4) % 2 ^ 32)
-    (straight : is_transfer (decode_of (slice_index g.text.words word)) ≡ false) where
+module _ (edit : Edit) (node : Node) (x : Point) (visit : AtWord edit node x) (t : State) (straight : is_transfer (decode_of (slice_index edit.g.text.words visit.word)) ≡ false) where
+  open edit use {g, codes, is, p, place, f, placed.{laid}}
+  open visit use {word, at, none, held, there, npc}
+
   abbrev b : Blocks
   b = blocks_of g.text g.given
 
@@ -80,7 +77,7 @@ module _ (g : Setting) (codes : ℕ → List ℕ) (is : IsKnown g) (p : Placemen
   edges = left_by (graph_in g) node word instr
 
   abbrev code : List Item
-  code = words_on (l g codes is p f) edges
+  code = words_on (l edit) edges
 
   -- the piece of the word's image
   abbrev number : ℕ
@@ -99,31 +96,30 @@ module _ (g : Setting) (codes : ℕ → List ℕ) (is : IsKnown g) (p : Placemen
   home = held ∙ ap (node_of b) at ∙ node_is b word in_text
 
   has : HasImage g.text b g.switches node word
-  has = has_its_image g codes is p f node x word at held there
+  has = has_its_image edit node x word at held there
 
   abbrev image : List Item → List Item
   image rest = plain_piece (record { 0 = address_of g.text word }) (number_in g node)
       (slice_index g.text.words word) rest
 
-  found : slice_get (l g codes is p f).list number
+  found : slice_get (l edit).list number
       ≡ Some (image (code ++ next_at g.text (graph_in g) node word))
   found =
-      image_items g codes is p f node x word at has instr refl
+      image_items edit node x word at has instr refl
       ∙ ap (λ z. Some z) (image_straight g.text (graph_in g) (jumps_at g.text f.table.base) f.cases.base codes
       (record { 0 = address_of g.text word }) node word instr straight)
 
   -- ---- the next piece
 
   -- a piece that ends behind the words of its snippets goes on in the next one
-  next_begins : (k : ℕ) → slice_get (l g codes is p f).list k ≡ Some (image code)
-      → suc k < length (l g codes is p f).list
+  next_begins : (k : ℕ) → slice_get (l edit).list k ≡ Some (image code) → suc k < length (l edit).list
       → place k (3 + length (flat_map codes edges)) ≡ slice_index p.at (suc k)
   next_begins k ends after =
       let many : length code ≡ length (flat_map codes edges) = length-map (flat_map codes edges) it.Word in
-      let size : size_of (l g codes is p f).list k ≡ 3 + length (flat_map codes edges) =
+      let size : size_of (l edit).list k ≡ 3 + length (flat_map codes edges) =
       rw ends (omega arith) in
       let last : 3 + length (flat_map codes edges) - 1 ≡ suc (suc (length (flat_map codes edges))) = omega arith in
-      let closed : is_jump (item_at (l g codes is p f).list k (size_of (l g codes is p f).list k - 1)) ≡ false =
+      let closed : is_jump (item_at (l edit).list k (size_of (l edit).list k - 1)) ≡ false =
       rw (size, last, ends) (ends_without_jump it.EndMark (flat_map codes edges) refl) in
       ap (place k) (sym size) ∙ laid.falls k after closed ∙ sym (laid.starts (suc k) after)
 
@@ -149,8 +145,8 @@ module _ (g : Setting) (codes : ℕ → List ℕ) (is : IsKnown g) (p : Placemen
       }
 
   abbrev LeadsFrom : ℕ → List ℕ → State → Type 0
-  LeadsFrom k gone v = LeadsOn (l g codes is p f) p place k 3 gone (word_at g.text v.pc)
-      (entered_at g (l g codes is p f) p f (node_after (graph_in g) node gone) (point_of v))
+  LeadsFrom k gone v = LeadsOn (l edit) p place k 3 gone (word_at g.text v.pc)
+      (entered_at (site edit) (node_after (graph_in g) node gone) (point_of v))
 
   -- ---- in the order of the text
 
@@ -160,15 +156,15 @@ module _ (g : Setting) (codes : ℕ → List ℕ) (is : IsKnown g) (p : Placemen
     on more jumps =
         if more then (if jumps then jump_to (word + 1) else []) else far_piece (address_of g.text (length g.text.words))
 
-    found_in_order : slice_get (l g codes is p f).list number ≡ Some (image (code ++ next_to g.text word))
+    found_in_order : slice_get (l edit).list number ≡ Some (image (code ++ next_to g.text word))
     found_in_order = rw (← same, same_itself node) at found
 
     with_rest : (more jumps : Bool) → nat_lt (word + 1) (length g.text.words) ≡ more → is_slots g.text word ≡ jumps
-        → slice_get (l g codes is p f).list number ≡ Some (image (code ++ on more jumps))
+        → slice_get (l edit).list number ≡ Some (image (code ++ on more jumps))
     with_rest more jumps e s = rw (← e, ← s) found_in_order
 
     ends : word + 1 < length g.text.words → is_slots g.text word ≡ false
-        → slice_get (l g codes is p f).list number ≡ Some (image code)
+        → slice_get (l edit).list number ≡ Some (image code)
     ends more alone = rw append-nil at (with_rest true false (lt-ltb _ _ more) alone)
 
     -- a slot's word ends its block
@@ -186,7 +182,7 @@ module _ (g : Setting) (codes : ℕ → List ℕ) (is : IsKnown g) (p : Placemen
 
     -- so its image may end in a Jump
     jumps_on : word + 1 < length g.text.words → is_slots g.text word ≡ true → (next : Option ℕ) (to : ℕ)
-        → slice_index p.at (word + 1) ≡ to → JumpsOn (l g codes is p f) p number 3 edges next to
+        → slice_index p.at (word + 1) ≡ to → JumpsOn (l edit) p number 3 edges next to
     jumps_on more slots next to leads = record {
       first = edges;
       others = [];
@@ -201,14 +197,13 @@ module _ (g : Setting) (codes : ℕ → List ℕ) (is : IsKnown g) (p : Placemen
         → place number (3 + length (flat_map codes edges)) ≡ slice_index p.at (word + 1)
     falls more alone =
         let next : suc number ≡ word + 1 = omega (arith, is_number) in
-        let after : suc number < length (l g codes is p f).list =
-        subst (λ (n : ℕ). n < length (l g codes is p f).list) (sym next)
-        (slice_get_within (l g codes is p f).list (word + 1) _
+        let after : suc number < length (l edit).list =
+        subst (λ (n : ℕ). n < length (l edit).list) (sym next)
+        (slice_get_within (l edit).list (word + 1) _
         (order_at g.text b g.switches is.cased f.table.base f.cases.base codes (word + 1) more)) in
         next_begins number (ends more alone) after ∙ ap (slice_index p.at) next
 
-    leaves : length g.text.words ≤ word + 1
-        → option_map (drop 3) (slice_get (l g codes is p f).list number)
+    leaves : length g.text.words ≤ word + 1 → option_map (drop 3) (slice_get (l edit).list number)
         ≡ Some (code ++ far_piece (address_of g.text (length g.text.words)))
     leaves last = ap (option_map (drop 3)) (with_rest false (is_slots g.text word) (le-ltb _ _ last) refl)
 
@@ -228,14 +223,14 @@ module _ (g : Setting) (codes : ℕ → List ℕ) (is : IsKnown g) (p : Placemen
             let pc : v.pc ≡ address_of g.text (length g.text.words) =
             w.pc ∙ npc ∙ ap (λ (a : ℕ). (a + 4) % 2 ^ 32) (word_at-some g.text x.pc word at).is
             ∙ next_address g.text word is.text low ∙ ap (address_of g.text) end in
-            subst (LeadsOn (l g codes is p f) p place number 3 edges (word_at g.text v.pc))
-            (sym (entered_none g codes is p f after (point_of v) none_there w.slot ∙ pc))
+            subst (LeadsOn (l edit) p place number 3 edges (word_at g.text v.pc))
+            (sym (entered_none edit after (point_of v) none_there w.slot ∙ pc))
             (inr (inr (none_there, end_far, leaves last)))
         by (Some other) some =
             let next = within_some (length g.text.words) (word + 1) other (sym w.reaches ∙ some) in
             let on_word : word_at g.text v.pc ≡ Some (word + 1) = some ∙ ap (λ (z : ℕ). Some z) (sym next.1) in
-            let to : slice_index p.at (word + 1) ≡ entered_at g (l g codes is p f) p f after (point_of v) =
-            sym (entered_word g codes is p f after (point_of v) (word + 1) on_word w.slot
+            let to : slice_index p.at (word + 1) ≡ entered_at (site edit) after (point_of v) =
+            sym (entered_word edit after (point_of v) (word + 1) on_word w.slot
             ∙ ap (λ (n : Node). slice_index p.at (enter_number g.text (graph_in g) n (word + 1)))
             (next_in_order g is node word in_text home there straight (omega (arith, next.0, cut.words)) same)
             ∙ ap (slice_index p.at) (enters_in_order g.text b g.switches is.cased (word + 1))) in
@@ -256,16 +251,16 @@ module _ (g : Setting) (codes : ℕ → List ℕ) (is : IsKnown g) (p : Placemen
     more : word + 1 < length g.text.words
     more = omega (arith, next_low g is node word in_text home there straight inner, cut.words)
 
-    ends_apart : slice_get (l g codes is p f).list number ≡ Some (image code)
+    ends_apart : slice_get (l edit).list number ≡ Some (image code)
     ends_apart = rw (apart, append-nil) at found
 
     falls_apart : place number (3 + length (flat_map codes edges))
         ≡ slice_index p.at (enter_number g.text (graph_in g) node (word + 1))
     falls_apart =
         let next = enter_at g is f.table.base f.cases.base codes node (word + 1) more next_has in
-        let after : suc number < length (l g codes is p f).list =
-        slice_get_within (l g codes is p f).list (suc number) _
-        (ap (slice_get (l g codes is p f).list) (sym follows) ∙ next.1) in
+        let after : suc number < length (l edit).list =
+        slice_get_within (l edit).list (suc number) _
+        (ap (slice_get (l edit).list) (sym follows) ∙ next.1) in
         next_begins number ends_apart after ∙ ap (slice_index p.at) (sym follows)
 
     apart_goes : (v : State) → Goes v → LeadsFrom number edges v
@@ -276,7 +271,7 @@ module _ (g : Setting) (codes : ℕ → List ℕ) (is : IsKnown g) (p : Placemen
           falls_apart
               ∙ ap (λ (n : Node). slice_index p.at (enter_number g.text (graph_in g) n (word + 1)))
               (sym (ap (node_after (graph_in g) node) nothing))
-              ∙ sym (entered_word g codes is p f (node_after (graph_in g) node edges) (point_of v)
+              ∙ sym (entered_word edit (node_after (graph_in g) node edges) (point_of v)
               (word + 1) on_word w.slot),
         )
 
@@ -302,17 +297,9 @@ module _ (g : Setting) (codes : ℕ → List ℕ) (is : IsKnown g) (p : Placemen
       let w = goes_to v e live in
       subst (λ (gone : List ℕ). LeadsFrom number gone v) (sym w.completes) (by_image has v w)
 
-  pub plain_is : IsPlain g (l g codes is p f) p place f node x t
+  pub plain_is : IsPlain (site edit) node x t
   plain_is = record {
-    piece = number;
-    within = slice_get_within (l g codes is p f).list number _ found;
-    here = visited_word g codes is p f node x word at none;
-    address = record { 0 = address_of g.text word };
-    original = sym (word_at-some g.text x.pc word at).is;
-    word = slice_index g.text.words word;
-    is_word = word_is g x word at;
-    straight = straight;
     rest = code ++ next_at g.text (graph_in g) node word;
-    items = found;
+    marked = record { marked = at_image edit node x visit _ found; straight = straight };
     leads = λ live. goes (does_at g x t) refl live;
   }

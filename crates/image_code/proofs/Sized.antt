@@ -30,7 +30,7 @@ use Rattle.cfg_walk.proofs.Leaving.{straight_left}
 use Rattle.cfg_walk.proofs.Lists.{Each, each, each-below}
 use Rattle.cfg_walk.proofs.Nodes.{lands_as}
 use Rattle.snippets.specs.declared.snippet.Op.{Op}
-use Rattle.image_code.specs.Simulates.{snippet_on}
+use Rattle.image_code.specs.Store.{snippet_on}
 use Rattle.image_code.specs.Numbered.{node_in_order, own_edges}
 use Rattle.image_code.specs.Fit.{AreShort, copies_of, is_at, operations_from, operations_in, targets_from, words_at}
 use Rattle.image_code.proofs.OpenBlocks.{IsTextGraph}

@@ -29,14 +29,16 @@ use Rattle.code_runs.specs.Page.{page_word}
 use Rattle.code_runs.proofs.StoredWords.{memory_word-range}
 use Rattle.jump_code.specs.Pieces.{far_piece, found_piece}
 use Rattle.layout.specs.declared.items.Item.{Item}
-use Rattle.layout.specs.Laid.{Placement}
-use Rattle.image_code.specs.Simulates.{Setting, at_point, does_at, gone_at, graph_in, number_in, is_out, operations_on}
-use Rattle.image_code.specs.Images.{Frame, Here, HasNoCases, entered_at, visited_at}
-use Rattle.image_code.specs.Cases.{IsFar, LeadsOn, plain_piece, words_on}
+use Rattle.layout.specs.declared.items.Item.TheVariants as it
+use Rattle.image_code.specs.Simulates.{Setting, at_point, does_at, gone_at, graph_in, number_in}
+use Rattle.image_code.specs.Cost.{is_out}
+use Rattle.image_code.specs.Store.{operations_on}
+use Rattle.image_code.specs.Images.{HasNoCases, HereAt, entered_at, visited_at}
+use Rattle.image_code.specs.Cases.{IsMarked, IsMarkedWord, IsFar, LeadsOn, plain_piece, words_on}
 use Rattle.image_code.specs.Couple.{couple_piece}
 use Rattle.image_code.specs.Landings.{Lands}
 use Rattle.image_code.specs.Imaged.{IsCase, plain, couple, landing as jumps_slot}
-use Rattle.image_code.specs.Made.{IsTableFor, couple_word, first_word, goes_along, goes_on, jump_to, past_slot}
+use Rattle.image_code.specs.Made.{couple_word, first_word, goes_along, goes_on, jump_to, past_slot}
 use Rattle.image_code.specs.Numbered.{enter_number, foreign_number, landing_number}
 use Rattle.image_code.proofs.CaseTables.{IsKnown, table_of}
 use Rattle.image_code.proofs.EdgePieces.{IsAlong, along_far, cut_in}
@@ -46,7 +48,7 @@ use Rattle.image_code.proofs.Heads.{HasCopy, by_cases, case_copy, copy_visited, 
 use Rattle.image_code.proofs.ImageNumbers.{jump_of}
 use Rattle.image_code.proofs.ImagePieces.{enter_at, stands_at}
 use Rattle.image_code.proofs.Listed.{foreign_at, landing_at}
-use Rattle.image_code.proofs.Visited.{case_kind, edge_is, entered_none, entered_word, kind_is, l, slot_gone, target, way_in, way_now, word_is}
+use Rattle.image_code.proofs.Visited.{Edit, site, case_kind, edge_is, entered_none, entered_word, kind_is, l, slot_gone, target, way_in, way_now, word_is}
 
 -- ---- where control goes on at a node
 
@@ -83,12 +85,13 @@ no_cases g is node none k table e same =
     let t = table_of g is.known k table e in
     false≢true (sym none ∙ rw (same, ← t.same) (jump_of g.text (blocks_of g.text g.given) g.switches k t.o t.is))
 
-module _ (g : Setting) (codes : ℕ → List ℕ) (is : IsKnown g) (p : Placement) (f : Frame) (base : ℕ)
-    (place : ℕ → ℕ → ℕ) (tables : IsTableFor g.text (graph_in g) g.snips p f.table f.halves)
-    (node : Node) (x : Point) (t : State) (here : Here g (l g codes is p f) base p f node x t)
-    (slot : ℕ) (at : word_at g.text x.pc ≡ Some slot) (not : x.slot ≢ NoSlot)
-    (way : IsOnItsWay g.text (graph_in g) node x (way_in g codes is p f x)) (piece to : ℕ)
-    (copy : HasCopy g codes is p f node x slot at way piece to) where
+module _ (edit : Edit)
+    (node : Node) (x : Point) (t : State) (here : HereAt (site edit) node x t)
+    (slot : ℕ) (at : word_at edit.g.text x.pc ≡ Some slot) (not : x.slot ≢ NoSlot)
+    (way : IsOnItsWay edit.g.text (graph_in edit.g) node x (way_in edit x)) (piece to : ℕ)
+    (copy : HasCopy edit node x slot at way piece to) where
+  open edit use {g, codes, is, p, place, f, tables}
+
   abbrev b : Blocks
   b = blocks_of g.text g.given
 
@@ -100,7 +103,7 @@ module _ (g : Setting) (codes : ℕ → List ℕ) (is : IsKnown g) (p : Placemen
 
   -- where the machine is after the step
   abbrev Visit : State → ℕ
-  Visit v = entered_at g (l g codes is p f) p f (node_after (graph_in g) node (gone_at g node x v)) (point_of v)
+  Visit v = entered_at (site edit) (node_after (graph_in g) node (gone_at g node x v)) (point_of v)
 
   abbrev copy_by : Bool → List Item
   copy_by transfer =
@@ -109,18 +112,32 @@ module _ (g : Setting) (codes : ℕ → List ℕ) (is : IsKnown g) (p : Placemen
 
   -- the snippet of the edge
   abbrev code : List Item
-  code = words_on (l g codes is p f) (way.number ∷ [])
+  code = words_on (l edit) (way.number ∷ [])
 
-  its_edge : IsAlong g is f.table.base f.cases.base node (way_now g codes is p f node x) way.number way.edge
-  its_edge = edge_is g codes is p f node x way
+  its_edge : IsAlong g is f.table.base f.cases.base node (way_now edit node x) way.number way.edge
+  its_edge = edge_is edit node x way
 
-  made : (b : Bool) → is_transfer (decode_of word) ≡ b → slice_get (l g codes is p f).list piece ≡ Some (copy_by b)
+  made : (b : Bool) → is_transfer (decode_of word) ≡ b → slice_get (l edit).list piece ≡ Some (copy_by b)
   made b e = copy.items ∙ rw e
 
-  stands : visited_at g (l g codes is p f) p f node x ≡ slice_index p.at piece
-  stands = copy_visited g codes is p f node x slot at way piece to copy not
+  stands : visited_at (site edit) node x ≡ slice_index p.at piece
+  stands = copy_visited edit node x slot at way piece to copy not
 
   -- ---- a word that is no transfer
+
+  abbrev at_copy : (behind : Addr → ℕ → List Item)
+      → slice_get (l edit).list piece ≡ Some (it.Mark address (number_in g node) ∷ behind address word)
+      → IsMarked (site edit) node x behind
+  at_copy behind items = record {
+    piece = piece;
+    within = slice_get_within (l edit).list piece _ items;
+    here = stands;
+    address = address;
+    original = sym (word_at-some g.text x.pc slot at).is;
+    word = word;
+    is_word = word_is g x slot at;
+    items = items;
+  }
 
   module _ (straight : is_transfer (decode_of word) ≡ false) where
     abbrev past_by : Bool → List Item
@@ -128,8 +145,7 @@ module _ (g : Setting) (codes : ℕ → List ℕ) (is : IsKnown g) (p : Placemen
         if out then found_piece address (number_in g node) word code 1
         else plain_piece address (number_in g node) word (goes_along g.text (graph_in g) codes way.number way.edge to)
 
-    past : (b : Bool) → same_kind way.edge.kind kinds.Out ≡ b
-        → slice_get (l g codes is p f).list piece ≡ Some (past_by b)
+    past : (b : Bool) → same_kind way.edge.kind kinds.Out ≡ b → slice_get (l edit).list piece ≡ Some (past_by b)
     past b e = made false straight ∙ rw e
 
     went : (v : State) → does_at g x t ≡ v → v.ending ≡ None → (v.pc ≡ x.npc) × (v.slot ≡ NoSlot)
@@ -140,7 +156,7 @@ module _ (g : Setting) (codes : ℕ → List ℕ) (is : IsKnown g) (p : Placemen
         rw same (w.0, w.2)
 
     gone_left : (v : State) → v.pc ≡ x.npc → v.slot ≡ NoSlot → v.ending ≡ None
-        → gone_at g node x v ≡ slot_left g.text (graph_in g) node (way_in g codes is p f x) x.npc
+        → gone_at g node x v ≡ slot_left g.text (graph_in g) node (way_in edit x) x.npc
     gone_left v pc after live = slot_gone g node x v not after live ∙ rw pc
 
     gone_along : (v : State) → v.pc ≡ x.npc → v.slot ≡ NoSlot → v.ending ≡ None
@@ -159,13 +175,18 @@ module _ (g : Setting) (codes : ℕ → List ℕ) (is : IsKnown g) (p : Placemen
         ⊎ ((w : ℕ) × (word_at g.text x.npc ≡ Some w) × (on_there
         ≡ jump_to (enter_number g.text (graph_in g) way.edge.to w)))
 
+    abbrev marked : (rest : List Item)
+        → slice_get (l edit).list piece ≡ Some (plain_piece address (number_in g node) word rest)
+        → IsMarkedWord (site edit) node x rest
+    marked rest items = record { marked = at_copy _ items; straight = straight }
+
     module _ (other : same_kind way.edge.kind kinds.Out ≡ false) (ends : Ends) where
       items : (rest : List Item) → on_there ≡ rest
-          → slice_get (l g codes is p f).list piece ≡ Some (plain_piece address (number_in g node) word (code ++ rest))
+          → slice_get (l edit).list piece ≡ Some (plain_piece address (number_in g node) word (code ++ rest))
       items rest e = past false other ∙ rw e
 
       goes : (v : State) → does_at g x t ≡ v → v.ending ≡ None
-          → LeadsOn (l g codes is p f) p place piece 3 (gone_at g node x v) (word_at g.text v.pc) (Visit v)
+          → LeadsOn (l edit) p place piece 3 (gone_at g node x v) (word_at g.text v.pc) (Visit v)
       goes v e live =
           let w = went v e live in
           rw (gone_along v w.0 w.1 live, not_landed g.text (graph_in g) way.edge.kind x.npc other)
@@ -175,13 +196,13 @@ module _ (g : Setting) (codes : ℕ → List ℕ) (is : IsKnown g) (p : Placemen
           after = node_after (graph_in g) node (way.number ∷ [])
 
           Leads : Type 0
-          Leads = LeadsOn (l g codes is p f) p place piece 3 (way.number ∷ []) (word_at g.text v.pc)
-              (entered_at g (l g codes is p f) p f after (point_of v))
+          Leads = LeadsOn (l edit) p place piece 3 (way.number ∷ []) (word_at g.text v.pc)
+              (entered_at (site edit) after (point_of v))
 
           leaves : (v.pc ≡ x.npc) × (v.slot ≡ NoSlot)
               → (word_at g.text x.npc ≡ None) × IsFar x.npc × (on_there ≡ far_piece x.npc) → Leads
           leaves w (none, far, there) =
-              rw (entered_none g codes is p f after (point_of v) (rw w.0 none) w.1, w.0)
+              rw (entered_none edit after (point_of v) (rw w.0 none) w.1, w.0)
               (inr (inr (none, far, ap (option_map (drop 3)) (items (far_piece x.npc) there))))
 
           goes_to : (v.pc ≡ x.npc) × (v.slot ≡ NoSlot)
@@ -195,29 +216,21 @@ module _ (g : Setting) (codes : ℕ → List ℕ) (is : IsKnown g) (p : Placemen
                 some = λ e. absurd (cc);
                 piece = record { 0 = enter_number g.text (graph_in g) way.edge.to n };
                 rest = ap (option_map (drop 3)) (items _ there);
-                leads = inl (refl, rw (entered_word g codes is p f after (point_of v) n (rw w.0 some) w.1, way.is) refl);
+                leads = inl (refl, rw (entered_word edit after (point_of v) n (rw w.0 some) w.1, way.is) refl);
               }))
 
-      plain_case : IsCase g (l g codes is p f) base p place f node x t
+      plain_case : IsCase (site edit) node x t
       plain_case = plain (record {
-        piece = piece;
-        within = slice_get_within (l g codes is p f).list piece _ (items _ refl);
-        here = stands;
-        address = address;
-        original = sym (word_at-some g.text x.pc slot at).is;
-        word = word;
-        is_word = word_is g x slot at;
-        straight = straight;
         rest = code ++ on_there;
-        items = items _ refl;
+        marked = marked _ (items _ refl);
         leads = λ live. goes (does_at g x t) refl live;
       })
 
     -- the ways but for a JMPL's
-    module _ (other : same_kind (way_in g codes is p f x) kinds.Out ≡ false)
+    module _ (other : same_kind (way_in edit x) kinds.Out ≡ false)
         (first : to ≡ first_word (graph_in g) way.edge.to) where
-      kind : way.edge.kind ≡ way_in g codes is p f x
-      kind = kind_is g codes is p f node x way (λ out. absurd (false≢true (sym other ∙ out)))
+      kind : way.edge.kind ≡ way_in edit x
+      kind = kind_is edit node x way (λ out. absurd (false≢true (sym other ∙ out)))
 
       there : on_there ≡ goes_on g.text (graph_in g) way.edge.to (first_word (graph_in g) way.edge.to) x.npc
       there = rw (first, its_edge.leaves, kind, ← (way.goes other))
@@ -226,7 +239,7 @@ module _ (g : Setting) (codes : ℕ → List ℕ) (is : IsKnown g) (p : Placemen
       npc_far =
           let w = word_at-some g.text x.pc slot at in
           rw (way.goes other)
-          (along_far g.text (last_in (graph_in g) node) (way_in g codes is p f x)
+          (along_far g.text (last_in (graph_in g) node) (way_in edit x)
           (decode_of (slice_index g.text.words (last_in (graph_in g) node))) is.text (omega (arith, w.is, w.within, way.pc)))
 
       plain_ends : Ends
@@ -238,12 +251,12 @@ module _ (g : Setting) (codes : ℕ → List ℕ) (is : IsKnown g) (p : Placemen
           by (Some w) e =
               inr (w, e, there ∙ goes_begins g.text (graph_in g) way.edge.to x.npc w (rw e at (way.leads other).0))
 
-      other_case : IsCase g (l g codes is p f) base p place f node x t
+      other_case : IsCase (site edit) node x t
       other_case = plain_case (rw kind other) plain_ends
 
     -- ---- a Case edge leads to where a run lands
 
-    module _ (out : same_kind (way_in g codes is p f x) kinds.Out ≡ true) (cased : has_cases g.switches node ≡ true)
+    module _ (out : same_kind (way_in edit x) kinds.Out ≡ true) (cased : has_cases g.switches node ≡ true)
         (goes_there : word_at g.text x.npc ≡ Some to) where
       lands_at_it : way.edge.to ≡ lands (graph_in g) (Some to)
       lands_at_it = way.lands_at out ∙ rw (cased, goes_there)
@@ -257,18 +270,18 @@ module _ (g : Setting) (codes : ℕ → List ℕ) (is : IsKnown g) (p : Placemen
           (λ (n : Node). goes_on g.text (graph_in g) n to a ≡ jump_to (enter_number g.text (graph_in g) n to))
           (λ _. refl) (λ _. refl))
 
-      along_case : IsCase g (l g codes is p f) base p place f node x t
-      along_case = plain_case (rw (case_kind g codes is p f node x way out cased)) (inr (to, goes_there, on_case))
+      along_case : IsCase (site edit) node x t
+      along_case = plain_case (rw (case_kind edit node x way out cased)) (inr (to, goes_there, on_case))
 
     -- ---- a JMPL's slot: the table leads on
 
-    module _ (out : same_kind (way_in g codes is p f x) kinds.Out ≡ true)
+    module _ (out : same_kind (way_in edit x) kinds.Out ≡ true)
         (quiet : has_cases g.switches node ≡ false) where
       caseless : HasNoCases g node
       caseless = no_cases g is node quiet
 
       kind_out : way.edge.kind ≡ kinds.Out
-      kind_out = kind_is g codes is p f node x way (λ _. quiet) ∙ same_kinds (way_in g codes is p f x) kinds.Out out
+      kind_out = kind_is edit node x way (λ _. quiet) ∙ same_kinds (way_in edit x) kinds.Out out
 
       edge_out : same_kind way.edge.kind kinds.Out ≡ true
       edge_out = rw kind_out
@@ -286,12 +299,11 @@ module _ (g : Setting) (codes : ℕ → List ℕ) (is : IsKnown g) (p : Placemen
           → node_after (graph_in g) node (gone_at g node x v) ≡ lands (graph_in g) (word_at g.text x.npc)
       lands_to v e live =
           let w = went v e live in
-          rw (gone_left v w.0 w.1 live, same_kinds (way_in g codes is p f x) kinds.Out out)
+          rw (gone_left v w.0 w.1 live, same_kinds (way_in edit x) kinds.Out out)
           (jump_lands g.text b g.switches (cut_in g is f.table.base f.cases.base) node x
           (subst (IsOnItsWay g.text (graph_in g) node x) (same_kinds _ kinds.Out out) way))
 
-      landed_at : (v : State) → does_at g x t ≡ v → v.ending ≡ None
-          → Lands g (l g codes is p f) p f lands_on x.npc (Visit v)
+      landed_at : (v : State) → does_at g x t ≡ v → v.ending ≡ None → Lands (site edit) lands_on x.npc (Visit v)
       landed_at v e live = by (word_at g.text x.npc) refl
         where
           after : Node
@@ -301,15 +313,15 @@ module _ (g : Setting) (codes : ℕ → List ℕ) (is : IsKnown g) (p : Placemen
           w = went v e live
 
           by : (o : Option ℕ) → word_at g.text x.npc ≡ o
-              → Lands g (l g codes is p f) p f (landed g.text (graph_in g) kinds.Out x.npc) x.npc
-              (entered_at g (l g codes is p f) p f after (point_of v))
+              → Lands (site edit) (landed g.text (graph_in g) kinds.Out x.npc) x.npc
+              (entered_at (site edit) after (point_of v))
           by None none =
               let there = foreign_at g.text b g.switches is.cased f.table.base f.cases.base codes in
               inr (
                 landed_out g.text (graph_in g) x.npc None none,
                 (
                   record { 0 = foreign_number g.text (graph_in g) },
-                  slice_get_within (l g codes is p f).list _ _ there,
+                  slice_get_within (l edit).list _ _ there,
                   tables.others x.npc waits.0 waits.1 none,
                   there,
                   none,
@@ -319,7 +331,7 @@ module _ (g : Setting) (codes : ℕ → List ℕ) (is : IsKnown g) (p : Placemen
             | inl e ↦
                 inl (
                   record { 0 = entry },
-                  slice_get_within (l g codes is p f).list entry _ image_there.1,
+                  slice_get_within (l edit).list entry _ image_there.1,
                   led true e,
                   inr (rw (landed_out g.text (graph_in g) x.npc (Some to) some) (eqb-true _ _ e), visit),
                 )
@@ -327,7 +339,7 @@ module _ (g : Setting) (codes : ℕ → List ℕ) (is : IsKnown g) (p : Placemen
                 let landing_there = landing_at g.text b g.switches is.cased f.table.base f.cases.base codes to within in
                 inl (
                   record { 0 = landing_number g.text (graph_in g) to },
-                  slice_get_within (l g codes is p f).list _ _ landing_there,
+                  slice_get_within (l edit).list _ _ landing_there,
                   led false e,
                   inl (inr (inl (
                     record { 0 = entry },
@@ -343,7 +355,7 @@ module _ (g : Setting) (codes : ℕ → List ℕ) (is : IsKnown g) (p : Placemen
               entry : ℕ
               entry = enter_number g.text (graph_in g) (lands (graph_in g) (Some to)) to
 
-              image_there : (xs : List Item) × (slice_get (l g codes is p f).list entry ≡ Some xs)
+              image_there : (xs : List Item) × (slice_get (l edit).list entry ≡ Some xs)
               image_there =
                   let some_blocks = (cut_in g is f.table.base f.cases.base).firsts.some in
                   enter_at g is f.table.base f.cases.base codes (lands (graph_in g) (Some to)) to within
@@ -355,22 +367,14 @@ module _ (g : Setting) (codes : ℕ → List ℕ) (is : IsKnown g) (p : Placemen
                   (if b then entry else landing_number g.text (graph_in g) to)
               led b e = tables.words x.npc to waits.0 waits.1 some ∙ rw e
 
-              visit : slice_index p.at entry ≡ entered_at g (l g codes is p f) p f after (point_of v)
-              visit = rw (entered_word g codes is p f after (point_of v) to (rw w.0 some) w.1, lands_to v e live, some)
+              visit : slice_index p.at entry ≡ entered_at (site edit) after (point_of v)
+              visit = rw (entered_word edit after (point_of v) to (rw w.0 some) w.1, lands_to v e live, some)
 
-      jump_case : IsCase g (l g codes is p f) base p place f node x t
+      jump_case : IsCase (site edit) node x t
       jump_case = jumps_slot (record {
         slot = way.jumps out;
         out = out;
         caseless = caseless;
-        piece = piece;
-        within = slice_get_within (l g codes is p f).list piece _ (past true edge_out);
-        here = stands;
-        address = address;
-        original = sym (word_at-some g.text x.pc slot at).is;
-        word = word;
-        is_word = word_is g x slot at;
-        straight = straight;
         through = 1;
         some = omega arith;
         below = omega arith;
@@ -378,58 +382,48 @@ module _ (g : Setting) (codes : ℕ → List ℕ) (is : IsKnown g) (p : Placemen
         outward = ap is_out way.is ∙ edge_out;
         landing = lands_on;
         completes = λ live. let w = went (does_at g x t) refl live in gone_along (does_at g x t) w.0 w.1 live ∙ rw kind_out;
-        items = past true edge_out;
+        marked = marked _ (past true edge_out);
         lands = λ live. landed_at (does_at g x t) refl live;
       })
 
-  couple_case : is_transfer (decode_of word) ≡ true → IsCase g (l g codes is p f) base p place f node x t
+  couple_case : is_transfer (decode_of word) ≡ true → IsCase (site edit) node x t
   couple_case e = couple (record {
     slot = not;
-    piece = piece;
-    within = slice_get_within (l g codes is p f).list piece _ (made true e);
-    here = stands;
-    address = address;
-    original = sym (word_at-some g.text x.pc slot at).is;
-    word = word;
-    is_word = word_is g x slot at;
-    transfer = e;
     ba = couple_word;
     disp = pos 2;
     says = couple_says;
     rest = [];
-    items = made true e;
+    marked = at_copy _ (made true e);
+    transfer = e;
   })
 
   -- ---- whatever the word
 
-  by_word : ((straight : is_transfer (decode_of word) ≡ false) → IsCase g (l g codes is p f) base p place f node x t)
-      → IsCase g (l g codes is p f) base p place f node x t
+  by_word : ((straight : is_transfer (decode_of word) ≡ false) → IsCase (site edit) node x t)
+      → IsCase (site edit) node x t
   by_word otherwise = elim (cases_Bool (is_transfer (decode_of word))) [ inl e ↦ couple_case e | inr e ↦ otherwise e ]
 
   -- along an edge of which the node has one
-  pub plain_copy_case : (same_kind (way_in g codes is p f x) kinds.Out ≡ true → has_cases g.switches node ≡ false)
-      → to ≡ first_word (graph_in g) way.edge.to → IsCase g (l g codes is p f) base p place f node x t
+  pub plain_copy_case : (same_kind (way_in edit x) kinds.Out ≡ true → has_cases g.switches node ≡ false)
+      → to ≡ first_word (graph_in g) way.edge.to → IsCase (site edit) node x t
   plain_copy_case caseless first =
-      by_word (λ straight. elim (cases_Bool (same_kind (way_in g codes is p f x) kinds.Out)) [
+      by_word (λ straight. elim (cases_Bool (same_kind (way_in edit x) kinds.Out)) [
         | inl out ↦ jump_case straight out (caseless out)
         | inr other ↦ other_case straight other first
       ])
 
   -- along a Case edge
-  pub case_copy_case : same_kind (way_in g codes is p f x) kinds.Out ≡ true → has_cases g.switches node ≡ true
-      → word_at g.text x.npc ≡ Some to → IsCase g (l g codes is p f) base p place f node x t
+  pub case_copy_case : same_kind (way_in edit x) kinds.Out ≡ true → has_cases g.switches node ≡ true
+      → word_at g.text x.npc ≡ Some to → IsCase (site edit) node x t
   case_copy_case out cased goes_there = by_word (λ straight. along_case straight out cased goes_there)
 
 -- each slot at a word
-pub copy_case : (g : Setting) (codes : ℕ → List ℕ) (is : IsKnown g) (p : Placement) (f : Frame) (base : ℕ)
-    (place : ℕ → ℕ → ℕ) → IsTableFor g.text (graph_in g) g.snips p f.table f.halves
-    → (node : Node) (x : Point) (t : State) → Here g (l g codes is p f) base p f node x t
-    → (slot : ℕ) → word_at g.text x.pc ≡ Some slot → x.slot ≢ NoSlot
-    → IsOnItsWay g.text (graph_in g) node x (way_in g codes is p f x)
-    → IsCase g (l g codes is p f) base p place f node x t
-copy_case g codes is p f base place tables node x t here slot at not way =
-    by_cases _ (same_kind (way_in g codes is p f x) kinds.Out) (has_cases g.switches node)
-    (λ caseless. plain_copy_case g codes is p f base place tables node x t here slot at not way _ _
-    (plain_copy g codes is p f node x slot at way caseless) caseless refl)
-    (λ out cased. case_copy_case g codes is p f base place tables node x t here slot at not way _ _
-    (case_copy g codes is p f node x slot at way out cased) out cased (target g codes is p f node x way out cased).goes)
+pub copy_case : (edit : Edit) (node : Node) (x : Point) (t : State) → HereAt (site edit) node x t → (slot : ℕ)
+    → word_at edit.g.text x.pc ≡ Some slot → x.slot ≢ NoSlot
+    → IsOnItsWay edit.g.text (graph_in edit.g) node x (way_in edit x) → IsCase (site edit) node x t
+copy_case edit node x t here slot at not way =
+    by_cases _ (same_kind (way_in edit x) kinds.Out) (has_cases edit.g.switches node)
+    (λ caseless. plain_copy_case edit node x t here slot at not way _ _
+    (plain_copy edit node x slot at way caseless) caseless refl)
+    (λ out cased. case_copy_case edit node x t here slot at not way _ _
+    (case_copy edit node x slot at way out cased) out cased (target edit node x way out cased).goes)

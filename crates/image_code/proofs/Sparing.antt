@@ -29,7 +29,8 @@ use Rattle.code_runs.specs.Page.{page_word}
 use Rattle.code_runs.proofs.Counted.{uncounted_span}
 use Rattle.code_runs.proofs.Leads.{split_below}
 use Rattle.snippet_code.specs.Runs.{cell_at, kept_word}
-use Rattle.image_code.specs.Simulates.{Setting, in_first_word, is_cell, is_spill, is_transfer_at, spills_on, word_of}
+use Rattle.image_code.specs.Simulates.{Setting, word_of}
+use Rattle.image_code.specs.Cost.{in_first_word, is_cell, is_spill, is_transfer_at, spills_on}
 
 -- ---- an address outside the pages is in none of them
 
@@ -170,7 +171,7 @@ transfers text a word e is = ap is_transfer_at (instr_is text a word e) ∙ is
 -- ---- counts
 
 pub spills_then : (g : Setting) (first others : List ℕ)
-    → spills_on g (first ++ others) ≡ spills_on g first + spills_on g others
+    → spills_on g.snips g.dead (first ++ others) ≡ spills_on g.snips g.dead first + spills_on g.snips g.dead others
 spills_then g [] others = omega arith
 spills_then g (edge ∷ edges) others = let more = spills_then g edges others in omega (arith, more)
 

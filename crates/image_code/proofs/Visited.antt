@@ -1,5 +1,5 @@
 -- Where the points of a text are visited, and what stands there.
-use Rattle.std.proofs.Common.{◌≡◌, ◌≢◌, ℕ, ◌+◌, ◌-◌, ◌<◌, inl, inr, Bool, true, false, Option, Some, None, List, [], ◌∷◌, suc, length, refl, ap, sym, ◌∙◌, subst, arith}
+use Rattle.std.proofs.Common.{◌≡◌, ◌≢◌, ℕ, ◌+◌, ◌-◌, ◌%◌, ◌^◌, ◌<◌, inl, inr, Bool, true, false, Option, Some, None, List, [], ◌∷◌, suc, length, refl, ap, sym, ◌∙◌, subst, arith}
 use Rattle.std.specs.Prelude.{◌==◌, if◌then◌else◌, slice_get, slice_index}
 use Rattle.std.specs.List.{list_any}
 use Rattle.std.specs.Option.{option_map}
@@ -30,10 +30,14 @@ use Rattle.cfg_walk.proofs.Edges.{block}
 use Rattle.cfg_walk.proofs.Ways.{same_kinds}
 use Rattle.addr_translate.specs.Lookup.{IsTable}
 use Rattle.layout.specs.Laid.{Placement}
-use Rattle.image_code.specs.Simulates.{Setting, gone_at, graph_in, word_of}
-use Rattle.image_code.specs.Images.{Pieces, Frame, along_first, entered_at, place_by, slot_piece, visited_at}
-use Rattle.image_code.specs.Cases.{IsFar, LeadsTo}
-use Rattle.image_code.specs.Made.{first_way, first_word, image_by, jumps_at, pieces_in, way_by, way_out}
+use Rattle.image_code.specs.Simulates.{Setting, gone_at, graph_in, number_in, word_of}
+use Rattle.image_code.specs.Images.{Frame, IsPlaced, Pieces, Site, along_first, entered_at, place_by, slot_piece, visited_at}
+use Rattle.eel_base.specs.declared.numbers.Addr.{Addr}
+use Rattle.layout.specs.declared.items.Item.{Item}
+use Rattle.layout.specs.declared.items.Item.TheVariants as it
+use Rattle.std.proofs.lemmas.Option.{slice_get_within}
+use Rattle.image_code.specs.Cases.{IsFar, IsMarked, LeadsTo}
+use Rattle.image_code.specs.Made.{AreCasesFor, IsOffNoted, IsTableFor, edit_pieces, first_way, first_word, image_by, jumps_at, way_by, way_out}
 use Rattle.image_code.specs.Numbered.{along_case, along_number, case_piece, enter_number, image_number, jump_number, way_piece}
 use Rattle.image_code.proofs.CaseTables.{IsKnown}
 use Rattle.image_code.proofs.EdgePieces.{IsAlong, along, by_case, cut_in, items_along, items_case, slot_in}
@@ -97,12 +101,53 @@ module _ (g : Setting) where
       → gone_at g node x v ≡ slot_left g.text (graph_in g) node (way_of (instr_at g.text (x.pc - 4)) x.slot) v.pc
   slot_gone node x v slot after live = rw (live, after) (grind arith)
 
-module _ (g : Setting) (codes : ℕ → List ℕ) (is : IsKnown g) (p : Placement) (f : Frame) where
+-- in a slot, at a word or off the text
+at_slot : (image : Node → ℕ → ℕ) (g : Setting) (l : Pieces) (p : Placement) (f : Frame) (node : Node) (x : Point)
+    (word : ℕ) (s : Slot) → s ≢ NoSlot
+    → place_by image g l p f node x (Some word) s ≡ slice_index p.at (slot_piece g l node x)
+at_slot image g l p f node x word NoSlot n = absurd (n refl)
+at_slot image g l p f node x word _ n = refl
+
+pub off_slot : (image : Node → ℕ → ℕ) (g : Setting) (l : Pieces) (p : Placement) (f : Frame) (node : Node) (x : Point)
+    (s : Slot) → s ≢ NoSlot → place_by image g l p f node x None s ≡ f.table.base
+off_slot image g l p f node x NoSlot n = absurd (n refl)
+off_slot image g l p f node x _ n = refl
+
+-- An edit: a setting of which the code knows, its pieces placed, and what is known of the tables.
+pub record Edit : Type 0 where
+  pub g : Setting
+  pub codes : ℕ → List ℕ
+  pub base : ℕ
+  pub p : Placement
+  pub place : ℕ → ℕ → ℕ
+  pub f : Frame
+  pub is : IsKnown g
+  pub placed : IsPlaced g (edit_pieces g f codes) base p place f
+  pub tables : IsTableFor g.text (graph_in g) g.snips p f.table f.halves
+  pub cases : AreCasesFor g.text (graph_in g) p f.cases
+  pub below : f.table.base < base
+  pub noted : IsOffNoted g f.table.base
+
+-- a visit of a word at a node whose block holds it, outside a slot
+pub record AtWord (edit : Edit) (node : Node) (x : Point) : Type 0 where
+  pub word : ℕ
+  pub at : word_at edit.g.text x.pc ≡ Some word
+  pub none : x.slot ≡ NoSlot
+  pub held : home_of node ≡ node_of (blocks_of edit.g.text edit.g.given) (word_at edit.g.text x.pc)
+  pub there : IsNodeIn (blocks_of edit.g.text edit.g.given) edit.g.switches node
+  pub npc : x.npc ≡ (x.pc + 4) % 2 ^ 32
+
+module _ (edit : Edit) where
+  open edit use {g, codes, is, base, p, place, f, tables.{whole}}
+
   abbrev b : Blocks
   b = blocks_of g.text g.given
 
   abbrev pub l : Pieces
-  l = pieces_in g.text (graph_in g) f.table.base f.cases.base codes
+  l = edit_pieces g f codes
+
+  abbrev pub site : Site
+  site = record { g = g; l = l; base = base; p = p; place = place; f = f }
 
   -- ---- where a machine stands that visits a point, or enters it
 
@@ -119,41 +164,41 @@ module _ (g : Setting) (codes : ℕ → List ℕ) (is : IsKnown g) (p : Placemen
 
     placed_slot : (node : Node) (x : Point) (word : ℕ) → word_at g.text x.pc ≡ Some word → x.slot ≢ NoSlot
         → placed_at node x ≡ slice_index p.at (slot_piece g l node x)
-    placed_slot node x word e n = rw e (grind arith)
+    placed_slot node x word e n = rw e (at_slot image g l p f node x word x.slot n)
 
     placed_off : (node : Node) (x : Point) → word_at g.text x.pc ≡ None → x.slot ≢ NoSlot
         → placed_at node x ≡ f.table.base
-    placed_off node x e n = rw e (grind arith)
+    placed_off node x e n = rw e (off_slot image g l p f node x x.slot n)
 
   pub visited_word : (node : Node) (x : Point) (word : ℕ) → word_at g.text x.pc ≡ Some word → x.slot ≡ NoSlot
-      → visited_at g l p f node x ≡ slice_index p.at (image_number g.text (graph_in g) node word)
+      → visited_at site node x ≡ slice_index p.at (image_number g.text (graph_in g) node word)
   visited_word = placed_word l.image
 
   pub visited_slot : (node : Node) (x : Point) (word : ℕ) → word_at g.text x.pc ≡ Some word → x.slot ≢ NoSlot
-      → visited_at g l p f node x ≡ slice_index p.at (slot_piece g l node x)
+      → visited_at site node x ≡ slice_index p.at (slot_piece g l node x)
   visited_slot = placed_slot l.image
 
   pub entered_word : (node : Node) (x : Point) (word : ℕ) → word_at g.text x.pc ≡ Some word → x.slot ≡ NoSlot
-      → entered_at g l p f node x ≡ slice_index p.at (enter_number g.text (graph_in g) node word)
+      → entered_at site node x ≡ slice_index p.at (enter_number g.text (graph_in g) node word)
   entered_word = placed_word l.enter
 
   pub entered_none : (node : Node) (x : Point) → word_at g.text x.pc ≡ None → x.slot ≡ NoSlot
-      → entered_at g l p f node x ≡ x.pc
+      → entered_at site node x ≡ x.pc
   entered_none = placed_none l.enter
 
   pub entered_slot : (node : Node) (x : Point) (word : ℕ) → word_at g.text x.pc ≡ Some word → x.slot ≢ NoSlot
-      → entered_at g l p f node x ≡ slice_index p.at (slot_piece g l node x)
+      → entered_at site node x ≡ slice_index p.at (slot_piece g l node x)
   entered_slot = placed_slot l.enter
 
   entered_off : (node : Node) (x : Point) → word_at g.text x.pc ≡ None → x.slot ≢ NoSlot
-      → entered_at g l p f node x ≡ f.table.base
+      → entered_at site node x ≡ f.table.base
   entered_off = placed_off l.enter
 
   -- outside the words' images control comes to the visit itself
   pub enters_itself : (node : Node) (x : Point)
       → ((word : ℕ) → word_at g.text x.pc ≡ Some word → x.slot ≡ NoSlot
       → enter_number g.text (graph_in g) node word ≡ image_number g.text (graph_in g) node word)
-      → entered_at g l p f node x ≡ visited_at g l p f node x
+      → entered_at site node x ≡ visited_at site node x
   enters_itself node x same = by (word_at g.text x.pc) refl x.slot refl
     where
       by : (o : Option ℕ) → word_at g.text x.pc ≡ o → (s : Slot) → x.slot ≡ s
@@ -178,6 +223,23 @@ module _ (g : Setting) (codes : ℕ → List ℕ) (is : IsKnown g) (p : Placemen
   has_its_image node x word at home there =
       stands_at g is f.table.base f.cases.base codes node word (word_at-some g.text x.pc word at).within
       (home ∙ ap (node_of b) at) there
+
+  -- its piece begins with its Mark
+  abbrev pub at_image : (node : Node) (x : Point) (visit : AtWord edit node x) (behind : Addr → ℕ → List Item)
+      → slice_get l.list (image_number g.text (graph_in g) node visit.word)
+      ≡ Some (it.Mark (record { 0 = address_of g.text visit.word }) (number_in g node)
+      ∷ behind (record { 0 = address_of g.text visit.word }) (slice_index g.text.words visit.word))
+      → IsMarked site node x behind
+  at_image node x visit behind items = record {
+    piece = image_number g.text (graph_in g) node visit.word;
+    within = slice_get_within l.list _ _ items;
+    here = visited_word node x visit.word visit.at visit.none;
+    address = record { 0 = address_of g.text visit.word };
+    original = sym (word_at-some g.text x.pc visit.word visit.at).is;
+    word = slice_index g.text.words visit.word;
+    is_word = word_is g x visit.word visit.at;
+    items = items;
+  }
 
   -- ---- in a slot
 
@@ -357,13 +419,12 @@ module _ (g : Setting) (codes : ℕ → List ℕ) (is : IsKnown g) (p : Placemen
   table_far whole = (omega arith, omega arith)
 
   -- the way of the edge on which a slot is run leads to where that is visited
-  pub enters : IsTable f.table → (node : Node) (x : Point) → x.slot ≢ NoSlot
-      → (way : IsOnItsWay g.text (graph_in g) node x (way_in x))
+  pub enters : (node : Node) (x : Point) → x.slot ≢ NoSlot → (way : IsOnItsWay g.text (graph_in g) node x (way_in x))
       → (same_kind (way_in x) kinds.Out ≡ true → has_cases g.switches node ≡ false)
       → (kind : EdgeKind) → way_in x ≡ kind
       → LeadsTo l p (record { 0 = way_out g.text (graph_in g) node kind }) [] (word_at g.text x.pc)
-      (entered_at g l p f node x)
-  enters whole node x slot way caseless kind same = by (word_at g.text x.pc) refl
+      (entered_at site node x)
+  enters node x slot way caseless kind same = by (word_at g.text x.pc) refl
     where
       number : way_out g.text (graph_in g) node kind ≡ length g.text.words + way.number
       number =
@@ -374,7 +435,7 @@ module _ (g : Setting) (codes : ℕ → List ℕ) (is : IsKnown g) (p : Placemen
 
       by : (o : Option ℕ) → word_at g.text x.pc ≡ o
           → LeadsTo l p (record { 0 = way_out g.text (graph_in g) node kind }) [] (word_at g.text x.pc)
-          (entered_at g l p f node x)
+          (entered_at site node x)
       by (Some word) e =
           inl (
             refl,

@@ -1,7 +1,6 @@
 -- The images of a CALL and of a JMPL: the link, and for a JMPL the target that it keeps. The slot's word is run on the
 -- way along the edge.
-use Rattle.std.specs.Prelude.{◌≡◌, ◌≢◌, ℕ, ◌+◌, ◌%◌, ◌^◌, ◌<◌, true, length, Some, None, slice_get, slice_index, ℤ}
-use Rattle.eel_base.specs.declared.numbers.Addr.{Addr}
+use Rattle.std.specs.Prelude.{◌≡◌, ◌≢◌, ℕ, ◌+◌, ◌%◌, ◌^◌, ◌<◌, true, [], ◌∷◌, ◌++◌, None, ℤ}
 use Rattle.eel_base.specs.declared.numbers.PieceNo.{PieceNo}
 use Rattle.v8_decode.specs.declared.Op2.{Op2}
 use Rattle.v8_decode.specs.declared.Instr.TheVariants as i
@@ -13,59 +12,40 @@ use Rattle.v8_step.specs.State.{State}
 use Rattle.cfg_normal.specs.declared.Node.{Node}
 use Rattle.cfg_walk.specs.Walk.{Point}
 use Rattle.jump_code.specs.FreeRegister.{IsApart}
-use Rattle.jump_code.specs.Pieces.{call_piece, find_piece}
-use Rattle.layout.specs.Laid.{HasShortForms, Placement}
-use Rattle.image_code.specs.Simulates.{Setting, does_at, gone_at, number_in, word_of, Enters}
-use Rattle.image_code.specs.Images.{Pieces, Frame, Here, IsPlaced, visited_at, Entered}
-use Rattle.image_code.specs.Cases.{LeadsTo, next_entry, word_ahead}
+use Rattle.jump_code.specs.Finding.{find_image}
+use Rattle.jump_code.specs.Links.{link}
+use Rattle.jump_code.specs.Pieces.{word_items}
+use Rattle.layout.specs.declared.items.Item.TheVariants as it
+use Rattle.image_code.specs.Simulates.{does_at}
+use Rattle.image_code.specs.Images.{Follows, Site}
+use Rattle.image_code.specs.Cases.{IsMarked, LeadsNext}
 use Rattle.image_code.specs.Turns.{IsNoJumpsSlot}
 
 -- ---- a CALL
 
-pub record IsCall (g : Setting) (l : Pieces) (p : Placement) (f : Frame)
-    (node : Node) (x : Point) (t : State) : Type 0 where
+pub record IsCall (site : Site) (node : Node) (x : Point) (t : State) : Type 0 where
   pub none : x.slot ≡ NoSlot
-  pub piece : ℕ
-  pub within : piece < length l.list
-  pub here : visited_at g l p f node x ≡ slice_index p.at piece
-  pub address : Addr
-  pub original : address.0 ≡ x.pc
   pub low : x.pc < 2 ^ 32
-  pub word : ℕ
-  pub is_word : word_of g.text x.pc ≡ Some word
   pub disp : ℤ
-  pub says : decode_of word ≡ i.Call disp
   pub way : PieceNo
-  pub items : slice_get l.list piece ≡ Some (call_piece address (number_in g node) way)
-  pub leads : LeadsTo l p way (gone_at g node x (does_at g x t)) (word_ahead g x t) (next_entry g l p f node x t)
-  pub never : IsNoJumpsSlot g (does_at g x t)
+  pub marked : IsMarked site node x (λ address _. word_items (link 15 address.0) ++ it.EndMark ∷ it.Jump way ∷ [])
+  pub open marked use {piece, within, here, address, original, word, is_word, items}
+  pub says : decode_of word ≡ i.Call disp
+  pub leads : LeadsNext site way node x t
+  pub never : IsNoJumpsSlot site.g (does_at site.g x t)
 
 abbrev pub CallsStep : Type 0
-CallsStep =
-    (g : Setting) (l : Pieces) (base : ℕ) (p : Placement) (place : ℕ → ℕ → ℕ) (f : Frame)
-    (node : Node) (x : Point) (t : State)
-    → IsPlaced g l base p place f → Here g l base p f node x t → IsCall g l p f node x t
-    → Enters g (Entered g l base p f) (HasShortForms l.list place) (gone_at g node x (does_at g x t)) node x t
-    (does_at g x t)
+CallsStep = Follows IsCall
 
 -- ---- a JMPL, by a register that it doesn't name
 
-pub record IsJump (g : Setting) (l : Pieces) (p : Placement) (f : Frame)
-    (node : Node) (x : Point) (t : State) : Type 0 where
+pub record IsJump (site : Site) (node : Node) (x : Point) (t : State) : Type 0 where
   pub none : x.slot ≡ NoSlot
   pub next : x.npc ≡ (x.pc + 4) % 2 ^ 32
-  pub piece : ℕ
-  pub within : piece < length l.list
-  pub here : visited_at g l p f node x ≡ slice_index p.at piece
-  pub address : Addr
-  pub original : address.0 ≡ x.pc
   pub low : x.pc < 2 ^ 32
-  pub word : ℕ
-  pub is_word : word_of g.text x.pc ≡ Some word
   pub rd : ℕ
   pub rs1 : ℕ
   pub op2 : Op2
-  pub says : decode_of word ≡ i.Jmpl rd rs1 op2
   pub scratch : ℕ
   pub apart : IsApart scratch rd rs1 op2
   pub second : ℕ
@@ -74,15 +54,12 @@ pub record IsJump (g : Setting) (l : Pieces) (p : Placement) (f : Frame)
   pub fits : op2_fits op2 ≡ true
   pub in_range : op2_in_range op2 ≡ true
   pub way : PieceNo
-  pub items : slice_get l.list piece
-      ≡ Some (find_piece scratch second rd rs1 op2 f.halves.base address (number_in g node) way)
-  pub leads : (does_at g x t).ending ≡ None
-      → LeadsTo l p way (gone_at g node x (does_at g x t)) (word_ahead g x t) (next_entry g l p f node x t)
+  pub marked : IsMarked site node x (λ address _.
+      word_items (find_image scratch second rd rs1 op2 site.f.halves.base address.0)
+      ++ it.EndMark ∷ it.Jump way ∷ [])
+  pub open marked use {piece, within, here, address, original, word, is_word, items}
+  pub says : decode_of word ≡ i.Jmpl rd rs1 op2
+  pub leads : (does_at site.g x t).ending ≡ None → LeadsNext site way node x t
 
 abbrev pub JumpsStep : Type 0
-JumpsStep =
-    (g : Setting) (l : Pieces) (base : ℕ) (p : Placement) (place : ℕ → ℕ → ℕ) (f : Frame)
-    (node : Node) (x : Point) (t : State)
-    → IsPlaced g l base p place f → Here g l base p f node x t → IsJump g l p f node x t
-    → Enters g (Entered g l base p f) (HasShortForms l.list place) (gone_at g node x (does_at g x t)) node x t
-    (does_at g x t)
+JumpsStep = Follows IsJump

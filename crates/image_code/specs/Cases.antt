@@ -16,19 +16,19 @@ use Rattle.cfg_normal.specs.declared.Node.{Node}
 use Rattle.cfg_walk.specs.Walk.{Point, point_of, node_after}
 use Rattle.layout.specs.declared.items.Item.{Item}
 use Rattle.layout.specs.declared.items.Item.TheVariants as it
-use Rattle.layout.specs.Laid.{HasShortForms, Placement}
+use Rattle.layout.specs.Laid.{Placement}
 use Rattle.jump_code.specs.Pieces.{far_piece}
-use Rattle.image_code.specs.Simulates.{Setting, at_point, does_at, gone_at, graph_in, number_in, word_of, Enters}
-use Rattle.image_code.specs.Images.{Pieces, Frame, Here, IsPlaced, visited_at, entered_at, Entered}
+use Rattle.image_code.specs.Simulates.{Setting, at_point, does_at, gone_at, graph_in, number_in, word_of}
+use Rattle.image_code.specs.Images.{HereAt, Pieces, Placed, Site, StepsFrom, entered_at, visited_at}
 
 abbrev pub visits_it : Setting → Node → Point → State → Type 0
 visits_it g node x t = (visit_of g.notes t ≡ Some x.pc) × (node_at g.notes t.pc ≡ Some (number_in g node))
 
 -- where control enters the piece of the point to which the original goes on
-abbrev pub next_entry : Setting → Pieces → Placement → Frame → Node → Point → State → ℕ
-next_entry g l p f node x t =
-    let v = does_at g x t in
-    entered_at g l p f (node_after (graph_in g) node (gone_at g node x v)) (point_of v)
+abbrev pub next_entry : Site → Node → Point → State → ℕ
+next_entry site node x t =
+    let v = does_at site.g x t in
+    entered_at site (node_after (graph_in site.g) node (gone_at site.g node x v)) (point_of v)
 
 -- and at which word of the text that goes on, if at any
 abbrev pub word_ahead : Setting → Point → State → Option ℕ
@@ -77,42 +77,55 @@ LeadsOn l p place k n edges next to =
     ⊎ (JumpsOn l p k n edges next to
     ⊎ ((next ≡ None) × IsFar to × (rest_from l k n ≡ Some (words_on l edges ++ far_piece to))))
 
+-- a piece leads to where the original goes on
+abbrev pub LeadsNext : Site → PieceNo → Node → Point → State → Type 0
+LeadsNext site piece node x t =
+    LeadsTo site.l site.p piece (gone_at site.g node x (does_at site.g x t)) (word_ahead site.g x t)
+    (next_entry site node x t)
+
 -- ---- a plain word, or the copy of a slot's word
 
 -- the piece of a word in its Mark, and what comes after that
 abbrev pub plain_piece : Addr → ℕ → ℕ → List Item → List Item
 plain_piece address number word rest = it.Mark address number ∷ it.Word word ∷ it.EndMark ∷ rest
 
-pub record IsPlain (g : Setting) (l : Pieces) (p : Placement) (place : ℕ → ℕ → ℕ) (f : Frame)
-    (node : Node) (x : Point) (t : State) : Type 0 where
+-- A point's piece begins with the Mark of its instruction. In it and behind it stand these items, by the address and the
+-- word that the original has there.
+pub record IsMarked (site : Site) (node : Node) (x : Point) (behind : Addr → ℕ → List Item) : Type 0 where
   pub piece : ℕ
-  pub within : piece < length l.list
-  pub here : visited_at g l p f node x ≡ slice_index p.at piece
+  pub within : piece < length site.l.list
+  pub here : visited_at site node x ≡ slice_index site.p.at piece
   pub address : Addr
   pub original : address.0 ≡ x.pc
   pub word : ℕ
-  pub is_word : word_of g.text x.pc ≡ Some word
+  pub is_word : word_of site.g.text x.pc ≡ Some word
+  pub items : slice_get site.l.list piece ≡ Some (it.Mark address (number_in site.g node) ∷ behind address word)
+
+-- the word itself, which is no transfer, in its Mark
+pub record IsMarkedWord (site : Site) (node : Node) (x : Point) (rest : List Item) : Type 0 where
+  pub marked : IsMarked site node x (λ _ word. it.Word word ∷ it.EndMark ∷ rest)
+  pub open marked use {piece, within, here, address, original, word, is_word, items}
   pub straight : is_transfer (decode_of word) ≡ false
+
+pub record IsPlain (site : Site) (node : Node) (x : Point) (t : State) : Type 0 where
   pub rest : List Item
-  pub items : slice_get l.list piece ≡ Some (plain_piece address (number_in g node) word rest)
+  pub marked : IsMarkedWord site node x rest
+  pub open marked use {marked.{piece, address, word, is_word, items}}
   -- where the walk goes on, there the piece leads
-  pub leads : (does_at g x t).ending ≡ None
-      → LeadsOn l p place piece 3 (gone_at g node x (does_at g x t)) (word_ahead g x t) (next_entry g l p f node x t)
+  pub leads : (does_at site.g x t).ending ≡ None
+      → LeadsOn site.l site.p site.place piece 3 (gone_at site.g node x (does_at site.g x t)) (word_ahead site.g x t)
+      (next_entry site node x t)
 
 abbrev pub PlainsVisit : Type 0
 PlainsVisit =
-    (g : Setting) (l : Pieces) (base : ℕ) (p : Placement) (place : ℕ → ℕ → ℕ) (f : Frame)
-    (node : Node) (x : Point) (t : State)
-    → IsPlaced g l base p place f → Here g l base p f node x t → IsPlain g l p place f node x t → visits_it g node x t
+    (site : Site) → Placed site → (node : Node) (x : Point) (t : State) → HereAt site node x t
+    → IsPlain site node x t → visits_it site.g node x t
 
 abbrev pub PlainsStep : Type 0
 PlainsStep =
-    (g : Setting) (l : Pieces) (base : ℕ) (p : Placement) (place : ℕ → ℕ → ℕ) (f : Frame)
-    (node : Node) (x : Point) (t : State)
-    → IsPlaced g l base p place f → Here g l base p f node x t → (c : IsPlain g l p place f node x t)
-    → AllApart (pages_of g.notes) (judged_by (at_point x t) (decode_of c.word))
-    → Enters g (Entered g l base p f) (HasShortForms l.list place) (gone_at g node x (does_at g x t)) node x t
-    (does_at g x t)
+    (site : Site) → Placed site → (node : Node) (x : Point) (t : State) → HereAt site node x t
+    → (c : IsPlain site node x t) → AllApart (pages_of site.g.notes) (judged_by (at_point x t) (decode_of c.word))
+    → StepsFrom site node x t
 
 -- ---- a branch on a condition
 

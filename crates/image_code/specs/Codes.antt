@@ -5,7 +5,7 @@ use Rattle.snippets.specs.declared.snippet.Op.{Op}
 use Rattle.snippets.specs.Cells.{named_by}
 use Rattle.snippet_code.specs.Runs.{DoesJust}
 use Rattle.snippet_code.specs.Words.{spills_of}
-use Rattle.image_code.specs.Simulates.{snippet_on}
+use Rattle.image_code.specs.Store.{snippet_on}
 use Rattle.image_code.specs.Parts.{codes_of}
 
 -- The words on an edge do just its snippet, on the cells at `base`, and are few.

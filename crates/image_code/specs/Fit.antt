@@ -21,7 +21,7 @@ use Rattle.layout.specs.Laid.{ArePieces, IsLaid, IsWordAt, Placement, long_bytes
 use Rattle.image_code.specs.Numbered.{case_numbers, foreign_number}
 use Rattle.image_code.specs.Graphs.{IsGraphOf}
 use Rattle.image_code.specs.Made.{lands_at, piece_list}
-use Rattle.image_code.specs.Simulates.{snippet_on}
+use Rattle.image_code.specs.Store.{snippet_on}
 
 abbrev pub is_mark : Item → Bool
 is_mark (it.Mark address node) = true

@@ -6,10 +6,9 @@ use Rattle.cfg_normal.specs.declared.Node.{Node}
 use Rattle.cfg_walk.specs.Walk.{Point, point_of}
 use Rattle.layout.specs.declared.items.Item.{Item}
 use Rattle.layout.specs.declared.items.Item.TheVariants as it
-use Rattle.layout.specs.Laid.{HasShortForms, Placement}
-use Rattle.image_code.specs.Simulates.{Chooses, MatchesIn, Setting, Simulates, does_at, number_in}
+use Rattle.image_code.specs.Simulates.{Chooses, MatchesIn, Simulates, does_at, number_in}
 use Rattle.image_code.specs.Keeping.{AreCaseTables, IsEntered}
-use Rattle.image_code.specs.Images.{Pieces, Frame, Here, IsPlaced, visited_at}
+use Rattle.image_code.specs.Images.{Forms, HereAt, Placed, Site, visited_at}
 use Rattle.image_code.specs.Cases.{IsPlain, visits_it}
 use Rattle.image_code.specs.Couple.{IsCouple}
 use Rattle.image_code.specs.Turns.{IsTurn}
@@ -26,57 +25,50 @@ TakesWords (it.Branch cond to) = Unit {0}
 TakesWords _ = ⊥
 
 -- the piece of a point begins with its Mark, which covers a word
-pub record IsHead (g : Setting) (l : Pieces) (p : Placement) (f : Frame) (node : Node) (x : Point) : Type 0 where
+pub record IsHead (site : Site) (node : Node) (x : Point) : Type 0 where
   pub piece : ℕ
-  pub within : piece < length l.list
-  pub here : visited_at g l p f node x ≡ slice_index p.at piece
+  pub within : piece < length site.l.list
+  pub here : visited_at site node x ≡ slice_index site.p.at piece
   pub address : Addr
   pub original : address.0 ≡ x.pc
   pub item : Item
   pub takes : TakesWords item
   pub rest : List Item
-  pub items : slice_get l.list piece ≡ Some (it.Mark address (number_in g node) ∷ item ∷ rest)
+  pub items : slice_get site.l.list piece ≡ Some (it.Mark address (number_in site.g node) ∷ item ∷ rest)
 
 abbrev pub HeadsVisit : Type 0
 HeadsVisit =
-    (g : Setting) (l : Pieces) (base : ℕ) (p : Placement) (place : ℕ → ℕ → ℕ) (f : Frame)
-    (node : Node) (x : Point) (t : State)
-    → IsPlaced g l base p place f → Here g l base p f node x t → IsHead g l p f node x → visits_it g node x t
+    (site : Site) → Placed site → (node : Node) (x : Point) (t : State) → HereAt site node x t → IsHead site node x → visits_it site.g node x t
 
 -- the shape of a point's piece, or the point lies outside the text
-pub data IsCase (g : Setting) (l : Pieces) (base : ℕ) (p : Placement) (place : ℕ → ℕ → ℕ) (f : Frame)
-    (node : Node) (x : Point) (t : State) : Type 0 where
-  plain : IsPlain g l p place f node x t → IsCase g l base p place f node x t
-  couple : IsCouple g l p f node x → IsCase g l base p place f node x t
-  turn : IsTurn g l p f node x t → IsCase g l base p place f node x t
-  idle : IsIdle g l p f node x t → IsCase g l base p place f node x t
-  call : IsCall g l p f node x t → IsCase g l base p place f node x t
-  jump : IsJump g l p f node x t → IsCase g l base p place f node x t
-  landing : IsJumpsSlot g l p f node x t → IsCase g l base p place f node x t
-  choice : IsChoice g l p f node x t → IsCase g l base p place f node x t
-  foreign : IsForeign g node x → IsCase g l base p place f node x t
-  off : IsOff g base p f node x → IsCase g l base p place f node x t
+pub data IsCase (site : Site) (node : Node) (x : Point) (t : State) : Type 0 where
+  plain : IsPlain site node x t → IsCase site node x t
+  couple : IsCouple site node x → IsCase site node x t
+  turn : IsTurn site node x t → IsCase site node x t
+  idle : IsIdle site node x t → IsCase site node x t
+  call : IsCall site node x t → IsCase site node x t
+  jump : IsJump site node x t → IsCase site node x t
+  landing : IsJumpsSlot site node x t → IsCase site node x t
+  choice : IsChoice site node x t → IsCase site node x t
+  foreign : IsForeign site.g node x → IsCase site node x t
+  off : IsOff site node x → IsCase site node x t
 
 -- where a point is visited
-pub data IsVisited (g : Setting) (l : Pieces) (base : ℕ) (p : Placement) (f : Frame)
-    (node : Node) (x : Point) : Type 0 where
-  head : IsHead g l p f node x → IsVisited g l base p f node x
-  outside : IsForeign g node x → IsVisited g l base p f node x
-  beyond : IsOff g base p f node x → IsVisited g l base p f node x
+pub data IsVisited (site : Site) (node : Node) (x : Point) : Type 0 where
+  head : IsHead site node x → IsVisited site node x
+  outside : IsForeign site.g node x → IsVisited site node x
+  beyond : IsOff site node x → IsVisited site node x
 
 -- each point outside the pages that the walk's node matches has a place, and is one of the cases
-pub record IsImaged (g : Setting) (l : Pieces) (base : ℕ) (p : Placement) (place : ℕ → ℕ → ℕ) (f : Frame) : Type 0 where
-  pub visits : (node : Node) (x : Point) → MatchesIn g node x → IsOpen g x
-      → IsVisited g l base p f node x
-  pub cases : (node : Node) (x : Point) (t : State) → MatchesIn g node x → IsOpen g x
-      → Here g l base p f node x t
-      → ((does_at g x t).ending ≡ None → IsOpen g (point_of (does_at g x t)))
-      → Chooses g node x t (does_at g x t) → IsCase g l base p place f node x t
+pub record IsImaged (site : Site) : Type 0 where
+  pub visits : (node : Node) (x : Point) → MatchesIn site.g node x → IsOpen site.g x → IsVisited site node x
+  pub cases : (node : Node) (x : Point) (t : State) → MatchesIn site.g node x → IsOpen site.g x → HereAt site node x t
+      → ((does_at site.g x t).ending ≡ None → IsOpen site.g (point_of (does_at site.g x t)))
+      → Chooses site.g node x t (does_at site.g x t) → IsCase site node x t
   -- control enters each where it is visited, but for the loads of open switches
-  pub opens : AreCaseTables g
-  pub enters : (node : Node) (x : Point) → IsEntered g l p place f node x
+  pub opens : AreCaseTables site.g
+  pub enters : (node : Node) (x : Point) → IsEntered site node x
 
 abbrev pub ImagesSimulate : Type 0
 ImagesSimulate =
-    (g : Setting) (l : Pieces) (base : ℕ) (p : Placement) (place : ℕ → ℕ → ℕ) (f : Frame) → IsPlaced g l base p place f
-    → IsImaged g l base p place f → Simulates g (IsOpen g) (Here g l base p f) (HasShortForms l.list place)
+    (site : Site) → Placed site → IsImaged site → Simulates site.g (IsOpen site.g) (HereAt site) (Forms site)

@@ -19,10 +19,12 @@ use Rattle.code_runs.specs.Page.{page_word}
 use Rattle.addr_translate.specs.Halves.{IsTwoLevel, found_in}
 use Rattle.addr_translate.specs.Lookup.{TableAt, table_word}
 use Rattle.layout.specs.declared.items.Item.{Item}
-use Rattle.layout.specs.Laid.{Placement, IsLaid, range_in}
+use Rattle.layout.specs.Laid.{HasShortForms, Placement, IsLaid, range_in}
 use Rattle.layout.specs.Running.{HasCode}
 use Rattle.snippet_code.specs.Runs.{DoesJust, IsCellOf, cell_at}
-use Rattle.image_code.specs.Simulates.{CaseTable, Setting, graph_in, is_out, snippet_on, spills_at}
+use Rattle.image_code.specs.Simulates.{CaseTable, Enters, Setting, does_at, gone_at, graph_in}
+use Rattle.image_code.specs.Cost.{is_out, spills_at}
+use Rattle.image_code.specs.Store.{snippet_on}
 
 -- ---- pieces by what they are for
 
@@ -64,13 +66,25 @@ place_by image g l p f node x None slot = f.table.base
 abbrev pub visited_by : Setting → Pieces → Placement → Frame → Node → Point → Option ℕ → Slot → ℕ
 visited_by g l = place_by l.image g l
 
+-- Pieces where they are placed, for a setting. (`g l base p place f` is written out where another crate says it.)
+pub record Site : Type 0 where
+  pub g : Setting
+  pub l : Pieces
+  pub base : ℕ
+  pub p : Placement
+  pub place : ℕ → ℕ → ℕ
+  pub f : Frame
+
+abbrev pub placed_by : (Node → ℕ → ℕ) → Site → Node → Point → ℕ
+placed_by image site node x = place_by image site.g site.l site.p site.f node x (word_at site.g.text x.pc) x.slot
+
 -- the address at which the written file visits the point
-abbrev pub visited_at : Setting → Pieces → Placement → Frame → Node → Point → ℕ
-visited_at g l p f node x = place_by l.image g l p f node x (word_at g.text x.pc) x.slot
+abbrev pub visited_at : Site → Node → Point → ℕ
+visited_at site = placed_by site.l.image site
 
 -- the address at which control enters the piece of the point: before the load of an open switch its address is kept
-abbrev pub entered_at : Setting → Pieces → Placement → Frame → Node → Point → ℕ
-entered_at g l p f node x = place_by l.enter g l p f node x (word_at g.text x.pc) x.slot
+abbrev pub entered_at : Site → Node → Point → ℕ
+entered_at site = placed_by site.l.enter site
 
 -- ---- what its memory has all the while
 
@@ -117,9 +131,24 @@ pub record HereBy (image : Node → ℕ → ℕ) (g : Setting) (l : Pieces) (bas
 abbrev pub Here : Setting → Pieces → ℕ → Placement → Frame → Node → Point → State → Type 0
 Here g l base p f node x t = HereBy l.image g l base p f node x t
 
+abbrev pub HereAt : Site → Node → Point → State → Type 0
+HereAt site node x t = Here site.g site.l site.base site.p site.f node x t
+
 -- where control comes to it
-abbrev pub Entered : Setting → Pieces → ℕ → Placement → Frame → Node → Point → State → Type 0
-Entered g l base p f node x t = HereBy l.enter g l base p f node x t
+abbrev pub Entered : Site → Node → Point → State → Type 0
+Entered site node x t = HereBy site.l.enter site.g site.l site.base site.p site.f node x t
+
+-- no Jump and no Branch is long
+abbrev pub Forms : Site → Type 0
+Forms site = HasShortForms site.l.list site.place
+
+-- What one image does, up to where control enters the next one.
+abbrev pub EntersNext : Site → List ℕ → Node → Point → State → State → Type 0
+EntersNext site edges node x t v = Enters site.g (Entered site) (Forms site) edges node x t v
+
+-- where the original's step leads
+abbrev pub StepsFrom : Site → Node → Point → State → Type 0
+StepsFrom site node x t = let v = does_at site.g x t in EntersNext site (gone_at site.g node x v) node x t v
 
 -- ---- what the notes say of placed code
 
@@ -152,7 +181,7 @@ pub record HasCells (g : Setting) (l : Pieces) (f : Frame) : Type 0 where
   pub own : (cell : ℕ) → cell < g.notes.cells → IsAmongWords f.own (cell_at g.notes.base cell)
   pub named : (edge cell : ℕ) → IsCellOf (snippet_on g.snips edge) cell → cell < g.notes.cells
   pub does : (edge : ℕ)
-      → DoesJust (l.codes edge) g.notes.base (g.dead edge) (spills_at g edge) (snippet_on g.snips edge)
+      → DoesJust (l.codes edge) g.notes.base (g.dead edge) (spills_at g.snips g.dead edge) (snippet_on g.snips edge)
   pub jumps : (edge : ℕ) → is_out (slice_get (graph_in g).edges edge) ≡ true → g.dead edge ≡ []
   pub short : (edge : ℕ) → length (l.codes edge) ≤ 22 * length (snippet_on g.snips edge)
 
@@ -162,3 +191,12 @@ pub record IsPlaced (g : Setting) (l : Pieces) (base : ℕ) (p : Placement) (pla
   pub noted : AreNoted g base p
   pub frame : IsFramed g f
   pub cells : HasCells g l f
+
+abbrev pub Placed : Site → Type 0
+Placed site = IsPlaced site.g site.l site.base site.p site.place site.f
+
+-- A point whose piece is of some shape: the piece carries out its step.
+abbrev pub Follows : (Site → Node → Point → State → Type 0) → Type 0
+Follows Case =
+    (site : Site) → Placed site → (node : Node) (x : Point) (t : State) → HereAt site node x t → Case site node x t
+    → StepsFrom site node x t

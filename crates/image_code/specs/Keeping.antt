@@ -13,9 +13,8 @@ use Rattle.cfg_normal.specs.declared.Node.{Node}
 use Rattle.cfg_walk.specs.Walk.{Point}
 use Rattle.jump_code.specs.Pieces.{word_items}
 use Rattle.jump_code.specs.Keeping.{keep_load}
-use Rattle.layout.specs.Laid.{Placement}
 use Rattle.image_code.specs.Simulates.{CaseTable, IsAtWord, Setting, graph_in}
-use Rattle.image_code.specs.Images.{Frame, Pieces, entered_at, visited_at}
+use Rattle.image_code.specs.Images.{Site, entered_at, visited_at}
 
 -- The words from the load to the jump: an LD with these operands, and no transfer before the jump, with which the block
 -- ends.
@@ -38,17 +37,15 @@ pub record AreCaseTables (g : Setting) : Type 0 where
       → o.block ≡ q.block → o ≡ q
 
 -- a piece that keeps the load's address, and behind which the visit stands
-pub record IsKeeping (g : Setting) (l : Pieces) (p : Placement) (place : ℕ → ℕ → ℕ) (f : Frame)
-    (node : Node) (x : Point) (o : CaseTable) : Type 0 where
+pub record IsKeeping (site : Site) (node : Node) (x : Point) (o : CaseTable) : Type 0 where
   pub piece : ℕ
-  pub here : entered_at g l p f node x ≡ slice_index p.at piece
-  pub items : slice_get l.list piece ≡ Some (word_items (keep_load o.rs1 o.op2))
-  pub behind : place piece 3 ≡ visited_at g l p f node x
+  pub here : entered_at site node x ≡ slice_index site.p.at piece
+  pub items : slice_get site.l.list piece ≡ Some (word_items (keep_load o.rs1 o.op2))
+  pub behind : site.place piece 3 ≡ visited_at site node x
 
-pub data IsEntered (g : Setting) (l : Pieces) (p : Placement) (place : ℕ → ℕ → ℕ) (f : Frame)
-    (node : Node) (x : Point) : Type 0 where
-  at_once : entered_at g l p f node x ≡ visited_at g l p f node x
-      → ((k : ℕ) (o : CaseTable) → slice_get g.opens k ≡ Some o → IsAtWord g o node x o.load → ⊥)
-      → IsEntered g l p place f node x
-  keeping : (k : ℕ) (o : CaseTable) → slice_get g.opens k ≡ Some o → IsAtWord g o node x o.load
-      → IsKeeping g l p place f node x o → IsEntered g l p place f node x
+pub data IsEntered (site : Site) (node : Node) (x : Point) : Type 0 where
+  at_once : entered_at site node x ≡ visited_at site node x
+      → ((k : ℕ) (o : CaseTable) → slice_get site.g.opens k ≡ Some o → IsAtWord site.g o node x o.load → ⊥)
+      → IsEntered site node x
+  keeping : (k : ℕ) (o : CaseTable) → slice_get site.g.opens k ≡ Some o → IsAtWord site.g o node x o.load
+      → IsKeeping site node x o → IsEntered site node x

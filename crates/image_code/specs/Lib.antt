@@ -1,3 +1,5 @@
+pub mod Store
+pub mod Cost
 pub mod Simulates
 pub mod Images
 pub mod Cases

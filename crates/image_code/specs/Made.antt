@@ -37,7 +37,8 @@ use Rattle.layout.specs.Laid.{HasShortForms, Placement}
 use Rattle.snippets.specs.declared.snippet.Op.{Op}
 use Rattle.layout.specs.declared.items.Item.{Item}
 use Rattle.layout.specs.declared.items.Item.TheVariants as it
-use Rattle.image_code.specs.Simulates.{Setting, Simulates, graph_in, number_in, operations_on}
+use Rattle.image_code.specs.Simulates.{Setting, Simulates, graph_in, number_in}
+use Rattle.image_code.specs.Store.{operations_on}
 use Rattle.image_code.specs.Images.{Frame, Here, IsPlaced, Pieces}
 use Rattle.image_code.specs.Cases.{plain_piece, branch_piece}
 use Rattle.image_code.specs.Couple.{couple_piece}

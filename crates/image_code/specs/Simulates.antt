@@ -1,40 +1,33 @@
 -- What the pieces of a program promise, in whatever way they are placed: from a visit of the original's instruction,
 -- a few steps lead to what the original does there, along the edges that its step completes.
-use Rattle.std.specs.Prelude.{◌≡◌, ◌≢◌, ℕ, zero, suc, ◌+◌, ◌*◌, ◌<◌, ◌≤◌, Bool, true, false, not, ◌&&◌, nat_le, nat_lt, List, [], ◌∷◌, length, get_or, replicate, slice_get, slice_index, Option, Some, None}
+use Rattle.std.specs.Prelude.{◌≡◌, ◌≢◌, ℕ, ◌+◌, ◌<◌, ◌≤◌, false, List, [], ◌∷◌, length, slice_get, slice_index, Option, Some, None}
 use Rattle.std.specs.Option.{option_map}
 use Rattle.eel_base.specs.CodeText.{Words, address_of, word_at}
 use Rattle.notes.specs.Format.{NoteRange, Notes, node_at, range_at}
-use Rattle.v8_decode.specs.declared.Instr.{Instr}
-use Rattle.v8_decode.specs.declared.Instr.TheVariants as i
 use Rattle.v8_decode.specs.declared.Op2.{Op2}
 use Rattle.v8_decode.specs.declared.Part.{Part}
 use Rattle.v8_memory.specs.Spans.{Span, AllApart, IsSameOutside}
 use Rattle.v8_step.specs.declared.Slot.TheVariants.{NoSlot}
-use Rattle.v8_step.specs.State.{State, register_of, sum_of}
+use Rattle.v8_step.specs.State.{State, sum_of}
 use Rattle.v8_step.specs.Step.{on_word, puts_on_word}
 use Rattle.v8_step.specs.Run.{run, run_puts}
-use Rattle.v8_step.specs.Items.{StateItem, IsAmong, IsItem, IsSameAt, is_transfer}
+use Rattle.v8_step.specs.Items.{StateItem, IsAmong, IsItem, IsSameAt}
 use Rattle.two_runs.specs.Needed.{judged_in}
 use Rattle.two_runs.specs.Visits.{in_pages, visit_of, pages_of}
-use Rattle.cfg_blocks.specs.declared.EdgeKind.TheVariants as kinds
 use Rattle.cfg_blocks.specs.Blocks.{blocks_of}
-use Rattle.cfg_normal.specs.declared.Edge.{Edge}
 use Rattle.cfg_normal.specs.declared.Node.{Node}
 use Rattle.cfg_normal.specs.declared.Node.TheVariants.{Block}
 use Rattle.cfg_normal.specs.Opens.{Open}
 use Rattle.cfg_normal.specs.Graph.{Graph, IsNodeIn, graph_of}
-use Rattle.cfg_walk.specs.Walk.{Point, point_of, goes_on_at, gone, node_after, gone_in, instr_at, same_kind}
+use Rattle.cfg_walk.specs.Walk.{Point, point_of, goes_on_at, gone, node_after, instr_at}
 use Rattle.cfg_walk.specs.Matches.{Matches}
 use Rattle.cfg_normal.specs.Numbers.{node_number}
 use Rattle.snippets.specs.declared.snippet.Op.{Op}
-use Rattle.snippets.specs.Cells.{named_by, update}
-use Rattle.snippet_code.specs.Runs.{words_at}
-use Rattle.snippet_code.specs.Words.{spills_of}
-use Rattle.code_runs.specs.Counted.{count_stores}
-use Rattle.code_runs.specs.Page.{page_word}
 use Rattle.code_runs.specs.Points.{moved}
 use Rattle.code_runs.specs.PointsAlike.{instr_of}
 use Rattle.jump_code.specs.PageWords.{kept_address}
+use Rattle.image_code.specs.Cost.{IsSparing, IsWatched, is_transfer_at, limit_by}
+use Rattle.image_code.specs.Store.{Edit, cells_in, updates}
 
 -- ---- the original at a point
 
@@ -45,21 +38,6 @@ at_point p t = moved p.pc p.npc p.slot t
 -- the word of the text at an address
 abbrev pub word_of : Words → ℕ → Option ℕ
 word_of text address = option_map (λ word. slice_index text.words word) (word_at text address)
-
--- ---- the store of an edit: the cells begin as zeros, and what an edge that is completed makes of them
-
--- the operations on an edge, by its number
-abbrev pub snippet_on : List (List Op) → ℕ → List Op
-snippet_on snips edge = get_or snips edge []
-
--- each edge's snippet, with the registers of the state that the step reached
-abbrev pub updates : List (List Op) → List ℕ → List ℕ → State → List ℕ
-updates snips [] cells s = cells
-updates snips (edge ∷ edges) cells s = updates snips edges (update (register_of s) (snippet_on snips edge) cells) s
-
-abbrev pub operations_on : List (List Op) → List ℕ → ℕ
-operations_on snips [] = 0
-operations_on snips (edge ∷ edges) = length (snippet_on snips edge) + operations_on snips edges
 
 -- ---- an edit
 
@@ -90,9 +68,9 @@ pub record Setting : Type 0 where
 abbrev pub graph_in : Setting → Graph
 graph_in g = graph_of (blocks_of g.text g.given) g.switches
 
--- the cells, where the notes say that they stand
-abbrev pub cells_in : Setting → State → List ℕ
-cells_in g s = words_at g.notes.base g.notes.cells s.memory
+-- the edit, by its graph
+abbrev pub edit_in : Setting → Edit
+edit_in g = record { text = g.text; graph = graph_in g; snips = g.snips; notes = g.notes }
 
 abbrev pub number_in : Setting → Node → ℕ
 number_in g node = node_number (graph_in g) node
@@ -109,25 +87,12 @@ MatchesIn g node p = Matches g.text (graph_in g) node p × IsNodeIn (graph_in g)
 abbrev pub gone_at : Setting → Node → Point → State → List ℕ
 gone_at g node p v = gone g.text (graph_in g) node p (goes_on_at v)
 
-abbrev pub store_of : Setting → ℕ → State → ℕ → List ℕ
-store_of g entry s0 zero = replicate g.notes.cells 0
-store_of g entry s0 (suc n) =
-    updates g.snips (gone_in g.text (graph_in g) entry s0 n) (store_of g entry s0 n) (run s0 (suc n))
-
--- ---- what a way along some edges leaves, and what it spills
+-- ---- what a way along some edges leaves
 
 -- an item that is dead behind the snippet of none of some edges
 abbrev pub IsKept : Setting → List ℕ → ℕ → StateItem → Type 0
 IsKept g [] window item = Unit {0}
 IsKept g (edge ∷ edges) window item = (IsAmong item window (g.dead edge) → ⊥) × IsKept g edges window item
-
--- how many registers the snippet of an edge spills
-abbrev pub spills_at : Setting → ℕ → ℕ
-spills_at g edge = spills_of (g.dead edge) (named_by (snippet_on g.snips edge)) (snippet_on g.snips edge)
-
-abbrev pub spills_on : Setting → List ℕ → ℕ
-spills_on g [] = 0
-spills_on g (edge ∷ edges) = spills_at g edge + spills_on g edges
 
 -- ---- what one image, landing or slot copy does
 
@@ -138,7 +103,7 @@ pub record IsOnWay (g : Setting) (t u : State) : Type 0 where
   pub live : u.ending ≡ None
   pub visit : visit_of g.notes u ≡ None
   pub place : (r : NoteRange) → range_at g.notes u.pc ≡ Some r
-      → (range_at g.notes t.pc ≡ Some r) × (cells_in g u ≡ cells_in g t)
+      → (range_at g.notes t.pc ≡ Some r) × (cells_in g.notes u ≡ cells_in g.notes t)
 
 -- in the place of the visit, or where that is in none because it lies outside the pages
 pub record IsThere (g : Setting) (t u : State) : Type 0 where
@@ -162,75 +127,19 @@ pub record IsFollowedBy (pages : List Span) (Kept : StateItem → Type 0) (v aft
   pub memory : IsSameOutside pages v.memory after.memory
   pub items : v.ending ≡ None → (item : StateItem) → IsItem item → Kept item → IsSameAt item v after
 
--- ---- how sparing the code is
-
--- a byte of a cell
-abbrev pub is_cell : Notes → ℕ → Bool
-is_cell notes a = nat_le notes.base a && nat_lt a (notes.base + 4 * notes.cells)
-
--- a byte of word 0 of the editor's page, in which long jumps keep a register
-abbrev pub in_first_word : ℕ → Bool
-in_first_word a = nat_le (page_word 0) a && nat_lt a (page_word 0 + 4)
-
--- a byte that only snippets store: in the pages, but neither in a cell nor in that word
-abbrev pub is_spill : Notes → ℕ → Bool
-is_spill notes a = in_pages notes a && (not (is_cell notes a) && not (in_first_word a))
-
-abbrev pub is_jmpl : Option Instr → Bool
-is_jmpl (Some (i.Jmpl rd rs1 op2)) = true
-is_jmpl _ = false
-
-abbrev pub is_transfer_at : Option Instr → Bool
-is_transfer_at None = false
-is_transfer_at (Some instr) = is_transfer instr
-
-abbrev pub is_out : Option Edge → Bool
-is_out None = false
-is_out (Some edge) = same_kind edge.kind kinds.Out
-
-abbrev pub NoneIsOut : Graph → List ℕ → Type 0
-NoneIsOut graph [] = Unit {0}
-NoneIsOut graph (edge ∷ edges) = (is_out (slice_get graph.edges edge) ≡ false) × NoneIsOut graph edges
-
--- The steps whose stores are bounded: the instruction is no JMPL (which keeps its target in the page), the step
--- completes no edge of kind `out` (along which the target is looked up), and the original goes on at a word of the
--- text.
-pub record IsWatched (g : Setting) (edges : List ℕ) (p : Point) (v : State) : Type 0 where
-  pub jump : is_jmpl (instr_at g.text p.pc) ≡ false
-  pub out : NoneIsOut (graph_in g) edges
-  pub inside : word_at g.text v.pc ≢ None
-
--- What so many steps store and take that answer a step of the original.
-pub record IsSparing (g : Setting) (Short : Type 0) (edges : List ℕ) (p : Point) (t : State) (count : ℕ) : Type 0 where
-  -- registers that snippets spill, and no others
-  pub spills : count_stores (is_spill g.notes) t count ≤ spills_on g edges
-  -- Where nothing is long, that word is left alone,
-  pub first : Short → count_stores in_first_word t count ≡ 0
-  -- a word within its block is carried out alone,
-  pub alone : Short → edges ≡ [] → is_transfer_at (instr_at g.text p.pc) ≡ false → count ≡ 1
-  -- and a way without operations has few words.
-  pub few : Short → operations_on g.snips edges ≡ 0 → count ≤ 8
-
--- how many steps a way takes at most
-abbrev pub limit_by : ℕ → Setting → List ℕ → ℕ
-limit_by most g edges = most + 32 * operations_on g.snips edges
-
-abbrev pub limit_on : Setting → List ℕ → ℕ
-limit_on g edges = limit_by 64 g edges
-
 -- `Short` says that no jump and no branch between pieces is long, and `most` is the limit without operations.
 pub record StepsOn (g : Setting) (Here : Node → Point → State → Type 0) (Short : Type 0) (most : ℕ)
     (edges : List ℕ) (node : Node) (p : Point) (t v : State) : Type 0 where
   pub count : ℕ
   pub after : State
-  pub path : Onward g (limit_by most g edges) t after count
+  pub path : Onward g (limit_by most g.snips edges) t after count
   pub puts : (descriptor : ℕ)
       → run_puts t count descriptor ≡ puts_on_word (at_point p t) (word_of g.text p.pc) descriptor
   pub followed : IsFollowedBy (pages_of g.notes) (IsKept g edges v.window) v after
-  pub cells : cells_in g after ≡ updates g.snips edges (cells_in g t) v
+  pub cells : cells_in g.notes after ≡ updates g.snips edges (cells_in g.notes t) v
   pub here : v.ending ≡ None → Here (node_after (graph_in g) node edges) (point_of v) after
   pub place : v.ending ≢ None → IsThere g t after
-  pub sparing : IsWatched g edges p v → IsSparing g Short edges p t count
+  pub sparing : IsWatched (edit_in g) edges p v → IsSparing (edit_in g) g.dead Short edges p t count
 
 -- ---- the address that word 0 of the page keeps from the load of an open switch to its jump
 

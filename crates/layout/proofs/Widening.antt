@@ -1,5 +1,5 @@
 -- Widening only grows, so that every way of widening ends at the same forms.
-use Rattle.std.proofs.Common.{◌≡◌, ℕ, zero, suc, ◌+◌, ◌-◌, ◌^◌, ◌<◌, ◌≤◌, ◌⊎◌, inl, inr, Bool, true, ◌||◌, List, slice_get, Option, Some, None, refl, ap, sym, ◌∙◌, arith}
+use Rattle.std.proofs.Common.{◌≡◌, ℕ, zero, suc, ◌+◌, ◌-◌, ◌<◌, ◌≤◌, ◌⊎◌, inl, inr, Bool, true, ◌||◌, List, slice_get, Option, Some, None, refl, ap, sym, ◌∙◌, arith}
 use Rattle.std.proofs.lemmas.Bool.Decides.{nat_tests}
 use Rattle.std.proofs.lemmas.Bool.{cases_lt, or_cases, or_right}
 use Rattle.layout.specs.declared.entries.Entry.{Entry}
@@ -53,12 +53,6 @@ rises_to f up a b l = let e : a + (b - a) ≡ b = omega arith in rw e at (rises_
 
 pub rises : (entries : List Entry) (long : Forms) (a b : ℕ) → a ≤ b → offset entries long a ≤ offset entries long b
 rises entries long = rises_to (offset entries long) (λ n. omega (arith, offset_more entries long n))
-
-pub far_means : (a b : ℕ) → far a b ≡ true → (a + 2 ^ 21 ≤ b) ⊎ (b + 2 ^ 21 < a)
-far_means a b h = grind (arith, nat_tests)
-
-pub far_if : (a b : ℕ) → (a + 2 ^ 21 ≤ b) ⊎ (b + 2 ^ 21 < a) → far a b ≡ true
-far_if a b h = grind (arith, nat_tests)
 
 further_up : (a b c d : ℕ) → a ≤ b → b + c ≤ d + a → far a b ≡ true → far c d ≡ true
 further_up a b c d l m h = grind (arith, nat_tests)

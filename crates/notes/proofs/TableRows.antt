@@ -9,10 +9,6 @@ use Rattle.notes.specs.declared.note.NotesFault.{NotesFault}
 use Rattle.notes.specs.Written.{cell_word}
 use Rattle.notes.proofs.CellMarks.{cell_word-of, open_cell, none_marked, marks_long, marked_more}
 
--- the place of a row, and of the next
-abbrev pub row_place : ℕ → ℕ → ℕ → ℕ
-row_place at size row = at + size * row
-
 next-place : (at size row : ℕ) → at + size * row + size ≡ at + size * (row + 1)
 next-place at size row = omega arith
 

@@ -18,10 +18,6 @@ read_by-append (Log cell bits value ∷ ops) op = read_by-append ops op
 read_by-append (Keep cell reg ∷ ops) op = ap (λ (z : List Part). Reg reg ∷ z) (read_by-append ops op)
 read_by-append (Top cell reg ∷ ops) op = ap (λ (z : List Part). Reg reg ∷ z) (read_by-append ops op)
 
-pub none_named : [] ≡ named_by []
-unfolding members every_part
-none_named = refl
-
 -- one operation more
 pub one_more : (ops : List Op) (i : ℕ) (d op : Op) (names others : List Part) → i < length ops → op ≡ get_or ops i d
     → names ≡ named_by (take i ops) → others ≡ named_by (op ∷ [])

@@ -61,9 +61,6 @@ module _ (b : Blocks) (k : ℕ) (begins ends : List ℕ) (h : AreBounds b k begi
     begun = h.begun;
   }
 
-  pub no_branch : branch_target (end_of b k) ≡ None → AreBounds b (suc k) begins ends
-  no_branch e = none (λ word. ap (is_between last word) e)
-
   between_no : (t word : ℕ) → last < t → (nat_le t word && nat_le word last) ≡ false
   between_no t word l = grind (arith, nat_tests)
 

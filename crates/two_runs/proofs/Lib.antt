@@ -6,4 +6,6 @@ pub mod Outside
 pub mod Puts
 pub mod Reading
 pub mod RegistersAlike
+pub mod Stays
 pub mod Twins
+pub mod Unmapped

@@ -1,16 +1,17 @@
--- Visits and trails of small runs: they compute.
-use Rattle.std.specs.Prelude.{◌≡◌, ℕ, [], ◌∷◌, Some, None, true, false, refl}
+-- Visits, trails and refusals of small runs: they compute.
+use Rattle.std.specs.Prelude.{◌≡◌, ℕ, [], ◌∷◌, ◌++◌, Some, None, true, false, refl}
 use Rattle.notes.specs.Format.{Notes}
 use Rattle.v8_alu.specs.Alu.{alu_of}
 use Rattle.v8_alu.specs.Conditions.{holds_of}
 use Rattle.v8_decode.specs.Words.{decode_of, arithmetic}
-use Rattle.v8_memory.specs.Regions.{Region, fetch_of}
+use Rattle.v8_memory.specs.Regions.{Region, bytes_at, fetch_of}
 use Rattle.v8_memory.specs.Segments.{empty_heap}
 use Rattle.v8_step.specs.declared.Ending.TheVariants.{Couple}
-use Rattle.v8_step.specs.Calls.{system_call, trap_step}
-use Rattle.v8_step.specs.Run.{first_state}
+use Rattle.v8_step.specs.Calls.{succeeds, system_call, trap_step}
+use Rattle.v8_step.specs.Run.{first_state, zeros}
 use Rattle.v8_step.specs.State.{State}
 use Rattle.v8_step.specs.Step.{act, alu_step, step_of}
+use Rattle.two_runs.specs.Refused.{IsFaulted, is_refusal}
 use Rattle.two_runs.specs.Visits.{visit_of, own_trail}
 
 -- A page of 16 bytes: at 0x20000 stands the instruction of 0x10054 in two words, and at 0x2000c that of 0x10058.
@@ -74,3 +75,22 @@ after_the_end = refl
 three_words_trail : own_trail (at 0x10054) 4 ≡ 0x10054 ∷ 0x10058 ∷ 0x1005c ∷ []
 unfolding decode_of arithmetic step_of act alu_step system_call trap_step alu_of holds_of fetch_of
 three_words_trail = refl
+
+-- ---- refusals
+
+-- a fetch outside the text ends the run by one
+unmapped_fetch : is_refusal (step_of (at 0x20000)).ending ≡ true
+unfolding step_of fetch_of
+unmapped_fetch = refl
+
+-- `ta 16`, as a call to write a byte at an address to descriptor 1
+abbrev at_write : ℕ → State
+at_write address = record (at 0x1005c) { registers = 0 ∷ 4 ∷ zeros 6 ++ 1 ∷ address ∷ 1 ∷ zeros 125 }
+
+unmapped_write : IsFaulted (at_write 0x20000)
+unfolding decode_of arithmetic step_of act system_call trap_step holds_of fetch_of bytes_at
+unmapped_write = (refl, refl)
+
+mapped_write : step_of (at_write 0x10054) ≡ succeeds 1 (at_write 0x10054)
+unfolding decode_of arithmetic step_of act system_call trap_step holds_of fetch_of bytes_at
+mapped_write = refl

@@ -5,6 +5,7 @@
 
 ghost use Rattle.two_runs.specs.Alike.{StepsAlike};
 ghost use Rattle.two_runs.specs.Follows.{RunsFollow};
+ghost use Rattle.two_runs.specs.Refused.{GrantedIsUntouched, UnmappedIsUntouched};
 
 /// Two states that fetch one word, which is no transfer of control, and share what it reads step alike: they end
 /// alike or go on, put out the same bytes, and agree on all that is written, and on all else that they agreed on.
@@ -16,4 +17,14 @@ pub fn steps_alike()
 /// between, the second run answers the first as a whole, and its steps are bounded.
 pub fn runs_follow()
     ensures { RunsFollow }
+{}
+
+/// A run touches memory that isn't mapped only by steps that are refused an access.
+pub fn unmapped_is_untouched()
+    ensures { UnmappedIsUntouched }
+{}
+
+/// So a run that is refused nothing doesn't touch it.
+pub fn granted_is_untouched()
+    ensures { GrantedIsUntouched }
 {}

@@ -1,4 +1,3 @@
-pub mod Equal
 pub mod Marks
 pub mod Members
 pub mod Minus

@@ -133,7 +133,7 @@ pub heap_or_none : (m : Memory) (address count : ℕ) → find (covers address c
 heap_or_none m address count none = rw none
 
 -- regions that are written stay where they are
-spans_stay : (address : ℕ) (bytes : List ℕ) (rs : List Region) → map span_of (map (written address bytes) rs) ≡ map span_of rs
+pub spans_stay : (address : ℕ) (bytes : List ℕ) (rs : List Region) → map span_of (map (written address bytes) rs) ≡ map span_of rs
 spans_stay address bytes [] = refl
 spans_stay address bytes (r ∷ rs) =
     ap (λ z. z ∷ map span_of (map (written address bytes) rs))

@@ -1,5 +1,5 @@
 //! Bytes that are mapped together, and what a program may do with them.
-ghost use Rattle.std.specs.Prelude.{◌≡◌, ◌+◌, ◌<◌, ◌≤◌, ◌^◌, IsTrue, IfOk, length, true, if◌then◌else◌};
+ghost use Rattle.std.specs.Prelude.{◌≡◌, ◌+◌, ◌<◌, ◌≤◌, ◌^◌, ◌&&◌, IsTrue, IfOk, length, false, true, if◌then◌else◌};
 ghost use Rattle.v8_memory.specs.Regions.{covers, part_of, written, is_code};
 ghost use Rattle.v8_memory.specs.Segments.{region_of, empty_heap};
 ghost use Rattle.v8_memory.specs.Calls.{IsPlan, mapping_of_plan};
@@ -112,6 +112,7 @@ impl Region {
         requires { 0 < count }
         ensures whole { result ≡ true → IsTrue (covers address count self.now) }
         ensures may { result ≡ true → self.now.readable ≡ true }
+        ensures denied { result ≡ false → (covers address count self.now && self.now.readable) ≡ false }
     {
         u64::from(address.wrapping_sub(self.start)).saturating_add(count) <= self.to_read
     }
@@ -122,6 +123,7 @@ impl Region {
         requires { 0 < count }
         ensures whole { result ≡ true → IsTrue (covers address count self.now) }
         ensures may { result ≡ true → self.now.writable ≡ true }
+        ensures denied { result ≡ false → (covers address count self.now && self.now.writable) ≡ false }
     {
         u64::from(address.wrapping_sub(self.start)).saturating_add(count) <= self.to_write
     }

@@ -150,7 +150,7 @@ heap_apart file stack (h ∷ hs) none =
     (is_apart_from heap_span (map span_of_mapping (map (mapping_of file) hs ++ stack_mapping stack ∷ [])))
     (beside_heap h file (lies h room.0)) (heap_apart file stack hs room.1)
 
-mapped_apart : (file stack : List ℕ) → load_fault file ≡ None
+pub mapped_apart : (file stack : List ℕ) → load_fault file ≡ None
     → mappings_apart (mappings file ++ stack_mapping stack ∷ []) ≡ true
 unfolding mappings has_memory_outside_a_run has_disorder
 mapped_apart file stack none =

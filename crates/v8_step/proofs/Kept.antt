@@ -11,7 +11,7 @@ use Rattle.v8_step.specs.Step.{act, on_word, step_of, unless_ended}
 use Rattle.v8_step.proofs.KeptOutside.{kept_act as kept_outside}
 
 -- of no pages all is apart
-none_near : (spans : List Span) → AllApart [] spans
+pub none_near : (spans : List Span) → AllApart [] spans
 none_near [] = tt
 none_near (span ∷ spans) = (tt, none_near spans)
 

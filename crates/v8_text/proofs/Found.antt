@@ -42,11 +42,6 @@ unfolding behind
 behind_read mark [] rest h = absurd (cc h)
 behind_read mark (byte ∷ bytes) rest h = grind (arith, nat_tests)
 
--- where another byte comes first there is nothing
-pub not_behind : (mark byte : ℕ) (bytes : List ℕ) → (byte == mark) ≡ false → behind mark (byte ∷ bytes) ≡ None
-unfolding behind
-not_behind mark byte bytes other = rw other refl
-
 -- ---- words without a byte
 
 pub register_whole-44 : (reg : ℕ) → reg < 32 → is_whole 44 (register_text reg) ≡ true

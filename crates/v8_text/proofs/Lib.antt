@@ -5,6 +5,7 @@ pub mod Rows
 pub mod Targets
 pub mod Named
 pub mod Instructions
+pub mod Least
 pub mod Words
 pub mod Put
 pub mod Listed

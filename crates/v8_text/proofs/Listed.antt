@@ -23,12 +23,12 @@ line_split : (at w : ℕ) (after : List ℕ) → line_text at w ++ after ≡ lin
 line_split at w after =
     ap (λ (rest : List ℕ). hex_of at ++ (32 ∷ rest)) (append_assoc (word_text at w) (10 ∷ []) after)
 
-pub line_back : (at w : ℕ) (after : List ℕ) → split_at 10 (line_text at w ++ after) ≡ Some (line_of at w, after)
-line_back at w after =
+pub line_back : (at w : ℕ) (after : List ℕ) → w < 2 ^ 32 → split_at 10 (line_text at w ++ after) ≡ Some (line_of at w, after)
+line_back at w after fits =
     ap (split_at 10) (line_split at w after)
     ∙ split_back 10 (line_of at w) after
     (whole_append 10 (hex_of at) (32 ∷ word_text at w) (plain_whole 10 (omega arith) (hex_of at) (hex_plain at))
-    (word_whole at w))
+    (word_whole at w fits))
 
 -- and a word's text is what stands behind its address
 pub word_behind : (at w : ℕ) → split_at 32 (line_of at w) ≡ Some (hex_of at, word_text at w)
@@ -48,7 +48,7 @@ pub record SameLine (at w : ℕ) (after : List ℕ) (other v : ℕ) (rest : List
 pub same_line : (at w : ℕ) (after : List ℕ) (other v : ℕ) (rest : List ℕ) → at < 2 ^ 32 → w < 2 ^ 32 → other < 2 ^ 32
     → v < 2 ^ 32 → line_text at w ++ after ≡ line_text other v ++ rest → SameLine at w after other v rest
 same_line at w after other v rest a b c d same =
-    let lines = both (sym (line_back at w after) ∙ ap (split_at 10) same ∙ line_back other v rest) in
+    let lines = both (sym (line_back at w after b) ∙ ap (split_at 10) same ∙ line_back other v rest d) in
     let words = both (sym (word_behind at w) ∙ ap (split_at 32) lines.0 ∙ word_behind other v) in
     let address : at ≡ other = cc (words.0, address_back at a, address_back other c) in
     record {
@@ -95,24 +95,24 @@ line_is line parts at w split is text =
 -- ---- the next line
 
 module _ (bytes : List ℕ) (next : Option ℕ) where
-  pub no_newline : split_at 10 bytes ≡ None → (at w : ℕ) (after : List ℕ) → bytes ≢ line_text at w ++ after
-  no_newline none at w after same = cc (line_back at w after)
+  pub no_newline : split_at 10 bytes ≡ None → (at w : ℕ) (after : List ℕ) → w < 2 ^ 32 → bytes ≢ line_text at w ++ after
+  no_newline none at w after fits same = cc (line_back at w after fits)
 
   module _ (parts : List ℕ × List ℕ) (split : split_at 10 bytes ≡ Some parts) where
-    line_there : (at w : ℕ) (after : List ℕ) → bytes ≡ line_text at w ++ after → parts.0 ≡ line_of at w
-    line_there at w after same =
-        let are : parts ≡ (line_of at w, after) = cc (line_back at w after) in
+    line_there : (at w : ℕ) (after : List ℕ) → w < 2 ^ 32 → bytes ≡ line_text at w ++ after → parts.0 ≡ line_of at w
+    line_there at w after fits same =
+        let are : parts ≡ (line_of at w, after) = cc (line_back at w after fits) in
         ap (λ (p : List ℕ × List ℕ). p.0) are
 
     pub not_a_line : IsLineOf parts.0 None → (at w : ℕ) (after : List ℕ) → at < 2 ^ 32 → w < 2 ^ 32
         → bytes ≢ line_text at w ++ after
-    not_a_line none at w after low fits same = none at w low fits (line_there at w after same)
+    not_a_line none at w after low fits same = none at w low fits (line_there at w after fits same)
 
     pub elsewhere : (at w : ℕ) → at < 2 ^ 32 → w < 2 ^ 32 → parts.0 ≡ line_of at w → is_next next at ≡ false
         → (other v : ℕ) (after : List ℕ) → other < 2 ^ 32 → v < 2 ^ 32 → is_next next other ≡ true
         → bytes ≢ line_text other v ++ after
     elsewhere at w low fits line isnt other v after a b is same =
-        let there = line_there other v after same in
+        let there = line_there other v after b same in
         let one = same_line at w [] other v [] low fits a b
         (line_split at w [] ∙ ap (λ (l : List ℕ). l ++ (10 ∷ [])) (sym line ∙ there) ∙ sym (line_split other v [])) in
         cc one.address

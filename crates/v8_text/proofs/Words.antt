@@ -10,10 +10,11 @@ use Rattle.v8_decode.specs.declared.Instr.{Instr}
 use Rattle.v8_decode.specs.Words.{decode_of}
 use Rattle.v8_decode.proofs.Rows.{decode_of-ranges}
 use Rattle.v8_encode.specs.Encoding.{encode_of, has_word, word_of}
-use Rattle.v8_text.specs.Texts.{instr_text, is_spelled, is_word, named, number_text, raw_text, word_text}
+use Rattle.v8_text.specs.Texts.{instr_text, is_spelled, named, number_text, raw_text, word_text}
 use Rattle.v8_text.specs.Parts.{instr_of, joined_of, name_of, single_of, number_in, raw_of, unspelled, word_in}
 use Rattle.v8_text.specs.Laws.{TextsReadBack}
 use Rattle.v8_text.proofs.Found.{text_is}
+use Rattle.v8_text.proofs.Least.{is_word, spelled_is}
 use Rattle.v8_text.proofs.Plain.{hex_plain, instr_whole, named_whole}
 use Rattle.v8_text.proofs.Targets.{number_in_back, number_in_read}
 use Rattle.v8_text.proofs.Instructions.{instr_back, instr_read}
@@ -28,10 +29,14 @@ has : (instr : Instr) (w : ℕ) → encode_of instr ≡ Some w → has_word inst
 unfolding encode_of
 has instr w h = (tested (has_word instr) (word_of instr) w h).0
 
-spelled_back : (at w : ℕ) → at < 2 ^ 32 → is_spelled w ≡ true → word_in at (instr_text at (decode_of w)) ≡ Some w
+-- a word that is told as an instruction is what that is encoded as
+pub encoded_again : (w : ℕ) → w < 2 ^ 32 → is_spelled w ≡ true → encode_of (decode_of w) ≡ Some w
+encoded_again w fits is = again_is w (encode_of (decode_of w)) (sym (spelled_is w fits) ∙ is)
+
+spelled_back : (at w : ℕ) → at < 2 ^ 32 → w < 2 ^ 32 → is_spelled w ≡ true → word_in at (instr_text at (decode_of w)) ≡ Some w
 unfolding word_in
-spelled_back at w low is =
-    let encoded = again_is w (encode_of (decode_of w)) is in
+spelled_back at w low fits is =
+    let encoded = encoded_again w fits is in
     rw (instr_back at (decode_of w) low (decode_of-ranges w).0 (has (decode_of w) w encoded), encoded) refl
 
 -- ---- words that are told as numbers
@@ -51,14 +56,14 @@ raw_back at w fits is =
 pub word_back : TextsReadBack
 unfolding word_text
 word_back at w low fits =
-    cond_both (is_spelled w) _ _ (λ text. word_in at text ≡ Some w) (spelled_back at w low) (raw_back at w fits)
+    cond_both (is_spelled w) _ _ (λ text. word_in at text ≡ Some w) (spelled_back at w low fits) (raw_back at w fits)
 
 -- what is read as an instruction
-pub spelled_read : (at w : ℕ) (text : List ℕ) (instr : Instr) → at < 2 ^ 32 → instr_of at text ≡ Some instr
+pub spelled_read : (at w : ℕ) (text : List ℕ) (instr : Instr) → at < 2 ^ 32 → w < 2 ^ 32 → instr_of at text ≡ Some instr
     → encode_of instr ≡ Some w → decode_of w ≡ instr → text ≡ word_text at w
 unfolding word_text
-spelled_read at w text instr low is encoded decoded =
-    let again : is_spelled w ≡ true = rw (decoded, encoded) (eq-eqb w w refl) in
+spelled_read at w text instr low fits is encoded decoded =
+    let again : is_spelled w ≡ true = rw (spelled_is w fits, decoded, encoded) (eq-eqb w w refl) in
     rw (again, decoded) (instr_read at text instr low is)
 
 -- and as a number
@@ -94,9 +99,9 @@ nothing_read at text a b = rw (a, b) refl
 
 -- ---- and no text has a newline
 
-pub word_whole : (at w : ℕ) → is_whole 10 (word_text at w) ≡ true
+pub word_whole : (at w : ℕ) → w < 2 ^ 32 → is_whole 10 (word_text at w) ≡ true
 unfolding word_text
-word_whole at w =
+word_whole at w fits =
     cond_both (is_spelled w) _ _ (λ text. is_whole 10 text ≡ true)
-    (λ is. instr_whole at (decode_of w) (decode_of-ranges w).0 (has (decode_of w) w (again_is w (encode_of (decode_of w)) is)))
+    (λ is. instr_whole at (decode_of w) (decode_of-ranges w).0 (has (decode_of w) w (encoded_again w fits is)))
     (λ _. named_whole (codes ".word") (number_text w) refl (hex_plain w))

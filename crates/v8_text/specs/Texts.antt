@@ -1,13 +1,15 @@
 -- The text of an instruction word, after appendix A ("Suggested Assembly Language Syntax") of The SPARC Architecture
 -- Manual, Version 8, with one spelling for each word: a name, one space, and operands with commas and brackets alone
 -- between them. A word that is no instruction, or has a bit set that its instruction ignores, is told as a number.
-use Rattle.std.specs.Prelude.{◌≡◌, ℕ, suc, ◌+◌, ◌*◌, ◌%◌, ◌^◌, Bool, false, ◌==◌, if◌then◌else◌, List, [], ◌∷◌, ◌++◌, get_or, codes, decimal, Option, Some, None, ℤ, pos, negsuc, refl}
+use Rattle.std.specs.Prelude.{ℕ, suc, ◌+◌, ◌*◌, ◌%◌, ◌^◌, Bool, not, ◌&&◌, if◌then◌else◌, List, [], ◌∷◌, ◌++◌, get_or, codes, decimal, ℤ, pos, negsuc}
 use Rattle.std.specs.Int.{w32, cast_unsigned}
+use Rattle.std.specs.List.{list_any, range_with_len}
 use Rattle.eel_base.specs.CodeText.{Words}
 use Rattle.eel_base.specs.Fields.{hex_of}
 use Rattle.line_words.specs.Words.{register_text}
 use Rattle.v8_decode.specs.declared.Instr.{Instr}
 use Rattle.v8_decode.specs.declared.Instr.TheVariants as i
+use Rattle.v8_decode.specs.contracts.InstrPartialEq.TheImpl as instr_eq
 use Rattle.v8_decode.specs.declared.Op2.{Op2}
 use Rattle.v8_decode.specs.declared.Op2.TheVariants as o
 use Rattle.v8_decode.specs.declared.AluOp.{AluOp}
@@ -16,9 +18,8 @@ use Rattle.v8_decode.specs.declared.LoadKind.{LoadKind}
 use Rattle.v8_decode.specs.declared.LoadKind.TheVariants as loads
 use Rattle.v8_decode.specs.declared.StoreKind.{StoreKind}
 use Rattle.v8_decode.specs.declared.StoreKind.TheVariants as stores
-use Rattle.std.specs.Fmt.{digits}
-use Rattle.v8_decode.specs.Words.{arithmetic, branch_or_sethi, decode_of, memory}
-use Rattle.v8_encode.specs.Encoding.{encode_of}
+use Rattle.v8_decode.specs.Words.{decode_of}
+use Rattle.v8_encode.specs.Encoding.{is_instruction}
 
 -- ---- names
 
@@ -145,13 +146,17 @@ instr_text at _ = []
 abbrev pub raw_text : ℕ → List ℕ
 raw_text w = named (codes ".word") (number_text w)
 
-abbrev pub is_word : ℕ → Option ℕ → Bool
-is_word w None = false
-is_word w (Some again) = again == w
+-- two instructions are the same
+abbrev pub same_instr : Instr → Instr → Bool
+same_instr = (instr_eq.ghosts).eq
 
--- the word is what its instruction is encoded as
+-- No lesser word decodes to the same instruction: the word has 0 in each bit that its instruction ignores.
+unfoldable pub is_least : ℕ → Bool
+is_least w = not (list_any (λ v. same_instr (decode_of v) (decode_of w)) (range_with_len 0 w))
+
+-- the word is told as an instruction
 abbrev pub is_spelled : ℕ → Bool
-is_spelled w = is_word w (encode_of (decode_of w))
+is_spelled w = is_instruction (decode_of w) && is_least w
 
 -- the word at an address
 unfoldable pub word_text : ℕ → ℕ → List ℕ
@@ -169,30 +174,3 @@ lines_from at (w ∷ words) = line_text at w ++ lines_from (at + 4) words
 
 abbrev pub listing_text : Words → List ℕ
 listing_text text = lines_from text.start text.words
-
--- ---- some texts
-
-branch_back : word_text 0x10060 0x12bffffe ≡ codes "bne 0x00010058"
-unfolding word_text encode_of decode_of branch_or_sethi arithmetic memory digits
-branch_back = refl
-
-a_frame : word_text 0 0x9de3bfa0 ≡ codes "save %o6,-96,%o6"
-unfolding word_text encode_of decode_of branch_or_sethi arithmetic memory digits
-a_frame = refl
-
-a_load : word_text 0 0xc2004008 ≡ codes "ld [%g1,%o0],%g1"
-unfolding word_text encode_of decode_of branch_or_sethi arithmetic memory digits
-a_load = refl
-
-an_ignored_bit : word_text 0 0xc2004028 ≡ codes ".word 0xc2004028"
-unfolding word_text encode_of decode_of branch_or_sethi arithmetic memory digits
-an_ignored_bit = refl
-
-no_instruction : word_text 0 0 ≡ codes ".word 0x00000000"
-unfolding word_text encode_of decode_of branch_or_sethi arithmetic memory digits
-no_instruction = refl
-
-three_words : lines_from 0x10054 (0x82102001 ∷ 0x90102003 ∷ 0x91d02010 ∷ [])
-    ≡ codes "00010054 or %g0,1,%g1\n00010058 or %g0,3,%o0\n0001005c ta %g0,16\n"
-unfolding word_text encode_of decode_of branch_or_sethi arithmetic memory digits
-three_words = refl

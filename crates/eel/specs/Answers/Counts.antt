@@ -7,34 +7,37 @@ use Rattle.v8_process.specs.Arguments.{AreArguments}
 use Rattle.v8_process.specs.Start.{start_of}
 use Rattle.walk_counts.specs.Counts.{executions}
 use Rattle.dump_file.specs.Dump.{Dump}
-use Rattle.count_rebuild.specs.Answers.{AreCounts, IsBetween, IsForOther, IsImpossible, IsLong, IsMisshapen, IsOfOther, IsTooLarge}
+use Rattle.count_rebuild.specs.Answers.{AreCounts, IsImpossible, IsLong, IsTooLarge}
+use Rattle.count_rebuild.specs.Counts.{IsShort}
+use Rattle.count_rebuild.specs.Dumps.{IsBetween, IsForOther, IsMisshapen, IsOfOther}
 use Rattle.count_rebuild.specs.Noted.{IsProfile as HasProfile}
 use Rattle.count_rebuild.specs.declared.fault.CountFault.{CountFault}
 use Rattle.count_rebuild.specs.declared.fault.CountFault.TheVariants as faults
 use Rattle.two_runs.specs.Needed.{IsUntouched}
 use Rattle.two_runs.specs.Visits.{pages_of}
 use Rattle.tool_kit.specs.Plans.{Plan}
+use Rattle.exact_counts.specs.Exits.{HaveExited}
 use Rattle.exact_counts.specs.Laws.{counter_limit}
 use Rattle.exact_counts.specs.Profiles.{CountsOffTree, original_graph}
 use Rattle.exact_counts.specs.Stops.{dump_at, visits_by}
 use Rattle.edit_core.specs.Faithful.{IsFaithful}
 use Rattle.elf32_sparc.specs.FileFault.{fault}
 use Rattle.show_text.specs.CountLines.{count_lines}
-use Rattle.eel.specs.declared.outcome.CountCause.{CountCause}
-use Rattle.eel.specs.declared.outcome.CountCause.TheVariants as causes
-use Rattle.eel.specs.Outcome.{Outcome, NoProfile, NoCounts, OutOfMemory}
-use Rattle.eel.specs.Answers.Shared.{edit_limit}
+use Rattle.eel_said.specs.declared.outcome.CountCause.{CountCause}
+use Rattle.eel_said.specs.declared.outcome.CountCause.TheVariants as causes
+use Rattle.eel_said.specs.Outcome.{Outcome, NoProfile, NoCounts, OutOfMemory}
+use Rattle.eel_said.specs.Shared.{edit_limit}
 use Rattle.eel.specs.Answers.Profile.{IsMarkedProfile, plan_with}
 
 -- ---- refusals
 
 -- why there are no counts, by the notes of a profile and a dump
 abbrev pub HasCause : Notes → Dump → CountCause → Type 0
-HasCause notes dump (causes.Version of wanted) = IsOfOther notes dump of wanted
-HasCause notes dump (causes.Length length wanted) = IsForOther notes dump length wanted
-HasCause notes dump (causes.Shape cells wanted) = IsMisshapen notes dump cells wanted
+HasCause notes dump (causes.Version of wanted) = IsOfOther HasProfile notes dump of wanted
+HasCause notes dump (causes.Length length wanted) = IsForOther HasProfile notes dump length wanted
+HasCause notes dump (causes.Shape cells wanted) = IsMisshapen HasProfile notes dump cells wanted
 HasCause notes dump (causes.Steps steps) = IsLong notes dump steps
-HasCause notes dump (causes.Between pc) = IsBetween notes dump pc.0
+HasCause notes dump (causes.Between pc) = IsBetween IsShort notes dump pc.0
 HasCause notes dump (causes.Negative edge value) = IsImpossible notes dump edge.0 value
 HasCause notes dump (causes.Large edge value) = IsTooLarge notes dump edge.0 value
 
@@ -108,6 +111,29 @@ AreExact file notes dump counts =
     → slice_index counts e
     ≡ executions (image_of original).text (original_graph original made.plan) (image_of original).entry
     (start_of original args input) (visits_by notes (start_of file args input) m - 1) e
+
+-- The same of a run that is over, where the original ends by `exit` and none of its buffers is refused: without a word of
+-- pages.
+pub record IsOfExit (original file : List ℕ) (notes : Notes) (dump : Dump) (args : List (List ℕ)) (input : List ℕ)
+    (n m : ℕ) : Type 0 where
+  pub bytes : AreBytes original
+  pub plan : Plan
+  pub profile : IsProfile original plan file notes
+  pub arguments : AreArguments args
+  pub given : AreBytes input
+  pub exited : HaveExited (start_of original args input) (start_of file args input) n m
+  pub few : m < counter_limit notes.version
+  pub is : dump ≡ dump_at notes (start_of file args input) m
+
+-- Then the counts are how often the original's whole run completes each edge.
+abbrev pub AreOfWholeRuns : List ℕ → Notes → Dump → List ℕ → Type 0
+AreOfWholeRuns file notes dump counts =
+    (original : List ℕ) (args : List (List ℕ)) (input : List ℕ) (n m : ℕ)
+    → (made : IsOfExit original file notes dump args input n m)
+    → (e : ℕ) → e < length notes.edges
+    → slice_index counts e
+    ≡ executions (image_of original).text (original_graph original made.plan) (image_of original).entry
+    (start_of original args input) n e
 
 -- And there are counts, but for want of memory, and where the run stands between places, which it doesn't where it has ended.
 abbrev pub MayMiss : List ℕ → Dump → Outcome → Type 0

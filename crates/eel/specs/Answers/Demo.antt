@@ -1,7 +1,6 @@
 -- `demo NUMBER ROUTINES`: a program of so many routines is made from the number and edited with counters, both are run
 -- without arguments and input, and what is told of them is printed.
 use Rattle.std.specs.Prelude.{◌≡◌, ℕ, List, [], ◌∷◌, ◌++◌, length, codes, decimal, Some}
-use Rattle.eel_base.specs.Outside.{appended}
 use Rattle.elf32_sparc.specs.Image.{image_of}
 use Rattle.v8_step.specs.declared.Ending.{Ending}
 use Rattle.v8_step.specs.State.{State}
@@ -13,9 +12,9 @@ use Rattle.cfg_walk.specs.Walk.{walk}
 use Rattle.show_text.specs.Lines.{line}
 use Rattle.workload.specs.Generated.{generated}
 use Rattle.eel.specs.declared.demo.Size.{Size}
-use Rattle.eel.specs.Outcome.{Outcome, OutOfMemory, ending_text}
-use Rattle.eel.specs.Answers.Shared.{Outside, Meaning, IsPrinted, IsQuiet, prints_mean}
-use Rattle.eel.specs.Answers.Profile.{graph_in}
+use Rattle.eel_said.specs.Outcome.{Outcome, OutOfMemory, ending_text}
+use Rattle.eel_said.specs.Shared.{Outside, Meaning, prints_mean}
+use Rattle.eel.specs.Answers.Steps.{Prints}
 
 -- ---- the run of a file without arguments and input
 
@@ -29,7 +28,7 @@ pub record EndsAlone (file : List ℕ) (ending : Ending) (steps : ℕ) : Type 0 
 
 -- the edges that so many steps complete, in order
 abbrev pub walk_alone : List ℕ → ℕ → List ℕ
-walk_alone file steps = walk (image_of file).text (graph_in file) (image_of file).entry (alone file) steps
+walk_alone file steps = walk (image_of file).text (view_of file []).graph (image_of file).entry (alone file) steps
 
 -- ---- the lines
 
@@ -77,21 +76,9 @@ IsTold number routines lines = TellOf number routines (generated number routines
 
 -- ---- the command
 
--- How a demonstration goes, and what comes of it: nothing but want of memory and a stream that fails keeps the lines
--- from being printed.
-pub data Tells (number routines : ℕ) (old new : Outside) (outcome : Outcome) : Type 0 where
-  -- memory was wanting
-  wanting : outcome ≡ OutOfMemory → IsQuiet old new → Tells number routines old new outcome
-  -- the lines were to be printed
-  printed : (lines : List ℕ) → IsTold number routines lines → IsPrinted old.out new.out lines outcome
-      → new.err.taken ≡ old.err.taken → Tells number routines old new outcome
-
--- the lines are printed
-pub record WasTold (number routines : ℕ) (old new : Outside) : Type 0 where
-  pub lines : List ℕ
-  pub told : IsTold number routines lines
-  pub out : new.out.taken ≡ appended old.out.taken lines
-  pub err : new.err.taken ≡ old.err.taken
+-- Nothing but want of memory and a stream that fails keeps the lines from being printed.
+abbrev pub Tells : ℕ → ℕ → Outside → Outside → Outcome → Type 0
+Tells number routines = Prints (λ outcome. outcome ≡ OutOfMemory) (IsTold number routines)
 
 abbrev pub demo_means : ℕ → ℕ → Meaning
-demo_means number routines = prints_mean (Tells number routines) (WasTold number routines) (λ old new. ⊥)
+demo_means number routines = prints_mean (Tells number routines) (λ old new. ⊥)

@@ -1,8 +1,8 @@
--- `run FILE -d DUMP [-n LIMIT] [-- ARG..]`: the same as without a dump, and before the ending line what the run has
--- come to is written as DUMP.
-use Rattle.std.specs.Prelude.{◌≡◌, ℕ, ◌<◌, ◌⊎◌, true, false, List, [], Option, None, Ok}
+-- `run FILE [-n LIMIT] [-d DUMP] [-- ARG..]`: the file is read, then the whole input, the file is judged and loaded, and
+-- its program runs. What it has come to is written as DUMP, where one is named, before the ending line.
+use Rattle.std.specs.Prelude.{◌≡◌, ◌≢◌, ℕ, ◌<◌, ◌⊎◌, true, false, List, [], Option, Some, None, Ok}
 use Rattle.std.specs.List.{list_any}
-use Rattle.eel_base.specs.Outside.{IsMissing, Rose, appended, stored}
+use Rattle.eel_base.specs.Outside.{IsMissing, Rose, appended}
 use Rattle.elf32_sparc.specs.FileFault.{load_fault}
 use Rattle.elf32_sparc.specs.Mapping.{mappings}
 use Rattle.notes.specs.Format.{Notes, notes_of}
@@ -14,10 +14,10 @@ use Rattle.v8_runner.specs.Runs.{AreMade}
 use Rattle.dump_file.specs.Written.{dump_bytes}
 pub use Rattle.exact_counts.specs.Stops.{dump_of}
 use Rattle.edit_core.specs.Faithful.{holds_cells}
-use Rattle.eel.specs.Outcome.{Outcome, Stopped, BadNotes, OutOfMemory, DeviceFault, Done, line_of}
-use Rattle.eel.specs.Answers.Shared.{HaveFailed, Outside, Store, Meaning, WasRead, IsUnread, IsPut, IsUnused, IsQuiet, IsSilent, written_limit}
+use Rattle.eel_said.specs.Outcome.{Outcome, Stopped, BadNotes, OutOfMemory, DeviceFault, Done}
+use Rattle.eel_said.specs.Shared.{HaveFailed, Outside, Store, Meaning, WasRead, IsUnread, IsPut, IsUnused, IsQuiet, IsSilent, written_limit}
 use Rattle.eel.specs.Answers.Noted.{IsUnnoted}
-use Rattle.eel.specs.Answers.Run.{HasRun, IsNotRun, IsUnfed, StopsAt, WasBroken, WasFed}
+use Rattle.eel.specs.Answers.Run.{HasRun, IsNotRun, IsRun, IsUnfed, StopsAt, WasBroken, WasFed}
 
 -- ---- the notes
 
@@ -78,49 +78,42 @@ IsDumped notes s0 limit dump old new DeviceFault =
     ⊎ WasUnput notes s0 limit dump old new
 IsDumped notes s0 limit dump old new _ = ⊥
 
--- How a run with a dump goes, step by step, and what comes of it.
-pub data Dumps (file : List ℕ) (limit : ℕ) (dump : List ℕ) (args : List (List ℕ)) (old new : Outside)
+-- ---- the command
+
+-- FILE and the input were read, and the program isn't run: it can't be loaded, or has no notes by which to dump it, where it
+-- is to be dumped.
+abbrev pub IsNotBegun : List ℕ → Option (List ℕ) → List ℕ → Outcome → Type 0
+IsNotBegun file None bytes outcome = IsNotRun file bytes outcome
+IsNotBegun file (Some dump) bytes outcome =
+    IsNotRun file bytes outcome ⊎ ((load_fault bytes ≡ None) × IsNotNoted file bytes outcome)
+
+-- it was run, and this comes of it
+abbrev pub HasGone : List ℕ → State → ℕ → Option (List ℕ) → Outside → Outside → Outcome → Type 0
+HasGone bytes s0 limit None old new outcome =
+    IsRun s0 limit old.out new.out old.err new.err outcome × (new.files.held ≡ old.files.held)
+HasGone bytes s0 limit (Some dump) old new outcome =
+    (notes : Notes) × IsNoted bytes notes × IsDumped notes s0 limit dump old new outcome
+
+-- How a run goes, step by step, and what comes of it.
+pub data Runs (file : List ℕ) (limit : ℕ) (dump : Option (List ℕ)) (args : List (List ℕ)) (old new : Outside)
     (outcome : Outcome) : Type 0 where
   -- FILE gave no bytes
   unread : IsUnread old.files new.files file written_limit outcome → IsUnused old new → IsQuiet old new
-      → new.files.held ≡ old.files.held
-      → Dumps file limit dump args old new outcome
+      → new.files.held ≡ old.files.held → Runs file limit dump args old new outcome
   -- FILE was read, and not all of the input
   unfed : (bytes : List ℕ) → WasRead old.files file written_limit bytes
       → IsUnfed old.input new.input outcome → IsQuiet old new → new.files.held ≡ old.files.held
-      → Dumps file limit dump args old new outcome
+      → Runs file limit dump args old new outcome
   -- both were read, and the program isn't run
   refused : (bytes : List ℕ) → WasRead old.files file written_limit bytes
       → (input : List ℕ) → WasFed old.input new.input input
-      → IsNotRun file bytes outcome → IsQuiet old new → new.files.held ≡ old.files.held
-      → Dumps file limit dump args old new outcome
-  -- it could be run, and has no notes that can be dumped by
-  unnoted : (bytes : List ℕ) → WasRead old.files file written_limit bytes
-      → (input : List ℕ) → WasFed old.input new.input input
-      → load_fault bytes ≡ None → IsNotNoted file bytes outcome → IsQuiet old new
-      → new.files.held ≡ old.files.held
-      → Dumps file limit dump args old new outcome
+      → IsNotBegun file dump bytes outcome → IsQuiet old new → new.files.held ≡ old.files.held
+      → Runs file limit dump args old new outcome
   -- it was run
   ran : (bytes : List ℕ) → WasRead old.files file written_limit bytes
-      → (input : List ℕ) → WasFed old.input new.input input
-      → load_fault bytes ≡ None → (notes : Notes) → IsNoted bytes notes
-      → IsDumped notes (start_of bytes args input) limit dump old new outcome
-      → Dumps file limit dump args old new outcome
-
--- The run is done, and DUMP is written: the ending line follows what it put out to the error stream.
-pub record WasDumped (file : List ℕ) (limit : ℕ) (dump : List ℕ) (args : List (List ℕ))
-    (old new : Outside) : Type 0 where
-  pub bytes : List ℕ
-  pub read : WasRead old.files file written_limit bytes
-  pub loads : load_fault bytes ≡ None
-  pub notes : Notes
-  pub noted : IsNoted bytes notes
-  pub input : List ℕ
-  pub fed : WasFed old.input new.input input
-  pub ending : Option Ending
-  pub steps : ℕ
-  pub ran : HasRun (start_of bytes args input) limit ending steps (line_of (Stopped ending steps)) old.out new.out old.err new.err
-  pub held : new.files.held ≡ stored old.files.held dump (dump_after notes (start_of bytes args input) steps)
+      → (input : List ℕ) → WasFed old.input new.input input → load_fault bytes ≡ None
+      → HasGone bytes (start_of bytes args input) limit dump old new outcome
+      → Runs file limit dump args old new outcome
 
 -- Memory was wanting for the dump, and the output has taken all that the run put out.
 pub record HasPutAll (file : List ℕ) (limit : ℕ) (args : List (List ℕ)) (old new : Outside) : Type 0 where
@@ -133,11 +126,10 @@ pub record HasPutAll (file : List ℕ) (limit : ℕ) (args : List (List ℕ)) (o
   pub stops : StopsAt (start_of bytes args input) limit steps
   pub out : new.out.taken ≡ appended old.out.taken (run_puts (start_of bytes args input) steps 1)
 
-abbrev pub dump_means : List ℕ → ℕ → List ℕ → List (List ℕ) → Meaning
-dump_means file limit dump args = record {
-  follows = λ old new outcome. Dumps file limit dump args old new outcome;
-  does = λ old new. WasDumped file limit dump args old new;
-  wants = λ old new. IsSilent old new ⊎ HasPutAll file limit args old new;
+abbrev pub run_means : List ℕ → ℕ → Option (List ℕ) → List (List ℕ) → Meaning
+run_means file limit dump args = record {
+  follows = Runs file limit dump args;
+  wants = λ old new. IsSilent old new ⊎ ((dump ≢ None) × HasPutAll file limit args old new);
   fails = λ old new.
       HaveFailed (λ files. IsMissing files.held file) old.files new.files
       ⊎ Rose old.input.faults new.input.faults ⊎ Rose old.out.faults new.out.faults;

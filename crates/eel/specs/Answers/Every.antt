@@ -5,8 +5,6 @@ use Rattle.std.specs.List.{range_with_len}
 use Rattle.eel_base.specs.declared.numbers.WordNo.{WordNo}
 use Rattle.elf32_sparc.specs.Image.{image_of}
 use Rattle.cfg_view.specs.View.{Seen, view_of}
-use Rattle.eel.specs.Answers.Shared.{Meaning}
-use Rattle.eel.specs.Answers.Profile.{profile_means}
 
 -- the words of a file's text, by their numbers
 abbrev pub every_word : List ℕ → List ℕ
@@ -18,6 +16,3 @@ word_numbered number = record { 0 = number }
 -- the view of a file with all of them marked
 abbrev pub every_view : List ℕ → Seen
 every_view bytes = view_of bytes (every_word bytes)
-
-abbrev pub every_means : List ℕ → List ℕ → Meaning
-every_means input output = profile_means every_word input output

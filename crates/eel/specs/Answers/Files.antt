@@ -2,7 +2,7 @@
 use Rattle.std.specs.Prelude.{◌≡◌, ℕ, List, Some, None}
 use Rattle.elf32_sparc.specs.declared.fault.FileFault.{FileFault}
 use Rattle.elf32_sparc.specs.FileFault.{fault, load_fault, code_of}
-use Rattle.eel.specs.Outcome.{Outcome, BadFile, OutOfMemory}
+use Rattle.eel_said.specs.Outcome.{Outcome, BadFile, OutOfMemory}
 
 -- a file without a fault
 abbrev pub IsSound : List ℕ → Type 0

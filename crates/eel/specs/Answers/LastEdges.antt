@@ -1,5 +1,5 @@
 -- `trace WRITTEN DUMP`: the last edges that the dump DUMP tells of by the notes of WRITTEN, the oldest first.
-use Rattle.std.specs.Prelude.{◌≡◌, ℕ, ◌-◌, ◌≤◌, List, Ok}
+use Rattle.std.specs.Prelude.{◌≡◌, ℕ, ◌-◌, ◌≤◌, List, [], Ok}
 use Rattle.elf32_sparc.specs.Image.{image_of}
 use Rattle.notes.specs.Format.{Notes, notes_of}
 use Rattle.two_runs.specs.Needed.{IsUntouched}
@@ -7,21 +7,22 @@ use Rattle.v8_step.specs.Valid.{AreBytes}
 use Rattle.two_runs.specs.Visits.{pages_of}
 use Rattle.v8_process.specs.Arguments.{AreArguments}
 use Rattle.v8_process.specs.Start.{start_of}
+use Rattle.cfg_view.specs.View.{view_of}
 use Rattle.cfg_walk.specs.Walk.{walk}
 use Rattle.dump_file.specs.Dump.{Dump}
 use Rattle.edit_core.specs.Faithful.{IsFaithful}
 use Rattle.exact_counts.specs.Stops.{dump_at, visits_by}
 use Rattle.edge_ring.specs.declared.fault.RingFault.{RingFault}
 use Rattle.edge_ring.specs.declared.fault.RingFault.TheVariants as faults
-use Rattle.edge_ring.specs.Answers.{AreLast, IsBetween, IsForOther, IsMisshapen, IsOfOther, IsUnknown}
+use Rattle.count_rebuild.specs.Dumps.{IsBetween, IsForOther, IsMisshapen, IsOfOther, IsTheirs}
+use Rattle.edge_ring.specs.Answers.{AreLast, IsUnknown}
 use Rattle.edge_ring.specs.Lines.{ring_lines}
 use Rattle.edge_ring.specs.Ring.{last_of}
 use Rattle.edge_ring.specs.Traces.{IsTrace, IsWhole}
-use Rattle.eel.specs.declared.outcome.CountCause.{CountCause}
-use Rattle.eel.specs.declared.outcome.CountCause.TheVariants as causes
-use Rattle.eel.specs.Outcome.{Outcome, NoTrace, NoCounts, BadCell, OutOfMemory}
+use Rattle.eel_said.specs.declared.outcome.CountCause.{CountCause}
+use Rattle.eel_said.specs.declared.outcome.CountCause.TheVariants as causes
+use Rattle.eel_said.specs.Outcome.{Outcome, NoTrace, NoCounts, BadCell, OutOfMemory}
 use Rattle.eel.specs.Answers.Edit.{IsEditOf}
-use Rattle.eel.specs.Answers.Profile.{graph_in}
 use Rattle.eel.specs.Answers.Trace.{trace_plan}
 use Rattle.eel.specs.Answers.Counts.{MayMiss}
 
@@ -29,10 +30,10 @@ use Rattle.eel.specs.Answers.Counts.{MayMiss}
 
 -- why the last edges can't be told, by the notes of a trace and a dump
 abbrev pub HasRingCause : Notes → Dump → CountCause → Type 0
-HasRingCause notes dump (causes.Version of wanted) = IsOfOther notes dump of wanted
-HasRingCause notes dump (causes.Length length wanted) = IsForOther notes dump length wanted
-HasRingCause notes dump (causes.Shape cells wanted) = IsMisshapen notes dump cells wanted
-HasRingCause notes dump (causes.Between pc) = IsBetween notes dump pc.0
+HasRingCause notes dump (causes.Version of wanted) = IsOfOther IsTrace notes dump of wanted
+HasRingCause notes dump (causes.Length length wanted) = IsForOther IsTrace notes dump length wanted
+HasRingCause notes dump (causes.Shape cells wanted) = IsMisshapen IsTrace notes dump cells wanted
+HasRingCause notes dump (causes.Between pc) = IsBetween (IsTheirs IsTrace) notes dump pc.0
 HasRingCause notes dump _ = ⊥
 
 -- The last edges aren't told by the notes of the file `written` and by the dump `name`. Want of memory comes only where
@@ -95,7 +96,7 @@ AreTheLast file notes dump edges =
     (bits : ℕ) (original : List ℕ) (args : List (List ℕ)) (input : List ℕ) (m : ℕ)
     → IsOfTraced bits original file notes dump args input m
     → edges
-    ≡ last_of bits (walk (image_of original).text (graph_in original) (image_of original).entry
+    ≡ last_of bits (walk (image_of original).text (view_of original []).graph (image_of original).entry
     (start_of original args input) (visits_by notes (start_of file args input) m - 1))
 
 -- And they are told, but for want of memory, and where the run stands between places, which it doesn't where it has

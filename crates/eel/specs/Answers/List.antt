@@ -2,7 +2,7 @@
 use Rattle.std.specs.Prelude.{ℕ, List}
 use Rattle.elf32_sparc.specs.Image.{image_of}
 use Rattle.v8_text.specs.Texts.{listing_text}
-use Rattle.eel.specs.Answers.Shared.{Meaning}
+use Rattle.eel_said.specs.Shared.{Meaning}
 use Rattle.eel.specs.Answers.Print.{print_means}
 
 -- a line for each word of a file's text

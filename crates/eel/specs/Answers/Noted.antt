@@ -4,7 +4,7 @@ use Rattle.notes.specs.Format.{Notes, Absent, Bad, notes_of}
 use Rattle.notes.specs.Seen.{HasHead}
 use Rattle.dump_file.specs.Dump.{Dump}
 use Rattle.dump_file.specs.Reading.{IsRead, read_dump}
-use Rattle.eel.specs.Outcome.{Outcome, NoNotes, BadNotes, BadDump, OutOfMemory}
+use Rattle.eel_said.specs.Outcome.{Outcome, NoNotes, BadNotes, BadDump, OutOfMemory}
 
 -- how long a dump may be
 abbrev pub dump_limit : ℕ

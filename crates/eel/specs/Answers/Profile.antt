@@ -18,11 +18,7 @@ use Rattle.elf32_sparc.specs.FileFault.{fault}
 use Rattle.notes.specs.Format.{counter_width}
 use Rattle.exact_counts.specs.Profiles.{counter_in}
 use Rattle.edit_core.specs.Taken.{IsCramped}
-use Rattle.eel.specs.Outcome.{Outcome, BadFile, NoRoom, OutOfMemory}
-use Rattle.eel.specs.Answers.Files.{IsFaulty, IsSound}
-use Rattle.eel.specs.Answers.Make.{Making, make_means}
-use Rattle.eel.specs.Answers.Shared.{Meaning, edit_limit}
-use Rattle.eel.specs.Answers.Edit.{IsEditOf}
+use Rattle.eel.specs.Answers.Edit.{IsEditOf, Tool, asking, plan_of}
 
 -- ---- which edges are counted
 
@@ -35,16 +31,9 @@ pub record AreCells (graph : Graph) (weights : List ℕ) (cells : List (Option �
   pub spans : IsSpanningTree (links_of graph) (is_node graph) (rest (has_cell cells))
   pub least : IsLeast (links_of graph) (weight_in weights) (has_cell cells)
 
--- the flow graph of a file, where the words that are marked lead besides
-abbrev pub graph_with : List ℕ → List ℕ → Graph
-graph_with bytes marks = (view_of bytes marks).graph
-
-abbrev pub graph_in : List ℕ → Graph
-graph_in bytes = graph_with bytes []
-
 -- the weights that are guessed, by the loops about each edge
 abbrev pub guessed_with : List ℕ → List ℕ → List ℕ
-guessed_with bytes marks = weights_of (graph_with bytes marks).blocks (graph_with bytes marks).edges
+guessed_with bytes marks = let graph = (view_of bytes marks).graph in weights_of graph.blocks graph.edges
 
 abbrev pub guessed : List ℕ → List ℕ
 guessed bytes = guessed_with bytes []
@@ -54,12 +43,7 @@ guessed bytes = guessed_with bytes []
 -- It counts each edge that has a number, in as many cells as a counter has in version 2 of the notes, one counter behind
 -- the other.
 abbrev pub plan_with : List ℕ → List (Option ℕ) → Plan
-plan_with marks cells = record {
-  kind = tools.Profile;
-  marks = marks;
-  cells = counter_width 2 * cell_count cells;
-  snips = map (counter_in 2) cells;
-}
+plan_with marks cells = plan_of tools.Profile marks (counter_width 2 * cell_count cells) (map (counter_in 2) cells)
 
 abbrev pub profile_plan : List (Option ℕ) → Plan
 profile_plan cells = plan_with [] cells
@@ -70,7 +54,7 @@ profile_plan cells = plan_with [] cells
 abbrev pub CountersRefuse : List ℕ → List ℕ → List ℕ → EditFault → Type 0
 CountersRefuse marks weights bytes (faults.File first) = fault bytes ≡ Some first
 CountersRefuse marks weights bytes (faults.Room needed had) =
-    (cells : List (Option ℕ)) × AreCells (graph_with bytes marks) weights cells
+    (cells : List (Option ℕ)) × AreCells (view_of bytes marks).graph weights cells
     × IsCramped needed had bytes (plan_with marks cells)
 CountersRefuse marks weights bytes faults.NoMemory = fault bytes ≡ None
 
@@ -82,7 +66,7 @@ ProfileRefuses weights bytes fault = CountersRefuse [] weights bytes fault
 -- a file that was made of another with these marks, with counters on the edges off a tree
 pub record IsMarkedProfile (marks weights bytes file : List ℕ) : Type 0 where
   pub cells : List (Option ℕ)
-  pub are : AreCells (graph_with bytes marks) weights cells
+  pub are : AreCells (view_of bytes marks).graph weights cells
   pub made : IsEditOf bytes (plan_with marks cells) file
 
 abbrev pub IsProfileOf : List ℕ → List ℕ → List ℕ → Type 0
@@ -92,25 +76,13 @@ IsProfileOf weights bytes file = IsMarkedProfile [] weights bytes file
 abbrev pub no_words : List ℕ → List ℕ
 no_words bytes = []
 
--- `marks_of` has the words that are marked of each file, by their numbers.
-module _ (marks_of : List ℕ → List ℕ) where
-  -- a file that was made of another so, by the weights that are guessed
-  abbrev pub IsMadeOf : List ℕ → List ℕ → Type 0
-  IsMadeOf bytes file = IsMarkedProfile (marks_of bytes) (guessed_with bytes (marks_of bytes)) bytes file
+-- ---- the tools
 
-  -- IN was read, and no profile is made of it
-  abbrev pub IsNotProfiled : List ℕ → List ℕ → Outcome → Type 0
-  IsNotProfiled name bytes (BadFile named code) = (named ≡ name) × IsFaulty code bytes
-  IsNotProfiled name bytes (NoRoom named needed had) =
-      (cells : List (Option ℕ)) × (named ≡ name)
-      × AreCells (graph_with bytes (marks_of bytes)) (guessed_with bytes (marks_of bytes)) cells
-      × IsCramped needed had bytes (plan_with (marks_of bytes) cells)
-  IsNotProfiled name bytes OutOfMemory = IsSound bytes
-  IsNotProfiled name bytes _ = ⊥
+-- a plan with these marks, with counters on the edges off a tree that weighs most by these weights
+abbrev pub AsksCounters : List ℕ → List ℕ → List ℕ → Plan → Type 0
+AsksCounters marks weights bytes plan =
+    (cells : List (Option ℕ)) × AreCells (view_of bytes marks).graph weights cells × (plan ≡ plan_with marks cells)
 
-  -- the edit
-  abbrev pub profiling : Making
-  profiling = record { limit = edit_limit; refuses = IsNotProfiled; makes = IsMadeOf }
-
-  abbrev pub profile_means : List ℕ → List ℕ → Meaning
-  profile_means input output = make_means profiling input output
+-- by the weights that are guessed; `marks_of` has the words that are marked of each file, by their numbers
+abbrev pub profiling : (List ℕ → List ℕ) → Tool
+profiling marks_of = asking (λ bytes. AsksCounters (marks_of bytes) (guessed_with bytes (marks_of bytes)) bytes)

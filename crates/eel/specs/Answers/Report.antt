@@ -1,15 +1,16 @@
 -- `counts WRITTEN DUMP`, `visits WRITTEN DUMP`, `trace WRITTEN DUMP`: the file WRITTEN and the dump DUMP are read, the
 -- notes of the one and then the other are judged, and then whether they tell what is asked for; that is printed.
-use Rattle.std.specs.Prelude.{◌≡◌, ℕ, ◌⊎◌, List}
-use Rattle.eel_base.specs.Outside.{IsMissing, appended}
+use Rattle.std.specs.Prelude.{ℕ, ◌⊎◌, List}
+use Rattle.eel_base.specs.Outside.{IsMissing}
 use Rattle.notes.specs.Format.{Notes}
 use Rattle.dump_file.specs.Dump.{Dump}
-use Rattle.eel.specs.declared.report.Report.{Report}
-use Rattle.eel.specs.declared.report.Report.TheVariants as reports
-use Rattle.eel.specs.Outcome.{Outcome}
-use Rattle.eel.specs.Answers.Shared.{Outside, Meaning, WasRead, IsUnread, IsPrinted, IsQuiet, HaveFailed, prints_mean, written_limit}
+use Rattle.eel_said.specs.declared.command.Report.{Report}
+use Rattle.eel_said.specs.declared.command.Report.TheVariants as reports
+use Rattle.eel_said.specs.Outcome.{Outcome}
+use Rattle.eel_said.specs.Shared.{Outside, Meaning, IsQuiet, HaveFailed, prints_mean, written_limit}
+use Rattle.eel.specs.Answers.Steps.{Prints, Reads}
 use Rattle.eel.specs.Answers.Noted.{AreRead, AreUnread, dump_limit}
-use Rattle.eel.specs.Answers.Counts.{AreExact, AreSeldomMissed, IsUncounted, TellCounts}
+use Rattle.eel.specs.Answers.Counts.{AreExact, AreOfWholeRuns, AreSeldomMissed, IsUncounted, TellCounts}
 use Rattle.eel.specs.Answers.Visits.{AreExactVisits, AreSeldomUnvisited, IsUnvisited, TellVisits}
 use Rattle.eel.specs.Answers.LastEdges.{AreSeldomUntold, AreTheLast, IsUntold, TellEdges}
 
@@ -36,7 +37,8 @@ Tell reports.LastEdges file notes dump lines = TellEdges notes dump lines
 -- and where the dump is of such a run, it is so of the original's
 abbrev pub IsExact : (report : Report) (file : List ℕ) (notes : Notes) (dump : Dump) (lines : List ℕ)
     → Tell report file notes dump lines → Type 0
-IsExact reports.Counts file notes dump lines tell = AreExact file notes dump tell.counts
+IsExact reports.Counts file notes dump lines tell =
+    AreExact file notes dump tell.counts × AreOfWholeRuns file notes dump tell.counts
 IsExact reports.Visits file notes dump lines tell = AreExactVisits file notes dump tell.visits
 IsExact reports.LastEdges file notes dump lines tell = AreTheLast file notes dump tell.edges
 
@@ -49,52 +51,31 @@ IsUnreported report written file name bytes outcome =
     ⊎ ((notes : Notes) × (dump : Dump) × AreRead file bytes notes dump
     × IsRefused report written file name notes dump outcome)
 
--- the lines tell it
+-- the lines tell it, and it is so of the original's run
 pub record IsReported (report : Report) (file bytes lines : List ℕ) : Type 0 where
   pub notes : Notes
   pub dump : Dump
   pub read : AreRead file bytes notes dump
   pub tell : Tell report file notes dump lines
+  pub exact : IsExact report file notes dump lines tell
 
 -- ---- the command
 
--- How it goes, step by step, and what comes of it.
-pub data Reports (report : Report) (written dump : List ℕ) (old new : Outside) (outcome : Outcome) : Type 0 where
-  -- WRITTEN gave no bytes
-  unread : IsUnread old.files new.files written written_limit outcome → IsQuiet old new
-      → Reports report written dump old new outcome
-  -- WRITTEN was read, and DUMP gave no bytes
-  undumped : (file : List ℕ) → WasRead old.files written written_limit file
-      → IsUnread old.files new.files dump dump_limit outcome → IsQuiet old new
-      → Reports report written dump old new outcome
-  -- both were read, and it isn't told
-  refused : (file : List ℕ) → WasRead old.files written written_limit file
-      → (bytes : List ℕ) → WasRead old.files dump dump_limit bytes
-      → IsUnreported report written file dump bytes outcome
-      → ((notes : Notes) (state : Dump) → AreRead file bytes notes state
-      → IsSeldom report file dump notes state outcome)
-      → IsQuiet old new
-      → Reports report written dump old new outcome
-  -- the lines were to be printed
-  printed : (file : List ℕ) → WasRead old.files written written_limit file
-      → (bytes : List ℕ) → WasRead old.files dump dump_limit bytes
-      → (lines : List ℕ) → IsReported report file bytes lines → IsPrinted old.out new.out lines outcome
-      → new.err.taken ≡ old.err.taken
-      → Reports report written dump old new outcome
+-- both were read, and it isn't told, which is seldom
+pub record HasNone (report : Report) (written file name bytes : List ℕ) (outcome : Outcome) : Type 0 where
+  pub is : IsUnreported report written file name bytes outcome
+  pub seldom : (notes : Notes) (dump : Dump) → AreRead file bytes notes dump
+      → IsSeldom report file name notes dump outcome
 
--- it is printed
-pub record WasReported (report : Report) (written dump : List ℕ) (old new : Outside) : Type 0 where
-  pub file : List ℕ
-  pub read : WasRead old.files written written_limit file
-  pub bytes : List ℕ
-  pub dump_read : WasRead old.files dump dump_limit bytes
-  pub lines : List ℕ
-  pub told : IsReported report file bytes lines
-  pub exact : IsExact report file told.notes told.dump lines told.tell
-  pub out : new.out.taken ≡ appended old.out.taken lines
-  pub err : new.err.taken ≡ old.err.taken
+-- How it goes, step by step, and what comes of it.
+abbrev pub Reports : Report → List ℕ → List ℕ → Outside → Outside → Outcome → Type 0
+Reports report written dump old new outcome =
+    Reads written written_limit (IsQuiet old new) (λ file.
+    Reads dump dump_limit (IsQuiet old new) (λ bytes.
+    Prints (HasNone report written file dump bytes) (IsReported report file bytes) old new outcome)
+    old.files new.files outcome) old.files new.files outcome
 
 abbrev pub report_means : Report → List ℕ → List ℕ → Meaning
 report_means report written dump =
-    prints_mean (Reports report written dump) (WasReported report written dump)
+    prints_mean (Reports report written dump)
     (HaveFailed (λ files. IsMissing files.held written ⊎ IsMissing files.held dump))

@@ -2,9 +2,9 @@
 -- OUT.
 use Rattle.std.specs.Prelude.{◌≡◌, ℕ, List, take, drop, Ok}
 use Rattle.notes.specs.Format.{Notes, notes_of}
-use Rattle.eel.specs.Answers.Make.{Making, make_means}
+use Rattle.eel.specs.Answers.Steps.{make_means}
 use Rattle.eel.specs.Answers.Noted.{IsUnnoted}
-use Rattle.eel.specs.Answers.Shared.{Meaning, written_limit}
+use Rattle.eel_said.specs.Shared.{Meaning, written_limit}
 
 -- the bytes of a file where notes say that the original stands
 abbrev pub original_in : List ℕ → Notes → List ℕ
@@ -16,8 +16,5 @@ HasOriginal file original =
     (notes : Notes) × (notes_of file ≡ Ok notes) × (original ≡ original_in file notes)
 
 -- what stands in a file is restored, where its notes can be read
-abbrev pub restoring : Making
-restoring = record { limit = written_limit; refuses = IsUnnoted; makes = HasOriginal }
-
 abbrev pub restore_means : List ℕ → List ℕ → Meaning
-restore_means written output = make_means restoring written output
+restore_means written output = make_means written_limit (IsUnnoted written) HasOriginal written output

@@ -1,17 +1,16 @@
--- `run FILE [-n LIMIT] [-- ARG..]`: the file is read, then the whole input, the file is judged and loaded, and
--- its program runs. What it puts out goes to the output and to the error stream.
+-- What a run comes to: the input is read, and the program runs. What it puts out goes to the output and to the error
+-- stream.
 use Rattle.std.specs.Prelude.{◌≡◌, ℕ, suc, ◌*◌, ◌^◌, ◌≤◌, ◌<◌, ◌⊎◌, List, [], length, codes, Bool, true, false, Option, Some, None}
-use Rattle.eel_base.specs.Outside.{IsMissing, Rose, preceded, IsAtEnd, GaveSome, appended, TookPart}
+use Rattle.eel_base.specs.Outside.{Rose, preceded, IsAtEnd, GaveSome, appended, TookPart}
 use Rattle.elf32_sparc.specs.FileFault.{load_fault}
 use Rattle.v8_step.specs.declared.Ending.{Ending}
 use Rattle.v8_step.specs.State.{State}
 use Rattle.v8_step.specs.Run.{run, run_puts}
-use Rattle.v8_process.specs.Start.{start_of}
 use Rattle.v8_runner.specs.Runs.{AreMade}
 use Rattle.v8_runner.specs.declared.Stop.{Stop}
 use Rattle.v8_runner.specs.declared.Stop.TheVariants as stops
-use Rattle.eel.specs.Outcome.{Outcome, Stopped, BadFile, TooLong, OutOfMemory, DeviceFault, Stream, line_of}
-use Rattle.eel.specs.Answers.Shared.{Feed, HaveFailed, Outside, Meaning, WasRead, IsUnread, IsUnused, IsQuiet, IsSilent, written_limit}
+use Rattle.eel_said.specs.Outcome.{Outcome, Stopped, BadFile, TooLong, OutOfMemory, DeviceFault, Stream}
+use Rattle.eel_said.specs.Shared.{Feed}
 use Rattle.eel.specs.Answers.Files.{IsNotLoaded}
 
 -- ---- the input
@@ -73,47 +72,6 @@ IsRun s0 limit old_out new_out old_err new_err (Stopped ending steps) =
     HasRun s0 limit ending steps [] old_out new_out old_err new_err
 IsRun s0 limit old_out new_out old_err new_err DeviceFault = WasBroken s0 limit old_out new_out old_err new_err
 IsRun s0 limit old_out new_out old_err new_err _ = ⊥
-
--- How a run goes, step by step, and what comes of it.
-pub data Runs (file : List ℕ) (limit : ℕ) (args : List (List ℕ)) (old new : Outside) (outcome : Outcome) : Type 0 where
-  -- FILE gave no bytes
-  unread : IsUnread old.files new.files file written_limit outcome → IsUnused old new → IsQuiet old new
-      → Runs file limit args old new outcome
-  -- FILE was read, and not all of the input
-  unfed : (bytes : List ℕ) → WasRead old.files file written_limit bytes
-      → IsUnfed old.input new.input outcome → IsQuiet old new
-      → Runs file limit args old new outcome
-  -- both were read, and the program isn't run
-  refused : (bytes : List ℕ) → WasRead old.files file written_limit bytes
-      → (input : List ℕ) → WasFed old.input new.input input
-      → IsNotRun file bytes outcome → IsQuiet old new
-      → Runs file limit args old new outcome
-  -- it was run
-  ran : (bytes : List ℕ) → WasRead old.files file written_limit bytes
-      → (input : List ℕ) → WasFed old.input new.input input
-      → load_fault bytes ≡ None → IsRun (start_of bytes args input) limit old.out new.out old.err new.err outcome
-      → Runs file limit args old new outcome
-
--- The run is done: its ending line follows what it put out to the error stream.
-pub record WasRun (file : List ℕ) (limit : ℕ) (args : List (List ℕ)) (old new : Outside) : Type 0 where
-  pub bytes : List ℕ
-  pub read : WasRead old.files file written_limit bytes
-  pub loads : load_fault bytes ≡ None
-  pub input : List ℕ
-  pub fed : WasFed old.input new.input input
-  pub ending : Option Ending
-  pub steps : ℕ
-  pub ran : HasRun (start_of bytes args input) limit ending steps (line_of (Stopped ending steps)) old.out new.out old.err new.err
-
-abbrev pub run_means : List ℕ → ℕ → List (List ℕ) → Meaning
-run_means file limit args = record {
-  follows = λ old new outcome. Runs file limit args old new outcome × (new.files.held ≡ old.files.held);
-  does = λ old new. WasRun file limit args old new × (new.files.held ≡ old.files.held);
-  wants = IsSilent;
-  fails = λ old new.
-      HaveFailed (λ files. IsMissing files.held file) old.files new.files
-      ⊎ Rose old.input.faults new.input.faults ⊎ Rose old.out.faults new.out.faults;
-}
 
 -- what the end of a run comes to
 abbrev pub stopped_of : Stop → ℕ → Outcome

@@ -10,14 +10,10 @@ use Rattle.snippets.specs.Scripts.{IsFirstFault, IsGood, IsScript, cell_end, end
 use Rattle.snippets.specs.Cells.{WorksBelow}
 use Rattle.tool_kit.specs.declared.edge_ref.ToolKind.TheVariants as tools
 use Rattle.tool_kit.specs.Plans.{Plan}
-use Rattle.edit_core.specs.Taken.{IsCramped}
-use Rattle.eel.specs.declared.outcome.LineCause.{LineCause}
-use Rattle.eel.specs.declared.outcome.LineCause.TheVariants as causes
-use Rattle.eel.specs.Outcome.{Outcome, BadFile, BadLine, NoRoom, OutOfMemory}
-use Rattle.eel.specs.Answers.Files.{IsFaulty, IsSound}
-use Rattle.eel.specs.Answers.MakeBy.{MakingBy, make_by_means}
-use Rattle.eel.specs.Answers.Shared.{Meaning, edit_limit}
-use Rattle.eel.specs.Answers.Edit.{IsEditOf, asked, edges_in}
+use Rattle.eel_said.specs.declared.outcome.LineCause.{LineCause}
+use Rattle.eel_said.specs.declared.outcome.LineCause.TheVariants as causes
+use Rattle.eel_said.specs.Outcome.{Outcome, BadLine, OutOfMemory}
+use Rattle.eel.specs.Answers.Edit.{Tool, asked, edges_in, plan_of}
 
 -- how long a script may be
 abbrev pub script_limit : ℕ
@@ -27,12 +23,7 @@ script_limit = 16 * 2 ^ 20
 
 -- `script S` asks for the snippet of each edge, and for nothing past the last one that has any.
 abbrev pub script_plan : List ℕ → List (List Op) → ℕ → Plan
-script_plan bytes snips cells = record {
-  kind = tools.Script;
-  marks = [];
-  cells = cells;
-  snips = asked (λ edge. get_or snips edge []) bytes;
-}
+script_plan bytes snips cells = plan_of tools.Script [] cells (asked (λ edge. get_or snips edge []) bytes)
 
 -- The lines of S say so, none of which is bad for the graph of the file: the operations that they name on each edge,
 -- in their order. There are cells up to the last on which one of them works, or none.
@@ -80,29 +71,7 @@ IsBadScript edges name lines (BadLine named number cause) = (named ≡ name) × 
 IsBadScript edges name lines OutOfMemory = Unit {0}
 IsBadScript edges name lines _ = ⊥
 
--- IN and S were read, and the edit is refused: IN is judged, then the lines of S, and then the room.
-abbrev pub IsNotScripted : List ℕ → List ℕ → List ℕ → List ℕ → Outcome → Type 0
-IsNotScripted input bytes script lines (BadFile named code) = (named ≡ input) × IsFaulty code bytes
-IsNotScripted input bytes script lines (BadLine named number cause) =
-    (named ≡ script) × IsSound bytes × HasBadLine (length (edges_in bytes)) lines number cause
-IsNotScripted input bytes script lines (NoRoom named needed had) =
-    (plan : Plan) × (named ≡ input) × IsScripted bytes lines plan × IsCramped needed had bytes plan
-IsNotScripted input bytes script lines OutOfMemory = IsSound bytes
-IsNotScripted input bytes script lines _ = ⊥
+-- ---- the tool
 
--- ---- the edit
-
--- a file that was made of another and does what the lines say
-abbrev pub IsScriptEdit : List ℕ → List ℕ → List ℕ → Type 0
-IsScriptEdit bytes lines file = (plan : Plan) × IsScripted bytes lines plan × IsEditOf bytes plan file
-
-abbrev pub scripting : MakingBy
-scripting = record {
-  limit = edit_limit;
-  line_limit = script_limit;
-  refuses = IsNotScripted;
-  makes = IsScriptEdit;
-}
-
-abbrev pub script_means : List ℕ → List ℕ → List ℕ → Meaning
-script_means input output script = make_by_means scripting input output script
+abbrev pub scripting : Tool
+scripting = record { asks = IsScripted; has_bad_line = λ bytes. HasBadLine (length (edges_in bytes)) }

@@ -2,7 +2,7 @@
 use Rattle.std.specs.Prelude.{ℕ, List, []}
 use Rattle.cfg_view.specs.View.{Seen, view_of}
 use Rattle.show_text.specs.Lines.{show_lines}
-use Rattle.eel.specs.Answers.Shared.{Meaning}
+use Rattle.eel_said.specs.Shared.{Meaning}
 use Rattle.eel.specs.Answers.Print.{print_means}
 
 -- the lines that show a view and its switches

@@ -14,7 +14,7 @@ use Rattle.exact_counts.specs.Stops.{visits_by}
 use Rattle.instr_counts.specs.Answers.{AreVisits}
 use Rattle.instr_counts.specs.Lines.{visit_lines}
 use Rattle.instr_counts.specs.Matches.{Matches}
-use Rattle.eel.specs.Outcome.{Outcome, NotEveryWord, NoProfile, NoCounts, OutOfMemory}
+use Rattle.eel_said.specs.Outcome.{Outcome, NotEveryWord, NoProfile, NoCounts, OutOfMemory}
 use Rattle.eel.specs.Answers.Files.{IsSound}
 use Rattle.eel.specs.Answers.Restore.{original_in}
 use Rattle.eel.specs.Answers.Every.{every_view, every_word}

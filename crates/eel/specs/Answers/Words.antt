@@ -2,10 +2,10 @@
 use Rattle.std.specs.Prelude.{◌≡◌, ℕ, ◌*◌, ◌^◌, List}
 use Rattle.elf32_write.specs.Bytes.{words_bytes}
 use Rattle.v8_text.specs.Listings.{IsBadLine, IsListing}
-use Rattle.eel.specs.declared.outcome.LineCause.TheVariants as causes
-use Rattle.eel.specs.Outcome.{Outcome, BadLine, OutOfMemory}
-use Rattle.eel.specs.Answers.Make.{Making, make_means}
-use Rattle.eel.specs.Answers.Shared.{Meaning}
+use Rattle.eel_said.specs.declared.outcome.LineCause.TheVariants as causes
+use Rattle.eel_said.specs.Outcome.{Outcome, BadLine, OutOfMemory}
+use Rattle.eel.specs.Answers.Steps.{make_means}
+use Rattle.eel_said.specs.Shared.{Meaning}
 
 -- how long a listing may be
 abbrev pub listing_limit : ℕ
@@ -22,8 +22,5 @@ IsNotListing name bytes OutOfMemory = Unit {0}
 IsNotListing name bytes _ = ⊥
 
 -- its words are written
-abbrev pub assembling : Making
-assembling = record { limit = listing_limit; refuses = IsNotListing; makes = IsAssembled }
-
 abbrev pub words_means : List ℕ → List ℕ → Meaning
-words_means listing output = make_means assembling listing output
+words_means listing output = make_means listing_limit (IsNotListing listing) IsAssembled listing output

@@ -9,7 +9,7 @@ returns-clause-inside c =
     let d = c.args.d.now in
     let whole = c.in_ok-judge_entries.ensures.whole in
     let theirs = whole.placed.theirs in
-    let trace = theirs.for_them.alike.trace in
+    let trace = theirs.for_them.alike.right in
     let size : length c.deref.result.now ≡ 1 + 2 ^ trace.bits =
     ap length c.deref.ensures.value ∙ theirs.cells ∙ trace.cells in
     let are : map number c.in_ok-edges.edges.items ≡ edges_in trace.bits d.cells.items =

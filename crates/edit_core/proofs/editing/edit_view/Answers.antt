@@ -4,11 +4,12 @@ use Rattle.elf32_sparc.specs.Image.{Program}
 use Rattle.cfg_blocks.specs.Marks.{numbers}
 use Rattle.image_code.proofs.Fit.{pieces_fit, places_say}
 use Rattle.image_code.proofs.Made.{pieces_make_images}
-use Rattle.edit_core.specs.Faithful.{IsFaithful}
+use Rattle.edit_core.specs.Cost.{IsEdited}
 use Rattle.edit_core.specs.Taken.{bound_of}
 use Rattle.edit_core.specs.Written.{IsTheEdit, plan_of}
 use Rattle.edit_core.proofs.Views.{can_edit, view_bound, view_can_do, view_is}
-use Rattle.edit_core.proofs.Faithful.{faithful}
+use Rattle.edit_core.proofs.Faithful.{edited}
+use Rattle.edit_core.proofs.Outwardly.{does_the_same}
 use Rattle.edit_core.proofs.RunsAlike.{edits_run_alike}
 use Rattle.edit_core.proofs.Steps.{original_fit}
 use Rattle.edit_core.proofs.Tools.{asks, counts}
@@ -61,11 +62,15 @@ returns-clause-edited g c =
       plan,
       asks g.F.Chooser.says c.args.tool.now bytes _ c.requires.view plan c.in_ok-asked.ensures.plan,
       can,
-      subst (IsFaithful bytes plan) (sym written.is)
-          (faithful (edits_run_alike pieces_make_images pieces_fit) places_say bytes plan
+      subst (IsEdited bytes plan) (sym written.is)
+          (edited (edits_run_alike pieces_make_images pieces_fit) places_say bytes plan
           (original_fit pieces_fit bytes plan can work)
           c.requires.limit
           (λ k d below. let same = get_or_default_zero bytes k d below in let fits = c.type_inv.bytes k in omega arith)
           can work written.p written.place written.table written.code),
       written,
     )
+
+pub returns-clause-same : goal.returns-clause-same
+returns-clause-same g c =
+    let edited = returns-clause-edited g c in does_the_same c.args.bytes.now edited.0 _ edited.3.faithful

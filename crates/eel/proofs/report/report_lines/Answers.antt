@@ -1,5 +1,6 @@
 use Rattle.dump_file.specs.Dump.{dump_seen}
 use Rattle.notes.specs.Seen.{notes_seen}
+use Rattle.eel.proofs.Reported.{exact}
 use Rattle.eel.proofs.report.report_lines.Goals as goal
 
 pub returns-clause-lines : goal.returns-clause-lines
@@ -8,4 +9,6 @@ returns-clause-lines c = record {
   dump = dump_seen c.in_ok-state.state;
   read = record { noted = c.in_ok-notes.ensures.notes; dumped = c.in_ok-state.ensures.dump };
   tell = c.in_ok-lines.ensures.lines;
+  exact = exact c.args.report c.args.file.now (notes_seen c.in_ok-notes.notes) (dump_seen c.in_ok-state.state) _
+      c.in_ok-notes.ensures.notes c.in_ok-lines.ensures.lines;
 }

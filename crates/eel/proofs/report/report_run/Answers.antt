@@ -1,29 +1,32 @@
 use Rattle.std.proofs.Common.{refl}
-use Rattle.eel.specs.Answers.Report.{undumped, refused, printed}
-use Rattle.eel.specs.Seen.{files_seen}
+use Rattle.eel.specs.Answers.Steps.{printed, unread, untold, was_read}
+use Rattle.eel_said.specs.Seen.{files_seen}
 use Rattle.eel.proofs.Later.{read-later, unread-later}
 use Rattle.eel.proofs.Unreported.{seldom_unreported}
 use Rattle.eel.proofs.report.report_run.Goals as goal
 
 pub returns-in-Err-fetch_file-clause-reports : goal.returns-in-Err-fetch_file-clause-reports
 returns-in-Err-fetch_file-clause-reports g c = λ feed err.
-    undumped c.in-Ok.file.items c.in-Ok.ensures.read
-    (unread-later _ _ _ _
+    was_read c.in-Ok.file.items c.in-Ok.ensures.read
+    (unread (unread-later _ _ _ _
     (files_seen g.F.Files c.fetch_file-2.new.files) _ _ _
-    c.fetch_file.ensures.kept c.fetch_file.ensures.later c.in-Err-fetch_file.ensures.unread) (refl, refl)
+    c.fetch_file.ensures.kept c.fetch_file.ensures.later c.in-Err-fetch_file.ensures.unread) (refl, refl))
 
 pub returns-in-Ok-report_lines-clause-reports : goal.returns-in-Ok-report_lines-clause-reports
 returns-in-Ok-report_lines-clause-reports g c = λ feed err.
-    printed c.in-Ok.file.items c.in-Ok.ensures.read c.in-Ok-fetch_file.bytes.items
+    was_read c.in-Ok.file.items c.in-Ok.ensures.read
+    (was_read c.in-Ok-fetch_file.bytes.items
     (read-later _ _ _ _ _ _ _ c.fetch_file.ensures.kept c.in-Ok-fetch_file.ensures.read)
-    c.in-Ok-report_lines.lines.items
+    (printed c.in-Ok-report_lines.lines.items
     (rw (c.deref.ensures.value, c.deref-2.ensures.value) at c.in-Ok-report_lines.ensures.lines)
-    (rw c.deref-in-Ok-report_lines.ensures.value at c.print.ensures.printed) refl
+    (rw c.deref-in-Ok-report_lines.ensures.value at c.print.ensures.printed) refl))
 
 pub returns-clause-reports : goal.returns-clause-reports
 returns-clause-reports g c = λ feed err.
-    refused c.in-Ok.file.items c.in-Ok.ensures.read c.in-Ok-fetch_file.bytes.items
+    was_read c.in-Ok.file.items c.in-Ok.ensures.read
+    (was_read c.in-Ok-fetch_file.bytes.items
     (read-later _ _ _ _ _ _ _ c.fetch_file.ensures.kept c.in-Ok-fetch_file.ensures.read)
-    (rw (c.deref.ensures.value, c.deref-2.ensures.value) at c.in-Err-report_lines.ensures.refused)
-    (seldom_unreported _ _ _ _ _ _
-    (rw (c.deref.ensures.value, c.deref-2.ensures.value) at c.in-Err-report_lines.ensures.refused)) (refl, refl)
+    (untold
+    (let is = rw (c.deref.ensures.value, c.deref-2.ensures.value) at c.in-Err-report_lines.ensures.refused in
+    record { is = is; seldom = seldom_unreported _ _ _ _ _ _ is })
+    (refl, refl)))

@@ -1,14 +1,14 @@
-use Rattle.eel.specs.Answers.Make.{refused, put}
+use Rattle.eel.specs.Answers.Steps.{put, unmade, was_read}
 use Rattle.eel.proofs.Later.{put-later}
 use Rattle.eel.proofs.restore.restore_original.Goals as goal
 
 pub returns-in-Ok-original-clause-restores : goal.returns-in-Ok-original-clause-restores
 returns-in-Ok-original-clause-restores g c =
-    put c.in-Ok.bytes.items c.in-Ok.ensures.read c.in-Ok-original.original.now
-    (rw c.deref.ensures.value at c.in-Ok-original.ensures.original)
-    (put-later _ _ _ _ _ _ _ _ c.fetch_file.ensures.kept c.fetch_file.ensures.later c.put_file.ensures.put)
+    was_read c.in-Ok.bytes.items c.in-Ok.ensures.read
+    (put c.in-Ok-original.original.now (rw c.deref.ensures.value at c.in-Ok-original.ensures.original)
+    (put-later _ _ _ _ _ _ _ _ c.fetch_file.ensures.kept c.fetch_file.ensures.later c.put_file.ensures.put))
 
 pub returns-clause-restores : goal.returns-clause-restores
 returns-clause-restores g c =
-    refused c.in-Ok.bytes.items c.in-Ok.ensures.read
-    (rw c.deref.ensures.value at c.in-Err-original.ensures.refused) c.fetch_file.ensures.kept
+    was_read c.in-Ok.bytes.items c.in-Ok.ensures.read
+    (unmade (rw c.deref.ensures.value at c.in-Err-original.ensures.refused) c.fetch_file.ensures.kept)

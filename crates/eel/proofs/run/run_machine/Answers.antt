@@ -1,4 +1,4 @@
-use Rattle.eel.specs.Seen.{stream_seen}
+use Rattle.eel_said.specs.Seen.{stream_seen}
 use Rattle.eel.proofs.Running.{run_comes}
 use Rattle.eel.proofs.run.run_machine.Goals as goal
 

@@ -12,7 +12,7 @@ returns-in-EditScript-clause-follows g c =
 pub returns-in-Run-default-default-None-default-clause-follows : goal.returns-in-Run-default-default-None-default-clause-follows
 returns-in-Run-default-default-None-default-clause-follows g c =
     rw (← c.in-Run-default-default-None-default.ensures.command, c.in-Run-default-default-None-default.dump-is)
-    (c.run_program.ensures.runs, c.run_program.ensures.kept)
+    c.run_program.ensures.runs
 
 pub returns-in-Run-default-default-Some-default-clause-follows : goal.returns-in-Run-default-default-Some-default-clause-follows
 returns-in-Run-default-default-Some-default-clause-follows g c = rw (← c.in-Run-default-default-Some-default.ensures.command, c.in-Run-default-default-Some-default.dump-is)

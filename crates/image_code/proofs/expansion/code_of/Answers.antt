@@ -5,7 +5,7 @@ use Rattle.snippets.specs.Cells.{named_by}
 use Rattle.snippet_code.specs.Runs.{DoesJust}
 use Rattle.snippet_code.specs.Words.{spills_of}
 use Rattle.liveness.specs.Sets.{dead_on}
-use Rattle.image_code.specs.Simulates.{snippet_on}
+use Rattle.image_code.specs.Store.{snippet_on}
 use Rattle.image_code.specs.Parts.{codes_of}
 use Rattle.image_code.proofs.Codes.{code_does, if_both}
 use Rattle.image_code.proofs.expansion.code_of.Goals as goal

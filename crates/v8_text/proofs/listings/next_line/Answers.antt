@@ -5,7 +5,7 @@ use Rattle.v8_text.proofs.listings.next_line.Goals as goal
 pub returns-in_err-line : goal.returns-in_err-line
 returns-in_err-line c =
     rw c.from_residual.ensures (λ at w after low fits is. no_newline c.args.bytes.now c.args.next
-    (sym c.in_err-line.ensures) at w after)
+    (sym c.in_err-line.ensures) at w after fits)
 
 pub returns-in_err-at : goal.returns-in_err-at
 returns-in_err-at c =

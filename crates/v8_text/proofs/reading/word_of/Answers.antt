@@ -7,7 +7,7 @@ returns-in-Some c =
     let (instr, is, encoded, decoded) = c.in-Some.ensures.again in
     let low : c.args.at.0 < 2 ^ 32 = search rules in
     let fits : c.in-Some.word < 2 ^ 32 = search rules in
-    (fits, spelled_read c.args.at.0 c.in-Some.word c.args.text.now instr low is encoded decoded)
+    (fits, spelled_read c.args.at.0 c.in-Some.word c.args.text.now instr low fits is encoded decoded)
 
 pub returns-in-Some-raw : goal.returns-in-Some-raw
 returns-in-Some-raw c =

@@ -1,0 +1,312 @@
+-- Of a faithful edit all can be seen from outside that its original shows.
+use Rattle.std.proofs.Common.{◌≡◌, ℕ, suc, ◌+◌, ◌-◌, ◌^◌, ◌&&◌, not, ◌≤◌, inl, inr, true, false, List, [], ◌∷◌, ◌++◌, length, map, Option, Some, None, refl, ap, sym, ◌∙◌, arith, append-nil, append_assoc}
+use Rattle.std.specs.List.{list_any}
+use Rattle.std.proofs.lemmas.Bool.{and_parts, or_parts}
+use Rattle.std.proofs.lemmas.Bool.Decides.{nat_tests}
+use Rattle.std.proofs.lemmas.List.{map-append}
+use Rattle.std.proofs.lemmas.Simd.{map-map}
+use Rattle.notes.specs.Format.{Notes, NoteSegment, range_at}
+use Rattle.elf32_sparc.specs.declared.header.ProgramHeader.{ProgramHeader}
+use Rattle.elf32_sparc.specs.FileFault.{has_memory_outside_a_run, is_last_page, leaves_room, load_fault}
+use Rattle.elf32_sparc.specs.Header.{loadable, program_headers}
+use Rattle.elf32_sparc.specs.Image.{image_of}
+use Rattle.elf32_sparc.specs.Mapping.{Mapping, mapping_of, mappings}
+use Rattle.elf32_sparc.proofs.Loadable.{loadable_file}
+use Rattle.elf32_write.specs.Laws.{kept}
+use Rattle.v8_memory.specs.Segments.{region_of}
+use Rattle.v8_memory.specs.Spans.{Span, IsApart, IsApartFromAll, AllApart, are_apart, heap_span, is_apart, is_apart_from, span_of, span_of_mapping}
+use Rattle.v8_step.specs.declared.Ending.{Ending}
+use Rattle.v8_step.specs.declared.Ending.TheVariants.{Exit}
+use Rattle.v8_step.specs.State.{State}
+use Rattle.v8_step.specs.Run.{run, run_puts}
+use Rattle.v8_step.specs.Valid.{AreBytes}
+use Rattle.v8_step.proofs.Live.{puts_nothing, stays_ended}
+use Rattle.two_runs.specs.Refused.{HasBuffers, IsGranted, IsUnmapped, is_refusal}
+use Rattle.two_runs.specs.TwoRuns.{Answers}
+use Rattle.two_runs.specs.Visits.{if_live, in_pages, page_of, pages_of, own_trail, trail_of, visit_of, visited}
+use Rattle.two_runs.proofs.Unmapped.{granted_is_untouched, unmapped_is_untouched}
+use Rattle.v8_process.specs.Arguments.{AreArguments}
+use Rattle.v8_process.specs.Start.{program_name, stack_region, start_memory, start_of}
+use Rattle.v8_process.proofs.Loading.{mapped_apart}
+use Rattle.tool_kit.specs.Plans.{Plan}
+use Rattle.edit_core.specs.Faithful.{HasPages, IsFaithful, note_of}
+use Rattle.edit_core.specs.Outwardly.{EditsAreUntouched, EditsCrashAlike, EditsDoTheSame, GrantedRunsAreAlike, LooksAs, RunsLike}
+use Rattle.edit_core.specs.RunsAlike.{AreRunsAlike, edit_of}
+use Rattle.edit_core.proofs.Trails.{ending, few_visits, from_on, going, over_or_not, own_live, stays}
+
+-- ---- spans of which no two have a common address
+
+turned : (x y : Span) → is_apart x y ≡ true → IsApart y x
+turned x y h = grind (arith, nat_tests)
+
+straight : (x y : Span) → is_apart x y ≡ true → IsApart x y
+straight x y h = grind (arith, nat_tests)
+
+past : (x : Span) (ys zs : List Span) → is_apart_from x (ys ++ zs) ≡ true → is_apart_from x zs ≡ true
+past x [] zs h = h
+past x (y ∷ ys) zs h = past x ys zs (and_parts (is_apart x y) (is_apart_from x (ys ++ zs)) h).1
+
+beside : (x : Span) (ys zs : List Span) → is_apart_from x (ys ++ zs) ≡ true → IsApartFromAll ys x
+beside x [] zs h = tt
+beside x (y ∷ ys) zs h =
+    let parts = and_parts (is_apart x y) (is_apart_from x (ys ++ zs)) h in
+    (turned x y parts.0, beside x ys zs parts.1)
+
+before : (xs ys zs : List Span) → are_apart (xs ++ (ys ++ zs)) ≡ true → AllApart ys xs
+before [] ys zs h = tt
+before (x ∷ xs) ys zs h =
+    let parts = and_parts (is_apart_from x (xs ++ (ys ++ zs))) (are_apart (xs ++ (ys ++ zs))) h in
+    (beside x ys zs (past x xs (ys ++ zs) parts.0), before xs ys zs parts.1)
+
+behind : (xs ys : List Span) → are_apart (xs ++ ys) ≡ true → are_apart ys ≡ true
+behind [] ys h = h
+behind (x ∷ xs) ys h = behind xs ys (and_parts (is_apart_from x (xs ++ ys)) (are_apart (xs ++ ys)) h).1
+
+from_each : (xs : List Span) (y : Span) → are_apart (xs ++ y ∷ []) ≡ true → IsApartFromAll xs y
+from_each [] y h = tt
+from_each (x ∷ xs) y h =
+    let parts = and_parts (is_apart_from x (xs ++ y ∷ [])) (are_apart (xs ++ y ∷ [])) h in
+    let last = and_parts (is_apart x y) true (past x xs (y ∷ []) parts.0) in
+    (straight x y last.0, from_each xs y parts.1)
+
+all_and : (pages xs : List Span) (y : Span) → AllApart pages xs → IsApartFromAll pages y → AllApart pages (xs ++ y ∷ [])
+all_and pages [] y h k = (k, tt)
+all_and pages (x ∷ xs) y h k = (h.0, all_and pages xs y h.1 k)
+
+-- the regions of an original lie where its mappings do, as they are kept
+same_spans : (ms : List Mapping) → map span_of (map region_of ms) ≡ map span_of_mapping (map kept ms)
+same_spans [] = refl
+same_spans (m ∷ ms) = ap (λ z. span_of_mapping m ∷ z) (same_spans ms)
+
+-- ---- what is added isn't mapped by the original
+
+noted_pages : (original file : List ℕ) (notes : Notes) → (has : HasPages original file notes)
+    → map span_of_mapping (has.room ++ has.editor ∷ []) ≡ pages_of notes
+noted_pages original file notes has =
+    sym (map-map page_of note_of (has.room ++ has.editor ∷ []))
+    ∙ ap (λ (segments : List NoteSegment). map page_of segments) has.noted
+
+unmapped : (original file : List ℕ) (notes : Notes) → HasPages original file notes
+    → load_fault file ≡ None → (texts : List (List ℕ)) → IsUnmapped (pages_of notes) (start_memory original texts)
+unmapped original file notes has loads texts = record {
+  start = refl;
+  room = omega arith;
+  apart = rw (map-append span_of (map region_of (mappings original)), same_spans (mappings original))
+      (all_and (pages_of notes) (heap_span ∷ olds) stack (before (heap_span ∷ olds) (pages_of notes) (stack ∷ []) apart)
+      (from_each (pages_of notes) stack (behind (heap_span ∷ olds) (pages_of notes ++ stack ∷ []) apart)));
+}
+  where
+    olds : List Span
+    olds = map span_of_mapping (map kept (mappings original))
+
+    stack : Span
+    stack = span_of (stack_region texts)
+
+    apart : are_apart ((heap_span ∷ map span_of_mapping (map kept (mappings original)))
+        ++ (pages_of notes ++ span_of (stack_region texts) ∷ [])) ≡ true
+    apart =
+        let all = mapped_apart file (stack_region texts).bytes loads in
+        rw (
+          has.mapped,
+          map-append span_of_mapping (map kept (mappings original) ++ (has.room ++ has.editor ∷ [])),
+          map-append span_of_mapping (map kept (mappings original)),
+          noted_pages original file notes has,
+          append_assoc,
+        ) at all
+
+-- ---- nor has it a byte in the first page
+
+abbrev IsHigh : Span → Type 0
+IsHigh p = (0x1000 ≤ p.from) × (p.from + p.count ≤ 2 ^ 32)
+
+abbrev AreHigh : List Span → Type 0
+AreHigh [] = Unit {0}
+AreHigh (p ∷ pages) = IsHigh p × AreHigh pages
+
+high : (file : List ℕ) (h : ProgramHeader) → (leaves_room h && not (is_last_page h)) ≡ false
+    → IsHigh (span_of_mapping (mapping_of file h))
+high file h none = (low, end)
+  where
+    low : 0x1000 ≤ h.p_vaddr
+    low = grind (arith, nat_tests)
+
+    end : h.p_vaddr + h.p_memsz ≤ 2 ^ 32
+    end = grind (arith, nat_tests)
+
+each_high : (file : List ℕ) (hs : List ProgramHeader) → list_any (λ h. leaves_room h && not (is_last_page h)) hs ≡ false
+    → AreHigh (map span_of_mapping (map (mapping_of file) hs))
+each_high file [] none = tt
+each_high file (h ∷ hs) none =
+    let parts = or_parts (leaves_room h && not (is_last_page h)) (list_any (λ h. leaves_room h && not (is_last_page h)) hs) none in
+    (high file h parts.0, each_high file hs parts.1)
+
+all_high : (file : List ℕ) → load_fault file ≡ None → AreHigh (map span_of_mapping (mappings file))
+unfolding mappings has_memory_outside_a_run
+all_high file loads = each_high file (loadable (program_headers file)) (loadable_file file loads).segment_room
+
+rest_high : (xs ys : List Span) → AreHigh (xs ++ ys) → AreHigh ys
+rest_high [] ys h = h
+rest_high (x ∷ xs) ys h = rest_high xs ys h.1
+
+pages_high : (original file : List ℕ) (notes : Notes) → HasPages original file notes
+    → load_fault file ≡ None → AreHigh (pages_of notes)
+pages_high original file notes has loads =
+    let all = all_high file loads in
+    rest_high (map span_of_mapping (map kept (mappings original))) (pages_of notes)
+    (rw (
+      has.mapped,
+      map-append span_of_mapping (map kept (mappings original)),
+      noted_pages original file notes has,
+    ) at all)
+
+lower : (p y : Span) → IsHigh p → IsApart (record { from = 0x1000; count = 2 ^ 32 - 0x1000 }) y → IsApart p y
+lower p y is apart = grind arith
+
+lower_each : (pages : List Span) (y : Span) → AreHigh pages
+    → IsApartFromAll (record { from = 0x1000; count = 2 ^ 32 - 0x1000 } ∷ []) y → IsApartFromAll pages y
+lower_each [] y are apart = tt
+lower_each (p ∷ pages) y are apart = (lower p y are.0 apart.0, lower_each pages y are.1 apart)
+
+lower_all : (pages ys : List Span) → AreHigh pages
+    → AllApart (record { from = 0x1000; count = 2 ^ 32 - 0x1000 } ∷ []) ys → AllApart pages ys
+lower_all pages [] are apart = tt
+lower_all pages (y ∷ ys) are apart = (lower_each pages y are apart.0, lower_all pages ys are apart.1)
+
+-- ---- runs
+
+visit_lives : (notes : Notes) (t : State) (a : ℕ) → visit_of notes t ≡ Some a → t.ending ≡ None
+visit_lives notes t a is = by t.ending (visited (range_at notes t.pc) (in_pages notes t.pc) t.pc) refl is
+  where
+    by : (e : Option Ending) (o : Option ℕ) → t.ending ≡ e → if_live e o ≡ Some a → t.ending ≡ None
+    by None o live is = live
+    by (Some d) o over is = absurd (cc)
+
+-- a run that has ended puts nothing more out
+puts_stay : (t0 : State) (m k : ℕ) (d : Ending) (descriptor : ℕ) → m ≤ k → (run t0 m).ending ≡ Some d
+    → run_puts t0 k descriptor ≡ run_puts t0 m descriptor
+puts_stay t0 m k d descriptor below over =
+    from_on (λ k. run_puts t0 k descriptor ≡ run_puts t0 m descriptor) m refl
+    (λ k least same.
+    ap (λ (more : List ℕ). run_puts t0 k descriptor ++ more)
+    (puts_nothing (run t0 k) d descriptor (ap (λ (t : State). t.ending) (stays t0 m k d least over) ∙ over))
+    ∙ append-nil (run_puts t0 k descriptor) ∙ same) k below
+
+-- a run that goes on later went on before
+lives_before : (t0 : State) (m k : ℕ) → m ≤ k → (run t0 k).ending ≡ None → (run t0 m).ending ≡ None
+lives_before t0 m k below live = elim (over_or_not (run t0 m).ending) [
+  | inl here ↦ here
+  | inr over ↦ absurd (both over.0 (ap (λ (t : State). t.ending) (stays t0 m k over.0 below over.1) ∙ over.1))
+]
+  where
+    both : (d : Ending) → (run t0 k).ending ≡ Some d → ⊥
+    both d over = absurd (cc)
+
+-- an answer shows what the original shows
+module _ (notes : Notes) (s0 t0 : State) (n m : ℕ) (answers : Answers notes s0 t0 n m) where
+  shown_live : (run s0 n).ending ≡ None → LooksAs s0 t0 n m
+  shown_live live =
+      let goes = going notes s0 t0 n m (run s0 n).ending live answers.matches in
+      record {
+        later =
+            let same : length (trail_of notes t0 m) ≡ length (own_trail s0 n) = ap (λ (l : List ℕ). length l) answers.trail in
+            omega (arith, same, own_live s0 n live, few_visits notes t0 m);
+        ending = visit_lives notes (run t0 m) (run s0 n).pc goes.visit ∙ sym live;
+        output = λ descriptor. sym (goes.world.output descriptor);
+      }
+
+  shown_over : (d : Ending) → (run s0 n).ending ≡ Some d → LooksAs s0 t0 n (n + m)
+  shown_over d over =
+      let ends = ending notes s0 t0 n m (run s0 n).ending d over answers.matches in
+      let there : (run t0 m).ending ≡ Some d = ends.ending ∙ over in
+      record {
+        later = omega arith;
+        ending = ap (λ (t : State). t.ending) (stays t0 m (n + m) d (omega arith) there) ∙ ends.ending;
+        output = λ descriptor. puts_stay t0 m (n + m) d descriptor (omega arith) there ∙ sym (ends.world.output descriptor);
+      }
+
+  shown : (k : ℕ) × LooksAs s0 t0 n k
+  shown = elim (over_or_not (run s0 n).ending) [
+    | inl live ↦ (m, shown_live live)
+    | inr over ↦ (n + m, shown_over over.0 over.1)
+  ]
+
+-- ---- runs that are granted their accesses
+
+module _ (s0 : State) where
+  pub exit_granted : (n status : ℕ) → HasBuffers s0 n → (run s0 n).ending ≡ Some (Exit status) → IsGranted s0 n
+  exit_granted n status buffers over =
+      let last : (run s0 (suc n)).ending ≡ Some (Exit status) =
+      ap (λ (t : State). t.ending) (stays_ended (run s0 n) (Exit status) over) ∙ over in
+      record { accesses = ap is_refusal over; fetch = λ trapped. absurd (cc); buffers = buffers }
+
+  live_granted : (n : ℕ) → HasBuffers s0 n → ((k : ℕ) → (run s0 k).ending ≡ None) → IsGranted s0 n
+  live_granted n buffers live =
+      let next : (run s0 (suc n)).ending ≡ None = live (suc n) in
+      record { accesses = ap is_refusal (live n); fetch = λ trapped. absurd (cc); buffers = buffers }
+
+-- what follows where each granted moment is shown
+module _ (s0 t0 : State) (stands : (n : ℕ) → IsGranted s0 n → (m : ℕ) × LooksAs s0 t0 n m) where
+  runs_like : RunsLike s0 t0
+  runs_like = record {
+    exits = λ n status buffers over. stands n (exit_granted s0 n status buffers over);
+    endless = λ buffers live. (
+      λ m. let there = stands m (live_granted s0 m (buffers m) live) in
+          lives_before t0 m there.0 there.1.later (there.1.ending ∙ live m),
+      λ n. stands n (live_granted s0 n (buffers n) live),
+    );
+    stands = stands;
+  }
+
+pub edits_are_untouched : EditsAreUntouched
+unfolding start_of
+edits_are_untouched original plan file faithful args input n granted =
+    granted_is_untouched (pages_of faithful.notes) (start_of original args input) n refl
+    (unmapped original file faithful.notes faithful.pages faithful.whole.loads (program_name ∷ args)) granted
+
+module _ (original : List ℕ) (plan : Plan) (file : List ℕ) (faithful : IsFaithful original plan file)
+    (args : List (List ℕ)) (input : List ℕ) (given : AreArguments args) (read : AreBytes input) where
+  abbrev s0 : State
+  s0 = start_of original args input
+
+  abbrev t0 : State
+  t0 = start_of file args input
+
+  alike : AreRunsAlike (edit_of original plan faithful.notes) (image_of original).entry s0 t0
+  alike = faithful.runs args input given read
+
+  comes_to : (n : ℕ) → IsGranted s0 n → (m : ℕ) × LooksAs s0 t0 n m
+  comes_to n granted =
+      let answered = alike.answered n (edits_are_untouched original plan file faithful args input n granted) in
+      shown faithful.notes s0 t0 n answered.moment answered.first.holds
+
+pub does_the_same : EditsDoTheSame
+does_the_same original plan file faithful args input given read =
+    runs_like (start_of original args input) (start_of file args input)
+    (comes_to original plan file faithful args input given read)
+
+pub granted_runs_are_alike : GrantedRunsAreAlike
+granted_runs_are_alike original plan file is args input given read =
+    let alike : AreRunsAlike (edit_of original plan is.faithful.notes) (image_of original).entry
+    (start_of original args input) (start_of file args input) = is.faithful.runs args input given read in
+    let untouched = edits_are_untouched original plan file is.faithful args input in
+    record {
+      answered = λ n granted. alike.answered n (untouched n granted);
+      bounded = λ n granted. (is.cost.steps args input given read).bounded n (untouched (suc n) granted);
+      stops = λ m granted. alike.stops m (untouched _ granted);
+    }
+
+pub crash_alike : EditsCrashAlike
+unfolding start_of
+crash_alike original plan file faithful args input given read n refused =
+    let alike : AreRunsAlike (edit_of original plan faithful.notes) (image_of original).entry
+    (start_of original args input) (start_of file args input) = faithful.runs args input given read in
+    let pages = pages_of faithful.notes in
+    let are = pages_high original file faithful.notes faithful.pages faithful.whole.loads in
+    let untouched = unmapped_is_untouched pages (start_of original args input) n refl
+    (unmapped original file faithful.notes faithful.pages faithful.whole.loads (program_name ∷ args))
+    (record {
+      outside = λ k below live none. lower_each pages _ are (refused.outside k below live none);
+      unjudged = λ k below is. lower_all pages _ are (refused.unjudged k below is);
+    }) in
+    let answered = alike.answered n untouched in
+    shown faithful.notes (start_of original args input) (start_of file args input) n answered.moment answered.first.holds

@@ -1,9 +1,0 @@
-use Rattle.std.proofs.Common.{[], arith}
-use Rattle.std.proofs.lemmas.Result.{err_from_is_err_and}
-use Rattle.eel.proofs.Lines.{took-piece}
-use Rattle.eel.proofs.outcome.put_pieces.Goals as goal
-
-pub returns-in_err-put_all-clause-part : goal.returns-in_err-put_all-clause-part
-returns-in_err-put_all-clause-part g c =
-    let p = err_from_is_err_and c.from_residual.result c.from_residual.ensures.1 in
-    rw p.1 (took-piece _ _ _ c.args.pieces.now c.loop-piece.piece-index (record { ref_ptr = (0, 0); now = [] }) (omega arith) c.loop-piece.invariant.taken c.in_err-put_all.ensures.part)

@@ -1,0 +1,197 @@
+-- The grammar of the program's words.
+use Rattle.std.specs.Prelude.{ℕ, ◌+◌, ◌-◌, ◌*◌, ◌^◌, ◌≤◌, ◌&&◌, nat_le, nat_lt, Bool, if◌then◌else◌, List, [], ◌∷◌, length, codes, decimal, Option, Some, None}
+use Rattle.std.specs.Borrow.{Bor}
+use Rattle.std.specs.List.{find, fold, list_all, range_with_len}
+use Rattle.std.specs.Option.{option_or}
+use Rattle.std.specs.Str.{bytes_eq}
+pub use Rattle.v8_process.specs.Arguments.{texts}
+use Rattle.v8_process.specs.Arguments.{AreArguments}
+use Rattle.v8_process.specs.Start.{strings}
+use Rattle.eel_said.specs.declared.command.Report.{Report}
+use Rattle.eel_said.specs.declared.command.Report.TheVariants as reports
+use Rattle.eel_said.specs.declared.command.Command as declared
+use Rattle.eel_said.specs.declared.command.Command.TheVariants as variants
+
+pub data Command : Type 0 where
+  -- edit INPUT OUTPUT plain
+  EditPlain : (input output : List ℕ) → Command
+  -- edit INPUT OUTPUT script SCRIPT
+  EditScript : (input output script : List ℕ) → Command
+  -- edit INPUT OUTPUT profile
+  EditProfile : (input output : List ℕ) → Command
+  -- edit INPUT OUTPUT profile WEIGHTS
+  EditWeighed : (input output weights : List ℕ) → Command
+  -- edit INPUT OUTPUT every
+  EditEvery : (input output : List ℕ) → Command
+  -- edit INPUT OUTPUT trace BITS
+  EditTrace : (input output : List ℕ) (bits : ℕ) → Command
+  -- run FILE [-n LIMIT] [-d DUMP] [-- ARG..], the two options in either order
+  Run : (file : List ℕ) (limit : ℕ) (dump : Option (List ℕ)) (args : List (List ℕ)) → Command
+  -- show FILE
+  Show : (file : List ℕ) → Command
+  -- list FILE
+  ListWords : (file : List ℕ) → Command
+  -- words LISTING OUTPUT
+  PutWords : (listing output : List ℕ) → Command
+  -- restore WRITTEN OUTPUT
+  Restore : (written output : List ℕ) → Command
+  -- counts WRITTEN DUMP, visits WRITTEN DUMP, trace WRITTEN DUMP
+  ReportRun : (report : Report) (written dump : List ℕ) → Command
+  -- demo NUMBER ROUTINES
+  Demo : (number routines : ℕ) → Command
+  -- words outside the grammar
+  Unknown : Command
+
+-- ---- edit
+
+-- a tool that takes no file
+abbrev pub tool_of : List ℕ → List ℕ → List ℕ → Command
+tool_of input output tool =
+    if bytes_eq tool (codes "plain") then EditPlain input output else
+    if bytes_eq tool (codes "profile") then EditProfile input output else
+    if bytes_eq tool (codes "every") then EditEvery input output else Unknown
+
+-- how many bits a ring has: a number from 1 to 16
+unfoldable pub bits_of : List ℕ → Option ℕ
+bits_of text = find (λ bits. bytes_eq text (decimal bits)) (range_with_len 1 16)
+
+abbrev pub trace_with : List ℕ → List ℕ → Option ℕ → Command
+trace_with input output None = Unknown
+trace_with input output (Some bits) = EditTrace input output bits
+
+-- a tool that takes a file, or a number
+abbrev pub tool_with : List ℕ → List ℕ → List ℕ → List ℕ → Command
+tool_with input output tool file =
+    if bytes_eq tool (codes "script") then EditScript input output file else
+    if bytes_eq tool (codes "profile") then EditWeighed input output file else
+    if bytes_eq tool (codes "trace") then trace_with input output (bits_of file) else Unknown
+
+abbrev pub edit_of : List (List ℕ) → Command
+edit_of (input ∷ output ∷ tool ∷ []) = tool_of input output tool
+edit_of (input ∷ output ∷ tool ∷ file ∷ []) = tool_with input output tool file
+edit_of _ = Unknown
+
+-- ---- run
+
+-- how many steps a run makes at most, where the words don't say it
+abbrev pub default_limit : ℕ
+default_limit = 100000000
+
+abbrev pub is_digit : ℕ → Bool
+is_digit byte = nat_le 48 byte && nat_le byte 57
+
+-- the number that decimal digits say
+abbrev pub value_of : List ℕ → ℕ
+value_of digits = fold (λ number digit. 10 * number + (digit - 48)) 0 digits
+
+-- a number of so many digits at most, and of so many bits
+abbrev pub number_within : ℕ → ℕ → List ℕ → Option ℕ
+number_within digits bits text =
+    if nat_le 1 (length text) && nat_le (length text) digits && list_all is_digit text && nat_lt (value_of text) (2 ^ bits)
+    then Some (value_of text) else None
+
+-- at most 1,000 arguments, of at most 65,536 bytes with a zero byte after each
+abbrev pub are_few : List (List ℕ) → Bool
+are_few args = nat_le (length args) 1000 && nat_le (length (strings args)) (2 ^ 16)
+
+-- an option of this name with its value, where the words begin with one, and what follows
+unfoldable pub option_in : List ℕ → List (List ℕ) → Option (List ℕ) × List (List ℕ)
+option_in name (option ∷ value ∷ words) =
+    if bytes_eq option name then (Some value, words) else (None, option ∷ value ∷ words)
+option_in name words = (None, words)
+
+-- the limit that an option says, if it is one
+abbrev pub limit_in : Option (List ℕ) → Option ℕ
+limit_in None = Some default_limit
+limit_in (Some text) = number_within 20 64 text
+
+-- what may follow the options
+unfoldable pub arguments_of : List ℕ → Option ℕ → Option (List ℕ) → List (List ℕ) → Command
+arguments_of file None dump words = Unknown
+arguments_of file (Some limit) dump [] = Run file limit dump []
+arguments_of file (Some limit) dump (mark ∷ args) =
+    if bytes_eq mark (codes "--") && are_few args then Run file limit dump args else Unknown
+
+-- a limit behind a dump, where there was none before
+abbrev pub late_in : Option (List ℕ) → List (List ℕ) → Option (List ℕ) × List (List ℕ)
+late_in (Some limit) words = (None, words)
+late_in None words = option_in (codes "-n") words
+
+-- what may follow the file: the two options in either order
+abbrev pub options_of : List ℕ → List (List ℕ) → Command
+options_of file words =
+    let first = option_in (codes "-n") words in
+    let dump = option_in (codes "-d") first.1 in
+    let late = late_in first.0 dump.1 in
+    arguments_of file (limit_in (option_or first.0 late.0)) dump.0 late.1
+
+abbrev pub run_of : List (List ℕ) → Command
+run_of [] = Unknown
+run_of (file ∷ words) = options_of file words
+
+-- ---- verbs with one name, and with two
+
+abbrev pub of_one : (List ℕ → Command) → List (List ℕ) → Command
+of_one command (file ∷ []) = command file
+of_one command _ = Unknown
+
+abbrev pub of_two : (List ℕ → List ℕ → Command) → List (List ℕ) → Command
+of_two command (first ∷ second ∷ []) = command first second
+of_two command _ = Unknown
+
+-- ---- demo
+
+-- a number, and how many routines there are: 1 to 100,000
+abbrev pub demo_with : Option ℕ → Option ℕ → Command
+demo_with (Some number) (Some routines) =
+    if nat_le 1 routines && nat_le routines 100000 then Demo number routines else Unknown
+demo_with _ _ = Unknown
+
+abbrev pub demo_of : List ℕ → List ℕ → Command
+demo_of number routines = demo_with (number_within 10 32 number) (number_within 10 32 routines)
+
+-- ---- what the words ask for
+
+abbrev pub command_of : List (List ℕ) → Command
+command_of [] = Unknown
+command_of (verb ∷ words) =
+    if bytes_eq verb (codes "edit") then edit_of words else
+    if bytes_eq verb (codes "run") then run_of words else
+    if bytes_eq verb (codes "show") then of_one Show words else
+    if bytes_eq verb (codes "list") then of_one ListWords words else
+    if bytes_eq verb (codes "words") then of_two PutWords words else
+    if bytes_eq verb (codes "restore") then of_two Restore words else
+    if bytes_eq verb (codes "counts") then of_two (ReportRun reports.Counts) words else
+    if bytes_eq verb (codes "visits") then of_two (ReportRun reports.Visits) words else
+    if bytes_eq verb (codes "trace") then of_two (ReportRun reports.LastEdges) words else
+    if bytes_eq verb (codes "demo") then of_two demo_of words else Unknown
+
+-- the arguments of a run are ones that a program can be given, as many routines are asked for as can be made, and a ring
+-- has 1 to 16 bits
+abbrev pub KeepsLimits : Command → Type 0
+KeepsLimits (Run file limit dump args) = AreArguments args
+KeepsLimits (Demo number routines) = (1 ≤ routines) × (routines ≤ 100000)
+KeepsLimits (EditTrace input output bits) = (1 ≤ bits) × (bits ≤ 16)
+KeepsLimits _ = Unit {0}
+
+-- a name, if there is one
+abbrev pub name_seen : Option (Bor (List ℕ)) → Option (List ℕ)
+name_seen None = None
+name_seen (Some name) = Some name.now
+
+-- the command that the program keeps
+abbrev pub command_seen : declared.Command → Command
+command_seen (variants.EditPlain input output) = EditPlain input.now output.now
+command_seen (variants.EditScript input output script) = EditScript input.now output.now script.now
+command_seen (variants.Run file limit dump args) = Run file.now limit (name_seen dump) (texts args.now)
+command_seen (variants.Show file) = Show file.now
+command_seen (variants.Restore written output) = Restore written.now output.now
+command_seen (variants.EditProfile input output) = EditProfile input.now output.now
+command_seen (variants.EditWeighed input output weights) = EditWeighed input.now output.now weights.now
+command_seen (variants.EditEvery input output) = EditEvery input.now output.now
+command_seen (variants.ListWords file) = ListWords file.now
+command_seen (variants.PutWords listing output) = PutWords listing.now output.now
+command_seen (variants.ReportRun report written dump) = ReportRun report written.now dump.now
+command_seen (variants.EditTrace input output bits) = EditTrace input.now output.now bits
+command_seen (variants.Demo number routines) = Demo number routines
+command_seen variants.Unknown = Unknown

@@ -1,0 +1,8 @@
+//! The words of a call of EEL, and what comes of it.
+#![tactic(auto)]
+
+mod command;
+mod outcome;
+
+pub use command::{Command, Report, parse};
+pub use outcome::{CountCause, LineCause, Outcome};

@@ -1,0 +1,309 @@
+-- From a visit to where control enters the next one: what runs at the visit itself, and the way behind it; or up to the
+-- end of the run.
+use Rattle.std.proofs.Common.{◌≡◌, ◌≢◌, ℕ, suc, ◌+◌, ◌-◌, ◌<◌, ◌≤◌, inl, inr, true, false, Option, Some, None, List, [], ◌++◌, append-nil, refl, ap, sym, ◌∙◌, subst, arith}
+use Rattle.std.specs.Prelude.{◌%◌}
+use Rattle.eel_base.specs.CodeText.{word_at}
+use Rattle.v8_decode.specs.declared.Instr.{Instr}
+use Rattle.v8_decode.specs.declared.Instr.TheVariants as i
+use Rattle.v8_decode.specs.Words.{decode_of}
+use Rattle.v8_memory.specs.Regions.{Memory}
+use Rattle.v8_memory.specs.Spans.{IsSameOutside}
+use Rattle.v8_step.specs.declared.Ending.{Ending}
+use Rattle.v8_step.specs.declared.Slot.TheVariants.{NoSlot, Taken}
+use Rattle.v8_step.specs.State.{State, register_of}
+use Rattle.v8_step.specs.Step.{puts_on_word}
+use Rattle.v8_step.specs.Run.{run, run_puts}
+use Rattle.v8_step.specs.Items.{is_transfer}
+use Rattle.v8_step.specs.Valid.{IsValid}
+use Rattle.v8_step.proofs.ValidSteps.{run-valid}
+use Rattle.two_runs.specs.Visits.{pages_of}
+use Rattle.cfg_blocks.specs.declared.EdgeKind.TheVariants as kinds
+use Rattle.cfg_normal.specs.declared.Node.{Node}
+use Rattle.cfg_walk.specs.Walk.{Point, instr_at, node_after, point_of, same_kind, way_of}
+use Rattle.code_runs.specs.Counted.{count_stores}
+use Rattle.code_runs.specs.Hops.{hopped}
+use Rattle.code_runs.specs.Leads.{IsSilent, Leads}
+use Rattle.code_runs.specs.Ours.{IsAmongWords}
+use Rattle.code_runs.specs.Page.{page_word}
+use Rattle.code_runs.specs.StoredWords.{Stores, memory_word}
+use Rattle.code_runs.proofs.Counted.{count_add, none_then}
+use Rattle.code_runs.proofs.Hops.{stores_then}
+use Rattle.code_runs.proofs.Leads.{leads_then, leads_weaker, puts_add}
+use Rattle.code_runs.proofs.PointsAlike.{no_puts as quiet_transfer}
+use Rattle.addr_translate.specs.Halves.{found_in}
+use Rattle.jump_code.specs.PageWords.{IsPageWord, kept_address}
+use Rattle.image_code.specs.Simulates.{IsFollowedBy, IsKept, IsOnWay, IsThere, Setting, at_point, gone_at, graph_in, word_of, edit_in}
+use Rattle.image_code.specs.Cost.{IsWatched, NoneIsOut, in_first_word, is_jmpl, is_spill, is_transfer_at}
+use Rattle.image_code.specs.Store.{cells_in, updates}
+use Rattle.image_code.specs.Images.{EntersNext, Forms, Frame, HasImages, HasNoCases, HereAt, IsFramed, Placed, Site, entered_at}
+use Rattle.image_code.proofs.Arrives.{Arrives, IsFit, bare_on}
+use Rattle.image_code.proofs.Between.{can_run, ended_none, live_before, outside_refl, quiet_of, stores_weaker}
+use Rattle.image_code.proofs.Cells.{cells_above, page_above, updates_same}
+use Rattle.image_code.proofs.Dead.{LastDead, alike_hopped, alike_itself, followed_alike}
+use Rattle.image_code.proofs.Memories.{images_stored, same_stored}
+use Rattle.image_code.proofs.Sparing.{transfers}
+
+-- the page's words are the editor's
+page_own : (g : Setting) (f : Frame) → IsFramed g f → (z : ℕ) → IsPageWord z → IsAmongWords f.own z
+page_own g f framed z (inl e) = rw e (framed.page 0 (omega arith))
+page_own g f framed z (inr (inl e)) = rw e (framed.page 1 (omega arith))
+page_own g f framed z (inr (inr (inl e))) = rw e (framed.page 2 (omega arith))
+page_own g f framed z (inr (inr (inr (inl e)))) = rw e (framed.page 7 (omega arith))
+page_own g f framed z (inr (inr (inr (inr e)))) = absurd e
+
+pub own_stored : (g : Setting) (f : Frame) → IsFramed g f → (m n : Memory) → Stores IsPageWord m n
+    → Stores (IsAmongWords f.own) m n
+own_stored g f framed m n stores = stores_weaker IsPageWord (IsAmongWords f.own) m n (page_own g f framed) stores
+
+-- what is no transfer is no JMPL
+no_jump : (o : Option Instr) → is_transfer_at o ≡ false → is_jmpl o ≡ false
+no_jump None e = refl
+no_jump (Some (i.Jmpl rd rs1 op2)) e = absurd (cc)
+no_jump (Some instr) e = refl
+
+-- steps that put nothing out behind others
+puts_then : (s t : State) (k l : ℕ) → run s k ≡ t → IsSilent t l → (descriptor : ℕ)
+    → run_puts s (k + l) descriptor ≡ run_puts s k descriptor
+puts_then s t k l steps silent descriptor =
+    ap (λ n. run_puts s n descriptor) (let e : k + l ≡ l + k = omega arith in e) ∙ puts_add s k l descriptor
+    ∙ ap (λ (z : State). run_puts s k descriptor ++ run_puts z l descriptor) steps
+    ∙ ap (λ z. run_puts s k descriptor ++ z) (silent descriptor) ∙ append-nil (run_puts s k descriptor)
+
+module _ (site : Site) (h : Placed site) (node : Node) (x : Point) (t : State) (here : HereAt site node x t) where
+  open site use {g, l, base, p, place, f}
+
+  -- a state of a run that goes on is on the way from the visit
+  abbrev pub OnWay : State → Type 0
+  OnWay u = u.ending ≡ None → IsOnWay g t u
+
+  -- ---- what runs at the visit
+
+  -- so many steps store nothing that is counted, and are few where nothing is long
+  pub record IsSpared (count : ℕ) : Type 0 where
+    pub spills : count_stores (is_spill g.notes) t count ≡ 0
+    pub first : Forms site → count_stores in_first_word t count ≡ 0
+    pub brief : Forms site → count ≤ 2
+
+  -- So many steps put out what the original's does, and leave the cells. A word that is no transfer is one step.
+  pub record Past (edges : List ℕ) (v mid : State) (count : ℕ) : Type 0 where
+    pub path : Leads OnWay t mid count
+    pub some : 0 < count
+    pub few : count ≤ 14
+    pub puts : (descriptor : ℕ)
+        → run_puts t count descriptor ≡ puts_on_word (at_point x t) (word_of g.text x.pc) descriptor
+    pub cells : cells_in g.notes mid ≡ cells_in g.notes t
+    pub spares : IsWatched (edit_in g) edges x v → IsSpared count
+    pub alone : is_transfer_at (instr_at g.text x.pc) ≡ false → count ≡ 1
+
+  -- what the page has where control comes to the slot of a JMPL without Case edges
+  abbrev pub Waits : Option ℕ → List ℕ → State → Memory → Type 0
+  Waits next edges v m =
+      v.slot ≡ Taken → same_kind (way_of (instr_at g.text (v.pc - 4)) v.slot) kinds.Out ≡ true
+      → HasNoCases g (node_after (graph_in g) node edges) → (memory_word m (page_word 1) ≡ v.npc) × (v.npc % 4 ≡ 0)
+      × (word_at g.text v.pc ≢ None → (next ≢ None) × (memory_word m (page_word 7) ≡ found_in f.halves v.npc))
+
+  -- ---- the run goes on
+
+  -- They lead to a machine that is v but for its place and for words of the editor's, and can run on.
+  pub record PastOn (next : Option ℕ) (edges : List ℕ) (v mid : State) (count : ℕ) : Type 0 where
+    pub past : Past edges v mid count
+    pub same : hopped v 0 mid.memory ≡ hopped mid 0 mid.memory
+    pub outside : (n : Memory) → Stores (IsAmongWords f.own) mid.memory n → IsSameOutside (pages_of g.notes) v.memory n
+    pub has : HasImages g base p f mid.memory
+    pub live : mid.ending ≡ None
+    pub npc : mid.npc ≡ mid.pc + 4
+    pub slot : mid.slot ≡ NoSlot
+    pub waits : Waits next edges v mid.memory
+    pub watched : IsWatched (edit_in g) edges x v → next ≢ None
+    pub kept : is_transfer_at (instr_at g.text x.pc) ≡ false → kept_address mid ≡ kept_address t
+
+  -- the way behind them, which has no step where a word that is no transfer completes no edge
+  abbrev pub Behind : Option ℕ → List ℕ → State → State → Type 0
+  Behind next edges v mid =
+      (w : Arrives site h next edges mid
+      (entered_at site (node_after (graph_in g) node edges) (point_of v)) 24)
+      × (is_transfer_at (instr_at g.text x.pc) ≡ false → next ≢ None → edges ≡ [] → w.count ≡ 0)
+
+  pub enters_by : (next : Option ℕ) (edges : List ℕ) (v mid : State) (count : ℕ) → LastDead g edges
+      → PastOn next edges v mid count → (IsFit site h mid → Behind next edges v mid) → EntersNext site edges node x t v
+  enters_by next edges v mid count last w onward =
+      let a = w.past in
+      let to = entered_at site (node_after (graph_in g) node edges) (point_of v) in
+      let valid : IsValid mid = subst IsValid a.path.steps (run-valid t count here.valid) in
+      let behind = onward (record {
+        valid = valid;
+        has = w.has;
+        runs = can_run site h mid valid w.live w.npc w.slot w.has;
+      }) in
+      let rest = behind.0 in
+      let way = leads_then OnWay t mid (hopped rest.other to rest.memory) count rest.count a.path
+      (leads_weaker _ OnWay mid _ rest.count (λ u bare live. bare_on site h t u live bare) rest.path)
+      (λ _ some live. bare_on site h t mid live (rest.begins some)) in
+      let lives : rest.other.ending ≡ None = rest.alike.ending ∙ w.live in
+      record {
+        on = record {
+          count = count + rest.count;
+          after = hopped rest.other to rest.memory;
+          path = record {
+            steps = way.steps;
+            some = omega (arith, a.some);
+            few = omega (arith, a.few, rest.few);
+            quiet = quiet_of site h t _ (count + rest.count) OnWay way lives (λ u live on. on live);
+          };
+          puts = λ descriptor.
+              puts_then t mid count rest.count a.path.steps rest.silent descriptor ∙ a.puts descriptor;
+          followed = followed_alike g edges v mid (hopped rest.other to rest.memory)
+              (ap (λ (z : State). hopped z 0 rest.memory) w.same) (w.outside rest.memory rest.stores)
+              (alike_hopped g edges mid rest.other to rest.memory rest.alike);
+          cells = rest.cells last
+              ∙ updates_same g.snips edges (cells_in g.notes mid) mid v (sym (ap (λ (z : State). register_of z) w.same))
+              ∙ ap (λ z. updates g.snips edges z v) a.cells;
+          here = λ _. record {
+            valid = subst IsValid way.steps (run-valid t (count + rest.count) here.valid);
+            live = lives;
+            at = refl;
+            npc = refl;
+            slot = refl;
+            memory = images_stored g f h.frame base p mid _ rest.count rest.path.steps rest.stores w.has;
+            waits = λ taken out caseless.
+                let z = w.waits taken out caseless in
+                (rest.waits ∙ z.0, z.1, λ there. let y = z.2 there in rest.found y.0 ∙ y.1);
+          };
+          place = λ over. absurd (over (ap (λ (z : State). z.ending) w.same ∙ w.live));
+          sparing = λ watched.
+              let there = w.watched watched in
+              let s = a.spares watched in
+              let both = count_add (is_spill g.notes) t mid count a.path.steps rest.count in
+              record {
+                spills = omega (arith, s.spills, rest.spares there, both);
+                first = λ forms.
+                    none_then in_first_word t mid count rest.count a.path.steps (s.first forms)
+                    (rest.leaves_first there forms);
+                alone = λ _ none straight. omega (arith, a.alone straight, behind.1 straight there none);
+                few = λ forms none. omega (arith, none, s.brief forms, rest.brief there forms);
+              };
+        };
+        first = λ _ none straight inside.
+            let there = w.watched (record {
+              jump = no_jump (instr_at g.text x.pc) straight;
+              out = subst (NoneIsOut (graph_in g)) (sym none) tt;
+              inside = inside;
+            }) in
+            let same_memory : rest.memory ≡ mid.memory =
+            ap (λ (z : State). z.memory) (sym rest.path.steps ∙ ap (run mid) (behind.1 straight there none)) in
+            ap (λ (m : Memory). memory_word m (page_word 0)) same_memory ∙ w.kept straight;
+      }
+
+  -- ---- the run ends
+
+  -- The last of them ends it as the original's step does.
+  pub record PastOver (v after : State) (last : ℕ) : Type 0 where
+    pub past : Past [] v after (suc last)
+    pub before : (run t last).ending ≡ None
+    pub ending : Ending
+    pub over : v.ending ≡ Some ending
+    pub followed : IsFollowedBy (pages_of g.notes) (IsKept g [] v.window) v after
+    pub there : IsThere g t after
+
+  -- what is the same but for its place follows
+  pub followed_same : (v after : State) → hopped v 0 after.memory ≡ hopped after 0 after.memory
+      → v.memory ≡ after.memory → IsFollowedBy (pages_of g.notes) (IsKept g [] v.window) v after
+  followed_same v after same memory =
+      followed_alike g [] v after after same (rw memory (outside_refl (pages_of g.notes) after.memory))
+      (alike_itself g [] after)
+
+  pub ends_by : (v after : State) (last : ℕ) → PastOver v after last → EntersNext site (gone_at g node x v) node x t v
+  ends_by v after last w =
+      let a = w.past in
+      let over = w.over in
+      rw (ended_none g node x v w.ending over) (record {
+        on = record {
+          count = suc last;
+          after = after;
+          path = record {
+            steps = a.path.steps;
+            some = omega arith;
+            few = omega (arith, a.few);
+            quiet = λ j some less. a.path.during j some less (live_before t (last - j) j
+                (ap (λ z. (run t z).ending) (let e : last - j + j ≡ last = omega arith in e) ∙ w.before));
+          };
+          puts = a.puts;
+          followed = w.followed;
+          cells = a.cells;
+          here = λ live. absurd (cc);
+          place = λ _. w.there;
+          sparing = λ watched.
+              let s = a.spares watched in
+              record {
+                spills = omega (arith, s.spills);
+                first = s.first;
+                alone = λ _ _ straight. a.alone straight;
+                few = λ forms _. omega (arith, s.brief forms);
+              };
+        };
+        first = λ live _ _ _. absurd (cc);
+      })
+
+  -- ---- transfers, whose words store in the page alone
+
+  pub record Moves (edges : List ℕ) (v mid : State) (count : ℕ) : Type 0 where
+    pub word : ℕ
+    pub is_word : word_of g.text x.pc ≡ Some word
+    pub transfer : is_transfer (decode_of word) ≡ true
+    pub path : Leads OnWay t mid count
+    pub some : 0 < count
+    pub few : count ≤ 14
+    pub silent : IsSilent t count
+    pub stores : Stores IsPageWord t.memory mid.memory
+    pub spares : IsWatched (edit_in g) edges x v → IsSpared count
+
+  -- so there is a transfer
+  pub moving : {A : Type 0} (word : ℕ) → word_of g.text x.pc ≡ Some word → is_transfer (decode_of word) ≡ true
+      → is_transfer_at (instr_at g.text x.pc) ≡ false → A
+  moving word is_word transfer straight =
+      let moves = transfers g.text x.pc word is_word transfer in
+      absurd (cc)
+
+  pub moves_past : (edges : List ℕ) (v mid : State) (count : ℕ) → Moves edges v mid count → Past edges v mid count
+  moves_past edges v mid count w = record {
+    path = w.path;
+    some = w.some;
+    few = w.few;
+    puts = λ descriptor. w.silent descriptor
+        ∙ sym (ap (λ (o : Option ℕ). puts_on_word (at_point x t) o descriptor) w.is_word
+        ∙ quiet_transfer (at_point x t) (decode_of w.word) descriptor w.transfer);
+    cells = cells_above g l f h.frame h.cells IsPageWord page_above t.memory mid.memory here.memory.ours w.stores;
+    spares = w.spares;
+    alone = moving w.word w.is_word w.transfer;
+  }
+
+  -- Where the run goes on
+  pub record MovesOn (edges : List ℕ) (v mid : State) (count : ℕ) : Type 0 where
+    pub moves : Moves edges v mid count
+    pub same : hopped v 0 mid.memory ≡ hopped mid 0 mid.memory
+    pub memory : v.memory ≡ t.memory
+    pub live : mid.ending ≡ None
+    pub npc : mid.npc ≡ mid.pc + 4
+    pub slot : mid.slot ≡ NoSlot
+    pub waits : Waits (word_at g.text v.pc) edges v mid.memory
+
+  pub moves_by : (edges : List ℕ) (v mid : State) (count : ℕ) → LastDead g edges → MovesOn edges v mid count
+      → (IsFit site h mid → Arrives site h (word_at g.text v.pc) edges mid
+      (entered_at site (node_after (graph_in g) node edges) (point_of v)) 24)
+      → EntersNext site edges node x t v
+  moves_by edges v mid count last w onward =
+      let a = w.moves in
+      let own = own_stored g f h.frame t.memory mid.memory a.stores in
+      enters_by (word_at g.text v.pc) edges v mid count last (record {
+        past = moves_past edges v mid count a;
+        same = w.same;
+        outside = λ n stores. rw w.memory (same_stored g f h.frame base p t.memory n here.memory
+            (stores_then (IsAmongWords f.own) (IsAmongWords f.own) t.memory mid.memory n (λ z e. e) own stores));
+        has = images_stored g f h.frame base p t mid count a.path.steps own here.memory;
+        live = w.live;
+        npc = w.npc;
+        slot = w.slot;
+        waits = w.waits;
+        watched = λ watched. watched.inside;
+        kept = moving a.word a.is_word a.transfer;
+      }) (λ fit. (onward fit, moving a.word a.is_word a.transfer))
