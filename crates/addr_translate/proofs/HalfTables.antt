@@ -4,14 +4,20 @@ use Rattle.std.specs.Prelude.{if◌then◌else◌, nat_lt}
 use Rattle.std.specs.List.{range_with_len}
 use Rattle.std.proofs.lemmas.Bool.Decides.{nat_tests}
 use Rattle.std.proofs.lemmas.List.FromFn.{length-map-range_with_len}
-use Rattle.eel_base.specs.CodeText.{Words, IsText, word_at}
+use Rattle.eel_base.specs.CodeText.{Words, word_at}
+use Rattle.eel_base.specs.Code.{IsText}
 use Rattle.eel_base.specs.declared.numbers.Addr.{Addr}
 use Rattle.v8_alu.specs.Numbers.{wrapped}
-use Rattle.addr_translate.specs.Lookup.{table_word}
+use Rattle.addr_translate.specs.Lookup.{table_word, TableAt}
 use Rattle.addr_translate.specs.Table.{last_byte, target_of, target_for}
-use Rattle.addr_translate.specs.Halves.{IsHalvesOf, entry_at, first_half, halves, halves_size, span_of}
-use Rattle.addr_translate.specs.HalfEntries.{half_bytes, half_entry, half_table, half_word, half_words}
+use Rattle.addr_translate.specs.Halves.{IsHalvesOf, entry_at, first_half, halves_size, span_of}
+use Rattle.addr_translate.specs.Private.{halves}
+use Rattle.addr_translate.specs.HalfEntries.{half_bytes, half_entry, half_word, half_words}
 use Rattle.addr_translate.proofs.Tables.{IsIn, IsOff, among, entry_found, length-words, outside}
+
+module _ (t : Words) (targets : List Addr) (foreign : Addr) (base : ℕ) where
+  abbrev pub half_table : TableAt
+  half_table = record { base = base; bytes = (half_bytes t targets foreign base) }
 
 -- ---- the entry's address from what the first level has
 

@@ -7,12 +7,17 @@ use Rattle.std.proofs.lemmas.Nat.{from_be_bytes-to_be_bytes_4}
 use Rattle.std.proofs.lemmas.Grind.{flat_map-append}
 use Rattle.std.proofs.lemmas.Bool.Decides.{nat_tests}
 use Rattle.std.proofs.lemmas.List.FromFn.{length-map-range_with_len, get_or-map-range_with_len, map-range_with_len_more}
-use Rattle.eel_base.specs.CodeText.{Words, IsText, word_at}
+use Rattle.eel_base.specs.CodeText.{Words, word_at}
+use Rattle.eel_base.specs.Code.{IsText}
 use Rattle.eel_base.specs.declared.numbers.Addr.{Addr}
 use Rattle.code_runs.proofs.Leads.{split_below}
-use Rattle.addr_translate.specs.Lookup.{table_word, second_entry, third_entry, second_block, third_block, IsBlock}
+use Rattle.addr_translate.specs.Lookup.{table_word, second_entry, third_entry, second_block, third_block, IsBlock, TableAt}
 use Rattle.addr_translate.specs.Table.{first_part, parts, first_page, pages, blocks, size_of, target_of, target_for, IsTableOf}
-use Rattle.addr_translate.specs.Entries.{is_among, second_for, third_for, entry_in, entry, table_words, table_bytes, built}
+use Rattle.addr_translate.specs.Entries.{is_among, second_for, third_for, entry_in, entry, table_words, table_bytes}
+
+module _ (t : Words) (targets : List Addr) (foreign : Addr) (base : ℕ) where
+  abbrev pub built : TableAt
+  built = record { base = base; bytes = (table_bytes t targets foreign base) }
 
 -- ---- one word more
 pub more_entries : (f : ℕ → ℕ) (n w : ℕ) (now new : List ℕ)

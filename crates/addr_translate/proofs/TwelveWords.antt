@@ -11,8 +11,9 @@ use Rattle.v8_alu.specs.Numbers.{wrapped}
 use Rattle.v8_memory.specs.Regions.{Memory, code_of}
 use Rattle.v8_step.specs.State.{State, register_of}
 use Rattle.v8_step.proofs.ValidStates.{register_of-range}
-use Rattle.code_runs.specs.Page.{page_word, of_page}
-use Rattle.code_runs.specs.StoredWords.{memory_word, store_word, CanLoad, CanStore}
+use Rattle.code_runs.specs.Page.{page_word}
+use Rattle.code_runs.specs.Code.{of_page, store_word, CanLoad, CanStore}
+use Rattle.code_runs.specs.StoredWords.{memory_word}
 use Rattle.code_runs.specs.Straight.{Says, StandIn}
 use Rattle.code_runs.specs.TwoRegisters.{HasScratch, IsAlike, Works, IsNext, IsSumIn, Gives, BlockRules}
 use Rattle.code_runs.proofs.StoredWords.{word_stored, other_loaded, loads_stored, still_stored, can_load, whole_of}

@@ -4,7 +4,6 @@ use Rattle.std.specs.Int.{w32, to_be_bytes}
 use Rattle.std.specs.List.{flat_map, range_with_len}
 use Rattle.eel_base.specs.CodeText.{Words, word_at}
 use Rattle.eel_base.specs.declared.numbers.Addr.{Addr}
-use Rattle.addr_translate.specs.Lookup.{TableAt}
 use Rattle.addr_translate.specs.Table.{blocks, first_page, first_part, pages, parts, target_of}
 
 -- a number is one of so many from the first on
@@ -37,6 +36,3 @@ module _ (t : Words) (targets : List Addr) (foreign : Addr) (base : ℕ) where
 
   unfoldable pub table_bytes : List ℕ
   table_bytes = flat_map (to_be_bytes w32) table_words
-
-  abbrev pub built : TableAt
-  built = record { base = base; bytes = table_bytes }

@@ -4,10 +4,10 @@ use Rattle.std.specs.Int.{w32, to_be_bytes}
 use Rattle.std.specs.List.{flat_map, range_with_len}
 use Rattle.eel_base.specs.CodeText.{Words, word_at}
 use Rattle.eel_base.specs.declared.numbers.Addr.{Addr}
-use Rattle.addr_translate.specs.Lookup.{TableAt}
 use Rattle.addr_translate.specs.Table.{target_of}
 use Rattle.addr_translate.specs.Entries.{is_among}
-use Rattle.addr_translate.specs.Halves.{first_half, halves, halves_size, span_of}
+use Rattle.addr_translate.specs.Halves.{first_half, halves_size, span_of}
+use Rattle.addr_translate.specs.Private.{halves}
 
 -- The entries stand behind the first level. A part that holds text has its own, as the text has its words; each other
 -- part has those behind the text.
@@ -28,6 +28,3 @@ module _ (t : Words) (targets : List Addr) (foreign : Addr) (base : ℕ) where
 
   unfoldable pub half_bytes : List ℕ
   half_bytes = flat_map (to_be_bytes w32) half_words
-
-  abbrev pub half_table : TableAt
-  half_table = record { base = base; bytes = half_bytes }

@@ -38,9 +38,6 @@ pub record IsTwoLevel (t : TableAt) : Type 0 where
 abbrev pub first_half : Words → ℕ
 first_half t = t.start / 2 ^ 16
 
-abbrev pub halves : Words → ℕ
-halves t = last_byte t / 2 ^ 16 - first_half t + 1
-
 -- from the begin of the first of them to the end of the text's last page of 4 KiB
 abbrev pub span_of : Words → ℕ
 span_of t = 2 ^ 12 * (last_byte t / 2 ^ 12 + 1) - 2 ^ 16 * first_half t

@@ -4,3 +4,4 @@ pub mod Halves
 pub mod Lookup
 pub mod Table
 pub mod Translator
+pub mod Private

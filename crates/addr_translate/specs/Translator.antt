@@ -10,10 +10,11 @@ use Rattle.v8_decode.specs.declared.StoreKind.TheVariants as stores
 use Rattle.v8_memory.specs.Regions.{Memory, Region, code_of, region_at}
 use Rattle.v8_step.specs.State.{State, register_of}
 use Rattle.v8_step.specs.Valid.{IsValid}
-use Rattle.code_runs.specs.Page.{page_word, of_page}
-use Rattle.code_runs.specs.StoredWords.{memory_word, store_word, CanLoad, CanStore}
+use Rattle.code_runs.specs.Page.{page_word}
+use Rattle.code_runs.specs.StoredWords.{memory_word}
 use Rattle.code_runs.specs.Straight.{HasWords, IsReady}
 use Rattle.code_runs.specs.TwoRegisters.{Works}
+use Rattle.code_runs.specs.Code.{of_page, CanLoad, CanStore, store_word}
 use Rattle.addr_translate.specs.Lookup.{TableAt, IsTable, looked_up, table_word, third_block}
 
 -- Word 1 of the editor's page keeps the address. For each level, register a takes where the entry stands in its

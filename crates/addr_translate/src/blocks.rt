@@ -1,7 +1,7 @@
 //! Which parts of the address space hold text, and so how many blocks a table has.
 
 ghost use Rattle.std.specs.Prelude.{◌≡◌, ◌+◌, ◌^◌, ◌≤◌};
-ghost use Rattle.eel_base.specs.CodeText.{IsText};
+ghost use Rattle.eel_base.specs.Code.{IsText};
 ghost use Rattle.addr_translate.specs.Entries.{is_among};
 ghost use Rattle.addr_translate.specs.Table.{blocks, first_page, first_part, last_byte as last_byte_of, pages, parts, size_of};
 

@@ -7,7 +7,8 @@ ghost use Rattle.v8_decode.specs.declared.Op2.TheVariants as o;
 ghost use Rattle.v8_decode.specs.declared.LoadKind.TheVariants as loads;
 ghost use Rattle.v8_decode.specs.declared.StoreKind.TheVariants as stores;
 ghost use Rattle.v8_decode.specs.Forms.{has_form};
-ghost use Rattle.v8_encode.specs.Encoding.{has_word, op2_fits, word_of as word_in};
+ghost use Rattle.v8_encode.specs.Code.{has_word, op2_fits};
+ghost use Rattle.v8_encode.specs.Encoding.{word_of as word_in};
 ghost use Rattle.addr_translate.specs.Translator.{Translates, translator};
 
 use eel_base::Addr;
@@ -15,7 +16,7 @@ use v8_decode::{AluOp, Instr, LoadKind, Op2, Reg, StoreKind};
 use v8_encode::encode;
 
 // The word of an instruction that has one.
-#[tactic(auto, unfolding(v8_encode::specs::Encoding::encode_of))]
+#[tactic(auto, unfolding(v8_encode::specs::Code::encode_of))]
 fn word_of(instr: Instr) -> u32
     requires { IsTrue (has_word instr) }
     ensures word { result ≡ word_in instr }

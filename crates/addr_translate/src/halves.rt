@@ -1,9 +1,10 @@
 //! A table of two levels, and its size.
 
 ghost use Rattle.std.specs.Prelude.{◌≡◌, ℕ, ◌+◌, ◌-◌, ◌*◌, ◌/◌, ◌%◌, ◌<◌, ◌≤◌, ◌^◌, OnOk, IfOk, length};
-ghost use Rattle.eel_base.specs.CodeText.{IsText};
+ghost use Rattle.eel_base.specs.Code.{IsText};
 ghost use Rattle.addr_translate.specs.HalfEntries.{half_bytes, half_entry as half_entry_of, half_word as half_word_of};
-ghost use Rattle.addr_translate.specs.Halves.{IsHalvesOf, first_half, halves, halves_size as halves_size_of, span_of};
+ghost use Rattle.addr_translate.specs.Halves.{IsHalvesOf, first_half, halves_size as halves_size_of, span_of};
+ghost use Rattle.addr_translate.specs.Private.{halves};
 
 use crate::blocks::{PAGE, Parts, last_byte};
 use crate::entries::target;

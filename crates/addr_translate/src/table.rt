@@ -2,7 +2,7 @@
 
 ghost use Rattle.std.specs.Prelude.{◌≡◌, ℕ, ◌+◌, ◌*◌, ◌%◌, ◌<◌, ◌≤◌, ◌^◌, ◌++◌, OnOk, IfOk, length};
 ghost use Rattle.std.specs.Int.{w32, to_be_bytes, from_be_bytes};
-ghost use Rattle.eel_base.specs.CodeText.{IsText};
+ghost use Rattle.eel_base.specs.Code.{IsText};
 ghost use Rattle.addr_translate.specs.Entries.{entry as entry_of, table_bytes};
 ghost use Rattle.addr_translate.specs.Lookup.{IsBlock, IsTable, looked_up, second_block as second_block_of, table_word, third_block as third_block_of};
 ghost use Rattle.addr_translate.specs.Table.{IsTableOf, blocks, size_of};

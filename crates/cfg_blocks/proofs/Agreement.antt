@@ -12,9 +12,11 @@ use Rattle.cfg_blocks.specs.declared.BlockEnd.TheVariants.{Fall}
 use Rattle.cfg_blocks.specs.declared.Into.{Into}
 use Rattle.cfg_blocks.specs.declared.Into.TheVariants.{Nothing}
 use Rattle.cfg_blocks.specs.Ends.{Way, end_at, is_transfer}
-use Rattle.cfg_blocks.specs.Blocks.{Blocks, below, is_target, follows_transfer, is_among, leads, leaders, blocks_of, last_word, AreFirsts}
+use Rattle.cfg_blocks.specs.Blocks.{Blocks, below, is_target, follows_transfer, is_among, leads, leaders, blocks_of, last_word}
+use Rattle.cfg_blocks.specs.Code.{AreFirsts}
 use Rattle.cfg_blocks.specs.Entries.{Entered, Entry, all_entries, entered_of, entries_from, into_of, is_bare_slot, is_counted, is_empty, is_fall, leads_to, ways_from}
-use Rattle.cfg_blocks.specs.Marks.{block_end_in, end_in, is_in, leads_in, marked, numbers, word_ends}
+use Rattle.cfg_blocks.specs.Private.{block_end_in, end_in, is_in, leads_in, marked, word_ends}
+use Rattle.cfg_blocks.specs.Marks.{numbers}
 use Rattle.cfg_blocks.specs.Arrivals.{added_all, counted, counted_from, entered_in, into_in, is_bare_by, is_led_from}
 use Rattle.cfg_blocks.proofs.Below.{any_below_same, length-below, get_or-below, list_any-map, filter_below_same, filter_below_firsts, map_below_same}
 use Rattle.cfg_blocks.proofs.Entering.{counted_from_same, into_by-added}

@@ -5,7 +5,8 @@ use Rattle.std.proofs.lemmas.List.{append-nil, map-append}
 use Rattle.std.proofs.lemmas.List.Elements.{filter-append}
 use Rattle.std.proofs.lemmas.Grind.{common_steps}
 use Rattle.std.proofs.lemmas.List.Folds.{list_any-append}
-use Rattle.cfg_blocks.specs.Blocks.{below, AreFirsts}
+use Rattle.cfg_blocks.specs.Blocks.{below}
+use Rattle.cfg_blocks.specs.Code.{AreFirsts}
 
 pub length-below : (n : ℕ) → length (below n) ≡ n
 length-below zero = refl

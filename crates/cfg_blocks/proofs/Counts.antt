@@ -6,7 +6,7 @@ use Rattle.std.proofs.lemmas.List.Sums.{count_by_more_yes, count_by_more_no}
 use Rattle.std.proofs.lemmas.Bool.{cases_lt, leb-true, leb-false, le-leb}
 use Rattle.std.proofs.Math.Seq.{take-length}
 use Rattle.std.proofs.lemmas.Grind.{get_or_default_zero}
-use Rattle.cfg_blocks.specs.Blocks.{AreFirsts, IsAscending}
+use Rattle.cfg_blocks.specs.Code.{AreFirsts, IsAscending}
 
 pub not_down : (xs : List ℕ) (i j : ℕ) → IsAscending xs → i ≤ j → j < length xs → slice_index xs i ≤ slice_index xs j
 not_down xs i j a l h = elim (cases_lt i j) [ inl less ↦ omega (arith, a i j less h) | inr same ↦ grind arith ]

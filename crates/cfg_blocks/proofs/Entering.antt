@@ -4,7 +4,7 @@ use Rattle.std.proofs.Math.Bool.{or-false, or_assoc}
 use Rattle.std.proofs.lemmas.List.Folds.{list_any-append}
 use Rattle.std.proofs.lemmas.Grind.{flat_map-append}
 use Rattle.std.proofs.lemmas.List.{append-nil}
-use Rattle.cfg_blocks.specs.Marks.{marked}
+use Rattle.cfg_blocks.specs.Private.{marked}
 use Rattle.cfg_blocks.specs.declared.BlockEnd.{BlockEnd}
 use Rattle.cfg_blocks.specs.declared.Into.{Into}
 use Rattle.cfg_blocks.specs.declared.Into.TheVariants.{Nothing}

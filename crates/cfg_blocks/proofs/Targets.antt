@@ -12,9 +12,10 @@ use Rattle.v8_decode.specs.declared.Instr.TheVariants as i
 use Rattle.v8_decode.specs.Words.{decode_of}
 use Rattle.cfg_blocks.specs.declared.BlockEnd.{BlockEnd}
 use Rattle.cfg_blocks.specs.declared.BlockEnd.TheVariants.{Fall}
-use Rattle.cfg_blocks.specs.Ends.{TargetsWithin, end_at, end_by, never}
+use Rattle.cfg_blocks.specs.Code.{TargetsWithin}
+use Rattle.cfg_blocks.specs.Ends.{end_at, end_by, never}
 use Rattle.cfg_blocks.specs.Blocks.{below, last_word}
-use Rattle.cfg_blocks.specs.Marks.{block_end_in, end_in, word_ends}
+use Rattle.cfg_blocks.specs.Private.{block_end_in, end_in, word_ends}
 
 abbrev IsWithin : Words → Option ℕ → Type 0
 IsWithin text to = IfSome (numbered to) (λ word. word.0 < length text.words)

@@ -9,7 +9,7 @@ use Rattle.cfg_blocks.specs.declared.entries.Exit.{Exit}
 use Rattle.cfg_blocks.specs.Ends.{Way}
 use Rattle.cfg_blocks.specs.Blocks.{Blocks, below}
 use Rattle.cfg_blocks.specs.Entries.{Entered, Entry, is_fall, is_slot, leads_to, ways_from}
-use Rattle.cfg_blocks.specs.Marks.{block_end_in, end_in, leads_in, marked}
+use Rattle.cfg_blocks.specs.Private.{end_in, marked, block_end_in, leads_in}
 
 -- the ways that are listed as one and perhaps another
 abbrev pub way_of : Exit → Way

@@ -1,5 +1,5 @@
 -- The basic blocks of a text.
-use Rattle.std.specs.Prelude.{◌≡◌, ℕ, zero, suc, ◌-◌, ◌<◌, ◌≤◌, Bool, false, ◌||◌, ◌&&◌, ◌==◌, nat_le, nat_lt, if◌then◌else◌, List, [], ◌∷◌, ◌++◌, length, map, filter, slice_index, slice_index_or, Option, Some, None}
+use Rattle.std.specs.Prelude.{ℕ, zero, suc, ◌-◌, Bool, false, ◌||◌, ◌&&◌, ◌==◌, nat_le, nat_lt, if◌then◌else◌, List, [], ◌∷◌, ◌++◌, length, map, filter, slice_index, slice_index_or, Option, Some, None}
 use Rattle.std.specs.List.{list_any, count_by}
 use Rattle.eel_base.specs.CodeText.{Words}
 use Rattle.eel_base.specs.declared.numbers.WordNo.{WordNo}
@@ -81,15 +81,3 @@ size_of b block = block_end b.firsts b.words block - slice_index b.firsts block
 -- the block that holds a word: the last that begins at it or before
 abbrev pub holding_of : Blocks → ℕ → ℕ
 holding_of b word = count_by (λ first. nat_le first word) b.firsts - 1
-
-abbrev pub IsAscending : List ℕ → Type 0
-IsAscending xs = (i j : ℕ) → i < j → j < length xs → slice_index xs i < slice_index xs j
-
--- What the first words of blocks are: at least one, no more than words, from word 0 on, in ascending order,
--- words of the text.
-pub record AreFirsts (words : ℕ) (firsts : List ℕ) : Type 0 where
-  pub some : 1 ≤ length firsts
-  pub few : length firsts ≤ words
-  pub begin : slice_index firsts 0 ≡ 0
-  pub ascend : IsAscending firsts
-  pub within : (i : ℕ) → i < length firsts → slice_index firsts i < words

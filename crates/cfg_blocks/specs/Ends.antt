@@ -1,6 +1,6 @@
 -- How control leaves a word of a text (The SPARC Architecture Manual, Version 8, B.21, B.24 and B.25): by a
 -- transfer, or on to the next word.
-use Rattle.std.specs.Prelude.{ℕ, ◌+◌, ◌<◌, Bool, true, false, ◌==◌, nat_lt, if◌then◌else◌, List, [], ◌∷◌, slice_index, Option, Some, None, IfSome, ℤ}
+use Rattle.std.specs.Prelude.{ℕ, ◌+◌, Bool, true, false, ◌==◌, nat_lt, if◌then◌else◌, List, [], ◌∷◌, slice_index, Option, Some, None, ℤ}
 use Rattle.eel_base.specs.CodeText.{Words, numbered, target_of}
 use Rattle.eel_base.specs.declared.numbers.WordNo.{WordNo}
 use Rattle.v8_decode.specs.declared.Instr.{Instr}
@@ -45,10 +45,6 @@ target_in ends.Fall = None
 target_in (ends.Branch cond annul target) = target
 target_in (ends.Call target) = target
 target_in ends.Jump = None
-
--- where a transfer leads to a word, that is one of so many
-abbrev pub TargetsWithin : ℕ → BlockEnd → Type 0
-TargetsWithin words end = IfSome (target_in end) (λ word. word.0 < words)
 
 -- ---- the ways out of a word: the kind of each edge, and the word to which it leads, where the text has it
 

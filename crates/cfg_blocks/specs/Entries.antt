@@ -1,14 +1,14 @@
 -- How control comes into a block.
-use Rattle.std.specs.Prelude.{◌≡◌, ℕ, ◌^◌, ◌≤◌, Bool, true, false, not, ◌&&◌, ◌==◌, List, [], ◌∷◌, length, map, filter, slice_index, Option, Some, None}
-use Rattle.std.specs.List.{All, flat_map}
+use Rattle.std.specs.Prelude.{ℕ, Bool, true, false, not, ◌&&◌, ◌==◌, List, [], ◌∷◌, length, map, filter, slice_index, Option, Some, None}
+use Rattle.std.specs.List.{flat_map}
 use Rattle.eel_base.specs.CodeText.{Words}
 use Rattle.cfg_blocks.specs.declared.BlockEnd.{BlockEnd}
 use Rattle.cfg_blocks.specs.declared.EdgeKind.{EdgeKind}
 use Rattle.cfg_blocks.specs.declared.EdgeKind.TheVariants as kinds
 use Rattle.cfg_blocks.specs.declared.Into.{Into}
 use Rattle.cfg_blocks.specs.declared.Into.TheVariants.{Nothing, One, More}
-use Rattle.cfg_blocks.specs.Ends.{TargetsWithin, Way, end_at, ways_of}
-use Rattle.cfg_blocks.specs.Blocks.{Blocks, below, blocks_of, end_of, last_word, size_of, follows_transfer, is_among, AreFirsts}
+use Rattle.cfg_blocks.specs.Ends.{Way, end_at, ways_of}
+use Rattle.cfg_blocks.specs.Blocks.{Blocks, below, blocks_of, end_of, last_word, size_of, follows_transfer, is_among}
 
 -- an edge into a block: the block that it leaves, and its kind
 pub record Entry : Type 0 where
@@ -76,11 +76,3 @@ unfoldable pub entered_of : Words → List ℕ → Entered
 entered_of text given =
     let b = blocks_of text given in
     record { blocks = b; intos = map (into_of text given b) (below (length b.firsts)) }
-
--- What is true of each list of blocks.
-pub record IsBlockList (list : Entered) : Type 0 where
-  pub firsts : AreFirsts list.blocks.words list.blocks.firsts
-  pub ends : length list.blocks.ends ≡ length list.blocks.firsts
-  pub targets : All (TargetsWithin list.blocks.words) list.blocks.ends
-  pub intos : length list.intos ≡ length list.blocks.firsts
-  pub few : list.blocks.words ≤ 2 ^ 20

@@ -6,3 +6,5 @@ pub mod Entries
 pub mod Switches
 pub mod Values
 pub mod Known
+pub mod Code
+pub mod Private

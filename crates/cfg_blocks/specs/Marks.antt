@@ -1,27 +1,8 @@
 -- What the lists say from which blocks are made: how control leaves each word, and which words are marked.
-use Rattle.std.specs.Prelude.{ℕ, ◌<◌, Bool, false, ◌==◌, List, length, map, slice_index_or}
-use Rattle.std.specs.List.{All, list_any}
+use Rattle.std.specs.Prelude.{ℕ, ◌<◌, List, length, map}
+use Rattle.std.specs.List.{All}
 use Rattle.eel_base.specs.CodeText.{Words}
 use Rattle.eel_base.specs.declared.numbers.WordNo.{WordNo}
-use Rattle.cfg_blocks.specs.declared.BlockEnd.{BlockEnd}
-use Rattle.cfg_blocks.specs.declared.BlockEnd.TheVariants.{Fall}
-use Rattle.cfg_blocks.specs.Ends.{end_at}
-use Rattle.cfg_blocks.specs.Blocks.{below, last_word, leads}
-
--- how control leaves each word of a text
-unfoldable pub word_ends : Words → List BlockEnd
-word_ends text = map (end_at text) (below (length text.words))
-
-abbrev pub end_in : List BlockEnd → ℕ → BlockEnd
-end_in ends word = slice_index_or ends word Fall
-
--- how control leaves a block
-unfoldable pub block_end_in : List BlockEnd → List ℕ → ℕ → BlockEnd
-block_end_in ends firsts block = end_in ends (last_word firsts (length ends) block)
-
--- the word has its mark
-abbrev pub marked : List Bool → ℕ → Bool
-marked marks word = slice_index_or marks word false
 
 -- the numbers of words
 abbrev pub numbers : List WordNo → List ℕ
@@ -30,11 +11,3 @@ numbers = map (λ word. word.0)
 -- these are words of a text
 abbrev pub AreWords : Words → List WordNo → Type 0
 AreWords text = All (λ word. word.0 < length text.words)
-
--- the word is one of these
-abbrev pub is_in : List WordNo → ℕ → Bool
-is_in words word = list_any (λ other. other.0 == word) words
-
--- the word leads, by a list of how control leaves each word and the marks of those that are given
-abbrev pub leads_in : List BlockEnd → List Bool → ℕ → Bool
-leads_in ends given = leads (length ends) (end_in ends) (marked given)

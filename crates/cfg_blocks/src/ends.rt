@@ -2,7 +2,7 @@
 ghost use Rattle.std.specs.Prelude.{◌≡◌, ◌+◌, ◌<◌, ℤ, length, map, IfOk};
 ghost use Rattle.eel_base.specs.CodeText.{numbered};
 ghost use Rattle.cfg_blocks.specs.Ends.{branch_target, end_at, is_transfer, target_in};
-ghost use Rattle.cfg_blocks.specs.Marks.{word_ends};
+ghost use Rattle.cfg_blocks.specs.Private.{word_ends};
 
 use crate::BlockEnd;
 use eel_base::{NoMemory, Text, WordNo};
@@ -51,7 +51,7 @@ fn word_end(text: &Text, w: WordNo) -> BlockEnd
 }
 
 /// How control leaves each word, in order.
-#[tactic(auto, unfolding(crate::specs::Marks::word_ends))]
+#[tactic(auto, unfolding(crate::specs::Private::word_ends))]
 pub(crate) fn word_ends(alloc: Global, text: &Text) -> Result<Vec<BlockEnd>, NoMemory>
     ensures ends { IfOk result (λ v. v.items ≡ word_ends text.now) }
     ensures len { IfOk result (λ v. length v.items ≡ length text.now.words) }

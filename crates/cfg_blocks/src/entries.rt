@@ -1,10 +1,11 @@
 //! What leads to each block: first for each word, then for the first word of each block.
 ghost use Rattle.std.specs.Prelude.{◌≡◌, ℕ, ◌+◌, ◌-◌, ◌^◌, ◌<◌, ◌≤◌, ◌||◌, [], ◌∷◌, length, map, option_to_list, slice_index, IfOk};
 ghost use Rattle.cfg_blocks.specs.Arrivals.{added, added_all, counted, counted_from, into_at, into_first, into_in, is_bare_in, is_led_by, is_led_from, way_of, ways_in};
-ghost use Rattle.cfg_blocks.specs.Blocks.{below, AreFirsts, Blocks};
+ghost use Rattle.cfg_blocks.specs.Blocks.{below, Blocks};
+ghost use Rattle.cfg_blocks.specs.Code.{AreFirsts};
 ghost use Rattle.cfg_blocks.specs.Ends.{number_of, ways_of, within};
 ghost use Rattle.cfg_blocks.specs.Entries.{leads_to, ways_from, Entry};
-ghost use Rattle.cfg_blocks.specs.Marks.{marked};
+ghost use Rattle.cfg_blocks.specs.Private.{marked};
 
 use crate::ends::{ALWAYS, NEVER};
 use crate::leaders::follows;

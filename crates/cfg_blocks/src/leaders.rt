@@ -1,8 +1,9 @@
 //! Leaders: the words with which a block begins.
 ghost use Rattle.std.specs.Prelude.{◌≡◌, ℕ, ◌+◌, ◌<◌, ◌≤◌, ◌||◌, ◌^◌, length, filter, IfOk};
 ghost use Rattle.std.specs.List.{All};
-ghost use Rattle.cfg_blocks.specs.Blocks.{below, follows_transfer, is_it, is_target, AreFirsts};
-ghost use Rattle.cfg_blocks.specs.Marks.{end_in, is_in, leads_in, marked};
+ghost use Rattle.cfg_blocks.specs.Blocks.{below, follows_transfer, is_it, is_target};
+ghost use Rattle.cfg_blocks.specs.Code.{AreFirsts};
+ghost use Rattle.cfg_blocks.specs.Private.{end_in, is_in, leads_in, marked};
 
 use crate::BlockEnd;
 use crate::ends::{is_transfer, target_of};

@@ -1,10 +1,12 @@
 //! The list of blocks.
 ghost use Rattle.std.specs.Prelude.{◌≡◌, ℕ, ◌+◌, ◌-◌, ◌^◌, ◌<◌, ◌≤◌, ◌++◌, nat_le, length, map, slice_index, slice_index_or, count_by, IfOk, IfSome};
 ghost use Rattle.cfg_blocks.specs.Arrivals.{entered_in};
-ghost use Rattle.cfg_blocks.specs.Blocks.{below, block_end, end_of, holding_of, last_word, size_of, AreFirsts, IsAscending};
+ghost use Rattle.cfg_blocks.specs.Blocks.{below, block_end, end_of, holding_of, last_word, size_of};
+ghost use Rattle.cfg_blocks.specs.Code.{AreFirsts, IsAscending, IsBlockList};
 ghost use Rattle.cfg_blocks.specs.Ends.{target_in};
-ghost use Rattle.cfg_blocks.specs.Entries.{entered_of, IsBlockList};
-ghost use Rattle.cfg_blocks.specs.Marks.{block_end_in, numbers, word_ends, AreWords};
+ghost use Rattle.cfg_blocks.specs.Entries.{entered_of};
+ghost use Rattle.cfg_blocks.specs.Private.{block_end_in, word_ends};
+ghost use Rattle.cfg_blocks.specs.Marks.{numbers, AreWords};
 
 use crate::ends::word_ends;
 use crate::entries::CutText;
@@ -24,7 +26,8 @@ pub struct BlockList {
 }
 
 impl Model for BlockList {
-    ghost use Rattle.cfg_blocks.specs.Entries.{Entered, IsBlockList};
+    ghost use Rattle.cfg_blocks.specs.Entries.{Entered};
+    ghost use Rattle.cfg_blocks.specs.Code.{IsBlockList};
 
     ghost Value = { Entered };
 
@@ -199,7 +202,7 @@ pub(crate) fn block_size(firsts: &[u32], words: u32, block: u32) -> u32
 }
 
 // How control leaves the last word of a block.
-#[tactic(auto, unfolding(crate::specs::Marks::block_end_in))]
+#[tactic(auto, unfolding(crate::specs::Private::block_end_in))]
 fn block_end(firsts: &[u32], word_ends: &[BlockEnd], block: u32) -> BlockEnd
     requires block { block < length firsts.now }
     requires words { length word_ends.now < 2 ^ 32 }

@@ -16,10 +16,13 @@ use Rattle.cfg_blocks.specs.declared.Into.TheVariants as into
 use Rattle.cfg_blocks.specs.declared.switches.Compare.{Compare}
 use Rattle.cfg_blocks.specs.declared.switches.Switch.{Switch}
 use Rattle.cfg_blocks.specs.Blocks.{Blocks, end_of, holding_of}
-use Rattle.cfg_blocks.specs.Entries.{Entered, IsBlockList}
+use Rattle.cfg_blocks.specs.Entries.{Entered}
+use Rattle.cfg_blocks.specs.Code.{IsBlockList}
 use Rattle.cfg_blocks.specs.Switches.{approach_of, compare_of}
-use Rattle.cfg_normal.specs.Opens.{AreApart, AreOne, AreOpenIn, IsOpenIn, IsTableIn, Open, candidate, candidate_behind, candidate_into, candidate_on, is_candidate, is_closed, is_tabled, jumps_in, meets_any, open_by, opened, opens_of, targets_of, with_switch, words_from}
+use Rattle.cfg_normal.specs.Code.{AreApart, AreOne, AreOpenIn, IsOpenIn, IsTableIn}
+use Rattle.cfg_normal.specs.Opens.{Open, candidate, candidate_behind, candidate_into, candidate_on, is_candidate, is_closed, is_tabled, jumps_in, meets_any, open_by, opened, opens_of, targets_of, with_switch, words_from}
 use Rattle.cfg_normal.proofs.TableWords.{any_push, are_targets, none_tabled, table_is, tables_apart, tally, tally_few, tally_same, tally_table}
+pub use Rattle.cfg_normal.proofs.Examples.{rows}
 
 pub candidate_at : (text : Words) (list : Entered) (switch : Switch) (block : ℕ)
     → block ≡ holding_of list.blocks switch.jump.0

@@ -13,7 +13,8 @@ use Rattle.cfg_normal.specs.declared.Edge.{Edge}
 use Rattle.cfg_normal.specs.declared.Node.{Node}
 use Rattle.cfg_normal.specs.Nodes.{same_node}
 use Rattle.cfg_normal.specs.Graph.{case_of, lands_of, once_onto}
-use Rattle.cfg_normal.specs.Landings.{IsNumbered, landed_once, number_in, seen_mark, unseen_case}
+use Rattle.cfg_normal.specs.Landings.{IsNumbered}
+use Rattle.cfg_normal.specs.Private.{landed_once, number_in, seen_mark, unseen_case}
 use Rattle.cfg_normal.specs.Opens.{Open}
 use Rattle.cfg_normal.proofs.TableWords.{any_push}
 

@@ -10,7 +10,8 @@ use Rattle.std.proofs.lemmas.Bool.{and_parts, cond_both, or_left}
 use Rattle.std.proofs.lemmas.Bool.Decides.{nat_tests}
 use Rattle.cfg_blocks.specs.Blocks.{Blocks, below, end_of, holding_of, last_word}
 use Rattle.cfg_blocks.specs.Ends.{ways_of}
-use Rattle.cfg_blocks.specs.Entries.{Entered, IsBlockList, ways_from}
+use Rattle.cfg_blocks.specs.Entries.{Entered, ways_from}
+use Rattle.cfg_blocks.specs.Code.{IsBlockList}
 use Rattle.cfg_blocks.specs.declared.BlockEnd.{BlockEnd}
 use Rattle.cfg_blocks.specs.declared.EdgeKind.{EdgeKind}
 use Rattle.cfg_blocks.specs.declared.EdgeKind.TheVariants as kinds
@@ -20,8 +21,9 @@ use Rattle.cfg_normal.specs.declared.Node.{Node}
 use Rattle.cfg_normal.specs.declared.Node.TheVariants.{Block, Landed, X}
 use Rattle.cfg_normal.specs.declared.Slot.TheVariants.{Nothing, Word, Off}
 use Rattle.cfg_normal.specs.Nodes.{same_node}
-use Rattle.cfg_normal.specs.Opens.{AreOpenIn, Open, compares_in, is_behind, is_copied, jumps_in, targets_in}
-use Rattle.cfg_normal.specs.Graph.{IsEdgeIn, IsGraph, IsNodeIn, IsSlotIn, case_nodes, case_of, copied_edges, directed, edge_of, edges_in, edges_of, is_compared, landing_at, landings_of, lands_of, node_of, once_onto, runs_slot, slot_behind, slot_on, ways_out}
+use Rattle.cfg_normal.specs.Code.{AreOpenIn, IsEdgeIn, IsGraph, IsNodeIn, IsSlotIn}
+use Rattle.cfg_normal.specs.Opens.{Open, compares_in, is_behind, is_copied, jumps_in, targets_in}
+use Rattle.cfg_normal.specs.Graph.{case_nodes, case_of, copied_edges, directed, edge_of, edges_in, edges_of, is_compared, landing_at, landings_of, lands_of, node_of, once_onto, runs_slot, slot_behind, slot_on, ways_out}
 
 -- ---- lists
 

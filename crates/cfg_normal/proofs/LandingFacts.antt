@@ -11,7 +11,7 @@ use Rattle.cfg_blocks.specs.declared.EdgeKind.{EdgeKind}
 use Rattle.cfg_blocks.specs.declared.switches.Switch.{Switch}
 use Rattle.cfg_blocks.specs.Blocks.{Blocks, holding_of}
 use Rattle.cfg_blocks.specs.Entries.{Entered}
-use Rattle.cfg_blocks.specs.Marks.{marked}
+use Rattle.cfg_blocks.specs.Private.{marked}
 use Rattle.cfg_blocks.proofs.Below.{any_below_same, list_any-map}
 use Rattle.eel_base.specs.declared.numbers.BlockNo.{BlockNo}
 use Rattle.cfg_normal.specs.declared.Node.{Node}
@@ -20,8 +20,10 @@ use Rattle.cfg_normal.specs.Nodes.{same_kind}
 use Rattle.cfg_normal.specs.Graph.{directed, is_compared}
 use Rattle.cfg_normal.specs.declared.landings.Landing.{Landing}
 use Rattle.cfg_normal.specs.declared.landings.Landing.TheVariants.{Home, Behind, Copied}
-use Rattle.cfg_normal.specs.Landings.{AreTabled, AreTargetsIn, IsJumpOf, IsLanding, has_copy, is_from, is_jump_block, lands_by, noted, with_compare}
-use Rattle.cfg_normal.specs.Opens.{AreOne, AreOpenIn, Open, compares_in, is_behind, is_closed, is_copied, is_tabled, jumps_in, meets_any, targets_in, words_from}
+use Rattle.cfg_normal.specs.Private.{AreTabled, AreTargetsIn, IsJumpOf, has_copy, is_from, is_jump_block, lands_by, noted, with_compare}
+use Rattle.cfg_normal.specs.Landings.{IsLanding}
+use Rattle.cfg_normal.specs.Code.{AreOne, AreOpenIn}
+use Rattle.cfg_normal.specs.Opens.{Open, compares_in, is_behind, is_closed, is_copied, is_tabled, jumps_in, meets_any, targets_in, words_from}
 use Rattle.cfg_normal.proofs.TableWords.{table_is}
 use Rattle.std.proofs.lemmas.Bool.Decides.{nat_tests}
 

@@ -3,3 +3,4 @@ pub mod Candidates
 pub mod LandingFacts
 pub mod Cases
 pub mod GraphFacts
+pub mod Examples

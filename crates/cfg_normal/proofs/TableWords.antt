@@ -14,7 +14,8 @@ use Rattle.eel_base.specs.CodeText.{Words, word_at}
 use Rattle.cfg_blocks.specs.declared.switches.Switch.{Switch}
 use Rattle.cfg_blocks.specs.Blocks.{below}
 use Rattle.cfg_blocks.proofs.Below.{get_or-below, length-below}
-use Rattle.cfg_normal.specs.Opens.{IsTableIn, Open, is_tabled, table_words, targets_of, words_from}
+use Rattle.cfg_normal.specs.Code.{IsTableIn}
+use Rattle.cfg_normal.specs.Opens.{Open, is_tabled, table_words, targets_of, words_from}
 use Rattle.cfg_blocks.proofs.Targets.{word_at-some}
 
 pub any_push : {X : Type 0} (p : X → Bool) (xs : List X) (x : X)

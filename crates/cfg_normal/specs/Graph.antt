@@ -1,13 +1,13 @@
 -- The flow graph of a text: its blocks as nodes, landed copies of those about an open switch, and X for all that lies
 -- outside.
-use Rattle.std.specs.Prelude.{◌≡◌, ℕ, ◌+◌, ◌*◌, ◌^◌, ◌<◌, ◌≤◌, Bool, true, false, not, ◌||◌, ◌&&◌, ◌==◌, nat_lt, if◌then◌else◌, List, [], ◌∷◌, ◌++◌, length, map, Option, Some, None}
-use Rattle.std.specs.List.{filter, flat_map, list_any, All}
+use Rattle.std.specs.Prelude.{ℕ, ◌+◌, Bool, true, false, not, ◌||◌, ◌&&◌, ◌==◌, nat_lt, if◌then◌else◌, List, [], ◌∷◌, ◌++◌, length, map, Option, Some, None}
+use Rattle.std.specs.List.{filter, flat_map, list_any}
 use Rattle.cfg_blocks.specs.declared.BlockEnd.{BlockEnd}
 use Rattle.cfg_blocks.specs.declared.BlockEnd.TheVariants as ends
 use Rattle.cfg_blocks.specs.declared.EdgeKind.{EdgeKind}
 use Rattle.cfg_blocks.specs.declared.EdgeKind.TheVariants as kinds
 use Rattle.cfg_blocks.specs.Ends.{Way, always}
-use Rattle.cfg_blocks.specs.Blocks.{AreFirsts, Blocks, below, end_of, holding_of, last_word}
+use Rattle.cfg_blocks.specs.Blocks.{Blocks, below, end_of, holding_of, last_word}
 use Rattle.cfg_blocks.specs.Entries.{ways_from}
 use Rattle.cfg_normal.specs.declared.Edge.{Edge}
 use Rattle.cfg_normal.specs.declared.Node.{Node}
@@ -15,7 +15,7 @@ use Rattle.cfg_normal.specs.declared.Node.TheVariants.{Block, Landed, X}
 use Rattle.cfg_normal.specs.declared.Slot.{Slot}
 use Rattle.cfg_normal.specs.declared.Slot.TheVariants.{Nothing, Word, Off}
 use Rattle.cfg_normal.specs.Nodes.{same_kind, same_node}
-use Rattle.cfg_normal.specs.Opens.{AreOpenIn, Open, is_behind, is_copied, jumps_in, targets_in}
+use Rattle.cfg_normal.specs.Opens.{Open, is_behind, is_copied, jumps_in, targets_in}
 
 -- the block that holds a word, or X where the text has no such word
 abbrev pub node_of : Blocks → Option ℕ → Node
@@ -141,33 +141,3 @@ lands graph word = lands_of graph.blocks graph.opens word
 abbrev pub has_cases : List Open → Node → Bool
 has_cases opens (Block block) = jumps_in opens block.0
 has_cases opens _ = false
-
--- ---- what is true of each graph
-
--- a node of these blocks
-abbrev pub IsNodeIn : Blocks → List Open → Node → Type 0
-IsNodeIn b opens (Block block) = block.0 < length b.firsts
-IsNodeIn b opens (Landed block) = (block.0 < length b.firsts) × (is_copied opens block.0 ≡ true)
-IsNodeIn b opens X = Unit {0}
-
--- a slot in the text, or behind its end
-abbrev pub IsSlotIn : Blocks → Slot → Type 0
-IsSlotIn b Nothing = Unit {0}
-IsSlotIn b (Word word) = word.0 < b.words
-IsSlotIn b Off = Unit {0}
-
--- an edge between nodes of these blocks
-pub record IsEdgeIn (b : Blocks) (opens : List Open) (edge : Edge) : Type 0 where
-  pub from : IsNodeIn b opens edge.from
-  pub to : IsNodeIn b opens edge.to
-  pub slot : IsSlotIn b edge.slot
-
--- the edges are those of the blocks, at most seven for each word; the jump of an open switch leads to some word
-pub record IsGraph (g : Graph) : Type 0 where
-  pub made : g ≡ graph_of g.blocks g.opens
-  pub firsts : AreFirsts g.blocks.words g.blocks.firsts
-  pub few : g.blocks.words ≤ 2 ^ 20
-  pub targets : All (λ (o : Open). 1 ≤ length o.targets) g.opens
-  pub opens : AreOpenIn g.blocks g.opens
-  pub edges : All (IsEdgeIn g.blocks g.opens) g.edges
-  pub edge_count : length g.edges ≤ 7 * g.blocks.words

@@ -2,5 +2,6 @@ pub mod Nodes
 pub mod Opens
 pub mod Graph
 pub mod Numbers
-pub mod Examples
 pub mod Landings
+pub mod Code
+pub mod Private

@@ -1,8 +1,8 @@
 -- Open switches: those whose jump's block gets an edge for each target. A run may land between the comparison and the
 -- jump, so these blocks get a second node, the landed copy, where nothing is known of the index.
-use Rattle.std.specs.Prelude.{◌≡◌, ◌⊎◌, ℕ, ◌+◌, ◌-◌, ◌*◌, ◌<◌, ◌≤◌, Bool, true, false, ◌&&◌, ◌||◌, nat_lt, ◌==◌, if◌then◌else◌, List, [], ◌∷◌, ◌++◌, length, map, slice_index, slice_index_or, Option, Some, None}
-use Rattle.std.specs.List.{All, AllPairs, list_any, flat_map, sum_by}
-use Rattle.std.specs.Option.{is_some, option_to_list}
+use Rattle.std.specs.Prelude.{ℕ, ◌+◌, ◌-◌, Bool, true, false, ◌&&◌, ◌||◌, nat_lt, ◌==◌, if◌then◌else◌, List, [], ◌∷◌, ◌++◌, length, map, slice_index, slice_index_or, Option, Some, None}
+use Rattle.std.specs.List.{list_any, flat_map}
+use Rattle.std.specs.Option.{option_to_list}
 use Rattle.eel_base.specs.CodeText.{Words, word_at}
 use Rattle.v8_decode.specs.declared.Instr.{Instr}
 use Rattle.v8_decode.specs.declared.Instr.TheVariants as i
@@ -68,15 +68,6 @@ table_words text switch = flat_map (λ from. words_from from switch.count) (opti
 unfoldable pub targets_of : Words → Switch → List ℕ
 targets_of text switch =
     flat_map (λ word. option_to_list (word_at text (slice_index text.words word))) (table_words text switch)
-
--- The table of a switch stands whole in the text, with one entry at least, and each entry leads to a word.
-pub record IsTableIn (text : Words) (switch : Switch) : Type 0 where
-  pub jump : switch.jump.0 < length text.words
-  pub some : 1 ≤ switch.count
-  pub begins : ℕ
-  pub at : word_at text switch.table.0 ≡ Some begins
-  pub within : begins + switch.count ≤ length text.words
-  pub leads : (k : ℕ) → k < switch.count → is_some (word_at text (slice_index text.words (begins + k))) ≡ true
 
 -- the word stands in the table of one of these
 abbrev pub is_tabled : Words → List Open → ℕ → Bool
@@ -159,30 +150,3 @@ is_behind opens block word =
 -- the words to which the entries lead for a block
 abbrev pub targets_in : List Open → ℕ → List ℕ
 targets_in opens block = flat_map (λ (o : Open). if o.block == block then o.targets else []) opens
-
--- ---- what is true of the open switches of a text
-
--- Its blocks are blocks, its table has an entry at least, and the entries lead to words.
-pub record IsOpenIn (b : Blocks) (o : Open) : Type 0 where
-  pub block : o.block < length b.firsts
-  pub compare : o.switch.compare.0 < length b.firsts
-  pub some : 1 ≤ length o.targets
-  pub targets : All (λ word. word < b.words) o.targets
-
--- each block has one of them
-abbrev pub AreOne : List Open → Type 0
-AreOne [] = Unit {0}
-AreOne (o ∷ opens) = (jumps_in opens o.block ≡ false) × AreOne opens
-
--- the tables of two share no word
-abbrev pub AreApart : Open → Open → Type 0
-AreApart one other =
-    (one.switch.table.0 + 4 * one.switch.count ≤ other.switch.table.0)
-    ⊎ (other.switch.table.0 + 4 * other.switch.count ≤ one.switch.table.0)
-
--- So all entries together are at most as many as the words.
-pub record AreOpenIn (b : Blocks) (opens : List Open) : Type 0 where
-  pub each : All (IsOpenIn b) opens
-  pub one : AreOne opens
-  pub apart : AllPairs AreApart opens
-  pub entries : sum_by (λ (o : Open). length o.targets) opens ≤ b.words

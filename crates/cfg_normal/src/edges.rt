@@ -4,7 +4,8 @@ ghost use Rattle.std.specs.List.{flat_map, All};
 ghost use Rattle.cfg_blocks.specs.Blocks.{below, end_of, last_word};
 ghost use Rattle.cfg_blocks.specs.Ends.{number_of, within};
 ghost use Rattle.cfg_normal.specs.Graph.{case_of, copied_edges, directed, edge_of, edges_in, edges_of, landing_at, landings_of, node_of, runs_slot, slot_behind, slot_on, ways_out};
-ghost use Rattle.cfg_normal.specs.Landings.{landed_once, number_in, seen_mark, unseen_case, IsNumbered};
+ghost use Rattle.cfg_normal.specs.Private.{landed_once, number_in, seen_mark, unseen_case};
+ghost use Rattle.cfg_normal.specs.Landings.{IsNumbered};
 ghost use Rattle.cfg_normal.specs.Opens.{is_copied};
 
 use crate::nodes::Nodes;

@@ -2,9 +2,10 @@
 ghost use Rattle.std.specs.Prelude.{◌≡◌, ◌+◌, ◌^◌, ◌<◌, ◌≤◌, length, slice_index, Some, IfOk};
 ghost use Rattle.std.specs.List.{All};
 ghost use Rattle.cfg_blocks.specs.Blocks.{block_end, end_of, holding_of, size_of};
-ghost use Rattle.cfg_normal.specs.Graph.{graph_of, lands, IsGraph};
+ghost use Rattle.cfg_normal.specs.Graph.{graph_of, lands};
+ghost use Rattle.cfg_normal.specs.Code.{IsGraph, IsTableIn};
 ghost use Rattle.cfg_normal.specs.Landings.{IsNumbered};
-ghost use Rattle.cfg_normal.specs.Opens.{is_copied, opens_of, IsTableIn};
+ghost use Rattle.cfg_normal.specs.Opens.{is_copied, opens_of};
 
 use crate::edges::edges_of;
 use crate::nodes::{Nodes, nodes_of};
@@ -22,7 +23,8 @@ pub struct FlowGraph {
 }
 
 impl Model for FlowGraph {
-    ghost use Rattle.cfg_normal.specs.Graph.{Graph, IsGraph};
+    ghost use Rattle.cfg_normal.specs.Graph.{Graph};
+    ghost use Rattle.cfg_normal.specs.Code.{IsGraph};
 
     ghost Value = { Graph };
 

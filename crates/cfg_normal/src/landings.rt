@@ -1,6 +1,7 @@
 //! What is kept of each block to tell where control lands there.
 ghost use Rattle.std.specs.Prelude.{◌≡◌, ℕ, ◌<◌, ◌++◌, [], ◌∷◌, List, length, slice_index_or};
-ghost use Rattle.cfg_normal.specs.Landings.{has_copy, is_jump_block, lands_by, noted, with_compare, AreLandings};
+ghost use Rattle.cfg_normal.specs.Private.{has_copy, is_jump_block, lands_by, noted, with_compare};
+ghost use Rattle.cfg_normal.specs.Landings.{AreLandings};
 ghost use Rattle.cfg_normal.specs.Opens.{Open};
 ghost use Rattle.cfg_normal.specs.declared.landings.Landing.TheVariants.{Home};
 

@@ -1,10 +1,12 @@
 //! The nodes of a flow graph, and where control goes among them.
 ghost use Rattle.std.specs.Prelude.{◌≡◌, ◌<◌, ◌||◌, false, length, map, slice_index_or, Some, IfOk, MatchOption};
 ghost use Rattle.std.specs.List.{All};
-ghost use Rattle.cfg_blocks.specs.Entries.{IsBlockList};
+ghost use Rattle.cfg_blocks.specs.Code.{IsBlockList};
 ghost use Rattle.cfg_normal.specs.Graph.{directed, lands_of};
-ghost use Rattle.cfg_normal.specs.Landings.{is_from, AreTargetsIn, IsJumpOf, IsLanding, IsNumbered};
-ghost use Rattle.cfg_normal.specs.Opens.{is_behind, is_copied, jumps_in, opens_of, AreOpenIn, IsTableIn, Open};
+ghost use Rattle.cfg_normal.specs.Private.{is_from, AreTargetsIn, IsJumpOf};
+ghost use Rattle.cfg_normal.specs.Landings.{IsLanding, IsNumbered};
+ghost use Rattle.cfg_normal.specs.Opens.{is_behind, is_copied, jumps_in, opens_of, Open};
+ghost use Rattle.cfg_normal.specs.Code.{AreOpenIn, IsTableIn};
 ghost use Rattle.cfg_normal.specs.declared.Node.TheVariants.{Block};
 
 use crate::landings::{Landing, has_copy, landing_of, lands_there};

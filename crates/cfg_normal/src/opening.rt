@@ -3,8 +3,10 @@ ghost use Rattle.std.specs.Prelude.{◌≡◌, ℕ, ◌+◌, ◌<◌, ◌≤◌,
 ghost use Rattle.std.specs.List.{All};
 ghost use Rattle.eel_base.specs.CodeText.{word_at};
 ghost use Rattle.cfg_blocks.specs.Blocks.{holding_of};
-ghost use Rattle.cfg_normal.specs.Landings.{AreLandings, AreTabled};
-ghost use Rattle.cfg_normal.specs.Opens.{is_closed, opens_of, with_switch, IsTableIn, Open};
+ghost use Rattle.cfg_normal.specs.Landings.{AreLandings};
+ghost use Rattle.cfg_normal.specs.Private.{AreTabled};
+ghost use Rattle.cfg_normal.specs.Opens.{is_closed, opens_of, with_switch, Open};
+ghost use Rattle.cfg_normal.specs.Code.{IsTableIn};
 
 use crate::OpenSwitch;
 use crate::landings::{Landing, is_jump_block, landing_of, note_landings};

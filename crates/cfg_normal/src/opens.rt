@@ -2,7 +2,8 @@
 ghost use Rattle.std.specs.Prelude.{◌≡◌, ◌+◌, ◌<◌, ◌≤◌, length, map, slice_index_or, IfOk, IfSome};
 ghost use Rattle.std.specs.Option.{option_to_list};
 ghost use Rattle.cfg_blocks.specs.Blocks.{end_of, holding_of};
-ghost use Rattle.cfg_normal.specs.Opens.{candidate, candidate_behind, candidate_into, is_candidate, open_by, IsTableIn};
+ghost use Rattle.cfg_normal.specs.Opens.{candidate, candidate_behind, candidate_into, is_candidate, open_by};
+ghost use Rattle.cfg_normal.specs.Code.{IsTableIn};
 
 use crate::loads::loads_here;
 use crate::tables::targets;

@@ -3,8 +3,9 @@ ghost use Rattle.std.specs.Prelude.{◌≡◌, ℕ, ◌+◌, ◌<◌, ◌≤◌,
 ghost use Rattle.std.specs.List.{flat_map, list_any};
 ghost use Rattle.std.specs.Option.{option_to_list};
 ghost use Rattle.eel_base.specs.CodeText.{word_at};
-ghost use Rattle.cfg_blocks.specs.Marks.{marked};
-ghost use Rattle.cfg_normal.specs.Opens.{targets_of, words_from, IsTableIn};
+ghost use Rattle.cfg_blocks.specs.Private.{marked};
+ghost use Rattle.cfg_normal.specs.Opens.{targets_of, words_from};
+ghost use Rattle.cfg_normal.specs.Code.{IsTableIn};
 
 use cfg_blocks::Switch;
 use eel_base::{Addr, NoMemory, Text, WordNo};

@@ -1,6 +1,5 @@
 -- What an analysis of a program's file sees: its image, routines, blocks, flow graph and switches.
-use Rattle.std.specs.Prelude.{◌≡◌, ℕ, ◌<◌, nat_lt, List, ◌++◌, length, map, filter}
-use Rattle.std.specs.List.{All}
+use Rattle.std.specs.Prelude.{ℕ, nat_lt, List, ◌++◌, length, map, filter}
 use Rattle.eel_base.specs.CodeText.{Words}
 use Rattle.elf32_sparc.specs.Image.{Program, image_of}
 use Rattle.routines.specs.declared.Routine.{Routine}
@@ -8,9 +7,8 @@ use Rattle.routines.specs.Routines.{routines_of}
 use Rattle.cfg_blocks.specs.Entries.{Entered, entered_of}
 use Rattle.cfg_blocks.specs.Switches.{switches_of}
 use Rattle.cfg_blocks.specs.declared.switches.Switch.{Switch}
-use Rattle.cfg_normal.specs.Opens.{IsTableIn, opens_of}
+use Rattle.cfg_normal.specs.Opens.{opens_of}
 use Rattle.cfg_normal.specs.Graph.{Graph, graph_of}
-use Rattle.cfg_view.specs.declared.View.{View}
 
 -- a program's image, its routines, its blocks, its flow graph with open switches, and all its switches
 pub record Seen : Type 0 where
@@ -19,16 +17,6 @@ pub record Seen : Type 0 where
   pub blocks : Entered
   pub graph : Graph
   pub switches : List Switch
-
--- what the program keeps of it
-abbrev pub view_seen : View → Seen
-view_seen view = record {
-  image = view.image;
-  routines = view.routines;
-  blocks = view.blocks;
-  graph = view.graph;
-  switches = view.switches.items;
-}
 
 -- the words at which routines start
 abbrev pub starts_of : List Routine → List ℕ
@@ -58,13 +46,3 @@ view_with program given = record {
 -- the view of a file, with some words marked
 unfoldable pub view_of : List ℕ → List ℕ → Seen
 view_of file marks = view_with (image_of file) (given_in (image_of file) marks)
-
--- What is true of each view: its parts are of one program.
-pub record IsView (view : View) : Type 0 where
-  pub routines : view.routines ≡ routines_of view.image
-  pub words : view.blocks.blocks.words ≡ length view.image.text.words
-  pub graph : view.graph ≡ graph_with view.image.text view.blocks view.image.entry
-  pub switches : view.switches.items ≡ switches_of view.image.text view.blocks view.image.entry
-  pub tables : All (IsTableIn view.image.text) view.switches.items
-  pub jumps : All (λ switch. switch.jump.0 < length view.image.text.words) view.switches.items
-  pub starts : All (λ routine. routine.start.0 < length view.image.text.words) view.routines

@@ -4,13 +4,14 @@
 ghost use Rattle.std.specs.Prelude.{◌≡◌, ◌<◌, ◌++◌, length, map, IfOk};
 ghost use Rattle.std.specs.List.{All};
 ghost use Rattle.elf32_sparc.specs.FileFault.{fault};
-ghost use Rattle.elf32_sparc.specs.Image.{refusal};
+ghost use Rattle.elf32_sparc.specs.Code.{refusal};
 ghost use Rattle.routines.specs.Routines.{routines_of};
 ghost use Rattle.cfg_blocks.specs.Entries.{entered_of};
 ghost use Rattle.cfg_blocks.specs.Marks.{numbers, AreWords};
 ghost use Rattle.cfg_blocks.specs.Switches.{switches_of};
-ghost use Rattle.cfg_normal.specs.Opens.{IsTableIn};
-ghost use Rattle.cfg_view.specs.View.{given_in, graph_with, marks_in, starts_of, view_of, view_seen, view_with, IsView};
+ghost use Rattle.cfg_normal.specs.Code.{IsTableIn};
+ghost use Rattle.cfg_view.specs.View.{given_in, graph_with, marks_in, starts_of, view_of, view_with};
+ghost use Rattle.cfg_view.specs.Code.{view_seen, IsView};
 
 use cfg_blocks::{BlockList, Switch, blocks};
 use cfg_normal::{FlowGraph, graph};

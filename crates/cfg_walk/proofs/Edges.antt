@@ -16,10 +16,11 @@ use Rattle.cfg_blocks.specs.Entries.{ways_from}
 use Rattle.cfg_normal.specs.declared.Edge.{Edge}
 use Rattle.cfg_normal.specs.declared.Node.{Node}
 use Rattle.cfg_normal.specs.declared.Node.TheVariants.{Block, Landed, X}
-use Rattle.cfg_normal.specs.Nodes.{home_of}
+use Rattle.cfg_normal.specs.Code.{home_of, IsNodeIn}
 use Rattle.cfg_normal.specs.Opens.{Open, is_copied, jumps_in}
-use Rattle.cfg_normal.specs.Graph.{Graph, IsNodeIn, case_nodes, case_of, copied_edges, directed, graph_of, has_cases, landings_of, node_of, edge_of, edges_of, edges_in, landing_at, once_onto, ways_out}
-use Rattle.cfg_walk.specs.Walk.{edge_along, edge_from, landing_at as landing_number, leads_along as is_to, same_kind, same_node, node_after, led_to}
+use Rattle.cfg_normal.specs.Graph.{Graph, case_nodes, case_of, copied_edges, directed, graph_of, has_cases, landings_of, node_of, edge_of, edges_of, edges_in, landing_at, once_onto, ways_out}
+use Rattle.cfg_walk.specs.Walk.{edge_along, edge_from, landing_at as landing_number, leads_along as is_to, node_after, led_to}
+use Rattle.cfg_normal.specs.Nodes.{same_kind, same_node}
 use Rattle.cfg_walk.proofs.Lists.{Each, each, each-append, each-flat_map, each-map, each-then, each_at, any_below, any-map, IsFound, found}
 use Rattle.cfg_walk.proofs.Ways.{IsOne, IsOwn, ways_are_own}
 

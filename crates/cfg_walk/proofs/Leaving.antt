@@ -13,9 +13,9 @@ use Rattle.cfg_blocks.specs.Ends.{Way, way, within, end_at, end_by, is_transfer,
 use Rattle.cfg_blocks.specs.Blocks.{Blocks, block_end, end_of, holding_of, last_word}
 use Rattle.cfg_blocks.specs.Entries.{ways_from}
 use Rattle.cfg_normal.specs.declared.Node.{Node}
-use Rattle.cfg_normal.specs.Nodes.{home_of}
+use Rattle.cfg_normal.specs.Code.{home_of, IsNodeIn}
 use Rattle.cfg_normal.specs.Opens.{Open, jumps_in}
-use Rattle.cfg_normal.specs.Graph.{Graph, IsNodeIn, directed, graph_of, has_cases, node_of, edge_of}
+use Rattle.cfg_normal.specs.Graph.{Graph, directed, graph_of, has_cases, node_of, edge_of}
 use Rattle.cfg_walk.specs.Matches.{AreOpen}
 use Rattle.cfg_blocks.specs.Switches.{is_jump}
 use Rattle.cfg_walk.specs.Walk.{edge_from, ends_block, left_at, left_by, node_after}

@@ -9,9 +9,10 @@ use Rattle.cfg_blocks.specs.declared.EdgeKind.{EdgeKind}
 use Rattle.cfg_blocks.specs.Blocks.{Blocks, holding_of}
 use Rattle.cfg_normal.specs.declared.Node.{Node}
 use Rattle.cfg_normal.specs.declared.Node.TheVariants.{Block, Landed, X}
-use Rattle.cfg_normal.specs.Nodes.{home_of, same_node}
+use Rattle.cfg_normal.specs.Code.{home_of, IsNodeIn}
+use Rattle.cfg_normal.specs.Nodes.{same_node}
 use Rattle.cfg_normal.specs.Opens.{Open, compares_in, is_behind, is_copied, jumps_in, targets_in}
-use Rattle.cfg_normal.specs.Graph.{IsNodeIn, graph_of, edges_in, edges_of, copied_edges, case_nodes, case_of, edge_of, ways_out, landing_at, directed, is_compared, landings_of, lands_of, node_of, once_onto}
+use Rattle.cfg_normal.specs.Graph.{graph_of, edges_in, edges_of, copied_edges, case_nodes, case_of, edge_of, ways_out, landing_at, directed, is_compared, landings_of, lands_of, node_of, once_onto}
 use Rattle.cfg_normal.proofs.GraphFacts.{copied_where}
 use Rattle.cfg_walk.proofs.Edges.{any_once, block, each_edge, leave_node, leave_own, copy, is_it, same_itself}
 use Rattle.cfg_blocks.specs.Blocks.{below}

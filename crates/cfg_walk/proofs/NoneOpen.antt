@@ -16,10 +16,11 @@ use Rattle.cfg_normal.specs.declared.Edge.{Edge}
 use Rattle.cfg_normal.specs.declared.Node.{Node}
 use Rattle.cfg_normal.specs.declared.Node.TheVariants.{Block, Landed, X}
 use Rattle.cfg_normal.specs.declared.Slot.TheVariants as carried
-use Rattle.cfg_normal.specs.Nodes.{home_of}
+use Rattle.cfg_normal.specs.Code.{home_of, IsEdgeIn, IsNodeIn, IsSlotIn}
 use Rattle.cfg_normal.specs.Opens.{Open, is_copied, jumps_in}
-use Rattle.cfg_normal.specs.Graph.{Graph, IsEdgeIn, IsNodeIn, IsSlotIn, case_nodes, case_of, copied_edges, directed, edge_of, edges_in, edges_of, graph_of, has_cases, landing_at, landings_of, lands, lands_of, node_of, runs_slot, slot_behind, slot_on, ways_out}
-use Rattle.cfg_walk.specs.Walk.{Point, WayOut, by_kind, edge_along, edge_from, end_of_walk, landed, left_along, point_of, same_kind, slot_left, way_to}
+use Rattle.cfg_normal.specs.Graph.{Graph, case_nodes, case_of, copied_edges, directed, edge_of, edges_in, edges_of, graph_of, has_cases, landing_at, landings_of, lands, lands_of, node_of, runs_slot, slot_behind, slot_on, ways_out}
+use Rattle.cfg_walk.specs.Walk.{Point, WayOut, by_kind, edge_along, edge_from, end_of_walk, landed, left_along, point_of, slot_left, way_to}
+use Rattle.cfg_normal.specs.Nodes.{same_kind}
 use Rattle.cfg_walk.specs.Matches.{AreOpen, Begins, GoesByCase, IsCarried, IsOnItsWay, JumpsGoByCase, last_in, way_address}
 use Rattle.cfg_walk.proofs.Edges.{block, each_edge}
 use Rattle.cfg_walk.proofs.Lists.{Each, each, each-flat_map, each-map, each_at}

@@ -15,10 +15,11 @@ use Rattle.cfg_normal.specs.declared.Node.{Node}
 use Rattle.cfg_normal.specs.declared.Node.TheVariants.{X}
 use Rattle.cfg_normal.specs.declared.Slot.TheVariants as carried_slots
 use Rattle.cfg_normal.specs.declared.Node.TheVariants.{Block, Landed}
-use Rattle.cfg_normal.specs.Nodes.{home_of}
+use Rattle.cfg_normal.specs.Code.{home_of, IsNodeIn}
 use Rattle.cfg_normal.specs.Opens.{Open, jumps_in}
-use Rattle.cfg_normal.specs.Graph.{Graph, IsNodeIn, case_of, directed, graph_of, case_nodes, has_cases, is_compared, lands_of, node_of, edge_of, runs_slot, slot_behind, slot_on, landing_at as landing}
-use Rattle.cfg_walk.specs.Walk.{Point, WayOut, by_kind, edge_along, edge_from, landed, left_along, node_after, led_to, same_kind, slot_left, way_to}
+use Rattle.cfg_normal.specs.Graph.{Graph, case_of, directed, graph_of, case_nodes, has_cases, is_compared, lands_of, node_of, edge_of, runs_slot, slot_behind, slot_on, landing_at as landing}
+use Rattle.cfg_walk.specs.Walk.{Point, WayOut, by_kind, edge_along, edge_from, landed, left_along, node_after, led_to, slot_left, way_to}
+use Rattle.cfg_normal.specs.Nodes.{same_kind}
 use Rattle.cfg_walk.specs.Matches.{AreOpen, Begins, IsCarried, IsOnItsWay, IsTarget, last_in, target_along}
 use Rattle.cfg_walk.proofs.Holding.{Leads, in_held, first_held}
 use Rattle.cfg_walk.proofs.Cut.{IsCut}

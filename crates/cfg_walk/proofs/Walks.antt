@@ -1,7 +1,8 @@
 -- The walk matches its run.
 use Rattle.std.proofs.Common.{◌≡◌, ℕ, zero, suc, Option, Some, None, List, refl, ap, sym, ◌∙◌, subst, arith, length}
 use Rattle.std.proofs.lemmas.Bool.{lt-ltb}
-use Rattle.eel_base.specs.CodeText.{Words, IsText, word_at}
+use Rattle.eel_base.specs.CodeText.{Words, word_at}
+use Rattle.eel_base.specs.Code.{IsText}
 use Rattle.v8_step.specs.declared.Ending.{Ending}
 use Rattle.v8_step.specs.declared.Slot.{Slot}
 use Rattle.v8_step.specs.State.{State}

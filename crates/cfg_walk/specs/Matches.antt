@@ -3,7 +3,8 @@ use Rattle.std.specs.Prelude.{◌≡◌, ℕ, suc, ◌+◌, ◌-◌, ◌*◌, �
 use Rattle.std.specs.Int.{w32, cast_unsigned}
 use Rattle.std.specs.List.{list_any}
 use Rattle.std.specs.Option.{option_map}
-use Rattle.eel_base.specs.CodeText.{Words, IsText, address_of, word_at}
+use Rattle.eel_base.specs.CodeText.{Words, address_of, word_at}
+use Rattle.eel_base.specs.Code.{IsText}
 use Rattle.v8_decode.specs.declared.Instr.{Instr}
 use Rattle.v8_decode.specs.declared.Instr.TheVariants as i
 use Rattle.v8_decode.specs.Words.{decode_of}
@@ -22,10 +23,11 @@ use Rattle.cfg_normal.specs.declared.Node.{Node}
 use Rattle.cfg_normal.specs.declared.Node.TheVariants.{Block, Landed, X}
 use Rattle.cfg_normal.specs.declared.Slot.{Slot as Carried}
 use Rattle.cfg_normal.specs.declared.Slot.TheVariants as carried
-use Rattle.cfg_normal.specs.Nodes.{home_of}
 use Rattle.cfg_normal.specs.Opens.{Open, jumps_in, targets_in}
-use Rattle.cfg_normal.specs.Graph.{Graph, IsNodeIn, directed, graph_of, has_cases, lands, node_of}
-use Rattle.cfg_walk.specs.Walk.{Point, point_of, edge_along, end_of_walk, goes_on_at, gone, instr_at, node_after, same_kind, way_of, way_to}
+use Rattle.cfg_normal.specs.Graph.{Graph, directed, graph_of, has_cases, lands, node_of}
+use Rattle.cfg_normal.specs.Nodes.{same_kind}
+use Rattle.cfg_normal.specs.Code.{home_of, IsNodeIn}
+use Rattle.cfg_walk.specs.Walk.{Point, point_of, edge_along, end_of_walk, goes_on_at, gone, instr_at, node_after, way_of, way_to}
 
 -- the address is that of the word which the edge carries, or of the end of the text, behind which that word lies
 abbrev pub IsCarried : Words → Carried → ℕ → Type 0

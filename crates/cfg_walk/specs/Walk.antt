@@ -20,8 +20,8 @@ use Rattle.cfg_blocks.specs.declared.EdgeKind.TheVariants as kinds
 use Rattle.cfg_normal.specs.declared.Edge.{Edge}
 use Rattle.cfg_normal.specs.declared.Node.{Node}
 use Rattle.cfg_normal.specs.declared.Node.TheVariants.{Block, Landed, X}
-pub use Rattle.cfg_normal.specs.Nodes.{same_kind, same_node}
 use Rattle.cfg_normal.specs.Graph.{Graph, has_cases, lands, node_of}
+use Rattle.cfg_normal.specs.Nodes.{same_node, same_kind}
 
 -- ---- where a machine stands: the instruction, the next one, and whether the first is in a slot
 

@@ -15,7 +15,8 @@ use Rattle.v8_step.specs.Transfers.{next, trapped, delayed, jump_step}
 use Rattle.v8_step.specs.Accesses.{load_step, store_step}
 use Rattle.v8_step.specs.Step.{act, step_of, on_word, unless_ended, puts_of, puts_unless_ended}
 use Rattle.v8_step.proofs.Quiet.{IsPlain, puts_nothing}
-use Rattle.code_runs.specs.StoredWords.{memory_word, store_word, CanLoad, CanStore}
+use Rattle.code_runs.specs.StoredWords.{memory_word}
+use Rattle.code_runs.specs.Code.{store_word, CanLoad, CanStore}
 use Rattle.code_runs.specs.Straight.{Says}
 use Rattle.code_runs.proofs.StoredWords.{word_bytes, word_written}
 

@@ -16,7 +16,8 @@ use Rattle.v8_step.specs.declared.Slot.TheVariants.{NoSlot}
 use Rattle.v8_step.specs.State.{State, register_of, with_register, sum_of}
 use Rattle.v8_step.specs.Transfers.{next, delayed}
 use Rattle.v8_step.specs.Step.{step_of}
-use Rattle.code_runs.specs.StoredWords.{memory_word, store_word, store_all, AllAt, Stores, CanLoad}
+use Rattle.code_runs.specs.StoredWords.{memory_word}
+use Rattle.code_runs.specs.Code.{store_word, store_all, AllAt, Stores, CanLoad}
 use Rattle.code_runs.specs.Leads.{Leads, IsSilent}
 use Rattle.code_runs.specs.Straight.{Says}
 use Rattle.code_runs.specs.TwoRegisters.{HasScratch, IsAlike, IsBetween, Works}

@@ -14,11 +14,11 @@ use Rattle.v8_step.specs.Step.{step_of}
 use Rattle.v8_step.specs.Run.{run}
 use Rattle.v8_step.specs.Valid.{IsValid}
 use Rattle.v8_step.proofs.ValidStates.{register_of-range}
-use Rattle.code_runs.specs.Counted.{any_of_word, count_stores, one_if, stores_in_step, word_span}
+use Rattle.code_runs.specs.Code.{any_of_word, word_span, of_page, CanStore, store_word}
+use Rattle.code_runs.specs.Counted.{count_stores, one_if, stores_in_step}
 use Rattle.code_runs.specs.Hops.{Hops}
 use Rattle.code_runs.specs.LongJump.{IsFirstWord, LongJumpsHop, LongJumpsStore, long_jump}
-use Rattle.code_runs.specs.Page.{page_word, of_page}
-use Rattle.code_runs.specs.StoredWords.{CanStore, store_word}
+use Rattle.code_runs.specs.Page.{page_word}
 use Rattle.code_runs.specs.Straight.{IsReady, Says, StandIn}
 use Rattle.code_runs.specs.TwoRegisters.{BlockRules, HasScratch, IsAlike, Works}
 use Rattle.code_runs.proofs.Acts.{says_step, jump_acts}

@@ -6,13 +6,14 @@ use Rattle.std.specs.List.{find}
 use Rattle.std.specs.Option.{option_map}
 use Rattle.v8_decode.specs.declared.Instr.{Instr}
 use Rattle.v8_memory.specs.Regions.{Memory, Region, covers, changed, written}
-use Rattle.v8_memory.specs.Spans.{Span, IsApartFromAll, AllApart, without_execution, IsSameRegion, IsSameOutside}
+use Rattle.v8_memory.specs.Spans.{Span, IsApartFromAll, AllApart}
+use Rattle.v8_memory.specs.Code.{without_execution, IsSameRegion, IsSameOutside}
 use Rattle.v8_memory.proofs.Same.{covers-written, find-written}
 use Rattle.v8_step.specs.State.{State}
 use Rattle.v8_step.specs.Step.{act}
 use Rattle.v8_step.specs.Judged.{judged_by}
 use Rattle.code_runs.specs.Ours.{HasNot, IsAmongWords, AreOwn, IsOurs, OursStay, OursAreStored}
-use Rattle.code_runs.specs.StoredWords.{store_word, store_all, AllAt}
+use Rattle.code_runs.specs.Code.{store_word, store_all, AllAt}
 use Rattle.v8_step.proofs.KeptOutside.{kept_act}
 use Rattle.code_runs.proofs.Stays.{not_heap, there_written, words_stay}
 

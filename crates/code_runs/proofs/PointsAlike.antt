@@ -20,7 +20,8 @@ use Rattle.v8_alu.specs.declared.Codes.{Codes as CodesOf}
 use Rattle.v8_alu.specs.Conditions.{holds_of}
 use Rattle.v8_alu.specs.Numbers.{wrapped}
 use Rattle.v8_memory.specs.Spans.{Span, AllApart}
-use Rattle.v8_windows.specs.Registers.{AreRegisters, register_set, place_of}
+use Rattle.v8_windows.specs.Code.{AreRegisters}
+use Rattle.v8_windows.specs.Registers.{register_set, place_of}
 use Rattle.v8_windows.proofs.Places.{place_of-below, place_of-some, length-register_set}
 use Rattle.v8_step.specs.declared.Ending.TheVariants.{Trap, Couple}
 use Rattle.v8_step.specs.declared.Slot.{Slot}
@@ -29,11 +30,12 @@ use Rattle.v8_step.specs.State.{State, with_register, sum_of}
 use Rattle.v8_step.specs.Step.{act, puts_by}
 use Rattle.v8_step.specs.Transfers.{delayed, branched, target_of, trapped, unless_couple, branch_step, call_step, jump_step}
 use Rattle.v8_step.specs.Traps.{mem_address_not_aligned}
-use Rattle.v8_step.specs.Items.{StateItem, Register, Codes, YRegister, IsItem, IsAmong, IsSameAt, AreSameAt, IsSameForReading, is_transfer}
+use Rattle.v8_step.specs.Items.{StateItem, Register, Codes, YRegister, IsItem, IsAmong, IsSameAt, is_transfer}
+use Rattle.v8_step.specs.Code.{AreSameAt, IsSameForReading}
 use Rattle.v8_step.specs.Judged.{judged_by}
 use Rattle.two_runs.specs.Alike.{IsSameWorld, AreSameAfter}
 use Rattle.two_runs.specs.Needed.{ReadsIn}
-use Rattle.two_runs.specs.Twins.{AreTwins}
+use Rattle.two_runs.proofs.Twins.{AreTwins}
 use Rattle.two_runs.specs.Visits.{pages_of}
 use Rattle.two_runs.proofs.Reading.{same_first, same_rest, same_sum, place_one, no_codes, no_y, ended_alike, same_lengths}
 use Rattle.two_runs.proofs.JudgedAlike.{judged_alike}

@@ -10,7 +10,8 @@ use Rattle.v8_memory.specs.Regions.{Memory, covers, written, all_written, with_h
 use Rattle.v8_memory.specs.Spans.{Span, IsApartFromAll}
 use Rattle.v8_memory.proofs.Same.{find-written}
 use Rattle.v8_step.specs.Step.{act}
-use Rattle.code_runs.specs.StoredWords.{word_in, memory_word, CanLoad, CanStore}
+use Rattle.code_runs.specs.StoredWords.{word_in, memory_word}
+use Rattle.code_runs.specs.Code.{CanLoad, CanStore}
 use Rattle.code_runs.specs.Ours.{HasWordAt, IsIn, WordsStay}
 use Rattle.code_runs.proofs.StoredWords.{covered, covers_first, part, shape}
 use Rattle.v8_step.proofs.KeptOutside.{kept_act}

@@ -13,9 +13,11 @@ use Rattle.std.proofs.lemmas.Bool.Decides.{nat_tests}
 use Rattle.v8_memory.specs.Regions.{Memory, Region, covers, region_at, part_of, changed, written, with_bytes, bytes_at, read_region, if_allowed, code_of}
 use Rattle.v8_memory.proofs.Same.{find-written}
 use Rattle.v8_memory.proofs.Executable.{filter-written}
-use Rattle.v8_step.specs.Valid.{AreBytes, IsValidMemory, IsValidRegion}
+use Rattle.v8_step.specs.State.{AreBytes}
+use Rattle.v8_step.specs.Valid.{IsValidMemory, IsValidRegion}
 use Rattle.v8_step.proofs.ValidNumbers.{word_of-range}
-use Rattle.code_runs.specs.StoredWords.{word_in, memory_word, store_word, CanLoad, CanStore}
+use Rattle.code_runs.specs.StoredWords.{word_in, memory_word}
+use Rattle.code_runs.specs.Code.{store_word, CanLoad, CanStore}
 
 pub covers_first : (p : Region → Bool) (rs : List Region) (r : Region) → find p rs ≡ Some r → p r ≡ true
 covers_first p [] r e = absurd (cc)

@@ -16,7 +16,8 @@ use Rattle.v8_step.specs.State.{State, register_of, with_register}
 use Rattle.v8_step.specs.Transfers.{next}
 use Rattle.v8_step.specs.Step.{act, step_of, alu_step}
 use Rattle.v8_step.proofs.Quiet.{IsPlain}
-use Rattle.code_runs.specs.StoredWords.{memory_word, store_word, store_all, AllAt, Stores, CanLoad, CanStore}
+use Rattle.code_runs.specs.StoredWords.{memory_word}
+use Rattle.code_runs.specs.Code.{store_word, store_all, AllAt, Stores, CanLoad, CanStore}
 use Rattle.code_runs.specs.Leads.{Leads, IsSilent}
 use Rattle.code_runs.specs.Straight.{Says}
 use Rattle.code_runs.specs.TwoRegisters.{HasScratch, IsAlike, IsBetween, Works, IsNext, Gives, IsSumIn, BlockRules, BlocksWork}

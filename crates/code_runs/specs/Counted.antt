@@ -29,13 +29,6 @@ abbrev pub one_if : (ℕ → Bool) → Option Span → ℕ
 one_if counted None = 0
 one_if counted (Some span) = if any_byte counted span then 1 else 0
 
--- the bytes of a word
-abbrev pub word_span : ℕ → Span
-word_span address = record { from = address; count = 4 }
-
-abbrev pub any_of_word : (ℕ → Bool) → ℕ → Bool
-any_of_word counted address = any_byte counted (word_span address)
-
 abbrev pub on_fetched : (ℕ → Bool) → State → Option ℕ → ℕ
 on_fetched counted s None = 0
 on_fetched counted s (Some word) = one_if counted (stores_at s (decode_of word))

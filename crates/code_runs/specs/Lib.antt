@@ -9,3 +9,4 @@ pub mod PointsAlike
 pub mod StoredWords
 pub mod Straight
 pub mod TwoRegisters
+pub mod Code

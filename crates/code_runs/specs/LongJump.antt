@@ -8,11 +8,11 @@ use Rattle.v8_decode.specs.declared.StoreKind.TheVariants as stores
 use Rattle.v8_memory.specs.Regions.{code_of}
 use Rattle.v8_step.specs.State.{State, register_of}
 use Rattle.v8_step.specs.Valid.{IsValid}
-use Rattle.code_runs.specs.Counted.{any_of_word, count_stores}
+use Rattle.code_runs.specs.Counted.{count_stores}
 use Rattle.code_runs.specs.Hops.{Hops}
-use Rattle.code_runs.specs.Page.{page_word, of_page}
-use Rattle.code_runs.specs.StoredWords.{CanStore, store_word}
+use Rattle.code_runs.specs.Page.{page_word}
 use Rattle.code_runs.specs.Straight.{IsReady, StandIn}
+use Rattle.code_runs.specs.Code.{of_page, CanStore, store_word, any_of_word}
 
 -- %g1 goes into word 0 of the page, takes the address, and is loaded again in the slot of the jump.
 abbrev pub long_jump : ℕ → List Instr

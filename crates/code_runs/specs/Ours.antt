@@ -5,12 +5,14 @@ use Rattle.std.specs.List.{find}
 use Rattle.v8_decode.specs.declared.Instr.{Instr}
 use Rattle.v8_memory.specs.Regions.{Memory, Region, covers}
 use Rattle.v8_memory.specs.Segments.{heap_start, heap_room}
-use Rattle.v8_memory.specs.Spans.{Span, IsApartFromAll, AllApart, IsSameOutside}
+use Rattle.v8_memory.specs.Spans.{Span, IsApartFromAll, AllApart}
+use Rattle.v8_memory.specs.Code.{IsSameOutside}
 use Rattle.v8_step.specs.State.{State}
 use Rattle.v8_step.specs.Step.{act}
 use Rattle.v8_step.specs.Judged.{judged_by}
 use Rattle.code_runs.specs.Page.{page_word}
-use Rattle.code_runs.specs.StoredWords.{memory_word, Stores}
+use Rattle.code_runs.specs.StoredWords.{memory_word}
+use Rattle.code_runs.specs.Code.{Stores}
 
 -- A region has the word, away from all addresses that the heap can take: it may be read, and written or not.
 pub record HasWordAt (a : ℕ) (writable : Bool) (m : Memory) : Type 0 where

@@ -4,7 +4,7 @@ use Rattle.notes.specs.Format.{Notes}
 use Rattle.v8_decode.specs.declared.Instr.{Instr}
 use Rattle.v8_decode.specs.Words.{decode_of}
 use Rattle.v8_memory.specs.Spans.{Span, AllApart}
-use Rattle.v8_windows.specs.Registers.{AreRegisters}
+use Rattle.v8_windows.specs.Code.{AreRegisters}
 use Rattle.v8_step.specs.State.{State}
 use Rattle.v8_step.specs.Step.{on_word, puts_on_word}
 use Rattle.v8_step.specs.Items.{StateItem, IsItem, IsSameAt}

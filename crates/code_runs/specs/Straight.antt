@@ -13,7 +13,8 @@ use Rattle.v8_memory.specs.Regions.{Region, code_of, fetch_from}
 use Rattle.v8_step.specs.State.{State, register_of, with_register, operand_of, sum_of}
 use Rattle.v8_step.specs.Transfers.{next}
 use Rattle.code_runs.specs.Leads.{Leads, IsSilent}
-use Rattle.code_runs.specs.StoredWords.{memory_word, store_word, CanLoad, CanStore}
+use Rattle.code_runs.specs.StoredWords.{memory_word}
+use Rattle.code_runs.specs.Code.{store_word, CanLoad, CanStore}
 
 -- the word at an address of these regions says this instruction
 pub record Says (code : List Region) (a : ℕ) (x : Instr) : Type 0 where

@@ -14,8 +14,9 @@ use Rattle.v8_step.specs.declared.Slot.TheVariants.{NoSlot}
 use Rattle.v8_step.specs.State.{State, register_of, operand_of, sum_of}
 use Rattle.code_runs.specs.Leads.{Leads, IsSilent}
 use Rattle.code_runs.specs.Ours.{IsAmongWords}
-use Rattle.code_runs.specs.StoredWords.{Stores, CanLoad, CanStore, memory_word, store_word}
+use Rattle.code_runs.specs.StoredWords.{memory_word}
 use Rattle.code_runs.specs.Straight.{IsReady, Says}
+use Rattle.code_runs.specs.Code.{Stores, CanLoad, CanStore, store_word}
 
 -- `count` words of code that begin where s stands, and two registers
 pub record HasScratch (s : State) (count a b : ℕ) : Type 0 where

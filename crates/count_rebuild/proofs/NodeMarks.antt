@@ -9,9 +9,10 @@ use Rattle.std.proofs.lemmas.Bool.Decides.{nat_tests}
 use Rattle.std.proofs.lemmas.Grind.{common_steps}
 use Rattle.std.proofs.Math.Bool.{or-false, or_assoc}
 use Rattle.flows.specs.Links.{marked}
-use Rattle.notes.specs.Seen.{edge_seen, notes_seen, range_seen}
+use Rattle.notes.specs.Code.{edge_seen, notes_seen, range_seen}
 use Rattle.notes.specs.declared.note.Notes as declared_notes
-use Rattle.count_rebuild.specs.Noted.{AreNodes, ends_at, lies_at}
+use Rattle.count_rebuild.specs.Private.{AreNodes}
+use Rattle.count_rebuild.specs.Noted.{ends_at, lies_at}
 use Rattle.notes.proofs.Steps.{any_map}
 
 pub marked_more : (marks : List Bool) (number : ℕ) → number < length marks → (node : ℕ)

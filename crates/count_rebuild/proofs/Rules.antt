@@ -11,18 +11,19 @@ use Rattle.std.proofs.lemmas.List.Folds.{list_any_at}
 use Rattle.notes.specs.Format.{NoteEdge, NoteRange, NoteSegment, Notes, holds, node_at, range_at}
 use Rattle.flows.specs.Flows.{EdgeSet, Graph, NodeSet}
 use Rattle.flows.specs.Links.{graph_of, marked}
-use Rattle.flows.specs.Trees.{IsSpanningTree}
+use Rattle.flows.specs.SpanningTrees.{IsSpanningTree}
 use Rattle.flows.specs.declared.Link.{Link}
 use Rattle.flows.proofs.Weights.{weight_same}
 use Rattle.flow_rebuild.specs.Values.{int_at}
 use Rattle.notes.specs.Rules.{are_edges, are_ranges, is_edge, is_range, with_cell}
 use Rattle.eel_base.specs.declared.range.Range as declared_range
-use Rattle.notes.specs.Seen.{edge_seen, notes_seen, range_seen, segment_seen}
+use Rattle.notes.specs.Code.{edge_seen, notes_seen, range_seen, segment_seen}
 use Rattle.notes.proofs.Steps.{any_map}
 use Rattle.notes.specs.declared.note.NoteEdge as declared_edge
 use Rattle.notes.specs.declared.note.Notes as declared_notes
 use Rattle.count_rebuild.specs.Counts.{cell_value}
-use Rattle.count_rebuild.specs.Noted.{edge_at, ends_at, has_cell, is_counted, is_node, lies_at, link_of, no_edge, noted_graph}
+use Rattle.count_rebuild.specs.Noted.{edge_at, ends_at, has_cell, is_node, lies_at, no_edge, noted_graph}
+use Rattle.count_rebuild.specs.Private.{is_counted, link_of}
 
 -- ---- lists that are made of the edges
 

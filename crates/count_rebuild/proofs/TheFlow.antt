@@ -11,15 +11,17 @@ use Rattle.flow_tree.specs.Tree.{edges_of}
 use Rattle.flow_tree.specs.declared.Tree.{Tree}
 use Rattle.flow_rebuild.specs.Values.{int_at}
 use Rattle.notes.specs.Rules.{AreNotes}
-use Rattle.notes.specs.Seen.{edge_seen, notes_seen}
+use Rattle.notes.specs.Code.{edge_seen, notes_seen}
 use Rattle.notes.specs.declared.note.Notes as declared_notes
-use Rattle.dump_file.specs.Dump.{Dump, dump_seen}
+use Rattle.dump_file.specs.Dump.{Dump}
+use Rattle.dump_file.specs.Code.{dump_seen}
 use Rattle.dump_file.specs.declared.dump.Dump as declared_dump
 use Rattle.count_rebuild.specs.declared.fault.CountFault.{CountFault}
 use Rattle.count_rebuild.specs.declared.fault.CountFault.TheVariants as faults
-use Rattle.count_rebuild.specs.Answers.{IsRefused}
+use Rattle.count_rebuild.specs.Code.{IsRefused}
 use Rattle.count_rebuild.specs.Counts.{IsFirst, IsFlowTo, is_large, is_negative, StandsAt, cell_counts, cell_value}
-use Rattle.count_rebuild.specs.Noted.{has_cell, is_node, link_of, noted_graph}
+use Rattle.count_rebuild.specs.Noted.{has_cell, is_node, noted_graph}
+use Rattle.count_rebuild.specs.Private.{link_of}
 use Rattle.count_rebuild.specs.Parts.{IsBad, IsTreeOf}
 use Rattle.count_rebuild.proofs.Profile.{plain_is}
 use Rattle.count_rebuild.proofs.Rules.{node_inside, values_are}

@@ -7,7 +7,7 @@ use Rattle.std.proofs.lemmas.Bool.{cond_both, false≢true, leb-false, lt-leb}
 use Rattle.std.proofs.lemmas.List.{length-map}
 use Rattle.std.proofs.lemmas.List.Elements.{All-cons, All-nil}
 use Rattle.flow_rebuild.specs.Values.{int_at}
-use Rattle.notes.specs.Seen.{edge_seen}
+use Rattle.notes.specs.Code.{edge_seen}
 use Rattle.notes.specs.declared.note.NoteEdge as declared_edge
 use Rattle.count_rebuild.specs.Counts.{cell_value, counter_value, is_large, is_negative}
 

@@ -2,11 +2,9 @@
 use Rattle.std.specs.Prelude.{◌≡◌, ◌≤◌, ◌<◌, ◌^◌, ℕ, false, List, length, slice_index, ℤ, pos}
 use Rattle.notes.specs.Format.{Notes}
 use Rattle.dump_file.specs.Dump.{Dump}
-use Rattle.count_rebuild.specs.declared.fault.CountFault.{CountFault}
-use Rattle.count_rebuild.specs.declared.fault.CountFault.TheVariants as faults
 use Rattle.count_rebuild.specs.Noted.{IsProfile}
-use Rattle.count_rebuild.specs.Dumps.{IsBetween, IsForOther, IsMisshapen, IsOfOther, IsTheirs}
-use Rattle.count_rebuild.specs.Counts.{IsFirst, IsFlowTo, IsShort, StandsAt, is_large, is_negative}
+use Rattle.count_rebuild.specs.Dumps.{IsTheirs}
+use Rattle.count_rebuild.specs.Counts.{IsFirst, IsFlowTo, StandsAt, is_large, is_negative}
 
 -- the counts are the flow to the node where the run stands, and each fits 64 bits
 pub record AreCounts (notes : Notes) (dump : Dump) (counts : List ℕ) : Type 0 where
@@ -39,16 +37,3 @@ pub record IsTooLarge (notes : Notes) (dump : Dump) (edge : ℕ) (value : ℤ) :
   pub is : IsFlowTo notes dump node flow
   pub whole : (e : ℕ) → e < length notes.edges → is_negative (flow e) ≡ false
   pub first : IsFirst is_large (length notes.edges) flow edge value
-
--- A refusal has its cause. Want of memory comes only where the tool is that of a profile: whether the edges without a
--- cell are a spanning tree takes memory, and all else is judged after that.
-abbrev pub IsRefused : Notes → Dump → CountFault → Type 0
-IsRefused notes dump faults.NoProfile = ¬ IsProfile notes
-IsRefused notes dump (faults.Version of wanted) = IsOfOther IsProfile notes dump of wanted
-IsRefused notes dump (faults.Other length wanted) = IsForOther IsProfile notes dump length wanted
-IsRefused notes dump (faults.Shape cells wanted) = IsMisshapen IsProfile notes dump cells wanted
-IsRefused notes dump (faults.TooLong steps) = IsLong notes dump steps
-IsRefused notes dump (faults.Between pc) = IsBetween IsShort notes dump pc.0
-IsRefused notes dump (faults.Negative edge value) = IsImpossible notes dump edge.0 value
-IsRefused notes dump (faults.Large edge value) = IsTooLarge notes dump edge.0 value
-IsRefused notes dump faults.NoMemory = notes.tool ≡ 1

@@ -3,3 +3,5 @@ pub mod Dumps
 pub mod Counts
 pub mod Answers
 pub mod Parts
+pub mod Code
+pub mod Private

@@ -1,12 +1,10 @@
 -- The graph that notes tell, and which of its edges are counted.
-use Rattle.std.specs.Prelude.{◌≡◌, ℕ, ◌+◌, ◌*◌, ◌<◌, Bool, ◌||◌, ◌==◌, nat_le, List, length, slice_index_or, None}
+use Rattle.std.specs.Prelude.{◌≡◌, ℕ, ◌+◌, ◌*◌, Bool, ◌||◌, ◌==◌, nat_le, length, slice_index_or, None}
 use Rattle.std.specs.List.{list_any}
 use Rattle.std.specs.Option.{is_some}
 use Rattle.notes.specs.Format.{NoteEdge, NoteRange, Notes}
 use Rattle.flows.specs.Flows.{EdgeSet, Graph, NodeSet, rest}
-use Rattle.flows.specs.Trees.{IsSpanningTree}
-use Rattle.flows.specs.Links.{marked}
-use Rattle.flows.specs.declared.Link.{Link}
+use Rattle.flows.specs.SpanningTrees.{IsSpanningTree}
 
 -- past the last edge, one from node 0 to itself that isn't counted
 abbrev pub no_edge : NoteEdge
@@ -28,11 +26,6 @@ abbrev pub is_node : Notes → NodeSet
 is_node notes node =
     (nat_le node (length notes.blocks) || list_any (ends_at node) notes.edges) || list_any (lies_at node) notes.ranges
 
--- the list has for each number whether it is a node
-pub record AreNodes (notes : Notes) (marks : List Bool) : Type 0 where
-  pub len : length marks ≡ 2 * length notes.blocks + 1
-  pub are : (node : ℕ) → node < length marks → marked marks node ≡ is_node notes node
-
 -- Numbers and edges; each block may have a landed copy.
 abbrev pub noted_graph : Notes → Graph
 noted_graph notes = record {
@@ -50,10 +43,3 @@ has_cell notes = λ e. is_some (edge_at notes e).cell
 pub record IsProfile (notes : Notes) : Type 0 where
   pub tool : notes.tool ≡ 1
   pub tree : IsSpanningTree (noted_graph notes) (is_node notes) (rest (has_cell notes))
-
--- the graph as a list, and its edges' cells
-abbrev pub link_of : NoteEdge → Link
-link_of edge = record { from = edge.from; to = edge.to }
-
-abbrev pub is_counted : NoteEdge → Bool
-is_counted edge = is_some edge.cell

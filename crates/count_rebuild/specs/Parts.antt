@@ -11,7 +11,8 @@ use Rattle.flow_rebuild.specs.Values.{int_at}
 use Rattle.count_rebuild.specs.declared.fault.CountFault.{CountFault}
 use Rattle.count_rebuild.specs.declared.fault.CountFault.TheVariants as faults
 use Rattle.count_rebuild.specs.Counts.{is_large, is_negative, IsFirst}
-use Rattle.count_rebuild.specs.Noted.{has_cell, AreNodes, IsProfile}
+use Rattle.count_rebuild.specs.Noted.{has_cell, IsProfile}
+use Rattle.count_rebuild.specs.Private.{AreNodes}
 
 -- the tree of the nodes by the edges that aren't counted
 pub record IsTreeOf (notes : Notes) (links : List Link) (tree : Tree) : Type 0 where

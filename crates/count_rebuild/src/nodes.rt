@@ -3,8 +3,9 @@ ghost use Rattle.std.specs.Prelude.{◌≡◌, ℕ, ◌+◌, ◌*◌, ◌^◌, �
 ghost use Rattle.std.specs.List.{list_any, range_with_len};
 ghost use Rattle.flows.specs.Links.{marked};
 ghost use Rattle.notes.specs.Rules.{AreNotes};
-ghost use Rattle.notes.specs.Seen.{edge_seen, notes_seen, range_seen};
-ghost use Rattle.count_rebuild.specs.Noted.{ends_at, lies_at, AreNodes};
+ghost use Rattle.notes.specs.Code.{edge_seen, notes_seen, range_seen};
+ghost use Rattle.count_rebuild.specs.Noted.{ends_at, lies_at};
+ghost use Rattle.count_rebuild.specs.Private.{AreNodes};
 
 use notes::{NoteEdge, Notes, Range};
 use std::alloc::{AllocError, Global};

@@ -2,9 +2,9 @@
 ghost use Rattle.std.specs.Prelude.{◌≡◌, ◌<◌, ◌+◌, ◌^◌, ◌&&◌, nat_le, nat_lt, length, map, nat_abs, slice_index_or, IfOk};
 ghost use Rattle.std.specs.List.{All, find, list_any};
 ghost use Rattle.notes.specs.Format.{holds, node_at};
-ghost use Rattle.notes.specs.Seen.{edge_seen, notes_seen, segment_seen};
+ghost use Rattle.notes.specs.Code.{edge_seen, notes_seen, segment_seen};
 ghost use Rattle.count_rebuild.specs.Counts.{cell_value, counter_value};
-ghost use Rattle.count_rebuild.specs.Noted.{is_counted, link_of};
+ghost use Rattle.count_rebuild.specs.Private.{is_counted, link_of};
 
 use eel_base::Addr;
 use flows::Link;

@@ -1,12 +1,15 @@
 //! The counts, or why there are none.
 ghost use Rattle.std.specs.Prelude.{◌≡◌, ◌≢◌, ◌<◌, ◌^◌, length, map, nat_abs, IfOk, IfErr, OnOk};
 ghost use Rattle.notes.specs.Rules.{AreNotes};
-ghost use Rattle.notes.specs.Seen.{edge_seen, notes_seen};
-ghost use Rattle.dump_file.specs.Dump.{Dump as DumpSeen, dump_seen};
-ghost use Rattle.count_rebuild.specs.Answers.{AreCounts, IsRefused};
+ghost use Rattle.notes.specs.Code.{edge_seen, notes_seen};
+ghost use Rattle.dump_file.specs.Dump.{Dump as DumpSeen};
+ghost use Rattle.dump_file.specs.Code.{dump_seen};
+ghost use Rattle.count_rebuild.specs.Answers.{AreCounts};
+ghost use Rattle.count_rebuild.specs.Code.{IsRefused};
 ghost use Rattle.count_rebuild.specs.Counts.{IsShort, StandsAt};
 ghost use Rattle.count_rebuild.specs.Dumps.{IsAlike, IsForThem, IsTheirs};
-ghost use Rattle.count_rebuild.specs.Noted.{link_of, IsProfile};
+ghost use Rattle.count_rebuild.specs.Private.{link_of};
+ghost use Rattle.count_rebuild.specs.Noted.{IsProfile};
 ghost use Rattle.count_rebuild.specs.declared.fault.CountFault.TheVariants as faults;
 ghost use Rattle.count_rebuild.specs.Parts.{AreWhole, IsBad, IsSmall, IsTreeOf, IsWhole};
 

@@ -7,12 +7,14 @@ use Rattle.std.proofs.lemmas.List.{length-drop}
 use Rattle.byteorder.specs.Endian.{big_bytes}
 use Rattle.notes.specs.Format.{is_version}
 use Rattle.v8_step.specs.declared.Ending.{Ending}
-use Rattle.dump_file.specs.Dump.{Dump, IsDump, kind_of, number_of}
+use Rattle.dump_file.specs.Dump.{Dump, kind_of, number_of}
+use Rattle.dump_file.specs.Code.{IsDump}
 use Rattle.dump_file.specs.Written.{mark, words_bytes, dump_bytes}
 use Rattle.dump_file.specs.Reading.{count_at, count_place, field_at, version_at, kept, length_at, number_limit, ending_of, ending_at, fits, words_of, read_dump}
 use Rattle.dump_file.proofs.Words.{AreBytes, are_bytes, bytes_dropped, words_again, length-words, words_fit, written_4, written_8}
 use Rattle.dump_file.proofs.Fields.{Found, after, field_fits, parted, met}
 use Rattle.dump_file.proofs.ReadsBack.{parts as fields_stand}
+pub use Rattle.dump_file.proofs.Examples.{exits_bytes}
 
 ending_parts : (kind number : ℕ) → kind ≤ 4 → number ≤ number_limit kind
     → (kind_of (ending_of kind number) ≡ kind) × (number_of (ending_of kind number) ≡ number) × (number < 2 ^ 8)

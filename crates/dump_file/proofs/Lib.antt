@@ -2,3 +2,4 @@ pub mod Words
 pub mod Fields
 pub mod ReadsBack
 pub mod Inverted
+pub mod Examples

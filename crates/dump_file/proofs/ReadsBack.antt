@@ -8,7 +8,8 @@ use Rattle.byteorder.specs.Endian.{big_bytes}
 use Rattle.notes.specs.Format.{is_version}
 use Rattle.v8_step.specs.declared.Ending.{Ending}
 use Rattle.v8_step.specs.declared.Ending.TheVariants.{Exit, Trap, Window, Couple}
-use Rattle.dump_file.specs.Dump.{Dump, IsDump, kind_of, number_of}
+use Rattle.dump_file.specs.Dump.{Dump, kind_of, number_of}
+use Rattle.dump_file.specs.Code.{IsDump}
 use Rattle.dump_file.specs.Written.{mark, words_bytes, dump_bytes}
 use Rattle.dump_file.specs.Reading.{count_place, count_at, field_at, ending_at, version_at, words_of, read_dump}
 use Rattle.dump_file.proofs.Words.{words_back}

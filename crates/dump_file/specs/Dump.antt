@@ -10,12 +10,9 @@
 --   at 28  in version 2 the size of the original; version 1 has no such number
 --   then   how many cells there are
 --   then   the cells
-use Rattle.std.specs.Prelude.{◌≡◌, ℕ, ◌<◌, ◌^◌, true, List, length, Option, Some, None}
-use Rattle.std.specs.List.{All}
-use Rattle.notes.specs.Format.{is_version}
+use Rattle.std.specs.Prelude.{ℕ, List, Option, Some, None}
 use Rattle.v8_step.specs.declared.Ending.{Ending}
 use Rattle.v8_step.specs.declared.Ending.TheVariants.{Exit, Trap, Window, Couple}
-use Rattle.dump_file.specs.declared.dump.Dump as declared
 
 -- a dump without where its cells lie in memory
 pub record Dump : Type 0 where
@@ -25,16 +22,6 @@ pub record Dump : Type 0 where
   pub steps : ℕ
   pub length : ℕ
   pub cells : List ℕ
-
-abbrev pub dump_seen : declared.Dump → Dump
-dump_seen dump = record {
-  version = dump.version;
-  ending = dump.ending;
-  pc = dump.pc.0;
-  steps = dump.steps;
-  length = dump.length;
-  cells = dump.cells.items;
-}
 
 abbrev pub kind_of : Option Ending → ℕ
 kind_of None = 0
@@ -49,14 +36,3 @@ number_of (Some (Exit number)) = number
 number_of (Some (Trap number)) = number
 number_of (Some Window) = 0
 number_of (Some Couple) = 0
-
--- It has a version, and each number fits its bytes.
-pub record IsDump (dump : Dump) : Type 0 where
-  pub version : is_version dump.version ≡ true
-  pub no_length : dump.version ≡ 1 → dump.length ≡ 0
-  pub size : dump.length < 2 ^ 32
-  pub number : number_of dump.ending < 2 ^ 8
-  pub pc : dump.pc < 2 ^ 32
-  pub steps : dump.steps < 2 ^ 64
-  pub count : length dump.cells < 2 ^ 32
-  pub cells : All (λ cell. cell < 2 ^ 32) dump.cells

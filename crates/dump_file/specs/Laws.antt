@@ -1,9 +1,10 @@
 -- What holds of all dumps.
 use Rattle.std.specs.Prelude.{◌≡◌, ℕ, ◌<◌, List, Ok}
 use Rattle.std.specs.List.{All}
-use Rattle.dump_file.specs.Dump.{Dump, IsDump}
+use Rattle.dump_file.specs.Dump.{Dump}
 use Rattle.dump_file.specs.Written.{dump_bytes}
 use Rattle.dump_file.specs.Reading.{read_dump}
+use Rattle.dump_file.specs.Code.{IsDump}
 
 -- What was written reads back.
 abbrev pub WrittenDumpsRead : Type 0

@@ -2,4 +2,5 @@ pub mod Dump
 pub mod Written
 pub mod Reading
 pub mod Laws
-pub mod Examples
+pub mod Code
+pub mod Private

@@ -1,6 +1,6 @@
 -- Reading a dump, from left to right: the dump, or the offset of the first number that isn't whole or breaks its
 -- rule.
-use Rattle.std.specs.Prelude.{◌≡◌, ℕ, zero, suc, ◌+◌, ◌*◌, Bool, ◌||◌, ◌==◌, nat_le, if◌then◌else◌, List, [], ◌∷◌, length, drop, Option, Some, None, Result, Ok, Err}
+use Rattle.std.specs.Prelude.{ℕ, zero, suc, ◌+◌, ◌*◌, Bool, ◌||◌, ◌==◌, nat_le, if◌then◌else◌, List, [], ◌∷◌, length, drop, Option, Some, None, Result, Ok, Err}
 use Rattle.byteorder.specs.Endian.{big_number}
 use Rattle.eel_base.specs.Fields.{be_field}
 use Rattle.notes.specs.Format.{is_version}
@@ -8,8 +8,6 @@ use Rattle.v8_step.specs.declared.Ending.{Ending}
 use Rattle.v8_step.specs.declared.Ending.TheVariants.{Exit, Trap, Window, Couple}
 use Rattle.dump_file.specs.Dump.{Dump}
 use Rattle.dump_file.specs.Written.{mark}
-use Rattle.dump_file.specs.declared.dump.DumpFault.{DumpFault}
-use Rattle.dump_file.specs.declared.dump.DumpFault.TheVariants as faults
 
 infixl 10 ◌>>=◌
 abbrev pub ◌>>=◌ : {A B : Type 0} → Result A ℕ → (A → Result B ℕ) → Result B ℕ
@@ -101,22 +99,3 @@ read_dump bytes = do
 abbrev pub IsRead : {A : Type 0} → Result A ℕ → Type 0
 IsRead (Ok x) = Unit {0}
 IsRead (Err at) = ⊥
-
--- a part that takes no memory answers what was read
-abbrev pub IsBad : {A : Type 0} → DumpFault → Result A ℕ → Type 0
-IsBad (faults.Bad at) read = read ≡ Err at
-IsBad faults.NoMemory read = ⊥
-
-abbrev pub Reads : {A : Type 0} → Result A DumpFault → Result A ℕ → Type 0
-Reads (Ok x) read = read ≡ Ok x
-Reads (Err fault) read = IsBad fault read
-
--- A fault is the one that was read; memory is wanting only where there is none.
-abbrev pub IsFault : {A : Type 0} → DumpFault → Result A ℕ → Type 0
-IsFault (faults.Bad at) read = read ≡ Err at
-IsFault faults.NoMemory read = IsRead read
-
--- an answer is what was read
-abbrev pub Answers : {A B : Type 0} → (A → B) → Result A DumpFault → Result B ℕ → Type 0
-Answers seen (Ok x) read = read ≡ Ok (seen x)
-Answers seen (Err fault) read = IsFault fault read

@@ -1,10 +1,10 @@
 //! Reading dumps.
 ghost use Rattle.std.specs.Prelude.{◌≡◌, ◌≤◌, ◌<◌, ◌+◌, ◌*◌, ◌^◌, MatchResult, IfOk, IfErr, length, true, false, vec_len};
 ghost use Rattle.eel_base.specs.Fields.{be_field};
-ghost use Rattle.dump_file.specs.Dump.{dump_seen};
-ghost use Rattle.dump_file.specs.Reading.{Answers, Reads, count_at, count_place, field_at, ending_at, ending_of, length_at, number_limit, fits, version_at, words_of};
+ghost use Rattle.dump_file.specs.Code.{dump_seen, Answers};
+ghost use Rattle.dump_file.specs.Private.{Reads};
 ghost use Rattle.notes.specs.Format.{is_version};
-ghost use Rattle.dump_file.specs.Reading.{read_dump};
+ghost use Rattle.dump_file.specs.Reading.{read_dump, count_at, count_place, field_at, ending_at, ending_of, length_at, number_limit, fits, version_at, words_of};
 ghost use Rattle.dump_file.specs.declared.dump.DumpFault.TheVariants as faults;
 
 use crate::dump::{Dump, DumpFault};

@@ -1,7 +1,8 @@
 //! Writing dumps.
 ghost use Rattle.std.specs.Prelude.{◌≡◌, ◌++◌, ◌<◌, ◌^◌, true, IfOk, OnOk, vec_len};
 ghost use Rattle.byteorder.specs.Endian.{big_bytes};
-ghost use Rattle.dump_file.specs.Dump.{dump_seen, kind_of, number_of};
+ghost use Rattle.dump_file.specs.Code.{dump_seen};
+ghost use Rattle.dump_file.specs.Dump.{kind_of, number_of};
 ghost use Rattle.dump_file.specs.Written.{words_bytes, dump_bytes, length_words};
 ghost use Rattle.notes.specs.Format.{is_version};
 

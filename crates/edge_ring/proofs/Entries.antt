@@ -3,13 +3,16 @@ use Rattle.std.proofs.Common.{◌≡◌, ℕ, zero, suc, ◌+◌, ◌%◌, ◌^�
 use Rattle.std.specs.List.{All, filter_map, position}
 use Rattle.std.proofs.lemmas.List.{get_or-map, length-drop, length-map}
 use Rattle.eel_base.specs.declared.numbers.EdgeNo.{EdgeNo}
-use Rattle.dump_file.specs.Dump.{Dump, dump_seen}
+use Rattle.dump_file.specs.Dump.{Dump}
+use Rattle.dump_file.specs.Code.{dump_seen}
 use Rattle.dump_file.specs.declared.dump.Dump as declared_dump
-use Rattle.notes.specs.Seen.{edge_seen, notes_seen}
+use Rattle.notes.specs.Code.{edge_seen, notes_seen}
 use Rattle.notes.specs.declared.note.Notes as declared_notes
-use Rattle.edge_ring.specs.Ring.{edge_in, edge_no_in, edges_in, next_place, round_from}
+use Rattle.edge_ring.specs.Ring.{edge_in, edges_in, next_place, round_from}
+use Rattle.edge_ring.specs.Private.{edge_no_in}
 use Rattle.edge_ring.specs.Traces.{IsWhole, bad_place}
 use Rattle.edge_ring.proofs.Places.{all_good, edges_inside, round}
+pub use Rattle.edge_ring.proofs.Examples.{no_edges}
 
 abbrev pub number : EdgeNo → ℕ
 number edge = edge.0

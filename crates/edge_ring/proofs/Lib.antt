@@ -5,3 +5,4 @@ pub mod Entries
 pub mod Shown
 pub mod Told
 pub mod Stores
+pub mod Examples

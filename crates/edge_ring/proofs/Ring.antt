@@ -9,7 +9,8 @@ use Rattle.std.proofs.Math.Nat.{add-mul-mod_self_left, div-add-mod, mod-eq_of_lt
 use Rattle.std.proofs.Math.Pow.{mod-mod-pow}
 use Rattle.std.proofs.Math.Seq.{drop-nil}
 use Rattle.snippets.specs.Cells.{WorksBelow, changed, place_in, update}
-use Rattle.edge_ring.specs.Ring.{IsRingOf, edge_in, edges_in, last_of, ring_on, round_from}
+use Rattle.edge_ring.specs.Code.{IsRingOf}
+use Rattle.edge_ring.specs.Ring.{edge_in, edges_in, last_of, ring_on, round_from}
 use Rattle.edge_ring.specs.Laws.{AllRingsKeepTheLast}
 
 -- ---- numbers

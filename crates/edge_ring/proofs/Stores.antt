@@ -10,7 +10,8 @@ use Rattle.snippets.specs.declared.snippet.Op.{Op}
 use Rattle.snippets.specs.Cells.{update}
 use Rattle.cfg_walk.specs.Walk.{gone_in, walk}
 use Rattle.image_code.specs.Store.{Edit, snippet_on, store_of, updates}
-use Rattle.edge_ring.specs.Ring.{IsRingOf, ring_on}
+use Rattle.edge_ring.specs.Code.{IsRingOf}
+use Rattle.edge_ring.specs.Ring.{ring_on}
 use Rattle.edge_ring.specs.Stores.{StoresAreRings}
 use Rattle.edge_ring.proofs.Ring.{goes_on, zeros}
 

@@ -9,7 +9,8 @@ use Rattle.notes.specs.Format.{Notes}
 use Rattle.dump_file.specs.Dump.{Dump}
 use Rattle.edge_ring.specs.declared.fault.RingFault.{RingFault}
 use Rattle.edge_ring.specs.declared.fault.RingFault.TheVariants as faults
-use Rattle.edge_ring.specs.Answers.{AreLast, IsRefused}
+use Rattle.edge_ring.specs.Answers.{AreLast}
+use Rattle.edge_ring.specs.Code.{IsRefused}
 use Rattle.edge_ring.specs.Laws.{IsOfWalk, MayRefuse, RingsTellTheLast}
 use Rattle.edge_ring.specs.Ring.{edges_in, last_of}
 use Rattle.edge_ring.specs.Traces.{bad_place}

@@ -3,11 +3,8 @@
 use Rattle.std.specs.Prelude.{◌≡◌, ℕ, ◌+◌, ◌^◌, List, get_or, Some}
 use Rattle.notes.specs.Format.{Notes}
 use Rattle.dump_file.specs.Dump.{Dump}
-use Rattle.count_rebuild.specs.Dumps.{IsBetween, IsForOther, IsMisshapen, IsOfOther, IsTheirs}
-use Rattle.edge_ring.specs.declared.fault.RingFault.{RingFault}
-use Rattle.edge_ring.specs.declared.fault.RingFault.TheVariants as faults
 use Rattle.edge_ring.specs.Ring.{edges_in}
-use Rattle.edge_ring.specs.Traces.{IsPlaced, IsTrace, IsWhole, bad_place}
+use Rattle.edge_ring.specs.Traces.{IsPlaced, IsWhole, bad_place}
 
 -- the edges are those that the cells hold
 pub record AreLast (notes : Notes) (dump : Dump) (edges : List ℕ) : Type 0 where
@@ -23,13 +20,3 @@ pub record IsUnknown (notes : Notes) (dump : Dump) (cell value : ℕ) : Type 0 w
   pub bad : bad_place notes dump ≡ Some place
   pub at : cell ≡ place + 1
   pub is : value ≡ get_or dump.cells cell 0
-
--- a refusal has its cause; want of memory comes only where there is no other
-abbrev pub IsRefused : Notes → Dump → RingFault → Type 0
-IsRefused notes dump faults.NoTrace = ¬ IsTrace notes
-IsRefused notes dump (faults.Version of wanted) = IsOfOther IsTrace notes dump of wanted
-IsRefused notes dump (faults.Other length wanted) = IsForOther IsTrace notes dump length wanted
-IsRefused notes dump (faults.Shape cells wanted) = IsMisshapen IsTrace notes dump cells wanted
-IsRefused notes dump (faults.Between pc) = IsBetween (IsTheirs IsTrace) notes dump pc.0
-IsRefused notes dump (faults.Entry cell value) = IsUnknown notes dump cell value
-IsRefused notes dump faults.NoMemory = IsWhole notes dump

@@ -6,9 +6,10 @@ use Rattle.snippets.specs.Cells.{WorksBelow, update}
 use Rattle.dump_file.specs.Dump.{Dump}
 use Rattle.edge_ring.specs.declared.fault.RingFault.{RingFault}
 use Rattle.edge_ring.specs.declared.fault.RingFault.TheVariants as faults
-use Rattle.edge_ring.specs.Answers.{AreLast, IsRefused}
-use Rattle.edge_ring.specs.Ring.{IsRingOf, edges_in, last_of, ring_on}
+use Rattle.edge_ring.specs.Answers.{AreLast}
+use Rattle.edge_ring.specs.Ring.{edges_in, last_of, ring_on}
 use Rattle.edge_ring.specs.Traces.{IsTrace, IsWhole}
+use Rattle.edge_ring.specs.Code.{IsRingOf, IsRefused}
 
 -- The snippets work on the ring's cells. These begin as zeros, the ring of no walk; each edge that is completed makes
 -- of the ring of a walk that of the walk with this edge, whatever the registers hold. What the ring of a walk holds are

@@ -4,3 +4,5 @@ pub mod Stores
 pub mod Traces
 pub mod Answers
 pub mod Lines
+pub mod Code
+pub mod Private

@@ -1,9 +1,7 @@
 -- The last edges of a walk, in a ring of cells: cell 0 counts the edges, and behind it stand 2^bits places, into which
 -- the edges go in turn. A place holds 0 while it is empty, and then an edge's number and one.
-use Rattle.std.specs.Prelude.{◌≡◌, ℕ, zero, suc, ◌+◌, ◌-◌, ◌%◌, ◌^◌, List, [], ◌∷◌, ◌++◌, length, map, take, drop, get_or, replicate, Option, Some, None, refl}
+use Rattle.std.specs.Prelude.{ℕ, zero, suc, ◌+◌, ◌-◌, ◌%◌, ◌^◌, List, [], ◌∷◌, ◌++◌, length, take, drop, get_or, Option, Some, None}
 use Rattle.std.specs.List.{filter_map}
-use Rattle.std.specs.Option.{option_map}
-use Rattle.eel_base.specs.declared.numbers.EdgeNo.{EdgeNo}
 use Rattle.snippets.specs.declared.snippet.Op.{Op}
 use Rattle.snippets.specs.declared.snippet.Op.TheVariants.{Log}
 
@@ -30,31 +28,6 @@ abbrev pub edge_in : ℕ → Option ℕ
 edge_in zero = None
 edge_in (suc edge) = Some edge
 
--- the same, as the program has edges
-unfoldable pub edge_no_in : ℕ → Option EdgeNo
-edge_no_in entry = option_map (λ edge. record { 0 = edge }) (edge_in entry)
-
 -- those of the places that aren't empty, the oldest first
 abbrev pub edges_in : ℕ → List ℕ → List ℕ
 edges_in bits cells = filter_map edge_in (round_from (next_place bits cells) (drop 1 cells))
-
--- ---- the cells are the ring of a walk: from the next place on there are empty ones, and then the last edges
-pub record IsRingOf (bits : ℕ) (walk cells : List ℕ) : Type 0 where
-  pub size : length cells ≡ 1 + 2 ^ bits
-  pub count : get_or cells 0 0 ≡ length walk % 2 ^ 32
-  pub places : round_from (length walk % 2 ^ bits) (drop 1 cells)
-      ≡ replicate (2 ^ bits - length walk) 0 ++ map suc (last_of bits walk)
-
--- They compute: no edge, two edges, and six, in a ring of four places.
-
-no_edges : edges_in 2 (0 ∷ 0 ∷ 0 ∷ 0 ∷ 0 ∷ []) ≡ []
-no_edges = refl
-
-two_edges : edges_in 2 (2 ∷ 1 ∷ 4 ∷ 0 ∷ 0 ∷ []) ≡ 0 ∷ 3 ∷ []
-two_edges = refl
-
-six_edges : edges_in 2 (6 ∷ 2 ∷ 3 ∷ 2 ∷ 2 ∷ []) ≡ 1 ∷ 1 ∷ 1 ∷ 2 ∷ []
-six_edges = refl
-
-last_four : last_of 2 (0 ∷ 1 ∷ 1 ∷ 1 ∷ 1 ∷ 2 ∷ []) ≡ 1 ∷ 1 ∷ 1 ∷ 2 ∷ []
-last_four = refl

@@ -4,7 +4,8 @@ use Rattle.std.specs.List.{All}
 use Rattle.v8_step.specs.State.{State}
 use Rattle.cfg_walk.specs.Walk.{walk}
 use Rattle.image_code.specs.Store.{Edit, snippet_on, store_of}
-use Rattle.edge_ring.specs.Ring.{IsRingOf, ring_on}
+use Rattle.edge_ring.specs.Ring.{ring_on}
+use Rattle.edge_ring.specs.Code.{IsRingOf}
 
 -- where the edges that the first n steps complete have the ring's snippets
 abbrev pub StoresAreRings : Type 0

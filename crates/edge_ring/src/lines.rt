@@ -2,7 +2,7 @@
 ghost use Rattle.std.specs.Prelude.{◌≡◌, ◌<◌, ◌≤◌, ◌++◌, ℕ, List, length, map, IfOk, OnOk};
 ghost use Rattle.std.specs.List.{All, flat_map};
 ghost use Rattle.notes.specs.Rules.{AreNotes};
-ghost use Rattle.notes.specs.Seen.{edge_seen, notes_seen};
+ghost use Rattle.notes.specs.Code.{edge_seen, notes_seen};
 ghost use Rattle.edge_ring.specs.Lines.{edge_line, noted_edge_line, ring_line, ring_lines};
 
 use eel_base::{EdgeNo, NoMemory};

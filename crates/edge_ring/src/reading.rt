@@ -2,11 +2,13 @@
 ghost use Rattle.std.specs.Prelude.{◌≡◌, ◌≤◌, ◌<◌, ◌+◌, ◌^◌, ◌++◌, ◌==◌, ℕ, length, drop, map, nat_lt, IfOk, IfErr, MatchBool, OnOk};
 ghost use Rattle.std.specs.List.{All, filter_map, list_any, position, range_with_len};
 ghost use Rattle.notes.specs.Rules.{AreNotes};
-ghost use Rattle.notes.specs.Seen.{notes_seen};
-ghost use Rattle.dump_file.specs.Dump.{dump_seen};
+ghost use Rattle.notes.specs.Code.{notes_seen};
+ghost use Rattle.dump_file.specs.Code.{dump_seen};
 ghost use Rattle.count_rebuild.specs.Dumps.{IsTheirs};
-ghost use Rattle.edge_ring.specs.Answers.{AreLast, IsRefused};
-ghost use Rattle.edge_ring.specs.Ring.{edge_no_in, edges_in};
+ghost use Rattle.edge_ring.specs.Answers.{AreLast};
+ghost use Rattle.edge_ring.specs.Code.{IsRefused};
+ghost use Rattle.edge_ring.specs.Private.{edge_no_in};
+ghost use Rattle.edge_ring.specs.Ring.{edges_in};
 ghost use Rattle.edge_ring.specs.Traces.{IsPlaced, IsTrace, IsWhole};
 
 use crate::RingFault;
@@ -156,7 +158,7 @@ fn edges_of(alloc: Global, older: &[u32], newer: &[u32]) -> Result<Vec<EdgeNo>, 
 }
 
 /// The edge that a place holds, if it isn't empty.
-#[tactic(auto, unfolding(crate::specs::Ring::edge_no_in))]
+#[tactic(auto, unfolding(crate::specs::Private::edge_no_in))]
 fn edge_in(entry: u32) -> Option<EdgeNo>
     ensures { result ≡ edge_no_in entry }
 {

@@ -4,7 +4,8 @@ use Rattle.std.proofs.lemmas.Nat.{mul-le}
 use Rattle.cfg_normal.specs.declared.Edge.{Edge}
 use Rattle.cfg_normal.specs.Graph.{Graph}
 use Rattle.cfg_walk.proofs.Lists.{Each, each}
-use Rattle.image_code.specs.Fit.{copies_of, operations_from, operations_in}
+use Rattle.image_code.specs.Copies.{copies_of}
+use Rattle.image_code.specs.Fit.{operations_from, operations_in}
 use Rattle.image_code.specs.Store.{snippet_on}
 use Rattle.snippets.specs.declared.snippet.Op.{Op}
 use Rattle.snippets.specs.Ops.{cells_end}

@@ -12,9 +12,8 @@ use Rattle.byteorder.specs.Endian.{big_number}
 use Rattle.elf32_sparc.specs.Header.{has_flag}
 use Rattle.elf32_sparc.specs.Mapping.{Mapping, mappings}
 use Rattle.elf32_sparc.proofs.Images.{accepted-program}
-use Rattle.elf32_write.specs.Bytes.{words_bytes}
-use Rattle.elf32_write.specs.Headers.{not_executable}
-use Rattle.elf32_write.specs.Laws.{is_code, kept, mapping_added}
+use Rattle.elf32_write.specs.Kept.{words_bytes, not_executable, is_code, kept}
+use Rattle.elf32_write.specs.Laws.{mapping_added}
 use Rattle.elf32_write.proofs.WordsBytes.{length-words_bytes}
 use Rattle.v8_memory.specs.Regions as regions
 use Rattle.v8_memory.specs.Regions.{Region, code_of, fetch_from, fetch_of}

@@ -20,7 +20,8 @@ use Rattle.cfg_normal.specs.declared.Node.{Node}
 use Rattle.cfg_normal.specs.declared.Node.TheVariants.{X}
 use Rattle.cfg_normal.specs.declared.Slot.TheVariants as carried
 use Rattle.cfg_normal.specs.Graph.{Graph, has_cases, lands}
-use Rattle.cfg_walk.specs.Walk.{Point, WayOut, by_kind, completed, edge_along, edge_from, ends_block, gone, instr_at, landed, landing_at, leads_along, left_along, left_at, left_by, same_kind, same_node, slot_left, way_of}
+use Rattle.cfg_walk.specs.Walk.{Point, WayOut, by_kind, completed, edge_along, edge_from, ends_block, gone, instr_at, landed, landing_at, leads_along, left_along, left_at, left_by, slot_left, way_of}
+use Rattle.cfg_normal.specs.Nodes.{same_kind, same_node}
 use Rattle.liveness.specs.Live.{IsLiveOn, edge_at, is_call_or_jump, is_outside, is_unknown}
 
 abbrev IsIn : Graph → ℕ → Type 0

@@ -8,14 +8,15 @@ use Rattle.std.proofs.lemmas.Bool.Decides.{nat_tests}
 use Rattle.std.proofs.lemmas.List.Sums.{count_by-le-length, sum_by-append, sum_by-cons}
 use Rattle.cfg_normal.specs.declared.Node.{Node}
 use Rattle.cfg_normal.specs.declared.Node.TheVariants.{Block, Landed, X}
-use Rattle.cfg_normal.specs.Graph.{Graph, IsGraph, IsNodeIn, lands}
+use Rattle.cfg_normal.specs.Graph.{Graph, lands}
+use Rattle.cfg_normal.specs.Code.{IsGraph, IsNodeIn}
 use Rattle.cfg_normal.specs.Nodes.{same_node}
 use Rattle.cfg_normal.specs.Numbers.{node_number}
 use Rattle.cfg_normal.specs.Opens.{Open, targets_in}
 use Rattle.cfg_walk.proofs.Nodes.{lands_in}
-use Rattle.image_code.specs.Fit.{is_at}
+use Rattle.image_code.specs.Copies.{is_at}
 use Rattle.edit_core.specs.declared.taking.CaseKey.{CaseKey}
-use Rattle.edit_core.specs.Taken.{case_key, count_of, entries_with, is_entry, same_key}
+use Rattle.edit_core.specs.Private.{case_key, count_of, entries_with, is_entry, same_key}
 
 -- ---- counts
 

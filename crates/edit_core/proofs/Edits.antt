@@ -5,7 +5,8 @@ use Rattle.std.proofs.lemmas.List.{length-replicate}
 use Rattle.std.proofs.lemmas.List.Sums.{count_by-le-length}
 use Rattle.std.proofs.lemmas.List.Elements.{All-replicate}
 use Rattle.byteorder.specs.Endian.{big_bytes}
-use Rattle.eel_base.specs.CodeText.{IsText, Words}
+use Rattle.eel_base.specs.Code.{IsText}
+use Rattle.eel_base.specs.CodeText.{Words}
 use Rattle.elf32_sparc.specs.FileFault.{fault}
 use Rattle.elf32_sparc.specs.Image.{image_of, highest_end}
 use Rattle.notes.specs.Format.{Notes}
@@ -13,7 +14,7 @@ use Rattle.elf32_sparc.proofs.Images.{accepted-program}
 use Rattle.notes.specs.Rules.{AreNotes}
 use Rattle.notes.specs.Written.{notes_bytes, notes_words, words_bytes as note_bytes}
 use Rattle.notes.proofs.ReadsBack.{written_back}
-use Rattle.elf32_write.specs.Bytes.{words_bytes}
+use Rattle.elf32_write.specs.Kept.{words_bytes}
 use Rattle.elf32_write.specs.Headers.{AddedSegment}
 use Rattle.elf32_write.specs.Conditions.{CanWrite, AreNumbers, Ascend, CanLoad, HasWords, IsInReach}
 use Rattle.elf32_write.specs.Laws.{AreBytes, HoldsOriginal}

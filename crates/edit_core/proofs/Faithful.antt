@@ -6,7 +6,8 @@ use Rattle.std.specs.Option.{option_map}
 use Rattle.std.proofs.lemmas.Bool.{le-leb, lt-ltb}
 use Rattle.std.proofs.lemmas.List.{append_assoc}
 use Rattle.std.proofs.lemmas.Option.{slice_get_within, get_or_from_slice_get}
-use Rattle.eel_base.specs.CodeText.{IsText, Words, address_of, word_at}
+use Rattle.eel_base.specs.Code.{IsText}
+use Rattle.eel_base.specs.CodeText.{Words, address_of, word_at}
 use Rattle.elf32_sparc.specs.Image.{image_of}
 use Rattle.elf32_sparc.specs.Mapping.{Mapping, mappings}
 use Rattle.notes.specs.Format.{NoteRange, NoteSegment, Notes}
@@ -17,10 +18,12 @@ use Rattle.v8_step.specs.Run.{run}
 use Rattle.v8_process.specs.Start.{start_of}
 use Rattle.cfg_walk.specs.Walk.{instr_at}
 use Rattle.elf32_write.specs.Headers.{AddedSegment}
-use Rattle.elf32_write.specs.Laws.{AreBytes, kept, mapping_added}
+use Rattle.elf32_write.specs.Laws.{AreBytes, mapping_added}
+use Rattle.elf32_write.specs.Kept.{kept}
 use Rattle.cfg_blocks.specs.Blocks.{holding_of}
 use Rattle.cfg_normal.specs.declared.Edge.{Edge}
-use Rattle.cfg_normal.specs.Graph.{Graph, IsEdgeIn}
+use Rattle.cfg_normal.specs.Graph.{Graph}
+use Rattle.cfg_normal.specs.Code.{IsEdgeIn}
 use Rattle.cfg_normal.specs.Numbers.{is_node}
 use Rattle.cfg_walk.proofs.Addresses.{word_at-address}
 use Rattle.cfg_walk.proofs.Lists.{Each, each, each-append, each-then}
@@ -34,7 +37,8 @@ use Rattle.image_code.proofs.Opened.{cased}
 use Rattle.image_code.specs.Parts.{codes_of}
 use Rattle.tool_kit.specs.Plans.{Plan}
 use Rattle.edit_core.specs.Taken.{CanEdit, bound_in}
-use Rattle.edit_core.specs.Cost.{IsEdited, IsWithinBound, StoresLittle, is_ld}
+use Rattle.edit_core.specs.Code.{IsEdited}
+use Rattle.edit_core.specs.Cost.{IsWithinBound, StoresLittle, is_ld}
 use Rattle.edit_core.specs.RunsAlike.{ForEachRun, edit_of}
 use Rattle.edit_core.specs.Faithful.{HasGraph, HasPages, IsInRoom, IsPlace, holds_cells, note_edges, note_of, word_mapped}
 use Rattle.edit_core.specs.Written.{CanDo, IsNewCode, IsEdit, EditsRunAlike, RunsOf, setting_of, added, cases_at, cells_at, cells_base, if_any, segment_size, text_of, graph_in, table_base, code_base, pieces_of, off_range, off_ranges, table_at, code_segment, page_segment, notes_on, edit_file}

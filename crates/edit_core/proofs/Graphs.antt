@@ -5,13 +5,16 @@ use Rattle.std.specs.List.{list_any, sum_by}
 use Rattle.std.proofs.lemmas.Bool.{cases_Bool, cond_both, eq-eqb, eqb-true, false_from_ne_true, false≢true, le-ltb, lt-ltb, or_cases, or_left, or_right}
 use Rattle.std.proofs.lemmas.List.{length-map}
 use Rattle.std.proofs.lemmas.List.Sums.{sum_by-cons}
-use Rattle.eel_base.specs.CodeText.{Words, IsText}
+use Rattle.eel_base.specs.CodeText.{Words}
+use Rattle.eel_base.specs.Code.{IsText}
 use Rattle.elf32_sparc.specs.Image.{image_of}
-use Rattle.cfg_blocks.specs.Blocks.{AreFirsts, Blocks, blocks_of, holding_of, is_among, last_word}
+use Rattle.cfg_blocks.specs.Code.{AreFirsts}
+use Rattle.cfg_blocks.specs.Blocks.{Blocks, blocks_of, holding_of, is_among, last_word}
 use Rattle.cfg_blocks.specs.Entries.{entered_of}
 use Rattle.cfg_normal.specs.declared.Node.{Node}
 use Rattle.cfg_normal.specs.declared.Node.TheVariants.{Block, Landed, X}
-use Rattle.cfg_normal.specs.Graph.{Graph, IsEdgeIn, IsGraph, IsNodeIn, edges_in}
+use Rattle.cfg_normal.specs.Graph.{Graph, edges_in}
+use Rattle.cfg_normal.specs.Code.{IsEdgeIn, IsGraph, IsNodeIn}
 use Rattle.cfg_normal.specs.Numbers.{is_node, node_number}
 use Rattle.cfg_normal.specs.Opens.{Open, compares_in, is_copied, jumps_in}
 use Rattle.cfg_normal.proofs.GraphFacts.{is_graph}

@@ -1,14 +1,16 @@
 -- The induction over the steps of the original.
 use Rattle.std.proofs.Common.{◌≡◌, ◌≢◌, ℕ, zero, suc, ◌+◌, ◌-◌, ◌<◌, ◌≤◌, ◌⊎◌, inl, inr, Option, Some, None, List, ◌++◌, append-nil, refl, ap, sym, ◌∙◌, subst, arith}
 use Rattle.eel_base.specs.CodeText.{word_at}
-use Rattle.notes.specs.Format.{node_at}
+use Rattle.notes.specs.Format.{node_at, NoteRange, range_at}
 use Rattle.v8_memory.specs.Regions.{Memory, Region, fetch_of}
-use Rattle.v8_memory.specs.Spans.{Span, AllApart, IsSameOutside, IsSameRegion}
+use Rattle.v8_memory.specs.Spans.{Span, AllApart}
+use Rattle.v8_memory.specs.Code.{IsSameOutside, IsSameRegion}
 use Rattle.v8_step.specs.declared.Ending.{Ending}
 use Rattle.v8_step.specs.State.{State, sum_of}
 use Rattle.v8_step.specs.Step.{step_of, puts_of, on_word, puts_on_word}
 use Rattle.v8_step.specs.Run.{run, run_puts}
-use Rattle.v8_step.specs.Items.{AreSameAt, IsAmong, StateItem, Register, IsItem, IsSameAt}
+use Rattle.v8_step.specs.Code.{AreSameAt}
+use Rattle.v8_step.specs.Items.{IsAmong, StateItem, Register, IsItem, IsSameAt}
 use Rattle.two_runs.proofs.Reading.{same_sum}
 use Rattle.v8_windows.specs.Registers.{place_of}
 use Rattle.v8_windows.proofs.Places.{place_of-below, place_of-some}
@@ -37,10 +39,23 @@ use Rattle.image_code.specs.Simulates.{CaseTable, IsAtWord, IsChosen, IsNoLoad, 
 use Rattle.image_code.specs.Store.{cells_in, store_of, updates}
 use Rattle.jump_code.specs.PageWords.{kept_address}
 use Rattle.edit_core.specs.RunsAlike.{EndsAtNode, TellsStep}
-use Rattle.edit_core.specs.Runs.{KeepsLoaded, AreTogether, Closed, Follows, Linked, Rests, Spares, StaysInside, Tells, instr_in, limits_in}
+use Rattle.edit_core.specs.Runs.{KeepsLoaded, AreTogether, Linked, Rests, Spares, instr_in, limits_in}
 use Rattle.two_runs.proofs.Stays.{ended_stays, step_stays}
-use Rattle.edit_core.proofs.Stops.{gone_none, same_node, same_store}
+use Rattle.edit_core.proofs.Stops.{gone_none, same_node, same_store, Follows, Tells}
 use Rattle.edit_core.proofs.Places.{node_of_place, placed_between, there_node, visited_address}
+
+-- both are over; the written file's pc is then in a place of the node where the original's walk ended, and of the last
+-- instruction, or outside the pages
+pub record Closed (g : Setting) (entry : ℕ) (s0 t0 : State) (n m : ℕ) (d : Ending) : Type 0 where
+  pub first : (run s0 n).ending ≡ Some d
+  pub second : (run t0 m).ending ≡ Some d
+  pub node : node_at g.notes (run t0 m).pc ≡ Some (number_in g (end_of_walk g.text (graph_in g) entry s0 n))
+  pub address : (r : NoteRange) → range_at g.notes (run t0 m).pc ≡ Some r → r.address ≡ (run s0 n).pc
+  pub together : AreTogether g entry s0 t0 n m
+
+-- the first states of the original, up to the n-th, stand at points to which the pieces lead, while it runs
+abbrev pub StaysInside : (Point → Type 0) → State → ℕ → Type 0
+StaysInside Inside s0 n = (k : ℕ) → k ≤ n → (run s0 k).ending ≡ None → Inside (point_of (run s0 k))
 
 -- ---- small things
 

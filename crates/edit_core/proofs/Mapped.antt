@@ -11,8 +11,7 @@ use Rattle.elf32_sparc.specs.declared.header.ProgramHeader.{ProgramHeader}
 use Rattle.elf32_sparc.specs.Header.{program_headers, loadable}
 use Rattle.elf32_sparc.specs.Mapping.{Mapping, mapping_of, mappings}
 use Rattle.elf32_sparc.specs.Image.{image_of, segment_of, segment_end}
-use Rattle.elf32_write.specs.Bytes.{words_bytes}
-use Rattle.elf32_write.specs.Laws.{kept}
+use Rattle.elf32_write.specs.Kept.{words_bytes, kept}
 use Rattle.edit_core.specs.Faithful.{word_mapped}
 use Rattle.edit_core.specs.Written.{if_any}
 use Rattle.edit_core.proofs.Fronts.{passed, past_any}

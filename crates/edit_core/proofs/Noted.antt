@@ -7,19 +7,21 @@ use Rattle.std.proofs.lemmas.Bool.{and_from, eq-eqb, le-leb, lt-ltb, ne_eqb, or_
 use Rattle.byteorder.specs.Endian.{big_bytes}
 use Rattle.byteorder.specs.Numbers.{length-bytes_high_first}
 use Rattle.elf32_write.proofs.WordsBytes.{length-flat_map}
-use Rattle.eel_base.specs.CodeText.{Words, IsText, address_of}
+use Rattle.eel_base.specs.CodeText.{Words, address_of}
+use Rattle.eel_base.specs.Code.{IsText}
 use Rattle.notes.specs.Format.{Notes, NoteRange, NoteSegment, follows, holds, is_version}
 use Rattle.notes.specs.Rules.{AreNotes, are_segments, are_blocks, are_edges, are_ranges, is_edge, is_free}
 use Rattle.notes.specs.Laws.{AreWords}
 use Rattle.notes.specs.Written.{words_bytes, notes_bytes, notes_words, segment_words, edge_words, range_words, cell_word}
 use Rattle.cfg_blocks.specs.declared.EdgeKind.{EdgeKind}
 use Rattle.cfg_blocks.specs.declared.EdgeKind.TheVariants as kinds
-use Rattle.cfg_blocks.specs.Blocks.{AreFirsts, IsAscending}
+use Rattle.cfg_blocks.specs.Code.{AreFirsts, IsAscending}
 use Rattle.cfg_normal.specs.declared.Edge.{Edge}
 use Rattle.cfg_normal.specs.declared.Node.{Node}
 use Rattle.cfg_normal.specs.declared.Node.TheVariants.{Block, Landed, X}
-use Rattle.cfg_normal.specs.Graph.{Graph, IsEdgeIn, IsNodeIn}
-use Rattle.cfg_normal.specs.Numbers.{node_number}
+use Rattle.cfg_normal.specs.Graph.{Graph}
+use Rattle.cfg_normal.specs.Code.{IsEdgeIn, IsNodeIn}
+use Rattle.cfg_normal.specs.Numbers.{node_number, kind_number}
 use Rattle.cfg_walk.proofs.Lists.{Each, each-append, each-then}
 use Rattle.layout.specs.Laid.{Ascend, Placement}
 use Rattle.snippets.specs.declared.snippet.Op.{Op}
@@ -29,7 +31,7 @@ use Rattle.snippets.specs.Ops.{cells_end}
 use Rattle.tool_kit.specs.declared.edge_ref.ToolKind.{ToolKind}
 use Rattle.tool_kit.specs.declared.edge_ref.ToolKind.TheVariants as tools
 use Rattle.tool_kit.specs.Plans.{AreCounters}
-use Rattle.edit_core.specs.Faithful.{cell_noted, editor_page, kind_number, note_edge, note_edges, page_size}
+use Rattle.edit_core.specs.Faithful.{cell_noted, editor_page, note_edge, note_edges, page_size}
 use Rattle.edit_core.specs.Written.{if_any, off_range, off_ranges, segments_noted, table_after}
 use Rattle.edit_core.proofs.Fronts.{any_length, any_past, each_any}
 use Rattle.edit_core.proofs.Eaches.{all_each, each_all, each_flat}

@@ -10,7 +10,8 @@ use Rattle.eel_base.specs.CodeText.{Words}
 use Rattle.notes.specs.Format.{NoteRange}
 use Rattle.cfg_blocks.specs.declared.EdgeKind.{EdgeKind}
 use Rattle.cfg_blocks.specs.declared.EdgeKind.TheVariants as kinds
-use Rattle.cfg_blocks.specs.Blocks.{AreFirsts, Blocks, below, end_of, last_word}
+use Rattle.cfg_blocks.specs.Code.{AreFirsts}
+use Rattle.cfg_blocks.specs.Blocks.{Blocks, below, end_of, last_word}
 use Rattle.cfg_blocks.specs.Entries.{ways_from}
 use Rattle.cfg_normal.specs.declared.Edge.{Edge}
 use Rattle.cfg_normal.specs.declared.Node.{Node}

@@ -1,7 +1,7 @@
 -- What a file that can be edited has.
 use Rattle.std.proofs.Common.{◌≡◌, ℕ, ◌+◌, ◌-◌, ◌*◌, ◌/◌, ◌^◌, ◌≤◌, min, List, map, Option, Some, None, refl, arith}
 use Rattle.std.specs.Option.{option_map_or}
-use Rattle.eel_base.specs.CodeText.{IsText}
+use Rattle.eel_base.specs.Code.{IsText}
 use Rattle.elf32_sparc.specs.declared.header.ProgramHeader.{ProgramHeader}
 use Rattle.elf32_sparc.specs.Header.{program_headers, loadable, text_header}
 use Rattle.elf32_sparc.specs.FileFault.{fault}

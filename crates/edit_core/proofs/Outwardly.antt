@@ -12,16 +12,17 @@ use Rattle.elf32_sparc.specs.Header.{loadable, program_headers}
 use Rattle.elf32_sparc.specs.Image.{image_of}
 use Rattle.elf32_sparc.specs.Mapping.{Mapping, mapping_of, mappings}
 use Rattle.elf32_sparc.proofs.Loadable.{loadable_file}
-use Rattle.elf32_write.specs.Laws.{kept}
+use Rattle.elf32_write.specs.Kept.{kept}
 use Rattle.v8_memory.specs.Segments.{region_of}
-use Rattle.v8_memory.specs.Spans.{Span, IsApart, IsApartFromAll, AllApart, are_apart, heap_span, is_apart, is_apart_from, span_of, span_of_mapping}
+use Rattle.v8_memory.specs.Spans.{Span, IsApart, IsApartFromAll, AllApart}
+use Rattle.v8_memory.specs.Code.{are_apart, heap_span, is_apart, is_apart_from, span_of, span_of_mapping}
 use Rattle.v8_step.specs.declared.Ending.{Ending}
 use Rattle.v8_step.specs.declared.Ending.TheVariants.{Exit}
-use Rattle.v8_step.specs.State.{State}
+use Rattle.v8_step.specs.State.{State, AreBytes}
 use Rattle.v8_step.specs.Run.{run, run_puts}
-use Rattle.v8_step.specs.Valid.{AreBytes}
 use Rattle.v8_step.proofs.Live.{puts_nothing, stays_ended}
-use Rattle.two_runs.specs.Refused.{HasBuffers, IsGranted, IsUnmapped, is_refusal}
+use Rattle.two_runs.specs.Refused.{HasBuffers, IsGranted, is_refusal}
+use Rattle.two_runs.specs.Code.{IsUnmapped}
 use Rattle.two_runs.specs.TwoRuns.{Answers}
 use Rattle.two_runs.specs.Visits.{if_live, in_pages, page_of, pages_of, own_trail, trail_of, visit_of, visited}
 use Rattle.two_runs.proofs.Unmapped.{granted_is_untouched, unmapped_is_untouched}
@@ -30,7 +31,8 @@ use Rattle.v8_process.specs.Start.{program_name, stack_region, start_memory, sta
 use Rattle.v8_process.proofs.Loading.{mapped_apart}
 use Rattle.tool_kit.specs.Plans.{Plan}
 use Rattle.edit_core.specs.Faithful.{HasPages, IsFaithful, note_of}
-use Rattle.edit_core.specs.Outwardly.{EditsAreUntouched, EditsCrashAlike, EditsDoTheSame, GrantedRunsAreAlike, LooksAs, RunsLike}
+use Rattle.edit_core.specs.Code.{EditsAreUntouched, EditsCrashAlike, EditsDoTheSame, GrantedRunsAreAlike}
+use Rattle.edit_core.specs.Outwardly.{LooksAs, RunsLike}
 use Rattle.edit_core.specs.RunsAlike.{AreRunsAlike, edit_of}
 use Rattle.edit_core.proofs.Trails.{ending, few_visits, from_on, going, over_or_not, own_live, stays}
 

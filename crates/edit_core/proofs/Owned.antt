@@ -11,7 +11,8 @@ use Rattle.eel_base.specs.CodeText.{Words}
 use Rattle.elf32_sparc.specs.Mapping.{Mapping, mappings}
 use Rattle.elf32_sparc.proofs.Images.{accepted-program}
 use Rattle.elf32_write.specs.Headers.{AddedSegment}
-use Rattle.elf32_write.specs.Laws.{kept, mapping_added}
+use Rattle.elf32_write.specs.Kept.{kept}
+use Rattle.elf32_write.specs.Laws.{mapping_added}
 use Rattle.v8_memory.specs.Regions.{Memory, Region, covers, region_at}
 use Rattle.v8_memory.specs.Segments.{empty_heap, heap_room, heap_start, region_of}
 use Rattle.v8_memory.specs.Spans.{IsApart, IsApartFromAll, Span}

@@ -4,7 +4,8 @@ use Rattle.std.specs.Prelude.{slice_get}
 use Rattle.std.specs.List.{flat_map, list_any}
 use Rattle.std.proofs.lemmas.Bool.{and_from, le-leb, le-ltb, lt-ltb, eq-eqb}
 use Rattle.std.proofs.lemmas.Option.{slice_get_within}
-use Rattle.eel_base.specs.CodeText.{Words, IsText}
+use Rattle.eel_base.specs.CodeText.{Words}
+use Rattle.eel_base.specs.Code.{IsText}
 use Rattle.eel_base.specs.declared.numbers.Addr.{Addr}
 use Rattle.notes.specs.Format.{NoteSegment, NoteRange, holds}
 use Rattle.notes.specs.Rules.{are_ranges}
@@ -16,7 +17,7 @@ use Rattle.layout.specs.declared.items.Item.{Item}
 use Rattle.layout.specs.declared.items.Item.TheVariants as it
 use Rattle.layout.specs.Laid.{Ascend, IsLaid, IsRangeOf, Placement, Stands, BranchStands, branch_short, branch_long, item_at, item_in, items_in, range_in, range_of, open_in, end_from}
 use Rattle.jump_code.specs.Pieces.{foreign_piece}
-use Rattle.image_code.specs.Imaged.{TakesWords}
+use Rattle.image_code.proofs.HeadShapes.{TakesWords}
 use Rattle.image_code.specs.Made.{cases_from, images_in_order, landing, open_pieces, piece_list, ways_from}
 use Rattle.image_code.specs.Numbered.{own_edges}
 use Rattle.image_code.specs.Graphs.{IsGraphOf}
@@ -149,6 +150,9 @@ module _ (text : Words) (graph : Graph) (table cases : ℕ) (codes : ℕ → Lis
         node = m.visit.inside;
       }
     where
+      some_same : {a b : NoteRange} → Some a ≡ Some b → a ≡ b
+      some_same e = cc
+
       opens : (xs : List Item) → IsMark graph address r.node xs
           → range_of (place k) (open_in (Some (it.Mark address r.node ∷ xs)) 1)
           ≡ Some (record { lo = place k 1; hi = place k (end_from xs 1); address = address.0; node = r.node })

@@ -1,6 +1,7 @@
 -- How many bytes the tables have at most.
 use Rattle.std.proofs.Common.{ℕ, ◌+◌, ◌*◌, ◌^◌, ◌≤◌, length, arith}
-use Rattle.eel_base.specs.CodeText.{Words, IsText}
+use Rattle.eel_base.specs.CodeText.{Words}
+use Rattle.eel_base.specs.Code.{IsText}
 use Rattle.addr_translate.specs.Halves.{halves_size}
 use Rattle.edit_core.specs.Written.{cells_size, tables_size}
 

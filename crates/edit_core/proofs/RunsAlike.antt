@@ -11,16 +11,16 @@ use Rattle.std.proofs.lemmas.List.FromFn.{get_or-map-range_with_len, length-map-
 use Rattle.std.proofs.lemmas.Simd.{map-map}
 use Rattle.notes.specs.Format.{NoteRange, NoteSegment, Notes, holds, range_at}
 use Rattle.elf32_sparc.specs.Image.{image_of}
-use Rattle.eel_base.specs.CodeText.{IsText, Words, word_at}
+use Rattle.eel_base.specs.Code.{IsText}
+use Rattle.eel_base.specs.CodeText.{Words, word_at}
 use Rattle.eel_base.specs.declared.numbers.Addr.{Addr}
 use Rattle.v8_decode.specs.declared.Part.{Part}
 use Rattle.v8_decode.specs.Parts.{every_part, has, is_member, members, set_of}
 use Rattle.v8_decode.proofs.Marks.{same_sets}
-use Rattle.v8_step.specs.State.{State}
+use Rattle.v8_step.specs.State.{State, AreBytes}
 use Rattle.v8_step.specs.declared.Slot.TheVariants.{NoSlot}
 use Rattle.v8_step.specs.Items.{IsSameAt, StateItem, Register}
 use Rattle.two_runs.specs.Needed.{IsUntouched}
-use Rattle.v8_step.specs.Valid.{AreBytes}
 use Rattle.two_runs.specs.Visits.{in_pages, pages_of}
 use Rattle.v8_process.specs.Arguments.{AreArguments}
 use Rattle.v8_process.specs.Start.{program_name, start_of}
@@ -32,7 +32,8 @@ use Rattle.cfg_normal.specs.declared.Node.{Node}
 use Rattle.cfg_normal.specs.declared.Node.TheVariants.{Block}
 use Rattle.cfg_normal.specs.Graph.{Graph, node_of}
 use Rattle.cfg_walk.specs.Matches.{AreOpen, BeginsAt, FetchesOnly, JumpsGoByCase}
-use Rattle.cfg_walk.specs.Walk.{Point, end_of_walk, point_of, same_kind}
+use Rattle.cfg_walk.specs.Walk.{Point, end_of_walk, point_of}
+use Rattle.cfg_normal.specs.Nodes.{same_kind}
 use Rattle.liveness.specs.Live.{edge_at, is_call_or_jump, is_outside, is_unknown, named_on}
 use Rattle.cfg_blocks.specs.Entries.{entered_of}
 use Rattle.cfg_view.specs.View.{view_of}
@@ -52,7 +53,8 @@ use Rattle.image_code.specs.Fit.{PiecesFit}
 use Rattle.image_code.specs.Simulates.{CaseTable, IsNoLoad, Setting, Simulates, edit_in}
 use Rattle.image_code.specs.Cost.{is_out}
 use Rattle.image_code.specs.Store.{Edit, snippet_on}
-use Rattle.image_code.specs.Images.{AreNoted, Frame, HasCells, Here, IsPlaced, Pieces, visited_by}
+use Rattle.image_code.specs.Images.{AreNoted, Frame, HasCells, Here, IsPlaced, Pieces}
+use Rattle.image_code.proofs.Points.{visited_by}
 use Rattle.image_code.specs.Parts.{codes_of}
 use Rattle.image_code.specs.Made.{IsOffNoted, IsTableFor, PiecesMakeImages, lands_at, piece_list, pieces_in}
 use Rattle.image_code.specs.Outside.{IsOpen}

@@ -3,7 +3,8 @@ use Rattle.std.proofs.Common.{◌≡◌, ℕ, zero, suc, ◌+◌, ◌%◌, ◌^�
 use Rattle.std.specs.Prelude.{nat_lt, slice_get, slice_index}
 use Rattle.std.specs.List.{flat_map, range_with_len}
 use Rattle.std.proofs.lemmas.Bool.{cond_both}
-use Rattle.eel_base.specs.CodeText.{Words, IsText, address_of}
+use Rattle.eel_base.specs.CodeText.{Words, address_of}
+use Rattle.eel_base.specs.Code.{IsText}
 use Rattle.eel_base.specs.declared.numbers.Addr.{Addr}
 use Rattle.eel_base.specs.declared.numbers.PieceNo.{PieceNo}
 use Rattle.v8_decode.specs.declared.Op2.{Op2}
@@ -21,10 +22,11 @@ use Rattle.cfg_normal.specs.declared.Node.{Node}
 use Rattle.cfg_normal.specs.declared.Node.TheVariants.{Block, X}
 use Rattle.cfg_normal.specs.declared.Slot.{Slot}
 use Rattle.cfg_normal.specs.declared.Slot.TheVariants as slots
-use Rattle.cfg_normal.specs.Graph.{Graph, IsEdgeIn, IsNodeIn, lands}
-use Rattle.cfg_normal.specs.Nodes.{same_node}
+use Rattle.cfg_normal.specs.Graph.{Graph, lands}
+use Rattle.cfg_normal.specs.Code.{IsEdgeIn, IsNodeIn}
+use Rattle.cfg_normal.specs.Nodes.{same_node, same_kind}
 use Rattle.cfg_normal.specs.Opens.{Open, is_copied, jumps_in}
-use Rattle.cfg_walk.specs.Walk.{edge_along, landing_at, left_by, same_kind}
+use Rattle.cfg_walk.specs.Walk.{edge_along, landing_at, left_by}
 use Rattle.cfg_walk.specs.Matches.{way_address}
 use Rattle.cfg_normal.specs.Numbers.{node_number}
 use Rattle.cfg_walk.proofs.Lists.{Each, each, each_at, each-append, each-below, each-map}
@@ -44,7 +46,7 @@ use Rattle.layout.specs.declared.items.Item.TheVariants as it
 use Rattle.layout.specs.Laid.{end_from, is_end}
 use Rattle.image_code.specs.Cases.{branch_piece, plain_piece}
 use Rattle.image_code.specs.Couple.{couple_piece}
-use Rattle.image_code.specs.Imaged.{TakesWords}
+use Rattle.image_code.proofs.HeadShapes.{TakesWords}
 use Rattle.image_code.specs.Graphs.{IsGraphOf}
 use Rattle.image_code.specs.Loads.{load_of}
 use Rattle.image_code.specs.Made.{case_at, case_by, cases_from, choice_of, distance_of, first_word, goes_along, goes_on, image, image_by, images_of, is_slots, jump_by, jump_image_by, jump_to, jumps_at, keep_by, landing, next_at, open_pieces, piece_list, rest_after, way_along, way_by, way_out, ways_from}

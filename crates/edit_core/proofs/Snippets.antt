@@ -8,10 +8,12 @@ use Rattle.snippets.specs.declared.snippet.Op.{Op}
 use Rattle.snippets.specs.declared.snippet.Op.TheVariants.{Add, Put, Keep, Top, Count, Log}
 use Rattle.snippets.specs.Cells.{WorksBelow, WorksIn, named_by}
 use Rattle.snippets.specs.Ops.{cell_of, cells_end}
-use Rattle.snippet_code.specs.Cells.{IsCellOf, cell_at}
+use Rattle.snippet_code.specs.Code.{IsCellOf}
+use Rattle.snippet_code.specs.Cells.{cell_at}
 use Rattle.snippet_code.specs.Laws.{CanExpand, EndLow, HasBits}
 use Rattle.snippet_code.specs.Runs.{DoesJust}
-use Rattle.snippet_code.specs.Words.{snippet_words, spills_of}
+use Rattle.snippet_code.specs.Words.{snippet_words}
+use Rattle.snippet_code.specs.Spills.{spills_of}
 use Rattle.snippet_code.proofs.Lengths.{costs_hold}
 use Rattle.snippet_code.proofs.WholeCode.{snippet_code_runs}
 use Rattle.image_code.specs.Fit.{AreShort}

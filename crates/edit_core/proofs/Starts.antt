@@ -7,10 +7,12 @@ use Rattle.elf32_sparc.specs.FileFault.{has_bytes_outside}
 use Rattle.elf32_sparc.specs.Mapping.{Mapping, mappings}
 use Rattle.elf32_sparc.proofs.Accepted.{accepted}
 use Rattle.elf32_sparc.proofs.Loadable.{loads_inside}
-use Rattle.elf32_write.specs.Headers.{not_executable}
-use Rattle.elf32_write.specs.Laws.{is_code, kept, mapping_added}
-use Rattle.v8_memory.specs.Spans.{IsSameOutside, Span}
-use Rattle.v8_step.specs.Valid.{AreBytes, IsValid}
+use Rattle.elf32_write.specs.Kept.{not_executable, is_code, kept}
+use Rattle.elf32_write.specs.Laws.{mapping_added}
+use Rattle.v8_memory.specs.Code.{IsSameOutside}
+use Rattle.v8_memory.specs.Spans.{Span}
+use Rattle.v8_step.specs.State.{AreBytes}
+use Rattle.v8_step.specs.Valid.{IsValid}
 use Rattle.two_runs.specs.Visits.{pages_of}
 use Rattle.v8_process.specs.Alike.{AreSameMappings, IsSameMapping, span_of}
 use Rattle.v8_process.specs.Arguments.{AreArguments}

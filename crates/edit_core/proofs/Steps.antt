@@ -2,7 +2,8 @@
 use Rattle.std.proofs.Common.{◌≡◌, ℕ, ◌+◌, ◌-◌, ◌*◌, ◌^◌, ◌<◌, ◌≤◌, min, List, [], ◌∷◌, ◌++◌, length, Err, refl, arith, All}
 use Rattle.std.specs.Prelude.{slice_index}
 use Rattle.std.proofs.lemmas.List.{length-map}
-use Rattle.eel_base.specs.CodeText.{IsText, Words}
+use Rattle.eel_base.specs.Code.{IsText}
+use Rattle.eel_base.specs.CodeText.{Words}
 use Rattle.elf32_sparc.specs.Image.{Program, image_of}
 use Rattle.elf32_sparc.proofs.Images.{accepted-program}
 use Rattle.v8_decode.specs.declared.Part.{Part}
@@ -24,7 +25,8 @@ use Rattle.snippets.specs.declared.snippet.Op.{Op}
 use Rattle.tool_kit.specs.Plans.{Plan}
 use Rattle.edit_core.specs.declared.taking.Request.{Request}
 use Rattle.edit_core.specs.Taken.{CanEdit}
-use Rattle.edit_core.specs.Written.{added, cells_at, code_at, if_any, page_segment, table_at, CanDo, HasRoom, IsBuilt, IsNewCode, IsViewOf, LeadsTo, cases_at, cells_base, cells_size, entry_number, entry_of, graph_in, pieces_by, pieces_of, placement_in, plan_of, segment_size, table_after, table_base, tables_size, text_of}
+use Rattle.edit_core.specs.Written.{added, cells_at, code_at, if_any, page_segment, table_at, CanDo, IsNewCode, LeadsTo, cases_at, cells_base, cells_size, entry_number, entry_of, graph_in, pieces_by, pieces_of, segment_size, table_after, table_base, tables_size, text_of}
+use Rattle.edit_core.specs.Private.{HasRoom, IsBuilt, IsViewOf, placement_in, plan_of}
 use Rattle.edit_core.proofs.Bounds.{operations_few}
 use Rattle.edit_core.proofs.Graphs.{entries_few, graph_cut, graph_is}
 use Rattle.edit_core.proofs.Room.{room_with_cases, small_tables}

@@ -8,7 +8,7 @@ use Rattle.std.proofs.lemmas.Option.{get_or_from_slice_get, slice_get_within}
 use Rattle.std.proofs.Math.Seq.{drop-append_seam, take-append_seam}
 use Rattle.eel_base.specs.CodeText.{Words}
 use Rattle.eel_base.specs.declared.numbers.Addr.{Addr}
-use Rattle.elf32_write.specs.Bytes.{words_bytes}
+use Rattle.elf32_write.specs.Kept.{words_bytes}
 use Rattle.elf32_write.proofs.WordsBytes.{length-words_bytes}
 use Rattle.cfg_normal.specs.Graph.{Graph}
 use Rattle.addr_translate.specs.Lookup.{TableAt, table_word}

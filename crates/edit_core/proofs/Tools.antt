@@ -5,8 +5,10 @@ use Rattle.cfg_view.specs.View.{Seen, view_of}
 use Rattle.snippets.specs.declared.snippet.Op.{Op}
 use Rattle.tool_kit.specs.declared.edge_ref.EdgeRef.{EdgeRef}
 use Rattle.tool_kit.specs.Kept.{Kept}
-use Rattle.tool_kit.specs.Plans.{IsPlanOf, Plan}
-use Rattle.edit_core.specs.Faithful.{AreCounted, AsksOf, CountsEdges}
+use Rattle.tool_kit.specs.Code.{IsPlanOf}
+use Rattle.tool_kit.specs.Plans.{Plan}
+use Rattle.edit_core.specs.Faithful.{AreCounted}
+use Rattle.edit_core.specs.Code.{AsksOf, CountsEdges}
 
 module _ {F : Type 0} (says : F → EdgeRef → List Op → Type 0) (tool : Kept F) (bytes : List ℕ) (view : Seen)
     (is : view ≡ view_of bytes (numbers tool.marks)) (plan : Plan) where

@@ -7,7 +7,8 @@ use Rattle.cfg_normal.specs.Graph.{Graph}
 use Rattle.cfg_view.specs.View.{Seen, view_of}
 use Rattle.tool_kit.specs.Plans.{Plan}
 use Rattle.edit_core.specs.Taken.{CanEdit, bound_in, bound_of}
-use Rattle.edit_core.specs.Written.{CanDo, IsViewOf, IsWorkable, graph_in}
+use Rattle.edit_core.specs.Written.{CanDo, IsWorkable, graph_in}
+use Rattle.edit_core.specs.Private.{IsViewOf}
 
 pub view_image : (file marks : List ℕ) → (view_of file marks).image ≡ image_of file
 unfolding view_of

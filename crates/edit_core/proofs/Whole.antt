@@ -5,10 +5,10 @@ use Rattle.two_runs.proofs.Follows.{runs_follow}
 use Rattle.image_code.specs.Images.{Here}
 use Rattle.image_code.specs.Outside.{IsOpen}
 use Rattle.layout.specs.Laid.{HasShortForms}
-use Rattle.edit_core.specs.Runs.{Follows, limits_in}
+use Rattle.edit_core.specs.Runs.{limits_in}
 use Rattle.edit_core.specs.Whole.{EditsAnswer, KeptIn}
 use Rattle.edit_core.proofs.Induction.{follows}
-use Rattle.edit_core.proofs.Stops.{stop_is}
+use Rattle.edit_core.proofs.Stops.{stop_is, Follows}
 
 -- there is one first moment
 one_least : (P : ℕ → Type 0) (m k : ℕ) → IsLeast P m → IsLeast P k → m ≡ k

@@ -18,7 +18,6 @@ use Rattle.image_code.specs.Cost.{IsSparing, IsWatched, limit_on}
 use Rattle.image_code.specs.Store.{Edit}
 use Rattle.tool_kit.specs.Plans.{Plan}
 use Rattle.edit_core.specs.Dead.{AreDead}
-use Rattle.edit_core.specs.Faithful.{IsFaithful}
 use Rattle.edit_core.specs.RunsAlike.{ForEachRun, edit_of}
 use Rattle.edit_core.specs.Taken.{bound_in}
 
@@ -73,10 +72,3 @@ pub record HasBoundedCost (original : List ℕ) (plan : Plan) (file : List ℕ) 
   pub stores : ForEachRun original file
       (StoresLittle (edit_of original plan notes) dead (λ s. is_ld (instr_at (image_of original).text s.pc) ≡ false)
       (bound_in original plan) (image_of original).entry)
-
--- ---- an edit as this version makes it
-
-pub record IsEdited (original : List ℕ) (plan : Plan) (file : List ℕ) : Type 0 where
-  pub faithful : IsFaithful original plan file
-  pub version : faithful.notes.version ≡ 2
-  pub cost : HasBoundedCost original plan file faithful.notes

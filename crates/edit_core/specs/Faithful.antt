@@ -9,23 +9,19 @@ use Rattle.elf32_sparc.specs.Header.{has_flag}
 use Rattle.elf32_sparc.specs.Mapping.{Mapping, mappings}
 use Rattle.elf32_sparc.specs.Image.{image_of}
 use Rattle.notes.specs.Format.{Notes, NoteEdge, NoteSegment, NoteRange, notes_of}
-use Rattle.elf32_write.specs.Laws.{kept}
 use Rattle.v8_decode.specs.Words.{decode_of}
 use Rattle.v8_step.specs.Items.{is_transfer}
 use Rattle.cfg_blocks.specs.Blocks.{holding_of}
-use Rattle.cfg_blocks.specs.Marks.{numbers}
 use Rattle.cfg_normal.specs.declared.Edge.{Edge}
 use Rattle.cfg_normal.specs.Graph.{Graph}
 use Rattle.cfg_view.specs.View.{view_of}
-pub use Rattle.cfg_normal.specs.Numbers.{kind_number}
-use Rattle.cfg_normal.specs.Numbers.{is_node, node_number}
+use Rattle.cfg_normal.specs.Numbers.{is_node, node_number, kind_number}
 use Rattle.snippets.specs.declared.snippet.Op.{Op}
 use Rattle.snippets.specs.Ops.{cell_of}
 use Rattle.tool_kit.specs.declared.edge_ref.ToolKind.{ToolKind}
 use Rattle.tool_kit.specs.declared.edge_ref.ToolKind.TheVariants as tools
-use Rattle.tool_kit.specs.declared.edge_ref.EdgeRef.{EdgeRef}
-use Rattle.tool_kit.specs.Kept.{Kept}
-use Rattle.tool_kit.specs.Plans.{AreCounters, IsPlanOf, Plan}
+use Rattle.tool_kit.specs.Plans.{AreCounters, Plan}
+use Rattle.elf32_write.specs.Kept.{kept}
 use Rattle.edit_core.specs.RunsAlike.{HaveRunsAlike}
 
 -- Whole: the written file can be run, its notes read, and it holds the original whole at their delta.
@@ -139,14 +135,3 @@ pub record IsFaithful (original : List ℕ) (plan : Plan) (file : List ℕ) : Ty
   pub places : All (IsPlace original file) notes.ranges
   pub runs : HaveRunsAlike original plan file notes
   pub counters : AreCounted notes.version plan
-
--- ---- by a tool: `says` tells what its callback may answer
-
-module _ {F : Type 0} (says : F → EdgeRef → List Op → Type 0) (tool : Kept F) (original : List ℕ) where
-  -- what the tool asks of the original's graph
-  abbrev pub AsksOf : Plan → Type 0
-  AsksOf plan = IsPlanOf says tool (view_of original (numbers tool.marks)).graph.edges plan
-
-  -- a profile asks for counters of 64 bits
-  abbrev pub CountsEdges : Type 0
-  CountsEdges = (plan : Plan) → AsksOf plan → AreCounted 2 plan

@@ -7,3 +7,5 @@ pub mod Faithful
 pub mod Cost
 pub mod Written
 pub mod Outwardly
+pub mod Code
+pub mod Private

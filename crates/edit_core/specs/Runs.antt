@@ -1,9 +1,9 @@
 -- What a run of a written file rests on, and what follows for it as a whole.
-use Rattle.std.specs.Prelude.{◌≡◌, ◌≢◌, ℕ, zero, suc, ◌+◌, ◌-◌, ◌<◌, ◌≤◌, ◌⊎◌, List, Option, Some, None, slice_get, slice_index}
-use Rattle.eel_base.specs.CodeText.{IsText, address_of}
-use Rattle.notes.specs.Format.{NoteRange, node_at, range_at}
+use Rattle.std.specs.Prelude.{◌≡◌, ℕ, zero, suc, ◌+◌, ◌-◌, ◌<◌, ◌≤◌, ◌⊎◌, List, Option, Some, None, slice_get, slice_index}
+use Rattle.eel_base.specs.CodeText.{address_of}
+use Rattle.eel_base.specs.Code.{IsText}
+use Rattle.notes.specs.Format.{node_at}
 use Rattle.v8_decode.specs.declared.Instr.{Instr}
-use Rattle.v8_step.specs.declared.Ending.{Ending}
 use Rattle.v8_step.specs.State.{State, sum_of}
 use Rattle.v8_step.specs.Run.{run, run_puts}
 use Rattle.v8_step.specs.Items.{StateItem, IsItem, IsSameAt}
@@ -11,15 +11,13 @@ use Rattle.two_runs.specs.Alike.{IsSameWorld}
 use Rattle.two_runs.specs.Needed.{ReadsIn, WritesIn, IsNeeded}
 use Rattle.v8_step.specs.Valid.{IsValid}
 use Rattle.two_runs.specs.Visits.{visit_of, pages_of}
-use Rattle.two_runs.specs.Follows.{IsFollowed}
 use Rattle.cfg_normal.specs.declared.Node.{Node}
 use Rattle.code_runs.specs.PointsAlike.{instr_of}
 use Rattle.cfg_walk.specs.Walk.{Point, point_of, end_of_walk, gone_in}
 use Rattle.cfg_blocks.specs.Blocks.{blocks_of}
 use Rattle.cfg_walk.specs.Matches.{AreOpen, BeginsAt, FetchesOnly, JumpsGoByCase}
-use Rattle.edit_core.specs.RunsAlike.{EndsAtNode, TellsStep}
 use Rattle.image_code.specs.Keeping.{AreCaseTables}
-use Rattle.image_code.specs.Simulates.{CaseTable, IsAtWord, IsNoLoad, IsKept, Setting, Simulates, edit_in, graph_in, number_in, word_of}
+use Rattle.image_code.specs.Simulates.{CaseTable, IsAtWord, IsNoLoad, IsKept, Setting, Simulates, edit_in, graph_in, word_of}
 use Rattle.image_code.specs.Cost.{IsSparing, IsWatched, limit_on}
 use Rattle.image_code.specs.Store.{cells_in, store_of, updates}
 use Rattle.jump_code.specs.PageWords.{kept_address}
@@ -97,15 +95,6 @@ pub record Linked (g : Setting) (entry : ℕ) (Here : Node → Point → State �
   pub kept : KeepsLoaded g entry s0 n (run t0 m)
   pub together : AreTogether g entry s0 t0 n m
 
--- both are over; the written file's pc is then in a place of the node where the original's walk ended, and of the last
--- instruction, or outside the pages
-pub record Closed (g : Setting) (entry : ℕ) (s0 t0 : State) (n m : ℕ) (d : Ending) : Type 0 where
-  pub first : (run s0 n).ending ≡ Some d
-  pub second : (run t0 m).ending ≡ Some d
-  pub node : node_at g.notes (run t0 m).pc ≡ Some (number_in g (end_of_walk g.text (graph_in g) entry s0 n))
-  pub address : (r : NoteRange) → range_at g.notes (run t0 m).pc ≡ Some r → r.address ≡ (run s0 n).pc
-  pub together : AreTogether g entry s0 t0 n m
-
 -- What is proved of the files, the pieces and the items.
 pub record Rests (g : Setting) (entry : ℕ) (Inside : Point → Type 0)
     (Here : Node → Point → State → Type 0) (Short : Type 0) (K : ℕ → StateItem → Type 0) (s0 t0 : State) : Type 0 where
@@ -131,14 +120,6 @@ pub record Rests (g : Setting) (entry : ℕ) (Inside : Point → Type 0)
 abbrev pub limits_in : Setting → ℕ → State → ℕ → ℕ
 limits_in g entry s0 n = limit_on g.snips (gone_in g.text (graph_in g) entry s0 n)
 
--- the first states of the original, up to the n-th, stand at points to which the pieces lead, while it runs
-abbrev pub StaysInside : (Point → Type 0) → State → ℕ → Type 0
-StaysInside Inside s0 n = (k : ℕ) → k ≤ n → (run s0 k).ending ≡ None → Inside (point_of (run s0 k))
-
--- a stop at moment m tells of step n, where it is in a place or outside the pages
-abbrev pub Tells : Setting → ℕ → State → State → ℕ → ℕ → Type 0
-Tells g entry s0 t0 n m = node_at g.notes (run t0 m).pc ≢ None → TellsStep (edit_in g) entry s0 t0 m n
-
 -- What the written file stores and takes that answers step n, from one moment to another. `Short` says that no jump and
 -- no branch is long.
 abbrev pub Spares : Setting → ℕ → Type 0 → State → State → ℕ → ℕ → ℕ → Type 0
@@ -146,16 +127,3 @@ Spares g entry Short s0 t0 n m k =
     IsWatched (edit_in g) (gone_in g.text (graph_in g) entry s0 n) (point_of (run s0 n)) (run s0 (suc n))
     → IsSparing (edit_in g) g.dead (((run s0 n).ending ≡ None) × Short × IsNoLoad g (run s0 (suc n)))
     (gone_in g.text (graph_in g) entry s0 n) (point_of (run s0 n)) (run t0 m) (k - m)
-
--- what follows
-pub record Follows (g : Setting) (entry : ℕ) (Short : Type 0) (s0 t0 : State) (last : ℕ) : Type 0 where
-  pub moments : ℕ → ℕ
-  pub followed : IsFollowed g.notes s0 t0 64 (limits_in g entry s0) moments last
-  pub cells : (n : ℕ) → n ≤ last → cells_in g.notes (run t0 (moments n)) ≡ store_of (edit_in g) entry s0 n
-  pub spared : (n : ℕ) → n < last → Spares g entry Short s0 t0 n (moments n) (moments (suc n))
-  -- before the first visit in no place, at each visit and at the end as it tells, and between two as the first of them
-  pub early : (m : ℕ) → m < moments zero → node_at g.notes (run t0 m).pc ≡ None
-  pub told : (n : ℕ) → n ≤ last → Tells g entry s0 t0 n (moments n)
-  pub between : (n m : ℕ) → n < last → moments n ≤ m → m < moments (suc n) → Tells g entry s0 t0 n m
-  -- at the end in one
-  pub over : (n : ℕ) → n ≤ last → EndsAtNode (edit_in g) entry s0 t0 n (moments n)

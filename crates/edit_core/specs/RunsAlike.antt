@@ -2,11 +2,10 @@
 use Rattle.std.specs.Prelude.{◌≡◌, ◌≢◌, ℕ, suc, ◌-◌, ◌<◌, List, length, Some, None}
 use Rattle.elf32_sparc.specs.Image.{image_of}
 use Rattle.notes.specs.Format.{NoteRange, Notes, node_at, range_at}
-use Rattle.v8_step.specs.State.{State}
+use Rattle.v8_step.specs.State.{State, AreBytes}
 use Rattle.v8_step.specs.Run.{run}
 use Rattle.two_runs.specs.Needed.{IsUntouched}
 use Rattle.two_runs.specs.TwoRuns.{Answers, IsLeast}
-use Rattle.v8_step.specs.Valid.{AreBytes}
 use Rattle.two_runs.specs.Visits.{pages_of, trail_of}
 use Rattle.v8_process.specs.Arguments.{AreArguments}
 use Rattle.v8_process.specs.Start.{start_of}

@@ -1,21 +1,19 @@
 -- What is written of an original: cells, tables of addresses, new code and a page for the editor, as segments, and
 -- notes of them.
-use Rattle.std.specs.Prelude.{◌≡◌, ℕ, zero, suc, ◌+◌, ◌-◌, ◌*◌, ◌/◌, ◌%◌, ◌^◌, ◌<◌, ◌≤◌, Bool, true, false, List, [], ◌∷◌, ◌++◌, length, map, replicate, slice_index, take, drop, Some, None, Ok, All}
+use Rattle.std.specs.Prelude.{◌≡◌, ℕ, zero, suc, ◌+◌, ◌-◌, ◌*◌, ◌/◌, ◌^◌, ◌<◌, ◌≤◌, Bool, true, false, List, [], ◌∷◌, ◌++◌, length, map, replicate, slice_index, take, drop, Some, None, Ok, All}
 use Rattle.std.specs.List.{find}
 use Rattle.std.specs.Option.{option_map, option_to_list}
-use Rattle.eel_base.specs.CodeText.{IsText, Words, address_of}
+use Rattle.eel_base.specs.CodeText.{Words, address_of}
 use Rattle.eel_base.specs.declared.numbers.Addr.{Addr}
-use Rattle.eel_base.specs.declared.numbers.PieceNo.{PieceNo}
 use Rattle.elf32_sparc.specs.Header.{e_entry}
 use Rattle.elf32_sparc.specs.FileFault.{load_fault}
 use Rattle.elf32_sparc.specs.Mapping.{mappings}
-use Rattle.elf32_sparc.specs.Image.{Program, image_of}
+use Rattle.elf32_sparc.specs.Image.{image_of}
 use Rattle.notes.specs.Format.{Notes, NoteSegment, NoteRange, notes_of}
 use Rattle.v8_decode.specs.declared.Part.{Part}
 use Rattle.notes.specs.Written.{notes_bytes}
-use Rattle.elf32_write.specs.Bytes.{words_bytes}
 use Rattle.elf32_write.specs.Headers.{AddedSegment}
-use Rattle.elf32_write.specs.Laws.{kept, mapping_added, AreBytes}
+use Rattle.elf32_write.specs.Laws.{mapping_added, AreBytes}
 use Rattle.elf32_write.specs.Written.{delta_in, written}
 use Rattle.cfg_blocks.specs.Blocks.{below, blocks_of, holding_of}
 use Rattle.cfg_normal.specs.declared.Edge.{Edge}
@@ -29,10 +27,9 @@ use Rattle.addr_translate.specs.Lookup.{TableAt}
 use Rattle.addr_translate.specs.Halves.{IsHalvesOf, halves_size}
 use Rattle.addr_translate.specs.Table.{IsTableOf, size_of}
 use Rattle.layout.specs.declared.items.Item.{Item}
-use Rattle.layout.specs.declared.items.Placed.{Placed}
-use Rattle.layout.specs.Laid.{HasShortForms, IsLaid, Placement, long_bytes, placement_of}
+use Rattle.layout.specs.Laid.{HasShortForms, IsLaid, Placement, long_bytes}
 use Rattle.cfg_normal.specs.Opens.{Open}
-use Rattle.image_code.specs.Graphs.{IsGraphOf, case_table, opens_in}
+use Rattle.image_code.specs.Graphs.{case_table, opens_in}
 use Rattle.image_code.specs.Simulates.{IsNoLoad, Setting}
 use Rattle.image_code.specs.Made.{jumps_at, lands_at, piece_list}
 use Rattle.image_code.specs.Numbered.{case_numbers, enter_number, foreign_number}
@@ -42,9 +39,9 @@ use Rattle.tool_kit.specs.Good.{IsGood}
 use Rattle.tool_kit.specs.declared.edge_ref.ToolKind.{ToolKind}
 use Rattle.tool_kit.specs.declared.edge_ref.ToolKind.TheVariants as tools
 use Rattle.tool_kit.specs.Plans.{AreCounters, Plan}
+use Rattle.elf32_write.specs.Kept.{words_bytes, kept}
 use Rattle.edit_core.specs.Dead.{AreDead}
-use Rattle.edit_core.specs.Taken.{CanEdit, bound_by, bound_in}
-use Rattle.edit_core.specs.declared.taking.Request.{Request}
+use Rattle.edit_core.specs.Taken.{CanEdit, bound_in}
 use Rattle.edit_core.specs.Cost.{StoresLittle, TakesFewSteps, short_bound}
 use Rattle.edit_core.specs.RunsAlike.{ForEachRun, HaveRunsAlike, edit_of}
 use Rattle.edit_core.specs.Faithful.{editor_page, page_size, note_edges, tool_number}
@@ -181,20 +178,6 @@ abbrev pub pieces_by : Words → Graph → ℕ → ℕ → (ℕ → List Part) �
 pieces_by text graph base cells dead snips =
     let table = table_after base cells in
     piece_list text graph table (cases_at text table) (codes_of base dead snips)
-
--- Pieces were laid from an address on, in no more bytes than their long forms take. Where these are few, no form is long.
-pub record AreLaid (pieces : List (List Item)) (base : ℕ) (p : Placement) (place : ℕ → ℕ → ℕ) : Type 0 where
-  pub laid : IsLaid pieces base p place
-  pub size : 4 * length p.code ≤ long_bytes pieces
-  pub short : 4 * length p.code < short_bound → HasShortForms pieces place
-
--- what was laid, of an original by what is asked of it
-pub record IsBuilt (text : Words) (graph : Graph) (base cells : ℕ) (snips : List (List Op)) (p : Placement) : Type 0 where
-  pub dead : ℕ → List Part
-  pub exact : AreDead text graph (named_on snips) dead
-  pub place : ℕ → ℕ → ℕ
-  pub are : AreLaid (pieces_by text graph base cells dead snips) (table_after base cells + segment_size text graph) p
-      place
 
 -- ---- of an original, by what a tool asks of it
 
@@ -342,48 +325,3 @@ EditsRunAlike =
     (original : List ℕ) (plan : Plan) (p : Placement) (place : ℕ → ℕ → ℕ) (table : TableAt) (file : List ℕ)
     → (is : IsEdit original plan p place table file)
     → RunsOf original plan is.code.dead file (notes_on original plan p)
-
--- ---- as the program keeps it
-
--- the image and the graph of the original, as it was seen
-abbrev pub IsViewOf : List ℕ → Plan → Program → Graph → Type 0
-IsViewOf original plan image graph = (image ≡ image_of original) × (graph ≡ graph_in original plan)
-
-abbrev pub placement_in : Placed → Placement
-placement_in placed = placement_of placed.code.items placed.at.items placed.ranges.items
-
--- what is asked, with the words that are marked
-abbrev pub plan_of : List ℕ → Request → Plan
-plan_of marks asked = record { kind = asked.kind; marks = marks; cells = asked.cells; snips = asked.snips.items }
-
--- ---- new code of a view
-
--- There is as much room above a program as the edit asks for.
-pub record HasRoom (image : Program) (g : Graph) (asked : Request) : Type 0 where
-  pub text : IsText image.text
-  pub graph : IsGraphOf image.text g
-  pub work : IsWorkable g asked.kind asked.cells asked.snips.items
-  pub room : bound_by image.text g asked.kind asked.cells asked.snips.items ≤ image.room
-  pub base : image.base % 4096 ≡ 0
-  pub low : image.base + image.room ≤ 2 ^ 31
-
--- Pieces are those of a view, with snippets that take what is dead behind them. These are the pieces of the words, of
--- the Case edges, of what lies outside the text, and the one at which the program begins.
-pub record AreMade (image : Program) (graph : Graph) (asked : Request) (pieces : List (List Item))
-    (words ways : List PieceNo) (outside begin : PieceNo) : Type 0 where
-  pub dead : ℕ → List Part
-  pub exact : AreDead image.text graph (named_on asked.snips.items) dead
-  pub list : pieces ≡ pieces_by image.text graph image.base asked.cells dead asked.snips.items
-  pub landing : map (λ (n : PieceNo). n.0) words
-      ≡ map (lands_at image.text graph asked.snips.items) (below (length image.text.words))
-  pub cases : map (λ (n : PieceNo). n.0) ways ≡ case_numbers image.text graph
-  pub foreign : outside.0 ≡ foreign_number image.text graph
-  pub entry : begin.0 ≡ entry_number image.text graph image.entry
-  pub begins : image.entry < length image.text.words
-
--- they are among so many pieces
-pub record AreInside (count : ℕ) (words ways : List PieceNo) (outside begin : PieceNo) : Type 0 where
-  pub landing : All (λ (n : PieceNo). n.0 < count) words
-  pub cases : All (λ (n : PieceNo). n.0 < count) ways
-  pub foreign : outside.0 < count
-  pub entry : begin.0 < count

@@ -1,10 +1,11 @@
 //! The new code of a program, and the tables that lead to it.
 ghost use Rattle.std.specs.Prelude.{◌≡◌, ◌+◌, ◌-◌, ◌*◌, ◌%◌, ◌^◌, ◌<◌, ◌≤◌, ◌++◌, ℕ, length, map, slice_index, All, IfOk, OnOk};
-ghost use Rattle.eel_base.specs.CodeText.{IsText};
+ghost use Rattle.eel_base.specs.Code.{IsText};
 ghost use Rattle.layout.specs.Laid.{ArePieces, long_bytes};
 ghost use Rattle.image_code.specs.Graphs.{IsGraphOf};
 ghost use Rattle.edit_core.specs.Taken.{bound_by};
-ghost use Rattle.edit_core.specs.Written.{addr, cells_size as cells_size_of, entry_number, placement_in, table_after, tables_size as tables_size_of, whole_pages, AreInside, AreLaid, AreMade, AreTablesOf, HasRoom, IsBuilt, IsWorkable, LeadsTo};
+ghost use Rattle.edit_core.specs.Written.{addr, cells_size as cells_size_of, entry_number, table_after, tables_size as tables_size_of, whole_pages, AreTablesOf, IsWorkable, LeadsTo};
+ghost use Rattle.edit_core.specs.Private.{placement_in, AreInside, AreLaid, AreMade, HasRoom, IsBuilt};
 
 use crate::addresses::{AddressMap, cells_size, tables_size};
 use crate::segments::zeros;

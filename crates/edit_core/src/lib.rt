@@ -1,7 +1,7 @@
 //! The edit of a file, and what ties the written file to its original.
 #![tactic(auto)]
 
-ghost use Rattle.edit_core.specs.Outwardly.{EditsAreUntouched, EditsCrashAlike, EditsDoTheSame, GrantedRunsAreAlike};
+ghost use Rattle.edit_core.specs.Code.{EditsAreUntouched, EditsCrashAlike, EditsDoTheSame, GrantedRunsAreAlike};
 ghost use Rattle.edit_core.specs.Whole.{EditsAnswer, KeepsWhatLives};
 ghost use Rattle.edit_core.specs.Written.{EditsRunAlike};
 

@@ -2,11 +2,12 @@
 ghost use Rattle.std.specs.Prelude.{◌≡◌, ℕ, List, ◌+◌, ◌*◌, ◌^◌, ◌<◌, ◌≤◌, ◌++◌, length, map, IfOk};
 ghost use Rattle.std.specs.List.{find};
 ghost use Rattle.std.specs.Option.{ForSome};
-ghost use Rattle.cfg_normal.specs.Graph.{IsEdgeIn};
-ghost use Rattle.eel_base.specs.CodeText.{IsText};
-ghost use Rattle.notes.specs.Seen.{notes_seen, edge_seen, range_seen, segment_seen};
+ghost use Rattle.cfg_normal.specs.Code.{IsEdgeIn};
+ghost use Rattle.eel_base.specs.Code.{IsText};
+ghost use Rattle.notes.specs.Code.{notes_seen, edge_seen, range_seen, segment_seen};
 ghost use Rattle.edit_core.specs.Faithful.{cell_noted as cell_noted_of, note_edge as note_edge_of, note_edges as note_edges_of, tool_number as tool_number_of};
-ghost use Rattle.edit_core.specs.Written.{is_off as is_off_of, notes_on, off_range as off_range_of, off_ranges, segments_noted, placement_in, plan_of, segment_size, table_after, IsViewOf};
+ghost use Rattle.edit_core.specs.Written.{is_off as is_off_of, notes_on, off_range as off_range_of, off_ranges, segments_noted, segment_size, table_after};
+ghost use Rattle.edit_core.specs.Private.{placement_in, plan_of, IsViewOf};
 
 use crate::addresses::AddressMap;
 use crate::segments::{EDITOR_PAGE, PAGE_SIZE};

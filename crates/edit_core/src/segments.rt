@@ -1,6 +1,6 @@
 //! The segments that are added to a file.
 ghost use Rattle.std.specs.Prelude.{◌≡◌, ◌*◌, ◌^◌, ◌<◌, ◌≤◌, length, replicate, All, IfOk, OnOk};
-ghost use Rattle.elf32_write.specs.Bytes.{words_bytes};
+ghost use Rattle.elf32_write.specs.Kept.{words_bytes};
 ghost use Rattle.elf32_write.specs.Headers.{segment_seen};
 ghost use Rattle.elf32_write.specs.Laws.{AreBytes};
 ghost use Rattle.edit_core.specs.Written.{cells_at, code_at, page_segment as page_segment_of, table_at};

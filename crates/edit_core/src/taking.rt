@@ -3,11 +3,12 @@ ghost use Rattle.std.specs.Prelude.{◌≡◌, ℕ, if◌then◌else◌, ◌+◌
 ghost use Rattle.std.specs.List.{count_by, range_with_len};
 ghost use Rattle.indexmap.specs.IndexMap.{get};
 ghost use Rattle.cfg_blocks.specs.Blocks.{size_of};
-ghost use Rattle.cfg_normal.specs.Graph.{IsEdgeIn, IsNodeIn};
+ghost use Rattle.cfg_normal.specs.Code.{IsEdgeIn, IsNodeIn};
 ghost use Rattle.cfg_normal.specs.Landings.{IsNumbered};
 ghost use Rattle.cfg_normal.specs.Numbers.{node_number as node_number_of};
-ghost use Rattle.image_code.specs.Fit.{copies_of, is_at, targets_from, words_at};
-ghost use Rattle.edit_core.specs.Taken.{bound_by, case_key as case_key_of, count_of, counted_on as counted_on_of, is_entry, operations_on, same_key, AreCounts};
+ghost use Rattle.image_code.specs.Copies.{copies_of, is_at, targets_from, words_at};
+ghost use Rattle.edit_core.specs.Taken.{bound_by, counted_on as counted_on_of, operations_on};
+ghost use Rattle.edit_core.specs.Private.{case_key as case_key_of, count_of, is_entry, same_key, AreCounts};
 
 use cfg_blocks::EdgeKind;
 use cfg_normal::{Edge, FlowGraph, Node, node_number, same_node};
@@ -39,7 +40,7 @@ impl From<NoMemory> for EditFault {
 }
 
 impl From<ReadFault> for EditFault {
-    ghost use Rattle.edit_core.specs.Taken.{BecomesEditFault};
+    ghost use Rattle.edit_core.specs.Code.{BecomesEditFault};
 
     ghost from_gives = { BecomesEditFault };
 

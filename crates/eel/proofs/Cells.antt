@@ -29,7 +29,8 @@ use Rattle.v8_step.specs.Step.{act, on_word, step_of, unless_ended}
 use Rattle.v8_step.specs.Run.{run}
 use Rattle.v8_step.specs.Judged.{judged_by}
 use Rattle.v8_process.specs.Start.{program_name, stack_region, start_memory, start_of}
-use Rattle.code_runs.specs.StoredWords.{CanLoad, memory_word, word_in}
+use Rattle.code_runs.specs.Code.{CanLoad}
+use Rattle.code_runs.specs.StoredWords.{memory_word, word_in}
 use Rattle.v8_step.proofs.KeptOutside.{kept_act}
 use Rattle.code_runs.proofs.StoredWords.{shape}
 use Rattle.snippet_code.specs.Cells.{cell_at, words_at}

@@ -7,8 +7,7 @@ use Rattle.tool_kit.specs.declared.edge_ref.EdgeRef.{EdgeRef}
 use Rattle.tool_kit.specs.declared.edge_ref.ToolKind.{ToolKind}
 use Rattle.tool_kit.specs.Kept.{Kept}
 use Rattle.tool_kit.specs.Plans.{Plan}
-use Rattle.edit_core.specs.Cost.{IsEdited}
-use Rattle.edit_core.specs.Faithful.{AsksOf}
+use Rattle.edit_core.specs.Code.{IsEdited, AsksOf}
 use Rattle.edit_core.specs.Taken.{CanEdit}
 use Rattle.edit_core.specs.Written.{IsTheEdit}
 use Rattle.edit_core.proofs.Outwardly.{does_the_same}

@@ -4,7 +4,7 @@ use Rattle.notes.specs.Format.{Notes}
 use Rattle.cfg_view.specs.View.{view_of}
 use Rattle.exact_counts.specs.Profiles.{CountsOffTree}
 use Rattle.eel.specs.Answers.Profile.{plan_with}
-use Rattle.eel.specs.Answers.Counts.{EditsAreProfiles}
+use Rattle.eel.specs.Code.{EditsAreProfiles}
 use Rattle.eel.proofs.ExactProfiles.{off_tree, one_notes}
 
 pub edits_are_profiles : EditsAreProfiles

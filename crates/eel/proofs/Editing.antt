@@ -6,14 +6,17 @@ use Rattle.tool_kit.specs.Plans.{Plan}
 use Rattle.cfg_view.specs.View.{view_of}
 use Rattle.edit_core.specs.declared.taking.EditFault.{EditFault}
 use Rattle.edit_core.specs.declared.taking.EditFault.TheVariants as faults
-use Rattle.edit_core.specs.Taken.{EditRefuses, IsCramped}
+use Rattle.edit_core.specs.Code.{EditRefuses}
+use Rattle.edit_core.specs.Taken.{IsCramped}
 use Rattle.eel_said.specs.Outcome.{Outcome, BadFile, BadLine, NoRoom, OutOfMemory, status_of}
 use Rattle.eel_said.specs.Shared.{Store, edit_limit}
-use Rattle.eel.specs.Answers.Edit.{EditsBy, IsEditBy, IsNotEdited, Tool, edit_by_means, edit_means, refusal_of}
-use Rattle.eel.specs.Answers.Profile.{AreCells, CountersRefuse, IsMarkedProfile, guessed_with, plan_with, profile_plan, profiling}
+use Rattle.eel.specs.Answers.Edit.{EditsBy, IsEditBy, IsNotEdited, Tool, edit_by_means, edit_means}
+use Rattle.eel.specs.Private.{refusal_of, CountersRefuse, profile_plan, IsNotWeighed, IsWeighedEdit}
+use Rattle.eel.specs.Answers.Profile.{AreCells, guessed_with, plan_with, profiling}
+use Rattle.eel.specs.Code.{IsMarkedProfile}
 use Rattle.eel.specs.Answers.Script.{IsScripted, scripting}
 use Rattle.eel.specs.Answers.Steps.{Makes, Puts}
-use Rattle.eel.specs.Answers.Weighed.{AreWeightsOf, IsNotWeighed, IsWeighedEdit, weighing}
+use Rattle.eel.specs.Answers.Weighed.{AreWeightsOf, weighing}
 use Rattle.eel.proofs.Meanings.{IsBad, IsByStatus, bad, files_by_status}
 use Rattle.eel.proofs.Steps.{make_by_status, puts_by_status, reads_by_status}
 

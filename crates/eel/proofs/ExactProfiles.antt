@@ -3,22 +3,23 @@ use Rattle.std.proofs.Common.{◌≡◌, ℕ, ◌-◌, ◌<◌, List, [], refl, 
 use Rattle.std.specs.Prelude.{Option, None, Result, Ok, Err}
 use Rattle.std.proofs.lemmas.List.{get_or-map, length-map}
 use Rattle.notes.specs.Format.{NoNotes, Notes, notes_of}
-use Rattle.v8_step.specs.Valid.{AreBytes}
+use Rattle.v8_step.specs.State.{AreBytes}
 use Rattle.cfg_normal.specs.Graph.{Graph}
 use Rattle.cfg_view.specs.View.{view_of}
 use Rattle.dump_file.specs.Dump.{Dump}
 use Rattle.tool_kit.specs.Plans.{Plan}
 use Rattle.count_rebuild.specs.Answers.{AreCounts}
 use Rattle.edit_core.specs.Faithful.{HasGraph}
-use Rattle.edit_core.specs.RunsAlike.{HaveRunsAlike}
-use Rattle.exact_counts.specs.Profiles.{CountsOffTree, IsProfiled, counter_in, original_graph}
+use Rattle.edit_core.specs.RunsAlike.{HaveRunsAlike, visits_by}
+use Rattle.exact_counts.specs.Profiles.{CountsOffTree, counter_in, original_graph, counter_limit}
+use Rattle.exact_counts.specs.Laws.{IsProfiled, IsExact}
 use Rattle.exact_counts.proofs.Exact.{counts_are_exact}
 use Rattle.exact_counts.proofs.Exits.{counts_of_exits_are_exact}
 use Rattle.exact_counts.proofs.Trees.{trees_make_profiles}
-use Rattle.eel.specs.Answers.Profile.{AreCells, IsProfileOf, plan_with, profile_plan}
+use Rattle.eel.specs.Answers.Profile.{AreCells, plan_with}
+use Rattle.eel.specs.Private.{IsProfileOf, profile_plan}
 use Rattle.v8_process.specs.Start.{start_of}
-use Rattle.exact_counts.specs.Laws.{IsExact, counter_limit}
-use Rattle.exact_counts.specs.Stops.{dump_at, visits_by}
+use Rattle.exact_counts.specs.Stops.{dump_at}
 use Rattle.eel.specs.Answers.Counts.{AreExact, AreOfWholeRuns, IsOfRun, IsProfile}
 
 -- counters off a spanning tree are a profile's

@@ -8,8 +8,7 @@ use Rattle.eel_base.specs.CodeText.{Words, address_of}
 use Rattle.elf32_sparc.specs.FileFault.{fault}
 use Rattle.elf32_sparc.specs.Image.{image_of}
 use Rattle.notes.specs.Format.{NoteEdge, NoteRange, Notes, holds, node_at, notes_of, range_at}
-use Rattle.flows.specs.Flows.{weight_below}
-use Rattle.flows.specs.Walks.{times}
+use Rattle.flows.specs.Flows.{weight_below, times}
 use Rattle.v8_step.specs.State.{State}
 use Rattle.v8_step.specs.Run.{run}
 use Rattle.two_runs.specs.Visits.{own_trail}
@@ -22,19 +21,20 @@ use Rattle.cfg_normal.specs.Graph.{Graph}
 use Rattle.cfg_view.specs.View.{given_in, view_of}
 use Rattle.span_tree.specs.Links.{edge_at as own_edge}
 use Rattle.tool_kit.specs.Plans.{Plan}
-use Rattle.walk_counts.specs.Counts.{executions, last_node}
+use Rattle.walk_counts.specs.Executions.{executions}
+use Rattle.walk_counts.specs.Counts.{last_node}
 use Rattle.dump_file.specs.Dump.{Dump}
 use Rattle.count_rebuild.specs.Answers.{AreCounts}
-use Rattle.edit_core.specs.Faithful.{kind_number as noted_kind}
-use Rattle.edit_core.specs.RunsAlike.{IsStop, edit_of}
+use Rattle.cfg_normal.specs.Numbers.{kind_number as noted_kind, kind_number}
+use Rattle.edit_core.specs.RunsAlike.{IsStop, edit_of, visits_by}
 use Rattle.edit_core.proofs.Originals.{image_text}
-use Rattle.exact_counts.specs.Profiles.{IsProfiled, original_graph}
-use Rattle.exact_counts.specs.Stops.{visits_by}
+use Rattle.exact_counts.specs.Laws.{IsProfiled}
+use Rattle.exact_counts.specs.Profiles.{original_graph}
 use Rattle.exact_counts.proofs.Exact.{notes_of_graph}
 use Rattle.exact_counts.proofs.Noted.{AreNotesOf, edge_count, edge_is}
 use Rattle.instr_counts.specs.Answers.{AreVisits, begun_in}
 use Rattle.instr_counts.specs.Laws.{AreVisited, HasEach}
-use Rattle.instr_counts.specs.Matches.{AreNoted, Matches, kind_number}
+use Rattle.instr_counts.specs.Matches.{AreNoted, Matches}
 use Rattle.instr_counts.specs.Visits.{AreSingle, finished, is_begun, leads_to, one_if, runs_slot, sum_where}
 use Rattle.instr_counts.proofs.Counted.{visits_are_counted}
 use Rattle.instr_counts.proofs.Single.{words_are_blocks}

@@ -7,10 +7,9 @@ use Rattle.std.proofs.lemmas.List.FromFn.{get_or-map-range_with_len, length-map-
 use Rattle.elf32_sparc.specs.Image.{image_of}
 use Rattle.notes.specs.Format.{NoteEdge, Notes, node_at, notes_of}
 use Rattle.v8_step.specs.declared.Ending.{Ending}
-use Rattle.v8_step.specs.State.{State}
+use Rattle.v8_step.specs.State.{State, AreBytes}
 use Rattle.v8_step.specs.Run.{run}
 use Rattle.two_runs.specs.Needed.{IsUntouched}
-use Rattle.v8_step.specs.Valid.{AreBytes}
 use Rattle.two_runs.specs.Visits.{pages_of}
 use Rattle.v8_process.specs.Arguments.{AreArguments}
 use Rattle.v8_process.specs.Start.{start_of}
@@ -23,21 +22,23 @@ use Rattle.tool_kit.specs.Plans.{Plan}
 use Rattle.dump_file.specs.Dump.{Dump}
 use Rattle.image_code.specs.Store.{Edit, snippet_on}
 use Rattle.edit_core.specs.Faithful.{HasGraph, note_edges}
-use Rattle.edit_core.specs.RunsAlike.{HaveRunsAlike, IsStop, TellsStep, edit_of}
+use Rattle.edit_core.specs.RunsAlike.{HaveRunsAlike, IsStop, TellsStep, edit_of, visits_by}
 use Rattle.edit_core.proofs.Eaches.{all_each}
-use Rattle.exact_counts.specs.Stops.{dump_at, visits_by}
+use Rattle.exact_counts.specs.Stops.{dump_at}
 use Rattle.exact_counts.proofs.Gone.{walk_within}
 use Rattle.edge_ring.specs.declared.fault.RingFault.{RingFault}
 use Rattle.edge_ring.specs.declared.fault.RingFault.TheVariants as faults
-use Rattle.edge_ring.specs.Answers.{AreLast, IsRefused}
+use Rattle.edge_ring.specs.Answers.{AreLast}
+use Rattle.edge_ring.specs.Code.{IsRefused, IsRingOf}
 use Rattle.edge_ring.specs.Laws.{TellsTheLast}
-use Rattle.edge_ring.specs.Ring.{IsRingOf, last_of, ring_on}
+use Rattle.edge_ring.specs.Ring.{last_of, ring_on}
 use Rattle.edge_ring.specs.Traces.{IsTrace}
 use Rattle.edge_ring.proofs.Stores.{stores_are_rings}
 use Rattle.edge_ring.proofs.Told.{rings_tell}
 use Rattle.eel.specs.Answers.Edit.{edges_in}
 use Rattle.cfg_view.specs.View.{view_of}
-use Rattle.eel.specs.Answers.LastEdges.{EditsAreTraces, IsTraceOf}
+use Rattle.eel.specs.Code.{EditsAreTraces}
+use Rattle.eel.specs.Answers.LastEdges.{IsTraceOf}
 use Rattle.eel.specs.Answers.Trace.{trace_plan}
 use Rattle.eel.proofs.ExactProfiles.{one_notes}
 

@@ -5,7 +5,7 @@ use Rattle.std.specs.Int.{bytes_high_first}
 use Rattle.std.proofs.lemmas.List.Elements.{All-nil, All-cons, All-append}
 use Rattle.elf32_sparc.specs.Image.{image_of}
 use Rattle.v8_memory.specs.Spans.{IsApartFromAll, Span}
-use Rattle.v8_step.specs.Valid.{AreBytes}
+use Rattle.v8_step.specs.State.{AreBytes}
 use Rattle.v8_step.specs.declared.Ending.TheVariants.{Exit}
 use Rattle.v8_encode.specs.Encoding.{word_of}
 use Rattle.workload.specs.Generated.{bytes_of, code_of, generated, header_words, routines_from}

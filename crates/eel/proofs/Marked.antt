@@ -11,7 +11,8 @@ use Rattle.cfg_blocks.specs.Blocks.{is_among}
 use Rattle.cfg_blocks.specs.Marks.{numbers}
 use Rattle.cfg_view.specs.View.{given_in, marks_in, starts_of}
 use Rattle.instr_counts.specs.Laws.{HasEach}
-use Rattle.eel.specs.Answers.Every.{every_word, word_numbered}
+use Rattle.eel.specs.Answers.Every.{every_word}
+use Rattle.eel.specs.Private.{word_numbered}
 
 -- words by their numbers have these
 pub numbers_of_words : (words : List ℕ) → numbers (map word_numbered words) ≡ words

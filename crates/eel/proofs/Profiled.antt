@@ -14,10 +14,11 @@ use Rattle.cfg_normal.specs.declared.Edge.{Edge}
 use Rattle.span_tree.specs.Links.{no_edge}
 use Rattle.tool_kit.specs.declared.edge_ref.EdgeRef.{EdgeRef}
 use Rattle.tool_kit.specs.declared.edge_ref.ToolKind.TheVariants as tools
-use Rattle.tool_kit.specs.Plans.{AreAnswers, AreCounters, IsPlanOf, Plan, numbered as with_number}
+use Rattle.tool_kit.specs.Code.{AreAnswers, IsPlanOf, numbered as with_number}
+use Rattle.tool_kit.specs.Plans.{AreCounters, Plan}
 use Rattle.edit_core.specs.declared.taking.EditFault.{EditFault}
 use Rattle.edit_core.specs.declared.taking.EditFault.TheVariants as faults
-use Rattle.edit_core.specs.Taken.{EditRefuses}
+use Rattle.edit_core.specs.Code.{EditRefuses}
 use Rattle.eel.specs.Answers.Tool.{kept_by}
 use Rattle.exact_counts.specs.Profiles.{counter_in}
 use Rattle.eel.specs.Answers.Profile.{plan_with}

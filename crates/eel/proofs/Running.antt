@@ -8,12 +8,14 @@ use Rattle.v8_step.specs.Machine.{FailsAt}
 use Rattle.v8_step.specs.State.{State}
 use Rattle.v8_step.specs.Step.{puts_of}
 use Rattle.v8_step.specs.Run.{run, run_puts}
-use Rattle.v8_runner.specs.Runs.{AreMade, IsStop, RunTakes}
+use Rattle.v8_runner.specs.Made.{AreMade}
+use Rattle.v8_runner.specs.Runs.{IsStop, RunTakes}
 use Rattle.v8_runner.specs.declared.Stop.{Stop}
 use Rattle.v8_runner.specs.declared.Stop.TheVariants.{Limit, Ended, SinkFault}
 use Rattle.eel_said.specs.Outcome.{Outcome, Stopped, BadFile, TooLong, OutOfMemory, DeviceFault, Stream, status_of}
 use Rattle.eel_said.specs.Shared.{Feed}
-use Rattle.eel.specs.Answers.Run.{IsRun, IsNotRun, IsUnfed, stopped_of}
+use Rattle.eel.specs.Answers.Run.{IsRun, IsNotRun, IsUnfed}
+use Rattle.eel.specs.Private.{stopped_of}
 use Rattle.v8_step.proofs.Quiet.{appended_nothing}
 use Rattle.eel.proofs.Meanings.{IsBad, bad}
 

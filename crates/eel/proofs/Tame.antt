@@ -9,7 +9,7 @@ use Rattle.elf32_sparc.specs.FileFault.{load_fault}
 use Rattle.elf32_sparc.specs.Image.{image_of}
 use Rattle.elf32_sparc.specs.Mapping.{Mapping, mappings}
 use Rattle.notes.specs.Format.{Notes, NoteSegment, notes_of}
-use Rattle.elf32_write.specs.Laws.{kept}
+use Rattle.elf32_write.specs.Kept.{kept}
 use Rattle.v8_step.specs.declared.Ending.{Ending}
 use Rattle.v8_step.specs.State.{State}
 use Rattle.v8_step.specs.Run.{run}
@@ -23,17 +23,18 @@ use Rattle.dump_file.specs.Dump.{Dump}
 use Rattle.tool_kit.specs.Plans.{Plan}
 use Rattle.count_rebuild.specs.declared.fault.CountFault.{CountFault}
 use Rattle.count_rebuild.specs.declared.fault.CountFault.TheVariants as count_faults
-use Rattle.count_rebuild.specs.Answers.{AreCounts, IsRefused}
+use Rattle.count_rebuild.specs.Answers.{AreCounts}
+use Rattle.count_rebuild.specs.Code.{IsRefused}
 use Rattle.edit_core.specs.declared.taking.EditFault.{EditFault}
 use Rattle.edit_core.specs.declared.taking.EditFault.TheVariants as faults
 use Rattle.edit_core.specs.Faithful.{HasPages, IsInRoom, holds_cells, note_of}
 use Rattle.edit_core.specs.Cost.{TakesFewSteps}
-use Rattle.edit_core.specs.RunsAlike.{AreRunsAlike, edit_of}
+use Rattle.edit_core.specs.RunsAlike.{AreRunsAlike, edit_of, visits_by}
 use Rattle.image_code.specs.Store.{Edit}
-use Rattle.exact_counts.specs.Profiles.{IsProfiled, original_graph}
+use Rattle.exact_counts.specs.Laws.{IsProfiled, EndsWithStep, IsOver, IsExact, MayRefuse}
+use Rattle.exact_counts.specs.Profiles.{original_graph, counter_limit}
 use Rattle.exact_counts.specs.Sizes.{HasEndedBy}
-use Rattle.exact_counts.specs.Stops.{EndsWithStep, IsOver, dump_at, visits_by}
-use Rattle.exact_counts.specs.Laws.{IsExact, MayRefuse, counter_limit}
+use Rattle.exact_counts.specs.Stops.{dump_at}
 use Rattle.exact_counts.proofs.Ends.{ended_runs_tell}
 use Rattle.exact_counts.proofs.Exact.{begins_live, counts_are_exact, notes_of_graph}
 use Rattle.exact_counts.proofs.Little.{profiles_need_little}
@@ -42,7 +43,7 @@ use Rattle.exact_counts.proofs.Soon.{profiles_end_soon}
 use Rattle.exact_counts.proofs.Totals.{executions_add_up}
 use Rattle.eel.specs.Answers.Demo.{EndsAlone, alone, walk_alone}
 use Rattle.eel.specs.Answers.Dump.{IsNoted}
-use Rattle.eel.specs.Answers.Profile.{IsProfileOf, ProfileRefuses, guessed, profile_plan}
+use Rattle.eel.specs.Private.{IsProfileOf, ProfileRefuses, guessed, profile_plan}
 use Rattle.eel.specs.Tame.{AreAbove, EndsWithin, IsLastDump, IsTame}
 use Rattle.eel.proofs.ExactProfiles.{edit_is_profiled, one_notes}
 

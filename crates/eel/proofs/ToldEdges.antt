@@ -6,7 +6,8 @@ use Rattle.notes.specs.Format.{Notes, notes_of}
 use Rattle.dump_file.specs.Dump.{Dump}
 use Rattle.edge_ring.specs.declared.fault.RingFault.{RingFault}
 use Rattle.edge_ring.specs.declared.fault.RingFault.TheVariants as faults
-use Rattle.edge_ring.specs.Answers.{AreLast, IsRefused}
+use Rattle.edge_ring.specs.Answers.{AreLast}
+use Rattle.edge_ring.specs.Code.{IsRefused}
 use Rattle.eel_said.specs.declared.outcome.CountCause.{CountCause}
 use Rattle.eel_said.specs.declared.outcome.CountCause.TheVariants as causes
 use Rattle.eel_said.specs.Outcome.{Outcome, NoTrace, NoCounts, BadCell, OutOfMemory}

@@ -10,24 +10,25 @@ use Rattle.snippets.specs.declared.snippet.Op.{Op}
 use Rattle.snippets.specs.declared.script.Script.{Script}
 use Rattle.snippets.specs.Cells.{WorksBelow}
 use Rattle.snippets.specs.Grammar.{AllSay}
-use Rattle.snippets.specs.Scripts.{IsScript, cell_end, edge_end, end_of, ops_on}
+use Rattle.snippets.specs.Code.{IsScript}
+use Rattle.snippets.specs.Scripts.{cell_end, edge_end, end_of, ops_on}
 use Rattle.snippets.proofs.Within.{good_within}
 use Rattle.span_tree.specs.Links.{no_edge}
 use Rattle.cfg_normal.specs.declared.Edge.{Edge}
 use Rattle.tool_kit.specs.declared.edge_ref.EdgeRef.{EdgeRef}
 use Rattle.tool_kit.specs.declared.edge_ref.ToolKind.{ToolKind}
 use Rattle.tool_kit.specs.Kept.{Kept}
-use Rattle.tool_kit.specs.Plans.{AreAnswers, Plan, numbered}
+use Rattle.tool_kit.specs.Code.{AreAnswers, numbered}
+use Rattle.tool_kit.specs.Plans.{Plan}
 use Rattle.cfg_blocks.specs.Marks.{numbers}
 use Rattle.cfg_view.specs.View.{view_of}
 use Rattle.edit_core.specs.declared.taking.EditFault.{EditFault}
 use Rattle.edit_core.specs.declared.taking.EditFault.TheVariants as faults
-use Rattle.edit_core.specs.Taken.{CanEdit, EditRefuses}
-use Rattle.edit_core.specs.Cost.{IsEdited}
-use Rattle.edit_core.specs.Faithful.{AsksOf}
+use Rattle.edit_core.specs.Taken.{CanEdit}
+use Rattle.edit_core.specs.Code.{EditRefuses, IsEdited, AsksOf}
 use Rattle.edit_core.specs.Written.{IsTheEdit}
 use Rattle.eel.specs.Answers.Edit.{IsEditOf, asked}
-use Rattle.eel.specs.Answers.Script.{HasCells}
+use Rattle.eel.specs.Private.{HasCells}
 use Rattle.eel.proofs.EditOf.{is_edit_of}
 
 none_below : (cells : ℕ) → WorksBelow cells []

@@ -4,8 +4,9 @@ use Rattle.eel_base.specs.declared.numbers.WordNo.{WordNo}
 use Rattle.snippets.specs.declared.snippet.Op.{Op}
 use Rattle.tool_kit.specs.declared.edge_ref.EdgeRef.{EdgeRef}
 use Rattle.tool_kit.specs.declared.edge_ref.ToolKind.TheVariants as tools
-use Rattle.tool_kit.specs.Plans.{Plan, numbered}
-use Rattle.edit_core.specs.Faithful.{AsksOf, CountsEdges}
+use Rattle.tool_kit.specs.Plans.{Plan}
+use Rattle.tool_kit.specs.Code.{numbered}
+use Rattle.edit_core.specs.Code.{AsksOf, CountsEdges}
 use Rattle.edge_ring.specs.Ring.{ring_on}
 use Rattle.eel.specs.Answers.Edit.{edges_in}
 use Rattle.eel.specs.Answers.Tool.{kept_by}

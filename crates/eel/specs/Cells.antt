@@ -6,7 +6,7 @@ use Rattle.notes.specs.Format.{Notes}
 use Rattle.v8_memory.specs.Regions.{Memory}
 use Rattle.v8_step.specs.State.{State}
 use Rattle.v8_step.specs.Run.{run}
-use Rattle.code_runs.specs.StoredWords.{CanLoad}
+use Rattle.code_runs.specs.Code.{CanLoad}
 use Rattle.snippet_code.specs.Cells.{cell_at}
 
 -- cells lie in a segment, with permission to be read

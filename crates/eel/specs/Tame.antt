@@ -5,13 +5,12 @@ use Rattle.elf32_sparc.specs.Image.{image_of}
 use Rattle.notes.specs.Format.{Notes, notes_of}
 use Rattle.v8_memory.specs.Spans.{Span}
 use Rattle.v8_step.specs.declared.Ending.{Ending}
-use Rattle.v8_step.specs.State.{State}
+use Rattle.v8_step.specs.State.{State, AreBytes}
 use Rattle.v8_step.specs.Run.{run}
 use Rattle.two_runs.specs.Needed.{IsUntouched}
-use Rattle.v8_step.specs.Valid.{AreBytes}
-use Rattle.v8_runner.specs.Runs.{AreMade}
 use Rattle.dump_file.specs.Dump.{Dump}
 use Rattle.exact_counts.specs.Stops.{dump_at}
+use Rattle.v8_runner.specs.Made.{AreMade}
 use Rattle.eel.specs.Answers.Demo.{EndsAlone, alone}
 
 -- pages from an address on

@@ -1,10 +1,12 @@
 //! How often each edge was completed.
 ghost use Rattle.std.specs.Prelude.{◌≡◌, ◌<◌, ◌^◌, IfOk, IfErr, length};
 ghost use Rattle.notes.specs.Rules.{AreNotes};
-ghost use Rattle.notes.specs.Seen.{notes_seen};
-ghost use Rattle.dump_file.specs.Dump.{dump_seen};
-ghost use Rattle.eel_said.specs.Outcome.{outcome_seen};
-ghost use Rattle.eel.specs.Answers.Counts.{EditsAreProfiles, IsUncounted, TellCounts, uncounted_of};
+ghost use Rattle.notes.specs.Code.{notes_seen};
+ghost use Rattle.dump_file.specs.Code.{dump_seen};
+ghost use Rattle.eel_said.specs.Code.{outcome_seen};
+ghost use Rattle.eel.specs.Code.{EditsAreProfiles};
+ghost use Rattle.eel.specs.Answers.Counts.{IsUncounted, TellCounts};
+ghost use Rattle.eel.specs.Private.{uncounted_of};
 
 use count_rebuild::{CountFault, rebuild};
 use dump_file::Dump;

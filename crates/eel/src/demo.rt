@@ -1,23 +1,26 @@
 //! The command `demo`.
 ghost use Rattle.std.specs.Prelude.{◌≡◌, ◌≢◌, ◌≤◌, ◌<◌, ◌++◌, ◌^◌, ℕ, [], IfOk, OnOk, None, Some, length};
 ghost use Rattle.elf32_sparc.specs.FileFault.{fault, load_fault};
-ghost use Rattle.cfg_view.specs.View.{view_of as view_of_file, view_seen, IsView};
+ghost use Rattle.cfg_view.specs.View.{view_of as view_of_file};
+ghost use Rattle.cfg_view.specs.Code.{view_seen, IsView};
 ghost use Rattle.notes.specs.Format.{notes_of};
 ghost use Rattle.v8_step.specs.Run.{run as run_of};
 ghost use Rattle.v8_step.specs.declared.Ending.{Ending as EndingSeen};
-ghost use Rattle.v8_runner.specs.Runs.{AreMade};
+ghost use Rattle.v8_runner.specs.Made.{AreMade};
 ghost use Rattle.notes.specs.Rules.{AreNotes};
-ghost use Rattle.notes.specs.Seen.{notes_seen};
-ghost use Rattle.dump_file.specs.Dump.{dump_seen};
+ghost use Rattle.notes.specs.Code.{notes_seen};
+ghost use Rattle.dump_file.specs.Code.{dump_seen};
 ghost use Rattle.count_rebuild.specs.declared.fault.CountFault.{CountFault as FaultSeen};
 ghost use Rattle.count_rebuild.specs.declared.fault.CountFault.TheVariants as faults;
-ghost use Rattle.count_rebuild.specs.Answers.{AreCounts, IsRefused};
+ghost use Rattle.count_rebuild.specs.Answers.{AreCounts};
+ghost use Rattle.count_rebuild.specs.Code.{IsRefused};
 ghost use Rattle.edit_core.specs.declared.taking.EditFault.TheVariants as edit_faults;
-ghost use Rattle.eel_said.specs.Outcome.{Stream, ending_text as ending_text_of, outcome_seen};
+ghost use Rattle.eel_said.specs.Outcome.{Stream, ending_text as ending_text_of};
+ghost use Rattle.eel_said.specs.Code.{outcome_seen};
 ghost use Rattle.eel_said.specs.Seen.{stream_seen};
 ghost use Rattle.eel_said.specs.Shared.{Feed, Store, outside};
 ghost use Rattle.eel.specs.Answers.Dump.{IsNoted};
-ghost use Rattle.eel.specs.Answers.Profile.{IsProfileOf, guessed};
+ghost use Rattle.eel.specs.Private.{IsProfileOf, guessed};
 ghost use Rattle.eel.specs.Answers.Demo.{EndsAlone, IsTold, TellOf, Tells, alone, demo_lines as demo_lines_of, ending_line, executions_line, name_line, size_in, size_line, walk_alone};
 ghost use Rattle.eel.specs.Tame.{EndsWithin, IsLastDump, IsNotedFile, IsTame};
 

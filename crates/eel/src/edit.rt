@@ -1,12 +1,14 @@
 //! The command `edit`.
 ghost use Rattle.std.specs.Prelude.{◌≡◌, ◌≤◌, ◌^◌, [], IfErr, IfOk, length};
-ghost use Rattle.cfg_view.specs.View.{view_of, view_seen};
-ghost use Rattle.edit_core.specs.Taken.{EditRefuses};
-ghost use Rattle.eel_said.specs.Outcome.{outcome_seen};
+ghost use Rattle.cfg_view.specs.View.{view_of};
+ghost use Rattle.cfg_view.specs.Code.{view_seen};
+ghost use Rattle.edit_core.specs.Code.{EditRefuses};
+ghost use Rattle.eel_said.specs.Code.{outcome_seen};
 ghost use Rattle.eel_said.specs.Seen.{files_seen};
 ghost use Rattle.eel.specs.Answers.Files.{IsSound};
-ghost use Rattle.eel.specs.Answers.Edit.{Edits, EditsBy, IsEditBy, IsEditOf, IsNotEdited, plain, plain_plan, refusal_of};
-ghost use Rattle.eel.specs.Answers.Script.{HasCells, IsBadScript, IsReadAs, script_limit, script_plan, script_refusal_of, scripting};
+ghost use Rattle.eel.specs.Answers.Edit.{Edits, EditsBy, IsEditBy, IsEditOf, IsNotEdited, plain, plain_plan};
+ghost use Rattle.eel.specs.Private.{refusal_of, HasCells, IsBadScript, IsReadAs, script_refusal_of};
+ghost use Rattle.eel.specs.Answers.Script.{script_limit, script_plan, scripting};
 
 use crate::inputs::view_in;
 use crate::texts::{fetch_file, put_file};

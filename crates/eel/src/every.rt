@@ -2,14 +2,16 @@
 ghost use Rattle.std.specs.Prelude.{◌≡◌, ◌≤◌, ◌^◌, IfErr, IfOk, length, map};
 ghost use Rattle.std.specs.List.{range_with_len};
 ghost use Rattle.elf32_sparc.specs.FileFault.{fault};
-ghost use Rattle.elf32_sparc.specs.Image.{refusal};
+ghost use Rattle.elf32_sparc.specs.Code.{refusal};
 ghost use Rattle.cfg_blocks.specs.Marks.{numbers};
-ghost use Rattle.cfg_view.specs.View.{view_seen, IsView};
-ghost use Rattle.eel_said.specs.Outcome.{outcome_seen};
+ghost use Rattle.cfg_view.specs.Code.{view_seen, IsView};
+ghost use Rattle.eel_said.specs.Code.{outcome_seen};
 ghost use Rattle.eel_said.specs.Seen.{files_seen};
 ghost use Rattle.eel.specs.Answers.Edit.{Edits};
-ghost use Rattle.eel.specs.Answers.Profile.{CountersRefuse, IsMarkedProfile, guessed_with, profiling};
-ghost use Rattle.eel.specs.Answers.Every.{every_view, every_word, word_numbered};
+ghost use Rattle.eel.specs.Private.{CountersRefuse, word_numbered};
+ghost use Rattle.eel.specs.Code.{IsMarkedProfile};
+ghost use Rattle.eel.specs.Answers.Profile.{guessed_with, profiling};
+ghost use Rattle.eel.specs.Answers.Every.{every_view, every_word};
 
 use crate::edit::{EDIT_LIMIT, refusal};
 use crate::profile::profiled_view;

@@ -1,12 +1,13 @@
 //! What files that are read hold: the view of a program, the notes of a written file, the dump of a run.
 ghost use Rattle.std.specs.Prelude.{◌≡◌, ◌≤◌, ◌+◌, ◌<◌, ◌^◌, [], IfOk, IfErr, Ok, length};
 ghost use Rattle.notes.specs.Format.{notes_of};
-ghost use Rattle.cfg_view.specs.View.{view_of, view_seen, IsView};
+ghost use Rattle.cfg_view.specs.View.{view_of};
+ghost use Rattle.cfg_view.specs.Code.{view_seen, IsView};
 ghost use Rattle.notes.specs.Rules.{AreNotes};
-ghost use Rattle.notes.specs.Seen.{notes_seen};
-ghost use Rattle.dump_file.specs.Dump.{dump_seen};
+ghost use Rattle.notes.specs.Code.{notes_seen};
+ghost use Rattle.dump_file.specs.Code.{dump_seen};
 ghost use Rattle.dump_file.specs.Reading.{read_dump};
-ghost use Rattle.eel_said.specs.Outcome.{outcome_seen};
+ghost use Rattle.eel_said.specs.Code.{outcome_seen};
 ghost use Rattle.eel.specs.Answers.Files.{IsNotSound, IsSound};
 ghost use Rattle.eel.specs.Answers.Noted.{IsUndumped, IsUnnoted};
 

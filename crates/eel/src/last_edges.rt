@@ -1,10 +1,12 @@
 //! The last edges that a run went along.
 ghost use Rattle.std.specs.Prelude.{◌≡◌, ◌<◌, ◌^◌, IfOk, IfErr, length};
 ghost use Rattle.notes.specs.Rules.{AreNotes};
-ghost use Rattle.notes.specs.Seen.{notes_seen};
-ghost use Rattle.dump_file.specs.Dump.{dump_seen};
-ghost use Rattle.eel_said.specs.Outcome.{outcome_seen};
-ghost use Rattle.eel.specs.Answers.LastEdges.{EditsAreTraces, IsUntold, TellEdges, untold_of};
+ghost use Rattle.notes.specs.Code.{notes_seen};
+ghost use Rattle.dump_file.specs.Code.{dump_seen};
+ghost use Rattle.eel_said.specs.Code.{outcome_seen};
+ghost use Rattle.eel.specs.Code.{EditsAreTraces};
+ghost use Rattle.eel.specs.Answers.LastEdges.{IsUntold, TellEdges};
+ghost use Rattle.eel.specs.Private.{untold_of};
 
 use dump_file::Dump;
 use edge_ring::{RingFault, last_edges, ring_lines};

@@ -1,6 +1,7 @@
 //! The command `list`.
 ghost use Rattle.std.specs.Prelude.{◌≡◌, ◌≤◌, IfOk, IfErr};
-ghost use Rattle.eel_said.specs.Outcome.{Stream, outcome_seen};
+ghost use Rattle.eel_said.specs.Outcome.{Stream};
+ghost use Rattle.eel_said.specs.Code.{outcome_seen};
 ghost use Rattle.eel_said.specs.Seen.{files_seen, stream_seen};
 ghost use Rattle.eel.specs.Answers.Files.{IsNotSound, IsSound};
 ghost use Rattle.eel.specs.Answers.List.{listed_of};

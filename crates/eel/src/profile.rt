@@ -3,17 +3,20 @@ ghost use Rattle.std.specs.Prelude.{◌≡◌, ◌≤◌, ◌*◌, ◌^◌, IfEr
 ghost use Rattle.std.specs.List.{All};
 ghost use Rattle.snippets.specs.Cells.{WorksBelow};
 ghost use Rattle.cfg_blocks.specs.Marks.{numbers};
-ghost use Rattle.cfg_view.specs.View.{view_of, view_seen, IsView};
-ghost use Rattle.edit_core.specs.Taken.{EditRefuses};
+ghost use Rattle.cfg_view.specs.View.{view_of};
+ghost use Rattle.cfg_view.specs.Code.{view_seen, IsView};
+ghost use Rattle.edit_core.specs.Code.{EditRefuses};
 ghost use Rattle.span_tree.specs.Cells.{cell_at, cell_count, AreNumbered};
 ghost use Rattle.span_tree.specs.Weights.{weights_of};
-ghost use Rattle.eel_said.specs.Outcome.{outcome_seen};
+ghost use Rattle.eel_said.specs.Code.{outcome_seen};
 ghost use Rattle.eel_said.specs.Seen.{files_seen};
 ghost use Rattle.eel.specs.Answers.Edit.{IsEditOf};
 ghost use Rattle.eel.specs.Answers.Files.{IsSound};
 ghost use Rattle.eel.specs.Answers.Edit.{Edits};
 ghost use Rattle.exact_counts.specs.Profiles.{counter_in};
-ghost use Rattle.eel.specs.Answers.Profile.{AreCells, CountersRefuse, IsMarkedProfile, IsProfileOf, ProfileRefuses, guessed, guessed_with, no_words, plan_with, profiling};
+ghost use Rattle.eel.specs.Answers.Profile.{AreCells, guessed_with, no_words, plan_with, profiling};
+ghost use Rattle.eel.specs.Private.{CountersRefuse, IsProfileOf, ProfileRefuses, guessed};
+ghost use Rattle.eel.specs.Code.{IsMarkedProfile};
 
 use crate::edit::{EDIT_LIMIT, refusal};
 use crate::texts::{fetch_file, put_file};

@@ -1,6 +1,7 @@
 //! The call that `main` makes: the words behind the name of the program are a command.
 ghost use Rattle.std.specs.Prelude.{◌≡◌, drop, map, string_bytes, IfOk, OnErr};
-ghost use Rattle.eel_said.specs.Command.{command_of, texts};
+ghost use Rattle.eel_said.specs.Command.{command_of};
+ghost use Rattle.v8_process.specs.Arguments.{texts};
 ghost use Rattle.eel_said.specs.Seen.{outside_seen};
 ghost use Rattle.eel.specs.Answers.{HasFailed, IsDone, IsRefusal, IsUnchanged, IsUnrefused, Ran, WasWanting};
 

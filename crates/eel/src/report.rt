@@ -1,9 +1,10 @@
 //! The commands `counts`, `visits` and `trace`: what is told of a run by its dump.
 ghost use Rattle.std.specs.Prelude.{◌≡◌, ◌≤◌, ◌+◌, ◌<◌, ◌^◌, IfOk, IfErr, length};
 ghost use Rattle.notes.specs.Rules.{AreNotes};
-ghost use Rattle.notes.specs.Seen.{notes_seen};
-ghost use Rattle.dump_file.specs.Dump.{dump_seen};
-ghost use Rattle.eel_said.specs.Outcome.{Stream, outcome_seen};
+ghost use Rattle.notes.specs.Code.{notes_seen};
+ghost use Rattle.dump_file.specs.Code.{dump_seen};
+ghost use Rattle.eel_said.specs.Outcome.{Stream};
+ghost use Rattle.eel_said.specs.Code.{outcome_seen};
 ghost use Rattle.eel_said.specs.Seen.{files_seen, stream_seen};
 ghost use Rattle.eel_said.specs.Shared.{Feed, outside};
 ghost use Rattle.eel.specs.Answers.Report.{IsRefused, IsReported, IsUnreported, Reports, Tell};

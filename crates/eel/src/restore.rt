@@ -1,7 +1,7 @@
 //! The command `restore`.
 ghost use Rattle.std.specs.Prelude.{◌≡◌, ◌≤◌, ◌+◌, IfOk, IfErr, length};
-ghost use Rattle.notes.specs.Seen.{notes_seen};
-ghost use Rattle.eel_said.specs.Outcome.{outcome_seen};
+ghost use Rattle.notes.specs.Code.{notes_seen};
+ghost use Rattle.eel_said.specs.Code.{outcome_seen};
 ghost use Rattle.eel_said.specs.Seen.{files_seen};
 ghost use Rattle.eel.specs.Answers.Steps.{Makes};
 ghost use Rattle.eel_said.specs.Shared.{written_limit};

@@ -1,12 +1,12 @@
 //! The command `run`.
 ghost use Rattle.std.specs.Prelude.{◌≡◌, ◌≤◌, IfOk, IfErr, OnOk, None};
 ghost use Rattle.elf32_sparc.specs.FileFault.{load_fault};
-ghost use Rattle.v8_process.specs.Arguments.{AreArguments};
+ghost use Rattle.v8_process.specs.Arguments.{AreArguments, texts};
 ghost use Rattle.v8_process.specs.Start.{start_of};
-ghost use Rattle.eel_said.specs.Command.{texts};
-ghost use Rattle.eel_said.specs.Outcome.{outcome_seen};
+ghost use Rattle.eel_said.specs.Code.{outcome_seen};
 ghost use Rattle.eel_said.specs.Seen.{outside_seen, stream_seen};
-ghost use Rattle.eel.specs.Answers.Run.{IsNotRun, IsRun, stopped_of};
+ghost use Rattle.eel.specs.Answers.Run.{IsNotRun, IsRun};
+ghost use Rattle.eel.specs.Private.{stopped_of};
 ghost use Rattle.eel.specs.Answers.Dump.{Runs};
 
 use crate::texts::{fetch_file, read_input};

@@ -1,7 +1,8 @@
 //! The command `show`.
 ghost use Rattle.std.specs.Prelude.{◌≡◌, ◌≤◌, IfOk, IfErr};
-ghost use Rattle.cfg_view.specs.View.{view_seen, IsView};
-ghost use Rattle.eel_said.specs.Outcome.{Stream, outcome_seen};
+ghost use Rattle.cfg_view.specs.Code.{view_seen, IsView};
+ghost use Rattle.eel_said.specs.Outcome.{Stream};
+ghost use Rattle.eel_said.specs.Code.{outcome_seen};
 ghost use Rattle.eel_said.specs.Seen.{files_seen, stream_seen};
 ghost use Rattle.eel.specs.Answers.Files.{IsNotSound, IsSound};
 ghost use Rattle.eel_said.specs.Shared.{Feed, outside};

@@ -1,6 +1,6 @@
 //! Texts that come in and go out: their bytes, or what comes of it where they can't be had or put.
 ghost use Rattle.std.specs.Prelude.{◌≡◌, ◌≤◌, IfOk, IfErr};
-ghost use Rattle.eel_said.specs.Outcome.{outcome_seen};
+ghost use Rattle.eel_said.specs.Code.{outcome_seen};
 ghost use Rattle.eel_said.specs.Seen.{files_seen, input_seen, stream_seen};
 ghost use Rattle.eel_said.specs.Shared.{IsPrinted, IsPut, IsUnread, WasRead};
 ghost use Rattle.eel.specs.Answers.Run.{IsUnfed, WasFed};

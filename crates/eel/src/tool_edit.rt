@@ -2,11 +2,11 @@
 ghost use Rattle.std.specs.Prelude.{◌≡◌, ◌≤◌, ◌^◌, IfErr, IfOk, None, length};
 ghost use Rattle.elf32_sparc.specs.FileFault.{fault};
 ghost use Rattle.cfg_blocks.specs.Marks.{numbers};
-ghost use Rattle.cfg_view.specs.View.{view_of, view_seen};
+ghost use Rattle.cfg_view.specs.View.{view_of};
+ghost use Rattle.cfg_view.specs.Code.{view_seen};
 ghost use Rattle.tool_kit.specs.Plans.{Plan};
 ghost use Rattle.tool_kit.specs.Sound.{IsSound};
-ghost use Rattle.edit_core.specs.Faithful.{AsksOf, CountsEdges};
-ghost use Rattle.edit_core.specs.Taken.{EditRefuses};
+ghost use Rattle.edit_core.specs.Code.{AsksOf, CountsEdges, EditRefuses};
 ghost use Rattle.eel.specs.Answers.Edit.{IsEditOf};
 ghost use Rattle.eel.specs.Answers.Tool.{kept_by};
 

@@ -1,9 +1,9 @@
 //! The command `edit` with a ring that keeps the last edges.
 ghost use Rattle.std.specs.Prelude.{◌≡◌, ◌+◌, ◌<◌, ◌≤◌, ◌^◌, IfErr, IfOk, length};
 ghost use Rattle.snippets.specs.Cells.{WorksBelow};
-ghost use Rattle.edit_core.specs.Taken.{EditRefuses};
+ghost use Rattle.edit_core.specs.Code.{EditRefuses};
 ghost use Rattle.edge_ring.specs.Ring.{ring_on};
-ghost use Rattle.eel_said.specs.Outcome.{outcome_seen};
+ghost use Rattle.eel_said.specs.Code.{outcome_seen};
 ghost use Rattle.eel_said.specs.Seen.{files_seen};
 ghost use Rattle.eel.specs.Answers.Edit.{Edits, IsEditOf};
 ghost use Rattle.eel.specs.Answers.Trace.{trace_plan, tracing};

@@ -1,16 +1,17 @@
 //! How often each instruction ran.
 ghost use Rattle.std.specs.Prelude.{◌≡◌, ◌≤◌, ◌+◌, ◌<◌, ◌^◌, ℕ, IfErr, IfOk, List, length};
 ghost use Rattle.notes.specs.Rules.{AreNotes};
-ghost use Rattle.notes.specs.Seen.{notes_seen};
-ghost use Rattle.dump_file.specs.Dump.{dump_seen};
-ghost use Rattle.cfg_view.specs.View.{view_seen, IsView};
+ghost use Rattle.notes.specs.Code.{notes_seen};
+ghost use Rattle.dump_file.specs.Code.{dump_seen};
+ghost use Rattle.cfg_view.specs.Code.{view_seen, IsView};
 ghost use Rattle.instr_counts.specs.Answers.{AreVisits};
 ghost use Rattle.instr_counts.specs.Lines.{visit_lines};
 ghost use Rattle.instr_counts.specs.Matches.{Matches};
-ghost use Rattle.eel_said.specs.Outcome.{outcome_seen};
+ghost use Rattle.eel_said.specs.Code.{outcome_seen};
 ghost use Rattle.eel.specs.Answers.Restore.{original_in};
 ghost use Rattle.eel.specs.Answers.Every.{every_view};
-ghost use Rattle.eel.specs.Answers.Visits.{HasEveryWord, IsNotEveryWord, IsUnvisited, TellVisits};
+ghost use Rattle.eel.specs.Answers.Visits.{HasEveryWord, IsUnvisited, TellVisits};
+ghost use Rattle.eel.specs.Private.{IsNotEveryWord};
 ghost use Rattle.eel.specs.Refusals.{unmarked_of};
 
 use crate::counts::refusal;

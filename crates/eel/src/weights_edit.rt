@@ -1,15 +1,17 @@
 //! The command `edit` with counters that are placed by the counts of an earlier run.
 ghost use Rattle.std.specs.Prelude.{◌≡◌, ◌≤◌, ◌^◌, ℕ, [], IfErr, IfOk, List, length};
 ghost use Rattle.std.specs.List.{All};
-ghost use Rattle.cfg_view.specs.View.{view_of, view_seen, IsView};
+ghost use Rattle.cfg_view.specs.View.{view_of};
+ghost use Rattle.cfg_view.specs.Code.{view_seen, IsView};
 ghost use Rattle.span_tree.specs.Cells.{cell_count};
 ghost use Rattle.weights_in.specs.Weights.{AreWeights};
-ghost use Rattle.eel_said.specs.Outcome.{outcome_seen};
+ghost use Rattle.eel_said.specs.Code.{outcome_seen};
 ghost use Rattle.eel_said.specs.Seen.{files_seen};
 ghost use Rattle.eel.specs.Answers.Edit.{EditsBy};
 ghost use Rattle.eel.specs.Answers.Files.{IsSound};
 ghost use Rattle.eel.specs.Answers.Profile.{AreCells};
-ghost use Rattle.eel.specs.Answers.Weighed.{AreNotWeights, IsNotWeighed, IsWeighedEdit, weighing, weights_limit};
+ghost use Rattle.eel.specs.Private.{AreNotWeights, IsNotWeighed, IsWeighedEdit};
+ghost use Rattle.eel.specs.Answers.Weighed.{weighing, weights_limit};
 ghost use Rattle.eel.specs.Refusals.{unweighed_of};
 
 use crate::edit::{EDIT_LIMIT, refusal};

@@ -1,8 +1,8 @@
 //! The command `words`.
 ghost use Rattle.std.specs.Prelude.{◌≡◌, ◌≤◌, IfOk, IfErr};
-ghost use Rattle.elf32_write.specs.Bytes.{words_bytes};
+ghost use Rattle.elf32_write.specs.Kept.{words_bytes};
 ghost use Rattle.v8_text.specs.Listings.{IsListing};
-ghost use Rattle.eel_said.specs.Outcome.{outcome_seen};
+ghost use Rattle.eel_said.specs.Code.{outcome_seen};
 ghost use Rattle.eel_said.specs.Seen.{files_seen};
 ghost use Rattle.eel.specs.Answers.Steps.{Makes};
 ghost use Rattle.eel.specs.Answers.Words.{IsAssembled, IsNotListing, listing_limit};

@@ -1,7 +1,8 @@
 -- What the objects in memory are seen as.
 use Rattle.std.specs.Prelude.{ℕ, Bool, ◌&&◌, ◌||◌, nat_lt, nat_le, List, map, length, String, Vec, string_bytes}
 use Rattle.std.specs.declared.alloc.Global.{Global}
-use Rattle.eel_base.specs.Outside.{Holding, Calls, is_to_fail}
+use Rattle.eel_base.specs.Outside.{Holding}
+use Rattle.eel_base.specs.Code.{Calls, is_to_fail}
 
 pub record FilesInMemory : Type 0 where
   pub held : Holding

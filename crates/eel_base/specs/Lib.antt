@@ -3,3 +3,4 @@ pub mod Outside
 pub mod CodeText
 pub mod InMemory
 pub mod Real
+pub mod Code

@@ -1,7 +1,6 @@
 -- What the objects of the outside hold, give and take. An object tells it as `Some ..`; one that
 -- tells nothing has `None` before and after each call.
-use Rattle.std.specs.Prelude.{◌≡◌, ◌≢◌, ℕ, suc, ◌-◌, ◌≤◌, ◌<◌, ◌^◌, ⊤, min, if◌then◌else◌, Bool, List, [], ◌++◌, length, take, ◌==◌, Option, Some, None}
-use Rattle.std.specs.List.{list_any}
+use Rattle.std.specs.Prelude.{◌≡◌, ◌≢◌, ℕ, suc, ◌-◌, ◌≤◌, ◌<◌, ◌^◌, ⊤, min, List, [], ◌++◌, length, take, Option, Some, None}
 use Rattle.std.specs.Ordering.{nat_cmp}
 use Rattle.std.specs.declared.cmp.Ordering.{Ordering}
 use Rattle.std.specs.Cmp.Lexicographic.{slice_cmp}
@@ -86,27 +85,3 @@ appended (Some old) bytes = Some (old ++ bytes)
 -- a first part of the bytes was taken
 abbrev pub TookPart : Option (List ℕ) → Option (List ℕ) → List ℕ → Type 0
 TookPart old new bytes = (count : ℕ) × (new ≡ appended old (take count bytes))
-
--- The objects in memory.
-
--- the calls that an object has had, counted from 0, those that are to fail, and its faults
-pub record Calls : Type 0 where
-  pub fail : List ℕ
-  pub made : ℕ
-  pub faults : ℕ
-
--- no call yet
-abbrev pub no_calls : List ℕ → Calls
-no_calls fail = record { fail = fail; made = 0; faults = 0 }
-
--- the next call is to fail
-abbrev pub is_to_fail : Calls → Bool
-is_to_fail calls = list_any (λ number. number == calls.made) calls.fail
-
--- after one more call, which is one more fault where it failed
-abbrev pub counted : Calls → Bool → Calls
-counted calls failed = record calls { made = raised calls.made; faults = if failed then raised calls.faults else calls.faults }
-
--- after one more call, which fails where it is to fail
-abbrev pub called : Calls → Calls
-called calls = counted calls (is_to_fail calls)

@@ -1,7 +1,8 @@
 //! The text of a program.
 ghost use Rattle.std.specs.Prelude.{◌≡◌, ◌≢◌, ℕ, ◌+◌, ◌<◌, ◌≤◌, length, slice_index, IfSome, IfNone};
 ghost use Rattle.std.specs.Option.{SomeIff};
-ghost use Rattle.eel_base.specs.CodeText.{Words, IsText, address_of, numbered, target_of, word_at};
+ghost use Rattle.eel_base.specs.CodeText.{Words, address_of, numbered, target_of, word_at};
+ghost use Rattle.eel_base.specs.Code.{IsText};
 
 use crate::numbers::{Addr, WordNo};
 use std::marker::Model;
@@ -17,7 +18,8 @@ pub struct Text {
 }
 
 impl Model for Text {
-    ghost use Rattle.eel_base.specs.CodeText.{Words, IsText};
+    ghost use Rattle.eel_base.specs.CodeText.{Words};
+    ghost use Rattle.eel_base.specs.Code.{IsText};
 
     ghost Value = { Words };
 

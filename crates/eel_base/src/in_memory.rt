@@ -2,7 +2,8 @@
 //! and fail at the calls that they are told to fail at.
 ghost use Rattle.std.specs.Prelude.{◌≡◌, Some, None, ◌⊎◌, ◌+◌, ◌-◌, ◌<◌, ◌≤◌, List, [], length, take, drop, min, IfOk, OnOk, OnErr, IsErr, IsErrOf, IsTrue, IsNone, vec_len, ◌↔◌};
 ghost use Rattle.std.specs.Option.{option_copied};
-ghost use Rattle.eel_base.specs.Outside.{Holding, bytes_under, with_bytes, stored, IsMissing, AreUnder, IsLonger, SameBut, Rose, raised, preceded, IsAtEnd, appended, Calls, no_calls, is_to_fail, called, counted};
+ghost use Rattle.eel_base.specs.Outside.{Holding, bytes_under, with_bytes, stored, IsMissing, AreUnder, IsLonger, SameBut, Rose, raised, preceded, IsAtEnd, appended};
+ghost use Rattle.eel_base.specs.Code.{Calls, no_calls, is_to_fail, called, counted};
 ghost use Rattle.eel_base.specs.InMemory.{FilesInMemory, SourceInMemory, SinkInMemory, fails_to_take};
 
 use crate::numbers::NoMemory;
@@ -21,7 +22,7 @@ struct CallLog {
 }
 
 impl Model for CallLog {
-    ghost use Rattle.eel_base.specs.Outside.{Calls};
+    ghost use Rattle.eel_base.specs.Code.{Calls};
 
     ghost Value = { Calls };
 

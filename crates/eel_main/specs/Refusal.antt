@@ -1,6 +1,6 @@
 -- What comes of a call whose words could not be had.
 use Rattle.std.specs.declared.io.ErrorKind.{ErrorKind}
-use Rattle.eel.specs.Outcome.{Outcome, BadWords, OutOfMemory}
+use Rattle.eel_said.specs.Outcome.{Outcome, BadWords, OutOfMemory}
 
 -- a word that is no text is outside the grammar
 abbrev pub refusal_of : ErrorKind → Outcome

@@ -5,7 +5,7 @@ use Rattle.std.proofs.lemmas.List.{take-append-le, take_min, take-append-drop}
 use Rattle.std.proofs.lemmas.Grind.{flat_map-append}
 use Rattle.eel_base.specs.Outside.{appended, TookPart}
 use Rattle.eel_base.proofs.Parts.{appended-appended}
-use Rattle.eel_said.specs.Outcome.{joined}
+use Rattle.eel_said.specs.Private.{joined}
 
 -- a first part of b, or all of it where it has fewer than k
 take-within : (b c : List ℕ) (k : ℕ) → (m : ℕ) × (take m (b ++ c) ≡ take k b)

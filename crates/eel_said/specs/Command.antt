@@ -1,16 +1,12 @@
 -- The grammar of the program's words.
-use Rattle.std.specs.Prelude.{ℕ, ◌+◌, ◌-◌, ◌*◌, ◌^◌, ◌≤◌, ◌&&◌, nat_le, nat_lt, Bool, if◌then◌else◌, List, [], ◌∷◌, length, codes, decimal, Option, Some, None}
-use Rattle.std.specs.Borrow.{Bor}
+use Rattle.std.specs.Prelude.{ℕ, ◌+◌, ◌-◌, ◌*◌, ◌^◌, ◌&&◌, nat_le, nat_lt, Bool, if◌then◌else◌, List, [], ◌∷◌, length, codes, decimal, Option, Some, None}
 use Rattle.std.specs.List.{find, fold, list_all, range_with_len}
 use Rattle.std.specs.Option.{option_or}
 use Rattle.std.specs.Str.{bytes_eq}
 pub use Rattle.v8_process.specs.Arguments.{texts}
-use Rattle.v8_process.specs.Arguments.{AreArguments}
 use Rattle.v8_process.specs.Start.{strings}
 use Rattle.eel_said.specs.declared.command.Report.{Report}
 use Rattle.eel_said.specs.declared.command.Report.TheVariants as reports
-use Rattle.eel_said.specs.declared.command.Command as declared
-use Rattle.eel_said.specs.declared.command.Command.TheVariants as variants
 
 pub data Command : Type 0 where
   -- edit INPUT OUTPUT plain
@@ -165,33 +161,3 @@ command_of (verb ∷ words) =
     if bytes_eq verb (codes "visits") then of_two (ReportRun reports.Visits) words else
     if bytes_eq verb (codes "trace") then of_two (ReportRun reports.LastEdges) words else
     if bytes_eq verb (codes "demo") then of_two demo_of words else Unknown
-
--- the arguments of a run are ones that a program can be given, as many routines are asked for as can be made, and a ring
--- has 1 to 16 bits
-abbrev pub KeepsLimits : Command → Type 0
-KeepsLimits (Run file limit dump args) = AreArguments args
-KeepsLimits (Demo number routines) = (1 ≤ routines) × (routines ≤ 100000)
-KeepsLimits (EditTrace input output bits) = (1 ≤ bits) × (bits ≤ 16)
-KeepsLimits _ = Unit {0}
-
--- a name, if there is one
-abbrev pub name_seen : Option (Bor (List ℕ)) → Option (List ℕ)
-name_seen None = None
-name_seen (Some name) = Some name.now
-
--- the command that the program keeps
-abbrev pub command_seen : declared.Command → Command
-command_seen (variants.EditPlain input output) = EditPlain input.now output.now
-command_seen (variants.EditScript input output script) = EditScript input.now output.now script.now
-command_seen (variants.Run file limit dump args) = Run file.now limit (name_seen dump) (texts args.now)
-command_seen (variants.Show file) = Show file.now
-command_seen (variants.Restore written output) = Restore written.now output.now
-command_seen (variants.EditProfile input output) = EditProfile input.now output.now
-command_seen (variants.EditWeighed input output weights) = EditWeighed input.now output.now weights.now
-command_seen (variants.EditEvery input output) = EditEvery input.now output.now
-command_seen (variants.ListWords file) = ListWords file.now
-command_seen (variants.PutWords listing output) = PutWords listing.now output.now
-command_seen (variants.ReportRun report written dump) = ReportRun report written.now dump.now
-command_seen (variants.EditTrace input output bits) = EditTrace input.now output.now bits
-command_seen (variants.Demo number routines) = Demo number routines
-command_seen variants.Unknown = Unknown

@@ -1,8 +1,6 @@
 -- What came of a command, and how it shows: a line on the error stream and a status.
 use Rattle.std.specs.Prelude.{◌≡◌, ℕ, List, [], ◌∷◌, ◌++◌, Option, Some, None, codes, decimal}
-use Rattle.std.specs.Borrow.{Bor}
 use Rattle.std.specs.Fmt.{signed_decimal}
-use Rattle.std.specs.List.{flat_map}
 use Rattle.eel_base.specs.Fields.{hex_of}
 use Rattle.eel_base.specs.Outside.{Rose, appended, TookPart}
 use Rattle.v8_step.specs.declared.Ending.{Ending}
@@ -11,8 +9,6 @@ use Rattle.eel_said.specs.declared.outcome.LineCause.{LineCause}
 use Rattle.eel_said.specs.declared.outcome.LineCause.TheVariants as causes
 use Rattle.eel_said.specs.declared.outcome.CountCause.{CountCause}
 use Rattle.eel_said.specs.declared.outcome.CountCause.TheVariants as count_causes
-use Rattle.eel_said.specs.declared.outcome.Outcome as declared
-use Rattle.eel_said.specs.declared.outcome.Outcome.TheVariants as variants
 
 pub data Outcome : Type 0 where
   -- an edit is done, or a program was shown
@@ -131,27 +127,3 @@ pub data Shows (outcome : Outcome) (status : ℕ) (old new : Stream) : Type 0 wh
       → Shows outcome status old new
   failed : status ≡ 74 → TookPart old.taken new.taken (line_of outcome) → Rose old.faults new.faults
       → Shows outcome status old new
-
--- pieces of text, one after the other
-abbrev pub joined : List (Bor (List ℕ)) → List ℕ
-joined pieces = flat_map (λ piece. piece.now) pieces
-
--- the outcome that the program keeps
-abbrev pub outcome_seen : declared.Outcome → Outcome
-outcome_seen variants.Done = Done
-outcome_seen (variants.Stopped ending steps) = Stopped ending steps
-outcome_seen variants.BadWords = BadWords
-outcome_seen (variants.BadFile name code) = BadFile name.now code
-outcome_seen (variants.BadLine name number cause) = BadLine name.now number cause
-outcome_seen (variants.NoRoom name needed had) = NoRoom name.now needed had
-outcome_seen (variants.TooLong name limit) = TooLong name.now limit
-outcome_seen (variants.NoNotes name) = NoNotes name.now
-outcome_seen (variants.BadNotes name at) = BadNotes name.now at
-outcome_seen (variants.BadDump name at) = BadDump name.now at
-outcome_seen (variants.NoProfile name) = NoProfile name.now
-outcome_seen (variants.NotEveryWord name) = NotEveryWord name.now
-outcome_seen (variants.NoCounts name cause) = NoCounts name.now cause
-outcome_seen (variants.NoTrace name) = NoTrace name.now
-outcome_seen (variants.BadCell name cell value) = BadCell name.now cell value
-outcome_seen variants.OutOfMemory = OutOfMemory
-outcome_seen variants.DeviceFault = DeviceFault

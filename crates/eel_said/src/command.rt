@@ -3,10 +3,11 @@ ghost use Rattle.std.specs.Prelude.{◌≡◌, ◌≤◌, ◌+◌, ◌∷◌, le
 ghost use Rattle.std.specs.Bool.{OnTrue};
 ghost use Rattle.std.specs.List.{All, list_all};
 ghost use Rattle.std.specs.Str.{bytes_eq};
-ghost use Rattle.v8_step.specs.Valid.{AreBytes};
-ghost use Rattle.v8_process.specs.Arguments.{AreArguments};
+ghost use Rattle.v8_step.specs.State.{AreBytes};
+ghost use Rattle.v8_process.specs.Arguments.{AreArguments, texts};
 ghost use Rattle.v8_process.specs.Start.{strings};
-ghost use Rattle.eel_said.specs.Command.{KeepsLimits, command_of, command_seen, edit_of, of_one, of_two, tool_of, tool_with, run_of, ListWords, PutWords, ReportRun, Restore, Show, options_of, option_in, late_in, limit_in, arguments_of, are_few, is_digit, number_within, name_seen, demo_of, demo_with as demo_with_of, texts, bits_of, trace_with};
+ghost use Rattle.eel_said.specs.Code.{KeepsLimits, command_seen, name_seen};
+ghost use Rattle.eel_said.specs.Command.{command_of, edit_of, of_one, of_two, tool_of, tool_with, run_of, ListWords, PutWords, ReportRun, Restore, Show, options_of, option_in, late_in, limit_in, arguments_of, are_few, is_digit, number_within, demo_of, demo_with as demo_with_of, bits_of, trace_with};
 
 use itoa::Buffer;
 

@@ -2,7 +2,9 @@
 ghost use Rattle.std.specs.Prelude.{◌≡◌, ◌≤◌, ◌++◌, ◌∷◌, [], codes, OnOk, OnErr};
 ghost use Rattle.eel_base.specs.Outside.{Rose, appended, TookPart};
 ghost use Rattle.eel_said.specs.declared.outcome.CountCause.TheVariants as count_causes;
-ghost use Rattle.eel_said.specs.Outcome.{BadLine, cause_text as cause_text_of, outcome_seen, status_of, ending_text, line_of, Shows, joined, NoCounts, line_about};
+ghost use Rattle.eel_said.specs.Outcome.{BadLine, cause_text as cause_text_of, status_of, ending_text, line_of, Shows, NoCounts, line_about};
+ghost use Rattle.eel_said.specs.Code.{outcome_seen};
+ghost use Rattle.eel_said.specs.Private.{joined};
 ghost use Rattle.eel_said.specs.Seen.{stream_seen};
 
 use eel_base::{Addr, EdgeNo, Failed, NoMemory, Sink, hex8, put_all};

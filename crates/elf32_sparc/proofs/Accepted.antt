@@ -3,7 +3,7 @@ use Rattle.std.proofs.Common.{◌≡◌, ℕ, zero, suc, ◌+◌, ◌-◌, ◌*�
 use Rattle.std.specs.List.{fold, list_any}
 use Rattle.std.specs.Option.{option_map_or}
 use Rattle.std.proofs.lemmas.Bool.{or_parts, and_parts, ltb-false, ltb-true, leb-true, eqb-true, not-false, false≢true}
-use Rattle.eel_base.specs.CodeText.{IsText}
+use Rattle.eel_base.specs.Code.{IsText}
 use Rattle.elf32_sparc.specs.declared.header.ProgramHeader.{ProgramHeader}
 use Rattle.elf32_sparc.specs.declared.fault.FileFault.{FileFault}
 use Rattle.elf32_sparc.specs.Header.{e_entry, program_headers, is_loadable, loadable, end_of, is_text, text_header, text_count}

@@ -9,7 +9,8 @@ use Rattle.elf32_sparc.specs.FileFault.{fault}
 use Rattle.elf32_sparc.specs.declared.sections.Func.{Func}
 use Rattle.elf32_sparc.specs.Symbols.{funcs_of}
 use Rattle.elf32_sparc.specs.Survey.{no_survey, survey_of}
-use Rattle.elf32_sparc.specs.Image.{segment_of, highest_end, rounded_up, room_from, text_from, text_of, no_text, word_number, Program, IsProgram, image_of}
+use Rattle.elf32_sparc.specs.Image.{segment_of, highest_end, rounded_up, room_from, text_from, text_of, no_text, word_number, Program, image_of}
+use Rattle.elf32_sparc.specs.Code.{IsProgram}
 use Rattle.elf32_sparc.proofs.SurveyFacts.{fold-text}
 use Rattle.elf32_sparc.proofs.Functions.{funcs-inside}
 use Rattle.elf32_sparc.proofs.Accepted.{Accepted, IsFit, accepted, has_text, text_is_fit, segments_end_below}

@@ -1,14 +1,11 @@
 -- The image of a file that can be edited: its segments, its text and function symbols, and the room above it.
-use Rattle.std.specs.Prelude.{◌≡◌, ℕ, zero, suc, ◌+◌, ◌-◌, ◌*◌, ◌/◌, ◌%◌, ◌^◌, ◌<◌, ◌≤◌, min, max, List, [], ◌∷◌, length, map, drop, Option, Some, None, Result, Ok, Err}
-use Rattle.std.specs.List.{fold, All}
+use Rattle.std.specs.Prelude.{ℕ, zero, suc, ◌+◌, ◌-◌, ◌*◌, ◌/◌, ◌^◌, min, max, List, [], ◌∷◌, map, drop}
+use Rattle.std.specs.List.{fold}
 use Rattle.std.specs.Option.{option_map_or}
 use Rattle.byteorder.specs.Endian.{big_number}
 use Rattle.eel_base.specs.CodeText.{Words}
 use Rattle.elf32_sparc.specs.declared.header.ProgramHeader.{ProgramHeader}
 use Rattle.elf32_sparc.specs.declared.program.Segment.{Segment}
-use Rattle.elf32_sparc.specs.declared.fault.FileFault.{FileFault}
-use Rattle.elf32_sparc.specs.declared.fault.ReadFault.{ReadFault}
-use Rattle.elf32_sparc.specs.declared.fault.ReadFault.TheVariants.{File, NoMemory}
 use Rattle.elf32_sparc.specs.declared.sections.Func.{Func}
 use Rattle.elf32_sparc.specs.Mapping.{memory_bytes}
 use Rattle.elf32_sparc.specs.Symbols.{funcs_of}
@@ -72,13 +69,6 @@ pub record Program : Type 0 where
   pub base : ℕ
   pub room : ℕ
 
--- what is true of each image
-pub record IsProgram (p : Program) : Type 0 where
-  pub entry : p.entry < length p.text.words
-  pub funcs : All (λ func. func.start.0 < length p.text.words) p.funcs
-  pub base : p.base % 0x10000 ≡ 0
-  pub below : p.base ≤ 0x80000000
-
 unfoldable pub image_of : List ℕ → Program
 image_of file =
     let segments = map segment_of (loadable (program_headers file)) in
@@ -91,9 +81,3 @@ image_of file =
       base = base;
       room = room_from base;
     }
-
--- the fault for which a file is refused, if it is
-abbrev pub refusal : {Image : Type 0} → Result Image ReadFault → Option FileFault
-refusal (Ok image) = None
-refusal (Err (File fault)) = Some fault
-refusal (Err NoMemory) = None

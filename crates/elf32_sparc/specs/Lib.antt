@@ -4,3 +4,4 @@ pub mod Survey
 pub mod Mapping
 pub mod Symbols
 pub mod Image
+pub mod Code

@@ -2,11 +2,12 @@
 ghost use Rattle.std.specs.Prelude.{◌≡◌, ◌+◌, ◌%◌, ◌^◌, ◌<◌, ◌≤◌, length, map, take, drop, slice_index, IfOk};
 ghost use Rattle.std.specs.List.{All};
 ghost use Rattle.byteorder.specs.Endian.{big_number};
-ghost use Rattle.eel_base.specs.CodeText.{IsText};
+ghost use Rattle.eel_base.specs.Code.{IsText};
 ghost use Rattle.elf32_sparc.specs.Header.{e_entry, program_headers, loadable};
 ghost use Rattle.elf32_sparc.specs.FileFault.{fault};
 ghost use Rattle.elf32_sparc.specs.Mapping.{file_bytes};
-ghost use Rattle.elf32_sparc.specs.Image.{segment_of, segment_end, highest_end, rounded_up, words_of, text_from, image_of, refusal};
+ghost use Rattle.elf32_sparc.specs.Image.{segment_of, segment_end, highest_end, rounded_up, words_of, text_from, image_of};
+ghost use Rattle.elf32_sparc.specs.Code.{refusal};
 
 use crate::fault::ReadFault;
 use crate::flags::SegFlags;
@@ -73,7 +74,8 @@ pub struct Image {
 }
 
 impl Model for Image {
-    ghost use Rattle.elf32_sparc.specs.Image.{Program, IsProgram, room_from};
+    ghost use Rattle.elf32_sparc.specs.Image.{Program, room_from};
+    ghost use Rattle.elf32_sparc.specs.Code.{IsProgram};
 
     ghost Value = { Program };
 

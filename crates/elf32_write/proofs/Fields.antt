@@ -10,7 +10,8 @@ use Rattle.elf32_sparc.specs.declared.header.ProgramHeader.{ProgramHeader}
 use Rattle.elf32_sparc.specs.Header.{word_at, half_at, program_header, headers_from, program_headers, e_phoff, e_phnum, is_text}
 use Rattle.elf32_sparc.specs.Symbols.{e_shnum, has_sections, section_count}
 use Rattle.elf32_write.specs.Bytes.{next_page}
-use Rattle.elf32_write.specs.Headers.{AddedSegment, segments_end, added_header, added_headers, is_carried, not_executable, carried_on}
+use Rattle.elf32_write.specs.Headers.{AddedSegment, segments_end, added_header, added_headers, is_carried, carried_on}
+use Rattle.elf32_write.specs.Kept.{not_executable}
 use Rattle.elf32_write.specs.Written.{delta_in, original_end, segment_headers}
 use Rattle.elf32_write.specs.Conditions.{CanWrite, AreNumbers, HasWords}
 use Rattle.elf32_write.proofs.Segments.{segments_end-from}

@@ -9,7 +9,8 @@ use Rattle.byteorder.specs.Endian.{big_bytes}
 use Rattle.elf32_sparc.specs.declared.header.ProgramHeader.{ProgramHeader}
 use Rattle.elf32_sparc.specs.Header.{word_at}
 use Rattle.elf32_sparc.specs.Symbols.{e_shoff, section_count}
-use Rattle.elf32_write.specs.Bytes.{words_bytes, halves_bytes, padded_to, next_page}
+use Rattle.elf32_write.specs.Kept.{words_bytes}
+use Rattle.elf32_write.specs.Bytes.{halves_bytes, padded_to, next_page}
 use Rattle.elf32_write.specs.Headers.{AddedSegment, program_header, section_names, file_header}
 use Rattle.elf32_write.specs.Sections.{moved, section_copy, section_entry, section_table}
 use Rattle.elf32_write.specs.Written.{delta_in, notes_at, sections_at, locator_at, segment_headers, headers, locator, with_segments, written}

@@ -8,7 +8,7 @@ use Rattle.elf32_sparc.specs.Header.{loadable, is_loadable, is_load, is_text, ha
 use Rattle.elf32_sparc.specs.FileFault.{leaves_file}
 use Rattle.elf32_sparc.specs.Mapping.{mapping_of, file_bytes}
 use Rattle.elf32_write.specs.Headers.{carried_on}
-use Rattle.elf32_write.specs.Laws.{is_code, kept}
+use Rattle.elf32_write.specs.Kept.{is_code, kept}
 
 -- a part of the first bytes stands where those bytes stand
 part-within : (xs : List ℕ) (at n size : ℕ) → at + n ≤ size → take n (drop at (take size xs)) ≡ take n (drop at xs)

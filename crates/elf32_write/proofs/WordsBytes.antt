@@ -2,7 +2,8 @@
 use Rattle.std.proofs.Common.{◌≡◌, ℕ, List, ◌∷◌, ◌++◌, refl, ◌*◌, length}
 use Rattle.byteorder.specs.Endian.{big_bytes}
 use Rattle.byteorder.specs.Numbers.{length-bytes_high_first}
-use Rattle.elf32_write.specs.Bytes.{words_bytes, halves_bytes}
+use Rattle.elf32_write.specs.Kept.{words_bytes}
+use Rattle.elf32_write.specs.Bytes.{halves_bytes}
 pub use Rattle.notes.proofs.Bytes.{length-flat_map}
 
 -- words and halfwords as bytes

@@ -12,7 +12,8 @@ use Rattle.notes.specs.Format.{has_locator, notes_version, notes_offset, notes_l
 use Rattle.elf32_sparc.specs.Symbols.{section_count}
 use Rattle.elf32_sparc.proofs.Accepted.{accepted}
 use Rattle.elf32_sparc.proofs.Tables.{whole_header}
-use Rattle.elf32_write.specs.Bytes.{words_bytes, halves_bytes}
+use Rattle.elf32_write.specs.Kept.{words_bytes}
+use Rattle.elf32_write.specs.Bytes.{halves_bytes}
 use Rattle.elf32_write.specs.Headers.{AddedSegment, program_header, section_names}
 use Rattle.elf32_write.specs.Written.{notes_at, sections_at, locator_at, segment_headers, headers, written}
 use Rattle.elf32_write.specs.Conditions.{CanWrite}

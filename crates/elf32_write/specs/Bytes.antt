@@ -3,9 +3,6 @@ use Rattle.std.specs.Prelude.{ℕ, ◌+◌, ◌-◌, ◌*◌, ◌/◌, List, ◌
 use Rattle.std.specs.List.{flat_map}
 use Rattle.byteorder.specs.Endian.{big_bytes}
 
-unfoldable pub words_bytes : List ℕ → List ℕ
-words_bytes words = flat_map (big_bytes 4) words
-
 unfoldable pub halves_bytes : List ℕ → List ℕ
 halves_bytes halves = flat_map (big_bytes 2) halves
 

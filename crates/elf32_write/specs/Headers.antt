@@ -1,12 +1,13 @@
 -- The headers of a written file (System V ABI, "Object Files": figure 4-3, "ELF Header", and figure 5-1,
 -- "Program Header").
-use Rattle.std.specs.Prelude.{ℕ, ◌+◌, ◌%◌, ◌^◌, Bool, not, ◌&&◌, ◌==◌, if◌then◌else◌, bit_and, max, List, [], ◌∷◌, ◌++◌, length, take, map, filter}
+use Rattle.std.specs.Prelude.{ℕ, ◌+◌, ◌%◌, ◌^◌, Bool, not, ◌&&◌, ◌==◌, if◌then◌else◌, max, List, [], ◌∷◌, ◌++◌, length, take, map, filter}
 use Rattle.std.specs.List.{fold}
 use Rattle.elf32_sparc.specs.declared.header.ProgramHeader.{ProgramHeader}
 use Rattle.elf32_sparc.specs.Header.{word_at, half_at, is_load, loadable, is_text}
 use Rattle.elf32_sparc.specs.Symbols.{has_sections, section_count}
 use Rattle.elf32_write.specs.declared.segment.NewSegment.{NewSegment}
-use Rattle.elf32_write.specs.Bytes.{words_bytes, halves_bytes, page_size, next_page}
+use Rattle.elf32_write.specs.Bytes.{halves_bytes, page_size, next_page}
+use Rattle.elf32_write.specs.Kept.{not_executable, words_bytes}
 
 -- ---- the segments that are added
 
@@ -52,10 +53,6 @@ delta_of headers = fold (λ most header. max most header.p_align) page_size (loa
 -- All entries are carried on, but for the table's own (PT_PHDR, 6) and for empty ones to load.
 abbrev pub is_carried : ProgramHeader → Bool
 is_carried header = not (header.p_type == 6) && not (is_load header && (header.p_memsz == 0))
-
--- flags without PF_X
-abbrev pub not_executable : ℕ → ℕ
-not_executable flags = bit_and flags 0xfffffffe
 
 -- an entry whose bytes stand `delta` further on, the text no longer executable
 abbrev pub carried_on : ℕ → ProgramHeader → ProgramHeader

@@ -1,22 +1,16 @@
 -- What is true of every written file.
-use Rattle.std.specs.Prelude.{◌≡◌, ℕ, ◌+◌, ◌^◌, ◌<◌, ◌≤◌, not, ◌&&◌, Bool, if◌then◌else◌, List, ◌++◌, length, take, drop, map, None}
+use Rattle.std.specs.Prelude.{◌≡◌, ℕ, ◌+◌, ◌^◌, ◌<◌, ◌≤◌, List, ◌++◌, length, take, drop, map, None}
 use Rattle.std.specs.List.{All, sum_by}
-use Rattle.elf32_sparc.specs.Header.{e_entry, has_flag}
+use Rattle.elf32_sparc.specs.Header.{e_entry}
 use Rattle.elf32_sparc.specs.FileFault.{load_fault}
 use Rattle.elf32_sparc.specs.Mapping.{Mapping, mappings}
 use Rattle.notes.specs.Format.{notes_of, read_notes}
-use Rattle.elf32_write.specs.Headers.{AddedSegment, not_executable}
+use Rattle.elf32_write.specs.Headers.{AddedSegment}
 use Rattle.elf32_write.specs.Written.{delta_in, written}
 use Rattle.elf32_write.specs.Conditions.{CanWrite, AreNumbers, CanLoad}
+use Rattle.elf32_write.specs.Kept.{kept}
 
 -- ---- what is mapped
-
-abbrev pub is_code : Mapping → Bool
-is_code m = has_flag 1 m.flags && not (has_flag 2 m.flags)
-
--- as the original maps it, but that code is not executable
-abbrev pub kept : Mapping → Mapping
-kept m = record m { flags = if is_code m then not_executable m.flags else m.flags }
 
 -- what an added segment maps
 abbrev pub mapping_added : AddedSegment → Mapping

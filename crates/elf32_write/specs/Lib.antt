@@ -4,3 +4,4 @@ pub mod Sections
 pub mod Written
 pub mod Conditions
 pub mod Laws
+pub mod Kept

@@ -5,9 +5,10 @@ use Rattle.std.specs.List.{flat_map}
 use Rattle.elf32_sparc.specs.declared.header.ProgramHeader.{ProgramHeader}
 use Rattle.elf32_sparc.specs.Header.{program_headers}
 use Rattle.elf32_sparc.specs.Symbols.{has_sections}
-use Rattle.elf32_write.specs.Bytes.{words_bytes, padded_to, next_page, next_word}
+use Rattle.elf32_write.specs.Bytes.{padded_to, next_page, next_word}
 use Rattle.elf32_write.specs.Headers.{AddedSegment, segments_end, added_headers, delta_of, carried_headers, program_header, file_header}
 use Rattle.elf32_write.specs.Sections.{section_table}
+use Rattle.elf32_write.specs.Kept.{words_bytes}
 
 -- ---- where the parts stand
 

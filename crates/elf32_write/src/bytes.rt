@@ -1,6 +1,7 @@
 //! Bytes that are added to a file that grows.
 ghost use Rattle.std.specs.Prelude.{◌≡◌, ◌++◌, OnOk};
-ghost use Rattle.elf32_write.specs.Bytes.{words_bytes, halves_bytes, padded_to};
+ghost use Rattle.elf32_write.specs.Kept.{words_bytes};
+ghost use Rattle.elf32_write.specs.Bytes.{halves_bytes, padded_to};
 
 use byteorder::{BigEndian, ByteOrder};
 use eel_base::NoMemory;
@@ -17,7 +18,7 @@ pub(crate) fn pad_to(out: &mut Vec<u8>, offset: usize) -> Result<(), NoMemory>
 }
 
 /// Adds big-endian words.
-#[tactic(auto, unfolding(crate::specs::Bytes::words_bytes))]
+#[tactic(auto, unfolding(crate::specs::Kept::words_bytes))]
 pub fn put_words(out: &mut Vec<u8>, words: &[u32]) -> Result<(), NoMemory>
     ensures { OnOk result (out.new.items ≡ out.old.items ++ words_bytes words.now) }
 {

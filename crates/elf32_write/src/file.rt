@@ -1,7 +1,8 @@
 //! The written file.
 ghost use Rattle.std.specs.Prelude.{◌≡◌, [], ◌∷◌, ◌++◌, length, map, IfOk, OnOk};
 ghost use Rattle.elf32_sparc.specs.Image.{image_of};
-ghost use Rattle.elf32_write.specs.Bytes.{words_bytes, padded_to, next_page};
+ghost use Rattle.elf32_write.specs.Kept.{words_bytes};
+ghost use Rattle.elf32_write.specs.Bytes.{padded_to, next_page};
 ghost use Rattle.elf32_write.specs.Headers.{segment_seen};
 ghost use Rattle.elf32_write.specs.Written.{locator_at, with_segments, written};
 ghost use Rattle.elf32_write.specs.Conditions.{CanWrite};

@@ -8,7 +8,8 @@ use Rattle.std.proofs.lemmas.List.{length-map}
 use Rattle.std.proofs.lemmas.List.Folds.{list_any-append}
 use Rattle.std.proofs.lemmas.List.FromFn.{length-range_with_len}
 use Rattle.std.proofs.lemmas.List.Sums.{sum_by-append, sum_by-cons}
-use Rattle.eel_base.specs.CodeText.{IsText, Words}
+use Rattle.eel_base.specs.Code.{IsText}
+use Rattle.eel_base.specs.CodeText.{Words}
 use Rattle.cfg_blocks.specs.declared.BlockEnd.{BlockEnd}
 use Rattle.cfg_blocks.specs.declared.BlockEnd.TheVariants as ends
 use Rattle.cfg_blocks.specs.declared.EdgeKind.TheVariants as kinds
@@ -18,7 +19,8 @@ use Rattle.cfg_blocks.specs.Entries.{entered_of, ways_from}
 use Rattle.cfg_normal.specs.declared.Edge.{Edge}
 use Rattle.cfg_normal.specs.declared.Node.{Node}
 use Rattle.cfg_normal.specs.Nodes.{same_kind, same_node}
-use Rattle.cfg_normal.specs.Opens.{AreOne, Open, compares_in, is_copied, jumps_in, targets_in}
+use Rattle.cfg_normal.specs.Code.{AreOne}
+use Rattle.cfg_normal.specs.Opens.{Open, compares_in, is_copied, jumps_in, targets_in}
 use Rattle.cfg_normal.specs.Graph.{Graph, case_nodes, case_of, copied_edges, edge_of, edges_in, edges_of, graph_of, landing_at, landings_of, lands, lands_of, once_onto, ways_out}
 use Rattle.cfg_normal.proofs.GraphFacts.{once_few, ways_few}
 use Rattle.cfg_walk.proofs.Cut.{IsCut, cut}
@@ -30,8 +32,8 @@ use Rattle.jump_slice.specs.Cases.{IsOpen}
 use Rattle.jump_slice.specs.Joined.{IsCaseBlock}
 use Rattle.jump_slice.proofs.CaseBlocks.{case_block}
 use Rattle.jump_slice.proofs.Opened.{opens_are}
-use Rattle.image_code.specs.Fit.{copies_of}
 use Rattle.image_code.specs.Graphs.{opens_in}
+use Rattle.image_code.specs.Copies.{copies_of}
 use Rattle.image_code.proofs.OpenBlocks.{are_open, entries_of, sizes_all, targets_few}
 use Rattle.image_code.proofs.OpenSums.{AreDistinct, distinct_sum, total, total_at, total_le, total_plus, total_same}
 

@@ -7,7 +7,7 @@ use Rattle.std.proofs.lemmas.List.{get_or-replicate, get_or-set_other, get_or-se
 use Rattle.notes.specs.Format.{counter_width}
 use Rattle.v8_step.specs.State.{State, register_of}
 use Rattle.v8_step.specs.Run.{run}
-use Rattle.flows.specs.Walks.{times}
+use Rattle.flows.specs.Flows.{times}
 use Rattle.snippets.specs.declared.snippet.Op.{Op}
 use Rattle.snippets.specs.declared.snippet.Op.TheVariants.{Add, Count}
 use Rattle.snippets.specs.Cells.{WorksBelow, WorksIn, update, updated_by, wide_at, with_wide}
@@ -16,7 +16,8 @@ use Rattle.tool_kit.specs.Plans.{AreCounters, counter_op}
 use Rattle.cfg_walk.specs.Walk.{gone_in, walk}
 use Rattle.image_code.specs.Store.{Edit, snippet_on, store_of, updates}
 use Rattle.count_rebuild.specs.Counts.{counter_value}
-use Rattle.exact_counts.specs.Laws.{CellsCount, counter_limit}
+use Rattle.exact_counts.specs.Laws.{CellsCount}
+use Rattle.exact_counts.specs.Profiles.{counter_limit}
 use Rattle.flows.proofs.Walks.{times-append}
 
 -- ---- a counter of either version: `narrow` says that it has 32 bits

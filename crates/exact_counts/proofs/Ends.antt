@@ -8,9 +8,9 @@ use Rattle.two_runs.specs.TwoRuns.{GoesOn}
 use Rattle.two_runs.specs.Visits.{trail_of}
 use Rattle.jump_slice.proofs.Steps.{lived_to}
 use Rattle.image_code.specs.Store.{Edit}
-use Rattle.edit_core.specs.RunsAlike.{IsAnswered}
+use Rattle.edit_core.specs.RunsAlike.{IsAnswered, visits_by}
 use Rattle.edit_core.proofs.Trails.{ending, few_visits, going, longer, none_over, over_or_not, own_live, quiet_more, stays, visit_more}
-use Rattle.exact_counts.specs.Stops.{EndedRunsTell, EndsWithStep, visits_by}
+use Rattle.exact_counts.specs.Laws.{EndedRunsTell, EndsWithStep}
 
 -- two moments at which it has
 both_over : (s : State) (m k : ℕ) (d c : Ending) → (run s m).ending ≡ Some d → (run s k).ending ≡ Some c

@@ -7,14 +7,14 @@ use Rattle.elf32_sparc.specs.FileFault.{fault}
 use Rattle.elf32_sparc.specs.Image.{image_of}
 use Rattle.notes.specs.Format.{Notes}
 use Rattle.elf32_sparc.proofs.Accepted.{accepted}
-use Rattle.v8_step.specs.State.{State}
-use Rattle.v8_step.specs.Valid.{AreBytes, IsValid}
+use Rattle.v8_step.specs.State.{State, AreBytes}
+use Rattle.v8_step.specs.Valid.{IsValid}
 use Rattle.v8_process.specs.Arguments.{AreArguments}
 use Rattle.v8_process.specs.Start.{start_of}
 use Rattle.v8_process.proofs.Arguments.{arguments_fit}
 use Rattle.v8_process.proofs.Valid.{mappings_have_room, starts_valid}
 use Rattle.flows.specs.Flows.{IsFlow, rest}
-use Rattle.flows.specs.Trees.{IsSpanningTree}
+use Rattle.flows.specs.SpanningTrees.{IsSpanningTree}
 use Rattle.snippets.specs.Cells.{WorksBelow}
 use Rattle.cfg_blocks.specs.Blocks.{blocks_of, holding_of}
 use Rattle.cfg_blocks.specs.Entries.{entered_of}
@@ -27,10 +27,11 @@ use Rattle.tool_kit.specs.declared.edge_ref.ToolKind.{ToolKind}
 use Rattle.tool_kit.specs.Plans.{Plan}
 use Rattle.cfg_view.proofs.Given.{entry_leads}
 use Rattle.span_tree.specs.Links.{links_of}
-use Rattle.walk_counts.specs.Counts.{executions, first_node}
+use Rattle.walk_counts.specs.Executions.{executions}
+use Rattle.walk_counts.specs.Counts.{first_node}
 use Rattle.walk_counts.proofs.Files.{begins, entry_is, executions_of_files_are_flows}
 use Rattle.image_code.specs.Store.{Edit}
-use Rattle.edit_core.specs.RunsAlike.{IsStop, edit_of}
+use Rattle.edit_core.specs.RunsAlike.{IsStop, edit_of, visits_by}
 use Rattle.edit_core.proofs.Eaches.{each_all}
 use Rattle.edit_core.proofs.Originals.{image_text}
 use Rattle.edit_core.proofs.Trails.{few_visits}
@@ -39,7 +40,6 @@ use Rattle.edit_core.specs.Written.{given_of, graph_in, text_of}
 use Rattle.edit_core.specs.Faithful.{HasGraph, note_edges, tool_number}
 use Rattle.count_rebuild.specs.Noted.{noted_graph}
 use Rattle.exact_counts.specs.Profiles.{CountsOffTree, counted_by, original_graph}
-use Rattle.exact_counts.specs.Stops.{visits_by}
 use Rattle.exact_counts.specs.Laws.{CountsAreExact}
 use Rattle.exact_counts.proofs.Noted.{AreNotesOf, flow_alike, graphs_alike, tree_noted}
 use Rattle.exact_counts.proofs.Rebuilt.{StandsBehind, counts_tell, made_in, node_in, refused_so}

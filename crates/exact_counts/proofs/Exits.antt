@@ -12,14 +12,14 @@ use Rattle.two_runs.specs.Visits.{own_trail, pages_of, trail_of}
 use Rattle.v8_process.specs.Start.{start_of}
 use Rattle.cfg_normal.specs.Graph.{Graph}
 use Rattle.cfg_walk.specs.Walk.{end_of_walk, gone, point_of, unless_ended, walk}
-use Rattle.flows.specs.Walks.{times}
-use Rattle.walk_counts.specs.Counts.{executions}
-use Rattle.edit_core.specs.RunsAlike.{AreRunsAlike, edit_of}
+use Rattle.flows.specs.Flows.{times}
+use Rattle.walk_counts.specs.Executions.{executions}
+use Rattle.edit_core.specs.RunsAlike.{AreRunsAlike, edit_of, visits_by}
 use Rattle.edit_core.proofs.Outwardly.{edits_are_untouched, exit_granted}
 use Rattle.edit_core.proofs.Trails.{ending, from_on, longer, over_or_not, own_few, stays, trail_stays}
-use Rattle.exact_counts.specs.Exits.{CountsOfExitsAreExact}
+use Rattle.exact_counts.specs.Code.{CountsOfExitsAreExact}
 use Rattle.exact_counts.specs.Profiles.{original_graph}
-use Rattle.exact_counts.specs.Stops.{EndsWithStep, visits_by}
+use Rattle.exact_counts.specs.Laws.{EndsWithStep}
 use Rattle.exact_counts.proofs.Ends.{ended_runs_tell}
 use Rattle.exact_counts.proofs.Exact.{begins_live, counts_are_exact}
 use Rattle.exact_counts.proofs.Soon.{fewer}
@@ -52,10 +52,10 @@ module _ (notes : Notes) (s0 t0 : State) (n m k : ℕ) (d : Ending) (trail : tra
     | inl before ↦
         omega (arith, longer notes t0 (suc m) k (omega (arith, before)), ap (λ (l : List ℕ). length l) trail, own_few s0 n)
     | inr after ↦ omega (
-        arith,
-        ap (λ (l : List ℕ). length l) (trail_stays notes t0 k (suc m) d (omega (arith, after)) over ∙ trail),
-        own_few s0 n,
-      )
+      arith,
+      ap (λ (l : List ℕ). length l) (trail_stays notes t0 k (suc m) d (omega (arith, after)) over ∙ trail),
+      own_few s0 n,
+    )
   ]
 
 pub counts_of_exits_are_exact : CountsOfExitsAreExact

@@ -4,7 +4,7 @@ use Rattle.std.specs.Prelude.{◌==◌}
 use Rattle.std.proofs.lemmas.Bool.Decides.{nat_tests}
 use Rattle.std.proofs.lemmas.Bool.{ne_eqb}
 use Rattle.v8_step.specs.Run.{run}
-use Rattle.flows.specs.Walks.{times}
+use Rattle.flows.specs.Flows.{times}
 use Rattle.flows.proofs.Walks.{times-append}
 use Rattle.cfg_normal.specs.Graph.{Graph}
 use Rattle.cfg_walk.specs.Walk.{end_of_walk, gone_in, goes_on_at, point_of, walk}

@@ -2,7 +2,7 @@
 use Rattle.std.proofs.Common.{◌≡◌, ℕ, ◌*◌, ◌≤◌, List, [], ◌∷◌, length, None, refl, ap, arith}
 use Rattle.std.specs.List.{sum_by}
 use Rattle.std.proofs.lemmas.List.Sums.{sum_by-cons}
-use Rattle.eel_base.specs.CodeText.{IsText}
+use Rattle.eel_base.specs.Code.{IsText}
 use Rattle.elf32_sparc.specs.FileFault.{fault}
 use Rattle.elf32_sparc.specs.Image.{Program, image_of}
 use Rattle.cfg_blocks.specs.Blocks.{blocks_of}
@@ -12,8 +12,8 @@ use Rattle.cfg_view.specs.View.{given_in}
 use Rattle.snippets.specs.declared.snippet.Op.{Op}
 use Rattle.tool_kit.specs.declared.edge_ref.ToolKind.TheVariants as tools
 use Rattle.tool_kit.specs.Plans.{Plan}
-use Rattle.image_code.specs.Fit.{copies_of}
 use Rattle.image_code.specs.Graphs.{opens_in}
+use Rattle.image_code.specs.Copies.{copies_of}
 use Rattle.edit_core.specs.Taken.{operations_on}
 use Rattle.edit_core.proofs.Originals.{image_text}
 use Rattle.edit_core.proofs.Views.{view_graph}

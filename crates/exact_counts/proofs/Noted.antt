@@ -6,13 +6,14 @@ use Rattle.std.specs.List.{AllByRecursion, list_any}
 use Rattle.std.proofs.lemmas.Bool.{cases_lt, eq-eqb, eqb-true, false≢true, le-leb, le-ltb, lt-leb, lt-ltb, or_left, or_right, false_from_ne_true}
 use Rattle.notes.specs.Format.{NoteEdge, NoteRange, Notes}
 use Rattle.flows.specs.Flows.{EdgeSet, NodeSet, Graph as PlainGraph, IsFlow, count_below, one_at, rest, total}
-use Rattle.flows.specs.Trees.{IsSpanningTree}
+use Rattle.flows.specs.SpanningTrees.{IsSpanningTree}
 use Rattle.flows.proofs.Sums.{total_same}
 use Rattle.flows.proofs.Weights.{weight_same}
 use Rattle.snippets.specs.declared.snippet.Op.{Op}
 use Rattle.cfg_normal.specs.declared.Edge.{Edge}
 use Rattle.cfg_normal.specs.declared.Node.{Node}
-use Rattle.cfg_normal.specs.Graph.{Graph, IsEdgeIn, IsNodeIn, edges_in}
+use Rattle.cfg_normal.specs.Graph.{Graph, edges_in}
+use Rattle.cfg_normal.specs.Code.{IsEdgeIn, IsNodeIn}
 use Rattle.cfg_normal.specs.Numbers.{is_node, node_number, node_numbers}
 use Rattle.cfg_normal.specs.Opens.{is_copied}
 use Rattle.tool_kit.specs.declared.edge_ref.ToolKind.{ToolKind}

@@ -13,17 +13,19 @@ use Rattle.flows.specs.Flows.{AgreeOn, IsFlow}
 use Rattle.snippets.specs.Cells.{WorksBelow}
 use Rattle.tool_kit.specs.Plans.{AreCounters}
 use Rattle.tool_kit.specs.declared.edge_ref.ToolKind.TheVariants as tools
-use Rattle.walk_counts.specs.Counts.{executions}
+use Rattle.walk_counts.specs.Executions.{executions}
 use Rattle.dump_file.specs.Dump.{Dump}
 use Rattle.image_code.specs.Store.{Edit, snippet_on}
 use Rattle.edit_core.specs.Faithful.{cell_noted}
 use Rattle.edit_core.specs.RunsAlike.{TellsStep, node_behind}
 use Rattle.count_rebuild.specs.declared.fault.CountFault.{CountFault}
 use Rattle.count_rebuild.specs.declared.fault.CountFault.TheVariants as faults
-use Rattle.count_rebuild.specs.Answers.{AreCounts, IsRefused}
+use Rattle.count_rebuild.specs.Answers.{AreCounts}
+use Rattle.count_rebuild.specs.Code.{IsRefused}
 use Rattle.count_rebuild.specs.Counts.{IsFlowTo, StandsAt, cell_counts, cell_value, counter_value, is_large, is_negative}
 use Rattle.count_rebuild.specs.Noted.{IsProfile, edge_at, has_cell, noted_graph}
-use Rattle.exact_counts.specs.Laws.{MayRefuse, counter_limit}
+use Rattle.exact_counts.specs.Laws.{MayRefuse}
+use Rattle.exact_counts.specs.Profiles.{counter_limit}
 use Rattle.exact_counts.specs.Stops.{dump_at}
 use Rattle.exact_counts.proofs.Few.{executions_are_few}
 use Rattle.exact_counts.proofs.Counters.{IsCounterFrom, cells_count, counter, counter_cell, limit_few, none_or_counter, small_rest}

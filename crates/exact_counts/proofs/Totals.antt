@@ -4,7 +4,7 @@ use Rattle.std.specs.Prelude.{◌==◌}
 use Rattle.std.specs.List.{sum}
 use Rattle.std.proofs.lemmas.Bool.{ne_eqb, eq-eqb}
 use Rattle.std.proofs.lemmas.List.Sums.{sum_by-cons}
-use Rattle.flows.specs.Walks.{times}
+use Rattle.flows.specs.Flows.{times}
 use Rattle.cfg_walk.specs.Walk.{walk}
 use Rattle.cfg_walk.proofs.Lists.{Each}
 use Rattle.exact_counts.specs.Sizes.{ExecutionsAddUp}

@@ -13,7 +13,8 @@ use Rattle.span_tree.specs.Cells.{cell_at, cell_count, cell_of, has_cell}
 use Rattle.cfg_normal.specs.Numbers.{is_node}
 use Rattle.span_tree.specs.Links.{links_of}
 use Rattle.image_code.specs.Store.{snippet_on}
-use Rattle.exact_counts.specs.Profiles.{TreesMakeProfiles, counted_by, counter_in, is_counter}
+use Rattle.exact_counts.specs.Laws.{TreesMakeProfiles}
+use Rattle.exact_counts.specs.Profiles.{counted_by, counter_in, is_counter}
 use Rattle.exact_counts.proofs.Counters.{end_is, narrow_width, works_in}
 use Rattle.exact_counts.proofs.Noted.{tree_alike}
 

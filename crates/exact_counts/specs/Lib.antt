@@ -3,3 +3,4 @@ pub mod Stops
 pub mod Laws
 pub mod Sizes
 pub mod Exits
+pub mod Code

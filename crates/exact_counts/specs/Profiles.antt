@@ -1,11 +1,9 @@
 -- A profile of an original: counters on some edges of its flow graph, and a written file that has them.
-use Rattle.std.specs.Prelude.{◌≡◌, ℕ, ◌*◌, ◌<◌, Bool, true, false, List, [], ◌∷◌, length, Option, Some, None}
+use Rattle.std.specs.Prelude.{◌≡◌, ℕ, ◌*◌, Bool, true, false, List, [], ◌∷◌, length, Option, Some, None, ◌^◌, ◌==◌, if◌then◌else◌}
 use Rattle.std.specs.List.{All}
-use Rattle.elf32_sparc.specs.FileFault.{fault}
-use Rattle.notes.specs.Format.{Notes, counter_width}
-use Rattle.v8_step.specs.Valid.{AreBytes}
+use Rattle.notes.specs.Format.{counter_width}
 use Rattle.flows.specs.Flows.{EdgeSet, rest}
-use Rattle.flows.specs.Trees.{IsSpanningTree}
+use Rattle.flows.specs.SpanningTrees.{IsSpanningTree}
 use Rattle.snippets.specs.declared.snippet.Op.{Op}
 use Rattle.snippets.specs.Cells.{WorksBelow}
 use Rattle.cfg_normal.specs.Graph.{Graph}
@@ -13,11 +11,8 @@ use Rattle.cfg_normal.specs.Numbers.{is_node}
 use Rattle.tool_kit.specs.declared.edge_ref.ToolKind.TheVariants as tools
 use Rattle.tool_kit.specs.Plans.{AreCounters, Plan, counter_op}
 use Rattle.cfg_view.specs.View.{view_of}
-use Rattle.span_tree.specs.Cells.{AreNumbered, cell_at, cell_count, has_cell}
 use Rattle.span_tree.specs.Links.{links_of}
 use Rattle.image_code.specs.Store.{snippet_on}
-use Rattle.edit_core.specs.RunsAlike.{HaveRunsAlike}
-use Rattle.edit_core.specs.Faithful.{HasGraph}
 
 abbrev pub is_counter : List Op → Bool
 is_counter [] = false
@@ -42,29 +37,10 @@ abbrev pub counter_in : ℕ → Option ℕ → List Op
 counter_in version None = []
 counter_in version (Some number) = counter_op version (counter_width version * number) ∷ []
 
--- Counters off a spanning tree, by the list of which edges have one.
-pub record CountsInCells (version : ℕ) (graph : Graph) (plan : Plan) (cells : List (Option ℕ)) : Type 0 where
-  pub kind : plan.kind ≡ tools.Profile
-  pub count : plan.cells ≡ counter_width version * cell_count cells
-  pub size : length plan.snips ≡ length graph.edges
-  pub len : length cells ≡ length graph.edges
-  pub numbered : AreNumbered cells
-  pub tree : IsSpanningTree (links_of graph) (is_node graph) (rest (has_cell cells))
-  pub snips : (e : ℕ) → e < length graph.edges → snippet_on plan.snips e ≡ counter_in version (cell_at cells e)
-
-abbrev pub TreesMakeProfiles : Type 0
-TreesMakeProfiles =
-    (version : ℕ) (graph : Graph) (plan : Plan) (cells : List (Option ℕ)) → CountsInCells version graph plan cells
-    → CountsOffTree version graph plan
-
 -- the flow graph of an original, where the words that are marked lead besides
 abbrev pub original_graph : List ℕ → Plan → Graph
 original_graph original plan = (view_of original plan.marks).graph
 
--- a profile of an original without a fault, written to a file with these notes
-pub record IsProfiled (original : List ℕ) (plan : Plan) (file : List ℕ) (notes : Notes) : Type 0 where
-  pub sound : fault original ≡ None
-  pub bytes : AreBytes original
-  pub counters : CountsOffTree notes.version (original_graph original plan) plan
-  pub graph : HasGraph original plan notes
-  pub runs : HaveRunsAlike original plan file notes
+-- where a counter begins at 0 again, by the version of the notes
+abbrev pub counter_limit : ℕ → ℕ
+counter_limit version = if version == 1 then 2 ^ 32 else 2 ^ 64

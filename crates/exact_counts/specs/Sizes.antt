@@ -12,8 +12,8 @@ use Rattle.cfg_normal.specs.Graph.{Graph}
 use Rattle.cfg_walk.specs.Walk.{walk}
 use Rattle.tool_kit.specs.declared.edge_ref.ToolKind.TheVariants as tools
 use Rattle.tool_kit.specs.Plans.{AreCounters, Plan}
-use Rattle.walk_counts.specs.Counts.{executions}
 use Rattle.image_code.specs.Store.{Edit}
+use Rattle.walk_counts.specs.Executions.{executions}
 use Rattle.edit_core.specs.Taken.{bound_in}
 use Rattle.edit_core.specs.Cost.{TakesFewSteps}
 use Rattle.edit_core.specs.RunsAlike.{AreRunsAlike}

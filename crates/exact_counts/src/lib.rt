@@ -2,11 +2,9 @@
 //! the original's run completes each edge. There is no code here, but definitions and laws.
 #![tactic(auto)]
 
-ghost use Rattle.exact_counts.specs.Exits.{CountsOfExitsAreExact};
-ghost use Rattle.exact_counts.specs.Laws.{CellsCount, CountsAreExact, ExecutionsAreFew};
-ghost use Rattle.exact_counts.specs.Profiles.{TreesMakeProfiles};
+ghost use Rattle.exact_counts.specs.Code.{CountsOfExitsAreExact};
+ghost use Rattle.exact_counts.specs.Laws.{CellsCount, CountsAreExact, ExecutionsAreFew, TreesMakeProfiles, EndedRunsTell};
 ghost use Rattle.exact_counts.specs.Sizes.{ExecutionsAddUp, ProfilesEndSoon, ProfilesNeedLittle};
-ghost use Rattle.exact_counts.specs.Stops.{EndedRunsTell};
 
 /// The cells of a spanning tree make a profile: a counter in the cell of each edge that has one, and none on the tree.
 pub fn trees_make_profiles()

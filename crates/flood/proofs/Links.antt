@@ -2,7 +2,8 @@
 use Rattle.std.proofs.Common.{◌⊎◌, ◌≡◌, ℕ, zero, suc, ◌<◌, ◌≤◌, Bool, true, false, cond, ◌==◌, List, length, refl, sym, ap, ◌∙◌, arith, inl, inr}
 use Rattle.std.proofs.lemmas.Bool.{eqb-true, eqb-false, cases_lt}
 use Rattle.flood.specs.declared.Link.{Link}
-use Rattle.flood.specs.Flood.{link_at, last_into}
+use Rattle.flood.specs.Flood.{link_at}
+use Rattle.flood.specs.Private.{last_into}
 
 module _ (links : List Link) (p : ℕ) where
   abbrev leads : ℕ → Bool

@@ -6,7 +6,8 @@ use Rattle.std.proofs.lemmas.List.{length_push, length-set}
 use Rattle.std.proofs.lemmas.List.Sums.{sum_by-set}
 use Rattle.v8_decode.specs.declared.Part.{Part}
 use Rattle.v8_decode.specs.Parts.{has, every_part, members, set_of}
-use Rattle.flood.specs.Flood.{Sets, at, fuel, missing, IsGrown}
+use Rattle.flood.specs.Flood.{Sets, at}
+use Rattle.flood.specs.Private.{fuel, missing, IsGrown}
 
 -- of two tests one of which passes wherever the other does
 module _ (p q : Part → Bool) (more : (x : Part) → p x ≡ true → q x ≡ true) where

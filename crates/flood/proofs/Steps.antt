@@ -7,7 +7,8 @@ use Rattle.std.proofs.lemmas.List.Elements.{Contains-push, Contains-append_left,
 use Rattle.v8_decode.specs.declared.Part.{Part}
 use Rattle.v8_decode.specs.Parts.{has}
 use Rattle.flood.specs.declared.Link.{Link}
-use Rattle.flood.specs.Flood.{Sets, at, link_at, Reaches, IsLiveIn, AreAll, AreLinks, last_into, IsTold, IsFlooding, IsGrown}
+use Rattle.flood.specs.Flood.{Sets, at, link_at, Reaches, IsLiveIn, AreLinks}
+use Rattle.flood.specs.Private.{AreAll, last_into, IsTold, IsFlooding, IsGrown}
 use Rattle.flood.proofs.Links.{below_last}
 
 module _ {place : ℕ} {more : List Part} {sets : Sets} {stack : List ℕ} {sets' : Sets} {stack' : List ℕ}

@@ -1,6 +1,7 @@
 //! The links that lead to each place, the last first.
 ghost use Rattle.std.specs.Prelude.{◌≡◌, ◌<◌, ◌^◌, length, IfOk};
-ghost use Rattle.flood.specs.Flood.{AreLinks, IsChain};
+ghost use Rattle.flood.specs.Flood.{AreLinks};
+ghost use Rattle.flood.specs.Private.{IsChain};
 
 use crate::Link;
 use std::alloc::{AllocError, Global};

@@ -2,7 +2,8 @@
 ghost use Rattle.std.specs.Prelude.{◌≡◌, ◌↔◌, ℕ, ◌<◌, ◌≤◌, ◌^◌, true, length, slice_index, IfOk, OnOk};
 ghost use Rattle.v8_decode.specs.declared.Part.{Part};
 ghost use Rattle.v8_decode.specs.Parts.{has};
-ghost use Rattle.flood.specs.Flood.{at, fuel, AreAll, AreLinks, IsChain, IsFlooding, IsGrown, IsLiveIn, Sets};
+ghost use Rattle.flood.specs.Flood.{at, AreLinks, IsLiveIn, Sets};
+ghost use Rattle.flood.specs.Private.{fuel, AreAll, IsChain, IsFlooding, IsGrown};
 
 use crate::Link;
 use crate::chains::{Chain, chain_links};

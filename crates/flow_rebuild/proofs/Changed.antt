@@ -3,7 +3,8 @@ use Rattle.std.proofs.Common.{◌≡◌, ℕ, suc, ◌<◌, ◌⊎◌, inl, inr,
 use Rattle.std.specs.Prelude.{ℤ, pos, ◌+ℤ◌, ◌-ℤ◌, neg_ℤ, ◌==◌, if◌then◌else◌}
 use Rattle.std.proofs.lemmas.Int.{ints}
 use Rattle.std.proofs.lemmas.Bool.{cases_eq}
-use Rattle.flows.specs.Flows.{Graph, IsGraph, one_at, IsFlow}
+use Rattle.flows.specs.Flows.{Graph, one_at, IsFlow}
+use Rattle.flows.specs.Code.{IsGraph}
 use Rattle.flows.specs.Trees.{only}
 use Rattle.flows.proofs.Cuts.{Balanced, root_balanced}
 use Rattle.flows.proofs.Nets.{part, net, net_is, part_zero}

@@ -12,7 +12,8 @@ use Rattle.flows.proofs.Bools.{eqb_swap, not_twice}
 use Rattle.flows.proofs.Least.{off_grown_determines, far_inside}
 use Rattle.flows.proofs.Sums.{total_zero}
 use Rattle.flow_rebuild.specs.Excess.{excess}
-use Rattle.flow_rebuild.specs.Values.{int_at, abs_sum, other_node, carries}
+use Rattle.flow_rebuild.specs.Values.{int_at, abs_sum}
+use Rattle.flow_rebuild.specs.Private.{other_node, carries}
 use Rattle.flow_tree.specs.Tree.{reached_by, edges_of, IsGrown, nodes_in, edges_in}
 use Rattle.flow_tree.specs.declared.Join.{Join}
 use Rattle.flow_tree.specs.declared.Tree.{Tree}

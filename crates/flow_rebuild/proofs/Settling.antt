@@ -2,7 +2,8 @@
 use Rattle.std.proofs.Common.{◌≡◌, ℕ, ◌<◌, ◌⊎◌, inl, inr, true, false, List, [], ◌∷◌, ◌++◌, refl, ap, sym, ◌∙◌, arith}
 use Rattle.std.specs.Prelude.{ℤ, pos, ◌==◌, if◌then◌else◌}
 use Rattle.std.proofs.lemmas.Bool.{cases_eq, eq-eqb, ne_eqb, or_left, or_right}
-use Rattle.flows.specs.Flows.{Graph, IsGraph, IsFlow, NodeSet}
+use Rattle.flows.specs.Flows.{Graph, IsFlow, NodeSet}
+use Rattle.flows.specs.Code.{IsGraph}
 use Rattle.flows.specs.Trees.{only, and_also, crosses, differ, far_end, IsHeaviest, Grows, on, joined_by}
 use Rattle.flows.proofs.Bools.{true_or_false, differ_same}
 use Rattle.flows.proofs.Least.{Ends, ends_of, grows_keeps}

@@ -15,7 +15,8 @@ use Rattle.flows.specs.Trees.{on}
 use Rattle.flows.specs.declared.Link.{Link}
 use Rattle.flows.proofs.Bools.{true_or_false}
 use Rattle.flow_rebuild.specs.Excess.{excess_below}
-use Rattle.flow_rebuild.specs.Values.{int_at, abs_sum, added, passed, carries}
+use Rattle.flow_rebuild.specs.Values.{int_at, abs_sum}
+use Rattle.flow_rebuild.specs.Private.{added, passed, carries}
 use Rattle.flow_tree.specs.Tree.{edges_in}
 use Rattle.flow_tree.specs.declared.Join.{Join}
 use Rattle.flow_tree.proofs.Steps.{on_more}

@@ -10,7 +10,8 @@ ghost use Rattle.flows.specs.Trees.{on};
 ghost use Rattle.flows.specs.Links.{graph_of, IsLinked, JoinsNodes};
 ghost use Rattle.flow_tree.specs.Tree.{edges_of, edges_in, reached_by, IsGrown};
 ghost use Rattle.flow_rebuild.specs.Excess.{excess};
-ghost use Rattle.flow_rebuild.specs.Values.{int_at, abs_sum, other_node, carries, added, passed};
+ghost use Rattle.flow_rebuild.specs.Values.{int_at, abs_sum};
+ghost use Rattle.flow_rebuild.specs.Private.{other_node, carries, added, passed};
 
 use flow_tree::{Join, Tree};
 use flows::Link;

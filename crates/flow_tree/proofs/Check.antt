@@ -5,9 +5,11 @@ use Rattle.std.specs.List.{All}
 use Rattle.std.proofs.lemmas.Bool.{cases_lt, eqb-true}
 use Rattle.std.proofs.lemmas.List.{get_or_past, get_or-map, length-map}
 use Rattle.std.proofs.lemmas.List.Elements.{All-cons, All-nil, All-head, All-tail}
-use Rattle.flows.specs.Flows.{Graph, count_below, NodeSet, IsGraph, EdgeSet, rest}
-use Rattle.flows.specs.Links.{JoinsNodes, IsLinked, graph_of, weight_in, marked}
-use Rattle.flows.specs.Trees.{HasEveryEnd, IsWhole, far_end, on, and_also, IsSpanningTree, Grows, only}
+use Rattle.flows.specs.Flows.{Graph, count_below, NodeSet, EdgeSet, rest, weight_in}
+use Rattle.flows.specs.Code.{IsGraph}
+use Rattle.flows.specs.Links.{JoinsNodes, IsLinked, graph_of, marked}
+use Rattle.flows.specs.Trees.{HasEveryEnd, IsWhole, far_end, on, and_also, Grows, only}
+use Rattle.flows.specs.SpanningTrees.{IsSpanningTree}
 use Rattle.flows.specs.declared.Link.{Link}
 use Rattle.flows.proofs.Bools.{true_or_false}
 use Rattle.flows.proofs.Least.{listed_is}

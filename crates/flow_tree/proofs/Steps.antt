@@ -7,9 +7,11 @@ use Rattle.std.specs.Prelude.{replicate}
 use Rattle.std.proofs.lemmas.List.{length-map, get_or-set_same, get_or-set_other, get_or-replicate, get_or_past, length-replicate, take_more}
 use Rattle.std.proofs.lemmas.List.Elements.{All-contains, All-nil, All-cons}
 use Rattle.std.proofs.Math.Bool.{or-true, or-false}
-use Rattle.flows.specs.Flows.{Graph, IsGraph, IsLeast, NodeSet, rest, Determines}
-use Rattle.flows.specs.Links.{link_at, graph_of, marked, weight_in, IsLinked}
-use Rattle.flows.specs.Trees.{on, only, and_also, differ, crosses, far_end, IsHeaviest, Grows, IsWhole, joined_by, IsSpanningTree, IsConnected}
+use Rattle.flows.specs.Flows.{Graph, IsLeast, NodeSet, rest, Determines, weight_in}
+use Rattle.flows.specs.Code.{IsGraph}
+use Rattle.flows.specs.Links.{link_at, graph_of, marked, IsLinked}
+use Rattle.flows.specs.Trees.{on, only, and_also, differ, crosses, far_end, IsHeaviest, Grows, IsWhole, joined_by, IsConnected}
+use Rattle.flows.specs.SpanningTrees.{IsSpanningTree}
 use Rattle.flows.specs.declared.Link.{Link}
 use Rattle.flows.proofs.Bools.{differ_same, not_twice}
 use Rattle.flows.proofs.Grown.{listed_weight}

@@ -5,8 +5,9 @@ use Rattle.std.specs.Ordering.{nat_cmp, ordering_then}
 use Rattle.std.specs.declared.cmp.Ordering.{Ordering}
 use Rattle.std.specs.BinaryHeap.{heap_items, IsHeap}
 use Rattle.flows.specs.Trees.{crosses, only, joined_by}
-use Rattle.flows.specs.Links.{graph_of, marked, weight_in}
+use Rattle.flows.specs.Links.{graph_of, marked}
 use Rattle.flows.specs.declared.Link.{Link}
+use Rattle.flows.specs.Flows.{weight_in}
 use Rattle.flow_tree.specs.Tree.{edges_of, nodes_in, reached_by, IsHeaviestFirst}
 use Rattle.flow_tree.specs.declared.growth.Candidate.{Candidate}
 use Rattle.flow_tree.specs.declared.growth.Search.{Search}

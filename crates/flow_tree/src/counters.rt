@@ -2,9 +2,10 @@
 
 ghost use Rattle.std.specs.Prelude.{◌≡◌, ℕ, ◌<◌, Bool, length, IfOk};
 ghost use Rattle.std.specs.List.{All};
-ghost use Rattle.flows.specs.Flows.{Determines, IsLeast, rest};
-ghost use Rattle.flows.specs.Trees.{IsConnected, IsSpanningTree, on};
-ghost use Rattle.flows.specs.Links.{graph_of, marked, weight_in, IsLinked};
+ghost use Rattle.flows.specs.Flows.{Determines, IsLeast, rest, weight_in};
+ghost use Rattle.flows.specs.Trees.{IsConnected, on};
+ghost use Rattle.flows.specs.SpanningTrees.{IsSpanningTree};
+ghost use Rattle.flows.specs.Links.{graph_of, marked, IsLinked};
 ghost use Rattle.flow_tree.specs.Tree.{edges_of, RisesWith};
 
 use crate::Tree;

@@ -4,7 +4,8 @@ ghost use Rattle.std.specs.Prelude.{◌≡◌, ℕ, ◌+◌, ◌<◌, length, Is
 ghost use Rattle.std.specs.List.{All, Contains};
 ghost use Rattle.std.specs.BinaryHeap.{heap_items};
 ghost use Rattle.flows.specs.Trees.{crosses, differ, IsWhole};
-ghost use Rattle.flows.specs.Links.{graph_of, marked, weight_in, IsLinked};
+ghost use Rattle.flows.specs.Links.{graph_of, marked, IsLinked};
+ghost use Rattle.flows.specs.Flows.{weight_in};
 ghost use Rattle.flow_tree.specs.Rows.{AllBelow, HasEnds};
 ghost use Rattle.flow_tree.specs.Tree.{reached_by, IsGrown, IsHeaviestFirst};
 ghost use Rattle.flow_tree.specs.Search.{AreCandidates, HasTaken, IsSearch, candidate, crosses_at};

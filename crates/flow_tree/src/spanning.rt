@@ -3,7 +3,8 @@
 ghost use Rattle.std.specs.Prelude.{◌≡◌, ℕ, ◌+◌, ◌<◌, ◌≤◌, ◌↔◌, length, map, IfOk, IsSome, IfSome, true, IsTrue, if◌then◌else◌};
 ghost use Rattle.std.specs.List.{All};
 ghost use Rattle.flows.specs.Flows.{count_below, rest};
-ghost use Rattle.flows.specs.Trees.{IsSpanningTree, on};
+ghost use Rattle.flows.specs.SpanningTrees.{IsSpanningTree};
+ghost use Rattle.flows.specs.Trees.{on};
 ghost use Rattle.flows.specs.Links.{graph_of, marked, JoinsNodes};
 ghost use Rattle.flow_tree.specs.Tree.{edges_of, IsGrown};
 

@@ -4,7 +4,8 @@ use Rattle.std.specs.Prelude.{ℤ, pos, ◌+ℤ◌, nat_abs, ◌==◌}
 use Rattle.std.proofs.lemmas.Int.{ints}
 use Rattle.std.proofs.lemmas.Bool.{cases_Bool, cases_eq, ne_eqb}
 use Rattle.std.proofs.Math.Bool.{and-false, and-true}
-use Rattle.flows.specs.Flows.{Graph, NodeSet, IsGraph}
+use Rattle.flows.specs.Flows.{Graph, NodeSet}
+use Rattle.flows.specs.Code.{IsGraph}
 use Rattle.flows.specs.Trees.{only, and_also, crosses}
 use Rattle.flows.proofs.Sums.{zero_or_not, total_same, total_zero, total_add}
 use Rattle.flows.proofs.Nets.{part, net, all_but, part_same}

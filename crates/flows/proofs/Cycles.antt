@@ -4,9 +4,11 @@ use Rattle.std.specs.Prelude.{ℤ, pos, negsuc, ◌+ℤ◌, ◌==◌, if◌then�
 use Rattle.std.proofs.lemmas.Int.{ints}
 use Rattle.std.proofs.lemmas.Bool.{cases_Bool, eqb-true, eq-eqb, or_left, and_parts}
 use Rattle.std.proofs.Math.Bool.{and-false}
-use Rattle.flows.specs.Flows.{Graph, NodeSet, EdgeSet, rest, IsGraph, total, one_at, IsFlow, Determines, AgreeOn}
+use Rattle.flows.specs.Flows.{Graph, NodeSet, EdgeSet, rest, total, one_at, IsFlow, Determines, AgreeOn}
+use Rattle.flows.specs.Code.{IsGraph}
 use Rattle.flows.specs.Walks.{Step, tail, head, takes, IsTrail, HasCycle}
-use Rattle.flows.specs.Trees.{NoneCrosses, only, and_also, crosses, far_end, Grows}
+use Rattle.flows.specs.SpanningTrees.{NoneCrosses}
+use Rattle.flows.specs.Trees.{only, and_also, crosses, far_end, Grows}
 use Rattle.flows.proofs.Sums.{total_change, total_one}
 use Rattle.flows.proofs.Nets.{part}
 use Rattle.flows.proofs.Cuts.{Balanced, balanced_all, balanced_out}

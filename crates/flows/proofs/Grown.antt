@@ -4,7 +4,8 @@ use Rattle.std.specs.Prelude.{ℤ, pos, ◌-ℤ◌, ◌*ℤ◌, nat_abs, ◌==�
 use Rattle.std.proofs.lemmas.Int.{ints}
 use Rattle.std.proofs.lemmas.Bool.{cases_eq, cases_lt, ne_eqb, and_left, false_from_ne_true, or_from}
 use lib.IntN.{*ℤ_comm, *ℤ-zero}
-use Rattle.flows.specs.Flows.{Graph, NodeSet, EdgeSet, IsGraph, weight_of}
+use Rattle.flows.specs.Flows.{Graph, NodeSet, EdgeSet, weight_of}
+use Rattle.flows.specs.Code.{IsGraph}
 use Rattle.flows.specs.Trees.{only, and_also, crosses, far_end, Grows, HasEveryEnd}
 use Rattle.flows.proofs.Sums.{zero_or_not, factor_zero, total_zero}
 use Rattle.flows.proofs.Nets.{net, net_mix}

@@ -2,8 +2,8 @@
 use Rattle.std.proofs.Common.{◌≡◌, ℕ, ◌+◌, ◌<◌, List, [], ◌∷◌, ◌++◌, arith}
 use Rattle.std.specs.Prelude.{pos, ◌+ℤ◌, ◌==◌, if◌then◌else◌}
 use Rattle.std.proofs.lemmas.Int.{ints}
-use Rattle.flows.specs.Flows.{Graph, total, one_at, IsFlow}
-use Rattle.flows.specs.Walks.{IsWalk, times}
+use Rattle.flows.specs.Flows.{Graph, total, one_at, IsFlow, times}
+use Rattle.flows.specs.Walks.{IsWalk}
 use Rattle.flows.proofs.Sums.{total_zero, total_change}
 
 pub times-append : (es more : List ℕ) (e : ℕ) → times (es ++ more) e ≡ times es e + times more e

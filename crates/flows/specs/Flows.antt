@@ -1,6 +1,6 @@
 -- Flows on a graph, and the sets of edges whose counts determine all counts, after Ball and Larus,
 -- "Optimally Profiling and Tracing Programs", ACM TOPLAS 16 (4), 1994.
-use Rattle.std.specs.Prelude.{◌≡◌, ℕ, zero, suc, ◌+◌, ◌<◌, ◌≤◌, Bool, not, ℤ, pos, ◌+ℤ◌, IsTrue, if◌then◌else◌, ◌==◌}
+use Rattle.std.specs.Prelude.{◌≡◌, ℕ, zero, suc, ◌+◌, ◌<◌, ◌≤◌, Bool, not, ℤ, pos, ◌+ℤ◌, IsTrue, if◌then◌else◌, ◌==◌, List, slice_index, [], ◌∷◌}
 
 -- nodes and edges are numbers: each edge e below `edges` leads from node `from e` to node `to e`
 pub record Graph : Type 0 where
@@ -19,10 +19,6 @@ EdgeSet = ℕ → Bool
 -- the other edges
 abbrev pub rest : EdgeSet → EdgeSet
 rest s = λ e. not (s e)
-
--- both ends of each edge are below the number of nodes
-abbrev pub IsGraph : Graph → Type 0
-IsGraph g = (e : ℕ) → e < g.edges → (g.from e < g.nodes) × (g.to e < g.nodes)
 
 -- f 0 + f 1 + .. + f (n - 1)
 abbrev pub total : ℕ → (ℕ → ℤ) → ℤ
@@ -82,3 +78,12 @@ pub record IsTheFlow (g : Graph) (s : EdgeSet) (a b : ℕ) (given x : ℕ → �
   pub flow : IsFlow g a b x
   pub agrees : AgreeOn g s given x
   pub only : (y : ℕ → ℤ) → IsFlow g a b y → AgreeOn g s given y → Agree g x y
+
+-- the weight of each edge, by a list
+abbrev pub weight_in : List ℕ → ℕ → ℕ
+weight_in ws e = slice_index ws e
+
+-- how often e stands in a list
+abbrev pub times : List ℕ → ℕ → ℕ
+times [] e = 0
+times (x ∷ xs) e = (if e == x then 1 else 0) + times xs e

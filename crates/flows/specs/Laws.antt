@@ -1,8 +1,10 @@
 -- What holds of every graph, stated over the definitions alone.
 use Rattle.std.specs.Prelude.{◌≡◌, ℕ, ◌<◌, ◌↔◌, List, pos}
-use Rattle.flows.specs.Flows.{Graph, NodeSet, EdgeSet, rest, IsGraph, IsFlow, Determines, IsLeast}
-use Rattle.flows.specs.Walks.{IsWalk, times, HasCycle}
-use Rattle.flows.specs.Trees.{IsSpanningTree, Grows, only, on, HasEveryEnd}
+use Rattle.flows.specs.Flows.{Graph, NodeSet, EdgeSet, rest, IsFlow, Determines, IsLeast, times}
+use Rattle.flows.specs.Walks.{IsWalk, HasCycle}
+use Rattle.flows.specs.Trees.{Grows, only, on, HasEveryEnd}
+use Rattle.flows.specs.Code.{IsGraph}
+use Rattle.flows.specs.SpanningTrees.{IsSpanningTree}
 
 -- how often a walk takes each edge is a flow from where it begins to where it ends
 abbrev pub WalksAreFlows : Type 0

@@ -3,3 +3,5 @@ pub mod Walks
 pub mod Trees
 pub mod Links
 pub mod Laws
+pub mod Code
+pub mod SpanningTrees

@@ -1,5 +1,5 @@
 -- A graph as a list of links.
-use Rattle.std.specs.Prelude.{ℕ, ◌<◌, Bool, false, List, length, slice_index, slice_index_or, IsTrue}
+use Rattle.std.specs.Prelude.{ℕ, ◌<◌, Bool, false, List, length, slice_index_or, IsTrue}
 use Rattle.std.specs.List.{All}
 use Rattle.flows.specs.Flows.{Graph}
 use Rattle.flows.specs.declared.Link.{Link}
@@ -19,10 +19,6 @@ graph_of n links = record {
 -- both ends of each link are below n
 abbrev pub IsLinked : ℕ → List Link → Type 0
 IsLinked n links = All (λ (l : Link). (l.from < n) × (l.to < n)) links
-
--- the weight of each edge, by a list
-abbrev pub weight_in : List ℕ → ℕ → ℕ
-weight_in ws e = slice_index ws e
 
 -- the numbers that are marked in a list
 abbrev pub marked : List Bool → ℕ → Bool

@@ -1,16 +1,11 @@
 -- Walks along edges, and cycles.
-use Rattle.std.specs.Prelude.{◌≡◌, ℕ, ◌+◌, ◌<◌, Bool, List, [], ◌∷◌, IsTrue, if◌then◌else◌, ◌==◌, ◌||◌, false}
+use Rattle.std.specs.Prelude.{◌≡◌, ℕ, ◌<◌, Bool, List, [], ◌∷◌, IsTrue, if◌then◌else◌, ◌==◌, ◌||◌, false}
 use Rattle.flows.specs.Flows.{Graph, EdgeSet}
 
 -- the edges es lead from a to b, each from where the one before it ends
 abbrev pub IsWalk : Graph → ℕ → List ℕ → ℕ → Type 0
 IsWalk g a [] b = a ≡ b
 IsWalk g a (e ∷ es) b = (e < g.edges) × (g.from e ≡ a) × IsWalk g (g.to e) es b
-
--- how often e stands in a list
-abbrev pub times : List ℕ → ℕ → ℕ
-times [] e = 0
-times (x ∷ xs) e = (if e == x then 1 else 0) + times xs e
 
 -- a step along an edge, forward or against its direction
 pub record Step : Type 0 where

@@ -215,11 +215,12 @@ fn as_many_names_are_tried(rt: HostRuntime) -> Result<(), Fail> {
 #[test]
 fn what_is_no_file_is_written_in_place(rt: HostRuntime) -> Result<(), Fail> {
     let bytes = many_bytes(rt.alloc(), 10_000)?;
-    let mut files = RealFiles::new(&rt);
-    assert_eq!(rt; files.put("/dev/null", &bytes), Ok(()));
     let (mut reader, writer) = io::pipe(&rt)?;
     let name = format!(in rt.alloc(); "/proc/self/fd/{}", writer.as_raw_fd())?;
-    assert_eq!(rt; files.put(&name, &bytes), Ok(()));
+    // A link in the test's own folder: a wrong `put` would replace a device of the machine.
+    symlink(&rt, &name, "pipe")?;
+    assert_eq!(rt; RealFiles::new(&rt).put("pipe", &bytes), Ok(()));
+    assert!(rt; fs::symlink_metadata(&rt, "pipe")?.is_symlink());
     let mut passed = Vec::new(rt.alloc());
     drop(writer);
     reader.read_to_end(&mut passed)?;

@@ -13,7 +13,7 @@ use Rattle.cfg_blocks.specs.declared.EdgeKind.TheVariants as kinds
 use Rattle.cfg_blocks.specs.Entries.{is_fall}
 use Rattle.cfg_normal.specs.declared.Edge.{Edge}
 use Rattle.cfg_normal.specs.Graph.{Graph}
-use Rattle.cfg_walk.specs.Walk.{same_kind}
+use Rattle.cfg_normal.specs.Nodes.{same_kind}
 use Rattle.cfg_walk.specs.Matches.{way_address}
 use Rattle.layout.specs.declared.items.Item.{Item}
 use Rattle.layout.specs.declared.items.Item.TheVariants as it
@@ -21,7 +21,7 @@ use Rattle.jump_code.specs.Pieces.{found_piece}
 use Rattle.image_code.specs.declared.parts.Next.{Next}
 use Rattle.image_code.specs.Cases.{plain_piece}
 use Rattle.image_code.specs.Made.{goes_along, goes_on, jump_to, slot_copy, snippet_items, way_along, ways_from}
-use Rattle.image_code.specs.Parts.{items_of}
+use Rattle.image_code.specs.Private.{items_of}
 
 no_out : (kind : EdgeKind) → (kind ≡ kinds.Out → ⊥) → same_kind kind kinds.Out ≡ false
 no_out kinds.Out n = absurd (n refl)

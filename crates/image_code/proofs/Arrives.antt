@@ -19,7 +19,8 @@ use Rattle.code_runs.specs.Leads.{Leads, IsSilent}
 use Rattle.code_runs.specs.LongJump.{IsFirstWord, long_jump}
 use Rattle.code_runs.specs.Ours.{IsAmongWords}
 use Rattle.code_runs.specs.Page.{page_word}
-use Rattle.code_runs.specs.StoredWords.{CanStore, Stores, memory_word, store_word}
+use Rattle.code_runs.specs.Code.{CanStore, Stores, store_word}
+use Rattle.code_runs.specs.StoredWords.{memory_word}
 use Rattle.code_runs.specs.Straight.{HasWords}
 use Rattle.code_runs.proofs.Counted.{count_add, none_then}
 use Rattle.code_runs.proofs.Hops.{stores_then}
@@ -28,7 +29,9 @@ use Rattle.code_runs.proofs.LongJump.{long_jumps_hop}
 use Rattle.code_runs.proofs.Stays.{stores_there}
 use Rattle.code_runs.proofs.TwoRegisters.{stores_none}
 use Rattle.snippets.specs.declared.snippet.Op.{Op}
-use Rattle.snippet_code.specs.Runs.{IsAboutToRun, kept_word, words_at}
+use Rattle.snippet_code.specs.Runs.{IsAboutToRun}
+use Rattle.snippet_code.specs.Code.{kept_word}
+use Rattle.snippet_code.specs.Cells.{words_at}
 use Rattle.jump_code.specs.Pieces.{far_piece}
 use Rattle.jump_code.proofs.Fitting.{long_jump_fits}
 use Rattle.jump_code.proofs.Laid.{words_after}
@@ -41,8 +44,9 @@ use Rattle.layout.proofs.Going.{stays, jumps_hop}
 use Rattle.image_code.specs.Simulates.{IsOnWay}
 use Rattle.image_code.specs.Cost.{in_first_word, is_spill, spills_on}
 use Rattle.image_code.specs.Store.{cells_in, operations_on, snippet_on, updates}
-use Rattle.image_code.specs.Images.{Forms, HasImages, Pieces, Placed, Site}
-use Rattle.image_code.specs.Cases.{IsFar, LeadsTo, LeadsOn, rest_from, words_on}
+use Rattle.image_code.proofs.Points.{Forms, Placed, Site}
+use Rattle.image_code.specs.Images.{HasImages, Pieces}
+use Rattle.image_code.proofs.CaseShapes.{IsFar, LeadsTo, LeadsOn, rest_from, words_on}
 use Rattle.image_code.proofs.Between.{can_run, item_below, item_size, on_none, stores_weaker}
 use Rattle.image_code.proofs.Cells.{cell_low, cells_above, cell_stored, first_above, may_below, may_beside, may_own, operations_then, updates_same, updates_then, word_kept}
 use Rattle.image_code.proofs.Dead.{IsAlike, LastDead, NothingDead, alike_itself, alike_then, last_first, last_others, last_parted, nothing_parted}

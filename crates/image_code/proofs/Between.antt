@@ -5,7 +5,8 @@ use Rattle.std.specs.Option.{option_map, option_or}
 use Rattle.std.proofs.lemmas.Bool.{eq-eqb, ne_eqb}
 use Rattle.notes.specs.Format.{NoteRange, range_at, node_at}
 use Rattle.v8_memory.specs.Regions.{Memory, Region}
-use Rattle.v8_memory.specs.Spans.{Span, IsSameOutside, IsSameRegion}
+use Rattle.v8_memory.specs.Spans.{Span}
+use Rattle.v8_memory.specs.Code.{IsSameOutside, IsSameRegion}
 use Rattle.v8_step.specs.declared.Ending.{Ending}
 use Rattle.v8_step.specs.declared.Slot.TheVariants.{NoSlot}
 use Rattle.v8_step.specs.State.{State}
@@ -16,7 +17,7 @@ use Rattle.two_runs.specs.Visits.{visit_of, visited}
 use Rattle.cfg_walk.proofs.Walks as walks
 use Rattle.cfg_walk.specs.Walk.{Point, gone, point_of, unless_ended}
 use Rattle.cfg_normal.specs.declared.Node.{Node}
-use Rattle.code_runs.specs.StoredWords.{AllAt, Stores}
+use Rattle.code_runs.specs.Code.{AllAt, Stores}
 use Rattle.code_runs.specs.Leads.{Leads}
 use Rattle.code_runs.proofs.Stays.{stores_there}
 use Rattle.code_runs.specs.Page.{page_word}
@@ -25,8 +26,9 @@ use Rattle.layout.specs.Running.{CanRun}
 pub use Rattle.layout.proofs.Going.{item_size, piece_size as item_below}
 use Rattle.image_code.specs.Simulates.{Setting, IsOnWay, IsThere, gone_at, graph_in, number_in}
 use Rattle.image_code.specs.Store.{cells_in}
-use Rattle.image_code.specs.Images.{HasImages, Placed, Site}
-use Rattle.image_code.specs.Cases.{visits_it}
+use Rattle.image_code.specs.Images.{HasImages}
+use Rattle.image_code.proofs.Points.{Placed, Site}
+use Rattle.image_code.proofs.CaseShapes.{visits_it}
 
 -- ---- small things
 

@@ -23,10 +23,11 @@ use Rattle.std.proofs.lemmas.Bool.{cases_Bool, cond_both}
 use Rattle.cfg_blocks.proofs.Targets.{word_at-some}
 use Rattle.cfg_normal.specs.declared.Edge.{Edge}
 use Rattle.cfg_normal.specs.declared.Node.{Node}
-use Rattle.cfg_normal.specs.Nodes.{home_of}
+use Rattle.cfg_normal.specs.Code.{home_of}
 use Rattle.cfg_normal.specs.Opens.{Open, jumps_in}
 use Rattle.cfg_normal.specs.Graph.{directed, edge_of, graph_of, has_cases, is_compared, node_of, runs_slot}
-use Rattle.cfg_walk.specs.Walk.{Point, edge_from, node_after, point_of, same_kind}
+use Rattle.cfg_walk.specs.Walk.{Point, edge_from, node_after, point_of}
+use Rattle.cfg_normal.specs.Nodes.{same_kind}
 use Rattle.cfg_walk.specs.Matches.{last_in, target_along}
 use Rattle.cfg_walk.proofs.Addresses.{second_address}
 use Rattle.cfg_walk.proofs.Cut.{IsCut}
@@ -40,10 +41,11 @@ use Rattle.cfg_walk.proofs.Ways.{IsOne, always_holds, never_holds, not_always, n
 use Rattle.jump_code.specs.Pieces.{far_piece}
 use Rattle.layout.specs.declared.items.Item.{Item}
 use Rattle.image_code.specs.Simulates.{at_point, does_at, gone_at, graph_in, number_in}
-use Rattle.image_code.specs.Images.{entered_at}
-use Rattle.image_code.specs.Cases.{LeadsTo, branch_piece, next_entry, plain_piece, word_ahead, words_on}
-use Rattle.image_code.specs.Imaged.{IsCase, turn, idle}
-use Rattle.image_code.specs.Turns.{IsNoJumpsSlot}
+use Rattle.image_code.proofs.Points.{entered_at}
+use Rattle.image_code.proofs.CaseShapes.{LeadsTo, next_entry, word_ahead, words_on}
+use Rattle.image_code.specs.Cases.{branch_piece, plain_piece}
+use Rattle.image_code.proofs.HeadShapes.{IsCase, turn, idle}
+use Rattle.image_code.proofs.TurnShapes.{IsNoJumpsSlot}
 use Rattle.image_code.specs.Numbered.{enter_number, image_number}
 use Rattle.image_code.specs.Made.{first_word, goes_on, jump_to, nop_word, way_out}
 use Rattle.image_code.proofs.EdgePieces.{along_far, cut_in}

@@ -16,14 +16,15 @@ use Rattle.cfg_blocks.specs.Ends.{within}
 use Rattle.cfg_blocks.specs.Entries.{is_fall}
 use Rattle.cfg_normal.specs.declared.Node.{Node}
 use Rattle.cfg_normal.specs.Graph.{Graph}
-use Rattle.cfg_walk.specs.Walk.{same_kind, way_of}
+use Rattle.cfg_normal.specs.Nodes.{same_kind}
+use Rattle.cfg_walk.specs.Walk.{way_of}
 pub use Rattle.cfg_walk.proofs.Points.{within_some}
 use Rattle.cfg_normal.specs.Numbers.{node_number}
 use Rattle.layout.specs.declared.items.Item.{Item}
 use Rattle.layout.specs.declared.items.Item.TheVariants as it
 use Rattle.layout.specs.Laid.{nop}
 use Rattle.image_code.specs.Cases.{plain_piece}
-use Rattle.image_code.specs.Imaged.{TakesWords}
+use Rattle.image_code.proofs.HeadShapes.{TakesWords}
 use Rattle.image_code.specs.Made.{couple_word, nop_word, image_by, rest_after}
 
 -- ---- words

@@ -24,10 +24,10 @@ use Rattle.jump_code.specs.PageWords.{IsPageWord}
 use Rattle.jump_code.proofs.Laid.{pieces_are_laid}
 use Rattle.jump_code.proofs.Linking.{calls_act, calls_store}
 use Rattle.image_code.specs.Simulates.{at_point, does_at, gone_at, graph_in, number_in}
-use Rattle.image_code.specs.Images.{EntersNext, HereAt, Placed, Site, StepsFrom, entered_at}
-use Rattle.image_code.specs.Cases.{LeadsTo}
-use Rattle.image_code.specs.Turns.{IsNoJumpsSlot}
-use Rattle.image_code.specs.Calls.{IsCall}
+use Rattle.image_code.proofs.Points.{EntersNext, HereAt, Placed, Site, StepsFrom, entered_at}
+use Rattle.image_code.proofs.CaseShapes.{LeadsTo}
+use Rattle.image_code.proofs.TurnShapes.{IsNoJumpsSlot}
+use Rattle.image_code.proofs.CallShapes.{IsCall}
 use Rattle.image_code.proofs.Dead.{LastDead, gone_last}
 use Rattle.image_code.proofs.Through.{ahead, goes_through}
 use Rattle.image_code.proofs.Marked.{AtWords}

@@ -32,8 +32,8 @@ use Rattle.layout.specs.declared.items.Item.TheVariants as it
 use Rattle.image_code.specs.Simulates.{at_point, does_at, gone_at, graph_in, number_in, word_of, edit_in}
 use Rattle.image_code.specs.Cost.{IsWatched, in_first_word, is_spill}
 use Rattle.image_code.specs.Store.{cells_in}
-use Rattle.image_code.specs.Images.{EntersNext, HereAt, Placed, Site, StepsFrom, entered_at}
-use Rattle.image_code.specs.Cases.{next_entry, visits_it, IsMarkedWord, IsPlain, word_ahead}
+use Rattle.image_code.proofs.Points.{EntersNext, HereAt, Placed, Site, StepsFrom, entered_at}
+use Rattle.image_code.proofs.CaseShapes.{next_entry, visits_it, IsMarkedWord, IsPlain, word_ahead}
 use Rattle.code_runs.proofs.Stays.{words_stay}
 use Rattle.image_code.proofs.Ended.{stops_act}
 use Rattle.image_code.proofs.Sparing.{uncounted}

@@ -12,12 +12,14 @@ use Rattle.two_runs.specs.Visits.{pages_of}
 use Rattle.code_runs.specs.LongJump.{IsFirstWord}
 use Rattle.code_runs.specs.Ours.{IsAmongWords, IsOurs}
 use Rattle.code_runs.specs.Page.{page_word}
-use Rattle.code_runs.specs.StoredWords.{AllAt, CanStore, Stores, memory_word, store_all, store_word}
+use Rattle.code_runs.specs.Code.{AllAt, CanStore, Stores, store_all, store_word}
+use Rattle.code_runs.specs.StoredWords.{memory_word}
 use Rattle.code_runs.proofs.StoredWords.{other_word_stored, still_stored}
 use Rattle.code_runs.proofs.Stays.{stores_there, words_stay}
 use Rattle.snippets.specs.declared.snippet.Op.{Op}
 use Rattle.snippets.specs.Cells.{update}
-use Rattle.snippet_code.specs.Runs.{MayStore, cell_at, words_at}
+use Rattle.snippet_code.specs.Runs.{MayStore}
+use Rattle.snippet_code.specs.Cells.{cell_at, words_at}
 use Rattle.jump_code.specs.PageWords.{IsPageWord}
 use Rattle.image_code.specs.Simulates.{Setting}
 use Rattle.image_code.specs.Store.{cells_in, operations_on, snippet_on, updates}

@@ -23,10 +23,11 @@ use Rattle.cfg_blocks.specs.Ends.{is_transfer as ends_block_after}
 use Rattle.cfg_blocks.proofs.Targets.{word_at-some}
 use Rattle.cfg_normal.specs.declared.Node.{Node}
 use Rattle.cfg_normal.specs.declared.Node.TheVariants.{Block}
-use Rattle.cfg_normal.specs.Nodes.{home_of}
+use Rattle.cfg_normal.specs.Code.{home_of}
 use Rattle.cfg_normal.specs.Opens.{Open, jumps_in}
 use Rattle.cfg_normal.specs.Graph.{Graph, has_cases, node_of}
-use Rattle.cfg_walk.specs.Walk.{Point, node_after, point_of, same_kind, way_of}
+use Rattle.cfg_walk.specs.Walk.{Point, node_after, point_of, way_of}
+use Rattle.cfg_normal.specs.Nodes.{same_kind}
 use Rattle.cfg_walk.specs.Matches.{IsOnItsWay, IsTarget}
 use Rattle.cfg_walk.proofs.Addresses.{next_word}
 use Rattle.cfg_walk.proofs.Cut.{IsCut}
@@ -40,10 +41,12 @@ use Rattle.jump_slice.proofs.About.{in_targets}
 use Rattle.jump_slice.proofs.CaseBlocks.{some_of}
 use Rattle.jump_slice.specs.Joined.{IsCaseBlock}
 use Rattle.layout.specs.declared.items.Item.{Item}
-use Rattle.image_code.specs.Cases.{next_entry}
-use Rattle.image_code.specs.Choices.{IsChoice, choice_piece}
+use Rattle.image_code.proofs.CaseShapes.{next_entry}
+use Rattle.image_code.proofs.ChoiceShapes.{IsChoice}
+use Rattle.image_code.specs.Choices.{choice_piece}
 use Rattle.image_code.specs.Graphs.{case_table}
-use Rattle.image_code.specs.Images.{entered_at, slot_piece}
+use Rattle.image_code.proofs.Points.{entered_at}
+use Rattle.image_code.specs.Images.{slot_piece}
 use Rattle.image_code.specs.Made.{distance_of, jump_image_by, jumps_at}
 use Rattle.image_code.specs.Numbered.{case_numbers, case_piece, cases_of, entries_of, first_entry, image_number, jump_number, or_zero}
 use Rattle.image_code.specs.Simulates.{CaseTable, Chooses, IsChosen, does_at, gone_at, graph_in, number_in}

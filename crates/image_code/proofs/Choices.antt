@@ -24,8 +24,8 @@ use Rattle.jump_code.proofs.Choosing.{choices_simulate}
 use Rattle.layout.specs.Emitting.{words_of}
 use Rattle.image_code.specs.Simulates.{does_at, graph_in}
 use Rattle.image_code.specs.Cost.{is_jmpl}
-use Rattle.image_code.specs.Images.{EntersNext, HereAt, Placed, Site, StepsFrom, entered_at}
-use Rattle.image_code.specs.Choices.{IsChoice}
+use Rattle.image_code.proofs.Points.{EntersNext, HereAt, Placed, Site, StepsFrom, entered_at}
+use Rattle.image_code.proofs.ChoiceShapes.{IsChoice}
 use Rattle.image_code.proofs.Arrives.{bare_here}
 use Rattle.image_code.proofs.EntersBy.{moves_by}
 use Rattle.image_code.proofs.Marked.{AtWords, at_instrs, link_few}

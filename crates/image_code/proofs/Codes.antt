@@ -12,12 +12,14 @@ use Rattle.snippets.specs.declared.snippet.Op.{Op}
 use Rattle.snippets.specs.Cells.{named_by}
 use Rattle.snippet_code.specs.Laws.{CanExpand}
 use Rattle.snippet_code.specs.Runs.{DoesJust}
-use Rattle.snippet_code.specs.Words.{snippet_words, spills_of}
+use Rattle.snippet_code.specs.Words.{snippet_words}
+use Rattle.snippet_code.specs.Spills.{spills_of}
 use Rattle.snippet_code.proofs.Lengths.{costs_hold}
 use Rattle.snippet_code.proofs.WholeCode.{snippet_code_runs}
 use Rattle.image_code.specs.Store.{snippet_on}
 use Rattle.image_code.specs.Codes.{CodeDoes}
-use Rattle.image_code.specs.Parts.{code_at, codes_of}
+use Rattle.image_code.specs.Private.{code_at}
+use Rattle.image_code.specs.Parts.{codes_of}
 
 pub if_both : {A E : Type 0} (P Q R : A → Type 0) (r : Result A E) → ((a : A) → P a → Q a → R a) → IfOk r P → IfOk r Q
     → IfOk r R

@@ -23,8 +23,8 @@ use Rattle.code_runs.proofs.TwoRegisters.{stores_none}
 use Rattle.jump_code.specs.PageWords.{IsPageWord}
 use Rattle.layout.proofs.Going.{taken_acts}
 use Rattle.image_code.specs.Simulates.{IsOnWay, at_point, does_at, gone_at}
-use Rattle.image_code.specs.Images.{EntersNext, HereAt, Placed, Site, StepsFrom}
-use Rattle.image_code.specs.Couple.{IsCouple}
+use Rattle.image_code.proofs.Points.{EntersNext, HereAt, Placed, Site, StepsFrom}
+use Rattle.image_code.proofs.CoupleShapes.{IsCouple}
 use Rattle.image_code.proofs.Memories.{fetch_is}
 use Rattle.image_code.proofs.Marked.{AtWords, at_words}
 use Rattle.image_code.proofs.Cases.{no_puts}

@@ -12,7 +12,7 @@ use Rattle.v8_decode.specs.declared.Instr.{Instr}
 use Rattle.v8_decode.specs.declared.Instr.TheVariants as i
 use Rattle.v8_decode.specs.Words.{decode_of}
 use Rattle.v8_memory.specs.Regions.{Memory}
-use Rattle.v8_memory.specs.Spans.{IsSameOutside}
+use Rattle.v8_memory.specs.Code.{IsSameOutside}
 use Rattle.v8_step.specs.declared.Ending.{Ending}
 use Rattle.v8_step.specs.declared.Slot.{Slot}
 use Rattle.v8_step.specs.declared.Slot.TheVariants.{NoSlot, Taken, Untaken}
@@ -26,7 +26,8 @@ use Rattle.cfg_normal.specs.Graph.{has_cases, lands}
 use Rattle.cfg_normal.specs.declared.Node.{Node}
 use Rattle.cfg_normal.specs.declared.Node.TheVariants.{X}
 use Rattle.cfg_normal.specs.declared.Slot.TheVariants.{Nothing}
-use Rattle.cfg_walk.specs.Walk.{Point, WayOut, completed, gone, instr_at, landed, leads_along, left_along, left_at, left_by, point_of, same_kind, same_node, slot_left, unless_ended, way_of}
+use Rattle.cfg_walk.specs.Walk.{Point, WayOut, completed, gone, instr_at, landed, leads_along, left_along, left_at, left_by, point_of, slot_left, unless_ended, way_of}
+use Rattle.cfg_normal.specs.Nodes.{same_kind, same_node}
 use Rattle.code_runs.specs.Hops.{hopped}
 use Rattle.image_code.specs.Simulates.{IsFollowedBy, IsKept, Setting, gone_at, graph_in}
 use Rattle.image_code.specs.Cost.{is_out}

@@ -6,7 +6,8 @@ use Rattle.std.specs.List.{position}
 use Rattle.std.proofs.lemmas.Bool.{and_parts, eq-eqb}
 use Rattle.std.proofs.lemmas.List.Quantifiers.{position-Some}
 use Rattle.std.proofs.lemmas.Option.{get_or_from_slice_get}
-use Rattle.eel_base.specs.CodeText.{Words, IsText, address_of}
+use Rattle.eel_base.specs.CodeText.{Words, address_of}
+use Rattle.eel_base.specs.Code.{IsText}
 use Rattle.v8_decode.specs.declared.Instr.{Instr}
 use Rattle.v8_decode.specs.declared.Instr.TheVariants as i
 use Rattle.cfg_blocks.specs.declared.EdgeKind.{EdgeKind}
@@ -17,15 +18,17 @@ use Rattle.cfg_normal.specs.declared.Edge.{Edge}
 use Rattle.cfg_normal.specs.declared.Node.{Node}
 use Rattle.cfg_normal.specs.declared.Slot.{Slot as Carried}
 use Rattle.cfg_normal.specs.Opens.{Open}
-use Rattle.cfg_normal.specs.Graph.{IsSlotIn, edges_in, lands}
-use Rattle.cfg_walk.specs.Walk.{WayOut, edge_along, leads_along, same_kind, same_node}
+use Rattle.cfg_normal.specs.Code.{IsSlotIn}
+use Rattle.cfg_normal.specs.Graph.{edges_in, lands}
+use Rattle.cfg_walk.specs.Walk.{WayOut, edge_along, leads_along}
+use Rattle.cfg_normal.specs.Nodes.{same_kind, same_node}
 use Rattle.cfg_walk.specs.Matches.{target_along}
 use Rattle.cfg_walk.proofs.Cut.{IsCut, cut}
 use Rattle.cfg_walk.proofs.Edges.{block, number_of_list, same_nodes}
 use Rattle.cfg_walk.proofs.NoneOpen.{edge_lies_in}
 use Rattle.cfg_walk.proofs.Ways.{same_kinds}
 use Rattle.image_code.specs.Simulates.{Setting, graph_in}
-use Rattle.image_code.specs.Cases.{IsFar}
+use Rattle.image_code.proofs.CaseShapes.{IsFar}
 use Rattle.image_code.specs.Made.{first_word, piece_list, way_by}
 use Rattle.image_code.specs.Numbered.{case_piece, place_in}
 use Rattle.image_code.proofs.CaseTables.{IsKnown}

@@ -7,7 +7,7 @@ use Rattle.v8_decode.specs.declared.Instr.{Instr}
 use Rattle.v8_decode.specs.declared.Instr.TheVariants as i
 use Rattle.v8_decode.specs.Words.{decode_of}
 use Rattle.v8_memory.specs.Regions.{Memory}
-use Rattle.v8_memory.specs.Spans.{IsSameOutside}
+use Rattle.v8_memory.specs.Code.{IsSameOutside}
 use Rattle.v8_step.specs.declared.Ending.{Ending}
 use Rattle.v8_step.specs.declared.Slot.TheVariants.{NoSlot, Taken}
 use Rattle.v8_step.specs.State.{State, register_of}
@@ -19,13 +19,15 @@ use Rattle.v8_step.proofs.ValidSteps.{run-valid}
 use Rattle.two_runs.specs.Visits.{pages_of}
 use Rattle.cfg_blocks.specs.declared.EdgeKind.TheVariants as kinds
 use Rattle.cfg_normal.specs.declared.Node.{Node}
-use Rattle.cfg_walk.specs.Walk.{Point, instr_at, node_after, point_of, same_kind, way_of}
+use Rattle.cfg_walk.specs.Walk.{Point, instr_at, node_after, point_of, way_of}
+use Rattle.cfg_normal.specs.Nodes.{same_kind}
 use Rattle.code_runs.specs.Counted.{count_stores}
 use Rattle.code_runs.specs.Hops.{hopped}
 use Rattle.code_runs.specs.Leads.{IsSilent, Leads}
 use Rattle.code_runs.specs.Ours.{IsAmongWords}
 use Rattle.code_runs.specs.Page.{page_word}
-use Rattle.code_runs.specs.StoredWords.{Stores, memory_word}
+use Rattle.code_runs.specs.Code.{Stores}
+use Rattle.code_runs.specs.StoredWords.{memory_word}
 use Rattle.code_runs.proofs.Counted.{count_add, none_then}
 use Rattle.code_runs.proofs.Hops.{stores_then}
 use Rattle.code_runs.proofs.Leads.{leads_then, leads_weaker, puts_add}
@@ -35,7 +37,8 @@ use Rattle.jump_code.specs.PageWords.{IsPageWord, kept_address}
 use Rattle.image_code.specs.Simulates.{IsFollowedBy, IsKept, IsOnWay, IsThere, Setting, at_point, gone_at, graph_in, word_of, edit_in}
 use Rattle.image_code.specs.Cost.{IsWatched, NoneIsOut, in_first_word, is_jmpl, is_spill, is_transfer_at}
 use Rattle.image_code.specs.Store.{cells_in, updates}
-use Rattle.image_code.specs.Images.{EntersNext, Forms, Frame, HasImages, HasNoCases, HereAt, IsFramed, Placed, Site, entered_at}
+use Rattle.image_code.proofs.Points.{EntersNext, Forms, HereAt, Placed, Site, entered_at}
+use Rattle.image_code.specs.Images.{Frame, HasImages, HasNoCases, IsFramed}
 use Rattle.image_code.proofs.Arrives.{Arrives, IsFit, bare_on}
 use Rattle.image_code.proofs.Between.{can_run, ended_none, live_before, outside_refl, quiet_of, stores_weaker}
 use Rattle.image_code.proofs.Cells.{cells_above, page_above, updates_same}

@@ -8,7 +8,8 @@ use Rattle.std.proofs.lemmas.List.Folds.{fold-map}
 use Rattle.std.proofs.lemmas.List.Sums.{sum_by-append, sum_by-cons, sum_by-le}
 use Rattle.std.proofs.lemmas.List.Quantifiers.{position-Some}
 use Rattle.std.proofs.lemmas.Option.{get_or_from_slice_get, slice_get-get_or}
-use Rattle.eel_base.specs.CodeText.{Words, IsText, address_of, word_at}
+use Rattle.eel_base.specs.CodeText.{Words, address_of, word_at}
+use Rattle.eel_base.specs.Code.{IsText}
 use Rattle.eel_base.specs.declared.numbers.Addr.{Addr}
 use Rattle.v8_decode.specs.declared.Op2.{Op2}
 use Rattle.v8_decode.specs.declared.Instr.{Instr}
@@ -29,7 +30,8 @@ use Rattle.cfg_normal.specs.declared.Slot.TheVariants as slots
 use Rattle.cfg_normal.specs.Nodes.{same_kind, same_node}
 use Rattle.cfg_normal.specs.Numbers.{node_number}
 use Rattle.cfg_normal.specs.Opens.{Open, jumps_in}
-use Rattle.cfg_normal.specs.Graph.{Graph, IsNodeIn, lands}
+use Rattle.cfg_normal.specs.Graph.{Graph, lands}
+use Rattle.cfg_normal.specs.Code.{IsNodeIn}
 use Rattle.cfg_walk.specs.Walk.{ends_block, landing_at, left_by}
 use Rattle.cfg_walk.proofs.Edges.{block, copy, same_nodes}
 use Rattle.cfg_walk.proofs.Holding.{some_words}

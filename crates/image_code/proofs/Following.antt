@@ -15,10 +15,11 @@ use Rattle.cfg_blocks.specs.Ends.{end_at, is_transfer as ends_block_after, way, 
 use Rattle.cfg_blocks.specs.Switches.{is_jump}
 use Rattle.cfg_normal.specs.declared.Node.{Node}
 use Rattle.cfg_normal.specs.declared.Node.TheVariants.{Block, Landed, X}
-use Rattle.cfg_normal.specs.Nodes.{home_of}
+use Rattle.cfg_normal.specs.Code.{home_of, IsNodeIn}
 use Rattle.cfg_normal.specs.Opens.{Open, jumps_in}
-use Rattle.cfg_normal.specs.Graph.{IsNodeIn, directed, is_compared}
-use Rattle.cfg_walk.specs.Walk.{edge_from, left_by, node_after, same_kind, same_node}
+use Rattle.cfg_normal.specs.Graph.{directed, is_compared}
+use Rattle.cfg_walk.specs.Walk.{edge_from, left_by, node_after}
+use Rattle.cfg_normal.specs.Nodes.{same_kind, same_node}
 use Rattle.cfg_walk.proofs.Cut.{IsCut}
 use Rattle.cfg_walk.proofs.Edges.{block, copy}
 use Rattle.cfg_walk.proofs.Holding.{IsIn, ends_within, is_held}

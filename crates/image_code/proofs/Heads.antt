@@ -20,21 +20,24 @@ use Rattle.cfg_normal.specs.declared.Edge.{Edge}
 use Rattle.cfg_normal.specs.declared.Node.{Node}
 use Rattle.cfg_normal.specs.declared.Node.TheVariants.{Block, X}
 use Rattle.cfg_normal.specs.declared.Slot.TheVariants as carried
-use Rattle.cfg_normal.specs.Nodes.{home_of}
+use Rattle.cfg_normal.specs.Code.{home_of}
 use Rattle.cfg_normal.specs.Opens.{Open, jumps_in}
 use Rattle.cfg_normal.specs.Graph.{Graph, graph_of, has_cases, node_of}
-use Rattle.cfg_walk.specs.Walk.{Point, same_kind}
+use Rattle.cfg_walk.specs.Walk.{Point}
+use Rattle.cfg_normal.specs.Nodes.{same_kind}
 use Rattle.cfg_normal.specs.Numbers.{node_number}
 use Rattle.cfg_walk.specs.Matches.{IsOnItsWay, MatchesBy}
 use Rattle.layout.specs.declared.items.Item.{Item}
 use Rattle.layout.specs.declared.items.Item.TheVariants as it
 use Rattle.image_code.specs.Simulates.{MatchesIn, graph_in, number_in}
 use Rattle.image_code.specs.Choices.{choice_piece}
-use Rattle.image_code.specs.Images.{slot_piece, visited_at}
-use Rattle.image_code.specs.Imaged.{IsHead, IsVisited, TakesWords, head, outside, beyond}
+use Rattle.image_code.specs.Images.{slot_piece}
+use Rattle.image_code.proofs.Points.{visited_at}
+use Rattle.image_code.proofs.HeadShapes.{IsHead, IsVisited, TakesWords, head, outside, beyond}
 use Rattle.image_code.specs.Made.{distance_of, first_word, image_by, jump_by, jump_image_by, jumps_at, slot_copy, way_by}
 use Rattle.image_code.specs.Numbered.{case_piece, first_entry}
-use Rattle.image_code.specs.Outside.{IsForeign, IsOff, IsOpen}
+use Rattle.image_code.proofs.OutsideShapes.{IsForeign, IsOff}
+use Rattle.image_code.specs.Outside.{IsOpen}
 use Rattle.image_code.proofs.Branches.{HeadOf}
 use Rattle.image_code.proofs.ImageNumbers.{jump_numbered}
 use Rattle.image_code.proofs.Visited.{Edit, site, case_items, case_piece_is, edge_is, has_its_image, image_items, l, off, off_address, on, on_its_way, plain_items, plain_piece_is, target, visited_slot, visited_word, way_in}

@@ -20,9 +20,9 @@ use Rattle.jump_code.specs.PageWords.{IsPageWord}
 use Rattle.layout.specs.declared.items.Item.TheVariants as it
 use Rattle.layout.specs.Laid.{nop}
 use Rattle.image_code.specs.Simulates.{does_at, gone_at, number_in}
-use Rattle.image_code.specs.Images.{HereAt, Placed, Site, StepsFrom}
-use Rattle.image_code.specs.Cases.{next_entry, word_ahead}
-use Rattle.image_code.specs.Idle.{IsIdle}
+use Rattle.image_code.proofs.Points.{HereAt, Placed, Site, StepsFrom}
+use Rattle.image_code.proofs.CaseShapes.{next_entry, word_ahead}
+use Rattle.image_code.proofs.IdleShapes.{IsIdle}
 use Rattle.image_code.proofs.Arrives.{jump_then, rest_marked, weaker_arrives}
 use Rattle.image_code.proofs.BranchMoves.{branch_moves}
 use Rattle.image_code.proofs.Memories.{fetch_is}

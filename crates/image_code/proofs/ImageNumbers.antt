@@ -9,9 +9,9 @@ use Rattle.cfg_blocks.specs.Blocks.{Blocks, end_of, holding_of}
 use Rattle.cfg_blocks.specs.Switches.{is_jump}
 use Rattle.cfg_normal.specs.declared.Node.{Node}
 use Rattle.cfg_normal.specs.declared.Node.TheVariants.{Block, Landed, X}
-use Rattle.cfg_normal.specs.Nodes.{home_of}
+use Rattle.cfg_normal.specs.Code.{home_of, IsNodeIn}
 use Rattle.cfg_normal.specs.Opens.{Open, compares_in, jumps_in}
-use Rattle.cfg_normal.specs.Graph.{Graph, IsNodeIn, graph_of}
+use Rattle.cfg_normal.specs.Graph.{Graph, graph_of}
 use Rattle.cfg_walk.proofs.Edges.{block, copy}
 use Rattle.image_code.specs.Numbered.{at_open, compare_image, compare_number, enter_number, image_number, jump_enter, jump_image, jump_number, node_in_order}
 use Rattle.image_code.proofs.Opened.{AreCased}

@@ -5,9 +5,9 @@ use Rattle.std.proofs.lemmas.Bool.{eqb-true}
 use Rattle.cfg_blocks.specs.Blocks.{Blocks, blocks_of, holding_of}
 use Rattle.cfg_blocks.specs.Values.{instr_at}
 use Rattle.cfg_normal.specs.declared.Node.{Node}
-use Rattle.cfg_normal.specs.Nodes.{home_of}
+use Rattle.cfg_normal.specs.Code.{home_of, IsNodeIn}
 use Rattle.cfg_normal.specs.Opens.{Open}
-use Rattle.cfg_normal.specs.Graph.{IsNodeIn, node_of}
+use Rattle.cfg_normal.specs.Graph.{node_of}
 use Rattle.cfg_walk.proofs.Cut.{IsCut}
 use Rattle.cfg_walk.proofs.Edges.{block, copy}
 use Rattle.cfg_walk.proofs.Holding.{IsIn}

@@ -14,10 +14,10 @@ use Rattle.layout.specs.declared.items.Item.TheVariants as it
 use Rattle.layout.specs.Laid.{Placement, Stands, BranchStands, branch_short, branch_long, item_in, items_in, size_of, open_in, range_of}
 use Rattle.image_code.specs.Simulates.{Simulates, at_point, number_in, word_of}
 use Rattle.code_runs.specs.PointsAlike.{instr_of}
-use Rattle.image_code.specs.Images.{Forms, HereAt, Placed, Site, StepsFrom}
-use Rattle.image_code.specs.Cases.{visits_it}
+use Rattle.image_code.proofs.Points.{Forms, HereAt, Placed, Site, StepsFrom}
+use Rattle.image_code.proofs.CaseShapes.{visits_it}
 use Rattle.image_code.specs.Outside.{IsOpen}
-use Rattle.image_code.specs.Imaged.{TakesWords, IsCase, IsHead, IsImaged, plain, couple, turn, idle, call, jump, landing, choice, foreign, off, IsVisited, head, outside, beyond}
+use Rattle.image_code.proofs.HeadShapes.{TakesWords, IsCase, IsHead, IsImaged, plain, couple, turn, idle, call, jump, landing, choice, foreign, off, IsVisited, head, outside, beyond}
 use Rattle.image_code.proofs.Between.{at_range}
 use Rattle.image_code.proofs.Cases.{plains_step}
 use Rattle.image_code.proofs.Calls.{calls_step}

@@ -14,13 +14,14 @@ use Rattle.cfg_blocks.specs.Blocks.{Blocks, blocks_of}
 use Rattle.cfg_blocks.proofs.Targets.{word_at-some}
 use Rattle.cfg_normal.specs.declared.Node.{Node}
 use Rattle.cfg_normal.specs.Graph.{has_cases}
-use Rattle.cfg_walk.specs.Walk.{Point, instr_at, node_after, point_of, same_kind, way_of}
+use Rattle.cfg_walk.specs.Walk.{Point, instr_at, node_after, point_of, way_of}
+use Rattle.cfg_normal.specs.Nodes.{same_kind}
 use Rattle.cfg_walk.specs.Matches.{MatchesBy}
 use Rattle.cfg_walk.proofs.Points.{Stands, StepsTo}
 use Rattle.image_code.specs.Simulates.{gone_at, graph_in}
-use Rattle.image_code.specs.Images.{entered_at}
-use Rattle.image_code.specs.Cases.{LeadsTo}
-use Rattle.image_code.specs.Turns.{IsNoJumpsSlot}
+use Rattle.image_code.proofs.Points.{entered_at}
+use Rattle.image_code.proofs.CaseShapes.{LeadsTo}
+use Rattle.image_code.proofs.TurnShapes.{IsNoJumpsSlot}
 use Rattle.image_code.specs.Made.{way_out}
 use Rattle.image_code.proofs.EdgePieces.{cut_in}
 use Rattle.image_code.proofs.Visited.{AtWord, Edit, site, enters, l, nothing_gone, on_its_way}

@@ -23,7 +23,7 @@ use Rattle.cfg_walk.proofs.Transfers.{call_delayed, jump_delayed}
 use Rattle.jump_code.specs.FreeRegister.{free_register, other_register}
 use Rattle.jump_code.specs.Pieces.{call_piece, find_piece}
 use Rattle.image_code.specs.Simulates.{at_point, does_at, graph_in, number_in}
-use Rattle.image_code.specs.Calls.{IsCall, IsJump}
+use Rattle.image_code.proofs.CallShapes.{IsCall, IsJump}
 use Rattle.layout.specs.declared.items.Item.{Item}
 use Rattle.image_code.specs.Made.{jump_by, jump_image_by, jumps_at, way_out}
 use Rattle.image_code.specs.Numbered.{image_number}

@@ -8,7 +8,7 @@ use Rattle.v8_decode.specs.declared.Instr.TheVariants as i
 use Rattle.v8_decode.specs.Ranges.{op2_in_range, operands_in_range}
 use Rattle.v8_decode.specs.Words.{decode_of}
 use Rattle.v8_decode.proofs.Rows.{decoded_range}
-use Rattle.v8_encode.specs.Encoding.{op2_fits}
+use Rattle.v8_encode.specs.Code.{op2_fits}
 use Rattle.jump_code.specs.FreeRegister.{first_free, free_register, is_one_of_four, next_free, other_register, second_register}
 use Rattle.jump_code.specs.FreeRegister.{IsApart, IsNotIn}
 use Rattle.image_code.proofs.Operands.{operand_fits}

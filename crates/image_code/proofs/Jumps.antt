@@ -25,9 +25,9 @@ use Rattle.jump_code.proofs.FindFollowing.{goes, stops, finds_simulate}
 use Rattle.jump_code.proofs.Laid.{pieces_are_laid}
 use Rattle.image_code.specs.Simulates.{does_at, gone_at, graph_in, number_in}
 use Rattle.image_code.specs.Cost.{is_jmpl}
-use Rattle.image_code.specs.Images.{EntersNext, HereAt, Placed, Site, StepsFrom, entered_at}
-use Rattle.image_code.specs.Cases.{LeadsTo}
-use Rattle.image_code.specs.Calls.{IsJump}
+use Rattle.image_code.proofs.Points.{EntersNext, HereAt, Placed, Site, StepsFrom, entered_at}
+use Rattle.image_code.proofs.CaseShapes.{LeadsTo}
+use Rattle.image_code.proofs.CallShapes.{IsJump}
 use Rattle.image_code.proofs.Memories.{same_stored}
 use Rattle.image_code.proofs.Dead.{LastDead, gone_last}
 use Rattle.image_code.proofs.EntersBy.{ends_by, moves_past, own_stored}

@@ -10,10 +10,11 @@ use Rattle.v8_decode.specs.declared.Op2.{Op2}
 use Rattle.v8_decode.specs.declared.Op2.TheVariants.{Reg, Imm}
 use Rattle.v8_decode.specs.Ranges.{op2_in_range, operands_in_range}
 use Rattle.v8_decode.specs.Words.{decode_of}
-use Rattle.v8_encode.specs.Encoding.{op2_fits}
+use Rattle.v8_encode.specs.Code.{op2_fits}
 use Rattle.v8_alu.specs.Numbers.{wrapped}
 use Rattle.v8_memory.specs.Regions.{Memory, Region, code_of}
-use Rattle.v8_memory.specs.Spans.{IsSameOutside, IsSameRegion, Span}
+use Rattle.v8_memory.specs.Code.{IsSameOutside, IsSameRegion}
+use Rattle.v8_memory.specs.Spans.{Span}
 use Rattle.v8_step.specs.declared.Ending.{Ending}
 use Rattle.v8_step.specs.declared.Slot.{Slot}
 use Rattle.v8_step.specs.declared.Slot.TheVariants.{NoSlot}
@@ -35,8 +36,9 @@ use Rattle.cfg_walk.proofs.Addresses.{next_word}
 use Rattle.code_runs.specs.Counted.{count_stores}
 use Rattle.code_runs.specs.Page.{page_word}
 use Rattle.code_runs.specs.Ours.{IsAmongWords}
-use Rattle.code_runs.specs.StoredWords.{Stores, memory_word}
-use Rattle.snippet_code.specs.Runs.{words_at}
+use Rattle.code_runs.specs.Code.{Stores}
+use Rattle.code_runs.specs.StoredWords.{memory_word}
+use Rattle.snippet_code.specs.Cells.{words_at}
 use Rattle.code_runs.specs.Straight.{StandIn}
 use Rattle.code_runs.proofs.Counted.{count_add}
 use Rattle.code_runs.proofs.Leads.{run_add, puts_add}
@@ -52,8 +54,9 @@ use Rattle.layout.specs.Emitting.{words_of}
 use Rattle.image_code.specs.Simulates.{CaseTable, IsAtWord, IsNoLoad, IsOnWay, Setting, Steps, StepsOn, at_point, does_at, gone_at, graph_in}
 use Rattle.image_code.specs.Cost.{limit_by, is_spill, is_transfer_at}
 use Rattle.image_code.specs.Store.{cells_in}
-use Rattle.image_code.specs.Images.{Entered, EntersNext, Forms, HereAt, Placed, Site, StepsFrom, entered_at, visited_at}
-use Rattle.image_code.specs.Keeping.{AreCaseTables, IsEntered, IsKeeping, at_once, keeping}
+use Rattle.image_code.proofs.Points.{Entered, EntersNext, Forms, HereAt, Placed, Site, StepsFrom, entered_at, visited_at}
+use Rattle.image_code.specs.Keeping.{AreCaseTables}
+use Rattle.image_code.proofs.LoadShapes.{IsEntered, IsKeeping, at_once, keeping}
 use Rattle.image_code.proofs.Arrives.{IsFit, Rest, Stood, bare_on, first_kept, rest_whole, stood, stood_low}
 use Rattle.image_code.proofs.Between.{can_run, live_before}
 use Rattle.image_code.proofs.Memories.{images_stored, same_stored}

@@ -19,7 +19,7 @@ use Rattle.jump_code.specs.Pieces.{word_items}
 use Rattle.layout.specs.declared.items.Item.{Item}
 use Rattle.layout.specs.Laid.{is_jump, item_at, items_in, size_of}
 use Rattle.image_code.specs.Graphs.{case_table}
-use Rattle.image_code.specs.Keeping.{IsEntered, at_once, keeping}
+use Rattle.image_code.proofs.LoadShapes.{IsEntered, at_once, keeping}
 use Rattle.image_code.specs.Loads.{first_operand, load_of, second_operand}
 use Rattle.image_code.specs.Made.{keep_by}
 use Rattle.image_code.specs.Numbered.{enter_number, image_number, jump_enter, jump_image, jump_number}

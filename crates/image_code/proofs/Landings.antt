@@ -18,7 +18,7 @@ use Rattle.cfg_normal.specs.declared.Node.{Node}
 use Rattle.cfg_walk.specs.Walk.{Point}
 use Rattle.code_runs.specs.Hops.{Hops, hopped}
 use Rattle.code_runs.specs.Page.{page_word}
-use Rattle.code_runs.specs.StoredWords.{store_word}
+use Rattle.code_runs.specs.Code.{store_word}
 use Rattle.code_runs.specs.Straight.{StandIn}
 use Rattle.code_runs.proofs.Leads.{leads_weaker}
 use Rattle.code_runs.proofs.StoredWords.{other_word_stored}
@@ -37,9 +37,9 @@ use Rattle.layout.specs.Emitting.{words_of}
 use Rattle.image_code.specs.Simulates.{at_point, does_at, gone_at, graph_in, number_in}
 use Rattle.image_code.specs.Cost.{NoneIsOut}
 use Rattle.image_code.specs.Store.{operations_on}
-use Rattle.image_code.specs.Images.{HereAt, Placed, Site, StepsFrom}
-use Rattle.image_code.specs.Cases.{LeadsTo, next_entry, words_on}
-use Rattle.image_code.specs.Landings.{IsJumpsSlot, Lands}
+use Rattle.image_code.proofs.Points.{HereAt, Placed, Site, StepsFrom}
+use Rattle.image_code.proofs.CaseShapes.{LeadsTo, next_entry, words_on}
+use Rattle.image_code.proofs.LandingShapes.{IsJumpsSlot, Lands}
 use Rattle.image_code.proofs.Arrives.{Arrives, IsBare, IsFit, Rest, arrive, arrived, bare_here, eased, length_words, on_then, rest_behind, rest_marked, page_there, rest_whole, snippets_run, unwatched, Stood, stood, stood_low, weaker_arrives, words_unmarked}
 use Rattle.image_code.proofs.Cases.{judged_moved, marked_step}
 use Rattle.image_code.proofs.Cells.{cells_above, page_above}

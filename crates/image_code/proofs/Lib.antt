@@ -60,3 +60,15 @@ pub mod LoadWords
 pub mod JumpsBy
 pub mod Sources
 pub mod Found
+pub mod CallShapes
+pub mod CaseShapes
+pub mod ChoiceShapes
+pub mod CoupleShapes
+pub mod HeadShapes
+pub mod IdleShapes
+pub mod LandingShapes
+pub mod LoadShapes
+pub mod OutsideShapes
+pub mod Points
+pub mod Promises
+pub mod TurnShapes

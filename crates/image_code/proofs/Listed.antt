@@ -17,7 +17,7 @@ use Rattle.cfg_normal.specs.declared.Edge.{Edge}
 use Rattle.cfg_normal.specs.declared.Node.{Node}
 use Rattle.cfg_normal.specs.Opens.{Open}
 use Rattle.cfg_normal.specs.Graph.{Graph, edges_in, graph_of}
-use Rattle.cfg_walk.specs.Walk.{same_kind}
+use Rattle.cfg_normal.specs.Nodes.{same_kind}
 use Rattle.cfg_walk.proofs.Edges.{block, copy}
 use Rattle.jump_code.specs.Pieces.{foreign_piece}
 use Rattle.layout.specs.declared.items.Item.{Item}

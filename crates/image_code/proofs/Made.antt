@@ -19,8 +19,8 @@ use Rattle.cfg_walk.specs.Walk.{Point}
 use Rattle.cfg_walk.specs.Matches.{IsOnItsWay, MatchesBy}
 use Rattle.cfg_walk.proofs.Edges.{block}
 use Rattle.image_code.specs.Simulates.{Chooses, MatchesIn, does_at, graph_in}
-use Rattle.image_code.specs.Images.{HereAt}
-use Rattle.image_code.specs.Imaged.{IsCase, call, choice, foreign, jump, off, plain}
+use Rattle.image_code.proofs.Points.{HereAt}
+use Rattle.image_code.proofs.HeadShapes.{IsCase, call, choice, foreign, jump, off, plain}
 use Rattle.image_code.specs.Made.{PiecesMakeImages}
 use Rattle.image_code.specs.Outside.{IsOpen}
 use Rattle.image_code.proofs.BranchImages.{branch_case}

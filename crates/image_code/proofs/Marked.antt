@@ -22,8 +22,8 @@ use Rattle.layout.proofs.Going.{word_is}
 use Rattle.jump_code.specs.Links.{link}
 use Rattle.jump_code.specs.PageWords.{IsPageWord}
 use Rattle.image_code.specs.Simulates.{IsOnWay, IsThere, number_in}
-use Rattle.image_code.specs.Images.{HereAt, Placed, Site}
-use Rattle.image_code.specs.Cases.{IsMarked, visits_it}
+use Rattle.image_code.proofs.Points.{HereAt, Placed, Site}
+use Rattle.image_code.proofs.CaseShapes.{IsMarked, visits_it}
 use Rattle.image_code.proofs.Between.{at_range, can_run, on_range, there_in}
 use Rattle.image_code.proofs.Cells.{cells_above, page_above}
 

@@ -3,14 +3,16 @@ use Rattle.std.proofs.Common.{◌≡◌, ℕ, ◌+◌, ◌*◌, ◌≤◌, ◌�
 use Rattle.std.specs.Int.{w32, to_be_bytes}
 use Rattle.v8_decode.specs.declared.Instr.{Instr}
 use Rattle.v8_memory.specs.Regions.{Memory, code_of, fetch_of, fetch_from}
-use Rattle.v8_memory.specs.Spans.{AllApart, IsSameOutside}
+use Rattle.v8_memory.specs.Spans.{AllApart}
+use Rattle.v8_memory.specs.Code.{IsSameOutside}
 use Rattle.v8_step.specs.State.{State}
 use Rattle.v8_step.specs.Step.{act, step_of}
 use Rattle.v8_step.specs.Run.{run}
 use Rattle.v8_step.specs.Judged.{judged_by}
 use Rattle.two_runs.specs.Visits.{pages_of}
 use Rattle.v8_step.proofs.Executable.{code_of-run}
-use Rattle.code_runs.specs.StoredWords.{AllAt, Stores, memory_word, store_all, store_word}
+use Rattle.code_runs.specs.Code.{AllAt, Stores, store_all, store_word}
+use Rattle.code_runs.specs.StoredWords.{memory_word}
 use Rattle.code_runs.specs.Ours.{HasWordAt, IsAmongWords}
 use Rattle.code_runs.proofs.Ours.{ours_are_stored, ours_stay}
 use Rattle.code_runs.proofs.Stays.{region_of_word, there_written, words_stay}

@@ -10,7 +10,8 @@ use Rattle.std.proofs.lemmas.List.{get_or-map, length-append, length-map}
 use Rattle.std.proofs.lemmas.Option.{slice_get_within}
 use Rattle.std.proofs.lemmas.List.Sums.{count_by-le-length, length-filter, sum_by-cons}
 use Rattle.std.proofs.Math.Seq.{take-append_seam}
-use Rattle.eel_base.specs.CodeText.{Words, IsText}
+use Rattle.eel_base.specs.CodeText.{Words}
+use Rattle.eel_base.specs.Code.{IsText}
 use Rattle.v8_decode.specs.Words.{decode_of}
 use Rattle.v8_step.specs.Items.{is_transfer}
 use Rattle.cfg_blocks.specs.declared.BlockEnd.{BlockEnd}
@@ -18,10 +19,11 @@ use Rattle.cfg_blocks.specs.declared.BlockEnd.TheVariants as ends
 use Rattle.cfg_blocks.specs.declared.EdgeKind.{EdgeKind}
 use Rattle.cfg_blocks.specs.declared.EdgeKind.TheVariants as kinds
 use Rattle.cfg_blocks.specs.declared.switches.Switch.{Switch}
-use Rattle.cfg_blocks.specs.Ends.{TargetsWithin, Way, number_of, within}
-use Rattle.cfg_blocks.specs.Blocks.{AreFirsts, Blocks, below, blocks_of, end_of, holding_of, is_among, last_word, size_of}
+use Rattle.cfg_blocks.specs.Code.{TargetsWithin, AreFirsts, IsBlockList}
+use Rattle.cfg_blocks.specs.Ends.{Way, number_of, within}
+use Rattle.cfg_blocks.specs.Blocks.{Blocks, below, blocks_of, end_of, holding_of, is_among, last_word, size_of}
 use Rattle.cfg_blocks.specs.Arrivals.{entered_in}
-use Rattle.cfg_blocks.specs.Entries.{Entered, IsBlockList, entered_of, ways_from}
+use Rattle.cfg_blocks.specs.Entries.{Entered, entered_of, ways_from}
 use Rattle.cfg_blocks.specs.Switches.{is_jump, is_taken, is_untaken, switch_of, switches_of}
 use Rattle.cfg_blocks.specs.Values.{instr_at}
 use Rattle.cfg_blocks.proofs.Agreement.{entered_alike}
@@ -30,8 +32,9 @@ use Rattle.cfg_blocks.proofs.Targets.{targets_within}
 use Rattle.cfg_normal.specs.declared.Edge.{Edge}
 use Rattle.cfg_normal.specs.declared.Node.{Node}
 use Rattle.cfg_normal.specs.Nodes.{same_kind}
-use Rattle.cfg_normal.specs.Opens.{AreOne, AreOpenIn, IsOpenIn, IsTableIn, Open, is_copied, jumps_in, targets_in}
-use Rattle.cfg_normal.specs.Graph.{Graph, IsNodeIn, case_of, copied_edges, edge_of, edges_in, edges_of, graph_of, landing_at, landings_of, ways_out}
+use Rattle.cfg_normal.specs.Code.{AreOne, AreOpenIn, IsOpenIn, IsTableIn, IsNodeIn}
+use Rattle.cfg_normal.specs.Opens.{Open, is_copied, jumps_in, targets_in}
+use Rattle.cfg_normal.specs.Graph.{Graph, case_of, copied_edges, edge_of, edges_in, edges_of, graph_of, landing_at, landings_of, ways_out}
 use Rattle.cfg_normal.proofs.Candidates.{opens_are as open_in_blocks}
 use Rattle.cfg_normal.proofs.GraphFacts.{edges_of-few, flat_few, ways_out-few}
 use Rattle.cfg_walk.proofs.Cut.{IsCut, cut}

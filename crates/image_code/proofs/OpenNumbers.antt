@@ -13,7 +13,8 @@ use Rattle.cfg_blocks.specs.Blocks.{size_of as block_size}
 use Rattle.cfg_normal.specs.declared.Node.{Node}
 use Rattle.cfg_normal.specs.declared.Node.TheVariants.{Block, Landed, X}
 use Rattle.cfg_normal.specs.Opens.{Open}
-use Rattle.cfg_normal.specs.Graph.{Graph, IsNodeIn, lands}
+use Rattle.cfg_normal.specs.Graph.{Graph, lands}
+use Rattle.cfg_normal.specs.Code.{IsNodeIn}
 use Rattle.cfg_walk.proofs.Holding.{IsIn, ends_within, in_held, some_words}
 use Rattle.cfg_walk.proofs.Lists.{Each, each, each-append, each-map, each_at}
 use Rattle.cfg_walk.proofs.Nodes.{lands_as}

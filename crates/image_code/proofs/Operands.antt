@@ -9,7 +9,7 @@ use Rattle.v8_decode.specs.declared.LoadKind.TheVariants as loads
 use Rattle.v8_decode.specs.declared.StoreKind.TheVariants as stores
 use Rattle.v8_decode.specs.Words.{field, rd_of, op3_of, op2_rows, arithmetic_rows, memory_rows, branch_or_sethi, arithmetic, memory, call, load, store, read_state, write_state, even_rd, decode_of}
 use Rattle.v8_decode.proofs.Rows.{Each, row_by_row}
-use Rattle.v8_encode.specs.Encoding.{op2_fits}
+use Rattle.v8_encode.specs.Code.{op2_fits}
 use Rattle.v8_encode.proofs.Fields.{op2_fits-op2_of}
 
 abbrev second_fits : Instr → Bool

@@ -17,9 +17,10 @@ use Rattle.cfg_normal.specs.declared.Node.{Node}
 use Rattle.cfg_walk.specs.Walk.{Point}
 use Rattle.code_runs.proofs.Leads.{leads_one}
 use Rattle.image_code.specs.Simulates.{at_point, does_at, number_in, word_of}
-use Rattle.image_code.specs.Images.{HereAt, IsBeside, Placed, Site, StepsFrom, visited_by}
-use Rattle.image_code.specs.Cases.{visits_it}
-use Rattle.image_code.specs.Outside.{IsForeign, IsOff}
+use Rattle.image_code.proofs.Points.{HereAt, Placed, Site, StepsFrom, visited_by}
+use Rattle.image_code.specs.Images.{IsBeside}
+use Rattle.image_code.proofs.CaseShapes.{visits_it}
+use Rattle.image_code.proofs.OutsideShapes.{IsForeign, IsOff}
 use Rattle.image_code.proofs.Memories.{fetch_is}
 use Rattle.image_code.proofs.Sparing.{out_of_pages}
 use Rattle.image_code.proofs.Visited.{off_slot}

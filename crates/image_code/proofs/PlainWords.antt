@@ -20,7 +20,8 @@ use Rattle.cfg_blocks.specs.Blocks.{Blocks, blocks_of, holding_of, last_word}
 use Rattle.cfg_blocks.specs.Ends.{end_at, end_by, is_transfer as ends_block_after, within}
 use Rattle.cfg_blocks.proofs.Targets.{word_at-some}
 use Rattle.cfg_normal.specs.declared.Node.{Node}
-use Rattle.cfg_normal.specs.Nodes.{home_of, same_node}
+use Rattle.cfg_normal.specs.Code.{home_of}
+use Rattle.cfg_normal.specs.Nodes.{same_node}
 use Rattle.cfg_normal.specs.Graph.{node_of}
 use Rattle.cfg_walk.specs.Walk.{Point, left_by, node_after, point_of}
 use Rattle.cfg_walk.proofs.Addresses.{next_address, next_word}
@@ -33,8 +34,9 @@ use Rattle.layout.specs.declared.items.Item.{Item}
 use Rattle.layout.specs.declared.items.Item.TheVariants as it
 use Rattle.layout.specs.Laid.{item_at, is_jump, size_of}
 use Rattle.image_code.specs.Simulates.{at_point, does_at, gone_at, graph_in, number_in}
-use Rattle.image_code.specs.Images.{entered_at}
-use Rattle.image_code.specs.Cases.{IsFar, IsPlain, JumpsOn, LeadsOn, plain_piece, words_on}
+use Rattle.image_code.proofs.Points.{entered_at}
+use Rattle.image_code.proofs.CaseShapes.{IsFar, IsPlain, JumpsOn, LeadsOn, words_on}
+use Rattle.image_code.specs.Cases.{plain_piece}
 use Rattle.image_code.specs.Made.{is_slots, jump_to, jumps_at, next_at, next_to}
 use Rattle.image_code.specs.Numbered.{enter_number, image_number, node_in_order}
 use Rattle.image_code.proofs.Branches.{image_straight, within_some}

@@ -22,7 +22,8 @@ use Rattle.cfg_normal.specs.declared.Node.{Node}
 use Rattle.cfg_normal.specs.declared.Node.TheVariants.{Block, Landed, X}
 use Rattle.cfg_normal.specs.Nodes.{same_kind, same_node}
 use Rattle.cfg_normal.specs.Opens.{Open, targets_in}
-use Rattle.cfg_normal.specs.Graph.{Graph, IsNodeIn, lands}
+use Rattle.cfg_normal.specs.Graph.{Graph, lands}
+use Rattle.cfg_normal.specs.Code.{IsNodeIn}
 use Rattle.cfg_walk.specs.Walk.{edge_along, edge_from, ends_block, landing_at, left_by}
 use Rattle.cfg_walk.proofs.Edges.{block, copy, same_itself, same_nodes}
 use Rattle.cfg_walk.proofs.Holding.{ends_within, in_held, some_words}
@@ -32,7 +33,8 @@ use Rattle.cfg_walk.proofs.Nodes.{lands_as}
 use Rattle.snippets.specs.declared.snippet.Op.{Op}
 use Rattle.image_code.specs.Store.{snippet_on}
 use Rattle.image_code.specs.Numbered.{node_in_order, own_edges}
-use Rattle.image_code.specs.Fit.{AreShort, copies_of, is_at, operations_from, operations_in, targets_from, words_at}
+use Rattle.image_code.specs.Fit.{AreShort, operations_from, operations_in}
+use Rattle.image_code.specs.Copies.{copies_of, is_at, targets_from, words_at}
 use Rattle.image_code.proofs.OpenBlocks.{IsTextGraph}
 use Rattle.image_code.proofs.OpenSums.{code_length, count_le, count_none, count_one, count_within, uses, uses_cover}
 

@@ -19,7 +19,8 @@ use Rattle.cfg_blocks.proofs.Targets.{word_at-some}
 use Rattle.cfg_normal.specs.declared.Node.{Node}
 use Rattle.cfg_normal.specs.declared.Node.TheVariants.{X}
 use Rattle.cfg_normal.specs.Graph.{Graph, has_cases, lands}
-use Rattle.cfg_walk.specs.Walk.{Point, landed, landing_at as edge_landing, node_after, point_of, same_kind, slot_left}
+use Rattle.cfg_walk.specs.Walk.{Point, landed, landing_at as edge_landing, node_after, point_of, slot_left}
+use Rattle.cfg_normal.specs.Nodes.{same_kind}
 use Rattle.cfg_walk.specs.Matches.{Begins, IsOnItsWay, last_in, way_address}
 use Rattle.cfg_walk.proofs.Nodes.{home_lands, lands_as, lands_in}
 use Rattle.cfg_walk.proofs.Slots.{jump_lands}
@@ -33,11 +34,13 @@ use Rattle.layout.specs.declared.items.Item.TheVariants as it
 use Rattle.image_code.specs.Simulates.{Setting, at_point, does_at, gone_at, graph_in, number_in}
 use Rattle.image_code.specs.Cost.{is_out}
 use Rattle.image_code.specs.Store.{operations_on}
-use Rattle.image_code.specs.Images.{HasNoCases, HereAt, entered_at, visited_at}
-use Rattle.image_code.specs.Cases.{IsMarked, IsMarkedWord, IsFar, LeadsOn, plain_piece, words_on}
+use Rattle.image_code.specs.Images.{HasNoCases}
+use Rattle.image_code.proofs.Points.{HereAt, entered_at, visited_at}
+use Rattle.image_code.proofs.CaseShapes.{IsMarked, IsMarkedWord, IsFar, LeadsOn, words_on}
+use Rattle.image_code.specs.Cases.{plain_piece}
 use Rattle.image_code.specs.Couple.{couple_piece}
-use Rattle.image_code.specs.Landings.{Lands}
-use Rattle.image_code.specs.Imaged.{IsCase, plain, couple, landing as jumps_slot}
+use Rattle.image_code.proofs.LandingShapes.{Lands}
+use Rattle.image_code.proofs.HeadShapes.{IsCase, plain, couple, landing as jumps_slot}
 use Rattle.image_code.specs.Made.{couple_word, first_word, goes_along, goes_on, jump_to, past_slot}
 use Rattle.image_code.specs.Numbered.{enter_number, foreign_number, landing_number}
 use Rattle.image_code.proofs.CaseTables.{IsKnown, table_of}

@@ -2,7 +2,8 @@
 use Rattle.std.proofs.Common.{◌≡◌, ℕ, ◌<◌, ◌≤◌, Bool, List, Some, refl, ap, sym, ◌∙◌, subst, arith, length, get_or}
 use Rattle.std.specs.Prelude.{if◌then◌else◌, slice_get, slice_index, pos}
 use Rattle.std.specs.List.{Contains}
-use Rattle.eel_base.specs.CodeText.{Words, IsText}
+use Rattle.eel_base.specs.CodeText.{Words}
+use Rattle.eel_base.specs.Code.{IsText}
 use Rattle.v8_decode.specs.declared.Op2.TheVariants as operand
 use Rattle.v8_decode.specs.Ranges.{is_in_range}
 use Rattle.v8_decode.proofs.Rows.{decoded_range}
@@ -10,7 +11,8 @@ use Rattle.cfg_blocks.specs.Blocks.{Blocks, blocks_of, size_of}
 use Rattle.cfg_blocks.specs.Entries.{entered_of}
 use Rattle.cfg_blocks.specs.Switches.{runs_slot}
 use Rattle.cfg_normal.specs.Opens.{Open}
-use Rattle.cfg_normal.specs.Graph.{Graph, IsGraph}
+use Rattle.cfg_normal.specs.Graph.{Graph}
+use Rattle.cfg_normal.specs.Code.{IsGraph}
 use Rattle.cfg_walk.proofs.Cut.{IsCut, cut}
 use Rattle.cfg_walk.proofs.Holding.{some_words}
 use Rattle.jump_slice.specs.Cases.{IsOpen}

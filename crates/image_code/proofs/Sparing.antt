@@ -23,12 +23,14 @@ use Rattle.v8_step.specs.Transfers.{trapped}
 use Rattle.two_runs.specs.Visits.{in_pages, page_of, pages_of}
 use Rattle.cfg_walk.specs.Walk.{instr_at}
 use Rattle.line_words.proofs.Steps.{mapped}
-use Rattle.code_runs.specs.Counted.{any_of_word, one_if, stores_at}
+use Rattle.code_runs.specs.Code.{any_of_word}
+use Rattle.code_runs.specs.Counted.{one_if, stores_at}
 use Rattle.code_runs.specs.Ours.{IsIn}
 use Rattle.code_runs.specs.Page.{page_word}
 use Rattle.code_runs.proofs.Counted.{uncounted_span}
 use Rattle.code_runs.proofs.Leads.{split_below}
-use Rattle.snippet_code.specs.Runs.{cell_at, kept_word}
+use Rattle.snippet_code.specs.Cells.{cell_at}
+use Rattle.snippet_code.specs.Code.{kept_word}
 use Rattle.image_code.specs.Simulates.{Setting, word_of}
 use Rattle.image_code.specs.Cost.{in_first_word, is_cell, is_spill, is_transfer_at, spills_on}
 

@@ -18,8 +18,8 @@ use Rattle.layout.specs.Laid.{item_at, item_in, open_in}
 use Rattle.jump_code.specs.Links.{past}
 use Rattle.jump_code.specs.Pieces.{marked_piece, word_items}
 use Rattle.image_code.specs.Simulates.{number_in, graph_in}
-use Rattle.image_code.specs.Images.{EntersNext, HereAt, Placed, Site, entered_at}
-use Rattle.image_code.specs.Cases.{IsMarked, LeadsTo}
+use Rattle.image_code.proofs.Points.{EntersNext, HereAt, Placed, Site, entered_at}
+use Rattle.image_code.proofs.CaseShapes.{IsMarked, LeadsTo}
 use Rattle.image_code.proofs.Arrives.{jump_along, weaker_arrives}
 use Rattle.image_code.proofs.Dead.{LastDead}
 use Rattle.image_code.proofs.EntersBy.{MovesOn, moves_by}

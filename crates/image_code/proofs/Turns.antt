@@ -8,7 +8,7 @@ use Rattle.v8_step.specs.State.{State}
 use Rattle.v8_step.specs.Items.{is_transfer}
 use Rattle.cfg_walk.specs.Walk.{Point}
 use Rattle.cfg_normal.specs.declared.Node.{Node}
-use Rattle.code_runs.specs.StoredWords.{Stores}
+use Rattle.code_runs.specs.Code.{Stores}
 use Rattle.code_runs.specs.Hops.{hopped}
 use Rattle.code_runs.proofs.Leads.{leads_weaker}
 use Rattle.code_runs.specs.LongJump.{IsFirstWord}
@@ -20,9 +20,9 @@ use Rattle.layout.specs.Running.{CanRun, Goes}
 use Rattle.layout.proofs.Going.{branches_hop}
 use Rattle.image_code.specs.Simulates.{does_at, gone_at, number_in}
 use Rattle.image_code.specs.Cost.{in_first_word, is_spill}
-use Rattle.image_code.specs.Images.{EntersNext, Forms, HereAt, Placed, Site, StepsFrom}
-use Rattle.image_code.specs.Cases.{LeadsTo, next_entry, word_ahead}
-use Rattle.image_code.specs.Turns.{IsTurn}
+use Rattle.image_code.proofs.Points.{EntersNext, Forms, HereAt, Placed, Site, StepsFrom}
+use Rattle.image_code.proofs.CaseShapes.{LeadsTo, next_entry, word_ahead}
+use Rattle.image_code.proofs.TurnShapes.{IsTurn}
 use Rattle.image_code.proofs.Arrives.{Arrives, IsFit, arrive, jump_then, rest_marked, weaker_arrives}
 use Rattle.image_code.proofs.Between.{can_run, on_range, stores_weaker}
 use Rattle.image_code.proofs.BranchMoves.{branch_moves}

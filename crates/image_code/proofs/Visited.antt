@@ -20,10 +20,11 @@ use Rattle.cfg_normal.specs.declared.Node.{Node}
 use Rattle.cfg_normal.specs.declared.Node.TheVariants.{Block}
 use Rattle.cfg_normal.specs.declared.Slot.{Slot as Carried}
 use Rattle.cfg_normal.specs.declared.Slot.TheVariants as carried
-use Rattle.cfg_normal.specs.Nodes.{home_of}
+use Rattle.cfg_normal.specs.Code.{home_of, IsNodeIn, IsSlotIn}
 use Rattle.cfg_normal.specs.Opens.{Open, targets_in}
-use Rattle.cfg_normal.specs.Graph.{IsNodeIn, IsSlotIn, has_cases, lands, node_of}
-use Rattle.cfg_walk.specs.Walk.{Point, WayOut, by_kind, edge_along, instr_at, left_by, same_kind, slot_left, way_of, way_to}
+use Rattle.cfg_normal.specs.Graph.{has_cases, lands, node_of}
+use Rattle.cfg_walk.specs.Walk.{Point, WayOut, by_kind, edge_along, instr_at, left_by, slot_left, way_of, way_to}
+use Rattle.cfg_normal.specs.Nodes.{same_kind}
 use Rattle.cfg_walk.specs.Matches.{IsCarried, IsOnItsWay, IsTarget, MatchesBy}
 use Rattle.cfg_walk.proofs.Addresses.{word_at-address}
 use Rattle.cfg_walk.proofs.Edges.{block}
@@ -31,12 +32,13 @@ use Rattle.cfg_walk.proofs.Ways.{same_kinds}
 use Rattle.addr_translate.specs.Lookup.{IsTable}
 use Rattle.layout.specs.Laid.{Placement}
 use Rattle.image_code.specs.Simulates.{Setting, gone_at, graph_in, number_in, word_of}
-use Rattle.image_code.specs.Images.{Frame, IsPlaced, Pieces, Site, along_first, entered_at, place_by, slot_piece, visited_at}
+use Rattle.image_code.specs.Images.{Frame, IsPlaced, Pieces, along_first, place_by, slot_piece}
+use Rattle.image_code.proofs.Points.{Site, entered_at, visited_at}
 use Rattle.eel_base.specs.declared.numbers.Addr.{Addr}
 use Rattle.layout.specs.declared.items.Item.{Item}
 use Rattle.layout.specs.declared.items.Item.TheVariants as it
 use Rattle.std.proofs.lemmas.Option.{slice_get_within}
-use Rattle.image_code.specs.Cases.{IsFar, IsMarked, LeadsTo}
+use Rattle.image_code.proofs.CaseShapes.{IsFar, IsMarked, LeadsTo}
 use Rattle.image_code.specs.Made.{AreCasesFor, IsOffNoted, IsTableFor, edit_pieces, first_way, first_word, image_by, jumps_at, way_by, way_out}
 use Rattle.image_code.specs.Numbered.{along_case, along_number, case_piece, enter_number, image_number, jump_number, way_piece}
 use Rattle.image_code.proofs.CaseTables.{IsKnown}

@@ -4,7 +4,7 @@ use Rattle.v8_decode.specs.declared.Part.{Part}
 use Rattle.snippets.specs.declared.snippet.Op.{Op}
 use Rattle.snippets.specs.Cells.{named_by}
 use Rattle.snippet_code.specs.Runs.{DoesJust}
-use Rattle.snippet_code.specs.Words.{spills_of}
+use Rattle.snippet_code.specs.Spills.{spills_of}
 use Rattle.image_code.specs.Store.{snippet_on}
 use Rattle.image_code.specs.Parts.{codes_of}
 

@@ -11,12 +11,13 @@ use Rattle.two_runs.specs.Visits.{in_pages}
 use Rattle.cfg_blocks.specs.declared.EdgeKind.TheVariants as kinds
 use Rattle.cfg_normal.specs.declared.Edge.{Edge}
 use Rattle.cfg_normal.specs.Graph.{Graph}
-use Rattle.cfg_walk.specs.Walk.{Point, instr_at, same_kind}
+use Rattle.cfg_walk.specs.Walk.{Point, instr_at}
 use Rattle.snippets.specs.declared.snippet.Op.{Op}
 use Rattle.snippets.specs.Cells.{named_by}
-use Rattle.snippet_code.specs.Words.{spills_of}
+use Rattle.cfg_normal.specs.Nodes.{same_kind}
 use Rattle.code_runs.specs.Counted.{count_stores}
 use Rattle.code_runs.specs.Page.{page_word}
+use Rattle.snippet_code.specs.Spills.{spills_of}
 use Rattle.image_code.specs.Store.{Edit, operations_on, snippet_on}
 
 -- ---- steps

@@ -1,25 +1,21 @@
 -- The pieces that are made can be placed, in so many bytes, and wherever they are placed the word of each place is the
 -- original's.
-use Rattle.std.specs.Prelude.{◌≡◌, ℕ, suc, ◌+◌, ◌*◌, ◌^◌, ◌<◌, ◌≤◌, Bool, true, false, if◌then◌else◌, List, [], ◌∷◌, length, Some, slice_get, slice_index}
-use Rattle.std.specs.List.{count_by, range_with_len, sum_by}
-use Rattle.eel_base.specs.CodeText.{Words, IsText, word_at}
+use Rattle.std.specs.Prelude.{◌≡◌, ℕ, suc, ◌+◌, ◌*◌, ◌^◌, ◌<◌, ◌≤◌, Bool, true, false, List, [], ◌∷◌, length, Some, slice_get, slice_index}
+use Rattle.std.specs.List.{count_by, sum_by}
+use Rattle.eel_base.specs.CodeText.{Words, word_at}
+use Rattle.eel_base.specs.Code.{IsText}
 use Rattle.notes.specs.Format.{NoteRange}
 use Rattle.v8_decode.specs.Words.{decode_of}
 use Rattle.v8_step.specs.Items.{is_transfer}
-use Rattle.cfg_blocks.specs.Blocks.{size_of}
-use Rattle.cfg_blocks.specs.declared.EdgeKind.TheVariants as kinds
 use Rattle.cfg_normal.specs.declared.Edge.{Edge}
-use Rattle.cfg_normal.specs.declared.Node.{Node}
-use Rattle.cfg_normal.specs.declared.Node.TheVariants.{Block, Landed, X}
-use Rattle.cfg_normal.specs.Nodes.{same_kind, same_node}
-use Rattle.cfg_normal.specs.Opens.{targets_in}
-use Rattle.cfg_normal.specs.Graph.{Graph, lands}
+use Rattle.cfg_normal.specs.Graph.{Graph}
 use Rattle.snippets.specs.declared.snippet.Op.{Op}
 use Rattle.layout.specs.declared.items.Item.{Item}
 use Rattle.layout.specs.declared.items.Item.TheVariants as it
 use Rattle.layout.specs.Laid.{ArePieces, IsLaid, IsWordAt, Placement, long_bytes}
 use Rattle.image_code.specs.Numbered.{case_numbers, foreign_number}
 use Rattle.image_code.specs.Graphs.{IsGraphOf}
+use Rattle.image_code.specs.Copies.{copies_of}
 use Rattle.image_code.specs.Made.{lands_at, piece_list}
 use Rattle.image_code.specs.Store.{snippet_on}
 
@@ -30,27 +26,6 @@ is_mark _ = false
 -- how many Marks a piece has
 abbrev pub marks_in : List Item → ℕ
 marks_in items = count_by is_mark items
-
--- How often the snippet of an edge is made: a landing's once for each word that lands at its node, a Case edge's once
--- for each entry that does, any other once.
-abbrev pub is_at : Graph → Node → ℕ → Bool
-is_at graph node word = same_node (lands graph (Some word)) node
-
-abbrev pub words_at : Graph → Node → List ℕ
-words_at graph (Block block) =
-    range_with_len (slice_index graph.blocks.firsts block.0) (size_of graph.blocks block.0)
-words_at graph (Landed block) =
-    range_with_len (slice_index graph.blocks.firsts block.0) (size_of graph.blocks block.0)
-words_at graph X = []
-
-abbrev pub targets_from : Graph → Node → List ℕ
-targets_from graph (Block block) = targets_in graph.opens block.0
-targets_from graph _ = []
-
-abbrev pub copies_of : Graph → Edge → ℕ
-copies_of graph edge =
-    if same_kind edge.kind kinds.Land then count_by (is_at graph edge.to) (words_at graph edge.to) else
-    if same_kind edge.kind kinds.Case then count_by (is_at graph edge.to) (targets_from graph edge.from) else 1
 
 -- the operations on some edges, the first of which has this number, counted as often as they are made
 abbrev pub operations_from : Graph → List (List Op) → ℕ → List Edge → ℕ

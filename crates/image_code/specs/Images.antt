@@ -12,17 +12,20 @@ use Rattle.two_runs.specs.Visits.{in_pages, pages_of}
 use Rattle.cfg_blocks.specs.declared.EdgeKind.TheVariants as kinds
 use Rattle.cfg_normal.specs.declared.Node.{Node}
 use Rattle.cfg_normal.specs.declared.Node.TheVariants.{Block}
-use Rattle.cfg_walk.specs.Walk.{Point, edge_along, instr_at, same_kind, way_of, way_to}
+use Rattle.cfg_normal.specs.Nodes.{same_kind}
+use Rattle.cfg_walk.specs.Walk.{Point, edge_along, instr_at, way_of, way_to}
 use Rattle.code_runs.specs.StoredWords.{memory_word}
 use Rattle.code_runs.specs.Ours.{AreOwn, HasWordAt, IsAmongWords, IsIn, IsOurs}
 use Rattle.code_runs.specs.Page.{page_word}
 use Rattle.addr_translate.specs.Halves.{IsTwoLevel, found_in}
 use Rattle.addr_translate.specs.Lookup.{TableAt, table_word}
 use Rattle.layout.specs.declared.items.Item.{Item}
-use Rattle.layout.specs.Laid.{HasShortForms, Placement, IsLaid, range_in}
+use Rattle.layout.specs.Laid.{Placement, IsLaid, range_in}
 use Rattle.layout.specs.Running.{HasCode}
-use Rattle.snippet_code.specs.Runs.{DoesJust, IsCellOf, cell_at}
-use Rattle.image_code.specs.Simulates.{CaseTable, Enters, Setting, does_at, gone_at, graph_in}
+use Rattle.snippet_code.specs.Runs.{DoesJust}
+use Rattle.snippet_code.specs.Code.{IsCellOf}
+use Rattle.snippet_code.specs.Cells.{cell_at}
+use Rattle.image_code.specs.Simulates.{CaseTable, Setting, graph_in}
 use Rattle.image_code.specs.Cost.{is_out, spills_at}
 use Rattle.image_code.specs.Store.{snippet_on}
 
@@ -62,29 +65,6 @@ place_by image g l p f node x (Some word) NoSlot = slice_index p.at (image node 
 place_by image g l p f node x None NoSlot = x.pc
 place_by image g l p f node x (Some word) slot = slice_index p.at (slot_piece g l node x)
 place_by image g l p f node x None slot = f.table.base
-
-abbrev pub visited_by : Setting → Pieces → Placement → Frame → Node → Point → Option ℕ → Slot → ℕ
-visited_by g l = place_by l.image g l
-
--- Pieces where they are placed, for a setting. (`g l base p place f` is written out where another crate says it.)
-pub record Site : Type 0 where
-  pub g : Setting
-  pub l : Pieces
-  pub base : ℕ
-  pub p : Placement
-  pub place : ℕ → ℕ → ℕ
-  pub f : Frame
-
-abbrev pub placed_by : (Node → ℕ → ℕ) → Site → Node → Point → ℕ
-placed_by image site node x = place_by image site.g site.l site.p site.f node x (word_at site.g.text x.pc) x.slot
-
--- the address at which the written file visits the point
-abbrev pub visited_at : Site → Node → Point → ℕ
-visited_at site = placed_by site.l.image site
-
--- the address at which control enters the piece of the point: before the load of an open switch its address is kept
-abbrev pub entered_at : Site → Node → Point → ℕ
-entered_at site = placed_by site.l.enter site
 
 -- ---- what its memory has all the while
 
@@ -131,25 +111,6 @@ pub record HereBy (image : Node → ℕ → ℕ) (g : Setting) (l : Pieces) (bas
 abbrev pub Here : Setting → Pieces → ℕ → Placement → Frame → Node → Point → State → Type 0
 Here g l base p f node x t = HereBy l.image g l base p f node x t
 
-abbrev pub HereAt : Site → Node → Point → State → Type 0
-HereAt site node x t = Here site.g site.l site.base site.p site.f node x t
-
--- where control comes to it
-abbrev pub Entered : Site → Node → Point → State → Type 0
-Entered site node x t = HereBy site.l.enter site.g site.l site.base site.p site.f node x t
-
--- no Jump and no Branch is long
-abbrev pub Forms : Site → Type 0
-Forms site = HasShortForms site.l.list site.place
-
--- What one image does, up to where control enters the next one.
-abbrev pub EntersNext : Site → List ℕ → Node → Point → State → State → Type 0
-EntersNext site edges node x t v = Enters site.g (Entered site) (Forms site) edges node x t v
-
--- where the original's step leads
-abbrev pub StepsFrom : Site → Node → Point → State → Type 0
-StepsFrom site node x t = let v = does_at site.g x t in EntersNext site (gone_at site.g node x v) node x t v
-
 -- ---- what the notes say of placed code
 
 pub record AreNoted (g : Setting) (base : ℕ) (p : Placement) : Type 0 where
@@ -191,12 +152,3 @@ pub record IsPlaced (g : Setting) (l : Pieces) (base : ℕ) (p : Placement) (pla
   pub noted : AreNoted g base p
   pub frame : IsFramed g f
   pub cells : HasCells g l f
-
-abbrev pub Placed : Site → Type 0
-Placed site = IsPlaced site.g site.l site.base site.p site.place site.f
-
--- A point whose piece is of some shape: the piece carries out its step.
-abbrev pub Follows : (Site → Node → Point → State → Type 0) → Type 0
-Follows Case =
-    (site : Site) → Placed site → (node : Node) (x : Point) (t : State) → HereAt site node x t → Case site node x t
-    → StepsFrom site node x t

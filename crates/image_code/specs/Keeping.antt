@@ -1,20 +1,15 @@
 -- Where control comes to the load of an open switch, its address is kept before; everywhere else control comes to the
 -- visit itself.
 use Rattle.std.specs.Prelude.{◌≡◌, ℕ, ◌<◌, ◌≤◌, true, false, length, Some, slice_get, slice_index}
-use Rattle.eel_base.specs.CodeText.{IsText}
+use Rattle.eel_base.specs.Code.{IsText}
 use Rattle.v8_decode.specs.declared.Instr.TheVariants as i
 use Rattle.v8_decode.specs.declared.LoadKind.TheVariants as loads
 use Rattle.v8_decode.specs.Ranges.{operands_in_range}
 use Rattle.v8_decode.specs.Words.{decode_of}
-use Rattle.v8_encode.specs.Encoding.{op2_fits}
+use Rattle.v8_encode.specs.Code.{op2_fits}
 use Rattle.v8_step.specs.Items.{is_transfer}
 use Rattle.cfg_blocks.specs.Blocks.{last_word}
-use Rattle.cfg_normal.specs.declared.Node.{Node}
-use Rattle.cfg_walk.specs.Walk.{Point}
-use Rattle.jump_code.specs.Pieces.{word_items}
-use Rattle.jump_code.specs.Keeping.{keep_load}
-use Rattle.image_code.specs.Simulates.{CaseTable, IsAtWord, Setting, graph_in}
-use Rattle.image_code.specs.Images.{Site, entered_at, visited_at}
+use Rattle.image_code.specs.Simulates.{CaseTable, Setting, graph_in}
 
 -- The words from the load to the jump: an LD with these operands, and no transfer before the jump, with which the block
 -- ends.
@@ -35,17 +30,3 @@ pub record AreCaseTables (g : Setting) : Type 0 where
   -- a block has one at most
   pub apart : (k j : ℕ) (o q : CaseTable) → slice_get g.opens k ≡ Some o → slice_get g.opens j ≡ Some q
       → o.block ≡ q.block → o ≡ q
-
--- a piece that keeps the load's address, and behind which the visit stands
-pub record IsKeeping (site : Site) (node : Node) (x : Point) (o : CaseTable) : Type 0 where
-  pub piece : ℕ
-  pub here : entered_at site node x ≡ slice_index site.p.at piece
-  pub items : slice_get site.l.list piece ≡ Some (word_items (keep_load o.rs1 o.op2))
-  pub behind : site.place piece 3 ≡ visited_at site node x
-
-pub data IsEntered (site : Site) (node : Node) (x : Point) : Type 0 where
-  at_once : entered_at site node x ≡ visited_at site node x
-      → ((k : ℕ) (o : CaseTable) → slice_get site.g.opens k ≡ Some o → IsAtWord site.g o node x o.load → ⊥)
-      → IsEntered site node x
-  keeping : (k : ℕ) (o : CaseTable) → slice_get site.g.opens k ≡ Some o → IsAtWord site.g o node x o.load
-      → IsKeeping site node x o → IsEntered site node x

@@ -2,7 +2,8 @@
 use Rattle.std.specs.Prelude.{◌≡◌, ℕ, suc, ◌+◌, ◌-◌, ◌<◌, ◌≤◌, Bool, false, ◌&&◌, ◌==◌, if◌then◌else◌, List, [], length, map, slice_index, slice_index_or, Option, Some, None}
 use Rattle.std.specs.List.{Contains, find, position, range_with_len}
 use Rattle.indexmap.specs.IndexMap.{get}
-use Rattle.eel_base.specs.CodeText.{Words, IsText}
+use Rattle.eel_base.specs.CodeText.{Words}
+use Rattle.eel_base.specs.Code.{IsText}
 use Rattle.v8_decode.specs.declared.Op2.{Op2}
 use Rattle.v8_decode.specs.declared.Instr.{Instr}
 use Rattle.v8_decode.specs.declared.Instr.TheVariants as i
@@ -15,10 +16,11 @@ use Rattle.cfg_blocks.specs.declared.switches.Value.{Value}
 use Rattle.cfg_blocks.specs.Blocks.{Blocks, below, last_word}
 use Rattle.cfg_blocks.specs.Values.{followed, instr_at, sum_in}
 use Rattle.cfg_normal.specs.declared.Edge.{Edge}
-use Rattle.cfg_normal.specs.Graph.{Graph, IsGraph}
+use Rattle.cfg_normal.specs.Graph.{Graph}
 use Rattle.cfg_normal.specs.Nodes.{same_kind}
 use Rattle.cfg_normal.specs.Numbers.{kind_number, node_number, node_numbers}
 use Rattle.cfg_normal.specs.Opens.{Open}
+use Rattle.cfg_normal.specs.Code.{IsGraph}
 use Rattle.image_code.specs.declared.firsts.CaseEdge.{CaseEdge}
 use Rattle.image_code.specs.contracts.firsts.CaseEdgePartialEq.TheImpl as case_eq
 use Rattle.image_code.specs.declared.lookups.Lookups.{Lookups}

@@ -3,9 +3,10 @@
 -- to which the table leads every address outside the text.
 use Rattle.std.specs.Prelude.{◌≡◌, ℕ, suc, ◌+◌, ◌-◌, ◌*◌, ◌%◌, ◌^◌, ◌<◌, ◌≤◌, ◌==◌, nat_lt, if◌then◌else◌, Bool, ◌&&◌, List, [], ◌∷◌, ◌++◌, length, map, slice_get, slice_index, Option, Some, None}
 use Rattle.std.specs.List.{flat_map, range_with_len}
-use Rattle.eel_base.specs.CodeText.{Words, IsText, address_of, word_at}
+use Rattle.eel_base.specs.CodeText.{Words, address_of, word_at}
 use Rattle.notes.specs.Format.{range_at}
 use Rattle.eel_base.specs.declared.numbers.Addr.{Addr}
+use Rattle.eel_base.specs.Code.{IsText}
 use Rattle.v8_decode.specs.declared.Op2.{Op2}
 use Rattle.v8_decode.specs.declared.Instr.{Instr}
 use Rattle.v8_decode.specs.declared.Instr.TheVariants as i
@@ -114,9 +115,9 @@ lands_at text graph snips word =
 abbrev pub snippet_items : (ℕ → List ℕ) → List ℕ → List Item
 snippet_items codes edges = map it.Word (flat_map codes edges)
 
-module _ (text : Words) (graph : Graph) (codes : ℕ → List ℕ) where
-  -- ---- images of words
+-- ---- images of words
 
+module _ (text : Words) (graph : Graph) (codes : ℕ → List ℕ) where
   -- behind the last word of a block comes the snippet of the edge to the next word
   abbrev pub rest_after : Node → ℕ → Instr → List Item
   rest_after node word instr = snippet_items codes (left_by graph node word instr) ++ next_at text graph node word
@@ -165,9 +166,9 @@ module _ (text : Words) (graph : Graph) (jumps cases : ℕ) (codes : ℕ → Lis
   image node word =
       image_by (record { 0 = address_of text word }) node word (decode_of (slice_index text.words word))
 
-module _ (text : Words) (graph : Graph) (codes : ℕ → List ℕ) where
-  -- ---- landings
+-- ---- landings
 
+module _ (text : Words) (graph : Graph) (codes : ℕ → List ℕ) where
   -- at a landing the snippet of its node's landing edge runs, and control goes on to the word's image there
   abbrev pub landing : ℕ → List Item
   landing word =

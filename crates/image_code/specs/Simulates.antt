@@ -1,12 +1,12 @@
 -- What the pieces of a program promise, in whatever way they are placed: from a visit of the original's instruction,
 -- a few steps lead to what the original does there, along the edges that its step completes.
-use Rattle.std.specs.Prelude.{◌≡◌, ◌≢◌, ℕ, ◌+◌, ◌<◌, ◌≤◌, false, List, [], ◌∷◌, length, slice_get, slice_index, Option, Some, None}
+use Rattle.std.specs.Prelude.{◌≡◌, ◌≢◌, ℕ, ◌+◌, ◌<◌, ◌≤◌, List, [], ◌∷◌, length, slice_get, slice_index, Option, Some, None}
 use Rattle.std.specs.Option.{option_map}
 use Rattle.eel_base.specs.CodeText.{Words, address_of, word_at}
 use Rattle.notes.specs.Format.{NoteRange, Notes, node_at, range_at}
 use Rattle.v8_decode.specs.declared.Op2.{Op2}
 use Rattle.v8_decode.specs.declared.Part.{Part}
-use Rattle.v8_memory.specs.Spans.{Span, AllApart, IsSameOutside}
+use Rattle.v8_memory.specs.Spans.{Span, AllApart}
 use Rattle.v8_step.specs.declared.Slot.TheVariants.{NoSlot}
 use Rattle.v8_step.specs.State.{State, sum_of}
 use Rattle.v8_step.specs.Step.{on_word, puts_on_word}
@@ -18,15 +18,17 @@ use Rattle.cfg_blocks.specs.Blocks.{blocks_of}
 use Rattle.cfg_normal.specs.declared.Node.{Node}
 use Rattle.cfg_normal.specs.declared.Node.TheVariants.{Block}
 use Rattle.cfg_normal.specs.Opens.{Open}
-use Rattle.cfg_normal.specs.Graph.{Graph, IsNodeIn, graph_of}
-use Rattle.cfg_walk.specs.Walk.{Point, point_of, goes_on_at, gone, node_after, instr_at}
+use Rattle.cfg_normal.specs.Graph.{Graph, graph_of}
+use Rattle.cfg_walk.specs.Walk.{Point, point_of, goes_on_at, gone, node_after}
 use Rattle.cfg_walk.specs.Matches.{Matches}
 use Rattle.cfg_normal.specs.Numbers.{node_number}
 use Rattle.snippets.specs.declared.snippet.Op.{Op}
+use Rattle.cfg_normal.specs.Code.{IsNodeIn}
+use Rattle.v8_memory.specs.Code.{IsSameOutside}
 use Rattle.code_runs.specs.Points.{moved}
 use Rattle.code_runs.specs.PointsAlike.{instr_of}
 use Rattle.jump_code.specs.PageWords.{kept_address}
-use Rattle.image_code.specs.Cost.{IsSparing, IsWatched, is_transfer_at, limit_by}
+use Rattle.image_code.specs.Cost.{IsSparing, IsWatched, limit_by}
 use Rattle.image_code.specs.Store.{Edit, cells_in, updates}
 
 -- ---- the original at a point
@@ -168,16 +170,6 @@ pub record IsChosen (g : Setting) (o : CaseTable) (t v : State) : Type 0 where
 abbrev pub Chooses : Setting → Node → Point → State → State → Type 0
 Chooses g node p t v =
     (k : ℕ) (o : CaseTable) → slice_get g.opens k ≡ Some o → IsAtWord g o node p o.jump → IsChosen g o t v
-
--- ---- what one image does, up to where control enters the next one
-
--- `Entered` says that a machine is where control comes to a point. Three steps are left, in which an address may be
--- kept. Within a block word 0 of the page stays as it is.
-pub record Enters (g : Setting) (Entered : Node → Point → State → Type 0) (Short : Type 0)
-    (edges : List ℕ) (node : Node) (p : Point) (t v : State) : Type 0 where
-  pub on : StepsOn g Entered Short 61 edges node p t v
-  pub first : v.ending ≡ None → edges ≡ [] → is_transfer_at (instr_at g.text p.pc) ≡ false → word_at g.text v.pc ≢ None
-      → kept_address on.after ≡ kept_address t
 
 -- ---- and up to the next visit, behind what is run before a load
 

@@ -2,7 +2,8 @@
 
 ghost use Rattle.std.specs.Prelude.{◌≡◌, ℕ, ◌^◌, ◌<◌, ◌%◌, length, All, IfOk};
 ghost use Rattle.image_code.specs.Codes.{CodeDoes};
-ghost use Rattle.image_code.specs.Parts.{code_at, codes_of as codes_in};
+ghost use Rattle.image_code.specs.Private.{code_at};
+ghost use Rattle.image_code.specs.Parts.{codes_of as codes_in};
 ghost use Rattle.liveness.specs.Sets.{dead_on};
 ghost use Rattle.snippet_code.specs.Laws.{EndLow};
 

@@ -4,7 +4,7 @@ ghost use Rattle.std.specs.Prelude.{◌≡◌, ℕ, ◌+◌, ◌^◌, ◌<◌, �
 ghost use Rattle.std.specs.List.{position};
 ghost use Rattle.std.specs.Option.{option_or};
 ghost use Rattle.indexmap.specs.IndexMap.{get};
-ghost use Rattle.cfg_normal.specs.Graph.{IsEdgeIn, IsGraph};
+ghost use Rattle.cfg_normal.specs.Code.{IsEdgeIn, IsGraph};
 ghost use Rattle.cfg_normal.specs.Numbers.{node_numbers};
 ghost use Rattle.image_code.specs.Lookups.{AreFirst, AreFirstEdges, compare_place, first_mark, is_case, is_edge_at, jump_place, mark_at, mark_of, node_of_edge as node_of_edge_in, number_where, same_case};
 

@@ -11,9 +11,9 @@ ghost use Rattle.cfg_walk.specs.Walk.{edge_from, ends_block as ends_block_of};
 ghost use Rattle.image_code.specs.Lookups.{is_land};
 ghost use Rattle.image_code.specs.Made.{branch_image as branch_image_of, choice_of, distance_of, image as image_of, is_slots as is_slots_of, jump_by, jump_image_by, next_at as next_at_of, next_to, way_out as way_out_of};
 ghost use Rattle.image_code.specs.Numbered.{node_in_order};
-ghost use Rattle.image_code.specs.Parts.{code_at as code_at_of, items_of};
+ghost use Rattle.image_code.specs.Private.{code_at as code_at_of, items_of};
 ghost use Rattle.v8_decode.specs.Words.{decode_of};
-ghost use Rattle.v8_encode.specs.Encoding.{op2_fits};
+ghost use Rattle.v8_encode.specs.Code.{op2_fits};
 
 use crate::maker::Maker;
 use crate::numbering::piece;

@@ -3,7 +3,7 @@
 ghost use Rattle.std.specs.Prelude.{◌≡◌, ◌++◌, length, map, option_to_list, IfOk, OnOk};
 ghost use Rattle.cfg_blocks.specs.Blocks.{below};
 ghost use Rattle.image_code.specs.Made.{landing as landing_of, lands_at as lands_at_of};
-ghost use Rattle.image_code.specs.Parts.{code_at as code_at_of};
+ghost use Rattle.image_code.specs.Private.{code_at as code_at_of};
 ghost use Rattle.image_code.specs.Store.{operations_on};
 
 use crate::images::code_on;

@@ -8,7 +8,8 @@ ghost use Rattle.image_code.specs.Codes.{CodeDoes};
 ghost use Rattle.image_code.specs.Graphs.{IsGraphOf};
 ghost use Rattle.image_code.specs.Made.{jumps_at, lands_at, piece_list};
 ghost use Rattle.image_code.specs.Numbered.{case_numbers, enter_number, foreign_number as foreign_number_of};
-ghost use Rattle.image_code.specs.Parts.{code_at, codes_of as codes_in};
+ghost use Rattle.image_code.specs.Private.{code_at};
+ghost use Rattle.image_code.specs.Parts.{codes_of as codes_in};
 ghost use Rattle.liveness.specs.Sets.{dead_on};
 ghost use Rattle.snippet_code.specs.Laws.{EndLow};
 

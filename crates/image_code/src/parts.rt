@@ -5,13 +5,13 @@ ghost use Rattle.image_code.specs.Cases.{branch_piece, plain_piece};
 ghost use Rattle.image_code.specs.Couple.{couple_piece};
 ghost use Rattle.image_code.specs.Choices.{choice_piece};
 ghost use Rattle.image_code.specs.Made.{couple_word, keep_by};
-ghost use Rattle.image_code.specs.Parts.{branch_by, items_of};
+ghost use Rattle.image_code.specs.Private.{branch_by, items_of};
 ghost use Rattle.jump_code.specs.FreeRegister.{free_register as free_register_of, other_register as other_register_of};
 ghost use Rattle.jump_code.specs.Keeping.{keep_load};
 ghost use Rattle.jump_code.specs.Links.{link};
 ghost use Rattle.jump_code.specs.Pieces.{call_piece, find_piece, foreign_piece, found_piece, word_items};
 ghost use Rattle.v8_decode.specs.Words.{decode_of};
-ghost use Rattle.v8_encode.specs.Encoding.{op2_fits};
+ghost use Rattle.v8_encode.specs.Code.{op2_fits};
 ghost use Rattle.v8_step.specs.Items.{is_transfer as is_transfer_of};
 ghost use Rattle.layout.specs.declared.items.Item.TheVariants as it;
 

@@ -10,7 +10,7 @@ ghost use Rattle.cfg_normal.specs.Opens.{Open};
 ghost use Rattle.image_code.specs.Lookups.{number_where};
 ghost use Rattle.image_code.specs.Made.{case_at, case_by as case_by_of, cases_from, image, keep_by, open_pieces};
 ghost use Rattle.image_code.specs.Numbered.{case_numbers, case_piece as case_piece_of, first_entry, open_begin, or_zero, place_in as place_in_of};
-ghost use Rattle.image_code.specs.Parts.{code_at};
+ghost use Rattle.image_code.specs.Private.{code_at};
 ghost use Rattle.cfg_normal.specs.Graph.{lands as lands_of};
 ghost use Rattle.cfg_walk.specs.Walk.{edge_along};
 ghost use Rattle.cfg_normal.specs.declared.Node.TheVariants.{Block};

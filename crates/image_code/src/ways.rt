@@ -2,11 +2,11 @@
 
 ghost use Rattle.std.specs.Prelude.{◌≡◌, ◌+◌, ◌*◌, ◌^◌, ◌<◌, ◌%◌, ◌++◌, length, slice_index, IfOk, OnOk};
 ghost use Rattle.std.specs.Int.{w32, cast_unsigned};
-ghost use Rattle.cfg_normal.specs.Graph.{IsEdgeIn, IsNodeIn};
+ghost use Rattle.cfg_normal.specs.Code.{IsEdgeIn, IsNodeIn};
 ghost use Rattle.cfg_walk.specs.Matches.{last_in as last_in_of, target_along, way_address};
 ghost use Rattle.image_code.specs.Made.{first_word as first_word_of, goes_on, jump_to, slot_copy as slot_copy_of, way_along, way_by as way_by_of, ways_from};
 ghost use Rattle.image_code.specs.Numbered.{own_edges as own_edges_of};
-ghost use Rattle.image_code.specs.Parts.{code_at as code_at_of, items_of};
+ghost use Rattle.image_code.specs.Private.{code_at as code_at_of, items_of};
 ghost use Rattle.v8_decode.specs.Words.{decode_of};
 
 use crate::images::{code_at, last_word};

@@ -3,13 +3,14 @@ use Rattle.std.proofs.Common.{◌≡◌, ℕ, suc, ◌+◌, ◌*◌, ◌<◌, Bo
 use Rattle.std.specs.Prelude.{◌==◌, if◌then◌else◌}
 use Rattle.std.proofs.lemmas.Bool.{lt-ltb}
 use Rattle.flows.specs.Flows.{weight_below}
-use Rattle.cfg_blocks.specs.Blocks.{AreFirsts, Blocks, holding_of}
+use Rattle.cfg_blocks.specs.Code.{AreFirsts}
+use Rattle.cfg_blocks.specs.Blocks.{Blocks, holding_of}
 use Rattle.cfg_normal.specs.declared.Node.{Node}
 use Rattle.cfg_normal.specs.declared.Node.TheVariants.{Block}
 use Rattle.cfg_normal.specs.Nodes.{same_node}
 use Rattle.cfg_normal.specs.Graph.{Graph, node_of}
 use Rattle.span_tree.specs.Links.{edge_at}
-use Rattle.instr_counts.specs.Answers.{along, as_slot, edge_in, is_block}
+use Rattle.instr_counts.specs.Private.{along, as_slot, edge_in, is_block}
 use Rattle.instr_counts.specs.Visits.{AreSingle, finished, leads_to, one_if, runs_slot, sum_where}
 use Rattle.instr_counts.proofs.Single.{holds_itself}
 use Rattle.flows.proofs.Weights.{weight_same}

@@ -6,7 +6,7 @@ use Rattle.std.specs.Option.{option_map}
 use Rattle.eel_base.specs.CodeText.{Words}
 use Rattle.eel_base.specs.declared.range.Range as declared_range
 use Rattle.notes.specs.Format.{range_at}
-use Rattle.notes.specs.Seen.{notes_seen, range_seen}
+use Rattle.notes.specs.Code.{notes_seen, range_seen}
 use Rattle.notes.specs.declared.note.Notes as declared_notes
 use Rattle.cfg_normal.specs.Graph.{Graph}
 use Rattle.instr_counts.specs.Answers.{begun_in}

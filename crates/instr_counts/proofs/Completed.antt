@@ -4,7 +4,8 @@ use Rattle.std.proofs.Common.{◌≡◌, ◌≢◌, ℕ, ◌+◌, ◌-◌, ◌%�
 use Rattle.std.specs.Prelude.{◌==◌, if◌then◌else◌, ℤ}
 use Rattle.std.proofs.lemmas.Bool.{cases_Bool, cond_both, eq-eqb, eqb-true, false≢true, lt-ltb, ne_eqb}
 use Rattle.std.proofs.lemmas.Option.{get_or_from_slice_get}
-use Rattle.eel_base.specs.CodeText.{Words, IsText, address_of, word_at}
+use Rattle.eel_base.specs.CodeText.{Words, address_of, word_at}
+use Rattle.eel_base.specs.Code.{IsText}
 use Rattle.eel_base.specs.declared.numbers.WordNo.{WordNo}
 use Rattle.v8_decode.specs.declared.Instr.{Instr}
 use Rattle.v8_decode.specs.declared.Instr.TheVariants as i
@@ -32,9 +33,10 @@ use Rattle.cfg_normal.specs.declared.Node.{Node}
 use Rattle.cfg_normal.specs.declared.Node.TheVariants.{X}
 use Rattle.cfg_normal.specs.declared.Slot.{Slot as Carried}
 use Rattle.cfg_normal.specs.declared.Slot.TheVariants as carried
-use Rattle.cfg_normal.specs.Nodes.{home_of, same_node}
-use Rattle.cfg_normal.specs.Graph.{Graph, IsNodeIn, edge_of, edges_in, graph_of, landing_at as landing, lands_of, node_of, runs_slot as runs_on, slot_behind, slot_on}
-use Rattle.cfg_walk.specs.Walk.{Point, completed, edge_from, gone, goes_on_at, instr_at, landed, landing_at, left_at, left_by, node_after, point_of, same_kind, slot_left, unless_ended, way_of}
+use Rattle.cfg_normal.specs.Code.{home_of, IsNodeIn}
+use Rattle.cfg_normal.specs.Nodes.{same_node, same_kind}
+use Rattle.cfg_normal.specs.Graph.{Graph, edge_of, edges_in, graph_of, landing_at as landing, lands_of, node_of, runs_slot as runs_on, slot_behind, slot_on}
+use Rattle.cfg_walk.specs.Walk.{Point, completed, edge_from, gone, goes_on_at, instr_at, landed, landing_at, left_at, left_by, node_after, point_of, slot_left, unless_ended, way_of}
 use Rattle.cfg_walk.specs.Matches.{FetchesOnly, IsCarried, IsOnItsWay, Matches, MatchesBy}
 use Rattle.cfg_walk.proofs.Addresses.{word_at-address}
 use Rattle.cfg_walk.proofs.Cut.{IsCut}

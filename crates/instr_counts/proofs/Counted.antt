@@ -4,14 +4,15 @@ use Rattle.std.specs.Prelude.{◌==◌}
 use Rattle.std.specs.List.{filter, flat_map}
 use Rattle.std.proofs.lemmas.Bool.{and_parts, cases_eq, eq-eqb, false≢true, lt-ltb, ne_eqb}
 use Rattle.std.proofs.lemmas.List.Quantifiers.{position-Some}
-use Rattle.eel_base.specs.CodeText.{Words, IsText, address_of, word_at}
+use Rattle.eel_base.specs.CodeText.{Words, address_of, word_at}
+use Rattle.eel_base.specs.Code.{IsText}
 use Rattle.elf32_sparc.specs.Header.{e_entry}
 use Rattle.elf32_sparc.specs.Image.{image_of, text_of, word_number}
 use Rattle.v8_decode.specs.declared.Instr.{Instr}
 use Rattle.v8_decode.specs.declared.Instr.TheVariants as i
-use Rattle.flows.specs.Flows.{Graph as PlainGraph}
+use Rattle.flows.specs.Flows.{Graph as PlainGraph, times}
 use Rattle.flows.proofs.Walks.{times-append}
-use Rattle.flows.specs.Walks.{IsWalk, times}
+use Rattle.flows.specs.Walks.{IsWalk}
 use Rattle.v8_step.specs.declared.Ending.{Ending}
 use Rattle.v8_step.specs.declared.Slot.{Slot}
 use Rattle.v8_step.specs.declared.Slot.TheVariants.{NoSlot, Untaken}
@@ -28,11 +29,12 @@ use Rattle.cfg_blocks.specs.Switches.{switches_of}
 use Rattle.cfg_normal.specs.declared.Edge.{Edge}
 use Rattle.cfg_normal.specs.declared.Node.{Node}
 use Rattle.cfg_normal.specs.declared.Node.TheVariants.{Block, Landed, X}
-use Rattle.cfg_normal.specs.Nodes.{same_node}
+use Rattle.cfg_normal.specs.Nodes.{same_node, same_kind}
 use Rattle.cfg_normal.specs.Numbers.{node_number}
 use Rattle.cfg_normal.specs.Opens.{Open, is_copied}
-use Rattle.cfg_normal.specs.Graph.{Graph, IsNodeIn, copied_edges, edges_in, edges_of, graph_of, landing_at as landing, landings_of, node_of}
-use Rattle.cfg_walk.specs.Walk.{Point, edge_from, end_of_walk, gone_in, instr_at, node_after, point_of, same_kind, walk, way_of}
+use Rattle.cfg_normal.specs.Graph.{Graph, copied_edges, edges_in, edges_of, graph_of, landing_at as landing, landings_of, node_of}
+use Rattle.cfg_normal.specs.Code.{IsNodeIn}
+use Rattle.cfg_walk.specs.Walk.{Point, edge_from, end_of_walk, gone_in, instr_at, node_after, point_of, walk, way_of}
 use Rattle.cfg_walk.specs.Matches.{BeginsAt, FetchesOnly, IsOnItsWay, Matches, MatchesBy, MatchesRun}
 use Rattle.cfg_walk.proofs.Addresses.{word_at-address}
 use Rattle.cfg_walk.proofs.Cut.{IsCut, cut}
@@ -42,11 +44,13 @@ use Rattle.cfg_walk.proofs.Lists.{Each, each, each-flat_map, each-map, each-then
 use Rattle.cfg_walk.proofs.NoneOpen.{home_none, jumps_none, on_edge, open_none}
 use Rattle.cfg_walk.proofs.Walks.{live_before, walks_match}
 use Rattle.span_tree.specs.Links.{edge_at, links_of, no_edge}
-use Rattle.walk_counts.specs.Counts.{executions, last_node}
+use Rattle.walk_counts.specs.Executions.{executions}
+use Rattle.walk_counts.specs.Counts.{last_node}
 use Rattle.walk_counts.proofs.Fetching.{only_text_is_fetched}
 use Rattle.walk_counts.proofs.Files.{begins, entry_is}
 use Rattle.walk_counts.proofs.Paths.{walks_are_paths}
-use Rattle.instr_counts.specs.Visits.{AreSingle, is_begun, one_if, visits_by}
+use Rattle.instr_counts.specs.Visits.{AreSingle, is_begun, one_if}
+use Rattle.instr_counts.specs.Code.{visits_by}
 use Rattle.instr_counts.specs.Laws.{AreVisited, HasEach, VisitsAreCounted}
 use Rattle.instr_counts.proofs.Closed.{none_are_open}
 use Rattle.instr_counts.proofs.Single.{holds_itself, last_is, words_are_blocks}

@@ -1,8 +1,7 @@
 -- What is counted of the numbers of a list.
 use Rattle.std.proofs.Common.{◌≡◌, ℕ, zero, suc, ◌+◌, ◌<◌, ◌≤◌, Bool, List, [], ◌∷◌, ◌++◌, refl, arith}
 use Rattle.std.specs.Prelude.{◌==◌, if◌then◌else◌}
-use Rattle.flows.specs.Flows.{weight_below}
-use Rattle.flows.specs.Walks.{times}
+use Rattle.flows.specs.Flows.{weight_below, times}
 use Rattle.cfg_walk.proofs.Lists.{Each}
 use Rattle.instr_counts.specs.Visits.{one_if}
 

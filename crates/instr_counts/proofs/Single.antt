@@ -1,6 +1,7 @@
 -- Blocks of one word each.
 use Rattle.std.proofs.Common.{◌≡◌, ℕ, zero, suc, ◌+◌, ◌-◌, ◌<◌, length, slice_index, arith}
-use Rattle.cfg_blocks.specs.Blocks.{AreFirsts, Blocks, block_end, blocks_of, holding_of, last_word}
+use Rattle.cfg_blocks.specs.Code.{AreFirsts}
+use Rattle.cfg_blocks.specs.Blocks.{Blocks, block_end, blocks_of, holding_of, last_word}
 use Rattle.cfg_walk.proofs.Cut.{cut, entry_leads}
 use Rattle.cfg_walk.proofs.Holding.{IsIn, ends_at_next, ends_at_words, is_held, is_last, some_words}
 use Rattle.instr_counts.specs.Visits.{AreSingle}

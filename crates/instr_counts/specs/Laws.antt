@@ -1,13 +1,13 @@
 -- Where each word of a text is marked: each is a block by itself, no switch is open, and counts of edges tell how often
 -- each word is visited.
 use Rattle.std.specs.Prelude.{◌≡◌, ℕ, suc, ◌<◌, true, List, [], length, None}
-use Rattle.eel_base.specs.CodeText.{Words, IsText, address_of}
+use Rattle.eel_base.specs.CodeText.{Words, address_of}
+use Rattle.eel_base.specs.Code.{IsText}
+use Rattle.flows.specs.Flows.{times}
 use Rattle.elf32_sparc.specs.FileFault.{fault}
 use Rattle.elf32_sparc.specs.Image.{image_of, text_of}
-use Rattle.flows.specs.Walks.{times}
-use Rattle.v8_step.specs.State.{State}
+use Rattle.v8_step.specs.State.{State, AreBytes}
 use Rattle.v8_step.specs.Run.{run}
-use Rattle.v8_step.specs.Valid.{AreBytes}
 use Rattle.two_runs.specs.Visits.{own_trail}
 use Rattle.v8_process.specs.Start.{start_of}
 use Rattle.cfg_blocks.specs.Blocks.{blocks_of, is_among}
@@ -15,9 +15,11 @@ use Rattle.cfg_blocks.specs.Entries.{entered_of}
 use Rattle.cfg_blocks.specs.declared.switches.Switch.{Switch}
 use Rattle.cfg_normal.specs.Opens.{opens_of}
 use Rattle.cfg_normal.specs.Graph.{Graph}
-use Rattle.walk_counts.specs.Counts.{executions, last_node}
+use Rattle.walk_counts.specs.Counts.{last_node}
 use Rattle.walk_counts.specs.Files.{graph_in}
-use Rattle.instr_counts.specs.Visits.{AreSingle, visits_by}
+use Rattle.walk_counts.specs.Executions.{executions}
+use Rattle.instr_counts.specs.Visits.{AreSingle}
+use Rattle.instr_counts.specs.Code.{visits_by}
 
 -- each word of the text is among those that are given
 abbrev pub HasEach : Words → List ℕ → Type 0

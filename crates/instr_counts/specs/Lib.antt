@@ -3,3 +3,5 @@ pub mod Laws
 pub mod Matches
 pub mod Answers
 pub mod Lines
+pub mod Code
+pub mod Private

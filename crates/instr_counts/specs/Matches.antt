@@ -3,8 +3,7 @@ use Rattle.std.specs.Prelude.{◌≡◌, ℕ, ◌<◌, List, length, slice_index
 use Rattle.notes.specs.Format.{NoteEdge, Notes}
 use Rattle.cfg_blocks.specs.Blocks.{holding_of}
 use Rattle.cfg_normal.specs.declared.Edge.{Edge}
-pub use Rattle.cfg_normal.specs.Numbers.{kind_number}
-use Rattle.cfg_normal.specs.Numbers.{node_number}
+use Rattle.cfg_normal.specs.Numbers.{node_number, kind_number}
 use Rattle.cfg_normal.specs.Graph.{Graph}
 use Rattle.cfg_view.specs.View.{Seen}
 use Rattle.count_rebuild.specs.Noted.{no_edge as no_noted}

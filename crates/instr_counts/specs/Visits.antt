@@ -48,8 +48,3 @@ finished graph entry counts word =
 abbrev pub is_begun : Words → Blocks → ℕ → ℕ → ℕ → Bool
 is_begun text b address node word =
     (address == address_of text word) && (nat_lt node (length b.firsts) && not (node == holding_of b word))
-
--- visits of a word, by the counts of edges and by where the run stands
-abbrev pub visits_by : Words → Graph → ℕ → (ℕ → ℕ) → ℕ → ℕ → ℕ → ℕ
-visits_by text graph entry counts address node word =
-    finished graph entry counts word + one_if (is_begun text graph.blocks address node word)

@@ -3,10 +3,11 @@ ghost use Rattle.std.specs.Prelude.{◌≡◌, ℕ, ◌+◌, ◌*◌, ◌^◌, �
 ghost use Rattle.std.specs.List.{find, All};
 ghost use Rattle.cfg_blocks.specs.Blocks.{holding_of};
 ghost use Rattle.notes.specs.Format.{range_at};
-ghost use Rattle.notes.specs.Seen.{notes_seen};
-ghost use Rattle.dump_file.specs.Dump.{dump_seen};
-ghost use Rattle.cfg_view.specs.View.{view_seen, IsView};
-ghost use Rattle.instr_counts.specs.Answers.{along, as_slot, begun_in, is_block, is_word, AreVisits};
+ghost use Rattle.notes.specs.Code.{notes_seen};
+ghost use Rattle.dump_file.specs.Code.{dump_seen};
+ghost use Rattle.cfg_view.specs.Code.{view_seen, IsView};
+ghost use Rattle.instr_counts.specs.Private.{along, as_slot, is_block, is_word};
+ghost use Rattle.instr_counts.specs.Answers.{begun_in, AreVisits};
 ghost use Rattle.instr_counts.specs.Matches.{Matches};
 ghost use Rattle.instr_counts.specs.Visits.{is_begun, is_slot, one_if, runs_slot};
 

@@ -1,9 +1,9 @@
 //! Whether notes are those of a text with each word marked.
 ghost use Rattle.std.specs.Prelude.{◌≡◌, ◌<◌, ◌↔◌, IsTrue, length, map};
 ghost use Rattle.cfg_blocks.specs.Blocks.{holding_of};
-ghost use Rattle.cfg_normal.specs.Graph.{IsEdgeIn};
-ghost use Rattle.cfg_view.specs.View.{view_seen, IsView};
-ghost use Rattle.notes.specs.Seen.{edge_seen, notes_seen};
+ghost use Rattle.cfg_normal.specs.Code.{IsEdgeIn};
+ghost use Rattle.cfg_view.specs.Code.{view_seen, IsView};
+ghost use Rattle.notes.specs.Code.{edge_seen, notes_seen};
 ghost use Rattle.instr_counts.specs.Matches.{AreNoted, IsNoted, Matches};
 ghost use Rattle.instr_counts.specs.Visits.{AreSingle};
 

@@ -11,8 +11,9 @@ use Rattle.v8_step.proofs.ValidStates.{register_of-range}
 use Rattle.v8_step.proofs.ValidSteps.{run-valid}
 use Rattle.code_runs.specs.Hops.{Hops, hopped}
 use Rattle.code_runs.specs.Leads.{Leads, IsSilent}
-use Rattle.code_runs.specs.Page.{page_word, of_page}
-use Rattle.code_runs.specs.StoredWords.{memory_word, store_word, CanLoad, CanStore, Stores}
+use Rattle.code_runs.specs.Page.{page_word}
+use Rattle.code_runs.specs.Code.{of_page, store_word, CanLoad, CanStore, Stores}
+use Rattle.code_runs.specs.StoredWords.{memory_word}
 use Rattle.code_runs.specs.Straight.{StandIn}
 use Rattle.code_runs.specs.TwoRegisters.{BlockRules, HasScratch, IsBetween, Works}
 use Rattle.code_runs.proofs.Hops.{hops_through, works_state}
@@ -27,6 +28,7 @@ use Rattle.jump_code.specs.Links.{past}
 use Rattle.jump_code.proofs.Blocks.{four, scratch, addressed, memory_valid, word2, word7}
 use Rattle.jump_code.proofs.Finding.{another}
 use Rattle.jump_code.proofs.Jumping.{jump_aligned, jump_goes}
+pub use Rattle.jump_code.proofs.Words.{returns}
 
 module _ (distance : ℕ) (s : State) (h : IsAboutToGo distance s) where
   abbrev code : List Region

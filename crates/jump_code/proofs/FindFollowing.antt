@@ -11,9 +11,9 @@ use Rattle.v8_step.specs.State.{State, register_of, with_register, sum_of}
 use Rattle.v8_step.specs.Traps.{mem_address_not_aligned}
 use Rattle.v8_step.specs.Transfers.{delayed, trapped}
 use Rattle.code_runs.specs.Leads.{Leads}
-use Rattle.code_runs.specs.Page.{page_word, of_page}
+use Rattle.code_runs.specs.Page.{page_word}
+use Rattle.code_runs.specs.Code.{of_page, store_word, Stores}
 use Rattle.code_runs.specs.Points.{moved}
-use Rattle.code_runs.specs.StoredWords.{store_word, Stores}
 use Rattle.code_runs.specs.TwoRegisters.{IsBetween, Works}
 use Rattle.code_runs.proofs.Hops.{equal_or_not, hops_through}
 use Rattle.code_runs.proofs.LongJump.{says_at}

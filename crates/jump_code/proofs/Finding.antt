@@ -18,8 +18,9 @@ use Rattle.v8_step.specs.Valid.{IsValid, IsValidMemory}
 use Rattle.v8_step.proofs.ValidStates.{register_of-range, wrapped-range}
 use Rattle.v8_step.proofs.ValidSteps.{run-valid}
 use Rattle.code_runs.specs.Leads.{Leads, IsSilent}
-use Rattle.code_runs.specs.Page.{page_word, of_page}
-use Rattle.code_runs.specs.StoredWords.{memory_word, store_word, CanStore, Stores}
+use Rattle.code_runs.specs.Page.{page_word}
+use Rattle.code_runs.specs.Code.{of_page, store_word, CanStore, Stores}
+use Rattle.code_runs.specs.StoredWords.{memory_word}
 use Rattle.code_runs.specs.Straight.{Says, StandIn, IsReady}
 use Rattle.code_runs.specs.TwoRegisters.{HasScratch, IsAlike, IsBetween, Works, Gives, BlockRules}
 use Rattle.code_runs.proofs.Acts.{says_step, says_puts, ld_traps}

@@ -6,7 +6,8 @@ use Rattle.v8_decode.specs.declared.Op2.{Op2}
 use Rattle.v8_decode.specs.declared.Instr.{Instr}
 use Rattle.v8_decode.specs.Ranges.{op2_in_range, is_in_range}
 use Rattle.v8_decode.specs.Words.{decode_of}
-use Rattle.v8_encode.specs.Encoding.{word_of, has_word, op2_fits}
+use Rattle.v8_encode.specs.Encoding.{word_of}
+use Rattle.v8_encode.specs.Code.{has_word, op2_fits}
 use Rattle.v8_encode.proofs.Decoded.{decode_of-word_of}
 use Rattle.v8_memory.specs.Regions.{Region}
 use Rattle.code_runs.specs.LongJump.{long_jump}

@@ -11,10 +11,10 @@ use Rattle.v8_memory.specs.Regions.{Memory, Region, code_of}
 use Rattle.v8_step.specs.State.{State, register_of, operand_of, sum_of}
 use Rattle.v8_step.specs.Run.{run}
 use Rattle.v8_step.proofs.ValidStates.{register_of-range, wrapped-range}
-use Rattle.code_runs.specs.Counted.{any_of_word, count_stores, one_if, stores_in_step, word_span}
+use Rattle.code_runs.specs.Code.{any_of_word, word_span, of_page, store_word, CanStore}
+use Rattle.code_runs.specs.Counted.{count_stores, one_if, stores_in_step}
 use Rattle.code_runs.specs.LongJump.{IsFirstWord}
-use Rattle.code_runs.specs.Page.{page_word, of_page}
-use Rattle.code_runs.specs.StoredWords.{store_word, CanStore}
+use Rattle.code_runs.specs.Page.{page_word}
 use Rattle.code_runs.specs.TwoRegisters.{BlockRules, HasScratch, IsAlike, Works}
 use Rattle.code_runs.proofs.Counted.{stores_there}
 use Rattle.code_runs.proofs.Hops.{equal_or_not, works_same, read_is}

@@ -7,8 +7,9 @@ use Rattle.v8_memory.specs.Regions.{Memory, code_of}
 use Rattle.v8_step.specs.State.{register_of}
 use Rattle.v8_step.proofs.ValidStates.{register_of-range}
 use Rattle.code_runs.specs.LongJump.{IsFirstWord}
-use Rattle.code_runs.specs.Page.{page_word, of_page}
-use Rattle.code_runs.specs.StoredWords.{memory_word, store_word, Stores}
+use Rattle.code_runs.specs.Page.{page_word}
+use Rattle.code_runs.specs.Code.{of_page, store_word, Stores}
+use Rattle.code_runs.specs.StoredWords.{memory_word}
 use Rattle.code_runs.specs.TwoRegisters.{IsBetween}
 use Rattle.code_runs.proofs.Hops.{hops_through, stores_then}
 use Rattle.code_runs.proofs.Leads.{leads_weaker}

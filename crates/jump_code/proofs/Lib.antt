@@ -9,3 +9,4 @@ pub mod Laid
 pub mod Leaving
 pub mod Linking
 pub mod Swaps
+pub mod Words

@@ -10,7 +10,8 @@ use Rattle.v8_step.specs.State.{State, register_of, with_register, sum_of}
 use Rattle.v8_step.specs.Transfers.{next}
 use Rattle.v8_step.specs.Accesses.{swap_step}
 use Rattle.v8_step.specs.Step.{act}
-use Rattle.code_runs.specs.StoredWords.{memory_word, store_word, CanStore}
+use Rattle.code_runs.specs.StoredWords.{memory_word}
+use Rattle.code_runs.specs.Code.{store_word, CanStore}
 use Rattle.code_runs.specs.TwoRegisters.{HasScratch, IsAlike, Works, IsNext, IsSumIn}
 use Rattle.code_runs.proofs.StoredWords.{word_bytes, word_written, can_load, code-store_word}
 use Rattle.code_runs.proofs.TwoRegisters.{places_differ, set_stays, stores_more, works_step}

@@ -10,9 +10,9 @@ use Rattle.v8_step.specs.State.{State, register_of}
 use Rattle.v8_step.specs.Valid.{IsValid}
 use Rattle.code_runs.specs.Hops.{Hops}
 use Rattle.code_runs.specs.LongJump.{long_jump}
-use Rattle.code_runs.specs.Page.{page_word, of_page}
-use Rattle.code_runs.specs.StoredWords.{store_word}
+use Rattle.code_runs.specs.Page.{page_word}
 use Rattle.code_runs.specs.Straight.{StandIn, IsReady}
+use Rattle.code_runs.specs.Code.{of_page, store_word}
 use Rattle.jump_code.specs.PageWords.{IsPageWord, HasPage, waiting}
 
 -- The foreign piece, to which the table leads every address outside the text: the machine goes on at the address that

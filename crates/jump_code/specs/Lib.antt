@@ -7,4 +7,3 @@ pub mod Leaving
 pub mod Links
 pub mod PageWords
 pub mod Pieces
-pub mod Words

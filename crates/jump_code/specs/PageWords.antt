@@ -7,7 +7,8 @@ use Rattle.v8_memory.specs.Regions.{Memory}
 use Rattle.v8_step.specs.State.{State}
 use Rattle.code_runs.specs.Ours.{IsAmongWords}
 use Rattle.code_runs.specs.Page.{page_word}
-use Rattle.code_runs.specs.StoredWords.{memory_word, CanStore}
+use Rattle.code_runs.specs.StoredWords.{memory_word}
+use Rattle.code_runs.specs.Code.{CanStore}
 
 abbrev pub page_words : List ℕ
 page_words = page_word 0 ∷ page_word 1 ∷ page_word 2 ∷ page_word 7 ∷ []

@@ -5,7 +5,7 @@ use Rattle.eel_base.specs.declared.numbers.PieceNo.{PieceNo}
 use Rattle.v8_decode.specs.declared.Op2.{Op2}
 use Rattle.v8_decode.specs.declared.Instr.{Instr}
 use Rattle.v8_decode.specs.Ranges.{op2_in_range}
-use Rattle.v8_encode.specs.Encoding.{op2_fits}
+use Rattle.v8_encode.specs.Code.{op2_fits}
 use Rattle.v8_memory.specs.Regions.{Memory, Region, code_of}
 use Rattle.code_runs.specs.LongJump.{long_jump}
 use Rattle.code_runs.specs.Straight.{StandIn}

@@ -2,7 +2,7 @@
 
 ghost use Rattle.std.specs.Prelude.{◌≡◌, ◌≢◌, IsTrue, map};
 ghost use Rattle.v8_decode.specs.Words.{decode_of};
-ghost use Rattle.v8_encode.specs.Encoding.{op2_fits};
+ghost use Rattle.v8_encode.specs.Code.{op2_fits};
 ghost use Rattle.code_runs.specs.LongJump.{long_jump};
 ghost use Rattle.layout.specs.Emitting.{words_of};
 ghost use Rattle.jump_code.specs.Finding.{find_words, go_found};

@@ -8,7 +8,8 @@ use Rattle.std.proofs.lemmas.List.{append-nil, length-map}
 use Rattle.cfg_blocks.proofs.Below.{get_or-below, length-below}
 use Rattle.std.proofs.lemmas.Bool.{eq-eqb, false≢true, lt-ltb, or_left, or_right}
 use Rattle.std.proofs.lemmas.Grind.{common_steps}
-use Rattle.eel_base.specs.CodeText.{Words, IsText, word_at}
+use Rattle.eel_base.specs.CodeText.{Words, word_at}
+use Rattle.eel_base.specs.Code.{IsText}
 use Rattle.v8_decode.specs.declared.Instr.TheVariants as i
 use Rattle.cfg_blocks.specs.declared.BlockEnd.TheVariants as ends
 use Rattle.cfg_blocks.specs.declared.switches.Approach.{Approach}

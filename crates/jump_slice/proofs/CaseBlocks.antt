@@ -5,13 +5,15 @@ use Rattle.std.specs.List.{Contains, flat_map}
 use Rattle.std.specs.Option.{is_some, option_to_list}
 use Rattle.std.proofs.lemmas.Bool.{false≢true}
 use Rattle.std.proofs.lemmas.List.{length-map}
-use Rattle.eel_base.specs.CodeText.{Words, IsText, word_at}
+use Rattle.eel_base.specs.CodeText.{Words, word_at}
+use Rattle.eel_base.specs.Code.{IsText}
 use Rattle.std.proofs.lemmas.Grind.{common_steps}
 use Rattle.cfg_blocks.specs.declared.switches.Switch.{Switch}
 use Rattle.cfg_blocks.specs.Blocks.{Blocks, below, blocks_of}
 use Rattle.cfg_blocks.specs.Entries.{entered_of}
 use Rattle.cfg_blocks.proofs.Below.{get_or-below, length-below}
-use Rattle.cfg_normal.specs.Opens.{IsTableIn, Open, targets_of, words_from}
+use Rattle.cfg_normal.specs.Code.{IsTableIn}
+use Rattle.cfg_normal.specs.Opens.{Open, targets_of, words_from}
 use Rattle.cfg_normal.proofs.TableWords.{are_targets, entry_in, targets_are}
 use Rattle.cfg_walk.proofs.Cut.{IsCut, cut}
 use Rattle.cfg_walk.proofs.Holding.{some_words}
@@ -24,6 +26,7 @@ use Rattle.jump_slice.proofs.Loading.{has_load}
 use Rattle.jump_slice.proofs.Numbered.{opens_are_one}
 use Rattle.jump_slice.proofs.Opened.{opens_are}
 use Rattle.jump_slice.proofs.Parts.{IsJump, switch_of-is, table_in}
+pub use Rattle.jump_slice.proofs.Examples.{into}
 
 -- ---- the targets of a table, one for each entry
 

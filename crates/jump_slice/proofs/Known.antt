@@ -3,7 +3,8 @@ use Rattle.std.proofs.Common.{◌≡◌, ◌≢◌, ℕ, suc, ◌+◌, ◌-◌, 
 use Rattle.std.specs.Prelude.{◌==◌}
 use Rattle.std.specs.List.{Contains}
 use Rattle.std.proofs.lemmas.Bool.{and_parts, cases_Bool, eqb-true, false≢true, lt-ltb}
-use Rattle.eel_base.specs.CodeText.{Words, IsText, word_at}
+use Rattle.eel_base.specs.CodeText.{Words, word_at, address_of}
+use Rattle.eel_base.specs.Code.{IsText}
 use Rattle.v8_step.specs.declared.Slot.{Slot}
 use Rattle.v8_step.specs.declared.Slot.TheVariants.{NoSlot}
 use Rattle.v8_step.specs.State.{State}
@@ -18,10 +19,11 @@ use Rattle.cfg_blocks.specs.Switches.{runs_slot}
 use Rattle.cfg_blocks.specs.Values.{instr_at as word_instr}
 use Rattle.cfg_normal.specs.declared.Node.{Node}
 use Rattle.cfg_normal.specs.declared.Node.TheVariants.{Block, Landed, X}
-use Rattle.cfg_normal.specs.Nodes.{home_of}
+use Rattle.cfg_normal.specs.Code.{home_of, IsNodeIn}
 use Rattle.cfg_normal.specs.Opens.{Open, jumps_in}
-use Rattle.cfg_normal.specs.Graph.{Graph, IsNodeIn, directed, graph_of, is_compared, node_of}
-use Rattle.cfg_walk.specs.Walk.{instr_at, point_of, same_kind, way_of}
+use Rattle.cfg_normal.specs.Graph.{Graph, directed, graph_of, is_compared, node_of}
+use Rattle.cfg_walk.specs.Walk.{instr_at, point_of, way_of}
+use Rattle.cfg_normal.specs.Nodes.{same_kind}
 use Rattle.cfg_walk.specs.Matches.{AreOpen, BeginsAt, FetchesOnly, Matches, MatchesBy}
 use Rattle.cfg_walk.proofs.Cut.{IsCut, cut}
 use Rattle.cfg_walk.proofs.Edges.{block}
@@ -34,11 +36,17 @@ use Rattle.jump_slice.proofs.Steps.{carries_out, comes_to}
 use Rattle.cfg_walk.proofs.Nodes.{home_directed, home_of_node}
 use Rattle.cfg_walk.proofs.Lists.{Each}
 use Rattle.cfg_walk.proofs.Ways.{same_kinds}
-use Rattle.jump_slice.specs.Cases.{ComesFromCompare, HasCompared, HasPassed, IsOpen}
+use Rattle.jump_slice.specs.Cases.{ComesFromCompare, HasPassed, IsOpen}
 use Rattle.jump_slice.specs.Held.{HoldsText}
 use Rattle.jump_slice.specs.Runs.{to_branch}
 use Rattle.jump_slice.proofs.About.{about}
 use Rattle.jump_slice.proofs.Opened.{are_open, open_found}
+
+-- So many steps before moment n the run stood at the comparison.
+pub record HasCompared (text : Words) (o : Open) (s0 : State) (n steps : ℕ) : Type 0 where
+  pub moment : ℕ
+  pub ago : n ≡ moment + steps
+  pub compares : (run s0 moment).pc ≡ address_of text o.approach.compare.word
 
 pub same_some : (v w : ℕ) → Some v ≡ Some w → v ≡ w
 same_some v w e = cc

@@ -26,3 +26,4 @@ pub mod Loading
 pub mod CaseBlocks
 pub mod Stood
 pub mod Joined
+pub mod Examples

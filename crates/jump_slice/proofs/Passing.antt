@@ -19,10 +19,11 @@ use Rattle.cfg_blocks.specs.Switches.{is_taken, runs_slot}
 use Rattle.cfg_blocks.specs.Values.{instr_at as word_instr}
 use Rattle.cfg_blocks.proofs.Targets.{word_at-some}
 use Rattle.cfg_normal.specs.declared.Node.{Node}
-use Rattle.cfg_normal.specs.Nodes.{home_of}
+use Rattle.cfg_normal.specs.Code.{home_of}
 use Rattle.cfg_normal.specs.Opens.{Open, is_behind, jumps_in}
 use Rattle.cfg_normal.specs.Graph.{lands_of, node_of}
-use Rattle.cfg_walk.specs.Walk.{slot_left, instr_at, node_after, point_of, same_kind, way_of}
+use Rattle.cfg_walk.specs.Walk.{slot_left, instr_at, node_after, point_of, way_of}
+use Rattle.cfg_normal.specs.Nodes.{same_kind}
 use Rattle.cfg_walk.specs.Matches.{Begins, IsOnItsWay, MatchesBy}
 use Rattle.cfg_walk.proofs.Edges.{block, node_at}
 use Rattle.cfg_walk.proofs.Slots.{jump_lands, way_leads}
@@ -31,11 +32,10 @@ use Rattle.jump_slice.proofs.Blocks.{transfer_at}
 use Rattle.jump_slice.proofs.Outside.{enters}
 use Rattle.cfg_walk.proofs.Nodes.{home_directed, home_of_node}
 use Rattle.cfg_walk.proofs.Ways.{same_kinds}
-use Rattle.jump_slice.specs.Cases.{HasCompared}
 use Rattle.jump_slice.specs.Runs.{to_branch}
 use Rattle.jump_slice.proofs.About.{About, about}
 use Rattle.jump_slice.proofs.Branching.{branch_tells}
-use Rattle.jump_slice.proofs.Known.{Carries, Compared, IsRun, Passed, Passing, Tells, b, carried, graph, heads, holds_word, known_outside, parts, sets_transfer}
+use Rattle.jump_slice.proofs.Known.{Carries, Compared, IsRun, Passed, Passing, Tells, b, carried, graph, heads, holds_word, known_outside, parts, sets_transfer, HasCompared}
 
 -- one of them passes
 pub any_of : (xs : List Open) (o : Open) (p : Open → Bool) → Contains xs o → p o ≡ true → list_any p xs ≡ true

@@ -14,10 +14,11 @@ use Rattle.cfg_blocks.specs.Blocks.{holding_of, last_word}
 use Rattle.cfg_blocks.specs.Switches.{bounds}
 use Rattle.cfg_blocks.specs.Values.{instr_at as word_instr}
 use Rattle.cfg_normal.specs.declared.Node.{Node}
-use Rattle.cfg_normal.specs.Nodes.{home_of}
+use Rattle.cfg_normal.specs.Code.{home_of}
 use Rattle.cfg_normal.specs.Opens.{Open}
 use Rattle.cfg_normal.specs.Graph.{directed, node_of}
-use Rattle.cfg_walk.specs.Walk.{Point, edge_from, left_at, node_after, point_of, same_kind}
+use Rattle.cfg_walk.specs.Walk.{Point, edge_from, left_at, node_after, point_of}
+use Rattle.cfg_normal.specs.Nodes.{same_kind}
 use Rattle.cfg_walk.specs.Matches.{MatchesBy}
 use Rattle.cfg_walk.proofs.Edges.{block}
 use Rattle.cfg_walk.proofs.Slots.{LeadsIfThere}

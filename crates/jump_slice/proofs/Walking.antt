@@ -2,7 +2,8 @@
 use Rattle.std.proofs.Common.{◌≡◌, ◌≢◌, ℕ, zero, suc, ◌-◌, ◌<◌, true, false, List, length, Option, Some, None, refl, ap, sym, ◌∙◌, subst, arith, slice_index, inl, inr}
 use Rattle.std.specs.Prelude.{◌==◌}
 use Rattle.std.proofs.lemmas.Bool.{cases_Bool, eq-eqb, eqb-true, false≢true, lt-ltb}
-use Rattle.eel_base.specs.CodeText.{Words, IsText, word_at}
+use Rattle.eel_base.specs.CodeText.{Words, word_at}
+use Rattle.eel_base.specs.Code.{IsText}
 use Rattle.v8_step.specs.declared.Ending.{Ending}
 use Rattle.v8_step.specs.declared.Slot.{Slot}
 use Rattle.v8_step.specs.declared.Slot.TheVariants.{NoSlot}

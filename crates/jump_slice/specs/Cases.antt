@@ -2,7 +2,8 @@
 -- copy, the comparison was made, and the jump goes to an entry of the table.
 use Rattle.std.specs.Prelude.{◌≡◌, ℕ, ◌+◌, ◌-◌, ◌*◌, ◌<◌, ◌≤◌, Bool, true, List, length, Some, None}
 use Rattle.std.specs.List.{Contains}
-use Rattle.eel_base.specs.CodeText.{Words, IsText, address_of, word_at}
+use Rattle.eel_base.specs.CodeText.{Words, address_of, word_at}
+use Rattle.eel_base.specs.Code.{IsText}
 use Rattle.v8_alu.specs.Conditions.{holds_of}
 use Rattle.v8_step.specs.declared.Slot.TheVariants.{NoSlot}
 use Rattle.v8_decode.specs.declared.Op2.{Op2}
@@ -39,12 +40,6 @@ pub record IsOpen (text : Words) (list : Entered) (entry : ℕ) (o : Open) : Typ
   pub targets : o.targets ≡ targets_of text o.switch
 
 -- ---- what has happened where the walk stands about a switch
-
--- So many steps before moment n the run stood at the comparison.
-pub record HasCompared (text : Words) (o : Open) (s0 : State) (n steps : ℕ) : Type 0 where
-  pub moment : ℕ
-  pub ago : n ≡ moment + steps
-  pub compares : (run s0 moment).pc ≡ address_of text o.approach.compare.word
 
 -- And its branch went the way to the jump.
 pub record HasPassed (text : Words) (o : Open) (cond : ℕ) (s0 : State) (n steps : ℕ) : Type 0 where

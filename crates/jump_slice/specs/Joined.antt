@@ -2,7 +2,8 @@
 -- stood there at the words before, and the jump goes where the entry leads that was loaded.
 use Rattle.std.specs.Prelude.{◌≡◌, ℕ, suc, ◌+◌, ◌-◌, ◌*◌, ◌<◌, ◌≤◌, false, List, length, slice_get, slice_index, Some, None}
 use Rattle.std.specs.List.{Contains}
-use Rattle.eel_base.specs.CodeText.{Words, IsText, word_at}
+use Rattle.eel_base.specs.CodeText.{Words, word_at}
+use Rattle.eel_base.specs.Code.{IsText}
 use Rattle.v8_decode.specs.declared.Op2.{Op2}
 use Rattle.v8_decode.specs.declared.Instr.TheVariants as i
 use Rattle.v8_step.specs.declared.Slot.TheVariants.{NoSlot}
@@ -14,8 +15,9 @@ use Rattle.cfg_blocks.specs.Entries.{entered_of}
 use Rattle.cfg_blocks.specs.Switches.{switches_of}
 use Rattle.cfg_blocks.specs.Values.{instr_at}
 use Rattle.cfg_normal.specs.declared.Node.TheVariants.{Block}
-use Rattle.cfg_normal.specs.Opens.{IsTableIn, Open, opens_of}
+use Rattle.cfg_normal.specs.Opens.{Open, opens_of}
 use Rattle.cfg_normal.specs.Graph.{Graph}
+use Rattle.cfg_normal.specs.Code.{IsTableIn}
 use Rattle.cfg_walk.specs.Walk.{end_of_walk}
 use Rattle.jump_slice.specs.Cases.{LoadsEntry, OfSwitches, graph_in}
 use Rattle.jump_slice.specs.Runs.{GoesIntoTable}

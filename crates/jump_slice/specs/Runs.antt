@@ -3,7 +3,8 @@ use Rattle.std.specs.Prelude.{◌≡◌, ℕ, ◌+◌, ◌-◌, ◌*◌, ◌<◌
 use Rattle.std.specs.Option.{is_some}
 use Rattle.eel_base.specs.declared.numbers.BlockNo.{BlockNo}
 use Rattle.eel_base.specs.declared.numbers.WordNo.{WordNo}
-use Rattle.eel_base.specs.CodeText.{Words, IsText, address_of, word_at}
+use Rattle.eel_base.specs.CodeText.{Words, address_of, word_at}
+use Rattle.eel_base.specs.Code.{IsText}
 use Rattle.v8_alu.specs.Conditions.{holds_of}
 use Rattle.v8_step.specs.State.{State, register_of}
 use Rattle.v8_step.specs.Step.{step_of}

@@ -15,15 +15,24 @@ use Rattle.layout.specs.declared.entries.Entry.TheVariants as en
 use Rattle.layout.specs.Laid.{Placement, placement_of, note_range, item_at, size_of, range_in, range_of, open_in, is_jump, AllLead, LeadsBelow, AllMarked, AreMarked, Ascend, IsLaid, IsPlaceIn, Stands, Lays}
 use Rattle.layout.specs.Order.{compact_order, exit_at, jump_to}
 use Rattle.layout.specs.Laying.{IsWhole}
-use Rattle.layout.specs.Forms.{Forms, entries_in, entries_from, entries_of, far, leads_next, offset, start_of, target, width}
+use Rattle.layout.specs.Forms.{Forms, entries_in, entries_from, entries_of, far, leads_next, offset, start_of, target, width, IsWidened}
 use Rattle.layout.specs.Compact.{IsCompact}
-use Rattle.layout.specs.Emitting.{address_of, addresses, or_zero, target_offset, ranges_from, IsMade}
+use Rattle.layout.specs.Private.{address_of, addresses, or_zero, target_offset, ranges_from, IsListing, IsEmitted}
 use Rattle.layout.proofs.Laying.{exits_lead, follows, item_is, whole_is}
 use Rattle.layout.proofs.Listed.{items_at, from_append, split_at, start_at, before_absent}
 use Rattle.layout.proofs.Widening.{offset_more, rises}
 use Rattle.layout.proofs.Emitted.{near_enough}
 use Rattle.layout.proofs.Standing.{code_length, get_rest, has_code, item_stands, GoesTo, IsNextAt, IsNearTo}
 use Rattle.layout.proofs.Ranging.{ascend_from, seen, AreStill, piece_ranges, seen_both, count_more, order_ascends, order_finds, AllOf, all_then, at_next, at_this, get_low, one_of, piece_made}
+
+-- all of it
+pub record IsMade (pieces : List (List Item)) (base : ℕ) (long : Forms) (starts : List ℕ) (p : Placed) : Type 0 where
+  pub widened : IsWidened (entries_of pieces) long
+  pub count : length starts ≡ length pieces
+  pub listing : IsListing (entries_of pieces) starts
+  pub emitted : IsEmitted base (entries_of pieces) long p.code.items (length (entries_of pieces))
+  pub at : p.at.items ≡ addresses base (entries_of pieces) long starts
+  pub ranges : p.ranges.items ≡ ranges_from (address_of base (entries_of pieces) long) 0 None (entries_of pieces)
 
 -- ---- lists
 

@@ -4,8 +4,9 @@ use Rattle.std.specs.Option.{option_map}
 use Rattle.std.proofs.lemmas.Bool.{cases_lt, false≢true, false_from_ne_true}
 use Rattle.layout.specs.declared.entries.Entry.{Entry}
 use Rattle.layout.specs.Forms.{Forms, far_from, goal_of, is_far, offset, start_of, NoneLeft}
-use Rattle.layout.specs.Emitting.{code_at, code_to, far_of, has_condition, target_offset, IsEmitted, IsOffsets}
+use Rattle.layout.specs.Private.{code_at, code_to, far_of, has_condition, target_offset, IsEmitted, IsOffsets}
 use Rattle.layout.proofs.Widening.{rises}
+pub use Rattle.layout.proofs.Rows.{three_order}
 
 pub code_none : (base : ℕ) (entries : List Entry) (long : Forms) → code_to base entries long 0 ≡ []
 unfolding code_to

@@ -2,7 +2,8 @@
 use Rattle.std.proofs.Common.{◌≡◌, ℕ, Bool, true, false, Some, IsTrue, refl}
 use Rattle.std.proofs.lemmas.Bool.{false≢true}
 use Rattle.v8_decode.specs.declared.Instr.{Instr}
-use Rattle.v8_encode.specs.Encoding.{encode_of, has_word, word_of}
+use Rattle.v8_encode.specs.Code.{encode_of, has_word}
+use Rattle.v8_encode.specs.Encoding.{word_of}
 
 pub word_is : (instr : Instr) (word : ℕ) → IsTrue (has_word instr) → Some word ≡ encode_of instr → word ≡ word_of instr
 unfolding encode_of

@@ -15,7 +15,7 @@ use Rattle.v8_step.specs.Transfers.{branched, branch_step, target_of}
 use Rattle.v8_step.specs.Step.{act, step_of}
 use Rattle.v8_step.specs.Valid.{IsValid}
 use Rattle.v8_step.proofs.ValidSteps.{run-valid}
-use Rattle.code_runs.specs.StoredWords.{store_word}
+use Rattle.code_runs.specs.Code.{store_word}
 use Rattle.code_runs.specs.Counted.{count_stores}
 use Rattle.code_runs.specs.Straight.{IsReady, Says, StandIn}
 use Rattle.code_runs.specs.TwoRegisters.{IsBetween}

@@ -12,8 +12,14 @@ use Rattle.layout.specs.declared.items.Item.{Item}
 use Rattle.layout.specs.declared.items.Item.TheVariants as it
 use Rattle.layout.specs.Laid.{AllLead, LeadsBelow, item_at}
 use Rattle.layout.specs.Order.{jump_to, exit_at, is_laid, first_left, lowest_left, behind, next_after, ends_in_jump, first_laid, next_piece, compact_order}
-use Rattle.layout.specs.Laying.{LeadsInside, IsLaying, IsMarking, IsLowestLeft, IsNext, IsWhole}
+use Rattle.layout.specs.Laying.{LeadsInside, IsLaying, IsMarking, IsLowestLeft, IsWhole}
 use Rattle.eel_base.specs.declared.numbers.PieceNo.{PieceNo}
+
+-- k may be laid next: it isn't laid, and what falls into it is
+pub record IsNext (pieces : List (List Item)) (laid : List ℕ) (k : ℕ) : Type 0 where
+  pub inside : k < length pieces
+  pub free : is_laid laid k ≡ false
+  pub falls : (j : ℕ) → suc j ≡ k → ends_in_jump pieces j ≡ false → is_laid laid j ≡ true
 
 pub the_equality : IsEquivalence eqb
 the_equality = record {

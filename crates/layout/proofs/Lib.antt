@@ -11,3 +11,4 @@ pub mod Standing
 pub mod Whole
 pub mod Widening
 pub mod Wider
+pub mod Rows

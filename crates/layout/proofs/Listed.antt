@@ -12,7 +12,7 @@ use Rattle.layout.specs.Laid.{AllLead, LeadsBelow}
 use Rattle.layout.specs.Order.{is_laid}
 use Rattle.layout.specs.Laying.{IsWhole}
 use Rattle.layout.specs.Forms.{entries_in, entries_from, start_of, target}
-use Rattle.layout.specs.Emitting.{IsListing}
+use Rattle.layout.specs.Private.{IsListing}
 use Rattle.layout.proofs.Laying.{the_equality, laid_other, item_is}
 
 -- ---- orders

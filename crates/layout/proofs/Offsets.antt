@@ -9,8 +9,13 @@ use Rattle.layout.specs.declared.entries.Entry.{Entry}
 use Rattle.layout.specs.declared.entries.Entry.TheVariants as en
 use Rattle.layout.specs.declared.ranges.OpenRange.{OpenRange}
 use Rattle.layout.specs.Forms.{Forms, is_start, offset, start_of, width}
-use Rattle.layout.specs.Emitting.{closes, opens, ranges_from, AreOffsets, IsListing, IsOffsets}
+use Rattle.layout.specs.Private.{closes, opens, ranges_from, IsListing, IsOffsets}
 use Rattle.layout.proofs.Widening.{offset_more}
+
+-- the words before each piece that starts at one of the first n entries
+abbrev pub AreOffsets : List Entry → Forms → List ℕ → ℕ → Type 0
+AreOffsets entries long at n =
+    (k : ℕ) → k < length at → start_of entries k < n → slice_index at k ≡ offset entries long (start_of entries k)
 
 pub offset_next : (entries : List Entry) (long : Forms) (n here w : ℕ) → here ≡ offset entries long n
     → w ≡ width (long n) (slice_get entries n) (slice_get entries (n + 1)) → here + w ≡ offset entries long (n + 1)

@@ -12,7 +12,7 @@ use Rattle.layout.specs.declared.entries.Entry.TheVariants as en
 use Rattle.layout.specs.declared.ranges.OpenRange.{OpenRange}
 use Rattle.layout.specs.Laid.{note_range, range_in, item_at, AreMarked, OpenMark, end_from, open_from, range_of, Ascend, IsRangeOf}
 use Rattle.layout.specs.Forms.{entries_in, entries_from}
-use Rattle.layout.specs.Emitting.{closed, closes, opens, ranges_from}
+use Rattle.layout.specs.Private.{closed, closes, opens, ranges_from}
 use Rattle.layout.proofs.Widening.{rises_by, rises_to}
 use Rattle.layout.proofs.Listed.{items_at}
 use Rattle.std.proofs.lemmas.Bool.{lt-ltb, ltb-true, cond_both}

@@ -10,17 +10,19 @@ use Rattle.v8_decode.specs.declared.Instr.TheVariants as i
 use Rattle.v8_decode.specs.declared.LoadKind.TheVariants as loads
 use Rattle.v8_decode.specs.declared.StoreKind.TheVariants as stores
 use Rattle.v8_decode.specs.Words.{decode_of}
-use Rattle.v8_encode.specs.Encoding.{word_of, fits_signed}
+use Rattle.v8_encode.specs.Encoding.{word_of}
+use Rattle.v8_encode.specs.Code.{fits_signed}
 use Rattle.v8_encode.proofs.Decoded.{decode_of-word_of}
 use Rattle.code_runs.specs.LongJump.{long_jump}
-use Rattle.code_runs.specs.Page.{of_page}
+use Rattle.code_runs.specs.Code.{of_page}
 use Rattle.layout.specs.declared.items.Item.{Item}
 use Rattle.layout.specs.declared.items.Item.TheVariants as it
 use Rattle.layout.specs.declared.entries.Entry.{Entry}
 use Rattle.layout.specs.declared.entries.Entry.TheVariants as en
 use Rattle.layout.specs.Laid.{Placement, SaysFrom, JumpStands, jump_nothing, jump_short, jump_long, BranchStands, branch_short, branch_long, Stands, Reaches, nop, opposite}
 use Rattle.layout.specs.Forms.{Forms, far, leads_next, offset, width}
-use Rattle.layout.specs.Emitting.{between, branch_code, code_at, code_to, entry_code, has_condition, jump_code, or_zero, target_offset, words_of}
+use Rattle.layout.specs.Private.{between, branch_code, code_at, code_to, entry_code, has_condition, jump_code, or_zero, target_offset}
+use Rattle.layout.specs.Emitting.{words_of}
 use Rattle.layout.proofs.Emitted.{code_more, code_none}
 use Rattle.layout.proofs.Offsets.{offset_none}
 use Rattle.layout.proofs.Widening.{offset_more}

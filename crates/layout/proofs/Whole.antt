@@ -8,9 +8,9 @@ use Rattle.layout.specs.declared.entries.Entry.{Entry}
 use Rattle.layout.specs.Laid.{ArePieces, Lays, placement_of}
 use Rattle.layout.specs.Forms.{Forms, entries_of, offset, IsWidened}
 use Rattle.layout.specs.Compact.{IsCompact, IsNeeded, RoomIs}
-use Rattle.layout.specs.Emitting.{forms_in, FitsIn, IsFormed, IsListing, IsMade, IsPut}
+use Rattle.layout.specs.Private.{forms_in, FitsIn, IsFormed, IsListing, IsPut}
 use Rattle.layout.proofs.Standing.{code_length}
-use Rattle.layout.proofs.Assembled.{lays}
+use Rattle.layout.proofs.Assembled.{lays, IsMade}
 
 put_size : (base : ℕ) (entries : List Entry) (starts : List ℕ) (long : Forms) (p : Placed)
     → IsPut base entries starts long p → length p.code.items ≡ offset entries long (length entries)

@@ -7,7 +7,7 @@ use Rattle.std.proofs.lemmas.Option.{slice_get_past}
 use Rattle.std.proofs.lemmas.List.{length-append, get_or_push, get_or_append_left, get_or_past}
 use Rattle.layout.specs.declared.entries.Entry.{Entry}
 use Rattle.layout.specs.Forms.{Forms, start_of, target, far_from, is_far, IsWidened}
-use Rattle.layout.specs.Emitting.{forms_in, AreWider}
+use Rattle.layout.specs.Private.{forms_in, AreWider}
 use Rattle.layout.proofs.Widening.{IsWidening, widening_all, widening_ends}
 
 pub wider_more : (entries : List Entry) (forms wide : List Bool) (n : ℕ) (x : Bool) → AreWider entries forms wide n

@@ -30,12 +30,6 @@ pub record IsLowestLeft (pieces : List (List Item)) (laid : List ℕ) (k : ℕ) 
   pub free : is_laid laid k ≡ false
   pub below : (j : ℕ) → j < k → is_laid laid j ≡ true
 
--- k may be laid next: it isn't laid, and what falls into it is
-pub record IsNext (pieces : List (List Item)) (laid : List ℕ) (k : ℕ) : Type 0 where
-  pub inside : k < length pieces
-  pub free : is_laid laid k ≡ false
-  pub falls : (j : ℕ) → suc j ≡ k → ends_in_jump pieces j ≡ false → is_laid laid j ≡ true
-
 -- each piece stands once in the order
 pub record IsWhole (pieces : List (List Item)) (order : List ℕ) : Type 0 where
   pub laying : IsLaying pieces order

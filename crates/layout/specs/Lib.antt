@@ -4,5 +4,5 @@ pub mod Forms
 pub mod Laid
 pub mod Laying
 pub mod Order
-pub mod Rows
 pub mod Running
+pub mod Private

@@ -3,7 +3,7 @@
 ghost use Rattle.std.specs.Prelude.{◌≡◌, ◌+◌, ◌*◌, ◌^◌, ◌≤◌, length};
 ghost use Rattle.std.proofs.Props.{props};
 ghost use Rattle.layout.specs.Forms.{offset, NoneLeft};
-ghost use Rattle.layout.specs.Emitting.{forms_in, IsListing, IsOffsets};
+ghost use Rattle.layout.specs.Private.{forms_in, IsListing, IsOffsets};
 
 use crate::entries::Entry;
 use eel_base::Addr;

@@ -5,7 +5,7 @@ ghost use Rattle.std.specs.Option.{is_some};
 ghost use Rattle.layout.specs.declared.items.Item.TheVariants as it;
 ghost use Rattle.layout.specs.declared.entries.Entry.TheVariants as en;
 ghost use Rattle.layout.specs.Forms.{far, offset, target as target_of};
-ghost use Rattle.layout.specs.Emitting.{code_at, entry_code, far_of, forms_in, has_condition, or_zero, target_offset, IsEmitted};
+ghost use Rattle.layout.specs.Private.{code_at, entry_code, far_of, forms_in, has_condition, or_zero, target_offset, IsEmitted};
 
 use crate::Item;
 use crate::assembler::Assembler;

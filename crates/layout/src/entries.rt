@@ -5,7 +5,7 @@ ghost use Rattle.std.specs.List.{sum_by};
 ghost use Rattle.layout.specs.Laid.{AllLead};
 ghost use Rattle.layout.specs.Laying.{IsWhole};
 ghost use Rattle.layout.specs.Forms.{entries_from, entries_in};
-ghost use Rattle.layout.specs.Emitting.{IsListing};
+ghost use Rattle.layout.specs.Private.{IsListing};
 
 use crate::{Item, Piece};
 use eel_base::PieceNo;

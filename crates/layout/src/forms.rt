@@ -4,7 +4,7 @@ ghost use Rattle.std.specs.Prelude.{◌≡◌, ℕ, suc, ◌+◌, ◌*◌, ◌^�
 ghost use Rattle.layout.specs.declared.items.Item.TheVariants as it;
 ghost use Rattle.layout.specs.declared.entries.Entry.TheVariants as en;
 ghost use Rattle.layout.specs.Forms.{far, is_far as is_far_in, leads_next as leads_next_of, offset, target as target_of, width as width_of, IsWidened};
-ghost use Rattle.layout.specs.Emitting.{forms_in, AreWider, IsListing, IsOffsets};
+ghost use Rattle.layout.specs.Private.{forms_in, AreWider, IsListing, IsOffsets};
 
 use crate::Item;
 use crate::entries::Entry;

@@ -5,7 +5,7 @@ ghost use Rattle.std.specs.List.{sum_by};
 ghost use Rattle.layout.specs.Laid.{placement_of, AllLead, ArePieces, Lays};
 ghost use Rattle.layout.specs.Forms.{entries_of, offset, IsWidened, NoneLeft};
 ghost use Rattle.layout.specs.Compact.{IsCompact, RoomIs};
-ghost use Rattle.layout.specs.Emitting.{addresses, forms_in, FitsIn, IsFormed, IsListing, IsPut};
+ghost use Rattle.layout.specs.Private.{addresses, forms_in, FitsIn, IsFormed, IsListing, IsPut};
 
 use crate::assembler::Assembler;
 use crate::entries::{Entry, Listing, list};

@@ -1,7 +1,7 @@
 //! The ranges of marks.
 
 ghost use Rattle.std.specs.Prelude.{◌≡◌, ◌+◌, ◌*◌, ◌≤◌, ◌++◌, ◌^◌, None, OnOk, IfOk};
-ghost use Rattle.layout.specs.Emitting.{address_of, closed, closes, forms_in, opens, ranges_from};
+ghost use Rattle.layout.specs.Private.{address_of, closed, closes, forms_in, opens, ranges_from};
 
 use crate::Item;
 use crate::assembler::Assembler;

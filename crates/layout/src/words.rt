@@ -5,12 +5,14 @@ ghost use Rattle.v8_decode.specs.declared.Instr.TheVariants as w;
 ghost use Rattle.v8_decode.specs.declared.Op2.TheVariants.{Imm};
 ghost use Rattle.v8_decode.specs.declared.LoadKind.TheVariants as loads;
 ghost use Rattle.v8_decode.specs.declared.StoreKind.TheVariants as stores;
-ghost use Rattle.v8_encode.specs.Encoding.{fits_signed, has_word, word_of as word_in};
+ghost use Rattle.v8_encode.specs.Code.{fits_signed, has_word};
+ghost use Rattle.v8_encode.specs.Encoding.{word_of as word_in};
 ghost use Rattle.code_runs.specs.LongJump.{long_jump};
-ghost use Rattle.code_runs.specs.Page.{of_page};
+ghost use Rattle.code_runs.specs.Code.{of_page};
 ghost use Rattle.layout.specs.Laid.{nop, opposite};
 ghost use Rattle.layout.specs.Forms.{far};
-ghost use Rattle.layout.specs.Emitting.{between, branch_code, jump_code, words_of};
+ghost use Rattle.layout.specs.Private.{between, branch_code, jump_code};
+ghost use Rattle.layout.specs.Emitting.{words_of};
 
 use std::alloc::AllocError;
 use v8_decode::{Cond, Instr, LoadKind, Op2, Reg, StoreKind};

@@ -4,7 +4,7 @@ use Rattle.std.specs.Str.{bytes_eq}
 use Rattle.std.proofs.lemmas.Bool.Decides.{nat_tests}
 use Rattle.std.proofs.lemmas.Slice.Eq.{bytes_eq-Decides}
 use Rattle.eel_base.specs.Fields.{hex_digit, hex_of}
-use Rattle.line_words.specs.Words.{digit_of, hex_number_of, hex_value}
+use Rattle.line_words.specs.Registers.{digit_of, hex_number_of, hex_value}
 use Rattle.line_words.proofs.Steps.{tested}
 
 digit_back : (n : ℕ) → digit_of (hex_digit n) ≡ n

@@ -5,7 +5,8 @@ use Rattle.std.specs.Str.{bytes_eq}
 use Rattle.std.proofs.lemmas.Bool.Decides.{nat_tests}
 use Rattle.std.proofs.lemmas.List.FromFn.{get_or-map-range_with_len}
 use Rattle.std.proofs.lemmas.Slice.Eq.{bytes_eq-Decides}
-use Rattle.line_words.specs.Words.{register_of, register_text}
+use Rattle.line_words.specs.Words.{register_of}
+use Rattle.line_words.specs.Registers.{register_text}
 
 all_back : map (λ reg. register_of (register_text reg)) (range_with_len 0 32) ≡ map Some (range_with_len 0 32)
 unfolding register_of

@@ -2,7 +2,8 @@
 use Rattle.std.specs.Prelude.{◌≡◌, ℕ, ◌<◌, ◌^◌, ◌==◌, not, true, List, ◌∷◌, ◌++◌, Some, decimal}
 use Rattle.std.specs.List.{list_all}
 use Rattle.eel_base.specs.Fields.{hex_of}
-use Rattle.line_words.specs.Words.{count_of, hex_number_of, number_of, register_of, register_text, split_at, sum_of}
+use Rattle.line_words.specs.Words.{count_of, number_of, register_of, split_at, sum_of}
+use Rattle.line_words.specs.Registers.{hex_number_of, register_text}
 
 -- a word without a certain byte
 abbrev pub IsWithout : ℕ → List ℕ → Type 0

@@ -1,10 +1,10 @@
 -- The words of lines of text: numbers, the names of registers, and what stands before and behind a byte.
-use Rattle.std.specs.Prelude.{◌≡◌, true, ℕ, ◌+◌, ◌*◌, ◌-◌, ◌/◌, ◌%◌, ◌^◌, Bool, ◌&&◌, ◌||◌, ◌==◌, not, nat_le, nat_lt, if◌then◌else◌, List, [], ◌∷◌, length, take, drop, slice_index, codes, Option, Some, None}
+use Rattle.std.specs.Prelude.{ℕ, ◌+◌, ◌^◌, Bool, ◌&&◌, ◌||◌, ◌==◌, not, nat_le, nat_lt, if◌then◌else◌, List, length, take, drop, slice_index, Option, Some, None}
 use Rattle.std.specs.List.{position, find, list_all, range_with_len}
 use Rattle.std.specs.Option.{option_map, option_and_then}
 use Rattle.std.specs.Str.{bytes_eq}
 use Rattle.std.specs.Str.Parse.{digits_value}
-use Rattle.eel_base.specs.Fields.{hex_of}
+use Rattle.line_words.specs.Registers.{register_text}
 
 infixl 10 ◌>>=◌
 abbrev pub ◌>>=◌ : {A B : Type 0} → Option A → (A → Option B) → Option B
@@ -24,10 +24,6 @@ abbrev pub is_decimal : List ℕ → Bool
 is_decimal word =
     list_all is_digit word && nat_lt 0 (length word) && (not (slice_index word 0 == 48) || (length word == 1))
 
--- the text of a word that is decimal
-abbrev pub IsDecimalText : List ℕ → List ℕ → Type 0
-IsDecimalText word text = (is_decimal word ≡ true) × (text ≡ word)
-
 -- a decimal number below a limit
 abbrev pub number_below : ℕ → List ℕ → Option ℕ
 number_below limit word =
@@ -43,24 +39,7 @@ count_of word = number_below (2 ^ 64) word
 unfoldable pub sum_of : List ℕ → Option ℕ
 sum_of word = number_below (2 ^ 128) word
 
--- what a hexadecimal digit counts: 0 to 9, then a to f
-abbrev pub digit_of : ℕ → ℕ
-digit_of byte = if nat_lt byte 97 then byte - 48 else byte - 87
-
--- the value of hexadecimal digits, the highest first, behind those that were read so far
-abbrev pub hex_value : ℕ → List ℕ → ℕ
-hex_value high [] = high
-hex_value high (byte ∷ bytes) = hex_value ((high * 16 + digit_of byte) % 2 ^ 32) bytes
-
--- eight hexadecimal digits in small letters
-unfoldable pub hex_number_of : List ℕ → Option ℕ
-hex_number_of word = if bytes_eq word (hex_of (hex_value 0 word)) then Some (hex_value 0 word) else None
-
 -- ---- registers
-
--- `%`, the register's bank, and its number in the bank
-abbrev pub register_text : ℕ → List ℕ
-register_text reg = 37 ∷ slice_index (codes "goli") (reg / 8) ∷ (48 + reg % 8) ∷ []
 
 unfoldable pub register_of : List ℕ → Option ℕ
 register_of word = find (λ reg. bytes_eq word (register_text reg)) (range_with_len 0 32)

@@ -3,9 +3,9 @@ ghost use Rattle.std.specs.Prelude.{◌≡◌, ◌<◌, ◌==◌, ◌^◌, false
 ghost use Rattle.std.specs.List.{list_all, position};
 ghost use Rattle.std.specs.Option.{option_map};
 ghost use Rattle.std.specs.Str.{bytes_eq};
-ghost use Rattle.line_words.specs.Words.{count_of, digit_of, hex_number_of, hex_value, is_decimal, is_digit, number_of};
-ghost use Rattle.line_words.specs.Words.{IsDecimalText};
-ghost use Rattle.line_words.specs.Words.{register_of, register_text, split_at, sum_of};
+ghost use Rattle.line_words.specs.Words.{count_of, is_decimal, is_digit, number_of, register_of, split_at, sum_of};
+ghost use Rattle.line_words.specs.Registers.{digit_of, hex_number_of, hex_value, register_text};
+ghost use Rattle.line_words.specs.Private.{IsDecimalText};
 
 use eel_base::hex8;
 use std::str;
@@ -91,7 +91,7 @@ fn are_digits(word: &[u8]) -> bool
 }
 
 /// The number that eight hexadecimal digits in small letters are.
-#[tactic(auto, unfolding(crate::specs::Words::hex_number_of))]
+#[tactic(auto, unfolding(crate::specs::Registers::hex_number_of))]
 pub fn read_address(word: &[u8]) -> Option<u32>
     ensures { result ≡ hex_number_of word.now }
 {

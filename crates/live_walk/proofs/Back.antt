@@ -4,7 +4,8 @@ use Rattle.std.specs.List.{Contains}
 use Rattle.std.specs.Option.{option_map}
 use Rattle.std.proofs.lemmas.Option.{get_or_from_slice_get}
 use Rattle.std.proofs.lemmas.List.Elements.{Contains-push}
-use Rattle.eel_base.specs.CodeText.{Words, IsText, word_at}
+use Rattle.eel_base.specs.CodeText.{Words, word_at}
+use Rattle.eel_base.specs.Code.{IsText}
 use Rattle.v8_decode.specs.declared.Part.{Part}
 use Rattle.v8_decode.specs.Parts.{has, is_member}
 use Rattle.v8_decode.specs.Effects.{reads_all, reads_of, read_set, write_set}
@@ -21,7 +22,8 @@ use Rattle.v8_step.proofs.Live.{live_step}
 use Rattle.v8_step.proofs.Executable.{code_stays}
 use Rattle.cfg_blocks.specs.Blocks.{blocks_of}
 use Rattle.cfg_normal.specs.Opens.{Open}
-use Rattle.cfg_normal.specs.Graph.{Graph, IsNodeIn, graph_of}
+use Rattle.cfg_normal.specs.Graph.{Graph, graph_of}
+use Rattle.cfg_normal.specs.Code.{IsNodeIn}
 use Rattle.cfg_blocks.specs.declared.EdgeKind.{EdgeKind}
 use Rattle.cfg_normal.specs.declared.Edge.{Edge}
 use Rattle.cfg_normal.specs.declared.Node.{Node}

@@ -12,14 +12,15 @@ use Rattle.cfg_blocks.specs.declared.EdgeKind.{EdgeKind}
 use Rattle.cfg_blocks.specs.declared.EdgeKind.TheVariants as kinds
 use Rattle.cfg_blocks.specs.Blocks.{Blocks, block_end, holding_of, last_word, end_of}
 use Rattle.cfg_blocks.specs.Ends.{Way, within, end_at, ways_of}
-use Rattle.cfg_normal.specs.Nodes.{home_of}
+use Rattle.cfg_normal.specs.Code.{home_of, IsNodeIn}
 use Rattle.cfg_normal.specs.Opens.{Open}
-use Rattle.cfg_normal.specs.Graph.{Graph, IsNodeIn, directed, graph_of, has_cases, lands_of, node_of, edge_of, runs_slot, landing_at as landing}
+use Rattle.cfg_normal.specs.Graph.{Graph, directed, graph_of, has_cases, lands_of, node_of, edge_of, runs_slot, landing_at as landing}
 use Rattle.cfg_normal.specs.declared.Edge.{Edge}
 use Rattle.cfg_normal.specs.declared.Node.{Node}
 use Rattle.cfg_normal.specs.declared.Node.TheVariants.{Block, Landed, X}
 use Rattle.cfg_normal.specs.declared.Slot.TheVariants as carried
-use Rattle.cfg_walk.specs.Walk.{Point as RunPoint, WayOut, by_kind, edge_along, left_along, way_to, edge_from, landed, landing_at, node_after, same_kind, same_node, slot_left, instr_at, way_of, leads_along as is_to}
+use Rattle.cfg_walk.specs.Walk.{Point as RunPoint, WayOut, by_kind, edge_along, left_along, way_to, edge_from, landed, landing_at, node_after, slot_left, instr_at, way_of, leads_along as is_to}
+use Rattle.cfg_normal.specs.Nodes.{same_kind, same_node}
 use Rattle.cfg_walk.specs.Matches.{AreOpen, Begins, IsOnItsWay}
 use Rattle.cfg_blocks.proofs.Targets.{word_at-some}
 use Rattle.cfg_walk.proofs.Cut.{IsCut}
@@ -30,7 +31,8 @@ use Rattle.cfg_walk.proofs.Ways.{same_kinds, IsOne}
 use Rattle.cfg_walk.proofs.Leaving.{is_in, node_is, way_found}
 use Rattle.cfg_walk.proofs.Points.{within_some}
 use Rattle.cfg_walk.proofs.Slots.{LeadsIfThere, jump_lands, lands_not, way_leads}
-use Rattle.liveness.specs.Live.{edge_at, Holds, LandsAt, IsLast, IsFirst, GoesOnAt, is_call_or_jump, is_outside, is_unknown, Point, At, Along, After, Goes}
+use Rattle.liveness.specs.Live.{edge_at, Holds, IsLast, IsFirst, GoesOnAt, is_call_or_jump, is_outside, is_unknown, Point, At, Along, After, Goes}
+use Rattle.liveness.proofs.Reaching.{LandsAt}
 use Rattle.live_walk.proofs.Trips.{Trip, slot, left, inside, over, jumped}
 
 -- where a run stands: at a word of the walk's node, or on the edge that carries the slot

@@ -3,7 +3,8 @@ use Rattle.std.proofs.Common.{◌≡◌, ◌≢◌, ℕ, suc, ◌+◌, ◌-◌, 
 use Rattle.std.specs.Prelude.{if◌then◌else◌, ℤ}
 use Rattle.std.specs.Option.{option_map}
 use Rattle.std.proofs.lemmas.Bool.{cond_both, eqb-true, eqb-false, lt-ltb, le-ltb, cases_lt}
-use Rattle.eel_base.specs.CodeText.{Words, IsText, word_at, numbered, target_of as text_target}
+use Rattle.eel_base.specs.CodeText.{Words, word_at, numbered, target_of as text_target}
+use Rattle.eel_base.specs.Code.{IsText}
 use Rattle.eel_base.specs.declared.numbers.WordNo.{WordNo}
 use Rattle.v8_decode.specs.declared.Part.{Part}
 use Rattle.v8_decode.specs.declared.Op2.{Op2}
@@ -28,10 +29,12 @@ use Rattle.cfg_blocks.specs.declared.EdgeKind.TheVariants as kinds
 use Rattle.cfg_blocks.specs.Ends.{Way, way, within, end_at, end_by, is_transfer as transfers, ways_of, branch_target, number_of, target_in, always}
 use Rattle.cfg_blocks.specs.Blocks.{Blocks, block_end, holding_of, last_word}
 use Rattle.cfg_normal.specs.Opens.{Open}
-use Rattle.cfg_normal.specs.Graph.{Graph, IsNodeIn, graph_of, runs_slot}
+use Rattle.cfg_normal.specs.Graph.{Graph, graph_of, runs_slot}
+use Rattle.cfg_normal.specs.Code.{IsNodeIn}
 use Rattle.cfg_blocks.specs.Switches.{is_jump}
 use Rattle.cfg_normal.specs.declared.Node.{Node}
-use Rattle.cfg_walk.specs.Walk.{Point as RunPoint, completed, point_of, gone, goes_on_at, node_after, edge_along, edge_from, same_kind, way_to, left_at, left_by, slot_left, way_of, instr_at}
+use Rattle.cfg_walk.specs.Walk.{Point as RunPoint, completed, point_of, gone, goes_on_at, node_after, edge_along, edge_from, way_to, left_at, left_by, slot_left, way_of, instr_at}
+use Rattle.cfg_normal.specs.Nodes.{same_kind}
 use Rattle.cfg_walk.specs.Matches.{AreOpen, FetchesOnly, IsOnItsWay, Matches, MatchesBy}
 use Rattle.cfg_blocks.proofs.Targets.{word_at-some}
 use Rattle.cfg_walk.proofs.Cut.{IsCut}

@@ -2,7 +2,8 @@
 use Rattle.std.proofs.Common.{◌≡◌, ℕ, suc, ◌+◌, ◌<◌, ◌≤◌, List, length, slice_index, refl, ap, arith, inl, inr}
 use Rattle.std.proofs.lemmas.Bool.{cases_order, lt-ltb}
 use Rattle.std.specs.Prelude.{nat_lt, if◌then◌else◌}
-use Rattle.cfg_blocks.specs.Blocks.{AreFirsts, block_end}
+use Rattle.cfg_blocks.specs.Code.{AreFirsts}
+use Rattle.cfg_blocks.specs.Blocks.{block_end}
 pub use Rattle.cfg_blocks.proofs.Held.{IsIn, ends_within, is_held, some_block, some_words}
 use Rattle.cfg_blocks.proofs.Held.{apart}
 

@@ -3,10 +3,11 @@ use Rattle.std.proofs.Common.{◌≡◌, ◌↔◌, ℕ, zero, suc, ◌+◌, ◌
 use Rattle.std.proofs.lemmas.Bool.{cases_lt, false≢true, or_cases, or_left, or_right}
 use Rattle.std.proofs.lemmas.List.{get_or-take, get_or_append_left, get_or_push}
 use Rattle.v8_decode.specs.declared.Part.{Part}
-use Rattle.v8_decode.specs.Parts.{every_part, has, members, minus}
+use Rattle.v8_decode.specs.Parts.{every_part, has, members}
+use Rattle.v8_decode.specs.Code.{minus}
 use Rattle.v8_decode.proofs.Members.{has-every_part, members-same}
 use Rattle.flood.specs.Flood.{Sets, at}
-use Rattle.cfg_blocks.specs.Blocks.{AreFirsts}
+use Rattle.cfg_blocks.specs.Code.{AreFirsts}
 use Rattle.cfg_normal.specs.Graph.{Graph}
 use Rattle.cfg_normal.specs.Opens.{is_copied}
 use Rattle.cfg_normal.specs.declared.Node.TheVariants.{Landed}

@@ -13,19 +13,26 @@ use Rattle.v8_decode.specs.Effects.{read_set, write_set, writes_of}
 use Rattle.v8_decode.proofs.Marks.{has-union, set_of-members}
 use Rattle.flood.specs.declared.Link.{Link}
 use Rattle.flood.specs.Flood.{Sets, link_at, AreLinks, IsLiveIn, Passes, Reaches}
-use Rattle.cfg_blocks.specs.Blocks.{AreFirsts}
+use Rattle.cfg_blocks.specs.Code.{AreFirsts}
 use Rattle.cfg_blocks.specs.declared.EdgeKind.TheVariants as kinds
-use Rattle.cfg_normal.specs.Graph.{Graph, IsEdgeIn, IsGraph}
+use Rattle.cfg_normal.specs.Graph.{Graph, lands}
+use Rattle.cfg_normal.specs.Code.{IsEdgeIn, IsGraph}
 use Rattle.cfg_normal.specs.Numbers.{node_number}
 use Rattle.cfg_normal.specs.declared.Node.{Node}
 use Rattle.cfg_normal.specs.declared.Node.TheVariants.{Block, Landed, X}
 use Rattle.cfg_normal.specs.declared.Slot.{Slot}
 use Rattle.cfg_normal.specs.declared.Slot.TheVariants.{Nothing, Word, Off}
 use Rattle.liveness.specs.Paths.{ReadsFirst}
-use Rattle.liveness.specs.Live.{edge_at, Holds, HoldsIn, IsFirst, IsLast, LandsAt, GoesOnAt, instr_of, is_landing, is_outside, slot_writes, beyond, Point, At, Along, Behind, After, reads_at, writes_at, Goes, IsLive, IsLiveAt, IsLiveOn}
+use Rattle.liveness.specs.Live.{edge_at, Holds, HoldsIn, IsFirst, IsLast, GoesOnAt, instr_of, is_landing, is_outside, slot_writes, beyond, Point, At, Along, Behind, After, reads_at, writes_at, Goes, IsLive, IsLiveOn}
+use Rattle.liveness.specs.Code.{IsLiveAt}
 use Rattle.liveness.specs.Search.{AreLinksOf, AreLivePlaces, AreMarks, AreRead, In, IsInside, IsOf, IsOnward, LinksAlongAny, LinksInAny, LinksNext, LinksOnto, LinksOntoAny, LivesInCopy, LivesOnto, ReadsIn, ReadsOfAny, ReadsOnAny, edge_link, first_in, is_ahead, is_marked, landing_link, last_in, next_link, node_place, nodes_from, place_of, target_of}
 use Rattle.liveness.proofs.Held.{some_block}
 use Rattle.liveness.proofs.Spots.{first_held, held_inside, held_of, inside_of, is_inside, last_held, number_once, of_held, place_once, place_within}
+use Rattle.std.specs.Prelude.{Some}
+
+-- control lands at the word in the node
+abbrev pub LandsAt : Graph → Node → ℕ → Type 0
+LandsAt graph node word = Holds graph node word × (lands graph (Some word) ≡ node)
 
 -- ---- the first and the last word of a node
 

@@ -2,8 +2,10 @@
 use Rattle.std.proofs.Common.{◌≡◌, ℕ, zero, suc, ◌+◌, ◌-◌, ◌*◌, ◌<◌, ◌≤◌, inl, inr, Bool, true, false, List, length, slice_index, refl, ap, sym, ◌∙◌, arith}
 use Rattle.std.specs.Prelude.{◌||◌, if◌then◌else◌, Some}
 use Rattle.std.proofs.lemmas.Bool.{cases_order, cases_lt, false_from_ne_true, false≢true, lt-ltb, le-ltb}
-use Rattle.cfg_blocks.specs.Blocks.{AreFirsts, block_end, size_of, holding_of}
-use Rattle.cfg_normal.specs.Graph.{Graph, IsNodeIn, lands}
+use Rattle.cfg_blocks.specs.Code.{AreFirsts}
+use Rattle.cfg_blocks.specs.Blocks.{block_end, size_of, holding_of}
+use Rattle.cfg_normal.specs.Graph.{Graph, lands}
+use Rattle.cfg_normal.specs.Code.{IsNodeIn}
 use Rattle.cfg_normal.specs.Numbers.{node_number}
 use Rattle.cfg_normal.specs.Opens.{Open, is_behind, is_copied, jumps_in}
 use Rattle.cfg_normal.proofs.GraphFacts.{copied_where}

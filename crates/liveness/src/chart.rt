@@ -1,7 +1,8 @@
 //! A text, its graph, and the places of that.
 ghost use Rattle.std.specs.Prelude.{◌≡◌, ◌+◌, ◌^◌, ◌<◌, ◌≤◌, ◌↔◌, length, Some, IsTrue};
-ghost use Rattle.cfg_blocks.specs.Blocks.{AreFirsts};
-ghost use Rattle.cfg_normal.specs.Graph.{lands, IsNodeIn};
+ghost use Rattle.cfg_blocks.specs.Code.{AreFirsts};
+ghost use Rattle.cfg_normal.specs.Graph.{lands};
+ghost use Rattle.cfg_normal.specs.Code.{IsNodeIn};
 ghost use Rattle.cfg_normal.specs.Numbers.{node_number as node_number_of, node_numbers};
 ghost use Rattle.liveness.specs.Search.{is_marked, node_place, nodes_from, place_of, AreCopies, IsOf};
 

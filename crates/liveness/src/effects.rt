@@ -4,7 +4,7 @@ ghost use Rattle.v8_decode.specs.declared.Part.{Part};
 ghost use Rattle.v8_decode.specs.Parts.{has};
 ghost use Rattle.v8_decode.specs.Ranges.{has_even_pair};
 ghost use Rattle.cfg_blocks.specs.Blocks.{last_word};
-ghost use Rattle.cfg_normal.specs.Graph.{IsEdgeIn, IsGraph};
+ghost use Rattle.cfg_normal.specs.Code.{IsEdgeIn, IsGraph};
 ghost use Rattle.liveness.specs.Live.{beyond, edge_at, instr_of, is_landing, is_outside, slot_reads, slot_writes};
 ghost use Rattle.liveness.specs.Search.{first_in, is_ahead, last_in, IsInside, IsSlotWithin};
 

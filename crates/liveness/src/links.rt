@@ -1,7 +1,7 @@
 //! From which place control may go to which, and what isn't live before since it is written on the way.
 ghost use Rattle.std.specs.Prelude.{◌≡◌, ◌+◌, ◌*◌, ◌<◌, ◌≤◌, length, IfOk, OnOk};
 ghost use Rattle.std.specs.List.{Contains};
-ghost use Rattle.cfg_normal.specs.Graph.{IsEdgeIn};
+ghost use Rattle.cfg_normal.specs.Code.{IsEdgeIn};
 ghost use Rattle.liveness.specs.Live.{edge_at, is_outside};
 ghost use Rattle.liveness.specs.Search.{edge_link, first_in, landing_link, last_in, next_link, target_of, Adds, AreLinksOf, Between, IsInside, IsOf, LinksAlong, LinksAlongAny, LinksIn, LinksInAny, LinksLanding, LinksNext, LinksOnto, LinksOntoAny, LinksOntoBlock};
 

@@ -1,6 +1,6 @@
 //! The places of a graph: the words of its text, those of landed copies, and nodes.
 ghost use Rattle.std.specs.Prelude.{◌≡◌, ℕ, ◌⊎◌, true, length, IfOk, OnOk};
-ghost use Rattle.cfg_normal.specs.Graph.{IsEdgeIn, IsGraph};
+ghost use Rattle.cfg_normal.specs.Code.{IsEdgeIn, IsGraph};
 ghost use Rattle.cfg_normal.specs.Numbers.{node_numbers};
 ghost use Rattle.liveness.specs.Search.{is_marked, nodes_from, AreCopies, AreMarks, ArePlaces, IsMarked};
 

@@ -3,7 +3,7 @@ ghost use Rattle.std.specs.Prelude.{◌≡◌, ℕ, ◌+◌, ◌<◌, ◌≤◌,
 ghost use Rattle.std.specs.List.{range_with_len};
 ghost use Rattle.v8_decode.specs.declared.Part.{Part};
 ghost use Rattle.v8_decode.specs.Parts.{has};
-ghost use Rattle.cfg_normal.specs.Graph.{IsEdgeIn};
+ghost use Rattle.cfg_normal.specs.Code.{IsEdgeIn};
 ghost use Rattle.liveness.specs.Live.{named_on};
 ghost use Rattle.liveness.specs.Search.{nodes_from, Adds, AreRead, Between, In, IsInside, IsOf, ReadsAt, ReadsIn, ReadsOf, ReadsOfAny, ReadsOn, ReadsOnAny};
 

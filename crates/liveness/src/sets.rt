@@ -3,7 +3,7 @@ ghost use Rattle.std.specs.Prelude.{◌≡◌, ◌↔◌, ◌⊎◌, ℕ, ◌+�
 ghost use Rattle.v8_decode.specs.declared.Part.{Part};
 ghost use Rattle.v8_decode.specs.Parts.{has};
 ghost use Rattle.flood.specs.Flood.{at};
-ghost use Rattle.cfg_normal.specs.Graph.{IsEdgeIn};
+ghost use Rattle.cfg_normal.specs.Code.{IsEdgeIn};
 ghost use Rattle.liveness.specs.Live.{edge_at, HoldsIn};
 ghost use Rattle.liveness.specs.Search.{first_in, last_in, nodes_from, AreFound, AreJoined, In, IsInside, IsOf, IsOnward, LivesAtLanding, LivesInCopy, LivesOnto, LivesThere};
 

@@ -7,9 +7,11 @@ use Rattle.eel_base.specs.declared.range.Range as declared_range
 use Rattle.notes.specs.declared.note.NoteSegment as declared_segment
 use Rattle.notes.specs.declared.note.NoteEdge as declared_edge
 use Rattle.notes.specs.declared.note.Notes as declared_notes
-use Rattle.notes.specs.Seen.{segment_seen, edge_seen, range_seen, notes_seen}
+use Rattle.notes.specs.Code.{segment_seen, edge_seen, range_seen, notes_seen}
 use Rattle.notes.specs.Written.{words_bytes, segment_words, edge_words, range_words, notes_bytes}
 use Rattle.notes.specs.Rows.{segment_bytes, edge_bytes, range_bytes}
+pub use Rattle.notes.proofs.EditedThreeWords.{reads}
+pub use Rattle.notes.proofs.Examples.{written}
 
 pub words_bytes-append : (xs ys : List ℕ) → words_bytes (xs ++ ys) ≡ words_bytes xs ++ words_bytes ys
 unfolding words_bytes

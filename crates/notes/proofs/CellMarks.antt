@@ -5,8 +5,12 @@ use Rattle.std.specs.List.{list_any}
 use Rattle.std.proofs.lemmas.Bool.{and_parts, eq-eqb, ne_eqb, eqb-true, leb-true, cases_eq, cond_both}
 use Rattle.std.proofs.lemmas.List.{get_or-set_same, get_or-set_other, get_or-replicate, length-set, length-replicate}
 use Rattle.notes.specs.Format.{no_cell, cell_of, counter_width, is_cell, is_counter, most_cells}
-use Rattle.notes.specs.Parts.{AreMarks, is_open, with_mark}
+use Rattle.notes.specs.Parts.{is_open, with_mark}
 use Rattle.notes.specs.Written.{cell_word}
+
+-- The marks are those of the cells in the list.
+abbrev pub AreMarks : List Bool → List ℕ → Type 0
+AreMarks marks taken = (cell : ℕ) → cell < length marks → get_or marks cell false ≡ list_any (λ other. other == cell) taken
 
 -- a cell's word gives the cell, and the cell the word
 pub cell_word-of : (word : ℕ) → cell_word (cell_of word) ≡ word

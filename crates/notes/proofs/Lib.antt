@@ -6,3 +6,5 @@ pub mod Kept
 pub mod Bytes
 pub mod WordsRead
 pub mod ReadsBack
+pub mod EditedThreeWords
+pub mod Examples

@@ -3,7 +3,7 @@ use Rattle.std.proofs.Common.{◌≡◌, ℕ, Bool, true, false, List, [], ◌�
 use Rattle.std.specs.Result.{IfErr, IsErrAnd}
 use Rattle.std.specs.List.{list_any}
 use Rattle.notes.specs.Format.{NoNotes, Bad, ◌>>=◌, kept}
-use Rattle.notes.specs.Seen.{IsFault, Answers, WantsMemoryIf}
+use Rattle.notes.specs.Code.{IsFault, Answers, WantsMemoryIf}
 use Rattle.notes.specs.declared.note.NotesFault.{NotesFault}
 use Rattle.notes.specs.declared.note.NotesFault.TheVariants as faults
 

@@ -2,12 +2,12 @@
 use Rattle.std.proofs.Common.{◌≡◌, ℕ, suc, ◌+◌, ◌*◌, ◌-◌, ◌<◌, ◌≤◌, ◌^◌, Bool, false, List, [], ◌∷◌, ◌++◌, Option, Some, Result, Ok, refl, ap, sym, subst, ◌∙◌, length, replicate, arith, add-zero}
 use Rattle.std.proofs.lemmas.List.{length-replicate}
 use Rattle.notes.specs.Format.{is_cell, NoteSegment, NoteEdge, NoteRange, NoNotes, ◌>>=◌, segments_at, blocks_at, edges_at, ranges_at}
-use Rattle.notes.specs.Parts.{AreMarks, is_open, with_mark, segment_at, block_at, edge_at, range_at}
+use Rattle.notes.specs.Parts.{is_open, with_mark, segment_at, block_at, edge_at, range_at}
 use Rattle.notes.proofs.Steps.{bind_assoc, kept_then, after, after_none, after_next, through}
-use Rattle.notes.specs.Seen.{IsFault}
+use Rattle.notes.specs.Code.{IsFault}
 use Rattle.notes.specs.declared.note.NotesFault.{NotesFault}
 use Rattle.notes.specs.Written.{cell_word}
-use Rattle.notes.proofs.CellMarks.{cell_word-of, open_cell, none_marked, marks_long, marked_more}
+use Rattle.notes.proofs.CellMarks.{cell_word-of, open_cell, none_marked, marks_long, marked_more, AreMarks}
 
 next-place : (at size row : ℕ) → at + size * row + size ≡ at + size * (row + 1)
 next-place at size row = omega arith

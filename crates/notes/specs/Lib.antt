@@ -5,6 +5,5 @@ pub mod Parts
 pub mod Heads
 pub mod Laws
 pub mod Rows
-pub mod Examples
-pub mod EditedThreeWords
 pub mod Format
+pub mod Code

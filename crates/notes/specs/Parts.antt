@@ -1,7 +1,6 @@
 -- The parts of which reading is made: the numbers before the tables, a row of each table, and marks of the cells that
 -- are taken.
-use Rattle.std.specs.Prelude.{◌≡◌, ◌<◌, ℕ, ◌+◌, ◌*◌, ◌%◌, ◌^◌, Bool, true, false, not, ◌&&◌, ◌||◌, ◌==◌, nat_lt, nat_le, List, length, get_or, slice_set, Option, Some, None, Result, Ok}
-use Rattle.std.specs.List.{list_any}
+use Rattle.std.specs.Prelude.{ℕ, ◌+◌, ◌*◌, ◌%◌, ◌^◌, Bool, true, false, not, ◌&&◌, ◌||◌, ◌==◌, nat_lt, nat_le, List, length, get_or, slice_set, Option, Some, None, Result, Ok}
 use Rattle.notes.specs.Format.{NoteHead, NoteSegment, NoteEdge, NoteRange, NoNotes, ◌>>=◌, note_at, note_that, kept, last_tool, most_cells, follows, no_cell, cell_of, is_counter}
 use Rattle.notes.specs.Rules.{is_segment, is_range}
 
@@ -91,7 +90,3 @@ is_open width marks word =
 abbrev pub with_mark : Option ℕ → List Bool → List Bool
 with_mark None marks = marks
 with_mark (Some cell) marks = slice_set marks cell true
-
--- The marks are those of the cells in the list.
-abbrev pub AreMarks : List Bool → List ℕ → Type 0
-AreMarks marks taken = (cell : ℕ) → cell < length marks → get_or marks cell false ≡ list_any (λ other. other == cell) taken

@@ -3,8 +3,8 @@ use Rattle.std.specs.Prelude.{ℕ, List}
 use Rattle.eel_base.specs.declared.range.Range as declared_range
 use Rattle.notes.specs.declared.note.NoteSegment as declared_segment
 use Rattle.notes.specs.declared.note.NoteEdge as declared_edge
-use Rattle.notes.specs.Seen.{segment_seen, edge_seen, range_seen}
 use Rattle.notes.specs.Written.{words_bytes, segment_words, edge_words, range_words}
+use Rattle.notes.specs.Code.{segment_seen, edge_seen, range_seen}
 
 unfoldable pub segment_bytes : declared_segment.NoteSegment → List ℕ
 segment_bytes segment = words_bytes (segment_words (segment_seen segment))

@@ -2,7 +2,8 @@
 ghost use Rattle.std.specs.Prelude.{◌≡◌, ◌≤◌, ◌<◌, ◌+◌, ◌*◌, ◌%◌, ◌^◌, ◌&&◌, ◌==◌, nat_le, nat_lt, true, IfErr, IfOk, IsOk, IsTrue, MatchResult, length};
 ghost use Rattle.elf32_sparc.specs.Header.{word_at};
 ghost use Rattle.notes.specs.Format.{block_count_at, byte_count, counter_width, head_of, is_version, last_tool, most_cells, note_that, has_locator, notes_length, notes_of, notes_offset, notes_version, read_notes, tables_of};
-ghost use Rattle.notes.specs.Seen.{Answers, HasHead, IsFault, WantsMemoryIf, notes_in, notes_seen};
+ghost use Rattle.notes.specs.Code.{Answers, IsFault, WantsMemoryIf, notes_seen};
+ghost use Rattle.notes.specs.Seen.{HasHead, notes_in};
 ghost use Rattle.notes.specs.Heads.{head_seen};
 ghost use Rattle.notes.specs.Parts.{cells_at, head_at, original_at, text_at};
 ghost use Rattle.notes.specs.Rules.{AreNotes};

@@ -2,7 +2,7 @@
 ghost use Rattle.std.specs.Prelude.{◌≡◌, ◌≤◌, ◌<◌, ◌+◌, ◌*◌, ◌^◌, IfErr, MatchResult, length, map, true, false, ◌&&◌, nat_le, nat_lt};
 ghost use Rattle.std.specs.List.{list_any};
 ghost use Rattle.notes.specs.Format.{note_at, follows, cell_of, holds};
-ghost use Rattle.notes.specs.Seen.{Answers, WantsMemoryIf, segment_seen, edge_seen, range_seen};
+ghost use Rattle.notes.specs.Code.{Answers, WantsMemoryIf, segment_seen, edge_seen, range_seen};
 ghost use Rattle.notes.specs.Rules.{is_segment, is_range};
 ghost use Rattle.notes.specs.Parts.{segment_at, block_at, edge_at, range_at, is_open};
 ghost use Rattle.notes.specs.declared.note.NotesFault.TheVariants as faults;

@@ -1,7 +1,7 @@
 //! The tables of notes.
 ghost use Rattle.std.specs.Prelude.{◌≡◌, ◌≤◌, ◌<◌, ◌+◌, ◌*◌, ◌^◌, [], None, map};
 ghost use Rattle.notes.specs.Format.{segments_at, blocks_at, edges_at, ranges_at};
-ghost use Rattle.notes.specs.Seen.{Answers, segment_seen, edge_seen, range_seen};
+ghost use Rattle.notes.specs.Code.{Answers, segment_seen, edge_seen, range_seen};
 
 use crate::cells::Taken;
 use crate::note::{NoteEdge, NoteSegment, NotesFault};

@@ -1,7 +1,7 @@
 //! Writing notes.
 ghost use Rattle.std.specs.Prelude.{◌≡◌, ◌++◌, IfOk, OnOk};
 ghost use Rattle.std.specs.List.{flat_map};
-ghost use Rattle.notes.specs.Seen.{notes_seen};
+ghost use Rattle.notes.specs.Code.{notes_seen};
 ghost use Rattle.notes.specs.Rules.{AreNotes};
 ghost use Rattle.notes.specs.Written.{words_bytes, cell_word, notes_bytes};
 ghost use Rattle.notes.specs.Rows.{segment_bytes, edge_bytes, range_bytes};

@@ -7,7 +7,8 @@ use Rattle.std.proofs.lemmas.List.{get_or-take, get_or_append_left, get_or-appen
 use Rattle.v8_decode.specs.declared.Part.{Part}
 use Rattle.v8_decode.specs.declared.Part.TheVariants as parts
 use Rattle.v8_decode.specs.Parts.{has, is_same}
-use Rattle.scavenge.specs.Picks.{registers, picked, spills, register_count, ArePicked}
+use Rattle.scavenge.specs.Picks.{registers, spills}
+use Rattle.scavenge.specs.Code.{picked, register_count, ArePicked}
 
 -- ---- ascending lists
 abbrev pub Ascends : ℕ → List ℕ → Type 0

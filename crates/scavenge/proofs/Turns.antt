@@ -3,7 +3,8 @@ use Rattle.std.proofs.Common.{◌≡◌, ℕ, ◌<◌, ◌≤◌, List, length, 
 use Rattle.std.proofs.lemmas.Grind.{get_or_default_zero}
 use Rattle.std.proofs.lemmas.List.{map-id}
 use Rattle.v8_decode.specs.declared.Part.{Part}
-use Rattle.scavenge.specs.Picks.{picked, spills, register_count, ArePicked}
+use Rattle.scavenge.specs.Code.{picked, register_count, ArePicked}
+use Rattle.scavenge.specs.Picks.{spills}
 use Rattle.scavenge.proofs.Picks.{are_picked}
 
 -- one of the picked registers, by its number among them

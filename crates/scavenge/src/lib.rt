@@ -3,7 +3,8 @@
 
 ghost use Rattle.std.specs.Prelude.{◌≡◌, ◌≤◌, ◌<◌, ◌&&◌, not, filter, length, take};
 ghost use Rattle.v8_decode.specs.declared.Part.{Part};
-ghost use Rattle.scavenge.specs.Picks.{ArePicked, free_dead, is_free_dead, is_free_live, picked, register_count, spills};
+ghost use Rattle.scavenge.specs.Code.{ArePicked, is_free_live, picked, register_count};
+ghost use Rattle.scavenge.specs.Picks.{free_dead, is_free_dead, spills};
 
 use v8_decode::{Part, Reg, RegSet};
 

@@ -2,7 +2,7 @@
 ghost use Rattle.std.specs.Prelude.{◌≡◌, ℕ, List, ◌++◌, length, slice_index, IfOk, OnOk};
 ghost use Rattle.std.specs.List.{count_by, enumerate_from, flat_map, sum};
 ghost use Rattle.notes.specs.Rules.{AreNotes};
-ghost use Rattle.notes.specs.Seen.{edge_seen, notes_seen};
+ghost use Rattle.notes.specs.Code.{edge_seen, notes_seen};
 ghost use Rattle.show_text.specs.CountLines.{count_line, count_lines, has_cell, kind_of, noted_block_text, noted_node_text, sum_line};
 
 use crate::lines::put_line;

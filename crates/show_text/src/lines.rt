@@ -1,8 +1,8 @@
 //! The lines.
 ghost use Rattle.std.specs.Prelude.{◌≡◌, ◌<◌, ◌++◌, ◌∷◌, length, map, IfOk, OnOk};
 ghost use Rattle.std.specs.List.{All};
-ghost use Rattle.cfg_normal.specs.Graph.{IsEdgeIn};
-ghost use Rattle.cfg_view.specs.View.{view_seen, IsView};
+ghost use Rattle.cfg_normal.specs.Code.{IsEdgeIn};
+ghost use Rattle.cfg_view.specs.Code.{view_seen, IsView};
 ghost use Rattle.show_text.specs.Lines.{block_line, block_lines, edge_line, edge_lines, line, routine_line, routine_lines, show_lines, switch_line, switch_lines, totals_line};
 
 use crate::words::{

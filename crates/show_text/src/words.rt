@@ -1,8 +1,8 @@
 //! The words of lines.
 ghost use Rattle.std.specs.Prelude.{◌≡◌, ◌<◌, ◌≤◌, ◌++◌, ◌∷◌, [], length};
 ghost use Rattle.eel_base.specs.Fields.{hex_of};
-ghost use Rattle.cfg_normal.specs.Graph.{IsNodeIn, IsSlotIn};
-ghost use Rattle.cfg_view.specs.View.{IsView};
+ghost use Rattle.cfg_normal.specs.Code.{IsNodeIn, IsSlotIn};
+ghost use Rattle.cfg_view.specs.Code.{IsView};
 ghost use Rattle.show_text.specs.Lines.{address_text, block_text, kind_text, name_text, node_text, printed, slot_text};
 
 use cfg_blocks::EdgeKind;

@@ -22,7 +22,8 @@ use Rattle.v8_step.specs.Transfers.{next, branched, branch_step}
 use Rattle.v8_step.specs.Step.{act, step_of, alu_step}
 use Rattle.v8_step.proofs.Quiet.{IsPlain}
 use Rattle.code_runs.specs.Points.{moved}
-use Rattle.code_runs.specs.StoredWords.{memory_word, store_word}
+use Rattle.code_runs.specs.StoredWords.{memory_word}
+use Rattle.code_runs.specs.Code.{store_word, any_of_word, word_span}
 use Rattle.code_runs.specs.Straight.{Says}
 use Rattle.code_runs.specs.TwoRegisters.{IsBetween, Gives}
 use Rattle.code_runs.proofs.StoredWords.{code-store_word, word_stored, other_word_stored, still_stored, can_load, memory_word-range}
@@ -30,7 +31,7 @@ use Rattle.code_runs.proofs.Acts.{says_step, says_puts, ld_acts, st_acts}
 use Rattle.code_runs.proofs.Leads.{leads_none, leads_one, leads_then, silent_none, silent_one, silent_then, split_below}
 use Rattle.code_runs.proofs.TwoRegisters.{alu_acts, places_differ, set_stays, stores_none, stores_more}
 use Rattle.code_runs.proofs.Hops.{equal_or_not}
-use Rattle.code_runs.specs.Counted.{any_of_word, stores_at, one_if, stores_in_step, count_stores, word_span}
+use Rattle.code_runs.specs.Counted.{stores_at, one_if, stores_in_step, count_stores}
 use Rattle.code_runs.proofs.Counted.{says_stores, count_add}
 use Rattle.snippet_code.proofs.Working.{HasBlock, IsAlike, Reaches, Works, put}
 

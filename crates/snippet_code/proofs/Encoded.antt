@@ -10,14 +10,16 @@ use Rattle.v8_decode.specs.declared.AluOp.{AluOp}
 use Rattle.v8_decode.specs.declared.AluOp.TheVariants as ops
 use Rattle.v8_decode.specs.declared.Instr.{Instr}
 use Rattle.v8_decode.specs.Forms.{has_form}
-use Rattle.v8_encode.specs.Encoding.{has_word, word_of, fits_signed}
+use Rattle.v8_encode.specs.Code.{has_word, fits_signed}
+use Rattle.v8_encode.specs.Encoding.{word_of}
 use Rattle.v8_encode.proofs.Decoded.{decode_of-word_of}
 use Rattle.snippets.specs.declared.snippet.Op.{Op}
 use Rattle.snippets.specs.declared.snippet.Op.TheVariants.{Add, Put, Keep, Top, Count, Log}
 use Rattle.snippets.specs.Grammar.{IsOp}
 use Rattle.snippets.specs.Ops.{cells_end}
 use Rattle.snippet_code.specs.Cells.{cell_at}
-use Rattle.snippet_code.specs.Words.{high, low, load_low, store_low, load_next, store_next, add_one, of_two, with_number, add_low, compare, next_if_greater, is_small, small, add_words, put_words, top_words, count_words, log_words, op_words, op_registers, registers_for, all_words, numbered, save, restore}
+use Rattle.snippet_code.specs.Words.{high, low, load_low, store_low, load_next, store_next, add_one, of_two, with_number, add_low, compare, next_if_greater, small, add_words, put_words, top_words, count_words, log_words, op_words, all_words, numbered, save, restore}
+use Rattle.snippet_code.specs.Spills.{is_small, op_registers, registers_for}
 use Rattle.snippet_code.specs.Laws.{EndsLow, EndLow}
 
 infixr 20 ◌&◌

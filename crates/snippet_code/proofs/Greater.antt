@@ -12,7 +12,7 @@ use Rattle.v8_alu.specs.Numbers.{wrapped}
 use Rattle.v8_memory.specs.Regions.{code_of}
 use Rattle.v8_step.specs.State.{State, register_of}
 use Rattle.v8_step.proofs.ValidStates.{register_of-range}
-use Rattle.code_runs.specs.Counted.{any_of_word}
+use Rattle.code_runs.specs.Code.{any_of_word}
 use Rattle.code_runs.specs.Straight.{StandIn}
 use Rattle.code_runs.proofs.Hops.{equal_or_not}
 use Rattle.snippets.specs.declared.snippet.Op.TheVariants.{Top}

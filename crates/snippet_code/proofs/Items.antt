@@ -11,7 +11,7 @@ use Rattle.v8_step.specs.State.{State, register_of}
 use Rattle.v8_step.specs.Items.{StateItem, Register, Codes as CodesItem, YRegister, IsAmong, IsSameAt, item_of}
 use Rattle.code_runs.proofs.Hops.{equal_or_not, in_place}
 use Rattle.code_runs.proofs.Leads.{split_below}
-use Rattle.scavenge.specs.Picks.{ArePicked}
+use Rattle.scavenge.specs.Code.{ArePicked}
 use Rattle.snippet_code.proofs.Working.{HasBlock, IsAlike}
 
 among : (w : ℕ) (ps : List Part) (q : ℕ) → has ps (parts.Reg q) ≡ true → IsAmong (Register (place_of w q)) w ps

@@ -5,10 +5,13 @@ use Rattle.v8_decode.specs.declared.Part.{Part}
 use Rattle.v8_decode.specs.declared.Part.TheVariants.{Icc}
 use Rattle.v8_decode.specs.Parts.{has}
 use Rattle.v8_decode.specs.declared.Instr.{Instr}
-use Rattle.scavenge.specs.Picks.{picked, spills, spilled, free_dead, free_live}
+use Rattle.scavenge.specs.Code.{picked, spilled, free_live}
+use Rattle.scavenge.specs.Picks.{spills, free_dead}
 use Rattle.snippets.specs.declared.snippet.Op.{Op}
-use Rattle.snippet_code.specs.Words.{op_words, op_cost, op_registers, all_words, cost_of_all, cost_of, registers_for, numbered, save, restore}
+use Rattle.snippet_code.specs.Words.{op_words, op_cost, all_words, cost_of_all, cost_of, numbered, save, restore}
+use Rattle.snippet_code.specs.Spills.{op_registers, registers_for}
 use Rattle.snippet_code.specs.Laws.{CostsHold}
+pub use Rattle.snippet_code.proofs.Examples.{one_more}
 
 op_length : (base : ℕ) (d : Bool) (r : ℕ → ℕ) (op : Op) → length (op_words base d r op) ≤ op_cost d op
 op_length base d r op = grind arith

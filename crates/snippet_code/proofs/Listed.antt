@@ -11,7 +11,8 @@ use Rattle.snippets.specs.declared.snippet.Op.{Op}
 use Rattle.snippets.specs.declared.snippet.Op.TheVariants.{Add, Put, Keep, Top, Count, Log}
 use Rattle.snippets.specs.Cells.{changed, with_wide, updated_by, update}
 use Rattle.snippets.specs.Ops.{cell_of, cells_end}
-use Rattle.snippet_code.specs.Cells.{cell_at, IsCellIn, IsCellOf}
+use Rattle.snippet_code.specs.Cells.{cell_at}
+use Rattle.snippet_code.specs.Code.{IsCellIn, IsCellOf}
 use Rattle.snippet_code.proofs.Working.{put, update_one, update_all}
 use Rattle.snippet_code.proofs.Blocks.{put_same, put_other}
 

@@ -9,7 +9,8 @@ use Rattle.v8_decode.specs.declared.Part.{Part}
 use Rattle.v8_decode.specs.declared.Part.TheVariants.{Reg, Icc, Y}
 use Rattle.v8_decode.specs.Parts.{has, is_member, registers_from, every_part, members, set_of}
 use Rattle.v8_decode.proofs.Members.{has-members, is_same-self}
-use Rattle.scavenge.specs.Picks.{registers, is_register, register_count}
+use Rattle.scavenge.specs.Picks.{registers}
+use Rattle.scavenge.specs.Code.{is_register, register_count}
 use Rattle.scavenge.proofs.Picks.{all_off, joined, registers_ascend, registers_count}
 use Rattle.snippets.specs.declared.snippet.Op.{Op}
 use Rattle.snippets.specs.declared.snippet.Op.TheVariants.{Keep, Top}

@@ -21,9 +21,11 @@ use Rattle.snippets.specs.declared.snippet.Op.{Op}
 use Rattle.snippets.specs.declared.snippet.Op.TheVariants.{Add, Put, Keep}
 use Rattle.code_runs.specs.StoredWords.{memory_word}
 use Rattle.snippet_code.specs.Cells.{cell_at}
-use Rattle.snippet_code.specs.Words.{op_words, is_small, small, low, high, load_low, store_low, of_two, with_number}
+use Rattle.snippet_code.specs.Words.{op_words, small, low, high, load_low, store_low, of_two, with_number}
+use Rattle.snippet_code.specs.Spills.{is_small}
 use Rattle.snippet_code.proofs.Working.{HasBlock, Works, put, update_one, IsFit, Does}
-use Rattle.code_runs.specs.Counted.{any_of_word, one_if, word_span}
+use Rattle.code_runs.specs.Code.{any_of_word, word_span}
+use Rattle.code_runs.specs.Counted.{one_if}
 use Rattle.snippet_code.proofs.Blocks.{unpicked_is, sethi, alu, ld, st}
 
 -- ---- words in two parts

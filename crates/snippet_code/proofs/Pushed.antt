@@ -8,7 +8,8 @@ use Rattle.v8_decode.specs.declared.Instr.{Instr}
 use Rattle.v8_encode.specs.Encoding.{word_of}
 use Rattle.snippets.specs.declared.snippet.Op.{Op}
 use Rattle.snippets.specs.Grammar.{IsOp}
-use Rattle.snippet_code.specs.Words.{op_registers, registers_for, op_words, all_words}
+use Rattle.snippet_code.specs.Spills.{op_registers, registers_for}
+use Rattle.snippet_code.specs.Words.{op_words, all_words}
 use Rattle.snippet_code.specs.Laws.{EndsLow, EndLow}
 
 -- words that were added after others

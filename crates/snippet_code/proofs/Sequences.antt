@@ -13,11 +13,12 @@ use Rattle.code_runs.specs.Straight.{Says, StandIn}
 use Rattle.code_runs.proofs.Hops.{equal_or_not}
 use Rattle.snippets.specs.declared.snippet.Op.{Op}
 use Rattle.snippets.specs.declared.snippet.Op.TheVariants.{Add, Put, Keep, Top, Count, Log}
-use Rattle.snippet_code.specs.Cells.{cell_at, kept_word}
-use Rattle.code_runs.specs.Page.{of_page}
+use Rattle.snippet_code.specs.Cells.{cell_at}
+use Rattle.snippet_code.specs.Code.{kept_word}
+use Rattle.code_runs.specs.Code.{of_page, any_of_word, word_span}
 use Rattle.snippet_code.specs.Words.{op_words, all_words, numbered, save, restore, low, high}
 use Rattle.snippet_code.proofs.Working.{HasBlock, Works, put, update_all, Does, AreFit, AreFrom, HavePage, saved, AreSaved}
-use Rattle.code_runs.specs.Counted.{any_of_word, one_if, word_span}
+use Rattle.code_runs.specs.Counted.{one_if}
 use Rattle.snippet_code.proofs.OneOperation.{as_many, Doing, add_works, put_works, keep_works}
 use Rattle.snippet_code.proofs.Greater.{top_works}
 use Rattle.snippet_code.proofs.Wide.{count_works, log_works}

@@ -5,7 +5,8 @@ use Rattle.std.specs.Option.{option_map}
 use Rattle.v8_memory.specs.Regions.{Memory, Region, covers, region_at, written}
 use Rattle.v8_memory.proofs.Same.{covers-written}
 use Rattle.v8_step.specs.Valid.{IsValidMemory}
-use Rattle.code_runs.specs.StoredWords.{word_in, memory_word, store_word, store_all, AllAt, Stores}
+use Rattle.code_runs.specs.StoredWords.{word_in, memory_word}
+use Rattle.code_runs.specs.Code.{store_word, store_all, AllAt, Stores}
 use Rattle.code_runs.proofs.StoredWords.{covers_first, part, placed_in, shape, whole_of}
 
 -- two words that don't meet

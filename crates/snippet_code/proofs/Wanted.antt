@@ -2,7 +2,7 @@
 use Rattle.std.proofs.Common.{◌≡◌, ℕ, ◌+◌, ◌<◌, max, Bool, List, [], ◌∷◌, ◌++◌, length, take, get_or, arith}
 use Rattle.std.proofs.lemmas.List.{take_more}
 use Rattle.snippets.specs.declared.snippet.Op.{Op}
-use Rattle.snippet_code.specs.Words.{op_registers, registers_for}
+use Rattle.snippet_code.specs.Spills.{op_registers, registers_for}
 
 for-append : (d : Bool) (ops : List Op) (op : Op)
     → registers_for d (ops ++ op ∷ []) ≡ max (registers_for d ops) (op_registers d op)

@@ -14,20 +14,23 @@ use Rattle.v8_memory.specs.Regions.{code_of}
 use Rattle.v8_step.specs.declared.Slot.TheVariants.{NoSlot}
 use Rattle.v8_step.specs.State.{State, register_of}
 use Rattle.v8_step.specs.Items.{StateItem, Register, Codes as CodesItem, YRegister, IsAmong, IsSameAt}
-use Rattle.code_runs.specs.Counted.{any_of_word}
+use Rattle.code_runs.specs.Code.{any_of_word, CanStore}
 use Rattle.code_runs.specs.Hops.{hopped}
-use Rattle.code_runs.specs.StoredWords.{memory_word, CanStore}
+use Rattle.code_runs.specs.StoredWords.{memory_word}
 use Rattle.code_runs.specs.Straight.{StandIn}
 use Rattle.code_runs.proofs.Leads.{split_below}
 use Rattle.code_runs.proofs.Straight.{words_say}
-use Rattle.scavenge.specs.Picks.{ArePicked, picked, spills}
+use Rattle.scavenge.specs.Code.{ArePicked, picked}
+use Rattle.scavenge.specs.Picks.{spills}
 use Rattle.scavenge.proofs.Picks.{are_picked}
 use Rattle.snippets.specs.declared.snippet.Op.{Op}
 use Rattle.snippets.specs.declared.snippet.Op.TheVariants.{Keep, Top}
 use Rattle.snippets.specs.Cells.{update, named_by}
 use Rattle.snippets.specs.Grammar.{IsOp}
-use Rattle.snippet_code.specs.Cells.{cell_at, words_at, IsCellOf, kept_word}
-use Rattle.snippet_code.specs.Words.{registers_for, all_words, numbered, save, restore}
+use Rattle.snippet_code.specs.Cells.{cell_at, words_at}
+use Rattle.snippet_code.specs.Code.{IsCellOf, kept_word}
+use Rattle.snippet_code.specs.Spills.{registers_for}
+use Rattle.snippet_code.specs.Words.{all_words, numbered, save, restore}
 use Rattle.snippet_code.specs.Runs.{MayStore, IsAboutToRun, RunsPast}
 use Rattle.snippet_code.specs.Laws.{EndsLow, EndLow, SnippetsRun}
 use Rattle.snippet_code.proofs.Working.{HasBlock, Works, Does, put, update_all, IsRead, AreFit, AreFrom, HavePage, saved, AreSaved}

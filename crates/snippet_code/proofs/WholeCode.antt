@@ -8,12 +8,14 @@ use Rattle.v8_decode.specs.declared.Part.{Part}
 use Rattle.v8_decode.specs.declared.Part.TheVariants.{Icc}
 use Rattle.v8_decode.specs.Parts.{has}
 use Rattle.v8_encode.specs.Encoding.{word_of}
-use Rattle.scavenge.specs.Picks.{picked, register_count, spills, spilled}
+use Rattle.scavenge.specs.Code.{picked, register_count, spilled}
+use Rattle.scavenge.specs.Picks.{spills}
 use Rattle.scavenge.proofs.Picks.{are_picked}
 use Rattle.snippets.specs.declared.snippet.Op.{Op}
 use Rattle.snippets.specs.Cells.{named_by}
 use Rattle.snippets.specs.Grammar.{IsOp}
-use Rattle.snippet_code.specs.Words.{registers_for, all_words, numbered, save, restore, snippet_words, code_of_snippet, cost_of, spills_of}
+use Rattle.snippet_code.specs.Spills.{registers_for, spills_of}
+use Rattle.snippet_code.specs.Words.{all_words, numbered, save, restore, snippet_words, code_of_snippet, cost_of}
 use Rattle.snippet_code.specs.Runs.{DoesJust}
 use Rattle.snippet_code.specs.Laws.{CanExpand, EndLow, SnippetCodeRuns}
 use Rattle.snippet_code.proofs.Encoded.{decoded, have-append, all_have, are_below, saves_have, restores_have}

@@ -12,7 +12,7 @@ use Rattle.v8_alu.specs.Alu.{alu_of, codes_of, sum_overflows}
 use Rattle.v8_alu.specs.Numbers.{complement, one_if, wrapped}
 use Rattle.v8_memory.specs.Regions.{code_of}
 use Rattle.v8_step.specs.State.{State, register_of}
-use Rattle.code_runs.specs.Counted.{any_of_word}
+use Rattle.code_runs.specs.Code.{any_of_word}
 use Rattle.code_runs.specs.Straight.{StandIn}
 use Rattle.snippets.specs.declared.snippet.Op.TheVariants.{Count, Log}
 use Rattle.snippet_code.specs.Cells.{cell_at}

@@ -10,16 +10,18 @@ use Rattle.v8_step.specs.declared.Slot.TheVariants.{NoSlot}
 use Rattle.v8_step.specs.State.{State}
 use Rattle.v8_step.specs.Valid.{IsValid}
 use Rattle.code_runs.specs.Leads.{Leads, IsSilent}
-use Rattle.code_runs.specs.StoredWords.{memory_word, Stores, CanStore}
+use Rattle.code_runs.specs.StoredWords.{memory_word}
+use Rattle.code_runs.specs.Code.{Stores, CanStore, any_of_word}
 use Rattle.code_runs.specs.Straight.{IsReady}
 use Rattle.code_runs.specs.TwoRegisters.{IsBetween}
 use Rattle.snippets.specs.declared.snippet.Op.{Op}
 use Rattle.snippets.specs.declared.snippet.Op.TheVariants.{Add, Put, Keep, Top, Count, Log}
 use Rattle.snippets.specs.Grammar.{IsOp}
 use Rattle.snippets.specs.Ops.{cells_end}
-use Rattle.snippet_code.specs.Cells.{IsCellIn, cell_at, kept_word}
-use Rattle.code_runs.specs.Counted.{any_of_word, count_stores}
-use Rattle.snippet_code.specs.Words.{op_registers}
+use Rattle.snippet_code.specs.Code.{IsCellIn, kept_word}
+use Rattle.snippet_code.specs.Cells.{cell_at}
+use Rattle.code_runs.specs.Counted.{count_stores}
+use Rattle.snippet_code.specs.Spills.{op_registers}
 
 -- ---- blocks
 

@@ -9,8 +9,9 @@ use Rattle.snippets.specs.Grammar.{IsOp}
 use Rattle.snippets.specs.declared.snippet.Op.TheVariants.{Log}
 use Rattle.snippets.specs.Ops.{cells_end}
 use Rattle.snippet_code.specs.Cells.{cell_at}
-use Rattle.snippet_code.specs.Words.{snippet_words, code_of_snippet, cost_of, spills_of}
+use Rattle.snippet_code.specs.Words.{snippet_words, code_of_snippet, cost_of}
 use Rattle.snippet_code.specs.Runs.{DoesJust}
+use Rattle.snippet_code.specs.Spills.{spills_of}
 
 -- a ring has 1 to 16 bits
 abbrev pub HasBits : Op → Type 0

@@ -8,13 +8,14 @@ use Rattle.v8_step.specs.Valid.{IsValid}
 use Rattle.v8_step.specs.Items.{StateItem, IsAmong, IsSameAt}
 use Rattle.code_runs.specs.Hops.{hopped}
 use Rattle.code_runs.specs.Leads.{Leads, IsSilent}
-use Rattle.code_runs.specs.StoredWords.{Stores, CanStore}
 use Rattle.code_runs.specs.Straight.{IsReady, HasWords}
 use Rattle.code_runs.specs.TwoRegisters.{IsBetween}
 use Rattle.snippets.specs.declared.snippet.Op.{Op}
 use Rattle.snippets.specs.Cells.{update}
-pub use Rattle.snippet_code.specs.Cells.{cell_at, words_at, IsCellOf, kept_word}
-use Rattle.code_runs.specs.Counted.{any_of_word, count_stores}
+use Rattle.code_runs.specs.Counted.{count_stores}
+use Rattle.code_runs.specs.Code.{CanStore, Stores, any_of_word}
+use Rattle.snippet_code.specs.Cells.{cell_at, words_at}
+use Rattle.snippet_code.specs.Code.{IsCellOf, kept_word}
 
 -- where a snippet's words may store: in its cells, and in those words of the page
 abbrev pub MayStore : ℕ → List Op → ℕ → Type 0

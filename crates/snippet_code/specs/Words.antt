@@ -1,5 +1,5 @@
 -- The instructions that do a snippet. Sections are those of appendix B of The SPARC Architecture Manual, Version 8.
-use Rattle.std.specs.Prelude.{◌≡◌, ℕ, suc, ◌+◌, ◌-◌, ◌*◌, ◌/◌, ◌%◌, ◌^◌, max, Bool, true, false, ◌||◌, ◌==◌, nat_lt, nat_le, if◌then◌else◌, List, [], ◌∷◌, ◌++◌, length, map, slice_index, ℤ, pos, negsuc, refl}
+use Rattle.std.specs.Prelude.{ℕ, suc, ◌+◌, ◌-◌, ◌*◌, ◌/◌, ◌%◌, ◌^◌, Bool, true, false, ◌==◌, nat_lt, if◌then◌else◌, List, [], ◌∷◌, ◌++◌, map, slice_index, ℤ, pos, negsuc}
 use Rattle.std.specs.List.{flat_map}
 use Rattle.v8_decode.specs.declared.AluOp.TheVariants as ops
 use Rattle.v8_decode.specs.declared.Op2.TheVariants as o
@@ -8,14 +8,15 @@ use Rattle.v8_decode.specs.declared.Instr.TheVariants as i
 use Rattle.v8_decode.specs.declared.LoadKind.TheVariants as loads
 use Rattle.v8_decode.specs.declared.StoreKind.TheVariants as stores
 use Rattle.v8_decode.specs.declared.Part.{Part}
-use Rattle.v8_decode.specs.declared.Part.TheVariants.{Reg, Icc}
+use Rattle.v8_decode.specs.declared.Part.TheVariants.{Icc}
 use Rattle.v8_decode.specs.Parts.{has}
 use Rattle.v8_encode.specs.Encoding.{word_of}
-use Rattle.code_runs.specs.Page.{of_page}
-use Rattle.scavenge.specs.Picks.{registers, picked, spills, spilled}
 use Rattle.snippets.specs.declared.snippet.Op.{Op}
 use Rattle.snippets.specs.declared.snippet.Op.TheVariants.{Add, Put, Keep, Top, Count, Log}
+use Rattle.code_runs.specs.Code.{of_page}
+use Rattle.scavenge.specs.Code.{picked, spilled}
 use Rattle.snippet_code.specs.Cells.{cell_at}
+use Rattle.snippet_code.specs.Spills.{is_small, spills_of, registers_for}
 
 -- ---- one operation, which works in registers r 0, r 1, ..
 
@@ -63,10 +64,6 @@ compare rs1 rs2 = i.Alu ops.SUB true 0 rs1 (o.Reg rs2)
 
 abbrev pub next_if_greater : Instr
 next_if_greater = i.Branch 12 true (pos 2)
-
--- amounts that an immediate of 13 bits holds, as they are or as what they are less than 2^32
-abbrev pub is_small : ℕ → Bool
-is_small amount = nat_lt amount 4096 || nat_le (2 ^ 32 - 4096) amount
 
 abbrev pub small : ℕ → ℤ
 small amount = if nat_lt amount 4096 then pos amount else negsuc (2 ^ 32 - 1 - amount)
@@ -144,25 +141,9 @@ op_cost codes_dead (Top cell reg) = if codes_dead then 5 else 12
 op_cost codes_dead (Count cell) = if codes_dead then 7 else 9
 op_cost codes_dead (Log cell bits value) = 10
 
-abbrev pub op_registers : Bool → Op → ℕ
-op_registers codes_dead (Add cell amount) = if is_small amount then 2 else 3
-op_registers codes_dead (Put cell value) = if value == 0 then 1 else 2
-op_registers codes_dead (Keep cell reg) = 1
-op_registers codes_dead (Top cell reg) = if codes_dead then 2 else 5
-op_registers codes_dead (Count cell) = if codes_dead then 2 else 3
-op_registers codes_dead (Log cell bits value) = 3
-
-abbrev pub registers_for : Bool → List Op → ℕ
-registers_for codes_dead [] = 0
-registers_for codes_dead (op ∷ rest) = max (op_registers codes_dead op) (registers_for codes_dead rest)
-
 abbrev pub cost_of_all : Bool → List Op → ℕ
 cost_of_all codes_dead [] = 0
 cost_of_all codes_dead (op ∷ rest) = op_cost codes_dead op + cost_of_all codes_dead rest
-
--- how many registers a snippet must spill, where some are dead and some must be avoided
-abbrev pub spills_of : List Part → List Part → List Op → ℕ
-spills_of dead avoid ops = spills dead avoid (registers_for (has dead Icc) ops)
 
 -- and its cost
 abbrev pub cost_of : List Part → List Part → List Op → ℕ
@@ -191,18 +172,3 @@ snippet_words base dead avoid ops =
 -- as they stand in memory
 abbrev pub code_of_snippet : ℕ → List Part → List Part → List Op → List ℕ
 code_of_snippet base dead avoid ops = map word_of (snippet_words base dead avoid ops)
-
--- They compute.
-one_more : snippet_words 0x20000000 (Reg 1 ∷ Reg 2 ∷ []) [] (Add 0 1 ∷ [])
-    ≡ i.Sethi 1 0x80000 ∷ i.Load loads.LD 2 1 (o.Imm (pos 0)) ∷ i.Alu ops.ADD false 2 2 (o.Imm (pos 1))
-    ∷ i.Store stores.ST 2 1 (o.Imm (pos 0)) ∷ []
-unfolding registers
-one_more = refl
-
-top_with_none_dead : length (snippet_words 0x20000000 [] (Reg 2 ∷ []) (Top 1 2 ∷ [])) ≡ 21
-unfolding registers
-top_with_none_dead = refl
-
-top_with_codes_dead : length (snippet_words 0x20000000 (Icc ∷ Reg 1 ∷ []) (Reg 2 ∷ []) (Top 1 2 ∷ [])) ≡ 7
-unfolding registers
-top_with_codes_dead = refl

@@ -4,12 +4,13 @@ ghost use Rattle.std.specs.Prelude.{◌≡◌, ◌++◌, ◌%◌, ◌-◌, ◌�
 ghost use Rattle.v8_decode.specs.Words.{decode_of};
 ghost use Rattle.v8_encode.specs.Encoding.{word_of};
 ghost use Rattle.std.specs.List.{All};
-ghost use Rattle.scavenge.specs.Picks.{register_count};
+ghost use Rattle.scavenge.specs.Code.{register_count};
 ghost use Rattle.snippets.specs.Cells.{named_by};
 ghost use Rattle.snippets.specs.Grammar.{IsOp};
 ghost use Rattle.snippet_code.specs.Laws.{EndLow};
 ghost use Rattle.snippet_code.specs.Runs.{DoesJust};
 ghost use Rattle.snippet_code.specs.Words as code;
+ghost use Rattle.snippet_code.specs.Spills as spilling;
 
 use crate::operations::{push_ops, registers_for};
 use crate::single::{restore, save};
@@ -36,7 +37,7 @@ pub fn expand(
     ensures few { length s.now ≤ 8 }
     ensures code { IfOk result (λ words. words.items ≡ code.code_of_snippet cells.0 dead avoid s.now) }
     ensures words { IfOk result (λ words. map decode_of words.items ≡ code.snippet_words cells.0 dead avoid s.now) }
-    ensures just { IfOk result (λ words. DoesJust words.items cells.0 dead (code.spills_of dead avoid s.now) s.now) }
+    ensures just { IfOk result (λ words. DoesJust words.items cells.0 dead (spilling.spills_of dead avoid s.now) s.now) }
     ensures cost { IfOk result (λ words. length words.items ≤ code.cost_of dead avoid s.now) }
     ensures ops { OnOk result (All IsOp s.now) }
 {

@@ -8,6 +8,7 @@ ghost use Rattle.snippets.specs.Grammar.{IsOp};
 ghost use Rattle.snippet_code.specs.Cells.{cell_at};
 ghost use Rattle.snippet_code.specs.Laws.{EndsLow, EndLow};
 ghost use Rattle.snippet_code.specs.Words as code;
+ghost use Rattle.snippet_code.specs.Spills as spilling;
 
 use crate::single::{
     add_carry, add_low, add_one, compare, high, load_low, load_next, next_if_greater, of_two,
@@ -20,7 +21,7 @@ use v8_decode::{AluOp, Reg};
 
 /// In how many registers an operation works.
 pub fn op_registers(codes_dead: bool, op: &Op) -> u8
-    ensures value { result ≡ code.op_registers codes_dead op.now }
+    ensures value { result ≡ spilling.op_registers codes_dead op.now }
     ensures few { result ≤ 5 }
 {
     match op {
@@ -35,7 +36,7 @@ pub fn op_registers(codes_dead: bool, op: &Op) -> u8
 
 /// In how many registers the operations work.
 pub fn registers_for(codes_dead: bool, ops: &[Op]) -> u8
-    ensures value { result ≡ code.registers_for codes_dead ops.now }
+    ensures value { result ≡ spilling.registers_for codes_dead ops.now }
     ensures few { result ≤ 5 }
 {
     let mut most = 0;
@@ -47,7 +48,7 @@ pub fn registers_for(codes_dead: bool, ops: &[Op]) -> u8
 
 /// The amount as an immediate, where it fits.
 fn small(amount: u32) -> Option<i32>
-    ensures { result ≡ (if code.is_small amount then Some (code.small amount) else None) }
+    ensures { result ≡ (if spilling.is_small amount then Some (code.small amount) else None) }
 {
     if amount < 4096 {
         Some(amount as i32)
@@ -60,7 +61,7 @@ fn small(amount: u32) -> Option<i32>
 
 // To the cell at an address, an amount is added.
 fn add(words: &mut Vec<u32>, address: u32, regs: &[Reg], amount: u32) -> Result<(), AllocError>
-    requires room { (if code.is_small amount then 2 else 3) ≤ length regs.now }
+    requires room { (if spilling.is_small amount then 2 else 3) ≤ length regs.now }
     ensures { OnOk result (words.new.items ≡ words.old.items
         ++ map word_of (code.add_words address (slice_index regs.now) amount)) }
 {
@@ -276,7 +277,7 @@ fn push_op(
     regs: &[Reg],
     op: &Op,
 ) -> Result<(), AllocError>
-    requires room { code.op_registers codes_dead op.now ≤ length regs.now }
+    requires room { spilling.op_registers codes_dead op.now ≤ length regs.now }
     requires low { EndsLow cells.0 op.now }
     ensures code { OnOk result (words.new.items ≡ words.old.items
         ++ map word_of (code.op_words cells.0 codes_dead (slice_index regs.now) op.now)) }
@@ -312,7 +313,7 @@ pub fn push_ops(
     regs: &[Reg],
     ops: &[Op],
 ) -> Result<(), AllocError>
-    requires room { code.registers_for codes_dead ops.now ≤ length regs.now }
+    requires room { spilling.registers_for codes_dead ops.now ≤ length regs.now }
     requires low { EndLow cells.0 ops.now }
     ensures code { OnOk result (words.new.items ≡ words.old.items
         ++ map word_of (code.all_words cells.0 codes_dead (slice_index regs.now) ops.now)) }

@@ -5,15 +5,16 @@ ghost use Rattle.v8_decode.specs.declared.Op2.TheVariants as o;
 ghost use Rattle.v8_decode.specs.declared.Instr.TheVariants as i;
 ghost use Rattle.v8_decode.specs.declared.AluOp.TheVariants as ops;
 ghost use Rattle.v8_decode.specs.Forms.{has_form};
-ghost use Rattle.v8_encode.specs.Encoding.{fits_signed, has_word, op2_fits, word_of as word_in};
-ghost use Rattle.code_runs.specs.Page.{of_page};
+ghost use Rattle.v8_encode.specs.Code.{fits_signed, has_word, op2_fits};
+ghost use Rattle.v8_encode.specs.Encoding.{word_of as word_in};
+ghost use Rattle.code_runs.specs.Code.{of_page};
 ghost use Rattle.snippet_code.specs.Words as words;
 
 use v8_decode::{AluOp, Cond, Instr, LoadKind, Op2, Reg, StoreKind};
 use v8_encode::encode;
 
 // The word of an instruction that has one.
-#[tactic(auto, unfolding(v8_encode::specs::Encoding::encode_of))]
+#[tactic(auto, unfolding(v8_encode::specs::Code::encode_of))]
 fn word_of(instr: Instr) -> u32
     requires { IsTrue (has_word instr) }
     ensures { result ≡ word_in instr }

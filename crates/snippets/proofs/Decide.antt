@@ -10,6 +10,7 @@ use Rattle.snippets.specs.declared.snippet.Op.TheVariants.{Add, Put, Keep, Top, 
 use Rattle.snippets.specs.Cells.{changed, read_by, update, updated_by}
 use Rattle.snippets.specs.Grammar.{IsOp}
 use Rattle.snippets.specs.Laws.{NamedRegistersDecide}
+pub use Rattle.snippets.proofs.Examples.{carries}
 
 module _ (f h : ℕ → ℕ) (same_zero : f 0 ≡ h 0) where
   abbrev AreSameOn : List Op → Type 0

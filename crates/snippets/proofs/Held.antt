@@ -11,8 +11,10 @@ use Rattle.snippets.specs.declared.snippet.Op.{Op}
 use Rattle.snippets.specs.declared.script.Script.{Script}
 use Rattle.snippets.specs.declared.script.ScriptFault.{ScriptFault}
 use Rattle.snippets.specs.declared.script.ScriptFault.TheVariants as faults
-use Rattle.snippets.specs.Grammar.{Said, Nothing, Does, Wrong}
-use Rattle.snippets.specs.Scripts.{Answers, IsFault, IsFirstFault, IsGood, IsScript, cell_end, edge_end, end_of, fault_of, on_edge, ops_on, snips_of}
+use Rattle.snippets.specs.declared.line.Said.{Said}
+use Rattle.snippets.specs.declared.line.Said.TheVariants.{Nothing, Does, Wrong}
+use Rattle.snippets.specs.Code.{Answers, IsFault, IsScript}
+use Rattle.snippets.specs.Scripts.{IsFirstFault, IsGood, cell_end, edge_end, end_of, fault_of, on_edge, ops_on, snips_of}
 use Rattle.snippets.specs.Parts.{IsCause, cells_after, fault_in, ops_at, padded, said_of, snips_after, with_op}
 
 pub record Held (edges : ℕ) (before : List Said) (snips : List (List Op)) (cells : ℕ) : Type 0 where

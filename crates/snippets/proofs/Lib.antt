@@ -4,3 +4,5 @@ pub mod Held
 pub mod Within
 pub mod Names
 pub mod Decide
+pub mod Examples
+pub mod Filled

@@ -3,8 +3,10 @@ use Rattle.std.proofs.Common.{◌≡◌, ℕ, Bool, true, false, ◌==◌, List,
 use Rattle.std.proofs.lemmas.Bool.{eqb-true, eq-eqb, ne_eqb}
 use Rattle.snippets.specs.declared.snippet.Op.{Op}
 use Rattle.snippets.specs.declared.snippet.Op.TheVariants.{Add, Put, Keep, Top, Count, Log}
-use Rattle.snippets.specs.Ops.{HasRing}
-use Rattle.snippets.specs.Grammar.{AllSay, IsLine, IsSilent, IsSpelled, Says, Said, Nothing, Does, Wrong}
+use Rattle.snippets.specs.Private.{HasRing}
+use Rattle.snippets.specs.Grammar.{AllSay, IsLine, IsSilent, IsSpelled, Says}
+use Rattle.snippets.specs.declared.line.Said.{Said}
+use Rattle.snippets.specs.declared.line.Said.TheVariants.{Nothing, Does, Wrong}
 use Rattle.snippets.specs.Parts.{operation_of, said_by, said_of}
 use Rattle.snippets.proofs.Operations.{operation_back, operation_read}
 

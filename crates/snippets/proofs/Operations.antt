@@ -6,7 +6,8 @@ use Rattle.std.proofs.lemmas.Slice.Eq.{bytes_eq-Decides}
 use Rattle.snippets.specs.declared.snippet.Op.{Op}
 use Rattle.snippets.specs.declared.snippet.Op.TheVariants.{Add, Put, Keep, Top, Count, Log}
 use Rattle.snippets.specs.Ops.{cell_of}
-use Rattle.snippets.specs.Grammar.{IsLine, IsSpelled, line_text, register_text}
+use Rattle.snippets.specs.Grammar.{IsLine, IsSpelled, line_text}
+use Rattle.line_words.specs.Registers.{register_text}
 use Rattle.snippets.specs.Parts.{after_edge, bare_of, full_of, number_of, op_of, operation_of, register_of, split_at}
 use Rattle.line_words.proofs.Steps.{chosen, mapped, step, tested}
 use Rattle.line_words.proofs.Numbers.{number_back, number_read}

@@ -10,7 +10,9 @@ use Rattle.snippets.specs.declared.snippet.Op.{Op}
 use Rattle.snippets.specs.declared.snippet.Op.TheVariants.{Add, Put, Keep, Top, Count, Log}
 use Rattle.snippets.specs.Cells.{WorksBelow, WorksIn}
 use Rattle.snippets.specs.Ops.{cells_end}
-use Rattle.snippets.specs.Grammar.{AllSay, IsSpelled, Said, Nothing, Does, Wrong, Says}
+use Rattle.snippets.specs.Grammar.{AllSay, IsSpelled, Says}
+use Rattle.snippets.specs.declared.line.Said.{Said}
+use Rattle.snippets.specs.declared.line.Said.TheVariants.{Nothing, Does, Wrong}
 use Rattle.snippets.specs.Laws.{IsWithin}
 use Rattle.snippets.specs.Scripts.{IsGood, cell_end, edge_end, end_of, fault_of, on_edge, ops_on}
 use Rattle.snippets.proofs.Held.{end-more, ops-more}

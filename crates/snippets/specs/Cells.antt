@@ -1,12 +1,12 @@
 -- What a snippet makes of the cells: words of 32 bits, which it changes one operation after the other. Registers are
 -- those of the current window, as they are when the snippet runs.
-use Rattle.std.specs.Prelude.{◌≡◌, ℕ, ◌+◌, ◌*◌, ◌/◌, ◌%◌, ◌^◌, ◌≤◌, max, List, [], ◌∷◌, get_or, set, All, refl}
+use Rattle.std.specs.Prelude.{ℕ, ◌+◌, ◌*◌, ◌/◌, ◌%◌, ◌^◌, ◌≤◌, max, List, [], ◌∷◌, get_or, set, All}
 use Rattle.v8_decode.specs.declared.Part.{Part}
 use Rattle.v8_decode.specs.declared.Part.TheVariants.{Reg}
 use Rattle.v8_decode.specs.Parts.{set_of}
 use Rattle.snippets.specs.declared.snippet.Op.{Op}
 use Rattle.snippets.specs.declared.snippet.Op.TheVariants.{Add, Put, Keep, Top, Count, Log}
-use Rattle.snippets.specs.Ops.{cell_of, cells_end}
+use Rattle.snippets.specs.Ops.{cells_end}
 
 -- what is made of the value of a cell
 abbrev pub changed : List ℕ → ℕ → (ℕ → ℕ) → List ℕ
@@ -55,13 +55,3 @@ read_by (_ ∷ ops) = read_by ops
 
 abbrev pub named_by : List Op → List Part
 named_by ops = set_of (read_by ops)
-
--- They compute: a carry, the last number of 64 bits, and a ring of four whose next place is its last.
-carries : update (λ reg. 0) (Count 0 ∷ []) (0 ∷ 4294967295 ∷ []) ≡ 1 ∷ 0 ∷ []
-carries = refl
-
-begins_again : update (λ reg. 0) (Count 1 ∷ []) (7 ∷ 4294967295 ∷ 4294967295 ∷ []) ≡ 7 ∷ 0 ∷ 0 ∷ []
-begins_again = refl
-
-logs : update (λ reg. 0) (Log 0 2 9 ∷ Log 0 2 8 ∷ []) (7 ∷ 1 ∷ 2 ∷ 3 ∷ 4 ∷ []) ≡ 9 ∷ 8 ∷ 2 ∷ 3 ∷ 9 ∷ []
-logs = refl

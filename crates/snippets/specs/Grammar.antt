@@ -10,11 +10,11 @@
 -- %g7, %o0 to %o7, %l0 to %l7 or %i0 to %i7. A line that is empty or begins with `#` says nothing.
 use Rattle.std.specs.Prelude.{◌≡◌, ◌<◌, ◌≤◌, ℕ, ◌^◌, ◌==◌, List, [], ◌∷◌, codes, decimal}
 use Rattle.std.specs.List.{slice_split, join_with_byte}
+use Rattle.line_words.specs.Registers.{register_text}
 use Rattle.snippets.specs.declared.snippet.Op.{Op}
 use Rattle.snippets.specs.declared.snippet.Op.TheVariants.{Add, Put, Keep, Top, Count, Log}
-pub use Rattle.line_words.specs.Words.{register_text}
-pub use Rattle.snippets.specs.declared.line.Said.{Said}
-pub use Rattle.snippets.specs.declared.line.Said.TheVariants.{Nothing, Does, Wrong}
+use Rattle.snippets.specs.declared.line.Said.{Said}
+use Rattle.snippets.specs.declared.line.Said.TheVariants.{Nothing, Does, Wrong}
 
 -- The lines of a text end with a newline each, which the last one may lack.
 abbrev pub lines_of : List ℕ → List (List ℕ)

@@ -1,12 +1,13 @@
 -- What holds of all lines, of all scripts, and of all snippets.
-use Rattle.std.specs.Prelude.{◌≡◌, ◌<◌, ◌≤◌, ℕ, ◌^◌, true, List, length}
+use Rattle.std.specs.Prelude.{◌≡◌, ◌≤◌, ℕ, ◌^◌, true, List, length}
 use Rattle.std.specs.List.{All}
 use Rattle.v8_decode.specs.declared.Part.TheVariants.{Reg}
 use Rattle.v8_decode.specs.Parts.{has}
 use Rattle.snippets.specs.declared.snippet.Op.{Op}
 use Rattle.snippets.specs.Cells.{WorksBelow, named_by, update}
-use Rattle.snippets.specs.Grammar.{AllSay, IsOp, Said}
+use Rattle.snippets.specs.Grammar.{AllSay, IsOp}
 use Rattle.snippets.specs.Scripts.{IsGood, cell_end, edge_end, end_of, ops_on}
+use Rattle.snippets.specs.declared.line.Said.{Said}
 
 -- Lines say something, and nothing else.
 abbrev pub LinesSayOneThing : Type 0

@@ -5,4 +5,5 @@ pub mod Grammar
 pub mod Scripts
 pub mod Parts
 pub mod Laws
-pub mod Examples
+pub mod Code
+pub mod Private

@@ -7,9 +7,10 @@ use Rattle.snippets.specs.declared.snippet.Op.TheVariants.{Add, Put, Keep, Top, 
 use Rattle.snippets.specs.declared.script.ScriptFault.{ScriptFault}
 use Rattle.snippets.specs.declared.script.ScriptFault.TheVariants as faults
 use Rattle.snippets.specs.Ops.{cells_end}
-use Rattle.snippets.specs.Grammar.{Said, Nothing, Does, Wrong}
-pub use Rattle.line_words.specs.Words.{◌>>=◌}
 unfoldable pub use Rattle.line_words.specs.Words.{number_of, register_of, split_at}
+use Rattle.line_words.specs.Words.{◌>>=◌}
+use Rattle.snippets.specs.declared.line.Said.{Said}
+use Rattle.snippets.specs.declared.line.Said.TheVariants.{Does, Wrong, Nothing}
 
 -- What a line says.
 

@@ -1,12 +1,12 @@
 -- What a script comes to, by what its lines say.
-use Rattle.std.specs.Prelude.{◌≡◌, ◌<◌, ℕ, ◌+◌, ◌^◌, ◌==◌, nat_le, nat_lt, max, if◌then◌else◌, List, [], ◌∷◌, length, take, get_or, map, Option, Some, None, Result, Ok, Err, ⊤}
+use Rattle.std.specs.Prelude.{◌≡◌, ◌<◌, ℕ, ◌+◌, ◌^◌, ◌==◌, nat_le, nat_lt, max, if◌then◌else◌, List, [], ◌∷◌, length, take, get_or, map, Option, Some, None}
 use Rattle.std.specs.List.{flat_map, range_with_len}
 use Rattle.snippets.specs.declared.snippet.Op.{Op}
-use Rattle.snippets.specs.declared.script.Script.{Script}
 use Rattle.snippets.specs.declared.script.ScriptFault.{ScriptFault}
 use Rattle.snippets.specs.declared.script.ScriptFault.TheVariants as faults
 use Rattle.snippets.specs.Ops.{cells_end}
-use Rattle.snippets.specs.Grammar.{Said, Nothing, Does, Wrong}
+use Rattle.snippets.specs.declared.line.Said.{Said}
+use Rattle.snippets.specs.declared.line.Said.TheVariants.{Nothing, Does, Wrong}
 
 abbrev pub on_edge : ℕ → Said → List Op
 on_edge edge Nothing = []
@@ -59,20 +59,3 @@ pub record IsFirstFault (edges : ℕ) (said : List Said) (fault : ScriptFault) :
   pub within : place < length said
   pub is : fault_at edges said place ≡ Some fault
   pub first : (k : ℕ) → k < place → fault_at edges said k ≡ None
-
--- want of memory may come at any time
-abbrev pub IsFault : ℕ → List Said → ScriptFault → Type 0
-IsFault edges said (faults.Line number) = IsFirstFault edges said (faults.Line number)
-IsFault edges said (faults.Edge number) = IsFirstFault edges said (faults.Edge number)
-IsFault edges said (faults.Cell number) = IsFirstFault edges said (faults.Cell number)
-IsFault edges said (faults.Ops number) = IsFirstFault edges said (faults.Ops number)
-IsFault edges said faults.NoMemory = ⊤
-
-pub record IsScript (edges : ℕ) (said : List Said) (script : Script) : Type 0 where
-  pub good : IsGood edges said
-  pub snips : script.snips.items ≡ snips_of said
-  pub cells : script.cells ≡ end_of cell_end said
-
-abbrev pub Answers : ℕ → List Said → Result Script ScriptFault → Type 0
-Answers edges said (Ok script) = IsScript edges said script
-Answers edges said (Err fault) = IsFault edges said fault

@@ -3,9 +3,10 @@ ghost use Rattle.std.specs.Prelude.{◌≡◌, ◌≤◌, ◌<◌, ◌+◌, ◌^
 ghost use Rattle.std.specs.Prelude.{IfErr, OnOk, nat_le, slice_set, vec_len};
 ghost use Rattle.snippets.specs.declared.line.Said.{Said as Meaning};
 ghost use Rattle.snippets.specs.declared.line.Said.TheVariants.{Does};
-ghost use Rattle.snippets.specs.Ops.{HasRing, cells_end};
+ghost use Rattle.snippets.specs.Private.{HasRing};
+ghost use Rattle.snippets.specs.Ops.{cells_end};
 ghost use Rattle.snippets.specs.Grammar.{AllSay, lines_of};
-ghost use Rattle.snippets.specs.Scripts.{Answers};
+ghost use Rattle.snippets.specs.Code.{Answers};
 ghost use Rattle.snippets.specs.Parts.{IsCause, cells_after, fault_in, ops_at, padded, said_of, snips_after};
 ghost use Rattle.snippets.specs.Parts.{with_op};
 

@@ -2,7 +2,8 @@
 ghost use Rattle.std.specs.Prelude.{◌≡◌, ◌++◌, ◌∷◌, [], ◌<◌, ◌≤◌, true, false, length, nat_le, MatchBool};
 ghost use Rattle.v8_decode.specs.declared.Part.TheVariants as parts;
 ghost use Rattle.v8_decode.specs.Parts.{set_of};
-ghost use Rattle.snippets.specs.Ops.{HasRing, cell_of, cells_end, width_of};
+ghost use Rattle.snippets.specs.Private.{HasRing};
+ghost use Rattle.snippets.specs.Ops.{cell_of, cells_end, width_of};
 ghost use Rattle.snippets.specs.Cells.{named_by};
 
 use std::marker::Model;
@@ -100,7 +101,8 @@ impl Model for Snippet {
 
     ghost Value = { List Op };
 
-    ghost use Rattle.snippets.specs.Ops.{ops_in, IsFilled, inside_of};
+    ghost use Rattle.snippets.specs.Code.{ops_in, IsFilled};
+    ghost use Rattle.snippets.specs.Private.{inside_of};
 
     ghost view = { ops_in };
 

@@ -6,16 +6,19 @@ use Rattle.std.proofs.lemmas.List.{length-map}
 use Rattle.std.proofs.lemmas.List.Elements.{All-from_get_or, All-get_or, All-map, All-weaker, recursion_from_All}
 use Rattle.flows.specs.Flows.{NodeSet}
 use Rattle.flows.specs.Links.{IsLinked, graph_of as plain_of}
-use Rattle.flows.specs.Trees.{IsConnected, NoneCrosses}
+use Rattle.flows.specs.Trees.{IsConnected}
+use Rattle.flows.specs.SpanningTrees.{NoneCrosses}
 use Rattle.flows.specs.declared.Link.{Link}
 use Rattle.cfg_blocks.specs.Blocks.{Blocks}
 use Rattle.cfg_normal.specs.declared.Edge.{Edge}
 use Rattle.cfg_normal.specs.declared.Node.{Node}
 use Rattle.cfg_normal.specs.declared.Node.TheVariants.{Block, Landed, X}
 use Rattle.cfg_normal.specs.Opens.{Open, is_copied, jumps_in, targets_in}
-use Rattle.cfg_normal.specs.Graph.{Graph, IsEdgeIn, IsGraph, IsNodeIn, edges_in, has_cases, lands_of}
+use Rattle.cfg_normal.specs.Graph.{Graph, edges_in, has_cases, lands_of}
+use Rattle.cfg_normal.specs.Code.{IsEdgeIn, IsGraph, IsNodeIn}
 use Rattle.cfg_normal.specs.Numbers.{is_node, node_number, node_numbers}
-use Rattle.span_tree.specs.Links.{link_of, links_of, no_edge}
+use Rattle.span_tree.specs.Private.{link_of}
+use Rattle.span_tree.specs.Links.{links_of, no_edge}
 use Rattle.span_tree.proofs.Landings.{Each, block, cased, copy, first_of, landed_block, landed_copy, lands_plain, targets_some}
 
 -- ---- the list of links

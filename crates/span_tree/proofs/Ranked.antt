@@ -3,7 +3,7 @@ use Rattle.std.proofs.Common.{◌≡◌, ℕ, ◌^◌, ◌<◌, ◌≤◌, List,
 use Rattle.std.specs.List.{All}
 use Rattle.std.proofs.lemmas.List.{length-map}
 use Rattle.std.proofs.lemmas.List.Elements.{All-cons, All-nil}
-use Rattle.flows.specs.Links.{weight_in}
+use Rattle.flows.specs.Flows.{weight_in}
 use Rattle.flow_tree.specs.Tree.{RisesWith}
 use Rattle.std.proofs.lemmas.Grind.{common_steps}
 use Rattle.cfg_blocks.specs.declared.EdgeKind.{EdgeKind}

@@ -1,7 +1,7 @@
 //! How many loops stand about each word of a text.
 ghost use Rattle.std.specs.Prelude.{◌≡◌, ◌+◌, ◌-◌, ◌^◌, ◌<◌, length, map, slice_index, slice_set, IfOk};
 ghost use Rattle.cfg_blocks.specs.Blocks.{below, last_word};
-ghost use Rattle.cfg_blocks.specs.Entries.{IsBlockList};
+ghost use Rattle.cfg_blocks.specs.Code.{IsBlockList};
 ghost use Rattle.span_tree.specs.Bounds.{AreBounds};
 ghost use Rattle.span_tree.specs.Weights.{branch_target, loops_at};
 

@@ -2,7 +2,7 @@
 ghost use Rattle.std.specs.Prelude.{◌≡◌, ◌^◌, ◌<◌, ◌≤◌, length, map, IfOk};
 ghost use Rattle.std.specs.List.{All};
 ghost use Rattle.cfg_blocks.specs.Blocks.{below};
-ghost use Rattle.cfg_normal.specs.Graph.{IsNodeIn};
+ghost use Rattle.cfg_normal.specs.Code.{IsNodeIn};
 ghost use Rattle.span_tree.specs.Ties.{follows_call, is_behind_call, is_call, rank_of, tie_of};
 
 use cfg_blocks::{BlockEnd, EdgeKind};

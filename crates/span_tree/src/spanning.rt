@@ -1,13 +1,14 @@
 //! The spanning tree, and the cells of the edges off it.
 ghost use Rattle.std.specs.Prelude.{◌≡◌, ◌^◌, ◌<◌, ◌≤◌, length, map, IfOk, IfSome};
 ghost use Rattle.std.specs.List.{All};
-ghost use Rattle.cfg_normal.specs.Graph.{IsEdgeIn, IsGraph};
+ghost use Rattle.cfg_normal.specs.Code.{IsEdgeIn, IsGraph};
 ghost use Rattle.cfg_normal.specs.Numbers.{is_node};
-ghost use Rattle.flows.specs.Flows.{IsLeast, rest};
-ghost use Rattle.flows.specs.Links.{marked, weight_in};
-ghost use Rattle.flows.specs.Trees.{IsSpanningTree};
+ghost use Rattle.flows.specs.Flows.{IsLeast, rest, weight_in};
+ghost use Rattle.flows.specs.Links.{marked};
+ghost use Rattle.flows.specs.SpanningTrees.{IsSpanningTree};
 ghost use Rattle.span_tree.specs.Cells.{cell_at, cell_count, cell_of, has_cell, AreNumbered};
-ghost use Rattle.span_tree.specs.Links.{link_of, links_of};
+ghost use Rattle.span_tree.specs.Private.{link_of};
+ghost use Rattle.span_tree.specs.Links.{links_of};
 ghost use Rattle.span_tree.specs.Ties.{rank_of};
 
 use crate::ranking::ranks;

@@ -9,7 +9,7 @@ use Rattle.std.proofs.lemmas.Option.{get_or_from_slice_get, slice_get_within}
 use Rattle.cfg_normal.specs.declared.Edge.{Edge}
 use Rattle.snippets.specs.declared.snippet.Op.{Op}
 use Rattle.tool_kit.specs.Good.{IsGood}
-use Rattle.tool_kit.specs.Plans.{AreAnswers, numbered}
+use Rattle.tool_kit.specs.Code.{AreAnswers, numbered}
 use Rattle.tool_kit.specs.declared.edge_ref.EdgeRef.{EdgeRef}
 
 -- The snippets are answers for so many edges, and good ones.

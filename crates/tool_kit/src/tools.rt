@@ -4,7 +4,7 @@ ghost use Rattle.std.specs.List.{All};
 ghost use Rattle.snippets.specs.Cells.{WorksBelow, WorksIn};
 ghost use Rattle.snippets.specs.Grammar.{IsOp};
 ghost use Rattle.tool_kit.specs.Good.{IsGood};
-ghost use Rattle.tool_kit.specs.Plans.{AreAnswers, numbered};
+ghost use Rattle.tool_kit.specs.Code.{AreAnswers, numbered};
 ghost use Rattle.tool_kit.specs.Sound.{IsSound};
 
 use crate::choosing::Chooser;

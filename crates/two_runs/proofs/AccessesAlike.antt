@@ -22,10 +22,18 @@ use Rattle.v8_step.specs.Traps.{mem_address_not_aligned, data_access_exception}
 use Rattle.v8_step.specs.Transfers.{next, trapped}
 use Rattle.v8_step.specs.Accesses.{load_size, store_size, loaded, stored, on_bytes, on_memory, load_step, store_step, ldstub_step, swap_step}
 use Rattle.v8_step.specs.Step.{act, puts_by}
-use Rattle.v8_step.specs.Items.{StateItem, Register, Codes, YRegister, IsAmong, IsSameAt, AreSameAt}
-use Rattle.two_runs.specs.Alike.{IsSameWorld, AreSameAfter, ActsAlike}
+use Rattle.v8_step.specs.Items.{StateItem, Register, Codes, YRegister, IsAmong, IsSameAt}
+use Rattle.v8_step.specs.Code.{AreSameAt}
+use Rattle.two_runs.specs.Alike.{IsSameWorld, AreSameAfter, IsReady}
 use Rattle.two_runs.proofs.Reading.{same_assoc, same_first, same_rest, same_register, same_sum, place_one, among_split, no_codes, no_y, ended_alike, same_lengths}
 use Rattle.v8_step.proofs.KeptOutside.{length-stored, store_some}
+
+-- An instruction does the same from both, and puts out the same bytes.
+abbrev pub ActsAlike : Instr → Type 0
+ActsAlike instr =
+    (pages : List Span) (s t : State) → IsReady pages instr s t
+    → AreSameAfter pages instr s t (act s instr) (act t instr)
+    × ((descriptor : ℕ) → puts_by s instr descriptor ≡ puts_by t instr descriptor)
 
 -- ---- loads
 

@@ -15,8 +15,7 @@ use Rattle.v8_step.specs.WindowMoves.{saved_memory}
 use Rattle.v8_step.specs.Step.{trap_number}
 use Rattle.v8_step.specs.Judged.{judged_by_call, saved_span, frame_span, judged_after, judged_by_spills, judged_by_trap, judged_by}
 use Rattle.two_runs.specs.Visits.{pages_of}
-use Rattle.two_runs.specs.Twins.{AreTwins}
-use Rattle.two_runs.proofs.Twins.{same_arguments, twin_register, twin_sum, twins_saved, same_address, saved_alike}
+use Rattle.two_runs.proofs.Twins.{same_arguments, twin_register, twin_sum, twins_saved, same_address, saved_alike, AreTwins}
 use Rattle.v8_step.proofs.KeptOutside.{apart_first, apart_rest}
 
 module _ (notes : Notes) where

@@ -9,3 +9,4 @@ pub mod RegistersAlike
 pub mod Stays
 pub mod Twins
 pub mod Unmapped
+pub mod Examples

@@ -7,7 +7,8 @@ use Rattle.std.proofs.lemmas.Bool.{or_parts}
 use Rattle.std.proofs.lemmas.Bool.Decides.{nat_tests}
 use Rattle.notes.specs.Format.{Notes, NoteSegment, holds}
 use Rattle.v8_memory.specs.Regions.{Memory, Region, part_of, region_at, byte_at, heap_end_of}
-use Rattle.v8_memory.specs.Spans.{Span, IsApart, IsApartFromAll, IsSameRegion, IsSameOutside}
+use Rattle.v8_memory.specs.Spans.{Span, IsApart, IsApartFromAll}
+use Rattle.v8_memory.specs.Code.{IsSameRegion, IsSameOutside}
 use Rattle.v8_memory.proofs.Same.{same_region}
 use Rattle.two_runs.specs.Visits.{page_of, pages_of, in_pages}
 

@@ -16,9 +16,8 @@ use Rattle.v8_step.specs.Transfers.{next}
 use Rattle.v8_step.specs.Calls.{is_output, trap_step}
 use Rattle.v8_step.specs.Step.{act, trap_number, written_out, puts_by}
 use Rattle.v8_step.specs.Judged.{buffer_span, judged_by_call, judged_by_spills, judged_by_trap}
-use Rattle.two_runs.specs.Alike.{ActsAlike}
-use Rattle.two_runs.specs.Twins.{AreTwins}
-use Rattle.two_runs.proofs.Twins.{twins_of, alike_of, same_arguments, twin_sum, buffer_reads, ticc_by}
+use Rattle.two_runs.proofs.AccessesAlike.{ActsAlike}
+use Rattle.two_runs.proofs.Twins.{twins_of, alike_of, same_arguments, twin_sum, buffer_reads, ticc_by, AreTwins}
 
 -- what a call with these arguments puts out
 abbrev call_bytes : State → ℕ → ℕ → ℕ → ℕ → ℕ → List ℕ

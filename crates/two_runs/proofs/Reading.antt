@@ -13,7 +13,8 @@ use Rattle.v8_windows.specs.Registers.{place_of, register_set}
 use Rattle.v8_step.specs.declared.Ending.{Ending}
 use Rattle.v8_step.specs.State.{State, register_of, operand_of, sum_of}
 use Rattle.v8_step.specs.Transfers.{ended}
-use Rattle.v8_step.specs.Items.{StateItem, Register, Codes, YRegister, IsAmong, AreSameAt}
+use Rattle.v8_step.specs.Items.{StateItem, Register, Codes, YRegister, IsAmong}
+use Rattle.v8_step.specs.Code.{AreSameAt}
 use Rattle.two_runs.specs.Alike.{IsSameWorld, AreSameAfter}
 use Rattle.v8_alu.specs.Alike.{AgreeOn}
 

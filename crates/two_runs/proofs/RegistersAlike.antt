@@ -20,7 +20,8 @@ use Rattle.v8_step.specs.Traps.{division_by_zero, tag_overflow, illegal_instruct
 use Rattle.v8_step.specs.Transfers.{next}
 use Rattle.v8_step.specs.Step.{act, alu_step, puts_by}
 use Rattle.v8_step.specs.Items.{StateItem, Register, Codes, YRegister, IsAmong, IsSameAt}
-use Rattle.two_runs.specs.Alike.{IsSameWorld, AreSameAfter, ActsAlike}
+use Rattle.two_runs.specs.Alike.{IsSameWorld, AreSameAfter}
+use Rattle.two_runs.proofs.AccessesAlike.{ActsAlike}
 use Rattle.v8_alu.specs.Alike.{AreAlike}
 use Rattle.v8_alu.proofs.Alike.{alu_of-alike}
 use Rattle.two_runs.proofs.Reading.{same_assoc, same_first, same_rest, same_register, same_operand, same_inputs, place_one, among_split, among_assoc, no_codes, no_y, ended_alike, same_lengths}

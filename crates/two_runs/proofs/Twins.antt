@@ -9,7 +9,8 @@ use Rattle.v8_decode.specs.declared.Instr.{Instr}
 use Rattle.v8_decode.specs.declared.Instr.TheVariants as i
 use Rattle.v8_decode.specs.Effects.{reads_all}
 use Rattle.v8_memory.specs.Regions.{Memory, Region, bytes_at, with_bytes, with_heap_end, buffer_written, buffer_read, is_heap_end}
-use Rattle.v8_memory.specs.Spans.{Span, AllApart, IsSameOutside}
+use Rattle.v8_memory.specs.Spans.{Span, AllApart}
+use Rattle.v8_memory.specs.Code.{IsSameOutside}
 use Rattle.v8_memory.specs.Laws.{AreSameWrites}
 use Rattle.v8_memory.proofs.Same.{bytes_same, with_bytes-same}
 use Rattle.v8_windows.specs.Registers.{register_in, register_set, window_before, window_after}
@@ -27,9 +28,20 @@ use Rattle.v8_step.specs.Calls.{answered, succeeds, refuses, read_into, read_cal
 use Rattle.v8_step.specs.Step.{act, puts_by}
 use Rattle.v8_step.specs.Items.{StateItem, Register, Codes, YRegister, IsSameAt}
 use Rattle.v8_step.specs.Judged.{buffer_span, judged_by_call, saved_span, frame_span, judged_after, judged_by_spills, judged_by_trap}
-use Rattle.two_runs.specs.Twins.{AreTwins}
-use Rattle.two_runs.specs.Alike.{AreSameAfter, IsSameWorld, IsReady, ActsAlike}
+use Rattle.two_runs.specs.Alike.{AreSameAfter, IsSameWorld, IsReady}
+use Rattle.two_runs.proofs.AccessesAlike.{ActsAlike}
 use Rattle.v8_step.proofs.KeptOutside.{apart_first, apart_rest}
+
+-- two states with the same in all but pc, npc, slot, and memory in the pages
+pub record AreTwins (pages : List Span) (s t : State) : Type 0 where
+  pub registers : s.registers ≡ t.registers
+  pub codes : s.codes ≡ t.codes
+  pub y : s.y ≡ t.y
+  pub window : s.window ≡ t.window
+  pub valid : s.valid ≡ t.valid
+  pub input : s.input ≡ t.input
+  pub ending : s.ending ≡ t.ending
+  pub memory : IsSameOutside pages s.memory t.memory
 
 pub twins_of : (pages : List Span) (instr : Instr) (s t : State) → reads_all instr ≡ true → IsReady pages instr s t
     → AreTwins pages s t

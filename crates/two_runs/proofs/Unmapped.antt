@@ -11,7 +11,8 @@ use Rattle.v8_decode.specs.declared.Instr.TheVariants as i
 use Rattle.v8_decode.specs.Words.{decode_of}
 use Rattle.v8_memory.specs.Regions.{Memory, Region, covers, region_at, read_region, bytes_at, changed, written, all_written, write_region, with_bytes, if_allowed, is_code, code_of, word_in, fetch_of, is_heap_end, with_heap_end, buffer_written, buffer_read}
 use Rattle.v8_memory.specs.Segments.{heap_start, heap_room}
-use Rattle.v8_memory.specs.Spans.{Span, IsApart, IsApartFromAll, AllApart, span_of}
+use Rattle.v8_memory.specs.Spans.{Span, IsApart, IsApartFromAll, AllApart}
+use Rattle.v8_memory.specs.Code.{span_of}
 use Rattle.v8_memory.proofs.Apart.{spans_stay}
 use Rattle.v8_windows.specs.Frames.{frame_bytes, frame_pointer}
 use Rattle.v8_windows.proofs.Places.{length-frame_bytes}
@@ -31,7 +32,8 @@ use Rattle.v8_step.proofs.KeptOutside.{kept_act, length-stored}
 use Rattle.v8_step.proofs.Live.{live_step, stays_ended}
 use Rattle.v8_step.proofs.Kept.{none_near}
 use Rattle.two_runs.specs.Needed.{IsUntouched, instr_at, judged_in}
-use Rattle.two_runs.specs.Refused.{GrantedIsUntouched, IsFaulted, IsGranted, IsRefused, IsUnmapped, IsUntouchedWhereRefused, UnmappedIsUntouched, calls_by, calls_on_word, is_refusal}
+use Rattle.two_runs.specs.Code.{GrantedIsUntouched, IsRefused, IsUnmapped, IsUntouchedWhereRefused, UnmappedIsUntouched}
+use Rattle.two_runs.specs.Refused.{IsFaulted, IsGranted, calls_by, calls_on_word, is_refusal}
 use Rattle.two_runs.proofs.Stays.{step_stays}
 
 -- ---- what a region has is apart from what is apart from it

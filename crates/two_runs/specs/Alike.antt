@@ -2,14 +2,16 @@
 use Rattle.std.specs.Prelude.{◌≡◌, ℕ, ◌⊎◌, List, length, None, false, Some}
 use Rattle.v8_decode.specs.declared.Instr.{Instr}
 use Rattle.v8_decode.specs.Effects.{writes_of}
-use Rattle.v8_memory.specs.Spans.{Span, AllApart, IsSameOutside}
-use Rattle.v8_windows.specs.Registers.{AreRegisters}
+use Rattle.v8_memory.specs.Spans.{Span, AllApart}
 use Rattle.v8_step.specs.State.{State}
-use Rattle.v8_step.specs.Step.{act, puts_by, step_of, puts_of}
-use Rattle.v8_step.specs.Items.{StateItem, IsAmong, IsSameAt, IsSameForReading, is_transfer}
+use Rattle.v8_step.specs.Step.{step_of, puts_of}
+use Rattle.v8_step.specs.Items.{StateItem, IsAmong, IsSameAt, is_transfer}
 use Rattle.v8_step.specs.Judged.{judged_by}
 use Rattle.v8_decode.specs.Words.{decode_of}
 use Rattle.v8_memory.specs.Regions.{fetch_of}
+use Rattle.v8_memory.specs.Code.{IsSameOutside}
+use Rattle.v8_windows.specs.Code.{AreRegisters}
+use Rattle.v8_step.specs.Code.{IsSameForReading}
 
 -- What two states share besides items: windows, input and the memory outside the pages.
 pub record IsSameWorld (pages : List Span) (s t : State) : Type 0 where
@@ -37,13 +39,6 @@ pub record IsReady (pages : List Span) (instr : Instr) (s t : State) : Type 0 wh
   pub items : IsSameForReading instr s t
   pub first_apart : AllApart pages (judged_by s instr)
   pub second_apart : AllApart pages (judged_by t instr)
-
--- An instruction does the same from both, and puts out the same bytes.
-abbrev pub ActsAlike : Instr → Type 0
-ActsAlike instr =
-    (pages : List Span) (s t : State) → IsReady pages instr s t
-    → AreSameAfter pages instr s t (act s instr) (act t instr)
-    × ((descriptor : ℕ) → puts_by s instr descriptor ≡ puts_by t instr descriptor)
 
 -- Two states that fetch the same word, no transfer, and share what it needs, step alike and put out the same.
 abbrev pub StepsAlike : Type 0

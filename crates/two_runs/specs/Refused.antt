@@ -1,11 +1,9 @@
 -- Accesses that the machine refuses, and memory that a run can't touch without one.
-use Rattle.std.specs.Prelude.{◌≡◌, ◌≢◌, ℕ, suc, ◌<◌, ◌≤◌, ◌⊎◌, Bool, true, false, ◌&&◌, ◌||◌, ◌==◌, List, ◌∷◌, map, Option, Some, None}
+use Rattle.std.specs.Prelude.{◌≡◌, ◌≢◌, ℕ, suc, ◌<◌, Bool, true, false, ◌&&◌, ◌||◌, ◌==◌, Option, Some, None}
 use Rattle.v8_decode.specs.declared.Instr.{Instr}
 use Rattle.v8_decode.specs.declared.Instr.TheVariants as i
 use Rattle.v8_decode.specs.Words.{decode_of}
-use Rattle.v8_memory.specs.Regions.{Memory, fetch_of}
-use Rattle.v8_memory.specs.Segments.{heap_start, heap_room}
-use Rattle.v8_memory.specs.Spans.{Span, AllApart, IsApartFromAll, heap_span, span_of}
+use Rattle.v8_memory.specs.Regions.{fetch_of}
 use Rattle.v8_alu.specs.Conditions.{holds_of}
 use Rattle.v8_step.specs.declared.Ending.{Ending}
 use Rattle.v8_step.specs.declared.Ending.TheVariants.{Trap, Window}
@@ -14,7 +12,6 @@ use Rattle.v8_step.specs.Traps.{instruction_access_exception, data_access_except
 use Rattle.v8_step.specs.Calls.{refuses}
 use Rattle.v8_step.specs.Step.{step_of, trap_number}
 use Rattle.v8_step.specs.Run.{run}
-use Rattle.two_runs.specs.Needed.{IsUntouched, instr_at, judged_in}
 
 -- a run ended by a fetch, by a load or store, or by a window's frame that was refused
 abbrev pub is_refusal : Option Ending → Bool
@@ -35,29 +32,6 @@ calls_on_word s (Some word) = calls_by s (decode_of word)
 abbrev pub IsFaulted : State → Type 0
 IsFaulted s = (calls_on_word s (fetch_of s.memory s.pc) ≡ true) × (step_of s ≡ refuses EFAULT s)
 
--- no region has a byte of the pages, and the heap can't get one
-pub record IsUnmapped (pages : List Span) (m : Memory) : Type 0 where
-  pub start : m.heap.start ≡ heap_start
-  pub room : m.heap.size ≤ heap_room
-  pub apart : AllApart pages (heap_span ∷ map span_of m.regions)
-
--- ---- whoever touches such pages is refused: of a run in which none of those is that are refused, none is
-
--- an access of a live state's next step is refused
-abbrev pub IsRefused : State → Type 0
-IsRefused s = (s.ending ≡ None) × ((is_refusal (step_of s).ending ≡ true) ⊎ IsFaulted s)
-
-pub record IsUntouchedWhereRefused (pages : List Span) (s0 : State) (n : ℕ) : Type 0 where
-  pub outside : (k : ℕ) → k ≤ n → (run s0 k).ending ≡ None → fetch_of (run s0 k).memory (run s0 k).pc ≡ None
-      → IsApartFromAll pages (record { from = (run s0 k).pc; count = 1 })
-  pub unjudged : (k : ℕ) → k < n → IsRefused (run s0 k)
-      → AllApart pages (judged_in (run s0 k) (instr_at (run s0 k)))
-
-abbrev pub UnmappedIsUntouched : Type 0
-UnmappedIsUntouched =
-    (pages : List Span) (s0 : State) (n : ℕ) → s0.ending ≡ None → IsUnmapped pages s0.memory
-    → IsUntouchedWhereRefused pages s0 n → IsUntouched pages s0 n
-
 -- ---- and so it is where nothing is refused
 
 -- none of the first n steps is a system call that answers EFAULT
@@ -69,8 +43,3 @@ pub record IsGranted (s0 : State) (n : ℕ) : Type 0 where
   pub accesses : is_refusal (run s0 n).ending ≡ false
   pub fetch : (run s0 (suc n)).ending ≢ Some (Trap instruction_access_exception)
   pub buffers : HasBuffers s0 n
-
-abbrev pub GrantedIsUntouched : Type 0
-GrantedIsUntouched =
-    (pages : List Span) (s0 : State) (n : ℕ) → s0.ending ≡ None → IsUnmapped pages s0.memory → IsGranted s0 n
-    → IsUntouched pages s0 n

@@ -5,7 +5,7 @@
 
 ghost use Rattle.two_runs.specs.Alike.{StepsAlike};
 ghost use Rattle.two_runs.specs.Follows.{RunsFollow};
-ghost use Rattle.two_runs.specs.Refused.{GrantedIsUntouched, UnmappedIsUntouched};
+ghost use Rattle.two_runs.specs.Code.{GrantedIsUntouched, UnmappedIsUntouched};
 
 /// Two states that fetch one word, which is no transfer of control, and share what it reads step alike: they end
 /// alike or go on, put out the same bytes, and agree on all that is written, and on all else that they agreed on.

@@ -8,6 +8,7 @@ use Rattle.v8_alu.specs.declared.AluOut.{AluOut}
 use Rattle.v8_alu.specs.declared.AluTrap.{AluTrap}
 use Rattle.v8_alu.specs.Alu.{alu_of, result_of, keeping, trap_on_v}
 use Rattle.v8_alu.specs.Alike.{AgreeOn, AreAlike}
+pub use Rattle.v8_alu.proofs.Examples.{greatest_quotient}
 
 -- the same as AreAlike of outcomes whose codes are set
 abbrev SetAlike : Bool → ℕ → ℕ → Result AluOut AluTrap → Result AluOut AluTrap → Type 0

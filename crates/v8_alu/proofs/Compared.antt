@@ -1,6 +1,7 @@
 -- What the conditions say of a comparison.
 use Rattle.std.proofs.Common.{◌≡◌, ◌+◌, ◌-◌, ◌^◌, ◌<◌, ℕ, Bool, true, false, ◌&&◌, ◌||◌, not, nat_lt, nat_le, ◌==◌, refl, ap, ◌∙◌, arith}
-use Rattle.v8_alu.specs.Alu.{codes_of, compared_codes, difference_overflows}
+use Rattle.v8_alu.specs.Alu.{codes_of, difference_overflows}
+use Rattle.v8_alu.specs.Code.{compared_codes}
 use Rattle.v8_alu.specs.Numbers.{differ, is_negative, wrapped}
 
 pub equal : (a b : ℕ) → a < 2 ^ 32 → b < 2 ^ 32 → (compared_codes a b).z ≡ (a == b)

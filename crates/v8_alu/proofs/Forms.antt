@@ -8,7 +8,7 @@ use Rattle.v8_decode.specs.Words.{field, rd_of, op3_of, rs1_of, op2_of, op2_rows
 use Rattle.v8_decode.specs.declared.LoadKind.TheVariants as loads
 use Rattle.v8_decode.specs.declared.StoreKind.TheVariants as stores
 use Rattle.v8_decode.proofs.Rows.{Each, row_by_row}
-use Rattle.v8_alu.specs.Alu.{alu_has_form}
+use Rattle.v8_alu.specs.Code.{alu_has_form}
 
 abbrev pub HasForm : Instr → Type 0
 HasForm instr = alu_has_form instr ≡ true

@@ -11,7 +11,8 @@ use Rattle.v8_alu.specs.declared.Codes.{Codes}
 use Rattle.v8_alu.specs.declared.AluOut.{AluOut}
 use Rattle.v8_alu.specs.declared.AluTrap.{AluTrap}
 use Rattle.v8_alu.specs.Numbers.{wrapped, is_negative, complement, magnitude, differ, one_if}
-use Rattle.v8_alu.specs.Alu.{IsOutInRange, alu_of, result_of, keeping, sum_out, difference_out, with_tags, trap_on_v, product_out, signed_product, unsigned_end, unsigned_quotient, dividend_magnitude, signed_end, signed_quotient, divided, shifted_right, count_of}
+use Rattle.v8_alu.specs.Code.{IsOutInRange}
+use Rattle.v8_alu.specs.Alu.{alu_of, result_of, keeping, sum_out, difference_out, with_tags, trap_on_v, product_out, signed_product, unsigned_end, unsigned_quotient, dividend_magnitude, signed_end, signed_quotient, divided, shifted_right, count_of}
 
 wrapped_range : (n : ℕ) → wrapped n < 2 ^ 32
 wrapped_range n = omega arith

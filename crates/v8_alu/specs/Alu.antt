@@ -1,22 +1,14 @@
 -- Integer arithmetic: what an operation makes of its operands, and the codes that it sets, by appendix B
 -- of The SPARC Architecture Manual, Version 8. Numbers of 32 bits are from 0 to 2 ^ 32 - 1. "Here" marks
 -- what this machine chooses where the manual leaves it to an implementation.
-use Rattle.std.specs.Prelude.{◌≡◌, ℕ, ◌+◌, ◌-◌, ◌*◌, ◌/◌, ◌%◌, ◌^◌, ◌<◌, Bool, true, false, not, ◌&&◌, ◌||◌, Result, Ok, Err, IfOk, nat_lt, nat_le, ◌==◌, if◌then◌else◌, bit_and, bit_or, bit_xor, refl}
+use Rattle.std.specs.Prelude.{ℕ, ◌+◌, ◌-◌, ◌*◌, ◌/◌, ◌%◌, ◌^◌, Bool, true, false, not, ◌&&◌, ◌||◌, Result, Ok, Err, nat_lt, nat_le, ◌==◌, if◌then◌else◌, bit_and, bit_or, bit_xor}
 use Rattle.v8_decode.specs.declared.AluOp.{AluOp}
 use Rattle.v8_decode.specs.declared.AluOp.TheVariants as ops
-use Rattle.v8_decode.specs.declared.Instr.{Instr}
-use Rattle.v8_decode.specs.declared.Instr.TheVariants as i
-use Rattle.v8_decode.specs.Forms.{has_form}
 use Rattle.v8_alu.specs.declared.Codes.{Codes}
 use Rattle.v8_alu.specs.declared.AluOut.{AluOut}
 use Rattle.v8_alu.specs.declared.AluTrap.{AluTrap}
 use Rattle.v8_alu.specs.declared.AluTrap.TheVariants.{DivZero, TagOverflow}
 use Rattle.v8_alu.specs.Numbers.{wrapped, is_negative, complement, magnitude, differ, one_if}
-
--- whether a word can have the operation of an instruction with its cc
-abbrev pub alu_has_form : Instr → Bool
-alu_has_form (i.Alu op cc rd rs1 op2) = has_form op cc
-alu_has_form _ = true
 
 -- V and C, with N and Z of a value (section 4.2)
 abbrev pub codes_of : ℕ → Bool → Bool → Codes
@@ -46,12 +38,6 @@ abbrev pub difference_out : ℕ → ℕ → ℕ → ℕ → Result AluOut AluTra
 difference_out a b borrow y =
     let difference = wrapped (2 ^ 33 + a - (b + borrow)) in
     out difference (codes_of difference (difference_overflows a b difference) (nat_lt a (b + borrow))) y
-
--- the codes of a difference
-abbrev pub compared_codes : ℕ → ℕ → Codes
-compared_codes a b =
-    let difference = wrapped (2 ^ 33 + a - (b + 0)) in
-    codes_of difference (difference_overflows a b difference) (nat_lt a (b + 0))
 
 -- V and C become 0 (B.11)
 abbrev pub logic_out : ℕ → ℕ → Result AluOut AluTrap
@@ -168,19 +154,3 @@ keeping false codes (Err trap) = Err trap
 -- what an operation makes of its operands
 unfoldable pub alu_of : AluOp → Bool → ℕ → ℕ → Codes → ℕ → Result AluOut AluTrap
 alu_of op cc a b codes y = keeping cc codes (result_of op a b codes y)
-
--- the value and Y have 32 bits
-abbrev pub IsOutInRange : Result AluOut AluTrap → Type 0
-IsOutInRange r = IfOk r (λ o. (o.value < 2 ^ 32) × (o.y < 2 ^ 32))
-
--- The operations compute.
-clear : Codes
-clear = record { n = false; z = false; v = false; c = false }
-
-greatest_quotient : alu_of ops.SDIV true 0 0xffffffff clear 0x80000000 ≡ out 0x7fffffff (record { n = false; z = false; v = true; c = false }) 0x80000000
-unfolding alu_of clear
-greatest_quotient = refl
-
-one_step : alu_of ops.MULScc true 3 5 clear 1 ≡ out 6 clear 0x80000000
-unfolding alu_of clear
-one_step = refl

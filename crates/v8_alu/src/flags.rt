@@ -1,7 +1,8 @@
 //! The condition codes of a machine. Those of a comparison are worked out where they are read.
 ghost use Rattle.std.specs.Prelude.{◌≡◌, ◌+◌, ◌-◌, ◌^◌, ℕ, nat_lt, false, true, Ok, MatchOption};
 ghost use Rattle.v8_alu.specs.declared.Codes.{Codes as CodesValue};
-ghost use Rattle.v8_alu.specs.Alu.{alu_of, codes_of, compared_codes};
+ghost use Rattle.v8_alu.specs.Alu.{alu_of, codes_of};
+ghost use Rattle.v8_alu.specs.Code.{compared_codes};
 ghost use Rattle.v8_alu.specs.Conditions.{holds_of};
 ghost use Rattle.v8_alu.specs.Numbers.{differ, wrapped};
 
@@ -21,7 +22,7 @@ pub struct Flags {
 impl Model for Flags {
     ghost use Rattle.std.specs.Prelude.{if◌then◌else◌};
     ghost use Rattle.v8_alu.specs.declared.Codes.{Codes as CodesValue};
-    ghost use Rattle.v8_alu.specs.Alu.{compared_codes};
+    ghost use Rattle.v8_alu.specs.Code.{compared_codes};
 
     ghost Value = { CodesValue };
 

@@ -6,7 +6,8 @@
 ghost use Rattle.std.specs.Prelude.{◌≡◌, ℕ, Bool, ◌≤◌, ◌<◌, ◌^◌, ◌+◌, ◌*◌, IsTrue};
 ghost use Rattle.v8_decode.specs.Words.{decode_of};
 ghost use Rattle.v8_decode.specs.Forms.{has_form};
-ghost use Rattle.v8_alu.specs.Alu.{IsOutInRange, alu_has_form, alu_of, codes_of, count_of, difference_out, dividend_magnitude, dividend_of, divided, is_tagged, logic_out, multiply_step, product_out, quotient_out, result_of, shifted_right, signed_end, signed_product, signed_quotient, sum_out, trap_on_v, unsigned_end, unsigned_quotient, with_tags};
+ghost use Rattle.v8_alu.specs.Code.{IsOutInRange, alu_has_form};
+ghost use Rattle.v8_alu.specs.Alu.{alu_of, codes_of, count_of, difference_out, dividend_magnitude, dividend_of, divided, is_tagged, logic_out, multiply_step, product_out, quotient_out, result_of, shifted_right, signed_end, signed_product, signed_quotient, sum_out, trap_on_v, unsigned_end, unsigned_quotient, with_tags};
 ghost use Rattle.v8_alu.specs.Alike.{DependsOnInputs};
 ghost use Rattle.v8_alu.specs.Conditions.{holds_of};
 ghost use Rattle.v8_alu.specs.Numbers.{is_negative, magnitude, wrapped};

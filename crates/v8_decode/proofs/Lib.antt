@@ -2,3 +2,4 @@ pub mod Marks
 pub mod Members
 pub mod Minus
 pub mod Rows
+pub mod Examples

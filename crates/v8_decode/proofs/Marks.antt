@@ -11,11 +11,14 @@ use Rattle.std.proofs.Math.Bool.{and-or_distrib_left}
 use Rattle.std.proofs.lemmas.Bool.Decides.{nat_tests}
 use Rattle.v8_decode.specs.declared.Part.{Part}
 use Rattle.v8_decode.specs.declared.Part.TheVariants.{Reg}
-use Rattle.v8_decode.specs.Parts.{is_same, is_part, is_member, has, every_part, members, set_of, without}
+use Rattle.v8_decode.specs.Parts.{is_same, is_member, has, every_part, members, set_of}
+use Rattle.v8_decode.specs.Private.{is_part}
+use Rattle.v8_decode.specs.Code.{without}
 use Rattle.v8_decode.specs.Masks.{place_of, is_marked, parts_of}
 use Rattle.v8_decode.specs.Effects.{reg}
 use Rattle.v8_decode.specs.MaskLaws.{IsPlacedFrom, every_part_placed, every_part_length}
 use Rattle.v8_decode.proofs.Members.{has-append, has-filter, has-members, members-same}
+pub use Rattle.v8_decode.proofs.Examples.{trap_16}
 
 pub is_part-member : (p : Part) → is_member p ≡ true → is_part p ≡ true
 is_part-member (Reg r) h = grind (arith, nat_tests)

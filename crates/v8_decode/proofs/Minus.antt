@@ -4,7 +4,8 @@ use Rattle.std.proofs.lemmas.Nat.Bits.{bit_at-lt, bit_at_and, bit_at_xor}
 use Rattle.std.proofs.Math.Bool.{and_assoc}
 use Rattle.std.proofs.lemmas.Bool.Decides.{nat_tests}
 use Rattle.v8_decode.specs.declared.Part.{Part}
-use Rattle.v8_decode.specs.Parts.{has, minus, set_of}
+use Rattle.v8_decode.specs.Parts.{has, set_of}
+use Rattle.v8_decode.specs.Code.{minus}
 use Rattle.v8_decode.specs.Masks.{place_of, is_marked, parts_of}
 use Rattle.v8_decode.proofs.Members.{has-members, members-same}
 use Rattle.v8_decode.proofs.Marks.{has-members_at, has-set}

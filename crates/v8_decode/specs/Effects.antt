@@ -1,5 +1,5 @@
 -- The registers, codes and Y that an instruction reads and writes, by appendix B of The SPARC Architecture Manual, Version 8.
-use Rattle.std.specs.Prelude.{◌≡◌, ℕ, zero, suc, Bool, true, false, not, ◌&&◌, List, [], ◌∷◌, ◌++◌, ◌==◌, if◌then◌else◌, refl}
+use Rattle.std.specs.Prelude.{ℕ, zero, suc, Bool, true, false, not, ◌&&◌, List, [], ◌∷◌, ◌++◌, ◌==◌, if◌then◌else◌}
 use Rattle.v8_decode.specs.declared.AluOp.{AluOp}
 use Rattle.v8_decode.specs.declared.AluOp.TheVariants as ops
 use Rattle.v8_decode.specs.declared.Op2.{Op2}
@@ -12,7 +12,7 @@ use Rattle.v8_decode.specs.declared.StoreKind.{StoreKind}
 use Rattle.v8_decode.specs.declared.StoreKind.TheVariants as stores
 use Rattle.v8_decode.specs.declared.Part.{Part}
 use Rattle.v8_decode.specs.declared.Part.TheVariants.{Reg, Icc, Y}
-use Rattle.v8_decode.specs.Parts.{every_part, members, set_of}
+use Rattle.v8_decode.specs.Parts.{every_part, set_of}
 
 -- a register as a part; %g0 reads as 0 and drops what is written (section 4.1), so it is none
 abbrev pub reg : ℕ → List Part
@@ -99,12 +99,3 @@ read_set instr = if reads_all instr then every_part else set_of (reads_of instr)
 
 abbrev pub write_set : Instr → List Part
 write_set instr = set_of (writes_of instr)
-
--- The sets compute.
-stored_pair : read_set (i.Store stores.STD 2 16 (o.Reg 31)) ≡ Reg 2 ∷ Reg 3 ∷ Reg 16 ∷ Reg 31 ∷ []
-unfolding every_part members
-stored_pair = refl
-
-multiply_step : write_set (i.Alu ops.MULScc true 0 0 (o.Reg 1)) ≡ Icc ∷ Y ∷ []
-unfolding every_part members
-multiply_step = refl

@@ -9,7 +9,8 @@ use Rattle.v8_decode.specs.declared.Part.{Part}
 use Rattle.v8_decode.specs.declared.Part.TheVariants.{Icc, Y}
 use Rattle.v8_decode.specs.declared.sets.RegSet.TheInside.{Inside}
 use Rattle.v8_decode.specs.Parts.{registers_from, every_part, members}
-use Rattle.v8_decode.specs.Masks.{place_of, is_marked, parts_of, mask_of}
+use Rattle.v8_decode.specs.Masks.{place_of, is_marked, parts_of}
+use Rattle.v8_decode.specs.Private.{mask_of}
 
 -- the parts stand at the places from k on
 abbrev pub IsPlacedFrom : ℕ → List Part → Type 0

@@ -1,5 +1,5 @@
 -- A set of parts as a mask: bit r for register r, bit 32 for the codes, bit 33 for Y.
-use Rattle.std.specs.Prelude.{ℕ, ◌+◌, ◌^◌, Bool, List, [], ◌∷◌, ◌==◌}
+use Rattle.std.specs.Prelude.{ℕ, Bool, List, ◌==◌}
 use Rattle.std.specs.Int.{bit_at}
 use Rattle.v8_decode.specs.declared.Part.{Part}
 use Rattle.v8_decode.specs.declared.Part.TheVariants.{Reg, Icc, Y}
@@ -17,7 +17,3 @@ is_marked mask p = bit_at mask (place_of p) == 1
 -- the set that a mask stands for, and the mask of a set
 abbrev pub parts_of : ℕ → List Part
 parts_of mask = members (is_marked mask)
-
-abbrev pub mask_of : List Part → ℕ
-mask_of [] = 0
-mask_of (p ∷ ps) = 2 ^ place_of p + mask_of ps

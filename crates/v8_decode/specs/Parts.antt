@@ -1,5 +1,5 @@
 -- Sets of parts: registers of the current window, the integer condition codes and Y (section 4.2).
-use Rattle.std.specs.Prelude.{ℕ, zero, suc, Bool, true, false, not, ◌&&◌, ◌||◌, List, [], ◌∷◌, ◌++◌, filter, nat_lt, ◌==◌}
+use Rattle.std.specs.Prelude.{ℕ, zero, suc, Bool, true, false, ◌&&◌, ◌||◌, List, [], ◌∷◌, ◌++◌, filter, nat_lt, ◌==◌}
 use Rattle.v8_decode.specs.declared.Part.{Part}
 use Rattle.v8_decode.specs.declared.Part.TheVariants.{Reg, Icc, Y}
 
@@ -8,12 +8,6 @@ is_same (Reg a) (Reg b) = a == b
 is_same Icc Icc = true
 is_same Y Y = true
 is_same _ _ = false
-
--- registers have numbers below 32
-abbrev pub is_part : Part → Bool
-is_part (Reg r) = nat_lt r 32
-is_part Icc = true
-is_part Y = true
 
 -- the parts that a set can have: the register %g0 holds nothing (section 4.1)
 abbrev pub is_member : Part → Bool
@@ -42,11 +36,3 @@ members test = filter test every_part
 -- the set of the parts of a list
 abbrev pub set_of : List Part → List Part
 set_of ps = members (has ps)
-
--- a set without a part
-abbrev pub without : List Part → Part → List Part
-without ps p = filter (λ q. not (is_same q p)) ps
-
--- what a set has and another hasn't
-abbrev pub minus : List Part → List Part → List Part
-minus ps qs = members (λ p. has ps p && not (has qs p))

@@ -1,7 +1,7 @@
 -- What an instruction word says: the tables of appendix F, "Opcodes and Condition Codes", of The SPARC
 -- Architecture Manual, Version 8. Each row has the section of appendix B that defines its instruction.
 -- "Here" marks what this machine chooses where the manual leaves it to an implementation.
-use Rattle.std.specs.Prelude.{◌≡◌, ℕ, ◌-◌, ◌/◌, ◌%◌, ◌^◌, Bool, true, false, List, [], ◌∷◌, ℤ, pos, negsuc, ◌-ℤ◌, nat_lt, ◌==◌, if◌then◌else◌, refl}
+use Rattle.std.specs.Prelude.{ℕ, ◌-◌, ◌/◌, ◌%◌, ◌^◌, Bool, true, false, List, [], ◌∷◌, ℤ, pos, ◌-ℤ◌, nat_lt, ◌==◌, if◌then◌else◌}
 use Rattle.v8_decode.specs.declared.Instr.{Instr}
 use Rattle.v8_decode.specs.declared.Instr.TheVariants as i
 use Rattle.v8_decode.specs.declared.Op2.{Op2}
@@ -210,16 +210,3 @@ call w = i.Call (signed 30 (field w 0 30))
 -- what a word says: table F-1, the rows by op, bits 31 and 30
 unfoldable pub decode_of : Row
 decode_of w = row_of ((0, branch_or_sethi) ∷ (1, call) ∷ (2, arithmetic) ∷ (3, memory) ∷ []) (field w 30 2) w
-
--- The table computes.
-trap_16 : decode_of 0x91d02010 ≡ i.Ticc 8 0 (Imm (pos 16))
-unfolding decode_of arithmetic
-trap_16 = refl
-
-subtract_one : decode_of 0x90603fff ≡ i.Alu ops.SUBX false 8 0 (Imm (negsuc 0))
-unfolding decode_of arithmetic
-subtract_one = refl
-
-zeros : decode_of 0 ≡ i.Illegal
-unfolding decode_of branch_or_sethi
-zeros = refl

@@ -2,7 +2,9 @@
 
 ghost use Rattle.std.specs.Prelude.{◌≡◌, ◌<◌, ◌≤◌, true, not, ◌&&◌, ◌||◌, [], ◌∷◌, ◌++◌, length};
 ghost use Rattle.v8_decode.specs.declared.Part.{Part};
-ghost use Rattle.v8_decode.specs.Parts.{every_part, has, is_member, is_part, is_same, minus, set_of, without};
+ghost use Rattle.v8_decode.specs.Parts.{every_part, has, is_member, is_same, set_of};
+ghost use Rattle.v8_decode.specs.Private.{is_part};
+ghost use Rattle.v8_decode.specs.Code.{minus, without};
 ghost use Rattle.v8_decode.specs.Masks.{place_of};
 
 use crate::Part;
@@ -19,7 +21,8 @@ pub struct RegSet {
 impl Model for RegSet {
     ghost use Rattle.std.specs.Prelude.{◌≡◌, List, ◌<◌, ◌^◌, ◌%◌};
     ghost use Rattle.v8_decode.specs.declared.Part.{Part};
-    ghost use Rattle.v8_decode.specs.Masks.{mask_of, parts_of};
+    ghost use Rattle.v8_decode.specs.Private.{mask_of};
+    ghost use Rattle.v8_decode.specs.Masks.{parts_of};
 
     ghost Value = { List Part };
 

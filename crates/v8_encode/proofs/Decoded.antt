@@ -16,8 +16,10 @@ use Rattle.v8_decode.specs.Forms.{has_form}
 use Rattle.v8_decode.specs.Words.{field, signed, rd_of, op3_of, rs1_of, cond_of, op2_of, Row, row_of, alu, load, store, arithmetic_rows, memory_rows, arithmetic, decode_of}
 use Rattle.v8_decode.specs.Ranges.{has_even_pair, op2_in_range, operands_in_range, is_in_range}
 use Rattle.v8_decode.proofs.Rows.{decode_of-call, decode_of-format2, decode_of-arithmetic, decode_of-memory}
-use Rattle.v8_encode.specs.Encoding.{fits_signed, signed_field, op2_fits, op2_field, alu_op3, load_op3, store_op3, format2, format3, has_word, word_of, annul_bit}
+use Rattle.v8_encode.specs.Code.{fits_signed, op2_fits, has_word}
+use Rattle.v8_encode.specs.Encoding.{signed_field, op2_field, alu_op3, load_op3, store_op3, format2, format3, word_of, annul_bit}
 use Rattle.v8_encode.proofs.Fields.{format3_fields, op2_field-lt, op2_of-field, signed_field-lt, signed-signed_field}
+pub use Rattle.v8_encode.proofs.Examples.{subtract_one}
 
 -- the row of an operation's form
 arithmetic-row : (op : AluOp) (sets : Bool) → has_form op sets ≡ true → (w : ℕ) → row_of arithmetic_rows (alu_op3 op sets) w ≡ alu op sets w

@@ -14,7 +14,8 @@ use Rattle.v8_decode.specs.Forms.{has_form}
 use Rattle.v8_decode.specs.Words.{field, signed, rd_of, op3_of, rs1_of, cond_of, op2_of, alu, load, store, op2_rows, arithmetic_rows, memory_rows, branch_or_sethi, arithmetic, memory, call, decode_of}
 use Rattle.v8_decode.specs.Ranges.{has_even_pair}
 use Rattle.v8_decode.proofs.Rows.{Each, row_by_row}
-use Rattle.v8_encode.specs.Encoding.{op2_fits, alu_op3, load_op3, store_op3, format3, has_word, word_of, annul_bit, encode_of, is_instruction, ignored_beside, ignored_of, cleared}
+use Rattle.v8_encode.specs.Code.{op2_fits, has_word, encode_of, ignored_beside, ignored_of, cleared}
+use Rattle.v8_encode.specs.Encoding.{alu_op3, load_op3, store_op3, format3, word_of, annul_bit, is_instruction}
 use Rattle.v8_encode.proofs.Fields.{format3-fields, op2_fits-op2_of, op2_of-same, signed_field-signed}
 
 -- what is to be shown of a word and its instruction

@@ -8,7 +8,8 @@ use Rattle.v8_decode.specs.declared.Op2.{Op2}
 use Rattle.v8_decode.specs.declared.Op2.TheVariants as o
 use Rattle.v8_decode.specs.Words.{field, signed, rd_of, op3_of, rs1_of, op2_of}
 use Rattle.v8_decode.specs.Ranges.{op2_in_range}
-use Rattle.v8_encode.specs.Encoding.{fits_signed, signed_field, op2_fits, op2_field, format3, cleared, ignored_beside}
+use Rattle.v8_encode.specs.Code.{fits_signed, op2_fits, cleared, ignored_beside}
+use Rattle.v8_encode.specs.Encoding.{signed_field, op2_field, format3}
 
 -- the fields of a word of format 3
 pub record IsFormat3 (op rd op3 rs1 low w : ℕ) : Type 0 where

@@ -2,3 +2,4 @@ pub mod Decoded
 pub mod Encoded
 pub mod Fields
 pub mod Ignored
+pub mod Examples

@@ -1,5 +1,5 @@
 -- The word of an instruction, by the formats of section 5.2 and the opcodes of appendix F of The SPARC Architecture Manual, Version 8.
-use Rattle.std.specs.Prelude.{◌≡◌, ℕ, suc, ◌+◌, ◌-◌, ◌*◌, ◌^◌, ◌<◌, IsTrue, Bool, true, false, ◌&&◌, List, [], ◌∷◌, Option, Some, None, ℤ, pos, negsuc, nat_lt, if◌then◌else◌, refl}
+use Rattle.std.specs.Prelude.{ℕ, suc, ◌+◌, ◌-◌, ◌*◌, ◌^◌, Bool, true, false, ℤ, pos, negsuc}
 use Rattle.v8_decode.specs.declared.Instr.{Instr}
 use Rattle.v8_decode.specs.declared.Instr.TheVariants as i
 use Rattle.v8_decode.specs.declared.Op2.{Op2}
@@ -10,23 +10,11 @@ use Rattle.v8_decode.specs.declared.LoadKind.{LoadKind}
 use Rattle.v8_decode.specs.declared.LoadKind.TheVariants as loads
 use Rattle.v8_decode.specs.declared.StoreKind.{StoreKind}
 use Rattle.v8_decode.specs.declared.StoreKind.TheVariants as stores
-use Rattle.v8_decode.specs.Forms.{has_form}
-use Rattle.v8_decode.specs.Words.{field, decode_of}
-use Rattle.v8_decode.specs.Ranges.{has_even_pair}
-
--- whether a number fits a field of `width` bits in two's complement
-abbrev pub fits_signed : ℕ → ℤ → Bool
-fits_signed width (pos n) = nat_lt n (2 ^ (width - 1))
-fits_signed width (negsuc n) = nat_lt n (2 ^ (width - 1))
 
 -- the field of `width` bits that holds it
 abbrev pub signed_field : ℕ → ℤ → ℕ
 signed_field width (pos n) = n
 signed_field width (negsuc n) = 2 ^ width - suc n
-
-abbrev pub op2_fits : Op2 → Bool
-op2_fits (o.Reg rs2) = true
-op2_fits (o.Imm simm13) = fits_signed 13 simm13
 
 -- bits 13 to 0 of format 3: i and rs2, or i and simm13
 abbrev pub op2_field : Op2 → ℕ
@@ -84,30 +72,6 @@ store_op3 stores.STB = 0x05
 store_op3 stores.STH = 0x06
 store_op3 stores.STD = 0x07
 
--- Whether some word is this instruction: each immediate is within its field, the operation has the form
--- that sets codes or the one that leaves them, and a doubleword's rd is even.
-abbrev pub has_word : Instr → Bool
-has_word (i.Sethi rd imm22) = nat_lt imm22 (2 ^ 22)
-has_word (i.Branch cond annul disp22) = fits_signed 22 disp22
-has_word (i.Call disp30) = fits_signed 30 disp30
-has_word (i.Alu op cc rd rs1 op2) = has_form op cc && op2_fits op2
-has_word (i.ReadY rd) = true
-has_word (i.WriteY rs1 op2) = op2_fits op2
-has_word (i.Jmpl rd rs1 op2) = op2_fits op2
-has_word (i.Ticc cond rs1 op2) = op2_fits op2
-has_word (i.Flush rs1 op2) = op2_fits op2
-has_word i.Stbar = true
-has_word (i.Save rd rs1 op2) = op2_fits op2
-has_word (i.Restore rd rs1 op2) = op2_fits op2
-has_word (i.Load kind rd rs1 op2) = has_even_pair (i.Load kind rd rs1 op2) && op2_fits op2
-has_word (i.Store kind rd rs1 op2) = has_even_pair (i.Store kind rd rs1 op2) && op2_fits op2
-has_word (i.Ldstub rd rs1 op2) = op2_fits op2
-has_word (i.Swap rd rs1 op2) = op2_fits op2
-has_word i.Illegal = false
-has_word i.Privileged = false
-has_word i.FpOff = false
-has_word i.CpOff = false
-
 abbrev pub annul_bit : Bool → ℕ
 annul_bit true = 1
 annul_bit false = 0
@@ -135,9 +99,6 @@ word_of i.Privileged = 0
 word_of i.FpOff = 0
 word_of i.CpOff = 0
 
-unfoldable pub encode_of : Instr → Option ℕ
-encode_of instr = if has_word instr then Some (word_of instr) else None
-
 -- whether it is an instruction that runs here
 abbrev pub is_instruction : Instr → Bool
 is_instruction i.Illegal = false
@@ -145,43 +106,3 @@ is_instruction i.Privileged = false
 is_instruction i.FpOff = false
 is_instruction i.CpOff = false
 is_instruction _ = true
-
--- The fields that a form ignores, each as its lowest bit and its width: bits 12 to 5 beside rs2, the
--- reserved bit 29 of Ticc, all below rs1 in RDY and STBAR, rd of FLUSH.
-abbrev pub ignored_beside : Op2 → List (ℕ × ℕ)
-ignored_beside (o.Reg rs2) = (5, 8) ∷ []
-ignored_beside (o.Imm simm13) = []
-
-abbrev pub ignored_of : Instr → List (ℕ × ℕ)
-ignored_of (i.Alu op cc rd rs1 op2) = ignored_beside op2
-ignored_of (i.ReadY rd) = (0, 14) ∷ []
-ignored_of (i.WriteY rs1 op2) = ignored_beside op2
-ignored_of (i.Jmpl rd rs1 op2) = ignored_beside op2
-ignored_of (i.Ticc cond rs1 op2) = (29, 1) ∷ ignored_beside op2
-ignored_of (i.Flush rs1 op2) = (25, 5) ∷ ignored_beside op2
-ignored_of i.Stbar = (0, 14) ∷ []
-ignored_of (i.Save rd rs1 op2) = ignored_beside op2
-ignored_of (i.Restore rd rs1 op2) = ignored_beside op2
-ignored_of (i.Load kind rd rs1 op2) = ignored_beside op2
-ignored_of (i.Store kind rd rs1 op2) = ignored_beside op2
-ignored_of (i.Ldstub rd rs1 op2) = ignored_beside op2
-ignored_of (i.Swap rd rs1 op2) = ignored_beside op2
-ignored_of _ = []
-
--- a word with 0 in each of these fields
-abbrev pub cleared : List (ℕ × ℕ) → ℕ → ℕ
-cleared [] w = w
-cleared (f ∷ fields) w = cleared fields (w - field w f.0 f.1 * 2 ^ f.0)
-
--- what an instruction's encoding is for each word that decodes to it
-abbrev pub EncodesAgain : Instr → Option ℕ → Type 0
-EncodesAgain instr encoded = (w : ℕ) → w < 2 ^ 32 → decode_of w ≡ instr → IsTrue (is_instruction instr) → encoded ≡ Some (cleared (ignored_of instr) w)
-
--- The words compute.
-subtract_one : encode_of (i.Alu ops.SUBX false 8 0 (o.Imm (negsuc 0))) ≡ Some 0x90603fff
-unfolding encode_of
-subtract_one = refl
-
-too_wide : encode_of (i.Sethi 1 4194304) ≡ None
-unfolding encode_of
-too_wide = refl

@@ -6,7 +6,8 @@ ghost use Rattle.std.specs.Prelude.{◌≡◌, ◌+◌, ◌*◌, ◌^◌, ◌<�
 ghost use Rattle.v8_decode.specs.Forms.{has_form};
 ghost use Rattle.v8_decode.specs.Ranges.{has_even_pair, is_in_range, op2_in_range, operands_in_range};
 ghost use Rattle.v8_decode.specs.Words.{decode_of};
-ghost use Rattle.v8_encode.specs.Encoding.{alu_op3, annul_bit, cleared, EncodesAgain, encode_of, fits_signed, format2, format3, has_word, ignored_of, load_op3, op2_field, op2_fits, signed_field, store_op3, with_cc};
+ghost use Rattle.v8_encode.specs.Encoding.{alu_op3, annul_bit, format2, format3, load_op3, op2_field, signed_field, store_op3, with_cc};
+ghost use Rattle.v8_encode.specs.Code.{cleared, EncodesAgain, encode_of, fits_signed, has_word, ignored_of, op2_fits};
 
 use v8_decode::{AluOp, Cond, Instr, LoadKind, Op2, Reg, StoreKind};
 
@@ -205,7 +206,7 @@ fn store_word(kind: StoreKind, rd: u32, rs1: Reg, op2: Op2) -> Option<u32>
 }
 
 // The word, and that the instruction's registers and condition have such numbers.
-#[tactic(auto, unfolding(crate::specs::Encoding::encode_of))]
+#[tactic(auto, unfolding(crate::specs::Code::encode_of))]
 fn word_for(i: Instr) -> Option<u32>
     ensures value { result ≡ encode_of i }
     ensures range { IfSome result (λ _. is_in_range i ≡ true) }

@@ -12,7 +12,8 @@ use Rattle.v8_memory.specs.Kept.{AreKept}
 use Rattle.v8_memory.specs.Regions.{Memory, Region, covers, changed, written, all_written, write_region, with_bytes, if_allowed, is_code, region_at}
 use Rattle.elf32_sparc.specs.Mapping.{Mapping}
 use Rattle.v8_memory.specs.Segments.{heap_start, heap_room, region_of}
-use Rattle.v8_memory.specs.Spans.{Span, is_apart, is_apart_from, are_apart, heap_span, span_of, span_of_mapping, regions_apart, mappings_apart}
+use Rattle.v8_memory.specs.Spans.{Span}
+use Rattle.v8_memory.specs.Code.{is_apart, is_apart_from, are_apart, heap_span, span_of, span_of_mapping, regions_apart, mappings_apart}
 use Rattle.v8_memory.proofs.Kept.{kept_written, written_through}
 
 -- a region that lies in a span has no byte of what is apart from it

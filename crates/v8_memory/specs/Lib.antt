@@ -5,3 +5,5 @@ pub mod Ops
 pub mod Regions
 pub mod Segments
 pub mod Spans
+pub mod Code
+pub mod Private

@@ -86,11 +86,6 @@ instr_by c.Save x = i.Save x.rd x.rs1 (operand_in x.rs2 x.imm)
 instr_by c.Restore x = i.Restore x.rd x.rs1 (operand_in x.rs2 x.imm)
 instr_by c.Other x = i.Illegal
 
--- a record that says something
-abbrev pub is_record : OpCode → Bool
-is_record c.Other = false
-is_record _ = true
-
 -- the instruction that a record stands for
 unfoldable pub instr_of : Op → Instr
 instr_of x = instr_by x.code x

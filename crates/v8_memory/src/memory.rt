@@ -4,7 +4,7 @@ ghost use Rattle.std.specs.Int.{w8, w16, w32, from_be_bytes, to_be_bytes};
 ghost use Rattle.std.specs.List.{All, filter, find};
 ghost use Rattle.std.specs.Option.{option_map};
 ghost use Rattle.v8_memory.specs.Regions.{covers, region_at, bytes_at, with_bytes, written, fetch_of, heap_end_of, buffer_read, buffer_written, fetch_from, is_code, code_of, Region};
-ghost use Rattle.v8_memory.specs.Spans.{are_apart, mappings_apart, span_of};
+ghost use Rattle.v8_memory.specs.Code.{are_apart, mappings_apart, span_of};
 ghost use Rattle.v8_memory.specs.Kept.{AreKept, IsKept};
 ghost use Rattle.v8_memory.specs.Segments.{region_of};
 ghost use Rattle.v8_memory.specs.Calls.{IsPlan, mapping_of_plan, memory_of, allowed, load_of, store_of, Exchanges, Loads, Stores, Fills, moved_heap_end};
@@ -101,7 +101,7 @@ impl Model for Memory {
     ghost use Rattle.v8_memory.specs.Kept.{AreKept};
     ghost use Rattle.v8_memory.specs.Regions.{Memory as MemoryValue, is_code};
     ghost use Rattle.v8_memory.specs.Segments.{heap_start, heap_room};
-    ghost use Rattle.v8_memory.specs.Spans.{regions_apart};
+    ghost use Rattle.v8_memory.specs.Code.{regions_apart};
 
     ghost Value = { MemoryValue };
 

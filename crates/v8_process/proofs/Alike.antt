@@ -5,10 +5,12 @@ use Rattle.std.specs.List.{find}
 use Rattle.elf32_sparc.specs.Mapping.{Mapping, mappings}
 use Rattle.v8_memory.specs.Regions.{Region, covers}
 use Rattle.v8_memory.specs.Segments.{region_of}
-use Rattle.v8_memory.specs.Spans.{IsApart, IsApartFromAll, without_execution, IsSameRegion}
+use Rattle.v8_memory.specs.Spans.{IsApart, IsApartFromAll}
+use Rattle.v8_memory.specs.Code.{without_execution, IsSameRegion}
 use Rattle.v8_memory.proofs.Same.{chosen}
 use Rattle.v8_process.specs.Start.{stack_region}
 use Rattle.v8_process.specs.Alike.{IsSameMapping, AreSameMappings, span_of, StartsAlike}
+pub use Rattle.v8_process.proofs.Programs.{without_arguments}
 
 -- ---- a page, and a span apart from it
 

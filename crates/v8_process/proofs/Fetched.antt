@@ -16,7 +16,7 @@ use Rattle.elf32_sparc.specs.Image.{words_of, text_from, text_of, no_text, image
 use Rattle.elf32_sparc.proofs.Accepted.{Accepted, accepted, has_text, IsFit, text_is_fit}
 use Rattle.v8_memory.specs.Regions.{Region, covers, is_code, word_in, fetch_from, fetch_of}
 use Rattle.v8_memory.specs.Segments.{region_of}
-use Rattle.v8_step.specs.Valid.{AreBytes}
+use Rattle.v8_step.specs.State.{AreBytes}
 use Rattle.v8_process.specs.Start.{start_memory, stack_region}
 use Rattle.v8_process.specs.Fetched.{IsFirstCode, CodeIsFetched, TextIsFetched}
 

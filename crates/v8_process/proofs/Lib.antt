@@ -5,3 +5,4 @@ pub mod Fetched
 pub mod Loading
 pub mod Valid
 pub mod StackBytes
+pub mod Programs

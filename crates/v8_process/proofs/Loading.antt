@@ -18,9 +18,10 @@ use Rattle.v8_memory.specs.declared.memory.RegionPlan as declared
 use Rattle.v8_memory.specs.Regions.{Region, Memory}
 use Rattle.v8_memory.specs.Segments.{region_of}
 use Rattle.v8_memory.specs.Calls.{IsPlan, mapping_of_plan, memory_of}
-use Rattle.v8_memory.specs.Spans.{Span, are_apart, heap_span, is_apart, is_apart_from, mappings_apart, span_of_mapping}
+use Rattle.v8_memory.specs.Spans.{Span}
+use Rattle.v8_memory.specs.Code.{are_apart, heap_span, is_apart, is_apart_from, mappings_apart, span_of_mapping}
 use Rattle.v8_step.specs.Run.{first_state}
-use Rattle.v8_process.specs.Loading.{segment_mapping, stack_mapping}
+use Rattle.v8_process.specs.Private.{segment_mapping, stack_mapping}
 use Rattle.v8_process.specs.Start.{program_name, stack_start, stack_end, first_sp, stack_region, start_memory, start_of}
 use Rattle.v8_process.specs.Valid.{FitsStack}
 use Rattle.v8_process.proofs.Valid.{stack-count}

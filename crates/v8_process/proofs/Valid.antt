@@ -11,7 +11,8 @@ use Rattle.elf32_sparc.specs.Header.{e_entry, program_headers, loadable}
 use Rattle.elf32_sparc.specs.Mapping.{Mapping, mapping_of, mappings}
 use Rattle.elf32_sparc.proofs.Ranges.{word_at-range, mappings-room}
 use Rattle.v8_memory.specs.Segments.{region_of}
-use Rattle.v8_step.specs.Valid.{AreBytes, IsValidRegion, IsValidMemory}
+use Rattle.v8_step.specs.State.{AreBytes}
+use Rattle.v8_step.specs.Valid.{IsValidRegion, IsValidMemory}
 use Rattle.v8_step.proofs.ValidFirst.{empty_heap-valid, first_state-valid}
 use Rattle.v8_step.proofs.ValidNumbers.{high_first-bytes, flat_map-bytes}
 use Rattle.v8_process.specs.Start.{program_name, strings, pointers, stack_start, stack_end, rounded_up, rounded_down, strings_address, argument_words, argument_size, first_sp, words_address, stack_top, stack_region, start_memory, start_of}

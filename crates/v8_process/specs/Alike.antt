@@ -2,7 +2,8 @@
 use Rattle.std.specs.Prelude.{◌≡◌, ℕ, List, [], ◌∷◌, ◌++◌, map}
 use Rattle.elf32_sparc.specs.Header.{has_flag}
 use Rattle.elf32_sparc.specs.Mapping.{Mapping, mappings}
-use Rattle.v8_memory.specs.Spans.{Span, IsSameOutside}
+use Rattle.v8_memory.specs.Spans.{Span}
+use Rattle.v8_memory.specs.Code.{IsSameOutside}
 use Rattle.v8_process.specs.Start.{start_memory}
 
 -- mappings that differ at most in their permission to be executed

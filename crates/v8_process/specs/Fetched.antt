@@ -8,7 +8,7 @@ use Rattle.elf32_sparc.specs.Mapping.{Mapping, mappings}
 use Rattle.elf32_sparc.specs.Image.{image_of}
 use Rattle.v8_memory.specs.Regions.{is_code, fetch_of}
 use Rattle.v8_memory.specs.Segments.{region_of}
-use Rattle.v8_step.specs.Valid.{AreBytes}
+use Rattle.v8_step.specs.State.{AreBytes}
 use Rattle.v8_process.specs.Start.{start_memory}
 
 -- the first mapping of a file whose words may be executed

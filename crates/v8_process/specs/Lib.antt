@@ -3,6 +3,7 @@ pub mod Arguments
 pub mod Fetched
 pub mod Laws
 pub mod Loading
-pub mod Programs
 pub mod Start
 pub mod Valid
+pub mod Code
+pub mod Private

@@ -4,7 +4,8 @@ use Rattle.std.specs.List.{All}
 use Rattle.elf32_sparc.specs.Header.{program_headers}
 use Rattle.elf32_sparc.specs.FileFault.{has_bytes_outside}
 use Rattle.elf32_sparc.specs.Mapping.{Mapping, mappings}
-use Rattle.v8_step.specs.Valid.{AreBytes, IsValid}
+use Rattle.v8_step.specs.Valid.{IsValid}
+use Rattle.v8_step.specs.State.{AreBytes}
 use Rattle.v8_process.specs.Start.{start_of, program_name, strings, rounded_up, argument_size, stack_start, stack_end}
 
 -- no more bytes of the file than there are of memory

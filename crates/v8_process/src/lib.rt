@@ -5,7 +5,7 @@
 
 ghost use Rattle.std.specs.Prelude.{ℕ, List};
 ghost use Rattle.v8_process.specs.Alike.{StartsAlike};
-ghost use Rattle.v8_process.specs.Arguments.{ArgumentsFit};
+ghost use Rattle.v8_process.specs.Code.{ArgumentsFit};
 ghost use Rattle.v8_process.specs.Fetched.{CodeIsFetched, TextIsFetched};
 ghost use Rattle.v8_process.specs.Laws.{StartsAtEntry};
 ghost use Rattle.v8_process.specs.Valid.{MappingsHaveRoom, StartsValid};

@@ -3,7 +3,8 @@ ghost use Rattle.std.specs.Prelude.{◌≡◌, ◌∷◌, ◌++◌, [], None, le
 ghost use Rattle.elf32_sparc.specs.FileFault.{load_fault};
 ghost use Rattle.v8_memory.specs.Calls.{mapping_of_plan};
 ghost use Rattle.v8_process.specs.Arguments.{AreArguments, texts};
-ghost use Rattle.v8_process.specs.Loading.{segment_mapping, stack_mapping, refusal};
+ghost use Rattle.v8_process.specs.Private.{segment_mapping, stack_mapping};
+ghost use Rattle.v8_process.specs.Loading.{refusal};
 ghost use Rattle.v8_process.specs.Start.{program_name, start_memory, start_of};
 ghost use Rattle.v8_process.specs.Valid.{FitsStack};
 

@@ -6,7 +6,8 @@ use Rattle.v8_step.specs.State.{State}
 use Rattle.v8_step.specs.Run.{run, run_puts}
 use Rattle.v8_step.specs.Turns.{IsQuietRun}
 use Rattle.v8_step.proofs.RunsOn.{puts_add, run_add}
-use Rattle.v8_runner.specs.Runs.{AreMade, IsAhead}
+use Rattle.v8_runner.specs.Made.{AreMade}
+use Rattle.v8_runner.specs.Private.{IsAhead}
 
 pub ahead : (s0 s t : State) (n k : ℕ) → s ≡ run s0 n → AreMade s0 n → IsQuietRun s k t → IsAhead s0 n (n + k) t
 ahead s0 s t n k is made h = record {

@@ -5,7 +5,9 @@ ghost use Rattle.std.specs.Prelude.{◌≡◌, ◌⊎◌, ◌≤◌, None};
 ghost use Rattle.v8_step.specs.Machine.{FailsAt};
 ghost use Rattle.v8_step.specs.Run.{run as run_of, run_puts};
 ghost use Rattle.v8_step.specs.Step.{puts_of};
-ghost use Rattle.v8_runner.specs.Runs.{IsAhead, IsStop, AreMade, RunTakes};
+ghost use Rattle.v8_runner.specs.Private.{IsAhead};
+ghost use Rattle.v8_runner.specs.Runs.{IsStop, RunTakes};
+ghost use Rattle.v8_runner.specs.Made.{AreMade};
 ghost use Rattle.v8_step.specs.State.{State};
 
 use eel_base::{Addr, Sink};

@@ -12,7 +12,8 @@ use Rattle.v8_alu.specs.Conditions.{holds_of}
 use Rattle.v8_alu.specs.Numbers.{wrapped}
 use Rattle.v8_step.specs.declared.Ending.{Ending}
 use Rattle.v8_step.specs.declared.Ending.TheVariants.{Trap, Window}
-use Rattle.v8_step.specs.State.{State, NoSlot, sum_of}
+use Rattle.v8_step.specs.State.{State, sum_of}
+use Rattle.v8_step.specs.declared.Slot.TheVariants.{NoSlot}
 use Rattle.v8_step.specs.Traps.{flush_windows, call_system, data_access_exception}
 use Rattle.v8_step.specs.Transfers.{next, ended}
 use Rattle.v8_step.specs.Accesses.{load_size, store_size, stored, on_bytes, on_memory, load_step, store_step, exchange_step, ldstub_step, swap_step}

@@ -5,7 +5,7 @@ use Rattle.std.specs.Int.{Width}
 use Rattle.v8_memory.specs.declared.fault.MemFault.{MemFault}
 use Rattle.v8_memory.specs.Calls.{Exchanges as MemoryExchanges}
 use Rattle.v8_memory.specs.Regions.{Memory}
-use Rattle.v8_step.specs.Machine.{Exchanges}
+use Rattle.v8_step.specs.Private.{Exchanges}
 use Rattle.v8_step.specs.State.{State}
 
 pub exchanged : (width : Width) (read : Result (List ℕ) MemFault) (stored : Result Memory MemFault) (s : State)

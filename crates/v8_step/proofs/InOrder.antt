@@ -15,13 +15,16 @@ use Rattle.v8_decode.specs.declared.Instr.{Instr}
 use Rattle.v8_memory.specs.declared.ops.Op.{Op}
 use Rattle.v8_memory.specs.declared.ops.OpCode.TheVariants.{Other}
 use Rattle.v8_memory.specs.Kept.{AreKept, IsKept}
-use Rattle.v8_memory.specs.Ops.{instr_of, is_record}
+use Rattle.v8_memory.specs.Ops.{instr_of}
+use Rattle.v8_memory.specs.Private.{is_record}
 use Rattle.v8_memory.specs.Regions.{code_of}
 use Rattle.v8_step.specs.declared.ahead.Here.{Here}
 use Rattle.v8_step.specs.declared.ahead.Turn.{Turn}
 use Rattle.v8_step.specs.declared.ahead.Turn.TheVariants.{On, Stop}
 use Rattle.v8_step.specs.Ahead.{GoesOn, HasTurned, address_at, at_here, at_places, placed, slot_by, slot_of}
-use Rattle.v8_step.specs.State.{State, Slot, NoSlot}
+use Rattle.v8_step.specs.State.{State}
+use Rattle.v8_step.specs.declared.Slot.{Slot}
+use Rattle.v8_step.specs.declared.Slot.TheVariants.{NoSlot}
 use Rattle.v8_step.specs.Step.{act}
 use Rattle.v8_step.specs.Turns.{IsQuietRun}
 use Rattle.v8_step.proofs.QuietRuns.{no_step, one_more, says_some, still_kept}

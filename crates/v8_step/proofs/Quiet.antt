@@ -7,7 +7,7 @@ use Rattle.v8_decode.specs.declared.Instr.{Instr}
 use Rattle.v8_decode.specs.declared.Instr.TheVariants as i
 use Rattle.v8_step.specs.State.{State}
 use Rattle.v8_step.specs.Step.{act, puts_by}
-use Rattle.v8_step.specs.Machine.{quiet_act}
+use Rattle.v8_step.specs.Private.{quiet_act}
 
 pub appended_nothing : (taken : Option (List ℕ)) → appended taken [] ≡ taken
 appended_nothing None = refl

@@ -6,7 +6,8 @@ use Rattle.v8_memory.specs.declared.ops.Op.{Op}
 use Rattle.v8_memory.specs.declared.ops.OpCode.{OpCode}
 use Rattle.v8_memory.specs.declared.ops.OpCode.TheVariants.{Other}
 use Rattle.v8_memory.specs.Kept.{AreKept, IsKept, StandsFor}
-use Rattle.v8_memory.specs.Ops.{instr_of, is_record}
+use Rattle.v8_memory.specs.Ops.{instr_of}
+use Rattle.v8_memory.specs.Private.{is_record}
 use Rattle.v8_memory.specs.Regions.{code_of, fetch_of}
 use Rattle.v8_step.specs.State.{State}
 use Rattle.v8_step.specs.Step.{act, step_of}

@@ -6,7 +6,7 @@ use Rattle.v8_step.specs.Accesses.{on_memory}
 use Rattle.v8_step.specs.State.{State}
 use Rattle.v8_step.specs.Transfers.{ended}
 use Rattle.v8_step.specs.WindowMoves.{saved_memory, spill_many}
-use Rattle.v8_step.specs.Machine.{Spills}
+use Rattle.v8_step.specs.Private.{Spills}
 
 -- the oldest was saved
 pub one_less : (s new : State) (result : Bool) → 1 < s.valid → Spills (saved_memory s) s new result → result ≡ true

@@ -7,13 +7,13 @@ use Rattle.v8_decode.specs.declared.LoadKind.TheVariants as loads
 use Rattle.v8_decode.specs.declared.StoreKind.{StoreKind}
 use Rattle.v8_decode.specs.declared.StoreKind.TheVariants as stores
 use Rattle.v8_memory.specs.Regions.{bytes_at, with_bytes}
-use Rattle.v8_windows.specs.Registers.{AreRegisters}
+use Rattle.v8_windows.specs.Code.{AreRegisters}
 use Rattle.v8_step.specs.declared.Ending.TheVariants.{Trap}
-use Rattle.v8_step.specs.State.{State, register_of}
+use Rattle.v8_step.specs.State.{State, register_of, AreBytes}
 use Rattle.v8_step.specs.Traps.{data_access_exception}
 use Rattle.v8_step.specs.Transfers.{next}
 use Rattle.v8_step.specs.Accesses.{load_size, store_size, loaded, stored, load_step, store_step, exchange_step, ldstub_step, swap_step}
-use Rattle.v8_step.specs.Valid.{AreBytes, IsValid}
+use Rattle.v8_step.specs.Valid.{IsValid}
 use Rattle.v8_step.proofs.ValidNumbers.{register_set-valid, word_of-range, half-range, single-range, extended_8-range, extended_16-range, high_first-bytes}
 use Rattle.v8_step.proofs.ValidMemory.{bytes_at-bytes, with_bytes-valid}
 use Rattle.v8_step.proofs.ValidStates.{registers-valid, register-valid, ended-valid, next-valid, if-valid, bytes-valid, on-valid}

@@ -3,10 +3,10 @@ use Rattle.std.proofs.Common.{ℕ, ◌-◌, ◌^◌, ◌<◌, Bool, true, false,
 use Rattle.std.proofs.lemmas.Bool.{leb-true, and_parts, cond_both}
 use Rattle.std.proofs.lemmas.List.Elements.{All-take, All-drop}
 use Rattle.v8_memory.specs.Regions.{Memory, with_heap_end, buffer_written, buffer_read, is_heap_end}
-use Rattle.v8_step.specs.State.{State, register_of, with_register}
+use Rattle.v8_step.specs.State.{State, register_of, with_register, AreBytes}
 use Rattle.v8_step.specs.Traps.{flush_windows, call_system, EBADF, ENOMEM, EFAULT, ENOSYS}
 use Rattle.v8_step.specs.Calls.{answered, refuses, read_into, write_from, is_output, heap_call, system_call, trap_step}
-use Rattle.v8_step.specs.Valid.{AreBytes, IsValidMemory, IsValid}
+use Rattle.v8_step.specs.Valid.{IsValidMemory, IsValid}
 use Rattle.v8_step.proofs.ValidMemory.{with_bytes-valid, with_heap_end-valid}
 use Rattle.v8_step.proofs.ValidStates.{register_of-range, register-valid, memory-valid, input-valid, codes-valid, ended-valid, next-valid, if-valid}
 use Rattle.v8_step.proofs.ValidWindows.{spill_many-valid}

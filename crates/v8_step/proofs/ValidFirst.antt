@@ -5,7 +5,8 @@ use Rattle.std.proofs.lemmas.List.{length-replicate}
 use Rattle.v8_memory.specs.Regions.{Memory}
 use Rattle.v8_memory.specs.Segments.{empty_heap, heap_room}
 use Rattle.v8_step.specs.Run.{zeros, first_state}
-use Rattle.v8_step.specs.Valid.{AreBytes, IsValidHeap, IsValidMemory, IsValid}
+use Rattle.v8_step.specs.State.{AreBytes}
+use Rattle.v8_step.specs.Valid.{IsValidHeap, IsValidMemory, IsValid}
 use Rattle.v8_step.proofs.ValidStates.{wrapped-range}
 
 zeros-words : (n : ℕ) → All (λ w. w < 2 ^ 32) (zeros n)

@@ -5,7 +5,8 @@ use Rattle.std.proofs.lemmas.Bool.{leb-true, and_parts, cond_both}
 use Rattle.std.proofs.lemmas.List.Elements.{All-cons, All-head, All-tail, All-append, All-take, All-drop, All-map, All-weaker}
 use Rattle.v8_memory.specs.Regions.{Region, Memory, covers, region_at, part_of, if_allowed, read_region, bytes_at, changed, written, all_written, write_region, with_bytes, with_heap_end}
 use Rattle.v8_memory.specs.Segments.{heap_room}
-use Rattle.v8_step.specs.Valid.{AreBytes, IsValidRegion, IsValidHeap, IsValidMemory}
+use Rattle.v8_step.specs.State.{AreBytes}
+use Rattle.v8_step.specs.Valid.{IsValidRegion, IsValidHeap, IsValidMemory}
 
 -- ---- reading
 

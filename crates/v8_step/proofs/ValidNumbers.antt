@@ -4,11 +4,12 @@ use Rattle.std.specs.Int.{w8, w16, w32, to_be_bytes, from_be_bytes, bytes_high_f
 use Rattle.std.proofs.lemmas.Bool.Decides.{nat_tests}
 use Rattle.std.proofs.lemmas.List.Elements.{All-nil, All-cons, All-head, All-tail, All-set, All-append, All-take, All-drop, All-same}
 use Rattle.std.proofs.lemmas.List.Concat.{flat_map-cons}
-use Rattle.v8_windows.specs.Registers.{AreRegisters, place_of, register_in, register_set}
+use Rattle.v8_windows.specs.Code.{AreRegisters}
+use Rattle.v8_windows.specs.Registers.{place_of, register_in, register_set}
 use Rattle.v8_windows.specs.Frames.{frame_registers, frame_of, frame_bytes, registers_from, with_frame}
 use Rattle.v8_windows.proofs.Places.{place_of-below}
 use Rattle.v8_step.specs.Accesses.{word_of, extended}
-use Rattle.v8_step.specs.Valid.{AreBytes}
+use Rattle.v8_step.specs.State.{AreBytes}
 
 -- ---- registers
 

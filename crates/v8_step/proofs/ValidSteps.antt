@@ -10,7 +10,7 @@ use Rattle.v8_memory.specs.Regions.{fetch_of}
 use Rattle.v8_alu.specs.declared.AluOut.{AluOut}
 use Rattle.v8_alu.specs.declared.AluTrap.{AluTrap}
 use Rattle.v8_alu.specs.declared.AluTrap.TheVariants.{DivZero, TagOverflow}
-use Rattle.v8_alu.specs.Alu.{IsOutInRange}
+use Rattle.v8_alu.specs.Code.{IsOutInRange}
 use Rattle.v8_alu.specs.Conditions.{holds_of}
 use Rattle.v8_alu.proofs.Ranges.{alu_of-range}
 use Rattle.v8_step.specs.declared.Ending.{Ending}

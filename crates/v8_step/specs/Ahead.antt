@@ -5,8 +5,10 @@ use Rattle.v8_alu.specs.Numbers.{wrapped}
 use Rattle.v8_step.specs.declared.ahead.Here.{Here}
 use Rattle.v8_step.specs.declared.ahead.Turn.{Turn}
 use Rattle.v8_step.specs.declared.ahead.Turn.TheVariants.{On, Past, To, At, Stop}
-use Rattle.v8_step.specs.State.{State, Slot, NoSlot, Taken, Untaken}
+use Rattle.v8_step.specs.State.{State}
 use Rattle.v8_step.specs.Step.{act}
+use Rattle.v8_step.specs.declared.Slot.{Slot}
+use Rattle.v8_step.specs.declared.Slot.TheVariants.{NoSlot, Taken, Untaken}
 
 abbrev pub placed : State → ℕ → ℕ → Slot → State
 placed s pc npc slot = record s { pc = pc; npc = npc; slot = slot }

@@ -5,7 +5,6 @@ use Rattle.v8_decode.specs.declared.Instr.{Instr}
 use Rattle.v8_decode.specs.declared.Instr.TheVariants as i
 use Rattle.v8_decode.specs.declared.Part.{Part}
 use Rattle.v8_decode.specs.declared.Part.TheVariants.{Reg, Icc, Y}
-use Rattle.v8_decode.specs.Effects.{reads_of, reads_all}
 use Rattle.v8_windows.specs.Registers.{place_of}
 use Rattle.v8_step.specs.State.{State}
 
@@ -36,15 +35,6 @@ abbrev pub IsSameAt : StateItem → State → State → Type 0
 IsSameAt (Register n) s t = slice_index s.registers n ≡ slice_index t.registers n
 IsSameAt Codes s t = s.codes ≡ t.codes
 IsSameAt YRegister s t = s.y ≡ t.y
-
-abbrev pub AreSameAt : List Part → State → State → Type 0
-AreSameAt [] s t = Unit {0}
-AreSameAt (p ∷ ps) s t = IsSameAt (item_of s.window p) s t × AreSameAt ps s t
-
--- they have the same wherever an instruction reads; SAVE, RESTORE and Ticc read every item
-abbrev pub IsSameForReading : Instr → State → State → Type 0
-IsSameForReading instr s t =
-    (reads_all instr ≡ true → (item : StateItem) → IsItem item → IsSameAt item s t) × AreSameAt (reads_of instr) s t
 
 -- the instructions that transfer control to an address of their own
 abbrev pub is_transfer : Instr → Bool

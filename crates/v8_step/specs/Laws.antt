@@ -3,10 +3,10 @@ use Rattle.std.specs.Prelude.{◌≡◌, ℕ, ◌^◌, ◌<◌, false, List}
 use Rattle.v8_decode.specs.declared.Instr.{Instr}
 use Rattle.v8_decode.specs.Effects.{reads_all}
 use Rattle.v8_memory.specs.Regions.{Memory, code_of, fetch_of}
-use Rattle.v8_step.specs.State.{State}
+use Rattle.v8_step.specs.State.{State, AreBytes}
 use Rattle.v8_step.specs.Step.{act, step_of}
 use Rattle.v8_step.specs.Run.{run, first_state}
-use Rattle.v8_step.specs.Valid.{AreBytes, IsValidMemory, IsValid}
+use Rattle.v8_step.specs.Valid.{IsValidMemory, IsValid}
 
 -- No step changes a word that can be executed, and so no run does.
 abbrev pub CodeStays : Type 0

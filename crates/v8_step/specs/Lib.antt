@@ -13,3 +13,5 @@ pub mod Traps
 pub mod Turns
 pub mod Valid
 pub mod WindowMoves
+pub mod Code
+pub mod Private

@@ -2,8 +2,9 @@
 use Rattle.std.specs.Prelude.{ℕ, zero, suc, ◌+◌, List, [], ◌∷◌, ◌++◌, false, None}
 use Rattle.v8_memory.specs.Regions.{Memory}
 use Rattle.v8_alu.specs.Numbers.{wrapped}
-use Rattle.v8_step.specs.State.{State, NoSlot}
+use Rattle.v8_step.specs.State.{State}
 use Rattle.v8_step.specs.Step.{step_of, puts_of}
+use Rattle.v8_step.specs.declared.Slot.TheVariants.{NoSlot}
 
 -- the state after n steps
 abbrev pub run : State → ℕ → State

@@ -1,16 +1,16 @@
 -- The state of the machine that a program sees: an integer unit in user mode, with eight register windows and
 -- neither floating-point unit nor coprocessor. Sections are those of The SPARC Architecture Manual, Version 8.
-use Rattle.std.specs.Prelude.{ℕ, ◌+◌, List, Option}
+use Rattle.std.specs.Prelude.{ℕ, ◌+◌, List, Option, ◌<◌}
 use Rattle.std.specs.Int.{w32, cast_unsigned}
+use Rattle.std.specs.List.{All}
 use Rattle.v8_decode.specs.declared.Op2.{Op2}
 use Rattle.v8_decode.specs.declared.Op2.TheVariants.{Reg, Imm}
 use Rattle.v8_memory.specs.Regions.{Memory}
 use Rattle.v8_windows.specs.Registers.{register_in, register_set}
 use Rattle.v8_alu.specs.declared.Codes.{Codes}
 use Rattle.v8_step.specs.declared.Ending.{Ending}
-pub use Rattle.v8_step.specs.declared.Slot.{Slot}
-pub use Rattle.v8_step.specs.declared.Slot.TheVariants.{NoSlot, Taken, Untaken}
 use Rattle.v8_alu.specs.Numbers.{wrapped}
+use Rattle.v8_step.specs.declared.Slot.{Slot}
 
 pub record State : Type 0 where
   pub pc : ℕ  -- PC and nPC (section 4.2)
@@ -40,3 +40,6 @@ operand_of s (Imm n) = wrapped (cast_unsigned w32 n)
 -- rs1 plus the second operand: an address, a target, or the value of SAVE and RESTORE
 abbrev pub sum_of : State → ℕ → Op2 → ℕ
 sum_of s rs1 op2 = wrapped (register_of s rs1 + operand_of s op2)
+
+abbrev pub AreBytes : List ℕ → Type 0
+AreBytes bytes = All (λ b. b < 256) bytes

@@ -7,8 +7,10 @@ use Rattle.v8_step.specs.declared.Ending.{Ending}
 use Rattle.v8_step.specs.declared.Ending.TheVariants.{Trap, Couple}
 use Rattle.v8_alu.specs.Numbers.{wrapped}
 use Rattle.v8_alu.specs.Conditions.{holds_of}
-use Rattle.v8_step.specs.State.{State, Slot, NoSlot, Taken, Untaken, with_register}
+use Rattle.v8_step.specs.State.{State, with_register}
 use Rattle.v8_step.specs.Traps.{mem_address_not_aligned}
+use Rattle.v8_step.specs.declared.Slot.TheVariants.{NoSlot, Taken, Untaken}
+use Rattle.v8_step.specs.declared.Slot.{Slot}
 
 -- the next instruction in order
 abbrev pub next : State → State

@@ -1,13 +1,11 @@
 -- What the state of a machine always is: its numbers fit their registers, and its bytes are bytes.
-use Rattle.std.specs.Prelude.{◌≡◌, ℕ, ◌^◌, ◌<◌, ◌≤◌, List, length}
+use Rattle.std.specs.Prelude.{◌≡◌, ◌^◌, ◌<◌, ◌≤◌, length}
 use Rattle.std.specs.List.{All}
 use Rattle.v8_memory.specs.Regions.{Region, Memory}
 use Rattle.v8_memory.specs.Segments.{heap_start, heap_room}
-use Rattle.v8_windows.specs.Registers.{AreRegisters, windows}
-use Rattle.v8_step.specs.State.{State}
-
-abbrev pub AreBytes : List ℕ → Type 0
-AreBytes bytes = All (λ b. b < 256) bytes
+use Rattle.v8_windows.specs.Registers.{windows}
+use Rattle.v8_windows.specs.Code.{AreRegisters}
+use Rattle.v8_step.specs.State.{State, AreBytes}
 
 -- a region, all of whose bytes are mapped
 pub record IsValidRegion (r : Region) : Type 0 where

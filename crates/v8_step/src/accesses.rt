@@ -5,8 +5,9 @@ ghost use Rattle.v8_step.specs.Ahead.{placed};
 ghost use Rattle.std.specs.Int.{w8, w32, to_be_bytes};
 ghost use Rattle.v8_memory.specs.Calls.{Loads, load_of, store_of};
 ghost use Rattle.v8_step.specs.Accesses.{load_size, extended, load_step, store_step, ldstub_step, swap_step};
-ghost use Rattle.v8_step.specs.Machine.{Exchanges, trap_of, value_of};
-ghost use Rattle.v8_step.specs.State.{NoSlot, Slot};
+ghost use Rattle.v8_step.specs.Private.{Exchanges, trap_of, value_of};
+ghost use Rattle.v8_step.specs.declared.Slot.TheVariants.{NoSlot};
+ghost use Rattle.v8_step.specs.declared.Slot.{Slot};
 ghost use Rattle.v8_step.specs.Transfers.{trapped};
 
 use crate::machine::{Machine, register};

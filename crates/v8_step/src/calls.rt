@@ -1,7 +1,8 @@
 //! Software traps and system calls.
 ghost use Rattle.std.specs.Prelude.{[], ◌≡◌, ◌⊎◌, ◌≤◌, ◌<◌, OnOk, OnErr};
 ghost use Rattle.v8_step.specs.Calls.{answered, succeeds, refuses, read_call, write_call, heap_call, system_step, trap_step};
-ghost use Rattle.v8_step.specs.Machine.{FailsAt, Puts, call_puts, trap_puts};
+ghost use Rattle.v8_step.specs.Machine.{FailsAt};
+ghost use Rattle.v8_step.specs.Private.{Puts, call_puts, trap_puts};
 ghost use Rattle.v8_step.specs.Step.{written_out};
 
 use crate::Ending;

@@ -2,8 +2,9 @@
 ghost use Rattle.std.specs.Prelude.{[], ◌≡◌, ◌⊎◌, ◌≤◌, IsTrue, Some, None, OnOk, OnErr};
 ghost use Rattle.v8_step.specs.declared.Ending.{Ending};
 ghost use Rattle.v8_decode.specs.Ranges.{has_even_pair};
-ghost use Rattle.v8_alu.specs.Alu.{alu_has_form};
-ghost use Rattle.v8_step.specs.Machine.{FailsAt, Puts, Steps, Takes, quiet_act};
+ghost use Rattle.v8_alu.specs.Code.{alu_has_form};
+ghost use Rattle.v8_step.specs.Machine.{FailsAt, Steps, Takes};
+ghost use Rattle.v8_step.specs.Private.{Puts, quiet_act};
 ghost use Rattle.v8_step.specs.Step.{act, alu_step, puts_by, puts_of, step_of};
 
 use crate::Ending;

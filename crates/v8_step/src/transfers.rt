@@ -1,6 +1,6 @@
 //! Branches, CALL and JMPL, with their delay slots.
 ghost use Rattle.std.specs.Prelude.{◌≡◌};
-ghost use Rattle.v8_step.specs.Machine.{in_slot};
+ghost use Rattle.v8_step.specs.Private.{in_slot};
 ghost use Rattle.v8_step.specs.Transfers.{target_of, delayed, branched, unless_couple, branch_step, call_step, jump_step};
 
 use crate::machine::{Machine, register};

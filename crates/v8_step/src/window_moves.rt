@@ -8,9 +8,11 @@ ghost use Rattle.std.specs.Option.{option_map};
 ghost use Rattle.v8_memory.specs.Calls.{Fills as Written};
 ghost use Rattle.v8_windows.specs.Calls.{frame_words as words_of_frame};
 ghost use Rattle.v8_windows.specs.Frames.{frame_pointer};
-ghost use Rattle.v8_step.specs.State.{NoSlot, Slot, register_of};
+ghost use Rattle.v8_step.specs.declared.Slot.TheVariants.{NoSlot};
+ghost use Rattle.v8_step.specs.declared.Slot.{Slot};
+ghost use Rattle.v8_step.specs.State.{register_of};
 ghost use Rattle.v8_step.specs.WindowMoves.{frame_read, frame_written, saved_memory, enter, leave, spill_many, save_step, restore_step};
-ghost use Rattle.v8_step.specs.Machine.{Fills, Spills};
+ghost use Rattle.v8_step.specs.Private.{Fills, Spills};
 
 use crate::Ending;
 use crate::machine::{Machine, register};

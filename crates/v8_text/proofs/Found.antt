@@ -6,7 +6,8 @@ use Rattle.std.proofs.lemmas.Bool.{eq-eqb}
 use Rattle.std.proofs.lemmas.Bool.Decides.{nat_tests}
 use Rattle.std.proofs.lemmas.List.FromFn.{get_or-map-range_with_len}
 use Rattle.std.proofs.lemmas.Slice.Eq.{bytes_eq-Decides}
-use Rattle.line_words.specs.Words.{register_of, register_text}
+use Rattle.line_words.specs.Words.{register_of}
+use Rattle.line_words.specs.Registers.{register_text}
 use Rattle.line_words.proofs.Registers.{register_read}
 pub use Rattle.line_words.proofs.Split.{is_whole, whole_append}
 use Rattle.v8_text.specs.Parts.{behind, first_of}

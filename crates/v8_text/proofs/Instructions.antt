@@ -14,7 +14,7 @@ use Rattle.v8_decode.specs.declared.Instr.TheVariants as i
 use Rattle.v8_decode.specs.declared.Op2.{Op2}
 use Rattle.v8_decode.specs.Forms.{has_form}
 use Rattle.v8_decode.specs.Ranges.{has_even_pair, is_in_range, op2_in_range, operands_in_range}
-use Rattle.v8_encode.specs.Encoding.{fits_signed, has_word, op2_fits}
+use Rattle.v8_encode.specs.Code.{fits_signed, has_word, op2_fits}
 use Rattle.v8_text.specs.declared.names.Name.{Name}
 use Rattle.v8_text.specs.declared.names.Name.TheVariants as n
 use Rattle.v8_text.specs.Texts.{alu_text, branch_text, comma, instr_text, load_text, named, number_text, sources, store_text, target_of, trap_text}

@@ -11,7 +11,7 @@ use Rattle.line_words.proofs.Steps.{mapped, step, tested}
 use Rattle.v8_decode.specs.declared.Op2.{Op2}
 use Rattle.v8_decode.specs.declared.Op2.TheVariants as o
 use Rattle.v8_decode.specs.Ranges.{op2_in_range}
-use Rattle.v8_encode.specs.Encoding.{fits_signed, op2_fits}
+use Rattle.v8_encode.specs.Code.{fits_signed, op2_fits}
 use Rattle.v8_text.specs.Texts.{integer_text, op2_text}
 use Rattle.v8_text.specs.Parts.{behind, below_zero, integer_by, integer_of, op2_of, small}
 use Rattle.v8_text.proofs.Found.{behind_back, behind_read, either_of, no_register, register_whole-44, register_whole-93}

@@ -18,7 +18,8 @@ use Rattle.v8_decode.specs.contracts.AluOpPartialEq.TheImpl as alu_eq
 use Rattle.v8_decode.specs.contracts.LoadKindPartialEq.TheImpl as load_eq
 use Rattle.v8_decode.specs.Words.{arithmetic, branch_or_sethi, decode_of, field, memory}
 use Rattle.v8_decode.proofs.Rows.{decode_of-ranges}
-use Rattle.v8_encode.specs.Encoding.{cleared, encode_of, has_word, ignored_of, is_instruction, word_of}
+use Rattle.v8_encode.specs.Code.{cleared, encode_of, has_word, ignored_of}
+use Rattle.v8_encode.specs.Encoding.{is_instruction, word_of}
 use Rattle.v8_encode.proofs.Decoded.{decode_of-word_of}
 use Rattle.v8_encode.proofs.Encoded.{encode_of-decode_of}
 use Rattle.v8_text.specs.Texts.{is_least, is_spelled, lines_from, same_instr, word_text}

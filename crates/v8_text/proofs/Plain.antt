@@ -4,7 +4,8 @@ use Rattle.std.specs.List.{list_all}
 use Rattle.std.proofs.lemmas.Bool.{and_parts, ltb-true}
 use Rattle.std.proofs.lemmas.Bool.Decides.{nat_tests}
 use Rattle.eel_base.specs.Fields.{hex_digit, hex_digit_at, hex_of}
-use Rattle.line_words.specs.Words.{is_digit, register_text}
+use Rattle.line_words.specs.Words.{is_digit}
+use Rattle.line_words.specs.Registers.{register_text}
 use Rattle.line_words.proofs.Split.{decimal_digits, is_whole}
 use Rattle.v8_decode.specs.declared.Instr.{Instr}
 use Rattle.v8_decode.specs.declared.Instr.TheVariants as i
@@ -14,7 +15,7 @@ use Rattle.v8_decode.specs.declared.AluOp.{AluOp}
 use Rattle.v8_decode.specs.declared.LoadKind.{LoadKind}
 use Rattle.v8_decode.specs.declared.StoreKind.{StoreKind}
 use Rattle.v8_decode.specs.Ranges.{is_in_range, op2_in_range, operands_in_range}
-use Rattle.v8_encode.specs.Encoding.{fits_signed, has_word, op2_fits}
+use Rattle.v8_encode.specs.Code.{fits_signed, has_word, op2_fits}
 use Rattle.v8_text.specs.Texts.{alu_text, branch_text, comma, instr_text, integer_text, load_text, loaded, named, number_text, op2_text, operands, sources, store_text, stored, target_of, trap_text}
 use Rattle.v8_text.proofs.Found.{at_each, whole_append}
 

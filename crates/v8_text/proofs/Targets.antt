@@ -6,7 +6,8 @@ use Rattle.eel_base.specs.Fields.{hex_of}
 use Rattle.line_words.proofs.Digits.{address_back, address_read}
 use Rattle.line_words.proofs.Steps.{step, tested}
 use Rattle.v8_decode.specs.Words.{signed}
-use Rattle.v8_encode.specs.Encoding.{fits_signed, signed_field}
+use Rattle.v8_encode.specs.Code.{fits_signed}
+use Rattle.v8_encode.specs.Encoding.{signed_field}
 use Rattle.v8_encode.proofs.Fields.{signed-signed_field, signed_field-signed}
 use Rattle.v8_text.specs.Texts.{number_text, target_of}
 use Rattle.v8_text.specs.Parts.{behind, displacement_of, number_in, words_between}

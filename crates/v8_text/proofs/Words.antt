@@ -9,7 +9,8 @@ use Rattle.line_words.proofs.Steps.{step, tested}
 use Rattle.v8_decode.specs.declared.Instr.{Instr}
 use Rattle.v8_decode.specs.Words.{decode_of}
 use Rattle.v8_decode.proofs.Rows.{decode_of-ranges}
-use Rattle.v8_encode.specs.Encoding.{encode_of, has_word, word_of}
+use Rattle.v8_encode.specs.Code.{encode_of, has_word}
+use Rattle.v8_encode.specs.Encoding.{word_of}
 use Rattle.v8_text.specs.Texts.{instr_text, is_spelled, named, number_text, raw_text, word_text}
 use Rattle.v8_text.specs.Parts.{instr_of, joined_of, name_of, single_of, number_in, raw_of, unspelled, word_in}
 use Rattle.v8_text.specs.Laws.{TextsReadBack}

@@ -2,3 +2,5 @@ pub mod Texts
 pub mod Parts
 pub mod Laws
 pub mod Listings
+pub mod Code
+pub mod Private

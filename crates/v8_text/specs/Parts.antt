@@ -3,7 +3,7 @@ use Rattle.std.specs.Prelude.{ℕ, zero, suc, ◌+◌, ◌-◌, ◌/◌, ◌%◌
 use Rattle.std.specs.List.{find, range_with_len}
 use Rattle.std.specs.Option.{option_map}
 use Rattle.std.specs.Str.{bytes_eq}
-use Rattle.line_words.specs.Words.{◌>>=◌, hex_number_of, number_of, register_of, split_at}
+use Rattle.line_words.specs.Words.{◌>>=◌, number_of, register_of, split_at}
 use Rattle.v8_decode.specs.declared.Instr.{Instr}
 use Rattle.v8_decode.specs.declared.Instr.TheVariants as i
 use Rattle.v8_decode.specs.declared.Op2.{Op2}
@@ -15,7 +15,8 @@ use Rattle.v8_decode.specs.declared.LoadKind.TheVariants as loads
 use Rattle.v8_decode.specs.declared.StoreKind.{StoreKind}
 use Rattle.v8_decode.specs.declared.StoreKind.TheVariants as stores
 use Rattle.v8_decode.specs.Words.{signed}
-use Rattle.v8_encode.specs.Encoding.{encode_of}
+use Rattle.v8_encode.specs.Code.{encode_of}
+use Rattle.line_words.specs.Registers.{hex_number_of}
 use Rattle.v8_text.specs.declared.names.Name.{Name}
 use Rattle.v8_text.specs.declared.names.Name.TheVariants as n
 use Rattle.v8_text.specs.Texts.{alu_text, branch_text, is_spelled, load_text, store_text, trap_text}

@@ -6,7 +6,6 @@ use Rattle.std.specs.Int.{w32, cast_unsigned}
 use Rattle.std.specs.List.{list_any, range_with_len}
 use Rattle.eel_base.specs.CodeText.{Words}
 use Rattle.eel_base.specs.Fields.{hex_of}
-use Rattle.line_words.specs.Words.{register_text}
 use Rattle.v8_decode.specs.declared.Instr.{Instr}
 use Rattle.v8_decode.specs.declared.Instr.TheVariants as i
 use Rattle.v8_decode.specs.contracts.InstrPartialEq.TheImpl as instr_eq
@@ -20,6 +19,7 @@ use Rattle.v8_decode.specs.declared.StoreKind.{StoreKind}
 use Rattle.v8_decode.specs.declared.StoreKind.TheVariants as stores
 use Rattle.v8_decode.specs.Words.{decode_of}
 use Rattle.v8_encode.specs.Encoding.{is_instruction}
+use Rattle.line_words.specs.Registers.{register_text}
 
 -- ---- names
 

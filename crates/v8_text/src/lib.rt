@@ -2,7 +2,7 @@
 #![tactic(auto)]
 
 ghost use Rattle.v8_text.specs.Laws.{TextsReadBack};
-ghost use Rattle.v8_text.specs.Listings.{ListingsReadBack};
+ghost use Rattle.v8_text.specs.Code.{ListingsReadBack};
 
 mod listings;
 mod names;

@@ -1,6 +1,8 @@
 //! Listings of texts.
 ghost use Rattle.std.specs.Prelude.{◌≡◌, ◌++◌, ◌∷◌, [], Some, None, IfErr, IfOk, OnErr, OnOk};
-ghost use Rattle.v8_text.specs.Listings.{is_next, IsLineOf, IsListing, IsNextLine, IsUnlisted};
+ghost use Rattle.v8_text.specs.Private.{is_next, IsLineOf, IsNextLine};
+ghost use Rattle.v8_text.specs.Listings.{IsListing};
+ghost use Rattle.v8_text.specs.Code.{IsUnlisted};
 ghost use Rattle.v8_text.specs.declared.listings.ListFault.TheVariants as faults;
 ghost use Rattle.v8_text.specs.Texts.{line_text, listing_text};
 

@@ -4,7 +4,7 @@ ghost use Rattle.std.specs.Option.{option_and_then, option_map};
 ghost use Rattle.v8_decode.specs.declared.Instr.{Instr as Instruction};
 ghost use Rattle.v8_decode.specs.declared.Instr.TheVariants as i;
 ghost use Rattle.v8_decode.specs.Words.{decode_of};
-ghost use Rattle.v8_encode.specs.Encoding.{encode_of};
+ghost use Rattle.v8_encode.specs.Code.{encode_of};
 ghost use Rattle.v8_text.specs.Laws.{IsWordOf};
 ghost use Rattle.v8_text.specs.Parts.{instr_in, instr_of, raw_of};
 

@@ -1,7 +1,7 @@
 //! Writing a text.
 ghost use Rattle.std.specs.Prelude.{◌≡◌, ◌<◌, ◌++◌, ◌∷◌, [], IfOk, OnOk, decimal};
 ghost use Rattle.v8_decode.specs.declared.Instr.TheVariants as i;
-ghost use Rattle.line_words.specs.Words.{register_text};
+ghost use Rattle.line_words.specs.Registers.{register_text};
 ghost use Rattle.v8_text.specs.Texts.{comma, instr_text, integer_text, is_spelled, loaded, named, number_text, op2_text, operands, raw_text, sources, stored, target_of, word_text};
 
 use crate::names::{alu_name, branch_name, load_name, store_name, trap_name};

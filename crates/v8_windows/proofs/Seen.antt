@@ -4,7 +4,8 @@ use Rattle.std.specs.Prelude.{slice_index, slice_set}
 use Rattle.std.proofs.lemmas.Bool.{cases_eq, cases_lt, lt-ltb, le-ltb}
 use Rattle.std.proofs.lemmas.List.FromFn.{fill_by_all, get_or-map-range_with_len, length-map-range_with_len}
 use Rattle.v8_windows.specs.Registers.{place_of, register_in, register_set, window_after, window_before}
-use Rattle.v8_windows.specs.Calls.{IsCopied, after_outs, registers_seen, seen_at}
+use Rattle.v8_windows.specs.Private.{IsCopied}
+use Rattle.v8_windows.specs.Calls.{after_outs, registers_seen, seen_at}
 use Rattle.v8_windows.proofs.Places.{place_of-below, written_in_place}
 
 -- ---- what is at each place

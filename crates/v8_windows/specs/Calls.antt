@@ -1,5 +1,5 @@
 -- What the calls of the windows answer, and what they leave.
-use Rattle.std.specs.Prelude.{◌≡◌, ◌<◌, ◌≤◌, ℕ, zero, suc, ◌+◌, ◌-◌, ◌*◌, ◌%◌, nat_lt, if◌then◌else◌, slice_index, List, [], ◌∷◌, map, replicate, take, drop, Result, OnOk, OnErr, Bool, MatchBool}
+use Rattle.std.specs.Prelude.{◌≡◌, ℕ, zero, suc, ◌+◌, ◌-◌, ◌*◌, ◌%◌, nat_lt, if◌then◌else◌, slice_index, List, [], ◌∷◌, map, replicate, take, drop, Result, OnOk, OnErr, Bool, MatchBool}
 use Rattle.std.specs.List.{range_with_len}
 use Rattle.std.specs.Int.{w32, from_be_bytes}
 use Rattle.v8_windows.specs.Registers.{window_before, window_after, register_set}
@@ -68,9 +68,3 @@ seen_at current others window place =
 -- all registers, where those of a window are in `current`
 unfoldable pub registers_seen : List ℕ → List ℕ → ℕ → List ℕ
 registers_seen current others window = map (seen_at current others window) (range_with_len 0 136)
-
--- `count` words were copied to `at`, from `start` on
-pub record IsCopied (at start count : ℕ) (words old new : List ℕ) : Type 0 where
-  pub inside : (k : ℕ) → k < count → slice_index new (at + k) ≡ slice_index words (start + k)
-  pub below : (k : ℕ) → k < at → slice_index new k ≡ slice_index old k
-  pub above : (k : ℕ) → at + count ≤ k → slice_index new k ≡ slice_index old k

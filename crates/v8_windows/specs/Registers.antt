@@ -1,8 +1,7 @@
 -- The r registers: eight globals, and eight windows that overlap (The SPARC Architecture Manual, Version 8,
 -- section 4.1). A list of 136 numbers holds them: the globals, and then for each window its outs and locals.
 -- The ins of a window are the outs of the next one.
-use Rattle.std.specs.Prelude.{◌≡◌, ℕ, zero, suc, ◌+◌, ◌-◌, ◌*◌, ◌%◌, ◌^◌, ◌<◌, List, length, nat_lt, if◌then◌else◌, slice_index, slice_set}
-use Rattle.std.specs.List.{All}
+use Rattle.std.specs.Prelude.{ℕ, zero, suc, ◌+◌, ◌-◌, ◌*◌, ◌%◌, List, nat_lt, if◌then◌else◌, slice_index, slice_set}
 
 -- this machine has eight windows
 abbrev pub windows : ℕ
@@ -32,9 +31,3 @@ register_set registers window (suc r) value = slice_set registers (place_of wind
 abbrev pub pair_set : List ℕ → ℕ → ℕ → ℕ → ℕ → List ℕ
 pair_set registers window r value next =
     register_set (register_set registers window r value) window (suc r) next
-
--- what a machine's registers always are: 136 words, the first of which is %g0
-pub record AreRegisters (registers : List ℕ) : Type 0 where
-  pub count : length registers ≡ 136
-  pub zero : slice_index registers 0 ≡ 0
-  pub words : All (λ n. n < 2 ^ 32) registers

@@ -1,6 +1,7 @@
 //! The register windows of a running program.
 ghost use Rattle.std.specs.Prelude.{◌≡◌, ◌+◌, ◌-◌, ◌*◌, ◌<◌, ◌≤◌, ◌==◌, length, slice_index};
-ghost use Rattle.v8_windows.specs.Calls.{IsCopied, Moves, entered, filled_by, left, no_windows, oldest_address, oldest_words, registers_of_words, registers_seen};
+ghost use Rattle.v8_windows.specs.Private.{IsCopied};
+ghost use Rattle.v8_windows.specs.Calls.{Moves, entered, filled_by, left, no_windows, oldest_address, oldest_words, registers_of_words, registers_seen};
 ghost use Rattle.v8_windows.specs.Frames.{frame_of, frame_registers};
 ghost use Rattle.v8_windows.specs.Registers.{place_of, register_in, register_set, window_after, window_before};
 

@@ -15,12 +15,13 @@ use Rattle.elf32_sparc.specs.Image.{text_of, image_of}
 use Rattle.elf32_sparc.proofs.Accepted.{Accepted, accepted}
 use Rattle.v8_memory.specs.Regions.{Region, is_code, code_of, fetch_from, fetch_of}
 use Rattle.v8_memory.specs.Segments.{region_of}
-use Rattle.v8_step.specs.Valid.{AreBytes}
+use Rattle.v8_step.specs.State.{AreBytes}
 use Rattle.v8_process.specs.Start.{start_memory, start_of, stack_region, program_name}
 use Rattle.v8_process.proofs.Fetched.{text_is_fetched}
 use Rattle.walk_counts.specs.Files.{OnlyTextIsFetched}
 use Rattle.cfg_blocks.proofs.Targets.{IsWord, word_at-some}
 use Rattle.walk_counts.proofs.Texts.{HasText, text_found, text_from-count, text_from-start}
+pub use Rattle.walk_counts.proofs.Walking.{three_words_walk}
 
 -- ---- the text's region is the only code
 

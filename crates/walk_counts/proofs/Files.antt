@@ -1,16 +1,19 @@
 -- The walk of a file's run matches it.
 use Rattle.std.proofs.Common.{◌≡◌, ℕ, ◌<◌, true, List, [], ◌∷◌, length, Some, None, refl, sym, ap, ◌∙◌, subst, arith}
-use Rattle.eel_base.specs.CodeText.{Words, IsText, address_of}
+use Rattle.eel_base.specs.CodeText.{Words, address_of}
+use Rattle.eel_base.specs.Code.{IsText}
 use Rattle.elf32_sparc.specs.Header.{e_entry}
 use Rattle.elf32_sparc.specs.FileFault.{fault}
-use Rattle.elf32_sparc.specs.Image.{text_of, word_number, IsProgram, image_of}
+use Rattle.elf32_sparc.specs.Image.{text_of, word_number, image_of}
+use Rattle.elf32_sparc.specs.Code.{IsProgram}
 use Rattle.elf32_sparc.proofs.Accepted.{accepted}
 use Rattle.elf32_sparc.proofs.Images.{accepted-program}
 use Rattle.v8_process.specs.Start.{start_of}
-use Rattle.flows.specs.Flows.{Graph as PlainGraph, IsGraph}
+use Rattle.flows.specs.Flows.{Graph as PlainGraph}
+use Rattle.flows.specs.Code.{IsGraph}
 use Rattle.flows.specs.Walks.{IsWalk}
-use Rattle.v8_step.specs.State.{State}
-use Rattle.v8_step.specs.Valid.{AreBytes, IsValid}
+use Rattle.v8_step.specs.State.{State, AreBytes}
+use Rattle.v8_step.specs.Valid.{IsValid}
 use Rattle.cfg_blocks.specs.Blocks.{blocks_of, is_among}
 use Rattle.cfg_blocks.specs.Entries.{entered_of}
 use Rattle.cfg_blocks.specs.Switches.{switches_of}

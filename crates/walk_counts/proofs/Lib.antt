@@ -4,3 +4,4 @@ pub mod Links
 pub mod Paths
 pub mod Files
 pub mod Loops
+pub mod Walking

@@ -3,7 +3,8 @@ use Rattle.std.proofs.Common.{◌≡◌, ℕ, zero, suc, ◌<◌, ◌≤◌, Lis
 use Rattle.cfg_blocks.specs.Blocks.{Blocks}
 use Rattle.cfg_normal.specs.declared.Edge.{Edge}
 use Rattle.cfg_normal.specs.Opens.{Open}
-use Rattle.cfg_normal.specs.Graph.{IsNodeIn, graph_of, edges_in}
+use Rattle.cfg_normal.specs.Code.{IsNodeIn}
+use Rattle.cfg_normal.specs.Graph.{graph_of, edges_in}
 use Rattle.span_tree.specs.Links.{edge_at, no_edge}
 use Rattle.span_tree.proofs.Connected.{number_inside}
 use Rattle.walk_counts.specs.Counts.{LinksAreAGraph}

@@ -25,7 +25,8 @@ use Rattle.cfg_normal.specs.declared.Node.{Node}
 use Rattle.cfg_normal.specs.declared.Node.TheVariants.{X}
 use Rattle.cfg_normal.specs.Opens.{Open}
 use Rattle.cfg_normal.specs.Graph.{Graph, graph_of, has_cases, lands_of}
-use Rattle.cfg_walk.specs.Walk.{instr_at, way_of, Point, WayOut, by_kind, completed, edge_along, leads_along as is_to, way_to, edge_from, end_of_walk, ends_block, gone, landed, landing_at, led_to, left_at, left_by, node_after, point_of, same_kind, same_node, slot_left, unless_ended, walk}
+use Rattle.cfg_walk.specs.Walk.{instr_at, way_of, Point, WayOut, by_kind, completed, edge_along, leads_along as is_to, way_to, edge_from, end_of_walk, ends_block, gone, landed, landing_at, led_to, left_at, left_by, node_after, point_of, slot_left, unless_ended, walk}
+use Rattle.cfg_normal.specs.Nodes.{same_kind, same_node}
 use Rattle.cfg_walk.specs.Matches.{IsOnItsWay, MatchesBy}
 use Rattle.cfg_normal.specs.Numbers.{node_number}
 use Rattle.span_tree.specs.Links.{edge_at, links_of}

@@ -4,8 +4,9 @@
 use Rattle.std.specs.Prelude.{ℕ, List, Some, ℤ, pos}
 use Rattle.eel_base.specs.CodeText.{Words}
 use Rattle.v8_step.specs.State.{State}
-use Rattle.flows.specs.Flows.{Agree, AgreeOn, Determines, EdgeSet, IsGraph, IsFlow}
-use Rattle.flows.specs.Walks.{IsWalk, times}
+use Rattle.flows.specs.Flows.{Agree, AgreeOn, Determines, EdgeSet, IsFlow}
+use Rattle.flows.specs.Walks.{IsWalk}
+use Rattle.flows.specs.Code.{IsGraph}
 use Rattle.cfg_blocks.specs.Blocks.{Blocks}
 use Rattle.cfg_normal.specs.Opens.{Open}
 use Rattle.cfg_normal.specs.Graph.{Graph, graph_of, node_of}
@@ -14,6 +15,7 @@ use Rattle.cfg_walk.specs.Matches.{OfEachRun}
 use Rattle.cfg_normal.specs.Numbers.{node_number}
 use Rattle.span_tree.specs.Links.{links_of}
 use Rattle.walk_counts.specs.Files.{OfEachFile}
+use Rattle.walk_counts.specs.Executions.{executions}
 
 -- both ends of each edge are nodes, with any open switches
 abbrev pub LinksAreAGraph : Type 0
@@ -22,10 +24,6 @@ LinksAreAGraph = (b : Blocks) (opens : List Open) → IsGraph (links_of (graph_o
 -- ---- the walk of the first n steps of a run, and its counts
 
 module _ (text : Words) (graph : Graph) (entry : ℕ) (s0 : State) (n : ℕ) where
-  -- how often they complete each edge
-  abbrev pub executions : ℕ → ℕ
-  executions e = times (walk text graph entry s0 n) e
-
   -- the number of the entry's block
   abbrev pub first_node : ℕ
   first_node = node_number graph (node_of graph.blocks (Some entry))
@@ -44,15 +42,15 @@ module _ (text : Words) (graph : Graph) (entry : ℕ) (s0 : State) (n : ℕ) whe
 
   -- how often each edge is completed is such a flow
   abbrev pub AreFlows : Type 0
-  AreFlows = IsFlowOfRun (λ e. pos (executions e))
+  AreFlows = IsFlowOfRun (λ e. pos (executions text graph entry s0 n e))
 
   -- Where some edges determine the counts, the run's own counts on them give all of them: of the flows from the
   -- entry's block to where the walk ends, only the run's own has them.
   abbrev pub AreEnough : Type 0
   AreEnough =
       (edges : EdgeSet) (flow : ℕ → ℤ) → Determines (links_of graph) edges → IsFlowOfRun flow
-      → AgreeOn (links_of graph) edges flow (λ e. pos (executions e))
-      → Agree (links_of graph) flow (λ e. pos (executions e))
+      → AgreeOn (links_of graph) edges flow (λ e. pos (executions text graph entry s0 n e))
+      → Agree (links_of graph) flow (λ e. pos (executions text graph entry s0 n e))
 
 -- ---- what holds of them
 

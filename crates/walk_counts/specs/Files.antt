@@ -3,8 +3,8 @@ use Rattle.std.specs.Prelude.{◌≡◌, ℕ, true, List, None}
 use Rattle.eel_base.specs.CodeText.{Words}
 use Rattle.elf32_sparc.specs.FileFault.{fault}
 use Rattle.elf32_sparc.specs.Image.{text_of, image_of}
-use Rattle.v8_step.specs.State.{State}
-use Rattle.v8_step.specs.Valid.{AreBytes, IsValid}
+use Rattle.v8_step.specs.State.{State, AreBytes}
+use Rattle.v8_step.specs.Valid.{IsValid}
 use Rattle.v8_process.specs.Start.{start_of}
 use Rattle.cfg_blocks.specs.Blocks.{is_among}
 use Rattle.cfg_blocks.specs.Entries.{entered_of}

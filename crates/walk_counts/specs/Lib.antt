@@ -1,4 +1,4 @@
 pub mod Files
 pub mod Counts
-pub mod Walking
 pub mod Loops
+pub mod Executions

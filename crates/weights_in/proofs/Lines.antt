@@ -11,8 +11,13 @@ use Rattle.line_words.proofs.Steps.{chosen, mapped, step, tested}
 use Rattle.show_text.specs.Lines.{line}
 use Rattle.weights_in.specs.declared.line.Total.{Total}
 use Rattle.weights_in.specs.Weights.{Entry, IsEntry, IsNoLine, IsTotal, entry_line, is_kind, is_node, total_line}
-use Rattle.weights_in.specs.Parts.{Edge, IsNext, Last, Said, behind, entry_of, if_spelled, is_spelled, next_of, said_by, said_of, total_of}
+use Rattle.weights_in.specs.Parts.{Edge, Last, Said, behind, entry_of, if_spelled, is_spelled, next_of, said_by, said_of, total_of}
 use Rattle.weights_in.proofs.Plain.{is_plain, kind_plain, node_plain, whole_append}
+
+-- the same, by how lines are spelled
+abbrev pub IsNext : List ℕ → Said → List ℕ → Type 0
+IsNext bytes (Edge entry) rest = IsEntry entry × (bytes ≡ entry_line entry ++ rest)
+IsNext bytes (Last total) rest = IsTotal total × (bytes ≡ total_line total ++ rest)
 
 -- ---- words with spaces between them
 

@@ -7,9 +7,9 @@ use Rattle.weights_in.specs.declared.line.Total.{Total}
 use Rattle.weights_in.specs.declared.reading.WeightFault.{WeightFault}
 use Rattle.weights_in.specs.declared.reading.WeightFault.TheVariants as faults
 use Rattle.weights_in.specs.Weights.{AreEntries, AreGood, Entry, IsBadEntry, IsBadTotal, IsBehind, IsEntry, IsGood, IsNoLine, IsRight, IsStray, IsTotal, entry_line, next_after, total_line, weights_of}
-use Rattle.weights_in.specs.Parts.{Edge, IsNext, Last, Said, next_of}
+use Rattle.weights_in.specs.Parts.{Edge, Last, Said, next_of}
 use Rattle.weights_in.specs.Laws.{IsAnswer, TextsHaveOneAnswer}
-use Rattle.weights_in.proofs.Lines.{next_back, next_read}
+use Rattle.weights_in.proofs.Lines.{next_back, next_read, IsNext}
 
 -- what is said of one next line is one thing
 module _ (found : Option (Said × List ℕ)) (entry : Entry) (after : List ℕ) (is : found ≡ Some (Edge entry, after)) where

@@ -7,7 +7,7 @@ use Rattle.std.proofs.lemmas.Bool.{and_from, and_parts, cases_Bool, cond_both, n
 use Rattle.std.proofs.lemmas.List.{take-append-drop}
 use Rattle.std.proofs.lemmas.Slice.Eq.{bytes_eq-Decides}
 use Rattle.eel_base.specs.Fields.{hex_digit, hex_digit_at, hex_of}
-use Rattle.line_words.specs.Words.{hex_number_of}
+use Rattle.line_words.specs.Registers.{hex_number_of}
 use Rattle.line_words.proofs.Digits.{address_read}
 pub use Rattle.line_words.proofs.Split.{is_whole, whole_append}
 use Rattle.weights_in.specs.Weights.{is_address, is_kind, is_node}

@@ -16,8 +16,8 @@ use Rattle.weights_in.specs.declared.reading.Reading.{Reading}
 use Rattle.weights_in.specs.declared.reading.WeightFault.{WeightFault}
 use Rattle.weights_in.specs.declared.reading.WeightFault.TheVariants as faults
 use Rattle.weights_in.specs.Weights.{AreEntries, AreGood, AreLines, AreRefused, AreWeights, Entry, IsBadEntry, IsEntry, IsGood, IsNoLine, IsStray, IsTotal, count_on, entry_line, next_after, total_line, weight_of, weights_of}
-use Rattle.weights_in.specs.Parts.{IsEnd, IsFirst, IsNext, IsTaken, IsWithin, Said, next_of, said_in}
-use Rattle.weights_in.proofs.Lines.{next_read}
+use Rattle.weights_in.specs.Parts.{IsEnd, IsFirst, IsTaken, IsWithin, Said, next_of, said_in}
+use Rattle.weights_in.proofs.Lines.{next_read, IsNext}
 
 pub record IsRead (view : Seen) (bytes : List ℕ) (reading : Reading) (rest : List ℕ) : Type 0 where
   pub entries : List Entry

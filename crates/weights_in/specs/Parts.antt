@@ -1,5 +1,5 @@
 -- The parts of which reading the lines of counts is made.
-use Rattle.std.specs.Prelude.{◌≡◌, ◌≢◌, ℕ, ◌+◌, ◌*◌, ◌^◌, ◌<◌, ◌≤◌, ◌&&◌, nat_le, Bool, if◌then◌else◌, List, [], ◌++◌, length, replicate, slice_set, codes, Option, Some, None, Result, Ok, Err, Vec}
+use Rattle.std.specs.Prelude.{◌≡◌, ◌≢◌, ℕ, ◌+◌, ◌*◌, ◌^◌, ◌<◌, ◌≤◌, ◌&&◌, nat_le, Bool, if◌then◌else◌, List, [], length, replicate, slice_set, codes, Option, Some, None, Result, Ok, Err, Vec}
 use Rattle.std.specs.declared.alloc.Global.{Global}
 use Rattle.std.specs.Option.{option_map}
 use Rattle.std.specs.Str.{bytes_eq}
@@ -12,7 +12,7 @@ use Rattle.weights_in.specs.declared.line.Line.TheVariants as lines
 use Rattle.weights_in.specs.declared.reading.Reading.{Reading}
 use Rattle.weights_in.specs.declared.reading.WeightFault.{WeightFault}
 use Rattle.weights_in.specs.declared.reading.WeightFault.TheVariants as faults
-use Rattle.weights_in.specs.Weights.{Entry, IsEntry, IsGood, IsTotal, entry_line, is_kind, is_node, total_line, weight_of}
+use Rattle.weights_in.specs.Weights.{Entry, IsGood, is_kind, is_node, weight_of}
 
 -- what a line says
 pub data Said : Type 0 where
@@ -79,11 +79,6 @@ next_of bytes = do
   parts ← split_at 10 bytes
   said ← said_of parts.0
   Some (said, parts.1)
-
--- the same, by how lines are spelled
-abbrev pub IsNext : List ℕ → Said → List ℕ → Type 0
-IsNext bytes (Edge entry) rest = IsEntry entry × (bytes ≡ entry_line entry ++ rest)
-IsNext bytes (Last total) rest = IsTotal total × (bytes ≡ total_line total ++ rest)
 
 -- ---- what was read so far
 

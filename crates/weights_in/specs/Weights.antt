@@ -10,7 +10,7 @@ use Rattle.std.specs.Prelude.{◌≡◌, ◌≢◌, ℕ, ◌+◌, ◌^◌, ◌<�
 use Rattle.std.specs.List.{flat_map, list_any, range_with_len, slice_get, sum_by}
 use Rattle.std.specs.Option.{is_some}
 use Rattle.std.specs.Str.{bytes_eq}
-use Rattle.line_words.specs.Words.{hex_number_of}
+use Rattle.line_words.specs.Registers.{hex_number_of}
 use Rattle.cfg_normal.specs.declared.Edge.{Edge}
 use Rattle.cfg_view.specs.View.{Seen}
 use Rattle.show_text.specs.Lines.{kind_text, line, node_text}

@@ -1,8 +1,8 @@
 //! Reading weights.
 ghost use Rattle.std.specs.Prelude.{◌≡◌, ◌≢◌, ◌≤◌, ◌<◌, ◌+◌, ◌*◌, ◌^◌, ◌↔◌, IsTrue, IfErr, IfOk, OnOk, length, slice_set, vec_len};
 ghost use Rattle.std.specs.List.{All};
-ghost use Rattle.cfg_normal.specs.Graph.{IsEdgeIn, IsNodeIn};
-ghost use Rattle.cfg_view.specs.View.{view_seen, IsView};
+ghost use Rattle.cfg_normal.specs.Code.{IsEdgeIn, IsNodeIn};
+ghost use Rattle.cfg_view.specs.Code.{view_seen, IsView};
 ghost use Rattle.show_text.specs.Lines.{node_text};
 ghost use Rattle.weights_in.specs.declared.reading.WeightFault.TheVariants as faults;
 ghost use Rattle.weights_in.specs.Weights.{AreRefused, AreWeights, AreWordsOf, IsEdgeOf, IsGood, weight_of};

@@ -9,7 +9,8 @@ use Rattle.byteorder.specs.Numbers.{big_number-reads_back}
 use Rattle.v8_decode.specs.declared.Instr.{Instr}
 use Rattle.v8_decode.specs.declared.Instr.TheVariants as i
 use Rattle.v8_decode.specs.Ranges.{is_in_range}
-use Rattle.v8_encode.specs.Encoding.{has_word, word_of}
+use Rattle.v8_encode.specs.Code.{has_word}
+use Rattle.v8_encode.specs.Encoding.{word_of}
 use Rattle.v8_encode.proofs.Decoded.{decode_of-word_of}
 use Rattle.elf32_sparc.specs.Header.{loadable}
 use Rattle.elf32_sparc.specs.Mapping.{Mapping, mapping_of, mappings}

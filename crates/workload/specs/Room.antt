@@ -1,5 +1,5 @@
 -- The room above the generated file's segment.
-use Rattle.std.specs.Prelude.{◌≡◌, ℕ, ◌+◌, ◌*◌, ◌^◌, ◌≤◌, length}
+use Rattle.std.specs.Prelude.{◌≡◌, ℕ, ◌+◌, ◌*◌, ◌^◌, ◌≤◌}
 use Rattle.elf32_sparc.specs.Image.{image_of}
 use Rattle.workload.specs.Generated.{generated}
 

@@ -1,6 +1,7 @@
 //! The words of the program.
 ghost use Rattle.std.specs.Prelude.{◌≡◌, ◌+◌, ◌*◌, ◌^◌, ◌<◌, ◌≤◌, IsTrue, map, pos};
-ghost use Rattle.v8_encode.specs.Encoding.{has_word, word_of as word_in};
+ghost use Rattle.v8_encode.specs.Code.{has_word};
+ghost use Rattle.v8_encode.specs.Encoding.{word_of as word_in};
 ghost use Rattle.workload.specs.Generated.{nop as nop_of, move as move_of, first_word, call_of, exit_code, routine_code};
 
 use crate::draws::Routine;
@@ -8,7 +9,7 @@ use v8_decode::{AluOp, Cond, Instr, Op2, Reg};
 use v8_encode::encode;
 
 // The word of an instruction that has one.
-#[tactic(auto, unfolding(v8_encode::specs::Encoding::encode_of))]
+#[tactic(auto, unfolding(v8_encode::specs::Code::encode_of))]
 fn word_of(instr: Instr) -> u32
     requires word { IsTrue (has_word instr) }
     ensures { result ≡ word_in instr }

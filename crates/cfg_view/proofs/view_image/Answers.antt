@@ -2,7 +2,7 @@ use Rattle.std.proofs.Common.{◌<◌, length, ap, ◌∙◌}
 use Rattle.std.proofs.lemmas.List.Elements.{All-weaker}
 use Rattle.cfg_blocks.specs.Entries.{Entered}
 use Rattle.cfg_blocks.specs.Marks.{numbers}
-use Rattle.cfg_normal.specs.Opens.{IsTableIn}
+use Rattle.cfg_normal.specs.Code.{IsTableIn}
 use Rattle.cfg_view.specs.View.{given_in}
 use Rattle.cfg_view.proofs.Views.{view_is, words_of}
 use Rattle.cfg_view.proofs.view_image.Goals as goal

@@ -1,33 +1,29 @@
 -- `counts WRITTEN DUMP`: how often each edge was completed is rebuilt from the notes of WRITTEN and the dump DUMP.
-use Rattle.std.specs.Prelude.{◌≡◌, ℕ, ◌-◌, ◌<◌, ◌≤◌, List, length, slice_index, None, Ok}
+use Rattle.std.specs.Prelude.{◌≡◌, ℕ, ◌-◌, ◌<◌, List, length, slice_index, None}
 use Rattle.elf32_sparc.specs.Image.{image_of}
-use Rattle.notes.specs.Format.{Notes, notes_of}
-use Rattle.v8_step.specs.Valid.{AreBytes}
+use Rattle.notes.specs.Format.{Notes}
 use Rattle.v8_process.specs.Arguments.{AreArguments}
 use Rattle.v8_process.specs.Start.{start_of}
-use Rattle.walk_counts.specs.Counts.{executions}
 use Rattle.dump_file.specs.Dump.{Dump}
 use Rattle.count_rebuild.specs.Answers.{AreCounts, IsImpossible, IsLong, IsTooLarge}
 use Rattle.count_rebuild.specs.Counts.{IsShort}
 use Rattle.count_rebuild.specs.Dumps.{IsBetween, IsForOther, IsMisshapen, IsOfOther}
 use Rattle.count_rebuild.specs.Noted.{IsProfile as HasProfile}
-use Rattle.count_rebuild.specs.declared.fault.CountFault.{CountFault}
-use Rattle.count_rebuild.specs.declared.fault.CountFault.TheVariants as faults
 use Rattle.two_runs.specs.Needed.{IsUntouched}
 use Rattle.two_runs.specs.Visits.{pages_of}
 use Rattle.tool_kit.specs.Plans.{Plan}
 use Rattle.exact_counts.specs.Exits.{HaveExited}
-use Rattle.exact_counts.specs.Laws.{counter_limit}
-use Rattle.exact_counts.specs.Profiles.{CountsOffTree, original_graph}
-use Rattle.exact_counts.specs.Stops.{dump_at, visits_by}
+use Rattle.exact_counts.specs.Profiles.{CountsOffTree, original_graph, counter_limit}
+use Rattle.exact_counts.specs.Stops.{dump_at}
 use Rattle.edit_core.specs.Faithful.{IsFaithful}
 use Rattle.elf32_sparc.specs.FileFault.{fault}
+use Rattle.v8_step.specs.State.{AreBytes}
 use Rattle.show_text.specs.CountLines.{count_lines}
+use Rattle.walk_counts.specs.Executions.{executions}
+use Rattle.edit_core.specs.RunsAlike.{visits_by}
 use Rattle.eel_said.specs.declared.outcome.CountCause.{CountCause}
 use Rattle.eel_said.specs.declared.outcome.CountCause.TheVariants as causes
 use Rattle.eel_said.specs.Outcome.{Outcome, NoProfile, NoCounts, OutOfMemory}
-use Rattle.eel_said.specs.Shared.{edit_limit}
-use Rattle.eel.specs.Answers.Profile.{IsMarkedProfile, plan_with}
 
 -- ---- refusals
 
@@ -49,18 +45,6 @@ IsUncounted written name notes dump (NoCounts named cause) = (named ≡ name) ×
 IsUncounted written name notes dump OutOfMemory = notes.tool ≡ 1
 IsUncounted written name notes dump _ = ⊥
 
--- what a fault of the rebuilding comes to
-abbrev pub uncounted_of : List ℕ → List ℕ → CountFault → Outcome
-uncounted_of written name faults.NoProfile = NoProfile written
-uncounted_of written name (faults.Version of wanted) = NoCounts name (causes.Version of wanted)
-uncounted_of written name (faults.Other length wanted) = NoCounts name (causes.Length length wanted)
-uncounted_of written name (faults.Shape cells wanted) = NoCounts name (causes.Shape cells wanted)
-uncounted_of written name (faults.TooLong steps) = NoCounts name (causes.Steps steps)
-uncounted_of written name (faults.Between pc) = NoCounts name (causes.Between pc)
-uncounted_of written name (faults.Negative edge value) = NoCounts name (causes.Negative edge value)
-uncounted_of written name (faults.Large edge value) = NoCounts name (causes.Large edge value)
-uncounted_of written name faults.NoMemory = OutOfMemory
-
 -- ---- the counts
 
 -- The lines tell how often each edge was completed: the counts are the one flow on the notes' graph, from the block at
@@ -78,13 +62,6 @@ pub record IsProfile (original : List ℕ) (plan : Plan) (file : List ℕ) (note
   pub sound : fault original ≡ None
   pub counters : CountsOffTree notes.version (original_graph original plan) plan
   pub faithful : IsFaithful original plan file
-
--- a file that an edit for counts made of an original is one, with version 2
-abbrev pub EditsAreProfiles : Type 0
-EditsAreProfiles =
-    (marks weights original file : List ℕ) (notes : Notes) → length original ≤ edit_limit → AreBytes original
-    → (made : IsMarkedProfile marks weights original file) → notes_of file ≡ Ok notes
-    → (notes.version ≡ 2) × IsProfile original (plan_with marks made.cells) file notes
 
 -- The file is an original's profile, and the dump is what a run of it has come to, wherever it was stopped, after fewer than
 -- 2^32 steps or in version 2 than 2^64, and without a touch of the added pages in as many steps of the original as there were

@@ -6,11 +6,11 @@ use Rattle.v8_step.specs.declared.Ending.{Ending}
 use Rattle.v8_step.specs.State.{State}
 use Rattle.v8_step.specs.Run.{run}
 use Rattle.v8_process.specs.Start.{start_of}
-use Rattle.v8_runner.specs.Runs.{AreMade}
 use Rattle.cfg_view.specs.View.{Seen, view_of}
 use Rattle.cfg_walk.specs.Walk.{walk}
 use Rattle.show_text.specs.Lines.{line}
 use Rattle.workload.specs.Generated.{generated}
+use Rattle.v8_runner.specs.Made.{AreMade}
 use Rattle.eel.specs.declared.demo.Size.{Size}
 use Rattle.eel_said.specs.Outcome.{Outcome, OutOfMemory, ending_text}
 use Rattle.eel_said.specs.Shared.{Outside, Meaning, prints_mean}

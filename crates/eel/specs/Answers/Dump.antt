@@ -10,12 +10,12 @@ use Rattle.v8_step.specs.declared.Ending.{Ending}
 use Rattle.v8_step.specs.State.{State}
 use Rattle.v8_step.specs.Run.{run, run_puts}
 use Rattle.v8_process.specs.Start.{start_of}
-use Rattle.v8_runner.specs.Runs.{AreMade}
 use Rattle.dump_file.specs.Written.{dump_bytes}
-pub use Rattle.exact_counts.specs.Stops.{dump_of}
 use Rattle.edit_core.specs.Faithful.{holds_cells}
+use Rattle.exact_counts.specs.Stops.{dump_of}
+use Rattle.v8_runner.specs.Made.{AreMade}
 use Rattle.eel_said.specs.Outcome.{Outcome, Stopped, BadNotes, OutOfMemory, DeviceFault, Done}
-use Rattle.eel_said.specs.Shared.{HaveFailed, Outside, Store, Meaning, WasRead, IsUnread, IsPut, IsUnused, IsQuiet, IsSilent, written_limit}
+use Rattle.eel_said.specs.Shared.{HaveFailed, Outside, Meaning, WasRead, IsUnread, IsPut, IsUnused, IsQuiet, IsSilent, written_limit}
 use Rattle.eel.specs.Answers.Noted.{IsUnnoted}
 use Rattle.eel.specs.Answers.Run.{HasRun, IsNotRun, IsRun, IsUnfed, StopsAt, WasBroken, WasFed}
 
@@ -47,13 +47,6 @@ IsNotNoted name bytes outcome = IsUnnoted name bytes outcome ⊎ AreUnmapped nam
 
 abbrev pub dump_after : Notes → State → ℕ → List ℕ
 dump_after notes s0 steps = dump_bytes (dump_of notes (run s0 steps) steps)
-
--- The dump was to be put once the run had come to `ended`, and this comes of it.
-abbrev pub IsPutAfter : Store → Store → List ℕ → List ℕ → Outcome → Outcome → Type 0
-IsPutAfter old new dump bytes ended outcome =
-    ((outcome ≡ ended) × IsPut old new dump bytes Done)
-    ⊎ ((outcome ≡ OutOfMemory) × IsPut old new dump bytes OutOfMemory)
-    ⊎ ((outcome ≡ DeviceFault) × IsPut old new dump bytes DeviceFault)
 
 -- the run was not broken off; it has no line yet
 pub record HasStopped (s0 : State) (limit : ℕ) (old new : Outside) : Type 0 where

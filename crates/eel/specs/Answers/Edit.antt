@@ -2,15 +2,12 @@
 use Rattle.std.specs.Prelude.{◌≡◌, ◌⊎◌, ℕ, List, [], length, map}
 use Rattle.std.specs.List.{range_with_len}
 use Rattle.eel_base.specs.Outside.{IsMissing}
-use Rattle.elf32_sparc.specs.FileFault.{code_of}
 use Rattle.cfg_normal.specs.declared.Edge.{Edge}
 use Rattle.cfg_view.specs.View.{view_of}
 use Rattle.snippets.specs.declared.snippet.Op.{Op}
 use Rattle.tool_kit.specs.declared.edge_ref.ToolKind.{ToolKind}
 use Rattle.tool_kit.specs.declared.edge_ref.ToolKind.TheVariants as tools
 use Rattle.tool_kit.specs.Plans.{Plan}
-use Rattle.edit_core.specs.declared.taking.EditFault.{EditFault}
-use Rattle.edit_core.specs.declared.taking.EditFault.TheVariants as faults
 use Rattle.edit_core.specs.Taken.{CanEdit, IsCramped}
 use Rattle.edit_core.specs.Cost.{HasBoundedCost}
 use Rattle.edit_core.specs.Faithful.{IsFaithful}
@@ -49,12 +46,6 @@ abbrev pub plain_plan : List ℕ → Plan
 plain_plan bytes = plan_of tools.Plain [] 0 (asked (λ edge. []) bytes)
 
 -- ---- refusals
-
--- what a refused edit of a file comes to
-abbrev pub refusal_of : List ℕ → EditFault → Outcome
-refusal_of name (faults.File first) = BadFile name (code_of first)
-refusal_of name (faults.Room needed had) = NoRoom name needed had
-refusal_of name faults.NoMemory = OutOfMemory
 
 -- IN was read, and the lines of the file `name`, and the edit by the tool is refused: IN is judged, then the lines, and
 -- then the room.

@@ -2,16 +2,12 @@
 -- counts of edges tell how often each ran.
 use Rattle.std.specs.Prelude.{ℕ, List, length}
 use Rattle.std.specs.List.{range_with_len}
-use Rattle.eel_base.specs.declared.numbers.WordNo.{WordNo}
 use Rattle.elf32_sparc.specs.Image.{image_of}
 use Rattle.cfg_view.specs.View.{Seen, view_of}
 
 -- the words of a file's text, by their numbers
 abbrev pub every_word : List ℕ → List ℕ
 every_word bytes = range_with_len 0 (length (image_of bytes).text.words)
-
-abbrev pub word_numbered : ℕ → WordNo
-word_numbered number = record { 0 = number }
 
 -- the view of a file with all of them marked
 abbrev pub every_view : List ℕ → Seen

@@ -1,9 +1,9 @@
 -- `trace WRITTEN DUMP`: the last edges that the dump DUMP tells of by the notes of WRITTEN, the oldest first.
-use Rattle.std.specs.Prelude.{◌≡◌, ℕ, ◌-◌, ◌≤◌, List, [], Ok}
+use Rattle.std.specs.Prelude.{◌≡◌, ℕ, ◌-◌, ◌≤◌, List, []}
 use Rattle.elf32_sparc.specs.Image.{image_of}
-use Rattle.notes.specs.Format.{Notes, notes_of}
+use Rattle.notes.specs.Format.{Notes}
+use Rattle.v8_step.specs.State.{AreBytes}
 use Rattle.two_runs.specs.Needed.{IsUntouched}
-use Rattle.v8_step.specs.Valid.{AreBytes}
 use Rattle.two_runs.specs.Visits.{pages_of}
 use Rattle.v8_process.specs.Arguments.{AreArguments}
 use Rattle.v8_process.specs.Start.{start_of}
@@ -11,18 +11,16 @@ use Rattle.cfg_view.specs.View.{view_of}
 use Rattle.cfg_walk.specs.Walk.{walk}
 use Rattle.dump_file.specs.Dump.{Dump}
 use Rattle.edit_core.specs.Faithful.{IsFaithful}
-use Rattle.exact_counts.specs.Stops.{dump_at, visits_by}
-use Rattle.edge_ring.specs.declared.fault.RingFault.{RingFault}
-use Rattle.edge_ring.specs.declared.fault.RingFault.TheVariants as faults
+use Rattle.exact_counts.specs.Stops.{dump_at}
 use Rattle.count_rebuild.specs.Dumps.{IsBetween, IsForOther, IsMisshapen, IsOfOther, IsTheirs}
 use Rattle.edge_ring.specs.Answers.{AreLast, IsUnknown}
 use Rattle.edge_ring.specs.Lines.{ring_lines}
 use Rattle.edge_ring.specs.Ring.{last_of}
 use Rattle.edge_ring.specs.Traces.{IsTrace, IsWhole}
+use Rattle.edit_core.specs.RunsAlike.{visits_by}
 use Rattle.eel_said.specs.declared.outcome.CountCause.{CountCause}
 use Rattle.eel_said.specs.declared.outcome.CountCause.TheVariants as causes
 use Rattle.eel_said.specs.Outcome.{Outcome, NoTrace, NoCounts, BadCell, OutOfMemory}
-use Rattle.eel.specs.Answers.Edit.{IsEditOf}
 use Rattle.eel.specs.Answers.Trace.{trace_plan}
 use Rattle.eel.specs.Answers.Counts.{MayMiss}
 
@@ -45,16 +43,6 @@ IsUntold written name notes dump (BadCell named cell value) = (named ≡ name) �
 IsUntold written name notes dump OutOfMemory = IsWhole notes dump
 IsUntold written name notes dump _ = ⊥
 
--- what a fault of the ring's reading comes to
-abbrev pub untold_of : List ℕ → List ℕ → RingFault → Outcome
-untold_of written name faults.NoTrace = NoTrace written
-untold_of written name (faults.Version of wanted) = NoCounts name (causes.Version of wanted)
-untold_of written name (faults.Other length wanted) = NoCounts name (causes.Length length wanted)
-untold_of written name (faults.Shape cells wanted) = NoCounts name (causes.Shape cells wanted)
-untold_of written name (faults.Between pc) = NoCounts name (causes.Between pc)
-untold_of written name (faults.Entry cell value) = BadCell name cell value
-untold_of written name faults.NoMemory = OutOfMemory
-
 -- ---- the last edges
 
 -- The lines tell the edges that the cells of the dump hold, the oldest first.
@@ -70,13 +58,6 @@ pub record IsTraceOf (bits : ℕ) (original file : List ℕ) : Type 0 where
   pub some : 1 ≤ bits
   pub few : bits ≤ 16
   pub faithful : IsFaithful original (trace_plan bits original) file
-
--- A file that an edit with a ring made of an original is one, and has the notes of a trace.
-abbrev pub EditsAreTraces : Type 0
-EditsAreTraces =
-    (bits : ℕ) (original file : List ℕ) (notes : Notes) → 1 ≤ bits → bits ≤ 16
-    → IsEditOf original (trace_plan bits original) file → notes_of file ≡ Ok notes
-    → IsTraceOf bits original file × IsTrace notes
 
 -- The file is an original's trace, and the dump is what a run of it has come to, wherever it was stopped, without a touch
 -- of the added pages in as many steps of the original as there were visits.

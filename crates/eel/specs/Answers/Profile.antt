@@ -1,9 +1,8 @@
 -- `edit IN OUT profile`: the file IN is read, judged, edited with counters on the edges off a spanning tree, and written as
 -- OUT. Which words of its text are marked is told by a function: for `profile` none is.
-use Rattle.std.specs.Prelude.{◌≡◌, ℕ, ◌*◌, List, [], length, map, Option, Some, None}
-use Rattle.flows.specs.Flows.{IsLeast, rest}
-use Rattle.flows.specs.Links.{weight_in}
-use Rattle.flows.specs.Trees.{IsSpanningTree}
+use Rattle.std.specs.Prelude.{◌≡◌, ℕ, ◌*◌, List, [], length, map, Option}
+use Rattle.flows.specs.Flows.{IsLeast, rest, weight_in}
+use Rattle.flows.specs.SpanningTrees.{IsSpanningTree}
 use Rattle.cfg_normal.specs.Graph.{Graph}
 use Rattle.cfg_normal.specs.Numbers.{is_node}
 use Rattle.cfg_view.specs.View.{view_of}
@@ -12,13 +11,9 @@ use Rattle.span_tree.specs.Links.{links_of}
 use Rattle.span_tree.specs.Weights.{weights_of}
 use Rattle.tool_kit.specs.declared.edge_ref.ToolKind.TheVariants as tools
 use Rattle.tool_kit.specs.Plans.{Plan}
-use Rattle.edit_core.specs.declared.taking.EditFault.{EditFault}
-use Rattle.edit_core.specs.declared.taking.EditFault.TheVariants as faults
-use Rattle.elf32_sparc.specs.FileFault.{fault}
 use Rattle.notes.specs.Format.{counter_width}
 use Rattle.exact_counts.specs.Profiles.{counter_in}
-use Rattle.edit_core.specs.Taken.{IsCramped}
-use Rattle.eel.specs.Answers.Edit.{IsEditOf, Tool, asking, plan_of}
+use Rattle.eel.specs.Answers.Edit.{Tool, asking, plan_of}
 
 -- ---- which edges are counted
 
@@ -35,9 +30,6 @@ pub record AreCells (graph : Graph) (weights : List ℕ) (cells : List (Option �
 abbrev pub guessed_with : List ℕ → List ℕ → List ℕ
 guessed_with bytes marks = let graph = (view_of bytes marks).graph in weights_of graph.blocks graph.edges
 
-abbrev pub guessed : List ℕ → List ℕ
-guessed bytes = guessed_with bytes []
-
 -- ---- what the tool asks for
 
 -- It counts each edge that has a number, in as many cells as a counter has in version 2 of the notes, one counter behind
@@ -45,32 +37,7 @@ guessed bytes = guessed_with bytes []
 abbrev pub plan_with : List ℕ → List (Option ℕ) → Plan
 plan_with marks cells = plan_of tools.Profile marks (counter_width 2 * cell_count cells) (map (counter_in 2) cells)
 
-abbrev pub profile_plan : List (Option ℕ) → Plan
-profile_plan cells = plan_with [] cells
-
--- ---- refusals
-
--- why a profile of some bytes with these marks, by these weights, is refused
-abbrev pub CountersRefuse : List ℕ → List ℕ → List ℕ → EditFault → Type 0
-CountersRefuse marks weights bytes (faults.File first) = fault bytes ≡ Some first
-CountersRefuse marks weights bytes (faults.Room needed had) =
-    (cells : List (Option ℕ)) × AreCells (view_of bytes marks).graph weights cells
-    × IsCramped needed had bytes (plan_with marks cells)
-CountersRefuse marks weights bytes faults.NoMemory = fault bytes ≡ None
-
-abbrev pub ProfileRefuses : List ℕ → List ℕ → EditFault → Type 0
-ProfileRefuses weights bytes fault = CountersRefuse [] weights bytes fault
-
 -- ---- the edit
-
--- a file that was made of another with these marks, with counters on the edges off a tree
-pub record IsMarkedProfile (marks weights bytes file : List ℕ) : Type 0 where
-  pub cells : List (Option ℕ)
-  pub are : AreCells (view_of bytes marks).graph weights cells
-  pub made : IsEditOf bytes (plan_with marks cells) file
-
-abbrev pub IsProfileOf : List ℕ → List ℕ → List ℕ → Type 0
-IsProfileOf weights bytes file = IsMarkedProfile [] weights bytes file
 
 -- `profile` marks no word
 abbrev pub no_words : List ℕ → List ℕ

@@ -1,14 +1,13 @@
 -- What a run comes to: the input is read, and the program runs. What it puts out goes to the output and to the error
 -- stream.
-use Rattle.std.specs.Prelude.{◌≡◌, ℕ, suc, ◌*◌, ◌^◌, ◌≤◌, ◌<◌, ◌⊎◌, List, [], length, codes, Bool, true, false, Option, Some, None}
+use Rattle.std.specs.Prelude.{◌≡◌, ℕ, suc, ◌*◌, ◌^◌, ◌≤◌, ◌<◌, ◌⊎◌, List, [], length, codes, Option, Some, None}
 use Rattle.eel_base.specs.Outside.{Rose, preceded, IsAtEnd, GaveSome, appended, TookPart}
 use Rattle.elf32_sparc.specs.FileFault.{load_fault}
 use Rattle.v8_step.specs.declared.Ending.{Ending}
 use Rattle.v8_step.specs.State.{State}
 use Rattle.v8_step.specs.Run.{run, run_puts}
-use Rattle.v8_runner.specs.Runs.{AreMade}
-use Rattle.v8_runner.specs.declared.Stop.{Stop}
 use Rattle.v8_runner.specs.declared.Stop.TheVariants as stops
+use Rattle.v8_runner.specs.Made.{AreMade}
 use Rattle.eel_said.specs.Outcome.{Outcome, Stopped, BadFile, TooLong, OutOfMemory, DeviceFault, Stream}
 use Rattle.eel_said.specs.Shared.{Feed}
 use Rattle.eel.specs.Answers.Files.{IsNotLoaded}
@@ -72,14 +71,3 @@ IsRun s0 limit old_out new_out old_err new_err (Stopped ending steps) =
     HasRun s0 limit ending steps [] old_out new_out old_err new_err
 IsRun s0 limit old_out new_out old_err new_err DeviceFault = WasBroken s0 limit old_out new_out old_err new_err
 IsRun s0 limit old_out new_out old_err new_err _ = ⊥
-
--- what the end of a run comes to
-abbrev pub stopped_of : Stop → ℕ → Outcome
-stopped_of stops.Limit steps = Stopped None steps
-stopped_of (stops.Ended ending) steps = Stopped (Some ending) steps
-stopped_of stops.SinkFault steps = DeviceFault
-
--- the run was broken off
-abbrev pub was_broken : Stop → Bool
-was_broken stops.SinkFault = true
-was_broken _ = false

@@ -1,18 +1,15 @@
 -- `edit IN OUT script S`: the file IN and the script S are read, both are judged, and IN is edited as the lines of S
 -- say and written as OUT.
-use Rattle.std.specs.Prelude.{◌≡◌, ◌≤◌, ℕ, ◌*◌, ◌^◌, List, [], get_or, length, Option, Some, None}
+use Rattle.std.specs.Prelude.{◌≡◌, ℕ, ◌*◌, ◌^◌, List, [], get_or, length, Option, Some, None}
 use Rattle.snippets.specs.declared.snippet.Op.{Op}
-use Rattle.snippets.specs.declared.script.Script.{Script}
 use Rattle.snippets.specs.declared.script.ScriptFault.{ScriptFault}
 use Rattle.snippets.specs.declared.script.ScriptFault.TheVariants as script_faults
 use Rattle.snippets.specs.Grammar.{AllSay, lines_of}
-use Rattle.snippets.specs.Scripts.{IsFirstFault, IsGood, IsScript, cell_end, end_of, snips_of}
-use Rattle.snippets.specs.Cells.{WorksBelow}
+use Rattle.snippets.specs.Scripts.{IsFirstFault, IsGood, cell_end, end_of, snips_of}
 use Rattle.tool_kit.specs.declared.edge_ref.ToolKind.TheVariants as tools
 use Rattle.tool_kit.specs.Plans.{Plan}
 use Rattle.eel_said.specs.declared.outcome.LineCause.{LineCause}
 use Rattle.eel_said.specs.declared.outcome.LineCause.TheVariants as causes
-use Rattle.eel_said.specs.Outcome.{Outcome, BadLine, OutOfMemory}
 use Rattle.eel.specs.Answers.Edit.{Tool, asked, edges_in, plan_of}
 
 -- how long a script may be
@@ -32,24 +29,7 @@ IsScripted bytes lines plan =
     (said : _) × AllSay (lines_of lines) said × IsGood (length (edges_in bytes)) said
     × (plan ≡ script_plan bytes (snips_of said) (end_of cell_end said))
 
--- what the program keeps of a script that was read for a graph of so many edges
-abbrev pub IsReadAs : ℕ → List ℕ → Script → Type 0
-IsReadAs edges lines script = (said : _) × AllSay (lines_of lines) said × IsScript edges said script
-
--- its cells are few, and each snippet works on them
-pub record HasCells (script : Script) : Type 0 where
-  pub few : script.cells ≤ 2 ^ 22
-  pub below : (edge : ℕ) → WorksBelow script.cells (get_or script.snips.items edge [])
-
 -- ---- refusals
-
--- what a refused script comes to
-abbrev pub script_refusal_of : List ℕ → ScriptFault → Outcome
-script_refusal_of name (script_faults.Line number) = BadLine name number causes.Grammar
-script_refusal_of name (script_faults.Edge number) = BadLine name number causes.Edge
-script_refusal_of name (script_faults.Cell number) = BadLine name number causes.Cell
-script_refusal_of name (script_faults.Ops number) = BadLine name number causes.Operations
-script_refusal_of name script_faults.NoMemory = OutOfMemory
 
 -- the number of the bad line that a fault names, and what is bad about it
 abbrev pub line_cause : ScriptFault → Option (ℕ × LineCause)
@@ -64,12 +44,6 @@ abbrev pub HasBadLine : ℕ → List ℕ → ℕ → LineCause → Type 0
 HasBadLine edges lines number cause =
     (said : _) × (fault : ScriptFault) × AllSay (lines_of lines) said × IsFirstFault edges said fault
     × (line_cause fault ≡ Some (number, cause))
-
--- a script was read for a graph of so many edges, and is refused
-abbrev pub IsBadScript : ℕ → List ℕ → List ℕ → Outcome → Type 0
-IsBadScript edges name lines (BadLine named number cause) = (named ≡ name) × HasBadLine edges lines number cause
-IsBadScript edges name lines OutOfMemory = Unit {0}
-IsBadScript edges name lines _ = ⊥
 
 -- ---- the tool
 

@@ -2,18 +2,18 @@
 -- How often each edge was completed is rebuilt from them and the dump DUMP, and so how often each instruction ran.
 use Rattle.std.specs.Prelude.{◌≡◌, ℕ, ◌<◌, List, length, slice_index}
 use Rattle.eel_base.specs.CodeText.{address_of}
+use Rattle.flows.specs.Flows.{times}
 use Rattle.elf32_sparc.specs.Image.{image_of}
 use Rattle.notes.specs.Format.{Notes}
-use Rattle.flows.specs.Walks.{times}
 use Rattle.two_runs.specs.Visits.{own_trail}
 use Rattle.v8_process.specs.Start.{start_of}
 use Rattle.dump_file.specs.Dump.{Dump}
 use Rattle.count_rebuild.specs.Answers.{AreCounts}
 use Rattle.count_rebuild.specs.Noted.{IsProfile as HasProfile}
-use Rattle.exact_counts.specs.Stops.{visits_by}
 use Rattle.instr_counts.specs.Answers.{AreVisits}
 use Rattle.instr_counts.specs.Lines.{visit_lines}
 use Rattle.instr_counts.specs.Matches.{Matches}
+use Rattle.edit_core.specs.RunsAlike.{visits_by}
 use Rattle.eel_said.specs.Outcome.{Outcome, NotEveryWord, NoProfile, NoCounts, OutOfMemory}
 use Rattle.eel.specs.Answers.Files.{IsSound}
 use Rattle.eel.specs.Answers.Restore.{original_in}
@@ -26,12 +26,6 @@ pub record HasEveryWord (file : List ℕ) (notes : Notes) : Type 0 where
   pub matches : Matches (every_view (original_in file notes)) notes
 
 -- ---- refusals
-
--- the notes are not so
-abbrev pub IsNotEveryWord : List ℕ → List ℕ → Notes → Outcome → Type 0
-IsNotEveryWord name file notes (NotEveryWord named) = (named ≡ name) × ¬ HasEveryWord file notes
-IsNotEveryWord name file notes OutOfMemory = IsSound (original_in file notes)
-IsNotEveryWord name file notes _ = ⊥
 
 -- There are no visits by the notes of the file `written` and by the dump `name`: whether every word is marked is
 -- judged, and then whether there are counts.

@@ -1,7 +1,7 @@
 -- `words LISTING OUT`: the file LISTING is read as a listing, and its words are written as OUT.
 use Rattle.std.specs.Prelude.{◌≡◌, ℕ, ◌*◌, ◌^◌, List}
-use Rattle.elf32_write.specs.Bytes.{words_bytes}
 use Rattle.v8_text.specs.Listings.{IsBadLine, IsListing}
+use Rattle.elf32_write.specs.Kept.{words_bytes}
 use Rattle.eel_said.specs.declared.outcome.LineCause.TheVariants as causes
 use Rattle.eel_said.specs.Outcome.{Outcome, BadLine, OutOfMemory}
 use Rattle.eel.specs.Answers.Steps.{make_means}

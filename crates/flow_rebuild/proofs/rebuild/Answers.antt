@@ -7,7 +7,8 @@ use Rattle.flows.specs.Links.{graph_of, link_at}
 use Rattle.flows.specs.Trees.{on}
 use Rattle.flows.proofs.Bools.{true_or_false}
 use Rattle.flow_rebuild.specs.Excess.{excess}
-use Rattle.flow_rebuild.specs.Values.{abs_sum, carries, int_at}
+use Rattle.flow_rebuild.specs.Values.{abs_sum, int_at}
+use Rattle.flow_rebuild.specs.Private.{carries}
 use Rattle.flow_tree.specs.Tree.{edges_of}
 use Rattle.flow_rebuild.proofs.Peel.{peel_step, on_longer, the_flow, none_left, on_last, node_inside, reached_below, edge_inside, start_peeled, peel_small}
 use Rattle.flow_rebuild.proofs.Sums.{abs_bound, abs_carries, small_at}

@@ -1,7 +1,8 @@
 use Rattle.std.proofs.Common.{rules, tests, refl}
 use Rattle.std.proofs.lemmas.Iterator.{YieldsList-from_range, YieldsList-from_take}
 use Rattle.std.proofs.lemmas.Iterator.Consumers.{YieldsList-at, YieldsList-from_chain, YieldsList-from_filter, YieldsList-turn, YieldsList-end}
-use Rattle.scavenge.specs.Picks.{is_free_dead, is_free_live, registers}
+use Rattle.scavenge.specs.Picks.{is_free_dead, registers}
+use Rattle.scavenge.specs.Code.{is_free_live}
 use Rattle.scavenge.proofs.Turns.{are_all, is_turn}
 use Rattle.scavenge.proofs.regs_of.Goals as goal
 

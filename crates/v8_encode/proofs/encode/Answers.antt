@@ -1,7 +1,8 @@
 use Rattle.std.proofs.Common.{◌≡◌, ℕ, Bool, true, false, Some, None, refl, sym, ap, ◌∙◌}
 use Rattle.std.specs.Prelude.{if◌then◌else◌, ◌↔◌, IsSome, IfSome, IsTrue}
 use Rattle.std.proofs.lemmas.Bool.{cond_both}
-use Rattle.v8_encode.specs.Encoding.{cleared, encode_of, has_word, ignored_of, is_instruction, word_of}
+use Rattle.v8_encode.specs.Code.{cleared, encode_of, has_word, ignored_of}
+use Rattle.v8_encode.specs.Encoding.{is_instruction, word_of}
 use Rattle.v8_encode.proofs.Decoded.{decode_of-word_of}
 use Rattle.v8_encode.proofs.Encoded.{encode_of-decode_of}
 use Rattle.v8_encode.proofs.Ignored.{cleared-word_of}

@@ -2,7 +2,7 @@
 use Rattle.std.proofs.Common.{◌≡◌, ◌≤◌, ◌-◌, None}
 use Rattle.eel_base.specs.Outside.{appended}
 use Rattle.v8_step.specs.Run.{run, run_puts}
-use Rattle.v8_runner.specs.Runs.{AreMade}
+use Rattle.v8_runner.specs.Made.{AreMade}
 use Rattle.v8_runner.proofs.make_steps.Given as goal
 
 abbrev pub invariant-loop-steps : goal.invariant-loop-steps

@@ -1,6 +1,6 @@
 use Rattle.std.proofs.Common.{◌||◌}
 use Rattle.cfg_blocks.specs.Blocks.{follows_transfer}
-use Rattle.cfg_blocks.specs.Marks.{end_in}
+use Rattle.cfg_blocks.specs.Private.{end_in}
 use Rattle.cfg_blocks.proofs.Marks.{IsMarkedBelow}
 use Rattle.cfg_blocks.proofs.leaders.mark_followers.Given as goal
 

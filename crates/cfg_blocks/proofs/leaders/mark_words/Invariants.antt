@@ -1,5 +1,5 @@
 use Rattle.std.proofs.Common.{◌≡◌, ℕ, ◌<◌, ◌||◌, length, take}
-use Rattle.cfg_blocks.specs.Marks.{marked, is_in}
+use Rattle.cfg_blocks.specs.Private.{marked, is_in}
 use Rattle.cfg_blocks.proofs.leaders.mark_words.Given as goal
 
 abbrev pub invariant-loop-word : goal.invariant-loop-word

@@ -1,7 +1,7 @@
 use Rattle.std.proofs.Common.{◌≡◌}
 use Rattle.std.specs.List.{filter}
 use Rattle.cfg_blocks.specs.Blocks.{below}
-use Rattle.cfg_blocks.specs.Marks.{marked}
+use Rattle.cfg_blocks.specs.Private.{marked}
 use Rattle.cfg_blocks.proofs.leaders.marked_words.Given as goal
 
 abbrev pub invariant-loop-word : goal.invariant-loop-word

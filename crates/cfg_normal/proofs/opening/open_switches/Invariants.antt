@@ -1,5 +1,6 @@
 use Rattle.std.proofs.Common.{◌≡◌, [], drop, length}
-use Rattle.cfg_normal.specs.Landings.{AreLandings, AreTabled}
+use Rattle.cfg_normal.specs.Landings.{AreLandings}
+use Rattle.cfg_normal.specs.Private.{AreTabled}
 use Rattle.cfg_normal.specs.Opens.{opened}
 use Rattle.cfg_normal.proofs.opening.open_switches.Given as goal
 

@@ -4,7 +4,7 @@ use Rattle.std.specs.List.{list_any}
 use Rattle.std.proofs.lemmas.List.{take_all}
 use Rattle.std.proofs.Math.Bool.{or-false, or_assoc}
 use Rattle.flows.specs.Links.{marked}
-use Rattle.notes.specs.Seen.{edge_seen}
+use Rattle.notes.specs.Code.{edge_seen}
 use Rattle.notes.specs.declared.note.NoteEdge as declared_edge
 use Rattle.count_rebuild.specs.Noted.{ends_at}
 use Rattle.count_rebuild.proofs.NodeMarks.{any_more}

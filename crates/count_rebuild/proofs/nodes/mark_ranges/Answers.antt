@@ -5,7 +5,7 @@ use Rattle.std.proofs.lemmas.List.{take_all}
 use Rattle.std.proofs.Math.Bool.{or-false}
 use Rattle.eel_base.specs.declared.range.Range as declared_range
 use Rattle.flows.specs.Links.{marked}
-use Rattle.notes.specs.Seen.{range_seen}
+use Rattle.notes.specs.Code.{range_seen}
 use Rattle.count_rebuild.specs.Noted.{lies_at}
 use Rattle.count_rebuild.proofs.NodeMarks.{any_more}
 use Rattle.count_rebuild.proofs.nodes.mark_ranges.Goals as goal

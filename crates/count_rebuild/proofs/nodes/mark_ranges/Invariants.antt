@@ -1,7 +1,7 @@
 use Rattle.std.proofs.Common.{◌≡◌, ℕ, ◌<◌, ◌||◌, length, take}
 use Rattle.std.specs.List.{list_any}
 use Rattle.flows.specs.Links.{marked}
-use Rattle.notes.specs.Seen.{range_seen}
+use Rattle.notes.specs.Code.{range_seen}
 use Rattle.count_rebuild.specs.Noted.{lies_at}
 use Rattle.count_rebuild.proofs.nodes.mark_ranges.Given as goal
 

@@ -8,8 +8,8 @@ use Rattle.flow_tree.specs.Tree.{IsGrown, edges_of}
 use Rattle.flow_tree.specs.declared.Tree.{Tree}
 use Rattle.std.specs.Option.{is_some}
 use Rattle.std.proofs.lemmas.Bool.{false≢true}
-use Rattle.notes.specs.Seen.{edge_seen, notes_seen}
-use Rattle.count_rebuild.specs.Noted.{AreNodes, is_counted}
+use Rattle.notes.specs.Code.{edge_seen, notes_seen}
+use Rattle.count_rebuild.specs.Private.{AreNodes, is_counted}
 use Rattle.count_rebuild.proofs.Profile.{joins, length_links, rest_at, tree_from, tree_of}
 use Rattle.count_rebuild.proofs.rebuilding.profile_tree.Goals as goal
 

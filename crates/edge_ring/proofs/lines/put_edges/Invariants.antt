@@ -1,6 +1,6 @@
 use Rattle.std.proofs.Common.{◌≡◌, ◌++◌, take}
 use Rattle.std.specs.List.{flat_map}
-use Rattle.notes.specs.Seen.{notes_seen}
+use Rattle.notes.specs.Code.{notes_seen}
 use Rattle.edge_ring.specs.Lines.{edge_line}
 use Rattle.edge_ring.proofs.lines.put_edges.Given as goal
 

@@ -1,7 +1,7 @@
 use Rattle.std.proofs.Common.{rules, ◌≡◌, ◌++◌, map}
 use Rattle.std.specs.List.{flat_map}
 use Rattle.std.proofs.lemmas.List.{length-map}
-use Rattle.notes.specs.Seen.{notes_seen}
+use Rattle.notes.specs.Code.{notes_seen}
 use Rattle.edge_ring.specs.Lines.{edge_line, ring_line}
 use Rattle.edge_ring.proofs.Entries.{number}
 use Rattle.edge_ring.proofs.Shown.{all_shown}

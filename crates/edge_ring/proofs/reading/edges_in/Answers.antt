@@ -2,7 +2,8 @@ use Rattle.std.proofs.Common.{◌≡◌, ◌++◌, drop, map, take}
 use Rattle.std.specs.List.{filter_map}
 use Rattle.std.proofs.lemmas.Result.{IfOk-weaker}
 use Rattle.std.proofs.lemmas.List.{take_rest}
-use Rattle.edge_ring.specs.Ring.{edge_no_in, edges_in}
+use Rattle.edge_ring.specs.Private.{edge_no_in}
+use Rattle.edge_ring.specs.Ring.{edges_in}
 use Rattle.edge_ring.proofs.Entries.{at, held, number}
 use Rattle.edge_ring.proofs.reading.edges_in.Goals as goal
 

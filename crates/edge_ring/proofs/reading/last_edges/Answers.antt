@@ -1,5 +1,5 @@
 use Rattle.std.proofs.Common.{◌∙◌, ap, length, map, ◌≡◌, ◌+◌, ◌^◌}
-use Rattle.dump_file.specs.Dump.{dump_seen}
+use Rattle.dump_file.specs.Code.{dump_seen}
 use Rattle.edge_ring.specs.Ring.{edges_in}
 use Rattle.edge_ring.proofs.Entries.{inside, number}
 use Rattle.edge_ring.proofs.reading.last_edges.Goals as goal

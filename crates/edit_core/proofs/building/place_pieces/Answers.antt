@@ -1,7 +1,7 @@
 use Rattle.std.proofs.Common.{ℕ, ◌-◌, ◌*◌, length, subst, arith}
 use Rattle.layout.specs.Laid.{IsLaid}
 use Rattle.layout.proofs.Needed.{long_is_enough, short_is_enough}
-use Rattle.edit_core.specs.Written.{placement_in}
+use Rattle.edit_core.specs.Private.{placement_in}
 use Rattle.edit_core.proofs.Steps.{never_lacks_room}
 use Rattle.edit_core.proofs.building.place_pieces.Goals as goal
 

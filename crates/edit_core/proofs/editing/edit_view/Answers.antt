@@ -4,9 +4,10 @@ use Rattle.elf32_sparc.specs.Image.{Program}
 use Rattle.cfg_blocks.specs.Marks.{numbers}
 use Rattle.image_code.proofs.Fit.{pieces_fit, places_say}
 use Rattle.image_code.proofs.Made.{pieces_make_images}
-use Rattle.edit_core.specs.Cost.{IsEdited}
+use Rattle.edit_core.specs.Code.{IsEdited}
 use Rattle.edit_core.specs.Taken.{bound_of}
-use Rattle.edit_core.specs.Written.{IsTheEdit, plan_of}
+use Rattle.edit_core.specs.Written.{IsTheEdit}
+use Rattle.edit_core.specs.Private.{plan_of}
 use Rattle.edit_core.proofs.Views.{can_edit, view_bound, view_can_do, view_is}
 use Rattle.edit_core.proofs.Faithful.{edited}
 use Rattle.edit_core.proofs.Outwardly.{does_the_same}

@@ -5,7 +5,8 @@ use Rattle.snippets.specs.declared.snippet.Op.{Op}
 use Rattle.layout.specs.Laid.{Placement}
 use Rattle.notes.specs.Format.{Notes}
 use Rattle.image_code.proofs.Fit.{pieces_fit}
-use Rattle.edit_core.specs.Written.{IsBuilt, LeadsTo, placement_in, plan_of, table_after}
+use Rattle.edit_core.specs.Private.{IsBuilt, placement_in, plan_of}
+use Rattle.edit_core.specs.Written.{LeadsTo, table_after}
 use Rattle.edit_core.proofs.Steps.{code_is, original_fit, segment_is, segments_are, view_entry, view_has_room, view_text, view_words}
 use Rattle.edit_core.proofs.Edits.{notes_meet_rules, can_be_written}
 use Rattle.edit_core.proofs.editing.write_edit.Goals as goal

@@ -1,7 +1,7 @@
 use Rattle.std.proofs.Common.{◌≡◌, take}
 use Rattle.indexmap.specs.IndexMap.{get}
 use Rattle.edit_core.specs.declared.taking.CaseKey.{CaseKey}
-use Rattle.edit_core.specs.Taken.{count_of, entries_with, same_key}
+use Rattle.edit_core.specs.Private.{count_of, entries_with, same_key}
 use Rattle.edit_core.proofs.taking.case_counts.Given as goal
 
 -- those of the switches so far

@@ -3,7 +3,7 @@ use Rattle.std.specs.List.{count_by}
 use Rattle.indexmap.specs.IndexMap.{get}
 use Rattle.eel_base.specs.declared.numbers.WordNo.{WordNo}
 use Rattle.edit_core.specs.declared.taking.CaseKey.{CaseKey}
-use Rattle.edit_core.specs.Taken.{count_of, is_entry, same_key}
+use Rattle.edit_core.specs.Private.{count_of, is_entry, same_key}
 use Rattle.edit_core.proofs.taking.count_entries.Given as goal
 
 -- those of the words so far

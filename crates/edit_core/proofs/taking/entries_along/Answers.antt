@@ -3,8 +3,8 @@ use Rattle.std.specs.List.{count_by}
 use Rattle.indexmap.specs.IndexMap.{get}
 use Rattle.cfg_normal.specs.declared.Node.{Node}
 use Rattle.cfg_normal.specs.Numbers.{node_number}
-use Rattle.image_code.specs.Fit.{is_at, targets_from}
-use Rattle.edit_core.specs.Taken.{case_key, count_of, same_key}
+use Rattle.image_code.specs.Copies.{is_at, targets_from}
+use Rattle.edit_core.specs.Private.{case_key, count_of, same_key}
 use Rattle.edit_core.proofs.Counting.{led_few, led_is}
 use Rattle.edit_core.proofs.taking.entries_along.Goals as goal
 

@@ -1,6 +1,6 @@
 use Rattle.std.proofs.Common.{ap, sym, ◌∙◌}
 use Rattle.notes.specs.Format.{is_version}
-use Rattle.notes.specs.Seen.{notes_seen}
+use Rattle.notes.specs.Code.{notes_seen}
 use Rattle.dump_file.specs.Dump.{Dump}
 use Rattle.eel.proofs.Cells.{no_length}
 use Rattle.eel.proofs.dumps.dump_bytes.Goals as goal

@@ -1,5 +1,5 @@
 use Rattle.std.proofs.Common.{sym, refl, inl, ◌∙◌}
-use Rattle.notes.specs.Seen.{notes_seen}
+use Rattle.notes.specs.Code.{notes_seen}
 use Rattle.eel_said.specs.Shared.{outside}
 use Rattle.eel_said.specs.Seen.{files_seen, stream_seen}
 use Rattle.eel.proofs.Running.{run_comes}

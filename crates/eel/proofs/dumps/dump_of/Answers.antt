@@ -1,4 +1,4 @@
-use Rattle.notes.specs.Seen.{notes_seen}
+use Rattle.notes.specs.Code.{notes_seen}
 use Rattle.eel.proofs.Cells.{few_cells}
 use Rattle.eel.proofs.dumps.dump_of.Goals as goal
 

@@ -1,7 +1,7 @@
 use Rattle.std.proofs.Common.{inl, inr, refl}
-use Rattle.notes.specs.Seen.{notes_seen}
+use Rattle.notes.specs.Code.{notes_seen}
 use Rattle.v8_process.specs.Start.{start_of}
-use Rattle.eel_said.specs.Command.{texts}
+use Rattle.v8_process.specs.Arguments.{texts}
 use Rattle.eel.specs.Answers.Dump.{unfed, refused, ran}
 use Rattle.eel_said.specs.Seen.{files_seen, input_seen, stream_seen}
 use Rattle.eel.proofs.Cells.{cells_kept}

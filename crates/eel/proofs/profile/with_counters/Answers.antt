@@ -2,7 +2,7 @@ use Rattle.std.proofs.Common.{◌≡◌, ℕ, ◌*◌, ap, sym, subst}
 use Rattle.std.proofs.lemmas.Result.{IfErr-weaker, IfOk-weaker}
 use Rattle.cfg_blocks.specs.Marks.{numbers}
 use Rattle.tool_kit.specs.Plans.{AreCounters, Plan}
-use Rattle.edit_core.specs.Taken.{EditRefuses}
+use Rattle.edit_core.specs.Code.{EditRefuses}
 use Rattle.eel.specs.Answers.Edit.{IsEditOf}
 use Rattle.eel.specs.Answers.Profile.{plan_with}
 use Rattle.eel.proofs.Profiled.{are_counters, plan_is, refused_as}

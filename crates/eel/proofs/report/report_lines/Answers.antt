@@ -1,5 +1,5 @@
-use Rattle.dump_file.specs.Dump.{dump_seen}
-use Rattle.notes.specs.Seen.{notes_seen}
+use Rattle.dump_file.specs.Code.{dump_seen}
+use Rattle.notes.specs.Code.{notes_seen}
 use Rattle.eel.proofs.Reported.{exact}
 use Rattle.eel.proofs.report.report_lines.Goals as goal
 

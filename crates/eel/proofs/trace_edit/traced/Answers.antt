@@ -3,7 +3,7 @@ use Rattle.std.proofs.Math.Nat.{pow-le-pow_right}
 use Rattle.std.proofs.lemmas.Result.{IfErr-weaker, IfOk-weaker}
 use Rattle.snippets.specs.Cells.{WorksBelow}
 use Rattle.tool_kit.specs.Plans.{Plan}
-use Rattle.edit_core.specs.Taken.{EditRefuses}
+use Rattle.edit_core.specs.Code.{EditRefuses}
 use Rattle.eel.specs.Answers.Edit.{IsEditOf}
 use Rattle.eel.specs.Answers.Trace.{trace_plan}
 use Rattle.eel.proofs.Profiled.{refused_as}

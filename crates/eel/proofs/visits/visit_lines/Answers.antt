@@ -1,7 +1,7 @@
 use Rattle.std.proofs.Common.{ap, ◌∙◌, subst}
 use Rattle.cfg_view.specs.View.{Seen}
-use Rattle.dump_file.specs.Dump.{dump_seen}
-use Rattle.notes.specs.Seen.{notes_seen}
+use Rattle.dump_file.specs.Code.{dump_seen}
+use Rattle.notes.specs.Code.{notes_seen}
 use Rattle.instr_counts.specs.Answers.{AreVisits}
 use Rattle.instr_counts.specs.Lines.{visit_lines}
 use Rattle.elf32_sparc.specs.Image.{Program}

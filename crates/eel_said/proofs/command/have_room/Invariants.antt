@@ -1,8 +1,8 @@
 use Rattle.std.proofs.Common.{◌≡◌, length, ◌+◌, drop, take}
 use Rattle.std.specs.List.{All}
 use Rattle.v8_process.specs.Start.{strings}
-use Rattle.v8_step.specs.Valid.{AreBytes}
-use Rattle.eel_said.specs.Command.{texts}
+use Rattle.v8_step.specs.State.{AreBytes}
+use Rattle.v8_process.specs.Arguments.{texts}
 use Rattle.eel_said.proofs.command.have_room.Given as goal
 
 abbrev pub invariant-loop-arg : goal.invariant-loop-arg

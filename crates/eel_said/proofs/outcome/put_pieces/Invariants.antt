@@ -1,6 +1,6 @@
 use Rattle.std.proofs.Common.{◌≡◌, ◌≤◌, take}
 use Rattle.eel_base.specs.Outside.{appended}
-use Rattle.eel_said.specs.Outcome.{joined}
+use Rattle.eel_said.specs.Private.{joined}
 use Rattle.eel_said.proofs.outcome.put_pieces.Given as goal
 
 abbrev pub invariant-loop-piece : goal.invariant-loop-piece

@@ -1,4 +1,4 @@
-use Rattle.flood.specs.Flood.{AreAll}
+use Rattle.flood.specs.Private.{AreAll}
 use Rattle.flood.proofs.search.all_places.Given as goal
 
 abbrev pub invariant-loop-place : goal.invariant-loop-place

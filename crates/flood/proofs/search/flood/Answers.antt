@@ -1,6 +1,6 @@
 use Rattle.std.proofs.Common.{arith, rules, ◌≡◌, ◌<◌, length, subst, Some}
 use Rattle.std.proofs.lemmas.List.Elements.{All-pop}
-use Rattle.flood.specs.Flood.{AreAll}
+use Rattle.flood.specs.Private.{AreAll}
 use Rattle.flood.proofs.Steps.{started, taken, moved, flooded, empty}
 use Rattle.flood.proofs.search.flood.Goals as goal
 

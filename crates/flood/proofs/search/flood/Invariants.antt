@@ -1,4 +1,4 @@
-use Rattle.flood.specs.Flood.{IsFlooding, fuel}
+use Rattle.flood.specs.Private.{IsFlooding, fuel}
 use Rattle.flood.proofs.search.flood.Given as goal
 
 abbrev pub invariant-loop-place : goal.invariant-loop-place

@@ -2,7 +2,8 @@ use Rattle.std.proofs.Common.{arith, refl, ◌≡◌, ◌-◌, ◌<◌, ℕ, suc
 use Rattle.std.proofs.lemmas.List.{get_or_read}
 use Rattle.v8_decode.specs.Parts.{has}
 use Rattle.flood.specs.declared.Link.{Link}
-use Rattle.flood.specs.Flood.{AreLinks, IsFlooding, IsGrown, last_into, link_at}
+use Rattle.flood.specs.Flood.{AreLinks, link_at}
+use Rattle.flood.specs.Private.{IsFlooding, IsGrown, last_into}
 use Rattle.flood.proofs.Links.{leads_at, last_into-le}
 use Rattle.flood.proofs.Steps.{told_one}
 use Rattle.flood.proofs.search.tell.Goals as goal

@@ -1,5 +1,6 @@
 use Rattle.std.proofs.Common.{◌≡◌, ℕ, suc, ◌<◌, ◌≤◌, length, slice_index}
-use Rattle.flood.specs.Flood.{IsFlooding, Sets, fuel, link_at}
+use Rattle.flood.specs.Private.{IsFlooding, fuel}
+use Rattle.flood.specs.Flood.{Sets, link_at}
 use Rattle.flood.proofs.search.tell.Given as goal
 
 abbrev pub invariant-loop-next : goal.invariant-loop-next

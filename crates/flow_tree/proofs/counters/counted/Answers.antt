@@ -1,6 +1,7 @@
 use Rattle.std.proofs.Common.{ℕ, sym, subst, arith}
 use Rattle.std.proofs.lemmas.Result.{IfOk-weaker}
-use Rattle.flows.specs.Links.{weight_in, graph_of}
+use Rattle.flows.specs.Flows.{weight_in}
+use Rattle.flows.specs.Links.{graph_of}
 use Rattle.flows.specs.Trees.{IsConnected}
 use Rattle.flow_tree.specs.Tree.{reached_by, edges_of}
 use Rattle.flow_tree.proofs.Steps.{counted_determines, counted_least, counted_spans}

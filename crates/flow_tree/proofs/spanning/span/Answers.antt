@@ -5,7 +5,7 @@ use Rattle.flow_tree.proofs.spanning.span.Goals as goal
 use Rattle.flow_tree.proofs.spanning.span.Goals.{then-len-nodes-via-then-len-nodes, then-len-nodes-via-else-len-nodes+then-uncounted-nodes}
 use Rattle.flows.specs.Flows.{rest, count_below}
 use Rattle.flows.specs.Links.{marked, graph_of}
-use Rattle.flows.specs.Trees.{IsSpanningTree}
+use Rattle.flows.specs.SpanningTrees.{IsSpanningTree}
 use Rattle.flows.proofs.Bools.{true_or_false}
 use Rattle.flow_tree.specs.Tree.{reached_by}
 use Rattle.flow_tree.specs.declared.Join.{Join}

@@ -1,7 +1,8 @@
 use Rattle.std.proofs.Common.{◌≡◌, ℕ, ◌<◌, length}
 use Rattle.liveness.specs.Sets.{dead_on}
 use Rattle.image_code.specs.Codes.{CodeDoes}
-use Rattle.image_code.specs.Parts.{code_at, codes_of}
+use Rattle.image_code.specs.Private.{code_at}
+use Rattle.image_code.specs.Parts.{codes_of}
 use Rattle.image_code.proofs.expansion.codes_of.Given as goal
 
 abbrev pub invariant-loop-edge : goal.invariant-loop-edge

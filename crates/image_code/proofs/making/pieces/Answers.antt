@@ -1,6 +1,6 @@
 use Rattle.std.proofs.Common.{ap, ◌∙◌}
 use Rattle.image_code.specs.Made.{piece_list}
-use Rattle.image_code.specs.Parts.{code_at}
+use Rattle.image_code.specs.Private.{code_at}
 use Rattle.image_code.proofs.Sources.{source_is}
 use Rattle.image_code.proofs.making.pieces.Goals as goal
 

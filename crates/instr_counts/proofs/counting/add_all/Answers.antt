@@ -2,7 +2,7 @@ use Rattle.std.proofs.Common.{◌≡◌, ℕ, ◌+◌, ◌*◌, ◌<◌, length,
 use Rattle.std.specs.Prelude.{◌==◌}
 use Rattle.std.proofs.lemmas.List.Elements.{All-from_get_or}
 use Rattle.cfg_normal.specs.Graph.{Graph}
-use Rattle.instr_counts.specs.Answers.{along, as_slot}
+use Rattle.instr_counts.specs.Private.{along, as_slot}
 use Rattle.instr_counts.specs.Visits.{one_if}
 use Rattle.instr_counts.proofs.Adding.{finished_is}
 use Rattle.instr_counts.proofs.counting.add_all.Goals as goal

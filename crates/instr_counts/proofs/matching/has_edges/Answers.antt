@@ -2,7 +2,7 @@ use Rattle.std.proofs.Common.{◌≡◌, refl, ℕ, ◌<◌, List, sym, get_or, 
 use Rattle.std.proofs.lemmas.List.{get_or-map, get_or_default}
 use Rattle.cfg_normal.specs.declared.Edge.{Edge}
 use Rattle.cfg_normal.specs.Graph.{Graph}
-use Rattle.notes.specs.Seen.{edge_seen}
+use Rattle.notes.specs.Code.{edge_seen}
 use Rattle.notes.specs.declared.note.NoteEdge.{NoteEdge}
 use Rattle.span_tree.specs.Links.{no_edge}
 use Rattle.count_rebuild.specs.Noted.{no_edge as no_noted}

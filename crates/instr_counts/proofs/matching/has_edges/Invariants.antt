@@ -1,6 +1,6 @@
 use Rattle.std.proofs.Common.{◌<◌, ℕ, map}
 use Rattle.std.specs.Prelude.{slice_index_or}
-use Rattle.notes.specs.Seen.{edge_seen}
+use Rattle.notes.specs.Code.{edge_seen}
 use Rattle.span_tree.specs.Links.{no_edge}
 use Rattle.count_rebuild.specs.Noted.{no_edge as no_noted}
 use Rattle.instr_counts.specs.Matches.{IsNoted}

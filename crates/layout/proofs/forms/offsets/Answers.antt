@@ -1,5 +1,5 @@
 use Rattle.std.proofs.Common.{◌∙◌, sym, arith}
-use Rattle.layout.specs.Emitting.{forms_in}
+use Rattle.layout.specs.Private.{forms_in}
 use Rattle.layout.proofs.Offsets.{all_offsets, entry_at, offset_next, offset_none, offset_small, offsets_more}
 use Rattle.layout.proofs.forms.offsets.Goals as goal
 

@@ -1,6 +1,7 @@
 use Rattle.std.proofs.Common.{◌≡◌, length}
 use Rattle.layout.specs.Forms.{offset}
-use Rattle.layout.specs.Emitting.{forms_in, AreOffsets}
+use Rattle.layout.specs.Private.{forms_in}
+use Rattle.layout.proofs.Offsets.{AreOffsets}
 use Rattle.layout.proofs.forms.offsets.Given as goal
 
 abbrev pub invariant-loop-n : goal.invariant-loop-n

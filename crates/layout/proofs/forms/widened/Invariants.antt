@@ -1,5 +1,5 @@
 use Rattle.std.proofs.Common.{◌≡◌, ◌-◌, length, count_by}
-use Rattle.layout.specs.Emitting.{forms_in}
+use Rattle.layout.specs.Private.{forms_in}
 use Rattle.layout.proofs.Widening.{IsWidening}
 use Rattle.layout.proofs.forms.widened.Given as goal
 

@@ -1,5 +1,5 @@
 use Rattle.std.proofs.Common.{◌≡◌, drop}
-use Rattle.line_words.specs.Words.{hex_value}
+use Rattle.line_words.specs.Registers.{hex_value}
 use Rattle.line_words.proofs.words.value_of.Given as goal
 
 abbrev pub invariant-loop-byte : goal.invariant-loop-byte

@@ -1,6 +1,6 @@
 use Rattle.std.proofs.Common.{refl, sym, subst}
 use Rattle.std.specs.Result.{IsOk}
-use Rattle.notes.specs.Seen.{IsFault}
+use Rattle.notes.specs.Code.{IsFault}
 use Rattle.notes.specs.Format.{head_of, tables_of}
 use Rattle.notes.proofs.Steps.{fault_out, through, wanting_held, wanting_out}
 use Rattle.notes.proofs.Whole.{in_groups, in_parts}

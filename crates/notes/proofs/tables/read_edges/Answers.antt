@@ -1,6 +1,6 @@
 use Rattle.std.proofs.Common.{◌≡◌, ◌-◌, ◌<◌, ◌∙◌, ◌∷◌, [], map, Ok, ap, append-nil, arith}
 use Rattle.std.proofs.lemmas.List.{map-append}
-use Rattle.notes.specs.Seen.{edge_seen}
+use Rattle.notes.specs.Code.{edge_seen}
 use Rattle.notes.specs.Format.{edges_at}
 use Rattle.notes.proofs.Steps.{fault_out}
 use Rattle.notes.proofs.TableRows.{edges-more, edges-fault, edges-none-read}

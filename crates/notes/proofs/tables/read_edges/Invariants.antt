@@ -1,6 +1,6 @@
 use Rattle.std.proofs.Common.{◌≡◌, [], map}
 use Rattle.notes.specs.Format.{edges_at}
-use Rattle.notes.specs.Seen.{edge_seen}
+use Rattle.notes.specs.Code.{edge_seen}
 use Rattle.notes.proofs.TableRows.{EdgesRead}
 use Rattle.notes.proofs.tables.read_edges.Given as goal
 

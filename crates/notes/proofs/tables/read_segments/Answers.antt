@@ -1,6 +1,6 @@
 use Rattle.std.proofs.Common.{◌≡◌, ◌-◌, ◌∙◌, ◌∷◌, [], map, Ok, ap, append-nil, arith}
 use Rattle.std.proofs.lemmas.List.{map-append}
-use Rattle.notes.specs.Seen.{segment_seen}
+use Rattle.notes.specs.Code.{segment_seen}
 use Rattle.notes.specs.Format.{segments_at}
 use Rattle.notes.proofs.Steps.{fault_out}
 use Rattle.notes.proofs.TableRows.{row_read, row_fault, segments-row}

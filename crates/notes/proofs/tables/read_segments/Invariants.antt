@@ -1,6 +1,6 @@
 use Rattle.std.proofs.Common.{◌≡◌, ◌+◌, ◌*◌, ◌-◌, map}
 use Rattle.notes.specs.Format.{segments_at}
-use Rattle.notes.specs.Seen.{segment_seen}
+use Rattle.notes.specs.Code.{segment_seen}
 use Rattle.notes.proofs.Steps.{after}
 use Rattle.notes.proofs.tables.read_segments.Given as goal
 

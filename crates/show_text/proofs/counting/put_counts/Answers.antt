@@ -3,7 +3,7 @@ use Rattle.std.specs.List.{enumerate_from}
 use Rattle.std.proofs.lemmas.List.{get_or-map, length-map}
 use Rattle.std.proofs.lemmas.List.FromFn.{get_or-enumerate_from, length-enumerate_from}
 use Rattle.notes.specs.Format.{NoteEdge}
-use Rattle.notes.specs.Seen.{edge_seen, notes_seen}
+use Rattle.notes.specs.Code.{edge_seen, notes_seen}
 use Rattle.notes.specs.declared.note.NoteEdge as declared_edge
 use Rattle.show_text.specs.CountLines.{count_line}
 use Rattle.show_text.proofs.Joined.{all_lines, more_lines}

@@ -1,6 +1,6 @@
 use Rattle.std.proofs.Common.{◌≡◌, ◌++◌, take}
 use Rattle.std.specs.List.{enumerate_from, flat_map}
-use Rattle.notes.specs.Seen.{notes_seen}
+use Rattle.notes.specs.Code.{notes_seen}
 use Rattle.show_text.specs.CountLines.{count_line}
 use Rattle.show_text.proofs.counting.put_counts.Given as goal
 

@@ -1,5 +1,5 @@
 use Rattle.std.proofs.Common.{◌≡◌, ◌≤◌, take}
-use Rattle.snippet_code.specs.Words.{registers_for}
+use Rattle.snippet_code.specs.Spills.{registers_for}
 use Rattle.snippet_code.proofs.operations.registers_for.Given as goal
 
 abbrev pub invariant-loop-op : goal.invariant-loop-op

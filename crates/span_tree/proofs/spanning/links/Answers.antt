@@ -6,7 +6,7 @@ use Rattle.cfg_normal.specs.declared.Edge.{Edge}
 use Rattle.cfg_normal.specs.declared.Node.TheVariants.{Block}
 use Rattle.cfg_normal.specs.declared.Slot.TheVariants.{Nothing}
 use Rattle.cfg_normal.specs.Graph.{Graph}
-use Rattle.span_tree.specs.Links.{link_of}
+use Rattle.span_tree.specs.Private.{link_of}
 use Rattle.span_tree.proofs.spanning.links.Goals as goal
 
 -- what stands for an edge past the last one

@@ -1,6 +1,6 @@
 use Rattle.std.proofs.Common.{◌≡◌, ◌++◌, map, drop}
 use Rattle.v8_memory.specs.Calls.{mapping_of_plan}
-use Rattle.v8_process.specs.Loading.{segment_mapping}
+use Rattle.v8_process.specs.Private.{segment_mapping}
 use Rattle.v8_process.proofs.loader.region_plans.Given as goal
 
 abbrev pub invariant-loop-segment : goal.invariant-loop-segment

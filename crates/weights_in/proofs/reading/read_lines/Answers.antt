@@ -1,7 +1,7 @@
 use Rattle.std.proofs.Common.{◌+◌, ap, inl, refl, sym}
-use Rattle.cfg_view.specs.View.{view_seen}
-use Rattle.weights_in.specs.Parts.{Edge, IsNext, Last, entry_in, said_in}
-use Rattle.weights_in.proofs.Lines.{no_next}
+use Rattle.cfg_view.specs.Code.{view_seen}
+use Rattle.weights_in.specs.Parts.{Edge, Last, entry_in, said_in}
+use Rattle.weights_in.proofs.Lines.{no_next, IsNext}
 use Rattle.weights_in.proofs.Read.{Answers, bad_entry, ended, fault_out, more, most_out, next_said, shorter, stray}
 use Rattle.weights_in.proofs.reading.read_lines.Goals as goal
 use Rattle.weights_in.proofs.reading.read_lines.Goals.{After-finish}

@@ -1,7 +1,7 @@
 use Rattle.std.proofs.Common.{◌≡◌, ℕ, ◌<◌, ◌||◌, length}
 use Rattle.cfg_blocks.specs.Arrivals.{is_led_from}
 use Rattle.cfg_blocks.specs.Blocks.{Blocks}
-use Rattle.cfg_blocks.specs.Marks.{marked}
+use Rattle.cfg_blocks.specs.Private.{marked}
 use Rattle.cfg_blocks.proofs.entries.CutText.mark_arrivals.Given as goal
 
 abbrev pub invariant-loop-block : goal.invariant-loop-block

@@ -1,8 +1,8 @@
 use Rattle.std.proofs.Common.{rules, ◌≡◌, ℕ, true, List, length, ap, sym, ◌∙◌, subst, set}
 use Rattle.std.specs.List.{Contains}
 use Rattle.std.specs.BinaryHeap.{heap_items}
-use Rattle.flows.specs.Flows.{NodeSet}
-use Rattle.flows.specs.Links.{weight_in, marked, graph_of}
+use Rattle.flows.specs.Flows.{NodeSet, weight_in}
+use Rattle.flows.specs.Links.{marked, graph_of}
 use Rattle.flows.specs.Trees.{crosses, Grows, joined_by, only}
 use Rattle.flow_tree.specs.Tree.{edges_in, nodes_in}
 use Rattle.flow_tree.specs.declared.Join.{Join}

@@ -3,8 +3,8 @@ use Rattle.std.specs.List.{Contains}
 use Rattle.std.specs.BinaryHeap.{heap_items}
 use Rattle.std.proofs.lemmas.List.{length-set}
 use Rattle.std.proofs.lemmas.Bool.{cases_Bool}
-use Rattle.flows.specs.Flows.{NodeSet}
-use Rattle.flows.specs.Links.{graph_of, weight_in, marked}
+use Rattle.flows.specs.Flows.{NodeSet, weight_in}
+use Rattle.flows.specs.Links.{graph_of, marked}
 use Rattle.flows.specs.Trees.{and_also, IsHeaviest, crosses, only, far_end, joined_by, Grows}
 use Rattle.flows.proofs.Bools.{true_or_false}
 use Rattle.flow_tree.specs.Rows.{IsAttached}

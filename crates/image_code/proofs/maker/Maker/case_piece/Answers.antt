@@ -8,7 +8,7 @@ use Rattle.cfg_normal.specs.Graph.{lands}
 use Rattle.cfg_walk.specs.Walk.{edge_along}
 use Rattle.layout.specs.declared.items.Item.{Item}
 use Rattle.image_code.specs.Made.{case_by, jump_to}
-use Rattle.image_code.specs.Parts.{code_at}
+use Rattle.image_code.specs.Private.{code_at}
 use Rattle.image_code.proofs.maker.Maker.case_piece.Goals as goal
 
 pub returns-then-place-entry : goal.returns-then-place-entry

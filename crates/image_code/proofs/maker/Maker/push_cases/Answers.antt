@@ -5,7 +5,7 @@ use Rattle.cfg_normal.specs.Opens.{Open}
 use Rattle.layout.specs.declared.items.Item.{Item}
 use Rattle.image_code.specs.Made.{cases_from}
 use Rattle.image_code.specs.Numbered.{case_piece}
-use Rattle.image_code.specs.Parts.{code_at}
+use Rattle.image_code.specs.Private.{code_at}
 use Rattle.image_code.proofs.CasePieces.{numbers_pushed}
 use Rattle.image_code.proofs.Pushed.{pushed_all}
 use Rattle.image_code.proofs.maker.Maker.push_cases.Goals as goal

@@ -4,7 +4,7 @@ use Rattle.eel_base.specs.declared.numbers.PieceNo.{PieceNo}
 use Rattle.cfg_normal.specs.Opens.{Open}
 use Rattle.image_code.specs.Made.{cases_from}
 use Rattle.image_code.specs.Numbered.{cases_of}
-use Rattle.image_code.specs.Parts.{code_at}
+use Rattle.image_code.specs.Private.{code_at}
 use Rattle.image_code.proofs.maker.Maker.push_cases.Given as goal
 
 abbrev pub invariant-loop-number : goal.invariant-loop-number

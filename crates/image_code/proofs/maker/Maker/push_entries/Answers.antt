@@ -8,7 +8,7 @@ use Rattle.eel_base.specs.declared.numbers.PieceNo.{PieceNo}
 use Rattle.eel_base.specs.declared.numbers.WordNo.{WordNo}
 use Rattle.image_code.specs.Made.{cases_from}
 use Rattle.image_code.specs.Numbered.{case_piece}
-use Rattle.image_code.specs.Parts.{code_at}
+use Rattle.image_code.specs.Private.{code_at}
 use Rattle.image_code.proofs.CasePieces.{case_pushed, entry_number, number_pushed}
 use Rattle.image_code.proofs.Found.{found_stands}
 use Rattle.image_code.proofs.maker.Maker.push_entries.Goals as goal

@@ -1,7 +1,7 @@
 use Rattle.std.proofs.Common.{append-nil, ap, sym, ◌∙◌}
 use Rattle.image_code.specs.Made.{image}
 use Rattle.image_code.specs.Numbered.{node_in_order}
-use Rattle.image_code.specs.Parts.{code_at}
+use Rattle.image_code.specs.Private.{code_at}
 use Rattle.image_code.proofs.Pushed.{pushed_below}
 use Rattle.image_code.proofs.maker.Maker.push_images.Goals as goal
 

@@ -1,6 +1,6 @@
 use Rattle.std.proofs.Common.{arith}
 use Rattle.image_code.specs.Made.{image}
-use Rattle.image_code.specs.Parts.{code_at}
+use Rattle.image_code.specs.Private.{code_at}
 use Rattle.image_code.proofs.Pushed.{pushed_range}
 use Rattle.image_code.proofs.maker.Maker.push_images_at.Goals as goal
 

@@ -1,6 +1,6 @@
 use Rattle.std.proofs.Common.{append-nil, sym}
 use Rattle.image_code.specs.Made.{landing}
-use Rattle.image_code.specs.Parts.{code_at}
+use Rattle.image_code.specs.Private.{code_at}
 use Rattle.image_code.proofs.Pushed.{pushed_below}
 use Rattle.image_code.proofs.maker.Maker.push_landings.Goals as goal
 

@@ -1,7 +1,7 @@
 use Rattle.std.proofs.Common.{◌≡◌, ◌++◌, map}
 use Rattle.cfg_blocks.specs.Blocks.{below}
 use Rattle.image_code.specs.Made.{landing}
-use Rattle.image_code.specs.Parts.{code_at}
+use Rattle.image_code.specs.Private.{code_at}
 use Rattle.image_code.proofs.maker.Maker.push_landings.Given as goal
 
 abbrev pub invariant-loop-word : goal.invariant-loop-word

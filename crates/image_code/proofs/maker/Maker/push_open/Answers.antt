@@ -6,7 +6,7 @@ use Rattle.cfg_blocks.specs.declared.switches.Switch.{Switch}
 use Rattle.cfg_blocks.specs.Blocks.{size_of}
 use Rattle.cfg_walk.proofs.Holding.{some_words}
 use Rattle.image_code.specs.Loads.{load_of}
-use Rattle.image_code.specs.Parts.{code_at}
+use Rattle.image_code.specs.Private.{code_at}
 use Rattle.image_code.proofs.Found.{found_stands}
 use Rattle.image_code.proofs.NumberTables.{load_within}
 use Rattle.image_code.proofs.OpenPieces.{open_added}

@@ -1,7 +1,7 @@
 use Rattle.std.proofs.Common.{◌++◌, append-nil, ap, sym, ◌∙◌}
 use Rattle.cfg_normal.specs.Opens.{Open}
 use Rattle.image_code.specs.Made.{open_pieces}
-use Rattle.image_code.specs.Parts.{code_at}
+use Rattle.image_code.specs.Private.{code_at}
 use Rattle.image_code.proofs.Pushed.{pushed_all}
 use Rattle.image_code.proofs.maker.Maker.push_opens.Goals as goal
 

@@ -1,7 +1,7 @@
 use Rattle.std.proofs.Common.{◌≡◌, ◌++◌, take}
 use Rattle.std.specs.List.{flat_map}
 use Rattle.image_code.specs.Made.{open_pieces}
-use Rattle.image_code.specs.Parts.{code_at}
+use Rattle.image_code.specs.Private.{code_at}
 use Rattle.image_code.proofs.maker.Maker.push_opens.Given as goal
 
 abbrev pub invariant-loop-number : goal.invariant-loop-number

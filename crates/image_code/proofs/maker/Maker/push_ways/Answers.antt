@@ -2,7 +2,7 @@ use Rattle.std.proofs.Common.{◌≡◌, ◌-◌, ◌^◌, ◌<◌, append-nil, 
 use Rattle.std.specs.Coded.{le_prop}
 use Rattle.std.proofs.Math.Logic.{∥∥₁_elim}
 use Rattle.image_code.specs.Numbered.{landing_count, own_edges}
-use Rattle.image_code.specs.Parts.{code_at}
+use Rattle.image_code.specs.Private.{code_at}
 use Rattle.image_code.proofs.Along.{ways_pushed}
 use Rattle.image_code.proofs.maker.Maker.push_ways.Goals as goal
 

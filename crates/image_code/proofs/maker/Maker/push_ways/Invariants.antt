@@ -1,6 +1,6 @@
 use Rattle.std.proofs.Common.{◌≡◌, ◌++◌, take}
 use Rattle.image_code.specs.Made.{ways_from}
-use Rattle.image_code.specs.Parts.{code_at}
+use Rattle.image_code.specs.Private.{code_at}
 use Rattle.image_code.proofs.maker.Maker.push_ways.Given as goal
 
 abbrev pub invariant-loop-number : goal.invariant-loop-number

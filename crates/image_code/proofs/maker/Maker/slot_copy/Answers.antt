@@ -1,5 +1,5 @@
 use Rattle.std.proofs.Common.{sym, ◌∙◌}
-use Rattle.image_code.specs.Parts.{code_at}
+use Rattle.image_code.specs.Private.{code_at}
 use Rattle.image_code.proofs.Along.{out_copy, plain_copy}
 use Rattle.image_code.proofs.maker.Maker.slot_copy.Goals as goal
 

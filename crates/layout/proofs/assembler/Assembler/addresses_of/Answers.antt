@@ -1,6 +1,6 @@
 use Rattle.std.proofs.Common.{length, arith}
 use Rattle.layout.specs.Forms.{start_of}
-use Rattle.layout.specs.Emitting.{forms_in}
+use Rattle.layout.specs.Private.{forms_in}
 use Rattle.layout.proofs.Widening.{rises}
 use Rattle.layout.proofs.assembler.Assembler.addresses_of.Goals as goal
 

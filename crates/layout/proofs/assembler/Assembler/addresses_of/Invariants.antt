@@ -1,5 +1,5 @@
 use Rattle.std.proofs.Common.{◌≡◌, take}
-use Rattle.layout.specs.Emitting.{addresses, forms_in}
+use Rattle.layout.specs.Private.{addresses, forms_in}
 use Rattle.layout.proofs.assembler.Assembler.addresses_of.Given as goal
 
 abbrev pub invariant-loop-words : goal.invariant-loop-words

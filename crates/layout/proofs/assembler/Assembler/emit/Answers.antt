@@ -1,5 +1,5 @@
 use Rattle.std.proofs.Common.{sym, arith}
-use Rattle.layout.specs.Emitting.{forms_in}
+use Rattle.layout.specs.Private.{forms_in}
 use Rattle.layout.proofs.Emitted.{emitted_none, emitted_more}
 use Rattle.layout.proofs.Offsets.{offset_next, offset_none}
 use Rattle.layout.proofs.assembler.Assembler.emit.Goals as goal

@@ -1,6 +1,6 @@
 use Rattle.std.proofs.Common.{◌≡◌}
 use Rattle.layout.specs.Forms.{offset}
-use Rattle.layout.specs.Emitting.{forms_in, IsEmitted}
+use Rattle.layout.specs.Private.{forms_in, IsEmitted}
 use Rattle.layout.proofs.assembler.Assembler.emit.Given as goal
 
 abbrev pub invariant-loop-n : goal.invariant-loop-n

@@ -2,7 +2,7 @@ use Rattle.std.proofs.Common.{◌≡◌, ◌∙◌, sym, ap, slice_get, is_some,
 use Rattle.std.proofs.lemmas.Option.{slice_get-get_or}
 use Rattle.layout.specs.declared.entries.Entry.{Entry}
 use Rattle.layout.specs.Forms.{target}
-use Rattle.layout.specs.Emitting.{forms_in, target_offset}
+use Rattle.layout.specs.Private.{forms_in, target_offset}
 use Rattle.layout.proofs.Emitted.{some_both, target_low}
 use Rattle.layout.proofs.assembler.Assembler.put_at.Goals as goal
 

@@ -1,5 +1,5 @@
 use Rattle.std.proofs.Common.{sym, length, arith, rules}
-use Rattle.layout.specs.Emitting.{address_of, forms_in}
+use Rattle.layout.specs.Private.{address_of, forms_in}
 use Rattle.layout.proofs.Offsets.{offset_next, offset_none, offset_small, ranges_more}
 use Rattle.layout.proofs.Widening.{rises}
 use Rattle.layout.proofs.assembler.Assembler.ranges_of.Goals as goal

@@ -1,6 +1,6 @@
 use Rattle.std.proofs.Common.{◌≡◌, ◌++◌, drop, None}
 use Rattle.layout.specs.Forms.{offset}
-use Rattle.layout.specs.Emitting.{address_of, forms_in, ranges_from}
+use Rattle.layout.specs.Private.{address_of, forms_in, ranges_from}
 use Rattle.layout.proofs.assembler.Assembler.ranges_of.Given as goal
 
 abbrev pub invariant-loop-n : goal.invariant-loop-n

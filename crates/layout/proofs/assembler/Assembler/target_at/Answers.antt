@@ -2,7 +2,7 @@ use Rattle.std.proofs.Common.{◌≡◌, ◌<◌, ◌∙◌, ℕ, List, length, 
 use Rattle.std.proofs.lemmas.Option.{slice_get-get_or}
 use Rattle.layout.specs.declared.entries.Entry.{Entry}
 use Rattle.layout.specs.Forms.{Forms, target}
-use Rattle.layout.specs.Emitting.{IsOffsets, target_offset}
+use Rattle.layout.specs.Private.{IsOffsets, target_offset}
 use Rattle.layout.proofs.assembler.Assembler.target_at.Goals as goal
 
 leads : (entries : List Entry) (n : ℕ) (x : Entry) (k : ℕ) → n < length entries

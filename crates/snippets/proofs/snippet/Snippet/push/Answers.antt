@@ -1,4 +1,4 @@
-use Rattle.snippets.specs.OpLaws.{filled_more}
+use Rattle.snippets.proofs.Filled.{filled_more}
 use Rattle.snippets.proofs.snippet.Snippet.push.Goals as goal
 
 pub invariant_of-self : goal.invariant_of-self

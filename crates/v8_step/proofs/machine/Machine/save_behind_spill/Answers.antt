@@ -5,8 +5,10 @@ use Rattle.v8_memory.specs.Regions.{Memory}
 use Rattle.v8_step.specs.declared.Ending.TheVariants.{Window}
 use Rattle.v8_step.specs.Accesses.{on_memory}
 use Rattle.v8_step.specs.Ahead.{placed}
-use Rattle.v8_step.specs.Machine.{Spills}
-use Rattle.v8_step.specs.State.{State, Slot, NoSlot}
+use Rattle.v8_step.specs.Private.{Spills}
+use Rattle.v8_step.specs.State.{State}
+use Rattle.v8_step.specs.declared.Slot.{Slot}
+use Rattle.v8_step.specs.declared.Slot.TheVariants.{NoSlot}
 use Rattle.v8_step.specs.WindowMoves.{enter, save_step, saved_memory, spill}
 use Rattle.v8_step.proofs.machine.Machine.save_behind_spill.Goals as goal
 

@@ -6,7 +6,7 @@ use Rattle.v8_memory.specs.Calls.{Fills as Written}
 use Rattle.v8_windows.specs.Frames.{frame_of}
 use Rattle.v8_step.specs.State.{State}
 use Rattle.v8_step.specs.WindowMoves.{frame_written, saved_memory, save_address, oldest_window}
-use Rattle.v8_step.specs.Machine.{Spills}
+use Rattle.v8_step.specs.Private.{Spills}
 use Rattle.v8_step.specs.contracts.machine.Machine.{the_view}
 use Rattle.v8_step.proofs.machine.Machine.spill.Goals as goal
 

@@ -1,0 +1,22 @@
+-- The piece before the load of an open switch.
+use Rattle.std.specs.Prelude.{◌≡◌, ℕ, Some, slice_get, slice_index}
+use Rattle.cfg_normal.specs.declared.Node.{Node}
+use Rattle.jump_code.specs.Pieces.{word_items}
+use Rattle.jump_code.specs.Keeping.{keep_load}
+use Rattle.cfg_walk.specs.Walk.{Point}
+use Rattle.image_code.specs.Simulates.{CaseTable, IsAtWord}
+use Rattle.image_code.proofs.Points.{Site, entered_at, visited_at}
+
+-- a piece that keeps the load's address, and behind which the visit stands
+pub record IsKeeping (site : Site) (node : Node) (x : Point) (o : CaseTable) : Type 0 where
+  pub piece : ℕ
+  pub here : entered_at site node x ≡ slice_index site.p.at piece
+  pub items : slice_get site.l.list piece ≡ Some (word_items (keep_load o.rs1 o.op2))
+  pub behind : site.place piece 3 ≡ visited_at site node x
+
+pub data IsEntered (site : Site) (node : Node) (x : Point) : Type 0 where
+  at_once : entered_at site node x ≡ visited_at site node x
+      → ((k : ℕ) (o : CaseTable) → slice_get site.g.opens k ≡ Some o → IsAtWord site.g o node x o.load → ⊥)
+      → IsEntered site node x
+  keeping : (k : ℕ) (o : CaseTable) → slice_get site.g.opens k ≡ Some o → IsAtWord site.g o node x o.load
+      → IsKeeping site node x o → IsEntered site node x

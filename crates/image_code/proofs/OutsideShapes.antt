@@ -1,0 +1,30 @@
+-- Points outside the text.
+use Rattle.std.specs.Prelude.{◌≡◌, None, ◌≢◌, Some}
+use Rattle.eel_base.specs.CodeText.{word_at}
+use Rattle.cfg_normal.specs.declared.Node.{Node}
+use Rattle.cfg_normal.specs.declared.Node.TheVariants.{X}
+use Rattle.notes.specs.Format.{NoteRange, range_at}
+use Rattle.v8_step.specs.declared.Slot.TheVariants.{NoSlot}
+use Rattle.cfg_walk.specs.Walk.{Point}
+use Rattle.image_code.specs.Simulates.{Setting, number_in}
+use Rattle.image_code.specs.Outside.{IsOpen}
+use Rattle.image_code.specs.Images.{IsBeside}
+use Rattle.image_code.proofs.Points.{Site}
+
+-- outside a slot, at an address of no word: the written file is there too
+pub record IsForeign (g : Setting) (node : Node) (x : Point) : Type 0 where
+  pub slot : x.slot ≡ NoSlot
+  pub none : word_at g.text x.pc ≡ None
+  pub beyond : node ≡ X
+  pub apart : IsOpen g x
+
+-- In a slot behind the text, whose place is where the table begins.
+pub record IsOff (site : Site) (node : Node) (x : Point) : Type 0 where
+  pub slot : x.slot ≢ NoSlot
+  pub none : word_at site.g.text x.pc ≡ None
+  pub range : NoteRange
+  pub noted : range_at site.g.notes site.f.table.base ≡ Some range
+  pub lo : range.lo ≡ site.f.table.base
+  pub address : range.address ≡ x.pc
+  pub number : range.node ≡ number_in site.g node
+  pub beside : IsBeside site.base site.p.code site.f.table.base

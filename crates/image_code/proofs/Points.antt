@@ -1,0 +1,56 @@
+-- Where machines stand at the visits of points.
+use Rattle.std.specs.Prelude.{ℕ, Option, List}
+use Rattle.eel_base.specs.CodeText.{word_at}
+use Rattle.cfg_normal.specs.declared.Node.{Node}
+use Rattle.v8_step.specs.declared.Slot.{Slot}
+use Rattle.v8_step.specs.State.{State}
+use Rattle.layout.specs.Laid.{Placement, HasShortForms}
+use Rattle.cfg_walk.specs.Walk.{Point}
+use Rattle.image_code.specs.Simulates.{Setting, does_at, gone_at}
+use Rattle.image_code.specs.Images.{Pieces, Frame, place_by, Here, HereBy, IsPlaced}
+use Rattle.image_code.proofs.Promises.{Enters}
+
+abbrev pub visited_by : Setting → Pieces → Placement → Frame → Node → Point → Option ℕ → Slot → ℕ
+visited_by g l = place_by l.image g l
+
+-- Pieces where they are placed, for a setting. (`g l base p place f` is written out where another crate says it.)
+pub record Site : Type 0 where
+  pub g : Setting
+  pub l : Pieces
+  pub base : ℕ
+  pub p : Placement
+  pub place : ℕ → ℕ → ℕ
+  pub f : Frame
+
+abbrev pub placed_by : (Node → ℕ → ℕ) → Site → Node → Point → ℕ
+placed_by image site node x = place_by image site.g site.l site.p site.f node x (word_at site.g.text x.pc) x.slot
+
+-- the address at which the written file visits the point
+abbrev pub visited_at : Site → Node → Point → ℕ
+visited_at site = placed_by site.l.image site
+
+-- the address at which control enters the piece of the point: before the load of an open switch its address is kept
+abbrev pub entered_at : Site → Node → Point → ℕ
+entered_at site = placed_by site.l.enter site
+
+abbrev pub HereAt : Site → Node → Point → State → Type 0
+HereAt site node x t = Here site.g site.l site.base site.p site.f node x t
+
+-- where control comes to it
+abbrev pub Entered : Site → Node → Point → State → Type 0
+Entered site node x t = HereBy site.l.enter site.g site.l site.base site.p site.f node x t
+
+-- no Jump and no Branch is long
+abbrev pub Forms : Site → Type 0
+Forms site = HasShortForms site.l.list site.place
+
+-- What one image does, up to where control enters the next one.
+abbrev pub EntersNext : Site → List ℕ → Node → Point → State → State → Type 0
+EntersNext site edges node x t v = Enters site.g (Entered site) (Forms site) edges node x t v
+
+-- where the original's step leads
+abbrev pub StepsFrom : Site → Node → Point → State → Type 0
+StepsFrom site node x t = let v = does_at site.g x t in EntersNext site (gone_at site.g node x v) node x t v
+
+abbrev pub Placed : Site → Type 0
+Placed site = IsPlaced site.g site.l site.base site.p site.place site.f

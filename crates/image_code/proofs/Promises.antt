@@ -1,0 +1,19 @@
+-- What the pieces promise.
+use Rattle.std.specs.Prelude.{◌≡◌, ◌≢◌, ℕ, false, List, [], None}
+use Rattle.eel_base.specs.CodeText.{word_at}
+use Rattle.cfg_normal.specs.declared.Node.{Node}
+use Rattle.v8_step.specs.State.{State}
+use Rattle.jump_code.specs.PageWords.{kept_address}
+use Rattle.cfg_walk.specs.Walk.{Point, instr_at}
+use Rattle.image_code.specs.Cost.{is_transfer_at}
+use Rattle.image_code.specs.Simulates.{Setting, StepsOn}
+
+-- ---- what one image does, up to where control enters the next one
+
+-- `Entered` says that a machine is where control comes to a point. Three steps are left, in which an address may be
+-- kept. Within a block word 0 of the page stays as it is.
+pub record Enters (g : Setting) (Entered : Node → Point → State → Type 0) (Short : Type 0)
+    (edges : List ℕ) (node : Node) (p : Point) (t v : State) : Type 0 where
+  pub on : StepsOn g Entered Short 61 edges node p t v
+  pub first : v.ending ≡ None → edges ≡ [] → is_transfer_at (instr_at g.text p.pc) ≡ false → word_at g.text v.pc ≢ None
+      → kept_address on.after ≡ kept_address t

@@ -1,0 +1,160 @@
+-- What only contracts of private functions and models cite.
+use Rattle.std.specs.Prelude.{◌≡◌, ℕ, ◌<◌, List, length, slice_get, slice_index, IfSome, Bool, false, slice_index_or, ◌*◌, ◌≤◌, ◌||◌, ℤ, pos, ◌-ℤ◌, ◌+◌, true, [], ◌∷◌, if◌then◌else◌, Option, Some, None, suc, zero, ◌++◌, nat_lt, map, ◌^◌, Result, Ok, Err}
+use Rattle.std.specs.Option.{option_map}
+use Rattle.eel_base.specs.declared.range.Range.{Range}
+use Rattle.eel_base.specs.declared.numbers.Addr.{Addr}
+use Rattle.v8_decode.specs.declared.Instr.{Instr}
+use Rattle.layout.specs.declared.entries.Entry.{Entry}
+use Rattle.layout.specs.Forms.{start_of, target, Forms, offset, is_far, leads_next, goal_of, far, entries_of, IsWidened}
+use Rattle.v8_decode.specs.declared.Instr.TheVariants as i
+use Rattle.code_runs.specs.LongJump.{long_jump}
+use Rattle.layout.specs.Laid.{nop, opposite}
+use Rattle.layout.specs.declared.items.Item.TheVariants as it
+use Rattle.layout.specs.declared.entries.Entry.TheVariants as en
+use Rattle.layout.specs.Emitting.{words_of}
+use Rattle.layout.specs.declared.ranges.OpenRange.{OpenRange}
+use Rattle.layout.specs.declared.items.Item.{Item}
+use Rattle.layout.specs.declared.items.Placed.{Placed}
+use Rattle.layout.specs.declared.items.LayoutFault.{LayoutFault}
+use Rattle.layout.specs.declared.items.LayoutFault.TheVariants as faults
+
+-- ---- entries
+
+-- each leads to one of the pieces, and each piece starts at one of them, which this list has
+pub record IsListing (entries : List Entry) (starts : List ℕ) : Type 0 where
+  pub targets : (n : ℕ) → IfSome (target (slice_get entries n)) (λ k. k < length starts)
+  pub inside : (k : ℕ) → k < length starts → slice_index starts k < length entries
+  pub are : (k : ℕ) → k < length starts → slice_index starts k ≡ start_of entries k
+
+-- the forms that a list has
+abbrev pub forms_in : List Bool → Forms
+forms_in forms n = slice_index_or forms n false
+
+-- these are the words before each piece, and each entry leads to one of the pieces
+pub record IsOffsets (entries : List Entry) (long : Forms) (at : List ℕ) : Type 0 where
+  pub targets : (n : ℕ) → IfSome (target (slice_get entries n)) (λ k. k < length at)
+  pub inside : (k : ℕ) → k < length at → start_of entries k < length entries
+  pub each : (k : ℕ) → k < length at → slice_index at k ≡ offset entries long (start_of entries k)
+  pub small : (n : ℕ) → offset entries long n ≤ 6 * n
+
+-- the first of these forms are long where they were or where they are out of reach
+pub record AreWider (entries : List Entry) (forms wide : List Bool) (n : ℕ) : Type 0 where
+  pub len : length wide ≡ n
+  pub each : (k : ℕ) → k < n → slice_index_or wide k false ≡ (slice_index_or forms k false || is_far entries (forms_in
+      forms) k)
+
+-- the displacement of a branch, in words
+abbrev pub between : ℕ → ℕ → ℤ
+between from to = pos to -ℤ pos from
+
+-- a Jump at word `from` to word `to`, and a Branch
+abbrev pub jump_code : Bool → ℕ → ℕ → ℕ → List Instr
+jump_code true base from to = long_jump (base + 4 * to)
+jump_code false base from to = i.Branch 8 true (between from to) ∷ []
+
+abbrev pub branch_code : Bool → ℕ → ℕ → ℕ → ℕ → List Instr
+branch_code true base cond from to = i.Branch (opposite cond) false (pos 6) ∷ nop ∷ long_jump (base + 4 * to)
+branch_code false base cond from to = i.Branch cond true (between from to) ∷ nop ∷ []
+
+-- the words of an entry at word `from` before the next one, where the piece to which it leads starts at word `to`
+abbrev pub entry_code : ℕ → Bool → ℕ → ℕ → Option Entry → Option Entry → List ℕ
+entry_code base long from to (Some (en.Item (it.Word word))) next = word ∷ []
+entry_code base long from to (Some (en.Item (it.Jump k))) next =
+    if leads_next k next then [] else words_of (jump_code long base from to)
+entry_code base long from to (Some (en.Item (it.Branch cond k))) next = words_of (branch_code long base cond from to)
+entry_code base long from to _ next = []
+
+-- the words before the piece to which entry n leads
+abbrev pub target_offset : List Entry → Forms → ℕ → Option ℕ
+target_offset entries long n = option_map (offset entries long) (goal_of entries n)
+
+abbrev pub or_zero : Option ℕ → ℕ
+or_zero None = 0
+or_zero (Some n) = n
+
+abbrev pub far_of : ℕ → Option ℕ → Bool
+far_of from None = false
+far_of from (Some to) = far from to
+
+-- the words of entry n
+abbrev pub code_at : ℕ → List Entry → Forms → ℕ → List ℕ
+code_at base entries long n =
+    entry_code base (long n) (offset entries long n) (or_zero (target_offset entries long n)) (slice_get entries n)
+    (slice_get entries (suc n))
+
+-- the words of the first entries
+unfoldable pub code_to : ℕ → List Entry → Forms → ℕ → List ℕ
+code_to base entries long zero = []
+code_to base entries long (suc n) = code_to base entries long n ++ code_at base entries long n
+
+-- its condition, if it has one, is a condition's number
+abbrev pub has_condition : Option Entry → Bool
+has_condition (Some (en.Item (it.Branch cond to))) = nat_lt cond 16
+has_condition _ = true
+
+-- the words of the first n entries
+pub record IsEmitted (base : ℕ) (entries : List Entry) (long : Forms) (code : List ℕ) (n : ℕ) : Type 0 where
+  pub is : code ≡ code_to base entries long n
+  pub conditions : (k : ℕ) → k < n → has_condition (slice_get entries k) ≡ true
+
+-- ---- ranges
+
+-- the range of a Mark that is open, up to an address: none where it is empty
+abbrev pub closed : Option OpenRange → ℕ → List Range
+closed None here = []
+closed (Some open_mark) here =
+    if nat_lt open_mark.lo.0 here
+    then record { lo = open_mark.lo; hi = record { 0 = here }; address = open_mark.address; node = open_mark.node } ∷
+    [] else []
+
+-- the range that an entry at an address closes, and the Mark that is open behind it
+abbrev pub closes : ℕ → Option OpenRange → Entry → List Range
+closes here mark (en.Item it.EndMark) = closed mark here
+closes here mark _ = []
+
+abbrev pub opens : ℕ → Option OpenRange → Entry → Option OpenRange
+opens here mark (en.Item (it.Mark address node)) = Some (record {
+  lo = record { 0 = here };
+  address = address;
+  node =
+      node;
+})
+opens here mark (en.Item it.EndMark) = None
+opens here mark _ = mark
+
+-- the address of an entry
+abbrev pub address_of : ℕ → List Entry → Forms → ℕ → ℕ
+address_of base entries long n = base + 4 * offset entries long n
+
+-- the ranges of entries, the first of which has the number n
+abbrev pub ranges_from : (ℕ → ℕ) → ℕ → Option OpenRange → List Entry → List Range
+ranges_from at n mark [] = []
+ranges_from at n mark (x ∷ xs) = closes (at n) mark x ++ ranges_from at (suc n) (opens (at n) mark x) xs
+
+-- ---- all of it
+
+-- the addresses of pieces
+abbrev pub addresses : ℕ → List Entry → Forms → List ℕ → List Addr
+addresses base entries long starts = map (λ n. record { 0 = address_of base entries long n }) starts
+
+-- what a compact order and its forms come to
+pub record IsFormed (pieces : List (List Item)) (entries : List Entry) (starts : List ℕ) (forms : List Bool) : Type 0
+  where
+    pub entries_are : entries ≡ entries_of pieces
+    pub count : length starts ≡ length pieces
+    pub listing : IsListing entries starts
+    pub small : length entries ≤ 2 ^ 42
+    pub len : length forms ≡ length entries
+    pub widened : IsWidened entries (forms_in forms)
+
+-- the code, addresses and ranges of entries
+pub record IsPut (base : ℕ) (entries : List Entry) (starts : List ℕ) (long : Forms) (p : Placed) : Type 0 where
+  pub emitted : IsEmitted base entries long p.code.items (length entries)
+  pub at : p.at.items ≡ addresses base entries long starts
+  pub ranges : p.ranges.items ≡ ranges_from (address_of base entries long) 0 None entries
+
+-- there is room for so many bytes, or a fault tells that there isn't
+abbrev pub FitsIn : Result Placed LayoutFault → ℕ → ℕ → Type 0
+FitsIn (Ok p) bytes room = bytes ≤ room
+FitsIn (Err (faults.Room needed had)) bytes room = (needed ≡ bytes) × (had ≡ room) × (room < needed)
+FitsIn (Err faults.NoMemory) bytes room = Unit {0}

@@ -1,0 +1,138 @@
+-- The walks of small programs: they compute.
+use Rattle.std.specs.Prelude.{ℕ, List, [], ◌≡◌, ◌∷◌, refl, length, map}
+use Rattle.eel_base.specs.CodeText.{Words}
+use Rattle.flows.specs.Flows.{Graph as PlainGraph}
+use Rattle.cfg_blocks.specs.Blocks.{blocks_of, leaders, below}
+use Rattle.cfg_blocks.specs.Ends.{end_at}
+use Rattle.cfg_normal.specs.Graph.{Graph, graph_of, edges_in}
+use Rattle.span_tree.specs.Links.{links_of}
+use Rattle.cfg_walk.specs.Walk.{walk, end_of_walk}
+use Rattle.v8_process.proofs.Programs.{after, file_of, three_words, taken_branch, branch_over_nop, carry_loop, call_and_return, inner_landings, exit_three_calls_deep, one_nop, jump_to_zero, transfer_in_slot}
+use Rattle.v8_process.specs.Start.{start_of}
+use Rattle.walk_counts.specs.Executions.{executions}
+
+abbrev pub text_with : List ℕ → Words
+text_with words = record { start = 0x10054; words = words }
+
+-- the graph of a program of these words, at some of which routines start
+unfoldable pub graph_with : List ℕ → List ℕ → Graph
+unfolding after blocks_of leaders end_at edges_in
+graph_with words starts = graph_of (blocks_of (text_with words) starts) []
+
+-- the walk of a program's run of so many steps
+unfoldable pub walk_with : List ℕ → List ℕ → ℕ → List ℕ
+unfolding graph_with walk end_of_walk
+walk_with words starts n = walk (text_with words) (graph_with words starts) 0 (start_of (file_of words) [] []) n
+
+-- how often each edge is completed in that walk
+unfoldable pub executions_with : List ℕ → List ℕ → ℕ → ℕ → ℕ
+unfolding graph_with walk end_of_walk
+executions_with words starts n e =
+    executions (text_with words) (graph_with words starts) 0 (start_of (file_of words) [] []) n e
+
+-- falls off no block: it exits within its first one
+pub three_words_walk : walk_with three_words (0 ∷ []) 3 ≡ []
+unfolding walk_with
+three_words_walk = refl
+
+three_words_edges : length (graph_with three_words (0 ∷ [])).edges ≡ 2
+unfolding graph_with
+three_words_edges = refl
+
+-- a branch that is taken, and a fall into the next block
+taken_branch_walk : walk_with taken_branch (0 ∷ []) 6 ≡ 0 ∷ 5 ∷ []
+unfolding walk_with
+taken_branch_walk = refl
+
+taken_branch_edges : length (graph_with taken_branch (0 ∷ [])).edges ≡ 13
+unfolding graph_with
+taken_branch_edges = refl
+
+-- a branch to the word after its slot
+branch_over_nop_walk : walk_with branch_over_nop (0 ∷ []) 6 ≡ 0 ∷ []
+unfolding walk_with
+branch_over_nop_walk = refl
+
+branch_over_nop_edges : length (graph_with branch_over_nop (0 ∷ [])).edges ≡ 7
+unfolding graph_with
+branch_over_nop_edges = refl
+
+-- a loop: its branch is taken four times
+carry_loop_walk : walk_with carry_loop (0 ∷ []) 23 ≡ 0 ∷ 1 ∷ 1 ∷ 1 ∷ 1 ∷ 2 ∷ []
+unfolding walk_with
+carry_loop_walk = refl
+
+carry_loop_edges : length (graph_with carry_loop (0 ∷ [])).edges ≡ 9
+unfolding graph_with
+carry_loop_edges = refl
+
+carry_loop_executions : map (executions_with carry_loop (0 ∷ []) 23) (below 9)
+    ≡ 1 ∷ 4 ∷ 1 ∷ 0 ∷ 0 ∷ 0 ∷ 0 ∷ 0 ∷ 0 ∷ []
+unfolding executions_with
+carry_loop_executions = refl
+
+-- a CALL, and the jump back, which lands at the block of its target
+call_and_return_walk : walk_with call_and_return (0 ∷ 4 ∷ []) 6 ≡ 0 ∷ 3 ∷ 7 ∷ []
+unfolding walk_with
+call_and_return_walk = refl
+
+call_and_return_edges : length (graph_with call_and_return (0 ∷ 4 ∷ [])).edges ≡ 10
+unfolding graph_with
+call_and_return_edges = refl
+
+-- edges 0, 3 and 7 lead from block 0 to block 3, from there to X, which is node 5, and from X to block 2
+abbrev call_and_return_links : PlainGraph
+call_and_return_links = links_of (graph_with call_and_return (0 ∷ 4 ∷ []))
+
+call_and_return_from : map call_and_return_links.from (0 ∷ 3 ∷ 7 ∷ []) ≡ 0 ∷ 3 ∷ 5 ∷ []
+unfolding graph_with
+call_and_return_from = refl
+
+call_and_return_to : map call_and_return_links.to (0 ∷ 3 ∷ 7 ∷ []) ≡ 3 ∷ 5 ∷ 2 ∷ []
+unfolding graph_with
+call_and_return_to = refl
+
+-- landings in the middle of a block, and at a delay slot
+inner_landings_walk : walk_with inner_landings (0 ∷ 2 ∷ []) 10 ≡ 0 ∷ 2 ∷ 13 ∷ 4 ∷ 16 ∷ 7 ∷ []
+unfolding walk_with
+inner_landings_walk = refl
+
+inner_landings_edges : length (graph_with inner_landings (0 ∷ 2 ∷ [])).edges ≡ 18
+unfolding graph_with
+inner_landings_edges = refl
+
+-- ends where nothing has returned
+exit_three_calls_deep_walk : walk_with exit_three_calls_deep (0 ∷ 2 ∷ 4 ∷ 6 ∷ []) 9 ≡ 0 ∷ 2 ∷ 4 ∷ []
+unfolding walk_with
+exit_three_calls_deep_walk = refl
+
+exit_three_calls_deep_edges : length (graph_with exit_three_calls_deep (0 ∷ 2 ∷ 4 ∷ 6 ∷ [])).edges ≡ 14
+unfolding graph_with
+exit_three_calls_deep_edges = refl
+
+-- falls out of the text
+one_nop_walk : walk_with one_nop (0 ∷ []) 2 ≡ 0 ∷ []
+unfolding walk_with
+one_nop_walk = refl
+
+one_nop_edges : length (graph_with one_nop (0 ∷ [])).edges ≡ 2
+unfolding graph_with
+one_nop_edges = refl
+
+-- a jump out of the text lands nowhere
+jump_to_zero_walk : walk_with jump_to_zero (0 ∷ []) 3 ≡ 0 ∷ []
+unfolding walk_with
+jump_to_zero_walk = refl
+
+jump_to_zero_edges : length (graph_with jump_to_zero (0 ∷ [])).edges ≡ 4
+unfolding graph_with
+jump_to_zero_edges = refl
+
+-- a step that ends the run completes no edge
+transfer_in_slot_walk : walk_with transfer_in_slot (0 ∷ []) 2 ≡ []
+unfolding walk_with
+transfer_in_slot_walk = refl
+
+transfer_in_slot_edges : length (graph_with transfer_in_slot (0 ∷ [])).edges ≡ 6
+unfolding graph_with
+transfer_in_slot_edges = refl
