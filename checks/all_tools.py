@@ -2,23 +2,61 @@
 """Calls each script of tools/ in each way on programs in C, and says what came of it, a line a program.
 
 The ten programs of beside_gcov.py are built by gcc and by clang with -g at -O0, -O1 and -O2, and at -O2 with -flto,
-with -gsplit-dwarf and stripped: so many lines have gcov's count, and at -O0 so many functions callgrind's calls. A call
-is a fault that ends by a traceback or another status, or prints nothing; and one of annotate.py or graph.py that takes
-five seconds of the processor for the last program, a text of 200,000 words. That takes what beside_callgrind.py takes,
-and llvm-14-linker-tools for -flto by clang.
+with -gsplit-dwarf and stripped: so many lines have gcov's count, so many of the twenty hottest, and at -O0 so many
+functions callgrind's calls. `endings` are small programs that end by each trap, and `large` is a text of 200,000 words.
+That takes what beside_callgrind.py takes, and llvm-14-linker-tools for -flto by clang.
+
+A call is a fault that ends by a traceback or another status, or prints nothing; and one of annotate.py or graph.py that
+takes five seconds of the processor for `large`. So is a profile whose total isn't the number of the run's instructions;
+in which a function costs less with its calls than without, or those that nobody calls don't come to all; or that doesn't
+name a trap, or has no branches of a switch.
 """
 import os
+import re
 import subprocess
 import sys
 import tempfile
 from collections import Counter
+from functools import partial
 
 from beside_callgrind import ELSEWHERE, functions, natively
-from beside_gcov import ARGUMENTS, COMPILERS, LEVELS, PROGRAMS, by_gcov, call, compiled, counts, given_to
+from beside_gcov import ARGUMENTS, COMPILERS, LEVELS, LINK, PROGRAMS, by_gcov, call, compiled, counts, given_to, hottest
 from called import EEL, TOP, built, needs, parser_of, read_file
 
 BUILDS = [[level] for level in LEVELS] + [['-O2', '-flto'], ['-O2', '-gsplit-dwarf'], ['-O2', '-s']]
 LARGE, TIMED, SECONDS = 'large', ['annotate.py', 'graph.py'], 5
+ENDINGS, TRAPPED = 'endings', 3
+ENDED = 0, TRAPPED
+# What a program's routine `stop` does, how its run ends there, and which of its words check.py names beforehand.
+STOPS = [('ld [%g0+2],%g1', 'trap 7: misaligned address', ''), ('ld [%g0],%g1', 'trap 9: no memory there', ''),
+         ('udiv %g1,%g0,%g1', 'trap 42: division by zero', ''), ('.word 0', 'trap 2: illegal instruction', ''),
+         ('.word 0x81f00000', 'trap 2: illegal instruction', '1 V9 instruction'),
+         ('fadds %f0,%f1,%f2', 'trap 4: floating point', '1 float instruction'),
+         ('.word 0x81b00000', 'trap 36: coprocessor', '1 coprocessor instruction'),
+         ('wr %g0,%psr', 'trap 3: privileged instruction', '(wr %psr)'),
+         ('lda [%g0]1,%g1', 'trap 3: privileged instruction', '(lda)'),
+         ('ta 5', 'trap 133: software trap 5', 'ta 5'), ('taddcctv %sp,1,%g1', 'trap 10: tag overflow', ''),
+         ('mov 3,%sp; .rept 9; save; .endr', 'window: ', ''), ('jmp %g0; retl', 'couple: ', '')]
+STOPPING = """        .global _start, stop
+        .type   _start,#function
+_start: mov     9,%l0
+1:      save    %sp,-96,%sp
+        restore
+        subcc   %l0,1,%l0
+        bne     1b
+        nop
+        call    stop
+        nop
+        mov     1,%g1
+        ta      16
+        .asciz  "what is no code, behind the end!"
+        .align  4
+        .type   stop,#function
+stop:   save    %sp,-96,%sp
+        STOP
+        ret
+        restore
+"""
 
 
 class Session:
@@ -47,23 +85,113 @@ class Session:
         call(EEL, report, written, dump, into=printed)
         return printed
 
+    def fault(self, *told):
+        self.faults += 1
+        print('   ', os.path.basename(self.name), *told)
+
+    def ends_behind(self, steps):
+        """Whether the original's run has so many instructions: no limit below lets it end."""
+        ends = []
+        for limit in steps, steps - 1:
+            done = subprocess.run([EEL, 'run', self.name, '-n', str(limit), '--', *self.arguments], input=self.given,
+                                  capture_output=True)
+            ends.append(done.stderr.splitlines()[-1].startswith(b'stopped'))
+        return ends == [False, True]
+
+    def totals(self):
+        """Profiles of each kind have as many instructions as the run, and those of a run that was stopped no more than
+        its steps. Where a figure is told as `about` it needn't be right."""
+        run = [self.name, *self.arguments]
+        for option in '--every', '--edges':
+            printed = self.tool('profile.py', option, '--all', *run, statuses=ENDED)
+            about, total = re.search(r'^\S+: \w+(?: \d+)?, (about )?(\d+) instructions', printed, re.M).groups()
+            if not (about and option == '--edges' or self.ends_behind(int(total))):
+                self.fault(option, 'has', total, 'instructions')
+            for own, with_calls in re.findall(r'^ *([\d.]+) % +(?:about )?\d+ +([\d.]+) % ', printed, re.M):
+                if float(with_calls) < float(own):
+                    self.fault(option, 'has', with_calls, '% with calls, without', own)
+            if option == '--every':
+                self.total = int(total)
+        limit = self.total
+        printed = self.tool('profile.py', '-n', str(limit), *run, statuses=ENDED)
+        if not re.match(rf'\S+: stopped \d+, (\d+) instr', printed) or int(printed.split(', ')[1].split()[0]) > limit:
+            self.fault('-n', limit, 'has', printed.split('\n')[0])
+
+    def costs(self, printed):
+        """A profile for callgrind has all instructions, and those who aren't called come to all with what they call. No
+        function has more by itself than its calls from others cost."""
+        own, calls = callgrind_costs(printed)
+        total = int(re.search(r'^totals: (\d+)', printed, re.M)[1])
+        called, cost_of = Counter(), Counter()
+        for caller, callee, cost in calls:
+            cost_of[caller] += cost
+            if caller != callee:
+                called[callee] += cost
+        roots = {*own, *cost_of} - called.keys()
+        if sum(own.values()) != total or sum(own[name] + cost_of[name] for name in roots) != total:
+            self.fault('--callgrind has', sum(own.values()), 'of', total, 'and from', *roots)
+        for name in called:
+            if called[name] < own[name] and not any(caller == callee == name for caller, callee, _ in calls):
+                self.fault('--callgrind has', name, 'with', own[name], 'called for', called[name])
+
+    def switches(self, tracefile):
+        """A switch that `eel show` knows is a branch of more than two ways, if it has a line."""
+        ways = Counter(re.findall(r'^BRDA:(\d+,\d+),', tracefile, re.M))
+        known = re.findall(r'^switch \S+ \S+ (\d+)', call(EEL, 'show', self.name), re.M)
+        if any(int(cases) > 2 for cases in known) and 'BRDA' in tracefile and max(ways.values()) <= 2:
+            self.fault('--lcov has no switch')
+
     def call_all(self):
         """Each script in each way; the lines' counts and the functions' calls are answered."""
         name, run, entry = self.name, [self.name, *self.arguments], read_file(self.name)[24:28].hex()
         edges, visits, trace = map(self.told, ['counts', 'visits', 'trace'], ['profile', 'every', 'trace 4'])
-        for options in '', '--every', '--weights', '--annotate', '--source', '--callgrind', '--graph':
-            self.tool('profile.py', *options.split(), *run)
+        self.totals()
+        for option in '--weights', '--annotate', '--source', '--graph':
+            self.tool('profile.py', option, *run, statuses=ENDED)
+        self.costs(self.tool('profile.py', '--callgrind', *run, statuses=ENDED))
+        stacks = self.tool('profile.py', '--folded', *run, statuses=ENDED)
+        if sum(int(line.split()[-1]) for line in stacks.splitlines()) != self.total:
+            self.fault('--folded has not', self.total, 'instructions')
         for words in [], [edges], [visits], [trace], ['--routine', entry, edges], ['--routine', entry, trace]:
             self.tool('annotate.py', name, *words)
             self.tool('graph.py', name, *words, '--code')
-        for words in [edges, '--lcov'], [visits, '--lcov'], [visits, '--callgrind'], [visits]:
+        self.tool('annotate.py', '--source', name, visits)
+        for words in [edges, '--lcov'], [visits, '--lcov'], [visits, '--callgrind'], [edges, '--folded'], [visits]:
             self.tool('source_counts.py', name, *words, statuses=(0, *self.without_lines))
-        for counted in edges, visits:
+        kept = f'{name}.kept'
+        self.tool('profile.py', '--counts', kept, *run)
+        for counted in edges, visits, kept:
             self.tool('merge.py', counted, counted)
         self.tool('compare.py', name, edges, name, visits)
         self.tool('check.py', name, statuses=(0, 2))
-        calls = functions(self.tool('profile.py', '--lcov', *run, statuses=(0, *self.without_lines)))
-        return counts(self.tool('source_counts.py', name, edges)), calls
+        tracefile = self.tool('profile.py', '--lcov', *run, statuses=(0, *self.without_lines))
+        self.switches(tracefile)
+        return counts(self.tool('source_counts.py', name, visits)), functions(tracefile)
+
+
+def callgrind_costs(printed):
+    """Each function's own cost, and its calls, by the lines for callgrind: a function is its file and its name."""
+    own, calls, path, name, callee_path, callee, is_call = Counter(), [], '', '', '', '', False
+    for line in printed.split('\n'):
+        key, _, value = line.partition('=')
+        if key == 'fl':
+            path = value
+        elif key == 'fn':
+            name = path, value
+        elif key == 'cfi':
+            callee_path = value
+        elif key == 'cfn':
+            callee = callee_path, value
+        elif key == 'calls':
+            is_call = True
+        elif line.startswith('0x'):
+            cost = int(line.split()[2])
+            if is_call:
+                calls.append((name, callee, cost))
+            else:
+                own[name] += cost
+            is_call = False
+    return own, calls
 
 
 def add(agree, build, had, wanted):
@@ -80,7 +208,10 @@ def each_build(program, folder):
         session = Session(program, compiled(program, compiler, options, folder), '-s' not in options)
         had, calls = session.call_all()
         found.update(builds=1, calls=session.calls, faults=session.faults)
-        add(found, ' '.join([compiler, *options]), had, lines)
+        build = ' '.join([compiler, *options])
+        add(found, build, had, lines)
+        if had:
+            add(found, f'hottest by {build}', had, hottest(lines))
         if options == ['-O0']:
             add(found, f'calls by {compiler} -O0', calls, own)
     return found
@@ -95,6 +226,26 @@ def large_text(folder):
     return Counter(builds=1, calls=session.calls, faults=session.faults + slow)
 
 
+def endings(folder):
+    """Programs that end by each trap: profile.py tells it with its place, and check.py what it sees before."""
+    faults = calls = 0
+    for number, (stop, told, before) in enumerate(STOPS):
+        name = os.path.join(folder, f'stop{number}')
+        with open(f'{name}.S', 'w') as opened:
+            opened.write(STOPPING)
+        call(*LINK, f'-DSTOP={stop}', f'{name}.S', '-o', name)
+        session = Session(ENDINGS, name, False)
+        session.totals()
+        printed = session.tool('profile.py', name, statuses=[TRAPPED])
+        if told not in printed or not re.search(r'\n  at \w{8} stop', printed):
+            session.fault(stop, 'is told as', *printed.split('\n')[:3])
+        printed = session.tool('check.py', name, statuses=[2 if before and not before.startswith('ta') else 0])
+        if before not in printed:
+            session.fault(stop, 'is no', before)
+        faults, calls = faults + session.faults, calls + session.calls
+    return Counter(builds=len(STOPS), calls=calls, faults=faults)
+
+
 def tell(name, found):
     same = [f'{key[0]} {found[key[0], "same"]} of {both}' for key, both in found.items() if key[1] == 'both' and both]
     print(f'{name}: {found["builds"]} builds, {found["calls"]} calls, {found["faults"]} faults', *same, sep='; ')
@@ -102,14 +253,14 @@ def tell(name, found):
 
 
 def main():
-    parser, every = parser_of(__doc__), [*PROGRAMS, LARGE]
+    parser, every = parser_of(__doc__), [*PROGRAMS, ENDINGS, LARGE]
     parser.add_argument('programs', metavar='PROGRAM', nargs='*', help=f'of {", ".join(every)}; else all')
     programs, sums = parser.parse_args().programs or every, Counter()
     built(EEL)
     needs('sparc64-linux-gnu-gcc', 'clang', 'gcc', 'gcov', 'valgrind')
     for program in programs:
         with tempfile.TemporaryDirectory() as folder:
-            found = large_text(folder) if program == LARGE else each_build(program, folder)
+            found = {LARGE: large_text, ENDINGS: endings}.get(program, partial(each_build, program))(folder)
         tell(program, found)
         sums.update(found)
     tell('all', sums)

@@ -20,6 +20,7 @@ PROGRAMS = ['queens', 'fractions', 'interpreter', 'word_count', 'calculator', 'd
             'long_numbers', 'jobs']
 ARGUMENTS = {'sieve': ['20000']}
 LEVELS = ['-O0', '-O1', '-O2']
+HOTTEST = 20
 # Else gcov's own calls of them count, where a program has functions of these names.
 RENAMED = ['-Dmemcpy=copy_bytes', '-Dmemmove=move_bytes']
 SPARC = ['-mcpu=v8', '-msoft-float', '-ffreestanding', '-fno-asynchronous-unwind-tables', '-g', '-w', f'-I{SOURCES}']
@@ -85,11 +86,23 @@ def compiled(program, compiler, options, folder):
 
 def by_eel(program, compiler, level, folder):
     built = compiled(program, compiler, [level], folder)
-    call(EEL, 'edit', built, f'{built}.profile', 'profile')
+    call(EEL, 'edit', built, f'{built}.profile', 'every')
     call(EEL, 'run', f'{built}.profile', '-d', f'{built}.dump', '--', *ARGUMENTS.get(program, []),
          given=given_to(program), statuses=())
-    call(EEL, 'counts', f'{built}.profile', f'{built}.dump', into=f'{built}.counts')
+    call(EEL, 'visits', f'{built}.profile', f'{built}.dump', into=f'{built}.counts')
     return counts(call(sys.executable, os.path.join(TOP, 'tools', 'source_counts.py'), built, f'{built}.counts'))
+
+
+def hottest(wanted):
+    """The twenty lines that gcov counts most often."""
+    return dict(sorted(wanted.items(), key=lambda item: (-item[1], item[0]))[:HOTTEST])
+
+
+def off(had, wanted):
+    """By how much the hottest lines that both have differ: the sums of differences and of gcov's counts."""
+    both = had.keys() & (most := hottest(wanted)).keys()
+    return sum(had[line] == wanted[line] for line in both), len(both), sum(abs(had[line] - most[line]) for line in both), \
+        sum(most[line] for line in both)
 
 
 def compare(program, folder, each):
@@ -103,7 +116,7 @@ def compare(program, folder, each):
         print(f'{program} {" ".join(build)}: {agree}', flush=True)
         for name, number in differing if each else ():
             print(f'    {name}:{number}: {had[name, number]}, gcov {wanted[name, number]}')
-        yield build, len(both) - len(differing), len(both)
+        yield build, (len(both) - len(differing), len(both), *off(had, wanted))
 
 
 def main():
@@ -118,10 +131,11 @@ def main():
     sums = {}
     with tempfile.TemporaryDirectory() as folder:
         for program in words.programs or PROGRAMS:
-            for build, same, both in compare(program, folder, words.each):
-                sums[build] = [old + new for old, new in zip(sums.get(build, (0, 0)), (same, both))]
-    for build, (same, both) in sums.items():
-        print(f'all {" ".join(build)}: {same} of {both} lines')
+            for build, found in compare(program, folder, words.each):
+                sums[build] = [old + new for old, new in zip(sums.get(build, [0] * len(found)), found)]
+    for build, (same, both, *hot) in sums.items():
+        print(f'all {" ".join(build)}: {same} of {both} lines; of the {HOTTEST} hottest {hot[0]} of {hot[1]}, which are off '
+              f'by {100 * hot[2] / max(1, hot[3]):.1f} %')
 
 
 if __name__ == '__main__':

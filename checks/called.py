@@ -6,14 +6,8 @@ import sys
 
 import judge
 
-TOP = os.path.dirname(os.path.dirname(os.path.abspath(__file__)))
-EEL = os.path.join(TOP, 'eel')
-BUILT = os.path.join(TOP, 'crates', 'eel_main', 'out', 'eel_main')
-
-
-def refuse(line):
-    """Ends the script with one line on the error stream."""
-    sys.exit(f'{os.path.basename(sys.argv[0])}: {line}')
+sys.path.append(os.path.join(os.path.dirname(os.path.dirname(os.path.abspath(__file__))), 'tools'))
+from scripting import BUILT, EEL, TOP, read_file, refuse
 
 
 def parser_of(text, usage=None):
@@ -26,15 +20,6 @@ def natural(text):
     if not text.isdecimal():
         raise argparse.ArgumentTypeError(f'{text!r} is no number')
     return int(text)
-
-
-def read_file(name):
-    """The bytes of a file."""
-    try:
-        with open(name, 'rb') as file:
-            return file.read()
-    except (OSError, ValueError) as error:
-        refuse(f'{name}: {getattr(error, "strerror", None) or error}')
 
 
 def read_program(name, faults=judge.edit_faults):
@@ -51,10 +36,10 @@ def input_of(name):
 
 
 def built(program=EEL):
-    """The program that is to be run. `./eel` must be built: its build takes half an hour, which isn't seen here."""
+    """The program that is to be run. `./eel` must be built: its build takes long, which isn't seen here."""
     made = BUILT if program == EEL else program
     if not (os.path.isfile(made) and os.access(made, os.X_OK)):
-        refuse('./eel is not built yet: call build.sh first, which takes half an hour, once' if made == BUILT
+        refuse('./eel is not built yet: call build.sh first, which says how long it takes' if made == BUILT
                else f'{program}: no program')
     return program
 

@@ -12,7 +12,8 @@ import re
 import subprocess
 import sys
 
-TOP = os.path.dirname(os.path.dirname(os.path.abspath(__file__)))
+from called import TOP
+
 # What documents name of the world outside: programs, and words of file formats and of the standards.
 OUTSIDE = set('''apt awk bash bzip2 c callgrind callgrind_annotate clang cmp cp cpufreq dd dot eel false gcc gcov gdb
 genhtml git graphviz kill kcachegrind lcov ld llvm lua make man massif mkdir nice nm nproc objcopy objdump od perf python3 qemu

@@ -10,7 +10,7 @@ import os
 import sys
 from pathlib import Path
 
-TOP = Path(os.path.abspath(__file__)).parent.parent
+from called import TOP
 
 
 def module_costs(crate):
@@ -29,7 +29,7 @@ def module_costs(crate):
 def main():
     parser = argparse.ArgumentParser(description=__doc__, formatter_class=argparse.RawDescriptionHelpFormatter)
     parser.add_argument('crates', metavar='CRATE', nargs='*', help='these alone')
-    parser.add_argument('--checkout', metavar='FOLDER', type=Path, default=TOP, help='a checkout; else this one')
+    parser.add_argument('--checkout', metavar='FOLDER', type=Path, default=Path(TOP), help='a checkout; else this one')
     parser.add_argument('--modules', metavar='COUNT', type=int, default=0, help='with so many of the dearest modules')
     words = parser.parse_args()
     built = {path.parent.parent.name: path.parent.parent for path in words.checkout.glob('crates/*/out/incremental')}

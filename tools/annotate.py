@@ -4,7 +4,8 @@
 With COUNTS the routines come hottest first, each with its share of all instructions that ran, and on a terminal in
 colours: red is hot, and grey never ran. What is no code is left out: the words that stand in no section of
 instructions, and to which no routine, no edge and not this run leads. By counts of edges a landing in the midst of a
-block counts for the whole block; visits of words are exact.
+block counts for the whole block; visits of words are exact. With --source each line of the source stands before its
+instructions.
 
 With a trace the last edges of a run are printed, the oldest first, each with the instructions that it led to: that in
 its delay slot, and those of its block, of which the last ones may not have been reached. With --routine those that
@@ -15,7 +16,11 @@ import os
 import sys
 from collections import defaultdict
 
-from shown import NAMES_HELP, TRACE_HELP, Shown, is_trace, print_lines, run_of, share, trace_of
+from scripting import print_lines, read_lines
+
+from debug_lines import ROOT_HELP, DebugLines
+from runs import TRACE_HELP, is_trace, run_of, trace_of
+from shown import NAMES_HELP, Shown, share
 
 RED, YELLOW, GREY, PLAIN = '\x1b[1;31m', '\x1b[33m', '\x1b[90m', '\x1b[0m'
 
@@ -32,8 +37,8 @@ def code_words(shown, run):
 
 
 class Annotation:
-    def __init__(self, shown, run, coloured):
-        self.shown, self.run, self.texts = shown, run, shown.instructions()
+    def __init__(self, shown, run, coloured, line_at):
+        self.shown, self.run, self.texts, self.line_at = shown, run, shown.instructions(), line_at
         self.most = max(run.words.values()) if run else 0
         self.colours = {'hot': RED, 'warm': YELLOW, 'cold': GREY} if coloured else {}
 
@@ -64,8 +69,20 @@ class Annotation:
         """All routines, the hottest first."""
         for start, words in sorted(routines.items(), key=lambda item: -self.executed(item[1])):
             yield self.heading(start, words)
-            yield from map(self.line, words)
+            before = None
+            for address in words:
+                line = self.line_at.get(address)
+                if line and line != before:
+                    yield source_line(line)
+                before = line
+                yield self.line(address)
             yield ''
+
+
+def source_line(line):
+    """A line of a source, as a comment: patch.py leaves it out."""
+    texts = read_lines(line.path)[line.number - 1:line.number] if os.path.isfile(line.path) else []
+    return f'# {os.path.basename(line.path)}:{line.number}  {"".join(texts).strip()}'.rstrip()
 
 
 class Trail:
@@ -80,18 +97,10 @@ class Trail:
         """The routines from which an edge leads and to which it does."""
         return [self.shown.routine_of(end) for end in (edge.source, edge.target) if end is not None]
 
-    def place(self, address):
-        """An address with the routine that holds it and how far behind its beginning that is."""
-        if address is None:
-            return 'x'
-        start = self.shown.routine_of(address)
-        behind = '' if start in (None, address) else f'+{address - start:#x}'
-        return f'{address:08x} {self.shown.name_of(start)}{behind}'
-
     def lines(self):
         for number in self.numbers:
             edge = self.shown.edges[number]
-            yield f'edge {number} {edge.kind}: {self.place(edge.source)} -> {self.place(edge.target)}'
+            yield f'edge {number} {edge.kind}: {self.shown.place(edge.source)} -> {self.shown.place(edge.target)}'
             if edge.slot is not None:
                 yield f'  {edge.slot:08x}  {self.texts[edge.slot]}    (slot)'
             if edge.target is not None:
@@ -99,25 +108,36 @@ class Trail:
                     yield f'  {address:08x}  {self.texts[address]}'
 
 
-def main():
+def parsed(args=None):
     parser = argparse.ArgumentParser(description=__doc__, formatter_class=argparse.RawDescriptionHelpFormatter)
     parser.add_argument('file', metavar='FILE', help='the program')
     parser.add_argument('counts', metavar='COUNTS', nargs='?', help=TRACE_HELP)
     parser.add_argument('--routine', metavar='NAME', help='this routine alone, by its name or its address')
     parser.add_argument('--names', metavar='NAMES', help=NAMES_HELP)
-    words = parser.parse_intermixed_args()
+    parser.add_argument('--source', action='store_true', help='with the lines of the source')
+    parser.add_argument('--source-root', metavar='FOLDER', help=ROOT_HELP)
+    return parser.parse_intermixed_args(args)
+
+
+def printed(shown, run, words):
+    """The lines for a run, if any."""
+    routines = code_words(shown, run)
+    if words.routine:
+        start = shown.routine_called(words.routine)
+        routines = {start: routines[start]}
+    coloured = sys.stdout is not None and sys.stdout.isatty() and 'NO_COLOR' not in os.environ
+    line_at = DebugLines(shown, words.source_root).line_at if words.source or words.source_root else {}
+    return Annotation(shown, run, coloured, line_at).lines(routines)
+
+
+def main():
+    words = parsed()
     shown = Shown(words.file, words.names)
     if words.counts is not None and is_trace(words.counts):
         routine = shown.routine_called(words.routine) if words.routine else None
         print_lines(Trail(shown, trace_of(shown, words.counts), routine).lines())
         return
-    run = run_of(shown, words.counts) if words.counts is not None else None
-    routines = code_words(shown, run)
-    if words.routine:
-        start = shown.routine_called(words.routine)
-        routines = {start: routines[start]}
-    coloured = sys.stdout.isatty() and 'NO_COLOR' not in os.environ
-    print_lines(Annotation(shown, run, coloured).lines(routines))
+    print_lines(printed(shown, run_of(shown, words.counts) if words.counts is not None else None, words))
 
 
 if __name__ == '__main__':

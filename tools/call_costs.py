@@ -2,16 +2,20 @@
 from collections import Counter, defaultdict
 from dataclasses import dataclass
 
-from shown import is_call
+from shown import is_call, is_return
+
+POINTER, POINTER_NAME = -1, '(through a pointer)'  # the node from which calls come whose caller isn't known
 
 
 @dataclass
 class Call:
-    """An instruction that calls a routine, or goes on to one in the end of another, and how often it did."""
+    """An instruction that calls a routine, or goes on to one in the end of another, how often it did, and what that
+    cost, with what was called from there."""
     address: int
     caller: int
     callee: int
     count: int
+    cost: int = 0
 
 
 def after_all_below(nodes, below, seen):
@@ -43,31 +47,39 @@ def components(nodes, edges):
 
 
 class CallCosts:
-    """Calls with inclusive costs: a routine's instructions and those of the routines that it calls. As in a profile of
-    samples, they are shared out among its callers by the numbers of their calls. Calls through a register have a caller
-    where it is the only one, or the routine is the only one that is called so."""
+    """Calls with inclusive costs: a routine's instructions and those of the routines that it calls. They are shared out
+    among its callers by the numbers of their calls: each call of a routine is taken to cost what another costs.
+
+    A call through a register has a caller where one routine alone made such calls, or where one alone was called so.
+    Else its caller isn't known: it comes from the node POINTER, and what it costs is that node's and no routine's."""
 
     def __init__(self, shown, run):
         self.shown, self.run = shown, run
-        self.landed = Counter()  # calls through a register, and the program's start
-        for edge in shown.edges:
-            if edge.kind == 'land' and edge.target in shown.routines:
-                self.landed[edge.target] += run.edge(edge)
-        self.calls = [Call(*site, count) for site, count in (self.find() + self.through_registers()).items()]
-        self.landed[shown.entry] += run.starts
         self.own = Counter()
-        for address, count in run.words.items():
-            self.own[shown.routine_of(address)] += count
-        self.group, self.totals, self.costs, self.entered = {}, {}, Counter(), Counter(self.landed)
+        for first, block in shown.blocks.items():
+            own = sum(map(run.words.get, block.addresses())) if run.words else 0
+            if own:
+                self.own[shown.routine_of(first)] += own
+        self.landed, self.sites, within = self.through_registers()
+        self.calls = [Call(*site, count) for site, count in self.find().items()]
+        self.entered = Counter(self.landed)
+        for call in self.calls:
+            self.entered[call.callee] += call.count
+        self.entered[shown.entry] += run.starts
+        self.calls += self.matched(within)
         self.below, self.above = defaultdict(list), defaultdict(list)
         for call in self.calls:
             self.below[call.caller].append(call)
             self.above[call.callee].append(call)
-            self.entered[call.callee] += call.count
-        pairs = [(call.caller, call.callee) for call in self.calls]
-        for members in reversed(list(components(shown.starts, pairs))):
-            self.group.update((member, members[0]) for member in members)
-            self.add_total(members)
+        self.roots = Counter({shown.routine_of(shown.entry): run.starts})
+        if self.below[POINTER]:
+            self.roots[POINTER] = 1
+        self.find_more_roots()
+        self.inclusive = {}
+        self.share_all()
+
+    def name_of(self, start):
+        return POINTER_NAME if start == POINTER else self.shown.name_of(start)
 
     def find(self):
         """How often each instruction calls each routine: by a CALL, or from another routine by a branch, a switch or in
@@ -82,46 +94,163 @@ class CallCosts:
         return found
 
     def through_registers(self):
-        """How often each instruction calls each routine through a register, as far as that is known."""
-        sites, found = Counter(), Counter()
-        for edge in self.shown.edges:
-            if edge.kind == 'out' and self.run.edge(edge):
-                last = self.shown.blocks[edge.source].last()
-                if is_call(self.shown.word(last)):
-                    sites[last] += self.run.edge(edge)
-        targets = +self.landed
-        if sites.total() == targets.total() and (len(sites) == 1 or len(targets) == 1):
-            for site in sites:
-                for target in targets:
-                    found[site, self.shown.routine_of(site), target] = min(sites[site], targets[target])
-            self.landed.clear()
+        """How often each routine was called through a register; how often each instruction made such calls, by a JMPL
+        that links, or by one that leaves its routine for another; and how often control came into the midst of a routine
+        from elsewhere, where several may be merged."""
+        landed, sites, jumps, labels = Counter(), Counter(), defaultdict(Counter), Counter()
+        for jump, count in self.run.jumps():
+            word = self.shown.word(jump)
+            if is_call(word):
+                sites[jump] += count
+            elif not is_return(word):
+                jumps[self.shown.routine_of(jump)][jump] += count
+        for target, count in self.run.landings():
+            if target in self.shown.routines:
+                landed[target] += count
+            elif not self.shown.is_behind_call(target):
+                labels[self.shown.routine_of(target)] += count
+        for routine, own in jumps.items():
+            leaving = own.total() - labels[routine]
+            for jump, count in own.items():
+                if leaving > 0:
+                    sites[jump] += min(count, leaving)
+                    leaving -= count
+        within = {routine: count - jumps[routine].total() for routine, count in labels.items()
+                  if count > jumps[routine].total()}
+        return +landed, sites, within
+
+    def matched(self, within):
+        """The calls through registers, and those of the node POINTER where it isn't known who made which."""
+        targets = self.landed + Counter(within)
+        callers = {self.shown.routine_of(site) for site in self.sites}
+        if not targets:
+            return []
+        if len(callers) == 1 or len(targets) == 1 and self.sites:
+            return self.dealt(list(self.sites.items()), list(targets.items()))
+        return [Call(POINTER, POINTER, target, count) for target, count in targets.items()]
+
+    def dealt(self, sites, targets):
+        """Calls of one routine, or to one: each of its instructions has as many as it made, in their order."""
+        calls, (site, left) = [], sites.pop(0)
+        for target, wanted in targets:
+            while wanted:
+                count = min(wanted, left) if sites else wanted
+                if count:
+                    calls.append(Call(site, self.shown.routine_of(site), target, count))
+                    wanted, left = wanted - count, left - count
+                if wanted and sites:
+                    site, left = sites.pop(0)
+        return calls
+
+    def find_more_roots(self):
+        """What nobody called, as far as is known, counts as called from outside, so that no instruction is lost."""
+        while lost := {start for start in self.own if self.own[start]} - self.reached():
+            called = {call.callee for start in lost for call in self.below[start] if call.caller != call.callee}
+            self.roots.update(lost - called or {min(lost, key=lambda start: start or 0)})
+
+    def reached(self):
+        found, waiting = set(), list(self.roots)
+        while waiting:
+            start = waiting.pop()
+            if start not in found:
+                found.add(start)
+                waiting.extend(call.callee for call in self.below[start])
         return found
 
     def calls_of(self, start):
         """How often a routine was entered."""
         return self.entered[start]
 
-    def add_total(self, members):
-        """What the routines of a recursion cost in all, shared out among the calls from outside it. A call within it
-        has a cost where its routine is called from nowhere else: that of the routine without the recursion."""
-        alone = {member: self.own[member] for member in members}
-        for call in (call for member in members for call in self.below[member]):
-            if self.group.get(call.callee) != members[0]:
-                alone[call.caller] += self.cost(call)
-        outer = [call for member in members for call in self.above[member] if self.group.get(call.caller) != members[0]]
-        self.share_out(sum(alone.values()), outer, sum(self.landed[member] for member in members))
-        self.totals[members[0]] = sum(alone.values())
-        for member in set(members) - {call.callee for call in outer}:
-            if not self.landed[member]:
-                self.share_out(alone[member], self.above[member], 0)
+    def through_pointers(self):
+        """What was called by calls whose callers aren't known, or 0."""
+        return self.inclusive.get(POINTER, 0)
 
-    def share_out(self, cost, calls, landed):
-        entered, before = sum(call.count for call in calls) + landed, 0
-        for call in calls:
-            behind = before + call.count
-            self.costs[call.address, call.callee] = cost * behind // entered - cost * before // entered
-            before = behind
+    def rest_of(self, start):
+        """What a routine cost beyond what its callers were told."""
+        return max(0, self.inclusive.get(start, 0) - sum(call.cost for call in self.above[start]))
 
-    def cost(self, call):
-        """The inclusive cost of a call."""
-        return self.costs[call.address, call.callee]
+    def share_all(self):
+        """Gives each call its cost and each routine its inclusive cost, those called first."""
+        nodes = sorted({*self.own, *self.below, *self.above, *self.roots}, key=lambda node: node or 0)
+        pairs = [(call.caller, call.callee) for call in self.calls]
+        for members in reversed(list(components(nodes, pairs))):
+            group = set(members)
+            calls = [call for member in members for call in self.above[member]]
+            inner, outer = [call for call in calls if call.caller in group], [call for call in calls if call.caller not in group]
+            costs = {member: self.own[member] + sum(call.cost for call in self.below[member] if call.callee not in group)
+                     for member in members}
+            if inner:
+                self.share_recursion(members, costs, inner, outer)
+            else:
+                self.inclusive[members[0]] = costs[members[0]]
+                share_out(costs[members[0]], outer, [call.count for call in outer], self.roots[members[0]])
+
+    def share_recursion(self, members, costs, inner, outer):
+        """In a recursion, too, each call of a routine counts as much as any other. What a routine costs with what it calls
+        is that of its outermost calls: those within them are parts of it."""
+        called = Counter(self.roots)
+        for call in inner + outer:
+            called[call.callee] += call.count
+        each, again = solved({member: costs[member] / called[member] for member in members},
+                             [(call.caller, call.callee, call.count / called[call.caller]) for call in inner])
+        total = sum(costs.values())
+        entered = sum(each[member] * self.roots[member] for member in members if self.roots[member])
+        share_out(total, outer, [call.count * each[call.callee] for call in outer], entered)
+        inside, outside = defaultdict(list), Counter()
+        for call in outer:
+            outside[call.callee] += call.cost
+        for call in inner:
+            inside[call.callee].append(call)
+        for member in members:
+            known = outside[member] + (each[member] * self.roots[member] if self.roots[member] else 0)
+            wanted = round(called[member] * each[member] / again[member])
+            self.inclusive[member] = min(total, max(wanted, round(known), self.own[member]))
+            own = inside[member]
+            share_out(max(0, self.inclusive[member] - round(known)), own, [call.count for call in own], 0)
+
+
+def share_out(cost, calls, weights, elsewhere):
+    """Shares a cost out among calls by their weights, and what is called from elsewhere by that weight."""
+    whole, before, given = sum(weights) + elsewhere, 0, 0
+    for call, weight in zip(calls, weights):
+        before += weight
+        call.cost = round(cost * (before / whole)) - given if whole else 0
+        given += call.cost
+
+
+def solved(costs, calls):
+    """What a call of each of some routines costs, with those that it leads to, and how often a routine is called within
+    one call of its own, that one included: for each routine what it costs itself, and how many calls of others it makes.
+
+    With A the numbers of calls, this is x = costs + A x, and the diagonal of the inverse of 1 - A. Routines are taken out
+    one by one, those with the fewest neighbours first, and then put back in turn: of the inverse only those entries are
+    worked out that are needed (Takahashi's equations)."""
+    rows, columns = {node: Counter() for node in costs}, {node: set() for node in costs}
+    for caller, callee, number in calls:
+        rows[caller][callee] += number
+        columns[callee].add(caller)
+    left, steps, costs = dict.fromkeys(costs), [], dict(costs)
+    while left:
+        node = min(left, key=lambda node: len(rows[node]) * len(columns[node]))
+        del left[node]
+        row, above = rows.pop(node), columns.pop(node)
+        pivot = 1 - row.pop(node, 0)
+        above.discard(node)
+        for callee in row:
+            columns[callee].discard(node)
+        factors = {caller: rows[caller].pop(node) / pivot for caller in above}
+        for caller, factor in factors.items():
+            costs[caller] += factor * costs[node]
+            for callee, number in row.items():
+                rows[caller][callee] += factor * number
+                columns[callee].add(caller)
+        steps.append((node, pivot, row, factors))
+    each, inverse = {}, {}
+    for node, pivot, row, factors in reversed(steps):
+        each[node] = (costs[node] + sum(number * each[callee] for callee, number in row.items())) / pivot
+        for callee in row:
+            inverse[callee, node] = sum(inverse[callee, caller] * factor for caller, factor in factors.items())
+        for caller in factors:
+            inverse[node, caller] = sum(number * inverse[callee, caller] for callee, number in row.items()) / pivot
+        inverse[node, node] = (1 + sum(number * inverse[callee, node] for callee, number in row.items())) / pivot
+    return each, {node: inverse[node, node] for node in each}

@@ -12,40 +12,61 @@ import sys
 import tempfile
 from collections import defaultdict
 
-from shown import NAMES_HELP, TOP, Shown, call_eel, note, print_lines, read_file
+from scripting import print_lines, read_file
+from shown import NAMES_HELP, Shown, call_eel
 
 CALLS = {1: 'exit', 3: 'read', 4: 'write', 17: 'brk'}
-G1 = 1
+G1, EXIT = 1, 1
 FLOAT_LOADS = {0x20, 0x21, 0x23, 0x24, 0x25, 0x27}
 COPROCESSOR_LOADS = {0x30, 0x31, 0x33, 0x34, 0x35, 0x37}
 V9_LOADS = {0x08, 0x0b, 0x0e, 0x18, 0x1b, 0x1e, 0x22, 0x2d, 0x32, 0x36, 0x3c, 0x3d, 0x3e}
 V9_OPERATIONS = {0x09, 0x0d, 0x2b, 0x2c, 0x2d, 0x2e, 0x2f, 0x3e}
-PRIVILEGED = {0x29, 0x2a, 0x2b, 0x31, 0x32, 0x33, 0x39}
+PRIVILEGED = {0x29: 'rd %psr', 0x2a: 'rd %wim', 0x2b: 'rd %tbr', 0x31: 'wr %psr', 0x32: 'wr %wim', 0x33: 'wr %tbr',
+              0x39: 'rett'}
+PRIVILEGED_LOADS = {0x10: 'lda', 0x11: 'lduba', 0x12: 'lduha', 0x13: 'ldda', 0x14: 'sta', 0x15: 'stba', 0x16: 'stha',
+                    0x17: 'stda', 0x19: 'ldsba', 0x1a: 'ldsha', 0x1d: 'ldstuba', 0x1f: 'swapa', 0x26: 'std %fq',
+                    0x36: 'std %cq'}
+TRAP_OF = {'float': 4, 'coprocessor': 36, 'privileged': 3}  # else 2
 
 
 def sort_of(word):
     """Why no run gets past a word that is no instruction here; UNIMP is meant to stop a run."""
     op, op2, op3 = word >> 30, word >> 22 & 7, word >> 19 & 63
+    if privileged_name(word):
+        return 'privileged'
     if op == 0:
         return {0: None, 1: 'V9', 3: 'V9', 5: 'V9', 6: 'float', 7: 'coprocessor'}.get(op2, 'unknown')
     if op == 2 and op3 in (0x34, 0x35) or op == 3 and op3 in FLOAT_LOADS:
         return 'float'
     if op == 2 and op3 in (0x36, 0x37) or op == 3 and op3 in COPROCESSOR_LOADS:
         return 'coprocessor'
-    if op == 2 and (op3 in V9_OPERATIONS - PRIVILEGED or op3 == 0x28) or op == 3 and op3 in V9_LOADS:
+    if op == 2 and (op3 in V9_OPERATIONS or op3 == 0x28) or op == 3 and op3 in V9_LOADS:
         return 'V9'
-    if op == 2 and op3 in PRIVILEGED or op == 3 and 0x10 <= op3 <= 0x1f:
-        return 'privileged'
     return 'unknown'
 
 
+def privileged_name(word):
+    """The name of an instruction that only a kernel may carry out, or None."""
+    return {2: PRIVILEGED, 3: PRIVILEGED_LOADS}.get(word >> 30, {}).get(word >> 19 & 63)
+
+
 class Reach:
-    """The words to which control leads from the entry, and those of the other code."""
+    """The words to which control leads from the entry, and those of the other code. None leads on behind a system call
+    that is known to be `exit`; and where there are sections, words in those of code alone are looked at."""
 
     def __init__(self, shown):
-        self.shown, self.texts = shown, shown.instructions()
+        self.shown, self.texts, self.sections = shown, shown.instructions(), shown.elf.code()
+        self.exits = {address for address, text in self.texts.items() if text == 'ta 16' and self.value(address, G1) == EXIT}
         self.sure = self.words(self.reached([shown.entry]))
         self.maybe = self.words(shown.code()) - self.sure
+        self.maybe -= {address for end in self.exits & self.sure for address in self.data_behind(end)}
+
+    def data_behind(self, end):
+        """What stands behind a known exit, up to the next routine or what is reached, is taken for data."""
+        address = end + 4
+        while self.shown.block_of(address) and address not in self.sure and address not in self.shown.routines:
+            yield address
+            address += 4
 
     def reached(self, waiting):
         found = set()
@@ -53,20 +74,25 @@ class Reach:
             block = self.shown.block_of(waiting.pop())
             if block and block.first not in found:
                 found.add(block.first)
-                waiting.extend(self.shown.leads_to(block))
+                waiting.extend(() if self.exits.intersection(block.addresses()) else self.shown.leads_to(block))
         return found
 
     def words(self, firsts):
-        blocks = [self.shown.blocks[first] for first in firsts]
-        slots = {self.shown.slot_of(block)[0] for block in blocks} - {None}
-        return {address for block in blocks for address in block.addresses()} | slots
+        found = set()
+        for block in (self.shown.blocks[first] for first in firsts):
+            exits = sorted(self.exits.intersection(block.addresses()))
+            found.update(range(block.first, exits[0] + 4, 4) if exits else block.addresses())
+            slot, _ = self.shown.slot_of(block)
+            if slot is not None and not exits:
+                found.add(slot)
+        return {word for word in found if not self.sections or any(word in section for section in self.sections)}
 
     def function(self, address):
         return self.shown.name_of(self.shown.routine_of(address))
 
     def is_odd(self, address):
-        """Whether a word is listed as a number, or is a V9 one that has bits set that V8 ignores."""
-        return self.texts.get(address, '').startswith('.word')
+        """Whether a word is listed as a number, or is a V9 one that has bits set that V8 ignores; or is privileged."""
+        return self.texts.get(address, '').startswith('.word') or bool(privileged_name(self.shown.word(address) or 0))
 
     def value(self, address, register):
         """What stands in a register: a number, the register of the routine's argument in a list, or None."""
@@ -143,7 +169,9 @@ class Findings:
                 self.stops_runs = True
                 functions = where(set(map(self.reach.function, addresses)))
                 count = f'{len(addresses)} {sort} instruction{"s" if len(addresses) > 1 else ""}'
-                yield f'{count}, the first at {addresses[0]:08x}, in {functions}{how}'
+                name, trap = privileged_name(self.reach.shown.word(addresses[0])), TRAP_OF.get(sort, 2)
+                first = f'{addresses[0]:08x}{f" ({name})" if name else ""}'
+                yield f'{count}, the first at {first}, in {functions}{how}: a run ends there by trap {trap}'
 
     def call_lines(self):
         calls, others = traps(self.reach, self.reach.sure | self.reach.maybe)
@@ -154,7 +182,9 @@ class Findings:
             self.stops_runs |= number is not None
             yield f'a system call {named}, in {where(calls[number])}'
         for text, functions in sorted(others.items()):
-            yield f'{text}, at which a run traps, in {where(functions)}'
+            number = text.removeprefix('ta ')
+            trap = f'ends by trap {128 + int(number) % 128}' if number.isdecimal() else 'traps'
+            yield f'{text}, at which a run {trap}, in {where(functions)}'
 
     def lines(self):
         stopping, calls = list(self.stop_lines()), list(self.call_lines())

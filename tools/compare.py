@@ -8,8 +8,11 @@ told apart by their names.
 import argparse
 from collections import Counter
 
+from scripting import print_lines
+
 from call_costs import CallCosts
-from shown import RUN_HELP, Shown, print_lines, run_of
+from runs import RUN_HELP, run_of
+from shown import Shown
 
 
 def profile(name, counts):

@@ -4,15 +4,18 @@ import re
 import struct
 import zlib
 from dataclasses import dataclass, field
+from typing import NamedTuple
+
+from scripting import note, read_file, refuse
 
 import dwarf
-from shown import demangled, note, read_file, refuse
+from shown import demangled
 
+ROOT_HELP = 'the sources stand in this folder, each below it by its whole path'
 OPTIMISED = 'was optimised: a line whose instructions were moved or joined may have the count of another'
 
 
-@dataclass(frozen=True)
-class Line:
+class Line(NamedTuple):
     """A line of a source."""
     path: str
     number: int
@@ -26,6 +29,7 @@ class Row:
     line: Line
     column: int
     marks: bool  # where a statement begins, though its instructions may stand elsewhere
+    last: int = 0  # where the rows of the same line end that come behind it without a mark
 
 
 @dataclass
@@ -70,9 +74,10 @@ def copy_of(entry, lowest, words):
 
 
 class DebugLines:
-    """All lines and functions of a program that have code."""
+    """All lines and functions of a program that have code. Where a root is named, sources stand below it."""
 
-    def __init__(self, shown):
+    def __init__(self, shown, root=None):
+        self.root = root
         self.shown, self.marks, self.line_at, self.body_at, self.functions = shown, [], {}, {}, {}
         self.is_optimised, self.missing = False, []
         self.start, self.end = shown.firsts[0], shown.blocks[shown.firsts[-1]].last() + 4
@@ -82,6 +87,11 @@ class DebugLines:
             refuse(f'{shown.name}: its debug information cannot be read: {error}')
         if self.missing:
             note(f'{self.missing[0]} is missing: functions are those of symbols, and inlined copies are not told apart')
+
+    def path(self, unit, number):
+        """The path of a source, by its number in a unit."""
+        path = unit.path(number)
+        return os.path.join(self.root, path.lstrip('/')) if self.root else path
 
     def words(self, low, high):
         """The addresses of the text's words in a range."""
@@ -111,13 +121,14 @@ class DebugLines:
 
     def add_rows(self, unit, rows, end):
         """Each word has the last row at or before its address; line 0 says that there is none."""
-        lines = {}
-        for row in rows:
-            if (row.file, row.line) not in lines:
-                lines[row.file, row.line] = Line(unit.path(row.file), row.line)
+        paths = {number: self.path(unit, number) for number in {row.file for row in rows}}
+        lines = {(file, number): Line(paths[file], number) for file, number in {(row.file, row.line) for row in rows}}
         ends = [row.address for row in rows[1:]] + [end]
         rows = [Row(row.address, behind, lines[row.file, row.line], row.column, row.is_statement)
                 for row, behind in zip(rows, ends)]
+        for row, behind in zip(reversed(rows), [None, *reversed(rows)]):
+            goes_on = behind is not None and behind.line == row.line and not behind.marks
+            row.last = behind.last if goes_on else row.end
         if marks_statements(rows):
             self.marks += [row for row in rows if row.marks and row.line.number]
         for row in rows:
@@ -142,7 +153,7 @@ class DebugLines:
         number, file = named.get(dwarf.DECL_LINE), named.get(dwarf.DECL_FILE)
         if not number or not file or not named.unit.lines():
             return
-        line = Line(named.unit.path(file), number)
+        line = Line(self.path(named.unit, file), number)
         name = named.get(dwarf.LINKAGE_NAME) or named.get(dwarf.MIPS_LINKAGE_NAME) or named.get(dwarf.NAME, '?')
         function = self.functions.setdefault((line, name), Function(name, line))
         if entry.tag == dwarf.SUBPROGRAM:

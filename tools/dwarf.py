@@ -102,6 +102,9 @@ class Reader:
         return self.number(8) if self.wide else length
 
     def uleb(self):
+        if self.at < len(self.data) and self.data[self.at] < 0x80:
+            self.at += 1
+            return self.data[self.at - 1]
         value = shift = 0
         while True:
             if self.at >= len(self.data):

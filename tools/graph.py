@@ -14,9 +14,11 @@ import argparse
 import math
 from collections import Counter, defaultdict
 
-from call_costs import CallCosts
-from shown import (NAMES_HELP, TRACE_HELP, Shown, Trace, is_call, is_return, is_trace, note, print_lines, run_of, share,
-                   trace_of)
+from scripting import note, print_lines
+
+from call_costs import POINTER, CallCosts
+from runs import TRACE_HELP, Run, Trace, is_trace, run_of, trace_of
+from shown import NAMES_HELP, Shown, is_call, is_return, share
 
 MOST_ROUTINES = 100
 MANY_BLOCKS = 200
@@ -50,6 +52,7 @@ class CallGraph:
         self.costs = CallCosts(shown, run or Anything())
         ranked = sorted(self.routines(), key=lambda start: (-self.costs.own[start], start))
         self.drawn, self.left_out = ranked[:MOST_ROUTINES], len(ranked) - MOST_ROUTINES
+        self.drawn += [POINTER] if self.costs.above[POINTER] or self.costs.below[POINTER] else []
         self.counts = Counter()
         for call in self.costs.calls:
             if {call.caller, call.callee} <= set(self.drawn):
@@ -60,10 +63,13 @@ class CallGraph:
         return [start for start in self.shown.starts if start in code and (not self.run or self.costs.own[start])]
 
     def routine(self, start):
-        name = self.shown.name_of(start)
+        name = self.costs.name_of(start)
         if not self.run:
             return f'  {node(start)} [label={quoted(name)}];'
         own, total = self.costs.own[start], self.run.total
+        if start == POINTER:
+            label = f'{name}\n{share(self.costs.inclusive[start], total)} of instructions, in what is called so\n'
+            return f'  {node(start)} [label={quoted(label)}, style=dashed];'
         label = f'{name}\n{share(own, total)} of instructions\n{self.costs.calls_of(start)} calls\n'
         return f'  {node(start)} [label={quoted(label)}, style=filled, fillcolor="0.0 {0.7 * own / total:.2f} 1.0"];'
 
@@ -78,12 +84,17 @@ class CallGraph:
         yield '}'
 
 
-class Anything:
+class Anything(Run):
     """Each edge once, for what is so of all runs."""
     words, total, starts = {}, 0, 1
 
     def edge(self, edge):
-        return edge.kind != 'land'
+        return edge.kind not in ('land', 'out')
+
+    def jumps(self):
+        return ()
+
+    landings = jumps
 
 
 class FlowGraph:
@@ -205,30 +216,35 @@ class FlowGraph:
         yield '}'
 
 
-def drawing(shown, run, words):
+def printed(shown, run, words):
+    """The drawing of a run, if any."""
     if words.routine or isinstance(run, Trace):
         routine = shown.routine_called(words.routine) if words.routine else None
-        return FlowGraph(shown, run, routine, words.code)
+        return FlowGraph(shown, run, routine, words.code).lines()
     calls = CallGraph(shown, run)
     left_out = f', without {calls.left_out} routines of fewer instructions' if calls.left_out > 0 else ''
     note(f'this is the call graph{left_out}; --routine NAME draws the flow graph of one')
-    return calls
+    return calls.lines()
 
 
-def main():
+def parsed(args=None):
     parser = argparse.ArgumentParser(description=__doc__, formatter_class=argparse.RawDescriptionHelpFormatter)
     parser.add_argument('file', metavar='FILE', help='the program')
     parser.add_argument('counts', metavar='COUNTS', nargs='?', help=TRACE_HELP)
     parser.add_argument('--routine', metavar='NAME', help='the flow graph of this routine, by its name or its address')
     parser.add_argument('--code', action='store_true', help='with the instructions in each block')
     parser.add_argument('--names', metavar='NAMES', help=NAMES_HELP)
-    words = parser.parse_intermixed_args()
+    return parser.parse_intermixed_args(args)
+
+
+def main():
+    words = parsed()
     shown = Shown(words.file, words.names)
     if words.counts is not None and is_trace(words.counts):
         run = Trace(shown, trace_of(shown, words.counts))
     else:
         run = run_of(shown, words.counts) if words.counts is not None else None
-    print_lines(drawing(shown, run, words).lines())
+    print_lines(printed(shown, run, words))
 
 
 if __name__ == '__main__':

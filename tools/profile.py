@@ -2,37 +2,58 @@
 """Says where a program spends its instructions: tools/profile.py FILE ARG..
 
 It edits the program FILE with counters, runs that with the arguments and the standard input, and prints its functions
-with the instructions that each took and how often it was called, and the loops and lines that took most. What the
-program puts out goes to the error stream. Options stand before FILE; with some another script prints what was counted.
+with the instructions that each took, the share of those and of what it called, and how often it was called; and the
+loops and lines that took most. Each instruction is counted by itself, so that all figures are exact, but for the shares
+with what is called: those are shared out among callers. What the program puts out goes to the error stream. Options
+stand before FILE; with some another script prints what was counted.
+
+The status is 0 where the program exited, and 3 where it was stopped or trapped. An interrupt ends a run, of which then
+the first steps alone are profiled.
 """
+from scripting import EEL, note, opened_for_output, print_lines, read_file, read_lines, refuse, wants_built
+
 import argparse
+import importlib
 import os
+import shutil
 import signal
 import subprocess
 import sys
 import tempfile
+import threading
+import time
 from collections import Counter
 
-from debug_lines import DebugLines
+from call_costs import POINTER_NAME
+from debug_lines import ROOT_HELP, DebugLines
+from endings import ending_of, place_of
 from loops import loops
-from shown import NAMES_HELP, TOP, Shown, call_eel, note, print_lines, read_file, read_lines, refuse, run_of, share
+from runs import run_of
+from shown import NAMES_HELP, Shown, call_eel, figure, share
 from source_counts import SourceCounts, tell_limits
 
 LIMIT = 10 ** 11
 MOST_STEPS = 100  # beyond a limit, to stand at a place
 FUNCTIONS, LOOPS, LINES, WIDTH = 20, 5, 10, 60
-PRINTERS = {'annotate': ('annotate.py', 'print each instruction with how often it ran'),
-            'source': ('source_counts.py', 'print each line of the sources with how often it was reached'),
-            'lcov': ('source_counts.py', 'print a tracefile, of which genhtml of lcov makes pages'),
-            'callgrind': ('source_counts.py', 'print a profile for callgrind_annotate and KCachegrind'),
-            'graph': ('graph.py', 'print the call graph, or the flow graph of --routine, for dot')}
+TRAPPED = 3  # the status where the program didn't exit
+SECOND = 10 ** 8  # steps that are made in a second, at least
+KEPT = 2  # seconds of a run that was interrupted; it is made again until it stands at a place
+PRINTERS = {'annotate': ('annotate', 'print each instruction with how often it ran'),
+            'source': ('source_counts', 'print each line of the sources with how often it was reached'),
+            'lcov': ('source_counts', 'print a tracefile, of which genhtml of lcov makes pages'),
+            'callgrind': ('source_counts', 'print a profile for callgrind_annotate and KCachegrind'),
+            'folded': ('source_counts', 'print stacks of calls with what they cost, for flame graphs'),
+            'graph': ('graph', 'print the call graph, or the flow graph of --routine, for dot')}
 
 
 def table(heading, rows):
-    """A table of lines, each with a share, two numbers and a text."""
+    """A table of lines, each with a share, numbers and a text."""
     yield ''
-    yield f'{"share":>7} {"instructions":>14} {heading[0]:>12}  {heading[1]}'
-    yield from (f'{part:>7} {count:>14} {times:>12}  {text}' for part, count, times, text in rows)
+    *numbers, text = heading
+    yield f'{"share":>7} {"instructions":>14} {"".join(f"{number:>{width}} " for number, width in numbers)} {text}'
+    for part, count, *told, text in rows:
+        columns = ''.join(f'{number:>{width}} ' for number, (_, width) in zip(told, numbers))
+        yield f'{part:>7} {count:>14} {columns} {text}'
 
 
 class Report:
@@ -41,6 +62,7 @@ class Report:
     def __init__(self, shown, run, debug):
         self.shown, self.run, self.debug = shown, run, debug
         self.counts = SourceCounts(shown, run, debug)
+        self.unsure = {shown.routine_of(address) for address in run.unsure if run.words[address]}
 
     def share(self, count):
         return share(count, self.run.total)
@@ -48,12 +70,18 @@ class Report:
     def functions(self, most):
         costs = self.counts.costs
         ranked = sorted(filter(costs.own.get, costs.own), key=lambda start: (-costs.own[start], start or 0))
-        yield from table(('calls', 'function'), ((self.share(costs.own[start]), costs.own[start], costs.calls_of(start),
-                                                  self.shown.name_of(start)) for start in ranked[:most]))
+        yield from table((('with calls', 11), ('calls', 12), 'function'),
+                         ((self.share(costs.own[start]), figure(costs.own[start], start not in self.unsure),
+                           self.share(costs.inclusive[start]), costs.calls_of(start), self.shown.name_of(start))
+                          for start in ranked[:most]))
         hidden = ranked[most:] if most else []
         if hidden:
             rest = sum(costs.own[start] for start in hidden)
-            yield f'{self.share(rest):>7} {rest:>14} {"":>12}  {len(hidden)} more, which --all prints'
+            told = figure(rest, self.unsure.isdisjoint(hidden))
+            yield f'{self.share(rest):>7} {told:>14} {"":>24}  {len(hidden)} more, which --all prints'
+        if costs.through_pointers():
+            yield f'{self.share(costs.through_pointers()):>7} {costs.through_pointers():>14} {"":>24}  {POINTER_NAME}: called by ' \
+                  'several functions, in whose shares with calls it is not'
 
     def loop_place(self, loop):
         line = self.debug.line_at.get(loop.head)
@@ -62,10 +90,15 @@ class Report:
         return f'{self.shown.name_of(loop.routine)} {place}'
 
     def loops(self):
-        found = [loop for loop in loops(self.shown, self.run) if loop.own][:LOOPS]
+        found = [loop for loop in loops(self.shown, self.run) if loop.own and loop.rounds][:LOOPS]
         if found:
-            yield from table(('rounds', 'loop'), ((self.share(loop.own), loop.own, loop.rounds, self.loop_place(loop))
-                                                  for loop in found))
+            yield from table((('rounds', 12), 'loop'),
+                             ((self.share(loop.own), figure(loop.own, self.is_sure(loop)), loop.rounds,
+                               self.loop_place(loop)) for loop in found))
+
+    def is_sure(self, loop):
+        return not self.run.unsure or all(self.run.unsure.isdisjoint(self.shown.blocks[first].addresses())
+                                          for first in loop.blocks if first >= 0)
 
     def lines(self):
         taken, texts = Counter(), {}
@@ -78,11 +111,12 @@ class Report:
         rows = []
         for line in hottest:
             text = ''.join(texts.get(line.path, [])[line.number - 1:line.number]).strip()
-            place, times = f'{os.path.basename(line.path)}:{line.number}', self.counts.lines.get(line, 0)
+            place, sure = f'{os.path.basename(line.path)}:{line.number}', line not in self.counts.unsure
             text = text if len(text) <= WIDTH else f'{text[:WIDTH]} ..'
-            rows.append((self.share(taken[line]), taken[line], times, f'{place}  {text}'.rstrip()))
+            rows.append((self.share(taken[line]), figure(taken[line], sure), figure(self.counts.lines.get(line, 0), sure),
+                         f'{place}  {text}'.rstrip()))
         if rows:
-            yield from table(('times', 'line'), rows)
+            yield from table((('times', 12), 'line'), rows)
         else:
             yield from ('', 'There are no line tables: compile it with -g to see its lines.')
 
@@ -92,82 +126,172 @@ class Report:
         yield from self.lines()
 
 
+def watched(words, given, stdout):
+    """A call of `eel` that may take long: on a terminal it is said from time to time how long it has taken."""
+    wants_built()
+    started, told = time.monotonic(), 10
+    with subprocess.Popen([EEL, *words], stdin=subprocess.PIPE, stdout=stdout, stderr=subprocess.PIPE) as process:
+        while True:
+            try:
+                printed, errors = process.communicate(given, timeout=started + told - time.monotonic())
+                return subprocess.CompletedProcess(words, process.returncode, printed, errors)
+            except subprocess.TimeoutExpired:
+                given = None  # it has it already
+                if sys.stderr and sys.stderr.isatty():
+                    note(f'the run has taken {told} s so far')
+                told += 10 if told < 60 else 60
+            except KeyboardInterrupt:
+                process.kill()
+                raise
+
+
+class Tables(threading.Thread):
+    """The program and its lines, which are read while it runs."""
+
+    def __init__(self, words):
+        super().__init__(daemon=True)
+        self.words, self.ended, self.found = words, None, None
+
+    def run(self):
+        try:
+            shown = Shown(self.words.file, self.words.names)
+            self.found = shown, DebugLines(shown, self.words.source_root)
+        except BaseException as ended:
+            self.ended = ended
+
+    def read(self):
+        self.join()
+        if self.ended:
+            raise self.ended
+        return self.found
+
+
 class Session:
     """Edits, runs and counts of a program, in a folder of its own."""
 
-    def __init__(self, words, folder, given):
-        self.words, self.given = words, given
+    def __init__(self, words, folder, given, tables):
+        self.words, self.folder, self.given, self.tables = words, folder, given, tables
         self.written, self.dump, self.counts = (os.path.join(folder, name) for name in ('written', 'dump', 'counts'))
+
+    def refuse(self, told):
+        """Ends the script by what `eel` said; where it could write no file the room is looked at."""
+        told = told.decode('utf-8', 'replace').strip().split('\n')[-1].removeprefix('eel: ').replace(self.dump, 'the run')
+        if 'file fault' in told:
+            told += ', which `eel --faults` explains'
+        elif told == 'device fault' and shutil.disk_usage(self.folder).free < 2 ** 20:
+            told = f'{os.path.dirname(self.folder)}, where temporary files go, is full: TMPDIR names another folder'
+        refuse(told or 'the run failed')
 
     def checked(self, *words):
         called = call_eel(*words)
         if called.returncode:
-            told = called.stderr.decode('utf-8', 'replace').strip().removeprefix('eel: ')
-            refuse(f'{told}{", which `eel --faults` explains" if "file fault" in told else ""}')
+            self.refuse(called.stderr)
         return called.stdout
 
     def run(self, limit, output):
-        """Runs the written file, and answers the ending line of the run."""
-        called = call_eel('run', self.written, '-n', str(limit), '-d', self.dump, '--', *self.words.args,
-                          given=self.given, stdout=output)
-        *own, ending = called.stderr.rstrip(b'\n').split(b'\n')
+        """Runs the written file; what the program put out goes on."""
+        called = watched(['run', self.written, '-n', str(limit), '-d', self.dump, '--', *self.words.args], self.given,
+                         output)
+        *own, _ = called.stderr.rstrip(b'\n').split(b'\n')
         if called.returncode:
-            refuse(ending.decode('utf-8', 'replace').removeprefix('eel: ') or 'the run failed')
-        if output != subprocess.DEVNULL and own:
+            self.refuse(called.stderr)
+        if output != subprocess.DEVNULL and own and sys.stderr:
             sys.stderr.buffer.write(b'\n'.join(own) + b'\n')
-        return ending.decode()
+            sys.stderr.flush()
+
+    def run_or_begin(self, limit, output):
+        """Runs the written file or, where that is interrupted, its first steps alone. The limit is answered."""
+        started = time.monotonic()
+        try:
+            self.run(limit, output)
+        except KeyboardInterrupt:
+            seconds = time.monotonic() - started
+            limit = int(min(seconds, KEPT) * SECOND)
+            note(f'interrupted after {seconds:.0f} s. Its first {limit} steps are profiled now, which takes some seconds; '
+                 f'-n says how many. A second interrupt ends it.')
+            self.run(limit, subprocess.DEVNULL)
+        return limit
 
     def count(self, tool, weights, output):
-        """A profile: what was counted goes to a file, and the run's ending and steps are answered."""
+        """A profile: what was counted goes to a file, and the run's ending is answered."""
         self.checked('edit', self.words.file, self.written, tool, *weights)
-        limit = self.words.limit
-        ending = self.run(limit, output)
+        if self.tables.ident is None:
+            self.tables.start()
+        limit = self.run_or_begin(self.words.limit, output)
+        reports = ['visits', 'counts'] if tool == 'every' else ['counts']
         for more in range(MOST_STEPS + 1):
-            counted = call_eel('visits' if tool == 'every' else 'counts', self.written, self.dump)
+            counted = call_eel(reports[0], self.written, self.dump)
             if not counted.returncode or b'between places' not in counted.stderr:
                 break
-            ending = self.run(limit + more + 1, subprocess.DEVNULL)
+            self.run(limit + more + 1, subprocess.DEVNULL)
         if counted.returncode:
-            told = counted.stderr.decode('utf-8', 'replace').strip().removeprefix('eel: ')
-            refuse(told.replace(self.dump, 'the run'))
+            self.refuse(counted.stderr)
         if more:
             note(f'it stood between two places of the original after {limit} steps, and went {more} further')
-        with open(self.counts, 'wb') as opened:
-            opened.write(counted.stdout)
-        return ending, int.from_bytes(read_file(self.dump)[20:28], 'big')
+        printed = [counted.stdout, *(self.checked(report, self.written, self.dump) for report in reports[1:])]
+        try:
+            with open(self.counts, 'wb') as opened:
+                opened.writelines(printed)
+        except OSError as error:
+            refuse(f'{self.folder}: {error.strerror}')
+        return ending_of(read_file(self.dump))
 
 
 def program_input(name):
-    """The input of the program: a file, or all of the standard input."""
+    """The input of the program: a file, or all of the standard input, if there is one."""
     if name:
         return read_file(name)
+    if sys.stdin is None:
+        return b''
     if sys.stdin.isatty():
         note('reading the standard input first, to its end: press Ctrl-D, or call it with </dev/null')
-    return sys.stdin.buffer.read()
+    try:
+        return sys.stdin.buffer.read()
+    except OSError as error:
+        refuse(f'the standard input: {error.strerror}')
 
 
-def profiled(words, session):
-    """Profiles the program, once or twice, and answers the ending and steps of the last run."""
+def profiled(words, session, output):
+    """Profiles the program, once or twice, and answers the ending of the last run."""
     weights = []
     if words.weights:
         session.count('profile', [], subprocess.DEVNULL)
         weights = [session.counts + '.weights']
         os.rename(session.counts, weights[0])
-    try:
-        output = open(words.output, 'wb') if words.output else sys.stderr.fileno()
-    except OSError as error:
-        refuse(f'{words.output}: {error.strerror}')
-    return session.count('every' if words.every else 'profile', weights, output)
+    return session.count('profile' if words.weights or words.edges else 'every', weights, output)
 
 
-def hand_on(words, session):
-    """Has another script print what was counted."""
-    script, _ = PRINTERS[words.printer]
-    options = [f'--{words.printer}'] if words.printer in ('lcov', 'callgrind') else []
-    options += ['--routine', words.routine] if words.routine else []
-    options += ['--names', words.names] if words.names else []
+def told_of(ending):
+    return {'exit': f'exit {ending.number}', 'trap': f'trap {ending.number}',
+            'stopped': f'stopped {ending.steps}'}.get(ending.kind, ending.kind)
+
+
+def place_lines(shown, debug, ending, stands):
+    """Why a run ended that didn't exit, and where: the instruction, its function and its line."""
+    if ending.kind == 'exit':
+        return
+    yield f'{told_of(ending)}: {ending.explained()}'
+    if stands is None:
+        return
+    if shown.block_of(stands) is None:
+        yield f'  at {stands:08x}, which is no place in the code'
+        return
+    line = debug.line_at.get(stands)
+    source = f', {os.path.basename(line.path)}:{line.number}' if line else ''
+    yield f'  at {shown.place(stands)}{source}: {shown.instructions()[stands]}'
+
+
+def printed_by(words, session, shown, debug, run):
+    """What another script prints of what was counted."""
+    name, _ = PRINTERS[words.printer]
+    options = [f'--{words.printer}'] if words.printer in ('lcov', 'callgrind', 'folded') else []
+    options += ['--source-root', words.source_root] if words.source_root and words.printer == 'annotate' else []
+    options += [part for option in ('routine', 'names') if (value := getattr(words, option))
+                for part in (f'--{option}', value)]
     options += ['--code'] if words.code else []
-    return subprocess.call([sys.executable, os.path.join(TOP, 'tools', script), *options, words.file, session.counts])
+    script = importlib.import_module(name)
+    asked = script.parsed([*options, words.file, session.counts])
+    return script.printed(shown, run, asked, *([debug] if name == 'source_counts' else []))
 
 
 def parsed():
@@ -180,17 +304,21 @@ def parsed():
     parser.add_argument('-n', '--limit', metavar='STEPS', type=int, default=LIMIT,
                         help=f'how many steps of the edited program are made at most, else {LIMIT}')
     kind = parser.add_mutually_exclusive_group()
-    kind.add_argument('--every', action='store_true', help='count each instruction by itself: exact, and dearer')
+    kind.add_argument('--every', action='store_true', help='count each instruction by itself, as is done anyway')
+    kind.add_argument('--edges', action='store_true',
+                      help='count as few edges as can be: up to a tenth fewer steps, and figures that may be off say '
+                           '`about`')
     kind.add_argument('--weights', action='store_true',
-                      help='profile it twice, with counters by what the first run counted: fewer steps')
+                      help='the same twice, with counters by what the first run counted: still fewer steps')
     parser.add_argument('--all', action='store_true', help='print all functions')
-    parser.add_argument('--counts', metavar='FILE', help='keep what was counted, as `eel counts` or `visits` prints it')
+    parser.add_argument('--counts', metavar='FILE', help='keep what was counted, as `eel visits` and `counts` print it')
     printer = parser.add_mutually_exclusive_group()
     for name, (_, text) in PRINTERS.items():
         printer.add_argument(f'--{name}', dest='printer', action='store_const', const=name, help=text)
     parser.add_argument('--routine', metavar='NAME', help='of this routine alone, with --annotate and --graph')
     parser.add_argument('--code', action='store_true', help='with instructions, with --graph')
     parser.add_argument('--names', metavar='NAMES', help=NAMES_HELP)
+    parser.add_argument('--source-root', metavar='FOLDER', help=f'{ROOT_HELP}; with --annotate their lines are printed, too')
     words = parser.parse_args()
     if not 0 <= words.limit < 2 ** 64 - MOST_STEPS:
         parser.error('the limit is out of range')
@@ -199,30 +327,47 @@ def parsed():
     return words
 
 
+def temporary_folder():
+    try:
+        return tempfile.TemporaryDirectory(prefix='eel-profile-', ignore_cleanup_errors=True)
+    except OSError as error:
+        refuse(f'there is no folder for temporary files, which TMPDIR names: {error.strerror}')
+
+
 def main():
     words = parsed()
     read_file(words.file)
     given = program_input(words.input)
-    with tempfile.TemporaryDirectory(prefix='eel-profile-') as folder:
-        session = Session(words, folder, given)
-        ending, steps = profiled(words, session)
-        if words.counts:
+    output = opened_for_output(words.output) if words.output else sys.stderr.fileno() if sys.stderr else subprocess.DEVNULL
+    kept = opened_for_output(words.counts) if words.counts else None
+    with temporary_folder() as folder:
+        session = Session(words, folder, given, Tables(words))
+        ending = profiled(words, session, output)
+        if kept:
             try:
-                with open(words.counts, 'wb') as opened:
-                    opened.write(read_file(session.counts))
+                with kept:
+                    kept.write(read_file(session.counts))
             except OSError as error:
                 refuse(f'{words.counts}: {error.strerror}')
+        (shown, debug), stands = session.tables.read(), place_of(read_file(session.written), ending.pc)
+        run = run_of(shown, session.counts, stands)
         if words.printer:
-            note(ending)
-            return hand_on(words, session)
-        shown = Shown(words.file, words.names)
-        run = run_of(shown, session.counts)
-        report = Report(shown, run, DebugLines(shown))
-    heading = f'{os.path.basename(words.file)}: {ending}, {run.total} instructions; with counters {steps} steps'
-    print_lines([heading, *report.all(None if words.all else FUNCTIONS)])
-    if report.counts.lines:
-        tell_limits(report.counts, words.file)
-    return 0
+            for line in place_lines(shown, debug, ending, stands) if ending.kind != 'exit' else [told_of(ending)]:
+                note(line)
+            print_lines(printed_by(words, session, shown, debug, run))
+        else:
+            report(words, Report(shown, run, debug), ending, stands)
+    return 0 if ending.kind == 'exit' else TRAPPED
+
+
+def report(words, told, ending, stands):
+    """Prints functions, loops and lines."""
+    total = figure(told.run.total, not told.run.unsure)
+    heading = f'{os.path.basename(words.file)}: {told_of(ending)}, {total} instructions; with counters {ending.steps} steps'
+    places = place_lines(told.shown, told.debug, ending, stands)
+    print_lines([heading, *places, *told.all(None if words.all else FUNCTIONS)])
+    if told.counts.lines:
+        tell_limits(told.counts, words.file)
 
 
 if __name__ == '__main__':

@@ -5,14 +5,21 @@ The program must be the original that was edited, with debug information (gcc -g
 prints them: `count: line: text`, `#####` where never, and `-` where there is no code. A program without line tables
 gets its functions alone. By visits, calls and branches are worked out from how often instructions ran.
 """
+from scripting import note, print_lines, read_lines, refuse
+
 import argparse
 import os
 from collections import Counter, defaultdict
 from dataclasses import dataclass
 
-from call_costs import CallCosts
-from debug_lines import OPTIMISED, DebugLines
-from shown import NAMES_HELP, RUN_HELP, Shown, note, print_lines, read_lines, refuse, run_of
+from call_costs import POINTER, Call, CallCosts
+from debug_lines import OPTIMISED, ROOT_HELP, DebugLines, Line
+from folded import Folded
+from line_counts import LineCounts
+from runs import RUN_HELP, run_of
+from shown import NAMES_HELP, Shown, figure
+
+START = -2  # the place from which the program's start is called, in a file for callgrind
 
 
 @dataclass
@@ -30,7 +37,8 @@ class SourceCounts:
         self.shown, self.debug, self.run = shown, debug, run
         self.costs = CallCosts(shown, run)
         self.functions = self.called()
-        self.lines = self.reached()
+        counted = LineCounts(shown, run, debug)
+        self.lines, self.unsure = self.reached(counted.lines), counted.unsure
 
     def times(self, address):
         return self.run.words.get(address, 0)
@@ -48,34 +56,6 @@ class SourceCounts:
         return copies + sum(self.costs.calls_of(start) if start in self.shown.routines else self.times(start)
                             for start in function.starts)
 
-    def passed(self, mark):
-        """How often a mark was reached: its block or, where a jump leads behind that, the words of its row."""
-        return self.times(mark.address) or max(map(self.times, self.debug.words(mark.address, mark.end)), default=0)
-
-    def marked(self):
-        """Lines by their statements' marks: a position in a line is as often reached as the blocks are in which its
-        marks stand, and a line as often as its most reached position."""
-        blocks = defaultdict(dict)
-        for row in self.debug.marks:
-            block = self.shown.block_of(row.address)
-            if block:
-                blocks[row.line, row.column][block.first] = self.passed(row)
-        lines = defaultdict(int)
-        for (line, _), counts in blocks.items():
-            lines[line] = max(lines[line], sum(counts.values()))
-        return lines
-
-    def executed(self):
-        """Lines by their instructions: in each function, and each copy by inlining, that which was executed most."""
-        most = defaultdict(int)
-        for address, line in self.debug.line_at.items():
-            place = line, self.debug.body_at.get(address)
-            most[place] = max(most[place], self.times(address))
-        lines = Counter()
-        for (line, _), count in most.items():
-            lines[line] += count
-        return lines
-
     def called(self):
         """The functions of the debug information, and the routines that it doesn't know."""
         functions = [Called(function.name, function.line, self.calls(function))
@@ -85,9 +65,8 @@ class SourceCounts:
         return functions + [Called(self.shown.name_of(start), self.debug.line_at.get(start), self.costs.calls_of(start))
                             for start in self.shown.starts if start not in known and start in code]
 
-    def reached(self):
+    def reached(self, lines):
         """All lines; where a function's code has none of the line that names it, that one is reached by its calls."""
-        lines = {**self.executed(), **self.marked()}
         body_at, line_at = self.debug.body_at, self.debug.line_at
         known = {(line, body_at.get(address)) for address, line in line_at.items()}
         known |= {(row.line, body_at.get(row.address)) for row in self.debug.marks}
@@ -123,7 +102,8 @@ def gcov_lines(counts):
         yield f'{"-":>9}:{0:>5}:Source:{path}'
         texts = read_lines(path) if os.path.isfile(path) else []
         for number in range(1, max(len(texts), *counted) + 1):
-            count = str(counted[number] or '#####') if number in counted else '-'
+            sure = Line(path, number) not in counts.unsure
+            count = figure(counted[number], sure) if counted.get(number) else '#####' if number in counted else '-'
             yield f'{count:>9}:{number:>5}:{texts[number - 1] if number <= len(texts) else "/*EOF*/"}'
 
 
@@ -133,15 +113,18 @@ def function_lines(counts):
 
 
 def branches(counts):
-    """The branches with a condition, by line: how often each was taken, and how often not, where that is known."""
+    """The branches with a condition and the known switches, by line: how often each way was gone, where that is known."""
     found = defaultdict(list)
     for block in counts.shown.blocks.values():
         line = counts.debug.line_at.get(block.last())
         ways = Counter()
         for edge in block.out:
-            ways[edge.kind] += counts.run.edge(edge)
-        if line and {'taken', 'untaken'} <= ways.keys() and all(map(counts.run.is_known, block.out)):
-            found[line].append((ways['taken'], ways['untaken']))
+            ways[edge.target if edge.kind == 'case' else edge.kind] += counts.run.edge(edge)
+        is_switch = any(edge.kind == 'case' for edge in block.out)
+        if is_switch:
+            del ways['out']  # of its landed copy
+        if line and (is_switch or {'taken', 'untaken'} <= ways.keys()) and all(map(counts.run.is_known, block.out)):
+            found[line].append(list(ways.values()))
     return found
 
 
@@ -155,9 +138,9 @@ def lcov_functions(functions):
 def lcov_branches(found, path):
     ways = []
     for line in sorted((line for line in found if line.path == path), key=lambda line: line.number):
-        for block, pair in enumerate(found[line]):
-            for way, count in enumerate(pair):
-                yield f'BRDA:{line.number},{block},{way},{count if any(pair) else "-"}'
+        for block, counts in enumerate(found[line]):
+            for way, count in enumerate(counts):
+                yield f'BRDA:{line.number},{block},{way},{count if any(counts) else "-"}'
                 ways.append(count)
     yield f'BRF:{len(ways)}'
     yield f'BRH:{sum(count > 0 for count in ways)}'
@@ -186,23 +169,30 @@ class Callgrind:
         self.calls = defaultdict(list)
         for call in self.costs.calls:
             self.calls[call.address].append(call)
+        for start, count in self.costs.roots.items():  # which have what their callers tell, where they have some
+            if self.costs.above[start]:
+                self.calls[START].append(Call(START, START, start, count, self.costs.rest_of(start)))
 
     def path(self, start):
         """The file of a routine, from the current folder: callgrind_annotate takes one with a whole path for two."""
         line = self.debug.line_at.get(start)
         return os.path.relpath(line.path) if line else '???'
 
+    def calls_at(self, address, number):
+        """The calls of an instruction, each with what it cost."""
+        for call in self.calls[address]:
+            line = self.debug.line_at.get(call.callee)
+            yield f'cfi={self.path(call.callee)}'
+            yield f'cfn={self.costs.name_of(call.callee)}'
+            yield f'calls={call.count} {self.position(max(call.callee, 0), line.number if line else 0)}'
+            yield f'{self.position(max(address, 0), number)} {call.cost}'
+
     def position(self, address, number):
         return f'0x{address:08x} {number}'
 
     def instruction(self, address, number):
         yield f'{self.position(address, number)} {self.counts.times(address)}'
-        for call in self.calls[address]:
-            line = self.debug.line_at.get(call.callee)
-            yield f'cfi={self.path(call.callee)}'
-            yield f'cfn={self.shown.name_of(call.callee)}'
-            yield f'calls={call.count} {self.position(call.callee, line.number if line else 0)}'
-            yield f'{self.position(address, number)} {self.costs.cost(call)}'
+        yield from self.calls_at(address, number)
 
     def routine(self, start, addresses):
         """What stands in another file than the routine begins in was inlined, and counts for the line before it."""
@@ -225,12 +215,19 @@ class Callgrind:
                 routines[self.shown.routine_of(address)].append(address)
         for start, addresses in routines.items():
             yield from self.routine(start, addresses)
+        for start, name in ((POINTER, self.costs.name_of(POINTER)), (START, '(start of the program)')):
+            if self.calls[start]:
+                yield from ('fl=???', f'fn={name}', *self.calls_at(start, 0), '')
         yield f'totals: {self.counts.run.total}'
 
 
-def printed(counts, words):
+def printed(shown, run, words, debug=None):
+    """The lines for a run."""
+    counts = SourceCounts(shown, run, debug or DebugLines(shown, words.source_root))
     if words.callgrind:
         return Callgrind(counts).lines()
+    if words.folded:
+        return Folded(counts.costs, run.total).lines()
     if not counts.lines:
         if words.lcov:
             refuse(f'{words.file} has no line tables: compile it with -g')
@@ -240,17 +237,23 @@ def printed(counts, words):
     return lcov_lines(counts) if words.lcov else gcov_lines(counts)
 
 
-def main():
+def parsed(args=None):
     parser = argparse.ArgumentParser(description=__doc__, formatter_class=argparse.RawDescriptionHelpFormatter)
     parser.add_argument('file', metavar='FILE', help='the program')
     parser.add_argument('counts', metavar='COUNTS', help=RUN_HELP)
     form = parser.add_mutually_exclusive_group()
     form.add_argument('--lcov', action='store_true', help='print a tracefile, of which genhtml makes pages')
     form.add_argument('--callgrind', action='store_true', help='print a profile for callgrind_annotate and KCachegrind')
+    form.add_argument('--folded', action='store_true', help='print stacks of calls with their costs, for flame graphs')
     parser.add_argument('--names', metavar='NAMES', help=NAMES_HELP)
-    words = parser.parse_args()
+    parser.add_argument('--source-root', metavar='FOLDER', help=ROOT_HELP)
+    return parser.parse_args(args)
+
+
+def main():
+    words = parsed()
     shown = Shown(words.file, words.names)
-    print_lines(printed(SourceCounts(shown, run_of(shown, words.counts), DebugLines(shown)), words))
+    print_lines(printed(shown, run_of(shown, words.counts), words))
 
 
 if __name__ == '__main__':

@@ -62,3 +62,71 @@ def spelled(text, name_of):
         return f'{"b" + name[2:] if name in ("ba", "ba,a") else name} {named or rest}'
     words = [operand(word) for word in OPERANDS.findall(rest)]
     return short(name, words) or f'{name} {",".join(words)}'.rstrip()
+
+
+LONG_NAMES = {short: long for long, short in NAMES.items()}
+
+
+def long_operand(text):
+    """One operand as `eel list` writes it: an address has two parts."""
+    text = text.strip()
+    if text.startswith('['):
+        return f'[{",".join(parts(text[1:-1]))}]'
+    if found := re.fullmatch(r'%(hi|lo)\((0x[0-9a-f]+|\d+)\)', text):
+        number = int(found[2], 0)
+        return str(number >> 10 if found[1] == 'hi' else number & 1023)
+    return LONG_NAMES.get(text, text)
+
+
+def parts(text):
+    """The two operands of a sum, the second %g0 where there is one alone."""
+    found = re.fullmatch(r'(%\w+)(?:([+-])(.+))?|([^%+]+)', text.replace(' ', ''))
+    if not found:
+        return [text, '%g0']
+    first, sign, second, alone = found.groups()
+    if alone is not None:
+        return ['%g0', str(int(alone, 0)) if is_number(alone) else alone]
+    second = '%g0' if second is None else long_operand(second)
+    return [LONG_NAMES.get(first, first), f'-{second}' if sign == '-' else second]
+
+
+def is_number(text):
+    return re.fullmatch(r'-?(0x[0-9a-fA-F]+|\d+)', text) is not None
+
+
+def long_text(text, address_of):
+    """An instruction in the spelling of `eel list`, from that or from the usual one; `address_of` answers the address of
+    a routine's name, or None."""
+    name, _, rest = text.strip().partition(' ')
+    rest = rest.strip()
+    base = name.split(',')[0]
+    if base == 'b':
+        name = f'ba{name[1:]}'
+    if name == 'call' and rest.startswith('%'):
+        return f'jmpl {",".join(parts(rest))},%o7'
+    if name == 'call' or base == 'b' or re.fullmatch('b[a-z]+', base) and not rest.startswith('%'):
+        target = address_of(rest)
+        return f'{name} {f"0x{target:08x}" if target is not None else rest}'
+    words = [long_operand(word) for word in OPERANDS.findall(rest)]
+    match name, words:
+        case 'nop', []:
+            return 'sethi 0,%g0'
+        case 'mov', [value, register]:
+            return f'or %g0,{value},{register}'
+        case 'cmp', [first, second]:
+            return f'subcc {first},{second},%g0'
+        case 'tst', [value]:
+            return f'orcc %g0,{value},%g0'
+        case 'ret' | 'retl', []:
+            return f'jmpl {"%i7" if name == "ret" else "%o7"},8,%g0'
+        case 'jmp', [_]:
+            return f'jmpl {",".join(parts(rest))},%g0'
+        case 'jmpl', [_, link]:
+            return f'jmpl {",".join(parts(rest.rpartition(",")[0]))},{link}'
+        case 'restore', []:
+            return 'restore %g0,%g0,%g0'
+        case 'clr' | 'clrb' | 'clrh', [place]:
+            return f'st{name[3:]} %g0,{place}'
+        case 'ta', [number]:
+            return f'ta %g0,{number}'
+    return f'{name} {",".join(words)}'.rstrip()

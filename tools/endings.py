@@ -1,0 +1,76 @@
+"""How a run ended and where it stands, by the dump of an edited file's run; and what traps are."""
+import array
+import bisect
+import struct
+import sys
+from dataclasses import dataclass
+
+from scripting import refuse
+
+# What each trap is, and its usual cause.
+TRAPS = {
+    1: ('no instruction there', 'a jump to what is no code: through a null pointer or an overwritten return address, or '
+                                'past the end'),
+    2: ('illegal instruction', 'one of V9, an `unimp`, or data that is run as code'),
+    3: ('privileged instruction', 'code of a kernel'),
+    4: ('floating point', 'the machine has none: compile all with -msoft-float'),
+    7: ('misaligned address', 'a pointer that is none, or one that was cast to a wider type'),
+    9: ('no memory there', 'a null or wild pointer, a write to a constant, or a stack of more than 1 MiB'),
+    10: ('tag overflow', 'a `taddcctv` or `tsubcctv`'),
+    36: ('coprocessor', 'the machine has none'),
+    42: ('division by zero', 'a divisor of 0'),
+    133: ('software trap 5', 'the compiler\'s trap: what must not be reached, `__builtin_trap`'),
+}
+ENDINGS = ['stopped', 'exit', 'trap', 'window', 'couple']
+
+
+def trap_name(number):
+    if number in TRAPS:
+        return TRAPS[number][0]
+    return f'software trap {number - 128}' if number >= 128 else 'no trap of this machine'
+
+
+def trap_cause(number):
+    return TRAPS[number][1] if number in TRAPS else 'a `ta` with this number' if number >= 128 else ''
+
+
+@dataclass
+class Ending:
+    """How a run ended, if it did, at which pc, and after how many steps."""
+    kind: str
+    number: int
+    pc: int
+    steps: int
+
+    def explained(self):
+        """What the ending means, or nothing of an exit."""
+        return {'trap': f'{trap_name(self.number)}: {trap_cause(self.number)}'.rstrip(': '),
+                'window': 'a register window could not be saved or loaded: %sp or %fp points to no stack',
+                'couple': 'a branch, a call or a jump stands in the delay slot of another',
+                'stopped': 'the limit of steps was reached: -n says more'}.get(self.kind)
+
+
+def ending_of(dump):
+    """The ending that the bytes of a dump tell."""
+    _, _, kind, number, pc, steps = struct.unpack_from('>5IQ', dump)
+    return Ending(ENDINGS[kind], number, pc, steps)
+
+
+def place_of(written, pc):
+    """The address of the original's instruction at which a run of the written file stands: itself where it is in none of
+    the editor's segments, and None between two places."""
+    at, size = struct.unpack_from('>2I', written, 4040)
+    notes = array.array('I', written[at:at + size - size % 4])
+    if sys.byteorder == 'little':
+        notes.byteswap()
+    behind = 9 + 2 * notes[8]
+    segments = notes[9:behind]
+    behind += 1 + notes[behind]
+    behind += 1 + 4 * notes[behind]
+    rows = notes[behind + 1:behind + 1 + 4 * notes[behind]]
+    found = bisect.bisect(rows[::4], pc) - 1
+    if found >= 0 and pc < rows[4 * found + 1]:
+        return rows[4 * found + 2]
+    if any(start <= pc < start + length for start, length in zip(segments[::2], segments[1::2])):
+        return None
+    return pc
