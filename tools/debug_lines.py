@@ -80,7 +80,7 @@ class DebugLines:
         self.root = root
         self.shown, self.marks, self.line_at, self.body_at, self.functions = shown, [], {}, {}, {}
         self.is_optimised, self.missing = False, []
-        self.start, self.end = shown.firsts[0], shown.blocks[shown.firsts[-1]].last() + 4
+        self.start, self.end = shown.text().start, shown.text().stop
         try:
             self.read(dwarf.Dwarf(shown.linked or shown.elf))
         except (dwarf.Broken, IndexError, struct.error, zlib.error, RecursionError) as error:

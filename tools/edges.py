@@ -32,19 +32,15 @@ def edges_of(shown, name):
         inside = {first for first in shown.blocks if shown.routine_of(first) == start}
     for edge in shown.edges:
         source, target = edge.source in inside, edge.target in inside
-        if source and target and not (edge.kind == 'call' and edge.target == start):
+        is_call = edge.kind == 'call' and edge.target == start
+        is_return = edge.source is None and not offset and edge.target != start  # from a call that the function makes
+        if target and (source and not is_call or is_return):
             ways['within'].append(edge)
-        elif target and (edge.source is not None or is_entry(shown, edge, start, offset)):
+        elif target:
             ways['enter'].append(edge)
         elif source:
             ways['leave'].append(edge)
     return ways
-
-
-def is_entry(shown, edge, start, offset):
-    """Whether control may well land so: at the function's begin, or anywhere in a block that was asked for. Landings
-    behind the function's own calls are within it."""
-    return bool(offset) or edge.target == start
 
 
 def printed(shown, words):

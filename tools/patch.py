@@ -2,9 +2,9 @@
 """Changes instructions of a program: tools/patch.py IN LISTING OUT
 
 LISTING has lines of an address and an instruction, as `eel list` prints them or as annotate.py does, with its counts
-before them or not; what begins with `#` is left out. Those that say another instruction than the program IN has at the address are put there, and the
-program so changed is written as OUT. What was changed is printed. A routine's name may stand where a branch or a CALL
-leads.
+before them or not; what begins with `#` is left out. Those that say another instruction than the program IN has at the
+address are put there, and the program so changed is written as OUT. What was changed is printed. A routine's name may
+stand where a branch or a CALL leads.
 """
 from scripting import opened_for_output, print_lines, read_lines, refuse
 

@@ -41,12 +41,12 @@ def counts_of(shown, name):
 
 def visits_of(shown, name, lines):
     """How often a run carried out the word at each address, by the lines of a file, which must be of this program."""
-    visits, total, texts = {}, None, range(shown.firsts[0], shown.blocks[shown.firsts[-1]].last() + 4, 4)
+    visits, total, text = {}, None, shown.text()
     for at, line in enumerate(lines, 1):
         words = line.split()
         if total is None and len(words) == 3 and words[0] == 'word' and words[2].isdecimal():
             address = int(words[1], 16) if re.fullmatch('[0-9a-f]{8}', words[1]) else -1
-            if address not in texts:
+            if address not in text:
                 refuse(f'{name}: line {at}: {shown.name} has no such word')
             visits[address] = int(words[2])
         elif total is None and re.fullmatch(r'words \d+ visited \d+ visits \d+', line):
@@ -55,7 +55,7 @@ def visits_of(shown, name, lines):
             refuse(f'{name}: line {at}: not a line of eel visits')
     if total is None:
         refuse(f'{name}: the last line is missing')
-    if total != [len(texts), len(visits), sum(visits.values())]:
+    if total != [len(text), len(visits), sum(visits.values())]:
         refuse(f'{name}: these are not the visits of all words of {shown.name}')
     return visits
 
@@ -63,7 +63,7 @@ def visits_of(shown, name, lines):
 def ways_of(shown, name, lines, before):
     """How often a run went each way from word to word, by the lines that `eel counts` printed of a file that `every`
     made; they stand behind others."""
-    ways, total, texts = Counter(), None, range(shown.firsts[0], shown.blocks[shown.firsts[-1]].last() + 4, 4)
+    ways, total, text = Counter(), None, shown.text()
     for at, line in enumerate(lines, before + 1):
         words = line.split()
         if total is not None or len(words) != 6 or words[0] not in ('edge', 'edges') or not words[5].isdecimal():
@@ -72,7 +72,7 @@ def ways_of(shown, name, lines, before):
             total = int(words[5])
             continue
         kind, source, target = words[2], *map(address_in, words[3:5])
-        if kind not in KINDS or not all(end is None or end in texts for end in (source, target)):
+        if kind not in KINDS or not all(end is None or end in text for end in (source, target)):
             refuse(f'{name}: line {at}: {shown.name} has no such edge')
         ways[kind, source, target] += int(words[5])
     if total is None:

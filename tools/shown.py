@@ -226,6 +226,10 @@ class Shown:
         number, rest = divmod(address - self.firsts[0], 4)
         return self.holding[number] if not rest and 0 <= number < len(self.holding) else None
 
+    def text(self):
+        """The addresses of the text's words."""
+        return range(self.firsts[0], self.blocks[self.firsts[-1]].last() + 4, 4)
+
     def blocks_between(self, start, end):
         """The first words of the blocks between two addresses."""
         return self.firsts[bisect.bisect_left(self.firsts, start):bisect.bisect_left(self.firsts, end)]
