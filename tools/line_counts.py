@@ -90,7 +90,7 @@ class LineCounts:
             low = self.shown.starts.index(routine) if routine is not None else -1
             start = routine or 0
             end = self.shown.starts[low + 1] if low + 1 < len(self.shown.starts) else 1 << 32
-            self.passes[routine] = Passes(self.shown, [first for first in self.shown.blocks_between(start, end)])
+            self.passes[routine] = Passes(self.shown, self.shown.blocks_between(start, end))
         return self.passes[routine]
 
     def executed(self):
