@@ -14,6 +14,7 @@ import sys
 import tempfile
 
 from called import EEL, built, needs, natural, parser_of
+from sparc import JMPL, NOP, O7, branch, call, form3, set_register
 
 
 TEXT = 0x10000
@@ -24,25 +25,6 @@ DATA_SIZE = 0x400  # the program's loads and stores; the registers are put out b
 # and %g7 are for the end.
 FREE = [2, 3, 4, 5, 8, 9, 10, 11, 12, 13] + list(range(16, 30))
 NUMBERS = [0, 1, 2, 3, 31, 32, 0x7f, 0x80, 0xffff, 0x7fffffff, 0x80000000, 0xfffffffe, 0xffffffff]
-
-
-def sethi(rd, value):
-    return rd << 25 | 4 << 22 | value >> 10
-
-
-def form3(op, rd, op3, rs1, operand):
-    """An instruction of format 3. The operand is ('r', register) or ('i', number)."""
-    kind, value = operand
-    low = value if kind == 'r' else 1 << 13 | value & 0x1fff
-    return op << 30 | rd << 25 | op3 << 19 | rs1 << 14 | low
-
-
-def branch(cond, annul, displacement):
-    return annul << 29 | cond << 25 | 2 << 22 | displacement & 0x3fffff
-
-
-def set_register(rd, value):
-    return [sethi(rd, value), form3(2, rd, 2, rd, ('i', value & 0x3ff))]
 
 
 def number():
@@ -82,14 +64,14 @@ def division():
     """A division by a register that has a low bit, so that it isn't 0; mostly with a small Y."""
     divisor = random.choice(FREE)
     y = random.choice([('i', 0), ('i', random.randrange(-3, 4)), ('r', random.choice(FREE))])
-    return [form3(2, divisor, 2, divisor, ('i', 1)), form3(2, 0, 0x30, 0, y), 0x01000000, 0x01000000, 0x01000000,
+    return [form3(2, divisor, 2, divisor, ('i', 1)), form3(2, 0, 0x30, 0, y), NOP, NOP, NOP,
             form3(2, random.choice(FREE), random.choice(DIVISIONS), random.choice(FREE), ('r', divisor))]
 
 
 def y_register():
     if random.random() < 0.5:
         return [form3(2, random.choice(FREE), 0x28, 0, ('r', 0))]
-    return [form3(2, 0, 0x30, random.choice(FREE), operand()), 0x01000000, 0x01000000, 0x01000000]
+    return [form3(2, 0, 0x30, random.choice(FREE), operand()), NOP, NOP, NOP]
 
 
 # op3 of a load or store, with its size: LD LDUB LDUH LDD ST STB STH STD LDSB LDSH LDSTUB SWAP
@@ -110,11 +92,11 @@ def transfer():
     skipped = [word for _ in range(random.randrange(4)) for word in arithmetic()]
     slot = simple()
     if random.random() < 0.15:
-        return [1 << 30 | 2 + len(skipped)] + slot + skipped
+        return [call(2 + len(skipped))] + slot + skipped
     if random.random() < 0.15:
         # a jump by %o7, which a CALL to the next instruction set
         target = 4 * (4 + len(skipped))
-        return [1 << 30 | 2, 0x01000000, form3(2, 0, 0x38, 15, ('i', target))] + slot + skipped
+        return [call(2), NOP, form3(2, 0, JMPL, O7, ('i', target))] + slot + skipped
     return [branch(random.randrange(16), random.randrange(2), 2 + len(skipped))] + slot + skipped
 
 
@@ -152,7 +134,7 @@ def program():
     words = [form3(2, 14, 0x3c, 14, ('i', -96))] + set_register(6, DATA)
     for register in FREE:
         words += set_register(register, number())
-    words += [form3(2, 0, 0x30, 0, ('r', random.choice(FREE))), 0x01000000, 0x01000000, 0x01000000]
+    words += [form3(2, 0, 0x30, 0, ('r', random.choice(FREE))), NOP, NOP, NOP]
     words += body() + end()
     text = struct.pack(f'>{len(words)}I', *words)
     data = bytes(random.choices(range(256), k=DATA_SIZE))

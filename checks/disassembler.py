@@ -1,6 +1,8 @@
 """The text of each instruction word, after appendices A and F of The SPARC Architecture Manual, Version 8: one spelling for
 each word, as `eel list` has it. It shares nothing with EEL; the sessions under the gate are compared with it."""
 
+from sparc import TICC, Word
+
 CONDITIONS = ['n', 'e', 'le', 'l', 'leu', 'cs', 'neg', 'vs', 'a', 'ne', 'g', 'ge', 'gu', 'cc', 'pos', 'vc']
 
 # Tables F-3 and F-4, by op3.
@@ -19,63 +21,57 @@ def register(number):
     return f'%{"goli"[number // 8]}{number % 8}'
 
 
-def target(word, at, bits):
-    displacement = word % (1 << bits)
-    displacement -= displacement >> bits - 1 << bits
+def target(displacement, at):
     return f'0x{(at + 4 * displacement) % 2**32:08x}'
 
 
 def sources(word):
     """The two operands of format 3, or None where a bit is set that a register operand ignores."""
-    first = register(word >> 14 & 31)
-    if word >> 13 & 1:
-        number = word & 0x1fff
-        return f'{first},{number - (number >> 12 << 13)}'
-    return None if word >> 5 & 0xff else f'{first},{register(word & 31)}'
+    if word.simm13 is not None:
+        return f'{register(word.rs1)},{word.simm13}'
+    return None if word.unused else f'{register(word.rs1)},{register(word.rs2)}'
 
 
 def of_format_2(word, at):
-    if word >> 22 & 7 == 2:
-        return f'b{CONDITIONS[word >> 25 & 15]}{",a" * (word >> 29 & 1)} {target(word, at, 22)}'
-    if word >> 22 & 7 == 4:
-        return f'sethi {word & 0x3fffff},{register(word >> 25 & 31)}'
-    return None
+    if word.op2 == 2:
+        return f'b{CONDITIONS[word.cond]}{",a" * word.annul} {target(word.disp22, at)}'
+    return f'sethi {word.imm22},{register(word.rd)}' if word.op2 == 4 else None
 
 
-def arithmetic(word):
-    op3, rd, rs1, both = word >> 19 & 63, word >> 25 & 31, word >> 14 & 31, sources(word)
-    if word == STBAR:
+def arithmetic(word, value):
+    both, rd = sources(word), register(word.rd)
+    if value == STBAR:
         return 'stbar'
-    if op3 == 0x28 and rs1 == 0 and word & 0x3fff == 0:
-        return f'rd %y,{register(rd)}'
+    if word.op3 == 0x28 and word.rs1 == 0 and value & 0x3fff == 0:
+        return f'rd %y,{rd}'
     if both is None:
         return None
-    if op3 in ARITHMETIC:
-        return f'{ARITHMETIC[op3]} {both},{register(rd)}'
-    if op3 == 0x30 and rd == 0:
+    if word.op3 in ARITHMETIC:
+        return f'{ARITHMETIC[word.op3]} {both},{rd}'
+    if word.op3 == 0x30 and word.rd == 0:
         return f'wr {both},%y'
-    if op3 == 0x3a and word >> 29 & 1 == 0:
-        return f't{CONDITIONS[rd & 15]} {both}'
-    if op3 == 0x3b and rd == 0:
+    if word.op3 == TICC and not word.annul:
+        return f't{CONDITIONS[word.cond]} {both}'
+    if word.op3 == 0x3b and word.rd == 0:
         return f'flush {both}'
     return None
 
 
 def memory(word):
-    op3, rd, both = word >> 19 & 63, word >> 25 & 31, sources(word)
-    if both is None or (op3 in DOUBLES and rd % 2):
+    both, rd = sources(word), register(word.rd)
+    if both is None or (word.op3 in DOUBLES and word.rd % 2):
         return None
-    if op3 in LOADS:
-        return f'{LOADS[op3]} [{both}],{register(rd)}'
-    if op3 in STORES:
-        return f'{STORES[op3]} {register(rd)},[{both}]'
-    return None
+    if word.op3 in LOADS:
+        return f'{LOADS[word.op3]} [{both}],{rd}'
+    return f'{STORES[word.op3]} {rd},[{both}]' if word.op3 in STORES else None
 
 
-def text(word, at):
+def text(value, at):
     """The text of the word at an address: a word that is no instruction, or has an ignored bit set, is a number."""
-    by_op = [lambda: of_format_2(word, at), lambda: f'call {target(word, at, 30)}', lambda: arithmetic(word), lambda: memory(word)]
-    return by_op[word >> 30]() or f'.word 0x{word:08x}'
+    word = Word(value)
+    by_op = [lambda: of_format_2(word, at), lambda: f'call {target(word.disp30, at)}', lambda: arithmetic(word, value),
+             lambda: memory(word)]
+    return by_op[word.op]() or f'.word 0x{value:08x}'
 
 
 def listing(start, words):

@@ -9,11 +9,10 @@ the file is the same each time.
 import argparse
 import random
 
-from beside_qemu import access, arithmetic, branch, form3, operand
+from beside_qemu import access, arithmetic, operand
 from called import refuse
 from programs import Program
-
-JMPL = 0x38
+from sparc import JMPL, branch, form3
 
 
 def anywhere(at, words):

@@ -17,6 +17,7 @@ from dataclasses import dataclass
 
 from called import EEL, built, natural, parser_of, read_program, refuse
 from random_switches import near_switch, switch_words
+from sparc import JMPL, NOP, Word, branch, call
 from switches import open_switches, switches, told_apart
 
 
@@ -63,22 +64,18 @@ class Program:
 
     def target(self, word):
         """The address to which a branch or a CALL leads."""
-        bits = 30 if self.words[word] >> 30 == 1 else 22
-        displacement = self.words[word] % (1 << bits)
-        if displacement >> (bits - 1):
-            displacement -= 1 << bits
-        return (self.start + 4 * word + 4 * displacement) % 2**32
+        fields = Word(self.words[word])
+        return (self.start + 4 * word + 4 * (fields.disp30 if fields.op == 1 else fields.disp22)) % 2**32
 
     def end(self, word):
         """How control leaves a word: a transfer's name, its target, whether it is annulled, its condition."""
-        value = self.words[word]
-        op, op2, op3, cond = value >> 30, value >> 22 & 7, value >> 19 & 63, value >> 25 & 15
-        if op == 1:
+        fields = Word(self.words[word])
+        if fields.op == 1:
             return 'call', self.word_at(self.target(word)), False, None
-        if op == 0 and op2 == 2:
-            target = self.word_at(self.target(word)) if cond else None
-            return 'branch', target, bool(value >> 29 & 1), cond
-        if op == 2 and op3 == 0x38:
+        if fields.op == 0 and fields.op2 == 2:
+            target = self.word_at(self.target(word)) if fields.cond else None
+            return 'branch', target, bool(fields.annul), fields.cond
+        if fields.op == 2 and fields.op3 == JMPL:
             return 'jump', None, False, None
         return 'fall', None, False, None
 
@@ -228,9 +225,8 @@ def listing(file):
 def random_word(count):
     """A word of a text of so many: mostly transfers that lead near it."""
     near = random.randrange(-count - 3, count + 3)
-    branch = random.randrange(16) << 25 | random.randrange(2) << 29 | 0x800000 | near & 0x3fffff
-    call = 0x40000000 | near & 0x3fffffff
-    return random.choice([branch, branch, call, 0x81c7e008, random.getrandbits(32), 0x01000000, 0x01000000])
+    branching = branch(random.randrange(16), random.randrange(2), near)
+    return random.choice([branching, branching, call(near), 0x81c7e008, random.getrandbits(32), NOP, NOP])
 
 
 def random_text(start):

@@ -2,19 +2,15 @@
 import struct
 from dataclasses import dataclass
 
-from beside_qemu import form3, sethi
+import sparc
 from listing import Edge, Landed, home
+from sparc import ADD, G0, G1, G2, JMPL, LD, NOP, O7, SLL, SRL, ST, SWAP, Word, form3, sethi
 
 PAGE = 4096
 
-NOP = 0x01000000
 COUPLE = 0x10800002  # ba to the word after the next one
 ALWAYS_OR_NEVER = (8, 0)
 ANNULLED = 16
-
-G0, G1, G2, O7 = 0, 1, 2, 15
-LD, ST, SWAP = 0, 4, 0xf
-ADD, SLL, SRL, JMPL = 0, 0x25, 0x26, 0x38
 
 
 def words(*numbers):
@@ -50,7 +46,7 @@ def jump(address):
 
 
 def bicc(condition, here, to):
-    return condition << 25 | 2 << 22 | (to - here) // 4 & 0x3fffff
+    return sparc.branch(condition % 16, condition // 16, (to - here) // 4)
 
 
 def branch(condition, here, to, is_long):
@@ -63,25 +59,22 @@ def link(register, address):
     return [sethi(register, address), operation(ADD, register, address & 0x3ff)] if register else []
 
 
-def second_operand(value):
-    return ('i', value & 0x1fff) if value >> 13 & 1 else ('r', value & 31)
-
-
 def jump_image(value, address, jumps):
     """The target of a JMPL is looked up in the table at `jumps`, by two registers that it doesn't name: first there is
     what leads from the target to its entry, and then the entry. Word 7 takes it. A misaligned target traps there."""
-    rd, rs1, second = value >> 25 & 31, value >> 14 & 31, second_operand(value)
-    named = (rd, rs1, 0 if second[0] == 'i' else second[1])
+    fields = Word(value)
+    named = (fields.rd, fields.rs1, fields.rs2 if fields.simm13 is None else G0)
     one, other = [register for register in range(1, 6) if register not in named][:2]
-    target = form3(2, one, ADD, rs1, second)
+    target = form3(2, one, ADD, fields.rs1, fields.operand())
     return [store(one, 7), store(other, 2), target, store(one, 1), operation(SRL, other, 16, one), operation(SLL, other, 2),
             sethi(one, jumps), load_at(other, one, other), target, load_at(one, other, one),
-            exchange(one, 7), load(other, 2), *link(rd, address)]
+            exchange(one, 7), load(other, 2), *link(fields.rd, address)]
 
 
 def keep_load(value):
     """Word 0 takes the address from which an LD loads."""
-    return [store(G1, 0), form3(2, G1, ADD, value >> 14 & 31, second_operand(value)), exchange(G1, 0)]
+    fields = Word(value)
+    return [store(G1, 0), form3(2, G1, ADD, fields.rs1, fields.operand()), exchange(G1, 0)]
 
 
 def choose(distance):
@@ -252,7 +245,7 @@ class Pieces:
         if kind == 'call':
             return Piece(visit, link(O7, visit[0]), then=self.way_out(node, 'call'))
         if kind == 'jump' and node in self.graph.jumps:
-            return Piece(visit, [*link(value >> 25 & 31, visit[0]), *choose(self.distance(node))])
+            return Piece(visit, [*link(Word(value).rd, visit[0]), *choose(self.distance(node))])
         if kind == 'jump':
             return Piece(visit, jump_image(value, visit[0], self.places.second), then=self.way_out(node, 'out'))
         if node != self.in_order(word):

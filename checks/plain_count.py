@@ -11,20 +11,22 @@ The machine is that of The SPARC Architecture Manual, Version 8: its integer uni
 With --programs, runs the small programs of programs.py instead, and prints those that end otherwise than is known.
 """
 import collections
+import functools
 import struct
 import sys
 
 from called import natural, parser_of, read_program
 from listing import Graph, Program, home
 from programs import SMALL
+from sparc import (
+    ADD, ADDX, AND, ANDN, JMPL, OR, ORN, SDIV, SLL, SMUL, SRA, SRL, SUB, SUBX, TICC, UDIV, UMUL, XNOR, XOR, Word, signed)
 
 MASK = 0xffffffff
 READ, WRITE, EXECUTE = 4, 2, 1
 HEAP = 0x80000000
 MOST_BITS = 16  # of a ring of edges
 STACK, STACK_END = 0xeff00000, 0xf0000000
-ADD, AND, OR, XOR, SUB, ANDN, ORN, XNOR, ADDX = range(9)
-UMUL, SMUL, SUBX, UDIV, SDIV = 10, 11, 12, 14, 15
+fields = functools.cache(Word)
 
 
 class Ended(Exception):
@@ -33,11 +35,6 @@ class Ended(Exception):
 
 def trap(number):
     return Ended(f'trap {number}')
-
-
-def signed(value, bits=32):
-    value &= (1 << bits) - 1
-    return value - (1 << bits) if value >> (bits - 1) else value
 
 
 class Region:
@@ -125,15 +122,14 @@ class Machine:
             self.globals[number] = value & MASK
 
     def step(self):
-        word = self.memory.fetch(self.pc)
-        op = word >> 30
-        if op == 1:
+        word = fields(self.memory.fetch(self.pc))
+        if word.op == 1:
             self.transfer()
             self.set(15, self.pc)
-            self.delay(self.pc + 4 * signed(word, 30))
-        elif op == 0:
+            self.delay(self.pc + 4 * word.disp30)
+        elif word.op == 0:
             self.branch_or_sethi(word)
-        elif op == 2:
+        elif word.op == 2:
             self.operate(word)
         else:
             self.access(word)
@@ -155,14 +151,13 @@ class Machine:
         return rows[cond % 8] != (cond >= 8)
 
     def branch_or_sethi(self, word):
-        op2, rd = word >> 22 & 7, word >> 25 & 31
-        if op2 == 4:
-            self.set(rd, word << 10)
+        if word.op2 == 4:
+            self.set(word.rd, word.imm22 << 10)
             self.go_on()
-        elif op2 == 2:
-            self.branch(rd & 15, rd >> 4, self.pc + 4 * signed(word, 22) & MASK)
+        elif word.op2 == 2:
+            self.branch(word.cond, word.annul, self.pc + 4 * word.disp22 & MASK)
         else:
-            raise trap({6: 4, 7: 0x24}.get(op2, 2))
+            raise trap({6: 4, 7: 0x24}.get(word.op2, 2))
 
     def branch(self, cond, annul, target):
         self.transfer()
@@ -180,17 +175,17 @@ class Machine:
     # Instructions of registers.
 
     def operand(self, word):
-        return signed(word, 13) & MASK if word >> 13 & 1 else self.get(word & 31)
+        return self.get(word.rs2) if word.simm13 is None else word.simm13 & MASK
 
     def operate(self, word):
-        rd, op3, rs1 = word >> 25 & 31, word >> 19 & 63, word >> 14 & 31
+        rd, op3, rs1 = word.rd, word.op3, word.rs1
         if op3 < 0x20 and op3 & 15 not in (9, 13):
             self.arithmetic(op3 & 15, op3 >> 4, rd, self.get(rs1), self.operand(word))
         elif 0x20 <= op3 <= 0x23:
             self.tagged(op3 & 1, op3 & 2, rd, self.get(rs1), self.operand(word))
         elif op3 == 0x24:
             self.multiply_step(rd, self.get(rs1), self.operand(word))
-        elif 0x25 <= op3 <= 0x27:
+        elif SLL <= op3 <= SRA:
             self.shift(op3, rd, self.get(rs1), self.operand(word) % 32)
         elif op3 == 0x28 and rs1 == 0:
             self.set(rd, self.y)
@@ -198,10 +193,10 @@ class Machine:
             pass
         elif op3 == 0x30 and rd == 0:
             self.y = self.get(rs1) ^ self.operand(word)
-        elif op3 == 0x38:
+        elif op3 == JMPL:
             return self.jump(rd, self.get(rs1) + self.operand(word) & MASK)
-        elif op3 == 0x3a:
-            return self.software_trap(rd & 15, (self.get(rs1) + self.operand(word)) % 128)
+        elif op3 == TICC:
+            return self.software_trap(word.cond, (self.get(rs1) + self.operand(word)) % 128)
         elif op3 == 0x3c:
             self.save(rd, self.get(rs1) + self.operand(word))
         elif op3 == 0x3d:
@@ -269,7 +264,7 @@ class Machine:
                  shifted + addend > MASK)
 
     def shift(self, op3, rd, value, count):
-        self.set(rd, value << count if op3 == 0x25 else value >> count if op3 == 0x26 else signed(value) >> count)
+        self.set(rd, value << count if op3 == SLL else value >> count if op3 == SRL else signed(value) >> count)
 
     def jump(self, rd, target):
         self.transfer()
@@ -284,7 +279,7 @@ class Machine:
     STORES = {4: 4, 5: 1, 6: 2, 7: 8}
 
     def access(self, word):
-        rd, op3, rs1 = word >> 25 & 31, word >> 19 & 63, word >> 14 & 31
+        rd, op3, rs1 = word.rd, word.op3, word.rs1
         if op3 in (0x20, 0x21, 0x23, 0x24, 0x25, 0x27):
             raise trap(4)
         if op3 in (0x30, 0x31, 0x33, 0x34, 0x35, 0x37):

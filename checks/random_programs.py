@@ -2,13 +2,9 @@
 import random
 import struct
 
-from beside_qemu import (
-    FREE, SIMPLE, access, arithmetic, branch, division, form3, number, operand, set_register, simple, y_register)
+from beside_qemu import FREE, SIMPLE, access, arithmetic, division, number, operand, simple, y_register
 from programs import Program
-
-G1, O0, O1, O2, SP, G6, O7 = 1, 8, 9, 10, 14, 6, 15
-
-JMPL = 0x38
+from sparc import G1, G6, JMPL, O0, O1, O2, O7, SP, TICC, branch, call, form3, set_register
 
 # Where the text stands, and addresses outside it and all pages of an edited file.
 TEXT = 0x10054
@@ -26,7 +22,7 @@ def move(rd, value):
 
 
 def trap(condition, number):
-    return form3(2, condition, 0x3a, 0, ('i', number))
+    return form3(2, condition, TICC, 0, ('i', number))
 
 
 def lone_branch():
@@ -55,7 +51,7 @@ def branching():
 def lone_call():
     """A CALL: mostly a few words on, and seldom out of the text."""
     kind = random.choices([range(2, 14), range(-8, 2), [100000, -100000, 1 << 28, -1 << 29]], [60, 6, 1])[0]
-    return [1 << 30 | random.choice(kind) & 0x3fffffff]
+    return [call(random.choice(kind))]
 
 
 def calling():
@@ -77,7 +73,7 @@ def routine():
     """A subroutine that control goes past, and then a CALL of it."""
     inner = [word for _ in range(random.randrange(5)) for word in random.choice([simple, with_g1, access])()]
     inner += [form3(2, 0, JMPL, O7, ('i', 8))] + slot()
-    return [branch(8, 0, 2 + len(inner))] + simple() + inner + [1 << 30 | -len(inner) & 0x3fffffff] + slot()
+    return [branch(8, 0, 2 + len(inner))] + simple() + inner + [call(-len(inner))] + slot()
 
 
 def jumping(here):
@@ -109,8 +105,8 @@ def system_call():
     """One that reads, moves the heap's end, or isn't there; or all windows are saved."""
     if random.random() < 0.3:
         return [trap(8, 3)]
-    call = random.choice([READ, BRK, NO_CALL])
-    return [move(G1, call), move(O0, 0), form3(2, O1, 0, G6, ('i', 8)), move(O2, random.randrange(12)), trap(8, 16)]
+    number = random.choice([READ, BRK, NO_CALL])
+    return [move(G1, number), move(O0, 0), form3(2, O1, 0, G6, ('i', 8)), move(O2, random.randrange(12)), trap(8, 16)]
 
 
 def near_stack():

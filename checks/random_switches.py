@@ -2,15 +2,14 @@
 import random
 import struct
 
-from beside_qemu import FREE, branch, form3, sethi, simple
-from random_programs import G1, JMPL, O7, end, lone_branch, lone_call, lone_jump, move, puts, start, trap, with_g1
+from beside_qemu import FREE, simple
+import sparc
+from random_programs import end, lone_branch, lone_call, lone_jump, move, puts, start, trap, with_g1
+from sparc import ADD, AND, G1, JMPL, LD, NOP, O7, OR, SLL, SP, ST, SUBCC, branch, form3, sethi
 
 # Behind a file's header and two of segments.
 TEXT = 0x10074
 
-ADD, AND, OR, SUBCC, SLL = 0, 1, 2, 0x14, 0x25
-LD = 0
-NOP = 0x01000000
 ALWAYS, ABOVE, NOT_ABOVE, POSITIVE = 8, 12, 4, 14
 REGISTERS = FREE + [G1, O7]
 ROUNDS = 7  # a register that the programs use for nothing else
@@ -58,7 +57,7 @@ def lead(condition, annul, name, further=0):
 
 
 def call(name):
-    return lambda text, at: 1 << 30 | text.places[name] - at & 0x3fffffff
+    return lambda text, at: sparc.call(text.places[name] - at)
 
 
 def address(name, further=0, misaligned=0):
@@ -76,8 +75,8 @@ def low(rd, name, distance=0):
 def idle(used):
     """A word that leaves the codes and these registers."""
     rd = random.choice([register for register in REGISTERS if register not in used] + [0])
-    return random.choice([NOP, move(rd, random.randrange(-9, 9)), form3(3, random.choice(FREE), 4, 14, ('i', -8)),
-                          form3(2, rd, SLL, rd, ('i', 2)), form3(3, rd, LD, 14, ('i', -8))])
+    return random.choice([NOP, move(rd, random.randrange(-9, 9)), form3(3, random.choice(FREE), ST, SP, ('i', -8)),
+                          form3(2, rd, SLL, rd, ('i', 2)), form3(3, rd, LD, SP, ('i', -8))])
 
 
 def idles(used, most):

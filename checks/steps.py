@@ -12,6 +12,7 @@ import tempfile
 
 from called import EEL, built, input_of, parser_of, read_program
 from listing import Graph, Program, home
+from sparc import ADD, ADDCC, G0, LD, ST, Word, form3, sethi
 
 FIRST_KEPT = 0xfffff008 - 2**32
 
@@ -35,7 +36,9 @@ def steps(eel, name, given):
 
 def is_kept(word):
     """A store of a register in word 2 of the editor's page, or one behind it."""
-    return word >> 30 == 3 and word >> 19 & 63 == 4 and word & 0x7ffff >= 1 << 13 | FIRST_KEPT & 0x1fff and word >> 14 & 31 == 0
+    fields = Word(word)
+    return (fields.op == 3 and fields.op3 == ST and fields.rs1 == G0 and fields.simm13 is not None
+            and fields.simm13 % 0x2000 >= FIRST_KEPT % 0x2000)
 
 
 def sorts(original):
@@ -66,8 +69,8 @@ def cells(file):
 
 def is_one_more(word, register):
     """The low word of a counter is raised: with the codes where these are dead, and else into another register."""
-    with_codes = 0x80802001 | register << 25 | register << 14
-    return word == with_codes or word & ~(31 << 25) == 0x80002001 | register << 14 and word >> 25 & 31 != register
+    rd = Word(word).rd
+    return word == form3(2, rd, ADDCC if rd == register else ADD, register, ('i', 1))
 
 
 def counters(file, original):
@@ -81,13 +84,11 @@ def counters(file, original):
     found, spilled = collections.Counter(), collections.Counter()
     for at in range(len(words) - 3):
         high, load, add, store = words[at:at + 4]
-        base, register = high >> 25 & 31, load >> 25 & 31
-        low = (load & 0x1fff) - 4
-        edge = edge_of.get(((high & 0x3fffff) << 10 | low & 0x3ff) - base_of_cells >> 2)
-        if (edge is not None and high >> 30 == 0 and high >> 22 & 7 == 4
-                and load >> 30 == 3 and load >> 19 & 63 == 0 and load >> 14 & 31 == base
-                and is_one_more(add, register)
-                and store == 0xc0202000 | (add >> 25 & 31) << 25 | base << 14 | low + 4):
+        base, register, low = Word(high).rd, Word(load).rd, (load & 0x1fff) - 4
+        address = Word(high).imm22 << 10 | low & 0x3ff
+        edge = edge_of.get(address - base_of_cells >> 2)
+        if (edge is not None and high == sethi(base, address) and load == form3(3, register, LD, base, ('i', low + 4))
+                and is_one_more(add, register) and store == form3(3, Word(add).rd, ST, base, ('i', low + 4))):
             found[named[edge]] += 1
             spilled[named[edge]] += at > 0 and is_kept(words[at - 1])
     return found, spilled

@@ -3,6 +3,8 @@ registers is followed word by word.
 """
 from dataclasses import dataclass
 
+from sparc import JMPL, OR, SLL, SUBCC, TICC, Word
+
 # What a register may be known to hold: a number, the index, a number and four times the index, the word there with the
 # LD that loaded it.
 UNKNOWN, INDEX = ('unknown',), ('index',)
@@ -16,21 +18,13 @@ def number(n):
     return 'number', n % 2**32
 
 
-class Word:
-    """The fields of an instruction word."""
+def sets_codes(word):
+    return word.op == 2 and word.op3 in SETS_CODES
 
-    def __init__(self, value):
-        self.op, self.op2, self.op3 = value >> 30, value >> 22 & 7, value >> 19 & 63
-        self.rd, self.rs1, self.rs2 = value >> 25 & 31, value >> 14 & 31, value & 31
-        self.cond = value >> 25 & 15
-        self.imm22 = value & 0x3fffff
-        self.simm13 = (value & 0x1fff) - (value & 0x1000) * 2 if value & 0x2000 else None
 
-    def sets_codes(self):
-        return self.op == 2 and self.op3 in SETS_CODES
-
-    def second(self, known):
-        return known[self.rs2] if self.simm13 is None else number(self.simm13)
+def second(word, known):
+    """What is known of the second operand."""
+    return known[word.rs2] if word.simm13 is None else number(word.simm13)
 
 
 def plus(one, other):
@@ -53,17 +47,17 @@ def either(one, other):
 
 def address(word, known):
     """What is known of rs1 and the second operand, added."""
-    return plus(known[word.rs1], word.second(known))
+    return plus(known[word.rs1], second(word, known))
 
 
 def result(word, known):
     """What an instruction of op 2 puts into rd."""
-    one, other = known[word.rs1], word.second(known)
+    one, other = known[word.rs1], second(word, known)
     if word.op3 == 0x00:
         return address(word, known)
-    if word.op3 == 0x02:
+    if word.op3 == OR:
         return either(one, other)
-    if word.op3 == 0x25 and one == INDEX and other == number(2):
+    if word.op3 == SLL and one == INDEX and other == number(2):
         return 'place', 0
     return UNKNOWN
 
@@ -77,14 +71,14 @@ def loaded_table(word, known):
 def follow(program, at, known):
     """What is known after a word of the text."""
     word = Word(program.words[at])
-    if word.op == 2 and word.op3 in (0x3a, 0x3c, 0x3d):
+    if word.op == 2 and word.op3 in (TICC, 0x3c, 0x3d):
         return [number(0)] + [UNKNOWN] * 31
     written = {}
     if word.op == 1:
         written[15] = UNKNOWN
     elif word.op == 0 and word.op2 == 4:
         written[word.rd] = number(word.imm22 << 10)
-    elif word.op == 2 and (word.op3 in ALU or word.op3 == 0x38 or word.op3 == 0x28 and word.rs1 == 0):
+    elif word.op == 2 and (word.op3 in ALU or word.op3 == JMPL or word.op3 == 0x28 and word.rs1 == 0):
         written[word.rd] = result(word, known)
     elif word.op == 3 and word.op3 in LOADS:
         table = loaded_table(word, known)
@@ -132,10 +126,10 @@ class Entries:
 
 def comparison(program, graph, block):
     """The word of a block that sets the codes last, where that compares a register with a limit."""
-    setting = [at for at in range(graph.firsts[block], graph.last(block) + 1) if Word(program.words[at]).sets_codes()]
+    setting = [at for at in range(graph.firsts[block], graph.last(block) + 1) if sets_codes(Word(program.words[at]))]
     if setting:
         word = Word(program.words[setting[-1]])
-        if word.op3 == 0x14 and word.simm13 is not None and 0 <= word.simm13 < 1024 and word.rs1 not in (0, word.rd):
+        if word.op3 == SUBCC and word.simm13 is not None and 0 <= word.simm13 < 1024 and word.rs1 not in (0, word.rd):
             return setting[-1], word.rs1, word.simm13
     return None
 

@@ -1,0 +1,103 @@
+#!/usr/bin/env python3
+"""Which lemmas nothing names, and which statements stand word for word in two files: checks/lemmas.py [CRATE..]
+
+A lemma is what a file of proofs gives a type, at its top or in a `module` there; what a file's goals ask for isn't one, nor
+is a fact about constants, which is a worked example. It is named where its name stands outside of itself, of imports
+and of comments, in its own file or in one that imports it. Status 1 says that there is a lemma that nothing names. Of
+statements in two files those of two lines or more are told, and they are no fault: one may be out of the other's sight.
+"""
+import argparse
+import re
+import sys
+from collections import Counter, defaultdict
+
+from documents import files, read
+
+ENDS = r'\s(){}\[\];,"@.:'
+NAME = rf'[^{ENDS}]+'
+HEAD = re.compile(rf'( *)(?:(?:pub|abbrev|unfoldable) )*({NAME}(?: {NAME})*) :(?=\s|$)')
+WORD = re.compile(NAME)
+IMPORT = re.compile(r'\s*(pub |ghost )*use ')
+
+
+class Lemma:
+    def __init__(self, path, line, name, is_inner):
+        self.path, self.line, self.name, self.is_inner, self.lines = path, line, name, is_inner, []
+
+    def statement(self):
+        """What it says, without its name, and in how many lines."""
+        said = []
+        for line in self.lines:
+            if said and re.match(rf'\s*(unfolding|{re.escape(self.name)})(?!{NAME})', line):
+                break
+            said.append(line)
+        return ' '.join(' '.join(said).split()).partition(' : ')[2], len(said)
+
+    def is_example(self):
+        said, _ = self.statement()
+        bare = said
+        while bare != (bare := re.sub(r'\([^()]*\)', '', bare)):
+            pass
+        return not (self.is_inner or '→' in bare or re.match(r'[({][^()]* : ', said))
+
+
+class File:
+    """The lemmas of a file, what it imports, and the names that its other lines have."""
+
+    def __init__(self, path):
+        self.path, self.lemmas, self.imports, self.names = path, [], set(), Counter()
+        lemma = kind = None
+        comment = '//' if path.endswith('.rt') else r'(?<!\S)--'
+        for number, line in enumerate(re.sub(rf'(?m){comment}.*', '', read(path)).split('\n'), 1):
+            found = IMPORT.match(line)
+            if found:
+                self.imports.update(WORD.findall(line))
+                if 'pub' in found[0]:
+                    self.names.update(WORD.findall(line))
+            elif line.strip():
+                depth = len(line) - len(line.lstrip())
+                kind = re.sub('^pub ', '', line).split()[0] if depth == 0 else kind
+                head = HEAD.match(line) if '/proofs/' in path else None
+                if head and (depth, kind == 'module') in ((0, False), (2, True)):
+                    lemma = None if ' : goal.' in line else Lemma(path, number, head[2].split()[-1], depth > 0)
+                    self.lemmas += [lemma] if lemma else []
+                elif lemma and depth <= 2 * lemma.is_inner and line.split()[0] not in (lemma.name, 'unfolding'):
+                    lemma = None
+                if lemma:
+                    lemma.lines.append(line)
+                else:
+                    self.names.update(WORD.findall(line))
+        for lemma in self.lemmas:
+            self.names.update(set(WORD.findall('\n'.join(lemma.lines))) - {lemma.name})
+
+
+def main():
+    parser = argparse.ArgumentParser(description=__doc__, formatter_class=argparse.RawDescriptionHelpFormatter)
+    parser.add_argument('crates', metavar='CRATE', nargs='*', help='these alone')
+    crates = parser.parse_args().crates
+    read_files = [File(name) for name in files() if re.match(r'crates/\w+/(src|specs|proofs)/', name)]
+    users = defaultdict(set)
+    for file in read_files:
+        for name in file.names:
+            if file.path.endswith('.rt') or name in file.imports:
+                users[name].add(file.path)
+    of = {file.path: file for file in read_files}
+    wanted = [lemma for file in read_files for lemma in file.lemmas if not crates or lemma.path.split('/')[1] in crates]
+    unnamed = [lemma for lemma in wanted if not (of[lemma.path].names[lemma.name] or users[lemma.name] - {lemma.path}
+                                                 or lemma.is_example())]
+    for lemma in unnamed:
+        print(f'{lemma.path}:{lemma.line}: {lemma.name}: nothing names it')
+    said = defaultdict(list)
+    for lemma in wanted:
+        statement, lines = lemma.statement()
+        if lines > 1:
+            said[statement].append(lemma)
+    twice = [some for some in said.values() if len({lemma.path for lemma in some}) > 1]
+    for some in twice:
+        print('said twice:', ', '.join(f'{lemma.name} ({lemma.path}:{lemma.line})' for lemma in some))
+    print(f'{len(wanted)} lemmas, {len(unnamed)} that nothing names, {len(twice)} statements in two files')
+    return bool(unnamed)
+
+
+if __name__ == '__main__':
+    sys.exit(main())
