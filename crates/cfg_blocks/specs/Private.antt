@@ -5,7 +5,7 @@ use Rattle.eel_base.specs.CodeText.{Words}
 use Rattle.eel_base.specs.declared.numbers.WordNo.{WordNo}
 use Rattle.cfg_blocks.specs.declared.BlockEnd.{BlockEnd}
 use Rattle.cfg_blocks.specs.Ends.{end_at}
-use Rattle.cfg_blocks.specs.Blocks.{below, last_word, leads}
+use Rattle.cfg_blocks.specs.Blocks.{below, last_word, leads, Blocks}
 use Rattle.cfg_blocks.specs.declared.BlockEnd.TheVariants.{Fall}
 
 -- how control leaves each word of a text
@@ -30,3 +30,7 @@ is_in words word = list_any (λ other. other.0 == word) words
 -- the word leads, by a list of how control leaves each word and the marks of those that are given
 abbrev pub leads_in : List BlockEnd → List Bool → ℕ → Bool
 leads_in ends given = leads (length ends) (end_in ends) (marked given)
+
+-- the blocks of a text, by their first words, how control leaves each, and how it leaves each word
+abbrev pub cut_blocks : List ℕ → List BlockEnd → List BlockEnd → Blocks
+cut_blocks firsts ends word_ends = record { firsts = firsts; words = length word_ends; ends = ends }

@@ -1,11 +1,11 @@
 //! What leads to each block: first for each word, then for the first word of each block.
 ghost use Rattle.std.specs.Prelude.{◌≡◌, ℕ, ◌+◌, ◌-◌, ◌^◌, ◌<◌, ◌≤◌, ◌||◌, [], ◌∷◌, length, map, option_to_list, slice_index, IfOk};
 ghost use Rattle.cfg_blocks.specs.Arrivals.{added, added_all, counted, counted_from, into_at, into_first, into_in, is_bare_in, is_led_by, is_led_from, way_of, ways_in};
-ghost use Rattle.cfg_blocks.specs.Blocks.{below, Blocks};
+ghost use Rattle.cfg_blocks.specs.Blocks.{below};
 ghost use Rattle.cfg_blocks.specs.Code.{AreFirsts};
 ghost use Rattle.cfg_blocks.specs.Ends.{number_of, ways_of, within};
 ghost use Rattle.cfg_blocks.specs.Entries.{leads_to, ways_from, Entry};
-ghost use Rattle.cfg_blocks.specs.Private.{marked};
+ghost use Rattle.cfg_blocks.specs.Private.{cut_blocks, marked};
 
 use crate::ends::{ALWAYS, NEVER};
 use crate::leaders::follows;
@@ -170,12 +170,7 @@ impl CutText<'_> {
     // The ways out of a block.
     fn ways_from(&self, block: u32) -> Exits
         requires { block < length self.now.firsts.now }
-        ensures { let b : Blocks = record {
-          firsts = self.now.firsts.now;
-          words = length self.now.word_ends.now;
-          ends = self.now.ends.now;
-        } in
-            ways_from b block ≡ ways_in result.0 result.1 }
+        ensures { ways_from (cut_blocks self.now.firsts.now self.now.ends.now self.now.word_ends.now) block ≡ ways_in result.0 result.1 }
     {
         let words = self.word_ends.len() as u32;
         let last = last_of_block(self.firsts, words, block);
@@ -185,13 +180,8 @@ impl CutText<'_> {
     // Marks the words to which an edge leads.
     fn mark_arrivals(&self, arrivals: &mut [bool])
         requires { length arrivals.old ≡ length self.now.word_ends.now }
-        ensures { let b : Blocks = record {
-          firsts = self.now.firsts.now;
-          words = length self.now.word_ends.now;
-          ends = self.now.ends.now;
-        } in
-            (k : ℕ) → k < length arrivals.old →
-            marked arrivals.new k ≡ (marked arrivals.old k || is_led_from b (length self.now.firsts.now) k) }
+        ensures { (k : ℕ) → k < length arrivals.old →
+            marked arrivals.new k ≡ (marked arrivals.old k || is_led_from (cut_blocks self.now.firsts.now self.now.ends.now self.now.word_ends.now) (length self.now.firsts.now) k) }
     {
         for block in 0..self.firsts.len() as u32 {
             arrive_by(arrivals, self.ways_from(block));
@@ -201,13 +191,8 @@ impl CutText<'_> {
     // To which words an edge leads.
     fn arrivals(&self, alloc: Global) -> Result<Vec<bool>, NoMemory>
         ensures words { IfOk result (λ v. length v.items ≡ length self.now.word_ends.now) }
-        ensures arrivals { let b : Blocks = record {
-          firsts = self.now.firsts.now;
-          words = length self.now.word_ends.now;
-          ends = self.now.ends.now;
-        } in
-            IfOk result (λ v. (k : ℕ) → k < length self.now.word_ends.now →
-            marked v.items k ≡ is_led_from b (length self.now.firsts.now) k) }
+        ensures arrivals { IfOk result (λ v. (k : ℕ) → k < length self.now.word_ends.now →
+            marked v.items k ≡ is_led_from (cut_blocks self.now.firsts.now self.now.ends.now self.now.word_ends.now) (length self.now.firsts.now) k) }
     {
         let mut arrivals = vec![in alloc; false; self.word_ends.len()]?;
         self.mark_arrivals(&mut arrivals);
@@ -218,12 +203,7 @@ impl CutText<'_> {
     fn is_bare(&self, arrivals: &[bool], block: u32) -> bool
         requires arrivals { length arrivals.now ≡ length self.now.word_ends.now }
         requires block { block < length self.now.firsts.now }
-        ensures { let b : Blocks = record {
-          firsts = self.now.firsts.now;
-          words = length self.now.word_ends.now;
-          ends = self.now.ends.now;
-        } in
-            result ≡ is_bare_in b self.now.word_ends.now self.now.given.now arrivals.now block }
+        ensures { result ≡ is_bare_in (cut_blocks self.now.firsts.now self.now.ends.now self.now.word_ends.now) self.now.word_ends.now self.now.given.now arrivals.now block }
     {
         let first = self.firsts[block as usize] as usize;
         block_size(self.firsts, self.word_ends.len() as u32, block) == 1
@@ -235,13 +215,8 @@ impl CutText<'_> {
     // Counts the ways out of all blocks.
     fn enter_all(&self, intos: &mut [Into], arrivals: &[bool])
         requires { length arrivals.now ≡ length self.now.word_ends.now }
-        ensures { let b : Blocks = record {
-          firsts = self.now.firsts.now;
-          words = length self.now.word_ends.now;
-          ends = self.now.ends.now;
-        } in
-            (k : ℕ) → k < length intos.old → into_at intos.new k ≡ added_all (into_at intos.old k)
-            (counted_from b (is_bare_in b self.now.word_ends.now self.now.given.now arrivals.now)
+        ensures { (k : ℕ) → k < length intos.old → into_at intos.new k ≡ added_all (into_at intos.old k)
+            (counted_from (cut_blocks self.now.firsts.now self.now.ends.now self.now.word_ends.now) (is_bare_in (cut_blocks self.now.firsts.now self.now.ends.now self.now.word_ends.now) self.now.word_ends.now self.now.given.now arrivals.now)
             (length self.now.firsts.now) k) }
     {
         for block in 0..self.firsts.len() as u32 {
@@ -254,14 +229,9 @@ impl CutText<'_> {
     fn word_intos(&self, alloc: Global, arrivals: &[bool]) -> Result<Vec<Into>, NoMemory>
         requires { length arrivals.now ≡ length self.now.word_ends.now }
         ensures words { IfOk result (λ v. length v.items ≡ length self.now.word_ends.now) }
-        ensures intos { let b : Blocks = record {
-          firsts = self.now.firsts.now;
-          words = length self.now.word_ends.now;
-          ends = self.now.ends.now;
-        } in
-            IfOk result (λ v. (k : ℕ) → k < length self.now.word_ends.now →
+        ensures intos { IfOk result (λ v. (k : ℕ) → k < length self.now.word_ends.now →
             into_at v.items k ≡ added_all Into.Nothing
-            (counted_from b (is_bare_in b self.now.word_ends.now self.now.given.now arrivals.now)
+            (counted_from (cut_blocks self.now.firsts.now self.now.ends.now self.now.word_ends.now) (is_bare_in (cut_blocks self.now.firsts.now self.now.ends.now self.now.word_ends.now) self.now.word_ends.now self.now.given.now arrivals.now)
             (length self.now.firsts.now) k)) }
     {
         let mut intos = vec![in alloc; Into::Nothing; self.word_ends.len()]?;
@@ -271,13 +241,8 @@ impl CutText<'_> {
 
     /// What leads to each block.
     pub(crate) fn intos(&self, alloc: Global) -> Result<Vec<Into>, NoMemory>
-        ensures { let b : Blocks = record {
-          firsts = self.now.firsts.now;
-          words = length self.now.word_ends.now;
-          ends = self.now.ends.now;
-        } in
-            IfOk result (λ v. v.items
-            ≡ map (into_in b self.now.word_ends.now self.now.given.now) (below (length self.now.firsts.now))) }
+        ensures { IfOk result (λ v. v.items
+            ≡ map (into_in (cut_blocks self.now.firsts.now self.now.ends.now self.now.word_ends.now) self.now.word_ends.now self.now.given.now) (below (length self.now.firsts.now))) }
     {
         let arrivals = self.arrivals(alloc)?;
         let intos = self.word_intos(alloc, &arrivals)?;

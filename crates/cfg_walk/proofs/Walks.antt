@@ -1,5 +1,5 @@
 -- The walk matches its run.
-use Rattle.std.proofs.Common.{◌≡◌, ℕ, zero, suc, Option, Some, None, List, refl, ap, sym, ◌∙◌, subst, arith, length}
+use Rattle.std.proofs.Common.{◌≡◌, ℕ, zero, suc, ◌+◌, ◌-◌, ◌≤◌, Option, Some, None, List, refl, ap, sym, ◌∙◌, subst, arith, length}
 use Rattle.std.proofs.lemmas.Bool.{lt-ltb}
 use Rattle.eel_base.specs.CodeText.{Words, word_at}
 use Rattle.eel_base.specs.Code.{IsText}
@@ -28,6 +28,18 @@ live_before s live = by s.ending refl
     by : (x : Option Ending) → s.ending ≡ x → s.ending ≡ None
     by None e = e
     by (Some ending) e = ap (λ (t : State). t.ending) (sym (stays_ended s ending e)) ∙ live
+
+-- what is live later was live before
+lived : (s : State) (n m : ℕ) → (run s (n + m)).ending ≡ None → (run s n).ending ≡ None
+lived s n zero live = let e : n + 0 ≡ n = omega arith in rw e at live
+lived s n (suc m) live =
+    let e : n + suc m ≡ suc (n + m) = omega arith in
+    lived s n m (live_before (run s (n + m)) (rw e at live))
+
+pub lived_to : (s : State) (n m : ℕ) → n ≤ m → (run s m).ending ≡ None → (run s n).ending ≡ None
+lived_to s n m l live =
+    let e : m ≡ n + (m - n) = omega arith in
+    lived s n (m - n) (rw e at live)
 
 pub steps_match : StepsMatch
 steps_match text given opens node s is are fetches there live m goes after =

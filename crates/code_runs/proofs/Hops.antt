@@ -39,7 +39,7 @@ each-then : (May : ℕ → Type 0) (ws vs : List (ℕ × ℕ)) → AllAt May ws 
 each-then May [] vs h k = k
 each-then May (w ∷ ws) vs h k = (h.0, each-then May ws vs h.1 k)
 
-each-weaker : (May Might : ℕ → Type 0) → ((z : ℕ) → May z → Might z) → (ws : List (ℕ × ℕ)) → AllAt May ws
+pub each-weaker : (May Might : ℕ → Type 0) → ((z : ℕ) → May z → Might z) → (ws : List (ℕ × ℕ)) → AllAt May ws
     → AllAt Might ws
 each-weaker May Might f [] h = tt
 each-weaker May Might f (w ∷ ws) h = (f w.0 h.0, each-weaker May Might f ws h.1)

@@ -31,15 +31,26 @@ same_unwritten : (a v : ℕ) (o : Option Region) → HasNot a o
 same_unwritten a v None h = tt
 same_unwritten a v (Some r) h = ap without_execution (sym (unwritten a v r h))
 
-same_region : (o : Option Region) → IsSameRegion o o
-same_region None = tt
-same_region (Some r) = refl
+region_refl : (o : Option Region) → IsSameRegion o o
+region_refl None = tt
+region_refl (Some r) = refl
 
-region_then : (x y z : Option Region) → IsSameRegion x y → IsSameRegion y z → IsSameRegion x z
-region_then None None z h k = k
-region_then (Some a) (Some b) (Some c) h k = h ∙ k
-region_then (Some a) (Some b) None h k = absurd k
-region_then x y z h k = absurd h
+pub outside_refl : (pages : List Span) (m : Memory) → IsSameOutside pages m m
+outside_refl pages m = record { heap = refl; outside = λ a c some apart. region_refl _ }
+
+region_trans : (x y z : Option Region) → IsSameRegion x y → IsSameRegion y z → IsSameRegion x z
+region_trans None None z h k = k
+region_trans (Some a) (Some b) (Some c) h k = h ∙ k
+region_trans (Some a) (Some b) None h k = k
+region_trans _ _ z h k = absurd h
+
+pub outside_trans : (pages : List Span) (m n o : Memory) → IsSameOutside pages m n → IsSameOutside pages n o
+    → IsSameOutside pages m o
+outside_trans pages m n o h k = record {
+  heap = h.heap ∙ k.heap;
+  outside = λ address count some apart. region_trans _ _ _ (h.outside address count some apart)
+      (k.outside address count some apart);
+}
 
 module _ (pages : List Span) (own : List ℕ) where
   -- ---- words stored
@@ -65,16 +76,11 @@ module _ (pages : List Span) (own : List ℕ) where
 
   all_stored : (ws : List (ℕ × ℕ)) (m : Memory) → IsOurs pages own m → AllAt (IsAmongWords own) ws
       → IsOurs pages own (store_all ws m) × IsSameOutside pages m (store_all ws m)
-  all_stored [] m h among = (h, record { heap = refl; outside = λ b c some apart. same_region _ })
+  all_stored [] m h among = (h, outside_refl pages m)
   all_stored (w ∷ ws) m h among =
       let a = same_stored m w.0 w.1 h among.0 in
-      let rest = all_stored ws (store_word m w.0 w.1) (ours_stored m w.0 w.1 h) among.1 in (
-        rest.0,
-        record {
-          heap = a.heap ∙ rest.1.heap;
-          outside = λ b c some apart. region_then _ _ _ (a.outside b c some apart) (rest.1.outside b c some apart);
-        },
-      )
+      let rest = all_stored ws (store_word m w.0 w.1) (ours_stored m w.0 w.1 h) among.1 in
+      (rest.0, outside_trans pages _ _ _ a rest.1)
 
   -- ---- after an instruction
 

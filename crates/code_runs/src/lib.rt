@@ -7,13 +7,7 @@ ghost use Rattle.code_runs.specs.LongJump.{LongJumpsHop, LongJumpsStore};
 ghost use Rattle.code_runs.specs.Ours.{OursAreStored, OursStay, WordsStay};
 ghost use Rattle.code_runs.specs.Points.{ActsAnywhere};
 ghost use Rattle.code_runs.specs.PointsAlike.{PointsActAlike};
-ghost use Rattle.code_runs.specs.Straight.{StraightLeads};
 ghost use Rattle.code_runs.specs.TwoRegisters.{BlocksWork};
-
-/// A block of words without transfers is carried out one word after the other, silently.
-pub fn straight_leads()
-    ensures { StraightLeads }
-{}
 
 /// What each further word of a block makes of its two registers and of memory. All else stays as it was, and the words
 /// that the block may store are the only ones that change.

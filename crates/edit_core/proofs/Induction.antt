@@ -2,9 +2,8 @@
 use Rattle.std.proofs.Common.{◌≡◌, ◌≢◌, ℕ, zero, suc, ◌+◌, ◌-◌, ◌<◌, ◌≤◌, ◌⊎◌, inl, inr, Option, Some, None, List, ◌++◌, append-nil, refl, ap, sym, ◌∙◌, subst, arith}
 use Rattle.eel_base.specs.CodeText.{word_at}
 use Rattle.notes.specs.Format.{node_at, NoteRange, range_at}
-use Rattle.v8_memory.specs.Regions.{Memory, Region, fetch_of}
+use Rattle.v8_memory.specs.Regions.{fetch_of}
 use Rattle.v8_memory.specs.Spans.{Span, AllApart}
-use Rattle.v8_memory.specs.Code.{IsSameOutside, IsSameRegion}
 use Rattle.v8_step.specs.declared.Ending.{Ending}
 use Rattle.v8_step.specs.State.{State, sum_of}
 use Rattle.v8_step.specs.Step.{step_of, puts_of, on_word, puts_on_word}
@@ -34,6 +33,7 @@ use Rattle.cfg_walk.specs.Walk.{Point, point_of, goes_on_at, gone, gone_in, node
 use Rattle.cfg_walk.proofs.Walks.{walks_match}
 use Rattle.code_runs.proofs.Leads.{run_add, puts_add, split_below}
 use Rattle.code_runs.specs.PointsAlike.{AreAlikeOn, AreAtOnePoint, instr_of}
+use Rattle.code_runs.proofs.Ours.{outside_trans}
 use Rattle.code_runs.proofs.PointsAlike.{points_act_alike}
 use Rattle.image_code.specs.Simulates.{CaseTable, IsAtWord, IsChosen, IsNoLoad, KeepsAddress, Steps, IsFollowedBy, IsOnWay, IsThere, MatchesIn, Setting, StepsOn, at_point, does_at, graph_in, number_in, word_of, edit_in}
 use Rattle.image_code.specs.Store.{cells_in, store_of, updates}
@@ -62,20 +62,6 @@ StaysInside Inside s0 n = (k : ℕ) → k ≤ n → (run s0 k).ending ≡ None �
 same_trans : (item : StateItem) (s t u : State) → IsSameAt item s t → IsSameAt item t u → IsSameAt item s u
 same_trans (Register n) s t u h k = h ∙ k
 same_trans _ s t u h k = h ∙ k
-
-region_trans : (x y z : Option Region) → IsSameRegion x y → IsSameRegion y z → IsSameRegion x z
-region_trans None None z h k = k
-region_trans (Some a) (Some b) (Some c) h k = h ∙ k
-region_trans (Some a) (Some b) None h k = k
-region_trans _ _ z h k = absurd h
-
-pub outside_trans : (pages : List Span) (m n o : Memory) → IsSameOutside pages m n → IsSameOutside pages n o
-    → IsSameOutside pages m o
-outside_trans pages m n o h k = record {
-  heap = h.heap ∙ k.heap;
-  outside = λ address count some apart. region_trans _ _ _ (h.outside address count some apart)
-      (k.outside address count some apart);
-}
 
 world_then : (pages : List Span) (Kept : StateItem → Type 0) (s v t : State) → IsSameWorld pages s v
     → IsFollowedBy pages Kept v t → IsSameWorld pages s t

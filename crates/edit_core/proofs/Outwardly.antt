@@ -26,6 +26,7 @@ use Rattle.two_runs.specs.Code.{IsUnmapped}
 use Rattle.two_runs.specs.TwoRuns.{Answers}
 use Rattle.two_runs.specs.Visits.{if_live, in_pages, page_of, pages_of, own_trail, trail_of, visit_of, visited}
 use Rattle.two_runs.proofs.Unmapped.{granted_is_untouched, unmapped_is_untouched}
+use Rattle.cfg_walk.proofs.Walks.{lived_to}
 use Rattle.v8_process.specs.Arguments.{AreArguments}
 use Rattle.v8_process.specs.Start.{program_name, stack_region, start_memory, start_of}
 use Rattle.v8_process.proofs.Loading.{mapped_apart}
@@ -193,16 +194,6 @@ puts_stay t0 m k d descriptor below over =
     (puts_nothing (run t0 k) d descriptor (ap (λ (t : State). t.ending) (stays t0 m k d least over) ∙ over))
     ∙ append-nil (run_puts t0 k descriptor) ∙ same) k below
 
--- a run that goes on later went on before
-lives_before : (t0 : State) (m k : ℕ) → m ≤ k → (run t0 k).ending ≡ None → (run t0 m).ending ≡ None
-lives_before t0 m k below live = elim (over_or_not (run t0 m).ending) [
-  | inl here ↦ here
-  | inr over ↦ absurd (both over.0 (ap (λ (t : State). t.ending) (stays t0 m k over.0 below over.1) ∙ over.1))
-]
-  where
-    both : (d : Ending) → (run t0 k).ending ≡ Some d → ⊥
-    both d over = absurd (cc)
-
 -- an answer shows what the original shows
 module _ (notes : Notes) (s0 t0 : State) (n m : ℕ) (answers : Answers notes s0 t0 n m) where
   shown_live : (run s0 n).ending ≡ None → LooksAs s0 t0 n m
@@ -253,7 +244,7 @@ module _ (s0 t0 : State) (stands : (n : ℕ) → IsGranted s0 n → (m : ℕ) ×
     exits = λ n status buffers over. stands n (exit_granted s0 n status buffers over);
     endless = λ buffers live. (
       λ m. let there = stands m (live_granted s0 m (buffers m) live) in
-          lives_before t0 m there.0 there.1.later (there.1.ending ∙ live m),
+          lived_to t0 m there.0 there.1.later (there.1.ending ∙ live m),
       λ n. stands n (live_granted s0 n (buffers n) live),
     );
     stands = stands;

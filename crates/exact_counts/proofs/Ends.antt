@@ -4,9 +4,9 @@ use Rattle.std.proofs.lemmas.Bool.{cases_lt}
 use Rattle.v8_step.specs.declared.Ending.{Ending}
 use Rattle.v8_step.specs.State.{State}
 use Rattle.v8_step.specs.Run.{run}
+use Rattle.cfg_walk.proofs.Walks.{lived_to}
 use Rattle.two_runs.specs.TwoRuns.{GoesOn}
 use Rattle.two_runs.specs.Visits.{trail_of}
-use Rattle.jump_slice.proofs.Steps.{lived_to}
 use Rattle.image_code.specs.Store.{Edit}
 use Rattle.edit_core.specs.RunsAlike.{IsAnswered, visits_by}
 use Rattle.edit_core.proofs.Trails.{ending, few_visits, going, longer, none_over, over_or_not, own_live, quiet_more, stays, visit_more}

@@ -1,8 +1,7 @@
 -- No step completes an edge twice.
-use Rattle.std.proofs.Common.{◌≡◌, ℕ, zero, suc, ◌≤◌, Bool, cond, List, [], ◌∷◌, ap, arith}
+use Rattle.std.proofs.Common.{◌≡◌, ℕ, zero, suc, ◌≤◌, Bool, cond, List, [], ◌∷◌, arith}
 use Rattle.std.specs.Prelude.{◌==◌}
 use Rattle.std.proofs.lemmas.Bool.Decides.{nat_tests}
-use Rattle.std.proofs.lemmas.Bool.{ne_eqb}
 use Rattle.v8_step.specs.Run.{run}
 use Rattle.flows.specs.Flows.{times}
 use Rattle.flows.proofs.Walks.{times-append}
@@ -19,9 +18,6 @@ none_once e = omega arith
 
 at_most_one : (b : Bool) → cond b 1 0 ≤ 1
 at_most_one b = grind arith
-
-pub no_other : (e x : ℕ) → (e ≡ x → ⊥) → cond {A = ℕ} (e == x) 1 0 ≡ 0
-no_other e x apart = ap (λ (b : Bool). cond {A = ℕ} b 1 0) (ne_eqb e x apart)
 
 one_once : (x : ℕ) → IsOnce (x ∷ [])
 one_once x e = let one = at_most_one (e == x) in omega (arith, one)

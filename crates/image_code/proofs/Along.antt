@@ -1,6 +1,6 @@
 -- Ways along edges, by their kinds and slots.
 use Rattle.std.proofs.Common.{◌≡◌, ℕ, suc, ◌+◌, ◌<◌, false, List, [], ◌∷◌, ◌++◌, append-nil, append_assoc, get_or, length, length-take, map, take, refl, ap, sym, ◌∙◌, arith}
-use Rattle.std.specs.Prelude.{if◌then◌else◌, Result}
+use Rattle.std.specs.Prelude.{Result}
 use Rattle.std.specs.Result.{IfOk}
 use Rattle.std.proofs.lemmas.List.{take_more}
 use Rattle.eel_base.specs.declared.numbers.NoMemory.{NoMemory}
@@ -10,7 +10,6 @@ use Rattle.v8_decode.specs.Words.{decode_of}
 use Rattle.v8_step.specs.Items.{is_transfer}
 use Rattle.cfg_blocks.specs.declared.EdgeKind.{EdgeKind}
 use Rattle.cfg_blocks.specs.declared.EdgeKind.TheVariants as kinds
-use Rattle.cfg_blocks.specs.Entries.{is_fall}
 use Rattle.cfg_normal.specs.declared.Edge.{Edge}
 use Rattle.cfg_normal.specs.Graph.{Graph}
 use Rattle.cfg_normal.specs.Nodes.{same_kind}
@@ -20,19 +19,12 @@ use Rattle.layout.specs.declared.items.Item.TheVariants as it
 use Rattle.jump_code.specs.Pieces.{found_piece}
 use Rattle.image_code.specs.declared.parts.Next.{Next}
 use Rattle.image_code.specs.Cases.{plain_piece}
-use Rattle.image_code.specs.Made.{goes_along, goes_on, jump_to, slot_copy, snippet_items, way_along, ways_from}
+use Rattle.image_code.specs.Made.{goes_along, goes_on, slot_copy, snippet_items, way_along, ways_from}
 use Rattle.image_code.specs.Private.{items_of}
 
 no_out : (kind : EdgeKind) → (kind ≡ kinds.Out → ⊥) → same_kind kind kinds.Out ≡ false
 no_out kinds.Out n = absurd (n refl)
 no_out _ n = refl
-
--- any edge but a Fall or a Case edge has its way
-pub way_is : (text : Words) (graph : Graph) (table : ℕ) (codes : ℕ → List ℕ) (number : ℕ) (edge : Edge)
-    (items : List Item)
-    → (edge.kind ≡ kinds.Fall → ⊥) → (edge.kind ≡ kinds.Case → ⊥)
-    → (if is_fall edge.kind then jump_to 0 else if same_kind edge.kind kinds.Case then jump_to 0 else items) ≡ items
-way_is text graph table codes number edge items fall case = grind arith
 
 -- What is made is what it should be, where it goes on as the edge does.
 module _ (text : Words) (graph : Graph) (table : ℕ) (edge : Edge) (made : Result (List Item) NoMemory)

@@ -1,12 +1,10 @@
 -- Small things, and what the notes say of states between two visits.
-use Rattle.std.proofs.Common.{◌≡◌, ℕ, zero, suc, ◌+◌, ◌-◌, ◌*◌, ◌<◌, ◌≤◌, Bool, true, Option, Some, None, List, [], ◌∷◌, length, refl, ap, sym, ◌∙◌, arith}
+use Rattle.std.proofs.Common.{◌≡◌, ℕ, ◌+◌, ◌-◌, ◌*◌, ◌<◌, ◌≤◌, Bool, true, Option, Some, None, [], length, ap, sym, ◌∙◌, arith}
 use Rattle.std.specs.Prelude.{if◌then◌else◌, slice_index}
 use Rattle.std.specs.Option.{option_map, option_or}
 use Rattle.std.proofs.lemmas.Bool.{eq-eqb, ne_eqb}
 use Rattle.notes.specs.Format.{NoteRange, range_at, node_at}
-use Rattle.v8_memory.specs.Regions.{Memory, Region}
-use Rattle.v8_memory.specs.Spans.{Span}
-use Rattle.v8_memory.specs.Code.{IsSameOutside, IsSameRegion}
+use Rattle.v8_memory.specs.Regions.{Memory}
 use Rattle.v8_step.specs.declared.Ending.{Ending}
 use Rattle.v8_step.specs.declared.Slot.TheVariants.{NoSlot}
 use Rattle.v8_step.specs.State.{State}
@@ -14,11 +12,12 @@ use Rattle.v8_step.specs.Run.{run}
 use Rattle.v8_step.specs.Items.{StateItem, Register, Codes, YRegister, IsSameAt}
 use Rattle.v8_step.specs.Valid.{IsValid}
 use Rattle.two_runs.specs.Visits.{visit_of, visited}
-use Rattle.cfg_walk.proofs.Walks as walks
+use Rattle.cfg_walk.proofs.Walks.{lived_to}
 use Rattle.cfg_walk.specs.Walk.{Point, gone, point_of, unless_ended}
 use Rattle.cfg_normal.specs.declared.Node.{Node}
-use Rattle.code_runs.specs.Code.{AllAt, Stores}
+use Rattle.code_runs.specs.Code.{Stores}
 use Rattle.code_runs.specs.Leads.{Leads}
+use Rattle.code_runs.proofs.Hops.{each-weaker}
 use Rattle.code_runs.proofs.Stays.{stores_there}
 use Rattle.code_runs.specs.Page.{page_word}
 use Rattle.layout.specs.Laid.{range_in}
@@ -32,28 +31,10 @@ use Rattle.image_code.proofs.CaseShapes.{visits_it}
 
 -- ---- small things
 
-pub live_before : (s : State) (k j : ℕ) → (run s (k + j)).ending ≡ None → (run s j).ending ≡ None
-live_before s zero j e = (let f : j ≡ zero + j = omega arith in ap (λ z. (run s z).ending) f) ∙ e
-live_before s (suc k) j e =
-    live_before s k j (walks.live_before (run s (k + j))
-    ((let f : suc (k + j) ≡ suc k + j = omega arith in ap (λ z. (run s z).ending) f) ∙ e))
-
-each_weaker : (May Might : ℕ → Type 0) → ((z : ℕ) → May z → Might z) → (ws : List (ℕ × ℕ)) → AllAt May ws
-    → AllAt Might ws
-each_weaker May Might f [] h = tt
-each_weaker May Might f (w ∷ ws) h = (f w.0 h.0, each_weaker May Might f ws h.1)
-
 pub stores_weaker : (May Might : ℕ → Type 0) (m n : Memory) → ((z : ℕ) → May z → Might z) → Stores May m n
     → Stores Might m n
 stores_weaker May Might m n f h =
-    record { writes = h.writes; each = each_weaker May Might f h.writes h.each; result = h.result }
-
-region_refl : (o : Option Region) → IsSameRegion o o
-region_refl None = tt
-region_refl (Some r) = refl
-
-pub outside_refl : (pages : List Span) (m : Memory) → IsSameOutside pages m m
-outside_refl pages m = record { heap = refl; outside = λ a c some apart. region_refl _ }
+    record { writes = h.writes; each = each-weaker May Might f h.writes h.each; result = h.result }
 
 pub same_at : (item : StateItem) (s t : State) → s.registers ≡ t.registers → s.codes ≡ t.codes → s.y ≡ t.y
     → IsSameAt item s t
@@ -122,9 +103,8 @@ module _ (site : Site) (h : Placed site) where
       → ((u : State) → u.ending ≡ None → P u → IsOnWay g t u) → (j : ℕ) → 0 < j → j < count
       → IsOnWay g t (run t j)
   quiet_of t after count P way live on j a b =
-      let e : (run t (count - j + j)).ending ≡ None = (let q : count - j + j ≡ count = omega arith in ap
-      (λ z. (run t z).ending) q) ∙ ap (λ (z : State). z.ending) way.steps ∙ live in
-      on (run t j) (live_before t (count - j) j e) (way.during j a b)
+      let before = lived_to t j count (omega arith) (ap (λ (z : State). z.ending) way.steps ∙ live) in
+      on (run t j) before (way.during j a b)
 
   pub can_run : (t : State) → IsValid t → t.ending ≡ None → t.npc ≡ t.pc + 4 → t.slot ≡ NoSlot
       → HasImages g base p f t.memory → CanRun base p.code t

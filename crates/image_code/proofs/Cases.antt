@@ -38,7 +38,7 @@ use Rattle.code_runs.proofs.Stays.{words_stay}
 use Rattle.image_code.proofs.Ended.{stops_act}
 use Rattle.image_code.proofs.Sparing.{uncounted}
 use Rattle.image_code.proofs.Memories.{fetch_is, images_stay, same_stored}
-use Rattle.image_code.proofs.Between.{outside_refl}
+use Rattle.code_runs.proofs.Ours.{outside_refl}
 use Rattle.image_code.proofs.Arrives.{Tail, IsFit, tail, weaker_tail}
 use Rattle.image_code.proofs.Dead.{LastDead, gone_last}
 use Rattle.image_code.proofs.Marked.{AtWords, at_words}

@@ -20,6 +20,7 @@ use Rattle.two_runs.specs.Visits.{pages_of}
 use Rattle.cfg_blocks.specs.declared.EdgeKind.TheVariants as kinds
 use Rattle.cfg_normal.specs.declared.Node.{Node}
 use Rattle.cfg_walk.specs.Walk.{Point, instr_at, node_after, point_of, way_of}
+use Rattle.cfg_walk.proofs.Walks.{lived_to}
 use Rattle.cfg_normal.specs.Nodes.{same_kind}
 use Rattle.code_runs.specs.Counted.{count_stores}
 use Rattle.code_runs.specs.Hops.{hopped}
@@ -40,7 +41,7 @@ use Rattle.image_code.specs.Store.{cells_in, updates}
 use Rattle.image_code.proofs.Points.{EntersNext, Forms, HereAt, Placed, Site, entered_at}
 use Rattle.image_code.specs.Images.{Frame, HasImages, HasNoCases, IsFramed}
 use Rattle.image_code.proofs.Arrives.{Arrives, IsFit, bare_on}
-use Rattle.image_code.proofs.Between.{can_run, ended_none, live_before, outside_refl, quiet_of, stores_weaker}
+use Rattle.image_code.proofs.Between.{can_run, ended_none, quiet_of, stores_weaker}
 use Rattle.image_code.proofs.Cells.{cells_above, page_above, updates_same}
 use Rattle.image_code.proofs.Dead.{LastDead, alike_hopped, alike_itself, followed_alike}
 use Rattle.image_code.proofs.Memories.{images_stored, same_stored}
@@ -227,8 +228,7 @@ module _ (site : Site) (h : Placed site) (node : Node) (x : Point) (t : State) (
             steps = a.path.steps;
             some = omega arith;
             few = omega (arith, a.few);
-            quiet = λ j some less. a.path.during j some less (live_before t (last - j) j
-                (ap (λ z. (run t z).ending) (let e : last - j + j ≡ last = omega arith in e) ∙ w.before));
+            quiet = λ j some less. a.path.during j some less (lived_to t j last (omega arith) w.before);
           };
           puts = a.puts;
           followed = w.followed;

@@ -12,9 +12,7 @@ use Rattle.v8_decode.specs.Ranges.{op2_in_range, operands_in_range}
 use Rattle.v8_decode.specs.Words.{decode_of}
 use Rattle.v8_encode.specs.Code.{op2_fits}
 use Rattle.v8_alu.specs.Numbers.{wrapped}
-use Rattle.v8_memory.specs.Regions.{Memory, Region, code_of}
-use Rattle.v8_memory.specs.Code.{IsSameOutside, IsSameRegion}
-use Rattle.v8_memory.specs.Spans.{Span}
+use Rattle.v8_memory.specs.Regions.{Memory, code_of}
 use Rattle.v8_step.specs.declared.Ending.{Ending}
 use Rattle.v8_step.specs.declared.Slot.{Slot}
 use Rattle.v8_step.specs.declared.Slot.TheVariants.{NoSlot}
@@ -33,6 +31,7 @@ use Rattle.cfg_walk.specs.Walk.{Point, edge_from, ends_block, instr_at, left_by,
 use Rattle.cfg_walk.specs.Matches.{Matches, MatchesBy}
 use Rattle.cfg_blocks.specs.declared.EdgeKind.TheVariants as kinds
 use Rattle.cfg_walk.proofs.Addresses.{next_word}
+use Rattle.cfg_walk.proofs.Walks.{lived_to}
 use Rattle.code_runs.specs.Counted.{count_stores}
 use Rattle.code_runs.specs.Page.{page_word}
 use Rattle.code_runs.specs.Ours.{IsAmongWords}
@@ -42,6 +41,7 @@ use Rattle.snippet_code.specs.Cells.{words_at}
 use Rattle.code_runs.specs.Straight.{StandIn}
 use Rattle.code_runs.proofs.Counted.{count_add}
 use Rattle.code_runs.proofs.Leads.{run_add, puts_add}
+use Rattle.code_runs.proofs.Ours.{outside_trans}
 use Rattle.code_runs.proofs.Stays.{stores_there}
 use Rattle.jump_code.specs.FreeRegister.{second_register}
 use Rattle.jump_code.specs.Links.{past}
@@ -58,26 +58,10 @@ use Rattle.image_code.proofs.Points.{Entered, EntersNext, Forms, HereAt, Placed,
 use Rattle.image_code.specs.Keeping.{AreCaseTables}
 use Rattle.image_code.proofs.LoadShapes.{IsEntered, IsKeeping, at_once, keeping}
 use Rattle.image_code.proofs.Arrives.{IsFit, Rest, Stood, bare_on, first_kept, rest_whole, stood, stood_low}
-use Rattle.image_code.proofs.Between.{can_run, live_before}
+use Rattle.image_code.proofs.Between.{can_run}
 use Rattle.image_code.proofs.Memories.{images_stored, same_stored}
 use Rattle.image_code.proofs.Sparing.{instr_is, spill_first}
 use Rattle.image_code.proofs.Visited.{left_gone, word_is}
-
--- ---- memory outside the pages, twice the same
-
-region_trans : (x y z : Option Region) → IsSameRegion x y → IsSameRegion y z → IsSameRegion x z
-region_trans None None z h k = k
-region_trans (Some a) (Some b) (Some c) h k = h ∙ k
-region_trans (Some a) (Some b) None h k = k
-region_trans _ _ z h k = absurd h
-
-outside_trans : (pages : List Span) (m n o : Memory) → IsSameOutside pages m n → IsSameOutside pages n o
-    → IsSameOutside pages m o
-outside_trans pages m n o h k = record {
-  heap = h.heap ∙ k.heap;
-  outside = λ address count some apart. region_trans _ _ _ (h.outside address count some apart)
-      (k.outside address count some apart);
-}
 
 -- the operands of a state that is elsewhere
 sum_past : (s : State) (count : ℕ) (m : Memory) (rs1 : ℕ) (op2 : Op2) → sum_of (past s count m s) rs1 op2 ≡ sum_of s rs1 op2
@@ -270,9 +254,7 @@ module _ (site : Site) (h : Placed site) (are : AreCaseTables site.g) where
 
         running : (run e.on.after j).ending ≡ None
         running =
-            live_before e.on.after (3 - j) j
-            (ap (λ z. (run e.on.after z).ending) (let q : 3 - j + j ≡ 3 = omega arith in q)
-            ∙ ap (λ (z : State). z.ending) keeps.path.steps ∙ here.live)
+            lived_to e.on.after j 3 (omega arith) (ap (λ (z : State). z.ending) keeps.path.steps ∙ here.live)
 
     keeps_on : StepsOn g (HereAt site) (Forms site × IsNoLoad g v) 64 edges node x t v
     keeps_on =

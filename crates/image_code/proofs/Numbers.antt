@@ -2,16 +2,13 @@
 use Rattle.std.proofs.Common.{◌≡◌, length, refl, ap, sym, subst}
 use Rattle.eel_base.specs.CodeText.{Words}
 use Rattle.cfg_blocks.specs.Blocks.{blocks_of}
-use Rattle.cfg_normal.specs.Graph.{Graph, edges_in, graph_of}
+use Rattle.cfg_normal.specs.Graph.{Graph, graph_of}
 use Rattle.image_code.specs.Graphs.{IsGraphOf}
 
 module _ (text : Words) (graph : Graph) (h : IsGraphOf text graph) where
   pub words_are : graph.blocks.words ≡ length text.words
   unfolding blocks_of
   words_are = ap (λ (g : Graph). g.blocks.words) h.is
-
-  pub edges_are : graph.edges ≡ edges_in graph.blocks graph.opens
-  edges_are = subst (λ (g : Graph). g.edges ≡ edges_in g.blocks g.opens) (sym h.is) refl
 
   pub graph_is : graph ≡ graph_of graph.blocks graph.opens
   graph_is = subst (λ (g : Graph). g ≡ graph_of g.blocks g.opens) (sym h.is) refl

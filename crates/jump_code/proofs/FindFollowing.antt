@@ -1,5 +1,5 @@
 -- The image of a JMPL that looks its target up follows the original's step.
-use Rattle.std.proofs.Common.{◌≡◌, ◌≢◌, ℕ, ◌+◌, ◌%◌, inl, inr, Some, None, length, refl, ap, sym, ◌∙◌, subst, arith}
+use Rattle.std.proofs.Common.{◌≡◌, ℕ, ◌+◌, ◌%◌, inl, inr, Some, None, length, refl, ap, sym, ◌∙◌, subst, arith}
 use Rattle.std.specs.Prelude.{pos}
 use Rattle.v8_decode.specs.declared.Op2.{Op2}
 use Rattle.v8_decode.specs.declared.Op2.TheVariants.{Imm}
@@ -8,8 +8,7 @@ use Rattle.v8_alu.specs.Numbers.{wrapped}
 use Rattle.v8_step.specs.declared.Ending.{Ending}
 use Rattle.v8_step.specs.declared.Slot.TheVariants.{NoSlot}
 use Rattle.v8_step.specs.State.{State, register_of, with_register, sum_of}
-use Rattle.v8_step.specs.Traps.{mem_address_not_aligned}
-use Rattle.v8_step.specs.Transfers.{delayed, trapped}
+use Rattle.v8_step.specs.Transfers.{delayed}
 use Rattle.code_runs.specs.Leads.{Leads}
 use Rattle.code_runs.specs.Page.{page_word}
 use Rattle.code_runs.specs.Code.{of_page, store_word, Stores}
@@ -40,10 +39,6 @@ module _ (x y rd rs1 : ℕ) (op2 : Op2) (address : ℕ) (t : TableAt) (s : State
   pub goes : sum_of s rs1 op2 % 4 ≡ 0 → jumped address rd rs1 op2 s ≡ gone_on
   goes e = jump_goes address rd rs1 op2 s e
 
-  pub stops : sum_of s rs1 op2 % 4 ≢ 0 → jumped address rd rs1 op2 s ≡ trapped
-      (moved address (wrapped (address + 4)) NoSlot s) mem_address_not_aligned
-  stops ne = jump_stops address rd rs1 op2 s ne
-
   abbrev count : ℕ
   count = length (find_image x y rd rs1 op2 t.base address)
 
@@ -72,7 +67,7 @@ module _ (x y rd rs1 : ℕ) (op2 : Op2) (address : ℕ) (t : TableAt) (s : State
         absurd (cc)
     | inr ne ↦
         let k = (finds_act x y rd rs1 op2 address t s h).1 ne in
-        record { traps = k; same = k.ending ∙ sym (ap (λ (z : State). z.ending) (stops ne)) ∙ is }
+        record { traps = k; same = k.ending ∙ sym (ap (λ (z : State). z.ending) (jump_stops address rd rs1 op2 s ne)) ∙ is }
   ]
 
 pub finds_simulate : FindsSimulate

@@ -6,6 +6,7 @@ use Rattle.v8_alu.specs.Conditions.{holds_of}
 use Rattle.v8_alu.specs.Numbers.{wrapped}
 use Rattle.v8_step.specs.State.{State, register_of, sum_of}
 use Rattle.v8_step.specs.Run.{run}
+use Rattle.cfg_walk.proofs.Walks.{lived_to}
 use Rattle.cfg_blocks.specs.declared.BlockEnd.TheVariants as ends
 use Rattle.cfg_blocks.specs.declared.EdgeKind.{EdgeKind}
 use Rattle.cfg_blocks.specs.declared.Into.TheVariants as into
@@ -22,7 +23,6 @@ use Rattle.jump_slice.proofs.Parts.{IsJump, entry_of}
 use Rattle.eel_base.specs.CodeText.{Words}
 use Rattle.jump_slice.proofs.Known.{IsRun}
 use Rattle.jump_slice.proofs.Walking.{run_of}
-use Rattle.jump_slice.proofs.Steps.{lived_to}
 use Rattle.jump_slice.proofs.Branching.{run_add}
 use Rattle.jump_slice.proofs.Coming.{Ready}
 use Rattle.jump_slice.proofs.Whole.{place_is, ready, up_to, whole}

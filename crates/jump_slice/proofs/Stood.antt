@@ -25,7 +25,7 @@ use Rattle.cfg_walk.specs.Matches.{MatchesBy}
 use Rattle.cfg_walk.proofs.Edges.{block}
 use Rattle.cfg_walk.proofs.Holding.{ends_within, is_held}
 use Rattle.cfg_walk.proofs.Leaving.{ends_home, node_is, straight_left}
-use Rattle.cfg_walk.proofs.Walks.{live_before}
+use Rattle.cfg_walk.proofs.Walks.{live_before, lived_to}
 use Rattle.jump_slice.specs.Cases.{HasPassed, IsOpen, approach_to, steps_to}
 use Rattle.jump_slice.specs.Runs.{to_jump}
 use Rattle.jump_slice.proofs.About.{About, about}
@@ -34,7 +34,6 @@ use Rattle.jump_slice.proofs.Coming.{IsAt, Ready}
 use Rattle.jump_slice.proofs.Blocks.{no_transfer}
 use Rattle.jump_slice.proofs.Branching.{run_add}
 use Rattle.jump_slice.proofs.Known.{IsRun, Tells, b, graph, parts}
-use Rattle.jump_slice.proofs.Steps.{lived_to}
 use Rattle.jump_slice.proofs.Walking.{tells}
 use Rattle.jump_slice.proofs.Whole.{up_to}
 use Rattle.jump_slice.proofs.Numbered.{goes_way, ready_at}

@@ -33,7 +33,7 @@ use Rattle.cfg_walk.specs.Walk.{point_of, gone, gone_in, end_of_walk, edge_along
 use Rattle.cfg_walk.specs.Matches.{AreOpen, JumpsGoByCase, FetchesOnly, BeginsAt, Matches, MatchesBy, IsOnItsWay, IsCarried}
 use Rattle.cfg_blocks.proofs.Targets.{word_at-some}
 use Rattle.cfg_walk.proofs.Cut.{cut}
-use Rattle.cfg_walk.proofs.Walks.{live_before, walks_match}
+use Rattle.cfg_walk.proofs.Walks.{live_before, lived_to, walks_match}
 use Rattle.liveness.specs.Live.{Point, At, Along, edge_at, reads_at, writes_at, slot_reads, slot_writes, IsLive, IsLiveOn}
 use Rattle.live_walk.specs.Law.{NeededIsLive, NamedIsLive}
 use Rattle.v8_step.proofs.WindowStays.{window_stays}
@@ -143,13 +143,6 @@ module _ (text : Words) (given : List ℕ) (opens : List Open) (entry : ℕ) (s0
       by Taken e m = on_way Taken e _ m (λ d h. (d, h, refl))
       by Untaken e m = on_way Untaken e _ m (λ d h. (d, h, refl))
 
-  -- the live states before a live one
-  pub live_below : (k d : ℕ) → (at (k + d)).ending ≡ None → (at k).ending ≡ None
-  live_below k zero h = let e : k + 0 ≡ k = omega arith in ap (λ j. (at j).ending) (sym e) ∙ h
-  live_below k (suc d) h =
-      let e : k + suc d ≡ suc (k + d) = omega arith in
-      live_below k d (live_before (at (k + d)) (ap (λ j. (at j).ending) (sym e) ∙ h))
-
   -- ---- one step back
 
   abbrev LivesAt : ℕ → Part → Type 0
@@ -214,7 +207,7 @@ module _ (text : Words) (given : List ℕ) (opens : List Open) (entry : ℕ) (s0
   back (suc d) k p m j e item reads un is_item =
       let l : (at (k + suc d)).ending ≡ None = ap (λ i. (at i).ending) e ∙ (reads_here (at j) item reads).0 in
       let f : k + suc d ≡ suc k + d = omega arith in
-      back_one k p m (live_below k (suc d) l) (live_below (suc k) d (ap (λ i. (at i).ending) (sym f) ∙ l))
+      back_one k p m (lived_to s0 k (k + suc d) (omega arith) l) (lived_to s0 (suc k) (k + suc d) (omega arith) l)
       (rw is_item at (un k (omega arith) (omega arith)))
       (λ same. back d (suc k) p m j (sym f ∙ e) item reads (λ i a b. un i (omega arith) b)
       (is_item ∙ ap (λ w. item_of w p) (sym same)))
@@ -264,7 +257,7 @@ module _ (text : Words) (given : List ℕ) (opens : List Open) (entry : ℕ) (s0
   back_named (suc d) k p m j f q e c mq h item is_named un is_item =
       let l : (at (k + suc d)).ending ≡ None = ap (λ i. (at i).ending) e ∙ live_before (at j) (goes_live j f c) in
       let g : k + suc d ≡ suc k + d = omega arith in
-      back_one k p m (live_below k (suc d) l) (live_below (suc k) d (ap (λ i. (at i).ending) (sym g) ∙ l))
+      back_one k p m (lived_to s0 k (k + suc d) (omega arith) l) (lived_to s0 (suc k) (k + suc d) (omega arith) l)
       (rw is_item at (un k (omega arith) (omega arith)))
       (λ same. back_named d (suc k) p m j f q (sym g ∙ e) c mq h item is_named (λ i a b. un i (omega arith) b)
       (is_item ∙ ap (λ w. item_of w p) (sym same)))

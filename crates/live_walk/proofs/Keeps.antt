@@ -1,5 +1,5 @@
 -- What a run still needs, or a later snippet names, is kept from step to step.
-use Rattle.std.proofs.Common.{◌≡◌, ℕ, suc, ◌-◌, ◌≤◌, ◌⊎◌, inl, inr, true, List, [], ◌∷◌, Option, Some, None, refl, ap, sym, ◌∙◌, arith}
+use Rattle.std.proofs.Common.{◌≡◌, ℕ, suc, ◌≤◌, ◌⊎◌, inl, inr, true, List, [], ◌∷◌, Option, Some, None, refl, ap, sym, ◌∙◌, arith}
 use Rattle.std.specs.List.{Contains}
 use Rattle.std.proofs.lemmas.Bool.{cases_eq}
 use Rattle.eel_base.specs.CodeText.{Words}
@@ -21,9 +21,9 @@ use Rattle.cfg_normal.specs.Graph.{Graph, graph_of}
 use Rattle.cfg_walk.specs.Walk.{gone_in}
 use Rattle.cfg_walk.specs.Matches.{AreOpen, FetchesOnly, BeginsAt, JumpsGoByCase}
 use Rattle.cfg_normal.specs.Opens.{Open}
-use Rattle.cfg_walk.proofs.Walks.{live_before}
+use Rattle.cfg_walk.proofs.Walks.{live_before, lived_to}
 use Rattle.live_walk.specs.Keeps.{IsKeptAt, IsKeptBehind, WhatLivesIsKept, instr_after}
-use Rattle.live_walk.proofs.Back.{goes_live, live_below, named_is_live, needed_is_live, reads_here}
+use Rattle.live_walk.proofs.Back.{goes_live, named_is_live, needed_is_live, reads_here}
 
 -- ---- whether a step writes an item
 
@@ -101,16 +101,11 @@ module _ (text : Words) (given : List ℕ) (opens : List Open) (entry : ℕ) (s0
       })
 
   -- where something is still needed, or named later, the run goes on
-  live_up_to : (n m : ℕ) → n ≤ m → (at m).ending ≡ None → (at n).ending ≡ None
-  live_up_to n m low h =
-      live_below text given opens entry s0 named is fetches begins are cases n (m - n)
-      (ap (λ (k : ℕ). (at k).ending) (omega arith) ∙ h)
-
   kept_lives : (n : ℕ) (item : StateItem) → Kept n item → (at n).ending ≡ None
   kept_lives n item (inl needed) =
-      live_up_to n needed.reader needed.later (reads_here (at needed.reader) item needed.reads).0
+      lived_to s0 n needed.reader needed.later (reads_here (at needed.reader) item needed.reads).0
   kept_lives n item (inr later) =
-      live_up_to n later.step later.later (live_before (at later.step)
+      lived_to s0 n later.step later.later (live_before (at later.step)
       (goes_live text given opens entry s0 named is fetches begins are cases later.step later.edge later.completed))
 
   kept_before : (n : ℕ) (item : StateItem) → Kept (suc n) item → ¬ Writes (at n) item → Kept n item

@@ -1,6 +1,6 @@
 -- One loop more, and what the sums of beginnings and ends say.
 use Rattle.std.proofs.Common.{◌≡◌, ℕ, zero, suc, ◌+◌, ◌-◌, ◌<◌, ◌≤◌, ◌⊎◌, inl, inr, Bool, true, false, ◌&&◌, cond, List, [], ◌∷◌, ◌++◌, length, map, set, slice_index, add-one, refl, ap, ◌∙◌, arith}
-use Rattle.std.specs.Prelude.{Some, None, nat_le}
+use Rattle.std.specs.Prelude.{Some, nat_le}
 use Rattle.std.specs.List.{All}
 use Rattle.std.proofs.lemmas.Bool.{cases_eq, cases_lt}
 use Rattle.std.proofs.lemmas.List.{get_or-set_other, get_or-set_same, length-map, length-set, map-append}
@@ -60,12 +60,6 @@ module _ (b : Blocks) (k : ℕ) (begins ends : List ℕ) (h : AreBounds b k begi
         omega (arith, h.about word, now);
     begun = h.begun;
   }
-
-  between_no : (t word : ℕ) → last < t → (nat_le t word && nat_le word last) ≡ false
-  between_no t word l = grind (arith, nat_tests)
-
-  pub forward : (t : WordNo) → branch_target (end_of b k) ≡ Some t → last < t.0 → AreBounds b (suc k) begins ends
-  forward t e l = none (λ word. ap (is_between last word) e ∙ between_no t.0 word l)
 
   -- ---- a block with a loop
 

@@ -1,5 +1,5 @@
 //! The memory of a running program.
-ghost use Rattle.std.specs.Prelude.{ℕ, List, ◌≡◌, ◌<◌, ◌+◌, ◌*◌, ◌%◌, get_or, ◌^◌, ◌&&◌, take, drop, length, map, ◌++◌, MatchOption, MatchResult, IfOk, IsTrue, true, vec_len};
+ghost use Rattle.std.specs.Prelude.{ℕ, List, ◌≡◌, ◌<◌, ◌+◌, ◌*◌, ◌/◌, ◌%◌, get_or, min, ◌^◌, ◌&&◌, take, drop, length, map, ◌++◌, MatchOption, MatchResult, IfOk, IsTrue, true, vec_len};
 ghost use Rattle.std.specs.Int.{w8, w16, w32, from_be_bytes, to_be_bytes};
 ghost use Rattle.std.specs.List.{All, filter, find};
 ghost use Rattle.std.specs.Option.{option_map};
@@ -584,13 +584,25 @@ fn hint_at(hints: &mut [u8], region: &Region, index: u8) {
 }
 
 /// Where the first region begins whose words may be executed, and how many of them are to have records.
-fn first_code(regions: &[Region]) -> (u32, u32) {
+fn first_code(regions: &[Region]) -> (u32, u32)
+    ensures { MatchOption (find is_code regions.now) (result ≡ (0, 0)) (λ region. result ≡ (region.start, min (region.size / 4) (2 ^ 25))) }
+{
+    match code_region(regions) {
+        Some(region) => (region.start(), (region.size() / 4).min(MOST_KEPT)),
+        None => (0, 0),
+    }
+}
+
+/// The first region whose words may be executed.
+fn code_region(regions: &[Region]) -> Option<&Region>
+    ensures { MatchOption result (find is_code regions.now ≡ None) (λ region. find is_code regions.now ≡ Some region.now) }
+{
     for region in regions {
         if region.is_code() {
-            return (region.start(), (region.size() / 4).min(MOST_KEPT));
+            return Some(region);
         }
     }
-    (0, 0)
+    None
 }
 
 /// Records of so many words that say nothing yet, and one more, so that no run goes on in order beyond them.

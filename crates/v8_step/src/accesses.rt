@@ -1,13 +1,9 @@
 //! Loads, stores, LDSTUB and SWAP.
 ghost use Rattle.std.specs.Prelude.{◌≡◌, ◌+◌, ◌%◌, ℕ, suc, [], ◌∷◌, true, false};
-ghost use Rattle.v8_alu.specs.Numbers.{wrapped};
-ghost use Rattle.v8_step.specs.Ahead.{placed};
 ghost use Rattle.std.specs.Int.{w8, w32, to_be_bytes};
 ghost use Rattle.v8_memory.specs.Calls.{Loads, load_of, store_of};
 ghost use Rattle.v8_step.specs.Accesses.{load_size, extended, load_step, store_step, ldstub_step, swap_step};
 ghost use Rattle.v8_step.specs.Private.{Exchanges, trap_of, value_of};
-ghost use Rattle.v8_step.specs.declared.Slot.TheVariants.{NoSlot};
-ghost use Rattle.v8_step.specs.declared.Slot.{Slot};
 ghost use Rattle.v8_step.specs.Transfers.{trapped};
 
 use crate::machine::{Machine, register};
@@ -46,72 +42,9 @@ impl Machine {
         }
     }
 
-    /// A load into one register, but for pc and npc. It tells whether it is made; else nothing changes.
-    #[inline(always)]
-    #[tactic(auto, unfolding(crate::specs::Accesses::load_step))]
-    pub(crate) fn load_in_order(&mut self, kind: LoadKind, rd: Reg, address: u32) -> bool
-        requires single { kind ≡ LoadKind.LDD → ⊥ }
-        ensures goes { result ≡ true → (pc npc : ℕ) (slot : Slot) → load_step (placed self.old pc npc slot) kind rd address ≡ placed self.new npc (wrapped (npc + 4)) NoSlot }
-        ensures stays { result ≡ false → self.new ≡ self.old }
-        ensures going { self.new.ending ≡ self.old.ending }
-    {
-        match self.loaded(kind, Addr(address)) {
-            Ok(value) => {
-                self.set(rd, value);
-                true
-            }
-            Err(_) => false,
-        }
-    }
-
-    /// LDD, but for pc and npc. It tells whether it is made; else nothing changes.
-    #[inline(always)]
-    #[tactic(auto, unfolding(crate::specs::Accesses::load_step))]
-    pub(crate) fn load_pair_in_order(&mut self, rd: Reg, address: u32) -> bool
-        requires pair { rd % 2 ≡ 0 }
-        ensures goes { result ≡ true → (pc npc : ℕ) (slot : Slot) → load_step (placed self.old pc npc slot) LoadKind.LDD rd address ≡ placed self.new npc (wrapped (npc + 4)) NoSlot }
-        ensures stays { result ≡ false → self.new ≡ self.old }
-        ensures going { self.new.ending ≡ self.old.ending }
-    {
-        match self.memory.load64(Addr(address)) {
-            Ok((first, second)) => {
-                self.set(rd, first);
-                self.set(next_register(rd), second);
-                true
-            }
-            Err(_) => false,
-        }
-    }
-
-    /// A store, but for pc and npc. It tells whether it is made; else nothing changes.
-    #[inline(always)]
-    #[tactic(auto, unfolding(crate::specs::Accesses::store_step))]
-    pub(crate) fn store_in_order(&mut self, kind: StoreKind, rd: Reg, address: u32) -> bool
-        requires pair { kind ≡ StoreKind.STD → rd % 2 ≡ 0 }
-        ensures goes { result ≡ true → (pc npc : ℕ) (slot : Slot) → store_step (placed self.old pc npc slot) kind rd address ≡ placed self.new npc (wrapped (npc + 4)) NoSlot }
-        ensures stays { result ≡ false → self.new ≡ self.old }
-        ensures going { self.new.ending ≡ self.old.ending }
-    {
-        let value = self.reg(rd);
-        let at = Addr(address);
-        let stored = match kind {
-            StoreKind::ST => self.memory.store32(at, value),
-            StoreKind::STB => self.memory.store8(at, (value % 0x100) as u8),
-            StoreKind::STH => self.memory.store16(at, (value % 0x1_0000) as u16),
-            StoreKind::STD => {
-                let second = self.reg(next_register(rd));
-                self.memory.store64(at, (value, second))
-            }
-        };
-        match stored {
-            Ok(()) => { true }
-            Err(_) => false,
-        }
-    }
-
     /// What a load into one register gives it.
     #[inline(always)]
-    fn loaded(&self, kind: LoadKind, address: Addr) -> Result<u32, MemFault>
+    pub(crate) fn loaded(&self, kind: LoadKind, address: Addr) -> Result<u32, MemFault>
         requires single { kind ≡ LoadKind.LDD → ⊥ }
         ensures { Loads (value_of kind) (load_of self.now.memory (load_size kind) address.0) result }
     {
@@ -196,24 +129,6 @@ impl Machine {
         }
     }
 
-    /// SWAP, but for pc and npc. It tells whether it is made; else nothing changes.
-    #[inline]
-    #[tactic(auto, unfolding(crate::specs::Accesses::swap_step))]
-    pub(crate) fn swap_in_order(&mut self, rd: Reg, address: u32) -> bool
-        ensures goes { result ≡ true → (pc npc : ℕ) (slot : Slot) → swap_step (placed self.old pc npc slot) rd address ≡ placed self.new npc (wrapped (npc + 4)) NoSlot }
-        ensures stays { result ≡ false → self.new ≡ self.old }
-        ensures going { self.new.ending ≡ self.old.ending }
-    {
-        let value = self.reg(rd);
-        match self.exchange_word(Addr(address), value) {
-            Ok(old) => {
-                self.set(rd, old);
-                true
-            }
-            Err(_) => false,
-        }
-    }
-
     /// Ends with the trap of a refused access.
     #[inline(never)]
     fn refuse_access(&mut self, fault: MemFault)
@@ -238,7 +153,7 @@ impl Machine {
     /// The word at an address, where `value` is now; or nothing changes.
     #[inline]
     #[tactic(auto, using(crate::proofs::Exchanged::exchanged))]
-    fn exchange_word(&mut self, address: Addr, value: u32) -> Result<u32, MemFault>
+    pub(crate) fn exchange_word(&mut self, address: Addr, value: u32) -> Result<u32, MemFault>
         ensures { Exchanges w32 (load_of self.old.memory 4 address.0) (store_of self.old.memory address.0 (to_be_bytes w32 value)) self.old self.new result }
     {
         self.memory.exchange32(address, value)
@@ -271,7 +186,7 @@ fn extended_halfword(halfword: u16) -> u32
 
 /// The second register of a pair.
 #[inline]
-fn next_register(rd: Reg) -> Reg
+pub(crate) fn next_register(rd: Reg) -> Reg
     requires even { rd % 2 ≡ 0 }
     ensures { result ≡ suc rd }
 {

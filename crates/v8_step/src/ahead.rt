@@ -9,12 +9,14 @@ ghost use Rattle.v8_memory.specs.Kept.{AreKept};
 ghost use Rattle.v8_memory.specs.Ops.{IsSum, alu_in, instr_of, operand_in};
 ghost use Rattle.v8_memory.specs.Private.{is_record};
 ghost use Rattle.v8_memory.specs.Regions.{code_of};
-ghost use Rattle.v8_step.specs.Ahead.{GoesOn, HasTurned, IsNear, IsWithin, address_at, at_places, slot_by, slot_of};
+ghost use Rattle.v8_step.specs.Ahead.{HasTurned, IsNear, IsWithin, address_at, at_places, slot_by, slot_of};
 ghost use Rattle.v8_step.specs.Turns.{IsQuietRun};
 
 use crate::Slot;
+use crate::accesses::next_register;
 use crate::machine::{Machine, register};
 use crate::turns::{condition, pair};
+use eel_base::Addr;
 use v8_alu::{AluTrap, Codes, alu, difference_of, logic_value};
 use v8_decode::{AluOp, Cond, LoadKind, Reg, StoreKind};
 use v8_memory::{Op, OpCode, op_in};
@@ -71,7 +73,8 @@ impl Here {
     /// Whether there is a record at a place, and enough steps are left to go there, and on in order.
     #[inline(always)]
     fn reaches(&self, place: usize) -> bool
-        ensures { result ≡ true → IsNear place self.now }
+        ensures near { result ≡ true → IsNear place self.now }
+        ensures far { result ≡ false → IsNear place self.now → ⊥ }
     {
         place < self.len && (self.next as u64) < self.spare
     }
@@ -199,7 +202,7 @@ impl Machine {
     }
 
     #[inline(always)]
-    #[tactic(auto, using(crate::proofs::InOrder::goes_on))]
+    #[tactic(auto, using(crate::proofs::InOrder::goes_on), unfolding(crate::specs::Step::act, crate::specs::Step::alu_step))]
     fn alu_turn(&mut self, kind: AluOp, op: &Op, here: Here) -> Turn
         requires form { IsTrue (has_form kind true) }
         requires sum { IsSum op.now.rs2 op.now.imm }
@@ -207,31 +210,40 @@ impl Machine {
         ensures within { IsWithin result here }
         ensures going { self.new.ending ≡ self.old.ending }
     {
-        if self.alu_in_order(kind, op) {
-            Turn::On
-        } else {
-            Turn::Stop
+        let first = self.reg(op.rs1);
+        let second = self.op_operand(op);
+        match alu(kind, true, first, second, self.flags.codes(), self.y) {
+            Ok(outcome) => {
+                self.flags.set(outcome.codes);
+                self.y = outcome.y;
+                self.set(op.rd, outcome.value);
+                Turn::On
+            }
+            Err(_) => Turn::Stop,
         }
     }
 
     /// A logical operation that sets the codes, which are worked out where they are read.
     #[inline(always)]
-    #[tactic(auto, using(crate::proofs::InOrder::goes_on))]
+    #[tactic(auto, using(crate::proofs::InOrder::goes_on), unfolding(crate::specs::Step::act, crate::specs::Step::alu_step))]
     fn logic_turn(&mut self, kind: AluOp, op: &Op, here: Here) -> Turn
         requires sum { IsSum op.now.rs2 op.now.imm }
         ensures state { HasTurned result here self.old (alu_in kind true op.now) self.new }
         ensures within { IsWithin result here }
         ensures going { self.new.ending ≡ self.old.ending }
     {
-        if self.logic_in_order(kind, op) {
-            Turn::On
-        } else {
-            Turn::Stop
+        match logic_value(kind, self.reg(op.rs1), self.op_operand(op)) {
+            Some(value) => {
+                self.flags.judge(value);
+                self.set(op.rd, value);
+                Turn::On
+            }
+            None => Turn::Stop,
         }
     }
 
     #[inline(always)]
-    #[tactic(auto, using(crate::proofs::InOrder::goes_on))]
+    #[tactic(auto, using(crate::proofs::InOrder::goes_on), unfolding(crate::specs::Step::act, crate::specs::Step::alu_step))]
     fn plain_turn(&mut self, kind: AluOp, op: &Op, here: Here) -> Turn
         requires form { IsTrue (has_form kind false) }
         requires sum { IsSum op.now.rs2 op.now.imm }
@@ -239,41 +251,36 @@ impl Machine {
         ensures within { IsWithin result here }
         ensures going { self.new.ending ≡ self.old.ending }
     {
-        if self.plain_in_order(kind, op) {
-            Turn::On
-        } else {
-            Turn::Stop
+        let first = self.reg(op.rs1);
+        let second = self.op_operand(op);
+        match plain_outcome(kind, first, second, self.flags.codes(), self.y) {
+            Ok((value, y)) => {
+                self.y = y;
+                self.set(op.rd, value);
+                Turn::On
+            }
+            Err(_) => Turn::Stop,
         }
     }
 
     /// SUBcc, whose codes are worked out where they are read.
     #[inline(always)]
-    #[tactic(auto, using(crate::proofs::InOrder::goes_on))]
+    #[tactic(auto, using(crate::proofs::InOrder::goes_on), unfolding(crate::specs::Step::act, crate::specs::Step::alu_step, v8_alu::specs::Alu::alu_of))]
     fn compare_turn(&mut self, op: &Op, here: Here) -> Turn
         requires sum { IsSum op.now.rs2 op.now.imm }
         ensures state { HasTurned result here self.old (alu_in AluOp.SUB true op.now) self.new }
         ensures within { IsWithin result here }
         ensures going { self.new.ending ≡ self.old.ending }
     {
-        self.compare_in_order(op);
-        Turn::On
-    }
-
-    #[inline(always)]
-    #[tactic(auto, unfolding(crate::specs::Step::act, crate::specs::Step::alu_step, v8_alu::specs::Alu::alu_of))]
-    fn compare_in_order(&mut self, op: &Op)
-        requires sum { IsSum op.now.rs2 op.now.imm }
-        ensures goes { GoesOn self.old (alu_in AluOp.SUB true op.now) self.new }
-        ensures going { self.new.ending ≡ self.old.ending }
-    {
         let first = self.reg(op.rs1);
         let second = self.op_operand(op);
         self.flags.compare(first, second);
         self.set(op.rd, difference_of(first, second));
+        Turn::On
     }
 
     #[inline(always)]
-    #[tactic(auto, using(crate::proofs::InOrder::goes_on), unfolding(crate::specs::Step::act))]
+    #[tactic(auto, using(crate::proofs::InOrder::goes_on), unfolding(crate::specs::Step::act, crate::specs::Accesses::load_step))]
     fn load_turn(&mut self, kind: LoadKind, op: &Op, here: Here) -> Turn
         requires single { kind ≡ LoadKind.LDD → ⊥ }
         requires sum { IsSum op.now.rs2 op.now.imm }
@@ -281,30 +288,36 @@ impl Machine {
         ensures within { IsWithin result here }
         ensures going { self.new.ending ≡ self.old.ending }
     {
-        if self.load_in_order(kind, op.rd, self.op_sum(op)) {
-            Turn::On
-        } else {
-            Turn::Stop
+        match self.loaded(kind, Addr(self.op_sum(op))) {
+            Ok(value) => {
+                self.set(op.rd, value);
+                Turn::On
+            }
+            Err(_) => Turn::Stop,
         }
     }
 
     #[inline(always)]
-    #[tactic(auto, using(crate::proofs::InOrder::goes_on), unfolding(crate::specs::Step::act))]
+    #[tactic(auto, using(crate::proofs::InOrder::goes_on), unfolding(crate::specs::Step::act, crate::specs::Accesses::load_step))]
     fn load_pair_turn(&mut self, op: &Op, here: Here) -> Turn
         requires sum { IsSum op.now.rs2 op.now.imm }
         ensures state { HasTurned result here self.old (instrs.Load LoadKind.LDD (2 * (op.now.rd % 16)) op.now.rs1 (operand_in op.now.rs2 op.now.imm)) self.new }
         ensures within { IsWithin result here }
         ensures going { self.new.ending ≡ self.old.ending }
     {
-        if self.load_pair_in_order(pair(op.rd), self.op_sum(op)) {
-            Turn::On
-        } else {
-            Turn::Stop
+        let rd = pair(op.rd);
+        match self.memory.load64(Addr(self.op_sum(op))) {
+            Ok((first, second)) => {
+                self.set(rd, first);
+                self.set(next_register(rd), second);
+                Turn::On
+            }
+            Err(_) => Turn::Stop,
         }
     }
 
     #[inline(always)]
-    #[tactic(auto, using(crate::proofs::InOrder::goes_on), unfolding(crate::specs::Step::act))]
+    #[tactic(auto, using(crate::proofs::InOrder::goes_on), unfolding(crate::specs::Step::act, crate::specs::Accesses::store_step))]
     fn store_turn(&mut self, kind: StoreKind, rd: Reg, op: &Op, here: Here) -> Turn
         requires pair { kind ≡ StoreKind.STD → rd % 2 ≡ 0 }
         requires sum { IsSum op.now.rs2 op.now.imm }
@@ -312,25 +325,38 @@ impl Machine {
         ensures within { IsWithin result here }
         ensures going { self.new.ending ≡ self.old.ending }
     {
-        if self.store_in_order(kind, rd, self.op_sum(op)) {
-            Turn::On
-        } else {
-            Turn::Stop
+        let value = self.reg(rd);
+        let at = Addr(self.op_sum(op));
+        let stored = match kind {
+            StoreKind::ST => self.memory.store32(at, value),
+            StoreKind::STB => self.memory.store8(at, (value % 0x100) as u8),
+            StoreKind::STH => self.memory.store16(at, (value % 0x1_0000) as u16),
+            StoreKind::STD => {
+                let second = self.reg(next_register(rd));
+                self.memory.store64(at, (value, second))
+            }
+        };
+        match stored {
+            Ok(()) => Turn::On,
+            Err(_) => Turn::Stop,
         }
     }
 
     #[inline(always)]
-    #[tactic(auto, using(crate::proofs::InOrder::goes_on), unfolding(crate::specs::Step::act))]
+    #[tactic(auto, using(crate::proofs::InOrder::goes_on), unfolding(crate::specs::Step::act, crate::specs::Accesses::swap_step))]
     fn swap_turn(&mut self, op: &Op, here: Here) -> Turn
         requires sum { IsSum op.now.rs2 op.now.imm }
         ensures state { HasTurned result here self.old (instrs.Swap op.now.rd op.now.rs1 (operand_in op.now.rs2 op.now.imm)) self.new }
         ensures within { IsWithin result here }
         ensures going { self.new.ending ≡ self.old.ending }
     {
-        if self.swap_in_order(op.rd, self.op_sum(op)) {
-            Turn::On
-        } else {
-            Turn::Stop
+        let value = self.reg(op.rd);
+        match self.exchange_word(Addr(self.op_sum(op)), value) {
+            Ok(old) => {
+                self.set(op.rd, old);
+                Turn::On
+            }
+            Err(_) => Turn::Stop,
         }
     }
 
@@ -361,70 +387,6 @@ impl Machine {
             Turn::On
         } else {
             Turn::Stop
-        }
-    }
-
-    /// A logical operation that sets the codes, but for pc and npc.
-    #[inline(always)]
-    #[tactic(auto, unfolding(crate::specs::Step::act, crate::specs::Step::alu_step))]
-    fn logic_in_order(&mut self, kind: AluOp, op: &Op) -> bool
-        requires sum { IsSum op.now.rs2 op.now.imm }
-        ensures goes { result ≡ true → GoesOn self.old (alu_in kind true op.now) self.new }
-        ensures stays { result ≡ false → self.new ≡ self.old }
-        ensures going { self.new.ending ≡ self.old.ending }
-    {
-        match logic_value(kind, self.reg(op.rs1), self.op_operand(op)) {
-            Some(value) => {
-                self.flags.judge(value);
-                self.set(op.rd, value);
-                true
-            }
-            None => false,
-        }
-    }
-
-    /// An operation that sets the codes and doesn't trap, but for pc and npc.
-    #[inline(always)]
-    #[tactic(auto, unfolding(crate::specs::Step::act, crate::specs::Step::alu_step))]
-    fn alu_in_order(&mut self, kind: AluOp, op: &Op) -> bool
-        requires form { IsTrue (has_form kind true) }
-        requires sum { IsSum op.now.rs2 op.now.imm }
-        ensures goes { result ≡ true → GoesOn self.old (alu_in kind true op.now) self.new }
-        ensures stays { result ≡ false → self.new ≡ self.old }
-        ensures going { self.new.ending ≡ self.old.ending }
-    {
-        let first = self.reg(op.rs1);
-        let second = self.op_operand(op);
-        match alu(kind, true, first, second, self.flags.codes(), self.y) {
-            Ok(outcome) => {
-                self.flags.set(outcome.codes);
-                self.y = outcome.y;
-                self.set(op.rd, outcome.value);
-                true
-            }
-            Err(_) => false,
-        }
-    }
-
-    /// An operation that leaves the codes and doesn't trap, but for pc and npc.
-    #[inline(always)]
-    #[tactic(auto, unfolding(crate::specs::Step::act, crate::specs::Step::alu_step))]
-    fn plain_in_order(&mut self, kind: AluOp, op: &Op) -> bool
-        requires form { IsTrue (has_form kind false) }
-        requires sum { IsSum op.now.rs2 op.now.imm }
-        ensures goes { result ≡ true → GoesOn self.old (alu_in kind false op.now) self.new }
-        ensures stays { result ≡ false → self.new ≡ self.old }
-        ensures going { self.new.ending ≡ self.old.ending }
-    {
-        let first = self.reg(op.rs1);
-        let second = self.op_operand(op);
-        match plain_outcome(kind, first, second, self.flags.codes(), self.y) {
-            Ok((value, y)) => {
-                self.y = y;
-                self.set(op.rd, value);
-                true
-            }
-            Err(_) => false,
         }
     }
 

@@ -17,10 +17,6 @@ pub either_of : {A : Type 0} (a b : Option A) (x : A) → first_of a b ≡ Some 
 either_of (Some y) b x h = inl h
 either_of None b x h = inr h
 
--- an equal text is found
-pub same_text : (text : List ℕ) → bytes_eq text text ≡ true
-same_text text = (bytes_eq-Decides text text).1 refl
-
 pub text_is : (one other : List ℕ) → bytes_eq one other ≡ true → one ≡ other
 text_is one other h = (bytes_eq-Decides one other).0 h
 

@@ -1,15 +1,9 @@
 use Rattle.std.proofs.Common.{arith, length}
-use Rattle.cfg_blocks.specs.Blocks.{Blocks}
+use Rattle.cfg_blocks.specs.Private.{cut_blocks}
 use Rattle.cfg_blocks.proofs.Entering.{led_step}
 use Rattle.cfg_blocks.proofs.entries.CutText.mark_arrivals.Goals as goal
 
 pub loop-block-preserved : goal.loop-block-preserved
 loop-block-preserved c = λ k h.
-    let b : Blocks = record {
-      firsts = c.args.self.now.firsts.now;
-      words = length c.args.self.now.word_ends.now;
-      ends =
-          c.args.self.now.ends.now;
-    } in
-    led_step b _ k _ _ _ _ (c.loop-block.invariant k h) c.ways_from.ensures
+    led_step (cut_blocks c.args.self.now.firsts.now c.args.self.now.ends.now c.args.self.now.word_ends.now) _ k _ _ _ _ (c.loop-block.invariant k h) c.ways_from.ensures
     (c.arrive_by.ensures k (omega arith))
