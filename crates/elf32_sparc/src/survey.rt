@@ -12,7 +12,7 @@ pub(crate) struct Survey {
     pub has_dynamic: bool,
     pub leaves_file: bool,
     pub leaves_room: bool,
-    /// The same for a run, which may have the last page.
+    /// As `leaves_room`, of a run, which may have the last page.
     pub leaves_run: bool,
     pub descends: bool,
     pub is_misaligned: bool,

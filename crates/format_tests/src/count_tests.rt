@@ -229,7 +229,7 @@ fn narrow_fault(alloc: Global, told: Told, cells: &[u32]) -> Result<Option<Count
     Ok(rebuilt(alloc, 1, &ONE_BLOCK, told, cells)?.err())
 }
 
-/// The same in version 2.
+/// The fault, by the notes of the one block in version 2; nothing where counts are rebuilt.
 fn wide_fault(alloc: Global, told: Told, cells: &[u32]) -> Result<Option<CountFault>, Fail> {
     Ok(rebuilt(alloc, 2, &wide_block(), told, cells)?.err())
 }

@@ -6,10 +6,10 @@ use std::test::Fail;
 /// Exit with 3 at 0x20000, after 3 steps, with two cells.
 const WORDS: [u32; 10] = [0x4545_4c44, 1, 1, 3, 0x20000, 0, 3, 2, 12, u32::MAX];
 
-/// The same without cells.
+/// Exit with 3 at 0x20000, after 3 steps, without cells.
 const NO_CELLS: [u32; 8] = [0x4545_4c44, 1, 1, 3, 0x20000, 0, 3, 0];
 
-/// The same with cells, of an original of 0x20058 bytes.
+/// Exit with 3 at 0x20000, after 3 steps, with two cells, of an original of 0x20058 bytes.
 const WIDE_WORDS: [u32; 11] = [
     0x4545_4c44,
     2,

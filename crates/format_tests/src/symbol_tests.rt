@@ -100,7 +100,7 @@ const TABLES: [((usize, u32), usize); 20] = [
     ((11, 0x00010029), 0),
     ((12, 0), 0),
     ((12, 0x00040000), 0),
-    // The same of the symbol table.
+    // No symbol table, or one that can't be read.
     ((73, 11), 0),
     ((76, 226), 0),
     ((76, u32::MAX), 0),
@@ -110,7 +110,7 @@ const TABLES: [((usize, u32), usize); 20] = [
     ((81, 12), 0),
     // Another before it.
     ((63, 2), 0),
-    // The same of the string table.
+    // No string table, or one that can't be read.
     ((78, 1), 0),
     ((78, 3), 0),
     ((78, 0x00010002), 0),

@@ -195,7 +195,7 @@ impl Maker<'_> {
         Ok(())
     }
 
-    // The same, where the pieces of its entries begin at `first`, by the first entries that lead to their words.
+    // Adds the pieces of a switch's Case edges, which begin at `first`, by the first entries that lead to their words.
     fn push_entries(
         &self,
         alloc: Global,

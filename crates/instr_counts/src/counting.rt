@@ -146,7 +146,7 @@ fn begun(text: &Text, graph: &FlowGraph, n: &Notes, pc: Addr) -> Option<WordNo>
     }
 }
 
-/// The same, where it stands at an address for a visit of a node.
+/// The word that was begun, where the run stands at an address for a visit of a node.
 fn begun_at(text: &Text, graph: &FlowGraph, address: Addr, node: u32) -> Option<WordNo>
     requires { graph.now.blocks.words ≡ length text.now.words }
     ensures { (word : ℕ) → word < length text.now.words

@@ -47,7 +47,7 @@ pub fn read_number(word: &[u8]) -> Option<u32>
     digits.parse().ok()
 }
 
-/// The same of a number below 2^64.
+/// A decimal number below 2^64, without a needless zero in front.
 #[tactic(auto, unfolding(crate::specs::Words::count_of))]
 pub fn read_count(word: &[u8]) -> Option<u64>
     ensures { result ≡ count_of word.now }
@@ -56,7 +56,7 @@ pub fn read_count(word: &[u8]) -> Option<u64>
     digits.parse().ok()
 }
 
-/// The same of a number below 2^128.
+/// A decimal number below 2^128, without a needless zero in front.
 #[tactic(auto, unfolding(crate::specs::Words::sum_of))]
 pub fn read_sum(word: &[u8]) -> Option<u128>
     ensures { result ≡ sum_of word.now }

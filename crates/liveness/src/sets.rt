@@ -72,7 +72,7 @@ impl Chart<'_> {
         self.live_among(sets, node)
     }
 
-    /// The same, from word to word.
+    /// What is live where control lands in a node, gathered from the words at which it may land.
     fn live_among(&self, sets: &[RegSet], node: Node) -> RegSet
         requires found { AreFound self.now.graph.now self.now.places.now.marks.items sets.now }
         requires node { IsInside self.now.graph.now node }

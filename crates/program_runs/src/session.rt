@@ -291,7 +291,7 @@ impl Session {
         }
     }
 
-    /// The same files, of which these calls are to fail.
+    /// The session's files, of which these calls are to fail.
     fn files_again(&self, alloc: Global, fail: Vec<u64>) -> Result<MemFiles, Refusal> {
         let mut files = MemFiles::new(alloc, fail);
         for name in self.names.iter() {

@@ -71,7 +71,7 @@ pub(crate) fn starts_of(alloc: Global, image: &Image) -> Result<Starts, NoMemory
     Ok(starts)
 }
 
-/// The same starts in the order of their words.
+/// The starts in the order of their words.
 #[tactic(auto, using(crate::proofs::Ascending::ascending))]
 pub(crate) fn in_order(mut starts: Starts) -> Result<Starts, NoMemory>
     ensures ascends { IfOk result (λ sorted. IsStrictlySortedBy nat_cmp (keys sorted)) }

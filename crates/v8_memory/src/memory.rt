@@ -340,7 +340,7 @@ impl Memory {
         }
     }
 
-    /// The same, if they may be written.
+    /// The place of the region that is asked first for an address, if all these bytes may be written there.
     #[inline(always)]
     fn writable_at(&self, address: u32, count: u64) -> Option<usize>
         requires some { 0 < count }
@@ -398,7 +398,7 @@ impl Memory {
         }
     }
 
-    /// The same, where the region at this place has them all and may be read.
+    /// The bytes from an address on, where the region at this place has them all and may be read.
     #[inline(always)]
     #[tactic(auto, unfolding(crate::specs::Regions::bytes_at))]
     fn read_in(&self, index: usize, address: u32, count: u32) -> &[u8]
@@ -413,7 +413,7 @@ impl Memory {
             .part(address, count)
     }
 
-    /// The same, where the region that a hint tells was asked in vain.
+    /// The bytes from an address on, where the hinted region doesn't have them all or may not be read.
     #[inline(always)]
     #[tactic(auto, unfolding(crate::specs::Regions::bytes_at))]
     fn read_elsewhere(&self, address: u32, count: u32) -> Option<&[u8]>
@@ -427,7 +427,7 @@ impl Memory {
         }
     }
 
-    /// The same, where all regions are asked, and the heap last.
+    /// The bytes from an address on: all regions are asked, and the heap last.
     #[inline(never)]
     #[tactic(auto, unfolding(crate::specs::Regions::bytes_at))]
     fn read_searched(&self, address: u32, count: u32) -> Option<&[u8]>
@@ -468,7 +468,7 @@ impl Memory {
         }
     }
 
-    /// The same, where the region at this place has them all.
+    /// Writes the bytes into the region at this place, which has them all and may be written.
     #[inline(always)]
     fn write_in(&mut self, index: usize, address: u32, bytes: &[u8])
         requires some { 0 < length bytes.now }
@@ -480,7 +480,7 @@ impl Memory {
         self.regions[index].put(address, bytes);
     }
 
-    /// The same, where all regions are asked, and the heap last.
+    /// Writes the bytes, if some region has them all and may be written: all are asked, and the heap last.
     #[inline(never)]
     fn write_searched(&mut self, address: u32, bytes: &[u8]) -> bool
         requires { 0 < length bytes.now }
@@ -510,7 +510,7 @@ impl Memory {
         Ok(old)
     }
 
-    /// The same, where no region was asked yet.
+    /// Puts a word in the place of another one, where the hinted region doesn't have it or may not be written.
     #[inline(never)]
     fn exchange_searched(&mut self, address: Addr, value: u32) -> Result<u32, MemFault>
         ensures { Exchanges w32 (load_of self.old 4 address.0) (store_of self.old address.0 (to_be_bytes w32 value)) self.old self.new result }

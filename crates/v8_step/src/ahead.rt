@@ -26,7 +26,7 @@ use v8_memory::{Op, OpCode, op_in};
 pub enum Turn {
     /// The next instruction in order.
     On,
-    /// The same, which is the delay slot of a branch that isn't taken.
+    /// The next instruction in order, which is the delay slot of a branch that isn't taken.
     Past,
     /// The delay slot, and then the record at this place.
     To(usize),
@@ -157,7 +157,7 @@ impl Machine {
         }
     }
 
-    /// Puts pc and npc at places. Where it were inlined, the loop would keep an address beside each place.
+    /// Puts pc and npc at places. Not inlined: else the loop keeps an address live beside each place.
     #[inline(never)]
     fn stand_at(&mut self, first: u32, cur: usize, next: usize, slot: Slot)
         ensures { self.new ≡ at_places self.old first cur next slot }
