@@ -22,7 +22,7 @@ use Rattle.cfg_walk.proofs.Cut.{IsCut, cut, entry_leads}
 use Rattle.cfg_walk.proofs.Holding.{first_held, in_held}
 use Rattle.cfg_walk.proofs.Lists.{Each, each-then}
 use Rattle.cfg_walk.proofs.NoneOpen.{edges_lie_in}
-use Rattle.jump_slice.specs.Cases.{IsOpen}
+use Rattle.jump_slice.specs.Cases.{IsOpenSwitch}
 use Rattle.jump_slice.proofs.About.{about}
 use Rattle.jump_slice.proofs.Opened.{opens_are}
 use Rattle.image_code.specs.Graphs.{IsGraphOf, opens_in}
@@ -122,10 +122,10 @@ are_inside : (text : Words) (given : List ℕ) (entry : ℕ) → IsText text
     → Each (IsInside (blocks_of text given) entry) (opens_in text given entry)
 unfolding entered_of
 are_inside text given entry is_text =
-    each-then (IsOpen text (entered_of text given) entry) (IsInside (blocks_of text given) entry)
+    each-then (IsOpenSwitch text (entered_of text given) entry) (IsInside (blocks_of text given) entry)
     (opens_in text given entry) inside (opens_are text given entry is_text)
   where
-    inside : (o : Open) → IsOpen text (entered_of text given) entry o → IsInside (blocks_of text given) entry o
+    inside : (o : Open) → IsOpenSwitch text (entered_of text given) entry o → IsInside (blocks_of text given) entry o
     inside o is =
         let a = about text given entry is_text o is in
         let words = (cut text given is_text.some).words in

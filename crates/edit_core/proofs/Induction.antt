@@ -39,7 +39,7 @@ use Rattle.image_code.specs.Simulates.{CaseTable, IsAtWord, IsChosen, IsNoLoad, 
 use Rattle.image_code.specs.Store.{cells_in, store_of, updates}
 use Rattle.jump_code.specs.PageWords.{kept_address}
 use Rattle.edit_core.specs.RunsAlike.{EndsAtNode, TellsStep}
-use Rattle.edit_core.specs.Runs.{KeepsLoaded, AreTogether, Linked, Rests, Spares, instr_in, limits_in}
+use Rattle.edit_core.specs.Runs.{KeepsLoaded, AreTogether, Linked, RunFacts, Spares, instr_in, limits_in}
 use Rattle.two_runs.proofs.Stays.{ended_stays, step_stays}
 use Rattle.edit_core.proofs.Stops.{gone_none, same_node, same_store, Follows, Tells}
 use Rattle.edit_core.proofs.Places.{node_of_place, placed_between, there_node, visited_address}
@@ -186,7 +186,7 @@ module _ (g : Setting) (entry : ℕ) (Inside : Point → Type 0) (Here : Node �
     ends : (m : ℕ) (d : Ending) → Closes n m d → Reached last n
     past : (m : ℕ) → last < n → Reached last n
 
-  module _ (r : Rests g entry Inside Here Short K s0 t0) where
+  module _ (r : RunFacts g entry Inside Here Short K s0 t0) where
     fetched : (n : ℕ) → fetch_of (s n).memory (s n).pc ≡ word n
     fetched n = code_stays.1 s0 n (s n).pc ∙ r.fetches (s n).pc
 

@@ -24,7 +24,7 @@ use Rattle.image_code.proofs.OpenBlocks.{text_graph}
 use Rattle.image_code.proofs.OpenNumbers.{enter_below}
 use Rattle.snippets.specs.declared.snippet.Op.{Op}
 use Rattle.edit_core.specs.declared.taking.Request.{Request}
-use Rattle.edit_core.specs.Written.{addr, case_places, cells_size, entry_number, landings_of, table_after, tables_size, AreTablesOf, LeadsTo}
+use Rattle.edit_core.specs.Written.{addr, case_places, cells_size, entry_number, landings_of, table_after, tables_size, AreTablesOf, TablesMatch}
 use Rattle.edit_core.specs.Private.{AreInside, AreLaid, AreMade, HasRoom, IsBuilt}
 use Rattle.edit_core.proofs.Graphs.{entries_few, graph_cut}
 use Rattle.edit_core.proofs.Steps.{new_fit, new_room}
@@ -74,7 +74,7 @@ module _ {image : Program} {graph : Graph} {asked : Request} {pieces : List (Lis
   pub tables_lead : (p : Placement) (table : TableAt)
       → AreTablesOf image.text (map (λ (n : PieceNo). addr (slice_index p.at n.0)) words)
       (addr (slice_index p.at outside.0)) (map (λ (n : PieceNo). slice_index p.at n.0) ways) table
-      → LeadsTo image.text graph asked.snips.items p table
+      → TablesMatch image.text graph asked.snips.items p table
   tables_lead p table are = rw (cases_are p) at (rw made.foreign at (rw (landings_are p) at are))
 
   -- and the code is that of the edit

@@ -32,7 +32,7 @@ use Rattle.two_runs.specs.Visits.{pages_of}
 use Rattle.snippet_code.specs.Cells.{cell_at}
 use Rattle.tool_kit.specs.Plans.{Plan}
 use Rattle.edit_core.specs.Faithful.{editor_page, page_size}
-use Rattle.edit_core.specs.Written.{IsEdit, LeadsTo, cells_at, cells_base, code_base, code_segment, cases_table, first_table, graph_in, if_any, notes_on, page_segment, second_table, segment_size, table_at, table_base, tables_size, text_of}
+use Rattle.edit_core.specs.Written.{IsEdit, TablesMatch, cells_at, cells_base, code_base, code_segment, cases_table, first_table, graph_in, if_any, notes_on, page_segment, second_table, segment_size, table_at, table_base, tables_size, text_of}
 use Rattle.edit_core.proofs.Fronts.{any-map, any_none, any_some}
 use Rattle.edit_core.proofs.Mapped.{original_covers}
 use Rattle.edit_core.proofs.Steps.{segment_is}
@@ -147,7 +147,7 @@ module _ (original : List ℕ) (plan : Plan) (p : Placement) where
 -- the pages of the notes: that of the cells, the tables', the code's and the editor's
 pub is_framed : (original : List ℕ) (plan : Plan) (p : Placement) (table : TableAt) (g : Setting)
     → g.notes ≡ notes_on original plan p
-    → table.base ≡ table_base original plan → LeadsTo (text_of original plan) (graph_in original plan) plan.snips p table
+    → table.base ≡ table_base original plan → TablesMatch (text_of original plan) (graph_in original plan) plan.snips p table
     → IsFramed g (frame (text_of original plan) (cells_base original plan) plan.cells table)
 is_framed original plan p table g same base leads = record {
   own = rw same (record { first = inl refl; within = within });

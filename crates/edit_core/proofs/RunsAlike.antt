@@ -57,16 +57,16 @@ use Rattle.image_code.specs.Images.{AreNoted, Frame, HasCells, Here, IsPlaced, P
 use Rattle.image_code.proofs.Points.{visited_by}
 use Rattle.image_code.specs.Parts.{codes_of}
 use Rattle.image_code.specs.Made.{IsOffNoted, IsTableFor, PiecesMakeImages, lands_at, piece_list, pieces_in}
-use Rattle.image_code.specs.Outside.{IsOpen}
+use Rattle.image_code.specs.Outside.{IsOffPages}
 use Rattle.image_code.proofs.CaseTables.{are_tables, table_of}
 use Rattle.image_code.proofs.Opened.{cased}
 use Rattle.edit_core.specs.Faithful.{editor_page, page_size}
-use Rattle.edit_core.specs.Runs.{CameFrom, Linked, Rests}
+use Rattle.edit_core.specs.Runs.{CameFrom, Linked, RunFacts}
 use Rattle.edit_core.specs.Cost.{StoresLittle, TakesFewSteps, short_bound}
 use Rattle.edit_core.specs.RunsAlike.{AreRunsAlike, IsAnswered, edit_of, visits_by}
 use Rattle.edit_core.specs.Taken.{bound_in}
 use Rattle.edit_core.specs.Whole.{Answered, KeptIn}
-use Rattle.edit_core.specs.Written.{EditsRunAlike, IsEdit, setting_of, LeadsTo, addr, cases_at, cells_base, code_base, first_table, foreign_of, given_of, graph_in, landings_of, notes_on, second_table, segment_size, table_base, text_of}
+use Rattle.edit_core.specs.Written.{EditsRunAlike, IsEdit, setting_of, TablesMatch, addr, cases_at, cells_base, code_base, first_table, foreign_of, given_of, graph_in, landings_of, notes_on, second_table, segment_size, table_base, text_of}
 use Rattle.edit_core.proofs.Bounds.{operations_few}
 use Rattle.edit_core.proofs.ByTable.{by_table}
 use Rattle.edit_core.proofs.Completed.{jump_kind, unknown_lives}
@@ -205,7 +205,7 @@ module _ (original : List ℕ) (plan : Plan) (p : Placement) where
         ∙ off_here text graph tables_from edge p.ranges
 
     -- where the table leads
-    module _ (table : TableAt) (leads : LeadsTo text graph plan.snips p table) where
+    module _ (table : TableAt) (leads : TablesMatch text graph plan.snips p table) where
       landings_at : (word : ℕ) → word < length text.words
           → slice_index (map (λ (a : Addr). a.0) (landings_of text graph plan.snips p)) word
           ≡ slice_index p.at (lands_at text graph plan.snips word)
@@ -324,7 +324,7 @@ module _ (original : List ℕ) (plan : Plan) (p : Placement) where
               bound_is original plan,
             )
 
-    simulates : PiecesMakeImages → Simulates its (IsOpen its) IsHere Short
+    simulates : PiecesMakeImages → Simulates its (IsOffPages its) IsHere Short
     simulates make =
         let base = is.code.base in
         make its (codes_of cells_from dead plan.snips) code_from p place
@@ -445,7 +445,7 @@ module _ (original : List ℕ) (plan : Plan) (p : Placement) where
       unfolding image_of
       holds_text = text_is_held original args input is.taken.sound is.given
 
-      rests : Rests its entry (IsOpen its) IsHere Short (KeptIn its entry s0) s0 t0
+      rests : RunFacts its entry (IsOffPages its) IsHere Short (KeptIn its entry s0) s0 t0
       rests = record {
         text = text_is;
         first_valid = original_valid original plan p place table file is args input given read;

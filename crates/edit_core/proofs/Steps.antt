@@ -25,7 +25,7 @@ use Rattle.snippets.specs.declared.snippet.Op.{Op}
 use Rattle.tool_kit.specs.Plans.{Plan}
 use Rattle.edit_core.specs.declared.taking.Request.{Request}
 use Rattle.edit_core.specs.Taken.{CanEdit}
-use Rattle.edit_core.specs.Written.{added, cells_at, code_at, if_any, page_segment, table_at, CanDo, IsNewCode, LeadsTo, cases_at, cells_base, cells_size, entry_number, entry_of, graph_in, pieces_by, pieces_of, segment_size, table_after, table_base, tables_size, text_of}
+use Rattle.edit_core.specs.Written.{added, cells_at, code_at, if_any, page_segment, table_at, CanDo, IsNewCode, TablesMatch, cases_at, cells_base, cells_size, entry_number, entry_of, graph_in, pieces_by, pieces_of, segment_size, table_after, table_base, tables_size, text_of}
 use Rattle.edit_core.specs.Private.{HasRoom, IsBuilt, IsViewOf, placement_in, plan_of}
 use Rattle.edit_core.proofs.Bounds.{operations_few}
 use Rattle.edit_core.proofs.Graphs.{entries_few, graph_cut, graph_is}
@@ -81,7 +81,7 @@ module _ (fits : PiecesFit) {image : Program} {graph : Graph} {asked : Request} 
 
 -- how many bytes they have
 pub segment_is : (text : Words) (graph : Graph) (snips : List (List Op)) (p : Placement) (table : TableAt)
-    → LeadsTo text graph snips p table → length table.bytes ≡ segment_size text graph
+    → TablesMatch text graph snips p table → length table.bytes ≡ segment_size text graph
 segment_is text graph snips p table leads =
     cc (leads.size, length-map (case_numbers text graph) (λ number. slice_index p.at number))
 
@@ -109,7 +109,7 @@ module _ (original : List ℕ) (plan : Plan) (image : Program) (graph : Graph) (
 
   module _ (placed : Placed) (tables : List ℕ)
       (built : IsBuilt image.text graph image.base plan.cells plan.snips (placement_in placed))
-      (leads : LeadsTo image.text graph plan.snips (placement_in placed)
+      (leads : TablesMatch image.text graph plan.snips (placement_in placed)
       (record { base = table_after image.base plan.cells; bytes = tables }))
     where
       pub built_there : IsBuilt (text_of original plan) (graph_in original plan) (cells_base original plan) plan.cells
@@ -127,7 +127,7 @@ module _ (original : List ℕ) (plan : Plan) (image : Program) (graph : Graph) (
         short = built_there.are.short;
         words = words;
         base = refl;
-        leads = there (λ i g. LeadsTo i.text g plan.snips (placement_in placed)
+        leads = there (λ i g. TablesMatch i.text g plan.snips (placement_in placed)
             (record { base = table_after i.base plan.cells; bytes = tables })) leads;
         bytes = bytes;
       }

@@ -96,7 +96,7 @@ pub record Linked (g : Setting) (entry : ℕ) (Here : Node → Point → State �
   pub together : AreTogether g entry s0 t0 n m
 
 -- What is proved of the files, the pieces and the items.
-pub record Rests (g : Setting) (entry : ℕ) (Inside : Point → Type 0)
+pub record RunFacts (g : Setting) (entry : ℕ) (Inside : Point → Type 0)
     (Here : Node → Point → State → Type 0) (Short : Type 0) (K : ℕ → StateItem → Type 0) (s0 t0 : State) : Type 0 where
   pub text : IsText g.text
   pub first_valid : IsValid s0

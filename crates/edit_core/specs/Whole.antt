@@ -14,11 +14,11 @@ use Rattle.layout.specs.Laid.{HasShortForms, Placement}
 use Rattle.image_code.specs.Simulates.{Setting, edit_in, graph_in}
 use Rattle.image_code.specs.Store.{cells_in, store_of}
 use Rattle.image_code.specs.Images.{Pieces, Frame, Here}
-use Rattle.image_code.specs.Outside.{IsOpen}
+use Rattle.image_code.specs.Outside.{IsOffPages}
 use Rattle.liveness.specs.Live.{named_on}
 use Rattle.live_walk.specs.Keeps.{IsKeptAt}
 use Rattle.edit_core.specs.Dead.{AreDead}
-use Rattle.edit_core.specs.Runs.{Keeping, Rests, Spares, limits_in}
+use Rattle.edit_core.specs.Runs.{Keeping, RunFacts, Spares, limits_in}
 use Rattle.edit_core.specs.RunsAlike.{EndsAtNode, IsStop, visits_by}
 
 -- what is kept: what the original's run still needs, and what snippets name that come before it is written
@@ -50,5 +50,5 @@ abbrev pub EditsAnswer : Type 0
 EditsAnswer =
     (g : Setting) (l : Pieces) (base : ℕ) (p : Placement) (place : ℕ → ℕ → ℕ) (f : Frame) (entry : ℕ) (s0 t0 : State)
     (last : ℕ)
-    → Rests g entry (IsOpen g) (Here g l base p f) (HasShortForms l.list place) (KeptIn g entry s0) s0 t0
+    → RunFacts g entry (IsOffPages g) (Here g l base p f) (HasShortForms l.list place) (KeptIn g entry s0) s0 t0
     → IsUntouched (pages_of g.notes) s0 last → Answered g entry (HasShortForms l.list place) s0 t0 last

@@ -164,8 +164,8 @@ case_places text graph p = map (λ number. slice_index p.at number) (case_number
 abbrev pub entry_number : Words → Graph → ℕ → ℕ
 entry_number text graph entry = enter_number text graph (node_of graph.blocks (Some entry)) entry
 
-abbrev pub LeadsTo : Words → Graph → List (List Op) → Placement → TableAt → Type 0
-LeadsTo text graph snips p table =
+abbrev pub TablesMatch : Words → Graph → List (List Op) → Placement → TableAt → Type 0
+TablesMatch text graph snips p table =
     AreTablesOf text (landings_of text graph snips p) (foreign_of text graph p) (case_places text graph p) table
 
 -- how many bytes the tables have
@@ -263,7 +263,7 @@ pub record IsNewCode (original : List ℕ) (plan : Plan) (p : Placement) (place 
   pub short : 4 * length p.code < short_bound → HasShortForms (pieces_of original plan dead) place
   pub words : All (λ word. word < 2 ^ 32) p.code
   pub base : table.base ≡ table_base original plan
-  pub leads : LeadsTo (text_of original plan) (graph_in original plan) plan.snips p table
+  pub leads : TablesMatch (text_of original plan) (graph_in original plan) plan.snips p table
   pub bytes : AreBytes table.bytes
 
 -- What a written file is: all that those who map it, read its notes or run it need to know.

@@ -4,7 +4,7 @@ ghost use Rattle.eel_base.specs.Code.{IsText};
 ghost use Rattle.layout.specs.Laid.{ArePieces, long_bytes};
 ghost use Rattle.image_code.specs.Graphs.{IsGraphOf};
 ghost use Rattle.edit_core.specs.Taken.{bound_by};
-ghost use Rattle.edit_core.specs.Written.{addr, cells_size as cells_size_of, entry_number, table_after, tables_size as tables_size_of, whole_pages, AreTablesOf, IsWorkable, LeadsTo};
+ghost use Rattle.edit_core.specs.Written.{addr, cells_size as cells_size_of, entry_number, table_after, tables_size as tables_size_of, whole_pages, AreTablesOf, IsWorkable, TablesMatch};
 ghost use Rattle.edit_core.specs.Private.{placement_in, AreInside, AreLaid, AreMade, HasRoom, IsBuilt};
 
 use crate::addresses::{AddressMap, cells_size, tables_size};
@@ -42,7 +42,7 @@ pub(crate) fn new_code(
     ensures entry { IfOk result (λ new. new.entry.0 ≡ slice_index (placement_in new.placed).at
         (entry_number image.now.text graph.now image.now.entry)) }
     ensures leads { IfOk result (λ new.
-        LeadsTo image.now.text graph.now asked.now.snips.items (placement_in new.placed)
+        TablesMatch image.now.text graph.now asked.now.snips.items (placement_in new.placed)
         (record { base = table_after image.now.base asked.now.cells; bytes = new.tables.items })) }
 {
     let made = make_pieces(alloc, image, graph, asked)?;

@@ -28,7 +28,7 @@ use Rattle.cfg_walk.proofs.Edges.{block, copy, same_itself, same_nodes}
 use Rattle.cfg_walk.proofs.Holding.{some_words}
 use Rattle.cfg_walk.proofs.Lists.{Each, each-map, each-then}
 use Rattle.cfg_walk.proofs.Ways.{IsOwn, ways_are_own}
-use Rattle.jump_slice.specs.Cases.{IsOpen}
+use Rattle.jump_slice.specs.Cases.{IsOpenSwitch}
 use Rattle.jump_slice.specs.Joined.{IsCaseBlock}
 use Rattle.jump_slice.proofs.CaseBlocks.{case_block}
 use Rattle.jump_slice.proofs.Opened.{opens_are}
@@ -383,7 +383,7 @@ module _ (text : Words) (given : List ℕ) (entry : ℕ) (is_text : IsText text)
 
   have_room : Each (HasRoom b) opens
   have_room =
-      each-then (IsOpen text (entered_of text given) entry) (HasRoom b) opens
+      each-then (IsOpenSwitch text (entered_of text given) entry) (HasRoom b) opens
       (λ o is. room o (case_block text given entry is_text o is)) (opens_are text given entry is_text)
     where
       room : (o : Open) → IsCaseBlock text b o → HasRoom b o

@@ -84,14 +84,14 @@ pub length_words : (ws : List ℕ) → length (map it.Word ws) ≡ length ws
 length_words ws = length-map ws it.Word
 
 -- From its item n on, a piece is these items, none of them a Mark or the end of one.
-pub record Rest (l : Pieces) (k n : ℕ) (xs : List Item) : Type 0 where
+pub record PieceFrom (l : Pieces) (k n : ℕ) (xs : List Item) : Type 0 where
   pub within : k < length l.list
   pub size : size_of l.list k ≡ n + length xs
   pub items : (j : ℕ) → item_at l.list k (n + j) ≡ slice_get xs j
   pub shut : (j : ℕ) → open_in (slice_get l.list k) (n + j) ≡ None
   pub unmarked : AreUnmarked xs
 
-pub rest_whole : (l : Pieces) (k : ℕ) (xs : List Item) → AreUnmarked xs → slice_get l.list k ≡ Some xs → Rest l k 0 xs
+pub rest_whole : (l : Pieces) (k : ℕ) (xs : List Item) → AreUnmarked xs → slice_get l.list k ≡ Some xs → PieceFrom l k 0 xs
 rest_whole l k xs are is = record {
   within = slice_get_within l.list k xs is;
   size = rw is (omega arith);
@@ -102,7 +102,7 @@ rest_whole l k xs are is = record {
 
 -- behind a Mark with one item
 pub rest_marked : (l : Pieces) (k : ℕ) (address : _) (node : ℕ) (y : Item) (xs : List Item) → AreUnmarked xs
-    → slice_get l.list k ≡ Some (it.Mark address node ∷ y ∷ it.EndMark ∷ xs) → Rest l k 3 xs
+    → slice_get l.list k ≡ Some (it.Mark address node ∷ y ∷ it.EndMark ∷ xs) → PieceFrom l k 3 xs
 rest_marked l k address node y xs are is = record {
   within = slice_get_within l.list k _ is;
   size = rw is (omega arith);
@@ -111,7 +111,7 @@ rest_marked l k address node y xs are is = record {
   unmarked = are;
 }
 
-pub rest_behind : (l : Pieces) (k n : ℕ) (xs ys : List Item) → Rest l k n (xs ++ ys) → Rest l k (n + length xs) ys
+pub rest_behind : (l : Pieces) (k n : ℕ) (xs ys : List Item) → PieceFrom l k n (xs ++ ys) → PieceFrom l k (n + length xs) ys
 rest_behind l k n xs ys r = record {
   within = r.within;
   size = omega (arith, r.size, length-append xs ys);
@@ -135,10 +135,10 @@ module _ (site : Site) (h : Placed site) where
   open site use {g, l, base, p, place, f}
 
   -- in the code, and in no place
-  abbrev pub IsBare : State → Type 0
-  IsBare u = (base ≤ u.pc) × (u.pc < base + 4 * length p.code) × (range_in p.ranges u.pc ≡ None)
+  abbrev pub IsInNoPlace : State → Type 0
+  IsInNoPlace u = (base ≤ u.pc) × (u.pc < base + 4 * length p.code) × (range_in p.ranges u.pc ≡ None)
 
-  pub bare_on : (t u : State) → u.ending ≡ None → IsBare u → IsOnWay g t u
+  pub bare_on : (t u : State) → u.ending ≡ None → IsInNoPlace u → IsOnWay g t u
   bare_on t u live bare = on_none site h t u live bare.0 bare.1 bare.2
 
   -- A way through such words and the snippets of some edges: all stays as it was but what is dead behind these and
@@ -150,13 +150,13 @@ module _ (site : Site) (h : Placed site) where
     pub other : State
     pub memory : Memory
     pub few : count ≤ most + 22 * operations_on g.snips edges
-    pub path : Leads IsBare a (hopped other to memory) count
+    pub path : Leads IsInNoPlace a (hopped other to memory) count
     pub silent : IsSilent a count
     pub stores : Stores (IsAmongWords f.own) a.memory memory
     pub waits : memory_word memory (page_word 1) ≡ memory_word a.memory (page_word 1)
     pub found : next ≢ None → memory_word memory (page_word 7) ≡ memory_word a.memory (page_word 7)
     pub cells : LastDead g edges → words_at g.notes.base g.notes.cells memory ≡ updates g.snips edges (cells_in g.notes a) a
-    pub begins : 0 < count → IsBare a
+    pub begins : 0 < count → IsInNoPlace a
     pub alike : IsAlike g edges a other
     pub still : NothingDead g edges → hopped other to memory ≡ hopped a to memory
     pub spares : next ≢ None → count_stores (is_spill g.notes) a count ≤ spills_on g.snips g.dead edges
@@ -214,8 +214,8 @@ module _ (site : Site) (h : Placed site) where
 
   -- along edges without operations
   hops_on : {next : Option ℕ} (edges : List ℕ) → operations_on g.snips edges ≡ 0 → (a : State) (to most count : ℕ)
-      (m : Memory) → IsFit a → Stores IsFirstWord a.memory m → count ≤ most → Leads IsBare a (hopped a to m) count
-      → IsSilent a count → (0 < count → IsBare a) → (next ≢ None → IsBrief a most count) → Arrives next edges a to most
+      (m : Memory) → IsFit a → Stores IsFirstWord a.memory m → count ≤ most → Leads IsInNoPlace a (hopped a to m) count
+      → IsSilent a count → (0 < count → IsInNoPlace a) → (next ≢ None → IsBrief a most count) → Arrives next edges a to most
   hops_on edges none a to most count m fit stores few path silent begins brief =
       let kept = first_kept a m fit stores in
       record {
@@ -250,7 +250,7 @@ module _ (site : Site) (h : Placed site) where
   -- an item outside each Mark
   pub bare_item : (k n : ℕ) (x : Item) → item_at l.list k n ≡ Some x → open_in (slice_get l.list k) n ≡ None
       → (u : State)
-      → place k n ≤ u.pc → u.pc < place k (suc n) → IsBare u
+      → place k n ≤ u.pc → u.pc < place k (suc n) → IsInNoPlace u
   bare_item k n x item closed u low high =
       let size = item_size l.list k n x item in
       let here = item_below l.list k n x item in
@@ -289,7 +289,7 @@ module _ (site : Site) (h : Placed site) where
         other = other.other;
         memory = other.memory;
         few = omega (arith, one.few, other.few, operations_then g.snips first others);
-        path = leads_then IsBare a b _ one.count other.count one.path other.path (λ _ some. other.begins some);
+        path = leads_then IsInNoPlace a b _ one.count other.count one.path other.path (λ _ some. other.begins some);
         silent = silent_then a b one.count other.count one.path.steps one.silent other.silent;
         stores = stores_then (IsAmongWords f.own) (IsAmongWords f.own) a.memory one.memory other.memory
             (λ z e. e) one.stores other.stores;
@@ -302,7 +302,7 @@ module _ (site : Site) (h : Placed site) where
           | inl more ↦ one.begins more
           | inr none ↦
               let still : one.count ≡ 0 = omega arith in
-              subst IsBare (sym one.path.steps ∙ ap (run a) still) (other.begins (omega arith))
+              subst IsInNoPlace (sym one.path.steps ∙ ap (run a) still) (other.begins (omega arith))
         ];
         alike = alike_then g _ first others refl a one.other other.other mid one.memory one.alike other.alike;
         still = λ d.
@@ -332,14 +332,14 @@ module _ (site : Site) (h : Placed site) where
   pub record Stood (m : Memory) (k n : ℕ) (ws : List ℕ) : Type 0 where
     pub words : HasWords (code_of m) (place k n) ws
     pub end : place k (n + length ws) ≡ place k n + 4 * length ws
-    pub bare : (u : State) → place k n ≤ u.pc → u.pc < place k n + 4 * length ws → IsBare u
+    pub bare : (u : State) → place k n ≤ u.pc → u.pc < place k n + 4 * length ws → IsInNoPlace u
 
   word_fetched : (m : Memory) → HasCode base p.code m → (a w : ℕ) → IsWordAt base p.code a w
       → fetch_from (code_of m) a ≡ Some w
   word_fetched m has a w (n, at, found) = ap (fetch_from (code_of m)) at ∙ has n w found
 
   pub stood : (m : Memory) → HasCode base p.code m → (k n : ℕ) (ws : List ℕ) (xs : List Item)
-      → Rest l k n (map it.Word ws ++ xs) → Stood m k n ws
+      → PieceFrom l k n (map it.Word ws ++ xs) → Stood m k n ws
   stood m has k n [] xs r = record {
     words = tt;
     end = omega (arith, ap (place k) (add-zero n));
@@ -360,7 +360,7 @@ module _ (site : Site) (h : Placed site) where
       }
 
   -- where words end, inside the code
-  pub stood_low : (k n : ℕ) (ws : List ℕ) (xs : List Item) → Rest l k n (map it.Word ws ++ xs)
+  pub stood_low : (k n : ℕ) (ws : List ℕ) (xs : List Item) → PieceFrom l k n (map it.Word ws ++ xs)
       → place k (n + length ws) ≤ 2 ^ 31
   stood_low k n ws xs r =
       let both = length-append (map it.Word ws) xs in
@@ -369,7 +369,7 @@ module _ (site : Site) (h : Placed site) where
 
   -- ---- the snippets of some edges
 
-  snippet_runs : (next : Option ℕ) (edge k n : ℕ) (xs : List Item) → Rest l k n (map it.Word (l.codes edge) ++ xs)
+  snippet_runs : (next : Option ℕ) (edge k n : ℕ) (xs : List Item) → PieceFrom l k n (map it.Word (l.codes edge) ++ xs)
       → (a : State) → IsFit a → a.pc ≡ place k n
       → Arrives next (edge ∷ []) a (place k (n + length (l.codes edge))) 0
   snippet_runs next edge k n xs r a fit at =
@@ -407,7 +407,7 @@ module _ (site : Site) (h : Placed site) where
         few = omega (arith, few, short);
         path = rw (stays past.after (place k (n + length words)) (omega (arith, pc, at, end)) (omega (arith, pc, past.npc))
             past.slot (omega (arith, low)))
-            (leads_weaker _ IsBare a past.after past.steps
+            (leads_weaker _ IsInNoPlace a past.after past.steps
             (λ u q. there.bare u (omega (arith, at, q.past)) (omega (arith, at, q.before))) past.path);
         silent = past.silent;
         stores = stores_weaker _ _ _ _ (may_own g l f h.frame h.cells edge) past.stores;
@@ -429,7 +429,7 @@ module _ (site : Site) (h : Placed site) where
         brief = λ _ _. omega (arith, few, short);
       }
 
-  pub snippets_run : (next : Option ℕ) (edges : List ℕ) (k n : ℕ) (xs : List Item) → Rest l k n (words_on l edges ++ xs)
+  pub snippets_run : (next : Option ℕ) (edges : List ℕ) (k n : ℕ) (xs : List Item) → PieceFrom l k n (words_on l edges ++ xs)
       → (a : State) → IsFit a → a.pc ≡ place k n
       → Arrives next edges a (place k (n + length (flat_map l.codes edges))) 0
   snippets_run next [] k n xs r a fit at =
@@ -438,7 +438,7 @@ module _ (site : Site) (h : Placed site) where
   snippets_run next (edge ∷ edges) k n xs r a fit at =
       let first = l.codes edge in
       let rest = words_on l edges ++ xs in
-      let r2 : Rest l k n (map it.Word first ++ rest) =
+      let r2 : PieceFrom l k n (map it.Word first ++ rest) =
       rw (map-append it.Word first (flat_map l.codes edges), append_assoc) at r in
       let one = snippet_runs next edge k n rest r2 a fit at in
       let mid = place k (n + length first) in
@@ -452,10 +452,10 @@ module _ (site : Site) (h : Placed site) where
 
   -- and then whatever comes behind them
   pub snippets_then : (next : Option ℕ) (edges : List ℕ) (k n : ℕ) (xs : List Item)
-      → Rest l k n (words_on l edges ++ xs) → (a : State)
+      → PieceFrom l k n (words_on l edges ++ xs) → (a : State)
       → IsFit a → a.pc ≡ place k n → (others : List ℕ) (to more : ℕ)
       → ((b : State) → IsFit b → b.pc ≡ place k (n + length (flat_map l.codes edges))
-      → Rest l k (n + length (flat_map l.codes edges)) xs → Arrives next others b to more)
+      → PieceFrom l k (n + length (flat_map l.codes edges)) xs → Arrives next others b to more)
       → Arrives next (edges ++ others) a to more
   snippets_then next edges k n xs r a fit at others to more behind =
       let one = snippets_run next edges k n xs r a fit at in
@@ -468,7 +468,7 @@ module _ (site : Site) (h : Placed site) where
   -- ---- long jumps
 
   -- a long jump to an address, outside each Mark
-  pub far_on : (next : Option ℕ) → next ≡ None → (k n to : ℕ) → IsFar to → Rest l k n (far_piece to) → (a : State)
+  pub far_on : (next : Option ℕ) → next ≡ None → (k n to : ℕ) → IsFar to → PieceFrom l k n (far_piece to) → (a : State)
       → IsFit a → a.pc ≡ place k n → Arrives next [] a to 4
   far_on next out k n to far r a fit at =
       let there = stood a.memory fit.has.code k n (words_of (long_jump to)) [] r in
@@ -485,7 +485,7 @@ module _ (site : Site) (h : Placed site) where
   jump_unmarked : (edges : List ℕ) (z : PieceNo) → AreUnmarked (words_on l edges ++ it.Jump z ∷ [])
   jump_unmarked edges z = words_unmarked (flat_map l.codes edges) (it.Jump z ∷ []) (tt, tt)
 
-  last_jump : (next : Option ℕ) (k n : ℕ) (z : PieceNo) → Rest l k n (it.Jump z ∷ []) → (a : State) → IsFit a
+  last_jump : (next : Option ℕ) (k n : ℕ) (z : PieceNo) → PieceFrom l k n (it.Jump z ∷ []) → (a : State) → IsFit a
       → a.pc ≡ place k n → Arrives next [] a (slice_index p.at z.0) 4
   last_jump next k n z r a fit at = jump_on next k n z (rw add-zero at (r.items 0)) (rw add-zero at (r.shut 0)) a fit at
 
@@ -518,7 +518,7 @@ module _ (site : Site) (h : Placed site) where
       (arrive z edges (hopped one.other (slice_index p.at z.0) one.memory) next to
       (arrived [] a (slice_index p.at z.0) 4 fit (h.laid.aligned z.0).1 one) refl leads)
 
-  pub jump_then : (k n : ℕ) (z : PieceNo) → Rest l k n (it.Jump z ∷ []) → (edges : List ℕ) (a : State)
+  pub jump_then : (k n : ℕ) (z : PieceNo) → PieceFrom l k n (it.Jump z ∷ []) → (edges : List ℕ) (a : State)
       (next : Option ℕ) (to : ℕ) → IsFit a → a.pc ≡ place k n → LeadsTo l p z edges next to → Arrives next edges a to 8
   jump_then k n z r = jump_along k n z (rw add-zero at (r.items 0)) (rw add-zero at (r.shut 0))
 
@@ -574,7 +574,7 @@ module _ (site : Site) (h : Placed site) where
       some_rest : (xs : List Item) → rest_from l k 3 ≡ Some xs → rest ≡ xs
       some_rest xs e = let q : Some rest ≡ Some xs = sym (ap (option_map (drop 3)) is) ∙ e in cc
 
-      with_rest : (xs : List Item) → AreUnmarked xs → rest_from l k 3 ≡ Some xs → Rest l k 3 xs
+      with_rest : (xs : List Item) → AreUnmarked xs → rest_from l k 3 ≡ Some xs → PieceFrom l k 3 xs
       with_rest xs are e = rest_marked l k address number y xs are (is ∙ rw (some_rest xs e))
 
       by : LeadsOn l p place k 3 edges next to → Tail next edges a to 8

@@ -45,7 +45,7 @@ use Rattle.image_code.proofs.Points.{entered_at}
 use Rattle.image_code.proofs.CaseShapes.{LeadsTo, next_entry, word_ahead, words_on}
 use Rattle.image_code.specs.Cases.{branch_piece, plain_piece}
 use Rattle.image_code.proofs.HeadShapes.{IsCase, turn, idle}
-use Rattle.image_code.proofs.TurnShapes.{IsNoJumpsSlot}
+use Rattle.image_code.proofs.ConditionalShapes.{IsNoJumpsSlot}
 use Rattle.image_code.specs.Numbered.{enter_number, image_number}
 use Rattle.image_code.specs.Made.{first_word, goes_on, jump_to, nop_word, way_out}
 use Rattle.image_code.proofs.EdgePieces.{along_far, cut_in}

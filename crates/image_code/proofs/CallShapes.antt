@@ -18,7 +18,7 @@ use Rattle.jump_code.specs.Finding.{find_image}
 use Rattle.image_code.specs.Simulates.{does_at}
 use Rattle.image_code.proofs.Points.{Site}
 use Rattle.image_code.proofs.CaseShapes.{IsMarked, LeadsNext}
-use Rattle.image_code.proofs.TurnShapes.{IsNoJumpsSlot}
+use Rattle.image_code.proofs.ConditionalShapes.{IsNoJumpsSlot}
 
 -- ---- a CALL
 

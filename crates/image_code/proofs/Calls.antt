@@ -26,7 +26,7 @@ use Rattle.jump_code.proofs.Linking.{calls_act, calls_store}
 use Rattle.image_code.specs.Simulates.{at_point, does_at, gone_at, graph_in, number_in}
 use Rattle.image_code.proofs.Points.{EntersNext, HereAt, Placed, Site, StepsFrom, entered_at}
 use Rattle.image_code.proofs.CaseShapes.{LeadsTo}
-use Rattle.image_code.proofs.TurnShapes.{IsNoJumpsSlot}
+use Rattle.image_code.proofs.ConditionalShapes.{IsNoJumpsSlot}
 use Rattle.image_code.proofs.CallShapes.{IsCall}
 use Rattle.image_code.proofs.Dead.{LastDead, gone_last}
 use Rattle.image_code.proofs.Through.{ahead, goes_through}

@@ -10,15 +10,15 @@ use Rattle.image_code.specs.Simulates.{number_in, Chooses, MatchesIn, does_at}
 use Rattle.image_code.proofs.Points.{Site, visited_at, HereAt}
 use Rattle.image_code.proofs.CaseShapes.{IsPlain}
 use Rattle.image_code.proofs.CoupleShapes.{IsCouple}
-use Rattle.image_code.proofs.TurnShapes.{IsTurn}
-use Rattle.image_code.proofs.IdleShapes.{IsIdle}
+use Rattle.image_code.proofs.ConditionalShapes.{IsConditionalBranch}
+use Rattle.image_code.proofs.UnconditionalShapes.{IsUnconditionalBranch}
 use Rattle.image_code.proofs.CallShapes.{IsCall, IsJump}
 use Rattle.image_code.proofs.ChoiceShapes.{IsChoice}
 use Rattle.image_code.proofs.LandingShapes.{IsJumpsSlot}
 use Rattle.image_code.proofs.OutsideShapes.{IsForeign, IsOff}
 use Rattle.image_code.specs.Keeping.{AreCaseTables}
 use Rattle.image_code.proofs.LoadShapes.{IsEntered}
-use Rattle.image_code.specs.Outside.{IsOpen}
+use Rattle.image_code.specs.Outside.{IsOffPages}
 
 -- an item that takes words in every form
 abbrev pub TakesWords : Item → Type 0
@@ -42,8 +42,8 @@ pub record IsHead (site : Site) (node : Node) (x : Point) : Type 0 where
 pub data IsCase (site : Site) (node : Node) (x : Point) (t : State) : Type 0 where
   plain : IsPlain site node x t → IsCase site node x t
   couple : IsCouple site node x → IsCase site node x t
-  turn : IsTurn site node x t → IsCase site node x t
-  idle : IsIdle site node x t → IsCase site node x t
+  turn : IsConditionalBranch site node x t → IsCase site node x t
+  idle : IsUnconditionalBranch site node x t → IsCase site node x t
   call : IsCall site node x t → IsCase site node x t
   jump : IsJump site node x t → IsCase site node x t
   landing : IsJumpsSlot site node x t → IsCase site node x t
@@ -59,9 +59,9 @@ pub data IsVisited (site : Site) (node : Node) (x : Point) : Type 0 where
 
 -- each point outside the pages that the walk's node matches has a place, and is one of the cases
 pub record IsImaged (site : Site) : Type 0 where
-  pub visits : (node : Node) (x : Point) → MatchesIn site.g node x → IsOpen site.g x → IsVisited site node x
-  pub cases : (node : Node) (x : Point) (t : State) → MatchesIn site.g node x → IsOpen site.g x → HereAt site node x t
-      → ((does_at site.g x t).ending ≡ None → IsOpen site.g (point_of (does_at site.g x t)))
+  pub visits : (node : Node) (x : Point) → MatchesIn site.g node x → IsOffPages site.g x → IsVisited site node x
+  pub cases : (node : Node) (x : Point) (t : State) → MatchesIn site.g node x → IsOffPages site.g x → HereAt site node x t
+      → ((does_at site.g x t).ending ≡ None → IsOffPages site.g (point_of (does_at site.g x t)))
       → Chooses site.g node x t (does_at site.g x t) → IsCase site node x t
   -- control enters each where it is visited, but for the loads of open switches
   pub opens : AreCaseTables site.g

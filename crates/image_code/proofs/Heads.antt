@@ -37,7 +37,7 @@ use Rattle.image_code.proofs.HeadShapes.{IsHead, IsVisited, TakesWords, head, ou
 use Rattle.image_code.specs.Made.{distance_of, first_word, image_by, jump_by, jump_image_by, jumps_at, slot_copy, way_by}
 use Rattle.image_code.specs.Numbered.{case_piece, first_entry}
 use Rattle.image_code.proofs.OutsideShapes.{IsForeign, IsOff}
-use Rattle.image_code.specs.Outside.{IsOpen}
+use Rattle.image_code.specs.Outside.{IsOffPages}
 use Rattle.image_code.proofs.Branches.{HeadOf}
 use Rattle.image_code.proofs.ImageNumbers.{jump_numbered}
 use Rattle.image_code.proofs.Visited.{Edit, site, case_items, case_piece_is, edge_is, has_its_image, image_items, l, off, off_address, on, on_its_way, plain_items, plain_piece_is, target, visited_slot, visited_word, way_in}
@@ -157,7 +157,7 @@ module _ (edit : Edit) where
   -- ---- outside the text
 
   pub foreign_is : (node : Node) (x : Point) → x.slot ≡ NoSlot → word_at g.text x.pc ≡ None
-      → home_of node ≡ node_of b (word_at g.text x.pc) → IsOpen g x → IsForeign g node x
+      → home_of node ≡ node_of b (word_at g.text x.pc) → IsOffPages g x → IsForeign g node x
   foreign_is node x slot none held open_there = record {
     slot = slot;
     none = none;
@@ -200,7 +200,7 @@ module _ (edit : Edit) where
     items = found ∙ ap (λ z. Some z) begins.is;
   }
 
-  pub visits : (node : Node) (x : Point) → MatchesIn g node x → IsOpen g x → IsVisited (site edit) node x
+  pub visits : (node : Node) (x : Point) → MatchesIn g node x → IsOffPages g x → IsVisited (site edit) node x
   visits node x m open_there = by x.slot refl m.0 (word_at g.text x.pc) refl
     where
       copied : x.slot ≢ NoSlot → (way : IsOnItsWay g.text (graph_in g) node x (way_in edit x)) → (slot : ℕ)

@@ -16,7 +16,7 @@ use Rattle.image_code.specs.Simulates.{Simulates, at_point, number_in, word_of}
 use Rattle.code_runs.specs.PointsAlike.{instr_of}
 use Rattle.image_code.proofs.Points.{Forms, HereAt, Placed, Site, StepsFrom}
 use Rattle.image_code.proofs.CaseShapes.{visits_it}
-use Rattle.image_code.specs.Outside.{IsOpen}
+use Rattle.image_code.specs.Outside.{IsOffPages}
 use Rattle.image_code.proofs.HeadShapes.{TakesWords, IsCase, IsHead, IsImaged, plain, couple, turn, idle, call, jump, landing, choice, foreign, off, IsVisited, head, outside, beyond}
 use Rattle.image_code.proofs.Between.{at_range}
 use Rattle.image_code.proofs.Cases.{plains_step}
@@ -26,8 +26,8 @@ use Rattle.image_code.proofs.Jumps.{jumps_step}
 use Rattle.image_code.proofs.Landings.{jump_slots_step}
 use Rattle.image_code.proofs.Keeping.{next_steps}
 use Rattle.image_code.proofs.Couple.{couples_step}
-use Rattle.image_code.proofs.Turns.{turns_step}
-use Rattle.image_code.proofs.Idle.{idles_step}
+use Rattle.image_code.proofs.Conditional.{conditional_step}
+use Rattle.image_code.proofs.Unconditional.{unconditional_step}
 use Rattle.image_code.proofs.Outside.{foreign_step, offs_step}
 
 branch_room : (base : ℕ) (code : List ℕ) (cond to a b : ℕ) → BranchStands base code cond to a b → a < b
@@ -79,8 +79,8 @@ module _ (site : Site) (h : Placed site) where
       → StepsFrom site node x t
   by node x t here apart (plain k) = plains_step site h node x t here k (judged x t k.word k.is_word apart)
   by node x t here apart (couple k) = couples_step site h node x t here k
-  by node x t here apart (turn k) = turns_step site h node x t here k
-  by node x t here apart (idle k) = idles_step site h node x t here k
+  by node x t here apart (turn k) = conditional_step site h node x t here k
+  by node x t here apart (idle k) = unconditional_step site h node x t here k
   by node x t here apart (call k) = calls_step site h node x t here k
   by node x t here apart (jump k) = jumps_step site h node x t here k
   by node x t here apart (landing k) = jump_slots_step site h node x t here k (judged x t k.word k.is_word apart)
@@ -88,7 +88,7 @@ module _ (site : Site) (h : Placed site) where
   by node x t here apart (foreign k) = (foreign_step site h node x t here k).1
   by node x t here apart (off k) = (offs_step site h node x t here k).1
 
-  pub simulate : IsImaged site → Simulates g (IsOpen g) (HereAt site) (Forms site)
+  pub simulate : IsImaged site → Simulates g (IsOffPages g) (HereAt site) (Forms site)
   simulate c = record {
     visits = λ node x t matches clear here. let at = there node x t here (c.visits node x matches clear) in (
       here.live,

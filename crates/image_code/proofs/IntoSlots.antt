@@ -21,7 +21,7 @@ use Rattle.cfg_walk.proofs.Points.{Stands, StepsTo}
 use Rattle.image_code.specs.Simulates.{gone_at, graph_in}
 use Rattle.image_code.proofs.Points.{entered_at}
 use Rattle.image_code.proofs.CaseShapes.{LeadsTo}
-use Rattle.image_code.proofs.TurnShapes.{IsNoJumpsSlot}
+use Rattle.image_code.proofs.ConditionalShapes.{IsNoJumpsSlot}
 use Rattle.image_code.specs.Made.{way_out}
 use Rattle.image_code.proofs.EdgePieces.{cut_in}
 use Rattle.image_code.proofs.Visited.{AtWord, Edit, site, enters, l, nothing_gone, on_its_way}

@@ -57,7 +57,7 @@ use Rattle.image_code.specs.Store.{cells_in}
 use Rattle.image_code.proofs.Points.{Entered, EntersNext, Forms, HereAt, Placed, Site, StepsFrom, entered_at, visited_at}
 use Rattle.image_code.specs.Keeping.{AreCaseTables}
 use Rattle.image_code.proofs.LoadShapes.{IsEntered, IsKeeping, at_once, keeping}
-use Rattle.image_code.proofs.Arrives.{IsFit, Rest, Stood, bare_on, first_kept, rest_whole, stood, stood_low}
+use Rattle.image_code.proofs.Arrives.{IsFit, PieceFrom, Stood, bare_on, first_kept, rest_whole, stood, stood_low}
 use Rattle.image_code.proofs.Between.{can_run}
 use Rattle.image_code.proofs.Memories.{images_stored, same_stored}
 use Rattle.image_code.proofs.Sparing.{instr_is, spill_first}
@@ -179,8 +179,8 @@ module _ (site : Site) (h : Placed site) (are : AreCaseTables site.g) where
     here : Entered site (node_after (graph_in g) node edges) (point_of v) e.on.after
     here = e.on.here live
 
-    whole : Rest l c.piece 0 (word_items (keep_load o.rs1 o.op2) ++ [])
-    whole = subst (Rest l c.piece 0) (sym (append-nil (word_items (keep_load o.rs1 o.op2))))
+    whole : PieceFrom l c.piece 0 (word_items (keep_load o.rs1 o.op2) ++ [])
+    whole = subst (PieceFrom l c.piece 0) (sym (append-nil (word_items (keep_load o.rs1 o.op2))))
         (rest_whole l c.piece (word_items (keep_load o.rs1 o.op2)) (tt, (tt, (tt, tt))) c.items)
 
     stands : Stood site h e.on.after.memory c.piece 0 (words_of (keep_load o.rs1 o.op2))

@@ -40,7 +40,7 @@ use Rattle.image_code.specs.Store.{operations_on}
 use Rattle.image_code.proofs.Points.{HereAt, Placed, Site, StepsFrom}
 use Rattle.image_code.proofs.CaseShapes.{LeadsTo, next_entry, words_on}
 use Rattle.image_code.proofs.LandingShapes.{IsJumpsSlot, Lands}
-use Rattle.image_code.proofs.Arrives.{Arrives, IsBare, IsFit, Rest, arrive, arrived, bare_here, eased, length_words, on_then, rest_behind, rest_marked, page_there, rest_whole, snippets_run, unwatched, Stood, stood, stood_low, weaker_arrives, words_unmarked}
+use Rattle.image_code.proofs.Arrives.{Arrives, IsInNoPlace, IsFit, PieceFrom, arrive, arrived, bare_here, eased, length_words, on_then, rest_behind, rest_marked, page_there, rest_whole, snippets_run, unwatched, Stood, stood, stood_low, weaker_arrives, words_unmarked}
 use Rattle.image_code.proofs.Cases.{judged_moved, marked_step}
 use Rattle.image_code.proofs.Cells.{cells_above, page_above}
 use Rattle.image_code.proofs.Dead.{alike_itself}
@@ -71,7 +71,7 @@ module _ (site : Site) (h : Placed site) where
         other = a;
         memory = left;
         few = omega arith;
-        path = leads_weaker _ (IsBare site h) a _ count
+        path = leads_weaker _ (IsInNoPlace site h) a _ count
             (λ u q.
             there.bare u (omega (arith, at, q.past)) (omega (arith, at, q.before, many)))
             hops.path;
@@ -91,10 +91,10 @@ module _ (site : Site) (h : Placed site) where
 
   -- ---- the jump to what was found
 
-  goes_found : (through k n : ℕ) → 0 < through → through < 32 → Rest l k n (going_on through) → (a : State)
+  goes_found : (through k n : ℕ) → 0 < through → through < 32 → PieceFrom l k n (going_on through) → (a : State)
       → IsFit site h a → a.pc ≡ place k n → (to : ℕ) → found_there a ≡ to → to % 4 ≡ 0 → Arrives site h None [] a to 3
   goes_found through k n some below rest a fit at to found aligned =
-      let r : Rest l k n (going_on through ++ []) = subst (Rest l k n) (sym (append-nil (going_on through))) rest in
+      let r : PieceFrom l k n (going_on through ++ []) = subst (PieceFrom l k n) (sym (append-nil (going_on through))) rest in
       let there = stood site h a.memory fit.has.code k n (words_of (go_found through)) [] r in
       let low = stood_low site h k n (words_of (go_found through)) [] r in
       let about : IsAboutToGoOn through a = record {
@@ -117,8 +117,8 @@ module _ (site : Site) (h : Placed site) where
   pub leaves : (k : ℕ) → slice_get l.list k ≡ Some foreign_piece → (a : State) → IsFit site h a
       → a.pc ≡ place k 0 → (target : ℕ) → waiting a ≡ target → target % 4 ≡ 0 → Arrives site h None [] a target 4
   leaves k is a fit at target waits aligned =
-      let r : Rest l k 0 (foreign_piece ++ []) =
-      subst (Rest l k 0) (sym (append-nil foreign_piece))
+      let r : PieceFrom l k 0 (foreign_piece ++ []) =
+      subst (PieceFrom l k 0) (sym (append-nil foreign_piece))
       (rest_whole l k foreign_piece (tt, (tt, (tt, (tt, tt)))) is) in
       let there = stood site h a.memory fit.has.code k 0 (words_of foreign) [] r in
       let low = stood_low site h k 0 (words_of foreign) [] r in
@@ -159,7 +159,7 @@ module _ (site : Site) (h : Placed site) where
         there : (o : Option ℕ) → option_map (λ word. slice_index g.text.words word) o ≡ Some c.word → o ≢ None
         there o e none = cc (rw none at e)
 
-    rest : Rest l c.piece 3 (words_on l (c.edge ∷ []) ++ going_on c.through)
+    rest : PieceFrom l c.piece 3 (words_on l (c.edge ∷ []) ++ going_on c.through)
     rest = rest_marked l c.piece c.address (number_in g node) (it.Word c.word)
         (words_on l (c.edge ∷ []) ++ going_on c.through)
         (words_unmarked (flat_map l.codes (c.edge ∷ [])) (going_on c.through) (tt, (tt, (tt, tt)))) c.items
@@ -183,8 +183,8 @@ module _ (site : Site) (h : Placed site) where
         let low = stood_low site h c.piece 3 (flat_map l.codes (c.edge ∷ [])) (going_on c.through) rest in
         let b : State = hopped way.other mid way.memory in
         let fit2 = arrived site h (c.edge ∷ []) (act t (decode_of c.word)) mid 0 fit low way in
-        let r2 : Rest l c.piece (3 + length (flat_map l.codes (c.edge ∷ []))) (going_on c.through) =
-        subst (λ z. Rest l c.piece (3 + z) (going_on c.through)) (length_words (flat_map l.codes (c.edge ∷ [])))
+        let r2 : PieceFrom l c.piece (3 + length (flat_map l.codes (c.edge ∷ []))) (going_on c.through) =
+        subst (λ z. PieceFrom l c.piece (3 + z) (going_on c.through)) (length_words (flat_map l.codes (c.edge ∷ [])))
         (rest_behind l c.piece 3 (words_on l (c.edge ∷ [])) (going_on c.through) rest) in
         let there = found_in f.halves x.npc in
         let two = goes_found c.through c.piece n c.some c.below r2 b fit2 refl there (way.found (λ e. cc) ∙ found_waits)

@@ -18,8 +18,8 @@ pub mod Cases
 pub mod Couple
 pub mod Dead
 pub mod BranchMoves
-pub mod Turns
-pub mod Idle
+pub mod Conditional
+pub mod Unconditional
 pub mod Outside
 pub mod Marked
 pub mod Through
@@ -65,10 +65,10 @@ pub mod CaseShapes
 pub mod ChoiceShapes
 pub mod CoupleShapes
 pub mod HeadShapes
-pub mod IdleShapes
+pub mod UnconditionalShapes
 pub mod LandingShapes
 pub mod LoadShapes
 pub mod OutsideShapes
 pub mod Points
 pub mod Promises
-pub mod TurnShapes
+pub mod ConditionalShapes

@@ -22,7 +22,7 @@ use Rattle.image_code.specs.Simulates.{Chooses, MatchesIn, does_at, graph_in}
 use Rattle.image_code.proofs.Points.{HereAt}
 use Rattle.image_code.proofs.HeadShapes.{IsCase, call, choice, foreign, jump, off, plain}
 use Rattle.image_code.specs.Made.{PiecesMakeImages}
-use Rattle.image_code.specs.Outside.{IsOpen}
+use Rattle.image_code.specs.Outside.{IsOffPages}
 use Rattle.image_code.proofs.BranchImages.{branch_case}
 use Rattle.image_code.proofs.CaseTables.{IsKnown, are_tables}
 use Rattle.image_code.proofs.ChoiceImages.{choice_case}
@@ -68,7 +68,7 @@ module _ (edit : Edit) where
 
   -- ---- everywhere
 
-  case : (node : Node) (x : Point) (t : State) → MatchesIn g node x → IsOpen g x
+  case : (node : Node) (x : Point) (t : State) → MatchesIn g node x → IsOffPages g x
       → HereAt (site edit) node x t → Chooses g node x t (does_at g x t) → IsCase (site edit) node x t
   case node x t m open_there here chooses = by x.slot refl m.0 (word_at g.text x.pc) refl
     where

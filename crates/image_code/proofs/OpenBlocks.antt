@@ -43,7 +43,7 @@ use Rattle.cfg_walk.proofs.Holding.{ends_at_next, ends_at_words, ends_within, is
 use Rattle.cfg_walk.proofs.Lists.{Each, each, each-append, each-below, each-flat_map, each-map, each-then, each_at, each_in}
 use Rattle.cfg_walk.proofs.Nodes.{edges_lead_in}
 use Rattle.cfg_walk.proofs.Ways.{IsOwn, ways_are_own}
-use Rattle.jump_slice.specs.Cases.{IsOpen}
+use Rattle.jump_slice.specs.Cases.{IsOpenSwitch}
 use Rattle.jump_slice.proofs.About.{about}
 use Rattle.jump_slice.proofs.Into.{leads_in}
 use Rattle.jump_slice.proofs.Opened.{found_in, opens_are}
@@ -98,7 +98,7 @@ module _ (text : Words) (given : List ℕ) (entry : ℕ) (is_text : IsText text)
   parts : IsCut text its
   parts = cut text given is_text.some
 
-  led_first : (o : Open) → IsOpen text (entered_of text given) entry o
+  led_first : (o : Open) → IsOpenSwitch text (entered_of text given) entry o
       → led_word its o.switch.compare.0 ≡ slice_index its.firsts o.block
   unfolding entered_of
   led_first o is =
@@ -111,7 +111,7 @@ module _ (text : Words) (given : List ℕ) (entry : ℕ) (is_text : IsText text)
       (λ e. ap or_zero (leads.untaken (untaken_is o.way (rw e at way))))
       (λ e. ap or_zero (leads.taken (taken_is o.way (rw e at way))))
 
-  switch_in : (o : Open) → IsOpen text (entered_of text given) entry o → IsSwitchIn text its o
+  switch_in : (o : Open) → IsOpenSwitch text (entered_of text given) entry o → IsSwitchIn text its o
   unfolding entered_of
   switch_in o is =
       let a = about text given entry is_text o is in

@@ -19,7 +19,7 @@ use Rattle.cfg_normal.specs.Opens.{Open}
 use Rattle.cfg_normal.specs.Graph.{Graph}
 use Rattle.cfg_walk.specs.Matches.{AreOpen}
 use Rattle.cfg_walk.proofs.Lists.{Each}
-use Rattle.jump_slice.specs.Cases.{IsOpen, LoadsEntry, approach_to}
+use Rattle.jump_slice.specs.Cases.{IsOpenSwitch, LoadsEntry, approach_to}
 use Rattle.jump_slice.specs.Joined.{IsCaseBlock}
 use Rattle.jump_slice.proofs.CaseBlocks.{case_block, open_in}
 use Rattle.jump_slice.proofs.Numbered.{opens_are_one}
@@ -102,13 +102,13 @@ cased_of text given entry is_text = record {
   jumps = are_open text (entered_of text given) entry (opens_in text given entry) all;
 }
   where
-    all : Each (IsOpen text (entered_of text given) entry) (opens_in text given entry)
+    all : Each (IsOpenSwitch text (entered_of text given) entry) (opens_in text given entry)
     all = opens_are text given entry is_text
 
     is_open : (k : ℕ) (o : Open) → slice_get (opens_in text given entry) k ≡ Some o
-        → IsOpen text (entered_of text given) entry o
+        → IsOpenSwitch text (entered_of text given) entry o
     is_open k o e =
-        open_in (IsOpen text (entered_of text given) entry) (opens_in text given entry) o all
+        open_in (IsOpenSwitch text (entered_of text given) entry) (opens_in text given entry) o all
         (contains (opens_in text given entry) k o e)
 
 pub cased : (g : Setting) → IsText g.text → IsGraphOf g.text (graph_in g)

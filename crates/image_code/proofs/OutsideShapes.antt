@@ -7,7 +7,7 @@ use Rattle.notes.specs.Format.{NoteRange, range_at}
 use Rattle.v8_step.specs.declared.Slot.TheVariants.{NoSlot}
 use Rattle.cfg_walk.specs.Walk.{Point}
 use Rattle.image_code.specs.Simulates.{Setting, number_in}
-use Rattle.image_code.specs.Outside.{IsOpen}
+use Rattle.image_code.specs.Outside.{IsOffPages}
 use Rattle.image_code.specs.Images.{IsBeside}
 use Rattle.image_code.proofs.Points.{Site}
 
@@ -16,7 +16,7 @@ pub record IsForeign (g : Setting) (node : Node) (x : Point) : Type 0 where
   pub slot : x.slot ≡ NoSlot
   pub none : word_at g.text x.pc ≡ None
   pub beyond : node ≡ X
-  pub apart : IsOpen g x
+  pub apart : IsOffPages g x
 
 -- In a slot behind the text, whose place is where the table begins.
 pub record IsOff (site : Site) (node : Node) (x : Point) : Type 0 where

@@ -15,7 +15,7 @@ use Rattle.cfg_normal.specs.Graph.{Graph}
 use Rattle.cfg_normal.specs.Code.{IsGraph}
 use Rattle.cfg_walk.proofs.Cut.{IsCut, cut}
 use Rattle.cfg_walk.proofs.Holding.{some_words}
-use Rattle.jump_slice.specs.Cases.{IsOpen}
+use Rattle.jump_slice.specs.Cases.{IsOpenSwitch}
 use Rattle.jump_slice.proofs.About.{About, about}
 use Rattle.jump_slice.proofs.Acts.{operands}
 use Rattle.jump_slice.proofs.CaseBlocks.{open_in}
@@ -33,7 +33,7 @@ positive : (n : ℕ) → (n ≡ 0 → ⊥) → 0 < n
 positive n h = omega arith
 
 module _ (text : Words) (given : List ℕ) (entry : ℕ) (is_text : IsText text) (o : Open)
-    (is : IsOpen text (entered_of text given) entry o) where
+    (is : IsOpenSwitch text (entered_of text given) entry o) where
   abbrev b : Blocks
   b = blocks_of text given
 
@@ -77,7 +77,7 @@ source_is text graph is_text is_graph h = record {
   stands = λ o among.
       subst (λ (g : Graph). StandsInText text g.blocks o) (sym h.is)
       (stands_in_text text h.given h.entry is_text o
-      (open_in (IsOpen text (entered_of text h.given) h.entry) (opens_in text h.given h.entry) o
+      (open_in (IsOpenSwitch text (entered_of text h.given) h.entry) (opens_in text h.given h.entry) o
       (opens_are text h.given h.entry is_text)
       (subst (λ (g : Graph). Contains g.opens o) h.is among)));
 }

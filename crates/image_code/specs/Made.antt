@@ -43,7 +43,7 @@ use Rattle.image_code.specs.Store.{operations_on}
 use Rattle.image_code.specs.Images.{Frame, Here, IsPlaced, Pieces}
 use Rattle.image_code.specs.Cases.{plain_piece, branch_piece}
 use Rattle.image_code.specs.Couple.{couple_piece}
-use Rattle.image_code.specs.Outside.{IsOpen}
+use Rattle.image_code.specs.Outside.{IsOffPages}
 use Rattle.image_code.specs.Choices.{choice_piece}
 use Rattle.image_code.specs.Loads.{load_of}
 use Rattle.image_code.specs.Numbered.{along_number, case_numbers, enter_number, first_entry, foreign_number, image_number, jump_number, landing_number, node_in_order, or_zero, own_edges, place_in, way_piece}
@@ -338,5 +338,5 @@ PiecesMakeImages =
     → IsPlaced g (edit_pieces g f codes) base p place f
     → IsTableFor g.text (graph_in g) g.snips p f.table f.halves → AreCasesFor g.text (graph_in g) p f.cases
     → f.table.base < base → IsOffNoted g f.table.base
-    → Simulates g (IsOpen g) (Here g (edit_pieces g f codes) base p f)
+    → Simulates g (IsOffPages g) (Here g (edit_pieces g f codes) base p f)
     (HasShortForms (piece_list g.text (graph_in g) f.table.base f.cases.base codes) place)

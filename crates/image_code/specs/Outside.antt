@@ -5,5 +5,5 @@ use Rattle.cfg_walk.specs.Walk.{Point}
 use Rattle.image_code.specs.Simulates.{Setting}
 
 -- the point lies outside the pages
-abbrev pub IsOpen : Setting → Point → Type 0
-IsOpen g x = IsApartFromAll (pages_of g.notes) (record { from = x.pc; count = 1 })
+abbrev pub IsOffPages : Setting → Point → Type 0
+IsOffPages g x = IsApartFromAll (pages_of g.notes) (record { from = x.pc; count = 1 })

@@ -22,7 +22,7 @@ use Rattle.cfg_blocks.specs.Values.{instr_at}
 use Rattle.cfg_blocks.proofs.Targets.{word_at-some}
 use Rattle.cfg_normal.specs.Opens.{Open, targets_in, targets_of, words_from}
 use Rattle.cfg_walk.proofs.Cut.{IsCut, cut}
-use Rattle.jump_slice.specs.Cases.{IsOpen}
+use Rattle.jump_slice.specs.Cases.{IsOpenSwitch}
 use Rattle.jump_slice.proofs.Compared.{Compares, compare_at-is}
 use Rattle.jump_slice.proofs.Opened.{found_in}
 use Rattle.jump_slice.proofs.Parts.{IsSwitch, branch_at, in_list, switch_of-is}
@@ -50,7 +50,7 @@ pub record About (text : Words) (b : Blocks) (entry : ℕ) (o : Open) (cond : �
   pub table : is_table text o.switch.table.0 o.switch.count ≡ true
 
 pub about : (text : Words) (given : List ℕ) (entry : ℕ) → IsText text → (o : Open)
-    → (is : IsOpen text (entered_of text given) entry o) → About text (blocks_of text given) entry o is.cond is.annul
+    → (is : IsOpenSwitch text (entered_of text given) entry o) → About text (blocks_of text given) entry o is.cond is.annul
 unfolding entered_of
 about text given entry is_text o is =
     let list : Entered = entered_of text given in

@@ -18,7 +18,7 @@ use Rattle.cfg_normal.proofs.TableWords.{are_targets, entry_in, targets_are}
 use Rattle.cfg_walk.proofs.Cut.{IsCut, cut}
 use Rattle.cfg_walk.proofs.Holding.{some_words}
 use Rattle.cfg_walk.proofs.Lists.{Each, each-below, each-map, each_in}
-use Rattle.jump_slice.specs.Cases.{IsOpen}
+use Rattle.jump_slice.specs.Cases.{IsOpenSwitch}
 use Rattle.jump_slice.specs.Joined.{CaseBlocks, IsCaseBlock}
 use Rattle.jump_slice.proofs.About.{About, about}
 use Rattle.jump_slice.proofs.Blocks.{no_transfer}
@@ -59,7 +59,7 @@ target_of text switch t k l =
 -- ---- what is known of the block
 
 pub case_block : (text : Words) (given : List ℕ) (entry : ℕ) → IsText text → (o : Open)
-    → (is : IsOpen text (entered_of text given) entry o) → IsCaseBlock text (blocks_of text given) o
+    → (is : IsOpenSwitch text (entered_of text given) entry o) → IsCaseBlock text (blocks_of text given) o
 unfolding entered_of
 case_block text given entry is_text o is =
     let table = table_in text o.switch (let next = is.jump in let at = jumps.at in omega arith)
@@ -107,9 +107,9 @@ pub case_blocks : CaseBlocks
 unfolding entered_of
 case_blocks text given entry is_text o among =
     let all = opens_are text given entry is_text in
-    let is = open_in (IsOpen text (entered_of text given) entry) _ o all among in (
+    let is = open_in (IsOpenSwitch text (entered_of text given) entry) _ o all among in (
       case_block text given entry is_text o is,
       λ other there.
           opens_are_one text (entered_of text given) entry o other is
-          (open_in (IsOpen text (entered_of text given) entry) _ other all there),
+          (open_in (IsOpenSwitch text (entered_of text given) entry) _ other all there),
     )

@@ -15,7 +15,7 @@ use Rattle.cfg_normal.specs.Opens.{Open, opens_of}
 use Rattle.cfg_normal.specs.Graph.{Graph, graph_of}
 use Rattle.cfg_walk.specs.Matches.{BeginsAt, FetchesOnly}
 use Rattle.cfg_walk.proofs.Addresses.{word_at-address}
-use Rattle.jump_slice.specs.Cases.{ComesFromCompare, HasPassed, IsOpen, IsNumbered, LoadsEntry, number_in, steps_to}
+use Rattle.jump_slice.specs.Cases.{ComesFromCompare, HasPassed, IsOpenSwitch, IsNumbered, LoadsEntry, number_in, steps_to}
 use Rattle.jump_slice.specs.Held.{HoldsText}
 use Rattle.jump_slice.specs.Joined.{GoesByTable, IsCaseBlock, JumpsGoByTable, StandsAt, StoodFrom}
 use Rattle.jump_slice.specs.Runs.{GoesIntoTable}
@@ -152,7 +152,7 @@ unfolding entered_of
 jumps_go_by_table text given entry s0 is_text valid fetches holds begins among o contains n load l at above below =
     let list : Entered = entered_of text given in
     let graph : Graph = graph_of (blocks_of text given) (opens_of text list (switches_of text list entry)) in
-    let is = open_in (IsOpen text list entry) _ o (opens_are text given entry is_text) contains in
+    let is = open_in (IsOpenSwitch text list entry) _ o (opens_are text given entry is_text) contains in
     let jumps = any_of _ o (λ (x : Open). x.block == o.block) contains (eq-eqb o.block o.block refl) in
     let from = from_compare (run_of text given entry s0 is_text valid fetches holds begins) among n o.block
     o.approach.jump at.live at.outside at.itself jumps at.at in

@@ -21,7 +21,7 @@ use Rattle.cfg_blocks.specs.declared.switches.Approach.{Approach}
 use Rattle.cfg_walk.proofs.Leaving.{transfer_ends}
 use Rattle.jump_slice.proofs.Blocks.{transfer_at}
 use Rattle.cfg_walk.proofs.Walks.{live_before}
-use Rattle.jump_slice.specs.Cases.{ComesFromCompare, IsOpen}
+use Rattle.jump_slice.specs.Cases.{ComesFromCompare, IsOpenSwitch}
 use Rattle.jump_slice.specs.Runs.{ComesAlong, GoesIntoTable, to_branch, to_jump}
 use Rattle.jump_slice.proofs.About.{About, about, in_targets, target_among}
 use Rattle.jump_slice.proofs.Whole.{switches_hold}
@@ -31,7 +31,7 @@ use Rattle.jump_slice.proofs.Known.{Carries, IsRun, Tells, b, carried, holds_wor
 module _ {text : Words} {given : List ℕ} {entry : ℕ} {opens : List Open} {s0 : State}
     (r : IsRun text given entry opens s0) where
   -- the law of one switch, for an open one
-  held : (o : Open) (is : IsOpen text (list r) entry o) (runs : Bool) → runs_slot is.annul o.way ≡ runs → (m : ℕ)
+  held : (o : Open) (is : IsOpenSwitch text (list r) entry o) (runs : Bool) → runs_slot is.annul o.way ≡ runs → (m : ℕ)
       → ComesAlong text o.approach is.cond is.annul o.way (run s0 m)
       → GoesIntoTable text o.switch (register_of (run s0 m) o.approach.compare.register)
       (run (run s0 m) (to_jump o.approach runs))

@@ -36,7 +36,7 @@ use Rattle.jump_slice.proofs.Steps.{carries_out, comes_to}
 use Rattle.cfg_walk.proofs.Nodes.{home_directed, home_of_node}
 use Rattle.cfg_walk.proofs.Lists.{Each}
 use Rattle.cfg_walk.proofs.Ways.{same_kinds}
-use Rattle.jump_slice.specs.Cases.{ComesFromCompare, HasPassed, IsOpen}
+use Rattle.jump_slice.specs.Cases.{ComesFromCompare, HasPassed, IsOpenSwitch}
 use Rattle.jump_slice.specs.Held.{HoldsText}
 use Rattle.jump_slice.specs.Runs.{to_branch}
 use Rattle.jump_slice.proofs.About.{about}
@@ -66,12 +66,12 @@ pub record IsWayOf (text : Words) (list : Entered) (entry : ℕ) (opens : List O
     : Type 0 where
   pub o : Open
   pub among : Contains opens o
-  pub is : IsOpen text list entry o
+  pub is : IsOpenSwitch text list entry o
   pub block_is : o.block ≡ k
   pub from_is : from ≡ block o.switch.compare.0
   pub kind_is : kind ≡ o.way
 
-way_of_open : (text : Words) (list : Entered) (entry : ℕ) (opens : List Open) → Each (IsOpen text list entry) opens
+way_of_open : (text : Words) (list : Entered) (entry : ℕ) (opens : List Open) → Each (IsOpenSwitch text list entry) opens
     → (from : Node) (kind : EdgeKind) (k : ℕ) → is_compared opens from kind k ≡ true
     → IsWayOf text list entry opens from kind k
 way_of_open text list entry opens all (Block c) kind k h =
@@ -90,7 +90,7 @@ pub record IsRun (text : Words) (given : List ℕ) (entry : ℕ) (opens : List O
   pub fetches : FetchesOnly text s0
   pub holds : HoldsText text s0.memory
   pub begins : BeginsAt text entry s0
-  pub all : Each (IsOpen text (entered_of text given) entry) opens
+  pub all : Each (IsOpenSwitch text (entered_of text given) entry) opens
 
 module _ {text : Words} {given : List ℕ} {entry : ℕ} {opens : List Open} {s0 : State}
     (r : IsRun text given entry opens s0) where
@@ -115,14 +115,14 @@ module _ {text : Words} {given : List ℕ} {entry : ℕ} {opens : List Open} {s0
   -- behind the comparison
   abbrev pub Compared : ℕ → Node → Type 0
   Compared n node =
-      (o : Open) → Contains opens o → IsOpen text list entry o → node ≡ block o.switch.compare.0 → (w : ℕ)
+      (o : Open) → Contains opens o → IsOpenSwitch text list entry o → node ≡ block o.switch.compare.0 → (w : ℕ)
       → word_at text (run s0 n).pc ≡ Some w → o.approach.compare.word < w
       → HasCompared text o s0 n (w - o.approach.compare.word)
 
   -- in the slot of its branch
   abbrev pub Passing : ℕ → Node → EdgeKind → Type 0
   Passing n node way =
-      (o : Open) → Contains opens o → (is : IsOpen text list entry o) → node ≡ block o.switch.compare.0 → way ≡ o.way
+      (o : Open) → Contains opens o → (is : IsOpenSwitch text list entry o) → node ≡ block o.switch.compare.0 → way ≡ o.way
       → HasPassed text o is.cond s0 n (to_branch o.approach + 1) × (runs_slot is.annul o.way ≡ true)
 
   -- in the jump's block
@@ -163,7 +163,7 @@ module _ {text : Words} {given : List ℕ} {entry : ℕ} {opens : List Open} {s0
 
   heads_passed : (n w : ℕ) (from : Node) (kind : EdgeKind) → word_at text (run s0 n).pc ≡ Some w → w < b.words
       → IsHead w
-      → ((o : Open) → Contains opens o → (is : IsOpen text list entry o) → from ≡ block o.switch.compare.0
+      → ((o : Open) → Contains opens o → (is : IsOpenSwitch text list entry o) → from ≡ block o.switch.compare.0
       → kind ≡ o.way → HasPassed text o is.cond s0 n (to_branch o.approach + 1 + o.approach.slot))
       → Passed n (directed opens from kind (node_of b (Some w)))
   heads_passed n w from kind at l head passed k there jumps v here =
@@ -188,7 +188,7 @@ module _ {text : Words} {given : List ℕ} {entry : ℕ} {opens : List Open} {s0
   pub heads : (n : ℕ) (node from : Node) (kind : EdgeKind)
       → node ≡ directed opens from kind (node_of b (word_at text (run s0 n).pc))
       → ((w : ℕ) → word_at text (run s0 n).pc ≡ Some w → (w < b.words) × IsHead w)
-      → ((o : Open) → Contains opens o → (is : IsOpen text list entry o) → from ≡ block o.switch.compare.0
+      → ((o : Open) → Contains opens o → (is : IsOpenSwitch text list entry o) → from ≡ block o.switch.compare.0
       → kind ≡ o.way → HasPassed text o is.cond s0 n (to_branch o.approach + 1 + o.approach.slot))
       → Compared n node × Passed n node
   heads n node from kind is first passed = by (word_at text (run s0 n).pc) refl

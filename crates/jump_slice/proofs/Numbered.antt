@@ -16,7 +16,7 @@ use Rattle.cfg_blocks.specs.Blocks.{blocks_of}
 use Rattle.cfg_blocks.specs.Entries.{entered_of}
 use Rattle.cfg_blocks.specs.Switches.{is_taken, runs_slot, switch_of, switches_of}
 use Rattle.cfg_normal.specs.Opens.{Open, opens_of, targets_of}
-use Rattle.jump_slice.specs.Cases.{HasPassed, IsOpen, LoadsEntry, NumbersAreCompared, OpensAreOne, approach_to, steps_to}
+use Rattle.jump_slice.specs.Cases.{HasPassed, IsOpenSwitch, LoadsEntry, NumbersAreCompared, OpensAreOne, approach_to, steps_to}
 use Rattle.jump_slice.specs.Runs.{GoesIntoTable, to_branch, to_jump}
 use Rattle.jump_slice.proofs.About.{About, about}
 use Rattle.jump_slice.proofs.Parts.{IsJump, entry_of}
@@ -30,7 +30,7 @@ use Rattle.jump_slice.proofs.Whole.{place_is, ready, up_to, whole}
 -- ---- a comparison of an open switch from which a run has come
 
 module _ {text : Words} {given : List ℕ} {entry : ℕ} {opens : List Open} {s0 : State}
-    (r : IsRun text given entry opens s0) (o : Open) (is : IsOpen text (entered_of text given) entry o) (n steps : ℕ)
+    (r : IsRun text given entry opens s0) (o : Open) (is : IsOpenSwitch text (entered_of text given) entry o) (n steps : ℕ)
     (live : (run s0 n).ending ≡ None) (passed : HasPassed text o is.cond s0 n steps) where
   pub ready_at : Ready text o.approach is.cond is.annul o.way (run s0 passed.moment)
       × IsJump text o.approach o.switch.compare.0 o.switch
@@ -57,7 +57,7 @@ numbers_are_compared text given entry s0 is_text valid fetches holds begins amon
     o : Open
     o = from.switch
 
-    is : IsOpen text (entered_of text given) entry o
+    is : IsOpenSwitch text (entered_of text given) entry o
     is = from.is
 
     a : About text (blocks_of text given) entry o is.cond is.annul

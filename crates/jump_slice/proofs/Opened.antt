@@ -25,7 +25,7 @@ use Rattle.cfg_walk.specs.Matches.{AreOpen}
 use Rattle.cfg_walk.proofs.Cut.{cut}
 use Rattle.cfg_walk.proofs.Holding.{is_held, some_words}
 use Rattle.cfg_walk.proofs.Lists.{Each, each-append, each-below, each-flat_map}
-use Rattle.jump_slice.specs.Cases.{IsOpen}
+use Rattle.jump_slice.specs.Cases.{IsOpenSwitch}
 use Rattle.cfg_blocks.specs.Values.{instr_at}
 use Rattle.jump_slice.proofs.Parts.{if_some, switch_at-is}
 
@@ -98,11 +98,11 @@ module _ (text : Words) (list : Entered) (block : ℕ) (switch : Switch) where
 
 candidate_is : (text : Words) (list : Entered) (entry block : ℕ) (switch : Switch)
     → holding_of list.blocks switch.jump.0 ≡ block → switch_of text list entry block ≡ Some switch
-    → Found text list block switch → Each (IsOpen text list entry) (candidate text list switch)
+    → Found text list block switch → Each (IsOpenSwitch text list entry) (candidate text list switch)
 unfolding candidate
 candidate_is text list entry block switch held is f =
     rw made
-    (cond_both (is_candidate text a) (o ∷ []) [] (Each (IsOpen text list entry)) (λ h. (opens h, tt)) (λ _. tt))
+    (cond_both (is_candidate text a) (o ∷ []) [] (Each (IsOpenSwitch text list entry)) (λ h. (opens h, tt)) (λ _. tt))
   where
     b : Blocks
     b = list.blocks
@@ -117,7 +117,7 @@ candidate_is text list entry block switch held is f =
     made =
         cc (held, f.edge, eq-eqb switch.compare.0 f.from.0 (ap (λ (n : BlockNo). n.0) f.compare_is), f.branch, f.sets)
 
-    opens : is_candidate text a ≡ true → IsOpen text list entry o
+    opens : is_candidate text a ≡ true → IsOpenSwitch text list entry o
     opens h =
         let one = and_parts (loads_here text a && nat_lt (a.jump + 1) (length text.words)) (nat_lt (a.last + 1) (length text.words)) h in
         let two = and_parts (loads_here text a) (nat_lt (a.jump + 1) (length text.words)) one.0 in
@@ -142,7 +142,7 @@ candidate_is text list entry block switch held is f =
 
 module _ (text : Words) (list : Entered) (entry : ℕ) where
   abbrev AreIsOpen : List Open → Type 0
-  AreIsOpen = Each (IsOpen text list entry)
+  AreIsOpen = Each (IsOpenSwitch text list entry)
 
   opened_are : (opens : List Open) (switches : List Switch) → AreIsOpen opens
       → Each (λ switch. AreIsOpen (candidate text list switch)) switches → AreIsOpen (opened text list opens switches)
@@ -150,10 +150,10 @@ module _ (text : Words) (list : Entered) (entry : ℕ) where
   opened_are opens (switch ∷ switches) h g =
       opened_are (with_switch text list opens switch) switches
       (cond_both (is_closed text list opens switch) opens (opens ++ candidate text list switch) AreIsOpen (λ _. h)
-      (λ _. each-append (IsOpen text list entry) opens (candidate text list switch) h g.0)) g.1
+      (λ _. each-append (IsOpenSwitch text list entry) opens (candidate text list switch) h g.0)) g.1
 
   pub open_found : (opens : List Open) → AreIsOpen opens → (p : Open → Bool) → list_any p opens ≡ true
-      → (o : Open) × Contains opens o × (p o ≡ true) × IsOpen text list entry o
+      → (o : Open) × Contains opens o × (p o ≡ true) × IsOpenSwitch text list entry o
   open_found [] h p any = absurd (false≢true any)
   open_found (x ∷ xs) h p any = elim (cases_Bool (p x)) [
     | inl e ↦ (x, (0, omega arith, refl), e, h.0)
@@ -171,20 +171,20 @@ module _ (text : Words) (list : Entered) (entry : ℕ) where
 
 pub opens_are : (text : Words) (given : List ℕ) (entry : ℕ) → IsText text
     → let list = entered_of text given in
-    Each (IsOpen text list entry) (opens_of text list (switches_of text list entry))
+    Each (IsOpenSwitch text list entry) (opens_of text list (switches_of text list entry))
 unfolding opens_of entered_of
 opens_are text given entry is =
     let list = entered_of text given in
     opened_are text list entry [] (switches_of text list entry) tt
-    (each-flat_map (λ switch. Each (IsOpen text list entry) (candidate text list switch))
+    (each-flat_map (λ switch. Each (IsOpenSwitch text list entry) (candidate text list switch))
     (λ block. option_to_list (switch_of text list entry block)) (below (length list.blocks.firsts))
-    (each-below (λ block. Each (λ switch. Each (IsOpen text list entry) (candidate text list switch))
+    (each-below (λ block. Each (λ switch. Each (IsOpenSwitch text list entry) (candidate text list switch))
     (option_to_list (switch_of text list entry block))) (length list.blocks.firsts)
     (λ block l. by block l (switch_of text list entry block) refl)))
   where
     by : (block : ℕ) → block < length (blocks_of text given).firsts → (o : Option Switch)
         → switch_of text (entered_of text given) entry block ≡ o
-        → Each (λ switch. Each (IsOpen text (entered_of text given) entry) (candidate text (entered_of text given) switch))
+        → Each (λ switch. Each (IsOpenSwitch text (entered_of text given) entry) (candidate text (entered_of text given) switch))
         (option_to_list o)
     by block l None e = tt
     by block l (Some switch) e =

@@ -30,7 +30,7 @@ use Rattle.cfg_walk.proofs.Points.{Stands, within_some}
 use Rattle.cfg_walk.proofs.Transfers.{always_goes, untaken_goes}
 use Rattle.jump_slice.proofs.Blocks.{is_conditional, not_bounded}
 use Rattle.v8_step.proofs.CopiedMoves.{goes_act}
-use Rattle.jump_slice.specs.Cases.{IsOpen}
+use Rattle.jump_slice.specs.Cases.{IsOpenSwitch}
 use Rattle.jump_slice.specs.Runs.{to_branch}
 use Rattle.jump_slice.proofs.About.{about}
 use Rattle.jump_slice.proofs.Branching.{Annulled, annul_of, annulled_is, cond_of}
@@ -202,14 +202,14 @@ module _ {text : Words} {given : List ℕ} {entry : ℕ} {opens : List Open} {s0
       after : Point
       after = point_of (run s0 (suc n))
 
-      at_last : (o : Open) → IsOpen text (list r) entry o → node ≡ block o.switch.compare.0 → c.word ≡ o.approach.last
+      at_last : (o : Open) → IsOpenSwitch text (list r) entry o → node ≡ block o.switch.compare.0 → c.word ≡ o.approach.last
       at_last o is from =
           transfer_ends text (b r) opens (parts r) c.word c.low
           (ap is_transfer (end_is text c.word (i.Branch cond true disp) instr)) ∙ ap (last_word (b r).firsts (b r).words)
           (holds_word r n node o.switch.compare.0 h.matches slot (ap home_of from) c.word c.at c.low)
           ∙ sym (about text given entry r.is_text o is).last
 
-      conds : (o : Open) (is : IsOpen text (list r) entry o) → node ≡ block o.switch.compare.0
+      conds : (o : Open) (is : IsOpenSwitch text (list r) entry o) → node ≡ block o.switch.compare.0
           → i.Branch is.cond is.annul (about text given entry r.is_text o is).disp ≡ i.Branch cond true disp
       conds o is from = cc ((about text given entry r.is_text o is).branch, at_last o is from, instr)
 

@@ -26,7 +26,7 @@ use Rattle.cfg_walk.proofs.Edges.{block}
 use Rattle.cfg_walk.proofs.Holding.{ends_within, is_held}
 use Rattle.cfg_walk.proofs.Leaving.{ends_home, node_is, straight_left}
 use Rattle.cfg_walk.proofs.Walks.{live_before, lived_to}
-use Rattle.jump_slice.specs.Cases.{HasPassed, IsOpen, approach_to, steps_to}
+use Rattle.jump_slice.specs.Cases.{HasPassed, IsOpenSwitch, approach_to, steps_to}
 use Rattle.jump_slice.specs.Runs.{to_jump}
 use Rattle.jump_slice.proofs.About.{About, about}
 use Rattle.jump_slice.proofs.Arriving.{at_jump}
@@ -98,7 +98,7 @@ module _ {text : Words} {given : List ℕ} {entry : ℕ} {opens : List Open} {s0
 -- ---- the machine in the jump's block, from the comparison on
 
 module _ {text : Words} {given : List ℕ} {entry : ℕ} {opens : List Open} {s0 : State}
-    (r : IsRun text given entry opens s0) (o : Open) (is : IsOpen text (entered_of text given) entry o) (n : ℕ)
+    (r : IsRun text given entry opens s0) (o : Open) (is : IsOpenSwitch text (entered_of text given) entry o) (n : ℕ)
     (live : (run s0 n).ending ≡ None) (passed : HasPassed text o is.cond s0 n (steps_to o o.approach.jump)) where
   -- the run is at each word of the block so many steps after the comparison
   pub at_word : (word : ℕ) → o.approach.first ≤ word → word ≤ o.approach.jump

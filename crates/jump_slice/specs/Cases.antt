@@ -28,7 +28,7 @@ use Rattle.jump_slice.specs.Runs.{GoesIntoTable, IsInto, to_branch}
 
 -- ---- what an open switch is
 
-pub record IsOpen (text : Words) (list : Entered) (entry : ℕ) (o : Open) : Type 0 where
+pub record IsOpenSwitch (text : Words) (list : Entered) (entry : ℕ) (o : Open) : Type 0 where
   pub cond : ℕ
   pub annul : Bool
   pub is_switch : switch_of text list entry o.block ≡ Some o.switch
@@ -58,7 +58,7 @@ pub record ComesFromCompare (text : Words) (list : Entered) (entry : ℕ) (opens
     (n block word : ℕ) : Type 0 where
   pub switch : Open
   pub among : Contains opens switch
-  pub is : IsOpen text list entry switch
+  pub is : IsOpenSwitch text list entry switch
   pub block_is : switch.block ≡ block
   pub passed : HasPassed text switch is.cond s0 n (steps_to switch word)
 
@@ -141,5 +141,5 @@ NumbersAreCompared = OfSwitches (λ text list opens entry s0.
 
 -- A block has one open switch.
 abbrev pub OpensAreOne : Type 0
-OpensAreOne = (text : Words) (list : Entered) (entry : ℕ) (one other : Open) → IsOpen text list entry one
-    → IsOpen text list entry other → one.block ≡ other.block → one ≡ other
+OpensAreOne = (text : Words) (list : Entered) (entry : ℕ) (one other : Open) → IsOpenSwitch text list entry one
+    → IsOpenSwitch text list entry other → one.block ≡ other.block → one ≡ other

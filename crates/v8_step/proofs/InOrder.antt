@@ -18,9 +18,9 @@ use Rattle.v8_memory.specs.Kept.{AreKept, IsKept}
 use Rattle.v8_memory.specs.Ops.{instr_of}
 use Rattle.v8_memory.specs.Private.{is_record}
 use Rattle.v8_memory.specs.Regions.{code_of}
-use Rattle.v8_step.specs.declared.ahead.Here.{Here}
-use Rattle.v8_step.specs.declared.ahead.Turn.{Turn}
-use Rattle.v8_step.specs.declared.ahead.Turn.TheVariants.{On, Stop}
+use Rattle.v8_step.specs.declared.ahead.Cursor.{Cursor}
+use Rattle.v8_step.specs.declared.ahead.Control.{Control}
+use Rattle.v8_step.specs.declared.ahead.Control.TheVariants.{On, Stop}
 use Rattle.v8_step.specs.Ahead.{GoesOn, HasTurned, address_at, at_here, at_places, placed, slot_by, slot_of}
 use Rattle.v8_step.specs.State.{State}
 use Rattle.v8_step.specs.declared.Slot.{Slot}
@@ -32,7 +32,7 @@ use Rattle.v8_step.proofs.QuietRuns.{no_step, one_more, says_some, still_kept}
 pub next_address : (first place : ℕ) → wrapped (address_at first place + 4) ≡ address_at first (place + 1)
 next_address first place = omega arith
 
-pub goes_on : (s t : State) (x : Instr) (h : Here) → GoesOn s x t → HasTurned On h s x t
+pub goes_on : (s t : State) (x : Instr) (h : Cursor) → GoesOn s x t → HasTurned On h s x t
 goes_on s t x h goes =
     goes (address_at h.first h.cur) (address_at h.first h.next) (slot_of h)
     ∙ ap (λ npc. placed t (address_at h.first h.next) npc NoSlot) (next_address h.first h.next)
@@ -77,15 +77,15 @@ codes_kept op a b codes y o is = go (result_of op a b codes y) is
     go (Err t) e = absurd (cc)
 
 -- a turn that is made is of a record that says something
-abbrev pub IsSaid : Turn → Op → Type 0
+abbrev pub IsSaid : Control → Op → Type 0
 IsSaid t x = (t ≡ Stop) ⊎ IsTrue (is_record x.code)
 
-pub says : (t : Turn) (x : Op) → IsSaid t x → (t ≡ Stop → ⊥) → x.code ≡ Other → ⊥
+pub says : (t : Control) (x : Op) → IsSaid t x → (t ≡ Stop → ⊥) → x.code ≡ Other → ⊥
 says t x (inl stops) goes = absurd (goes stops)
 says t x (inr some) goes = says_some x.code some
 
 -- and so it isn't the last record, which says nothing
-pub not_last : (ops : List Op) (x last : Op) (cur len : ℕ) (t : Turn) → ((d : Op) → x ≡ get_or ops cur d)
+pub not_last : (ops : List Op) (x last : Op) (cur len : ℕ) (t : Control) → ((d : Op) → x ≡ get_or ops cur d)
     → ((d : Op) → last ≡ get_or ops (len - 1) d) → last.code ≡ Other → IsSaid t x → (t ≡ Stop → ⊥) → cur < len
     → cur + 1 < len
 not_last ops x last cur len t is at_end other said goes within = elim (cases_lt (cur + 1) len) [
@@ -94,7 +94,7 @@ not_last ops x last cur len t is at_end other said goes within = elim (cases_lt 
 ]
 
 -- one turn more: the run goes on, and the records are those of its memory
-pub comes_on : (s0 m t : State) (h : Here) (turn : Turn) (c n made more : ℕ) (slot new : Slot) (x : Op) (ops : List Op)
+pub comes_on : (s0 m t : State) (h : Cursor) (turn : Control) (c n made more : ℕ) (slot new : Slot) (x : Op) (ops : List Op)
     → m.ending ≡ None → IsQuietRun s0 made (at_here m h) → AreKept (code_of m.memory) h.first ops
     → IsKept (code_of m.memory) (address_at h.first h.cur) x → act (at_here m h) (instr_of x) ≡ at_places t h.first c n slot
     → IsSaid turn x → (turn ≡ Stop → ⊥) → made + 1 ≡ more → slot ≡ new

@@ -2,9 +2,9 @@
 use Rattle.std.specs.Prelude.{◌≡◌, ◌<◌, ℕ, ◌+◌, ◌*◌, nat_lt, if◌then◌else◌}
 use Rattle.v8_decode.specs.declared.Instr.{Instr}
 use Rattle.v8_alu.specs.Numbers.{wrapped}
-use Rattle.v8_step.specs.declared.ahead.Here.{Here}
-use Rattle.v8_step.specs.declared.ahead.Turn.{Turn}
-use Rattle.v8_step.specs.declared.ahead.Turn.TheVariants.{On, Past, To, At, Stop}
+use Rattle.v8_step.specs.declared.ahead.Cursor.{Cursor}
+use Rattle.v8_step.specs.declared.ahead.Control.{Control}
+use Rattle.v8_step.specs.declared.ahead.Control.TheVariants.{On, Past, To, At, Stop}
 use Rattle.v8_step.specs.State.{State}
 use Rattle.v8_step.specs.Step.{act}
 use Rattle.v8_step.specs.declared.Slot.{Slot}
@@ -28,14 +28,14 @@ at_places s first cur next slot = placed s (address_at first cur) (address_at fi
 unfoldable pub slot_by : ℕ → ℕ → Slot → Slot
 slot_by next slot_end slot = if nat_lt next slot_end then slot else NoSlot
 
-abbrev pub slot_of : Here → Slot
+abbrev pub slot_of : Cursor → Slot
 slot_of h = slot_by h.next h.slot_end h.slot
 
-abbrev pub at_here : State → Here → State
+abbrev pub at_here : State → Cursor → State
 at_here s h = at_places s h.first h.cur h.next (slot_of h)
 
 -- what a turn has done, where it tells this
-abbrev pub HasTurned : Turn → Here → State → Instr → State → Type 0
+abbrev pub HasTurned : Control → Cursor → State → Instr → State → Type 0
 HasTurned On h s x t = act (at_here s h) x ≡ at_places t h.first h.next (h.next + 1) NoSlot
 HasTurned Past h s x t = act (at_here s h) x ≡ at_places t h.first h.next (h.next + 1) Untaken
 HasTurned (To place) h s x t = act (at_here s h) x ≡ at_places t h.first h.next place Taken
@@ -43,11 +43,11 @@ HasTurned (At place) h s x t = act (at_here s h) x ≡ at_places t h.first place
 HasTurned Stop h s x t = t ≡ s
 
 -- there is a record at a place, and enough steps are left to go there, and on in order
-abbrev pub IsNear : ℕ → Here → Type 0
+abbrev pub IsNear : ℕ → Cursor → Type 0
 IsNear place h = (place < h.len) × (h.next < h.spare)
 
 -- so it is where a turn goes
-abbrev pub IsWithin : Turn → Here → Type 0
+abbrev pub IsWithin : Control → Cursor → Type 0
 IsWithin On h = Unit {0}
 IsWithin Past h = Unit {0}
 IsWithin (To place) h = IsNear place h

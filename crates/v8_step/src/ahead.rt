@@ -23,7 +23,7 @@ use v8_memory::{Op, OpCode, op_in};
 
 /// What comes of carrying out one record.
 #[derive(Clone, Copy, Drop)]
-pub enum Turn {
+pub enum Control {
     /// The next instruction in order.
     On,
     /// The next instruction in order, which is the delay slot of a branch that isn't taken.
@@ -40,7 +40,7 @@ pub enum Turn {
 /// the first; `spare` is how many steps may still be made, and `next` more, beside those that all records in order take.
 /// `slot` is that of the last transfer, as long as `next` is below `slot_end`.
 #[derive(Clone, Copy, Drop)]
-pub struct Here {
+pub struct Cursor {
     pub first: u32,
     pub len: usize,
     pub cur: usize,
@@ -50,7 +50,7 @@ pub struct Here {
     pub slot: Slot,
 }
 
-impl Here {
+impl Cursor {
     /// Whether the instruction is in the delay slot of a transfer.
     #[inline(always)]
     #[tactic(auto, using(crate::proofs::InOrder::no_slot))]
@@ -84,12 +84,12 @@ impl Machine {
     /// Carries out the instruction of a record but for pc and npc. Where it stops nothing is changed.
     #[inline(always)]
     #[tactic(auto, unfolding(v8_memory::specs::Ops::instr_of))]
-    fn turn(&mut self, op: &Op, here: Here) -> Turn
+    fn turn(&mut self, op: &Op, here: Cursor) -> Control
         requires sum { IsSum op.now.rs2 op.now.imm }
         ensures state { HasTurned result here self.old (instr_of op.now) self.new }
         ensures within { IsWithin result here }
         ensures going { self.new.ending ≡ self.old.ending }
-        ensures said { (result ≡ Turn.Stop) ⊎ IsTrue (is_record op.now.code) }
+        ensures said { (result ≡ Control.Stop) ⊎ IsTrue (is_record op.now.code) }
     {
         match op.code {
             OpCode::Sethi => self.sethi_turn(op, here),
@@ -153,7 +153,7 @@ impl Machine {
             OpCode::Jmpl => self.jump_turn(op, here),
             OpCode::Save => self.save_turn(op, here),
             OpCode::Restore => self.restore_turn(op, here),
-            OpCode::Other => Turn::Stop,
+            OpCode::Other => Control::Stop,
         }
     }
 
@@ -169,41 +169,41 @@ impl Machine {
 
     #[inline(always)]
     #[tactic(auto, using(crate::proofs::InOrder::goes_on), unfolding(crate::specs::Step::act))]
-    fn sethi_turn(&mut self, op: &Op, here: Here) -> Turn
+    fn sethi_turn(&mut self, op: &Op, here: Cursor) -> Control
         ensures state { HasTurned result here self.old (instrs.Sethi op.now.rd (cast_unsigned w32 op.now.imm)) self.new }
         ensures within { IsWithin result here }
         ensures going { self.new.ending ≡ self.old.ending }
     {
         self.set(op.rd, op.imm.cast_unsigned().wrapping_mul(1024));
-        Turn::On
+        Control::On
     }
 
     #[inline(always)]
     #[tactic(auto, using(crate::proofs::InOrder::goes_on), unfolding(crate::specs::Step::act))]
-    fn read_y_turn(&mut self, op: &Op, here: Here) -> Turn
+    fn read_y_turn(&mut self, op: &Op, here: Cursor) -> Control
         ensures state { HasTurned result here self.old (instrs.ReadY op.now.rd) self.new }
         ensures within { IsWithin result here }
         ensures going { self.new.ending ≡ self.old.ending }
     {
         self.set(op.rd, self.y);
-        Turn::On
+        Control::On
     }
 
     #[inline(always)]
     #[tactic(auto, using(crate::proofs::InOrder::goes_on), unfolding(crate::specs::Step::act))]
-    fn write_y_turn(&mut self, op: &Op, here: Here) -> Turn
+    fn write_y_turn(&mut self, op: &Op, here: Cursor) -> Control
         requires sum { IsSum op.now.rs2 op.now.imm }
         ensures state { HasTurned result here self.old (instrs.WriteY op.now.rs1 (operand_in op.now.rs2 op.now.imm)) self.new }
         ensures within { IsWithin result here }
         ensures going { self.new.ending ≡ self.old.ending }
     {
         self.y = self.reg(op.rs1) ^ self.op_operand(op);
-        Turn::On
+        Control::On
     }
 
     #[inline(always)]
     #[tactic(auto, using(crate::proofs::InOrder::goes_on), unfolding(crate::specs::Step::act, crate::specs::Step::alu_step))]
-    fn alu_turn(&mut self, kind: AluOp, op: &Op, here: Here) -> Turn
+    fn alu_turn(&mut self, kind: AluOp, op: &Op, here: Cursor) -> Control
         requires form { IsTrue (has_form kind true) }
         requires sum { IsSum op.now.rs2 op.now.imm }
         ensures state { HasTurned result here self.old (alu_in kind true op.now) self.new }
@@ -217,16 +217,16 @@ impl Machine {
                 self.flags.set(outcome.codes);
                 self.y = outcome.y;
                 self.set(op.rd, outcome.value);
-                Turn::On
+                Control::On
             }
-            Err(_) => Turn::Stop,
+            Err(_) => Control::Stop,
         }
     }
 
     /// A logical operation that sets the codes, which are worked out where they are read.
     #[inline(always)]
     #[tactic(auto, using(crate::proofs::InOrder::goes_on), unfolding(crate::specs::Step::act, crate::specs::Step::alu_step))]
-    fn logic_turn(&mut self, kind: AluOp, op: &Op, here: Here) -> Turn
+    fn logic_turn(&mut self, kind: AluOp, op: &Op, here: Cursor) -> Control
         requires sum { IsSum op.now.rs2 op.now.imm }
         ensures state { HasTurned result here self.old (alu_in kind true op.now) self.new }
         ensures within { IsWithin result here }
@@ -236,15 +236,15 @@ impl Machine {
             Some(value) => {
                 self.flags.judge(value);
                 self.set(op.rd, value);
-                Turn::On
+                Control::On
             }
-            None => Turn::Stop,
+            None => Control::Stop,
         }
     }
 
     #[inline(always)]
     #[tactic(auto, using(crate::proofs::InOrder::goes_on), unfolding(crate::specs::Step::act, crate::specs::Step::alu_step))]
-    fn plain_turn(&mut self, kind: AluOp, op: &Op, here: Here) -> Turn
+    fn plain_turn(&mut self, kind: AluOp, op: &Op, here: Cursor) -> Control
         requires form { IsTrue (has_form kind false) }
         requires sum { IsSum op.now.rs2 op.now.imm }
         ensures state { HasTurned result here self.old (alu_in kind false op.now) self.new }
@@ -257,16 +257,16 @@ impl Machine {
             Ok((value, y)) => {
                 self.y = y;
                 self.set(op.rd, value);
-                Turn::On
+                Control::On
             }
-            Err(_) => Turn::Stop,
+            Err(_) => Control::Stop,
         }
     }
 
     /// SUBcc, whose codes are worked out where they are read.
     #[inline(always)]
     #[tactic(auto, using(crate::proofs::InOrder::goes_on), unfolding(crate::specs::Step::act, crate::specs::Step::alu_step, v8_alu::specs::Alu::alu_of))]
-    fn compare_turn(&mut self, op: &Op, here: Here) -> Turn
+    fn compare_turn(&mut self, op: &Op, here: Cursor) -> Control
         requires sum { IsSum op.now.rs2 op.now.imm }
         ensures state { HasTurned result here self.old (alu_in AluOp.SUB true op.now) self.new }
         ensures within { IsWithin result here }
@@ -276,12 +276,12 @@ impl Machine {
         let second = self.op_operand(op);
         self.flags.compare(first, second);
         self.set(op.rd, difference_of(first, second));
-        Turn::On
+        Control::On
     }
 
     #[inline(always)]
     #[tactic(auto, using(crate::proofs::InOrder::goes_on), unfolding(crate::specs::Step::act, crate::specs::Accesses::load_step))]
-    fn load_turn(&mut self, kind: LoadKind, op: &Op, here: Here) -> Turn
+    fn load_turn(&mut self, kind: LoadKind, op: &Op, here: Cursor) -> Control
         requires single { kind ≡ LoadKind.LDD → ⊥ }
         requires sum { IsSum op.now.rs2 op.now.imm }
         ensures state { HasTurned result here self.old (instrs.Load kind op.now.rd op.now.rs1 (operand_in op.now.rs2 op.now.imm)) self.new }
@@ -291,15 +291,15 @@ impl Machine {
         match self.loaded(kind, Addr(self.op_sum(op))) {
             Ok(value) => {
                 self.set(op.rd, value);
-                Turn::On
+                Control::On
             }
-            Err(_) => Turn::Stop,
+            Err(_) => Control::Stop,
         }
     }
 
     #[inline(always)]
     #[tactic(auto, using(crate::proofs::InOrder::goes_on), unfolding(crate::specs::Step::act, crate::specs::Accesses::load_step))]
-    fn load_pair_turn(&mut self, op: &Op, here: Here) -> Turn
+    fn load_pair_turn(&mut self, op: &Op, here: Cursor) -> Control
         requires sum { IsSum op.now.rs2 op.now.imm }
         ensures state { HasTurned result here self.old (instrs.Load LoadKind.LDD (2 * (op.now.rd % 16)) op.now.rs1 (operand_in op.now.rs2 op.now.imm)) self.new }
         ensures within { IsWithin result here }
@@ -310,15 +310,15 @@ impl Machine {
             Ok((first, second)) => {
                 self.set(rd, first);
                 self.set(next_register(rd), second);
-                Turn::On
+                Control::On
             }
-            Err(_) => Turn::Stop,
+            Err(_) => Control::Stop,
         }
     }
 
     #[inline(always)]
     #[tactic(auto, using(crate::proofs::InOrder::goes_on), unfolding(crate::specs::Step::act, crate::specs::Accesses::store_step))]
-    fn store_turn(&mut self, kind: StoreKind, rd: Reg, op: &Op, here: Here) -> Turn
+    fn store_turn(&mut self, kind: StoreKind, rd: Reg, op: &Op, here: Cursor) -> Control
         requires pair { kind ≡ StoreKind.STD → rd % 2 ≡ 0 }
         requires sum { IsSum op.now.rs2 op.now.imm }
         ensures state { HasTurned result here self.old (instrs.Store kind rd op.now.rs1 (operand_in op.now.rs2 op.now.imm)) self.new }
@@ -337,14 +337,14 @@ impl Machine {
             }
         };
         match stored {
-            Ok(()) => Turn::On,
-            Err(_) => Turn::Stop,
+            Ok(()) => Control::On,
+            Err(_) => Control::Stop,
         }
     }
 
     #[inline(always)]
     #[tactic(auto, using(crate::proofs::InOrder::goes_on), unfolding(crate::specs::Step::act, crate::specs::Accesses::swap_step))]
-    fn swap_turn(&mut self, op: &Op, here: Here) -> Turn
+    fn swap_turn(&mut self, op: &Op, here: Cursor) -> Control
         requires sum { IsSum op.now.rs2 op.now.imm }
         ensures state { HasTurned result here self.old (instrs.Swap op.now.rd op.now.rs1 (operand_in op.now.rs2 op.now.imm)) self.new }
         ensures within { IsWithin result here }
@@ -354,93 +354,93 @@ impl Machine {
         match self.exchange_word(Addr(self.op_sum(op)), value) {
             Ok(old) => {
                 self.set(op.rd, old);
-                Turn::On
+                Control::On
             }
-            Err(_) => Turn::Stop,
+            Err(_) => Control::Stop,
         }
     }
 
     #[inline(always)]
     #[tactic(auto, using(crate::proofs::InOrder::goes_on), unfolding(crate::specs::Step::act))]
-    fn save_turn(&mut self, op: &Op, here: Here) -> Turn
+    fn save_turn(&mut self, op: &Op, here: Cursor) -> Control
         requires sum { IsSum op.now.rs2 op.now.imm }
         ensures state { HasTurned result here self.old (instrs.Save op.now.rd op.now.rs1 (operand_in op.now.rs2 op.now.imm)) self.new }
         ensures within { IsWithin result here }
         ensures going { self.new.ending ≡ self.old.ending }
     {
         if self.save_in_order(op.rd, self.op_sum(op)) {
-            Turn::On
+            Control::On
         } else {
-            Turn::Stop
+            Control::Stop
         }
     }
 
     #[inline(always)]
     #[tactic(auto, using(crate::proofs::InOrder::goes_on), unfolding(crate::specs::Step::act))]
-    fn restore_turn(&mut self, op: &Op, here: Here) -> Turn
+    fn restore_turn(&mut self, op: &Op, here: Cursor) -> Control
         requires sum { IsSum op.now.rs2 op.now.imm }
         ensures state { HasTurned result here self.old (instrs.Restore op.now.rd op.now.rs1 (operand_in op.now.rs2 op.now.imm)) self.new }
         ensures within { IsWithin result here }
         ensures going { self.new.ending ≡ self.old.ending }
     {
         if self.restore_in_order(op.rd, self.op_sum(op)) {
-            Turn::On
+            Control::On
         } else {
-            Turn::Stop
+            Control::Stop
         }
     }
 
     /// A branch on a condition. Where it is inlined, this is a constant.
     #[inline(always)]
     #[tactic(auto, using(crate::proofs::InOrder::target_place, crate::proofs::InOrder::next_address, crate::proofs::InOrder::after_annulled), unfolding(crate::specs::Step::act, crate::specs::Transfers::branch_step))]
-    fn branch_turn(&mut self, cond: Cond, op: &Op, here: Here) -> Turn
+    fn branch_turn(&mut self, cond: Cond, op: &Op, here: Cursor) -> Control
         ensures state { HasTurned result here self.old (instrs.Branch cond (op.now.rd == 1) op.now.imm) self.new }
         ensures within { IsWithin result here }
         ensures going { self.new.ending ≡ self.old.ending }
     {
         if here.is_in_slot() {
-            return Turn::Stop;
+            return Control::Stop;
         }
         let annul = op.rd.number() == 1;
         if self.flags.holds(cond) {
             let place = here.place(op.imm);
             if !here.reaches(place) {
-                Turn::Stop
+                Control::Stop
             } else if cond.number() == 8 && annul {
-                Turn::At(place)
+                Control::At(place)
             } else {
-                Turn::To(place)
+                Control::To(place)
             }
         } else if annul {
             let place = here.cur.wrapping_add(2);
             if here.reaches(place) {
-                Turn::At(place)
+                Control::At(place)
             } else {
-                Turn::Stop
+                Control::Stop
             }
         } else {
-            Turn::Past
+            Control::Past
         }
     }
 
     #[inline(always)]
     #[tactic(auto, using(crate::proofs::InOrder::target_place), unfolding(crate::specs::Step::act, crate::specs::Transfers::call_step))]
-    fn call_turn(&mut self, disp30: i32, here: Here) -> Turn
+    fn call_turn(&mut self, disp30: i32, here: Cursor) -> Control
         ensures state { HasTurned result here self.old (instrs.Call disp30) self.new }
         ensures within { IsWithin result here }
         ensures going { self.new.ending ≡ self.old.ending }
     {
         let place = here.place(disp30);
         if here.is_in_slot() || !here.reaches(place) {
-            return Turn::Stop;
+            return Control::Stop;
         }
         self.set(register(15), address(here.first, here.cur));
-        Turn::To(place)
+        Control::To(place)
     }
 
     #[inline(always)]
     #[tactic(auto, using(crate::proofs::InOrder::jump_place), unfolding(crate::specs::Step::act, crate::specs::Transfers::jump_step))]
-    fn jump_turn(&mut self, op: &Op, here: Here) -> Turn
+    fn jump_turn(&mut self, op: &Op, here: Cursor) -> Control
         requires sum { IsSum op.now.rs2 op.now.imm }
         ensures state { HasTurned result here self.old (instrs.Jmpl op.now.rd op.now.rs1 (operand_in op.now.rs2 op.now.imm)) self.new }
         ensures within { IsWithin result here }
@@ -450,10 +450,10 @@ impl Machine {
         let offset = target.wrapping_sub(here.first);
         let place = (offset / 4) as usize;
         if here.is_in_slot() || target % 4 != 0 || offset % 4 != 0 || !here.reaches(place) {
-            return Turn::Stop;
+            return Control::Stop;
         }
         self.set(op.rd, address(here.first, here.cur));
-        Turn::To(place)
+        Control::To(place)
     }
 }
 
@@ -524,7 +524,7 @@ pub(crate) fn go_far(ops: &[Op], first: u32, m: &mut Machine, limit: u64) -> u64
     // (a fault, a transfer in a slot, a target without a record) changes nothing, and ends the loop.
     'turns: loop {
         let op = op_in(ops, first, cur);
-        let here = Here {
+        let here = Cursor {
             first,
             len,
             cur,
@@ -534,30 +534,30 @@ pub(crate) fn go_far(ops: &[Op], first: u32, m: &mut Machine, limit: u64) -> u64
             slot,
         };
         match m.turn(op, here) {
-            Turn::On => {
+            Control::On => {
                 cur = next;
                 next += 1;
             }
-            Turn::Past => {
+            Control::Past => {
                 slot = Slot::Untaken;
                 slot_end = next + 2;
                 cur = next;
                 next += 1;
             }
-            Turn::To(place) => {
+            Control::To(place) => {
                 slot = Slot::Taken;
                 slot_end = place + 1;
                 spare = spare - next as u64 - 1 + place as u64;
                 cur = next;
                 next = place;
             }
-            Turn::At(place) => {
+            Control::At(place) => {
                 slot_end = 0;
                 spare = spare - next as u64 + place as u64;
                 cur = place;
                 next = place + 1;
             }
-            Turn::Stop => break,
+            Control::Stop => break,
         }
     }
     m.stand_at(first, cur, next, slot_at(next, slot_end, slot));

@@ -6,7 +6,7 @@ use Rattle.layout.specs.Laid.{Placement}
 use Rattle.notes.specs.Format.{Notes}
 use Rattle.image_code.proofs.Fit.{pieces_fit}
 use Rattle.edit_core.specs.Private.{IsBuilt, placement_in, plan_of}
-use Rattle.edit_core.specs.Written.{LeadsTo, table_after}
+use Rattle.edit_core.specs.Written.{TablesMatch, table_after}
 use Rattle.edit_core.proofs.Steps.{code_is, original_fit, segment_is, segments_are, view_entry, view_has_room, view_text, view_words}
 use Rattle.edit_core.proofs.Edits.{notes_meet_rules, can_be_written}
 use Rattle.edit_core.proofs.editing.write_edit.Goals as goal
@@ -18,7 +18,7 @@ new_code-requires c =
 
 code_low : (text : Words) (graph : Graph) (base cells : ℕ) (snips : List (List Op)) (p : Placement) (tables : List ℕ)
     → IsBuilt text graph base cells snips p
-    → LeadsTo text graph snips p (record { base = table_after base cells; bytes = tables })
+    → TablesMatch text graph snips p (record { base = table_after base cells; bytes = tables })
     → table_after base cells + length tables + 4 * length p.code ≤ 2 ^ 31
 code_low text graph base cells snips p tables built leads =
     omega (arith, built.are.laid.low, segment_is text graph snips p _ leads)

@@ -1,7 +1,7 @@
 -- One turn more.
 use Rattle.std.proofs.Common.{rules, arith, length, ℕ, ◌+◌, ◌-◌, ◌<◌, ◌∙◌, ap, sym}
-use Rattle.v8_step.specs.declared.ahead.Here.{Here}
-use Rattle.v8_step.specs.declared.ahead.Turn.TheVariants.{On, Past, To, At}
+use Rattle.v8_step.specs.declared.ahead.Cursor.{Cursor}
+use Rattle.v8_step.specs.declared.ahead.Control.TheVariants.{On, Past, To, At}
 use Rattle.v8_step.specs.State.{State}
 use Rattle.v8_step.specs.declared.Slot.{Slot}
 use Rattle.v8_step.specs.declared.Slot.TheVariants.{NoSlot, Untaken, Taken}
@@ -9,7 +9,7 @@ use Rattle.v8_step.specs.Ahead.{slot_by}
 use Rattle.v8_step.proofs.InOrder.{at_start, comes_on, in_slot, jump_place, no_slot, not_last}
 use Rattle.v8_step.proofs.ahead.go_far.Goals as goal
 
-abbrev here : ℕ → ℕ → ℕ → ℕ → ℕ → ℕ → Slot → Here
+abbrev here : ℕ → ℕ → ℕ → ℕ → ℕ → ℕ → Slot → Cursor
 here first len cur next spare slot_end slot = record {
   first = first;
   len = len;

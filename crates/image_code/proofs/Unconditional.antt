@@ -22,7 +22,7 @@ use Rattle.layout.specs.Laid.{nop}
 use Rattle.image_code.specs.Simulates.{does_at, gone_at, number_in}
 use Rattle.image_code.proofs.Points.{HereAt, Placed, Site, StepsFrom}
 use Rattle.image_code.proofs.CaseShapes.{next_entry, word_ahead}
-use Rattle.image_code.proofs.IdleShapes.{IsIdle}
+use Rattle.image_code.proofs.UnconditionalShapes.{IsUnconditionalBranch}
 use Rattle.image_code.proofs.Arrives.{jump_then, rest_marked, weaker_arrives}
 use Rattle.image_code.proofs.BranchMoves.{branch_moves}
 use Rattle.image_code.proofs.Memories.{fetch_is}
@@ -31,7 +31,7 @@ use Rattle.image_code.proofs.Dead.{gone_last}
 use Rattle.image_code.proofs.EntersBy.{OnWay, moves_by}
 
 module _ (site : Site) (h : Placed site) (node : Node) (x : Point) (t : State) (here : HereAt site node x t)
-    (c : IsIdle site node x t) where
+    (c : IsUnconditionalBranch site node x t) where
   open site use {g, l, f}
 
   there : AtWords site node x t c.piece 1 (c.idle_word ∷ [])
@@ -58,8 +58,8 @@ module _ (site : Site) (h : Placed site) (node : Node) (x : Point) (t : State) (
   none counted =
       no_stores counted t nop here.live (record { word = c.idle_word; fetched = there.words.0; decodes = c.idle }) refl
 
-  pub idles_step : StepsFrom site node x t
-  idles_step =
+  pub unconditional_step : StepsFrom site node x t
+  unconditional_step =
       let edges = gone_at g node x (does_at g x t) in
       let same = (branch_moves g x t c.none c.word c.is_word c.cond c.annul c.disp c.says).is in
       let npc = there.next (omega arith) in

@@ -20,7 +20,7 @@ abbrev pub IsNoJumpsSlot : Setting → State → Type 0
 IsNoJumpsSlot g v =
     v.slot ≡ Taken → same_kind (way_of (instr_at g.text (v.pc - 4)) v.slot) kinds.Out ≡ true → ⊥
 
-pub record IsTurn (site : Site) (node : Node) (x : Point) (t : State) : Type 0 where
+pub record IsConditionalBranch (site : Site) (node : Node) (x : Point) (t : State) : Type 0 where
   pub none : x.slot ≡ NoSlot
   pub cond : ℕ
   pub small : cond < 16

@@ -12,9 +12,9 @@ use Rattle.layout.specs.Laid.{nop}
 use Rattle.image_code.specs.Simulates.{does_at}
 use Rattle.image_code.proofs.Points.{Site}
 use Rattle.image_code.proofs.CaseShapes.{IsMarked, LeadsNext}
-use Rattle.image_code.proofs.TurnShapes.{IsNoJumpsSlot}
+use Rattle.image_code.proofs.ConditionalShapes.{IsNoJumpsSlot}
 
-pub record IsIdle (site : Site) (node : Node) (x : Point) (t : State) : Type 0 where
+pub record IsUnconditionalBranch (site : Site) (node : Node) (x : Point) (t : State) : Type 0 where
   pub none : x.slot ≡ NoSlot
   pub cond : ℕ
   pub annul : Bool

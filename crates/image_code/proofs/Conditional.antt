@@ -22,7 +22,7 @@ use Rattle.image_code.specs.Simulates.{does_at, gone_at, number_in}
 use Rattle.image_code.specs.Cost.{in_first_word, is_spill}
 use Rattle.image_code.proofs.Points.{EntersNext, Forms, HereAt, Placed, Site, StepsFrom}
 use Rattle.image_code.proofs.CaseShapes.{LeadsTo, next_entry, word_ahead}
-use Rattle.image_code.proofs.TurnShapes.{IsTurn}
+use Rattle.image_code.proofs.ConditionalShapes.{IsConditionalBranch}
 use Rattle.image_code.proofs.Arrives.{Arrives, IsFit, arrive, jump_then, rest_marked, weaker_arrives}
 use Rattle.image_code.proofs.Between.{can_run, on_range, stores_weaker}
 use Rattle.image_code.proofs.BranchMoves.{branch_moves}
@@ -32,7 +32,7 @@ use Rattle.image_code.proofs.EntersBy.{OnWay, moves_by}
 use Rattle.image_code.proofs.Sparing.{spill_first}
 
 module _ (site : Site) (h : Placed site) (node : Node) (x : Point) (t : State) (here : HereAt site node x t)
-    (c : IsTurn site node x t) where
+    (c : IsConditionalBranch site node x t) where
   open site use {g, l, base, p, place, f}
 
   b_item : (n : ℕ) → item_at l.list c.piece n ≡ slice_get (it.Mark c.address (number_in g node)
@@ -154,5 +154,5 @@ module _ (site : Site) (h : Placed site) (node : Node) (x : Point) (t : State) (
       (it.Jump c.untaken ∷ []) (tt, tt) c.items) edges _ (word_ahead g x t)
       (next_entry site node x t) fit (sym b_closes) leads)
 
-  pub turns_step : StepsFrom site node x t
-  turns_step = steps (holds_of c.cond t.codes) hop c.leads
+  pub conditional_step : StepsFrom site node x t
+  conditional_step = steps (holds_of c.cond t.codes) hop c.leads
