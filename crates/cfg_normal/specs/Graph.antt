@@ -9,6 +9,7 @@ use Rattle.cfg_blocks.specs.declared.EdgeKind.TheVariants as kinds
 use Rattle.cfg_blocks.specs.Ends.{Way, always}
 use Rattle.cfg_blocks.specs.Blocks.{Blocks, below, end_of, holding_of, last_word}
 use Rattle.cfg_blocks.specs.Entries.{ways_from}
+use Rattle.cfg_blocks.specs.Switches.{is_taken}
 use Rattle.cfg_normal.specs.declared.Edge.{Edge}
 use Rattle.cfg_normal.specs.declared.Node.{Node}
 use Rattle.cfg_normal.specs.declared.Node.TheVariants.{Block, Landed, X}
@@ -32,10 +33,6 @@ lands_of b opens (Some word) =
     then Landed (record { 0 = block }) else Block (record { 0 = block })) else X
 
 -- ---- delay slots
-
-abbrev pub is_taken : EdgeKind → Bool
-is_taken kinds.Taken = true
-is_taken _ = false
 
 -- A transfer runs its slot on each edge, but an annulled branch only where it is taken on a condition: `ba,a`
 -- never does.

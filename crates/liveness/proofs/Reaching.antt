@@ -15,6 +15,7 @@ use Rattle.flood.specs.declared.Link.{Link}
 use Rattle.flood.specs.Flood.{Sets, link_at, AreLinks, IsLiveIn, Passes, Reaches}
 use Rattle.cfg_blocks.specs.Code.{AreFirsts}
 use Rattle.cfg_blocks.specs.declared.EdgeKind.TheVariants as kinds
+use Rattle.cfg_blocks.specs.Values.{instr_at}
 use Rattle.cfg_normal.specs.Graph.{Graph, lands}
 use Rattle.cfg_normal.specs.Code.{IsEdgeIn, IsGraph}
 use Rattle.cfg_normal.specs.Numbers.{node_number}
@@ -23,7 +24,7 @@ use Rattle.cfg_normal.specs.declared.Node.TheVariants.{Block, Landed, X}
 use Rattle.cfg_normal.specs.declared.Slot.{Slot}
 use Rattle.cfg_normal.specs.declared.Slot.TheVariants.{Nothing, Word, Off}
 use Rattle.liveness.specs.Paths.{ReadsFirst}
-use Rattle.liveness.specs.Live.{edge_at, Holds, HoldsIn, IsFirst, IsLast, GoesOnAt, instr_of, is_landing, is_outside, slot_writes, beyond, Point, At, Along, Behind, After, reads_at, writes_at, Goes, IsLive, IsLiveOn}
+use Rattle.liveness.specs.Live.{edge_at, Holds, HoldsIn, IsFirst, IsLast, GoesOnAt, is_landing, is_outside, slot_writes, beyond, Point, At, Along, Behind, After, reads_at, writes_at, Goes, IsLive, IsLiveOn}
 use Rattle.liveness.specs.Code.{IsLiveAt}
 use Rattle.liveness.specs.Search.{AreLinksOf, AreLivePlaces, AreMarks, AreRead, In, IsInside, IsOf, IsOnward, LinksAlongAny, LinksInAny, LinksNext, LinksOnto, LinksOntoAny, LivesInCopy, LivesOnto, ReadsIn, ReadsOfAny, ReadsOnAny, edge_link, first_in, is_ahead, is_marked, landing_link, last_in, next_link, node_place, nodes_from, place_of, target_of}
 use Rattle.liveness.proofs.Held.{some_block}
@@ -58,7 +59,7 @@ is_last graph _ h = refl
 slot_set : (text : Words) (slot : Slot) → set_of (slot_writes text slot) ≡ slot_writes text slot
 unfolding every_part members
 slot_set text Nothing = refl
-slot_set text (Word word) = set_of-members (has (writes_of (instr_of text word.0)))
+slot_set text (Word word) = set_of-members (has (writes_of (instr_at text word.0)))
 slot_set text Off = refl
 
 has_both : (text : Words) (instr : Instr) (slot : Slot) (x : Part)
@@ -210,7 +211,7 @@ module _ (text : Words) (graph : Graph) (g : IsGraph graph) (marks : List Bool)
 
       -- what the last word before an edge writes isn't live before it
       abbrev Unwritten : Node → Type 0
-      Unwritten node = has (write_set (instr_of text (last_in graph node))) x ≡ false
+      Unwritten node = has (write_set (instr_at text (last_in graph node))) x ≡ false
 
       read : (p : Point) → has (reads_at text graph named p) x ≡ true → Lives p
       read p h = ([], h)
@@ -222,13 +223,13 @@ module _ (text : Words) (graph : Graph) (g : IsGraph graph) (marks : List Bool)
       plain_step : (link : Link) → IsStep link → has link.kills x ≡ false → Plain link.to → Plain link.from
       plain_step link s u l = (link.to ∷ l.0, (passes x link s u, l.1))
 
-      words_between : (node : Node) (w : ℕ) → Holds graph node w → has (read_set (instr_of text w)) x ≡ true
+      words_between : (node : Node) (w : ℕ) → Holds graph node w → has (read_set (instr_at text w)) x ≡ true
           → ReadsIn text graph (place_of graph node w) node x
       words_between node w h k =
           let here = of_held graph g.firsts node w h in
           (w, here.first, omega (arith, here.last), (refl, k))
 
-      plain_word : (node : Node) (w : ℕ) → Holds graph node w → has (read_set (instr_of text w)) x ≡ true
+      plain_word : (node : Node) (w : ℕ) → Holds graph node w → has (read_set (instr_at text w)) x ≡ true
           → Plain (place_of graph node w)
       plain_word (Block b) w h k =
           let i = words_between (Block b) w h k in
@@ -283,7 +284,7 @@ module _ (text : Words) (graph : Graph) (g : IsGraph graph) (marks : List Bool)
       onward e (inr h) s = λ l from u.
           plain_step (edge_link text graph (edge_at graph e)) (along e l from
           (held_inside graph g.firsts (edge_at graph e).to h.0
-          h.1.0) refl) (has_both text (instr_of text (last_in graph (edge_at graph e).from)) (edge_at graph e).slot x
+          h.1.0) refl) (has_both text (instr_at text (last_in graph (edge_at graph e).from)) (edge_at graph e).slot x
           ∙ or_from _ _ u s) (plain_target e h.0 l from h.1 h.2)
 
       numbered_read : (p : Point) → has (reads_at text graph named p) x ≡ true → Numbered p
@@ -292,13 +293,13 @@ module _ (text : Words) (graph : Graph) (g : IsGraph graph) (marks : List Bool)
       numbered_read (Behind e) h = ahead e (or_left _ _ h)
       numbered_read (After e) h = inl h
 
-      onto_next : (node : Node) (w v : ℕ) → has (write_set (instr_of text w)) x ≡ false → v ≡ suc w
+      onto_next : (node : Node) (w v : ℕ) → has (write_set (instr_at text w)) x ≡ false → v ≡ suc w
           → Holds graph node w → Holds graph node v → Plain (place_of graph node v) → Plain (place_of graph node w)
       onto_next node w v u e h k l =
           let one : v ≡ w + 1 = omega arith in
           plain_step (next_link text graph node w) (next node w h (rw one at k) refl) u (rw one at l)
 
-      onto_edge : (node : Node) (w e : ℕ) → has (write_set (instr_of text w)) x ≡ false → e < length graph.edges
+      onto_edge : (node : Node) (w e : ℕ) → has (write_set (instr_at text w)) x ≡ false → e < length graph.edges
           → (edge_at graph e).from ≡ node → IsLast graph node w → Holds graph node w → Leaving e
           → Plain (place_of graph node w)
       onto_edge node w e u l from last h leaving =
@@ -391,7 +392,7 @@ module _ (text : Words) (graph : Graph) (g : IsGraph graph) (marks : List Bool)
       pointed_step link (along e l from to is) =
           rw (← is) (λ u t.
           let edge = edge_at graph e in
-          let none = or_parts _ _ (sym (has_both text (instr_of text (last_in graph edge.from)) edge.slot x) ∙ u) in
+          let none = or_parts _ _ (sym (has_both text (instr_at text (last_in graph edge.from)) edge.slot x) ∙ u) in
           leaving e l from none.0
           (step (Along e) (Behind e) none.1 refl (step (Behind e) (After e) refl refl (after e to t))))
       pointed_step link (onto node w h mark is) = rw (← is) (λ u t. pointed_node node w h (t.word node w h.0 refl))

@@ -4,8 +4,9 @@ ghost use Rattle.v8_decode.specs.declared.Part.{Part};
 ghost use Rattle.v8_decode.specs.Parts.{has};
 ghost use Rattle.v8_decode.specs.Ranges.{has_even_pair};
 ghost use Rattle.cfg_blocks.specs.Blocks.{last_word};
+ghost use Rattle.cfg_blocks.specs.Values.{instr_at};
 ghost use Rattle.cfg_normal.specs.Code.{IsEdgeIn, IsGraph};
-ghost use Rattle.liveness.specs.Live.{beyond, edge_at, instr_of, is_landing, is_outside, slot_reads, slot_writes};
+ghost use Rattle.liveness.specs.Live.{beyond, edge_at, is_landing, is_outside, slot_reads, slot_writes};
 ghost use Rattle.liveness.specs.Search.{first_in, is_ahead, last_in, IsInside, IsSlotWithin};
 
 use cfg_blocks::EdgeKind;
@@ -16,7 +17,7 @@ use v8_decode::{Instr, RegSet, decode, reads, writes};
 /// The instruction at a word.
 pub(crate) fn instr_at(text: &Text, word: u32) -> Instr
     requires { word < length text.now.words }
-    ensures value { result ≡ instr_of text.now word }
+    ensures value { result ≡ instr_at text.now word }
     ensures pair { IsTrue (has_even_pair result) }
 {
     decode(text.word(WordNo(word)))
