@@ -32,6 +32,7 @@ use Rattle.code_runs.specs.StoredWords.{memory_word}
 use Rattle.code_runs.proofs.Counted.{count_add, none_then}
 use Rattle.code_runs.proofs.Hops.{stores_then}
 use Rattle.code_runs.proofs.Leads.{leads_then, leads_weaker, puts_add}
+use Rattle.code_runs.proofs.Ours.{outside_refl}
 use Rattle.code_runs.proofs.PointsAlike.{no_puts as quiet_transfer}
 use Rattle.addr_translate.specs.Halves.{found_in}
 use Rattle.jump_code.specs.PageWords.{IsPageWord, kept_address}

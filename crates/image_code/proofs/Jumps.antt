@@ -21,7 +21,8 @@ use Rattle.code_runs.proofs.Stays.{loads_there, stores_there}
 use Rattle.layout.specs.Emitting.{words_of}
 use Rattle.jump_code.specs.Jumped.{jumped}
 use Rattle.jump_code.specs.Finding.{IsAboutToFind, find_image, found_memory}
-use Rattle.jump_code.proofs.FindFollowing.{goes, stops, finds_simulate}
+use Rattle.jump_code.proofs.FindFollowing.{goes, finds_simulate}
+use Rattle.jump_code.proofs.Jumping.{jump_stops}
 use Rattle.jump_code.proofs.Laid.{pieces_are_laid}
 use Rattle.image_code.specs.Simulates.{does_at, gone_at, graph_in, number_in}
 use Rattle.image_code.specs.Cost.{is_jmpl}
@@ -92,7 +93,7 @@ module _ (site : Site) (h : Placed site) (node : Node) (x : Point) (t : State) (
   memory_is =
       either
       (λ e. ap (λ (z : State). z.memory) (goes c.scratch c.second c.rd c.rs1 c.op2 c.address.0 f.halves t about e))
-      (λ ne. ap (λ (z : State). z.memory) (stops c.scratch c.second c.rd c.rs1 c.op2 c.address.0 f.halves t about ne))
+      (λ ne. ap (λ (z : State). z.memory) (jump_stops c.address.0 c.rd c.rs1 c.op2 t ne))
 
   -- a JMPL goes on to a multiple of 4
   aligned : after_jump.ending ≡ None → after_jump.npc % 4 ≡ 0
@@ -102,7 +103,7 @@ module _ (site : Site) (h : Placed site) (node : Node) (x : Point) (t : State) (
       (goes c.scratch c.second c.rd c.rs1 c.op2 c.address.0 f.halves t about e) ∙ e)
       (λ ne.
       let over = ap (λ (z : State). z.ending)
-      (stops c.scratch c.second c.rd c.rs1 c.op2 c.address.0 f.halves t about ne) in
+      (jump_stops c.address.0 c.rd c.rs1 c.op2 t ne) in
       absurd (cc))
 
   -- one that ends the run changes nothing else
@@ -115,7 +116,7 @@ module _ (site : Site) (h : Placed site) (node : Node) (x : Point) (t : State) (
       (goes c.scratch c.second c.rd c.rs1 c.op2 c.address.0 f.halves t about e) ∙ here.live in
       absurd (cc))
       (λ ne.
-      let end = stops c.scratch c.second c.rd c.rs1 c.op2 c.address.0 f.halves t about ne in
+      let end = jump_stops c.address.0 c.rd c.rs1 c.op2 t ne in
       end ∙ ap (λ (z : Option Ending). record (moved c.address.0 (wrapped (c.address.0 + 4)) NoSlot t) { ending = z })
       (sym (ap (λ (z : State). z.ending) end) ∙ is))
 
