@@ -17,7 +17,7 @@ use Rattle.layout.specs.Order.{compact_order, exit_at, jump_to}
 use Rattle.layout.specs.Laying.{IsWhole}
 use Rattle.layout.specs.Forms.{Forms, entries_in, entries_from, entries_of, far, leads_next, offset, start_of, target, width, IsWidened}
 use Rattle.layout.specs.Compact.{IsCompact}
-use Rattle.layout.specs.Private.{address_of, addresses, or_zero, target_offset, ranges_from, IsListing, IsEmitted}
+use Rattle.layout.specs.Private.{address_of, addresses, or_zero, target_offset, ranges_from, IsEmitted, IsOffsets}
 use Rattle.layout.proofs.Laying.{exits_lead, follows, item_is, whole_is}
 use Rattle.layout.proofs.Listed.{items_at, from_append, split_at, start_at, before_absent}
 use Rattle.layout.proofs.Widening.{offset_more, rises}
@@ -25,13 +25,13 @@ use Rattle.layout.proofs.Emitted.{near_enough}
 use Rattle.layout.proofs.Standing.{code_length, get_rest, has_code, item_stands, GoesTo, IsNextAt, IsNearTo}
 use Rattle.layout.proofs.Ranging.{ascend_from, seen, AreStill, piece_ranges, seen_both, count_more, order_ascends, order_finds, AllOf, all_then, at_next, at_this, get_low, one_of, piece_made}
 
--- all of it
+-- all of it: its pieces have `starts` words before them
 pub record IsMade (pieces : List (List Item)) (base : ℕ) (long : Forms) (starts : List ℕ) (p : Placed) : Type 0 where
   pub widened : IsWidened (entries_of pieces) long
   pub count : length starts ≡ length pieces
-  pub listing : IsListing (entries_of pieces) starts
+  pub offsets : IsOffsets (entries_of pieces) long starts
   pub emitted : IsEmitted base (entries_of pieces) long p.code.items (length (entries_of pieces))
-  pub at : p.at.items ≡ addresses base (entries_of pieces) long starts
+  pub at : p.at.items ≡ addresses base starts
   pub ranges : p.ranges.items ≡ ranges_from (address_of base (entries_of pieces) long) 0 None (entries_of pieces)
 
 -- ---- lists
@@ -262,7 +262,7 @@ module _ (pieces : List (List Item)) (leads : AllLead pieces) (marked : AllMarke
   pub size : length p.code.items ≡ offset (entries_of pieces) long (length (entries_of pieces))
   size = ap length h.emitted.is ∙ code_length base entries long (length (entries_of pieces))
 
-  at_is : placed.at ≡ map (λ (a : Addr). a.0) (addresses base entries long starts)
+  at_is : placed.at ≡ map (λ (a : Addr). a.0) (addresses base starts)
   at_is = ap (map (λ (a : Addr). a.0)) h.at
 
   ranges_are : placed.ranges ≡ seen (ranges_from (address_of base entries long) 0 None entries)
@@ -271,7 +271,7 @@ module _ (pieces : List (List Item)) (leads : AllLead pieces) (marked : AllMarke
   start_value : (k : ℕ) → k < length pieces → slice_index placed.at k ≡ base + 4 * offset entries long (start_of entries k)
   start_value k l =
       let m : k < length starts = omega (arith, h.count, l) in
-      cc (at_is, get_map (address_of base entries long) starts k m, h.listing.are k m)
+      cc (at_is, get_map (λ n. base + 4 * n) starts k m, h.offsets.each k m)
 
   -- a start takes no word
   start_still : (k : ℕ) → k < length pieces → words_to k 0 ≡ offset entries long (start_of entries k)
@@ -297,7 +297,7 @@ module _ (pieces : List (List Item)) (leads : AllLead pieces) (marked : AllMarke
         (omega (arith, v, aligned), omega (arith, v, w))
     | inr l ↦
         let v : slice_index placed.at k ≡ 0 = ap (λ (z : List ℕ). slice_index z k) at_is
-        ∙ get_past (address_of base entries long) starts k (omega (arith, h.count, l)) in
+        ∙ get_past (λ n. base + 4 * n) starts k (omega (arith, h.count, l)) in
         (omega (arith, v), omega (arith, v))
   ]
 
@@ -466,7 +466,7 @@ module _ (pieces : List (List Item)) (leads : AllLead pieces) (marked : AllMarke
   laid = record {
     low = (let e = end_is in omega (arith, e, low));
     count = length-map p.at.items (λ (a : Addr). a.0) ∙ ap length h.at
-        ∙ length-map starts (λ n. record { 0 = address_of base entries long n }) ∙ h.count;
+        ∙ length-map starts (λ n. record { 0 = base + 4 * n }) ∙ h.count;
     starts = starts_are;
     aligned = start_low;
     items = items;

@@ -1,10 +1,10 @@
 -- Pieces become entries one after the other.
-use Rattle.std.proofs.Common.{append-nil, ◌≡◌, ℕ, zero, suc, ◌+◌, ◌<◌, ◌≤◌, inl, inr, Bool, true, false, ◌||◌, eqb, List, [], ◌∷◌, ◌++◌, length, get_or, set, take, drop, slice_get, slice_index, Some, IfSome, map, refl, ap, sym, ◌∙◌, add-one, append_assoc, drop-cons, arith}
+use Rattle.std.proofs.Common.{◌≡◌, ℕ, zero, suc, ◌+◌, ◌<◌, ◌≤◌, inl, inr, Bool, true, false, ◌||◌, eqb, List, [], ◌∷◌, ◌++◌, length, get_or, slice_get, Some, IfSome, map, refl, ap, sym, ◌∙◌, append_assoc, arith}
 use Rattle.std.specs.Prelude.{if◌then◌else◌}
 use Rattle.std.specs.List.{All, AllByRecursion, IsDistinct, sum_by}
-use Rattle.std.proofs.lemmas.Bool.{cases_eq, cases_Bool, eqb-true, eq-eqb, false≢true, ne_eqb, or_parts}
+use Rattle.std.proofs.lemmas.Bool.{cases_Bool, eqb-true, eq-eqb, false≢true, ne_eqb, or_parts}
 use Rattle.std.proofs.lemmas.List.Sums.{sum_by-cons}
-use Rattle.std.proofs.lemmas.List.{take-append-drop, length-append, length-map, length-set, get_or-set_same, get_or-set_other, take_more, take_all}
+use Rattle.std.proofs.lemmas.List.{length-append, length-map}
 use Rattle.layout.specs.declared.items.Item.{Item}
 use Rattle.layout.specs.declared.entries.Entry.{Entry}
 use Rattle.layout.specs.declared.entries.Entry.TheVariants as en
@@ -13,7 +13,8 @@ use Rattle.layout.specs.Order.{is_laid}
 use Rattle.layout.specs.Laying.{IsWhole}
 use Rattle.layout.specs.Forms.{entries_in, entries_from, start_of, target}
 use Rattle.layout.specs.Private.{IsListing}
-use Rattle.layout.proofs.Laying.{the_equality, laid_other, item_is}
+use Rattle.layout.proofs.Laying.{the_equality, laid_inside, item_is}
+use Rattle.layout.proofs.Offsets.{piece_in}
 
 -- ---- orders
 
@@ -196,14 +197,7 @@ lead_entries pieces h (j ∷ js) n =
     (lead_items (length pieces) (items_at pieces j) (λ m. rw (item_is pieces j m) at (h j
     m)))) (lead_entries pieces h js) n
 
--- ---- listing them
-
--- the first i pieces of the order are listed
-pub record IsListed (pieces : List (List Item)) (order : List ℕ) (entries : List Entry) (starts : List ℕ) (i : ℕ) :
-    Type 0 where
-  pub are : entries ≡ entries_from pieces (take i order)
-  pub len : length starts ≡ length pieces
-  pub known : (k : ℕ) → is_laid (take i order) k ≡ true → slice_index starts k ≡ start_of (entries_from pieces order) k
+-- ---- each piece starts once
 
 distinct_before : (fs rs : List ℕ) (k : ℕ) → IsDistinct eqb (fs ++ k ∷ rs) → is_laid fs k ≡ false
 unfolding IsDistinct
@@ -218,44 +212,44 @@ pub before_absent : (pieces : List (List Item)) (order fs rs : List ℕ) (k : �
     → order ≡ fs ++ k ∷ rs → is_laid fs k ≡ false
 before_absent pieces order fs rs k h e = distinct_before fs rs k (rw e at h.laying.distinct)
 
-pub listed_more : (pieces : List (List Item)) (order : List ℕ) (entries : List Entry) (starts : List ℕ) (i j : ℕ)
-    → IsListed pieces order entries starts i → IsWhole pieces order → i < length order → j ≡ get_or order i 0
-    → IsListed pieces order (entries ++ entries_in j (items_at pieces j)) (set starts j (length entries)) (i + 1)
-listed_more pieces order entries starts i j h whole l same = record {
-  are = cc (h.are, grown);
-  len = length-set starts j (length entries) ∙ h.len;
-  known = λ k t. elim (cases_eq k j) [
-    | inl s ↦
-        let a = get_or-set_same starts j (length entries) 0 (omega (arith, h.len, inside)) in
-        ap (slice_index (set starts j (length entries))) s ∙ a ∙ here ∙ ap (start_of (entries_from pieces order)) (sym s)
-    | inr d ↦
-        get_or-set_other starts j k (length entries) 0 d ∙ h.known k (cc (laid_other (take i order) j k d, taken, t))
-  ];
-}
-  where
-    taken : take (i + 1) order ≡ take i order ++ j ∷ []
-    taken = cc (take_more order i 0 l, same)
+-- a start among items and what is behind them is one of these
+abbrev StartAt : ℕ → List Entry → ℕ → Type 0
+StartAt k xs n = slice_get xs n ≡ Some (en.Start (record { 0 = k }))
 
-    grown : entries_from pieces (take (i + 1) order) ≡ entries_from pieces (take i order) ++ entries_in j (items_at
-        pieces j)
-    grown = cc (taken, from_append pieces (take i order) (j ∷ []), append-nil (entries_in j (items_at pieces j)))
+start_behind : (k : ℕ) (items : List Item) (xs : List Entry) (n : ℕ) → StartAt k (map en.Item items ++ xs) n
+    → (m : ℕ) × (n ≡ length items + m) × StartAt k xs m
+start_behind k [] xs n e = (n, omega arith, e)
+start_behind k (x ∷ items) xs zero e = absurd (cc)
+start_behind k (x ∷ items) xs (suc n) e =
+    let h = start_behind k items xs n e in
+    (h.0, omega (arith, h.1), h.2)
 
-    split : order ≡ take i order ++ j ∷ drop (i + 1) order
-    split =
-        sym (take-append-drop i order)
-        ∙ ap (λ (xs : List ℕ). take i order ++ xs) (let e : drop i order ≡ j ∷ drop (i + 1) order = rw (add-one, same)
-        (drop-cons order i 0 l) in e)
+-- an order in which each piece stands once
+pub record IsOnce (pieces : List (List Item)) (order : List ℕ) (n k : ℕ) : Type 0 where
+  pub laid : is_laid order k ≡ true
+  pub start : start_of (entries_from pieces order) k ≡ n
 
-    inside : j < length pieces
-    inside = let a = whole.laying.inside i 0 l in omega (arith, a, same)
+start_number : (pieces : List (List Item)) (order : List ℕ) → IsDistinct eqb order → (n k : ℕ)
+    → StartAt k (entries_from pieces order) n → IsOnce pieces order n k
+start_number pieces [] d n k e = absurd (cc)
+start_number pieces (j ∷ js) d zero k e =
+    let same : j ≡ k = ap piece_in e in
+    rw same record {
+      laid = ap (λ (b : Bool). b || is_laid js k) (eq-eqb k k refl);
+      start = start_self k _;
+    }
+start_number pieces (j ∷ js) d (suc n) k e =
+    let b = start_behind k (items_at pieces j) (entries_from pieces js) n e in
+    let h = start_number pieces js (distinct_tail j js d) b.0 k b.2 in
+    let apart : eqb k j ≡ false = ne_eqb k j (λ (s : k ≡ j). false≢true (sym (absent_head j js d) ∙ ap (is_laid js)
+    (sym s) ∙ h.laid)) in
+    record {
+      laid = or_false (eqb k j) (is_laid js k) apart ∙ h.laid;
+      start = start_past k j (map en.Item (items_at pieces j) ++ entries_from pieces js) apart
+          ∙ omega (arith, start_items k (items_at pieces j) (entries_from pieces js), h.start, b.1);
+    }
 
-    here : length entries ≡ start_of (entries_from pieces order) j
-    here =
-        ap length h.are ∙ sym (start_at pieces (take i order) (drop (i + 1) order) j
-        (before_absent pieces order (take i order) (drop (i + 1) order) j whole split))
-        ∙ ap (λ (xs : List ℕ). start_of (entries_from pieces xs) j) (sym split)
-
-pub start_inside : (pieces : List (List Item)) (order : List ℕ) (k : ℕ) → IsWhole pieces order → k < length pieces
+start_inside : (pieces : List (List Item)) (order : List ℕ) (k : ℕ) → IsWhole pieces order → k < length pieces
     → start_of (entries_from pieces order) k < length (entries_from pieces order)
 start_inside pieces order k whole l =
     let s = split_at order k (whole.once k l) in
@@ -267,27 +261,12 @@ start_inside pieces order k whole l =
     let both = length-append (entries_from pieces s.before) (entries_from pieces (k ∷ s.after)) in
     omega (arith, start_at pieces s.before s.after k s.absent, e, f, both)
 
-pub listed_all : (pieces : List (List Item)) (order : List ℕ) (entries : List Entry) (starts : List ℕ) (i : ℕ)
-    → IsListed pieces order entries starts i → IsWhole pieces order → AllLead pieces → i ≡ length order
-    → IsListing entries starts
-listed_all pieces order entries starts i h whole leads e =
-    rw all (record {
-      targets = rw h.len (lead_entries pieces leads
-          order);
-      inside = λ k l. let a = start_inside pieces order k whole (omega (arith, h.len, l)) in let b = known k l in
-          omega (arith, a, b);
-      are = λ k l. known k l;
-    })
-  where
-    taken : take i order ≡ order
-    taken = take_all i order (omega arith)
-
-    all : entries ≡ entries_from pieces order
-    all = h.are ∙ ap (entries_from pieces) taken
-
-    known : (k : ℕ) → k < length starts → slice_index starts k ≡ start_of (entries_from pieces order) k
-    known k l = h.known k (cc (taken, whole.once k (omega (arith, h.len))))
-
-pub listed_entries : (pieces : List (List Item)) (order : List ℕ) (entries : List Entry) (starts : List ℕ) (i : ℕ)
-    → IsListed pieces order entries starts i → i ≡ length order → entries ≡ entries_from pieces order
-listed_entries pieces order entries starts i h e = h.are ∙ ap (entries_from pieces) (take_all i order (omega arith))
+pub are_listing : (pieces : List (List Item)) (order : List ℕ) → IsWhole pieces order → AllLead pieces
+    → IsListing (entries_from pieces order) (length pieces)
+are_listing pieces order whole leads = record {
+  targets = lead_entries pieces leads order;
+  inside = λ k l. start_inside pieces order k whole l;
+  starts = λ n k e.
+      let h = start_number pieces order whole.laying.distinct n k e in
+      (laid_inside order (length pieces) k whole.laying.inside h.laid, h.start);
+}
