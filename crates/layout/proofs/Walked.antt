@@ -1,34 +1,34 @@
 -- Entries are taken one after the other.
-use Rattle.std.proofs.Common.{◌≡◌, ℕ, zero, suc, ◌+◌, ◌<◌, ◌≤◌, false, List, [], ◌∷◌, length, drop, slice_get, slice_index, Option, Some, None, IfSome, refl, ap, sym, ◌∙◌, add-one, arith}
+use Rattle.std.proofs.Common.{◌≡◌, ℕ, zero, suc, ◌+◌, ◌^◌, ◌<◌, ◌≤◌, false, List, [], ◌∷◌, length, drop, slice_get, slice_index, Option, Some, None, IfSome, refl, ap, sym, ◌∙◌, add-one, arith}
 use Rattle.std.specs.Option.{option_map}
 use Rattle.std.proofs.Math.Seq.{drop-length}
 use Rattle.std.proofs.lemmas.List.{length-drop}
 use Rattle.layout.specs.declared.entries.Entry.{Entry}
 use Rattle.layout.specs.Forms.{Forms, far_from, goal_of, is_far, offset, start_of, target, width, NoneLeft}
 use Rattle.layout.specs.Private.{code_at, entry_code, far_of, goal_in, or_zero, target_offset, IsOffsets}
-use Rattle.layout.proofs.Offsets.{offset_next, offset_none}
+use Rattle.layout.proofs.Offsets.{offset_next, offset_none, offset_small}
 use Rattle.layout.proofs.Widening.{rises}
 use Rattle.layout.proofs.Emitted.{near_enough}
 
--- the entry that is taken, and what is seen of the rest
-pub record IsTurn (entries : List Entry) (n : ℕ) (x : Entry) (next : Option Entry) (later : List Entry) : Type 0 where
+-- the entry that is taken, and what is behind it
+pub record IsTurn (entries : List Entry) (n : ℕ) (x : Entry) (later : List Entry) : Type 0 where
   pub inside : n < length entries
   pub entry : slice_get entries n ≡ Some x
-  pub behind : next ≡ slice_get entries (suc n)
+  pub behind : slice_get later 0 ≡ slice_get entries (suc n)
   pub rest : later ≡ drop (suc n) entries
 
-pub turn : (entries left later : List Entry) (n : ℕ) (x : Entry) (next : Option Entry) → left ≡ drop n entries
-    → left ≡ x ∷ later → next ≡ slice_get later 0 → IsTurn entries n x next later
-turn entries left later n x next at e f = at_turn entries n (sym at ∙ e)
+pub turn : (entries left later : List Entry) (n : ℕ) (x : Entry) → left ≡ drop n entries → left ≡ x ∷ later
+    → IsTurn entries n x later
+turn entries left later n x at e = go entries n (sym at ∙ e)
   where
-    at_turn : (entries : List Entry) (n : ℕ) → drop n entries ≡ x ∷ later → IsTurn entries n x next later
-    at_turn [] zero e = absurd (cc)
-    at_turn [] (suc n) e = absurd (cc)
-    at_turn (y ∷ ys) zero e =
+    go : (entries : List Entry) (n : ℕ) → drop n entries ≡ x ∷ later → IsTurn entries n x later
+    go [] zero e = absurd (cc)
+    go [] (suc n) e = absurd (cc)
+    go (y ∷ ys) zero e =
         let same : ys ≡ later = cc in
-        record { inside = omega arith; entry = cc e; behind = cc (f, same); rest = sym same }
-    at_turn (y ∷ ys) (suc n) e =
-        let h = at_turn ys n e in
+        record { inside = omega arith; entry = cc e; behind = cc (same); rest = sym same }
+    go (y ∷ ys) (suc n) e =
+        let h = go ys n e in
         record { inside = omega (arith, h.inside); entry = h.entry; behind = h.behind; rest = h.rest }
 
 -- what is left behind n entries, which take `here` words
@@ -39,15 +39,20 @@ pub record IsWalk (entries : List Entry) (long : Forms) (left : List Entry) (n h
 pub walk_none : (entries left : List Entry) (long : Forms) → left ≡ entries → IsWalk entries long left 0 0
 walk_none entries left long e = record { rest = e; words = sym (offset_none entries long) }
 
-pub walk_more : (entries left later : List Entry) (long : Forms) (n here w : ℕ) (x : Entry) (next : Option Entry)
-    → IsWalk entries long left n here → left ≡ x ∷ later → next ≡ slice_get later 0 → w ≡ width (long n) (Some x) next
+pub walk_more : (entries left later : List Entry) (long : Forms) (n here w : ℕ) (x : Entry)
+    → IsWalk entries long left n here → left ≡ x ∷ later → w ≡ width (long n) (Some x) (slice_get later 0)
     → IsWalk entries long later (n + 1) (here + w)
-walk_more entries left later long n here w x next h e f v =
-    let t = turn entries left later n x next h.rest e f in
+walk_more entries left later long n here w x h e v =
+    let t = turn entries left later n x h.rest e in
     record {
       rest = rw add-one t.rest;
       words = offset_next entries long n here w h.words (rw add-one (cc (v, t.entry, t.behind)));
     }
+
+-- and few of them
+pub walk_low : (entries left : List Entry) (long : Forms) (n here : ℕ) → IsWalk entries long left n here
+    → n < length entries → length entries ≤ 2 ^ 42 → here + 6 < 2 ^ 62
+walk_low entries left long n here h l few = let s = offset_small entries long n in omega (arith, s, h.words, l, few)
 
 pub walk_end : (entries left : List Entry) (long : Forms) (n here : ℕ) → IsWalk entries long left n here
     → n ≡ length entries → left ≡ []

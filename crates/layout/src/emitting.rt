@@ -1,6 +1,6 @@
 //! The words of a layout.
 
-ghost use Rattle.std.specs.Prelude.{◌≡◌, ◌+◌, ◌*◌, ◌^◌, ◌<◌, ◌++◌, true, false, length, Some, OnOk, IfOk, IfSome};
+ghost use Rattle.std.specs.Prelude.{◌≡◌, ◌+◌, ◌*◌, ◌^◌, ◌<◌, ◌++◌, true, false, length, slice_get, Some, OnOk, IfOk, IfSome};
 ghost use Rattle.layout.specs.declared.items.Item.TheVariants as it;
 ghost use Rattle.layout.specs.declared.entries.Entry.TheVariants as en;
 ghost use Rattle.layout.specs.Forms.{far, target as target_of};
@@ -8,8 +8,8 @@ ghost use Rattle.layout.specs.Private.{entry_code, far_of, forms_in, goal_in, ha
 
 use crate::Item;
 use crate::assembler::Assembler;
-use crate::entries::Entry;
-use crate::forms::{leads_next, width};
+use crate::entries::{Cursor, Entry};
+use crate::forms::width;
 use crate::words::{put_branch, put_jump};
 use eel_base::PieceNo;
 use std::alloc::{AllocError, Global};
@@ -19,7 +19,7 @@ fn put_jump_before(
     code: &mut Vec<u32>,
     base: u32,
     piece: PieceNo,
-    next: Option<Entry>,
+    left: &Cursor,
     from: u64,
     to: u64,
     long: bool,
@@ -28,9 +28,10 @@ fn put_jump_before(
     requires near { long ≡ false → far from to ≡ false }
     requires low { base + 4 * to < 2 ^ 32 }
     ensures { OnOk result (code.new.items
-        ≡ code.old.items ++ entry_code base long from to (Some (en.Item (it.Jump piece))) next) }
+        ≡ code.old.items ++ entry_code base long from to (Some (en.Item (it.Jump piece)))
+        (slice_get left.now 0)) }
 {
-    if !leads_next(piece, next) {
+    if !left.starts(piece) {
         put_jump(code, base, from, to, long)?;
     }
     Ok(())
@@ -41,7 +42,7 @@ fn put_entry(
     code: &mut Vec<u32>,
     base: u32,
     entry: &Entry,
-    next: Option<Entry>,
+    left: &Cursor,
     from: u64,
     at: &[u64],
     long: bool,
@@ -51,14 +52,15 @@ fn put_entry(
     requires low { IfSome (goal_in at.now entry.now) (λ to. base + 4 * to < 2 ^ 32) }
     requires near { long ≡ false → far_of from (goal_in at.now entry.now) ≡ false }
     ensures code { OnOk result (code.new.items
-        ≡ code.old.items ++ entry_code base long from (or_zero (goal_in at.now entry.now)) (Some entry.now) next) }
+        ≡ code.old.items ++ entry_code base long from (or_zero (goal_in at.now entry.now)) (Some entry.now)
+        (slice_get left.now 0)) }
     ensures condition { OnOk result (has_condition (Some entry.now) ≡ true) }
 {
     match entry {
         Entry::Item(Item::Word(word)) => code.push(*word)?,
         Entry::Item(Item::Jump(piece)) => {
             let to = at[piece.0 as usize];
-            put_jump_before(code, base, *piece, next, from, to, long)?
+            put_jump_before(code, base, *piece, left, from, to, long)?
         }
         Entry::Item(Item::Branch { cond, to }) => {
             put_branch(code, base, *cond, from, at[to.0 as usize], long)?
@@ -79,9 +81,8 @@ impl Assembler<'_> {
         let mut here = 0;
         for long in self.forms {
             let entry = left.next();
-            let base = self.base.0;
-            put_entry(&mut code, base, &entry, left.peek(), here, self.at, *long)?;
-            here += width(&entry, left.peek(), *long);
+            put_entry(&mut code, self.base.0, &entry, &left, here, self.at, *long)?;
+            here += width(&entry, &left, *long);
         }
         Ok(code)
     }

@@ -3,7 +3,7 @@
 ghost use Rattle.std.specs.Prelude.{◌≡◌, ◌+◌, ◌*◌, ◌^◌, ◌<◌, ◌≤◌, ◌∷◌, [], length, slice_get, slice_index_or};
 ghost use Rattle.std.specs.List.{sum_by};
 ghost use Rattle.layout.specs.Laying.{IsWhole};
-ghost use Rattle.layout.specs.Forms.{entries_from};
+ghost use Rattle.layout.specs.Forms.{entries_from, leads_next};
 
 use crate::{Item, Piece};
 use eel_base::PieceNo;
@@ -139,16 +139,16 @@ impl<'a> Cursor<'a> {
         }
     }
 
-    /// The next entry, if there is one, which stays.
+    /// Whether this piece starts next.
     #[inline]
-    pub fn peek(&self) -> Option<Entry>
-        ensures { result ≡ slice_get self.now 0 }
+    pub fn starts(&self, piece: PieceNo) -> bool
+        ensures { result ≡ leads_next piece (slice_get self.now 0) }
     {
         match self.items.first() {
-            Some(item) => Some(Entry::Item(*item)),
+            Some(_) => false,
             None => match self.order.first() {
-                Some(k) => Some(Entry::Start(PieceNo(*k as u32))),
-                None => None,
+                Some(k) => piece.0 as usize == *k,
+                None => false,
             },
         }
     }

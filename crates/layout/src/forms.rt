@@ -3,45 +3,36 @@
 ghost use Rattle.std.specs.Prelude.{◌≡◌, ◌+◌, ◌*◌, ◌^◌, ◌<◌, ◌≤◌, ◌||◌, false, length, replicate, count_by, slice_get, slice_index, Some, IfOk, IfSome};
 ghost use Rattle.layout.specs.declared.items.Item.TheVariants as it;
 ghost use Rattle.layout.specs.declared.entries.Entry.TheVariants as en;
-ghost use Rattle.layout.specs.Forms.{far, leads_next as leads_next_of, offset, target as target_of, width as width_of};
+ghost use Rattle.layout.specs.Forms.{far, offset, target as target_of, width as width_of};
 ghost use Rattle.layout.specs.Private.{far_of, forms_in, goal_in, noted, AreWider, IsFormed, IsListing, IsOffsets, StartsBelow};
 
 use crate::Item;
-use crate::entries::{Entry, Listing};
+use crate::entries::{Cursor, Entry, Listing};
 use eel_base::PieceNo;
 use std::alloc::{AllocError, Global};
 
-/// Whether the next entry is the start of the piece to which a Jump leads.
-pub fn leads_next(to: PieceNo, next: Option<Entry>) -> bool
-    ensures { result ≡ leads_next_of to next }
-{
-    match next {
-        Some(Entry::Start(k)) => to.0 == k.0,
-        _ => false,
-    }
-}
-
-// The words that a Jump takes before the next entry.
-fn jump_width(to: PieceNo, next: Option<Entry>, long: bool) -> u64
-    ensures value { result ≡ width_of long (Some (en.Item (it.Jump to))) next }
+// The words that a Jump takes before what is left.
+#[inline]
+fn jump_width(to: PieceNo, left: &Cursor, long: bool) -> u64
+    ensures value { result ≡ width_of long (Some (en.Item (it.Jump to))) (slice_get left.now 0) }
     ensures small { result ≤ 6 }
 {
-    if leads_next(to, next) {
+    if left.starts(to) {
         0
     } else {
         if long { 4 } else { 1 }
     }
 }
 
-/// The words that an entry takes before the next one.
+/// The words that an entry takes before what is left.
 #[inline]
-pub fn width(entry: &Entry, next: Option<Entry>, long: bool) -> u64
-    ensures value { result ≡ width_of long (Some entry.now) next }
+pub fn width(entry: &Entry, left: &Cursor, long: bool) -> u64
+    ensures value { result ≡ width_of long (Some entry.now) (slice_get left.now 0) }
     ensures small { result ≤ 6 }
 {
     match entry {
         Entry::Item(Item::Word(_)) => 1,
-        Entry::Item(Item::Jump(to)) => jump_width(*to, next, long),
+        Entry::Item(Item::Jump(to)) => jump_width(*to, left, long),
         Entry::Item(Item::Branch { .. }) => if long { 6 } else { 2 },
         _ => 0,
     }
@@ -83,7 +74,7 @@ pub fn offsets(entries: &Listing, forms: &[bool], at: &mut [u64]) -> u64
     for long in forms {
         let entry = left.next();
         note_start(at, &entry, here);
-        here += width(&entry, left.peek(), *long);
+        here += width(&entry, &left, *long);
     }
     here
 }
@@ -135,7 +126,7 @@ fn widen(entries: &Listing, at: &[u64], forms: &mut [bool])
         let entry = left.next();
         let long = forms[n];
         forms[n] = form_after(&entry, at, here, long);
-        here += width(&entry, left.peek(), long);
+        here += width(&entry, &left, long);
     }
 }
 

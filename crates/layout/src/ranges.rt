@@ -85,7 +85,7 @@ impl Assembler<'_> {
         for long in self.forms {
             let entry = left.next();
             open_mark = put_entry(&mut ranges, open_mark, address(self.base, here), &entry)?;
-            here += width(&entry, left.peek(), *long);
+            here += width(&entry, &left, *long);
         }
         Ok(ranges)
     }

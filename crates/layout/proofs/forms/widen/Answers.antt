@@ -1,8 +1,8 @@
-use Rattle.std.proofs.Common.{◌≡◌, ◌^◌, ◌<◌, ℕ, Bool, false, Some, get_or, length, ap, ◌∙◌, refl, arith}
+use Rattle.std.proofs.Common.{◌≡◌, ◌^◌, ◌<◌, ℕ, Bool, false, Some, get_or, length, slice_get, ap, ◌∙◌, arith}
 use Rattle.layout.specs.Forms.{width}
 use Rattle.layout.specs.Private.{forms_in}
 use Rattle.layout.proofs.Offsets.{offset_small}
-use Rattle.layout.proofs.Walked.{goal_low, is_far_is, leads_inside, more_left, turn, walk_more, walk_none}
+use Rattle.layout.proofs.Walked.{goal_low, is_far_is, leads_inside, more_left, turn, walk_low, walk_more, walk_none}
 use Rattle.layout.proofs.Wider.{wider_more, wider_none}
 use Rattle.layout.proofs.forms.widen.Goals as goal
 
@@ -18,42 +18,31 @@ pub form_after-requires : goal.form_after-requires
 form_after-requires c =
     let entries = c.args.entries.now in
     let long = forms_in c.args.forms.now in
-    let t = turn entries c.loop-n.left c.next-entry.new.self c.loop-n.n c.next-entry.result _ c.loop-n.invariant.walk.rest
-    c.next-entry.ensures refl in
-    let few = offset_small entries long c.loop-n.n in
+    let t = turn entries _ _ _ _ c.loop-n.invariant.walk.rest c.next-entry.ensures in
+    let low = walk_low _ _ _ _ _ c.loop-n.invariant.walk t.inside c.requires.small in
     let all = offset_small entries long (length entries) in
     record {
-      leads = leads_inside entries long c.args.at.now c.requires.at c.loop-n.n c.next-entry.result t.entry;
-      from = omega (arith, few, c.loop-n.invariant.walk.words, t.inside, c.requires.small);
-      to = goal_low entries long c.args.at.now c.requires.at c.loop-n.n c.next-entry.result t.entry (λ (to : ℕ). to < 2 ^ 63)
+      leads = leads_inside entries long _ c.requires.at _ _ t.entry;
+      from = omega (arith, low);
+      to = goal_low entries long _ c.requires.at _ _ t.entry (λ (to : ℕ). to < 2 ^ 63)
           (λ m l. omega (arith, l, all, c.requires.small));
     }
 
 pub overflow_add-here : goal.overflow_add-here
 overflow_add-here c =
-    let few = offset_small c.args.entries.now (forms_in c.args.forms.now) c.loop-n.n in
-    omega (
-      arith,
-      few,
-      c.loop-n.invariant.walk.words,
-      c.width-here.ensures.small,
-      c.loop-n-test.true,
-      c.requires.small,
-      c.requires.forms,
-    )
+    let low = walk_low _ _ _ _ _ c.loop-n.invariant.walk (omega (arith, c.loop-n-test.true, c.requires.forms))
+    c.requires.small in
+    omega (arith, low, c.width-here.ensures.small)
 
 pub loop-n-preserved : goal.loop-n-preserved
 loop-n-preserved c =
-    let entries = c.args.entries.now in
-    let long = forms_in c.args.forms.now in
     let was : get_or c.loop-n.forms c.loop-n.n false ≡ get_or c.args.forms.now c.loop-n.n false
     = c.loop-n.invariant.wider.rest c.loop-n.n (omega arith) in
-    let t = turn entries c.loop-n.left c.next-entry.new.self c.loop-n.n c.next-entry.result _ c.loop-n.invariant.walk.rest
-    c.next-entry.ensures c.peek.ensures in
-    let far = is_far_is entries long c.args.at.now c.requires.at c.loop-n.n c.next-entry.result t.entry c.loop-n.here
-    c.loop-n.invariant.walk.words in
+    let t = turn c.args.entries.now _ _ _ _ c.loop-n.invariant.walk.rest c.next-entry.ensures in
+    let far = is_far_is _ _ _ c.requires.at _ _ t.entry _ c.loop-n.invariant.walk.words in
     record {
-      walk = walk_more _ _ _ _ _ _ _ _ _ c.loop-n.invariant.walk c.next-entry.ensures c.peek.ensures
-          (c.width-here.ensures.value ∙ ap (λ (b : Bool). width b (Some c.next-entry.result) c.peek.result) was);
+      walk = walk_more _ _ _ _ _ _ _ _ c.loop-n.invariant.walk c.next-entry.ensures
+          (c.width-here.ensures.value
+          ∙ ap (λ (b : Bool). width b (Some c.next-entry.result) (slice_get c.next-entry.new.self 0)) was);
       wider = wider_more _ _ _ _ _ c.loop-n.invariant.wider c.loop-n-test.true (cc (c.form_after.ensures, was, far));
     }

@@ -1,8 +1,8 @@
 use Rattle.std.proofs.Common.{length, ◌∙◌, refl, sym, append-nil, arith}
 use Rattle.layout.specs.Private.{address_of, forms_in}
-use Rattle.layout.proofs.Offsets.{offset_small, ranges_more}
+use Rattle.layout.proofs.Offsets.{ranges_more}
 use Rattle.layout.proofs.Widening.{rises}
-use Rattle.layout.proofs.Walked.{more_left, walk_end, walk_more, walk_none}
+use Rattle.layout.proofs.Walked.{more_left, walk_end, walk_low, walk_more, walk_none}
 use Rattle.layout.proofs.assembler.Assembler.ranges_of.Goals as goal
 
 pub loop-long-init : goal.loop-long-init
@@ -12,9 +12,12 @@ loop-long-init c = record {
 }
 
 pub next-entry-requires : goal.next-entry-requires
-next-entry-requires c = record {
-  more = more_left c.args.self.now.entries.now _ _ c.loop-long.invariant.walk.rest (omega (arith, c.loop-long-test.true, c.args.self.now.formed));
-}
+next-entry-requires c =
+    let layout = c.args.self.now in
+    record {
+      more = more_left layout.entries.now _ _ c.loop-long.invariant.walk.rest
+          (omega (arith, c.loop-long-test.true, layout.formed));
+    }
 
 pub address-requires : goal.address-requires
 address-requires c =
@@ -26,36 +29,22 @@ address-requires c =
 pub overflow_add-here : goal.overflow_add-here
 overflow_add-here c =
     let layout = c.args.self.now in
-    let few = offset_small layout.entries.now (forms_in layout.forms.now) c.loop-long.long-index in
-    omega (
-      arith,
-      few,
-      c.loop-long.invariant.walk.words,
-      c.width-here.ensures.small,
-      c.loop-long-test.true,
-      layout.small,
-      layout.formed,
-    )
+    let low = walk_low _ _ _ _ _ c.loop-long.invariant.walk (omega (arith, c.loop-long-test.true, layout.formed))
+    layout.small in
+    omega (arith, low, c.width-here.ensures.small)
 
 pub loop-long-preserved : goal.loop-long-preserved
 loop-long-preserved c =
     let layout = c.args.self.now in
     record {
-      walk = walk_more _ _ _ _ _ _ _ _ _ c.loop-long.invariant.walk c.next-entry.ensures c.peek.ensures
-          c.width-here.ensures.value;
-      ranges = ranges_more (address_of layout.base.0 layout.entries.now (forms_in layout.forms.now)) c.loop-long.left
-          c.next-entry.new.self c.loop-long.long-index c.address.result.0 c.loop-long.open_mark
-          c.in_ok-open_mark.open_mark c.next-entry.result c.loop-long.ranges.items c.put_entry.new.ranges.items _
+      walk = walk_more _ _ _ _ _ _ _ _ c.loop-long.invariant.walk c.next-entry.ensures c.width-here.ensures.value;
+      ranges = ranges_more (address_of layout.base.0 layout.entries.now (forms_in layout.forms.now)) _ _ _ _ _ _ _ _ _ _
           c.next-entry.ensures (cc (c.address.ensures, c.loop-long.invariant.walk.words)) c.loop-long.invariant.ranges
           c.in_ok-open_mark.ensures.ranges c.in_ok-open_mark.ensures.mark;
     }
 
 pub returns : goal.returns
 returns c =
-    let none = walk_end _ _ _ _ _ c.loop-long.invariant.walk (omega (
-      arith,
-      c.loop-long-test.false,
-      c.loop-long.auto.long-index-end,
-      c.args.self.now.formed,
-    )) in
+    let none = walk_end _ _ _ _ _ c.loop-long.invariant.walk
+    (omega (arith, c.loop-long-test.false, c.loop-long.auto.long-index-end, c.args.self.now.formed)) in
     sym (append-nil c.loop-long.ranges.items) ∙ rw none at c.loop-long.invariant.ranges
