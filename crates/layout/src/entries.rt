@@ -106,7 +106,7 @@ impl<'a> Listing<'a> {
         self.count
     }
 
-    /// All of them.
+    /// All of them, to be taken one after the other.
     pub fn cursor(&self) -> Cursor<'a>
         ensures { result ≡ self.now }
     {

@@ -38,8 +38,9 @@ pub fn width(entry: &Entry, left: &Cursor, long: bool) -> u64
     }
 }
 
-/// The piece to which an entry leads.
-pub fn target(entry: &Entry) -> Option<usize>
+// The piece to which an entry leads.
+#[inline]
+fn target(entry: &Entry) -> Option<usize>
     ensures { result ≡ target_of (Some entry.now) }
 {
     match entry {
@@ -60,8 +61,8 @@ fn note_start(at: &mut [u64], entry: &Entry, here: u64)
     }
 }
 
-/// Puts down how many words come before each piece, and gives how many there are.
-pub fn offsets(entries: &Listing, forms: &[bool], at: &mut [u64]) -> u64
+// Puts down how many words come before each piece, and gives how many there are.
+fn offsets(entries: &Listing, forms: &[bool], at: &mut [u64]) -> u64
     requires small { length entries.now ≤ 2 ^ 42 }
     requires listing { IsListing entries.now (length at.old) }
     requires forms { length forms.now ≡ length entries.now }
@@ -102,7 +103,7 @@ fn is_far(entry: &Entry, at: &[u64], here: u64) -> bool
     }
 }
 
-// The form of an entry after it.
+// The form of an entry after a pass.
 #[inline]
 fn form_after(entry: &Entry, at: &[u64], here: u64, long: bool) -> bool
     requires leads { IfSome (target_of (Some entry.now)) (λ k. k < length at.now) }
