@@ -4,6 +4,7 @@ use Rattle.std.specs.Prelude.{if◌then◌else◌}
 use Rattle.std.specs.Option.{option_map}
 use Rattle.std.proofs.lemmas.Bool.{cases_lt, eqb-true, false≢true}
 use Rattle.std.proofs.lemmas.List.{length-append, length-map}
+use Rattle.std.proofs.lemmas.Option.{slice_get_within}
 use Rattle.eel_base.specs.declared.numbers.Addr.{Addr}
 use Rattle.eel_base.specs.declared.numbers.PieceNo.{PieceNo}
 use Rattle.notes.specs.Format.{NoteRange}
@@ -23,7 +24,7 @@ use Rattle.layout.proofs.Listed.{items_at, from_append, split_at, start_at, befo
 use Rattle.layout.proofs.Widening.{offset_more, rises}
 use Rattle.layout.proofs.Emitted.{near_enough}
 use Rattle.layout.proofs.Standing.{code_length, get_rest, has_code, item_stands, GoesTo, IsNextAt, IsNearTo}
-use Rattle.layout.proofs.Ranging.{ascend_from, seen, AreStill, piece_ranges, seen_both, count_more, order_ascends, order_finds, AllOf, all_then, at_next, at_this, get_low, one_of, piece_made}
+use Rattle.layout.proofs.Ranging.{ascend_from, seen, AreStill, piece_ranges, seen_both, count_more, order_ascends, order_finds, AllOf, AreFrom, all_then, from_next, one_of, piece_made}
 
 -- all of it: its pieces have `starts` words before them
 pub record IsMade (pieces : List (List Item)) (base : ℕ) (long : Forms) (starts : List ℕ) (p : Placed) : Type 0 where
@@ -167,7 +168,7 @@ module _ (pieces : List (List Item)) (leads : AllLead pieces) where
       at = (piece_at pieces k n x e).0
 
       inside : n < length (items_at pieces k)
-      inside = get_low (items_at pieces k) n x (sym (item_is pieces k n) ∙ e)
+      inside = slice_get_within (items_at pieces k) n x (sym (item_is pieces k n) ∙ e)
 
       s : IsAt k
       s = piece_is_at k at
@@ -381,7 +382,7 @@ module _ (pieces : List (List Item)) (leads : AllLead pieces) (marked : AllMarke
   items : (k n : ℕ) (x : Item) → item_at pieces k n ≡ Some x → Stands base placed x (place k n) (place k (suc n))
   items k n x e =
       let i = piece_inside pieces leads k (piece_at pieces k n x e).0 in
-      let g = get_low (items_at pieces k) n x (sym (item_is pieces k n) ∙ e) in
+      let g = slice_get_within (items_at pieces k) n x (sym (item_is pieces k n) ∙ e) in
       let l : entry_no k n < length (entries_of pieces) = omega (arith, i, g) in
       let t = step k n x e in
       item_stands base placed x (next_entry k n) (long (entry_no k n)) (words_to k n) (goal_words k n)
@@ -407,21 +408,20 @@ module _ (pieces : List (List Item)) (leads : AllLead pieces) (marked : AllMarke
       → ((long : Bool) (next : Option Entry) → width long (Some (en.Item x)) next ≡ 0) → place k (suc n) ≡ place k n
   mark_still k n x e w = omega (arith, step k n x e, w (long (entry_no k n)) (next_entry k n))
 
-  still_from : (k : ℕ) (xs : List Item) (i : ℕ) → ((j : ℕ) (x : Item) → slice_get xs j ≡ Some x
-      → item_at pieces k (i + j) ≡ Some x) → AreStill (place k) i xs
+  still_from : (k : ℕ) (xs : List Item) (i : ℕ) → AreFrom pieces k xs i → AreStill (place k) i xs
   still_from k [] i are = tt
   still_from k (it.Mark a m ∷ xs) i are = (
-    mark_still k i (it.Mark a m) (at_this pieces k i _ (are 0 (it.Mark a m) refl)) (λ long next. refl),
-    still_from k xs (suc i) (λ j x e. at_next pieces k i j x (are (suc j) x e)),
+    mark_still k i (it.Mark a m) (are 0 i _ (omega arith) refl) (λ long next. refl),
+    still_from k xs (suc i) (from_next pieces k _ xs i are),
   )
   still_from k (it.EndMark ∷ xs) i are = (
-    mark_still k i it.EndMark (at_this pieces k i _ (are 0 it.EndMark refl)) (λ long next. refl),
-    still_from k xs (suc i) (λ j x e. at_next pieces k i j x (are (suc j) x e)),
+    mark_still k i it.EndMark (are 0 i _ (omega arith) refl) (λ long next. refl),
+    still_from k xs (suc i) (from_next pieces k _ xs i are),
   )
-  still_from k (_ ∷ xs) i are = still_from k xs (suc i) (λ j x e. at_next pieces k i j x (are (suc j) x e))
+  still_from k (_ ∷ xs) i are = still_from k xs (suc i) (from_next pieces k _ xs i are)
 
-  items_are : (k j : ℕ) (x : Item) → slice_get (items_at pieces k) j ≡ Some x → item_at pieces k (0 + j) ≡ Some x
-  items_are k j x e = cc ((let f : 0 + j ≡ j = omega arith in f), item_is pieces k j, e)
+  items_are : (k : ℕ) → AreFrom pieces k (items_at pieces k) 0
+  items_are k j m x e f = cc ((let g : m ≡ j = omega (arith, e) in g), item_is pieces k j, f)
 
   still : (k : ℕ) → AreStill (place k) 0 (items_at pieces k)
   still k = still_from k (items_at pieces k) 0 (items_are k)
