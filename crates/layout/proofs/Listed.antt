@@ -1,10 +1,10 @@
--- Pieces become entries one after the other.
-use Rattle.std.proofs.Common.{◌≡◌, ℕ, zero, suc, ◌+◌, ◌<◌, ◌≤◌, inl, inr, Bool, true, false, ◌||◌, eqb, List, [], ◌∷◌, ◌++◌, length, get_or, slice_get, Some, IfSome, map, refl, ap, sym, ◌∙◌, append_assoc, arith}
+-- The pieces as one list of entries.
+use Rattle.std.proofs.Common.{◌≡◌, ℕ, zero, suc, ◌+◌, ◌<◌, ◌≤◌, inl, inr, Bool, true, false, ◌||◌, eqb, List, [], ◌∷◌, ◌++◌, length, get_or, set, slice_get, Some, IfSome, map, refl, ap, sym, ◌∙◌, append_assoc, arith}
 use Rattle.std.specs.Prelude.{if◌then◌else◌}
 use Rattle.std.specs.List.{All, AllByRecursion, IsDistinct, sum_by}
 use Rattle.std.proofs.lemmas.Bool.{cases_Bool, eqb-true, eq-eqb, false≢true, ne_eqb, or_parts}
-use Rattle.std.proofs.lemmas.List.Sums.{sum_by-cons}
-use Rattle.std.proofs.lemmas.List.{length-append, length-map}
+use Rattle.std.proofs.lemmas.List.Sums.{sum_by-set}
+use Rattle.std.proofs.lemmas.List.{get_or-set_other, length-set, length-append, length-map}
 use Rattle.layout.specs.declared.items.Item.{Item}
 use Rattle.layout.specs.declared.entries.Entry.{Entry}
 use Rattle.layout.specs.declared.entries.Entry.TheVariants as en
@@ -83,43 +83,13 @@ abbrev pub weigh : (List Item → ℕ) → List (List Item) → List ℕ → ℕ
 weigh f pieces [] = 0
 weigh f pieces (k ∷ ks) = f (items_at pieces k) + weigh f pieces ks
 
--- the pieces, numbered from i on, that aren't in the order
-abbrev rest_of : (List Item → ℕ) → List (List Item) → ℕ → List ℕ → ℕ
-rest_of f [] i order = 0
-rest_of f (p ∷ ps) i order = (if is_laid order i then 0 else f p) + rest_of f ps (suc i) order
-
-rest_all : (f : List Item → ℕ) (pieces : List (List Item)) (i : ℕ) → rest_of f pieces i [] ≡ sum_by f pieces
-rest_all f [] i = refl
-rest_all f (p ∷ ps) i = let h = rest_all f ps (suc i) in let s = sum_by-cons f p ps in omega (arith, h, s)
-
-rest_past : (f : List Item → ℕ) (pieces : List (List Item)) (i k : ℕ) (ks : List ℕ) → k < i
-    → rest_of f pieces i (k ∷ ks) ≡ rest_of f pieces i ks
-rest_past f [] i k ks l = refl
-rest_past f (p ∷ ps) i k ks l =
-    let d : eqb i k ≡ false = ne_eqb i k (λ e. omega (arith, l, e)) in
-    let g : (if eqb i k || is_laid ks i then 0 else f p) ≡ (if is_laid ks i then 0 else f p)
-    = ap (λ (b : Bool). if b then 0 else f p) (or_false (eqb i k) (is_laid ks i) d) in
-    omega (arith, rest_past f ps (suc i) k ks (omega arith), g)
-
-rest_less : (f : List Item → ℕ) (pieces : List (List Item)) (i d : ℕ) (ks : List ℕ) → d < length pieces
-    → is_laid ks (i + d) ≡ false → rest_of f pieces i ks ≡ rest_of f pieces i ((i + d) ∷ ks) + f (items_at pieces d)
-rest_less f [] i d ks l e = absurd (omega arith)
-rest_less f (p ∷ ps) i zero ks l e =
-    let z : i + 0 ≡ i = omega arith in
-    let a : (if is_laid ks i then 0 else f p) ≡ f p = ap (λ (b : Bool). if b then 0 else f p) (ap (is_laid ks) (sym z)
-    ∙ e) in
-    let b : (if eqb i (i + 0) || is_laid ks i then 0 else f p) ≡ 0
-    = ap (λ (b : Bool). if b || is_laid ks i then 0 else f p) (eq-eqb i (i + 0) (sym z)) in
-    let c = rest_past f ps (suc i) (i + 0) ks (omega arith) in
-    omega (arith, a, b, c)
-rest_less f (p ∷ ps) i (suc d) ks l e =
-    let z : suc i + d ≡ i + suc d = omega arith in
-    let h : rest_of f ps (suc i) ks ≡ rest_of f ps (suc i) ((i + suc d) ∷ ks) + f (items_at ps d)
-    = rw z at (rest_less f ps (suc i) d ks (omega arith) (ap (is_laid ks) z ∙ e)) in
-    let q : eqb i (i + suc d) ≡ false = ne_eqb i (i + suc d) (λ e. omega (arith, e)) in
-    let g : (if eqb i (i + suc d) || is_laid ks i then 0 else f p) ≡ (if is_laid ks i then 0 else f p)
-    = ap (λ (b : Bool). if b then 0 else f p) (or_false (eqb i (i + suc d)) (is_laid ks i) q) in
-    omega (arith, h, g)
+weigh_other : (f : List Item → ℕ) (pieces : List (List Item)) (k : ℕ) (ks : List ℕ) → is_laid ks k ≡ false
+    → weigh f (set pieces k []) ks ≡ weigh f pieces ks
+weigh_other f pieces k [] e = refl
+weigh_other f pieces k (j ∷ js) e =
+    let p = or_parts (eqb k j) (is_laid js k) e in
+    let same = get_or-set_other pieces k j [] [] (λ s. false≢true (sym p.0 ∙ eq-eqb k j (sym s))) in
+    omega (arith, ap f same, weigh_other f pieces k js p.1)
 
 absent_head : (k : ℕ) (ks : List ℕ) → IsDistinct eqb (k ∷ ks) → is_laid ks k ≡ false
 unfolding IsDistinct
@@ -130,40 +100,32 @@ distinct_tail : (k : ℕ) (ks : List ℕ) → IsDistinct eqb (k ∷ ks) → IsDi
 unfolding IsDistinct
 distinct_tail k ks d = d.1
 
-weighed : (f : List Item → ℕ) (pieces : List (List Item)) (order : List ℕ) → IsDistinct eqb order
-    → All (λ k. k < length pieces) order → weigh f pieces order + rest_of f pieces 0 order ≡ sum_by f pieces
-weighed f pieces [] d h = let a = rest_all f pieces 0 in omega (arith, a)
-weighed f pieces (k ∷ ks) d h =
-    let z : 0 + k ≡ k = omega arith in
-    let less : rest_of f pieces 0 ks ≡ rest_of f pieces 0 (k ∷ ks) + f (items_at pieces k)
-    = rw z at (rest_less f pieces 0 k ks (h 0 0 (omega arith)) (ap (is_laid ks) z ∙ absent_head k ks d)) in
-    omega (arith, weighed f pieces ks (distinct_tail k ks d) (λ i x l. h (suc i) x (omega arith)), less)
+weigh_once : (f : List Item → ℕ) → f [] ≡ 0 → (pieces : List (List Item)) (order : List ℕ) → IsDistinct eqb order
+    → All (λ k. k < length pieces) order → weigh f pieces order ≤ sum_by f pieces
+weigh_once f none pieces [] d h = omega arith
+weigh_once f none pieces (k ∷ ks) d h =
+    let less = sum_by-set f pieces k [] [] (h 0 0 (omega arith)) in
+    let other = weigh_other f pieces k ks (absent_head k ks d) in
+    let rest = weigh_once f none (set pieces k []) ks (distinct_tail k ks d)
+    (λ i x l. rw (length-set pieces k []) (h (suc i) x (omega arith))) in
+    omega (arith, less, other, rest, none)
 
-pub weighs_less : (f : List Item → ℕ) (pieces : List (List Item)) (order : List ℕ) → IsWhole pieces order
+pub weighs_less : (f : List Item → ℕ) → f [] ≡ 0 → (pieces : List (List Item)) (order : List ℕ) → IsWhole pieces order
     → weigh f pieces order ≤ sum_by f pieces
-weighs_less f pieces order h =
-    let w = weighed f pieces order h.laying.distinct h.laying.inside in omega (arith, w)
+weighs_less f none pieces order h = weigh_once f none pieces order h.laying.distinct h.laying.inside
 
 -- ---- how many entries
 
-abbrev counted : List Item → ℕ
-counted items = suc (length items)
-
-entry_count : (pieces : List (List Item)) (order : List ℕ) → length (entries_from pieces order) ≡ weigh counted pieces
-    order
-entry_count pieces [] = refl
+entry_count : (pieces : List (List Item)) (order : List ℕ)
+    → length (entries_from pieces order) ≡ length order + weigh length pieces order
+entry_count pieces [] = omega arith
 entry_count pieces (k ∷ ks) =
     let both = length-append (entries_in k (items_at pieces k)) (entries_from pieces ks) in
     omega (arith, entry_count pieces ks, both, length-map (items_at pieces k) en.Item)
 
-all_counted : (pieces : List (List Item)) → sum_by counted pieces ≡ length pieces + sum_by length pieces
-all_counted [] = refl
-all_counted (p ∷ ps) = omega (arith, all_counted ps, sum_by-cons counted p ps, sum_by-cons length p ps)
-
 pub few_entries : (pieces : List (List Item)) (order : List ℕ) → IsWhole pieces order
     → length (entries_from pieces order) ≤ length pieces + sum_by length pieces
-few_entries pieces order h =
-    omega (arith, entry_count pieces order, weighs_less counted pieces order h, all_counted pieces)
+few_entries pieces order h = omega (arith, entry_count pieces order, weighs_less length refl pieces order h, h.len)
 
 -- ---- where they lead
 
@@ -212,42 +174,36 @@ pub before_absent : (pieces : List (List Item)) (order fs rs : List ℕ) (k : �
     → order ≡ fs ++ k ∷ rs → is_laid fs k ≡ false
 before_absent pieces order fs rs k h e = distinct_before fs rs k (rw e at h.laying.distinct)
 
--- a start among items and what is behind them is one of these
-abbrev StartAt : ℕ → List Entry → ℕ → Type 0
-StartAt k xs n = slice_get xs n ≡ Some (en.Start (record { 0 = k }))
+-- entry n is the start of a piece
+abbrev IsStartAt : ℕ → List Entry → ℕ → Type 0
+IsStartAt k xs n = slice_get xs n ≡ Some (en.Start (record { 0 = k }))
 
-start_behind : (k : ℕ) (items : List Item) (xs : List Entry) (n : ℕ) → StartAt k (map en.Item items ++ xs) n
-    → (m : ℕ) × (n ≡ length items + m) × StartAt k xs m
+-- behind items it is one of the entries there
+start_behind : (k : ℕ) (items : List Item) (xs : List Entry) (n : ℕ) → IsStartAt k (map en.Item items ++ xs) n
+    → (m : ℕ) × (n ≡ length items + m) × IsStartAt k xs m
 start_behind k [] xs n e = (n, omega arith, e)
 start_behind k (x ∷ items) xs zero e = absurd (cc)
 start_behind k (x ∷ items) xs (suc n) e =
     let h = start_behind k items xs n e in
     (h.0, omega (arith, h.1), h.2)
 
--- an order in which each piece stands once
-pub record IsOnce (pieces : List (List Item)) (order : List ℕ) (n k : ℕ) : Type 0 where
-  pub laid : is_laid order k ≡ true
-  pub start : start_of (entries_from pieces order) k ≡ n
-
+-- it is that of a piece that is laid, and the first of its starts
 start_number : (pieces : List (List Item)) (order : List ℕ) → IsDistinct eqb order → (n k : ℕ)
-    → StartAt k (entries_from pieces order) n → IsOnce pieces order n k
+    → IsStartAt k (entries_from pieces order) n
+    → (is_laid order k ≡ true) × (start_of (entries_from pieces order) k ≡ n)
 start_number pieces [] d n k e = absurd (cc)
 start_number pieces (j ∷ js) d zero k e =
     let same : j ≡ k = ap piece_in e in
-    rw same record {
-      laid = ap (λ (b : Bool). b || is_laid js k) (eq-eqb k k refl);
-      start = start_self k _;
-    }
+    rw same (ap (λ (b : Bool). b || is_laid js k) (eq-eqb k k refl), start_self k _)
 start_number pieces (j ∷ js) d (suc n) k e =
     let b = start_behind k (items_at pieces j) (entries_from pieces js) n e in
     let h = start_number pieces js (distinct_tail j js d) b.0 k b.2 in
     let apart : eqb k j ≡ false = ne_eqb k j (λ (s : k ≡ j). false≢true (sym (absent_head j js d) ∙ ap (is_laid js)
-    (sym s) ∙ h.laid)) in
-    record {
-      laid = or_false (eqb k j) (is_laid js k) apart ∙ h.laid;
-      start = start_past k j (map en.Item (items_at pieces j) ++ entries_from pieces js) apart
-          ∙ omega (arith, start_items k (items_at pieces j) (entries_from pieces js), h.start, b.1);
-    }
+    (sym s) ∙ h.0)) in (
+      or_false (eqb k j) (is_laid js k) apart ∙ h.0,
+      start_past k j (map en.Item (items_at pieces j) ++ entries_from pieces js) apart
+          ∙ omega (arith, start_items k (items_at pieces j) (entries_from pieces js), h.1, b.1),
+    )
 
 start_inside : (pieces : List (List Item)) (order : List ℕ) (k : ℕ) → IsWhole pieces order → k < length pieces
     → start_of (entries_from pieces order) k < length (entries_from pieces order)
@@ -268,5 +224,5 @@ are_listing pieces order whole leads = record {
   inside = λ k l. start_inside pieces order k whole l;
   starts = λ n k e.
       let h = start_number pieces order whole.laying.distinct n k e in
-      (laid_inside order (length pieces) k whole.laying.inside h.laid, h.start);
+      (laid_inside order (length pieces) k whole.laying.inside h.0, h.1);
 }

@@ -78,7 +78,7 @@ full_order pieces (k ∷ ks) =
 
 pub long_is_enough : LongIsEnough
 long_is_enough pieces bytes are n =
-    let d = weighs_less piece_words pieces (compact_order pieces) (whole_is pieces (exits_lead pieces are.leads)) in
+    let d = weighs_less piece_words refl pieces (compact_order pieces) (whole_is pieces (exits_lead pieces are.leads)) in
     let parted = offset_low (entries_of pieces) n.long (length (entries_of pieces)) (omega arith) in
     let same = ap full (take_all (length (entries_of pieces)) (entries_of pieces) (omega arith)) in
     omega (arith, n.value, parted, same, full_order pieces (compact_order pieces), d)
