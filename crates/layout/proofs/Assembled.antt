@@ -3,7 +3,8 @@ use Rattle.std.proofs.Common.{◌≡◌, ℕ, zero, suc, ◌+◌, ◌-◌, ◌*�
 use Rattle.std.specs.Prelude.{if◌then◌else◌}
 use Rattle.std.specs.Option.{option_map}
 use Rattle.std.proofs.lemmas.Bool.{cases_lt, eqb-true, false≢true}
-use Rattle.std.proofs.lemmas.List.{length-append, length-map}
+use Rattle.std.proofs.lemmas.List.{get_or_past, length-append, length-map}
+use Rattle.std.proofs.lemmas.Option.{slice_get-get_or, slice_get_within}
 use Rattle.eel_base.specs.declared.numbers.Addr.{Addr}
 use Rattle.eel_base.specs.declared.numbers.PieceNo.{PieceNo}
 use Rattle.notes.specs.Format.{NoteRange}
@@ -17,21 +18,21 @@ use Rattle.layout.specs.Order.{compact_order, exit_at, jump_to}
 use Rattle.layout.specs.Laying.{IsWhole}
 use Rattle.layout.specs.Forms.{Forms, entries_in, entries_from, entries_of, far, leads_next, offset, start_of, target, width, IsWidened}
 use Rattle.layout.specs.Compact.{IsCompact}
-use Rattle.layout.specs.Private.{address_of, addresses, or_zero, target_offset, ranges_from, IsListing, IsEmitted}
+use Rattle.layout.specs.Private.{address_of, addresses, or_zero, target_offset, ranges_from, IsEmitted, IsOffsets}
 use Rattle.layout.proofs.Laying.{exits_lead, follows, item_is, whole_is}
 use Rattle.layout.proofs.Listed.{items_at, from_append, split_at, start_at, before_absent}
 use Rattle.layout.proofs.Widening.{offset_more, rises}
 use Rattle.layout.proofs.Emitted.{near_enough}
 use Rattle.layout.proofs.Standing.{code_length, get_rest, has_code, item_stands, GoesTo, IsNextAt, IsNearTo}
-use Rattle.layout.proofs.Ranging.{ascend_from, seen, AreStill, piece_ranges, seen_both, count_more, order_ascends, order_finds, AllOf, all_then, at_next, at_this, get_low, one_of, piece_made}
+use Rattle.layout.proofs.Ranging.{ascend_from, seen, AreStill, piece_ranges, seen_both, count_more, order_ascends, order_finds, AllOf, AreFrom, all_then, from_next, one_of, piece_made}
 
--- all of it
+-- all of it: its pieces have `starts` words before them
 pub record IsMade (pieces : List (List Item)) (base : ℕ) (long : Forms) (starts : List ℕ) (p : Placed) : Type 0 where
   pub widened : IsWidened (entries_of pieces) long
   pub count : length starts ≡ length pieces
-  pub listing : IsListing (entries_of pieces) starts
+  pub offsets : IsOffsets (entries_of pieces) long starts
   pub emitted : IsEmitted base (entries_of pieces) long p.code.items (length (entries_of pieces))
-  pub at : p.at.items ≡ addresses base (entries_of pieces) long starts
+  pub at : p.at.items ≡ addresses base starts
   pub ranges : p.ranges.items ≡ ranges_from (address_of base (entries_of pieces) long) 0 None (entries_of pieces)
 
 -- ---- lists
@@ -41,15 +42,6 @@ get_item : (items : List Item) (ys : List Entry) (n : ℕ) (x : Item) → slice_
 get_item [] ys n x e = absurd (cc)
 get_item (y ∷ items) ys zero x e = let f : y ≡ x = cc in ap (λ (z : Item). Some (en.Item z)) f
 get_item (y ∷ items) ys (suc n) x e = get_item items ys n x e
-
-get_behind : (items : List Item) (ys : List Entry) → slice_get (map en.Item items ++ ys) (length items) ≡ slice_get ys 0
-get_behind [] ys = refl
-get_behind (y ∷ items) ys = get_behind items ys
-
-get_within : (items : List Item) (n : ℕ) → n < length items → (x : Item) × (slice_get items n ≡ Some x)
-get_within [] n l = absurd (omega arith)
-get_within (x ∷ items) zero l = (x, refl)
-get_within (x ∷ items) (suc n) l = get_within items n (omega arith)
 
 pub size_is : (pieces : List (List Item)) (k : ℕ) → size_of pieces k ≡ length (items_at pieces k)
 size_is [] k = refl
@@ -153,13 +145,13 @@ module _ (pieces : List (List Item)) (leads : AllLead pieces) where
       → suc (start_of (entries_of pieces) k + 1 + n) ≡ start_of (entries_of pieces) to.0
   jump_next k n x to e h = elim (cases_lt (suc n) (length (items_at pieces k))) [
     | inl l ↦
-        let y = get_within (items_at pieces k) (suc n) l in
-        absurd (false≢true (ap (leads_next to) (sym (get_item (items_at pieces k) (entries_from pieces s.after) (suc n)
-        y.0 y.1)) ∙ behind))
+        absurd (false≢true (ap (leads_next to) (sym (get_item (items_at pieces k) (entries_from pieces s.after) (suc n) _
+        (slice_get-get_or (items_at pieces k) (suc n) it.EndMark l))) ∙ behind))
     | inr l ↦
         let m : suc n ≡ length (items_at pieces k) = omega (arith, inside, l) in
+        let i : suc n ≡ length (map en.Item (items_at pieces k)) + 0 = omega (arith, m, length-map (items_at pieces k) en.Item) in
         let g : leads_next to (slice_get (entries_from pieces s.after) 0) ≡ true
-        = cc (get_behind (items_at pieces k) (entries_from pieces s.after), m, behind) in
+        = cc (get_rest (map en.Item (items_at pieces k)) (entries_from pieces s.after) 0, i, behind) in
         omega (arith, first s.after refl g, m)
   ]
     where
@@ -167,7 +159,7 @@ module _ (pieces : List (List Item)) (leads : AllLead pieces) where
       at = (piece_at pieces k n x e).0
 
       inside : n < length (items_at pieces k)
-      inside = get_low (items_at pieces k) n x (sym (item_is pieces k n) ∙ e)
+      inside = slice_get_within (items_at pieces k) n x (sym (item_is pieces k n) ∙ e)
 
       s : IsAt k
       s = piece_is_at k at
@@ -183,15 +175,6 @@ module _ (pieces : List (List Item)) (leads : AllLead pieces) where
       first [] f g = absurd (false≢true g)
       first (j ∷ js) f g = ap (start_of (entries_of pieces)) (eqb-true to.0 j g) ∙ next_start k j s js f
 
-  first_after : (before after : List ℕ) (k : ℕ) → slice_get (before ++ k ∷ after) (length before) ≡ Some k
-  first_after [] after k = refl
-  first_after (j ∷ js) after k = first_after js after k
-
-  second_after : (before after : List ℕ) (k : ℕ) → slice_get (before ++ k ∷ after) (suc (length before)) ≡ slice_get
-      after 0
-  second_after [] after k = refl
-  second_after (j ∷ js) after k = second_after js after k
-
   fall_start : (k : ℕ) → suc k < length pieces → exit_at pieces k ≡ None
       → start_of (entries_of pieces) (suc k) ≡ start_of (entries_of pieces) k + 1 + length (items_at pieces k)
   fall_start k l none = go s.after refl next
@@ -202,11 +185,18 @@ module _ (pieces : List (List Item)) (leads : AllLead pieces) where
       few : length s.before < length pieces
       few = omega (arith, ap length s.order, length-append s.before (k ∷ s.after), whole.len)
 
+      first : length s.before + 0 ≡ length s.before
+      first = omega arith
+
+      second : length s.before + 1 ≡ suc (length s.before)
+      second = omega arith
+
       next : slice_get s.after 0 ≡ Some (suc k)
       next =
-          sym (second_after s.before s.after k) ∙ ap (λ (xs : List ℕ). slice_get xs (suc (length s.before))) (sym
-          s.order) ∙ follows pieces (exits_lead pieces leads) k (length s.before) l none few
-          (cc (s.order, first_after s.before s.after k))
+          sym (get_rest s.before (k ∷ s.after) 1) ∙ ap (slice_get (s.before ++ k ∷ s.after)) second
+          ∙ ap (λ (xs : List ℕ). slice_get xs (suc (length s.before))) (sym s.order)
+          ∙ follows pieces (exits_lead pieces leads) k (length s.before) l none few
+          (cc (s.order, get_rest s.before (k ∷ s.after) 0, first))
 
       go : (after : List ℕ) → s.after ≡ after → slice_get after 0 ≡ Some (suc k)
           → start_of (entries_of pieces) (suc k) ≡ start_of (entries_of pieces) k + 1 + length (items_at pieces k)
@@ -224,12 +214,6 @@ get_map : (f : ℕ → ℕ) (starts : List ℕ) (k : ℕ) → k < length starts
 get_map f [] k l = absurd (omega arith)
 get_map f (n ∷ starts) zero l = refl
 get_map f (n ∷ starts) (suc k) l = get_map f starts k (omega arith)
-
-get_past : (f : ℕ → ℕ) (starts : List ℕ) (k : ℕ) → length starts ≤ k
-    → slice_index (map (λ (a : Addr). a.0) (map (λ n. record { 0 = f n }) starts)) k ≡ 0
-get_past f [] k l = refl
-get_past f (n ∷ starts) zero l = absurd (omega arith)
-get_past f (n ∷ starts) (suc k) l = get_past f starts k (omega arith)
 
 module _ (pieces : List (List Item)) (leads : AllLead pieces) (marked : AllMarked pieces) (base : ℕ) (aligned : base %
     4 ≡ 0) (long : Forms) (starts : List ℕ) (p : Placed) (h : IsMade pieces base long starts p)
@@ -262,16 +246,21 @@ module _ (pieces : List (List Item)) (leads : AllLead pieces) (marked : AllMarke
   pub size : length p.code.items ≡ offset (entries_of pieces) long (length (entries_of pieces))
   size = ap length h.emitted.is ∙ code_length base entries long (length (entries_of pieces))
 
-  at_is : placed.at ≡ map (λ (a : Addr). a.0) (addresses base entries long starts)
+  at_is : placed.at ≡ map (λ (a : Addr). a.0) (addresses base starts)
   at_is = ap (map (λ (a : Addr). a.0)) h.at
 
   ranges_are : placed.ranges ≡ seen (ranges_from (address_of base entries long) 0 None entries)
   ranges_are = ap (map note_range) h.ranges
 
+  count_is : length placed.at ≡ length pieces
+  count_is =
+      length-map p.at.items (λ (a : Addr). a.0) ∙ ap length h.at ∙ length-map starts (λ n. record { 0 = base + 4 * n })
+      ∙ h.count
+
   start_value : (k : ℕ) → k < length pieces → slice_index placed.at k ≡ base + 4 * offset entries long (start_of entries k)
   start_value k l =
       let m : k < length starts = omega (arith, h.count, l) in
-      cc (at_is, get_map (address_of base entries long) starts k m, h.listing.are k m)
+      cc (at_is, get_map (λ n. base + 4 * n) starts k m, h.offsets.each k m)
 
   -- a start takes no word
   start_still : (k : ℕ) → k < length pieces → words_to k 0 ≡ offset entries long (start_of entries k)
@@ -296,8 +285,7 @@ module _ (pieces : List (List Item)) (leads : AllLead pieces) (marked : AllMarke
         let w = offset_low (start_of entries k) (omega (arith, piece_inside pieces leads k l)) in
         (omega (arith, v, aligned), omega (arith, v, w))
     | inr l ↦
-        let v : slice_index placed.at k ≡ 0 = ap (λ (z : List ℕ). slice_index z k) at_is
-        ∙ get_past (address_of base entries long) starts k (omega (arith, h.count, l)) in
+        let v : slice_index placed.at k ≡ 0 = get_or_past placed.at k 0 (omega (arith, count_is, l)) in
         (omega (arith, v), omega (arith, v))
   ]
 
@@ -381,7 +369,7 @@ module _ (pieces : List (List Item)) (leads : AllLead pieces) (marked : AllMarke
   items : (k n : ℕ) (x : Item) → item_at pieces k n ≡ Some x → Stands base placed x (place k n) (place k (suc n))
   items k n x e =
       let i = piece_inside pieces leads k (piece_at pieces k n x e).0 in
-      let g = get_low (items_at pieces k) n x (sym (item_is pieces k n) ∙ e) in
+      let g = slice_get_within (items_at pieces k) n x (sym (item_is pieces k n) ∙ e) in
       let l : entry_no k n < length (entries_of pieces) = omega (arith, i, g) in
       let t = step k n x e in
       item_stands base placed x (next_entry k n) (long (entry_no k n)) (words_to k n) (goal_words k n)
@@ -407,21 +395,20 @@ module _ (pieces : List (List Item)) (leads : AllLead pieces) (marked : AllMarke
       → ((long : Bool) (next : Option Entry) → width long (Some (en.Item x)) next ≡ 0) → place k (suc n) ≡ place k n
   mark_still k n x e w = omega (arith, step k n x e, w (long (entry_no k n)) (next_entry k n))
 
-  still_from : (k : ℕ) (xs : List Item) (i : ℕ) → ((j : ℕ) (x : Item) → slice_get xs j ≡ Some x
-      → item_at pieces k (i + j) ≡ Some x) → AreStill (place k) i xs
+  still_from : (k : ℕ) (xs : List Item) (i : ℕ) → AreFrom pieces k xs i → AreStill (place k) i xs
   still_from k [] i are = tt
   still_from k (it.Mark a m ∷ xs) i are = (
-    mark_still k i (it.Mark a m) (at_this pieces k i _ (are 0 (it.Mark a m) refl)) (λ long next. refl),
-    still_from k xs (suc i) (λ j x e. at_next pieces k i j x (are (suc j) x e)),
+    mark_still k i (it.Mark a m) (are 0 i _ (omega arith) refl) (λ long next. refl),
+    still_from k xs (suc i) (from_next pieces k _ xs i are),
   )
   still_from k (it.EndMark ∷ xs) i are = (
-    mark_still k i it.EndMark (at_this pieces k i _ (are 0 it.EndMark refl)) (λ long next. refl),
-    still_from k xs (suc i) (λ j x e. at_next pieces k i j x (are (suc j) x e)),
+    mark_still k i it.EndMark (are 0 i _ (omega arith) refl) (λ long next. refl),
+    still_from k xs (suc i) (from_next pieces k _ xs i are),
   )
-  still_from k (_ ∷ xs) i are = still_from k xs (suc i) (λ j x e. at_next pieces k i j x (are (suc j) x e))
+  still_from k (_ ∷ xs) i are = still_from k xs (suc i) (from_next pieces k _ xs i are)
 
-  items_are : (k j : ℕ) (x : Item) → slice_get (items_at pieces k) j ≡ Some x → item_at pieces k (0 + j) ≡ Some x
-  items_are k j x e = cc ((let f : 0 + j ≡ j = omega arith in f), item_is pieces k j, e)
+  items_are : (k : ℕ) → AreFrom pieces k (items_at pieces k) 0
+  items_are k j m x e f = cc ((let g : m ≡ j = omega (arith, e) in g), item_is pieces k j, f)
 
   still : (k : ℕ) → AreStill (place k) 0 (items_at pieces k)
   still k = still_from k (items_at pieces k) 0 (items_are k)
@@ -465,8 +452,7 @@ module _ (pieces : List (List Item)) (leads : AllLead pieces) (marked : AllMarke
   pub laid : IsLaid pieces base placed place
   laid = record {
     low = (let e = end_is in omega (arith, e, low));
-    count = length-map p.at.items (λ (a : Addr). a.0) ∙ ap length h.at
-        ∙ length-map starts (λ n. record { 0 = address_of base entries long n }) ∙ h.count;
+    count = count_is;
     starts = starts_are;
     aligned = start_low;
     items = items;

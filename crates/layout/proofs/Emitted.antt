@@ -1,11 +1,10 @@
 -- The words of one entry more.
-use Rattle.std.proofs.Common.{◌≡◌, ℕ, suc, ◌+◌, ◌*◌, ◌^◌, ◌<◌, ◌≤◌, inl, inr, true, false, List, [], ◌++◌, length, slice_get, is_some, IfSome, Option, None, Some, refl, ap, sym, ◌∙◌, add-one, arith}
+use Rattle.std.proofs.Common.{◌≡◌, ℕ, suc, ◌+◌, inl, inr, true, false, List, [], ◌++◌, slice_get, Option, None, Some, refl, ap, sym, ◌∙◌, add-one, arith}
 use Rattle.std.specs.Option.{option_map}
 use Rattle.std.proofs.lemmas.Bool.{cases_lt, false≢true, false_from_ne_true}
 use Rattle.layout.specs.declared.entries.Entry.{Entry}
-use Rattle.layout.specs.Forms.{Forms, far_from, goal_of, is_far, offset, start_of, NoneLeft}
-use Rattle.layout.specs.Private.{code_at, code_to, far_of, has_condition, target_offset, IsEmitted, IsOffsets}
-use Rattle.layout.proofs.Widening.{rises}
+use Rattle.layout.specs.Forms.{Forms, far_from, goal_of, is_far, offset, NoneLeft}
+use Rattle.layout.specs.Private.{code_at, code_to, far_of, has_condition, target_offset, IsEmitted}
 pub use Rattle.layout.proofs.Rows.{three_order}
 
 pub code_none : (base : ℕ) (entries : List Entry) (long : Forms) → code_to base entries long 0 ≡ []
@@ -45,16 +44,3 @@ near_enough entries long n none short = by (goal_of entries n)
         entries long) o) ≡ false
     by None f = refl
     by (Some m) f = f
-
-pub some_both : (entries : List Entry) (long : Forms) (o : Option ℕ)
-    → is_some o ≡ is_some (option_map (offset entries long) (option_map (start_of entries) o))
-some_both entries long None = refl
-some_both entries long (Some k) = refl
-
-pub target_low : (base : ℕ) (entries : List Entry) (at : List ℕ) (long : Forms) → IsOffsets entries long at
-    → base + 4 * offset entries long (length entries) ≤ 2 ^ 31 → (o : Option ℕ) → IfSome o (λ k. k < length at)
-    → IfSome (option_map (offset entries long) (option_map (start_of entries) o)) (λ to. base + 4 * to < 2 ^ 32)
-target_low base entries at long h low None l = tt
-target_low base entries at long h low (Some k) l =
-    let r = rises entries long (start_of entries k) (length entries) (omega (arith, h.inside k l)) in
-    omega arith

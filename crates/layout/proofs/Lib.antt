@@ -8,6 +8,7 @@ pub mod Needed
 pub mod Offsets
 pub mod Ranging
 pub mod Standing
+pub mod Walked
 pub mod Whole
 pub mod Widening
 pub mod Wider

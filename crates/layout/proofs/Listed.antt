@@ -1,10 +1,10 @@
--- Pieces become entries one after the other.
-use Rattle.std.proofs.Common.{append-nil, ◌≡◌, ℕ, zero, suc, ◌+◌, ◌<◌, ◌≤◌, inl, inr, Bool, true, false, ◌||◌, eqb, List, [], ◌∷◌, ◌++◌, length, get_or, set, take, drop, slice_get, slice_index, Some, IfSome, map, refl, ap, sym, ◌∙◌, add-one, append_assoc, drop-cons, arith}
+-- The pieces as one list of entries.
+use Rattle.std.proofs.Common.{◌≡◌, ℕ, zero, suc, ◌+◌, ◌<◌, ◌≤◌, inl, inr, Bool, true, false, ◌||◌, eqb, List, [], ◌∷◌, ◌++◌, length, get_or, set, slice_get, Some, IfSome, map, refl, ap, sym, ◌∙◌, append_assoc, arith}
 use Rattle.std.specs.Prelude.{if◌then◌else◌}
 use Rattle.std.specs.List.{All, AllByRecursion, IsDistinct, sum_by}
-use Rattle.std.proofs.lemmas.Bool.{cases_eq, cases_Bool, eqb-true, eq-eqb, false≢true, ne_eqb, or_parts}
-use Rattle.std.proofs.lemmas.List.Sums.{sum_by-cons}
-use Rattle.std.proofs.lemmas.List.{take-append-drop, length-append, length-map, length-set, get_or-set_same, get_or-set_other, take_more, take_all}
+use Rattle.std.proofs.lemmas.Bool.{cases_Bool, eqb-true, eq-eqb, false≢true, ne_eqb, or_parts}
+use Rattle.std.proofs.lemmas.List.Sums.{sum_by-set}
+use Rattle.std.proofs.lemmas.List.{get_or-set_other, length-set, length-append, length-map}
 use Rattle.layout.specs.declared.items.Item.{Item}
 use Rattle.layout.specs.declared.entries.Entry.{Entry}
 use Rattle.layout.specs.declared.entries.Entry.TheVariants as en
@@ -13,7 +13,8 @@ use Rattle.layout.specs.Order.{is_laid}
 use Rattle.layout.specs.Laying.{IsWhole}
 use Rattle.layout.specs.Forms.{entries_in, entries_from, start_of, target}
 use Rattle.layout.specs.Private.{IsListing}
-use Rattle.layout.proofs.Laying.{the_equality, laid_other, item_is}
+use Rattle.layout.proofs.Laying.{the_equality, laid_inside, item_is}
+use Rattle.layout.proofs.Offsets.{piece_in}
 
 -- ---- orders
 
@@ -82,43 +83,13 @@ abbrev pub weigh : (List Item → ℕ) → List (List Item) → List ℕ → ℕ
 weigh f pieces [] = 0
 weigh f pieces (k ∷ ks) = f (items_at pieces k) + weigh f pieces ks
 
--- the pieces, numbered from i on, that aren't in the order
-abbrev rest_of : (List Item → ℕ) → List (List Item) → ℕ → List ℕ → ℕ
-rest_of f [] i order = 0
-rest_of f (p ∷ ps) i order = (if is_laid order i then 0 else f p) + rest_of f ps (suc i) order
-
-rest_all : (f : List Item → ℕ) (pieces : List (List Item)) (i : ℕ) → rest_of f pieces i [] ≡ sum_by f pieces
-rest_all f [] i = refl
-rest_all f (p ∷ ps) i = let h = rest_all f ps (suc i) in let s = sum_by-cons f p ps in omega (arith, h, s)
-
-rest_past : (f : List Item → ℕ) (pieces : List (List Item)) (i k : ℕ) (ks : List ℕ) → k < i
-    → rest_of f pieces i (k ∷ ks) ≡ rest_of f pieces i ks
-rest_past f [] i k ks l = refl
-rest_past f (p ∷ ps) i k ks l =
-    let d : eqb i k ≡ false = ne_eqb i k (λ e. omega (arith, l, e)) in
-    let g : (if eqb i k || is_laid ks i then 0 else f p) ≡ (if is_laid ks i then 0 else f p)
-    = ap (λ (b : Bool). if b then 0 else f p) (or_false (eqb i k) (is_laid ks i) d) in
-    omega (arith, rest_past f ps (suc i) k ks (omega arith), g)
-
-rest_less : (f : List Item → ℕ) (pieces : List (List Item)) (i d : ℕ) (ks : List ℕ) → d < length pieces
-    → is_laid ks (i + d) ≡ false → rest_of f pieces i ks ≡ rest_of f pieces i ((i + d) ∷ ks) + f (items_at pieces d)
-rest_less f [] i d ks l e = absurd (omega arith)
-rest_less f (p ∷ ps) i zero ks l e =
-    let z : i + 0 ≡ i = omega arith in
-    let a : (if is_laid ks i then 0 else f p) ≡ f p = ap (λ (b : Bool). if b then 0 else f p) (ap (is_laid ks) (sym z)
-    ∙ e) in
-    let b : (if eqb i (i + 0) || is_laid ks i then 0 else f p) ≡ 0
-    = ap (λ (b : Bool). if b || is_laid ks i then 0 else f p) (eq-eqb i (i + 0) (sym z)) in
-    let c = rest_past f ps (suc i) (i + 0) ks (omega arith) in
-    omega (arith, a, b, c)
-rest_less f (p ∷ ps) i (suc d) ks l e =
-    let z : suc i + d ≡ i + suc d = omega arith in
-    let h : rest_of f ps (suc i) ks ≡ rest_of f ps (suc i) ((i + suc d) ∷ ks) + f (items_at ps d)
-    = rw z at (rest_less f ps (suc i) d ks (omega arith) (ap (is_laid ks) z ∙ e)) in
-    let q : eqb i (i + suc d) ≡ false = ne_eqb i (i + suc d) (λ e. omega (arith, e)) in
-    let g : (if eqb i (i + suc d) || is_laid ks i then 0 else f p) ≡ (if is_laid ks i then 0 else f p)
-    = ap (λ (b : Bool). if b then 0 else f p) (or_false (eqb i (i + suc d)) (is_laid ks i) q) in
-    omega (arith, h, g)
+weigh_other : (f : List Item → ℕ) (pieces : List (List Item)) (k : ℕ) (ks : List ℕ) → is_laid ks k ≡ false
+    → weigh f (set pieces k []) ks ≡ weigh f pieces ks
+weigh_other f pieces k [] e = refl
+weigh_other f pieces k (j ∷ js) e =
+    let p = or_parts (eqb k j) (is_laid js k) e in
+    let same = get_or-set_other pieces k j [] [] (λ s. false≢true (sym p.0 ∙ eq-eqb k j (sym s))) in
+    omega (arith, ap f same, weigh_other f pieces k js p.1)
 
 absent_head : (k : ℕ) (ks : List ℕ) → IsDistinct eqb (k ∷ ks) → is_laid ks k ≡ false
 unfolding IsDistinct
@@ -129,40 +100,32 @@ distinct_tail : (k : ℕ) (ks : List ℕ) → IsDistinct eqb (k ∷ ks) → IsDi
 unfolding IsDistinct
 distinct_tail k ks d = d.1
 
-weighed : (f : List Item → ℕ) (pieces : List (List Item)) (order : List ℕ) → IsDistinct eqb order
-    → All (λ k. k < length pieces) order → weigh f pieces order + rest_of f pieces 0 order ≡ sum_by f pieces
-weighed f pieces [] d h = let a = rest_all f pieces 0 in omega (arith, a)
-weighed f pieces (k ∷ ks) d h =
-    let z : 0 + k ≡ k = omega arith in
-    let less : rest_of f pieces 0 ks ≡ rest_of f pieces 0 (k ∷ ks) + f (items_at pieces k)
-    = rw z at (rest_less f pieces 0 k ks (h 0 0 (omega arith)) (ap (is_laid ks) z ∙ absent_head k ks d)) in
-    omega (arith, weighed f pieces ks (distinct_tail k ks d) (λ i x l. h (suc i) x (omega arith)), less)
+weigh_once : (f : List Item → ℕ) → f [] ≡ 0 → (pieces : List (List Item)) (order : List ℕ) → IsDistinct eqb order
+    → All (λ k. k < length pieces) order → weigh f pieces order ≤ sum_by f pieces
+weigh_once f none pieces [] d h = omega arith
+weigh_once f none pieces (k ∷ ks) d h =
+    let less = sum_by-set f pieces k [] [] (h 0 0 (omega arith)) in
+    let other = weigh_other f pieces k ks (absent_head k ks d) in
+    let rest = weigh_once f none (set pieces k []) ks (distinct_tail k ks d)
+    (λ i x l. rw (length-set pieces k []) (h (suc i) x (omega arith))) in
+    omega (arith, less, other, rest, none)
 
-pub weighs_less : (f : List Item → ℕ) (pieces : List (List Item)) (order : List ℕ) → IsWhole pieces order
+pub weighs_less : (f : List Item → ℕ) → f [] ≡ 0 → (pieces : List (List Item)) (order : List ℕ) → IsWhole pieces order
     → weigh f pieces order ≤ sum_by f pieces
-weighs_less f pieces order h =
-    let w = weighed f pieces order h.laying.distinct h.laying.inside in omega (arith, w)
+weighs_less f none pieces order h = weigh_once f none pieces order h.laying.distinct h.laying.inside
 
 -- ---- how many entries
 
-abbrev counted : List Item → ℕ
-counted items = suc (length items)
-
-entry_count : (pieces : List (List Item)) (order : List ℕ) → length (entries_from pieces order) ≡ weigh counted pieces
-    order
-entry_count pieces [] = refl
+entry_count : (pieces : List (List Item)) (order : List ℕ)
+    → length (entries_from pieces order) ≡ length order + weigh length pieces order
+entry_count pieces [] = omega arith
 entry_count pieces (k ∷ ks) =
     let both = length-append (entries_in k (items_at pieces k)) (entries_from pieces ks) in
     omega (arith, entry_count pieces ks, both, length-map (items_at pieces k) en.Item)
 
-all_counted : (pieces : List (List Item)) → sum_by counted pieces ≡ length pieces + sum_by length pieces
-all_counted [] = refl
-all_counted (p ∷ ps) = omega (arith, all_counted ps, sum_by-cons counted p ps, sum_by-cons length p ps)
-
 pub few_entries : (pieces : List (List Item)) (order : List ℕ) → IsWhole pieces order
     → length (entries_from pieces order) ≤ length pieces + sum_by length pieces
-few_entries pieces order h =
-    omega (arith, entry_count pieces order, weighs_less counted pieces order h, all_counted pieces)
+few_entries pieces order h = omega (arith, entry_count pieces order, weighs_less length refl pieces order h, h.len)
 
 -- ---- where they lead
 
@@ -196,14 +159,7 @@ lead_entries pieces h (j ∷ js) n =
     (lead_items (length pieces) (items_at pieces j) (λ m. rw (item_is pieces j m) at (h j
     m)))) (lead_entries pieces h js) n
 
--- ---- listing them
-
--- the first i pieces of the order are listed
-pub record IsListed (pieces : List (List Item)) (order : List ℕ) (entries : List Entry) (starts : List ℕ) (i : ℕ) :
-    Type 0 where
-  pub are : entries ≡ entries_from pieces (take i order)
-  pub len : length starts ≡ length pieces
-  pub known : (k : ℕ) → is_laid (take i order) k ≡ true → slice_index starts k ≡ start_of (entries_from pieces order) k
+-- ---- each piece starts once
 
 distinct_before : (fs rs : List ℕ) (k : ℕ) → IsDistinct eqb (fs ++ k ∷ rs) → is_laid fs k ≡ false
 unfolding IsDistinct
@@ -218,44 +174,38 @@ pub before_absent : (pieces : List (List Item)) (order fs rs : List ℕ) (k : �
     → order ≡ fs ++ k ∷ rs → is_laid fs k ≡ false
 before_absent pieces order fs rs k h e = distinct_before fs rs k (rw e at h.laying.distinct)
 
-pub listed_more : (pieces : List (List Item)) (order : List ℕ) (entries : List Entry) (starts : List ℕ) (i j : ℕ)
-    → IsListed pieces order entries starts i → IsWhole pieces order → i < length order → j ≡ get_or order i 0
-    → IsListed pieces order (entries ++ entries_in j (items_at pieces j)) (set starts j (length entries)) (i + 1)
-listed_more pieces order entries starts i j h whole l same = record {
-  are = cc (h.are, grown);
-  len = length-set starts j (length entries) ∙ h.len;
-  known = λ k t. elim (cases_eq k j) [
-    | inl s ↦
-        let a = get_or-set_same starts j (length entries) 0 (omega (arith, h.len, inside)) in
-        ap (slice_index (set starts j (length entries))) s ∙ a ∙ here ∙ ap (start_of (entries_from pieces order)) (sym s)
-    | inr d ↦
-        get_or-set_other starts j k (length entries) 0 d ∙ h.known k (cc (laid_other (take i order) j k d, taken, t))
-  ];
-}
-  where
-    taken : take (i + 1) order ≡ take i order ++ j ∷ []
-    taken = cc (take_more order i 0 l, same)
+-- entry n is the start of a piece
+abbrev IsStartAt : ℕ → List Entry → ℕ → Type 0
+IsStartAt k xs n = slice_get xs n ≡ Some (en.Start (record { 0 = k }))
 
-    grown : entries_from pieces (take (i + 1) order) ≡ entries_from pieces (take i order) ++ entries_in j (items_at
-        pieces j)
-    grown = cc (taken, from_append pieces (take i order) (j ∷ []), append-nil (entries_in j (items_at pieces j)))
+-- behind items it is one of the entries there
+start_behind : (k : ℕ) (items : List Item) (xs : List Entry) (n : ℕ) → IsStartAt k (map en.Item items ++ xs) n
+    → (m : ℕ) × (n ≡ length items + m) × IsStartAt k xs m
+start_behind k [] xs n e = (n, omega arith, e)
+start_behind k (x ∷ items) xs zero e = absurd (cc)
+start_behind k (x ∷ items) xs (suc n) e =
+    let h = start_behind k items xs n e in
+    (h.0, omega (arith, h.1), h.2)
 
-    split : order ≡ take i order ++ j ∷ drop (i + 1) order
-    split =
-        sym (take-append-drop i order)
-        ∙ ap (λ (xs : List ℕ). take i order ++ xs) (let e : drop i order ≡ j ∷ drop (i + 1) order = rw (add-one, same)
-        (drop-cons order i 0 l) in e)
+-- it is that of a piece that is laid, and the first of its starts
+start_number : (pieces : List (List Item)) (order : List ℕ) → IsDistinct eqb order → (n k : ℕ)
+    → IsStartAt k (entries_from pieces order) n
+    → (is_laid order k ≡ true) × (start_of (entries_from pieces order) k ≡ n)
+start_number pieces [] d n k e = absurd (cc)
+start_number pieces (j ∷ js) d zero k e =
+    let same : j ≡ k = ap piece_in e in
+    rw same (ap (λ (b : Bool). b || is_laid js k) (eq-eqb k k refl), start_self k _)
+start_number pieces (j ∷ js) d (suc n) k e =
+    let b = start_behind k (items_at pieces j) (entries_from pieces js) n e in
+    let h = start_number pieces js (distinct_tail j js d) b.0 k b.2 in
+    let apart : eqb k j ≡ false = ne_eqb k j (λ (s : k ≡ j). false≢true (sym (absent_head j js d) ∙ ap (is_laid js)
+    (sym s) ∙ h.0)) in (
+      or_false (eqb k j) (is_laid js k) apart ∙ h.0,
+      start_past k j (map en.Item (items_at pieces j) ++ entries_from pieces js) apart
+          ∙ omega (arith, start_items k (items_at pieces j) (entries_from pieces js), h.1, b.1),
+    )
 
-    inside : j < length pieces
-    inside = let a = whole.laying.inside i 0 l in omega (arith, a, same)
-
-    here : length entries ≡ start_of (entries_from pieces order) j
-    here =
-        ap length h.are ∙ sym (start_at pieces (take i order) (drop (i + 1) order) j
-        (before_absent pieces order (take i order) (drop (i + 1) order) j whole split))
-        ∙ ap (λ (xs : List ℕ). start_of (entries_from pieces xs) j) (sym split)
-
-pub start_inside : (pieces : List (List Item)) (order : List ℕ) (k : ℕ) → IsWhole pieces order → k < length pieces
+start_inside : (pieces : List (List Item)) (order : List ℕ) (k : ℕ) → IsWhole pieces order → k < length pieces
     → start_of (entries_from pieces order) k < length (entries_from pieces order)
 start_inside pieces order k whole l =
     let s = split_at order k (whole.once k l) in
@@ -267,27 +217,12 @@ start_inside pieces order k whole l =
     let both = length-append (entries_from pieces s.before) (entries_from pieces (k ∷ s.after)) in
     omega (arith, start_at pieces s.before s.after k s.absent, e, f, both)
 
-pub listed_all : (pieces : List (List Item)) (order : List ℕ) (entries : List Entry) (starts : List ℕ) (i : ℕ)
-    → IsListed pieces order entries starts i → IsWhole pieces order → AllLead pieces → i ≡ length order
-    → IsListing entries starts
-listed_all pieces order entries starts i h whole leads e =
-    rw all (record {
-      targets = rw h.len (lead_entries pieces leads
-          order);
-      inside = λ k l. let a = start_inside pieces order k whole (omega (arith, h.len, l)) in let b = known k l in
-          omega (arith, a, b);
-      are = λ k l. known k l;
-    })
-  where
-    taken : take i order ≡ order
-    taken = take_all i order (omega arith)
-
-    all : entries ≡ entries_from pieces order
-    all = h.are ∙ ap (entries_from pieces) taken
-
-    known : (k : ℕ) → k < length starts → slice_index starts k ≡ start_of (entries_from pieces order) k
-    known k l = h.known k (cc (taken, whole.once k (omega (arith, h.len))))
-
-pub listed_entries : (pieces : List (List Item)) (order : List ℕ) (entries : List Entry) (starts : List ℕ) (i : ℕ)
-    → IsListed pieces order entries starts i → i ≡ length order → entries ≡ entries_from pieces order
-listed_entries pieces order entries starts i h e = h.are ∙ ap (entries_from pieces) (take_all i order (omega arith))
+pub are_listing : (pieces : List (List Item)) (order : List ℕ) → IsWhole pieces order → AllLead pieces
+    → IsListing (entries_from pieces order) (length pieces)
+are_listing pieces order whole leads = record {
+  targets = lead_entries pieces leads order;
+  inside = λ k l. start_inside pieces order k whole l;
+  starts = λ n k e.
+      let h = start_number pieces order whole.laying.distinct n k e in
+      (laid_inside order (length pieces) k whole.laying.inside h.0, h.1);
+}

@@ -3,7 +3,7 @@ use Rattle.std.proofs.Common.{◌≡◌, ℕ, zero, suc, ◌+◌, ◌*◌, ◌^�
 use Rattle.std.proofs.lemmas.Bool.{false≢true, false_from_ne_true}
 use Rattle.std.proofs.lemmas.List.Sums.{sum_by-cons}
 use Rattle.std.proofs.lemmas.List.{take_more, take_all}
-use Rattle.std.proofs.lemmas.Option.{slice_get-get_or}
+use Rattle.std.proofs.lemmas.Option.{slice_get-get_or, slice_get_within}
 use Rattle.layout.specs.declared.items.Item.{Item}
 use Rattle.layout.specs.declared.items.Item.TheVariants as it
 use Rattle.layout.specs.declared.entries.Entry.{Entry}
@@ -16,7 +16,6 @@ use Rattle.layout.proofs.Offsets.{offset_none}
 use Rattle.std.proofs.lemmas.Bool.Decides.{nat_tests}
 use Rattle.layout.proofs.Laying.{exits_lead, item_is, whole_is}
 use Rattle.layout.proofs.Listed.{items_at, weigh, weighs_less}
-use Rattle.layout.proofs.Ranging.{get_low}
 use Rattle.layout.proofs.Widening.{offset_more, widened_once}
 use Rattle.layout.proofs.Assembled.{entry_is, piece_at, size_is}
 
@@ -79,7 +78,7 @@ full_order pieces (k ∷ ks) =
 
 pub long_is_enough : LongIsEnough
 long_is_enough pieces bytes are n =
-    let d = weighs_less piece_words pieces (compact_order pieces) (whole_is pieces (exits_lead pieces are.leads)) in
+    let d = weighs_less piece_words refl pieces (compact_order pieces) (whole_is pieces (exits_lead pieces are.leads)) in
     let parted = offset_low (entries_of pieces) n.long (length (entries_of pieces)) (omega arith) in
     let same = ap full (take_all (length (entries_of pieces)) (entries_of pieces) (omega arith)) in
     omega (arith, n.value, parted, same, full_order pieces (compact_order pieces), d)
@@ -110,7 +109,7 @@ module _ (pieces : List (List Item)) (base : ℕ) (p : Placement) (place : ℕ �
       omega (arith, near k 0 l (omega arith), e, more)
 
   item_size : (k n : ℕ) (x : Item) → item_at pieces k n ≡ Some x → suc n ≤ size_of pieces k
-  item_size k n x e = omega (arith, get_low (items_at pieces k) n x (sym (item_is pieces k n) ∙ e), size_is pieces k)
+  item_size k n x e = omega (arith, slice_get_within (items_at pieces k) n x (sym (item_is pieces k n) ∙ e), size_is pieces k)
 
   short : (k n : ℕ) (x : Item) → item_at pieces k n ≡ Some x → (to : ℕ) → target (Some (en.Item x)) ≡ Some to
       → to < length pieces → c.long (entry_no k n) ≡ false

@@ -1,15 +1,13 @@
 -- The words before each entry, and before each piece.
-use Rattle.std.proofs.Common.{◌≡◌, ℕ, zero, suc, ◌+◌, ◌*◌, ◌<◌, ◌≤◌, inl, inr, Bool, true, List, [], ◌∷◌, ◌++◌, length, get_or, slice_get, slice_index, Option, Some, refl, ap, sym, ◌∙◌, add-one, arith, drop}
-use Rattle.std.proofs.lemmas.Bool.{cases_lt, eqb-true, cond_both}
-use Rattle.std.proofs.Math.Seq.{drop-cons}
-use Rattle.std.proofs.lemmas.List.{append_assoc}
-use Rattle.std.proofs.lemmas.Option.{slice_get-get_or}
+use Rattle.std.proofs.Common.{◌≡◌, ℕ, zero, suc, ◌+◌, ◌*◌, ◌<◌, ◌≤◌, inl, inr, Bool, true, List, [], ◌∷◌, ◌++◌, length, set, slice_get, slice_index, Option, Some, refl, ap, sym, ◌∙◌, add-one, arith}
+use Rattle.std.proofs.lemmas.Bool.{cases_eq, eqb-true, cond_both}
+use Rattle.std.proofs.lemmas.List.{append_assoc, get_or-set_other, get_or-set_same, length-set}
 use Rattle.eel_base.specs.declared.range.Range.{Range}
 use Rattle.layout.specs.declared.entries.Entry.{Entry}
 use Rattle.layout.specs.declared.entries.Entry.TheVariants as en
 use Rattle.layout.specs.declared.ranges.OpenRange.{OpenRange}
 use Rattle.layout.specs.Forms.{Forms, is_start, offset, start_of, width}
-use Rattle.layout.specs.Private.{closes, opens, ranges_from, IsListing, IsOffsets}
+use Rattle.layout.specs.Private.{closes, noted, opens, ranges_from, IsListing, IsOffsets, StartsBelow}
 use Rattle.layout.proofs.Widening.{offset_more}
 
 -- the words before each piece that starts at one of the first n entries
@@ -40,10 +38,6 @@ offset_small entries long (suc n) =
       width_small (long n) (slice_get entries n) (slice_get entries (suc n)),
     )
 
-pub entry_at : (entries : List Entry) (n : ℕ) (x : Entry) → n < length entries → x ≡ get_or entries n x
-    → slice_get entries n ≡ Some x
-entry_at entries n x l e = slice_get-get_or entries n x l ∙ ap Some (sym e)
-
 -- ---- where pieces start
 
 start_is : (k : ℕ) (x : Entry) → is_start k x ≡ true → x ≡ en.Start (record { 0 = k })
@@ -57,54 +51,62 @@ started (x ∷ xs) k l = cond_both (is_start k x) 0 (suc (start_of xs k))
     (λ n. n < suc (length xs) → slice_get (x ∷ xs) n ≡ Some (en.Start (record { 0 = k })))
     (λ e _. ap Some (start_is k x e)) (λ e m. started xs k (omega (arith, m))) l
 
+-- the piece that starts
+abbrev pub piece_in : Option Entry → ℕ
+piece_in (Some (en.Start k)) = k.0
+piece_in _ = 0
+
+is_entry : (entries : List Entry) (k n : ℕ) → start_of entries k < length entries → start_of entries k ≡ n
+    → slice_get entries n ≡ Some (en.Start (record { 0 = k }))
+is_entry entries k n l e = cc (e, started entries k l)
+
 -- one entry more, which has `here` words before it
-pub offsets_more : (entries : List Entry) (starts : List ℕ) (long : Forms) (old new : List ℕ) (n here : ℕ) (x : Entry)
-    → IsListing entries starts → length old ≡ length starts → length new ≡ length old → n < length entries
-    → slice_get entries n ≡ Some x → here ≡ offset entries long n → AreOffsets entries long old n
-    → ((k : ℕ) → k < length starts → slice_index starts k ≡ n → x ≡ en.Start (record { 0 = k }) → slice_index new k ≡ here)
-    → ((k : ℕ) → slice_index starts k < n → slice_index new k ≡ slice_index old k)
-    → AreOffsets entries long new (n + 1)
-offsets_more entries starts long old new n here x listing was is inside at e h hit others k l m =
-    elim (cases_lt (start_of entries k) n) [
-      | inl u ↦ others k (omega (arith, u, start)) ∙ h k (omega (arith, l, is)) u
-      | inr u ↦
-          let s : start_of entries k ≡ n = omega (arith, u, m) in
-          let there : slice_get entries n ≡ Some (en.Start (record { 0 = k })) =
-          cc (s, started entries k (omega (arith, s, inside))) in
-          let same : x ≡ en.Start (record { 0 = k }) = cc (sym at ∙ there) in
-          hit k below (start ∙ s) same ∙ e ∙ ap (offset entries long) (sym s)
-    ]
+pub offsets_more : (entries : List Entry) (long : Forms) (old : List ℕ) (n here : ℕ) (x : Entry)
+    → IsListing entries (length old) → slice_get entries n ≡ Some x → here ≡ offset entries long n
+    → AreOffsets entries long old n → AreOffsets entries long (noted old x here) (n + 1)
+offsets_more entries long old n here (en.Item item) listing is e h k l m = elim (cases_eq (start_of entries k) n) [
+  | inl s ↦ absurd (cc (is, is_entry entries k n (listing.inside k l) s))
+  | inr d ↦ h k l (omega (arith, m, d))
+]
+offsets_more entries long old n here (en.Start j) listing is e h k l m = elim (cases_eq k j.0) [
+  | inl s ↦
+      let start : start_of entries k ≡ n = (listing.starts n k (is ∙ ap (λ (i : ℕ). Some (en.Start (record { 0 = i }))) (sym s))).1 in
+      cc (s, get_or-set_same old j.0 here 0 (omega (arith, s, l, len)), e, start)
+  | inr d ↦
+      let other : start_of entries k ≡ n → ⊥ = λ s. d (ap piece_in (sym (is_entry entries k n (listing.inside k (omega (arith, l, len))) s) ∙ is)) in
+      get_or-set_other old j.0 k here 0 d ∙ h k (omega (arith, l, len)) (omega (arith, m, other))
+]
   where
-    below : k < length starts
-    below = omega (arith, l, was, is)
+    len : length (set old j.0 here) ≡ length old
+    len = length-set old j.0 here
 
-    start : slice_index starts k ≡ start_of entries k
-    start = listing.are k below
+pub noted_len : (at : List ℕ) (x : Entry) (here : ℕ) → length (noted at x here) ≡ length at
+noted_len at (en.Start k) here = length-set at k.0 here
+noted_len at (en.Item item) here = refl
 
-pub all_offsets : (entries : List Entry) (starts : List ℕ) (long : Forms) (at : List ℕ) (n : ℕ) → IsListing entries starts
-    → length at ≡ length starts → n ≡ length entries → AreOffsets entries long at n → IsOffsets entries long at
-all_offsets entries starts long at n listing len all h = record {
-  targets = λ n. rw len (listing.targets n);
-  inside = inside;
-  each = λ k l. h k l (omega (arith, all, inside k l));
+pub all_offsets : (entries : List Entry) (long : Forms) (at : List ℕ) (n : ℕ) → IsListing entries (length at)
+    → n ≡ length entries → AreOffsets entries long at n → IsOffsets entries long at
+all_offsets entries long at n listing all h = record {
+  targets = listing.targets;
+  inside = listing.inside;
+  each = λ k l. h k l (omega (arith, all, listing.inside k l));
   small = offset_small entries long;
 }
-  where
-    inside : (k : ℕ) → k < length at → start_of entries k < length entries
-    inside k l = omega (arith, listing.are k (omega (arith, l, len)), listing.inside k (omega (arith, l, len)))
+
+pub start_below : (entries : List Entry) (count n : ℕ) (x : Entry) → IsListing entries count
+    → slice_get entries n ≡ Some x → StartsBelow count x
+start_below entries count n (en.Start j) listing is = (listing.starts n j.0 is).0
+start_below entries count n (en.Item item) listing is = tt
 
 -- ---- ranges
 
-pub ranges_more : (at : ℕ → ℕ) (entries : List Entry) (n here : ℕ) (mark later : Option OpenRange) (x : Entry)
-    (old new whole : List Range) → n < length entries → x ≡ get_or entries n x → here ≡ at n
-    → old ++ ranges_from at n mark (drop n entries) ≡ whole → new ≡ old ++ closes here mark x → later ≡ opens here mark x
-    → new ++ ranges_from at (n + 1) later (drop (n + 1) entries) ≡ whole
-ranges_more at entries n here mark later x old new whole l is place before more next = rw add-one (
-    ap (λ (rs : List Range). rs ++ ranges_from at (suc n) later (drop (suc n) entries)) more
-    ∙ append_assoc old (closes here mark x) (ranges_from at (suc n) later (drop (suc n) entries))
-    ∙ ap (λ (o : Option OpenRange). old ++ (closes here mark x ++ ranges_from at (suc n) o (drop (suc n) entries))) next
-    ∙ ap (λ (a : ℕ). old ++ (closes a mark x ++ ranges_from at (suc n) (opens a mark x) (drop (suc n) entries))) place
+pub ranges_more : (at : ℕ → ℕ) (left later : List Entry) (n here : ℕ) (mark behind : Option OpenRange) (x : Entry)
+    (old new whole : List Range) → left ≡ x ∷ later → here ≡ at n → old ++ ranges_from at n mark left ≡ whole
+    → new ≡ old ++ closes here mark x → behind ≡ opens here mark x
+    → new ++ ranges_from at (n + 1) behind later ≡ whole
+ranges_more at left later n here mark behind x old new whole list place before more next = rw add-one (
+    ap (λ (rs : List Range). rs ++ ranges_from at (suc n) behind later) more
+    ∙ append_assoc old (closes here mark x) (ranges_from at (suc n) behind later)
+    ∙ ap (λ (o : Option OpenRange). old ++ (closes here mark x ++ ranges_from at (suc n) o later)) next
+    ∙ ap (λ (a : ℕ). old ++ (closes a mark x ++ ranges_from at (suc n) (opens a mark x) later)) place
     ∙ sym (ap (λ (xs : List Entry). old ++ ranges_from at n mark xs) list) ∙ before)
-  where
-    list : drop n entries ≡ x ∷ drop (suc n) entries
-    list = cc (drop-cons entries n x l, is)

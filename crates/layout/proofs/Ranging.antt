@@ -2,6 +2,7 @@
 use Rattle.std.proofs.Common.{◌≡◌, ℕ, zero, suc, ◌+◌, ◌<◌, ◌≤◌, Bool, true, false, ◌&&◌, Option, Some, None, List, [], ◌∷◌, ◌++◌, length, map, slice_get, refl, ap, sym, ◌∙◌, append_assoc, arith}
 use Rattle.std.specs.Prelude.{nat_le, nat_lt, if◌then◌else◌}
 use Rattle.std.proofs.lemmas.Bool.Decides.{nat_tests}
+use Rattle.std.proofs.lemmas.Option.{slice_get_within}
 use Rattle.std.proofs.lemmas.List.{length-append, length-map, map-append}
 use Rattle.eel_base.specs.declared.range.Range.{Range}
 use Rattle.notes.specs.Format.{NoteRange}
@@ -13,7 +14,7 @@ use Rattle.layout.specs.declared.ranges.OpenRange.{OpenRange}
 use Rattle.layout.specs.Laid.{note_range, range_in, item_at, AreMarked, OpenMark, end_from, open_from, range_of, Ascend, IsRangeOf}
 use Rattle.layout.specs.Forms.{entries_in, entries_from}
 use Rattle.layout.specs.Private.{closed, closes, opens, ranges_from}
-use Rattle.layout.proofs.Widening.{rises_by, rises_to}
+use Rattle.layout.proofs.Widening.{rises_to}
 use Rattle.layout.proofs.Listed.{items_at}
 use Rattle.std.proofs.lemmas.Bool.{lt-ltb, ltb-true, cond_both}
 
@@ -99,9 +100,10 @@ Rises place = (n : ℕ) → place n ≤ place (suc n)
 abbrev ended_at : OpenRange → ℕ → Range
 ended_at m here = record { lo = m.lo; hi = record { 0 = here }; address = m.address; node = m.node }
 
-closed_ascends : (m : OpenRange) (here to : ℕ) (rest : List Range) → m.lo.0 ≤ here → Ascend here to (seen rest)
-    → Ascend m.lo.0 to (seen (closed (Some m) here ++ rest))
-closed_ascends m here to rest h k = cond_both (nat_lt m.lo.0 here) (ended_at m here ∷ []) []
+ended_ascends : (mark : Option OpenRange) (here to : ℕ) (rest : List Range) → begin_of mark here ≤ here
+    → Ascend here to (seen rest) → Ascend (begin_of mark here) to (seen (closed mark here ++ rest))
+ended_ascends None here to rest h k = k
+ended_ascends (Some m) here to rest h k = cond_both (nat_lt m.lo.0 here) (ended_at m here ∷ []) []
     (λ rs. Ascend m.lo.0 to (seen (rs ++ rest))) (λ e. (omega arith, ltb-true m.lo.0 here e, k))
     (λ e. ascend_from here (seen rest) m.lo.0 to h k)
 
@@ -114,35 +116,25 @@ past_item place up i to None xs low k =
     ascend_from (place (suc i)) (seen (piece_ranges place (suc i) None xs)) (place i) to (up i) (k (omega arith))
 past_item place up i to (Some m) xs low k = let u = up i in k (omega (arith, low, u))
 
-end_on : (place : ℕ → ℕ) (i to : ℕ) (x : Item) (xs : List Item) → place (i + length (x ∷ xs)) ≤ to
-    → place (suc i + length xs) ≤ to
-end_on place i to x xs h =
-    let e : place (suc i + length xs) ≡ place (i + length (x ∷ xs)) = ap place (omega arith) in
-    omega (arith, h, e)
-
-pub piece_ascends : (place : ℕ → ℕ) → Rises place → (items : List Item) (i to : ℕ) (mark : Option OpenRange)
-    → AreMarked (is_open mark) items → begin_of mark (place i) ≤ place i → place (i + length items) ≤ to
+pub piece_ascends : (place : ℕ → ℕ) → Rises place → (items : List Item) (i m to : ℕ) (mark : Option OpenRange)
+    → AreMarked (is_open mark) items → begin_of mark (place i) ≤ place i → m ≡ i + length items → place m ≤ to
     → Ascend (begin_of mark (place i)) to (seen (piece_ranges place i mark items))
-piece_ascends place up [] i to None marked h l =
-    let e : place i ≡ place (i + 0) = ap place (omega arith) in omega (arith, e, l)
-piece_ascends place up [] i to (Some m) marked h l = absurd marked
-piece_ascends place up (it.Mark address node ∷ xs) i to None marked h l =
-    piece_ascends place up xs (suc i) to (Some (record {
+piece_ascends place up [] i m to None marked h e l =
+    let f : m ≡ i = omega (arith, e) in rw f at l
+piece_ascends place up [] i m to (Some r) marked h e l = absurd marked
+piece_ascends place up (it.Mark address node ∷ xs) i m to None marked h e l =
+    piece_ascends place up xs (suc i) m to (Some (record {
       lo = record { 0 = place i };
       address = address;
       node = node;
-    })) marked (up i) (end_on place i to (it.Mark address node) xs l)
-piece_ascends place up (it.Mark address node ∷ xs) i to (Some m) marked h l = absurd marked
-piece_ascends place up (it.EndMark ∷ xs) i to None marked h l =
-    ascend_from (place (suc i)) (seen (piece_ranges place (suc i) None xs)) (place i) to (up i)
-    (piece_ascends place up xs (suc i) to None marked (omega arith) (end_on place i to it.EndMark xs l))
-piece_ascends place up (it.EndMark ∷ xs) i to (Some m) marked h l =
-    closed_ascends m (place i) to (piece_ranges place (suc i) None xs) h
-    (ascend_from (place (suc i)) (seen (piece_ranges place (suc i) None xs)) (place i) to (up i)
-    (piece_ascends place up xs (suc i) to None marked (omega arith) (end_on place i to it.EndMark xs l)))
-piece_ascends place up (x ∷ xs) i to mark marked h l =
-    past_item place up i to mark xs h (λ g. piece_ascends place up xs (suc i) to mark marked g
-    (end_on place i to x xs l))
+    })) marked (up i) (omega (arith, e)) l
+piece_ascends place up (it.Mark address node ∷ xs) i m to (Some r) marked h e l = absurd marked
+piece_ascends place up (it.EndMark ∷ xs) i m to mark marked h e l =
+    let rest = ascend_from (place (suc i)) (seen (piece_ranges place (suc i) None xs)) (place i) to (up i)
+    (piece_ascends place up xs (suc i) m to None marked (omega arith) (omega (arith, e)) l) in
+    ended_ascends mark (place i) to (piece_ranges place (suc i) None xs) h rest
+piece_ascends place up (x ∷ xs) i m to mark marked h e l =
+    past_item place up i to mark xs h (λ g. piece_ascends place up xs (suc i) m to mark marked g (omega (arith, e)) l)
 
 -- ---- the range that is found
 
@@ -182,7 +174,7 @@ at_first : (place : ℕ → ℕ) → Rises place → (x : Item) (xs : List Item)
     → range_in (seen (piece_ranges place (suc i) mark xs)) a ≡ range_of place o
 at_first place up x xs i a None None e same marked low h k =
     none_before _ (place (suc i)) (place (suc i + length xs)) a
-    (piece_ascends place up xs (suc i) (place (suc i + length xs)) None marked (omega arith) (omega arith)) k
+    (piece_ascends place up xs (suc i) (suc i + length xs) _ None marked (omega arith) refl (omega arith)) k
 at_first place up x xs i a (Some o) (Some m) e same marked low h k =
     closes_at place up xs (suc i) a m marked (omega arith) k
     ∙ same_range place o m (place (end_from xs (suc i))) same.0 (ap place (same.1 ∙ e)) same.2 same.3
@@ -207,48 +199,32 @@ low_on : (place : ℕ → ℕ) → Rises place → (i : ℕ) (mark : Option Open
 low_on place up i None h = omega arith
 low_on place up i (Some m) h = let u = up i in omega (arith, u, h)
 
-pub get_low : {A : Type 0} (xs : List A) (n : ℕ) (x : A) → slice_get xs n ≡ Some x → n < length xs
-get_low [] n x e = absurd (cc)
-get_low (y ∷ ys) zero x e = omega arith
-get_low (y ∷ ys) (suc n) x e = let f = get_low ys n x e in omega arith
-
-next_low : (place : ℕ → ℕ) (i n a : ℕ) → place (i + suc n) ≤ a → place (suc i + n) ≤ a
-next_low place i n a h = let e : place (suc i + n) ≡ place (i + suc n) = ap place (omega arith) in omega (arith, e, h)
-
-next_high : (place : ℕ → ℕ) (i n a : ℕ) → a < place (suc (i + suc n)) → a < place (suc (suc i + n))
-next_high place i n a h = let e : place (suc (suc i + n)) ≡ place (suc (i + suc n)) = ap place (omega arith) in omega
-    (arith, e, h)
-
-this_low : (place : ℕ → ℕ) (i a : ℕ) → place (i + 0) ≤ a → place i ≤ a
-this_low place i a h = let e : place (i + 0) ≡ place i = ap place (omega arith) in omega (arith, e, h)
-
-this_high : (place : ℕ → ℕ) (i a : ℕ) → a < place (suc (i + 0)) → a < place (suc i)
-this_high place i a h = let e : place (suc (i + 0)) ≡ place (suc i) = ap place (omega arith) in omega (arith, e, h)
-
-finds : (place : ℕ → ℕ) → Rises place → (items : List Item) (n i a : ℕ) (o : Option OpenMark) (mark : Option OpenRange) (x :
-    Item) → AreStill place i items → AreSame place items i o mark → AreMarked (is_open mark) items
-    → begin_of mark (place i) ≤ place i → slice_get items n ≡ Some x → place (i + n) ≤ a → a < place (suc (i + n))
+finds : (place : ℕ → ℕ) → Rises place → (items : List Item) (n i m a : ℕ) (o : Option OpenMark)
+    (mark : Option OpenRange) (x : Item) → AreStill place i items → AreSame place items i o mark
+    → AreMarked (is_open mark) items → begin_of mark (place i) ≤ place i → slice_get items n ≡ Some x → m ≡ i + n
+    → place m ≤ a → a < place (suc m)
     → range_in (seen (piece_ranges place i mark items)) a ≡ range_of place (open_from items i n o)
-finds place up [] n i a o mark x s same marked low e h k = absurd (cc)
-finds place up (it.Mark address node ∷ xs) zero i a o mark x s same marked low e h k =
-    let u = this_low place i a h in let v = this_high place i a k in let w = s.0 in absurd (omega (arith, u, v, w))
-finds place up (it.EndMark ∷ xs) zero i a o mark x s same marked low e h k =
-    let u = this_low place i a h in let v = this_high place i a k in let w = s.0 in absurd (omega (arith, u, v, w))
-finds place up (it.EndMark ∷ xs) (suc n) i a o mark x s same marked low e h k =
+finds place up [] n i m a o mark x s same marked low e g h k = absurd (cc)
+finds place up (it.Mark address node ∷ xs) zero i m a o mark x s same marked low e g h k =
+    let f : m ≡ i = omega (arith, g) in
+    absurd (omega (arith, rw f at h, rw f at k, s.0))
+finds place up (it.EndMark ∷ xs) zero i m a o mark x s same marked low e g h k =
+    let f : m ≡ i = omega (arith, g) in
+    absurd (omega (arith, rw f at h, rw f at k, s.0))
+finds place up (it.EndMark ∷ xs) (suc n) i m a o mark x s same marked low e g h k =
     closed_past mark (place i) a (piece_ranges place (suc i) None xs)
-    (let r = rises_by place up i (suc n) in omega (arith, r, h))
-    ∙ finds place up xs n (suc i) a None None x s.1 tt marked (omega arith) e (next_low place i n a h) (next_high
-    place i n a k)
-finds place up (it.Mark address node ∷ xs) (suc n) i a o None x s same marked low e h k =
-    finds place up xs n (suc i) a _ (Some (record { lo = record { 0 = place i }; address = address; node = node })) x
-    s.1 (s.0, refl, refl, refl) marked (up i) e (next_low place i n a h) (next_high place i n a k)
-finds place up (it.Mark address node ∷ xs) (suc n) i a o (Some m) x s same marked low e h k = absurd marked
-finds place up (y ∷ xs) zero i a o mark x s same marked low e h k =
-    at_first place up y xs i a o mark refl same marked low (this_low place i a h) (this_high place i a k)
-finds place up (y ∷ xs) (suc n) i a o mark x s same marked low e h k =
-    finds place up xs n (suc i) a o mark x s (same_on place y xs i o mark refl same) marked
-    (low_on place up i mark low) e
-    (next_low place i n a h) (next_high place i n a k)
+    (let r = rises_to place up i m (omega (arith, g)) in omega (arith, r, h))
+    ∙ finds place up xs n (suc i) m a None None x s.1 tt marked (omega arith) e (omega (arith, g)) h k
+finds place up (it.Mark address node ∷ xs) (suc n) i m a o None x s same marked low e g h k =
+    finds place up xs n (suc i) m a _ (Some (record { lo = record { 0 = place i }; address = address; node = node })) x
+    s.1 (s.0, refl, refl, refl) marked (up i) e (omega (arith, g)) h k
+finds place up (it.Mark address node ∷ xs) (suc n) i m a o (Some r) x s same marked low e g h k = absurd marked
+finds place up (y ∷ xs) zero i m a o mark x s same marked low e g h k =
+    let f : m ≡ i = omega (arith, g) in
+    at_first place up y xs i a o mark refl same marked low (rw f at h) (rw f at k)
+finds place up (y ∷ xs) (suc n) i m a o mark x s same marked low e g h k =
+    finds place up xs n (suc i) m a o mark x s (same_on place y xs i o mark refl same) marked
+    (low_on place up i mark low) e (omega (arith, g)) h k
 
 -- ---- the ranges of all pieces, in an order
 
@@ -257,10 +233,6 @@ marked_on : (here : ℕ) (mark : Option OpenRange) (x : Item) (xs : List Item) �
 marked_on here mark x xs h = grind arith
 
 module _ (at : ℕ → ℕ) (up : (n : ℕ) → at n ≤ at (suc n)) where
-  -- the places of items, the first of which is this entry
-  abbrev pub places_from : ℕ → ℕ → ℕ
-  places_from c n = at (c + n)
-
   places_rise : (c : ℕ) → Rises (λ n. at (c + n))
   places_rise c n = let u = up (c + n) in let e : at (suc (c + n)) ≡ at (c + suc n) = ap at (omega arith) in omega
       (arith, u, e)
@@ -311,10 +283,9 @@ module _ (at : ℕ → ℕ) (up : (n : ℕ) → at n ≤ at (suc n)) where
     one_ascends c k =
         let u = up c in
         let e : at (suc c) ≡ at (c + 1 + 0) = ap at (omega arith) in
-        let f : at (c + 1 + (0 + length (items_at pieces k))) ≡ at (behind_at c k) = ap at (omega arith) in
         ascend_from (at (c + 1 + 0)) _ (at c) (at (behind_at c k)) (omega (arith, u, e))
-        (piece_ascends (λ n. at (c + 1 + n)) (places_rise (c + 1)) (items_at pieces k) 0 (at (behind_at c k)) None
-        (marked k) (omega arith) (omega (arith, f)))
+        (piece_ascends (λ n. at (c + 1 + n)) (places_rise (c + 1)) (items_at pieces k) 0 (length (items_at pieces k)) (at
+        (behind_at c k)) None (marked k) (omega arith) (omega arith) (omega arith))
 
     pub order_ascends : (ks : List ℕ) (c m : ℕ) → m ≡ c + length (entries_from pieces ks)
         → Ascend (at c) (at m) (seen (ranges_from at c None (entries_from pieces ks)))
@@ -336,7 +307,7 @@ module _ (at : ℕ → ℕ) (up : (n : ℕ) → at n ≤ at (suc n)) where
       where
         below : a < at (behind_at s k)
         below =
-            let g = get_low (items_at pieces k) n x is in
+            let g = slice_get_within (items_at pieces k) n x is in
             let r = rises_to at up (s + 1 + suc n) (behind_at s k) (omega (arith, g)) in
             omega (arith, r, l)
 
@@ -347,10 +318,8 @@ module _ (at : ℕ → ℕ) (up : (n : ℕ) → at n ≤ at (suc n)) where
             ∙ first_part (seen (piece_ranges (λ n. at (s + 1 + n)) 0 None (items_at pieces k)))
             (seen (ranges_from at (behind_at s k) None (entries_from pieces after))) (at (behind_at s k)) _ a
             (order_ascends after (behind_at s k) (behind_at s k + length (entries_from pieces after)) refl) below
-            ∙ finds (λ n. at (s + 1 + n)) (places_rise (s + 1)) (items_at pieces k) n 0 a None None x still tt (marked
-            k) (omega arith) is
-            (let f : at (s + 1 + (0 + n)) ≡ at (s + 1 + n) = ap at (omega arith) in omega (arith, f, h))
-            (let f : at (s + 1 + suc (0 + n)) ≡ at (s + 1 + suc n) = ap at (omega arith) in omega (arith, f, l))
+            ∙ finds (λ n. at (s + 1 + n)) (places_rise (s + 1)) (items_at pieces k) n 0 n a None None x still tt (marked
+            k) (omega arith) is (omega arith) h l
     order_finds (j ∷ js) after c s k n a x e still is h l =
         let m = count_more j js in
         let r = rises_to at up (behind_at c j) (s + 1 + n) (omega (arith, e, m)) in
@@ -362,14 +331,13 @@ module _ (at : ℕ → ℕ) (up : (n : ℕ) → at n ≤ at (suc n)) where
 
 -- ---- whose range each is
 
--- an item's number, of which one more or less is in a sum
-pub at_next : (pieces : List (List Item)) (k i j : ℕ) (x : Item) → item_at pieces k (i + suc j) ≡ Some x
-    → item_at pieces k (suc i + j) ≡ Some x
-at_next pieces k i j x h = cc ((let e : suc i + j ≡ i + suc j = omega arith in e), h)
+-- these are the items of a piece from item i on
+abbrev pub AreFrom : List (List Item) → ℕ → List Item → ℕ → Type 0
+AreFrom pieces k items i = (j m : ℕ) (x : Item) → m ≡ i + j → slice_get items j ≡ Some x → item_at pieces k m ≡ Some x
 
-pub at_this : (pieces : List (List Item)) (k i : ℕ) (x : Item) → item_at pieces k (i + 0) ≡ Some x
-    → item_at pieces k i ≡ Some x
-at_this pieces k i x h = ap (item_at pieces k) (let e : i ≡ i + 0 = omega arith in e) ∙ h
+pub from_next : (pieces : List (List Item)) (k : ℕ) (y : Item) (items : List Item) (i : ℕ)
+    → AreFrom pieces k (y ∷ items) i → AreFrom pieces k items (suc i)
+from_next pieces k y items i are j m x e f = are (suc j) m x (omega (arith, e)) f
 
 module _ (pieces : List (List Item)) (place : ℕ → ℕ → ℕ) where
   abbrev pub AllOf : List NoteRange → Type 0
@@ -395,22 +363,21 @@ module _ (pieces : List (List Item)) (place : ℕ → ℕ → ℕ) where
   closed_made (Some m) here h =
       cond_both (nat_lt m.lo.0 here) (ended_at m here ∷ []) [] (λ rs. AllOf (seen rs)) (λ _. (h here, tt)) (λ _. tt)
 
-  pub piece_made : (items : List Item) (k i : ℕ) (mark : Option OpenRange)
-      → ((j : ℕ) (x : Item) → slice_get items j ≡ Some x → item_at pieces k (i + j) ≡ Some x)
+  pub piece_made : (items : List Item) (k i : ℕ) (mark : Option OpenRange) → AreFrom pieces k items i
       → AreStill (place k) i items → IsMade mark → AllOf (seen (piece_ranges (place k) i mark items))
   piece_made [] k i mark are s h = tt
   piece_made (it.EndMark ∷ xs) k i mark are s h =
       rw (map-append note_range (closed mark (place k i)) (piece_ranges (place k) (suc i) None xs))
       (all_then (seen (closed mark (place k i))) _ (closed_made mark (place k i) h)
-      (piece_made xs k (suc i) None (λ j x e. at_next pieces k i j x (are (suc j) x e)) s.1 tt))
+      (piece_made xs k (suc i) None (from_next pieces k _ xs i are) s.1 tt))
   piece_made (it.Mark address node ∷ xs) k i mark are s h =
       piece_made xs k (suc i) (Some (record { lo = record { 0 = place k i }; address = address; node = node }))
-      (λ j x e. at_next pieces k i j x (are (suc j) x e)) s.1 (λ hi. record {
+      (from_next pieces k _ xs i are) s.1 (λ hi. record {
         piece = k;
         item = i;
         address = address;
-        mark = at_this pieces k i (it.Mark address node) (are 0 _ refl);
+        mark = are 0 i _ (omega arith) refl;
         says = refl;
         lo = sym s.0;
       })
-  piece_made (_ ∷ xs) k i mark are s h = piece_made xs k (suc i) mark (λ j x e. at_next pieces k i j x (are (suc j) x e)) s h
+  piece_made (_ ∷ xs) k i mark are s h = piece_made xs k (suc i) mark (from_next pieces k _ xs i are) s h

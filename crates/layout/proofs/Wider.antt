@@ -1,26 +1,28 @@
 -- One pass that widens all that are out of reach.
-use Rattle.std.proofs.Common.{◌≡◌, ℕ, zero, suc, ◌+◌, ◌-◌, ◌<◌, ◌≤◌, ◌⊎◌, inl, inr, Bool, true, false, cond, ◌||◌, List, [], ◌∷◌, ◌++◌, length, get_or, replicate, count_by, Option, refl, ap, sym, ◌∙◌, arith}
+use Rattle.std.proofs.Common.{◌≡◌, ℕ, zero, suc, ◌+◌, ◌-◌, ◌<◌, ◌≤◌, ◌⊎◌, inl, inr, Bool, true, false, cond, ◌||◌, List, [], ◌∷◌, length, get_or, set, replicate, count_by, Option, refl, ap, sym, subst, ◌∙◌, arith}
 use Rattle.std.specs.Option.{option_map}
-use Rattle.std.proofs.lemmas.Bool.{cases_lt, false≢true, or_left}
+use Rattle.std.proofs.lemmas.Bool.{cases_eq, cases_lt, false≢true, or_left}
 use Rattle.std.proofs.lemmas.List.Sums.{sum_by-cons}
 use Rattle.std.proofs.lemmas.Option.{slice_get_past}
-use Rattle.std.proofs.lemmas.List.{length-append, get_or_push, get_or_append_left, get_or_past}
+use Rattle.std.proofs.lemmas.List.{length-set, get_or-set_other, get_or-set_same, get_or_past}
 use Rattle.layout.specs.declared.entries.Entry.{Entry}
-use Rattle.layout.specs.Forms.{Forms, start_of, target, far_from, is_far, IsWidened}
-use Rattle.layout.specs.Private.{forms_in, AreWider}
+use Rattle.layout.specs.Forms.{Forms, start_of, target, far_from, is_far, offset}
+use Rattle.layout.specs.Private.{forms_in, AreWider, IsFormed, IsOffsets}
 use Rattle.layout.proofs.Widening.{IsWidening, widening_all, widening_ends}
 
+pub wider_none : (entries : List Entry) (forms : List Bool) → AreWider entries forms forms 0
+wider_none entries forms = record { len = refl; each = λ k l. absurd (omega arith); rest = λ k l. refl }
+
 pub wider_more : (entries : List Entry) (forms wide : List Bool) (n : ℕ) (x : Bool) → AreWider entries forms wide n
-    → x ≡ (get_or forms n false || is_far entries (forms_in forms) n) → AreWider entries forms (wide ++ x ∷ []) (n + 1)
-wider_more entries forms wide n x h e = record {
-  len = let y = length-append wide (x ∷ []) in omega (arith, y, h.len);
-  each = λ k l. elim (cases_lt k n) [
-    | inl u ↦ get_or_append_left wide (x ∷ []) false k (omega (arith, h.len)) ∙ h.each k u
-    | inr u ↦
-        let s : k ≡ n = omega arith in
-        let t : length wide ≡ k = h.len ∙ sym s in
-        cc (get_or_push wide x false k t, e, s)
+    → n < length forms → x ≡ (get_or forms n false || is_far entries (forms_in forms) n)
+    → AreWider entries forms (set wide n x) (n + 1)
+wider_more entries forms wide n x h l e = record {
+  len = length-set wide n x ∙ h.len;
+  each = λ k m. elim (cases_eq k n) [
+    | inl s ↦ cc (s, get_or-set_same wide n x false (omega (arith, h.len, l)), e)
+    | inr d ↦ get_or-set_other wide n k x false d ∙ h.each k (omega (arith, m, d))
   ];
+  rest = λ k m. get_or-set_other wide n k x false (λ s. omega (arith, m, s)) ∙ h.rest k (omega (arith, m));
 }
 
 -- past the entries none is out of reach
@@ -34,13 +36,7 @@ pub wider_all : (entries : List Entry) (forms wide : List Bool) → length forms
     (forms_in forms) n)
 wider_all entries forms wide e h n = elim (cases_lt n (length forms)) [
   | inl l ↦ h.each n l
-  | inr l ↦
-      rw (
-        (get_or_past wide n false (omega (arith, h.len))),
-        get_or_past forms n false l,
-        not_far entries
-            (forms_in forms) n (omega arith),
-      ) refl
+  | inr l ↦ rw (h.rest n l, get_or_past forms n false l, not_far entries (forms_in forms) n (omega arith)) refl
 ]
 
 counted : (x : Bool) (xs : List Bool) → count_by (λ b. b) (x ∷ xs) ≡ cond x 1 0 + count_by (λ b. b) xs
@@ -86,11 +82,17 @@ pass_counts entries forms wide e h =
     ∙ or_left (get_or forms k false) (is_far entries (forms_in forms) k) l)
 
 -- a pass that leaves the count has left the forms, which are then the least
-pub widening_last : (entries : List Entry) (forms wide : List Bool) → length forms ≡ length entries
+pub widening_last : (entries : List Entry) (forms wide : List Bool) (at : List ℕ) (all : ℕ) → length forms ≡ length entries
     → AreWider entries forms wide (length forms) → IsWidening entries (forms_in forms)
-    → count_by (λ b. b) wide ≡ count_by (λ b. b) forms → IsWidened entries (forms_in forms)
-widening_last entries forms wide e h w c = elim (pass_counts entries forms wide e h) [
-  | inl s ↦ widening_ends entries (forms_in forms) w (λ n. cc (s, wider_all entries forms wide e h n))
+    → count_by (λ b. b) wide ≡ count_by (λ b. b) forms → IsOffsets entries (forms_in forms) at
+    → all ≡ offset entries (forms_in forms) (length entries) → IsFormed entries wide at all
+widening_last entries forms wide at all e h w c before sum = elim (pass_counts entries forms wide e h) [
+  | inl s ↦ subst (λ (fs : List Bool). IsFormed entries fs at all) s (record {
+    len = e;
+    widened = widening_ends entries (forms_in forms) w (λ n. cc (s, wider_all entries forms wide e h n));
+    offsets = before;
+    whole = sum;
+  })
   | inr l ↦ absurd (omega arith)
 ]
 

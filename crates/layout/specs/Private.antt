@@ -1,11 +1,12 @@
 -- What only contracts of private functions and models cite.
-use Rattle.std.specs.Prelude.{◌≡◌, ℕ, ◌<◌, List, length, slice_get, slice_index, IfSome, Bool, false, slice_index_or, ◌*◌, ◌≤◌, ◌||◌, ℤ, pos, ◌-ℤ◌, ◌+◌, true, [], ◌∷◌, if◌then◌else◌, Option, Some, None, suc, zero, ◌++◌, nat_lt, map, ◌^◌, Result, Ok, Err}
+use Rattle.std.specs.Prelude.{◌≡◌, ℕ, ◌<◌, List, length, slice_get, slice_index, slice_set, IfSome, Bool, false, slice_index_or, ◌*◌, ◌≤◌, ◌||◌, ℤ, pos, ◌-ℤ◌, ◌+◌, true, [], ◌∷◌, if◌then◌else◌, Option, Some, None, suc, zero, ◌++◌, nat_lt, map, ◌^◌, Result, Ok, Err}
+use Rattle.std.specs.List.{All}
 use Rattle.std.specs.Option.{option_map}
 use Rattle.eel_base.specs.declared.range.Range.{Range}
 use Rattle.eel_base.specs.declared.numbers.Addr.{Addr}
 use Rattle.v8_decode.specs.declared.Instr.{Instr}
 use Rattle.layout.specs.declared.entries.Entry.{Entry}
-use Rattle.layout.specs.Forms.{start_of, target, Forms, offset, is_far, leads_next, goal_of, far, entries_of, IsWidened}
+use Rattle.layout.specs.Forms.{start_of, target, Forms, offset, is_far, leads_next, goal_of, far, entries_from, IsWidened}
 use Rattle.v8_decode.specs.declared.Instr.TheVariants as i
 use Rattle.code_runs.specs.LongJump.{long_jump}
 use Rattle.layout.specs.Laid.{nop, opposite}
@@ -20,11 +21,36 @@ use Rattle.layout.specs.declared.items.LayoutFault.TheVariants as faults
 
 -- ---- entries
 
--- each leads to one of the pieces, and each piece starts at one of them, which this list has
-pub record IsListing (entries : List Entry) (starts : List ℕ) : Type 0 where
-  pub targets : (n : ℕ) → IfSome (target (slice_get entries n)) (λ k. k < length starts)
-  pub inside : (k : ℕ) → k < length starts → slice_index starts k < length entries
-  pub are : (k : ℕ) → k < length starts → slice_index starts k ≡ start_of entries k
+-- the numbers of pieces, of which there are few enough
+pub record AreOrdered (pieces : List (List Item)) (order : List ℕ) : Type 0 where
+  pub few : length pieces ≤ 2 ^ 28
+  pub inside : All (λ k. k < length pieces) order
+
+-- and so many entries
+pub record IsListed (pieces : List (List Item)) (order : List ℕ) (count : ℕ) : Type 0 where
+  pub ordered : AreOrdered pieces order
+  pub counted : count ≡ length (entries_from pieces order)
+
+-- the rest of a piece, and the pieces behind it
+abbrev pub entries_left : List Item → List (List Item) → List ℕ → List Entry
+entries_left items pieces order = map en.Item items ++ entries_from pieces order
+
+-- each leads to one of so many pieces, and each piece starts at one of them
+pub record IsListing (entries : List Entry) (count : ℕ) : Type 0 where
+  pub targets : (n : ℕ) → IfSome (target (slice_get entries n)) (λ k. k < count)
+  pub inside : (k : ℕ) → k < count → start_of entries k < length entries
+  pub starts : (n k : ℕ) → slice_get entries n ≡ Some (en.Start (record { 0 = k })) → (k < count) × (start_of entries k
+      ≡ n)
+
+-- what starts is one of so many pieces
+abbrev pub StartsBelow : ℕ → Entry → Type 0
+StartsBelow count (en.Start k) = k.0 < count
+StartsBelow count (en.Item item) = Unit {0}
+
+-- the words before each piece, once those before an entry are known
+abbrev pub noted : List ℕ → Entry → ℕ → List ℕ
+noted at (en.Start k) here = slice_set at k.0 here
+noted at (en.Item item) here = at
 
 -- the forms that a list has
 abbrev pub forms_in : List Bool → Forms
@@ -37,11 +63,16 @@ pub record IsOffsets (entries : List Entry) (long : Forms) (at : List ℕ) : Typ
   pub each : (k : ℕ) → k < length at → slice_index at k ≡ offset entries long (start_of entries k)
   pub small : (n : ℕ) → offset entries long n ≤ 6 * n
 
--- the first of these forms are long where they were or where they are out of reach
+-- the words before the piece to which an entry leads
+abbrev pub goal_in : List ℕ → Entry → Option ℕ
+goal_in at x = option_map (slice_index at) (target (Some x))
+
+-- the first of these forms are long where they were or where they are out of reach, and the others as they were
 pub record AreWider (entries : List Entry) (forms wide : List Bool) (n : ℕ) : Type 0 where
-  pub len : length wide ≡ n
+  pub len : length wide ≡ length forms
   pub each : (k : ℕ) → k < n → slice_index_or wide k false ≡ (slice_index_or forms k false || is_far entries (forms_in
       forms) k)
+  pub rest : (k : ℕ) → n ≤ k → slice_index_or wide k false ≡ slice_index_or forms k false
 
 -- the displacement of a branch, in words
 abbrev pub between : ℕ → ℕ → ℤ
@@ -133,24 +164,21 @@ ranges_from at n mark (x ∷ xs) = closes (at n) mark x ++ ranges_from at (suc n
 
 -- ---- all of it
 
--- the addresses of pieces
-abbrev pub addresses : ℕ → List Entry → Forms → List ℕ → List Addr
-addresses base entries long starts = map (λ n. record { 0 = address_of base entries long n }) starts
+-- the addresses of pieces, from the words before each
+abbrev pub addresses : ℕ → List ℕ → List Addr
+addresses base at = map (λ n. record { 0 = base + 4 * n }) at
 
--- what a compact order and its forms come to
-pub record IsFormed (pieces : List (List Item)) (entries : List Entry) (starts : List ℕ) (forms : List Bool) : Type 0
-  where
-    pub entries_are : entries ≡ entries_of pieces
-    pub count : length starts ≡ length pieces
-    pub listing : IsListing entries starts
-    pub small : length entries ≤ 2 ^ 42
-    pub len : length forms ≡ length entries
-    pub widened : IsWidened entries (forms_in forms)
+-- the fewest long forms, the words before each piece, and how many there are
+pub record IsFormed (entries : List Entry) (forms : List Bool) (at : List ℕ) (all : ℕ) : Type 0 where
+  pub len : length forms ≡ length entries
+  pub widened : IsWidened entries (forms_in forms)
+  pub offsets : IsOffsets entries (forms_in forms) at
+  pub whole : all ≡ offset entries (forms_in forms) (length entries)
 
 -- the code, addresses and ranges of entries
 pub record IsPut (base : ℕ) (entries : List Entry) (starts : List ℕ) (long : Forms) (p : Placed) : Type 0 where
   pub emitted : IsEmitted base entries long p.code.items (length entries)
-  pub at : p.at.items ≡ addresses base entries long starts
+  pub at : p.at.items ≡ addresses base starts
   pub ranges : p.ranges.items ≡ ranges_from (address_of base entries long) 0 None entries
 
 -- there is room for so many bytes, or a fault tells that there isn't

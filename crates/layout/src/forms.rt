@@ -1,72 +1,46 @@
 //! The forms of Jumps and Branches.
 
-ghost use Rattle.std.specs.Prelude.{◌≡◌, ℕ, suc, ◌+◌, ◌*◌, ◌^◌, ◌<◌, ◌≤◌, ◌||◌, true, false, length, replicate, count_by, slice_get, slice_index, slice_index_or, Some, IfOk};
+ghost use Rattle.std.specs.Prelude.{◌≡◌, ◌+◌, ◌*◌, ◌^◌, ◌<◌, ◌≤◌, ◌||◌, false, length, replicate, count_by, slice_get, slice_index, Some, IfOk, IfSome};
 ghost use Rattle.layout.specs.declared.items.Item.TheVariants as it;
 ghost use Rattle.layout.specs.declared.entries.Entry.TheVariants as en;
-ghost use Rattle.layout.specs.Forms.{far, is_far as is_far_in, leads_next as leads_next_of, offset, target as target_of, width as width_of, IsWidened};
-ghost use Rattle.layout.specs.Private.{forms_in, AreWider, IsListing, IsOffsets};
+ghost use Rattle.layout.specs.Forms.{far, offset, target as target_of, width as width_of};
+ghost use Rattle.layout.specs.Private.{far_of, forms_in, goal_in, noted, AreWider, IsFormed, IsListing, IsOffsets, StartsBelow};
 
 use crate::Item;
-use crate::entries::Entry;
+use crate::entries::{Cursor, Entry, Listing};
 use eel_base::PieceNo;
 use std::alloc::{AllocError, Global};
 
-/// Whether the next entry is the start of the piece to which a Jump leads.
-pub fn leads_next(to: PieceNo, next: Option<Entry>) -> bool
-    ensures { result ≡ leads_next_of to next }
-{
-    match next {
-        Some(Entry::Start(k)) => to.0 == k.0,
-        _ => false,
-    }
-}
-
-// The words that a Jump takes before the next entry.
-fn jump_width(to: PieceNo, next: Option<Entry>, long: bool) -> u64
-    ensures value { result ≡ width_of long (Some (en.Item (it.Jump to))) next }
+// The words that a Jump takes before what is left.
+#[inline]
+fn jump_width(to: PieceNo, left: &Cursor, long: bool) -> u64
+    ensures value { result ≡ width_of long (Some (en.Item (it.Jump to))) (slice_get left.now 0) }
     ensures small { result ≤ 6 }
 {
-    if leads_next(to, next) {
+    if left.starts(to) {
         0
     } else {
         if long { 4 } else { 1 }
     }
 }
 
-// The words that an entry takes before the next one.
-fn width(entry: &Entry, next: Option<Entry>, long: bool) -> u64
-    ensures value { result ≡ width_of long (Some entry.now) next }
+/// The words that an entry takes before what is left.
+#[inline]
+pub fn width(entry: &Entry, left: &Cursor, long: bool) -> u64
+    ensures value { result ≡ width_of long (Some entry.now) (slice_get left.now 0) }
     ensures small { result ≤ 6 }
 {
     match entry {
         Entry::Item(Item::Word(_)) => 1,
-        Entry::Item(Item::Jump(to)) => jump_width(*to, next, long),
+        Entry::Item(Item::Jump(to)) => jump_width(*to, left, long),
         Entry::Item(Item::Branch { .. }) => if long { 6 } else { 2 },
         _ => 0,
     }
 }
 
-/// The entry with this number, if there is one.
-pub fn entry_at(entries: &[Entry], n: usize) -> Option<Entry>
-    ensures { result ≡ slice_get entries.now n }
-{
-    entries.get(n).copied()
-}
-
-/// The words that the entry with this number takes.
-pub fn width_at(entries: &[Entry], forms: &[bool], n: usize) -> u64
-    requires small { length entries.now ≤ 2 ^ 42 }
-    requires forms { length forms.now ≡ length entries.now }
-    requires inside { n < length entries.now }
-    ensures value { result
-        ≡ width_of (slice_index_or forms.now n false) (slice_get entries.now n) (slice_get entries.now (n + 1)) }
-    ensures small { result ≤ 6 }
-{
-    width(&entries[n], entry_at(entries, n + 1), forms[n])
-}
-
-/// The piece to which an entry leads.
-pub fn target(entry: &Entry) -> Option<usize>
+// The piece to which an entry leads.
+#[inline]
+fn target(entry: &Entry) -> Option<usize>
     ensures { result ≡ target_of (Some entry.now) }
 {
     match entry {
@@ -76,50 +50,34 @@ pub fn target(entry: &Entry) -> Option<usize>
     }
 }
 
-/// How many words come before each piece, and how many there are.
-#[derive(Drop)]
-pub struct WordsBefore {
-    pub at: Vec<u64>,
-    pub all: u64,
-}
-
-// Notes how many words come before a piece, if it starts at this entry.
-fn note_start(at: &mut Vec<u64>, starts: &[usize], entry: &Entry, n: usize, here: u64)
-    requires { length at.old.items ≡ length starts.now }
-    ensures len { length at.new.items ≡ length at.old.items }
-    ensures here { (k : ℕ) → k < length starts.now → slice_index starts.now k ≡ n →
-        entry.now ≡ en.Start (record { 0 = k }) → slice_index at.new.items k ≡ here }
-    ensures others { (k : ℕ) → slice_index starts.now k < n → slice_index at.new.items k ≡ slice_index at.old.items k }
+// Notes how many words come before a piece that starts here.
+#[inline]
+fn note_start(at: &mut [u64], entry: &Entry, here: u64)
+    requires inside { StartsBelow (length at.old) entry.now }
+    ensures { at.new ≡ noted at.old entry.now here }
 {
     if let Entry::Start(piece) = entry {
-        let piece = piece.0 as usize;
-        if piece < starts.len() && starts[piece] == n {
-            at[piece] = here;
-        }
+        at[piece.0 as usize] = here;
     }
 }
 
-/// How many words come before each piece.
-pub fn offsets(
-    alloc: Global,
-    entries: &[Entry],
-    starts: &[usize],
-    forms: &[bool],
-) -> Result<WordsBefore, AllocError>
+// Puts down how many words come before each piece, and gives how many there are.
+fn offsets(entries: &Listing, forms: &[bool], at: &mut [u64]) -> u64
     requires small { length entries.now ≤ 2 ^ 42 }
-    requires listing { IsListing entries.now starts.now }
+    requires listing { IsListing entries.now (length at.old) }
     requires forms { length forms.now ≡ length entries.now }
-    ensures at { IfOk result (λ o. IsOffsets entries.now (forms_in forms.now) o.at.items) }
-    ensures len { IfOk result (λ o. length o.at.items ≡ length starts.now) }
-    ensures all { IfOk result (λ o. o.all ≡ offset entries.now (forms_in forms.now) (length entries.now)) }
+    ensures at { IsOffsets entries.now (forms_in forms.now) at.new }
+    ensures len { length at.new ≡ length at.old }
+    ensures all { result ≡ offset entries.now (forms_in forms.now) (length entries.now) }
 {
-    let mut at = vec![in alloc; 0; starts.len()]?;
+    let mut left = entries.cursor();
     let mut here = 0;
-    for n in 0..entries.len() {
-        note_start(&mut at, starts, &entries[n], n, here);
-        here += width_at(entries, forms, n);
+    for long in forms {
+        let entry = left.next();
+        note_start(at, &entry, here);
+        here += width(&entry, &left, *long);
     }
-    Ok(WordsBefore { at, all: here })
+    here
 }
 
 // Whether a distance doesn't fit 22 signed bits.
@@ -131,68 +89,46 @@ fn is_distant(from: u64, to: u64) -> bool
     from + (1 << 21) <= to || to + (1 << 21) < from
 }
 
-// Whether the target of an entry, which has `here` words before it, is out of reach.
-fn is_far(entries: &[Entry], at: &[u64], forms: &[bool], n: usize, here: u64) -> bool
-    requires small { length entries.now ≤ 2 ^ 42 }
-    requires at { IsOffsets entries.now (forms_in forms.now) at.now }
-    requires inside { n < length entries.now }
-    requires here { here ≡ offset entries.now (forms_in forms.now) n }
-    ensures { result ≡ is_far_in entries.now (forms_in forms.now) n }
+// Whether the piece to which an entry leads, which has `here` words before it, is out of reach.
+#[inline]
+fn is_far(entry: &Entry, at: &[u64], here: u64) -> bool
+    requires leads { IfSome (target_of (Some entry.now)) (λ k. k < length at.now) }
+    requires from { here < 2 ^ 63 }
+    requires to { IfSome (goal_in at.now entry.now) (λ to. to < 2 ^ 63) }
+    ensures { result ≡ far_of here (goal_in at.now entry.now) }
 {
-    match target(&entries[n]) {
+    match target(entry) {
         None => false,
         Some(to) => is_distant(here, at[to]),
     }
 }
 
-// The form of an entry after it.
-fn form_after(entries: &[Entry], at: &[u64], forms: &[bool], n: usize, here: u64) -> bool
-    requires small { length entries.now ≤ 2 ^ 42 }
-    requires at { IsOffsets entries.now (forms_in forms.now) at.now }
-    requires forms { length forms.now ≡ length entries.now }
-    requires inside { n < length entries.now }
-    requires here { here ≡ offset entries.now (forms_in forms.now) n }
-    ensures { result ≡ (slice_index_or forms.now n false || is_far_in entries.now (forms_in forms.now) n) }
+// The form of an entry after a pass.
+#[inline]
+fn form_after(entry: &Entry, at: &[u64], here: u64, long: bool) -> bool
+    requires leads { IfSome (target_of (Some entry.now)) (λ k. k < length at.now) }
+    requires from { here < 2 ^ 63 }
+    requires to { IfSome (goal_in at.now entry.now) (λ to. to < 2 ^ 63) }
+    ensures { result ≡ (long || far_of here (goal_in at.now entry.now)) }
 {
-    forms[n] || is_far(entries, at, forms, n, here)
+    long || is_far(entry, at, here)
 }
 
 // Widens all that are out of reach.
-fn widen(
-    alloc: Global,
-    entries: &[Entry],
-    at: &[u64],
-    forms: &[bool],
-) -> Result<Vec<bool>, AllocError>
+fn widen(entries: &Listing, at: &[u64], forms: &mut [bool])
     requires small { length entries.now ≤ 2 ^ 42 }
-    requires at { IsOffsets entries.now (forms_in forms.now) at.now }
-    requires forms { length forms.now ≡ length entries.now }
-    ensures { IfOk result (λ wide. AreWider entries.now forms.now wide.items (length forms.now)) }
+    requires at { IsOffsets entries.now (forms_in forms.old) at.now }
+    requires forms { length forms.old ≡ length entries.now }
+    ensures { AreWider entries.now forms.old forms.new (length forms.old) }
 {
-    let mut wide = Vec::with_capacity(alloc, forms.len())?;
+    let mut left = entries.cursor();
     let mut here = 0;
     for n in 0..forms.len() {
-        wide.push(form_after(entries, at, forms, n, here))?;
-        here += width_at(entries, forms, n);
+        let entry = left.next();
+        let long = forms[n];
+        forms[n] = form_after(&entry, at, here, long);
+        here += width(&entry, &left, long);
     }
-    Ok(wide)
-}
-
-// One pass over all entries.
-fn pass(
-    alloc: Global,
-    entries: &[Entry],
-    starts: &[usize],
-    forms: &[bool],
-) -> Result<Vec<bool>, AllocError>
-    requires small { length entries.now ≤ 2 ^ 42 }
-    requires listing { IsListing entries.now starts.now }
-    requires forms { length forms.now ≡ length entries.now }
-    ensures { IfOk result (λ wide. AreWider entries.now forms.now wide.items (length forms.now)) }
-{
-    let offsets = offsets(alloc, entries, starts, forms)?;
-    let wide = widen(alloc, entries, &offsets.at, forms)?;
-    Ok(wide)
 }
 
 fn count_long(forms: &[bool]) -> usize
@@ -202,31 +138,48 @@ fn count_long(forms: &[bool]) -> usize
     forms.iter().filter(|form| **form).count()
 }
 
-fn all_short(alloc: Global, count: usize) -> Result<Vec<bool>, AllocError>
-    ensures { IfOk result (λ forms. forms.items ≡ replicate count false) }
-{
-    vec![in alloc; false; count]
-}
-
-/// Widens those that are out of reach, until none is.
-///
-/// Each pass widens all that are out of reach at once, and a wider form only moves further apart what it lies between:
-/// so there are as many passes as one widening brings about another in a row, and not one for each.
-pub fn widened(alloc: Global, entries: &[Entry], starts: &[usize]) -> Result<Vec<bool>, AllocError>
+// Widens those that are out of reach, until none is. Puts down how many words come before each piece then, and gives how
+// many there are.
+//
+// Each pass widens all that are out of reach at once, and a wider form only moves further apart what it lies between: so
+// there are as many passes as one widening brings about another in a row, and not one for each.
+fn widen_all(entries: &Listing, forms: &mut [bool], at: &mut [u64]) -> u64
     requires small { length entries.now ≤ 2 ^ 42 }
-    requires listing { IsListing entries.now starts.now }
-    ensures len { IfOk result (λ forms. length forms.items ≡ length entries.now) }
-    ensures widened { IfOk result (λ forms. IsWidened entries.now (forms_in forms.items)) }
+    requires listing { IsListing entries.now (length at.old) }
+    requires short { forms.old ≡ replicate (length entries.now) false }
+    ensures formed { IsFormed entries.now forms.new at.new result }
+    ensures count { length at.new ≡ length at.old }
+    ensures len { length forms.new ≡ length forms.old }
 {
-    let mut forms = all_short(alloc, entries.len())?;
     let mut long = 0;
     loop {
-        let wide = pass(alloc, entries, starts, &forms)?;
-        let count = count_long(&wide);
+        let all = offsets(entries, forms, at);
+        widen(entries, at, forms);
+        let count = count_long(forms);
         if count == long {
-            return Ok(forms);
+            return all;
         }
-        forms = wide;
         long = count;
     }
+}
+
+/// The forms of entries, how many words come before each piece, and how many there are.
+#[derive(Drop)]
+pub struct Formed {
+    pub forms: Vec<bool>,
+    pub at: Vec<u64>,
+    pub all: u64,
+}
+
+/// The fewest long forms with which none is out of reach.
+pub fn widened(alloc: Global, entries: &Listing, pieces: usize) -> Result<Formed, AllocError>
+    requires small { length entries.now ≤ 2 ^ 42 }
+    requires listing { IsListing entries.now pieces }
+    ensures formed { IfOk result (λ f. IsFormed entries.now f.forms.items f.at.items f.all) }
+    ensures count { IfOk result (λ f. length f.at.items ≡ pieces) }
+{
+    let mut forms = vec![in alloc; false; entries.len()]?;
+    let mut at = vec![in alloc; 0; pieces]?;
+    let all = widen_all(entries, &mut forms, &mut at);
+    Ok(Formed { forms, at, all })
 }

@@ -132,7 +132,7 @@ pub fn order_of(alloc: Global, pieces: &[Piece]) -> Result<Vec<usize>, AllocErro
     ensures whole { IfOk result (λ order. IsWhole pieces.now order.items) }
 {
     let mut marks = unmarked(alloc, pieces.len())?;
-    let mut laid = Vec::new(alloc);
+    let mut laid = Vec::with_capacity(alloc, pieces.len())?;
     let mut lowest = 0;
     for _ in 0..pieces.len() {
         lowest = lowest_left(pieces, &laid, &marks, lowest);

@@ -6,7 +6,7 @@ ghost use Rattle.layout.specs.Private.{address_of, closed, closes, forms_in, ope
 use crate::Item;
 use crate::assembler::Assembler;
 use crate::entries::Entry;
-use crate::forms::width_at;
+use crate::forms::width;
 use eel_base::{Addr, Range};
 use std::alloc::{AllocError, Global};
 
@@ -79,11 +79,13 @@ impl Assembler<'_> {
             self.now.entries.now) }
     {
         let mut ranges = Vec::new(alloc);
+        let mut left = self.entries.cursor();
         let mut open_mark = None;
         let mut here = 0;
-        for (n, entry) in self.entries.iter().enumerate() {
-            open_mark = put_entry(&mut ranges, open_mark, address(self.base, here), entry)?;
-            here += width_at(self.entries, self.forms, n);
+        for long in self.forms {
+            let entry = left.next();
+            open_mark = put_entry(&mut ranges, open_mark, address(self.base, here), &entry)?;
+            here += width(&entry, &left, *long);
         }
         Ok(ranges)
     }

@@ -1,34 +1,55 @@
-use Rattle.std.proofs.Common.{◌∙◌, sym, arith}
+use Rattle.std.proofs.Common.{length, ap, ◌∙◌, refl, arith}
+use Rattle.layout.specs.Forms.{offset}
 use Rattle.layout.specs.Private.{forms_in}
-use Rattle.layout.proofs.Offsets.{all_offsets, entry_at, offset_next, offset_none, offset_small, offsets_more}
+use Rattle.layout.proofs.Offsets.{all_offsets, noted_len, offsets_more, start_below}
+use Rattle.layout.proofs.Walked.{more_left, turn, walk_low, walk_more, walk_none}
 use Rattle.layout.proofs.forms.offsets.Goals as goal
 
-pub loop-n-init : goal.loop-n-init
-loop-n-init c = record {
-  here = sym (offset_none c.args.entries.now (forms_in c.args.forms.now));
-  len = omega (arith, c.in_ok-at.ensures.len);
+pub loop-long-init : goal.loop-long-init
+loop-long-init c = record {
+  walk = walk_none _ _ _ c.cursor-left.ensures;
+  len = refl;
+  listing = c.requires.listing;
   so_far = λ k l m. absurd (omega (arith, m));
 }
 
+pub next-entry-requires : goal.next-entry-requires
+next-entry-requires c = record {
+  more = more_left c.args.entries.now _ _ c.loop-long.invariant.walk.rest
+      (omega (arith, c.loop-long-test.true, c.requires.forms));
+}
+
+pub note_start-requires : goal.note_start-requires
+note_start-requires c =
+    let t = turn c.args.entries.now _ _ _ _ c.loop-long.invariant.walk.rest c.next-entry.ensures in
+    record { inside = start_below _ _ _ _ c.loop-long.invariant.listing t.entry }
+
 pub overflow_add-here : goal.overflow_add-here
 overflow_add-here c =
-    let offset = (offset_small c.args.entries.now (forms_in c.args.forms.now) c.loop-n.n) in
-    let width = c.width_at-here.ensures.small in
-    omega (arith, offset, c.loop-n.invariant.here, width, c.loop-n-test.true, c.requires.small)
+    let low = walk_low _ _ _ _ _ c.loop-long.invariant.walk
+    (omega (arith, c.loop-long-test.true, c.requires.forms)) c.requires.small in
+    omega (arith, low, c.width-here.ensures.small)
 
-pub loop-n-preserved : goal.loop-n-preserved
-loop-n-preserved c = record {
-  here = offset_next _ _ _ _ _ c.loop-n.invariant.here c.width_at-here.ensures.value;
-  len = c.note_start.ensures.len ∙ c.loop-n.invariant.len;
-  so_far = offsets_more c.args.entries.now c.args.starts.now (forms_in c.args.forms.now) c.loop-n.at.items
-      c.note_start.new.at.items c.loop-n.n c.loop-n.here c.index-entries-n.result c.requires.listing
-      c.loop-n.invariant.len c.note_start.ensures.len (omega (arith, c.loop-n-test.true))
-      (entry_at c.args.entries.now c.loop-n.n c.index-entries-n.result (omega (arith, c.loop-n-test.true))
-      c.index-entries-n.is)
-      c.loop-n.invariant.here c.loop-n.invariant.so_far c.note_start.ensures.here c.note_start.ensures.others;
-}
+pub loop-long-preserved : goal.loop-long-preserved
+loop-long-preserved c =
+    let t = turn c.args.entries.now _ _ _ _ c.loop-long.invariant.walk.rest c.next-entry.ensures in
+    let len = noted_len c.loop-long.at c.next-entry.result c.loop-long.here in
+    record {
+      walk = walk_more _ _ _ _ _ _ _ _ c.loop-long.invariant.walk c.next-entry.ensures c.width-here.ensures.value;
+      len = ap length c.note_start.ensures ∙ len ∙ c.loop-long.invariant.len;
+      listing = rw (c.note_start.ensures, len) c.loop-long.invariant.listing;
+      so_far = rw c.note_start.ensures (offsets_more _ _ _ _ _ _ c.loop-long.invariant.listing t.entry
+          c.loop-long.invariant.walk.words c.loop-long.invariant.so_far);
+    }
 
 pub returns-clause-at : goal.returns-clause-at
 returns-clause-at c =
-    all_offsets _ _ _ _ _ c.requires.listing c.loop-n.invariant.len (omega (arith, c.loop-n-test.false, c.loop-n.auto.n-end))
-    c.loop-n.invariant.so_far
+    all_offsets _ _ _ c.loop-long.long-index c.loop-long.invariant.listing
+    (omega (arith, c.loop-long-test.false, c.loop-long.auto.long-index-end, c.requires.forms))
+    c.loop-long.invariant.so_far
+
+pub returns-clause-all : goal.returns-clause-all
+returns-clause-all c =
+    c.loop-long.invariant.walk.words
+    ∙ ap (offset c.args.entries.now (forms_in c.args.forms.now))
+    (omega (arith, c.loop-long-test.false, c.loop-long.auto.long-index-end, c.requires.forms))

@@ -5,7 +5,7 @@ use Rattle.layout.proofs.order.order_of.Goals as goal
 
 pub loop-init : goal.loop-init
 loop-init c =
-    let e : c.new-laid.result.items ≡ [] = c.new-laid.ensures.items in
+    let e : c.in_ok-laid.laid.items ≡ [] = c.in_ok-laid.ensures.items in
     record { count = ap length e; marking = rw (e, c.in_ok-marks.ensures) (marking_none c.args.pieces.now) }
 
 pub returns-clause-order : goal.returns-clause-order
