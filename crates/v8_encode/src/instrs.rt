@@ -110,9 +110,9 @@ pub fn jump(rs1: Reg, op2: Op2) -> Instr
     }
 }
 
-// The word of an instruction that has one.
+/// The word of an instruction that has one.
 #[tactic(auto, unfolding(crate::specs::Code::encode_of))]
-fn word(instr: Instr) -> u32
+pub fn word(instr: Instr) -> u32
     requires { IsTrue (has_word instr) }
     ensures word { result ≡ word_of instr }
     ensures decodes { decode_of result ≡ instr }

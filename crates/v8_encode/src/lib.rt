@@ -13,7 +13,9 @@ use v8_decode::{AluOp, Cond, Instr, LoadKind, Op2, Reg, StoreKind};
 
 mod instrs;
 
-pub use instrs::{branch, condition, jump, load, nop, operation, register, sethi, store, words};
+pub use instrs::{
+    branch, condition, jump, load, nop, operation, register, sethi, store, word, words,
+};
 
 // A word's bits so far, and after them a field of `width` bits.
 #[inline]
