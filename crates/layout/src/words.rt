@@ -12,7 +12,7 @@ ghost use Rattle.layout.specs.Emitting.{words_of};
 
 use std::alloc::AllocError;
 use v8_decode::{Cond, Instr, Op2};
-use v8_encode::{branch, condition, jump, load, nop, register, sethi, store, words};
+use v8_encode::{branch, condition, jump, load, nop, register, sethi, store, word, words};
 
 // Word 0 of the editor's page, from %g0.
 const FIRST_WORD: i32 = -4096;
@@ -93,7 +93,7 @@ pub fn put_jump(
     if long {
         code.extend_from_slice(&long_jump_words(base + 4 * to as u32))?;
     } else {
-        code.extend_from_slice(&words(&[branch_to(condition(8), from, to)]))?;
+        code.push(word(branch_to(condition(8), from, to)))?;
     }
     Ok(())
 }
