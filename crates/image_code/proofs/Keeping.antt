@@ -1,6 +1,6 @@
 -- From where control comes to a point, on to its visit: nothing is run between, but before the load of an open switch
 -- its address is kept.
-use Rattle.std.proofs.Common.{◌≡◌, ℕ, ◌+◌, ◌-◌, ◌*◌, ◌%◌, ◌^◌, ◌<◌, ◌≤◌, inl, inr, Bool, true, false, Option, Some, None, List, [], ◌++◌, append-nil, refl, ap, sym, ◌∙◌, subst, arith}
+use Rattle.std.proofs.Common.{length, ◌≡◌, ℕ, ◌+◌, ◌-◌, ◌*◌, ◌%◌, ◌^◌, ◌<◌, ◌≤◌, inl, inr, Bool, true, false, Option, Some, None, List, [], ◌++◌, append-nil, refl, ap, sym, ◌∙◌, subst, arith}
 use Rattle.std.specs.Prelude.{if◌then◌else◌, ◌==◌, slice_get, slice_index}
 use Rattle.std.proofs.lemmas.Bool.{and_parts, cases_lt, lt-ltb, ltb-true, ne_eqb}
 use Rattle.eel_base.specs.CodeText.{Words, address_of, word_at}
@@ -208,7 +208,7 @@ module _ (site : Site) (h : Placed site) (are : AreCaseTables site.g) where
       runs = can_run site h e.on.after here.valid here.live npc here.slot here.memory;
     }
 
-    keeps : KeepsLoad o.rs1 o.op2 e.on.after
+    keeps : KeepsLoad o.rs1 o.op2 e.on.after (length (keep_load o.rs1 o.op2))
     keeps =
         let q = are.each k o is in
         loads_are_kept o.rs1 o.op2 e.on.after (record {

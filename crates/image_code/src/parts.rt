@@ -23,6 +23,7 @@ use jump_code::{
 use layout::{Item, Piece};
 use std::alloc::Global;
 use v8_decode::{Cond, Instr, Op2, Reg, decode};
+use v8_encode::register;
 
 const NOP: u32 = 0x0100_0000;
 
@@ -266,22 +267,12 @@ pub fn is_transfer(word: u32) -> bool
     )
 }
 
-// %g1
-fn first_register() -> Reg
-    ensures { result ≡ 1 }
-{
-    match Reg::new(1) {
-        Some(first) => first,
-        None => unreachable!(),
-    }
-}
-
 /// The way along a JMPL's edge: the copy of its delay slot, the code of a snippet, and the jump to what was looked up.
 pub fn out(alloc: Global, visit: Visit, word: u32, code: &[u32]) -> Result<Piece, NoMemory>
     ensures { IfOk result (λ p. p
         ≡ found_piece visit.address visit.node word (map it.Word code.now) 1) }
 {
     let mut items = marked(alloc, visit, word, code)?;
-    push_words(&mut items, &found_code(first_register()))?;
+    push_words(&mut items, &found_code(register(1)))?;
     Ok(Piece { items })
 }

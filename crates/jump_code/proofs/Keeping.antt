@@ -1,5 +1,5 @@
 -- The words before the load of a switch, one by one.
-use Rattle.std.proofs.Common.{◌≡◌, ℕ, ◌+◌, ◌*◌, ◌<◌, ◌≤◌, inl, inr, Bool, false, Some, List, refl, ap, ◌∙◌, arith}
+use Rattle.std.proofs.Common.{length, ◌≡◌, ℕ, ◌+◌, ◌*◌, ◌<◌, ◌≤◌, inl, inr, Bool, false, Some, List, refl, ap, ◌∙◌, arith}
 use Rattle.std.specs.Prelude.{if◌then◌else◌}
 use Rattle.v8_decode.specs.declared.Op2.{Op2}
 use Rattle.v8_decode.specs.declared.Op2.TheVariants.{Reg, Imm}
@@ -22,7 +22,7 @@ use Rattle.code_runs.proofs.LongJump.{says_at}
 use Rattle.code_runs.proofs.StoredWords.{word_stored, still_stored}
 use Rattle.code_runs.proofs.TwoRegisters.{block_rules}
 use Rattle.jump_code.specs.FreeRegister.{second_register}
-use Rattle.jump_code.specs.Keeping.{kept_memory, IsAboutToKeep, KeepsLoad, LoadsAreKept}
+use Rattle.jump_code.specs.Keeping.{keep_load, kept_memory, IsAboutToKeep, KeepsLoad, LoadsAreKept}
 use Rattle.jump_code.proofs.Blocks.{scratch, gives_sum}
 use Rattle.jump_code.proofs.Swaps.{swap_first}
 
@@ -94,7 +94,7 @@ module _ (rs1 : ℕ) (op2 : Op2) (s : State) (h : IsAboutToKeep rs1 op2 s) where
       (ap code_of two.alike.memory ∙ two.code) two.pc (says_at code _ _ _ (omega arith) h.words.1.1.0)) in
       omega (arith, none, first, second, third)
 
-  keeps : KeepsLoad rs1 op2 s
+  keeps : KeepsLoad rs1 op2 s (length (keep_load rs1 op2))
   keeps = record {
     path = rw (works_same s 3 IsFirstWord 1 2 block 3 (kept_memory s rs1 op2) three (omega arith)) at three.path;
     silent = three.silent;

@@ -63,7 +63,7 @@ chosen_memory s = store_word (store_word s.memory (page_word 2) (register_of s 1
 pub record IsAboutToGo (distance : ℕ) (s : State) : Type 0 where
   pub valid : IsValid s
   pub ready : IsReady s
-  pub low : s.pc + 4 * 9 < 2 ^ 32 - 4
+  pub low : s.pc + 4 * length (choose distance) < 2 ^ 32 - 4
   pub words : StandIn (code_of s.memory) s.pc (choose distance)
   pub near : distance < 2 ^ 32
   pub page : HasPage 8 s.memory
@@ -73,7 +73,7 @@ pub record IsAboutToGo (distance : ℕ) (s : State) : Type 0 where
 abbrev pub ChoicesHop : Type 0
 ChoicesHop =
     (distance : ℕ) (s : State) → IsAboutToGo distance s
-    → Hops s 9 IsPageWord (chosen distance s) (chosen_memory s)
+    → Hops s (length (choose distance)) IsPageWord (chosen distance s) (chosen_memory s)
 
 -- ---- against the original's step
 

@@ -146,7 +146,7 @@ go_found x = i.Swap x 0 (of_page 7) ∷ i.Jmpl 0 x (Imm (pos 0)) ∷ i.Load load
 pub record IsAboutToGoOn (x : ℕ) (s : State) : Type 0 where
   pub valid : IsValid s
   pub ready : IsReady s
-  pub low : s.pc + 4 * 3 < 2 ^ 32 - 4
+  pub low : s.pc + 4 * length (go_found x) < 2 ^ 32 - 4
   pub some : 0 < x
   pub below : x < 32
   pub words : StandIn (code_of s.memory) s.pc (go_found x)
@@ -157,4 +157,4 @@ pub record IsAboutToGoOn (x : ℕ) (s : State) : Type 0 where
 abbrev pub FoundHops : Type 0
 FoundHops =
     (x : ℕ) (s : State) → IsAboutToGoOn x s
-    → Hops s 3 IsPageWord (found_there s) (store_word s.memory (page_word 7) (register_of s x))
+    → Hops s (length (go_found x)) IsPageWord (found_there s) (store_word s.memory (page_word 7) (register_of s x))

@@ -1,5 +1,5 @@
 -- What a JMPL and a CALL do at the original's address; the image of a CALL against that.
-use Rattle.std.specs.Prelude.{◌≡◌, ℕ, ◌+◌, Bool, None, ℤ}
+use Rattle.std.specs.Prelude.{◌≡◌, ℕ, ◌+◌, Bool, length, None, ℤ}
 use Rattle.v8_decode.specs.declared.Op2.{Op2}
 use Rattle.v8_decode.specs.declared.Instr.TheVariants as i
 use Rattle.v8_alu.specs.Numbers.{wrapped}
@@ -10,7 +10,7 @@ use Rattle.code_runs.specs.Counted.{count_stores}
 use Rattle.code_runs.specs.Leads.{Leads, IsSilent}
 use Rattle.code_runs.specs.Points.{moved}
 use Rattle.code_runs.specs.TwoRegisters.{IsBetween}
-use Rattle.jump_code.specs.Links.{past, IsAboutToCall}
+use Rattle.jump_code.specs.Links.{link, past, IsAboutToCall}
 use Rattle.jump_code.specs.PageWords.{IsPageWord}
 
 -- the original after its JMPL
@@ -23,13 +23,14 @@ called address disp30 s = act (moved address (wrapped (address + 4)) NoSlot s) (
 
 -- It goes on, and the image's words lead to their end, where the machine is the original but for the place. They store
 -- nothing.
-pub record CallComesToEnd (address : ℕ) (disp30 : ℤ) (s : State) : Type 0 where
+pub record CallComesToEnd (address : ℕ) (disp30 : ℤ) (s : State) (count : ℕ) : Type 0 where
   pub live : (called address disp30 s).ending ≡ None
-  pub path : Leads (IsBetween s 2 IsPageWord) s (past s 2 s.memory (called address disp30 s)) 2
-  pub silent : IsSilent s 2
+  pub path : Leads (IsBetween s count IsPageWord) s (past s count s.memory (called address disp30 s)) count
+  pub silent : IsSilent s count
   pub memory : (called address disp30 s).memory ≡ s.memory
-  pub stored : (counted : ℕ → Bool) → count_stores counted s 2 ≡ 0
+  pub stored : (counted : ℕ → Bool) → count_stores counted s count ≡ 0
 
 abbrev pub CallsSimulate : Type 0
 CallsSimulate =
-    (address : ℕ) (disp30 : ℤ) (s : State) → IsAboutToCall address s → CallComesToEnd address disp30 s
+    (address : ℕ) (disp30 : ℤ) (s : State) → IsAboutToCall address s
+    → CallComesToEnd address disp30 s (length (link 15 address))

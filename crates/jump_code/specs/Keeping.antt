@@ -1,5 +1,5 @@
 -- Before the load of a switch, the words that keep its address until the jump.
-use Rattle.std.specs.Prelude.{◌≡◌, ℕ, ◌+◌, ◌-◌, ◌*◌, ◌^◌, ◌<◌, Bool, false, List, [], ◌∷◌}
+use Rattle.std.specs.Prelude.{◌≡◌, ℕ, ◌+◌, ◌-◌, ◌*◌, ◌^◌, ◌<◌, Bool, false, List, [], ◌∷◌, length}
 use Rattle.v8_decode.specs.declared.Op2.{Op2}
 use Rattle.v8_decode.specs.declared.AluOp.TheVariants as ops
 use Rattle.v8_decode.specs.declared.Instr.{Instr}
@@ -32,7 +32,7 @@ keep_load rs1 op2 =
 pub record IsAboutToKeep (rs1 : ℕ) (op2 : Op2) (s : State) : Type 0 where
   pub valid : IsValid s
   pub ready : IsReady s
-  pub low : s.pc + 4 * 3 < 2 ^ 32 - 4
+  pub low : s.pc + 4 * length (keep_load rs1 op2) < 2 ^ 32 - 4
   pub words : StandIn (code_of s.memory) s.pc (keep_load rs1 op2)
   pub rs1_below : rs1 < 32
   pub op2_below : second_register op2 < 32
@@ -44,12 +44,13 @@ kept_memory s rs1 op2 =
     store_word (store_word s.memory (page_word 0) (register_of s 1)) (page_word 0) (sum_of s rs1 op2)
 
 -- All is as it was but word 0, which has the address. Nothing is stored anywhere else.
-pub record KeepsLoad (rs1 : ℕ) (op2 : Op2) (s : State) : Type 0 where
-  pub path : Leads (IsBetween s 3 IsFirstWord) s (past s 3 (kept_memory s rs1 op2) s) 3
-  pub silent : IsSilent s 3
+pub record KeepsLoad (rs1 : ℕ) (op2 : Op2) (s : State) (count : ℕ) : Type 0 where
+  pub path : Leads (IsBetween s count IsFirstWord) s (past s count (kept_memory s rs1 op2) s) count
+  pub silent : IsSilent s count
   pub stores : Stores IsFirstWord s.memory (kept_memory s rs1 op2)
   pub kept : memory_word (kept_memory s rs1 op2) (page_word 0) ≡ sum_of s rs1 op2
-  pub elsewhere : (counted : ℕ → Bool) → any_of_word counted (page_word 0) ≡ false → count_stores counted s 3 ≡ 0
+  pub elsewhere : (counted : ℕ → Bool) → any_of_word counted (page_word 0) ≡ false → count_stores counted s count ≡ 0
 
 abbrev pub LoadsAreKept : Type 0
-LoadsAreKept = (rs1 : ℕ) (op2 : Op2) (s : State) → IsAboutToKeep rs1 op2 s → KeepsLoad rs1 op2 s
+LoadsAreKept =
+    (rs1 : ℕ) (op2 : Op2) (s : State) → IsAboutToKeep rs1 op2 s → KeepsLoad rs1 op2 s (length (keep_load rs1 op2))

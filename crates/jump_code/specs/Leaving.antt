@@ -1,5 +1,5 @@
 -- Ways out of the text, to addresses of the original that stay what they are.
-use Rattle.std.specs.Prelude.{◌≡◌, ℕ, ◌+◌, ◌*◌, ◌-◌, ◌%◌, ◌^◌, ◌<◌, List, [], ◌∷◌, pos}
+use Rattle.std.specs.Prelude.{◌≡◌, ℕ, ◌+◌, ◌*◌, ◌-◌, ◌%◌, ◌^◌, ◌<◌, List, [], ◌∷◌, length, pos}
 use Rattle.v8_decode.specs.declared.Op2.TheVariants.{Imm}
 use Rattle.v8_decode.specs.declared.Instr.{Instr}
 use Rattle.v8_decode.specs.declared.Instr.TheVariants as i
@@ -28,7 +28,7 @@ foreign =
 pub record IsAboutToLeave (s : State) : Type 0 where
   pub valid : IsValid s
   pub ready : IsReady s
-  pub low : s.pc + 4 * 4 < 2 ^ 32 - 4
+  pub low : s.pc + 4 * length foreign < 2 ^ 32 - 4
   pub words : StandIn (code_of s.memory) s.pc foreign
   pub page : HasPage 3 s.memory
   pub aligned : waiting s % 4 ≡ 0
@@ -37,13 +37,13 @@ pub record IsAboutToLeave (s : State) : Type 0 where
 abbrev pub ForeignLeaves : Type 0
 ForeignLeaves =
     (s : State) → IsAboutToLeave s
-    → Hops s 4 IsPageWord (waiting s) (store_word s.memory (page_word 2) (register_of s 1))
+    → Hops s (length foreign) IsPageWord (waiting s) (store_word s.memory (page_word 2) (register_of s 1))
 
 -- An address outside the text that is known when the code is made: a long jump leads there.
 pub record IsAboutToGoFar (to : ℕ) (s : State) : Type 0 where
   pub valid : IsValid s
   pub ready : IsReady s
-  pub low : s.pc + 4 * 4 < 2 ^ 32 - 4
+  pub low : s.pc + 4 * length (long_jump to) < 2 ^ 32 - 4
   pub words : StandIn (code_of s.memory) s.pc (long_jump to)
   pub page : HasPage 1 s.memory
   pub short : to < 2 ^ 32
@@ -52,4 +52,4 @@ pub record IsAboutToGoFar (to : ℕ) (s : State) : Type 0 where
 abbrev pub FarGoes : Type 0
 FarGoes =
     (to : ℕ) (s : State) → IsAboutToGoFar to s
-    → Hops s 4 IsPageWord to (store_word s.memory (page_word 0) (register_of s 1))
+    → Hops s (length (long_jump to)) IsPageWord to (store_word s.memory (page_word 0) (register_of s 1))

@@ -1,5 +1,5 @@
 -- The link of a transfer: the address at which the original has it.
-use Rattle.std.specs.Prelude.{ℕ, zero, suc, ◌+◌, ◌*◌, ◌/◌, ◌%◌, ◌^◌, ◌<◌, ◌-◌, false, List, [], ◌∷◌, pos}
+use Rattle.std.specs.Prelude.{ℕ, zero, suc, ◌+◌, ◌*◌, ◌/◌, ◌%◌, ◌^◌, ◌<◌, ◌-◌, false, List, [], ◌∷◌, length, pos}
 use Rattle.v8_decode.specs.declared.Op2.TheVariants.{Imm}
 use Rattle.v8_decode.specs.declared.AluOp.TheVariants as ops
 use Rattle.v8_decode.specs.declared.Instr.{Instr}
@@ -31,11 +31,12 @@ past s count m v = record v { pc = s.pc + 4 * count; npc = s.pc + 4 * count + 4;
 pub record IsAboutToCall (address : ℕ) (s : State) : Type 0 where
   pub valid : IsValid s
   pub ready : IsReady s
-  pub low : s.pc + 4 * 2 < 2 ^ 32 - 4
+  pub low : s.pc + 4 * length (link 15 address) < 2 ^ 32 - 4
   pub words : StandIn (code_of s.memory) s.pc (link 15 address)
   pub short : address < 2 ^ 32
 
 abbrev pub CallsAct : Type 0
 CallsAct =
     (address : ℕ) (s : State) → IsAboutToCall address s
-    → Leads (IsBetween s 2 IsPageWord) s (past s 2 s.memory (with_register s 15 address)) 2 × IsSilent s 2
+    → let count = length (link 15 address) in
+    Leads (IsBetween s count IsPageWord) s (past s count s.memory (with_register s 15 address)) count × IsSilent s count

@@ -9,13 +9,11 @@ ghost use Rattle.jump_code.specs.Finding.{find_words, go_found};
 ghost use Rattle.jump_code.specs.Leaving.{foreign};
 ghost use Rattle.jump_code.specs.Links.{link};
 
-use crate::registers::register;
-use crate::single::{
-    add, add_low, exchange, high_half, high_part, jump_by, jump_past_g1, keep, take, take_at,
-    times_four,
-};
+use crate::single::{add, add_low, exchange, keep, take};
 use eel_base::Addr;
-use v8_decode::{Op2, Reg};
+use layout::long_jump_words;
+use v8_decode::{AluOp, Op2, Reg};
+use v8_encode::{jump, load, operation, register, sethi, words};
 
 /// The first words of a JMPL: they look its target up in the table of two levels at `table`, through two registers that
 /// it doesn't name.
@@ -24,21 +22,20 @@ pub fn find_code(x: Reg, y: Reg, rs1: Reg, op2: Op2, table: Addr) -> [u32; 12]
     ensures words { result ≡ words_of (find_words x y rs1 op2 table.0) }
     ensures decodes { map decode_of result ≡ find_words x y rs1 op2 table.0 }
 {
-    let sum = add(x, rs1, op2);
-    [
+    words(&[
         keep(x, 7),
         keep(y, 2),
-        sum,
+        add(x, rs1, &op2),
         keep(x, 1),
-        high_half(y, x),
-        times_four(y),
-        high_part(x, table.0),
-        take_at(y, x, y),
-        sum,
-        take_at(x, y, x),
+        operation(AluOp::SRL, y, x, Op2::Imm(16)),
+        operation(AluOp::SLL, y, y, Op2::Imm(2)),
+        sethi(x, table.0),
+        load(y, x, Op2::Reg(y)),
+        add(x, rs1, &op2),
+        load(x, y, Op2::Reg(x)),
         exchange(x, 7),
         take(y, 2),
-    ]
+    ])
 }
 
 /// The jump behind the copy of a slot's word to what was found.
@@ -46,7 +43,7 @@ pub fn found_code(x: Reg) -> [u32; 3]
     ensures words { result ≡ words_of (go_found x) }
     ensures decodes { map decode_of result ≡ go_found x }
 {
-    [exchange(x, 7), jump_by(x), take(x, 7)]
+    words(&[exchange(x, 7), jump(x, Op2::Imm(0)), take(x, 7)])
 }
 
 /// The link of a CALL or a JMPL that stands at an address. A JMPL whose rd is %g0 has none.
@@ -55,7 +52,7 @@ pub fn link_code(rd: Reg, address: Addr) -> [u32; 2]
     ensures words { result ≡ words_of (link rd address.0) }
     ensures decodes { map decode_of result ≡ link rd address.0 }
 {
-    [high_part(rd, address.0), add_low(rd, address.0)]
+    words(&[sethi(rd, address.0), add_low(rd, address.0)])
 }
 
 /// The link of a CALL.
@@ -71,12 +68,13 @@ pub fn foreign_code() -> [u32; 4]
     ensures words { result ≡ words_of foreign }
     ensures decodes { map decode_of result ≡ foreign }
 {
-    [
-        keep(register(1), 2),
-        take(register(1), 1),
-        jump_by(register(1)),
-        take(register(1), 2),
-    ]
+    let first = register(1);
+    words(&[
+        keep(first, 2),
+        take(first, 1),
+        jump(first, Op2::Imm(0)),
+        take(first, 2),
+    ])
 }
 
 /// A long jump to an address that is known.
@@ -84,10 +82,5 @@ pub fn far_code(to: Addr) -> [u32; 4]
     ensures words { result ≡ words_of (long_jump to.0) }
     ensures decodes { map decode_of result ≡ long_jump to.0 }
 {
-    [
-        keep(register(1), 0),
-        high_part(register(1), to.0),
-        jump_past_g1(to.0),
-        take(register(1), 0),
-    ]
+    long_jump_words(to.0)
 }

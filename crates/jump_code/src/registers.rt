@@ -4,17 +4,7 @@ ghost use Rattle.std.specs.Prelude.{◌≡◌, ◌<◌, ◌≢◌};
 ghost use Rattle.jump_code.specs.FreeRegister.{IsApart, first_free as first_free_of, free_register as free_register_of, is_one_of as is_one_of_these, is_one_of_four as is_one_of_four_of, next_free as next_free_of, other_register as other_register_of, second_register as second_register_of};
 
 use v8_decode::{Op2, Reg};
-
-/// The register with this number.
-pub fn register(number: u8) -> Reg
-    requires range { number < 32 }
-    ensures { result ≡ number }
-{
-    match Reg::new(number) {
-        Some(reg) => reg,
-        None => unreachable!(),
-    }
-}
+use v8_encode::register;
 
 // The register that the second operand names; %g0 where it names none.
 fn second_register(op2: &Op2) -> u8

@@ -7,9 +7,9 @@ ghost use Rattle.layout.specs.Emitting.{words_of};
 ghost use Rattle.jump_code.specs.Choosing.{choose};
 ghost use Rattle.jump_code.specs.Keeping.{keep_load};
 
-use crate::registers::register;
-use crate::single::{add, add_low, exchange, high_part, jump_by, keep, take, take_at};
+use crate::single::{add, add_low, exchange, keep, take};
 use v8_decode::{Op2, Reg};
+use v8_encode::{jump, load, register, sethi, words};
 
 /// The words before a load with these operands, whose address they keep.
 pub fn keep_load_code(rs1: Reg, op2: Op2) -> [u32; 3]
@@ -18,7 +18,7 @@ pub fn keep_load_code(rs1: Reg, op2: Op2) -> [u32; 3]
     ensures decodes { map decode_of result ≡ keep_load rs1 op2 }
 {
     let g1 = register(1);
-    [keep(g1, 0), add(g1, rs1, op2), exchange(g1, 0)]
+    words(&[keep(g1, 0), add(g1, rs1, &op2), exchange(g1, 0)])
 }
 
 /// The words of a switch's JMPL, behind its link. From the address that was kept it is so far, modulo 2^32, to the word
@@ -29,15 +29,15 @@ pub fn choose_code(distance: u32) -> [u32; 9]
 {
     let g1 = register(1);
     let g2 = register(2);
-    [
+    words(&[
         keep(g1, 2),
         keep(g2, 7),
         take(g1, 0),
-        high_part(g2, distance),
+        sethi(g2, distance),
         add_low(g2, distance),
-        take_at(g1, g1, g2),
+        load(g1, g1, Op2::Reg(g2)),
         take(g2, 7),
-        jump_by(g1),
+        jump(g1, Op2::Imm(0)),
         take(g1, 2),
-    ]
+    ])
 }

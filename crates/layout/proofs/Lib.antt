@@ -1,6 +1,5 @@
 pub mod Assembled
 pub mod Emitted
-pub mod Encoding
 pub mod Going
 pub mod Laying
 pub mod Listed

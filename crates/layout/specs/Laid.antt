@@ -115,14 +115,15 @@ pub data JumpStands (base : ℕ) (code : List ℕ) (to a b : ℕ) : Type 0 where
   jump_nothing : a ≡ to → b ≡ a → JumpStands base code to a b
   jump_short : (disp22 : ℤ) → b ≡ a + 4 → Reaches a to disp22 → SaysFrom base code a (i.Branch 8 true disp22 ∷ [])
       → JumpStands base code to a b
-  jump_long : b ≡ a + 16 → SaysFrom base code a (long_jump to) → JumpStands base code to a b
+  jump_long : b ≡ a + 4 * length (long_jump to) → SaysFrom base code a (long_jump to) → JumpStands base code to a b
 
 -- A Branch takes two words, the second a nop that is annulled where the branch isn't taken, or six: past a long jump on
 -- the opposite condition.
 pub data BranchStands (base : ℕ) (code : List ℕ) (cond to a b : ℕ) : Type 0 where
   branch_short : (disp22 : ℤ) → b ≡ a + 8 → Reaches a to disp22
       → SaysFrom base code a (i.Branch cond true disp22 ∷ nop ∷ []) → BranchStands base code cond to a b
-  branch_long : b ≡ a + 24 → SaysFrom base code a (i.Branch (opposite cond) false (pos 6) ∷ nop ∷ [])
+  branch_long : b ≡ a + 4 * (2 + length (long_jump to))
+      → SaysFrom base code a (i.Branch (opposite cond) false (pos 6) ∷ nop ∷ [])
       → SaysFrom base code (a + 8) (long_jump to)
       → BranchStands base code cond to a b
 
@@ -232,8 +233,8 @@ Lays Forms pieces base p = (place : ℕ → ℕ → ℕ) × IsLaid pieces base p
 -- how many words an item takes in its long form
 abbrev pub long_words : Item → ℕ
 long_words (it.Word word) = 1
-long_words (it.Jump to) = 4
-long_words (it.Branch cond to) = 6
+long_words (it.Jump to) = length (long_jump 0)
+long_words (it.Branch cond to) = 2 + length (long_jump 0)
 long_words (it.Mark address node) = 0
 long_words it.EndMark = 0
 

@@ -17,6 +17,7 @@ mod words;
 
 pub use items::{Item, LayoutFault, Piece, Placed};
 pub use placing::place;
+pub use words::long_jump_words;
 
 /// All compact layouts of the same pieces need the same number of bytes.
 pub fn needed_once()

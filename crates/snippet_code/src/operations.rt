@@ -11,13 +11,14 @@ ghost use Rattle.snippet_code.specs.Words as code;
 ghost use Rattle.snippet_code.specs.Spills as spilling;
 
 use crate::single::{
-    add_carry, add_low, add_one, compare, high, load_low, load_next, next_if_greater, of_two,
-    store_low, store_next, with_number, zero,
+    add_carry, add_low, add_one, compare, load_low, load_next, next_if_greater, of_two, store_low,
+    store_next, with_number,
 };
 use eel_base::Addr;
 use snippets::Op;
 use std::alloc::AllocError;
 use v8_decode::{AluOp, Reg};
+use v8_encode::{register, sethi, words as words_of};
 
 /// In how many registers an operation works.
 pub fn op_registers(codes_dead: bool, op: &Op) -> u8
@@ -66,20 +67,20 @@ fn add(words: &mut Vec<u32>, address: u32, regs: &[Reg], amount: u32) -> Result<
         ++ map word_of (code.add_words address (slice_index regs.now) amount)) }
 {
     match small(amount) {
-        Some(number) => words.extend_from_slice(&[
-            high(address, regs[0]),
+        Some(number) => words.extend_from_slice(&words_of(&[
+            sethi(regs[0], address),
             load_low(address, regs[0], regs[1]),
             with_number(AluOp::ADD, regs[1], number, regs[1]),
             store_low(address, regs[0], regs[1]),
-        ]),
-        None => words.extend_from_slice(&[
-            high(address, regs[0]),
+        ])),
+        None => words.extend_from_slice(&words_of(&[
+            sethi(regs[0], address),
             load_low(address, regs[0], regs[1]),
-            high(amount, regs[2]),
+            sethi(regs[2], amount),
             add_low(amount, regs[2]),
             of_two(AluOp::ADD, regs[1], regs[2], regs[1]),
             store_low(address, regs[0], regs[1]),
-        ]),
+        ])),
     }
 }
 
@@ -90,39 +91,35 @@ fn put(words: &mut Vec<u32>, address: u32, regs: &[Reg], value: u32) -> Result<(
         ++ map word_of (code.put_words address (slice_index regs.now) value)) }
 {
     if value == 0 {
-        words.extend_from_slice(&[high(address, regs[0]), store_low(address, regs[0], zero())])
+        words.extend_from_slice(&words_of(&[
+            sethi(regs[0], address),
+            store_low(address, regs[0], register(0)),
+        ]))
     } else {
-        words.extend_from_slice(&[
-            high(address, regs[0]),
-            high(value, regs[1]),
+        words.extend_from_slice(&words_of(&[
+            sethi(regs[0], address),
+            sethi(regs[1], value),
             add_low(value, regs[1]),
             store_low(address, regs[0], regs[1]),
-        ])
+        ]))
     }
 }
 
 // A register is stored.
-fn keep(words: &mut Vec<u32>, address: u32, regs: &[Reg], reg: Reg) -> Result<(), AllocError>
+fn keep(address: u32, regs: &[Reg], reg: Reg) -> [u32; 2]
     requires room { 1 ≤ length regs.now }
-    ensures { OnOk result (words.new.items ≡ words.old.items
-        ++ map word_of (code.keep_words address (slice_index regs.now) reg)) }
+    ensures { result ≡ map word_of (code.keep_words address (slice_index regs.now) reg) }
 {
-    words.extend_from_slice(&[high(address, regs[0]), store_low(address, regs[0], reg)])
+    words_of(&[sethi(regs[0], address), store_low(address, regs[0], reg)])
 }
 
 // A register is stored where it is greater, and the codes change.
-fn top_by_codes(
-    words: &mut Vec<u32>,
-    address: u32,
-    regs: &[Reg],
-    reg: Reg,
-) -> Result<(), AllocError>
+fn top_by_codes(address: u32, regs: &[Reg], reg: Reg) -> [u32; 5]
     requires room { 2 ≤ length regs.now }
-    ensures { OnOk result (words.new.items ≡ words.old.items
-        ++ map word_of (code.top_words address true (slice_index regs.now) reg)) }
+    ensures { result ≡ map word_of (code.top_words address true (slice_index regs.now) reg) }
 {
-    words.extend_from_slice(&[
-        high(address, regs[0]),
+    words_of(&[
+        sethi(regs[0], address),
         load_low(address, regs[0], regs[1]),
         compare(reg, regs[1]),
         next_if_greater(),
@@ -131,20 +128,14 @@ fn top_by_codes(
 }
 
 // A register is stored where it is greater, without the codes: by the borrow of the difference.
-fn top_by_borrow(
-    words: &mut Vec<u32>,
-    address: u32,
-    regs: &[Reg],
-    reg: Reg,
-) -> Result<(), AllocError>
+fn top_by_borrow(address: u32, regs: &[Reg], reg: Reg) -> [u32; 11]
     requires room { 5 ≤ length regs.now }
-    ensures { OnOk result (words.new.items ≡ words.old.items
-        ++ map word_of (code.top_words address false (slice_index regs.now) reg)) }
+    ensures { result ≡ map word_of (code.top_words address false (slice_index regs.now) reg) }
 {
     let (page, old) = (regs[0], regs[1]);
     let (difference, borrow, either) = (regs[2], regs[3], regs[4]);
-    words.extend_from_slice(&[
-        high(address, page),
+    words_of(&[
+        sethi(page, address),
         load_low(address, page, old),
         of_two(AluOp::SUB, old, reg, difference),
         of_two(AluOp::ORN, reg, old, borrow),
@@ -171,21 +162,20 @@ fn top(
         ++ map word_of (code.top_words address codes_dead (slice_index regs.now) reg)) }
 {
     if codes_dead {
-        top_by_codes(words, address, regs, reg)
+        words.extend_from_slice(&top_by_codes(address, regs, reg))
     } else {
-        top_by_borrow(words, address, regs, reg)
+        words.extend_from_slice(&top_by_borrow(address, regs, reg))
     }
 }
 
 // A counter of two words is raised, and the codes change.
-fn count_by_codes(words: &mut Vec<u32>, address: u32, regs: &[Reg]) -> Result<(), AllocError>
+fn count_by_codes(address: u32, regs: &[Reg]) -> [u32; 7]
     requires room { 2 ≤ length regs.now }
-    ensures { OnOk result (words.new.items ≡ words.old.items
-        ++ map word_of (code.count_words address true (slice_index regs.now))) }
+    ensures { result ≡ map word_of (code.count_words address true (slice_index regs.now)) }
 {
     let (page, word) = (regs[0], regs[1]);
-    words.extend_from_slice(&[
-        high(address, page),
+    words_of(&[
+        sethi(page, address),
         load_next(address, page, word),
         add_one(word),
         store_next(address, page, word),
@@ -196,14 +186,13 @@ fn count_by_codes(words: &mut Vec<u32>, address: u32, regs: &[Reg]) -> Result<()
 }
 
 // A counter of two words is raised without the codes: by bit 31 of the old low word and not the new one.
-fn count_by_bits(words: &mut Vec<u32>, address: u32, regs: &[Reg]) -> Result<(), AllocError>
+fn count_by_bits(address: u32, regs: &[Reg]) -> [u32; 9]
     requires room { 3 ≤ length regs.now }
-    ensures { OnOk result (words.new.items ≡ words.old.items
-        ++ map word_of (code.count_words address false (slice_index regs.now))) }
+    ensures { result ≡ map word_of (code.count_words address false (slice_index regs.now)) }
 {
     let (page, old, new) = (regs[0], regs[1], regs[2]);
-    words.extend_from_slice(&[
-        high(address, page),
+    words_of(&[
+        sethi(page, address),
         load_next(address, page, old),
         with_number(AluOp::ADD, old, 1, new),
         store_next(address, page, new),
@@ -227,35 +216,28 @@ fn count(
         ++ map word_of (code.count_words address codes_dead (slice_index regs.now))) }
 {
     if codes_dead {
-        count_by_codes(words, address, regs)
+        words.extend_from_slice(&count_by_codes(address, regs))
     } else {
-        count_by_bits(words, address, regs)
+        words.extend_from_slice(&count_by_bits(address, regs))
     }
 }
 
 // A value goes to the next place of a ring.
-fn log(
-    words: &mut Vec<u32>,
-    address: u32,
-    regs: &[Reg],
-    bits: u32,
-    value: u32,
-) -> Result<(), AllocError>
+fn log(address: u32, regs: &[Reg], bits: u32, value: u32) -> [u32; 10]
     requires room { 3 ≤ length regs.now }
     requires bits { bits ≤ 16 }
-    ensures { OnOk result (words.new.items ≡ words.old.items
-        ++ map word_of (code.log_words address (slice_index regs.now) bits value)) }
+    ensures { result ≡ map word_of (code.log_words address (slice_index regs.now) bits value) }
 {
     let (page, next, place) = (regs[0], regs[1], regs[2]);
-    words.extend_from_slice(&[
-        high(address, page),
+    words_of(&[
+        sethi(page, address),
         load_low(address, page, next),
         with_number(AluOp::SLL, next, (32 - bits) as i32, place),
         with_number(AluOp::SRL, place, (30 - bits) as i32, place),
         of_two(AluOp::ADD, page, place, place),
         with_number(AluOp::ADD, next, 1, next),
         store_low(address, page, next),
-        high(value, next),
+        sethi(next, value),
         add_low(value, next),
         store_next(address, place, next),
     ])
@@ -288,20 +270,16 @@ fn push_op(
         Op::Put { cell, value } => put(words, cell_address(cells, *cell), regs, *value),
         Op::Keep { cell, reg } => {
             prove!(reg.number() < 32);
-            keep(words, cell_address(cells, *cell), regs, *reg)
+            words.extend_from_slice(&keep(cell_address(cells, *cell), regs, *reg))
         }
         Op::Top { cell, reg } => {
             prove!(reg.number() < 32);
             top(words, cell_address(cells, *cell), codes_dead, regs, *reg)
         }
         Op::Count { cell } => count(words, cell_address(cells, *cell), codes_dead, regs),
-        Op::Log { cell, bits, value } => log(
-            words,
-            cell_address(cells, *cell),
-            regs,
-            *bits,
-            *value,
-        ),
+        Op::Log { cell, bits, value } => {
+            words.extend_from_slice(&log(cell_address(cells, *cell), regs, *bits, *value))
+        }
     }
 }
 

@@ -1,177 +1,102 @@
-//! The words of single instructions.
+//! Single instructions, and the words that spill a register.
 
-ghost use Rattle.std.specs.Prelude.{◌≡◌, ◌+◌, ◌<◌, IsTrue, false, if◌then◌else◌, Some, None};
-ghost use Rattle.v8_decode.specs.declared.Op2.TheVariants as o;
+ghost use Rattle.std.specs.Prelude.{◌≡◌, ◌+◌, ◌<◌, true};
 ghost use Rattle.v8_decode.specs.declared.Instr.TheVariants as i;
-ghost use Rattle.v8_decode.specs.declared.AluOp.TheVariants as ops;
-ghost use Rattle.v8_decode.specs.Forms.{has_form};
-ghost use Rattle.v8_encode.specs.Code.{fits_signed, has_word, op2_fits};
-ghost use Rattle.v8_encode.specs.Encoding.{word_of as word_in};
+ghost use Rattle.v8_encode.specs.Encoding.{word_of};
 ghost use Rattle.code_runs.specs.Code.{of_page};
 ghost use Rattle.snippet_code.specs.Words as words;
 
-use v8_decode::{AluOp, Cond, Instr, LoadKind, Op2, Reg, StoreKind};
-use v8_encode::encode;
-
-// The word of an instruction that has one.
-#[tactic(auto, unfolding(v8_encode::specs::Code::encode_of))]
-fn word_of(instr: Instr) -> u32
-    requires { IsTrue (has_word instr) }
-    ensures { result ≡ word_in instr }
-{
-    match encode(instr) {
-        Some(word) => word,
-        None => unreachable!(),
-    }
-}
-
-/// %g0.
-pub fn zero() -> Reg
-    ensures { result ≡ 0 }
-{
-    match Reg::new(0) {
-        Some(zero) => zero,
-        None => unreachable!(),
-    }
-}
-
-/// The upper bits of a number.
-pub fn high(number: u32, rd: Reg) -> u32
-    ensures { result ≡ word_in (words.high number rd) }
-{
-    word_of(Instr::Sethi {
-        rd,
-        imm22: number / 1024,
-    })
-}
+use v8_decode::{AluOp, Instr, Op2, Reg};
+use v8_encode::{branch, condition, load, operation, register, store, word};
 
 /// Loads the word at an address whose upper bits a register has.
-pub fn load_low(address: u32, base: Reg, rd: Reg) -> u32
-    ensures { result ≡ word_in (words.load_low address base rd) }
+pub fn load_low(address: u32, base: Reg, rd: Reg) -> Instr
+    ensures { result ≡ words.load_low address base rd }
 {
-    word_of(Instr::Load {
-        kind: LoadKind::LD,
-        rd,
-        rs1: base,
-        op2: Op2::Imm((address % 1024) as i32),
-    })
+    load(rd, base, Op2::Imm((address % 1024) as i32))
 }
 
 /// Stores a register there.
-pub fn store_low(address: u32, base: Reg, rd: Reg) -> u32
-    ensures { result ≡ word_in (words.store_low address base rd) }
+pub fn store_low(address: u32, base: Reg, rd: Reg) -> Instr
+    ensures { result ≡ words.store_low address base rd }
 {
-    word_of(Instr::Store {
-        kind: StoreKind::ST,
-        rd,
-        rs1: base,
-        op2: Op2::Imm((address % 1024) as i32),
-    })
+    store(rd, base, Op2::Imm((address % 1024) as i32))
 }
 
 /// Loads the word behind it.
-pub fn load_next(address: u32, base: Reg, rd: Reg) -> u32
-    ensures { result ≡ word_in (words.load_next address base rd) }
+pub fn load_next(address: u32, base: Reg, rd: Reg) -> Instr
+    ensures { result ≡ words.load_next address base rd }
 {
-    word_of(Instr::Load {
-        kind: LoadKind::LD,
-        rd,
-        rs1: base,
-        op2: Op2::Imm((address % 1024) as i32 + 4),
-    })
+    load(rd, base, Op2::Imm((address % 1024) as i32 + 4))
 }
 
 /// Stores a register there.
-pub fn store_next(address: u32, base: Reg, rd: Reg) -> u32
-    ensures { result ≡ word_in (words.store_next address base rd) }
+pub fn store_next(address: u32, base: Reg, rd: Reg) -> Instr
+    ensures { result ≡ words.store_next address base rd }
 {
-    word_of(Instr::Store {
-        kind: StoreKind::ST,
-        rd,
-        rs1: base,
-        op2: Op2::Imm((address % 1024) as i32 + 4),
-    })
-}
-
-// An operation, which sets the codes or leaves them.
-fn operation(op: AluOp, cc: bool, rd: Reg, rs1: Reg, op2: Op2) -> u32
-    requires form { IsTrue (has_form op cc) }
-    requires fits { IsTrue (op2_fits op2) }
-    ensures { result ≡ word_in (i.Alu op cc rd rs1 op2) }
-{
-    word_of(Instr::Alu {
-        op,
-        cc,
-        rd,
-        rs1,
-        op2,
-    })
+    store(rd, base, Op2::Imm((address % 1024) as i32 + 4))
 }
 
 /// An operation on two registers.
-pub fn of_two(op: AluOp, rs1: Reg, rs2: Reg, rd: Reg) -> u32
-    requires form { IsTrue (has_form op false) }
-    ensures { result ≡ word_in (words.of_two op rs1 rs2 rd) }
+pub fn of_two(op: AluOp, rs1: Reg, rs2: Reg, rd: Reg) -> Instr
+    ensures { result ≡ words.of_two op rs1 rs2 rd }
 {
-    operation(op, false, rd, rs1, Op2::Reg(rs2))
+    operation(op, rd, rs1, Op2::Reg(rs2))
 }
 
 /// An operation on a register and a number.
-pub fn with_number(op: AluOp, rs1: Reg, number: i32, rd: Reg) -> u32
-    requires form { IsTrue (has_form op false) }
-    requires fits { IsTrue (fits_signed 13 number) }
-    ensures { result ≡ word_in (words.with_number op rs1 number rd) }
+pub fn with_number(op: AluOp, rs1: Reg, number: i32, rd: Reg) -> Instr
+    ensures { result ≡ words.with_number op rs1 number rd }
 {
-    operation(op, false, rd, rs1, Op2::Imm(number))
+    operation(op, rd, rs1, Op2::Imm(number))
 }
 
 /// Adds the low bits of a number.
-pub fn add_low(number: u32, rd: Reg) -> u32
-    ensures { result ≡ word_in (words.add_low number rd) }
+pub fn add_low(number: u32, rd: Reg) -> Instr
+    ensures { result ≡ words.add_low number rd }
 {
-    operation(AluOp::ADD, false, rd, rd, Op2::Imm((number % 1024) as i32))
+    with_number(AluOp::ADD, rd, (number % 1024) as i32, rd)
 }
 
-/// Adds 1, and sets the codes.
-pub fn add_one(rd: Reg) -> u32
-    ensures { result ≡ word_in (words.add_one rd) }
+// An operation that sets the codes.
+fn with_codes(op: AluOp, rd: Reg, rs1: Reg, op2: Op2) -> Instr
+    ensures { result ≡ i.Alu op true rd rs1 op2 }
 {
-    operation(AluOp::ADD, true, rd, rd, Op2::Imm(1))
-}
-
-/// Adds the carry that the codes have.
-pub fn add_carry(rd: Reg) -> u32
-    ensures { result ≡ word_in (words.add_carry rd) }
-{
-    operation(AluOp::ADDX, false, rd, rd, Op2::Imm(0))
-}
-
-/// Compares two registers.
-pub fn compare(rs1: Reg, rs2: Reg) -> u32
-    ensures { result ≡ word_in (words.compare rs1 rs2) }
-{
-    operation(AluOp::SUB, true, zero(), rs1, Op2::Reg(rs2))
-}
-
-// Greater, of numbers without a sign.
-fn greater() -> Cond
-    ensures { result ≡ 12 }
-{
-    match Cond::new(12) {
-        Some(cond) => cond,
-        None => unreachable!(),
+    Instr::Alu {
+        op,
+        cc: true,
+        rd,
+        rs1,
+        op2,
     }
 }
 
-/// Does the next word where it was greater, and goes on behind it.
-pub fn next_if_greater() -> u32
-    ensures { result ≡ word_in words.next_if_greater }
+/// Adds 1, and sets the codes.
+pub fn add_one(rd: Reg) -> Instr
+    ensures { result ≡ words.add_one rd }
 {
-    word_of(Instr::Branch {
-        cond: greater(),
-        annul: true,
-        disp22: 2,
-    })
+    with_codes(AluOp::ADD, rd, rd, Op2::Imm(1))
+}
+
+/// Adds the carry that the codes have.
+pub fn add_carry(rd: Reg) -> Instr
+    ensures { result ≡ words.add_carry rd }
+{
+    with_number(AluOp::ADDX, rd, 0, rd)
+}
+
+/// Compares two registers.
+pub fn compare(rs1: Reg, rs2: Reg) -> Instr
+    ensures { result ≡ words.compare rs1 rs2 }
+{
+    with_codes(AluOp::SUB, register(0), rs1, Op2::Reg(rs2))
+}
+
+/// Does the next word where it was greater, without signs, and goes on behind it.
+pub fn next_if_greater() -> Instr
+    ensures { result ≡ words.next_if_greater }
+{
+    branch(condition(12), true, 2)
 }
 
 // The words of the editor's page in which registers are kept, from %g0.
@@ -185,25 +110,15 @@ fn kept(n: usize) -> Op2
 /// A register goes into the editor's page.
 pub fn save(n: usize, reg: Reg) -> u32
     requires few { n < 5 }
-    ensures { result ≡ word_in (words.save n reg) }
+    ensures { result ≡ word_of (words.save n reg) }
 {
-    word_of(Instr::Store {
-        kind: StoreKind::ST,
-        rd: reg,
-        rs1: zero(),
-        op2: kept(n),
-    })
+    word(store(reg, register(0), kept(n)))
 }
 
 /// A register comes out of the editor's page.
 pub fn restore(n: usize, reg: Reg) -> u32
     requires few { n < 5 }
-    ensures { result ≡ word_in (words.restore n reg) }
+    ensures { result ≡ word_of (words.restore n reg) }
 {
-    word_of(Instr::Load {
-        kind: LoadKind::LD,
-        rd: reg,
-        rs1: zero(),
-        op2: kept(n),
-    })
+    word(load(reg, register(0), kept(n)))
 }

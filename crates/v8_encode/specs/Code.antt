@@ -1,5 +1,5 @@
 -- What contracts of this crate's code and laws cite beyond the statement.
-use Rattle.std.specs.Prelude.{ℕ, ◌-◌, ◌^◌, Bool, ℤ, pos, negsuc, nat_lt, true, false, ◌&&◌, Option, Some, None, if◌then◌else◌, List, [], ◌∷◌, ◌*◌, ◌≡◌, ◌<◌, IsTrue}
+use Rattle.std.specs.Prelude.{ℕ, ◌-◌, ◌^◌, Bool, ℤ, pos, negsuc, nat_lt, true, false, ◌&&◌, Option, Some, None, if◌then◌else◌, List, [], ◌∷◌, ◌*◌, ◌≡◌, ◌<◌, IsTrue, map}
 use Rattle.v8_decode.specs.declared.Op2.{Op2}
 use Rattle.v8_decode.specs.declared.Op2.TheVariants as o
 use Rattle.v8_decode.specs.declared.Instr.{Instr}
@@ -41,6 +41,9 @@ has_word i.Illegal = false
 has_word i.Privileged = false
 has_word i.FpOff = false
 has_word i.CpOff = false
+
+abbrev pub words_of : List Instr → List ℕ
+words_of instrs = map word_of instrs
 
 unfoldable pub encode_of : Instr → Option ℕ
 encode_of instr = if has_word instr then Some (word_of instr) else None

@@ -11,6 +11,12 @@ ghost use Rattle.v8_encode.specs.Code.{cleared, EncodesAgain, encode_of, fits_si
 
 use v8_decode::{AluOp, Cond, Instr, LoadKind, Op2, Reg, StoreKind};
 
+mod instrs;
+
+pub use instrs::{
+    branch, condition, jump, load, nop, operation, register, sethi, store, word, words,
+};
+
 // A word's bits so far, and after them a field of `width` bits.
 #[inline]
 fn followed(high: u32, width: u32, field: u32) -> u32
@@ -45,7 +51,7 @@ fn field_of(width: u32, value: i32) -> Option<u32>
 
 // A register's number as a field of five bits.
 #[inline]
-fn register(r: Reg) -> u32
+fn register_field(r: Reg) -> u32
     ensures value { result ≡ r }
     ensures range { r < 32 }
 {
@@ -59,7 +65,7 @@ fn op2_bits(op2: Op2) -> Option<u32>
     ensures register { op2_in_range op2 ≡ true }
 {
     match op2 {
-        Op2::Reg(rs2) => Some(register(rs2)),
+        Op2::Reg(rs2) => Some(register_field(rs2)),
         Op2::Imm(simm13) => Some(followed(1, 13, field_of(13, simm13)?)),
     }
 }
@@ -88,7 +94,7 @@ fn format3_word(op: u32, rd: u32, op3: u32, rs1: Reg, op2: Op2) -> Option<u32>
     ensures value { result ≡ (if op2_fits op2 then Some (format3 op rd op3 rs1 op2) else None) }
     ensures operands { operands_in_range rs1 op2 ≡ true }
 {
-    let rs1 = register(rs1);
+    let rs1 = register_field(rs1);
     Some(format3_bits(op, rd, op3, rs1, op2_bits(op2)?))
 }
 
@@ -213,7 +219,7 @@ fn word_for(i: Instr) -> Option<u32>
 {
     match i {
         Instr::Sethi { rd, imm22 } => if imm22 < 1 << 22 {
-            Some(format2_word(register(rd), 4, imm22))
+            Some(format2_word(register_field(rd), 4, imm22))
         } else {
             None
         },
@@ -229,19 +235,19 @@ fn word_for(i: Instr) -> Option<u32>
             rd,
             rs1,
             op2,
-        } => alu_word(op, cc, register(rd), rs1, op2),
-        Instr::ReadY { rd } => Some(format3_bits(2, register(rd), 0x28, 0, 0)),
+        } => alu_word(op, cc, register_field(rd), rs1, op2),
+        Instr::ReadY { rd } => Some(format3_bits(2, register_field(rd), 0x28, 0, 0)),
         Instr::WriteY { rs1, op2 } => format3_word(2, 0, 0x30, rs1, op2),
-        Instr::Jmpl { rd, rs1, op2 } => format3_word(2, register(rd), 0x38, rs1, op2),
+        Instr::Jmpl { rd, rs1, op2 } => format3_word(2, register_field(rd), 0x38, rs1, op2),
         Instr::Ticc { cond, rs1, op2 } => format3_word(2, cond.number() as u32, 0x3a, rs1, op2),
         Instr::Flush { rs1, op2 } => format3_word(2, 0, 0x3b, rs1, op2),
         Instr::Stbar => Some(format3_bits(2, 0, 0x28, 15, 0)),
-        Instr::Save { rd, rs1, op2 } => format3_word(2, register(rd), 0x3c, rs1, op2),
-        Instr::Restore { rd, rs1, op2 } => format3_word(2, register(rd), 0x3d, rs1, op2),
-        Instr::Load { kind, rd, rs1, op2 } => load_word(kind, register(rd), rs1, op2),
-        Instr::Store { kind, rd, rs1, op2 } => store_word(kind, register(rd), rs1, op2),
-        Instr::Ldstub { rd, rs1, op2 } => format3_word(3, register(rd), 0x0d, rs1, op2),
-        Instr::Swap { rd, rs1, op2 } => format3_word(3, register(rd), 0x0f, rs1, op2),
+        Instr::Save { rd, rs1, op2 } => format3_word(2, register_field(rd), 0x3c, rs1, op2),
+        Instr::Restore { rd, rs1, op2 } => format3_word(2, register_field(rd), 0x3d, rs1, op2),
+        Instr::Load { kind, rd, rs1, op2 } => load_word(kind, register_field(rd), rs1, op2),
+        Instr::Store { kind, rd, rs1, op2 } => store_word(kind, register_field(rd), rs1, op2),
+        Instr::Ldstub { rd, rs1, op2 } => format3_word(3, register_field(rd), 0x0d, rs1, op2),
+        Instr::Swap { rd, rs1, op2 } => format3_word(3, register_field(rd), 0x0f, rs1, op2),
         Instr::Illegal => None,
         Instr::Privileged => None,
         Instr::FpOff => None,
