@@ -1,5 +1,5 @@
 //! The command `demo`.
-ghost use Rattle.std.specs.Prelude.{◌≡◌, ◌≢◌, ◌≤◌, ◌<◌, ◌++◌, ◌^◌, ℕ, [], IfOk, OnOk, None, Some, length};
+ghost use Rattle.std.specs.Prelude.{◌≡◌, ◌≢◌, ◌≤◌, ◌<◌, ◌++◌, ◌^◌, ℕ, [], IfErr, IfOk, OnOk, None, Some, length};
 ghost use Rattle.elf32_sparc.specs.FileFault.{fault, load_fault};
 ghost use Rattle.cfg_view.specs.View.{view_of as view_of_file};
 ghost use Rattle.cfg_view.specs.Code.{view_seen, IsView};
@@ -20,12 +20,13 @@ ghost use Rattle.eel_said.specs.Code.{outcome_seen};
 ghost use Rattle.eel_said.specs.Seen.{stream_seen};
 ghost use Rattle.eel_said.specs.Shared.{Feed, Store, outside};
 ghost use Rattle.eel.specs.Answers.Dump.{IsNoted};
-ghost use Rattle.eel.specs.Private.{IsProfileOf, guessed};
+ghost use Rattle.eel.specs.Private.{IsProfileOf, ProfileRefuses, guessed};
 ghost use Rattle.eel.specs.Answers.Demo.{EndsAlone, IsTold, TellOf, Tells, alone, demo_lines as demo_lines_of, ending_line, executions_line, name_line, size_in, size_line, walk_alone};
 ghost use Rattle.eel.specs.Tame.{EndsWithin, IsLastDump, IsNotedFile, IsTame};
 
 use crate::dumps::dump_of;
-use crate::profile::profiled_view;
+use crate::edge_work::{EdgeWork, edit_by};
+use crate::profile::heaviest_tree;
 use crate::texts::print;
 use cfg_view::{View, look};
 use count_rebuild::{CountFault, rebuild};
@@ -164,10 +165,29 @@ fn profile(alloc: Global, original: &[u8], view: &View) -> Result<Vec<u8>, NoMem
     requires whole { IsView view.now }
     ensures { IfOk result (λ written. IsProfileOf (guessed original.now) original.now written.items) }
 {
-    match profiled_view(alloc, original, view, Vec::new(alloc)) {
+    match profiled(alloc, original, view) {
         Ok(written) => Ok(written),
         Err(fault) => Err(wanting(fault)),
     }
+}
+
+/// The edit of a file with counters on the edges off a spanning tree of its graph.
+fn profiled(alloc: Global, bytes: &[u8], view: &View) -> Result<Vec<u8>, EditFault>
+    requires limit { length bytes.now ≤ 2 ^ 26 }
+    requires sound { fault bytes.now ≡ None }
+    requires view { view_seen view.now ≡ view_of_file bytes.now [] }
+    requires whole { IsView view.now }
+    ensures profile { IfOk result (λ file. IsProfileOf (guessed bytes.now) bytes.now file.items) }
+    ensures refused { IfErr result (ProfileRefuses (guessed bytes.now) bytes.now) }
+{
+    let tree = heaviest_tree(alloc, view)?;
+    edit_by(
+        alloc,
+        bytes,
+        view,
+        Vec::new(alloc),
+        EdgeWork::Counters(tree),
+    )
 }
 
 /// Want of memory, where an edit fails for nothing else.

@@ -5,6 +5,7 @@
 mod counts;
 mod demo;
 mod dumps;
+mod edge_work;
 mod edit;
 mod every;
 mod inputs;
@@ -15,13 +16,12 @@ mod program;
 mod report;
 mod restore;
 mod run;
+mod scripts;
 mod show;
 mod texts;
-mod tool_edit;
 mod top;
-mod trace_edit;
 mod visits;
-mod weights_edit;
+mod weights;
 mod words;
 
 pub use counts::edits_are_profiles;

@@ -9,10 +9,11 @@ ghost use Rattle.eel.specs.Answers.Print.{PrintsFile};
 ghost use Rattle.eel_said.specs.Shared.{Feed, outside};
 
 use crate::edit::EDIT_LIMIT;
+use crate::inputs::unsound;
 use crate::texts::{fetch_file, print};
 use eel_base::{Files, Sink};
 use eel_said::Outcome;
-use elf32_sparc::{ReadFault, read_image};
+use elf32_sparc::read_image;
 use std::alloc::Global;
 use v8_text::listing;
 
@@ -50,13 +51,7 @@ fn disassembly<'a>(alloc: Global, name: &'a str, bytes: &[u8]) -> Result<Vec<u8>
 {
     let image = match read_image(alloc, bytes) {
         Ok(image) => image,
-        Err(ReadFault::File(fault)) => {
-            return Err(Outcome::BadFile {
-                name,
-                code: fault.code(),
-            });
-        }
-        Err(ReadFault::NoMemory) => return Err(Outcome::OutOfMemory),
+        Err(fault) => return Err(unsound(name, fault)),
     };
     Ok(listing(alloc, image.text())?)
 }
