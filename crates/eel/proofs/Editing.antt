@@ -1,59 +1,16 @@
--- An edit by a tool, by its status; and that what is refused says why.
-use Rattle.std.proofs.Common.{◌≡◌, ℕ, ◌≤◌, ◌⊎◌, inl, inr, List, [], refl, subst, lit≤}
+-- An edit by a tool, by its status; and its lines, which are read once the file is.
+use Rattle.std.proofs.Common.{◌≡◌, ℕ, ◌≤◌, ◌⊎◌, inl, inr, List, [], subst, lit≤}
 use Rattle.std.specs.Prelude.{Option, Some, None}
 use Rattle.eel_base.specs.Outside.{Holding, IsMissing}
-use Rattle.cfg_view.specs.View.{Seen, view_of}
-use Rattle.tool_kit.specs.Plans.{Plan}
-use Rattle.edit_core.specs.declared.taking.EditFault.{EditFault}
-use Rattle.edit_core.specs.declared.taking.EditFault.TheVariants as faults
-use Rattle.edit_core.specs.Code.{EditRefuses}
-use Rattle.edit_core.specs.Taken.{IsCramped}
-use Rattle.eel_said.specs.declared.outcome.LineCause.{LineCause}
 use Rattle.eel_said.specs.Command.{Tool}
-use Rattle.eel_said.specs.Command as words
 use Rattle.eel_said.specs.Outcome.{Outcome, BadFile, BadLine, NoRoom, OutOfMemory, status_of}
 use Rattle.eel_said.specs.Shared.{Store, edit_limit, store}
-use Rattle.eel.specs.Answers.Files.{IsNotSound, IsSound}
 use Rattle.eel.specs.Answers.Steps.{Puts, unread, was_read}
-use Rattle.eel.specs.Answers.Tool.{AreMissing, Asks, Edits, IsBadLineOf, IsEditBy, IsNotEdited, Takes, edit_means, lines_of}
-use Rattle.eel.specs.Private.{AreLines, AreRefused, AreUnread, AreWithin, marks_of, refusal_of}
+use Rattle.eel.specs.Answers.Tool.{AreMissing, Edits, IsEditBy, IsNotEdited, Takes, edit_means, lines_of}
+use Rattle.eel.specs.Private.{AreLines, AreUnread, AreWithin}
 use Rattle.eel.proofs.Later.{read-later, unread-later}
 use Rattle.eel.proofs.Meanings.{AreByStatus, IsBad, IsByStatus, bad, files_by_status}
 use Rattle.eel.proofs.Steps.{puts_by_status, reads_by_status}
-
--- ---- what is refused says why
-
-module _ (tool : Tool) (input bytes lines : List ℕ) where
-  -- by the file
-  pub unsound_refused : (outcome : Outcome) → IsNotSound input bytes outcome → IsNotEdited tool input bytes lines outcome
-  unsound_refused (BadFile named code) is = is
-  unsound_refused OutOfMemory is = is
-  unsound_refused _ is = absurd is
-
-  -- by the room
-  pub edit_refused : (plan : Plan) (fault : EditFault) → Asks tool bytes lines plan
-      → EditRefuses bytes (λ other. other ≡ plan) fault → IsNotEdited tool input bytes lines (refusal_of input fault)
-  edit_refused plan (faults.File first) asked is = (refl, (first, is, refl))
-  edit_refused plan (faults.Room needed had) asked (other, same, cramped) =
-      (plan, refl, asked, subst (IsCramped needed had bytes) same cramped)
-  edit_refused plan faults.NoMemory asked is = is
-
--- only tools without marks take lines
-bad_unmarked : (tool : Tool) (bytes lines named : List ℕ) (number : ℕ) (cause : LineCause)
-    → IsBadLineOf tool (view_of bytes (marks_of tool bytes)) lines named number cause
-    → IsBadLineOf tool (view_of bytes []) lines named number cause
-bad_unmarked (words.Weighed name) bytes lines named number cause is = is
-bad_unmarked (words.Script name) bytes lines named number cause is = is
-bad_unmarked _ bytes lines named number cause is = absurd is
-
--- by the lines
-pub lines_refused : (tool : Tool) (input bytes lines : List ℕ) (view : Seen) → IsSound bytes
-    → view ≡ view_of bytes (marks_of tool bytes) → (outcome : Outcome) → AreRefused tool view lines outcome
-    → IsNotEdited tool input bytes lines outcome
-lines_refused tool input bytes lines view sound is (BadLine named number cause) bad =
-    (sound, bad_unmarked tool bytes lines named number cause (subst (λ (v : Seen). IsBadLineOf tool v lines named number cause) is bad))
-lines_refused tool input bytes lines view sound is OutOfMemory refused = sound
-lines_refused tool input bytes lines view sound is _ refused = absurd refused
 
 -- ---- lines that are read once the file is
 

@@ -1,5 +1,5 @@
 -- What is put on edges is what its tool asks for, and so the edit by that is one as the words ask.
-use Rattle.std.proofs.Common.{◌≡◌, ℕ, zero, suc, ◌+◌, ◌*◌, ◌^◌, ◌<◌, ◌≤◌, inl, inr, if◌then◌else◌, List, [], ◌∷◌, length, map, Option, Some, None, Result, Ok, Err, refl, ap, ap₂, sym, subst, ◌∙◌, arith}
+use Rattle.std.proofs.Common.{◌≡◌, ℕ, zero, suc, ◌+◌, ◌*◌, ◌^◌, ◌<◌, ◌≤◌, inl, inr, if◌then◌else◌, List, [], ◌∷◌, length, map, Option, Some, None, Result, Ok, Err, refl, ap, sym, subst, ◌∙◌, arith}
 use Rattle.std.specs.Prelude.{IfErr, IfOk, get_or, unwrap_or}
 use Rattle.std.specs.List.{range_with_len}
 use Rattle.std.specs.Option.{is_some}
@@ -16,7 +16,7 @@ use Rattle.snippets.specs.declared.script.Script.{Script}
 use Rattle.snippets.specs.Cells.{WorksBelow}
 use Rattle.snippets.specs.Grammar.{AllSay}
 use Rattle.snippets.specs.Code.{IsScript}
-use Rattle.snippets.specs.Scripts.{IsGood, cell_end, edge_end, end_of, ops_on as script_ops}
+use Rattle.snippets.specs.Scripts.{cell_end, edge_end, end_of, ops_on as script_ops}
 use Rattle.snippets.proofs.Within.{good_within}
 use Rattle.span_tree.specs.Cells.{AreNumbered, cell_at, cell_count, has_cell}
 use Rattle.span_tree.specs.Links.{no_edge}
@@ -42,9 +42,8 @@ use Rattle.exact_counts.specs.Profiles.{counter_in}
 use Rattle.eel_said.specs.Command as words
 use Rattle.eel.specs.Answers.Edit.{IsEditOf, plan_of}
 use Rattle.eel.specs.Answers.Profile.{AreCells, AsksCounters, AsksGuessed}
-use Rattle.eel.specs.Answers.Script.{IsScripted, script_plan}
 use Rattle.eel.specs.Answers.Tool.{Asks}
-use Rattle.eel.specs.Private.{HasCells, IsFit, IsProfileOf, IsReadAs, MayAsk, ProfileRefuses, Says, cells_of, guessed, kind_of, ops_on, plan_for}
+use Rattle.eel.specs.Private.{HasCells, IsFit, IsProfileOf, MayAsk, ProfileRefuses, Says, cells_of, guessed, kind_of, ops_on, plan_for}
 use Rattle.eel.specs.declared.edge_work.EdgeWork.{EdgeWork}
 use Rattle.eel.specs.declared.edge_work.EdgeWork.TheVariants as works
 
@@ -175,15 +174,6 @@ weighed_asked view bytes name lines weights cells is are found = (
   weights,
   subst (λ (v : Seen). AreWeights v lines weights) is are,
   counters_asked view bytes [] weights cells is found,
-)
-
-pub script_asked : (view : Seen) (bytes lines : List ℕ) (script : Script) → view ≡ view_of bytes []
-    → IsReadAs (length view.graph.edges) lines script → IsScripted bytes lines (plan_for (works.Script script) [] bytes)
-script_asked view bytes lines script is (said, all, read) = (
-  said,
-  all,
-  subst (λ (v : Seen). IsGood (length v.graph.edges) said) is read.good,
-  ap₂ (script_plan bytes) read.snips read.cells,
 )
 
 -- ---- the tool that is made of it

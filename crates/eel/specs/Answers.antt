@@ -11,9 +11,9 @@ pub mod Trace
 pub mod Tool
 pub mod Run
 pub mod Dump
-pub mod Print
 pub mod Show
 pub mod List
+pub mod Print
 pub mod Words
 pub mod Restore
 pub mod Counts
@@ -29,8 +29,7 @@ use Rattle.eel_said.specs.Outcome.{Outcome, BadWords, Stream, Shows, line_of, st
 use Rattle.eel_said.specs.Shared.{Outside, Meaning, with_err, IsUnused, IsQuiet, IsSilent}
 use Rattle.eel.specs.Answers.Tool.{edit_means}
 use Rattle.eel.specs.Answers.Dump.{run_means}
-use Rattle.eel.specs.Answers.Show.{show_means}
-use Rattle.eel.specs.Answers.List.{list_means}
+use Rattle.eel.specs.Answers.Print.{show_means}
 use Rattle.eel.specs.Answers.Words.{words_means}
 use Rattle.eel.specs.Answers.Restore.{restore_means}
 use Rattle.eel.specs.Answers.Report.{report_means}
@@ -48,8 +47,7 @@ unknown_means = record {
 abbrev pub meaning_of : Command → Meaning
 meaning_of (words.Edit input output tool) = edit_means tool input output
 meaning_of (words.Run file limit dump args) = run_means file limit dump args
-meaning_of (words.Show file) = show_means file
-meaning_of (words.ListWords file) = list_means file
+meaning_of (words.Show shown file) = show_means shown file
 meaning_of (words.PutWords listing output) = words_means listing output
 meaning_of (words.Restore written output) = restore_means written output
 meaning_of (words.ReportRun report written dump) = report_means report written dump

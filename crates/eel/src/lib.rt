@@ -10,7 +10,6 @@ mod edit;
 mod every;
 mod inputs;
 mod last_edges;
-mod list;
 mod profile;
 mod program;
 mod report;

@@ -9,7 +9,6 @@ ghost use Rattle.eel.specs.Answers.{HasFailed, IsDone, IsRefusal, IsUnchanged, I
 use crate::demo::demonstrate;
 use crate::dumps::run_for_dump;
 use crate::edit::edit_file;
-use crate::list::list_words;
 use crate::report::report_run;
 use crate::restore::restore_original;
 use crate::run::{Job, run_program};
@@ -104,8 +103,7 @@ fn perform<'a, F: Files, I: Source, O: Sink, E: Sink>(
             out,
             err,
         ),
-        Command::Show { file } => show_program(alloc, file, files, out),
-        Command::ListWords { file } => list_words(alloc, file, files, out),
+        Command::Show { shown, file } => show_program(alloc, shown, file, files, out),
         Command::PutWords { listing, output } => assemble_words(alloc, files, listing, output),
         Command::Restore { written, output } => restore_original(alloc, files, written, output),
         Command::ReportRun {

@@ -5,7 +5,7 @@ use Rattle.v8_process.specs.Arguments.{AreArguments, texts}
 use Rattle.eel_said.specs.declared.outcome.Outcome as declared
 use Rattle.eel_said.specs.declared.outcome.Outcome.TheVariants as variants
 use Rattle.eel_said.specs.Outcome.{Outcome, Done, Stopped, BadWords, BadFile, BadLine, NoRoom, TooLong, NoNotes, BadNotes, BadDump, NoProfile, NotEveryWord, NoTrace, NoCounts, BadCell, OutOfMemory, DeviceFault}
-use Rattle.eel_said.specs.Command.{Command, Edit, Run, Demo, Show, ListWords, PutWords, Restore, ReportRun, Unknown, Tool, Plain, Profile, Weighed, Every, Trace, Script}
+use Rattle.eel_said.specs.Command.{Command, Edit, Run, Demo, Show, PutWords, Restore, ReportRun, Unknown, Tool, Plain, Profile, Weighed, Every, Trace, Script}
 use Rattle.eel_said.specs.declared.command.Command as declared_command
 use Rattle.eel_said.specs.declared.command.Command.TheVariants as command_variants
 use Rattle.eel_said.specs.declared.command.EditTool as declared_tool
@@ -62,9 +62,8 @@ tool_seen (tools.Script script) = Script script.now
 abbrev pub command_seen : declared_command.Command → Command
 command_seen (command_variants.Edit input output tool) = Edit input.now output.now (tool_seen tool)
 command_seen (command_variants.Run file limit dump args) = Run file.now limit (name_seen dump) (texts args.now)
-command_seen (command_variants.Show file) = Show file.now
+command_seen (command_variants.Show shown file) = Show shown file.now
 command_seen (command_variants.Restore written output) = Restore written.now output.now
-command_seen (command_variants.ListWords file) = ListWords file.now
 command_seen (command_variants.PutWords listing output) = PutWords listing.now output.now
 command_seen (command_variants.ReportRun report written dump) = ReportRun report written.now dump.now
 command_seen (command_variants.Demo number routines) = Demo number routines

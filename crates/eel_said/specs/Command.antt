@@ -5,6 +5,8 @@ use Rattle.std.specs.Option.{option_map, option_or}
 use Rattle.std.specs.Str.{bytes_eq}
 pub use Rattle.v8_process.specs.Arguments.{texts}
 use Rattle.v8_process.specs.Start.{strings}
+use Rattle.eel_said.specs.declared.command.Shown.{Shown}
+use Rattle.eel_said.specs.declared.command.Shown.TheVariants as shows
 use Rattle.eel_said.specs.declared.command.Report.{Report}
 use Rattle.eel_said.specs.declared.command.Report.TheVariants as reports
 
@@ -28,10 +30,8 @@ pub data Command : Type 0 where
   Edit : (input output : List ℕ) (tool : Tool) → Command
   -- run FILE [-n LIMIT] [-d DUMP] [-- ARG..], the two options in either order
   Run : (file : List ℕ) (limit : ℕ) (dump : Option (List ℕ)) (args : List (List ℕ)) → Command
-  -- show FILE
-  Show : (file : List ℕ) → Command
-  -- list FILE
-  ListWords : (file : List ℕ) → Command
+  -- show FILE, list FILE
+  Show : (shown : Shown) (file : List ℕ) → Command
   -- words LISTING OUTPUT
   PutWords : (listing output : List ℕ) → Command
   -- restore WRITTEN OUTPUT
@@ -158,8 +158,8 @@ command_of [] = Unknown
 command_of (verb ∷ words) =
     if bytes_eq verb (codes "edit") then edit_of words else
     if bytes_eq verb (codes "run") then run_of words else
-    if bytes_eq verb (codes "show") then of_one Show words else
-    if bytes_eq verb (codes "list") then of_one ListWords words else
+    if bytes_eq verb (codes "show") then of_one (Show shows.Graph) words else
+    if bytes_eq verb (codes "list") then of_one (Show shows.Words) words else
     if bytes_eq verb (codes "words") then of_two PutWords words else
     if bytes_eq verb (codes "restore") then of_two Restore words else
     if bytes_eq verb (codes "counts") then of_two (ReportRun reports.Counts) words else

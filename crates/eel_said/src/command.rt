@@ -7,10 +7,19 @@ ghost use Rattle.v8_step.specs.State.{AreBytes};
 ghost use Rattle.v8_process.specs.Arguments.{AreArguments, texts};
 ghost use Rattle.v8_process.specs.Start.{strings};
 ghost use Rattle.eel_said.specs.Code.{KeepsBits, KeepsLimits, command_seen, name_seen, tool_seen};
-ghost use Rattle.eel_said.specs.Command.{Trace, command_of, edit_of, edit_with, of_one, of_two, tool_of, tool_with, run_of, ListWords, PutWords, ReportRun, Restore, Show, options_of, option_in, late_in, limit_in, arguments_of, are_few, is_digit, number_within, demo_of, demo_with as demo_with_of, bits_of};
+ghost use Rattle.eel_said.specs.Command.{Trace, command_of, edit_of, edit_with, of_one, of_two, tool_of, tool_with, run_of, PutWords, ReportRun, Restore, Show, options_of, option_in, late_in, limit_in, arguments_of, are_few, is_digit, number_within, demo_of, demo_with as demo_with_of, bits_of};
 ghost use Rattle.std.specs.Option.{option_map};
 
 use itoa::Buffer;
+
+/// What is shown of a program.
+#[derive(Clone, Copy)]
+pub enum Shown {
+    /// Its routines, blocks and edges.
+    Graph,
+    /// Its instructions, a line for each word of its text.
+    Words,
+}
 
 /// What is told of a run.
 #[derive(Clone, Copy)]
@@ -57,12 +66,9 @@ pub enum Command<'a> {
         dump: Option<&'a str>,
         args: &'a [&'a str],
     },
-    /// `show FILE`: print the routines, blocks and edges of the program `file`.
+    /// `show FILE`, `list FILE`: print what is shown of the program `file`.
     Show {
-        file: &'a str,
-    },
-    /// `list FILE`: print the instructions of the program `file`, a line for each word of its text.
-    ListWords {
+        shown: Shown,
         file: &'a str,
     },
     /// `words LISTING OUTPUT`: write the words of the file `listing`, which is such lines, as the file `output`.
@@ -137,10 +143,10 @@ fn parse_verb<'a>(verb: &str, words: &'a [&'a str]) -> Command<'a>
         return parse_run(words);
     }
     if verb == "show" {
-        return parse_show(words);
+        return parse_show(Shown::Graph, words);
     }
     if verb == "list" {
-        return parse_list(words);
+        return parse_show(Shown::Words, words);
     }
     if verb == "words" {
         return parse_words(words);
@@ -254,24 +260,13 @@ fn is_number(text: &str, number: u32) -> bool
     text == digits.format(number)
 }
 
-/// What follows the word `show`.
-fn parse_show<'a>(words: &'a [&'a str]) -> Command<'a>
-    ensures command { command_seen result ≡ of_one Show (texts words.now) }
+/// What follows the word for what is shown of a program.
+fn parse_show<'a>(shown: Shown, words: &'a [&'a str]) -> Command<'a>
+    ensures command { command_seen result ≡ of_one (Show shown) (texts words.now) }
     ensures limits { KeepsLimits (command_seen result) }
 {
     match words {
-        [file] => Command::Show { file },
-        _ => Command::Unknown,
-    }
-}
-
-/// What follows the word `list`.
-fn parse_list<'a>(words: &'a [&'a str]) -> Command<'a>
-    ensures command { command_seen result ≡ of_one ListWords (texts words.now) }
-    ensures limits { KeepsLimits (command_seen result) }
-{
-    match words {
-        [file] => Command::ListWords { file },
+        [file] => Command::Show { shown, file },
         _ => Command::Unknown,
     }
 }

@@ -30,10 +30,6 @@ pub returns-in-Demo-clause-follows : goal.returns-in-Demo-clause-follows
 returns-in-Demo-clause-follows g c =
     rw (← c.in-Demo.ensures.command) (c.demonstrate.ensures.tells _ _ _, refl, refl)
 
-pub returns-in-ListWords-clause-follows : goal.returns-in-ListWords-clause-follows
-returns-in-ListWords-clause-follows g c =
-    rw (← c.in-ListWords.ensures.command) (c.list_words.ensures.prints _ _, c.list_words.ensures.kept, refl)
-
 pub returns-in-PutWords-clause-follows : goal.returns-in-PutWords-clause-follows
 returns-in-PutWords-clause-follows g c =
     rw (← c.in-PutWords.ensures.command) (c.assemble_words.ensures.assembles, refl, (refl, refl))
