@@ -19,27 +19,19 @@ pub within : (file : Option (List ℕ × ℕ)) (files : Store) (lines : List ℕ
 within None files lines is = tt
 within (Some file) files lines is = is.within
 
-module _ (file : Option (List ℕ × ℕ)) (old mid : Option Holding) (faults more : ℕ) (same : mid ≡ old)
-    (later : faults ≤ more) (still : Type 0) (next : List ℕ → Type 0) (new : Store) (outcome : Outcome) where
-  abbrev Ends : Option (List ℕ × ℕ) → Type 0
-  Ends lines = Takes lines still next (store old faults) new outcome
-
-  lines_unread_of : (file : Option (List ℕ × ℕ)) → AreUnread file (store mid more) new outcome → still → Ends file
-  lines_unread_of None is kept = absurd is
-  lines_unread_of (Some file) is kept =
+module _ (old mid : Option Holding) (faults more : ℕ) (same : mid ≡ old) (later : faults ≤ more) (still : Type 0)
+    (next : List ℕ → Type 0) (new : Store) (outcome : Outcome) where
+  pub lines_unread : (file : Option (List ℕ × ℕ)) → AreUnread file (store mid more) new outcome → still
+      → Takes file still next (store old faults) new outcome
+  lines_unread None is kept = absurd is
+  lines_unread (Some file) is kept =
       unread (unread-later old mid faults more new file.0 file.1 outcome same later is) kept
 
-  pub lines_unread : AreUnread file (store mid more) new outcome → still → Ends file
-  lines_unread = lines_unread_of file
-
-  lines_read_of : (file : Option (List ℕ × ℕ)) (lines : List ℕ) → AreLines file (store mid more) lines → next lines
-      → Ends file
-  lines_read_of None lines is then = subst next is then
-  lines_read_of (Some file) lines is then =
+  pub lines_read : (file : Option (List ℕ × ℕ)) (lines : List ℕ) → AreLines file (store mid more) lines → next lines
+      → Takes file still next (store old faults) new outcome
+  lines_read None lines is then = subst next is then
+  lines_read (Some file) lines is then =
       was_read lines (read-later old mid faults more file.0 file.1 lines same is) then
-
-  pub lines_read : (lines : List ℕ) → AreLines file (store mid more) lines → next lines → Ends file
-  lines_read = lines_read_of file
 
 -- ---- the command, by the status
 

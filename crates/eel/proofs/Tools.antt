@@ -147,25 +147,22 @@ guessed_asked view bytes marks cells is found =
     subst (λ (v : Seen). AsksCounters marks (weights_of v.graph.blocks v.graph.edges) bytes (plan_for (works.Counters cells) marks bytes))
     is (counters_asked view bytes marks _ cells is found)
 
-pub profile_made : {A E : Type 0} (view : Seen) (bytes : List ℕ) (cells : List (Option ℕ)) → view ≡ view_of bytes []
-    → AreCells view.graph (weights_of view.graph.blocks view.graph.edges) cells → (items : A → List ℕ)
-    → (result : Result A E) → IfOk result (λ file. IsEditOf bytes (plan_for (works.Counters cells) [] bytes) (items file))
-    → IfOk result (λ file. IsProfileOf (guessed bytes) bytes (items file))
-profile_made view bytes cells is found items (Ok file) made =
-    let (counted, are, same) = guessed_asked view bytes [] cells is found in
-    record { cells = counted; are = are; made = subst (λ (p : Plan). IsEditOf bytes p (items file)) same made }
-profile_made view bytes cells is found items (Err fault) made = made
+module _ (view : Seen) (bytes : List ℕ) (cells : List (Option ℕ)) (is : view ≡ view_of bytes [])
+    (found : AreCells view.graph (weights_of view.graph.blocks view.graph.edges) cells) where
+  pub profile_made : (file : List ℕ) → IsEditOf bytes (plan_for (works.Counters cells) [] bytes) file
+      → IsProfileOf (guessed bytes) bytes file
+  profile_made file made =
+      let (counted, are, same) = guessed_asked view bytes [] cells is found in
+      record { cells = counted; are = are; made = subst (λ (p : Plan). IsEditOf bytes p file) same made }
 
-pub profile_refused : {A : Type 0} (view : Seen) (bytes : List ℕ) (cells : List (Option ℕ)) → view ≡ view_of bytes []
-    → AreCells view.graph (weights_of view.graph.blocks view.graph.edges) cells → (result : Result A EditFault)
-    → IfErr result (EditRefuses bytes (λ plan. plan ≡ plan_for (works.Counters cells) [] bytes))
-    → IfErr result (ProfileRefuses (guessed bytes) bytes)
-profile_refused view bytes cells is found (Ok file) refused = refused
-profile_refused view bytes cells is found (Err (faults.File first)) refused = refused
-profile_refused view bytes cells is found (Err (faults.Room needed had)) (plan, asks, cramped) =
-    let (counted, are, same) = guessed_asked view bytes [] cells is found in
-    (counted, are, subst (IsCramped needed had bytes) (asks ∙ same) cramped)
-profile_refused view bytes cells is found (Err faults.NoMemory) refused = refused
+  pub profile_refused : (fault : EditFault)
+      → EditRefuses bytes (λ plan. plan ≡ plan_for (works.Counters cells) [] bytes) fault
+      → ProfileRefuses (guessed bytes) bytes fault
+  profile_refused (faults.File first) refused = refused
+  profile_refused (faults.Room needed had) (plan, asks, cramped) =
+      let (counted, are, same) = guessed_asked view bytes [] cells is found in
+      (counted, are, subst (IsCramped needed had bytes) (asks ∙ same) cramped)
+  profile_refused faults.NoMemory refused = refused
 
 pub weighed_asked : (view : Seen) (bytes name lines weights : List ℕ) (cells : List (Option ℕ)) → view ≡ view_of bytes []
     → AreWeights view lines weights → AreCells view.graph weights cells

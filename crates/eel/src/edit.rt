@@ -160,7 +160,7 @@ fn work_for<'a>(
 }
 
 /// What a refused edit of the file `name` comes to.
-fn refusal<'a>(name: &'a str, fault: EditFault) -> Outcome<'a>
+pub fn refusal<'a>(name: &'a str, fault: EditFault) -> Outcome<'a>
     ensures { outcome_seen result ≡ refusal_of name.now fault }
 {
     match fault {

@@ -15,7 +15,7 @@ edited-requires-clause-lines g c =
 pub returns-in-Err-fetch_lines-clause-edits : goal.returns-in-Err-fetch_lines-clause-edits
 returns-in-Err-fetch_lines-clause-edits g c =
     was_read c.in-Ok.bytes.items c.in-Ok.ensures.read
-    (lines_unread (lines_of (tool_seen c.args.tool.now)) _ _ _ _ c.fetch_file.ensures.kept c.fetch_file.ensures.later _ _ _ _ c.in-Err-fetch_lines.ensures.unread
+    (lines_unread _ _ _ _ c.fetch_file.ensures.kept c.fetch_file.ensures.later _ _ _ _ (lines_of (tool_seen c.args.tool.now)) c.in-Err-fetch_lines.ensures.unread
     (c.fetch_lines.ensures.kept ∙ c.fetch_file.ensures.kept))
 
 pub returns-in-Ok-edited-clause-edits : goal.returns-in-Ok-edited-clause-edits
@@ -24,7 +24,7 @@ returns-in-Ok-edited-clause-edits g c =
     let first = c.fetch_file.ensures.later in
     let second = c.fetch_lines.ensures.later in
     was_read c.in-Ok.bytes.items c.in-Ok.ensures.read
-    (lines_read (lines_of (tool_seen c.args.tool.now)) _ _ _ _ c.fetch_file.ensures.kept c.fetch_file.ensures.later _ _ _ _ c.in-Ok-fetch_lines.lines.items
+    (lines_read _ _ _ _ c.fetch_file.ensures.kept c.fetch_file.ensures.later _ _ _ _ (lines_of (tool_seen c.args.tool.now)) c.in-Ok-fetch_lines.lines.items
     c.in-Ok-fetch_lines.ensures.read
     (put _ made
     (put-later _ _ (g.F.Files.faults c.args.files.now) (g.F.Files.faults c.fetch_lines.new.files) _ _ _ _
@@ -34,7 +34,7 @@ returns-in-Ok-edited-clause-edits g c =
 pub returns-clause-edits : goal.returns-clause-edits
 returns-clause-edits g c =
     was_read c.in-Ok.bytes.items c.in-Ok.ensures.read
-    (lines_read (lines_of (tool_seen c.args.tool.now)) _ _ _ _ c.fetch_file.ensures.kept c.fetch_file.ensures.later _ _ _ _ c.in-Ok-fetch_lines.lines.items
+    (lines_read _ _ _ _ c.fetch_file.ensures.kept c.fetch_file.ensures.later _ _ _ _ (lines_of (tool_seen c.args.tool.now)) c.in-Ok-fetch_lines.lines.items
     c.in-Ok-fetch_lines.ensures.read
     (unmade (rw (c.deref.ensures.value, c.deref-2.ensures.value) at c.in-Err-edited.ensures.refused)
     (c.fetch_lines.ensures.kept ∙ c.fetch_file.ensures.kept)))
