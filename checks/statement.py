@@ -34,10 +34,10 @@ SECTIONS = {
     'headline': ['edit_core IsFaithful'],
     'cost': ['edit_core HasBoundedCost'],
     'edits': ['Edit.antt', 'Restore.antt', 'Script.antt'],
-    'profiles': ['Profile.antt', 'Weighed.antt', 'Every.antt', 'Trace.antt'],
+    'profiles': ['Profile.antt', 'Weighed.antt', 'Every.antt', 'Trace.antt', 'Tool.antt'],
     'runs': ['Run.antt', 'Dump.antt'],
     'reports': ['Counts.antt', 'Visits.antt', 'LastEdges.antt', 'Report.antt'],
-    'listings': ['Show.antt', 'List.antt', 'Words.antt'],
+    'listings': ['Show.antt', 'List.antt', 'Print.antt', 'Words.antt'],
     'demo': ['Demo.antt'],
     'frame': ['eel::eel', 'eel::run_words'],
 }

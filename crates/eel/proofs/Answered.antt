@@ -1,23 +1,15 @@
 -- What there is after a call, by its status.
 use Rattle.std.proofs.Common.{◌≡◌, ℕ, ◌≤◌, inl, inr, ap, subst, arith}
-use Rattle.eel_said.specs.Command.{Command, EditPlain, EditScript, EditEvery, Run, Show, Restore, EditProfile, ReportRun, Demo, EditWeighed, ListWords, PutWords, Unknown, EditTrace}
+use Rattle.eel_said.specs.Command.{Command, Edit, Run, Show, Restore, ReportRun, Demo, PutWords, Unknown}
 use Rattle.eel_said.specs.Outcome.{Outcome, Shows, Stream, shown, failed, status_of}
 use Rattle.eel.specs.Answers.{Ran, IsDone, IsUnrefused, IsRefusal, IsUnchanged, HasFailed, WasWanting, meaning_of, unknown_means}
 use Rattle.eel_said.specs.Shared.{Outside, with_err}
-use Rattle.eel.specs.Answers.Edit.{plain}
-use Rattle.eel.specs.Answers.Every.{every_word}
-use Rattle.eel.specs.Answers.List.{listed_of}
-use Rattle.eel.specs.Answers.Profile.{no_words, profiling}
-use Rattle.eel.specs.Answers.Script.{script_limit, scripting}
-use Rattle.eel.specs.Answers.Show.{shown_of}
-use Rattle.eel.specs.Answers.Trace.{tracing}
-use Rattle.eel.specs.Answers.Weighed.{weighing, weights_limit}
 use Rattle.eel.proofs.Later.{rose-before, rose-after}
 use Rattle.eel.proofs.Meanings.{IsByStatus, refusal_is_bad}
-use Rattle.eel.proofs.Editing.{edit_by_status, lines_by_status}
+use Rattle.eel.proofs.Editing.{edit_by_status}
 use Rattle.eel.proofs.Dumping.{run_by_status}
 use Rattle.eel.proofs.Assembling.{words_by_status}
-use Rattle.eel.proofs.Printing.{print_by_status}
+use Rattle.eel.proofs.Printing.{show_by_status}
 use Rattle.eel.proofs.Restoring.{restore_by_status}
 use Rattle.eel.proofs.Reported.{report_by_status}
 use Rattle.eel.proofs.Telling.{demo_by_status, status_told}
@@ -32,17 +24,11 @@ unknown_by_status = record {
 }
 
 by_status : (command : Command) → IsByStatus (meaning_of command)
-by_status (EditPlain input output) = edit_by_status plain input output
-by_status (EditScript input output script) = lines_by_status scripting script_limit input output script
+by_status (Edit input output tool) = edit_by_status tool input output
 by_status (Run file limit dump args) = run_by_status file limit args dump
-by_status (Show file) = print_by_status shown_of file
-by_status (ListWords file) = print_by_status listed_of file
+by_status (Show what file) = show_by_status what file
 by_status (PutWords listing output) = words_by_status listing output
-by_status (EditWeighed input output weights) = lines_by_status weighing weights_limit input output weights
 by_status (Restore written output) = restore_by_status written output
-by_status (EditProfile input output) = edit_by_status (profiling no_words) input output
-by_status (EditEvery input output) = edit_by_status (profiling every_word) input output
-by_status (EditTrace input output bits) = edit_by_status (tracing bits) input output
 by_status (ReportRun report written dump) = report_by_status report written dump
 by_status (Demo number routines) = demo_by_status number routines
 by_status Unknown = unknown_by_status

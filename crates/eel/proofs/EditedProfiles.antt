@@ -1,14 +1,20 @@
 -- A file that was made with counters is a profile, and its notes have version 2.
-use Rattle.std.proofs.Common.{◌≡◌, ℕ, ap, sym, ◌∙◌, subst}
-use Rattle.notes.specs.Format.{Notes}
+use Rattle.std.proofs.Common.{◌≡◌, ℕ, List, [], ap, sym, ◌∙◌, subst}
+use Rattle.std.specs.Prelude.{Ok}
+use Rattle.notes.specs.Format.{Notes, notes_of}
 use Rattle.cfg_view.specs.View.{view_of}
 use Rattle.exact_counts.specs.Profiles.{CountsOffTree}
 use Rattle.eel.specs.Answers.Profile.{plan_with}
-use Rattle.eel.specs.Code.{EditsAreProfiles}
-use Rattle.eel.proofs.ExactProfiles.{off_tree, one_notes}
+use Rattle.v8_step.specs.State.{AreBytes}
+use Rattle.exact_counts.specs.Laws.{IsProfiled}
+use Rattle.eel.specs.Answers.Counts.{IsProfile}
+use Rattle.eel.specs.Code.{EditsAreProfiles, IsMarkedProfile}
+use Rattle.eel.specs.Private.{IsProfileOf, profile_plan}
+use Rattle.eel.proofs.ExactProfiles.{is_profiled, off_tree, one_notes}
 
-pub edits_are_profiles : EditsAreProfiles
-edits_are_profiles marks weights original file notes limit bytes profile read =
+is_profile : (marks weights original file : List ℕ) (notes : Notes) → (profile : IsMarkedProfile marks weights original file)
+    → notes_of file ≡ Ok notes → (notes.version ≡ 2) × IsProfile original (plan_with marks profile.cells) file notes
+is_profile marks weights original file notes profile read =
     let faithful = profile.made.faithful in
     let version : notes.version ≡ 2 =
     ap (λ (n : Notes). n.version) (one_notes file faithful.notes notes faithful.whole.reads read) ∙ profile.made.version in (
@@ -20,3 +26,13 @@ edits_are_profiles marks weights original file notes limit bytes profile read =
         faithful = profile.made.faithful;
       },
     )
+
+pub edits_are_profiles : EditsAreProfiles
+edits_are_profiles marks weights original file notes limit bytes profile read =
+    is_profile marks weights original file notes profile read
+
+pub edit_is_profiled : (weights original file : List ℕ) (notes : Notes) (profile : IsProfileOf weights original file)
+    → AreBytes original → notes_of file ≡ Ok notes → IsProfiled original (profile_plan profile.cells) file notes
+edit_is_profiled weights original file notes profile bytes read =
+    is_profiled original (profile_plan profile.cells) file notes
+    (is_profile [] weights original file notes profile read).1 bytes read

@@ -5,7 +5,6 @@ use Rattle.std.proofs.lemmas.List.{get_or-map, length-map}
 use Rattle.notes.specs.Format.{NoNotes, Notes, notes_of}
 use Rattle.v8_step.specs.State.{AreBytes}
 use Rattle.cfg_normal.specs.Graph.{Graph}
-use Rattle.cfg_view.specs.View.{view_of}
 use Rattle.dump_file.specs.Dump.{Dump}
 use Rattle.tool_kit.specs.Plans.{Plan}
 use Rattle.count_rebuild.specs.Answers.{AreCounts}
@@ -17,7 +16,6 @@ use Rattle.exact_counts.proofs.Exact.{counts_are_exact}
 use Rattle.exact_counts.proofs.Exits.{counts_of_exits_are_exact}
 use Rattle.exact_counts.proofs.Trees.{trees_make_profiles}
 use Rattle.eel.specs.Answers.Profile.{AreCells, plan_with}
-use Rattle.eel.specs.Private.{IsProfileOf, profile_plan}
 use Rattle.v8_process.specs.Start.{start_of}
 use Rattle.exact_counts.specs.Stops.{dump_at}
 use Rattle.eel.specs.Answers.Counts.{AreExact, AreOfWholeRuns, IsOfRun, IsProfile}
@@ -57,29 +55,6 @@ is_profiled original plan file notes profile bytes read =
       graph = subst (HasGraph original plan) same faithful.graph;
       runs = subst (HaveRunsAlike original plan file) same faithful.runs;
     }
-
--- the same of a file that was made with counters
-pub edit_is_profiled : (weights original file : List ℕ) (notes : Notes) (profile : IsProfileOf weights original file)
-    → AreBytes original
-    → notes_of file ≡ Ok notes → IsProfiled original (profile_plan profile.cells) file notes
-edit_is_profiled weights original file notes profile bytes read =
-    let faithful = profile.made.faithful in
-    let wide = off_tree (view_of original []).graph [] weights profile.cells profile.are in
-    subst (λ (n : Notes). IsProfiled original (profile_plan profile.cells) file n)
-    (one_notes file notes faithful.notes read faithful.whole.reads)
-    (record {
-      sound = profile.made.taken.sound;
-      bytes = bytes;
-      counters = record {
-        kind = refl;
-        size = wide.size;
-        counters = faithful.counters refl;
-        below = wide.below;
-        tree = wide.tree;
-      };
-      graph = faithful.graph;
-      runs = faithful.runs;
-    })
 
 pub exact_in : (file : List ℕ) (notes : Notes) (dump : Dump) → notes_of file ≡ Ok notes
     → (original : List ℕ) (args : List (List ℕ)) (input : List ℕ) (m : ℕ)

@@ -1,7 +1,6 @@
 pub mod Answered
 pub mod Cells
 pub mod Dumping
-pub mod EditOf
 pub mod EditedProfiles
 pub mod Editing
 pub mod ExactProfiles
@@ -14,7 +13,6 @@ pub mod Later
 pub mod Marked
 pub mod Made
 pub mod Meanings
-pub mod Profiled
 pub mod Reported
 pub mod Restoring
 pub mod Running
@@ -25,5 +23,4 @@ pub mod Tame
 pub mod Telling
 pub mod ToldEdges
 pub mod Tools
-pub mod Traced
 pub mod Unreported

@@ -1,10 +1,11 @@
 -- Lines that are printed of a file, by the status.
 use Rattle.std.proofs.Common.{ℕ, List, lit≤}
 use Rattle.eel_base.specs.Outside.{IsMissing}
+use Rattle.eel_said.specs.declared.command.Shown.{Shown}
 use Rattle.eel_said.specs.Outcome.{Outcome, BadFile, OutOfMemory, status_of}
 use Rattle.eel_said.specs.Shared.{HaveFailed, edit_limit}
 use Rattle.eel.specs.Answers.Files.{IsNotSound}
-use Rattle.eel.specs.Answers.Print.{AreLinesOf, PrintsFile, print_means}
+use Rattle.eel.specs.Answers.Print.{AreLinesOf, PrintsFile, show_means}
 use Rattle.eel.specs.Answers.Steps.{Prints}
 use Rattle.eel.proofs.Meanings.{IsByStatus, IsBad, bad, prints_by_status}
 use Rattle.eel.proofs.Steps.{lines_printed, reads_printed}
@@ -14,10 +15,10 @@ not_sound name bytes (BadFile named code) is = bad 65 (lit≤ tt) (lit≤ tt)
 not_sound name bytes OutOfMemory is = bad 70 (lit≤ tt) (lit≤ tt)
 not_sound name bytes _ is = absurd is
 
-pub print_by_status : (lines_of : List ℕ → List ℕ) (file : List ℕ) → IsByStatus (print_means lines_of file)
-print_by_status lines_of file =
-    prints_by_status (PrintsFile lines_of file) (HaveFailed (λ files. IsMissing files.held file))
+pub show_by_status : (shown : Shown) (file : List ℕ) → IsByStatus (show_means shown file)
+show_by_status shown file =
+    prints_by_status (PrintsFile shown file) (HaveFailed (λ files. IsMissing files.held file))
     (reads_printed file edit_limit (λ files. IsMissing files.held file) (λ files lack. lack)
-    (λ bytes. Prints (IsNotSound file bytes) (AreLinesOf lines_of bytes))
-    (λ bytes. lines_printed (IsNotSound file bytes) (AreLinesOf lines_of bytes)
+    (λ bytes. Prints (IsNotSound file bytes) (AreLinesOf shown bytes))
+    (λ bytes. lines_printed (IsNotSound file bytes) (AreLinesOf shown bytes)
     (HaveFailed (λ files. IsMissing files.held file)) (not_sound file bytes)))

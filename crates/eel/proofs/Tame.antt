@@ -45,7 +45,8 @@ use Rattle.eel.specs.Answers.Demo.{EndsAlone, alone, walk_alone}
 use Rattle.eel.specs.Answers.Dump.{IsNoted}
 use Rattle.eel.specs.Private.{IsProfileOf, ProfileRefuses, guessed, profile_plan}
 use Rattle.eel.specs.Tame.{AreAbove, EndsWithin, IsLastDump, IsTame}
-use Rattle.eel.proofs.ExactProfiles.{edit_is_profiled, one_notes}
+use Rattle.eel.proofs.EditedProfiles.{edit_is_profiled}
+use Rattle.eel.proofs.ExactProfiles.{one_notes}
 
 some_not_none : (d : Ending) → Some d ≡ None → ⊥
 some_not_none d e = cc

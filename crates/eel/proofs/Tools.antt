@@ -1,35 +1,51 @@
--- What the tools of the words ask for is what their callbacks answer.
-use Rattle.std.proofs.Common.{◌≡◌, ℕ, ◌^◌, ◌<◌, ◌≤◌, inl, inr, List, [], length, map, Result, Ok, Err, ap, sym, subst, ◌∙◌, arith}
-use Rattle.std.specs.Prelude.{IfErr, IfOk, get_or}
+-- What is put on edges is what its tool asks for, and so the edit by that is one as the words ask.
+use Rattle.std.proofs.Common.{◌≡◌, ℕ, zero, suc, ◌+◌, ◌*◌, ◌^◌, ◌<◌, ◌≤◌, inl, inr, if◌then◌else◌, List, [], ◌∷◌, length, map, Option, Some, None, Result, Ok, Err, refl, ap, sym, subst, ◌∙◌, arith}
+use Rattle.std.specs.Prelude.{IfErr, IfOk, get_or, unwrap_or}
 use Rattle.std.specs.List.{range_with_len}
+use Rattle.std.specs.Option.{is_some}
+use Rattle.std.proofs.Math.Nat.{pow-le-pow_right}
 use Rattle.std.proofs.lemmas.Bool.{cases_lt}
-use Rattle.std.proofs.lemmas.List.{ext_get_or, get_or_past}
+use Rattle.std.proofs.lemmas.List.{ext_get_or, get_or-map, get_or_past, length-map}
 use Rattle.std.proofs.lemmas.List.FromFn.{get_or-map-range_with_len, length-map-range_with_len}
 use Rattle.std.proofs.lemmas.Option.{slice_get-get_or}
+use Rattle.eel_base.specs.declared.numbers.WordNo.{WordNo}
+use Rattle.flows.specs.Flows.{EdgeSet, count_below}
 use Rattle.snippets.specs.declared.snippet.Op.{Op}
+use Rattle.snippets.specs.declared.snippet.Op.TheVariants.{Count}
 use Rattle.snippets.specs.declared.script.Script.{Script}
 use Rattle.snippets.specs.Cells.{WorksBelow}
 use Rattle.snippets.specs.Grammar.{AllSay}
 use Rattle.snippets.specs.Code.{IsScript}
-use Rattle.snippets.specs.Scripts.{cell_end, edge_end, end_of, ops_on}
+use Rattle.snippets.specs.Scripts.{cell_end, edge_end, end_of, ops_on as script_ops}
 use Rattle.snippets.proofs.Within.{good_within}
+use Rattle.span_tree.specs.Cells.{AreNumbered, cell_at, cell_count, has_cell}
 use Rattle.span_tree.specs.Links.{no_edge}
+use Rattle.span_tree.specs.Weights.{weights_of}
+use Rattle.weights_in.specs.Weights.{AreWeights}
 use Rattle.cfg_normal.specs.declared.Edge.{Edge}
 use Rattle.tool_kit.specs.declared.edge_ref.EdgeRef.{EdgeRef}
-use Rattle.tool_kit.specs.declared.edge_ref.ToolKind.{ToolKind}
+use Rattle.tool_kit.specs.declared.edge_ref.ToolKind.TheVariants as kinds
 use Rattle.tool_kit.specs.Kept.{Kept}
 use Rattle.tool_kit.specs.Code.{AreAnswers, numbered}
-use Rattle.tool_kit.specs.Plans.{Plan}
+use Rattle.tool_kit.specs.Plans.{AreCounters, Plan}
+use Rattle.tool_kit.specs.Sound.{IsSound}
 use Rattle.cfg_blocks.specs.Marks.{numbers}
-use Rattle.cfg_view.specs.View.{view_of}
+use Rattle.cfg_view.specs.View.{Seen, view_of}
 use Rattle.edit_core.specs.declared.taking.EditFault.{EditFault}
 use Rattle.edit_core.specs.declared.taking.EditFault.TheVariants as faults
-use Rattle.edit_core.specs.Taken.{CanEdit}
-use Rattle.edit_core.specs.Code.{EditRefuses, IsEdited, AsksOf}
+use Rattle.edit_core.specs.Faithful.{AreCounted}
+use Rattle.edit_core.specs.Taken.{CanEdit, IsCramped}
+use Rattle.edit_core.specs.Code.{AsksOf, CountsEdges, EditRefuses, IsEdited}
 use Rattle.edit_core.specs.Written.{IsTheEdit}
-use Rattle.eel.specs.Answers.Edit.{IsEditOf, asked}
-use Rattle.eel.specs.Private.{HasCells}
-use Rattle.eel.proofs.EditOf.{is_edit_of}
+use Rattle.edit_core.proofs.Outwardly.{does_the_same}
+use Rattle.exact_counts.specs.Profiles.{counter_in}
+use Rattle.eel_said.specs.Command as words
+use Rattle.eel.specs.Answers.Edit.{IsEditOf, plan_of}
+use Rattle.eel.specs.Answers.Profile.{AreCells, AsksCounters, AsksGuessed}
+use Rattle.eel.specs.Answers.Tool.{Asks}
+use Rattle.eel.specs.Private.{HasCells, IsFit, IsProfileOf, MayAsk, ProfileRefuses, Says, cells_of, guessed, kind_of, ops_on, plan_for}
+use Rattle.eel.specs.declared.edge_work.EdgeWork.{EdgeWork}
+use Rattle.eel.specs.declared.edge_work.EdgeWork.TheVariants as works
 
 none_below : (cells : ℕ) → WorksBelow cells []
 none_below cells = λ k d within. absurd (omega arith)
@@ -54,7 +70,7 @@ script_has_cells edges lines said script all is =
       below = λ edge.
           subst (λ (n : ℕ). WorksBelow n (get_or script.snips.items edge [])) (sym is.cells)
           (subst (λ (xs : List (List Op)). WorksBelow (end_of cell_end said) (get_or xs edge [])) (sym is.snips)
-          (made_below (end_of cell_end said) (λ e. ops_on e said) (end_of edge_end said) within.cells_below edge));
+          (made_below (end_of cell_end said) (λ e. script_ops e said) (end_of edge_end said) within.cells_below edge));
     }
 
 -- ---- answers that are known
@@ -72,43 +88,162 @@ all_asked says choose edges snips ops known are =
     known k (get_or edges k no_edge) (get_or snips k []) (are.each k _ (slice_get-get_or edges k no_edge low))
     ∙ sym (get_or-map-range_with_len ops 0 (length edges) k k [] low (omega arith)))
 
--- ---- what an edit with such a tool is
+-- ---- counters
 
-abbrev plan_with : ToolKind → List ℕ → ℕ → List (List Op) → Plan
-plan_with kind marks cells snips = record { kind = kind; marks = marks; cells = cells; snips = snips }
+module _ (cells : List (Option ℕ)) (are : AreNumbered cells) where
+  abbrev counted : EdgeSet
+  counted = has_cell cells
 
-module _ {F : Type 0} (says : F → EdgeRef → List Op → Type 0) (tool : Kept F) (bytes : List ℕ) (kind : ToolKind)
-    (cells : ℕ) (ops : ℕ → List Op) (kind_is : tool.kind ≡ kind) (none_marked : tool.marks ≡ [])
-    (cells_are : tool.cells ≡ cells)
-    (known : (k : ℕ) (edge : Edge) (answer : List Op) → says tool.choose (numbered k edge) answer → answer ≡ ops k) where
-  plan_is : (plan : Plan) → AsksOf says tool bytes plan → plan ≡ plan_with kind [] cells (asked ops bytes)
+  abbrev On : ℕ → ℕ → List (List Op)
+  On k n = map (λ e. counter_in 2 (cell_at cells e)) (range_with_len k n)
+
+  next_counter : (k : ℕ) (more : List (List Op)) → AreCounters 2 (2 * count_below (suc k) counted) more
+      → (cell : Option ℕ) → cell_at cells k ≡ cell
+      → AreCounters 2 (2 * count_below k counted) (counter_in 2 cell ∷ more)
+  next_counter k more rest None is =
+      let count : count_below (suc k) counted ≡ count_below k counted + 0 =
+      ap (λ (c : Option ℕ). count_below k counted + (if is_some c then 1 else 0)) is in
+      subst (λ (n : ℕ). AreCounters 2 n more) (omega (arith, count)) rest
+  next_counter k more rest (Some cell) is =
+      let one : Some cell ≡ Some (count_below k counted) =
+      sym is ∙ are k ∙ ap (λ (c : Option ℕ). if is_some c then Some (count_below k counted) else None) is in
+      let first : cell ≡ count_below k counted = ap (λ c. unwrap_or c 0) one in
+      let count : count_below (suc k) counted ≡ count_below k counted + 1 =
+      ap (λ (c : Option ℕ). count_below k counted + (if is_some c then 1 else 0)) is in (
+        ap Count (omega (arith, first)),
+        subst (λ (n : ℕ). AreCounters 2 n more) (omega (arith, first, count)) rest,
+      )
+
+  counters_from : (k n : ℕ) → AreCounters 2 (2 * count_below k counted) (On k n)
+  counters_from k zero = tt
+  counters_from k (suc n) =
+      let next : k + 1 ≡ suc k = omega arith in
+      next_counter k (On (k + 1) n)
+      (subst (λ (j : ℕ). AreCounters 2 (2 * count_below j counted) (On (k + 1) n)) next (counters_from (k + 1) n))
+      (cell_at cells k) refl
+
+  -- one for each edge
+  counters_are : (n : ℕ) → length cells ≡ n → On 0 n ≡ map (counter_in 2) cells
+  counters_are n size =
+      let all = length-map-range_with_len (λ e. counter_in 2 (cell_at cells e)) 0 n in
+      ext_get_or [] (On 0 n) (map (counter_in 2) cells) (all ∙ sym size ∙ sym (length-map cells (counter_in 2)))
+      (λ e within.
+      get_or-map-range_with_len (λ e. counter_in 2 (cell_at cells e)) 0 n e e [] (omega (arith, within, all)) (omega arith)
+      ∙ sym (get_or-map (counter_in 2) cells e None [] (omega (arith, within, all, size))))
+
+-- ---- what each tool asks for
+
+pub counters_asked : (view : Seen) (bytes marks weights : List ℕ) (cells : List (Option ℕ)) → view ≡ view_of bytes marks
+    → AreCells view.graph weights cells
+    → AsksCounters marks weights bytes (plan_for (works.Counters cells) marks bytes)
+counters_asked view bytes marks weights cells is found =
+    let are = subst (λ (v : Seen). AreCells v.graph weights cells) is found in
+    (cells, are, ap (plan_of kinds.Profile marks (2 * cell_count cells)) (counters_are cells are.numbered _ are.size))
+
+pub guessed_asked : (view : Seen) (bytes marks : List ℕ) (cells : List (Option ℕ)) → view ≡ view_of bytes marks
+    → AreCells view.graph (weights_of view.graph.blocks view.graph.edges) cells
+    → AsksGuessed marks bytes (plan_for (works.Counters cells) marks bytes)
+guessed_asked view bytes marks cells is found =
+    subst (λ (v : Seen). AsksCounters marks (weights_of v.graph.blocks v.graph.edges) bytes (plan_for (works.Counters cells) marks bytes))
+    is (counters_asked view bytes marks _ cells is found)
+
+module _ (view : Seen) (bytes : List ℕ) (cells : List (Option ℕ)) (is : view ≡ view_of bytes [])
+    (found : AreCells view.graph (weights_of view.graph.blocks view.graph.edges) cells) where
+  pub profile_made : (file : List ℕ) → IsEditOf bytes (plan_for (works.Counters cells) [] bytes) file
+      → IsProfileOf (guessed bytes) bytes file
+  profile_made file made =
+      let (counted, are, same) = guessed_asked view bytes [] cells is found in
+      record { cells = counted; are = are; made = subst (λ (p : Plan). IsEditOf bytes p file) same made }
+
+  pub profile_refused : (fault : EditFault)
+      → EditRefuses bytes (λ plan. plan ≡ plan_for (works.Counters cells) [] bytes) fault
+      → ProfileRefuses (guessed bytes) bytes fault
+  profile_refused (faults.File first) refused = refused
+  profile_refused (faults.Room needed had) (plan, asks, cramped) =
+      let (counted, are, same) = guessed_asked view bytes [] cells is found in
+      (counted, are, subst (IsCramped needed had bytes) (asks ∙ same) cramped)
+  profile_refused faults.NoMemory refused = refused
+
+pub weighed_asked : (view : Seen) (bytes name lines weights : List ℕ) (cells : List (Option ℕ)) → view ≡ view_of bytes []
+    → AreWeights view lines weights → AreCells view.graph weights cells
+    → Asks (words.Weighed name) bytes lines (plan_for (works.Counters cells) [] bytes)
+weighed_asked view bytes name lines weights cells is are found = (
+  weights,
+  subst (λ (v : Seen). AreWeights v lines weights) is are,
+  counters_asked view bytes [] weights cells is found,
+)
+
+-- ---- the tool that is made of it
+
+few_cells : (work : EdgeWork) → IsFit work → cells_of work ≤ 2 ^ 23
+few_cells works.Nothing fit = omega arith
+few_cells (works.Script script) fit = let few = fit.few in omega (arith, few)
+few_cells (works.Counters tree) fit = let few = fit.1 in omega (arith, few)
+few_cells (works.Ring bits) fit =
+    let small : 2 ^ bits ≤ 2 ^ 16 = pow-le-pow_right {n = 2} (omega arith) {i = bits} {j = 16} fit.1 in
+    omega (arith, small)
+
+pub is_sound : (work : EdgeWork) → IsFit work → IsSound MayAsk Says (cells_of work) work
+is_sound work fit = record {
+  few = few_cells work fit;
+  called = λ edge number. (fit, number);
+  below = λ edge ops number said. said.1;
+  same = λ edge one other number first second. first.0 ∙ sym second.0;
+}
+
+are_counted : (work : EdgeWork) → IsFit work → (marks bytes : List ℕ) → AreCounted 2 (plan_for work marks bytes)
+are_counted (works.Counters tree) fit marks bytes =
+    λ profile. counters_from tree fit.0 0 (length (view_of bytes marks).graph.edges)
+are_counted works.Nothing fit marks bytes = λ profile. absurd (cc profile)
+are_counted (works.Script script) fit marks bytes = λ profile. absurd (cc profile)
+are_counted (works.Ring bits) fit marks bytes = λ profile. absurd (cc profile)
+
+pub is_edit_of : (bytes : List ℕ) (plan : Plan) (file : List ℕ) → CanEdit bytes plan → IsEdited bytes plan file
+    → IsEditOf bytes plan file
+is_edit_of bytes plan file can edited = record {
+  taken = can;
+  same = does_the_same bytes plan file edited.faithful;
+  faithful = edited.faithful;
+  version = edited.version;
+  cost = edited.cost;
+}
+
+module _ (work : EdgeWork) (tool : Kept EdgeWork) (bytes : List ℕ) (marks : List WordNo) (chooses : tool.choose ≡ work)
+    (counts : tool.cells ≡ cells_of work) (marked : tool.marks ≡ marks) (serves : tool.kind ≡ kind_of work) where
+  plan_is : (plan : Plan) → AsksOf Says tool bytes plan → plan ≡ plan_for work (numbers marks) bytes
   plan_is plan asks =
       let answers =
-      subst (λ marks. AreAnswers says tool.choose (view_of bytes (numbers marks)).graph.edges plan.snips)
-      none_marked asks.snips in
-      let snips_are = all_asked says tool.choose (view_of bytes []).graph.edges plan.snips ops known answers in
-      ap (λ k. plan_with k plan.marks plan.cells plan.snips) (asks.kind ∙ kind_is)
-      ∙ ap (λ m. plan_with kind m plan.cells plan.snips) (asks.marks ∙ ap numbers none_marked)
-      ∙ ap (λ n. plan_with kind [] n plan.snips) (asks.cells ∙ cells_are)
-      ∙ ap (plan_with kind [] cells) snips_are
+      subst (λ marks. AreAnswers Says tool.choose (view_of bytes (numbers marks)).graph.edges plan.snips) marked asks.snips in
+      let snips =
+      all_asked Says tool.choose (view_of bytes (numbers marks)).graph.edges plan.snips (λ edge. ops_on work edge)
+      (λ k edge answer said. said.0 ∙ ap (λ (w : EdgeWork). ops_on w k) chooses) answers in
+      λ i. record {
+        kind = (asks.kind ∙ serves) i;
+        marks = (asks.marks ∙ ap numbers marked) i;
+        cells = (asks.cells ∙ counts) i;
+        snips = snips i;
+      }
+
+  pub counts_edges : IsFit work → CountsEdges Says tool bytes
+  counts_edges fit = λ plan asks.
+      subst (AreCounted 2) (sym (plan_is plan asks)) (are_counted work fit (numbers marks) bytes)
 
   pub edits_made : {A E : Type 0} (items : A → List ℕ) (result : Result A E)
-      → IfOk result (λ file. (plan : Plan) × AsksOf says tool bytes plan × CanEdit bytes plan
+      → IfOk result (λ file. (plan : Plan) × AsksOf Says tool bytes plan × CanEdit bytes plan
       × IsEdited bytes plan (items file) × IsTheEdit bytes plan (items file))
-      → IfOk result (λ file. IsEditOf bytes (plan_with kind [] cells (asked ops bytes)) (items file))
+      → IfOk result (λ file. IsEditOf bytes (plan_for work (numbers marks) bytes) (items file))
   edits_made items (Ok file) (plan, asks, can, edited, written) =
-      subst (λ p. IsEditOf bytes p (items file)) (plan_is plan asks)
-      (is_edit_of bytes plan (items file) can edited)
+      subst (λ p. IsEditOf bytes p (items file)) (plan_is plan asks) (is_edit_of bytes plan (items file) can edited)
   edits_made items (Err fault) is = is
 
-  refusal_is : (fault : EditFault) → EditRefuses bytes (AsksOf says tool bytes) fault
-      → EditRefuses bytes (λ plan. plan ≡ plan_with kind [] cells (asked ops bytes)) fault
+  refusal_is : (fault : EditFault) → EditRefuses bytes (AsksOf Says tool bytes) fault
+      → EditRefuses bytes (λ plan. plan ≡ plan_for work (numbers marks) bytes) fault
   refusal_is (faults.File first) is = is
   refusal_is (faults.Room needed had) (plan, asks, cramped) = (plan, plan_is plan asks, cramped)
   refusal_is faults.NoMemory is = is
 
   pub edits_refused : {A : Type 0} (result : Result A EditFault)
-      → IfErr result (EditRefuses bytes (AsksOf says tool bytes))
-      → IfErr result (EditRefuses bytes (λ plan. plan ≡ plan_with kind [] cells (asked ops bytes)))
+      → IfErr result (EditRefuses bytes (AsksOf Says tool bytes))
+      → IfErr result (EditRefuses bytes (λ plan. plan ≡ plan_for work (numbers marks) bytes))
   edits_refused (Ok file) is = is
   edits_refused (Err fault) is = refusal_is fault is

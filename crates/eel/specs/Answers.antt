@@ -4,20 +4,20 @@ pub mod Noted
 pub mod Steps
 pub mod Edit
 pub mod Script
-pub mod Tool
 pub mod Profile
 pub mod Every
 pub mod Weighed
+pub mod Trace
+pub mod Tool
 pub mod Run
 pub mod Dump
-pub mod Print
 pub mod Show
 pub mod List
+pub mod Print
 pub mod Words
 pub mod Restore
 pub mod Counts
 pub mod Visits
-pub mod Trace
 pub mod LastEdges
 pub mod Report
 pub mod Demo
@@ -27,18 +27,12 @@ use Rattle.eel_said.specs.Command.{Command}
 use Rattle.eel_said.specs.Command as words
 use Rattle.eel_said.specs.Outcome.{Outcome, BadWords, Stream, Shows, line_of, status_of}
 use Rattle.eel_said.specs.Shared.{Outside, Meaning, with_err, IsUnused, IsQuiet, IsSilent}
-use Rattle.eel.specs.Answers.Edit.{edit_by_means, edit_means, plain}
-use Rattle.eel.specs.Answers.Script.{script_limit, scripting}
+use Rattle.eel.specs.Answers.Tool.{edit_means}
 use Rattle.eel.specs.Answers.Dump.{run_means}
-use Rattle.eel.specs.Answers.Show.{show_means}
-use Rattle.eel.specs.Answers.List.{list_means}
+use Rattle.eel.specs.Answers.Print.{show_means}
 use Rattle.eel.specs.Answers.Words.{words_means}
 use Rattle.eel.specs.Answers.Restore.{restore_means}
-use Rattle.eel.specs.Answers.Profile.{no_words, profiling}
-use Rattle.eel.specs.Answers.Every.{every_word}
-use Rattle.eel.specs.Answers.Weighed.{weighing, weights_limit}
 use Rattle.eel.specs.Answers.Report.{report_means}
-use Rattle.eel.specs.Answers.Trace.{tracing}
 use Rattle.eel.specs.Answers.Demo.{demo_means}
 
 -- words outside the grammar
@@ -51,17 +45,11 @@ unknown_means = record {
 }
 
 abbrev pub meaning_of : Command → Meaning
-meaning_of (words.EditPlain input output) = edit_means plain input output
-meaning_of (words.EditScript input output script) = edit_by_means scripting script_limit input output script
+meaning_of (words.Edit input output tool) = edit_means tool input output
 meaning_of (words.Run file limit dump args) = run_means file limit dump args
-meaning_of (words.Show file) = show_means file
-meaning_of (words.ListWords file) = list_means file
+meaning_of (words.Show shown file) = show_means shown file
 meaning_of (words.PutWords listing output) = words_means listing output
 meaning_of (words.Restore written output) = restore_means written output
-meaning_of (words.EditProfile input output) = edit_means (profiling no_words) input output
-meaning_of (words.EditEvery input output) = edit_means (profiling every_word) input output
-meaning_of (words.EditWeighed input output weights) = edit_by_means weighing weights_limit input output weights
-meaning_of (words.EditTrace input output bits) = edit_means (tracing bits) input output
 meaning_of (words.ReportRun report written dump) = report_means report written dump
 meaning_of (words.Demo number routines) = demo_means number routines
 meaning_of words.Unknown = unknown_means

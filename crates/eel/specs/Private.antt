@@ -1,5 +1,6 @@
 -- What only contracts of private functions and models cite.
-use Rattle.std.specs.Prelude.{ℕ, Some, None, Bool, true, false, ◌≡◌, ◌⊎◌, List, [], Option, ◌≤◌, ◌^◌, get_or}
+use Rattle.std.specs.Prelude.{ℕ, Some, None, Bool, true, false, ◌≡◌, ◌⊎◌, List, [], Option, ◌+◌, ◌*◌, ◌<◌, ◌≤◌, ◌^◌, get_or, length, map}
+use Rattle.std.specs.List.{range_with_len}
 use Rattle.eel_base.specs.declared.numbers.WordNo.{WordNo}
 use Rattle.snippets.specs.declared.script.Script.{Script}
 use Rattle.snippets.specs.Grammar.{AllSay, lines_of}
@@ -15,7 +16,9 @@ use Rattle.edit_core.specs.declared.taking.EditFault.{EditFault}
 use Rattle.v8_runner.specs.declared.Stop.{Stop}
 use Rattle.v8_runner.specs.declared.Stop.TheVariants as stops
 use Rattle.eel_said.specs.Outcome.{Outcome, Stopped, DeviceFault, OutOfMemory, Done, BadFile, NoRoom, NoProfile, NoCounts, NoTrace, BadCell, NotEveryWord, BadLine}
-use Rattle.eel_said.specs.Shared.{Store, IsPut}
+use Rattle.eel_said.specs.Command.{Tool}
+use Rattle.eel_said.specs.Command as words
+use Rattle.eel_said.specs.Shared.{Store, IsPut, IsUnread, WasRead}
 use Rattle.edit_core.specs.declared.taking.EditFault.TheVariants as faults
 use Rattle.edit_core.specs.Taken.{IsCramped}
 use Rattle.eel.specs.Answers.Profile.{guessed_with, plan_with, AreCells}
@@ -24,13 +27,23 @@ use Rattle.count_rebuild.specs.declared.fault.CountFault.TheVariants as count_fa
 use Rattle.edge_ring.specs.declared.fault.RingFault.{RingFault}
 use Rattle.eel_said.specs.declared.outcome.CountCause.TheVariants as causes
 use Rattle.edge_ring.specs.declared.fault.RingFault.TheVariants as ring_faults
-use Rattle.eel.specs.Answers.Files.{IsSound, IsFaulty}
+use Rattle.eel.specs.Answers.Files.{IsSound}
 use Rattle.eel.specs.Answers.Restore.{original_in}
 use Rattle.eel.specs.Answers.Visits.{HasEveryWord}
 use Rattle.snippets.specs.declared.script.ScriptFault.TheVariants as script_faults
 use Rattle.eel_said.specs.declared.outcome.LineCause.TheVariants as line_causes
-use Rattle.eel.specs.Answers.Script.{HasBadLine}
-use Rattle.eel.specs.Answers.Weighed.{HasBadWeight, AreWeightsOf}
+use Rattle.eel.specs.Answers.Edit.{plan_of}
+use Rattle.eel.specs.Answers.Every.{every_word}
+use Rattle.eel.specs.Answers.Tool.{IsBadLineOf}
+use Rattle.eel.specs.declared.edge_work.EdgeWork.{EdgeWork}
+use Rattle.eel.specs.declared.edge_work.EdgeWork.TheVariants as works
+use Rattle.edge_ring.specs.Ring.{ring_on}
+use Rattle.exact_counts.specs.Profiles.{counter_in}
+use Rattle.span_tree.specs.Cells.{AreNumbered, cell_at, cell_count}
+use Rattle.snippets.specs.declared.snippet.Op.{Op}
+use Rattle.tool_kit.specs.declared.edge_ref.EdgeRef.{EdgeRef}
+use Rattle.tool_kit.specs.declared.edge_ref.ToolKind.{ToolKind}
+use Rattle.tool_kit.specs.declared.edge_ref.ToolKind.TheVariants as kinds
 
 -- what the end of a run comes to
 abbrev pub stopped_of : Stop → ℕ → Outcome
@@ -67,16 +80,13 @@ profile_plan cells = plan_with [] cells
 
 -- ---- refusals
 
--- why a profile of some bytes with these marks, by these weights, is refused
-abbrev pub CountersRefuse : List ℕ → List ℕ → List ℕ → EditFault → Type 0
-CountersRefuse marks weights bytes (faults.File first) = fault bytes ≡ Some first
-CountersRefuse marks weights bytes (faults.Room needed had) =
-    (cells : List (Option ℕ)) × AreCells (view_of bytes marks).graph weights cells
-    × IsCramped needed had bytes (plan_with marks cells)
-CountersRefuse marks weights bytes faults.NoMemory = fault bytes ≡ None
-
+-- why a profile of some bytes, by these weights, is refused
 abbrev pub ProfileRefuses : List ℕ → List ℕ → EditFault → Type 0
-ProfileRefuses weights bytes fault = CountersRefuse [] weights bytes fault
+ProfileRefuses weights bytes (faults.File first) = fault bytes ≡ Some first
+ProfileRefuses weights bytes (faults.Room needed had) =
+    (cells : List (Option ℕ)) × AreCells (view_of bytes []).graph weights cells
+    × IsCramped needed had bytes (profile_plan cells)
+ProfileRefuses weights bytes faults.NoMemory = fault bytes ≡ None
 
 abbrev pub IsProfileOf : List ℕ → List ℕ → List ℕ → Type 0
 IsProfileOf weights bytes file = IsMarkedProfile [] weights bytes file
@@ -126,32 +136,69 @@ script_refusal_of name (script_faults.Cell number) = BadLine name number line_ca
 script_refusal_of name (script_faults.Ops number) = BadLine name number line_causes.Operations
 script_refusal_of name script_faults.NoMemory = OutOfMemory
 
--- a script was read for a graph of so many edges, and is refused
-abbrev pub IsBadScript : ℕ → List ℕ → List ℕ → Outcome → Type 0
-IsBadScript edges name lines (BadLine named number cause) = (named ≡ name) × HasBadLine edges lines number cause
-IsBadScript edges name lines OutOfMemory = Unit {0}
-IsBadScript edges name lines _ = ⊥
+-- ---- tools
+
+-- the words that a tool marks of a file
+abbrev pub marks_of : Tool → List ℕ → List ℕ
+marks_of words.Every bytes = every_word bytes
+marks_of _ bytes = []
+
+-- the lines that a tool takes were read, or are none; and they are no longer than they may be
+abbrev pub AreLines : Option (List ℕ × ℕ) → Store → List ℕ → Type 0
+AreLines None files lines = lines ≡ []
+AreLines (Some file) files lines = WasRead files file.0 file.1 lines
+
+abbrev pub AreUnread : Option (List ℕ × ℕ) → Store → Store → Outcome → Type 0
+AreUnread None old new outcome = ⊥
+AreUnread (Some file) old new outcome = IsUnread old new file.0 file.1 outcome
+
+abbrev pub AreWithin : Option (List ℕ × ℕ) → List ℕ → Type 0
+AreWithin None lines = Unit {0}
+AreWithin (Some file) lines = length lines ≤ file.1
 
 -- the lines were read for a program, and are refused
-abbrev pub AreNotWeights : Seen → List ℕ → List ℕ → Outcome → Type 0
-AreNotWeights view name lines (BadLine named number cause) = (named ≡ name) × HasBadWeight view lines number cause
-AreNotWeights view name lines OutOfMemory = Unit {0}
-AreNotWeights view name lines _ = ⊥
+abbrev pub AreRefused : Tool → Seen → List ℕ → Outcome → Type 0
+AreRefused tool view lines (BadLine named number cause) = IsBadLineOf tool view lines named number cause
+AreRefused tool view lines OutOfMemory = Unit {0}
+AreRefused tool view lines _ = ⊥
 
--- ---- the same, as the parts of the edit say it
+-- ---- what an edit puts on edges
 
--- IN and WEIGHTS were read, and the edit is refused
-abbrev pub IsNotWeighed : List ℕ → List ℕ → List ℕ → List ℕ → Outcome → Type 0
-IsNotWeighed input bytes name lines (BadFile named code) = (named ≡ input) × IsFaulty code bytes
-IsNotWeighed input bytes name lines (BadLine named number cause) =
-    (named ≡ name) × IsSound bytes × HasBadWeight (view_of bytes []) lines number cause
-IsNotWeighed input bytes name lines (NoRoom named needed had) =
-    (weights : List ℕ) × (cells : List (Option ℕ)) × (named ≡ input) × AreWeightsOf bytes lines weights
-    × AreCells (view_of bytes []).graph weights cells × IsCramped needed had bytes (profile_plan cells)
-IsNotWeighed input bytes name lines OutOfMemory = IsSound bytes
-IsNotWeighed input bytes name lines _ = ⊥
+-- the operations on an edge, by its number
+abbrev pub ops_on : EdgeWork → ℕ → List Op
+ops_on works.Nothing edge = []
+ops_on (works.Script script) edge = get_or script.snips.items edge []
+ops_on (works.Counters tree) edge = counter_in 2 (cell_at tree edge)
+ops_on (works.Ring bits) edge = ring_on bits edge
 
--- a file that was made of another, with counters on the edges off a tree that weighs most by these lines
-abbrev pub IsWeighedEdit : List ℕ → List ℕ → List ℕ → Type 0
-IsWeighedEdit bytes lines file =
-    (weights : List ℕ) × AreWeightsOf bytes lines weights × IsProfileOf weights bytes file
+abbrev pub cells_of : EdgeWork → ℕ
+cells_of works.Nothing = 0
+cells_of (works.Script script) = script.cells
+cells_of (works.Counters tree) = 2 * cell_count tree
+cells_of (works.Ring bits) = 1 + 2 ^ bits
+
+abbrev pub kind_of : EdgeWork → ToolKind
+kind_of works.Nothing = kinds.Plain
+kind_of (works.Script script) = kinds.Script
+kind_of (works.Counters tree) = kinds.Profile
+kind_of (works.Ring bits) = kinds.Trace
+
+-- all that is asked of a file with these marks
+abbrev pub plan_for : EdgeWork → List ℕ → List ℕ → Plan
+plan_for work marks bytes =
+    plan_of (kind_of work) marks (cells_of work)
+    (map (λ edge. ops_on work edge) (range_with_len 0 (length (view_of bytes marks).graph.edges)))
+
+-- there are few cells, and the operations work on them
+abbrev pub IsFit : EdgeWork → Type 0
+IsFit works.Nothing = Unit {0}
+IsFit (works.Script script) = HasCells script
+IsFit (works.Counters tree) = AreNumbered tree × (cell_count tree ≤ 2 ^ 22)
+IsFit (works.Ring bits) = (1 ≤ bits) × (bits ≤ 16)
+
+-- on which edges it is asked for operations, and which it may answer
+abbrev pub MayAsk : EdgeWork → EdgeRef → Type 0
+MayAsk work edge = IsFit work × (edge.no.0 < 2 ^ 24)
+
+abbrev pub Says : EdgeWork → EdgeRef → List Op → Type 0
+Says work edge ops = (ops ≡ ops_on work edge.no.0) × WorksBelow (cells_of work) ops

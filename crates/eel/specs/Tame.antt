@@ -1,8 +1,8 @@
 -- Files whose profile is made, run and rebuilt without a refusal.
-use Rattle.std.specs.Prelude.{◌≡◌, ◌≢◌, ℕ, ◌+◌, ◌*◌, ◌^◌, ◌<◌, ◌≤◌, List, [], ◌∷◌, length, None, Ok}
+use Rattle.std.specs.Prelude.{◌≡◌, ◌≢◌, ℕ, ◌+◌, ◌*◌, ◌^◌, ◌<◌, ◌≤◌, List, [], ◌∷◌, length, None}
 use Rattle.elf32_sparc.specs.FileFault.{fault, load_fault}
 use Rattle.elf32_sparc.specs.Image.{image_of}
-use Rattle.notes.specs.Format.{Notes, notes_of}
+use Rattle.notes.specs.Format.{Notes}
 use Rattle.v8_memory.specs.Spans.{Span}
 use Rattle.v8_step.specs.declared.Ending.{Ending}
 use Rattle.v8_step.specs.State.{State, AreBytes}
@@ -32,11 +32,6 @@ pub record IsTame (file : List ℕ) : Type 0 where
   pub few : steps ≤ 2 ^ 24
   pub untouched : (pages : List Span) → AreAbove (image_of file).base pages → (n : ℕ)
       → IsUntouched pages (alone file) n
-
--- a file with notes
-pub record IsNotedFile (file : List ℕ) : Type 0 where
-  pub notes : Notes
-  pub reads : notes_of file ≡ Ok notes
 
 -- the run of a machine ends within so many steps
 pub record EndsWithin (s0 : State) (limit : ℕ) : Type 0 where

@@ -1,9 +1,8 @@
 //! The command `demo`.
-ghost use Rattle.std.specs.Prelude.{◌≡◌, ◌≢◌, ◌≤◌, ◌<◌, ◌++◌, ◌^◌, ℕ, [], IfOk, OnOk, None, Some, length};
-ghost use Rattle.elf32_sparc.specs.FileFault.{fault, load_fault};
-ghost use Rattle.cfg_view.specs.View.{view_of as view_of_file};
+ghost use Rattle.std.specs.Prelude.{◌≡◌, ◌≢◌, ◌≤◌, ◌<◌, ◌++◌, ◌^◌, ℕ, [], IfErr, IfOk, OnOk, None, Some, length};
+ghost use Rattle.elf32_sparc.specs.FileFault.{load_fault};
+ghost use Rattle.cfg_view.specs.View.{view_of};
 ghost use Rattle.cfg_view.specs.Code.{view_seen, IsView};
-ghost use Rattle.notes.specs.Format.{notes_of};
 ghost use Rattle.v8_step.specs.Run.{run as run_of};
 ghost use Rattle.v8_step.specs.declared.Ending.{Ending as EndingSeen};
 ghost use Rattle.v8_runner.specs.Made.{AreMade};
@@ -14,28 +13,28 @@ ghost use Rattle.count_rebuild.specs.declared.fault.CountFault.{CountFault as Fa
 ghost use Rattle.count_rebuild.specs.declared.fault.CountFault.TheVariants as faults;
 ghost use Rattle.count_rebuild.specs.Answers.{AreCounts};
 ghost use Rattle.count_rebuild.specs.Code.{IsRefused};
-ghost use Rattle.edit_core.specs.declared.taking.EditFault.TheVariants as edit_faults;
-ghost use Rattle.eel_said.specs.Outcome.{Stream, ending_text as ending_text_of};
+ghost use Rattle.eel_said.specs.Outcome.{OutOfMemory, Stream, ending_text as ending_text_of};
 ghost use Rattle.eel_said.specs.Code.{outcome_seen};
 ghost use Rattle.eel_said.specs.Seen.{stream_seen};
 ghost use Rattle.eel_said.specs.Shared.{Feed, Store, outside};
 ghost use Rattle.eel.specs.Answers.Dump.{IsNoted};
 ghost use Rattle.eel.specs.Private.{IsProfileOf, guessed};
 ghost use Rattle.eel.specs.Answers.Demo.{EndsAlone, IsTold, TellOf, Tells, alone, demo_lines as demo_lines_of, ending_line, executions_line, name_line, size_in, size_line, walk_alone};
-ghost use Rattle.eel.specs.Tame.{EndsWithin, IsLastDump, IsNotedFile, IsTame};
+ghost use Rattle.eel.specs.Tame.{EndsWithin, IsLastDump, IsTame};
 
 use crate::dumps::dump_of;
-use crate::profile::profiled_view;
+use crate::edge_work::{EdgeWork, edit_by};
+use crate::edit::refusal;
+use crate::inputs::{notes_in, view_in};
+use crate::profile::heaviest_tree;
 use crate::texts::print;
-use cfg_view::{View, look};
+use cfg_view::View;
 use count_rebuild::{CountFault, rebuild};
 use dump_file::Dump;
-use edit_core::EditFault;
 use eel_base::{NoMemory, NullSink, Sink};
 use eel_said::Outcome;
-use elf32_sparc::ReadFault;
 use itoa::Buffer;
-use notes::{Notes, NotesFault, read_notes};
+use notes::Notes;
 use show_text::{put_line, sum};
 use std::alloc::Global;
 use v8_process::{LoadFault, load};
@@ -45,6 +44,9 @@ use workload::make;
 
 /// How many steps each of the two runs makes at most.
 const STEP_LIMIT: u64 = 1 << 40;
+
+/// What the program is called in a refusal. There is none but for want of memory.
+const NAME: &str = "demo";
 
 /// How large a program is.
 #[derive(Clone, Copy)]
@@ -80,15 +82,16 @@ pub fn demonstrate<O: Sink>(
 {
     match told(alloc, number, routines) {
         Ok(lines) => print(out, &lines),
-        Err(NoMemory) => Outcome::OutOfMemory,
+        Err(outcome) => outcome,
     }
 }
 
 /// The lines that are printed.
-fn told(alloc: Global, number: u32, routines: u32) -> Result<Vec<u8>, NoMemory>
+fn told(alloc: Global, number: u32, routines: u32) -> Result<Vec<u8>, Outcome<'static>>
     requires some { 1 ≤ routines }
     requires few { routines ≤ 100000 }
-    ensures { IfOk result (λ lines. IsTold number routines lines.items) }
+    ensures lines { IfOk result (λ lines. IsTold number routines lines.items) }
+    ensures wanting { IfErr result (λ outcome. outcome_seen outcome ≡ OutOfMemory) }
 {
     let original = make(alloc, number, routines)?;
     let lines = told_of(alloc, number, routines, &original)?;
@@ -96,28 +99,21 @@ fn told(alloc: Global, number: u32, routines: u32) -> Result<Vec<u8>, NoMemory>
 }
 
 /// The lines on a program.
-fn told_of(alloc: Global, number: u32, routines: u32, original: &[u8]) -> Result<Vec<u8>, NoMemory>
+fn told_of(
+    alloc: Global,
+    number: u32,
+    routines: u32,
+    original: &[u8],
+) -> Result<Vec<u8>, Outcome<'static>>
     requires { IsTame original.now }
-    ensures { IfOk result (λ lines. TellOf number routines original.now lines.items) }
+    ensures lines { IfOk result (λ lines. TellOf number routines original.now lines.items) }
+    ensures wanting { IfErr result (λ outcome. outcome_seen outcome ≡ OutOfMemory) }
 {
-    let view = view_of(alloc, original)?;
+    let view = view_in(alloc, NAME, original)?;
     let end = run_alone(alloc, original)?;
     let executions = executions(alloc, original, &view)?;
     let lines = demo_lines(alloc, number, routines, size_of(&view), end, executions)?;
     Ok(lines)
-}
-
-/// The view of the program.
-fn view_of(alloc: Global, original: &[u8]) -> Result<View, NoMemory>
-    requires { IsTame original.now }
-    ensures view { IfOk result (λ view. view_seen view ≡ view_of_file original.now []) }
-    ensures whole { IfOk result IsView }
-{
-    match look(alloc, original, &[]) {
-        Ok(view) => Ok(view),
-        Err(ReadFault::NoMemory) => Err(NoMemory),
-        Err(ReadFault::File(_)) => unreachable!(),
-    }
 }
 
 /// How many words, blocks and edges the program has.
@@ -143,54 +139,39 @@ fn run_alone(alloc: Global, original: &[u8]) -> Result<End, NoMemory>
 // ---- how often edges are completed
 
 /// How often the program's run completes edges in all, as the cells of its profile tell.
-fn executions(alloc: Global, original: &[u8], view: &View) -> Result<u128, NoMemory>
+fn executions(alloc: Global, original: &[u8], view: &View) -> Result<u128, Outcome<'static>>
     requires tame { IsTame original.now }
-    requires view { view_seen view.now ≡ view_of_file original.now [] }
+    requires view { view_seen view.now ≡ view_of original.now [] }
     requires whole { IsView view.now }
-    ensures { IfOk result (λ sum. (ending : EndingSeen) (steps : ℕ) → EndsAlone original.now ending steps
+    ensures sum { IfOk result (λ sum. (ending : EndingSeen) (steps : ℕ) → EndsAlone original.now ending steps
         → sum ≡ length (walk_alone original.now steps)) }
+    ensures wanting { IfErr result (λ outcome. outcome_seen outcome ≡ OutOfMemory) }
 {
     let written = profile(alloc, original, view)?;
-    let notes = notes_in(alloc, &written)?;
+    let notes = notes_in(alloc, NAME, &written)?;
     let dump = last_dump(alloc, &written, &notes)?;
     let counts = counts(alloc, &notes, &dump)?;
     Ok(sum(&counts))
 }
 
 /// The program with counters.
-fn profile(alloc: Global, original: &[u8], view: &View) -> Result<Vec<u8>, NoMemory>
+fn profile(alloc: Global, original: &[u8], view: &View) -> Result<Vec<u8>, Outcome<'static>>
     requires tame { IsTame original.now }
-    requires view { view_seen view.now ≡ view_of_file original.now [] }
+    requires view { view_seen view.now ≡ view_of original.now [] }
     requires whole { IsView view.now }
-    ensures { IfOk result (λ written. IsProfileOf (guessed original.now) original.now written.items) }
+    ensures written { IfOk result (λ written. IsProfileOf (guessed original.now) original.now written.items) }
+    ensures wanting { IfErr result (λ outcome. outcome_seen outcome ≡ OutOfMemory) }
 {
-    match profiled_view(alloc, original, view, Vec::new(alloc)) {
+    let tree = heaviest_tree(alloc, view)?;
+    match edit_by(
+        alloc,
+        original,
+        view,
+        Vec::new(alloc),
+        EdgeWork::Counters(tree),
+    ) {
         Ok(written) => Ok(written),
-        Err(fault) => Err(wanting(fault)),
-    }
-}
-
-/// Want of memory, where an edit fails for nothing else.
-fn wanting(fault: EditFault) -> NoMemory
-    requires { fault ≡ edit_faults.NoMemory }
-{
-    match fault {
-        EditFault::NoMemory => NoMemory,
-        EditFault::File(_) => unreachable!(),
-        EditFault::Room { .. } => unreachable!(),
-    }
-}
-
-/// The notes of a file that has some.
-fn notes_in(alloc: Global, written: &[u8]) -> Result<Notes, NoMemory>
-    requires { IsNotedFile written.now }
-    ensures notes { IfOk result (λ notes. notes_of written.now ≡ Ok (notes_seen notes)) }
-    ensures rules { IfOk result (λ notes. AreNotes (notes_seen notes)) }
-{
-    match read_notes(alloc, written) {
-        Ok(notes) => Ok(notes),
-        Err(NotesFault::NoMemory) => Err(NoMemory),
-        Err(_) => unreachable!(),
+        Err(fault) => Err(refusal(NAME, fault)),
     }
 }
 

@@ -1,39 +1,46 @@
 //! The command `edit`.
-ghost use Rattle.std.specs.Prelude.{◌≡◌, ◌≤◌, ◌^◌, [], IfErr, IfOk, length};
+ghost use Rattle.std.specs.Prelude.{◌≡◌, ◌≤◌, ◌^◌, ℕ, IfErr, IfOk, List, length};
+ghost use Rattle.cfg_blocks.specs.Marks.{numbers};
 ghost use Rattle.cfg_view.specs.View.{view_of};
-ghost use Rattle.cfg_view.specs.Code.{view_seen};
-ghost use Rattle.edit_core.specs.Code.{EditRefuses};
-ghost use Rattle.eel_said.specs.Code.{outcome_seen};
+ghost use Rattle.cfg_view.specs.Code.{view_seen, IsView};
+ghost use Rattle.eel_said.specs.Code.{outcome_seen, tool_seen, KeepsBits};
 ghost use Rattle.eel_said.specs.Seen.{files_seen};
-ghost use Rattle.eel.specs.Answers.Files.{IsSound};
-ghost use Rattle.eel.specs.Answers.Edit.{Edits, EditsBy, IsEditBy, IsEditOf, IsNotEdited, plain, plain_plan};
-ghost use Rattle.eel.specs.Private.{refusal_of, HasCells, IsBadScript, IsReadAs, script_refusal_of};
-ghost use Rattle.eel.specs.Answers.Script.{script_limit, script_plan, scripting};
+ghost use Rattle.eel.specs.Answers.Files.{IsNotSound, IsSound};
+ghost use Rattle.eel.specs.Answers.Tool.{Asks, Edits, IsEditBy, IsNotEdited, lines_of};
+ghost use Rattle.eel.specs.Private.{AreLines, AreRefused, AreUnread, AreWithin, IsFit, marks_of, plan_for, refusal_of};
 
-use crate::inputs::view_in;
+use crate::edge_work::{EdgeWork, edit_by};
+use crate::every::look_at_words;
+use crate::inputs::{unsound, view_in};
+use crate::profile::heaviest_tree;
+use crate::scripts::script_in;
 use crate::texts::{fetch_file, put_file};
+use crate::weights::measured_tree;
 use cfg_view::View;
-use edit_core::{EditFault, edit_bytes, edit_view};
-use eel_base::Files;
-use eel_said::{LineCause, Outcome};
-use snippets::{Script, ScriptFault, Snippet, read_script};
+use edit_core::EditFault;
+use eel_base::{Files, WordNo};
+use eel_said::{EditTool, Outcome};
 use std::alloc::Global;
-use tool_kit::{Chooser, EdgeRef, Tool, ToolKind};
 
 /// How many bytes a file may have that is edited or shown.
 pub const EDIT_LIMIT: u64 = 64 << 20;
 
+/// How many bytes the lines of weights may have.
+const WEIGHTS_LIMIT: u64 = 256 << 20;
+
 /// How many bytes a script may have.
 const SCRIPT_LIMIT: u64 = 16 << 20;
 
-/// Reads `input`, edits it without snippets, and writes `output`.
-pub fn edit_plain<'a, F: Files>(
+/// Reads `input`, and the lines that the tool takes, edits the one as the tool asks, and writes `output`.
+pub fn edit_file<'a, F: Files>(
     alloc: Global,
     files: &mut F,
     input: &'a str,
     output: &str,
+    tool: &EditTool<'a>,
 ) -> Outcome<'a>
-    ensures edits { Edits plain input.now output.now
+    requires { KeepsBits (tool_seen tool.now) }
+    ensures edits { Edits (tool_seen tool.now) input.now output.now
         (files_seen F.Files files.old) (files_seen F.Files files.new) (outcome_seen result) }
     ensures later { F.faults files.old ≤ F.faults files.new }
 {
@@ -41,63 +48,114 @@ pub fn edit_plain<'a, F: Files>(
         Ok(bytes) => bytes,
         Err(outcome) => return outcome,
     };
-    match without_snippets(alloc, &bytes) {
-        Ok(edited) => put_file(files, output, &edited),
-        Err(fault) => refusal(input, fault),
-    }
-}
-
-/// Reads `input` and `script`, edits the one as the other says, and writes `output`.
-pub fn edit_by_script<'a, F: Files>(
-    alloc: Global,
-    files: &mut F,
-    input: &'a str,
-    output: &str,
-    script: &'a str,
-) -> Outcome<'a>
-    ensures scripts { EditsBy scripting script_limit input.now output.now script.now
-        (files_seen F.Files files.old) (files_seen F.Files files.new) (outcome_seen result) }
-    ensures later { F.faults files.old ≤ F.faults files.new }
-{
-    let bytes = match fetch_file(alloc, files, input, EDIT_LIMIT) {
-        Ok(bytes) => bytes,
-        Err(outcome) => return outcome,
-    };
-    let lines = match fetch_file(alloc, files, script, SCRIPT_LIMIT) {
+    let lines = match fetch_lines(alloc, files, tool) {
         Ok(lines) => lines,
         Err(outcome) => return outcome,
     };
-    match scripted(alloc, input, &bytes, script, &lines) {
+    match edited(alloc, input, &bytes, tool, &lines) {
         Ok(written) => put_file(files, output, &written),
         Err(outcome) => outcome,
     }
 }
 
-// ---- without snippets
-
-/// The edit of a file with nothing on any edge.
-fn without_snippets(alloc: Global, bytes: &[u8]) -> Result<Vec<u8>, EditFault>
-    requires { length bytes.now ≤ 2 ^ 26 }
-    ensures edited { IfOk result (λ file. IsEditOf bytes.now (plain_plan bytes.now) file.items) }
-    ensures refused { IfErr result (EditRefuses bytes.now (λ plan. plan ≡ plain_plan bytes.now)) }
+/// Reads the lines that a tool takes, if it takes some.
+fn fetch_lines<'a, F: Files>(
+    alloc: Global,
+    files: &mut F,
+    tool: &EditTool<'a>,
+) -> Result<Vec<u8>, Outcome<'a>>
+    ensures read { IfOk result (λ lines.
+        AreLines (lines_of (tool_seen tool.now)) (files_seen F.Files files.old) lines.items) }
+    ensures unread { IfErr result (λ outcome. AreUnread (lines_of (tool_seen tool.now))
+        (files_seen F.Files files.old) (files_seen F.Files files.new) (outcome_seen outcome)) }
+    ensures kept { F.held files.new ≡ F.held files.old }
+    ensures later { F.faults files.old ≤ F.faults files.new }
 {
-    let tool = Tool::new(Nothing, 0, Vec::new(alloc), ToolKind::Plain);
-    edit_bytes(alloc, bytes, &tool)
+    match tool {
+        EditTool::Weighed(name) => fetch_file(alloc, files, *name, WEIGHTS_LIMIT),
+        EditTool::Script(name) => fetch_file(alloc, files, *name, SCRIPT_LIMIT),
+        EditTool::Plain | EditTool::Profile | EditTool::Every | EditTool::Trace(_) => {
+            Ok(Vec::new(alloc))
+        }
+    }
 }
 
-/// Nothing is done on any edge.
-#[derive(Clone, Copy, Drop)]
-struct Nothing;
+/// The edit of the file `input` as a tool asks by these lines.
+fn edited<'a>(
+    alloc: Global,
+    input: &'a str,
+    bytes: &[u8],
+    tool: &EditTool<'a>,
+    lines: &[u8],
+) -> Result<Vec<u8>, Outcome<'a>>
+    requires bytes { length bytes.now ≤ 2 ^ 26 }
+    requires bits { KeepsBits (tool_seen tool.now) }
+    requires lines { AreWithin (lines_of (tool_seen tool.now)) lines.now }
+    ensures edited { IfOk result (λ file. IsEditBy (tool_seen tool.now) bytes.now lines.now file.items) }
+    ensures refused { IfErr result (λ outcome.
+        IsNotEdited (tool_seen tool.now) input.now bytes.now lines.now (outcome_seen outcome)) }
+{
+    let (view, marks) = view_for(alloc, input, bytes, tool)?;
+    let work = work_for(alloc, &view, tool, lines)?;
+    match edit_by(alloc, bytes, &view, marks, work) {
+        Ok(file) => Ok(file),
+        Err(fault) => Err(refusal(input, fault)),
+    }
+}
 
-impl Chooser for Nothing {
-    ghost use Rattle.std.specs.Prelude.{◌≡◌, []};
+/// The view of the file `name` with the words marked that a tool marks, and these.
+fn view_for<'a>(
+    alloc: Global,
+    name: &'a str,
+    bytes: &[u8],
+    tool: &EditTool,
+) -> Result<(View, Vec<WordNo>), Outcome<'a>>
+    ensures view { IfOk result (λ looked. view_seen looked.0 ≡ view_of bytes.now (marks_of (tool_seen tool.now) bytes.now)) }
+    ensures marks { IfOk result (λ looked. numbers looked.1.items ≡ marks_of (tool_seen tool.now) bytes.now) }
+    ensures whole { IfOk result (λ looked. IsView looked.0) }
+    ensures sound { IfOk result (λ looked. IsSound bytes.now) }
+    ensures refused { IfErr result (λ outcome. IsNotSound name.now bytes.now (outcome_seen outcome)) }
+{
+    match tool {
+        EditTool::Every => match look_at_words(alloc, bytes) {
+            Ok(looked) => Ok(looked),
+            Err(fault) => Err(unsound(name, fault)),
+        },
+        EditTool::Plain
+        | EditTool::Profile
+        | EditTool::Weighed(_)
+        | EditTool::Trace(_)
+        | EditTool::Script(_) => Ok((view_in(alloc, name, bytes)?, Vec::new(alloc))),
+    }
+}
 
-    ghost may = { λ nothing edge. Unit {0} };
-
-    ghost says = { λ nothing edge ops. ops ≡ [] };
-
-    fn choose(&self, _edge: EdgeRef) -> Snippet {
-        Snippet::empty()
+/// What a tool puts on the edges of a program by these lines.
+fn work_for<'a>(
+    alloc: Global,
+    view: &View,
+    tool: &EditTool<'a>,
+    lines: &[u8],
+) -> Result<EdgeWork, Outcome<'a>>
+    requires view { IsView view.now }
+    requires few { length view.now.graph.edges ≤ 2 ^ 22 }
+    requires bits { KeepsBits (tool_seen tool.now) }
+    requires lines { AreWithin (lines_of (tool_seen tool.now)) lines.now }
+    ensures asked { (bytes : List ℕ) → view_seen view.now ≡ view_of bytes (marks_of (tool_seen tool.now) bytes)
+        → IfOk result (λ work. Asks (tool_seen tool.now) bytes lines.now
+        (plan_for work (marks_of (tool_seen tool.now) bytes) bytes)) }
+    ensures fit { IfOk result IsFit }
+    ensures refused { IfErr result (λ outcome.
+        AreRefused (tool_seen tool.now) (view_seen view.now) lines.now (outcome_seen outcome)) }
+{
+    match tool {
+        EditTool::Plain => Ok(EdgeWork::Nothing),
+        EditTool::Profile => Ok(EdgeWork::Counters(heaviest_tree(alloc, view)?)),
+        EditTool::Weighed(name) => Ok(EdgeWork::Counters(measured_tree(
+            alloc, view, *name, lines,
+        )?)),
+        EditTool::Every => Ok(EdgeWork::Counters(heaviest_tree(alloc, view)?)),
+        EditTool::Trace(bits) => Ok(EdgeWork::Ring(*bits)),
+        EditTool::Script(name) => Ok(EdgeWork::Script(script_in(alloc, view, *name, lines)?)),
     }
 }
 
@@ -112,133 +170,5 @@ pub fn refusal<'a>(name: &'a str, fault: EditFault) -> Outcome<'a>
         },
         EditFault::Room { needed, had } => Outcome::NoRoom { name, needed, had },
         EditFault::NoMemory => Outcome::OutOfMemory,
-    }
-}
-
-// ---- by a script
-
-/// The edit of the file `input` as the lines of the file `script` say.
-fn scripted<'a>(
-    alloc: Global,
-    input: &'a str,
-    bytes: &[u8],
-    script: &'a str,
-    lines: &[u8],
-) -> Result<Vec<u8>, Outcome<'a>>
-    requires bytes { length bytes.now ≤ 2 ^ 26 }
-    requires lines { length lines.now ≤ 2 ^ 24 }
-    ensures edited { IfOk result (λ file. IsEditBy scripting bytes.now lines.now file.items) }
-    ensures refused { IfErr result (λ outcome.
-        IsNotEdited scripting input.now bytes.now script.now lines.now (outcome_seen outcome)) }
-{
-    let view = view_in(alloc, input, bytes)?;
-    scripted_in(alloc, input, bytes, &view, script, lines)
-}
-
-/// The same, where there is a view of the file `input`.
-fn scripted_in<'a>(
-    alloc: Global,
-    input: &'a str,
-    bytes: &[u8],
-    view: &View,
-    script: &'a str,
-    lines: &[u8],
-) -> Result<Vec<u8>, Outcome<'a>>
-    requires bytes { length bytes.now ≤ 2 ^ 26 }
-    requires sound { IsSound bytes.now }
-    requires view { view_seen view.now ≡ view_of bytes.now [] }
-    requires lines { length lines.now ≤ 2 ^ 24 }
-    ensures edited { IfOk result (λ file. IsEditBy scripting bytes.now lines.now file.items) }
-    ensures refused { IfErr result (λ outcome.
-        IsNotEdited scripting input.now bytes.now script.now lines.now (outcome_seen outcome)) }
-{
-    let script = script_in(alloc, script, lines, edge_count(view))?;
-    with_snippets(alloc, bytes, view, &script).map_err(|fault| refusal(input, fault))
-}
-
-/// How many edges there are.
-fn edge_count(view: &View) -> u32
-    ensures { result ≡ length view.now.graph.edges }
-{
-    view.graph.edges().len() as u32
-}
-
-/// The script that the lines of the file `name` are, for a graph of so many edges.
-fn script_in<'a>(
-    alloc: Global,
-    name: &'a str,
-    lines: &[u8],
-    edges: u32,
-) -> Result<Script, Outcome<'a>>
-    requires { length lines.now ≤ 2 ^ 24 }
-    ensures script { IfOk result (λ script. IsReadAs edges lines.now script) }
-    ensures cells { IfOk result (λ script. HasCells script) }
-    ensures refused { IfErr result (λ outcome. IsBadScript edges name.now lines.now (outcome_seen outcome)) }
-{
-    match read_script(alloc, lines, edges) {
-        Ok(script) => Ok(script),
-        Err(fault) => Err(script_refusal(name, fault)),
-    }
-}
-
-/// What a refused script of the file `name` comes to.
-fn script_refusal<'a>(name: &'a str, fault: ScriptFault) -> Outcome<'a>
-    ensures { outcome_seen result ≡ script_refusal_of name.now fault }
-{
-    let (number, cause) = match fault {
-        ScriptFault::Line(number) => (number, LineCause::Grammar),
-        ScriptFault::Edge(number) => (number, LineCause::Edge),
-        ScriptFault::Cell(number) => (number, LineCause::Cell),
-        ScriptFault::Ops(number) => (number, LineCause::Operations),
-        ScriptFault::NoMemory => return Outcome::OutOfMemory,
-    };
-    Outcome::BadLine {
-        name,
-        number,
-        cause,
-    }
-}
-
-/// The edit of a file without a fault, of which there is a view, with a script's snippets on its edges.
-fn with_snippets(
-    alloc: Global,
-    bytes: &[u8],
-    view: &View,
-    script: &Script,
-) -> Result<Vec<u8>, EditFault>
-    requires bytes { length bytes.now ≤ 2 ^ 26 }
-    requires sound { IsSound bytes.now }
-    requires view { view_seen view.now ≡ view_of bytes.now [] }
-    requires cells { HasCells script.now }
-    ensures edited { let plan = script_plan bytes.now script.now.snips.items script.now.cells in
-        IfOk result (λ file. IsEditOf bytes.now plan file.items) }
-    ensures refused { let plan = script_plan bytes.now script.now.snips.items script.now.cells in
-        IfErr result (EditRefuses bytes.now (λ other. other ≡ plan)) }
-{
-    let named = Named {
-        snips: &script.snips,
-    };
-    let tool = Tool::new(named, script.cells, Vec::new(alloc), ToolKind::Script);
-    edit_view(alloc, bytes, view, &tool)
-}
-
-/// What a script names on each edge. Those past the last have nothing on them.
-#[derive(Clone, Copy, Drop)]
-struct Named<'a> {
-    snips: &'a [Snippet],
-}
-
-impl Chooser for Named<'_> {
-    ghost use Rattle.std.specs.Prelude.{◌≡◌, get_or, []};
-
-    ghost may = { λ named edge. Unit {0} };
-
-    ghost says = { λ named edge ops. ops ≡ get_or named.snips.now edge.no.0 [] };
-
-    fn choose(&self, edge: EdgeRef) -> Snippet {
-        match self.snips.get(edge.no.0 as usize) {
-            Some(snippet) => *snippet,
-            None => Snippet::empty(),
-        }
     }
 }

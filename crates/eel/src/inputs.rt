@@ -10,6 +10,7 @@ ghost use Rattle.dump_file.specs.Reading.{read_dump};
 ghost use Rattle.eel_said.specs.Code.{outcome_seen};
 ghost use Rattle.eel.specs.Answers.Files.{IsNotSound, IsSound};
 ghost use Rattle.eel.specs.Answers.Noted.{IsUndumped, IsUnnoted};
+ghost use Rattle.eel.specs.Refusals.{unsound_of};
 
 use cfg_view::{View, look};
 use dump_file::{Dump, DumpFault, read_dump};
@@ -27,11 +28,20 @@ pub fn view_in<'a>(alloc: Global, name: &'a str, bytes: &[u8]) -> Result<View, O
 {
     match look(alloc, bytes, &[]) {
         Ok(view) => Ok(view),
-        Err(ReadFault::File(fault)) => Err(Outcome::BadFile {
+        Err(fault) => Err(unsound(name, fault)),
+    }
+}
+
+/// What a fault of the program that the file `name` is to be comes to.
+pub fn unsound<'a>(name: &'a str, fault: ReadFault) -> Outcome<'a>
+    ensures { outcome_seen result ≡ unsound_of name.now fault }
+{
+    match fault {
+        ReadFault::File(fault) => Outcome::BadFile {
             name,
             code: fault.code(),
-        }),
-        Err(ReadFault::NoMemory) => Err(Outcome::OutOfMemory),
+        },
+        ReadFault::NoMemory => Outcome::OutOfMemory,
     }
 }
 

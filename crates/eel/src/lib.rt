@@ -5,23 +5,22 @@
 mod counts;
 mod demo;
 mod dumps;
+mod edge_work;
 mod edit;
 mod every;
 mod inputs;
 mod last_edges;
-mod list;
 mod profile;
 mod program;
 mod report;
 mod restore;
 mod run;
+mod scripts;
 mod show;
 mod texts;
-mod tool_edit;
 mod top;
-mod trace_edit;
 mod visits;
-mod weights_edit;
+mod weights;
 mod words;
 
 pub use counts::edits_are_profiles;

@@ -8,16 +8,11 @@ ghost use Rattle.eel.specs.Answers.{HasFailed, IsDone, IsRefusal, IsUnchanged, I
 
 use crate::demo::demonstrate;
 use crate::dumps::run_for_dump;
-use crate::edit::{edit_by_script, edit_plain};
-use crate::every::edit_every_word;
-use crate::list::list_words;
-use crate::profile::edit_for_counts;
+use crate::edit::edit_file;
 use crate::report::report_run;
 use crate::restore::restore_original;
 use crate::run::{Job, run_program};
 use crate::show::show_program;
-use crate::trace_edit::edit_for_trace;
-use crate::weights_edit::edit_by_weights;
 use crate::words::assemble_words;
 use eel_base::{Files, Sink, Source};
 use eel_said::{Command, Outcome, parse};
@@ -83,12 +78,11 @@ fn perform<'a, F: Files, I: Source, O: Sink, E: Sink>(
     ensures err_faults { E.faults err.old ≤ E.faults err.new }
 {
     match parse(words) {
-        Command::EditPlain { input, output } => edit_plain(alloc, files, input, output),
-        Command::EditScript {
+        Command::Edit {
             input,
             output,
-            script,
-        } => edit_by_script(alloc, files, input, output, script),
+            tool,
+        } => edit_file(alloc, files, input, output, &tool),
         Command::Run {
             file,
             limit,
@@ -109,22 +103,9 @@ fn perform<'a, F: Files, I: Source, O: Sink, E: Sink>(
             out,
             err,
         ),
-        Command::Show { file } => show_program(alloc, file, files, out),
-        Command::ListWords { file } => list_words(alloc, file, files, out),
+        Command::Show { shown, file } => show_program(alloc, shown, file, files, out),
         Command::PutWords { listing, output } => assemble_words(alloc, files, listing, output),
         Command::Restore { written, output } => restore_original(alloc, files, written, output),
-        Command::EditProfile { input, output } => edit_for_counts(alloc, files, input, output),
-        Command::EditWeighed {
-            input,
-            output,
-            weights,
-        } => edit_by_weights(alloc, files, input, output, weights),
-        Command::EditEvery { input, output } => edit_every_word(alloc, files, input, output),
-        Command::EditTrace {
-            input,
-            output,
-            bits,
-        } => edit_for_trace(alloc, files, input, output, bits),
         Command::ReportRun {
             report,
             written,

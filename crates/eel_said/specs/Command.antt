@@ -1,32 +1,37 @@
 -- The grammar of the program's words.
 use Rattle.std.specs.Prelude.{ℕ, ◌+◌, ◌-◌, ◌*◌, ◌^◌, ◌&&◌, nat_le, nat_lt, Bool, if◌then◌else◌, List, [], ◌∷◌, length, codes, decimal, Option, Some, None}
 use Rattle.std.specs.List.{find, fold, list_all, range_with_len}
-use Rattle.std.specs.Option.{option_or}
+use Rattle.std.specs.Option.{option_map, option_or}
 use Rattle.std.specs.Str.{bytes_eq}
 pub use Rattle.v8_process.specs.Arguments.{texts}
 use Rattle.v8_process.specs.Start.{strings}
+use Rattle.eel_said.specs.declared.command.Shown.{Shown}
+use Rattle.eel_said.specs.declared.command.Shown.TheVariants as shows
 use Rattle.eel_said.specs.declared.command.Report.{Report}
 use Rattle.eel_said.specs.declared.command.Report.TheVariants as reports
 
+-- what an edit puts on the edges of a program
+pub data Tool : Type 0 where
+  -- plain
+  Plain : Tool
+  -- profile
+  Profile : Tool
+  -- profile WEIGHTS
+  Weighed : (weights : List ℕ) → Tool
+  -- every
+  Every : Tool
+  -- trace BITS
+  Trace : (bits : ℕ) → Tool
+  -- script SCRIPT
+  Script : (script : List ℕ) → Tool
+
 pub data Command : Type 0 where
-  -- edit INPUT OUTPUT plain
-  EditPlain : (input output : List ℕ) → Command
-  -- edit INPUT OUTPUT script SCRIPT
-  EditScript : (input output script : List ℕ) → Command
-  -- edit INPUT OUTPUT profile
-  EditProfile : (input output : List ℕ) → Command
-  -- edit INPUT OUTPUT profile WEIGHTS
-  EditWeighed : (input output weights : List ℕ) → Command
-  -- edit INPUT OUTPUT every
-  EditEvery : (input output : List ℕ) → Command
-  -- edit INPUT OUTPUT trace BITS
-  EditTrace : (input output : List ℕ) (bits : ℕ) → Command
+  -- edit INPUT OUTPUT TOOL
+  Edit : (input output : List ℕ) (tool : Tool) → Command
   -- run FILE [-n LIMIT] [-d DUMP] [-- ARG..], the two options in either order
   Run : (file : List ℕ) (limit : ℕ) (dump : Option (List ℕ)) (args : List (List ℕ)) → Command
-  -- show FILE
-  Show : (file : List ℕ) → Command
-  -- list FILE
-  ListWords : (file : List ℕ) → Command
+  -- show FILE, list FILE
+  Show : (shown : Shown) (file : List ℕ) → Command
   -- words LISTING OUTPUT
   PutWords : (listing output : List ℕ) → Command
   -- restore WRITTEN OUTPUT
@@ -40,31 +45,31 @@ pub data Command : Type 0 where
 
 -- ---- edit
 
--- a tool that takes no file
-abbrev pub tool_of : List ℕ → List ℕ → List ℕ → Command
-tool_of input output tool =
-    if bytes_eq tool (codes "plain") then EditPlain input output else
-    if bytes_eq tool (codes "profile") then EditProfile input output else
-    if bytes_eq tool (codes "every") then EditEvery input output else Unknown
+-- a tool that is one word
+abbrev pub tool_of : List ℕ → Option Tool
+tool_of word =
+    if bytes_eq word (codes "plain") then Some Plain else
+    if bytes_eq word (codes "profile") then Some Profile else
+    if bytes_eq word (codes "every") then Some Every else None
 
 -- how many bits a ring has: a number from 1 to 16
 unfoldable pub bits_of : List ℕ → Option ℕ
 bits_of text = find (λ bits. bytes_eq text (decimal bits)) (range_with_len 1 16)
 
-abbrev pub trace_with : List ℕ → List ℕ → Option ℕ → Command
-trace_with input output None = Unknown
-trace_with input output (Some bits) = EditTrace input output bits
+-- a tool with a file, or with a number
+abbrev pub tool_with : List ℕ → List ℕ → Option Tool
+tool_with word value =
+    if bytes_eq word (codes "script") then Some (Script value) else
+    if bytes_eq word (codes "profile") then Some (Weighed value) else
+    if bytes_eq word (codes "trace") then option_map Trace (bits_of value) else None
 
--- a tool that takes a file, or a number
-abbrev pub tool_with : List ℕ → List ℕ → List ℕ → List ℕ → Command
-tool_with input output tool file =
-    if bytes_eq tool (codes "script") then EditScript input output file else
-    if bytes_eq tool (codes "profile") then EditWeighed input output file else
-    if bytes_eq tool (codes "trace") then trace_with input output (bits_of file) else Unknown
+abbrev pub edit_with : List ℕ → List ℕ → Option Tool → Command
+edit_with input output None = Unknown
+edit_with input output (Some tool) = Edit input output tool
 
 abbrev pub edit_of : List (List ℕ) → Command
-edit_of (input ∷ output ∷ tool ∷ []) = tool_of input output tool
-edit_of (input ∷ output ∷ tool ∷ file ∷ []) = tool_with input output tool file
+edit_of (input ∷ output ∷ tool ∷ []) = edit_with input output (tool_of tool)
+edit_of (input ∷ output ∷ tool ∷ value ∷ []) = edit_with input output (tool_with tool value)
 edit_of _ = Unknown
 
 -- ---- run
@@ -153,8 +158,8 @@ command_of [] = Unknown
 command_of (verb ∷ words) =
     if bytes_eq verb (codes "edit") then edit_of words else
     if bytes_eq verb (codes "run") then run_of words else
-    if bytes_eq verb (codes "show") then of_one Show words else
-    if bytes_eq verb (codes "list") then of_one ListWords words else
+    if bytes_eq verb (codes "show") then of_one (Show shows.Graph) words else
+    if bytes_eq verb (codes "list") then of_one (Show shows.Words) words else
     if bytes_eq verb (codes "words") then of_two PutWords words else
     if bytes_eq verb (codes "restore") then of_two Restore words else
     if bytes_eq verb (codes "counts") then of_two (ReportRun reports.Counts) words else

@@ -6,10 +6,20 @@ ghost use Rattle.std.specs.Str.{bytes_eq};
 ghost use Rattle.v8_step.specs.State.{AreBytes};
 ghost use Rattle.v8_process.specs.Arguments.{AreArguments, texts};
 ghost use Rattle.v8_process.specs.Start.{strings};
-ghost use Rattle.eel_said.specs.Code.{KeepsLimits, command_seen, name_seen};
-ghost use Rattle.eel_said.specs.Command.{command_of, edit_of, of_one, of_two, tool_of, tool_with, run_of, ListWords, PutWords, ReportRun, Restore, Show, options_of, option_in, late_in, limit_in, arguments_of, are_few, is_digit, number_within, demo_of, demo_with as demo_with_of, bits_of, trace_with};
+ghost use Rattle.eel_said.specs.Code.{KeepsBits, KeepsLimits, command_seen, name_seen, tool_seen};
+ghost use Rattle.eel_said.specs.Command.{Trace, command_of, edit_of, edit_with, of_one, of_two, tool_of, tool_with, run_of, PutWords, ReportRun, Restore, Show, options_of, option_in, late_in, limit_in, arguments_of, are_few, is_digit, number_within, demo_of, demo_with as demo_with_of, bits_of};
+ghost use Rattle.std.specs.Option.{option_map};
 
 use itoa::Buffer;
+
+/// What is shown of a program.
+#[derive(Clone, Copy)]
+pub enum Shown {
+    /// Its routines, blocks and edges.
+    Graph,
+    /// Its instructions, a line for each word of its text.
+    Words,
+}
 
 /// What is told of a run.
 #[derive(Clone, Copy)]
@@ -22,42 +32,31 @@ pub enum Report {
     LastEdges,
 }
 
+/// What an edit puts on the edges of a program.
+#[derive(Clone, Copy)]
+pub enum EditTool<'a> {
+    /// `plain`: nothing.
+    Plain,
+    /// `profile`: counters off a spanning tree.
+    Profile,
+    /// `profile WEIGHTS`: counters off the tree that weighs most by the counts in this file.
+    Weighed(&'a str),
+    /// `every`: counters off a spanning tree where each word is a block by itself.
+    Every,
+    /// `trace BITS`: a ring of 2^BITS places that keeps the last edges.
+    Trace(u32),
+    /// `script SCRIPT`: what the lines of this file say.
+    Script(&'a str),
+}
+
 /// What the words ask for.
 #[derive(Clone, Copy)]
 pub enum Command<'a> {
-    /// `edit INPUT OUTPUT plain`: write the file `input` again as `output`, without snippets.
-    EditPlain {
+    /// `edit INPUT OUTPUT TOOL`: write the file `input` again as `output`, with what a tool asks for on its edges.
+    Edit {
         input: &'a str,
         output: &'a str,
-    },
-    /// `edit INPUT OUTPUT script SCRIPT`: write it with what the lines of the file `script` say.
-    EditScript {
-        input: &'a str,
-        output: &'a str,
-        script: &'a str,
-    },
-    /// `edit INPUT OUTPUT profile`: write it with counters on the edges off a spanning tree.
-    EditProfile {
-        input: &'a str,
-        output: &'a str,
-    },
-    /// `edit INPUT OUTPUT profile WEIGHTS`: write it with counters off the tree that weighs most by the counts in the file
-    /// `weights`.
-    EditWeighed {
-        input: &'a str,
-        output: &'a str,
-        weights: &'a str,
-    },
-    /// `edit INPUT OUTPUT every`: write it with counters on the edges off a spanning tree where each word is a block by itself.
-    EditEvery {
-        input: &'a str,
-        output: &'a str,
-    },
-    /// `edit INPUT OUTPUT trace BITS`: write it with a ring of 2^BITS places that keeps the last edges.
-    EditTrace {
-        input: &'a str,
-        output: &'a str,
-        bits: u32,
+        tool: EditTool<'a>,
     },
     /// `run FILE [-n LIMIT] [-d DUMP] [-- ARG..]`: run the program `file` with these arguments, for `limit` steps at
     /// most, and write what it has come to as the file `dump`, where one is named.
@@ -67,12 +66,9 @@ pub enum Command<'a> {
         dump: Option<&'a str>,
         args: &'a [&'a str],
     },
-    /// `show FILE`: print the routines, blocks and edges of the program `file`.
+    /// `show FILE`, `list FILE`: print what is shown of the program `file`.
     Show {
-        file: &'a str,
-    },
-    /// `list FILE`: print the instructions of the program `file`, a line for each word of its text.
-    ListWords {
+        shown: Shown,
         file: &'a str,
     },
     /// `words LISTING OUTPUT`: write the words of the file `listing`, which is such lines, as the file `output`.
@@ -147,10 +143,10 @@ fn parse_verb<'a>(verb: &str, words: &'a [&'a str]) -> Command<'a>
         return parse_run(words);
     }
     if verb == "show" {
-        return parse_show(words);
+        return parse_show(Shown::Graph, words);
     }
     if verb == "list" {
-        return parse_list(words);
+        return parse_show(Shown::Words, words);
     }
     if verb == "words" {
         return parse_words(words);
@@ -179,66 +175,71 @@ fn parse_edit<'a>(words: &'a [&'a str]) -> Command<'a>
     ensures limits { KeepsLimits (command_seen result) }
 {
     match words {
-        [input, output, tool] => parse_tool(input, output, tool),
-        [input, output, tool, file] => parse_tool_with(input, output, tool, file),
+        [input, output, tool] => edit_with(input, output, parse_tool(tool)),
+        [input, output, tool, value] => edit_with(input, output, parse_tool_with(tool, value)),
         _ => Command::Unknown,
     }
 }
 
-/// An edit by a tool that takes no file.
-fn parse_tool<'a>(input: &'a str, output: &'a str, tool: &str) -> Command<'a>
-    ensures { command_seen result ≡ tool_of input.now output.now tool.now }
-{
-    if tool == "plain" {
-        return Command::EditPlain { input, output };
-    }
-    if tool == "profile" {
-        return Command::EditProfile { input, output };
-    }
-    if tool == "every" {
-        return Command::EditEvery { input, output };
-    }
-    Command::Unknown
-}
-
-/// An edit by a tool that takes a file, or a number.
-fn parse_tool_with<'a>(input: &'a str, output: &'a str, tool: &str, file: &'a str) -> Command<'a>
-    ensures command { command_seen result ≡ tool_with input.now output.now tool.now file.now }
+/// An edit by a tool, if there is one.
+fn edit_with<'a>(input: &'a str, output: &'a str, tool: Option<EditTool<'a>>) -> Command<'a>
+    requires { IfSome tool (λ tool. KeepsBits (tool_seen tool)) }
+    ensures command { command_seen result ≡ edit_with input.now output.now (option_map tool_seen tool.entry) }
     ensures limits { KeepsLimits (command_seen result) }
 {
-    if tool == "script" {
-        return Command::EditScript {
+    match tool {
+        Some(tool) => Command::Edit {
             input,
             output,
-            script: file,
-        };
-    }
-    if tool == "profile" {
-        return Command::EditWeighed {
-            input,
-            output,
-            weights: file,
-        };
-    }
-    if tool == "trace" {
-        return trace_edit(input, output, parse_bits(file));
-    }
-    Command::Unknown
-}
-
-/// An edit with a ring of so many bits, if it can have them.
-fn trace_edit<'a>(input: &'a str, output: &'a str, bits: Option<u32>) -> Command<'a>
-    requires { IfSome bits (λ bits. (1 ≤ bits) × (bits ≤ 16)) }
-    ensures command { command_seen result ≡ trace_with input.now output.now bits }
-    ensures limits { KeepsLimits (command_seen result) }
-{
-    match bits {
-        Some(bits) => Command::EditTrace {
-            input,
-            output,
-            bits,
+            tool,
         },
         None => Command::Unknown,
+    }
+}
+
+/// A tool that is one word.
+fn parse_tool(word: &str) -> Option<EditTool<'static>>
+    ensures tool { option_map tool_seen result ≡ tool_of word.now }
+    ensures limits { IfSome result (λ tool. KeepsBits (tool_seen tool)) }
+{
+    if word == "plain" {
+        return Some(EditTool::Plain);
+    }
+    if word == "profile" {
+        return Some(EditTool::Profile);
+    }
+    if word == "every" {
+        return Some(EditTool::Every);
+    }
+    None
+}
+
+/// A tool with a file, or with a number.
+fn parse_tool_with<'a>(word: &str, value: &'a str) -> Option<EditTool<'a>>
+    ensures tool { option_map tool_seen result ≡ tool_with word.now value.now }
+    ensures limits { IfSome result (λ tool. KeepsBits (tool_seen tool)) }
+{
+    if word == "script" {
+        return Some(EditTool::Script(value));
+    }
+    if word == "profile" {
+        return Some(EditTool::Weighed(value));
+    }
+    if word == "trace" {
+        return trace_with(parse_bits(value));
+    }
+    None
+}
+
+/// A ring of so many bits, if it can have them.
+fn trace_with(bits: Option<u32>) -> Option<EditTool<'static>>
+    requires { IfSome bits (λ bits. (1 ≤ bits) × (bits ≤ 16)) }
+    ensures tool { option_map tool_seen result ≡ option_map Trace bits }
+    ensures limits { IfSome result (λ tool. KeepsBits (tool_seen tool)) }
+{
+    match bits {
+        Some(bits) => Some(EditTool::Trace(bits)),
+        None => None,
     }
 }
 
@@ -259,24 +260,13 @@ fn is_number(text: &str, number: u32) -> bool
     text == digits.format(number)
 }
 
-/// What follows the word `show`.
-fn parse_show<'a>(words: &'a [&'a str]) -> Command<'a>
-    ensures command { command_seen result ≡ of_one Show (texts words.now) }
+/// What follows the word for what is shown of a program.
+fn parse_show<'a>(shown: Shown, words: &'a [&'a str]) -> Command<'a>
+    ensures command { command_seen result ≡ of_one (Show shown) (texts words.now) }
     ensures limits { KeepsLimits (command_seen result) }
 {
     match words {
-        [file] => Command::Show { file },
-        _ => Command::Unknown,
-    }
-}
-
-/// What follows the word `list`.
-fn parse_list<'a>(words: &'a [&'a str]) -> Command<'a>
-    ensures command { command_seen result ≡ of_one ListWords (texts words.now) }
-    ensures limits { KeepsLimits (command_seen result) }
-{
-    match words {
-        [file] => Command::ListWords { file },
+        [file] => Command::Show { shown, file },
         _ => Command::Unknown,
     }
 }

@@ -4,5 +4,5 @@
 mod command;
 mod outcome;
 
-pub use command::{Command, Report, parse};
+pub use command::{Command, EditTool, Report, Shown, parse};
 pub use outcome::{CountCause, LineCause, Outcome};

@@ -1,10 +1,9 @@
 //! What came of a command, and how the program shows it.
-ghost use Rattle.std.specs.Prelude.{◌≡◌, ◌≤◌, ◌++◌, ◌∷◌, [], codes, OnOk, OnErr};
-ghost use Rattle.eel_base.specs.Outside.{Rose, appended, TookPart};
+ghost use Rattle.std.specs.Prelude.{◌≡◌, ◌≤◌, ◌++◌, ◌∷◌, [], codes};
 ghost use Rattle.eel_said.specs.declared.outcome.CountCause.TheVariants as count_causes;
 ghost use Rattle.eel_said.specs.Outcome.{BadLine, cause_text as cause_text_of, status_of, ending_text, line_of, Shows, NoCounts, line_about};
 ghost use Rattle.eel_said.specs.Code.{outcome_seen};
-ghost use Rattle.eel_said.specs.Private.{joined};
+ghost use Rattle.eel_said.specs.Private.{joined, Wrote};
 ghost use Rattle.eel_said.specs.Seen.{stream_seen};
 
 use eel_base::{Addr, EdgeNo, Failed, NoMemory, Sink, hex8, put_all};
@@ -173,10 +172,8 @@ impl Outcome<'_> {
 
 /// Writes the outcome's line, if it has one.
 fn put_line<E: Sink>(outcome: &Outcome, err: &mut E) -> Result<(), Failed>
-    ensures all { OnOk result (E.taken err.new ≡ appended (E.taken err.old) (line_of (outcome_seen outcome.now))) }
-    ensures part { OnErr result (TookPart (E.taken err.old) (E.taken err.new) (line_of (outcome_seen outcome.now))) }
-    ensures failed { OnErr result (Rose (E.faults err.old) (E.faults err.new)) }
-    ensures later { E.faults err.old ≤ E.faults err.new }
+    ensures { Wrote (stream_seen E.Sink err.old) (stream_seen E.Sink err.new)
+        (line_of (outcome_seen outcome.now)) result }
 {
     match outcome {
         Outcome::Done => Ok(()),
@@ -211,10 +208,7 @@ fn put_line<E: Sink>(outcome: &Outcome, err: &mut E) -> Result<(), Failed>
 
 /// Writes what is to be told of the file `name`.
 fn put_about<E: Sink>(name: &str, text: &[u8], err: &mut E) -> Result<(), Failed>
-    ensures all { OnOk result (E.taken err.new ≡ appended (E.taken err.old) (line_about name.now text.now)) }
-    ensures part { OnErr result (TookPart (E.taken err.old) (E.taken err.new) (line_about name.now text.now)) }
-    ensures failed { OnErr result (Rose (E.faults err.old) (E.faults err.new)) }
-    ensures later { E.faults err.old ≤ E.faults err.new }
+    ensures { Wrote (stream_seen E.Sink err.old) (stream_seen E.Sink err.new) (line_about name.now text.now) result }
 {
     put_pieces(err, &[b"eel: ", name.as_bytes(), b": ", text, b"\n"])
 }
@@ -227,12 +221,8 @@ fn put_number<'a, N: Integer, E: Sink>(
     after: &'a [u8],
     err: &mut E,
 ) -> Result<(), Failed>
-    ensures all { OnOk result (E.taken err.new ≡ appended (E.taken err.old)
-        (line_about name.now (before.now ++ N.text number ++ after.now))) }
-    ensures part { OnErr result (TookPart (E.taken err.old) (E.taken err.new)
-        (line_about name.now (before.now ++ N.text number ++ after.now))) }
-    ensures failed { OnErr result (Rose (E.faults err.old) (E.faults err.new)) }
-    ensures later { E.faults err.old ≤ E.faults err.new }
+    ensures { Wrote (stream_seen E.Sink err.old) (stream_seen E.Sink err.new)
+        (line_about name.now (before.now ++ N.text number ++ after.now)) result }
 {
     let mut digits = Buffer::new();
     let number = digits.format(number).as_bytes();
@@ -250,12 +240,8 @@ fn put_numbers<'a, M: Integer, N: Integer, E: Sink>(
     after: &'a [u8],
     err: &mut E,
 ) -> Result<(), Failed>
-    ensures all { OnOk result (E.taken err.new ≡ appended (E.taken err.old)
-        (line_about name.now (before.now ++ M.text first ++ between.now ++ N.text second ++ after.now))) }
-    ensures part { OnErr result (TookPart (E.taken err.old) (E.taken err.new)
-        (line_about name.now (before.now ++ M.text first ++ between.now ++ N.text second ++ after.now))) }
-    ensures failed { OnErr result (Rose (E.faults err.old) (E.faults err.new)) }
-    ensures later { E.faults err.old ≤ E.faults err.new }
+    ensures { Wrote (stream_seen E.Sink err.old) (stream_seen E.Sink err.new)
+        (line_about name.now (before.now ++ M.text first ++ between.now ++ N.text second ++ after.now)) result }
 {
     let mut first_digits = Buffer::new();
     let mut second_digits = Buffer::new();
@@ -277,10 +263,8 @@ fn put_bad_line<E: Sink>(
     cause: LineCause,
     err: &mut E,
 ) -> Result<(), Failed>
-    ensures all { OnOk result (E.taken err.new ≡ appended (E.taken err.old) (line_of (BadLine name.now number cause))) }
-    ensures part { OnErr result (TookPart (E.taken err.old) (E.taken err.new) (line_of (BadLine name.now number cause))) }
-    ensures failed { OnErr result (Rose (E.faults err.old) (E.faults err.new)) }
-    ensures later { E.faults err.old ≤ E.faults err.new }
+    ensures { Wrote (stream_seen E.Sink err.old) (stream_seen E.Sink err.new)
+        (line_of (BadLine name.now number cause)) result }
 {
     let mut digits = Buffer::new();
     let number = digits.format(number).as_bytes();
@@ -314,10 +298,8 @@ fn cause_text<'a>(cause: LineCause) -> &'a [u8]
 
 /// Writes why the dump `name` has no counts.
 fn put_no_counts<E: Sink>(name: &str, cause: CountCause, err: &mut E) -> Result<(), Failed>
-    ensures all { OnOk result (E.taken err.new ≡ appended (E.taken err.old) (line_of (NoCounts name.now cause))) }
-    ensures part { OnErr result (TookPart (E.taken err.old) (E.taken err.new) (line_of (NoCounts name.now cause))) }
-    ensures failed { OnErr result (Rose (E.faults err.old) (E.faults err.new)) }
-    ensures later { E.faults err.old ≤ E.faults err.new }
+    ensures { Wrote (stream_seen E.Sink err.old) (stream_seen E.Sink err.new)
+        (line_of (NoCounts name.now cause)) result }
 {
     match cause {
         CountCause::Version { dump, notes } => put_numbers(
@@ -350,22 +332,16 @@ fn put_no_counts<E: Sink>(name: &str, cause: CountCause, err: &mut E) -> Result<
 
 /// Writes that the run stands between places.
 fn put_between<E: Sink>(name: &str, pc: Addr, err: &mut E) -> Result<(), Failed>
-    ensures all { OnOk result (E.taken err.new ≡ appended (E.taken err.old) (line_of (NoCounts name.now (count_causes.Between pc)))) }
-    ensures part { OnErr result (TookPart (E.taken err.old) (E.taken err.new) (line_of (NoCounts name.now (count_causes.Between pc)))) }
-    ensures failed { OnErr result (Rose (E.faults err.old) (E.faults err.new)) }
-    ensures later { E.faults err.old ≤ E.faults err.new }
+    ensures { Wrote (stream_seen E.Sink err.old) (stream_seen E.Sink err.new)
+        (line_of (NoCounts name.now (count_causes.Between pc))) result }
 {
     put_place(name, &hex8(pc.0), err)
 }
 
 /// The same, of an address by its digits.
 fn put_place<E: Sink>(name: &str, digits: &[u8], err: &mut E) -> Result<(), Failed>
-    ensures all { OnOk result (E.taken err.new ≡ appended (E.taken err.old)
-        (line_about name.now (codes "pc " ++ digits.now ++ codes " between places"))) }
-    ensures part { OnErr result (TookPart (E.taken err.old) (E.taken err.new)
-        (line_about name.now (codes "pc " ++ digits.now ++ codes " between places"))) }
-    ensures failed { OnErr result (Rose (E.faults err.old) (E.faults err.new)) }
-    ensures later { E.faults err.old ≤ E.faults err.new }
+    ensures { Wrote (stream_seen E.Sink err.old) (stream_seen E.Sink err.new)
+        (line_about name.now (codes "pc " ++ digits.now ++ codes " between places")) result }
 {
     put_pieces(
         err,
@@ -381,10 +357,8 @@ fn put_place<E: Sink>(name: &str, digits: &[u8], err: &mut E) -> Result<(), Fail
 
 /// Writes that the edge would have this count.
 fn put_count<E: Sink>(name: &str, edge: EdgeNo, value: i128, err: &mut E) -> Result<(), Failed>
-    ensures all { OnOk result (E.taken err.new ≡ appended (E.taken err.old) (line_of (NoCounts name.now (count_causes.Negative edge value)))) }
-    ensures part { OnErr result (TookPart (E.taken err.old) (E.taken err.new) (line_of (NoCounts name.now (count_causes.Negative edge value)))) }
-    ensures failed { OnErr result (Rose (E.faults err.old) (E.faults err.new)) }
-    ensures later { E.faults err.old ≤ E.faults err.new }
+    ensures { Wrote (stream_seen E.Sink err.old) (stream_seen E.Sink err.new)
+        (line_of (NoCounts name.now (count_causes.Negative edge value))) result }
 {
     let mut edge_digits = Buffer::new();
     let mut value_digits = Buffer::new();
@@ -406,10 +380,8 @@ fn put_count<E: Sink>(name: &str, edge: EdgeNo, value: i128, err: &mut E) -> Res
 
 /// Writes how a run ended, or that it was stopped after so many steps.
 fn put_ending<E: Sink>(ending: Option<Ending>, steps: u64, err: &mut E) -> Result<(), Failed>
-    ensures all { OnOk result (E.taken err.new ≡ appended (E.taken err.old) (ending_text ending steps ++ 10 ∷ [])) }
-    ensures part { OnErr result (TookPart (E.taken err.old) (E.taken err.new) (ending_text ending steps ++ 10 ∷ [])) }
-    ensures failed { OnErr result (Rose (E.faults err.old) (E.faults err.new)) }
-    ensures later { E.faults err.old ≤ E.faults err.new }
+    ensures { Wrote (stream_seen E.Sink err.old) (stream_seen E.Sink err.new)
+        (ending_text ending steps ++ 10 ∷ []) result }
 {
     let mut digits = Buffer::new();
     match ending {
@@ -429,10 +401,7 @@ fn put_ending<E: Sink>(ending: Option<Ending>, steps: u64, err: &mut E) -> Resul
 
 /// Writes the pieces, one after the other.
 fn put_pieces<E: Sink>(err: &mut E, pieces: &[&[u8]]) -> Result<(), Failed>
-    ensures all { OnOk result (E.taken err.new ≡ appended (E.taken err.old) (joined pieces.now)) }
-    ensures part { OnErr result (TookPart (E.taken err.old) (E.taken err.new) (joined pieces.now)) }
-    ensures failed { OnErr result (Rose (E.faults err.old) (E.faults err.new)) }
-    ensures later { E.faults err.old ≤ E.faults err.new }
+    ensures { Wrote (stream_seen E.Sink err.old) (stream_seen E.Sink err.new) (joined pieces.now) result }
 {
     for piece in pieces {
         put_all(err, piece)?;

@@ -1,19 +1,28 @@
--- A file is read and judged, and lines of it are printed.
+-- `show FILE` and `list FILE`: the file is read and judged, and lines of it are printed.
 use Rattle.std.specs.Prelude.{◌≡◌, ℕ, List}
 use Rattle.eel_base.specs.Outside.{IsMissing}
 use Rattle.eel_said.specs.Outcome.{Outcome}
 use Rattle.eel_said.specs.Shared.{Outside, Meaning, IsQuiet, HaveFailed, edit_limit, prints_mean}
+use Rattle.eel_said.specs.declared.command.Shown.{Shown}
+use Rattle.eel_said.specs.declared.command.Shown.TheVariants as shows
 use Rattle.eel.specs.Answers.Files.{IsNotSound, IsSound}
+use Rattle.eel.specs.Answers.List.{listed_of}
+use Rattle.eel.specs.Answers.Show.{shown_of}
 use Rattle.eel.specs.Answers.Steps.{Prints, Reads}
 
--- these are the lines of a file without a fault; `lines_of` has them of its bytes
-abbrev pub AreLinesOf : (List ℕ → List ℕ) → List ℕ → List ℕ → Type 0
-AreLinesOf lines_of bytes lines = IsSound bytes × (lines ≡ lines_of bytes)
+-- the lines of what is shown of a file
+abbrev pub lines_by : Shown → List ℕ → List ℕ
+lines_by shows.Graph bytes = shown_of bytes
+lines_by shows.Words bytes = listed_of bytes
 
-abbrev pub PrintsFile : (List ℕ → List ℕ) → List ℕ → Outside → Outside → Outcome → Type 0
-PrintsFile lines_of file old new outcome =
+-- these are they, of a file without a fault
+abbrev pub AreLinesOf : Shown → List ℕ → List ℕ → Type 0
+AreLinesOf shown bytes lines = IsSound bytes × (lines ≡ lines_by shown bytes)
+
+abbrev pub PrintsFile : Shown → List ℕ → Outside → Outside → Outcome → Type 0
+PrintsFile shown file old new outcome =
     Reads file edit_limit (IsQuiet old new)
-    (λ bytes. Prints (IsNotSound file bytes) (AreLinesOf lines_of bytes) old new outcome) old.files new.files outcome
+    (λ bytes. Prints (IsNotSound file bytes) (AreLinesOf shown bytes) old new outcome) old.files new.files outcome
 
-abbrev pub print_means : (List ℕ → List ℕ) → List ℕ → Meaning
-print_means lines_of file = prints_mean (PrintsFile lines_of file) (HaveFailed (λ files. IsMissing files.held file))
+abbrev pub show_means : Shown → List ℕ → Meaning
+show_means shown file = prints_mean (PrintsFile shown file) (HaveFailed (λ files. IsMissing files.held file))

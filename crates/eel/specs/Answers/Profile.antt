@@ -1,6 +1,6 @@
--- `edit IN OUT profile`: the file IN is read, judged, edited with counters on the edges off a spanning tree, and written as
--- OUT. Which words of its text are marked is told by a function: for `profile` none is.
-use Rattle.std.specs.Prelude.{◌≡◌, ℕ, ◌*◌, List, [], length, map, Option}
+-- `edit IN OUT profile` puts counters on the edges off a spanning tree of the graph of IN. Some words of its text may be
+-- marked: for `profile` none is.
+use Rattle.std.specs.Prelude.{◌≡◌, ℕ, ◌*◌, List, length, map, Option}
 use Rattle.flows.specs.Flows.{IsLeast, rest, weight_in}
 use Rattle.flows.specs.SpanningTrees.{IsSpanningTree}
 use Rattle.cfg_normal.specs.Graph.{Graph}
@@ -13,7 +13,7 @@ use Rattle.tool_kit.specs.declared.edge_ref.ToolKind.TheVariants as tools
 use Rattle.tool_kit.specs.Plans.{Plan}
 use Rattle.notes.specs.Format.{counter_width}
 use Rattle.exact_counts.specs.Profiles.{counter_in}
-use Rattle.eel.specs.Answers.Edit.{Tool, asking, plan_of}
+use Rattle.eel.specs.Answers.Edit.{plan_of}
 
 -- ---- which edges are counted
 
@@ -37,19 +37,11 @@ guessed_with bytes marks = let graph = (view_of bytes marks).graph in weights_of
 abbrev pub plan_with : List ℕ → List (Option ℕ) → Plan
 plan_with marks cells = plan_of tools.Profile marks (counter_width 2 * cell_count cells) (map (counter_in 2) cells)
 
--- ---- the edit
-
--- `profile` marks no word
-abbrev pub no_words : List ℕ → List ℕ
-no_words bytes = []
-
--- ---- the tools
-
 -- a plan with these marks, with counters on the edges off a tree that weighs most by these weights
 abbrev pub AsksCounters : List ℕ → List ℕ → List ℕ → Plan → Type 0
 AsksCounters marks weights bytes plan =
     (cells : List (Option ℕ)) × AreCells (view_of bytes marks).graph weights cells × (plan ≡ plan_with marks cells)
 
--- by the weights that are guessed; `marks_of` has the words that are marked of each file, by their numbers
-abbrev pub profiling : (List ℕ → List ℕ) → Tool
-profiling marks_of = asking (λ bytes. AsksCounters (marks_of bytes) (guessed_with bytes (marks_of bytes)) bytes)
+-- by the weights that are guessed
+abbrev pub AsksGuessed : List ℕ → List ℕ → Plan → Type 0
+AsksGuessed marks bytes plan = AsksCounters marks (guessed_with bytes marks) bytes plan

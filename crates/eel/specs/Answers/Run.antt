@@ -6,7 +6,6 @@ use Rattle.elf32_sparc.specs.FileFault.{load_fault}
 use Rattle.v8_step.specs.declared.Ending.{Ending}
 use Rattle.v8_step.specs.State.{State}
 use Rattle.v8_step.specs.Run.{run, run_puts}
-use Rattle.v8_runner.specs.declared.Stop.TheVariants as stops
 use Rattle.v8_runner.specs.Made.{AreMade}
 use Rattle.eel_said.specs.Outcome.{Outcome, Stopped, BadFile, TooLong, OutOfMemory, DeviceFault, Stream}
 use Rattle.eel_said.specs.Shared.{Feed}

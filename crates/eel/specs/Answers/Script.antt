@@ -1,5 +1,4 @@
--- `edit IN OUT script S`: the file IN and the script S are read, both are judged, and IN is edited as the lines of S
--- say and written as OUT.
+-- `edit IN OUT script S` puts what the lines of S say on the edges of IN.
 use Rattle.std.specs.Prelude.{◌≡◌, ℕ, ◌*◌, ◌^◌, List, [], get_or, length, Option, Some, None}
 use Rattle.snippets.specs.declared.snippet.Op.{Op}
 use Rattle.snippets.specs.declared.script.ScriptFault.{ScriptFault}
@@ -10,7 +9,7 @@ use Rattle.tool_kit.specs.declared.edge_ref.ToolKind.TheVariants as tools
 use Rattle.tool_kit.specs.Plans.{Plan}
 use Rattle.eel_said.specs.declared.outcome.LineCause.{LineCause}
 use Rattle.eel_said.specs.declared.outcome.LineCause.TheVariants as causes
-use Rattle.eel.specs.Answers.Edit.{Tool, asked, edges_in, plan_of}
+use Rattle.eel.specs.Answers.Edit.{asked, edges_in, plan_of}
 
 -- how long a script may be
 abbrev pub script_limit : ℕ
@@ -44,8 +43,3 @@ abbrev pub HasBadLine : ℕ → List ℕ → ℕ → LineCause → Type 0
 HasBadLine edges lines number cause =
     (said : _) × (fault : ScriptFault) × AllSay (lines_of lines) said × IsFirstFault edges said fault
     × (line_cause fault ≡ Some (number, cause))
-
--- ---- the tool
-
-abbrev pub scripting : Tool
-scripting = record { asks = IsScripted; has_bad_line = λ bytes. HasBadLine (length (edges_in bytes)) }

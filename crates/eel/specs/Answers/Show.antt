@@ -1,9 +1,7 @@
--- `show FILE`: the file is read, judged, and its routines, blocks, edges and switches are printed.
+-- `show FILE` prints the routines, blocks, edges and switches of the program FILE.
 use Rattle.std.specs.Prelude.{ℕ, List, []}
 use Rattle.cfg_view.specs.View.{Seen, view_of}
 use Rattle.show_text.specs.Lines.{show_lines}
-use Rattle.eel_said.specs.Shared.{Meaning}
-use Rattle.eel.specs.Answers.Print.{print_means}
 
 -- the lines that show a view and its switches
 abbrev pub lines_of : Seen → List ℕ
@@ -12,6 +10,3 @@ lines_of view = show_lines view view.switches
 -- the lines that show a file's program
 abbrev pub shown_of : List ℕ → List ℕ
 shown_of bytes = lines_of (view_of bytes [])
-
-abbrev pub show_means : List ℕ → Meaning
-show_means file = print_means shown_of file

@@ -1,5 +1,5 @@
--- `edit IN OUT profile WEIGHTS`: the file IN and the lines WEIGHTS are read, both are judged, and IN is edited with counters
--- on the edges off a spanning tree that weighs most by these lines, and written as OUT.
+-- `edit IN OUT profile WEIGHTS` puts counters on the edges off a spanning tree of the graph of IN that weighs most by the
+-- lines WEIGHTS.
 use Rattle.std.specs.Prelude.{◌≡◌, ℕ, ◌*◌, ◌^◌, List, [], Option, Some, None}
 use Rattle.cfg_view.specs.View.{Seen, view_of}
 use Rattle.weights_in.specs.Weights.{AreRefused, AreWeights}
@@ -7,8 +7,6 @@ use Rattle.weights_in.specs.declared.reading.WeightFault.{WeightFault}
 use Rattle.weights_in.specs.declared.reading.WeightFault.TheVariants as weight_faults
 use Rattle.eel_said.specs.declared.outcome.LineCause.{LineCause}
 use Rattle.eel_said.specs.declared.outcome.LineCause.TheVariants as causes
-use Rattle.eel.specs.Answers.Edit.{Tool}
-use Rattle.eel.specs.Answers.Profile.{AsksCounters}
 
 -- how long the lines may be
 abbrev pub weights_limit : ℕ
@@ -31,11 +29,3 @@ weight_cause weight_faults.NoMemory = None
 abbrev pub HasBadWeight : Seen → List ℕ → ℕ → LineCause → Type 0
 HasBadWeight view lines number cause =
     (fault : WeightFault) × AreRefused view lines fault × (weight_cause fault ≡ Some (number, cause))
-
--- ---- the tool
-
-abbrev pub weighing : Tool
-weighing = record {
-  asks = λ bytes lines plan. (weights : List ℕ) × AreWeightsOf bytes lines weights × AsksCounters [] weights bytes plan;
-  has_bad_line = λ bytes. HasBadWeight (view_of bytes []);
-}

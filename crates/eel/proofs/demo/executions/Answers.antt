@@ -8,19 +8,19 @@ use Rattle.eel.proofs.demo.executions.Goals as goal
 pub last_dump-requires-clause-ends : goal.last_dump-requires-clause-ends
 last_dump-requires-clause-ends c =
     rw c.deref-2.ensures.value
-    (ends c.args.original.now c.in_ok-written.written.items c.requires.tame c.in_ok-written.ensures
+    (ends c.args.original.now c.in_ok-written.written.items c.requires.tame c.in_ok-written.ensures.written
     (notes_seen c.in_ok-notes.notes) (rw c.deref.ensures.value at c.in_ok-notes.ensures.notes))
 
 pub counts-requires-clause-tells : goal.counts-requires-clause-tells
 counts-requires-clause-tells c =
-    tells c.args.original.now c.in_ok-written.written.items c.requires.tame c.in_ok-written.ensures
+    tells c.args.original.now c.in_ok-written.written.items c.requires.tame c.in_ok-written.ensures.written
     (notes_seen c.in_ok-notes.notes) (rw c.deref.ensures.value at c.in_ok-notes.ensures.notes)
     (dump_seen c.in_ok-dump.dump) (rw c.deref-2.ensures.value at c.in_ok-dump.ensures.dump)
 
-pub returns : goal.returns
-returns c = λ ending steps ran.
+pub returns-clause-sum : goal.returns-clause-sum
+returns-clause-sum c = λ ending steps ran.
     c.sum.ensures ∙ ap sum c.deref-3.ensures.value
-    ∙ adds_up c.args.original.now c.in_ok-written.written.items c.requires.tame c.in_ok-written.ensures
+    ∙ adds_up c.args.original.now c.in_ok-written.written.items c.requires.tame c.in_ok-written.ensures.written
     (notes_seen c.in_ok-notes.notes) (rw c.deref.ensures.value at c.in_ok-notes.ensures.notes)
     (dump_seen c.in_ok-dump.dump) (rw c.deref-2.ensures.value at c.in_ok-dump.ensures.dump)
     c.in_ok-counts.counts.items c.in_ok-counts.ensures ending steps ran

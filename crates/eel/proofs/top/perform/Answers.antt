@@ -1,13 +1,9 @@
 use Rattle.std.proofs.Common.{refl}
 use Rattle.eel.proofs.top.perform.Goals as goal
 
-pub returns-in-EditPlain-clause-follows : goal.returns-in-EditPlain-clause-follows
-returns-in-EditPlain-clause-follows g c =
-    rw (← c.in-EditPlain.ensures.command) (c.edit_plain.ensures.edits, refl, (refl, refl))
-
-pub returns-in-EditScript-clause-follows : goal.returns-in-EditScript-clause-follows
-returns-in-EditScript-clause-follows g c =
-    rw (← c.in-EditScript.ensures.command) (c.edit_by_script.ensures.scripts, refl, (refl, refl))
+pub returns-in-Edit-clause-follows : goal.returns-in-Edit-clause-follows
+returns-in-Edit-clause-follows g c =
+    rw (← c.in-Edit.ensures.command) (c.edit_file.ensures.edits, refl, (refl, refl))
 
 pub returns-in-Run-default-default-None-default-clause-follows : goal.returns-in-Run-default-default-None-default-clause-follows
 returns-in-Run-default-default-None-default-clause-follows g c =
@@ -17,14 +13,6 @@ returns-in-Run-default-default-None-default-clause-follows g c =
 pub returns-in-Run-default-default-Some-default-clause-follows : goal.returns-in-Run-default-default-Some-default-clause-follows
 returns-in-Run-default-default-Some-default-clause-follows g c = rw (← c.in-Run-default-default-Some-default.ensures.command, c.in-Run-default-default-Some-default.dump-is)
     c.run_for_dump.ensures.dumps
-
-pub returns-in-EditProfile-clause-follows : goal.returns-in-EditProfile-clause-follows
-returns-in-EditProfile-clause-follows g c =
-    rw (← c.in-EditProfile.ensures.command) (c.edit_for_counts.ensures.profiles, refl, (refl, refl))
-
-pub returns-in-EditEvery-clause-follows : goal.returns-in-EditEvery-clause-follows
-returns-in-EditEvery-clause-follows g c =
-    rw (← c.in-EditEvery.ensures.command) (c.edit_every_word.ensures.profiles, refl, (refl, refl))
 
 pub returns-in-ReportRun-clause-follows : goal.returns-in-ReportRun-clause-follows
 returns-in-ReportRun-clause-follows g c =
@@ -42,18 +30,6 @@ pub returns-in-Demo-clause-follows : goal.returns-in-Demo-clause-follows
 returns-in-Demo-clause-follows g c =
     rw (← c.in-Demo.ensures.command) (c.demonstrate.ensures.tells _ _ _, refl, refl)
 
-pub returns-in-ListWords-clause-follows : goal.returns-in-ListWords-clause-follows
-returns-in-ListWords-clause-follows g c =
-    rw (← c.in-ListWords.ensures.command) (c.list_words.ensures.prints _ _, c.list_words.ensures.kept, refl)
-
 pub returns-in-PutWords-clause-follows : goal.returns-in-PutWords-clause-follows
 returns-in-PutWords-clause-follows g c =
     rw (← c.in-PutWords.ensures.command) (c.assemble_words.ensures.assembles, refl, (refl, refl))
-
-pub returns-in-EditWeighed-clause-follows : goal.returns-in-EditWeighed-clause-follows
-returns-in-EditWeighed-clause-follows g c =
-    rw (← c.in-EditWeighed.ensures.command) (c.edit_by_weights.ensures.weighs, refl, (refl, refl))
-
-pub returns-in-EditTrace-clause-follows : goal.returns-in-EditTrace-clause-follows
-returns-in-EditTrace-clause-follows g c =
-    rw (← c.in-EditTrace.ensures.command) (c.edit_for_trace.ensures.traces, refl, (refl, refl))
