@@ -101,14 +101,15 @@ impl Maker<'_> {
         ensures cases { IfOk result (λ p. map (λ (n : PieceNo). n.0) p.cases.items
             ≡ case_numbers self.now.text.now self.now.graph.now) }
     {
-        let mut list = Vec::new(alloc);
+        let foreign = self.foreign_number()?;
+        let mut list = Vec::with_capacity(alloc, foreign.0 as usize + 1)?;
         let cases = self.push_all(alloc, &mut list)?;
         let node = Node::Block(self.graph.holding(entry));
         Ok(PieceList {
             list,
             landing: self.landings(alloc, snips)?,
             entry: self.enter(node, entry)?,
-            foreign: self.foreign_number()?,
+            foreign,
             cases,
         })
     }

@@ -1,6 +1,5 @@
 use Rattle.std.proofs.Common.{ap, ◌∙◌}
 use Rattle.image_code.specs.Made.{piece_list}
-use Rattle.image_code.specs.Private.{code_at}
 use Rattle.image_code.proofs.Sources.{source_is}
 use Rattle.image_code.proofs.making.pieces.Goals as goal
 
@@ -22,4 +21,4 @@ pub returns-clause-list : goal.returns-clause-list
 returns-clause-list c =
     c.in_ok-pieces.ensures.list
     ∙ ap (piece_list c.args.text.now c.args.graph.now c.args.addresses.table.0 c.args.addresses.cases.0)
-    (λ i edge. (ap (λ codes. code_at codes edge) c.deref.ensures.value ∙ c.in_ok-codes.ensures.codes edge) i)
+    (λ i edge. c.in_ok-codes.ensures.codes edge i)
