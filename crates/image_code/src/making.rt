@@ -87,14 +87,17 @@ impl Maker<'_> {
         Ok(cases)
     }
 
-    // All pieces, and the numbers of those that tables and the entry lead to.
-    fn pieces(&self, alloc: Global, snips: &[Snippet], entry: WordNo) -> Result<PieceList, NoMemory>
+    // All pieces, and the numbers of those that the entry and tables lead to, where those for the words are known.
+    fn pieces(
+        &self,
+        alloc: Global,
+        landing: Vec<PieceNo>,
+        entry: WordNo,
+    ) -> Result<PieceList, NoMemory>
         requires entry { entry.0 < length self.now.text.now.words }
-        requires snips { length snips.now ≡ length self.now.graph.now.edges }
         ensures list { IfOk result (λ p. p.list.items ≡ piece_list self.now.text.now self.now.graph.now self.now.table.0
             self.now.cases.0 (code_at self.now.codes.now)) }
-        ensures landing { IfOk result (λ p. map (λ (n : PieceNo). n.0) p.landing.items
-            ≡ map (lands_at self.now.text.now self.now.graph.now snips.now) (below (length self.now.text.now.words))) }
+        ensures landing { IfOk result (λ p. p.landing ≡ landing) }
         ensures entry { IfOk result (λ p. p.entry.0 ≡ enter_number self.now.text.now self.now.graph.now
             (node_of self.now.graph.now.blocks (Some entry.0)) entry.0) }
         ensures foreign { IfOk result (λ p. p.foreign.0 ≡ foreign_number_of self.now.text.now self.now.graph.now) }
@@ -107,7 +110,7 @@ impl Maker<'_> {
         let node = Node::Block(self.graph.holding(entry));
         Ok(PieceList {
             list,
-            landing: self.landings(alloc, snips)?,
+            landing,
             entry: self.enter(node, entry)?,
             foreign,
             cases,
@@ -124,26 +127,28 @@ impl Maker<'_> {
 /// - a landing at each word: the snippet of the landing edge, and a jump to the word's image;
 /// - for each open switch, the words that keep the address of its load, right before the load's image;
 /// - the foreign piece, for every address outside the text.
+///
+/// The snippets are let go before the pieces are made.
 pub fn pieces(
     alloc: Global,
     text: &Text,
     graph: &FlowGraph,
     entry: WordNo,
-    snips: &[Snippet],
+    snips: Vec<Snippet>,
     live: &LiveSets,
     addresses: DataAddresses,
 ) -> Result<PieceList, NoMemory>
     requires graph { IsGraphOf text.now graph.now }
     requires entry { entry.0 < length text.now.words }
-    requires snips { length snips.now ≡ length graph.now.edges }
+    requires snips { length snips.items ≡ length graph.now.edges }
     requires aligned { addresses.cells.0 % 4 ≡ 0 }
-    requires cells { All (λ ops. EndLow addresses.cells.0 ops) snips.now }
+    requires cells { All (λ ops. EndLow addresses.cells.0 ops) snips.items }
     requires low { addresses.table.0 + table_size_of text.now ≤ 2 ^ 31 }
     ensures list { IfOk result (λ p. p.list.items ≡ piece_list text.now graph.now addresses.table.0 addresses.cases.0
-        (codes_in addresses.cells.0 (dead_on live.now) snips.now)) }
-    ensures codes { IfOk result (λ p. (edge : ℕ) → CodeDoes addresses.cells.0 (dead_on live.now) snips.now edge) }
+        (codes_in addresses.cells.0 (dead_on live.now) snips.items)) }
+    ensures codes { IfOk result (λ p. (edge : ℕ) → CodeDoes addresses.cells.0 (dead_on live.now) snips.items edge) }
     ensures landing { IfOk result (λ p. map (λ (n : PieceNo). n.0) p.landing.items
-        ≡ map (lands_at text.now graph.now snips.now) (below (length text.now.words))) }
+        ≡ map (lands_at text.now graph.now snips.items) (below (length text.now.words))) }
     ensures entry { IfOk result (λ p. p.entry.0
         ≡ enter_number text.now graph.now (node_of graph.now.blocks (Some entry.0)) entry.0) }
     ensures foreign { IfOk result (λ p. p.foreign.0 ≡ foreign_number_of text.now graph.now) }
@@ -152,7 +157,7 @@ pub fn pieces(
     // The invariants of the text and of its graph.
     let _words = text.len();
     let _edges = graph.edges();
-    let codes = codes_of(alloc, snips, live, addresses.cells)?;
+    let codes = codes_of(alloc, &snips, live, addresses.cells)?;
     let lookups = lookups_of(alloc, text, graph)?;
     let maker = Maker {
         text,
@@ -163,6 +168,8 @@ pub fn pieces(
         jumps: jumps_of(text, addresses.table),
         cases: addresses.cases,
     };
-    let pieces = maker.pieces(alloc, snips, entry)?;
+    let landing = maker.landings(alloc, &snips)?;
+    drop(snips);
+    let pieces = maker.pieces(alloc, landing, entry)?;
     Ok(pieces)
 }

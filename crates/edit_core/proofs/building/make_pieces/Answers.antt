@@ -25,7 +25,6 @@ returns c = record {
       (rw (← c.text-text.ensures, ← c.deref.ensures.value) c.in_ok-live.ensures);
   list = c.in_ok-made.ensures.list
       ∙ rw (
-        c.deref-2.ensures.value,
         c.data_addresses-addresses.ensures.cases,
         c.data_addresses-addresses.ensures.table,
         c.data_addresses-addresses.ensures.cells,
@@ -33,7 +32,7 @@ returns c = record {
         c.above.ensures.base,
         c.above.ensures.cells,
       ) refl;
-  landing = rw (← c.text-text.ensures, ← c.deref-2.ensures.value) c.in_ok-made.ensures.landing;
+  landing = rw (← c.text-text.ensures) c.in_ok-made.ensures.landing;
   cases = c.in_ok-made.ensures.cases ∙ ap (λ (t : Words). case_numbers t c.args.graph.now) c.text-text.ensures;
   foreign = c.in_ok-made.ensures.foreign ∙ ap (λ (t : Words). foreign_number t c.args.graph.now) c.text-text.ensures;
   entry = rw (c.in_ok-made.ensures.entry, c.text-text.ensures, c.entry.ensures.word) refl;

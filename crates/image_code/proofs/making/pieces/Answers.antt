@@ -1,5 +1,8 @@
-use Rattle.std.proofs.Common.{ap, ◌∙◌}
+use Rattle.std.proofs.Common.{List, ap, ◌∙◌}
+use Rattle.liveness.specs.Sets.{dead_on}
+use Rattle.snippets.specs.declared.snippet.Op.{Op}
 use Rattle.image_code.specs.Made.{piece_list}
+use Rattle.image_code.specs.Parts.{codes_of}
 use Rattle.image_code.proofs.Sources.{source_is}
 use Rattle.image_code.proofs.making.pieces.Goals as goal
 
@@ -21,4 +24,9 @@ pub returns-clause-list : goal.returns-clause-list
 returns-clause-list c =
     c.in_ok-pieces.ensures.list
     ∙ ap (piece_list c.args.text.now c.args.graph.now c.args.addresses.table.0 c.args.addresses.cases.0)
-    (λ i edge. c.in_ok-codes.ensures.codes edge i)
+    (λ i edge. (c.in_ok-codes.ensures.codes edge
+    ∙ ap (λ (snips : List (List Op)). codes_of c.args.addresses.cells.0 (dead_on c.args.live.now) snips edge)
+    c.deref.ensures.value) i)
+
+pub returns-clause-codes : goal.returns-clause-codes
+returns-clause-codes c = rw c.deref.ensures.value at c.in_ok-codes.ensures.does
