@@ -18,7 +18,7 @@ use cfg_normal::FlowGraph;
 use eel_base::{Addr, NoMemory, PieceNo, Text};
 use elf32_sparc::Image;
 use elf32_write::put_words;
-use image_code::{PieceList, pieces};
+use image_code::{PieceList, pieces_with, snippet_code};
 use layout::{LayoutFault, Piece, Placed, place};
 use liveness::live;
 use notes::NoteEdge;
@@ -73,15 +73,10 @@ fn make_pieces(
     let text = image.text();
     let addresses = AddressMap::above(image, asked.cells).data_addresses(text);
     let live = live(alloc, text, graph, &asked.snips)?;
-    let made = pieces(
-        alloc,
-        text,
-        graph,
-        image.entry(),
-        asked.snips,
-        &live,
-        addresses,
-    )?;
+    let code = snippet_code(alloc, text, graph, &asked.snips, &live, addresses)?;
+    drop(live);
+    drop(asked);
+    let made = pieces_with(alloc, text, graph, image.entry(), code, addresses)?;
     Ok(made)
 }
 

@@ -7,6 +7,7 @@ use Rattle.layout.specs.declared.items.Item.TheVariants as it
 use Rattle.jump_code.specs.Pieces.{far_piece}
 use Rattle.image_code.specs.declared.expansion.Codes.{Codes}
 use Rattle.image_code.specs.declared.expansion.CodeSpan.{CodeSpan}
+use Rattle.image_code.specs.declared.making.SnippetCode.{SnippetCode}
 use Rattle.image_code.specs.declared.parts.Next.{Next}
 use Rattle.image_code.specs.declared.parts.Next.TheVariants as next
 use Rattle.image_code.specs.Cases.{plain_piece, branch_piece}
@@ -20,6 +21,10 @@ words_in words (Some span) = take span.count (drop span.start words)
 -- the words of an edge, of those that were made for all edges
 abbrev pub code_at : Codes → ℕ → List ℕ
 code_at codes edge = words_in codes.words.items (slice_get codes.spans.items edge)
+
+-- the words of an edge, where they were made with where the table leads
+abbrev pub code_in : SnippetCode → ℕ → List ℕ
+code_in code = code_at code.codes
 
 -- the way to where control goes on
 abbrev pub items_of : Next → List Item
