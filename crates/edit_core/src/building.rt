@@ -3,11 +3,14 @@ ghost use Rattle.std.specs.Prelude.{◌≡◌, ◌+◌, ◌-◌, ◌*◌, ◌%�
 ghost use Rattle.eel_base.specs.Code.{IsText};
 ghost use Rattle.layout.specs.Laid.{ArePieces, long_bytes};
 ghost use Rattle.image_code.specs.Graphs.{IsGraphOf};
+ghost use Rattle.notes.specs.Code.{edge_seen};
+ghost use Rattle.edit_core.specs.Faithful.{note_edges as note_edges_of};
 ghost use Rattle.edit_core.specs.Taken.{bound_by};
 ghost use Rattle.edit_core.specs.Written.{addr, cells_size as cells_size_of, entry_number, table_after, tables_size as tables_size_of, whole_pages, AreTablesOf, IsWorkable, TablesMatch};
 ghost use Rattle.edit_core.specs.Private.{placement_in, AreInside, AreLaid, AreMade, HasRoom, IsBuilt};
 
 use crate::addresses::{AddressMap, cells_size, tables_size};
+use crate::noting::note_edges;
 use crate::segments::zeros;
 use crate::taking::Request;
 use addr_translate::{build, build_halves, table_size};
@@ -15,9 +18,10 @@ use cfg_normal::FlowGraph;
 use eel_base::{Addr, NoMemory, PieceNo, Text};
 use elf32_sparc::Image;
 use elf32_write::put_words;
-use image_code::{PieceList, pieces};
+use image_code::{PieceList, pieces_with, snippet_code};
 use layout::{LayoutFault, Piece, Placed, place};
 use liveness::live;
+use notes::NoteEdge;
 use std::alloc::Global;
 
 /// Code, where it is entered, and the bytes of the tables that lead to it.
@@ -29,25 +33,30 @@ pub(crate) struct NewCode {
 }
 
 /// The cells stand above a program's segments, the tables of the program behind them, and the images of its words right
-/// behind those, where there is as much room as an edit asks for.
+/// behind those, where there is as much room as an edit asks for. Beside them, the edges as notes have them: the snippets
+/// are let go before the pieces are made.
 pub(crate) fn new_code(
     alloc: Global,
     image: &Image,
     graph: &FlowGraph,
-    asked: &Request,
-) -> Result<NewCode, NoMemory>
-    requires { HasRoom image.now graph.now asked.now }
-    ensures built { IfOk result (λ new. IsBuilt image.now.text graph.now image.now.base asked.now.cells
-        asked.now.snips.items (placement_in new.placed)) }
-    ensures entry { IfOk result (λ new. new.entry.0 ≡ slice_index (placement_in new.placed).at
+    asked: Request,
+) -> Result<(NewCode, Vec<NoteEdge>), NoMemory>
+    requires { HasRoom image.now graph.now asked }
+    ensures built { IfOk result (λ new. IsBuilt image.now.text graph.now image.now.base asked.cells
+        asked.snips.items (placement_in new.0.placed)) }
+    ensures entry { IfOk result (λ new. new.0.entry.0 ≡ slice_index (placement_in new.0.placed).at
         (entry_number image.now.text graph.now image.now.entry)) }
     ensures leads { IfOk result (λ new.
-        TablesMatch image.now.text graph.now asked.now.snips.items (placement_in new.placed)
-        (record { base = table_after image.now.base asked.now.cells; bytes = new.tables.items })) }
+        TablesMatch image.now.text graph.now asked.snips.items (placement_in new.0.placed)
+        (record { base = table_after image.now.base asked.cells; bytes = new.0.tables.items })) }
+    ensures edges { IfOk result (λ new. map edge_seen new.1.items
+        ≡ note_edges_of graph.now asked.kind graph.now.edges asked.snips.items) }
 {
+    let cells = asked.cells;
+    let edges = note_edges(alloc, graph, &asked)?;
     let made = make_pieces(alloc, image, graph, asked)?;
-    let new = place_code(alloc, image, asked.cells, &made)?;
-    Ok(new)
+    let new = place_code(alloc, image, cells, &made)?;
+    Ok((new, edges))
 }
 
 // The pieces of a program's words, with snippets that take what is dead behind them.
@@ -55,24 +64,19 @@ fn make_pieces(
     alloc: Global,
     image: &Image,
     graph: &FlowGraph,
-    asked: &Request,
+    asked: Request,
 ) -> Result<PieceList, NoMemory>
-    requires { HasRoom image.now graph.now asked.now }
-    ensures { IfOk result (λ made. AreMade image.now graph.now asked.now made.list.items made.landing.items
+    requires { HasRoom image.now graph.now asked }
+    ensures { IfOk result (λ made. AreMade image.now graph.now asked made.list.items made.landing.items
         made.cases.items made.foreign made.entry) }
 {
     let text = image.text();
     let addresses = AddressMap::above(image, asked.cells).data_addresses(text);
     let live = live(alloc, text, graph, &asked.snips)?;
-    let made = pieces(
-        alloc,
-        text,
-        graph,
-        image.entry(),
-        &asked.snips,
-        &live,
-        addresses,
-    )?;
+    let code = snippet_code(alloc, text, graph, &asked.snips, &live, addresses)?;
+    drop(live);
+    drop(asked);
+    let made = pieces_with(alloc, text, graph, image.entry(), code, addresses)?;
     Ok(made)
 }
 
@@ -200,7 +204,7 @@ fn places_of(alloc: Global, at: &[Addr], pieces: &[PieceNo]) -> Result<Vec<Addr>
     ensures { IfOk result (λ v. v.items
         ≡ map (λ piece. addr (slice_index (map (λ a. a.0) at.now) piece.0)) pieces.now) }
 {
-    let mut places = Vec::new(alloc);
+    let mut places = Vec::with_capacity(alloc, pieces.len())?;
     for piece in pieces {
         places.push(place_of(at, *piece))?;
     }
@@ -213,7 +217,7 @@ fn words_of(alloc: Global, at: &[Addr], pieces: &[PieceNo]) -> Result<Vec<u32>, 
     ensures { IfOk result (λ v. v.items
         ≡ map (λ piece. slice_index (map (λ a. a.0) at.now) piece.0) pieces.now) }
 {
-    let mut words = Vec::new(alloc);
+    let mut words = Vec::with_capacity(alloc, pieces.len())?;
     for piece in pieces {
         words.push(place_of(at, *piece).0)?;
     }

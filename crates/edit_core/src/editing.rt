@@ -17,7 +17,7 @@ ghost use Rattle.edit_core.specs.Private.{plan_of, IsViewOf};
 
 use crate::addresses::AddressMap;
 use crate::building::{NewCode, new_code};
-use crate::noting::notes;
+use crate::noting::{Told, notes};
 use crate::segments::{cells_segment, code_segment, page_segment, tables_segment};
 use crate::taking::{EditFault, Request, bound};
 use cfg_normal::FlowGraph;
@@ -77,7 +77,7 @@ pub fn edit_view<F: Chooser>(
     if had < needed {
         return Err(EditFault::Room { needed, had });
     }
-    let file = write_edit(alloc, bytes, &view.image, &view.graph, &asked)?;
+    let file = write_edit(alloc, bytes, &view.image, &view.graph, asked)?;
     Ok(file)
 }
 
@@ -101,20 +101,24 @@ fn write_edit(
     bytes: &[u8],
     image: &Image,
     graph: &FlowGraph,
-    asked: &Request,
+    asked: Request,
 ) -> Result<Vec<u8>, NoMemory>
     requires limit { length bytes.now ≤ 2 ^ 26 }
-    requires asked { (marks : List ℕ) × IsViewOf bytes.now (plan_of marks asked.now) image.now graph.now
-        × CanEdit bytes.now (plan_of marks asked.now) × CanDo bytes.now (plan_of marks asked.now) }
-    ensures { (marks : List ℕ) → IsViewOf bytes.now (plan_of marks asked.now) image.now graph.now
-        → IfOk result (λ file. IsWritten bytes.now (plan_of marks asked.now) file.items) }
+    requires asked { (marks : List ℕ) × IsViewOf bytes.now (plan_of marks asked) image.now graph.now
+        × CanEdit bytes.now (plan_of marks asked) × CanDo bytes.now (plan_of marks asked) }
+    ensures { (marks : List ℕ) → IsViewOf bytes.now (plan_of marks asked) image.now graph.now
+        → IfOk result (λ file. IsWritten bytes.now (plan_of marks asked) file.items) }
 {
-    let new = new_code(alloc, image, graph, asked)?;
-    let addresses = AddressMap::above(image, asked.cells);
+    let (kind, cells) = (asked.kind, asked.cells);
+    let addresses = AddressMap::above(image, cells);
+    let built = new_code(alloc, image, graph, asked)?;
+    let (new, edges) = built;
     let added = added_segments(alloc, addresses, &new)?;
     let size = new.tables.len() as u32;
-    let notes = notes(alloc, bytes, image, graph, asked, new.placed, size)?;
-    let notes = write_notes(alloc, &notes)?;
+    let told = Told { kind, cells, edges };
+    let noted = notes(alloc, bytes, image, graph, told, new.placed, size)?;
+    let notes = write_notes(alloc, &noted)?;
+    drop(noted);
     let file = write_around(alloc, bytes, image, &added, new.entry, &notes)?;
     Ok(file)
 }

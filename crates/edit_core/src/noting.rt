@@ -5,9 +5,10 @@ ghost use Rattle.std.specs.Option.{ForSome};
 ghost use Rattle.cfg_normal.specs.Code.{IsEdgeIn};
 ghost use Rattle.eel_base.specs.Code.{IsText};
 ghost use Rattle.notes.specs.Code.{notes_seen, edge_seen, range_seen, segment_seen};
+ghost use Rattle.snippets.specs.declared.snippet.Op.{Op};
 ghost use Rattle.edit_core.specs.Faithful.{cell_noted as cell_noted_of, note_edge as note_edge_of, note_edges as note_edges_of, tool_number as tool_number_of};
 ghost use Rattle.edit_core.specs.Written.{is_off as is_off_of, notes_on, off_range as off_range_of, off_ranges, segments_noted, segment_size, table_after};
-ghost use Rattle.edit_core.specs.Private.{placement_in, plan_of, IsViewOf};
+ghost use Rattle.edit_core.specs.Private.{placement_in, plan_told, IsViewOf};
 
 use crate::addresses::AddressMap;
 use crate::segments::{EDITOR_PAGE, PAGE_SIZE};
@@ -25,40 +26,49 @@ use tool_kit::ToolKind;
 /// The version of the notes that are written.
 const NOTES_VERSION: u32 = 2;
 
+/// What was asked, with the edges as notes have them in place of the snippets.
+#[derive(Drop)]
+pub(crate) struct Told {
+    pub kind: ToolKind,
+    pub cells: u32,
+    pub edges: Vec<NoteEdge>,
+}
+
 /// The notes on new code, behind tables of so many bytes.
 pub(crate) fn notes(
     alloc: Global,
     bytes: &[u8],
     image: &Image,
     graph: &FlowGraph,
-    asked: &Request,
+    told: Told,
     placed: Placed,
     size: u32,
 ) -> Result<Notes, NoMemory>
     requires limit { length bytes.now ≤ 2 ^ 26 }
     requires words { graph.now.blocks.words ≡ length image.now.text.words }
     requires text { IsText image.now.text }
-    requires few { asked.now.cells ≤ 2 ^ 23 }
+    requires few { told.cells ≤ 2 ^ 23 }
     requires size { size ≡ segment_size image.now.text graph.now }
-    requires low { table_after image.now.base asked.now.cells + size + 4 * length placed.code.items ≤ 2 ^ 31 }
-    ensures { (marks : List ℕ) → IsViewOf bytes.now (plan_of marks asked.now) image.now graph.now
-        → IfOk result (λ n. notes_seen n ≡ notes_on bytes.now (plan_of marks asked.now) (placement_in placed)) }
+    requires low { table_after image.now.base told.cells + size + 4 * length placed.code.items ≤ 2 ^ 31 }
+    ensures { (marks : List ℕ) (snips : List (List Op)) → IsViewOf bytes.now (plan_told marks told snips) image.now graph.now
+        → map edge_seen told.edges.items ≡ note_edges_of graph.now told.kind graph.now.edges snips
+        → IfOk result (λ n. notes_seen n ≡ notes_on bytes.now (plan_told marks told snips) (placement_in placed)) }
 {
     let text = image.text();
-    let addresses = AddressMap::above(image, asked.cells);
+    let addresses = AddressMap::above(image, told.cells);
     Ok(Notes {
         version: NOTES_VERSION,
         delta: delta(image),
         length: bytes.len() as u32,
-        tool: tool_number(asked.kind),
+        tool: tool_number(told.kind),
         start: text.start().0,
         words: text.len(),
         entry: graph.holding(image.entry()).0,
         base: image.base().0,
-        cells: asked.cells,
+        cells: told.cells,
         segments: note_segments(alloc, addresses, size, &placed.code)?,
         blocks: first_words(alloc, graph)?,
-        edges: note_edges(alloc, graph, asked)?,
+        edges: told.edges,
         ranges: noted_ranges(alloc, text, graph, addresses.table(), &placed.ranges)?,
     })
 }
@@ -163,18 +173,23 @@ fn off_range(text: &Text, graph: &FlowGraph, table: Addr, edge: &Edge) -> Range
 fn first_words(alloc: Global, graph: &FlowGraph) -> Result<Vec<u32>, NoMemory>
     ensures { IfOk result (λ v. v.items ≡ graph.now.blocks.firsts) }
 {
-    let mut firsts = Vec::new(alloc);
+    let mut firsts = Vec::with_capacity(alloc, graph.count() as usize)?;
     for block in 0..graph.count() {
         firsts.push(graph.first(BlockNo(block)).0)?;
     }
     Ok(firsts)
 }
 
-fn note_edges(alloc: Global, graph: &FlowGraph, asked: &Request) -> Result<Vec<NoteEdge>, NoMemory>
+/// The edges as notes have them, of what was asked.
+pub(crate) fn note_edges(
+    alloc: Global,
+    graph: &FlowGraph,
+    asked: &Request,
+) -> Result<Vec<NoteEdge>, NoMemory>
     ensures { IfOk result (λ v. map edge_seen v.items
         ≡ note_edges_of graph.now asked.now.kind graph.now.edges asked.now.snips.items) }
 {
-    let mut edges = Vec::new(alloc);
+    let mut edges = Vec::with_capacity(alloc, graph.edges().len())?;
     for (edge, snippet) in graph.edges().iter().zip(asked.snips.iter()) {
         edges.push(note_edge(graph, asked.kind, edge, snippet))?;
     }

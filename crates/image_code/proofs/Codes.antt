@@ -1,11 +1,11 @@
 -- The words of snippets do what they should.
-use Rattle.std.proofs.Common.{◌≡◌, ℕ, zero, suc, ◌+◌, ◌*◌, ◌%◌, ◌<◌, ◌≤◌, List, [], ◌∷◌, ◌++◌, length, Result, Ok, Err, refl, ap, sym, ◌∙◌, subst, arith, inl, inr}
-use Rattle.std.specs.declared.vec.Vec.{Vec}
-use Rattle.std.specs.declared.alloc.Global.{Global}
+use Rattle.std.proofs.Common.{◌≡◌, ℕ, zero, suc, ◌+◌, ◌*◌, ◌%◌, ◌<◌, ◌≤◌, List, [], ◌∷◌, ◌++◌, length, append-nil, append_assoc, Result, Ok, Err, Some, slice_get, refl, ap, sym, ◌∙◌, subst, arith, inl, inr}
 use Rattle.std.specs.Result.{IfOk}
 use Rattle.std.proofs.Math.ListN.{get_or-eq_default}
+use Rattle.std.proofs.Math.Seq.{drop-append_seam, take-append_seam}
+use Rattle.std.proofs.lemmas.Option.{slice_get_past}
 use Rattle.std.proofs.lemmas.Bool.{cases_lt}
-use Rattle.std.proofs.lemmas.List.{length-map}
+use Rattle.std.proofs.lemmas.List.{length-map, nil_from_length}
 use Rattle.v8_decode.specs.declared.Part.{Part}
 use Rattle.v8_encode.specs.Encoding.{word_of}
 use Rattle.snippets.specs.declared.snippet.Op.{Op}
@@ -18,7 +18,9 @@ use Rattle.snippet_code.proofs.Lengths.{costs_hold}
 use Rattle.snippet_code.proofs.WholeCode.{snippet_code_runs}
 use Rattle.image_code.specs.Store.{snippet_on}
 use Rattle.image_code.specs.Codes.{CodeDoes}
-use Rattle.image_code.specs.Private.{code_at}
+use Rattle.image_code.specs.Private.{code_at, words_in}
+use Rattle.image_code.specs.declared.expansion.CodeSpan.{CodeSpan}
+use Rattle.image_code.specs.declared.expansion.Codes.{Codes}
 use Rattle.image_code.specs.Parts.{codes_of}
 
 pub if_both : {A E : Type 0} (P Q R : A → Type 0) (r : Result A E) → ((a : A) → P a → Q a → R a) → IfOk r P → IfOk r Q
@@ -51,15 +53,15 @@ module _ (base : ℕ) (dead : ℕ → List Part) (snips : List (List Op)) where
         just;
   }
 
-  empty : (xs : List ℕ) → length xs ≤ 0 → xs ≡ []
-  empty [] l = refl
-  empty (x ∷ xs) l = absurd (omega (arith, l))
+  -- where there are no operations, there is no word
+  pub none_is_no_code : (edge : ℕ) → snippet_on snips edge ≡ [] → codes_of base dead snips edge ≡ []
+  none_is_no_code edge none =
+      let count : length (snippet_on snips edge) ≡ 0 = ap length none in
+      nil_from_length (codes_of base dead snips edge) (omega (arith, codes_short edge, count))
 
-  -- behind the last edge there is no word
+  -- so it is behind the last edge
   pub no_code : (edge : ℕ) → length snips ≤ edge → codes_of base dead snips edge ≡ []
-  no_code edge past =
-      let none : length (snippet_on snips edge) ≡ 0 = ap length (get_or-eq_default snips [] past) in
-      empty (codes_of base dead snips edge) (omega (arith, codes_short edge, none))
+  no_code edge past = none_is_no_code edge (get_or-eq_default snips [] past)
 
   module _ (aligned : base % 4 ≡ 0) where
     nothing : CanExpand base []
@@ -70,14 +72,17 @@ module _ (base : ℕ) (dead : ℕ → List Part) (snips : List (List Op)) where
       low = λ k d l. absurd (omega arith);
     }
 
-    -- behind the last edge there are no operations
-    pub beyond : (edge : ℕ) → length snips ≤ edge → CodeDoes base dead snips edge
+    -- no operations are done by no code
+    pub none_does : (edge : ℕ) → snippet_on snips edge ≡ [] → CodeDoes base dead snips edge
     unfolding codes_of
-    beyond edge past =
-        let can : CanExpand base (snippet_on snips edge) =
-        subst (CanExpand base) (sym (get_or-eq_default snips [] past)) nothing in
+    none_does edge none =
+        let can : CanExpand base (snippet_on snips edge) = subst (CanExpand base) (sym none) nothing in
         code_does edge (codes_of base dead snips edge) can.few refl
         (snippet_code_runs base (dead edge) (snippet_on snips edge) can).1
+
+    -- behind the last edge there are none
+    pub beyond : (edge : ℕ) → length snips ≤ edge → CodeDoes base dead snips edge
+    beyond edge past = none_does edge (get_or-eq_default snips [] past)
 
   -- one edge more
   pub does_more : (number : ℕ) → ((edge : ℕ) → edge < number → CodeDoes base dead snips edge)
@@ -91,33 +96,50 @@ module _ (base : ℕ) (dead : ℕ → List Part) (snips : List (List Op)) where
 
 -- ---- the words of all edges
 
-code_before : (codes : List (Vec ℕ Global)) (code : Vec ℕ Global) (edge : ℕ) → edge < length codes
-    → code_at (codes ++ code ∷ []) edge ≡ code_at codes edge
-code_before [] code edge l = absurd (omega (arith, l))
-code_before (first ∷ codes) code zero l = refl
-code_before (first ∷ codes) code (suc edge) l = code_before codes code edge (omega (arith, l))
+spans_before : (spans : List CodeSpan) (span : CodeSpan) (edge : ℕ) → edge < length spans
+    → slice_get (spans ++ span ∷ []) edge ≡ slice_get spans edge
+spans_before [] span edge l = absurd (omega (arith, l))
+spans_before (first ∷ spans) span zero l = refl
+spans_before (first ∷ spans) span (suc edge) l = spans_before spans span edge (omega (arith, l))
 
-code_here : (codes : List (Vec ℕ Global)) (code : Vec ℕ Global) → code_at (codes ++ code ∷ []) (length codes)
-    ≡ code.items
-code_here [] code = refl
-code_here (first ∷ codes) code = code_here codes code
+span_here : (spans : List CodeSpan) (span : CodeSpan) → slice_get (spans ++ span ∷ []) (length spans) ≡ Some span
+span_here [] span = refl
+span_here (first ∷ spans) span = span_here spans span
 
-pub code_past : (codes : List (Vec ℕ Global)) (edge : ℕ) → length codes ≤ edge → code_at codes edge ≡ []
-code_past [] edge l = refl
-code_past (first ∷ codes) zero l = absurd (omega (arith, l))
-code_past (first ∷ codes) (suc edge) l = code_past codes edge (omega (arith, l))
+-- where the words of one edge more come to stand behind others
+abbrev pub behind : List ℕ → List ℕ → CodeSpan
+behind words code = record { start = length words; count = length code }
+
+code_there : (words code more : List ℕ) → words_in ((words ++ code) ++ more) (Some (behind words code)) ≡ code
+code_there words code more =
+    rw (append_assoc words code more, drop-append_seam words (code ++ more)) (take-append_seam code more)
+
+-- The words of so many edges are those that a function says, also where more words stand behind them.
+abbrev pub AreCodes : (ℕ → List ℕ) → List ℕ → List CodeSpan → ℕ → Type 0
+AreCodes f words spans n =
+    (more : List ℕ) (edge : ℕ) → edge < n → words_in (words ++ more) (slice_get spans edge) ≡ f edge
 
 -- one edge more
-pub codes_more : (f : ℕ → List ℕ) (codes new : List (Vec ℕ Global)) (code : Vec ℕ Global) (n : ℕ)
-    → length codes ≡ n → new ≡ codes ++ code ∷ [] → code.items ≡ f n
-    → ((edge : ℕ) → edge < n → code_at codes edge ≡ f edge) → (edge : ℕ) → edge < n + 1 → code_at new edge ≡ f edge
-codes_more f codes new code n long pushed made held edge l = elim (cases_lt edge n) [
+pub codes_more : (f : ℕ → List ℕ) (words code : List ℕ) (spans : List CodeSpan) (n : ℕ) → length spans ≡ n
+    → code ≡ f n → AreCodes f words spans n → AreCodes f (words ++ code) (spans ++ behind words code ∷ []) (n + 1)
+codes_more f words code spans n long made held more edge l = elim (cases_lt edge n) [
   | inl less ↦
-      ap (λ (cs : List (Vec ℕ Global)). code_at cs edge) pushed
-      ∙ code_before codes code edge (omega (arith, less, long)) ∙ held edge less
-  | inr more ↦
-      let here : edge ≡ length codes = omega (arith, more, l, long) in
-      let same : n ≡ edge = omega (arith, more, l) in
-      ap (λ (cs : List (Vec ℕ Global)). code_at cs edge) pushed
-      ∙ ap (code_at (codes ++ code ∷ [])) here ∙ code_here codes code ∙ made ∙ ap f same
+      rw (append_assoc words code more, spans_before spans (behind words code) edge (omega (arith, less, long)))
+      (held (code ++ more) edge less)
+  | inr above ↦
+      let here : edge ≡ length spans = omega (arith, above, l, long) in
+      let same : n ≡ edge = omega (arith, above, l) in
+      ap (λ (k : ℕ). words_in ((words ++ code) ++ more) (slice_get (spans ++ behind words code ∷ []) k)) here
+      ∙ ap (words_in ((words ++ code) ++ more)) (span_here spans (behind words code))
+      ∙ code_there words code more ∙ made ∙ ap f same
 ]
+
+-- the words of edges, with nothing behind them
+pub codes_are : (f : ℕ → List ℕ) (codes : Codes) (n edge : ℕ) → AreCodes f codes.words.items codes.spans.items n
+    → edge < n → code_at codes edge ≡ f edge
+codes_are f codes n edge held l =
+    ap (λ (words : List ℕ). words_in words (slice_get codes.spans.items edge)) (sym (append-nil codes.words.items))
+    ∙ held [] edge l
+
+pub code_past : (codes : Codes) (edge : ℕ) → length codes.spans.items ≤ edge → code_at codes edge ≡ []
+code_past codes edge l = ap (words_in codes.words.items) (slice_get_past codes.spans.items edge l)

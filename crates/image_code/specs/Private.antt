@@ -1,24 +1,30 @@
 -- What only contracts of private functions and models cite.
-use Rattle.std.specs.Prelude.{ℕ, List, [], Option, Some, None, slice_get, ◌∷◌, ◌==◌, if◌then◌else◌}
-use Rattle.std.specs.declared.vec.Vec.{Vec}
-use Rattle.std.specs.declared.alloc.Global.{Global}
+use Rattle.std.specs.Prelude.{ℕ, List, [], Option, Some, None, slice_get, take, drop, ◌∷◌, ◌==◌, if◌then◌else◌}
 use Rattle.eel_base.specs.declared.numbers.Addr.{Addr}
 use Rattle.cfg_blocks.specs.Ends.{always, never}
 use Rattle.layout.specs.declared.items.Item.{Item}
 use Rattle.layout.specs.declared.items.Item.TheVariants as it
 use Rattle.jump_code.specs.Pieces.{far_piece}
+use Rattle.image_code.specs.declared.expansion.Codes.{Codes}
+use Rattle.image_code.specs.declared.expansion.CodeSpan.{CodeSpan}
+use Rattle.image_code.specs.declared.making.SnippetCode.{SnippetCode}
 use Rattle.image_code.specs.declared.parts.Next.{Next}
 use Rattle.image_code.specs.declared.parts.Next.TheVariants as next
 use Rattle.image_code.specs.Cases.{plain_piece, branch_piece}
 use Rattle.image_code.specs.Made.{jump_to, nop_word}
 
--- the words of an edge, of those that were made for all edges
-abbrev pub words_in : Option (Vec ℕ Global) → List ℕ
-words_in None = []
-words_in (Some code) = code.items
+-- the words at a place in a row of words
+abbrev pub words_in : List ℕ → Option CodeSpan → List ℕ
+words_in words None = []
+words_in words (Some span) = take span.count (drop span.start words)
 
-abbrev pub code_at : List (Vec ℕ Global) → ℕ → List ℕ
-code_at codes edge = words_in (slice_get codes edge)
+-- the words of an edge, of those that were made for all edges
+abbrev pub code_at : Codes → ℕ → List ℕ
+code_at codes edge = words_in codes.words.items (slice_get codes.spans.items edge)
+
+-- the words of an edge, where they were made with where the table leads
+abbrev pub code_in : SnippetCode → ℕ → List ℕ
+code_in code = code_at code.codes
 
 -- the way to where control goes on
 abbrev pub items_of : Next → List Item

@@ -1,6 +1,6 @@
 //! The images of words.
 
-ghost use Rattle.std.specs.Prelude.{◌≡◌, ◌+◌, ◌-◌, ◌%◌, ◌^◌, ◌<◌, ◌≤◌, ◌++◌, if◌then◌else◌, IsTrue, false, [], length, map, option_to_list, slice_get, Some, IfOk, OnOk};
+ghost use Rattle.std.specs.Prelude.{◌≡◌, ◌+◌, ◌-◌, ◌%◌, ◌^◌, ◌<◌, ◌≤◌, ◌++◌, if◌then◌else◌, IsTrue, false, [], length, map, slice_get, Some, IfOk, OnOk};
 ghost use Rattle.std.specs.List.{flat_map, range_with_len};
 ghost use Rattle.cfg_blocks.specs.Blocks.{below, last_word as last_word_of};
 ghost use Rattle.cfg_blocks.specs.declared.EdgeKind.TheVariants.{Fall};
@@ -24,28 +24,6 @@ use eel_base::{Addr, BlockNo, NoMemory, PieceNo, Text, WordNo};
 use layout::Piece;
 use std::alloc::Global;
 use v8_decode::{Cond, Instr, Op2, Reg, decode};
-
-// ---- snippets
-
-/// The code of the snippet on an edge.
-pub(crate) fn code_at(codes: &[Vec<u32>], edge: u32) -> &[u32]
-    ensures { result.now ≡ code_at_of codes.now edge }
-{
-    match codes.get(edge as usize) {
-        Some(code) => code,
-        None => &[],
-    }
-}
-
-/// The code of the snippet on an edge, if there is one.
-pub(crate) fn code_on(codes: &[Vec<u32>], edge: Option<u32>) -> &[u32]
-    ensures { result.now ≡ flat_map (code_at_of codes.now) (option_to_list edge) }
-{
-    match edge {
-        Some(number) => code_at(codes, number),
-        None => &[],
-    }
-}
 
 // ---- words and nodes
 
@@ -141,7 +119,7 @@ impl<'a> Maker<'a> {
     {
         if ends_block(self.graph, node, word) {
             let fall = self.leaving(node, EdgeKind::Fall);
-            code_on(self.codes, fall)
+            self.codes.code_on(fall)
         } else {
             &[]
         }

@@ -6,7 +6,6 @@ ghost use Rattle.image_code.specs.Made.{landing as landing_of, lands_at as lands
 ghost use Rattle.image_code.specs.Private.{code_at as code_at_of};
 ghost use Rattle.image_code.specs.Store.{operations_on};
 
-use crate::images::code_on;
 use crate::maker::Maker;
 use crate::numbering::piece;
 use crate::parts::{Next, way_to};
@@ -38,7 +37,7 @@ impl Maker<'_> {
     {
         let node = self.graph.lands(word);
         let edge = self.landing_edge(node);
-        let code = code_on(self.codes, edge);
+        let code = self.codes.code_on(edge);
         let to = self.enter(node, word)?;
         way_to(alloc, code, Next::Piece(to))
     }

@@ -17,7 +17,7 @@ mod parts;
 mod switches;
 mod ways;
 
-pub use making::{DataAddresses, PieceList, pieces};
+pub use making::{DataAddresses, PieceList, SnippetCode, pieces, pieces_with, snippet_code};
 
 /// The pieces that `pieces` makes of a text simulate the original, however they are placed.
 pub fn pieces_make_images()

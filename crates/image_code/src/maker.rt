@@ -4,6 +4,7 @@ ghost use Rattle.std.specs.Prelude.{◌≡◌};
 ghost use Rattle.image_code.specs.Lookups.{AreFound};
 ghost use Rattle.image_code.specs.Made.{jumps_at};
 
+use crate::expansion::Codes;
 use crate::lookups::Lookups;
 use cfg_normal::FlowGraph;
 use eel_base::{Addr, Text};
@@ -17,7 +18,7 @@ pub(crate) struct Maker<'a> {
     pub(crate) text: &'a Text,
     pub(crate) graph: &'a FlowGraph,
     pub(crate) lookups: &'a Lookups,
-    pub(crate) codes: &'a [Vec<u32>],
+    pub(crate) codes: &'a Codes,
     pub(crate) table: Addr,
     pub(crate) jumps: Addr,
     pub(crate) cases: Addr,

@@ -35,6 +35,13 @@ const NEVER: u8 = 0;
 
 const ALWAYS: u8 = 8;
 
+// How many items the image of a CALL has, that of a JMPL at most, and the way along a JMPL's edge besides its snippet.
+const CALL_ITEMS: usize = 5;
+
+const JUMP_ITEMS: usize = 17;
+
+const OUT_ITEMS: usize = 6;
+
 /// What a word stands for: an instruction of the original, by its address, at a node.
 #[derive(Clone, Copy)]
 pub struct Visit {
@@ -94,13 +101,31 @@ fn push_link(items: &mut Vec<Item>, rd: Reg, address: Addr) -> Result<(), NoMemo
     Ok(())
 }
 
-// ---- pieces
+// How many items `push_next` adds.
+fn next_count(next: Next) -> usize
+    ensures few { result ≤ 4 }
+{
+    match next {
+        Next::Behind => 0,
+        Next::Piece(_) => 1,
+        Next::Far(_) => 4,
+    }
+}
 
-// A word in its Mark, and the code of a snippet behind it.
-fn marked(alloc: Global, visit: Visit, word: u32, snippet: &[u32]) -> Result<Vec<Item>, NoMemory>
+// ---- pieces, each in a vector that has room for just its items
+
+// A word in its Mark, and the code of a snippet behind it, in a vector with room for so many items.
+fn marked(
+    alloc: Global,
+    room: usize,
+    visit: Visit,
+    word: u32,
+    snippet: &[u32],
+) -> Result<Vec<Item>, NoMemory>
     ensures { IfOk result (λ v. v.items ≡ plain_piece visit.address visit.node word (map it.Word snippet.now)) }
 {
-    let mut items = vec![in alloc; visit.mark(), Item::Word(word), Item::EndMark]?;
+    let mut items = Vec::with_capacity(alloc, room)?;
+    items.extend_from_slice(&[visit.mark(), Item::Word(word), Item::EndMark])?;
     push_words(&mut items, snippet)?;
     Ok(items)
 }
@@ -116,7 +141,8 @@ pub fn plain(
     ensures { IfOk result (λ p. p
         ≡ plain_piece visit.address visit.node word (map it.Word code.now ++ items_of next)) }
 {
-    let mut items = marked(alloc, visit, word, code)?;
+    let room = 3 + code.len() + next_count(next);
+    let mut items = marked(alloc, room, visit, word, code)?;
     push_next(&mut items, next)?;
     Ok(Piece { items })
 }
@@ -139,7 +165,7 @@ pub fn couple(alloc: Global, visit: Visit) -> Result<Piece, NoMemory>
 pub fn way_to(alloc: Global, code: &[u32], next: Next) -> Result<Piece, NoMemory>
     ensures { IfOk result (λ p. p ≡ map it.Word code.now ++ items_of next) }
 {
-    let mut items = Vec::new(alloc);
+    let mut items = Vec::with_capacity(alloc, code.len() + next_count(next))?;
     push_words(&mut items, code)?;
     push_next(&mut items, next)?;
     Ok(Piece { items })
@@ -192,7 +218,8 @@ pub fn branch(
 pub fn call(alloc: Global, visit: Visit, way: PieceNo) -> Result<Piece, NoMemory>
     ensures { IfOk result (λ p. p ≡ call_piece visit.address visit.node way) }
 {
-    let mut items = vec![in alloc; visit.mark()]?;
+    let mut items = Vec::with_capacity(alloc, CALL_ITEMS)?;
+    items.push(visit.mark())?;
     push_words(&mut items, &call_code(visit.address))?;
     items.push(Item::EndMark)?;
     items.push(Item::Jump(way))?;
@@ -215,7 +242,8 @@ pub fn jump(
 {
     let first = free_register(rd, rs1, &op2);
     let second = other_register(rd, rs1, &op2);
-    let mut items = vec![in alloc; visit.mark()]?;
+    let mut items = Vec::with_capacity(alloc, JUMP_ITEMS)?;
+    items.push(visit.mark())?;
     push_words(&mut items, &find_code(first, second, rs1, op2, jumps))?;
     push_link(&mut items, rd, visit.address)?;
     items.push(Item::EndMark)?;
@@ -272,7 +300,7 @@ pub fn out(alloc: Global, visit: Visit, word: u32, code: &[u32]) -> Result<Piece
     ensures { IfOk result (λ p. p
         ≡ found_piece visit.address visit.node word (map it.Word code.now) 1) }
 {
-    let mut items = marked(alloc, visit, word, code)?;
+    let mut items = marked(alloc, OUT_ITEMS + code.len(), visit, word, code)?;
     push_words(&mut items, &found_code(register(1)))?;
     Ok(Piece { items })
 }

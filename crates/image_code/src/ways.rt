@@ -9,7 +9,7 @@ ghost use Rattle.image_code.specs.Numbered.{own_edges as own_edges_of};
 ghost use Rattle.image_code.specs.Private.{code_at as code_at_of, items_of};
 ghost use Rattle.v8_decode.specs.Words.{decode_of};
 
-use crate::images::{code_at, last_word};
+use crate::images::last_word;
 use crate::maker::Maker;
 use crate::parts::{Next, Visit, couple, is_transfer, out, plain, way_to};
 use cfg_blocks::EdgeKind;
@@ -114,7 +114,7 @@ impl Maker<'_> {
         if is_transfer(word) {
             return couple(alloc, visit);
         }
-        let code = code_at(self.codes, number);
+        let code = self.codes.code_at(number);
         match edge.kind {
             EdgeKind::Out => out(alloc, visit, word, code),
             _ => {
@@ -139,7 +139,7 @@ impl Maker<'_> {
     {
         match edge.slot {
             Slot::Nothing => {
-                let code = code_at(self.codes, number);
+                let code = self.codes.code_at(number);
                 let next = self.next_along(edge, to)?;
                 way_to(alloc, code, next)
             }

@@ -97,7 +97,7 @@ pub fn snips<F: Chooser>(
     ensures good { IfOk result (λ v. All (IsGood t.now.cells) v.items) }
 {
     let edges = g.edges();
-    let mut snips = Vec::new(alloc);
+    let mut snips = Vec::with_capacity(alloc, edges.len())?;
     for number in 0..edges.len() {
         snips.push(t.answer(edge_at(edges, number)))?;
     }

@@ -1,6 +1,7 @@
 use Rattle.std.proofs.Common.{refl, ap, ◌∙◌, arith}
 use Rattle.eel_base.specs.CodeText.{Words}
 use Rattle.liveness.specs.Sets.{dead_on}
+use Rattle.image_code.specs.Made.{piece_list}
 use Rattle.image_code.specs.Numbered.{case_numbers, foreign_number}
 use Rattle.image_code.proofs.Fit.{pieces_fit}
 use Rattle.edit_core.proofs.Dead.{rest_is_dead}
@@ -12,8 +13,14 @@ pub live-requires-clause-graph : goal.live-requires-clause-graph
 live-requires-clause-graph c =
     rw c.text-text.ensures (graph_cut c.args.image.now.text c.args.graph.now c.requires.text c.requires.graph).words
 
-pub pieces-requires-clause-low : goal.pieces-requires-clause-low
-pieces-requires-clause-low c =
+pub snippet_code-requires-clause-low : goal.snippet_code-requires-clause-low
+snippet_code-requires-clause-low c =
+    let room = new_room pieces_fit c.requires (dead_on c.in_ok-live.live) in
+    rw (c.text-text.ensures, c.data_addresses-addresses.ensures.table, c.above.ensures.base, c.above.ensures.cells)
+    (omega (arith, room, c.requires.low))
+
+pub pieces_with-requires-clause-low : goal.pieces_with-requires-clause-low
+pieces_with-requires-clause-low c =
     let room = new_room pieces_fit c.requires (dead_on c.in_ok-live.live) in
     rw (c.text-text.ensures, c.data_addresses-addresses.ensures.table, c.above.ensures.base, c.above.ensures.cells)
     (omega (arith, room, c.requires.low))
@@ -24,8 +31,9 @@ returns c = record {
   exact = rest_is_dead c.args.image.now.text c.args.graph.now _ c.in_ok-live.live
       (rw (← c.text-text.ensures, ← c.deref.ensures.value) c.in_ok-live.ensures);
   list = c.in_ok-made.ensures.list
+      ∙ ap (piece_list c.text-text.result.now c.args.graph.now c.data_addresses-addresses.result.table.0
+      c.data_addresses-addresses.result.cases.0) (λ i edge. c.in_ok-code.ensures.words edge i)
       ∙ rw (
-        c.deref-2.ensures.value,
         c.data_addresses-addresses.ensures.cases,
         c.data_addresses-addresses.ensures.table,
         c.data_addresses-addresses.ensures.cells,
@@ -33,7 +41,7 @@ returns c = record {
         c.above.ensures.base,
         c.above.ensures.cells,
       ) refl;
-  landing = rw (← c.text-text.ensures, ← c.deref-2.ensures.value) c.in_ok-made.ensures.landing;
+  landing = rw (c.in_ok-made.ensures.landing, ← c.text-text.ensures) c.in_ok-code.ensures.landing;
   cases = c.in_ok-made.ensures.cases ∙ ap (λ (t : Words). case_numbers t c.args.graph.now) c.text-text.ensures;
   foreign = c.in_ok-made.ensures.foreign ∙ ap (λ (t : Words). foreign_number t c.args.graph.now) c.text-text.ensures;
   entry = rw (c.in_ok-made.ensures.entry, c.text-text.ensures, c.entry.ensures.word) refl;

@@ -13,7 +13,7 @@ use Rattle.edit_core.proofs.editing.write_edit.Goals as goal
 
 pub new_code-requires : goal.new_code-requires
 new_code-requires c =
-    view_has_room c.args.bytes.now c.requires.asked.0 c.args.asked.now c.args.image.now c.args.graph.now
+    view_has_room c.args.bytes.now c.requires.asked.0 c.args.asked c.args.image.now c.args.graph.now
     c.requires.asked.1 c.requires.asked.2 c.requires.asked.3
 
 code_low : (text : Words) (graph : Graph) (base cells : ℕ) (snips : List (List Op)) (p : Placement) (tables : List ℕ)
@@ -30,66 +30,66 @@ pub added_segments-requires-clause-low : goal.added_segments-requires-clause-low
 added_segments-requires-clause-low c =
     let image = c.args.image.now in
     rw (c.above-addresses.ensures.base, c.above-addresses.ensures.cells)
-    (code_low image.text c.args.graph.now image.base c.args.asked.now.cells c.args.asked.now.snips.items
-    (placement_in c.in_ok-new.new.placed) c.in_ok-new.new.tables.items c.in_ok-new.ensures.built
-    c.in_ok-new.ensures.leads)
+    (code_low image.text c.args.graph.now image.base c.args.asked.cells c.args.asked.snips.items
+    (placement_in c.in_ok-built.built.0.placed) c.in_ok-built.built.0.tables.items c.in_ok-built.ensures.built
+    c.in_ok-built.ensures.leads)
 
 pub notes-requires-clause-words : goal.notes-requires-clause-words
 notes-requires-clause-words c =
-    let plan = plan_of c.requires.asked.0 c.args.asked.now in
+    let plan = plan_of c.requires.asked.0 c.args.asked in
     view_words _ plan c.args.image.now _ c.requires.asked.1 c.requires.asked.2
 
 pub notes-requires-clause-text : goal.notes-requires-clause-text
 notes-requires-clause-text c =
-    let plan = plan_of c.requires.asked.0 c.args.asked.now in
+    let plan = plan_of c.requires.asked.0 c.args.asked in
     view_text _ plan c.args.image.now c.args.graph.now c.requires.asked.1 c.requires.asked.2
 
 pub write_notes-requires-clause-notes : goal.write_notes-requires-clause-notes
 write_notes-requires-clause-notes c =
-    let plan = plan_of c.requires.asked.0 c.args.asked.now in
-    let code = code_is _ plan _ _ c.requires.asked.1 c.in_ok-new.new.placed _ c.in_ok-new.ensures.built
-    c.in_ok-new.ensures.leads c.in_ok-added.ensures.code c.in_ok-added.ensures.tables in
-    rw (c.in_ok-notes.ensures c.requires.asked.0 c.requires.asked.1)
+    let plan = plan_of c.requires.asked.0 c.args.asked in
+    let code = code_is _ plan _ _ c.requires.asked.1 c.in_ok-built.built.0.placed _ c.in_ok-built.ensures.built
+    c.in_ok-built.ensures.leads c.in_ok-added.ensures.code c.in_ok-added.ensures.tables in
+    rw (c.in_ok-noted.ensures c.requires.asked.0 _ c.requires.asked.1 c.in_ok-built.ensures.edges)
     (notes_meet_rules c.args.bytes.now plan c.requires.limit c.requires.asked.2 c.requires.asked.3 _ _ _ code
     (original_fit pieces_fit c.args.bytes.now plan c.requires.asked.2 c.requires.asked.3 code.dead))
 
 pub write_notes-requires-clause-version : goal.write_notes-requires-clause-version
 write_notes-requires-clause-version c =
-    ap (λ (n : Notes). n.version) (c.in_ok-notes.ensures c.requires.asked.0 c.requires.asked.1)
+    ap (λ (n : Notes). n.version) (c.in_ok-noted.ensures c.requires.asked.0 _ c.requires.asked.1 c.in_ok-built.ensures.edges)
 
 pub write_around-requires-clause-original : goal.write_around-requires-clause-original
 write_around-requires-clause-original c =
-    let plan = plan_of c.requires.asked.0 c.args.asked.now in
-    let code = code_is _ plan _ _ c.requires.asked.1 c.in_ok-new.new.placed _ c.in_ok-new.ensures.built
-    c.in_ok-new.ensures.leads c.in_ok-added.ensures.code c.in_ok-added.ensures.tables in
+    let plan = plan_of c.requires.asked.0 c.args.asked in
+    let code = code_is _ plan _ _ c.requires.asked.1 c.in_ok-built.built.0.placed _ c.in_ok-built.ensures.built
+    c.in_ok-built.ensures.leads c.in_ok-added.ensures.code c.in_ok-added.ensures.tables in
     rw (
       c.deref.ensures.value,
-      segments_are _ plan _ _ c.requires.asked.1 c.in_ok-new.new.placed _ c.in_ok-new.ensures.built
-          c.in_ok-new.ensures.leads _
+      segments_are _ plan _ _ c.requires.asked.1 c.in_ok-built.built.0.placed _ c.in_ok-built.ensures.built
+          c.in_ok-built.ensures.leads _
           (rw (c.above-addresses.ensures.base, c.above-addresses.ensures.cells) at c.in_ok-added.ensures.segments),
       c.deref-2.ensures.value,
-      c.in_ok-notes-2.ensures,
-      c.in_ok-notes.ensures c.requires.asked.0 c.requires.asked.1,
+      c.in_ok-notes.ensures,
+      c.in_ok-noted.ensures c.requires.asked.0 _ c.requires.asked.1 c.in_ok-built.ensures.edges,
     ) (can_be_written c.args.bytes.now plan c.requires.limit c.requires.asked.2 c.requires.asked.3 _ _ _ code
     (original_fit pieces_fit c.args.bytes.now plan c.requires.asked.2 c.requires.asked.3 code.dead))
 
 pub returns : goal.returns
 returns c = λ marks view.
-    let plan = plan_of marks c.args.asked.now in
+    let plan = plan_of marks c.args.asked in
     record {
       p = _;
       place = _;
       table = _;
-      code = code_is _ plan _ _ view c.in_ok-new.new.placed _ c.in_ok-new.ensures.built c.in_ok-new.ensures.leads
+      code = code_is _ plan _ _ view c.in_ok-built.built.0.placed _ c.in_ok-built.ensures.built c.in_ok-built.ensures.leads
           c.in_ok-added.ensures.code c.in_ok-added.ensures.tables;
       is = c.in_ok-file.ensures ∙ rw (
         c.deref.ensures.value,
-        segments_are _ plan _ _ view c.in_ok-new.new.placed _ c.in_ok-new.ensures.built
-            c.in_ok-new.ensures.leads _
+        segments_are _ plan _ _ view c.in_ok-built.built.0.placed _ c.in_ok-built.ensures.built
+            c.in_ok-built.ensures.leads _
             (rw (c.above-addresses.ensures.base, c.above-addresses.ensures.cells) at c.in_ok-added.ensures.segments),
         c.deref-2.ensures.value,
-        c.in_ok-notes-2.ensures,
-        c.in_ok-notes.ensures marks view,
-        c.in_ok-new.ensures.entry ∙ view_entry _ plan _ _ view (placement_in c.in_ok-new.new.placed),
+        c.in_ok-notes.ensures,
+        c.in_ok-noted.ensures marks _ view c.in_ok-built.ensures.edges,
+        c.in_ok-built.ensures.entry ∙ view_entry _ plan _ _ view (placement_in c.in_ok-built.built.0.placed),
       ) refl;
     }

@@ -1,25 +1,9 @@
 use Rattle.std.proofs.Common.{ap, ◌∙◌}
 use Rattle.image_code.specs.Made.{piece_list}
-use Rattle.image_code.specs.Private.{code_at}
-use Rattle.image_code.proofs.Sources.{source_is}
 use Rattle.image_code.proofs.making.pieces.Goals as goal
-
-pub lookups_of-requires : goal.lookups_of-requires
-lookups_of-requires c = record {
-  source = source_is c.args.text.now c.args.graph.now c.len-words.ensures.text c.edges-edges.ensures.graph
-      c.requires.graph;
-}
-
-pub invariant_of-maker-clause-found : goal.invariant_of-maker-clause-found
-invariant_of-maker-clause-found c =
-    ∣ record {
-      source = source_is c.args.text.now c.args.graph.now c.len-words.ensures.text c.edges-edges.ensures.graph
-          c.requires.graph;
-      lookups = c.in_ok-lookups.ensures;
-    } ∣₁
 
 pub returns-clause-list : goal.returns-clause-list
 returns-clause-list c =
-    c.in_ok-pieces.ensures.list
+    c.in_ok-made.ensures.list
     ∙ ap (piece_list c.args.text.now c.args.graph.now c.args.addresses.table.0 c.args.addresses.cases.0)
-    (λ i edge. (ap (λ codes. code_at codes edge) c.deref.ensures.value ∙ c.in_ok-codes.ensures.codes edge) i)
+    (λ i edge. c.in_ok-code.ensures.words edge i)
