@@ -5,7 +5,7 @@ use Rattle.std.proofs.Math.ListN.{get_or-eq_default}
 use Rattle.std.proofs.Math.Seq.{drop-append_seam, take-append_seam}
 use Rattle.std.proofs.lemmas.Option.{slice_get_past}
 use Rattle.std.proofs.lemmas.Bool.{cases_lt}
-use Rattle.std.proofs.lemmas.List.{length-map}
+use Rattle.std.proofs.lemmas.List.{length-map, nil_from_length}
 use Rattle.v8_decode.specs.declared.Part.{Part}
 use Rattle.v8_encode.specs.Encoding.{word_of}
 use Rattle.snippets.specs.declared.snippet.Op.{Op}
@@ -53,15 +53,15 @@ module _ (base : ℕ) (dead : ℕ → List Part) (snips : List (List Op)) where
         just;
   }
 
-  empty : (xs : List ℕ) → length xs ≤ 0 → xs ≡ []
-  empty [] l = refl
-  empty (x ∷ xs) l = absurd (omega (arith, l))
+  -- where there are no operations, there is no word
+  pub none_is_no_code : (edge : ℕ) → snippet_on snips edge ≡ [] → codes_of base dead snips edge ≡ []
+  none_is_no_code edge none =
+      let count : length (snippet_on snips edge) ≡ 0 = ap length none in
+      nil_from_length (codes_of base dead snips edge) (omega (arith, codes_short edge, count))
 
-  -- behind the last edge there is no word
+  -- so it is behind the last edge
   pub no_code : (edge : ℕ) → length snips ≤ edge → codes_of base dead snips edge ≡ []
-  no_code edge past =
-      let none : length (snippet_on snips edge) ≡ 0 = ap length (get_or-eq_default snips [] past) in
-      empty (codes_of base dead snips edge) (omega (arith, codes_short edge, none))
+  no_code edge past = none_is_no_code edge (get_or-eq_default snips [] past)
 
   module _ (aligned : base % 4 ≡ 0) where
     nothing : CanExpand base []
@@ -72,14 +72,17 @@ module _ (base : ℕ) (dead : ℕ → List Part) (snips : List (List Op)) where
       low = λ k d l. absurd (omega arith);
     }
 
-    -- behind the last edge there are no operations
-    pub beyond : (edge : ℕ) → length snips ≤ edge → CodeDoes base dead snips edge
+    -- no operations are done by no code
+    pub none_does : (edge : ℕ) → snippet_on snips edge ≡ [] → CodeDoes base dead snips edge
     unfolding codes_of
-    beyond edge past =
-        let can : CanExpand base (snippet_on snips edge) =
-        subst (CanExpand base) (sym (get_or-eq_default snips [] past)) nothing in
+    none_does edge none =
+        let can : CanExpand base (snippet_on snips edge) = subst (CanExpand base) (sym none) nothing in
         code_does edge (codes_of base dead snips edge) can.few refl
         (snippet_code_runs base (dead edge) (snippet_on snips edge) can).1
+
+    -- behind the last edge there are none
+    pub beyond : (edge : ℕ) → length snips ≤ edge → CodeDoes base dead snips edge
+    beyond edge past = none_does edge (get_or-eq_default snips [] past)
 
   -- one edge more
   pub does_more : (number : ℕ) → ((edge : ℕ) → edge < number → CodeDoes base dead snips edge)

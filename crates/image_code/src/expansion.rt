@@ -89,6 +89,9 @@ fn code_of(
     ensures does { IfOk result (λ code. CodeDoes cells.0 (dead_on live.now) snips.now edge.0) }
 {
     let snippet = &snips[edge.0 as usize];
+    if snippet.ops().is_empty() {
+        return Ok(Vec::new(alloc));
+    }
     expand(alloc, snippet, cells, live.dead_on(edge), snippet.names())
 }
 

@@ -1,5 +1,6 @@
-use Rattle.std.proofs.Common.{◌≡◌, ◌≤◌, List, [], length, ◌∙◌, subst}
-use Rattle.std.proofs.lemmas.List.{get_or_default}
+use Rattle.std.proofs.Common.{◌≡◌, ◌≤◌, List, [], length, ◌∙◌, subst, sym, arith}
+use Rattle.std.proofs.lemmas.Bool.Decides.{nat_tests}
+use Rattle.std.proofs.lemmas.List.{get_or_default, nil_from_length}
 use Rattle.snippets.specs.declared.snippet.Op.{Op}
 use Rattle.snippets.specs.Cells.{named_by}
 use Rattle.snippet_code.specs.Runs.{DoesJust}
@@ -7,7 +8,7 @@ use Rattle.snippet_code.specs.Spills.{spills_of}
 use Rattle.liveness.specs.Sets.{dead_on}
 use Rattle.image_code.specs.Store.{snippet_on}
 use Rattle.image_code.specs.Parts.{codes_of}
-use Rattle.image_code.proofs.Codes.{code_does, if_both}
+use Rattle.image_code.proofs.Codes.{code_does, if_both, none_does, none_is_no_code}
 use Rattle.image_code.proofs.expansion.code_of.Goals as goal
 
 its_snippet : (c : goal.After-expand) → c.index-snips-edge.result ≡ snippet_on c.args.snips.now c.args.edge.0
@@ -29,3 +30,20 @@ returns-clause-does c =
     (subst (λ (ops : List Op). length ops ≤ 8) (its_snippet c) c.expand.ensures.few) same just)
     (returns-clause-code c)
     (rw (c.dead_on.ensures, c.names.ensures, its_snippet c) at c.expand.ensures.just)
+
+no_operations : (c : goal.After-new) → snippet_on c.args.snips.now c.args.edge.0 ≡ []
+no_operations c =
+    let none : length c.ops.result.now ≡ 0 = grind (arith, nat_tests, c.is_empty.ensures, c.if-is_empty.true) in
+    sym (c.index-snips-edge.is
+    ∙ get_or_default c.args.snips.now c.args.edge.0 c.index-snips-edge.result [] c.requires.edge)
+    ∙ sym c.ops.ensures.ops ∙ nil_from_length c.ops.result.now none
+
+pub returns-then-is_empty-clause-code : goal.returns-then-is_empty-clause-code
+returns-then-is_empty-clause-code c =
+    c.new.ensures.items
+    ∙ sym (none_is_no_code c.args.cells.0 (dead_on c.args.live.now) c.args.snips.now c.args.edge.0 (no_operations c))
+
+pub returns-then-is_empty-clause-does : goal.returns-then-is_empty-clause-does
+returns-then-is_empty-clause-does c =
+    none_does c.args.cells.0 (dead_on c.args.live.now) c.args.snips.now c.requires.aligned c.args.edge.0
+    (no_operations c)
