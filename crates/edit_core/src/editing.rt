@@ -116,8 +116,9 @@ fn write_edit(
     let added = added_segments(alloc, addresses, &new)?;
     let size = new.tables.len() as u32;
     let told = Told { kind, cells, edges };
-    let notes = notes(alloc, bytes, image, graph, told, new.placed, size)?;
-    let notes = write_notes(alloc, &notes)?;
+    let noted = notes(alloc, bytes, image, graph, told, new.placed, size)?;
+    let notes = write_notes(alloc, &noted)?;
+    drop(noted);
     let file = write_around(alloc, bytes, image, &added, new.entry, &notes)?;
     Ok(file)
 }

@@ -71,9 +71,10 @@ pub(crate) fn code_segment(alloc: Global, base: Addr, code: &[u32]) -> Result<Ne
 
 // Words as they stand in memory.
 fn code_bytes(alloc: Global, code: &[u32]) -> Result<Vec<u8>, NoMemory>
+    requires { 4 * length code.now ≤ 2 ^ 31 }
     ensures { IfOk result (λ bytes. bytes.items ≡ words_bytes code.now) }
 {
-    let mut bytes = Vec::new(alloc);
+    let mut bytes = Vec::with_capacity(alloc, 4 * code.len())?;
     put_words(&mut bytes, code)?;
     Ok(bytes)
 }

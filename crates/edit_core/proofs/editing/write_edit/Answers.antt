@@ -49,13 +49,13 @@ write_notes-requires-clause-notes c =
     let plan = plan_of c.requires.asked.0 c.args.asked in
     let code = code_is _ plan _ _ c.requires.asked.1 c.in_ok-built.built.0.placed _ c.in_ok-built.ensures.built
     c.in_ok-built.ensures.leads c.in_ok-added.ensures.code c.in_ok-added.ensures.tables in
-    rw (c.in_ok-notes.ensures c.requires.asked.0 _ c.requires.asked.1 c.in_ok-built.ensures.edges)
+    rw (c.in_ok-noted.ensures c.requires.asked.0 _ c.requires.asked.1 c.in_ok-built.ensures.edges)
     (notes_meet_rules c.args.bytes.now plan c.requires.limit c.requires.asked.2 c.requires.asked.3 _ _ _ code
     (original_fit pieces_fit c.args.bytes.now plan c.requires.asked.2 c.requires.asked.3 code.dead))
 
 pub write_notes-requires-clause-version : goal.write_notes-requires-clause-version
 write_notes-requires-clause-version c =
-    ap (λ (n : Notes). n.version) (c.in_ok-notes.ensures c.requires.asked.0 _ c.requires.asked.1 c.in_ok-built.ensures.edges)
+    ap (λ (n : Notes). n.version) (c.in_ok-noted.ensures c.requires.asked.0 _ c.requires.asked.1 c.in_ok-built.ensures.edges)
 
 pub write_around-requires-clause-original : goal.write_around-requires-clause-original
 write_around-requires-clause-original c =
@@ -68,8 +68,8 @@ write_around-requires-clause-original c =
           c.in_ok-built.ensures.leads _
           (rw (c.above-addresses.ensures.base, c.above-addresses.ensures.cells) at c.in_ok-added.ensures.segments),
       c.deref-2.ensures.value,
-      c.in_ok-notes-2.ensures,
-      c.in_ok-notes.ensures c.requires.asked.0 _ c.requires.asked.1 c.in_ok-built.ensures.edges,
+      c.in_ok-notes.ensures,
+      c.in_ok-noted.ensures c.requires.asked.0 _ c.requires.asked.1 c.in_ok-built.ensures.edges,
     ) (can_be_written c.args.bytes.now plan c.requires.limit c.requires.asked.2 c.requires.asked.3 _ _ _ code
     (original_fit pieces_fit c.args.bytes.now plan c.requires.asked.2 c.requires.asked.3 code.dead))
 
@@ -88,8 +88,8 @@ returns c = λ marks view.
             c.in_ok-built.ensures.leads _
             (rw (c.above-addresses.ensures.base, c.above-addresses.ensures.cells) at c.in_ok-added.ensures.segments),
         c.deref-2.ensures.value,
-        c.in_ok-notes-2.ensures,
-        c.in_ok-notes.ensures marks _ view c.in_ok-built.ensures.edges,
+        c.in_ok-notes.ensures,
+        c.in_ok-noted.ensures marks _ view c.in_ok-built.ensures.edges,
         c.in_ok-built.ensures.entry ∙ view_entry _ plan _ _ view (placement_in c.in_ok-built.built.0.placed),
       ) refl;
     }
