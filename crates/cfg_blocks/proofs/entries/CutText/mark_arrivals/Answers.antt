@@ -1,4 +1,4 @@
-use Rattle.std.proofs.Common.{arith, length}
+use Rattle.std.proofs.Common.{arith}
 use Rattle.cfg_blocks.specs.Private.{cut_blocks}
 use Rattle.cfg_blocks.proofs.Entering.{led_step}
 use Rattle.cfg_blocks.proofs.entries.CutText.mark_arrivals.Goals as goal
