@@ -230,7 +230,7 @@ fn put_number<'a, N: Integer, E: Sink>(
     put_pieces(err, &[b"eel: ", name, b": ", before, number, after, b"\n"])
 }
 
-/// The same, with two numbers.
+/// Writes a line about a file with two numbers in it.
 fn put_numbers<'a, M: Integer, N: Integer, E: Sink>(
     name: &'a str,
     before: &'a [u8],
@@ -338,7 +338,7 @@ fn put_between<E: Sink>(name: &str, pc: Addr, err: &mut E) -> Result<(), Failed>
     put_place(name, &hex8(pc.0), err)
 }
 
-/// The same, of an address by its digits.
+/// Writes that the run stands between places, at an address by its digits.
 fn put_place<E: Sink>(name: &str, digits: &[u8], err: &mut E) -> Result<(), Failed>
     ensures { Wrote (stream_seen E.Sink err.old) (stream_seen E.Sink err.new)
         (line_about name.now (codes "pc " ++ digits.now ++ codes " between places")) result }

@@ -34,7 +34,7 @@ fn first_free(marks: &[bool], from: usize) -> usize
     marks.len()
 }
 
-// The same of the piece with this number.
+// Where the Jump leads that is the last item of the piece with this number.
 fn exit_at(pieces: &[Piece], k: usize) -> Option<PieceNo>
     requires inside { k < length pieces.now }
     ensures { result ≡ exit_of_piece pieces.now k }

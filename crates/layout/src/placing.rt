@@ -39,7 +39,7 @@ impl Assembler<'_> {
     }
 }
 
-// The same, or a fault where there isn't room.
+// Code, addresses and ranges, or a fault where there isn't room.
 fn put_within(
     alloc: Global,
     base: Addr,
