@@ -34,6 +34,7 @@ returns c = record {
       ∙ ap (piece_list c.text-text.result.now c.args.graph.now c.data_addresses-addresses.result.table.0
       c.data_addresses-addresses.result.cases.0) (λ i edge. c.in_ok-code.ensures.words edge i)
       ∙ rw (
+        c.deref-2.ensures.value,
         c.data_addresses-addresses.ensures.cases,
         c.data_addresses-addresses.ensures.table,
         c.data_addresses-addresses.ensures.cells,
@@ -41,7 +42,7 @@ returns c = record {
         c.above.ensures.base,
         c.above.ensures.cells,
       ) refl;
-  landing = rw (c.in_ok-made.ensures.landing, ← c.text-text.ensures) c.in_ok-code.ensures.landing;
+  landing = rw (c.in_ok-made.ensures.landing, ← c.text-text.ensures, ← c.deref-2.ensures.value) c.in_ok-code.ensures.landing;
   cases = c.in_ok-made.ensures.cases ∙ ap (λ (t : Words). case_numbers t c.args.graph.now) c.text-text.ensures;
   foreign = c.in_ok-made.ensures.foreign ∙ ap (λ (t : Words). foreign_number t c.args.graph.now) c.text-text.ensures;
   entry = rw (c.in_ok-made.ensures.entry, c.text-text.ensures, c.entry.ensures.word) refl;
