@@ -77,7 +77,10 @@ cells_size cells = (4 * cells + 4095) / 4096 * 4096
 abbrev pub table_after : ℕ → ℕ → ℕ
 table_after base cells = base + cells_size cells
 
--- all segments, as notes say them
+-- a segment, and all of them, as notes say them
+abbrev pub segment_noted : AddedSegment → NoteSegment
+segment_noted s = record { start = s.vaddr; length = s.memsz }
+
 abbrev pub segments_noted : ℕ → ℕ → ℕ → List ℕ → List NoteSegment
 segments_noted base cells size code =
     let table = table_after base cells in

@@ -114,9 +114,8 @@ fn write_edit(
     let built = new_code(alloc, image, graph, asked)?;
     let (new, edges) = built;
     let added = added_segments(alloc, addresses, &new)?;
-    let size = new.tables.len() as u32;
     let told = Told { kind, cells, edges };
-    let noted = notes(alloc, bytes, image, graph, told, new.placed, size)?;
+    let noted = notes(alloc, bytes, image, graph, told, new.placed, &added)?;
     let notes = write_notes(alloc, &noted)?;
     drop(noted);
     let file = write_around(alloc, bytes, image, &added, new.entry, &notes)?;

@@ -4,19 +4,19 @@ ghost use Rattle.std.specs.List.{find};
 ghost use Rattle.std.specs.Option.{ForSome};
 ghost use Rattle.cfg_normal.specs.Code.{IsEdgeIn};
 ghost use Rattle.eel_base.specs.Code.{IsText};
+ghost use Rattle.elf32_write.specs.Headers.{segment_seen as segment_added};
 ghost use Rattle.notes.specs.Code.{notes_seen, edge_seen, range_seen, segment_seen};
 ghost use Rattle.snippets.specs.declared.snippet.Op.{Op};
 ghost use Rattle.edit_core.specs.Faithful.{cell_noted as cell_noted_of, note_edge as note_edge_of, note_edges as note_edges_of, tool_number as tool_number_of};
-ghost use Rattle.edit_core.specs.Written.{is_off as is_off_of, notes_on, off_range as off_range_of, off_ranges, segments_noted, segment_size, table_after};
+ghost use Rattle.edit_core.specs.Written.{is_off as is_off_of, notes_on, off_range as off_range_of, off_ranges, segment_noted, segments_noted, segment_size, table_after};
 ghost use Rattle.edit_core.specs.Private.{placement_in, plan_told, IsViewOf};
 
 use crate::addresses::AddressMap;
-use crate::segments::{EDITOR_PAGE, PAGE_SIZE};
 use crate::taking::Request;
 use cfg_normal::{Edge, FlowGraph, Slot, kind_number, node_number};
 use eel_base::{Addr, BlockNo, NoMemory, Range, Text, WordNo};
 use elf32_sparc::Image;
-use elf32_write::delta;
+use elf32_write::{NewSegment, delta};
 use layout::Placed;
 use notes::{NoteEdge, NoteSegment, Notes};
 use snippets::Snippet;
@@ -34,7 +34,7 @@ pub(crate) struct Told {
     pub edges: Vec<NoteEdge>,
 }
 
-/// The notes on new code, behind tables of so many bytes.
+/// The notes on new code, with what was added for it.
 pub(crate) fn notes(
     alloc: Global,
     bytes: &[u8],
@@ -42,14 +42,15 @@ pub(crate) fn notes(
     graph: &FlowGraph,
     told: Told,
     placed: Placed,
-    size: u32,
+    added: &[NewSegment],
 ) -> Result<Notes, NoMemory>
     requires limit { length bytes.now ≤ 2 ^ 26 }
     requires words { graph.now.blocks.words ≡ length image.now.text.words }
     requires text { IsText image.now.text }
     requires few { told.cells ≤ 2 ^ 23 }
-    requires size { size ≡ segment_size image.now.text graph.now }
-    requires low { table_after image.now.base told.cells + size + 4 * length placed.code.items ≤ 2 ^ 31 }
+    requires low { table_after image.now.base told.cells ≤ 2 ^ 31 }
+    requires added { map segment_noted (map segment_added added.now)
+        ≡ segments_noted image.now.base told.cells (segment_size image.now.text graph.now) placed.code.items }
     ensures { (marks : List ℕ) (snips : List (List Op)) → IsViewOf bytes.now (plan_told marks told snips) image.now graph.now
         → map edge_seen told.edges.items ≡ note_edges_of graph.now told.kind graph.now.edges snips
         → IfOk result (λ n. notes_seen n ≡ notes_on bytes.now (plan_told marks told snips) (placement_in placed)) }
@@ -66,7 +67,7 @@ pub(crate) fn notes(
         entry: graph.holding(image.entry()).0,
         base: image.base().0,
         cells: told.cells,
-        segments: note_segments(alloc, addresses, size, &placed.code)?,
+        segments: note_segments(alloc, added)?,
         blocks: first_words(alloc, graph)?,
         edges: told.edges,
         ranges: noted_ranges(alloc, text, graph, addresses.table(), &placed.ranges)?,
@@ -85,36 +86,17 @@ fn tool_number(kind: ToolKind) -> u32
     }
 }
 
-// The segments of cells, if there are any, of the tables and of the code, and the editor's page.
-fn note_segments(
-    alloc: Global,
-    addresses: AddressMap,
-    size: u32,
-    code: &[u32],
-) -> Result<Vec<NoteSegment>, NoMemory>
-    requires few { addresses.cells ≤ 2 ^ 23 }
-    requires low { table_after addresses.base.0 addresses.cells + size + 4 * length code.now ≤ 2 ^ 31 }
-    ensures { IfOk result (λ v. map segment_seen v.items ≡ segments_noted addresses.base.0 addresses.cells size code.now) }
+// Added segments as notes have them.
+fn note_segments(alloc: Global, added: &[NewSegment]) -> Result<Vec<NoteSegment>, NoMemory>
+    ensures { IfOk result (λ v. map segment_seen v.items ≡ map segment_noted (map segment_added added.now)) }
 {
-    let mut segments = Vec::new(alloc);
-    if addresses.cells > 0 {
+    let mut segments = Vec::with_capacity(alloc, added.len())?;
+    for segment in added {
         segments.push(NoteSegment {
-            start: addresses.base.0,
-            length: 4 * addresses.cells,
+            start: segment.vaddr.0,
+            length: segment.memsz,
         })?;
     }
-    segments.push(NoteSegment {
-        start: addresses.table().0,
-        length: size,
-    })?;
-    segments.push(NoteSegment {
-        start: addresses.code(size).0,
-        length: 4 * code.len() as u32,
-    })?;
-    segments.push(NoteSegment {
-        start: EDITOR_PAGE.0,
-        length: PAGE_SIZE,
-    })?;
     Ok(segments)
 }
 

@@ -1,14 +1,16 @@
 -- One pass that widens all that are out of reach.
-use Rattle.std.proofs.Common.{◌≡◌, ℕ, zero, suc, ◌+◌, ◌-◌, ◌<◌, ◌≤◌, ◌⊎◌, inl, inr, Bool, true, false, cond, ◌||◌, List, [], ◌∷◌, length, get_or, set, replicate, count_by, Option, refl, ap, sym, subst, ◌∙◌, arith}
+use Rattle.std.proofs.Common.{◌≡◌, ℕ, zero, suc, ◌+◌, ◌-◌, ◌<◌, ◌≤◌, ◌^◌, ◌⊎◌, inl, inr, Bool, true, false, cond, ◌||◌, List, [], ◌∷◌, length, get_or, set, replicate, count_by, slice_get, Option, Some, None, IfSome, refl, ap, sym, subst, ◌∙◌, arith}
 use Rattle.std.specs.Option.{option_map}
+use Rattle.std.proofs.lemmas.Bool.Decides.{nat_tests}
 use Rattle.std.proofs.lemmas.Bool.{cases_eq, cases_lt, false≢true, or_left}
 use Rattle.std.proofs.lemmas.List.Sums.{sum_by-cons}
 use Rattle.std.proofs.lemmas.Option.{slice_get_past}
 use Rattle.std.proofs.lemmas.List.{length-set, get_or-set_other, get_or-set_same, get_or_past}
 use Rattle.layout.specs.declared.entries.Entry.{Entry}
 use Rattle.layout.specs.Forms.{Forms, start_of, target, far_from, is_far, offset}
-use Rattle.layout.specs.Private.{forms_in, AreWider, IsFormed, IsOffsets}
-use Rattle.layout.proofs.Widening.{IsWidening, widening_all, widening_ends}
+use Rattle.layout.specs.Private.{far_of, forms_in, AreWider, IsFormed, IsOffsets}
+use Rattle.layout.proofs.Widening.{IsWidening, rises, widening_all, widening_ends}
+use Rattle.layout.proofs.Walked.{goal_low, is_far_is}
 
 pub wider_none : (entries : List Entry) (forms : List Bool) → AreWider entries forms forms 0
 wider_none entries forms = record { len = refl; each = λ k l. absurd (omega arith); rest = λ k l. refl }
@@ -24,6 +26,10 @@ wider_more entries forms wide n x h l e = record {
   ];
   rest = λ k m. get_or-set_other wide n k x false (λ s. omega (arith, m, s)) ∙ h.rest k (omega (arith, m));
 }
+
+or_none : (b : Bool) → (b || false) ≡ b
+or_none true = refl
+or_none false = refl
 
 -- past the entries none is out of reach
 not_far : (entries : List Entry) (long : Forms) (n : ℕ) → length entries ≤ n → is_far entries long n ≡ false
@@ -95,6 +101,38 @@ widening_last entries forms wide at all e h w c before sum = elim (pass_counts e
   })
   | inr l ↦ absurd (omega arith)
 ]
+
+-- where there are few words, none is out of reach
+near : (from : ℕ) (to : Option ℕ) → from < 2 ^ 21 → IfSome to (λ n. n < 2 ^ 21) → far_of from to ≡ false
+near from None f t = refl
+near from (Some to) f t = grind (arith, nat_tests)
+
+module _ (entries : List Entry) (forms : List Bool) (at : List ℕ) (all : ℕ) (offsets : IsOffsets entries (forms_in forms) at)
+    (whole : all ≡ offset entries (forms_in forms) (length entries)) (few : all < 2 ^ 21) where
+  near_at : (n : ℕ) → n < length entries → (x : Option Entry) → slice_get entries n ≡ x
+      → is_far entries (forms_in forms) n ≡ false
+  near_at n l None is = ap (λ (o : Option Entry). far_from entries (forms_in forms) n (option_map (start_of entries)
+      (target o))) is
+  near_at n l (Some x) is =
+      let low = rises entries (forms_in forms) n (length entries) (omega (arith, l)) in
+      sym (is_far_is entries (forms_in forms) at offsets n x is _ refl)
+      ∙ near _ _ (omega (arith, low, whole, few))
+      (goal_low entries (forms_in forms) at offsets n x is (λ (to : ℕ). to < 2 ^ 21) (λ m h. omega (arith, h, whole, few)))
+
+  none_far : (n : ℕ) → is_far entries (forms_in forms) n ≡ false
+  none_far n = elim (cases_lt n (length entries)) [
+    | inl l ↦ near_at n l (slice_get entries n) refl
+    | inr l ↦ not_far entries (forms_in forms) n l
+  ]
+
+  -- so that the forms are the least
+  pub widening_few : length forms ≡ length entries → IsWidening entries (forms_in forms) → IsFormed entries forms at all
+  widening_few e w = record {
+    len = e;
+    widened = widening_ends entries (forms_in forms) w (λ n. rw (none_far n) (sym (or_none (get_or forms n false))));
+    offsets = offsets;
+    whole = whole;
+  }
 
 -- a pass that changes the count has fewer left to widen
 pub pass_smaller : (entries : List Entry) (forms wide : List Bool) (long count : ℕ) → length forms ≡ length entries

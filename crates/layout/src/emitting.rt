@@ -4,7 +4,7 @@ ghost use Rattle.std.specs.Prelude.{◌≡◌, ◌+◌, ◌*◌, ◌^◌, ◌<�
 ghost use Rattle.layout.specs.declared.items.Item.TheVariants as it;
 ghost use Rattle.layout.specs.declared.entries.Entry.TheVariants as en;
 ghost use Rattle.layout.specs.Forms.{far, target as target_of};
-ghost use Rattle.layout.specs.Private.{entry_code, far_of, forms_in, goal_in, has_condition, or_zero, IsEmitted};
+ghost use Rattle.layout.specs.Private.{entry_code, far_of, forms_in, goal_in, has_condition, or_zero, IsEmitted, IsOffsets};
 
 use crate::Item;
 use crate::assembler::Assembler;
@@ -71,8 +71,9 @@ fn put_entry(
 }
 
 impl Assembler<'_> {
-    /// The words of the entries.
-    pub(crate) fn emit(&self, alloc: Global) -> Result<Vec<u32>, AllocError>
+    /// The words of the entries, where a list has how many words come before each piece.
+    pub(crate) fn emit(&self, alloc: Global, at: &[u64]) -> Result<Vec<u32>, AllocError>
+        requires { IsOffsets self.now.entries.now (forms_in self.now.forms.now) at.now }
         ensures { IfOk result (λ code. IsEmitted self.now.base.0 self.now.entries.now (forms_in self.now.forms.now)
             code.items (length self.now.entries.now)) }
     {
@@ -81,7 +82,7 @@ impl Assembler<'_> {
         let mut here = 0;
         for long in self.forms {
             let entry = left.next();
-            put_entry(&mut code, self.base.0, &entry, &left, here, self.at, *long)?;
+            put_entry(&mut code, self.base.0, &entry, &left, here, at, *long)?;
             here += width(&entry, &left, *long);
         }
         Ok(code)

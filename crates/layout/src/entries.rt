@@ -21,7 +21,7 @@ pub enum Entry {
 #[derive(Drop)]
 pub struct Listing<'a> {
     pieces: &'a [Piece],
-    order: &'a [usize],
+    order: &'a [u32],
     count: usize,
 }
 
@@ -45,7 +45,7 @@ pub struct Cursor<'a> {
     pieces: &'a [Piece],
     // What is left of the piece that was begun last, and the pieces behind it.
     items: &'a [Item],
-    order: &'a [usize],
+    order: &'a [u32],
 }
 
 impl<'a> Model for Cursor<'a> {
@@ -72,21 +72,21 @@ fn items_at(pieces: &[Piece], k: usize) -> &[Item]
 }
 
 // How many entries there are.
-fn count(pieces: &[Piece], order: &[usize]) -> usize
+fn count(pieces: &[Piece], order: &[u32]) -> usize
     requires whole { IsWhole pieces.now order.now }
     requires small { length (entries_from pieces.now order.now) ≤ 2 ^ 42 }
     ensures { result ≡ length (entries_from pieces.now order.now) }
 {
     let mut count = 0;
     for k in order {
-        count += 1 + items_at(pieces, *k).len();
+        count += 1 + items_at(pieces, *k as usize).len();
     }
     count
 }
 
 impl<'a> Listing<'a> {
     /// The entries of pieces in an order that has each of them once.
-    pub fn new(pieces: &'a [Piece], order: &'a [usize]) -> Listing<'a>
+    pub fn new(pieces: &'a [Piece], order: &'a [u32]) -> Listing<'a>
         requires few { length pieces.now ≤ 2 ^ 28 }
         requires items { sum_by length pieces.now ≤ 2 ^ 40 }
         requires whole { IsWhole pieces.now order.now }
@@ -132,9 +132,9 @@ impl<'a> Cursor<'a> {
             }
             None => {
                 let k = self.order[0];
-                self.items = items_at(self.pieces, k);
+                self.items = items_at(self.pieces, k as usize);
                 self.order = &self.order[1..];
-                Entry::Start(PieceNo(k as u32))
+                Entry::Start(PieceNo(k))
             }
         }
     }
@@ -147,7 +147,7 @@ impl<'a> Cursor<'a> {
         match self.items.first() {
             Some(_) => false,
             None => match self.order.first() {
-                Some(k) => piece.0 as usize == *k,
+                Some(k) => piece.0 == *k,
                 None => false,
             },
         }

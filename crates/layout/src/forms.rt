@@ -154,6 +154,10 @@ fn widen_all(entries: &Listing, forms: &mut [bool], at: &mut [u64]) -> u64
     let mut long = 0;
     loop {
         let all = offsets(entries, forms, at);
+        // None can be out of reach then.
+        if all < 1 << 21 {
+            return all;
+        }
         widen(entries, at, forms);
         let count = count_long(forms);
         if count == long {

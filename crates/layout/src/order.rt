@@ -1,6 +1,6 @@
 //! The order in which pieces are laid.
 
-ghost use Rattle.std.specs.Prelude.{◌≡◌, ℕ, ◌+◌, ◌-◌, ◌<◌, ◌≤◌, not, ◌&&◌, true, false, [], ◌∷◌, ◌++◌, length, replicate, slice_get, slice_index_or, Some, IfOk, OnOk};
+ghost use Rattle.std.specs.Prelude.{◌≡◌, ℕ, ◌+◌, ◌-◌, ◌^◌, ◌<◌, ◌≤◌, not, ◌&&◌, true, false, [], ◌∷◌, ◌++◌, length, replicate, slice_get, slice_index_or, Some, IfOk, OnOk};
 ghost use Rattle.layout.specs.Order.{behind, compact_order, ends_in_jump, exit_at as exit_of_piece, exit_of, first_laid, next_piece};
 ghost use Rattle.layout.specs.Laying.{LeadsInside, IsLowestLeft, IsMarking, IsWhole};
 
@@ -52,7 +52,7 @@ fn may_follow(pieces: &[Piece], marks: &[bool], to: usize) -> bool
 }
 
 // The piece that comes behind the last one.
-fn behind(pieces: &[Piece], laid: &[usize], marks: &[bool], last: usize, lowest: usize) -> usize
+fn behind(pieces: &[Piece], laid: &[u32], marks: &[bool], last: usize, lowest: usize) -> usize
     requires leads { LeadsInside pieces.now }
     requires marking { IsMarking pieces.now laid.now marks.now lowest }
     requires lowest { IsLowestLeft pieces.now laid.now lowest }
@@ -74,7 +74,7 @@ fn behind(pieces: &[Piece], laid: &[usize], marks: &[bool], last: usize, lowest:
 }
 
 // The piece that comes when these are laid, where `lowest` is the lowest piece left.
-fn next(pieces: &[Piece], laid: &[usize], marks: &[bool], lowest: usize) -> usize
+fn next(pieces: &[Piece], laid: &[u32], marks: &[bool], lowest: usize) -> usize
     requires leads { LeadsInside pieces.now }
     requires marking { IsMarking pieces.now laid.now marks.now lowest }
     requires lowest { IsLowestLeft pieces.now laid.now lowest }
@@ -84,17 +84,18 @@ fn next(pieces: &[Piece], laid: &[usize], marks: &[bool], lowest: usize) -> usiz
 {
     match laid.last() {
         None => 0,
-        Some(last) => behind(pieces, laid, marks, *last, lowest),
+        Some(last) => behind(pieces, laid, marks, *last as usize, lowest),
     }
 }
 
 // Lays one piece more, where `lowest` is the lowest piece left.
 fn lay(
     pieces: &[Piece],
-    laid: &mut Vec<usize>,
+    laid: &mut Vec<u32>,
     marks: &mut Vec<bool>,
     lowest: usize,
 ) -> Result<(), AllocError>
+    requires few { length pieces.now ≤ 2 ^ 28 }
     requires leads { LeadsInside pieces.now }
     requires marking { IsMarking pieces.now laid.old.items marks.old.items lowest }
     requires lowest { IsLowestLeft pieces.now laid.old.items lowest }
@@ -105,12 +106,12 @@ fn lay(
 {
     let next = next(pieces, laid, marks, lowest);
     marks[next] = true;
-    laid.push(next)?;
+    laid.push(next as u32)?;
     Ok(())
 }
 
 // The lowest piece left.
-fn lowest_left(pieces: &[Piece], laid: &[usize], marks: &[bool], lowest: usize) -> usize
+fn lowest_left(pieces: &[Piece], laid: &[u32], marks: &[bool], lowest: usize) -> usize
     requires marking { IsMarking pieces.now laid.now marks.now lowest }
     requires more { length laid.now < length pieces.now }
     ensures lowest { IsLowestLeft pieces.now laid.now result }
@@ -126,7 +127,8 @@ fn unmarked(alloc: Global, count: usize) -> Result<Vec<bool>, AllocError>
 }
 
 /// The pieces in the order in which a compact layout has them.
-pub fn order_of(alloc: Global, pieces: &[Piece]) -> Result<Vec<usize>, AllocError>
+pub fn order_of(alloc: Global, pieces: &[Piece]) -> Result<Vec<u32>, AllocError>
+    requires few { length pieces.now ≤ 2 ^ 28 }
     requires leads { LeadsInside pieces.now }
     ensures order { IfOk result (λ order. order.items ≡ compact_order pieces.now) }
     ensures whole { IfOk result (λ order. IsWhole pieces.now order.items) }

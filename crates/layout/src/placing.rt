@@ -4,11 +4,11 @@ ghost use Rattle.std.specs.Prelude.{◌≡◌, ◌+◌, ◌*◌, ◌^◌, ◌%�
 ghost use Rattle.layout.specs.Laid.{placement_of, ArePieces, Lays};
 ghost use Rattle.layout.specs.Forms.{offset};
 ghost use Rattle.layout.specs.Compact.{IsCompact, RoomIs};
-ghost use Rattle.layout.specs.Private.{addresses, forms_in, FitsIn, IsFormed, IsPut};
+ghost use Rattle.layout.specs.Private.{addresses, forms_in, FitsIn, IsFormed, IsOffsets, IsPut};
 
 use crate::assembler::Assembler;
 use crate::entries::Listing;
-use crate::forms::widened;
+use crate::forms::{Formed, widened};
 use crate::order::order_of;
 use crate::ranges::address;
 use crate::{LayoutFault, Piece, Placed};
@@ -16,24 +16,27 @@ use eel_base::Addr;
 use std::alloc::{AllocError, Global};
 
 impl Assembler<'_> {
-    // The addresses of pieces.
-    fn addresses_of(&self, alloc: Global) -> Result<Vec<Addr>, AllocError>
-        ensures { IfOk result (λ v. v.items ≡ addresses self.now.base.0 self.now.at.now) }
+    // The addresses of pieces that have so many words before them.
+    fn addresses_of(&self, alloc: Global, at: &[u64]) -> Result<Vec<Addr>, AllocError>
+        requires { IsOffsets self.now.entries.now (forms_in self.now.forms.now) at.now }
+        ensures { IfOk result (λ v. v.items ≡ addresses self.now.base.0 at.now) }
     {
-        let mut addresses = Vec::with_capacity(alloc, self.at.len())?;
-        for words in self.at {
+        let mut addresses = Vec::with_capacity(alloc, at.len())?;
+        for words in at {
             addresses.push(address(self.base, *words))?;
         }
         Ok(addresses)
     }
 
     // Code, addresses and ranges.
-    fn put(&self, alloc: Global) -> Result<Placed, AllocError>
-        ensures { IfOk result (IsPut self.now.base.0 self.now.entries.now self.now.at.now
+    fn put(&self, alloc: Global, words: Vec<u64>) -> Result<Placed, AllocError>
+        requires { IsOffsets self.now.entries.now (forms_in self.now.forms.now) words.items }
+        ensures { IfOk result (IsPut self.now.base.0 self.now.entries.now words.items
             (forms_in self.now.forms.now)) }
     {
-        let code = self.emit(alloc)?;
-        let at = self.addresses_of(alloc)?;
+        let code = self.emit(alloc, &words)?;
+        let at = self.addresses_of(alloc, &words)?;
+        drop(words);
         let ranges = self.ranges_of(alloc)?;
         Ok(Placed { code, at, ranges })
     }
@@ -46,13 +49,13 @@ fn put_within(
     room: u32,
     entries: &Listing,
     forms: &[bool],
-    at: &[u64],
+    at: Vec<u64>,
     all: u64,
 ) -> Result<Placed, LayoutFault>
     requires small { length entries.now ≤ 2 ^ 42 }
-    requires formed { IsFormed entries.now forms.now at.now all }
+    requires formed { IsFormed entries.now forms.now at.items all }
     requires low { base.0 + room ≤ 2 ^ 31 }
-    ensures put { IfOk result (IsPut base.0 entries.now at.now (forms_in forms.now)) }
+    ensures put { IfOk result (IsPut base.0 entries.now at.items (forms_in forms.now)) }
     ensures room { FitsIn result (4 * offset entries.now (forms_in forms.now) (length entries.now)) room }
 {
     let needed = 4 * all;
@@ -66,10 +69,9 @@ fn put_within(
         base,
         entries,
         forms,
-        at,
         all,
     };
-    match assembler.put(alloc) {
+    match assembler.put(alloc, at) {
         Ok(placed) => Ok(placed),
         Err(_) => Err(LayoutFault::NoMemory),
     }
@@ -91,13 +93,6 @@ pub fn place(alloc: Global, pieces: &[Piece], base: Addr, room: u32) -> Result<P
     let Ok(formed) = widened(alloc, &entries, pieces.len()) else {
         return Err(LayoutFault::NoMemory);
     };
-    put_within(
-        alloc,
-        base,
-        room,
-        &entries,
-        &formed.forms,
-        &formed.at,
-        formed.all,
-    )
+    let Formed { forms, at, all } = formed;
+    put_within(alloc, base, room, &entries, &forms, at, all)
 }

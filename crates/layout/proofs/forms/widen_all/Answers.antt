@@ -1,5 +1,5 @@
 use Rattle.std.proofs.Common.{◌∙◌, sym}
-use Rattle.layout.proofs.Wider.{widening_pass, widening_last, pass_smaller}
+use Rattle.layout.proofs.Wider.{widening_few, widening_pass, widening_last, pass_smaller}
 use Rattle.layout.proofs.forms.widen_all.Goals as goal
 
 pub loop-long-smaller : goal.loop-long-smaller
@@ -16,6 +16,11 @@ loop-long-preserved c = record {
   widening = widening_pass c.args.entries.now c.loop-long.forms c.widen.new.forms c.loop-long.invariant.len
       c.widen.ensures c.loop-long.invariant.widening;
 }
+
+pub returns-then-all-clause-formed : goal.returns-then-all-clause-formed
+returns-then-all-clause-formed c =
+    widening_few _ _ _ _ c.offsets-all.ensures.at c.offsets-all.ensures.all c.if-all.true c.loop-long.invariant.len
+    c.loop-long.invariant.widening
 
 pub returns-then-count-long-clause-formed : goal.returns-then-count-long-clause-formed
 returns-then-count-long-clause-formed c =

@@ -6,7 +6,10 @@ use Rattle.layout.proofs.Whole.{all_laid, room_is}
 use Rattle.layout.proofs.placing.place.Goals as goal
 
 pub order_of-requires : goal.order_of-requires
-order_of-requires c = record { leads = exits_lead c.args.pieces.now c.requires.pieces.leads }
+order_of-requires c = record {
+  few = c.requires.pieces.count;
+  leads = exits_lead c.args.pieces.now c.requires.pieces.leads;
+}
 
 pub widened-requires-clause-listing : goal.widened-requires-clause-listing
 widened-requires-clause-listing c =
@@ -21,7 +24,7 @@ returns c =
     let all : c.new-entries.result ≡ entries_of pieces = c.new-entries.ensures.entries ∙ ap (entries_from pieces)
     (c.deref.ensures.value ∙ c.in-Ok.ensures.order) in
     let formed = rw all at c.in-Ok-widened.ensures.formed in
-    let put = rw (all, c.deref-2.ensures.value, c.deref-3.ensures.value) at c.put_within.ensures.put in
+    let put = rw (all, c.deref-2.ensures.value) at c.put_within.ensures.put in
     let fits = rw (all, c.deref-2.ensures.value) at c.put_within.ensures.room in
     record {
       laid = all_laid _ _ _ _ _ _ formed c.requires.pieces c.in-Ok-widened.ensures.count c.requires.aligned c.requires.low

@@ -9,5 +9,5 @@ address-requires c =
     let layout = c.args.self.now in
     let k = c.loop-words.words-index in
     let r = rises layout.entries.now (forms_in layout.forms.now) (start_of layout.entries.now k)
-    (length layout.entries.now) (omega (arith, layout.offsets.inside k (omega (arith, c.loop-words-test.true)))) in
-    record { low = omega (arith, r, layout.offsets.each k (omega (arith, c.loop-words-test.true)), layout.low) }
+    (length layout.entries.now) (omega (arith, c.requires.inside k (omega (arith, c.loop-words-test.true)))) in
+    record { low = omega (arith, r, c.requires.each k (omega (arith, c.loop-words-test.true)), layout.low) }

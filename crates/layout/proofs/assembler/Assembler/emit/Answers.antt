@@ -28,11 +28,11 @@ put_entry-requires c =
     let t = turn entries _ _ _ _ c.loop-long.invariant.walk.rest c.next-entry.ensures in
     let low = walk_low _ _ _ _ _ c.loop-long.invariant.walk t.inside layout.small in
     record {
-      leads = leads_inside entries long _ layout.offsets _ _ t.entry;
+      leads = leads_inside entries long _ c.requires _ _ t.entry;
       from = omega (arith, low);
-      low = goal_low entries long _ layout.offsets _ _ t.entry (λ (to : ℕ). layout.base.0 + 4 * to < 2 ^ 32)
+      low = goal_low entries long _ c.requires _ _ t.entry (λ (to : ℕ). layout.base.0 + 4 * to < 2 ^ 32)
           (λ m l. omega (arith, l, layout.low));
-      near = goal_near entries long _ layout.offsets _ _ t.entry _ c.loop-long.invariant.walk.words layout.none_left;
+      near = goal_near entries long _ c.requires _ _ t.entry _ c.loop-long.invariant.walk.words layout.none_left;
     }
 
 pub overflow_add-here : goal.overflow_add-here
@@ -47,7 +47,7 @@ loop-long-preserved c =
     let layout = c.args.self.now in
     let long = forms_in layout.forms.now in
     let t = turn layout.entries.now _ _ _ _ c.loop-long.invariant.walk.rest c.next-entry.ensures in
-    let same = code_is layout.entries.now long _ layout.offsets _ _ t.entry layout.base.0 _ _
+    let same = code_is layout.entries.now long _ c.requires _ _ t.entry layout.base.0 _ _
     c.loop-long.invariant.walk.words t.behind in
     record {
       walk = walk_more _ _ _ _ _ _ _ _ c.loop-long.invariant.walk c.next-entry.ensures c.width-here.ensures.value;
