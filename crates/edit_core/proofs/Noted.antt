@@ -1,5 +1,5 @@
 -- The notes on an edit meet their rules.
-use Rattle.std.proofs.Common.{◌≡◌, ℕ, zero, suc, ◌+◌, ◌*◌, ◌%◌, ◌^◌, ◌<◌, ◌≤◌, ◌==◌, true, false, Option, Some, None, List, [], ◌∷◌, ◌++◌, length, length-append, refl, ap, sym, ◌∙◌, subst, arith}
+use Rattle.std.proofs.Common.{◌≡◌, ℕ, zero, suc, ◌+◌, ◌*◌, ◌%◌, ◌^◌, ◌<◌, ◌≤◌, ◌==◌, true, false, Option, Some, None, List, [], ◌∷◌, ◌++◌, length, length-append, map, refl, ap, sym, ◌∙◌, subst, arith}
 use Rattle.std.specs.Prelude.{slice_index}
 use Rattle.std.specs.List.{flat_map, list_any}
 use Rattle.std.proofs.lemmas.Grind.{get_or_default_zero}
@@ -12,6 +12,7 @@ use Rattle.eel_base.specs.Code.{IsText}
 use Rattle.notes.specs.Format.{Notes, NoteRange, NoteSegment, follows, holds, is_version}
 use Rattle.notes.specs.Rules.{AreNotes, are_segments, are_blocks, are_edges, are_ranges, is_edge, is_free}
 use Rattle.notes.specs.Laws.{AreWords}
+use Rattle.elf32_write.specs.Headers.{AddedSegment}
 use Rattle.notes.specs.Written.{words_bytes, notes_bytes, notes_words, segment_words, edge_words, range_words, cell_word}
 use Rattle.cfg_blocks.specs.declared.EdgeKind.{EdgeKind}
 use Rattle.cfg_blocks.specs.declared.EdgeKind.TheVariants as kinds
@@ -32,12 +33,21 @@ use Rattle.tool_kit.specs.declared.edge_ref.ToolKind.{ToolKind}
 use Rattle.tool_kit.specs.declared.edge_ref.ToolKind.TheVariants as tools
 use Rattle.tool_kit.specs.Plans.{AreCounters}
 use Rattle.edit_core.specs.Faithful.{cell_noted, editor_page, note_edge, note_edges, page_size}
-use Rattle.edit_core.specs.Written.{if_any, off_range, off_ranges, segments_noted, table_after}
-use Rattle.edit_core.proofs.Fronts.{any_length, any_past, each_any}
+use Rattle.edit_core.specs.Written.{cells_at, code_at, if_any, off_range, off_ranges, page_segment, segment_noted, segments_noted, table_after, table_at}
+use Rattle.edit_core.proofs.Fronts.{any-map, any_length, any_past, each_any}
 use Rattle.edit_core.proofs.Eaches.{all_each, each_all, each_flat}
 use Rattle.edit_core.proofs.Off.{off_each, off_few}
 use Rattle.edit_core.proofs.Ranges.{IsWhole, ends_by, ranges_rule}
 use Rattle.edit_core.proofs.Snippets.{begins_within}
+
+-- ---- segments
+
+pub rows_are : (base cells size : ℕ) (tables code : List ℕ) (added : List AddedSegment)
+    → added ≡ if_any cells (cells_at base cells) ++ table_at (record { base = table_after base cells; bytes = tables })
+        ∷ code_at (table_after base cells + length tables) code ∷ page_segment ∷ []
+    → length tables ≡ size → map segment_noted added ≡ segments_noted base cells size code
+rows_are base cells size tables code added is long =
+    rw (is, any-map segment_noted cells (cells_at base cells), ← long) refl
 
 -- ---- blocks
 

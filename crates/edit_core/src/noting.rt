@@ -70,7 +70,7 @@ pub(crate) fn notes(
         segments: note_segments(alloc, added)?,
         blocks: first_words(alloc, graph)?,
         edges: told.edges,
-        ranges: noted_ranges(alloc, text, graph, addresses.table(), &placed.ranges)?,
+        ranges: noted_ranges(text, graph, addresses.table(), placed.ranges)?,
     })
 }
 
@@ -104,22 +104,20 @@ fn note_segments(alloc: Global, added: &[NewSegment]) -> Result<Vec<NoteSegment>
 
 // The place of a slot behind the text, if one is run, and then those of the code.
 fn noted_ranges(
-    alloc: Global,
     text: &Text,
     graph: &FlowGraph,
     table: Addr,
-    code: &[Range],
+    code: Vec<Range>,
 ) -> Result<Vec<Range>, NoMemory>
     requires { table.0 ≤ 2 ^ 31 }
     ensures { IfOk result (λ v. map range_seen v.items
-        ≡ off_ranges text.now graph.now table.0 ++ map range_seen code.now) }
+        ≡ off_ranges text.now graph.now table.0 ++ map range_seen code.items) }
 {
-    let mut places = Vec::new(alloc);
+    let mut ranges = code;
     if let Some(edge) = first_off(graph) {
-        places.push(off_range(text, graph, table, &edge))?;
+        ranges.insert(0, off_range(text, graph, table, &edge))?;
     }
-    places.extend_from_slice(code)?;
-    Ok(places)
+    Ok(ranges)
 }
 
 // The first edge that runs a slot behind the text.

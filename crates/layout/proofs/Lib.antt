@@ -10,5 +10,5 @@ pub mod Standing
 pub mod Walked
 pub mod Whole
 pub mod Widening
-pub mod Wider
+pub mod Passing
 pub mod Rows

@@ -56,7 +56,7 @@ abbrev pub piece_in : Option Entry → ℕ
 piece_in (Some (en.Start k)) = k.0
 piece_in _ = 0
 
-is_entry : (entries : List Entry) (k n : ℕ) → start_of entries k < length entries → start_of entries k ≡ n
+pub is_entry : (entries : List Entry) (k n : ℕ) → start_of entries k < length entries → start_of entries k ≡ n
     → slice_get entries n ≡ Some (en.Start (record { 0 = k }))
 is_entry entries k n l e = cc (e, started entries k l)
 

@@ -1,16 +1,13 @@
 -- Widening only grows, so that every way of widening ends at the same forms.
-use Rattle.std.proofs.Common.{◌≡◌, ℕ, zero, suc, ◌+◌, ◌-◌, ◌<◌, ◌≤◌, ◌⊎◌, inl, inr, Bool, true, ◌||◌, List, slice_get, Option, Some, None, refl, ap, sym, ◌∙◌, arith}
+use Rattle.std.proofs.Common.{◌≡◌, ℕ, zero, suc, ◌+◌, ◌-◌, ◌<◌, ◌≤◌, ◌⊎◌, inl, inr, Bool, true, List, slice_get, Option, Some, None, refl, ap, arith}
 use Rattle.std.proofs.lemmas.Bool.Decides.{nat_tests}
-use Rattle.std.proofs.lemmas.Bool.{cases_lt, or_cases, or_right}
+use Rattle.std.proofs.lemmas.Bool.{cases_lt}
 use Rattle.layout.specs.declared.entries.Entry.{Entry}
-use Rattle.layout.specs.Forms.{Forms, goal_of, width, offset, far, far_from, is_far, NoneLeft, IsWidened}
-
--- each that is long here is long there
-abbrev pub IsWithin : Forms → Forms → Type 0
-IsWithin long other = (n : ℕ) → long n ≡ true → other n ≡ true
+use Rattle.layout.specs.Forms.{Forms, goal_of, width, offset, far, far_from, is_far, IsWidened}
+use Rattle.layout.specs.Private.{IsWidening, IsWithin}
 
 -- a long entry has no fewer words
-wider : (x next : Option Entry) (a b : Bool) → (a ≡ true → b ≡ true) → width a x next ≤ width b x next
+pub wider : (x next : Option Entry) (a b : Bool) → (a ≡ true → b ≡ true) → width a x next ≤ width b x next
 wider x next a b h = grind arith
 
 pub offset_more : (entries : List Entry) (long : Forms) (n : ℕ) → offset entries long (suc n)
@@ -18,7 +15,7 @@ pub offset_more : (entries : List Entry) (long : Forms) (n : ℕ) → offset ent
 unfolding offset
 offset_more entries long n = refl
 
-add_more : (a n : ℕ) → a + suc n ≡ suc (a + n)
+pub add_more : (a n : ℕ) → a + suc n ≡ suc (a + n)
 add_more a n = omega arith
 
 -- the words between two entries don't get fewer
@@ -76,11 +73,6 @@ stays_far entries long other h n e = at (goal_of entries n) e
     at None f = f
     at (Some m) f = way m (cases_lt n m) f
 
--- Forms on the way: those that are long are out of reach, and they are long wherever none is left.
-pub record IsWidening (entries : List Entry) (long : Forms) : Type 0 where
-  pub needed : (n : ℕ) → long n ≡ true → is_far entries long n ≡ true
-  pub fewest : (other : Forms) → NoneLeft entries other → IsWithin long other
-
 -- Any of those that are out of reach may be widened.
 pub widening_more : (entries : List Entry) (long more : Forms) → IsWidening entries long
     → IsWithin long more → ((n : ℕ) → more n ≡ true → (long n ≡ true) ⊎ (is_far entries long n ≡ true))
@@ -94,22 +86,6 @@ widening_more entries long more h grown new = record {
     | inl l ↦ h.fewest other o n l
     | inr f ↦ o n (stays_far entries long other (h.fewest other o) n f)
   ];
-}
-
--- All at once.
-pub widening_all : (entries : List Entry) (long more : Forms) → IsWidening entries long
-    → ((n : ℕ) → more n ≡ (long n || is_far entries long n)) → IsWidening entries more
-widening_all entries long more h all =
-    widening_more entries long more h (λ n e. all n ∙ ap (λ (x : Bool). x || is_far entries long n) e)
-    (λ n e. or_cases (long n) (is_far entries long n) (sym (all n) ∙ e))
-
--- Where that changes nothing, the forms are the least.
-pub widening_ends : (entries : List Entry) (long : Forms) → IsWidening entries long
-    → ((n : ℕ) → long n ≡ (long n || is_far entries long n)) → IsWidened entries long
-widening_ends entries long h all = record {
-  none_left = λ n e. all n ∙ or_right (long n) (is_far entries long n) e;
-  needed = h.needed;
-  fewest = h.fewest;
 }
 
 either : (a b : Bool) → (a ≡ true → b ≡ true) → (b ≡ true → a ≡ true) → a ≡ b

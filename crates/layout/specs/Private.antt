@@ -1,12 +1,12 @@
 -- What only contracts of private functions and models cite.
-use Rattle.std.specs.Prelude.{◌≡◌, ℕ, ◌<◌, List, length, slice_get, slice_index, slice_set, IfSome, Bool, false, slice_index_or, ◌*◌, ◌≤◌, ◌||◌, ℤ, pos, ◌-ℤ◌, ◌+◌, true, [], ◌∷◌, if◌then◌else◌, Option, Some, None, suc, zero, ◌++◌, nat_lt, map, ◌^◌, Result, Ok, Err}
-use Rattle.std.specs.List.{All}
+use Rattle.std.specs.Prelude.{◌≡◌, ℕ, ◌<◌, List, length, slice_get, slice_index, slice_set, IfSome, Bool, false, slice_index_or, ◌*◌, ◌≤◌, ◌&&◌, ◌||◌, not, ℤ, pos, ◌-ℤ◌, ◌+◌, true, [], ◌∷◌, if◌then◌else◌, Option, Some, None, suc, zero, ◌++◌, nat_le, nat_lt, map, ◌^◌, Result, Ok, Err}
+use Rattle.std.specs.List.{All, count_by}
 use Rattle.std.specs.Option.{option_map}
 use Rattle.eel_base.specs.declared.range.Range.{Range}
 use Rattle.eel_base.specs.declared.numbers.Addr.{Addr}
 use Rattle.v8_decode.specs.declared.Instr.{Instr}
 use Rattle.layout.specs.declared.entries.Entry.{Entry}
-use Rattle.layout.specs.Forms.{start_of, target, Forms, offset, is_far, leads_next, goal_of, far, entries_from, IsWidened}
+use Rattle.layout.specs.Forms.{start_of, target, Forms, offset, is_far, leads_next, goal_of, far, entries_from, IsWidened, NoneLeft}
 use Rattle.v8_decode.specs.declared.Instr.TheVariants as i
 use Rattle.code_runs.specs.LongJump.{long_jump}
 use Rattle.layout.specs.Laid.{nop, opposite}
@@ -67,12 +67,29 @@ pub record IsOffsets (entries : List Entry) (long : Forms) (at : List ℕ) : Typ
 abbrev pub goal_in : List ℕ → Entry → Option ℕ
 goal_in at x = option_map (slice_index at) (target (Some x))
 
--- the first of these forms are long where they were or where they are out of reach, and the others as they were
-pub record AreWider (entries : List Entry) (forms wide : List Bool) (n : ℕ) : Type 0 where
-  pub len : length wide ≡ length forms
-  pub each : (k : ℕ) → k < n → slice_index_or wide k false ≡ (slice_index_or forms k false || is_far entries (forms_in
-      forms) k)
-  pub rest : (k : ℕ) → n ≤ k → slice_index_or wide k false ≡ slice_index_or forms k false
+-- each that is long here is long there
+abbrev pub IsWithin : Forms → Forms → Type 0
+IsWithin long other = (n : ℕ) → long n ≡ true → other n ≡ true
+
+-- Forms on the way: those that are long are out of reach, and they are long wherever none is left.
+pub record IsWidening (entries : List Entry) (long : Forms) : Type 0 where
+  pub needed : (n : ℕ) → long n ≡ true → is_far entries long n ≡ true
+  pub fewest : (other : Forms) → NoneLeft entries other → IsWithin long other
+
+-- Whether a piece is surely out of reach of an entry in the middle of a pass. The entry had `before` words before it when
+-- the pass began, and has `here` now; of the piece these are the words before it as they are now, where it stands in front
+-- of the entry, and as they were then, where it stands behind it.
+abbrev pub beyond : ℕ → ℕ → ℕ → Bool
+beyond before here words =
+    (nat_lt here words && nat_le (before + 2 ^ 21) words) || (nat_lt words before && nat_lt (words + 2 ^ 21) here)
+
+abbrev pub beyond_of : ℕ → ℕ → Option ℕ → Bool
+beyond_of before here None = false
+beyond_of before here (Some words) = beyond before here words
+
+-- an entry in a form is widened
+abbrev pub widens : ℕ → ℕ → Option ℕ → Bool → Bool
+widens before here words long = not long && beyond_of before here words
 
 -- the displacement of a branch, in words
 abbrev pub between : ℕ → ℕ → ℤ
@@ -174,6 +191,14 @@ pub record IsFormed (entries : List Entry) (forms : List Bool) (at : List ℕ) (
   pub widened : IsWidened entries (forms_in forms)
   pub offsets : IsOffsets entries (forms_in forms) at
   pub whole : all ≡ offset entries (forms_in forms) (length entries)
+
+-- A pass that has widened so many: where it has widened none, none is left.
+pub record IsPassed (entries : List Entry) (forms wide : List Bool) (at : List ℕ) (all widened : ℕ) : Type 0 where
+  pub len : length wide ≡ length forms
+  pub count : count_by (λ b. b) wide ≡ count_by (λ b. b) forms + widened
+  pub offsets : IsOffsets entries (forms_in wide) at
+  pub widening : IsWidening entries (forms_in wide)
+  pub last : widened ≡ 0 → IsFormed entries wide at all
 
 -- the code, addresses and ranges of entries
 pub record IsPut (base : ℕ) (entries : List Entry) (starts : List ℕ) (long : Forms) (p : Placed) : Type 0 where

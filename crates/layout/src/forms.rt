@@ -1,10 +1,10 @@
 //! The forms of Jumps and Branches.
 
-ghost use Rattle.std.specs.Prelude.{◌≡◌, ◌+◌, ◌*◌, ◌^◌, ◌<◌, ◌≤◌, ◌||◌, false, length, replicate, count_by, slice_get, slice_index, Some, IfOk, IfSome};
+ghost use Rattle.std.specs.Prelude.{◌≡◌, ◌+◌, ◌*◌, ◌^◌, ◌<◌, ◌≤◌, if◌then◌else◌, true, false, length, replicate, slice_get, slice_set, Some, IfOk, IfSome};
 ghost use Rattle.layout.specs.declared.items.Item.TheVariants as it;
 ghost use Rattle.layout.specs.declared.entries.Entry.TheVariants as en;
-ghost use Rattle.layout.specs.Forms.{far, offset, target as target_of, width as width_of};
-ghost use Rattle.layout.specs.Private.{far_of, forms_in, goal_in, noted, AreWider, IsFormed, IsListing, IsOffsets, StartsBelow};
+ghost use Rattle.layout.specs.Forms.{offset, target as target_of, width as width_of};
+ghost use Rattle.layout.specs.Private.{beyond, beyond_of, forms_in, goal_in, noted, widens, IsFormed, IsListing, IsOffsets, IsPassed, IsWidening, StartsBelow};
 
 use crate::Item;
 use crate::entries::{Cursor, Entry, Listing};
@@ -80,69 +80,96 @@ fn offsets(entries: &Listing, forms: &[bool], at: &mut [u64]) -> u64
     here
 }
 
-// Whether a distance doesn't fit 22 signed bits.
-fn is_distant(from: u64, to: u64) -> bool
-    requires from { from < 2 ^ 63 }
-    requires to { to < 2 ^ 63 }
-    ensures { result ≡ far from to }
+// Whether a piece is surely out of reach of an entry that had `before` words before it when a pass began, and has `here`
+// now. Of the piece these are the words before it, as they are now or as they were.
+#[inline]
+fn is_beyond(before: u64, here: u64, words: u64) -> bool
+    requires before { before < 2 ^ 63 }
+    requires words { words < 2 ^ 63 }
+    ensures { result ≡ beyond before here words }
 {
-    from + (1 << 21) <= to || to + (1 << 21) < from
+    (here < words && before + (1 << 21) <= words) || (words < before && words + (1 << 21) < here)
 }
 
-// Whether the piece to which an entry leads, which has `here` words before it, is out of reach.
+// Whether the piece to which an entry leads is.
 #[inline]
-fn is_far(entry: &Entry, at: &[u64], here: u64) -> bool
+fn is_far(entry: &Entry, at: &[u64], before: u64, here: u64) -> bool
     requires leads { IfSome (target_of (Some entry.now)) (λ k. k < length at.now) }
-    requires from { here < 2 ^ 63 }
-    requires to { IfSome (goal_in at.now entry.now) (λ to. to < 2 ^ 63) }
-    ensures { result ≡ far_of here (goal_in at.now entry.now) }
+    requires before { before < 2 ^ 63 }
+    requires words { IfSome (goal_in at.now entry.now) (λ words. words < 2 ^ 63) }
+    ensures { result ≡ beyond_of before here (goal_in at.now entry.now) }
 {
     match target(entry) {
         None => false,
-        Some(to) => is_distant(here, at[to]),
+        Some(to) => is_beyond(before, here, at[to]),
     }
 }
 
-// The form of an entry after a pass.
+// Widens an entry that is out of reach. Gives one if it did.
 #[inline]
-fn form_after(entry: &Entry, at: &[u64], here: u64, long: bool) -> bool
+fn widen_entry(
+    forms: &mut [bool],
+    n: usize,
+    entry: &Entry,
+    at: &[u64],
+    before: u64,
+    here: u64,
+) -> usize
+    requires inside { n < length forms.old }
     requires leads { IfSome (target_of (Some entry.now)) (λ k. k < length at.now) }
-    requires from { here < 2 ^ 63 }
-    requires to { IfSome (goal_in at.now entry.now) (λ to. to < 2 ^ 63) }
-    ensures { result ≡ (long || far_of here (goal_in at.now entry.now)) }
+    requires before { before < 2 ^ 63 }
+    requires words { IfSome (goal_in at.now entry.now) (λ words. words < 2 ^ 63) }
+    ensures forms { forms.new ≡ (if widens before here (goal_in at.now entry.now) (forms_in forms.old n)
+        then slice_set forms.old n true else forms.old) }
+    ensures value { result
+        ≡ (if widens before here (goal_in at.now entry.now) (forms_in forms.old n) then 1 else 0) }
+    ensures one { result ≤ 1 }
 {
-    long || is_far(entry, at, here)
+    if forms[n] || !is_far(entry, at, before, here) {
+        return 0;
+    }
+    forms[n] = true;
+    1
 }
 
-// Widens all that are out of reach.
-fn widen(entries: &Listing, at: &[u64], forms: &mut [bool])
+// What a pass leaves: how many words there are then, and how many entries it has widened.
+#[derive(Clone, Copy)]
+struct Pass {
+    all: u64,
+    widened: usize,
+}
+
+// Widens those that are surely out of reach with those before them as they are widened, and notes on the way how many
+// words come before each piece then.
+fn widen(entries: &Listing, forms: &mut [bool], at: &mut [u64]) -> Pass
     requires small { length entries.now ≤ 2 ^ 42 }
-    requires at { IsOffsets entries.now (forms_in forms.old) at.now }
-    requires forms { length forms.old ≡ length entries.now }
-    ensures { AreWider entries.now forms.old forms.new (length forms.old) }
+    requires listing { IsListing entries.now (length at.old) }
+    requires len { length forms.old ≡ length entries.now }
+    requires offsets { IsOffsets entries.now (forms_in forms.old) at.old }
+    requires widening { IsWidening entries.now (forms_in forms.old) }
+    ensures pass { IsPassed entries.now forms.old forms.new at.new result.all result.widened }
+    ensures count { length at.new ≡ length at.old }
 {
     let mut left = entries.cursor();
+    let mut before = 0;
     let mut here = 0;
+    let mut widened = 0;
     for n in 0..forms.len() {
         let entry = left.next();
-        let long = forms[n];
-        forms[n] = form_after(&entry, at, here, long);
-        here += width(&entry, &left, long);
+        let was = width(&entry, &left, forms[n]);
+        widened += widen_entry(forms, n, &entry, at, before, here);
+        note_start(at, &entry, here);
+        before += was;
+        here += width(&entry, &left, forms[n]);
     }
-}
-
-fn count_long(forms: &[bool]) -> usize
-    ensures count { result ≡ count_by (λ b. b) forms.now }
-    ensures at_most { result ≤ length forms.now }
-{
-    forms.iter().filter(|form| **form).count()
+    Pass { all: here, widened }
 }
 
 // Widens those that are out of reach, until none is. Puts down how many words come before each piece then, and gives how
 // many there are.
 //
-// Each pass widens all that are out of reach at once, and a wider form only moves further apart what it lies between: so
-// there are as many passes as one widening brings about another in a row, and not one for each.
+// A wider form only moves further apart what it lies between: so there are at most as many passes as one widening brings
+// about another in a row, and not one for each.
 fn widen_all(entries: &Listing, forms: &mut [bool], at: &mut [u64]) -> u64
     requires small { length entries.now ≤ 2 ^ 42 }
     requires listing { IsListing entries.now (length at.old) }
@@ -151,19 +178,16 @@ fn widen_all(entries: &Listing, forms: &mut [bool], at: &mut [u64]) -> u64
     ensures count { length at.new ≡ length at.old }
     ensures len { length forms.new ≡ length forms.old }
 {
-    let mut long = 0;
+    let all = offsets(entries, forms, at);
+    // None can be out of reach then.
+    if all < 1 << 21 {
+        return all;
+    }
     loop {
-        let all = offsets(entries, forms, at);
-        // None can be out of reach then.
-        if all < 1 << 21 {
-            return all;
+        let pass = widen(entries, forms, at);
+        if pass.widened == 0 {
+            return pass.all;
         }
-        widen(entries, at, forms);
-        let count = count_long(forms);
-        if count == long {
-            return all;
-        }
-        long = count;
     }
 }
 

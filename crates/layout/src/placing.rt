@@ -37,7 +37,8 @@ impl Assembler<'_> {
         let code = self.emit(alloc, &words)?;
         let at = self.addresses_of(alloc, &words)?;
         drop(words);
-        let ranges = self.ranges_of(alloc)?;
+        // Few pieces have more than one Mark.
+        let ranges = self.ranges_of(alloc, at.len())?;
         Ok(Placed { code, at, ranges })
     }
 }

@@ -72,13 +72,13 @@ pub fn address(base: Addr, words: u64) -> Addr
 }
 
 impl Assembler<'_> {
-    /// The ranges of the entries.
-    pub(crate) fn ranges_of(&self, alloc: Global) -> Result<Vec<Range>, AllocError>
+    /// The ranges of the entries, most likely no more than so many.
+    pub(crate) fn ranges_of(&self, alloc: Global, likely: usize) -> Result<Vec<Range>, AllocError>
         ensures { IfOk result (λ ranges. ranges.items
             ≡ ranges_from (address_of self.now.base.0 self.now.entries.now (forms_in self.now.forms.now)) 0 None
             self.now.entries.now) }
     {
-        let mut ranges = Vec::new(alloc);
+        let mut ranges = Vec::with_capacity(alloc, likely)?;
         let mut left = self.entries.cursor();
         let mut open_mark = None;
         let mut here = 0;

@@ -9,6 +9,7 @@ use Rattle.edit_core.specs.Private.{IsBuilt, placement_in, plan_of}
 use Rattle.edit_core.specs.Written.{TablesMatch, table_after}
 use Rattle.edit_core.proofs.Steps.{code_is, original_fit, segment_is, segments_are, view_entry, view_has_room, view_text, view_words}
 use Rattle.edit_core.proofs.Edits.{notes_meet_rules, can_be_written}
+use Rattle.edit_core.proofs.Noted.{rows_are}
 use Rattle.edit_core.proofs.editing.write_edit.Goals as goal
 
 pub new_code-requires : goal.new_code-requires
@@ -43,6 +44,23 @@ pub notes-requires-clause-text : goal.notes-requires-clause-text
 notes-requires-clause-text c =
     let plan = plan_of c.requires.asked.0 c.args.asked in
     view_text _ plan c.args.image.now c.args.graph.now c.requires.asked.1 c.requires.asked.2
+
+pub notes-requires-clause-low : goal.notes-requires-clause-low
+notes-requires-clause-low c =
+    let image = c.args.image.now in
+    let low = code_low image.text c.args.graph.now image.base c.args.asked.cells c.args.asked.snips.items
+    (placement_in c.in_ok-built.built.0.placed) c.in_ok-built.built.0.tables.items c.in_ok-built.ensures.built
+    c.in_ok-built.ensures.leads in
+    omega (arith, low)
+
+pub notes-requires-clause-added : goal.notes-requires-clause-added
+notes-requires-clause-added c =
+    let image = c.args.image.now in
+    rows_are image.base c.args.asked.cells _ c.in_ok-built.built.0.tables.items c.in_ok-built.built.0.placed.code.items _
+    (rw (c.above-addresses.ensures.base, c.above-addresses.ensures.cells, c.deref.ensures.value) at
+    c.in_ok-added.ensures.segments)
+    (segment_is image.text c.args.graph.now c.args.asked.snips.items (placement_in c.in_ok-built.built.0.placed) _
+    c.in_ok-built.ensures.leads)
 
 pub write_notes-requires-clause-notes : goal.write_notes-requires-clause-notes
 write_notes-requires-clause-notes c =

@@ -1,15 +1,14 @@
 use Rattle.std.proofs.Common.{◌≡◌, ◌-◌, length, count_by}
-use Rattle.layout.specs.Private.{forms_in}
-use Rattle.layout.proofs.Widening.{IsWidening}
+use Rattle.layout.specs.Private.{forms_in, IsOffsets, IsWidening}
 use Rattle.layout.proofs.forms.widen_all.Given as goal
 
-abbrev pub invariant-loop-long : goal.invariant-loop-long
-invariant-loop-long l = record {
+abbrev pub invariant-loop-pass : goal.invariant-loop-pass
+invariant-loop-pass l = record {
   len : length l.forms ≡ length l.entries;
-  count : l.long ≡ count_by (λ b. b) l.forms;
   starts : length l.at ≡ length l.fn.at;
+  offsets : IsOffsets l.entries (forms_in l.forms) l.at;
   widening : IsWidening l.entries (forms_in l.forms);
 }
 
-abbrev pub decreases-loop-long : goal.decreases-loop-long
-decreases-loop-long l = length l.entries - l.long
+abbrev pub decreases-loop-pass : goal.decreases-loop-pass
+decreases-loop-pass l = length l.entries - count_by (λ b. b) l.forms

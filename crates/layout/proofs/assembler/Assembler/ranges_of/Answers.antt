@@ -8,7 +8,7 @@ use Rattle.layout.proofs.assembler.Assembler.ranges_of.Goals as goal
 pub loop-long-init : goal.loop-long-init
 loop-long-init c = record {
   walk = walk_none _ _ _ c.cursor-left.ensures;
-  ranges = rw (c.new-ranges.ensures.items, c.cursor-left.ensures) refl;
+  ranges = rw (c.in_ok-ranges.ensures.items, c.cursor-left.ensures) refl;
 }
 
 pub next-entry-requires : goal.next-entry-requires
