@@ -11,7 +11,7 @@ use Rattle.v8_decode.specs.Parts.{is_member}
 use Rattle.v8_decode.specs.Words.{decode_of}
 use Rattle.v8_decode.proofs.Members.{has-every_part}
 use Rattle.v8_step.specs.declared.Slot.{Slot}
-use Rattle.v8_step.specs.declared.Slot.TheVariants.{NoSlot, Taken, Untaken}
+use Rattle.v8_step.specs.declared.Slot.TheVariants.{NoSlot}
 use Rattle.cfg_blocks.specs.Ends.{always}
 use Rattle.cfg_blocks.specs.declared.EdgeKind.{EdgeKind}
 use Rattle.cfg_blocks.specs.declared.EdgeKind.TheVariants as kinds

@@ -36,7 +36,6 @@ use Rattle.edit_core.specs.Faithful.{editor_page, page_size, tool_number}
 use Rattle.image_code.specs.Parts.{codes_of}
 use Rattle.snippets.specs.Cells.{WorksBelow}
 use Rattle.tool_kit.specs.declared.edge_ref.ToolKind.{ToolKind}
-use Rattle.tool_kit.specs.declared.edge_ref.ToolKind.TheVariants as tools
 use Rattle.tool_kit.specs.Plans.{Plan}
 use Rattle.edit_core.specs.Written.{CanDo, IsNewCode, IsEdit, if_any, cells_at, cells_base, text_of, graph_in, table_base, code_base, pieces_of, entry_of, table_at, segment_size, cases_at, code_segment, page_segment, added, notes_on, edit_file}
 use Rattle.edit_core.proofs.Bounds.{operations_few}

@@ -15,7 +15,6 @@ use Rattle.notes.specs.Laws.{AreWords}
 use Rattle.elf32_write.specs.Headers.{AddedSegment}
 use Rattle.notes.specs.Written.{words_bytes, notes_bytes, notes_words, segment_words, edge_words, range_words, cell_word}
 use Rattle.cfg_blocks.specs.declared.EdgeKind.{EdgeKind}
-use Rattle.cfg_blocks.specs.declared.EdgeKind.TheVariants as kinds
 use Rattle.cfg_blocks.specs.Code.{AreFirsts, IsAscending}
 use Rattle.cfg_normal.specs.declared.Edge.{Edge}
 use Rattle.cfg_normal.specs.declared.Node.{Node}
@@ -44,7 +43,7 @@ use Rattle.edit_core.proofs.Snippets.{begins_within}
 
 pub rows_are : (base cells size : ℕ) (tables code : List ℕ) (added : List AddedSegment)
     → added ≡ if_any cells (cells_at base cells) ++ table_at (record { base = table_after base cells; bytes = tables })
-        ∷ code_at (table_after base cells + length tables) code ∷ page_segment ∷ []
+    ∷ code_at (table_after base cells + length tables) code ∷ page_segment ∷ []
     → length tables ≡ size → map segment_noted added ≡ segments_noted base cells size code
 rows_are base cells size tables code added is long =
     rw (is, any-map segment_noted cells (cells_at base cells), ← long) refl

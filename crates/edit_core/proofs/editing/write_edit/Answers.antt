@@ -56,11 +56,11 @@ notes-requires-clause-low c =
 pub notes-requires-clause-added : goal.notes-requires-clause-added
 notes-requires-clause-added c =
     let image = c.args.image.now in
-    rows_are image.base c.args.asked.cells _ c.in_ok-built.built.0.tables.items c.in_ok-built.built.0.placed.code.items _
-    (rw (c.above-addresses.ensures.base, c.above-addresses.ensures.cells, c.deref.ensures.value) at
-    c.in_ok-added.ensures.segments)
+    rw c.deref.ensures.value (rows_are image.base c.args.asked.cells _ c.in_ok-built.built.0.tables.items
+    c.in_ok-built.built.0.placed.code.items _
+    (rw (c.above-addresses.ensures.base, c.above-addresses.ensures.cells) at c.in_ok-added.ensures.segments)
     (segment_is image.text c.args.graph.now c.args.asked.snips.items (placement_in c.in_ok-built.built.0.placed) _
-    c.in_ok-built.ensures.leads)
+    c.in_ok-built.ensures.leads))
 
 pub write_notes-requires-clause-notes : goal.write_notes-requires-clause-notes
 write_notes-requires-clause-notes c =
@@ -81,11 +81,11 @@ write_around-requires-clause-original c =
     let code = code_is _ plan _ _ c.requires.asked.1 c.in_ok-built.built.0.placed _ c.in_ok-built.ensures.built
     c.in_ok-built.ensures.leads c.in_ok-added.ensures.code c.in_ok-added.ensures.tables in
     rw (
-      c.deref.ensures.value,
+      c.deref-2.ensures.value,
       segments_are _ plan _ _ c.requires.asked.1 c.in_ok-built.built.0.placed _ c.in_ok-built.ensures.built
           c.in_ok-built.ensures.leads _
           (rw (c.above-addresses.ensures.base, c.above-addresses.ensures.cells) at c.in_ok-added.ensures.segments),
-      c.deref-2.ensures.value,
+      c.deref-3.ensures.value,
       c.in_ok-notes.ensures,
       c.in_ok-noted.ensures c.requires.asked.0 _ c.requires.asked.1 c.in_ok-built.ensures.edges,
     ) (can_be_written c.args.bytes.now plan c.requires.limit c.requires.asked.2 c.requires.asked.3 _ _ _ code
@@ -101,11 +101,11 @@ returns c = λ marks view.
       code = code_is _ plan _ _ view c.in_ok-built.built.0.placed _ c.in_ok-built.ensures.built c.in_ok-built.ensures.leads
           c.in_ok-added.ensures.code c.in_ok-added.ensures.tables;
       is = c.in_ok-file.ensures ∙ rw (
-        c.deref.ensures.value,
+        c.deref-2.ensures.value,
         segments_are _ plan _ _ view c.in_ok-built.built.0.placed _ c.in_ok-built.ensures.built
             c.in_ok-built.ensures.leads _
             (rw (c.above-addresses.ensures.base, c.above-addresses.ensures.cells) at c.in_ok-added.ensures.segments),
-        c.deref-2.ensures.value,
+        c.deref-3.ensures.value,
         c.in_ok-notes.ensures,
         c.in_ok-noted.ensures marks _ view c.in_ok-built.ensures.edges,
         c.in_ok-built.ensures.entry ∙ view_entry _ plan _ _ view (placement_in c.in_ok-built.built.0.placed),
