@@ -15,9 +15,9 @@ use Rattle.cfg_blocks.specs.Ends.{Way, end_at, is_transfer}
 use Rattle.cfg_blocks.specs.Blocks.{Blocks, below, is_target, follows_transfer, is_among, leads, leaders, blocks_of, last_word}
 use Rattle.cfg_blocks.specs.Code.{AreFirsts}
 use Rattle.cfg_blocks.specs.Entries.{Entered, Entry, all_entries, entered_of, entries_from, into_of, is_bare_slot, is_counted, is_empty, is_fall, leads_to, ways_from}
-use Rattle.cfg_blocks.specs.Private.{block_end_in, end_in, is_in, leads_in, marked, word_ends}
+use Rattle.cfg_blocks.specs.Private.{block_end_in, end_in, is_in, leads_in, marked, word_ends, IsGiven}
 use Rattle.cfg_blocks.specs.Marks.{numbers}
-use Rattle.cfg_blocks.specs.Arrivals.{added_all, counted, counted_from, entered_in, into_in, is_bare_by, is_led_from}
+use Rattle.cfg_blocks.specs.Arrivals.{added_all, counted, counted_from, into_in, is_bare_by}
 use Rattle.cfg_blocks.proofs.Below.{any_below_same, length-below, get_or-below, list_any-map, filter_below_same, filter_below_firsts, map_below_same}
 use Rattle.cfg_blocks.proofs.Entering.{counted_from_same, into_by-added}
 use Rattle.cfg_blocks.proofs.Held.{ends_within, some_words}
@@ -50,10 +50,6 @@ follows-word_ends text back k h =
 pub given_by : (starts marks : List WordNo) (k : ℕ)
     → (is_in starts k || is_in marks k) ≡ is_among (numbers starts ++ numbers marks) k
 given_by starts marks k = simp (list_any-append, list_any-map)
-
-abbrev IsGiven : Words → List ℕ → List Bool → Type 0
-IsGiven text given marks = (k : ℕ) → k < length text.words
-    → marked marks k ≡ is_among given k
 
 leads_in-word_ends : (text : Words) (given : List ℕ) (marks : List Bool) → IsGiven text given marks
     → (k : ℕ) → k < length text.words
@@ -89,36 +85,12 @@ filter_map_same : {A B : Type 0} (p q : B → Bool) (f : A → B) (xs : List A) 
 filter_map_same p q f [] same = refl
 filter_map_same p q f (x ∷ xs) same = cc (same x, filter_map_same p q f xs same)
 
-is_empty-append : (xs ys : List Entry) → is_empty (xs ++ ys) ≡ (is_empty xs && is_empty ys)
-is_empty-append [] ys = refl
-is_empty-append (x ∷ xs) ys = refl
-
-is_empty-map : (f : Way → Entry) (p : Way → Bool) (ways : List Way)
-    → is_empty (map f (filter p ways)) ≡ not (list_any p ways)
-is_empty-map f p [] = refl
-is_empty-map f p (way ∷ ways) = grind (arith, is_empty-map f p ways)
-
-not-or : (x y : Bool) → (not x && not y) ≡ not (x || y)
-not-or true y = refl
-not-or false y = refl
-
-is_empty-flat_map : (f : ℕ → List Entry) (led : ℕ → Bool) (xs : List ℕ)
-    → ((x : ℕ) → is_empty (f x) ≡ not (led x)) → is_empty (flat_map f xs) ≡ not (list_any led xs)
-is_empty-flat_map f led [] each = refl
-is_empty-flat_map f led (x ∷ xs) each =
-    simp (is_empty-append, each x, is_empty-flat_map f led xs each, not-or)
-
-is_empty-all_entries : (b : Blocks) (block : ℕ)
-    → is_empty (all_entries b block) ≡ not (is_led_from b (length b.firsts) (slice_index b.firsts block))
-is_empty-all_entries b block =
-    is_empty-flat_map _ _ (below (length b.firsts)) (λ other. is_empty-map _ _ (ways_from b other))
-
 bare_alike : (text : Words) (given : List ℕ) (marks : List Bool) (b : Blocks) (block : ℕ)
     → IsGiven text given marks → slice_index b.firsts block < length text.words
     → is_bare_by b (word_ends text) marks block ≡ is_bare_slot (end_at text) (is_among given) b block
 bare_alike text given marks b block g h =
     let first = slice_index b.firsts block in
-    cc (follows-word_ends text 1 first h, g first h, is_empty-all_entries b block)
+    cc (follows-word_ends text 1 first h, g first h)
 
 counted_alike : (text : Words) (given : List ℕ) (b : Blocks) (count word : ℕ)
     → filter (is_counted (end_at text) (is_among given) b) (flat_map (entries_from b word) (below count))
@@ -145,35 +117,21 @@ into_alike text given marks b block g within =
 
 -- ---- the whole list
 
-pub cut_is : (ends : List BlockEnd) (given : List Bool) (firsts : List ℕ) (block_ends : List BlockEnd)
-    (intos : List Into)
-    → firsts ≡ filter (leads_in ends given) (below (length ends))
-    → block_ends ≡ map (block_end_in ends firsts) (below (length firsts))
-    → (let b : Blocks = record { firsts = firsts; words = length ends; ends = block_ends } in intos
-    ≡ map (into_in b ends given) (below (length firsts)))
-    → (let e : Entered = record {
-      blocks =
-          record { firsts = firsts; words = length ends; ends = block_ends };
-      intos = intos;
-    } in e
-    ≡ entered_in ends given)
-unfolding entered_in
-cut_is ends given firsts block_ends intos f e i = rw (i, e, f)
-
-pub entered_alike : (text : Words) (given : List ℕ) (marks : List Bool) → 1 ≤ length text.words
-    → IsGiven text given marks
-    → entered_in (word_ends text) marks ≡ entered_of text given
-unfolding entered_in entered_of blocks_of
-entered_alike text given marks some g =
-    let firsts = leaders text given in
-    let f = firsts_of text given some in
-    let ends : map (block_end_in (word_ends text) firsts) (below (length firsts))
-    ≡ (blocks_of text given).ends =
-    map_below_same (length firsts) _ _ (λ block h. block_end_alike text firsts block f h) in
-    let intos : map (into_in (blocks_of text given) (word_ends text) marks) (below (length firsts))
-    ≡ map (into_of text given (blocks_of text given)) (below (length firsts)) =
-    map_below_same (length firsts) _ _
-    (λ block h. into_alike text given marks (blocks_of text given) block g f.within) in
-    rw (firsts_are text given marks g, length-word_ends text, ends)
-    (ap (λ (is : List Into). let e : Entered =
-    record { blocks = blocks_of text given; intos = is } in e) intos)
+pub cut_is : (text : Words) (given : List ℕ) (marks : List Bool) (firsts : List ℕ) (ends : List BlockEnd) (intos : List Into)
+    → 1 ≤ length text.words → IsGiven text given marks
+    → firsts ≡ filter (leads_in (word_ends text) marks) (below (length (word_ends text)))
+    → ends ≡ map (block_end_in (word_ends text) firsts) (below (length firsts))
+    → (let b : Blocks = record { firsts = firsts; words = length text.words; ends = ends } in
+    intos ≡ map (into_in b (word_ends text) marks) (below (length firsts)))
+    → (let b : Blocks = record { firsts = firsts; words = length text.words; ends = ends } in
+    let e : Entered = record { blocks = b; intos = intos } in e ≡ entered_of text given)
+unfolding entered_of blocks_of
+cut_is text given marks firsts ends intos some g f e i =
+    let f2 = firsts_of text given some in
+    let same : firsts ≡ leaders text given = f ∙ firsts_are text given marks g in
+    let cut : ends ≡ (blocks_of text given).ends =
+    rw (e, same) (map_below_same (length (leaders text given)) _ _ (λ block h. block_end_alike text (leaders text given) block f2 h)) in
+    let led : map (into_in (blocks_of text given) (word_ends text) marks) (below (length (leaders text given)))
+    ≡ map (into_of text given (blocks_of text given)) (below (length (leaders text given))) =
+    map_below_same (length (leaders text given)) _ _ (λ block h. into_alike text given marks (blocks_of text given) block g f2.within) in
+    rw (i, cut, same) (rw led refl)

@@ -1,5 +1,5 @@
 -- The numbers below n, and those of them that pass a test.
-use Rattle.std.proofs.Common.{◌≡◌, ℕ, zero, suc, ◌<◌, ◌≤◌, Bool, true, false, ◌||◌, cond, List, [], ◌∷◌, ◌++◌, length, map, get_or, slice_index, refl, ap, arith, length-append}
+use Rattle.std.proofs.Common.{◌≡◌, ℕ, zero, suc, ◌+◌, ◌<◌, ◌≤◌, Bool, true, false, ◌||◌, cond, List, [], ◌∷◌, ◌++◌, length, map, get_or, slice_index, refl, ap, add-one, arith, length-append}
 use Rattle.std.specs.List.{filter, list_any}
 use Rattle.std.proofs.lemmas.List.{append-nil, map-append}
 use Rattle.std.proofs.lemmas.List.Elements.{filter-append}
@@ -22,6 +22,11 @@ pub filter_below_same : (n : ℕ) (p q : ℕ → Bool) → ((k : ℕ) → k < n 
 filter_below_same zero p q same = refl
 filter_below_same (suc n) p q same =
     simp (filter-append, filter_below_same n p q (λ k h. same k (omega arith)), same n (omega arith))
+
+-- the next is taken, if it passes
+pub filter_below_more : (n : ℕ) (p : ℕ → Bool) (t : Bool) → t ≡ p n
+    → filter p (below n) ++ cond t (n ∷ []) [] ≡ filter p (below (n + 1))
+filter_below_more n p t is = rw (is, add-one) (simp (filter-append))
 
 pub any_below_same : (n : ℕ) (p q : ℕ → Bool) → ((k : ℕ) → k < n → p k ≡ q k)
     → list_any p (below n) ≡ list_any q (below n)

@@ -1,17 +1,17 @@
 -- What leads to a word, edge by edge.
-use Rattle.std.proofs.Common.{◌≡◌, ℕ, zero, suc, ◌+◌, ◌<◌, Bool, ◌||◌, List, [], ◌∷◌, ◌++◌, length, slice_index, refl, ap, ◌∙◌, arith, add-one}
+use Rattle.std.proofs.Common.{◌≡◌, ℕ, zero, suc, ◌+◌, ◌<◌, Bool, true, false, not, ◌&&◌, ◌||◌, List, [], ◌∷◌, ◌++◌, filter, length, replicate, slice_index, refl, ap, ◌∙◌, arith, add-one}
+use Rattle.std.specs.List.{flat_map}
 use Rattle.std.proofs.Math.Bool.{or-false, or_assoc}
 use Rattle.std.proofs.lemmas.List.Folds.{list_any-append}
-use Rattle.std.proofs.lemmas.Grind.{flat_map-append}
+use Rattle.std.proofs.lemmas.Grind.{common_steps, flat_map-append}
 use Rattle.std.proofs.lemmas.List.{append-nil}
-use Rattle.cfg_blocks.specs.Private.{marked}
 use Rattle.cfg_blocks.specs.declared.BlockEnd.{BlockEnd}
 use Rattle.cfg_blocks.specs.declared.Into.{Into}
-use Rattle.cfg_blocks.specs.declared.Into.TheVariants.{Nothing}
+use Rattle.cfg_blocks.specs.declared.Into.TheVariants.{Nothing, More}
 use Rattle.cfg_blocks.specs.Ends.{Way, target_in}
-use Rattle.cfg_blocks.specs.Blocks.{Blocks, is_it, is_target}
-use Rattle.cfg_blocks.specs.Entries.{Entry, ways_from, into_by}
-use Rattle.cfg_blocks.specs.Arrivals.{added, added_all, counted, counted_from, into_at, into_first, into_in, is_bare_by, is_bare_in, is_led_by, is_led_from}
+use Rattle.cfg_blocks.specs.Blocks.{Blocks, below, is_it, is_target}
+use Rattle.cfg_blocks.specs.Entries.{Entry, all_entries, entries_from, into_by, is_empty, is_fall, ways_from}
+use Rattle.cfg_blocks.specs.Arrivals.{added, added_all, counted, counted_from, into_at, into_first, into_in, is_bare_by, is_bare_in, is_nothing}
 
 pub added_all-append : (into : Into) (xs ys : List Entry)
     → added_all into (xs ++ ys) ≡ added_all (added_all into xs) ys
@@ -32,14 +32,6 @@ pub target_step : (count : ℕ) (end : ℕ → BlockEnd) (word : ℕ) (initial w
 target_step count end word initial was now so_far step =
     simp (add-one, step, so_far, list_any-append, or-false, or_assoc)
 
--- one turn of the loop that marks the words to which an edge leads
-pub led_step : (b : Blocks) (count word : ℕ) (initial was now : Bool) (ways : List Way)
-    → was ≡ (initial || is_led_from b count word) → ways_from b count ≡ ways
-    → now ≡ (was || is_led_by ways word)
-    → now ≡ (initial || is_led_from b (count + 1) word)
-led_step b count word initial was now ways so_far is step =
-    simp (add-one, step, so_far, list_any-append, is, or-false, or_assoc)
-
 -- one turn of the loop that counts the edges
 pub counted_step : (b : Blocks) (p : ℕ → Bool) (count word : ℕ) (initial was now : Into) (is_bare : Bool)
     (ways : List Way)
@@ -58,16 +50,51 @@ into_by-added (x ∷ []) = refl
 into_by-added (x ∷ y ∷ []) = refl
 into_by-added (x ∷ y ∷ z ∷ entries) = into_by-added (y ∷ z ∷ entries)
 
-pub into_first_is : (b : Blocks) (word_ends : List BlockEnd) (given arrivals : List Bool)
-    (intos : List Into) (block : ℕ)
-    → slice_index b.firsts block < b.words
-    → ((k : ℕ) → k < b.words → marked arrivals k ≡ is_led_from b (length b.firsts) k)
-    → ((k : ℕ) → k < b.words → into_at intos k
-    ≡ added_all Nothing (counted_from b (is_bare_in b word_ends given arrivals)
-    (length b.firsts) k))
-    → ((k : ℕ) → k < length b.firsts → slice_index b.firsts k < b.words)
-    → into_first intos b.firsts block ≡ into_in b word_ends given block
-unfolding into_first into_in
-into_first_is b word_ends given arrivals intos block here led into within =
-    into _ here ∙ ap (added_all Nothing) (counted_from_same b (is_bare_in b word_ends given arrivals)
-    (is_bare_by b word_ends given) _ _ (λ k h. rw (led (slice_index b.firsts k) (within k h)) refl))
+-- nothing leads where no edge does
+nothing_by : (entries : List Entry) → is_nothing (into_by entries) ≡ is_empty entries
+nothing_by [] = refl
+nothing_by (x ∷ []) = refl
+nothing_by (x ∷ y ∷ entries) = refl
+
+and-false : (x : Bool) → (x && false) ≡ false
+and-false true = refl
+and-false false = refl
+
+all_kept : (entries : List Entry) → filter (λ entry. not (is_fall entry.kind && false)) entries ≡ entries
+all_kept [] = refl
+all_kept (entry ∷ entries) = simp (and-false (is_fall entry.kind), all_kept entries)
+
+all_counted : (b : Blocks) (count word : ℕ)
+    → counted_from b (λ block. false) count word ≡ flat_map (entries_from b word) (below count)
+all_counted b zero word = refl
+all_counted b (suc count) word =
+    simp (flat_map-append, append-nil, all_kept (entries_from b word count), all_counted b count word)
+
+pub all_more : (n k : ℕ) (intos : List Into) → intos ≡ replicate n More → k < n → into_at intos k ≡ More
+all_more n k intos is h = rw is (grind (arith, common_steps))
+
+module _ (b : Blocks) (word_ends : List BlockEnd) (given : List Bool) (all led : List Into)
+    (more : (k : ℕ) → k < b.words → into_at all k ≡ More)
+    (known : (k : ℕ) → k < b.words → into_at led k
+    ≡ added_all Nothing (counted_from b (is_bare_in b word_ends given all) (length b.firsts) k))
+    (within : (k : ℕ) → k < length b.firsts → slice_index b.firsts k < b.words) where
+  -- the first count leaves no way out
+  led_by : (block : ℕ) → block < length b.firsts
+      → is_nothing (into_at led (slice_index b.firsts block)) ≡ is_empty (all_entries b block)
+  led_by block h =
+      rw (
+        known _ (within block h),
+        counted_from_same b (is_bare_in b word_ends given all) (λ other. false) _ _
+            (λ k l. rw (more _ (within k l)) (and-false _)),
+        all_counted,
+        ← into_by-added,
+      ) (nothing_by _)
+
+  pub into_first_is : (intos : List Into) (block : ℕ) → block < length b.firsts
+      → ((k : ℕ) → k < b.words → into_at intos k
+      ≡ added_all Nothing (counted_from b (is_bare_in b word_ends given led) (length b.firsts) k))
+      → into_first intos b.firsts block ≡ into_in b word_ends given block
+  unfolding into_first into_in
+  into_first_is intos block here into =
+      into _ (within block here) ∙ ap (added_all Nothing) (counted_from_same b (is_bare_in b word_ends given led)
+      (is_bare_by b word_ends given) _ _ (λ k h. rw (led_by k h) refl))

@@ -1,6 +1,5 @@
 //! The words from a comparison to a jump, and the values on the way.
-ghost use Rattle.std.specs.Prelude.{◌≡◌, ◌+◌, ◌<◌, ◌≤◌, length, slice_index};
-ghost use Rattle.cfg_blocks.specs.Blocks.{last_word};
+ghost use Rattle.std.specs.Prelude.{◌≡◌, ◌+◌, ◌<◌, ◌≤◌, length};
 ghost use Rattle.cfg_blocks.specs.Switches.{after_slot, approach_of, first_values, slot_words};
 
 use crate::values::follow;
@@ -21,16 +20,6 @@ fn slot_words(text: &Text, last: u32, annul: bool, way: EdgeKind) -> u32
     }
 }
 
-// The last word of a block.
-fn last_of(blocks: &BlockList, block: BlockNo) -> u32
-    requires { block.0 < length blocks.now.blocks.firsts }
-    ensures value { result ≡ last_word blocks.now.blocks.firsts blocks.now.blocks.words block.0 }
-    ensures above { slice_index blocks.now.blocks.firsts block.0 ≤ result }
-    ensures within { result < blocks.now.blocks.words }
-{
-    blocks.first(block).0 + (blocks.words(block) - 1)
-}
-
 /// The words from a comparison in the block `from`, out of which a branch leads this way, to the end of the block
 /// `jump`.
 pub fn approach(
@@ -49,13 +38,13 @@ pub fn approach(
     ensures branch { result.last + result.slot < length text.now.words }
     ensures block { (result.first ≤ result.jump) × (result.jump < length text.now.words) }
 {
-    let last = last_of(blocks, from);
+    let last = blocks.last(from).0;
     Approach {
         compare,
         last,
         slot: slot_words(text, last, annul, way),
         first: blocks.first(jump).0,
-        jump: last_of(blocks, jump),
+        jump: blocks.last(jump).0,
     }
 }
 

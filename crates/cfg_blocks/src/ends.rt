@@ -1,18 +1,22 @@
 //! How control leaves the words of a text.
-ghost use Rattle.std.specs.Prelude.{◌≡◌, ◌+◌, ◌<◌, ℤ, length, map, IfOk};
+ghost use Rattle.std.specs.Prelude.{◌≡◌, ◌+◌, ◌^◌, ◌<◌, ◌∷◌, ℤ, length, map, option_to_list, IfOk};
 ghost use Rattle.eel_base.specs.CodeText.{numbered};
-ghost use Rattle.cfg_blocks.specs.Ends.{branch_target, end_at, is_transfer, target_in};
+ghost use Rattle.cfg_blocks.specs.Ends.{branch_target, end_at, is_transfer, number_of, target_in, ways_of, within};
 ghost use Rattle.cfg_blocks.specs.Private.{word_ends};
 
-use crate::BlockEnd;
+use crate::{BlockEnd, EdgeKind, Way};
 use eel_base::{NoMemory, Text, WordNo};
 use std::alloc::Global;
 use v8_decode::{Cond, Instr, decode};
 
-/// The conditions of `bn` and `ba`.
-pub(crate) const NEVER: u8 = 0;
+/// The condition of `ba`.
+pub const ALWAYS: u8 = 8;
 
-pub(crate) const ALWAYS: u8 = 8;
+// That of `bn`.
+const NEVER: u8 = 0;
+
+/// The ways out of a block: one or two.
+pub type Ways = (Way, Option<Way>);
 
 // The word to which a branch leads; one on never leads nowhere.
 fn branch_target(text: &Text, w: WordNo, cond: Cond, displacement: i32) -> Option<WordNo>
@@ -77,5 +81,49 @@ pub(crate) fn target_of(end: &BlockEnd) -> Option<WordNo>
     match end {
         BlockEnd::Branch { target, .. } | BlockEnd::Call { target } => *target,
         BlockEnd::Fall | BlockEnd::Jump => None,
+    }
+}
+
+// A word of so many, if it is one.
+fn within(count: u32, word: u32) -> Option<u32>
+    ensures { result ≡ within count word }
+{
+    if word < count { Some(word) } else { None }
+}
+
+fn number(target: Option<WordNo>) -> Option<u32>
+    ensures { result ≡ number_of target }
+{
+    match target {
+        Some(word) => Some(word.0),
+        None => None,
+    }
+}
+
+// A way.
+fn way(kind: EdgeKind, to: Option<u32>) -> Way
+    ensures { result ≡ record { kind = kind; to = to } }
+{
+    Way { kind, to }
+}
+
+/// The ways out of a word of so many, the last of a block.
+pub(crate) fn ways_of(count: u32, word: u32, end: BlockEnd) -> Ways
+    requires { word + 2 < 2 ^ 32 }
+    ensures { ways_of count word end ≡ result.0 ∷ option_to_list result.1 }
+{
+    match end {
+        BlockEnd::Fall => (way(EdgeKind::Fall, within(count, word + 1)), None),
+        BlockEnd::Branch { cond, target, .. } => {
+            let taken = way(EdgeKind::Taken, number(target));
+            let untaken = way(EdgeKind::Untaken, within(count, word + 2));
+            match cond.number() {
+                ALWAYS => (taken, None),
+                NEVER => (untaken, None),
+                _ => (taken, Some(untaken)),
+            }
+        }
+        BlockEnd::Call { target } => (way(EdgeKind::Call, number(target)), None),
+        BlockEnd::Jump => (way(EdgeKind::Out, None), None),
     }
 }

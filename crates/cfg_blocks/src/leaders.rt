@@ -3,7 +3,7 @@ ghost use Rattle.std.specs.Prelude.{◌≡◌, ℕ, ◌+◌, ◌<◌, ◌≤◌,
 ghost use Rattle.std.specs.List.{All};
 ghost use Rattle.cfg_blocks.specs.Blocks.{below, follows_transfer, is_it, is_target};
 ghost use Rattle.cfg_blocks.specs.Code.{AreFirsts};
-ghost use Rattle.cfg_blocks.specs.Private.{end_in, is_in, leads_in, marked};
+ghost use Rattle.cfg_blocks.specs.Private.{end_in, is_in, leads_by, leads_in, marked};
 
 use crate::BlockEnd;
 use crate::ends::{is_transfer, target_of};
@@ -42,25 +42,13 @@ fn mark_targets(marks: &mut [bool], ends: &[BlockEnd])
     }
 }
 
-// Marks the two words after each transfer.
-fn mark_followers(marks: &mut [bool], ends: &[BlockEnd])
-    requires { length marks.old ≡ length ends.now }
-    ensures { (k : ℕ) → k < length marks.old →
-        marked marks.new k ≡ (marked marks.old k || (follows_transfer (end_in ends.now) 1 k || follows_transfer (end_in ends.now) 2 k)) }
+// Whether the word is marked or one of the two after a transfer.
+fn leads(ends: &[BlockEnd], marks: &[bool], word: usize) -> bool
+    requires word { word < length ends.now }
+    requires words { length marks.now ≡ length ends.now }
+    ensures { result ≡ leads_by ends.now marks.now word }
 {
-    for word in 0..ends.len() {
-        if is_follower(ends, word) {
-            marks[word] = true;
-        }
-    }
-}
-
-// Whether the word is one of the two after a transfer.
-fn is_follower(ends: &[BlockEnd], word: usize) -> bool
-    requires { word ≤ length ends.now }
-    ensures { result ≡ (follows_transfer (end_in ends.now) 1 word || follows_transfer (end_in ends.now) 2 word) }
-{
-    follows(ends, word, 1) || follows(ends, word, 2)
+    marks[word] || follows(ends, word, 1) || follows(ends, word, 2)
 }
 
 /// Whether a transfer stands `back` words before.
@@ -72,33 +60,15 @@ pub(crate) fn follows(ends: &[BlockEnd], word: usize, back: usize) -> bool
     back <= word && is_transfer(&ends[word - back])
 }
 
-/// Which words lead, where `given` marks those that the caller gives.
-pub(crate) fn leaders(
-    alloc: Global,
-    ends: &[BlockEnd],
-    given: &[bool],
-) -> Result<Vec<bool>, NoMemory>
-    requires some { 0 < length ends.now }
-    requires words { length given.now ≡ length ends.now }
-    ensures words { IfOk result (λ v. length v.items ≡ length ends.now) }
-    ensures leaders { IfOk result (λ v.
-        (k : ℕ) → k < length ends.now → marked v.items k ≡ leads_in ends.now given.now k) }
-{
-    let mut marks = Vec::from_slice(alloc, given)?;
-    marks[0] = true;
-    mark_targets(&mut marks, ends);
-    mark_followers(&mut marks, ends);
-    Ok(marks)
-}
-
-/// The marked words, in order.
-pub(crate) fn marked_words(alloc: Global, marks: &[bool]) -> Result<Vec<u32>, NoMemory>
-    requires { length marks.now < 2 ^ 32 }
-    ensures { IfOk result (λ v. v.items ≡ filter (marked marks.now) (below (length marks.now))) }
+// The words that are marked or follow a transfer, in order.
+fn leading(alloc: Global, ends: &[BlockEnd], marks: &[bool]) -> Result<Vec<u32>, NoMemory>
+    requires few { length ends.now < 2 ^ 32 }
+    requires words { length marks.now ≡ length ends.now }
+    ensures { IfOk result (λ v. v.items ≡ filter (leads_by ends.now marks.now) (below (length ends.now))) }
 {
     let mut words = Vec::new(alloc);
-    for (word, mark) in marks.iter().enumerate() {
-        if *mark {
+    for word in 0..ends.len() {
+        if leads(ends, marks, word) {
             words.push(word as u32)?;
         }
     }
@@ -113,9 +83,11 @@ pub(crate) fn firsts(alloc: Global, ends: &[BlockEnd], given: &[bool]) -> Result
     ensures words { IfOk result (λ v. v.items ≡ filter (leads_in ends.now given.now) (below (length ends.now))) }
     ensures firsts { IfOk result (λ v. AreFirsts (length ends.now) v.items) }
 {
-    let leads = leaders(alloc, ends, given)?;
-    let firsts = marked_words(alloc, &leads)?;
-    Ok(firsts)
+    let mut marks = Vec::from_slice(alloc, given)?;
+    marks[0] = true;
+    mark_targets(&mut marks, ends);
+    let words = leading(alloc, ends, &marks)?;
+    Ok(words)
 }
 
 /// The words that a caller gives.

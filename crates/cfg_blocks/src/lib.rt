@@ -19,6 +19,7 @@ mod values;
 
 pub use approaches::{approach, follow_slot};
 pub use compares::compare_in;
+pub use ends::{ALWAYS, Ways};
 pub use list::{BlockList, blocks};
 pub use switches::{Approach, Compare, Switch, Value};
 pub use values::{follow, sum};
@@ -51,6 +52,13 @@ pub enum BlockEnd {
         target: Option<WordNo>,
     },
     Jump,
+}
+
+/// A way out of a block: the kind of its edge, and the word to which it leads, where the text has that.
+#[derive(Clone, Copy, PartialEq, Eq, Debug, Drop)]
+pub struct Way {
+    pub kind: EdgeKind,
+    pub to: Option<u32>,
 }
 
 /// What leads to a block: nothing, one edge, which leaves that block, or more of them.

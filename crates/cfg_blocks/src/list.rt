@@ -1,14 +1,13 @@
 //! The list of blocks.
-ghost use Rattle.std.specs.Prelude.{◌≡◌, ℕ, ◌+◌, ◌-◌, ◌^◌, ◌<◌, ◌≤◌, ◌++◌, nat_le, length, map, slice_index, slice_index_or, count_by, IfOk, IfSome};
-ghost use Rattle.cfg_blocks.specs.Arrivals.{entered_in};
+ghost use Rattle.std.specs.Prelude.{◌≡◌, ℕ, List, ◌+◌, ◌-◌, ◌^◌, ◌<◌, ◌≤◌, ◌∷◌, ◌++◌, nat_le, length, map, option_to_list, slice_index, slice_index_or, count_by, IfOk, IfSome};
 ghost use Rattle.cfg_blocks.specs.Blocks.{below, block_end, end_of, holding_of, last_word, size_of};
 ghost use Rattle.cfg_blocks.specs.Code.{AreFirsts, IsAscending, IsBlockList};
 ghost use Rattle.cfg_blocks.specs.Ends.{target_in};
-ghost use Rattle.cfg_blocks.specs.Entries.{entered_of};
-ghost use Rattle.cfg_blocks.specs.Private.{block_end_in, word_ends};
+ghost use Rattle.cfg_blocks.specs.Entries.{entered_of, ways_from};
+ghost use Rattle.cfg_blocks.specs.Private.{block_end_in, word_ends, IsGiven};
 ghost use Rattle.cfg_blocks.specs.Marks.{numbers, AreWords};
 
-use crate::ends::word_ends;
+use crate::ends::{Ways, ways_of, word_ends};
 use crate::entries::CutText;
 use crate::leaders::{firsts, given_words};
 use crate::{BlockEnd, Into};
@@ -89,7 +88,7 @@ impl BlockList {
         ensures within { slice_index self.now.blocks.firsts b.0 + result ≤ self.now.blocks.words }
         ensures few { self.now.blocks.words ≤ 2 ^ 20 }
     {
-        block_size(&self.firsts, self.words, b.0)
+        self.last(b).0 + 1 - self.firsts[b.0 as usize]
     }
 
     /// How control leaves the last word of the block `b`.
@@ -100,6 +99,26 @@ impl BlockList {
         ensures target { IfSome (target_in result) (λ word. word.0 < self.now.blocks.words) }
     {
         self.ends[b.0 as usize]
+    }
+
+    /// The last word of the block `b`.
+    #[inline]
+    pub fn last(&self, b: BlockNo) -> WordNo
+        requires { b.0 < length self.now.blocks.firsts }
+        ensures last { result.0 ≡ last_word self.now.blocks.firsts self.now.blocks.words b.0 }
+        ensures above { slice_index self.now.blocks.firsts b.0 ≤ result.0 }
+        ensures within { result.0 < self.now.blocks.words }
+        ensures few { self.now.blocks.words ≤ 2 ^ 20 }
+    {
+        WordNo(last_of_block(&self.firsts, self.words, b.0))
+    }
+
+    /// The ways out of the block `b`.
+    pub fn ways(&self, b: BlockNo) -> Ways
+        requires { b.0 < length self.now.blocks.firsts }
+        ensures { ways_from self.now.blocks b.0 ≡ result.0 ∷ option_to_list result.1 }
+    {
+        ways_of(self.words, self.last(b).0, self.end(b))
     }
 
     /// The block that holds the word `w`.
@@ -144,25 +163,26 @@ pub fn blocks(
 // Cuts a text into blocks, where `given` marks the words that the caller gives.
 fn cut(alloc: Global, text: &Text, given: &[bool]) -> Result<BlockList, NoMemory>
     requires { length given.now ≡ length text.now.words }
-    ensures { IfOk result (λ list. list ≡ entered_in (word_ends text.now) given.now) }
+    ensures { IfOk result (λ list. (words : List ℕ) → IsGiven text.now words given.now → list ≡ entered_of text.now words) }
 {
     let words = text.len();
     let word_ends = word_ends(alloc, text)?;
     let firsts = firsts(alloc, &word_ends, given)?;
     let ends = block_ends(alloc, &firsts, &word_ends)?;
-    let cut = CutText {
-        firsts: &firsts,
-        ends: &ends,
-        word_ends: &word_ends,
-        given,
-    };
-    let intos = cut.intos(alloc)?;
-    Ok(BlockList {
+    let intos = vec![in alloc; Into::More; firsts.len()]?;
+    let mut list = BlockList {
         firsts,
         words,
         ends,
         intos,
-    })
+    };
+    list.intos = CutText {
+        list: &list,
+        word_ends: &word_ends,
+        given,
+    }
+    .intos(alloc)?;
+    Ok(list)
 }
 
 // The block that holds the word: the last that begins at it or before.
@@ -178,7 +198,7 @@ fn holding_in(firsts: &[u32], words: u32, word: u32) -> u32
 }
 
 // The last word of a block: it stands before the first of the next block, or at the end of the text.
-pub(crate) fn last_of_block(firsts: &[u32], words: u32, block: u32) -> u32
+fn last_of_block(firsts: &[u32], words: u32, block: u32) -> u32
     requires block { block < length firsts.now }
     requires firsts { AreFirsts words firsts.now }
     ensures value { result ≡ last_word firsts.now words block }
@@ -188,17 +208,6 @@ pub(crate) fn last_of_block(firsts: &[u32], words: u32, block: u32) -> u32
         Some(next) => *next - 1,
         None => words - 1,
     }
-}
-
-// How many words a block has.
-pub(crate) fn block_size(firsts: &[u32], words: u32, block: u32) -> u32
-    requires block { block < length firsts.now }
-    requires firsts { AreFirsts words firsts.now }
-    ensures size { result ≡ block_end firsts.now words block - slice_index firsts.now block }
-    ensures some { 1 ≤ result }
-    ensures within { slice_index firsts.now block + result ≤ words }
-{
-    last_of_block(firsts, words, block) + 1 - firsts[block as usize]
 }
 
 // How control leaves the last word of a block.

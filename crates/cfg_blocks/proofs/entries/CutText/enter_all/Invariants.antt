@@ -1,11 +1,10 @@
 use Rattle.std.proofs.Common.{◌≡◌, ℕ, ◌<◌, length}
 use Rattle.cfg_blocks.specs.Arrivals.{added_all, counted_from, into_at, is_bare_in}
-use Rattle.cfg_blocks.specs.Blocks.{Blocks}
 use Rattle.cfg_blocks.proofs.entries.CutText.enter_all.Given as goal
 
 abbrev pub invariant-loop-block : goal.invariant-loop-block
 invariant-loop-block l =
-    let b : Blocks = record { firsts = l.self.firsts.now; words = length l.self.word_ends.now; ends = l.self.ends.now } in
+    let b = l.self.list.now.blocks in
     (k : ℕ) → k < length l.initial.intos → into_at l.intos k
     ≡ added_all (into_at l.initial.intos k)
-    (counted_from b (is_bare_in b l.self.word_ends.now l.self.given.now l.arrivals) l.block k)
+    (counted_from b (is_bare_in b l.self.word_ends.now l.self.given.now l.known) l.block k)

@@ -1,7 +1,7 @@
 use Rattle.std.proofs.Common.{◌≡◌, map}
 use Rattle.cfg_blocks.specs.Arrivals.{into_first}
 use Rattle.cfg_blocks.specs.Blocks.{below}
-use Rattle.cfg_blocks.proofs.entries.at_firsts.Given as goal
+use Rattle.cfg_blocks.proofs.entries.CutText.at_firsts.Given as goal
 
 abbrev pub invariant-loop-block : goal.invariant-loop-block
-invariant-loop-block l = l.at.items ≡ map (into_first l.intos l.firsts) (below l.block)
+invariant-loop-block l = l.at.items ≡ map (into_first l.intos l.self.list.now.blocks.firsts) (below l.block)

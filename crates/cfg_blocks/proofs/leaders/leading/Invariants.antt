@@ -1,0 +1,8 @@
+use Rattle.std.proofs.Common.{◌≡◌}
+use Rattle.std.specs.List.{filter}
+use Rattle.cfg_blocks.specs.Blocks.{below}
+use Rattle.cfg_blocks.specs.Private.{leads_by}
+use Rattle.cfg_blocks.proofs.leaders.leading.Given as goal
+
+abbrev pub invariant-loop-word : goal.invariant-loop-word
+invariant-loop-word l = l.words.items ≡ filter (leads_by l.ends l.marks) (below l.word)
