@@ -268,18 +268,10 @@ fn put_bad_line<E: Sink>(
 {
     let mut digits = Buffer::new();
     let number = digits.format(number).as_bytes();
-    let cause = cause_text(cause);
+    let (name, cause) = (name.as_bytes(), cause_text(cause));
     put_pieces(
         err,
-        &[
-            b"eel: ",
-            name.as_bytes(),
-            b": line ",
-            number,
-            b": ",
-            cause,
-            b"\n",
-        ],
+        &[b"eel: ", name, b": line ", number, b": ", cause, b"\n"],
     )
 }
 
@@ -343,15 +335,10 @@ fn put_place<E: Sink>(name: &str, digits: &[u8], err: &mut E) -> Result<(), Fail
     ensures { Wrote (stream_seen E.Sink err.old) (stream_seen E.Sink err.new)
         (line_about name.now (codes "pc " ++ digits.now ++ codes " between places")) result }
 {
+    let name = name.as_bytes();
     put_pieces(
         err,
-        &[
-            b"eel: ",
-            name.as_bytes(),
-            b": pc ",
-            digits,
-            b" between places\n",
-        ],
+        &[b"eel: ", name, b": pc ", digits, b" between places\n"],
     )
 }
 
@@ -360,22 +347,7 @@ fn put_count<E: Sink>(name: &str, edge: EdgeNo, value: i128, err: &mut E) -> Res
     ensures { Wrote (stream_seen E.Sink err.old) (stream_seen E.Sink err.new)
         (line_of (NoCounts name.now (count_causes.Negative edge value))) result }
 {
-    let mut edge_digits = Buffer::new();
-    let mut value_digits = Buffer::new();
-    let edge = edge_digits.format(edge.0).as_bytes();
-    let value = value_digits.format(value).as_bytes();
-    put_pieces(
-        err,
-        &[
-            b"eel: ",
-            name.as_bytes(),
-            b": edge ",
-            edge,
-            b" would be ",
-            value,
-            b"\n",
-        ],
-    )
+    put_numbers(name, b"edge ", edge.0, b" would be ", value, b"", err)
 }
 
 /// Writes how a run ended, or that it was stopped after so many steps.
