@@ -319,10 +319,26 @@ megabytes_free() {
     df -Pk "$folder" | awk 'NR == 2 { print int($4 / 1024) }'
 }
 
-# What a build takes of the disk: some 25 MB for each crate, and six times as much where its proofs are kept.
+# Of what a library takes, two thirds are an archive that packs to a tenth. All are packed once the program is built, and
+# unpacked before the next build reads them.
+archives() {
+    find "$here"/crates/*/out/rlib/*.rlib/toolchain -name "$1" 2>/dev/null
+}
+
+pack() {
+    archives checked.a | xargs -r -n 1 -P "$most" gzip -1f
+}
+
+unpack() {
+    archives checked.a.gz | xargs -r -n 1 -P "$most" gunzip -f || stop "the libraries in $here/crates can't be unpacked"
+}
+
+# What a build takes of the disk: some 25 MB for each crate, and six times as much where its proofs are kept; and what is
+# packed.
 wants_room() {
     room=$((25 * count))
     [ "$way" = build_statements ] || room=$((6 * room))
+    [ -z "$(archives checked.a.gz)" ] || room=$((room + 900))
     [ "$(megabytes_free)" -ge $room ] || stop "a build takes $room MB, and the disk of $folder has $(megabytes_free) left"
 }
 
@@ -348,6 +364,7 @@ build_all() {
     [ "$most" -le "$(nproc)" ] || most=$(nproc)
     [ "$most" -ge 1 ] || most=1
     at_once=$most
+    unpack
     chain=" $(longest_first | awk '$3 >= 80 { print $2 }' | tr '\n' ' ')"
     parts="$count parts, $at_once at once, $(minutes_left) min"
     echo "eel: proving and building the program, once for these sources: $parts" >&2
@@ -368,6 +385,7 @@ build_all() {
     (build_program) >"$logs/eel_main.log" 2>&1 </dev/null
     [ -x "$folder/eel_main" ] || stop "the program could not be built; $logs/eel_main.log says why"
     note_built
+    [ "$way" = build_kept ] || pack
     echo "eel: the program is built, $count of $count, in $(minutes_since "$started") min" >&2
     rm -rf "$logs"
 }
