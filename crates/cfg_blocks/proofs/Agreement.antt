@@ -1,6 +1,6 @@
 -- The lists from which blocks are made say what the definitions say.
-use Rattle.std.proofs.Common.{◌≡◌, ℕ, zero, suc, ◌-◌, ◌<◌, ◌≤◌, Bool, true, false, not, ◌||◌, ◌&&◌, nat_le, List, [], ◌∷◌, ◌++◌, length, map, filter, slice_index, refl, ap, ◌∙◌, arith}
-use Rattle.std.specs.List.{list_any, flat_map}
+use Rattle.std.proofs.Common.{◌≡◌, ℕ, zero, suc, ◌-◌, ◌<◌, ◌≤◌, Bool, not, ◌||◌, ◌&&◌, nat_le, List, [], ◌∷◌, ◌++◌, length, map, filter, slice_index, refl, ap, ◌∙◌, arith}
+use Rattle.std.specs.List.{flat_map}
 use Rattle.std.proofs.lemmas.List.{append-nil, get_or-map, length-map}
 use Rattle.std.proofs.lemmas.List.Elements.{filter-append}
 use Rattle.std.proofs.lemmas.List.Folds.{list_any-append}
@@ -11,13 +11,13 @@ use Rattle.cfg_blocks.specs.declared.BlockEnd.{BlockEnd}
 use Rattle.cfg_blocks.specs.declared.BlockEnd.TheVariants.{Fall}
 use Rattle.cfg_blocks.specs.declared.Into.{Into}
 use Rattle.cfg_blocks.specs.declared.Into.TheVariants.{Nothing}
-use Rattle.cfg_blocks.specs.Ends.{Way, end_at, is_transfer}
+use Rattle.cfg_blocks.specs.Ends.{end_at, is_transfer}
 use Rattle.cfg_blocks.specs.Blocks.{Blocks, below, is_target, follows_transfer, is_among, leads, leaders, blocks_of, last_word}
 use Rattle.cfg_blocks.specs.Code.{AreFirsts}
-use Rattle.cfg_blocks.specs.Entries.{Entered, Entry, all_entries, entered_of, entries_from, into_of, is_bare_slot, is_counted, is_empty, is_fall, leads_to, ways_from}
-use Rattle.cfg_blocks.specs.Private.{block_end_in, end_in, is_in, leads_in, marked, word_ends, IsGiven}
+use Rattle.cfg_blocks.specs.Entries.{Entered, entered_of, entries_from, into_of, is_bare_slot, is_counted, is_fall, leads_to, ways_from}
+use Rattle.cfg_blocks.specs.Private.{block_end_in, end_in, is_in, leads_in, marked, word_ends}
 use Rattle.cfg_blocks.specs.Marks.{numbers}
-use Rattle.cfg_blocks.specs.Arrivals.{added_all, counted, counted_from, into_in, is_bare_by}
+use Rattle.cfg_blocks.specs.Arrivals.{added_all, counted, counted_from, entered_in, into_in, is_bare_by}
 use Rattle.cfg_blocks.proofs.Below.{any_below_same, length-below, get_or-below, list_any-map, filter_below_same, filter_below_firsts, map_below_same}
 use Rattle.cfg_blocks.proofs.Entering.{counted_from_same, into_by-added}
 use Rattle.cfg_blocks.proofs.Held.{ends_within, some_words}
@@ -50,6 +50,10 @@ follows-word_ends text back k h =
 pub given_by : (starts marks : List WordNo) (k : ℕ)
     → (is_in starts k || is_in marks k) ≡ is_among (numbers starts ++ numbers marks) k
 given_by starts marks k = simp (list_any-append, list_any-map)
+
+abbrev IsGiven : Words → List ℕ → List Bool → Type 0
+IsGiven text given marks = (k : ℕ) → k < length text.words
+    → marked marks k ≡ is_among given k
 
 leads_in-word_ends : (text : Words) (given : List ℕ) (marks : List Bool) → IsGiven text given marks
     → (k : ℕ) → k < length text.words
@@ -117,21 +121,35 @@ into_alike text given marks b block g within =
 
 -- ---- the whole list
 
-pub cut_is : (text : Words) (given : List ℕ) (marks : List Bool) (firsts : List ℕ) (ends : List BlockEnd) (intos : List Into)
-    → 1 ≤ length text.words → IsGiven text given marks
-    → firsts ≡ filter (leads_in (word_ends text) marks) (below (length (word_ends text)))
-    → ends ≡ map (block_end_in (word_ends text) firsts) (below (length firsts))
-    → (let b : Blocks = record { firsts = firsts; words = length text.words; ends = ends } in
-    intos ≡ map (into_in b (word_ends text) marks) (below (length firsts)))
-    → (let b : Blocks = record { firsts = firsts; words = length text.words; ends = ends } in
-    let e : Entered = record { blocks = b; intos = intos } in e ≡ entered_of text given)
-unfolding entered_of blocks_of
-cut_is text given marks firsts ends intos some g f e i =
-    let f2 = firsts_of text given some in
-    let same : firsts ≡ leaders text given = f ∙ firsts_are text given marks g in
-    let cut : ends ≡ (blocks_of text given).ends =
-    rw (e, same) (map_below_same (length (leaders text given)) _ _ (λ block h. block_end_alike text (leaders text given) block f2 h)) in
-    let led : map (into_in (blocks_of text given) (word_ends text) marks) (below (length (leaders text given)))
-    ≡ map (into_of text given (blocks_of text given)) (below (length (leaders text given))) =
-    map_below_same (length (leaders text given)) _ _ (λ block h. into_alike text given marks (blocks_of text given) block g f2.within) in
-    rw (i, cut, same) (rw led refl)
+pub cut_is : (ends : List BlockEnd) (given : List Bool) (firsts : List ℕ) (block_ends : List BlockEnd)
+    (intos : List Into)
+    → firsts ≡ filter (leads_in ends given) (below (length ends))
+    → block_ends ≡ map (block_end_in ends firsts) (below (length firsts))
+    → (let b : Blocks = record { firsts = firsts; words = length ends; ends = block_ends } in intos
+    ≡ map (into_in b ends given) (below (length firsts)))
+    → (let e : Entered = record {
+      blocks =
+          record { firsts = firsts; words = length ends; ends = block_ends };
+      intos = intos;
+    } in e
+    ≡ entered_in ends given)
+unfolding entered_in
+cut_is ends given firsts block_ends intos f e i = rw (i, e, f)
+
+pub entered_alike : (text : Words) (given : List ℕ) (marks : List Bool) → 1 ≤ length text.words
+    → IsGiven text given marks
+    → entered_in (word_ends text) marks ≡ entered_of text given
+unfolding entered_in entered_of blocks_of
+entered_alike text given marks some g =
+    let firsts = leaders text given in
+    let f = firsts_of text given some in
+    let ends : map (block_end_in (word_ends text) firsts) (below (length firsts))
+    ≡ (blocks_of text given).ends =
+    map_below_same (length firsts) _ _ (λ block h. block_end_alike text firsts block f h) in
+    let intos : map (into_in (blocks_of text given) (word_ends text) marks) (below (length firsts))
+    ≡ map (into_of text given (blocks_of text given)) (below (length firsts)) =
+    map_below_same (length firsts) _ _
+    (λ block h. into_alike text given marks (blocks_of text given) block g f.within) in
+    rw (firsts_are text given marks g, length-word_ends text, ends)
+    (ap (λ (is : List Into). let e : Entered =
+    record { blocks = blocks_of text given; intos = is } in e) intos)

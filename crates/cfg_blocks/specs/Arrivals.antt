@@ -6,8 +6,8 @@ use Rattle.cfg_blocks.specs.declared.Into.{Into}
 use Rattle.cfg_blocks.specs.declared.Into.TheVariants.{Nothing, One, More}
 use Rattle.cfg_blocks.specs.Ends.{Way}
 use Rattle.cfg_blocks.specs.Blocks.{Blocks, below}
-use Rattle.cfg_blocks.specs.Entries.{Entry, all_entries, is_empty, is_fall, is_slot, leads_to, ways_from}
-use Rattle.cfg_blocks.specs.Private.{end_in, marked}
+use Rattle.cfg_blocks.specs.Entries.{Entered, Entry, all_entries, is_empty, is_fall, is_slot, leads_to, ways_from}
+use Rattle.cfg_blocks.specs.Private.{block_end_in, end_in, leads_in, marked}
 
 abbrev pub into_at : List Into → ℕ → Into
 into_at intos word = slice_index_or intos word Nothing
@@ -55,3 +55,14 @@ unfoldable pub into_in : Blocks → List BlockEnd → List Bool → ℕ → Into
 into_in b word_ends given block =
     added_all Nothing (counted_from b (is_bare_by b word_ends given) (length b.firsts)
     (slice_index b.firsts block))
+
+-- the list of blocks that is made of how control leaves each word, and of marks
+unfoldable pub entered_in : List BlockEnd → List Bool → Entered
+entered_in word_ends given =
+    let firsts = filter (leads_in word_ends given) (below (length word_ends)) in
+    let b : Blocks = record {
+      firsts = firsts;
+      words = length word_ends;
+      ends = map (block_end_in word_ends firsts) (below (length firsts));
+    } in
+    record { blocks = b; intos = map (into_in b word_ends given) (below (length firsts)) }

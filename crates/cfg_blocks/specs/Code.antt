@@ -1,8 +1,9 @@
 -- What contracts of this crate's code and laws cite beyond the statement.
-use Rattle.std.specs.Prelude.{ℕ, ◌<◌, IfSome, List, length, slice_index, ◌≡◌, ◌≤◌, ◌^◌}
+use Rattle.std.specs.Prelude.{ℕ, ◌<◌, IfSome, List, ◌∷◌, length, map, option_to_list, slice_index, Option, ◌≡◌, ◌≤◌, ◌^◌}
 use Rattle.std.specs.List.{All}
 use Rattle.cfg_blocks.specs.declared.BlockEnd.{BlockEnd}
-use Rattle.cfg_blocks.specs.Ends.{target_in}
+use Rattle.cfg_blocks.specs.declared.WayOut.{WayOut}
+use Rattle.cfg_blocks.specs.Ends.{Way, target_in}
 use Rattle.cfg_blocks.specs.Entries.{Entered}
 
 -- where a transfer leads to a word, that is one of so many
@@ -28,3 +29,10 @@ pub record IsBlockList (list : Entered) : Type 0 where
   pub targets : All (TargetsWithin list.blocks.words) list.blocks.ends
   pub intos : length list.intos ≡ length list.blocks.firsts
   pub few : list.blocks.words ≤ 2 ^ 20
+
+-- the ways out of a block that are told as one and perhaps another
+abbrev pub way_of : WayOut → Way
+way_of way = record { kind = way.kind; to = way.to }
+
+abbrev pub ways_in : WayOut → Option WayOut → List Way
+ways_in one other = way_of one ∷ map way_of (option_to_list other)

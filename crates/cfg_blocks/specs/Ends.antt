@@ -10,7 +10,6 @@ use Rattle.cfg_blocks.specs.declared.BlockEnd.{BlockEnd}
 use Rattle.cfg_blocks.specs.declared.BlockEnd.TheVariants as ends
 use Rattle.cfg_blocks.specs.declared.EdgeKind.{EdgeKind}
 use Rattle.cfg_blocks.specs.declared.EdgeKind.TheVariants as kinds
-pub use Rattle.cfg_blocks.specs.declared.Way.{Way}
 
 -- the conditions of `bn` and `ba`
 abbrev pub never : ℕ
@@ -48,6 +47,10 @@ target_in (ends.Call target) = target
 target_in ends.Jump = None
 
 -- ---- the ways out of a word: the kind of each edge, and the word to which it leads, where the text has it
+
+pub record Way : Type 0 where
+  pub kind : EdgeKind
+  pub to : Option ℕ
 
 -- a word of so many, if it is one
 abbrev pub within : ℕ → ℕ → Option ℕ

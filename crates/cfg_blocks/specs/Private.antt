@@ -1,11 +1,11 @@
 -- What only contracts of private functions and models cite.
-use Rattle.std.specs.Prelude.{List, length, map, ℕ, slice_index_or, Bool, false, ◌==◌, ◌≡◌, ◌<◌, ◌||◌}
+use Rattle.std.specs.Prelude.{List, length, map, ℕ, slice_index_or, Bool, false, ◌==◌, ◌||◌}
 use Rattle.std.specs.List.{list_any}
 use Rattle.eel_base.specs.CodeText.{Words}
 use Rattle.eel_base.specs.declared.numbers.WordNo.{WordNo}
 use Rattle.cfg_blocks.specs.declared.BlockEnd.{BlockEnd}
 use Rattle.cfg_blocks.specs.Ends.{end_at}
-use Rattle.cfg_blocks.specs.Blocks.{below, follows_transfer, is_among, last_word, leads}
+use Rattle.cfg_blocks.specs.Blocks.{below, follows_transfer, last_word, leads}
 use Rattle.cfg_blocks.specs.declared.BlockEnd.TheVariants.{Fall}
 
 -- how control leaves each word of a text
@@ -35,7 +35,3 @@ leads_in ends given = leads (length ends) (end_in ends) (marked given)
 abbrev pub leads_by : List BlockEnd → List Bool → ℕ → Bool
 leads_by ends marks word =
     marked marks word || follows_transfer (end_in ends) 1 word || follows_transfer (end_in ends) 2 word
-
--- the marks are those of the words that are given
-abbrev pub IsGiven : Words → List ℕ → List Bool → Type 0
-IsGiven text given marks = (k : ℕ) → k < length text.words → marked marks k ≡ is_among given k

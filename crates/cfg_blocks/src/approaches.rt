@@ -13,11 +13,7 @@ fn slot_words(text: &Text, last: u32, annul: bool, way: EdgeKind) -> u32
     ensures within { last + result < length text.now.words }
 {
     let words = text.len();
-    if (!annul || way == EdgeKind::Taken) && last + 1 < words {
-        1
-    } else {
-        0
-    }
+    u32::from((!annul || way == EdgeKind::Taken) && last + 1 < words)
 }
 
 /// The words from a comparison in the block `from`, out of which a branch leads this way, to the end of the block

@@ -1,7 +1,6 @@
 //! The comparison with whose codes control leaves a block.
-ghost use Rattle.std.specs.Prelude.{◌≡◌, ◌+◌, ◌<◌, ◌≤◌, IfSome, length, slice_index};
-ghost use Rattle.cfg_blocks.specs.Blocks.{size_of};
-ghost use Rattle.cfg_blocks.specs.Switches.{compare_at, compare_by, compare_of, compared, last_setting, sets_codes};
+ghost use Rattle.std.specs.Prelude.{◌≡◌, ◌+◌, ◌<◌, ◌≤◌, IfSome, length};
+ghost use Rattle.cfg_blocks.specs.Switches.{compare_by, compare_of, compared, last_setting, sets_codes};
 ghost use Rattle.cfg_blocks.specs.Values.{instr_at};
 ghost use Rattle.cfg_blocks.specs.Known.{IsKnown};
 
@@ -12,10 +11,7 @@ use v8_decode::{AluOp, Instr, Op2, Reg, decode};
 fn sets_codes(instr: Instr) -> bool
     ensures { result ≡ sets_codes instr }
 {
-    match instr {
-        Instr::Alu { cc, .. } => cc,
-        _ => false,
-    }
+    matches!(instr, Instr::Alu { cc: true, .. })
 }
 
 // Going back from the end of these words, the first that sets the codes.
@@ -71,18 +67,6 @@ fn compared(word: u32, rd: Reg, r: Reg, m: i32) -> Option<Compare>
     }
 }
 
-// The comparison that sets the codes with which control leaves these words.
-fn compare_of(text: &Text, from: u32, count: u32) -> Option<Compare>
-    requires { from + count ≤ length text.now.words }
-    ensures compare { result ≡ compare_at text.now (last_setting text.now from count) }
-    ensures known { IfSome result (λ c. (c.word < from + count) × IsKnown c.word c) }
-{
-    match last_setting(text, from, count) {
-        Some(word) => compare_by(word, decode(text.word(WordNo(word)))),
-        None => None,
-    }
-}
-
 /// The comparison that sets the codes with which control leaves a block.
 pub fn compare_in(blocks: &BlockList, text: &Text, block: BlockNo) -> Option<Compare>
     requires words { blocks.now.blocks.words ≡ length text.now.words }
@@ -90,5 +74,8 @@ pub fn compare_in(blocks: &BlockList, text: &Text, block: BlockNo) -> Option<Com
     ensures compare { result ≡ compare_of text.now blocks.now.blocks block.0 }
     ensures known { IfSome result (λ c. (c.word < length text.now.words) × IsKnown c.word c) }
 {
-    compare_of(text, blocks.first(block).0, blocks.words(block))
+    match last_setting(text, blocks.first(block).0, blocks.words(block)) {
+        Some(word) => compare_by(word, decode(text.word(WordNo(word)))),
+        None => None,
+    }
 }

@@ -1,10 +1,11 @@
 //! How control leaves the words of a text.
-ghost use Rattle.std.specs.Prelude.{◌≡◌, ◌+◌, ◌^◌, ◌<◌, ◌∷◌, ℤ, length, map, option_to_list, IfOk};
+ghost use Rattle.std.specs.Prelude.{◌≡◌, ◌+◌, ◌^◌, ◌<◌, ℤ, length, map, IfOk};
 ghost use Rattle.eel_base.specs.CodeText.{numbered};
 ghost use Rattle.cfg_blocks.specs.Ends.{branch_target, end_at, is_transfer, number_of, target_in, ways_of, within};
+ghost use Rattle.cfg_blocks.specs.Code.{ways_in};
 ghost use Rattle.cfg_blocks.specs.Private.{word_ends};
 
-use crate::{BlockEnd, EdgeKind, Way};
+use crate::{BlockEnd, EdgeKind, WayOut};
 use eel_base::{NoMemory, Text, WordNo};
 use std::alloc::Global;
 use v8_decode::{Cond, Instr, decode};
@@ -16,7 +17,7 @@ pub const ALWAYS: u8 = 8;
 const NEVER: u8 = 0;
 
 /// The ways out of a block: one or two.
-pub type Ways = (Way, Option<Way>);
+pub type WaysOut = (WayOut, Option<WayOut>);
 
 // The word to which a branch leads; one on never leads nowhere.
 fn branch_target(text: &Text, w: WordNo, cond: Cond, displacement: i32) -> Option<WordNo>
@@ -101,16 +102,16 @@ fn number(target: Option<WordNo>) -> Option<u32>
 }
 
 // A way.
-fn way(kind: EdgeKind, to: Option<u32>) -> Way
+fn way(kind: EdgeKind, to: Option<u32>) -> WayOut
     ensures { result ≡ record { kind = kind; to = to } }
 {
-    Way { kind, to }
+    WayOut { kind, to }
 }
 
 /// The ways out of a word of so many, the last of a block.
-pub(crate) fn ways_of(count: u32, word: u32, end: BlockEnd) -> Ways
+pub(crate) fn ways_of(count: u32, word: u32, end: BlockEnd) -> WaysOut
     requires { word + 2 < 2 ^ 32 }
-    ensures { ways_of count word end ≡ result.0 ∷ option_to_list result.1 }
+    ensures { ways_of count word end ≡ ways_in result.0 result.1 }
 {
     match end {
         BlockEnd::Fall => (way(EdgeKind::Fall, within(count, word + 1)), None),

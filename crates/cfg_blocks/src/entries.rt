@@ -1,11 +1,12 @@
 //! What leads to each block: first for each word, then for the first word of each block.
-ghost use Rattle.std.specs.Prelude.{◌≡◌, ℕ, ◌<◌, ◌∷◌, [], length, map, option_to_list, slice_index, IfOk};
+ghost use Rattle.std.specs.Prelude.{◌≡◌, ℕ, ◌<◌, ◌∷◌, [], length, map, IfOk};
 ghost use Rattle.cfg_blocks.specs.Arrivals.{added, added_all, counted, counted_from, into_at, into_first, into_in, is_bare_in};
 ghost use Rattle.cfg_blocks.specs.Blocks.{below};
-ghost use Rattle.cfg_blocks.specs.Entries.{leads_to, Entry};
+ghost use Rattle.cfg_blocks.specs.Code.{way_of, ways_in};
+ghost use Rattle.cfg_blocks.specs.Entries.{Entry};
 
 use crate::leaders::follows;
-use crate::{BlockEnd, BlockList, EdgeKind, Into, Way, Ways};
+use crate::{BlockEnd, BlockList, EdgeKind, Into, WayOut, WaysOut};
 use eel_base::{BlockNo, NoMemory};
 use std::alloc::Global;
 
@@ -30,9 +31,9 @@ fn one_more(into: Into, from: BlockNo, kind: EdgeKind) -> Into
 }
 
 // Counts one way out of a block.
-fn enter(intos: &mut [Into], from: BlockNo, is_bare: bool, way: Way)
+fn enter(intos: &mut [Into], from: BlockNo, is_bare: bool, way: WayOut)
     ensures { (k : ℕ) → k < length intos.old →
-        into_at intos.new k ≡ added_all (into_at intos.old k) (counted from.0 is_bare (way ∷ []) k) }
+        into_at intos.new k ≡ added_all (into_at intos.old k) (counted from.0 is_bare (way_of way ∷ []) k) }
 {
     if is_bare && matches!(way.kind, EdgeKind::Fall) {
         return;
@@ -44,9 +45,9 @@ fn enter(intos: &mut [Into], from: BlockNo, is_bare: bool, way: Way)
     }
 }
 
-fn enter_by(intos: &mut [Into], from: BlockNo, is_bare: bool, ways: Ways)
+fn enter_by(intos: &mut [Into], from: BlockNo, is_bare: bool, ways: WaysOut)
     ensures { (k : ℕ) → k < length intos.old →
-        into_at intos.new k ≡ added_all (into_at intos.old k) (counted from.0 is_bare (ways.0 ∷ option_to_list ways.1) k) }
+        into_at intos.new k ≡ added_all (into_at intos.old k) (counted from.0 is_bare (ways_in ways.0 ways.1) k) }
 {
     let (one, other) = ways;
     enter(intos, from, is_bare, one);

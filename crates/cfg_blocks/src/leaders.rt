@@ -1,5 +1,5 @@
 //! Leaders: the words with which a block begins.
-ghost use Rattle.std.specs.Prelude.{◌≡◌, ℕ, ◌+◌, ◌<◌, ◌≤◌, ◌||◌, ◌^◌, length, filter, IfOk};
+ghost use Rattle.std.specs.Prelude.{◌≡◌, ℕ, ◌<◌, ◌≤◌, ◌||◌, ◌^◌, length, filter, IfOk};
 ghost use Rattle.std.specs.List.{All};
 ghost use Rattle.cfg_blocks.specs.Blocks.{below, follows_transfer, is_it, is_target};
 ghost use Rattle.cfg_blocks.specs.Code.{AreFirsts};

@@ -19,7 +19,7 @@ mod values;
 
 pub use approaches::{approach, follow_slot};
 pub use compares::compare_in;
-pub use ends::{ALWAYS, Ways};
+pub use ends::{ALWAYS, WaysOut};
 pub use list::{BlockList, blocks};
 pub use switches::{Approach, Compare, Switch, Value};
 pub use values::{follow, sum};
@@ -56,7 +56,7 @@ pub enum BlockEnd {
 
 /// A way out of a block: the kind of its edge, and the word to which it leads, where the text has that.
 #[derive(Clone, Copy, PartialEq, Eq, Debug, Drop)]
-pub struct Way {
+pub struct WayOut {
     pub kind: EdgeKind,
     pub to: Option<u32>,
 }

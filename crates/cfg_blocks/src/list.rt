@@ -1,13 +1,14 @@
 //! The list of blocks.
-ghost use Rattle.std.specs.Prelude.{◌≡◌, ℕ, List, ◌+◌, ◌-◌, ◌^◌, ◌<◌, ◌≤◌, ◌∷◌, ◌++◌, nat_le, length, map, option_to_list, slice_index, slice_index_or, count_by, IfOk, IfSome};
+ghost use Rattle.std.specs.Prelude.{◌≡◌, ℕ, ◌+◌, ◌-◌, ◌^◌, ◌<◌, ◌≤◌, ◌++◌, nat_le, length, map, slice_index, slice_index_or, count_by, IfOk, IfSome};
+ghost use Rattle.cfg_blocks.specs.Arrivals.{entered_in};
 ghost use Rattle.cfg_blocks.specs.Blocks.{below, block_end, end_of, holding_of, last_word, size_of};
-ghost use Rattle.cfg_blocks.specs.Code.{AreFirsts, IsAscending, IsBlockList};
+ghost use Rattle.cfg_blocks.specs.Code.{AreFirsts, IsAscending, IsBlockList, ways_in};
 ghost use Rattle.cfg_blocks.specs.Ends.{target_in};
 ghost use Rattle.cfg_blocks.specs.Entries.{entered_of, ways_from};
-ghost use Rattle.cfg_blocks.specs.Private.{block_end_in, word_ends, IsGiven};
+ghost use Rattle.cfg_blocks.specs.Private.{block_end_in, word_ends};
 ghost use Rattle.cfg_blocks.specs.Marks.{numbers, AreWords};
 
-use crate::ends::{Ways, ways_of, word_ends};
+use crate::ends::{WaysOut, ways_of, word_ends};
 use crate::entries::CutText;
 use crate::leaders::{firsts, given_words};
 use crate::{BlockEnd, Into};
@@ -114,9 +115,9 @@ impl BlockList {
     }
 
     /// The ways out of the block `b`.
-    pub fn ways(&self, b: BlockNo) -> Ways
+    pub fn ways(&self, b: BlockNo) -> WaysOut
         requires { b.0 < length self.now.blocks.firsts }
-        ensures { ways_from self.now.blocks b.0 ≡ result.0 ∷ option_to_list result.1 }
+        ensures { ways_from self.now.blocks b.0 ≡ ways_in result.0 result.1 }
     {
         ways_of(self.words, self.last(b).0, self.end(b))
     }
@@ -163,7 +164,7 @@ pub fn blocks(
 // Cuts a text into blocks, where `given` marks the words that the caller gives.
 fn cut(alloc: Global, text: &Text, given: &[bool]) -> Result<BlockList, NoMemory>
     requires { length given.now ≡ length text.now.words }
-    ensures { IfOk result (λ list. (words : List ℕ) → IsGiven text.now words given.now → list ≡ entered_of text.now words) }
+    ensures { IfOk result (λ list. list ≡ entered_in (word_ends text.now) given.now) }
 {
     let words = text.len();
     let word_ends = word_ends(alloc, text)?;

@@ -1,8 +1,8 @@
 //! The edges of a flow graph, in the order of their numbers.
-ghost use Rattle.std.specs.Prelude.{◌≡◌, ℕ, ◌+◌, ◌*◌, ◌^◌, ◌<◌, ◌≤◌, ◌==◌, ◌++◌, if◌then◌else◌, [], ◌∷◌, length, map, slice_index, option_to_list, filter, IfOk, OnOk};
+ghost use Rattle.std.specs.Prelude.{◌≡◌, ℕ, ◌+◌, ◌*◌, ◌^◌, ◌<◌, ◌≤◌, ◌==◌, ◌++◌, [], ◌∷◌, length, map, slice_index, filter, IfOk, OnOk};
 ghost use Rattle.std.specs.List.{flat_map, All};
-ghost use Rattle.cfg_blocks.specs.Blocks.{below, end_of, last_word};
-ghost use Rattle.cfg_blocks.specs.Ends.{number_of, within};
+ghost use Rattle.cfg_blocks.specs.Blocks.{below};
+ghost use Rattle.cfg_blocks.specs.Code.{way_of};
 ghost use Rattle.cfg_normal.specs.Graph.{case_of, copied_edges, directed, edge_of, edges_in, edges_of, landing_at, landings_of, node_of, runs_slot, slot_behind, slot_on, ways_out};
 ghost use Rattle.cfg_normal.specs.Private.{landed_once, number_in, seen_mark, unseen_case};
 ghost use Rattle.cfg_normal.specs.Landings.{IsNumbered};
@@ -10,33 +10,9 @@ ghost use Rattle.cfg_normal.specs.Opens.{is_copied};
 
 use crate::nodes::Nodes;
 use crate::{Edge, Node, Slot};
-use cfg_blocks::{BlockEnd, EdgeKind};
+use cfg_blocks::{ALWAYS, BlockEnd, EdgeKind, WayOut};
 use eel_base::{BlockNo, NoMemory, WordNo};
 use std::alloc::Global;
-
-/// The conditions of `bn` and `ba`.
-const NEVER: u8 = 0;
-
-const ALWAYS: u8 = 8;
-
-/// One or two edges.
-type Ways = (Edge, Option<Edge>);
-
-// A word of so many, if it is one.
-fn within(count: u32, word: u32) -> Option<u32>
-    ensures { result ≡ within count word }
-{
-    if word < count { Some(word) } else { None }
-}
-
-fn number(target: Option<WordNo>) -> Option<u32>
-    ensures { result ≡ number_of target }
-{
-    match target {
-        Some(word) => Some(word.0),
-        None => None,
-    }
-}
 
 // Whether the word that ends a block runs its slot on an edge.
 fn runs_slot(end: BlockEnd, kind: EdgeKind) -> bool
@@ -70,7 +46,7 @@ impl Nodes {
         ensures few { result ≤ 2 ^ 20 }
     {
         let last = BlockNo(self.blocks.count() - 1);
-        self.blocks.first(last).0 + self.blocks.words(last)
+        self.blocks.last(last).0 + 1
     }
 
     // The number of a node.
@@ -88,35 +64,26 @@ impl Nodes {
         }
     }
 
-    // The last word of a block.
-    fn last_of(&self, block: BlockNo) -> u32
-        requires { block.0 < length self.now.blocks.firsts }
-        ensures last { result ≡ last_word self.now.blocks.firsts self.now.blocks.words block.0 }
-        ensures within { result < self.now.blocks.words }
-    {
-        self.blocks.first(block).0 + self.blocks.words(block) - 1
-    }
-
     // The slot that is run on an edge of a block.
     fn slot_on(&self, block: BlockNo, kind: EdgeKind) -> Slot
         requires { block.0 < length self.now.blocks.firsts }
         ensures { result ≡ slot_on self.now.blocks block.0 kind }
     {
         if runs_slot(self.blocks.end(block), kind) {
-            slot_behind(self.words(), self.last_of(block))
+            slot_behind(self.words(), self.blocks.last(block).0)
         } else {
             Slot::Nothing
         }
     }
 
-    // The node to which an edge leads that goes to a word, or to none of the text.
-    fn target(&self, from: Node, kind: EdgeKind, to: Option<u32>) -> Node
-        ensures { result ≡ directed self.now.opens from kind (node_of self.now.blocks to) }
+    // The node to which a way out leads.
+    fn target(&self, from: Node, way: WayOut) -> Node
+        ensures { result ≡ directed self.now.opens from way.kind (node_of self.now.blocks way.to) }
     {
-        match to {
+        match way.to {
             Some(word) => {
                 if word < self.words() {
-                    self.directed(from, kind, self.blocks.holding(WordNo(word)))
+                    self.directed(from, way.kind, self.blocks.holding(WordNo(word)))
                 } else {
                     Node::X
                 }
@@ -126,43 +93,15 @@ impl Nodes {
     }
 
     // The edge of a way out of a block, for the block or its landed copy.
-    fn edge(&self, from: Node, block: BlockNo, kind: EdgeKind, to: Option<u32>) -> Edge
+    fn edge(&self, from: Node, block: BlockNo, way: WayOut) -> Edge
         requires { block.0 < length self.now.blocks.firsts }
-        ensures { result ≡ edge_of self.now.blocks self.now.opens from block.0 (record { kind = kind; to = to }) }
+        ensures { result ≡ edge_of self.now.blocks self.now.opens from block.0 (way_of way) }
     {
         Edge {
             from,
-            to: self.target(from, kind, to),
-            kind,
-            slot: self.slot_on(block, kind),
-        }
-    }
-
-    // The edges of the ways out of a block, for the block or its landed copy.
-    fn ways_out(&self, from: Node, block: BlockNo) -> Ways
-        requires { block.0 < length self.now.blocks.firsts }
-        ensures { ways_out self.now.blocks self.now.opens from block.0 ≡ result.0 ∷ option_to_list result.1 }
-    {
-        let words = self.words();
-        let last = self.last_of(block);
-        match self.blocks.end(block) {
-            BlockEnd::Fall => (
-                self.edge(from, block, EdgeKind::Fall, within(words, last + 1)),
-                None,
-            ),
-            BlockEnd::Call { target } => {
-                (self.edge(from, block, EdgeKind::Call, number(target)), None)
-            }
-            BlockEnd::Jump => (self.edge(from, block, EdgeKind::Out, None), None),
-            BlockEnd::Branch { cond, target, .. } => {
-                let taken = self.edge(from, block, EdgeKind::Taken, number(target));
-                let untaken = self.edge(from, block, EdgeKind::Untaken, within(words, last + 2));
-                match cond.number() {
-                    ALWAYS => (taken, None),
-                    NEVER => (untaken, None),
-                    _ => (taken, Some(untaken)),
-                }
-            }
+            to: self.target(from, way),
+            kind: way.kind,
+            slot: self.slot_on(block, way.kind),
         }
     }
 }
@@ -178,10 +117,10 @@ fn leave_by_ways(
     ensures { OnOk result (edges.new.items ≡ edges.old.items
         ++ ways_out nodes.now.blocks nodes.now.opens from block.0) }
 {
-    let (one, other) = nodes.ways_out(from, block);
-    edges.push(one)?;
-    if let Some(edge) = other {
-        edges.push(edge)?;
+    let (one, other) = nodes.blocks.ways(block);
+    edges.push(nodes.edge(from, block, one))?;
+    if let Some(way) = other {
+        edges.push(nodes.edge(from, block, way))?;
     }
     Ok(())
 }
@@ -312,17 +251,16 @@ fn leave_copies(edges: &mut Vec<Edge>, nodes: &Nodes) -> Result<(), NoMemory>
     Ok(())
 }
 
-// Adds a landing.
-fn land_at(edges: &mut Vec<Edge>, to: Node) -> Result<(), NoMemory>
-    ensures { OnOk result (edges.new.items ≡ edges.old.items ++ landing_at to ∷ []) }
+// A landing.
+fn landing(to: Node) -> Edge
+    ensures { result ≡ landing_at to }
 {
-    edges.push(Edge {
+    Edge {
         from: Node::X,
         to,
         kind: EdgeKind::Land,
         slot: Slot::Nothing,
-    })?;
-    Ok(())
+    }
 }
 
 // Adds the landings at a block and its copy.
@@ -331,10 +269,10 @@ fn land_in(edges: &mut Vec<Edge>, nodes: &Nodes, block: BlockNo) -> Result<(), N
     ensures { OnOk result (edges.new.items ≡ edges.old.items ++ map landing_at (landings_of nodes.now.opens block.0)) }
 {
     if nodes.jump_of(block).is_none() {
-        land_at(edges, Node::Block(block))?;
+        edges.push(landing(Node::Block(block)))?;
     }
     if nodes.is_copied(block) {
-        land_at(edges, Node::Landed(block))?;
+        edges.push(landing(Node::Landed(block)))?;
     }
     Ok(())
 }

@@ -40,20 +40,14 @@ pub(crate) fn lands_there(landing: Landing, word: u32) -> bool
 pub(crate) fn is_jump_block(landing: Landing) -> bool
     ensures { result ≡ is_jump_block landing }
 {
-    match landing {
-        Landing::Copied(_) => true,
-        _ => false,
-    }
+    matches!(landing, Landing::Copied(_))
 }
 
 /// Whether the block has a landed copy.
 pub(crate) fn has_copy(landing: Landing) -> bool
     ensures { result ≡ has_copy landing }
 {
-    match landing {
-        Landing::Home => false,
-        _ => true,
-    }
+    !matches!(landing, Landing::Home)
 }
 
 // With a comparison more.

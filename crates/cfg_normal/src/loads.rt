@@ -28,10 +28,7 @@ fn unload(values: &mut [Value])
 fn is_entry(value: Value) -> bool
     ensures { result ≡ is_entry value }
 {
-    match value {
-        Value::Entry(_) => true,
-        _ => false,
-    }
+    matches!(value, Value::Entry(_))
 }
 
 /// Whether the jump goes to an entry that was loaded in its block: entries are forgotten at the block's first word.

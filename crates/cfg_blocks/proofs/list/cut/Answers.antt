@@ -32,10 +32,8 @@ invariant_of-list-2 c =
     }
 
 pub returns : goal.returns
-returns c = λ words given.
-    let ends = c.in_ok-word_ends.ensures.ends in
-    rw c.len-words.ensures.count
-    (cut_is c.args.text.now words c.args.given.now _ _ _ c.len-words.ensures.text.some given
-    (rw (c.deref.ensures.value, ends) at c.in_ok-firsts.ensures.words)
-    (rw (c.deref-2.ensures.value, c.deref-3.ensures.value, ends) at c.in_ok-ends.ensures.ends)
-    (rw (c.deref-4.ensures.value, ends, c.len-words.ensures.count) at c.in_ok-list-inside.ensures))
+returns c =
+    rw (c.len-words.ensures.count, sym c.in_ok-word_ends.ensures.len, sym c.in_ok-word_ends.ensures.ends)
+    (cut_is _ _ _ _ _ (rw c.deref.ensures.value at c.in_ok-firsts.ensures.words)
+    (rw (c.deref-2.ensures.value, c.deref-3.ensures.value) at c.in_ok-ends.ensures.ends)
+    (rw (c.deref-4.ensures.value, c.len-words.ensures.count, sym c.in_ok-word_ends.ensures.len) at c.in_ok-list-inside.ensures))
