@@ -4,36 +4,27 @@ ghost use Rattle.std.specs.Prelude.{◌^◌, ◌≤◌, IfOk};
 ghost use Rattle.layout.specs.Laid.{ArePieces};
 
 use eel_base::{Addr, PieceNo, Range};
-use layout::{Item, LayoutFault, Piece, Placed, place};
+use layout::{Item, LayoutFault, Piece, place};
 use std::alloc::{AllocError, Global};
 use std::test::Fail;
 use v8_decode::Cond;
 
 const BASE: Addr = Addr(0x4000_1000);
 
-// Three words, without a Mark.
-fn three_words(alloc: Global) -> Result<Vec<Piece>, AllocError>
-    ensures { IfOk result (λ pieces. ArePieces pieces.items) }
-{
-    let items = vec![in alloc; Item::Word(1), Item::Word(2), Item::Word(3)]?;
-    let pieces = vec![in alloc; Piece { items }]?;
-    Ok(pieces)
-}
-
 #[test]
 fn three_words_lack_room(rt: HostRuntime) -> Result<(), Fail> {
-    let pieces = three_words(rt.alloc())?;
-    let Err(fault) = place(rt.alloc(), &pieces, BASE, 8) else {
-        return Err(Fail::from("a fault"));
-    };
-    assert_eq!(rt; fault, LayoutFault::Room { needed: 12, had: 8 });
+    let alloc = rt.alloc();
+    let items = vec![in alloc; Item::Word(1), Item::Word(2), Item::Word(3)]?;
+    let pieces = vec![in alloc; Piece { items }]?;
+    let fault = place(alloc, &pieces, BASE, 8).err();
+    assert_eq!(rt; fault, Some(LayoutFault::Room { needed: 12, had: 8 }));
     Ok(())
 }
 
 // A word with its Mark, a Branch and a Jump; then a Mark without words, a word and a Jump.
-fn two_pieces(alloc: Global) -> Result<Vec<Piece>, Fail>
-    ensures { IfOk result (λ pieces. ArePieces pieces.items) }
-{
+#[test]
+fn two_pieces_in_their_room(rt: HostRuntime) -> Result<(), Fail> {
+    let alloc = rt.alloc();
     let equal = Cond::new(1).ok_or("a condition")?;
     let first = vec![in alloc;
         Item::Mark {
@@ -58,15 +49,7 @@ fn two_pieces(alloc: Global) -> Result<Vec<Piece>, Fail>
         Item::Jump(PieceNo(0)),
     ]?;
     let pieces = vec![in alloc; Piece { items: first }, Piece { items: second }]?;
-    Ok(pieces)
-}
-
-#[test]
-fn two_pieces_in_their_room(rt: HostRuntime) -> Result<(), Fail> {
-    let pieces = two_pieces(rt.alloc())?;
-    let Ok(placed) = place(rt.alloc(), &pieces, BASE, 64) else {
-        return Err(Fail::from("memory"));
-    };
+    let placed = place(alloc, &pieces, BASE, 64)?;
     let code = [
         0x8200_6001,
         0x2280_0003,
@@ -88,9 +71,9 @@ fn two_pieces_in_their_room(rt: HostRuntime) -> Result<(), Fail> {
 }
 
 // A word and a Jump to the third piece, and two that jump to the second.
-fn three_jumps(alloc: Global) -> Result<Vec<Piece>, AllocError>
-    ensures { IfOk result (λ pieces. ArePieces pieces.items) }
-{
+#[test]
+fn the_target_of_a_jump_comes_next(rt: HostRuntime) -> Result<(), Fail> {
+    let alloc = rt.alloc();
     let first = vec![in alloc; Item::Word(0xa), Item::Jump(PieceNo(2))]?;
     let second = vec![in alloc; Item::Word(0xb), Item::Jump(PieceNo(1))]?;
     let third = vec![in alloc; Item::Word(0xc), Item::Jump(PieceNo(1))]?;
@@ -99,23 +82,13 @@ fn three_jumps(alloc: Global) -> Result<Vec<Piece>, AllocError>
         Piece { items: second },
         Piece { items: third },
     ]?;
-    Ok(pieces)
-}
-
-#[test]
-fn the_target_of_a_jump_comes_next(rt: HostRuntime) -> Result<(), Fail> {
-    let pieces = three_jumps(rt.alloc())?;
-    let Ok(placed) = place(rt.alloc(), &pieces, BASE, 16) else {
-        return Err(Fail::from("memory"));
-    };
+    let placed = place(alloc, &pieces, BASE, 16)?;
+    let at = [BASE, Addr(0x4000_1008), Addr(0x4000_1004)];
     assert_eq!(rt;
         placed.code.as_slice(),
         [0xa, 0xc, 0xb, 0x30bf_ffff].as_slice()
     );
-    assert_eq!(rt;
-        placed.at.as_slice(),
-        [BASE, Addr(0x4000_1008), Addr(0x4000_1004)].as_slice()
-    );
+    assert_eq!(rt; placed.at.as_slice(), at.as_slice());
     Ok(())
 }
 
@@ -140,27 +113,21 @@ fn first_and_count(alloc: Global, count: usize) -> Result<(u32, usize), Fail>
     requires few { count ≤ 2 ^ 22 }
 {
     let pieces = jump_past(alloc, count)?;
-    let Ok(placed) = place(alloc, &pieces, BASE, 0x3fff_0000) else {
-        return Err(Fail::from("memory"));
-    };
+    let placed = place(alloc, &pieces, BASE, 0x3fff_0000)?;
     let first = placed.code.first().copied().ok_or("a word")?;
     Ok((first, placed.code.len()))
 }
 
 #[test]
 fn the_longest_short_jump(rt: HostRuntime) -> Result<(), Fail> {
-    assert_eq!(rt;
-        first_and_count(rt.alloc(), 2_097_150)?,
-        (0x309f_ffff, 2_097_152)
-    );
+    let short = first_and_count(rt.alloc(), 2_097_150)?;
+    assert_eq!(rt; short, (0x309f_ffff, 2_097_152));
     Ok(())
 }
 
 #[test]
 fn the_shortest_long_jump(rt: HostRuntime) -> Result<(), Fail> {
-    assert_eq!(rt;
-        first_and_count(rt.alloc(), 2_097_151)?,
-        (0xc220_3000, 2_097_156)
-    );
+    let long = first_and_count(rt.alloc(), 2_097_151)?;
+    assert_eq!(rt; long, (0xc220_3000, 2_097_156));
     Ok(())
 }

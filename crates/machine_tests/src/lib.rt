@@ -7,6 +7,8 @@ mod addr_translate_tests;
 #[cfg(test)]
 mod layout_tests;
 #[cfg(test)]
+mod machines;
+#[cfg(test)]
 mod snippet_code_tests;
 #[cfg(test)]
 mod v8_alu_tests;

@@ -12,8 +12,16 @@ use v8_decode::AluOp::{
 };
 use v8_decode::{AluOp, Cond};
 
-// what Y holds before an operation that does not read it
+// What Y holds before an operation that doesn't read it.
 const OLD_Y: u32 = 0x1234_5678;
+
+// The codes and Y before an operation that reads neither.
+const BEFORE: (u8, u32) = (0b1111, OLD_Y);
+
+const MAX: u32 = u32::MAX;
+
+// The lowest signed number, and 2^31.
+const HIGH: u32 = 0x8000_0000;
 
 // Two operands; the value and the codes, which are N, Z, V, C from the left.
 const PLAIN: [(AluOp, u32, u32, u32, u8); 91] = [
@@ -145,200 +153,95 @@ const CARRIED: [(AluOp, u32, u32, u8, u32, u8); 24] = [
     (SUBX, 0x0000_0001, 0x0000_0000, 1, 0x0000_0000, 0b0100),
 ];
 
-// Two operands (B.18); the value, the codes and Y.
-const UNSIGNED_PRODUCTS: [(u32, u32, u32, u8, u32); 10] = [
-    (0x0000_0000, 0xffff_ffff, 0x0000_0000, 0b0100, 0x0000_0000),
-    (0x0000_0001, 0xffff_ffff, 0xffff_ffff, 0b1000, 0x0000_0000),
-    (0xffff_ffff, 0xffff_ffff, 0x0000_0001, 0b0000, 0xffff_fffe),
-    (0x8000_0000, 0x8000_0000, 0x0000_0000, 0b0100, 0x4000_0000),
-    (0x7fff_ffff, 0x7fff_ffff, 0x0000_0001, 0b0000, 0x3fff_ffff),
-    (0x8000_0000, 0x7fff_ffff, 0x8000_0000, 0b1000, 0x3fff_ffff),
-    (0x8000_0000, 0xffff_ffff, 0x8000_0000, 0b1000, 0x7fff_ffff),
-    (0x0001_0000, 0x0001_0000, 0x0000_0000, 0b0100, 0x0000_0001),
-    (0x0001_0000, 0x0000_8000, 0x8000_0000, 0b1000, 0x0000_0000),
-    (0x0000_0007, 0xffff_fffd, 0xffff_ffeb, 0b1000, 0x0000_0006),
+// Two operands (B.18); the value and the codes, and Y after UMUL and after SMUL.
+const PRODUCTS: [(u32, u32, u32, u8, u32, u32); 10] = [
+    (0, MAX, 0, 0b0100, 0, 0),
+    (1, MAX, MAX, 0b1000, 0, MAX),
+    (MAX, MAX, 1, 0b0000, MAX - 1, 0),
+    (HIGH, HIGH, 0, 0b0100, HIGH / 2, HIGH / 2),
+    (HIGH - 1, HIGH - 1, 1, 0b0000, 0x3fff_ffff, 0x3fff_ffff),
+    (HIGH, HIGH - 1, HIGH, 0b1000, 0x3fff_ffff, 0xc000_0000),
+    (HIGH, MAX, HIGH, 0b1000, HIGH - 1, 0),
+    (0x1_0000, 0x1_0000, 0, 0b0100, 1, 1),
+    (0x1_0000, 0x8000, HIGH, 0b1000, 0, 0),
+    (7, MAX - 2, MAX - 20, 0b1000, 6, MAX),
 ];
 
-// the same of signed numbers
-const SIGNED_PRODUCTS: [(u32, u32, u32, u8, u32); 10] = [
-    (0x0000_0000, 0xffff_ffff, 0x0000_0000, 0b0100, 0x0000_0000),
-    (0x0000_0001, 0xffff_ffff, 0xffff_ffff, 0b1000, 0xffff_ffff),
-    (0xffff_ffff, 0xffff_ffff, 0x0000_0001, 0b0000, 0x0000_0000),
-    (0x8000_0000, 0x8000_0000, 0x0000_0000, 0b0100, 0x4000_0000),
-    (0x7fff_ffff, 0x7fff_ffff, 0x0000_0001, 0b0000, 0x3fff_ffff),
-    (0x8000_0000, 0x7fff_ffff, 0x8000_0000, 0b1000, 0xc000_0000),
-    (0x8000_0000, 0xffff_ffff, 0x8000_0000, 0b1000, 0x0000_0000),
-    (0x0001_0000, 0x0001_0000, 0x0000_0000, 0b0100, 0x0000_0001),
-    (0x0001_0000, 0x0000_8000, 0x8000_0000, 0b1000, 0x0000_0000),
-    (0x0000_0007, 0xffff_fffd, 0xffff_ffeb, 0b1000, 0xffff_ffff),
-];
-
-// Y and two operands (B.19); the value and the codes.
-const UNSIGNED_QUOTIENTS: [(u32, u32, u32, u32, u8); 22] = [
-    (0x8000_0000, 0x0000_0000, 0xffff_ffff, 0x8000_0000, 0b1000),
-    (0x0000_0001, 0x0000_0000, 0x0000_0001, 0xffff_ffff, 0b1010),
-    (0x0000_0000, 0xffff_ffff, 0x0000_0001, 0xffff_ffff, 0b1000),
-    (0x0000_0000, 0x0000_0007, 0x0000_0002, 0x0000_0003, 0b0000),
-    (0xffff_ffff, 0xffff_fff9, 0x0000_0002, 0xffff_ffff, 0b1010),
-    (0x0000_0000, 0x0000_0007, 0xffff_fffe, 0x0000_0000, 0b0100),
-    (0xffff_ffff, 0xffff_fff9, 0xffff_fffe, 0xffff_ffff, 0b1010),
-    (0xffff_ffff, 0x8000_0000, 0x0000_0001, 0xffff_ffff, 0b1010),
-    (0xffff_ffff, 0x8000_0000, 0xffff_ffff, 0xffff_ffff, 0b1010),
-    (0x0000_0000, 0x8000_0000, 0xffff_ffff, 0x0000_0000, 0b0100),
-    (0x0000_0000, 0x7fff_ffff, 0x0000_0001, 0x7fff_ffff, 0b0000),
-    (0x0000_0000, 0x8000_0000, 0x0000_0001, 0x8000_0000, 0b1000),
-    (0xffff_ffff, 0x7fff_ffff, 0x0000_0001, 0xffff_ffff, 0b1010),
-    (0x0000_0001, 0x0000_0000, 0x8000_0000, 0x0000_0002, 0b0000),
-    (0x4000_0000, 0x0000_0000, 0x8000_0000, 0x8000_0000, 0b1000),
-    (0x3fff_ffff, 0x0000_0000, 0x8000_0000, 0x7fff_fffe, 0b0000),
-    (0x7fff_ffff, 0x0000_0000, 0x7fff_ffff, 0xffff_ffff, 0b1010),
-    (0xffff_ffff, 0xffff_ffff, 0xffff_ffff, 0xffff_ffff, 0b1010),
-    (0xffff_fffe, 0xffff_ffff, 0xffff_ffff, 0xffff_ffff, 0b1000),
-    (0x8000_0000, 0x0000_0000, 0x0000_0001, 0xffff_ffff, 0b1010),
-    (0x7fff_ffff, 0xffff_ffff, 0xffff_ffff, 0x8000_0000, 0b1000),
-    (0x0000_000f, 0x0000_0000, 0x0000_0010, 0xf000_0000, 0b1000),
-];
-
-// the same of signed numbers
-const SIGNED_QUOTIENTS: [(u32, u32, u32, u32, u8); 22] = [
-    (0x8000_0000, 0x0000_0000, 0xffff_ffff, 0x7fff_ffff, 0b0010),
-    (0x0000_0001, 0x0000_0000, 0x0000_0001, 0x7fff_ffff, 0b0010),
-    (0x0000_0000, 0xffff_ffff, 0x0000_0001, 0x7fff_ffff, 0b0010),
-    (0x0000_0000, 0x0000_0007, 0x0000_0002, 0x0000_0003, 0b0000),
-    (0xffff_ffff, 0xffff_fff9, 0x0000_0002, 0xffff_fffd, 0b1000),
-    (0x0000_0000, 0x0000_0007, 0xffff_fffe, 0xffff_fffd, 0b1000),
-    (0xffff_ffff, 0xffff_fff9, 0xffff_fffe, 0x0000_0003, 0b0000),
-    (0xffff_ffff, 0x8000_0000, 0x0000_0001, 0x8000_0000, 0b1000),
-    (0xffff_ffff, 0x8000_0000, 0xffff_ffff, 0x7fff_ffff, 0b0010),
-    (0x0000_0000, 0x8000_0000, 0xffff_ffff, 0x8000_0000, 0b1000),
-    (0x0000_0000, 0x7fff_ffff, 0x0000_0001, 0x7fff_ffff, 0b0000),
-    (0x0000_0000, 0x8000_0000, 0x0000_0001, 0x7fff_ffff, 0b0010),
-    (0xffff_ffff, 0x7fff_ffff, 0x0000_0001, 0x8000_0000, 0b1010),
-    (0x0000_0001, 0x0000_0000, 0x8000_0000, 0xffff_fffe, 0b1000),
-    (0x4000_0000, 0x0000_0000, 0x8000_0000, 0x8000_0000, 0b1000),
-    (0x3fff_ffff, 0x0000_0000, 0x8000_0000, 0x8000_0002, 0b1000),
-    (0x7fff_ffff, 0x0000_0000, 0x7fff_ffff, 0x7fff_ffff, 0b0010),
-    (0xffff_ffff, 0xffff_ffff, 0xffff_ffff, 0x0000_0001, 0b0000),
-    (0xffff_fffe, 0xffff_ffff, 0xffff_ffff, 0x7fff_ffff, 0b0010),
-    (0x8000_0000, 0x0000_0000, 0x0000_0001, 0x8000_0000, 0b1010),
-    (0x7fff_ffff, 0xffff_ffff, 0xffff_ffff, 0x8000_0000, 0b1010),
-    (0x0000_000f, 0x0000_0000, 0x0000_0010, 0x7fff_ffff, 0b0010),
+// Y and two operands (B.19); the value and the codes of UDIV, and those of SDIV.
+const QUOTIENTS: [(u32, u32, u32, u32, u8, u32, u8); 22] = [
+    (HIGH, 0, MAX, HIGH, 0b1000, HIGH - 1, 0b0010),
+    (1, 0, 1, MAX, 0b1010, HIGH - 1, 0b0010),
+    (0, MAX, 1, MAX, 0b1000, HIGH - 1, 0b0010),
+    (0, 7, 2, 3, 0b0000, 3, 0b0000),
+    (MAX, MAX - 6, 2, MAX, 0b1010, MAX - 2, 0b1000),
+    (0, 7, MAX - 1, 0, 0b0100, MAX - 2, 0b1000),
+    (MAX, MAX - 6, MAX - 1, MAX, 0b1010, 3, 0b0000),
+    (MAX, HIGH, 1, MAX, 0b1010, HIGH, 0b1000),
+    (MAX, HIGH, MAX, MAX, 0b1010, HIGH - 1, 0b0010),
+    (0, HIGH, MAX, 0, 0b0100, HIGH, 0b1000),
+    (0, HIGH - 1, 1, HIGH - 1, 0b0000, HIGH - 1, 0b0000),
+    (0, HIGH, 1, HIGH, 0b1000, HIGH - 1, 0b0010),
+    (MAX, HIGH - 1, 1, MAX, 0b1010, HIGH, 0b1010),
+    (1, 0, HIGH, 2, 0b0000, MAX - 1, 0b1000),
+    (HIGH / 2, 0, HIGH, HIGH, 0b1000, HIGH, 0b1000),
+    (0x3fff_ffff, 0, HIGH, HIGH - 2, 0b0000, HIGH + 2, 0b1000),
+    (HIGH - 1, 0, HIGH - 1, MAX, 0b1010, HIGH - 1, 0b0010),
+    (MAX, MAX, MAX, MAX, 0b1010, 1, 0b0000),
+    (MAX - 1, MAX, MAX, MAX, 0b1000, HIGH - 1, 0b0010),
+    (HIGH, 0, 1, MAX, 0b1010, HIGH, 0b1010),
+    (HIGH - 1, MAX, MAX, HIGH, 0b1000, HIGH, 0b1010),
+    (15, 0, 16, 0xf000_0000, 0b1000, HIGH - 1, 0b0010),
 ];
 
 // Two operands, codes and Y (B.17); the value, the codes and Y.
-const STEPS: [((u32, u32, u8, u32), (u32, u8, u32)); 13] = [
-    (
-        (0x0000_0003, 0x0000_0005, 0b0000, 0x0000_0001),
-        (0x0000_0006, 0b0000, 0x8000_0000),
-    ),
-    (
-        (0x0000_0003, 0x0000_0005, 0b0000, 0x0000_0002),
-        (0x0000_0001, 0b0000, 0x8000_0001),
-    ),
-    (
-        (0x0000_0003, 0x0000_0005, 0b1000, 0x0000_0001),
-        (0x8000_0006, 0b1000, 0x8000_0000),
-    ),
-    (
-        (0x0000_0003, 0x0000_0005, 0b0010, 0x0000_0001),
-        (0x8000_0006, 0b1000, 0x8000_0000),
-    ),
-    (
-        (0x0000_0003, 0x0000_0005, 0b1010, 0x0000_0001),
-        (0x0000_0006, 0b0000, 0x8000_0000),
-    ),
-    (
-        (0x0000_0003, 0x0000_0005, 0b0101, 0x0000_0001),
-        (0x0000_0006, 0b0000, 0x8000_0000),
-    ),
-    (
-        (0xffff_ffff, 0xffff_ffff, 0b1000, 0xffff_ffff),
-        (0xffff_fffe, 0b1001, 0xffff_ffff),
-    ),
-    (
-        (0xffff_ffff, 0xffff_ffff, 0b0000, 0xffff_ffff),
-        (0x7fff_fffe, 0b0001, 0xffff_ffff),
-    ),
-    (
-        (0x8000_0000, 0x8000_0000, 0b1000, 0x8000_0001),
-        (0x4000_0000, 0b0011, 0x4000_0000),
-    ),
-    (
-        (0x0000_0000, 0x0000_0000, 0b0000, 0x0000_0000),
-        (0x0000_0000, 0b0100, 0x0000_0000),
-    ),
-    (
-        (0x7fff_ffff, 0x4000_0000, 0b0010, 0x0000_0003),
-        (0xffff_ffff, 0b1000, 0x8000_0001),
-    ),
-    (
-        (0x0000_0002, 0x7fff_ffff, 0b0000, 0x0000_0001),
-        (0x8000_0000, 0b1010, 0x0000_0000),
-    ),
-    (
-        (0x0000_0002, 0xffff_ffff, 0b0000, 0x0000_0001),
-        (0x0000_0000, 0b0101, 0x0000_0000),
-    ),
+const STEPS: [(u32, u32, (u8, u32), u32, u8, u32); 13] = [
+    (3, 5, (0b0000, 1), 6, 0b0000, HIGH),
+    (3, 5, (0b0000, 2), 1, 0b0000, HIGH + 1),
+    (3, 5, (0b1000, 1), HIGH + 6, 0b1000, HIGH),
+    (3, 5, (0b0010, 1), HIGH + 6, 0b1000, HIGH),
+    (3, 5, (0b1010, 1), 6, 0b0000, HIGH),
+    (3, 5, (0b0101, 1), 6, 0b0000, HIGH),
+    (MAX, MAX, (0b1000, MAX), MAX - 1, 0b1001, MAX),
+    (MAX, MAX, (0b0000, MAX), HIGH - 2, 0b0001, MAX),
+    (HIGH, HIGH, (0b1000, HIGH + 1), HIGH / 2, 0b0011, HIGH / 2),
+    (0, 0, (0b0000, 0), 0, 0b0100, 0),
+    (HIGH - 1, HIGH / 2, (0b0010, 3), MAX, 0b1000, HIGH + 1),
+    (2, HIGH - 1, (0b0000, 1), HIGH, 0b1010, 0),
+    (2, MAX, (0b0000, 1), 0, 0b0101, 0),
 ];
 
 // Y and two operands; the trap.
 const TRAPS: [(AluOp, u32, u32, u32, AluTrap); 13] = [
-    (TADDccTV, 0x1234_5678, 0x0000_0001, 0x0000_0004, TagOverflow),
-    (TADDccTV, 0x1234_5678, 0x0000_0004, 0x0000_0002, TagOverflow),
-    (TADDccTV, 0x1234_5678, 0x0000_0003, 0x0000_0003, TagOverflow),
-    (TADDccTV, 0x1234_5678, 0x7fff_fffc, 0x0000_0004, TagOverflow),
-    (TADDccTV, 0x1234_5678, 0x8000_0000, 0x8000_0000, TagOverflow),
-    (TSUBccTV, 0x1234_5678, 0x0000_0001, 0x0000_0004, TagOverflow),
-    (TSUBccTV, 0x1234_5678, 0x0000_0004, 0x0000_0002, TagOverflow),
-    (TSUBccTV, 0x1234_5678, 0x0000_0003, 0x0000_0003, TagOverflow),
-    (TSUBccTV, 0x1234_5678, 0x8000_0000, 0x0000_0004, TagOverflow),
+    (TADDccTV, OLD_Y, 0x0000_0001, 0x0000_0004, TagOverflow),
+    (TADDccTV, OLD_Y, 0x0000_0004, 0x0000_0002, TagOverflow),
+    (TADDccTV, OLD_Y, 0x0000_0003, 0x0000_0003, TagOverflow),
+    (TADDccTV, OLD_Y, 0x7fff_fffc, 0x0000_0004, TagOverflow),
+    (TADDccTV, OLD_Y, 0x8000_0000, 0x8000_0000, TagOverflow),
+    (TSUBccTV, OLD_Y, 0x0000_0001, 0x0000_0004, TagOverflow),
+    (TSUBccTV, OLD_Y, 0x0000_0004, 0x0000_0002, TagOverflow),
+    (TSUBccTV, OLD_Y, 0x0000_0003, 0x0000_0003, TagOverflow),
+    (TSUBccTV, OLD_Y, 0x8000_0000, 0x0000_0004, TagOverflow),
     (UDIV, 0x0000_0000, 0x0000_0000, 0x0000_0000, DivZero),
     (UDIV, 0x8000_0000, 0x0000_0000, 0x0000_0000, DivZero),
     (SDIV, 0x0000_0000, 0x0000_0000, 0x0000_0000, DivZero),
     (SDIV, 0x8000_0000, 0x0000_0000, 0x0000_0000, DivZero),
 ];
 
-// Two operands (B.12); the value.
-const SHIFTS: [(AluOp, u32, u32, u32); 39] = [
-    (SLL, 0x8765_4321, 0x0000_0000, 0x8765_4321),
-    (SLL, 0x8765_4321, 0x0000_0001, 0x0eca_8642),
-    (SLL, 0x8765_4321, 0x0000_001f, 0x8000_0000),
-    (SLL, 0x8765_4321, 0x0000_0020, 0x8765_4321),
-    (SLL, 0x8765_4321, 0x0000_0021, 0x0eca_8642),
-    (SLL, 0x8765_4321, 0x0000_003f, 0x8000_0000),
-    (SLL, 0x8765_4321, 0xffff_ffff, 0x8000_0000),
-    (SLL, 0x8765_4321, 0x8000_0000, 0x8765_4321),
-    (SLL, 0x7fff_ffff, 0x0000_001f, 0x8000_0000),
-    (SLL, 0x7fff_ffff, 0x0000_0004, 0xffff_fff0),
-    (SLL, 0x8000_0000, 0x0000_0004, 0x0000_0000),
-    (SLL, 0xffff_ffff, 0x0000_0010, 0xffff_0000),
-    (SLL, 0x0000_0000, 0x0000_001f, 0x0000_0000),
-    (SRL, 0x8765_4321, 0x0000_0000, 0x8765_4321),
-    (SRL, 0x8765_4321, 0x0000_0001, 0x43b2_a190),
-    (SRL, 0x8765_4321, 0x0000_001f, 0x0000_0001),
-    (SRL, 0x8765_4321, 0x0000_0020, 0x8765_4321),
-    (SRL, 0x8765_4321, 0x0000_0021, 0x43b2_a190),
-    (SRL, 0x8765_4321, 0x0000_003f, 0x0000_0001),
-    (SRL, 0x8765_4321, 0xffff_ffff, 0x0000_0001),
-    (SRL, 0x8765_4321, 0x8000_0000, 0x8765_4321),
-    (SRL, 0x7fff_ffff, 0x0000_001f, 0x0000_0000),
-    (SRL, 0x7fff_ffff, 0x0000_0004, 0x07ff_ffff),
-    (SRL, 0x8000_0000, 0x0000_0004, 0x0800_0000),
-    (SRL, 0xffff_ffff, 0x0000_0010, 0x0000_ffff),
-    (SRL, 0x0000_0000, 0x0000_001f, 0x0000_0000),
-    (SRA, 0x8765_4321, 0x0000_0000, 0x8765_4321),
-    (SRA, 0x8765_4321, 0x0000_0001, 0xc3b2_a190),
-    (SRA, 0x8765_4321, 0x0000_001f, 0xffff_ffff),
-    (SRA, 0x8765_4321, 0x0000_0020, 0x8765_4321),
-    (SRA, 0x8765_4321, 0x0000_0021, 0xc3b2_a190),
-    (SRA, 0x8765_4321, 0x0000_003f, 0xffff_ffff),
-    (SRA, 0x8765_4321, 0xffff_ffff, 0xffff_ffff),
-    (SRA, 0x8765_4321, 0x8000_0000, 0x8765_4321),
-    (SRA, 0x7fff_ffff, 0x0000_001f, 0x0000_0000),
-    (SRA, 0x7fff_ffff, 0x0000_0004, 0x07ff_ffff),
-    (SRA, 0x8000_0000, 0x0000_0004, 0xf800_0000),
-    (SRA, 0xffff_ffff, 0x0000_0010, 0xffff_ffff),
-    (SRA, 0x0000_0000, 0x0000_001f, 0x0000_0000),
+// Two operands (B.12); the values of SLL, SRL and SRA.
+const SHIFTS: [(u32, u32, u32, u32, u32); 13] = [
+    (0x8765_4321, 0, 0x8765_4321, 0x8765_4321, 0x8765_4321),
+    (0x8765_4321, 1, 0x0eca_8642, 0x43b2_a190, 0xc3b2_a190),
+    (0x8765_4321, 31, HIGH, 1, MAX),
+    (0x8765_4321, 32, 0x8765_4321, 0x8765_4321, 0x8765_4321),
+    (0x8765_4321, 33, 0x0eca_8642, 0x43b2_a190, 0xc3b2_a190),
+    (0x8765_4321, 63, HIGH, 1, MAX),
+    (0x8765_4321, MAX, HIGH, 1, MAX),
+    (0x8765_4321, HIGH, 0x8765_4321, 0x8765_4321, 0x8765_4321),
+    (HIGH - 1, 31, HIGH, 0, 0),
+    (HIGH - 1, 4, MAX - 15, 0x07ff_ffff, 0x07ff_ffff),
+    (HIGH, 4, 0, 0x0800_0000, 0xf800_0000),
+    (MAX, 16, 0xffff_0000, 0xffff, MAX),
+    (0, 31, 0, 0, 0),
 ];
 
 // A condition (B.21), and the codes at which it holds: bit n for the codes that are n in binary.
@@ -371,12 +274,12 @@ fn codes_from(bits: u8) -> Codes {
     }
 }
 
-fn out(value: u32, codes: u8, y: u32) -> AluOut {
-    AluOut {
+fn out(value: u32, codes: u8, y: u32) -> Result<AluOut, AluTrap> {
+    Ok(AluOut {
         value,
         codes: codes_from(codes),
         y,
-    }
+    })
 }
 
 // Whether an instruction word can have the operation with this cc.
@@ -394,8 +297,7 @@ fn is_form(op: AluOp, cc: bool) -> bool
 // One call, at the codes and Y before it.
 fn expect(
     rt: &impl Abort,
-    (op, cc): (AluOp, bool),
-    (a, b): (u32, u32),
+    (op, cc, a, b): (AluOp, bool, u32, u32),
     (before, y): (u8, u32),
     wanted: Result<AluOut, AluTrap>,
 ) {
@@ -411,22 +313,10 @@ fn expect(
 #[test]
 fn values_and_codes(rt: HostRuntime) {
     for (op, a, b, value, after) in PLAIN {
-        expect(
-            &rt,
-            (op, true),
-            (a, b),
-            (0b1111, OLD_Y),
-            Ok(out(value, after, OLD_Y)),
-        );
+        expect(&rt, (op, true, a, b), BEFORE, out(value, after, OLD_Y));
     }
-    for (op, a, b, carry, value, after) in CARRIED {
-        expect(
-            &rt,
-            (op, true),
-            (a, b),
-            (carry, OLD_Y),
-            Ok(out(value, after, OLD_Y)),
-        );
+    for (op, a, b, c, value, after) in CARRIED {
+        expect(&rt, (op, true, a, b), (c, OLD_Y), out(value, after, OLD_Y));
     }
 }
 
@@ -434,75 +324,38 @@ fn values_and_codes(rt: HostRuntime) {
 fn kept_codes(rt: HostRuntime) {
     for (op, a, b, value, _) in PLAIN {
         if is_form(op, false) {
-            expect(
-                &rt,
-                (op, false),
-                (a, b),
-                (0b1111, OLD_Y),
-                Ok(out(value, 0b1111, OLD_Y)),
-            );
+            expect(&rt, (op, false, a, b), BEFORE, out(value, 0b1111, OLD_Y));
         }
     }
-    for (op, a, b, value) in SHIFTS {
-        expect(
-            &rt,
-            (op, false),
-            (a, b),
-            (0b1010, OLD_Y),
-            Ok(out(value, 0b1010, OLD_Y)),
-        );
+    let before = (0b1010, OLD_Y);
+    for (a, b, left, right, signed) in SHIFTS {
+        expect(&rt, (SLL, false, a, b), before, out(left, 0b1010, OLD_Y));
+        expect(&rt, (SRL, false, a, b), before, out(right, 0b1010, OLD_Y));
+        expect(&rt, (SRA, false, a, b), before, out(signed, 0b1010, OLD_Y));
     }
 }
 
 #[test]
 fn products_and_steps(rt: HostRuntime) {
-    for (a, b, value, after, y) in UNSIGNED_PRODUCTS {
-        expect(
-            &rt,
-            (UMUL, true),
-            (a, b),
-            (0b1111, OLD_Y),
-            Ok(out(value, after, y)),
-        );
+    for (a, b, value, after, unsigned, signed) in PRODUCTS {
+        expect(&rt, (UMUL, true, a, b), BEFORE, out(value, after, unsigned));
+        expect(&rt, (SMUL, true, a, b), BEFORE, out(value, after, signed));
     }
-    for (a, b, value, after, y) in SIGNED_PRODUCTS {
-        expect(
-            &rt,
-            (SMUL, true),
-            (a, b),
-            (0b1111, OLD_Y),
-            Ok(out(value, after, y)),
-        );
-    }
-    for ((a, b, before, y), (value, after, y_after)) in STEPS {
-        expect(
-            &rt,
-            (MULScc, true),
-            (a, b),
-            (before, y),
-            Ok(out(value, after, y_after)),
-        );
+    for (a, b, before, value, after, y) in STEPS {
+        expect(&rt, (MULScc, true, a, b), before, out(value, after, y));
     }
 }
 
 #[test]
 fn quotients(rt: HostRuntime) {
-    for (y, a, b, value, after) in UNSIGNED_QUOTIENTS {
+    for (y, a, b, unsigned, after, signed, after_signed) in QUOTIENTS {
+        let before = (0b1111, y);
+        expect(&rt, (UDIV, true, a, b), before, out(unsigned, after, y));
         expect(
             &rt,
-            (UDIV, true),
-            (a, b),
-            (0b1111, y),
-            Ok(out(value, after, y)),
-        );
-    }
-    for (y, a, b, value, after) in SIGNED_QUOTIENTS {
-        expect(
-            &rt,
-            (SDIV, true),
-            (a, b),
-            (0b1111, y),
-            Ok(out(value, after, y)),
+            (SDIV, true, a, b),
+            before,
+            out(signed, after_signed, y),
         );
     }
 }
@@ -510,7 +363,7 @@ fn quotients(rt: HostRuntime) {
 #[test]
 fn traps(rt: HostRuntime) {
     for (op, y, a, b, trap) in TRAPS {
-        expect(&rt, (op, true), (a, b), (0, y), Err(trap));
+        expect(&rt, (op, true, a, b), (0, y), Err(trap));
     }
 }
 

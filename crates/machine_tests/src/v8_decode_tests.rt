@@ -3,278 +3,96 @@
 use std::test::Fail;
 use v8_decode::decode;
 
-const WORDS: [(u32, &str); 81] = [
+// A word in hexadecimal digits, and its instruction.
+const WORDS: [&str; 81] = [
     // a program that counts the newlines of its input
-    (
-        0x1120_0004,
-        "Sethi { rd: Reg { number: 8 }, imm22: 2097156 }",
-    ),
-    (
-        0x8210_2011,
-        "Alu { op: OR, cc: false, rd: Reg { number: 1 }, rs1: Reg { number: 0 }, op2: Imm(17) }",
-    ),
-    (
-        0x91d0_2010,
-        "Ticc { cond: Cond { number: 8 }, rs1: Reg { number: 0 }, op2: Imm(16) }",
-    ),
-    (
-        0xa010_2000,
-        "Alu { op: OR, cc: false, rd: Reg { number: 16 }, rs1: Reg { number: 0 }, op2: Imm(0) }",
-    ),
-    (
-        0x9010_2000,
-        "Alu { op: OR, cc: false, rd: Reg { number: 8 }, rs1: Reg { number: 0 }, op2: Imm(0) }",
-    ),
-    (
-        0x1320_0000,
-        "Sethi { rd: Reg { number: 9 }, imm22: 2097152 }",
-    ),
-    (0x1500_0004, "Sethi { rd: Reg { number: 10 }, imm22: 4 }"),
-    (
-        0x8210_2003,
-        "Alu { op: OR, cc: false, rd: Reg { number: 1 }, rs1: Reg { number: 0 }, op2: Imm(3) }",
-    ),
-    (
-        0x80a2_2000,
-        "Alu { op: SUB, cc: true, rd: Reg { number: 0 }, rs1: Reg { number: 8 }, op2: Imm(0) }",
-    ),
-    (
-        0x0280_000c,
-        "Branch { cond: Cond { number: 1 }, annul: false, disp22: 12 }",
-    ),
-    (
-        0xd40a_6000,
-        "Load { kind: LDUB, rd: Reg { number: 10 }, rs1: Reg { number: 9 }, op2: Imm(0) }",
-    ),
-    (
-        0x80a2_a00a,
-        "Alu { op: SUB, cc: true, rd: Reg { number: 0 }, rs1: Reg { number: 10 }, op2: Imm(10) }",
-    ),
-    (
-        0x1280_0003,
-        "Branch { cond: Cond { number: 9 }, annul: false, disp22: 3 }",
-    ),
-    (
-        0x9202_6001,
-        "Alu { op: ADD, cc: false, rd: Reg { number: 9 }, rs1: Reg { number: 9 }, op2: Imm(1) }",
-    ),
-    (
-        0xa004_2001,
-        "Alu { op: ADD, cc: false, rd: Reg { number: 16 }, rs1: Reg { number: 16 }, op2: Imm(1) }",
-    ),
-    (
-        0x90a2_2001,
-        "Alu { op: SUB, cc: true, rd: Reg { number: 8 }, rs1: Reg { number: 8 }, op2: Imm(1) }",
-    ),
-    (
-        0x12bf_fffa,
-        "Branch { cond: Cond { number: 9 }, annul: false, disp22: -6 }",
-    ),
-    (0x0100_0000, "Sethi { rd: Reg { number: 0 }, imm22: 0 }"),
-    (
-        0x10bf_fff0,
-        "Branch { cond: Cond { number: 8 }, annul: false, disp22: -16 }",
-    ),
-    (0x4000_0005, "Call { disp30: 5 }"),
-    (
-        0x9010_0010,
-        "Alu { op: OR, cc: false, rd: Reg { number: 8 }, rs1: Reg { number: 0 }, op2: Reg(Reg { number: 16 }) }",
-    ),
-    (
-        0x8210_2001,
-        "Alu { op: OR, cc: false, rd: Reg { number: 1 }, rs1: Reg { number: 0 }, op2: Imm(1) }",
-    ),
-    (
-        0x9de3_bf98,
-        "Save { rd: Reg { number: 14 }, rs1: Reg { number: 14 }, op2: Imm(-104) }",
-    ),
-    (
-        0x80a6_200a,
-        "Alu { op: SUB, cc: true, rd: Reg { number: 0 }, rs1: Reg { number: 24 }, op2: Imm(10) }",
-    ),
-    (
-        0x0a80_0007,
-        "Branch { cond: Cond { number: 5 }, annul: false, disp22: 7 }",
-    ),
-    (
-        0x8180_0000,
-        "WriteY { rs1: Reg { number: 0 }, op2: Reg(Reg { number: 0 }) }",
-    ),
-    (
-        0x9076_200a,
-        "Alu { op: UDIV, cc: false, rd: Reg { number: 8 }, rs1: Reg { number: 24 }, op2: Imm(10) }",
-    ),
-    (0x7fff_fffb, "Call { disp30: -5 }"),
-    (
-        0xa210_0008,
-        "Alu { op: OR, cc: false, rd: Reg { number: 17 }, rs1: Reg { number: 0 }, op2: Reg(Reg { number: 8 }) }",
-    ),
-    (
-        0xa25c_600a,
-        "Alu { op: SMUL, cc: false, rd: Reg { number: 17 }, rs1: Reg { number: 17 }, op2: Imm(10) }",
-    ),
-    (
-        0xb026_0011,
-        "Alu { op: SUB, cc: false, rd: Reg { number: 24 }, rs1: Reg { number: 24 }, op2: Reg(Reg { number: 17 }) }",
-    ),
-    (
-        0xb006_2030,
-        "Alu { op: ADD, cc: false, rd: Reg { number: 24 }, rs1: Reg { number: 24 }, op2: Imm(48) }",
-    ),
-    (
-        0xf02f_bfff,
-        "Store { kind: STB, rd: Reg { number: 24 }, rs1: Reg { number: 30 }, op2: Imm(-1) }",
-    ),
-    (
-        0x9010_2001,
-        "Alu { op: OR, cc: false, rd: Reg { number: 8 }, rs1: Reg { number: 0 }, op2: Imm(1) }",
-    ),
-    (
-        0x9207_bfff,
-        "Alu { op: ADD, cc: false, rd: Reg { number: 9 }, rs1: Reg { number: 30 }, op2: Imm(-1) }",
-    ),
-    (
-        0x9410_2001,
-        "Alu { op: OR, cc: false, rd: Reg { number: 10 }, rs1: Reg { number: 0 }, op2: Imm(1) }",
-    ),
-    (
-        0x8210_2004,
-        "Alu { op: OR, cc: false, rd: Reg { number: 1 }, rs1: Reg { number: 0 }, op2: Imm(4) }",
-    ),
-    (
-        0x81c7_e008,
-        "Jmpl { rd: Reg { number: 0 }, rs1: Reg { number: 31 }, op2: Imm(8) }",
-    ),
-    (
-        0x81e8_0000,
-        "Restore { rd: Reg { number: 0 }, rs1: Reg { number: 0 }, op2: Reg(Reg { number: 0 }) }",
-    ),
+    "11200004 Sethi { rd: Reg { number: 8 }, imm22: 2097156 }",
+    "82102011 Alu { op: OR, cc: false, rd: Reg { number: 1 }, rs1: Reg { number: 0 }, op2: Imm(17) }",
+    "91d02010 Ticc { cond: Cond { number: 8 }, rs1: Reg { number: 0 }, op2: Imm(16) }",
+    "a0102000 Alu { op: OR, cc: false, rd: Reg { number: 16 }, rs1: Reg { number: 0 }, op2: Imm(0) }",
+    "90102000 Alu { op: OR, cc: false, rd: Reg { number: 8 }, rs1: Reg { number: 0 }, op2: Imm(0) }",
+    "13200000 Sethi { rd: Reg { number: 9 }, imm22: 2097152 }",
+    "15000004 Sethi { rd: Reg { number: 10 }, imm22: 4 }",
+    "82102003 Alu { op: OR, cc: false, rd: Reg { number: 1 }, rs1: Reg { number: 0 }, op2: Imm(3) }",
+    "80a22000 Alu { op: SUB, cc: true, rd: Reg { number: 0 }, rs1: Reg { number: 8 }, op2: Imm(0) }",
+    "0280000c Branch { cond: Cond { number: 1 }, annul: false, disp22: 12 }",
+    "d40a6000 Load { kind: LDUB, rd: Reg { number: 10 }, rs1: Reg { number: 9 }, op2: Imm(0) }",
+    "80a2a00a Alu { op: SUB, cc: true, rd: Reg { number: 0 }, rs1: Reg { number: 10 }, op2: Imm(10) }",
+    "12800003 Branch { cond: Cond { number: 9 }, annul: false, disp22: 3 }",
+    "92026001 Alu { op: ADD, cc: false, rd: Reg { number: 9 }, rs1: Reg { number: 9 }, op2: Imm(1) }",
+    "a0042001 Alu { op: ADD, cc: false, rd: Reg { number: 16 }, rs1: Reg { number: 16 }, op2: Imm(1) }",
+    "90a22001 Alu { op: SUB, cc: true, rd: Reg { number: 8 }, rs1: Reg { number: 8 }, op2: Imm(1) }",
+    "12bffffa Branch { cond: Cond { number: 9 }, annul: false, disp22: -6 }",
+    "01000000 Sethi { rd: Reg { number: 0 }, imm22: 0 }",
+    "10bffff0 Branch { cond: Cond { number: 8 }, annul: false, disp22: -16 }",
+    "40000005 Call { disp30: 5 }",
+    "90100010 Alu { op: OR, cc: false, rd: Reg { number: 8 }, rs1: Reg { number: 0 }, op2: Reg(Reg { number: 16 }) }",
+    "82102001 Alu { op: OR, cc: false, rd: Reg { number: 1 }, rs1: Reg { number: 0 }, op2: Imm(1) }",
+    "9de3bf98 Save { rd: Reg { number: 14 }, rs1: Reg { number: 14 }, op2: Imm(-104) }",
+    "80a6200a Alu { op: SUB, cc: true, rd: Reg { number: 0 }, rs1: Reg { number: 24 }, op2: Imm(10) }",
+    "0a800007 Branch { cond: Cond { number: 5 }, annul: false, disp22: 7 }",
+    "81800000 WriteY { rs1: Reg { number: 0 }, op2: Reg(Reg { number: 0 }) }",
+    "9076200a Alu { op: UDIV, cc: false, rd: Reg { number: 8 }, rs1: Reg { number: 24 }, op2: Imm(10) }",
+    "7ffffffb Call { disp30: -5 }",
+    "a2100008 Alu { op: OR, cc: false, rd: Reg { number: 17 }, rs1: Reg { number: 0 }, op2: Reg(Reg { number: 8 }) }",
+    "a25c600a Alu { op: SMUL, cc: false, rd: Reg { number: 17 }, rs1: Reg { number: 17 }, op2: Imm(10) }",
+    "b0260011 Alu { op: SUB, cc: false, rd: Reg { number: 24 }, rs1: Reg { number: 24 }, op2: Reg(Reg { number: 17 }) }",
+    "b0062030 Alu { op: ADD, cc: false, rd: Reg { number: 24 }, rs1: Reg { number: 24 }, op2: Imm(48) }",
+    "f02fbfff Store { kind: STB, rd: Reg { number: 24 }, rs1: Reg { number: 30 }, op2: Imm(-1) }",
+    "90102001 Alu { op: OR, cc: false, rd: Reg { number: 8 }, rs1: Reg { number: 0 }, op2: Imm(1) }",
+    "9207bfff Alu { op: ADD, cc: false, rd: Reg { number: 9 }, rs1: Reg { number: 30 }, op2: Imm(-1) }",
+    "94102001 Alu { op: OR, cc: false, rd: Reg { number: 10 }, rs1: Reg { number: 0 }, op2: Imm(1) }",
+    "82102004 Alu { op: OR, cc: false, rd: Reg { number: 1 }, rs1: Reg { number: 0 }, op2: Imm(4) }",
+    "81c7e008 Jmpl { rd: Reg { number: 0 }, rs1: Reg { number: 31 }, op2: Imm(8) }",
+    "81e80000 Restore { rd: Reg { number: 0 }, rs1: Reg { number: 0 }, op2: Reg(Reg { number: 0 }) }",
     // words of other programs
-    (
-        0x80a0_2000,
-        "Alu { op: SUB, cc: true, rd: Reg { number: 0 }, rs1: Reg { number: 0 }, op2: Imm(0) }",
-    ),
-    (
-        0x0280_0004,
-        "Branch { cond: Cond { number: 1 }, annul: false, disp22: 4 }",
-    ),
-    (
-        0x1080_0003,
-        "Branch { cond: Cond { number: 8 }, annul: false, disp22: 3 }",
-    ),
-    (
-        0x2280_0003,
-        "Branch { cond: Cond { number: 1 }, annul: true, disp22: 3 }",
-    ),
-    (
-        0x2080_0002,
-        "Branch { cond: Cond { number: 0 }, annul: true, disp22: 2 }",
-    ),
-    (
-        0x3080_0002,
-        "Branch { cond: Cond { number: 8 }, annul: true, disp22: 2 }",
-    ),
-    (
-        0x81c3_e008,
-        "Jmpl { rd: Reg { number: 0 }, rs1: Reg { number: 15 }, op2: Imm(8) }",
-    ),
-    (
-        0x900b_e0ff,
-        "Alu { op: AND, cc: false, rd: Reg { number: 8 }, rs1: Reg { number: 15 }, op2: Imm(255) }",
-    ),
-    (
-        0x9042_2000,
-        "Alu { op: ADDX, cc: false, rd: Reg { number: 8 }, rs1: Reg { number: 8 }, op2: Imm(0) }",
-    ),
-    (
-        0x8480_bfff,
-        "Alu { op: ADD, cc: true, rd: Reg { number: 2 }, rs1: Reg { number: 2 }, op2: Imm(-1) }",
-    ),
-    (
-        0x12bf_fffe,
-        "Branch { cond: Cond { number: 9 }, annul: false, disp22: -2 }",
-    ),
-    (
-        0x8610_000e,
-        "Alu { op: OR, cc: false, rd: Reg { number: 3 }, rs1: Reg { number: 0 }, op2: Reg(Reg { number: 14 }) }",
-    ),
-    (
-        0x91d0_2003,
-        "Ticc { cond: Cond { number: 8 }, rs1: Reg { number: 0 }, op2: Imm(3) }",
-    ),
-    (
-        0xc427_a000,
-        "Store { kind: ST, rd: Reg { number: 2 }, rs1: Reg { number: 30 }, op2: Imm(0) }",
-    ),
-    (
-        0x81c0_6000,
-        "Jmpl { rd: Reg { number: 0 }, rs1: Reg { number: 1 }, op2: Imm(0) }",
-    ),
-    (
-        0xc223_a040,
-        "Store { kind: ST, rd: Reg { number: 1 }, rs1: Reg { number: 14 }, op2: Imm(64) }",
-    ),
-    (
-        0x1880_000c,
-        "Branch { cond: Cond { number: 12 }, annul: false, disp22: 12 }",
-    ),
-    (
-        0x912a_2002,
-        "Alu { op: SLL, cc: false, rd: Reg { number: 8 }, rs1: Reg { number: 8 }, op2: Imm(2) }",
-    ),
-    (
-        0x8210_6078,
-        "Alu { op: OR, cc: false, rd: Reg { number: 1 }, rs1: Reg { number: 1 }, op2: Imm(120) }",
-    ),
-    (
-        0xc200_4008,
-        "Load { kind: LD, rd: Reg { number: 1 }, rs1: Reg { number: 1 }, op2: Reg(Reg { number: 8 }) }",
-    ),
-    (
-        0x81c0_4000,
-        "Jmpl { rd: Reg { number: 0 }, rs1: Reg { number: 1 }, op2: Reg(Reg { number: 0 }) }",
-    ),
-    (0x0001_008c, "Illegal"),
+    "80a02000 Alu { op: SUB, cc: true, rd: Reg { number: 0 }, rs1: Reg { number: 0 }, op2: Imm(0) }",
+    "02800004 Branch { cond: Cond { number: 1 }, annul: false, disp22: 4 }",
+    "10800003 Branch { cond: Cond { number: 8 }, annul: false, disp22: 3 }",
+    "22800003 Branch { cond: Cond { number: 1 }, annul: true, disp22: 3 }",
+    "20800002 Branch { cond: Cond { number: 0 }, annul: true, disp22: 2 }",
+    "30800002 Branch { cond: Cond { number: 8 }, annul: true, disp22: 2 }",
+    "81c3e008 Jmpl { rd: Reg { number: 0 }, rs1: Reg { number: 15 }, op2: Imm(8) }",
+    "900be0ff Alu { op: AND, cc: false, rd: Reg { number: 8 }, rs1: Reg { number: 15 }, op2: Imm(255) }",
+    "90422000 Alu { op: ADDX, cc: false, rd: Reg { number: 8 }, rs1: Reg { number: 8 }, op2: Imm(0) }",
+    "8480bfff Alu { op: ADD, cc: true, rd: Reg { number: 2 }, rs1: Reg { number: 2 }, op2: Imm(-1) }",
+    "12bffffe Branch { cond: Cond { number: 9 }, annul: false, disp22: -2 }",
+    "8610000e Alu { op: OR, cc: false, rd: Reg { number: 3 }, rs1: Reg { number: 0 }, op2: Reg(Reg { number: 14 }) }",
+    "91d02003 Ticc { cond: Cond { number: 8 }, rs1: Reg { number: 0 }, op2: Imm(3) }",
+    "c427a000 Store { kind: ST, rd: Reg { number: 2 }, rs1: Reg { number: 30 }, op2: Imm(0) }",
+    "81c06000 Jmpl { rd: Reg { number: 0 }, rs1: Reg { number: 1 }, op2: Imm(0) }",
+    "c223a040 Store { kind: ST, rd: Reg { number: 1 }, rs1: Reg { number: 14 }, op2: Imm(64) }",
+    "1880000c Branch { cond: Cond { number: 12 }, annul: false, disp22: 12 }",
+    "912a2002 Alu { op: SLL, cc: false, rd: Reg { number: 8 }, rs1: Reg { number: 8 }, op2: Imm(2) }",
+    "82106078 Alu { op: OR, cc: false, rd: Reg { number: 1 }, rs1: Reg { number: 1 }, op2: Imm(120) }",
+    "c2004008 Load { kind: LD, rd: Reg { number: 1 }, rs1: Reg { number: 1 }, op2: Reg(Reg { number: 8 }) }",
+    "81c04000 Jmpl { rd: Reg { number: 0 }, rs1: Reg { number: 1 }, op2: Reg(Reg { number: 0 }) }",
+    "0001008c Illegal",
     // op2 of format 2: UNIMP, three without an instruction, FBfcc, CBccc
-    (0x0000_0000, "Illegal"),
-    (0x0040_0000, "Illegal"),
-    (0x00c0_0000, "Illegal"),
-    (0x0140_0000, "Illegal"),
-    (0x0180_0000, "FpOff"),
-    (0x01c0_0000, "CpOff"),
+    "00000000 Illegal",
+    "00400000 Illegal",
+    "00c00000 Illegal",
+    "01400000 Illegal",
+    "01800000 FpOff",
+    "01c00000 CpOff",
     // rd, %y; stbar; rd %asr1; wr to %asr1
-    (0x8540_0000, "ReadY { rd: Reg { number: 2 } }"),
-    (0x8143_c000, "Stbar"),
-    (0x8540_4000, "Illegal"),
-    (0x8380_0000, "Illegal"),
+    "85400000 ReadY { rd: Reg { number: 2 } }",
+    "8143c000 Stbar",
+    "85404000 Illegal",
+    "83800000 Illegal",
     // ldd and std at odd registers
-    (0xc618_c004, "Illegal"),
-    (0xc638_c004, "Illegal"),
+    "c618c004 Illegal",
+    "c638c004 Illegal",
     // the most negative fields
-    (
-        0x10a0_0000,
-        "Branch { cond: Cond { number: 8 }, annul: false, disp22: -2097152 }",
-    ),
-    (0x6000_0000, "Call { disp30: -536870912 }"),
-    (
-        0x8400_f000,
-        "Alu { op: ADD, cc: false, rd: Reg { number: 2 }, rs1: Reg { number: 3 }, op2: Imm(-4096) }",
-    ),
+    "10a00000 Branch { cond: Cond { number: 8 }, annul: false, disp22: -2097152 }",
+    "60000000 Call { disp30: -536870912 }",
+    "8400f000 Alu { op: ADD, cc: false, rd: Reg { number: 2 }, rs1: Reg { number: 3 }, op2: Imm(-4096) }",
     // bits 12 to 5 where i is 0, bit 29 of ta, bits 13 to 0 of rd %y and stbar, rd of flush
-    (
-        0x8400_dfe4,
-        "Alu { op: ADD, cc: false, rd: Reg { number: 2 }, rs1: Reg { number: 3 }, op2: Reg(Reg { number: 4 }) }",
-    ),
-    (
-        0xb1d0_2010,
-        "Ticc { cond: Cond { number: 8 }, rs1: Reg { number: 0 }, op2: Imm(16) }",
-    ),
-    (0x8540_3fff, "ReadY { rd: Reg { number: 2 } }"),
-    (0x8143_ffff, "Stbar"),
-    (
-        0xbfd8_c004,
-        "Flush { rs1: Reg { number: 3 }, op2: Reg(Reg { number: 4 }) }",
-    ),
+    "8400dfe4 Alu { op: ADD, cc: false, rd: Reg { number: 2 }, rs1: Reg { number: 3 }, op2: Reg(Reg { number: 4 }) }",
+    "b1d02010 Ticc { cond: Cond { number: 8 }, rs1: Reg { number: 0 }, op2: Imm(16) }",
+    "85403fff ReadY { rd: Reg { number: 2 } }",
+    "8143ffff Stbar",
+    "bfd8c004 Flush { rs1: Reg { number: 3 }, op2: Reg(Reg { number: 4 }) }",
 ];
 
 // how the instructions of table F-3 begin, by op3, with rd %g2, rs1 %g3 and rs2 %g4
@@ -421,7 +239,9 @@ const MEMORY: [(u32, &str); 64] = [
 
 #[test]
 fn decodes_words(rt: HostRuntime) -> Result<(), Fail> {
-    for (word, instr) in WORDS {
+    for row in WORDS {
+        let (digits, instr) = row.split_once(' ').ok_or("a word and more")?;
+        let word = u32::from_str_radix(digits, 16)?;
         let text = format!(in rt.alloc(); "{:?}", decode(word))?;
         assert_eq!(rt; text.as_str(), instr, "at {word:08x}");
     }
@@ -430,15 +250,12 @@ fn decodes_words(rt: HostRuntime) -> Result<(), Fail> {
 
 #[test]
 fn decodes_each_op3(rt: HostRuntime) -> Result<(), Fail> {
-    for (op3, start) in ARITHMETIC {
-        let word = 0x8400_c004 | op3 << 19;
-        let text = format!(in rt.alloc(); "{:?}", decode(word))?;
-        assert!(rt; text.starts_with(start), "{text} at {word:08x}");
-    }
-    for (op3, start) in MEMORY {
-        let word = 0xc400_c004 | op3 << 19;
-        let text = format!(in rt.alloc(); "{:?}", decode(word))?;
-        assert!(rt; text.starts_with(start), "{text} at {word:08x}");
+    for (first, table) in [(0x8400_c004, ARITHMETIC), (0xc400_c004, MEMORY)] {
+        for (op3, start) in table {
+            let word = first | op3 << 19;
+            let text = format!(in rt.alloc(); "{:?}", decode(word))?;
+            assert!(rt; text.starts_with(start), "{text} at {word:08x}");
+        }
     }
     Ok(())
 }

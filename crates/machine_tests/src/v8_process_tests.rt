@@ -1,7 +1,7 @@
 //! A machine that is about to start, with its arguments on the stack, word for word, as worked out by hand.
+use crate::machines::register;
 use eel_base::Addr;
 use std::test::Fail;
-use v8_decode::Reg;
 use v8_process::load;
 
 /// `mov 1,%g1`, `mov 3,%o0`, `ta 16`, after the headers of a program.
@@ -15,11 +15,9 @@ const STACK: &[u8] =
 #[test]
 fn a_program_starts_with_its_arguments(rt: HostRuntime) -> Result<(), Fail> {
     let alloc = rt.alloc();
-    let started = load(alloc, &THREE_WORDS, &["a", "bc"], Vec::new(alloc));
-    let machine = started.map_err(|_| Fail::from("load"))?;
-    let sp = Reg::new(14).ok_or("a register")?;
+    let machine = load(alloc, &THREE_WORDS, &["a", "bc"], Vec::new(alloc))?;
     assert_eq!(rt; machine.pc(), Addr(0x10054));
-    assert_eq!(rt; machine.reg(sp), 0xefff_ff90);
+    assert_eq!(rt; machine.reg(register(14)?), 0xefff_ff90);
     let stack = machine
         .memory()
         .part(Addr(0xefff_ffd0), 48)

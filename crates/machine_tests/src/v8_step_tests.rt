@@ -1,65 +1,14 @@
 //! The machine, one step at a time: values worked out by hand.
-use eel_base::{Addr, MemSink};
-use elf32_sparc::SegFlags;
+use crate::machines::{CODE, DATA, G1, HELLO, O0, O2, POINT, STACK, SYSTEM, machine, register};
+use eel_base::{Addr, MemSink, NoMemory};
 use std::alloc::Global;
 use std::test::Fail;
 use v8_alu::Codes;
-use v8_decode::Reg;
-use v8_memory::{Memory, RegionPlan};
 use v8_step::{Ending, Machine, StepOut, step};
 
-const ENTRY: Addr = Addr(0x10000);
-
-const STACK: u32 = 0x20080;
-
-/// The words `ta 0x10`, `sethi %hi(0x20000), %o1` and `ba` to the word after the next.
-const SYSTEM: u32 = 0x91d0_2010;
-
-const POINT: u32 = 0x1300_0080;
-
-const SKIP: u32 = 0x1080_0002;
-
-/// The words `or %g0, n, rd` for %g1 and %o0 to %o2, less n.
-const G1: u32 = 0x8210_2000;
-
-const O0: u32 = 0x9010_2000;
-
-const O1: u32 = 0x9210_2000;
-
-const O2: u32 = 0x9410_2000;
-
-/// The bytes of words, the highest byte of each first.
-fn bytes_of(words: [u32; 8]) -> [u8; 32] {
-    let mut bytes = [0; 32];
-    for word in 0..8 {
-        bytes[4 * word..4 * word + 4].copy_from_slice(&words[word].to_be_bytes());
-    }
-    bytes
-}
-
-/// A machine at the first of these words, with "hello" and zeros at 0x20000, which may be written.
-fn machine(alloc: Global, words: [u32; 8], input: &[u8]) -> Result<Machine, Fail> {
-    let bytes = bytes_of(words);
-    let text = RegionPlan {
-        start: ENTRY,
-        len: 32,
-        flags: SegFlags(5),
-        first: &bytes,
-    };
-    let data = RegionPlan {
-        start: Addr(0x20000),
-        len: 256,
-        flags: SegFlags(6),
-        first: b"hello",
-    };
-    let memory = Memory::new(alloc, &[text, data]).map_err(|_| Fail::from("memory"))?;
-    let input = Vec::from_slice(alloc, input)?;
-    Ok(Machine::new(memory, ENTRY, STACK, input))
-}
-
 /// A sink for so many bytes.
-fn sink(alloc: Global, room: usize) -> Result<MemSink, Fail> {
-    MemSink::new(alloc, room, Vec::new(alloc)).map_err(|_| Fail::from("sink"))
+fn sink(alloc: Global, room: usize) -> Result<MemSink, NoMemory> {
+    MemSink::new(alloc, room, Vec::new(alloc))
 }
 
 /// What there is to see of a run: its machine, what came of the last step, and what each sink took.
@@ -73,7 +22,7 @@ struct Seen<'a> {
     o1: u32,
     codes: Codes,
     y: u32,
-    /// The word at 0x20000.
+    /// The word at `DATA`.
     word: u32,
     ending: Option<Ending>,
     out: &'a [u8],
@@ -90,7 +39,7 @@ const CLEAR: Codes = Codes {
 /// What is seen before the first step.
 const FIRST: Seen = Seen {
     last: StepOut::Went,
-    pc: ENTRY,
+    pc: CODE,
     npc: Addr(0x10004),
     sp: STACK,
     o0: 0,
@@ -114,9 +63,9 @@ struct Run {
 
 impl Run {
     /// No steps of these words yet, with so much room in each sink.
-    fn new(alloc: Global, words: [u32; 8], input: &[u8], room: usize) -> Result<Run, Fail> {
+    fn new(alloc: Global, words: &[u32], input: &[u8], room: usize) -> Result<Run, Fail> {
         Ok(Run {
-            machine: machine(alloc, words, input)?,
+            machine: machine(alloc, words, &HELLO, input)?,
             out: sink(alloc, room)?,
             err: sink(alloc, room)?,
             last: StepOut::Went,
@@ -129,15 +78,13 @@ impl Run {
         }
     }
 
-    /// The register of this number in the current window.
+    /// What a register of the current window holds.
     fn reg(&self, number: u8) -> Result<u32, Fail> {
-        let register = Reg::new(number).ok_or("a register")?;
-        Ok(self.machine.reg(register))
+        Ok(self.machine.reg(register(number)?))
     }
 
     fn is(&self, wanted: Seen) -> Result<bool, Fail> {
         let m = &self.machine;
-        let word = m.memory().load32(Addr(0x20000));
         let seen = Seen {
             last: self.last,
             pc: m.pc(),
@@ -147,7 +94,7 @@ impl Run {
             o1: self.reg(9)?,
             codes: m.codes(),
             y: m.y(),
-            word: word.map_err(|_| Fail::from("word"))?,
+            word: m.memory().load32(DATA)?,
             ending: m.ending(),
             out: self.out.bytes(),
             err: self.err.bytes(),
@@ -156,25 +103,11 @@ impl Run {
     }
 }
 
-/// Whether so many steps of these words come to what is wanted.
-fn come_to(
-    alloc: Global,
-    words: [u32; 8],
-    input: &[u8],
-    room: usize,
-    count: u32,
-    wanted: Seen,
-) -> Result<bool, Fail> {
-    let mut run = Run::new(alloc, words, input, room)?;
-    run.steps(count);
-    run.is(wanted)
-}
-
 /// Reads up to two bytes, again, and then from descriptor 1.
 const READS: [u32; 8] = [G1 + 3, O0, POINT, O2 + 2, SYSTEM, O0, SYSTEM, SYSTEM];
 
 /// Writes "hello" to descriptor 1.
-const WRITE: [u32; 8] = [G1 + 4, POINT, O2 + 5, O0 + 1, SYSTEM, 0, 0, 0];
+const WRITE: [u32; 5] = [G1 + 4, POINT, O2 + 5, O0 + 1, SYSTEM];
 
 /// What is seen of READS after the first read.
 const READ_TWO: Seen = Seen {
@@ -206,9 +139,13 @@ const READ_NONE: Seen = Seen {
 
 #[test]
 fn reads_take_the_input(rt: HostRuntime) -> Result<(), Fail> {
-    assert!(rt; come_to(rt.alloc(), READS, b"abc", 0, 5, READ_TWO)?);
-    assert!(rt; come_to(rt.alloc(), READS, b"abc", 0, 7, READ_ONE)?);
-    assert!(rt; come_to(rt.alloc(), READS, b"abc", 0, 8, READ_NONE)?);
+    let mut run = Run::new(rt.alloc(), &READS, b"abc", 0)?;
+    run.steps(5);
+    assert!(rt; run.is(READ_TWO)?);
+    run.steps(2);
+    assert!(rt; run.is(READ_ONE)?);
+    run.steps(1);
+    assert!(rt; run.is(READ_NONE)?);
     Ok(())
 }
 
@@ -235,7 +172,7 @@ const WROTE: Seen = Seen {
 
 #[test]
 fn a_step_whose_sink_fails_is_not_made(rt: HostRuntime) -> Result<(), Fail> {
-    let mut run = Run::new(rt.alloc(), WRITE, b"", 3)?;
+    let mut run = Run::new(rt.alloc(), &WRITE, b"", 3)?;
     run.steps(5);
     assert!(rt; run.is(FAULT)?);
     run.out = sink(rt.alloc(), 16)?;

@@ -16,10 +16,10 @@ const TEXT: [u8; 44] = [
 #[test]
 fn a_made_file_runs_to_its_exit(rt: HostRuntime) -> Result<(), Fail> {
     let alloc = rt.alloc();
-    let file = make(alloc, 1, 1).map_err(|_| Fail::from("make"))?;
+    let file = make(alloc, 1, 1)?;
     assert_eq!(rt; file.len(), 128);
     assert_eq!(rt; &file[84..], TEXT.as_slice());
-    let mut machine = load(alloc, &file, &[], Vec::new(alloc)).map_err(|_| Fail::from("load"))?;
+    let mut machine = load(alloc, &file, &[], Vec::new(alloc))?;
     let end = run(&mut machine, 100, &mut NullSink, &mut NullSink);
     let wanted = RunEnd {
         stop: Stop::Ended(Ending::Exit(178)),
