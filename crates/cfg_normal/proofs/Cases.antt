@@ -142,7 +142,7 @@ words_within n words within = λ k d l.
 
 -- ---- the loop over copies
 
-pub copies_more : (f : ℕ → List Edge) (p : ℕ → Bool) (edges : List Edge) (n : ℕ)
-    → (edges ++ flat_map f (filter p (below n))) ++ flat_map f (filter p (n ∷ []))
-    ≡ edges ++ flat_map f (filter p (below (n + 1)))
-copies_more f p edges n = simp (add-one, filter-append, flat_map-append, append_assoc)
+pub copies_more : (f : ℕ → List Edge) (p : ℕ → Bool) (edges : List Edge) (n : ℕ) (t : Bool) → p n ≡ t
+    → (edges ++ flat_map f (filter p (below n))) ++ cond t (f n) [] ≡ edges ++ flat_map f (filter p (below (n + 1)))
+copies_more f p edges n true is = simp (add-one, filter-append, flat_map-append, is, append-nil, append_assoc)
+copies_more f p edges n false is = simp (add-one, filter-append, is, append-nil)

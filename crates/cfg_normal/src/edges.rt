@@ -1,5 +1,5 @@
 //! The edges of a flow graph, in the order of their numbers.
-ghost use Rattle.std.specs.Prelude.{◌≡◌, ℕ, ◌+◌, ◌*◌, ◌^◌, ◌<◌, ◌≤◌, ◌==◌, ◌++◌, [], ◌∷◌, length, map, slice_index, filter, IfOk, OnOk};
+ghost use Rattle.std.specs.Prelude.{◌≡◌, ℕ, ◌+◌, ◌*◌, ◌^◌, ◌<◌, ◌≤◌, ◌==◌, ◌++◌, length, map, slice_index, filter, IfOk, OnOk};
 ghost use Rattle.std.specs.List.{flat_map, All};
 ghost use Rattle.cfg_blocks.specs.Blocks.{below};
 ghost use Rattle.cfg_blocks.specs.Code.{way_of};
@@ -226,19 +226,6 @@ fn leave_all(alloc: Global, edges: &mut Vec<Edge>, nodes: &Nodes) -> Result<(), 
     Ok(())
 }
 
-// Adds the edges that leave the landed copy of a block, if it has one.
-fn leave_copy(edges: &mut Vec<Edge>, nodes: &Nodes, block: BlockNo) -> Result<(), NoMemory>
-    requires { block.0 < length nodes.now.blocks.firsts }
-    ensures { OnOk result (edges.new.items ≡ edges.old.items
-        ++ flat_map (copied_edges nodes.now.blocks nodes.now.opens)
-        (filter (is_copied nodes.now.opens) (block.0 ∷ []))) }
-{
-    if nodes.is_copied(block) {
-        leave_by_ways(edges, nodes, Node::Landed(block), block)?;
-    }
-    Ok(())
-}
-
 // Adds the edges that leave landed copies, by blocks.
 fn leave_copies(edges: &mut Vec<Edge>, nodes: &Nodes) -> Result<(), NoMemory>
     ensures { OnOk result (edges.new.items ≡ edges.old.items
@@ -246,7 +233,10 @@ fn leave_copies(edges: &mut Vec<Edge>, nodes: &Nodes) -> Result<(), NoMemory>
         (filter (is_copied nodes.now.opens) (below (length nodes.now.blocks.firsts)))) }
 {
     for block in 0..nodes.blocks.count() {
-        leave_copy(edges, nodes, BlockNo(block))?;
+        let block = BlockNo(block);
+        if nodes.is_copied(block) {
+            leave_by_ways(edges, nodes, Node::Landed(block), block)?;
+        }
     }
     Ok(())
 }

@@ -1,11 +1,11 @@
 //! The nodes of a flow graph, and where control goes among them.
-ghost use Rattle.std.specs.Prelude.{◌≡◌, ◌<◌, ◌||◌, false, length, map, slice_index_or, Some, IfOk, MatchOption};
+ghost use Rattle.std.specs.Prelude.{◌≡◌, ◌<◌, false, length, map, slice_index_or, Some, IfOk, MatchOption};
 ghost use Rattle.std.specs.List.{All};
 ghost use Rattle.cfg_blocks.specs.Code.{IsBlockList};
 ghost use Rattle.cfg_normal.specs.Graph.{directed, lands_of};
 ghost use Rattle.cfg_normal.specs.Private.{is_from, AreTargetsIn, IsJumpOf};
 ghost use Rattle.cfg_normal.specs.Landings.{IsLanding, IsNumbered};
-ghost use Rattle.cfg_normal.specs.Opens.{is_behind, is_copied, jumps_in, opens_of, Open};
+ghost use Rattle.cfg_normal.specs.Opens.{is_copied, jumps_in, opens_of, Open};
 ghost use Rattle.cfg_normal.specs.Code.{AreOpenIn, IsTableIn};
 ghost use Rattle.cfg_normal.specs.declared.Node.TheVariants.{Block};
 
@@ -69,14 +69,6 @@ impl Nodes {
         landing_of(&self.landings, block)
     }
 
-    // Whether control that comes to a word of the block from outside lands at its copy.
-    fn lands_at_copy(&self, block: BlockNo, word: u32) -> bool
-        requires { block.0 < length self.now.blocks.firsts }
-        ensures { result ≡ (jumps_in self.now.opens block.0 || is_behind self.now.opens block.0 word) }
-    {
-        lands_there(self.landing(block), word)
-    }
-
     /// The node at which control lands that comes to a word from outside.
     pub(crate) fn lands(&self, w: WordNo) -> Node
         requires { w.0 < self.now.blocks.words }
@@ -84,7 +76,7 @@ impl Nodes {
         ensures numbered { IsNumbered (length self.now.blocks.firsts) result }
     {
         let block = self.blocks.holding(w);
-        if self.lands_at_copy(block, w.0) {
+        if lands_there(self.landing(block), w.0) {
             Node::Landed(block)
         } else {
             Node::Block(block)
