@@ -4,6 +4,8 @@
 
 mod adding;
 #[cfg(test)]
+mod building;
+#[cfg(test)]
 mod count_tests;
 #[cfg(test)]
 mod dump_tests;

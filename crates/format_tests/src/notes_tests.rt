@@ -1,53 +1,26 @@
 //! Notes of both versions through both calls: what is written reads back, and each rule broken once is named by its offset.
+use crate::building::{NONE, edited, noted, place};
 use notes::{NotesFault, read_notes, write_notes};
 use std::alloc::Global;
 use std::test::Fail;
 
-/// The notes of a text of four words: the numbers, two pages, two blocks, three edges and three places. They are of either
-/// version: two of the four cells count an edge each, or each of two edges has two.
-const WORDS: [u32; 42] = [
-    4096,
-    16,
-    1,
-    0x10000,
-    4,
-    1,
-    0x30000,
-    4,
-    2,
-    0x20000,
-    0x1000,
-    0x30000,
-    8,
-    2,
-    0,
-    2,
-    3,
-    0,
-    0,
-    1,
-    0,
-    4,
-    1,
-    2,
-    u32::MAX,
-    5,
-    2,
-    0,
-    2,
-    3,
-    0x20000,
-    0x20004,
-    0x10000,
-    0,
-    0x20004,
-    0x2000c,
-    0x10004,
-    0,
-    0x20010,
-    0x20014,
-    0x10008,
-    1,
+/// The notes of a text of four words. They are of either version: two of the four cells count an edge each, or each of two
+/// edges has two.
+const ROWS: [&[u32]; 11] = [
+    &[4096, 16, 1, 0x10000, 4, 1, 0x30000, 4],
+    // Two pages, and two blocks.
+    &[2, 0x20000, 0x1000, 0x30000, 8],
+    &[2, 0, 2],
+    // Three edges.
+    &[3],
+    &[0, 0, 1, 0],
+    &[4, 1, 2, NONE],
+    &[5, 2, 0, 2],
+    // Three places.
+    &[3],
+    &[0x20000, 0x20004, 0x10000, 0],
+    &[0x20004, 0x2000c, 0x10004, 0],
+    &[0x20010, 0x20014, 0x10008, 1],
 ];
 
 /// How many bytes they have.
@@ -55,21 +28,15 @@ const LENGTH: u32 = 168;
 
 /// A file whose locator names notes of this version and of so many bytes at 4096, with one of their words replaced.
 fn file(alloc: Global, version: u32, length: u32, at: usize, word: u32) -> Result<Vec<u8>, Fail> {
-    let mut words = Vec::from_slice(alloc, &WORDS)?;
-    if let Some(place) = words.get_mut(at / 4) {
-        *place = word;
-    }
-    let mut bytes = Vec::new(alloc);
-    bytes.resize(4032, 0)?;
-    for word in [0x4545_4c4e, version, 4096, length] {
-        bytes.extend_from_slice(&word.to_be_bytes())?;
-    }
-    bytes.resize(4096, 0)?;
-    for word in &words {
-        bytes.extend_from_slice(&word.to_be_bytes())?;
-    }
-    bytes.resize(8192, 0)?;
-    Ok(bytes)
+    let words = edited(alloc, &ROWS, &[(at / 4, word)])?;
+    let mut file = noted(alloc, version, length, &words)?;
+    place(&mut file, 8192, &[])?;
+    Ok(file)
+}
+
+/// A file of version 2 with all of its words.
+fn whole(alloc: Global, length: u32) -> Result<Vec<u8>, Fail> {
+    file(alloc, 2, length, 0, 4096)
 }
 
 /// What is named; nothing where the notes read.
@@ -84,18 +51,16 @@ fn part(bytes: &[u8], from: usize, to: usize) -> &[u8] {
 
 /// The notes of a file, read and written again, where they are of the version that is written.
 fn written_again(alloc: Global, file: &[u8]) -> Result<Vec<u8>, Fail> {
-    let Ok(notes) = read_notes(alloc, file) else {
-        return Err(Fail::from("notes"));
-    };
+    let notes = read_notes(alloc, file)?;
     if notes.version != 2 {
         return Err(Fail::from("the version"));
     }
-    write_notes(alloc, &notes).map_err(|_| Fail::from("memory"))
+    Ok(write_notes(alloc, &notes)?)
 }
 
 #[test]
 fn notes_read_and_are_written_again(rt: HostRuntime) -> Result<(), Fail> {
-    let file = file(rt.alloc(), 2, LENGTH, 0, 4096)?;
+    let file = whole(rt.alloc(), LENGTH)?;
     let again = written_again(rt.alloc(), &file)?;
     assert_eq!(rt; again.as_slice(), part(&file, 4096, 4264));
     Ok(())
@@ -160,11 +125,9 @@ const BROKEN: [(u32, usize, u32, u32); 51] = [
 fn broken_rules_are_named(rt: HostRuntime) -> Result<(), Fail> {
     for (version, at, word, offset) in BROKEN {
         let file = file(rt.alloc(), version, LENGTH, at, word)?;
-        assert_eq!(rt;
-            named(rt.alloc(), &file),
-            Some(NotesFault::Bad(offset)),
-            "{word} at {at} of version {version}"
-        );
+        let fault = named(rt.alloc(), &file);
+        let wanted = Some(NotesFault::Bad(offset));
+        assert_eq!(rt; fault, wanted, "version {version}: {word} at {at}");
     }
     Ok(())
 }
@@ -184,11 +147,8 @@ const HELD: [(u32, usize, u32); 7] = [
 fn rules_are_held_up_to_their_limits(rt: HostRuntime) -> Result<(), Fail> {
     for (version, at, word) in HELD {
         let file = file(rt.alloc(), version, LENGTH, at, word)?;
-        assert_eq!(rt;
-            named(rt.alloc(), &file),
-            None,
-            "{word} at {at} of version {version}"
-        );
+        let fault = named(rt.alloc(), &file);
+        assert_eq!(rt; fault, None, "version {version}: {word} at {at}");
     }
     Ok(())
 }
@@ -209,12 +169,9 @@ const CUT: [(u32, u32); 9] = [
 #[test]
 fn missing_words_and_bytes_left_over_are_named(rt: HostRuntime) -> Result<(), Fail> {
     for (length, offset) in CUT {
-        let file = file(rt.alloc(), 2, length, 0, 4096)?;
-        assert_eq!(rt;
-            named(rt.alloc(), &file),
-            Some(NotesFault::Bad(offset)),
-            "{length} bytes"
-        );
+        let file = whole(rt.alloc(), length)?;
+        let wanted = Some(NotesFault::Bad(offset));
+        assert_eq!(rt; named(rt.alloc(), &file), wanted, "{length} bytes");
     }
     Ok(())
 }
@@ -223,24 +180,17 @@ fn missing_words_and_bytes_left_over_are_named(rt: HostRuntime) -> Result<(), Fa
 fn notes_are_absent_without_a_locator(rt: HostRuntime) -> Result<(), Fail> {
     for version in [0, 3, 0x100] {
         let file = file(rt.alloc(), version, LENGTH, 0, 4096)?;
-        assert_eq!(rt;
-            named(rt.alloc(), &file),
-            Some(NotesFault::Absent),
-            "version {version}"
-        );
+        let absent = Some(NotesFault::Absent);
+        assert_eq!(rt; named(rt.alloc(), &file), absent, "version {version}");
     }
-    let file = file(rt.alloc(), 2, LENGTH, 0, 4096)?;
-    assert_eq!(rt;
-        named(rt.alloc(), part(&file, 0, 4095)),
-        Some(NotesFault::Absent)
-    );
-    assert_eq!(rt;
-        named(rt.alloc(), part(&file, 4, 8192)),
-        Some(NotesFault::Absent)
-    );
-    assert_eq!(rt;
-        named(rt.alloc(), part(&file, 0, 4096)),
-        Some(NotesFault::Bad(0))
-    );
+    let file = whole(rt.alloc(), LENGTH)?;
+    let parts = [
+        (0, 4095, NotesFault::Absent),
+        (4, 8192, NotesFault::Absent),
+        (0, 4096, NotesFault::Bad(0)),
+    ];
+    for (from, to, fault) in parts {
+        assert_eq!(rt; named(rt.alloc(), part(&file, from, to)), Some(fault));
+    }
     Ok(())
 }

@@ -7,34 +7,19 @@ use v8_decode::Reg;
 /// Three lines, the last without its newline.
 const SCRIPT: &str = "edge 1 add 0 3\nedge 1 top 1 %g2\n# a comment\n\nedge 2 keep 2 %o0";
 
-fn register(number: u8) -> Result<Reg, Fail> {
-    match Reg::new(number) {
-        Some(reg) => Ok(reg),
-        None => Err(Fail::from("register")),
-    }
-}
-
-/// The operations that a script has for an edge; none where it can't be read.
-fn has(alloc: Global, edge: usize, wanted: &[Op]) -> bool {
-    match read_script(alloc, SCRIPT.as_bytes(), 9) {
-        Ok(script) => script
-            .snips
-            .get(edge)
-            .is_some_and(|snippet| snippet.ops() == wanted),
-        Err(_) => false,
-    }
-}
-
 #[test]
 fn scripts_give_each_edge_its_operations(rt: HostRuntime) -> Result<(), Fail> {
-    let first = Op::Add { cell: 0, amount: 3 };
-    let reg = register(2)?;
-    let second = Op::Top { cell: 1, reg };
-    let reg = register(8)?;
-    let third = Op::Keep { cell: 2, reg };
-    assert!(rt; has(rt.alloc(), 0, &[]));
-    assert!(rt; has(rt.alloc(), 1, &[first, second]));
-    assert!(rt; has(rt.alloc(), 2, &[third]));
+    let script = read_script(rt.alloc(), SCRIPT.as_bytes(), 9)?;
+    let add = Op::Add { cell: 0, amount: 3 };
+    let reg = Reg::new(2).ok_or("a register")?;
+    let top = Op::Top { cell: 1, reg };
+    let reg = Reg::new(8).ok_or("a register")?;
+    let keep = Op::Keep { cell: 2, reg };
+    let wants: [&[Op]; 3] = [&[], &[add, top], &[keep]];
+    assert!(rt; script.snips.len() >= wants.len());
+    for (snippet, want) in script.snips.iter().zip(wants) {
+        assert_eq!(rt; snippet.ops(), want);
+    }
     Ok(())
 }
 

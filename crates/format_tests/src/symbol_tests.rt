@@ -1,69 +1,43 @@
 //! Function symbols of files whose section table was made by hand.
+use crate::building::{THREE_WORDS, bytes_of, edited};
 use eel_base::WordNo;
 use elf32_sparc::{Image, read_image};
-use std::alloc::{AllocError, Global};
+use std::alloc::Global;
 use std::test::Fail;
 
-/// The headers of a program of three words at 0x10054, with its section table at 248, and the words.
-const PROGRAM: [u32; 24] = [
-    0x7f454c46, 0x01020100, 0, 0, 0x00020002, 1, 0x00010054, 0x34, 248, 0, 0x00340020, 0x00010028,
-    0x00030000, 1, 0x54, 0x00010054, 0x00010054, 0xc, 0xc, 5, 0x00010000, 0x82102001, 0x90102003,
-    0x91d02010,
-];
-
-/// Symbols, at 96: name, value, size, and type and section. The last byte isn't in the section.
-const SYMBOLS: [[u32; 4]; 9] = [
-    [1, 0x10058, 0, 0x12000001],
+/// The program, and what stands behind it.
+const ROWS: [&[u32]; 14] = [
+    &THREE_WORDS,
+    // Symbols, at 96: name, value, size, and type and section. The last byte isn't in the section.
+    &[1, 0x10058, 0, 0x12000001],
     // Outside the text, and at no word.
-    [1, 0x10050, 0, 0x12000001],
-    [1, 0x10060, 0, 0x12000001],
-    [1, 0x1005a, 0, 0x12000001],
+    &[1, 0x10050, 0, 0x12000001],
+    &[1, 0x10060, 0, 0x12000001],
+    &[1, 0x1005a, 0, 0x12000001],
     // An object.
-    [1, 0x10058, 0, 0x21000001],
+    &[1, 0x10058, 0, 0x21000001],
     // A name up to the table's end, and two outside the table.
-    [3, 0x10058, 0, 0x02000001],
-    [u32::MAX, 0x10054, 0, 0x22000001],
-    [5, 0x1005c, 0, 0x12020001],
-    [1, 0x10058, 0, 0x12000001],
+    &[3, 0x10058, 0, 0x02000001],
+    &[u32::MAX, 0x10054, 0, 0x22000001],
+    &[5, 0x1005c, 0, 0x12020001],
+    &[1, 0x10058, 0, 0x12000001],
+    // Their names, at 240: "", "f", "gb", and bytes after the table.
+    &[0x00660067, 0x62696a00],
+    // No section, the symbol table and its string table.
+    &[0; 10],
+    &[0, 2, 0, 0, 96, 143, 2, 0, 4, 16],
+    &[0, 3, 0, 0, 240, 5, 0, 0, 1, 0],
 ];
 
-/// Their names, at 240: "", "f", "gb", and bytes after the table.
-const STRINGS: [u32; 2] = [0x00660067, 0x62696a00];
-
-/// No section, the symbol table and its string table.
-const SECTIONS: [[u32; 10]; 3] = [
-    [0; 10],
-    [0, 2, 0, 0, 96, 143, 2, 0, 4, 16],
-    [0, 3, 0, 0, 240, 5, 0, 0, 1, 0],
-];
-
-/// The words of the file.
-fn words(alloc: Global) -> Result<Vec<u32>, AllocError> {
-    let mut words = Vec::from_slice(alloc, &PROGRAM)?;
-    for symbol in SYMBOLS {
-        words.extend_from_slice(&symbol)?;
-    }
-    words.extend_from_slice(&STRINGS)?;
-    for section in SECTIONS {
-        words.extend_from_slice(&section)?;
-    }
-    Ok(words)
-}
+/// Edits of the program's header: the section table is at 248.
+const SECTIONED: [(usize, u32); 3] = [(8, 248), (11, 0x00010028), (12, 0x00030000)];
 
 /// The image of the file with some of its words replaced, and more words after them.
 fn image(alloc: Global, edits: &[(usize, u32)], more: &[u32]) -> Result<Image, Fail> {
-    let mut words = words(alloc)?;
-    for (at, word) in edits {
-        if let Some(place) = words.get_mut(*at) {
-            *place = *word;
-        }
-    }
+    let mut words = edited(alloc, &ROWS, &SECTIONED)?;
     words.extend_from_slice(more)?;
-    let mut bytes = Vec::new(alloc);
-    for word in &words {
-        bytes.extend_from_slice(&word.to_be_bytes())?;
-    }
-    read_image(alloc, &bytes).map_err(|_| Fail::from("an image"))
+    let words = edited(alloc, &[&words], edits)?;
+    Ok(read_image(alloc, &bytes_of(alloc, &words)?)?)
 }
 
 /// The functions of the file, in the order of its symbols.
