@@ -1,5 +1,5 @@
 -- What holds of each element.
-use Rattle.std.proofs.Common.{ℕ, zero, suc, List, [], ◌∷◌, take, arith, All}
+use Rattle.std.proofs.Common.{zero, suc, List, [], ◌∷◌, arith, All}
 use Rattle.std.specs.List.{flat_map}
 use Rattle.cfg_walk.proofs.Lists.{Each, each-append}
 
@@ -16,8 +16,3 @@ pub each_flat : {A B : Type 0} (P : B → Type 0) (f : A → List B) (xs : List 
     → Each P (flat_map f xs)
 each_flat P f [] each = tt
 each_flat P f (x ∷ xs) each = each-append P (f x) (flat_map f xs) each.0 (each_flat P f xs each.1)
-
-pub each_taken : {A : Type 0} (P : A → Type 0) (n : ℕ) (xs : List A) → Each P xs → Each P (take n xs)
-each_taken P zero xs each = tt
-each_taken P (suc n) [] each = tt
-each_taken P (suc n) (x ∷ xs) each = (each.0, each_taken P n xs each.1)

@@ -2,13 +2,12 @@
 use Rattle.std.proofs.Common.{◌≡◌, ℕ, suc, ◌+◌, ◌-◌, ◌*◌, ◌<◌, ◌≤◌, ◌==◌, inl, inr, true, false, Bool, List, [], ◌∷◌, length, length-append, refl, ap, sym, ◌∙◌, arith}
 use Rattle.std.specs.Prelude.{slice_index}
 use Rattle.std.specs.List.{list_any, sum_by}
-use Rattle.std.proofs.lemmas.Bool.{cases_Bool, cond_both, eq-eqb, eqb-true, false_from_ne_true, false≢true, le-ltb, lt-ltb, or_cases, or_left, or_right}
+use Rattle.std.proofs.lemmas.Bool.{cases_Bool, eq-eqb, eqb-true, false_from_ne_true, false≢true, le-ltb, lt-ltb, or_cases}
 use Rattle.std.proofs.lemmas.List.{length-map}
 use Rattle.std.proofs.lemmas.List.Sums.{sum_by-cons}
 use Rattle.eel_base.specs.CodeText.{Words}
 use Rattle.eel_base.specs.Code.{IsText}
 use Rattle.elf32_sparc.specs.Image.{image_of}
-use Rattle.cfg_blocks.specs.Code.{AreFirsts}
 use Rattle.cfg_blocks.specs.Blocks.{Blocks, blocks_of, holding_of, is_among, last_word}
 use Rattle.cfg_blocks.specs.Entries.{entered_of}
 use Rattle.cfg_normal.specs.declared.Node.{Node}
@@ -19,18 +18,15 @@ use Rattle.cfg_normal.specs.Numbers.{is_node, node_number}
 use Rattle.cfg_normal.specs.Opens.{Open, compares_in, is_copied, jumps_in}
 use Rattle.cfg_normal.proofs.GraphFacts.{is_graph}
 use Rattle.cfg_walk.proofs.Cut.{IsCut, cut, entry_leads}
-use Rattle.cfg_walk.proofs.Holding.{first_held, in_held}
+use Rattle.cfg_walk.proofs.Holding.{first_held}
 use Rattle.cfg_walk.proofs.Lists.{Each, each-then}
-use Rattle.cfg_walk.proofs.NoneOpen.{edges_lie_in}
 use Rattle.jump_slice.specs.Cases.{IsOpenSwitch}
 use Rattle.jump_slice.proofs.About.{about}
 use Rattle.jump_slice.proofs.Opened.{opens_are}
 use Rattle.image_code.specs.Graphs.{IsGraphOf, opens_in}
-use Rattle.image_code.specs.Numbered.{case_numbers, cases_of, node_in_order}
+use Rattle.image_code.specs.Numbered.{case_numbers, cases_of}
 use Rattle.image_code.proofs.OpenBlocks.{are_open, is_list, text_graph}
 use Rattle.tool_kit.specs.Plans.{Plan}
-use Rattle.image_code.proofs.OpenNumbers.{each_index}
-use Rattle.image_code.proofs.Positions.{any_at}
 use Rattle.edit_core.specs.Written.{given_of, graph_in, text_of}
 
 pub graph_is : (original : List ℕ) (plan : Plan) → IsGraphOf (text_of original plan) (graph_in original plan)
@@ -55,21 +51,6 @@ number_of graph (Landed k) l = record {
 }
 number_of graph X l = record { few = omega arith; is = first_number graph (length graph.blocks.firsts) (omega arith) }
 
--- the node of a word's image in the order of the text
-pub in_order : (graph : Graph) → AreFirsts graph.blocks.words graph.blocks.firsts → (word : ℕ) → word <
-    graph.blocks.words → IsNodeIn graph.blocks graph.opens (node_in_order graph word)
-in_order graph firsts word l =
-    let held = in_held graph.blocks.words graph.blocks.firsts firsts word l in
-    cond_both (jumps_in graph.opens (holding_of graph.blocks word)) _ _ (IsNodeIn graph.blocks graph.opens)
-    (λ h. (held.within, or_left _ _ h)) (λ _. held.within)
-
--- the comparison of an open switch stands in a block that has a copy
-pub compares_copied : (opens : List Open) → Each (λ (o : Open). is_copied opens o.switch.compare.0 ≡ true) opens
-compares_copied opens =
-    each_index _ opens (λ k o e.
-    or_right (jumps_in opens o.switch.compare.0) (compares_in opens o.switch.compare.0)
-    (any_at (λ (x : Open). x.switch.compare.0 == o.switch.compare.0) opens k o e (eq-eqb _ _ refl)))
-
 module _ (text : Words) (graph : Graph) (is_text : IsText text) (h : IsGraphOf text graph) where
   pub graph_cut : IsCut text graph.blocks
   graph_cut = (text_graph text graph is_text h).cut
@@ -82,9 +63,7 @@ module _ (text : Words) (graph : Graph) (is_text : IsText text) (h : IsGraphOf t
       (are_open text h.given h.entry is_text) refl)
 
   pub edges_inside : Each (IsEdgeIn graph.blocks graph.opens) graph.edges
-  edges_inside =
-      let f = graph_facts in
-      rw (ap (λ (g : Graph). g.edges) f.made) (edges_lie_in graph.blocks graph.opens f.firsts.some)
+  edges_inside = (text_graph text graph is_text h).edges
 
   -- ---- entries
 

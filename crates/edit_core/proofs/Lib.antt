@@ -16,7 +16,6 @@ pub mod Snippets
 pub mod Graphs
 pub mod Entering
 pub mod ByTable
-pub mod Shapes
 pub mod Counted
 pub mod Ranges
 pub mod Noted

@@ -2,11 +2,10 @@
 use Rattle.std.proofs.Common.{◌≡◌, ℕ, zero, suc, ◌+◌, ◌*◌, ◌%◌, ◌^◌, ◌<◌, ◌≤◌, true, nat_lt, nat_le, Option, Some, None, List, [], ◌∷◌, ◌++◌, length, map, refl, ap, sym, ◌∙◌, arith}
 use Rattle.std.specs.Prelude.{slice_get}
 use Rattle.std.specs.List.{flat_map, list_any}
-use Rattle.std.proofs.lemmas.Bool.{and_from, le-leb, le-ltb, lt-ltb, eq-eqb}
+use Rattle.std.proofs.lemmas.Bool.{and_from, cond_both, le-leb, le-ltb, lt-ltb, eq-eqb}
 use Rattle.std.proofs.lemmas.Option.{slice_get_within}
-use Rattle.eel_base.specs.CodeText.{Words}
+use Rattle.eel_base.specs.CodeText.{Words, address_of}
 use Rattle.eel_base.specs.Code.{IsText}
-use Rattle.eel_base.specs.declared.numbers.Addr.{Addr}
 use Rattle.notes.specs.Format.{NoteSegment, NoteRange, holds}
 use Rattle.notes.specs.Rules.{are_ranges}
 use Rattle.cfg_blocks.specs.Blocks.{below}
@@ -15,15 +14,16 @@ use Rattle.cfg_normal.specs.Opens.{Open}
 use Rattle.cfg_walk.proofs.Lists.{Each, each_at}
 use Rattle.layout.specs.declared.items.Item.{Item}
 use Rattle.layout.specs.declared.items.Item.TheVariants as it
-use Rattle.layout.specs.Laid.{Ascend, IsLaid, IsRangeOf, Placement, Stands, BranchStands, branch_short, branch_long, item_at, item_in, items_in, range_in, range_of, open_in, end_from}
+use Rattle.layout.specs.Laid.{Ascend, IsLaid, IsRangeOf, Placement, Stands, BranchStands, branch_short, branch_long, item_at, item_in, items_in, range_in, range_of, open_in, end_from, is_end}
 use Rattle.jump_code.specs.Pieces.{foreign_piece}
 use Rattle.image_code.proofs.HeadShapes.{TakesWords}
 use Rattle.image_code.specs.Made.{cases_from, images_in_order, landing, open_pieces, piece_list, ways_from}
 use Rattle.image_code.specs.Numbered.{own_edges}
 use Rattle.image_code.specs.Graphs.{IsGraphOf}
 use Rattle.image_code.proofs.OpenNumbers.{each_index}
-use Rattle.edit_core.proofs.Graphs.{IsNumber}
-use Rattle.edit_core.proofs.Shapes.{IsMark, NoMarks, MarksFirst, all_marked}
+use Rattle.image_code.proofs.Fit.{pieces_shaped}
+use Rattle.image_code.proofs.Shapes.{IsVisit, Marked, first_mark, first_taken}
+use Rattle.edit_core.proofs.Graphs.{IsNumber, number_of}
 use Rattle.edit_core.proofs.Fronts.{passed}
 
 -- ---- ranges one after the other
@@ -80,29 +80,11 @@ ranges_rule graph segments end from to (r ∷ rs) a w e held =
 
 -- ---- the ranges of laid pieces
 
--- only the first item of a piece is a Mark
-none_marked : (items : List Item) → NoMarks items → (n : ℕ) (address : Addr) (node : ℕ)
-    → slice_get items n ≡ Some (it.Mark address node) → ⊥
-none_marked [] h n address node e = absurd (cc)
-none_marked (it.Mark a m ∷ items) h n address node e = h
-none_marked (_ ∷ items) h (suc n) address node e = none_marked items h n address node e
-none_marked (_ ∷ items) h zero address node e = absurd (cc)
-
-pub record IsHead (graph : Graph) (address : Addr) (node n : ℕ) (items : List Item) : Type 0 where
-  pub rest : List Item
-  pub is : items ≡ it.Mark address node ∷ rest
-  pub first : n ≡ 0
-  pub mark : IsMark graph address node rest
-
-marked_first : (graph : Graph) (items : List Item) → MarksFirst graph items → (n : ℕ) (address : Addr) (node : ℕ)
-    → slice_get items n ≡ Some (it.Mark address node) → IsHead graph address node n items
-marked_first graph [] h n address node e = absurd (cc)
-marked_first graph (it.Mark a m ∷ items) h zero address node e =
-    let same : a ≡ address = cc in
-    let also : m ≡ node = cc in
-    record { rest = items; is = rw (same, also) refl; first = refl; mark = rw same at (rw also at h.0) }
-marked_first graph (it.Mark a m ∷ items) h (suc n) address node e = absurd (none_marked items h.1 n address node e)
-marked_first graph (x ∷ items) h n address node e = absurd (none_marked (x ∷ items) h n address node e)
+ends_inside : (items : List Item) (n : ℕ) → end_from items n ≤ n + length items
+ends_inside [] n = omega arith
+ends_inside (x ∷ items) n =
+    cond_both (is_end x) n (end_from items (suc n)) (λ (k : ℕ). k ≤ n + suc (length items)) (λ _. omega arith)
+    (λ _. let later = ends_inside items (suc n) in omega arith)
 
 -- an item that takes words ends behind where it begins
 covers : (base : ℕ) (p : Placement) (x : Item) (a b : ℕ) → TakesWords x → Stands base p x a b → a < b
@@ -125,50 +107,43 @@ module _ (text : Words) (graph : Graph) (table cases : ℕ) (codes : ℕ → Lis
   some_piece k n x None e i = absurd (cc)
   some_piece k n x (Some items) e i = (items, e, i)
 
-  whole_here : (r : NoteRange) (k : ℕ) (address : Addr) (rest : List Item)
-      → slice_get pieces k ≡ Some (it.Mark address r.node ∷ rest)
-      → IsMark graph address r.node rest → r.address ≡ address.0 → r.lo ≡ place k 1 → range_in p.ranges r.lo ≡ Some r
-      → IsWhole graph r
-  whole_here r k address rest piece m says lo is_found =
+  whole_here : (r : NoteRange) (k : ℕ) (m : Marked) (item : Item) (rest : List Item) → TakesWords item
+      → slice_get pieces k ≡ Some (it.Mark m.address m.node ∷ item ∷ rest) → IsVisit text graph m
+      → r.address ≡ m.address.0 → r.lo ≡ place k 1 → range_in p.ranges r.lo ≡ Some r → IsWhole graph r
+  whole_here r k m item rest takes piece visit says lo is_found =
       let inside : k < length pieces = slice_get_within pieces k _ piece in
-      let item : item_at pieces k 1 ≡ Some m.item = cc (piece, m.is) in
-      let stands = laid.items k 1 m.item item in
-      let wide : place k 1 < place k 2 = covers base p m.item (place k 1) (place k 2) m.takes stands in
-      let there = laid.ranges k 1 r.lo m.item item (omega (arith, lo)) (omega (arith, lo, wide)) in
-      let opening : range_of (place k) (open_in (slice_get pieces k) 1)
-      ≡ Some (record { lo = place k 1; hi = place k (end_from rest 1); address = address.0; node = r.node }) =
-      ap (λ o. range_of (place k) (open_in o 1)) piece ∙ opens rest m in
-      let same : r ≡ record { lo = place k 1; hi = place k (end_from rest 1); address = address.0; node = r.node } =
-      some_same (sym is_found ∙ there ∙ opening) in
-      let size : items_in (slice_get pieces k) ≡ suc (length rest) = ap items_in piece in
-      let last = laid.within k (end_from rest 1) inside (omega (arith, size, m.ends)) in
+      let at : item_at pieces k 1 ≡ Some item = ap (λ o. item_in o 1) piece in
+      let stands = laid.items k 1 item at in
+      let wide : place k 1 < place k 2 = covers base p item (place k 1) (place k 2) takes stands in
+      let there = laid.ranges k 1 r.lo item at (omega (arith, lo)) (omega (arith, lo, wide)) in
+      let end = end_from (item ∷ rest) 1 in
+      let same : r ≡ record { lo = place k 1; hi = place k end; address = m.address.0; node = m.node } =
+      some_same (sym is_found ∙ there ∙ ap (λ o. range_of (place k) (open_in o 1)) piece) in
+      let size : items_in (slice_get pieces k) ≡ suc (suc (length rest)) = ap items_in piece in
+      let last = laid.within k end inside (omega (arith, size, ends_inside (item ∷ rest) 1)) in
+      let from : m.address.0 ≡ address_of text visit.word = ap (λ (x : Marked). x.address.0) visit.is in
       record {
         lo = ap (λ z. z % 4) lo ∙ (laid.within k 1 inside (omega (arith, size))).aligned;
         hi = ap (λ (z : NoteRange). z.hi % 4) same ∙ last.aligned;
-        address = ap (λ z. z % 4) says ∙ m.visit.aligned;
-        low = omega (arith, says, m.visit.low);
-        node = m.visit.inside;
+        address = omega (arith, says, from, is.aligned);
+        low = omega (arith, says, from, is.below, visit.at.low);
+        node = rw (ap (λ (z : NoteRange). z.node) same, visit.is) (number_of graph visit.node visit.at.inside);
       }
     where
       some_same : {a b : NoteRange} → Some a ≡ Some b → a ≡ b
       some_same e = cc
 
-      opens : (xs : List Item) → IsMark graph address r.node xs
-          → range_of (place k) (open_in (Some (it.Mark address r.node ∷ xs)) 1)
-          ≡ Some (record { lo = place k 1; hi = place k (end_from xs 1); address = address.0; node = r.node })
-      opens [] m = absurd (let e = m.is in cc)
-      opens (x ∷ xs) m = refl
-
   whole_at : (n : ℕ) (r : NoteRange) → slice_get p.ranges n ≡ Some r → IsWhole graph r
   whole_at n r e =
       let m : IsRangeOf pieces place r = laid.marks n r e in
       let piece = some_piece m.piece m.item (it.Mark m.address r.node) (slice_get pieces m.piece) refl m.mark in
-      let marks : MarksFirst graph piece.0 = each_at _ pieces m.piece piece.0 (all_marked text graph table cases codes
-      is h)
-      piece.1 in
-      let head = marked_first graph piece.0 marks m.item m.address r.node piece.2 in
-      whole_here r m.piece m.address head.rest (piece.1 ∙ ap (λ (xs : List Item). Some xs) head.is) head.mark m.says
-      (m.lo ∙ ap (λ z. place m.piece (suc z)) head.first)
+      let s = each_at _ pieces m.piece piece.0 (pieces_shaped text graph table cases codes is h) piece.1 in
+      let first = first_mark s m.item m.address r.node piece.2 in
+      let about : Marked = record { address = m.address; node = r.node; covers = first.covers } in
+      let head = first_taken s about first.visit.some in
+      whole_here r m.piece about head.item head.rest head.takes
+      (piece.1 ∙ ap (λ (xs : List Item). Some xs) (first.is ∙ head.is)) first.visit m.says
+      (m.lo ∙ ap (λ z. place m.piece (suc z)) first.first)
       (found base (base + 4 * length p.code) p.ranges laid.ascend n r e)
 
   pub ranges_whole : Each (IsWhole graph) p.ranges

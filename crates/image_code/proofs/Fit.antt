@@ -1,9 +1,9 @@
 -- What holds of each piece that is made, and so of all.
-use Rattle.std.proofs.Common.{◌≡◌, ℕ, zero, suc, ◌+◌, ◌-◌, ◌*◌, ◌<◌, ◌≤◌, Bool, true, false, ◌&&◌, ◌==◌, Option, Some, None, List, [], ◌∷◌, ◌++◌, append-nil, length, map, get_or, length-append, refl, ap, arith}
+use Rattle.std.proofs.Common.{◌≡◌, sym, ◌∙◌, ℕ, zero, suc, ◌+◌, ◌-◌, ◌*◌, ◌<◌, ◌≤◌, Bool, true, false, ◌&&◌, ◌==◌, Option, Some, None, List, [], ◌∷◌, ◌++◌, append-nil, length, map, get_or, length-append, refl, ap, arith}
 use Rattle.std.specs.Prelude.{if◌then◌else◌, nat_lt, slice_get, slice_index}
 use Rattle.std.specs.List.{flat_map, position, sum_by}
 use Rattle.std.specs.Option.{option_to_list}
-use Rattle.std.proofs.lemmas.Bool.{and_parts, cond_both, ltb-true}
+use Rattle.std.proofs.lemmas.Bool.{and_parts, cond_both, eq-eqb, false≢true, ltb-true, or_left, or_right}
 use Rattle.std.proofs.lemmas.List.Folds.{fold-map}
 use Rattle.std.proofs.lemmas.List.Sums.{sum_by-append, sum_by-cons, sum_by-le}
 use Rattle.std.proofs.lemmas.List.Quantifiers.{position-Some}
@@ -19,7 +19,7 @@ use Rattle.v8_step.specs.Items.{is_transfer}
 use Rattle.cfg_blocks.specs.declared.EdgeKind.{EdgeKind}
 use Rattle.cfg_blocks.specs.declared.EdgeKind.TheVariants as kinds
 use Rattle.cfg_blocks.specs.Ends.{always, never}
-use Rattle.cfg_blocks.specs.Blocks.{below, blocks_of, last_word, size_of}
+use Rattle.cfg_blocks.specs.Blocks.{below, blocks_of, holding_of, last_word, size_of}
 use Rattle.cfg_blocks.proofs.Below.{length-below}
 use Rattle.cfg_blocks.specs.Entries.{is_fall}
 use Rattle.cfg_normal.specs.declared.Edge.{Edge}
@@ -28,24 +28,31 @@ use Rattle.cfg_normal.specs.declared.Node.TheVariants.{Block, X}
 use Rattle.cfg_normal.specs.declared.Slot.{Slot}
 use Rattle.cfg_normal.specs.declared.Slot.TheVariants as slots
 use Rattle.cfg_normal.specs.Nodes.{same_kind, same_node}
-use Rattle.cfg_normal.specs.Numbers.{node_number}
-use Rattle.cfg_normal.specs.Opens.{Open, jumps_in}
+use Rattle.cfg_normal.specs.Opens.{Open, compares_in, is_copied, jumps_in}
 use Rattle.cfg_normal.specs.Graph.{Graph, lands}
-use Rattle.cfg_normal.specs.Code.{IsNodeIn}
+use Rattle.cfg_normal.specs.Code.{IsEdgeIn, IsNodeIn}
 use Rattle.cfg_walk.specs.Walk.{ends_block, landing_at, left_by}
 use Rattle.cfg_walk.proofs.Edges.{block, copy, same_nodes}
-use Rattle.cfg_walk.proofs.Holding.{some_words}
+use Rattle.cfg_walk.proofs.Holding.{in_held, some_words}
 use Rattle.cfg_walk.proofs.Leaving.{straight_left}
 use Rattle.cfg_walk.proofs.Ways.{same_kinds}
-use Rattle.cfg_walk.proofs.Lists.{Each, each, each_at, each-append, each-below}
+use Rattle.cfg_walk.proofs.Lists.{Each, each_at, each-append, each-below, each-then}
+use Rattle.code_runs.specs.LongJump.{long_jump}
+use Rattle.jump_code.specs.Choosing.{choice_image}
+use Rattle.jump_code.specs.Finding.{find_image, go_found}
+use Rattle.jump_code.specs.FreeRegister.{free_register, other_register}
+use Rattle.jump_code.specs.Keeping.{keep_load}
+use Rattle.jump_code.specs.Leaving.{foreign}
+use Rattle.jump_code.specs.Links.{link}
+use Rattle.jump_code.specs.Pieces.{far_piece}
+use Rattle.layout.specs.Emitting.{words_of as encoded}
 use Rattle.layout.specs.declared.items.Item.{Item}
 use Rattle.layout.specs.declared.items.Item.TheVariants as it
-use Rattle.layout.specs.Laid.{AreMarked, IsMarked, LeadsBelow, item_at, item_in, piece_words}
+use Rattle.layout.specs.Laid.{IsMarked, LeadsBelow, item_at, item_in, piece_words}
 use Rattle.snippets.specs.declared.snippet.Op.{Op}
-use Rattle.image_code.specs.Cases.{plain_piece}
 use Rattle.image_code.specs.Loads.{load_of}
-use Rattle.image_code.specs.Numbered.{enter_number, foreign_number, node_in_order, own_edges, pieces_of, place_in}
-use Rattle.image_code.specs.Made.{case_at, case_by, cases_from, choice_of, first_way, first_word, goes_along, goes_on, image, image_by, images_in_order, is_slots, jump_by, jump_image_by, jump_to, jumps_at, images_of, landing, next_at, next_to, nop_word, open_pieces, piece_list, rest_after, way_along, way_by, way_out, ways_from}
+use Rattle.image_code.specs.Numbered.{enter_number, first_entry, foreign_number, node_in_order, own_edges, pieces_of, place_in}
+use Rattle.image_code.specs.Made.{case_at, case_by, cases_from, choice_of, couple_word, distance_of, first_way, first_word, goes_on, image, image_by, images_in_order, images_of, is_slots, jump_by, jump_image_by, jump_to, jumps_at, keep_by, landing, next_at, nop_word, open_pieces, piece_list, way_along, way_by, way_out, ways_from}
 use Rattle.image_code.specs.Graphs.{IsGraphOf, opens_in}
 use Rattle.image_code.specs.Fit.{AreFit, AreShort, PiecesFit, PlacesSay, marks_in}
 use Rattle.image_code.proofs.Listed.{count_is}
@@ -53,8 +60,20 @@ use Rattle.image_code.proofs.OpenBlocks.{IsSwitchIn, IsTextGraph, text_graph, wo
 use Rattle.image_code.proofs.OpenNumbers.{IsWordOf, case_number_below, each_index, enter_below, first_word_of, foreign_is, lands_below, lands_word}
 use Rattle.image_code.proofs.Opened.{cased_of}
 use Rattle.image_code.proofs.OpenSums.{code_length}
-use Rattle.image_code.proofs.Sized.{case_code, case_edge, code_by, entries_in, image_code, landing_code, no_code, order_code, snippets_few, way_code, ways_code}
-use Rattle.image_code.proofs.SmallPieces.{IsSized, IsSmall, ItemsLead, MarksSay, IsTail, any_leads, any_says, small_branch, small_call, small_choice, small_couple, small_foreign, small_jmpl, small_more, small_plain, small_tail, small_wide, tail_behind, tail_empty, tail_far, tail_found, tail_jump, tail_keep, tail_more, transfer_says, word_says}
+use Rattle.image_code.proofs.Sized.{case_code, case_edge, code_by, block_end_within, entries_in, image_code, landing_code, no_code, order_code, snippets_few, way_code, ways_code}
+use Rattle.image_code.proofs.Shapes.{IsAt, IsExit, IsMade, IsShaped, IsSome, Leads, Marked, Stretch, straight, branch, bare, behind, exits_by, exits_jump, falls, made, mark_at, mark_says, marked, sized, stretch_size}
+use Rattle.image_code.proofs.Positions.{any_at}
+
+find_size : (x y rd rs1 : ℕ) (op2 : Op2) (jumps address : ℕ)
+    → let xs = encoded (find_image x y rd rs1 op2 jumps address) in
+    (0 < length xs) × (length xs ≤ 15)
+find_size x y zero rs1 op2 jumps address = (omega arith, omega arith)
+find_size x y (suc r) rs1 op2 jumps address = (omega arith, omega arith)
+
+choice_size : (rd address distance : ℕ) → let xs = encoded (choice_image rd address distance) in
+    (0 < length xs) × (length xs ≤ 15)
+choice_size zero address distance = (omega arith, omega arith)
+choice_size (suc r) address distance = (omega arith, omega arith)
 
 number_of_list : (o : Option ℕ) (number : ℕ) (rest : List ℕ) → option_to_list o ≡ number ∷ rest → o ≡ Some number
 number_of_list None number rest e = absurd (cc)
@@ -66,12 +85,15 @@ module _ (text : Words) (graph : Graph) (table cases : ℕ) (codes : ℕ → Lis
   abbrev pieces : List (List Item)
   pieces = piece_list text graph table cases codes
 
-  -- what holds of each
-  abbrev Small : ℕ → ℕ → List Item → Type 0
-  Small = IsSmall text (length pieces)
+  -- a piece of so many words, besides those of a snippet
+  abbrev Made : ℕ → ℕ → List Item → Type 0
+  Made = IsMade text graph (length pieces) 1
 
-  abbrev Tail : ℕ → List Item → Type 0
-  Tail = IsTail text (length pieces)
+  abbrev Exits : List Item → Type 0
+  Exits = IsExit (length pieces)
+
+  far_exit : (to : ℕ) → Exits (far_piece to)
+  far_exit to = exits_by (encoded (long_jump to)) (omega arith)
 
   entered : (node : Node) (word : ℕ) → IsWordOf graph node word → enter_number text graph node word < length pieces
   entered node word inside = omega (arith, many, enter_below text graph g node word inside)
@@ -101,125 +123,140 @@ module _ (text : Words) (graph : Graph) (table cases : ℕ) (codes : ℕ → Lis
       → way_out text graph node kind < length pieces
   way_below node kind other = way_by_number node kind other (position (Leaves node kind) graph.edges) refl
 
+  way_exit : (node : Node) (kind : EdgeKind) → same_kind kind kinds.Land ≡ false
+      → Exits (jump_to (way_out text graph node kind))
+  way_exit node kind other = exits_jump _ (way_below node kind other)
+
   -- ---- images
 
-  next_tail : (word : ℕ) → Tail 0 (next_to text word)
-  next_tail word =
-      cond_both (nat_lt (word + 1) (length text.words)) _ _ (Tail 0)
-      (λ more. cond_both (is_slots text word) _ _ (Tail 0)
-      (λ _. tail_jump _ _ (word + 1) (omega (arith, ltb-true (word + 1) (length text.words) more, many)))
-      (λ _. tail_empty _ _))
-      (λ _. tail_far _ _ _)
+  next_exit : (node : Node) (word : ℕ) → Exits (next_at text graph node word)
+  next_exit node word =
+      cond_both (same_node node (node_in_order graph word)) _ [] Exits
+      (λ _. cond_both (nat_lt (word + 1) (length text.words)) _ _ Exits
+      (λ more. cond_both (is_slots text word) _ [] Exits
+      (λ _. exits_jump (word + 1) (omega (arith, ltb-true (word + 1) (length text.words) more, many)))
+      (λ _. exits_by [] (omega arith)))
+      (λ _. far_exit (address_of text (length text.words))))
+      (λ _. exits_by [] (omega arith))
 
-  next_at_tail : (node : Node) (word : ℕ) → Tail 0 (next_at text graph node word)
-  next_at_tail node word = cond_both (same_node node _) _ [] (Tail 0) (λ _. next_tail word) (λ _. tail_empty _ _)
+  module _ (node : Node) (word : ℕ) (at : IsAt text graph node word) where
+    abbrev about : Stretch → Marked
+    about covers = mark_at text graph node word covers
 
-  coded : (most : ℕ) (ws : List ℕ) (rest : List Item) → Tail 0 rest → length ws ≤ most
-      → Tail most (map it.Word ws ++ rest)
-  coded most ws rest t l = tail_more _ _ (length ws + 0) most _ (omega (arith, l)) (tail_behind _ _ 0 ws rest t)
+    -- the word itself in its Mark
+    itself : {size most : ℕ} (code : List ℕ) (rest : List Item) → 7 ≤ size → length code ≤ most → Exits rest
+        → Made size most (behind (Some (about (straight (slice_index text.words word ∷ [])))) (map it.Word code ++ rest))
+    itself code rest l few out =
+        made code few out (Some (about (straight (slice_index text.words word ∷ [])))) (
+          record { word = word; node = node; at = at; is = refl; some = omega arith; says = λ _. refl },
+          tt,
+        ) (omega (arith, l)) (omega arith)
 
-  plain_small : (node : Node) (word : ℕ) (instr : Instr) → Small 19 (code_length codes (left_by graph node word instr))
-      (plain_piece (record { 0 = address_of text word }) (node_number graph node)
-      (slice_index text.words word) (rest_after text graph codes node word instr))
-  plain_small node word instr =
-      small_wide _ _ _ _ (small_plain _ _ _ _ _ _ _
-      (coded _ (flat_map codes (left_by graph node word instr)) _ (next_at_tail node word) (omega arith))
-      (word_says text word _))
+    module _ (t : is_transfer (decode_of (slice_index text.words word)) ≡ true) where
+      -- what does the same as a transfer
+      instead : {size most : ℕ} (covers : Stretch) (rest : List Item) → 6 + stretch_size covers ≤ size → IsSome covers
+          → Leads (length pieces) covers → Exits rest → Made size most (behind (Some (about covers)) rest)
+      instead covers rest l some leads out =
+          made [] (omega arith) out (Some (about covers)) (
+            record {
+              word = word;
+              node = node;
+              at = at;
+              is = refl;
+              some = some;
+              says = λ f. absurd (false≢true (sym f ∙ t));
+            },
+            leads,
+          ) (omega (arith, l)) (omega arith)
 
-  -- a transfer
-  module _ (word : ℕ) (t : is_transfer (decode_of (slice_index text.words word)) ≡ true) where
-    abbrev here : Addr
-    here = record { 0 = address_of text word }
+      choice_made : (rd : ℕ) (k : Option ℕ) (o : Option Open)
+          → Made 21 0 (choice_of text graph (jumps_at text table) cases (about (straight [])).address node rd k o)
+      choice_made rd (Some k) (Some o) =
+          let distance = distance_of cases (first_entry text graph k) o.switch.table.0 in
+          let size = choice_size rd (address_of text word) distance in
+          instead (straight (encoded (choice_image rd (address_of text word) distance))) [] (omega (arith, size.1)) size.0 tt
+          falls
+      choice_made rd _ _ = bare [] (omega arith) falls (omega arith)
 
-    choice_small : (node : Node) (rd : ℕ) (k : Option ℕ) (o : Option Open)
-        → Small 19 0 (choice_of text graph (jumps_at text table) cases here node rd k o)
-    choice_small node rd (Some k) (Some o) = small_choice _ _ rd _ _ _ (transfer_says text word _ t)
-    choice_small node rd _ _ = small_wide _ _ 0 _ (small_tail _ _ 0 _ (tail_empty _ _))
+      jump_by_made : (rd rs1 : ℕ) (op2 : Op2)
+          → Made 21 0 (jump_by text graph (jumps_at text table) cases (about (straight [])).address node rd rs1 op2)
+      jump_by_made rd rs1 op2 =
+          let x = free_register rd rs1 op2 in
+          let y = other_register rd rs1 op2 in
+          let size = find_size x y rd rs1 op2 (jumps_at text table) (address_of text word) in
+          instead (straight (encoded (find_image x y rd rs1 op2 (jumps_at text table) (address_of text word)))) _
+          (omega (arith, size.1)) size.0 tt (way_exit node kinds.Out refl)
 
-    jump_by_small : (node : Node) (rd rs1 : ℕ) (op2 : Op2)
-        → Small 19 0 (jump_by text graph (jumps_at text table) cases here node rd rs1 op2)
-    jump_by_small node rd rs1 op2 =
-        small_jmpl _ _ _ _ rd rs1 op2 _ _ _ _ (way_below node kinds.Out refl) (transfer_says text word _ t)
+  jump_made : (node : Node) (word : ℕ) → IsAt text graph node word
+      → is_transfer (decode_of (slice_index text.words word)) ≡ true → (rd rs1 : ℕ) (op2 : Op2)
+      → Made 21 0 (jump_image_by text graph (jumps_at text table) cases (record { 0 = address_of text word }) node rd rs1 op2)
+  jump_made (Block k) word at t rd rs1 op2 =
+      cond_both (jumps_in graph.opens k.0) _ _ (Made 21 0) (λ _. choice_made (Block k) word at t rd _ _)
+      (λ _. jump_by_made (Block k) word at t rd rs1 op2)
+  jump_made node word at t rd rs1 op2 = jump_by_made node word at t rd rs1 op2
 
-    jump_small : (node : Node) (rd rs1 : ℕ) (op2 : Op2)
-        → Small 19 0 (jump_image_by text graph (jumps_at text table) cases here node rd rs1 op2)
-    jump_small (Block k) rd rs1 op2 =
-        cond_both (jumps_in graph.opens k.0) _ _ (Small 19 0) (λ _. choice_small (Block k) rd _ _)
-        (λ _. jump_by_small (Block k) rd rs1 op2)
-    jump_small node rd rs1 op2 = jump_by_small node rd rs1 op2
-
-    nop_small : (node : Node) (kind : EdgeKind) → same_kind kind kinds.Land ≡ false
-        → Small 19 0 (plain_piece here (node_number graph node) nop_word (jump_to (way_out text graph node kind)))
-    nop_small node kind other =
-        small_wide _ _ 0 _
-        (small_plain _ _ 0 _ _ _ _ (tail_jump _ _ _ (way_below node kind other)) (transfer_says text word _ t))
-
-  image_by_small : (node : Node) (word : ℕ) → (instr : Instr) → decode_of (slice_index text.words word) ≡ instr
-      → Small 19 (code_by graph codes node word instr)
+  image_by_made : (node : Node) (word : ℕ) → IsAt text graph node word → (instr : Instr)
+      → decode_of (slice_index text.words word) ≡ instr
+      → Made 21 (code_by graph codes node word instr)
       (image_by text graph (jumps_at text table) cases codes (record { 0 = address_of text word }) node word instr)
-  image_by_small node word (i.Branch c annul disp) e =
-      cond_both (c == always) _ _ (Small 19 0) (λ _. nop_small word (ap is_transfer e) node kinds.Taken refl)
-      (λ _. cond_both (c == never) _ _ (Small 19 0) (λ _. nop_small word (ap is_transfer e) node kinds.Untaken refl)
-      (λ _. small_branch _ _ _ _ c _ _ (way_below node kinds.Taken refl) (way_below node kinds.Untaken refl)
-      (transfer_says text word _ (ap is_transfer e))))
-  image_by_small node word (i.Call disp) e =
-      small_call _ _ _ _ _ (way_below node kinds.Call refl) (transfer_says text word _ (ap is_transfer e))
-  image_by_small node word (i.Jmpl rd rs1 op2) e = jump_small word (ap is_transfer e) node rd rs1 op2
-  image_by_small node word instr e = plain_small node word instr
-
-  image_small : (node : Node) (word : ℕ) → Small 19 (image_code text graph codes node word)
-      (image text graph (jumps_at text table) cases codes node word)
-  image_small node word = image_by_small node word (decode_of (slice_index text.words word)) refl
+  image_by_made node word at (i.Branch c annul disp) e =
+      let by = instead node word at (ap is_transfer e) in
+      let idle = by (straight (nop_word ∷ [])) in
+      cond_both (c == always) _ _ (Made 21 0)
+      (λ _. idle _ (omega arith) (omega arith) tt (way_exit node kinds.Taken refl))
+      (λ _. cond_both (c == never) _ _ (Made 21 0)
+      (λ _. idle _ (omega arith) (omega arith) tt (way_exit node kinds.Untaken refl))
+      (λ _. by (branch c (way_out text graph node kinds.Taken)) _ (omega arith) tt (way_below node kinds.Taken refl)
+      (way_exit node kinds.Untaken refl)))
+  image_by_made node word at (i.Call disp) e =
+      instead node word at (ap is_transfer e) (straight (encoded (link 15 (address_of text word)))) _ (omega arith)
+      (omega arith) tt (way_exit node kinds.Call refl)
+  image_by_made node word at (i.Jmpl rd rs1 op2) e = jump_made node word at (ap is_transfer e) rd rs1 op2
+  image_by_made node word at instr e =
+      itself node word at (flat_map codes (left_by graph node word instr)) _ (omega arith) (omega arith)
+      (next_exit node word)
 
   -- ---- ways
-
-  goes_tail : (node : Node) (word address : ℕ) → IsWordOf graph node word → Tail 0
-      (goes_on text graph node word address)
-  goes_tail X word address inside = tail_far _ _ address
-  goes_tail node word address inside = tail_jump _ _ _ (entered node word inside)
 
   one_code : (number : ℕ) → length (flat_map codes (number ∷ [])) ≤ length (codes number)
   one_code number = omega (arith, ap length (append-nil (codes number)))
 
-  along_tail : (number : ℕ) (edge : Edge) (word : ℕ) → IsWordOf graph edge.to word
-      → Tail (length (codes number)) (goes_along text graph codes number edge word)
-  along_tail number edge word inside =
-      coded _ (flat_map codes (number ∷ [])) _ (goes_tail edge.to word _ inside) (one_code number)
+  goes_exit : (node : Node) (word address : ℕ) → IsWordOf graph node word → Exits (goes_on text graph node word address)
+  goes_exit X word address inside = far_exit address
+  goes_exit node word address inside = exits_jump _ (entered node word inside)
 
-  way_by_small : (number : ℕ) (edge : Edge) (word : ℕ) → IsWordOf graph edge.to word → (slot : Slot)
-      → Small 8 (length (codes number)) (way_by text graph table codes number edge word slot)
-  way_by_small number edge word inside slots.Nothing = small_tail _ _ _ _ (along_tail number edge word inside)
-  way_by_small number edge word inside slots.Off =
-      small_more _ _ 0 _ _ (omega arith) (small_tail _ _ 0 _ (tail_far _ _ table))
-  way_by_small number edge word inside (slots.Word slot) =
-      cond_both (is_transfer (decode_of (slice_index text.words slot.0))) _ _ (Small 8 (length (codes number)))
-      (λ t. small_more _ _ 0 _ _ (omega arith) (small_couple _ _ _ _ _ (transfer_says text slot.0 _ t)))
-      (λ _. cond_both (same_kind edge.kind kinds.Out) _ _ (Small 8 (length (codes number)))
-      (λ _. small_plain _ _ _ _ _ _ _ (coded _ (flat_map codes (number ∷ [])) _ (tail_found _ _ 1) (one_code number))
-      (word_says text slot.0 _))
-      (λ _. small_plain _ _ _ _ _ _ _ (along_tail number edge word inside) (word_says text slot.0 _)))
+  way_by_made : {most : ℕ} (number : ℕ) (edge : Edge) (word : ℕ) → IsEdgeIn graph.blocks graph.opens edge
+      → IsWordOf graph edge.to word → length (flat_map codes (number ∷ [])) ≤ most → (slot : Slot) → edge.slot ≡ slot
+      → Made 8 most (way_by text graph table codes number edge word slot)
+  way_by_made number edge word inside to few slots.Nothing e =
+      bare (flat_map codes (number ∷ [])) few (goes_exit edge.to word _ to) (omega arith)
+  way_by_made number edge word inside to few slots.Off e = bare [] (omega arith) (far_exit table) (omega arith)
+  way_by_made {most = most} number edge word inside to few (slots.Word slot) e =
+      let within : slot.0 < graph.blocks.words = rw e at inside.slot in
+      let at : IsAt text graph edge.from slot.0 =
+      record { inside = inside.from; low = omega (arith, within, g.cut.words) } in
+      let copied = itself edge.from slot.0 at (flat_map codes (number ∷ [])) in
+      cond_both (is_transfer (decode_of (slice_index text.words slot.0))) _ _ (Made 8 most)
+      (λ t. instead edge.from slot.0 at t (straight (couple_word ∷ couple_word ∷ [])) [] (omega arith) (omega arith) tt
+      falls)
+      (λ _. cond_both (same_kind edge.kind kinds.Out) _ _ (Made 8 most)
+      (λ _. copied _ (omega arith) few (exits_by (encoded (go_found 1)) (omega arith)))
+      (λ _. copied _ (omega arith) few (goes_exit edge.to word _ to)))
 
   -- one that is never run
-  idle_small : (most : ℕ) → Small 8 most (jump_to 0)
-  idle_small most = small_more _ _ 0 most _ (omega arith) (small_tail _ _ 0 _ (tail_jump _ _ 0 (omega (arith, many))))
+  idle_made : {most : ℕ} → Made 8 most (jump_to 0)
+  idle_made = bare [] (omega arith) (exits_jump 0 (omega (arith, many))) (omega arith)
 
-  way_small : (number : ℕ) (edge : Edge) → IsNodeIn graph.blocks graph.opens edge.to
-      → Small 8 (way_code codes number edge) (way_along text graph table codes number edge)
-  way_small number edge inside = by (is_fall edge.kind) (same_kind edge.kind kinds.Case)
+  way_made : (number : ℕ) (edge : Edge) → IsEdgeIn graph.blocks graph.opens edge
+      → Made 8 (way_code codes number edge) (way_along text graph table codes number edge)
+  way_made number edge inside = by (is_fall edge.kind) (same_kind edge.kind kinds.Case)
     where
-      by : (fall chosen : Bool) → Small 8 (if fall then 0 else if chosen then 0 else length (codes number))
+      by : (fall chosen : Bool) → Made 8 (if fall then 0 else if chosen then 0 else length (codes number))
           (if fall then jump_to 0 else
           if chosen then jump_to 0 else way_by text graph table codes number edge (first_word graph edge.to) edge.slot)
-      by false false = way_by_small number edge _ (first_word_of text graph g edge.to inside) edge.slot
-      by _ _ = idle_small 0
-
-  -- ---- landings
-
-  landing_tail : (word : ℕ) → word < length text.words → Tail (landing_code graph codes word)
-      (landing text graph codes word)
-  landing_tail word l =
-      coded _ (flat_map codes (landing_at graph (lands graph (Some word)))) _
-      (tail_jump _ _ _ (entered (lands graph (Some word)) word (lands_word text graph g word l))) (omega arith)
+      by false false =
+          way_by_made number edge _ inside (first_word_of text graph g edge.to inside.to) (one_code number) edge.slot refl
+      by _ _ = idle_made
 
   -- ---- Case edges
 
@@ -228,29 +265,28 @@ module _ (text : Words) (graph : Graph) (table cases : ℕ) (codes : ℕ → Lis
       same_node edge.to (lands graph (Some word)) && (same_node edge.from
       (block o.block) && same_kind edge.kind kinds.Case)
 
-  case_by_small : (o : Open) (word : ℕ) → word < length text.words → (numbers : List ℕ)
+  case_by_made : (o : Open) (word : ℕ) → word < length text.words → (numbers : List ℕ)
       → option_to_list (position (Goes o word) graph.edges) ≡ numbers
-      → Small 8 (code_length codes numbers) (case_by text graph table codes word numbers)
-  case_by_small o word l [] e = idle_small 0
-  case_by_small o word l (number ∷ rest) e = by (slice_get graph.edges number) refl
+      → Made 8 (code_length codes numbers) (case_by text graph table codes word numbers)
+  case_by_made o word l [] e = idle_made
+  case_by_made o word l (number ∷ rest) e = by (slice_get graph.edges number) refl
     where
       by : (x : Option Edge) → slice_get graph.edges number ≡ x
-          → Small 8 (code_length codes (number ∷ rest)) (case_by text graph table codes word (number ∷ rest))
-      by None none = rw none (idle_small _)
+          → Made 8 (code_length codes (number ∷ rest)) (case_by text graph table codes word (number ∷ rest))
+      by None none = rw none idle_made
       by (Some edge) here =
           let found = position-Some (Goes o word) graph.edges number edge (number_of_list _ number rest e) in
           let goes : Goes o word edge ≡ true = rw (get_or_from_slice_get graph.edges number edge edge here) at found.1 in
           let to : edge.to ≡ lands graph (Some word) = same_nodes _ _ (and_parts _ _ goes).0 in
           let inside : IsWordOf graph edge.to word = rw to (lands_word text graph g word l) in
-          rw here (small_more _ _ (length (codes number)) _ _
-          (omega (arith, length-append (codes number) (flat_map codes rest)))
-          (way_by_small number edge word inside edge.slot))
+          rw here (way_by_made number edge word (each_at _ graph.edges number edge g.edges here) inside
+          (omega (arith, one_code number, length-append (codes number) (flat_map codes rest))) edge.slot refl)
 
-  case_small : (o : Open) (entry word : ℕ) → word < length text.words
-      → Small 8 (case_code graph codes (o, word)) (case_at text graph table codes o entry word)
-  case_small o entry word l =
-      cond_both (place_in text graph o.targets word == entry) _ _ (Small 8 (case_code graph codes (o, word)))
-      (λ _. case_by_small o word l (case_edge graph o word) refl) (λ _. idle_small _)
+  case_made : (o : Open) (entry word : ℕ) → word < length text.words
+      → Made 8 (case_code graph codes (o, word)) (case_at text graph table codes o entry word)
+  case_made o entry word l =
+      cond_both (place_in text graph o.targets word == entry) _ _ (Made 8 (case_code graph codes (o, word)))
+      (λ _. case_by_made o word l (case_edge graph o word) refl) (λ _. idle_made)
 
   -- ---- all of them: where a snippet isn't long, no piece is
 
@@ -260,9 +296,7 @@ module _ (text : Words) (graph : Graph) (table cases : ℕ) (codes : ℕ → Lis
   -- what holds of each piece
   record IsPiece (items : List Item) : Type 0 where
     few : AreFew → length items ≤ 197
-    marked : AreMarked false items
-    leads : ItemsLead (length pieces) items
-    says : MarksSay text items
+    shaped : IsShaped text graph (length pieces) items
 
   -- Pieces that have at most so many words and Marks.
   record Have (words marks : ℕ) (list : List (List Item)) : Type 0 where
@@ -289,14 +323,16 @@ module _ (text : Words) (graph : Graph) (table cases : ℕ) (codes : ℕ → Lis
     marks_few = omega (arith, one.marks_few, other.marks_few, sum_by-append marks_in xs ys);
   }
 
-  one_piece : {long base marks most : ℕ} {items : List Item} → long ≤ 21 → (AreFew → most ≤ 176)
-      → IsSized text (length pieces) long base marks most items → Have (base + most) marks (items ∷ [])
-  one_piece {items = items} short few sized =
-      let many : AreFew → length items ≤ 197 = λ f. omega (arith, sized.few, few f, short) in
+  one_piece : {size marks most : ℕ} {items : List Item} → size ≤ 21 → (AreFew → most ≤ 176)
+      → IsMade text graph (length pieces) marks size most items → Have (size + most) marks (items ∷ [])
+  one_piece {items = items} short few made =
+      let is = sized made.shaped in
+      let large = made.large in
+      let coded = made.coded in
       record {
-        each = (assumption, tt);
-        words_few = omega (arith, sized.words, sum_by-cons piece_words items []);
-        marks_few = omega (arith, sized.marks, sum_by-cons marks_in items []);
+        each = (record { few = λ f. omega (arith, is.few, few f, short, large, coded); shaped = made.shaped }, tt);
+        words_few = omega (arith, is.words, large, coded, sum_by-cons piece_words items []);
+        marks_few = omega (arith, is.marks, made.once, sum_by-cons marks_in items []);
       }
 
   -- one for each item of a list, of so many words and those of its snippets
@@ -322,17 +358,31 @@ module _ (text : Words) (graph : Graph) (table cases : ℕ) (codes : ℕ → Lis
   abbrev image_at : Node → ℕ → List Item
   image_at = image text graph (jumps_at text table) cases codes
 
-  one_image : (node : Node) (word : ℕ) → Have (19 + image_code text graph codes node word) 1 (image_at node word ∷ [])
-  one_image node word = one_piece (omega arith) (λ f. image_few f node word) (image_small node word)
+  one_image : (node : Node) (word : ℕ) → IsAt text graph node word
+      → Have (21 + image_code text graph codes node word) 1 (image_at node word ∷ [])
+  one_image node word at =
+      one_piece (omega arith) (λ f. image_few f node word)
+      (image_by_made node word at (decode_of (slice_index text.words word)) refl)
 
-  have_ordered : Have (length (below (length text.words)) * 19
+  -- the node of a word's image in the order of the text is one of the graph's
+  ordered_in : (word : ℕ) → word < length text.words → IsAt text graph (node_in_order graph word) word
+  ordered_in word l =
+      let held = in_held graph.blocks.words graph.blocks.firsts g.cut.firsts word (omega (arith, l, g.cut.words)) in
+      record {
+        inside = cond_both (jumps_in graph.opens (holding_of graph.blocks word)) _ _
+            (IsNodeIn graph.blocks graph.opens) (λ h. (held.within, or_left _ _ h)) (λ _. held.within);
+        low = l;
+      }
+
+  have_ordered : Have (length (below (length text.words)) * 21
       + sum_by (order_code text graph codes) (below (length text.words))) (length (below (length text.words)) * 1)
       (images_in_order text graph table cases codes)
   have_ordered =
-      mapped (λ word. image_at (node_in_order graph word) word) 19 1 (order_code text graph codes)
-      (below (length text.words)) (each _ _ (λ word. one_image (node_in_order graph word) word))
+      mapped (λ word. image_at (node_in_order graph word) word) 21 1 (order_code text graph codes)
+      (below (length text.words)) (each-below _ (length text.words)
+      (λ word l. one_image (node_in_order graph word) word (ordered_in word l)))
 
-  have_ways : (number : ℕ) (edges : List Edge) → Each (λ edge. IsNodeIn graph.blocks graph.opens edge.to) edges
+  have_ways : (number : ℕ) (edges : List Edge) → Each (IsEdgeIn graph.blocks graph.opens) edges
       → Have (8 * length edges + ways_code codes number edges) (length edges)
       (ways_from text graph table codes number edges)
   have_ways number [] inside = none
@@ -340,14 +390,16 @@ module _ (text : Words) (graph : Graph) (table cases : ℕ) (codes : ℕ → Lis
       within (omega arith) (omega arith) (joined (one_piece (omega arith)
       (λ f. cond_both (is_fall edge.kind) 0 _ (λ (n : ℕ). n ≤ 176) (λ _. omega arith)
       (λ _. cond_both (same_kind edge.kind kinds.Case) 0 _ (λ (n : ℕ). n ≤ 176) (λ _. omega arith) (λ _. f number)))
-      (way_small number edge inside.0)) (have_ways (suc number) edges inside.1))
+      (way_made number edge inside.0)) (have_ways (suc number) edges inside.1))
 
   have_landings : Have (length (below (length text.words)) * 4
       + sum_by (landing_code graph codes) (below (length text.words))) (length (below (length text.words)) * 0)
       (map (landing text graph codes) (below (length text.words)))
   have_landings =
       mapped (landing text graph codes) 4 0 (landing_code graph codes) (below (length text.words))
-      (each-below _ (length text.words) (λ word l. one_piece (omega arith) (λ f. optional_few f _) (landing_tail word l)))
+      (each-below _ (length text.words) (λ word l. one_piece (omega arith) (λ f. optional_few f _)
+      (bare (flat_map codes (landing_at graph (lands graph (Some word)))) (omega arith)
+      (exits_jump _ (entered (lands graph (Some word)) word (lands_word text graph g word l))) (omega arith))))
 
   have_cases : (o : Open) (entry : ℕ) (words : List ℕ) → Each (λ word. word < length text.words) words
       → Have (8 * length words + sum_by (λ word. case_code graph codes (o, word)) words) (length words)
@@ -355,7 +407,7 @@ module _ (text : Words) (graph : Graph) (table cases : ℕ) (codes : ℕ → Lis
   have_cases o entry [] low = none
   have_cases o entry (word ∷ words) low =
       within (omega (arith, sum_by-cons (λ (w : ℕ). case_code graph codes (o, w)) word words)) (omega arith)
-      (joined (one_piece (omega arith) (λ f. optional_few f _) (case_small o entry word low.0))
+      (joined (one_piece (omega arith) (λ f. optional_few f _) (case_made o entry word low.0))
       (have_cases o (suc entry) words low.1))
 
   have_chosen : (opens : List Open) → Each (λ (o : Open). Each (λ word. word < length text.words) o.targets) opens
@@ -375,40 +427,57 @@ module _ (text : Words) (graph : Graph) (table cases : ℕ) (codes : ℕ → Lis
       (joined (have_cases o 0 o.targets low.0) (have_chosen opens low.1))
 
   -- the images of some words of a block that ends in a transfer
-  have_block : (node : Node) (k : ℕ) → ((word : ℕ) → ends_block graph node word
-      ≡ (word == last_word graph.blocks.firsts graph.blocks.words k))
+  have_block : (node : Node) → IsNodeIn graph.blocks graph.opens node → (k : ℕ)
+      → ((word : ℕ) → ends_block graph node word ≡ (word == last_word graph.blocks.firsts graph.blocks.words k))
       → is_transfer (decode_of (slice_index text.words (last_word graph.blocks.firsts graph.blocks.words k))) ≡ true
-      → (from count : ℕ) → Have (19 * count) count (images_of text graph table cases codes node from count)
-  have_block node k at ends from zero = none
-  have_block node k at ends from (suc count) =
+      → (from count : ℕ) → from + count ≤ length text.words
+      → Have (21 * count) count (images_of text graph table cases codes node from count)
+  have_block node inside k at ends from zero low = none
+  have_block node inside k at ends from (suc count) low =
       within (omega (arith, no_code text graph codes node k from (at from) ends)) (omega arith)
-      (joined (one_image node from) (have_block node k at ends (from + 1) count))
+      (joined (one_image node from (record { inside = inside; low = omega (arith, low) }))
+      (have_block node inside k at ends (from + 1) count (omega (arith, low))))
 
-  have_open : (o : Open) → IsSwitchIn text graph.blocks o
-      → Have (19 * pieces_of text graph o) (words_of graph.blocks o) (open_pieces text graph table cases codes o)
-  have_open o its =
+  keep_made : (instr : Instr) → IsMade text graph (length pieces) 0 4 0 (keep_by instr)
+  keep_made (i.Load kind rd rs1 op2) =
+      bare [] (omega arith) (exits_by (encoded (keep_load rs1 op2)) (omega arith)) (omega arith)
+  keep_made _ = bare [] (omega arith) falls (omega arith)
+
+  have_open : (o : Open) → IsSwitchIn text graph.blocks o → is_copied graph.opens o.switch.compare.0 ≡ true
+      → Have (21 * pieces_of text graph o) (words_of graph.blocks o) (open_pieces text graph table cases codes o)
+  have_open o its copied =
       let first = slice_index graph.blocks.firsts o.block in
       let load = load_of text o in
       let some = some_words graph.blocks.words graph.blocks.firsts g.cut.firsts o.block its.block_in in
+      let ends = block_end_within text graph codes g o.block its.block_in in
+      let images = have_block (block o.block) its.block_in o.block (λ word. refl) its.jumps in
       within (omega (arith, some, its.above, its.below)) (omega (arith, some, its.above, its.below))
-      (joined (joined (have_block (copy o.switch.compare.0) o.switch.compare.0 (λ word. refl) its.branches
-      (slice_index graph.blocks.firsts o.switch.compare.0) (size_of graph.blocks o.switch.compare.0))
-      (have_block (block o.block) o.block (λ word. refl) its.jumps first (load - first)))
-      (joined (one_piece (omega arith) (λ f. omega arith) (tail_keep _ _ (decode_of (slice_index text.words load))))
-      (have_block (block o.block) o.block (λ word. refl) its.jumps load (first + size_of graph.blocks o.block - load))))
+      (joined (joined (have_block (copy o.switch.compare.0) (its.compare_in, copied) o.switch.compare.0 (λ word. refl)
+      its.branches (slice_index graph.blocks.firsts o.switch.compare.0) (size_of graph.blocks o.switch.compare.0)
+      (block_end_within text graph codes g o.switch.compare.0 its.compare_in))
+      (images first (load - first) (omega (arith, some, its.above, its.below, ends))))
+      (joined (one_piece (omega arith) (λ f. omega arith) (keep_made (decode_of (slice_index text.words load))))
+      (images load (first + size_of graph.blocks o.block - load) (omega (arith, some, its.above, its.below, ends)))))
 
   have_opens : (opens : List Open) → Each (IsSwitchIn text graph.blocks) opens
-      → Have (19 * sum_by (pieces_of text graph) opens) (sum_by (words_of graph.blocks) opens)
+      → Each (λ (o : Open). is_copied graph.opens o.switch.compare.0 ≡ true) opens
+      → Have (21 * sum_by (pieces_of text graph) opens) (sum_by (words_of graph.blocks) opens)
       (flat_map (open_pieces text graph table cases codes) opens)
-  have_opens [] its = none
-  have_opens (o ∷ opens) its =
+  have_opens [] its copied = none
+  have_opens (o ∷ opens) its copied =
       within (omega (arith, sum_by-cons (pieces_of text graph) o opens))
-      (omega (arith, sum_by-cons (words_of graph.blocks) o opens)) (joined (have_open o its.0) (have_opens opens its.1))
+      (omega (arith, sum_by-cons (words_of graph.blocks) o opens))
+      (joined (have_open o its.0 copied.0) (have_opens opens its.1 copied.1))
 
-  own_leads : Each (λ edge. IsNodeIn graph.blocks graph.opens edge.to) (own_edges graph)
-  own_leads =
-      each_index _ _ (λ number edge e. each_at (λ (x : Edge). IsNodeIn graph.blocks graph.opens x.to) graph.edges number edge
-      g.leads (g.own number edge e))
+  own_inside : Each (IsEdgeIn graph.blocks graph.opens) (own_edges graph)
+  own_inside = each_index _ _ (λ number edge e. each_at _ graph.edges number edge g.edges (g.own number edge e))
+
+  -- the comparison of an open switch stands in a block that has a copy
+  compares_copied : Each (λ (o : Open). is_copied graph.opens o.switch.compare.0 ≡ true) graph.opens
+  compares_copied =
+      each_index _ graph.opens (λ k o e.
+      or_right (jumps_in graph.opens o.switch.compare.0) (compares_in graph.opens o.switch.compare.0)
+      (any_at (λ (x : Open). x.switch.compare.0 == o.switch.compare.0) graph.opens k o e (eq-eqb _ _ refl)))
 
   -- ---- all of them
 
@@ -423,20 +492,24 @@ module _ (text : Words) (graph : Graph) (table cases : ℕ) (codes : ℕ → Lis
         opened_many opens,
       )
 
-  have_all : Have (19 * length text.words + sum_by (order_code text graph codes) (below (length text.words))
+  have_all : Have (21 * length text.words + sum_by (order_code text graph codes) (below (length text.words))
       + (8 * length (own_edges graph) + ways_code codes 0 (own_edges graph))
       + (4 * length text.words + sum_by (landing_code graph codes) (below (length text.words)))
-      + 19 * sum_by (pieces_of text graph) graph.opens
+      + 21 * sum_by (pieces_of text graph) graph.opens
       + (8 * sum_by (λ (o : Open). length o.targets) graph.opens
-      + sum_by (case_code graph codes) (entries_in graph.opens)) + 8)
+      + sum_by (case_code graph codes) (entries_in graph.opens)) + 4)
       (8 * length text.words) pieces
   unfolding piece_list
   have_all =
       let sizes = length-below (length text.words) in
       within (omega (arith, sizes)) (omega (arith, sizes, g.room, g.entries, g.own_few))
-      (joined (joined (joined (joined (joined have_ordered (have_ways 0 (own_edges graph) own_leads)) have_landings)
-      (have_opens graph.opens g.switches)) (have_chosen graph.opens g.targets))
-      (one_piece (omega arith) (λ f. omega arith) (small_foreign _ _)))
+      (joined (joined (joined (joined (joined have_ordered (have_ways 0 (own_edges graph) own_inside)) have_landings)
+      (have_opens graph.opens g.switches compares_copied)) (have_chosen graph.opens g.targets))
+      (one_piece {size = 4} {marks = 0} {most = 0} (omega arith) (λ f. omega arith)
+      (bare [] (omega arith) (exits_by (encoded foreign) (omega arith)) (omega arith))))
+
+  pub shaped : Each (IsShaped text graph (length pieces)) pieces
+  shaped = each-then IsPiece _ pieces (λ items its. its.shaped) have_all.each
 
   -- a property of each piece, at a piece's number
   at_piece : (P : Option (List Item) → Type 0) → P None → ((items : List Item) → IsPiece items → P (Some items))
@@ -453,7 +526,7 @@ module _ (text : Words) (graph : Graph) (table cases : ℕ) (codes : ℕ → Lis
   item_says k n address node e word at plain =
       at_piece (λ o. item_in o n ≡ Some (it.Mark address node)
       → item_in o (suc n) ≡ Some (it.Word (slice_index text.words word))) (λ q. absurd (cc))
-      (λ items its q. any_says text items its.says n address node q word at plain) k e
+      (λ items its q. mark_says its.shaped n address node q word at plain) k e
 
   -- so many pieces
   few_pieces : length pieces ≤ 10 * length text.words + 1
@@ -474,8 +547,8 @@ module _ (text : Words) (graph : Graph) (table cases : ℕ) (codes : ℕ → Lis
           count = omega (arith, few_pieces, is.few);
           items = omega (arith, items, few_pieces, is.few);
           leads = λ k n. at_piece (λ (o : Option (List Item)). LeadsBelow (length pieces)
-              (item_in o n)) tt (λ items its. any_leads _ n items its.leads) k;
-          marked = at_piece IsMarked tt (λ items its. its.marked);
+              (item_in o n)) tt (λ items its. (sized its.shaped).leads n) k;
+          marked = at_piece IsMarked tt (λ items its. marked its.shaped);
         };
         images = omega (arith, many, foreign_is text graph);
         landings = λ word l. omega (arith, many, lands_below text graph g snips word l);
@@ -501,3 +574,9 @@ places_say text graph table cases codes base p place is h laid n r e word at pla
     let item = item_says text graph table cases codes is (text_graph text graph is h)
     (counted text graph table cases codes is h) m.piece m.item m.address r.node m.mark word (rw (← m.says) at) plain in
     rw m.lo (laid.items m.piece (suc m.item) (it.Word (slice_index text.words word)) item).1
+
+pub pieces_shaped : (text : Words) (graph : Graph) (table cases : ℕ) (codes : ℕ → List ℕ) → IsText text
+    → IsGraphOf text graph → let pieces = piece_list text graph table cases codes in
+    Each (IsShaped text graph (length pieces)) pieces
+pieces_shaped text graph table cases codes is h =
+    shaped text graph table cases codes is (text_graph text graph is h) (counted text graph table cases codes is h)

@@ -43,7 +43,7 @@ pub mod Numbers
 pub mod OpenSums
 pub mod OpenBlocks
 pub mod OpenNumbers
-pub mod SmallPieces
+pub mod Shapes
 pub mod Sized
 pub mod Codes
 pub mod Fit

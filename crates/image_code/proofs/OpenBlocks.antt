@@ -32,7 +32,7 @@ use Rattle.cfg_blocks.proofs.Targets.{targets_within}
 use Rattle.cfg_normal.specs.declared.Edge.{Edge}
 use Rattle.cfg_normal.specs.declared.Node.{Node}
 use Rattle.cfg_normal.specs.Nodes.{same_kind}
-use Rattle.cfg_normal.specs.Code.{AreOne, AreOpenIn, IsOpenIn, IsTableIn, IsNodeIn}
+use Rattle.cfg_normal.specs.Code.{AreOne, AreOpenIn, IsOpenIn, IsTableIn, IsEdgeIn}
 use Rattle.cfg_normal.specs.Opens.{Open, is_copied, jumps_in, targets_in}
 use Rattle.cfg_normal.specs.Graph.{Graph, case_of, copied_edges, edge_of, edges_in, edges_of, graph_of, landing_at, landings_of, ways_out}
 use Rattle.cfg_normal.proofs.Candidates.{opens_are as open_in_blocks}
@@ -41,7 +41,7 @@ use Rattle.cfg_walk.proofs.Cut.{IsCut, cut}
 use Rattle.cfg_walk.proofs.Edges.{block, copy}
 use Rattle.cfg_walk.proofs.Holding.{ends_at_next, ends_at_words, ends_within, is_held, some_words}
 use Rattle.cfg_walk.proofs.Lists.{Each, each, each-append, each-below, each-flat_map, each-map, each-then, each_at, each_in}
-use Rattle.cfg_walk.proofs.Nodes.{edges_lead_in}
+use Rattle.cfg_walk.proofs.NoneOpen.{edges_lie_in}
 use Rattle.cfg_walk.proofs.Ways.{IsOwn, ways_are_own}
 use Rattle.jump_slice.specs.Cases.{IsOpenSwitch}
 use Rattle.jump_slice.proofs.About.{about}
@@ -414,7 +414,7 @@ pub record IsTextGraph (text : Words) (graph : Graph) : Type 0 where
       → slice_get graph.edges number ≡ Some edge
   pub before : (number : ℕ) (edge : Edge) → slice_get graph.edges number ≡ Some edge
       → same_kind edge.kind kinds.Land ≡ false → number < length (own_edges graph)
-  pub leads : Each (λ edge. IsNodeIn graph.blocks graph.opens edge.to) graph.edges
+  pub edges : Each (IsEdgeIn graph.blocks graph.opens) graph.edges
 
 each_from : {A : Type 0} (P Q : A → Type 0) (xs : List A) → ((x : A) → P x → Q x) → All P xs → Each Q xs
 each_from P Q [] f h = tt
@@ -446,5 +446,5 @@ text_graph text graph is_text h =
       no_landings = no_landings b opens;
       own = λ number edge e. get_taken _ number (edges_in b opens) edge e;
       before = own_before b opens;
-      leads = edges_lead_in b opens c.firsts.some;
+      edges = edges_lie_in b opens c.firsts.some;
     })

@@ -23,7 +23,7 @@ use Rattle.cfg_normal.specs.declared.Node.TheVariants.{Block, Landed, X}
 use Rattle.cfg_normal.specs.Nodes.{same_kind, same_node}
 use Rattle.cfg_normal.specs.Opens.{Open, targets_in}
 use Rattle.cfg_normal.specs.Graph.{Graph, lands}
-use Rattle.cfg_normal.specs.Code.{IsNodeIn}
+use Rattle.cfg_normal.specs.Code.{IsEdgeIn, IsNodeIn}
 use Rattle.cfg_walk.specs.Walk.{edge_along, edge_from, ends_block, landing_at, left_by}
 use Rattle.cfg_walk.proofs.Edges.{block, copy, same_itself, same_nodes}
 use Rattle.cfg_walk.proofs.Holding.{ends_within, in_held, some_words}
@@ -169,7 +169,7 @@ module _ (text : Words) (graph : Graph) (codes : ℕ → List ℕ) where
           absurd (false≢true (sym none ∙ rw (le-ltb word graph.blocks.words (omega (arith, m, g.cut.words))) at e))
     ]
 
-    block_end_within : (k : ℕ) → k < length graph.blocks.firsts
+    pub block_end_within : (k : ℕ) → k < length graph.blocks.firsts
         → slice_index graph.blocks.firsts k + size_of graph.blocks k ≤ length text.words
     block_end_within k l =
         omega (
@@ -298,7 +298,7 @@ ways_own codes number (suc count) (edge ∷ edges) own =
 
 module _ (text : Words) (graph : Graph) (codes : ℕ → List ℕ) (g : IsTextGraph text graph) (snips : List (List Op))
     (short : AreShort snips codes) where
-  edges_few : (number : ℕ) (edges : List Edge) → Each (λ edge. IsNodeIn graph.blocks graph.opens edge.to) edges
+  edges_few : (number : ℕ) (edges : List Edge) → Each (IsEdgeIn graph.blocks graph.opens) edges
       → uses (falls text graph codes) codes (below (length text.words)) number edges + own_code codes number edges
       + uses (lands_there text graph codes) codes (below (length text.words)) number edges
       + uses (chooses text graph codes) codes (entries_in graph.opens) number edges
@@ -308,7 +308,7 @@ module _ (text : Words) (graph : Graph) (codes : ℕ → List ℕ) (g : IsTextGr
       omega (
         arith,
         kinds_few edge.kind _ _ _ (length (codes number)) _ _ (falls_count text graph codes edge)
-            (landings_count text graph codes g edge leads.0) (cases_count text graph codes edge),
+            (landings_count text graph codes g edge leads.0.to) (cases_count text graph codes edge),
         mul-le-mul_left (copies_of graph edge) (short.short number),
         mul_left_comm (copies_of graph edge) 22 (length (snippet_on snips number)),
         edges_few (suc number) edges leads.1,
@@ -329,7 +329,7 @@ module _ (text : Words) (graph : Graph) (codes : ℕ → List ℕ) (g : IsTextGr
         uses_cover (chooses text graph codes) codes graph.edges (case_code graph codes) (entries_in graph.opens)
             (each _ _ (λ entry. omega arith)),
         ways_own codes 0 _ graph.edges g.no_landings,
-        edges_few 0 graph.edges g.leads,
+        edges_few 0 graph.edges g.edges,
       )
 
 -- ---- where a block ends in a transfer no snippet stands in its images
