@@ -53,3 +53,7 @@ IsWithin Past h = Unit {0}
 IsWithin (To place) h = IsNear place h
 IsWithin (At place) h = IsNear place h
 IsWithin Stop h = Unit {0}
+
+-- a turn is one of these, within the records, and the run goes on or not as before
+abbrev pub IsTurn : Control → Cursor → State → Instr → State → Type 0
+IsTurn turn h s x t = HasTurned turn h s x t × IsWithin turn h × (t.ending ≡ s.ending)

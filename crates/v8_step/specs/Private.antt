@@ -1,5 +1,5 @@
 -- What only contracts of private functions and models cite.
-use Rattle.std.specs.Prelude.{Bool, true, false, ℕ, List, take, ◌≡◌, Result, Ok, Err, Option, Some, None, ◌-◌, [], unwrap_or, ◌&&◌, ◌==◌, if◌then◌else◌}
+use Rattle.std.specs.Prelude.{Bool, true, false, ℕ, List, take, ◌≡◌, Result, Ok, Err, OnOk, OnErr, IsErrOf, Option, Some, None, ◌-◌, [], unwrap_or, ◌&&◌, ◌==◌, if◌then◌else◌}
 use Rattle.std.specs.Int.{w8, w16, from_be_bytes, Width}
 use Rattle.eel_base.specs.Outside.{appended, TookPart}
 use Rattle.v8_decode.specs.declared.LoadKind.{LoadKind}
@@ -47,6 +47,11 @@ Exchanges width (Ok bytes) (Ok m) old new result =
     (result ≡ Ok (from_be_bytes width bytes)) × (new ≡ record old { memory = m })
 Exchanges width (Ok bytes) (Err fault) old new result = (result ≡ Err fault) × (new ≡ old)
 Exchanges width (Err fault) stored old new result = (result ≡ Err fault) × (new ≡ old)
+
+-- a store is done, or is refused and changes nothing
+abbrev pub Stores : {A : Type 0} → Result Memory MemFault → State → State → Result A MemFault → Type 0
+Stores (Ok m) old new result = OnOk result (new ≡ record old { memory = m }) × OnErr result ⊥
+Stores (Err fault) old new result = IsErrOf result fault × (new ≡ old)
 
 -- the window after the current one was loaded from these bytes, or could not be
 abbrev pub Fills : Option (List ℕ) → State → State → Bool → Type 0

@@ -1,9 +1,10 @@
 //! Loads, stores, LDSTUB and SWAP.
 ghost use Rattle.std.specs.Prelude.{◌≡◌, ◌+◌, ◌%◌, ℕ, suc, [], ◌∷◌, true, false};
 ghost use Rattle.std.specs.Int.{w8, w32, to_be_bytes};
-ghost use Rattle.v8_memory.specs.Calls.{Loads, load_of, store_of};
-ghost use Rattle.v8_step.specs.Accesses.{load_size, extended, load_step, store_step, ldstub_step, swap_step};
-ghost use Rattle.v8_step.specs.Private.{Exchanges, trap_of, value_of};
+ghost use Rattle.v8_memory.specs.Regions.{with_bytes};
+ghost use Rattle.v8_memory.specs.Calls.{Loads, allowed, if_aligned, load_of, store_of};
+ghost use Rattle.v8_step.specs.Accesses.{load_size, store_size, stored, extended, load_step, store_step, ldstub_step, swap_step};
+ghost use Rattle.v8_step.specs.Private.{Exchanges, Stores, trap_of, value_of};
 ghost use Rattle.v8_step.specs.Transfers.{trapped};
 
 use crate::machine::{Machine, register};
@@ -81,9 +82,20 @@ impl Machine {
         requires pair { kind ≡ StoreKind.STD → rd % 2 ≡ 0 }
         ensures { self.new ≡ store_step self.old kind rd address }
     {
+        match self.put(kind, rd, Addr(address)) {
+            Ok(()) => self.go_on(),
+            Err(fault) => self.refuse_access(fault),
+        }
+    }
+
+    /// Stores a register, or a pair of them; where that is refused nothing changes.
+    #[inline(always)]
+    pub(crate) fn put(&mut self, kind: StoreKind, rd: Reg, at: Addr) -> Result<(), MemFault>
+        requires pair { kind ≡ StoreKind.STD → rd % 2 ≡ 0 }
+        ensures { Stores (if_aligned (store_size kind) at.0 (allowed (with_bytes self.old.memory at.0 (stored self.old kind rd)))) self.old self.new result }
+    {
         let value = self.reg(rd);
-        let at = Addr(address);
-        let stored = match kind {
+        match kind {
             StoreKind::ST => self.memory.store32(at, value),
             StoreKind::STB => self.memory.store8(at, (value % 0x100) as u8),
             StoreKind::STH => self.memory.store16(at, (value % 0x1_0000) as u16),
@@ -91,10 +103,6 @@ impl Machine {
                 let second = self.reg(next_register(rd));
                 self.memory.store64(at, (value, second))
             }
-        };
-        match stored {
-            Ok(()) => self.go_on(),
-            Err(fault) => self.refuse_access(fault),
         }
     }
 

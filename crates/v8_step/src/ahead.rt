@@ -9,7 +9,7 @@ ghost use Rattle.v8_memory.specs.Kept.{AreKept};
 ghost use Rattle.v8_memory.specs.Ops.{IsSum, alu_in, instr_of, operand_in};
 ghost use Rattle.v8_memory.specs.Private.{is_record};
 ghost use Rattle.v8_memory.specs.Regions.{code_of};
-ghost use Rattle.v8_step.specs.Ahead.{HasTurned, IsNear, IsWithin, address_at, at_places, slot_by, slot_of};
+ghost use Rattle.v8_step.specs.Ahead.{HasTurned, IsNear, IsTurn, IsWithin, address_at, at_places, slot_by, slot_of};
 ghost use Rattle.v8_step.specs.Turns.{IsQuietRun};
 
 use crate::Slot;
@@ -170,9 +170,7 @@ impl Machine {
     #[inline(always)]
     #[tactic(auto, using(crate::proofs::InOrder::goes_on), unfolding(crate::specs::Step::act))]
     fn sethi_turn(&mut self, op: &Op, here: Cursor) -> Control
-        ensures state { HasTurned result here self.old (instrs.Sethi op.now.rd (cast_unsigned w32 op.now.imm)) self.new }
-        ensures within { IsWithin result here }
-        ensures going { self.new.ending ≡ self.old.ending }
+        ensures { IsTurn result here self.old (instrs.Sethi op.now.rd (cast_unsigned w32 op.now.imm)) self.new }
     {
         self.set(op.rd, op.imm.cast_unsigned().wrapping_mul(1024));
         Control::On
@@ -181,9 +179,7 @@ impl Machine {
     #[inline(always)]
     #[tactic(auto, using(crate::proofs::InOrder::goes_on), unfolding(crate::specs::Step::act))]
     fn read_y_turn(&mut self, op: &Op, here: Cursor) -> Control
-        ensures state { HasTurned result here self.old (instrs.ReadY op.now.rd) self.new }
-        ensures within { IsWithin result here }
-        ensures going { self.new.ending ≡ self.old.ending }
+        ensures { IsTurn result here self.old (instrs.ReadY op.now.rd) self.new }
     {
         self.set(op.rd, self.y);
         Control::On
@@ -193,9 +189,7 @@ impl Machine {
     #[tactic(auto, using(crate::proofs::InOrder::goes_on), unfolding(crate::specs::Step::act))]
     fn write_y_turn(&mut self, op: &Op, here: Cursor) -> Control
         requires sum { IsSum op.now.rs2 op.now.imm }
-        ensures state { HasTurned result here self.old (instrs.WriteY op.now.rs1 (operand_in op.now.rs2 op.now.imm)) self.new }
-        ensures within { IsWithin result here }
-        ensures going { self.new.ending ≡ self.old.ending }
+        ensures { IsTurn result here self.old (instrs.WriteY op.now.rs1 (operand_in op.now.rs2 op.now.imm)) self.new }
     {
         self.y = self.reg(op.rs1) ^ self.op_operand(op);
         Control::On
@@ -206,9 +200,7 @@ impl Machine {
     fn alu_turn(&mut self, kind: AluOp, op: &Op, here: Cursor) -> Control
         requires form { IsTrue (has_form kind true) }
         requires sum { IsSum op.now.rs2 op.now.imm }
-        ensures state { HasTurned result here self.old (alu_in kind true op.now) self.new }
-        ensures within { IsWithin result here }
-        ensures going { self.new.ending ≡ self.old.ending }
+        ensures { IsTurn result here self.old (alu_in kind true op.now) self.new }
     {
         let first = self.reg(op.rs1);
         let second = self.op_operand(op);
@@ -228,9 +220,7 @@ impl Machine {
     #[tactic(auto, using(crate::proofs::InOrder::goes_on), unfolding(crate::specs::Step::act, crate::specs::Step::alu_step))]
     fn logic_turn(&mut self, kind: AluOp, op: &Op, here: Cursor) -> Control
         requires sum { IsSum op.now.rs2 op.now.imm }
-        ensures state { HasTurned result here self.old (alu_in kind true op.now) self.new }
-        ensures within { IsWithin result here }
-        ensures going { self.new.ending ≡ self.old.ending }
+        ensures { IsTurn result here self.old (alu_in kind true op.now) self.new }
     {
         match logic_value(kind, self.reg(op.rs1), self.op_operand(op)) {
             Some(value) => {
@@ -247,9 +237,7 @@ impl Machine {
     fn plain_turn(&mut self, kind: AluOp, op: &Op, here: Cursor) -> Control
         requires form { IsTrue (has_form kind false) }
         requires sum { IsSum op.now.rs2 op.now.imm }
-        ensures state { HasTurned result here self.old (alu_in kind false op.now) self.new }
-        ensures within { IsWithin result here }
-        ensures going { self.new.ending ≡ self.old.ending }
+        ensures { IsTurn result here self.old (alu_in kind false op.now) self.new }
     {
         let first = self.reg(op.rs1);
         let second = self.op_operand(op);
@@ -268,9 +256,7 @@ impl Machine {
     #[tactic(auto, using(crate::proofs::InOrder::goes_on), unfolding(crate::specs::Step::act, crate::specs::Step::alu_step, v8_alu::specs::Alu::alu_of))]
     fn compare_turn(&mut self, op: &Op, here: Cursor) -> Control
         requires sum { IsSum op.now.rs2 op.now.imm }
-        ensures state { HasTurned result here self.old (alu_in AluOp.SUB true op.now) self.new }
-        ensures within { IsWithin result here }
-        ensures going { self.new.ending ≡ self.old.ending }
+        ensures { IsTurn result here self.old (alu_in AluOp.SUB true op.now) self.new }
     {
         let first = self.reg(op.rs1);
         let second = self.op_operand(op);
@@ -284,9 +270,7 @@ impl Machine {
     fn load_turn(&mut self, kind: LoadKind, op: &Op, here: Cursor) -> Control
         requires single { kind ≡ LoadKind.LDD → ⊥ }
         requires sum { IsSum op.now.rs2 op.now.imm }
-        ensures state { HasTurned result here self.old (instrs.Load kind op.now.rd op.now.rs1 (operand_in op.now.rs2 op.now.imm)) self.new }
-        ensures within { IsWithin result here }
-        ensures going { self.new.ending ≡ self.old.ending }
+        ensures { IsTurn result here self.old (instrs.Load kind op.now.rd op.now.rs1 (operand_in op.now.rs2 op.now.imm)) self.new }
     {
         match self.loaded(kind, Addr(self.op_sum(op))) {
             Ok(value) => {
@@ -301,9 +285,7 @@ impl Machine {
     #[tactic(auto, using(crate::proofs::InOrder::goes_on), unfolding(crate::specs::Step::act, crate::specs::Accesses::load_step))]
     fn load_pair_turn(&mut self, op: &Op, here: Cursor) -> Control
         requires sum { IsSum op.now.rs2 op.now.imm }
-        ensures state { HasTurned result here self.old (instrs.Load LoadKind.LDD (2 * (op.now.rd % 16)) op.now.rs1 (operand_in op.now.rs2 op.now.imm)) self.new }
-        ensures within { IsWithin result here }
-        ensures going { self.new.ending ≡ self.old.ending }
+        ensures { IsTurn result here self.old (instrs.Load LoadKind.LDD (2 * (op.now.rd % 16)) op.now.rs1 (operand_in op.now.rs2 op.now.imm)) self.new }
     {
         let rd = pair(op.rd);
         match self.memory.load64(Addr(self.op_sum(op))) {
@@ -321,22 +303,9 @@ impl Machine {
     fn store_turn(&mut self, kind: StoreKind, rd: Reg, op: &Op, here: Cursor) -> Control
         requires pair { kind ≡ StoreKind.STD → rd % 2 ≡ 0 }
         requires sum { IsSum op.now.rs2 op.now.imm }
-        ensures state { HasTurned result here self.old (instrs.Store kind rd op.now.rs1 (operand_in op.now.rs2 op.now.imm)) self.new }
-        ensures within { IsWithin result here }
-        ensures going { self.new.ending ≡ self.old.ending }
+        ensures { IsTurn result here self.old (instrs.Store kind rd op.now.rs1 (operand_in op.now.rs2 op.now.imm)) self.new }
     {
-        let value = self.reg(rd);
-        let at = Addr(self.op_sum(op));
-        let stored = match kind {
-            StoreKind::ST => self.memory.store32(at, value),
-            StoreKind::STB => self.memory.store8(at, (value % 0x100) as u8),
-            StoreKind::STH => self.memory.store16(at, (value % 0x1_0000) as u16),
-            StoreKind::STD => {
-                let second = self.reg(next_register(rd));
-                self.memory.store64(at, (value, second))
-            }
-        };
-        match stored {
+        match self.put(kind, rd, Addr(self.op_sum(op))) {
             Ok(()) => Control::On,
             Err(_) => Control::Stop,
         }
@@ -346,9 +315,7 @@ impl Machine {
     #[tactic(auto, using(crate::proofs::InOrder::goes_on), unfolding(crate::specs::Step::act, crate::specs::Accesses::swap_step))]
     fn swap_turn(&mut self, op: &Op, here: Cursor) -> Control
         requires sum { IsSum op.now.rs2 op.now.imm }
-        ensures state { HasTurned result here self.old (instrs.Swap op.now.rd op.now.rs1 (operand_in op.now.rs2 op.now.imm)) self.new }
-        ensures within { IsWithin result here }
-        ensures going { self.new.ending ≡ self.old.ending }
+        ensures { IsTurn result here self.old (instrs.Swap op.now.rd op.now.rs1 (operand_in op.now.rs2 op.now.imm)) self.new }
     {
         let value = self.reg(op.rd);
         match self.exchange_word(Addr(self.op_sum(op)), value) {
@@ -364,9 +331,7 @@ impl Machine {
     #[tactic(auto, using(crate::proofs::InOrder::goes_on), unfolding(crate::specs::Step::act))]
     fn save_turn(&mut self, op: &Op, here: Cursor) -> Control
         requires sum { IsSum op.now.rs2 op.now.imm }
-        ensures state { HasTurned result here self.old (instrs.Save op.now.rd op.now.rs1 (operand_in op.now.rs2 op.now.imm)) self.new }
-        ensures within { IsWithin result here }
-        ensures going { self.new.ending ≡ self.old.ending }
+        ensures { IsTurn result here self.old (instrs.Save op.now.rd op.now.rs1 (operand_in op.now.rs2 op.now.imm)) self.new }
     {
         if self.save_in_order(op.rd, self.op_sum(op)) {
             Control::On
@@ -379,9 +344,7 @@ impl Machine {
     #[tactic(auto, using(crate::proofs::InOrder::goes_on), unfolding(crate::specs::Step::act))]
     fn restore_turn(&mut self, op: &Op, here: Cursor) -> Control
         requires sum { IsSum op.now.rs2 op.now.imm }
-        ensures state { HasTurned result here self.old (instrs.Restore op.now.rd op.now.rs1 (operand_in op.now.rs2 op.now.imm)) self.new }
-        ensures within { IsWithin result here }
-        ensures going { self.new.ending ≡ self.old.ending }
+        ensures { IsTurn result here self.old (instrs.Restore op.now.rd op.now.rs1 (operand_in op.now.rs2 op.now.imm)) self.new }
     {
         if self.restore_in_order(op.rd, self.op_sum(op)) {
             Control::On
@@ -394,9 +357,7 @@ impl Machine {
     #[inline(always)]
     #[tactic(auto, using(crate::proofs::InOrder::target_place, crate::proofs::InOrder::next_address, crate::proofs::InOrder::after_annulled), unfolding(crate::specs::Step::act, crate::specs::Transfers::branch_step))]
     fn branch_turn(&mut self, cond: Cond, op: &Op, here: Cursor) -> Control
-        ensures state { HasTurned result here self.old (instrs.Branch cond (op.now.rd == 1) op.now.imm) self.new }
-        ensures within { IsWithin result here }
-        ensures going { self.new.ending ≡ self.old.ending }
+        ensures { IsTurn result here self.old (instrs.Branch cond (op.now.rd == 1) op.now.imm) self.new }
     {
         if here.is_in_slot() {
             return Control::Stop;
@@ -426,9 +387,7 @@ impl Machine {
     #[inline(always)]
     #[tactic(auto, using(crate::proofs::InOrder::target_place), unfolding(crate::specs::Step::act, crate::specs::Transfers::call_step))]
     fn call_turn(&mut self, disp30: i32, here: Cursor) -> Control
-        ensures state { HasTurned result here self.old (instrs.Call disp30) self.new }
-        ensures within { IsWithin result here }
-        ensures going { self.new.ending ≡ self.old.ending }
+        ensures { IsTurn result here self.old (instrs.Call disp30) self.new }
     {
         let place = here.place(disp30);
         if here.is_in_slot() || !here.reaches(place) {
@@ -442,9 +401,7 @@ impl Machine {
     #[tactic(auto, using(crate::proofs::InOrder::jump_place), unfolding(crate::specs::Step::act, crate::specs::Transfers::jump_step))]
     fn jump_turn(&mut self, op: &Op, here: Cursor) -> Control
         requires sum { IsSum op.now.rs2 op.now.imm }
-        ensures state { HasTurned result here self.old (instrs.Jmpl op.now.rd op.now.rs1 (operand_in op.now.rs2 op.now.imm)) self.new }
-        ensures within { IsWithin result here }
-        ensures going { self.new.ending ≡ self.old.ending }
+        ensures { IsTurn result here self.old (instrs.Jmpl op.now.rd op.now.rs1 (operand_in op.now.rs2 op.now.imm)) self.new }
     {
         let target = self.op_sum(op);
         let offset = target.wrapping_sub(here.first);
