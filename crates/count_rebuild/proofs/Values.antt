@@ -1,9 +1,9 @@
 -- The values of counters, and the numbers of a flow.
-use Rattle.std.proofs.Common.{below_more, ◌≡◌, ℕ, ◌+◌, ◌*◌, ◌^◌, ◌<◌, ◌==◌, false, List, [], ◌∷◌, length, map, get_or, Option, Some, None, refl, ap, sym, ◌∙◌, subst, arith}
+use Rattle.std.proofs.Common.{◌≡◌, ℕ, ◌+◌, ◌*◌, ◌^◌, ◌<◌, ◌==◌, false, List, [], ◌∷◌, length, map, get_or, Option, Some, None, refl, ap, sym, ◌∙◌, subst, arith}
 use Rattle.std.specs.Prelude.{ℤ, pos, negsuc, nat_abs, slice_index}
 use Rattle.std.specs.List.{All}
 use Rattle.std.proofs.Math.ListN.{get_or-map}
-use Rattle.std.proofs.lemmas.Bool.{cond_both, false≢true, leb-false, lt-leb}
+use Rattle.std.proofs.lemmas.Bool.{cond_both, false≢true, leb-false}
 use Rattle.std.proofs.lemmas.List.{length-map}
 use Rattle.std.proofs.lemmas.List.Elements.{All-cons, All-nil}
 use Rattle.flow_rebuild.specs.Values.{int_at}
@@ -55,10 +55,6 @@ whole_flow flow counts are whole = λ i e. at e i
 
 -- ---- numbers of 64 bits
 
-is_large_below : (z : ℤ) → nat_abs z < 2 ^ 64 → is_large z ≡ false
-is_large_below (pos n) l = lt-leb (2 ^ 64) n l
-is_large_below (negsuc n) l = refl
-
 -- numbers that are neither below 0 nor large fit
 small_count : (z : ℤ) → is_large z ≡ false → is_negative z ≡ false → nat_abs z < 2 ^ 64
 small_count (pos n) small whole = leb-false (2 ^ 64) n small
@@ -73,8 +69,3 @@ small_counts flow counts are whole small e l =
     let is : slice_index counts e ≡ nat_abs (int_at flow e) =
     ap (λ (counts : List ℕ). slice_index counts e) are ∙ get_or-map nat_abs flow e (pos 0) in
     subst (λ (n : ℕ). n < 2 ^ 64) (sym is) (small_count (int_at flow e) (small e inside) (whole e))
-
-pub small_more : (flow : List ℤ) (edge : ℕ) → ((e : ℕ) → e < edge → is_large (int_at flow e) ≡ false)
-    → nat_abs (int_at flow edge) < 2 ^ 64 → (e : ℕ) → e < edge + 1 → is_large (int_at flow e) ≡ false
-small_more flow edge h now =
-    below_more (λ e. is_large (int_at flow e) ≡ false) edge h (is_large_below (int_at flow edge) now)
