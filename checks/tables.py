@@ -634,9 +634,9 @@ REFUSED = {
     'counts carry_loop.narrow narrow_long_run': ([fetch, fetch], told('narrow_long_run', ': ', '4294967296', ' steps', '\n'), 65),
     'counts three_profiled in_no_place': ([fetch, fetch], told('in_no_place', ': pc ', 'fffff000', ' between places\n'), 65),
     'counts branching taken_twice': (
-        [fetch, fetch], told('taken_twice', ': edge ', '1', ' would be ', '-1', '\n'), 65),
+        [fetch, fetch], told('taken_twice', ': ', 'edge ', '1', ' would be ', '-1', '\n'), 65),
     'counts three_profiled too_many_landings': (
-        [fetch, fetch], told('too_many_landings', ': edge ', '0', ' would be ', '18446744073709551616', '\n'), 65),
+        [fetch, fetch], told('too_many_landings', ': ', 'edge ', '0', ' would be ', '18446744073709551616', '\n'), 65),
     'edit short out every': ([fetch], told('short', ': ', 'file fault ', '1', '\n'), 65),
     'edit short out trace 2': ([fetch], told('short', ': ', 'file fault ', '1', '\n'), 65),
     'edit carry_loop out profile rows.bad0': ([fetch, fetch], told('rows.bad0', ': line ', '1', ': ', 'edge', '\n'), 65),
