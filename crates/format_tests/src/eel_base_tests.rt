@@ -13,13 +13,13 @@ fn objects_in_memory_are_used(rt: HostRuntime) -> Result<(), Fail> {
     let mut files = MemFiles::new(alloc, Vec::new(alloc));
     assert_eq!(rt; files.add("a", b"one"), Ok(()));
     assert!(rt; files.put("b", b"four").is_ok());
-    let fetched = files.fetch(alloc, "b", 4).map_err(|_| Fail::from("fetch"))?;
-    let mut sink = MemSink::new(alloc, 6, Vec::new(alloc)).map_err(|_| Fail::from("a sink"))?;
+    let fetched = files.fetch(alloc, "b", 4)?;
+    let mut sink = MemSink::new(alloc, 6, Vec::new(alloc))?;
     assert!(rt; put_all(&mut sink, files.get("a").ok_or("held")?).is_ok());
     assert!(rt; put_all(&mut sink, &fetched).is_err());
     assert_eq!(rt; sink.bytes(), b"onefou".as_slice());
     let mut source = MemSource::new(fetched, Vec::new(alloc));
-    let read = read_all(alloc, &mut source, 4).map_err(|_| Fail::from("read"))?;
+    let read = read_all(alloc, &mut source, 4)?;
     assert_eq!(rt; read.as_slice(), b"four".as_slice());
     Ok(())
 }
@@ -33,9 +33,7 @@ fn real_files_are_put_whole(rt: HostRuntime) -> Result<(), Fail> {
     assert!(rt; files.put(link, b"longer text").is_ok());
     assert!(rt; files.put(link, b"text").is_ok());
     assert!(rt; fs::symlink_metadata(&rt, link)?.is_symlink());
-    let fetched = files
-        .fetch(alloc, name, 4)
-        .map_err(|_| Fail::from("fetch"))?;
+    let fetched = files.fetch(alloc, name, 4)?;
     assert_eq!(rt; fetched.as_slice(), b"text".as_slice());
     assert_eq!(rt; fs::metadata(&rt, name)?.permissions().mode() & 0o111, 0);
     assert!(rt; files.put(name, b"\x7fELF").is_ok());
@@ -59,7 +57,7 @@ fn std_streams_are_sources_and_sinks(rt: HostRuntime) -> Result<(), Fail> {
     assert!(rt; sink.write(b"").is_ok());
     let mut source = StdSource::new(fs::open(&rt, name)?);
     fs::remove_file(&rt, name)?;
-    let read = read_all(rt.alloc(), &mut source, 8).map_err(|_| Fail::from("read"))?;
+    let read = read_all(rt.alloc(), &mut source, 8)?;
     assert_eq!(rt; read.as_slice(), b"a stream".as_slice());
     let mut read_only = StdSink::new(fs::open(&rt, "/dev/null")?);
     assert!(rt; put_all(&mut read_only, b"a").is_err());

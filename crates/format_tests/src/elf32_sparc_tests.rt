@@ -1,37 +1,18 @@
 //! What no clause says: verdicts from outside, the displayed text, and that an image can be read.
+use crate::building::{THREE_WORDS, bytes_of, edited};
 use eel_base::{Addr, WordNo};
 use elf32_sparc::{FileFault, ReadFault, SegFlags, load_verdict, read_image, verdict};
 use std::alloc::{AllocError, Global};
 use std::test::Fail;
 
-/// A program of three words: its file header, one program header, and the words.
-const THREE_WORDS: [u32; 24] = [
-    0x7f454c46, 0x01020100, 0, 0, 0x00020002, 1, 0x00010054, 0x34, 0, 0, 0x00340020, 0x00010000, 0,
-    1, 0x54, 0x00010054, 0x00010054, 0xc, 0xc, 5, 0x00010000, 0x82102001, 0x90102003, 0x91d02010,
-];
-
-/// The program with two of its words replaced, and more words after them.
-fn file(alloc: Global, edits: [(usize, u32); 2], more: &[u32]) -> Result<Vec<u8>, AllocError> {
-    let mut words = Vec::from_slice(alloc, &THREE_WORDS)?;
-    for (at, word) in edits {
-        if let Some(place) = words.get_mut(at) {
-            *place = word;
-        }
-    }
-    words.extend_from_slice(more)?;
-    let mut bytes = Vec::new(alloc);
-    for word in &words {
-        bytes.extend_from_slice(&word.to_be_bytes())?;
-    }
-    Ok(bytes)
+/// The program with some of its words replaced, and more words after them.
+fn file(alloc: Global, edits: &[(usize, u32)], more: &[u32]) -> Result<Vec<u8>, AllocError> {
+    bytes_of(alloc, &edited(alloc, &[&THREE_WORDS, more], edits)?)
 }
 
 /// The number of a verdict, or 0.
 fn number(verdict: Option<FileFault>) -> u8 {
-    match verdict {
-        Some(fault) => fault.code(),
-        None => 0,
-    }
+    verdict.map_or(0, |fault| fault.code())
 }
 
 fn code(bytes: &[u8]) -> u8 {
@@ -42,51 +23,48 @@ fn load_code(bytes: &[u8]) -> u8 {
     number(load_verdict(bytes))
 }
 
-/// No edit.
-const SAME: (usize, u32) = (usize::MAX, 0);
-
-/// Two edits, and the number of the verdict.
-const ONE_SEGMENT: [([(usize, u32); 2], u8); 40] = [
-    ([SAME, SAME], 0),
-    ([(0, 0), SAME], 2),
-    ([(0, 0), (1, 0)], 2),
-    ([(1, 0x02020100), SAME], 3),
-    ([(1, 0x01010100), SAME], 4),
-    ([(1, 0x01020000), SAME], 5),
-    ([(5, 2), SAME], 5),
-    ([(5, 0), (1, 0x01010100)], 4),
-    ([(4, 0x00030002), SAME], 6),
-    ([(4, 0x0002002b), SAME], 7),
-    ([(10, 0x00330020), SAME], 8),
-    ([(10, 0x00340028), SAME], 8),
-    ([(11, 0), SAME], 9),
-    ([(11, 0x00410000), SAME], 9),
-    ([(7, 65), SAME], 9),
-    ([(7, u32::MAX), SAME], 9),
-    ([(13, 2), SAME], 10),
-    ([(13, 3), (14, 0x55)], 10),
-    ([(18, 11), SAME], 11),
-    ([(14, 0x55), SAME], 11),
-    ([(14, u32::MAX), SAME], 11),
-    ([(15, 0xffc), SAME], 12),
-    ([(15, 0x7ffffff8), SAME], 12),
-    ([(15, 0xfffff000), (18, 4096)], 12),
-    ([(15, 0xfffffffc), (20, 3)], 12),
-    ([(20, 3), SAME], 14),
-    ([(20, 0x200000), SAME], 14),
-    ([(15, 0x10058), (6, 0x10058)], 14),
-    ([(19, 7), SAME], 15),
-    ([(19, 4), (6, 0)], 15),
-    ([(13, 0), SAME], 15),
-    ([(15, 0x10056), (20, 1)], 17),
-    ([(17, 3), (18, 3)], 17),
-    ([(18, 0x400004), SAME], 18),
-    ([(18, 0x400003), SAME], 0),
-    ([(6, 0x10060), SAME], 19),
-    ([(6, 0x10056), SAME], 19),
-    ([(6, 0x10050), SAME], 19),
-    ([(6, 0x1005c), (20, 0)], 0),
-    ([(19, 0xfffffffd), SAME], 0),
+/// Edits, and the number of the verdict.
+const ONE_SEGMENT: [(&[(usize, u32)], u8); 40] = [
+    (&[], 0),
+    (&[(0, 0)], 2),
+    (&[(0, 0), (1, 0)], 2),
+    (&[(1, 0x02020100)], 3),
+    (&[(1, 0x01010100)], 4),
+    (&[(1, 0x01020000)], 5),
+    (&[(5, 2)], 5),
+    (&[(5, 0), (1, 0x01010100)], 4),
+    (&[(4, 0x00030002)], 6),
+    (&[(4, 0x0002002b)], 7),
+    (&[(10, 0x00330020)], 8),
+    (&[(10, 0x00340028)], 8),
+    (&[(11, 0)], 9),
+    (&[(11, 0x00410000)], 9),
+    (&[(7, 65)], 9),
+    (&[(7, u32::MAX)], 9),
+    (&[(13, 2)], 10),
+    (&[(13, 3), (14, 0x55)], 10),
+    (&[(18, 11)], 11),
+    (&[(14, 0x55)], 11),
+    (&[(14, u32::MAX)], 11),
+    (&[(15, 0xffc)], 12),
+    (&[(15, 0x7ffffff8)], 12),
+    (&[(15, 0xfffff000), (18, 4096)], 12),
+    (&[(15, 0xfffffffc), (20, 3)], 12),
+    (&[(20, 3)], 14),
+    (&[(20, 0x200000)], 14),
+    (&[(15, 0x10058), (6, 0x10058)], 14),
+    (&[(19, 7)], 15),
+    (&[(19, 4), (6, 0)], 15),
+    (&[(13, 0)], 15),
+    (&[(15, 0x10056), (20, 1)], 17),
+    (&[(17, 3), (18, 3)], 17),
+    (&[(18, 0x400004)], 18),
+    (&[(18, 0x400003)], 0),
+    (&[(6, 0x10060)], 19),
+    (&[(6, 0x10056)], 19),
+    (&[(6, 0x10050)], 19),
+    (&[(6, 0x1005c), (20, 0)], 0),
+    (&[(19, 0xfffffffd)], 0),
 ];
 
 #[test]
@@ -127,7 +105,7 @@ fn with_segment(alloc: Global, entry: [u32; 7]) -> Result<Vec<u8>, AllocError> {
         1, 0x54, 0x10054, 0, 12, 12, 5, 0x10000, p_type, offset, vaddr, 0, filesz, memsz, flags,
         align,
     ];
-    file(alloc, [(7, 96), (11, 0x20000)], &table)
+    file(alloc, &[(7, 96), (11, 0x20000)], &table)
 }
 
 #[test]
@@ -167,14 +145,14 @@ fn a_loaded_segment_has_its_verdict(rt: HostRuntime) -> Result<(), Fail> {
     Ok(())
 }
 
-/// Two edits, and the number of the verdict on a run.
-const LOADED_WITHOUT_TEXT: [([(usize, u32); 2], u8); 6] = [
-    ([SAME, SAME], 0),
-    ([(19, 6), SAME], 0),
-    ([(6, 0), SAME], 0),
-    ([(13, 0), SAME], 0),
-    ([(9, 0), (4, 0x00030002)], 6),
-    ([(11, 0), SAME], 9),
+/// Edits, and the number of the verdict on a run.
+const LOADED_WITHOUT_TEXT: [(&[(usize, u32)], u8); 6] = [
+    (&[], 0),
+    (&[(19, 6)], 0),
+    (&[(6, 0)], 0),
+    (&[(13, 0)], 0),
+    (&[(9, 0), (4, 0x00030002)], 6),
+    (&[(11, 0)], 9),
 ];
 
 #[test]
@@ -189,16 +167,16 @@ fn a_file_without_a_text_loads(rt: HostRuntime) -> Result<(), Fail> {
 #[test]
 fn a_loaded_file_has_at_most_80_headers(rt: HostRuntime) -> Result<(), Fail> {
     let table = [0; 8 * 81];
-    let most = file(rt.alloc(), [(7, 96), (11, 0x500000)], &table)?;
+    let most = file(rt.alloc(), &[(7, 96), (11, 0x500000)], &table)?;
     assert_eq!(rt; load_code(&most), 0);
-    let more = file(rt.alloc(), [(7, 96), (11, 0x510000)], &table)?;
+    let more = file(rt.alloc(), &[(7, 96), (11, 0x510000)], &table)?;
     assert_eq!(rt; load_code(&more), 9);
     Ok(())
 }
 
 #[test]
 fn a_cut_file_has_its_verdict(rt: HostRuntime) -> Result<(), Fail> {
-    let bytes = file(rt.alloc(), [SAME, SAME], &[])?;
+    let bytes = file(rt.alloc(), &[], &[])?;
     let mut cut = Vec::new(rt.alloc());
     for byte in &bytes {
         let want = match cut.len() {
@@ -218,9 +196,9 @@ fn a_cut_file_has_its_verdict(rt: HostRuntime) -> Result<(), Fail> {
     assert_eq!(rt; code(&class), 3);
     // As many headers as may be, and one more.
     let table = [0; 8 * 65];
-    let most = file(rt.alloc(), [(7, 96), (11, 0x400000)], &table)?;
+    let most = file(rt.alloc(), &[(7, 96), (11, 0x400000)], &table)?;
     assert_eq!(rt; code(&most), 15);
-    let more = file(rt.alloc(), [(7, 96), (11, 0x410000)], &table)?;
+    let more = file(rt.alloc(), &[(7, 96), (11, 0x410000)], &table)?;
     assert_eq!(rt; code(&more), 9);
     Ok(())
 }
@@ -272,8 +250,8 @@ const PADDED: [u32; 16] = [
 
 #[test]
 fn a_padded_image_is_read(rt: HostRuntime) -> Result<(), Fail> {
-    let bytes = file(rt.alloc(), [(7, 96), (11, 0x20000)], &PADDED)?;
-    let image = read_image(rt.alloc(), &bytes).map_err(|_| Fail::from("an image"))?;
+    let bytes = file(rt.alloc(), &[(7, 96), (11, 0x20000)], &PADDED)?;
+    let image = read_image(rt.alloc(), &bytes)?;
     assert_eq!(rt; image.segments().len(), 2);
     assert_eq!(rt; image.segments()[0].flags, SegFlags(0x80000005));
     assert_eq!(rt; image.segments()[1].memsz, 0x10001);
@@ -290,8 +268,8 @@ fn a_padded_image_is_read(rt: HostRuntime) -> Result<(), Fail> {
 
 #[test]
 fn an_image_is_read(rt: HostRuntime) -> Result<(), Fail> {
-    let bytes = file(rt.alloc(), [(6, 0x10058), SAME], &[])?;
-    let image = read_image(rt.alloc(), &bytes).map_err(|_| Fail::from("an image"))?;
+    let bytes = file(rt.alloc(), &[(6, 0x10058)], &[])?;
+    let image = read_image(rt.alloc(), &bytes)?;
     assert_eq!(rt; image.entry(), WordNo(1));
     assert_eq!(rt; image.base(), Addr(0x20000));
     assert_eq!(rt; image.room(), 1 << 30);

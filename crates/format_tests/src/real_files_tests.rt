@@ -18,18 +18,14 @@ fn mode_of(rt: &HostRuntime, name: &str) -> Result<u32, Fail> {
 fn mode_after(rt: &HostRuntime, name: &str, mode: u32, bytes: &[u8]) -> Result<u32, Fail> {
     fs::write(rt, name, b"what stood there")?;
     fs::set_permissions(rt, name, Permissions::from_mode(mode))?;
-    RealFiles::new(rt)
-        .put(name, bytes)
-        .map_err(|_| Fail::from("put"))?;
+    RealFiles::new(rt).put(name, bytes)?;
     mode_of(rt, name)
 }
 
 /// Whether the file has these bytes, and is read where no more are allowed.
 fn holds(rt: &HostRuntime, name: &str, bytes: &[u8]) -> bool {
-    match RealFiles::new(rt).fetch(rt.alloc(), name, bytes.len() as u64) {
-        Ok(held) => held.as_slice() == bytes,
-        Err(_) => false,
-    }
+    let held = RealFiles::new(rt).fetch(rt.alloc(), name, bytes.len() as u64);
+    held.is_ok_and(|held| held.as_slice() == bytes)
 }
 
 fn is_there(rt: &HostRuntime, name: &str) -> bool {
@@ -52,10 +48,7 @@ fn a_file_keeps_its_mode(rt: HostRuntime) -> Result<(), Fail> {
     assert_eq!(rt; mode_after(&rt, "modes/all_run", 0o666, b"\x7fELF")?, 0o777);
     assert_eq!(rt; mode_after(&rt, "modes/own_run", 0o600, b"\x7fELF")?, 0o700);
     assert_eq!(rt; mode_after(&rt, "modes/group", 0o070, b"text")?, 0o070);
-    assert_eq!(rt;
-        mode_after(&rt, "modes/others_run", 0o004, b"\x7fELF")?,
-        0o005
-    );
+    assert_eq!(rt; mode_after(&rt, "modes/others", 0o004, b"\x7fELF")?, 0o005);
     Ok(())
 }
 
@@ -63,8 +56,7 @@ fn a_file_keeps_its_mode(rt: HostRuntime) -> Result<(), Fail> {
 fn a_dangling_link_is_followed_from_its_own_folder(rt: HostRuntime) -> Result<(), Fail> {
     fs::create_dir(&rt, "links")?;
     symlink(&rt, "behind_the_link", "links/link")?;
-    let put = RealFiles::new(&rt).put("links/link", b"text");
-    assert_eq!(rt; put, Ok(()));
+    RealFiles::new(&rt).put("links/link", b"text")?;
     assert!(rt; holds(&rt, "links/behind_the_link", b"text"));
     assert!(rt; fs::symlink_metadata(&rt, "links/link")?.is_symlink());
     assert!(rt; !is_there(&rt, "behind_the_link"));
@@ -75,8 +67,7 @@ fn a_dangling_link_is_followed_from_its_own_folder(rt: HostRuntime) -> Result<()
 fn a_new_file_that_is_there_is_left_alone(rt: HostRuntime) -> Result<(), Fail> {
     fs::create_dir(&rt, "taken")?;
     fs::write(&rt, "taken/.eel-new-0", b"another's")?;
-    let put = RealFiles::new(FailingFiles::new(&rt, Call::Move)).put("taken/file", b"text");
-    assert_eq!(rt; put, Ok(()));
+    RealFiles::new(FailingFiles::new(&rt, Call::Move)).put("taken/file", b"text")?;
     assert!(rt; holds(&rt, "taken/file", b"text"));
     assert!(rt; holds(&rt, "taken/.eel-new-0", b"another's"));
     assert!(rt; !is_there(&rt, "taken/.eel-new-1"));
@@ -87,10 +78,10 @@ fn a_new_file_that_is_there_is_left_alone(rt: HostRuntime) -> Result<(), Fail> {
 fn a_file_of_many_bytes_is_whole(rt: HostRuntime) -> Result<(), Fail> {
     let bytes = many_bytes(rt.alloc(), 10_000)?;
     let mut files = RealFiles::new(&rt);
-    assert_eq!(rt; files.put("many", &bytes), Ok(()));
+    files.put("many", &bytes)?;
     assert!(rt; holds(&rt, "many", &bytes));
-    assert_eq!(rt; files.put("many", b"few"), Ok(()));
-    assert_eq!(rt; files.put("many", &bytes), Ok(()));
+    files.put("many", b"few")?;
+    files.put("many", &bytes)?;
     assert!(rt; holds(&rt, "many", &bytes));
     let less = files.fetch(rt.alloc(), "many", 9_999).err();
     assert_eq!(rt; less, Some(FetchFault::TooLong));
@@ -153,16 +144,12 @@ fn a_new_file_has_the_usual_mode(rt: HostRuntime) -> Result<(), Fail> {
         .create_new(true)
         .mode(0o777)
         .open(&rt, "usual/program")?;
-    assert_eq!(rt; files.put("usual/new_text", b"text"), Ok(()));
-    assert_eq!(rt; files.put("usual/new_program", b"\x7fELF"), Ok(()));
-    assert_eq!(rt;
-        mode_of(&rt, "usual/new_text")?,
-        mode_of(&rt, "usual/text")?
-    );
-    assert_eq!(rt;
-        mode_of(&rt, "usual/new_program")?,
-        mode_of(&rt, "usual/program")?
-    );
+    files.put("usual/new_text", b"text")?;
+    files.put("usual/new_program", b"\x7fELF")?;
+    let text = mode_of(&rt, "usual/text")?;
+    assert_eq!(rt; mode_of(&rt, "usual/new_text")?, text);
+    let program = mode_of(&rt, "usual/program")?;
+    assert_eq!(rt; mode_of(&rt, "usual/new_program")?, program);
     Ok(())
 }
 
@@ -174,7 +161,7 @@ fn links_are_followed_to_their_end(rt: HostRuntime) -> Result<(), Fail> {
     symlink(&rt, "far/second", "ways/first")?;
     symlink(&rt, "../file", "ways/far/second")?;
     for _ in 0..2 {
-        assert_eq!(rt; files.put("ways/first", b"text"), Ok(()));
+        files.put("ways/first", b"text")?;
         assert!(rt; holds(&rt, "ways/file", b"text"));
         assert!(rt; fs::symlink_metadata(&rt, "ways/first")?.is_symlink());
         assert!(rt; fs::symlink_metadata(&rt, "ways/far/second")?.is_symlink());
@@ -192,7 +179,7 @@ fn as_many_links_are_followed(rt: HostRuntime) -> Result<(), Fail> {
         symlink(&rt, &next, &link)?;
     }
     assert_eq!(rt; files.put("chain/0", b"text"), Err(PutFault::Failed));
-    assert_eq!(rt; files.put("chain/1", b"text"), Ok(()));
+    files.put("chain/1", b"text")?;
     assert!(rt; holds(&rt, "chain/40", b"text"));
     Ok(())
 }
@@ -205,7 +192,7 @@ fn as_many_names_are_tried(rt: HostRuntime) -> Result<(), Fail> {
         let name = format!(in rt.alloc(); "names/.eel-new-{number}")?;
         fs::write(&rt, &name, b"another's")?;
     }
-    assert_eq!(rt; files.put("names/file", b"text"), Ok(()));
+    files.put("names/file", b"text")?;
     fs::write(&rt, "names/.eel-new-999", b"another's")?;
     assert_eq!(rt; files.put("names/file", b"other"), Err(PutFault::Failed));
     assert!(rt; holds(&rt, "names/file", b"text"));
@@ -219,7 +206,7 @@ fn what_is_no_file_is_written_in_place(rt: HostRuntime) -> Result<(), Fail> {
     let name = format!(in rt.alloc(); "/proc/self/fd/{}", writer.as_raw_fd())?;
     // A link in the test's own folder: a wrong `put` would replace a device of the machine.
     symlink(&rt, &name, "pipe")?;
-    assert_eq!(rt; RealFiles::new(&rt).put("pipe", &bytes), Ok(()));
+    RealFiles::new(&rt).put("pipe", &bytes)?;
     assert!(rt; fs::symlink_metadata(&rt, "pipe")?.is_symlink());
     let mut passed = Vec::new(rt.alloc());
     drop(writer);
@@ -238,8 +225,7 @@ fn a_file_without_a_path_is_written_in_place(rt: HostRuntime) -> Result<(), Fail
         .open(&rt, "gone")?;
     fs::remove_file(&rt, "gone")?;
     let name = format!(in rt.alloc(); "/proc/self/fd/{}", file.as_raw_fd())?;
-    let put = RealFiles::new(&rt).put(&name, &bytes);
-    assert_eq!(rt; put, Ok(()));
+    RealFiles::new(&rt).put(&name, &bytes)?;
     let mut held = Vec::new(rt.alloc());
     file.read_to_end(&mut held)?;
     assert!(rt; held.as_slice() == bytes.as_slice());
@@ -252,18 +238,12 @@ fn what_cannot_be_read_is_a_fault(rt: HostRuntime) -> Result<(), Fail> {
     let fetched = RealFiles::new(&rt).fetch(rt.alloc(), "folder", 1).err();
     assert_eq!(rt; fetched, Some(FetchFault::Failed));
     fs::write(&rt, "folder/file", b"text")?;
-    let wanting = RealFiles::new(FailingFiles::new(&rt, Call::Read)).fetch(
-        rt.alloc(),
-        "folder/file",
-        4,
-    );
-    assert_eq!(rt; wanting.err(), Some(FetchFault::NoMemory));
-    let sizeless = RealFiles::new(FailingFiles::new(&rt, Call::Size)).fetch(
-        rt.alloc(),
-        "folder/file",
-        4,
-    );
-    assert!(rt; sizeless.is_ok_and(|bytes| bytes.as_slice() == b"text".as_slice()));
+    let mut wanting = RealFiles::new(FailingFiles::new(&rt, Call::Read));
+    let fault = wanting.fetch(rt.alloc(), "folder/file", 4).err();
+    assert_eq!(rt; fault, Some(FetchFault::NoMemory));
+    let mut sizeless = RealFiles::new(FailingFiles::new(&rt, Call::Size));
+    let bytes = sizeless.fetch(rt.alloc(), "folder/file", 4)?;
+    assert_eq!(rt; bytes.as_slice(), b"text".as_slice());
     Ok(())
 }
 

@@ -1,10 +1,9 @@
 //! Blocks of small programs, and what leads to each, worked out by hand.
+use crate::programs::NOP;
 use cfg_blocks::{BlockList, blocks};
 use eel_base::{Addr, BlockNo, Text, WordNo};
 use std::alloc::Global;
 use std::test::Fail;
-
-const NOP: u32 = 0x0100_0000;
 
 /// The blocks of these words at 0x10054, where the first word is given and one more.
 fn cut(alloc: Global, words: &[u32], start: u32) -> Result<BlockList, Fail> {
@@ -13,7 +12,7 @@ fn cut(alloc: Global, words: &[u32], start: u32) -> Result<BlockList, Fail> {
     if start >= text.len() {
         return Err(Fail::from("a start"));
     }
-    blocks(alloc, &text, &[WordNo(0)], &[WordNo(start)]).map_err(|_| Fail::from("memory"))
+    Ok(blocks(alloc, &text, &[WordNo(0)], &[WordNo(start)])?)
 }
 
 /// Each block in a line: its first word, how many words, its end, and what leads there.
@@ -33,12 +32,7 @@ fn lines(alloc: Global, words: &[u32], start: u32) -> Result<String, Fail> {
 #[test]
 fn a_call_and_a_return(rt: HostRuntime) -> Result<(), Fail> {
     let words = [
-        0x4000_0004,
-        NOP,
-        0x8210_2001,
-        0x91d0_2010,
-        0x81c3_e008,
-        0x900b_e0ff,
+        0x40000004, NOP, 0x82102001, 0x91d02010, 0x81c3e008, 0x900be0ff,
     ];
     let wants = "0: 0+1 Call { target: Some(WordNo(4)) } Nothing\n\
 1: 1+1 Fall Nothing\n\
@@ -51,7 +45,7 @@ fn a_call_and_a_return(rt: HostRuntime) -> Result<(), Fail> {
 
 #[test]
 fn branches_on_never_and_always(rt: HostRuntime) -> Result<(), Fail> {
-    let words = [0x0080_0003, NOP, 0x2080_0003, NOP, 0x3080_0002, NOP, NOP];
+    let words = [0x00800003, NOP, 0x20800003, NOP, 0x30800002, NOP, NOP];
     let wants = "0: 0+1 Branch { cond: Cond { number: 0 }, annul: false, target: None } Nothing\n\
 1: 1+1 Fall Nothing\n\
 2: 2+1 Branch { cond: Cond { number: 0 }, annul: true, target: None } One(BlockNo(0), Untaken)\n\
@@ -66,9 +60,7 @@ fn branches_on_never_and_always(rt: HostRuntime) -> Result<(), Fail> {
 #[test]
 fn a_slot_that_is_given(rt: HostRuntime) -> Result<(), Fail> {
     let wants = "0: 0+1 Jump Nothing\n1: 1+1 Fall Nothing\n2: 2+1 Fall One(BlockNo(1), Fall)\n";
-    assert_eq!(rt;
-        lines(rt.alloc(), &[0x81c3_e008, NOP, NOP], 1)?.as_str(),
-        wants
-    );
+    let lines = lines(rt.alloc(), &[0x81c3e008, NOP, NOP], 1)?;
+    assert_eq!(rt; lines.as_str(), wants);
     Ok(())
 }

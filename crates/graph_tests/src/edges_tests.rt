@@ -1,32 +1,9 @@
 //! Edges of small programs, worked out by hand.
-use cfg_blocks::{EdgeKind, blocks};
-use cfg_normal::{Edge, FlowGraph, Node, Slot, graph};
-use eel_base::{Addr, BlockNo, Text, WordNo};
-use jump_slice::switches;
-use std::alloc::Global;
+use crate::programs::{NOP, SWITCH_OF_FOUR, view_of};
+use cfg_blocks::EdgeKind;
+use cfg_normal::{Edge, Node, Slot};
+use eel_base::{BlockNo, WordNo};
 use std::test::Fail;
-
-const NOP: u32 = 0x0100_0000;
-
-/// The words of switch_of_four: its third block jumps through the table at its tenth word, of four addresses.
-const SWITCH_OF_FOUR: [u32; 16] = [
-    0x90102003, 0x80a22003, 0x1880000c, 0x912a2002, 0x03000040, 0x82106078, 0xc2004008, 0x81c04000,
-    0x01000000, 0x0001008c, 0x0001008c, 0x0001008c, 0x00010088, 0x90102005, 0x82102001, 0x91d02010,
-];
-
-/// The graph of these words at 0x10054, where the first word is given and one more, with all switches of the text.
-#[tactic(auto, unfolding(cfg_blocks::specs::Entries::entered_of, cfg_blocks::specs::Blocks::blocks_of))]
-pub(crate) fn graph_of(alloc: Global, words: &[u32], start: u32) -> Result<FlowGraph, Fail> {
-    let words = Vec::from_slice(alloc, words)?;
-    let text = Text::new(Addr(0x10054), words).ok_or("a text")?;
-    if start >= text.len() {
-        return Err(Fail::from("a start"));
-    }
-    let list = blocks(alloc, &text, &[WordNo(0), WordNo(start)], &[]);
-    let list = list.map_err(|_| Fail::from("memory"))?;
-    let switches = switches(alloc, &list, &text, WordNo(0)).map_err(|_| Fail::from("memory"))?;
-    graph(alloc, &text, &list, WordNo(0), &switches).map_err(|_| Fail::from("memory"))
-}
 
 fn block(b: u32) -> Node {
     Node::Block(BlockNo(b))
@@ -56,18 +33,10 @@ fn landing(to: Node) -> Edge {
 #[test]
 fn branches_with_and_without_slots(rt: HostRuntime) -> Result<(), Fail> {
     let words = [
-        0x0080_0003,
-        NOP,
-        0x2080_0003,
-        NOP,
-        0x3080_0002,
-        NOP,
-        0x1080_0002,
-        NOP,
-        0x2280_0001,
-        0x81c3_e008,
+        0x00800003, NOP, 0x20800003, NOP, 0x30800002, NOP, 0x10800002, NOP, 0x22800001, 0x81c3e008,
     ];
-    let graph = graph_of(rt.alloc(), &words, 0)?;
+    let view = view_of(rt.alloc(), &words, &[])?;
+    let graph = &view.graph;
     let wants = [
         edge(EdgeKind::Untaken, block(0), block(2), word(1)),
         edge(EdgeKind::Fall, block(1), block(2), Slot::Nothing),
@@ -94,7 +63,8 @@ fn branches_with_and_without_slots(rt: HostRuntime) -> Result<(), Fail> {
 
 #[test]
 fn edges_of_a_switch(rt: HostRuntime) -> Result<(), Fail> {
-    let graph = graph_of(rt.alloc(), &SWITCH_OF_FOUR, 0)?;
+    let view = view_of(rt.alloc(), &SWITCH_OF_FOUR, &[])?;
+    let graph = &view.graph;
     let wants = [
         edge(EdgeKind::Taken, block(0), block(5), word(3)),
         edge(EdgeKind::Untaken, block(0), block(2), word(3)),

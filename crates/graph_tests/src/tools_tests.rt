@@ -1,15 +1,13 @@
 //! A tool: its answers for the edges of a small program.
 ghost use Rattle.tool_kit.specs.Sound.{IsSound};
 
-use crate::edges_tests::graph_of;
+use crate::programs::{NOP, view_of};
 use cfg_normal::FlowGraph;
 use eel_base::WordNo;
 use snippets::Snippet;
 use std::alloc::Global;
 use std::test::Fail;
 use tool_kit::{Chooser, EdgeRef, Tool, ToolKind, snips};
-
-const NOP: u32 = 0x0100_0000;
 
 /// How many operations a callback asks for, and on how many edges.
 fn asked<F: Chooser>(
@@ -22,7 +20,7 @@ fn asked<F: Chooser>(
 {
     let marks = Vec::from_slice(alloc, &[WordNo(1)])?;
     let tool = Tool::new(choose, cells, marks, ToolKind::Script);
-    let snips = snips(alloc, &tool, graph).map_err(|_| Fail::from("memory"))?;
+    let snips = snips(alloc, &tool, graph)?;
     let mut operations = 0usize;
     for snippet in &snips {
         operations = operations.saturating_add(snippet.ops().len());
@@ -51,8 +49,8 @@ impl Chooser for Nothing {
 
 #[test]
 fn each_edge_has_an_answer(rt: HostRuntime) -> Result<(), Fail> {
-    let graph = graph_of(rt.alloc(), &[NOP, NOP], 1)?;
-    let (operations, edges) = asked(rt.alloc(), Nothing, 0, &graph)?;
+    let view = view_of(rt.alloc(), &[NOP, NOP], &[WordNo(1)])?;
+    let (operations, edges) = asked(rt.alloc(), Nothing, 0, &view.graph)?;
     assert_eq!(rt; operations, 0);
     assert_eq!(rt; edges, 4);
     Ok(())
