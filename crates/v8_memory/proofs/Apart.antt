@@ -1,8 +1,6 @@
 -- Where regions are apart, one of them at most has given bytes.
-use Rattle.std.proofs.Common.{◌≡◌, ℕ, zero, suc, ◌+◌, ◌<◌, ◌≤◌, inl, inr, Bool, true, false, ◌&&◌, Option, Some, None, List, [], ◌∷◌, length, map, take, drop, ◌++◌, get_or, slice_set, refl, ap, sym, subst, ◌∙◌, arith}
-use Rattle.std.specs.Borrow.{Bor}
-use Rattle.std.specs.Prelude.{if◌then◌else◌, IsTrue, MatchOption}
-use Rattle.std.specs.Slice.{IsItemAt}
+use Rattle.std.proofs.Common.{◌≡◌, ℕ, zero, suc, ◌+◌, ◌<◌, ◌≤◌, inl, inr, Bool, true, false, ◌&&◌, Option, Some, None, List, [], ◌∷◌, length, map, take, drop, ◌++◌, get_or, slice_set, refl, ap, sym, ◌∙◌, arith}
+use Rattle.std.specs.Prelude.{if◌then◌else◌}
 use Rattle.std.specs.List.{filter, find}
 use Rattle.std.specs.Option.{option_map}
 use Rattle.std.proofs.lemmas.Bool.{and_parts, and_right, cases_Bool, cond_both, cond-true, false_from_ne_true, both_ways}
@@ -174,19 +172,9 @@ found_at address count rs i q some apart within has item =
     (and_parts (is_apart_from heap_span (map span_of rs)) (are_apart (map span_of rs)) apart).1 within has
     ∙ ap (λ (r : Region). Some r) (sym item)
 
--- where the region in a place has bytes, no other has them
-pub only_at : (m seen : Memory) (rs : List Region) (i : ℕ) (r : Option (Bor Region)) → m ≡ seen
-    → regions_apart m.regions ≡ true → m.heap.start ≡ heap_start → m.heap.size ≤ heap_room → rs ≡ m.regions
-    → IsItemAt rs i r
-    → MatchOption r (Unit {0}) (λ region. (address count : ℕ) → 0 < count → IsTrue (covers address count region.now)
-    → region_at seen address count ≡ Some region.now)
-only_at m seen rs i None is apart start room same item = tt
-only_at m seen rs i (Some q) is apart start room same item = λ address count some has.
-    subst (λ z. region_at z address count ≡ Some q.now) is
-    (heap_last m address count q.now some apart start room
-    (ap (find (covers address count)) (sym same)
-    ∙ found_at address count rs i q.now some (rw same apart) item.3.0
-    (ap (covers address count) (sym item.1) ∙ has) item.1))
+pub covers_at : (address count : ℕ) (rs : List Region) (i : ℕ) (q : Region)
+    → covers address count (get_or rs i q) ≡ true → q ≡ get_or rs i q → covers address count q ≡ true
+covers_at address count rs i q has item = ap (covers address count) item ∙ has
 
 -- the region in a place that has the bytes is written, and no other
 pub written_at : (address : ℕ) (bytes : List ℕ) (rs : List Region) (i : ℕ) (old new : Region) → 0 < length bytes

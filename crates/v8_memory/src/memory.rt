@@ -303,7 +303,10 @@ impl Memory {
         if address.0 % size != 0 {
             return Err(MemFault::Misaligned);
         }
-        self.read(address.0, size).ok_or(MemFault::NoAccess)
+        match self.read(address.0, size) {
+            Some(bytes) => Ok(bytes),
+            None => Err(MemFault::NoAccess),
+        }
     }
 
     /// Stores all of the bytes as one access. Where it is inlined, their number is a constant.
@@ -322,12 +325,19 @@ impl Memory {
         }
     }
 
-    /// The region that is asked first for an address. No other region has the bytes that it has.
+    /// The place of the region that is asked first for an address, if all these bytes may be read there.
     #[inline(always)]
-    fn hinted(&self, address: u32) -> Option<&Region>
-        ensures { MatchOption result (Unit {0}) (λ region. (address count : ℕ) → 0 < count → IsTrue (covers address count region.now) → region_at self.now address count ≡ Some region.now) }
+    fn readable_at(&self, address: u32, count: u64) -> Option<usize>
+        requires some { 0 < count }
+        ensures { MatchOption result (Unit {0}) (λ index. (index < length self.now.regions) × ((d : Region) → IsTrue (covers address count (get_or self.now.regions index d))) × ((d : Region) → (get_or self.now.regions index d).readable ≡ true)) }
     {
-        self.regions.get(self.hints.at(address))
+        let index = self.hints.at(address);
+        let region = self.regions.get(index)?;
+        if region.may_read(address, count) {
+            Some(index)
+        } else {
+            None
+        }
     }
 
     /// The place of the region that is asked first for an address, if all these bytes may be written there.
@@ -345,6 +355,19 @@ impl Memory {
         }
     }
 
+    /// The region at this place, which has all these bytes.
+    #[inline(always)]
+    fn region_in(&self, index: usize, address: u32, count: u64) -> &Region
+        requires some { 0 < count }
+        requires within { index < length self.now.regions }
+        requires whole { (d : Region) → IsTrue (covers address count (get_or self.now.regions index d)) }
+        ensures found { region_at self.now address count ≡ Some result.now }
+        ensures whole { IsTrue (covers address count result.now) }
+        ensures readable { ((d : Region) → (get_or self.now.regions index d).readable ≡ true) → result.now.readable ≡ true }
+    {
+        &self.regions[index]
+    }
+
     /// The region that has all these bytes. The heap is asked last.
     #[inline]
     fn searched(&self, address: u32, count: u64) -> Option<&Region>
@@ -358,22 +381,44 @@ impl Memory {
         }
     }
 
-    /// The bytes from an address on, where one region has them all and may be read: first the hinted one and the heap
-    /// are asked.
+    /// The bytes from an address on, where one region has them all and may be read.
     #[inline(always)]
-    #[tactic(auto, unfolding(crate::specs::Regions::bytes_at))]
     fn read(&self, address: u32, count: u32) -> Option<&[u8]>
         requires { 0 < count }
         ensures { MatchOption result (bytes_at self.now address count ≡ None) (λ bytes. (bytes_at self.now address count ≡ Some bytes.now) × (length bytes.now ≡ count)) }
     {
-        match self.hinted(address) {
-            Some(region) if region.may_read(address, u64::from(count)) => {
-                Some(region.part(address, count))
-            }
-            _ if self.heap.may_read(address, u64::from(count)) => {
-                Some(self.heap.part(address, count))
-            }
-            _ => self.read_searched(address, count),
+        match self.readable_at(address, u64::from(count)) {
+            Some(index) => Some(self.read_in(index, address, count)),
+            None => self.read_elsewhere(address, count),
+        }
+    }
+
+    /// The bytes from an address on, where the region at this place has them all and may be read.
+    #[inline(always)]
+    #[tactic(auto, unfolding(crate::specs::Regions::bytes_at))]
+    fn read_in(&self, index: usize, address: u32, count: u32) -> &[u8]
+        requires some { 0 < count }
+        requires within { index < length self.now.regions }
+        requires whole { (d : Region) → IsTrue (covers address count (get_or self.now.regions index d)) }
+        requires may { (d : Region) → (get_or self.now.regions index d).readable ≡ true }
+        ensures bytes { bytes_at self.now address count ≡ Some result.now }
+        ensures len { length result.now ≡ count }
+    {
+        self.region_in(index, address, u64::from(count))
+            .part(address, count)
+    }
+
+    /// The bytes from an address on, where the hinted region doesn't have them all or may not be read.
+    #[inline(always)]
+    #[tactic(auto, unfolding(crate::specs::Regions::bytes_at))]
+    fn read_elsewhere(&self, address: u32, count: u32) -> Option<&[u8]>
+        requires { 0 < count }
+        ensures { MatchOption result (bytes_at self.now address count ≡ None) (λ bytes. (bytes_at self.now address count ≡ Some bytes.now) × (length bytes.now ≡ count)) }
+    {
+        if self.heap.may_read(address, u64::from(count)) {
+            Some(self.heap.part(address, count))
+        } else {
+            self.read_searched(address, count)
         }
     }
 
@@ -438,14 +483,18 @@ impl Memory {
 
     /// Puts a word in the place of another one, in the region at this place.
     #[inline(always)]
+    #[tactic(auto, unfolding(crate::specs::Regions::bytes_at))]
     fn exchange_in(&mut self, index: usize, address: u32, value: u32) -> Result<u32, MemFault>
         requires within { index < length self.old.regions }
         requires whole { (d : Region) → IsTrue (covers address 4 (get_or self.old.regions index d)) }
         requires may { (d : Region) → (get_or self.old.regions index d).writable ≡ true }
         ensures { Exchanges w32 (allowed (bytes_at self.old address 4)) (allowed (with_bytes self.old address (to_be_bytes w32 value))) self.old self.new result }
     {
-        let bytes = self.read(address, 4).ok_or(MemFault::NoAccess)?;
-        let old = word_of(bytes);
+        let region = self.region_in(index, address, 4);
+        if !region.is_readable() {
+            return Err(MemFault::NoAccess);
+        }
+        let old = word_of(region.part(address, 4));
         self.write_in(index, address, &value.to_be_bytes());
         Ok(old)
     }
