@@ -133,6 +133,19 @@ impl BlockList {
         BlockNo(holding_in(&self.firsts, self.words, w.0))
     }
 
+    /// The block that holds the word `w`. `near` and the block behind it are asked first, so that for words in order, each
+    /// near the block of the one before, none is searched for.
+    #[inline]
+    pub fn holding_near(&self, w: WordNo, near: BlockNo) -> BlockNo
+        requires { w.0 < self.now.blocks.words }
+        ensures block { result.0 ≡ holding_of self.now.blocks w.0 }
+        ensures within { result.0 < length self.now.blocks.firsts }
+        ensures above { slice_index self.now.blocks.firsts result.0 ≤ w.0 }
+        ensures below { w.0 < block_end self.now.blocks.firsts self.now.blocks.words result.0 }
+    {
+        BlockNo(held_near(&self.firsts, self.words, w.0, near.0))
+    }
+
     /// What leads to the block `b`. A landing from outside isn't counted, nor is the way on from a block
     /// that is only a delay slot and to which nothing leads.
     #[inline]
@@ -196,6 +209,36 @@ fn holding_in(firsts: &[u32], words: u32, word: u32) -> u32
     ensures below { word < block_end firsts.now words result }
 {
     (firsts.partition_point(|first| *first <= word) - 1) as u32
+}
+
+// Whether a block, if there is one with this number, holds the word.
+#[inline]
+fn is_held(firsts: &[u32], words: u32, word: u32, block: u32) -> bool
+    requires firsts { AreFirsts words firsts.now }
+    requires word { word < words }
+    ensures { IsTrue result → block ≡ count_by (λ first. nat_le first word) firsts.now - 1 }
+{
+    match firsts.get(block as usize) {
+        Some(first) if *first <= word => word <= last_of_block(firsts, words, block),
+        _ => false,
+    }
+}
+
+// The block that holds the word, where this one and the next are asked first.
+#[inline]
+fn held_near(firsts: &[u32], words: u32, word: u32, near: u32) -> u32
+    requires firsts { AreFirsts words firsts.now }
+    requires word { word < words }
+    ensures block { result ≡ count_by (λ first. nat_le first word) firsts.now - 1 }
+{
+    let next = near.wrapping_add(1);
+    if is_held(firsts, words, word, near) {
+        near
+    } else if is_held(firsts, words, word, next) {
+        next
+    } else {
+        holding_in(firsts, words, word)
+    }
 }
 
 // The last word of a block: it stands before the first of the next block, or at the end of the text.

@@ -175,7 +175,7 @@ fn leave_by_cases(
     ensures long { length seen.new ≡ length seen.old }
 {
     for target in targets {
-        let to = nodes.lands(*target);
+        let to = nodes.lands(*target, block);
         add_case(edges, seen, nodes, block, to)?;
     }
     Ok(())

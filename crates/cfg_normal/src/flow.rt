@@ -57,8 +57,16 @@ impl FlowGraph {
         ensures node { result ≡ lands self.now (Some w.0) }
         ensures numbered { IsNumbered (length self.now.blocks.firsts) result }
     {
+        self.lands_near(w, BlockNo(0))
+    }
+
+    /// The same as `lands`, where the block of the word is looked for as by `holding_near`.
+    pub fn lands_near(&self, w: WordNo, near: BlockNo) -> Node
+        ensures node { result ≡ lands self.now (Some w.0) }
+        ensures numbered { IsNumbered (length self.now.blocks.firsts) result }
+    {
         if w.0 < self.nodes.words() {
-            self.nodes.lands(w)
+            self.nodes.lands(w, near)
         } else {
             Node::X
         }
@@ -122,6 +130,19 @@ impl FlowGraph {
         ensures below { w.0 < block_end self.now.blocks.firsts self.now.blocks.words result.0 }
     {
         self.nodes.blocks.holding(w)
+    }
+
+    /// The block that holds the word `w`. `near` and the block behind it are asked first, so that for words in order, each
+    /// near the block of the one before, none is searched for.
+    #[inline]
+    pub fn holding_near(&self, w: WordNo, near: BlockNo) -> BlockNo
+        requires { w.0 < self.now.blocks.words }
+        ensures block { result.0 ≡ holding_of self.now.blocks w.0 }
+        ensures within { result.0 < length self.now.blocks.firsts }
+        ensures above { slice_index self.now.blocks.firsts result.0 ≤ w.0 }
+        ensures below { w.0 < block_end self.now.blocks.firsts self.now.blocks.words result.0 }
+    {
+        self.nodes.blocks.holding_near(w, near)
     }
 }
 

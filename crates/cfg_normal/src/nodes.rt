@@ -69,13 +69,13 @@ impl Nodes {
         landing_of(&self.landings, block)
     }
 
-    /// The node at which control lands that comes to a word from outside.
-    pub(crate) fn lands(&self, w: WordNo) -> Node
+    /// The node at which control lands that comes to a word from outside. Its block is looked for near one.
+    pub(crate) fn lands(&self, w: WordNo, near: BlockNo) -> Node
         requires { w.0 < self.now.blocks.words }
         ensures node { result ≡ lands_of self.now.blocks self.now.opens (Some w.0) }
         ensures numbered { IsNumbered (length self.now.blocks.firsts) result }
     {
-        let block = self.blocks.holding(w);
+        let block = self.blocks.holding_near(w, near);
         if lands_there(self.landing(block), w.0) {
             Node::Landed(block)
         } else {

@@ -36,6 +36,14 @@ pub(crate) fn last_word(graph: &FlowGraph, block: BlockNo) -> WordNo
     WordNo(graph.first(block).0 + graph.words(block) - 1)
 }
 
+/// The block of a node, near which those of the next words lie; for X the first one.
+pub(crate) fn block_of(node: Node) -> BlockNo {
+    match node {
+        Node::Block(block) | Node::Landed(block) => block,
+        Node::X => BlockNo(0),
+    }
+}
+
 // Whether a word is the last one of a node's block.
 fn ends_block(graph: &FlowGraph, node: Node, word: WordNo) -> bool
     requires { IsNumbered (length graph.now.blocks.firsts) node }
@@ -84,13 +92,13 @@ impl<'a> Maker<'a> {
     // ---- where control goes on
 
     // The node of a word's image in the order of the text: the landed copy of a jump's block, and else the block
-    // itself.
-    fn node_of(&self, word: WordNo) -> Node
+    // itself. The block is looked for near one.
+    fn node_of(&self, word: WordNo, near: BlockNo) -> Node
         requires word { word.0 < self.now.graph.now.blocks.words }
         ensures node { result ≡ node_in_order self.now.graph.now word.0 }
         ensures numbered { IsNumbered (length self.now.graph.now.blocks.firsts) result }
     {
-        let block = self.graph.holding(word);
+        let block = self.graph.holding_near(word, near);
         if self.is_jumps(block) {
             Node::Landed(block)
         } else {
@@ -104,7 +112,7 @@ impl<'a> Maker<'a> {
         requires word { word.0 < length self.now.text.now.words }
         ensures { items_of result ≡ next_at_of self.now.text.now self.now.graph.now node word.0 }
     {
-        if same_node(node, self.node_of(word)) {
+        if same_node(node, self.node_of(word, block_of(node))) {
             next_after(self.text, word)
         } else {
             Next::Behind
@@ -281,10 +289,12 @@ impl<'a> Maker<'a> {
             (code_at_of self.now.codes.now) (node_in_order self.now.graph.now word) word)
             (below (length self.now.text.now.words))) }
     {
+        let mut near = BlockNo(0);
         for word in 0..self.text.len() {
             let word = WordNo(word);
-            let node = self.node_of(word);
+            let node = self.node_of(word, near);
             list.push(self.image(alloc, node, word)?)?;
+            near = block_of(node);
         }
         Ok(())
     }

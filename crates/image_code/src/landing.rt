@@ -1,15 +1,19 @@
 //! The landings at words, and the pieces to which the table leads.
 
-ghost use Rattle.std.specs.Prelude.{◌≡◌, ◌++◌, length, map, option_to_list, IfOk, OnOk};
+ghost use Rattle.std.specs.Prelude.{◌≡◌, ◌++◌, length, map, option_to_list, Some, IfOk, OnOk};
 ghost use Rattle.cfg_blocks.specs.Blocks.{below};
+ghost use Rattle.cfg_normal.specs.Graph.{lands};
+ghost use Rattle.cfg_normal.specs.Landings.{IsNumbered};
 ghost use Rattle.image_code.specs.Made.{landing as landing_of, lands_at as lands_at_of};
 ghost use Rattle.image_code.specs.Private.{code_at as code_at_of};
 ghost use Rattle.image_code.specs.Store.{operations_on};
 
+use crate::images::block_of;
 use crate::maker::Maker;
 use crate::numbering::piece;
 use crate::parts::{Next, way_to};
-use eel_base::{NoMemory, PieceNo, WordNo};
+use cfg_normal::Node;
+use eel_base::{BlockNo, NoMemory, PieceNo, WordNo};
 use layout::Piece;
 use snippets::Snippet;
 use std::alloc::Global;
@@ -30,12 +34,14 @@ fn operations(snips: &[Snippet], edge: Option<u32>) -> usize
 impl Maker<'_> {
     // ---- landings
 
-    // The landing at a word: the snippet of its node's landing, and the way to where control enters the word there.
-    fn landing(&self, alloc: Global, word: WordNo) -> Result<Piece, NoMemory>
+    // The landing at a word and its node: the snippet of its node's landing, and the way to where control enters the
+    // word there.
+    fn landing(&self, alloc: Global, word: WordNo, node: Node) -> Result<Piece, NoMemory>
+        requires node { node ≡ lands self.now.graph.now (Some word.0) }
+        requires numbered { IsNumbered (length self.now.graph.now.blocks.firsts) node }
         ensures { IfOk result (λ p. p
             ≡ landing_of self.now.text.now self.now.graph.now (code_at_of self.now.codes.now) word.0) }
     {
-        let node = self.graph.lands(word);
         let edge = self.landing_edge(node);
         let code = self.codes.code_on(edge);
         let to = self.enter(node, word)?;
@@ -48,20 +54,25 @@ impl Maker<'_> {
             ++ map (landing_of self.now.text.now self.now.graph.now (code_at_of self.now.codes.now))
             (below (length self.now.text.now.words))) }
     {
+        let mut near = BlockNo(0);
         for word in 0..self.text.len() {
-            list.push(self.landing(alloc, WordNo(word))?)?;
+            let word = WordNo(word);
+            let node = self.graph.lands_near(word, near);
+            list.push(self.landing(alloc, word, node)?)?;
+            near = block_of(node);
         }
         Ok(())
     }
 
     // ---- the table
 
-    // The piece to which the table leads from a word: where some operation is made there its landing, and else where
-    // control enters its image.
-    fn lands_at(&self, snips: &[Snippet], word: WordNo) -> Result<PieceNo, NoMemory>
+    // The piece to which the table leads from a word, at the node where control lands that comes to it: where some
+    // operation is made there its landing, and else where control enters its image.
+    fn lands_at(&self, snips: &[Snippet], word: WordNo, node: Node) -> Result<PieceNo, NoMemory>
+        requires node { node ≡ lands self.now.graph.now (Some word.0) }
+        requires numbered { IsNumbered (length self.now.graph.now.blocks.firsts) node }
         ensures { IfOk result (λ p. p.0 ≡ lands_at_of self.now.text.now self.now.graph.now snips.now word.0) }
     {
-        let node = self.graph.lands(word);
         if operations(snips, self.landing_edge(node)) == 0 {
             self.enter(node, word)
         } else {
@@ -81,8 +92,12 @@ impl Maker<'_> {
             (below (length self.now.text.now.words))) }
     {
         let mut landings = Vec::with_capacity(alloc, self.text.len() as usize)?;
+        let mut near = BlockNo(0);
         for word in 0..self.text.len() {
-            landings.push(self.lands_at(snips, WordNo(word))?)?;
+            let word = WordNo(word);
+            let node = self.graph.lands_near(word, near);
+            landings.push(self.lands_at(snips, word, node)?)?;
+            near = block_of(node);
         }
         Ok(landings)
     }

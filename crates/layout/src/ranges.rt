@@ -19,6 +19,7 @@ pub struct OpenRange {
 }
 
 // Appends the range of a Mark that ends, if it covers a word.
+#[inline(always)]
 fn close(
     ranges: &mut Vec<Range>,
     open_mark: Option<OpenRange>,
@@ -40,6 +41,7 @@ fn close(
 }
 
 // Passes an entry, and appends the range of the Mark that it ends.
+#[inline(always)]
 fn put_entry(
     ranges: &mut Vec<Range>,
     open_mark: Option<OpenRange>,
@@ -64,6 +66,7 @@ fn put_entry(
 }
 
 /// The address at which an entry stands that has so many words before it.
+#[inline(always)]
 pub fn address(base: Addr, words: u64) -> Addr
     requires low { base.0 + 4 * words ≤ 2 ^ 31 }
     ensures { result.0 ≡ base.0 + 4 * words }
