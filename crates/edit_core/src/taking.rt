@@ -115,8 +115,7 @@ fn landing_words(graph: &FlowGraph, node: Node) -> u32
     ensures few { result ≤ 2 ^ 20 }
 {
     match node {
-        Node::Block(block) => landing_words_in(graph, node, block),
-        Node::Landed(block) => landing_words_in(graph, node, block),
+        Node::Block(block) | Node::Landed(block) => landing_words_in(graph, node, block),
         Node::X => 0,
     }
 }

@@ -50,8 +50,7 @@ fn ends_block(graph: &FlowGraph, node: Node, word: WordNo) -> bool
     ensures { result ≡ ends_block_of graph.now node word.0 }
 {
     match node {
-        Node::Block(block) => word.0 == last_word(graph, block).0,
-        Node::Landed(block) => word.0 == last_word(graph, block).0,
+        Node::Block(block) | Node::Landed(block) => word.0 == last_word(graph, block).0,
         Node::X => false,
     }
 }
@@ -249,8 +248,7 @@ impl<'a> Maker<'a> {
     {
         match node {
             Node::Block(block) => self.jump_at(alloc, visit, block, rd, rs1, op2),
-            Node::Landed(_) => self.jump_out(alloc, visit, node, rd, rs1, op2),
-            Node::X => self.jump_out(alloc, visit, node, rd, rs1, op2),
+            Node::Landed(_) | Node::X => self.jump_out(alloc, visit, node, rd, rs1, op2),
         }
     }
 

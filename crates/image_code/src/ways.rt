@@ -50,8 +50,7 @@ fn first_word(graph: &FlowGraph, node: Node) -> WordNo
     ensures { result.0 ≡ first_word_of graph.now node }
 {
     match node {
-        Node::Block(block) => graph.first(block),
-        Node::Landed(block) => graph.first(block),
+        Node::Block(block) | Node::Landed(block) => graph.first(block),
         Node::X => WordNo(0),
     }
 }
@@ -73,8 +72,7 @@ impl Maker<'_> {
         ensures within { result.0 < length self.now.text.now.words }
     {
         match node {
-            Node::Block(block) => last_word(self.graph, block),
-            Node::Landed(block) => last_word(self.graph, block),
+            Node::Block(block) | Node::Landed(block) => last_word(self.graph, block),
             Node::X => WordNo(0),
         }
     }

@@ -61,8 +61,7 @@ pub(crate) fn first_of(graph: &FlowGraph, node: Node) -> u32
     ensures within { result < graph.now.blocks.words }
 {
     match node {
-        Node::Block(block) => graph.first(block).0,
-        Node::Landed(block) => graph.first(block).0,
+        Node::Block(block) | Node::Landed(block) => graph.first(block).0,
         Node::X => 0,
     }
 }
@@ -76,8 +75,7 @@ pub(crate) fn last_of(graph: &FlowGraph, node: Node) -> u32
     ensures few { graph.now.blocks.words ≤ 2 ^ 20 }
 {
     match node {
-        Node::Block(block) => last_word(graph, block),
-        Node::Landed(block) => last_word(graph, block),
+        Node::Block(block) | Node::Landed(block) => last_word(graph, block),
         Node::X => 0,
     }
 }

@@ -54,8 +54,7 @@ fn is_behind_call(graph: &FlowGraph, to: Node) -> bool
     ensures { result ≡ is_behind_call graph.now.blocks to }
 {
     match to {
-        Node::Block(block) => follows_call(graph, block),
-        Node::Landed(block) => follows_call(graph, block),
+        Node::Block(block) | Node::Landed(block) => follows_call(graph, block),
         Node::X => false,
     }
 }
