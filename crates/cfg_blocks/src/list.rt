@@ -1,5 +1,5 @@
 //! The list of blocks.
-ghost use Rattle.std.specs.Prelude.{◌≡◌, ℕ, ◌+◌, ◌-◌, ◌^◌, ◌<◌, ◌≤◌, ◌++◌, nat_le, length, map, slice_index, slice_index_or, count_by, IfOk, IfSome};
+ghost use Rattle.std.specs.Prelude.{◌≡◌, ℕ, ◌+◌, ◌-◌, ◌^◌, ◌<◌, ◌≤◌, ◌++◌, nat_le, IsTrue, length, map, slice_index, slice_index_or, count_by, IfOk, IfSome};
 ghost use Rattle.cfg_blocks.specs.Arrivals.{entered_in};
 ghost use Rattle.cfg_blocks.specs.Blocks.{below, block_end, end_of, holding_of, last_word, size_of};
 ghost use Rattle.cfg_blocks.specs.Code.{AreFirsts, IsAscending, IsBlockList, ways_in};

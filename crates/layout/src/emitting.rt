@@ -15,7 +15,6 @@ use eel_base::PieceNo;
 use std::alloc::{AllocError, Global};
 
 // Appends a Jump to a piece, unless that is laid next.
-#[inline(always)]
 fn put_jump_before(
     code: &mut Vec<u32>,
     base: u32,
@@ -39,7 +38,6 @@ fn put_jump_before(
 }
 
 // Appends an entry's words.
-#[inline(always)]
 fn put_entry(
     code: &mut Vec<u32>,
     base: u32,

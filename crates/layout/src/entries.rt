@@ -62,7 +62,7 @@ impl<'a> Model for Cursor<'a> {
 }
 
 // The items of the piece with this number.
-#[inline(always)]
+#[inline]
 fn items_at(pieces: &[Piece], k: usize) -> &[Item]
     requires inside { k < length pieces.now }
     ensures { result.now ≡ slice_index_or pieces.now k [] }
@@ -120,7 +120,7 @@ impl<'a> Listing<'a> {
 
 impl<'a> Cursor<'a> {
     /// Takes the next entry.
-    #[inline(always)]
+    #[inline]
     pub fn next(&mut self) -> Entry
         requires more { 0 < length self.old }
         ensures { self.old ≡ result ∷ self.new }
@@ -140,7 +140,7 @@ impl<'a> Cursor<'a> {
     }
 
     /// Whether this piece starts next.
-    #[inline(always)]
+    #[inline]
     pub fn starts(&self, piece: PieceNo) -> bool
         ensures { result ≡ leads_next piece (slice_get self.now 0) }
     {

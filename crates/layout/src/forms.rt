@@ -12,7 +12,7 @@ use eel_base::PieceNo;
 use std::alloc::{AllocError, Global};
 
 // The words that a Jump takes before what is left.
-#[inline(always)]
+#[inline]
 fn jump_width(to: PieceNo, left: &Cursor, long: bool) -> u64
     ensures value { result ≡ width_of long (Some (en.Item (it.Jump to))) (slice_get left.now 0) }
     ensures small { result ≤ 6 }
@@ -25,7 +25,7 @@ fn jump_width(to: PieceNo, left: &Cursor, long: bool) -> u64
 }
 
 /// The words that an entry takes before what is left.
-#[inline(always)]
+#[inline]
 pub fn width(entry: &Entry, left: &Cursor, long: bool) -> u64
     ensures value { result ≡ width_of long (Some entry.now) (slice_get left.now 0) }
     ensures small { result ≤ 6 }
@@ -39,7 +39,7 @@ pub fn width(entry: &Entry, left: &Cursor, long: bool) -> u64
 }
 
 // The piece to which an entry leads.
-#[inline(always)]
+#[inline]
 fn target(entry: &Entry) -> Option<usize>
     ensures { result ≡ target_of (Some entry.now) }
 {
@@ -51,7 +51,7 @@ fn target(entry: &Entry) -> Option<usize>
 }
 
 // Notes how many words come before a piece that starts here.
-#[inline(always)]
+#[inline]
 fn note_start(at: &mut [u64], entry: &Entry, here: u64)
     requires inside { StartsBelow (length at.old) entry.now }
     ensures { at.new ≡ noted at.old entry.now here }
@@ -82,7 +82,7 @@ fn offsets(entries: &Listing, forms: &[bool], at: &mut [u64]) -> u64
 
 // Whether a piece is surely out of reach of an entry that had `before` words before it when a pass began, and has `here`
 // now. Of the piece these are the words before it, as they are now or as they were.
-#[inline(always)]
+#[inline]
 fn is_beyond(before: u64, here: u64, words: u64) -> bool
     requires before { before < 2 ^ 63 }
     requires words { words < 2 ^ 63 }
@@ -92,7 +92,7 @@ fn is_beyond(before: u64, here: u64, words: u64) -> bool
 }
 
 // Whether the piece to which an entry leads is.
-#[inline(always)]
+#[inline]
 fn is_far(entry: &Entry, at: &[u64], before: u64, here: u64) -> bool
     requires leads { IfSome (target_of (Some entry.now)) (λ k. k < length at.now) }
     requires before { before < 2 ^ 63 }
@@ -106,7 +106,7 @@ fn is_far(entry: &Entry, at: &[u64], before: u64, here: u64) -> bool
 }
 
 // Widens an entry that is out of reach. Gives one if it did.
-#[inline(always)]
+#[inline]
 fn widen_entry(
     forms: &mut [bool],
     n: usize,

@@ -19,7 +19,6 @@ pub struct OpenRange {
 }
 
 // Appends the range of a Mark that ends, if it covers a word.
-#[inline(always)]
 fn close(
     ranges: &mut Vec<Range>,
     open_mark: Option<OpenRange>,
@@ -41,7 +40,6 @@ fn close(
 }
 
 // Passes an entry, and appends the range of the Mark that it ends.
-#[inline(always)]
 fn put_entry(
     ranges: &mut Vec<Range>,
     open_mark: Option<OpenRange>,
@@ -66,7 +64,6 @@ fn put_entry(
 }
 
 /// The address at which an entry stands that has so many words before it.
-#[inline(always)]
 pub fn address(base: Addr, words: u64) -> Addr
     requires low { base.0 + 4 * words ≤ 2 ^ 31 }
     ensures { result.0 ≡ base.0 + 4 * words }
