@@ -20,6 +20,9 @@ use snippets::{Op, Snippet};
 use std::alloc::{AllocError, Global};
 use v8_decode::{Part, Reg, RegSet};
 
+// How many words an operation takes at most. Few snippets have more than one.
+const LONGEST: usize = 22;
+
 /// Words that do just a snippet on the cells that stand from `cells` on.
 ///
 /// They work in dead registers first. Others are kept in the editor's page meanwhile, and the codes change only where
@@ -61,7 +64,7 @@ fn code_of(
     let picked = pick(dead, avoid, registers_for(codes_dead, ops));
     let used = used(&picked);
     let spilled = last(used, picked.spills);
-    let mut words = Vec::new(alloc);
+    let mut words = Vec::with_capacity(alloc, LONGEST)?;
     push_saves(&mut words, spilled)?;
     push_ops(&mut words, cells, codes_dead, used, ops)?;
     push_restores(&mut words, spilled)?;
