@@ -11,5 +11,5 @@ returns-clause-code c =
     let out = last_ones c.args.dead c.args.avoid c.args.ops.now _ _ _ _ _ _ used c.used-used.ensures.count pick.count
     pick.spills wanted flag c.last-spilled.ensures in
     whole_code c.args.cells.0 c.args.dead c.args.avoid c.args.ops.now _ _ _ _ _ used out
-    (rw c.new-words.ensures.items at c.in_ok-push_saves.ensures)
+    (rw c.in_ok-words.ensures.items at c.in_ok-push_saves.ensures)
     (rw flag at c.in_ok-push_ops.ensures.code) c.in_ok-push_restores.ensures
