@@ -297,20 +297,6 @@ build_in_turn() {
     trap - INT
 }
 
-# The libraries that the gate has left here, with a file `stamp` each: where no source is newer, and `rt` finds that they
-# are of what stands here, they aren't built again.
-take_from_gate() {
-    [ "$way" = build_statements ] || return
-    set -- $(below eel | sed '1!G;h;$!d') eel
-    for name in "$@"; do
-        made=$here/crates/$name/out/rlib
-        [ -e "$made/stamp" ] && [ ! -e "$made/made_from" ] || return
-        [ -z "$(cd "$here/crates/$name" && find src specs proofs -newer "$made/stamp" 2>/dev/null | head -n 1)" ] || return
-    done
-    (cd "$here/crates/eel" && rt lib) >/dev/null 2>&1 </dev/null || return
-    for name in "$@"; do sum_of "$name" >"$here/crates/$name/out/rlib/made_from"; done
-}
-
 # The crates that aren't built of what stands here, and those that stand on them; $built has the others.
 find_changed() {
     wanted= built=' ' needed_all=" $(below eel_main | tr '\n' ' ')"
@@ -365,7 +351,6 @@ build_all() {
     fi
     rm -rf "$folder"/build.*
     sum=$(sum_of_sources)
-    take_from_gate
     find_changed
     [ -n "$wanted" ] || ! is_built || return 0
     wanted="$wanted eel_main" started=$(date +%s)
