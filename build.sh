@@ -254,15 +254,19 @@ longest_first() {
     ' "$here/build_times.txt" "$here/crates.txt" | sort -rn
 }
 
-# The first of the crates $waiting of which all that it stands on is built.
+# The first of the crates $waiting of which all that it stands on is built, where there is a place for it. Those of the
+# longest chain have one more than the others, if there is memory for it: all others let them go first.
 next_ready() {
-    awk -v built="$built" -v waiting="$waiting" '
+    only=
+    [ "$running" -lt "$at_most" ] || return 0
+    [ "$running" -lt "$at_once" ] || only=$chain
+    awk -v built="$built" -v waiting="$waiting" -v only="$only" '
         /^#/ { next }
         { name = $1; sub(":", "", name); $1 = ""; needs[name] = $0 }
         END {
             split(waiting, names)
             for (at = 1; at in names; at++) {
-                lacking = 0
+                lacking = only && !index(only, " " names[at] " ")
                 count = split(needs[names[at]], needed)
                 for (n = 1; n <= count; n++) if (needed[n] in needs && !index(built, " " needed[n] " ")) lacking = 1
                 if (!lacking) { print names[at]; exit }
@@ -271,7 +275,7 @@ next_ready() {
     ' "$here/crates.txt"
 }
 
-# Begins each crate as soon as what it stands on is built and there is room, of several the first.
+# Begins each crate as soon as what it stands on is built and there is a place, of several the first.
 # Each tells its end and its status through the pipe. What stands above one that fails isn't begun.
 build_in_turn() {
     ends=$logs/ends waiting="$*" failed= running=0
@@ -279,7 +283,7 @@ build_in_turn() {
     # A shell keeps interrupts from what it runs beside itself.
     trap 'trap "" TERM; kill -TERM 0; exit 130' INT
     while
-        while [ "$running" -lt "$at_once" ] && crate=$(next_ready) && [ "$crate" ]; do
+        while crate=$(next_ready) && [ "$crate" ]; do
             (
                 (build_crate "$crate") 3>&-
                 echo "$crate $?" >&3
@@ -360,10 +364,11 @@ build_all() {
     times=$logs/all.times
     : >"$times"
     memory=$(sed -n 's/^MemAvailable: *\([0-9]*\) kB/\1/p' /proc/meminfo)
-    most=$((${memory:-0} / 4000000))
+    places=$((${memory:-0} / 4000000))
+    [ "$places" -ge 1 ] || places=1
+    most=$places
     [ "$most" -le "$(nproc)" ] || most=$(nproc)
-    [ "$most" -ge 1 ] || most=1
-    at_once=$most
+    at_once=$most at_most=$((places > most ? most + 1 : most))
     unpack
     chain=" $(longest_first | awk '$3 >= 80 { print $2 }' | tr '\n' ' ')"
     parts="$count parts, $at_once at once, $(minutes_left) min"
@@ -371,7 +376,7 @@ build_all() {
     build_in_turn $(longest_first | cut -d ' ' -f 2) >&2
     if [ "$failed" ]; then
         # What failed, as for want of memory beside others, is proved again alone.
-        at_once=1 most=1
+        at_once=1 at_most=1 most=1
         build_in_turn $(for name in $(longest_first | cut -d ' ' -f 2); do
             case $built in *" $name "*) ;; *) echo "$name" ;; esac
         done) >&2
