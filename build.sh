@@ -208,7 +208,7 @@ build_crate() {
     status=$?
     kill "$watcher" 2>/dev/null
     if [ $status -ne 0 ]; then
-        echo "eel: $1 could not be proved; $logs/$1.log says why"
+        is_full || echo "eel: $1 could not be proved; $logs/$1.log says why"
         exit 70
     fi
     note "done" "$1"
@@ -281,13 +281,13 @@ build_in_turn() {
     ends=$logs/ends waiting="$*" failed= running=0
     mkfifo "$ends" && exec 3<>"$ends" && rm "$ends" || exit 70
     # A shell keeps interrupts from what it runs beside itself.
-    trap 'trap "" TERM; kill -TERM 0; exit 130' INT
+    trap 'trap "" TERM; kill -TERM 0; echo "eel: interrupted: what is proved stays, and the next call goes on"; exit 130' INT
     while
         while crate=$(next_ready) && [ "$crate" ]; do
             (
                 (build_crate "$crate") 3>&-
                 echo "$crate $?" >&3
-            ) &
+            ) 2>/dev/null &
             running=$((running + 1))
             waiting=$(printf '%s\n' $waiting | grep -vx "$crate")
         done
@@ -296,6 +296,8 @@ build_in_turn() {
         read -r crate status <&3
         running=$((running - 1))
         if [ "$status" -eq 0 ]; then built="$built$crate "; else failed="$failed $crate"; fi
+        # On a full disk nothing more is begun.
+        [ "$status" -eq 0 ] || ! is_full || waiting=
     done
     exec 3>&-
     trap - INT
@@ -321,6 +323,10 @@ find_changed() {
 
 megabytes_free() {
     df -Pk "$folder" | awk 'NR == 2 { print int($4 / 1024) }'
+}
+
+is_full() {
+    [ "$(megabytes_free)" -lt 10 ]
 }
 
 # Of what a library takes, two thirds are an archive that packs to a tenth. All are packed once the program is built, and
@@ -374,7 +380,7 @@ build_all() {
     parts="$count parts, $at_once at once, $(minutes_left) min"
     echo "eel: proving and building the program, once for these sources: $parts" >&2
     build_in_turn $(longest_first | cut -d ' ' -f 2) >&2
-    if [ "$failed" ]; then
+    if [ "$failed" ] && ! is_full; then
         # What failed, as for want of memory beside others, is proved again alone.
         at_once=1 at_most=1 most=1
         build_in_turn $(for name in $(longest_first | cut -d ' ' -f 2); do
@@ -383,11 +389,12 @@ build_all() {
     fi
     if [ "$failed" ]; then
         set -- $failed
-        [ "$(megabytes_free)" -ge 10 ] || stop "the disk of $folder is full; a build takes $room MB"
+        ! is_full || stop "the disk of $folder is full: a build takes $room MB; what is proved stays, and the next call goes on"
         stop "the program could not be built; $logs/$1.log says why"
     fi
     note begun eel_main
     (build_program) >"$logs/eel_main.log" 2>&1 </dev/null
+    [ -x "$folder/eel_main" ] || ! is_full || stop "the disk of $folder is full"
     [ -x "$folder/eel_main" ] || stop "the program could not be built; $logs/eel_main.log says why"
     note_built
     [ "$way" = build_kept ] || pack
