@@ -254,19 +254,15 @@ longest_first() {
     ' "$here/build_times.txt" "$here/crates.txt" | sort -rn
 }
 
-# The first of the crates $waiting of which all that it stands on is built, where there is a place for it. Those of the
-# longest chain have one more than the others, if there is memory for it: all others let them go first.
+# The first of the crates $waiting of which all that it stands on is built.
 next_ready() {
-    only=
-    [ "$running" -lt "$at_most" ] || return 0
-    [ "$running" -lt "$at_once" ] || only=$chain
-    awk -v built="$built" -v waiting="$waiting" -v only="$only" '
+    awk -v built="$built" -v waiting="$waiting" '
         /^#/ { next }
         { name = $1; sub(":", "", name); $1 = ""; needs[name] = $0 }
         END {
             split(waiting, names)
             for (at = 1; at in names; at++) {
-                lacking = only && !index(only, " " names[at] " ")
+                lacking = 0
                 count = split(needs[names[at]], needed)
                 for (n = 1; n <= count; n++) if (needed[n] in needs && !index(built, " " needed[n] " ")) lacking = 1
                 if (!lacking) { print names[at]; exit }
@@ -275,7 +271,7 @@ next_ready() {
     ' "$here/crates.txt"
 }
 
-# Begins each crate as soon as what it stands on is built and there is a place, of several the first.
+# Begins each crate as soon as what it stands on is built and there is room, of several the first.
 # Each tells its end and its status through the pipe. What stands above one that fails isn't begun.
 build_in_turn() {
     ends=$logs/ends waiting="$*" failed= running=0
@@ -283,7 +279,7 @@ build_in_turn() {
     # A shell keeps interrupts from what it runs beside itself.
     trap 'trap "" TERM; kill -TERM 0; echo "eel: interrupted: what is proved stays, and the next call goes on"; exit 130' INT
     while
-        while crate=$(next_ready) && [ "$crate" ]; do
+        while [ "$running" -lt "$at_once" ] && crate=$(next_ready) && [ "$crate" ]; do
             (
                 (build_crate "$crate") 3>&-
                 echo "$crate $?" >&3
@@ -326,7 +322,7 @@ megabytes_free() {
 }
 
 is_full() {
-    [ "$(megabytes_free)" -lt 10 ]
+    [ "$(megabytes_free)" -lt 100 ]
 }
 
 # Of what a library takes, two thirds are an archive that packs to a tenth. All are packed once the program is built, and
@@ -370,11 +366,10 @@ build_all() {
     times=$logs/all.times
     : >"$times"
     memory=$(sed -n 's/^MemAvailable: *\([0-9]*\) kB/\1/p' /proc/meminfo)
-    places=$((${memory:-0} / 4000000))
-    [ "$places" -ge 1 ] || places=1
-    most=$places
+    most=$((${memory:-0} / 4000000))
     [ "$most" -le "$(nproc)" ] || most=$(nproc)
-    at_once=$most at_most=$((places > most ? most + 1 : most))
+    [ "$most" -ge 1 ] || most=1
+    at_once=$most
     unpack
     chain=" $(longest_first | awk '$3 >= 80 { print $2 }' | tr '\n' ' ')"
     parts="$count parts, $at_once at once, $(minutes_left) min"
@@ -382,7 +377,7 @@ build_all() {
     build_in_turn $(longest_first | cut -d ' ' -f 2) >&2
     if [ "$failed" ] && ! is_full; then
         # What failed, as for want of memory beside others, is proved again alone.
-        at_once=1 at_most=1 most=1
+        at_once=1 most=1
         build_in_turn $(for name in $(longest_first | cut -d ' ' -f 2); do
             case $built in *" $name "*) ;; *) echo "$name" ;; esac
         done) >&2
