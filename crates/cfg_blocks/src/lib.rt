@@ -40,7 +40,7 @@ pub enum EdgeKind {
 
 /// How control leaves the last word of a block. A target is the word to which a transfer leads, where the
 /// text has that word; a branch on never has none.
-#[derive(Clone, Copy, PartialEq, Eq, Debug, Drop)]
+#[derive(Clone, Copy, Debug, Drop)]
 pub enum BlockEnd {
     Fall,
     Branch {
@@ -55,14 +55,14 @@ pub enum BlockEnd {
 }
 
 /// A way out of a block: the kind of its edge, and the word to which it leads, where the text has that.
-#[derive(Clone, Copy, PartialEq, Eq, Debug, Drop)]
+#[derive(Clone, Copy, Drop)]
 pub struct WayOut {
     pub kind: EdgeKind,
     pub to: Option<u32>,
 }
 
 /// What leads to a block: nothing, one edge, which leaves that block, or more of them.
-#[derive(Clone, Copy, PartialEq, Eq, Debug, Drop)]
+#[derive(Clone, Copy, Debug, Drop)]
 pub enum Into {
     Nothing,
     One(BlockNo, EdgeKind),

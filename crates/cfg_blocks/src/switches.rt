@@ -4,7 +4,7 @@ use eel_base::{Addr, BlockNo, WordNo};
 
 /// A jump through a table: the word of the JMPL, the block of the comparison, the address of the table's first
 /// entry, and how many entries it has.
-#[derive(Clone, Copy, PartialEq, Eq, Debug, Drop)]
+#[derive(Clone, Copy, Drop)]
 pub struct Switch {
     pub jump: WordNo,
     pub compare: BlockNo,
@@ -14,7 +14,7 @@ pub struct Switch {
 
 /// What is known of a register behind a comparison: nothing, a number, that it is the number compared (the
 /// index), a number and four times the index, or the word that stands at such an address.
-#[derive(Clone, Copy, PartialEq, Eq, Debug, Drop)]
+#[derive(Clone, Copy, Drop)]
 pub enum Value {
     Unknown,
     Const(u32),
@@ -24,7 +24,7 @@ pub enum Value {
 }
 
 /// A comparison of a register with a limit, and the word at which it stands.
-#[derive(Clone, Copy, PartialEq, Eq, Debug, Drop)]
+#[derive(Clone, Copy, Drop)]
 pub struct Compare {
     pub word: u32,
     pub register: u8,
@@ -33,7 +33,7 @@ pub struct Compare {
 
 /// The words from a comparison to a jump: the last of the comparison's block, how many of the slot are run, and
 /// the first and the last of the jump's block.
-#[derive(Clone, Copy, PartialEq, Eq, Debug, Drop)]
+#[derive(Clone, Copy, Drop)]
 pub struct Approach {
     pub compare: Compare,
     pub last: u32,

@@ -5,7 +5,7 @@ use eel_base::Addr;
 use std::alloc::{AllocError, AllocFailed};
 
 /// Why the last edges can't be told.
-#[derive(Clone, Copy, Debug, PartialEq, Eq)]
+#[derive(Clone, Copy)]
 pub enum RingFault {
     /// The notes are not those of a trace.
     NoTrace,

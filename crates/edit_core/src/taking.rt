@@ -20,7 +20,7 @@ use std::alloc::Global;
 use tool_kit::ToolKind;
 
 /// Why a file was not edited.
-#[derive(Clone, Copy, PartialEq, Eq, Debug)]
+#[derive(Clone, Copy)]
 pub enum EditFault {
     File(FileFault),
     /// The edit asks for more bytes than there is room.

@@ -9,7 +9,7 @@ mod search;
 pub use search::flood;
 
 /// Control may go from one place to another, and what it kills on the way isn't live before.
-#[derive(Clone, Copy, Debug, Drop)]
+#[derive(Clone, Copy, Drop)]
 pub struct Link {
     pub from: u32,
     pub to: u32,

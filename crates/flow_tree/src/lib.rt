@@ -14,14 +14,14 @@ pub use growth::grow;
 pub use spanning::span;
 
 /// One step of a tree's growth: the edge that was taken, and the node that it brought in.
-#[derive(Clone, Copy, Drop, PartialEq, Eq, Debug)]
+#[derive(Clone, Copy, Drop)]
 pub struct Join {
     pub edge: usize,
     pub node: usize,
 }
 
 /// A tree as it grew from its root.
-#[derive(Drop, Debug)]
+#[derive(Drop)]
 pub struct Tree {
     pub root: usize,
     /// For each node number, whether the tree has it.

@@ -9,7 +9,7 @@ ghost use Rattle.flows.specs.Laws.{WalksAreFlows, DeterminesWhereNoCycle, AgreeO
 ghost use Rattle.flows.specs.Links.{IsLinked, JoinsNodes, marked};
 
 /// An edge of a graph, by the numbers of the nodes that it leads from and to.
-#[derive(Clone, Copy, Drop, PartialEq, Eq, Debug)]
+#[derive(Clone, Copy, Drop)]
 pub struct Link {
     pub from: usize,
     pub to: usize,

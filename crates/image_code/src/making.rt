@@ -28,7 +28,7 @@ use snippets::Snippet;
 use std::alloc::Global;
 
 /// Where the data stands that new code uses.
-#[derive(Clone, Copy, Debug)]
+#[derive(Clone, Copy)]
 pub struct DataAddresses {
     /// The first cell.
     pub cells: Addr,

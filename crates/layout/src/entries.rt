@@ -10,7 +10,7 @@ use eel_base::PieceNo;
 use std::marker::Model;
 
 /// A part of a layout.
-#[derive(Clone, Copy, Debug)]
+#[derive(Clone, Copy)]
 pub enum Entry {
     /// A piece starts.
     Start(PieceNo),

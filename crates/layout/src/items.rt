@@ -4,7 +4,7 @@ use std::marker::Model;
 use v8_decode::Cond;
 
 /// A part of a piece.
-#[derive(Clone, Copy, Debug)]
+#[derive(Clone, Copy)]
 pub enum Item {
     /// An instruction word.
     Word(u32),

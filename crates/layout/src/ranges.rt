@@ -11,7 +11,7 @@ use eel_base::{Addr, Range};
 use std::alloc::{AllocError, Global};
 
 /// The range of a Mark without its end: where its words begin, and what it says.
-#[derive(Clone, Copy, Debug)]
+#[derive(Clone, Copy)]
 pub struct OpenRange {
     pub lo: Addr,
     pub address: Addr,

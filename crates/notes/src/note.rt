@@ -5,7 +5,7 @@ use eel_base::Range;
 use std::alloc::{AllocError, AllocFailed};
 
 /// A page that was added.
-#[derive(Clone, Copy, Debug, PartialEq, Eq)]
+#[derive(Clone, Copy)]
 pub struct NoteSegment {
     pub start: u32,
     pub length: u32,
@@ -13,7 +13,7 @@ pub struct NoteSegment {
 
 /// An edge of the graph. Its kind is the number of the kind. Its nodes are numbers of blocks, the number of blocks for all
 /// that lies outside the text, and behind that, in the order of the blocks, their landed copies.
-#[derive(Clone, Copy, Debug, PartialEq, Eq)]
+#[derive(Clone, Copy)]
 pub struct NoteEdge {
     pub kind: u32,
     pub from: u32,

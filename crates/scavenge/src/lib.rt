@@ -9,7 +9,7 @@ ghost use Rattle.scavenge.specs.Picks.{free_dead, is_free_dead, spills};
 use v8_decode::{Part, Reg, RegSet};
 
 /// Registers to work in: the first `count` of `regs`. The last `spills` of these must be spilled, the others are dead.
-#[derive(Clone, Copy, Debug, Drop)]
+#[derive(Clone, Copy, Drop)]
 pub struct Picked {
     pub regs: [Reg; 5],
     pub count: u8,

@@ -6,7 +6,7 @@ use crate::snippet::Op;
 use line_words::{is_word, read_number, read_register, split_at};
 
 /// What a line says.
-#[derive(Clone, Copy, Debug, Drop)]
+#[derive(Clone, Copy, Drop)]
 pub(crate) enum Said {
     Nothing,
     Does { edge: u32, op: Op },

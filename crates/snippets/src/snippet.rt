@@ -86,7 +86,7 @@ fn only(reg: Reg) -> RegSet
 const MOST_OPS: usize = 8;
 
 /// At most eight operations, which are done in order.
-#[derive(Clone, Copy, PartialEq, Eq, Debug, Drop)]
+#[derive(Clone, Copy, Drop)]
 pub struct Snippet {
     // behind the operations stands FILLER
     ops: [Op; MOST_OPS],

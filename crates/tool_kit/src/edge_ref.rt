@@ -3,14 +3,14 @@ use cfg_normal::Edge;
 use eel_base::EdgeNo;
 
 /// An edge, with its number in the graph.
-#[derive(Clone, Copy, Debug, PartialEq, Eq, Drop)]
+#[derive(Clone, Copy, Drop)]
 pub struct EdgeRef {
     pub no: EdgeNo,
     pub edge: Edge,
 }
 
 /// What a tool is for.
-#[derive(Clone, Copy, Debug, PartialEq, Eq)]
+#[derive(Clone, Copy)]
 pub enum ToolKind {
     /// Nothing is asked.
     Plain,

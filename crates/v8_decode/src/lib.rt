@@ -249,7 +249,7 @@ pub enum Instr {
 
 /// What an instruction can read or write besides memory: a register of the current window, the
 /// integer condition codes as one, or Y.
-#[derive(Clone, Copy, PartialEq, Eq, Debug, Drop)]
+#[derive(Clone, Copy, Drop)]
 pub enum Part {
     Reg(Reg),
     Icc,

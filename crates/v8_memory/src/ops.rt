@@ -7,7 +7,7 @@ ghost use Rattle.v8_memory.specs.Ops.{IsSum, Stands, alu_in, instr_by, instr_of,
 use v8_decode::{AluOp, Cond, Instr, LoadKind, Op2, Reg, StoreKind};
 
 /// The instructions that have records: some with and without their codes. All else is `Other`.
-#[derive(Clone, Copy, PartialEq, Eq, Debug, Drop)]
+#[derive(Clone, Copy, PartialEq, Eq, Drop)]
 pub enum OpCode {
     Sethi,
     B0,

@@ -17,7 +17,7 @@ use v8_memory::{Memory, RegionPlan};
 use v8_step::Machine;
 
 /// Why a file isn't started.
-#[derive(Clone, Copy, PartialEq, Eq, Debug)]
+#[derive(Clone, Copy, Debug)]
 pub enum LoadFault {
     File(FileFault),
     NoMemory,

@@ -22,7 +22,7 @@ pub use machine::Machine;
 pub use steps::{StepOut, step};
 
 /// Whether the instruction at pc is in the delay slot of a transfer, and whether that one was taken.
-#[derive(Clone, Copy, PartialEq, Eq, Debug, Drop)]
+#[derive(Clone, Copy, Drop)]
 pub enum Slot {
     NoSlot,
     Taken,

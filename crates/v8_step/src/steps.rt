@@ -18,7 +18,7 @@ use v8_alu::{AluOut, AluTrap, alu, decoded_forms};
 use v8_decode::{Cond, Instr, Op2, Reg, decode};
 
 /// What came of a step.
-#[derive(Clone, Copy, PartialEq, Eq, Debug, Drop)]
+#[derive(Clone, Copy, Drop)]
 pub enum StepOut {
     /// The run goes on.
     Went,

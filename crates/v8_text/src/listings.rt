@@ -13,7 +13,7 @@ use line_words::{read_address, split_at};
 use std::alloc::{AllocError, Global};
 
 /// Why some bytes are no listing.
-#[derive(Clone, Copy, Debug, PartialEq, Eq)]
+#[derive(Clone, Copy)]
 pub enum ListFault {
     /// The number of the first line that isn't the next word's, counted from 1.
     Line(u32),

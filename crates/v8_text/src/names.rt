@@ -8,7 +8,7 @@ use line_words::is_word;
 use v8_decode::{AluOp, Cond, LoadKind, StoreKind};
 
 /// What a name says of its instruction: all but the operands.
-#[derive(Clone, Copy, Debug, PartialEq, Eq, Drop)]
+#[derive(Clone, Copy, Drop)]
 pub(crate) enum Name {
     Sethi,
     Branch { cond: Cond, annul: bool },

@@ -10,11 +10,11 @@ use std::marker::Model;
 use v8_decode::Reg;
 
 /// No window is left to enter: the oldest must be saved first.
-#[derive(Clone, Copy, Debug, PartialEq, Eq)]
+#[derive(Clone, Copy)]
 pub struct MustSpill;
 
 /// The window to go back to is in memory: it must be loaded first.
-#[derive(Clone, Copy, Debug, PartialEq, Eq)]
+#[derive(Clone, Copy)]
 pub struct MustFill;
 
 /// The integer registers: the globals and eight windows, of which one is current. It and those after it

@@ -15,7 +15,7 @@ use show_text::{kind_text, node_text};
 use std::alloc::{AllocError, Global};
 
 /// Why some bytes give no weights. The number is that of the first bad line, counted from 1.
-#[derive(Clone, Copy, Debug, PartialEq, Eq)]
+#[derive(Clone, Copy)]
 pub enum WeightFault {
     /// It is outside the grammar, or missing.
     Line(u32),
