@@ -42,10 +42,6 @@ pub fn rebuild(alloc: Global, n: &Notes, d: &Dump) -> Result<Vec<u64>, CountFaul
     keep_tool(n)?;
     let links = links(alloc, &n.edges)?;
     let tree = profile_tree(alloc, n, &links)?;
-    keep_alike(n, d)?;
-    keep_for_them(n, d)?;
-    keep_theirs(n, d)?;
-    keep_short(n, d)?;
     let node = standing(n, d)?;
     let values = values(alloc, n.version, &n.edges, &d.cells)?;
     let flow = flow_rebuild::rebuild(alloc, &links, &tree, &values, n.entry as usize, node)?;
@@ -143,14 +139,19 @@ fn keep_short(n: &Notes, d: &Dump) -> Result<(), CountFault>
     Ok(())
 }
 
-/// The node at which the run stands.
+/// The node at which the run stands, by a dump of the notes' file.
 fn standing(n: &Notes, d: &Dump) -> Result<usize, CountFault>
     requires notes { AreNotes (notes_seen n.now) }
-    requires short { IsShort (notes_seen n.now) (dump_seen d.now) }
+    requires profile { IsProfile (notes_seen n.now) }
+    requires cells { length d.now.cells.items < 2 ^ 32 }
     ensures stands { IfOk result (StandsAt (notes_seen n.now) (dump_seen d.now)) }
     ensures refused { IfErr result (IsRefused (notes_seen n.now) (dump_seen d.now)) }
     ensures judged { IfErr result (λ fault. fault ≢ faults.NoMemory) }
 {
+    keep_alike(n, d)?;
+    keep_for_them(n, d)?;
+    keep_theirs(n, d)?;
+    keep_short(n, d)?;
     match node_at(n, d.pc) {
         Some(node) => Ok(node as usize),
         None => Err(CountFault::Between(d.pc)),
