@@ -1,8 +1,8 @@
 //! The names of instructions.
-ghost use Rattle.std.specs.Prelude.{◌≡◌, ◌<◌, IfSome, if◌then◌else◌, true, false};
+ghost use Rattle.std.specs.Prelude.{◌≡◌, ◌<◌, ◌++◌, IfSome, if◌then◌else◌, true, false};
 ghost use Rattle.std.specs.Str.{bytes_eq};
 ghost use Rattle.v8_text.specs.Texts.{alu_text, branch_text, load_text, store_text, trap_text};
-ghost use Rattle.v8_text.specs.Parts.{alu_in, condition_in, joined_of, leaving, load_in, name_of, setting, single_of, store_in};
+ghost use Rattle.v8_text.specs.Parts.{alu_in, both, condition_in, joined_of, leaving, load_in, name_of, setting, single_of, store_in};
 
 use line_words::is_word;
 use v8_decode::{AluOp, Cond, LoadKind, StoreKind};
@@ -201,11 +201,7 @@ const BOTH: [AluOp; 14] = [
 fn leaving(name: &[u8]) -> Option<AluOp>
     ensures { result ≡ alu_in leaving false name.now }
 {
-    let others = [AluOp::SLL, AluOp::SRL, AluOp::SRA];
-    BOTH.iter()
-        .chain(others.iter())
-        .copied()
-        .find(|op| name == alu_name(*op, false))
+    operation(name, false, &[AluOp::SLL, AluOp::SRL, AluOp::SRA])
 }
 
 /// An operation that sets the codes.
@@ -219,10 +215,17 @@ fn setting(name: &[u8]) -> Option<AluOp>
         AluOp::TSUBccTV,
         AluOp::MULScc,
     ];
+    operation(name, true, &others)
+}
+
+/// An operation of both forms, or one of the others.
+fn operation(name: &[u8], cc: bool, others: &[AluOp]) -> Option<AluOp>
+    ensures { result ≡ alu_in (both ++ others.now) cc name.now }
+{
     BOTH.iter()
         .chain(others.iter())
         .copied()
-        .find(|op| name == alu_name(*op, true))
+        .find(|op| name == alu_name(*op, cc))
 }
 
 /// The condition of a branch.

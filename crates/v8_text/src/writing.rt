@@ -2,7 +2,7 @@
 ghost use Rattle.std.specs.Prelude.{◌≡◌, ◌<◌, ◌++◌, ◌∷◌, [], IfOk, OnOk, decimal};
 ghost use Rattle.v8_decode.specs.declared.Instr.TheVariants as i;
 ghost use Rattle.line_words.specs.Registers.{register_text};
-ghost use Rattle.v8_text.specs.Texts.{comma, instr_text, integer_text, is_spelled, loaded, named, number_text, op2_text, operands, raw_text, sources, stored, target_of, word_text};
+ghost use Rattle.v8_text.specs.Texts.{comma, instr_text, integer_text, is_spelled, loaded, named, number_text, op2_text, operands, sources, stored, target_of, word_text};
 
 use crate::names::{alu_name, branch_name, load_name, store_name, trap_name};
 use eel_base::{Addr, NoMemory, hex8};
@@ -29,7 +29,7 @@ pub(crate) fn put_word(text: &mut Vec<u8>, at: Addr, word: u32) -> Result<(), No
     if is_spelled(word) {
         put_instr(text, at, decode(word))
     } else {
-        put_raw(text, word)
+        put_numbered(text, b".word", word)
     }
 }
 
@@ -38,14 +38,6 @@ pub(crate) fn is_spelled(word: u32) -> bool
     ensures { result ≡ is_spelled word }
 {
     encode(decode(word)) == Some(word)
-}
-
-/// Adds a word that is told as a number.
-fn put_raw(text: &mut Vec<u8>, word: u32) -> Result<(), NoMemory>
-    ensures { OnOk result (text.new.items ≡ text.old.items ++ raw_text word) }
-{
-    put_name(text, b".word")?;
-    put_number(text, word)
 }
 
 /// Adds an instruction.
@@ -98,9 +90,17 @@ fn put_jump(text: &mut Vec<u8>, name: &[u8], at: Addr, displacement: i32) -> Res
     ensures { OnOk result (text.new.items
         ≡ text.old.items ++ named name.now (number_text (target_of at.0 displacement))) }
 {
-    put_name(text, name)?;
     let target = target(at, displacement);
-    put_number(text, target)?;
+    put_numbered(text, name, target)?;
+    Ok(())
+}
+
+/// Adds a name that stands before a number.
+fn put_numbered(text: &mut Vec<u8>, name: &[u8], number: u32) -> Result<(), NoMemory>
+    ensures { OnOk result (text.new.items ≡ text.old.items ++ named name.now (number_text number)) }
+{
+    put_name(text, name)?;
+    put_number(text, number)?;
     Ok(())
 }
 
