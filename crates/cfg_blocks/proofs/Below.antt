@@ -40,6 +40,14 @@ map_below_same zero f g same = refl
 map_below_same (suc n) f g same =
     simp (map-append, map_below_same n f g (λ k h. same k (omega arith)), same n (omega arith))
 
+-- the value at the next is added
+pub map_below_push : {A : Type 0} (n : ℕ) (f : ℕ → A) (xs new : List A) (x : A) → new ≡ xs ++ x ∷ [] → x ≡ f n
+    → (xs ≡ map f (below n)) × (length xs ≡ n) → (new ≡ map f (below (n + 1))) × (length new ≡ n + 1)
+map_below_push n f xs new x is at before = (
+  rw (is, before.0, at, add-one) (simp (map-append)),
+  omega (arith, ap length is, length-append xs (x ∷ []), before.1),
+)
+
 pub list_any-map : {A B : Type 0} (p : B → Bool) (f : A → B) (xs : List A)
     → list_any p (map f xs) ≡ list_any (λ x. p (f x)) xs
 list_any-map p f [] = refl
