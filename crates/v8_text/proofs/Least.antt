@@ -11,7 +11,6 @@ use Rattle.v8_decode.specs.declared.Instr.TheVariants as i
 use Rattle.v8_decode.specs.declared.Op2.{Op2}
 use Rattle.v8_decode.specs.declared.Op2.TheVariants as o
 use Rattle.v8_decode.specs.declared.AluOp.{AluOp}
-use Rattle.v8_decode.specs.declared.AluOp.TheVariants as ops
 use Rattle.v8_decode.specs.declared.LoadKind.{LoadKind}
 use Rattle.v8_decode.specs.contracts.InstrEq.TheImpl.Laws.{laws-law}
 use Rattle.v8_decode.specs.contracts.Op2PartialEq.TheImpl as op2_eq
@@ -43,29 +42,7 @@ load_true : (one other : LoadKind) → load_same one other ≡ true → one ≡ 
 load_true one other same = search rules
 
 alu_true : (one other : AluOp) → alu_same one other ≡ true → one ≡ other
-alu_true ops.ADD ops.ADD same = refl
-alu_true ops.AND ops.AND same = refl
-alu_true ops.OR ops.OR same = refl
-alu_true ops.XOR ops.XOR same = refl
-alu_true ops.SUB ops.SUB same = refl
-alu_true ops.ANDN ops.ANDN same = refl
-alu_true ops.ORN ops.ORN same = refl
-alu_true ops.XNOR ops.XNOR same = refl
-alu_true ops.ADDX ops.ADDX same = refl
-alu_true ops.UMUL ops.UMUL same = refl
-alu_true ops.SMUL ops.SMUL same = refl
-alu_true ops.SUBX ops.SUBX same = refl
-alu_true ops.UDIV ops.UDIV same = refl
-alu_true ops.SDIV ops.SDIV same = refl
-alu_true ops.TADDcc ops.TADDcc same = refl
-alu_true ops.TSUBcc ops.TSUBcc same = refl
-alu_true ops.TADDccTV ops.TADDccTV same = refl
-alu_true ops.TSUBccTV ops.TSUBccTV same = refl
-alu_true ops.MULScc ops.MULScc same = refl
-alu_true ops.SLL ops.SLL same = refl
-alu_true ops.SRL ops.SRL same = refl
-alu_true ops.SRA ops.SRA same = refl
-alu_true _ _ same = absurd (true≢false (sym same))
+alu_true one other same = search rules
 
 bit_true : (b g : Bool) → same_instr (i.Branch 0 b (pos 0)) (i.Branch 0 g (pos 0)) ≡ true → b ≡ g
 bit_true true true same = refl
