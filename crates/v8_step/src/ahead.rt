@@ -9,7 +9,7 @@ ghost use Rattle.v8_memory.specs.Kept.{AreKept};
 ghost use Rattle.v8_memory.specs.Ops.{IsSum, alu_in, instr_of, operand_in};
 ghost use Rattle.v8_memory.specs.Private.{is_record};
 ghost use Rattle.v8_memory.specs.Regions.{code_of};
-ghost use Rattle.v8_step.specs.Ahead.{HasTurned, IsNear, IsTurn, IsWithin, address_at, at_places, slot_by, slot_of};
+ghost use Rattle.v8_step.specs.Ahead.{IsNear, IsTurn, address_at, at_places, slot_by, slot_of};
 ghost use Rattle.v8_step.specs.Turns.{IsQuietRun};
 
 use crate::Slot;
@@ -18,7 +18,7 @@ use crate::machine::{Machine, register};
 use crate::turns::{condition, pair};
 use eel_base::Addr;
 use v8_alu::{AluTrap, Codes, alu, difference_of, logic_value};
-use v8_decode::{AluOp, Cond, LoadKind, Reg, StoreKind};
+use v8_decode::{AluOp, LoadKind, Reg, StoreKind};
 use v8_memory::{Op, OpCode, op_in};
 
 /// What comes of carrying out one record.
@@ -86,29 +86,27 @@ impl Machine {
     #[tactic(auto, unfolding(v8_memory::specs::Ops::instr_of))]
     fn turn(&mut self, op: &Op, here: Cursor) -> Control
         requires sum { IsSum op.now.rs2 op.now.imm }
-        ensures state { HasTurned result here self.old (instr_of op.now) self.new }
-        ensures within { IsWithin result here }
-        ensures going { self.new.ending ≡ self.old.ending }
+        ensures turned { IsTurn result here self.old (instr_of op.now) self.new }
         ensures said { (result ≡ Control.Stop) ⊎ IsTrue (is_record op.now.code) }
     {
         match op.code {
             OpCode::Sethi => self.sethi_turn(op, here),
-            OpCode::B0 => self.branch_turn(condition(0), op, here),
-            OpCode::B1 => self.branch_turn(condition(1), op, here),
-            OpCode::B2 => self.branch_turn(condition(2), op, here),
-            OpCode::B3 => self.branch_turn(condition(3), op, here),
-            OpCode::B4 => self.branch_turn(condition(4), op, here),
-            OpCode::B5 => self.branch_turn(condition(5), op, here),
-            OpCode::B6 => self.branch_turn(condition(6), op, here),
-            OpCode::B7 => self.branch_turn(condition(7), op, here),
-            OpCode::B8 => self.branch_turn(condition(8), op, here),
-            OpCode::B9 => self.branch_turn(condition(9), op, here),
-            OpCode::B10 => self.branch_turn(condition(10), op, here),
-            OpCode::B11 => self.branch_turn(condition(11), op, here),
-            OpCode::B12 => self.branch_turn(condition(12), op, here),
-            OpCode::B13 => self.branch_turn(condition(13), op, here),
-            OpCode::B14 => self.branch_turn(condition(14), op, here),
-            OpCode::B15 => self.branch_turn(condition(15), op, here),
+            OpCode::B0 => self.branch_turn(0, op, here),
+            OpCode::B1 => self.branch_turn(1, op, here),
+            OpCode::B2 => self.branch_turn(2, op, here),
+            OpCode::B3 => self.branch_turn(3, op, here),
+            OpCode::B4 => self.branch_turn(4, op, here),
+            OpCode::B5 => self.branch_turn(5, op, here),
+            OpCode::B6 => self.branch_turn(6, op, here),
+            OpCode::B7 => self.branch_turn(7, op, here),
+            OpCode::B8 => self.branch_turn(8, op, here),
+            OpCode::B9 => self.branch_turn(9, op, here),
+            OpCode::B10 => self.branch_turn(10, op, here),
+            OpCode::B11 => self.branch_turn(11, op, here),
+            OpCode::B12 => self.branch_turn(12, op, here),
+            OpCode::B13 => self.branch_turn(13, op, here),
+            OpCode::B14 => self.branch_turn(14, op, here),
+            OpCode::B15 => self.branch_turn(15, op, here),
             OpCode::Call => self.call_turn(op.imm, here),
             OpCode::Add => self.plain_turn(AluOp::ADD, op, here),
             OpCode::AddCc => self.alu_turn(AluOp::ADD, op, here),
@@ -353,21 +351,22 @@ impl Machine {
         }
     }
 
-    /// A branch on a condition. Where it is inlined, this is a constant.
+    /// A branch on the condition with this number. Where it is inlined, this is a constant.
     #[inline(always)]
     #[tactic(auto, using(crate::proofs::InOrder::target_place, crate::proofs::InOrder::next_address, crate::proofs::InOrder::after_annulled), unfolding(crate::specs::Step::act, crate::specs::Transfers::branch_step))]
-    fn branch_turn(&mut self, cond: Cond, op: &Op, here: Cursor) -> Control
+    fn branch_turn(&mut self, cond: u8, op: &Op, here: Cursor) -> Control
+        requires { cond < 16 }
         ensures { IsTurn result here self.old (instrs.Branch cond (op.now.rd == 1) op.now.imm) self.new }
     {
         if here.is_in_slot() {
             return Control::Stop;
         }
         let annul = op.rd.number() == 1;
-        if self.flags.holds(cond) {
+        if self.flags.holds(condition(cond)) {
             let place = here.place(op.imm);
             if !here.reaches(place) {
                 Control::Stop
-            } else if cond.number() == 8 && annul {
+            } else if cond == 8 && annul {
                 Control::At(place)
             } else {
                 Control::To(place)
