@@ -79,26 +79,18 @@ fn instr_with(at: Addr, name: Name, operands: &[u8]) -> Option<Instr>
         }
         Name::ReadY => read_read_y(operands),
         Name::WriteY => read_write_y(operands),
-        Name::Jmpl => {
-            let (rd, rs1, op2) = read_operands(operands)?;
-            Some(Instr::Jmpl { rd, rs1, op2 })
-        }
+        Name::Jmpl => read_operands(operands).map(|(rd, rs1, op2)| Instr::Jmpl { rd, rs1, op2 }),
         Name::Ticc { cond } => {
             let (rs1, op2) = read_sources(operands)?;
             Some(Instr::Ticc { cond, rs1, op2 })
         }
-        Name::Flush => {
-            let (rs1, op2) = read_sources(operands)?;
-            Some(Instr::Flush { rs1, op2 })
-        }
-        Name::Save => {
-            let (rd, rs1, op2) = read_operands(operands)?;
-            Some(Instr::Save { rd, rs1, op2 })
-        }
-        Name::Restore => {
-            let (rd, rs1, op2) = read_operands(operands)?;
-            Some(Instr::Restore { rd, rs1, op2 })
-        }
+        Name::Flush => read_sources(operands).map(|(rs1, op2)| Instr::Flush { rs1, op2 }),
+        Name::Save => read_operands(operands).map(|(rd, rs1, op2)| Instr::Save { rd, rs1, op2 }),
+        Name::Restore => read_operands(operands).map(|(rd, rs1, op2)| Instr::Restore {
+            rd,
+            rs1,
+            op2,
+        }),
         Name::Load { kind } => {
             let (rd, rs1, op2) = read_loaded(operands)?;
             Some(Instr::Load { kind, rd, rs1, op2 })
@@ -107,14 +99,8 @@ fn instr_with(at: Addr, name: Name, operands: &[u8]) -> Option<Instr>
             let (rd, rs1, op2) = read_stored(operands)?;
             Some(Instr::Store { kind, rd, rs1, op2 })
         }
-        Name::Ldstub => {
-            let (rd, rs1, op2) = read_loaded(operands)?;
-            Some(Instr::Ldstub { rd, rs1, op2 })
-        }
-        Name::Swap => {
-            let (rd, rs1, op2) = read_loaded(operands)?;
-            Some(Instr::Swap { rd, rs1, op2 })
-        }
+        Name::Ldstub => read_loaded(operands).map(|(rd, rs1, op2)| Instr::Ldstub { rd, rs1, op2 }),
+        Name::Swap => read_loaded(operands).map(|(rd, rs1, op2)| Instr::Swap { rd, rs1, op2 }),
     }
 }
 
