@@ -1,45 +1,13 @@
 -- Ways through words in no place: the snippets of some edges, Jumps and long jumps.
-use Rattle.std.proofs.Common.{◌≡◌, ℕ, zero, suc, ◌+◌, ◌*◌, ◌^◌, ◌<◌, ◌≤◌, ◌⊎◌, inl, inr, Option, Some, None, List, [], ◌∷◌, ◌++◌, drop, length, map, append-nil, add-one, add-zero, zero-add, refl, ap, sym, ◌∙◌, subst, arith}
-use native.Mathlib.Nat.{add_assoc}
-use Rattle.std.specs.Prelude.{◌≢◌, slice_get, slice_index}
-use Rattle.std.specs.List.{flat_map}
-use Rattle.std.specs.Option.{option_map}
-use Rattle.std.proofs.lemmas.Bool.{cases_lt}
-use Rattle.std.proofs.lemmas.List.{length-append, length-map, map-append, append_assoc, nil_from_length}
-use Rattle.std.proofs.lemmas.Option.{slice_get_within}
-use Rattle.eel_base.specs.declared.numbers.PieceNo.{PieceNo}
-use Rattle.v8_memory.specs.Regions.{Memory, code_of, fetch_from}
-use Rattle.v8_step.specs.State.{State, register_of}
-use Rattle.v8_step.specs.Run.{run}
-use Rattle.v8_step.specs.Valid.{IsValid}
-use Rattle.v8_step.proofs.ValidSteps.{run-valid}
-use Rattle.code_runs.specs.Counted.{count_stores}
-use Rattle.code_runs.specs.Hops.{hopped}
-use Rattle.code_runs.specs.Leads.{Leads, IsSilent}
-use Rattle.code_runs.specs.LongJump.{IsFirstWord, long_jump}
-use Rattle.code_runs.specs.Ours.{IsAmongWords}
-use Rattle.code_runs.specs.Page.{page_word}
-use Rattle.code_runs.specs.Code.{CanStore, Stores, store_word}
-use Rattle.code_runs.specs.StoredWords.{memory_word}
-use Rattle.code_runs.specs.Straight.{HasWords}
-use Rattle.code_runs.proofs.Counted.{count_add, none_then}
-use Rattle.code_runs.proofs.Hops.{stores_then}
-use Rattle.code_runs.proofs.Leads.{leads_none, leads_then, leads_weaker, silent_none, silent_then}
+use Rattle.image_code.proofs.Common.{◌≡◌, ℕ, zero, suc, ◌+◌, ◌*◌, ◌^◌, ◌<◌, ◌≤◌, ◌⊎◌, inl, inr, Option, Some, None, List, [], ◌∷◌, ◌++◌, drop, length, map, append-nil, add-one, add-zero, zero-add, refl, ap, sym, ◌∙◌, subst, arith, add_assoc, ◌≢◌, slice_get, slice_index, flat_map, option_map, cases_lt, length-append, length-map, map-append, append_assoc, slice_get_within, PieceNo, Memory, code_of, fetch_from, State, register_of, run, IsValid, run-valid, count_stores, hopped, Leads, IsFirstWord, IsAmongWords, page_word, Stores, store_word, memory_word, count_add, none_then, leads_weaker, stores_there, stores_none, Op, words_at, far_piece, words_of, Item, item_at, open_in, range_in, range_of, CanRun, nil_from_length, IsSilent, long_jump, CanStore, HasWords, stores_then, leads_then, kept_word, open_from, IsWordAt}
+use Rattle.layout.specs.declared.items.Item.TheVariants as it
+use Rattle.code_runs.proofs.Leads.{leads_none, silent_none, silent_then}
 use Rattle.code_runs.proofs.LongJump.{long_jumps_hop}
-use Rattle.code_runs.proofs.Stays.{stores_there}
-use Rattle.code_runs.proofs.TwoRegisters.{stores_none}
-use Rattle.snippets.specs.declared.snippet.Op.{Op}
 use Rattle.snippet_code.specs.Runs.{IsAboutToRun}
-use Rattle.snippet_code.specs.Code.{kept_word}
-use Rattle.snippet_code.specs.Cells.{words_at}
-use Rattle.jump_code.specs.Pieces.{far_piece}
 use Rattle.jump_code.proofs.Fitting.{long_jump_fits}
 use Rattle.jump_code.proofs.Laid.{words_after}
-use Rattle.layout.specs.Emitting.{words_of}
-use Rattle.layout.specs.declared.items.Item.{Item}
-use Rattle.layout.specs.declared.items.Item.TheVariants as it
-use Rattle.layout.specs.Laid.{item_at, size_of, open_in, open_from, range_in, range_of, IsWordAt}
-use Rattle.layout.specs.Running.{CanRun, HasCode}
+use Rattle.layout.specs.Laid.{size_of}
+use Rattle.layout.specs.Running.{HasCode}
 use Rattle.layout.proofs.Going.{stays, jumps_hop}
 use Rattle.image_code.specs.Simulates.{IsOnWay}
 use Rattle.image_code.specs.Cost.{in_first_word, is_spill, spills_on}

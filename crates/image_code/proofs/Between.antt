@@ -1,27 +1,7 @@
 -- Small things, and what the notes say of states between two visits.
-use Rattle.std.proofs.Common.{◌≡◌, ℕ, ◌+◌, ◌*◌, ◌<◌, ◌≤◌, Bool, true, Option, Some, None, [], length, ap, sym, ◌∙◌, arith}
-use Rattle.std.specs.Prelude.{if◌then◌else◌, slice_index}
-use Rattle.std.specs.Option.{option_map, option_or}
-use Rattle.std.proofs.lemmas.Bool.{eq-eqb, ne_eqb}
-use Rattle.notes.specs.Format.{NoteRange, range_at, node_at}
-use Rattle.v8_memory.specs.Regions.{Memory}
-use Rattle.v8_step.specs.declared.Ending.{Ending}
-use Rattle.v8_step.specs.declared.Slot.TheVariants.{NoSlot}
-use Rattle.v8_step.specs.State.{State}
-use Rattle.v8_step.specs.Run.{run}
-use Rattle.v8_step.specs.Items.{StateItem, Register, Codes, YRegister, IsSameAt}
-use Rattle.v8_step.specs.Valid.{IsValid}
-use Rattle.two_runs.specs.Visits.{visit_of, visited}
-use Rattle.cfg_walk.proofs.Walks.{lived_to}
-use Rattle.cfg_walk.specs.Walk.{Point, gone, point_of, unless_ended}
-use Rattle.cfg_normal.specs.declared.Node.{Node}
-use Rattle.code_runs.specs.Code.{Stores}
-use Rattle.code_runs.specs.Leads.{Leads}
+use Rattle.image_code.proofs.Common.{◌≡◌, ℕ, ◌+◌, ◌*◌, ◌<◌, ◌≤◌, Bool, true, Option, Some, None, [], length, ap, sym, ◌∙◌, arith, if◌then◌else◌, slice_index, option_map, option_or, eq-eqb, ne_eqb, NoteRange, range_at, Memory, Ending, NoSlot, State, run, StateItem, Register, IsSameAt, IsValid, lived_to, Point, point_of, Node, Stores, Leads, stores_there, page_word, range_in, CanRun, node_at, Codes, YRegister, visit_of, gone, unless_ended}
+use Rattle.two_runs.specs.Visits.{visited}
 use Rattle.code_runs.proofs.Hops.{each-weaker}
-use Rattle.code_runs.proofs.Stays.{stores_there}
-use Rattle.code_runs.specs.Page.{page_word}
-use Rattle.layout.specs.Laid.{range_in}
-use Rattle.layout.specs.Running.{CanRun}
 pub use Rattle.layout.proofs.Going.{item_size, piece_size as item_below}
 use Rattle.image_code.specs.Simulates.{Setting, IsOnWay, IsThere, gone_at, graph_in, number_in}
 use Rattle.image_code.specs.Store.{cells_in}

@@ -1,45 +1,18 @@
 -- The images of branches: each way leads into a slot, to a word's image, or out of the text.
-use Rattle.std.proofs.Common.{◌≡◌, ℕ, ◌+◌, ◌%◌, ◌^◌, ◌<◌, inl, inr, Bool, true, false, not, Option, Some, None, List, [], ◌∷◌, ◌++◌, length, refl, ap, sym, ◌∙◌, arith}
-use Rattle.std.specs.Prelude.{if◌then◌else◌, ◌&&◌, ◌||◌, slice_get, slice_index, ◌==◌, ℤ}
-use Rattle.eel_base.specs.CodeText.{Words, address_of, word_at}
-use Rattle.eel_base.specs.declared.numbers.Addr.{Addr}
-use Rattle.v8_decode.specs.declared.Instr.{Instr}
+use Rattle.image_code.proofs.Common.{◌≡◌, ℕ, ◌+◌, ◌%◌, ◌^◌, ◌<◌, inl, inr, Bool, true, false, not, Option, Some, None, List, [], ◌∷◌, ◌++◌, refl, ap, sym, ◌∙◌, arith, if◌then◌else◌, ◌&&◌, ◌||◌, slice_get, slice_index, ◌==◌, ℤ, Words, address_of, word_at, Addr, Instr, decode_of, holds_of, wrapped, NoSlot, Taken, Untaken, State, act, EdgeKind, always, never, end_at, within, Blocks, blocks_of, end_of, holding_of, last_word, is_fall, is_jump, cases_Bool, cond_both, word_at-some, Edge, Node, home_of, Open, jumps_in, graph_of, has_cases, node_of, Point, edge_from, node_after, point_of, same_kind, block, copy, end_is, is_in, node_is, far_piece, Item, branched, branch_step, Way, number_of, way, ways_of, directed, edge_of, is_compared, last_in, target_along, transfer_ends, way_found, Stands, IsOne, always_holds}
 use Rattle.v8_decode.specs.declared.Instr.TheVariants as i
-use Rattle.v8_decode.specs.Words.{decode_of}
-use Rattle.v8_alu.specs.Conditions.{holds_of}
-use Rattle.v8_alu.specs.Numbers.{wrapped}
-use Rattle.v8_step.specs.declared.Slot.TheVariants.{NoSlot, Taken, Untaken}
-use Rattle.v8_step.specs.State.{State}
-use Rattle.v8_step.specs.Transfers.{branched, branch_step, target_of as target_from}
-use Rattle.v8_step.specs.Step.{act}
 use Rattle.cfg_blocks.specs.declared.BlockEnd.TheVariants as ends
-use Rattle.cfg_blocks.specs.declared.EdgeKind.{EdgeKind}
 use Rattle.cfg_blocks.specs.declared.EdgeKind.TheVariants as kinds
-use Rattle.cfg_blocks.specs.Ends.{Way, always, branch_target, never, end_at, is_transfer as transfers, number_of, target_in, way, ways_of, within}
-use Rattle.cfg_blocks.specs.Blocks.{Blocks, blocks_of, end_of, holding_of, last_word}
-use Rattle.cfg_blocks.specs.Entries.{is_fall}
-use Rattle.cfg_blocks.specs.Switches.{is_jump}
-use Rattle.std.proofs.lemmas.Bool.{cases_Bool, cond_both}
-use Rattle.cfg_blocks.proofs.Targets.{word_at-some}
-use Rattle.cfg_normal.specs.declared.Edge.{Edge}
-use Rattle.cfg_normal.specs.declared.Node.{Node}
-use Rattle.cfg_normal.specs.Code.{home_of}
-use Rattle.cfg_normal.specs.Opens.{Open, jumps_in}
-use Rattle.cfg_normal.specs.Graph.{directed, edge_of, graph_of, has_cases, is_compared, node_of, runs_slot}
-use Rattle.cfg_walk.specs.Walk.{Point, edge_from, node_after, point_of}
-use Rattle.cfg_normal.specs.Nodes.{same_kind}
-use Rattle.cfg_walk.specs.Matches.{last_in, target_along}
+use Rattle.v8_step.specs.Transfers.{target_of as target_from}
+use Rattle.cfg_blocks.specs.Ends.{branch_target, is_transfer as transfers, target_in}
+use Rattle.cfg_normal.specs.Graph.{runs_slot}
 use Rattle.cfg_walk.proofs.Addresses.{second_address}
-use Rattle.cfg_walk.proofs.Cut.{IsCut}
-use Rattle.cfg_walk.proofs.Edges.{IsEdge, block, copy, leads_along, node_at}
+use Rattle.cfg_walk.proofs.Edges.{IsEdge, leads_along, node_at}
 use Rattle.cfg_walk.proofs.Holding.{first_held}
-use Rattle.cfg_walk.proofs.Leaving.{end_is, is_in, node_is, transfer_ends, way_found}
-use Rattle.cfg_walk.proofs.Points.{Stands, jumps_along, jumps_to, passes, quiet}
+use Rattle.cfg_walk.proofs.Points.{jumps_along, jumps_to, passes, quiet}
 use Rattle.cfg_walk.proofs.Slots.{LeadsIfThere}
 use Rattle.cfg_walk.proofs.Transfers.{taken_delayed, untaken_delayed}
-use Rattle.cfg_walk.proofs.Ways.{IsOne, always_holds, never_holds, not_always, not_never, taken_is_one, untaken_is_one}
-use Rattle.jump_code.specs.Pieces.{far_piece}
-use Rattle.layout.specs.declared.items.Item.{Item}
+use Rattle.cfg_walk.proofs.Ways.{never_holds, not_always, not_never, taken_is_one, untaken_is_one}
 use Rattle.image_code.specs.Simulates.{at_point, does_at, gone_at, graph_in, number_in}
 use Rattle.image_code.proofs.Points.{entered_at}
 use Rattle.image_code.proofs.CaseShapes.{LeadsTo, next_entry, word_ahead, words_on}
@@ -48,12 +21,11 @@ use Rattle.image_code.proofs.HeadShapes.{IsCase, turn, idle}
 use Rattle.image_code.proofs.ConditionalShapes.{IsNoJumpsSlot}
 use Rattle.image_code.specs.Numbered.{enter_number, image_number}
 use Rattle.image_code.specs.Made.{first_word, goes_on, jump_to, nop_word, way_out}
-use Rattle.image_code.proofs.EdgePieces.{along_far, cut_in}
-use Rattle.image_code.proofs.ImageNumbers.{HasImage}
-use Rattle.image_code.proofs.Branches.{nop_says, small}
+use Rattle.image_code.proofs.EdgePieces.{along_far}
+use Rattle.image_code.proofs.Branches.{small}
 use Rattle.image_code.proofs.IntoSlots.{LeadsThere, entered, entered_untaken, no_jump, stands}
 use Rattle.image_code.proofs.Listed.{own_at, way_at}
-use Rattle.image_code.proofs.Visited.{AtWord, Edit, at_image, site, entered_none, entered_word, has_its_image, image_items, l, left_gone, word_is}
+use Rattle.image_code.proofs.Visited.{AtWord, Edit, at_image, site, entered_none, entered_word, image_items, l, left_gone, word_is}
 
 -- a branch comes to a taken transfer's slot only at the next instruction
 slot_next : (flag all annul : Bool) (s : State) (to : ℕ) → s.slot ≡ NoSlot
@@ -81,16 +53,13 @@ last_home b opens node k h = elim (node_at node k h) [ inl here ↦ rw here | in
 module _ (edit : Edit) (node : Node) (x : Point) (visit : AtWord edit node x) (cond : ℕ) (annul : Bool) (disp : ℤ)
     (says : decode_of (slice_index edit.g.text.words visit.word) ≡ i.Branch cond annul disp) where
   open edit use {g, codes, is, base, p, place, f}
-  open visit use {word, at, none, held, there, npc}
+  open visit use {word, at, none, there, npc, inside, cut, low, home}
 
   abbrev b : Blocks
   b = blocks_of g.text g.given
 
   abbrev branch : Instr
   branch = i.Branch cond annul disp
-
-  cut : IsCut g.text b
-  cut = cut_in g is f.table.base f.cases.base
 
   here : Stands g.text b g.switches node x word branch
   here = stands edit node x visit branch says
@@ -101,21 +70,9 @@ module _ (edit : Edit) (node : Node) (x : Point) (visit : AtWord edit node x) (c
   transfer : transfers (end_at g.text word) ≡ true
   transfer = ap transfers end
 
-  inside : word < length g.text.words
-  inside = (word_at-some g.text x.pc word at).within
-
-  low : word < b.words
-  low = omega (arith, inside, cut.words)
-
-  home : home_of node ≡ block (holding_of b word)
-  home = held ∙ ap (node_of b) at ∙ node_is b word low
-
   -- no open switch's jump is a branch
   caseless : has_cases g.switches node ≡ false
   caseless = quiet here transfer (ap is_jump end)
-
-  has : HasImage g.text b g.switches node word
-  has = has_its_image edit node x word at held there
 
   -- the piece of its image
   abbrev number : ℕ
@@ -296,7 +253,7 @@ module _ (edit : Edit) (node : Node) (x : Point) (visit : AtWord edit node x) (c
 
     made : (always_is never_is : Bool) → (cond == always) ≡ always_is → (cond == never) ≡ never_is
         → slice_get (l edit).list number ≡ Some (image_if always_is never_is)
-    made always_is never_is a n = image_items edit node x word at has branch says ∙ rw (a, n)
+    made always_is never_is a n = image_items edit node x visit branch says ∙ rw (a, n)
 
     one_way : (kind : EdgeKind) → slice_get (l edit).list number ≡ Some (plain_piece address (number_in g node) nop_word
         (jump_to (way_out g.text (graph_in g) node kind)))
@@ -307,8 +264,6 @@ module _ (edit : Edit) (node : Node) (x : Point) (visit : AtWord edit node x) (c
       annul = annul;
       disp = disp;
       says = says;
-      idle_word = nop_word;
-      idle = nop_says;
       way = record { 0 = way_out g.text (graph_in g) node kind };
       marked = at_image edit node x visit _ found;
       leads = leads_there;

@@ -1,17 +1,6 @@
 -- A branch outside a slot goes on somewhere, with all else as it was.
-use Rattle.std.proofs.Common.{◌≡◌, ℕ, ◌+◌, Bool, true, false, Some, refl, ap, sym, ◌∙◌, subst}
-use Rattle.std.specs.Prelude.{◌==◌, ℤ}
+use Rattle.image_code.proofs.Common.{◌≡◌, ℕ, ◌+◌, Bool, true, false, Some, refl, ap, sym, ◌∙◌, subst, ◌==◌, ℤ, decode_of, holds_of, wrapped, Slot, NoSlot, Taken, Untaken, State, target_of, unless_couple, act, on_word, Point, moved, branched, branch_step}
 use Rattle.v8_decode.specs.declared.Instr.TheVariants as i
-use Rattle.v8_decode.specs.Words.{decode_of}
-use Rattle.v8_alu.specs.Conditions.{holds_of}
-use Rattle.v8_alu.specs.Numbers.{wrapped}
-use Rattle.v8_step.specs.declared.Slot.{Slot}
-use Rattle.v8_step.specs.declared.Slot.TheVariants.{NoSlot, Taken, Untaken}
-use Rattle.v8_step.specs.State.{State}
-use Rattle.v8_step.specs.Transfers.{target_of, branched, branch_step, unless_couple}
-use Rattle.v8_step.specs.Step.{act, on_word}
-use Rattle.cfg_walk.specs.Walk.{Point}
-use Rattle.code_runs.specs.Points.{moved}
 use Rattle.image_code.specs.Simulates.{Setting, at_point, does_at, word_of}
 
 -- the same machine at another point

@@ -1,28 +1,9 @@
 -- Branches, their ways, and the words of their images.
-use Rattle.std.proofs.Common.{◌≡◌, ◌≢◌, ℕ, ◌<◌, Bool, false, Option, Some, None, List, ◌∷◌, refl, sym, arith}
-use Rattle.std.specs.Prelude.{pos, slice_index, ℤ}
-use Rattle.std.proofs.lemmas.Bool.{ltb-true}
-use Rattle.eel_base.specs.CodeText.{Words}
-use Rattle.eel_base.specs.declared.numbers.Addr.{Addr}
-use Rattle.v8_decode.specs.declared.Instr.{Instr}
+use Rattle.image_code.proofs.Common.{◌≡◌, ◌≢◌, ℕ, ◌<◌, Bool, false, Option, Some, None, List, ◌∷◌, refl, sym, arith, pos, slice_index, ℤ, ltb-true, Words, Addr, Instr, decode_of, decoded_range, Slot, is_transfer, EdgeKind, within, is_fall, Node, Graph, same_kind, way_of, node_number, Item, nop, branch_or_sethi}
 use Rattle.v8_decode.specs.declared.Instr.TheVariants as i
-use Rattle.v8_decode.specs.Words.{decode_of, branch_or_sethi}
-use Rattle.v8_decode.proofs.Rows.{decoded_range}
-use Rattle.v8_step.specs.declared.Slot.{Slot}
-use Rattle.v8_step.specs.Items.{is_transfer}
-use Rattle.cfg_blocks.specs.declared.EdgeKind.{EdgeKind}
 use Rattle.cfg_blocks.specs.declared.EdgeKind.TheVariants as kinds
-use Rattle.cfg_blocks.specs.Ends.{within}
-use Rattle.cfg_blocks.specs.Entries.{is_fall}
-use Rattle.cfg_normal.specs.declared.Node.{Node}
-use Rattle.cfg_normal.specs.Graph.{Graph}
-use Rattle.cfg_normal.specs.Nodes.{same_kind}
-use Rattle.cfg_walk.specs.Walk.{way_of}
-pub use Rattle.cfg_walk.proofs.Points.{within_some}
-use Rattle.cfg_normal.specs.Numbers.{node_number}
-use Rattle.layout.specs.declared.items.Item.{Item}
 use Rattle.layout.specs.declared.items.Item.TheVariants as it
-use Rattle.layout.specs.Laid.{nop}
+pub use Rattle.cfg_walk.proofs.Points.{within_some}
 use Rattle.image_code.specs.Cases.{plain_piece}
 use Rattle.image_code.proofs.HeadShapes.{TakesWords}
 use Rattle.image_code.specs.Made.{couple_word, nop_word, image_by, rest_after}

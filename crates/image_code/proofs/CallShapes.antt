@@ -1,20 +1,7 @@
 -- The pieces of a CALL and of a JMPL.
-use Rattle.std.specs.Prelude.{◌≡◌, ◌^◌, ◌<◌, [], ◌∷◌, ◌++◌, ℤ, ◌≢◌, ℕ, ◌+◌, ◌%◌, true, None}
-use Rattle.eel_base.specs.declared.numbers.PieceNo.{PieceNo}
+use Rattle.image_code.proofs.Common.{◌≡◌, ◌^◌, ◌<◌, [], ◌∷◌, ◌++◌, ℤ, ◌≢◌, ℕ, ◌+◌, ◌%◌, true, None, PieceNo, decode_of, Op2, op2_in_range, op2_fits, Node, NoSlot, State, link, word_items, Point, find_image, IsApart}
 use Rattle.v8_decode.specs.declared.Instr.TheVariants as i
-use Rattle.v8_decode.specs.Words.{decode_of}
-use Rattle.v8_decode.specs.declared.Op2.{Op2}
-use Rattle.v8_decode.specs.Ranges.{op2_in_range}
-use Rattle.v8_encode.specs.Code.{op2_fits}
-use Rattle.cfg_normal.specs.declared.Node.{Node}
-use Rattle.v8_step.specs.declared.Slot.TheVariants.{NoSlot}
-use Rattle.v8_step.specs.State.{State}
-use Rattle.jump_code.specs.Links.{link}
-use Rattle.jump_code.specs.Pieces.{word_items}
-use Rattle.cfg_walk.specs.Walk.{Point}
 use Rattle.layout.specs.declared.items.Item.TheVariants as it
-use Rattle.jump_code.specs.FreeRegister.{IsApart}
-use Rattle.jump_code.specs.Finding.{find_image}
 use Rattle.image_code.specs.Simulates.{does_at}
 use Rattle.image_code.proofs.Points.{Site}
 use Rattle.image_code.proofs.CaseShapes.{IsMarked, LeadsNext}

@@ -1,27 +1,7 @@
 -- The link of a CALL, and then the way.
-use Rattle.std.proofs.Common.{◌≡◌, ℕ, ◌^◌, ◌<◌, List, length, refl, ap, sym, ◌∙◌, subst, arith}
-use Rattle.std.specs.Prelude.{ℤ}
-use Rattle.eel_base.specs.CodeText.{word_at}
-use Rattle.v8_decode.specs.declared.Instr.{Instr}
+use Rattle.image_code.proofs.Common.{◌≡◌, ℕ, ◌^◌, ◌<◌, List, length, refl, ap, sym, ◌∙◌, subst, arith, ℤ, word_at, Instr, code_of, Slot, NoSlot, State, target_of, unless_couple, act, on_word, is_transfer, Node, Point, point_of, node_after, Leads, StandIn, leads_weaker, stores_none, words_of, link, past, IsPageWord, with_register, call_step, delayed, IsBetween, pieces_are_laid}
 use Rattle.v8_decode.specs.declared.Instr.TheVariants as i
-use Rattle.v8_memory.specs.Regions.{code_of}
-use Rattle.v8_step.specs.declared.Slot.{Slot}
-use Rattle.v8_step.specs.declared.Slot.TheVariants.{NoSlot}
-use Rattle.v8_step.specs.State.{State, with_register}
-use Rattle.v8_step.specs.Transfers.{call_step, delayed, target_of, unless_couple}
-use Rattle.v8_step.specs.Step.{act, on_word}
-use Rattle.v8_step.specs.Items.{is_transfer}
-use Rattle.cfg_normal.specs.declared.Node.{Node}
-use Rattle.cfg_walk.specs.Walk.{Point, point_of, node_after}
-use Rattle.code_runs.specs.Leads.{Leads}
-use Rattle.code_runs.specs.Straight.{StandIn}
-use Rattle.code_runs.specs.TwoRegisters.{IsBetween}
-use Rattle.code_runs.proofs.Leads.{leads_weaker}
-use Rattle.code_runs.proofs.TwoRegisters.{stores_none}
-use Rattle.layout.specs.Emitting.{words_of}
-use Rattle.jump_code.specs.Links.{IsAboutToCall, link, past}
-use Rattle.jump_code.specs.PageWords.{IsPageWord}
-use Rattle.jump_code.proofs.Laid.{pieces_are_laid}
+use Rattle.jump_code.specs.Links.{IsAboutToCall}
 use Rattle.jump_code.proofs.Linking.{calls_act, calls_store}
 use Rattle.image_code.specs.Simulates.{at_point, does_at, gone_at, graph_in, number_in}
 use Rattle.image_code.proofs.Points.{EntersNext, HereAt, Placed, Site, StepsFrom, entered_at}

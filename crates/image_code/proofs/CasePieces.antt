@@ -1,15 +1,6 @@
 -- The pieces of the entries of tables, and their numbers, as they are added.
-use Rattle.std.proofs.Common.{◌≡◌, ℕ, suc, ◌+◌, ◌<◌, ◌==◌, List, [], ◌∷◌, ◌++◌, Option, length, length-take, map, take, ap, sym, ◌∙◌, arith, append_assoc}
-use Rattle.std.specs.Prelude.{slice_index_or}
-use Rattle.std.specs.List.{position}
-use Rattle.std.specs.Option.{option_or}
-use Rattle.std.proofs.lemmas.List.{append-nil, length-map, map-append, take_more}
-use Rattle.eel_base.specs.CodeText.{Words}
-use Rattle.eel_base.specs.declared.numbers.PieceNo.{PieceNo}
+use Rattle.image_code.proofs.Common.{◌≡◌, ℕ, suc, ◌+◌, ◌<◌, ◌==◌, List, [], ◌∷◌, ◌++◌, Option, length, length-take, map, take, ap, sym, ◌∙◌, arith, append_assoc, slice_index_or, position, option_or, append-nil, length-map, map-append, take_more, Words, PieceNo, Open, Graph, Item}
 use Rattle.eel_base.specs.declared.numbers.WordNo.{WordNo}
-use Rattle.cfg_normal.specs.Opens.{Open}
-use Rattle.cfg_normal.specs.Graph.{Graph}
-use Rattle.layout.specs.declared.items.Item.{Item}
 use Rattle.image_code.specs.Lookups.{number_where}
 use Rattle.image_code.specs.Made.{case_at, cases_from}
 use Rattle.image_code.specs.Numbered.{case_piece, cases_of, first_entry, open_begin, or_zero, place_in}

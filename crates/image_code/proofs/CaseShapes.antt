@@ -1,23 +1,8 @@
 -- The pieces of words that are no transfers, and what a step there leads to.
-use Rattle.std.specs.Prelude.{◌≡◌, Some, ℕ, Option, ◌%◌, ◌^◌, ◌<◌, List, map, ◌⊎◌, [], ◌∷◌, ◌++◌, None, slice_get, slice_index, drop, ◌≢◌, ◌+◌, length, false}
-use Rattle.std.specs.List.{flat_map}
-use Rattle.std.specs.Option.{option_map}
-use Rattle.eel_base.specs.CodeText.{word_at}
-use Rattle.eel_base.specs.declared.numbers.PieceNo.{PieceNo}
-use Rattle.eel_base.specs.declared.numbers.Addr.{Addr}
-use Rattle.v8_decode.specs.Words.{decode_of}
-use Rattle.cfg_normal.specs.declared.Node.{Node}
-use Rattle.notes.specs.Format.{node_at}
-use Rattle.v8_step.specs.State.{State}
-use Rattle.v8_step.specs.Items.{is_transfer}
-use Rattle.two_runs.specs.Visits.{visit_of}
-use Rattle.layout.specs.declared.items.Item.{Item}
-use Rattle.cfg_walk.specs.Walk.{Point, point_of, node_after}
+use Rattle.image_code.proofs.Common.{◌≡◌, Some, ℕ, Option, ◌%◌, ◌^◌, ◌<◌, List, map, ◌⊎◌, [], ◌∷◌, ◌++◌, None, slice_get, slice_index, drop, ◌≢◌, ◌+◌, length, false, flat_map, option_map, word_at, PieceNo, Addr, decode_of, Node, State, is_transfer, Item, Point, point_of, node_after, Placement, far_piece, node_at, visit_of}
+use Rattle.layout.specs.declared.items.Item.TheVariants as it
 use Rattle.image_code.specs.Simulates.{Setting, number_in, does_at, gone_at, graph_in, word_of}
 use Rattle.image_code.proofs.Points.{Site, entered_at, visited_at}
-use Rattle.layout.specs.declared.items.Item.TheVariants as it
-use Rattle.layout.specs.Laid.{Placement}
-use Rattle.jump_code.specs.Pieces.{far_piece}
 use Rattle.image_code.specs.Images.{Pieces}
 
 abbrev pub visits_it : Setting → Node → Point → State → Type 0

@@ -1,25 +1,14 @@
 -- What the code knows of the open switches is true of the text.
-use Rattle.std.proofs.Common.{◌≡◌, ℕ, Some, List, map, ap, sym, ◌∙◌, subst, arith}
-use Rattle.std.specs.Prelude.{nat_lt, slice_get}
-use Rattle.std.specs.Option.{option_map}
-use Rattle.std.proofs.lemmas.Bool.{and_parts}
-use Rattle.std.proofs.lemmas.Option.{slice_get-map}
-use Rattle.eel_base.specs.Code.{IsText}
-use Rattle.line_words.proofs.Steps.{mapped}
+use Rattle.image_code.proofs.Common.{◌≡◌, ℕ, Some, List, map, ap, sym, ◌∙◌, subst, arith, nat_lt, slice_get, option_map, and_parts, slice_get-map, IsText, operands_in_range, decoded_range, blocks_of, Open, slice_index, mapped}
 use Rattle.v8_decode.specs.declared.Instr.TheVariants as i
 use Rattle.v8_decode.specs.declared.LoadKind.TheVariants as loads
-use Rattle.v8_decode.specs.Ranges.{operands_in_range}
-use Rattle.v8_decode.proofs.Rows.{decoded_range}
-use Rattle.cfg_blocks.specs.Blocks.{blocks_of}
 use Rattle.cfg_blocks.specs.Values.{instr_at}
-use Rattle.cfg_normal.specs.Opens.{Open}
 use Rattle.image_code.specs.Graphs.{case_table}
 use Rattle.image_code.specs.Keeping.{AreCaseTables, IsCaseTable}
 use Rattle.image_code.specs.Loads.{first_operand, load_of, second_operand}
 use Rattle.image_code.specs.Simulates.{CaseTable, Setting}
 use Rattle.image_code.proofs.Opened.{AreCased, load_is}
 use Rattle.image_code.proofs.Operands.{load_fits}
-use Rattle.std.specs.Prelude.{slice_index}
 
 -- The graph of a setting is that of its text, with the open switches of which the code knows.
 pub record IsKnown (g : Setting) : Type 0 where

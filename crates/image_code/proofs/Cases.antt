@@ -1,44 +1,19 @@
 -- A word in its Mark at the head of a piece, and the images of plain words: they are one step each.
-use Rattle.std.proofs.Common.{◌≡◌, ◌≢◌, ℕ, ◌+◌, ◌⊎◌, inl, inr, Bool, true, Option, Some, None, List, [], ◌∷◌, refl, ap, sym, ◌∙◌, arith}
-use Rattle.std.specs.Prelude.{ℤ}
-use Rattle.notes.specs.Format.{Notes, range_at}
-use Rattle.v8_decode.specs.declared.Instr.{Instr}
+use Rattle.image_code.proofs.Common.{◌≡◌, ◌≢◌, ℕ, ◌+◌, ◌⊎◌, inl, inr, Bool, true, Option, Some, None, List, [], ◌∷◌, refl, ap, sym, ◌∙◌, arith, ℤ, range_at, Instr, decode_of, code_of, AllApart, Ending, State, act, step_of, on_word, puts_by, puts_on_word, run_puts, judged_by, in_pages, pages_of, live_puts, goes_act, Point, point_of, node_after, Node, count_stores, moved, hopped, step_is, no_stores, leads_one, page_word, Item, words_stay, Notes, outside_refl}
 use Rattle.v8_decode.specs.declared.Instr.TheVariants as i
-use Rattle.v8_decode.specs.Words.{decode_of}
-use Rattle.v8_memory.specs.Regions.{code_of}
-use Rattle.v8_memory.specs.Spans.{AllApart}
-use Rattle.v8_step.specs.declared.Ending.{Ending}
-use Rattle.v8_step.specs.State.{State}
-use Rattle.v8_step.specs.Step.{act, step_of, on_word, puts_by, puts_on_word}
-use Rattle.v8_step.specs.Run.{run_puts}
-use Rattle.v8_step.specs.Judged.{judged_by}
-use Rattle.two_runs.specs.Visits.{in_pages, pages_of}
-use Rattle.v8_step.proofs.Live.{live_puts}
-use Rattle.two_runs.proofs.JudgedAlike.{judged_alike}
-use Rattle.v8_step.proofs.CopiedMoves.{goes_act}
-use Rattle.cfg_walk.specs.Walk.{Point, point_of, node_after}
-use Rattle.cfg_normal.specs.declared.Node.{Node}
-use Rattle.code_runs.specs.Counted.{count_stores}
-use Rattle.code_runs.specs.Straight.{Says}
-use Rattle.code_runs.specs.Points.{moved}
-use Rattle.code_runs.specs.Hops.{hopped}
-use Rattle.code_runs.proofs.Acts.{step_is}
-use Rattle.code_runs.proofs.Counted.{count_one, ends_stores, no_stores}
-use Rattle.code_runs.proofs.Leads.{leads_one}
-use Rattle.code_runs.proofs.Points.{acts_anywhere}
-use Rattle.code_runs.specs.Page.{page_word}
-use Rattle.layout.specs.declared.items.Item.{Item}
 use Rattle.layout.specs.declared.items.Item.TheVariants as it
+use Rattle.two_runs.proofs.JudgedAlike.{judged_alike}
+use Rattle.code_runs.specs.Straight.{Says}
+use Rattle.code_runs.proofs.Counted.{count_one, ends_stores}
+use Rattle.code_runs.proofs.Points.{acts_anywhere}
 use Rattle.image_code.specs.Simulates.{at_point, does_at, gone_at, graph_in, number_in, word_of, edit_in}
 use Rattle.image_code.specs.Cost.{IsWatched, in_first_word, is_spill}
 use Rattle.image_code.specs.Store.{cells_in}
 use Rattle.image_code.proofs.Points.{EntersNext, HereAt, Placed, Site, StepsFrom, entered_at}
 use Rattle.image_code.proofs.CaseShapes.{next_entry, visits_it, IsMarkedWord, IsPlain, word_ahead}
-use Rattle.code_runs.proofs.Stays.{words_stay}
 use Rattle.image_code.proofs.Ended.{stops_act}
 use Rattle.image_code.proofs.Sparing.{uncounted}
 use Rattle.image_code.proofs.Memories.{fetch_is, images_stay, same_stored}
-use Rattle.code_runs.proofs.Ours.{outside_refl}
 use Rattle.image_code.proofs.Arrives.{Tail, IsFit, tail, weaker_tail}
 use Rattle.image_code.proofs.Dead.{LastDead, gone_last}
 use Rattle.image_code.proofs.Marked.{AtWords, at_words}

@@ -1,26 +1,10 @@
 -- The cells in memory: what leaves them as they are, and what the snippets of some edges make of them.
-use Rattle.std.proofs.Common.{◌≡◌, ℕ, ◌+◌, ◌^◌, ◌<◌, ◌≤◌, ◌⊎◌, inl, inr, true, List, [], ◌∷◌, ◌++◌, length, refl, ap, sym, ◌∙◌, subst, arith}
+use Rattle.image_code.proofs.Common.{◌≡◌, ℕ, ◌+◌, ◌^◌, ◌<◌, ◌≤◌, ◌⊎◌, inl, inr, true, List, [], ◌∷◌, ◌++◌, length, refl, ap, sym, ◌∙◌, subst, arith, length-map-range_with_len, Instr, Memory, AllApart, State, register_of, act, judged_by, pages_of, IsFirstWord, IsAmongWords, page_word, Stores, store_word, memory_word, stores_there, words_stay, Op, words_at, IsPageWord, get_or-map-range_with_len, AllAt, CanStore, store_all, other_word_stored, cell_at}
 use Rattle.std.proofs.Math.Seq.{ext_get_or}
-use Rattle.std.proofs.lemmas.List.FromFn.{get_or-map-range_with_len, length-map-range_with_len}
-use Rattle.v8_decode.specs.declared.Instr.{Instr}
-use Rattle.v8_memory.specs.Regions.{Memory}
-use Rattle.v8_memory.specs.Spans.{AllApart}
-use Rattle.v8_step.specs.State.{State, register_of}
-use Rattle.v8_step.specs.Step.{act}
-use Rattle.v8_step.specs.Judged.{judged_by}
-use Rattle.two_runs.specs.Visits.{pages_of}
-use Rattle.code_runs.specs.LongJump.{IsFirstWord}
-use Rattle.code_runs.specs.Ours.{IsAmongWords, IsOurs}
-use Rattle.code_runs.specs.Page.{page_word}
-use Rattle.code_runs.specs.Code.{AllAt, CanStore, Stores, store_all, store_word}
-use Rattle.code_runs.specs.StoredWords.{memory_word}
-use Rattle.code_runs.proofs.StoredWords.{other_word_stored, still_stored}
-use Rattle.code_runs.proofs.Stays.{stores_there, words_stay}
-use Rattle.snippets.specs.declared.snippet.Op.{Op}
+use Rattle.code_runs.specs.Ours.{IsOurs}
+use Rattle.code_runs.proofs.StoredWords.{still_stored}
 use Rattle.snippets.specs.Cells.{update}
 use Rattle.snippet_code.specs.Runs.{MayStore}
-use Rattle.snippet_code.specs.Cells.{cell_at, words_at}
-use Rattle.jump_code.specs.PageWords.{IsPageWord}
 use Rattle.image_code.specs.Simulates.{Setting}
 use Rattle.image_code.specs.Store.{cells_in, operations_on, snippet_on, updates}
 use Rattle.image_code.specs.Images.{Frame, HasCells, IsFramed, Pieces}

@@ -1,46 +1,9 @@
 -- The image of an open switch's jump, at the jump's block itself: the Case edge that it chooses leads to the slot.
-use Rattle.std.proofs.Common.{◌≡◌, ◌≢◌, ℕ, zero, suc, ◌+◌, ◌*◌, ◌%◌, ◌^◌, ◌<◌, Bool, true, Some, None, List, [], ◌∷◌, length, map, take, refl, ap, sym, ◌∙◌, subst, arith}
-use Rattle.std.specs.Prelude.{◌==◌, if◌then◌else◌, slice_get, slice_index}
-use Rattle.std.specs.List.{sum_by}
-use Rattle.std.proofs.lemmas.Bool.{and_parts, eq-eqb, lt-ltb, ltb-true}
-use Rattle.std.proofs.lemmas.List.{length-map}
-use Rattle.std.proofs.lemmas.List.Sums.{sum_by-cons}
-use Rattle.std.proofs.lemmas.Option.{slice_get-map, slice_get_within}
-use Rattle.eel_base.specs.CodeText.{Words, address_of, word_at}
-use Rattle.eel_base.specs.declared.numbers.Addr.{Addr}
-use Rattle.v8_decode.specs.declared.Op2.{Op2}
+use Rattle.image_code.proofs.Common.{◌≡◌, ◌≢◌, ℕ, zero, suc, ◌+◌, ◌*◌, ◌%◌, ◌^◌, ◌<◌, Bool, true, Some, None, List, [], ◌∷◌, length, map, take, refl, ap, sym, ◌∙◌, subst, arith, ◌==◌, if◌then◌else◌, slice_get, slice_index, sum_by, and_parts, eq-eqb, lt-ltb, ltb-true, length-map, sum_by-cons, slice_get-map, slice_get_within, Words, address_of, word_at, Addr, Op2, operands_in_range, decode_of, decoded_range, nat_lt, NoSlot, Taken, State, EdgeKind, Blocks, blocks_of, holding_of, last_word, ends_block_after, word_at-some, Node, Block, home_of, Open, jumps_in, Graph, has_cases, node_of, Point, node_after, point_of, way_of, same_kind, IsOnItsWay, next_word, block, end_is, node_is, table_word, choice_at, kept_address, Item, IsTarget, transfer_ends, jump_delayed, IsCaseBlock}
 use Rattle.v8_decode.specs.declared.Instr.TheVariants as i
-use Rattle.v8_decode.specs.Ranges.{operands_in_range}
-use Rattle.v8_decode.specs.Words.{decode_of}
-use Rattle.v8_decode.proofs.Rows.{decoded_range}
-use Rattle.std.specs.Prelude.{nat_lt}
-use Rattle.v8_step.specs.declared.Slot.TheVariants.{NoSlot, Taken}
-use Rattle.v8_step.specs.State.{State}
-use Rattle.cfg_blocks.specs.declared.EdgeKind.{EdgeKind}
 use Rattle.cfg_blocks.specs.declared.EdgeKind.TheVariants as kinds
-use Rattle.cfg_blocks.specs.Blocks.{Blocks, blocks_of, holding_of, last_word}
-use Rattle.cfg_blocks.specs.Ends.{is_transfer as ends_block_after}
-use Rattle.cfg_blocks.proofs.Targets.{word_at-some}
-use Rattle.cfg_normal.specs.declared.Node.{Node}
-use Rattle.cfg_normal.specs.declared.Node.TheVariants.{Block}
-use Rattle.cfg_normal.specs.Code.{home_of}
-use Rattle.cfg_normal.specs.Opens.{Open, jumps_in}
-use Rattle.cfg_normal.specs.Graph.{Graph, has_cases, node_of}
-use Rattle.cfg_walk.specs.Walk.{Point, node_after, point_of, way_of}
-use Rattle.cfg_normal.specs.Nodes.{same_kind}
-use Rattle.cfg_walk.specs.Matches.{IsOnItsWay, IsTarget}
-use Rattle.cfg_walk.proofs.Addresses.{next_word}
-use Rattle.cfg_walk.proofs.Cut.{IsCut}
-use Rattle.cfg_walk.proofs.Edges.{block}
-use Rattle.cfg_walk.proofs.Leaving.{end_is, node_is, transfer_ends}
-use Rattle.cfg_walk.proofs.Transfers.{jump_delayed}
-use Rattle.addr_translate.specs.Lookup.{table_word}
-use Rattle.jump_code.specs.Choosing.{choice_at}
-use Rattle.jump_code.specs.PageWords.{kept_address}
 use Rattle.jump_slice.proofs.About.{in_targets}
 use Rattle.jump_slice.proofs.CaseBlocks.{some_of}
-use Rattle.jump_slice.specs.Joined.{IsCaseBlock}
-use Rattle.layout.specs.declared.items.Item.{Item}
 use Rattle.image_code.proofs.CaseShapes.{next_entry}
 use Rattle.image_code.proofs.ChoiceShapes.{IsChoice}
 use Rattle.image_code.specs.Choices.{choice_piece}
@@ -51,12 +14,11 @@ use Rattle.image_code.specs.Made.{distance_of, jump_image_by, jumps_at}
 use Rattle.image_code.specs.Numbered.{case_numbers, case_piece, cases_of, entries_of, first_entry, image_number, jump_number, or_zero}
 use Rattle.image_code.specs.Simulates.{CaseTable, Chooses, IsChosen, does_at, gone_at, graph_in, number_in}
 use Rattle.image_code.proofs.CaseTables.{known_at}
-use Rattle.image_code.proofs.EdgePieces.{cut_in}
-use Rattle.image_code.proofs.ImageNumbers.{HasImage, block_of}
+use Rattle.image_code.proofs.ImageNumbers.{block_of}
 use Rattle.image_code.proofs.IntoSlots.{before, stands}
 use Rattle.image_code.proofs.JumpImages.{goes, jump_acts}
 use Rattle.image_code.proofs.Positions.{any_at, contains, get_behind, get_first}
-use Rattle.image_code.proofs.Visited.{AtWord, Edit, at_image, site, IsTargetOf, case_piece_is, entered_slot, has_its_image, image_items, l, nothing_gone, on_its_way, target, way_in}
+use Rattle.image_code.proofs.Visited.{AtWord, Edit, at_image, site, IsTargetOf, case_piece_is, entered_slot, image_items, l, nothing_gone, on_its_way, target, way_in}
 
 -- ---- the numbers of Case edges' pieces, by entries
 
@@ -104,13 +66,10 @@ module _ (edit : Edit) (node : Node) (x : Point) (visit : AtWord edit node x) (t
     (among : slice_get edit.g.switches k ≡ Some o) (numbered : jump_number edit.g.text (graph_in edit.g) o.block ≡ Some k)
     (jumping : jumps_in edit.g.switches o.block ≡ true) (itself : node ≡ block o.block) where
   open edit use {g, codes, is, p, place, f, cases}
-  open visit use {word, at, none, held, there, npc}
+  open visit use {word, at, none, held, npc, cut, low}
 
   abbrev b : Blocks
   b = blocks_of g.text g.given
-
-  cut : IsCut g.text b
-  cut = cut_in g is f.table.base f.cases.base
 
   abbrev table : CaseTable
   table = case_table g.text o
@@ -120,12 +79,6 @@ module _ (edit : Edit) (node : Node) (x : Point) (visit : AtWord edit node x) (t
 
   block_is : IsCaseBlock g.text b o
   block_is = is.cased.each k o among
-
-  in_text : word < length g.text.words
-  in_text = (word_at-some g.text x.pc word at).within
-
-  low : word < b.words
-  low = omega (arith, in_text, cut.words)
 
   -- it is the jump that ends the block
   held_in : holding_of b word ≡ o.block
@@ -267,15 +220,12 @@ module _ (edit : Edit) (node : Node) (x : Point) (visit : AtWord edit node x) (t
   abbrev address : Addr
   address = record { 0 = address_of g.text word }
 
-  has : HasImage g.text b g.switches node word
-  has = has_its_image edit node x word at held there
-
   abbrev piece : ℕ
   piece = image_number g.text (graph_in g) node word
 
   items : slice_get (l edit).list piece ≡ Some (choice_piece rd address (number_in g node) distance)
   items =
-      image_items edit node x word at has (i.Jmpl rd rs1 op2) says
+      image_items edit node x visit (i.Jmpl rd rs1 op2) says
       ∙ rw itself (ap (λ (xs : List Item). Some xs) (choice_is g.text (graph_in g) (jumps_at g.text f.table.base)
       f.cases.base codes address o.block k o rd rs1 op2 jumping numbered among))
 

@@ -1,16 +1,6 @@
 -- The piece of the jump of an open switch.
-use Rattle.std.specs.Prelude.{◌≡◌, ℕ, ◌+◌, ◌%◌, ◌^◌, ◌<◌, ◌≤◌, [], ◌∷◌, ◌++◌, length, Some, None, slice_get, slice_index}
-use Rattle.v8_decode.specs.declared.Op2.{Op2}
+use Rattle.image_code.proofs.Common.{◌≡◌, ℕ, ◌+◌, ◌%◌, ◌^◌, ◌<◌, ◌≤◌, [], ◌∷◌, ◌++◌, length, Some, None, slice_get, slice_index, Op2, decode_of, Node, Block, NoSlot, State, table_word, word_items, choice_at, choice_image, Point}
 use Rattle.v8_decode.specs.declared.Instr.TheVariants as i
-use Rattle.v8_decode.specs.Words.{decode_of}
-use Rattle.cfg_normal.specs.declared.Node.{Node}
-use Rattle.cfg_normal.specs.declared.Node.TheVariants.{Block}
-use Rattle.v8_step.specs.declared.Slot.TheVariants.{NoSlot}
-use Rattle.v8_step.specs.State.{State}
-use Rattle.addr_translate.specs.Lookup.{table_word}
-use Rattle.jump_code.specs.Pieces.{word_items}
-use Rattle.jump_code.specs.Choosing.{choice_at, choice_image}
-use Rattle.cfg_walk.specs.Walk.{Point}
 use Rattle.layout.specs.declared.items.Item.TheVariants as it
 use Rattle.image_code.specs.Simulates.{CaseTable, does_at, gone_at}
 use Rattle.image_code.proofs.Points.{Site}

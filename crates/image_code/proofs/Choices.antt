@@ -1,27 +1,8 @@
 -- The words of an open switch's JMPL lead to the piece of a Case edge.
-use Rattle.std.proofs.Common.{◌≡◌, ℕ, ◌+◌, ◌%◌, ◌^◌, ◌<◌, ◌≤◌, false, Some, None, List, [], ◌∷◌, ◌++◌, length, refl, ap, sym, ◌∙◌, arith}
-use Rattle.std.specs.Prelude.{◌/◌, slice_index}
-use Rattle.std.proofs.lemmas.List.{length-append}
-use Rattle.v8_decode.specs.declared.Instr.{Instr}
-use Rattle.v8_alu.specs.Numbers.{wrapped}
-use Rattle.v8_memory.specs.Regions.{code_of}
-use Rattle.v8_step.specs.State.{State}
-use Rattle.v8_step.specs.Items.{is_transfer}
-use Rattle.cfg_normal.specs.declared.Node.{Node}
-use Rattle.cfg_walk.specs.Walk.{Point, instr_at, node_after, point_of}
-use Rattle.code_runs.specs.Hops.{hopped}
-use Rattle.code_runs.specs.Ours.{HasWordAt}
-use Rattle.addr_translate.specs.Lookup.{table_word}
-use Rattle.code_runs.specs.Page.{page_word}
-use Rattle.code_runs.specs.StoredWords.{memory_word}
-use Rattle.code_runs.proofs.Leads.{leads_weaker}
-use Rattle.code_runs.proofs.Stays.{loads_there, stores_there}
-use Rattle.jump_code.specs.Jumped.{jumped}
-use Rattle.jump_code.specs.Links.{link}
-use Rattle.jump_code.proofs.Fitting.{Fit, link_fits, lt, words_mean}
-use Rattle.jump_code.specs.Choosing.{choice_at, ComesToCase, IsAboutToChoose, choice_image, choose, chosen}
+use Rattle.image_code.proofs.Common.{◌≡◌, ℕ, ◌+◌, ◌%◌, ◌^◌, ◌<◌, ◌≤◌, false, Some, None, List, [], ◌∷◌, ◌++◌, length, refl, ap, sym, ◌∙◌, arith, ◌/◌, slice_index, length-append, Instr, wrapped, code_of, State, is_transfer, Node, Point, instr_at, node_after, point_of, hopped, table_word, page_word, memory_word, leads_weaker, stores_there, link, Fit, words_mean, choice_at, choice_image, words_of, HasWordAt, loads_there, jumped}
+use Rattle.jump_code.proofs.Fitting.{link_fits, lt}
+use Rattle.jump_code.specs.Choosing.{ComesToCase, IsAboutToChoose, choose, chosen}
 use Rattle.jump_code.proofs.Choosing.{choices_simulate}
-use Rattle.layout.specs.Emitting.{words_of}
 use Rattle.image_code.specs.Simulates.{does_at, graph_in}
 use Rattle.image_code.specs.Cost.{is_jmpl}
 use Rattle.image_code.proofs.Points.{EntersNext, HereAt, Placed, Site, StepsFrom, entered_at}

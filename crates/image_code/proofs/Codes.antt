@@ -1,14 +1,10 @@
 -- The words of snippets do what they should.
-use Rattle.std.proofs.Common.{◌≡◌, ℕ, zero, suc, ◌+◌, ◌*◌, ◌%◌, ◌<◌, ◌≤◌, List, [], ◌∷◌, ◌++◌, length, append-nil, append_assoc, Result, Ok, Err, Some, slice_get, refl, ap, sym, ◌∙◌, subst, arith, inl, inr}
+use Rattle.image_code.proofs.Common.{◌≡◌, ℕ, zero, suc, ◌+◌, ◌*◌, ◌%◌, ◌<◌, ◌≤◌, List, [], ◌∷◌, ◌++◌, length, append-nil, append_assoc, Result, Ok, Err, Some, slice_get, refl, ap, sym, ◌∙◌, subst, arith, inl, inr, cases_lt, length-map, word_of, Op, take-append_seam, nil_from_length}
 use Rattle.std.specs.Result.{IfOk}
 use Rattle.std.proofs.Math.ListN.{get_or-eq_default}
-use Rattle.std.proofs.Math.Seq.{drop-append_seam, take-append_seam}
+use Rattle.std.proofs.Math.Seq.{drop-append_seam}
 use Rattle.std.proofs.lemmas.Option.{slice_get_past}
-use Rattle.std.proofs.lemmas.Bool.{cases_lt}
-use Rattle.std.proofs.lemmas.List.{length-map, nil_from_length}
 use Rattle.v8_decode.specs.declared.Part.{Part}
-use Rattle.v8_encode.specs.Encoding.{word_of}
-use Rattle.snippets.specs.declared.snippet.Op.{Op}
 use Rattle.snippets.specs.Cells.{named_by}
 use Rattle.snippet_code.specs.Laws.{CanExpand}
 use Rattle.snippet_code.specs.Runs.{DoesJust}

@@ -1,22 +1,8 @@
 -- The image of a branch is one step, whatever its annul bit.
-use Rattle.std.proofs.Common.{◌≡◌, ℕ, ◌+◌, ◌*◌, ◌^◌, ◌<◌, ◌≤◌, inl, inr, Bool, true, false, Option, Some, List, [], ◌∷◌, length, refl, ap, sym, ◌∙◌, arith}
-use Rattle.std.specs.Prelude.{if◌then◌else◌, slice_get, slice_index}
-use Rattle.notes.specs.Format.{NoteRange}
-use Rattle.v8_alu.specs.Conditions.{holds_of}
-use Rattle.v8_alu.specs.Numbers.{wrapped}
-use Rattle.v8_step.specs.State.{State}
-use Rattle.v8_step.specs.Items.{is_transfer}
-use Rattle.cfg_walk.specs.Walk.{Point}
-use Rattle.cfg_normal.specs.declared.Node.{Node}
-use Rattle.code_runs.specs.Code.{Stores}
-use Rattle.code_runs.specs.Hops.{hopped}
-use Rattle.code_runs.proofs.Leads.{leads_weaker}
-use Rattle.code_runs.specs.LongJump.{IsFirstWord}
-use Rattle.jump_code.specs.PageWords.{IsPageWord}
-use Rattle.layout.specs.declared.items.Item.{Item}
+use Rattle.image_code.proofs.Common.{◌≡◌, ℕ, ◌+◌, ◌*◌, ◌^◌, ◌<◌, ◌≤◌, inl, inr, Bool, true, false, Option, Some, List, [], ◌∷◌, length, refl, ap, sym, ◌∙◌, arith, if◌then◌else◌, slice_get, slice_index, NoteRange, holds_of, wrapped, State, is_transfer, Point, Node, Stores, hopped, leads_weaker, IsFirstWord, IsPageWord, Item, item_at, item_in, items_in, open_in, range_in, range_of, CanRun}
 use Rattle.layout.specs.declared.items.Item.TheVariants as it
-use Rattle.layout.specs.Laid.{item_at, item_in, items_in, size_of, open_in, range_in, range_of}
-use Rattle.layout.specs.Running.{CanRun, Goes}
+use Rattle.layout.specs.Laid.{size_of}
+use Rattle.layout.specs.Running.{Goes}
 use Rattle.layout.proofs.Going.{branches_hop}
 use Rattle.image_code.specs.Simulates.{does_at, gone_at, number_in}
 use Rattle.image_code.specs.Cost.{in_first_word, is_spill}

@@ -1,17 +1,9 @@
 -- The piece of a conditional branch.
-use Rattle.std.specs.Prelude.{◌≡◌, ◌-◌, true, ℕ, ◌<◌, Bool, [], ◌∷◌, if◌then◌else◌, ℤ}
-use Rattle.eel_base.specs.declared.numbers.PieceNo.{PieceNo}
-use Rattle.v8_step.specs.declared.Slot.TheVariants.{Taken, NoSlot}
-use Rattle.v8_step.specs.State.{State}
+use Rattle.image_code.proofs.Common.{◌≡◌, ◌-◌, true, ℕ, ◌<◌, Bool, [], ◌∷◌, if◌then◌else◌, ℤ, PieceNo, Taken, NoSlot, State, same_kind, instr_at, way_of, Point, decode_of, Node, holds_of}
 use Rattle.cfg_blocks.specs.declared.EdgeKind.TheVariants as kinds
-use Rattle.cfg_normal.specs.Nodes.{same_kind}
-use Rattle.cfg_walk.specs.Walk.{instr_at, way_of, Point}
-use Rattle.image_code.specs.Simulates.{Setting, does_at}
 use Rattle.layout.specs.declared.items.Item.TheVariants as it
 use Rattle.v8_decode.specs.declared.Instr.TheVariants as i
-use Rattle.v8_decode.specs.Words.{decode_of}
-use Rattle.cfg_normal.specs.declared.Node.{Node}
-use Rattle.v8_alu.specs.Conditions.{holds_of}
+use Rattle.image_code.specs.Simulates.{Setting, does_at}
 use Rattle.image_code.proofs.Points.{Site}
 use Rattle.image_code.proofs.CaseShapes.{IsMarked, LeadsNext}
 

@@ -1,26 +1,8 @@
 -- A transfer in the slot of another one.
-use Rattle.std.proofs.Common.{◌≡◌, ◌≢◌, ℕ, ◌+◌, Bool, true, false, Some, [], ◌∷◌, ◌++◌, refl, ap, sym, ◌∙◌, subst, arith}
-use Rattle.v8_decode.specs.declared.Instr.{Instr}
+use Rattle.image_code.proofs.Common.{◌≡◌, ◌≢◌, ℕ, ◌+◌, Bool, true, false, Some, [], ◌∷◌, ◌++◌, refl, ap, sym, ◌∙◌, subst, arith, Instr, decode_of, code_of, fetch_from, Slot, NoSlot, Taken, State, target_of, unless_couple, act, step_of, on_word, puts_by, run, run_puts, is_transfer, live_puts, Node, Point, count_stores, step_is, no_stores, none_then, stores_none, IsPageWord, pos, puts_of, always_holds}
 use Rattle.v8_decode.specs.declared.Instr.TheVariants as i
-use Rattle.v8_decode.specs.Words.{decode_of}
-use Rattle.v8_memory.specs.Regions.{code_of, fetch_from}
 use Rattle.v8_step.specs.declared.Ending.TheVariants.{Couple}
-use Rattle.v8_step.specs.declared.Slot.{Slot}
-use Rattle.v8_step.specs.declared.Slot.TheVariants.{NoSlot, Taken}
-use Rattle.v8_step.specs.State.{State}
-use Rattle.v8_step.specs.Transfers.{ended, target_of, unless_couple}
-use Rattle.v8_step.specs.Step.{act, step_of, on_word, puts_of, puts_by}
-use Rattle.v8_step.specs.Run.{run, run_puts}
-use Rattle.v8_step.specs.Items.{is_transfer}
-use Rattle.v8_step.proofs.Live.{live_puts}
-use Rattle.cfg_normal.specs.declared.Node.{Node}
-use Rattle.cfg_walk.specs.Walk.{Point}
-use Rattle.cfg_walk.proofs.Ways.{always_holds}
-use Rattle.code_runs.specs.Counted.{count_stores}
-use Rattle.code_runs.proofs.Acts.{step_is}
-use Rattle.code_runs.proofs.Counted.{no_stores, none_then}
-use Rattle.code_runs.proofs.TwoRegisters.{stores_none}
-use Rattle.jump_code.specs.PageWords.{IsPageWord}
+use Rattle.v8_step.specs.Transfers.{ended}
 use Rattle.layout.proofs.Going.{taken_acts}
 use Rattle.image_code.specs.Simulates.{IsOnWay, at_point, does_at, gone_at}
 use Rattle.image_code.proofs.Points.{EntersNext, HereAt, Placed, Site, StepsFrom}
@@ -29,6 +11,8 @@ use Rattle.image_code.proofs.Memories.{fetch_is}
 use Rattle.image_code.proofs.Marked.{AtWords, at_words}
 use Rattle.image_code.proofs.Cases.{no_puts}
 use Rattle.image_code.proofs.EntersBy.{ends_by, followed_same, moves_past}
+use Rattle.image_code.specs.Made.{couple_word}
+use Rattle.image_code.proofs.Branches.{couple_says}
 
 couple_acts : (s : State) (x : Instr) → is_transfer x ≡ true → s.slot ≢ NoSlot → act s x ≡ ended s Couple
 unfolding act
@@ -48,30 +32,30 @@ module _ (site : Site) (h : Placed site) (node : Node) (x : Point) (t : State) (
     (c : IsCouple site node x) where
   open site use {g, l, base, p, place}
 
-  there : AtWords site node x t c.piece 2 (c.ba ∷ c.ba ∷ [])
-  there = at_words site h node x t here _ c.marked c.rest (c.ba ∷ c.ba ∷ []) refl
+  there : AtWords site node x t c.piece 2 (couple_word ∷ couple_word ∷ [])
+  there = at_words site h node x t here _ c.marked [] (couple_word ∷ couple_word ∷ []) refl
 
   npc : t.npc ≡ t.pc + 4
   npc = there.next (omega arith)
 
   -- in the slot of the first word
   mid : State
-  mid = record t { pc = t.npc; npc = target_of t c.disp; slot = Taken }
+  mid = record t { pc = t.npc; npc = target_of t (pos 2); slot = Taken }
 
-  fetched : fetch_from (code_of t.memory) t.npc ≡ Some c.ba
+  fetched : fetch_from (code_of t.memory) t.npc ≡ Some couple_word
   fetched = rw npc there.words.1.0
 
-  one : step_of t ≡ record t { pc = t.npc; npc = target_of t c.disp; slot = Taken }
-  one = step_is t c.ba here.live there.words.0 ∙ ap (act t) c.says
-      ∙ taken_acts t 8 c.disp true here.slot (always_holds 8 t.codes refl) refl
+  one : step_of t ≡ record t { pc = t.npc; npc = target_of t (pos 2); slot = Taken }
+  one = step_is t couple_word here.live there.words.0 ∙ ap (act t) couple_says
+      ∙ taken_acts t 8 (pos 2) true here.slot (always_holds 8 t.codes refl) refl
 
-  two : step_of (record t { pc = t.npc; npc = target_of t c.disp; slot = Taken }) ≡ ended
-      (record t { pc = t.npc; npc = target_of t c.disp; slot = Taken }) Couple
+  two : step_of (record t { pc = t.npc; npc = target_of t (pos 2); slot = Taken }) ≡ ended
+      (record t { pc = t.npc; npc = target_of t (pos 2); slot = Taken }) Couple
   unfolding mid
-  two = step_is mid c.ba here.live fetched ∙ ap (act mid) c.says
-      ∙ couple_acts mid (i.Branch 8 false c.disp) refl (λ e. cc)
+  two = step_is mid couple_word here.live fetched ∙ ap (act mid) couple_says
+      ∙ couple_acts mid (i.Branch 8 false (pos 2)) refl (λ e. cc)
 
-  on_way : IsOnWay g t (record t { pc = t.npc; npc = target_of t c.disp; slot = Taken })
+  on_way : IsOnWay g t (record t { pc = t.npc; npc = target_of t (pos 2); slot = Taken })
   unfolding mid
   on_way =
       there.on mid
@@ -84,30 +68,30 @@ module _ (site : Site) (h : Placed site) (node : Node) (x : Point) (t : State) (
   silent : (descriptor : ℕ) → run_puts t 2 descriptor ≡ []
   unfolding mid
   silent descriptor =
-      let a : puts_of t descriptor ≡ [] = live_puts t c.ba descriptor here.live (fetch_is t.memory t.pc ∙ there.words.0)
-      ∙ ap (λ (q : Instr). puts_by t q descriptor) c.says ∙ no_puts t 8 false c.disp descriptor in
-      let b : puts_of mid descriptor ≡ [] = live_puts mid c.ba descriptor here.live
-      (fetch_is t.memory t.npc ∙ fetched) ∙ ap (λ (q : Instr). puts_by mid q descriptor) c.says
-      ∙ no_puts mid 8 false c.disp descriptor in
+      let a : puts_of t descriptor ≡ [] = live_puts t couple_word descriptor here.live (fetch_is t.memory t.pc ∙ there.words.0)
+      ∙ ap (λ (q : Instr). puts_by t q descriptor) couple_says ∙ no_puts t 8 false (pos 2) descriptor in
+      let b : puts_of mid descriptor ≡ [] = live_puts mid couple_word descriptor here.live
+      (fetch_is t.memory t.npc ∙ fetched) ∙ ap (λ (q : Instr). puts_by mid q descriptor) couple_says
+      ∙ no_puts mid 8 false (pos 2) descriptor in
       ap (λ (z : State). puts_of t descriptor ++ puts_of z descriptor) one
-      ∙ ap (λ z. z ++ puts_of (record t { pc = t.npc; npc = target_of t c.disp; slot = Taken }) descriptor) a ∙ b
+      ∙ ap (λ z. z ++ puts_of (record t { pc = t.npc; npc = target_of t (pos 2); slot = Taken }) descriptor) a ∙ b
 
   -- neither word stores anything
   none : (counted : ℕ → Bool) → count_stores counted t 2 ≡ 0
   unfolding mid
   none counted =
       none_then counted t mid 1 1 one
-      (no_stores counted t (i.Branch 8 false c.disp) here.live
-      (record { word = c.ba; fetched = there.words.0; decodes = c.says })
+      (no_stores counted t (i.Branch 8 false (pos 2)) here.live
+      (record { word = couple_word; fetched = there.words.0; decodes = couple_says })
       refl)
-      (no_stores counted mid (i.Branch 8 false c.disp) here.live
-      (record { word = c.ba; fetched = fetched; decodes = c.says }) refl)
+      (no_stores counted mid (i.Branch 8 false (pos 2)) here.live
+      (record { word = couple_word; fetched = fetched; decodes = couple_says }) refl)
 
   steps : EntersNext site
       (gone_at g node x (ended (at_point x t) Couple)) node x t (ended (at_point x t) Couple)
   steps =
       let v : State = ended (at_point x t) Couple in
-      let after : State = ended (record t { pc = t.npc; npc = target_of t c.disp; slot = Taken }) Couple in
+      let after : State = ended (record t { pc = t.npc; npc = target_of t (pos 2); slot = Taken }) Couple in
       ends_by site h node x t here v after 1 (record {
         past = moves_past site h node x t here [] v after 2 (record {
           word = c.word;

@@ -1,34 +1,10 @@
 -- What is dead on a way along some edges: only behind the snippet of the last of them, so that no snippet reads a
 -- register in which an earlier one left anything else.
-use Rattle.std.proofs.Common.{◌≡◌, ℕ, ◌⊎◌, inl, inr, Bool, true, ◌&&◌, Option, Some, None, List, [], ◌∷◌, ◌++◌, length, refl, ap, sym, ◌∙◌, subst}
-use Rattle.std.specs.Prelude.{if◌then◌else◌, ◌-◌, slice_index}
-use Rattle.std.specs.List.{position}
-use Rattle.std.specs.Option.{option_to_list}
-use Rattle.std.proofs.lemmas.Bool.{and_parts, cond_both}
-use Rattle.std.proofs.lemmas.List.Quantifiers.{position-Some}
-use Rattle.std.proofs.lemmas.Option.{slice_get-get_or}
-use Rattle.eel_base.specs.CodeText.{word_at}
-use Rattle.v8_decode.specs.declared.Instr.{Instr}
+use Rattle.image_code.proofs.Common.{◌≡◌, ℕ, ◌⊎◌, inl, inr, Bool, true, ◌&&◌, Option, Some, None, List, [], ◌∷◌, ◌++◌, length, refl, ap, sym, ◌∙◌, subst, if◌then◌else◌, ◌-◌, slice_index, position, option_to_list, and_parts, cond_both, position-Some, slice_get-get_or, word_at, Instr, decode_of, Memory, IsSameOutside, Ending, Slot, NoSlot, Taken, Untaken, State, pages_of, StateItem, Register, IsSameAt, EdgeKind, Edge, has_cases, lands, Node, X, Point, WayOut, instr_at, left_by, point_of, slot_left, way_of, same_kind, same_node, hopped, Codes, YRegister, gone, landed, leads_along, unless_ended}
 use Rattle.v8_decode.specs.declared.Instr.TheVariants as i
-use Rattle.v8_decode.specs.Words.{decode_of}
-use Rattle.v8_memory.specs.Regions.{Memory}
-use Rattle.v8_memory.specs.Code.{IsSameOutside}
-use Rattle.v8_step.specs.declared.Ending.{Ending}
-use Rattle.v8_step.specs.declared.Slot.{Slot}
-use Rattle.v8_step.specs.declared.Slot.TheVariants.{NoSlot, Taken, Untaken}
-use Rattle.v8_step.specs.State.{State}
-use Rattle.two_runs.specs.Visits.{pages_of}
-use Rattle.v8_step.specs.Items.{StateItem, Register, Codes, YRegister, IsSameAt}
-use Rattle.cfg_blocks.specs.declared.EdgeKind.{EdgeKind}
 use Rattle.cfg_blocks.specs.declared.EdgeKind.TheVariants as kinds
-use Rattle.cfg_normal.specs.declared.Edge.{Edge}
-use Rattle.cfg_normal.specs.Graph.{has_cases, lands}
-use Rattle.cfg_normal.specs.declared.Node.{Node}
-use Rattle.cfg_normal.specs.declared.Node.TheVariants.{X}
 use Rattle.cfg_normal.specs.declared.Slot.TheVariants.{Nothing}
-use Rattle.cfg_walk.specs.Walk.{Point, WayOut, completed, gone, instr_at, landed, leads_along, left_along, left_at, left_by, point_of, slot_left, unless_ended, way_of}
-use Rattle.cfg_normal.specs.Nodes.{same_kind, same_node}
-use Rattle.code_runs.specs.Hops.{hopped}
+use Rattle.cfg_walk.specs.Walk.{completed, left_along, left_at}
 use Rattle.image_code.specs.Simulates.{IsFollowedBy, IsKept, Setting, gone_at, graph_in}
 use Rattle.image_code.specs.Cost.{is_out}
 use Rattle.image_code.specs.Images.{Frame, HasCells, Pieces}

@@ -1,32 +1,10 @@
 -- The edges of a text's graph, and the pieces of the ways along them.
-use Rattle.std.proofs.Common.{◌≡◌, ℕ, ◌+◌, ◌*◌, ◌%◌, ◌^◌, ◌<◌, Bool, true, Some, List, [], ◌∷◌, length, refl, ap, sym, ◌∙◌, arith}
-use Rattle.std.specs.Prelude.{◌&&◌, slice_get}
-use Rattle.std.specs.Int.{w32, cast_unsigned}
-use Rattle.std.specs.List.{position}
-use Rattle.std.proofs.lemmas.Bool.{and_parts, eq-eqb}
-use Rattle.std.proofs.lemmas.List.Quantifiers.{position-Some}
-use Rattle.std.proofs.lemmas.Option.{get_or_from_slice_get}
-use Rattle.eel_base.specs.CodeText.{Words, address_of}
-use Rattle.eel_base.specs.Code.{IsText}
-use Rattle.v8_decode.specs.declared.Instr.{Instr}
+use Rattle.image_code.proofs.Common.{◌≡◌, ℕ, ◌+◌, ◌*◌, ◌%◌, ◌^◌, ◌<◌, Bool, true, Some, List, [], ◌∷◌, length, refl, ap, sym, ◌∙◌, arith, ◌&&◌, slice_get, w32, position, and_parts, eq-eqb, position-Some, get_or_from_slice_get, Words, address_of, IsText, Instr, EdgeKind, Blocks, blocks_of, is_fall, Edge, Node, Open, edges_in, lands, WayOut, edge_along, same_kind, same_node, IsCut, cut, block, same_nodes, same_kinds, Carried, IsSlotIn, leads_along, target_along}
 use Rattle.v8_decode.specs.declared.Instr.TheVariants as i
-use Rattle.cfg_blocks.specs.declared.EdgeKind.{EdgeKind}
 use Rattle.cfg_blocks.specs.declared.EdgeKind.TheVariants as kinds
-use Rattle.cfg_blocks.specs.Blocks.{Blocks, blocks_of}
-use Rattle.cfg_blocks.specs.Entries.{is_fall}
-use Rattle.cfg_normal.specs.declared.Edge.{Edge}
-use Rattle.cfg_normal.specs.declared.Node.{Node}
-use Rattle.cfg_normal.specs.declared.Slot.{Slot as Carried}
-use Rattle.cfg_normal.specs.Opens.{Open}
-use Rattle.cfg_normal.specs.Code.{IsSlotIn}
-use Rattle.cfg_normal.specs.Graph.{edges_in, lands}
-use Rattle.cfg_walk.specs.Walk.{WayOut, edge_along, leads_along}
-use Rattle.cfg_normal.specs.Nodes.{same_kind, same_node}
-use Rattle.cfg_walk.specs.Matches.{target_along}
-use Rattle.cfg_walk.proofs.Cut.{IsCut, cut}
-use Rattle.cfg_walk.proofs.Edges.{block, number_of_list, same_nodes}
+use Rattle.std.specs.Int.{cast_unsigned}
+use Rattle.cfg_walk.proofs.Edges.{number_of_list}
 use Rattle.cfg_walk.proofs.NoneOpen.{edge_lies_in}
-use Rattle.cfg_walk.proofs.Ways.{same_kinds}
 use Rattle.image_code.specs.Simulates.{Setting, graph_in}
 use Rattle.image_code.proofs.CaseShapes.{IsFar}
 use Rattle.image_code.specs.Made.{first_word, piece_list, way_by}

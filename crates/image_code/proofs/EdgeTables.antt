@@ -1,24 +1,8 @@
 -- The tables of first edges say which edges there are.
-use Rattle.std.proofs.Common.{◌≡◌, ℕ, ◌<◌, Bool, false, ◌&&◌, ◌==◌, List, [], ◌∷◌, Option, Some, length, refl, ap, ◌∙◌, arith, inl, inr}
-use Rattle.std.proofs.lemmas.Bool.{cases_Bool}
-use Rattle.std.specs.Prelude.{if◌then◌else◌}
-use Rattle.std.specs.List.{list_any, position}
-use Rattle.std.specs.Option.{is_some, option_to_list}
-use Rattle.std.proofs.Math.Bool.{and-false}
-use Rattle.std.proofs.lemmas.Bool.Decides.{nat_tests}
-use Rattle.eel_base.specs.declared.numbers.BlockNo.{BlockNo}
-use Rattle.cfg_blocks.specs.declared.EdgeKind.{EdgeKind}
+use Rattle.image_code.proofs.Common.{◌≡◌, ℕ, ◌<◌, Bool, false, ◌&&◌, ◌==◌, List, [], ◌∷◌, Option, Some, length, refl, ap, ◌∙◌, arith, inl, inr, cases_Bool, if◌then◌else◌, list_any, position, option_to_list, nat_tests, BlockNo, EdgeKind, Edge, Node, Block, Landed, X, Graph, IsEdgeIn, IsNodeIn, same_kind, same_node, node_number, edge_along, edge_from, landing_at, same_kinds, is_some, and-false, IsGraph}
 use Rattle.cfg_blocks.specs.declared.EdgeKind.TheVariants as kinds
-use Rattle.cfg_normal.specs.declared.Edge.{Edge}
-use Rattle.cfg_normal.specs.declared.Node.{Node}
-use Rattle.cfg_normal.specs.declared.Node.TheVariants.{Block, Landed, X}
-use Rattle.cfg_normal.specs.Graph.{Graph}
-use Rattle.cfg_normal.specs.Code.{IsEdgeIn, IsGraph, IsNodeIn}
 use Rattle.cfg_normal.specs.Landings.{IsNumbered}
-use Rattle.cfg_normal.specs.Nodes.{same_kind, same_node}
-use Rattle.cfg_normal.specs.Numbers.{kind_number, node_number}
-use Rattle.cfg_walk.specs.Walk.{edge_along, edge_from, landing_at}
-use Rattle.cfg_walk.proofs.Ways.{same_kinds}
+use Rattle.cfg_normal.specs.Numbers.{kind_number}
 use Rattle.image_code.specs.Lookups.{AreFirstEdges, is_case, is_edge_at, is_land, mark_at, mark_of, node_of_edge}
 use Rattle.image_code.proofs.FirstPlaces.{mark_same, position-cons, position-same}
 

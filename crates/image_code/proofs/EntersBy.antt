@@ -1,41 +1,9 @@
 -- From a visit to where control enters the next one: what runs at the visit itself, and the way behind it; or up to the
 -- end of the run.
-use Rattle.std.proofs.Common.{◌≡◌, ◌≢◌, ℕ, suc, ◌+◌, ◌-◌, ◌<◌, ◌≤◌, inl, inr, true, false, Option, Some, None, List, [], ◌++◌, append-nil, refl, ap, sym, ◌∙◌, subst, arith}
-use Rattle.std.specs.Prelude.{◌%◌}
-use Rattle.eel_base.specs.CodeText.{word_at}
-use Rattle.v8_decode.specs.declared.Instr.{Instr}
+use Rattle.image_code.proofs.Common.{◌≡◌, ◌≢◌, ℕ, suc, ◌+◌, ◌-◌, ◌<◌, ◌≤◌, inl, inr, true, false, Option, Some, None, List, [], ◌++◌, append-nil, refl, ap, sym, ◌∙◌, subst, arith, ◌%◌, word_at, Instr, decode_of, Memory, IsSameOutside, Ending, NoSlot, Taken, State, register_of, puts_on_word, run, run_puts, is_transfer, IsValid, run-valid, pages_of, Node, Point, instr_at, node_after, point_of, way_of, lived_to, same_kind, count_stores, hopped, Leads, IsAmongWords, page_word, Stores, memory_word, count_add, none_then, leads_weaker, found_in, IsPageWord, kept_address, IsSilent, stores_then, leads_then, puts_add, outside_refl}
 use Rattle.v8_decode.specs.declared.Instr.TheVariants as i
-use Rattle.v8_decode.specs.Words.{decode_of}
-use Rattle.v8_memory.specs.Regions.{Memory}
-use Rattle.v8_memory.specs.Code.{IsSameOutside}
-use Rattle.v8_step.specs.declared.Ending.{Ending}
-use Rattle.v8_step.specs.declared.Slot.TheVariants.{NoSlot, Taken}
-use Rattle.v8_step.specs.State.{State, register_of}
-use Rattle.v8_step.specs.Step.{puts_on_word}
-use Rattle.v8_step.specs.Run.{run, run_puts}
-use Rattle.v8_step.specs.Items.{is_transfer}
-use Rattle.v8_step.specs.Valid.{IsValid}
-use Rattle.v8_step.proofs.ValidSteps.{run-valid}
-use Rattle.two_runs.specs.Visits.{pages_of}
 use Rattle.cfg_blocks.specs.declared.EdgeKind.TheVariants as kinds
-use Rattle.cfg_normal.specs.declared.Node.{Node}
-use Rattle.cfg_walk.specs.Walk.{Point, instr_at, node_after, point_of, way_of}
-use Rattle.cfg_walk.proofs.Walks.{lived_to}
-use Rattle.cfg_normal.specs.Nodes.{same_kind}
-use Rattle.code_runs.specs.Counted.{count_stores}
-use Rattle.code_runs.specs.Hops.{hopped}
-use Rattle.code_runs.specs.Leads.{IsSilent, Leads}
-use Rattle.code_runs.specs.Ours.{IsAmongWords}
-use Rattle.code_runs.specs.Page.{page_word}
-use Rattle.code_runs.specs.Code.{Stores}
-use Rattle.code_runs.specs.StoredWords.{memory_word}
-use Rattle.code_runs.proofs.Counted.{count_add, none_then}
-use Rattle.code_runs.proofs.Hops.{stores_then}
-use Rattle.code_runs.proofs.Leads.{leads_then, leads_weaker, puts_add}
-use Rattle.code_runs.proofs.Ours.{outside_refl}
 use Rattle.code_runs.proofs.PointsAlike.{no_puts as quiet_transfer}
-use Rattle.addr_translate.specs.Halves.{found_in}
-use Rattle.jump_code.specs.PageWords.{IsPageWord, kept_address}
 use Rattle.image_code.specs.Simulates.{IsFollowedBy, IsKept, IsOnWay, IsThere, Setting, at_point, gone_at, graph_in, word_of, edit_in}
 use Rattle.image_code.specs.Cost.{IsWatched, NoneIsOut, in_first_word, is_jmpl, is_spill, is_transfer_at}
 use Rattle.image_code.specs.Store.{cells_in, updates}

@@ -1,10 +1,5 @@
 -- Where an item first stands in a list, and the tables that say so.
-use Rattle.std.proofs.Common.{◌≡◌, ℕ, suc, ◌+◌, ◌<◌, Bool, ◌==◌, cond, List, [], ◌∷◌, ◌++◌, Option, Some, length, length-take, take, refl, ap, sym, ◌∙◌, arith}
-use Rattle.std.specs.Prelude.{slice_index, slice_index_or}
-use Rattle.std.specs.List.{All, position}
-use Rattle.std.specs.Option.{option_map, option_or}
-use Rattle.std.proofs.lemmas.Bool.Decides.{nat_tests}
-use Rattle.std.proofs.lemmas.List.{take_more}
+use Rattle.image_code.proofs.Common.{◌≡◌, ℕ, suc, ◌+◌, ◌<◌, Bool, ◌==◌, cond, List, [], ◌∷◌, ◌++◌, Option, Some, length, length-take, take, refl, ap, sym, ◌∙◌, arith, slice_index, slice_index_or, position, option_map, option_or, nat_tests, take_more, All}
 use Rattle.image_code.specs.Lookups.{AreFirst, first_mark, mark_of, number_where}
 
 -- ---- positions

@@ -1,55 +1,14 @@
 -- What holds of each piece that is made, and so of all.
-use Rattle.std.proofs.Common.{◌≡◌, sym, ◌∙◌, ℕ, zero, suc, ◌+◌, ◌-◌, ◌*◌, ◌<◌, ◌≤◌, Bool, true, false, ◌&&◌, ◌==◌, Option, Some, None, List, [], ◌∷◌, ◌++◌, append-nil, length, map, get_or, length-append, refl, ap, arith}
-use Rattle.std.specs.Prelude.{if◌then◌else◌, nat_lt, slice_get, slice_index}
-use Rattle.std.specs.List.{flat_map, position, sum_by}
-use Rattle.std.specs.Option.{option_to_list}
-use Rattle.std.proofs.lemmas.Bool.{and_parts, cond_both, eq-eqb, false≢true, ltb-true, or_left, or_right}
-use Rattle.std.proofs.lemmas.List.Folds.{fold-map}
-use Rattle.std.proofs.lemmas.List.Sums.{sum_by-append, sum_by-cons, sum_by-le}
-use Rattle.std.proofs.lemmas.List.Quantifiers.{position-Some}
-use Rattle.std.proofs.lemmas.Option.{get_or_from_slice_get, slice_get-get_or}
-use Rattle.eel_base.specs.CodeText.{Words, address_of, word_at}
-use Rattle.eel_base.specs.Code.{IsText}
-use Rattle.eel_base.specs.declared.numbers.Addr.{Addr}
-use Rattle.v8_decode.specs.declared.Op2.{Op2}
-use Rattle.v8_decode.specs.declared.Instr.{Instr}
+use Rattle.image_code.proofs.Common.{◌≡◌, sym, ◌∙◌, ℕ, zero, suc, ◌+◌, ◌-◌, ◌*◌, ◌<◌, ◌≤◌, Bool, true, false, ◌&&◌, ◌==◌, Option, Some, None, List, [], ◌∷◌, ◌++◌, append-nil, length, map, get_or, length-append, refl, ap, arith, if◌then◌else◌, nat_lt, slice_get, slice_index, flat_map, position, sum_by, option_to_list, and_parts, cond_both, eq-eqb, false≢true, ltb-true, sum_by-append, sum_by-cons, position-Some, get_or_from_slice_get, slice_get-get_or, Words, address_of, word_at, IsText, Addr, Op2, Instr, decode_of, is_transfer, EdgeKind, always, never, below, blocks_of, holding_of, last_word, size_of, length-below, is_fall, Edge, Node, Block, X, same_kind, same_node, Open, jumps_in, Graph, lands, IsEdgeIn, IsNodeIn, ends_block, landing_at, left_by, block, copy, same_nodes, in_held, some_words, straight_left, same_kinds, Each, each_at, each-append, each-below, choice_image, find_image, go_found, free_register, other_register, keep_load, link, far_piece, Item, item_at, item_in, Op, fold-map, compares_in, is_copied, each-then, long_jump, foreign, LeadsBelow, piece_words}
 use Rattle.v8_decode.specs.declared.Instr.TheVariants as i
-use Rattle.v8_decode.specs.Words.{decode_of}
-use Rattle.v8_step.specs.Items.{is_transfer}
-use Rattle.cfg_blocks.specs.declared.EdgeKind.{EdgeKind}
 use Rattle.cfg_blocks.specs.declared.EdgeKind.TheVariants as kinds
-use Rattle.cfg_blocks.specs.Ends.{always, never}
-use Rattle.cfg_blocks.specs.Blocks.{below, blocks_of, holding_of, last_word, size_of}
-use Rattle.cfg_blocks.proofs.Below.{length-below}
-use Rattle.cfg_blocks.specs.Entries.{is_fall}
-use Rattle.cfg_normal.specs.declared.Edge.{Edge}
-use Rattle.cfg_normal.specs.declared.Node.{Node}
-use Rattle.cfg_normal.specs.declared.Node.TheVariants.{Block, X}
+use Rattle.layout.specs.declared.items.Item.TheVariants as it
+use Rattle.std.proofs.lemmas.Bool.{or_left, or_right}
+use Rattle.std.proofs.lemmas.List.Sums.{sum_by-le}
 use Rattle.cfg_normal.specs.declared.Slot.{Slot}
 use Rattle.cfg_normal.specs.declared.Slot.TheVariants as slots
-use Rattle.cfg_normal.specs.Nodes.{same_kind, same_node}
-use Rattle.cfg_normal.specs.Opens.{Open, compares_in, is_copied, jumps_in}
-use Rattle.cfg_normal.specs.Graph.{Graph, lands}
-use Rattle.cfg_normal.specs.Code.{IsEdgeIn, IsNodeIn}
-use Rattle.cfg_walk.specs.Walk.{ends_block, landing_at, left_by}
-use Rattle.cfg_walk.proofs.Edges.{block, copy, same_nodes}
-use Rattle.cfg_walk.proofs.Holding.{in_held, some_words}
-use Rattle.cfg_walk.proofs.Leaving.{straight_left}
-use Rattle.cfg_walk.proofs.Ways.{same_kinds}
-use Rattle.cfg_walk.proofs.Lists.{Each, each_at, each-append, each-below, each-then}
-use Rattle.code_runs.specs.LongJump.{long_jump}
-use Rattle.jump_code.specs.Choosing.{choice_image}
-use Rattle.jump_code.specs.Finding.{find_image, go_found}
-use Rattle.jump_code.specs.FreeRegister.{free_register, other_register}
-use Rattle.jump_code.specs.Keeping.{keep_load}
-use Rattle.jump_code.specs.Leaving.{foreign}
-use Rattle.jump_code.specs.Links.{link}
-use Rattle.jump_code.specs.Pieces.{far_piece}
 use Rattle.layout.specs.Emitting.{words_of as encoded}
-use Rattle.layout.specs.declared.items.Item.{Item}
-use Rattle.layout.specs.declared.items.Item.TheVariants as it
-use Rattle.layout.specs.Laid.{IsMarked, LeadsBelow, item_at, item_in, piece_words}
-use Rattle.snippets.specs.declared.snippet.Op.{Op}
+use Rattle.layout.specs.Laid.{IsMarked}
 use Rattle.image_code.specs.Loads.{load_of}
 use Rattle.image_code.specs.Numbered.{enter_number, first_entry, foreign_number, node_in_order, own_edges, pieces_of, place_in}
 use Rattle.image_code.specs.Made.{case_at, case_by, cases_from, choice_of, couple_word, distance_of, first_way, first_word, goes_on, image, image_by, images_in_order, images_of, is_slots, jump_by, jump_image_by, jump_to, jumps_at, keep_by, landing, next_at, nop_word, open_pieces, piece_list, way_along, way_by, way_out, ways_from}
@@ -239,9 +198,8 @@ module _ (text : Words) (graph : Graph) (table cases : ℕ) (codes : ℕ → Lis
       cond_both (is_transfer (decode_of (slice_index text.words slot.0))) _ _ (Made 8 most)
       (λ t. instead edge.from slot.0 at t (straight (couple_word ∷ couple_word ∷ [])) [] (omega arith) (omega arith) tt
       falls)
-      (λ _. cond_both (same_kind edge.kind kinds.Out) _ _ (Made 8 most)
-      (λ _. copied _ (omega arith) few (exits_by (encoded (go_found 1)) (omega arith)))
-      (λ _. copied _ (omega arith) few (goes_exit edge.to word _ to)))
+      (λ _. copied _ (omega arith) few (cond_both (same_kind edge.kind kinds.Out) _ _ Exits
+      (λ _. exits_by (encoded (go_found 1)) (omega arith)) (λ _. goes_exit edge.to word _ to)))
 
   -- one that is never run
   idle_made : {most : ℕ} → Made 8 most (jump_to 0)

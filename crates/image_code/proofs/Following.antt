@@ -1,30 +1,10 @@
 -- Where a word that is no transfer goes on: to the next word, and at which node.
-use Rattle.std.proofs.Common.{◌≡◌, ◌≢◌, ℕ, ◌+◌, ◌<◌, Bool, true, false, Some, List, [], ◌∷◌, refl, ap, sym, ◌∙◌, subst, arith, inl, inr}
-use Rattle.std.specs.Prelude.{◌==◌, ◌&&◌, if◌then◌else◌, slice_get, slice_index}
-use Rattle.std.proofs.Math.Bool.{and-true}
-use Rattle.std.proofs.lemmas.Bool.{and_parts, cases_eq, eq-eqb, eqb-true, false_from_ne_true, false≢true, ne_eqb}
-use Rattle.v8_decode.specs.declared.Instr.{Instr}
-use Rattle.v8_decode.specs.Words.{decode_of}
-use Rattle.v8_step.specs.Items.{is_transfer}
-use Rattle.cfg_blocks.specs.declared.BlockEnd.{BlockEnd}
+use Rattle.image_code.proofs.Common.{◌≡◌, ◌≢◌, ℕ, ◌+◌, ◌<◌, Bool, true, false, Some, List, [], ◌∷◌, refl, ap, sym, ◌∙◌, subst, arith, inl, inr, ◌==◌, ◌&&◌, if◌then◌else◌, slice_get, slice_index, and_parts, eq-eqb, eqb-true, false_from_ne_true, false≢true, ne_eqb, Instr, decode_of, is_transfer, EdgeKind, Blocks, blocks_of, end_of, holding_of, last_word, end_at, ends_block_after, within, is_jump, Node, Block, Landed, X, home_of, IsNodeIn, Open, jumps_in, edge_from, left_by, node_after, same_kind, same_node, IsCut, block, copy, IsIn, ends_within, end_is, is_in, straight_left, cases_eq, BlockEnd, block_end, way, ways_of, directed, is_compared, is_held, way_found, IsOne}
 use Rattle.cfg_blocks.specs.declared.BlockEnd.TheVariants as ends
-use Rattle.cfg_blocks.specs.declared.EdgeKind.{EdgeKind}
 use Rattle.cfg_blocks.specs.declared.EdgeKind.TheVariants as kinds
-use Rattle.cfg_blocks.specs.Blocks.{Blocks, block_end, blocks_of, end_of, holding_of, last_word}
-use Rattle.cfg_blocks.specs.Ends.{end_at, is_transfer as ends_block_after, way, within, ways_of}
-use Rattle.cfg_blocks.specs.Switches.{is_jump}
-use Rattle.cfg_normal.specs.declared.Node.{Node}
-use Rattle.cfg_normal.specs.declared.Node.TheVariants.{Block, Landed, X}
-use Rattle.cfg_normal.specs.Code.{home_of, IsNodeIn}
-use Rattle.cfg_normal.specs.Opens.{Open, jumps_in}
-use Rattle.cfg_normal.specs.Graph.{directed, is_compared}
-use Rattle.cfg_walk.specs.Walk.{edge_from, left_by, node_after}
-use Rattle.cfg_normal.specs.Nodes.{same_kind, same_node}
-use Rattle.cfg_walk.proofs.Cut.{IsCut}
-use Rattle.cfg_walk.proofs.Edges.{block, copy}
-use Rattle.cfg_walk.proofs.Holding.{IsIn, ends_within, is_held}
-use Rattle.cfg_walk.proofs.Leaving.{end_here, end_is, ends_home, falls_to, is_in, no_cases, node_within, straight_end, straight_left, way_found}
-use Rattle.cfg_walk.proofs.Ways.{IsOne, fall_is_one}
+use Rattle.std.proofs.Math.Bool.{and-true}
+use Rattle.cfg_walk.proofs.Leaving.{end_here, ends_home, falls_to, no_cases, node_within, straight_end}
+use Rattle.cfg_walk.proofs.Ways.{fall_is_one}
 use Rattle.image_code.specs.Numbered.{node_in_order}
 use Rattle.image_code.specs.Simulates.{Setting, graph_in}
 use Rattle.image_code.proofs.CaseTables.{IsKnown}

@@ -1,15 +1,7 @@
 -- What is found by tables of which it is known that they are a graph's.
-use Rattle.std.proofs.Common.{◌≡◌, ℕ, ◌+◌, ◌<◌, ◌≤◌, Bool, List, length, map, Option, Some, ap, ◌∙◌, arith}
-use Rattle.std.specs.Prelude.{slice_get, slice_index}
+use Rattle.image_code.proofs.Common.{◌≡◌, ℕ, ◌+◌, ◌<◌, ◌≤◌, Bool, List, length, map, Option, Some, ap, ◌∙◌, arith, slice_get, slice_index, position, length-map, Words, below, length-below, Graph, Open}
 use Rattle.std.specs.Coded.{Coded-set, coded_ℕ, le_prop}
-use Rattle.std.specs.List.{position}
-use Rattle.std.proofs.lemmas.List.{length-map}
 use Rattle.std.proofs.Math.Logic.{∥∥₁_elim}
-use Rattle.eel_base.specs.CodeText.{Words}
-use Rattle.cfg_blocks.specs.Blocks.{below}
-use Rattle.cfg_blocks.proofs.Below.{length-below}
-use Rattle.cfg_normal.specs.Graph.{Graph}
-use Rattle.cfg_normal.specs.Opens.{Open}
 use Rattle.image_code.specs.declared.lookups.Lookups.{Lookups}
 use Rattle.image_code.specs.Lookups.{AreFound, StandsInText, mark_of}
 use Rattle.image_code.proofs.FirstPlaces.{mark_same}

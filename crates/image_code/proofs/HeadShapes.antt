@@ -1,11 +1,6 @@
 -- The kinds of points, each with the piece that stands there.
-use Rattle.std.specs.Prelude.{◌≡◌, ℕ, ◌<◌, List, ◌∷◌, length, Some, slice_get, slice_index, None}
-use Rattle.eel_base.specs.declared.numbers.Addr.{Addr}
-use Rattle.cfg_normal.specs.declared.Node.{Node}
-use Rattle.v8_step.specs.State.{State}
-use Rattle.layout.specs.declared.items.Item.{Item}
+use Rattle.image_code.proofs.Common.{◌≡◌, ℕ, ◌<◌, List, ◌∷◌, length, Some, slice_get, slice_index, None, Addr, Node, State, Item, Point, point_of}
 use Rattle.layout.specs.declared.items.Item.TheVariants as it
-use Rattle.cfg_walk.specs.Walk.{Point, point_of}
 use Rattle.image_code.specs.Simulates.{number_in, Chooses, MatchesIn, does_at}
 use Rattle.image_code.proofs.Points.{Site, visited_at, HereAt}
 use Rattle.image_code.proofs.CaseShapes.{IsPlain}

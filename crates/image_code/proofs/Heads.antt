@@ -1,34 +1,9 @@
 -- Each point outside the pages has a place: its piece begins with its Mark, or it lies outside the text.
-use Rattle.std.proofs.Common.{◌≡◌, ◌≢◌, ℕ, zero, suc, ◌+◌, inl, Bool, true, false, Option, Some, None, List, ◌∷◌, length, refl, ap, sym, ◌∙◌}
-use Rattle.std.specs.Prelude.{slice_get, slice_index, ◌==◌}
-use Rattle.std.proofs.lemmas.Bool.{cond_both}
-use Rattle.std.proofs.lemmas.Option.{slice_get_within}
-use Rattle.eel_base.specs.CodeText.{Words, address_of, word_at}
-use Rattle.eel_base.specs.declared.numbers.Addr.{Addr}
-use Rattle.v8_decode.specs.declared.Op2.{Op2}
-use Rattle.v8_decode.specs.declared.Instr.{Instr}
+use Rattle.image_code.proofs.Common.{◌≡◌, ◌≢◌, ℕ, zero, suc, ◌+◌, inl, Bool, true, false, Option, Some, None, List, ◌∷◌, length, refl, ap, sym, ◌∙◌, slice_get, slice_index, ◌==◌, cond_both, slice_get_within, Words, address_of, word_at, Addr, Op2, Instr, decode_of, Slot, NoSlot, is_transfer, Blocks, blocks_of, always, never, word_at-some, Edge, Node, Block, X, home_of, Open, jumps_in, Graph, graph_of, has_cases, node_of, Point, same_kind, node_number, IsOnItsWay, MatchesBy, Item}
 use Rattle.v8_decode.specs.declared.Instr.TheVariants as i
-use Rattle.v8_decode.specs.Words.{decode_of}
-use Rattle.v8_step.specs.declared.Slot.{Slot}
-use Rattle.v8_step.specs.declared.Slot.TheVariants.{NoSlot}
-use Rattle.v8_step.specs.Items.{is_transfer}
 use Rattle.cfg_blocks.specs.declared.EdgeKind.TheVariants as kinds
-use Rattle.cfg_blocks.specs.Blocks.{Blocks, blocks_of}
-use Rattle.cfg_blocks.specs.Ends.{always, never}
-use Rattle.cfg_blocks.proofs.Targets.{word_at-some}
-use Rattle.cfg_normal.specs.declared.Edge.{Edge}
-use Rattle.cfg_normal.specs.declared.Node.{Node}
-use Rattle.cfg_normal.specs.declared.Node.TheVariants.{Block, X}
-use Rattle.cfg_normal.specs.declared.Slot.TheVariants as carried
-use Rattle.cfg_normal.specs.Code.{home_of}
-use Rattle.cfg_normal.specs.Opens.{Open, jumps_in}
-use Rattle.cfg_normal.specs.Graph.{Graph, graph_of, has_cases, node_of}
-use Rattle.cfg_walk.specs.Walk.{Point}
-use Rattle.cfg_normal.specs.Nodes.{same_kind}
-use Rattle.cfg_normal.specs.Numbers.{node_number}
-use Rattle.cfg_walk.specs.Matches.{IsOnItsWay, MatchesBy}
-use Rattle.layout.specs.declared.items.Item.{Item}
 use Rattle.layout.specs.declared.items.Item.TheVariants as it
+use Rattle.cfg_normal.specs.declared.Slot.TheVariants as carried
 use Rattle.image_code.specs.Simulates.{MatchesIn, graph_in, number_in}
 use Rattle.image_code.specs.Choices.{choice_piece}
 use Rattle.image_code.specs.Images.{slot_piece}
@@ -40,7 +15,7 @@ use Rattle.image_code.proofs.OutsideShapes.{IsForeign, IsOff}
 use Rattle.image_code.specs.Outside.{IsOffPages}
 use Rattle.image_code.proofs.Branches.{HeadOf}
 use Rattle.image_code.proofs.ImageNumbers.{jump_numbered}
-use Rattle.image_code.proofs.Visited.{Edit, site, case_items, case_piece_is, edge_is, has_its_image, image_items, l, off, off_address, on, on_its_way, plain_items, plain_piece_is, target, visited_slot, visited_word, way_in}
+use Rattle.image_code.proofs.Visited.{Edit, site, case_items, case_piece_is, edge_is, image_items, l, off, off_address, on, on_its_way, plain_items, plain_piece_is, target, visited_slot, visited_word, way_in, at_word}
 
 -- ---- what pieces begin with
 
@@ -95,9 +70,7 @@ module _ (text : Words) (b : Blocks) (opens : List Open) (jumps cases : ℕ) (co
   copy_head : (table : ℕ) (address : Addr) (node word number : ℕ) (edge : Edge) (to : ℕ)
       → HeadOf address node (slot_copy text graph table codes address node word number edge to)
   copy_head table address node word number edge to =
-      cond_both (is_transfer (decode_of word)) _ _ (HeadOf address node)
-      (λ _. headed tt)
-      (λ _. cond_both (same_kind edge.kind kinds.Out) _ _ (HeadOf address node) (λ _. headed tt) (λ _. headed tt))
+      cond_both (is_transfer (decode_of word)) _ _ (HeadOf address node) (λ _. headed tt) (λ _. headed tt)
 
 home_outside : (node : Node) → home_of node ≡ X → node ≡ X
 home_outside X e = refl
@@ -227,7 +200,7 @@ module _ (edit : Edit) where
       by NoSlot none m0 (Some word) e =
           head (head_of node x _ _ (record { 0 = address_of g.text word })
           (visited_word edit node x word e none) (sym (word_at-some g.text x.pc word e).is)
-          (image_items edit node x word e (has_its_image edit node x word e m0.0 m.1)
+          (image_items edit node x (at_word edit node x word e none m0.0 m.1 m0.1)
           (decode_of (slice_index g.text.words word)) refl)
           (image_head g.text b g.switches (jumps_at g.text f.table.base) f.cases.base codes
           (record { 0 = address_of g.text word }) node word (decode_of (slice_index g.text.words word))))

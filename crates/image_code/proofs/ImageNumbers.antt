@@ -1,18 +1,6 @@
 -- The number of a word's image at a node: in the order of the text, or among the pieces of an open switch.
-use Rattle.std.proofs.Common.{◌≡◌, ℕ, Bool, true, false, Option, Some, List, refl, ap, sym, ◌∙◌, inl, inr}
-use Rattle.std.specs.Prelude.{◌==◌, if◌then◌else◌, slice_get}
-use Rattle.std.specs.List.{list_any, position}
+use Rattle.image_code.proofs.Common.{◌≡◌, ℕ, Bool, true, false, Option, Some, List, refl, ap, sym, ◌∙◌, inl, inr, ◌==◌, if◌then◌else◌, slice_get, list_any, position, cases_Bool, eq-eqb, eqb-true, false_from_ne_true, false≢true, Words, Blocks, end_of, holding_of, is_jump, Node, Block, Landed, X, home_of, IsNodeIn, Open, jumps_in, Graph, graph_of, block, copy, compares_in}
 use Rattle.std.proofs.Math.Bool.{or-false}
-use Rattle.std.proofs.lemmas.Bool.{cases_Bool, eq-eqb, eqb-true, false_from_ne_true, false≢true}
-use Rattle.eel_base.specs.CodeText.{Words}
-use Rattle.cfg_blocks.specs.Blocks.{Blocks, end_of, holding_of}
-use Rattle.cfg_blocks.specs.Switches.{is_jump}
-use Rattle.cfg_normal.specs.declared.Node.{Node}
-use Rattle.cfg_normal.specs.declared.Node.TheVariants.{Block, Landed, X}
-use Rattle.cfg_normal.specs.Code.{home_of, IsNodeIn}
-use Rattle.cfg_normal.specs.Opens.{Open, compares_in, jumps_in}
-use Rattle.cfg_normal.specs.Graph.{Graph, graph_of}
-use Rattle.cfg_walk.proofs.Edges.{block, copy}
 use Rattle.image_code.specs.Numbered.{at_open, compare_image, compare_number, enter_number, image_number, jump_enter, jump_image, jump_number, node_in_order}
 use Rattle.image_code.proofs.Opened.{AreCased}
 use Rattle.image_code.proofs.Positions.{any_at, not_placed, placed}

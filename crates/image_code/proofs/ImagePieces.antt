@@ -1,18 +1,6 @@
 -- The pieces of the images of words, by nodes.
-use Rattle.std.proofs.Common.{◌≡◌, ℕ, suc, ◌+◌, ◌-◌, ◌<◌, ◌≤◌, Bool, true, false, Some, List, length, refl, ap, sym, ◌∙◌, subst, arith}
-use Rattle.std.specs.Prelude.{◌==◌, if◌then◌else◌, slice_get, slice_index}
-use Rattle.std.proofs.lemmas.Bool.{eqb-true}
-use Rattle.cfg_blocks.specs.Blocks.{Blocks, blocks_of, holding_of}
+use Rattle.image_code.proofs.Common.{◌≡◌, ℕ, suc, ◌+◌, ◌-◌, ◌<◌, ◌≤◌, Bool, true, false, Some, List, length, refl, ap, sym, ◌∙◌, subst, arith, ◌==◌, if◌then◌else◌, slice_get, slice_index, eqb-true, Blocks, blocks_of, holding_of, Node, home_of, IsNodeIn, Open, node_of, IsCut, block, copy, IsIn, is_in, node_is, Item}
 use Rattle.cfg_blocks.specs.Values.{instr_at}
-use Rattle.cfg_normal.specs.declared.Node.{Node}
-use Rattle.cfg_normal.specs.Code.{home_of, IsNodeIn}
-use Rattle.cfg_normal.specs.Opens.{Open}
-use Rattle.cfg_normal.specs.Graph.{node_of}
-use Rattle.cfg_walk.proofs.Cut.{IsCut}
-use Rattle.cfg_walk.proofs.Edges.{block, copy}
-use Rattle.cfg_walk.proofs.Holding.{IsIn}
-use Rattle.cfg_walk.proofs.Leaving.{is_in, node_is}
-use Rattle.layout.specs.declared.items.Item.{Item}
 use Rattle.image_code.specs.Loads.{load_of}
 use Rattle.image_code.specs.Made.{image, jumps_at, keep_by, piece_list}
 use Rattle.image_code.specs.Numbered.{compare_image, compare_number, enter_number, image_number, jump_enter, jump_image, jump_number}

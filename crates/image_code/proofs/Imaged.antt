@@ -1,17 +1,8 @@
 -- From the cases to the promise as a whole.
-use Rattle.std.proofs.Common.{◌≡◌, ℕ, suc, ◌+◌, ◌<◌, Option, Some, List, length, refl, ap, sym, ◌∙◌, subst, arith}
-use Rattle.std.specs.Prelude.{slice_index}
-use Rattle.v8_decode.specs.Words.{decode_of}
-use Rattle.v8_memory.specs.Spans.{AllApart}
-use Rattle.v8_step.specs.State.{State}
-use Rattle.v8_step.specs.Judged.{judged_by}
-use Rattle.two_runs.specs.Needed.{judged_in}
-use Rattle.two_runs.specs.Visits.{pages_of}
-use Rattle.cfg_normal.specs.declared.Node.{Node}
-use Rattle.cfg_walk.specs.Walk.{Point}
-use Rattle.layout.specs.declared.items.Item.{Item}
+use Rattle.image_code.proofs.Common.{◌≡◌, ℕ, suc, ◌+◌, ◌<◌, Option, Some, List, length, refl, ap, sym, ◌∙◌, subst, arith, slice_index, decode_of, AllApart, State, judged_by, pages_of, Node, Point, Item, Placement, item_in, items_in, open_in, range_of}
 use Rattle.layout.specs.declared.items.Item.TheVariants as it
-use Rattle.layout.specs.Laid.{Placement, Stands, BranchStands, branch_short, branch_long, item_in, items_in, size_of, open_in, range_of}
+use Rattle.two_runs.specs.Needed.{judged_in}
+use Rattle.layout.specs.Laid.{Stands, BranchStands, branch_short, branch_long, size_of}
 use Rattle.image_code.specs.Simulates.{Simulates, at_point, number_in, word_of}
 use Rattle.code_runs.specs.PointsAlike.{instr_of}
 use Rattle.image_code.proofs.Points.{Forms, HereAt, Placed, Site, StepsFrom}

@@ -1,29 +1,12 @@
 -- A transfer at a word goes into its slot, where the way of its edge leads.
-use Rattle.std.proofs.Common.{◌≡◌, ◌≢◌, ◌+◌, ◌-◌, ◌^◌, ◌<◌, true, false, Option, Some, None, ap, sym, ◌∙◌, arith}
-use Rattle.std.specs.Prelude.{slice_index}
-use Rattle.std.proofs.lemmas.Bool.{false≢true}
-use Rattle.eel_base.specs.CodeText.{word_at}
-use Rattle.v8_decode.specs.declared.Instr.{Instr}
-use Rattle.v8_decode.specs.Words.{decode_of}
-use Rattle.v8_step.specs.declared.Slot.{Slot}
-use Rattle.v8_step.specs.declared.Slot.TheVariants.{NoSlot, Taken, Untaken}
-use Rattle.v8_step.specs.State.{State}
-use Rattle.cfg_blocks.specs.declared.EdgeKind.{EdgeKind}
+use Rattle.image_code.proofs.Common.{◌≡◌, ◌≢◌, ◌+◌, ◌-◌, ◌^◌, ◌<◌, true, false, Option, Some, None, ap, sym, ◌∙◌, arith, slice_index, false≢true, word_at, Instr, decode_of, Slot, NoSlot, Taken, Untaken, State, EdgeKind, Blocks, blocks_of, word_at-some, Node, has_cases, Point, instr_at, node_after, point_of, way_of, same_kind, MatchesBy, Stands}
 use Rattle.cfg_blocks.specs.declared.EdgeKind.TheVariants as kinds
-use Rattle.cfg_blocks.specs.Blocks.{Blocks, blocks_of}
-use Rattle.cfg_blocks.proofs.Targets.{word_at-some}
-use Rattle.cfg_normal.specs.declared.Node.{Node}
-use Rattle.cfg_normal.specs.Graph.{has_cases}
-use Rattle.cfg_walk.specs.Walk.{Point, instr_at, node_after, point_of, way_of}
-use Rattle.cfg_normal.specs.Nodes.{same_kind}
-use Rattle.cfg_walk.specs.Matches.{MatchesBy}
-use Rattle.cfg_walk.proofs.Points.{Stands, StepsTo}
+use Rattle.cfg_walk.proofs.Points.{StepsTo}
 use Rattle.image_code.specs.Simulates.{gone_at, graph_in}
 use Rattle.image_code.proofs.Points.{entered_at}
 use Rattle.image_code.proofs.CaseShapes.{LeadsTo}
 use Rattle.image_code.proofs.ConditionalShapes.{IsNoJumpsSlot}
 use Rattle.image_code.specs.Made.{way_out}
-use Rattle.image_code.proofs.EdgePieces.{cut_in}
 use Rattle.image_code.proofs.Visited.{AtWord, Edit, site, enters, l, nothing_gone, on_its_way}
 
 module _ (edit : Edit) (node : Node) (x : Point) (visit : AtWord edit node x) (instr : Instr) (says : decode_of (slice_index edit.g.text.words visit.word) ≡ instr) where
@@ -36,7 +19,7 @@ module _ (edit : Edit) (node : Node) (x : Point) (visit : AtWord edit node x) (i
   pub stands : Stands g.text b g.switches node x word instr
   stands = record {
     text_is = is.text;
-    cut = cut_in g is f.table.base f.cases.base;
+    cut = visit.cut;
     is = word_at-some g.text x.pc word at;
     npc = npc;
     decodes = says;

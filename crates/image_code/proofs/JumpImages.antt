@@ -1,36 +1,17 @@
 -- The images of CALL and JMPL: the way of the edge leads into the slot.
-use Rattle.std.proofs.Common.{◌≡◌, ℕ, ◌%◌, ◌^◌, ◌<◌, false, Some, None, List, refl, ap, sym, ◌∙◌, arith}
-use Rattle.std.specs.Prelude.{if◌then◌else◌, slice_get, slice_index, ◌==◌, ℤ}
-use Rattle.std.proofs.lemmas.Bool.{cond_both, false≢true}
-use Rattle.eel_base.specs.CodeText.{Words, address_of}
-use Rattle.eel_base.specs.declared.numbers.Addr.{Addr}
-use Rattle.v8_decode.specs.declared.Op2.{Op2}
+use Rattle.image_code.proofs.Common.{◌≡◌, ℕ, ◌%◌, ◌^◌, ◌<◌, false, Some, None, List, refl, ap, sym, ◌∙◌, arith, if◌then◌else◌, slice_get, slice_index, ◌==◌, ℤ, cond_both, false≢true, Words, address_of, Addr, Op2, decode_of, Taken, State, sum_of, target_of, trapped, act, word_at-some, Node, Block, Graph, has_cases, Point, point_of, free_register, other_register, Item, with_register, mem_address_not_aligned, call_step, delayed, jump_delayed}
 use Rattle.v8_decode.specs.declared.Instr.TheVariants as i
-use Rattle.v8_decode.specs.Words.{decode_of}
-use Rattle.v8_step.specs.declared.Slot.TheVariants.{Taken}
-use Rattle.v8_step.specs.State.{State, sum_of, with_register}
-use Rattle.v8_step.specs.Traps.{mem_address_not_aligned}
-use Rattle.v8_step.specs.Transfers.{call_step, delayed, jump_step, target_of, trapped}
-use Rattle.v8_step.specs.Step.{act}
 use Rattle.cfg_blocks.specs.declared.EdgeKind.TheVariants as kinds
-use Rattle.cfg_blocks.specs.Blocks.{blocks_of}
-use Rattle.cfg_blocks.proofs.Targets.{word_at-some}
-use Rattle.cfg_normal.specs.declared.Node.{Node}
-use Rattle.cfg_normal.specs.declared.Node.TheVariants.{Block}
-use Rattle.cfg_normal.specs.Graph.{Graph, has_cases}
-use Rattle.cfg_walk.specs.Walk.{Point, point_of}
-use Rattle.cfg_walk.proofs.Transfers.{call_delayed, jump_delayed}
-use Rattle.jump_code.specs.FreeRegister.{free_register, other_register}
+use Rattle.v8_step.specs.Transfers.{jump_step}
+use Rattle.cfg_walk.proofs.Transfers.{call_delayed}
 use Rattle.jump_code.specs.Pieces.{call_piece, find_piece}
 use Rattle.image_code.specs.Simulates.{at_point, does_at, graph_in, number_in}
 use Rattle.image_code.proofs.CallShapes.{IsCall, IsJump}
-use Rattle.layout.specs.declared.items.Item.{Item}
 use Rattle.image_code.specs.Made.{jump_by, jump_image_by, jumps_at, way_out}
 use Rattle.image_code.specs.Numbered.{image_number}
-use Rattle.image_code.proofs.ImageNumbers.{HasImage}
 use Rattle.image_code.proofs.IntoSlots.{LeadsThere, entered, no_jump, stands}
 use Rattle.image_code.proofs.JumpWords.{jmpl_is}
-use Rattle.image_code.proofs.Visited.{AtWord, Edit, at_image, site, has_its_image, image_items, l, word_is}
+use Rattle.image_code.proofs.Visited.{AtWord, Edit, at_image, site, image_items, l, word_is}
 
 -- where no Case edges leave a node, a jump looks its target up
 jump_plain : (text : Words) (graph : Graph) (jumps cases : ℕ) (codes : ℕ → List ℕ) (address : Addr) (node : Node)
@@ -43,7 +24,7 @@ jump_plain text graph jumps cases codes address _ rd rs1 op2 e = refl
 
 module _ (edit : Edit) (node : Node) (x : Point) (visit : AtWord edit node x) (t : State) where
   open edit use {g, codes, f, tables.{behind}}
-  open visit use {word, at, none, held, there, npc}
+  open visit use {word, at, none, npc}
 
   abbrev address : Addr
   address = record { 0 = address_of g.text word }
@@ -52,9 +33,6 @@ module _ (edit : Edit) (node : Node) (x : Point) (visit : AtWord edit node x) (t
   low =
       let w = word_at-some g.text x.pc word at in
       omega arith
-
-  has : HasImage g.text (blocks_of g.text g.given) g.switches node word
-  has = has_its_image edit node x word at held there
 
   -- the piece of its image
   abbrev number : ℕ
@@ -69,7 +47,7 @@ module _ (edit : Edit) (node : Node) (x : Point) (visit : AtWord edit node x) (t
 
     call_items : slice_get (l edit).list number ≡ Some (call_piece address (number_in g node)
         (record { 0 = way_out g.text (graph_in g) node kinds.Call }))
-    call_items = image_items edit node x word at has (i.Call disp) says
+    call_items = image_items edit node x visit (i.Call disp) says
 
     call_leads : t.ending ≡ None → (v : State)
         → v ≡ delayed (with_register (at_point x t) 15 x.pc) (target_of (at_point x t) disp)
@@ -125,7 +103,7 @@ module _ (edit : Edit) (node : Node) (x : Point) (visit : AtWord edit node x) (t
           (number_in g node)
           (record { 0 = way_out g.text (graph_in g) node kinds.Out }))
       jump_items =
-          image_items edit node x word at has (i.Jmpl rd rs1 op2) says
+          image_items edit node x visit (i.Jmpl rd rs1 op2) says
           ∙ ap (λ (xs : List Item). Some xs) (jump_plain g.text (graph_in g)
           (jumps_at g.text f.table.base) f.cases.base codes address
           node rd rs1 op2 caseless)

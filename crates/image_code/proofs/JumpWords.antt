@@ -1,16 +1,8 @@
 -- What is known of the words that are JMPLs, and the register that one doesn't name.
-use Rattle.std.proofs.Common.{◌≡◌, ◌≢◌, ℕ, ◌<◌, true, false, not, nat_lt, sym, arith}
-use Rattle.std.proofs.lemmas.Bool.{and_parts, cond_both, ltb-true}
-use Rattle.std.proofs.lemmas.Bool.Decides.{nat_tests}
-use Rattle.v8_decode.specs.declared.Op2.{Op2}
-use Rattle.v8_decode.specs.declared.Op2.TheVariants.{Reg, Imm}
+use Rattle.image_code.proofs.Common.{◌≡◌, ◌≢◌, ℕ, ◌<◌, true, false, not, nat_lt, sym, arith, and_parts, cond_both, ltb-true, nat_tests, Op2, op2_in_range, operands_in_range, decode_of, decoded_range, op2_fits, free_register, other_register, Reg, Imm, second_register, IsApart}
 use Rattle.v8_decode.specs.declared.Instr.TheVariants as i
-use Rattle.v8_decode.specs.Ranges.{op2_in_range, operands_in_range}
-use Rattle.v8_decode.specs.Words.{decode_of}
-use Rattle.v8_decode.proofs.Rows.{decoded_range}
-use Rattle.v8_encode.specs.Code.{op2_fits}
-use Rattle.jump_code.specs.FreeRegister.{first_free, free_register, is_one_of_four, next_free, other_register, second_register}
-use Rattle.jump_code.specs.FreeRegister.{IsApart, IsNotIn}
+use Rattle.jump_code.specs.FreeRegister.{first_free, is_one_of_four, next_free}
+use Rattle.jump_code.specs.FreeRegister.{IsNotIn}
 use Rattle.image_code.proofs.Operands.{operand_fits}
 
 -- ---- the first register that is free

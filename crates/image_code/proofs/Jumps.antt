@@ -1,29 +1,9 @@
 -- The words of a JMPL, and then the way; or the ending that a misaligned target has.
-use Rattle.std.proofs.Common.{◌≡◌, ◌≢◌, ℕ, ◌+◌, ◌%◌, ◌^◌, ◌<◌, ◌≤◌, inl, inr, false, Option, Some, None, List, [], length, refl, ap, sym, ◌∙◌, subst, arith}
-use Rattle.eel_base.specs.CodeText.{word_at}
-use Rattle.v8_decode.specs.declared.Instr.{Instr}
-use Rattle.v8_alu.specs.Numbers.{wrapped}
-use Rattle.v8_memory.specs.Regions.{code_of}
-use Rattle.v8_step.specs.declared.Ending.{Ending}
-use Rattle.v8_step.specs.declared.Slot.TheVariants.{NoSlot}
-use Rattle.v8_step.specs.State.{State, sum_of}
-use Rattle.v8_step.specs.Items.{is_transfer}
-use Rattle.v8_step.specs.Valid.{IsValid}
-use Rattle.v8_step.proofs.ValidSteps.{run-valid}
-use Rattle.cfg_normal.specs.declared.Node.{Node}
-use Rattle.cfg_walk.specs.Walk.{Point, instr_at, point_of, node_after}
-use Rattle.code_runs.specs.Page.{page_word}
-use Rattle.code_runs.specs.Points.{moved}
-use Rattle.code_runs.specs.Straight.{StandIn}
+use Rattle.image_code.proofs.Common.{◌≡◌, ◌≢◌, ℕ, ◌+◌, ◌%◌, ◌^◌, ◌<◌, ◌≤◌, inl, inr, false, Option, Some, None, List, [], length, refl, ap, sym, ◌∙◌, subst, arith, word_at, Instr, wrapped, code_of, Ending, NoSlot, State, sum_of, is_transfer, IsValid, run-valid, Node, Point, instr_at, point_of, node_after, page_word, moved, StandIn, leads_weaker, stores_there, words_of, find_image, loads_there, jumped, pieces_are_laid}
 use Rattle.code_runs.proofs.Hops.{equal_or_not}
-use Rattle.code_runs.proofs.Leads.{leads_weaker}
-use Rattle.code_runs.proofs.Stays.{loads_there, stores_there}
-use Rattle.layout.specs.Emitting.{words_of}
-use Rattle.jump_code.specs.Jumped.{jumped}
-use Rattle.jump_code.specs.Finding.{IsAboutToFind, find_image, found_memory}
+use Rattle.jump_code.specs.Finding.{IsAboutToFind, found_memory}
 use Rattle.jump_code.proofs.FindFollowing.{goes, finds_simulate}
 use Rattle.jump_code.proofs.Jumping.{jump_stops}
-use Rattle.jump_code.proofs.Laid.{pieces_are_laid}
 use Rattle.image_code.specs.Simulates.{does_at, gone_at, graph_in, number_in}
 use Rattle.image_code.specs.Cost.{is_jmpl}
 use Rattle.image_code.proofs.Points.{EntersNext, HereAt, Placed, Site, StepsFrom, entered_at}

@@ -1,15 +1,5 @@
 -- Which image a JMPL has at a block itself.
-use Rattle.std.proofs.Common.{◌≡◌, ℕ, Bool, ◌==◌, List, Option, Some, None, ap, sym, ◌∙◌}
-use Rattle.std.specs.Prelude.{if◌then◌else◌, slice_get}
-use Rattle.std.specs.Option.{is_some}
-use Rattle.eel_base.specs.CodeText.{Words}
-use Rattle.eel_base.specs.declared.numbers.Addr.{Addr}
-use Rattle.eel_base.specs.declared.numbers.BlockNo.{BlockNo}
-use Rattle.v8_decode.specs.declared.Op2.{Op2}
-use Rattle.cfg_normal.specs.declared.Node.TheVariants.{Block}
-use Rattle.cfg_normal.specs.Graph.{Graph}
-use Rattle.cfg_normal.specs.Opens.{Open, jumps_in}
-use Rattle.layout.specs.declared.items.Item.{Item}
+use Rattle.image_code.proofs.Common.{◌≡◌, ℕ, Bool, ◌==◌, List, Option, Some, None, ap, sym, ◌∙◌, if◌then◌else◌, slice_get, Words, Addr, BlockNo, Op2, Block, Graph, Open, jumps_in, Item, is_some}
 use Rattle.image_code.specs.Made.{choice_of, jump_by, jump_image_by}
 use Rattle.image_code.specs.Numbered.{jump_number, or_zero}
 use Rattle.image_code.proofs.EdgeTables.{some_is_any}

@@ -1,56 +1,13 @@
 -- From where control comes to a point, on to its visit: nothing is run between, but before the load of an open switch
 -- its address is kept.
-use Rattle.std.proofs.Common.{length, ◌≡◌, ℕ, ◌+◌, ◌-◌, ◌*◌, ◌%◌, ◌^◌, ◌<◌, ◌≤◌, inl, inr, Bool, true, false, Option, Some, None, List, [], ◌++◌, append-nil, refl, ap, sym, ◌∙◌, subst, arith}
-use Rattle.std.specs.Prelude.{if◌then◌else◌, ◌==◌, slice_get, slice_index}
-use Rattle.std.proofs.lemmas.Bool.{and_parts, cases_lt, lt-ltb, ltb-true, ne_eqb}
-use Rattle.eel_base.specs.CodeText.{Words, address_of, word_at}
-use Rattle.v8_decode.specs.declared.Instr.{Instr}
+use Rattle.image_code.proofs.Common.{length, ◌≡◌, ℕ, ◌+◌, ◌-◌, ◌*◌, ◌%◌, ◌^◌, ◌<◌, ◌≤◌, inl, inr, Bool, true, false, Option, Some, None, List, [], ◌++◌, append-nil, refl, ap, sym, ◌∙◌, subst, arith, if◌then◌else◌, ◌==◌, slice_get, slice_index, and_parts, cases_lt, lt-ltb, ltb-true, ne_eqb, Words, address_of, word_at, Instr, Op2, op2_in_range, operands_in_range, decode_of, op2_fits, wrapped, Memory, code_of, Ending, Slot, NoSlot, State, sum_of, StateItem, Register, IsSameAt, is_transfer, act, on_word, run, run_puts, IsValid, pages_of, goes_act, run-valid, word_at-some, Node, Block, Landed, X, Point, edge_from, ends_block, instr_at, left_by, node_after, point_of, MatchesBy, next_word, lived_to, count_stores, page_word, IsAmongWords, Stores, memory_word, words_at, StandIn, count_add, stores_there, past, kept_address, word_items, Fit, words_mean, keep_load, words_of, Reg, Imm, puts_add, second_register}
 use Rattle.v8_decode.specs.declared.Instr.TheVariants as i
-use Rattle.v8_decode.specs.declared.Op2.{Op2}
-use Rattle.v8_decode.specs.declared.Op2.TheVariants.{Reg, Imm}
-use Rattle.v8_decode.specs.Ranges.{op2_in_range, operands_in_range}
-use Rattle.v8_decode.specs.Words.{decode_of}
-use Rattle.v8_encode.specs.Code.{op2_fits}
-use Rattle.v8_alu.specs.Numbers.{wrapped}
-use Rattle.v8_memory.specs.Regions.{Memory, code_of}
-use Rattle.v8_step.specs.declared.Ending.{Ending}
-use Rattle.v8_step.specs.declared.Slot.{Slot}
-use Rattle.v8_step.specs.declared.Slot.TheVariants.{NoSlot}
-use Rattle.v8_step.specs.State.{State, sum_of}
-use Rattle.v8_step.specs.Items.{StateItem, Register, IsSameAt, is_transfer}
-use Rattle.v8_step.specs.Step.{act, on_word}
-use Rattle.v8_step.specs.Run.{run, run_puts}
-use Rattle.v8_step.specs.Valid.{IsValid}
-use Rattle.two_runs.specs.Visits.{pages_of}
-use Rattle.v8_step.proofs.CopiedMoves.{goes_act}
-use Rattle.v8_step.proofs.ValidSteps.{run-valid}
-use Rattle.cfg_blocks.proofs.Targets.{word_at-some}
-use Rattle.cfg_normal.specs.declared.Node.{Node}
-use Rattle.cfg_normal.specs.declared.Node.TheVariants.{Block, Landed, X}
-use Rattle.cfg_walk.specs.Walk.{Point, edge_from, ends_block, instr_at, left_by, node_after, point_of}
-use Rattle.cfg_walk.specs.Matches.{Matches, MatchesBy}
 use Rattle.cfg_blocks.specs.declared.EdgeKind.TheVariants as kinds
-use Rattle.cfg_walk.proofs.Addresses.{next_word}
-use Rattle.cfg_walk.proofs.Walks.{lived_to}
-use Rattle.code_runs.specs.Counted.{count_stores}
-use Rattle.code_runs.specs.Page.{page_word}
-use Rattle.code_runs.specs.Ours.{IsAmongWords}
-use Rattle.code_runs.specs.Code.{Stores}
-use Rattle.code_runs.specs.StoredWords.{memory_word}
-use Rattle.snippet_code.specs.Cells.{words_at}
-use Rattle.code_runs.specs.Straight.{StandIn}
-use Rattle.code_runs.proofs.Counted.{count_add}
-use Rattle.code_runs.proofs.Leads.{run_add, puts_add}
+use Rattle.cfg_walk.specs.Matches.{Matches}
+use Rattle.code_runs.proofs.Leads.{run_add}
 use Rattle.code_runs.proofs.Ours.{outside_trans}
-use Rattle.code_runs.proofs.Stays.{stores_there}
-use Rattle.jump_code.specs.FreeRegister.{second_register}
-use Rattle.jump_code.specs.Links.{past}
-use Rattle.jump_code.specs.PageWords.{kept_address}
-use Rattle.jump_code.specs.Pieces.{word_items}
-use Rattle.jump_code.proofs.Fitting.{Fit, words_mean}
-use Rattle.jump_code.specs.Keeping.{KeepsLoad, keep_load, kept_memory}
+use Rattle.jump_code.specs.Keeping.{KeepsLoad, kept_memory}
 use Rattle.jump_code.proofs.Keeping.{loads_are_kept}
-use Rattle.layout.specs.Emitting.{words_of}
 use Rattle.image_code.specs.Simulates.{CaseTable, IsAtWord, IsNoLoad, IsOnWay, Setting, Steps, StepsOn, at_point, does_at, gone_at, graph_in}
 use Rattle.image_code.specs.Cost.{limit_by, is_spill, is_transfer_at}
 use Rattle.image_code.specs.Store.{cells_in}
@@ -179,9 +136,8 @@ module _ (site : Site) (h : Placed site) (are : AreCaseTables site.g) where
     here : Entered site (node_after (graph_in g) node edges) (point_of v) e.on.after
     here = e.on.here live
 
-    whole : PieceFrom l c.piece 0 (word_items (keep_load o.rs1 o.op2) ++ [])
-    whole = subst (PieceFrom l c.piece 0) (sym (append-nil (word_items (keep_load o.rs1 o.op2))))
-        (rest_whole l c.piece (word_items (keep_load o.rs1 o.op2)) (tt, (tt, (tt, tt))) c.items)
+    whole : PieceFrom l c.piece 0 (word_items (keep_load o.rs1 o.op2))
+    whole = rest_whole l c.piece (word_items (keep_load o.rs1 o.op2)) (tt, (tt, (tt, tt))) c.items
 
     stands : Stood site h e.on.after.memory c.piece 0 (words_of (keep_load o.rs1 o.op2))
     stands = stood site h e.on.after.memory here.memory.code c.piece 0

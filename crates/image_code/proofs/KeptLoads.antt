@@ -1,23 +1,8 @@
 -- Before the load of an open switch control comes to a piece that keeps its address; everywhere else it comes to the
 -- visit itself.
-use Rattle.std.proofs.Common.{◌≡◌, ℕ, suc, ◌-◌, ◌<◌, Bool, true, false, Option, Some, None, List, length, refl, ap, sym, ◌∙◌, arith, inl, inr}
-use Rattle.std.specs.Prelude.{◌==◌, slice_get, slice_index}
-use Rattle.std.proofs.lemmas.Bool.{cases_eq, false≢true}
-use Rattle.std.proofs.lemmas.Option.{slice_get_within}
-use Rattle.eel_base.specs.CodeText.{word_at}
-use Rattle.v8_step.specs.declared.Slot.{Slot}
-use Rattle.v8_step.specs.declared.Slot.TheVariants.{NoSlot}
-use Rattle.cfg_blocks.specs.Blocks.{Blocks, blocks_of}
+use Rattle.image_code.proofs.Common.{◌≡◌, ℕ, suc, ◌-◌, ◌<◌, Bool, true, false, Option, Some, None, List, length, refl, ap, sym, ◌∙◌, arith, inl, inr, ◌==◌, slice_get, slice_index, false≢true, slice_get_within, word_at, Slot, NoSlot, Blocks, blocks_of, Node, Block, Open, jumps_in, Point, block, keep_load, word_items, Item, item_at, items_in, cases_eq}
 use Rattle.cfg_blocks.specs.Values.{instr_at}
-use Rattle.cfg_normal.specs.declared.Node.{Node}
-use Rattle.cfg_normal.specs.declared.Node.TheVariants.{Block}
-use Rattle.cfg_normal.specs.Opens.{Open, jumps_in}
-use Rattle.cfg_walk.specs.Walk.{Point}
-use Rattle.cfg_walk.proofs.Edges.{block}
-use Rattle.jump_code.specs.Keeping.{keep_load}
-use Rattle.jump_code.specs.Pieces.{word_items}
-use Rattle.layout.specs.declared.items.Item.{Item}
-use Rattle.layout.specs.Laid.{is_jump, item_at, items_in, size_of}
+use Rattle.layout.specs.Laid.{is_jump, size_of}
 use Rattle.image_code.specs.Graphs.{case_table}
 use Rattle.image_code.proofs.LoadShapes.{IsEntered, at_once, keeping}
 use Rattle.image_code.specs.Loads.{first_operand, load_of, second_operand}

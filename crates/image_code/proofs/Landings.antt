@@ -1,39 +1,13 @@
 -- The way along the edge of a JMPL: the copy of its slot's word, the snippet, and the jump to what was found, a landing
 -- or the foreign piece.
-use Rattle.std.proofs.Common.{◌≡◌, ◌≢◌, ℕ, ◌+◌, ◌%◌, ◌^◌, ◌<◌, ◌≤◌, ◌⊎◌, inl, inr, true, ◌&&◌, Option, Some, None, List, [], ◌∷◌, ◌++◌, length, append-nil, refl, ap, sym, ◌∙◌, subst, arith}
-use Rattle.std.specs.Prelude.{nat_lt, slice_get, slice_index}
-use Rattle.std.specs.Option.{option_map}
-use Rattle.std.specs.List.{flat_map}
-use Rattle.eel_base.specs.CodeText.{word_at}
-use Rattle.v8_decode.specs.Words.{decode_of}
-use Rattle.v8_memory.specs.Regions.{code_of}
-use Rattle.v8_memory.specs.Spans.{AllApart}
-use Rattle.v8_step.specs.declared.Slot.TheVariants.{NoSlot}
-use Rattle.v8_step.specs.State.{State, register_of}
-use Rattle.v8_step.specs.Step.{act, on_word}
-use Rattle.v8_step.specs.Judged.{judged_by}
-use Rattle.two_runs.specs.Visits.{pages_of}
-use Rattle.v8_step.proofs.CopiedMoves.{goes_act}
-use Rattle.cfg_normal.specs.declared.Node.{Node}
-use Rattle.cfg_walk.specs.Walk.{Point}
-use Rattle.code_runs.specs.Hops.{Hops, hopped}
-use Rattle.code_runs.specs.Page.{page_word}
-use Rattle.code_runs.specs.Code.{store_word}
-use Rattle.code_runs.specs.Straight.{StandIn}
-use Rattle.code_runs.proofs.Leads.{leads_weaker}
-use Rattle.code_runs.proofs.StoredWords.{other_word_stored}
-use Rattle.code_runs.proofs.Stays.{words_stay}
-use Rattle.addr_translate.specs.Halves.{found_in}
-use Rattle.jump_code.specs.Finding.{IsAboutToGoOn, go_found}
-use Rattle.jump_code.specs.Leaving.{IsAboutToLeave, foreign}
-use Rattle.jump_code.specs.PageWords.{IsPageWord, found_there, waiting}
-use Rattle.jump_code.specs.Pieces.{foreign_piece, word_items}
-use Rattle.jump_code.proofs.FindFollowing.{found_hops}
-use Rattle.jump_code.proofs.Fitting.{Fit, lt, words_mean}
-use Rattle.jump_code.proofs.Leaving.{foreign_leaves}
-use Rattle.layout.specs.declared.items.Item.{Item}
+use Rattle.image_code.proofs.Common.{◌≡◌, ◌≢◌, ℕ, ◌+◌, ◌%◌, ◌^◌, ◌<◌, ◌≤◌, ◌⊎◌, inl, inr, true, ◌&&◌, Option, Some, None, List, [], ◌∷◌, ◌++◌, length, refl, ap, sym, ◌∙◌, subst, arith, slice_get, slice_index, option_map, flat_map, word_at, decode_of, code_of, AllApart, NoSlot, State, register_of, act, on_word, judged_by, pages_of, goes_act, Node, Point, hopped, page_word, store_word, StandIn, leads_weaker, words_stay, found_in, go_found, IsPageWord, foreign_piece, word_items, words_mean, Item, words_of, other_word_stored, foreign, false≢true}
 use Rattle.layout.specs.declared.items.Item.TheVariants as it
-use Rattle.layout.specs.Emitting.{words_of}
+use Rattle.code_runs.specs.Hops.{Hops}
+use Rattle.jump_code.specs.Finding.{IsAboutToGoOn}
+use Rattle.jump_code.specs.Leaving.{IsAboutToLeave}
+use Rattle.jump_code.specs.PageWords.{found_there, waiting}
+use Rattle.jump_code.proofs.FindFollowing.{found_hops}
+use Rattle.jump_code.proofs.Leaving.{foreign_leaves}
 use Rattle.image_code.specs.Simulates.{at_point, does_at, gone_at, graph_in, number_in}
 use Rattle.image_code.specs.Cost.{NoneIsOut}
 use Rattle.image_code.specs.Store.{operations_on}
@@ -47,14 +21,8 @@ use Rattle.image_code.proofs.Dead.{alike_itself}
 use Rattle.image_code.proofs.EntersBy.{own_stored}
 
 -- the jump to what was found
-abbrev going_on : ℕ → List Item
-going_on through = word_items (go_found through)
-
-found_fits : (through : ℕ) → through < 32 → Fit (go_found through)
-found_fits through below =
-    let low = lt through 32 below in
-    let alone : (nat_lt through 32 && true) ≡ true = ap (λ z. z && true) low in
-    (alone, refl, (alone, refl, (alone, refl, tt)))
+abbrev going_on : List Item
+going_on = word_items (go_found 1)
 
 module _ (site : Site) (h : Placed site) where
   open site use {g, l, p, place, f}
@@ -91,35 +59,33 @@ module _ (site : Site) (h : Placed site) where
 
   -- ---- the jump to what was found
 
-  goes_found : (through k n : ℕ) → 0 < through → through < 32 → PieceFrom l k n (going_on through) → (a : State)
-      → IsFit site h a → a.pc ≡ place k n → (to : ℕ) → found_there a ≡ to → to % 4 ≡ 0 → Arrives site h None [] a to 3
-  goes_found through k n some below rest a fit at to found aligned =
-      let r : PieceFrom l k n (going_on through ++ []) = subst (PieceFrom l k n) (sym (append-nil (going_on through))) rest in
-      let there = stood site h a.memory fit.has.code k n (words_of (go_found through)) [] r in
-      let low = stood_low site h k n (words_of (go_found through)) [] r in
-      let about : IsAboutToGoOn through a = record {
+  goes_found : (k n : ℕ) → PieceFrom l k n going_on → (a : State) → IsFit site h a → a.pc ≡ place k n → (to : ℕ)
+      → found_there a ≡ to → to % 4 ≡ 0 → Arrives site h None [] a to 3
+  goes_found k n rest a fit at to found aligned =
+      let there = stood site h a.memory fit.has.code k n (words_of (go_found 1)) [] rest in
+      let low = stood_low site h k n (words_of (go_found 1)) [] rest in
+      let about : IsAboutToGoOn 1 a = record {
         valid = fit.valid;
         ready = fit.runs.ready;
         low = omega (arith, at, there.end, low);
-        some = some;
-        below = below;
-        words = subst (λ z. StandIn (code_of a.memory) z (go_found through)) (sym at)
-            (words_mean (code_of a.memory) (place k n) (go_found through) (found_fits through below) there.words);
+        some = omega arith;
+        below = omega arith;
+        words = subst (λ z. StandIn (code_of a.memory) z (go_found 1)) (sym at)
+            (words_mean (code_of a.memory) (place k n) (go_found 1)
+            (refl, refl, (refl, refl, (refl, refl, tt))) there.words);
         page = page_there site h a fit;
         aligned = ap (λ z. z % 4) found ∙ aligned;
       } in
       subst (λ z. Arrives site h None [] a z 3) found
-      (hops_out k n 3 (found_there a) (words_of (go_found through)) a fit there refl (omega arith) at 7
-      (register_of a through) (omega arith) (found_hops through a about))
+      (hops_out k n 3 (found_there a) (words_of (go_found 1)) a fit there refl (omega arith) at 7
+      (register_of a 1) (omega arith) (found_hops 1 a about))
 
   -- ---- the foreign piece
 
   pub leaves : (k : ℕ) → slice_get l.list k ≡ Some foreign_piece → (a : State) → IsFit site h a
       → a.pc ≡ place k 0 → (target : ℕ) → waiting a ≡ target → target % 4 ≡ 0 → Arrives site h None [] a target 4
   leaves k is a fit at target waits aligned =
-      let r : PieceFrom l k 0 (foreign_piece ++ []) =
-      subst (PieceFrom l k 0) (sym (append-nil foreign_piece))
-      (rest_whole l k foreign_piece (tt, (tt, (tt, (tt, tt)))) is) in
+      let r = rest_whole l k foreign_piece (tt, (tt, (tt, (tt, tt)))) is in
       let there = stood site h a.memory fit.has.code k 0 (words_of foreign) [] r in
       let low = stood_low site h k 0 (words_of foreign) [] r in
       let about : IsAboutToLeave a = record {
@@ -159,10 +125,10 @@ module _ (site : Site) (h : Placed site) where
         there : (o : Option ℕ) → option_map (λ word. slice_index g.text.words word) o ≡ Some c.word → o ≢ None
         there o e none = cc (rw none at e)
 
-    rest : PieceFrom l c.piece 3 (words_on l (c.edge ∷ []) ++ going_on c.through)
+    rest : PieceFrom l c.piece 3 (words_on l (c.edge ∷ []) ++ going_on)
     rest = rest_marked l c.piece c.address (number_in g node) (it.Word c.word)
-        (words_on l (c.edge ∷ []) ++ going_on c.through)
-        (words_unmarked (flat_map l.codes (c.edge ∷ [])) (going_on c.through) (tt, (tt, (tt, tt)))) c.items
+        (words_on l (c.edge ∷ []) ++ going_on)
+        (words_unmarked (flat_map l.codes (c.edge ∷ [])) going_on (tt, (tt, (tt, tt)))) c.items
 
     -- through the snippet and the jump to what was found, and on from there
     onward : (to : ℕ) → IsFit site h (act t (decode_of c.word))
@@ -177,17 +143,17 @@ module _ (site : Site) (h : Placed site) where
         let edges = c.edge ∷ [] in
         let n = 3 + length (flat_map l.codes (c.edge ∷ [])) in
         let mid = place c.piece (3 + length (flat_map l.codes (c.edge ∷ []))) in
-        let way = snippets_run site h (Some 0) (c.edge ∷ []) c.piece 3 (going_on c.through) rest
+        let way = snippets_run site h (Some 0) (c.edge ∷ []) c.piece 3 going_on rest
         (act t (decode_of c.word)) fit at in
         let one = unwatched site h (Some 0) (c.edge ∷ []) a mid 0 way in
-        let low = stood_low site h c.piece 3 (flat_map l.codes (c.edge ∷ [])) (going_on c.through) rest in
+        let low = stood_low site h c.piece 3 (flat_map l.codes (c.edge ∷ [])) going_on rest in
         let b : State = hopped way.other mid way.memory in
         let fit2 = arrived site h (c.edge ∷ []) (act t (decode_of c.word)) mid 0 fit low way in
-        let r2 : PieceFrom l c.piece (3 + length (flat_map l.codes (c.edge ∷ []))) (going_on c.through) =
-        subst (λ z. PieceFrom l c.piece (3 + z) (going_on c.through)) (length_words (flat_map l.codes (c.edge ∷ [])))
-        (rest_behind l c.piece 3 (words_on l (c.edge ∷ [])) (going_on c.through) rest) in
+        let r2 : PieceFrom l c.piece (3 + length (flat_map l.codes (c.edge ∷ []))) going_on =
+        rw (length_words (flat_map l.codes (c.edge ∷ []))) at
+        (rest_behind l c.piece 3 (words_on l (c.edge ∷ [])) going_on rest) in
         let there = found_in f.halves x.npc in
-        let two = goes_found c.through c.piece n c.some c.below r2 b fit2 refl there (way.found (λ e. cc) ∙ found_waits)
+        let two = goes_found c.piece n r2 b fit2 refl there (way.found (λ e. cc) ∙ found_waits)
         aligned in
         let fit3 = arrived site h [] b there 3 fit2 low_there two in
         let three = behind (hopped two.other there two.memory) fit3 refl (two.waits ∙ way.waits ∙ target_waits) in
@@ -227,7 +193,7 @@ module _ (site : Site) (h : Placed site) where
     unwatched_out : (does_at g x t).ending ≡ None → NoneIsOut (graph_in g) (gone_at g node x (does_at g x t)) → ⊥
     unwatched_out live none =
         let other = (subst (NoneIsOut (graph_in g)) (c.completes live) none).0 in
-        cc
+        false≢true (sym other ∙ c.outward)
 
     -- outside the text the next visit is at the target itself
     out : (does_at g x t).ending ≡ None → word_at g.text x.npc ≡ None → next_entry site node x t ≡ x.npc

@@ -1,26 +1,7 @@
 -- Which piece has which number.
-use Rattle.std.proofs.Common.{◌≡◌, ℕ, zero, suc, ◌+◌, ◌-◌, ◌<◌, ◌≤◌, false, Some, List, [], ◌∷◌, ◌++◌, length, map, take, length-append, length-take, zero-add, refl, ap, ◌∙◌, arith, inl, inr}
-use Rattle.std.specs.Prelude.{◌==◌, if◌then◌else◌, nat_lt, slice_get, slice_index}
-use Rattle.std.specs.List.{flat_map, sum_by}
-use Rattle.std.proofs.lemmas.Bool.{cases_lt, eqb-true, eq-eqb, le-ltb, lt-ltb, ne_eqb}
-use Rattle.std.proofs.lemmas.Bool.Decides.{nat_tests}
-use Rattle.std.proofs.lemmas.List.{length-map}
-use Rattle.std.proofs.lemmas.List.FromFn.{length-map-range_with_len}
-use Rattle.std.proofs.lemmas.Option.{slice_get-map, slice_get-get_or}
-use Rattle.std.proofs.Math.Seq.{take-length}
-use Rattle.eel_base.specs.CodeText.{Words}
+use Rattle.image_code.proofs.Common.{◌≡◌, ℕ, zero, suc, ◌+◌, ◌-◌, ◌<◌, ◌≤◌, false, Some, List, [], ◌∷◌, ◌++◌, length, map, take, length-append, length-take, zero-add, refl, ap, ◌∙◌, arith, inl, inr, ◌==◌, if◌then◌else◌, nat_lt, slice_get, slice_index, flat_map, sum_by, cases_lt, eqb-true, eq-eqb, le-ltb, lt-ltb, ne_eqb, nat_tests, length-map, length-map-range_with_len, slice_get-map, slice_get-get_or, Words, Blocks, below, last_word, size_of, get_or-below, length-below, Edge, Node, Open, Graph, edges_in, graph_of, same_kind, block, copy, foreign_piece, Item, take-length, block_end}
 use Rattle.cfg_blocks.specs.declared.EdgeKind.TheVariants as kinds
-use Rattle.cfg_blocks.specs.Blocks.{Blocks, below, block_end, last_word, size_of}
 use Rattle.cfg_blocks.specs.Values.{instr_at}
-use Rattle.cfg_blocks.proofs.Below.{get_or-below, length-below}
-use Rattle.cfg_normal.specs.declared.Edge.{Edge}
-use Rattle.cfg_normal.specs.declared.Node.{Node}
-use Rattle.cfg_normal.specs.Opens.{Open}
-use Rattle.cfg_normal.specs.Graph.{Graph, edges_in, graph_of}
-use Rattle.cfg_normal.specs.Nodes.{same_kind}
-use Rattle.cfg_walk.proofs.Edges.{block, copy}
-use Rattle.jump_code.specs.Pieces.{foreign_piece}
-use Rattle.layout.specs.declared.items.Item.{Item}
 use Rattle.image_code.specs.Loads.{load_of}
 use Rattle.image_code.specs.Made.{case_at, cases_from, image, images_of, jumps_at, keep_by, landing, open_pieces, piece_list, way_along, ways_from}
 use Rattle.image_code.specs.Numbered.{case_begin, compare_image, entries_of, first_entry, foreign_number, jump_begin, jump_enter, jump_image, landing_count, landing_number, node_in_order, open_begin, own_edges, pieces_of, place_in}

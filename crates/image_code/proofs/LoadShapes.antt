@@ -1,9 +1,5 @@
 -- The piece before the load of an open switch.
-use Rattle.std.specs.Prelude.{◌≡◌, ℕ, Some, slice_get, slice_index}
-use Rattle.cfg_normal.specs.declared.Node.{Node}
-use Rattle.jump_code.specs.Pieces.{word_items}
-use Rattle.jump_code.specs.Keeping.{keep_load}
-use Rattle.cfg_walk.specs.Walk.{Point}
+use Rattle.image_code.proofs.Common.{◌≡◌, ℕ, Some, slice_get, slice_index, Node, word_items, keep_load, Point}
 use Rattle.image_code.specs.Simulates.{CaseTable, IsAtWord}
 use Rattle.image_code.proofs.Points.{Site, entered_at, visited_at}
 

@@ -1,14 +1,9 @@
 -- The load of an open switch, as it is found from word to word.
-use Rattle.std.proofs.Common.{◌≡◌, ℕ, suc, ◌+◌, ◌-◌, ◌<◌, ◌≤◌, Bool, true, false, List, [], ◌∷◌, Option, Some, None, refl, ap, ◌∙◌, arith}
-use Rattle.std.specs.List.{find, range_with_len}
-use Rattle.eel_base.specs.CodeText.{Words}
-use Rattle.v8_decode.specs.declared.Instr.{Instr}
+use Rattle.image_code.proofs.Common.{◌≡◌, ℕ, suc, ◌+◌, ◌-◌, ◌<◌, ◌≤◌, Bool, true, false, List, [], ◌∷◌, Option, Some, None, refl, ap, ◌∙◌, arith, find, range_with_len, Words, Instr, Open, Value, before_jump}
 use Rattle.v8_decode.specs.declared.Instr.TheVariants as i
 use Rattle.v8_decode.specs.declared.LoadKind.TheVariants as loads
-use Rattle.cfg_blocks.specs.declared.switches.Value.{Value}
-use Rattle.cfg_blocks.specs.Switches.{after_slot, before_jump}
+use Rattle.cfg_blocks.specs.Switches.{after_slot}
 use Rattle.cfg_blocks.specs.Values.{followed, instr_at}
-use Rattle.cfg_normal.specs.Opens.{Open}
 use Rattle.image_code.specs.Loads.{load_of, loads_by, or_first}
 use Rattle.image_code.specs.Lookups.{is_load, load_after, loads_at, or_word}
 

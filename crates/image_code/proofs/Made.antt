@@ -1,23 +1,6 @@
 -- The pieces that are made are images.
-use Rattle.std.proofs.Common.{◌≡◌, ◌≢◌, ℕ, Bool, true, false, Option, Some, None, refl, ap, sym, ◌∙◌}
-use Rattle.std.specs.Prelude.{slice_index}
-use Rattle.eel_base.specs.CodeText.{word_at}
-use Rattle.v8_decode.specs.declared.Op2.{Op2}
-use Rattle.v8_decode.specs.declared.Instr.{Instr}
+use Rattle.image_code.proofs.Common.{◌≡◌, ◌≢◌, ℕ, Bool, true, false, Option, Some, None, refl, ap, sym, ◌∙◌, slice_index, word_at, Op2, Instr, decode_of, Slot, NoSlot, State, is_transfer, Blocks, blocks_of, Node, Block, Landed, X, jumps_in, has_cases, Point, IsOnItsWay, MatchesBy, block}
 use Rattle.v8_decode.specs.declared.Instr.TheVariants as i
-use Rattle.v8_decode.specs.Words.{decode_of}
-use Rattle.v8_step.specs.declared.Slot.{Slot}
-use Rattle.v8_step.specs.declared.Slot.TheVariants.{NoSlot}
-use Rattle.v8_step.specs.State.{State}
-use Rattle.v8_step.specs.Items.{is_transfer}
-use Rattle.cfg_blocks.specs.Blocks.{Blocks, blocks_of}
-use Rattle.cfg_normal.specs.declared.Node.{Node}
-use Rattle.cfg_normal.specs.declared.Node.TheVariants.{Block, Landed, X}
-use Rattle.cfg_normal.specs.Opens.{jumps_in}
-use Rattle.cfg_normal.specs.Graph.{has_cases}
-use Rattle.cfg_walk.specs.Walk.{Point}
-use Rattle.cfg_walk.specs.Matches.{IsOnItsWay, MatchesBy}
-use Rattle.cfg_walk.proofs.Edges.{block}
 use Rattle.image_code.specs.Simulates.{Chooses, MatchesIn, does_at, graph_in}
 use Rattle.image_code.proofs.Points.{HereAt}
 use Rattle.image_code.proofs.HeadShapes.{IsCase, call, choice, foreign, jump, off, plain}
@@ -34,7 +17,7 @@ use Rattle.image_code.proofs.KeptLoads.{entered_so}
 use Rattle.image_code.proofs.Opened.{cased}
 use Rattle.image_code.proofs.PlainWords.{plain_is}
 use Rattle.image_code.proofs.SlotCopies.{copy_case}
-use Rattle.image_code.proofs.Visited.{AtWord, Edit, site, on_its_way, way_in}
+use Rattle.image_code.proofs.Visited.{AtWord, Edit, site, on_its_way, way_in, at_word}
 
 module _ (edit : Edit) where
   open edit use {g}
@@ -82,7 +65,7 @@ module _ (edit : Edit) where
       by NoSlot none m0 None e = foreign (foreign_is edit node x none e m0.0 open_there)
       by NoSlot none m0 (Some word) e =
           by_instr node x
-          (record { word = word; at = e; none = none; held = m0.0; there = m.1; npc = m0.1 }) t here.live chooses (decode_of (slice_index g.text.words word)) refl
+          (at_word edit node x word e none m0.0 m.1 m0.1) t here.live chooses (decode_of (slice_index g.text.words word)) refl
       by s some m0 o e =
           let not : x.slot ≢ NoSlot = λ n. let q : s ≡ NoSlot = sym some ∙ n in absurd (cc) in
           in_slot not (on_its_way edit node x s some (λ q. absurd (cc)) m0) o e

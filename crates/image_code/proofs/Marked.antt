@@ -1,26 +1,8 @@
 -- Words in one Mark at the beginning of a piece: where they stand, and a machine that visits them.
-use Rattle.std.proofs.Common.{◌≡◌, ℕ, zero, suc, ◌+◌, ◌-◌, ◌*◌, ◌^◌, ◌<◌, ◌≤◌, Option, Some, None, List, [], ◌∷◌, ◌++◌, length, map, add-zero, refl, ap, sym, ◌∙◌, subst, arith}
-use Rattle.std.specs.Prelude.{◌/◌, slice_get}
-use Rattle.std.proofs.lemmas.List.{length-map}
-use Rattle.eel_base.specs.declared.numbers.Addr.{Addr}
-use Rattle.notes.specs.Format.{NoteRange}
-use Rattle.v8_decode.specs.declared.Instr.{Instr}
-use Rattle.v8_alu.specs.Numbers.{wrapped}
-use Rattle.v8_memory.specs.Regions.{code_of}
-use Rattle.v8_step.specs.State.{State}
-use Rattle.cfg_normal.specs.declared.Node.{Node}
-use Rattle.cfg_walk.specs.Walk.{Point}
-use Rattle.code_runs.specs.Straight.{HasWords}
-use Rattle.code_runs.specs.TwoRegisters.{IsBetween}
-use Rattle.v8_encode.specs.Encoding.{word_of}
-use Rattle.layout.specs.Emitting.{words_of}
-use Rattle.layout.specs.declared.items.Item.{Item}
+use Rattle.image_code.proofs.Common.{◌≡◌, ℕ, zero, suc, ◌+◌, ◌-◌, ◌*◌, ◌^◌, ◌<◌, ◌≤◌, Option, Some, None, List, [], ◌∷◌, ◌++◌, length, map, add-zero, refl, ap, sym, ◌∙◌, subst, arith, ◌/◌, slice_get, length-map, Addr, NoteRange, Instr, wrapped, code_of, State, Node, Point, word_of, words_of, Item, item_at, item_in, open_in, range_in, range_of, CanRun, link, IsPageWord, HasWords, IsBetween, IsWordAt, open_from}
 use Rattle.layout.specs.declared.items.Item.TheVariants as it
-use Rattle.layout.specs.Laid.{OpenMark as Open, IsWordAt, item_at, item_in, size_of, open_in, open_from, end_from, range_in, range_of}
-use Rattle.layout.specs.Running.{CanRun}
+use Rattle.layout.specs.Laid.{OpenMark as Open, size_of, end_from}
 use Rattle.layout.proofs.Going.{word_is}
-use Rattle.jump_code.specs.Links.{link}
-use Rattle.jump_code.specs.PageWords.{IsPageWord}
 use Rattle.image_code.specs.Simulates.{IsOnWay, IsThere, number_in}
 use Rattle.image_code.proofs.Points.{HereAt, Placed, Site}
 use Rattle.image_code.proofs.CaseShapes.{IsMarked, visits_it}

@@ -1,24 +1,11 @@
 -- The memory of a written file keeps its code, the editor's words and the table.
-use Rattle.std.proofs.Common.{◌≡◌, ℕ, ◌+◌, ◌*◌, ◌≤◌, ◌⊎◌, inl, inr, false, List, [], ◌∷◌, length, refl, ap, sym, ◌∙◌, subst, arith}
-use Rattle.std.specs.Int.{w32, to_be_bytes}
-use Rattle.v8_decode.specs.declared.Instr.{Instr}
-use Rattle.v8_memory.specs.Regions.{Memory, code_of, fetch_of, fetch_from}
-use Rattle.v8_memory.specs.Spans.{AllApart}
-use Rattle.v8_memory.specs.Code.{IsSameOutside}
-use Rattle.v8_step.specs.State.{State}
-use Rattle.v8_step.specs.Step.{act, step_of}
-use Rattle.v8_step.specs.Run.{run}
-use Rattle.v8_step.specs.Judged.{judged_by}
-use Rattle.two_runs.specs.Visits.{pages_of}
+use Rattle.image_code.proofs.Common.{◌≡◌, ℕ, ◌+◌, ◌*◌, ◌≤◌, ◌⊎◌, inl, inr, false, List, [], ◌∷◌, length, refl, ap, sym, ◌∙◌, subst, arith, w32, Instr, Memory, code_of, fetch_from, AllApart, IsSameOutside, State, act, step_of, run, judged_by, pages_of, Stores, store_word, memory_word, IsAmongWords, words_stay, Placement, fetch_of, AllAt, store_all, HasWordAt}
+use Rattle.std.specs.Int.{to_be_bytes}
 use Rattle.v8_step.proofs.Executable.{code_of-run}
-use Rattle.code_runs.specs.Code.{AllAt, Stores, store_all, store_word}
-use Rattle.code_runs.specs.StoredWords.{memory_word}
-use Rattle.code_runs.specs.Ours.{HasWordAt, IsAmongWords}
 use Rattle.code_runs.proofs.Ours.{ours_are_stored, ours_stay}
-use Rattle.code_runs.proofs.Stays.{region_of_word, there_written, words_stay}
+use Rattle.code_runs.proofs.Stays.{region_of_word, there_written}
 use Rattle.code_runs.proofs.StoredWords.{other_loaded}
 use Rattle.addr_translate.specs.Lookup.{TableAt}
-use Rattle.layout.specs.Laid.{Placement}
 use Rattle.image_code.specs.Simulates.{Setting}
 use Rattle.image_code.specs.Images.{Frame, HasImages, HasTable, IsFramed, IsTableIn}
 

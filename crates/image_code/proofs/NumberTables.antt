@@ -1,16 +1,7 @@
 -- The numbers of the pieces of open switches, and where they stand.
-use Rattle.std.proofs.Common.{◌≡◌, ℕ, ◌+◌, ◌-◌, ◌<◌, ◌≤◌, Bool, List, Option, Some, None, length, take, refl, sym, ◌∙◌, arith}
-use Rattle.std.specs.Prelude.{slice_get, slice_index, slice_index_or}
-use Rattle.std.specs.List.{find, position_or_len, range_with_len, sum_by}
-use Rattle.std.proofs.lemmas.List.Folds.{find_at}
-use Rattle.std.proofs.lemmas.List.FromFn.{get_or-range_with_len, length-range_with_len}
+use Rattle.image_code.proofs.Common.{◌≡◌, ℕ, ◌+◌, ◌-◌, ◌<◌, ◌≤◌, Bool, List, Option, Some, None, length, take, refl, sym, ◌∙◌, arith, slice_get, slice_index, slice_index_or, find, position_or_len, range_with_len, sum_by, get_or_from_slice_get, slice_get_within, Words, Blocks, last_word, size_of, Graph, Open, find_at, get_or-range_with_len, length-range_with_len}
 use Rattle.std.proofs.lemmas.List.Sums.{sum_by_more}
-use Rattle.std.proofs.lemmas.Option.{get_or_from_slice_get, slice_get_within}
-use Rattle.eel_base.specs.CodeText.{Words}
-use Rattle.cfg_blocks.specs.Blocks.{Blocks, last_word, size_of}
 use Rattle.cfg_blocks.specs.Values.{instr_at}
-use Rattle.cfg_normal.specs.Graph.{Graph}
-use Rattle.cfg_normal.specs.Opens.{Open}
 use Rattle.image_code.specs.Loads.{load_of, loads_by, or_first}
 use Rattle.image_code.specs.Lookups.{StandsInText}
 use Rattle.image_code.specs.Numbered.{entries_of, first_entry, open_begin, pieces_of}

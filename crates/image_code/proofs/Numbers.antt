@@ -1,8 +1,5 @@
 -- What is known of the graph of a text.
-use Rattle.std.proofs.Common.{◌≡◌, length, refl, ap, sym, subst}
-use Rattle.eel_base.specs.CodeText.{Words}
-use Rattle.cfg_blocks.specs.Blocks.{blocks_of}
-use Rattle.cfg_normal.specs.Graph.{Graph, graph_of}
+use Rattle.image_code.proofs.Common.{◌≡◌, length, refl, ap, sym, subst, Words, blocks_of, Graph, graph_of}
 use Rattle.image_code.specs.Graphs.{IsGraphOf}
 
 module _ (text : Words) (graph : Graph) (h : IsGraphOf text graph) where

@@ -1,52 +1,30 @@
 -- What is known of the graph of a text with its open switches: where their blocks lie, that no two share one, and so
 -- how many words, entries and edges there are.
-use Rattle.std.proofs.Common.{◌≡◌, ℕ, zero, suc, ◌+◌, ◌-◌, ◌*◌, ◌<◌, ◌≤◌, Bool, true, false, ◌&&◌, ◌==◌, cond, Option, Some, None, List, [], ◌∷◌, ◌++◌, length, length-take, map, take, refl, ap, sym, ◌∙◌, subst, arith}
-use Rattle.std.specs.Prelude.{◌||◌, if◌then◌else◌, slice_get, slice_index}
-use Rattle.std.specs.List.{All, filter, flat_map, sum_by}
-use Rattle.std.specs.Option.{option_to_list}
-use Rattle.std.proofs.lemmas.Bool.{cond_both, eq-eqb, false≢true, or_parts}
-use Rattle.std.proofs.lemmas.Bool.Decides.{nat_tests}
-use Rattle.std.proofs.lemmas.List.{get_or-map, length-append, length-map}
-use Rattle.std.proofs.lemmas.Option.{slice_get_within}
-use Rattle.std.proofs.lemmas.List.Sums.{count_by-le-length, length-filter, sum_by-cons}
-use Rattle.std.proofs.Math.Seq.{take-append_seam}
-use Rattle.eel_base.specs.CodeText.{Words}
-use Rattle.eel_base.specs.Code.{IsText}
-use Rattle.v8_decode.specs.Words.{decode_of}
-use Rattle.v8_step.specs.Items.{is_transfer}
-use Rattle.cfg_blocks.specs.declared.BlockEnd.{BlockEnd}
+use Rattle.image_code.proofs.Common.{◌≡◌, ℕ, zero, suc, ◌+◌, ◌-◌, ◌*◌, ◌<◌, ◌≤◌, Bool, true, false, ◌&&◌, ◌==◌, cond, Option, Some, None, List, [], ◌∷◌, ◌++◌, length, length-take, map, take, refl, ap, sym, ◌∙◌, subst, arith, ◌||◌, if◌then◌else◌, slice_get, slice_index, flat_map, sum_by, option_to_list, cond_both, eq-eqb, false≢true, nat_tests, length-append, length-map, slice_get_within, sum_by-cons, Words, IsText, decode_of, is_transfer, EdgeKind, within, Blocks, below, blocks_of, end_of, holding_of, last_word, size_of, entered_of, is_jump, get_or-below, length-below, Edge, Node, same_kind, IsEdgeIn, Open, jumps_in, targets_in, Graph, edges_in, graph_of, IsCut, cut, block, copy, ends_within, some_words, Each, each, each-append, each-below, each_at, IsOpenSwitch, opens_are, All, get_or-map, take-append_seam, BlockEnd, Way, number_of, is_copied, edge_of, is_held, each-map, each-then, about}
 use Rattle.cfg_blocks.specs.declared.BlockEnd.TheVariants as ends
-use Rattle.cfg_blocks.specs.declared.EdgeKind.{EdgeKind}
 use Rattle.cfg_blocks.specs.declared.EdgeKind.TheVariants as kinds
+use Rattle.std.specs.List.{filter}
+use Rattle.std.proofs.lemmas.Bool.{or_parts}
+use Rattle.std.proofs.lemmas.List.Sums.{count_by-le-length, length-filter}
 use Rattle.cfg_blocks.specs.declared.switches.Switch.{Switch}
 use Rattle.cfg_blocks.specs.Code.{TargetsWithin, AreFirsts, IsBlockList}
-use Rattle.cfg_blocks.specs.Ends.{Way, number_of, within}
-use Rattle.cfg_blocks.specs.Blocks.{Blocks, below, blocks_of, end_of, holding_of, is_among, last_word, size_of}
+use Rattle.cfg_blocks.specs.Blocks.{is_among}
 use Rattle.cfg_blocks.specs.Arrivals.{entered_in}
-use Rattle.cfg_blocks.specs.Entries.{Entered, entered_of, ways_from}
-use Rattle.cfg_blocks.specs.Switches.{is_jump, is_taken, is_untaken, switch_of, switches_of}
+use Rattle.cfg_blocks.specs.Entries.{Entered, ways_from}
+use Rattle.cfg_blocks.specs.Switches.{is_taken, is_untaken, switch_of, switches_of}
 use Rattle.cfg_blocks.specs.Values.{instr_at}
 use Rattle.cfg_blocks.proofs.Agreement.{entered_alike}
-use Rattle.cfg_blocks.proofs.Below.{get_or-below, length-below}
 use Rattle.cfg_blocks.proofs.Targets.{targets_within}
-use Rattle.cfg_normal.specs.declared.Edge.{Edge}
-use Rattle.cfg_normal.specs.declared.Node.{Node}
-use Rattle.cfg_normal.specs.Nodes.{same_kind}
-use Rattle.cfg_normal.specs.Code.{AreOne, AreOpenIn, IsOpenIn, IsTableIn, IsEdgeIn}
-use Rattle.cfg_normal.specs.Opens.{Open, is_copied, jumps_in, targets_in}
-use Rattle.cfg_normal.specs.Graph.{Graph, case_of, copied_edges, edge_of, edges_in, edges_of, graph_of, landing_at, landings_of, ways_out}
+use Rattle.cfg_normal.specs.Code.{AreOne, AreOpenIn, IsOpenIn, IsTableIn}
+use Rattle.cfg_normal.specs.Graph.{case_of, copied_edges, edges_of, landing_at, landings_of, ways_out}
 use Rattle.cfg_normal.proofs.Candidates.{opens_are as open_in_blocks}
 use Rattle.cfg_normal.proofs.GraphFacts.{edges_of-few, flat_few, ways_out-few}
-use Rattle.cfg_walk.proofs.Cut.{IsCut, cut}
-use Rattle.cfg_walk.proofs.Edges.{block, copy}
-use Rattle.cfg_walk.proofs.Holding.{ends_at_next, ends_at_words, ends_within, is_held, some_words}
-use Rattle.cfg_walk.proofs.Lists.{Each, each, each-append, each-below, each-flat_map, each-map, each-then, each_at, each_in}
+use Rattle.cfg_walk.proofs.Holding.{ends_at_next, ends_at_words}
+use Rattle.cfg_walk.proofs.Lists.{each-flat_map, each_in}
 use Rattle.cfg_walk.proofs.NoneOpen.{edges_lie_in}
 use Rattle.cfg_walk.proofs.Ways.{IsOwn, ways_are_own}
-use Rattle.jump_slice.specs.Cases.{IsOpenSwitch}
-use Rattle.jump_slice.proofs.About.{about}
 use Rattle.jump_slice.proofs.Into.{leads_in}
-use Rattle.jump_slice.proofs.Opened.{found_in, opens_are}
+use Rattle.jump_slice.proofs.Opened.{found_in}
 use Rattle.jump_slice.proofs.Parts.{switch_of-is, table_in}
 use Rattle.jump_slice.proofs.Whole.{ends_count}
 use Rattle.image_code.specs.Loads.{load_of}

@@ -1,24 +1,7 @@
 -- How many pieces there are, and that the numbers of pieces are below that.
-use Rattle.std.proofs.Common.{◌≡◌, ℕ, suc, ◌+◌, ◌-◌, ◌*◌, ◌<◌, ◌≤◌, ◌==◌, nat_lt, Option, Some, None, List, [], ◌∷◌, ◌++◌, length, map, take, refl, append_assoc, ap, ◌∙◌, arith}
-use Rattle.std.specs.Prelude.{slice_get, slice_index}
-use Rattle.std.specs.List.{position, sum_by}
-use Rattle.std.proofs.lemmas.Bool.{cond_both, eqb-true}
-use Rattle.std.proofs.lemmas.List.{length-append}
-use Rattle.std.proofs.lemmas.List.Quantifiers.{position-Some}
+use Rattle.image_code.proofs.Common.{◌≡◌, ℕ, suc, ◌+◌, ◌-◌, ◌*◌, ◌<◌, ◌≤◌, ◌==◌, nat_lt, Option, Some, None, List, [], ◌∷◌, ◌++◌, length, map, take, refl, append_assoc, ap, ◌∙◌, arith, slice_get, slice_index, position, sum_by, cond_both, eqb-true, length-append, position-Some, get_or_from_slice_get, slice_get_within, Words, Node, Block, Landed, X, Open, Graph, lands, IsNodeIn, IsIn, ends_within, in_held, some_words, Each, each, each-append, each_at, lands_as, Op, take-length, each-map}
 use Rattle.std.proofs.lemmas.List.Sums.{sum_by_more_le}
-use Rattle.std.proofs.lemmas.Option.{get_or_from_slice_get, slice_get_within}
-use Rattle.std.proofs.Math.Seq.{take-length}
-use Rattle.eel_base.specs.CodeText.{Words}
 use Rattle.cfg_blocks.specs.Blocks.{size_of as block_size}
-use Rattle.cfg_normal.specs.declared.Node.{Node}
-use Rattle.cfg_normal.specs.declared.Node.TheVariants.{Block, Landed, X}
-use Rattle.cfg_normal.specs.Opens.{Open}
-use Rattle.cfg_normal.specs.Graph.{Graph, lands}
-use Rattle.cfg_normal.specs.Code.{IsNodeIn}
-use Rattle.cfg_walk.proofs.Holding.{IsIn, ends_within, in_held, some_words}
-use Rattle.cfg_walk.proofs.Lists.{Each, each, each-append, each-map, each_at}
-use Rattle.cfg_walk.proofs.Nodes.{lands_as}
-use Rattle.snippets.specs.declared.snippet.Op.{Op}
 use Rattle.image_code.specs.Loads.{load_of}
 use Rattle.image_code.specs.Numbered.{at_open, by_open, case_numbers, case_piece, cases_of, compare_image, compare_number, enter_number, entries_of, foreign_number, jump_enter, jump_image, landing_number, open_begin, or_zero, own_edges, pieces_of, place_in}
 use Rattle.image_code.specs.Made.{first_word, lands_at}

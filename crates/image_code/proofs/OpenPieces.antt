@@ -1,15 +1,5 @@
 -- The pieces of an open switch, as they are added.
-use Rattle.std.proofs.Common.{◌≡◌, ℕ, ◌+◌, ◌-◌, List, ◌∷◌, ◌++◌, map, append_assoc}
-use Rattle.std.specs.Prelude.{slice_index}
-use Rattle.std.specs.List.{range_with_len}
-use Rattle.eel_base.specs.CodeText.{Words}
-use Rattle.eel_base.specs.declared.numbers.BlockNo.{BlockNo}
-use Rattle.v8_decode.specs.Words.{decode_of}
-use Rattle.cfg_blocks.specs.Blocks.{size_of}
-use Rattle.cfg_normal.specs.declared.Node.TheVariants.{Block, Landed}
-use Rattle.cfg_normal.specs.Graph.{Graph}
-use Rattle.cfg_normal.specs.Opens.{Open}
-use Rattle.layout.specs.declared.items.Item.{Item}
+use Rattle.image_code.proofs.Common.{◌≡◌, ℕ, ◌+◌, ◌-◌, List, ◌∷◌, ◌++◌, map, append_assoc, slice_index, range_with_len, Words, BlockNo, decode_of, size_of, Block, Landed, Graph, Open, Item}
 use Rattle.image_code.specs.Loads.{load_of}
 use Rattle.image_code.specs.Made.{image, jumps_at, keep_by, open_pieces}
 

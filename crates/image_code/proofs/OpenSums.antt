@@ -1,18 +1,6 @@
 -- Sums over lists: of sizes at numbers that differ, of how many words pass a test, and of what the edges have that are
 -- found.
-use Rattle.std.proofs.Common.{◌≡◌, ℕ, zero, suc, ◌+◌, ◌-◌, ◌*◌, ◌<◌, ◌≤◌, Bool, true, false, ◌==◌, nat_lt, cond, Option, Some, None, List, [], ◌∷◌, ◌++◌, append-nil, length, refl, ap, sym, ◌∙◌, arith}
-use Rattle.std.specs.Prelude.{if◌then◌else◌}
-use Rattle.std.specs.List.{count_by, flat_map, position, position_or_len, range_with_len, sum_by}
-use Rattle.std.specs.Option.{option_to_list}
-use native.Mathlib.Nat.{add-mul}
-use Rattle.std.proofs.lemmas.Bool.{cond_both, false_from_ne_true, ltb-true}
-use Rattle.std.proofs.lemmas.Bool.Decides.{nat_tests}
-use Rattle.std.proofs.lemmas.Grind.{flat_map-append}
-use Rattle.std.proofs.lemmas.List.{length-append}
-use Rattle.std.proofs.lemmas.List.Sums.{sum_by-append, sum_by-cons}
-use Rattle.cfg_blocks.specs.Blocks.{below}
-use Rattle.cfg_normal.specs.declared.Edge.{Edge}
-use Rattle.cfg_walk.proofs.Lists.{Each}
+use Rattle.image_code.proofs.Common.{◌≡◌, ℕ, zero, suc, ◌+◌, ◌-◌, ◌*◌, ◌<◌, ◌≤◌, Bool, true, false, ◌==◌, nat_lt, cond, Option, Some, None, List, [], ◌∷◌, ◌++◌, append-nil, length, refl, ap, sym, ◌∙◌, arith, if◌then◌else◌, flat_map, position, position_or_len, range_with_len, sum_by, option_to_list, add-mul, cond_both, false_from_ne_true, ltb-true, nat_tests, length-append, sum_by-append, sum_by-cons, below, Edge, Each, count_by, flat_map-append}
 
 -- ---- sums over the numbers below one
 

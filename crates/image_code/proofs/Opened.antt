@@ -1,29 +1,15 @@
 -- What is known of the open switches of a setting's graph, each by its number.
-use Rattle.std.proofs.Common.{◌≡◌, ℕ, ◌+◌, ◌-◌, ◌<◌, ◌≤◌, true, false, Some, List, refl, ap, ◌∙◌, arith}
-use Rattle.std.specs.Prelude.{slice_get}
-use Rattle.std.specs.List.{find, range_with_len}
-use Rattle.std.proofs.lemmas.Bool.{eq-eqb, eqb-true}
-use Rattle.eel_base.specs.CodeText.{Words}
-use Rattle.eel_base.specs.Code.{IsText}
-use Rattle.v8_decode.specs.declared.Instr.{Instr}
+use Rattle.image_code.proofs.Common.{◌≡◌, ℕ, ◌+◌, ◌-◌, ◌<◌, ◌≤◌, true, false, Some, List, refl, ap, ◌∙◌, arith, slice_get, find, range_with_len, eq-eqb, eqb-true, Words, IsText, Instr, Blocks, blocks_of, end_of, entered_of, is_jump, Open, Graph, Each, IsOpenSwitch, opens_are, before_jump, Value, IsCaseBlock}
 use Rattle.v8_decode.specs.declared.Instr.TheVariants as i
 use Rattle.v8_decode.specs.declared.LoadKind.TheVariants as loads
-use Rattle.cfg_blocks.specs.Blocks.{Blocks, blocks_of, end_of}
 use Rattle.cfg_blocks.specs.Ends.{is_transfer}
-use Rattle.cfg_blocks.specs.Entries.{entered_of}
-use Rattle.cfg_blocks.specs.Switches.{before_jump, is_jump}
-use Rattle.cfg_blocks.specs.declared.switches.Value.{Value}
 use Rattle.cfg_blocks.specs.declared.switches.Value.TheVariants.{Place}
 use Rattle.cfg_blocks.specs.Values.{instr_at, sum_in}
-use Rattle.cfg_normal.specs.Opens.{Open}
-use Rattle.cfg_normal.specs.Graph.{Graph}
 use Rattle.cfg_walk.specs.Matches.{AreOpen}
-use Rattle.cfg_walk.proofs.Lists.{Each}
-use Rattle.jump_slice.specs.Cases.{IsOpenSwitch, LoadsEntry, approach_to}
-use Rattle.jump_slice.specs.Joined.{IsCaseBlock}
+use Rattle.jump_slice.specs.Cases.{LoadsEntry, approach_to}
 use Rattle.jump_slice.proofs.CaseBlocks.{case_block, open_in}
 use Rattle.jump_slice.proofs.Numbered.{opens_are_one}
-use Rattle.jump_slice.proofs.Opened.{are_open, opens_are}
+use Rattle.jump_slice.proofs.Opened.{are_open}
 use Rattle.image_code.specs.Graphs.{IsGraphOf, opens_in}
 use Rattle.image_code.specs.Loads.{first_operand, is_place, load_of, loads_by, or_first, second_operand}
 use Rattle.image_code.specs.Simulates.{Setting, graph_in}

@@ -1,21 +1,6 @@
 -- Nothing can be fetched outside the code: there the run ends, as the original's does.
-use Rattle.std.proofs.Common.{◌≡◌, ℕ, ◌+◌, ◌*◌, inl, inr, true, false, Option, Some, None, [], length, refl, ap, sym, ◌∙◌, subst, arith}
-use Rattle.std.specs.Prelude.{◌==◌}
-use Rattle.std.specs.Option.{option_map}
-use Rattle.std.proofs.lemmas.Bool.{cases_lt, eq-eqb}
-use Rattle.eel_base.specs.CodeText.{word_at}
-use Rattle.notes.specs.Format.{range_at}
-use Rattle.v8_memory.specs.Regions.{fetch_of}
-use Rattle.v8_step.specs.declared.Slot.{Slot}
-use Rattle.v8_step.specs.declared.Slot.TheVariants.{NoSlot}
-use Rattle.v8_step.specs.State.{State}
+use Rattle.image_code.proofs.Common.{◌≡◌, ℕ, ◌+◌, ◌*◌, inl, inr, true, false, Option, Some, None, [], length, refl, ap, sym, ◌∙◌, subst, arith, ◌==◌, option_map, cases_lt, eq-eqb, word_at, range_at, Slot, NoSlot, State, trapped, step_of, on_word, puts_on_word, in_pages, Node, Point, leads_one, fetch_of, puts_of}
 use Rattle.v8_step.specs.Traps.{instruction_access_exception}
-use Rattle.v8_step.specs.Transfers.{trapped}
-use Rattle.v8_step.specs.Step.{step_of, on_word, puts_of, puts_on_word}
-use Rattle.two_runs.specs.Visits.{in_pages}
-use Rattle.cfg_normal.specs.declared.Node.{Node}
-use Rattle.cfg_walk.specs.Walk.{Point}
-use Rattle.code_runs.proofs.Leads.{leads_one}
 use Rattle.image_code.specs.Simulates.{at_point, does_at, number_in, word_of}
 use Rattle.image_code.proofs.Points.{HereAt, Placed, Site, StepsFrom, visited_by}
 use Rattle.image_code.specs.Images.{IsBeside}

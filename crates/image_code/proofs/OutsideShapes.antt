@@ -1,11 +1,5 @@
 -- Points outside the text.
-use Rattle.std.specs.Prelude.{◌≡◌, None, ◌≢◌, Some}
-use Rattle.eel_base.specs.CodeText.{word_at}
-use Rattle.cfg_normal.specs.declared.Node.{Node}
-use Rattle.cfg_normal.specs.declared.Node.TheVariants.{X}
-use Rattle.notes.specs.Format.{NoteRange, range_at}
-use Rattle.v8_step.specs.declared.Slot.TheVariants.{NoSlot}
-use Rattle.cfg_walk.specs.Walk.{Point}
+use Rattle.image_code.proofs.Common.{◌≡◌, None, ◌≢◌, Some, word_at, Node, X, NoteRange, range_at, NoSlot, Point}
 use Rattle.image_code.specs.Simulates.{Setting, number_in}
 use Rattle.image_code.specs.Outside.{IsOffPages}
 use Rattle.image_code.specs.Images.{IsBeside}

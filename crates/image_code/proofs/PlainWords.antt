@@ -1,38 +1,11 @@
 -- The image of a word that is no transfer goes on to the next word's image, or at the text's end out of the text.
-use Rattle.std.proofs.Common.{◌≡◌, ◌≢◌, ℕ, suc, ◌+◌, ◌-◌, ◌%◌, ◌^◌, ◌<◌, ◌≤◌, inl, inr, Bool, true, false, Option, Some, None, List, [], ◌∷◌, ◌++◌, append-nil, drop, length, map, refl, ap, sym, ◌∙◌, subst, arith}
-use Rattle.std.specs.Prelude.{if◌then◌else◌, nat_lt, slice_get, slice_index}
-use Rattle.std.specs.List.{flat_map}
-use Rattle.std.specs.Option.{option_map}
-use Rattle.std.proofs.lemmas.Bool.{and_parts, cases_Bool, le-ltb, lt-ltb, ltb-true}
-use Rattle.std.proofs.lemmas.Bool.Decides.{nat_tests}
-use Rattle.std.proofs.lemmas.List.{length-map}
-use Rattle.std.proofs.lemmas.Option.{slice_get_within}
-use Rattle.eel_base.specs.CodeText.{Words, address_of, word_at}
-use Rattle.v8_decode.specs.declared.Instr.{Instr}
+use Rattle.image_code.proofs.Common.{◌≡◌, ◌≢◌, ℕ, suc, ◌+◌, ◌-◌, ◌%◌, ◌^◌, ◌<◌, ◌≤◌, inl, inr, Bool, true, false, Option, Some, None, List, [], ◌∷◌, ◌++◌, append-nil, drop, length, map, refl, ap, sym, ◌∙◌, subst, arith, if◌then◌else◌, nat_lt, slice_get, slice_index, flat_map, option_map, and_parts, cases_Bool, le-ltb, lt-ltb, ltb-true, nat_tests, length-map, slice_get_within, Words, address_of, word_at, Instr, decode_of, NoSlot, State, act, on_word, is_transfer, goes_act, Blocks, blocks_of, holding_of, last_word, end_at, ends_block_after, within, word_at-some, Node, same_node, Point, left_by, node_after, point_of, next_word, end_is, is_in, far_piece, Item, item_at, same_itself}
 use Rattle.v8_decode.specs.declared.Instr.TheVariants as i
-use Rattle.v8_decode.specs.Words.{decode_of}
-use Rattle.v8_step.specs.declared.Slot.TheVariants.{NoSlot}
-use Rattle.v8_step.specs.State.{State}
-use Rattle.v8_step.specs.Step.{act, on_word}
-use Rattle.v8_step.specs.Items.{is_transfer}
-use Rattle.v8_step.proofs.CopiedMoves.{goes_act}
-use Rattle.cfg_blocks.specs.Blocks.{Blocks, blocks_of, holding_of, last_word}
-use Rattle.cfg_blocks.specs.Ends.{end_at, end_by, is_transfer as ends_block_after, within}
-use Rattle.cfg_blocks.proofs.Targets.{word_at-some}
-use Rattle.cfg_normal.specs.declared.Node.{Node}
-use Rattle.cfg_normal.specs.Code.{home_of}
-use Rattle.cfg_normal.specs.Nodes.{same_node}
-use Rattle.cfg_normal.specs.Graph.{node_of}
-use Rattle.cfg_walk.specs.Walk.{Point, left_by, node_after, point_of}
-use Rattle.cfg_walk.proofs.Addresses.{next_address, next_word}
-use Rattle.cfg_walk.proofs.Cut.{IsCut}
-use Rattle.cfg_walk.proofs.Edges.{block, same_itself}
-use Rattle.cfg_walk.proofs.Holding.{Leads, is_last}
-use Rattle.cfg_walk.proofs.Leaving.{end_is, is_in, node_is}
-use Rattle.jump_code.specs.Pieces.{far_piece}
-use Rattle.layout.specs.declared.items.Item.{Item}
 use Rattle.layout.specs.declared.items.Item.TheVariants as it
-use Rattle.layout.specs.Laid.{item_at, is_jump, size_of}
+use Rattle.cfg_blocks.specs.Ends.{end_by}
+use Rattle.cfg_walk.proofs.Addresses.{next_address}
+use Rattle.cfg_walk.proofs.Holding.{Leads, is_last}
+use Rattle.layout.specs.Laid.{is_jump, size_of}
 use Rattle.image_code.specs.Simulates.{at_point, does_at, gone_at, graph_in, number_in}
 use Rattle.image_code.proofs.Points.{entered_at}
 use Rattle.image_code.proofs.CaseShapes.{IsFar, IsPlain, JumpsOn, LeadsOn, words_on}
@@ -40,12 +13,11 @@ use Rattle.image_code.specs.Cases.{plain_piece}
 use Rattle.image_code.specs.Made.{is_slots, jump_to, jumps_at, next_at, next_to}
 use Rattle.image_code.specs.Numbered.{enter_number, image_number, node_in_order}
 use Rattle.image_code.proofs.Branches.{image_straight, within_some}
-use Rattle.image_code.proofs.EdgePieces.{cut_in}
 use Rattle.image_code.proofs.Following.{compare_apart, compare_inner, held_next, inner_edges, jump_apart, jump_inner, next_in_order, next_low, some_edge}
 use Rattle.image_code.proofs.ImageNumbers.{HasImage, at_compare, at_jump, enters_in_order, in_order}
 use Rattle.image_code.proofs.ImagePieces.{compare_next, enter_at, jump_next}
 use Rattle.image_code.proofs.Listed.{order_at}
-use Rattle.image_code.proofs.Visited.{AtWord, Edit, at_image, site, entered_none, entered_word, has_its_image, image_items, l, left_gone, word_is}
+use Rattle.image_code.proofs.Visited.{AtWord, Edit, at_image, site, entered_none, entered_word, image_items, l, left_gone, word_is}
 
 last_one : (n count : ℕ) → within count n ≡ None → count ≤ n
 last_one n count e = grind (arith, nat_tests)
@@ -66,7 +38,7 @@ transfer_end text word _ e = absurd (cc)
 
 module _ (edit : Edit) (node : Node) (x : Point) (visit : AtWord edit node x) (t : State) (straight : is_transfer (decode_of (slice_index edit.g.text.words visit.word)) ≡ false) where
   open edit use {g, codes, is, p, place, f, placed.{laid}}
-  open visit use {word, at, none, held, there, npc}
+  open visit use {word, at, none, there, npc, inside, cut, low, home, has}
 
   abbrev b : Blocks
   b = blocks_of g.text g.given
@@ -85,21 +57,6 @@ module _ (edit : Edit) (node : Node) (x : Point) (visit : AtWord edit node x) (t
   abbrev number : ℕ
   number = image_number g.text (graph_in g) node word
 
-  low : word < length g.text.words
-  low = (word_at-some g.text x.pc word at).within
-
-  cut : IsCut g.text b
-  cut = cut_in g is f.table.base f.cases.base
-
-  in_text : word < b.words
-  in_text = omega (arith, low, cut.words)
-
-  home : home_of node ≡ block (holding_of b word)
-  home = held ∙ ap (node_of b) at ∙ node_is b word in_text
-
-  has : HasImage g.text b g.switches node word
-  has = has_its_image edit node x word at held there
-
   abbrev image : List Item → List Item
   image rest = plain_piece (record { 0 = address_of g.text word }) (number_in g node)
       (slice_index g.text.words word) rest
@@ -107,7 +64,7 @@ module _ (edit : Edit) (node : Node) (x : Point) (visit : AtWord edit node x) (t
   found : slice_get (l edit).list number
       ≡ Some (image (code ++ next_at g.text (graph_in g) node word))
   found =
-      image_items edit node x word at has instr refl
+      image_items edit node x visit instr refl
       ∙ ap (λ z. Some z) (image_straight g.text (graph_in g) (jumps_at g.text f.table.base) f.cases.base codes
       (record { 0 = address_of g.text word }) node word instr straight)
 
@@ -178,9 +135,9 @@ module _ (edit : Edit) (node : Node) (x : Point) (visit : AtWord edit node x) (t
         let transfer : ends_block_after (end_at g.text (word - 1)) ≡ true =
         ap ends_block_after (end_is g.text (word - 1) before refl) ∙ transfer_end g.text (word - 1) before two.1 in
         let next : word - 1 + 2 ≡ suc word = omega (arith, some) in
-        let last = is_last b.words b.firsts cut.firsts word (holding_of b word) (is_in g.text b g.switches cut word in_text)
+        let last = is_last b.words b.firsts cut.firsts word (holding_of b word) (is_in g.text b g.switches cut word low)
         (λ more. subst (λ (n : ℕ). Leads b.firsts n) next (cut.second (word - 1) transfer (omega (arith, cut.words)))) in
-        some_edge g is node word in_text home there straight last
+        some_edge g is node word low home there straight last
 
     -- so its image may end in a Jump
     jumps_on : word + 1 < length g.text.words → is_slots g.text word ≡ true → (next : Option ℕ) (to : ℕ)
@@ -221,10 +178,10 @@ module _ (edit : Edit) (node : Node) (x : Point) (visit : AtWord edit node x) (t
         by : (o : Option ℕ) → word_at g.text v.pc ≡ o → LeadsFrom number edges v
         by None none_there =
             let last = last_one (word + 1) (length g.text.words) (sym w.reaches ∙ none_there) in
-            let end : word + 1 ≡ length g.text.words = omega (arith, low) in
+            let end : word + 1 ≡ length g.text.words = omega (arith, inside) in
             let pc : v.pc ≡ address_of g.text (length g.text.words) =
             w.pc ∙ npc ∙ ap (λ (a : ℕ). (a + 4) % 2 ^ 32) (word_at-some g.text x.pc word at).is
-            ∙ next_address g.text word is.text low ∙ ap (address_of g.text) end in
+            ∙ next_address g.text word is.text inside ∙ ap (address_of g.text) end in
             subst (LeadsOn (l edit) p place number 3 edges (word_at g.text v.pc))
             (sym (entered_none edit after (point_of v) none_there w.slot ∙ pc))
             (inr (inr (none_there, end_far, leaves last)))
@@ -234,7 +191,7 @@ module _ (edit : Edit) (node : Node) (x : Point) (visit : AtWord edit node x) (t
             let to : slice_index p.at (word + 1) ≡ entered_at (site edit) after (point_of v) =
             sym (entered_word edit after (point_of v) (word + 1) on_word w.slot
             ∙ ap (λ (n : Node). slice_index p.at (enter_number g.text (graph_in g) n (word + 1)))
-            (next_in_order g is node word in_text home there straight (omega (arith, next.0, cut.words)) same)
+            (next_in_order g is node word low home there straight (omega (arith, next.0, cut.words)) same)
             ∙ ap (slice_index p.at) (enters_in_order g.text b g.switches is.cased (word + 1))) in
             elim (cases_Bool (is_slots g.text word)) as (λ _. LeadsFrom number edges v) [
               | inl slots ↦ inr (inl (jumps_on next.0 slots _ _ to))
@@ -248,10 +205,10 @@ module _ (edit : Edit) (node : Node) (x : Point) (visit : AtWord edit node x) (t
       (follows : enter_number g.text (graph_in g) node (word + 1) ≡ suc number)
       (next_has : HasImage g.text b g.switches node (word + 1)) where
     nothing : edges ≡ []
-    nothing = inner_edges g is node word in_text home there straight inner
+    nothing = inner_edges g is node word low home there straight inner
 
     more : word + 1 < length g.text.words
-    more = omega (arith, next_low g is node word in_text home there straight inner, cut.words)
+    more = omega (arith, next_low g is node word low home there straight inner, cut.words)
 
     ends_apart : slice_get (l edit).list number ≡ Some (image code)
     ends_apart = rw (apart, append-nil) at found
@@ -280,19 +237,19 @@ module _ (edit : Edit) (node : Node) (x : Point) (visit : AtWord edit node x) (t
   by_image : HasImage g.text b g.switches node word → (v : State) → Goes v → LeadsFrom number edges v
   by_image (in_order same is_number enter) v w = order_goes same is_number v w
   by_image (at_jump k o numbered e here block_is) v w =
-      let inner = jump_inner g is node word in_text home there straight k o e block_is in
+      let inner = jump_inner g is node word low home there straight k o e block_is in
       apart_goes inner
-      (jump_apart g is node word in_text home there straight k o e here block_is)
+      (jump_apart g is node word low home there straight k o e here block_is)
       (jump_next g is f.table.base f.cases.base codes k o node word numbered e here
-      (rw block_is at (is_in g.text b g.switches cut word in_text).above))
-      (at_jump k o numbered e here (held_next g is node word in_text home there straight inner ∙ block_is)) v w
+      (rw block_is at (is_in g.text b g.switches cut word low).above))
+      (at_jump k o numbered e here (held_next g is node word low home there straight inner ∙ block_is)) v w
   by_image (at_compare k o numbered e here block_is) v w =
-      let inner = compare_inner g is node word in_text home there straight k o e block_is in
+      let inner = compare_inner g is node word low home there straight k o e block_is in
       apart_goes inner
-      (compare_apart g is node word in_text home there straight k o e here block_is)
+      (compare_apart g is node word low home there straight k o e here block_is)
       (compare_next g is f.table.base f.cases.base codes k o node word numbered e here
-      (rw block_is at (is_in g.text b g.switches cut word in_text).above))
-      (at_compare k o numbered e here (held_next g is node word in_text home there straight inner ∙ block_is)) v w
+      (rw block_is at (is_in g.text b g.switches cut word low).above))
+      (at_compare k o numbered e here (held_next g is node word low home there straight inner ∙ block_is)) v w
 
   goes : (v : State) → does_at g x t ≡ v → v.ending ≡ None → LeadsFrom number (gone_at g node x v) v
   goes v e live =

@@ -1,11 +1,6 @@
 -- Where machines stand at the visits of points.
-use Rattle.std.specs.Prelude.{ℕ, Option, List}
-use Rattle.eel_base.specs.CodeText.{word_at}
-use Rattle.cfg_normal.specs.declared.Node.{Node}
-use Rattle.v8_step.specs.declared.Slot.{Slot}
-use Rattle.v8_step.specs.State.{State}
-use Rattle.layout.specs.Laid.{Placement, HasShortForms}
-use Rattle.cfg_walk.specs.Walk.{Point}
+use Rattle.image_code.proofs.Common.{ℕ, Option, List, word_at, Node, Slot, State, Placement, Point}
+use Rattle.layout.specs.Laid.{HasShortForms}
 use Rattle.image_code.specs.Simulates.{Setting, does_at, gone_at}
 use Rattle.image_code.specs.Images.{Pieces, Frame, place_by, Here, HereBy, IsPlaced}
 use Rattle.image_code.proofs.Promises.{Enters}

@@ -1,13 +1,7 @@
 -- Items of lists by their places: behind other lists, in the lists of items, and the first that passes a test.
-use Rattle.std.proofs.Common.{◌≡◌, ℕ, zero, suc, ◌+◌, ◌<◌, ◌≤◌, Bool, true, false, cond, Some, None, List, [], ◌∷◌, ◌++◌, length, get_or, map, take, length-append, refl, ap, sym, ◌∙◌, arith, inl, inr}
-use Rattle.std.specs.Prelude.{slice_get}
-use Rattle.std.specs.List.{Contains, find, flat_map, list_any, position, position_or_len, range_with_len, sum_by}
-use Rattle.std.proofs.lemmas.Bool.Decides.{nat_tests}
-use Rattle.std.proofs.lemmas.Bool.{cases_lt, false≢true, lt-ltb, le-ltb}
-use Rattle.std.proofs.lemmas.List.Folds.{Any-from_list_any, find_at, list_any_at}
-use Rattle.std.proofs.lemmas.List.FromFn.{get_or-map-range_with_len, get_or-range_with_len, length-map-range_with_len, length-range_with_len}
-use Rattle.std.proofs.lemmas.List.Sums.{fails_before_first, passes_at_first, sum_by-cons}
-use Rattle.std.proofs.lemmas.Option.{get_or_from_slice_get, slice_get-get_or, slice_get_within}
+use Rattle.image_code.proofs.Common.{◌≡◌, ℕ, zero, suc, ◌+◌, ◌<◌, ◌≤◌, Bool, true, false, cond, Some, None, List, [], ◌∷◌, ◌++◌, length, get_or, map, take, length-append, refl, ap, sym, ◌∙◌, arith, inl, inr, slice_get, find, flat_map, list_any, position, position_or_len, range_with_len, sum_by, nat_tests, cases_lt, false≢true, lt-ltb, le-ltb, length-map-range_with_len, sum_by-cons, get_or_from_slice_get, slice_get-get_or, slice_get_within, Contains, find_at, get_or-map-range_with_len, get_or-range_with_len, length-range_with_len}
+use Rattle.std.proofs.lemmas.List.Folds.{Any-from_list_any, list_any_at}
+use Rattle.std.proofs.lemmas.List.Sums.{fails_before_first, passes_at_first}
 pub use Rattle.layout.proofs.Standing.{get_first, get_rest as get_second}
 
 -- ---- lists behind others

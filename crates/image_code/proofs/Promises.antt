@@ -1,10 +1,5 @@
 -- What the pieces promise.
-use Rattle.std.specs.Prelude.{◌≡◌, ◌≢◌, ℕ, false, List, [], None}
-use Rattle.eel_base.specs.CodeText.{word_at}
-use Rattle.cfg_normal.specs.declared.Node.{Node}
-use Rattle.v8_step.specs.State.{State}
-use Rattle.jump_code.specs.PageWords.{kept_address}
-use Rattle.cfg_walk.specs.Walk.{Point, instr_at}
+use Rattle.image_code.proofs.Common.{◌≡◌, ◌≢◌, ℕ, false, List, [], None, word_at, Node, State, kept_address, Point, instr_at}
 use Rattle.image_code.specs.Cost.{is_transfer_at}
 use Rattle.image_code.specs.Simulates.{Setting, StepsOn}
 

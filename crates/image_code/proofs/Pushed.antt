@@ -1,14 +1,6 @@
 -- Lists that grow by one item in each turn of a loop.
-use Rattle.std.proofs.Common.{◌≡◌, ℕ, suc, ◌+◌, ◌-◌, ◌<◌, ◌≤◌, List, [], ◌∷◌, ◌++◌, Some, length, length-append, map, take, refl, ap, ◌∙◌, arith, append_assoc}
-use Rattle.std.specs.Prelude.{slice_get, slice_index_or}
-use Rattle.std.specs.List.{flat_map, range_with_len}
-use Rattle.std.proofs.lemmas.Grind.{flat_map-append}
-use Rattle.std.proofs.lemmas.List.{append-nil, get_or-map, map-append, take_more}
+use Rattle.image_code.proofs.Common.{◌≡◌, ℕ, suc, ◌+◌, ◌-◌, ◌<◌, ◌≤◌, List, [], ◌∷◌, ◌++◌, Some, length, length-append, map, take, refl, ap, ◌∙◌, arith, append_assoc, slice_get, slice_index_or, flat_map, range_with_len, append-nil, map-append, take_more, get_or_from_slice_get, slice_get_within, below, get_or-below, length-below, PieceNo, flat_map-append, get_or-map}
 use Rattle.std.proofs.lemmas.List.FromFn.{map-range_with_len_more}
-use Rattle.std.proofs.lemmas.Option.{get_or_from_slice_get, slice_get_within}
-use Rattle.cfg_blocks.specs.Blocks.{below}
-use Rattle.cfg_blocks.proofs.Below.{get_or-below, length-below}
-use Rattle.eel_base.specs.declared.numbers.PieceNo.{PieceNo}
 
 pub below_next : {A : Type 0} (f : ℕ → A) (n : ℕ) → map f (below (n + 1)) ≡ map f (below n) ++ f n ∷ []
 below_next f n = let e : n + 1 ≡ suc n = omega arith in ap (λ k. map f (below k)) e ∙ map-append f (below n) (n ∷ [])

@@ -1,20 +1,8 @@
 -- A piece by its shape: what its Mark covers, if it has one, then the words of snippets, and then where control goes on;
 -- and what holds of each shape: what may be placed, how much room it takes, and where its Mark stands.
-use Rattle.std.proofs.Common.{◌≡◌, ℕ, zero, suc, ◌+◌, ◌<◌, ◌≤◌, Bool, true, false, cond, Option, Some, None, List, [], ◌∷◌, ◌++◌, append-nil, length, map, refl, ap, sym, subst, ◌∙◌, arith}
-use Rattle.std.specs.Prelude.{if◌then◌else◌, slice_get, slice_index}
-use Rattle.std.proofs.lemmas.List.Sums.{sum_by-cons}
-use Rattle.eel_base.specs.CodeText.{Words, address_of, word_at}
-use Rattle.eel_base.specs.declared.numbers.Addr.{Addr}
-use Rattle.v8_decode.specs.Words.{decode_of}
-use Rattle.v8_step.specs.Items.{is_transfer}
-use Rattle.cfg_normal.specs.declared.Node.{Node}
-use Rattle.cfg_normal.specs.Graph.{Graph}
-use Rattle.cfg_normal.specs.Code.{IsNodeIn}
-use Rattle.cfg_normal.specs.Numbers.{node_number}
-use Rattle.cfg_walk.proofs.Addresses.{word_at-address}
-use Rattle.layout.specs.declared.items.Item.{Item}
+use Rattle.image_code.proofs.Common.{◌≡◌, ℕ, zero, suc, ◌+◌, ◌<◌, ◌≤◌, Bool, true, false, cond, Option, Some, None, List, [], ◌∷◌, ◌++◌, append-nil, length, map, refl, ap, sym, subst, ◌∙◌, arith, if◌then◌else◌, slice_get, slice_index, sum_by-cons, Words, address_of, word_at, Addr, decode_of, is_transfer, Node, Graph, IsNodeIn, node_number, Item, word_at-address, LeadsBelow, piece_words}
 use Rattle.layout.specs.declared.items.Item.TheVariants as it
-use Rattle.layout.specs.Laid.{AreMarked, LeadsBelow, long_words, piece_words}
+use Rattle.layout.specs.Laid.{AreMarked, long_words}
 use Rattle.image_code.specs.Made.{jump_to}
 use Rattle.image_code.specs.Fit.{is_mark, marks_in}
 use Rattle.image_code.proofs.Branches.{HeadOf, within_is}

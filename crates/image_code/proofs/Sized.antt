@@ -1,36 +1,8 @@
 -- How many of the pieces' words are those of snippets: each edge's once, but a landing's once for each word that lands
 -- there, and a Case edge's once for each entry that does.
-use Rattle.std.proofs.Common.{◌≡◌, ℕ, zero, suc, ◌+◌, ◌*◌, ◌<◌, ◌≤◌, Bool, true, false, ◌&&◌, ◌==◌, cond, Some, List, [], ◌∷◌, ◌++◌, length, map, take, refl, sym, ◌∙◌, arith, inl, inr}
-use Rattle.std.specs.Prelude.{if◌then◌else◌, slice_index}
-use Rattle.std.specs.List.{count_by, position, sum_by}
-use Rattle.std.specs.Option.{option_to_list}
-use native.Mathlib.Nat.{mul-le-mul_left, mul-le-mul_right, mul_left_comm}
-use Rattle.std.proofs.lemmas.Bool.{and_parts, and_right, cases_Bool, cases_lt, cond_both, eqb-true, false≢true, le-ltb, ne_eqb}
-use Rattle.std.proofs.lemmas.Bool.Decides.{nat_tests}
-use Rattle.std.proofs.lemmas.List.Folds.{fold-map}
-use Rattle.std.proofs.lemmas.List.Sums.{sum_by-append}
-use Rattle.eel_base.specs.CodeText.{Words}
-use Rattle.v8_decode.specs.declared.Instr.{Instr}
-use Rattle.v8_decode.specs.Words.{decode_of}
-use Rattle.v8_step.specs.Items.{is_transfer}
-use Rattle.cfg_blocks.specs.declared.EdgeKind.{EdgeKind}
+use Rattle.image_code.proofs.Common.{◌≡◌, ℕ, zero, suc, ◌+◌, ◌*◌, ◌<◌, ◌≤◌, Bool, true, false, ◌&&◌, ◌==◌, cond, Some, List, [], ◌∷◌, ◌++◌, length, map, take, refl, sym, ◌∙◌, arith, inl, inr, if◌then◌else◌, slice_index, position, sum_by, option_to_list, mul-le-mul_left, mul-le-mul_right, mul_left_comm, and_parts, cases_Bool, cases_lt, cond_both, eqb-true, false≢true, le-ltb, ne_eqb, nat_tests, sum_by-append, Words, Instr, decode_of, is_transfer, EdgeKind, below, holding_of, last_word, size_of, is_fall, Edge, Node, Block, Landed, X, same_kind, same_node, Open, targets_in, Graph, lands, IsEdgeIn, IsNodeIn, edge_along, edge_from, ends_block, landing_at, left_by, block, copy, same_nodes, ends_within, in_held, some_words, straight_left, Each, each, each-below, lands_as, Op, count_by, fold-map, same_itself}
 use Rattle.cfg_blocks.specs.declared.EdgeKind.TheVariants as kinds
-use Rattle.cfg_blocks.specs.Blocks.{below, holding_of, last_word, size_of}
-use Rattle.cfg_blocks.specs.Entries.{is_fall}
-use Rattle.cfg_normal.specs.declared.Edge.{Edge}
-use Rattle.cfg_normal.specs.declared.Node.{Node}
-use Rattle.cfg_normal.specs.declared.Node.TheVariants.{Block, Landed, X}
-use Rattle.cfg_normal.specs.Nodes.{same_kind, same_node}
-use Rattle.cfg_normal.specs.Opens.{Open, targets_in}
-use Rattle.cfg_normal.specs.Graph.{Graph, lands}
-use Rattle.cfg_normal.specs.Code.{IsEdgeIn, IsNodeIn}
-use Rattle.cfg_walk.specs.Walk.{edge_along, edge_from, ends_block, landing_at, left_by}
-use Rattle.cfg_walk.proofs.Edges.{block, copy, same_itself, same_nodes}
-use Rattle.cfg_walk.proofs.Holding.{ends_within, in_held, some_words}
-use Rattle.cfg_walk.proofs.Leaving.{straight_left}
-use Rattle.cfg_walk.proofs.Lists.{Each, each, each-below}
-use Rattle.cfg_walk.proofs.Nodes.{lands_as}
-use Rattle.snippets.specs.declared.snippet.Op.{Op}
+use Rattle.std.proofs.lemmas.Bool.{and_right}
 use Rattle.image_code.specs.Store.{snippet_on}
 use Rattle.image_code.specs.Numbered.{node_in_order, own_edges}
 use Rattle.image_code.specs.Fit.{AreShort, operations_from, operations_in}

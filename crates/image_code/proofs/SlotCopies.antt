@@ -1,38 +1,14 @@
 -- The copies of slots' words: a transfer ends the run, behind a JMPL without Case edges its target is looked up, and
 -- else the copy goes on to where the edge leads.
-use Rattle.std.proofs.Common.{◌≡◌, ◌≢◌, ℕ, ◌%◌, ◌^◌, ◌<◌, inl, inr, Bool, true, false, Option, Some, None, List, [], ◌∷◌, ◌++◌, drop, length, refl, ap, sym, ◌∙◌, subst, arith}
-use Rattle.std.specs.Prelude.{◌⊎◌, ◌==◌, if◌then◌else◌, pos, slice_get, slice_index}
-use Rattle.std.proofs.lemmas.Bool.{cases_Bool, eqb-true, false≢true}
-use Rattle.std.specs.Option.{option_map}
-use Rattle.eel_base.specs.CodeText.{Words, address_of, word_at}
-use Rattle.eel_base.specs.declared.numbers.Addr.{Addr}
-use Rattle.v8_decode.specs.Words.{decode_of}
-use Rattle.v8_step.specs.declared.Slot.TheVariants.{NoSlot}
-use Rattle.v8_step.specs.State.{State}
-use Rattle.v8_step.specs.Step.{act, on_word}
-use Rattle.v8_step.specs.Items.{is_transfer}
-use Rattle.v8_step.proofs.CopiedMoves.{goes_act}
-use Rattle.cfg_blocks.specs.declared.EdgeKind.{EdgeKind}
+use Rattle.image_code.proofs.Common.{◌≡◌, ◌≢◌, ℕ, ◌%◌, ◌^◌, ◌<◌, inl, inr, Bool, true, false, Option, Some, None, List, [], ◌∷◌, ◌++◌, drop, length, refl, ap, sym, ◌∙◌, subst, arith, ◌⊎◌, ◌==◌, if◌then◌else◌, slice_get, slice_index, cases_Bool, eqb-true, false≢true, option_map, Words, address_of, word_at, Addr, decode_of, NoSlot, State, act, on_word, is_transfer, goes_act, EdgeKind, Blocks, blocks_of, word_at-some, Node, X, Graph, has_cases, lands, Point, node_after, point_of, slot_left, same_kind, IsOnItsWay, lands_as, same_kinds, found_in, page_word, far_piece, Item, slice_get_within, word_items, go_found, landed, last_in}
 use Rattle.cfg_blocks.specs.declared.EdgeKind.TheVariants as kinds
-use Rattle.cfg_blocks.specs.Blocks.{Blocks, blocks_of}
-use Rattle.cfg_blocks.proofs.Targets.{word_at-some}
-use Rattle.cfg_normal.specs.declared.Node.{Node}
-use Rattle.cfg_normal.specs.declared.Node.TheVariants.{X}
-use Rattle.cfg_normal.specs.Graph.{Graph, has_cases, lands}
-use Rattle.cfg_walk.specs.Walk.{Point, landed, landing_at as edge_landing, node_after, point_of, slot_left}
-use Rattle.cfg_normal.specs.Nodes.{same_kind}
-use Rattle.cfg_walk.specs.Matches.{Begins, IsOnItsWay, last_in, way_address}
-use Rattle.cfg_walk.proofs.Nodes.{home_lands, lands_as, lands_in}
-use Rattle.cfg_walk.proofs.Slots.{jump_lands}
-use Rattle.cfg_walk.proofs.Ways.{same_kinds}
-use Rattle.addr_translate.specs.Halves.{found_in}
-use Rattle.code_runs.specs.Page.{page_word}
-use Rattle.code_runs.proofs.StoredWords.{memory_word-range}
-use Rattle.jump_code.specs.Pieces.{far_piece, found_piece}
-use Rattle.layout.specs.declared.items.Item.{Item}
 use Rattle.layout.specs.declared.items.Item.TheVariants as it
+use Rattle.cfg_walk.specs.Walk.{landing_at as edge_landing}
+use Rattle.cfg_walk.specs.Matches.{Begins, way_address}
+use Rattle.cfg_walk.proofs.Nodes.{home_lands, lands_in}
+use Rattle.cfg_walk.proofs.Slots.{jump_lands}
+use Rattle.code_runs.proofs.StoredWords.{memory_word-range}
 use Rattle.image_code.specs.Simulates.{Setting, at_point, does_at, gone_at, graph_in, number_in}
-use Rattle.image_code.specs.Cost.{is_out}
 use Rattle.image_code.specs.Store.{operations_on}
 use Rattle.image_code.specs.Images.{HasNoCases}
 use Rattle.image_code.proofs.Points.{HereAt, entered_at, visited_at}
@@ -41,17 +17,16 @@ use Rattle.image_code.specs.Cases.{plain_piece}
 use Rattle.image_code.specs.Couple.{couple_piece}
 use Rattle.image_code.proofs.LandingShapes.{Lands}
 use Rattle.image_code.proofs.HeadShapes.{IsCase, plain, couple, landing as jumps_slot}
-use Rattle.image_code.specs.Made.{couple_word, first_word, goes_along, goes_on, jump_to, past_slot}
+use Rattle.image_code.specs.Made.{couple_word, first_word, goes_on, jump_to, goes_behind}
 use Rattle.image_code.specs.Numbered.{enter_number, foreign_number, landing_number}
 use Rattle.image_code.proofs.CaseTables.{IsKnown, table_of}
 use Rattle.image_code.proofs.EdgePieces.{IsAlong, along_far, cut_in}
-use Rattle.image_code.proofs.Branches.{couple_says}
-use Rattle.std.proofs.lemmas.Option.{slice_get_within}
 use Rattle.image_code.proofs.Heads.{HasCopy, by_cases, case_copy, copy_visited, plain_copy}
 use Rattle.image_code.proofs.ImageNumbers.{jump_of}
 use Rattle.image_code.proofs.ImagePieces.{enter_at, stands_at}
 use Rattle.image_code.proofs.Listed.{foreign_at, landing_at}
 use Rattle.image_code.proofs.Visited.{Edit, site, case_kind, edge_is, entered_none, entered_word, kind_is, l, slot_gone, target, way_in, way_now, word_is}
+use Rattle.image_code.specs.Cost.{is_out}
 
 -- ---- where control goes on at a node
 
@@ -108,14 +83,14 @@ module _ (edit : Edit)
   abbrev Visit : State → ℕ
   Visit v = entered_at (site edit) (node_after (graph_in g) node (gone_at g node x v)) (point_of v)
 
-  abbrev copy_by : Bool → List Item
-  copy_by transfer =
-      if transfer then couple_piece address (number_in g node) couple_word []
-      else past_slot g.text (graph_in g) f.table.base codes address (number_in g node) word way.number way.edge to
-
   -- the snippet of the edge
   abbrev code : List Item
   code = words_on (l edit) (way.number ∷ [])
+
+  abbrev copy_by : Bool → List Item
+  copy_by transfer =
+      if transfer then couple_piece address (number_in g node) couple_word []
+      else plain_piece address (number_in g node) word (code ++ goes_behind g.text (graph_in g) way.edge to)
 
   its_edge : IsAlong g is f.table.base f.cases.base node (way_now edit node x) way.number way.edge
   its_edge = edge_is edit node x way
@@ -143,13 +118,13 @@ module _ (edit : Edit)
   }
 
   module _ (straight : is_transfer (decode_of word) ≡ false) where
-    abbrev past_by : Bool → List Item
-    past_by out =
-        if out then found_piece address (number_in g node) word code 1
-        else plain_piece address (number_in g node) word (goes_along g.text (graph_in g) codes way.number way.edge to)
+    -- where the edge leads on: out of the text, or to the word's image at the edge's node
+    abbrev on_there : List Item
+    on_there = goes_on g.text (graph_in g) way.edge.to to (way_address g.text (graph_in g) way.edge.from way.edge.kind)
 
-    past : (b : Bool) → same_kind way.edge.kind kinds.Out ≡ b → slice_get (l edit).list piece ≡ Some (past_by b)
-    past b e = made false straight ∙ rw e
+    past : (out : Bool) → same_kind way.edge.kind kinds.Out ≡ out → slice_get (l edit).list piece
+        ≡ Some (plain_piece address (number_in g node) word (code ++ (if out then word_items (go_found 1) else on_there)))
+    past out e = made false straight ∙ rw e
 
     went : (v : State) → does_at g x t ≡ v → v.ending ≡ None → (v.pc ≡ x.npc) × (v.slot ≡ NoSlot)
     went v e live =
@@ -166,11 +141,7 @@ module _ (edit : Edit)
         → gone_at g node x v ≡ way.number ∷ landed g.text (graph_in g) way.edge.kind x.npc
     gone_along v pc after live = gone_left v pc after live ∙ rw (way.only, its_edge.same)
 
-    -- ---- the edge leads on
-
-    -- to where the machine goes: out of the text, or to the word's image at the edge's node
-    abbrev on_there : List Item
-    on_there = goes_on g.text (graph_in g) way.edge.to to (way_address g.text (graph_in g) way.edge.from way.edge.kind)
+    -- ---- the edge leads on to where the machine goes
 
     abbrev Ends : Type 0
     Ends =
@@ -378,9 +349,6 @@ module _ (edit : Edit)
         slot = way.jumps out;
         out = out;
         caseless = caseless;
-        through = 1;
-        some = omega arith;
-        below = omega arith;
         edge = way.number;
         outward = ap is_out way.is ∙ edge_out;
         landing = lands_on;
@@ -392,10 +360,6 @@ module _ (edit : Edit)
   couple_case : is_transfer (decode_of word) ≡ true → IsCase (site edit) node x t
   couple_case e = couple (record {
     slot = not;
-    ba = couple_word;
-    disp = pos 2;
-    says = couple_says;
-    rest = [];
     marked = at_copy _ (made true e);
     transfer = e;
   })

@@ -1,26 +1,12 @@
 -- What is known of a text, its graph and its open switches.
-use Rattle.std.proofs.Common.{◌≡◌, ℕ, ◌<◌, ◌≤◌, Bool, List, Some, refl, ap, sym, ◌∙◌, subst, arith, length, get_or}
-use Rattle.std.specs.Prelude.{if◌then◌else◌, slice_get, slice_index, pos}
-use Rattle.std.specs.List.{Contains}
-use Rattle.eel_base.specs.CodeText.{Words}
-use Rattle.eel_base.specs.Code.{IsText}
+use Rattle.image_code.proofs.Common.{◌≡◌, ℕ, ◌<◌, ◌≤◌, Bool, List, Some, refl, ap, sym, ◌∙◌, subst, arith, length, get_or, if◌then◌else◌, slice_get, slice_index, pos, Words, IsText, decoded_range, Blocks, blocks_of, size_of, entered_of, Open, Graph, IsCut, cut, some_words, IsOpenSwitch, opens_are, Contains, IsGraph, about}
 use Rattle.v8_decode.specs.declared.Op2.TheVariants as operand
 use Rattle.v8_decode.specs.Ranges.{is_in_range}
-use Rattle.v8_decode.proofs.Rows.{decoded_range}
-use Rattle.cfg_blocks.specs.Blocks.{Blocks, blocks_of, size_of}
-use Rattle.cfg_blocks.specs.Entries.{entered_of}
 use Rattle.cfg_blocks.specs.Switches.{runs_slot}
-use Rattle.cfg_normal.specs.Opens.{Open}
-use Rattle.cfg_normal.specs.Graph.{Graph}
-use Rattle.cfg_normal.specs.Code.{IsGraph}
-use Rattle.cfg_walk.proofs.Cut.{IsCut, cut}
-use Rattle.cfg_walk.proofs.Holding.{some_words}
-use Rattle.jump_slice.specs.Cases.{IsOpenSwitch}
-use Rattle.jump_slice.proofs.About.{About, about}
+use Rattle.jump_slice.proofs.About.{About}
 use Rattle.jump_slice.proofs.Acts.{operands}
 use Rattle.jump_slice.proofs.CaseBlocks.{open_in}
 use Rattle.jump_slice.proofs.Compared.{Compares, compare_at-is}
-use Rattle.jump_slice.proofs.Opened.{opens_are}
 use Rattle.image_code.specs.Graphs.{IsGraphOf, opens_in}
 use Rattle.image_code.specs.Lookups.{StandsInText, IsSource}
 use Rattle.image_code.proofs.Numbers.{words_are}

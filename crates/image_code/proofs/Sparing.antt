@@ -1,36 +1,15 @@
 -- Which stores are counted, and what is known of them.
-use Rattle.std.proofs.Common.{◌≡◌, ℕ, zero, suc, ◌+◌, ◌*◌, ◌%◌, ◌^◌, ◌<◌, ◌≤◌, ◌⊎◌, inl, inr, Bool, true, false, not, ◌&&◌, ◌||◌, Some, None, List, [], ◌∷◌, ◌++◌, map, refl, ap, sym, ◌∙◌, arith}
-use Rattle.std.specs.Prelude.{if◌then◌else◌, ◌==◌, nat_le, nat_lt, slice_index}
-use Rattle.std.specs.List.{list_any}
-use Rattle.std.proofs.Math.Bool.{and-false}
-use Rattle.std.proofs.lemmas.Bool.Decides.{nat_tests}
-use Rattle.eel_base.specs.CodeText.{Words, word_at}
-use Rattle.notes.specs.Format.{Notes, NoteSegment, holds}
-use Rattle.v8_decode.specs.declared.Instr.{Instr}
+use Rattle.image_code.proofs.Common.{◌≡◌, ℕ, zero, suc, ◌+◌, ◌*◌, ◌%◌, ◌^◌, ◌<◌, ◌≤◌, ◌⊎◌, inl, inr, Bool, true, false, not, ◌&&◌, ◌||◌, Some, None, List, [], ◌∷◌, ◌++◌, map, refl, ap, sym, ◌∙◌, arith, if◌then◌else◌, ◌==◌, nat_le, nat_lt, slice_index, list_any, nat_tests, Words, word_at, Instr, Op2, decode_of, AllApart, State, sum_of, is_transfer, judged_by, act, run, trapped, in_pages, pages_of, instr_at, page_word, and-false, Notes, ldstub_step, store_size, store_step, swap_step, mem_address_not_aligned, mapped, cell_at, kept_word}
 use Rattle.v8_decode.specs.declared.Instr.TheVariants as i
-use Rattle.v8_decode.specs.declared.Op2.{Op2}
+use Rattle.notes.specs.Format.{NoteSegment, holds}
 use Rattle.v8_decode.specs.declared.StoreKind.{StoreKind}
-use Rattle.v8_decode.specs.Words.{decode_of}
-use Rattle.v8_memory.specs.Spans.{AllApart, IsApart, IsApartFromAll, Span}
-use Rattle.v8_step.specs.State.{State, sum_of}
-use Rattle.v8_step.specs.Accesses.{ldstub_step, store_size, store_step, swap_step}
-use Rattle.v8_step.specs.Items.{is_transfer}
-use Rattle.v8_step.specs.Judged.{judged_by}
-use Rattle.v8_step.specs.Step.{act}
-use Rattle.v8_step.specs.Run.{run}
-use Rattle.v8_step.specs.Traps.{mem_address_not_aligned}
-use Rattle.v8_step.specs.Transfers.{trapped}
-use Rattle.two_runs.specs.Visits.{in_pages, page_of, pages_of}
-use Rattle.cfg_walk.specs.Walk.{instr_at}
-use Rattle.line_words.proofs.Steps.{mapped}
+use Rattle.v8_memory.specs.Spans.{IsApart, IsApartFromAll, Span}
+use Rattle.two_runs.specs.Visits.{page_of}
 use Rattle.code_runs.specs.Code.{any_of_word}
 use Rattle.code_runs.specs.Counted.{one_if, stores_at}
 use Rattle.code_runs.specs.Ours.{IsIn}
-use Rattle.code_runs.specs.Page.{page_word}
 use Rattle.code_runs.proofs.Counted.{uncounted_span}
 use Rattle.code_runs.proofs.Leads.{split_below}
-use Rattle.snippet_code.specs.Cells.{cell_at}
-use Rattle.snippet_code.specs.Code.{kept_word}
 use Rattle.image_code.specs.Simulates.{Setting, word_of}
 use Rattle.image_code.specs.Cost.{in_first_word, is_cell, is_spill, is_transfer_at, spills_on}
 

@@ -1,22 +1,7 @@
 -- From the visit of a transfer whose words stand in one Mark, through them, and on along the way behind them.
-use Rattle.std.proofs.Common.{◌≡◌, ℕ, suc, Option, Some, None, List, [], ◌∷◌, ◌++◌, length, ap, sym, ◌∙◌, subst, arith}
-use Rattle.std.specs.Prelude.{slice_get}
-use Rattle.std.proofs.lemmas.List.{length-map}
-use Rattle.eel_base.specs.CodeText.{word_at}
-use Rattle.eel_base.specs.declared.numbers.Addr.{Addr}
-use Rattle.eel_base.specs.declared.numbers.PieceNo.{PieceNo}
-use Rattle.v8_decode.specs.declared.Instr.{Instr}
-use Rattle.v8_memory.specs.Regions.{Memory}
-use Rattle.v8_step.specs.State.{State}
-use Rattle.cfg_normal.specs.declared.Node.{Node}
-use Rattle.cfg_walk.specs.Walk.{Point, point_of, node_after}
-use Rattle.v8_encode.specs.Encoding.{word_of}
-use Rattle.layout.specs.Emitting.{words_of}
-use Rattle.layout.specs.declared.items.Item.{Item}
+use Rattle.image_code.proofs.Common.{◌≡◌, ℕ, suc, Option, Some, None, List, [], ◌∷◌, ◌++◌, length, ap, sym, ◌∙◌, subst, arith, slice_get, length-map, word_at, Addr, PieceNo, Instr, Memory, State, Node, Point, point_of, node_after, word_of, words_of, Item, item_at, item_in, open_in, past, word_items}
 use Rattle.layout.specs.declared.items.Item.TheVariants as it
-use Rattle.layout.specs.Laid.{item_at, item_in, open_in}
-use Rattle.jump_code.specs.Links.{past}
-use Rattle.jump_code.specs.Pieces.{marked_piece, word_items}
+use Rattle.jump_code.specs.Pieces.{marked_piece}
 use Rattle.image_code.specs.Simulates.{number_in, graph_in}
 use Rattle.image_code.proofs.Points.{EntersNext, HereAt, Placed, Site, entered_at}
 use Rattle.image_code.proofs.CaseShapes.{IsMarked, LeadsTo}

@@ -1,43 +1,16 @@
 -- Where the points of a text are visited, and what stands there.
-use Rattle.std.proofs.Common.{◌≡◌, ◌≢◌, ℕ, ◌+◌, ◌-◌, ◌%◌, ◌^◌, ◌<◌, inl, inr, Bool, true, false, Option, Some, None, List, [], ◌∷◌, suc, length, refl, ap, sym, ◌∙◌, subst, arith}
-use Rattle.std.specs.Prelude.{◌==◌, if◌then◌else◌, slice_get, slice_index}
-use Rattle.std.specs.List.{list_any}
-use Rattle.std.specs.Option.{option_map}
-use Rattle.std.proofs.lemmas.Bool.{cond_both, eqb-true, false≢true, lt-ltb, or_cases}
-use Rattle.std.proofs.lemmas.List.Folds.{list_any-append}
-use Rattle.eel_base.specs.CodeText.{address_of, word_at}
-use Rattle.v8_decode.specs.declared.Instr.{Instr}
-use Rattle.v8_decode.specs.Words.{decode_of}
-use Rattle.v8_step.specs.declared.Slot.{Slot}
-use Rattle.v8_step.specs.declared.Slot.TheVariants.{NoSlot}
-use Rattle.v8_step.specs.State.{State}
-use Rattle.cfg_blocks.specs.declared.EdgeKind.{EdgeKind}
+use Rattle.image_code.proofs.Common.{◌≡◌, ◌≢◌, ℕ, ◌+◌, ◌-◌, ◌%◌, ◌^◌, ◌<◌, inl, inr, Bool, true, false, Option, Some, None, List, [], ◌∷◌, suc, length, refl, ap, sym, ◌∙◌, subst, arith, ◌==◌, if◌then◌else◌, slice_get, slice_index, list_any, option_map, cond_both, eqb-true, false≢true, lt-ltb, address_of, word_at, Instr, decode_of, Slot, NoSlot, State, EdgeKind, Blocks, blocks_of, word_at-some, Edge, Node, Block, home_of, IsNodeIn, Open, targets_in, has_cases, lands, node_of, Point, WayOut, edge_along, instr_at, left_by, slot_left, way_of, same_kind, IsOnItsWay, MatchesBy, block, same_kinds, Placement, Addr, Item, slice_get_within, IsCut, holding_of, node_is, Carried, IsSlotIn, IsTarget, word_at-address}
 use Rattle.cfg_blocks.specs.declared.EdgeKind.TheVariants as kinds
-use Rattle.cfg_blocks.specs.Blocks.{Blocks, blocks_of}
-use Rattle.cfg_blocks.proofs.Targets.{word_at-some}
-use Rattle.cfg_normal.specs.declared.Edge.{Edge}
-use Rattle.cfg_normal.specs.declared.Node.{Node}
-use Rattle.cfg_normal.specs.declared.Node.TheVariants.{Block}
-use Rattle.cfg_normal.specs.declared.Slot.{Slot as Carried}
+use Rattle.layout.specs.declared.items.Item.TheVariants as it
 use Rattle.cfg_normal.specs.declared.Slot.TheVariants as carried
-use Rattle.cfg_normal.specs.Code.{home_of, IsNodeIn, IsSlotIn}
-use Rattle.cfg_normal.specs.Opens.{Open, targets_in}
-use Rattle.cfg_normal.specs.Graph.{has_cases, lands, node_of}
-use Rattle.cfg_walk.specs.Walk.{Point, WayOut, by_kind, edge_along, instr_at, left_by, slot_left, way_of, way_to}
-use Rattle.cfg_normal.specs.Nodes.{same_kind}
-use Rattle.cfg_walk.specs.Matches.{IsCarried, IsOnItsWay, IsTarget, MatchesBy}
-use Rattle.cfg_walk.proofs.Addresses.{word_at-address}
-use Rattle.cfg_walk.proofs.Edges.{block}
-use Rattle.cfg_walk.proofs.Ways.{same_kinds}
+use Rattle.std.proofs.lemmas.Bool.{or_cases}
+use Rattle.std.proofs.lemmas.List.Folds.{list_any-append}
+use Rattle.cfg_walk.specs.Walk.{by_kind, way_to}
+use Rattle.cfg_walk.specs.Matches.{IsCarried}
 use Rattle.addr_translate.specs.Lookup.{IsTable}
-use Rattle.layout.specs.Laid.{Placement}
 use Rattle.image_code.specs.Simulates.{Setting, gone_at, graph_in, number_in, word_of}
 use Rattle.image_code.specs.Images.{Frame, IsPlaced, Pieces, along_first, place_by, slot_piece}
 use Rattle.image_code.proofs.Points.{Site, entered_at, visited_at}
-use Rattle.eel_base.specs.declared.numbers.Addr.{Addr}
-use Rattle.layout.specs.declared.items.Item.{Item}
-use Rattle.layout.specs.declared.items.Item.TheVariants as it
-use Rattle.std.proofs.lemmas.Option.{slice_get_within}
 use Rattle.image_code.proofs.CaseShapes.{IsFar, IsMarked, LeadsTo}
 use Rattle.image_code.specs.Made.{AreCasesFor, IsOffNoted, IsTableFor, edit_pieces, first_way, first_word, image_by, jumps_at, way_by, way_out}
 use Rattle.image_code.specs.Numbered.{along_case, along_number, case_piece, enter_number, image_number, jump_number, way_piece}
@@ -138,6 +111,11 @@ pub record AtWord (edit : Edit) (node : Node) (x : Point) : Type 0 where
   pub held : home_of node ≡ node_of (blocks_of edit.g.text edit.g.given) (word_at edit.g.text x.pc)
   pub there : IsNodeIn (blocks_of edit.g.text edit.g.given) edit.g.switches node
   pub npc : x.npc ≡ (x.pc + 4) % 2 ^ 32
+  pub inside : word < length edit.g.text.words
+  pub cut : IsCut edit.g.text (blocks_of edit.g.text edit.g.given)
+  pub low : word < (blocks_of edit.g.text edit.g.given).words
+  pub home : home_of node ≡ block (holding_of (blocks_of edit.g.text edit.g.given) word)
+  pub has : HasImage edit.g.text (blocks_of edit.g.text edit.g.given) edit.g.switches node word
 
 module _ (edit : Edit) where
   open edit use {g, codes, is, base, p, place, f, tables.{whole}}
@@ -210,21 +188,35 @@ module _ (edit : Edit) where
 
   -- ---- the image of a word
 
-  pub image_items : (node : Node) (x : Point) (word : ℕ) → word_at g.text x.pc ≡ Some word
-      → HasImage g.text b g.switches node word → (instr : Instr) → decode_of (slice_index g.text.words word) ≡ instr
-      → slice_get l.list (image_number g.text (graph_in g) node word)
-      ≡ Some (image_by g.text (graph_in g) (jumps_at g.text f.table.base) f.cases.base codes
-      (record { 0 = address_of g.text word }) node word instr)
-  image_items node x word at has instr e =
-      image_at g is f.table.base f.cases.base codes node word (word_at-some g.text x.pc word at).within has
-      ∙ rw e
+  abbrev pub at_word : (node : Node) (x : Point) (word : ℕ) → word_at g.text x.pc ≡ Some word → x.slot ≡ NoSlot
+      → home_of node ≡ node_of b (word_at g.text x.pc) → IsNodeIn b g.switches node → x.npc ≡ (x.pc + 4) % 2 ^ 32
+      → AtWord edit node x
+  at_word node x word at none held there npc =
+      let inside = (word_at-some g.text x.pc word at).within in
+      let cut = cut_in g is f.table.base f.cases.base in
+      let low : word < b.words = omega (arith, inside, cut.words) in
+      let held_there = held ∙ ap (node_of b) at in
+      record {
+        word = word;
+        at = at;
+        none = none;
+        held = held;
+        there = there;
+        npc = npc;
+        inside = inside;
+        cut = cut;
+        low = low;
+        home = held_there ∙ node_is b word low;
+        has = stands_at g is f.table.base f.cases.base codes node word inside held_there there;
+      }
 
-  pub has_its_image : (node : Node) (x : Point) (word : ℕ) → word_at g.text x.pc ≡ Some word
-      → home_of node ≡ node_of b (word_at g.text x.pc) → IsNodeIn b g.switches node
-      → HasImage g.text b g.switches node word
-  has_its_image node x word at home there =
-      stands_at g is f.table.base f.cases.base codes node word (word_at-some g.text x.pc word at).within
-      (home ∙ ap (node_of b) at) there
+  pub image_items : (node : Node) (x : Point) (visit : AtWord edit node x) (instr : Instr)
+      → decode_of (slice_index g.text.words visit.word) ≡ instr
+      → slice_get l.list (image_number g.text (graph_in g) node visit.word)
+      ≡ Some (image_by g.text (graph_in g) (jumps_at g.text f.table.base) f.cases.base codes
+      (record { 0 = address_of g.text visit.word }) node visit.word instr)
+  image_items node x visit instr e =
+      image_at g is f.table.base f.cases.base codes node visit.word visit.inside visit.has ∙ rw e
 
   -- its piece begins with its Mark
   abbrev pub at_image : (node : Node) (x : Point) (visit : AtWord edit node x) (behind : Addr → ℕ → List Item)

@@ -33,7 +33,8 @@ use Rattle.addr_translate.specs.Lookup.{TableAt, IsTable, table_word}
 use Rattle.addr_translate.specs.Table.{size_of}
 use Rattle.jump_code.specs.FreeRegister.{free_register, other_register}
 use Rattle.jump_code.specs.Keeping.{keep_load}
-use Rattle.jump_code.specs.Pieces.{call_piece, far_piece, find_piece, foreign_piece, found_piece, word_items}
+use Rattle.jump_code.specs.Finding.{go_found}
+use Rattle.jump_code.specs.Pieces.{call_piece, far_piece, find_piece, foreign_piece, word_items}
 use Rattle.layout.specs.Laid.{HasShortForms, Placement}
 use Rattle.snippets.specs.declared.snippet.Op.{Op}
 use Rattle.layout.specs.declared.items.Item.{Item}
@@ -96,6 +97,13 @@ module _ (text : Words) (graph : Graph) where
   abbrev pub goes_on : Node → ℕ → ℕ → List Item
   goes_on X word address = far_piece address
   goes_on node word address = jump_to (enter_number text graph node word)
+
+  -- Behind the copy of a slot's word, and the snippet, a JMPL goes on at what was found; along any other edge control
+  -- goes on to a word at the edge's node.
+  abbrev pub goes_behind : Edge → ℕ → List Item
+  goes_behind edge word =
+      if same_kind edge.kind kinds.Out then word_items (go_found 1)
+      else goes_on edge.to word (way_address text graph edge.from edge.kind)
 
   -- Where control goes on after a word that is no transfer. At the comparison's landed copy and at the block itself of
   -- an open switch's jump, whose last words are transfers, that is within the block.
@@ -190,19 +198,11 @@ first_word graph (Landed block) = slice_index graph.blocks.firsts block.0
 first_word graph X = 0
 
 module _ (text : Words) (graph : Graph) (table : ℕ) (codes : ℕ → List ℕ) where
-  -- Behind the copy of a slot's word, and the snippet, a JMPL goes on at what was found; along any other edge control
-  -- goes on to a word at the edge's node.
-  abbrev pub past_slot : Addr → ℕ → ℕ → ℕ → Edge → ℕ → List Item
-  past_slot address node word number edge to =
-      if same_kind edge.kind kinds.Out
-      then found_piece address node word (snippet_items codes (number ∷ [])) 1
-      else plain_piece address node word (goes_along text graph codes number edge to)
-
   -- a transfer in a slot ends the run
   abbrev pub slot_copy : Addr → ℕ → ℕ → ℕ → Edge → ℕ → List Item
   slot_copy address node word number edge to =
       if is_transfer (decode_of word) then couple_piece address node couple_word []
-      else past_slot address node word number edge to
+      else plain_piece address node word (snippet_items codes (number ∷ []) ++ goes_behind text graph edge to)
 
   -- A slot that is run is a visit at the block that the edge leaves. One behind the text is where the table begins.
   abbrev pub way_by : ℕ → Edge → ℕ → Slot → List Item

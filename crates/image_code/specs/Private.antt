@@ -4,7 +4,8 @@ use Rattle.eel_base.specs.declared.numbers.Addr.{Addr}
 use Rattle.cfg_blocks.specs.Ends.{always, never}
 use Rattle.layout.specs.declared.items.Item.{Item}
 use Rattle.layout.specs.declared.items.Item.TheVariants as it
-use Rattle.jump_code.specs.Pieces.{far_piece}
+use Rattle.jump_code.specs.Finding.{go_found}
+use Rattle.jump_code.specs.Pieces.{far_piece, word_items}
 use Rattle.image_code.specs.declared.expansion.Codes.{Codes}
 use Rattle.image_code.specs.declared.expansion.CodeSpan.{CodeSpan}
 use Rattle.image_code.specs.declared.making.SnippetCode.{SnippetCode}
@@ -31,6 +32,7 @@ abbrev pub items_of : Next → List Item
 items_of next.Behind = []
 items_of (next.Piece piece) = it.Jump piece ∷ []
 items_of (next.Far to) = far_piece to.0
+items_of next.Found = word_items (go_found 1)
 
 -- the image of a branch, by the ways along its edges
 abbrev pub branch_by : Addr → ℕ → ℕ → ℕ → ℕ → List Item

@@ -17,10 +17,11 @@ ghost use Rattle.v8_encode.specs.Code.{op2_fits};
 
 use crate::maker::Maker;
 use crate::numbering::piece;
-use crate::parts::{Next, Visit, branch, call, choice, is_transfer, jump, plain, way_to};
+use crate::parts::{Next, Visit, branch, choice, is_transfer, jump, marked, way_to};
 use cfg_blocks::EdgeKind;
 use cfg_normal::{FlowGraph, Node, node_number, same_node};
 use eel_base::{Addr, BlockNo, NoMemory, PieceNo, Text, WordNo};
+use jump_code::call_code;
 use layout::Piece;
 use std::alloc::Global;
 use v8_decode::{Cond, Instr, Op2, Reg, decode};
@@ -269,13 +270,19 @@ impl<'a> Maker<'a> {
             Instr::Branch { cond, .. } => self.branch_image(alloc, visit, node, cond),
             Instr::Call { .. } => {
                 let way = self.way_out(node, EdgeKind::Call)?;
-                call(alloc, visit, way)
+                marked(
+                    alloc,
+                    visit,
+                    &call_code(visit.address),
+                    &[],
+                    Next::Piece(way),
+                )
             }
             Instr::Jmpl { rd, rs1, op2 } => self.jump_image(alloc, visit, node, rd, rs1, op2),
             _ => {
                 let code = self.code_behind(node, word);
                 let next = self.next_at(node, word);
-                plain(alloc, visit, self.text.word(word), code, next)
+                marked(alloc, visit, &[self.text.word(word)], code, next)
             }
         }
     }

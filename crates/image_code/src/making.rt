@@ -18,10 +18,11 @@ use crate::expansion::{Codes, codes_of};
 use crate::lookups::{Lookups, lookups_of};
 use crate::maker::Maker;
 use crate::numbering::piece;
-use crate::parts::foreign;
+use crate::parts::{Next, way_to};
 use addr_translate::table_size;
 use cfg_normal::{FlowGraph, Node};
 use eel_base::{Addr, NoMemory, PieceNo, Text, WordNo};
+use jump_code::foreign_code;
 use layout::Piece;
 use liveness::LiveSets;
 use snippets::Snippet;
@@ -92,7 +93,7 @@ impl Maker<'_> {
         self.push_landings(alloc, list)?;
         self.push_opens(alloc, list)?;
         let cases = self.push_cases(alloc, list)?;
-        list.push(foreign(alloc)?)?;
+        list.push(way_to(alloc, &foreign_code(), Next::Behind)?)?;
         Ok(cases)
     }
 

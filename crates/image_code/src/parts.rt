@@ -1,15 +1,12 @@
 //! The forms that pieces have.
 
-ghost use Rattle.std.specs.Prelude.{◌≡◌, ◌<◌, IfOk, OnOk, IsTrue, [], ◌++◌, ◌+◌, ◌%◌, ◌^◌, ◌≤◌, map};
-ghost use Rattle.image_code.specs.Cases.{branch_piece, plain_piece};
-ghost use Rattle.image_code.specs.Couple.{couple_piece};
+ghost use Rattle.std.specs.Prelude.{◌≡◌, ◌<◌, IfOk, OnOk, IsTrue, ◌∷◌, ◌++◌, ◌+◌, ◌%◌, ◌^◌, ◌≤◌, map};
 ghost use Rattle.image_code.specs.Choices.{choice_piece};
-ghost use Rattle.image_code.specs.Made.{couple_word, keep_by};
+ghost use Rattle.image_code.specs.Made.{keep_by};
 ghost use Rattle.image_code.specs.Private.{branch_by, items_of};
 ghost use Rattle.jump_code.specs.FreeRegister.{free_register as free_register_of, other_register as other_register_of};
-ghost use Rattle.jump_code.specs.Keeping.{keep_load};
 ghost use Rattle.jump_code.specs.Links.{link};
-ghost use Rattle.jump_code.specs.Pieces.{call_piece, find_piece, foreign_piece, found_piece, word_items};
+ghost use Rattle.jump_code.specs.Pieces.{find_piece, word_items};
 ghost use Rattle.v8_decode.specs.Words.{decode_of};
 ghost use Rattle.v8_encode.specs.Code.{op2_fits};
 ghost use Rattle.v8_step.specs.Items.{is_transfer as is_transfer_of};
@@ -17,8 +14,8 @@ ghost use Rattle.layout.specs.declared.items.Item.TheVariants as it;
 
 use eel_base::{Addr, NoMemory, PieceNo};
 use jump_code::{
-    call_code, choose_code, far_code, find_code, foreign_code, found_code, free_register,
-    keep_load_code, link_code, other_register,
+    choose_code, far_code, find_code, found_code, free_register, keep_load_code, link_code,
+    other_register,
 };
 use layout::{Item, Piece};
 use std::alloc::Global;
@@ -27,20 +24,17 @@ use v8_encode::register;
 
 const NOP: u32 = 0x0100_0000;
 
-// `ba` to the word after the next one.
-const COUPLE: u32 = 0x1080_0002;
+/// `ba` to the word after the next one. Two of them within one Mark stand for a transfer in a delay slot: the second
+/// stands in the slot of the first, so that it ends the run as a couple, as the original does.
+pub(crate) const COUPLE: u32 = 0x1080_0002;
 
 // The conditions of `bn` and `ba`.
 const NEVER: u8 = 0;
 
 const ALWAYS: u8 = 8;
 
-// How many items the image of a CALL has, that of a JMPL at most, and the way along a JMPL's edge besides its snippet.
-const CALL_ITEMS: usize = 5;
-
+// How many items the image of a JMPL has at most.
 const JUMP_ITEMS: usize = 17;
-
-const OUT_ITEMS: usize = 6;
 
 /// What a word stands for: an instruction of the original, by its address, at a node.
 #[derive(Clone, Copy)]
@@ -60,12 +54,14 @@ impl Visit {
     }
 }
 
-/// Where control goes on: to the piece that comes next, to another one, or to an address outside the text.
+/// Where control goes on: to the piece that comes next, to another one, to an address outside the text, or to what a
+/// JMPL looked up.
 #[derive(Clone, Copy)]
 pub enum Next {
     Behind,
     Piece(PieceNo),
     Far(Addr),
+    Found,
 }
 
 // ---- items
@@ -86,6 +82,7 @@ fn push_next(items: &mut Vec<Item>, next: Next) -> Result<(), NoMemory>
         Next::Behind => {}
         Next::Piece(piece) => items.push(Item::Jump(piece))?,
         Next::Far(to) => push_words(items, &far_code(to))?,
+        Next::Found => push_words(items, &found_code(register(1)))?,
     }
     Ok(())
 }
@@ -109,55 +106,30 @@ fn next_count(next: Next) -> usize
         Next::Behind => 0,
         Next::Piece(_) => 1,
         Next::Far(_) => 4,
+        Next::Found => 3,
     }
 }
 
 // ---- pieces, each in a vector that has room for just its items
 
-// A word in its Mark, and the code of a snippet behind it, in a vector with room for so many items.
-fn marked(
-    alloc: Global,
-    room: usize,
-    visit: Visit,
-    word: u32,
-    snippet: &[u32],
-) -> Result<Vec<Item>, NoMemory>
-    ensures { IfOk result (λ v. v.items ≡ plain_piece visit.address visit.node word (map it.Word snippet.now)) }
-{
-    let mut items = Vec::with_capacity(alloc, room)?;
-    items.extend_from_slice(&[visit.mark(), Item::Word(word), Item::EndMark])?;
-    push_words(&mut items, snippet)?;
-    Ok(items)
-}
-
-/// An instruction that is no transfer: its word within its Mark, the code of a snippet, and the way on.
-pub fn plain(
+/// Words within the Mark of a visit, the code of a snippet, and the way on.
+pub fn marked(
     alloc: Global,
     visit: Visit,
-    word: u32,
+    words: &[u32],
     code: &[u32],
     next: Next,
 ) -> Result<Piece, NoMemory>
-    ensures { IfOk result (λ p. p
-        ≡ plain_piece visit.address visit.node word (map it.Word code.now ++ items_of next)) }
+    ensures { IfOk result (λ p. p ≡ it.Mark visit.address visit.node ∷ map it.Word words.now
+        ++ it.EndMark ∷ map it.Word code.now ++ items_of next) }
 {
-    let room = 3 + code.len() + next_count(next);
-    let mut items = marked(alloc, room, visit, word, code)?;
+    let room = 2 + words.len() + code.len() + next_count(next);
+    let mut items = Vec::with_capacity(alloc, room)?;
+    items.push(visit.mark())?;
+    push_words(&mut items, words)?;
+    items.push(Item::EndMark)?;
+    push_words(&mut items, code)?;
     push_next(&mut items, next)?;
-    Ok(Piece { items })
-}
-
-/// A transfer in a delay slot: two `ba` within one Mark. The second stands in the slot of the first, so that it ends
-/// the run as a couple, as the original does.
-pub fn couple(alloc: Global, visit: Visit) -> Result<Piece, NoMemory>
-    ensures { IfOk result (λ p. p ≡ couple_piece visit.address visit.node couple_word []) }
-{
-    let items = vec![in alloc;
-        visit.mark(),
-        Item::Word(COUPLE),
-        Item::Word(COUPLE),
-        Item::EndMark,
-    ]?;
     Ok(Piece { items })
 }
 
@@ -171,31 +143,7 @@ pub fn way_to(alloc: Global, code: &[u32], next: Next) -> Result<Piece, NoMemory
     Ok(Piece { items })
 }
 
-/// The piece to which the table leads every address outside the text.
-pub fn foreign(alloc: Global) -> Result<Piece, NoMemory>
-    ensures { IfOk result (λ p. p ≡ foreign_piece) }
-{
-    let mut items = Vec::new(alloc);
-    push_words(&mut items, &foreign_code())?;
-    Ok(Piece { items })
-}
-
 // ---- images
-
-// A branch that goes one way where its condition holds, and another where it doesn't.
-fn turn(
-    alloc: Global,
-    visit: Visit,
-    cond: Cond,
-    taken: PieceNo,
-    untaken: PieceNo,
-) -> Result<Piece, NoMemory>
-    ensures { IfOk result (λ p. p ≡ branch_piece visit.address visit.node cond taken.0 untaken.0) }
-{
-    let branch = Item::Branch { cond, to: taken };
-    let items = vec![in alloc; visit.mark(), branch, Item::EndMark, Item::Jump(untaken)]?;
-    Ok(Piece { items })
-}
 
 /// A branch to the ways along its two edges. `ba` and `bn` are a nop and a jump to the way along their only edge.
 pub fn branch(
@@ -208,22 +156,14 @@ pub fn branch(
     ensures { IfOk result (λ p. p ≡ branch_by visit.address visit.node cond taken.0 untaken.0) }
 {
     match cond.number() {
-        ALWAYS => plain(alloc, visit, NOP, &[], Next::Piece(taken)),
-        NEVER => plain(alloc, visit, NOP, &[], Next::Piece(untaken)),
-        _ => turn(alloc, visit, cond, taken, untaken),
+        ALWAYS => marked(alloc, visit, &[NOP], &[], Next::Piece(taken)),
+        NEVER => marked(alloc, visit, &[NOP], &[], Next::Piece(untaken)),
+        _ => {
+            let branch = Item::Branch { cond, to: taken };
+            let items = vec![in alloc; visit.mark(), branch, Item::EndMark, Item::Jump(untaken)]?;
+            Ok(Piece { items })
+        }
     }
-}
-
-/// A CALL: its link, and the way along its edge.
-pub fn call(alloc: Global, visit: Visit, way: PieceNo) -> Result<Piece, NoMemory>
-    ensures { IfOk result (λ p. p ≡ call_piece visit.address visit.node way) }
-{
-    let mut items = Vec::with_capacity(alloc, CALL_ITEMS)?;
-    items.push(visit.mark())?;
-    push_words(&mut items, &call_code(visit.address))?;
-    items.push(Item::EndMark)?;
-    items.push(Item::Jump(way))?;
-    Ok(Piece { items })
 }
 
 /// A JMPL: it computes the target, looks it up in the table at `jumps`, writes the link, and goes on along its edge.
@@ -263,25 +203,13 @@ pub fn choice(alloc: Global, visit: Visit, rd: Reg, distance: u32) -> Result<Pie
     Ok(Piece { items })
 }
 
-// The words before a load with these operands, whose address they keep.
-fn kept(alloc: Global, rs1: Reg, op2: Op2) -> Result<Piece, NoMemory>
-    requires fits { IsTrue (op2_fits op2) }
-    ensures { IfOk result (λ p. p ≡ word_items (keep_load rs1 op2)) }
-{
-    let mut items = Vec::new(alloc);
-    push_words(&mut items, &keep_load_code(rs1, op2))?;
-    Ok(Piece { items })
-}
-
 /// The words before the load of an open switch, which keep the load's address in the editor's page.
 pub fn keep(alloc: Global, word: u32) -> Result<Piece, NoMemory>
     ensures { IfOk result (λ p. p ≡ keep_by (decode_of word)) }
 {
     match decode(word) {
-        Instr::Load { rs1, op2, .. } => kept(alloc, rs1, op2),
-        _ => Ok(Piece {
-            items: Vec::new(alloc),
-        }),
+        Instr::Load { rs1, op2, .. } => way_to(alloc, &keep_load_code(rs1, op2), Next::Behind),
+        _ => way_to(alloc, &[], Next::Behind),
     }
 }
 
@@ -293,14 +221,4 @@ pub fn is_transfer(word: u32) -> bool
         decode(word),
         Instr::Branch { .. } | Instr::Call { .. } | Instr::Jmpl { .. },
     )
-}
-
-/// The way along a JMPL's edge: the copy of its delay slot, the code of a snippet, and the jump to what was looked up.
-pub fn out(alloc: Global, visit: Visit, word: u32, code: &[u32]) -> Result<Piece, NoMemory>
-    ensures { IfOk result (λ p. p
-        ≡ found_piece visit.address visit.node word (map it.Word code.now) 1) }
-{
-    let mut items = marked(alloc, OUT_ITEMS + code.len(), visit, word, code)?;
-    push_words(&mut items, &found_code(register(1)))?;
-    Ok(Piece { items })
 }

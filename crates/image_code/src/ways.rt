@@ -4,14 +4,14 @@ ghost use Rattle.std.specs.Prelude.{◌≡◌, ◌+◌, ◌*◌, ◌^◌, ◌<�
 ghost use Rattle.std.specs.Int.{w32, cast_unsigned};
 ghost use Rattle.cfg_normal.specs.Code.{IsEdgeIn, IsNodeIn};
 ghost use Rattle.cfg_walk.specs.Matches.{last_in as last_in_of, target_along, way_address};
-ghost use Rattle.image_code.specs.Made.{first_word as first_word_of, goes_on, jump_to, slot_copy as slot_copy_of, way_along, way_by as way_by_of, ways_from};
+ghost use Rattle.image_code.specs.Made.{first_word as first_word_of, goes_behind, goes_on, jump_to, slot_copy as slot_copy_of, way_along, way_by as way_by_of, ways_from};
 ghost use Rattle.image_code.specs.Numbered.{own_edges as own_edges_of};
 ghost use Rattle.image_code.specs.Private.{code_at as code_at_of, items_of};
 ghost use Rattle.v8_decode.specs.Words.{decode_of};
 
 use crate::images::last_word;
 use crate::maker::Maker;
-use crate::parts::{Next, Visit, couple, is_transfer, out, plain, way_to};
+use crate::parts::{COUPLE, Next, Visit, is_transfer, marked, way_to};
 use cfg_blocks::EdgeKind;
 use cfg_normal::{Edge, FlowGraph, Node, Slot, node_number};
 use eel_base::{Addr, NoMemory, PieceNo, Text, WordNo};
@@ -92,6 +92,17 @@ impl Maker<'_> {
         }
     }
 
+    // Where control goes on behind the copy of a slot's word.
+    fn next_behind(&self, edge: &Edge, to: WordNo) -> Result<Next, NoMemory>
+        requires edge { IsEdgeIn self.now.graph.now.blocks self.now.graph.now.opens edge.now }
+        ensures { IfOk result (λ next. items_of next ≡ goes_behind self.now.text.now self.now.graph.now edge.now to.0) }
+    {
+        match edge.kind {
+            EdgeKind::Out => Ok(Next::Found),
+            _ => self.next_along(edge, to),
+        }
+    }
+
     // ---- ways
 
     // The copy of a slot's word on an edge with this number, and what comes behind it. A transfer in a slot ends the
@@ -110,16 +121,11 @@ impl Maker<'_> {
             (code_at_of self.now.codes.now) visit.address visit.node word number edge.now to.0) }
     {
         if is_transfer(word) {
-            return couple(alloc, visit);
+            return marked(alloc, visit, &[COUPLE, COUPLE], &[], Next::Behind);
         }
         let code = self.codes.code_at(number);
-        match edge.kind {
-            EdgeKind::Out => out(alloc, visit, word, code),
-            _ => {
-                let next = self.next_along(edge, to)?;
-                plain(alloc, visit, word, code, next)
-            }
-        }
+        let next = self.next_behind(edge, to)?;
+        marked(alloc, visit, &[word], code, next)
     }
 
     /// The way along an edge with this number, to a word at its node, with the code of its snippet. A slot behind the

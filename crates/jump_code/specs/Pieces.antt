@@ -14,7 +14,7 @@ use Rattle.layout.specs.declared.items.Item.TheVariants as it
 use Rattle.layout.specs.Emitting.{words_of}
 use Rattle.layout.specs.Laid.{Placement, IsLaid}
 use Rattle.layout.specs.Running.{HasCode}
-use Rattle.jump_code.specs.Finding.{find_image, go_found}
+use Rattle.jump_code.specs.Finding.{find_image}
 use Rattle.jump_code.specs.FreeRegister.{IsApart}
 use Rattle.jump_code.specs.Leaving.{foreign}
 use Rattle.jump_code.specs.Links.{link}
@@ -35,11 +35,6 @@ find_piece x y rd rs1 op2 table address = marked_piece (find_image x y rd rs1 op
 -- that of a CALL
 abbrev pub call_piece : Addr → ℕ → PieceNo → List Item
 call_piece address = marked_piece (link 15 address.0) address
-
--- the edge of a JMPL: the slot's word in its Mark, the snippet, and the jump to what was found
-abbrev pub found_piece : Addr → ℕ → ℕ → List Item → ℕ → List Item
-found_piece address node word snippet x =
-    it.Mark address node ∷ it.Word word ∷ it.EndMark ∷ (snippet ++ word_items (go_found x))
 
 -- the piece to which the table leads every address outside the text
 abbrev pub foreign_piece : List Item
