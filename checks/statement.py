@@ -28,15 +28,15 @@ TOP = os.path.dirname(os.path.dirname(os.path.abspath(__file__)))
 STATEMENT = 'docs/STATEMENT.md'
 
 # The sections, in order, with what each states: definitions of specs as `crate Name`, functions of src as `crate::name`,
-# and files of `eel/specs/Answers` with all in them that the last section needs.
+# and files of `eel_reports/specs/Answers` and `eel/specs/Answers` with all in them that the last section needs.
 SECTIONS = {
     'page': ['edit_core DoesTheSame'],
     'headline': ['edit_core IsFaithful'],
     'cost': ['edit_core HasBoundedCost'],
-    'edits': ['Edit.antt', 'Restore.antt', 'Script.antt'],
-    'profiles': ['Profile.antt', 'Weighed.antt', 'Every.antt', 'Trace.antt', 'Tool.antt'],
+    'edits': ['Edit.antt', 'Restore.antt', 'Script.antt', 'ScriptLines.antt'],
+    'profiles': ['Trees.antt', 'Profile.antt', 'Weighed.antt', 'Every.antt', 'Trace.antt', 'Tool.antt'],
     'runs': ['Run.antt', 'Dump.antt'],
-    'reports': ['Counts.antt', 'Visits.antt', 'LastEdges.antt', 'Report.antt'],
+    'reports': ['Counts.antt', 'ExactCounts.antt', 'Visits.antt', 'ExactVisits.antt', 'LastEdges.antt', 'Report.antt'],
     'listings': ['Show.antt', 'List.antt', 'Print.antt', 'Words.antt'],
     'demo': ['Demo.antt'],
     'frame': ['eel::eel', 'eel::run_words'],
@@ -387,7 +387,8 @@ class Statement:
             if '::' in root:
                 found = [self.repository.functions[root]]
             elif root.endswith('.antt'):
-                found = [item for item in self.whole if item.scope.path == f'crates/eel/specs/Answers/{root}']
+                places = [f'crates/{crate}/specs/Answers/{root}' for crate in ('eel_reports', 'eel')]
+                found = [item for item in self.whole if item.scope.path in places]
             else:
                 found = [item for item in self.specs if f'{item.scope.crate} {item.name}' == root]
             if not found:

@@ -2,7 +2,7 @@
 use Rattle.std.proofs.Common.{ℕ, List, lit≤}
 use Rattle.eel_said.specs.Outcome.{Outcome, BadLine, OutOfMemory, status_of}
 use Rattle.eel_said.specs.declared.outcome.LineCause.TheVariants as causes
-use Rattle.eel.specs.Answers.Words.{IsAssembled, IsNotListing, listing_limit, words_means}
+use Rattle.eel_reports.specs.Answers.Words.{IsAssembled, IsNotListing, listing_limit, words_means}
 use Rattle.eel.proofs.Meanings.{IsBad, IsByStatus, bad}
 use Rattle.eel.proofs.Steps.{make_by_status}
 

@@ -10,10 +10,11 @@ use Rattle.v8_runner.specs.declared.Stop.{Stop}
 use Rattle.v8_runner.specs.declared.Stop.TheVariants.{Limit, Ended, SinkFault}
 use Rattle.eel_said.specs.Outcome.{Outcome, Done, Stopped, BadNotes, OutOfMemory, DeviceFault, Stream, status_of}
 use Rattle.eel_said.specs.Shared.{Feed, Outside, Store, WasRead, outside, store, with_err, written_limit}
-use Rattle.eel.specs.Answers.Run.{HasRun, IsRun, WasBroken, WasFed}
-use Rattle.eel.specs.Private.{stopped_of, was_broken, IsPutAfter}
+use Rattle.eel_reports.specs.Answers.Run.{HasRun, IsRun, WasBroken, WasFed}
+use Rattle.eel_reports.specs.Code.{stopped_of}
+use Rattle.eel_reports.proofs.Later.{put-later}
+use Rattle.eel.specs.Private.{was_broken, IsPutAfter}
 use Rattle.eel.specs.Answers.Dump.{Runs, unread, unfed, refused, ran, AreUnmapped, HasGone, HasPutAll, HasStopped, IsDumped, IsNotBegun, IsNotNoted, dump_after, run_means}
-use Rattle.eel.proofs.Later.{put-later}
 use Rattle.eel.proofs.Meanings.{IsByStatus, IsBad, bad, refusal_is_bad, refusal_not_wanting, wanting_is_bad, unread_failed}
 use Rattle.eel.proofs.Restoring.{unnoted_is_bad}
 use Rattle.eel.proofs.Running.{not_run, ran_failed, ran_not_refused, unfed_failed}

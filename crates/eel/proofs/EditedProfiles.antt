@@ -4,10 +4,10 @@ use Rattle.std.specs.Prelude.{Ok}
 use Rattle.notes.specs.Format.{Notes, notes_of}
 use Rattle.cfg_view.specs.View.{view_of}
 use Rattle.exact_counts.specs.Profiles.{CountsOffTree}
-use Rattle.eel.specs.Answers.Profile.{plan_with}
 use Rattle.v8_step.specs.State.{AreBytes}
 use Rattle.exact_counts.specs.Laws.{IsProfiled}
-use Rattle.eel.specs.Answers.Counts.{IsProfile}
+use Rattle.eel.specs.Answers.Profile.{plan_with}
+use Rattle.eel.specs.Answers.ExactCounts.{IsProfile}
 use Rattle.eel.specs.Code.{EditsAreProfiles, IsMarkedProfile}
 use Rattle.eel.specs.Private.{IsProfileOf, profile_plan}
 use Rattle.eel.proofs.ExactProfiles.{is_profiled, off_tree, one_notes}

@@ -15,10 +15,11 @@ use Rattle.exact_counts.specs.Laws.{IsProfiled, IsExact}
 use Rattle.exact_counts.proofs.Exact.{counts_are_exact}
 use Rattle.exact_counts.proofs.Exits.{counts_of_exits_are_exact}
 use Rattle.exact_counts.proofs.Trees.{trees_make_profiles}
-use Rattle.eel.specs.Answers.Profile.{AreCells, plan_with}
 use Rattle.v8_process.specs.Start.{start_of}
 use Rattle.exact_counts.specs.Stops.{dump_at}
-use Rattle.eel.specs.Answers.Counts.{AreExact, AreOfWholeRuns, IsOfRun, IsProfile}
+use Rattle.eel_reports.specs.Answers.Trees.{AreCells}
+use Rattle.eel.specs.Answers.Profile.{plan_with}
+use Rattle.eel.specs.Answers.ExactCounts.{AreExact, AreOfWholeRuns, IsOfRun, IsProfile}
 
 -- counters off a spanning tree are a profile's
 pub off_tree : (graph : Graph) (marks weights : List ℕ) (cells : List (Option ℕ)) → AreCells graph weights cells

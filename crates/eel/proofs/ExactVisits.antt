@@ -38,12 +38,13 @@ use Rattle.instr_counts.specs.Matches.{AreNoted, Matches}
 use Rattle.instr_counts.specs.Visits.{AreSingle, finished, is_begun, leads_to, one_if, runs_slot, sum_where}
 use Rattle.instr_counts.proofs.Counted.{visits_are_counted}
 use Rattle.instr_counts.proofs.Single.{words_are_blocks}
-use Rattle.eel.specs.Answers.Every.{every_view, every_word}
-use Rattle.eel.specs.Answers.Restore.{original_in}
-use Rattle.eel.specs.Answers.Counts.{IsOfRun}
-use Rattle.eel.specs.Answers.Visits.{AreExactVisits, HasEveryWord}
+use Rattle.eel_reports.specs.Answers.Every.{every_view, every_word}
+use Rattle.eel_reports.specs.Answers.Restore.{original_in}
+use Rattle.eel_reports.specs.Answers.Visits.{HasEveryWord}
+use Rattle.eel_reports.proofs.Marked.{leads_marked}
+use Rattle.eel.specs.Answers.ExactCounts.{IsOfRun}
+use Rattle.eel.specs.Answers.ExactVisits.{AreExactVisits}
 use Rattle.eel.proofs.ExactProfiles.{are_exact, is_profiled, one_notes}
-use Rattle.eel.proofs.Marked.{leads_marked}
 
 -- ---- sums of the same counts
 

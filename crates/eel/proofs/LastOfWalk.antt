@@ -35,8 +35,8 @@ use Rattle.edge_ring.specs.Ring.{last_of, ring_on}
 use Rattle.edge_ring.specs.Traces.{IsTrace}
 use Rattle.edge_ring.proofs.Stores.{stores_are_rings}
 use Rattle.edge_ring.proofs.Told.{rings_tell}
-use Rattle.eel.specs.Answers.Edit.{edges_in}
 use Rattle.cfg_view.specs.View.{view_of}
+use Rattle.eel.specs.Answers.Edit.{edges_in}
 use Rattle.eel.specs.Code.{EditsAreTraces}
 use Rattle.eel.specs.Answers.LastEdges.{IsTraceOf}
 use Rattle.eel.specs.Answers.Trace.{trace_plan}

@@ -1,4 +1,5 @@
 pub mod Answered
+pub mod Begun
 pub mod Cells
 pub mod Dumping
 pub mod EditedProfiles
@@ -9,9 +10,6 @@ pub mod Few
 pub mod Missed
 pub mod NotEvery
 pub mod LastOfWalk
-pub mod Later
-pub mod Marked
-pub mod Made
 pub mod Meanings
 pub mod Reported
 pub mod Restoring

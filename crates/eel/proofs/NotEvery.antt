@@ -5,9 +5,11 @@ use Rattle.std.specs.Prelude.{Ok}
 use Rattle.notes.specs.Format.{Notes, notes_of}
 use Rattle.dump_file.specs.Dump.{Dump}
 use Rattle.eel_said.specs.Outcome.{Outcome, NotEveryWord, NoProfile, NoCounts, OutOfMemory}
-use Rattle.eel.specs.Answers.Counts.{IsOfRun, IsUncounted, MayMiss}
-use Rattle.eel.specs.Answers.Every.{every_word}
-use Rattle.eel.specs.Answers.Visits.{AreSeldomUnvisited, IsUnvisited}
+use Rattle.eel_reports.specs.Answers.Counts.{IsUncounted}
+use Rattle.eel_reports.specs.Answers.Every.{every_word}
+use Rattle.eel_reports.specs.Answers.Visits.{IsUnvisited}
+use Rattle.eel.specs.Answers.ExactCounts.{IsOfRun, MayMiss}
+use Rattle.eel.specs.Answers.ExactVisits.{AreSeldomUnvisited}
 use Rattle.eel.proofs.ExactVisits.{has_every_word}
 use Rattle.eel.proofs.Missed.{seldom_missed}
 

@@ -6,12 +6,11 @@ use Rattle.notes.specs.Format.{Notes, notes_of}
 use Rattle.dump_file.specs.Dump.{Dump}
 use Rattle.eel_said.specs.declared.command.Report.{Report}
 use Rattle.eel_said.specs.declared.command.Report.TheVariants as reports
-use Rattle.eel_said.specs.Shared.{Outside, Store, HaveFailed, written_limit}
+use Rattle.eel_said.specs.Shared.{Outside, Store, HaveFailed, written_limit, IsQuiet}
 use Rattle.eel_said.specs.Outcome.{Outcome}
-use Rattle.eel.specs.Answers.Noted.{dump_limit}
+use Rattle.eel_reports.specs.Answers.Noted.{dump_limit}
+use Rattle.eel_reports.specs.Answers.Steps.{Prints, Reads}
 use Rattle.eel.specs.Answers.Report.{HasNone, IsExact, IsReported, Reports, Tell, report_means}
-use Rattle.eel.specs.Answers.Steps.{Prints, Reads}
-use Rattle.eel_said.specs.Shared.{IsQuiet}
 use Rattle.eel.proofs.ExactProfiles.{are_exact, are_of_whole_runs}
 use Rattle.eel.proofs.ExactVisits.{exact_visits}
 use Rattle.eel.proofs.Meanings.{IsByStatus, prints_by_status}

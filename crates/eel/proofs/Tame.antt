@@ -41,10 +41,10 @@ use Rattle.exact_counts.proofs.Little.{profiles_need_little}
 use Rattle.exact_counts.proofs.Noted.{edge_count}
 use Rattle.exact_counts.proofs.Soon.{profiles_end_soon}
 use Rattle.exact_counts.proofs.Totals.{executions_add_up}
-use Rattle.eel.specs.Answers.Demo.{EndsAlone, alone, walk_alone}
+use Rattle.eel_reports.specs.Answers.Demo.{EndsAlone, alone, walk_alone}
+use Rattle.eel_reports.specs.Tame.{AreAbove, EndsWithin, IsTame}
 use Rattle.eel.specs.Answers.Dump.{IsNoted}
-use Rattle.eel.specs.Private.{IsProfileOf, ProfileRefuses, guessed, profile_plan}
-use Rattle.eel.specs.Tame.{AreAbove, EndsWithin, IsLastDump, IsTame}
+use Rattle.eel.specs.Private.{IsProfileOf, ProfileRefuses, guessed, profile_plan, IsLastDump}
 use Rattle.eel.proofs.EditedProfiles.{edit_is_profiled}
 use Rattle.eel.proofs.ExactProfiles.{one_notes}
 

@@ -11,7 +11,7 @@ use Rattle.edge_ring.specs.Code.{IsRefused}
 use Rattle.eel_said.specs.declared.outcome.CountCause.{CountCause}
 use Rattle.eel_said.specs.declared.outcome.CountCause.TheVariants as causes
 use Rattle.eel_said.specs.Outcome.{Outcome, NoTrace, NoCounts, BadCell, OutOfMemory}
-use Rattle.eel.specs.Answers.Counts.{MayMiss}
+use Rattle.eel.specs.Answers.ExactCounts.{MayMiss}
 use Rattle.eel.specs.Answers.LastEdges.{AreSeldomUntold, AreTheLast, HasRingCause, IsOfTraced, IsUntold}
 use Rattle.eel.proofs.LastOfWalk.{MayHide, hidden, last_told}
 

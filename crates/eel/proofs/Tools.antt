@@ -1,23 +1,16 @@
 -- What is put on edges is what its tool asks for, and so the edit by that is one as the words ask.
-use Rattle.std.proofs.Common.{◌≡◌, ℕ, zero, suc, ◌+◌, ◌*◌, ◌^◌, ◌<◌, ◌≤◌, inl, inr, if◌then◌else◌, List, [], ◌∷◌, length, map, Option, Some, None, Result, Ok, Err, refl, ap, sym, subst, ◌∙◌, arith}
+use Rattle.std.proofs.Common.{◌≡◌, ℕ, zero, suc, ◌+◌, ◌*◌, ◌^◌, ◌<◌, ◌≤◌, if◌then◌else◌, List, [], ◌∷◌, length, map, Option, Some, None, Result, Ok, Err, refl, ap, sym, subst, ◌∙◌, arith}
 use Rattle.std.specs.Prelude.{IfErr, IfOk, get_or, unwrap_or}
 use Rattle.std.specs.List.{range_with_len}
 use Rattle.std.specs.Option.{is_some}
 use Rattle.std.proofs.Math.Nat.{pow-le-pow_right}
-use Rattle.std.proofs.lemmas.Bool.{cases_lt}
-use Rattle.std.proofs.lemmas.List.{ext_get_or, get_or-map, get_or_past, length-map}
+use Rattle.std.proofs.lemmas.List.{ext_get_or, get_or-map, length-map}
 use Rattle.std.proofs.lemmas.List.FromFn.{get_or-map-range_with_len, length-map-range_with_len}
 use Rattle.std.proofs.lemmas.Option.{slice_get-get_or}
 use Rattle.eel_base.specs.declared.numbers.WordNo.{WordNo}
 use Rattle.flows.specs.Flows.{EdgeSet, count_below}
 use Rattle.snippets.specs.declared.snippet.Op.{Op}
 use Rattle.snippets.specs.declared.snippet.Op.TheVariants.{Count}
-use Rattle.snippets.specs.declared.script.Script.{Script}
-use Rattle.snippets.specs.Cells.{WorksBelow}
-use Rattle.snippets.specs.Grammar.{AllSay}
-use Rattle.snippets.specs.Code.{IsScript}
-use Rattle.snippets.specs.Scripts.{cell_end, edge_end, end_of, ops_on as script_ops}
-use Rattle.snippets.proofs.Within.{good_within}
 use Rattle.span_tree.specs.Cells.{AreNumbered, cell_at, cell_count, has_cell}
 use Rattle.span_tree.specs.Links.{no_edge}
 use Rattle.span_tree.specs.Weights.{weights_of}
@@ -40,38 +33,13 @@ use Rattle.edit_core.specs.Written.{IsTheEdit}
 use Rattle.edit_core.proofs.Outwardly.{does_the_same}
 use Rattle.exact_counts.specs.Profiles.{counter_in}
 use Rattle.eel_said.specs.Command as words
+use Rattle.eel_reports.specs.Answers.Trees.{AreCells}
 use Rattle.eel.specs.Answers.Edit.{IsEditOf, plan_of}
-use Rattle.eel.specs.Answers.Profile.{AreCells, AsksCounters, AsksGuessed}
+use Rattle.eel.specs.Answers.Profile.{AsksCounters, AsksGuessed}
 use Rattle.eel.specs.Answers.Tool.{Asks}
-use Rattle.eel.specs.Private.{HasCells, IsFit, IsProfileOf, MayAsk, ProfileRefuses, Says, cells_of, guessed, kind_of, ops_on, plan_for}
+use Rattle.eel.specs.Private.{IsFit, IsProfileOf, MayAsk, ProfileRefuses, Says, cells_of, guessed, kind_of, ops_on, plan_for}
 use Rattle.eel.specs.declared.edge_work.EdgeWork.{EdgeWork}
 use Rattle.eel.specs.declared.edge_work.EdgeWork.TheVariants as works
-
-none_below : (cells : ℕ) → WorksBelow cells []
-none_below cells = λ k d within. absurd (omega arith)
-
--- a list that is made for each number up to some has only what each of them has, or nothing
-made_below : (cells : ℕ) (ops : ℕ → List Op) (count : ℕ) → ((edge : ℕ) → WorksBelow cells (ops edge)) → (edge : ℕ)
-    → WorksBelow cells (get_or (map ops (range_with_len 0 count)) edge [])
-made_below cells ops count each edge = elim (cases_lt edge count) [
-  | inl within ↦ rw (get_or-map-range_with_len ops 0 count edge edge [] within (omega arith)) (each edge)
-  | inr past ↦
-      let long = length-map-range_with_len ops 0 count in
-      rw (get_or_past (map ops (range_with_len 0 count)) edge [] (omega (arith, past, long))) (none_below cells)
-]
-
--- a good script has few cells, and works on them
-pub script_has_cells : (edges : ℕ) (lines : List (List ℕ)) (said : _) (script : Script) → AllSay lines said
-    → IsScript edges said script → HasCells script
-script_has_cells edges lines said script all is =
-    let within = good_within edges lines said all is.good in
-    record {
-      few = subst (λ (n : ℕ). n ≤ 2 ^ 22) (sym is.cells) within.cells_few;
-      below = λ edge.
-          subst (λ (n : ℕ). WorksBelow n (get_or script.snips.items edge [])) (sym is.cells)
-          (subst (λ (xs : List (List Op)). WorksBelow (end_of cell_end said) (get_or xs edge [])) (sym is.snips)
-          (made_below (end_of cell_end said) (λ e. script_ops e said) (end_of edge_end said) within.cells_below edge));
-    }
 
 -- ---- answers that are known
 

@@ -7,11 +7,12 @@ use Rattle.dump_file.specs.Reading.{read_dump}
 use Rattle.eel_said.specs.declared.command.Report.{Report}
 use Rattle.eel_said.specs.declared.command.Report.TheVariants as reports
 use Rattle.eel_said.specs.Outcome.{Outcome, NoNotes, BadNotes, BadDump, NotEveryWord, NoProfile, NoTrace, NoCounts, BadCell, OutOfMemory, status_of}
-use Rattle.eel.specs.Answers.Counts.{IsUncounted, MayMiss}
+use Rattle.eel_reports.specs.Answers.Counts.{IsUncounted}
+use Rattle.eel_reports.specs.Answers.Noted.{AreRead, IsUndumped, IsUnnoted}
+use Rattle.eel_reports.specs.Answers.Visits.{IsUnvisited}
+use Rattle.eel.specs.Answers.ExactCounts.{MayMiss}
 use Rattle.eel.specs.Answers.LastEdges.{IsUntold}
-use Rattle.eel.specs.Answers.Noted.{AreRead, IsUndumped, IsUnnoted}
 use Rattle.eel.specs.Answers.Report.{IsRefused, IsSeldom, IsUnreported}
-use Rattle.eel.specs.Answers.Visits.{IsUnvisited}
 use Rattle.eel.proofs.ExactProfiles.{one_notes}
 use Rattle.eel.proofs.Meanings.{IsBad, bad}
 use Rattle.eel.proofs.Missed.{seldom_missed}

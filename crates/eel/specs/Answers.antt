@@ -1,39 +1,27 @@
 -- What comes of the words of a call, and why, and what is there afterwards: each command has a file.
-pub mod Files
-pub mod Noted
-pub mod Steps
 pub mod Edit
 pub mod Script
 pub mod Profile
-pub mod Every
-pub mod Weighed
 pub mod Trace
 pub mod Tool
-pub mod Run
 pub mod Dump
-pub mod Show
-pub mod List
-pub mod Print
-pub mod Words
-pub mod Restore
-pub mod Counts
-pub mod Visits
+pub mod ExactCounts
+pub mod ExactVisits
 pub mod LastEdges
 pub mod Report
-pub mod Demo
 use Rattle.std.specs.Prelude.{◌≡◌, ℕ, ◌≤◌, ◌⊎◌}
 use Rattle.eel_base.specs.Outside.{Rose, appended}
 use Rattle.eel_said.specs.Command.{Command}
 use Rattle.eel_said.specs.Command as words
 use Rattle.eel_said.specs.Outcome.{Outcome, BadWords, Stream, Shows, line_of, status_of}
 use Rattle.eel_said.specs.Shared.{Outside, Meaning, with_err, IsUnused, IsQuiet, IsSilent}
+use Rattle.eel_reports.specs.Answers.Print.{show_means}
+use Rattle.eel_reports.specs.Answers.Words.{words_means}
+use Rattle.eel_reports.specs.Answers.Restore.{restore_means}
+use Rattle.eel_reports.specs.Answers.Demo.{demo_means}
 use Rattle.eel.specs.Answers.Tool.{edit_means}
 use Rattle.eel.specs.Answers.Dump.{run_means}
-use Rattle.eel.specs.Answers.Print.{show_means}
-use Rattle.eel.specs.Answers.Words.{words_means}
-use Rattle.eel.specs.Answers.Restore.{restore_means}
 use Rattle.eel.specs.Answers.Report.{report_means}
-use Rattle.eel.specs.Answers.Demo.{demo_means}
 
 -- words outside the grammar
 abbrev pub unknown_means : Meaning

@@ -5,9 +5,10 @@ use Rattle.v8_step.specs.State.{AreBytes}
 use Rattle.cfg_view.specs.View.{view_of}
 use Rattle.edge_ring.specs.Traces.{IsTrace}
 use Rattle.eel_said.specs.Shared.{edit_limit}
+use Rattle.eel_reports.specs.Answers.Trees.{AreCells}
 use Rattle.eel.specs.Answers.Edit.{IsEditOf}
-use Rattle.eel.specs.Answers.Profile.{AreCells, plan_with}
-use Rattle.eel.specs.Answers.Counts.{IsProfile}
+use Rattle.eel.specs.Answers.Profile.{plan_with}
+use Rattle.eel.specs.Answers.ExactCounts.{IsProfile}
 use Rattle.eel.specs.Answers.Trace.{trace_plan}
 use Rattle.eel.specs.Answers.LastEdges.{IsTraceOf}
 

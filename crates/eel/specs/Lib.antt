@@ -1,6 +1,4 @@
 pub mod Answers
 pub mod Cells
-pub mod Tame
-pub mod Refusals
 pub mod Code
 pub mod Private

@@ -14,17 +14,15 @@ ghost use Rattle.eel_said.specs.Code.{outcome_seen};
 ghost use Rattle.eel_said.specs.Seen.{files_seen, outside_seen, stream_seen};
 ghost use Rattle.eel_said.specs.Shared.{Feed, outside};
 ghost use Rattle.edit_core.specs.Faithful.{holds_cells};
+ghost use Rattle.exact_counts.specs.Stops.{length_told as length_told_of, dump_of as dump_of_state};
 ghost use Rattle.eel.specs.Private.{was_broken as was_broken_of, IsPutAfter};
 ghost use Rattle.eel.specs.Answers.Dump.{Runs, IsDumped, IsNotNoted, IsNoted};
-ghost use Rattle.exact_counts.specs.Stops.{length_told as length_told_of, dump_of as dump_of_state};
 ghost use Rattle.eel.specs.Cells.{AreLoadable, KeepCells, has_cells as has_cells_of};
 
-use crate::inputs::notes_in;
-use crate::run::{Job, WRITTEN_LIMIT, outcome_of, start};
-use crate::texts::{fetch_file, read_input};
 use bitflags::Flags;
 use dump_file::{Dump, write_dump};
 use eel_base::{Addr, Files, NoMemory, PutFault, Sink, Source};
+use eel_reports::{Job, begin, notes_in, outcome_of};
 use eel_said::Outcome;
 use elf32_sparc::{SegFlags, Segment, read_segments};
 use notes::Notes;
@@ -59,16 +57,8 @@ pub fn run_for_dump<'a, F: Files, I: Source, O: Sink, E: Sink>(
     ensures out_faults { O.faults out.old ≤ O.faults out.new }
     ensures err_faults { E.faults err.old ≤ E.faults err.new }
 {
-    let bytes = match fetch_file(alloc, files, job.file, WRITTEN_LIMIT) {
-        Ok(bytes) => bytes,
-        Err(outcome) => return outcome,
-    };
-    let given = match read_input(alloc, input) {
-        Ok(given) => given,
-        Err(outcome) => return outcome,
-    };
-    let machine = match start(alloc, job, &bytes, given) {
-        Ok(machine) => machine,
+    let (bytes, machine) = match begin(alloc, job, files, input) {
+        Ok(begun) => begun,
         Err(outcome) => return outcome,
     };
     let notes = match noted(alloc, job.file, &bytes) {

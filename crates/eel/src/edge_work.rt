@@ -8,9 +8,10 @@ ghost use Rattle.span_tree.specs.Cells.{cell_at, cell_count};
 ghost use Rattle.edge_ring.specs.Ring.{ring_on};
 ghost use Rattle.edit_core.specs.Code.{EditRefuses};
 ghost use Rattle.exact_counts.specs.Profiles.{counter_in};
+ghost use Rattle.eel_reports.specs.Answers.Files.{IsSound};
+ghost use Rattle.eel_reports.specs.Code.{HasCells};
 ghost use Rattle.eel.specs.Answers.Edit.{IsEditOf};
-ghost use Rattle.eel.specs.Answers.Files.{IsSound};
-ghost use Rattle.eel.specs.Private.{HasCells, IsFit, cells_of, kind_of, ops_on, plan_for};
+ghost use Rattle.eel.specs.Private.{IsFit, cells_of, kind_of, ops_on, plan_for};
 
 use cfg_view::View;
 use edit_core::{EditFault, edit_view};

@@ -9,14 +9,10 @@ ghost use Rattle.eel_said.specs.Seen.{files_seen, stream_seen};
 ghost use Rattle.eel_said.specs.Shared.{Feed, outside};
 ghost use Rattle.eel.specs.Answers.Report.{IsRefused, IsReported, IsUnreported, Reports, Tell};
 
-use crate::counts::count_lines;
-use crate::inputs::{dump_in, notes_in};
 use crate::last_edges::edge_lines;
-use crate::run::WRITTEN_LIMIT;
-use crate::texts::{fetch_file, print};
-use crate::visits::visit_lines;
 use dump_file::Dump;
 use eel_base::{Files, Sink};
+use eel_reports::{WRITTEN_LIMIT, count_lines, dump_in, fetch_file, notes_in, print, visit_lines};
 use eel_said::{Outcome, Report};
 use notes::Notes;
 use std::alloc::Global;

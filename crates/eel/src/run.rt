@@ -1,32 +1,14 @@
-//! The command `run`.
-ghost use Rattle.std.specs.Prelude.{◌≡◌, ◌≤◌, IfOk, IfErr, OnOk, None};
-ghost use Rattle.elf32_sparc.specs.FileFault.{load_fault};
+//! The command `run` without a dump.
+ghost use Rattle.std.specs.Prelude.{◌≤◌, None};
 ghost use Rattle.v8_process.specs.Arguments.{AreArguments, texts};
-ghost use Rattle.v8_process.specs.Start.{start_of};
 ghost use Rattle.eel_said.specs.Code.{outcome_seen};
-ghost use Rattle.eel_said.specs.Seen.{outside_seen, stream_seen};
-ghost use Rattle.eel.specs.Answers.Run.{IsNotRun, IsRun};
-ghost use Rattle.eel.specs.Private.{stopped_of};
+ghost use Rattle.eel_said.specs.Seen.{outside_seen};
 ghost use Rattle.eel.specs.Answers.Dump.{Runs};
 
-use crate::texts::{fetch_file, read_input};
 use eel_base::{Files, Sink, Source};
+use eel_reports::{Job, begin, run_machine};
 use eel_said::Outcome;
 use std::alloc::Global;
-use v8_process::{LoadFault, load};
-use v8_runner::{RunEnd, Stop, run};
-use v8_step::Machine;
-
-/// How many bytes a file may have that is run, or that an edit has written.
-pub const WRITTEN_LIMIT: u64 = 1536 << 20;
-
-/// A program that is to run.
-#[derive(Clone, Copy)]
-pub struct Job<'a> {
-    pub file: &'a str,
-    pub limit: u64,
-    pub args: &'a [&'a str],
-}
 
 /// Reads the program and all of its input, and runs it. What it puts out goes to `out` and `err`.
 pub fn run_program<'a, F: Files, I: Source, O: Sink, E: Sink>(
@@ -47,73 +29,8 @@ pub fn run_program<'a, F: Files, I: Source, O: Sink, E: Sink>(
     ensures out_faults { O.faults out.old ≤ O.faults out.new }
     ensures err_faults { E.faults err.old ≤ E.faults err.new }
 {
-    let bytes = match fetch_file(alloc, files, job.file, WRITTEN_LIMIT) {
-        Ok(bytes) => bytes,
-        Err(outcome) => return outcome,
-    };
-    let given = match read_input(alloc, input) {
-        Ok(given) => given,
-        Err(outcome) => return outcome,
-    };
-    match start(alloc, job, &bytes, given) {
-        Ok(machine) => run_machine(machine, job.limit, out, err),
+    match begin(alloc, job, files, input) {
+        Ok((_, machine)) => run_machine(machine, job.limit, out, err),
         Err(outcome) => outcome,
-    }
-}
-
-/// The machine that is about to run the program.
-pub fn start<'a>(
-    alloc: Global,
-    job: Job<'a>,
-    bytes: &[u8],
-    given: Vec<u8>,
-) -> Result<Machine, Outcome<'a>>
-    requires few { AreArguments (texts job.args.now) }
-    ensures machine { IfOk result (λ machine.
-        machine ≡ start_of bytes.now (texts job.entry.args.now) given.items) }
-    ensures loads { OnOk result (load_fault bytes.now ≡ None) }
-    ensures refused { IfErr result (λ outcome.
-        IsNotRun job.entry.file.now bytes.now (outcome_seen outcome)) }
-{
-    match load(alloc, bytes, job.args, given) {
-        Ok(machine) => Ok(machine),
-        Err(LoadFault::File(fault)) => Err(Outcome::BadFile {
-            name: job.file,
-            code: fault.code(),
-        }),
-        Err(LoadFault::NoMemory) => Err(Outcome::OutOfMemory),
-    }
-}
-
-/// Runs the machine.
-fn run_machine<O: Sink, E: Sink>(
-    mut machine: Machine,
-    limit: u64,
-    out: &mut O,
-    err: &mut E,
-) -> Outcome<'static>
-    ensures ran { IsRun machine limit
-        (stream_seen O.Sink out.old) (stream_seen O.Sink out.new) (stream_seen E.Sink err.old) (stream_seen E.Sink err.new)
-        (outcome_seen result) }
-    ensures out_faults { O.faults out.old ≤ O.faults out.new }
-    ensures err_faults { E.faults err.old ≤ E.faults err.new }
-{
-    outcome_of(run(&mut machine, limit, out, err))
-}
-
-/// What the end of a run comes to.
-pub fn outcome_of(end: RunEnd) -> Outcome<'static>
-    ensures { outcome_seen result ≡ stopped_of end.stop end.steps }
-{
-    match end.stop {
-        Stop::Limit => Outcome::Stopped {
-            ending: None,
-            steps: end.steps,
-        },
-        Stop::Ended(ending) => Outcome::Stopped {
-            ending: Some(ending),
-            steps: end.steps,
-        },
-        Stop::SinkFault => Outcome::DeviceFault,
     }
 }

@@ -10,11 +10,9 @@ use crate::demo::demonstrate;
 use crate::dumps::run_for_dump;
 use crate::edit::edit_file;
 use crate::report::report_run;
-use crate::restore::restore_original;
-use crate::run::{Job, run_program};
-use crate::show::show_program;
-use crate::words::assemble_words;
+use crate::run::run_program;
 use eel_base::{Files, Sink, Source};
+use eel_reports::{Job, assemble_words, restore_original, show_program};
 use eel_said::{Command, Outcome, parse};
 use std::alloc::Global;
 

@@ -16,8 +16,8 @@ use Rattle.exact_counts.specs.Stops.{dump_of}
 use Rattle.v8_runner.specs.Made.{AreMade}
 use Rattle.eel_said.specs.Outcome.{Outcome, Stopped, BadNotes, OutOfMemory, DeviceFault, Done}
 use Rattle.eel_said.specs.Shared.{HaveFailed, Outside, Meaning, WasRead, IsUnread, IsPut, IsUnused, IsQuiet, IsSilent, written_limit}
-use Rattle.eel.specs.Answers.Noted.{IsUnnoted}
-use Rattle.eel.specs.Answers.Run.{HasRun, IsNotRun, IsRun, IsUnfed, StopsAt, WasBroken, WasFed}
+use Rattle.eel_reports.specs.Answers.Noted.{IsUnnoted}
+use Rattle.eel_reports.specs.Answers.Run.{HasRun, IsNotRun, IsRun, IsUnfed, StopsAt, WasBroken, WasFed}
 
 -- ---- the notes
 

@@ -22,7 +22,7 @@ use Rattle.eel_said.specs.declared.outcome.CountCause.{CountCause}
 use Rattle.eel_said.specs.declared.outcome.CountCause.TheVariants as causes
 use Rattle.eel_said.specs.Outcome.{Outcome, NoTrace, NoCounts, BadCell, OutOfMemory}
 use Rattle.eel.specs.Answers.Trace.{trace_plan}
-use Rattle.eel.specs.Answers.Counts.{MayMiss}
+use Rattle.eel.specs.Answers.ExactCounts.{MayMiss}
 
 -- ---- refusals
 

@@ -8,10 +8,12 @@ use Rattle.eel_said.specs.declared.command.Report.{Report}
 use Rattle.eel_said.specs.declared.command.Report.TheVariants as reports
 use Rattle.eel_said.specs.Outcome.{Outcome}
 use Rattle.eel_said.specs.Shared.{Outside, Meaning, IsQuiet, HaveFailed, prints_mean, written_limit}
-use Rattle.eel.specs.Answers.Steps.{Prints, Reads}
-use Rattle.eel.specs.Answers.Noted.{AreRead, AreUnread, dump_limit}
-use Rattle.eel.specs.Answers.Counts.{AreExact, AreOfWholeRuns, AreSeldomMissed, IsUncounted, TellCounts}
-use Rattle.eel.specs.Answers.Visits.{AreExactVisits, AreSeldomUnvisited, IsUnvisited, TellVisits}
+use Rattle.eel_reports.specs.Answers.Steps.{Prints, Reads}
+use Rattle.eel_reports.specs.Answers.Noted.{AreRead, AreUnread, dump_limit}
+use Rattle.eel_reports.specs.Answers.Counts.{IsUncounted, TellCounts}
+use Rattle.eel_reports.specs.Answers.Visits.{IsUnvisited, TellVisits}
+use Rattle.eel.specs.Answers.ExactCounts.{AreExact, AreOfWholeRuns, AreSeldomMissed}
+use Rattle.eel.specs.Answers.ExactVisits.{AreExactVisits, AreSeldomUnvisited}
 use Rattle.eel.specs.Answers.LastEdges.{AreSeldomUntold, AreTheLast, IsUntold, TellEdges}
 
 -- ---- what is told by the notes of a file and a dump

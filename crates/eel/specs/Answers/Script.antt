@@ -1,21 +1,11 @@
 -- `edit IN OUT script S` puts what the lines of S say on the edges of IN.
-use Rattle.std.specs.Prelude.{◌≡◌, ℕ, ◌*◌, ◌^◌, List, [], get_or, length, Option, Some, None}
+use Rattle.std.specs.Prelude.{◌≡◌, ℕ, List, [], get_or, length}
 use Rattle.snippets.specs.declared.snippet.Op.{Op}
-use Rattle.snippets.specs.declared.script.ScriptFault.{ScriptFault}
-use Rattle.snippets.specs.declared.script.ScriptFault.TheVariants as script_faults
 use Rattle.snippets.specs.Grammar.{AllSay, lines_of}
-use Rattle.snippets.specs.Scripts.{IsFirstFault, IsGood, cell_end, end_of, snips_of}
+use Rattle.snippets.specs.Scripts.{IsGood, cell_end, end_of, snips_of}
 use Rattle.tool_kit.specs.declared.edge_ref.ToolKind.TheVariants as tools
 use Rattle.tool_kit.specs.Plans.{Plan}
-use Rattle.eel_said.specs.declared.outcome.LineCause.{LineCause}
-use Rattle.eel_said.specs.declared.outcome.LineCause.TheVariants as causes
 use Rattle.eel.specs.Answers.Edit.{asked, edges_in, plan_of}
-
--- how long a script may be
-abbrev pub script_limit : ℕ
-script_limit = 16 * 2 ^ 20
-
--- ---- what the tool asks for
 
 -- `script S` asks for the snippet of each edge, and for nothing past the last one that has any.
 abbrev pub script_plan : List ℕ → List (List Op) → ℕ → Plan
@@ -27,19 +17,3 @@ abbrev pub IsScripted : List ℕ → List ℕ → Plan → Type 0
 IsScripted bytes lines plan =
     (said : _) × AllSay (lines_of lines) said × IsGood (length (edges_in bytes)) said
     × (plan ≡ script_plan bytes (snips_of said) (end_of cell_end said))
-
--- ---- refusals
-
--- the number of the bad line that a fault names, and what is bad about it
-abbrev pub line_cause : ScriptFault → Option (ℕ × LineCause)
-line_cause (script_faults.Line number) = Some (number, causes.Grammar)
-line_cause (script_faults.Edge number) = Some (number, causes.Edge)
-line_cause (script_faults.Cell number) = Some (number, causes.Cell)
-line_cause (script_faults.Ops number) = Some (number, causes.Operations)
-line_cause script_faults.NoMemory = None
-
--- the first bad line of a script, for a graph of so many edges
-abbrev pub HasBadLine : ℕ → List ℕ → ℕ → LineCause → Type 0
-HasBadLine edges lines number cause =
-    (said : _) × (fault : ScriptFault) × AllSay (lines_of lines) said × IsFirstFault edges said fault
-    × (line_cause fault ≡ Some (number, cause))

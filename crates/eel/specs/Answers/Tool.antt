@@ -1,31 +1,25 @@
 -- `edit IN OUT ..` by a tool: the file IN is read, and the lines of another if the tool takes some; both are judged, and IN
 -- is edited as the tool asks, and written as OUT.
-use Rattle.std.specs.Prelude.{◌≡◌, ◌⊎◌, ℕ, List, [], length, Option, Some, None}
+use Rattle.std.specs.Prelude.{◌≡◌, ◌⊎◌, ℕ, List, [], Option, Some, None}
 use Rattle.eel_base.specs.Outside.{IsMissing}
-use Rattle.cfg_view.specs.View.{Seen, view_of}
+use Rattle.cfg_view.specs.View.{view_of}
 use Rattle.tool_kit.specs.Plans.{Plan}
 use Rattle.edit_core.specs.Taken.{IsCramped}
-use Rattle.eel_said.specs.declared.outcome.LineCause.{LineCause}
 use Rattle.eel_said.specs.Command.{Tool}
 use Rattle.eel_said.specs.Command as words
 use Rattle.eel_said.specs.Outcome.{Outcome, BadFile, BadLine, NoRoom, OutOfMemory}
 use Rattle.eel_said.specs.Shared.{Meaning, Store, edit_limit, files_mean}
+use Rattle.eel_reports.specs.Answers.Every.{every_word}
+use Rattle.eel_reports.specs.Answers.Files.{IsFaulty, IsSound}
+use Rattle.eel_reports.specs.Answers.Lines.{IsBadLineOf, lines_of}
+use Rattle.eel_reports.specs.Answers.Steps.{Puts, Reads}
+use Rattle.eel_reports.specs.Answers.Weighed.{AreWeightsOf}
 use Rattle.eel.specs.Answers.Edit.{IsEditOf, plain_plan}
-use Rattle.eel.specs.Answers.Every.{every_word}
-use Rattle.eel.specs.Answers.Files.{IsFaulty, IsSound}
 use Rattle.eel.specs.Answers.Profile.{AsksCounters, AsksGuessed}
-use Rattle.eel.specs.Answers.Script.{HasBadLine, IsScripted, script_limit}
-use Rattle.eel.specs.Answers.Steps.{Puts, Reads}
+use Rattle.eel.specs.Answers.Script.{IsScripted}
 use Rattle.eel.specs.Answers.Trace.{trace_plan}
-use Rattle.eel.specs.Answers.Weighed.{AreWeightsOf, HasBadWeight, weights_limit}
 
 -- ---- what a tool asks for
-
--- the file whose lines it takes, and how many bytes that may have
-abbrev pub lines_of : Tool → Option (List ℕ × ℕ)
-lines_of (words.Weighed weights) = Some (weights, weights_limit)
-lines_of (words.Script script) = Some (script, script_limit)
-lines_of _ = None
 
 -- which plans it asks of a file, by these lines
 abbrev pub Asks : Tool → List ℕ → List ℕ → Plan → Type 0
@@ -36,13 +30,6 @@ Asks (words.Weighed name) bytes lines plan =
 Asks words.Every bytes lines plan = AsksGuessed (every_word bytes) bytes plan
 Asks (words.Trace bits) bytes lines plan = plan ≡ trace_plan bits bytes
 Asks (words.Script name) bytes lines plan = IsScripted bytes lines plan
-
--- The lines are those of the file `named`, and this one is bad for a program, with what is bad about it.
-abbrev pub IsBadLineOf : Tool → Seen → List ℕ → List ℕ → ℕ → LineCause → Type 0
-IsBadLineOf (words.Weighed name) view lines named number cause = (named ≡ name) × HasBadWeight view lines number cause
-IsBadLineOf (words.Script name) view lines named number cause =
-    (named ≡ name) × HasBadLine (length view.graph.edges) lines number cause
-IsBadLineOf _ view lines named number cause = ⊥
 
 -- ---- refusals
 

@@ -1,5 +1,5 @@
 use Rattle.std.proofs.Common.{refl}
-use Rattle.eel.specs.Answers.Steps.{printed}
+use Rattle.eel_reports.specs.Answers.Steps.{printed}
 use Rattle.eel.proofs.demo.demonstrate.Goals as goal
 
 pub returns-in-Ok-clause-tells : goal.returns-in-Ok-clause-tells

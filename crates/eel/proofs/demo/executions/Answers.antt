@@ -11,8 +11,8 @@ last_dump-requires-clause-ends c =
     (ends c.args.original.now c.in_ok-written.written.items c.requires.tame c.in_ok-written.ensures.written
     (notes_seen c.in_ok-notes.notes) (rw c.deref.ensures.value at c.in_ok-notes.ensures.notes))
 
-pub counts-requires-clause-tells : goal.counts-requires-clause-tells
-counts-requires-clause-tells c =
+pub counts_of-requires-clause-tells : goal.counts_of-requires-clause-tells
+counts_of-requires-clause-tells c =
     tells c.args.original.now c.in_ok-written.written.items c.requires.tame c.in_ok-written.ensures.written
     (notes_seen c.in_ok-notes.notes) (rw c.deref.ensures.value at c.in_ok-notes.ensures.notes)
     (dump_seen c.in_ok-dump.dump) (rw c.deref-2.ensures.value at c.in_ok-dump.ensures.dump)

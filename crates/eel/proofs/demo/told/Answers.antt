@@ -1,4 +1,4 @@
-use Rattle.eel.proofs.Made.{made_is_tame}
+use Rattle.eel_reports.proofs.Made.{made_is_tame}
 use Rattle.eel.proofs.demo.told.Goals as goal
 
 pub told_of-requires : goal.told_of-requires

@@ -1,5 +1,5 @@
 use Rattle.std.proofs.Common.{ap, ◌∙◌}
-use Rattle.eel.specs.Answers.Demo.{demo_lines, size_in, size_of}
+use Rattle.eel_reports.specs.Answers.Demo.{demo_lines, size_in, size_of}
 use Rattle.eel.proofs.demo.told_of.Goals as goal
 
 pub returns-clause-lines : goal.returns-clause-lines

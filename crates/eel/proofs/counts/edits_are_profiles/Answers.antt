@@ -1,5 +1,0 @@
-use Rattle.eel.proofs.EditedProfiles.{edits_are_profiles}
-use Rattle.eel.proofs.counts.edits_are_profiles.Goals as goal
-
-pub returns : goal.returns
-returns c = edits_are_profiles
