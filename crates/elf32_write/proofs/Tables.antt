@@ -1,5 +1,5 @@
 -- The section table: an entry more, and how long it is.
-use Rattle.std.proofs.Common.{nat_eq, ap, ◌∙◌, ◌≡◌, ℕ, ◌+◌, ◌*◌, ◌≤◌, List, [], ◌∷◌, ◌++◌, length, drop, append-nil, length-append, refl, add-one, arith}
+use Rattle.std.proofs.Common.{nat_eq, ap, ◌∙◌, ◌≡◌, ℕ, ◌+◌, ◌*◌, ◌<◌, ◌≤◌, List, [], ◌∷◌, ◌++◌, length, drop, get_or, take, append-nil, length-append, refl, add-one, arith}
 use Rattle.std.proofs.lemmas.Bool.{cond_both}
 use Rattle.std.specs.List.{flat_map, range_with_len}
 use Rattle.std.proofs.lemmas.List.{length-take, length-drop}
@@ -9,7 +9,7 @@ use Rattle.elf32_sparc.specs.Header.{word_at}
 use Rattle.elf32_sparc.specs.Symbols.{e_shoff, section_count}
 use Rattle.elf32_sparc.proofs.Functions.{one_more}
 use Rattle.elf32_write.specs.Sections.{moved, section_copy, section_entry, section_table}
-use Rattle.std.proofs.lemmas.Grind.{flat_map-append}
+use Rattle.std.proofs.lemmas.Grind.{common_steps, flat_map-append}
 
 pub entries-more : (h : ℕ → List ℕ) (n : ℕ) → flat_map h (range_with_len 0 (n + 1)) ≡ flat_map h (range_with_len 0 n) ++ h n
 entries-more h n =
@@ -43,3 +43,9 @@ length-section_table delta original =
           (range_with_len 0 (section_count original)),
       length-range_with_len 0 (section_count original),
     )
+
+-- fields that are added one by one
+pub fields-more : (field : ℕ → List ℕ) (numbers : List ℕ) (k : ℕ) (old out bytes new : List ℕ) → k < length numbers
+    → out ≡ old ++ flat_map field (take k numbers) → bytes ≡ field (get_or numbers k 0) → new ≡ out ++ bytes
+    → new ≡ old ++ flat_map field (take (k + 1) numbers)
+fields-more field numbers k old out bytes new within so_far is more = grind (arith, common_steps)

@@ -76,7 +76,6 @@ fn put_section(out: &mut Vec<u8>, entry: &[u8], delta: u32) -> Result<(), NoMemo
 }
 
 /// An entry with its sh_offset further on.
-#[tactic(auto, unfolding(elf32_sparc::specs::Header::word_at, crate::specs::Kept::words_bytes))]
 fn put_moved(out: &mut Vec<u8>, entry: &[u8], delta: u32) -> Result<(), NoMemory>
     ensures { OnOk result (out.new.items ≡ out.old.items ++ moved delta entry.now) }
 {
