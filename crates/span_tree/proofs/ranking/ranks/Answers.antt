@@ -1,0 +1,7 @@
+use Rattle.std.proofs.Common.{add-one}
+use Rattle.std.proofs.lemmas.List.{map-append}
+use Rattle.span_tree.proofs.ranking.ranks.Goals as goal
+
+pub loop-number-preserved : goal.loop-number-preserved
+loop-number-preserved c =
+    rw (c.in_ok-push.ensures.items, c.loop-number.invariant, c.rank.ensures, add-one) (simp (map-append))
