@@ -13,7 +13,7 @@ returns c =
     let inside : c.args.entry.number < length c.args.v.now.graph.edges = slice_get_within _ _ _ edge.1 in
     record {
       taken = record {
-        good = (c.if-entry-self.false, edge);
+        good = (omega arith, edge);
         within = record {
           few = within.few;
           lines = omega arith;
