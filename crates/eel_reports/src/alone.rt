@@ -12,7 +12,7 @@ use v8_process::{LoadFault, load};
 use v8_runner::{Stop, run};
 use v8_step::{Ending, Machine};
 
-/// How many steps each of the two runs makes at most.
+/// How many steps a run makes at most.
 const STEP_LIMIT: u64 = 1 << 40;
 
 /// How a run ended, and after how many steps.
@@ -22,7 +22,7 @@ pub struct End {
     pub steps: u64,
 }
 
-/// How the program's run ends.
+/// How the run of a file ends.
 pub fn run_alone(alloc: Global, original: &[u8]) -> Result<End, NoMemory>
     requires { IsTame original.now }
     ensures { IfOk result (λ end. EndsAlone original.now end.ending end.steps) }
