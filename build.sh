@@ -198,10 +198,10 @@ build_kept() {
     rm -rf "$tree" &
 }
 
-# Builds the library $1. What much stands on goes before others on a processor.
+# Builds the library $1, with the niceness $2.
 build_crate() {
     note begun "$1"
-    case $chain in *" $1 "*) less=0 ;; *) less=10 ;; esac
+    less=$2
     tell_meanwhile "$1" 3>&- 9>&- &
     watcher=$!
     "$way" "$1" >"$logs/$1.log" 2>&1 </dev/null
@@ -229,49 +229,49 @@ build_program() {
 }
 
 # The crates that are to be built, each with what is left from its begin on, by what each took and the longest chain of
-# those that stand on it, and with the share that the longest chain through it is of the longest of all.
+# those that stand on it.
 longest_first() {
     awk -v wanted=" $wanted " '
         /^#/ { next }
         FILENAME ~ /build_times\.txt$/ { took[$1] = $2; next }
         { sub(":", "", $1); if (index(wanted, " " $1 " ")) line[++count] = $0 }
         END {
-            for (at = 1; at <= count; at++) {
-                fields = split(line[at], names)
-                for (field = 2; field <= fields; field++)
-                    if (names[field] in took && ahead[names[field]] + took[names[field]] > ahead[names[1]])
-                        ahead[names[1]] = ahead[names[field]] + took[names[field]]
-            }
             for (; count; count--) {
                 fields = split(line[count], names)
                 left = behind[names[1]] + (names[1] in took ? took[names[1]] : 60)
                 for (field = 2; field <= fields; field++) if (left > behind[names[field]]) behind[names[field]] = left
-                if (left + ahead[names[1]] > longest) longest = left + ahead[names[1]]
-                all[names[1]] = left
+                if (names[1] != "eel_main") print left, names[1]
             }
-            for (name in all) if (name != "eel_main") print all[name], name, int(100 * (all[name] + ahead[name]) / longest)
         }
     ' "$here/build_times.txt" "$here/crates.txt" | sort -rn
 }
 
-# The first of the crates $waiting of which all that it stands on is built.
+# The first of the crates $waiting of which all that it stands on is built, where there is a place for it, and how nice it is
+# to be. One behind which most of all is left goes before the others on a processor, and has one place more than they have,
+# if there is memory for it: so no crate waits for a place while what is left gets longer.
 next_ready() {
-    awk -v built="$built" -v waiting="$waiting" '
+    [ "$running" -lt "$at_most" ] || return 0
+    awk -v built="$built" -v waiting="$waiting" -v lefts="$lefts" -v free="$((at_once - running))" '
         /^#/ { next }
         { name = $1; sub(":", "", name); $1 = ""; needs[name] = $0 }
         END {
+            fields = split(lefts, pair)
+            for (at = 1; at < fields; at += 2) {
+                left[pair[at + 1]] = pair[at]
+                if (!index(built, " " pair[at + 1] " ") && pair[at] > longest) longest = pair[at] + 0
+            }
             split(waiting, names)
             for (at = 1; at in names; at++) {
-                lacking = 0
+                lacking = free <= 0 && left[names[at]] < 0.9 * longest
                 count = split(needs[names[at]], needed)
                 for (n = 1; n <= count; n++) if (needed[n] in needs && !index(built, " " needed[n] " ")) lacking = 1
-                if (!lacking) { print names[at]; exit }
+                if (!lacking) { print names[at], (left[names[at]] < 0.8 * longest ? 5 : 0); exit }
             }
         }
     ' "$here/crates.txt"
 }
 
-# Begins each crate as soon as what it stands on is built and there is room, of several the first.
+# Begins each crate as soon as what it stands on is built and there is a place, of several the first.
 # Each tells its end and its status through the pipe. What stands above one that fails isn't begun.
 build_in_turn() {
     ends=$logs/ends waiting="$*" failed= running=0
@@ -279,9 +279,10 @@ build_in_turn() {
     # A shell keeps interrupts from what it runs beside itself.
     trap 'trap "" TERM; kill -TERM 0; echo "eel: interrupted: what is proved stays, and the next call goes on"; exit 130' INT
     while
-        while [ "$running" -lt "$at_once" ] && crate=$(next_ready) && [ "$crate" ]; do
+        while ready=$(next_ready) && [ "$ready" ]; do
+            crate=${ready% *}
             (
-                (build_crate "$crate") 3>&-
+                (build_crate "$crate" "${ready#* }") 3>&-
                 echo "$crate $?" >&3
             ) 2>/dev/null &
             running=$((running + 1))
@@ -366,18 +367,19 @@ build_all() {
     times=$logs/all.times
     : >"$times"
     memory=$(sed -n 's/^MemAvailable: *\([0-9]*\) kB/\1/p' /proc/meminfo)
-    most=$((${memory:-0} / 4000000))
+    places=$((${memory:-0} / 4000000))
+    [ "$places" -ge 1 ] || places=1
+    most=$places
     [ "$most" -le "$(nproc)" ] || most=$(nproc)
-    [ "$most" -ge 1 ] || most=1
-    at_once=$most
+    at_once=$most at_most=$((places > most ? most + 1 : most))
     unpack
-    chain=" $(longest_first | awk '$3 >= 80 { print $2 }' | tr '\n' ' ')"
+    lefts=$(longest_first | tr '\n' ' ')
     parts="$count parts, $at_once at once, $(minutes_left) min"
     echo "eel: proving and building the program, once for these sources: $parts" >&2
     build_in_turn $(longest_first | cut -d ' ' -f 2) >&2
     if [ "$failed" ] && ! is_full; then
         # What failed, as for want of memory beside others, is proved again alone.
-        at_once=1 most=1
+        at_once=1 at_most=1 most=1
         build_in_turn $(for name in $(longest_first | cut -d ' ' -f 2); do
             case $built in *" $name "*) ;; *) echo "$name" ;; esac
         done) >&2
