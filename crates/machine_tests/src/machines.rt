@@ -76,3 +76,8 @@ pub fn machine(alloc: Global, code: &[u32], data: &[u32], input: &[u8]) -> Resul
 pub fn register(number: u8) -> Result<Reg, Fail> {
     Ok(Reg::new(number).ok_or("a register")?)
 }
+
+/// The word that the machine's memory has at an address.
+pub fn word_at(machine: &Machine, address: Addr) -> Result<u32, Fail> {
+    Ok(machine.memory().load32(address).ok().ok_or("memory")?)
+}

@@ -1,7 +1,7 @@
 //! The code of snippets, run on a machine, and the registers that are picked for it.
 ghost use Rattle.snippet_code.specs.Laws.{EndsLow};
 
-use crate::machines::{DATA, machine, register};
+use crate::machines::{DATA, machine, register, word_at};
 use eel_base::{Addr, NullSink};
 use scavenge::pick;
 use snippet_code::expand;
@@ -44,7 +44,7 @@ fn outcome(alloc: Global, op: Op, dead: RegSet, cells: &[u32]) -> Result<(usize,
     );
     let mut after = [0; 5];
     for i in 0..5 {
-        after[i] = machine.memory().load32(Addr(DATA.0 + 4 * i as u32))?;
+        after[i] = word_at(&machine, Addr(DATA.0 + 4 * i as u32))?;
     }
     Ok((words.len(), after))
 }

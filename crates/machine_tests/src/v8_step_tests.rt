@@ -1,5 +1,7 @@
 //! The machine, one step at a time: values worked out by hand.
-use crate::machines::{CODE, DATA, G1, HELLO, O0, O2, POINT, STACK, SYSTEM, machine, register};
+use crate::machines::{
+    CODE, DATA, G1, HELLO, O0, O2, POINT, STACK, SYSTEM, machine, register, word_at,
+};
 use eel_base::{Addr, MemSink, NoMemory};
 use std::alloc::Global;
 use std::test::Fail;
@@ -11,10 +13,10 @@ fn sink(alloc: Global, room: usize) -> Result<MemSink, NoMemory> {
     MemSink::new(alloc, room, Vec::new(alloc))
 }
 
-/// What there is to see of a run: its machine, what came of the last step, and what each sink took.
+/// What there is to see of a run: its machine, whether a sink failed in the last step, and what each took.
 #[derive(Clone, Copy, PartialEq)]
 struct Seen<'a> {
-    last: StepOut,
+    has_failed: bool,
     pc: Addr,
     npc: Addr,
     sp: u32,
@@ -38,7 +40,7 @@ const CLEAR: Codes = Codes {
 
 /// What is seen before the first step.
 const FIRST: Seen = Seen {
-    last: StepOut::Went,
+    has_failed: false,
     pc: CODE,
     npc: Addr(0x10004),
     sp: STACK,
@@ -86,7 +88,7 @@ impl Run {
     fn is(&self, wanted: Seen) -> Result<bool, Fail> {
         let m = &self.machine;
         let seen = Seen {
-            last: self.last,
+            has_failed: matches!(self.last, StepOut::SinkFault),
             pc: m.pc(),
             npc: m.npc(),
             sp: self.reg(14)?,
@@ -94,7 +96,7 @@ impl Run {
             o1: self.reg(9)?,
             codes: m.codes(),
             y: m.y(),
-            word: m.memory().load32(DATA)?,
+            word: word_at(m, DATA)?,
             ending: m.ending(),
             out: self.out.bytes(),
             err: self.err.bytes(),
@@ -151,7 +153,7 @@ fn reads_take_the_input(rt: HostRuntime) -> Result<(), Fail> {
 
 /// What is seen of WRITE where the sink has room for three bytes.
 const FAULT: Seen = Seen {
-    last: StepOut::SinkFault,
+    has_failed: true,
     pc: Addr(0x10010),
     npc: Addr(0x10014),
     o0: 1,
