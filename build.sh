@@ -57,12 +57,14 @@ below() {
 }
 
 # How many processes prove CRATE: mostly one, where others are proved beside it, since each more loads the crates below
-# anew. The crates of the longest chain have two where others wait for them, and all that there is room for where they
-# come last and alone.
+# anew. The crates of the longest chains have two where others wait for them, and all that there is room for where one
+# comes last and alone.
 jobs_of() {
     case $at_once,$1 in
-    1,* | *,image_code | *,edit_core | *,eel) echo "$most" ;;
-    *,eel_base | *,v8_decode | *,elf32_sparc | *,v8_memory | *,v8_step | *,layout) echo $((most < 2 ? most : 2)) ;;
+    1,* | *,eel) echo "$most" ;;
+    *,eel_base | *,v8_decode | *,elf32_sparc | *,v8_memory | *,v8_step | *,layout | *,image_code | *,edit_core | *,eel_reports)
+        echo $((most < 2 ? most : 2))
+        ;;
     *) echo 1 ;;
     esac
 }
