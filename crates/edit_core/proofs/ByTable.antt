@@ -29,7 +29,7 @@ use Rattle.jump_slice.proofs.Joined.{jumps_go_by_table}
 use Rattle.image_code.specs.Graphs.{case_table, opens_in}
 use Rattle.image_code.specs.Loads.{first_operand, is_place, load_of, loads_by, or_first, second_operand}
 use Rattle.image_code.specs.Numbered.{or_zero}
-use Rattle.image_code.specs.Simulates.{CaseTable, IsAtWord, Setting, graph_in}
+use Rattle.image_code.specs.Simulates.{CaseTable, IsAtWord, EditSetup, graph_in}
 use Rattle.image_code.proofs.CaseTables.{table_of}
 use Rattle.image_code.proofs.Opened.{load_is, load_passes}
 use Rattle.image_code.proofs.Positions.{contains, found_in_range}
@@ -63,7 +63,7 @@ load_loads text b o c =
 
 -- ---- the law, by what the code knows of the switches
 
-module _ (g : Setting) (entry : ℕ) (s0 : State) (same : g.switches ≡ opens_in g.text g.given entry)
+module _ (g : EditSetup) (entry : ℕ) (s0 : State) (same : g.switches ≡ opens_in g.text g.given entry)
     (known : g.opens ≡ map (case_table g.text) g.switches) (is_text : IsText g.text) (valid : IsValid s0)
     (fetches : FetchesOnly g.text s0) (holds : HoldsText g.text s0.memory) (begins : BeginsAt g.text entry s0)
     (among : is_among g.given entry ≡ true) where

@@ -33,7 +33,7 @@ use Rattle.layout.specs.Laid.{Placement}
 use Rattle.image_code.specs.Fit.{AreFit}
 use Rattle.edit_core.specs.Taken.{CanEdit}
 use Rattle.edit_core.specs.Faithful.{editor_page, page_size, tool_number}
-use Rattle.image_code.specs.Parts.{codes_of}
+use Rattle.image_code.specs.SnippetWords.{codes_of}
 use Rattle.snippets.specs.Cells.{WorksBelow}
 use Rattle.tool_kit.specs.declared.edge_ref.ToolKind.{ToolKind}
 use Rattle.tool_kit.specs.Plans.{Plan}

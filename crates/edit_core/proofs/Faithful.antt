@@ -34,14 +34,14 @@ use Rattle.image_code.specs.Keeping.{AreCaseTables}
 use Rattle.image_code.specs.Simulates.{IsNoLoad}
 use Rattle.image_code.proofs.CaseTables.{are_tables}
 use Rattle.image_code.proofs.Opened.{cased}
-use Rattle.image_code.specs.Parts.{codes_of}
+use Rattle.image_code.specs.SnippetWords.{codes_of}
 use Rattle.tool_kit.specs.Plans.{Plan}
 use Rattle.edit_core.specs.Taken.{CanEdit, bound_in}
 use Rattle.edit_core.specs.Code.{IsEdited}
 use Rattle.edit_core.specs.Cost.{IsWithinBound, StoresLittle, is_ld}
 use Rattle.edit_core.specs.RunsAlike.{ForEachRun, edit_of}
 use Rattle.edit_core.specs.Faithful.{HasGraph, HasPages, IsInRoom, IsPlace, holds_cells, note_edges, note_of, word_mapped}
-use Rattle.edit_core.specs.Written.{CanDo, IsNewCode, IsEdit, EditsRunAlike, RunsOf, setting_of, added, cases_at, cells_at, cells_base, if_any, segment_size, text_of, graph_in, table_base, code_base, pieces_of, off_range, off_ranges, table_at, code_segment, page_segment, notes_on, edit_file}
+use Rattle.edit_core.specs.Written.{CanDo, IsNewCode, IsEdit, EditsRunAlike, RunsOf, setup_of, added, cases_at, cells_at, cells_base, if_any, segment_size, text_of, graph_in, table_base, code_base, pieces_of, off_range, off_ranges, table_at, code_segment, page_segment, notes_on, edit_file}
 use Rattle.image_code.proofs.OpenNumbers.{each_index}
 use Rattle.edit_core.proofs.Eaches.{all_each}
 use Rattle.edit_core.proofs.Graphs.{edges_inside, entries_few, graph_is, number_of}
@@ -213,9 +213,9 @@ module _ (original : List ℕ) (plan : Plan) (p : Placement) (place : ℕ → �
 
 -- what is kept before the load of an open switch is kept before an LD
 no_load : (original : List ℕ) (plan : Plan) (dead : ℕ → List Part) (p : Placement) (s : State)
-    → AreCaseTables (setting_of original plan dead (notes_on original plan p))
+    → AreCaseTables (setup_of original plan dead (notes_on original plan p))
     → is_ld (instr_at (text_of original plan) s.pc) ≡ false
-    → IsNoLoad (setting_of original plan dead (notes_on original plan p)) s
+    → IsNoLoad (setup_of original plan dead (notes_on original plan p)) s
 no_load original plan dead p s tables none k o some at =
     let table = tables.each k o some in
     let is : is_ld (instr_at (text_of original plan) s.pc) ≡ true =
@@ -225,14 +225,14 @@ no_load original plan dead p s tables none k o some at =
 
 edit_tables : (original : List ℕ) (plan : Plan) (p : Placement) (place : ℕ → ℕ → ℕ) (table : TableAt) (file : List ℕ)
     → (is : IsEdit original plan p place table file)
-    → AreCaseTables (setting_of original plan is.code.dead (notes_on original plan p))
+    → AreCaseTables (setup_of original plan is.code.dead (notes_on original plan p))
 edit_tables original plan p place table file is =
-    let g = setting_of original plan is.code.dead (notes_on original plan p) in
+    let g = setup_of original plan is.code.dead (notes_on original plan p) in
     let text = image_text original is.taken.sound in
     are_tables g refl text (cased g text (graph_is original plan))
 
 weaker : (original : List ℕ) (plan : Plan) (dead : ℕ → List Part) (p : Placement) (file : List ℕ)
-    → AreCaseTables (setting_of original plan dead (notes_on original plan p))
+    → AreCaseTables (setup_of original plan dead (notes_on original plan p))
     → RunsOf original plan dead file (notes_on original plan p)
     → ForEachRun original file (StoresLittle (edit_of original plan (notes_on original plan p)) dead
     (λ s. is_ld (instr_at (text_of original plan) s.pc) ≡ false) (bound_in original plan) (image_of original).entry)

@@ -35,9 +35,9 @@ use Rattle.code_runs.proofs.Leads.{run_add, puts_add, split_below}
 use Rattle.code_runs.specs.PointsAlike.{AreAlikeOn, AreAtOnePoint, instr_of}
 use Rattle.code_runs.proofs.Ours.{outside_trans}
 use Rattle.code_runs.proofs.PointsAlike.{points_act_alike}
-use Rattle.image_code.specs.Simulates.{CaseTable, IsAtWord, IsChosen, IsNoLoad, KeepsAddress, Steps, IsFollowedBy, IsOnWay, IsThere, MatchesIn, Setting, StepsOn, at_point, does_at, graph_in, number_in, word_of, edit_in}
+use Rattle.image_code.specs.Simulates.{CaseTable, IsAtWord, IsChosen, IsNoLoad, KeepsAddress, Steps, IsFollowedBy, IsOnWay, IsThere, MatchesIn, EditSetup, StepsOn, at_point, does_at, graph_in, number_in, word_of, edit_in}
 use Rattle.image_code.specs.Store.{cells_in, store_of, updates}
-use Rattle.jump_code.specs.PageWords.{kept_address}
+use Rattle.jump_code.specs.PageWords.{saved_address}
 use Rattle.edit_core.specs.RunsAlike.{EndsAtNode, TellsStep}
 use Rattle.edit_core.specs.Runs.{KeepsLoaded, AreTogether, Linked, RunFacts, Spares, instr_in, limits_in}
 use Rattle.two_runs.proofs.Stays.{ended_stays, step_stays}
@@ -46,7 +46,7 @@ use Rattle.edit_core.proofs.Places.{node_of_place, placed_between, there_node, v
 
 -- both are over; the written file's pc is then in a place of the node where the original's walk ended, and of the last
 -- instruction, or outside the pages
-pub record Closed (g : Setting) (entry : ℕ) (s0 t0 : State) (n m : ℕ) (d : Ending) : Type 0 where
+pub record Closed (g : EditSetup) (entry : ℕ) (s0 t0 : State) (n m : ℕ) (d : Ending) : Type 0 where
   pub first : (run s0 n).ending ≡ Some d
   pub second : (run t0 m).ending ≡ Some d
   pub node : node_at g.notes (run t0 m).pc ≡ Some (number_in g (end_of_walk g.text (graph_in g) entry s0 n))
@@ -127,8 +127,8 @@ load_sum rs1 op2 s u w f = same_sum rs1 op2 s u w (first rs1 f) (second rs1 op2 
 
 -- ---- one step
 
-module _ (g : Setting) (entry : ℕ) (Inside : Point → Type 0) (Here : Node → Point → State → Type 0)
-    (Short : Type 0) (K : ℕ → StateItem → Type 0) (s0 t0 : State) where
+module _ (g : EditSetup) (entry : ℕ) (Inside : Point → Type 0) (AtVisit : Node → Point → State → Type 0)
+    (NoLongForms : Type 0) (K : ℕ → StateItem → Type 0) (s0 t0 : State) where
   -- the states of both runs
   abbrev s : ℕ → State
   s n = run s0 n
@@ -163,17 +163,17 @@ module _ (g : Setting) (entry : ℕ) (Inside : Point → Type 0) (Here : Node �
   IsAlike n m = AreAlikeOn pages (word n) (s n) (at_point (point n) (t m)) (s (suc n)) (does n m)
 
   abbrev Links : ℕ → ℕ → Type 0
-  Links n m = Linked g entry Here K s0 t0 n m
+  Links n m = Linked g entry AtVisit K s0 t0 n m
 
   abbrev Closes : ℕ → ℕ → Ending → Type 0
   Closes n m d = Closed g entry s0 t0 n m d
 
   abbrev Saves : ℕ → ℕ → ℕ → Type 0
-  Saves n m k = Spares g entry Short s0 t0 n m k
+  Saves n m k = Spares g entry NoLongForms s0 t0 n m k
 
   record IsNext (n m : ℕ) : Type 0 where
     pub alike : IsAlike n m
-    pub on : StepsOn g Here (Short × IsNoLoad g (does n m)) 64 (edges n) (node n) (point n) (t m) (does n m)
+    pub on : StepsOn g AtVisit (NoLongForms × IsNoLoad g (does n m)) 64 (edges n) (node n) (point n) (t m) (does n m)
     pub keeps : KeepsAddress g (edges n) (node n) (point n) (t m) (does n m) on.after
     -- also where it ends the run
     pub pc : (s (suc n)).pc ≡ (does n m).pc
@@ -186,7 +186,7 @@ module _ (g : Setting) (entry : ℕ) (Inside : Point → Type 0) (Here : Node �
     ends : (m : ℕ) (d : Ending) → Closes n m d → Reached last n
     past : (m : ℕ) → last < n → Reached last n
 
-  module _ (r : RunFacts g entry Inside Here Short K s0 t0) where
+  module _ (r : RunFacts g entry Inside AtVisit NoLongForms K s0 t0) where
     fetched : (n : ℕ) → fetch_of (s n).memory (s n).pc ≡ word n
     fetched n = code_stays.1 s0 n (s n).pc ∙ r.fetches (s n).pc
 
@@ -209,7 +209,7 @@ module _ (g : Setting) (entry : ℕ) (Inside : Point → Type 0) (Here : Node �
         (λ item is d. same_moved item (s n) (t m) (point n)
         (h.items item is (r.keeping.reads n item is h.live d))) judged in
         let b : IsAlike n m = rw stepped a in
-        let whole = subst (λ (z : Option Point). Steps g Here Short (gone g.text (graph_in g) (node n) (point n) z)
+        let whole = subst (λ (z : Option Point). Steps g AtVisit NoLongForms (gone g.text (graph_in g) (node n) (point n) z)
         (node n) (point n) (t m) (does n m)) (goes_same (s (suc n)).ending (s (suc n)) (does n m) refl b.ending
         (λ live. one_point (s (suc n)) (does n m) (b.point live))) (r.simulates.steps (node n) (point n) (t m)
         (matched n h.live) within h.here b.judged (λ live. let on : (s (suc n)).ending ≡ None = b.ending
@@ -295,14 +295,14 @@ module _ (g : Setting) (entry : ℕ) (Inside : Point → Type 0) (Here : Node �
         (let q : o.load + 0 ≡ o.load = omega arith in let z : 0 + start ≡ suc n = omega (arith, now) in
         rw q at (rw z at (came 0 (omega arith)))) in
         let go : (does n m).ending ≡ None = sym x.alike.ending ∙ live in
-        ap (λ (z : State). kept_address z) (arrived n m x) ∙ x.keeps.loaded go k o is
+        ap (λ (z : State). saved_address z) (arrived n m x) ∙ x.keeps.loaded go k o is
         (subst (λ (z : Point). IsAtWord g o (node_after (graph_in g) (node n) (edges n)) z o.load)
         (one_point (s (suc n)) (does n m) (x.alike.point live)) (rw (← end_next n) at first))
         ∙ sym (sums_next n m h x live k o is first.stands) ∙ ap (λ a. sum_of (s a) o.rs1 o.op2) now
     kept_next n m h x live k o is start (suc more) e low came =
         let before_it : n ≡ more + start = omega (arith, e) in
         let go : (does n m).ending ≡ None = sym x.alike.ending ∙ live in
-        ap (λ (z : State). kept_address z) (arrived n m x) ∙ x.keeps.carried go k o is (o.load + more)
+        ap (λ (z : State). saved_address z) (arrived n m x) ∙ x.keeps.carried go k o is (o.load + more)
         (rw (← before_it) at (came more (omega arith)))
         (omega arith) (omega (arith, low))
         ∙ h.kept k o is start more before_it (omega (arith, low)) (λ j less. came j (omega (arith, less)))
@@ -557,7 +557,7 @@ module _ (g : Setting) (entry : ℕ) (Inside : Point → Type 0) (Here : Node �
       }
       step_at n l (past m k) = absurd (omega arith)
 
-      pub follows : Follows g entry Short s0 t0 last
+      pub follows : Follows g entry NoLongForms s0 t0 last
       unfolding moments reached moment_of
       follows = record {
         moments = moments;

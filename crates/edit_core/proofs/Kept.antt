@@ -22,7 +22,7 @@ use Rattle.snippets.specs.declared.snippet.Op.{Op}
 use Rattle.snippets.specs.Cells.{named_by, read_by, update}
 use Rattle.snippets.specs.Grammar.{IsOp}
 use Rattle.snippets.proofs.Decide.{decide}
-use Rattle.image_code.specs.Simulates.{IsKept, Setting, graph_in}
+use Rattle.image_code.specs.Simulates.{IsKept, EditSetup, graph_in}
 use Rattle.image_code.specs.Store.{snippet_on, updates}
 use Rattle.edit_core.specs.Dead.{AreDead}
 use Rattle.edit_core.specs.Runs.{instr_in}
@@ -62,7 +62,7 @@ name_among item window (p ∷ ps) (inr among) =
     let rest = name_among item window ps among in
     (rest.0, or_right _ _ rest.1, rest.2)
 
-module _ (g : Setting) (dead : AreDead g.text (graph_in g) (named_on g.snips) g.dead) (item : StateItem) (window : ℕ) where
+module _ (g : EditSetup) (dead : AreDead g.text (graph_in g) (named_on g.snips) g.dead) (item : StateItem) (window : ℕ) where
   -- no part that is dead behind an edge names an item that only live ones name
   not_dead : (e : ℕ) → e < length (graph_in g).edges
       → ((p : Part) → is_member p ≡ true → ¬ IsLiveOn g.text (graph_in g) (named_on g.snips) e p

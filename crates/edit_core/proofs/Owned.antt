@@ -26,8 +26,8 @@ use Rattle.addr_translate.specs.Lookup.{TableAt}
 use Rattle.addr_translate.specs.Translator.{StandsAt}
 use Rattle.addr_translate.proofs.Regions.{regions_stand}
 use Rattle.layout.specs.Laid.{Placement}
-use Rattle.image_code.specs.Simulates.{Setting}
-use Rattle.image_code.specs.Images.{Frame, HasTable, IsFramed, IsTableIn}
+use Rattle.image_code.specs.Simulates.{EditSetup}
+use Rattle.image_code.specs.Images.{EditorData, HasTable, IsEditorData, IsTableIn}
 use Rattle.two_runs.specs.Visits.{pages_of}
 use Rattle.snippet_code.specs.Cells.{cell_at}
 use Rattle.tool_kit.specs.Plans.{Plan}
@@ -99,7 +99,7 @@ cell_is_own base cells cell l =
     among_last (words_from (page_word 0) 8) (words_from base cells) (cell_at base cell)
     (among_words base 0 cells cell (omega arith) (omega (arith, l)))
 
-abbrev pub frame : Words → ℕ → ℕ → TableAt → Frame
+abbrev pub frame : Words → ℕ → ℕ → TableAt → EditorData
 frame text base cells tables = record {
   table = first_table text tables;
   halves = second_table text tables;
@@ -145,10 +145,10 @@ module _ (original : List ℕ) (plan : Plan) (p : Placement) where
   spans_are = any-map segment_span plan.cells (record { start = cells_base original plan; length = 4 * plan.cells }) _
 
 -- the pages of the notes: that of the cells, the tables', the code's and the editor's
-pub is_framed : (original : List ℕ) (plan : Plan) (p : Placement) (table : TableAt) (g : Setting)
+pub is_framed : (original : List ℕ) (plan : Plan) (p : Placement) (table : TableAt) (g : EditSetup)
     → g.notes ≡ notes_on original plan p
     → table.base ≡ table_base original plan → TablesMatch (text_of original plan) (graph_in original plan) plan.snips p table
-    → IsFramed g (frame (text_of original plan) (cells_base original plan) plan.cells table)
+    → IsEditorData g (frame (text_of original plan) (cells_base original plan) plan.cells table)
 is_framed original plan p table g same base leads = record {
   own = rw same (record { first = inl refl; within = within });
   page = λ n l. among_first (words_from (page_word 0) 8) (words_from (cells_base original plan) plan.cells) (page_word n)

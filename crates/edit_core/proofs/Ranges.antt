@@ -18,7 +18,7 @@ use Rattle.layout.specs.Laid.{Ascend, IsLaid, IsRangeOf, Placement, Stands, Bran
 use Rattle.jump_code.specs.Pieces.{foreign_piece}
 use Rattle.image_code.proofs.HeadShapes.{TakesWords}
 use Rattle.image_code.specs.Made.{cases_from, images_in_order, landing, open_pieces, piece_list, ways_from}
-use Rattle.image_code.specs.Numbered.{own_edges}
+use Rattle.image_code.specs.Numbered.{edges_but_landings}
 use Rattle.image_code.specs.Graphs.{IsGraphOf}
 use Rattle.image_code.proofs.OpenNumbers.{each_index}
 use Rattle.image_code.proofs.Fit.{pieces_shaped}
@@ -158,7 +158,7 @@ module _ (text : Words) (graph : Graph) (table cases : ℕ) (codes : ℕ → Lis
   last_piece : (k : ℕ) × (word : ℕ) × (item_at pieces k 0 ≡ Some (it.Word word))
   unfolding piece_list
   last_piece =
-      let xs = images_in_order text graph table cases codes ++ ways_from text graph table codes 0 (own_edges graph)
+      let xs = images_in_order text graph table cases codes ++ ways_from text graph table codes 0 (edges_but_landings graph)
       ++ map (landing text graph codes) (below (length text.words))
       ++ flat_map (open_pieces text graph table cases codes) graph.opens
       ++ flat_map (λ (o : Open). cases_from text graph table codes o 0 o.targets) graph.opens in

@@ -50,12 +50,12 @@ use Rattle.code_runs.specs.StoredWords.{memory_word}
 use Rattle.snippet_code.specs.Cells.{cell_at, words_at}
 use Rattle.tool_kit.specs.Plans.{Plan}
 use Rattle.image_code.specs.Fit.{PiecesFit}
-use Rattle.image_code.specs.Simulates.{CaseTable, IsNoLoad, Setting, Simulates, edit_in}
+use Rattle.image_code.specs.Simulates.{CaseTable, IsNoLoad, EditSetup, Simulates, edit_in}
 use Rattle.image_code.specs.Cost.{is_out}
 use Rattle.image_code.specs.Store.{Edit, snippet_on}
-use Rattle.image_code.specs.Images.{AreNoted, Frame, HasCells, Here, IsPlaced, Pieces}
+use Rattle.image_code.specs.Images.{AreNoted, EditorData, HasCells, AtVisit, IsPlaced, Pieces}
 use Rattle.image_code.proofs.Points.{visited_by}
-use Rattle.image_code.specs.Parts.{codes_of}
+use Rattle.image_code.specs.SnippetWords.{codes_of}
 use Rattle.image_code.specs.Made.{IsOffNoted, IsTableFor, PiecesMakeImages, lands_at, piece_list, pieces_in}
 use Rattle.image_code.specs.Outside.{IsOffPages}
 use Rattle.image_code.proofs.CaseTables.{are_tables, table_of}
@@ -66,7 +66,7 @@ use Rattle.edit_core.specs.Cost.{StoresLittle, TakesFewSteps, short_bound}
 use Rattle.edit_core.specs.RunsAlike.{AreRunsAlike, IsAnswered, edit_of, visits_by}
 use Rattle.edit_core.specs.Taken.{bound_in}
 use Rattle.edit_core.specs.Whole.{Answered, KeptIn}
-use Rattle.edit_core.specs.Written.{EditsRunAlike, IsEdit, setting_of, TablesMatch, addr, cases_at, cells_base, code_base, first_table, foreign_of, given_of, graph_in, landings_of, notes_on, second_table, segment_size, table_base, text_of}
+use Rattle.edit_core.specs.Written.{EditsRunAlike, IsEdit, setup_of, TablesMatch, addr, cases_at, cells_base, code_base, first_table, foreign_of, given_of, graph_in, landings_of, notes_on, second_table, segment_size, table_base, text_of}
 use Rattle.edit_core.proofs.Bounds.{operations_few}
 use Rattle.edit_core.proofs.ByTable.{by_table}
 use Rattle.edit_core.proofs.Completed.{jump_kind, unknown_lives}
@@ -98,8 +98,8 @@ all_live_none set is none =
 
 -- ---- an edit
 
-abbrev setting : List ℕ → Plan → (ℕ → List Part) → Placement → Setting
-setting original plan dead p = setting_of original plan dead (notes_on original plan p)
+abbrev setup : List ℕ → Plan → (ℕ → List Part) → Placement → EditSetup
+setup original plan dead p = setup_of original plan dead (notes_on original plan p)
 
 -- ranges lie in the code's page
 none_below : (from to a : ℕ) (rs : List NoteRange) → Ascend from to rs → a < from → range_in rs a ≡ None
@@ -188,7 +188,7 @@ module _ (original : List ℕ) (plan : Plan) (p : Placement) where
           | inr past ↦ inr (omega (arith, past))
         ]) ∙ none_beside code_from p a ascend (beside_page code_page a second.0)
 
-    are_noted : Ascend code_from code_end p.ranges → AreNoted (setting original plan dead p) code_from p
+    are_noted : Ascend code_from code_end p.ranges → AreNoted (setup original plan dead p) code_from p
     are_noted ascend = record {
       inside = in_code;
       ranges = λ a from to. ranges_beside text graph tables_from p.ranges a (inr (omega (arith, from)));
@@ -197,7 +197,7 @@ module _ (original : List ℕ) (plan : Plan) (p : Placement) where
     }
 
     -- the place of a slot behind the text
-    off_noted : IsText text → IsOffNoted (setting original plan dead p) tables_from
+    off_noted : IsText text → IsOffNoted (setup original plan dead p) tables_from
     off_noted is_text number edge at off =
         let cut = graph_cut text graph is_text (graph_is original plan) in
         ap (λ offs. range_in (offs ++ p.ranges) tables_from) (off_is text graph tables_from refl cut.firsts
@@ -240,17 +240,17 @@ module _ (original : List ℕ) (plan : Plan) (p : Placement) where
     abbrev dead : ℕ → List Part
     dead = is.code.dead
 
-    abbrev its : Setting
-    its = setting original plan dead p
+    abbrev its : EditSetup
+    its = setup original plan dead p
 
     abbrev parts : Pieces
     parts = pieces_in text graph table.base (cases_at text table.base) (codes_of cells_from dead plan.snips)
 
-    abbrev surroundings : Frame
+    abbrev surroundings : EditorData
     surroundings = frame text cells_from plan.cells table
 
     abbrev IsHere : Node → Point → State → Type 0
-    IsHere = Here its parts code_from p surroundings
+    IsHere = AtVisit its parts code_from p surroundings
 
     -- nothing is dead behind the edge of a jump
     none_dead : (edge : ℕ) → is_out (slice_get graph.edges edge) ≡ true → dead edge ≡ []
@@ -303,11 +303,11 @@ module _ (original : List ℕ) (plan : Plan) (p : Placement) where
     off_noted_here = rw is.code.base (off_noted dead text_is)
 
     -- where no form is long
-    abbrev Short : Type 0
-    Short = HasShortForms parts.list place
+    abbrev NoLongForms : Type 0
+    NoLongForms = HasShortForms parts.list place
 
     -- as where little room is asked
-    small_short : PiecesFit → bound_in original plan ≤ short_bound → Short
+    small_short : PiecesFit → bound_in original plan ≤ short_bound → NoLongForms
     small_short fits small =
         let few : 4 * length p.code < short_bound = in_bound in
         subst (λ (a : ℕ). HasShortForms (piece_list text graph a
@@ -324,7 +324,7 @@ module _ (original : List ℕ) (plan : Plan) (p : Placement) where
               bound_is original plan,
             )
 
-    simulates : PiecesMakeImages → Simulates its (IsOffPages its) IsHere Short
+    simulates : PiecesMakeImages → Simulates its (IsOffPages its) IsHere NoLongForms
     simulates make =
         let base = is.code.base in
         make its (codes_of cells_from dead plan.snips) code_from p place
@@ -445,7 +445,7 @@ module _ (original : List ℕ) (plan : Plan) (p : Placement) where
       unfolding image_of
       holds_text = text_is_held original args input is.taken.sound is.given
 
-      rests : RunFacts its entry (IsOffPages its) IsHere Short (KeptIn its entry s0) s0 t0
+      rests : RunFacts its entry (IsOffPages its) IsHere NoLongForms (KeptIn its entry s0) s0 t0
       rests = record {
         text = text_is;
         first_valid = original_valid original plan p place table file is args input given read;
@@ -467,7 +467,7 @@ module _ (original : List ℕ) (plan : Plan) (p : Placement) where
         early = λ j below. absurd (omega (arith, below));
       }
 
-      answers : (n : ℕ) → IsUntouched (pages_of notes) s0 n → Answered its entry Short s0 t0 n
+      answers : (n : ℕ) → IsUntouched (pages_of notes) s0 n → Answered its entry NoLongForms s0 t0 n
       answers n untouched = edits_answer its parts code_from p place surroundings entry s0 t0 n rests untouched
 
       answered : (n : ℕ) → IsUntouched (pages_of notes) s0 n → IsAnswered (edit_in its) entry s0 t0 n
@@ -504,7 +504,7 @@ module _ (original : List ℕ) (plan : Plan) (p : Placement) where
 
 -- the graph of the view is that of the edit
 same_edit : (original : List ℕ) (plan : Plan) (dead : ℕ → List Part) (notes : Notes)
-    → edit_in (setting_of original plan dead notes) ≡ edit_of original plan notes
+    → edit_in (setup_of original plan dead notes) ≡ edit_of original plan notes
 unfolding view_of entered_of
 same_edit original plan dead notes = refl
 
@@ -520,7 +520,7 @@ edits_run_alike make fits original plan p place table file is =
           subst (λ (e : Edit). TakesFewSteps e entry (start_of original args input) (start_of file args input)) same
           (steps original plan p place table file is make fits args input given read);
       stores = λ args input given read.
-          subst (λ (e : Edit). StoresLittle e is.code.dead (IsNoLoad (setting original plan is.code.dead p))
+          subst (λ (e : Edit). StoresLittle e is.code.dead (IsNoLoad (setup original plan is.code.dead p))
           (bound_in original plan) entry (start_of original args input) (start_of file args input)) same
           (stores original plan p place table file is make fits args input given read);
     }

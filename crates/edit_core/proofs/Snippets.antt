@@ -17,7 +17,7 @@ use Rattle.snippet_code.specs.Spills.{spills_of}
 use Rattle.snippet_code.proofs.Lengths.{costs_hold}
 use Rattle.snippet_code.proofs.WholeCode.{snippet_code_runs}
 use Rattle.image_code.specs.Fit.{AreShort}
-use Rattle.image_code.specs.Parts.{codes_of}
+use Rattle.image_code.specs.SnippetWords.{codes_of}
 use Rattle.image_code.specs.Store.{snippet_on}
 use Rattle.tool_kit.specs.Good.{IsGood}
 

@@ -2,7 +2,7 @@
 use Rattle.std.proofs.Common.{◌≡◌, ℕ, suc, ◌≤◌, arith}
 use Rattle.two_runs.specs.TwoRuns.{Answers, IsLeast}
 use Rattle.two_runs.proofs.Follows.{runs_follow}
-use Rattle.image_code.specs.Images.{Here}
+use Rattle.image_code.specs.Images.{AtVisit}
 use Rattle.image_code.specs.Outside.{IsOffPages}
 use Rattle.layout.specs.Laid.{HasShortForms}
 use Rattle.edit_core.specs.Runs.{limits_in}
@@ -20,7 +20,7 @@ one_least P m k h i =
 pub edits_answer : EditsAnswer
 edits_answer g l base p place f entry s0 t0 last r u =
     let k : Follows g entry (HasShortForms l.list place) s0 t0 last = follows g entry (IsOffPages g)
-    (Here g l base p f) (HasShortForms l.list place) (KeptIn g entry s0) s0 t0 r last u (λ k below live. u.outside k below) in
+    (AtVisit g l base p f) (HasShortForms l.list place) (KeptIn g entry s0) s0 t0 r last u (λ k below live. u.outside k below) in
     let all = runs_follow g.notes s0 t0 64 (limits_in g entry s0) k.moments last k.followed in
     record {
       moments = k.moments;

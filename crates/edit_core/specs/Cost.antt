@@ -14,7 +14,7 @@ use Rattle.two_runs.specs.Visits.{pages_of}
 use Rattle.cfg_view.specs.View.{view_of}
 use Rattle.cfg_walk.specs.Walk.{gone_in, instr_at, point_of}
 use Rattle.liveness.specs.Live.{named_on}
-use Rattle.image_code.specs.Cost.{IsSparing, IsWatched, limit_on}
+use Rattle.image_code.specs.Cost.{CostsLittle, IsWatched, limit_on}
 use Rattle.image_code.specs.Store.{Edit}
 use Rattle.tool_kit.specs.Plans.{Plan}
 use Rattle.edit_core.specs.Dead.{AreDead}
@@ -52,7 +52,7 @@ StoresLittle e dead NoneKept bound entry s0 t0 =
     (n : ℕ) → IsUntouched (pages_of e.notes) s0 (suc n)
     → IsWatched e (gone_in e.text e.graph entry s0 n) (point_of (run s0 n)) (run s0 (suc n))
     → (m k : ℕ) → IsLeast (Answers e.notes s0 t0 n) m → IsLeast (Answers e.notes s0 t0 (suc n)) k
-    → IsSparing e dead (((run s0 n).ending ≡ None) × (bound ≤ short_bound) × NoneKept (run s0 (suc n)))
+    → CostsLittle e dead (((run s0 n).ending ≡ None) × (bound ≤ short_bound) × NoneKept (run s0 (suc n)))
     (gone_in e.text e.graph entry s0 n) (point_of (run s0 n)) (run t0 m) (k - m)
 
 -- ---- all of it

@@ -11,9 +11,9 @@ use Rattle.cfg_blocks.specs.Blocks.{blocks_of}
 use Rattle.cfg_walk.specs.Matches.{AreOpen, BeginsAt, FetchesOnly, JumpsGoByCase}
 use Rattle.snippets.specs.Grammar.{IsOp}
 use Rattle.layout.specs.Laid.{HasShortForms, Placement}
-use Rattle.image_code.specs.Simulates.{Setting, edit_in, graph_in}
+use Rattle.image_code.specs.Simulates.{EditSetup, edit_in, graph_in}
 use Rattle.image_code.specs.Store.{cells_in, store_of}
-use Rattle.image_code.specs.Images.{Pieces, Frame, Here}
+use Rattle.image_code.specs.Images.{Pieces, EditorData, AtVisit}
 use Rattle.image_code.specs.Outside.{IsOffPages}
 use Rattle.liveness.specs.Live.{named_on}
 use Rattle.live_walk.specs.Keeps.{IsKeptAt}
@@ -22,33 +22,33 @@ use Rattle.edit_core.specs.Runs.{Keeping, RunFacts, Spares, limits_in}
 use Rattle.edit_core.specs.RunsAlike.{EndsAtNode, IsStop, visits_by}
 
 -- what is kept: what the original's run still needs, and what snippets name that come before it is written
-abbrev pub KeptIn : Setting → ℕ → State → ℕ → StateItem → Type 0
+abbrev pub KeptIn : EditSetup → ℕ → State → ℕ → StateItem → Type 0
 KeptIn g entry s0 n item = IsKeptAt g.text (graph_in g) (named_on g.snips) entry s0 n item
 
 -- Where just what isn't live is dead behind each edge's snippet, all that is kept which has to be.
 abbrev pub KeepsWhatLives : Type 0
 KeepsWhatLives =
-    (g : Setting) (entry : ℕ) (s0 : State) → IsText g.text → FetchesOnly g.text s0 → BeginsAt g.text entry s0
+    (g : EditSetup) (entry : ℕ) (s0 : State) → IsText g.text → FetchesOnly g.text s0 → BeginsAt g.text entry s0
     → AreOpen (blocks_of g.text g.given) g.switches → JumpsGoByCase g.text (graph_in g) entry s0
     → AreDead g.text (graph_in g) (named_on g.snips) g.dead → All (All IsOp) g.snips
     → Keeping g entry s0 (KeptIn g entry s0)
 
 -- The written file answers each step of the original, within its limits, and stores and takes no more than it may. Its stops
 -- tell where the original's walk stands.
-pub record Answered (g : Setting) (entry : ℕ) (Short : Type 0) (s0 t0 : State) (last : ℕ) : Type 0 where
+pub record Answered (g : EditSetup) (entry : ℕ) (NoLongForms : Type 0) (s0 t0 : State) (last : ℕ) : Type 0 where
   pub moments : ℕ → ℕ
   pub answers : (n : ℕ) → n ≤ last → IsLeast (Answers g.notes s0 t0 n) (moments n)
   pub soon : (m : ℕ) → IsLeast (Answers g.notes s0 t0 zero) m → m ≤ 64
   pub bounded : (n : ℕ) → n < last → IsBounded g.notes s0 t0 n (limits_in g entry s0 n)
   pub spared : (n : ℕ) → n < last → (m k : ℕ) → IsLeast (Answers g.notes s0 t0 n) m
-      → IsLeast (Answers g.notes s0 t0 (suc n)) k → Spares g entry Short s0 t0 n m k
+      → IsLeast (Answers g.notes s0 t0 (suc n)) k → Spares g entry NoLongForms s0 t0 n m k
   pub cells : (n : ℕ) → n ≤ last → cells_in g.notes (run t0 (moments n)) ≡ store_of (edit_in g) entry s0 n
   pub stops : (m : ℕ) → visits_by g.notes t0 m ≡ last → IsStop (edit_in g) entry s0 t0 m last
   pub over : (n : ℕ) → n ≤ last → EndsAtNode (edit_in g) entry s0 t0 n (moments n)
 
 abbrev pub EditsAnswer : Type 0
 EditsAnswer =
-    (g : Setting) (l : Pieces) (base : ℕ) (p : Placement) (place : ℕ → ℕ → ℕ) (f : Frame) (entry : ℕ) (s0 t0 : State)
+    (g : EditSetup) (l : Pieces) (base : ℕ) (p : Placement) (place : ℕ → ℕ → ℕ) (f : EditorData) (entry : ℕ) (s0 t0 : State)
     (last : ℕ)
-    → RunFacts g entry (IsOffPages g) (Here g l base p f) (HasShortForms l.list place) (KeptIn g entry s0) s0 t0
+    → RunFacts g entry (IsOffPages g) (AtVisit g l base p f) (HasShortForms l.list place) (KeptIn g entry s0) s0 t0
     → IsUntouched (pages_of g.notes) s0 last → Answered g entry (HasShortForms l.list place) s0 t0 last

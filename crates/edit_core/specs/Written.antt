@@ -30,10 +30,10 @@ use Rattle.layout.specs.declared.items.Item.{Item}
 use Rattle.layout.specs.Laid.{HasShortForms, IsLaid, Placement, long_bytes}
 use Rattle.cfg_normal.specs.Opens.{Open}
 use Rattle.image_code.specs.Graphs.{case_table, opens_in}
-use Rattle.image_code.specs.Simulates.{IsNoLoad, Setting}
+use Rattle.image_code.specs.Simulates.{IsNoLoad, EditSetup}
 use Rattle.image_code.specs.Made.{jumps_at, lands_at, piece_list}
 use Rattle.image_code.specs.Numbered.{case_numbers, enter_number, foreign_number}
-use Rattle.image_code.specs.Parts.{codes_of}
+use Rattle.image_code.specs.SnippetWords.{codes_of}
 use Rattle.snippets.specs.declared.snippet.Op.{Op}
 use Rattle.tool_kit.specs.Good.{IsGood}
 use Rattle.tool_kit.specs.declared.edge_ref.ToolKind.{ToolKind}
@@ -303,8 +303,8 @@ abbrev pub switches_in : List ℕ → Plan → List Open
 switches_in original plan = opens_in (text_of original plan) (given_of original plan) (image_of original).entry
 
 -- an edit as its code has it, with what is dead behind each edge's snippet
-abbrev pub setting_of : List ℕ → Plan → (ℕ → List Part) → Notes → Setting
-setting_of original plan dead notes = record {
+abbrev pub setup_of : List ℕ → Plan → (ℕ → List Part) → Notes → EditSetup
+setup_of original plan dead notes = record {
   text = text_of original plan;
   given = given_of original plan;
   snips = plan.snips;
@@ -319,7 +319,7 @@ pub record RunsOf (original : List ℕ) (plan : Plan) (dead : ℕ → List Part)
   pub alike : HaveRunsAlike original plan file notes
   pub steps : ForEachRun original file (TakesFewSteps (edit_of original plan notes) (image_of original).entry)
   pub stores : ForEachRun original file
-      (StoresLittle (edit_of original plan notes) dead (IsNoLoad (setting_of original plan dead notes))
+      (StoresLittle (edit_of original plan notes) dead (IsNoLoad (setup_of original plan dead notes))
       (bound_in original plan) (image_of original).entry)
 
 -- Whatever meets this has such runs.

@@ -19,7 +19,7 @@ use crate::addresses::AddressMap;
 use crate::building::{NewCode, new_code};
 use crate::noting::{Told, notes};
 use crate::segments::{cells_segment, code_segment, page_segment, tables_segment};
-use crate::taking::{EditFault, Request, bound};
+use crate::room::{EditFault, Request, bound};
 use cfg_normal::FlowGraph;
 use cfg_view::{View, look};
 use eel_base::NoMemory;

@@ -53,14 +53,14 @@ pub fn demonstrate<O: Sink>(
         (outcome_seen result) }
     ensures later { O.faults out.old ≤ O.faults out.new }
 {
-    match told(alloc, number, routines) {
+    match lines_of_demo(alloc, number, routines) {
         Ok(lines) => print(out, &lines),
         Err(outcome) => outcome,
     }
 }
 
 /// The lines that are printed.
-fn told(alloc: Global, number: u32, routines: u32) -> Result<Vec<u8>, Outcome<'static>>
+fn lines_of_demo(alloc: Global, number: u32, routines: u32) -> Result<Vec<u8>, Outcome<'static>>
     requires some { 1 ≤ routines }
     requires few { routines ≤ 100000 }
     ensures lines { IfOk result (λ lines. IsTold number routines lines.items) }

@@ -67,12 +67,12 @@ fn report_lines<'a>(
 {
     let notes = notes_in(alloc, written, file)?;
     let state = dump_in(alloc, dump, bytes)?;
-    let lines = told(alloc, report, written, file, dump, &notes, &state)?;
+    let lines = lines_of_report(alloc, report, written, file, dump, &notes, &state)?;
     Ok(lines)
 }
 
 /// The lines of what the notes of the file `written` and the dump `dump` tell.
-fn told<'a>(
+fn lines_of_report<'a>(
     alloc: Global,
     report: Report,
     written: &'a str,

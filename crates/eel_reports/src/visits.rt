@@ -49,7 +49,7 @@ pub fn visit_lines<'a>(
         Ok(times) => times,
         Err(fault) => return Err(refusal(written, dump, fault)),
     };
-    let lines = told(alloc, &view, notes, state, &times)?;
+    let lines = lines_of_visits(alloc, &view, notes, state, &times)?;
     Ok(lines)
 }
 
@@ -89,7 +89,7 @@ fn unmarked<'a>(name: &'a str, fault: ReadFault) -> Outcome<'a>
 }
 
 /// The lines of how often the words of a view were visited, by the counts of its edges and by where a run stands.
-fn told(
+fn lines_of_visits(
     alloc: Global,
     view: &View,
     notes: &Notes,

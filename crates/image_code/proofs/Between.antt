@@ -3,7 +3,7 @@ use Rattle.image_code.proofs.Common.{◌≡◌, ℕ, ◌+◌, ◌*◌, ◌<◌, 
 use Rattle.two_runs.specs.Visits.{visited}
 use Rattle.code_runs.proofs.Hops.{each-weaker}
 pub use Rattle.layout.proofs.Going.{item_size, piece_size as item_below}
-use Rattle.image_code.specs.Simulates.{Setting, IsOnWay, IsThere, gone_at, graph_in, number_in}
+use Rattle.image_code.specs.Simulates.{EditSetup, IsOnWay, IsThere, gone_at, graph_in, number_in}
 use Rattle.image_code.specs.Store.{cells_in}
 use Rattle.image_code.specs.Images.{HasImages}
 use Rattle.image_code.proofs.Points.{Placed, Site}
@@ -97,7 +97,7 @@ module _ (site : Site) (h : Placed site) where
   }
 
 -- a step that ends the run completes no edge
-pub ended_none : (g : Setting) (node : Node) (x : Point) (v : State) (d : Ending) → v.ending ≡ Some d
+pub ended_none : (g : EditSetup) (node : Node) (x : Point) (v : State) (d : Ending) → v.ending ≡ Some d
     → gone_at g node x v ≡ []
 ended_none g node x v d e =
     ap (λ (z : Option Ending). gone g.text (graph_in g) node x (unless_ended z (point_of v))) e

@@ -1,5 +1,5 @@
 -- The images of branches: each way leads into a slot, to a word's image, or out of the text.
-use Rattle.image_code.proofs.Common.{◌≡◌, ℕ, ◌+◌, ◌%◌, ◌^◌, inl, inr, Bool, true, false, not, Option, Some, None, List, [], ◌∷◌, ◌++◌, refl, ap, sym, ◌∙◌, arith, if◌then◌else◌, ◌&&◌, ◌||◌, slice_get, slice_index, ◌==◌, ℤ, Words, address_of, word_at, Addr, Instr, decode_of, holds_of, wrapped, NoSlot, Taken, Untaken, State, act, EdgeKind, always, never, end_at, within, Blocks, blocks_of, end_of, holding_of, last_word, is_fall, is_jump, cases_Bool, cond_both, word_at-some, Edge, Node, home_of, Open, jumps_in, graph_of, has_cases, node_of, Point, edge_from, node_after, point_of, same_kind, block, copy, end_is, is_in, node_is, far_piece, Item, branched, branch_step, Way, number_of, way, ways_of, directed, edge_of, is_compared, last_in, target_along, transfer_ends, way_found, Stands, IsOne, always_holds}
+use Rattle.image_code.proofs.Common.{◌≡◌, ℕ, ◌+◌, ◌%◌, ◌^◌, inl, inr, Bool, true, false, not, Option, Some, None, List, [], ◌∷◌, ◌++◌, refl, ap, sym, ◌∙◌, arith, if◌then◌else◌, ◌&&◌, ◌||◌, slice_get, slice_index, ◌==◌, ℤ, Words, address_of, word_at, Addr, Instr, decode_of, holds_of, wrapped, NoSlot, Taken, Untaken, State, act, EdgeKind, always, never, end_at, within, Blocks, blocks_of, end_of, holding_of, last_word, is_fall, is_jump, cases_Bool, cond_both, word_at-some, Edge, Node, home_of, Open, jumps_in, graph_of, has_cases, node_of, Point, edge_from, node_after, point_of, same_kind, block, copy, end_is, is_in, node_is, long_jump_piece, Item, branched, branch_step, Way, number_of, way, ways_of, directed, edge_of, is_compared, last_in, target_along, transfer_ends, way_found, Stands, IsOne, always_holds}
 use Rattle.v8_decode.specs.declared.Instr.TheVariants as i
 use Rattle.cfg_blocks.specs.declared.BlockEnd.TheVariants as ends
 use Rattle.cfg_blocks.specs.declared.EdgeKind.TheVariants as kinds
@@ -25,7 +25,7 @@ use Rattle.image_code.proofs.EdgePieces.{along_far}
 use Rattle.image_code.proofs.Branches.{small}
 use Rattle.image_code.proofs.IntoSlots.{LeadsThere, entered, entered_untaken, no_jump, stands}
 use Rattle.image_code.proofs.Listed.{own_at, way_at}
-use Rattle.image_code.proofs.Visited.{AtWord, Edit, at_image, site, entered_none, entered_word, image_items, l, left_gone, word_is}
+use Rattle.image_code.proofs.Visited.{AtWord, PlacedEdit, at_image, site, entered_none, entered_word, image_items, l, left_gone, word_is}
 
 -- a branch comes to a taken transfer's slot only at the next instruction
 slot_next : (flag all annul : Bool) (s : State) (to : ℕ) → s.slot ≡ NoSlot
@@ -50,7 +50,7 @@ pub last_home : (b : Blocks) (opens : List Open) (node : Node) (k : ℕ) → hom
     → last_in (graph_of b opens) node ≡ last_word b.firsts b.words k
 last_home b opens node k h = elim (node_at node k h) [ inl here ↦ rw here | inr there ↦ rw there ]
 
-module _ (edit : Edit) (node : Node) (x : Point) (visit : AtWord edit node x) (cond : ℕ) (annul : Bool) (disp : ℤ)
+module _ (edit : PlacedEdit) (node : Node) (x : Point) (visit : AtWord edit node x) (cond : ℕ) (annul : Bool) (disp : ℤ)
     (says : decode_of (slice_index edit.g.text.words visit.word) ≡ i.Branch cond annul disp) where
   open edit use {g, codes, is, base, p, place, f}
   open visit use {word, at, none, there, npc, inside, cut, low, home}
@@ -125,7 +125,7 @@ module _ (edit : Edit) (node : Node) (x : Point) (visit : AtWord edit node x) (c
         )
 
     bare_out : w.to ≡ None → slice_get (l edit).list (way_out g.text (graph_in g) node w.kind)
-        ≡ Some (its_code ++ far_piece goal_address)
+        ≡ Some (its_code ++ long_jump_piece goal_address)
     bare_out e =
         bare_items ∙ ap (λ (o : Option ℕ). Some (way_items (directed g.switches node w.kind (node_of b o)))) e
 

@@ -1,7 +1,7 @@
 -- A branch outside a slot goes on somewhere, with all else as it was.
 use Rattle.image_code.proofs.Common.{◌≡◌, ℕ, ◌+◌, Bool, true, false, Some, refl, ap, sym, ◌∙◌, subst, ◌==◌, ℤ, decode_of, holds_of, wrapped, Slot, NoSlot, Taken, Untaken, State, target_of, unless_couple, act, on_word, Point, moved, branched, branch_step}
 use Rattle.v8_decode.specs.declared.Instr.TheVariants as i
-use Rattle.image_code.specs.Simulates.{Setting, at_point, does_at, word_of}
+use Rattle.image_code.specs.Simulates.{EditSetup, at_point, does_at, word_of}
 
 -- the same machine at another point
 pub record IsMoved (s u : State) : Type 0 where
@@ -19,7 +19,7 @@ moved_by false always true s to =
     record { pc = wrapped (s.pc + 8); npc = wrapped (s.pc + 12); slot = s.slot; is = refl }
 moved_by false always false s to = record { pc = s.npc; npc = wrapped (s.npc + 4); slot = Untaken; is = refl }
 
-module _ (g : Setting) (x : Point) (t : State) (none : x.slot ≡ NoSlot) (word : ℕ)
+module _ (g : EditSetup) (x : Point) (t : State) (none : x.slot ≡ NoSlot) (word : ℕ)
     (is_word : word_of g.text x.pc ≡ Some word)
     (cond : ℕ) (annul : Bool) (disp : ℤ) (says : decode_of word ≡ i.Branch cond annul disp) where
   branch_acts : act (at_point x t) (i.Branch cond annul disp)

@@ -1,5 +1,5 @@
 -- The pieces of a CALL and of a JMPL.
-use Rattle.image_code.proofs.Common.{◌≡◌, ◌^◌, ◌<◌, [], ◌∷◌, ◌++◌, ℤ, ◌≢◌, ℕ, ◌+◌, ◌%◌, true, None, PieceNo, decode_of, Op2, op2_in_range, op2_fits, Node, NoSlot, State, link, word_items, Point, find_image, IsApart}
+use Rattle.image_code.proofs.Common.{◌≡◌, ◌^◌, ◌<◌, [], ◌∷◌, ◌++◌, ℤ, ◌≢◌, ℕ, ◌+◌, ◌%◌, true, None, PieceNo, decode_of, Op2, op2_in_range, op2_fits, Node, NoSlot, State, link, word_items, Point, look_up, IsApart}
 use Rattle.v8_decode.specs.declared.Instr.TheVariants as i
 use Rattle.layout.specs.declared.items.Item.TheVariants as it
 use Rattle.image_code.specs.Simulates.{does_at}
@@ -38,7 +38,7 @@ pub record IsJump (site : Site) (node : Node) (x : Point) (t : State) : Type 0 w
   pub in_range : op2_in_range op2 ≡ true
   pub way : PieceNo
   pub marked : IsMarked site node x (λ address _.
-      word_items (find_image scratch second rd rs1 op2 site.f.halves.base address.0)
+      word_items (look_up scratch second rd rs1 op2 site.f.halves.base address.0)
       ++ it.EndMark ∷ it.Jump way ∷ [])
   pub open marked use {piece, within, here, address, original, word, is_word, items}
   pub says : decode_of word ≡ i.Jmpl rd rs1 op2

@@ -4,7 +4,7 @@ use Rattle.v8_decode.specs.declared.Instr.TheVariants as i
 use Rattle.jump_code.specs.Links.{IsAboutToCall}
 use Rattle.jump_code.proofs.Linking.{calls_act, calls_store}
 use Rattle.image_code.specs.Simulates.{at_point, does_at, gone_at, graph_in, number_in}
-use Rattle.image_code.proofs.Points.{EntersNext, HereAt, Placed, Site, StepsFrom, entered_at}
+use Rattle.image_code.proofs.Points.{ReachesNextIn, AtVisitIn, Placed, Site, StepsFrom, entered_at}
 use Rattle.image_code.proofs.CaseShapes.{LeadsTo}
 use Rattle.image_code.proofs.ConditionalShapes.{IsNoJumpsSlot}
 use Rattle.image_code.proofs.CallShapes.{IsCall}
@@ -20,7 +20,7 @@ call_acts : (x : Point) (disp : ℤ) (t : State) → x.slot ≡ NoSlot → act (
 unfolding act call_step
 call_acts x disp t none = ap (λ (z : Slot). unless_couple z (at_point x t) (called x disp t)) none
 
-module _ (site : Site) (h : Placed site) (node : Node) (x : Point) (t : State) (here : HereAt site node x t)
+module _ (site : Site) (h : Placed site) (node : Node) (x : Point) (t : State) (here : AtVisitIn site node x t)
     (c : IsCall site node x t) where
   open site use {g, l, base, p, place, f}
 
@@ -51,7 +51,7 @@ module _ (site : Site) (h : Placed site) (node : Node) (x : Point) (t : State) (
   steps : (edges : List ℕ) → LastDead g edges
       → LeadsTo l p c.way edges (word_at g.text (called x c.disp t).pc)
       (entered_at site (node_after (graph_in g) node edges) (point_of (called x c.disp t)))
-      → IsNoJumpsSlot g (called x c.disp t) → EntersNext site edges node x t (called x c.disp t)
+      → IsNoJumpsSlot g (called x c.disp t) → ReachesNextIn site edges node x t (called x c.disp t)
   steps edges last leads never =
       let acts = calls_act c.address.0 t about in
       let none = calls_store c.address.0 t about in

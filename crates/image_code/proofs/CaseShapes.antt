@@ -1,11 +1,11 @@
 -- The pieces of words that are no transfers, and what a step there leads to.
-use Rattle.image_code.proofs.Common.{◌≡◌, Some, ℕ, Option, ◌%◌, ◌^◌, ◌<◌, List, map, ◌⊎◌, [], ◌∷◌, ◌++◌, None, slice_get, slice_index, drop, ◌≢◌, ◌+◌, length, false, flat_map, option_map, word_at, PieceNo, Addr, decode_of, Node, State, is_transfer, Item, Point, point_of, node_after, Placement, far_piece, node_at, visit_of}
+use Rattle.image_code.proofs.Common.{◌≡◌, Some, ℕ, Option, ◌%◌, ◌^◌, ◌<◌, List, map, ◌⊎◌, [], ◌∷◌, ◌++◌, None, slice_get, slice_index, drop, ◌≢◌, ◌+◌, length, false, flat_map, option_map, word_at, PieceNo, Addr, decode_of, Node, State, is_transfer, Item, Point, point_of, node_after, Placement, long_jump_piece, node_at, visit_of}
 use Rattle.layout.specs.declared.items.Item.TheVariants as it
-use Rattle.image_code.specs.Simulates.{Setting, number_in, does_at, gone_at, graph_in, word_of}
+use Rattle.image_code.specs.Simulates.{EditSetup, number_in, does_at, gone_at, graph_in, word_of}
 use Rattle.image_code.proofs.Points.{Site, entered_at, visited_at}
 use Rattle.image_code.specs.Images.{Pieces}
 
-abbrev pub visits_it : Setting → Node → Point → State → Type 0
+abbrev pub visits_it : EditSetup → Node → Point → State → Type 0
 visits_it g node x t = (visit_of g.notes t ≡ Some x.pc) × (node_at g.notes t.pc ≡ Some (number_in g node))
 
 -- where control enters the piece of the point to which the original goes on
@@ -15,12 +15,12 @@ next_entry site node x t =
     entered_at site (node_after (graph_in site.g) node (gone_at site.g node x v)) (point_of v)
 
 -- and at which word of the text that goes on, if at any
-abbrev pub word_ahead : Setting → Point → State → Option ℕ
+abbrev pub word_ahead : EditSetup → Point → State → Option ℕ
 word_ahead g x t = word_at g.text (does_at g x t).pc
 
 -- an address to which a long jump can lead
-abbrev pub IsFar : ℕ → Type 0
-IsFar to = (to < 2 ^ 32) × (to % 4 ≡ 0)
+abbrev pub IsJumpTarget : ℕ → Type 0
+IsJumpTarget to = (to < 2 ^ 32) × (to % 4 ≡ 0)
 
 -- the words of the snippets on some edges, in order
 abbrev pub words_on : Pieces → List ℕ → List Item
@@ -34,7 +34,7 @@ LeadsTo l p piece edges next to =
     ((edges ≡ []) × (slice_index p.at piece.0 ≡ to))
     ⊎ (((z : PieceNo) × (slice_get l.list piece.0 ≡ Some (words_on l edges ++ it.Jump z ∷ []))
     × (slice_index p.at z.0 ≡ to))
-    ⊎ ((next ≡ None) × IsFar to × (slice_get l.list piece.0 ≡ Some (words_on l edges ++ far_piece to))))
+    ⊎ ((next ≡ None) × IsJumpTarget to × (slice_get l.list piece.0 ≡ Some (words_on l edges ++ long_jump_piece to))))
 
 -- the rest of a piece from its item n on
 abbrev pub rest_from : Pieces → ℕ → ℕ → Option (List Item)
@@ -59,7 +59,7 @@ abbrev pub LeadsOn : Pieces → Placement → (ℕ → ℕ → ℕ) → ℕ → 
 LeadsOn l p place k n edges next to =
     ((rest_from l k n ≡ Some (words_on l edges)) × (place k (n + length (flat_map l.codes edges)) ≡ to))
     ⊎ (JumpsOn l p k n edges next to
-    ⊎ ((next ≡ None) × IsFar to × (rest_from l k n ≡ Some (words_on l edges ++ far_piece to))))
+    ⊎ ((next ≡ None) × IsJumpTarget to × (rest_from l k n ≡ Some (words_on l edges ++ long_jump_piece to))))
 
 -- a piece leads to where the original goes on
 abbrev pub LeadsNext : Site → PieceNo → Node → Point → State → Type 0

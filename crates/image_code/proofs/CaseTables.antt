@@ -6,23 +6,23 @@ use Rattle.cfg_blocks.specs.Values.{instr_at}
 use Rattle.image_code.specs.Graphs.{case_table}
 use Rattle.image_code.specs.Keeping.{AreCaseTables, IsCaseTable}
 use Rattle.image_code.specs.Loads.{first_operand, load_of, second_operand}
-use Rattle.image_code.specs.Simulates.{CaseTable, Setting}
+use Rattle.image_code.specs.Simulates.{CaseTable, EditSetup}
 use Rattle.image_code.proofs.Opened.{AreCased, load_is}
 use Rattle.image_code.proofs.Operands.{load_fits}
 
--- The graph of a setting is that of its text, with the open switches of which the code knows.
-pub record IsKnown (g : Setting) : Type 0 where
+-- The graph of a set-up is that of its text, with the open switches of which the code knows.
+pub record IsKnown (g : EditSetup) : Type 0 where
   pub text : IsText g.text
   pub cased : AreCased g.text (blocks_of g.text g.given) g.switches
   pub known : g.opens ≡ map (case_table g.text) g.switches
 
 -- the open switch of which the code knows this
-pub record IsTableOf (g : Setting) (k : ℕ) (table : CaseTable) : Type 0 where
+pub record IsTableOf (g : EditSetup) (k : ℕ) (table : CaseTable) : Type 0 where
   pub o : Open
   pub is : slice_get g.switches k ≡ Some o
   pub same : case_table g.text o ≡ table
 
-module _ (g : Setting) (known : g.opens ≡ map (case_table g.text) g.switches) where
+module _ (g : EditSetup) (known : g.opens ≡ map (case_table g.text) g.switches) where
   pub table_of : (k : ℕ) (table : CaseTable) → slice_get g.opens k ≡ Some table → IsTableOf g k table
   table_of k table e =
       let found = mapped (case_table g.text) (slice_get g.switches k) table

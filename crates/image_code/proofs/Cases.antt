@@ -9,12 +9,12 @@ use Rattle.code_runs.proofs.Points.{acts_anywhere}
 use Rattle.image_code.specs.Simulates.{at_point, does_at, gone_at, graph_in, number_in, word_of, edit_in}
 use Rattle.image_code.specs.Cost.{IsWatched, in_first_word, is_spill}
 use Rattle.image_code.specs.Store.{cells_in}
-use Rattle.image_code.proofs.Points.{EntersNext, HereAt, Placed, Site, StepsFrom, entered_at}
+use Rattle.image_code.proofs.Points.{ReachesNextIn, AtVisitIn, Placed, Site, StepsFrom, entered_at}
 use Rattle.image_code.proofs.CaseShapes.{next_entry, visits_it, IsMarkedWord, IsPlain, word_ahead}
 use Rattle.image_code.proofs.Ended.{stops_act}
 use Rattle.image_code.proofs.Sparing.{uncounted}
 use Rattle.image_code.proofs.Memories.{fetch_is, images_stay, same_stored}
-use Rattle.image_code.proofs.Arrives.{Tail, IsFit, tail, weaker_tail}
+use Rattle.image_code.proofs.Routes.{Tail, IsFit, tail, weaker_tail}
 use Rattle.image_code.proofs.Dead.{LastDead, gone_last}
 use Rattle.image_code.proofs.Marked.{AtWords, at_words}
 use Rattle.image_code.proofs.EntersBy.{Past, ends_by, enters_by, followed_same}
@@ -37,7 +37,7 @@ module _ (site : Site) (h : Placed site) where
 
   -- ---- words that are no transfers
 
-  module _ (node : Node) (x : Point) (t : State) (here : HereAt site node x t) (rest : List Item)
+  module _ (node : Node) (x : Point) (t : State) (here : AtVisitIn site node x t) (rest : List Item)
       (c : IsMarkedWord site node x rest) where
     there : AtWords site node x t c.piece 1 (c.word ∷ [])
     there = at_words site h node x t here _ c.marked rest (c.word ∷ []) refl
@@ -97,7 +97,7 @@ module _ (site : Site) (h : Placed site) where
             )
 
     ends : (d : Ending) → v.ending ≡ Some d
-        → AllApart (pages_of g.notes) (judged_by t (decode_of c.word)) → EntersNext site (gone_at g node x v) node x t v
+        → AllApart (pages_of g.notes) (judged_by t (decode_of c.word)) → ReachesNextIn site (gone_at g node x v) node x t v
     ends d over apart =
         let stopped : a.ending ≡ Some d = ap (λ (z : State). z.ending) same ∙ over in
         let stays = stops_act t (decode_of c.word) c.straight here.live d stopped in
@@ -117,7 +117,7 @@ module _ (site : Site) (h : Placed site) where
         → AllApart (pages_of g.notes) (judged_by t (decode_of c.word))
         → (IsFit site h a → a.pc ≡ place c.piece 3 → Tail site h next edges a
         (entered_at site (node_after (graph_in g) node edges) (point_of v)) 24)
-        → (IsWatched (edit_in g) edges x v → next ≢ None) → EntersNext site edges node x t v
+        → (IsWatched (edit_in g) edges x v → next ≢ None) → ReachesNextIn site edges node x t v
     goes next edges last live apart onward watched =
         let alive : a.ending ≡ None = ap (λ (z : State). z.ending) same ∙ live in
         let went = goes_act t (decode_of c.word) c.straight alive in
@@ -158,13 +158,13 @@ module _ (site : Site) (h : Placed site) where
             → (v.ending ≡ None → IsFit site h a → a.pc ≡ place c.piece 3 → Tail site h next (gone_at g node x v) a
             (entered_at site (node_after (graph_in g) node (gone_at g node x v)) (point_of v)) 24)
             → (v.ending ≡ None → IsWatched (edit_in g) (gone_at g node x v) x v → next ≢ None)
-            → EntersNext site (gone_at g node x v) node x t v
+            → ReachesNextIn site (gone_at g node x v) node x t v
         by None e onward watched =
             goes next _ (gone_last g l f h.cells node x v) e (judged_moved g.notes x t (decode_of c.word) apart)
             (onward e) (watched e)
         by (Some d) e onward watched = ends d e (judged_moved g.notes x t (decode_of c.word) apart)
 
-  module _ (node : Node) (x : Point) (t : State) (here : HereAt site node x t) (c : IsPlain site node x t) where
+  module _ (node : Node) (x : Point) (t : State) (here : AtVisitIn site node x t) (c : IsPlain site node x t) where
     pub plains_step : AllApart (pages_of g.notes) (judged_by (at_point x t) (decode_of c.word)) → StepsFrom site node x t
     plains_step apart =
         marked_step node x t here c.rest c.marked (word_ahead g x t) apart

@@ -5,9 +5,9 @@ use Rattle.code_runs.specs.Ours.{IsOurs}
 use Rattle.code_runs.proofs.StoredWords.{still_stored}
 use Rattle.snippets.specs.Cells.{update}
 use Rattle.snippet_code.specs.Runs.{MayStore}
-use Rattle.image_code.specs.Simulates.{Setting}
+use Rattle.image_code.specs.Simulates.{EditSetup}
 use Rattle.image_code.specs.Store.{cells_in, operations_on, snippet_on, updates}
-use Rattle.image_code.specs.Images.{Frame, HasCells, IsFramed, Pieces}
+use Rattle.image_code.specs.Images.{EditorData, HasCells, IsEditorData, Pieces}
 
 -- ---- a word that nothing is stored in
 
@@ -58,7 +58,7 @@ operations_then snips [] others = omega arith
 operations_then snips (edge ∷ edges) others =
     omega (arith, operations_then snips edges others)
 
-module _ (g : Setting) (l : Pieces) (f : Frame) (framed : IsFramed g f) (has : HasCells g l f) where
+module _ (g : EditSetup) (l : Pieces) (f : EditorData) (framed : IsEditorData g f) (has : HasCells g l f) where
   pub cell_low : (cell : ℕ) → cell < g.notes.cells → cell_at g.notes.base cell + 4 ≤ 2 ^ 31
   cell_low cell within = let low = has.low in omega (arith, low, within)
 

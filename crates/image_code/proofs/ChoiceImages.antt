@@ -1,12 +1,12 @@
 -- The image of an open switch's jump, at the jump's block itself: the Case edge that it chooses leads to the slot.
-use Rattle.image_code.proofs.Common.{◌≡◌, ◌≢◌, ℕ, zero, suc, ◌+◌, ◌*◌, ◌%◌, ◌^◌, ◌<◌, Bool, true, Some, None, List, [], ◌∷◌, length, map, take, refl, ap, sym, ◌∙◌, subst, arith, ◌==◌, if◌then◌else◌, slice_get, slice_index, sum_by, and_parts, eq-eqb, lt-ltb, ltb-true, length-map, sum_by-cons, slice_get-map, slice_get_within, Words, address_of, word_at, Addr, Op2, operands_in_range, decode_of, decoded_range, nat_lt, NoSlot, Taken, State, EdgeKind, Blocks, blocks_of, holding_of, last_word, ends_block_after, word_at-some, Node, Block, home_of, Open, jumps_in, Graph, has_cases, node_of, Point, node_after, point_of, way_of, same_kind, IsOnItsWay, next_word, block, end_is, node_is, table_word, choice_at, kept_address, Item, IsTarget, transfer_ends, jump_delayed, IsCaseBlock}
+use Rattle.image_code.proofs.Common.{◌≡◌, ◌≢◌, ℕ, zero, suc, ◌+◌, ◌*◌, ◌%◌, ◌^◌, ◌<◌, Bool, true, Some, None, List, [], ◌∷◌, length, map, take, refl, ap, sym, ◌∙◌, subst, arith, ◌==◌, if◌then◌else◌, slice_get, slice_index, sum_by, and_parts, eq-eqb, lt-ltb, ltb-true, length-map, sum_by-cons, slice_get-map, slice_get_within, Words, address_of, word_at, Addr, Op2, operands_in_range, decode_of, decoded_range, nat_lt, NoSlot, Taken, State, EdgeKind, Blocks, blocks_of, holding_of, last_word, ends_block_after, word_at-some, Node, Block, home_of, Open, jumps_in, Graph, has_cases, node_of, Point, node_after, point_of, way_of, same_kind, IsOnItsWay, next_word, block, end_is, node_is, table_word, choice_at, saved_address, Item, IsTarget, transfer_ends, jump_delayed, IsCaseBlock}
 use Rattle.v8_decode.specs.declared.Instr.TheVariants as i
 use Rattle.cfg_blocks.specs.declared.EdgeKind.TheVariants as kinds
 use Rattle.jump_slice.proofs.About.{in_targets}
 use Rattle.jump_slice.proofs.CaseBlocks.{some_of}
 use Rattle.image_code.proofs.CaseShapes.{next_entry}
-use Rattle.image_code.proofs.ChoiceShapes.{IsChoice}
-use Rattle.image_code.specs.Choices.{choice_piece}
+use Rattle.image_code.proofs.ChoiceShapes.{IsSwitchJump}
+use Rattle.image_code.specs.Choices.{switch_jump_piece}
 use Rattle.image_code.specs.Graphs.{case_table}
 use Rattle.image_code.proofs.Points.{entered_at}
 use Rattle.image_code.specs.Images.{slot_piece}
@@ -18,7 +18,7 @@ use Rattle.image_code.proofs.ImageNumbers.{block_of}
 use Rattle.image_code.proofs.IntoSlots.{before, stands}
 use Rattle.image_code.proofs.JumpImages.{goes, jump_acts}
 use Rattle.image_code.proofs.Positions.{any_at, contains, get_behind, get_first}
-use Rattle.image_code.proofs.Visited.{AtWord, Edit, at_image, site, IsTargetOf, case_piece_is, entered_slot, image_items, l, nothing_gone, on_its_way, target, way_in}
+use Rattle.image_code.proofs.Visited.{AtWord, PlacedEdit, at_image, site, IsTargetOf, case_piece_is, entered_slot, image_items, l, nothing_gone, on_its_way, target, way_in}
 
 -- ---- the numbers of Case edges' pieces, by entries
 
@@ -56,11 +56,11 @@ choice_is : (text : Words) (graph : Graph) (jumps cases : ℕ) (codes : ℕ → 
     (rd rs1 : ℕ) (op2 : Op2) → jumps_in graph.opens block ≡ true → jump_number text graph block ≡ Some k
     → slice_get graph.opens k ≡ Some o
     → jump_image_by text graph jumps cases address (Block (record { 0 = block })) rd rs1 op2
-    ≡ choice_piece rd address block (distance_of cases (first_entry text graph k) o.switch.table.0)
+    ≡ switch_jump_piece rd address block (distance_of cases (first_entry text graph k) o.switch.table.0)
 choice_is text graph jumps cases codes address block k o rd rs1 op2 jumping numbered is =
     rw (jumping, numbered, is)
 
-module _ (edit : Edit) (node : Node) (x : Point) (visit : AtWord edit node x) (t : State) (rd rs1 : ℕ) (op2 : Op2)
+module _ (edit : PlacedEdit) (node : Node) (x : Point) (visit : AtWord edit node x) (t : State) (rd rs1 : ℕ) (op2 : Op2)
     (says : decode_of (slice_index edit.g.text.words visit.word) ≡ i.Jmpl rd rs1 op2)
     (chooses : Chooses edit.g node x t (does_at edit.g x t)) (k : ℕ) (o : Open)
     (among : slice_get edit.g.switches k ≡ Some o) (numbered : jump_number edit.g.text (graph_in edit.g) o.block ≡ Some k)
@@ -135,7 +135,7 @@ module _ (edit : Edit) (node : Node) (x : Point) (visit : AtWord edit node x) (t
   many : first + entry < length (case_numbers g.text (graph_in g))
   many = slice_get_within (case_numbers g.text (graph_in g)) (first + entry) _ number_at
 
-  kept : kept_address t ≡ o.switch.table.0 + 4 * entry
+  kept : saved_address t ≡ o.switch.table.0 + 4 * entry
   kept =
       omega (arith, (word_at-some g.text o.switch.table.0 begins block_is.table.at).is, from_is, chosen.kept)
 
@@ -223,13 +223,13 @@ module _ (edit : Edit) (node : Node) (x : Point) (visit : AtWord edit node x) (t
   abbrev piece : ℕ
   piece = image_number g.text (graph_in g) node word
 
-  items : slice_get (l edit).list piece ≡ Some (choice_piece rd address (number_in g node) distance)
+  items : slice_get (l edit).list piece ≡ Some (switch_jump_piece rd address (number_in g node) distance)
   items =
       image_items edit node x visit (i.Jmpl rd rs1 op2) says
       ∙ rw itself (ap (λ (xs : List Item). Some xs) (choice_is g.text (graph_in g) (jumps_at g.text f.table.base)
       f.cases.base codes address o.block k o rd rs1 op2 jumping numbered among))
 
-  pub choice_case : IsChoice (site edit) node x t
+  pub choice_case : IsSwitchJump (site edit) node x t
   choice_case =
       let w = word_at-some g.text x.pc word at in
       let place = place_is in

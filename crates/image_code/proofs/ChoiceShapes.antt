@@ -1,12 +1,12 @@
 -- The piece of the jump of an open switch.
-use Rattle.image_code.proofs.Common.{◌≡◌, ℕ, ◌+◌, ◌%◌, ◌^◌, ◌<◌, ◌≤◌, [], ◌∷◌, ◌++◌, length, Some, None, slice_get, slice_index, Op2, decode_of, Node, Block, NoSlot, State, table_word, word_items, choice_at, choice_image, Point}
+use Rattle.image_code.proofs.Common.{◌≡◌, ℕ, ◌+◌, ◌%◌, ◌^◌, ◌<◌, ◌≤◌, [], ◌∷◌, ◌++◌, length, Some, None, slice_get, slice_index, Op2, decode_of, Node, Block, NoSlot, State, table_word, word_items, choice_at, switch_jump, Point}
 use Rattle.v8_decode.specs.declared.Instr.TheVariants as i
 use Rattle.layout.specs.declared.items.Item.TheVariants as it
 use Rattle.image_code.specs.Simulates.{CaseTable, does_at, gone_at}
 use Rattle.image_code.proofs.Points.{Site}
 use Rattle.image_code.proofs.CaseShapes.{IsMarked, next_entry}
 
-pub record IsChoice (site : Site) (node : Node) (x : Point) (t : State) : Type 0 where
+pub record IsSwitchJump (site : Site) (node : Node) (x : Point) (t : State) : Type 0 where
   pub none : x.slot ≡ NoSlot
   pub next : x.npc ≡ (x.pc + 4) % 2 ^ 32
   pub number : ℕ
@@ -20,7 +20,7 @@ pub record IsChoice (site : Site) (node : Node) (x : Point) (t : State) : Type 0
   pub op2 : Op2
   pub distance : ℕ
   pub near : distance < 2 ^ 32
-  pub marked : IsMarked site node x (λ address _. word_items (choice_image rd address.0 distance) ++ it.EndMark ∷ [])
+  pub marked : IsMarked site node x (λ address _. word_items (switch_jump rd address.0 distance) ++ it.EndMark ∷ [])
   pub open marked use {piece, within, here, address, original, word, is_word, items}
   pub says : decode_of word ≡ i.Jmpl rd rs1 op2
   -- the word that has the piece's address

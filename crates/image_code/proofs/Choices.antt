@@ -1,13 +1,13 @@
 -- The words of an open switch's JMPL lead to the piece of a Case edge.
-use Rattle.image_code.proofs.Common.{◌≡◌, ℕ, ◌+◌, ◌%◌, ◌^◌, ◌<◌, ◌≤◌, false, Some, None, List, [], ◌∷◌, ◌++◌, length, refl, ap, sym, ◌∙◌, arith, ◌/◌, slice_index, length-append, Instr, wrapped, code_of, State, is_transfer, Node, Point, instr_at, node_after, point_of, hopped, table_word, page_word, memory_word, leads_weaker, stores_there, link, Fit, words_mean, choice_at, choice_image, words_of, HasWordAt, loads_there, jumped}
+use Rattle.image_code.proofs.Common.{◌≡◌, ℕ, ◌+◌, ◌%◌, ◌^◌, ◌<◌, ◌≤◌, false, Some, None, List, [], ◌∷◌, ◌++◌, length, refl, ap, sym, ◌∙◌, arith, ◌/◌, slice_index, length-append, Instr, wrapped, code_of, State, is_transfer, Node, Point, instr_at, node_after, point_of, hopped, table_word, page_word, memory_word, leads_weaker, stores_there, link, Fit, words_mean, choice_at, switch_jump, words_of, HasWordAt, loads_there, jumped}
 use Rattle.jump_code.proofs.Fitting.{link_fits, lt}
 use Rattle.jump_code.specs.Choosing.{ComesToCase, IsAboutToChoose, choose, chosen}
 use Rattle.jump_code.proofs.Choosing.{choices_simulate}
 use Rattle.image_code.specs.Simulates.{does_at, graph_in}
 use Rattle.image_code.specs.Cost.{is_jmpl}
-use Rattle.image_code.proofs.Points.{EntersNext, HereAt, Placed, Site, StepsFrom, entered_at}
-use Rattle.image_code.proofs.ChoiceShapes.{IsChoice}
-use Rattle.image_code.proofs.Arrives.{bare_here}
+use Rattle.image_code.proofs.Points.{ReachesNextIn, AtVisitIn, Placed, Site, StepsFrom, entered_at}
+use Rattle.image_code.proofs.ChoiceShapes.{IsSwitchJump}
+use Rattle.image_code.proofs.Routes.{bare_here}
 use Rattle.image_code.proofs.EntersBy.{moves_by}
 use Rattle.image_code.proofs.Marked.{AtWords, at_instrs, link_few}
 use Rattle.image_code.proofs.Sparing.{instr_is}
@@ -24,15 +24,15 @@ choose_fits distance short =
 
 -- ---- the step
 
-module _ (site : Site) (h : Placed site) (node : Node) (x : Point) (t : State) (here : HereAt site node x t)
-    (c : IsChoice site node x t) where
+module _ (site : Site) (h : Placed site) (node : Node) (x : Point) (t : State) (here : AtVisitIn site node x t)
+    (c : IsSwitchJump site node x t) where
   open site use {g, p, f}
 
   abbrev after_jump : State
   after_jump = jumped c.address.0 c.rd c.rs1 c.op2 t
 
   abbrev image : List Instr
-  image = choice_image c.rd c.address.0 c.distance
+  image = switch_jump c.rd c.address.0 c.distance
 
   count_is : length image ≡ length (link c.rd c.address.0) + 9
   count_is = length-append (link c.rd c.address.0) (choose c.distance)
@@ -87,7 +87,7 @@ module _ (site : Site) (h : Placed site) (node : Node) (x : Point) (t : State) (
   target = loaded.1 ∙ c.has
 
   goes : entered_at site (node_after (graph_in g) node []) (point_of after_jump) ≡ chosen c.distance t
-      → EntersNext site [] node x t after_jump
+      → ReachesNextIn site [] node x t after_jump
   goes arrives =
       let k = comes in
       let to = chosen c.distance t in

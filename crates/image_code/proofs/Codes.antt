@@ -17,7 +17,7 @@ use Rattle.image_code.specs.Codes.{CodeDoes}
 use Rattle.image_code.specs.Private.{code_at, words_in}
 use Rattle.image_code.specs.declared.expansion.CodeSpan.{CodeSpan}
 use Rattle.image_code.specs.declared.expansion.Codes.{Codes}
-use Rattle.image_code.specs.Parts.{codes_of}
+use Rattle.image_code.specs.SnippetWords.{codes_of}
 
 pub if_both : {A E : Type 0} (P Q R : A → Type 0) (r : Result A E) → ((a : A) → P a → Q a → R a) → IfOk r P → IfOk r Q
     → IfOk r R

@@ -64,15 +64,15 @@ pub use Rattle.eel_base.specs.declared.numbers.BlockNo.{BlockNo}
 pub use Rattle.eel_base.specs.declared.numbers.PieceNo.{PieceNo}
 pub use Rattle.jump_code.proofs.Fitting.{Fit, words_mean}
 pub use Rattle.jump_code.proofs.Laid.{pieces_are_laid}
-pub use Rattle.jump_code.specs.Choosing.{choice_at, choice_image}
-pub use Rattle.jump_code.specs.Finding.{find_image, go_found}
+pub use Rattle.jump_code.specs.Choosing.{choice_at, switch_jump}
+pub use Rattle.jump_code.specs.Finding.{look_up, resume}
 pub use Rattle.jump_code.specs.FreeRegister.{IsApart, free_register, other_register, second_register}
 pub use Rattle.jump_code.specs.Jumped.{jumped}
-pub use Rattle.jump_code.specs.Keeping.{keep_load}
+pub use Rattle.jump_code.specs.Keeping.{save_load_address}
 pub use Rattle.jump_code.specs.Leaving.{foreign}
 pub use Rattle.jump_code.specs.Links.{link, past}
-pub use Rattle.jump_code.specs.PageWords.{IsPageWord, kept_address}
-pub use Rattle.jump_code.specs.Pieces.{far_piece, foreign_piece, word_items}
+pub use Rattle.jump_code.specs.PageWords.{IsPageWord, saved_address}
+pub use Rattle.jump_code.specs.Pieces.{long_jump_piece, foreign_piece, word_items}
 pub use Rattle.jump_slice.proofs.About.{about}
 pub use Rattle.jump_slice.proofs.Opened.{opens_are}
 pub use Rattle.jump_slice.specs.Cases.{IsOpenSwitch}

@@ -3,12 +3,12 @@ use Rattle.image_code.proofs.Common.{◌≡◌, ◌-◌, true, ℕ, ◌<◌, Boo
 use Rattle.cfg_blocks.specs.declared.EdgeKind.TheVariants as kinds
 use Rattle.layout.specs.declared.items.Item.TheVariants as it
 use Rattle.v8_decode.specs.declared.Instr.TheVariants as i
-use Rattle.image_code.specs.Simulates.{Setting, does_at}
+use Rattle.image_code.specs.Simulates.{EditSetup, does_at}
 use Rattle.image_code.proofs.Points.{Site}
 use Rattle.image_code.proofs.CaseShapes.{IsMarked, LeadsNext}
 
 -- the machine doesn't come to a jump's slot
-abbrev pub IsNoJumpsSlot : Setting → State → Type 0
+abbrev pub IsNoJumpsSlot : EditSetup → State → Type 0
 IsNoJumpsSlot g v =
     v.slot ≡ Taken → same_kind (way_of (instr_at g.text (v.pc - 4)) v.slot) kinds.Out ≡ true → ⊥
 

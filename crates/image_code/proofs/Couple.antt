@@ -5,7 +5,7 @@ use Rattle.v8_step.specs.declared.Ending.TheVariants.{Couple}
 use Rattle.v8_step.specs.Transfers.{ended}
 use Rattle.layout.proofs.Going.{taken_acts}
 use Rattle.image_code.specs.Simulates.{IsOnWay, at_point, does_at, gone_at}
-use Rattle.image_code.proofs.Points.{EntersNext, HereAt, Placed, Site, StepsFrom}
+use Rattle.image_code.proofs.Points.{ReachesNextIn, AtVisitIn, Placed, Site, StepsFrom}
 use Rattle.image_code.proofs.CoupleShapes.{IsCouple}
 use Rattle.image_code.proofs.Memories.{fetch_is}
 use Rattle.image_code.proofs.Marked.{AtWords, at_words}
@@ -28,7 +28,7 @@ couple_acts s x e ne = go x e
     go (i.Jmpl rd rs1 op2) e = by s.slot _ ne
     go _ e = absurd (cc)
 
-module _ (site : Site) (h : Placed site) (node : Node) (x : Point) (t : State) (here : HereAt site node x t)
+module _ (site : Site) (h : Placed site) (node : Node) (x : Point) (t : State) (here : AtVisitIn site node x t)
     (c : IsCouple site node x) where
   open site use {g, l, base, p, place}
 
@@ -87,7 +87,7 @@ module _ (site : Site) (h : Placed site) (node : Node) (x : Point) (t : State) (
       (no_stores counted mid (i.Branch 8 false (pos 2)) here.live
       (record { word = couple_word; fetched = fetched; decodes = couple_says }) refl)
 
-  steps : EntersNext site
+  steps : ReachesNextIn site
       (gone_at g node x (ended (at_point x t) Couple)) node x t (ended (at_point x t) Couple)
   steps =
       let v : State = ended (at_point x t) Couple in

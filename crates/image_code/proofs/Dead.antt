@@ -5,20 +5,20 @@ use Rattle.v8_decode.specs.declared.Instr.TheVariants as i
 use Rattle.cfg_blocks.specs.declared.EdgeKind.TheVariants as kinds
 use Rattle.cfg_normal.specs.declared.Slot.TheVariants.{Nothing}
 use Rattle.cfg_walk.specs.Walk.{completed, left_along, left_at}
-use Rattle.image_code.specs.Simulates.{IsFollowedBy, IsKept, Setting, gone_at, graph_in}
+use Rattle.image_code.specs.Simulates.{IsFollowedBy, IsKept, EditSetup, gone_at, graph_in}
 use Rattle.image_code.specs.Cost.{is_out}
-use Rattle.image_code.specs.Images.{Frame, HasCells, Pieces}
+use Rattle.image_code.specs.Images.{EditorData, HasCells, Pieces}
 use Rattle.image_code.proofs.Between.{same_at}
 
 -- ---- lists of edges
 
 -- nothing is dead behind any of some edges
-abbrev pub NothingDead : Setting → List ℕ → Type 0
+abbrev pub NothingDead : EditSetup → List ℕ → Type 0
 NothingDead g [] = Unit {0}
 NothingDead g (edge ∷ edges) = (g.dead edge ≡ []) × NothingDead g edges
 
 -- something is dead behind the last one at most
-abbrev pub LastDead : Setting → List ℕ → Type 0
+abbrev pub LastDead : EditSetup → List ℕ → Type 0
 LastDead g [] = Unit {0}
 LastDead g (edge ∷ edges) = ((edges ≡ []) ⊎ (g.dead edge ≡ [])) × LastDead g edges
 
@@ -26,7 +26,7 @@ none_behind : (first others : List ℕ) → first ++ others ≡ [] → (first �
 none_behind [] others e = (refl, e)
 none_behind (edge ∷ first) others e = absurd (cc)
 
-pub last_parted : (g : Setting) (first others : List ℕ) → LastDead g (first ++ others)
+pub last_parted : (g : EditSetup) (first others : List ℕ) → LastDead g (first ++ others)
     → (others ≡ []) ⊎ NothingDead g first
 last_parted g [] others d = inr tt
 last_parted g (edge ∷ first) others (inl e, more) = inl (none_behind first others e).1
@@ -35,21 +35,21 @@ last_parted g (edge ∷ first) others (inr e, more) = elim (last_parted g first 
   | inr nothing ↦ inr (e, nothing)
 ]
 
-pub last_first : (g : Setting) (first others : List ℕ) → LastDead g (first ++ others) → LastDead g first
+pub last_first : (g : EditSetup) (first others : List ℕ) → LastDead g (first ++ others) → LastDead g first
 last_first g [] others d = tt
 last_first g (edge ∷ first) others (inl e, more) = (inl (none_behind first others e).0, last_first g first others more)
 last_first g (edge ∷ first) others (inr e, more) = (inr e, last_first g first others more)
 
-pub last_others : (g : Setting) (first others : List ℕ) → LastDead g (first ++ others) → LastDead g others
+pub last_others : (g : EditSetup) (first others : List ℕ) → LastDead g (first ++ others) → LastDead g others
 last_others g [] others d = d
 last_others g (edge ∷ first) others d = last_others g first others d.1
 
-pub nothing_parted : (g : Setting) (first others : List ℕ) → NothingDead g (first ++ others)
+pub nothing_parted : (g : EditSetup) (first others : List ℕ) → NothingDead g (first ++ others)
     → NothingDead g first × NothingDead g others
 nothing_parted g [] others d = (tt, d)
 nothing_parted g (edge ∷ first) others d = let more = nothing_parted g first others d.1 in ((d.0, more.0), more.1)
 
-pub kept_parted : (g : Setting) (first others : List ℕ) (window : ℕ) (item : StateItem)
+pub kept_parted : (g : EditSetup) (first others : List ℕ) (window : ℕ) (item : StateItem)
     → IsKept g (first ++ others) window item → IsKept g first window item × IsKept g others window item
 kept_parted g [] others window item k = (tt, k)
 kept_parted g (edge ∷ first) others window item k =
@@ -59,7 +59,7 @@ kept_parted g (edge ∷ first) others window item k =
 -- ---- states
 
 -- The same but for what is dead behind one of some edges, for the place and for memory.
-pub record IsAlike (g : Setting) (edges : List ℕ) (a b : State) : Type 0 where
+pub record IsAlike (g : EditSetup) (edges : List ℕ) (a b : State) : Type 0 where
   pub ending : b.ending ≡ a.ending
   pub window : b.window ≡ a.window
   pub valid : b.valid ≡ a.valid
@@ -67,7 +67,7 @@ pub record IsAlike (g : Setting) (edges : List ℕ) (a b : State) : Type 0 where
   pub registers : length b.registers ≡ length a.registers
   pub items : (item : StateItem) → IsKept g edges a.window item → IsSameAt item a b
 
-pub alike_itself : (g : Setting) (edges : List ℕ) (a : State) → IsAlike g edges a a
+pub alike_itself : (g : EditSetup) (edges : List ℕ) (a : State) → IsAlike g edges a a
 alike_itself g edges a =
     let items : (item : StateItem) → IsKept g edges a.window item → IsSameAt item a a =
     λ item _. same_at item a a refl refl refl in
@@ -90,7 +90,7 @@ same_then : (item : StateItem) (a b c : State) (to : ℕ) (m : Memory) → IsSam
 same_then (Register n) a b c to m e f = e ∙ f
 same_then _ a b c to m e f = e ∙ f
 
-pub alike_hopped : (g : Setting) (edges : List ℕ) (a b : State) (to : ℕ) (m : Memory) → IsAlike g edges a b
+pub alike_hopped : (g : EditSetup) (edges : List ℕ) (a b : State) (to : ℕ) (m : Memory) → IsAlike g edges a b
     → IsAlike g edges a (hopped b to m)
 alike_hopped g edges a b to m one =
     let items : (item : StateItem) → IsKept g edges a.window item → IsSameAt item a (hopped b to m) =
@@ -98,7 +98,7 @@ alike_hopped g edges a b to m one =
     assumption
 
 -- what is alike to a state with the items of the original follows it
-pub followed_alike : (g : Setting) (edges : List ℕ) (v a after : State)
+pub followed_alike : (g : EditSetup) (edges : List ℕ) (v a after : State)
     → hopped v 0 after.memory ≡ hopped a 0 after.memory
     → IsSameOutside (pages_of g.notes) v.memory after.memory → IsAlike g edges a after
     → IsFollowedBy (pages_of g.notes) (IsKept g edges v.window) v after
@@ -115,7 +115,7 @@ followed_alike g edges v a after same outside alike = record {
       (alike.items item (subst (λ z. IsKept g edges z item) (ap (λ (z : State). z.window) same) kept));
 }
 
-pub alike_then : (g : Setting) (edges first others : List ℕ) → edges ≡ first ++ others → (a b c : State) (to : ℕ)
+pub alike_then : (g : EditSetup) (edges first others : List ℕ) → edges ≡ first ++ others → (a b c : State) (to : ℕ)
     (m : Memory) → IsAlike g first a b → IsAlike g others (hopped b to m) c → IsAlike g edges a c
 alike_then g edges first others all a b c to m one other = record {
   ending = other.ending ∙ one.ending;
@@ -131,12 +131,12 @@ alike_then g edges first others all a b c to m one other = record {
 
 -- ---- the edges of a step
 
-listed_last : (g : Setting) (o : Option ℕ) → LastDead g (option_to_list o)
+listed_last : (g : EditSetup) (o : Option ℕ) → LastDead g (option_to_list o)
 listed_last g None = tt
 listed_last g (Some edge) = (inl refl, tt)
 
 -- the edges of a JMPL have nothing dead
-module _ (g : Setting) (l : Pieces) (f : Frame) (has : HasCells g l f) where
+module _ (g : EditSetup) (l : Pieces) (f : EditorData) (has : HasCells g l f) where
   found_out : (p : Edge → Bool) → ((edge : Edge) → p edge ≡ true → same_kind edge.kind kinds.Out ≡ true) → (edge : ℕ)
       → position p (graph_in g).edges ≡ Some edge → g.dead edge ≡ []
   found_out p outs edge e =

@@ -5,8 +5,8 @@ use Rattle.cfg_blocks.specs.declared.EdgeKind.TheVariants as kinds
 use Rattle.std.specs.Int.{cast_unsigned}
 use Rattle.cfg_walk.proofs.Edges.{number_of_list}
 use Rattle.cfg_walk.proofs.NoneOpen.{edge_lies_in}
-use Rattle.image_code.specs.Simulates.{Setting, graph_in}
-use Rattle.image_code.proofs.CaseShapes.{IsFar}
+use Rattle.image_code.specs.Simulates.{EditSetup, graph_in}
+use Rattle.image_code.proofs.CaseShapes.{IsJumpTarget}
 use Rattle.image_code.specs.Made.{first_word, piece_list, way_by}
 use Rattle.image_code.specs.Numbered.{case_piece, place_in}
 use Rattle.image_code.proofs.CaseTables.{IsKnown}
@@ -15,17 +15,17 @@ use Rattle.image_code.proofs.Listed.{case_entry_at, own_at, place_is, way_at}
 
 -- ---- addresses to which a long jump can lead
 
-pub past_far : (text : Words) (word : ℕ) → IsText text → word < length text.words → IsFar (address_of text (word + 2))
+pub past_far : (text : Words) (word : ℕ) → IsText text → word < length text.words → IsJumpTarget (address_of text (word + 2))
 past_far text word is l =
     (omega arith, omega arith)
 
 reached_far : (text : Words) (word displacement : ℕ) → IsText text
-    → IsFar ((address_of text word + 4 * displacement) % 2 ^ 32)
+    → IsJumpTarget ((address_of text word + 4 * displacement) % 2 ^ 32)
 reached_far text word displacement is = let a = is.aligned in (omega arith, omega arith)
 
 -- where a transfer leads, which stands at a word
 pub along_far : (text : Words) (word : ℕ) (kind : EdgeKind) (instr : Instr) → IsText text → word < length text.words
-    → IsFar (target_along text word kind instr)
+    → IsJumpTarget (target_along text word kind instr)
 along_far text word kinds.Taken (i.Branch cond annul disp) is l = reached_far text word (cast_unsigned w32 disp) is
 along_far text word kinds.Call (i.Call disp) is l = reached_far text word (cast_unsigned w32 disp) is
 along_far text word kind instr is l = past_far text word is l
@@ -36,7 +36,7 @@ along_far text word kind instr is l = past_far text word is l
 abbrev pub by_case : Node → WayOut
 by_case to = record { kind = kinds.Case; to = Some to }
 
-module _ (g : Setting) (is : IsKnown g) (table cases : ℕ) where
+module _ (g : EditSetup) (is : IsKnown g) (table cases : ℕ) where
   abbrev b : Blocks
   b = blocks_of g.text g.given
 

@@ -1,15 +1,15 @@
 -- From a visit to where control enters the next one: what runs at the visit itself, and the way behind it; or up to the
 -- end of the run.
-use Rattle.image_code.proofs.Common.{◌≡◌, ◌≢◌, ℕ, suc, ◌+◌, ◌-◌, ◌<◌, ◌≤◌, inl, inr, true, false, Option, Some, None, List, [], ◌++◌, append-nil, refl, ap, sym, ◌∙◌, subst, arith, ◌%◌, word_at, Instr, decode_of, Memory, IsSameOutside, Ending, NoSlot, Taken, State, register_of, puts_on_word, run, run_puts, is_transfer, IsValid, run-valid, pages_of, Node, Point, instr_at, node_after, point_of, way_of, lived_to, same_kind, count_stores, hopped, Leads, IsAmongWords, page_word, Stores, memory_word, count_add, none_then, leads_weaker, found_in, IsPageWord, kept_address, IsSilent, stores_then, leads_then, puts_add, outside_refl}
+use Rattle.image_code.proofs.Common.{◌≡◌, ◌≢◌, ℕ, suc, ◌+◌, ◌-◌, ◌<◌, ◌≤◌, inl, inr, true, false, Option, Some, None, List, [], ◌++◌, append-nil, refl, ap, sym, ◌∙◌, subst, arith, ◌%◌, word_at, Instr, decode_of, Memory, IsSameOutside, Ending, NoSlot, Taken, State, register_of, puts_on_word, run, run_puts, is_transfer, IsValid, run-valid, pages_of, Node, Point, instr_at, node_after, point_of, way_of, lived_to, same_kind, count_stores, hopped, Leads, IsAmongWords, page_word, Stores, memory_word, count_add, none_then, leads_weaker, found_in, IsPageWord, saved_address, IsSilent, stores_then, leads_then, puts_add, outside_refl}
 use Rattle.v8_decode.specs.declared.Instr.TheVariants as i
 use Rattle.cfg_blocks.specs.declared.EdgeKind.TheVariants as kinds
 use Rattle.code_runs.proofs.PointsAlike.{no_puts as quiet_transfer}
-use Rattle.image_code.specs.Simulates.{IsFollowedBy, IsKept, IsOnWay, IsThere, Setting, at_point, gone_at, graph_in, word_of, edit_in}
+use Rattle.image_code.specs.Simulates.{IsFollowedBy, IsKept, IsOnWay, IsThere, EditSetup, at_point, gone_at, graph_in, word_of, edit_in}
 use Rattle.image_code.specs.Cost.{IsWatched, NoneIsOut, in_first_word, is_jmpl, is_spill, is_transfer_at}
 use Rattle.image_code.specs.Store.{cells_in, updates}
-use Rattle.image_code.proofs.Points.{EntersNext, Forms, HereAt, Placed, Site, entered_at}
-use Rattle.image_code.specs.Images.{Frame, HasImages, HasNoCases, IsFramed}
-use Rattle.image_code.proofs.Arrives.{Arrives, IsFit, bare_on}
+use Rattle.image_code.proofs.Points.{ReachesNextIn, Forms, AtVisitIn, Placed, Site, entered_at}
+use Rattle.image_code.specs.Images.{EditorData, HasImages, HasNoCases, IsEditorData}
+use Rattle.image_code.proofs.Routes.{FollowsRoute, IsFit, bare_on}
 use Rattle.image_code.proofs.Between.{can_run, ended_none, quiet_of, stores_weaker}
 use Rattle.image_code.proofs.Cells.{cells_above, page_above, updates_same}
 use Rattle.image_code.proofs.Dead.{LastDead, alike_hopped, alike_itself, followed_alike}
@@ -17,14 +17,14 @@ use Rattle.image_code.proofs.Memories.{images_stored, same_stored}
 use Rattle.image_code.proofs.Sparing.{transfers}
 
 -- the page's words are the editor's
-page_own : (g : Setting) (f : Frame) → IsFramed g f → (z : ℕ) → IsPageWord z → IsAmongWords f.own z
+page_own : (g : EditSetup) (f : EditorData) → IsEditorData g f → (z : ℕ) → IsPageWord z → IsAmongWords f.own z
 page_own g f framed z (inl e) = rw e (framed.page 0 (omega arith))
 page_own g f framed z (inr (inl e)) = rw e (framed.page 1 (omega arith))
 page_own g f framed z (inr (inr (inl e))) = rw e (framed.page 2 (omega arith))
 page_own g f framed z (inr (inr (inr (inl e)))) = rw e (framed.page 7 (omega arith))
 page_own g f framed z (inr (inr (inr (inr e)))) = absurd e
 
-pub own_stored : (g : Setting) (f : Frame) → IsFramed g f → (m n : Memory) → Stores IsPageWord m n
+pub own_stored : (g : EditSetup) (f : EditorData) → IsEditorData g f → (m n : Memory) → Stores IsPageWord m n
     → Stores (IsAmongWords f.own) m n
 own_stored g f framed m n stores = stores_weaker IsPageWord (IsAmongWords f.own) m n (page_own g f framed) stores
 
@@ -42,7 +42,7 @@ puts_then s t k l steps silent descriptor =
     ∙ ap (λ (z : State). run_puts s k descriptor ++ run_puts z l descriptor) steps
     ∙ ap (λ z. run_puts s k descriptor ++ z) (silent descriptor) ∙ append-nil (run_puts s k descriptor)
 
-module _ (site : Site) (h : Placed site) (node : Node) (x : Point) (t : State) (here : HereAt site node x t) where
+module _ (site : Site) (h : Placed site) (node : Node) (x : Point) (t : State) (here : AtVisitIn site node x t) where
   open site use {g, l, base, p, place, f}
 
   -- a state of a run that goes on is on the way from the visit
@@ -88,17 +88,17 @@ module _ (site : Site) (h : Placed site) (node : Node) (x : Point) (t : State) (
     pub slot : mid.slot ≡ NoSlot
     pub waits : Waits next edges v mid.memory
     pub watched : IsWatched (edit_in g) edges x v → next ≢ None
-    pub kept : is_transfer_at (instr_at g.text x.pc) ≡ false → kept_address mid ≡ kept_address t
+    pub kept : is_transfer_at (instr_at g.text x.pc) ≡ false → saved_address mid ≡ saved_address t
 
   -- the way behind them, which has no step where a word that is no transfer completes no edge
   abbrev pub Behind : Option ℕ → List ℕ → State → State → Type 0
   Behind next edges v mid =
-      (w : Arrives site h next edges mid
+      (w : FollowsRoute site h next edges mid
       (entered_at site (node_after (graph_in g) node edges) (point_of v)) 24)
       × (is_transfer_at (instr_at g.text x.pc) ≡ false → next ≢ None → edges ≡ [] → w.count ≡ 0)
 
   pub enters_by : (next : Option ℕ) (edges : List ℕ) (v mid : State) (count : ℕ) → LastDead g edges
-      → PastOn next edges v mid count → (IsFit site h mid → Behind next edges v mid) → EntersNext site edges node x t v
+      → PastOn next edges v mid count → (IsFit site h mid → Behind next edges v mid) → ReachesNextIn site edges node x t v
   enters_by next edges v mid count last w onward =
       let a = w.past in
       let to = entered_at site (node_after (graph_in g) node edges) (point_of v) in
@@ -185,7 +185,7 @@ module _ (site : Site) (h : Placed site) (node : Node) (x : Point) (t : State) (
       followed_alike g [] v after after same (rw memory (outside_refl (pages_of g.notes) after.memory))
       (alike_itself g [] after)
 
-  pub ends_by : (v after : State) (last : ℕ) → PastOver v after last → EntersNext site (gone_at g node x v) node x t v
+  pub ends_by : (v after : State) (last : ℕ) → PastOver v after last → ReachesNextIn site (gone_at g node x v) node x t v
   ends_by v after last w =
       let a = w.past in
       let over = w.over in
@@ -260,9 +260,9 @@ module _ (site : Site) (h : Placed site) (node : Node) (x : Point) (t : State) (
     pub waits : Waits (word_at g.text v.pc) edges v mid.memory
 
   pub moves_by : (edges : List ℕ) (v mid : State) (count : ℕ) → LastDead g edges → MovesOn edges v mid count
-      → (IsFit site h mid → Arrives site h (word_at g.text v.pc) edges mid
+      → (IsFit site h mid → FollowsRoute site h (word_at g.text v.pc) edges mid
       (entered_at site (node_after (graph_in g) node edges) (point_of v)) 24)
-      → EntersNext site edges node x t v
+      → ReachesNextIn site edges node x t v
   moves_by edges v mid count last w onward =
       let a = w.moves in
       let own = own_stored g f h.frame t.memory mid.memory a.stores in

@@ -1,5 +1,5 @@
 -- What holds of each piece that is made, and so of all.
-use Rattle.image_code.proofs.Common.{◌≡◌, sym, ◌∙◌, ℕ, zero, suc, ◌+◌, ◌-◌, ◌*◌, ◌<◌, ◌≤◌, Bool, true, false, ◌&&◌, ◌==◌, Option, Some, None, List, [], ◌∷◌, ◌++◌, append-nil, length, map, get_or, length-append, refl, ap, arith, if◌then◌else◌, nat_lt, slice_get, slice_index, flat_map, position, sum_by, option_to_list, and_parts, cond_both, eq-eqb, false≢true, ltb-true, sum_by-append, sum_by-cons, position-Some, get_or_from_slice_get, slice_get-get_or, Words, address_of, word_at, IsText, Addr, Op2, Instr, decode_of, is_transfer, EdgeKind, always, never, below, blocks_of, holding_of, last_word, size_of, length-below, is_fall, Edge, Node, Block, X, same_kind, same_node, Open, jumps_in, Graph, lands, IsEdgeIn, IsNodeIn, ends_block, landing_at, left_by, block, copy, same_nodes, in_held, some_words, straight_left, same_kinds, Each, each_at, each-append, each-below, choice_image, find_image, go_found, free_register, other_register, keep_load, link, far_piece, Item, item_at, item_in, Op, fold-map, compares_in, is_copied, each-then, long_jump, foreign, LeadsBelow, piece_words}
+use Rattle.image_code.proofs.Common.{◌≡◌, sym, ◌∙◌, ℕ, zero, suc, ◌+◌, ◌-◌, ◌*◌, ◌<◌, ◌≤◌, Bool, true, false, ◌&&◌, ◌==◌, Option, Some, None, List, [], ◌∷◌, ◌++◌, append-nil, length, map, get_or, length-append, refl, ap, arith, if◌then◌else◌, nat_lt, slice_get, slice_index, flat_map, position, sum_by, option_to_list, and_parts, cond_both, eq-eqb, false≢true, ltb-true, sum_by-append, sum_by-cons, position-Some, get_or_from_slice_get, slice_get-get_or, Words, address_of, word_at, IsText, Addr, Op2, Instr, decode_of, is_transfer, EdgeKind, always, never, below, blocks_of, holding_of, last_word, size_of, length-below, is_fall, Edge, Node, Block, X, same_kind, same_node, Open, jumps_in, Graph, lands, IsEdgeIn, IsNodeIn, ends_block, landing_at, left_by, block, copy, same_nodes, in_held, some_words, straight_left, same_kinds, Each, each_at, each-append, each-below, switch_jump, look_up, resume, free_register, other_register, save_load_address, link, long_jump_piece, Item, item_at, item_in, Op, fold-map, compares_in, is_copied, each-then, long_jump, foreign, LeadsBelow, piece_words}
 use Rattle.v8_decode.specs.declared.Instr.TheVariants as i
 use Rattle.cfg_blocks.specs.declared.EdgeKind.TheVariants as kinds
 use Rattle.layout.specs.declared.items.Item.TheVariants as it
@@ -10,8 +10,8 @@ use Rattle.cfg_normal.specs.declared.Slot.TheVariants as slots
 use Rattle.layout.specs.Emitting.{words_of as encoded}
 use Rattle.layout.specs.Laid.{IsMarked}
 use Rattle.image_code.specs.Loads.{load_of}
-use Rattle.image_code.specs.Numbered.{enter_number, first_entry, foreign_number, node_in_order, own_edges, pieces_of, place_in}
-use Rattle.image_code.specs.Made.{case_at, case_by, cases_from, choice_of, couple_word, distance_of, first_way, first_word, goes_on, image, image_by, images_in_order, images_of, is_slots, jump_by, jump_image_by, jump_to, jumps_at, keep_by, landing, next_at, nop_word, open_pieces, piece_list, way_along, way_by, way_out, ways_from}
+use Rattle.image_code.specs.Numbered.{enter_number, first_entry, foreign_number, node_in_order, edges_but_landings, pieces_of, place_in}
+use Rattle.image_code.specs.Made.{case_at, case_by, cases_from, choice_of, couple_word, distance_of, first_way, first_word, goes_on, image, image_by, images_in_order, images_of, is_slots, jump_by, jump_image_by, jump_to, jumps_at, save_by, landing, next_at, nop_word, open_pieces, piece_list, way_along, way_by, way_out, ways_from}
 use Rattle.image_code.specs.Graphs.{IsGraphOf, opens_in}
 use Rattle.image_code.specs.Fit.{AreFit, AreShort, PiecesFit, PlacesSay, marks_in}
 use Rattle.image_code.proofs.Listed.{count_is}
@@ -24,12 +24,12 @@ use Rattle.image_code.proofs.Shapes.{IsAt, IsExit, IsMade, IsShaped, IsSome, Lea
 use Rattle.image_code.proofs.Positions.{any_at}
 
 find_size : (x y rd rs1 : ℕ) (op2 : Op2) (jumps address : ℕ)
-    → let xs = encoded (find_image x y rd rs1 op2 jumps address) in
+    → let xs = encoded (look_up x y rd rs1 op2 jumps address) in
     (0 < length xs) × (length xs ≤ 15)
 find_size x y zero rs1 op2 jumps address = (omega arith, omega arith)
 find_size x y (suc r) rs1 op2 jumps address = (omega arith, omega arith)
 
-choice_size : (rd address distance : ℕ) → let xs = encoded (choice_image rd address distance) in
+choice_size : (rd address distance : ℕ) → let xs = encoded (switch_jump rd address distance) in
     (0 < length xs) × (length xs ≤ 15)
 choice_size zero address distance = (omega arith, omega arith)
 choice_size (suc r) address distance = (omega arith, omega arith)
@@ -51,7 +51,7 @@ module _ (text : Words) (graph : Graph) (table cases : ℕ) (codes : ℕ → Lis
   abbrev Exits : List Item → Type 0
   Exits = IsExit (length pieces)
 
-  far_exit : (to : ℕ) → Exits (far_piece to)
+  far_exit : (to : ℕ) → Exits (long_jump_piece to)
   far_exit to = exits_by (encoded (long_jump to)) (omega arith)
 
   entered : (node : Node) (word : ℕ) → IsWordOf graph node word → enter_number text graph node word < length pieces
@@ -67,7 +67,7 @@ module _ (text : Words) (graph : Graph) (table cases : ℕ) (codes : ℕ → Lis
 
   found_below : (node : Node) (kind : EdgeKind) → same_kind kind kinds.Land ≡ false → (number : ℕ)
       → position (Leaves node kind) graph.edges ≡ Some number
-      → number < length (own_edges graph)
+      → number < length (edges_but_landings graph)
   found_below node kind other number e =
       let found = position-Some (Leaves node kind) graph.edges number no_edge e in
       g.before number (get_or graph.edges number no_edge) (slice_get-get_or graph.edges number no_edge found.0)
@@ -133,7 +133,7 @@ module _ (text : Words) (graph : Graph) (table cases : ℕ) (codes : ℕ → Lis
       choice_made rd (Some k) (Some o) =
           let distance = distance_of cases (first_entry text graph k) o.switch.table.0 in
           let size = choice_size rd (address_of text word) distance in
-          instead (straight (encoded (choice_image rd (address_of text word) distance))) [] (omega (arith, size.1)) size.0 tt
+          instead (straight (encoded (switch_jump rd (address_of text word) distance))) [] (omega (arith, size.1)) size.0 tt
           falls
       choice_made rd _ _ = bare [] (omega arith) falls (omega arith)
 
@@ -143,7 +143,7 @@ module _ (text : Words) (graph : Graph) (table cases : ℕ) (codes : ℕ → Lis
           let x = free_register rd rs1 op2 in
           let y = other_register rd rs1 op2 in
           let size = find_size x y rd rs1 op2 (jumps_at text table) (address_of text word) in
-          instead (straight (encoded (find_image x y rd rs1 op2 (jumps_at text table) (address_of text word)))) _
+          instead (straight (encoded (look_up x y rd rs1 op2 (jumps_at text table) (address_of text word)))) _
           (omega (arith, size.1)) size.0 tt (way_exit node kinds.Out refl)
 
   jump_made : (node : Node) (word : ℕ) → IsAt text graph node word
@@ -199,7 +199,7 @@ module _ (text : Words) (graph : Graph) (table cases : ℕ) (codes : ℕ → Lis
       (λ t. instead edge.from slot.0 at t (straight (couple_word ∷ couple_word ∷ [])) [] (omega arith) (omega arith) tt
       falls)
       (λ _. copied _ (omega arith) few (cond_both (same_kind edge.kind kinds.Out) _ _ Exits
-      (λ _. exits_by (encoded (go_found 1)) (omega arith)) (λ _. goes_exit edge.to word _ to)))
+      (λ _. exits_by (encoded (resume 1)) (omega arith)) (λ _. goes_exit edge.to word _ to)))
 
   -- one that is never run
   idle_made : {most : ℕ} → Made 8 most (jump_to 0)
@@ -396,9 +396,9 @@ module _ (text : Words) (graph : Graph) (table cases : ℕ) (codes : ℕ → Lis
       (joined (one_image node from (record { inside = inside; low = omega (arith, low) }))
       (have_block node inside k at ends (from + 1) count (omega (arith, low))))
 
-  keep_made : (instr : Instr) → IsMade text graph (length pieces) 0 4 0 (keep_by instr)
+  keep_made : (instr : Instr) → IsMade text graph (length pieces) 0 4 0 (save_by instr)
   keep_made (i.Load kind rd rs1 op2) =
-      bare [] (omega arith) (exits_by (encoded (keep_load rs1 op2)) (omega arith)) (omega arith)
+      bare [] (omega arith) (exits_by (encoded (save_load_address rs1 op2)) (omega arith)) (omega arith)
   keep_made _ = bare [] (omega arith) falls (omega arith)
 
   have_open : (o : Open) → IsSwitchIn text graph.blocks o → is_copied graph.opens o.switch.compare.0 ≡ true
@@ -427,7 +427,7 @@ module _ (text : Words) (graph : Graph) (table cases : ℕ) (codes : ℕ → Lis
       (omega (arith, sum_by-cons (words_of graph.blocks) o opens))
       (joined (have_open o its.0 copied.0) (have_opens opens its.1 copied.1))
 
-  own_inside : Each (IsEdgeIn graph.blocks graph.opens) (own_edges graph)
+  own_inside : Each (IsEdgeIn graph.blocks graph.opens) (edges_but_landings graph)
   own_inside = each_index _ _ (λ number edge e. each_at _ graph.edges number edge g.edges (g.own number edge e))
 
   -- the comparison of an open switch stands in a block that has a copy
@@ -451,7 +451,7 @@ module _ (text : Words) (graph : Graph) (table cases : ℕ) (codes : ℕ → Lis
       )
 
   have_all : Have (21 * length text.words + sum_by (order_code text graph codes) (below (length text.words))
-      + (8 * length (own_edges graph) + ways_code codes 0 (own_edges graph))
+      + (8 * length (edges_but_landings graph) + ways_code codes 0 (edges_but_landings graph))
       + (4 * length text.words + sum_by (landing_code graph codes) (below (length text.words)))
       + 21 * sum_by (pieces_of text graph) graph.opens
       + (8 * sum_by (λ (o : Open). length o.targets) graph.opens
@@ -461,7 +461,7 @@ module _ (text : Words) (graph : Graph) (table cases : ℕ) (codes : ℕ → Lis
   have_all =
       let sizes = length-below (length text.words) in
       within (omega (arith, sizes)) (omega (arith, sizes, g.room, g.entries, g.own_few))
-      (joined (joined (joined (joined (joined have_ordered (have_ways 0 (own_edges graph) own_inside)) have_landings)
+      (joined (joined (joined (joined (joined have_ordered (have_ways 0 (edges_but_landings graph) own_inside)) have_landings)
       (have_opens graph.opens g.switches compares_copied)) (have_chosen graph.opens g.targets))
       (one_piece {size = 4} {marks = 0} {most = 0} (omega arith) (λ f. omega arith)
       (bare [] (omega arith) (exits_by (encoded foreign) (omega arith)) (omega arith))))

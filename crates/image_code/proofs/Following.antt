@@ -6,13 +6,13 @@ use Rattle.std.proofs.Math.Bool.{and-true}
 use Rattle.cfg_walk.proofs.Leaving.{end_here, ends_home, falls_to, no_cases, node_within, straight_end}
 use Rattle.cfg_walk.proofs.Ways.{fall_is_one}
 use Rattle.image_code.specs.Numbered.{node_in_order}
-use Rattle.image_code.specs.Simulates.{Setting, graph_in}
+use Rattle.image_code.specs.Simulates.{EditSetup, graph_in}
 use Rattle.image_code.proofs.CaseTables.{IsKnown}
 use Rattle.image_code.proofs.EdgePieces.{cut_in}
 use Rattle.image_code.proofs.ImageNumbers.{block_of, jump_of}
 use Rattle.image_code.proofs.Positions.{placed}
 
-module _ (g : Setting) (is : IsKnown g) where
+module _ (g : EditSetup) (is : IsKnown g) where
   abbrev b : Blocks
   b = blocks_of g.text g.given
 

@@ -2,13 +2,13 @@
 use Rattle.image_code.proofs.Common.{◌≡◌, ℕ, ◌<◌, List, ◌∷◌, length, Some, slice_get, slice_index, None, Addr, Node, State, Item, Point, point_of}
 use Rattle.layout.specs.declared.items.Item.TheVariants as it
 use Rattle.image_code.specs.Simulates.{number_in, Chooses, MatchesIn, does_at}
-use Rattle.image_code.proofs.Points.{Site, visited_at, HereAt}
+use Rattle.image_code.proofs.Points.{Site, visited_at, AtVisitIn}
 use Rattle.image_code.proofs.CaseShapes.{IsPlain}
 use Rattle.image_code.proofs.CoupleShapes.{IsCouple}
 use Rattle.image_code.proofs.ConditionalShapes.{IsConditionalBranch}
 use Rattle.image_code.proofs.UnconditionalShapes.{IsUnconditionalBranch}
 use Rattle.image_code.proofs.CallShapes.{IsCall, IsJump}
-use Rattle.image_code.proofs.ChoiceShapes.{IsChoice}
+use Rattle.image_code.proofs.ChoiceShapes.{IsSwitchJump}
 use Rattle.image_code.proofs.LandingShapes.{IsJumpsSlot}
 use Rattle.image_code.proofs.OutsideShapes.{IsForeign, IsOff}
 use Rattle.image_code.specs.Keeping.{AreCaseTables}
@@ -42,7 +42,7 @@ pub data IsCase (site : Site) (node : Node) (x : Point) (t : State) : Type 0 whe
   call : IsCall site node x t → IsCase site node x t
   jump : IsJump site node x t → IsCase site node x t
   landing : IsJumpsSlot site node x t → IsCase site node x t
-  choice : IsChoice site node x t → IsCase site node x t
+  choice : IsSwitchJump site node x t → IsCase site node x t
   foreign : IsForeign site.g node x → IsCase site node x t
   off : IsOff site node x → IsCase site node x t
 
@@ -55,7 +55,7 @@ pub data IsVisited (site : Site) (node : Node) (x : Point) : Type 0 where
 -- each point outside the pages that the walk's node matches has a place, and is one of the cases
 pub record IsImaged (site : Site) : Type 0 where
   pub visits : (node : Node) (x : Point) → MatchesIn site.g node x → IsOffPages site.g x → IsVisited site node x
-  pub cases : (node : Node) (x : Point) (t : State) → MatchesIn site.g node x → IsOffPages site.g x → HereAt site node x t
+  pub cases : (node : Node) (x : Point) (t : State) → MatchesIn site.g node x → IsOffPages site.g x → AtVisitIn site node x t
       → ((does_at site.g x t).ending ≡ None → IsOffPages site.g (point_of (does_at site.g x t)))
       → Chooses site.g node x t (does_at site.g x t) → IsCase site node x t
   -- control enters each where it is visited, but for the loads of open switches

@@ -5,7 +5,7 @@ use Rattle.cfg_blocks.specs.declared.EdgeKind.TheVariants as kinds
 use Rattle.layout.specs.declared.items.Item.TheVariants as it
 use Rattle.cfg_normal.specs.declared.Slot.TheVariants as carried
 use Rattle.image_code.specs.Simulates.{MatchesIn, graph_in, number_in}
-use Rattle.image_code.specs.Choices.{choice_piece}
+use Rattle.image_code.specs.Choices.{switch_jump_piece}
 use Rattle.image_code.specs.Images.{slot_piece}
 use Rattle.image_code.proofs.Points.{visited_at}
 use Rattle.image_code.proofs.HeadShapes.{IsHead, IsVisited, TakesWords, head, outside, beyond}
@@ -15,7 +15,7 @@ use Rattle.image_code.proofs.OutsideShapes.{IsForeign, IsOff}
 use Rattle.image_code.specs.Outside.{IsOffPages}
 use Rattle.image_code.proofs.Branches.{HeadOf}
 use Rattle.image_code.proofs.ImageNumbers.{jump_numbered}
-use Rattle.image_code.proofs.Visited.{Edit, site, case_items, case_piece_is, edge_is, image_items, l, off, off_address, on, on_its_way, plain_items, plain_piece_is, target, visited_slot, visited_word, way_in, at_word}
+use Rattle.image_code.proofs.Visited.{PlacedEdit, site, case_items, case_piece_is, edge_is, image_items, l, off, off_address, on, on_its_way, plain_items, plain_piece_is, target, visited_slot, visited_word, way_in, at_word}
 
 -- ---- what pieces begin with
 
@@ -24,7 +24,7 @@ headed : {address : Addr} {number : ℕ} {item : Item} {rest : List Item} → Ta
 headed takes = record { item = _; takes = takes; rest = _; is = refl }
 
 choice_head : (rd : ℕ) (address : Addr) (number distance : ℕ)
-    → HeadOf address number (choice_piece rd address number distance)
+    → HeadOf address number (switch_jump_piece rd address number distance)
 choice_head zero address number distance = headed tt
 choice_head (suc r) address number distance = headed tt
 
@@ -76,7 +76,7 @@ home_outside : (node : Node) → home_of node ≡ X → node ≡ X
 home_outside X e = refl
 home_outside _ e = absurd (cc)
 
-module _ (edit : Edit) where
+module _ (edit : PlacedEdit) where
   open edit use {g, codes, base, p, f, below, noted}
 
   abbrev b : Blocks

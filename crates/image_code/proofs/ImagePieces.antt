@@ -2,15 +2,15 @@
 use Rattle.image_code.proofs.Common.{◌≡◌, ℕ, suc, ◌+◌, ◌-◌, ◌<◌, ◌≤◌, Bool, true, false, Some, List, length, refl, ap, sym, ◌∙◌, subst, arith, ◌==◌, if◌then◌else◌, slice_get, slice_index, eqb-true, Blocks, blocks_of, holding_of, Node, home_of, IsNodeIn, Open, node_of, IsCut, block, copy, IsIn, is_in, node_is, Item}
 use Rattle.cfg_blocks.specs.Values.{instr_at}
 use Rattle.image_code.specs.Loads.{load_of}
-use Rattle.image_code.specs.Made.{image, jumps_at, keep_by, piece_list}
+use Rattle.image_code.specs.Made.{image, jumps_at, save_by, piece_list}
 use Rattle.image_code.specs.Numbered.{compare_image, compare_number, enter_number, image_number, jump_enter, jump_image, jump_number}
-use Rattle.image_code.specs.Simulates.{Setting, graph_in}
+use Rattle.image_code.specs.Simulates.{EditSetup, graph_in}
 use Rattle.image_code.proofs.CaseTables.{IsKnown}
 use Rattle.image_code.proofs.EdgePieces.{cut_in}
 use Rattle.image_code.proofs.ImageNumbers.{HasImage, at_compare, at_jump, compare_enter_is, compare_image_is, has_image, in_order, jump_enter_is, jump_image_is}
 use Rattle.image_code.proofs.Listed.{compare_at, enter_next, jump_at, keep_at, order_at}
 
-module _ (g : Setting) (is : IsKnown g) (table cases : ℕ) (codes : ℕ → List ℕ) where
+module _ (g : EditSetup) (is : IsKnown g) (table cases : ℕ) (codes : ℕ → List ℕ) where
   abbrev b : Blocks
   b = blocks_of g.text g.given
 
@@ -59,7 +59,7 @@ module _ (g : Setting) (is : IsKnown g) (table cases : ℕ) (codes : ℕ → Lis
       by : (t : Bool) → (word == load_of g.text o) ≡ t
           → (xs : List Item) × (slice_get all (enter_number g.text (graph_in g) node word) ≡ Some xs)
       by true same = (
-        keep_by (instr_at g.text (load_of g.text o)),
+        save_by (instr_at g.text (load_of g.text o)),
         ap (slice_get all) (jump_enter_is g.text b g.switches k o node word at e here
             ∙ ap (jump_enter g.text (graph_in g) k o) (eqb-true word (load_of g.text o) same))
             ∙ keep_at g.text b g.switches is.cased table cases codes k o e,

@@ -5,7 +5,7 @@ use Rattle.two_runs.specs.Needed.{judged_in}
 use Rattle.layout.specs.Laid.{Stands, BranchStands, branch_short, branch_long, size_of}
 use Rattle.image_code.specs.Simulates.{Simulates, at_point, number_in, word_of}
 use Rattle.code_runs.specs.PointsAlike.{instr_of}
-use Rattle.image_code.proofs.Points.{Forms, HereAt, Placed, Site, StepsFrom}
+use Rattle.image_code.proofs.Points.{Forms, AtVisitIn, Placed, Site, StepsFrom}
 use Rattle.image_code.proofs.CaseShapes.{visits_it}
 use Rattle.image_code.specs.Outside.{IsOffPages}
 use Rattle.image_code.proofs.HeadShapes.{TakesWords, IsCase, IsHead, IsImaged, plain, couple, turn, idle, call, jump, landing, choice, foreign, off, IsVisited, head, outside, beyond}
@@ -35,7 +35,7 @@ has_room base p it.EndMark a b takes h = absurd takes
 module _ (site : Site) (h : Placed site) where
   open site use {g, l, base, p, place}
 
-  pub heads_visit : (node : Node) (x : Point) (t : State) → HereAt site node x t → IsHead site node x
+  pub heads_visit : (node : Node) (x : Point) (t : State) → AtVisitIn site node x t → IsHead site node x
       → visits_it g node x t
   heads_visit node x t here c =
       let item = λ (n : ℕ). ap (λ (v : Option (List Item)). item_in v n) c.items in
@@ -54,7 +54,7 @@ module _ (site : Site) (h : Placed site) where
       ∙ ap (λ (v : Option (List Item)). range_of (place c.piece) (open_in v 1)) c.items)
       (sym at) refl c.original
 
-  there : (node : Node) (x : Point) (t : State) → HereAt site node x t → IsVisited site node x → visits_it g node x t
+  there : (node : Node) (x : Point) (t : State) → AtVisitIn site node x t → IsVisited site node x → visits_it g node x t
   there node x t here (head k) = heads_visit node x t here k
   there node x t here (outside k) = (foreign_step site h node x t here k).0
   there node x t here (beyond k) = (offs_step site h node x t here k).0
@@ -65,7 +65,7 @@ module _ (site : Site) (h : Placed site) where
   judged x t word is apart =
       subst (λ (o : Option ℕ). AllApart (pages_of g.notes) (judged_in (at_point x t) (instr_of o))) is apart
 
-  by : (node : Node) (x : Point) (t : State) → HereAt site node x t
+  by : (node : Node) (x : Point) (t : State) → AtVisitIn site node x t
       → AllApart (pages_of g.notes) (judged_in (at_point x t) (instr_of (word_of g.text x.pc))) → IsCase site node x t
       → StepsFrom site node x t
   by node x t here apart (plain k) = plains_step site h node x t here k (judged x t k.word k.is_word apart)
@@ -79,7 +79,7 @@ module _ (site : Site) (h : Placed site) where
   by node x t here apart (foreign k) = (foreign_step site h node x t here k).1
   by node x t here apart (off k) = (offs_step site h node x t here k).1
 
-  pub simulate : IsImaged site → Simulates g (IsOffPages g) (HereAt site) (Forms site)
+  pub simulate : IsImaged site → Simulates g (IsOffPages g) (AtVisitIn site) (Forms site)
   simulate c = record {
     visits = λ node x t matches clear here. let at = there node x t here (c.visits node x matches clear) in (
       here.live,

@@ -7,9 +7,9 @@ use Rattle.image_code.proofs.Points.{entered_at}
 use Rattle.image_code.proofs.CaseShapes.{LeadsTo}
 use Rattle.image_code.proofs.ConditionalShapes.{IsNoJumpsSlot}
 use Rattle.image_code.specs.Made.{way_out}
-use Rattle.image_code.proofs.Visited.{AtWord, Edit, site, enters, l, nothing_gone, on_its_way}
+use Rattle.image_code.proofs.Visited.{AtWord, PlacedEdit, site, enters, l, nothing_gone, on_its_way}
 
-module _ (edit : Edit) (node : Node) (x : Point) (visit : AtWord edit node x) (instr : Instr) (says : decode_of (slice_index edit.g.text.words visit.word) ≡ instr) where
+module _ (edit : PlacedEdit) (node : Node) (x : Point) (visit : AtWord edit node x) (instr : Instr) (says : decode_of (slice_index edit.g.text.words visit.word) ≡ instr) where
   open edit use {g, is, p, f}
   open visit use {word, at, none, held, there, npc}
 

@@ -4,14 +4,14 @@ use Rattle.v8_decode.specs.declared.Instr.TheVariants as i
 use Rattle.cfg_blocks.specs.declared.EdgeKind.TheVariants as kinds
 use Rattle.v8_step.specs.Transfers.{jump_step}
 use Rattle.cfg_walk.proofs.Transfers.{call_delayed}
-use Rattle.jump_code.specs.Pieces.{call_piece, find_piece}
+use Rattle.jump_code.specs.Pieces.{call_piece, look_up_piece}
 use Rattle.image_code.specs.Simulates.{at_point, does_at, graph_in, number_in}
 use Rattle.image_code.proofs.CallShapes.{IsCall, IsJump}
 use Rattle.image_code.specs.Made.{jump_by, jump_image_by, jumps_at, way_out}
 use Rattle.image_code.specs.Numbered.{image_number}
 use Rattle.image_code.proofs.IntoSlots.{LeadsThere, entered, no_jump, stands}
 use Rattle.image_code.proofs.JumpWords.{jmpl_is}
-use Rattle.image_code.proofs.Visited.{AtWord, Edit, at_image, site, image_items, l, word_is}
+use Rattle.image_code.proofs.Visited.{AtWord, PlacedEdit, at_image, site, image_items, l, word_is}
 
 -- where no Case edges leave a node, a jump looks its target up
 jump_plain : (text : Words) (graph : Graph) (jumps cases : ℕ) (codes : ℕ → List ℕ) (address : Addr) (node : Node)
@@ -22,7 +22,7 @@ jump_plain : (text : Words) (graph : Graph) (jumps cases : ℕ) (codes : ℕ →
 jump_plain text graph jumps cases codes address (Block k) rd rs1 op2 e = rw e
 jump_plain text graph jumps cases codes address _ rd rs1 op2 e = refl
 
-module _ (edit : Edit) (node : Node) (x : Point) (visit : AtWord edit node x) (t : State) where
+module _ (edit : PlacedEdit) (node : Node) (x : Point) (visit : AtWord edit node x) (t : State) where
   open edit use {g, codes, f, tables.{behind}}
   open visit use {word, at, none, npc}
 
@@ -99,7 +99,7 @@ module _ (edit : Edit) (node : Node) (x : Point) (visit : AtWord edit node x) (t
 
     module _ (caseless : has_cases g.switches node ≡ false) where
       jump_items : slice_get (l edit).list number
-          ≡ Some (find_piece (free_register rd rs1 op2) (other_register rd rs1 op2) rd rs1 op2 f.halves.base address
+          ≡ Some (look_up_piece (free_register rd rs1 op2) (other_register rd rs1 op2) rd rs1 op2 f.halves.base address
           (number_in g node)
           (record { 0 = way_out g.text (graph_in g) node kinds.Out }))
       jump_items =
@@ -107,7 +107,7 @@ module _ (edit : Edit) (node : Node) (x : Point) (visit : AtWord edit node x) (t
           ∙ ap (λ (xs : List Item). Some xs) (jump_plain g.text (graph_in g)
           (jumps_at g.text f.table.base) f.cases.base codes address
           node rd rs1 op2 caseless)
-          ∙ ap (λ n. Some (find_piece (free_register rd rs1 op2) (other_register rd rs1 op2) rd rs1 op2 n address
+          ∙ ap (λ n. Some (look_up_piece (free_register rd rs1 op2) (other_register rd rs1 op2) rd rs1 op2 n address
           (number_in g node) (record { 0 = way_out g.text (graph_in g) node kinds.Out }))) (sym behind)
 
       jump_leads : (v : State) → v ≡ jumped → v.ending ≡ None

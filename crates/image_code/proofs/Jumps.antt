@@ -1,12 +1,12 @@
 -- The words of a JMPL, and then the way; or the ending that a misaligned target has.
-use Rattle.image_code.proofs.Common.{◌≡◌, ◌≢◌, ℕ, ◌+◌, ◌%◌, ◌^◌, ◌<◌, ◌≤◌, inl, inr, false, Option, Some, None, List, [], length, refl, ap, sym, ◌∙◌, subst, arith, word_at, Instr, wrapped, code_of, Ending, NoSlot, State, sum_of, is_transfer, IsValid, run-valid, Node, Point, instr_at, point_of, node_after, page_word, moved, StandIn, leads_weaker, stores_there, words_of, find_image, loads_there, jumped, pieces_are_laid}
+use Rattle.image_code.proofs.Common.{◌≡◌, ◌≢◌, ℕ, ◌+◌, ◌%◌, ◌^◌, ◌<◌, ◌≤◌, inl, inr, false, Option, Some, None, List, [], length, refl, ap, sym, ◌∙◌, subst, arith, word_at, Instr, wrapped, code_of, Ending, NoSlot, State, sum_of, is_transfer, IsValid, run-valid, Node, Point, instr_at, point_of, node_after, page_word, moved, StandIn, leads_weaker, stores_there, words_of, look_up, loads_there, jumped, pieces_are_laid}
 use Rattle.code_runs.proofs.Hops.{equal_or_not}
 use Rattle.jump_code.specs.Finding.{IsAboutToFind, found_memory}
-use Rattle.jump_code.proofs.FindFollowing.{goes, finds_simulate}
+use Rattle.jump_code.proofs.FindFollowing.{goes, look_up_simulates}
 use Rattle.jump_code.proofs.Jumping.{jump_stops}
 use Rattle.image_code.specs.Simulates.{does_at, gone_at, graph_in, number_in}
 use Rattle.image_code.specs.Cost.{is_jmpl}
-use Rattle.image_code.proofs.Points.{EntersNext, HereAt, Placed, Site, StepsFrom, entered_at}
+use Rattle.image_code.proofs.Points.{ReachesNextIn, AtVisitIn, Placed, Site, StepsFrom, entered_at}
 use Rattle.image_code.proofs.CaseShapes.{LeadsTo}
 use Rattle.image_code.proofs.CallShapes.{IsJump}
 use Rattle.image_code.proofs.Memories.{same_stored}
@@ -16,7 +16,7 @@ use Rattle.image_code.proofs.Sparing.{instr_is}
 use Rattle.image_code.proofs.Through.{ahead, goes_through}
 use Rattle.image_code.proofs.Marked.{AtWords, link_few}
 
-module _ (site : Site) (h : Placed site) (node : Node) (x : Point) (t : State) (here : HereAt site node x t)
+module _ (site : Site) (h : Placed site) (node : Node) (x : Point) (t : State) (here : AtVisitIn site node x t)
     (c : IsJump site node x t) where
   open site use {g, l, base, p, place, f}
 
@@ -25,7 +25,7 @@ module _ (site : Site) (h : Placed site) (node : Node) (x : Point) (t : State) (
   after_jump = jumped c.address.0 c.rd c.rs1 c.op2 t
 
   abbrev image : List Instr
-  image = find_image c.scratch c.second c.rd c.rs1 c.op2 f.halves.base c.address.0
+  image = look_up c.scratch c.second c.rd c.rs1 c.op2 f.halves.base c.address.0
 
   many : 12 ≤ length image
   many = omega arith
@@ -107,9 +107,9 @@ module _ (site : Site) (h : Placed site) (node : Node) (x : Point) (t : State) (
   going : (edges : List ℕ) → LastDead g edges → after_jump.ending ≡ None
       → LeadsTo l p c.way edges (word_at g.text after_jump.pc) (entered_at site (node_after (graph_in g) node edges)
       (point_of after_jump))
-      → EntersNext site edges node x t after_jump
+      → ReachesNextIn site edges node x t after_jump
   going edges last live leads =
-      let on = (finds_simulate c.scratch c.second c.rd c.rs1 c.op2 c.address.0 f.halves t about).0 live in
+      let on = (look_up_simulates c.scratch c.second c.rd c.rs1 c.op2 c.address.0 f.halves t about).0 live in
       goes_through site h node x t here _ c.marked image c.way refl
       after_jump (found_memory t c.scratch c.second c.rs1 c.op2 f.halves) edges last
       (record {
@@ -132,9 +132,9 @@ module _ (site : Site) (h : Placed site) (node : Node) (x : Point) (t : State) (
         waits = λ _ _ _. (on.waits, aligned live, λ there. (there, on.found));
       }) leads
 
-  ends : (d : Ending) → after_jump.ending ≡ Some d → EntersNext site (gone_at g node x after_jump) node x t after_jump
+  ends : (d : Ending) → after_jump.ending ≡ Some d → ReachesNextIn site (gone_at g node x after_jump) node x t after_jump
   ends d over =
-      let end = (finds_simulate c.scratch c.second c.rd c.rs1 c.op2 c.address.0 f.halves t about).1 d over in
+      let end = (look_up_simulates c.scratch c.second c.rd c.rs1 c.op2 c.address.0 f.halves t about).1 d over in
       let traps = end.traps in
       let same = only_ends d over in
       let valid : IsValid traps.after = subst IsValid traps.path.steps (run-valid t 10 here.valid) in
@@ -172,7 +172,7 @@ module _ (site : Site) (h : Placed site) (node : Node) (x : Point) (t : State) (
       → (after_jump.ending ≡ None → LeadsTo l p c.way (gone_at g node x after_jump) (word_at g.text after_jump.pc)
       (entered_at site
       (node_after (graph_in g) node (gone_at g node x after_jump)) (point_of after_jump)))
-      → EntersNext site (gone_at g node x after_jump) node x t after_jump
+      → ReachesNextIn site (gone_at g node x after_jump) node x t after_jump
   steps None e leads = going (gone_at g node x after_jump) (gone_last g l f h.cells node x after_jump) e (leads e)
   steps (Some d) e leads = ends d e
 

@@ -1,20 +1,20 @@
 -- From where control comes to a point, on to its visit: nothing is run between, but before the load of an open switch
 -- its address is kept.
-use Rattle.image_code.proofs.Common.{length, ◌≡◌, ℕ, ◌+◌, ◌-◌, ◌*◌, ◌%◌, ◌^◌, ◌<◌, ◌≤◌, inl, inr, Bool, true, false, Option, Some, None, List, [], ◌++◌, append-nil, refl, ap, sym, ◌∙◌, subst, arith, if◌then◌else◌, ◌==◌, slice_get, slice_index, and_parts, cases_lt, lt-ltb, ltb-true, ne_eqb, Words, address_of, word_at, Instr, Op2, op2_in_range, operands_in_range, decode_of, op2_fits, wrapped, Memory, code_of, Ending, Slot, NoSlot, State, sum_of, StateItem, Register, IsSameAt, is_transfer, act, on_word, run, run_puts, IsValid, pages_of, goes_act, run-valid, word_at-some, Node, Block, Landed, X, Point, edge_from, ends_block, instr_at, left_by, node_after, point_of, MatchesBy, next_word, lived_to, count_stores, page_word, IsAmongWords, Stores, memory_word, words_at, StandIn, count_add, stores_there, past, kept_address, word_items, Fit, words_mean, keep_load, words_of, Reg, Imm, puts_add, second_register}
+use Rattle.image_code.proofs.Common.{length, ◌≡◌, ℕ, ◌+◌, ◌-◌, ◌*◌, ◌%◌, ◌^◌, ◌<◌, ◌≤◌, inl, inr, Bool, true, false, Option, Some, None, List, [], ◌++◌, append-nil, refl, ap, sym, ◌∙◌, subst, arith, if◌then◌else◌, ◌==◌, slice_get, slice_index, and_parts, cases_lt, lt-ltb, ltb-true, ne_eqb, Words, address_of, word_at, Instr, Op2, op2_in_range, operands_in_range, decode_of, op2_fits, wrapped, Memory, code_of, Ending, Slot, NoSlot, State, sum_of, StateItem, Register, IsSameAt, is_transfer, act, on_word, run, run_puts, IsValid, pages_of, goes_act, run-valid, word_at-some, Node, Block, Landed, X, Point, edge_from, ends_block, instr_at, left_by, node_after, point_of, MatchesBy, next_word, lived_to, count_stores, page_word, IsAmongWords, Stores, memory_word, words_at, StandIn, count_add, stores_there, past, saved_address, word_items, Fit, words_mean, save_load_address, words_of, Reg, Imm, puts_add, second_register}
 use Rattle.v8_decode.specs.declared.Instr.TheVariants as i
 use Rattle.cfg_blocks.specs.declared.EdgeKind.TheVariants as kinds
 use Rattle.cfg_walk.specs.Matches.{Matches}
 use Rattle.code_runs.proofs.Leads.{run_add}
 use Rattle.code_runs.proofs.Ours.{outside_trans}
-use Rattle.jump_code.specs.Keeping.{KeepsLoad, kept_memory}
-use Rattle.jump_code.proofs.Keeping.{loads_are_kept}
-use Rattle.image_code.specs.Simulates.{CaseTable, IsAtWord, IsNoLoad, IsOnWay, Setting, Steps, StepsOn, at_point, does_at, gone_at, graph_in}
+use Rattle.jump_code.specs.Keeping.{SavesLoadAddress, kept_memory}
+use Rattle.jump_code.proofs.Keeping.{addresses_are_saved}
+use Rattle.image_code.specs.Simulates.{CaseTable, IsAtWord, IsNoLoad, IsOnWay, EditSetup, Steps, StepsOn, at_point, does_at, gone_at, graph_in}
 use Rattle.image_code.specs.Cost.{limit_by, is_spill, is_transfer_at}
 use Rattle.image_code.specs.Store.{cells_in}
-use Rattle.image_code.proofs.Points.{Entered, EntersNext, Forms, HereAt, Placed, Site, StepsFrom, entered_at, visited_at}
+use Rattle.image_code.proofs.Points.{AtEntryIn, ReachesNextIn, Forms, AtVisitIn, Placed, Site, StepsFrom, entered_at, visited_at}
 use Rattle.image_code.specs.Keeping.{AreCaseTables}
 use Rattle.image_code.proofs.LoadShapes.{IsEntered, IsKeeping, at_once, keeping}
-use Rattle.image_code.proofs.Arrives.{IsFit, PieceFrom, Stood, bare_on, first_kept, rest_whole, stood, stood_low}
+use Rattle.image_code.proofs.Routes.{IsFit, PieceFrom, CodeAt, bare_on, first_kept, rest_whole, stood, stood_low}
 use Rattle.image_code.proofs.Between.{can_run}
 use Rattle.image_code.proofs.Memories.{images_stored, same_stored}
 use Rattle.image_code.proofs.Sparing.{instr_is, spill_first}
@@ -37,12 +37,12 @@ block_in (Landed block) = 0
 block_in X = 0
 
 -- a word before the jump goes on to the next one, and completes no edge
-record IsInner (g : Setting) (node : Node) (x : Point) (v : State) (word : ℕ) : Type 0 where
+record IsInner (g : EditSetup) (node : Node) (x : Point) (v : State) (word : ℕ) : Type 0 where
   pub none : gone_at g node x v ≡ []
   pub straight : is_transfer_at (instr_at g.text x.pc) ≡ false
   pub next : word_at g.text v.pc ≡ Some (word + 1)
 
-module _ (g : Setting) (are : AreCaseTables g) where
+module _ (g : EditSetup) (are : AreCaseTables g) where
   inner : (node : Node) (x : Point) (t : State) → Matches g.text (graph_in g) node x → (k : ℕ) (o : CaseTable)
       → slice_get g.opens k ≡ Some o → (word : ℕ) → IsAtWord g o node x word → o.load ≤ word → word < o.jump
       → (does_at g x t).ending ≡ None → IsInner g node x (does_at g x t) word
@@ -92,7 +92,7 @@ second_below : (op2 : Op2) → op2_in_range op2 ≡ true → second_register op2
 second_below (Reg rs2) e = ltb-true rs2 32 e
 second_below (Imm simm13) e = omega arith
 
-keep_fits : (rs1 : ℕ) (op2 : Op2) → operands_in_range rs1 op2 ≡ true → op2_fits op2 ≡ true → Fit (keep_load rs1 op2)
+keep_fits : (rs1 : ℕ) (op2 : Op2) → operands_in_range rs1 op2 ≡ true → op2_fits op2 ≡ true → Fit (save_load_address rs1 op2)
 keep_fits rs1 op2 in_range fits = (refl, refl, (in_range, fits, (refl, refl, tt)))
 
 module _ (site : Site) (h : Placed site) (are : AreCaseTables site.g) where
@@ -100,10 +100,10 @@ module _ (site : Site) (h : Placed site) (are : AreCaseTables site.g) where
 
   -- ---- where nothing is run between
 
-  stays_on : (node : Node) (x : Point) (t v : State) (edges : List ℕ) → (e : EntersNext site edges node x t v)
+  stays_on : (node : Node) (x : Point) (t v : State) (edges : List ℕ) → (e : ReachesNextIn site edges node x t v)
       → (v.ending ≡ None → entered_at site (node_after (graph_in g) node edges) (point_of v)
       ≡ visited_at site (node_after (graph_in g) node edges) (point_of v))
-      → StepsOn g (HereAt site) (Forms site × IsNoLoad g v) 64 edges node x t v
+      → StepsOn g (AtVisitIn site) (Forms site × IsNoLoad g v) 64 edges node x t v
   stays_on node x t v edges e same =
       let s = e.on in
       let few : s.count ≤ limit_by 64 g.snips edges = omega (arith, s.path.few) in
@@ -129,19 +129,19 @@ module _ (site : Site) (h : Placed site) (are : AreCaseTables site.g) where
   -- ---- where an address is kept
 
   module _ (node : Node) (x : Point) (t v : State) (edges : List ℕ)
-      (e : EntersNext site edges node x t v) (live : v.ending ≡ None) (k : ℕ) (o : CaseTable)
+      (e : ReachesNextIn site edges node x t v) (live : v.ending ≡ None) (k : ℕ) (o : CaseTable)
       (is : slice_get g.opens k ≡ Some o)
       (at : IsAtWord g o (node_after (graph_in g) node edges) (point_of v) o.load)
       (c : IsKeeping site (node_after (graph_in g) node edges) (point_of v) o) where
-    here : Entered site (node_after (graph_in g) node edges) (point_of v) e.on.after
+    here : AtEntryIn site (node_after (graph_in g) node edges) (point_of v) e.on.after
     here = e.on.here live
 
-    whole : PieceFrom l c.piece 0 (word_items (keep_load o.rs1 o.op2))
-    whole = rest_whole l c.piece (word_items (keep_load o.rs1 o.op2)) (tt, (tt, (tt, tt))) c.items
+    whole : PieceFrom l c.piece 0 (word_items (save_load_address o.rs1 o.op2))
+    whole = rest_whole l c.piece (word_items (save_load_address o.rs1 o.op2)) (tt, (tt, (tt, tt))) c.items
 
-    stands : Stood site h e.on.after.memory c.piece 0 (words_of (keep_load o.rs1 o.op2))
+    stands : CodeAt site h e.on.after.memory c.piece 0 (words_of (save_load_address o.rs1 o.op2))
     stands = stood site h e.on.after.memory here.memory.code c.piece 0
-        (words_of (keep_load o.rs1 o.op2)) [] whole
+        (words_of (save_load_address o.rs1 o.op2)) [] whole
 
     begin : e.on.after.pc ≡ place c.piece 0
     begin = here.at ∙ c.here ∙ h.laid.starts c.piece whole.within
@@ -150,7 +150,7 @@ module _ (site : Site) (h : Placed site) (are : AreCaseTables site.g) where
     end = stands.end
 
     low : place c.piece 3 ≤ 2 ^ 31
-    low = stood_low site h c.piece 0 (words_of (keep_load o.rs1 o.op2)) [] whole
+    low = stood_low site h c.piece 0 (words_of (save_load_address o.rs1 o.op2)) [] whole
 
     npc : e.on.after.npc ≡ e.on.after.pc + 4
     npc =
@@ -164,15 +164,15 @@ module _ (site : Site) (h : Placed site) (are : AreCaseTables site.g) where
       runs = can_run site h e.on.after here.valid here.live npc here.slot here.memory;
     }
 
-    keeps : KeepsLoad o.rs1 o.op2 e.on.after (length (keep_load o.rs1 o.op2))
+    keeps : SavesLoadAddress o.rs1 o.op2 e.on.after (length (save_load_address o.rs1 o.op2))
     keeps =
         let q = are.each k o is in
-        loads_are_kept o.rs1 o.op2 e.on.after (record {
+        addresses_are_saved o.rs1 o.op2 e.on.after (record {
           valid = here.valid;
           ready = record { live = here.live; npc = npc };
           low = omega (arith, begin, end, low);
-          words = subst (λ z. StandIn (code_of e.on.after.memory) z (keep_load o.rs1 o.op2)) (sym begin)
-              (words_mean (code_of e.on.after.memory) (place c.piece 0) (keep_load o.rs1 o.op2)
+          words = subst (λ z. StandIn (code_of e.on.after.memory) z (save_load_address o.rs1 o.op2)) (sym begin)
+              (words_mean (code_of e.on.after.memory) (place c.piece 0) (save_load_address o.rs1 o.op2)
               (keep_fits o.rs1 o.op2 q.in_range q.fits) stands.words);
           rs1_below = ltb-true o.rs1 32 (and_parts _ _ q.in_range).0;
           op2_below = second_below o.op2 (and_parts _ _ q.in_range).1;
@@ -212,7 +212,7 @@ module _ (site : Site) (h : Placed site) (are : AreCaseTables site.g) where
         running =
             lived_to e.on.after j 3 (omega arith) (ap (λ (z : State). z.ending) keeps.path.steps ∙ here.live)
 
-    keeps_on : StepsOn g (HereAt site) (Forms site × IsNoLoad g v) 64 edges node x t v
+    keeps_on : StepsOn g (AtVisitIn site) (Forms site × IsNoLoad g v) 64 edges node x t v
     keeps_on =
         let s = e.on in
         record {
@@ -274,7 +274,7 @@ module _ (site : Site) (h : Placed site) (are : AreCaseTables site.g) where
               };
         }
 
-    address_kept : kept_address keeps_on.after ≡ sum_of keeps_on.after o.rs1 o.op2
+    address_kept : saved_address keeps_on.after ≡ sum_of keeps_on.after o.rs1 o.op2
     unfolding keeps_on
     address_kept = keeps.kept ∙ sym (sum_past e.on.after 3 m o.rs1 o.op2)
 
@@ -288,15 +288,15 @@ module _ (site : Site) (h : Placed site) (are : AreCaseTables site.g) where
     abbrev gone : List ℕ
     gone = gone_at g node x (does_at g x t)
 
-    carries : (after : State) → kept_address after ≡ kept_address e.on.after → v.ending ≡ None → (k : ℕ) (o : CaseTable)
+    carries : (after : State) → saved_address after ≡ saved_address e.on.after → v.ending ≡ None → (k : ℕ) (o : CaseTable)
         → slice_get g.opens k ≡ Some o → (word : ℕ) → IsAtWord g o node x word → o.load ≤ word → word < o.jump
-        → kept_address after ≡ kept_address t
+        → saved_address after ≡ saved_address t
     carries after same live k o is word at from below =
         let i = inner g are node x t matches k o is word at from below live in
         same ∙ e.first live i.none i.straight (λ none. let some = i.next in cc)
 
     by_next : IsEntered site (node_after (graph_in g) node gone) (point_of v) → v.ending ≡ None
-        → Steps g (HereAt site) (Forms site) gone node x t v
+        → Steps g (AtVisitIn site) (Forms site) gone node x t v
     unfolding stays_on
     by_next (at_once same none) live = record {
       on = stays_on node x t v gone e (λ _. same);
@@ -320,7 +320,7 @@ module _ (site : Site) (h : Placed site) (are : AreCaseTables site.g) where
     }
 
     by_ending : IsEntered site (node_after (graph_in g) node gone) (point_of v) → (d : Option Ending)
-        → v.ending ≡ d → Steps g (HereAt site) (Forms site) gone node x t v
+        → v.ending ≡ d → Steps g (AtVisitIn site) (Forms site) gone node x t v
     by_ending enters None live = by_next enters live
     by_ending enters (Some d) over = record {
       on = stays_on node x t v gone e (λ live. absurd (cc));
@@ -332,7 +332,7 @@ module _ (site : Site) (h : Placed site) (are : AreCaseTables site.g) where
 
   pub next_steps : ((node : Node) (x : Point) → IsEntered site node x) → (node : Node) (x : Point) (t : State)
       → Matches g.text (graph_in g) node x → StepsFrom site node x t
-      → Steps g (HereAt site) (Forms site) (gone_at g node x (does_at g x t)) node x t (does_at g x t)
+      → Steps g (AtVisitIn site) (Forms site) (gone_at g node x (does_at g x t)) node x t (does_at g x t)
   next_steps enters node x t matches e = by_ending node x t matches e (enters _ _) (does_at g x t).ending refl
 
 -- ---- what a list of pieces has to give

@@ -1,12 +1,12 @@
 -- Before the load of an open switch control comes to a piece that keeps its address; everywhere else it comes to the
 -- visit itself.
-use Rattle.image_code.proofs.Common.{◌≡◌, ℕ, suc, ◌-◌, ◌<◌, Bool, true, false, Option, Some, None, List, length, refl, ap, sym, ◌∙◌, arith, inl, inr, ◌==◌, slice_get, slice_index, false≢true, slice_get_within, word_at, Slot, NoSlot, Blocks, blocks_of, Node, Block, Open, jumps_in, Point, block, keep_load, word_items, Item, item_at, items_in, cases_eq}
+use Rattle.image_code.proofs.Common.{◌≡◌, ℕ, suc, ◌-◌, ◌<◌, Bool, true, false, Option, Some, None, List, length, refl, ap, sym, ◌∙◌, arith, inl, inr, ◌==◌, slice_get, slice_index, false≢true, slice_get_within, word_at, Slot, NoSlot, Blocks, blocks_of, Node, Block, Open, jumps_in, Point, block, save_load_address, word_items, Item, item_at, items_in, cases_eq}
 use Rattle.cfg_blocks.specs.Values.{instr_at}
 use Rattle.layout.specs.Laid.{is_jump, size_of}
 use Rattle.image_code.specs.Graphs.{case_table}
 use Rattle.image_code.proofs.LoadShapes.{IsEntered, at_once, keeping}
 use Rattle.image_code.specs.Loads.{first_operand, load_of, second_operand}
-use Rattle.image_code.specs.Made.{keep_by}
+use Rattle.image_code.specs.Made.{save_by}
 use Rattle.image_code.specs.Numbered.{enter_number, image_number, jump_enter, jump_image, jump_number}
 use Rattle.image_code.specs.Simulates.{CaseTable, IsAtWord, graph_in}
 use Rattle.image_code.proofs.CaseTables.{known_at, table_of}
@@ -14,9 +14,9 @@ use Rattle.image_code.proofs.ImageNumbers.{block_of, jump_enter_is, jump_image_i
 use Rattle.image_code.proofs.Listed.{enter_load, enter_other, jump_at, keep_at, load_in}
 use Rattle.image_code.proofs.Opened.{load_is}
 use Rattle.image_code.proofs.Positions.{not_placed}
-use Rattle.image_code.proofs.Visited.{Edit, site, entered_word, enters_itself, l, visited_word}
+use Rattle.image_code.proofs.Visited.{PlacedEdit, site, entered_word, enters_itself, l, visited_word}
 
-module _ (edit : Edit) (node : Node) (x : Point) where
+module _ (edit : PlacedEdit) (node : Node) (x : Point) where
   open edit use {g, codes, is, p, place, f, placed.{laid}}
 
   abbrev b : Blocks
@@ -37,12 +37,12 @@ module _ (edit : Edit) (node : Node) (x : Point) where
     piece = jump_enter g.text (graph_in g) k o load
 
     abbrev kept : List Item
-    kept = word_items (keep_load (first_operand (instr_at g.text load)) (second_operand (instr_at g.text load)))
+    kept = word_items (save_load_address (first_operand (instr_at g.text load)) (second_operand (instr_at g.text load)))
 
     items : slice_get (l edit).list piece ≡ Some kept
     items =
         keep_at g.text b g.switches is.cased f.table.base f.cases.base codes k o among
-        ∙ ap (λ i. Some (keep_by i)) (load_is g.text b o (is.cased.each k o among)).is
+        ∙ ap (λ i. Some (save_by i)) (load_is g.text b o (is.cased.each k o among)).is
 
     next : suc piece ≡ jump_image g.text (graph_in g) k o load
     next = enter_load g.text b g.switches is.cased f.table.base f.cases.base codes k o among

@@ -1,5 +1,5 @@
 -- The pieces behind the delay slot of a JMPL.
-use Rattle.image_code.proofs.Common.{◌≡◌, ℕ, ◌<◌, ◌⊎◌, [], length, List, Some, None, slice_get, slice_index, ◌-◌, true, ◌∷◌, ◌++◌, word_at, PieceNo, Taken, State, found_in, foreign_piece, word_items, Node, same_kind, go_found, Point, instr_at, way_of}
+use Rattle.image_code.proofs.Common.{◌≡◌, ℕ, ◌<◌, ◌⊎◌, [], length, List, Some, None, slice_get, slice_index, ◌-◌, true, ◌∷◌, ◌++◌, word_at, PieceNo, Taken, State, found_in, foreign_piece, word_items, Node, same_kind, resume, Point, instr_at, way_of}
 use Rattle.cfg_blocks.specs.declared.EdgeKind.TheVariants as kinds
 use Rattle.image_code.specs.Store.{operations_on}
 use Rattle.image_code.proofs.Points.{Site}
@@ -30,7 +30,7 @@ pub record IsJumpsSlot (site : Site) (node : Node) (x : Point) (t : State) : Typ
   pub outward : is_out (slice_get (graph_in site.g).edges edge) ≡ true
   pub landing : List ℕ
   pub completes : (does_at site.g x t).ending ≡ None → gone_at site.g node x (does_at site.g x t) ≡ edge ∷ landing
-  pub marked : IsMarkedWord site node x (words_on site.l (edge ∷ []) ++ word_items (go_found 1))
+  pub marked : IsMarkedWord site node x (words_on site.l (edge ∷ []) ++ word_items (resume 1))
   pub open marked use {straight, marked.{piece, address, word, is_word, items}}
   -- where the walk goes on, there the table leads
   pub lands : (does_at site.g x t).ending ≡ None → Lands site landing x.npc (next_entry site node x t)

@@ -1,20 +1,20 @@
 -- The way along the edge of a JMPL: the copy of its slot's word, the snippet, and the jump to what was found, a landing
 -- or the foreign piece.
-use Rattle.image_code.proofs.Common.{◌≡◌, ◌≢◌, ℕ, ◌+◌, ◌%◌, ◌^◌, ◌<◌, ◌≤◌, ◌⊎◌, inl, inr, true, Option, Some, None, List, [], ◌∷◌, ◌++◌, length, refl, ap, sym, ◌∙◌, subst, arith, slice_get, slice_index, option_map, flat_map, word_at, decode_of, code_of, AllApart, NoSlot, State, register_of, act, on_word, judged_by, pages_of, goes_act, Node, Point, hopped, page_word, store_word, StandIn, leads_weaker, words_stay, found_in, go_found, IsPageWord, foreign_piece, word_items, words_mean, Item, words_of, other_word_stored, foreign, false≢true}
+use Rattle.image_code.proofs.Common.{◌≡◌, ◌≢◌, ℕ, ◌+◌, ◌%◌, ◌^◌, ◌<◌, ◌≤◌, ◌⊎◌, inl, inr, true, Option, Some, None, List, [], ◌∷◌, ◌++◌, length, refl, ap, sym, ◌∙◌, subst, arith, slice_get, slice_index, option_map, flat_map, word_at, decode_of, code_of, AllApart, NoSlot, State, register_of, act, on_word, judged_by, pages_of, goes_act, Node, Point, hopped, page_word, store_word, StandIn, leads_weaker, words_stay, found_in, resume, IsPageWord, foreign_piece, word_items, words_mean, Item, words_of, other_word_stored, foreign, false≢true}
 use Rattle.layout.specs.declared.items.Item.TheVariants as it
 use Rattle.code_runs.specs.Hops.{Hops}
 use Rattle.jump_code.specs.Finding.{IsAboutToGoOn}
 use Rattle.jump_code.specs.Leaving.{IsAboutToLeave}
 use Rattle.jump_code.specs.PageWords.{found_there, waiting}
-use Rattle.jump_code.proofs.FindFollowing.{found_hops}
+use Rattle.jump_code.proofs.FindFollowing.{resumes}
 use Rattle.jump_code.proofs.Leaving.{foreign_leaves}
 use Rattle.image_code.specs.Simulates.{at_point, does_at, gone_at, graph_in, number_in}
 use Rattle.image_code.specs.Cost.{NoneIsOut}
 use Rattle.image_code.specs.Store.{operations_on}
-use Rattle.image_code.proofs.Points.{HereAt, Placed, Site, StepsFrom}
+use Rattle.image_code.proofs.Points.{AtVisitIn, Placed, Site, StepsFrom}
 use Rattle.image_code.proofs.CaseShapes.{LeadsTo, next_entry, words_on}
 use Rattle.image_code.proofs.LandingShapes.{IsJumpsSlot, Lands}
-use Rattle.image_code.proofs.Arrives.{Arrives, IsInNoPlace, IsFit, PieceFrom, arrive, arrived, bare_here, eased, length_words, on_then, rest_behind, rest_marked, page_there, rest_whole, snippets_run, unwatched, Stood, stood, stood_low, weaker_arrives, words_unmarked}
+use Rattle.image_code.proofs.Routes.{FollowsRoute, IsInNoPlace, IsFit, PieceFrom, arrive, arrived, bare_here, eased, length_words, on_then, rest_behind, rest_marked, page_there, rest_whole, snippets_run, unwatched, CodeAt, stood, stood_low, weaker_route, words_unmarked}
 use Rattle.image_code.proofs.Cases.{judged_moved, marked_step}
 use Rattle.image_code.proofs.Cells.{cells_above, page_above}
 use Rattle.image_code.proofs.Dead.{alike_itself}
@@ -22,16 +22,16 @@ use Rattle.image_code.proofs.EntersBy.{own_stored}
 
 -- the jump to what was found
 abbrev going_on : List Item
-going_on = word_items (go_found 1)
+going_on = word_items (resume 1)
 
 module _ (site : Site) (h : Placed site) where
   open site use {g, l, p, place, f}
 
   -- Words that keep a register in one of the page's words above word 1, and jump: of such a way no more is asked.
   hops_out : (k n count to : ℕ) (ws : List ℕ) (a : State) → IsFit site h a
-      → Stood site h a.memory k n ws → length ws ≡ count → 0 < count → a.pc ≡ place k n → (word v : ℕ)
+      → CodeAt site h a.memory k n ws → length ws ≡ count → 0 < count → a.pc ≡ place k n → (word v : ℕ)
       → 1 < word → Hops a count IsPageWord to (store_word a.memory (page_word word) v)
-      → Arrives site h None [] a to count
+      → FollowsRoute site h None [] a to count
   hops_out k n count to ws a fit there many some at word v above hops =
       let left = store_word a.memory (page_word word) v in
       record {
@@ -60,30 +60,30 @@ module _ (site : Site) (h : Placed site) where
   -- ---- the jump to what was found
 
   goes_found : (k n : ℕ) → PieceFrom l k n going_on → (a : State) → IsFit site h a → a.pc ≡ place k n → (to : ℕ)
-      → found_there a ≡ to → to % 4 ≡ 0 → Arrives site h None [] a to 3
+      → found_there a ≡ to → to % 4 ≡ 0 → FollowsRoute site h None [] a to 3
   goes_found k n rest a fit at to found aligned =
-      let there = stood site h a.memory fit.has.code k n (words_of (go_found 1)) [] rest in
-      let low = stood_low site h k n (words_of (go_found 1)) [] rest in
+      let there = stood site h a.memory fit.has.code k n (words_of (resume 1)) [] rest in
+      let low = stood_low site h k n (words_of (resume 1)) [] rest in
       let about : IsAboutToGoOn 1 a = record {
         valid = fit.valid;
         ready = fit.runs.ready;
         low = omega (arith, at, there.end, low);
         some = omega arith;
         below = omega arith;
-        words = subst (λ z. StandIn (code_of a.memory) z (go_found 1)) (sym at)
-            (words_mean (code_of a.memory) (place k n) (go_found 1)
+        words = subst (λ z. StandIn (code_of a.memory) z (resume 1)) (sym at)
+            (words_mean (code_of a.memory) (place k n) (resume 1)
             (refl, refl, (refl, refl, (refl, refl, tt))) there.words);
         page = page_there site h a fit;
         aligned = ap (λ z. z % 4) found ∙ aligned;
       } in
-      subst (λ z. Arrives site h None [] a z 3) found
-      (hops_out k n 3 (found_there a) (words_of (go_found 1)) a fit there refl (omega arith) at 7
-      (register_of a 1) (omega arith) (found_hops 1 a about))
+      subst (λ z. FollowsRoute site h None [] a z 3) found
+      (hops_out k n 3 (found_there a) (words_of (resume 1)) a fit there refl (omega arith) at 7
+      (register_of a 1) (omega arith) (resumes 1 a about))
 
   -- ---- the foreign piece
 
   pub leaves : (k : ℕ) → slice_get l.list k ≡ Some foreign_piece → (a : State) → IsFit site h a
-      → a.pc ≡ place k 0 → (target : ℕ) → waiting a ≡ target → target % 4 ≡ 0 → Arrives site h None [] a target 4
+      → a.pc ≡ place k 0 → (target : ℕ) → waiting a ≡ target → target % 4 ≡ 0 → FollowsRoute site h None [] a target 4
   leaves k is a fit at target waits aligned =
       let r = rest_whole l k foreign_piece (tt, (tt, (tt, (tt, tt)))) is in
       let there = stood site h a.memory fit.has.code k 0 (words_of foreign) [] r in
@@ -98,13 +98,13 @@ module _ (site : Site) (h : Placed site) where
         page = λ n few. page_there site h a fit n (omega (arith, few));
         aligned = ap (λ z. z % 4) waits ∙ aligned;
       } in
-      subst (λ z. Arrives site h None [] a z 4) waits
+      subst (λ z. FollowsRoute site h None [] a z 4) waits
       (hops_out k 0 4 (waiting a) (words_of foreign) a fit there refl (omega arith) at 2 (register_of a 1) (omega arith)
       (foreign_leaves a about))
 
   -- ---- the whole way
 
-  module _ (node : Node) (x : Point) (t : State) (here : HereAt site node x t)
+  module _ (node : Node) (x : Point) (t : State) (here : AtVisitIn site node x t)
       (c : IsJumpsSlot site node x t) (apart : AllApart (pages_of g.notes) (judged_by t (decode_of c.word))) where
     -- the target waits while the slot's word is run
     target_waits : waiting (act t (decode_of c.word)) ≡ x.npc
@@ -135,8 +135,8 @@ module _ (site : Site) (h : Placed site) where
         → (act t (decode_of c.word)).pc ≡ place c.piece 3 → found_in f.halves x.npc % 4 ≡ 0
         → found_in f.halves x.npc ≤ 2 ^ 31
         → ((b : State) → IsFit site h b → b.pc ≡ found_in f.halves x.npc → waiting b ≡ x.npc
-        → Arrives site h None c.landing b to 4)
-        → Arrives site h None (c.edge ∷ c.landing) (act t (decode_of c.word)) to 24
+        → FollowsRoute site h None c.landing b to 4)
+        → FollowsRoute site h None (c.edge ∷ c.landing) (act t (decode_of c.word)) to 24
     unfolding eased
     onward to fit at aligned low_there behind =
         let a : State = act t (decode_of c.word) in
@@ -158,13 +158,13 @@ module _ (site : Site) (h : Placed site) where
         let fit3 = arrived site h [] b there 3 fit2 low_there two in
         let three = behind (hopped two.other there two.memory) fit3 refl (two.waits ∙ way.waits ∙ target_waits) in
         let both = on_then site h c.landing [] c.landing refl b there to 3 4 two three in
-        weaker_arrives site h (c.edge ∷ c.landing) a to (0 + (3 + 4)) 24 (omega arith)
+        weaker_route site h (c.edge ∷ c.landing) a to (0 + (3 + 4)) 24 (omega arith)
         (on_then site h (c.edge ∷ c.landing) (c.edge ∷ []) c.landing refl a mid to 0 (3 + 4) one both)
 
     lands : (to : ℕ) → IsFit site h (act t (decode_of c.word))
         → (act t (decode_of c.word)).pc ≡ place c.piece 3 → Lands site c.landing x.npc to
         → (word_at g.text x.npc ≡ None → to ≡ x.npc)
-        → Arrives site h None (c.edge ∷ c.landing) (act t (decode_of c.word)) to 24
+        → FollowsRoute site h None (c.edge ∷ c.landing) (act t (decode_of c.word)) to 24
     lands to fit at (inl (piece, within, found, leads)) out =
         let place_there = h.laid.aligned piece.0 in
         let multiple : found_in f.halves x.npc % 4 ≡ 0 = ap (λ z. z % 4) found ∙ place_there.0 in
@@ -173,7 +173,7 @@ module _ (site : Site) (h : Placed site) where
         by : (b : State) → IsFit site h b → b.pc ≡ slice_index p.at piece.0
             → LeadsTo l p piece c.landing (word_at g.text x.npc) to
             ⊎ ((operations_on g.snips c.landing ≡ 0) × (slice_index p.at piece.0 ≡ to))
-            → Arrives site h None c.landing b to 4
+            → FollowsRoute site h None c.landing b to 4
         by b fit2 there (inl leads) =
             unwatched site h (word_at g.text x.npc) c.landing b to 4
             (arrive site h piece c.landing b (word_at g.text x.npc) to fit2 there leads)
@@ -184,8 +184,8 @@ module _ (site : Site) (h : Placed site) where
         let place_there = h.laid.aligned piece.0 in
         let multiple : found_in f.halves x.npc % 4 ≡ 0 = ap (λ z. z % 4) found ∙ place_there.0 in
         onward to fit at multiple (omega (arith, found, place_there.1)) (λ b fit2 there waits.
-        subst (λ z. Arrives site h None z b to 4) (sym no_landing)
-        (subst (λ z. Arrives site h None [] b z 4) (sym (out none))
+        subst (λ z. FollowsRoute site h None z b to 4) (sym no_landing)
+        (subst (λ z. FollowsRoute site h None [] b z 4) (sym (out none))
         (leaves piece.0 is b fit2 (there ∙ found ∙ h.laid.starts piece.0 within) x.npc waits
         (here.waits c.slot c.out c.caseless).1)))
 
@@ -205,13 +205,13 @@ module _ (site : Site) (h : Placed site) where
         let slot : (does_at g x t).slot ≡ NoSlot = ap (λ (z : State). z.slot) is ∙ went.2 in
         rw (pc, none, slot) refl
 
-  pub jump_slots_step : (node : Node) (x : Point) (t : State) (here : HereAt site node x t)
+  pub jump_slots_step : (node : Node) (x : Point) (t : State) (here : AtVisitIn site node x t)
       (c : IsJumpsSlot site node x t) → AllApart (pages_of g.notes) (judged_by (at_point x t) (decode_of c.word))
       → StepsFrom site node x t
   jump_slots_step node x t here c apart =
       let moved = judged_moved g.notes x t (decode_of c.word) apart in
       marked_step site h node x t here _ c.marked None apart (λ live fit at. (
-        subst (λ z. Arrives site h None z (act t (decode_of c.word)) (next_entry site node x t) 24)
+        subst (λ z. FollowsRoute site h None z (act t (decode_of c.word)) (next_entry site node x t) 24)
             (sym (c.completes live))
             (lands node x t here c moved (next_entry site node x t) fit at (c.lands live)
             (out node x t here c moved live)),

@@ -13,7 +13,7 @@ pub mod Ended
 pub mod Between
 pub mod Cells
 pub mod Sparing
-pub mod Arrives
+pub mod Routes
 pub mod EntersBy
 pub mod Cases
 pub mod Couple

@@ -3,8 +3,8 @@ use Rattle.image_code.proofs.Common.{◌≡◌, ℕ, zero, suc, ◌+◌, ◌-◌
 use Rattle.cfg_blocks.specs.declared.EdgeKind.TheVariants as kinds
 use Rattle.cfg_blocks.specs.Values.{instr_at}
 use Rattle.image_code.specs.Loads.{load_of}
-use Rattle.image_code.specs.Made.{case_at, cases_from, image, images_of, jumps_at, keep_by, landing, open_pieces, piece_list, way_along, ways_from}
-use Rattle.image_code.specs.Numbered.{case_begin, compare_image, entries_of, first_entry, foreign_number, jump_begin, jump_enter, jump_image, landing_count, landing_number, node_in_order, open_begin, own_edges, pieces_of, place_in}
+use Rattle.image_code.specs.Made.{case_at, cases_from, image, images_of, jumps_at, save_by, landing, open_pieces, piece_list, way_along, ways_from}
+use Rattle.image_code.specs.Numbered.{case_begin, compare_image, entries_of, first_entry, foreign_number, jump_begin, jump_enter, jump_image, landing_count, landing_number, node_in_order, open_begin, edges_but_landings, pieces_of, place_in}
 use Rattle.image_code.proofs.OpenBlocks.{own_before}
 use Rattle.image_code.proofs.Opened.{AreCased, load_is}
 use Rattle.image_code.proofs.Positions.{Sized, flat_count, flat_get, get_behind, get_first, get_taken, placed, any_at, range_get}
@@ -61,7 +61,7 @@ module _ (text : Words) (b : Blocks) (opens : List Open) (cased : AreCased text 
   images = map (λ word. image_of (node_in_order graph word) word) (below (length text.words))
 
   abbrev ways : List (List Item)
-  ways = ways_from text graph table codes 0 (own_edges graph)
+  ways = ways_from text graph table codes 0 (edges_but_landings graph)
 
   abbrev landings : List (List Item)
   landings = map (landing text graph codes) (below (length text.words))
@@ -101,7 +101,7 @@ module _ (text : Words) (b : Blocks) (opens : List Open) (cased : AreCased text 
       (slice_index b.firsts o.block + size_of b o.block - load_of text o)
 
   abbrev kept : Open → List Item
-  kept o = keep_by (instr_at text (load_of text o))
+  kept o = save_by (instr_at text (load_of text o))
 
   -- the image of a word among those of so many
   image_in : (node : Node) (from count word : ℕ) → from ≤ word → word < from + count
@@ -135,16 +135,16 @@ module _ (text : Words) (b : Blocks) (opens : List Open) (cased : AreCased text 
   images_end : length images ≡ length text.words
   images_end = length-map (below (length text.words)) _ ∙ length-below (length text.words)
 
-  pub ways_end : length (images ++ ways) ≡ length text.words + length (own_edges graph)
+  pub ways_end : length (images ++ ways) ≡ length text.words + length (edges_but_landings graph)
   ways_end =
       length-append images ways ∙ rw (
         images_end,
         made_count (way_along text graph table codes)
-            (ways_from text graph table codes) (λ _. refl) (λ _ _ _. refl) 0 (own_edges graph),
+            (ways_from text graph table codes) (λ _. refl) (λ _ _ _. refl) 0 (edges_but_landings graph),
       )
 
   pub landings_end : length (images ++ ways ++ landings)
-      ≡ length text.words + length (own_edges graph) + length text.words
+      ≡ length text.words + length (edges_but_landings graph) + length text.words
   landings_end =
       length-append (images ++ ways) landings
       ∙ rw (ways_end, length-map (below (length text.words)) (landing text graph codes), length-below)
@@ -172,14 +172,14 @@ module _ (text : Words) (b : Blocks) (opens : List Open) (cased : AreCased text 
       get_first _ _ word _ (get_first _ _ word _ (get_first _ _ word _ (get_first _ _ word _ (get_first images _ word _
       (rw (slice_get-map, get_below (length text.words) word l))))))
 
-  pub way_at : (number : ℕ) (edge : Edge) → slice_get (own_edges graph) number ≡ Some edge
+  pub way_at : (number : ℕ) (edge : Edge) → slice_get (edges_but_landings graph) number ≡ Some edge
       → slice_get all (length text.words + number) ≡ Some (way_along text graph table codes number edge)
   unfolding piece_list
   way_at number edge e =
       let n = length text.words + number in
       get_first _ _ n _ (get_first _ _ n _ (get_first _ _ n _ (get_first _ _ n _
       (get_behind images ways (length text.words) number _ images_end (made_at (way_along text graph table codes)
-      (ways_from text graph table codes) (λ _. refl) (λ _ _ _. refl) number (own_edges graph) edge e)))))
+      (ways_from text graph table codes) (λ _. refl) (λ _ _ _. refl) number (edges_but_landings graph) edge e)))))
 
   pub landing_at : (word : ℕ) → word < length text.words
       → slice_get all (landing_number text graph word) ≡ Some (landing text graph codes word)
@@ -195,7 +195,7 @@ module _ (text : Words) (b : Blocks) (opens : List Open) (cased : AreCased text 
   unfolding piece_list
   own_piece_at k o e n xs at =
       let m = sum_by (pieces_of text graph) (take k opens) + n in
-      let at_m = length text.words + length (own_edges graph) + length text.words + m in
+      let at_m = length text.words + length (edges_but_landings graph) + length text.words + m in
       let there : open_begin text graph k + n ≡ at_m = omega arith in
       ap (slice_get all) there ∙ get_first _ _ at_m _ (get_first _ _ at_m _ (get_behind (images ++ ways ++ landings) _ _ m _
       landings_end (flat_get its_pieces (pieces_of text graph) opens pieces_sized k o e n xs at)))
@@ -287,7 +287,7 @@ module _ (text : Words) (b : Blocks) (opens : List Open) (cased : AreCased text 
 -- an edge that is no landing is among those that have ways
 pub own_at : (b : Blocks) (opens : List Open) (number : ℕ) (edge : Edge) → slice_get (edges_in b opens) number
     ≡ Some edge
-    → same_kind edge.kind kinds.Land ≡ false → slice_get (own_edges (graph_of b opens)) number ≡ Some edge
+    → same_kind edge.kind kinds.Land ≡ false → slice_get (edges_but_landings (graph_of b opens)) number ≡ Some edge
 own_at b opens number edge e other =
     let many = length-take (length (edges_in b opens) - landing_count (graph_of b opens)) (edges_in b opens) in
     let low = own_before b opens number edge e other in

@@ -1,5 +1,5 @@
 -- The piece before the load of an open switch.
-use Rattle.image_code.proofs.Common.{◌≡◌, ℕ, Some, slice_get, slice_index, Node, word_items, keep_load, Point}
+use Rattle.image_code.proofs.Common.{◌≡◌, ℕ, Some, slice_get, slice_index, Node, word_items, save_load_address, Point}
 use Rattle.image_code.specs.Simulates.{CaseTable, IsAtWord}
 use Rattle.image_code.proofs.Points.{Site, entered_at, visited_at}
 
@@ -7,7 +7,7 @@ use Rattle.image_code.proofs.Points.{Site, entered_at, visited_at}
 pub record IsKeeping (site : Site) (node : Node) (x : Point) (o : CaseTable) : Type 0 where
   pub piece : ℕ
   pub here : entered_at site node x ≡ slice_index site.p.at piece
-  pub items : slice_get site.l.list piece ≡ Some (word_items (keep_load o.rs1 o.op2))
+  pub items : slice_get site.l.list piece ≡ Some (word_items (save_load_address o.rs1 o.op2))
   pub behind : site.place piece 3 ≡ visited_at site node x
 
 pub data IsEntered (site : Site) (node : Node) (x : Point) : Type 0 where

@@ -2,7 +2,7 @@
 use Rattle.image_code.proofs.Common.{◌≡◌, ◌≢◌, ℕ, Bool, true, false, Option, Some, None, refl, ap, sym, ◌∙◌, slice_index, word_at, Op2, Instr, decode_of, Slot, NoSlot, State, is_transfer, Blocks, blocks_of, Node, Block, Landed, X, jumps_in, has_cases, Point, IsOnItsWay, MatchesBy, block}
 use Rattle.v8_decode.specs.declared.Instr.TheVariants as i
 use Rattle.image_code.specs.Simulates.{Chooses, MatchesIn, does_at, graph_in}
-use Rattle.image_code.proofs.Points.{HereAt}
+use Rattle.image_code.proofs.Points.{AtVisitIn}
 use Rattle.image_code.proofs.HeadShapes.{IsCase, call, choice, foreign, jump, off, plain}
 use Rattle.image_code.specs.Made.{PiecesMakeImages}
 use Rattle.image_code.specs.Outside.{IsOffPages}
@@ -17,9 +17,9 @@ use Rattle.image_code.proofs.KeptLoads.{entered_so}
 use Rattle.image_code.proofs.Opened.{cased}
 use Rattle.image_code.proofs.PlainWords.{plain_is}
 use Rattle.image_code.proofs.SlotCopies.{copy_case}
-use Rattle.image_code.proofs.Visited.{AtWord, Edit, site, on_its_way, way_in, at_word}
+use Rattle.image_code.proofs.Visited.{AtWord, PlacedEdit, site, on_its_way, way_in, at_word}
 
-module _ (edit : Edit) where
+module _ (edit : PlacedEdit) where
   open edit use {g}
 
   abbrev b : Blocks
@@ -52,7 +52,7 @@ module _ (edit : Edit) where
   -- ---- everywhere
 
   case : (node : Node) (x : Point) (t : State) → MatchesIn g node x → IsOffPages g x
-      → HereAt (site edit) node x t → Chooses g node x t (does_at g x t) → IsCase (site edit) node x t
+      → AtVisitIn (site edit) node x t → Chooses g node x t (does_at g x t) → IsCase (site edit) node x t
   case node x t m open_there here chooses = by x.slot refl m.0 (word_at g.text x.pc) refl
     where
       in_slot : x.slot ≢ NoSlot → IsOnItsWay g.text (graph_in g) node x (way_in edit x) → (o : Option ℕ)
@@ -73,7 +73,7 @@ module _ (edit : Edit) where
 pub pieces_make_images : PiecesMakeImages
 pieces_make_images g codes base p place f text graph known placed tables cases below noted =
     let is : IsKnown g = record { text = text; cased = cased g text graph; known = known } in
-    let edit : Edit = record {
+    let edit : PlacedEdit = record {
       g = g;
       codes = codes;
       base = base;

@@ -4,7 +4,7 @@ use Rattle.layout.specs.declared.items.Item.TheVariants as it
 use Rattle.layout.specs.Laid.{OpenMark as Open, size_of, end_from}
 use Rattle.layout.proofs.Going.{word_is}
 use Rattle.image_code.specs.Simulates.{IsOnWay, IsThere, number_in}
-use Rattle.image_code.proofs.Points.{HereAt, Placed, Site}
+use Rattle.image_code.proofs.Points.{AtVisitIn, Placed, Site}
 use Rattle.image_code.proofs.CaseShapes.{IsMarked, visits_it}
 use Rattle.image_code.proofs.Between.{at_range, can_run, on_range, there_in}
 use Rattle.image_code.proofs.Cells.{cells_above, page_above}
@@ -64,7 +64,7 @@ pub record AtWords (site : Site) (node : Node) (x : Point) (t : State) (k count 
   pub there : (u : State) → t.pc ≤ u.pc → u.pc < t.pc + 4 * count → IsThere site.g t u
   pub visits : 0 < count → visits_it site.g node x t
 
-module _ (site : Site) (h : Placed site) (node : Node) (x : Point) (t : State) (here : HereAt site node x t)
+module _ (site : Site) (h : Placed site) (node : Node) (x : Point) (t : State) (here : AtVisitIn site node x t)
     (behind : Addr → ℕ → List Item) (c : IsMarked site node x behind) (rest : List Item) where
   open site use {g, l, base, p, place, f}
 

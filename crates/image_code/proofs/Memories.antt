@@ -6,8 +6,8 @@ use Rattle.code_runs.proofs.Ours.{ours_are_stored, ours_stay}
 use Rattle.code_runs.proofs.Stays.{region_of_word, there_written}
 use Rattle.code_runs.proofs.StoredWords.{other_loaded}
 use Rattle.addr_translate.specs.Lookup.{TableAt}
-use Rattle.image_code.specs.Simulates.{Setting}
-use Rattle.image_code.specs.Images.{Frame, HasImages, HasTable, IsFramed, IsTableIn}
+use Rattle.image_code.specs.Simulates.{EditSetup}
+use Rattle.image_code.specs.Images.{EditorData, HasImages, HasTable, IsEditorData, IsTableIn}
 
 pub fetch_is : (m : Memory) (a : ℕ) → fetch_of m a ≡ fetch_from (code_of m) a
 unfolding fetch_of
@@ -37,7 +37,7 @@ table_beside table m b v apart has a from to aligned =
     apart_word (inl below) = inr (omega arith)
     apart_word (inr above) = inl (omega arith)
 
-module _ (g : Setting) (own : List ℕ) (table : TableAt) (framed : IsTableIn g own table) where
+module _ (g : EditSetup) (own : List ℕ) (table : TableAt) (framed : IsTableIn g own table) where
   table_after_all : (ws : List (ℕ × ℕ)) (m : Memory) → AllAt (IsAmongWords own) ws → HasTable table m
       → HasTable table (store_all ws m)
   table_after_all [] m each has = has
@@ -55,7 +55,7 @@ module _ (g : Setting) (own : List ℕ) (table : TableAt) (framed : IsTableIn g 
       let new = words_stay (pages_of g.notes) a false s x (framed.within a from to) apart old.0 in
       (new.0, new.1 ∙ old.1)
 
-module _ (g : Setting) (f : Frame) (framed : IsFramed g f) where
+module _ (g : EditSetup) (f : EditorData) (framed : IsEditorData g f) where
   module _ (base : ℕ) (p : Placement) where
     -- so many steps that stored the editor's words alone
     pub images_stored : (t after : State) (count : ℕ) → run t count ≡ after

@@ -28,7 +28,7 @@ use Rattle.jump_slice.proofs.Opened.{found_in}
 use Rattle.jump_slice.proofs.Parts.{switch_of-is, table_in}
 use Rattle.jump_slice.proofs.Whole.{ends_count}
 use Rattle.image_code.specs.Loads.{load_of}
-use Rattle.image_code.specs.Numbered.{or_zero, own_edges}
+use Rattle.image_code.specs.Numbered.{or_zero, edges_but_landings}
 use Rattle.image_code.specs.Graphs.{IsGraphOf, opens_in}
 use Rattle.image_code.proofs.NumberTables.{load_between}
 use Rattle.image_code.proofs.Positions.{get_taken as taken}
@@ -321,7 +321,7 @@ module _ (b : Blocks) (opens : List Open) where
   abbrev nodes : List Node
   nodes = flat_map (landings_of opens) (below (length b.firsts))
 
-  own_are : own_edges (graph_of b opens) ≡ blocks_edges ++ copies_edges
+  own_are : edges_but_landings (graph_of b opens) ≡ blocks_edges ++ copies_edges
   unfolding edges_in
   own_are =
       let many : length (blocks_edges ++ copies_edges ++ map landing_at nodes) - length nodes
@@ -333,7 +333,7 @@ module _ (b : Blocks) (opens : List Open) where
       ) in
       rw many (take-append_seam (blocks_edges ++ copies_edges) (map landing_at nodes))
 
-  own_few : entries_of opens ≤ b.words → length b.firsts ≤ b.words → length (own_edges (graph_of b opens)) ≤ 5 * b.words
+  own_few : entries_of opens ≤ b.words → length b.firsts ≤ b.words → length (edges_but_landings (graph_of b opens)) ≤ 5 * b.words
   own_few entries firsts =
       let own : length blocks_edges ≤ 2 * length b.firsts + total (λ k. length (targets_in opens k)) (length b.firsts) =
       rw (total_flat (edges_of b opens) (length b.firsts))
@@ -364,7 +364,7 @@ module _ (b : Blocks) (opens : List Open) where
       (each-then IsOwn (λ (w : Way). same_kind w.kind kinds.Land ≡ false) (ways_from b k) (λ w own. own.0)
       (ways_are_own b.words (last_word b.firsts b.words k) (end_of b k)))
 
-  no_landings : Each NoLanding (own_edges (graph_of b opens))
+  no_landings : Each NoLanding (edges_but_landings (graph_of b opens))
   no_landings =
       rw own_are (each-append _ blocks_edges copies_edges
       (each-flat_map _ (edges_of b opens) _ (each _ _ (λ k. cond_both (jumps_in opens k) _ _ (Each NoLanding)
@@ -372,7 +372,7 @@ module _ (b : Blocks) (opens : List Open) where
       (each-flat_map _ (copied_edges b opens) _ (each _ _ (λ k. ways_no_landings (copy k) k))))
 
   pub own_before : (number : ℕ) (edge : Edge) → slice_get (edges_in b opens) number ≡ Some edge → NoLanding edge
-      → number < length (own_edges (graph_of b opens))
+      → number < length (edges_but_landings (graph_of b opens))
   unfolding edges_in
   own_before number edge e other =
       omega (arith, before_landings (blocks_edges ++ copies_edges) nodes number edge e other, ap length own_are)
@@ -386,12 +386,12 @@ pub record IsTextGraph (text : Words) (graph : Graph) : Type 0 where
   pub few : length graph.opens ≤ length text.words
   pub entries : sum_by (λ (o : Open). length o.targets) graph.opens ≤ length text.words
   pub targets : Each (λ (o : Open). Each (λ word. word < length text.words) o.targets) graph.opens
-  pub own_few : length (own_edges graph) ≤ 5 * length text.words
-  pub no_landings : Each (λ edge. same_kind edge.kind kinds.Land ≡ false) (own_edges graph)
-  pub own : (number : ℕ) (edge : Edge) → slice_get (own_edges graph) number ≡ Some edge
+  pub own_few : length (edges_but_landings graph) ≤ 5 * length text.words
+  pub no_landings : Each (λ edge. same_kind edge.kind kinds.Land ≡ false) (edges_but_landings graph)
+  pub own : (number : ℕ) (edge : Edge) → slice_get (edges_but_landings graph) number ≡ Some edge
       → slice_get graph.edges number ≡ Some edge
   pub before : (number : ℕ) (edge : Edge) → slice_get graph.edges number ≡ Some edge
-      → same_kind edge.kind kinds.Land ≡ false → number < length (own_edges graph)
+      → same_kind edge.kind kinds.Land ≡ false → number < length (edges_but_landings graph)
   pub edges : Each (IsEdgeIn graph.blocks graph.opens) graph.edges
 
 each_from : {A : Type 0} (P Q : A → Type 0) (xs : List A) → ((x : A) → P x → Q x) → All P xs → Each Q xs

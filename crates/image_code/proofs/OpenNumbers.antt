@@ -3,7 +3,7 @@ use Rattle.image_code.proofs.Common.{◌≡◌, ℕ, suc, ◌+◌, ◌-◌, ◌*
 use Rattle.std.proofs.lemmas.List.Sums.{sum_by_more_le}
 use Rattle.cfg_blocks.specs.Blocks.{size_of as block_size}
 use Rattle.image_code.specs.Loads.{load_of}
-use Rattle.image_code.specs.Numbered.{at_open, by_open, case_numbers, case_piece, cases_of, compare_image, compare_number, enter_number, entries_of, foreign_number, jump_enter, jump_image, landing_number, open_begin, or_zero, own_edges, pieces_of, place_in}
+use Rattle.image_code.specs.Numbered.{at_open, by_open, case_numbers, case_piece, cases_of, compare_image, compare_number, enter_number, entries_of, foreign_number, jump_enter, jump_image, landing_number, open_begin, or_zero, edges_but_landings, pieces_of, place_in}
 use Rattle.image_code.specs.Made.{first_word, lands_at}
 use Rattle.image_code.proofs.OpenBlocks.{IsTextGraph}
 
@@ -165,7 +165,7 @@ module _ (text : Words) (graph : Graph) (g : IsTextGraph text graph) where
 
 -- the foreign piece comes behind all others
 pub foreign_is : (text : Words) (graph : Graph) → foreign_number text graph
-    ≡ 2 * length text.words + length (own_edges graph) + sum_by (pieces_of text graph) graph.opens
+    ≡ 2 * length text.words + length (edges_but_landings graph) + sum_by (pieces_of text graph) graph.opens
     + sum_by (λ (o : Open). length o.targets) graph.opens
 foreign_is text graph =
     rw (take-length graph.opens) (omega arith)

@@ -1,7 +1,7 @@
 -- The pieces of an open switch, as they are added.
 use Rattle.image_code.proofs.Common.{◌≡◌, ℕ, ◌+◌, ◌-◌, List, ◌∷◌, ◌++◌, map, append_assoc, slice_index, range_with_len, Words, BlockNo, decode_of, size_of, Block, Landed, Graph, Open, Item}
 use Rattle.image_code.specs.Loads.{load_of}
-use Rattle.image_code.specs.Made.{image, jumps_at, keep_by, open_pieces}
+use Rattle.image_code.specs.Made.{image, jumps_at, save_by, open_pieces}
 
 module _ (text : Words) (graph : Graph) (table cases : ℕ) (codes : ℕ → List ℕ) (old : List (List Item)) where
   abbrev copy_by : ℕ → BlockNo → ℕ → ℕ → List (List Item)
@@ -12,7 +12,7 @@ module _ (text : Words) (graph : Graph) (table cases : ℕ) (codes : ℕ → Lis
   block_by jumps block load =
       let first = slice_index graph.blocks.firsts block in
       map (image text graph jumps cases codes (Block (record { 0 = block }))) (range_with_len first (load - first))
-      ++ keep_by (decode_of (slice_index text.words load))
+      ++ save_by (decode_of (slice_index text.words load))
       ∷ map (image text graph jumps cases codes (Block (record { 0 = block })))
       (range_with_len load (first + size_of graph.blocks block - load))
 

@@ -1,4 +1,4 @@
--- What is known of the open switches of a setting's graph, each by its number.
+-- What is known of the open switches of a set-up's graph, each by its number.
 use Rattle.image_code.proofs.Common.{◌≡◌, ℕ, ◌+◌, ◌-◌, ◌<◌, ◌≤◌, true, false, Some, List, refl, ap, ◌∙◌, arith, slice_get, find, range_with_len, eq-eqb, eqb-true, Words, IsText, Instr, Blocks, blocks_of, end_of, entered_of, is_jump, Open, Graph, Each, IsOpenSwitch, opens_are, before_jump, Value, IsCaseBlock}
 use Rattle.v8_decode.specs.declared.Instr.TheVariants as i
 use Rattle.v8_decode.specs.declared.LoadKind.TheVariants as loads
@@ -12,7 +12,7 @@ use Rattle.jump_slice.proofs.Numbered.{opens_are_one}
 use Rattle.jump_slice.proofs.Opened.{are_open}
 use Rattle.image_code.specs.Graphs.{IsGraphOf, opens_in}
 use Rattle.image_code.specs.Loads.{first_operand, is_place, load_of, loads_by, or_first, second_operand}
-use Rattle.image_code.specs.Simulates.{Setting, graph_in}
+use Rattle.image_code.specs.Simulates.{EditSetup, graph_in}
 use Rattle.image_code.proofs.Positions.{contains, found_in_range}
 
 -- the load whose address is kept
@@ -97,7 +97,7 @@ cased_of text given entry is_text = record {
         open_in (IsOpenSwitch text (entered_of text given) entry) (opens_in text given entry) o all
         (contains (opens_in text given entry) k o e)
 
-pub cased : (g : Setting) → IsText g.text → IsGraphOf g.text (graph_in g)
+pub cased : (g : EditSetup) → IsText g.text → IsGraphOf g.text (graph_in g)
     → AreCased g.text (blocks_of g.text g.given) g.switches
 cased g is_text h =
     let same_blocks : blocks_of g.text g.given ≡ blocks_of g.text h.given = ap (λ (x : Graph). x.blocks) h.is in

@@ -2,7 +2,7 @@
 use Rattle.image_code.proofs.Common.{◌≡◌, ℕ, ◌+◌, ◌*◌, inl, inr, true, false, Option, Some, None, [], length, refl, ap, sym, ◌∙◌, subst, arith, ◌==◌, option_map, cases_lt, eq-eqb, word_at, range_at, Slot, NoSlot, State, trapped, step_of, on_word, puts_on_word, in_pages, Node, Point, leads_one, fetch_of, puts_of}
 use Rattle.v8_step.specs.Traps.{instruction_access_exception}
 use Rattle.image_code.specs.Simulates.{at_point, does_at, number_in, word_of}
-use Rattle.image_code.proofs.Points.{HereAt, Placed, Site, StepsFrom, visited_by}
+use Rattle.image_code.proofs.Points.{AtVisitIn, Placed, Site, StepsFrom, visited_by}
 use Rattle.image_code.specs.Images.{IsBeside}
 use Rattle.image_code.proofs.CaseShapes.{visits_it}
 use Rattle.image_code.proofs.OutsideShapes.{IsForeign, IsOff}
@@ -25,7 +25,7 @@ unfetched_puts s descriptor live fetched = rw (live, fetched) refl
 
 -- ---- both machines end
 
-module _ (site : Site) (h : Placed site) (node : Node) (x : Point) (t : State) (here : HereAt site node x t) where
+module _ (site : Site) (h : Placed site) (node : Node) (x : Point) (t : State) (here : AtVisitIn site node x t) where
   open site use {g, l, base, p, f}
 
   module _ (none : word_at g.text x.pc ≡ None) (beside : IsBeside base p.code t.pc) where

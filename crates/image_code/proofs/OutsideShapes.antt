@@ -1,12 +1,12 @@
 -- Points outside the text.
 use Rattle.image_code.proofs.Common.{◌≡◌, None, ◌≢◌, Some, word_at, Node, X, NoteRange, range_at, NoSlot, Point}
-use Rattle.image_code.specs.Simulates.{Setting, number_in}
+use Rattle.image_code.specs.Simulates.{EditSetup, number_in}
 use Rattle.image_code.specs.Outside.{IsOffPages}
 use Rattle.image_code.specs.Images.{IsBeside}
 use Rattle.image_code.proofs.Points.{Site}
 
 -- outside a slot, at an address of no word: the written file is there too
-pub record IsForeign (g : Setting) (node : Node) (x : Point) : Type 0 where
+pub record IsForeign (g : EditSetup) (node : Node) (x : Point) : Type 0 where
   pub slot : x.slot ≡ NoSlot
   pub none : word_at g.text x.pc ≡ None
   pub beyond : node ≡ X

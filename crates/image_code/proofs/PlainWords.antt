@@ -1,5 +1,5 @@
 -- The image of a word that is no transfer goes on to the next word's image, or at the text's end out of the text.
-use Rattle.image_code.proofs.Common.{◌≡◌, ◌≢◌, ℕ, suc, ◌+◌, ◌-◌, ◌%◌, ◌^◌, ◌<◌, ◌≤◌, inl, inr, Bool, true, false, Option, Some, None, List, [], ◌∷◌, ◌++◌, append-nil, drop, length, map, refl, ap, sym, ◌∙◌, subst, arith, if◌then◌else◌, nat_lt, slice_get, slice_index, flat_map, option_map, and_parts, cases_Bool, le-ltb, lt-ltb, ltb-true, nat_tests, length-map, slice_get_within, Words, address_of, word_at, Instr, decode_of, NoSlot, State, act, on_word, is_transfer, goes_act, Blocks, blocks_of, holding_of, last_word, end_at, ends_block_after, within, word_at-some, Node, same_node, Point, left_by, node_after, point_of, next_word, end_is, is_in, far_piece, Item, item_at, same_itself}
+use Rattle.image_code.proofs.Common.{◌≡◌, ◌≢◌, ℕ, suc, ◌+◌, ◌-◌, ◌%◌, ◌^◌, ◌<◌, ◌≤◌, inl, inr, Bool, true, false, Option, Some, None, List, [], ◌∷◌, ◌++◌, append-nil, drop, length, map, refl, ap, sym, ◌∙◌, subst, arith, if◌then◌else◌, nat_lt, slice_get, slice_index, flat_map, option_map, and_parts, cases_Bool, le-ltb, lt-ltb, ltb-true, nat_tests, length-map, slice_get_within, Words, address_of, word_at, Instr, decode_of, NoSlot, State, act, on_word, is_transfer, goes_act, Blocks, blocks_of, holding_of, last_word, end_at, ends_block_after, within, word_at-some, Node, same_node, Point, left_by, node_after, point_of, next_word, end_is, is_in, long_jump_piece, Item, item_at, same_itself}
 use Rattle.v8_decode.specs.declared.Instr.TheVariants as i
 use Rattle.layout.specs.declared.items.Item.TheVariants as it
 use Rattle.cfg_blocks.specs.Ends.{end_by}
@@ -8,7 +8,7 @@ use Rattle.cfg_walk.proofs.Holding.{Leads, is_last}
 use Rattle.layout.specs.Laid.{is_jump, size_of}
 use Rattle.image_code.specs.Simulates.{at_point, does_at, gone_at, graph_in, number_in}
 use Rattle.image_code.proofs.Points.{entered_at}
-use Rattle.image_code.proofs.CaseShapes.{IsFar, IsPlain, JumpsOn, LeadsOn, words_on}
+use Rattle.image_code.proofs.CaseShapes.{IsJumpTarget, IsPlain, JumpsOn, LeadsOn, words_on}
 use Rattle.image_code.specs.Cases.{plain_piece}
 use Rattle.image_code.specs.Made.{is_slots, jump_to, jumps_at, next_at, next_to}
 use Rattle.image_code.specs.Numbered.{enter_number, image_number, node_in_order}
@@ -17,7 +17,7 @@ use Rattle.image_code.proofs.Following.{compare_apart, compare_inner, held_next,
 use Rattle.image_code.proofs.ImageNumbers.{HasImage, at_compare, at_jump, enters_in_order, in_order}
 use Rattle.image_code.proofs.ImagePieces.{compare_next, enter_at, jump_next}
 use Rattle.image_code.proofs.Listed.{order_at}
-use Rattle.image_code.proofs.Visited.{AtWord, Edit, at_image, site, entered_none, entered_word, image_items, l, left_gone, word_is}
+use Rattle.image_code.proofs.Visited.{AtWord, PlacedEdit, at_image, site, entered_none, entered_word, image_items, l, left_gone, word_is}
 
 last_one : (n count : ℕ) → within count n ≡ None → count ≤ n
 last_one n count e = grind (arith, nat_tests)
@@ -36,7 +36,7 @@ transfer_end text word (i.Call disp30) e = refl
 transfer_end text word (i.Jmpl rd rs1 op2) e = refl
 transfer_end text word _ e = absurd (cc)
 
-module _ (edit : Edit) (node : Node) (x : Point) (visit : AtWord edit node x) (t : State) (straight : is_transfer (decode_of (slice_index edit.g.text.words visit.word)) ≡ false) where
+module _ (edit : PlacedEdit) (node : Node) (x : Point) (visit : AtWord edit node x) (t : State) (straight : is_transfer (decode_of (slice_index edit.g.text.words visit.word)) ≡ false) where
   open edit use {g, codes, is, p, place, f, placed.{laid}}
   open visit use {word, at, none, there, npc, inside, cut, low, home, has}
 
@@ -113,7 +113,7 @@ module _ (edit : Edit) (node : Node) (x : Point) (visit : AtWord edit node x) (t
     -- whether there is a next word, and whether it is reached by a Jump
     abbrev on : Bool → Bool → List Item
     on more jumps =
-        if more then (if jumps then jump_to (word + 1) else []) else far_piece (address_of g.text (length g.text.words))
+        if more then (if jumps then jump_to (word + 1) else []) else long_jump_piece (address_of g.text (length g.text.words))
 
     found_in_order : slice_get (l edit).list number ≡ Some (image (code ++ next_to g.text word))
     found_in_order = rw (← same, same_itself node) at found
@@ -163,10 +163,10 @@ module _ (edit : Edit) (node : Node) (x : Point) (visit : AtWord edit node x) (t
         next_begins number (ends more alone) after ∙ ap (slice_index p.at) next
 
     leaves : length g.text.words ≤ word + 1 → option_map (drop 3) (slice_get (l edit).list number)
-        ≡ Some (code ++ far_piece (address_of g.text (length g.text.words)))
+        ≡ Some (code ++ long_jump_piece (address_of g.text (length g.text.words)))
     leaves last = ap (option_map (drop 3)) (with_rest false (is_slots g.text word) (le-ltb _ _ last) refl)
 
-    end_far : IsFar (address_of g.text (length g.text.words))
+    end_far : IsJumpTarget (address_of g.text (length g.text.words))
     end_far = (omega (arith, is.text.aligned), omega (arith, is.text.below))
 
     order_goes : (v : State) → Goes v → LeadsFrom number edges v

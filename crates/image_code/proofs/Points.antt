@@ -1,21 +1,21 @@
 -- Where machines stand at the visits of points.
 use Rattle.image_code.proofs.Common.{ℕ, Option, List, word_at, Node, Slot, State, Placement, Point}
 use Rattle.layout.specs.Laid.{HasShortForms}
-use Rattle.image_code.specs.Simulates.{Setting, does_at, gone_at}
-use Rattle.image_code.specs.Images.{Pieces, Frame, place_by, Here, HereBy, IsPlaced}
-use Rattle.image_code.proofs.Promises.{Enters}
+use Rattle.image_code.specs.Simulates.{EditSetup, does_at, gone_at}
+use Rattle.image_code.specs.Images.{Pieces, EditorData, place_by, AtVisit, AtPointBy, IsPlaced}
+use Rattle.image_code.proofs.Promises.{ReachesNext}
 
-abbrev pub visited_by : Setting → Pieces → Placement → Frame → Node → Point → Option ℕ → Slot → ℕ
+abbrev pub visited_by : EditSetup → Pieces → Placement → EditorData → Node → Point → Option ℕ → Slot → ℕ
 visited_by g l = place_by l.image g l
 
--- Pieces where they are placed, for a setting. (`g l base p place f` is written out where another crate says it.)
+-- Pieces where they are placed, for a set-up. (`g l base p place f` is written out where another crate says it.)
 pub record Site : Type 0 where
-  pub g : Setting
+  pub g : EditSetup
   pub l : Pieces
   pub base : ℕ
   pub p : Placement
   pub place : ℕ → ℕ → ℕ
-  pub f : Frame
+  pub f : EditorData
 
 abbrev pub placed_by : (Node → ℕ → ℕ) → Site → Node → Point → ℕ
 placed_by image site node x = place_by image site.g site.l site.p site.f node x (word_at site.g.text x.pc) x.slot
@@ -28,24 +28,24 @@ visited_at site = placed_by site.l.image site
 abbrev pub entered_at : Site → Node → Point → ℕ
 entered_at site = placed_by site.l.enter site
 
-abbrev pub HereAt : Site → Node → Point → State → Type 0
-HereAt site node x t = Here site.g site.l site.base site.p site.f node x t
+abbrev pub AtVisitIn : Site → Node → Point → State → Type 0
+AtVisitIn site node x t = AtVisit site.g site.l site.base site.p site.f node x t
 
 -- where control comes to it
-abbrev pub Entered : Site → Node → Point → State → Type 0
-Entered site node x t = HereBy site.l.enter site.g site.l site.base site.p site.f node x t
+abbrev pub AtEntryIn : Site → Node → Point → State → Type 0
+AtEntryIn site node x t = AtPointBy site.l.enter site.g site.l site.base site.p site.f node x t
 
 -- no Jump and no Branch is long
 abbrev pub Forms : Site → Type 0
 Forms site = HasShortForms site.l.list site.place
 
 -- What one image does, up to where control enters the next one.
-abbrev pub EntersNext : Site → List ℕ → Node → Point → State → State → Type 0
-EntersNext site edges node x t v = Enters site.g (Entered site) (Forms site) edges node x t v
+abbrev pub ReachesNextIn : Site → List ℕ → Node → Point → State → State → Type 0
+ReachesNextIn site edges node x t v = ReachesNext site.g (AtEntryIn site) (Forms site) edges node x t v
 
 -- where the original's step leads
 abbrev pub StepsFrom : Site → Node → Point → State → Type 0
-StepsFrom site node x t = let v = does_at site.g x t in EntersNext site (gone_at site.g node x v) node x t v
+StepsFrom site node x t = let v = does_at site.g x t in ReachesNextIn site (gone_at site.g node x v) node x t v
 
 abbrev pub Placed : Site → Type 0
 Placed site = IsPlaced site.g site.l site.base site.p site.place site.f

@@ -4,7 +4,7 @@ use Rattle.image_code.proofs.Common.{◌≡◌, ℕ, zero, suc, ◌+◌, ◌*◌
 use Rattle.cfg_blocks.specs.declared.EdgeKind.TheVariants as kinds
 use Rattle.std.proofs.lemmas.Bool.{and_right}
 use Rattle.image_code.specs.Store.{snippet_on}
-use Rattle.image_code.specs.Numbered.{node_in_order, own_edges}
+use Rattle.image_code.specs.Numbered.{node_in_order, edges_but_landings}
 use Rattle.image_code.specs.Fit.{AreShort, operations_from, operations_in}
 use Rattle.image_code.specs.Copies.{copies_of, is_at, targets_from, words_at}
 use Rattle.image_code.proofs.OpenBlocks.{IsTextGraph}
@@ -287,7 +287,7 @@ module _ (text : Words) (graph : Graph) (codes : ℕ → List ℕ) (g : IsTextGr
       )
 
   pub snippets_few : sum_by (order_code text graph codes) (below (length text.words)) + ways_code codes 0
-      (own_edges graph)
+      (edges_but_landings graph)
       + sum_by (landing_code graph codes) (below (length text.words))
       + sum_by (case_code graph codes) (entries_in graph.opens)
       ≤ 22 * operations_in graph snips

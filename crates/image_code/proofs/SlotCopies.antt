@@ -1,6 +1,6 @@
 -- The copies of slots' words: a transfer ends the run, behind a JMPL without Case edges its target is looked up, and
 -- else the copy goes on to where the edge leads.
-use Rattle.image_code.proofs.Common.{◌≡◌, ◌≢◌, ℕ, ◌%◌, ◌^◌, ◌<◌, inl, inr, Bool, true, false, Option, Some, None, List, [], ◌∷◌, ◌++◌, drop, length, refl, ap, sym, ◌∙◌, subst, arith, ◌⊎◌, ◌==◌, if◌then◌else◌, slice_get, slice_index, cases_Bool, eqb-true, false≢true, option_map, Words, address_of, word_at, Addr, decode_of, NoSlot, State, act, on_word, is_transfer, goes_act, EdgeKind, Blocks, blocks_of, word_at-some, Node, X, Graph, has_cases, lands, Point, node_after, point_of, slot_left, same_kind, IsOnItsWay, lands_as, same_kinds, found_in, page_word, far_piece, Item, slice_get_within, word_items, go_found, landed, last_in}
+use Rattle.image_code.proofs.Common.{◌≡◌, ◌≢◌, ℕ, ◌%◌, ◌^◌, ◌<◌, inl, inr, Bool, true, false, Option, Some, None, List, [], ◌∷◌, ◌++◌, drop, length, refl, ap, sym, ◌∙◌, subst, arith, ◌⊎◌, ◌==◌, if◌then◌else◌, slice_get, slice_index, cases_Bool, eqb-true, false≢true, option_map, Words, address_of, word_at, Addr, decode_of, NoSlot, State, act, on_word, is_transfer, goes_act, EdgeKind, Blocks, blocks_of, word_at-some, Node, X, Graph, has_cases, lands, Point, node_after, point_of, slot_left, same_kind, IsOnItsWay, lands_as, same_kinds, found_in, page_word, long_jump_piece, Item, slice_get_within, word_items, resume, landed, last_in}
 use Rattle.cfg_blocks.specs.declared.EdgeKind.TheVariants as kinds
 use Rattle.layout.specs.declared.items.Item.TheVariants as it
 use Rattle.cfg_walk.specs.Walk.{landing_at as edge_landing}
@@ -8,11 +8,11 @@ use Rattle.cfg_walk.specs.Matches.{Begins, way_address}
 use Rattle.cfg_walk.proofs.Nodes.{home_lands, lands_in}
 use Rattle.cfg_walk.proofs.Slots.{jump_lands}
 use Rattle.code_runs.proofs.StoredWords.{memory_word-range}
-use Rattle.image_code.specs.Simulates.{Setting, at_point, does_at, gone_at, graph_in, number_in}
+use Rattle.image_code.specs.Simulates.{EditSetup, at_point, does_at, gone_at, graph_in, number_in}
 use Rattle.image_code.specs.Store.{operations_on}
 use Rattle.image_code.specs.Images.{HasNoCases}
-use Rattle.image_code.proofs.Points.{HereAt, entered_at, visited_at}
-use Rattle.image_code.proofs.CaseShapes.{IsMarked, IsMarkedWord, IsFar, LeadsOn, words_on}
+use Rattle.image_code.proofs.Points.{AtVisitIn, entered_at, visited_at}
+use Rattle.image_code.proofs.CaseShapes.{IsMarked, IsMarkedWord, IsJumpTarget, LeadsOn, words_on}
 use Rattle.image_code.specs.Cases.{plain_piece}
 use Rattle.image_code.specs.Couple.{couple_piece}
 use Rattle.image_code.proofs.LandingShapes.{Lands}
@@ -25,7 +25,7 @@ use Rattle.image_code.proofs.Heads.{HasCopy, by_cases, case_copy, copy_visited, 
 use Rattle.image_code.proofs.ImageNumbers.{jump_of}
 use Rattle.image_code.proofs.ImagePieces.{enter_at, stands_at}
 use Rattle.image_code.proofs.Listed.{foreign_at, landing_at}
-use Rattle.image_code.proofs.Visited.{Edit, site, case_kind, edge_is, entered_none, entered_word, kind_is, l, slot_gone, target, way_in, way_now, word_is}
+use Rattle.image_code.proofs.Visited.{PlacedEdit, site, case_kind, edge_is, entered_none, entered_word, kind_is, l, slot_gone, target, way_in, way_now, word_is}
 use Rattle.image_code.specs.Cost.{is_out}
 
 -- ---- where control goes on at a node
@@ -36,7 +36,7 @@ goes_begins text graph X address word h = absurd h
 goes_begins text graph node address word h = ap (λ (n : ℕ). jump_to (enter_number text graph node n)) h
 
 goes_out : (text : Words) (graph : Graph) (node : Node) (word address : ℕ) → Begins graph node None
-    → goes_on text graph node word address ≡ far_piece address
+    → goes_on text graph node word address ≡ long_jump_piece address
 goes_out text graph X word address h = refl
 goes_out text graph node word address h = absurd h
 
@@ -58,13 +58,13 @@ landed_out text graph address None e = rw e
 landed_out text graph address (Some word) e = rw e
 
 -- a node without Case edges is no jump's block of an open switch
-pub no_cases : (g : Setting) → IsKnown g → (node : Node) → has_cases g.switches node ≡ false → HasNoCases g node
+pub no_cases : (g : EditSetup) → IsKnown g → (node : Node) → has_cases g.switches node ≡ false → HasNoCases g node
 no_cases g is node none k table e same =
     let t = table_of g is.known k table e in
     false≢true (sym none ∙ rw (same, ← t.same) (jump_of g.text (blocks_of g.text g.given) g.switches k t.o t.is))
 
-module _ (edit : Edit)
-    (node : Node) (x : Point) (t : State) (here : HereAt (site edit) node x t)
+module _ (edit : PlacedEdit)
+    (node : Node) (x : Point) (t : State) (here : AtVisitIn (site edit) node x t)
     (slot : ℕ) (at : word_at edit.g.text x.pc ≡ Some slot) (not : x.slot ≢ NoSlot)
     (way : IsOnItsWay edit.g.text (graph_in edit.g) node x (way_in edit x)) (piece to : ℕ)
     (copy : HasCopy edit node x slot at way piece to) where
@@ -123,7 +123,7 @@ module _ (edit : Edit)
     on_there = goes_on g.text (graph_in g) way.edge.to to (way_address g.text (graph_in g) way.edge.from way.edge.kind)
 
     past : (out : Bool) → same_kind way.edge.kind kinds.Out ≡ out → slice_get (l edit).list piece
-        ≡ Some (plain_piece address (number_in g node) word (code ++ (if out then word_items (go_found 1) else on_there)))
+        ≡ Some (plain_piece address (number_in g node) word (code ++ (if out then word_items (resume 1) else on_there)))
     past out e = made false straight ∙ rw e
 
     went : (v : State) → does_at g x t ≡ v → v.ending ≡ None → (v.pc ≡ x.npc) × (v.slot ≡ NoSlot)
@@ -145,7 +145,7 @@ module _ (edit : Edit)
 
     abbrev Ends : Type 0
     Ends =
-        ((word_at g.text x.npc ≡ None) × IsFar x.npc × (on_there ≡ far_piece x.npc))
+        ((word_at g.text x.npc ≡ None) × IsJumpTarget x.npc × (on_there ≡ long_jump_piece x.npc))
         ⊎ ((w : ℕ) × (word_at g.text x.npc ≡ Some w) × (on_there
         ≡ jump_to (enter_number g.text (graph_in g) way.edge.to w)))
 
@@ -174,10 +174,10 @@ module _ (edit : Edit)
               (entered_at (site edit) after (point_of v))
 
           leaves : (v.pc ≡ x.npc) × (v.slot ≡ NoSlot)
-              → (word_at g.text x.npc ≡ None) × IsFar x.npc × (on_there ≡ far_piece x.npc) → Leads
+              → (word_at g.text x.npc ≡ None) × IsJumpTarget x.npc × (on_there ≡ long_jump_piece x.npc) → Leads
           leaves w (none, far, there) =
               rw (entered_none edit after (point_of v) (rw w.0 none) w.1, w.0)
-              (inr (inr (none, far, ap (option_map (drop 3)) (items (far_piece x.npc) there))))
+              (inr (inr (none, far, ap (option_map (drop 3)) (items (long_jump_piece x.npc) there))))
 
           goes_to : (v.pc ≡ x.npc) × (v.slot ≡ NoSlot)
               → (n : ℕ) × (word_at g.text x.npc ≡ Some n)
@@ -209,7 +209,7 @@ module _ (edit : Edit)
       there : on_there ≡ goes_on g.text (graph_in g) way.edge.to (first_word (graph_in g) way.edge.to) x.npc
       there = rw (first, its_edge.leaves, kind, ← (way.goes other))
 
-      npc_far : IsFar x.npc
+      npc_far : IsJumpTarget x.npc
       npc_far =
           let w = word_at-some g.text x.pc slot at in
           rw (way.goes other)
@@ -385,7 +385,7 @@ module _ (edit : Edit)
   case_copy_case out cased goes_there = by_word (λ straight. along_case straight out cased goes_there)
 
 -- each slot at a word
-pub copy_case : (edit : Edit) (node : Node) (x : Point) (t : State) → HereAt (site edit) node x t → (slot : ℕ)
+pub copy_case : (edit : PlacedEdit) (node : Node) (x : Point) (t : State) → AtVisitIn (site edit) node x t → (slot : ℕ)
     → word_at edit.g.text x.pc ≡ Some slot → x.slot ≢ NoSlot
     → IsOnItsWay edit.g.text (graph_in edit.g) node x (way_in edit x) → IsCase (site edit) node x t
 copy_case edit node x t here slot at not way =

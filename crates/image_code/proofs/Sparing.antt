@@ -10,7 +10,7 @@ use Rattle.code_runs.specs.Counted.{one_if, stores_at}
 use Rattle.code_runs.specs.Ours.{IsIn}
 use Rattle.code_runs.proofs.Counted.{uncounted_span}
 use Rattle.code_runs.proofs.Leads.{split_below}
-use Rattle.image_code.specs.Simulates.{Setting, word_of}
+use Rattle.image_code.specs.Simulates.{EditSetup, word_of}
 use Rattle.image_code.specs.Cost.{in_first_word, is_cell, is_spill, is_transfer_at, spills_on}
 
 -- ---- an address outside the pages is in none of them
@@ -151,7 +151,7 @@ transfers text a word e is = ap is_transfer_at (instr_is text a word e) ∙ is
 
 -- ---- counts
 
-pub spills_then : (g : Setting) (first others : List ℕ)
+pub spills_then : (g : EditSetup) (first others : List ℕ)
     → spills_on g.snips g.dead (first ++ others) ≡ spills_on g.snips g.dead first + spills_on g.snips g.dead others
 spills_then g [] others = omega arith
 spills_then g (edge ∷ edges) others = let more = spills_then g edges others in omega (arith, more)

@@ -3,14 +3,14 @@ use Rattle.image_code.proofs.Common.{◌≡◌, ℕ, suc, Option, Some, None, Li
 use Rattle.layout.specs.declared.items.Item.TheVariants as it
 use Rattle.jump_code.specs.Pieces.{marked_piece}
 use Rattle.image_code.specs.Simulates.{number_in, graph_in}
-use Rattle.image_code.proofs.Points.{EntersNext, HereAt, Placed, Site, entered_at}
+use Rattle.image_code.proofs.Points.{ReachesNextIn, AtVisitIn, Placed, Site, entered_at}
 use Rattle.image_code.proofs.CaseShapes.{IsMarked, LeadsTo}
-use Rattle.image_code.proofs.Arrives.{jump_along, weaker_arrives}
+use Rattle.image_code.proofs.Routes.{jump_along, weaker_route}
 use Rattle.image_code.proofs.Dead.{LastDead}
 use Rattle.image_code.proofs.EntersBy.{MovesOn, moves_by}
 use Rattle.image_code.proofs.Marked.{AtWords, at_instrs, jump_behind, shut_behind}
 
-module _ (site : Site) (h : Placed site) (node : Node) (x : Point) (t : State) (here : HereAt site node x t)
+module _ (site : Site) (h : Placed site) (node : Node) (x : Point) (t : State) (here : AtVisitIn site node x t)
     (behind : Addr → ℕ → List Item) (c : IsMarked site node x behind) (xs : List Instr) (way : PieceNo)
     (same : behind c.address c.word ≡ word_items xs ++ it.EndMark ∷ it.Jump way ∷ []) where
   open site use {g, l, p, place}
@@ -37,10 +37,10 @@ module _ (site : Site) (h : Placed site) (node : Node) (x : Point) (t : State) (
   pub goes_through : (v : State) (m : Memory) (edges : List ℕ) → LastDead g edges
       → MovesOn site h node x t here edges v (past t (length xs) m v) (length xs)
       → LeadsTo l p way edges (word_at g.text v.pc) (entered_at site (node_after (graph_in g) node edges) (point_of v))
-      → EntersNext site edges node x t v
+      → ReachesNextIn site edges node x t v
   goes_through v m edges last w leads =
       let to = entered_at site (node_after (graph_in g) node edges) (point_of v) in
       moves_by site h node x t here edges v (past t (length xs) m v) (length xs) last w (λ fit.
-      weaker_arrives site h edges _ to 8 24 (omega arith)
+      weaker_route site h edges _ to 8 24 (omega arith)
       (jump_along site h c.piece (suc (suc (length xs))) way jump shut edges _ (word_at g.text v.pc) to fit
       (sym ahead.behind) leads))

@@ -2,10 +2,10 @@
 use Rattle.image_code.proofs.Common.{◌≡◌, ℕ, ◌+◌, Bool, [], ◌∷◌, refl, ap, ◌∙◌, arith, Instr, wrapped, NoSlot, State, act, puts_by, run_puts, is_transfer, live_puts, Point, Node, hopped, count_stores, step_is, no_stores, leads_one, stores_none, IsPageWord, nop}
 use Rattle.layout.specs.declared.items.Item.TheVariants as it
 use Rattle.image_code.specs.Simulates.{does_at, gone_at, number_in}
-use Rattle.image_code.proofs.Points.{HereAt, Placed, Site, StepsFrom}
+use Rattle.image_code.proofs.Points.{AtVisitIn, Placed, Site, StepsFrom}
 use Rattle.image_code.proofs.CaseShapes.{next_entry, word_ahead}
 use Rattle.image_code.proofs.UnconditionalShapes.{IsUnconditionalBranch}
-use Rattle.image_code.proofs.Arrives.{jump_then, rest_marked, weaker_arrives}
+use Rattle.image_code.proofs.Routes.{jump_then, rest_marked, weaker_route}
 use Rattle.image_code.proofs.BranchMoves.{branch_moves}
 use Rattle.image_code.proofs.Memories.{fetch_is}
 use Rattle.image_code.proofs.Marked.{AtWords, at_words}
@@ -14,7 +14,7 @@ use Rattle.image_code.proofs.EntersBy.{OnWay, moves_by}
 use Rattle.image_code.specs.Made.{nop_word}
 use Rattle.image_code.proofs.Branches.{nop_says}
 
-module _ (site : Site) (h : Placed site) (node : Node) (x : Point) (t : State) (here : HereAt site node x t)
+module _ (site : Site) (h : Placed site) (node : Node) (x : Point) (t : State) (here : AtVisitIn site node x t)
     (c : IsUnconditionalBranch site node x t) where
   open site use {g, l, f}
 
@@ -71,7 +71,7 @@ module _ (site : Site) (h : Placed site) (node : Node) (x : Point) (t : State) (
         waits = λ a b _. absurd (c.never a b);
       })
       (λ fit.
-      weaker_arrives site h edges mid (next_entry site node x t) 8 24 (omega arith)
+      weaker_route site h edges mid (next_entry site node x t) 8 24 (omega arith)
       (jump_then site h c.piece 3 c.way
       (rest_marked l c.piece c.address (number_in g node) (it.Word nop_word) (it.Jump c.way ∷ []) (tt, tt) c.items)
       edges mid (word_ahead g x t) (next_entry site node x t) fit

@@ -8,10 +8,10 @@ use Rattle.std.proofs.lemmas.List.Folds.{list_any-append}
 use Rattle.cfg_walk.specs.Walk.{by_kind, way_to}
 use Rattle.cfg_walk.specs.Matches.{IsCarried}
 use Rattle.addr_translate.specs.Lookup.{IsTable}
-use Rattle.image_code.specs.Simulates.{Setting, gone_at, graph_in, number_in, word_of}
-use Rattle.image_code.specs.Images.{Frame, IsPlaced, Pieces, along_first, place_by, slot_piece}
+use Rattle.image_code.specs.Simulates.{EditSetup, gone_at, graph_in, number_in, word_of}
+use Rattle.image_code.specs.Images.{EditorData, IsPlaced, Pieces, along_first, place_by, slot_piece}
 use Rattle.image_code.proofs.Points.{Site, entered_at, visited_at}
-use Rattle.image_code.proofs.CaseShapes.{IsFar, IsMarked, LeadsTo}
+use Rattle.image_code.proofs.CaseShapes.{IsJumpTarget, IsMarked, LeadsTo}
 use Rattle.image_code.specs.Made.{AreCasesFor, IsOffNoted, IsTableFor, edit_pieces, first_way, first_word, image_by, jumps_at, way_by, way_out}
 use Rattle.image_code.specs.Numbered.{along_case, along_number, case_piece, enter_number, image_number, jump_number, way_piece}
 use Rattle.image_code.proofs.CaseTables.{IsKnown}
@@ -53,7 +53,7 @@ among_targets (o ∷ opens) block word any =
           record { number = suc r.number; o = r.o; is = r.is; itself = r.itself; entry = r.entry; at = r.at }
     ]
 
-module _ (g : Setting) where
+module _ (g : EditSetup) where
   pub word_is : (x : Point) (word : ℕ) → word_at g.text x.pc ≡ Some word
       → word_of g.text x.pc ≡ Some (slice_index g.text.words word)
   word_is x word e = ap (option_map (λ n. slice_index g.text.words n)) e
@@ -77,25 +77,25 @@ module _ (g : Setting) where
   slot_gone node x v slot after live = rw (live, after) (grind arith)
 
 -- in a slot, at a word or off the text
-at_slot : (image : Node → ℕ → ℕ) (g : Setting) (l : Pieces) (p : Placement) (f : Frame) (node : Node) (x : Point)
+at_slot : (image : Node → ℕ → ℕ) (g : EditSetup) (l : Pieces) (p : Placement) (f : EditorData) (node : Node) (x : Point)
     (word : ℕ) (s : Slot) → s ≢ NoSlot
     → place_by image g l p f node x (Some word) s ≡ slice_index p.at (slot_piece g l node x)
 at_slot image g l p f node x word NoSlot n = absurd (n refl)
 at_slot image g l p f node x word _ n = refl
 
-pub off_slot : (image : Node → ℕ → ℕ) (g : Setting) (l : Pieces) (p : Placement) (f : Frame) (node : Node) (x : Point)
+pub off_slot : (image : Node → ℕ → ℕ) (g : EditSetup) (l : Pieces) (p : Placement) (f : EditorData) (node : Node) (x : Point)
     (s : Slot) → s ≢ NoSlot → place_by image g l p f node x None s ≡ f.table.base
 off_slot image g l p f node x NoSlot n = absurd (n refl)
 off_slot image g l p f node x _ n = refl
 
--- An edit: a setting of which the code knows, its pieces placed, and what is known of the tables.
-pub record Edit : Type 0 where
-  pub g : Setting
+-- An edit: a set-up of which the code knows, its pieces placed, and what is known of the tables.
+pub record PlacedEdit : Type 0 where
+  pub g : EditSetup
   pub codes : ℕ → List ℕ
   pub base : ℕ
   pub p : Placement
   pub place : ℕ → ℕ → ℕ
-  pub f : Frame
+  pub f : EditorData
   pub is : IsKnown g
   pub placed : IsPlaced g (edit_pieces g f codes) base p place f
   pub tables : IsTableFor g.text (graph_in g) g.snips p f.table f.halves
@@ -104,7 +104,7 @@ pub record Edit : Type 0 where
   pub noted : IsOffNoted g f.table.base
 
 -- a visit of a word at a node whose block holds it, outside a slot
-pub record AtWord (edit : Edit) (node : Node) (x : Point) : Type 0 where
+pub record AtWord (edit : PlacedEdit) (node : Node) (x : Point) : Type 0 where
   pub word : ℕ
   pub at : word_at edit.g.text x.pc ≡ Some word
   pub none : x.slot ≡ NoSlot
@@ -117,7 +117,7 @@ pub record AtWord (edit : Edit) (node : Node) (x : Point) : Type 0 where
   pub home : home_of node ≡ block (holding_of (blocks_of edit.g.text edit.g.given) word)
   pub has : HasImage edit.g.text (blocks_of edit.g.text edit.g.given) edit.g.switches node word
 
-module _ (edit : Edit) where
+module _ (edit : PlacedEdit) where
   open edit use {g, codes, is, base, p, place, f, tables.{whole}}
 
   abbrev b : Blocks
@@ -409,7 +409,7 @@ module _ (edit : Edit) where
 
   -- ---- into a slot
 
-  pub table_far : IsTable f.table → IsFar f.table.base
+  pub table_far : IsTable f.table → IsJumpTarget f.table.base
   table_far whole = (omega arith, omega arith)
 
   -- the way of the edge on which a slot is run leads to where that is visited

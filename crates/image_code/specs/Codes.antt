@@ -6,7 +6,7 @@ use Rattle.snippets.specs.Cells.{named_by}
 use Rattle.snippet_code.specs.Runs.{DoesJust}
 use Rattle.snippet_code.specs.Spills.{spills_of}
 use Rattle.image_code.specs.Store.{snippet_on}
-use Rattle.image_code.specs.Parts.{codes_of}
+use Rattle.image_code.specs.SnippetWords.{codes_of}
 
 -- The words on an edge do just its snippet, on the cells at `base`, and are few.
 pub record CodeDoes (base : ℕ) (dead : ℕ → List Part) (snips : List (List Op)) (edge : ℕ) : Type 0 where

@@ -76,13 +76,13 @@ pub record IsWatched (e : Edit) (edges : List ℕ) (p : Point) (v : State) : Typ
   pub inside : word_at e.text v.pc ≢ None
 
 -- What so many steps store and take that answer a step of the original.
-pub record IsSparing (e : Edit) (dead : ℕ → List Part) (Short : Type 0) (edges : List ℕ) (p : Point) (t : State) (count : ℕ)
+pub record CostsLittle (e : Edit) (dead : ℕ → List Part) (NoLongForms : Type 0) (edges : List ℕ) (p : Point) (t : State) (count : ℕ)
     : Type 0 where
   -- registers that snippets spill, and no others
   pub spills : count_stores (is_spill e.notes) t count ≤ spills_on e.snips dead edges
   -- Where nothing is long, that word is left alone,
-  pub first : Short → count_stores in_first_word t count ≡ 0
+  pub first : NoLongForms → count_stores in_first_word t count ≡ 0
   -- a word within its block is carried out alone,
-  pub alone : Short → edges ≡ [] → is_transfer_at (instr_at e.text p.pc) ≡ false → count ≡ 1
+  pub alone : NoLongForms → edges ≡ [] → is_transfer_at (instr_at e.text p.pc) ≡ false → count ≡ 1
   -- and a way without operations has few words.
-  pub few : Short → operations_on e.snips edges ≡ 0 → count ≤ 8
+  pub few : NoLongForms → operations_on e.snips edges ≡ 0 → count ≤ 8

@@ -25,7 +25,7 @@ use Rattle.layout.specs.Running.{HasCode}
 use Rattle.snippet_code.specs.Runs.{DoesJust}
 use Rattle.snippet_code.specs.Code.{IsCellOf}
 use Rattle.snippet_code.specs.Cells.{cell_at}
-use Rattle.image_code.specs.Simulates.{CaseTable, Setting, graph_in}
+use Rattle.image_code.specs.Simulates.{CaseTable, EditSetup, graph_in}
 use Rattle.image_code.specs.Cost.{is_out, spills_at}
 use Rattle.image_code.specs.Store.{snippet_on}
 
@@ -43,7 +43,7 @@ pub record Pieces : Type 0 where
 
 -- the table that leads from addresses of the original to new code, that of two levels by which jumps look up, the words
 -- that have the pieces of Case edges, and which words the editor's code may store
-pub record Frame : Type 0 where
+pub record EditorData : Type 0 where
   pub table : TableAt
   pub halves : TableAt
   pub cases : TableAt
@@ -54,13 +54,13 @@ along_first l [] next = 0
 along_first l (edge ∷ edges) next = l.along edge next
 
 -- the piece of the edge on which the slot at this point is run
-abbrev pub slot_piece : Setting → Pieces → Node → Point → ℕ
+abbrev pub slot_piece : EditSetup → Pieces → Node → Point → ℕ
 slot_piece g l node x =
     let way = way_to g.text (graph_in g) node (way_of (instr_at g.text (x.pc - 4)) x.slot) x.npc in
     along_first l (edge_along (graph_in g) node way) x.npc
 
 -- a slot that is off the text has its place where the table begins
-abbrev pub place_by : (Node → ℕ → ℕ) → Setting → Pieces → Placement → Frame → Node → Point → Option ℕ → Slot → ℕ
+abbrev pub place_by : (Node → ℕ → ℕ) → EditSetup → Pieces → Placement → EditorData → Node → Point → Option ℕ → Slot → ℕ
 place_by image g l p f node x (Some word) NoSlot = slice_index p.at (image node word)
 place_by image g l p f node x None NoSlot = x.pc
 place_by image g l p f node x (Some word) slot = slice_index p.at (slot_piece g l node x)
@@ -79,7 +79,7 @@ abbrev pub IsBeside : ℕ → List ℕ → ℕ → Type 0
 IsBeside base code a = (a < base) ⊎ (base + 4 * length code ≤ a)
 
 -- The code can be executed, and nothing else; the editor's words are its own, and the table of the jumps stands.
-pub record HasImages (g : Setting) (base : ℕ) (p : Placement) (f : Frame) (m : Memory) : Type 0 where
+pub record HasImages (g : EditSetup) (base : ℕ) (p : Placement) (f : EditorData) (m : Memory) : Type 0 where
   pub code : HasCode base p.code m
   pub only : (a : ℕ) → IsBeside base p.code a → fetch_from (code_of m) a ≡ None
   pub ours : IsOurs (pages_of g.notes) f.own m
@@ -87,13 +87,13 @@ pub record HasImages (g : Setting) (base : ℕ) (p : Placement) (f : Frame) (m :
   pub cases : HasTable f.cases m
 
 -- the node is the jump's block itself of no open switch
-abbrev pub HasNoCases : Setting → Node → Type 0
+abbrev pub HasNoCases : EditSetup → Node → Type 0
 HasNoCases g node =
     (k : ℕ) (o : CaseTable) → slice_get g.opens k ≡ Some o → node ≡ Block (record { 0 = o.block }) → ⊥
 
 -- ---- a machine at a point, whose images stand or are entered at these pieces
 
-pub record HereBy (image : Node → ℕ → ℕ) (g : Setting) (l : Pieces) (base : ℕ) (p : Placement) (f : Frame)
+pub record AtPointBy (image : Node → ℕ → ℕ) (g : EditSetup) (l : Pieces) (base : ℕ) (p : Placement) (f : EditorData)
     (node : Node) (x : Point) (t : State) : Type 0 where
   pub valid : IsValid t
   pub live : t.ending ≡ None
@@ -108,12 +108,12 @@ pub record HereBy (image : Node → ℕ → ℕ) (g : Setting) (l : Pieces) (bas
       × (word_at g.text x.pc ≢ None → memory_word t.memory (page_word 7) ≡ found_in f.halves x.npc)
 
 -- at its visit
-abbrev pub Here : Setting → Pieces → ℕ → Placement → Frame → Node → Point → State → Type 0
-Here g l base p f node x t = HereBy l.image g l base p f node x t
+abbrev pub AtVisit : EditSetup → Pieces → ℕ → Placement → EditorData → Node → Point → State → Type 0
+AtVisit g l base p f node x t = AtPointBy l.image g l base p f node x t
 
 -- ---- what the notes say of placed code
 
-pub record AreNoted (g : Setting) (base : ℕ) (p : Placement) : Type 0 where
+pub record AreNoted (g : EditSetup) (base : ℕ) (p : Placement) : Type 0 where
   pub inside : (a : ℕ) → base ≤ a → a < base + 4 * length p.code → in_pages g.notes a ≡ true
   pub ranges : (a : ℕ) → base ≤ a → a < base + 4 * length p.code → range_at g.notes a ≡ range_in p.ranges a
   -- outside the pages nothing has a place, and all is at the node after the blocks
@@ -121,12 +121,12 @@ pub record AreNoted (g : Setting) (base : ℕ) (p : Placement) : Type 0 where
   pub blocks : length g.notes.blocks ≡ length (graph_in g).blocks.firsts
 
 -- a table lies in the pages, and apart from the words that the editor's code may store
-pub record IsTableIn (g : Setting) (own : List ℕ) (table : TableAt) : Type 0 where
+pub record IsTableIn (g : EditSetup) (own : List ℕ) (table : TableAt) : Type 0 where
   pub within : (a : ℕ) → table.base ≤ a → a + 4 ≤ table.base + length table.bytes → IsIn (pages_of g.notes) a
   pub apart : (a : ℕ) → IsAmongWords own a → (a + 4 ≤ table.base) ⊎ (table.base + length table.bytes ≤ a)
 
 -- the words of the editor's page that its code stores, and the tables, which they leave alone
-pub record IsFramed (g : Setting) (f : Frame) : Type 0 where
+pub record IsEditorData (g : EditSetup) (f : EditorData) : Type 0 where
   pub own : AreOwn (pages_of g.notes) f.own
   pub page : (n : ℕ) → n < 8 → IsAmongWords f.own (page_word n)
   pub table : IsTableIn g f.own f.halves
@@ -136,7 +136,7 @@ pub record IsFramed (g : Setting) (f : Frame) : Type 0 where
 -- The cells stand below the heap, among the words that the editor's code may store, and the words of each snippet do
 -- just the snippet, with what is dead behind it, whatever stores are counted. A snippet has at most 22 words an
 -- operation. Along the edge of a JMPL nothing is dead.
-pub record HasCells (g : Setting) (l : Pieces) (f : Frame) : Type 0 where
+pub record HasCells (g : EditSetup) (l : Pieces) (f : EditorData) : Type 0 where
   pub aligned : g.notes.base % 4 ≡ 0
   pub low : cell_at g.notes.base g.notes.cells ≤ 2 ^ 31
   pub own : (cell : ℕ) → cell < g.notes.cells → IsAmongWords f.own (cell_at g.notes.base cell)
@@ -147,8 +147,8 @@ pub record HasCells (g : Setting) (l : Pieces) (f : Frame) : Type 0 where
   pub short : (edge : ℕ) → length (l.codes edge) ≤ 22 * length (snippet_on g.snips edge)
 
 -- what is given of a placement, to each image
-pub record IsPlaced (g : Setting) (l : Pieces) (base : ℕ) (p : Placement) (place : ℕ → ℕ → ℕ) (f : Frame) : Type 0 where
+pub record IsPlaced (g : EditSetup) (l : Pieces) (base : ℕ) (p : Placement) (place : ℕ → ℕ → ℕ) (f : EditorData) : Type 0 where
   pub laid : IsLaid l.list base p place
   pub noted : AreNoted g base p
-  pub frame : IsFramed g f
+  pub frame : IsEditorData g f
   pub cells : HasCells g l f

@@ -9,11 +9,11 @@ use Rattle.v8_decode.specs.Words.{decode_of}
 use Rattle.v8_encode.specs.Code.{op2_fits}
 use Rattle.v8_step.specs.Items.{is_transfer}
 use Rattle.cfg_blocks.specs.Blocks.{last_word}
-use Rattle.image_code.specs.Simulates.{CaseTable, Setting, graph_in}
+use Rattle.image_code.specs.Simulates.{CaseTable, EditSetup, graph_in}
 
 -- The words from the load to the jump: an LD with these operands, and no transfer before the jump, with which the block
 -- ends.
-pub record IsCaseTable (g : Setting) (o : CaseTable) : Type 0 where
+pub record IsCaseTable (g : EditSetup) (o : CaseTable) : Type 0 where
   pub order : o.load < o.jump
   pub within : o.jump < length g.text.words
   pub last : last_word (graph_in g).blocks.firsts (graph_in g).blocks.words o.block ≡ o.jump
@@ -24,7 +24,7 @@ pub record IsCaseTable (g : Setting) (o : CaseTable) : Type 0 where
   pub straight : (word : ℕ) → o.load ≤ word → word < o.jump
       → is_transfer (decode_of (slice_index g.text.words word)) ≡ false
 
-pub record AreCaseTables (g : Setting) : Type 0 where
+pub record AreCaseTables (g : EditSetup) : Type 0 where
   pub text : IsText g.text
   pub each : (k : ℕ) (o : CaseTable) → slice_get g.opens k ≡ Some o → IsCaseTable g o
   -- a block has one at most

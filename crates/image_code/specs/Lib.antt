@@ -11,7 +11,7 @@ pub mod Graphs
 pub mod Copies
 pub mod Made
 pub mod Lookups
-pub mod Parts
+pub mod SnippetWords
 pub mod Fit
 pub mod Codes
 pub mod Choices

@@ -32,22 +32,22 @@ use Rattle.addr_translate.specs.Halves.{found_in}
 use Rattle.addr_translate.specs.Lookup.{TableAt, IsTable, table_word}
 use Rattle.addr_translate.specs.Table.{size_of}
 use Rattle.jump_code.specs.FreeRegister.{free_register, other_register}
-use Rattle.jump_code.specs.Keeping.{keep_load}
-use Rattle.jump_code.specs.Finding.{go_found}
-use Rattle.jump_code.specs.Pieces.{call_piece, far_piece, find_piece, foreign_piece, word_items}
+use Rattle.jump_code.specs.Keeping.{save_load_address}
+use Rattle.jump_code.specs.Finding.{resume}
+use Rattle.jump_code.specs.Pieces.{call_piece, long_jump_piece, look_up_piece, foreign_piece, word_items}
 use Rattle.layout.specs.Laid.{HasShortForms, Placement}
 use Rattle.snippets.specs.declared.snippet.Op.{Op}
 use Rattle.layout.specs.declared.items.Item.{Item}
 use Rattle.layout.specs.declared.items.Item.TheVariants as it
-use Rattle.image_code.specs.Simulates.{Setting, Simulates, graph_in, number_in}
+use Rattle.image_code.specs.Simulates.{EditSetup, Simulates, graph_in, number_in}
 use Rattle.image_code.specs.Store.{operations_on}
-use Rattle.image_code.specs.Images.{Frame, Here, IsPlaced, Pieces}
+use Rattle.image_code.specs.Images.{EditorData, AtVisit, IsPlaced, Pieces}
 use Rattle.image_code.specs.Cases.{plain_piece, branch_piece}
 use Rattle.image_code.specs.Couple.{couple_piece}
 use Rattle.image_code.specs.Outside.{IsOffPages}
-use Rattle.image_code.specs.Choices.{choice_piece}
+use Rattle.image_code.specs.Choices.{switch_jump_piece}
 use Rattle.image_code.specs.Loads.{load_of}
-use Rattle.image_code.specs.Numbered.{along_number, case_numbers, enter_number, first_entry, foreign_number, image_number, jump_number, landing_number, node_in_order, or_zero, own_edges, place_in, way_piece}
+use Rattle.image_code.specs.Numbered.{along_number, case_numbers, enter_number, first_entry, foreign_number, image_number, jump_number, landing_number, node_in_order, or_zero, edges_but_landings, place_in, way_piece}
 use Rattle.image_code.specs.Graphs.{IsGraphOf, case_table}
 
 -- ---- words
@@ -72,7 +72,7 @@ is_slots text word = nat_lt 0 word && is_transfer (decode_of (slice_index text.w
 abbrev pub next_to : Words → ℕ → List Item
 next_to text word =
     if nat_lt (word + 1) (length text.words) then (if is_slots text word then jump_to (word + 1) else [])
-    else far_piece (address_of text (length text.words))
+    else long_jump_piece (address_of text (length text.words))
 
 module _ (text : Words) (graph : Graph) where
   abbrev pub first_way : List ℕ → ℕ
@@ -95,14 +95,14 @@ module _ (text : Words) (graph : Graph) where
 
   -- at a node control goes on to a word of its block, outside the text to the original's address
   abbrev pub goes_on : Node → ℕ → ℕ → List Item
-  goes_on X word address = far_piece address
+  goes_on X word address = long_jump_piece address
   goes_on node word address = jump_to (enter_number text graph node word)
 
   -- Behind the copy of a slot's word, and the snippet, a JMPL goes on at what was found; along any other edge control
   -- goes on to a word at the edge's node.
   abbrev pub goes_behind : Edge → ℕ → List Item
   goes_behind edge word =
-      if same_kind edge.kind kinds.Out then word_items (go_found 1)
+      if same_kind edge.kind kinds.Out then word_items (resume 1)
       else goes_on edge.to word (way_address text graph edge.from edge.kind)
 
   -- Where control goes on after a word that is no transfer. At the comparison's landed copy and at the block itself of
@@ -142,12 +142,12 @@ distance_of cases first table = (cases + 4 * first + 2 ^ 32 - table) % 2 ^ 32
 module _ (text : Words) (graph : Graph) (jumps cases : ℕ) where
   abbrev pub choice_of : Addr → Node → ℕ → Option ℕ → Option Open → List Item
   choice_of address node rd (Some k) (Some o) =
-      choice_piece rd address (node_number graph node) (distance_of cases (first_entry text graph k) o.switch.table.0)
+      switch_jump_piece rd address (node_number graph node) (distance_of cases (first_entry text graph k) o.switch.table.0)
   choice_of address node rd _ _ = []
 
   abbrev pub jump_by : Addr → Node → ℕ → ℕ → Op2 → List Item
   jump_by address node rd rs1 op2 =
-      find_piece (free_register rd rs1 op2) (other_register rd rs1 op2) rd rs1 op2 jumps address
+      look_up_piece (free_register rd rs1 op2) (other_register rd rs1 op2) rd rs1 op2 jumps address
       (node_number graph node) (record { 0 = way_out text graph node kinds.Out })
 
   -- at the block itself of an open switch's jump a Case edge is chosen
@@ -210,7 +210,7 @@ module _ (text : Words) (graph : Graph) (table : ℕ) (codes : ℕ → List ℕ)
   way_by number edge to (slots.Word slot) =
       slot_copy (record { 0 = address_of text slot.0 }) (node_number graph edge.from) (slice_index text.words slot.0)
       number edge to
-  way_by number edge to slots.Off = far_piece table
+  way_by number edge to slots.Off = long_jump_piece table
 
   -- To the next word control falls without a way, and Case edges have theirs by entries. The piece that stands for it
   -- is never run; it ends in a Jump, as the ways do.
@@ -248,9 +248,9 @@ module _ (text : Words) (graph : Graph) (table : ℕ) (codes : ℕ → List ℕ)
 -- ---- open switches
 
 -- the words that keep the address of a load
-abbrev pub keep_by : Instr → List Item
-keep_by (i.Load kind rd rs1 op2) = word_items (keep_load rs1 op2)
-keep_by _ = []
+abbrev pub save_by : Instr → List Item
+save_by (i.Load kind rd rs1 op2) = word_items (save_load_address rs1 op2)
+save_by _ = []
 
 module _ (text : Words) (graph : Graph) (table cases : ℕ) (codes : ℕ → List ℕ) where
   -- the images of so many words at a node
@@ -266,7 +266,7 @@ module _ (text : Words) (graph : Graph) (table cases : ℕ) (codes : ℕ → Lis
       images_of (Landed (record { 0 = compare })) (slice_index graph.blocks.firsts compare)
       (block_size graph.blocks compare)
       ++ images_of (Block (record { 0 = o.block })) first (load - first)
-      ++ keep_by (decode_of (slice_index text.words load))
+      ++ save_by (decode_of (slice_index text.words load))
       ∷ images_of (Block (record { 0 = o.block })) load (first + block_size graph.blocks o.block - load)
 
   -- ---- all pieces
@@ -278,7 +278,7 @@ module _ (text : Words) (graph : Graph) (table cases : ℕ) (codes : ℕ → Lis
 
   unfoldable pub piece_list : List (List Item)
   piece_list =
-      images_in_order ++ ways_from text graph table codes 0 (own_edges graph)
+      images_in_order ++ ways_from text graph table codes 0 (edges_but_landings graph)
       ++ map (landing text graph codes) (below (length text.words))
       ++ flat_map open_pieces graph.opens
       ++ flat_map (λ (o : Open). cases_from text graph table codes o 0 o.targets) graph.opens
@@ -316,7 +316,7 @@ pub record AreCasesFor (text : Words) (graph : Graph) (p : Placement) (cases : T
       → table_word cases (cases.base + 4 * entry) ≡ slice_index p.at number
 
 -- the place of a slot behind the text, where some edge has one, is where the table begins
-abbrev pub IsOffNoted : Setting → ℕ → Type 0
+abbrev pub IsOffNoted : EditSetup → ℕ → Type 0
 IsOffNoted g table =
     (number : ℕ) (edge : Edge) → slice_get (graph_in g).edges number ≡ Some edge → edge.slot ≡ slots.Off
     → range_at g.notes table ≡ Some (record {
@@ -327,16 +327,16 @@ IsOffNoted g table =
     })
 
 -- the pieces of an edit
-abbrev pub edit_pieces : Setting → Frame → (ℕ → List ℕ) → Pieces
+abbrev pub edit_pieces : EditSetup → EditorData → (ℕ → List ℕ) → Pieces
 edit_pieces g f codes = pieces_in g.text (graph_in g) f.table.base f.cases.base codes
 
 -- However they are placed, each image is one step of the original, at every point outside the pages.
 abbrev pub PiecesMakeImages : Type 0
 PiecesMakeImages =
-    (g : Setting) (codes : ℕ → List ℕ) (base : ℕ) (p : Placement) (place : ℕ → ℕ → ℕ) (f : Frame) → IsText g.text
+    (g : EditSetup) (codes : ℕ → List ℕ) (base : ℕ) (p : Placement) (place : ℕ → ℕ → ℕ) (f : EditorData) → IsText g.text
     → IsGraphOf g.text (graph_in g) → g.opens ≡ map (case_table g.text) g.switches
     → IsPlaced g (edit_pieces g f codes) base p place f
     → IsTableFor g.text (graph_in g) g.snips p f.table f.halves → AreCasesFor g.text (graph_in g) p f.cases
     → f.table.base < base → IsOffNoted g f.table.base
-    → Simulates g (IsOffPages g) (Here g (edit_pieces g f codes) base p f)
+    → Simulates g (IsOffPages g) (AtVisit g (edit_pieces g f codes) base p f)
     (HasShortForms (piece_list g.text (graph_in g) f.table.base f.cases.base codes) place)

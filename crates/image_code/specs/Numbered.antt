@@ -25,8 +25,8 @@ abbrev pub landing_count : Graph → ℕ
 landing_count graph = length (flat_map (landings_of graph.opens) (below (length graph.blocks.firsts)))
 
 -- the edges but for the landings
-abbrev pub own_edges : Graph → List Edge
-own_edges graph = take (length graph.edges - landing_count graph) graph.edges
+abbrev pub edges_but_landings : Graph → List Edge
+edges_but_landings graph = take (length graph.edges - landing_count graph) graph.edges
 
 -- the node of a word's image in the order of the text: control falls only into the landed copy of a jump's block
 abbrev pub node_in_order : Graph → ℕ → Node
@@ -39,7 +39,7 @@ module _ (text : Words) (graph : Graph) where
   way_piece edge = length text.words + edge
 
   abbrev pub landing_number : ℕ → ℕ
-  landing_number word = length text.words + length (own_edges graph) + word
+  landing_number word = length text.words + length (edges_but_landings graph) + word
 
   -- ---- open switches
 
@@ -50,7 +50,7 @@ module _ (text : Words) (graph : Graph) where
   -- where those of the switch with this number begin
   abbrev pub open_begin : ℕ → ℕ
   open_begin k =
-      length text.words + length (own_edges graph) + length text.words + sum_by pieces_of (take k graph.opens)
+      length text.words + length (edges_but_landings graph) + length text.words + sum_by pieces_of (take k graph.opens)
 
   abbrev pub compare_image : ℕ → Open → ℕ → ℕ
   compare_image k o word = open_begin k + (word - slice_index graph.blocks.firsts o.switch.compare.0)

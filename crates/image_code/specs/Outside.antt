@@ -2,8 +2,8 @@
 use Rattle.v8_memory.specs.Spans.{IsApartFromAll}
 use Rattle.two_runs.specs.Visits.{pages_of}
 use Rattle.cfg_walk.specs.Walk.{Point}
-use Rattle.image_code.specs.Simulates.{Setting}
+use Rattle.image_code.specs.Simulates.{EditSetup}
 
 -- the point lies outside the pages
-abbrev pub IsOffPages : Setting → Point → Type 0
+abbrev pub IsOffPages : EditSetup → Point → Type 0
 IsOffPages g x = IsApartFromAll (pages_of g.notes) (record { from = x.pc; count = 1 })

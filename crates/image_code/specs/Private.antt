@@ -4,13 +4,13 @@ use Rattle.eel_base.specs.declared.numbers.Addr.{Addr}
 use Rattle.cfg_blocks.specs.Ends.{always, never}
 use Rattle.layout.specs.declared.items.Item.{Item}
 use Rattle.layout.specs.declared.items.Item.TheVariants as it
-use Rattle.jump_code.specs.Finding.{go_found}
-use Rattle.jump_code.specs.Pieces.{far_piece, word_items}
+use Rattle.jump_code.specs.Finding.{resume}
+use Rattle.jump_code.specs.Pieces.{long_jump_piece, word_items}
 use Rattle.image_code.specs.declared.expansion.Codes.{Codes}
 use Rattle.image_code.specs.declared.expansion.CodeSpan.{CodeSpan}
 use Rattle.image_code.specs.declared.making.SnippetCode.{SnippetCode}
-use Rattle.image_code.specs.declared.parts.Next.{Next}
-use Rattle.image_code.specs.declared.parts.Next.TheVariants as next
+use Rattle.image_code.specs.declared.piece_forms.Next.{Next}
+use Rattle.image_code.specs.declared.piece_forms.Next.TheVariants as next
 use Rattle.image_code.specs.Cases.{plain_piece, branch_piece}
 use Rattle.image_code.specs.Made.{jump_to, nop_word}
 
@@ -31,8 +31,8 @@ code_in code = code_at code.codes
 abbrev pub items_of : Next → List Item
 items_of next.Behind = []
 items_of (next.Piece piece) = it.Jump piece ∷ []
-items_of (next.Far to) = far_piece to.0
-items_of next.Found = word_items (go_found 1)
+items_of (next.Far to) = long_jump_piece to.0
+items_of next.Found = word_items (resume 1)
 
 -- the image of a branch, by the ways along its edges
 abbrev pub branch_by : Addr → ℕ → ℕ → ℕ → ℕ → List Item

@@ -27,8 +27,8 @@ use Rattle.cfg_normal.specs.Code.{IsNodeIn}
 use Rattle.v8_memory.specs.Code.{IsSameOutside}
 use Rattle.code_runs.specs.Points.{moved}
 use Rattle.code_runs.specs.PointsAlike.{instr_of}
-use Rattle.jump_code.specs.PageWords.{kept_address}
-use Rattle.image_code.specs.Cost.{IsSparing, IsWatched, limit_by}
+use Rattle.jump_code.specs.PageWords.{saved_address}
+use Rattle.image_code.specs.Cost.{CostsLittle, IsWatched, limit_by}
 use Rattle.image_code.specs.Store.{Edit, cells_in, updates}
 
 -- ---- the original at a point
@@ -54,7 +54,7 @@ pub record CaseTable : Type 0 where
   pub from : ℕ
   pub count : ℕ
 
-pub record Setting : Type 0 where
+pub record EditSetup : Type 0 where
   pub text : Words
   -- words that lead besides
   pub given : List ℕ
@@ -67,32 +67,32 @@ pub record Setting : Type 0 where
   pub opens : List CaseTable
   pub notes : Notes
 
-abbrev pub graph_in : Setting → Graph
+abbrev pub graph_in : EditSetup → Graph
 graph_in g = graph_of (blocks_of g.text g.given) g.switches
 
 -- the edit, by its graph
-abbrev pub edit_in : Setting → Edit
+abbrev pub edit_in : EditSetup → Edit
 edit_in g = record { text = g.text; graph = graph_in g; snips = g.snips; notes = g.notes }
 
-abbrev pub number_in : Setting → Node → ℕ
+abbrev pub number_in : EditSetup → Node → ℕ
 number_in g node = node_number (graph_in g) node
 
 -- what a machine does that stands at this point of the original
-abbrev pub does_at : Setting → Point → State → State
+abbrev pub does_at : EditSetup → Point → State → State
 does_at g p t = on_word (at_point p t) (word_of g.text p.pc)
 
 -- the walk's node is one of the graph, and matches the point
-abbrev pub MatchesIn : Setting → Node → Point → Type 0
+abbrev pub MatchesIn : EditSetup → Node → Point → Type 0
 MatchesIn g node p = Matches g.text (graph_in g) node p × IsNodeIn (graph_in g).blocks (graph_in g).opens node
 
 -- the edges that a step from there completes which led to v
-abbrev pub gone_at : Setting → Node → Point → State → List ℕ
+abbrev pub gone_at : EditSetup → Node → Point → State → List ℕ
 gone_at g node p v = gone g.text (graph_in g) node p (goes_on_at v)
 
 -- ---- what a way along some edges leaves
 
 -- an item that is dead behind the snippet of none of some edges
-abbrev pub IsKept : Setting → List ℕ → ℕ → StateItem → Type 0
+abbrev pub IsKept : EditSetup → List ℕ → ℕ → StateItem → Type 0
 IsKept g [] window item = Unit {0}
 IsKept g (edge ∷ edges) window item = (IsAmong item window (g.dead edge) → ⊥) × IsKept g edges window item
 
@@ -101,19 +101,19 @@ IsKept g (edge ∷ edges) window item = (IsAmong item window (g.dead edge) → �
 -- What holds of each state `u` strictly between the visit `t` and the next visit: the run goes on, `u` visits no
 -- instruction, and where `u` stands in a place of the notes, that is the place of `t`, and no cell has changed since
 -- `t`. (So code that changes cells, a snippet's, stands in no place.)
-pub record IsOnWay (g : Setting) (t u : State) : Type 0 where
+pub record IsOnWay (g : EditSetup) (t u : State) : Type 0 where
   pub live : u.ending ≡ None
   pub visit : visit_of g.notes u ≡ None
   pub place : (r : NoteRange) → range_at g.notes u.pc ≡ Some r
       → (range_at g.notes t.pc ≡ Some r) × (cells_in g.notes u ≡ cells_in g.notes t)
 
 -- in the place of the visit, or where that is in none because it lies outside the pages
-pub record IsThere (g : Setting) (t u : State) : Type 0 where
+pub record IsThere (g : EditSetup) (t u : State) : Type 0 where
   pub range : range_at g.notes u.pc ≡ range_at g.notes t.pc
   pub page : in_pages g.notes u.pc ≡ in_pages g.notes t.pc
 
 -- From the visit `t`, `count` steps lead to `after`: at least one, at most `limit`, with no visit between.
-pub record Onward (g : Setting) (limit : ℕ) (t after : State) (count : ℕ) : Type 0 where
+pub record Onward (g : EditSetup) (limit : ℕ) (t after : State) (count : ℕ) : Type 0 where
   pub steps : run t count ≡ after
   pub some : 0 < count
   pub few : count ≤ limit
@@ -129,8 +129,8 @@ pub record IsFollowedBy (pages : List Span) (Kept : StateItem → Type 0) (v aft
   pub memory : IsSameOutside pages v.memory after.memory
   pub items : v.ending ≡ None → (item : StateItem) → IsItem item → Kept item → IsSameAt item v after
 
--- `Short` says that no jump and no branch between pieces is long, and `most` is the limit without operations.
-pub record StepsOn (g : Setting) (Here : Node → Point → State → Type 0) (Short : Type 0) (most : ℕ)
+-- `NoLongForms` says that no jump and no branch between pieces is long, and `most` is the limit without operations.
+pub record StepsOn (g : EditSetup) (AtVisit : Node → Point → State → Type 0) (NoLongForms : Type 0) (most : ℕ)
     (edges : List ℕ) (node : Node) (p : Point) (t v : State) : Type 0 where
   pub count : ℕ
   pub after : State
@@ -139,57 +139,57 @@ pub record StepsOn (g : Setting) (Here : Node → Point → State → Type 0) (S
       → run_puts t count descriptor ≡ puts_on_word (at_point p t) (word_of g.text p.pc) descriptor
   pub followed : IsFollowedBy (pages_of g.notes) (IsKept g edges v.window) v after
   pub cells : cells_in g.notes after ≡ updates g.snips edges (cells_in g.notes t) v
-  pub here : v.ending ≡ None → Here (node_after (graph_in g) node edges) (point_of v) after
+  pub here : v.ending ≡ None → AtVisit (node_after (graph_in g) node edges) (point_of v) after
   pub place : v.ending ≢ None → IsThere g t after
-  pub sparing : IsWatched (edit_in g) edges p v → IsSparing (edit_in g) g.dead Short edges p t count
+  pub sparing : IsWatched (edit_in g) edges p v → CostsLittle (edit_in g) g.dead NoLongForms edges p t count
 
 -- ---- the address that word 0 of the page keeps from the load of an open switch to its jump
 
 -- at a word of the jump's block itself, outside slots
-pub record IsAtWord (g : Setting) (o : CaseTable) (node : Node) (p : Point) (word : ℕ) : Type 0 where
+pub record IsAtWord (g : EditSetup) (o : CaseTable) (node : Node) (p : Point) (word : ℕ) : Type 0 where
   pub itself : node ≡ Block (record { 0 = o.block })
   pub outside : p.slot ≡ NoSlot
   pub stands : word_at g.text p.pc ≡ Some word
 
 -- At the load it has the address at which that loads, and it stays so up to the jump.
-pub record KeepsAddress (g : Setting) (edges : List ℕ) (node : Node) (p : Point) (t v after : State) : Type 0 where
+pub record KeepsAddress (g : EditSetup) (edges : List ℕ) (node : Node) (p : Point) (t v after : State) : Type 0 where
   pub loaded : v.ending ≡ None → (k : ℕ) (o : CaseTable) → slice_get g.opens k ≡ Some o
       → IsAtWord g o (node_after (graph_in g) node edges) (point_of v) o.load
-      → kept_address after ≡ sum_of after o.rs1 o.op2
+      → saved_address after ≡ sum_of after o.rs1 o.op2
   pub carried : v.ending ≡ None → (k : ℕ) (o : CaseTable) → slice_get g.opens k ≡ Some o → (word : ℕ)
-      → IsAtWord g o node p word → o.load ≤ word → word < o.jump → kept_address after ≡ kept_address t
+      → IsAtWord g o node p word → o.load ≤ word → word < o.jump → saved_address after ≡ saved_address t
 
 -- At the jump it is the address of an entry of the table, and the jump goes to what that entry has.
-pub record IsChosen (g : Setting) (o : CaseTable) (t v : State) : Type 0 where
+pub record IsChosen (g : EditSetup) (o : CaseTable) (t v : State) : Type 0 where
   pub entry : ℕ
   pub below : entry < o.count
-  pub kept : kept_address t ≡ address_of g.text (o.from + entry)
+  pub kept : saved_address t ≡ address_of g.text (o.from + entry)
   pub goes : v.npc ≡ slice_index g.text.words (o.from + entry)
   pub live : v.ending ≡ None
 
-abbrev pub Chooses : Setting → Node → Point → State → State → Type 0
+abbrev pub Chooses : EditSetup → Node → Point → State → State → Type 0
 Chooses g node p t v =
     (k : ℕ) (o : CaseTable) → slice_get g.opens k ≡ Some o → IsAtWord g o node p o.jump → IsChosen g o t v
 
 -- ---- and up to the next visit, behind what is run before a load
 
 -- the original doesn't go on at the load of an open switch
-abbrev pub IsNoLoad : Setting → State → Type 0
+abbrev pub IsNoLoad : EditSetup → State → Type 0
 IsNoLoad g v = (k : ℕ) (o : CaseTable) → slice_get g.opens k ≡ Some o → word_at g.text v.pc ≡ Some o.load → ⊥
 
-pub record Steps (g : Setting) (Here : Node → Point → State → Type 0) (Short : Type 0)
+pub record Steps (g : EditSetup) (AtVisit : Node → Point → State → Type 0) (NoLongForms : Type 0)
     (edges : List ℕ) (node : Node) (p : Point) (t v : State) : Type 0 where
-  pub on : StepsOn g Here (Short × IsNoLoad g v) 64 edges node p t v
+  pub on : StepsOn g AtVisit (NoLongForms × IsNoLoad g v) 64 edges node p t v
   pub keeps : KeepsAddress g edges node p t v on.after
 
--- What the pieces promise. `Here` says that a machine is at the visit of a point at a node of the walk. `Inside` says
+-- What the pieces promise. `AtVisit` says that a machine is at the visit of a point at a node of the walk. `Inside` says
 -- to which points the pieces lead: those at words of the text at first, and then all.
-pub record Simulates (g : Setting) (Inside : Point → Type 0) (Here : Node → Point → State → Type 0)
-    (Short : Type 0) : Type 0 where
-  pub visits : (node : Node) (p : Point) (t : State) → MatchesIn g node p → Inside p → Here node p t
+pub record Simulates (g : EditSetup) (Inside : Point → Type 0) (AtVisit : Node → Point → State → Type 0)
+    (NoLongForms : Type 0) : Type 0 where
+  pub visits : (node : Node) (p : Point) (t : State) → MatchesIn g node p → Inside p → AtVisit node p t
       → (t.ending ≡ None) × (visit_of g.notes t ≡ Some p.pc) × (node_at g.notes t.pc ≡ Some (number_in g node))
-  pub steps : (node : Node) (p : Point) (t : State) → MatchesIn g node p → Inside p → Here node p t
+  pub steps : (node : Node) (p : Point) (t : State) → MatchesIn g node p → Inside p → AtVisit node p t
       → AllApart (pages_of g.notes) (judged_in (at_point p t) (instr_of (word_of g.text p.pc)))
       → ((does_at g p t).ending ≡ None → Inside (point_of (does_at g p t)))
       → Chooses g node p t (does_at g p t)
-      → Steps g Here Short (gone_at g node p (does_at g p t)) node p t (does_at g p t)
+      → Steps g AtVisit NoLongForms (gone_at g node p (does_at g p t)) node p t (does_at g p t)

@@ -4,7 +4,7 @@ ghost use Rattle.std.specs.Prelude.{◌≡◌, ℕ, ◌^◌, ◌<◌, ◌%◌, �
 ghost use Rattle.std.specs.List.{flat_map};
 ghost use Rattle.image_code.specs.Codes.{CodeDoes};
 ghost use Rattle.image_code.specs.Private.{code_at as code_at_of};
-ghost use Rattle.image_code.specs.Parts.{codes_of as codes_in};
+ghost use Rattle.image_code.specs.SnippetWords.{codes_of as codes_in};
 ghost use Rattle.liveness.specs.Sets.{dead_on};
 ghost use Rattle.snippet_code.specs.Laws.{EndLow};
 

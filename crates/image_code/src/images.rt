@@ -15,9 +15,9 @@ ghost use Rattle.image_code.specs.Private.{code_at as code_at_of, items_of};
 ghost use Rattle.v8_decode.specs.Words.{decode_of};
 ghost use Rattle.v8_encode.specs.Code.{op2_fits};
 
-use crate::maker::Maker;
+use crate::maker::PieceMaker;
 use crate::numbering::piece;
-use crate::parts::{Next, Visit, branch, choice, is_transfer, jump, marked, way_to};
+use crate::piece_forms::{Next, Visit, branch, choice, is_transfer, jump, marked, way_to};
 use cfg_blocks::EdgeKind;
 use cfg_normal::{FlowGraph, Node, node_number, same_node};
 use eel_base::{Addr, BlockNo, NoMemory, PieceNo, Text, WordNo};
@@ -88,7 +88,7 @@ fn distance(cases: Addr, first: u32, table: Addr) -> u32
     cases.0.wrapping_add(4 * first).wrapping_sub(table.0)
 }
 
-impl<'a> Maker<'a> {
+impl<'a> PieceMaker<'a> {
     // ---- where control goes on
 
     // The node of a word's image in the order of the text: the landed copy of a jump's block, and else the block
@@ -166,7 +166,7 @@ impl<'a> Maker<'a> {
     }
 
     // The image of a JMPL at the block itself of an open switch.
-    fn choice_image(
+    fn switch_jump(
         &self,
         alloc: Global,
         visit: Visit,
@@ -226,7 +226,7 @@ impl<'a> Maker<'a> {
     {
         let node = Node::Block(block);
         match self.jump_of(block) {
-            Some(number) => self.choice_image(alloc, visit, node, rd, number as usize),
+            Some(number) => self.switch_jump(alloc, visit, node, rd, number as usize),
             None => self.jump_out(alloc, visit, node, rd, rs1, op2),
         }
     }

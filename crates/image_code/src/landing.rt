@@ -9,9 +9,9 @@ ghost use Rattle.image_code.specs.Private.{code_at as code_at_of};
 ghost use Rattle.image_code.specs.Store.{operations_on};
 
 use crate::images::block_of;
-use crate::maker::Maker;
+use crate::maker::PieceMaker;
 use crate::numbering::piece;
-use crate::parts::{Next, way_to};
+use crate::piece_forms::{Next, way_to};
 use cfg_normal::Node;
 use eel_base::{BlockNo, NoMemory, PieceNo, WordNo};
 use layout::Piece;
@@ -31,7 +31,7 @@ fn operations(snips: &[Snippet], edge: Option<u32>) -> usize
     }
 }
 
-impl Maker<'_> {
+impl PieceMaker<'_> {
     // ---- landings
 
     // The landing at a word and its node: the snippet of its node's landing, and the way to where control enters the
@@ -76,7 +76,7 @@ impl Maker<'_> {
         if operations(snips, self.landing_edge(node)) == 0 {
             self.enter(node, word)
         } else {
-            let own = self.own_edges().len() as u64;
+            let own = self.edges_but_landings().len() as u64;
             piece(u64::from(self.text.len()) + own + u64::from(word.0))
         }
     }

@@ -13,7 +13,7 @@ mod lookups;
 mod maker;
 mod making;
 mod numbering;
-mod parts;
+mod piece_forms;
 mod switches;
 mod ways;
 

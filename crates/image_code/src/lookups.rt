@@ -14,14 +14,14 @@ ghost use Rattle.cfg_normal.specs.Numbers.{kind_number as kind_number_of, node_n
 ghost use Rattle.cfg_walk.specs.Walk.{edge_along, edge_from, landing_at};
 ghost use Rattle.image_code.specs.Loads.{load_of as load_in};
 ghost use Rattle.image_code.specs.Lookups.{AreFirst, AreFirstEdges, AreLookups, IsSource, compare_place, is_case, is_land, jump_place, mark_at, mark_of, same_case};
-ghost use Rattle.image_code.specs.Numbered.{compare_number, first_entry, jump_number, landing_count as landing_count_of, open_begin, own_edges as own_edges_of};
+ghost use Rattle.image_code.specs.Numbered.{compare_number, first_entry, jump_number, landing_count as landing_count_of, open_begin, edges_but_landings as edges_but_landings_of};
 
 use crate::firsts::{
     CaseEdge, FirstCases, KindMarks, first_at, first_cases, first_compares, first_edges,
     first_jumps, small,
 };
 use crate::loads::load_of;
-use crate::maker::Maker;
+use crate::maker::PieceMaker;
 use cfg_blocks::EdgeKind;
 use cfg_normal::{Edge, FlowGraph, Node, OpenSwitch, kind_number, node_number};
 use eel_base::{BlockNo, NoMemory, Text};
@@ -114,7 +114,7 @@ fn begins_of(
     own: usize,
 ) -> Result<Vec<u32>, NoMemory>
     requires source { IsSource text.now graph.now }
-    requires own { own ≡ length (own_edges_of graph.now) }
+    requires own { own ≡ length (edges_but_landings_of graph.now) }
     ensures { IfOk result (λ v. v.items ≡ map (open_begin text.now graph.now) (below (length graph.now.opens + 1))) }
 {
     let mut begins = Vec::new(alloc);
@@ -178,7 +178,7 @@ fn opens_of(
     own: usize,
 ) -> Result<(Vec<u32>, Vec<u32>, Vec<u32>), NoMemory>
     requires source { IsSource text.now graph.now }
-    requires own { own ≡ length (own_edges_of graph.now) }
+    requires own { own ≡ length (edges_but_landings_of graph.now) }
     ensures begins { IfOk result (λ tables. tables.0.items ≡ map (open_begin text.now graph.now) (below (length graph.now.opens + 1))) }
     ensures loads { IfOk result (λ tables. tables.1.items ≡ map (load_in text.now) graph.now.opens) }
     ensures entries { IfOk result (λ tables. tables.2.items ≡ map (first_entry text.now graph.now) (below (length graph.now.opens + 1))) }
@@ -221,10 +221,10 @@ fn number_at(table: &[u32], place: usize) -> u32
     table[place]
 }
 
-impl<'a> Maker<'a> {
+impl<'a> PieceMaker<'a> {
     /// The edges but for the landings, which come last.
-    pub(crate) fn own_edges(&self) -> &'a [Edge]
-        ensures edges { result.now ≡ own_edges_of self.now.graph.now }
+    pub(crate) fn edges_but_landings(&self) -> &'a [Edge]
+        ensures edges { result.now ≡ edges_but_landings_of self.now.graph.now }
         ensures inside { All (IsEdgeIn self.now.graph.now.blocks self.now.graph.now.opens) result.now }
     {
         &self.graph.edges()[..self.lookups.own]

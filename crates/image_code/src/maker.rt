@@ -14,7 +14,7 @@ use eel_base::{Addr, Text};
 /// stands at `table`, the one in which jumps look up at `jumps`, and the words with the places of the pieces of Case
 /// edges at `cases`.
 #[derive(Clone, Copy)]
-pub(crate) struct Maker<'a> {
+pub(crate) struct PieceMaker<'a> {
     pub(crate) text: &'a Text,
     pub(crate) graph: &'a FlowGraph,
     pub(crate) lookups: &'a Lookups,

@@ -10,15 +10,15 @@ ghost use Rattle.image_code.specs.Made.{jumps_at, lands_at, piece_list};
 ghost use Rattle.image_code.specs.Numbered.{case_numbers, enter_number, foreign_number as foreign_number_of};
 ghost use Rattle.image_code.specs.Lookups.{AreFound};
 ghost use Rattle.image_code.specs.Private.{code_at, code_in};
-ghost use Rattle.image_code.specs.Parts.{codes_of as codes_in};
+ghost use Rattle.image_code.specs.SnippetWords.{codes_of as codes_in};
 ghost use Rattle.liveness.specs.Sets.{dead_on};
 ghost use Rattle.snippet_code.specs.Laws.{EndLow};
 
 use crate::expansion::{Codes, codes_of};
 use crate::lookups::{Lookups, lookups_of};
-use crate::maker::Maker;
+use crate::maker::PieceMaker;
 use crate::numbering::piece;
-use crate::parts::{Next, way_to};
+use crate::piece_forms::{Next, way_to};
 use addr_translate::table_size;
 use cfg_normal::{FlowGraph, Node};
 use eel_base::{Addr, NoMemory, PieceNo, Text, WordNo};
@@ -69,7 +69,7 @@ fn jumps_of(text: &Text, table: Addr) -> Addr
     Addr(table.0 + table_size(text))
 }
 
-impl Maker<'_> {
+impl PieceMaker<'_> {
     // The foreign piece: the last one.
     fn foreign_number(&self) -> Result<PieceNo, NoMemory>
         ensures { IfOk result (λ p. p.0 ≡ foreign_number_of self.now.text.now self.now.graph.now) }
@@ -155,7 +155,7 @@ pub fn snippet_code(
     let _edges = graph.edges();
     let codes = codes_of(alloc, snips, live, addresses.cells)?;
     let lookups = lookups_of(alloc, text, graph)?;
-    let maker = Maker {
+    let maker = PieceMaker {
         text,
         graph,
         lookups: &lookups,
@@ -197,7 +197,7 @@ pub fn pieces_with<'a>(
         lookups,
         landing,
     } = code;
-    let maker = Maker {
+    let maker = PieceMaker {
         text,
         graph,
         lookups: &lookups,

@@ -5,7 +5,7 @@ ghost use Rattle.cfg_normal.specs.Landings.{IsNumbered};
 ghost use Rattle.image_code.specs.Numbered.{at_open, compare_image as compare_image_of, compare_number, enter_number, jump_enter as jump_enter_of, jump_image as jump_image_of, jump_number};
 
 use crate::firsts::small;
-use crate::maker::Maker;
+use crate::maker::PieceMaker;
 use cfg_normal::{Node, OpenSwitch};
 use eel_base::{BlockNo, NoMemory, PieceNo, WordNo};
 
@@ -16,7 +16,7 @@ pub(crate) fn piece(number: u64) -> Result<PieceNo, NoMemory>
     Ok(PieceNo(small(number)?))
 }
 
-impl Maker<'_> {
+impl PieceMaker<'_> {
     // The piece of a word at the landed copy of a comparison's block.
     fn compare_piece(&self, number: usize, found: &OpenSwitch, word: WordNo) -> u64
         requires found { slice_get self.now.graph.now.opens number ≡ Some found.now }

@@ -8,7 +8,7 @@ ghost use Rattle.v8_decode.specs.Words.{decode_of};
 ghost use Rattle.cfg_blocks.specs.Blocks.{size_of};
 ghost use Rattle.cfg_normal.specs.Opens.{Open};
 ghost use Rattle.image_code.specs.Lookups.{number_where};
-ghost use Rattle.image_code.specs.Made.{case_at, case_by as case_by_of, cases_from, image, keep_by, open_pieces};
+ghost use Rattle.image_code.specs.Made.{case_at, case_by as case_by_of, cases_from, image, save_by, open_pieces};
 ghost use Rattle.image_code.specs.Numbered.{case_numbers, case_piece as case_piece_of, first_entry, open_begin, or_zero, place_in as place_in_of};
 ghost use Rattle.image_code.specs.Private.{code_at};
 ghost use Rattle.cfg_normal.specs.Graph.{lands as lands_of};
@@ -17,9 +17,9 @@ ghost use Rattle.cfg_normal.specs.declared.Node.TheVariants.{Block};
 ghost use Rattle.cfg_blocks.specs.declared.EdgeKind.TheVariants.{Case};
 
 use crate::firsts::small;
-use crate::maker::Maker;
+use crate::maker::PieceMaker;
 use crate::numbering::piece;
-use crate::parts::keep;
+use crate::piece_forms::keep;
 use crate::ways::unused;
 use cfg_normal::{Node, OpenSwitch};
 use eel_base::{BlockNo, NoMemory, PieceNo, WordNo};
@@ -59,7 +59,7 @@ fn place_in(places: &IndexMap<u32, u32>, word: u32) -> u32
     }
 }
 
-impl Maker<'_> {
+impl PieceMaker<'_> {
     // ---- the blocks of open switches
 
     // Adds the pieces of a jump's block itself: the images of its words, and the words that keep the load's address
@@ -80,7 +80,7 @@ impl Maker<'_> {
             (code_at self.now.codes.now) (Block block))
             (range_with_len (slice_index self.now.graph.now.blocks.firsts block.0)
             (load - slice_index self.now.graph.now.blocks.firsts block.0))
-            ++ keep_by (decode_of (slice_index self.now.text.now.words load))
+            ++ save_by (decode_of (slice_index self.now.text.now.words load))
             ∷ map (image self.now.text.now self.now.graph.now self.now.jumps.0 self.now.cases.0
             (code_at self.now.codes.now) (Block block))
             (range_with_len load (slice_index self.now.graph.now.blocks.firsts block.0

@@ -5,13 +5,13 @@ ghost use Rattle.std.specs.Int.{w32, cast_unsigned};
 ghost use Rattle.cfg_normal.specs.Code.{IsEdgeIn, IsNodeIn};
 ghost use Rattle.cfg_walk.specs.Matches.{last_in as last_in_of, target_along, way_address};
 ghost use Rattle.image_code.specs.Made.{first_word as first_word_of, goes_behind, goes_on, jump_to, slot_copy as slot_copy_of, way_along, way_by as way_by_of, ways_from};
-ghost use Rattle.image_code.specs.Numbered.{own_edges as own_edges_of};
+ghost use Rattle.image_code.specs.Numbered.{edges_but_landings as edges_but_landings_of};
 ghost use Rattle.image_code.specs.Private.{code_at as code_at_of, items_of};
 ghost use Rattle.v8_decode.specs.Words.{decode_of};
 
 use crate::images::last_word;
-use crate::maker::Maker;
-use crate::parts::{COUPLE, Next, Visit, is_transfer, marked, way_to};
+use crate::maker::PieceMaker;
+use crate::piece_forms::{COUPLE, Next, Visit, is_transfer, marked, way_to};
 use cfg_blocks::EdgeKind;
 use cfg_normal::{Edge, FlowGraph, Node, Slot, node_number};
 use eel_base::{Addr, NoMemory, PieceNo, Text, WordNo};
@@ -62,7 +62,7 @@ pub(crate) fn unused(alloc: Global) -> Result<Piece, NoMemory>
     way_to(alloc, &[], Next::Piece(PieceNo(0)))
 }
 
-impl Maker<'_> {
+impl PieceMaker<'_> {
     // ---- where edges lead
 
     // The last word of a node's block. X has none, and word 0 stands for it.
@@ -174,9 +174,9 @@ impl Maker<'_> {
     pub(crate) fn push_ways(&self, alloc: Global, list: &mut Vec<Piece>) -> Result<(), NoMemory>
         ensures { OnOk result (list.new.items ≡ list.old.items
             ++ ways_from self.now.text.now self.now.graph.now self.now.table.0 (code_at_of self.now.codes.now) 0
-            (own_edges_of self.now.graph.now)) }
+            (edges_but_landings_of self.now.graph.now)) }
     {
-        for (number, edge) in self.own_edges().iter().enumerate() {
+        for (number, edge) in self.edges_but_landings().iter().enumerate() {
             let number = number as u32;
             list.push(self.way(alloc, number, edge)?)?;
         }

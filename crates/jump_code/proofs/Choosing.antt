@@ -23,7 +23,7 @@ use Rattle.code_runs.proofs.StoredWords.{word_stored, other_word_stored, other_l
 use Rattle.code_runs.proofs.TwoRegisters.{block_rules, stores_none}
 use Rattle.jump_code.specs.Choosing.{ChoicesHop, ChoicesSimulate, ComesToCase, IsAboutToGo, choice_at, choose, chosen, chosen_memory}
 use Rattle.jump_code.specs.Jumped.{jumped}
-use Rattle.jump_code.specs.PageWords.{IsPageWord, kept_address}
+use Rattle.jump_code.specs.PageWords.{IsPageWord, saved_address}
 use Rattle.jump_code.specs.Links.{past}
 use Rattle.jump_code.proofs.Blocks.{four, scratch, addressed, memory_valid, word2, word7}
 use Rattle.jump_code.proofs.Finding.{another}
@@ -53,7 +53,7 @@ module _ (distance : ℕ) (s : State) (h : IsAboutToGo distance s) where
   can2 : (n : ℕ) → n < 8 → CanStore m2 (page_word n)
   can2 n few = still_stored m1 (page_word n) (page_word 7) g2 (can1 n few)
 
-  kept_stays : memory_word m2 (page_word 0) ≡ kept_address s
+  kept_stays : memory_word m2 (page_word 0) ≡ saved_address s
   kept_stays =
       other_word_stored m1 (page_word 0) (page_word 7) g2 (can1 0 (omega arith)) (inl (omega arith))
       ∙ other_word_stored s.memory (page_word 0) (page_word 2) g1 (h.page 0 (omega arith)) (inl (omega arith))
@@ -84,15 +84,15 @@ module _ (distance : ℕ) (s : State) (h : IsAboutToGo distance s) where
       (omega arith, says_at code _ _ _ (omega arith) h.words.1.0) (record { sums = λ u k. refl; aligned = refl })
       (can1 7 (omega arith)) (λ u k. k.second) word7
 
-  three : Works s 9 IsPageWord 1 2 3 m2 (kept_address s) g2
+  three : Works s 9 IsPageWord 1 2 3 m2 (saved_address s) g2
   three =
-      rules.ld_first 2 m2 g1 g2 0 (of_page 0) (page_word 0) (kept_address s) two
+      rules.ld_first 2 m2 g1 g2 0 (of_page 0) (page_word 0) (saved_address s) two
       (omega arith, says_at code _ _ _ (omega arith) h.words.1.1.0) (record { sums = λ u k. refl; aligned = refl })
       (can_load m2 (page_word 0) (can2 0 (omega arith))) kept_stays
 
-  five : Works s 9 IsPageWord 1 2 5 m2 (kept_address s) distance
+  five : Works s 9 IsPageWord 1 2 5 m2 (saved_address s) distance
   five =
-      addressed s 9 1 2 block 3 m2 (kept_address s) g2 distance three h.near (omega arith)
+      addressed s 9 1 2 block 3 m2 (saved_address s) g2 distance three h.near (omega arith)
       (says_at code _ _ _ (omega arith) h.words.1.1.1.0, (says_at code _ _ _ (omega arith) h.words.1.1.1.1.0, tt))
 
   -- the word of the choice is none of the page's
@@ -112,10 +112,10 @@ module _ (distance : ℕ) (s : State) (h : IsAboutToGo distance s) where
 
   six : Works s 9 IsPageWord 1 2 6 m2 (chosen distance s) distance
   six =
-      rules.ld_first 5 m2 (kept_address s) distance 1 (Reg 2) (choice_at distance s) (chosen distance s) five
+      rules.ld_first 5 m2 (saved_address s) distance 1 (Reg 2) (choice_at distance s) (chosen distance s) five
       (omega arith, says_at code _ _ _ (omega arith) h.words.1.1.1.1.1.0)
       (record {
-        sums = λ u k. ap (λ z. wrapped (z + register_of u 2)) k.first ∙ ap (λ z. wrapped (kept_address s + z)) k.second;
+        sums = λ u k. ap (λ z. wrapped (z + register_of u 2)) k.first ∙ ap (λ z. wrapped (saved_address s + z)) k.second;
         aligned = four (choice_at distance s) h.choice.aligned;
       })
       (loads_stored m1 (choice_at distance s) (page_word 7) g2 choice_loads1) choice_stays

@@ -21,12 +21,12 @@ use Rattle.v8_step.proofs.ValidStates.{register_of-range}
 use Rattle.code_runs.proofs.TwoRegisters.{block_rules}
 use Rattle.addr_translate.specs.Lookup.{TableAt}
 use Rattle.addr_translate.specs.Halves.{found_in}
-use Rattle.jump_code.specs.Finding.{ComesFound, EndsFinding, FindsSimulate, FoundHops, IsAboutToFind, find_image, found_memory}
+use Rattle.jump_code.specs.Finding.{ComesFound, EndsFinding, LookUpSimulates, Resumes, IsAboutToFind, look_up, found_memory}
 use Rattle.jump_code.specs.Jumped.{jumped}
 use Rattle.jump_code.specs.Links.{past}
 use Rattle.jump_code.specs.PageWords.{IsPageWord, found_there}
 use Rattle.jump_code.proofs.Blocks.{four, scratch, word7}
-use Rattle.jump_code.proofs.Finding.{another, finds_act}
+use Rattle.jump_code.proofs.Finding.{another, looks_up}
 use Rattle.jump_code.proofs.Jumping.{jump_aligned, jump_goes, jump_stops}
 use Rattle.jump_code.proofs.Swaps.{swap_first}
 
@@ -40,14 +40,14 @@ module _ (x y rd rs1 : ℕ) (op2 : Op2) (address : ℕ) (t : TableAt) (s : State
   goes e = jump_goes address rd rs1 op2 s e
 
   abbrev count : ℕ
-  count = length (find_image x y rd rs1 op2 t.base address)
+  count = length (look_up x y rd rs1 op2 t.base address)
 
   abbrev m : Memory
   m = found_memory s x y rs1 op2 t
 
   comes : sum_of s rs1 op2 % 4 ≡ 0 → ComesFound x y rd rs1 op2 address t s count
   comes e =
-      let k = (finds_act x y rd rs1 op2 address t s h).0 e in
+      let k = (looks_up x y rd rs1 op2 address t s h).0 e in
       let g = goes e in
       record {
         path = subst (λ (z : State). Leads (IsBetween s count IsPageWord) s (past s count m z) count) (sym g) k.path;
@@ -66,16 +66,16 @@ module _ (x y rd rs1 : ℕ) (op2 : Op2) (address : ℕ) (t : TableAt) (s : State
         let lives : None ≡ Some ending = sym (ap (λ (z : State). z.ending) (goes e) ∙ h.ready.live) ∙ is in
         absurd (cc)
     | inr ne ↦
-        let k = (finds_act x y rd rs1 op2 address t s h).1 ne in
+        let k = (looks_up x y rd rs1 op2 address t s h).1 ne in
         record { traps = k; same = k.ending ∙ sym (ap (λ (z : State). z.ending) (jump_stops address rd rs1 op2 s ne)) ∙ is }
   ]
 
-pub finds_simulate : FindsSimulate
-finds_simulate x y rd rs1 op2 address t s h =
+pub look_up_simulates : LookUpSimulates
+look_up_simulates x y rd rs1 op2 address t s h =
     (going x y rd rs1 op2 address t s h, ending_alike x y rd rs1 op2 address t s h)
 
-pub found_hops : FoundHops
-found_hops x s h =
+pub resumes : Resumes
+resumes x s h =
     let code = code_of s.memory in
     let o = another x in
     let g = register_of s x in

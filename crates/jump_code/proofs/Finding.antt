@@ -32,7 +32,7 @@ use Rattle.code_runs.proofs.TwoRegisters.{block_rules, other_is}
 use Rattle.addr_translate.specs.Lookup.{TableAt, table_word}
 use Rattle.addr_translate.specs.Halves.{IsTwoLevel, entry_at, found_in, half_at}
 use Rattle.addr_translate.specs.Translator.{StandsAt}
-use Rattle.jump_code.specs.Finding.{FindsAct, FindsIt, IsAboutToFind, TrapsFinding, find_image, found_memory, sought_memory}
+use Rattle.jump_code.specs.Finding.{LooksUp, FindsIt, IsAboutToFind, TrapsFinding, look_up, found_memory, sought_memory}
 use Rattle.jump_code.specs.FreeRegister.{IsNotIn}
 use Rattle.jump_code.specs.Links.{address_into, past}
 use Rattle.jump_code.specs.PageWords.{IsPageWord}
@@ -315,7 +315,7 @@ beside x y rd rs1 op2 address t s h count few =
 
 goes : (x y rd rs1 : ℕ) (op2 : Op2) (address : ℕ) (t : TableAt) (s : State)
     → IsAboutToFind x y rd rs1 op2 address t s → sum_of s rs1 op2 % 4 ≡ 0
-    → FindsIt s x y rd rs1 op2 address t (length (find_image x y rd rs1 op2 t.base address))
+    → FindsIt s x y rd rs1 op2 address t (length (look_up x y rd rs1 op2 t.base address))
 goes x y zero rs1 op2 address t s h aligned =
     let m = found_memory s x y rs1 op2 t in
     let c = beside x y zero rs1 op2 address t s h 12 (omega arith) in
@@ -358,8 +358,8 @@ goes x y (suc r) rs1 op2 address t s h aligned =
       found = kept_found x y (suc r) rs1 op2 address t s h aligned;
     }
 
-pub finds_act : FindsAct
-finds_act x y rd rs1 op2 address t s h = (
+pub looks_up : LooksUp
+looks_up x y rd rs1 op2 address t s h = (
   goes x y rd rs1 op2 address t s h,
   λ odd. traps x y rd rs1 op2 address t s h 10 (beside x y rd rs1 op2 address t s h 10 (omega arith)) (omega arith)
       odd refl,

@@ -13,7 +13,7 @@ use Rattle.v8_memory.specs.Regions.{Region}
 use Rattle.code_runs.specs.LongJump.{long_jump}
 use Rattle.code_runs.specs.Straight.{Says, StandIn, HasWords}
 use Rattle.layout.specs.Emitting.{words_of}
-use Rattle.jump_code.specs.Finding.{find_image}
+use Rattle.jump_code.specs.Finding.{look_up}
 use Rattle.jump_code.specs.FreeRegister.{IsApart}
 use Rattle.jump_code.specs.Links.{link}
 
@@ -49,7 +49,7 @@ link_fits (suc r) address low short =
 -- a JMPL
 pub find_fits : (x y rd rs1 : ℕ) (op2 : Op2) (table address : ℕ) → IsApart x rd rs1 op2 → IsApart y rd rs1 op2
     → op2_fits op2 ≡ true → op2_in_range op2 ≡ true → table < 2 ^ 32 → address < 2 ^ 32
-    → Fit (find_image x y rd rs1 op2 table address)
+    → Fit (look_up x y rd rs1 op2 table address)
 find_fits x y rd rs1 op2 table address a b fits low near short =
     let lx = lt x 32 a.below in
     let ly = lt y 32 b.below in

@@ -22,11 +22,11 @@ use Rattle.code_runs.proofs.LongJump.{says_at}
 use Rattle.code_runs.proofs.StoredWords.{word_stored, still_stored}
 use Rattle.code_runs.proofs.TwoRegisters.{block_rules}
 use Rattle.jump_code.specs.FreeRegister.{second_register}
-use Rattle.jump_code.specs.Keeping.{keep_load, kept_memory, IsAboutToKeep, KeepsLoad, LoadsAreKept}
+use Rattle.jump_code.specs.Keeping.{save_load_address, kept_memory, IsAboutToSave, SavesLoadAddress, AddressesAreSaved}
 use Rattle.jump_code.proofs.Blocks.{scratch, gives_sum}
 use Rattle.jump_code.proofs.Swaps.{swap_first}
 
-module _ (rs1 : ℕ) (op2 : Op2) (s : State) (h : IsAboutToKeep rs1 op2 s) where
+module _ (rs1 : ℕ) (op2 : Op2) (s : State) (h : IsAboutToSave rs1 op2 s) where
   abbrev code : List Region
   code = code_of s.memory
 
@@ -94,7 +94,7 @@ module _ (rs1 : ℕ) (op2 : Op2) (s : State) (h : IsAboutToKeep rs1 op2 s) where
       (ap code_of two.alike.memory ∙ two.code) two.pc (says_at code _ _ _ (omega arith) h.words.1.1.0)) in
       omega (arith, none, first, second, third)
 
-  keeps : KeepsLoad rs1 op2 s (length (keep_load rs1 op2))
+  keeps : SavesLoadAddress rs1 op2 s (length (save_load_address rs1 op2))
   keeps = record {
     path = rw (works_same s 3 IsFirstWord 1 2 block 3 (kept_memory s rs1 op2) three (omega arith)) at three.path;
     silent = three.silent;
@@ -104,5 +104,5 @@ module _ (rs1 : ℕ) (op2 : Op2) (s : State) (h : IsAboutToKeep rs1 op2 s) where
     elsewhere = alone;
   }
 
-pub loads_are_kept : LoadsAreKept
-loads_are_kept = keeps
+pub addresses_are_saved : AddressesAreSaved
+addresses_are_saved = keeps

@@ -13,7 +13,7 @@ use Rattle.layout.specs.Laid.{IsLaid, Placement, Stands, item_at, item_in}
 use Rattle.layout.specs.Running.{HasCode}
 use Rattle.layout.proofs.Going.{word_is}
 use Rattle.jump_code.proofs.Fitting.{words_mean, link_fits, find_fits, as_many, Fit}
-use Rattle.jump_code.specs.Finding.{find_image}
+use Rattle.jump_code.specs.Finding.{look_up}
 use Rattle.jump_code.specs.Links.{link}
 use Rattle.jump_code.specs.Pieces.{word_items, marked_piece, MarkedIsLaid, PiecesAreLaid}
 
@@ -34,12 +34,12 @@ module _ (base : ℕ) (p : Placement) (m : Memory) (has : HasCode base p.code m)
     all_stand xs (suc n) (λ j y e. rw (let f : n + suc j ≡ suc n + j = omega arith in f) at (h (suc j) y e)),
   )
 
-  record Stood (n count : ℕ) (rest : List Item) : Type 0 where
+  record CodeAt (n count : ℕ) (rest : List Item) : Type 0 where
     pub end : place (n + count) ≡ place n + 4 * count
     pub after : AllStand rest (n + count)
 
   words_stand : (ws : List ℕ) (rest : List Item) (n : ℕ) → AllStand (map it.Word ws ++ rest) n
-      → HasWords (code_of m) (place n) ws × Stood n (length ws) rest
+      → HasWords (code_of m) (place n) ws × CodeAt n (length ws) rest
   words_stand [] rest n h = (
     tt,
     record {
@@ -87,7 +87,7 @@ pieces_are_laid pieces base p place laid m has k piece is =
     subst (λ (o : List Item). AllStand base p m has (place k) o 0) e stand in
     record {
       find = λ x y rd rs1 op2 table address node way apart other fits low near short e.
-          marked_laid base p m has (place k) (find_image x y rd rs1 op2 table address.0) address node way
+          marked_laid base p m has (place k) (look_up x y rd rs1 op2 table address.0) address node way
           (find_fits x y rd rs1 op2 table address.0 apart other fits low near short) (stands _ e);
       call = λ address node way short e.
           marked_laid base p m has (place k) (link 15 address.0) address node way

@@ -21,7 +21,7 @@ use Rattle.code_runs.specs.TwoRegisters.{IsBetween}
 use Rattle.code_runs.specs.Code.{of_page, CanLoad, store_word, Stores}
 use Rattle.jump_code.specs.Jumped.{jumped}
 use Rattle.jump_code.specs.Links.{link}
-use Rattle.jump_code.specs.PageWords.{IsPageWord, HasPage, kept_address}
+use Rattle.jump_code.specs.PageWords.{IsPageWord, HasPage, saved_address}
 
 -- %g1 and %g2 wait in words 2 and 7. %g1 takes the kept address, and %g2 how far from it the word stands that has the
 -- piece's address; there the machine goes on, with both registers back.
@@ -39,12 +39,12 @@ choose distance =
     ∷ []
 
 -- all of the JMPL at an address, in one Mark: its link comes first, so that it doesn't matter which registers it names
-abbrev pub choice_image : ℕ → ℕ → ℕ → List Instr
-choice_image rd address distance = link rd address ++ choose distance
+abbrev pub switch_jump : ℕ → ℕ → ℕ → List Instr
+switch_jump rd address distance = link rd address ++ choose distance
 
 -- where the word stands that has the piece's address, and that address
 abbrev pub choice_at : ℕ → State → ℕ
-choice_at distance s = wrapped (kept_address s + distance)
+choice_at distance s = wrapped (saved_address s + distance)
 
 abbrev pub chosen : ℕ → State → ℕ
 chosen distance s = memory_word s.memory (choice_at distance s)
@@ -81,7 +81,7 @@ pub record IsAboutToChoose (rd address distance : ℕ) (s : State) : Type 0 wher
   pub valid : IsValid s
   pub ready : IsReady s
   pub low : s.pc + 4 * 11 < 2 ^ 32 - 4
-  pub words : StandIn (code_of s.memory) s.pc (choice_image rd address distance)
+  pub words : StandIn (code_of s.memory) s.pc (switch_jump rd address distance)
   pub register : rd < 32
   pub short : address < 2 ^ 32
   pub near : distance < 2 ^ 32
@@ -101,4 +101,4 @@ abbrev pub ChoicesSimulate : Type 0
 ChoicesSimulate =
     (rd rs1 : ℕ) (op2 : Op2) (address distance : ℕ) (s : State) → IsAboutToChoose rd address distance s
     → (jumped address rd rs1 op2 s).ending ≡ None
-    → ComesToCase distance s (jumped address rd rs1 op2 s) (length (choice_image rd address distance))
+    → ComesToCase distance s (jumped address rd rs1 op2 s) (length (switch_jump rd address distance))

@@ -50,8 +50,8 @@ find_words x y rs1 op2 table =
     ∷ []
 
 -- all of the JMPL at an address, in one Mark
-abbrev pub find_image : ℕ → ℕ → ℕ → ℕ → Op2 → ℕ → ℕ → List Instr
-find_image x y rd rs1 op2 table address = find_words x y rs1 op2 table ++ link rd address
+abbrev pub look_up : ℕ → ℕ → ℕ → ℕ → Op2 → ℕ → ℕ → List Instr
+look_up x y rd rs1 op2 table address = find_words x y rs1 op2 table ++ link rd address
 
 pub record IsAboutToFind (x y rd rs1 : ℕ) (op2 : Op2) (address : ℕ) (t : TableAt) (s : State) : Type 0 where
   pub valid : IsValid s
@@ -60,7 +60,7 @@ pub record IsAboutToFind (x y rd rs1 : ℕ) (op2 : Op2) (address : ℕ) (t : Tab
   pub apart : IsApart x rd rs1 op2
   pub other : IsApart y rd rs1 op2
   pub differ : x ≢ y
-  pub words : StandIn (code_of s.memory) s.pc (find_image x y rd rs1 op2 t.base address)
+  pub words : StandIn (code_of s.memory) s.pc (look_up x y rd rs1 op2 t.base address)
   pub short : address < 2 ^ 32
   pub page : HasPage 8 s.memory
   pub table : IsTwoLevel t
@@ -105,12 +105,12 @@ pub record TrapsFinding (s : State) (x y : ℕ) : Type 0 where
   pub input : after.input ≡ s.input
   pub stores : Stores IsPageWord s.memory after.memory
 
-abbrev pub FindsAct : Type 0
-FindsAct =
+abbrev pub LooksUp : Type 0
+LooksUp =
     (x y rd rs1 : ℕ) (op2 : Op2) (address : ℕ) (t : TableAt) (s : State)
     → IsAboutToFind x y rd rs1 op2 address t s
     → (sum_of s rs1 op2 % 4 ≡ 0
-    → FindsIt s x y rd rs1 op2 address t (length (find_image x y rd rs1 op2 t.base address)))
+    → FindsIt s x y rd rs1 op2 address t (length (look_up x y rd rs1 op2 t.base address)))
     × (sum_of s rs1 op2 % 4 ≢ 0 → TrapsFinding s x y)
 
 -- ---- against the original's step
@@ -129,32 +129,32 @@ pub record EndsFinding (x y : ℕ) (s : State) (ending : Ending) : Type 0 where
   pub traps : TrapsFinding s x y
   pub same : traps.after.ending ≡ Some ending
 
-abbrev pub FindsSimulate : Type 0
-FindsSimulate =
+abbrev pub LookUpSimulates : Type 0
+LookUpSimulates =
     (x y rd rs1 : ℕ) (op2 : Op2) (address : ℕ) (t : TableAt) (s : State)
     → IsAboutToFind x y rd rs1 op2 address t s
     → ((jumped address rd rs1 op2 s).ending ≡ None
-    → ComesFound x y rd rs1 op2 address t s (length (find_image x y rd rs1 op2 t.base address)))
+    → ComesFound x y rd rs1 op2 address t s (length (look_up x y rd rs1 op2 t.base address)))
     × ((ending : Ending) → (jumped address rd rs1 op2 s).ending ≡ Some ending → EndsFinding x y s ending)
 
 -- ---- behind the slot's copy and the snippet: any register and what was found are exchanged, and the register comes back
 -- in the jump's slot
 
-abbrev pub go_found : ℕ → List Instr
-go_found x = i.Swap x 0 (of_page 7) ∷ i.Jmpl 0 x (Imm (pos 0)) ∷ i.Load loads.LD x 0 (of_page 7) ∷ []
+abbrev pub resume : ℕ → List Instr
+resume x = i.Swap x 0 (of_page 7) ∷ i.Jmpl 0 x (Imm (pos 0)) ∷ i.Load loads.LD x 0 (of_page 7) ∷ []
 
 pub record IsAboutToGoOn (x : ℕ) (s : State) : Type 0 where
   pub valid : IsValid s
   pub ready : IsReady s
-  pub low : s.pc + 4 * length (go_found x) < 2 ^ 32 - 4
+  pub low : s.pc + 4 * length (resume x) < 2 ^ 32 - 4
   pub some : 0 < x
   pub below : x < 32
-  pub words : StandIn (code_of s.memory) s.pc (go_found x)
+  pub words : StandIn (code_of s.memory) s.pc (resume x)
   pub page : HasPage 8 s.memory
   pub aligned : found_there s % 4 ≡ 0
 
 -- every register is as it was
-abbrev pub FoundHops : Type 0
-FoundHops =
+abbrev pub Resumes : Type 0
+Resumes =
     (x : ℕ) (s : State) → IsAboutToGoOn x s
-    → Hops s (length (go_found x)) IsPageWord (found_there s) (store_word s.memory (page_word 7) (register_of s x))
+    → Hops s (length (resume x)) IsPageWord (found_there s) (store_word s.memory (page_word 7) (register_of s x))

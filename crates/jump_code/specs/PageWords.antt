@@ -29,5 +29,5 @@ abbrev pub found_there : State → ℕ
 found_there s = memory_word s.memory (page_word 7)
 
 -- the address that was kept at the load of a switch, in word 0
-abbrev pub kept_address : State → ℕ
-kept_address s = memory_word s.memory (page_word 0)
+abbrev pub saved_address : State → ℕ
+saved_address s = memory_word s.memory (page_word 0)

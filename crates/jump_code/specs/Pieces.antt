@@ -14,7 +14,7 @@ use Rattle.layout.specs.declared.items.Item.TheVariants as it
 use Rattle.layout.specs.Emitting.{words_of}
 use Rattle.layout.specs.Laid.{Placement, IsLaid}
 use Rattle.layout.specs.Running.{HasCode}
-use Rattle.jump_code.specs.Finding.{find_image}
+use Rattle.jump_code.specs.Finding.{look_up}
 use Rattle.jump_code.specs.FreeRegister.{IsApart}
 use Rattle.jump_code.specs.Leaving.{foreign}
 use Rattle.jump_code.specs.Links.{link}
@@ -29,8 +29,8 @@ abbrev pub marked_piece : List Instr → Addr → ℕ → PieceNo → List Item
 marked_piece xs address node way = it.Mark address node ∷ (word_items xs ++ it.EndMark ∷ it.Jump way ∷ [])
 
 -- the image of a JMPL, with its two registers, and the table there
-abbrev pub find_piece : ℕ → ℕ → ℕ → ℕ → Op2 → ℕ → Addr → ℕ → PieceNo → List Item
-find_piece x y rd rs1 op2 table address = marked_piece (find_image x y rd rs1 op2 table address.0) address
+abbrev pub look_up_piece : ℕ → ℕ → ℕ → ℕ → Op2 → ℕ → Addr → ℕ → PieceNo → List Item
+look_up_piece x y rd rs1 op2 table address = marked_piece (look_up x y rd rs1 op2 table address.0) address
 
 -- that of a CALL
 abbrev pub call_piece : Addr → ℕ → PieceNo → List Item
@@ -41,8 +41,8 @@ abbrev pub foreign_piece : List Item
 foreign_piece = word_items foreign
 
 -- a way out of the text to an address that is known
-abbrev pub far_piece : ℕ → List Item
-far_piece to = word_items (long_jump to)
+abbrev pub long_jump_piece : ℕ → List Item
+long_jump_piece to = word_items (long_jump to)
 
 -- ---- their words, where item n stands from `place n` on
 
@@ -56,8 +56,8 @@ pub record MarkedIsLaid (code : List Region) (place : ℕ → ℕ) (xs : List In
 pub record WordsAreLaid (piece : List Item) (code : List Region) (place : ℕ → ℕ) : Type 0 where
   pub find : (x y rd rs1 : ℕ) (op2 : Op2) (table : ℕ) (address : Addr) (node : ℕ) (way : PieceNo)
       → IsApart x rd rs1 op2 → IsApart y rd rs1 op2 → op2_fits op2 ≡ true → op2_in_range op2 ≡ true → table < 2 ^ 32
-      → address.0 < 2 ^ 32 → piece ≡ find_piece x y rd rs1 op2 table address node way
-      → MarkedIsLaid code place (find_image x y rd rs1 op2 table address.0)
+      → address.0 < 2 ^ 32 → piece ≡ look_up_piece x y rd rs1 op2 table address node way
+      → MarkedIsLaid code place (look_up x y rd rs1 op2 table address.0)
   pub call : (address : Addr) (node : ℕ) (way : PieceNo) → address.0 < 2 ^ 32 → piece ≡ call_piece address node way
       → MarkedIsLaid code place (link 15 address.0)
 

@@ -5,7 +5,7 @@ ghost use Rattle.v8_decode.specs.Words.{decode_of};
 ghost use Rattle.v8_encode.specs.Code.{op2_fits};
 ghost use Rattle.code_runs.specs.LongJump.{long_jump};
 ghost use Rattle.layout.specs.Emitting.{words_of};
-ghost use Rattle.jump_code.specs.Finding.{find_words, go_found};
+ghost use Rattle.jump_code.specs.Finding.{find_words, resume};
 ghost use Rattle.jump_code.specs.Leaving.{foreign};
 ghost use Rattle.jump_code.specs.Links.{link};
 
@@ -17,7 +17,7 @@ use v8_encode::{jump, load, operation, register, sethi, words};
 
 /// The first words of a JMPL: they look its target up in the table of two levels at `table`, through two registers that
 /// it doesn't name.
-pub fn find_code(x: Reg, y: Reg, rs1: Reg, op2: Op2, table: Addr) -> [u32; 12]
+pub fn look_up_code(x: Reg, y: Reg, rs1: Reg, op2: Op2, table: Addr) -> [u32; 12]
     requires fits { IsTrue (op2_fits op2) }
     ensures words { result ≡ words_of (find_words x y rs1 op2 table.0) }
     ensures decodes { map decode_of result ≡ find_words x y rs1 op2 table.0 }
@@ -39,9 +39,9 @@ pub fn find_code(x: Reg, y: Reg, rs1: Reg, op2: Op2, table: Addr) -> [u32; 12]
 }
 
 /// The jump behind the copy of a slot's word to what was found.
-pub fn found_code(x: Reg) -> [u32; 3]
-    ensures words { result ≡ words_of (go_found x) }
-    ensures decodes { map decode_of result ≡ go_found x }
+pub fn resume_code(x: Reg) -> [u32; 3]
+    ensures words { result ≡ words_of (resume x) }
+    ensures decodes { map decode_of result ≡ resume x }
 {
     words(&[exchange(x, 7), jump(x, Op2::Imm(0)), take(x, 7)])
 }
@@ -78,7 +78,7 @@ pub fn foreign_code() -> [u32; 4]
 }
 
 /// A long jump to an address that is known.
-pub fn far_code(to: Addr) -> [u32; 4]
+pub fn long_jump_code(to: Addr) -> [u32; 4]
     ensures words { result ≡ words_of (long_jump to.0) }
     ensures decodes { map decode_of result ≡ long_jump to.0 }
 {

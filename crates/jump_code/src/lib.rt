@@ -2,9 +2,9 @@
 #![tactic(auto)]
 
 ghost use Rattle.jump_code.specs.Choosing.{ChoicesHop, ChoicesSimulate};
-ghost use Rattle.jump_code.specs.Finding.{FindsAct, FindsSimulate, FoundHops};
+ghost use Rattle.jump_code.specs.Finding.{LooksUp, LookUpSimulates, Resumes};
 ghost use Rattle.jump_code.specs.Jumped.{CallsSimulate};
-ghost use Rattle.jump_code.specs.Keeping.{LoadsAreKept};
+ghost use Rattle.jump_code.specs.Keeping.{AddressesAreSaved};
 ghost use Rattle.jump_code.specs.Leaving.{FarGoes, ForeignLeaves};
 ghost use Rattle.jump_code.specs.Links.{CallsAct};
 ghost use Rattle.jump_code.specs.Pieces.{PiecesAreLaid};
@@ -14,24 +14,24 @@ mod registers;
 mod single;
 mod switches;
 
-pub use code::{call_code, far_code, find_code, foreign_code, found_code, link_code};
+pub use code::{call_code, long_jump_code, look_up_code, foreign_code, resume_code, link_code};
 pub use registers::{free_register, other_register};
-pub use switches::{choose_code, keep_load_code};
+pub use switches::{choose_code, save_load_address_code};
 
 /// The words of a JMPL write its link, and keep its target and what the table has for the target. Where the target
 /// isn't aligned, they end the run as the JMPL does.
-pub fn finds_act()
-    ensures { FindsAct }
+pub fn looks_up()
+    ensures { LooksUp }
 {}
 
 /// The words of a JMPL do what its step does at the original's address.
-pub fn finds_simulate()
-    ensures { FindsSimulate }
+pub fn look_up_simulates()
+    ensures { LookUpSimulates }
 {}
 
 /// Behind the copy of the delay slot, the machine goes on at what was looked up.
-pub fn found_hops()
-    ensures { FoundHops }
+pub fn resumes()
+    ensures { Resumes }
 {}
 
 /// The words of a CALL write the original's link.
@@ -45,8 +45,8 @@ pub fn calls_simulate()
 {}
 
 /// The words before an open switch's load keep the load's address in the editor's page, and change nothing else.
-pub fn loads_are_kept()
-    ensures { LoadsAreKept }
+pub fn addresses_are_saved()
+    ensures { AddressesAreSaved }
 {}
 
 /// The words of an open switch's JMPL go on at the address in the word that lies `distance` bytes above the kept

@@ -5,17 +5,17 @@ ghost use Rattle.v8_decode.specs.Words.{decode_of};
 ghost use Rattle.v8_encode.specs.Code.{op2_fits};
 ghost use Rattle.layout.specs.Emitting.{words_of};
 ghost use Rattle.jump_code.specs.Choosing.{choose};
-ghost use Rattle.jump_code.specs.Keeping.{keep_load};
+ghost use Rattle.jump_code.specs.Keeping.{save_load_address};
 
 use crate::single::{add, add_low, exchange, keep, take};
 use v8_decode::{Op2, Reg};
 use v8_encode::{jump, load, register, sethi, words};
 
 /// The words before a load with these operands, whose address they keep.
-pub fn keep_load_code(rs1: Reg, op2: Op2) -> [u32; 3]
+pub fn save_load_address_code(rs1: Reg, op2: Op2) -> [u32; 3]
     requires fits { IsTrue (op2_fits op2) }
-    ensures words { result ≡ words_of (keep_load rs1 op2) }
-    ensures decodes { map decode_of result ≡ keep_load rs1 op2 }
+    ensures words { result ≡ words_of (save_load_address rs1 op2) }
+    ensures decodes { map decode_of result ≡ save_load_address rs1 op2 }
 {
     let g1 = register(1);
     words(&[keep(g1, 0), add(g1, rs1, &op2), exchange(g1, 0)])

@@ -3,7 +3,7 @@ use Rattle.std.proofs.Common.{◌≡◌, ℕ, suc, ◌+◌, inl, inr, true, fals
 use Rattle.std.specs.Option.{option_map}
 use Rattle.std.proofs.lemmas.Bool.{cases_lt, false≢true, false_from_ne_true}
 use Rattle.layout.specs.declared.entries.Entry.{Entry}
-use Rattle.layout.specs.Forms.{Forms, far_from, goal_of, is_far, offset, NoneLeft}
+use Rattle.layout.specs.Forms.{Forms, far_from, goal_of, out_of_reach, offset, NoneLeft}
 use Rattle.layout.specs.Private.{code_at, code_to, far_of, has_condition, target_offset, IsEmitted}
 pub use Rattle.layout.proofs.Rows.{three_order}
 
@@ -38,7 +38,7 @@ emitted_more base entries long code new n h e c = rw add-one record {
 pub near_enough : (entries : List Entry) (long : Forms) (n : ℕ) → NoneLeft entries long → long n ≡ false
     → far_of (offset entries long n) (target_offset entries long n) ≡ false
 near_enough entries long n none short = by (goal_of entries n)
-    (false_from_ne_true (is_far entries long n) (λ t. false≢true (sym short ∙ none n t)))
+    (false_from_ne_true (out_of_reach entries long n) (λ t. false≢true (sym short ∙ none n t)))
   where
     by : (o : Option ℕ) → far_from entries long n o ≡ false → far_of (offset entries long n) (option_map (offset
         entries long) o) ≡ false

@@ -10,7 +10,7 @@ use Rattle.layout.specs.declared.entries.Entry.{Entry}
 use Rattle.layout.specs.declared.entries.Entry.TheVariants as en
 use Rattle.layout.specs.Laid.{AllLead, LeadsBelow, IsLaid, Placement, item_at, long_words, piece_words, short_words, size_of}
 use Rattle.layout.specs.Order.{compact_order}
-use Rattle.layout.specs.Forms.{Forms, entries_in, entries_from, entries_of, far, far_from, goal_of, is_far, offset, start_of, target, width}
+use Rattle.layout.specs.Forms.{Forms, entries_in, entries_from, entries_of, far, far_from, goal_of, out_of_reach, offset, start_of, target, width}
 use Rattle.layout.specs.Compact.{IsCompact, LongIsEnough, NeededOnce, ShortIsEnough}
 use Rattle.layout.proofs.Offsets.{offset_none}
 use Rattle.std.proofs.lemmas.Bool.Decides.{nat_tests}
@@ -119,7 +119,7 @@ module _ (pieces : List (List Item)) (base : ℕ) (p : Placement) (place : ℕ �
       goal_is : goal_of (entries_of pieces) (entry_no k n) ≡ Some (start_of (entries_of pieces) to)
       goal_is = cc (entry_is pieces leads k n x e, t)
 
-      reach : is_far (entries_of pieces) c.long (entry_no k n) ≡ false
+      reach : out_of_reach (entries_of pieces) c.long (entry_no k n) ≡ false
       reach =
           ap (far_from (entries_of pieces) c.long (entry_no k n)) goal_is
           ∙ not_far _ _ (near k n (piece_at pieces k n x e).0 (let s = item_size k n x e in omega (arith, s)))

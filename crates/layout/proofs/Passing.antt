@@ -9,14 +9,14 @@ use Rattle.std.proofs.lemmas.Option.{slice_get_past}
 use Rattle.std.proofs.lemmas.List.{length-set, get_or-set_other, get_or-set_same}
 use Rattle.layout.specs.declared.entries.Entry.{Entry}
 use Rattle.layout.specs.declared.entries.Entry.TheVariants as en
-use Rattle.layout.specs.Forms.{Forms, start_of, target, far, far_from, is_far, offset, width, IsWidened}
+use Rattle.layout.specs.Forms.{Forms, start_of, target, far, far_from, out_of_reach, offset, width, IsWidened}
 use Rattle.layout.specs.Private.{beyond, beyond_of, far_of, forms_in, goal_in, noted, widens, IsFormed, IsListing, IsOffsets, IsPassed, IsWidening}
 use Rattle.layout.proofs.Offsets.{AreOffsets, all_offsets, noted_len, offset_none, offsets_more}
 use Rattle.layout.proofs.Widening.{add_more, offset_more, rises, wider, widening_more}
-use Rattle.layout.proofs.Walked.{goal_low, is_far_is, turn, walk_more, IsWalk}
+use Rattle.layout.proofs.Walked.{goal_low, reach_is, turn, walk_more, IsWalk}
 
 -- past the entries none is out of reach
-not_far : (entries : List Entry) (long : Forms) (n : ℕ) → length entries ≤ n → is_far entries long n ≡ false
+not_far : (entries : List Entry) (long : Forms) (n : ℕ) → length entries ≤ n → out_of_reach entries long n ≡ false
 not_far entries long n l =
     ap (λ (o : Option Entry). far_from entries long n (option_map (start_of entries) (target o))) (slice_get_past
     entries n l)
@@ -35,7 +35,7 @@ widening_none entries n = record {
 }
 
 widened_by : (entries : List Entry) (long : Forms) → IsWidening entries long
-    → ((n : ℕ) → is_far entries long n ≡ true → long n ≡ true) → IsWidened entries long
+    → ((n : ℕ) → out_of_reach entries long n ≡ true → long n ≡ true) → IsWidened entries long
 widened_by entries long h none = record { none_left = none; needed = h.needed; fewest = h.fewest }
 
 -- where there are few words, none is out of reach
@@ -46,16 +46,16 @@ near from (Some to) f t = grind (arith, nat_tests)
 module _ (entries : List Entry) (forms : List Bool) (at : List ℕ) (all : ℕ) (offsets : IsOffsets entries (forms_in forms) at)
     (whole : all ≡ offset entries (forms_in forms) (length entries)) (few : all < 2 ^ 21) where
   near_at : (n : ℕ) → n < length entries → (x : Option Entry) → slice_get entries n ≡ x
-      → is_far entries (forms_in forms) n ≡ false
+      → out_of_reach entries (forms_in forms) n ≡ false
   near_at n l None is = ap (λ (o : Option Entry). far_from entries (forms_in forms) n (option_map (start_of entries)
       (target o))) is
   near_at n l (Some x) is =
       let low = rises entries (forms_in forms) n (length entries) (omega (arith, l)) in
-      sym (is_far_is entries (forms_in forms) at offsets n x is _ refl)
+      sym (reach_is entries (forms_in forms) at offsets n x is _ refl)
       ∙ near _ _ (omega (arith, low, whole, few))
       (goal_low entries (forms_in forms) at offsets n x is (λ (to : ℕ). to < 2 ^ 21) (λ m h. omega (arith, h, whole, few)))
 
-  none_far : (n : ℕ) → is_far entries (forms_in forms) n ≡ false
+  none_far : (n : ℕ) → out_of_reach entries (forms_in forms) n ≡ false
   none_far n = elim (cases_lt n (length entries)) [
     | inl l ↦ near_at n l (slice_get entries n) refl
     | inr l ↦ not_far entries (forms_in forms) n l
@@ -115,7 +115,7 @@ module _ (entries : List Entry) (forms : List Bool) (n : ℕ) (inside : n < leng
       rw e at (offset_past entries (forms_in forms) (forms_in wide) (suc n) (λ k h. others k (λ s. omega (arith, s, h)))
       (m - suc n))
 
-  widening_one : IsWidening entries (forms_in forms) → is_far entries (forms_in forms) n ≡ true
+  widening_one : IsWidening entries (forms_in forms) → out_of_reach entries (forms_in forms) n ≡ true
       → IsWidening entries (forms_in wide)
   widening_one h far = widening_more entries (forms_in forms) (forms_in wide) h
       (λ m e. elim (cases_eq m n) [ inl s ↦ ap (forms_in wide) s ∙ own | inr d ↦ sym (others m d) ∙ e ])
@@ -159,7 +159,7 @@ pub record IsPassing (entries : List Entry) (first forms : List Bool) (at : List
   pub widening : IsWidening entries (forms_in forms)
   pub count : count_by (λ b. b) forms ≡ count_by (λ b. b) first + widened
   pub none : widened ≡ 0
-      → (before ≡ here) × ((k : ℕ) → k < n → is_far entries (forms_in forms) k ≡ true → forms_in forms k ≡ true)
+      → (before ≡ here) × ((k : ℕ) → k < n → out_of_reach entries (forms_in forms) k ≡ true → forms_in forms k ≡ true)
 
 pub passing_none : (entries : List Entry) (forms : List Bool) (at : List ℕ) (left : List Entry)
     → length forms ≡ length entries → IsWalk entries (forms_in forms) left 0 0 → IsListing entries (length at)
@@ -216,8 +216,8 @@ module _ (entries : List Entry) (first forms : List Bool) (at : List ℕ) (left 
             | inr t ↦ omega (arith, t.1, r, low, h.less)
           ]
 
-  out_of_reach : beyond_of before here (goal_in at x) ≡ true → is_far entries (forms_in forms) n ≡ true
-  out_of_reach e = rw is (go (target (Some x)) leads e)
+  is_out : beyond_of before here (goal_in at x) ≡ true → out_of_reach entries (forms_in forms) n ≡ true
+  is_out e = rw is (go (target (Some x)) leads e)
     where
       go : (o : Option ℕ) → IfSome o (λ k. k < length at) → beyond_of before here (option_map (slice_index at) o) ≡ true
           → far_from entries (forms_in forms) n (option_map (start_of entries) o) ≡ true
@@ -227,7 +227,7 @@ module _ (entries : List Entry) (first forms : List Bool) (at : List ℕ) (left 
         | inr t ↦ far_behind before here (slice_index at k) _ _ (sym h.walk.words) t.1 (omega (arith, t.0, h.walk.words)) h.less e
       ]
 
-  within_reach : widened ≡ 0 → beyond_of before here (goal_in at x) ≡ false → is_far entries (forms_in forms) n ≡ false
+  within_reach : widened ≡ 0 → beyond_of before here (goal_in at x) ≡ false → out_of_reach entries (forms_in forms) n ≡ false
   within_reach none e = rw is (go (target (Some x)) leads (rw (h.none none).0 at e))
     where
       go : (o : Option ℕ) → IfSome o (λ k. k < length at) → beyond_of here here (option_map (slice_index at) o) ≡ false
@@ -304,7 +304,7 @@ module _ (entries : List Entry) (first forms : List Bool) (at : List ℕ) (left 
             let more = wider (Some x) (slice_get later 0) (forms_in forms n) (forms_in wide n)
             (λ _. own entries forms n inside short) in
             omega (arith, h.less, a, b, more);
-        widening = widening_one entries forms n inside short h.widening (out_of_reach (is_new (forms_in forms n) _ e).1);
+        widening = widening_one entries forms n inside short h.widening (is_out (is_new (forms_in forms n) _ e).1);
         count = let one = count_one entries forms n inside short in omega (arith, h.count, one);
         none = λ none. absurd (omega (arith, none));
       }

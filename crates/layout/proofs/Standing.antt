@@ -21,7 +21,7 @@ use Rattle.layout.specs.declared.entries.Entry.{Entry}
 use Rattle.layout.specs.declared.entries.Entry.TheVariants as en
 use Rattle.layout.specs.Laid.{Placement, SaysFrom, JumpStands, jump_nothing, jump_short, jump_long, BranchStands, branch_short, branch_long, Stands, Reaches, nop, opposite}
 use Rattle.layout.specs.Forms.{Forms, far, leads_next, offset, width}
-use Rattle.layout.specs.Private.{between, branch_code, code_at, code_to, entry_code, has_condition, jump_code, or_zero, target_offset}
+use Rattle.layout.specs.Private.{between, branch_in_form, code_at, code_to, entry_code, has_condition, jump_in_form, or_zero, target_offset}
 use Rattle.layout.specs.Emitting.{words_of}
 use Rattle.layout.proofs.Emitted.{code_more, code_none}
 use Rattle.layout.proofs.Offsets.{offset_none}
@@ -153,7 +153,7 @@ module _ (base : ℕ) (p : Placement) where
   jump_says : (long skip : Bool) (f t a b k : ℕ) → a ≡ base + 4 * f → k ≡ base + 4 * t → base + 4 * f ≤ 2 ^ 31
       → base + 4 * t ≤ 2 ^ 31 → (skip ≡ true → f ≡ t) → (long ≡ false → far f t ≡ false)
       → b ≡ a + 4 * (if skip then 0 else (if long then 4 else 1))
-      → Has p.code f (if skip then [] else words_of (jump_code long base f t)) → JumpStands base p.code k a b
+      → Has p.code f (if skip then [] else words_of (jump_in_form long base f t)) → JumpStands base p.code k a b
   jump_says long true f t a b k ea ek la lt here near eb h =
       let s : f ≡ t = here refl in jump_nothing (omega (arith, ea, ek, s)) (omega (arith, eb))
   jump_says true false f t a b k ea ek la lt here near eb h =
@@ -168,7 +168,7 @@ module _ (base : ℕ) (p : Placement) where
   branch_says : (long : Bool) (c f t a b k : ℕ) → nat_lt c 16 ≡ true → a ≡ base + 4 * f → k ≡ base + 4 * t
       → base + 4 * f ≤ 2 ^ 31
       → base + 4 * t ≤ 2 ^ 31 → (long ≡ false → far f t ≡ false) → b ≡ a + 4 * (if long then 6 else 2)
-      → Has p.code f (words_of (branch_code long base c f t)) → BranchStands base p.code c k a b
+      → Has p.code f (words_of (branch_in_form long base c f t)) → BranchStands base p.code c k a b
   branch_says true c f t a b k range ea ek la lt near eb h =
       let first = i.Branch (opposite c) false (pos 6) ∷ nop ∷ [] in
       branch_long (omega (arith, eb)) (says_words base p.code first f a ea (

@@ -4,7 +4,7 @@ use Rattle.std.specs.Option.{option_map}
 use Rattle.std.proofs.Math.Seq.{drop-length}
 use Rattle.std.proofs.lemmas.List.{length-drop}
 use Rattle.layout.specs.declared.entries.Entry.{Entry}
-use Rattle.layout.specs.Forms.{Forms, far_from, goal_of, is_far, offset, start_of, target, width, NoneLeft}
+use Rattle.layout.specs.Forms.{Forms, far_from, goal_of, out_of_reach, offset, start_of, target, width, NoneLeft}
 use Rattle.layout.specs.Private.{code_at, entry_code, far_of, goal_in, or_zero, target_offset, IsOffsets}
 use Rattle.layout.proofs.Offsets.{offset_next, offset_none, offset_small}
 use Rattle.layout.proofs.Widening.{rises}
@@ -91,8 +91,8 @@ module _ (entries : List Entry) (long : Forms) (at : List ℕ) (offsets : IsOffs
   far_is None = refl
   far_is (Some m) = refl
 
-  pub is_far_is : (here : ℕ) → here ≡ offset entries long n → far_of here (goal_in at x) ≡ is_far entries long n
-  is_far_is here e = rw (e, goal_is) (far_is (goal_of entries n))
+  pub reach_is : (here : ℕ) → here ≡ offset entries long n → far_of here (goal_in at x) ≡ out_of_reach entries long n
+  reach_is here e = rw (e, goal_is) (far_is (goal_of entries n))
 
   pub goal_near : (here : ℕ) → here ≡ offset entries long n → NoneLeft entries long → long n ≡ false
       → far_of here (goal_in at x) ≡ false

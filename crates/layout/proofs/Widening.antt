@@ -3,7 +3,7 @@ use Rattle.std.proofs.Common.{◌≡◌, ℕ, zero, suc, ◌+◌, ◌-◌, ◌<�
 use Rattle.std.proofs.lemmas.Bool.Decides.{nat_tests}
 use Rattle.std.proofs.lemmas.Bool.{cases_lt}
 use Rattle.layout.specs.declared.entries.Entry.{Entry}
-use Rattle.layout.specs.Forms.{Forms, goal_of, width, offset, far, far_from, is_far, IsWidened}
+use Rattle.layout.specs.Forms.{Forms, goal_of, width, offset, far, far_from, out_of_reach, IsWidened}
 use Rattle.layout.specs.Private.{IsWidening, IsWithin}
 
 -- a long entry has no fewer words
@@ -59,7 +59,7 @@ further_down a b c d l m h = grind (arith, nat_tests)
 
 -- what is out of reach stays so when more are long
 pub stays_far : (entries : List Entry) (long other : Forms) → IsWithin long other → (n : ℕ)
-    → is_far entries long n ≡ true → is_far entries other n ≡ true
+    → out_of_reach entries long n ≡ true → out_of_reach entries other n ≡ true
 stays_far entries long other h n e = at (goal_of entries n) e
   where
     way : (m : ℕ) → (n < m) ⊎ (m ≤ n) → far (offset entries long n) (offset entries long m) ≡ true
@@ -75,7 +75,7 @@ stays_far entries long other h n e = at (goal_of entries n) e
 
 -- Any of those that are out of reach may be widened.
 pub widening_more : (entries : List Entry) (long more : Forms) → IsWidening entries long
-    → IsWithin long more → ((n : ℕ) → more n ≡ true → (long n ≡ true) ⊎ (is_far entries long n ≡ true))
+    → IsWithin long more → ((n : ℕ) → more n ≡ true → (long n ≡ true) ⊎ (out_of_reach entries long n ≡ true))
     → IsWidening entries more
 widening_more entries long more h grown new = record {
   needed = λ n e. elim (new n e) [

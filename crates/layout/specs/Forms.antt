@@ -74,17 +74,17 @@ far_from entries long n None = false
 far_from entries long n (Some m) = far (offset entries long n) (offset entries long m)
 
 -- the piece to which entry n leads is out of reach of its short form
-abbrev pub is_far : List Entry → Forms → ℕ → Bool
-is_far entries long n = far_from entries long n (goal_of entries n)
+abbrev pub out_of_reach : List Entry → Forms → ℕ → Bool
+out_of_reach entries long n = far_from entries long n (goal_of entries n)
 
 -- ---- the forms
 
 -- each that is out of reach is long
 abbrev pub NoneLeft : List Entry → Forms → Type 0
-NoneLeft entries long = (n : ℕ) → is_far entries long n ≡ true → long n ≡ true
+NoneLeft entries long = (n : ℕ) → out_of_reach entries long n ≡ true → long n ≡ true
 
 -- The long forms are just those whose distance doesn't fit in the end, and the fewest with which none is left.
 pub record IsWidened (entries : List Entry) (long : Forms) : Type 0 where
   pub none_left : NoneLeft entries long
-  pub needed : (n : ℕ) → long n ≡ true → is_far entries long n ≡ true
+  pub needed : (n : ℕ) → long n ≡ true → out_of_reach entries long n ≡ true
   pub fewest : (other : Forms) → NoneLeft entries other → (n : ℕ) → long n ≡ true → other n ≡ true

@@ -6,7 +6,7 @@ use Rattle.eel_base.specs.declared.range.Range.{Range}
 use Rattle.eel_base.specs.declared.numbers.Addr.{Addr}
 use Rattle.v8_decode.specs.declared.Instr.{Instr}
 use Rattle.layout.specs.declared.entries.Entry.{Entry}
-use Rattle.layout.specs.Forms.{start_of, target, Forms, offset, is_far, leads_next, goal_of, far, entries_from, IsWidened, NoneLeft}
+use Rattle.layout.specs.Forms.{start_of, target, Forms, offset, out_of_reach, leads_next, goal_of, far, entries_from, IsWidened, NoneLeft}
 use Rattle.v8_decode.specs.declared.Instr.TheVariants as i
 use Rattle.code_runs.specs.LongJump.{long_jump}
 use Rattle.layout.specs.Laid.{nop, opposite}
@@ -73,7 +73,7 @@ IsWithin long other = (n : ℕ) → long n ≡ true → other n ≡ true
 
 -- Forms on the way: those that are long are out of reach, and they are long wherever none is left.
 pub record IsWidening (entries : List Entry) (long : Forms) : Type 0 where
-  pub needed : (n : ℕ) → long n ≡ true → is_far entries long n ≡ true
+  pub needed : (n : ℕ) → long n ≡ true → out_of_reach entries long n ≡ true
   pub fewest : (other : Forms) → NoneLeft entries other → IsWithin long other
 
 -- Whether a piece is surely out of reach of an entry in the middle of a pass. The entry had `before` words before it when
@@ -96,20 +96,20 @@ abbrev pub between : ℕ → ℕ → ℤ
 between from to = pos to -ℤ pos from
 
 -- a Jump at word `from` to word `to`, and a Branch
-abbrev pub jump_code : Bool → ℕ → ℕ → ℕ → List Instr
-jump_code true base from to = long_jump (base + 4 * to)
-jump_code false base from to = i.Branch 8 true (between from to) ∷ []
+abbrev pub jump_in_form : Bool → ℕ → ℕ → ℕ → List Instr
+jump_in_form true base from to = long_jump (base + 4 * to)
+jump_in_form false base from to = i.Branch 8 true (between from to) ∷ []
 
-abbrev pub branch_code : Bool → ℕ → ℕ → ℕ → ℕ → List Instr
-branch_code true base cond from to = i.Branch (opposite cond) false (pos 6) ∷ nop ∷ long_jump (base + 4 * to)
-branch_code false base cond from to = i.Branch cond true (between from to) ∷ nop ∷ []
+abbrev pub branch_in_form : Bool → ℕ → ℕ → ℕ → ℕ → List Instr
+branch_in_form true base cond from to = i.Branch (opposite cond) false (pos 6) ∷ nop ∷ long_jump (base + 4 * to)
+branch_in_form false base cond from to = i.Branch cond true (between from to) ∷ nop ∷ []
 
 -- the words of an entry at word `from` before the next one, where the piece to which it leads starts at word `to`
 abbrev pub entry_code : ℕ → Bool → ℕ → ℕ → Option Entry → Option Entry → List ℕ
 entry_code base long from to (Some (en.Item (it.Word word))) next = word ∷ []
 entry_code base long from to (Some (en.Item (it.Jump k))) next =
-    if leads_next k next then [] else words_of (jump_code long base from to)
-entry_code base long from to (Some (en.Item (it.Branch cond k))) next = words_of (branch_code long base cond from to)
+    if leads_next k next then [] else words_of (jump_in_form long base from to)
+entry_code base long from to (Some (en.Item (it.Branch cond k))) next = words_of (branch_in_form long base cond from to)
 entry_code base long from to _ next = []
 
 -- the words before the piece to which entry n leads

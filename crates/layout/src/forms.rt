@@ -93,7 +93,7 @@ fn is_beyond(before: u64, here: u64, words: u64) -> bool
 
 // Whether the piece to which an entry leads is.
 #[inline]
-fn is_far(entry: &Entry, at: &[u64], before: u64, here: u64) -> bool
+fn out_of_reach(entry: &Entry, at: &[u64], before: u64, here: u64) -> bool
     requires leads { IfSome (target_of (Some entry.now)) (λ k. k < length at.now) }
     requires before { before < 2 ^ 63 }
     requires words { IfSome (goal_in at.now entry.now) (λ words. words < 2 ^ 63) }
@@ -125,7 +125,7 @@ fn widen_entry(
         ≡ (if widens before here (goal_in at.now entry.now) (forms_in forms.old n) then 1 else 0) }
     ensures one { result ≤ 1 }
 {
-    if forms[n] || !is_far(entry, at, before, here) {
+    if forms[n] || !out_of_reach(entry, at, before, here) {
         return 0;
     }
     forms[n] = true;

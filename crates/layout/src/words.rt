@@ -7,7 +7,7 @@ ghost use Rattle.v8_encode.specs.Code.{fits_signed, has_word};
 ghost use Rattle.code_runs.specs.LongJump.{long_jump};
 ghost use Rattle.layout.specs.Laid.{nop as nop_of, opposite};
 ghost use Rattle.layout.specs.Forms.{far};
-ghost use Rattle.layout.specs.Private.{between, branch_code, jump_code};
+ghost use Rattle.layout.specs.Private.{between, branch_in_form, jump_in_form};
 ghost use Rattle.layout.specs.Emitting.{words_of};
 
 use std::alloc::AllocError;
@@ -88,7 +88,7 @@ pub fn put_jump(
     requires to { to < 2 ^ 62 }
     requires near { long ≡ false → far from to ≡ false }
     requires low { base + 4 * to < 2 ^ 32 }
-    ensures { OnOk result (code.new.items ≡ code.old.items ++ words_of (jump_code long base from to)) }
+    ensures { OnOk result (code.new.items ≡ code.old.items ++ words_of (jump_in_form long base from to)) }
 {
     if long {
         code.extend_from_slice(&long_jump_words(base + 4 * to as u32))?;
@@ -111,7 +111,7 @@ pub fn put_branch(
     requires to { to < 2 ^ 62 }
     requires near { long ≡ false → far from to ≡ false }
     requires low { base + 4 * to < 2 ^ 32 }
-    ensures code { OnOk result (code.new.items ≡ code.old.items ++ words_of (branch_code long base cond from to)) }
+    ensures code { OnOk result (code.new.items ≡ code.old.items ++ words_of (branch_in_form long base cond from to)) }
     ensures condition { OnOk result (cond < 16) }
 {
     if long {

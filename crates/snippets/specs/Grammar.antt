@@ -20,17 +20,17 @@ use Rattle.snippets.specs.declared.line.Said.TheVariants.{Nothing, Does, Wrong}
 abbrev pub lines_of : List ℕ → List (List ℕ)
 lines_of bytes = slice_split (λ byte. byte == 10) bytes
 
-abbrev pub op_words : Op → List (List ℕ)
-op_words (Add cell amount) = codes "add" ∷ decimal cell ∷ decimal amount ∷ []
-op_words (Put cell value) = codes "put" ∷ decimal cell ∷ decimal value ∷ []
-op_words (Keep cell reg) = codes "keep" ∷ decimal cell ∷ register_text reg ∷ []
-op_words (Top cell reg) = codes "top" ∷ decimal cell ∷ register_text reg ∷ []
-op_words (Count cell) = codes "count" ∷ decimal cell ∷ []
-op_words (Log cell bits value) = []
+abbrev pub op_text : Op → List (List ℕ)
+op_text (Add cell amount) = codes "add" ∷ decimal cell ∷ decimal amount ∷ []
+op_text (Put cell value) = codes "put" ∷ decimal cell ∷ decimal value ∷ []
+op_text (Keep cell reg) = codes "keep" ∷ decimal cell ∷ register_text reg ∷ []
+op_text (Top cell reg) = codes "top" ∷ decimal cell ∷ register_text reg ∷ []
+op_text (Count cell) = codes "count" ∷ decimal cell ∷ []
+op_text (Log cell bits value) = []
 
 -- the line that does an operation on an edge
 abbrev pub line_text : ℕ → Op → List ℕ
-line_text edge op = join_with_byte 32 (codes "edge" ∷ decimal edge ∷ op_words op)
+line_text edge op = join_with_byte 32 (codes "edge" ∷ decimal edge ∷ op_text op)
 
 -- its numbers have their sizes
 abbrev pub IsOp : Op → Type 0

@@ -7,7 +7,7 @@ use Rattle.snippet_code.specs.Runs.{DoesJust}
 use Rattle.snippet_code.specs.Spills.{spills_of}
 use Rattle.liveness.specs.Sets.{dead_on}
 use Rattle.image_code.specs.Store.{snippet_on}
-use Rattle.image_code.specs.Parts.{codes_of}
+use Rattle.image_code.specs.SnippetWords.{codes_of}
 use Rattle.image_code.proofs.Codes.{code_does, if_both, none_does, none_is_no_code}
 use Rattle.image_code.proofs.expansion.code_of.Goals as goal
 

@@ -1,0 +1,25 @@
+use Rattle.std.proofs.Common.{◌≡◌, map, ap, ◌∙◌, arith}
+use Rattle.std.specs.List.{count_by}
+use Rattle.eel_base.specs.declared.numbers.WordNo.{WordNo}
+use Rattle.cfg_normal.specs.Opens.{Open}
+use Rattle.edit_core.specs.Private.{is_entry}
+use Rattle.std.proofs.lemmas.List.Sums.{sum_by_more}
+use Rattle.edit_core.proofs.room.case_counts.Goals as goal
+
+pub loop-found-preserved : goal.loop-found-preserved
+loop-found-preserved c = λ key.
+    let graph = c.args.graph.now in
+    let x = c.found-item.result in
+    let same : count_by (is_entry graph c.block.result.0 key) (map (λ (w : WordNo). w.0) c.targets.result.now)
+    ≡ count_by (is_entry graph x.block key) x.targets =
+    ap (λ b. count_by (is_entry graph b key) (map (λ (w : WordNo). w.0) c.targets.result.now)) c.block.ensures
+    ∙ ap (count_by (is_entry graph x.block key)) c.targets.ensures in
+    omega (
+      arith,
+      c.in_ok-count_entries.ensures key,
+      same,
+      c.loop-found.invariant key,
+      sum_by_more (λ (o : Open). count_by (is_entry graph o.block key) o.targets) c.opens-found-items.result.now
+          c.loop-found.found-index x c.loop-found-test.true,
+      ap (λ (o : Open). count_by (is_entry graph o.block key) o.targets) c.found-item.is,
+    )

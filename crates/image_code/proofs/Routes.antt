@@ -1,0 +1,567 @@
+-- Ways through words in no place: the snippets of some edges, Jumps and long jumps.
+use Rattle.image_code.proofs.Common.{◌≡◌, ℕ, zero, suc, ◌+◌, ◌*◌, ◌^◌, ◌<◌, ◌≤◌, ◌⊎◌, inl, inr, Option, Some, None, List, [], ◌∷◌, ◌++◌, drop, length, map, append-nil, add-one, add-zero, zero-add, refl, ap, sym, ◌∙◌, subst, arith, add_assoc, ◌≢◌, slice_get, slice_index, flat_map, option_map, cases_lt, length-append, length-map, map-append, append_assoc, slice_get_within, PieceNo, Memory, code_of, fetch_from, State, register_of, run, IsValid, run-valid, count_stores, hopped, Leads, IsFirstWord, IsAmongWords, page_word, Stores, store_word, memory_word, count_add, none_then, leads_weaker, stores_there, stores_none, Op, words_at, long_jump_piece, words_of, Item, item_at, open_in, range_in, range_of, CanRun, nil_from_length, IsSilent, long_jump, CanStore, HasWords, stores_then, leads_then, kept_word, open_from, IsWordAt}
+use Rattle.layout.specs.declared.items.Item.TheVariants as it
+use Rattle.code_runs.proofs.Leads.{leads_none, silent_none, silent_then}
+use Rattle.code_runs.proofs.LongJump.{long_jumps_hop}
+use Rattle.snippet_code.specs.Runs.{IsAboutToRun}
+use Rattle.jump_code.proofs.Fitting.{long_jump_fits}
+use Rattle.jump_code.proofs.Laid.{words_after}
+use Rattle.layout.specs.Laid.{size_of}
+use Rattle.layout.specs.Running.{HasCode}
+use Rattle.layout.proofs.Going.{stays, jumps_hop}
+use Rattle.image_code.specs.Simulates.{IsOnWay}
+use Rattle.image_code.specs.Cost.{in_first_word, is_spill, spills_on}
+use Rattle.image_code.specs.Store.{cells_in, operations_on, snippet_on, updates}
+use Rattle.image_code.proofs.Points.{Forms, Placed, Site}
+use Rattle.image_code.specs.Images.{HasImages, Pieces}
+use Rattle.image_code.proofs.CaseShapes.{IsJumpTarget, LeadsTo, LeadsOn, rest_from, words_on}
+use Rattle.image_code.proofs.Between.{can_run, item_below, item_size, on_none, stores_weaker}
+use Rattle.image_code.proofs.Cells.{cell_low, cells_above, cell_stored, first_above, may_below, may_beside, may_own, operations_then, updates_same, updates_then, word_kept}
+use Rattle.image_code.proofs.Dead.{IsAlike, LastDead, NothingDead, alike_itself, alike_then, last_first, last_others, last_parted, nothing_parted}
+use Rattle.image_code.proofs.Memories.{images_stored}
+use Rattle.image_code.proofs.Positions.{get_second}
+use Rattle.image_code.proofs.Sparing.{first_cell, first_kept_word, same_steps, spill_cell, spill_first, spills_then}
+
+-- ---- items without a Mark
+
+abbrev IsUnmarked : Item → Type 0
+IsUnmarked (it.Mark address node) = ⊥
+IsUnmarked it.EndMark = ⊥
+IsUnmarked _ = Unit {0}
+
+abbrev pub AreUnmarked : List Item → Type 0
+AreUnmarked [] = Unit {0}
+AreUnmarked (x ∷ xs) = IsUnmarked x × AreUnmarked xs
+
+pub words_unmarked : (ws : List ℕ) (xs : List Item) → AreUnmarked xs → AreUnmarked (map it.Word ws ++ xs)
+words_unmarked [] xs are = are
+words_unmarked (w ∷ ws) xs are = (tt, words_unmarked ws xs are)
+
+pub unmarked_open : (xs : List Item) (n k : ℕ) → AreUnmarked xs → open_from xs n k None ≡ None
+unmarked_open [] n k are = refl
+unmarked_open (x ∷ xs) n zero are = refl
+unmarked_open (it.Mark a b ∷ xs) n (suc k) are = absurd are.0
+unmarked_open (it.EndMark ∷ xs) n (suc k) are = absurd are.0
+unmarked_open (x ∷ xs) n (suc k) are = unmarked_open xs (suc n) k are.1
+
+behind_unmarked : (xs ys : List Item) → AreUnmarked (xs ++ ys) → AreUnmarked ys
+behind_unmarked [] ys are = are
+behind_unmarked (x ∷ xs) ys are = behind_unmarked xs ys are.1
+
+pub length_words : (ws : List ℕ) → length (map it.Word ws) ≡ length ws
+length_words ws = length-map ws it.Word
+
+-- From its item n on, a piece is these items, none of them a Mark or the end of one.
+pub record PieceFrom (l : Pieces) (k n : ℕ) (xs : List Item) : Type 0 where
+  pub within : k < length l.list
+  pub size : size_of l.list k ≡ n + length xs
+  pub items : (j : ℕ) → item_at l.list k (n + j) ≡ slice_get xs j
+  pub shut : (j : ℕ) → open_in (slice_get l.list k) (n + j) ≡ None
+  pub unmarked : AreUnmarked xs
+
+pub rest_whole : (l : Pieces) (k : ℕ) (xs : List Item) → AreUnmarked xs → slice_get l.list k ≡ Some xs → PieceFrom l k 0 xs
+rest_whole l k xs are is = record {
+  within = slice_get_within l.list k xs is;
+  size = rw is (omega arith);
+  items = λ j. let e : 0 + j ≡ j = omega arith in rw (e, is);
+  shut = λ j. let e : 0 + j ≡ j = omega arith in rw (e, is) (unmarked_open xs 0 j are);
+  unmarked = are;
+}
+
+-- behind a Mark with one item
+pub rest_marked : (l : Pieces) (k : ℕ) (address : _) (node : ℕ) (y : Item) (xs : List Item) → AreUnmarked xs
+    → slice_get l.list k ≡ Some (it.Mark address node ∷ y ∷ it.EndMark ∷ xs) → PieceFrom l k 3 xs
+rest_marked l k address node y xs are is = record {
+  within = slice_get_within l.list k _ is;
+  size = rw is (omega arith);
+  items = λ j. let e : 3 + j ≡ suc (suc (suc j)) = omega arith in rw (e, is);
+  shut = λ j. let e : 3 + j ≡ suc (suc (suc j)) = omega arith in rw (e, is) (unmarked_open xs 3 j are);
+  unmarked = are;
+}
+
+pub rest_behind : (l : Pieces) (k n : ℕ) (xs ys : List Item) → PieceFrom l k n (xs ++ ys) → PieceFrom l k (n + length xs) ys
+rest_behind l k n xs ys r = record {
+  within = r.within;
+  size = omega (arith, r.size, length-append xs ys);
+  items = λ j. rw (add_assoc n (length xs) j, r.items (length xs + j)) (get_second xs ys j);
+  shut = λ j. rw (add_assoc n (length xs) j) (r.shut (length xs + j));
+  unmarked = behind_unmarked xs ys r.unmarked;
+}
+
+pub far_unmarked : (to : ℕ) → AreUnmarked (long_jump_piece to)
+far_unmarked to = (tt, (tt, (tt, (tt, tt))))
+
+-- edges without operations leave the cells
+no_updates : (snips : List (List Op)) (edges cells : List ℕ) (s : State) → operations_on snips edges ≡ 0
+    → updates snips edges cells s ≡ cells
+no_updates snips [] cells s none = refl
+no_updates snips (edge ∷ edges) cells s none =
+    rw (nil_from_length (snippet_on snips edge) (omega (arith, none)))
+    (no_updates snips edges cells s (omega (arith, none)))
+
+module _ (site : Site) (h : Placed site) where
+  open site use {g, l, base, p, place, f}
+
+  -- in the code, and in no place
+  abbrev pub IsInNoPlace : State → Type 0
+  IsInNoPlace u = (base ≤ u.pc) × (u.pc < base + 4 * length p.code) × (range_in p.ranges u.pc ≡ None)
+
+  pub bare_on : (t u : State) → u.ending ≡ None → IsInNoPlace u → IsOnWay g t u
+  bare_on t u live bare = on_none site h t u live bare.0 bare.1 bare.2
+
+  -- A way through such words and the snippets of some edges: all stays as it was but what is dead behind these and
+  -- words of the editor's, and in them the cells are updated, and the target that waits in word 1 of the page stays.
+  -- Where the original goes on at a word of the text, it is known what the way stores, and that it takes a word for
+  -- each four of its bound where nothing is long.
+  pub record FollowsRoute (next : Option ℕ) (edges : List ℕ) (a : State) (to most : ℕ) : Type 0 where
+    pub count : ℕ
+    pub other : State
+    pub memory : Memory
+    pub few : count ≤ most + 22 * operations_on g.snips edges
+    pub path : Leads IsInNoPlace a (hopped other to memory) count
+    pub silent : IsSilent a count
+    pub stores : Stores (IsAmongWords f.own) a.memory memory
+    pub waits : memory_word memory (page_word 1) ≡ memory_word a.memory (page_word 1)
+    pub found : next ≢ None → memory_word memory (page_word 7) ≡ memory_word a.memory (page_word 7)
+    pub cells : LastDead g edges → words_at g.notes.base g.notes.cells memory ≡ updates g.snips edges (cells_in g.notes a) a
+    pub begins : 0 < count → IsInNoPlace a
+    pub alike : IsAlike g edges a other
+    pub still : NothingDead g edges → hopped other to memory ≡ hopped a to memory
+    pub spares : next ≢ None → count_stores (is_spill g.notes) a count ≤ spills_on g.snips g.dead edges
+    pub leaves_first : next ≢ None → Forms site → count_stores in_first_word a count ≡ 0
+    pub brief : next ≢ None → Forms site → 4 * count ≤ most + 88 * operations_on g.snips edges
+
+  -- what it takes to run on
+  pub record IsFit (a : State) : Type 0 where
+    pub valid : IsValid a
+    pub has : HasImages g base p f a.memory
+    pub runs : CanRun base p.code a
+
+  pub hopped_fit : (a b : State) (to : ℕ) → IsFit a → b.ending ≡ None → to ≤ 2 ^ 31 → (count : ℕ) (m : Memory)
+      → run a count ≡ hopped b to m → Stores (IsAmongWords f.own) a.memory m → IsFit (hopped b to m)
+  hopped_fit a b to k live low count m steps stores =
+      let valid : IsValid (hopped b to m) = subst IsValid steps (run-valid a count k.valid) in
+      let has = images_stored g f h.frame base p a (hopped b to m) count steps stores k.has in
+      record {
+        valid = valid;
+        has = has;
+        runs = can_run site h (hopped b to m) valid live (omega arith) refl has;
+      }
+
+  -- where a way ends
+  pub arrived : {next : Option ℕ} (edges : List ℕ) (a : State) (to most : ℕ) → IsFit a → to ≤ 2 ^ 31
+      → (w : FollowsRoute next edges a to most)
+      → IsFit (hopped w.other to w.memory)
+  arrived edges a to most k low w =
+      hopped_fit a w.other to k (w.alike.ending ∙ k.runs.ready.live) low w.count w.memory w.path.steps w.stores
+
+  -- the words of the page can be stored in
+  pub page_there : (a : State) → IsFit a → (n : ℕ) → n < 8 → CanStore a.memory (page_word n)
+  page_there a fit n few =
+      stores_there (page_word n) a.memory (fit.has.ours.words (page_word n) (h.frame.page n (omega (arith, few))))
+
+  -- stores in word 0 of the page
+  pub first_kept : (a : State) (m : Memory) → IsFit a → Stores IsFirstWord a.memory m
+      → Stores (IsAmongWords f.own) a.memory m
+      × ((memory_word m (page_word 1) ≡ memory_word a.memory (page_word 1))
+      × (words_at g.notes.base g.notes.cells m ≡ cells_in g.notes a))
+  first_kept a m fit stores = (
+    stores_weaker IsFirstWord (IsAmongWords f.own) a.memory m (λ z e. rw e h.frame.own.first) stores,
+    (
+      word_kept IsFirstWord (page_word 1) (λ z e. inr (omega (arith, e))) a.memory m stores
+          (page_there a fit 1 (omega arith)),
+      cells_above g l f h.frame h.cells IsFirstWord first_above a.memory m fit.has.ours stores,
+    ),
+  )
+
+  -- A way of stores in word 0 of the page alone, and what is known of it where the original goes on in the text.
+  record IsBrief (a : State) (most count : ℕ) : Type 0 where
+    spares : count_stores (is_spill g.notes) a count ≤ 0
+    leaves_first : Forms site → count_stores in_first_word a count ≡ 0
+    brief : Forms site → 4 * count ≤ most
+
+  -- along edges without operations
+  hops_on : {next : Option ℕ} (edges : List ℕ) → operations_on g.snips edges ≡ 0 → (a : State) (to most count : ℕ)
+      (m : Memory) → IsFit a → Stores IsFirstWord a.memory m → count ≤ most → Leads IsInNoPlace a (hopped a to m) count
+      → IsSilent a count → (0 < count → IsInNoPlace a) → (next ≢ None → IsBrief a most count) → FollowsRoute next edges a to most
+  hops_on edges none a to most count m fit stores few path silent begins brief =
+      let kept = first_kept a m fit stores in
+      record {
+        count = count;
+        other = a;
+        memory = m;
+        few = omega (arith, few);
+        path = path;
+        silent = silent;
+        stores = kept.0;
+        waits = kept.1.0;
+        found = λ _. word_kept IsFirstWord (page_word 7) (λ z e. inr (omega (arith, e))) a.memory m stores
+            (page_there a fit 7 (omega arith));
+        cells = λ _. kept.1.1 ∙ sym (no_updates g.snips edges (cells_in g.notes a) a none);
+        begins = begins;
+        alike = alike_itself g edges a;
+        still = λ _. refl;
+        spares = λ there. omega (arith, (brief there).spares);
+        leaves_first = λ there short. (brief there).leaves_first short;
+        brief = λ there short. omega (arith, (brief there).brief short);
+      }
+
+  -- the way has no step
+  pub bare_here : {next : Option ℕ} (edges : List ℕ) (a : State) (to most : ℕ) → operations_on g.snips edges ≡ 0
+      → IsFit a → a.pc ≡ to → a.pc ≤ 2 ^ 31 → FollowsRoute next edges a to most
+  bare_here edges a to most none fit e low =
+      hops_on edges none a to most 0 a.memory fit (stores_none IsFirstWord a.memory) (omega arith)
+      (rw (stays a to e fit.runs.ready.npc fit.runs.slot (omega arith)) (leads_none _ a)) (silent_none a)
+      (λ q. absurd (omega arith))
+      (λ _. record { spares = omega arith; leaves_first = λ _. refl; brief = λ _. omega arith })
+
+  -- an item outside each Mark
+  pub bare_item : (k n : ℕ) (x : Item) → item_at l.list k n ≡ Some x → open_in (slice_get l.list k) n ≡ None
+      → (u : State)
+      → place k n ≤ u.pc → u.pc < place k (suc n) → IsInNoPlace u
+  bare_item k n x item closed u low high =
+      let size = item_size l.list k n x item in
+      let here = item_below l.list k n x item in
+      let ends = (h.laid.within k (suc n) here (omega arith)).ends in
+      let starts = (h.laid.within k n here (omega arith)).begins in (
+        omega arith,
+        omega arith,
+        h.laid.ranges k n u.pc x item low high ∙ ap (range_of (place k)) closed,
+      )
+
+  -- a Jump outside each Mark
+  pub jump_on : (next : Option ℕ) (k n : ℕ) (z : PieceNo) → item_at l.list k n ≡ Some (it.Jump z)
+      → open_in (slice_get l.list k) n ≡ None
+      → (a : State) → IsFit a → a.pc ≡ place k n → FollowsRoute next [] a (slice_index p.at z.0) 4
+  jump_on next k n z item closed a fit at =
+      let j = jumps_hop l.list base p place h.laid k n z item a fit.runs at in
+      let ins = j.inside in
+      let none = bare_item k n (it.Jump z) item closed in
+      hops_on [] refl a (slice_index p.at z.0) 4 j.count j.memory fit j.hops.stores (omega (arith, j.few))
+      (leads_weaker _ _ a _ j.count (λ u q. none u (omega (arith, q.past)) (omega (arith, q.before))) j.hops.path)
+      j.hops.silent (λ q. none a (omega arith) (omega arith))
+      (λ _. record {
+        spares = omega (arith, j.stored (is_spill g.notes) (inl (spill_first g.notes)));
+        leaves_first = λ short. j.stored in_first_word (inr (omega (arith, short k n (it.Jump z) item, at)));
+        brief = λ short. omega (arith, short k n (it.Jump z) item, at, ins);
+      })
+
+  -- a way after another one
+  pub on_then : {next : Option ℕ} (edges first others : List ℕ) → edges ≡ first ++ others → (a : State)
+      (mid to few more : ℕ) (one : FollowsRoute next first a mid few)
+      → FollowsRoute next others (hopped one.other mid one.memory) to more → FollowsRoute next edges a to (few + more)
+  on_then edges first others all a mid to few more one other =
+      let b : State = hopped one.other mid one.memory in
+      rw all (record {
+        count = one.count + other.count;
+        other = other.other;
+        memory = other.memory;
+        few = omega (arith, one.few, other.few, operations_then g.snips first others);
+        path = leads_then IsInNoPlace a b _ one.count other.count one.path other.path (λ _ some. other.begins some);
+        silent = silent_then a b one.count other.count one.path.steps one.silent other.silent;
+        stores = stores_then (IsAmongWords f.own) (IsAmongWords f.own) a.memory one.memory other.memory
+            (λ z e. e) one.stores other.stores;
+        waits = other.waits ∙ one.waits;
+        found = λ there. other.found there ∙ one.found there;
+        cells = λ d.
+            other.cells (last_others g first others d) ∙ read_alike (last_parted g first others d)
+            ∙ rw (one.cells (last_first g first others d)) (sym (updates_then g.snips first others (cells_in g.notes a) a));
+        begins = λ some. elim (cases_lt 0 one.count) [
+          | inl more ↦ one.begins more
+          | inr none ↦
+              let still : one.count ≡ 0 = omega arith in
+              subst IsInNoPlace (sym one.path.steps ∙ ap (run a) still) (other.begins (omega arith))
+        ];
+        alike = alike_then g _ first others refl a one.other other.other mid one.memory one.alike other.alike;
+        still = λ d.
+            let both = nothing_parted g first others d in
+            other.still both.1 ∙ ap (λ (z : State). hopped z to other.memory) (one.still both.0);
+        spares = λ there.
+            let both = count_add (is_spill g.notes) a b one.count one.path.steps other.count in
+            omega (arith, one.spares there, other.spares there, spills_then g first others, both);
+        leaves_first = λ there short.
+            none_then in_first_word a b one.count other.count one.path.steps (one.leaves_first there short)
+            (other.leaves_first there short);
+        brief = λ there short.
+            omega (arith, one.brief there short, other.brief there short, operations_then g.snips first others);
+      })
+    where
+      -- the later snippets read what the earlier ones left
+      read_alike : (others ≡ []) ⊎ NothingDead g first
+          → updates g.snips others (words_at g.notes.base g.notes.cells one.memory) (hopped one.other mid one.memory)
+          ≡ updates g.snips others (words_at g.notes.base g.notes.cells one.memory) a
+      read_alike (inl none) = rw none
+      read_alike (inr nothing) =
+          updates_same g.snips others _ _ a (ap (λ (z : State). register_of z) (one.still nothing))
+
+  -- ---- words
+
+  -- words from item n on: where they stand, and that all they take is in no place
+  pub record CodeAt (m : Memory) (k n : ℕ) (ws : List ℕ) : Type 0 where
+    pub words : HasWords (code_of m) (place k n) ws
+    pub end : place k (n + length ws) ≡ place k n + 4 * length ws
+    pub bare : (u : State) → place k n ≤ u.pc → u.pc < place k n + 4 * length ws → IsInNoPlace u
+
+  word_fetched : (m : Memory) → HasCode base p.code m → (a w : ℕ) → IsWordAt base p.code a w
+      → fetch_from (code_of m) a ≡ Some w
+  word_fetched m has a w (n, at, found) = ap (fetch_from (code_of m)) at ∙ has n w found
+
+  pub stood : (m : Memory) → HasCode base p.code m → (k n : ℕ) (ws : List ℕ) (xs : List Item)
+      → PieceFrom l k n (map it.Word ws ++ xs) → CodeAt m k n ws
+  stood m has k n [] xs r = record {
+    words = tt;
+    end = omega (arith, ap (place k) (add-zero n));
+    bare = λ u from to. absurd (omega (arith, from, to));
+  }
+  stood m has k n (w ∷ ws) xs r =
+      let item : item_at l.list k n ≡ Some (it.Word w) = rw add-zero at (r.items 0) in
+      let at = h.laid.items k n (it.Word w) item in
+      let more = stood m has k (suc n) ws xs (rw add-one at (rest_behind l k n (it.Word w ∷ []) (map it.Word ws ++ xs) r)) in
+      let all : n + suc (length ws) ≡ suc n + length ws = omega arith in
+      record {
+        words = (word_fetched m has (place k n) w at.1, rw at.0 at more.words);
+        end = omega (arith, ap (place k) all, more.end, at.0);
+        bare = λ u from to. elim (cases_lt u.pc (place k (suc n))) [
+          | inl before ↦ bare_item k n (it.Word w) item (rw add-zero at (r.shut 0)) u from before
+          | inr behind ↦ more.bare u behind (omega (arith, to, at.0))
+        ];
+      }
+
+  -- where words end, inside the code
+  pub stood_low : (k n : ℕ) (ws : List ℕ) (xs : List Item) → PieceFrom l k n (map it.Word ws ++ xs)
+      → place k (n + length ws) ≤ 2 ^ 31
+  stood_low k n ws xs r =
+      let both = length-append (map it.Word ws) xs in
+      let ends = (h.laid.within k (n + length ws) r.within (omega (arith, r.size, both, length_words ws))).ends in
+      omega (arith, ends, h.laid.low)
+
+  -- ---- the snippets of some edges
+
+  snippet_runs : (next : Option ℕ) (edge k n : ℕ) (xs : List Item) → PieceFrom l k n (map it.Word (l.codes edge) ++ xs)
+      → (a : State) → IsFit a → a.pc ≡ place k n
+      → FollowsRoute next (edge ∷ []) a (place k (n + length (l.codes edge))) 0
+  snippet_runs next edge k n xs r a fit at =
+      let words = l.codes edge in
+      let there = stood a.memory fit.has.code k n words xs r in
+      let end = there.end in
+      let low = stood_low k n words xs r in
+      let short = h.cells.short edge in
+      let about : IsAboutToRun words g.notes.base (snippet_on g.snips edge) a = record {
+        valid = fit.valid;
+        ready = fit.runs.ready;
+        slot = fit.runs.slot;
+        low = omega (arith, at, end, low);
+        stand = subst (λ z. HasWords (code_of a.memory) z words) (sym at) there.words;
+        cell = λ cell named. cell_stored g l f h.frame h.cells a.memory fit.has.ours cell
+            (h.cells.named edge cell named);
+        page = λ i few. stores_there (kept_word i) a.memory (fit.has.ours.words (kept_word i) (h.frame.page (i + 2)
+            (omega (arith, few))));
+      } in
+      let past = h.cells.does edge (is_spill g.notes) (λ cell named.
+      spill_cell g.notes cell (h.cells.named edge cell named)) a about in
+      let again = h.cells.does edge in_first_word (λ cell named.
+      first_cell _ (cell_low g l f h.frame h.cells cell (h.cells.named edge cell named))) a about in
+      let same : again.steps ≡ past.steps =
+      same_steps a again.steps past.steps (a.pc + 4 * length words) (rw again.path.steps again.pc)
+      (rw past.path.steps past.pc) (λ j some less. (again.path.during j some less).before)
+      (λ j some less. (past.path.during j some less).before)
+      (λ e. (omega (arith, e, again.few), omega (arith, e, past.few))) in
+      let few = past.few in
+      let pc = past.pc in
+      record {
+        count = past.steps;
+        other = past.after;
+        memory = past.after.memory;
+        few = omega (arith, few, short);
+        path = rw (stays past.after (place k (n + length words)) (omega (arith, pc, at, end)) (omega (arith, pc, past.npc))
+            past.slot (omega (arith, low)))
+            (leads_weaker _ IsInNoPlace a past.after past.steps
+            (λ u q. there.bare u (omega (arith, at, q.past)) (omega (arith, at, q.before))) past.path);
+        silent = past.silent;
+        stores = stores_weaker _ _ _ _ (may_own g l f h.frame h.cells edge) past.stores;
+        waits = word_kept _ _ (may_beside g l f h.frame h.cells edge) _ _ past.stores (page_there a fit 1 (omega arith));
+        found = λ _. word_kept _ _ (may_below g l f h.frame h.cells edge) _ _ past.stores (page_there a fit 7 (omega arith));
+        cells = λ _. past.cells g.notes.cells (h.cells.named edge) h.cells.low;
+        begins = λ some. there.bare a (omega (arith, at)) (omega (arith, at, some, few));
+        alike = record {
+          ending = past.live ∙ sym fit.runs.ready.live;
+          window = past.window;
+          valid = past.windows;
+          input = past.input;
+          registers = past.registers ∙ sym fit.valid.registers.count;
+          items = λ item kept. past.items item kept.0;
+        };
+        still = λ d. ap (λ (z : State). hopped z (place k (n + length words)) past.after.memory) (past.all d.0);
+        spares = λ _. omega (arith, past.stored);
+        leaves_first = λ _ _. rw (← same) (again.elsewhere (λ word _. first_kept_word word));
+        brief = λ _ _. omega (arith, few, short);
+      }
+
+  pub snippets_run : (next : Option ℕ) (edges : List ℕ) (k n : ℕ) (xs : List Item) → PieceFrom l k n (words_on l edges ++ xs)
+      → (a : State) → IsFit a → a.pc ≡ place k n
+      → FollowsRoute next edges a (place k (n + length (flat_map l.codes edges))) 0
+  snippets_run next [] k n xs r a fit at =
+      rw add-zero
+      (bare_here [] a (place k n) 0 refl fit at (omega (arith, at, rw add-zero at (stood_low k n [] xs r))))
+  snippets_run next (edge ∷ edges) k n xs r a fit at =
+      let first = l.codes edge in
+      let rest = words_on l edges ++ xs in
+      let r2 : PieceFrom l k n (map it.Word first ++ rest) =
+      rw (map-append it.Word first (flat_map l.codes edges), append_assoc) at r in
+      let one = snippet_runs next edge k n rest r2 a fit at in
+      let mid = place k (n + length first) in
+      let fit2 = arrived (edge ∷ []) a mid 0 fit (stood_low k n first rest r2) one in
+      let other = snippets_run next edges k (n + length first) xs
+      (rw (length_words first) at (rest_behind l k n (map it.Word first) rest r2)) (hopped one.other mid one.memory) fit2
+      refl in
+      let sum : n + length first + length (flat_map l.codes edges) ≡ n + length (flat_map l.codes (edge ∷ edges)) =
+      omega (arith, length-append first (flat_map l.codes edges)) in
+      rw (← sum) (on_then (edge ∷ edges) (edge ∷ []) edges refl a mid _ 0 0 one other)
+
+  -- and then whatever comes behind them
+  pub snippets_then : (next : Option ℕ) (edges : List ℕ) (k n : ℕ) (xs : List Item)
+      → PieceFrom l k n (words_on l edges ++ xs) → (a : State)
+      → IsFit a → a.pc ≡ place k n → (others : List ℕ) (to more : ℕ)
+      → ((b : State) → IsFit b → b.pc ≡ place k (n + length (flat_map l.codes edges))
+      → PieceFrom l k (n + length (flat_map l.codes edges)) xs → FollowsRoute next others b to more)
+      → FollowsRoute next (edges ++ others) a to more
+  snippets_then next edges k n xs r a fit at others to more behind =
+      let one = snippets_run next edges k n xs r a fit at in
+      let mid = place k (n + length (flat_map l.codes edges)) in
+      let fit2 = arrived edges a mid 0 fit (stood_low k n (flat_map l.codes edges) xs r) one in
+      rw zero-add at (on_then (edges ++ others) edges others refl a mid to 0 more one
+      (behind (hopped one.other mid one.memory) fit2 refl
+      (rw (length_words (flat_map l.codes edges)) at (rest_behind l k n (words_on l edges) xs r))))
+
+  -- ---- long jumps
+
+  -- a long jump to an address, outside each Mark
+  pub far_on : (next : Option ℕ) → next ≡ None → (k n to : ℕ) → IsJumpTarget to → PieceFrom l k n (long_jump_piece to) → (a : State)
+      → IsFit a → a.pc ≡ place k n → FollowsRoute next [] a to 4
+  far_on next out k n to far r a fit at =
+      let there = stood a.memory fit.has.code k n (words_of (long_jump to)) [] r in
+      let low = stood_low k n (words_of (long_jump to)) [] r in
+      let hops = long_jumps_hop to a fit.valid fit.runs.ready (omega (arith, at, there.end, low)) fit.runs.page
+      (rw at (words_after l.list base p place h.laid a.memory fit.has.code k n (long_jump to) (long_jump_fits to far.0)
+      (λ i x e. r.items i ∙ e))) far.0 far.1 in
+      hops_on [] refl a to 4 4 (store_word a.memory (page_word 0) (register_of a 1)) fit hops.stores (omega arith)
+      (leads_weaker _ _ a _ 4 (λ u q. there.bare u (omega (arith, at, q.past)) (omega (arith, at, q.before))) hops.path)
+      hops.silent (λ q. there.bare a (omega (arith, at)) (omega (arith, at))) (λ there. absurd (there out))
+
+  -- ---- from the beginning of a piece
+
+  jump_unmarked : (edges : List ℕ) (z : PieceNo) → AreUnmarked (words_on l edges ++ it.Jump z ∷ [])
+  jump_unmarked edges z = words_unmarked (flat_map l.codes edges) (it.Jump z ∷ []) (tt, tt)
+
+  last_jump : (next : Option ℕ) (k n : ℕ) (z : PieceNo) → PieceFrom l k n (it.Jump z ∷ []) → (a : State) → IsFit a
+      → a.pc ≡ place k n → FollowsRoute next [] a (slice_index p.at z.0) 4
+  last_jump next k n z r a fit at = jump_on next k n z (rw add-zero at (r.items 0)) (rw add-zero at (r.shut 0)) a fit at
+
+  -- nothing comes after the edges' snippets
+  pub for_all : {next : Option ℕ} (edges : List ℕ) (a : State) (to most : ℕ) → FollowsRoute next (edges ++ []) a to most
+      → FollowsRoute next edges a to most
+  for_all {next} edges a to most way = subst (λ z. FollowsRoute next z a to most) (append-nil edges) way
+
+  pub arrive : (z : PieceNo) (edges : List ℕ) (a : State) (next : Option ℕ) (to : ℕ) → IsFit a
+      → a.pc ≡ slice_index p.at z.0 → LeadsTo l p z edges next to → FollowsRoute next edges a to 4
+  arrive z edges a next to fit at (inl (none, e)) =
+      rw none (bare_here [] a to 4 refl fit (at ∙ e) (omega (arith, at, (h.laid.aligned z.0).1)))
+  arrive z edges a next to fit at (inr (inl (y, is, e))) =
+      let r = rest_whole l z.0 (words_on l edges ++ it.Jump y ∷ []) (jump_unmarked edges y) is in
+      for_all edges a to 4 (snippets_then next edges z.0 0 (it.Jump y ∷ []) r a fit
+      (at ∙ h.laid.starts z.0 r.within) [] to 4 (λ b fit2 there r2. rw (← e) (last_jump next z.0 _ y r2 b fit2 there)))
+  arrive z edges a next to fit at (inr (inr (out, far, is))) =
+      let r = rest_whole l z.0 (words_on l edges ++ long_jump_piece to)
+      (words_unmarked (flat_map l.codes edges) (long_jump_piece to) (far_unmarked to)) is in
+      for_all edges a to 4 (snippets_then next edges z.0 0 (long_jump_piece to) r a fit
+      (at ∙ h.laid.starts z.0 r.within) [] to 4 (λ b fit2 there r2. far_on next out z.0 _ to far r2 b fit2 there))
+
+  -- a Jump to a piece that leads on
+  pub jump_along : (k n : ℕ) (z : PieceNo) → item_at l.list k n ≡ Some (it.Jump z)
+      → open_in (slice_get l.list k) n ≡ None → (edges : List ℕ) (a : State) (next : Option ℕ) (to : ℕ) → IsFit a
+      → a.pc ≡ place k n → LeadsTo l p z edges next to → FollowsRoute next edges a to 8
+  jump_along k n z item shut edges a next to fit at leads =
+      let one = jump_on next k n z item shut a fit at in
+      on_then edges [] edges refl a (slice_index p.at z.0) to 4 4 one
+      (arrive z edges (hopped one.other (slice_index p.at z.0) one.memory) next to
+      (arrived [] a (slice_index p.at z.0) 4 fit (h.laid.aligned z.0).1 one) refl leads)
+
+  pub jump_then : (k n : ℕ) (z : PieceNo) → PieceFrom l k n (it.Jump z ∷ []) → (edges : List ℕ) (a : State)
+      (next : Option ℕ) (to : ℕ) → IsFit a → a.pc ≡ place k n → LeadsTo l p z edges next to → FollowsRoute next edges a to 8
+  jump_then k n z r = jump_along k n z (rw add-zero at (r.items 0)) (rw add-zero at (r.shut 0))
+
+  -- ---- from item 3 of a piece on
+
+  -- where of fewer ways it is asked what they store, and the bound is no lower
+  unfoldable pub eased : {next after : Option ℕ} (edges : List ℕ) (a : State) (to few most : ℕ)
+      → (after ≢ None → next ≢ None) → few ≤ most → FollowsRoute next edges a to few → FollowsRoute after edges a to most
+  eased edges a to few most asked less one =
+      record {
+        count = one.count;
+        other = one.other;
+        memory = one.memory;
+        few = omega (arith, less, one.few);
+        path = one.path;
+        silent = one.silent;
+        stores = one.stores;
+        waits = one.waits;
+        found = λ there. one.found (asked there);
+        cells = one.cells;
+        begins = one.begins;
+        alike = one.alike;
+        still = one.still;
+        spares = λ there. one.spares (asked there);
+        leaves_first = λ there. one.leaves_first (asked there);
+        brief = λ there forms. let brief = one.brief (asked there) forms in omega (arith, less, brief);
+      }
+
+  abbrev pub weaker_route : {next : Option ℕ} (edges : List ℕ) (a : State) (to few most : ℕ) → few ≤ most
+      → FollowsRoute next edges a to few → FollowsRoute next edges a to most
+  weaker_route edges a to few most less one = eased edges a to few most (λ there. there) less one
+
+  -- whatever comes next
+  abbrev pub unwatched : (next : Option ℕ) (edges : List ℕ) (a : State) (to most : ℕ) → FollowsRoute next edges a to most
+      → FollowsRoute None edges a to most
+  unwatched next edges a to most one = eased edges a to most most (λ there. absurd (there refl)) (omega arith) one
+
+  -- Where no edge is completed, and the original goes on at a word of the text, the way has no step.
+  abbrev pub Tail : Option ℕ → List ℕ → State → ℕ → ℕ → Type 0
+  Tail next edges a to most = (w : FollowsRoute next edges a to most) × (next ≢ None → edges ≡ [] → w.count ≡ 0)
+
+  pub weaker_tail : {next : Option ℕ} (edges : List ℕ) (a : State) (to few most : ℕ) → few ≤ most
+      → Tail next edges a to few → Tail next edges a to most
+  unfolding eased
+  weaker_tail edges a to few most less one = (weaker_route edges a to few most less one.0, one.1)
+
+  pub tail : (k : ℕ) (rest : List Item) (address : _) (number : ℕ) (y : Item)
+      → slice_get l.list k ≡ Some (it.Mark address number ∷ y ∷ it.EndMark ∷ rest) → (edges : List ℕ) (a : State)
+      (next : Option ℕ) (to : ℕ) → IsFit a → a.pc ≡ place k 3 → LeadsOn l p place k 3 edges next to
+      → Tail next edges a to 8
+  tail k rest address number y is edges a next to fit at leads = by leads
+    where
+      some_rest : (xs : List Item) → rest_from l k 3 ≡ Some xs → rest ≡ xs
+      some_rest xs e = let q : Some rest ≡ Some xs = sym (ap (option_map (drop 3)) is) ∙ e in cc
+
+      with_rest : (xs : List Item) → AreUnmarked xs → rest_from l k 3 ≡ Some xs → PieceFrom l k 3 xs
+      with_rest xs are e = rest_marked l k address number y xs are (is ∙ rw (some_rest xs e))
+
+      by : LeadsOn l p place k 3 edges next to → Tail next edges a to 8
+      by (inl (e, stands)) =
+          let r = with_rest (words_on l edges ++ []) (words_unmarked (flat_map l.codes edges) [] tt)
+          (rw (append-nil (words_on l edges)) e) in
+          let one = snippets_run next edges k 3 [] r a fit at in
+          rw (← stands) (weaker_tail edges a _ 0 8 (omega arith)
+          (one, λ there none. omega (arith, one.few, ap (operations_on g.snips) none)))
+      by (inr (inl j)) =
+          let r = with_rest (words_on l j.first ++ it.Jump j.piece ∷ []) (jump_unmarked j.first j.piece) j.rest in (
+            rw j.all (snippets_then next j.first k 3 (it.Jump j.piece ∷ []) r a fit at j.others to 8 (λ b fit2 there r2.
+                jump_then k _ j.piece r2 j.others b next to fit2 there j.leads)),
+            λ there none. absurd (j.some none),
+          )
+      by (inr (inr (out, far, e))) =
+          let r = with_rest (words_on l edges ++ long_jump_piece to)
+          (words_unmarked (flat_map l.codes edges) (long_jump_piece to) (far_unmarked to)) e in (
+            for_all edges a to 8 (snippets_then next edges k 3 (long_jump_piece to) r a fit at [] to 8 (λ b fit2 there r2.
+                weaker_route [] b to 4 8 (omega arith) (far_on next out k _ to far r2 b fit2 there))),
+            λ there none. absurd (there out),
+          )

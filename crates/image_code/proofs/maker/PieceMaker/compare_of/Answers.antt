@@ -1,0 +1,12 @@
+use Rattle.std.proofs.Common.{◌==◌, List, ℕ, ap, ◌∙◌}
+use Rattle.std.specs.Prelude.{slice_index}
+use Rattle.cfg_normal.specs.Opens.{Open}
+use Rattle.image_code.proofs.Found.{first_found}
+use Rattle.image_code.proofs.maker.PieceMaker.compare_of.Goals as goal
+
+pub returns : goal.returns
+returns c =
+    let maker = c.args.self.now in
+    first_found maker.found (λ (o : Open). o.switch.compare.0 == c.args.block.0) maker.graph.now.opens c.first_at.result _
+    c.first_at.ensures (λ found. ap (λ (table : List ℕ). slice_index table c.args.block.0) c.deref.ensures.value
+    ∙ found.lookups.compares.each c.args.block.0 c.requires.block)

@@ -1,0 +1,9 @@
+use Rattle.std.proofs.Common.{◌≡◌, map}
+use Rattle.eel_base.specs.declared.numbers.PieceNo.{PieceNo}
+use Rattle.cfg_blocks.specs.Blocks.{below}
+use Rattle.image_code.specs.Made.{lands_at}
+use Rattle.image_code.proofs.maker.PieceMaker.landings.Given as goal
+
+abbrev pub invariant-loop-word : goal.invariant-loop-word
+invariant-loop-word l =
+    map (λ (n : PieceNo). n.0) l.landings.items ≡ map (lands_at l.self.text.now l.self.graph.now l.snips) (below l.word)

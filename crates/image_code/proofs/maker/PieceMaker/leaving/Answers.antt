@@ -1,0 +1,10 @@
+use Rattle.std.specs.Coded.{Coded-set, coded_list, coded_ℕ}
+use Rattle.std.proofs.Math.Logic.{∥∥₁_elim}
+use Rattle.image_code.proofs.EdgeTables.{leaving_is}
+use Rattle.image_code.proofs.maker.PieceMaker.leaving.Goals as goal
+
+pub returns : goal.returns
+returns c =
+    ∥∥₁_elim c.args.self.now.found (Coded-set (coded_list coded_ℕ) _ _) (λ found.
+    leaving_is c.args.self.now.graph.now found.source.is_graph c.args.self.now.lookups.now.edges.items found.lookups.edges
+    c.args.node c.requires.node c.edge_at.result c.args.kind c.requires.kind c.edge_at.ensures)

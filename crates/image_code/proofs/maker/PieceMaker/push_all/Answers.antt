@@ -1,0 +1,20 @@
+use Rattle.std.proofs.Common.{append_assoc, append-nil}
+use Rattle.image_code.specs.Made.{piece_list}
+use Rattle.image_code.proofs.maker.PieceMaker.push_all.Goals as goal
+
+pub returns-clause-list : goal.returns-clause-list
+unfolding piece_list
+returns-clause-list c =
+    rw (
+      c.in_ok-push.ensures.items,
+      c.in_ok-way_to.ensures,
+      c.foreign_code.ensures.words,
+      c.in_ok-cases.ensures.list,
+      c.in_ok-push_opens.ensures,
+      c.in_ok-push_landings.ensures,
+      c.in_ok-push_ways.ensures,
+      c.in_ok-push_images.ensures,
+      c.requires.empty,
+      c.args.self.now.behind,
+    )
+    (simp (append_assoc, append-nil))

@@ -1,0 +1,41 @@
+use Rattle.std.proofs.Common.{◌++◌, List, map, Some, ap, sym, ◌∙◌}
+use Rattle.std.proofs.lemmas.Option.{slice_get-get_or}
+use Rattle.eel_base.specs.declared.numbers.PieceNo.{PieceNo}
+use Rattle.cfg_normal.specs.Opens.{Open}
+use Rattle.layout.specs.declared.items.Item.{Item}
+use Rattle.image_code.specs.Made.{cases_from}
+use Rattle.image_code.specs.Numbered.{case_piece}
+use Rattle.image_code.specs.Private.{code_at}
+use Rattle.image_code.proofs.CasePieces.{numbers_pushed}
+use Rattle.image_code.proofs.Pushed.{pushed_all}
+use Rattle.image_code.proofs.maker.PieceMaker.push_cases.Goals as goal
+
+pub loop-number-preserved : goal.loop-number-preserved
+loop-number-preserved c =
+    let maker = c.args.self.now in
+    let text = maker.text.now in
+    let graph = maker.graph.now in
+    let opens = c.opens-found-items.result.now in
+    let n = c.loop-number.number in
+    let cases : Open → List (List Item) =
+    λ (o : Open). cases_from text graph maker.table.0 (code_at maker.codes.now) o 0 o.targets in
+    record {
+      list = pushed_all cases opens n c.found-item.result c.args.list.now.items c.loop-number.list.items
+          c.push_cases_of.new.list.items c.loop-number-test.true
+          (c.in_ok-push_cases_of.ensures.list
+          ∙ ap (λ (o : Open). c.loop-number.list.items ++ cases o) c.found-item.is)
+          c.loop-number.invariant.list;
+      numbers = numbers_pushed text graph opens n c.found-item.result c.loop-number.numbers.items
+          c.push_cases_of.new.numbers.items c.loop-number-test.true
+          (c.in_ok-push_cases_of.ensures.numbers
+          ∙ ap (λ (o : Open). map (λ (n : PieceNo). n.0) c.loop-number.numbers.items
+          ++ map (case_piece text graph n o) o.targets) c.found-item.is)
+          c.loop-number.invariant.numbers;
+    }
+
+pub push_cases_of-requires : goal.push_cases_of-requires
+push_cases_of-requires c = record {
+  found = rw (← c.opens-found-items.ensures)
+      (slice_get-get_or c.opens-found-items.result.now c.loop-number.number c.found-item.result c.loop-number-test.true
+      ∙ ap (λ (o : Open). Some o) (sym c.found-item.is));
+}

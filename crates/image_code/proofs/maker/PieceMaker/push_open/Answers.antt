@@ -1,0 +1,87 @@
+use Rattle.std.proofs.Common.{◌≡◌, ap, arith}
+use Rattle.std.specs.Prelude.{slice_index}
+use Rattle.std.specs.Coded.{le_prop}
+use Rattle.std.proofs.Math.Logic.{∥∥₁_elim}
+use Rattle.cfg_blocks.specs.declared.switches.Switch.{Switch}
+use Rattle.cfg_blocks.specs.Blocks.{size_of}
+use Rattle.cfg_walk.proofs.Holding.{some_words}
+use Rattle.image_code.specs.Loads.{load_of}
+use Rattle.image_code.specs.Private.{code_at}
+use Rattle.image_code.proofs.Found.{found_stands}
+use Rattle.image_code.proofs.NumberTables.{load_within}
+use Rattle.image_code.proofs.OpenPieces.{open_added}
+use Rattle.image_code.proofs.Sources.{open_stands}
+use Rattle.image_code.proofs.maker.PieceMaker.push_open.Goals as goal
+
+pub first-from-requires : goal.first-from-requires
+first-from-requires c =
+    rw c.switch.ensures
+    (found_stands c.args.self.now.found le_prop c.args.number c.args.found.now c.requires.found (λ stands. stands.from))
+
+pub words-count-requires : goal.words-count-requires
+words-count-requires c =
+    rw c.switch.ensures
+    (found_stands c.args.self.now.found le_prop c.args.number c.args.found.now c.requires.found (λ stands. stands.from))
+
+pub push_images_at-requires-clause-node : goal.push_images_at-requires-clause-node
+push_images_at-requires-clause-node c =
+    rw c.switch.ensures
+    (found_stands c.args.self.now.found le_prop c.args.number c.args.found.now c.requires.found (λ stands. stands.from))
+
+pub push_images_at-requires-clause-words : goal.push_images_at-requires-clause-words
+push_images_at-requires-clause-words c =
+    ∥∥₁_elim c.args.self.now.found le_prop (λ found. omega (
+      arith,
+      c.first-from.ensures.first,
+      c.words-count.ensures.within,
+      found.source.words,
+    ))
+
+pub push_block-requires-clause-block : goal.push_block-requires-clause-block
+push_block-requires-clause-block c =
+    rw c.block.ensures
+    (found_stands c.args.self.now.found le_prop c.args.number c.args.found.now c.requires.found (λ stands. stands.block))
+
+pub push_block-requires-clause-above : goal.push_block-requires-clause-above
+push_block-requires-clause-above c =
+    let text = c.args.self.now.text.now in
+    let blocks = c.args.self.now.graph.now.blocks in
+    let o = c.args.found.now in
+    found_stands c.args.self.now.found le_prop c.args.number o c.requires.found (λ stands.
+    let h = load_within text blocks o stands in
+    let same : c.load-load.result ≡ load_of text o = c.load-load.ensures o c.requires.found in
+    let at : slice_index blocks.firsts c.block.result.0 ≡ slice_index blocks.firsts o.block =
+    ap (slice_index blocks.firsts) c.block.ensures in
+    omega (arith, h.0, same, at))
+
+pub push_block-requires-clause-below : goal.push_block-requires-clause-below
+push_block-requires-clause-below c =
+    let text = c.args.self.now.text.now in
+    let graph = c.args.self.now.graph.now in
+    let blocks = graph.blocks in
+    let o = c.args.found.now in
+    ∥∥₁_elim c.args.self.now.found le_prop (λ found.
+    let stands = open_stands text graph found.source c.args.number o c.requires.found in
+    let h = load_within text blocks o stands in
+    let same : c.load-load.result ≡ load_of text o = c.load-load.ensures o c.requires.found in
+    let at : slice_index blocks.firsts c.block.result.0 ≡ slice_index blocks.firsts o.block =
+    ap (slice_index blocks.firsts) c.block.ensures in
+    let many : size_of blocks c.block.result.0 ≡ size_of blocks o.block = ap (size_of blocks) c.block.ensures in
+    omega (
+      arith,
+      h.1,
+      same,
+      at,
+      many,
+      some_words blocks.words blocks.firsts found.source.is_graph.firsts o.block stands.block,
+    ))
+
+pub returns : goal.returns
+returns c =
+    let maker = c.args.self.now in
+    open_added maker.text.now maker.graph.now maker.table.0 maker.cases.0 (code_at maker.codes.now)
+    c.args.list.now.items c.args.found.now maker.jumps.0 c.first-from.result.0 c.words-count.result
+    c.block.result.0 c.load-load.result c.switch.result.compare c.push_images_at.new.list.items
+    c.push_block.new.list.items maker.behind (ap (λ (s : Switch). s.compare) c.switch.ensures)
+    c.first-from.ensures.first c.words-count.ensures.size c.block.ensures
+    (c.load-load.ensures c.args.found.now c.requires.found) c.in_ok-push_images_at.ensures c.in_ok-push_block.ensures
