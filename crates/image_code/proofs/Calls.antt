@@ -22,7 +22,7 @@ call_acts x disp t none = ap (λ (z : Slot). unless_couple z (at_point x t) (cal
 
 module _ (site : Site) (h : Placed site) (node : Node) (x : Point) (t : State) (here : AtVisitIn site node x t)
     (c : IsCall site node x t) where
-  open site use {g, l, base, p, place, f}
+  open site use {g, l, base, p, place}
 
   does_is : does_at g x t ≡ called x c.disp t
   does_is = ap (on_word (at_point x t)) c.is_word ∙ ap (act (at_point x t)) c.says ∙ call_acts x c.disp t c.none
@@ -81,5 +81,5 @@ module _ (site : Site) (h : Placed site) (node : Node) (x : Point) (t : State) (
   pub calls_step : StepsFrom site node x t
   calls_step =
       let is = does_is in
-      rw is (steps (gone_at g node x (called x c.disp t)) (gone_last g l f h.cells node x (called x c.disp t))
+      rw is (steps (gone_at g node x (called x c.disp t)) (gone_last site h node x (called x c.disp t))
       (rw is at c.leads) (rw is at c.never))

@@ -33,7 +33,7 @@ unfolding puts_by
 no_puts s cond annul disp descriptor = refl
 
 module _ (site : Site) (h : Placed site) where
-  open site use {g, l, base, p, place, f}
+  open site use {g, place}
 
   -- ---- words that are no transfers
 
@@ -67,7 +67,7 @@ module _ (site : Site) (h : Placed site) where
     -- its cells, where it judges no byte of the pages
     still : AllApart (pages_of g.notes) (judged_by t (decode_of c.word))
         → cells_in g.notes a ≡ cells_in g.notes t
-    still apart = cells_stay g l f h.frame h.cells t (decode_of c.word) apart here.memory.ours
+    still apart = cells_stay site h t (decode_of c.word) apart here.memory.ours
 
     -- the word is one step
     past : (edges : List ℕ) → AllApart (pages_of g.notes) (judged_by t (decode_of c.word))
@@ -125,11 +125,11 @@ module _ (site : Site) (h : Placed site) where
         let npc = there.next (omega arith) in
         let low = there.low in
         let onpc : a.npc ≡ a.pc + 4 = omega arith in
-        let has = images_stay g f h.frame base p t (decode_of c.word) one apart here.memory in
+        let has = images_stay site h t (decode_of c.word) one apart here.memory in
         enters_by site h node x t here next edges v a 1 last (record {
           past = past edges apart (inr alive);
           same = sym (ap (λ (z : State). hopped z 0 a.memory) same);
-          outside = λ n stores. rw (ap (λ (z : State). z.memory) same) at (same_stored g f h.frame base p a.memory n has stores);
+          outside = λ n stores. rw (ap (λ (z : State). z.memory) same) at (same_stored site h a.memory n has stores);
           has = has;
           live = alive;
           npc = onpc;
@@ -160,7 +160,7 @@ module _ (site : Site) (h : Placed site) where
             → (v.ending ≡ None → IsWatched (edit_in g) (gone_at g node x v) x v → next ≢ None)
             → ReachesNextIn site (gone_at g node x v) node x t v
         by None e onward watched =
-            goes next _ (gone_last g l f h.cells node x v) e (judged_moved g.notes x t (decode_of c.word) apart)
+            goes next _ (gone_last site h node x v) e (judged_moved g.notes x t (decode_of c.word) apart)
             (onward e) (watched e)
         by (Some d) e onward watched = ends d e (judged_moved g.notes x t (decode_of c.word) apart)
 

@@ -19,7 +19,7 @@ use Rattle.image_code.proofs.Sparing.{spill_first}
 
 module _ (site : Site) (h : Placed site) (node : Node) (x : Point) (t : State) (here : AtVisitIn site node x t)
     (c : IsConditionalBranch site node x t) where
-  open site use {g, l, base, p, place, f}
+  open site use {g, l, base, p, place}
 
   b_item : (n : ℕ) → item_at l.list c.piece n ≡ slice_get (it.Mark c.address (number_in g node)
       ∷ it.Branch c.cond c.taken ∷ it.EndMark ∷ it.Jump c.untaken ∷ []) n
@@ -76,7 +76,7 @@ module _ (site : Site) (h : Placed site) (node : Node) (x : Point) (t : State) (
       let n2 = b_inside.2 in
       on_range site h t u range live (omega arith) past (omega arith)
       (b_range t.pc (omega arith) (omega arith)) (b_range u.pc (omega arith) before) (sym b_at)
-      (cells_above g l f h.frame h.cells IsFirstWord first_above t.memory u.memory here.memory.ours stores)
+      (cells_above site h IsFirstWord first_above t.memory u.memory here.memory.ours stores)
 
   -- a short branch takes two words
   b_short : Forms site → place c.piece 2 ≤ t.pc + 4 * 2
@@ -95,7 +95,7 @@ module _ (site : Site) (h : Placed site) (node : Node) (x : Point) (t : State) (
       let same = (branch_moves g x t c.none c.word c.is_word c.cond c.annul c.disp c.says).is in
       let small : wrapped (mid + 4) ≡ mid + 4 = omega arith in
       moves_by site h node x t here edges (does_at g x t) (hopped t mid j.memory) j.count
-      (gone_last g l f h.cells node x (does_at g x t))
+      (gone_last site h node x (does_at g x t))
       (record {
         moves = record {
           word = c.word;

@@ -4,11 +4,11 @@ use Rattle.image_code.proofs.Common.{◌≡◌, ◌≢◌, ℕ, suc, ◌+◌, �
 use Rattle.v8_decode.specs.declared.Instr.TheVariants as i
 use Rattle.cfg_blocks.specs.declared.EdgeKind.TheVariants as kinds
 use Rattle.code_runs.proofs.PointsAlike.{no_puts as quiet_transfer}
-use Rattle.image_code.specs.Simulates.{IsFollowedBy, IsKept, IsOnWay, IsThere, EditSetup, at_point, gone_at, graph_in, word_of, edit_in}
+use Rattle.image_code.specs.Simulates.{IsFollowedBy, IsKept, IsOnWay, IsThere, at_point, gone_at, graph_in, word_of, edit_in}
 use Rattle.image_code.specs.Cost.{IsWatched, NoneIsOut, in_first_word, is_jmpl, is_spill, is_transfer_at}
 use Rattle.image_code.specs.Store.{cells_in, updates}
 use Rattle.image_code.proofs.Points.{ReachesNextIn, Forms, AtVisitIn, Placed, Site, entered_at}
-use Rattle.image_code.specs.Images.{EditorData, HasImages, HasNoCases, IsEditorData}
+use Rattle.image_code.specs.Images.{HasImages, HasNoCases}
 use Rattle.image_code.proofs.Routes.{FollowsRoute, IsFit, bare_on}
 use Rattle.image_code.proofs.Between.{can_run, ended_none, quiet_of, stores_weaker}
 use Rattle.image_code.proofs.Cells.{cells_above, page_above, updates_same}
@@ -17,16 +17,16 @@ use Rattle.image_code.proofs.Memories.{images_stored, same_stored}
 use Rattle.image_code.proofs.Sparing.{transfers}
 
 -- the page's words are the editor's
-page_own : (g : EditSetup) (f : EditorData) → IsEditorData g f → (z : ℕ) → IsPageWord z → IsAmongWords f.own z
-page_own g f framed z (inl e) = rw e (framed.page 0 (omega arith))
-page_own g f framed z (inr (inl e)) = rw e (framed.page 1 (omega arith))
-page_own g f framed z (inr (inr (inl e))) = rw e (framed.page 2 (omega arith))
-page_own g f framed z (inr (inr (inr (inl e)))) = rw e (framed.page 7 (omega arith))
-page_own g f framed z (inr (inr (inr (inr e)))) = absurd e
+page_own : (site : Site) → Placed site → (z : ℕ) → IsPageWord z → IsAmongWords site.f.own z
+page_own site h z (inl e) = rw e (h.frame.page 0 (omega arith))
+page_own site h z (inr (inl e)) = rw e (h.frame.page 1 (omega arith))
+page_own site h z (inr (inr (inl e))) = rw e (h.frame.page 2 (omega arith))
+page_own site h z (inr (inr (inr (inl e)))) = rw e (h.frame.page 7 (omega arith))
+page_own site h z (inr (inr (inr (inr e)))) = absurd e
 
-pub own_stored : (g : EditSetup) (f : EditorData) → IsEditorData g f → (m n : Memory) → Stores IsPageWord m n
-    → Stores (IsAmongWords f.own) m n
-own_stored g f framed m n stores = stores_weaker IsPageWord (IsAmongWords f.own) m n (page_own g f framed) stores
+pub own_stored : (site : Site) → Placed site → (m n : Memory) → Stores IsPageWord m n
+    → Stores (IsAmongWords site.f.own) m n
+own_stored site h m n stores = stores_weaker IsPageWord (IsAmongWords site.f.own) m n (page_own site h) stores
 
 -- what is no transfer is no JMPL
 no_jump : (o : Option Instr) → is_transfer_at o ≡ false → is_jmpl o ≡ false
@@ -43,7 +43,7 @@ puts_then s t k l steps silent descriptor =
     ∙ ap (λ z. run_puts s k descriptor ++ z) (silent descriptor) ∙ append-nil (run_puts s k descriptor)
 
 module _ (site : Site) (h : Placed site) (node : Node) (x : Point) (t : State) (here : AtVisitIn site node x t) where
-  open site use {g, l, base, p, place, f}
+  open site use {g, base, p, f}
 
   -- a state of a run that goes on is on the way from the visit
   abbrev pub OnWay : State → Type 0
@@ -137,7 +137,7 @@ module _ (site : Site) (h : Placed site) (node : Node) (x : Point) (t : State) (
             at = refl;
             npc = refl;
             slot = refl;
-            memory = images_stored g f h.frame base p mid _ rest.count rest.path.steps rest.stores w.has;
+            memory = images_stored site h mid _ rest.count rest.path.steps rest.stores w.has;
             waits = λ taken out caseless.
                 let z = w.waits taken out caseless in
                 (rest.waits ∙ z.0, z.1, λ there. let y = z.2 there in rest.found y.0 ∙ y.1);
@@ -244,7 +244,7 @@ module _ (site : Site) (h : Placed site) (node : Node) (x : Point) (t : State) (
     puts = λ descriptor. w.silent descriptor
         ∙ sym (ap (λ (o : Option ℕ). puts_on_word (at_point x t) o descriptor) w.is_word
         ∙ quiet_transfer (at_point x t) (decode_of w.word) descriptor w.transfer);
-    cells = cells_above g l f h.frame h.cells IsPageWord page_above t.memory mid.memory here.memory.ours w.stores;
+    cells = cells_above site h IsPageWord page_above t.memory mid.memory here.memory.ours w.stores;
     spares = w.spares;
     alone = moving w.word w.is_word w.transfer;
   }
@@ -265,13 +265,13 @@ module _ (site : Site) (h : Placed site) (node : Node) (x : Point) (t : State) (
       → ReachesNextIn site edges node x t v
   moves_by edges v mid count last w onward =
       let a = w.moves in
-      let own = own_stored g f h.frame t.memory mid.memory a.stores in
+      let own = own_stored site h t.memory mid.memory a.stores in
       enters_by (word_at g.text v.pc) edges v mid count last (record {
         past = moves_past edges v mid count a;
         same = w.same;
-        outside = λ n stores. rw w.memory (same_stored g f h.frame base p t.memory n here.memory
+        outside = λ n stores. rw w.memory (same_stored site h t.memory n here.memory
             (stores_then (IsAmongWords f.own) (IsAmongWords f.own) t.memory mid.memory n (λ z e. e) own stores));
-        has = images_stored g f h.frame base p t mid count a.path.steps own here.memory;
+        has = images_stored site h t mid count a.path.steps own here.memory;
         live = w.live;
         npc = w.npc;
         slot = w.slot;

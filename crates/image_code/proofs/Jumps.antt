@@ -161,8 +161,8 @@ module _ (site : Site) (h : Placed site) (node : Node) (x : Point) (t : State) (
           registers = valid.registers.count
               ∙ sym (ap (λ (z : State). length z.registers) same ∙ here.valid.registers.count);
           input = traps.input ∙ sym (ap (λ (z : State). z.input) same);
-          memory = rw memory_is (same_stored g f h.frame base p t.memory traps.after.memory here.memory
-              (own_stored g f h.frame t.memory traps.after.memory traps.stores));
+          memory = rw memory_is (same_stored site h t.memory traps.after.memory here.memory
+              (own_stored site h t.memory traps.after.memory traps.stores));
           items = λ live thing _ _. absurd (cc);
         };
         there = there.there traps.after (omega (arith, traps.pc)) (omega (arith, traps.pc, many));
@@ -173,7 +173,7 @@ module _ (site : Site) (h : Placed site) (node : Node) (x : Point) (t : State) (
       (entered_at site
       (node_after (graph_in g) node (gone_at g node x after_jump)) (point_of after_jump)))
       → ReachesNextIn site (gone_at g node x after_jump) node x t after_jump
-  steps None e leads = going (gone_at g node x after_jump) (gone_last g l f h.cells node x after_jump) e (leads e)
+  steps None e leads = going (gone_at g node x after_jump) (gone_last site h node x after_jump) e (leads e)
   steps (Some d) e leads = ends d e
 
   pub jumps_step : StepsFrom site node x t

@@ -96,7 +96,7 @@ keep_fits : (rs1 : ℕ) (op2 : Op2) → operands_in_range rs1 op2 ≡ true → o
 keep_fits rs1 op2 in_range fits = (refl, refl, (in_range, fits, (refl, refl, tt)))
 
 module _ (site : Site) (h : Placed site) (are : AreCaseTables site.g) where
-  open site use {g, l, base, p, place, f}
+  open site use {g, l, place, f}
 
   -- ---- where nothing is run between
 
@@ -243,7 +243,7 @@ module _ (site : Site) (h : Placed site) (are : AreCaseTables site.g) where
             registers = s.followed.registers;
             input = s.followed.input;
             memory = outside_trans (pages_of g.notes) v.memory s.after.memory m s.followed.memory
-                (same_stored g f h.frame base p s.after.memory m here.memory stored.0);
+                (same_stored site h s.after.memory m here.memory stored.0);
             items = λ running thing good kept.
                 same_past thing v s.after 3 m
                 (s.followed.items running thing good kept);
@@ -255,7 +255,7 @@ module _ (site : Site) (h : Placed site) (are : AreCaseTables site.g) where
             at = (let q : s.after.pc + 12 ≡ place c.piece 3 = omega (arith, begin, end) in q) ∙ c.behind;
             npc = (let q : s.after.pc + 12 + 4 ≡ wrapped (s.after.pc + 12 + 4) = omega (arith, begin, end, low) in q);
             slot = refl;
-            memory = images_stored g f h.frame base p s.after
+            memory = images_stored site h s.after
                 (after) 3
                 keeps.path.steps stored.0 here.memory;
             waits = λ taken _. let none = at.outside in absurd (cc);

@@ -44,11 +44,11 @@ module _ (site : Site) (h : Placed site) where
             there.bare u (omega (arith, at, q.past)) (omega (arith, at, q.before, many)))
             hops.path;
         silent = hops.silent;
-        stores = own_stored g f h.frame a.memory left hops.stores;
+        stores = own_stored site h a.memory left hops.stores;
         waits = other_word_stored a.memory (page_word 1) (page_word word) v
             (page_there site h a fit 1 (omega arith)) (inl (omega (arith, above)));
         found = λ there. absurd (there refl);
-        cells = λ _. cells_above g l f h.frame h.cells IsPageWord page_above a.memory left fit.has.ours hops.stores;
+        cells = λ _. cells_above site h IsPageWord page_above a.memory left fit.has.ours hops.stores;
         begins = λ _. there.bare a (omega (arith, at)) (omega (arith, at, many, some));
         alike = alike_itself g [] a;
         still = λ _. refl;

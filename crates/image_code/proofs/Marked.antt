@@ -66,7 +66,7 @@ pub record AtWords (site : Site) (node : Node) (x : Point) (t : State) (k count 
 
 module _ (site : Site) (h : Placed site) (node : Node) (x : Point) (t : State) (here : AtVisitIn site node x t)
     (behind : Addr → ℕ → List Item) (c : IsMarked site node x behind) (rest : List Item) where
-  open site use {g, l, base, p, place, f}
+  open site use {g, l, base, p, place}
 
   module _ (ws : List ℕ) (same : behind c.address c.word ≡ map it.Word ws ++ it.EndMark ∷ rest) where
     is : slice_get l.list c.piece
@@ -146,7 +146,7 @@ module _ (site : Site) (h : Placed site) (node : Node) (x : Point) (t : State) (
               let before = z.before in
               on_range site h t u range live (omega arith) past (omega arith) (in_range t.pc (omega arith) (omega arith))
               (in_range u.pc (omega arith) (omega arith)) (sym at)
-              (cells_above g l f h.frame h.cells IsPageWord page_above t.memory u.memory here.memory.ours z.stores);
+              (cells_above site h IsPageWord page_above t.memory u.memory here.memory.ours z.stores);
           there = λ u from below.
               there_in site h t u range (omega arith) (omega arith) (omega arith) (omega arith)
               (in_range t.pc (omega arith) (omega arith)) (in_range u.pc (omega arith) (omega arith));

@@ -1,5 +1,5 @@
 -- The memory of a written file keeps its code, the editor's words and the table.
-use Rattle.image_code.proofs.Common.{◌≡◌, ℕ, ◌+◌, ◌*◌, ◌≤◌, ◌⊎◌, inl, inr, false, List, [], ◌∷◌, length, refl, ap, sym, ◌∙◌, subst, arith, w32, Instr, Memory, code_of, fetch_from, AllApart, IsSameOutside, State, act, step_of, run, judged_by, pages_of, Stores, store_word, memory_word, IsAmongWords, words_stay, Placement, fetch_of, AllAt, store_all, HasWordAt}
+use Rattle.image_code.proofs.Common.{◌≡◌, ℕ, ◌+◌, ◌*◌, ◌≤◌, ◌⊎◌, inl, inr, false, List, [], ◌∷◌, length, refl, ap, sym, ◌∙◌, subst, arith, w32, Instr, Memory, code_of, fetch_from, AllApart, IsSameOutside, State, act, step_of, run, judged_by, pages_of, Stores, store_word, memory_word, IsAmongWords, words_stay, fetch_of, AllAt, store_all, HasWordAt}
 use Rattle.std.specs.Int.{to_be_bytes}
 use Rattle.v8_step.proofs.Executable.{code_of-run}
 use Rattle.code_runs.proofs.Ours.{ours_are_stored, ours_stay}
@@ -7,7 +7,8 @@ use Rattle.code_runs.proofs.Stays.{region_of_word, there_written}
 use Rattle.code_runs.proofs.StoredWords.{other_loaded}
 use Rattle.addr_translate.specs.Lookup.{TableAt}
 use Rattle.image_code.specs.Simulates.{EditSetup}
-use Rattle.image_code.specs.Images.{EditorData, HasImages, HasTable, IsEditorData, IsTableIn}
+use Rattle.image_code.specs.Images.{HasImages, HasTable, IsTableIn}
+use Rattle.image_code.proofs.Points.{Placed, Site}
 
 pub fetch_is : (m : Memory) (a : ℕ) → fetch_of m a ≡ fetch_from (code_of m) a
 unfolding fetch_of
@@ -55,37 +56,38 @@ module _ (g : EditSetup) (own : List ℕ) (table : TableAt) (framed : IsTableIn 
       let new = words_stay (pages_of g.notes) a false s x (framed.within a from to) apart old.0 in
       (new.0, new.1 ∙ old.1)
 
-module _ (g : EditSetup) (f : EditorData) (framed : IsEditorData g f) where
-  module _ (base : ℕ) (p : Placement) where
-    -- so many steps that stored the editor's words alone
-    pub images_stored : (t after : State) (count : ℕ) → run t count ≡ after
-        → Stores (IsAmongWords f.own) t.memory after.memory
-        → HasImages g base p f t.memory → HasImages g base p f after.memory
-    images_stored t after count steps stores has =
-        let same : code_of after.memory ≡ code_of t.memory =
-        ap (λ (z : State). code_of z.memory) (sym steps) ∙ code_of-run t count in
-        record {
-          code = λ n word at. ap (λ code. fetch_from code (base + 4 * n)) same ∙ has.code n word at;
-          only = λ a beside. ap (λ code. fetch_from code a) same ∙ has.only a beside;
-          ours = (ours_are_stored (pages_of g.notes) f.own t.memory after.memory has.ours stores).0;
-          table = table_stored g f.own f.halves framed.table t.memory after.memory stores has.table;
-          cases = table_stored g f.own f.cases framed.cases t.memory after.memory stores has.cases;
-        }
+module _ (site : Site) (h : Placed site) where
+  open site use {g, base, p, f}
 
-    pub same_stored : (m n : Memory) → HasImages g base p f m → Stores (IsAmongWords f.own) m n
-        → IsSameOutside (pages_of g.notes) m n
-    same_stored m n has stores = (ours_are_stored (pages_of g.notes) f.own m n has.ours stores).1
+  -- so many steps that stored the editor's words alone
+  pub images_stored : (t after : State) (count : ℕ) → run t count ≡ after
+      → Stores (IsAmongWords f.own) t.memory after.memory
+      → HasImages g base p f t.memory → HasImages g base p f after.memory
+  images_stored t after count steps stores has =
+      let same : code_of after.memory ≡ code_of t.memory =
+      ap (λ (z : State). code_of z.memory) (sym steps) ∙ code_of-run t count in
+      record {
+        code = λ n word at. ap (λ code. fetch_from code (base + 4 * n)) same ∙ has.code n word at;
+        only = λ a beside. ap (λ code. fetch_from code a) same ∙ has.only a beside;
+        ours = (ours_are_stored (pages_of g.notes) f.own t.memory after.memory has.ours stores).0;
+        table = table_stored g f.own f.halves h.frame.table t.memory after.memory stores has.table;
+        cases = table_stored g f.own f.cases h.frame.cases t.memory after.memory stores has.cases;
+      }
 
-    -- a step that judges no byte of the pages
-    pub images_stay : (t : State) (x : Instr) → step_of t ≡ act t x → AllApart (pages_of g.notes) (judged_by t x)
-        → HasImages g base p f t.memory → HasImages g base p f (act t x).memory
-    images_stay t x one apart has =
-        let same : code_of (act t x).memory ≡ code_of t.memory =
-        ap (λ (z : State). code_of z.memory) (sym one) ∙ code_of-run t 1 in
-        record {
-          code = λ n word at. ap (λ code. fetch_from code (base + 4 * n)) same ∙ has.code n word at;
-          only = λ a beside. ap (λ code. fetch_from code a) same ∙ has.only a beside;
-          ours = ours_stay (pages_of g.notes) f.own t x framed.own has.ours apart;
-          table = table_stays g f.own f.halves framed.table t x apart has.table;
-          cases = table_stays g f.own f.cases framed.cases t x apart has.cases;
-        }
+  pub same_stored : (m n : Memory) → HasImages g base p f m → Stores (IsAmongWords f.own) m n
+      → IsSameOutside (pages_of g.notes) m n
+  same_stored m n has stores = (ours_are_stored (pages_of g.notes) f.own m n has.ours stores).1
+
+  -- a step that judges no byte of the pages
+  pub images_stay : (t : State) (x : Instr) → step_of t ≡ act t x → AllApart (pages_of g.notes) (judged_by t x)
+      → HasImages g base p f t.memory → HasImages g base p f (act t x).memory
+  images_stay t x one apart has =
+      let same : code_of (act t x).memory ≡ code_of t.memory =
+      ap (λ (z : State). code_of z.memory) (sym one) ∙ code_of-run t 1 in
+      record {
+        code = λ n word at. ap (λ code. fetch_from code (base + 4 * n)) same ∙ has.code n word at;
+        only = λ a beside. ap (λ code. fetch_from code a) same ∙ has.only a beside;
+        ours = ours_stay (pages_of g.notes) f.own t x h.frame.own has.ours apart;
+        table = table_stays g f.own f.halves h.frame.table t x apart has.table;
+        cases = table_stays g f.own f.cases h.frame.cases t x apart has.cases;
+      }

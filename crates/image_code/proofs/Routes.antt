@@ -141,7 +141,7 @@ module _ (site : Site) (h : Placed site) where
       → run a count ≡ hopped b to m → Stores (IsAmongWords f.own) a.memory m → IsFit (hopped b to m)
   hopped_fit a b to k live low count m steps stores =
       let valid : IsValid (hopped b to m) = subst IsValid steps (run-valid a count k.valid) in
-      let has = images_stored g f h.frame base p a (hopped b to m) count steps stores k.has in
+      let has = images_stored site h a (hopped b to m) count steps stores k.has in
       record {
         valid = valid;
         has = has;
@@ -170,7 +170,7 @@ module _ (site : Site) (h : Placed site) where
     (
       word_kept IsFirstWord (page_word 1) (λ z e. inr (omega (arith, e))) a.memory m stores
           (page_there a fit 1 (omega arith)),
-      cells_above g l f h.frame h.cells IsFirstWord first_above a.memory m fit.has.ours stores,
+      cells_above site h IsFirstWord first_above a.memory m fit.has.ours stores,
     ),
   )
 
@@ -352,7 +352,7 @@ module _ (site : Site) (h : Placed site) where
         slot = fit.runs.slot;
         low = omega (arith, at, end, low);
         stand = subst (λ z. HasWords (code_of a.memory) z words) (sym at) there.words;
-        cell = λ cell named. cell_stored g l f h.frame h.cells a.memory fit.has.ours cell
+        cell = λ cell named. cell_stored site h a.memory fit.has.ours cell
             (h.cells.named edge cell named);
         page = λ i few. stores_there (kept_word i) a.memory (fit.has.ours.words (kept_word i) (h.frame.page (i + 2)
             (omega (arith, few))));
@@ -360,7 +360,7 @@ module _ (site : Site) (h : Placed site) where
       let past = h.cells.does edge (is_spill g.notes) (λ cell named.
       spill_cell g.notes cell (h.cells.named edge cell named)) a about in
       let again = h.cells.does edge in_first_word (λ cell named.
-      first_cell _ (cell_low g l f h.frame h.cells cell (h.cells.named edge cell named))) a about in
+      first_cell _ (cell_low site h cell (h.cells.named edge cell named))) a about in
       let same : again.steps ≡ past.steps =
       same_steps a again.steps past.steps (a.pc + 4 * length words) (rw again.path.steps again.pc)
       (rw past.path.steps past.pc) (λ j some less. (again.path.during j some less).before)
@@ -378,9 +378,9 @@ module _ (site : Site) (h : Placed site) where
             (leads_weaker _ IsInNoPlace a past.after past.steps
             (λ u q. there.bare u (omega (arith, at, q.past)) (omega (arith, at, q.before))) past.path);
         silent = past.silent;
-        stores = stores_weaker _ _ _ _ (may_own g l f h.frame h.cells edge) past.stores;
-        waits = word_kept _ _ (may_beside g l f h.frame h.cells edge) _ _ past.stores (page_there a fit 1 (omega arith));
-        found = λ _. word_kept _ _ (may_below g l f h.frame h.cells edge) _ _ past.stores (page_there a fit 7 (omega arith));
+        stores = stores_weaker _ _ _ _ (may_own site h edge) past.stores;
+        waits = word_kept _ _ (may_beside site h edge) _ _ past.stores (page_there a fit 1 (omega arith));
+        found = λ _. word_kept _ _ (may_below site h edge) _ _ past.stores (page_there a fit 7 (omega arith));
         cells = λ _. past.cells g.notes.cells (h.cells.named edge) h.cells.low;
         begins = λ some. there.bare a (omega (arith, at)) (omega (arith, at, some, few));
         alike = record {

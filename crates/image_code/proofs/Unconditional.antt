@@ -16,7 +16,7 @@ use Rattle.image_code.proofs.Branches.{nop_says}
 
 module _ (site : Site) (h : Placed site) (node : Node) (x : Point) (t : State) (here : AtVisitIn site node x t)
     (c : IsUnconditionalBranch site node x t) where
-  open site use {g, l, f}
+  open site use {g, l}
 
   there : AtWords site node x t c.piece 1 (nop_word ∷ [])
   there = at_words site h node x t here _ c.marked (it.Jump c.way ∷ []) (nop_word ∷ []) refl
@@ -50,7 +50,7 @@ module _ (site : Site) (h : Placed site) (node : Node) (x : Point) (t : State) (
       let low = there.low in
       let on : wrapped (t.npc + 4) ≡ t.npc + 4 = omega arith in
       moves_by site h node x t here edges (does_at g x t) mid 1
-      (gone_last g l f h.cells node x (does_at g x t))
+      (gone_last site h node x (does_at g x t))
       (record {
         moves = record {
           word = c.word;
