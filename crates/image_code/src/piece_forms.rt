@@ -14,8 +14,8 @@ ghost use Rattle.layout.specs.declared.items.Item.TheVariants as it;
 
 use eel_base::{Addr, NoMemory, PieceNo};
 use jump_code::{
-    choose_code, long_jump_code, look_up_code, resume_code, free_register, save_load_address_code, link_code,
-    other_register,
+    choose_code, free_register, link_code, long_jump_code, look_up_code, other_register,
+    resume_code, save_load_address_code,
 };
 use layout::{Item, Piece};
 use std::alloc::Global;
@@ -208,7 +208,11 @@ pub fn keep(alloc: Global, word: u32) -> Result<Piece, NoMemory>
     ensures { IfOk result (λ p. p ≡ save_by (decode_of word)) }
 {
     match decode(word) {
-        Instr::Load { rs1, op2, .. } => way_to(alloc, &save_load_address_code(rs1, op2), Next::Behind),
+        Instr::Load { rs1, op2, .. } => way_to(
+            alloc,
+            &save_load_address_code(rs1, op2),
+            Next::Behind,
+        ),
         _ => way_to(alloc, &[], Next::Behind),
     }
 }

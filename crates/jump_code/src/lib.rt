@@ -14,7 +14,7 @@ mod registers;
 mod single;
 mod switches;
 
-pub use code::{call_code, long_jump_code, look_up_code, foreign_code, resume_code, link_code};
+pub use code::{call_code, foreign_code, link_code, long_jump_code, look_up_code, resume_code};
 pub use registers::{free_register, other_register};
 pub use switches::{choose_code, save_load_address_code};
 
