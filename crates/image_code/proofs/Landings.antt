@@ -6,7 +6,7 @@ use Rattle.code_runs.specs.Hops.{Hops}
 use Rattle.jump_code.specs.Finding.{IsAboutToGoOn}
 use Rattle.jump_code.specs.Leaving.{IsAboutToLeave}
 use Rattle.jump_code.specs.PageWords.{found_there, waiting}
-use Rattle.jump_code.proofs.FindFollowing.{resumes}
+use Rattle.jump_code.proofs.FindFollowing.{resume_hops}
 use Rattle.jump_code.proofs.Leaving.{foreign_leaves}
 use Rattle.image_code.specs.Simulates.{at_point, does_at, gone_at, graph_in, number_in}
 use Rattle.image_code.specs.Cost.{NoneIsOut}
@@ -78,7 +78,7 @@ module _ (site : Site) (h : Placed site) where
       } in
       subst (λ z. FollowsRoute site h None [] a z 3) found
       (hops_out k n 3 (found_there a) (words_of (resume 1)) a fit there refl (omega arith) at 7
-      (register_of a 1) (omega arith) (resumes 1 a about))
+      (register_of a 1) (omega arith) (resume_hops 1 a about))
 
   -- ---- the foreign piece
 

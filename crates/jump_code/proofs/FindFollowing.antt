@@ -21,7 +21,7 @@ use Rattle.v8_step.proofs.ValidStates.{register_of-range}
 use Rattle.code_runs.proofs.TwoRegisters.{block_rules}
 use Rattle.addr_translate.specs.Lookup.{TableAt}
 use Rattle.addr_translate.specs.Halves.{found_in}
-use Rattle.jump_code.specs.Finding.{ComesFound, EndsFinding, LookUpSimulates, Resumes, IsAboutToFind, look_up, found_memory}
+use Rattle.jump_code.specs.Finding.{ComesFound, EndsFinding, LookUpSimulates, ResumeHops, IsAboutToFind, look_up, found_memory}
 use Rattle.jump_code.specs.Jumped.{jumped}
 use Rattle.jump_code.specs.Links.{past}
 use Rattle.jump_code.specs.PageWords.{IsPageWord, found_there}
@@ -74,8 +74,8 @@ pub look_up_simulates : LookUpSimulates
 look_up_simulates x y rd rs1 op2 address t s h =
     (going x y rd rs1 op2 address t s h, ending_alike x y rd rs1 op2 address t s h)
 
-pub resumes : Resumes
-resumes x s h =
+pub resume_hops : ResumeHops
+resume_hops x s h =
     let code = code_of s.memory in
     let o = another x in
     let g = register_of s x in

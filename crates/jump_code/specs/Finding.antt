@@ -154,7 +154,7 @@ pub record IsAboutToGoOn (x : ℕ) (s : State) : Type 0 where
   pub aligned : found_there s % 4 ≡ 0
 
 -- every register is as it was
-abbrev pub Resumes : Type 0
-Resumes =
+abbrev pub ResumeHops : Type 0
+ResumeHops =
     (x : ℕ) (s : State) → IsAboutToGoOn x s
     → Hops s (length (resume x)) IsPageWord (found_there s) (store_word s.memory (page_word 7) (register_of s x))

@@ -2,7 +2,7 @@
 #![tactic(auto)]
 
 ghost use Rattle.jump_code.specs.Choosing.{ChoicesHop, ChoicesSimulate};
-ghost use Rattle.jump_code.specs.Finding.{LooksUp, LookUpSimulates, Resumes};
+ghost use Rattle.jump_code.specs.Finding.{LooksUp, LookUpSimulates, ResumeHops};
 ghost use Rattle.jump_code.specs.Jumped.{CallsSimulate};
 ghost use Rattle.jump_code.specs.Keeping.{AddressesAreSaved};
 ghost use Rattle.jump_code.specs.Leaving.{FarGoes, ForeignLeaves};
@@ -30,8 +30,8 @@ pub fn look_up_simulates()
 {}
 
 /// Behind the copy of the delay slot, the machine goes on at what was looked up.
-pub fn resumes()
-    ensures { Resumes }
+pub fn resume_hops()
+    ensures { ResumeHops }
 {}
 
 /// The words of a CALL write the original's link.
