@@ -16,7 +16,7 @@ use Rattle.layout.specs.declared.items.Item.{Item}
 use Rattle.layout.specs.declared.items.Item.TheVariants as it
 use Rattle.layout.specs.Laid.{Ascend, IsLaid, IsRangeOf, Placement, Stands, BranchStands, branch_short, branch_long, item_at, item_in, items_in, range_in, range_of, open_in, end_from, is_end}
 use Rattle.jump_code.specs.Pieces.{foreign_piece}
-use Rattle.image_code.proofs.HeadShapes.{TakesWords}
+use Rattle.image_code.proofs.PointShapes.{TakesWords}
 use Rattle.image_code.specs.Made.{cases_from, images_in_order, landing, open_pieces, piece_list, ways_from}
 use Rattle.image_code.specs.Numbered.{edges_but_landings}
 use Rattle.image_code.specs.Graphs.{IsGraphOf}

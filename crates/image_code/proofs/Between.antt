@@ -7,7 +7,7 @@ use Rattle.image_code.specs.Simulates.{EditSetup, IsOnWay, IsThere, gone_at, gra
 use Rattle.image_code.specs.Store.{cells_in}
 use Rattle.image_code.specs.Images.{HasImages}
 use Rattle.image_code.proofs.Points.{Placed, Site}
-use Rattle.image_code.proofs.CaseShapes.{visits_it}
+use Rattle.image_code.proofs.PointShapes.{visits_it}
 
 -- ---- small things
 

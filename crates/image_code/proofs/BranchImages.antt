@@ -15,10 +15,8 @@ use Rattle.cfg_walk.proofs.Transfers.{taken_delayed, untaken_delayed}
 use Rattle.cfg_walk.proofs.Ways.{never_holds, not_always, not_never, taken_is_one, untaken_is_one}
 use Rattle.image_code.specs.Simulates.{at_point, does_at, gone_at, graph_in, number_in}
 use Rattle.image_code.proofs.Points.{entered_at}
-use Rattle.image_code.proofs.CaseShapes.{LeadsTo, next_entry, word_ahead, words_on}
+use Rattle.image_code.proofs.PointShapes.{LeadsTo, next_entry, word_ahead, words_on, IsCase, turn, idle, IsNoJumpsSlot}
 use Rattle.image_code.specs.Cases.{branch_piece, plain_piece}
-use Rattle.image_code.proofs.HeadShapes.{IsCase, turn, idle}
-use Rattle.image_code.proofs.ConditionalShapes.{IsNoJumpsSlot}
 use Rattle.image_code.specs.Numbered.{enter_number, image_number}
 use Rattle.image_code.specs.Made.{first_word, goes_on, jump_to, nop_word, way_out}
 use Rattle.image_code.proofs.EdgePieces.{along_far}

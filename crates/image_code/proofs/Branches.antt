@@ -5,7 +5,7 @@ use Rattle.cfg_blocks.specs.declared.EdgeKind.TheVariants as kinds
 use Rattle.layout.specs.declared.items.Item.TheVariants as it
 pub use Rattle.cfg_walk.proofs.Points.{within_some}
 use Rattle.image_code.specs.Cases.{plain_piece}
-use Rattle.image_code.proofs.HeadShapes.{TakesWords}
+use Rattle.image_code.proofs.PointShapes.{TakesWords}
 use Rattle.image_code.specs.Made.{couple_word, nop_word, image_by, rest_after}
 
 -- ---- words

@@ -4,10 +4,8 @@ use Rattle.v8_decode.specs.declared.Instr.TheVariants as i
 use Rattle.jump_code.specs.Links.{IsAboutToCall}
 use Rattle.jump_code.proofs.Linking.{calls_act, calls_store}
 use Rattle.image_code.specs.Simulates.{at_point, does_at, gone_at, graph_in, number_in}
-use Rattle.image_code.proofs.Points.{ReachesNextIn, AtVisitIn, Placed, Site, StepsFrom, entered_at}
-use Rattle.image_code.proofs.CaseShapes.{LeadsTo}
-use Rattle.image_code.proofs.ConditionalShapes.{IsNoJumpsSlot}
-use Rattle.image_code.proofs.CallShapes.{IsCall}
+use Rattle.image_code.proofs.Points.{ReachesNext, AtVisitIn, Placed, Site, StepsFrom, entered_at}
+use Rattle.image_code.proofs.PointShapes.{LeadsTo, IsNoJumpsSlot, IsCall}
 use Rattle.image_code.proofs.Dead.{LastDead, gone_last}
 use Rattle.image_code.proofs.Through.{ahead, goes_through}
 use Rattle.image_code.proofs.Marked.{AtWords}
@@ -51,7 +49,7 @@ module _ (site : Site) (h : Placed site) (node : Node) (x : Point) (t : State) (
   steps : (edges : List ℕ) → LastDead g edges
       → LeadsTo l p c.way edges (word_at g.text (called x c.disp t).pc)
       (entered_at site (node_after (graph_in g) node edges) (point_of (called x c.disp t)))
-      → IsNoJumpsSlot g (called x c.disp t) → ReachesNextIn site edges node x t (called x c.disp t)
+      → IsNoJumpsSlot g (called x c.disp t) → ReachesNext site edges node x t (called x c.disp t)
   steps edges last leads never =
       let acts = calls_act c.address.0 t about in
       let none = calls_store c.address.0 t about in

@@ -9,8 +9,8 @@ use Rattle.code_runs.proofs.Points.{acts_anywhere}
 use Rattle.image_code.specs.Simulates.{at_point, does_at, gone_at, graph_in, number_in, word_of, edit_in}
 use Rattle.image_code.specs.Cost.{IsWatched, in_first_word, is_spill}
 use Rattle.image_code.specs.Store.{cells_in}
-use Rattle.image_code.proofs.Points.{ReachesNextIn, AtVisitIn, Placed, Site, StepsFrom, entered_at}
-use Rattle.image_code.proofs.CaseShapes.{next_entry, visits_it, IsMarkedWord, IsPlain, word_ahead}
+use Rattle.image_code.proofs.Points.{ReachesNext, AtVisitIn, Placed, Site, StepsFrom, entered_at}
+use Rattle.image_code.proofs.PointShapes.{next_entry, visits_it, IsMarkedWord, IsPlain, word_ahead}
 use Rattle.image_code.proofs.Ended.{stops_act}
 use Rattle.image_code.proofs.Sparing.{uncounted}
 use Rattle.image_code.proofs.Memories.{fetch_is, images_stay, same_stored}
@@ -97,7 +97,7 @@ module _ (site : Site) (h : Placed site) where
             )
 
     ends : (d : Ending) → v.ending ≡ Some d
-        → AllApart (pages_of g.notes) (judged_by t (decode_of c.word)) → ReachesNextIn site (gone_at g node x v) node x t v
+        → AllApart (pages_of g.notes) (judged_by t (decode_of c.word)) → ReachesNext site (gone_at g node x v) node x t v
     ends d over apart =
         let stopped : a.ending ≡ Some d = ap (λ (z : State). z.ending) same ∙ over in
         let stays = stops_act t (decode_of c.word) c.straight here.live d stopped in
@@ -117,7 +117,7 @@ module _ (site : Site) (h : Placed site) where
         → AllApart (pages_of g.notes) (judged_by t (decode_of c.word))
         → (IsFit site h a → a.pc ≡ place c.piece 3 → Tail site h next edges a
         (entered_at site (node_after (graph_in g) node edges) (point_of v)) 24)
-        → (IsWatched (edit_in g) edges x v → next ≢ None) → ReachesNextIn site edges node x t v
+        → (IsWatched (edit_in g) edges x v → next ≢ None) → ReachesNext site edges node x t v
     goes next edges last live apart onward watched =
         let alive : a.ending ≡ None = ap (λ (z : State). z.ending) same ∙ live in
         let went = goes_act t (decode_of c.word) c.straight alive in
@@ -158,7 +158,7 @@ module _ (site : Site) (h : Placed site) where
             → (v.ending ≡ None → IsFit site h a → a.pc ≡ place c.piece 3 → Tail site h next (gone_at g node x v) a
             (entered_at site (node_after (graph_in g) node (gone_at g node x v)) (point_of v)) 24)
             → (v.ending ≡ None → IsWatched (edit_in g) (gone_at g node x v) x v → next ≢ None)
-            → ReachesNextIn site (gone_at g node x v) node x t v
+            → ReachesNext site (gone_at g node x v) node x t v
         by None e onward watched =
             goes next _ (gone_last site h node x v) e (judged_moved g.notes x t (decode_of c.word) apart)
             (onward e) (watched e)

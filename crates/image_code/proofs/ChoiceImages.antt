@@ -4,8 +4,7 @@ use Rattle.v8_decode.specs.declared.Instr.TheVariants as i
 use Rattle.cfg_blocks.specs.declared.EdgeKind.TheVariants as kinds
 use Rattle.jump_slice.proofs.About.{in_targets}
 use Rattle.jump_slice.proofs.CaseBlocks.{some_of}
-use Rattle.image_code.proofs.CaseShapes.{next_entry}
-use Rattle.image_code.proofs.ChoiceShapes.{IsSwitchJump}
+use Rattle.image_code.proofs.PointShapes.{next_entry, IsSwitchJump}
 use Rattle.image_code.specs.Choices.{switch_jump_piece}
 use Rattle.image_code.specs.Graphs.{case_table}
 use Rattle.image_code.proofs.Points.{entered_at}

@@ -5,8 +5,8 @@ use Rattle.jump_code.specs.Choosing.{ComesToCase, IsAboutToChoose, choose, chose
 use Rattle.jump_code.proofs.Choosing.{choices_simulate}
 use Rattle.image_code.specs.Simulates.{does_at, graph_in}
 use Rattle.image_code.specs.Cost.{is_jmpl}
-use Rattle.image_code.proofs.Points.{ReachesNextIn, AtVisitIn, Placed, Site, StepsFrom, entered_at}
-use Rattle.image_code.proofs.ChoiceShapes.{IsSwitchJump}
+use Rattle.image_code.proofs.Points.{ReachesNext, AtVisitIn, Placed, Site, StepsFrom, entered_at}
+use Rattle.image_code.proofs.PointShapes.{IsSwitchJump}
 use Rattle.image_code.proofs.Routes.{bare_here}
 use Rattle.image_code.proofs.EntersBy.{moves_by}
 use Rattle.image_code.proofs.Marked.{AtWords, at_instrs, link_few}
@@ -87,7 +87,7 @@ module _ (site : Site) (h : Placed site) (node : Node) (x : Point) (t : State) (
   target = loaded.1 ∙ c.has
 
   goes : entered_at site (node_after (graph_in g) node []) (point_of after_jump) ≡ chosen c.distance t
-      → ReachesNextIn site [] node x t after_jump
+      → ReachesNext site [] node x t after_jump
   goes arrives =
       let k = comes in
       let to = chosen c.distance t in

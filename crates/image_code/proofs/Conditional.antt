@@ -6,9 +6,8 @@ use Rattle.layout.specs.Running.{Goes}
 use Rattle.layout.proofs.Going.{branches_hop}
 use Rattle.image_code.specs.Simulates.{does_at, gone_at, number_in}
 use Rattle.image_code.specs.Cost.{in_first_word, is_spill}
-use Rattle.image_code.proofs.Points.{ReachesNextIn, Forms, AtVisitIn, Placed, Site, StepsFrom}
-use Rattle.image_code.proofs.CaseShapes.{LeadsTo, next_entry, word_ahead}
-use Rattle.image_code.proofs.ConditionalShapes.{IsConditionalBranch}
+use Rattle.image_code.proofs.Points.{ReachesNext, Forms, AtVisitIn, Placed, Site, StepsFrom}
+use Rattle.image_code.proofs.PointShapes.{LeadsTo, next_entry, word_ahead, IsConditionalBranch}
 use Rattle.image_code.proofs.Routes.{FollowsRoute, IsFit, arrive, jump_then, rest_marked, weaker_route}
 use Rattle.image_code.proofs.Between.{can_run, on_range, stores_weaker}
 use Rattle.image_code.proofs.BranchMoves.{branch_moves}
@@ -90,7 +89,7 @@ module _ (site : Site) (h : Placed site) (node : Node) (x : Point) (t : State) (
   -- wherever they lead
   turned : (mid : ℕ) (j : Goes t mid (place c.piece 2) 1 6 2) → mid ≤ 2 ^ 31 → (IsFit site h (hopped t mid j.memory)
       → FollowsRoute site h (word_ahead g x t) edges (hopped t mid j.memory) (next_entry site node x t) 8)
-      → ReachesNextIn site edges node x t (does_at g x t)
+      → ReachesNext site edges node x t (does_at g x t)
   turned mid j low onward =
       let same = (branch_moves g x t c.none c.word c.is_word c.cond c.annul c.disp c.says).is in
       let small : wrapped (mid + 4) ≡ mid + 4 = omega arith in
@@ -127,7 +126,7 @@ module _ (site : Site) (h : Placed site) (node : Node) (x : Point) (t : State) (
       → Goes t (if taken then slice_index p.at c.taken.0 else place c.piece 2) (place c.piece 2) 1 6 2
       → LeadsTo l p (if taken then c.taken else c.untaken) edges (word_ahead g x t)
       (next_entry site node x t)
-      → ReachesNextIn site edges node x t (does_at g x t)
+      → ReachesNext site edges node x t (does_at g x t)
   steps true j leads =
       turned (slice_index p.at c.taken.0) j (h.laid.aligned c.taken.0).1 (λ fit.
       weaker_route site h edges _ (next_entry site node x t) 4 8 (omega arith)

@@ -5,8 +5,8 @@ use Rattle.v8_step.specs.declared.Ending.TheVariants.{Couple}
 use Rattle.v8_step.specs.Transfers.{ended}
 use Rattle.layout.proofs.Going.{taken_acts}
 use Rattle.image_code.specs.Simulates.{IsOnWay, at_point, does_at, gone_at}
-use Rattle.image_code.proofs.Points.{ReachesNextIn, AtVisitIn, Placed, Site, StepsFrom}
-use Rattle.image_code.proofs.CoupleShapes.{IsCouple}
+use Rattle.image_code.proofs.Points.{ReachesNext, AtVisitIn, Placed, Site, StepsFrom}
+use Rattle.image_code.proofs.PointShapes.{IsCouple}
 use Rattle.image_code.proofs.Memories.{fetch_is}
 use Rattle.image_code.proofs.Marked.{AtWords, at_words}
 use Rattle.image_code.proofs.Cases.{no_puts}
@@ -87,7 +87,7 @@ module _ (site : Site) (h : Placed site) (node : Node) (x : Point) (t : State) (
       (no_stores counted mid (i.Branch 8 false (pos 2)) here.live
       (record { word = couple_word; fetched = fetched; decodes = couple_says }) refl)
 
-  steps : ReachesNextIn site
+  steps : ReachesNext site
       (gone_at g node x (ended (at_point x t) Couple)) node x t (ended (at_point x t) Couple)
   steps =
       let v : State = ended (at_point x t) Couple in

@@ -6,7 +6,7 @@ use Rattle.std.specs.Int.{cast_unsigned}
 use Rattle.cfg_walk.proofs.Edges.{number_of_list}
 use Rattle.cfg_walk.proofs.NoneOpen.{edge_lies_in}
 use Rattle.image_code.specs.Simulates.{EditSetup, graph_in}
-use Rattle.image_code.proofs.CaseShapes.{IsJumpTarget}
+use Rattle.image_code.proofs.PointShapes.{IsJumpTarget}
 use Rattle.image_code.specs.Made.{first_word, piece_list, way_by}
 use Rattle.image_code.specs.Numbered.{case_piece, place_in}
 use Rattle.image_code.proofs.CaseTables.{IsKnown}

@@ -7,7 +7,7 @@ use Rattle.code_runs.proofs.PointsAlike.{no_puts as quiet_transfer}
 use Rattle.image_code.specs.Simulates.{IsFollowedBy, IsKept, IsOnWay, IsThere, at_point, gone_at, graph_in, word_of, edit_in}
 use Rattle.image_code.specs.Cost.{IsWatched, NoneIsOut, in_first_word, is_jmpl, is_spill, is_transfer_at}
 use Rattle.image_code.specs.Store.{cells_in, updates}
-use Rattle.image_code.proofs.Points.{ReachesNextIn, Forms, AtVisitIn, Placed, Site, entered_at}
+use Rattle.image_code.proofs.Points.{ReachesNext, Forms, AtVisitIn, Placed, Site, entered_at}
 use Rattle.image_code.specs.Images.{HasImages, HasNoCases}
 use Rattle.image_code.proofs.Routes.{FollowsRoute, IsFit, bare_on}
 use Rattle.image_code.proofs.Between.{can_run, ended_none, quiet_of, stores_weaker}
@@ -98,7 +98,7 @@ module _ (site : Site) (h : Placed site) (node : Node) (x : Point) (t : State) (
       × (is_transfer_at (instr_at g.text x.pc) ≡ false → next ≢ None → edges ≡ [] → w.count ≡ 0)
 
   pub enters_by : (next : Option ℕ) (edges : List ℕ) (v mid : State) (count : ℕ) → LastDead g edges
-      → PastOn next edges v mid count → (IsFit site h mid → Behind next edges v mid) → ReachesNextIn site edges node x t v
+      → PastOn next edges v mid count → (IsFit site h mid → Behind next edges v mid) → ReachesNext site edges node x t v
   enters_by next edges v mid count last w onward =
       let a = w.past in
       let to = entered_at site (node_after (graph_in g) node edges) (point_of v) in
@@ -185,7 +185,7 @@ module _ (site : Site) (h : Placed site) (node : Node) (x : Point) (t : State) (
       followed_alike g [] v after after same (rw memory (outside_refl (pages_of g.notes) after.memory))
       (alike_itself g [] after)
 
-  pub ends_by : (v after : State) (last : ℕ) → PastOver v after last → ReachesNextIn site (gone_at g node x v) node x t v
+  pub ends_by : (v after : State) (last : ℕ) → PastOver v after last → ReachesNext site (gone_at g node x v) node x t v
   ends_by v after last w =
       let a = w.past in
       let over = w.over in
@@ -262,7 +262,7 @@ module _ (site : Site) (h : Placed site) (node : Node) (x : Point) (t : State) (
   pub moves_by : (edges : List ℕ) (v mid : State) (count : ℕ) → LastDead g edges → MovesOn edges v mid count
       → (IsFit site h mid → FollowsRoute site h (word_at g.text v.pc) edges mid
       (entered_at site (node_after (graph_in g) node edges) (point_of v)) 24)
-      → ReachesNextIn site edges node x t v
+      → ReachesNext site edges node x t v
   moves_by edges v mid count last w onward =
       let a = w.moves in
       let own = own_stored site h t.memory mid.memory a.stores in

@@ -8,10 +8,9 @@ use Rattle.image_code.specs.Simulates.{MatchesIn, graph_in, number_in}
 use Rattle.image_code.specs.Choices.{switch_jump_piece}
 use Rattle.image_code.specs.Images.{slot_piece}
 use Rattle.image_code.proofs.Points.{visited_at}
-use Rattle.image_code.proofs.HeadShapes.{IsHead, IsVisited, TakesWords, head, outside, beyond}
+use Rattle.image_code.proofs.PointShapes.{IsHead, IsVisited, TakesWords, head, outside, beyond, IsForeign, IsOff}
 use Rattle.image_code.specs.Made.{distance_of, first_word, image_by, jump_by, jump_image_by, jumps_at, slot_copy, way_by}
 use Rattle.image_code.specs.Numbered.{case_piece, first_entry}
-use Rattle.image_code.proofs.OutsideShapes.{IsForeign, IsOff}
 use Rattle.image_code.specs.Outside.{IsOffPages}
 use Rattle.image_code.proofs.Branches.{HeadOf}
 use Rattle.image_code.proofs.ImageNumbers.{jump_numbered}

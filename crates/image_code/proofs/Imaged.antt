@@ -6,9 +6,8 @@ use Rattle.layout.specs.Laid.{Stands, BranchStands, branch_short, branch_long, s
 use Rattle.image_code.specs.Simulates.{Simulates, at_point, number_in, word_of}
 use Rattle.code_runs.specs.PointsAlike.{instr_of}
 use Rattle.image_code.proofs.Points.{Forms, AtVisitIn, Placed, Site, StepsFrom}
-use Rattle.image_code.proofs.CaseShapes.{visits_it}
+use Rattle.image_code.proofs.PointShapes.{visits_it, TakesWords, IsCase, IsHead, IsImaged, plain, couple, turn, idle, call, jump, landing, choice, foreign, off, IsVisited, head, outside, beyond}
 use Rattle.image_code.specs.Outside.{IsOffPages}
-use Rattle.image_code.proofs.HeadShapes.{TakesWords, IsCase, IsHead, IsImaged, plain, couple, turn, idle, call, jump, landing, choice, foreign, off, IsVisited, head, outside, beyond}
 use Rattle.image_code.proofs.Between.{at_range}
 use Rattle.image_code.proofs.Cases.{plains_step}
 use Rattle.image_code.proofs.Calls.{calls_step}

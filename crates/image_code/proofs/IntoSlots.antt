@@ -4,8 +4,7 @@ use Rattle.cfg_blocks.specs.declared.EdgeKind.TheVariants as kinds
 use Rattle.cfg_walk.proofs.Points.{StepsTo}
 use Rattle.image_code.specs.Simulates.{gone_at, graph_in}
 use Rattle.image_code.proofs.Points.{entered_at}
-use Rattle.image_code.proofs.CaseShapes.{LeadsTo}
-use Rattle.image_code.proofs.ConditionalShapes.{IsNoJumpsSlot}
+use Rattle.image_code.proofs.PointShapes.{LeadsTo, IsNoJumpsSlot}
 use Rattle.image_code.specs.Made.{way_out}
 use Rattle.image_code.proofs.Visited.{AtWord, PlacedEdit, site, enters, l, nothing_gone, on_its_way}
 

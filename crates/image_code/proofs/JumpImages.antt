@@ -6,7 +6,7 @@ use Rattle.v8_step.specs.Transfers.{jump_step}
 use Rattle.cfg_walk.proofs.Transfers.{call_delayed}
 use Rattle.jump_code.specs.Pieces.{call_piece, look_up_piece}
 use Rattle.image_code.specs.Simulates.{at_point, does_at, graph_in, number_in}
-use Rattle.image_code.proofs.CallShapes.{IsCall, IsJump}
+use Rattle.image_code.proofs.PointShapes.{IsCall, IsJump}
 use Rattle.image_code.specs.Made.{jump_by, jump_image_by, jumps_at, way_out}
 use Rattle.image_code.specs.Numbered.{image_number}
 use Rattle.image_code.proofs.IntoSlots.{LeadsThere, entered, no_jump, stands}

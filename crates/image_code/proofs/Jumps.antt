@@ -6,9 +6,8 @@ use Rattle.jump_code.proofs.FindFollowing.{goes, look_up_simulates}
 use Rattle.jump_code.proofs.Jumping.{jump_stops}
 use Rattle.image_code.specs.Simulates.{does_at, gone_at, graph_in, number_in}
 use Rattle.image_code.specs.Cost.{is_jmpl}
-use Rattle.image_code.proofs.Points.{ReachesNextIn, AtVisitIn, Placed, Site, StepsFrom, entered_at}
-use Rattle.image_code.proofs.CaseShapes.{LeadsTo}
-use Rattle.image_code.proofs.CallShapes.{IsJump}
+use Rattle.image_code.proofs.Points.{ReachesNext, AtVisitIn, Placed, Site, StepsFrom, entered_at}
+use Rattle.image_code.proofs.PointShapes.{LeadsTo, IsJump}
 use Rattle.image_code.proofs.Memories.{same_stored}
 use Rattle.image_code.proofs.Dead.{LastDead, gone_last}
 use Rattle.image_code.proofs.EntersBy.{ends_by, moves_past, own_stored}
@@ -107,7 +106,7 @@ module _ (site : Site) (h : Placed site) (node : Node) (x : Point) (t : State) (
   going : (edges : List ℕ) → LastDead g edges → after_jump.ending ≡ None
       → LeadsTo l p c.way edges (word_at g.text after_jump.pc) (entered_at site (node_after (graph_in g) node edges)
       (point_of after_jump))
-      → ReachesNextIn site edges node x t after_jump
+      → ReachesNext site edges node x t after_jump
   going edges last live leads =
       let on = (look_up_simulates c.scratch c.second c.rd c.rs1 c.op2 c.address.0 f.halves t about).0 live in
       goes_through site h node x t here _ c.marked image c.way refl
@@ -132,7 +131,7 @@ module _ (site : Site) (h : Placed site) (node : Node) (x : Point) (t : State) (
         waits = λ _ _ _. (on.waits, aligned live, λ there. (there, on.found));
       }) leads
 
-  ends : (d : Ending) → after_jump.ending ≡ Some d → ReachesNextIn site (gone_at g node x after_jump) node x t after_jump
+  ends : (d : Ending) → after_jump.ending ≡ Some d → ReachesNext site (gone_at g node x after_jump) node x t after_jump
   ends d over =
       let end = (look_up_simulates c.scratch c.second c.rd c.rs1 c.op2 c.address.0 f.halves t about).1 d over in
       let traps = end.traps in
@@ -172,7 +171,7 @@ module _ (site : Site) (h : Placed site) (node : Node) (x : Point) (t : State) (
       → (after_jump.ending ≡ None → LeadsTo l p c.way (gone_at g node x after_jump) (word_at g.text after_jump.pc)
       (entered_at site
       (node_after (graph_in g) node (gone_at g node x after_jump)) (point_of after_jump)))
-      → ReachesNextIn site (gone_at g node x after_jump) node x t after_jump
+      → ReachesNext site (gone_at g node x after_jump) node x t after_jump
   steps None e leads = going (gone_at g node x after_jump) (gone_last site h node x after_jump) e (leads e)
   steps (Some d) e leads = ends d e
 

@@ -11,9 +11,9 @@ use Rattle.jump_code.proofs.Keeping.{addresses_are_saved}
 use Rattle.image_code.specs.Simulates.{CaseTable, IsAtWord, IsNoLoad, IsOnWay, EditSetup, Steps, StepsOn, at_point, does_at, gone_at, graph_in}
 use Rattle.image_code.specs.Cost.{limit_by, is_spill, is_transfer_at}
 use Rattle.image_code.specs.Store.{cells_in}
-use Rattle.image_code.proofs.Points.{AtEntryIn, ReachesNextIn, Forms, AtVisitIn, Placed, Site, StepsFrom, entered_at, visited_at}
+use Rattle.image_code.proofs.Points.{AtEntryIn, ReachesNext, Forms, AtVisitIn, Placed, Site, StepsFrom, entered_at, visited_at}
 use Rattle.image_code.specs.Keeping.{AreCaseTables}
-use Rattle.image_code.proofs.LoadShapes.{IsEntered, IsKeeping, at_once, keeping}
+use Rattle.image_code.proofs.PointShapes.{IsEntered, IsKeeping, at_once, keeping}
 use Rattle.image_code.proofs.Routes.{IsFit, PieceFrom, CodeAt, bare_on, first_kept, rest_whole, stood, stood_low}
 use Rattle.image_code.proofs.Between.{can_run}
 use Rattle.image_code.proofs.Memories.{images_stored, same_stored}
@@ -100,7 +100,7 @@ module _ (site : Site) (h : Placed site) (are : AreCaseTables site.g) where
 
   -- ---- where nothing is run between
 
-  stays_on : (node : Node) (x : Point) (t v : State) (edges : List ℕ) → (e : ReachesNextIn site edges node x t v)
+  stays_on : (node : Node) (x : Point) (t v : State) (edges : List ℕ) → (e : ReachesNext site edges node x t v)
       → (v.ending ≡ None → entered_at site (node_after (graph_in g) node edges) (point_of v)
       ≡ visited_at site (node_after (graph_in g) node edges) (point_of v))
       → StepsOn g (AtVisitIn site) (Forms site × IsNoLoad g v) 64 edges node x t v
@@ -129,7 +129,7 @@ module _ (site : Site) (h : Placed site) (are : AreCaseTables site.g) where
   -- ---- where an address is kept
 
   module _ (node : Node) (x : Point) (t v : State) (edges : List ℕ)
-      (e : ReachesNextIn site edges node x t v) (live : v.ending ≡ None) (k : ℕ) (o : CaseTable)
+      (e : ReachesNext site edges node x t v) (live : v.ending ≡ None) (k : ℕ) (o : CaseTable)
       (is : slice_get g.opens k ≡ Some o)
       (at : IsAtWord g o (node_after (graph_in g) node edges) (point_of v) o.load)
       (c : IsKeeping site (node_after (graph_in g) node edges) (point_of v) o) where

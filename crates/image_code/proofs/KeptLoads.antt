@@ -4,7 +4,7 @@ use Rattle.image_code.proofs.Common.{◌≡◌, ℕ, suc, ◌-◌, ◌<◌, Bool
 use Rattle.cfg_blocks.specs.Values.{instr_at}
 use Rattle.layout.specs.Laid.{is_jump, size_of}
 use Rattle.image_code.specs.Graphs.{case_table}
-use Rattle.image_code.proofs.LoadShapes.{IsEntered, at_once, keeping}
+use Rattle.image_code.proofs.PointShapes.{IsEntered, at_once, keeping}
 use Rattle.image_code.specs.Loads.{first_operand, load_of, second_operand}
 use Rattle.image_code.specs.Made.{save_by}
 use Rattle.image_code.specs.Numbered.{enter_number, image_number, jump_enter, jump_image, jump_number}

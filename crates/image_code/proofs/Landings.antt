@@ -12,8 +12,7 @@ use Rattle.image_code.specs.Simulates.{at_point, does_at, gone_at, graph_in, num
 use Rattle.image_code.specs.Cost.{NoneIsOut}
 use Rattle.image_code.specs.Store.{operations_on}
 use Rattle.image_code.proofs.Points.{AtVisitIn, Placed, Site, StepsFrom}
-use Rattle.image_code.proofs.CaseShapes.{LeadsTo, next_entry, words_on}
-use Rattle.image_code.proofs.LandingShapes.{IsJumpsSlot, Lands}
+use Rattle.image_code.proofs.PointShapes.{LeadsTo, next_entry, words_on, IsJumpsSlot, Lands}
 use Rattle.image_code.proofs.Routes.{FollowsRoute, IsInNoPlace, IsFit, PieceFrom, arrive, arrived, bare_here, eased, length_words, on_then, rest_behind, rest_marked, page_there, rest_whole, snippets_run, unwatched, CodeAt, stood, stood_low, weaker_route, words_unmarked}
 use Rattle.image_code.proofs.Cases.{judged_moved, marked_step}
 use Rattle.image_code.proofs.Cells.{cells_above, page_above}

@@ -40,7 +40,6 @@ pub mod BranchImages
 pub mod JumpImages
 pub mod Listed
 pub mod Made
-pub mod Numbers
 pub mod OpenSums
 pub mod OpenBlocks
 pub mod OpenNumbers
@@ -61,15 +60,5 @@ pub mod LoadWords
 pub mod JumpsBy
 pub mod Sources
 pub mod Found
-pub mod CallShapes
-pub mod CaseShapes
-pub mod ChoiceShapes
-pub mod CoupleShapes
-pub mod HeadShapes
-pub mod UnconditionalShapes
-pub mod LandingShapes
-pub mod LoadShapes
-pub mod OutsideShapes
 pub mod Points
-pub mod Promises
-pub mod ConditionalShapes
+pub mod PointShapes

@@ -3,7 +3,7 @@ use Rattle.image_code.proofs.Common.{◌≡◌, ◌≢◌, ℕ, Bool, true, fals
 use Rattle.v8_decode.specs.declared.Instr.TheVariants as i
 use Rattle.image_code.specs.Simulates.{Chooses, MatchesIn, does_at, graph_in}
 use Rattle.image_code.proofs.Points.{AtVisitIn}
-use Rattle.image_code.proofs.HeadShapes.{IsCase, call, choice, foreign, jump, off, plain}
+use Rattle.image_code.proofs.PointShapes.{IsCase, call, choice, foreign, jump, off, plain}
 use Rattle.image_code.specs.Made.{PiecesMakeImages}
 use Rattle.image_code.specs.Outside.{IsOffPages}
 use Rattle.image_code.proofs.BranchImages.{branch_case}

@@ -5,7 +5,7 @@ use Rattle.layout.specs.Laid.{OpenMark as Open, size_of, end_from}
 use Rattle.layout.proofs.Going.{word_is}
 use Rattle.image_code.specs.Simulates.{IsOnWay, IsThere, number_in}
 use Rattle.image_code.proofs.Points.{AtVisitIn, Placed, Site}
-use Rattle.image_code.proofs.CaseShapes.{IsMarked, visits_it}
+use Rattle.image_code.proofs.PointShapes.{IsMarked, visits_it}
 use Rattle.image_code.proofs.Between.{at_range, can_run, on_range, there_in}
 use Rattle.image_code.proofs.Cells.{cells_above, page_above}
 

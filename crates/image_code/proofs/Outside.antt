@@ -4,8 +4,7 @@ use Rattle.v8_step.specs.Traps.{instruction_access_exception}
 use Rattle.image_code.specs.Simulates.{at_point, does_at, number_in, word_of}
 use Rattle.image_code.proofs.Points.{AtVisitIn, Placed, Site, StepsFrom, visited_by}
 use Rattle.image_code.specs.Images.{IsBeside}
-use Rattle.image_code.proofs.CaseShapes.{visits_it}
-use Rattle.image_code.proofs.OutsideShapes.{IsForeign, IsOff}
+use Rattle.image_code.proofs.PointShapes.{visits_it, IsForeign, IsOff}
 use Rattle.image_code.proofs.Memories.{fetch_is}
 use Rattle.image_code.proofs.Sparing.{out_of_pages}
 use Rattle.image_code.proofs.Visited.{off_slot}

@@ -8,7 +8,7 @@ use Rattle.cfg_walk.proofs.Holding.{Leads, is_last}
 use Rattle.layout.specs.Laid.{is_jump, size_of}
 use Rattle.image_code.specs.Simulates.{at_point, does_at, gone_at, graph_in, number_in}
 use Rattle.image_code.proofs.Points.{entered_at}
-use Rattle.image_code.proofs.CaseShapes.{IsJumpTarget, IsPlain, JumpsOn, LeadsOn, words_on}
+use Rattle.image_code.proofs.PointShapes.{IsJumpTarget, IsPlain, JumpsOn, LeadsOn, words_on}
 use Rattle.image_code.specs.Cases.{plain_piece}
 use Rattle.image_code.specs.Made.{is_slots, jump_to, jumps_at, next_at, next_to}
 use Rattle.image_code.specs.Numbered.{enter_number, image_number, node_in_order}

@@ -1,9 +1,9 @@
--- Where machines stand at the visits of points.
-use Rattle.image_code.proofs.Common.{ℕ, Option, List, word_at, Node, Slot, State, Placement, Point}
+-- Where machines stand at the visits of points, and what a step from there promises.
+use Rattle.image_code.proofs.Common.{◌≡◌, ◌≢◌, ℕ, false, Option, None, List, [], word_at, Node, Slot, State, Placement, Point, saved_address, instr_at}
 use Rattle.layout.specs.Laid.{HasShortForms}
-use Rattle.image_code.specs.Simulates.{EditSetup, does_at, gone_at}
+use Rattle.image_code.specs.Cost.{is_transfer_at}
+use Rattle.image_code.specs.Simulates.{EditSetup, StepsOn, does_at, gone_at}
 use Rattle.image_code.specs.Images.{Pieces, EditorData, place_by, AtVisit, AtPointBy, IsPlaced}
-use Rattle.image_code.proofs.Promises.{ReachesNext}
 
 abbrev pub visited_by : EditSetup → Pieces → Placement → EditorData → Node → Point → Option ℕ → Slot → ℕ
 visited_by g l = place_by l.image g l
@@ -39,13 +39,16 @@ AtEntryIn site node x t = AtPointBy site.l.enter site.g site.l site.base site.p 
 abbrev pub Forms : Site → Type 0
 Forms site = HasShortForms site.l.list site.place
 
--- What one image does, up to where control enters the next one.
-abbrev pub ReachesNextIn : Site → List ℕ → Node → Point → State → State → Type 0
-ReachesNextIn site edges node x t v = ReachesNext site.g (AtEntryIn site) (Forms site) edges node x t v
+-- What one image does, up to where control enters the next one. Three steps are left, in which an address may be kept.
+-- Within a block word 0 of the page stays as it is.
+pub record ReachesNext (site : Site) (edges : List ℕ) (node : Node) (x : Point) (t v : State) : Type 0 where
+  pub on : StepsOn site.g (AtEntryIn site) (Forms site) 61 edges node x t v
+  pub first : v.ending ≡ None → edges ≡ [] → is_transfer_at (instr_at site.g.text x.pc) ≡ false
+      → word_at site.g.text v.pc ≢ None → saved_address on.after ≡ saved_address t
 
 -- where the original's step leads
 abbrev pub StepsFrom : Site → Node → Point → State → Type 0
-StepsFrom site node x t = let v = does_at site.g x t in ReachesNextIn site (gone_at site.g node x v) node x t v
+StepsFrom site node x t = let v = does_at site.g x t in ReachesNext site (gone_at site.g node x v) node x t v
 
 abbrev pub Placed : Site → Type 0
 Placed site = IsPlaced site.g site.l site.base site.p site.place site.f

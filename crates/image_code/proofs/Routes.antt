@@ -14,7 +14,7 @@ use Rattle.image_code.specs.Cost.{in_first_word, is_spill, spills_on}
 use Rattle.image_code.specs.Store.{cells_in, operations_on, snippet_on, updates}
 use Rattle.image_code.proofs.Points.{Forms, Placed, Site}
 use Rattle.image_code.specs.Images.{HasImages, Pieces}
-use Rattle.image_code.proofs.CaseShapes.{IsJumpTarget, LeadsTo, LeadsOn, rest_from, words_on}
+use Rattle.image_code.proofs.PointShapes.{IsJumpTarget, LeadsTo, LeadsOn, rest_from, words_on}
 use Rattle.image_code.proofs.Between.{can_run, item_below, item_size, on_none, stores_weaker}
 use Rattle.image_code.proofs.Cells.{cell_low, cells_above, cell_stored, first_above, may_below, may_beside, may_own, operations_then, updates_same, updates_then, word_kept}
 use Rattle.image_code.proofs.Dead.{IsAlike, LastDead, NothingDead, alike_itself, alike_then, last_first, last_others, last_parted, nothing_parted}

@@ -12,11 +12,9 @@ use Rattle.image_code.specs.Simulates.{EditSetup, at_point, does_at, gone_at, gr
 use Rattle.image_code.specs.Store.{operations_on}
 use Rattle.image_code.specs.Images.{HasNoCases}
 use Rattle.image_code.proofs.Points.{AtVisitIn, entered_at, visited_at}
-use Rattle.image_code.proofs.CaseShapes.{IsMarked, IsMarkedWord, IsJumpTarget, LeadsOn, words_on}
+use Rattle.image_code.proofs.PointShapes.{IsMarked, IsMarkedWord, IsJumpTarget, LeadsOn, words_on, Lands, IsCase, plain, couple, landing as jumps_slot}
 use Rattle.image_code.specs.Cases.{plain_piece}
 use Rattle.image_code.specs.Couple.{couple_piece}
-use Rattle.image_code.proofs.LandingShapes.{Lands}
-use Rattle.image_code.proofs.HeadShapes.{IsCase, plain, couple, landing as jumps_slot}
 use Rattle.image_code.specs.Made.{couple_word, first_word, goes_on, jump_to, goes_behind}
 use Rattle.image_code.specs.Numbered.{enter_number, foreign_number, landing_number}
 use Rattle.image_code.proofs.CaseTables.{IsKnown, table_of}

@@ -1,5 +1,5 @@
 -- What is known of a text, its graph and its open switches.
-use Rattle.image_code.proofs.Common.{◌≡◌, ℕ, ◌<◌, ◌≤◌, Bool, List, Some, refl, ap, sym, ◌∙◌, subst, arith, length, get_or, if◌then◌else◌, slice_get, slice_index, pos, Words, IsText, decoded_range, Blocks, blocks_of, size_of, entered_of, Open, Graph, IsCut, cut, some_words, IsOpenSwitch, opens_are, Contains, IsGraph, about}
+use Rattle.image_code.proofs.Common.{◌≡◌, ℕ, ◌<◌, ◌≤◌, Bool, List, Some, refl, ap, sym, ◌∙◌, subst, arith, length, get_or, if◌then◌else◌, slice_get, slice_index, pos, Words, IsText, decoded_range, Blocks, blocks_of, size_of, entered_of, Open, Graph, graph_of, IsCut, cut, some_words, IsOpenSwitch, opens_are, Contains, IsGraph, about}
 use Rattle.v8_decode.specs.declared.Op2.TheVariants as operand
 use Rattle.v8_decode.specs.Ranges.{is_in_range}
 use Rattle.cfg_blocks.specs.Switches.{runs_slot}
@@ -9,8 +9,15 @@ use Rattle.jump_slice.proofs.CaseBlocks.{open_in}
 use Rattle.jump_slice.proofs.Compared.{Compares, compare_at-is}
 use Rattle.image_code.specs.Graphs.{IsGraphOf, opens_in}
 use Rattle.image_code.specs.Lookups.{StandsInText, IsSource}
-use Rattle.image_code.proofs.Numbers.{words_are}
 use Rattle.image_code.proofs.Positions.{contains}
+
+module _ (text : Words) (graph : Graph) (h : IsGraphOf text graph) where
+  pub words_are : graph.blocks.words ≡ length text.words
+  unfolding blocks_of
+  words_are = ap (λ (g : Graph). g.blocks.words) h.is
+
+  pub graph_is : graph ≡ graph_of graph.blocks graph.opens
+  graph_is = subst (λ (g : Graph). g ≡ graph_of g.blocks g.opens) (sym h.is) refl
 
 slot_few : (t : Bool) → (if t then 1 else 0) ≤ 1
 slot_few t = grind arith

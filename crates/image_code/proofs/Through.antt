@@ -3,8 +3,8 @@ use Rattle.image_code.proofs.Common.{◌≡◌, ℕ, suc, Option, Some, None, Li
 use Rattle.layout.specs.declared.items.Item.TheVariants as it
 use Rattle.jump_code.specs.Pieces.{marked_piece}
 use Rattle.image_code.specs.Simulates.{number_in, graph_in}
-use Rattle.image_code.proofs.Points.{ReachesNextIn, AtVisitIn, Placed, Site, entered_at}
-use Rattle.image_code.proofs.CaseShapes.{IsMarked, LeadsTo}
+use Rattle.image_code.proofs.Points.{ReachesNext, AtVisitIn, Placed, Site, entered_at}
+use Rattle.image_code.proofs.PointShapes.{IsMarked, LeadsTo}
 use Rattle.image_code.proofs.Routes.{jump_along, weaker_route}
 use Rattle.image_code.proofs.Dead.{LastDead}
 use Rattle.image_code.proofs.EntersBy.{MovesOn, moves_by}
@@ -37,7 +37,7 @@ module _ (site : Site) (h : Placed site) (node : Node) (x : Point) (t : State) (
   pub goes_through : (v : State) (m : Memory) (edges : List ℕ) → LastDead g edges
       → MovesOn site h node x t here edges v (past t (length xs) m v) (length xs)
       → LeadsTo l p way edges (word_at g.text v.pc) (entered_at site (node_after (graph_in g) node edges) (point_of v))
-      → ReachesNextIn site edges node x t v
+      → ReachesNext site edges node x t v
   goes_through v m edges last w leads =
       let to = entered_at site (node_after (graph_in g) node edges) (point_of v) in
       moves_by site h node x t here edges v (past t (length xs) m v) (length xs) last w (λ fit.

@@ -3,8 +3,7 @@ use Rattle.image_code.proofs.Common.{◌≡◌, ℕ, ◌+◌, Bool, [], ◌∷�
 use Rattle.layout.specs.declared.items.Item.TheVariants as it
 use Rattle.image_code.specs.Simulates.{does_at, gone_at, number_in}
 use Rattle.image_code.proofs.Points.{AtVisitIn, Placed, Site, StepsFrom}
-use Rattle.image_code.proofs.CaseShapes.{next_entry, word_ahead}
-use Rattle.image_code.proofs.UnconditionalShapes.{IsUnconditionalBranch}
+use Rattle.image_code.proofs.PointShapes.{next_entry, word_ahead, IsUnconditionalBranch}
 use Rattle.image_code.proofs.Routes.{jump_then, rest_marked, weaker_route}
 use Rattle.image_code.proofs.BranchMoves.{branch_moves}
 use Rattle.image_code.proofs.Memories.{fetch_is}

@@ -11,7 +11,7 @@ use Rattle.addr_translate.specs.Lookup.{IsTable}
 use Rattle.image_code.specs.Simulates.{EditSetup, gone_at, graph_in, number_in, word_of}
 use Rattle.image_code.specs.Images.{EditorData, IsPlaced, Pieces, along_first, place_by, slot_piece}
 use Rattle.image_code.proofs.Points.{Site, entered_at, visited_at}
-use Rattle.image_code.proofs.CaseShapes.{IsJumpTarget, IsMarked, LeadsTo}
+use Rattle.image_code.proofs.PointShapes.{IsJumpTarget, IsMarked, LeadsTo}
 use Rattle.image_code.specs.Made.{AreCasesFor, IsOffNoted, IsTableFor, edit_pieces, first_way, first_word, image_by, jumps_at, way_by, way_out}
 use Rattle.image_code.specs.Numbered.{along_case, along_number, case_piece, enter_number, image_number, jump_number, way_piece}
 use Rattle.image_code.proofs.CaseTables.{IsKnown}

@@ -1,0 +1,331 @@
+-- The kinds of points, each with the piece that stands there, and where control goes on from it.
+use Rattle.image_code.proofs.Common.{◌≡◌, Some, ℕ, Option, ◌%◌, ◌^◌, ◌<◌, List, map, ◌⊎◌, [], ◌∷◌, ◌++◌, None, slice_get, slice_index, drop, ◌≢◌, ◌+◌, length, false, flat_map, option_map, word_at, PieceNo, Addr, decode_of, Node, State, is_transfer, Item, Point, point_of, node_after, Placement, long_jump_piece, node_at, visit_of, ◌-◌, true, Bool, if◌then◌else◌, ℤ, Taken, NoSlot, same_kind, instr_at, way_of, holds_of, Op2, op2_in_range, op2_fits, link, word_items, look_up, IsApart, ◌≤◌, Block, table_word, choice_at, switch_jump, found_in, foreign_piece, resume, X, NoteRange, range_at, save_load_address}
+use Rattle.v8_decode.specs.declared.Instr.TheVariants as i
+use Rattle.cfg_blocks.specs.declared.EdgeKind.TheVariants as kinds
+use Rattle.layout.specs.declared.items.Item.TheVariants as it
+use Rattle.image_code.specs.Simulates.{EditSetup, number_in, does_at, gone_at, graph_in, word_of, CaseTable, IsAtWord, Chooses, MatchesIn}
+use Rattle.image_code.proofs.Points.{Site, entered_at, visited_at, AtVisitIn}
+use Rattle.image_code.specs.Images.{Pieces, HasNoCases, IsBeside}
+use Rattle.image_code.specs.Made.{nop_word, couple_word}
+use Rattle.image_code.specs.Store.{operations_on}
+use Rattle.image_code.specs.Cost.{is_out}
+use Rattle.image_code.specs.Outside.{IsOffPages}
+use Rattle.image_code.specs.Keeping.{AreCaseTables}
+
+-- ---- where control goes on
+
+abbrev pub visits_it : EditSetup → Node → Point → State → Type 0
+visits_it g node x t = (visit_of g.notes t ≡ Some x.pc) × (node_at g.notes t.pc ≡ Some (number_in g node))
+
+-- where control enters the piece of the point to which the original goes on
+abbrev pub next_entry : Site → Node → Point → State → ℕ
+next_entry site node x t =
+    let v = does_at site.g x t in
+    entered_at site (node_after (graph_in site.g) node (gone_at site.g node x v)) (point_of v)
+
+-- and at which word of the text that goes on, if at any
+abbrev pub word_ahead : EditSetup → Point → State → Option ℕ
+word_ahead g x t = word_at g.text (does_at g x t).pc
+
+-- an address to which a long jump can lead
+abbrev pub IsJumpTarget : ℕ → Type 0
+IsJumpTarget to = (to < 2 ^ 32) × (to % 4 ≡ 0)
+
+-- the words of the snippets on some edges, in order
+abbrev pub words_on : Pieces → List ℕ → List Item
+words_on l edges = map it.Word (flat_map l.codes edges)
+
+-- Control that comes to a piece goes on to an address, through the snippets of some edges: the piece stands there, or
+-- what is behind the snippets' words is a Jump to a piece that does, or a long jump to the address itself, where the
+-- original goes on at no word of the text.
+abbrev pub LeadsTo : Pieces → Placement → PieceNo → List ℕ → Option ℕ → ℕ → Type 0
+LeadsTo l p piece edges next to =
+    ((edges ≡ []) × (slice_index p.at piece.0 ≡ to))
+    ⊎ (((z : PieceNo) × (slice_get l.list piece.0 ≡ Some (words_on l edges ++ it.Jump z ∷ []))
+    × (slice_index p.at z.0 ≡ to))
+    ⊎ ((next ≡ None) × IsJumpTarget to × (slice_get l.list piece.0 ≡ Some (words_on l edges ++ long_jump_piece to))))
+
+-- the rest of a piece from its item n on
+abbrev pub rest_from : Pieces → ℕ → ℕ → Option (List Item)
+rest_from l k n = option_map (drop n) (slice_get l.list k)
+
+-- A Jump behind the snippets of the first of some edges leads to a piece that goes on through those of the others.
+pub record JumpsOn (l : Pieces) (p : Placement) (k n : ℕ) (edges : List ℕ) (next : Option ℕ) (to : ℕ)
+    : Type 0 where
+  pub first : List ℕ
+  pub others : List ℕ
+  pub all : edges ≡ first ++ others
+  -- some edge is completed
+  pub some : edges ≢ []
+  pub piece : PieceNo
+  pub rest : rest_from l k n ≡ Some (words_on l first ++ it.Jump piece ∷ [])
+  pub leads : LeadsTo l p piece others next to
+
+-- From its item n on, a piece goes on to an address, through the snippets of some edges: it ends behind them and the
+-- next piece begins there, or a Jump leads on, or a long jump is all that is left, where the original goes on at no
+-- word of the text.
+abbrev pub LeadsOn : Pieces → Placement → (ℕ → ℕ → ℕ) → ℕ → ℕ → List ℕ → Option ℕ → ℕ → Type 0
+LeadsOn l p place k n edges next to =
+    ((rest_from l k n ≡ Some (words_on l edges)) × (place k (n + length (flat_map l.codes edges)) ≡ to))
+    ⊎ (JumpsOn l p k n edges next to
+    ⊎ ((next ≡ None) × IsJumpTarget to × (rest_from l k n ≡ Some (words_on l edges ++ long_jump_piece to))))
+
+-- a piece leads to where the original goes on
+abbrev pub LeadsNext : Site → PieceNo → Node → Point → State → Type 0
+LeadsNext site piece node x t =
+    LeadsTo site.l site.p piece (gone_at site.g node x (does_at site.g x t)) (word_ahead site.g x t)
+    (next_entry site node x t)
+
+-- ---- a word that is no transfer
+
+-- A point's piece begins with the Mark of its instruction. In it and behind it stand these items, by the address and the
+-- word that the original has there.
+pub record IsMarked (site : Site) (node : Node) (x : Point) (behind : Addr → ℕ → List Item) : Type 0 where
+  pub piece : ℕ
+  pub within : piece < length site.l.list
+  pub here : visited_at site node x ≡ slice_index site.p.at piece
+  pub address : Addr
+  pub original : address.0 ≡ x.pc
+  pub word : ℕ
+  pub is_word : word_of site.g.text x.pc ≡ Some word
+  pub items : slice_get site.l.list piece ≡ Some (it.Mark address (number_in site.g node) ∷ behind address word)
+
+-- the word itself, which is no transfer, in its Mark
+pub record IsMarkedWord (site : Site) (node : Node) (x : Point) (rest : List Item) : Type 0 where
+  pub marked : IsMarked site node x (λ _ word. it.Word word ∷ it.EndMark ∷ rest)
+  pub open marked use {piece, within, here, address, original, word, is_word, items}
+  pub straight : is_transfer (decode_of word) ≡ false
+
+pub record IsPlain (site : Site) (node : Node) (x : Point) (t : State) : Type 0 where
+  pub rest : List Item
+  pub marked : IsMarkedWord site node x rest
+  pub open marked use {marked.{piece, address, word, is_word, items}}
+  -- where the walk goes on, there the piece leads
+  pub leads : (does_at site.g x t).ending ≡ None
+      → LeadsOn site.l site.p site.place piece 3 (gone_at site.g node x (does_at site.g x t)) (word_ahead site.g x t)
+      (next_entry site node x t)
+
+-- ---- a conditional branch
+
+-- the machine doesn't come to a jump's slot
+abbrev pub IsNoJumpsSlot : EditSetup → State → Type 0
+IsNoJumpsSlot g v =
+    v.slot ≡ Taken → same_kind (way_of (instr_at g.text (v.pc - 4)) v.slot) kinds.Out ≡ true → ⊥
+
+pub record IsConditionalBranch (site : Site) (node : Node) (x : Point) (t : State) : Type 0 where
+  pub none : x.slot ≡ NoSlot
+  pub cond : ℕ
+  pub small : cond < 16
+  pub annul : Bool
+  pub disp : ℤ
+  pub taken : PieceNo
+  pub untaken : PieceNo
+  pub marked : IsMarked site node x (λ _ _. it.Branch cond taken ∷ it.EndMark ∷ it.Jump untaken ∷ [])
+  pub open marked use {piece, within, here, address, original, word, is_word, items}
+  pub says : decode_of word ≡ i.Branch cond annul disp
+  pub leads : LeadsNext site (if holds_of cond t.codes then taken else untaken) node x t
+  pub never : IsNoJumpsSlot site.g (does_at site.g x t)
+
+-- ---- a branch that goes one way
+
+pub record IsUnconditionalBranch (site : Site) (node : Node) (x : Point) (t : State) : Type 0 where
+  pub none : x.slot ≡ NoSlot
+  pub cond : ℕ
+  pub annul : Bool
+  pub disp : ℤ
+  pub way : PieceNo
+  pub marked : IsMarked site node x (λ _ _. it.Word nop_word ∷ it.EndMark ∷ it.Jump way ∷ [])
+  pub open marked use {piece, within, here, address, original, word, is_word, items}
+  pub says : decode_of word ≡ i.Branch cond annul disp
+  pub leads : LeadsNext site way node x t
+  pub never : IsNoJumpsSlot site.g (does_at site.g x t)
+
+-- ---- a CALL
+
+pub record IsCall (site : Site) (node : Node) (x : Point) (t : State) : Type 0 where
+  pub none : x.slot ≡ NoSlot
+  pub low : x.pc < 2 ^ 32
+  pub disp : ℤ
+  pub way : PieceNo
+  pub marked : IsMarked site node x (λ address _. word_items (link 15 address.0) ++ it.EndMark ∷ it.Jump way ∷ [])
+  pub open marked use {piece, within, here, address, original, word, is_word, items}
+  pub says : decode_of word ≡ i.Call disp
+  pub leads : LeadsNext site way node x t
+  pub never : IsNoJumpsSlot site.g (does_at site.g x t)
+
+-- ---- a JMPL, by a register that it doesn't name
+
+pub record IsJump (site : Site) (node : Node) (x : Point) (t : State) : Type 0 where
+  pub none : x.slot ≡ NoSlot
+  pub next : x.npc ≡ (x.pc + 4) % 2 ^ 32
+  pub low : x.pc < 2 ^ 32
+  pub rd : ℕ
+  pub rs1 : ℕ
+  pub op2 : Op2
+  pub scratch : ℕ
+  pub apart : IsApart scratch rd rs1 op2
+  pub second : ℕ
+  pub other : IsApart second rd rs1 op2
+  pub differ : scratch ≢ second
+  pub fits : op2_fits op2 ≡ true
+  pub in_range : op2_in_range op2 ≡ true
+  pub way : PieceNo
+  pub marked : IsMarked site node x (λ address _.
+      word_items (look_up scratch second rd rs1 op2 site.f.halves.base address.0)
+      ++ it.EndMark ∷ it.Jump way ∷ [])
+  pub open marked use {piece, within, here, address, original, word, is_word, items}
+  pub says : decode_of word ≡ i.Jmpl rd rs1 op2
+  pub leads : (does_at site.g x t).ending ≡ None → LeadsNext site way node x t
+
+-- ---- the jump of an open switch
+
+pub record IsSwitchJump (site : Site) (node : Node) (x : Point) (t : State) : Type 0 where
+  pub none : x.slot ≡ NoSlot
+  pub next : x.npc ≡ (x.pc + 4) % 2 ^ 32
+  pub number : ℕ
+  pub open_switch : CaseTable
+  pub among : slice_get site.g.opens number ≡ Some open_switch
+  pub itself : node ≡ Block (record { 0 = open_switch.block })
+  pub low : x.pc < 2 ^ 32
+  pub rd : ℕ
+  pub register : rd < 32
+  pub rs1 : ℕ
+  pub op2 : Op2
+  pub distance : ℕ
+  pub near : distance < 2 ^ 32
+  pub marked : IsMarked site node x (λ address _. word_items (switch_jump rd address.0 distance) ++ it.EndMark ∷ [])
+  pub open marked use {piece, within, here, address, original, word, is_word, items}
+  pub says : decode_of word ≡ i.Jmpl rd rs1 op2
+  -- the word that has the piece's address
+  pub aligned : choice_at distance t % 4 ≡ 0
+  pub from : site.f.cases.base ≤ choice_at distance t
+  pub to : choice_at distance t + 4 ≤ site.f.cases.base + length site.f.cases.bytes
+  pub below : choice_at distance t + 4 ≤ 2 ^ 31
+  pub way : ℕ
+  pub has : table_word site.f.cases (choice_at distance t) ≡ slice_index site.p.at way
+  -- the jump goes on, into its slot, which stands at that piece
+  pub live : (does_at site.g x t).ending ≡ None
+  pub nothing : gone_at site.g node x (does_at site.g x t) ≡ []
+  pub leads : slice_index site.p.at way ≡ next_entry site node x t
+
+-- ---- a transfer in a delay slot
+
+pub record IsCouple (site : Site) (node : Node) (x : Point) : Type 0 where
+  pub slot : x.slot ≢ NoSlot
+  pub marked : IsMarked site node x (λ _ _. it.Word couple_word ∷ it.Word couple_word ∷ it.EndMark ∷ [])
+  pub open marked use {piece, within, here, address, original, word, is_word, items}
+  pub transfer : is_transfer (decode_of word) ≡ true
+
+-- ---- behind the delay slot of a JMPL
+
+-- What the table has for a target: the piece of a landing, which leads to the next visit through the snippets of some
+-- edges; where these have no operation it may be the piece of that visit itself. Outside the text it is the foreign
+-- piece.
+abbrev pub Lands : Site → List ℕ → ℕ → ℕ → Type 0
+Lands site edges target visit =
+    ((piece : PieceNo) × (piece.0 < length site.l.list)
+    × (found_in site.f.halves target ≡ slice_index site.p.at piece.0)
+    × (LeadsTo site.l site.p piece edges (word_at site.g.text target) visit
+    ⊎ ((operations_on site.g.snips edges ≡ 0) × (slice_index site.p.at piece.0 ≡ visit))))
+    ⊎ ((edges ≡ []) × ((piece : PieceNo) × (piece.0 < length site.l.list)
+    × (found_in site.f.halves target ≡ slice_index site.p.at piece.0)
+    × (slice_get site.l.list piece.0 ≡ Some foreign_piece) × (word_at site.g.text target ≡ None)))
+
+pub record IsJumpsSlot (site : Site) (node : Node) (x : Point) (t : State) : Type 0 where
+  pub slot : x.slot ≡ Taken
+  pub out : same_kind (way_of (instr_at site.g.text (x.pc - 4)) x.slot) kinds.Out ≡ true
+  pub caseless : HasNoCases site.g node
+  -- the jump's edge, whose snippet runs before the jump, and then the landing's, whose runs there
+  pub edge : ℕ
+  pub outward : is_out (slice_get (graph_in site.g).edges edge) ≡ true
+  pub landing : List ℕ
+  pub completes : (does_at site.g x t).ending ≡ None → gone_at site.g node x (does_at site.g x t) ≡ edge ∷ landing
+  pub marked : IsMarkedWord site node x (words_on site.l (edge ∷ []) ++ word_items (resume 1))
+  pub open marked use {straight, marked.{piece, address, word, is_word, items}}
+  -- where the walk goes on, there the table leads
+  pub lands : (does_at site.g x t).ending ≡ None → Lands site landing x.npc (next_entry site node x t)
+
+-- ---- outside the text
+
+-- outside a slot, at an address of no word: the written file is there too
+pub record IsForeign (g : EditSetup) (node : Node) (x : Point) : Type 0 where
+  pub slot : x.slot ≡ NoSlot
+  pub none : word_at g.text x.pc ≡ None
+  pub beyond : node ≡ X
+  pub apart : IsOffPages g x
+
+-- In a slot behind the text, whose place is where the table begins.
+pub record IsOff (site : Site) (node : Node) (x : Point) : Type 0 where
+  pub slot : x.slot ≢ NoSlot
+  pub none : word_at site.g.text x.pc ≡ None
+  pub range : NoteRange
+  pub noted : range_at site.g.notes site.f.table.base ≡ Some range
+  pub lo : range.lo ≡ site.f.table.base
+  pub address : range.address ≡ x.pc
+  pub number : range.node ≡ number_in site.g node
+  pub beside : IsBeside site.base site.p.code site.f.table.base
+
+-- ---- before the load of an open switch
+
+-- a piece that keeps the load's address, and behind which the visit stands
+pub record IsKeeping (site : Site) (node : Node) (x : Point) (o : CaseTable) : Type 0 where
+  pub piece : ℕ
+  pub here : entered_at site node x ≡ slice_index site.p.at piece
+  pub items : slice_get site.l.list piece ≡ Some (word_items (save_load_address o.rs1 o.op2))
+  pub behind : site.place piece 3 ≡ visited_at site node x
+
+pub data IsEntered (site : Site) (node : Node) (x : Point) : Type 0 where
+  at_once : entered_at site node x ≡ visited_at site node x
+      → ((k : ℕ) (o : CaseTable) → slice_get site.g.opens k ≡ Some o → IsAtWord site.g o node x o.load → ⊥)
+      → IsEntered site node x
+  keeping : (k : ℕ) (o : CaseTable) → slice_get site.g.opens k ≡ Some o → IsAtWord site.g o node x o.load
+      → IsKeeping site node x o → IsEntered site node x
+
+-- ---- each kind
+
+-- an item that takes words in every form
+abbrev pub TakesWords : Item → Type 0
+TakesWords (it.Word w) = Unit {0}
+TakesWords (it.Branch cond to) = Unit {0}
+TakesWords _ = ⊥
+
+-- the piece of a point begins with its Mark, which covers a word
+pub record IsHead (site : Site) (node : Node) (x : Point) : Type 0 where
+  pub piece : ℕ
+  pub within : piece < length site.l.list
+  pub here : visited_at site node x ≡ slice_index site.p.at piece
+  pub address : Addr
+  pub original : address.0 ≡ x.pc
+  pub item : Item
+  pub takes : TakesWords item
+  pub rest : List Item
+  pub items : slice_get site.l.list piece ≡ Some (it.Mark address (number_in site.g node) ∷ item ∷ rest)
+
+-- the shape of a point's piece, or the point lies outside the text
+pub data IsCase (site : Site) (node : Node) (x : Point) (t : State) : Type 0 where
+  plain : IsPlain site node x t → IsCase site node x t
+  couple : IsCouple site node x → IsCase site node x t
+  turn : IsConditionalBranch site node x t → IsCase site node x t
+  idle : IsUnconditionalBranch site node x t → IsCase site node x t
+  call : IsCall site node x t → IsCase site node x t
+  jump : IsJump site node x t → IsCase site node x t
+  landing : IsJumpsSlot site node x t → IsCase site node x t
+  choice : IsSwitchJump site node x t → IsCase site node x t
+  foreign : IsForeign site.g node x → IsCase site node x t
+  off : IsOff site node x → IsCase site node x t
+
+-- where a point is visited
+pub data IsVisited (site : Site) (node : Node) (x : Point) : Type 0 where
+  head : IsHead site node x → IsVisited site node x
+  outside : IsForeign site.g node x → IsVisited site node x
+  beyond : IsOff site node x → IsVisited site node x
+
+-- each point outside the pages that the walk's node matches has a place, and is one of the cases
+pub record IsImaged (site : Site) : Type 0 where
+  pub visits : (node : Node) (x : Point) → MatchesIn site.g node x → IsOffPages site.g x → IsVisited site node x
+  pub cases : (node : Node) (x : Point) (t : State) → MatchesIn site.g node x → IsOffPages site.g x → AtVisitIn site node x t
+      → ((does_at site.g x t).ending ≡ None → IsOffPages site.g (point_of (does_at site.g x t)))
+      → Chooses site.g node x t (does_at site.g x t) → IsCase site node x t
+  -- control enters each where it is visited, but for the loads of open switches
+  pub opens : AreCaseTables site.g
+  pub enters : (node : Node) (x : Point) → IsEntered site node x
