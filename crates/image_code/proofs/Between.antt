@@ -6,7 +6,7 @@ pub use Rattle.layout.proofs.Going.{item_size, piece_size as item_below}
 use Rattle.image_code.specs.Simulates.{EditSetup, IsOnWay, IsThere, gone_at, graph_in, number_in}
 use Rattle.image_code.specs.Store.{cells_in}
 use Rattle.image_code.specs.Images.{HasImages}
-use Rattle.image_code.proofs.Points.{Placed, Site}
+use Rattle.image_code.proofs.Points.{Site}
 use Rattle.image_code.proofs.PointShapes.{visits_it}
 
 -- ---- small things
@@ -22,25 +22,25 @@ same_at (Register n) s t a b c = ap (λ z. slice_index z n) a
 same_at Codes s t a b c = b
 same_at YRegister s t a b c = c
 
-module _ (site : Site) (h : Placed site) where
-  open site use {g, base, p, place, f}
+module _ (site : Site) where
+  open site use {g, base, p, place, f, placed}
 
   -- ---- what the notes say
 
   pub node_is : (a : ℕ) (o : Option NoteRange) → base ≤ a → a < base + 4 * length p.code → range_in p.ranges a ≡ o
       → node_at g.notes a ≡ option_or (option_map (λ (r : NoteRange). r.node) o) None
-  node_is a o low high r = rw (h.noted.ranges a low high ∙ r, h.noted.inside a low high)
+  node_is a o low high r = rw (placed.noted.ranges a low high ∙ r, placed.noted.inside a low high)
 
   visit_is : (u : State) (o : Option NoteRange) → u.ending ≡ None → base ≤ u.pc → u.pc < base + 4 * length p.code
       → range_in p.ranges u.pc ≡ o
       → visit_of g.notes u ≡ visited o true u.pc
-  visit_is u o live low high r = rw (live, h.noted.ranges u.pc low high ∙ r, h.noted.inside u.pc low high)
+  visit_is u o live low high r = rw (live, placed.noted.ranges u.pc low high ∙ r, placed.noted.inside u.pc low high)
 
   -- between places
   pub on_none : (t u : State) → u.ending ≡ None → base ≤ u.pc → u.pc < base + 4 * length p.code
       → range_in p.ranges u.pc ≡ None → IsOnWay g t u
   on_none t u live low high r =
-      let n : range_at g.notes u.pc ≡ None = h.noted.ranges u.pc low high ∙ r in
+      let n : range_at g.notes u.pc ≡ None = placed.noted.ranges u.pc low high ∙ r in
       record { live = live; visit = visit_is u None live low high r; place = λ q e. absurd (cc) }
 
   -- in the place of the visit, past its first address
@@ -49,8 +49,8 @@ module _ (site : Site) (h : Placed site) where
       → range_in p.ranges t.pc ≡ Some r → range_in p.ranges u.pc ≡ Some r → r.lo ≡ t.pc → cells_in g.notes u ≡ cells_in g.notes t
       → IsOnWay g t u
   on_range t u r live low past high here is lo cells =
-      let there : range_at g.notes u.pc ≡ Some r = h.noted.ranges u.pc (omega (arith, low, past)) high ∙ is in
-      let at : range_at g.notes t.pc ≡ Some r = h.noted.ranges t.pc low (omega (arith, past, high)) ∙ here in
+      let there : range_at g.notes u.pc ≡ Some r = placed.noted.ranges u.pc (omega (arith, low, past)) high ∙ is in
+      let at : range_at g.notes t.pc ≡ Some r = placed.noted.ranges t.pc low (omega (arith, past, high)) ∙ here in
       record {
         live = live;
         visit = visit_is u (Some r) live (omega (arith, low, past)) high is
@@ -63,8 +63,8 @@ module _ (site : Site) (h : Placed site) where
       → u.pc < base + 4 * length p.code
       → range_in p.ranges t.pc ≡ Some r → range_in p.ranges u.pc ≡ Some r → IsThere g t u
   there_in t u r low high from to here is = record {
-    range = h.noted.ranges u.pc from to ∙ is ∙ sym (h.noted.ranges t.pc low high ∙ here);
-    page = h.noted.inside u.pc from to ∙ sym (h.noted.inside t.pc low high);
+    range = placed.noted.ranges u.pc from to ∙ is ∙ sym (placed.noted.ranges t.pc low high ∙ here);
+    page = placed.noted.inside u.pc from to ∙ sym (placed.noted.inside t.pc low high);
   }
 
   -- at the first address of a place
@@ -92,7 +92,7 @@ module _ (site : Site) (h : Placed site) where
     valid = valid;
     ready = record { live = live; npc = npc };
     slot = slot;
-    page = stores_there (page_word 0) t.memory (has.ours.words (page_word 0) h.frame.own.first);
+    page = stores_there (page_word 0) t.memory (has.ours.words (page_word 0) placed.frame.own.first);
     code = has.code;
   }
 

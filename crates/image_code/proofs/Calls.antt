@@ -4,7 +4,7 @@ use Rattle.v8_decode.specs.declared.Instr.TheVariants as i
 use Rattle.jump_code.specs.Links.{IsAboutToCall}
 use Rattle.jump_code.proofs.Linking.{calls_act, calls_store}
 use Rattle.image_code.specs.Simulates.{at_point, does_at, gone_at, graph_in, number_in}
-use Rattle.image_code.proofs.Points.{ReachesNext, AtVisitIn, Placed, Site, StepsFrom, entered_at}
+use Rattle.image_code.proofs.Points.{ReachesNext, AtVisitIn, Site, StepsFrom, entered_at}
 use Rattle.image_code.proofs.PointShapes.{LeadsTo, IsNoJumpsSlot, IsCall}
 use Rattle.image_code.proofs.Dead.{LastDead, gone_last}
 use Rattle.image_code.proofs.Through.{ahead, goes_through}
@@ -18,9 +18,9 @@ call_acts : (x : Point) (disp : ℤ) (t : State) → x.slot ≡ NoSlot → act (
 unfolding act call_step
 call_acts x disp t none = ap (λ (z : Slot). unless_couple z (at_point x t) (called x disp t)) none
 
-module _ (site : Site) (h : Placed site) (node : Node) (x : Point) (t : State) (here : AtVisitIn site node x t)
+module _ (site : Site) (node : Node) (x : Point) (t : State) (here : AtVisitIn site node x t)
     (c : IsCall site node x t) where
-  open site use {g, l, base, p, place}
+  open site use {g, l, base, p, place, placed}
 
   does_is : does_at g x t ≡ called x c.disp t
   does_is = ap (on_word (at_point x t)) c.is_word ∙ ap (act (at_point x t)) c.says ∙ call_acts x c.disp t c.none
@@ -29,7 +29,7 @@ module _ (site : Site) (h : Placed site) (node : Node) (x : Point) (t : State) (
   image = link 15 c.address.0
 
   there : AtWords site node x t c.piece (length image) (words_of image)
-  there = ahead site h node x t here _ c.marked image c.way refl
+  there = ahead site node x t here _ c.marked image c.way refl
 
   about : IsAboutToCall c.address.0 t
   about =
@@ -38,7 +38,7 @@ module _ (site : Site) (h : Placed site) (node : Node) (x : Point) (t : State) (
         ready = record { live = here.live; npc = there.next (omega (arith, there.low)) };
         low = omega (arith, there.low);
         words = subst (λ z. StandIn (code_of t.memory) z image) (sym there.at)
-            ((pieces_are_laid l.list base p place h.laid t.memory here.memory.code c.piece _ c.items).call
+            ((pieces_are_laid l.list base p place placed.laid t.memory here.memory.code c.piece _ c.items).call
             c.address (number_in g node) c.way short refl).words;
         short = short;
       }
@@ -53,7 +53,7 @@ module _ (site : Site) (h : Placed site) (node : Node) (x : Point) (t : State) (
   steps edges last leads never =
       let acts = calls_act c.address.0 t about in
       let none = calls_store c.address.0 t about in
-      goes_through site h node x t here _ c.marked image c.way refl
+      goes_through site node x t here _ c.marked image c.way refl
       (called x c.disp t) t.memory edges last
       (record {
         moves = record {
@@ -79,5 +79,5 @@ module _ (site : Site) (h : Placed site) (node : Node) (x : Point) (t : State) (
   pub calls_step : StepsFrom site node x t
   calls_step =
       let is = does_is in
-      rw is (steps (gone_at g node x (called x c.disp t)) (gone_last site h node x (called x c.disp t))
+      rw is (steps (gone_at g node x (called x c.disp t)) (gone_last site node x (called x c.disp t))
       (rw is at c.leads) (rw is at c.never))

@@ -9,7 +9,7 @@ use Rattle.code_runs.proofs.Points.{acts_anywhere}
 use Rattle.image_code.specs.Simulates.{at_point, does_at, gone_at, graph_in, number_in, word_of, edit_in}
 use Rattle.image_code.specs.Cost.{IsWatched, in_first_word, is_spill}
 use Rattle.image_code.specs.Store.{cells_in}
-use Rattle.image_code.proofs.Points.{ReachesNext, AtVisitIn, Placed, Site, StepsFrom, entered_at}
+use Rattle.image_code.proofs.Points.{ReachesNext, AtVisitIn, Site, StepsFrom, entered_at}
 use Rattle.image_code.proofs.PointShapes.{next_entry, visits_it, IsMarkedWord, IsPlain, word_ahead}
 use Rattle.image_code.proofs.Ended.{stops_act}
 use Rattle.image_code.proofs.Sparing.{uncounted}
@@ -32,15 +32,15 @@ pub no_puts : (s : State) (cond : ℕ) (annul : Bool) (disp : ℤ) (descriptor :
 unfolding puts_by
 no_puts s cond annul disp descriptor = refl
 
-module _ (site : Site) (h : Placed site) where
-  open site use {g, place}
+module _ (site : Site) where
+  open site use {g, place, placed}
 
   -- ---- words that are no transfers
 
   module _ (node : Node) (x : Point) (t : State) (here : AtVisitIn site node x t) (rest : List Item)
       (c : IsMarkedWord site node x rest) where
     there : AtWords site node x t c.piece 1 (c.word ∷ [])
-    there = at_words site h node x t here _ c.marked rest (c.word ∷ []) refl
+    there = at_words site node x t here _ c.marked rest (c.word ∷ []) refl
 
     visits : visits_it g node x t
     visits = there.visits (omega arith)
@@ -67,12 +67,12 @@ module _ (site : Site) (h : Placed site) where
     -- its cells, where it judges no byte of the pages
     still : AllApart (pages_of g.notes) (judged_by t (decode_of c.word))
         → cells_in g.notes a ≡ cells_in g.notes t
-    still apart = cells_stay site h t (decode_of c.word) apart here.memory.ours
+    still apart = cells_stay site t (decode_of c.word) apart here.memory.ours
 
     -- the word is one step
     past : (edges : List ℕ) → AllApart (pages_of g.notes) (judged_by t (decode_of c.word))
         → ((counted : ℕ → Bool) → count_stores counted t 1 ≡ 0) ⊎ (a.ending ≡ None)
-        → Past site h node x t here edges v a 1
+        → Past site node x t here edges v a 1
     past edges apart stores = record {
       path = leads_one _ t a one;
       some = omega arith;
@@ -88,7 +88,7 @@ module _ (site : Site) (h : Placed site) where
             → (count_stores (is_spill g.notes) t 1 ≡ 0) × (count_stores in_first_word t 1 ≡ 0)
         spared (inl none) = (none _, none _)
         spared (inr alive) =
-            let out = uncounted g.notes (h.frame.own.within (page_word 0) h.frame.own.first) t
+            let out = uncounted g.notes (placed.frame.own.within (page_word 0) placed.frame.own.first) t
             (decode_of c.word) apart alive in
             let says : Says (code_of t.memory) t.pc (decode_of c.word) =
             record { word = c.word; fetched = there.words.0; decodes = refl } in (
@@ -103,19 +103,19 @@ module _ (site : Site) (h : Placed site) where
         let stays = stops_act t (decode_of c.word) c.straight here.live d stopped in
         let none : (counted : ℕ → Bool) → count_stores counted t 1 ≡ 0 =
         λ counted. count_one counted t ∙ ends_stores counted t d (ap (λ (z : State). z.ending) one ∙ stopped) in
-        ends_by site h node x t here v a 0 (record {
+        ends_by site node x t here v a 0 (record {
           past = past [] apart (inl none);
           before = here.live;
           ending = d;
           over = over;
-          followed = followed_same site h node x t here v a
+          followed = followed_same site node x t here v a
               (sym (ap (λ (z : State). hopped z 0 a.memory) same)) (sym (ap (λ (z : State). z.memory) same));
           there = record { range = ap (range_at g.notes) stays; page = ap (in_pages g.notes) stays };
         })
 
     goes : (next : Option ℕ) (edges : List ℕ) → LastDead g edges → v.ending ≡ None
         → AllApart (pages_of g.notes) (judged_by t (decode_of c.word))
-        → (IsFit site h a → a.pc ≡ place c.piece 3 → Tail site h next edges a
+        → (IsFit site a → a.pc ≡ place c.piece 3 → Tail site next edges a
         (entered_at site (node_after (graph_in g) node edges) (point_of v)) 24)
         → (IsWatched (edit_in g) edges x v → next ≢ None) → ReachesNext site edges node x t v
     goes next edges last live apart onward watched =
@@ -125,11 +125,11 @@ module _ (site : Site) (h : Placed site) where
         let npc = there.next (omega arith) in
         let low = there.low in
         let onpc : a.npc ≡ a.pc + 4 = omega arith in
-        let has = images_stay site h t (decode_of c.word) one apart here.memory in
-        enters_by site h node x t here next edges v a 1 last (record {
+        let has = images_stay site t (decode_of c.word) one apart here.memory in
+        enters_by site node x t here next edges v a 1 last (record {
           past = past edges apart (inr alive);
           same = sym (ap (λ (z : State). hopped z 0 a.memory) same);
-          outside = λ n stores. rw (ap (λ (z : State). z.memory) same) at (same_stored site h a.memory n has stores);
+          outside = λ n stores. rw (ap (λ (z : State). z.memory) same) at (same_stored site a.memory n has stores);
           has = has;
           live = alive;
           npc = onpc;
@@ -138,16 +138,16 @@ module _ (site : Site) (h : Placed site) where
           watched = watched;
           kept = λ _.
               (words_stay (pages_of g.notes) (page_word 0) true t (decode_of c.word)
-              (h.frame.own.within (page_word 0) h.frame.own.first) apart
-              (here.memory.ours.words (page_word 0) h.frame.own.first)).1;
+              (placed.frame.own.within (page_word 0) placed.frame.own.first) apart
+              (here.memory.ours.words (page_word 0) placed.frame.own.first)).1;
         }) (λ fit.
         let tail = onward fit (omega (arith, npc, went.0, there.behind)) in
         (tail.0, λ _. tail.1))
 
     -- The word ends the run as the original's does, or control goes on from item 3 of its piece.
     pub marked_step : (next : Option ℕ) → AllApart (pages_of g.notes) (judged_by (at_point x t) (decode_of c.word))
-        → ((does_at g x t).ending ≡ None → IsFit site h a → a.pc ≡ place c.piece 3
-        → Tail site h next (gone_at g node x (does_at g x t)) a (next_entry site node x t) 24)
+        → ((does_at g x t).ending ≡ None → IsFit site a → a.pc ≡ place c.piece 3
+        → Tail site next (gone_at g node x (does_at g x t)) a (next_entry site node x t) 24)
         → ((does_at g x t).ending ≡ None → IsWatched (edit_in g) (gone_at g node x (does_at g x t)) x (does_at g x t) → next ≢ None)
         → StepsFrom site node x t
     marked_step next apart onward watched =
@@ -155,12 +155,12 @@ module _ (site : Site) (h : Placed site) where
         rw is (by v.ending refl (rw is at onward) (rw is at watched))
       where
         by : (e : Option Ending) → v.ending ≡ e
-            → (v.ending ≡ None → IsFit site h a → a.pc ≡ place c.piece 3 → Tail site h next (gone_at g node x v) a
+            → (v.ending ≡ None → IsFit site a → a.pc ≡ place c.piece 3 → Tail site next (gone_at g node x v) a
             (entered_at site (node_after (graph_in g) node (gone_at g node x v)) (point_of v)) 24)
             → (v.ending ≡ None → IsWatched (edit_in g) (gone_at g node x v) x v → next ≢ None)
             → ReachesNext site (gone_at g node x v) node x t v
         by None e onward watched =
-            goes next _ (gone_last site h node x v) e (judged_moved g.notes x t (decode_of c.word) apart)
+            goes next _ (gone_last site node x v) e (judged_moved g.notes x t (decode_of c.word) apart)
             (onward e) (watched e)
         by (Some d) e onward watched = ends d e (judged_moved g.notes x t (decode_of c.word) apart)
 
@@ -169,6 +169,6 @@ module _ (site : Site) (h : Placed site) where
     plains_step apart =
         marked_step node x t here c.rest c.marked (word_ahead g x t) apart
         (λ live fit pc.
-        weaker_tail site h _ _ (next_entry site node x t) 8 24 (omega arith)
-        (tail site h c.piece c.rest c.address (number_in g node) (it.Word c.word) c.items _ _ (word_ahead g x t)
+        weaker_tail site _ _ (next_entry site node x t) 8 24 (omega arith)
+        (tail site c.piece c.rest c.address (number_in g node) (it.Word c.word) c.items _ _ (word_ahead g x t)
         (next_entry site node x t) fit pc (c.leads live))) (λ live w. w.inside)

@@ -6,7 +6,7 @@ use Rattle.code_runs.proofs.StoredWords.{still_stored}
 use Rattle.snippets.specs.Cells.{update}
 use Rattle.snippet_code.specs.Runs.{MayStore}
 use Rattle.image_code.specs.Store.{cells_in, operations_on, snippet_on, updates}
-use Rattle.image_code.proofs.Points.{Placed, Site}
+use Rattle.image_code.proofs.Points.{Site}
 
 -- ---- a word that nothing is stored in
 
@@ -57,16 +57,16 @@ operations_then snips [] others = omega arith
 operations_then snips (edge ∷ edges) others =
     omega (arith, operations_then snips edges others)
 
-module _ (site : Site) (h : Placed site) where
-  open site use {g, f}
+module _ (site : Site) where
+  open site use {g, f, placed}
 
   pub cell_low : (cell : ℕ) → cell < g.notes.cells → cell_at g.notes.base cell + 4 ≤ 2 ^ 31
-  cell_low cell within = let low = h.cells.low in omega (arith, low, within)
+  cell_low cell within = let low = placed.cells.low in omega (arith, low, within)
 
   pub cell_stored : (m : Memory) → IsOurs (pages_of g.notes) f.own m → (cell : ℕ) → cell < g.notes.cells
       → CanStore m (cell_at g.notes.base cell)
   cell_stored m ours cell within =
-      stores_there (cell_at g.notes.base cell) m (ours.words (cell_at g.notes.base cell) (h.cells.own cell within))
+      stores_there (cell_at g.notes.base cell) m (ours.words (cell_at g.notes.base cell) (placed.cells.own cell within))
 
   -- stores above the cells
   pub cells_above : (May : ℕ → Type 0) → ((z : ℕ) → May z → 2 ^ 31 ≤ z) → (m n : Memory)
@@ -83,27 +83,27 @@ module _ (site : Site) (h : Placed site) where
       → IsOurs (pages_of g.notes) f.own s.memory → cells_in g.notes (act s x) ≡ cells_in g.notes s
   cells_stay s x apart ours =
       words_same g.notes.base g.notes.cells s.memory (act s x).memory (λ cell within.
-      let own = h.cells.own cell within in
+      let own = placed.cells.own cell within in
       (words_stay (pages_of g.notes) (cell_at g.notes.base cell) true s x
-      (h.frame.own.within (cell_at g.notes.base cell) own) apart (ours.words (cell_at g.notes.base cell) own)).1)
+      (placed.frame.own.within (cell_at g.notes.base cell) own) apart (ours.words (cell_at g.notes.base cell) own)).1)
 
   -- where a snippet's words may store, the editor may
   pub may_own : (edge z : ℕ) → MayStore g.notes.base (snippet_on g.snips edge) z → IsAmongWords f.own z
   may_own edge z (inl (cell, named, is)) =
-      subst (IsAmongWords f.own) (sym is) (h.cells.own cell (h.cells.named edge cell named))
-  may_own edge z (inr (n, few, is)) = subst (IsAmongWords f.own) (sym is) (h.frame.page (n + 2) (omega (arith, few)))
+      subst (IsAmongWords f.own) (sym is) (placed.cells.own cell (placed.cells.named edge cell named))
+  may_own edge z (inr (n, few, is)) = subst (IsAmongWords f.own) (sym is) (placed.frame.page (n + 2) (omega (arith, few)))
 
   -- and they leave word 1 of the page
   pub may_beside : (edge z : ℕ) → MayStore g.notes.base (snippet_on g.snips edge) z
       → (page_word 1 + 4 ≤ z) ⊎ (z + 4 ≤ page_word 1)
   may_beside edge z (inl (cell, named, is)) =
-      inr (omega (arith, cell_low cell (h.cells.named edge cell named), is))
+      inr (omega (arith, cell_low cell (placed.cells.named edge cell named), is))
   may_beside edge z (inr (n, few, is)) = inl (omega (arith, few, is))
 
   pub may_below : (edge z : ℕ) → MayStore g.notes.base (snippet_on g.snips edge) z
       → (page_word 7 + 4 ≤ z) ⊎ (z + 4 ≤ page_word 7)
   may_below edge z (inl (cell, named, is)) =
-      inr (omega (arith, cell_low cell (h.cells.named edge cell named), is))
+      inr (omega (arith, cell_low cell (placed.cells.named edge cell named), is))
   may_below edge z (inr (n, few, is)) = inr (omega (arith, few, is))
 
 pub first_above : (z : ℕ) → IsFirstWord z → 2 ^ 31 ≤ z

@@ -5,7 +5,7 @@ use Rattle.jump_code.specs.Choosing.{ComesToCase, IsAboutToChoose, choose, chose
 use Rattle.jump_code.proofs.Choosing.{choices_simulate}
 use Rattle.image_code.specs.Simulates.{does_at, graph_in}
 use Rattle.image_code.specs.Cost.{is_jmpl}
-use Rattle.image_code.proofs.Points.{ReachesNext, AtVisitIn, Placed, Site, StepsFrom, entered_at}
+use Rattle.image_code.proofs.Points.{ReachesNext, AtVisitIn, Site, StepsFrom, entered_at}
 use Rattle.image_code.proofs.PointShapes.{IsSwitchJump}
 use Rattle.image_code.proofs.Routes.{bare_here}
 use Rattle.image_code.proofs.EntersBy.{moves_by}
@@ -24,9 +24,9 @@ choose_fits distance short =
 
 -- ---- the step
 
-module _ (site : Site) (h : Placed site) (node : Node) (x : Point) (t : State) (here : AtVisitIn site node x t)
+module _ (site : Site) (node : Node) (x : Point) (t : State) (here : AtVisitIn site node x t)
     (c : IsSwitchJump site node x t) where
-  open site use {g, p, f}
+  open site use {g, p, f, placed}
 
   abbrev after_jump : State
   after_jump = jumped c.address.0 c.rd c.rs1 c.op2 t
@@ -50,7 +50,7 @@ module _ (site : Site) (h : Placed site) (node : Node) (x : Point) (t : State) (
   live = ap (λ (z : State). z.ending) (sym does_is) ∙ c.live
 
   there : AtWords site node x t c.piece (length image) (words_of image)
-  there = at_instrs site h node x t here _ c.marked [] image refl
+  there = at_instrs site node x t here _ c.marked [] image refl
 
   loaded : HasWordAt (choice_at c.distance t) false t.memory
       × (memory_word t.memory (choice_at c.distance t) ≡ table_word f.cases (choice_at c.distance t))
@@ -70,12 +70,12 @@ module _ (site : Site) (h : Placed site) (node : Node) (x : Point) (t : State) (
         short = omega (arith, c.original, c.low);
         near = c.near;
         page = λ n less. stores_there (page_word n) t.memory
-            (here.memory.ours.words (page_word n) (h.frame.page n (omega (arith, less))));
+            (here.memory.ours.words (page_word n) (placed.frame.page n (omega (arith, less))));
         choice = record {
           aligned = c.aligned;
           below = c.below;
           loads = loads_there _ false t.memory loaded.0;
-          target = ap (λ z. z % 4) (loaded.1 ∙ c.has) ∙ (h.laid.aligned c.way).0;
+          target = ap (λ z. z % 4) (loaded.1 ∙ c.has) ∙ (placed.laid.aligned c.way).0;
         };
       }
 
@@ -91,9 +91,9 @@ module _ (site : Site) (h : Placed site) (node : Node) (x : Point) (t : State) (
   goes arrives =
       let k = comes in
       let to = chosen c.distance t in
-      let low = (h.laid.aligned c.way).1 in
+      let low = (placed.laid.aligned c.way).1 in
       let small : wrapped (to + 4) ≡ to + 4 = omega (arith, target, low) in
-      moves_by site h node x t here [] after_jump (hopped after_jump to k.memory) (length image) tt
+      moves_by site node x t here [] after_jump (hopped after_jump to k.memory) (length image) tt
       (record {
         moves = record {
           word = c.word;
@@ -113,7 +113,7 @@ module _ (site : Site) (h : Placed site) (node : Node) (x : Point) (t : State) (
         slot = refl;
         waits = λ _ _ plain. absurd (plain c.number c.open_switch c.among c.itself);
       })
-      (λ fit. bare_here site h [] _ _ 24 refl fit (sym arrives) (omega (arith, target, low)))
+      (λ fit. bare_here site [] _ _ 24 refl fit (sym arrives) (omega (arith, target, low)))
     where
       jumping : is_jmpl (instr_at g.text x.pc) ≡ false → ⊥
       jumping e = let is = ap is_jmpl (instr_is g.text x.pc c.word c.is_word ∙ ap (λ (z : Instr). Some z) c.says) in cc

@@ -6,7 +6,7 @@ use Rattle.layout.specs.Running.{Goes}
 use Rattle.layout.proofs.Going.{branches_hop}
 use Rattle.image_code.specs.Simulates.{does_at, gone_at, number_in}
 use Rattle.image_code.specs.Cost.{in_first_word, is_spill}
-use Rattle.image_code.proofs.Points.{ReachesNext, Forms, AtVisitIn, Placed, Site, StepsFrom}
+use Rattle.image_code.proofs.Points.{ReachesNext, Forms, AtVisitIn, Site, StepsFrom}
 use Rattle.image_code.proofs.PointShapes.{LeadsTo, next_entry, word_ahead, IsConditionalBranch}
 use Rattle.image_code.proofs.Routes.{FollowsRoute, IsFit, arrive, jump_then, rest_marked, weaker_route}
 use Rattle.image_code.proofs.Between.{can_run, on_range, stores_weaker}
@@ -16,9 +16,9 @@ use Rattle.image_code.proofs.Dead.{gone_last}
 use Rattle.image_code.proofs.EntersBy.{OnWay, moves_by}
 use Rattle.image_code.proofs.Sparing.{spill_first}
 
-module _ (site : Site) (h : Placed site) (node : Node) (x : Point) (t : State) (here : AtVisitIn site node x t)
+module _ (site : Site) (node : Node) (x : Point) (t : State) (here : AtVisitIn site node x t)
     (c : IsConditionalBranch site node x t) where
-  open site use {g, l, base, p, place}
+  open site use {g, l, base, p, place, placed}
 
   b_item : (n : ℕ) → item_at l.list c.piece n ≡ slice_get (it.Mark c.address (number_in g node)
       ∷ it.Branch c.cond c.taken ∷ it.EndMark ∷ it.Jump c.untaken ∷ []) n
@@ -28,21 +28,21 @@ module _ (site : Site) (h : Placed site) (node : Node) (x : Point) (t : State) (
   b_size = ap (λ (v : Option (List Item)). items_in v) c.items
 
   b_mark : place c.piece 1 ≡ place c.piece 0
-  b_mark = h.laid.items c.piece 0 (it.Mark c.address (number_in g node)) (b_item 0)
+  b_mark = placed.laid.items c.piece 0 (it.Mark c.address (number_in g node)) (b_item 0)
 
   b_closes : place c.piece 3 ≡ place c.piece 2
-  b_closes = h.laid.items c.piece 2 it.EndMark (b_item 2)
+  b_closes = placed.laid.items c.piece 2 it.EndMark (b_item 2)
 
   b_at : t.pc ≡ place c.piece 1
-  b_at = here.at ∙ c.here ∙ h.laid.starts c.piece c.within ∙ sym b_mark
+  b_at = here.at ∙ c.here ∙ placed.laid.starts c.piece c.within ∙ sym b_mark
 
   b_ready : CanRun base p.code t
   b_ready =
-      let b = (h.laid.within c.piece 1 c.within (omega (arith, b_size))).ends in
-      can_run site h t here.valid here.live (omega (arith, b_at, b_size)) here.slot here.memory
+      let b = (placed.laid.within c.piece 1 c.within (omega (arith, b_size))).ends in
+      can_run site t here.valid here.live (omega (arith, b_at, b_size)) here.slot here.memory
 
   hop : Goes t (if holds_of c.cond t.codes then slice_index p.at c.taken.0 else place c.piece 2) (place c.piece 2) 1 6 2
-  hop = branches_hop l.list base p place h.laid c.piece 1 c.cond c.taken (b_item 1) c.small t b_ready b_at
+  hop = branches_hop l.list base p place placed.laid c.piece 1 c.cond c.taken (b_item 1) c.small t b_ready b_at
 
   b_inside : (base ≤ t.pc) × (t.pc + 4 ≤ place c.piece 2) × (place c.piece 2 ≤ base + 4 * length p.code)
       × (place c.piece 4 ≤ base + 4 * length p.code)
@@ -51,11 +51,11 @@ module _ (site : Site) (h : Placed site) (node : Node) (x : Point) (t : State) (
       let a = b_at in
       let some = hop.some in
       let ins = hop.inside in
-      let b = (h.laid.within c.piece 1 c.within (omega arith)).begins in (
+      let b = (placed.laid.within c.piece 1 c.within (omega arith)).begins in (
         omega arith,
         omega arith,
-        (h.laid.within c.piece 2 c.within (omega arith)).ends,
-        (h.laid.within c.piece 4 c.within (omega arith)).ends,
+        (placed.laid.within c.piece 2 c.within (omega arith)).ends,
+        (placed.laid.within c.piece 4 c.within (omega arith)).ends,
       )
 
   abbrev range : NoteRange
@@ -63,19 +63,19 @@ module _ (site : Site) (h : Placed site) (node : Node) (x : Point) (t : State) (
 
   b_range : (a : ℕ) → place c.piece 1 ≤ a → a < place c.piece 2 → range_in p.ranges a ≡ Some range
   b_range a low high =
-      h.laid.ranges c.piece 1 a (it.Branch c.cond c.taken) (b_item 1) low high
+      placed.laid.ranges c.piece 1 a (it.Branch c.cond c.taken) (b_item 1) low high
       ∙ ap (λ (v : Option (List Item)). range_of (place c.piece) (open_in v 1)) c.items
 
   -- between the branch's words, in its place
   on_way : (u : State) → t.pc < u.pc → u.pc < place c.piece 2 → Stores IsFirstWord t.memory u.memory
-      → OnWay site h node x t here u
+      → OnWay site node x t here u
   on_way u past before stores live =
       let a = b_at in
       let n0 = b_inside.0 in
       let n2 = b_inside.2 in
-      on_range site h t u range live (omega arith) past (omega arith)
+      on_range site t u range live (omega arith) past (omega arith)
       (b_range t.pc (omega arith) (omega arith)) (b_range u.pc (omega arith) before) (sym b_at)
-      (cells_above site h IsFirstWord first_above t.memory u.memory here.memory.ours stores)
+      (cells_above site IsFirstWord first_above t.memory u.memory here.memory.ours stores)
 
   -- a short branch takes two words
   b_short : Forms site → place c.piece 2 ≤ t.pc + 4 * 2
@@ -87,20 +87,20 @@ module _ (site : Site) (h : Placed site) (node : Node) (x : Point) (t : State) (
   edges = gone_at g node x (does_at g x t)
 
   -- wherever they lead
-  turned : (mid : ℕ) (j : Goes t mid (place c.piece 2) 1 6 2) → mid ≤ 2 ^ 31 → (IsFit site h (hopped t mid j.memory)
-      → FollowsRoute site h (word_ahead g x t) edges (hopped t mid j.memory) (next_entry site node x t) 8)
+  turned : (mid : ℕ) (j : Goes t mid (place c.piece 2) 1 6 2) → mid ≤ 2 ^ 31 → (IsFit site (hopped t mid j.memory)
+      → FollowsRoute site (word_ahead g x t) edges (hopped t mid j.memory) (next_entry site node x t) 8)
       → ReachesNext site edges node x t (does_at g x t)
   turned mid j low onward =
       let same = (branch_moves g x t c.none c.word c.is_word c.cond c.annul c.disp c.says).is in
       let small : wrapped (mid + 4) ≡ mid + 4 = omega arith in
-      moves_by site h node x t here edges (does_at g x t) (hopped t mid j.memory) j.count
-      (gone_last site h node x (does_at g x t))
+      moves_by site node x t here edges (does_at g x t) (hopped t mid j.memory) j.count
+      (gone_last site node x (does_at g x t))
       (record {
         moves = record {
           word = c.word;
           is_word = c.is_word;
           transfer = ap is_transfer c.says;
-          path = leads_weaker _ (OnWay site h node x t here) t _ j.count
+          path = leads_weaker _ (OnWay site node x t here) t _ j.count
               (λ u q. on_way u q.past (omega (arith, q.before, j.inside)) q.stores) j.hops.path;
           some = omega (arith, j.some);
           few = omega (arith, j.few);
@@ -119,7 +119,7 @@ module _ (site : Site) (h : Placed site) (node : Node) (x : Point) (t : State) (
         slot = refl;
         waits = λ a b _. absurd (c.never a b);
       })
-      (λ fit. weaker_route site h edges _ (next_entry site node x t) 8 24 (omega arith) (onward fit))
+      (λ fit. weaker_route site edges _ (next_entry site node x t) 8 24 (omega arith) (onward fit))
 
   -- whichever way that is
   steps : (taken : Bool)
@@ -128,13 +128,13 @@ module _ (site : Site) (h : Placed site) (node : Node) (x : Point) (t : State) (
       (next_entry site node x t)
       → ReachesNext site edges node x t (does_at g x t)
   steps true j leads =
-      turned (slice_index p.at c.taken.0) j (h.laid.aligned c.taken.0).1 (λ fit.
-      weaker_route site h edges _ (next_entry site node x t) 4 8 (omega arith)
-      (arrive site h c.taken edges _ (word_ahead g x t) (next_entry site node x t) fit
+      turned (slice_index p.at c.taken.0) j (placed.laid.aligned c.taken.0).1 (λ fit.
+      weaker_route site edges _ (next_entry site node x t) 4 8 (omega arith)
+      (arrive site c.taken edges _ (word_ahead g x t) (next_entry site node x t) fit
       refl leads))
   steps false j leads =
       turned (place c.piece 2) j (omega (arith, b_inside.2)) (λ fit.
-      jump_then site h c.piece 3 c.untaken
+      jump_then site c.piece 3 c.untaken
       (rest_marked l c.piece c.address (number_in g node) (it.Branch c.cond c.taken)
       (it.Jump c.untaken ∷ []) (tt, tt) c.items) edges _ (word_ahead g x t)
       (next_entry site node x t) fit (sym b_closes) leads)

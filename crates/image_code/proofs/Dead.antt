@@ -7,7 +7,7 @@ use Rattle.cfg_normal.specs.declared.Slot.TheVariants.{Nothing}
 use Rattle.cfg_walk.specs.Walk.{completed, left_along, left_at}
 use Rattle.image_code.specs.Simulates.{IsFollowedBy, IsKept, EditSetup, gone_at, graph_in}
 use Rattle.image_code.specs.Cost.{is_out}
-use Rattle.image_code.proofs.Points.{Placed, Site}
+use Rattle.image_code.proofs.Points.{Site}
 use Rattle.image_code.proofs.Between.{same_at}
 
 -- ---- lists of edges
@@ -136,15 +136,15 @@ listed_last g None = tt
 listed_last g (Some edge) = (inl refl, tt)
 
 -- the edges of a JMPL have nothing dead
-module _ (site : Site) (h : Placed site) where
-  open site use {g}
+module _ (site : Site) where
+  open site use {g, placed}
 
   found_out : (p : Edge → Bool) → ((edge : Edge) → p edge ≡ true → same_kind edge.kind kinds.Out ≡ true) → (edge : ℕ)
       → position p (graph_in g).edges ≡ Some edge → g.dead edge ≡ []
   found_out p outs edge e =
       let some : Edge = record { from = X; to = X; kind = kinds.Land; slot = Nothing } in
       let found = position-Some p (graph_in g).edges edge some e in
-      h.cells.jumps edge (ap is_out (slice_get-get_or (graph_in g).edges edge some found.0) ∙ outs _ found.1)
+      placed.cells.jumps edge (ap is_out (slice_get-get_or (graph_in g).edges edge some found.0) ∙ outs _ found.1)
 
   landing : (next : ℕ) (o : Option ℕ) → word_at g.text next ≡ o → LastDead g (landed g.text (graph_in g) kinds.Out next)
   landing next None e = rw e tt

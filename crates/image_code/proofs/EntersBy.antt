@@ -7,7 +7,7 @@ use Rattle.code_runs.proofs.PointsAlike.{no_puts as quiet_transfer}
 use Rattle.image_code.specs.Simulates.{IsFollowedBy, IsKept, IsOnWay, IsThere, at_point, gone_at, graph_in, word_of, edit_in}
 use Rattle.image_code.specs.Cost.{IsWatched, NoneIsOut, in_first_word, is_jmpl, is_spill, is_transfer_at}
 use Rattle.image_code.specs.Store.{cells_in, updates}
-use Rattle.image_code.proofs.Points.{ReachesNext, Forms, AtVisitIn, Placed, Site, entered_at}
+use Rattle.image_code.proofs.Points.{ReachesNext, Forms, AtVisitIn, Site, entered_at}
 use Rattle.image_code.specs.Images.{HasImages, HasNoCases}
 use Rattle.image_code.proofs.Routes.{FollowsRoute, IsFit, bare_on}
 use Rattle.image_code.proofs.Between.{can_run, ended_none, quiet_of, stores_weaker}
@@ -17,16 +17,16 @@ use Rattle.image_code.proofs.Memories.{images_stored, same_stored}
 use Rattle.image_code.proofs.Sparing.{transfers}
 
 -- the page's words are the editor's
-page_own : (site : Site) → Placed site → (z : ℕ) → IsPageWord z → IsAmongWords site.f.own z
-page_own site h z (inl e) = rw e (h.frame.page 0 (omega arith))
-page_own site h z (inr (inl e)) = rw e (h.frame.page 1 (omega arith))
-page_own site h z (inr (inr (inl e))) = rw e (h.frame.page 2 (omega arith))
-page_own site h z (inr (inr (inr (inl e)))) = rw e (h.frame.page 7 (omega arith))
-page_own site h z (inr (inr (inr (inr e)))) = absurd e
+page_own : (site : Site) → (z : ℕ) → IsPageWord z → IsAmongWords site.f.own z
+page_own site z (inl e) = rw e (site.placed.frame.page 0 (omega arith))
+page_own site z (inr (inl e)) = rw e (site.placed.frame.page 1 (omega arith))
+page_own site z (inr (inr (inl e))) = rw e (site.placed.frame.page 2 (omega arith))
+page_own site z (inr (inr (inr (inl e)))) = rw e (site.placed.frame.page 7 (omega arith))
+page_own site z (inr (inr (inr (inr e)))) = absurd e
 
-pub own_stored : (site : Site) → Placed site → (m n : Memory) → Stores IsPageWord m n
+pub own_stored : (site : Site) → (m n : Memory) → Stores IsPageWord m n
     → Stores (IsAmongWords site.f.own) m n
-own_stored site h m n stores = stores_weaker IsPageWord (IsAmongWords site.f.own) m n (page_own site h) stores
+own_stored site m n stores = stores_weaker IsPageWord (IsAmongWords site.f.own) m n (page_own site) stores
 
 -- what is no transfer is no JMPL
 no_jump : (o : Option Instr) → is_transfer_at o ≡ false → is_jmpl o ≡ false
@@ -42,7 +42,7 @@ puts_then s t k l steps silent descriptor =
     ∙ ap (λ (z : State). run_puts s k descriptor ++ run_puts z l descriptor) steps
     ∙ ap (λ z. run_puts s k descriptor ++ z) (silent descriptor) ∙ append-nil (run_puts s k descriptor)
 
-module _ (site : Site) (h : Placed site) (node : Node) (x : Point) (t : State) (here : AtVisitIn site node x t) where
+module _ (site : Site) (node : Node) (x : Point) (t : State) (here : AtVisitIn site node x t) where
   open site use {g, base, p, f}
 
   -- a state of a run that goes on is on the way from the visit
@@ -93,12 +93,12 @@ module _ (site : Site) (h : Placed site) (node : Node) (x : Point) (t : State) (
   -- the way behind them, which has no step where a word that is no transfer completes no edge
   abbrev pub Behind : Option ℕ → List ℕ → State → State → Type 0
   Behind next edges v mid =
-      (w : FollowsRoute site h next edges mid
+      (w : FollowsRoute site next edges mid
       (entered_at site (node_after (graph_in g) node edges) (point_of v)) 24)
       × (is_transfer_at (instr_at g.text x.pc) ≡ false → next ≢ None → edges ≡ [] → w.count ≡ 0)
 
   pub enters_by : (next : Option ℕ) (edges : List ℕ) (v mid : State) (count : ℕ) → LastDead g edges
-      → PastOn next edges v mid count → (IsFit site h mid → Behind next edges v mid) → ReachesNext site edges node x t v
+      → PastOn next edges v mid count → (IsFit site mid → Behind next edges v mid) → ReachesNext site edges node x t v
   enters_by next edges v mid count last w onward =
       let a = w.past in
       let to = entered_at site (node_after (graph_in g) node edges) (point_of v) in
@@ -106,12 +106,12 @@ module _ (site : Site) (h : Placed site) (node : Node) (x : Point) (t : State) (
       let behind = onward (record {
         valid = valid;
         has = w.has;
-        runs = can_run site h mid valid w.live w.npc w.slot w.has;
+        runs = can_run site mid valid w.live w.npc w.slot w.has;
       }) in
       let rest = behind.0 in
       let way = leads_then OnWay t mid (hopped rest.other to rest.memory) count rest.count a.path
-      (leads_weaker _ OnWay mid _ rest.count (λ u bare live. bare_on site h t u live bare) rest.path)
-      (λ _ some live. bare_on site h t mid live (rest.begins some)) in
+      (leads_weaker _ OnWay mid _ rest.count (λ u bare live. bare_on site t u live bare) rest.path)
+      (λ _ some live. bare_on site t mid live (rest.begins some)) in
       let lives : rest.other.ending ≡ None = rest.alike.ending ∙ w.live in
       record {
         on = record {
@@ -121,7 +121,7 @@ module _ (site : Site) (h : Placed site) (node : Node) (x : Point) (t : State) (
             steps = way.steps;
             some = omega (arith, a.some);
             few = omega (arith, a.few, rest.few);
-            quiet = quiet_of site h t _ (count + rest.count) OnWay way lives (λ u live on. on live);
+            quiet = quiet_of site t _ (count + rest.count) OnWay way lives (λ u live on. on live);
           };
           puts = λ descriptor.
               puts_then t mid count rest.count a.path.steps rest.silent descriptor ∙ a.puts descriptor;
@@ -137,7 +137,7 @@ module _ (site : Site) (h : Placed site) (node : Node) (x : Point) (t : State) (
             at = refl;
             npc = refl;
             slot = refl;
-            memory = images_stored site h mid _ rest.count rest.path.steps rest.stores w.has;
+            memory = images_stored site mid _ rest.count rest.path.steps rest.stores w.has;
             waits = λ taken out caseless.
                 let z = w.waits taken out caseless in
                 (rest.waits ∙ z.0, z.1, λ there. let y = z.2 there in rest.found y.0 ∙ y.1);
@@ -244,7 +244,7 @@ module _ (site : Site) (h : Placed site) (node : Node) (x : Point) (t : State) (
     puts = λ descriptor. w.silent descriptor
         ∙ sym (ap (λ (o : Option ℕ). puts_on_word (at_point x t) o descriptor) w.is_word
         ∙ quiet_transfer (at_point x t) (decode_of w.word) descriptor w.transfer);
-    cells = cells_above site h IsPageWord page_above t.memory mid.memory here.memory.ours w.stores;
+    cells = cells_above site IsPageWord page_above t.memory mid.memory here.memory.ours w.stores;
     spares = w.spares;
     alone = moving w.word w.is_word w.transfer;
   }
@@ -260,18 +260,18 @@ module _ (site : Site) (h : Placed site) (node : Node) (x : Point) (t : State) (
     pub waits : Waits (word_at g.text v.pc) edges v mid.memory
 
   pub moves_by : (edges : List ℕ) (v mid : State) (count : ℕ) → LastDead g edges → MovesOn edges v mid count
-      → (IsFit site h mid → FollowsRoute site h (word_at g.text v.pc) edges mid
+      → (IsFit site mid → FollowsRoute site (word_at g.text v.pc) edges mid
       (entered_at site (node_after (graph_in g) node edges) (point_of v)) 24)
       → ReachesNext site edges node x t v
   moves_by edges v mid count last w onward =
       let a = w.moves in
-      let own = own_stored site h t.memory mid.memory a.stores in
+      let own = own_stored site t.memory mid.memory a.stores in
       enters_by (word_at g.text v.pc) edges v mid count last (record {
         past = moves_past edges v mid count a;
         same = w.same;
-        outside = λ n stores. rw w.memory (same_stored site h t.memory n here.memory
+        outside = λ n stores. rw w.memory (same_stored site t.memory n here.memory
             (stores_then (IsAmongWords f.own) (IsAmongWords f.own) t.memory mid.memory n (λ z e. e) own stores));
-        has = images_stored site h t mid count a.path.steps own here.memory;
+        has = images_stored site t mid count a.path.steps own here.memory;
         live = w.live;
         npc = w.npc;
         slot = w.slot;

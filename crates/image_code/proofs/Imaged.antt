@@ -5,7 +5,7 @@ use Rattle.two_runs.specs.Needed.{judged_in}
 use Rattle.layout.specs.Laid.{Stands, BranchStands, branch_short, branch_long, size_of}
 use Rattle.image_code.specs.Simulates.{Simulates, at_point, number_in, word_of}
 use Rattle.code_runs.specs.PointsAlike.{instr_of}
-use Rattle.image_code.proofs.Points.{Forms, AtVisitIn, Placed, Site, StepsFrom}
+use Rattle.image_code.proofs.Points.{Forms, AtVisitIn, Site, StepsFrom}
 use Rattle.image_code.proofs.PointShapes.{visits_it, TakesWords, IsCase, IsHead, IsImaged, plain, couple, turn, idle, call, jump, landing, choice, foreign, off, IsVisited, head, outside, beyond}
 use Rattle.image_code.specs.Outside.{IsOffPages}
 use Rattle.image_code.proofs.Between.{at_range}
@@ -31,8 +31,8 @@ has_room base p (it.Jump to) a b takes h = absurd takes
 has_room base p (it.Mark address node) a b takes h = absurd takes
 has_room base p it.EndMark a b takes h = absurd takes
 
-module _ (site : Site) (h : Placed site) where
-  open site use {g, l, base, p, place}
+module _ (site : Site) where
+  open site use {g, l, base, p, place, placed}
 
   pub heads_visit : (node : Node) (x : Point) (t : State) → AtVisitIn site node x t → IsHead site node x
       → visits_it g node x t
@@ -40,23 +40,23 @@ module _ (site : Site) (h : Placed site) where
       let item = λ (n : ℕ). ap (λ (v : Option (List Item)). item_in v n) c.items in
       let size : size_of l.list c.piece ≡ suc (suc (length c.rest)) = ap
       (λ (v : Option (List Item)). items_in v) c.items in
-      let mark : place c.piece 1 ≡ place c.piece 0 = h.laid.items c.piece 0 (it.Mark c.address (number_in g node))
+      let mark : place c.piece 1 ≡ place c.piece 0 = placed.laid.items c.piece 0 (it.Mark c.address (number_in g node))
       (item 0) in
       let room : place c.piece 1 < place c.piece 2 = has_room base p c.item (place c.piece 1) (place c.piece 2) c.takes
-      (h.laid.items c.piece 1 c.item (item 1)) in
-      let at : t.pc ≡ place c.piece 1 = here.at ∙ c.here ∙ h.laid.starts c.piece c.within ∙ sym mark in
-      let low = (h.laid.within c.piece 1 c.within (omega arith)).begins in
-      let high = (h.laid.within c.piece 2 c.within (omega arith)).ends in
-      at_range site h node x t _
+      (placed.laid.items c.piece 1 c.item (item 1)) in
+      let at : t.pc ≡ place c.piece 1 = here.at ∙ c.here ∙ placed.laid.starts c.piece c.within ∙ sym mark in
+      let low = (placed.laid.within c.piece 1 c.within (omega arith)).begins in
+      let high = (placed.laid.within c.piece 2 c.within (omega arith)).ends in
+      at_range site node x t _
       here.live (omega arith) (omega arith)
-      (h.laid.ranges c.piece 1 t.pc c.item (item 1) (omega arith) (omega arith)
+      (placed.laid.ranges c.piece 1 t.pc c.item (item 1) (omega arith) (omega arith)
       ∙ ap (λ (v : Option (List Item)). range_of (place c.piece) (open_in v 1)) c.items)
       (sym at) refl c.original
 
   there : (node : Node) (x : Point) (t : State) → AtVisitIn site node x t → IsVisited site node x → visits_it g node x t
   there node x t here (head k) = heads_visit node x t here k
-  there node x t here (outside k) = (foreign_step site h node x t here k).0
-  there node x t here (beyond k) = (offs_step site h node x t here k).0
+  there node x t here (outside k) = (foreign_step site node x t here k).0
+  there node x t here (beyond k) = (offs_step site node x t here k).0
 
   judged : (x : Point) (t : State) (word : ℕ) → word_of g.text x.pc ≡ Some word
       → AllApart (pages_of g.notes) (judged_in (at_point x t) (instr_of (word_of g.text x.pc)))
@@ -67,16 +67,16 @@ module _ (site : Site) (h : Placed site) where
   by : (node : Node) (x : Point) (t : State) → AtVisitIn site node x t
       → AllApart (pages_of g.notes) (judged_in (at_point x t) (instr_of (word_of g.text x.pc))) → IsCase site node x t
       → StepsFrom site node x t
-  by node x t here apart (plain k) = plains_step site h node x t here k (judged x t k.word k.is_word apart)
-  by node x t here apart (couple k) = couples_step site h node x t here k
-  by node x t here apart (turn k) = conditional_step site h node x t here k
-  by node x t here apart (idle k) = unconditional_step site h node x t here k
-  by node x t here apart (call k) = calls_step site h node x t here k
-  by node x t here apart (jump k) = jumps_step site h node x t here k
-  by node x t here apart (landing k) = jump_slots_step site h node x t here k (judged x t k.word k.is_word apart)
-  by node x t here apart (choice k) = choices_step site h node x t here k
-  by node x t here apart (foreign k) = (foreign_step site h node x t here k).1
-  by node x t here apart (off k) = (offs_step site h node x t here k).1
+  by node x t here apart (plain k) = plains_step site node x t here k (judged x t k.word k.is_word apart)
+  by node x t here apart (couple k) = couples_step site node x t here k
+  by node x t here apart (turn k) = conditional_step site node x t here k
+  by node x t here apart (idle k) = unconditional_step site node x t here k
+  by node x t here apart (call k) = calls_step site node x t here k
+  by node x t here apart (jump k) = jumps_step site node x t here k
+  by node x t here apart (landing k) = jump_slots_step site node x t here k (judged x t k.word k.is_word apart)
+  by node x t here apart (choice k) = choices_step site node x t here k
+  by node x t here apart (foreign k) = (foreign_step site node x t here k).1
+  by node x t here apart (off k) = (offs_step site node x t here k).1
 
   pub simulate : IsImaged site → Simulates g (IsOffPages g) (AtVisitIn site) (Forms site)
   simulate c = record {
@@ -86,6 +86,6 @@ module _ (site : Site) (h : Placed site) where
       at.1,
     );
     steps = λ node x t matches clear here apart on chooses.
-        next_steps site h c.opens c.enters node x t matches.0
+        next_steps site c.opens c.enters node x t matches.0
         (by node x t here apart (c.cases node x t matches clear here on chooses));
   }

@@ -6,7 +6,7 @@ use Rattle.jump_code.proofs.FindFollowing.{goes, look_up_simulates}
 use Rattle.jump_code.proofs.Jumping.{jump_stops}
 use Rattle.image_code.specs.Simulates.{does_at, gone_at, graph_in, number_in}
 use Rattle.image_code.specs.Cost.{is_jmpl}
-use Rattle.image_code.proofs.Points.{ReachesNext, AtVisitIn, Placed, Site, StepsFrom, entered_at}
+use Rattle.image_code.proofs.Points.{ReachesNext, AtVisitIn, Site, StepsFrom, entered_at}
 use Rattle.image_code.proofs.PointShapes.{LeadsTo, IsJump}
 use Rattle.image_code.proofs.Memories.{same_stored}
 use Rattle.image_code.proofs.Dead.{LastDead, gone_last}
@@ -15,9 +15,9 @@ use Rattle.image_code.proofs.Sparing.{instr_is}
 use Rattle.image_code.proofs.Through.{ahead, goes_through}
 use Rattle.image_code.proofs.Marked.{AtWords, link_few}
 
-module _ (site : Site) (h : Placed site) (node : Node) (x : Point) (t : State) (here : AtVisitIn site node x t)
+module _ (site : Site) (node : Node) (x : Point) (t : State) (here : AtVisitIn site node x t)
     (c : IsJump site node x t) where
-  open site use {g, l, base, p, place, f}
+  open site use {g, l, base, p, place, f, placed}
 
   -- the original after its JMPL
   abbrev after_jump : State
@@ -36,7 +36,7 @@ module _ (site : Site) (h : Placed site) (node : Node) (x : Point) (t : State) (
   does_is = rw (c.is_word, c.says, c.none, c.next, c.original)
 
   there : AtWords site node x t c.piece (length image) (words_of image)
-  there = ahead site h node x t here _ c.marked image c.way refl
+  there = ahead site node x t here _ c.marked image c.way refl
 
   about : IsAboutToFind c.scratch c.second c.rd c.rs1 c.op2 c.address.0 f.halves t
   about =
@@ -48,17 +48,17 @@ module _ (site : Site) (h : Placed site) (node : Node) (x : Point) (t : State) (
         other = c.other;
         differ = c.differ;
         words = subst (λ z. StandIn (code_of t.memory) z image) (sym there.at)
-            ((pieces_are_laid l.list base p place h.laid t.memory here.memory.code c.piece _ c.items).find
+            ((pieces_are_laid l.list base p place placed.laid t.memory here.memory.code c.piece _ c.items).find
             c.scratch c.second c.rd c.rs1 c.op2 f.halves.base c.address (number_in g node) c.way c.apart c.other c.fits
-            c.in_range (omega (arith, h.frame.whole.below)) short refl).words;
+            c.in_range (omega (arith, placed.frame.whole.below)) short refl).words;
         short = short;
-        table = h.frame.whole;
+        table = placed.frame.whole;
         stands = record {
           readable = λ z from to aligned. loads_there z false t.memory (here.memory.table z from to aligned).0;
           same = λ z from to aligned. (here.memory.table z from to aligned).1;
         };
         page = λ n below. stores_there (page_word n) t.memory
-            (here.memory.ours.words (page_word n) (h.frame.page n (omega (arith, below))));
+            (here.memory.ours.words (page_word n) (placed.frame.page n (omega (arith, below))));
       }
     where
       short : c.address.0 < 2 ^ 32
@@ -109,7 +109,7 @@ module _ (site : Site) (h : Placed site) (node : Node) (x : Point) (t : State) (
       → ReachesNext site edges node x t after_jump
   going edges last live leads =
       let on = (look_up_simulates c.scratch c.second c.rd c.rs1 c.op2 c.address.0 f.halves t about).0 live in
-      goes_through site h node x t here _ c.marked image c.way refl
+      goes_through site node x t here _ c.marked image c.way refl
       after_jump (found_memory t c.scratch c.second c.rs1 c.op2 f.halves) edges last
       (record {
         moves = record {
@@ -137,8 +137,8 @@ module _ (site : Site) (h : Placed site) (node : Node) (x : Point) (t : State) (
       let traps = end.traps in
       let same = only_ends d over in
       let valid : IsValid traps.after = subst IsValid traps.path.steps (run-valid t 10 here.valid) in
-      ends_by site h node x t here after_jump traps.after 9 (record {
-        past = moves_past site h node x t here [] after_jump traps.after 10 (record {
+      ends_by site node x t here after_jump traps.after 9 (record {
+        past = moves_past site node x t here [] after_jump traps.after 10 (record {
           word = c.word;
           is_word = c.is_word;
           transfer = ap is_transfer c.says;
@@ -160,8 +160,8 @@ module _ (site : Site) (h : Placed site) (node : Node) (x : Point) (t : State) (
           registers = valid.registers.count
               ∙ sym (ap (λ (z : State). length z.registers) same ∙ here.valid.registers.count);
           input = traps.input ∙ sym (ap (λ (z : State). z.input) same);
-          memory = rw memory_is (same_stored site h t.memory traps.after.memory here.memory
-              (own_stored site h t.memory traps.after.memory traps.stores));
+          memory = rw memory_is (same_stored site t.memory traps.after.memory here.memory
+              (own_stored site t.memory traps.after.memory traps.stores));
           items = λ live thing _ _. absurd (cc);
         };
         there = there.there traps.after (omega (arith, traps.pc)) (omega (arith, traps.pc, many));
@@ -172,7 +172,7 @@ module _ (site : Site) (h : Placed site) (node : Node) (x : Point) (t : State) (
       (entered_at site
       (node_after (graph_in g) node (gone_at g node x after_jump)) (point_of after_jump)))
       → ReachesNext site (gone_at g node x after_jump) node x t after_jump
-  steps None e leads = going (gone_at g node x after_jump) (gone_last site h node x after_jump) e (leads e)
+  steps None e leads = going (gone_at g node x after_jump) (gone_last site node x after_jump) e (leads e)
   steps (Some d) e leads = ends d e
 
   pub jumps_step : StepsFrom site node x t

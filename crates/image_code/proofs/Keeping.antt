@@ -11,7 +11,7 @@ use Rattle.jump_code.proofs.Keeping.{addresses_are_saved}
 use Rattle.image_code.specs.Simulates.{CaseTable, IsAtWord, IsNoLoad, IsOnWay, EditSetup, Steps, StepsOn, at_point, does_at, gone_at, graph_in}
 use Rattle.image_code.specs.Cost.{limit_by, is_spill, is_transfer_at}
 use Rattle.image_code.specs.Store.{cells_in}
-use Rattle.image_code.proofs.Points.{AtEntryIn, ReachesNext, Forms, AtVisitIn, Placed, Site, StepsFrom, entered_at, visited_at}
+use Rattle.image_code.proofs.Points.{AtEntryIn, ReachesNext, Forms, AtVisitIn, Site, StepsFrom, entered_at, visited_at}
 use Rattle.image_code.specs.Keeping.{AreCaseTables}
 use Rattle.image_code.proofs.PointShapes.{IsEntered, IsKeeping, at_once, keeping}
 use Rattle.image_code.proofs.Routes.{IsFit, PieceFrom, CodeAt, bare_on, first_kept, rest_whole, stood, stood_low}
@@ -95,8 +95,8 @@ second_below (Imm simm13) e = omega arith
 keep_fits : (rs1 : ℕ) (op2 : Op2) → operands_in_range rs1 op2 ≡ true → op2_fits op2 ≡ true → Fit (save_load_address rs1 op2)
 keep_fits rs1 op2 in_range fits = (refl, refl, (in_range, fits, (refl, refl, tt)))
 
-module _ (site : Site) (h : Placed site) (are : AreCaseTables site.g) where
-  open site use {g, l, place, f}
+module _ (site : Site) (are : AreCaseTables site.g) where
+  open site use {g, l, place, f, placed}
 
   -- ---- where nothing is run between
 
@@ -139,29 +139,29 @@ module _ (site : Site) (h : Placed site) (are : AreCaseTables site.g) where
     whole : PieceFrom l c.piece 0 (word_items (save_load_address o.rs1 o.op2))
     whole = rest_whole l c.piece (word_items (save_load_address o.rs1 o.op2)) (tt, (tt, (tt, tt))) c.items
 
-    stands : CodeAt site h e.on.after.memory c.piece 0 (words_of (save_load_address o.rs1 o.op2))
-    stands = stood site h e.on.after.memory here.memory.code c.piece 0
+    stands : CodeAt site e.on.after.memory c.piece 0 (words_of (save_load_address o.rs1 o.op2))
+    stands = stood site e.on.after.memory here.memory.code c.piece 0
         (words_of (save_load_address o.rs1 o.op2)) [] whole
 
     begin : e.on.after.pc ≡ place c.piece 0
-    begin = here.at ∙ c.here ∙ h.laid.starts c.piece whole.within
+    begin = here.at ∙ c.here ∙ placed.laid.starts c.piece whole.within
 
     end : place c.piece 3 ≡ place c.piece 0 + 12
     end = stands.end
 
     low : place c.piece 3 ≤ 2 ^ 31
-    low = stood_low site h c.piece 0 (words_of (save_load_address o.rs1 o.op2)) [] whole
+    low = stood_low site c.piece 0 (words_of (save_load_address o.rs1 o.op2)) [] whole
 
     npc : e.on.after.npc ≡ e.on.after.pc + 4
     npc =
         let small : wrapped (e.on.after.pc + 4) ≡ e.on.after.pc + 4 = omega (arith, begin, end, low) in
         here.npc ∙ small
 
-    fit : IsFit site h e.on.after
+    fit : IsFit site e.on.after
     fit = record {
       valid = here.valid;
       has = here.memory;
-      runs = can_run site h e.on.after here.valid here.live npc here.slot here.memory;
+      runs = can_run site e.on.after here.valid here.live npc here.slot here.memory;
     }
 
     keeps : SavesLoadAddress o.rs1 o.op2 e.on.after (length (save_load_address o.rs1 o.op2))
@@ -177,7 +177,7 @@ module _ (site : Site) (h : Placed site) (are : AreCaseTables site.g) where
           rs1_below = ltb-true o.rs1 32 (and_parts _ _ q.in_range).0;
           op2_below = second_below o.op2 (and_parts _ _ q.in_range).1;
           page = λ n less. stores_there (page_word n) e.on.after.memory
-              (here.memory.ours.words (page_word n) (h.frame.page n (omega (arith, less))));
+              (here.memory.ours.words (page_word n) (placed.frame.page n (omega (arith, less))));
         })
 
     abbrev m : Memory
@@ -189,7 +189,7 @@ module _ (site : Site) (h : Placed site) (are : AreCaseTables site.g) where
     stored : Stores (IsAmongWords f.own) e.on.after.memory m
         × ((memory_word m (page_word 1) ≡ memory_word e.on.after.memory (page_word 1))
         × (words_at g.notes.base g.notes.cells m ≡ cells_in g.notes e.on.after))
-    stored = first_kept site h e.on.after m fit keeps.stores
+    stored = first_kept site e.on.after m fit keeps.stores
 
     steps : run t (3 + e.on.count) ≡ after
     steps = run_add t e.on.count 3 ∙ ap (λ (z : State). run z 3) e.on.path.steps ∙ keeps.path.steps
@@ -206,7 +206,7 @@ module _ (site : Site) (h : Placed site) (are : AreCaseTables site.g) where
       where
         bare : (u : State) → u.ending ≡ None → e.on.after.pc ≤ u.pc → u.pc < e.on.after.pc + 12 → IsOnWay g t u
         bare u running from to =
-            bare_on site h t u running (stands.bare u (omega (arith, begin)) (omega (arith, begin)))
+            bare_on site t u running (stands.bare u (omega (arith, begin)) (omega (arith, begin)))
 
         running : (run e.on.after j).ending ≡ None
         running =
@@ -243,7 +243,7 @@ module _ (site : Site) (h : Placed site) (are : AreCaseTables site.g) where
             registers = s.followed.registers;
             input = s.followed.input;
             memory = outside_trans (pages_of g.notes) v.memory s.after.memory m s.followed.memory
-                (same_stored site h s.after.memory m here.memory stored.0);
+                (same_stored site s.after.memory m here.memory stored.0);
             items = λ running thing good kept.
                 same_past thing v s.after 3 m
                 (s.followed.items running thing good kept);
@@ -255,7 +255,7 @@ module _ (site : Site) (h : Placed site) (are : AreCaseTables site.g) where
             at = (let q : s.after.pc + 12 ≡ place c.piece 3 = omega (arith, begin, end) in q) ∙ c.behind;
             npc = (let q : s.after.pc + 12 + 4 ≡ wrapped (s.after.pc + 12 + 4) = omega (arith, begin, end, low) in q);
             slot = refl;
-            memory = images_stored site h s.after
+            memory = images_stored site s.after
                 (after) 3
                 keeps.path.steps stored.0 here.memory;
             waits = λ taken _. let none = at.outside in absurd (cc);

@@ -11,7 +11,7 @@ use Rattle.jump_code.proofs.Leaving.{foreign_leaves}
 use Rattle.image_code.specs.Simulates.{at_point, does_at, gone_at, graph_in, number_in}
 use Rattle.image_code.specs.Cost.{NoneIsOut}
 use Rattle.image_code.specs.Store.{operations_on}
-use Rattle.image_code.proofs.Points.{AtVisitIn, Placed, Site, StepsFrom}
+use Rattle.image_code.proofs.Points.{AtVisitIn, Site, StepsFrom}
 use Rattle.image_code.proofs.PointShapes.{LeadsTo, next_entry, words_on, IsJumpsSlot, Lands}
 use Rattle.image_code.proofs.Routes.{FollowsRoute, IsInNoPlace, IsFit, PieceFrom, arrive, arrived, bare_here, eased, length_words, on_then, rest_behind, rest_marked, page_there, rest_whole, snippets_run, unwatched, CodeAt, stood, stood_low, weaker_route, words_unmarked}
 use Rattle.image_code.proofs.Cases.{judged_moved, marked_step}
@@ -23,14 +23,14 @@ use Rattle.image_code.proofs.EntersBy.{own_stored}
 abbrev going_on : List Item
 going_on = word_items (resume 1)
 
-module _ (site : Site) (h : Placed site) where
-  open site use {g, l, p, place, f}
+module _ (site : Site) where
+  open site use {g, l, p, place, f, placed}
 
   -- Words that keep a register in one of the page's words above word 1, and jump: of such a way no more is asked.
-  hops_out : (k n count to : ℕ) (ws : List ℕ) (a : State) → IsFit site h a
-      → CodeAt site h a.memory k n ws → length ws ≡ count → 0 < count → a.pc ≡ place k n → (word v : ℕ)
+  hops_out : (k n count to : ℕ) (ws : List ℕ) (a : State) → IsFit site a
+      → CodeAt site a.memory k n ws → length ws ≡ count → 0 < count → a.pc ≡ place k n → (word v : ℕ)
       → 1 < word → Hops a count IsPageWord to (store_word a.memory (page_word word) v)
-      → FollowsRoute site h None [] a to count
+      → FollowsRoute site None [] a to count
   hops_out k n count to ws a fit there many some at word v above hops =
       let left = store_word a.memory (page_word word) v in
       record {
@@ -38,16 +38,16 @@ module _ (site : Site) (h : Placed site) where
         other = a;
         memory = left;
         few = omega arith;
-        path = leads_weaker _ (IsInNoPlace site h) a _ count
+        path = leads_weaker _ (IsInNoPlace site) a _ count
             (λ u q.
             there.bare u (omega (arith, at, q.past)) (omega (arith, at, q.before, many)))
             hops.path;
         silent = hops.silent;
-        stores = own_stored site h a.memory left hops.stores;
+        stores = own_stored site a.memory left hops.stores;
         waits = other_word_stored a.memory (page_word 1) (page_word word) v
-            (page_there site h a fit 1 (omega arith)) (inl (omega (arith, above)));
+            (page_there site a fit 1 (omega arith)) (inl (omega (arith, above)));
         found = λ there. absurd (there refl);
-        cells = λ _. cells_above site h IsPageWord page_above a.memory left fit.has.ours hops.stores;
+        cells = λ _. cells_above site IsPageWord page_above a.memory left fit.has.ours hops.stores;
         begins = λ _. there.bare a (omega (arith, at)) (omega (arith, at, many, some));
         alike = alike_itself g [] a;
         still = λ _. refl;
@@ -58,11 +58,11 @@ module _ (site : Site) (h : Placed site) where
 
   -- ---- the jump to what was found
 
-  goes_found : (k n : ℕ) → PieceFrom l k n going_on → (a : State) → IsFit site h a → a.pc ≡ place k n → (to : ℕ)
-      → found_there a ≡ to → to % 4 ≡ 0 → FollowsRoute site h None [] a to 3
+  goes_found : (k n : ℕ) → PieceFrom l k n going_on → (a : State) → IsFit site a → a.pc ≡ place k n → (to : ℕ)
+      → found_there a ≡ to → to % 4 ≡ 0 → FollowsRoute site None [] a to 3
   goes_found k n rest a fit at to found aligned =
-      let there = stood site h a.memory fit.has.code k n (words_of (resume 1)) [] rest in
-      let low = stood_low site h k n (words_of (resume 1)) [] rest in
+      let there = stood site a.memory fit.has.code k n (words_of (resume 1)) [] rest in
+      let low = stood_low site k n (words_of (resume 1)) [] rest in
       let about : IsAboutToGoOn 1 a = record {
         valid = fit.valid;
         ready = fit.runs.ready;
@@ -72,21 +72,21 @@ module _ (site : Site) (h : Placed site) where
         words = subst (λ z. StandIn (code_of a.memory) z (resume 1)) (sym at)
             (words_mean (code_of a.memory) (place k n) (resume 1)
             (refl, refl, (refl, refl, (refl, refl, tt))) there.words);
-        page = page_there site h a fit;
+        page = page_there site a fit;
         aligned = ap (λ z. z % 4) found ∙ aligned;
       } in
-      subst (λ z. FollowsRoute site h None [] a z 3) found
+      subst (λ z. FollowsRoute site None [] a z 3) found
       (hops_out k n 3 (found_there a) (words_of (resume 1)) a fit there refl (omega arith) at 7
       (register_of a 1) (omega arith) (resume_hops 1 a about))
 
   -- ---- the foreign piece
 
-  pub leaves : (k : ℕ) → slice_get l.list k ≡ Some foreign_piece → (a : State) → IsFit site h a
-      → a.pc ≡ place k 0 → (target : ℕ) → waiting a ≡ target → target % 4 ≡ 0 → FollowsRoute site h None [] a target 4
+  pub leaves : (k : ℕ) → slice_get l.list k ≡ Some foreign_piece → (a : State) → IsFit site a
+      → a.pc ≡ place k 0 → (target : ℕ) → waiting a ≡ target → target % 4 ≡ 0 → FollowsRoute site None [] a target 4
   leaves k is a fit at target waits aligned =
       let r = rest_whole l k foreign_piece (tt, (tt, (tt, (tt, tt)))) is in
-      let there = stood site h a.memory fit.has.code k 0 (words_of foreign) [] r in
-      let low = stood_low site h k 0 (words_of foreign) [] r in
+      let there = stood site a.memory fit.has.code k 0 (words_of foreign) [] r in
+      let low = stood_low site k 0 (words_of foreign) [] r in
       let about : IsAboutToLeave a = record {
         valid = fit.valid;
         ready = fit.runs.ready;
@@ -94,10 +94,10 @@ module _ (site : Site) (h : Placed site) where
         words = subst (λ z. StandIn (code_of a.memory) z foreign) (sym at)
             (words_mean (code_of a.memory) (place k 0) foreign
             (refl, refl, (refl, refl, (refl, refl, (refl, refl, tt)))) there.words);
-        page = λ n few. page_there site h a fit n (omega (arith, few));
+        page = λ n few. page_there site a fit n (omega (arith, few));
         aligned = ap (λ z. z % 4) waits ∙ aligned;
       } in
-      subst (λ z. FollowsRoute site h None [] a z 4) waits
+      subst (λ z. FollowsRoute site None [] a z 4) waits
       (hops_out k 0 4 (waiting a) (words_of foreign) a fit there refl (omega arith) at 2 (register_of a 1) (omega arith)
       (foreign_leaves a about))
 
@@ -108,17 +108,17 @@ module _ (site : Site) (h : Placed site) where
     -- the target waits while the slot's word is run
     target_waits : waiting (act t (decode_of c.word)) ≡ x.npc
     target_waits =
-        let own = h.frame.page 1 (omega arith) in
+        let own = placed.frame.page 1 (omega arith) in
         (words_stay (pages_of g.notes) (page_word 1) true t (decode_of c.word)
-        (h.frame.own.within (page_word 1) own) apart (here.memory.ours.words (page_word 1) own)).1
+        (placed.frame.own.within (page_word 1) own) apart (here.memory.ours.words (page_word 1) own)).1
         ∙ (here.waits c.slot c.out c.caseless).0
 
     -- so does what was found
     found_waits : found_there (act t (decode_of c.word)) ≡ found_in f.halves x.npc
     found_waits =
-        let own = h.frame.page 7 (omega arith) in
+        let own = placed.frame.page 7 (omega arith) in
         (words_stay (pages_of g.notes) (page_word 7) true t (decode_of c.word)
-        (h.frame.own.within (page_word 7) own) apart (here.memory.ours.words (page_word 7) own)).1
+        (placed.frame.own.within (page_word 7) own) apart (here.memory.ours.words (page_word 7) own)).1
         ∙ (here.waits c.slot c.out c.caseless).2 (there (word_at g.text x.pc) c.is_word)
       where
         there : (o : Option ℕ) → option_map (λ word. slice_index g.text.words word) o ≡ Some c.word → o ≢ None
@@ -130,62 +130,62 @@ module _ (site : Site) (h : Placed site) where
         (words_unmarked (flat_map l.codes (c.edge ∷ [])) going_on (tt, (tt, (tt, tt)))) c.items
 
     -- through the snippet and the jump to what was found, and on from there
-    onward : (to : ℕ) → IsFit site h (act t (decode_of c.word))
+    onward : (to : ℕ) → IsFit site (act t (decode_of c.word))
         → (act t (decode_of c.word)).pc ≡ place c.piece 3 → found_in f.halves x.npc % 4 ≡ 0
         → found_in f.halves x.npc ≤ 2 ^ 31
-        → ((b : State) → IsFit site h b → b.pc ≡ found_in f.halves x.npc → waiting b ≡ x.npc
-        → FollowsRoute site h None c.landing b to 4)
-        → FollowsRoute site h None (c.edge ∷ c.landing) (act t (decode_of c.word)) to 24
+        → ((b : State) → IsFit site b → b.pc ≡ found_in f.halves x.npc → waiting b ≡ x.npc
+        → FollowsRoute site None c.landing b to 4)
+        → FollowsRoute site None (c.edge ∷ c.landing) (act t (decode_of c.word)) to 24
     unfolding eased
     onward to fit at aligned low_there behind =
         let a : State = act t (decode_of c.word) in
         let edges = c.edge ∷ [] in
         let n = 3 + length (flat_map l.codes (c.edge ∷ [])) in
         let mid = place c.piece (3 + length (flat_map l.codes (c.edge ∷ []))) in
-        let way = snippets_run site h (Some 0) (c.edge ∷ []) c.piece 3 going_on rest
+        let way = snippets_run site (Some 0) (c.edge ∷ []) c.piece 3 going_on rest
         (act t (decode_of c.word)) fit at in
-        let one = unwatched site h (Some 0) (c.edge ∷ []) a mid 0 way in
-        let low = stood_low site h c.piece 3 (flat_map l.codes (c.edge ∷ [])) going_on rest in
+        let one = unwatched site (Some 0) (c.edge ∷ []) a mid 0 way in
+        let low = stood_low site c.piece 3 (flat_map l.codes (c.edge ∷ [])) going_on rest in
         let b : State = hopped way.other mid way.memory in
-        let fit2 = arrived site h (c.edge ∷ []) (act t (decode_of c.word)) mid 0 fit low way in
+        let fit2 = arrived site (c.edge ∷ []) (act t (decode_of c.word)) mid 0 fit low way in
         let r2 : PieceFrom l c.piece (3 + length (flat_map l.codes (c.edge ∷ []))) going_on =
         rw (length_words (flat_map l.codes (c.edge ∷ []))) at
         (rest_behind l c.piece 3 (words_on l (c.edge ∷ [])) going_on rest) in
         let there = found_in f.halves x.npc in
         let two = goes_found c.piece n r2 b fit2 refl there (way.found (λ e. cc) ∙ found_waits)
         aligned in
-        let fit3 = arrived site h [] b there 3 fit2 low_there two in
+        let fit3 = arrived site [] b there 3 fit2 low_there two in
         let three = behind (hopped two.other there two.memory) fit3 refl (two.waits ∙ way.waits ∙ target_waits) in
-        let both = on_then site h c.landing [] c.landing refl b there to 3 4 two three in
-        weaker_route site h (c.edge ∷ c.landing) a to (0 + (3 + 4)) 24 (omega arith)
-        (on_then site h (c.edge ∷ c.landing) (c.edge ∷ []) c.landing refl a mid to 0 (3 + 4) one both)
+        let both = on_then site c.landing [] c.landing refl b there to 3 4 two three in
+        weaker_route site (c.edge ∷ c.landing) a to (0 + (3 + 4)) 24 (omega arith)
+        (on_then site (c.edge ∷ c.landing) (c.edge ∷ []) c.landing refl a mid to 0 (3 + 4) one both)
 
-    lands : (to : ℕ) → IsFit site h (act t (decode_of c.word))
+    lands : (to : ℕ) → IsFit site (act t (decode_of c.word))
         → (act t (decode_of c.word)).pc ≡ place c.piece 3 → Lands site c.landing x.npc to
         → (word_at g.text x.npc ≡ None → to ≡ x.npc)
-        → FollowsRoute site h None (c.edge ∷ c.landing) (act t (decode_of c.word)) to 24
+        → FollowsRoute site None (c.edge ∷ c.landing) (act t (decode_of c.word)) to 24
     lands to fit at (inl (piece, within, found, leads)) out =
-        let place_there = h.laid.aligned piece.0 in
+        let place_there = placed.laid.aligned piece.0 in
         let multiple : found_in f.halves x.npc % 4 ≡ 0 = ap (λ z. z % 4) found ∙ place_there.0 in
         onward to fit at multiple (omega (arith, found, place_there.1)) (λ b fit2 there waits. by b fit2 (there ∙ found) leads)
       where
-        by : (b : State) → IsFit site h b → b.pc ≡ slice_index p.at piece.0
+        by : (b : State) → IsFit site b → b.pc ≡ slice_index p.at piece.0
             → LeadsTo l p piece c.landing (word_at g.text x.npc) to
             ⊎ ((operations_on g.snips c.landing ≡ 0) × (slice_index p.at piece.0 ≡ to))
-            → FollowsRoute site h None c.landing b to 4
+            → FollowsRoute site None c.landing b to 4
         by b fit2 there (inl leads) =
-            unwatched site h (word_at g.text x.npc) c.landing b to 4
-            (arrive site h piece c.landing b (word_at g.text x.npc) to fit2 there leads)
+            unwatched site (word_at g.text x.npc) c.landing b to 4
+            (arrive site piece c.landing b (word_at g.text x.npc) to fit2 there leads)
         by b fit2 there (inr (none, e)) =
-            let low = (h.laid.aligned piece.0).1 in
-            bare_here site h c.landing b to 4 none fit2 (there ∙ e) (omega (arith, there, low))
+            let low = (placed.laid.aligned piece.0).1 in
+            bare_here site c.landing b to 4 none fit2 (there ∙ e) (omega (arith, there, low))
     lands to fit at (inr (no_landing, (piece, within, found, is, none))) out =
-        let place_there = h.laid.aligned piece.0 in
+        let place_there = placed.laid.aligned piece.0 in
         let multiple : found_in f.halves x.npc % 4 ≡ 0 = ap (λ z. z % 4) found ∙ place_there.0 in
         onward to fit at multiple (omega (arith, found, place_there.1)) (λ b fit2 there waits.
-        subst (λ z. FollowsRoute site h None z b to 4) (sym no_landing)
-        (subst (λ z. FollowsRoute site h None [] b z 4) (sym (out none))
-        (leaves piece.0 is b fit2 (there ∙ found ∙ h.laid.starts piece.0 within) x.npc waits
+        subst (λ z. FollowsRoute site None z b to 4) (sym no_landing)
+        (subst (λ z. FollowsRoute site None [] b z 4) (sym (out none))
+        (leaves piece.0 is b fit2 (there ∙ found ∙ placed.laid.starts piece.0 within) x.npc waits
         (here.waits c.slot c.out c.caseless).1)))
 
     -- along the edge of a jump it isn't told what is stored
@@ -209,8 +209,8 @@ module _ (site : Site) (h : Placed site) where
       → StepsFrom site node x t
   jump_slots_step node x t here c apart =
       let moved = judged_moved g.notes x t (decode_of c.word) apart in
-      marked_step site h node x t here _ c.marked None apart (λ live fit at. (
-        subst (λ z. FollowsRoute site h None z (act t (decode_of c.word)) (next_entry site node x t) 24)
+      marked_step site node x t here _ c.marked None apart (λ live fit at. (
+        subst (λ z. FollowsRoute site None z (act t (decode_of c.word)) (next_entry site node x t) 24)
             (sym (c.completes live))
             (lands node x t here c moved (next_entry site node x t) fit at (c.lands live)
             (out node x t here c moved live)),

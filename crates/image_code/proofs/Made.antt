@@ -87,7 +87,7 @@ pieces_make_images g codes base p place f text graph known placed tables cases b
       below = below;
       noted = noted;
     } in
-    simulate (site edit) placed (record {
+    simulate (site edit) (record {
       visits = visits edit;
       cases = λ node x t m clear here _ chooses. case edit node x t m clear here chooses;
       opens = are_tables g known text is.cased;

@@ -4,7 +4,7 @@ use Rattle.layout.specs.declared.items.Item.TheVariants as it
 use Rattle.layout.specs.Laid.{OpenMark as Open, size_of, end_from}
 use Rattle.layout.proofs.Going.{word_is}
 use Rattle.image_code.specs.Simulates.{IsOnWay, IsThere, number_in}
-use Rattle.image_code.proofs.Points.{AtVisitIn, Placed, Site}
+use Rattle.image_code.proofs.Points.{AtVisitIn, Site}
 use Rattle.image_code.proofs.PointShapes.{IsMarked, visits_it}
 use Rattle.image_code.proofs.Between.{at_range, can_run, on_range, there_in}
 use Rattle.image_code.proofs.Cells.{cells_above, page_above}
@@ -64,9 +64,9 @@ pub record AtWords (site : Site) (node : Node) (x : Point) (t : State) (k count 
   pub there : (u : State) → t.pc ≤ u.pc → u.pc < t.pc + 4 * count → IsThere site.g t u
   pub visits : 0 < count → visits_it site.g node x t
 
-module _ (site : Site) (h : Placed site) (node : Node) (x : Point) (t : State) (here : AtVisitIn site node x t)
+module _ (site : Site) (node : Node) (x : Point) (t : State) (here : AtVisitIn site node x t)
     (behind : Addr → ℕ → List Item) (c : IsMarked site node x behind) (rest : List Item) where
-  open site use {g, l, base, p, place}
+  open site use {g, l, base, p, place, placed}
 
   module _ (ws : List ℕ) (same : behind c.address c.word ≡ map it.Word ws ++ it.EndMark ∷ rest) where
     is : slice_get l.list c.piece
@@ -88,7 +88,7 @@ module _ (site : Site) (h : Placed site) (node : Node) (x : Point) (t : State) (
     stands (suc j) low =
         let w = word j (omega (arith, low)) in
         let one : (place c.piece (suc (suc j)) ≡ place c.piece (suc j) + 4) × IsWordAt base p.code (place c.piece (suc j)) w.0 =
-        h.laid.items c.piece (suc j) (it.Word w.0) w.1 in
+        placed.laid.items c.piece (suc j) (it.Word w.0) w.1 in
         let before = stands j (omega (arith, low)) in
         omega arith
 
@@ -109,7 +109,7 @@ module _ (site : Site) (h : Placed site) (node : Node) (x : Point) (t : State) (
         let w = word ((a - place c.piece 1) / 4) low in
         let begin = stands ((a - place c.piece 1) / 4) (omega (arith, low)) in
         let end = stands (suc ((a - place c.piece 1) / 4)) (omega (arith, low)) in
-        h.laid.ranges c.piece (suc ((a - place c.piece 1) / 4)) a (it.Word w.0) w.1 (omega arith) (omega arith)
+        placed.laid.ranges c.piece (suc ((a - place c.piece 1) / 4)) a (it.Word w.0) w.1 (omega arith) (omega arith)
         ∙ ap (range_of (place c.piece)) (open_word ((a - place c.piece 1) / 4) low)
 
     has_words : (n : ℕ) (vs : List ℕ) (ys : List Item)
@@ -117,7 +117,7 @@ module _ (site : Site) (h : Placed site) (node : Node) (x : Point) (t : State) (
         → HasWords (code_of t.memory) (place c.piece n) vs
     has_words n [] ys items = tt
     has_words n (v ∷ vs) ys items =
-        let at = h.laid.items c.piece n (it.Word v) (rw add-zero at (items 0)) in (
+        let at = placed.laid.items c.piece n (it.Word v) (rw add-zero at (items 0)) in (
           word_is base (place c.piece n) v p.code t.memory here.memory.code at.1,
           rw at.0 at (has_words (suc n) vs ys (λ j. let e : suc n + j ≡ n + suc j = omega arith in rw e (items (suc j)))),
         )
@@ -125,33 +125,33 @@ module _ (site : Site) (h : Placed site) (node : Node) (x : Point) (t : State) (
     pub at_words : AtWords site node x t c.piece (length ws) ws
     at_words =
         let s = size in
-        let at : t.pc ≡ place c.piece 1 = here.at ∙ c.here ∙ h.laid.starts c.piece c.within
-        ∙ sym (h.laid.items c.piece 0 (it.Mark c.address (number_in g node)) (item_is 0)) in
+        let at : t.pc ≡ place c.piece 1 = here.at ∙ c.here ∙ placed.laid.starts c.piece c.within
+        ∙ sym (placed.laid.items c.piece 0 (it.Mark c.address (number_in g node)) (item_is 0)) in
         let last = stands (length ws) (omega arith) in
         let close : place c.piece (suc (suc (length ws))) ≡ place c.piece (suc (length ws)) =
-        h.laid.items c.piece (suc (length ws)) it.EndMark (item_is (suc (length ws)) ∙ end_behind ws it.EndMark rest) in
-        let begins = (h.laid.within c.piece 1 c.within (omega arith)).begins in
-        let ends = (h.laid.within c.piece (suc (length ws)) c.within (omega arith)).ends in
-        let low = h.laid.low in
+        placed.laid.items c.piece (suc (length ws)) it.EndMark (item_is (suc (length ws)) ∙ end_behind ws it.EndMark rest) in
+        let begins = (placed.laid.within c.piece 1 c.within (omega arith)).begins in
+        let ends = (placed.laid.within c.piece (suc (length ws)) c.within (omega arith)).ends in
+        let low = placed.laid.low in
         let small : 0 < length ws → wrapped (t.pc + 4) ≡ t.pc + 4 = λ some. omega arith in
         record {
           at = at;
           low = omega arith;
           behind = omega arith;
           next = λ some. here.npc ∙ small some;
-          ready = λ some. can_run site h t here.valid here.live (here.npc ∙ small some) here.slot here.memory;
+          ready = λ some. can_run site t here.valid here.live (here.npc ∙ small some) here.slot here.memory;
           words = rw at (has_words 1 ws (it.EndMark ∷ rest) (λ j. let e : 1 + j ≡ suc j = omega arith in rw e (item_is (suc j))));
           on = λ u z live.
               let past = z.past in
               let before = z.before in
-              on_range site h t u range live (omega arith) past (omega arith) (in_range t.pc (omega arith) (omega arith))
+              on_range site t u range live (omega arith) past (omega arith) (in_range t.pc (omega arith) (omega arith))
               (in_range u.pc (omega arith) (omega arith)) (sym at)
-              (cells_above site h IsPageWord page_above t.memory u.memory here.memory.ours z.stores);
+              (cells_above site IsPageWord page_above t.memory u.memory here.memory.ours z.stores);
           there = λ u from below.
-              there_in site h t u range (omega arith) (omega arith) (omega arith) (omega arith)
+              there_in site t u range (omega arith) (omega arith) (omega arith) (omega arith)
               (in_range t.pc (omega arith) (omega arith)) (in_range u.pc (omega arith) (omega arith));
           visits = λ some.
-              at_range site h node x t range here.live (omega arith) (omega arith)
+              at_range site node x t range here.live (omega arith) (omega arith)
               (in_range t.pc (omega arith) (omega arith)) (sym at) refl c.original;
         }
 

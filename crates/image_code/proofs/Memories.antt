@@ -8,7 +8,7 @@ use Rattle.code_runs.proofs.StoredWords.{other_loaded}
 use Rattle.addr_translate.specs.Lookup.{TableAt}
 use Rattle.image_code.specs.Simulates.{EditSetup}
 use Rattle.image_code.specs.Images.{HasImages, HasTable, IsTableIn}
-use Rattle.image_code.proofs.Points.{Placed, Site}
+use Rattle.image_code.proofs.Points.{Site}
 
 pub fetch_is : (m : Memory) (a : ℕ) → fetch_of m a ≡ fetch_from (code_of m) a
 unfolding fetch_of
@@ -56,8 +56,8 @@ module _ (g : EditSetup) (own : List ℕ) (table : TableAt) (framed : IsTableIn 
       let new = words_stay (pages_of g.notes) a false s x (framed.within a from to) apart old.0 in
       (new.0, new.1 ∙ old.1)
 
-module _ (site : Site) (h : Placed site) where
-  open site use {g, base, p, f}
+module _ (site : Site) where
+  open site use {g, base, p, f, placed}
 
   -- so many steps that stored the editor's words alone
   pub images_stored : (t after : State) (count : ℕ) → run t count ≡ after
@@ -70,8 +70,8 @@ module _ (site : Site) (h : Placed site) where
         code = λ n word at. ap (λ code. fetch_from code (base + 4 * n)) same ∙ has.code n word at;
         only = λ a beside. ap (λ code. fetch_from code a) same ∙ has.only a beside;
         ours = (ours_are_stored (pages_of g.notes) f.own t.memory after.memory has.ours stores).0;
-        table = table_stored g f.own f.halves h.frame.table t.memory after.memory stores has.table;
-        cases = table_stored g f.own f.cases h.frame.cases t.memory after.memory stores has.cases;
+        table = table_stored g f.own f.halves placed.frame.table t.memory after.memory stores has.table;
+        cases = table_stored g f.own f.cases placed.frame.cases t.memory after.memory stores has.cases;
       }
 
   pub same_stored : (m n : Memory) → HasImages g base p f m → Stores (IsAmongWords f.own) m n
@@ -87,7 +87,7 @@ module _ (site : Site) (h : Placed site) where
       record {
         code = λ n word at. ap (λ code. fetch_from code (base + 4 * n)) same ∙ has.code n word at;
         only = λ a beside. ap (λ code. fetch_from code a) same ∙ has.only a beside;
-        ours = ours_stay (pages_of g.notes) f.own t x h.frame.own has.ours apart;
-        table = table_stays g f.own f.halves h.frame.table t x apart has.table;
-        cases = table_stays g f.own f.cases h.frame.cases t x apart has.cases;
+        ours = ours_stay (pages_of g.notes) f.own t x placed.frame.own has.ours apart;
+        table = table_stays g f.own f.halves placed.frame.table t x apart has.table;
+        cases = table_stays g f.own f.cases placed.frame.cases t x apart has.cases;
       }

@@ -16,6 +16,7 @@ pub record Site : Type 0 where
   pub p : Placement
   pub place : ℕ → ℕ → ℕ
   pub f : EditorData
+  pub placed : IsPlaced g l base p place f
 
 abbrev pub placed_by : (Node → ℕ → ℕ) → Site → Node → Point → ℕ
 placed_by image site node x = place_by image site.g site.l site.p site.f node x (word_at site.g.text x.pc) x.slot
@@ -49,6 +50,3 @@ pub record ReachesNext (site : Site) (edges : List ℕ) (node : Node) (x : Point
 -- where the original's step leads
 abbrev pub StepsFrom : Site → Node → Point → State → Type 0
 StepsFrom site node x t = let v = does_at site.g x t in ReachesNext site (gone_at site.g node x v) node x t v
-
-abbrev pub Placed : Site → Type 0
-Placed site = IsPlaced site.g site.l site.base site.p site.place site.f

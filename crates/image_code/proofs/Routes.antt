@@ -12,7 +12,7 @@ use Rattle.layout.proofs.Going.{stays, jumps_hop}
 use Rattle.image_code.specs.Simulates.{IsOnWay}
 use Rattle.image_code.specs.Cost.{in_first_word, is_spill, spills_on}
 use Rattle.image_code.specs.Store.{cells_in, operations_on, snippet_on, updates}
-use Rattle.image_code.proofs.Points.{Forms, Placed, Site}
+use Rattle.image_code.proofs.Points.{Forms, Site}
 use Rattle.image_code.specs.Images.{HasImages, Pieces}
 use Rattle.image_code.proofs.PointShapes.{IsJumpTarget, LeadsTo, LeadsOn, rest_from, words_on}
 use Rattle.image_code.proofs.Between.{can_run, item_below, item_size, on_none, stores_weaker}
@@ -99,15 +99,15 @@ no_updates snips (edge ∷ edges) cells s none =
     rw (nil_from_length (snippet_on snips edge) (omega (arith, none)))
     (no_updates snips edges cells s (omega (arith, none)))
 
-module _ (site : Site) (h : Placed site) where
-  open site use {g, l, base, p, place, f}
+module _ (site : Site) where
+  open site use {g, l, base, p, place, f, placed}
 
   -- in the code, and in no place
   abbrev pub IsInNoPlace : State → Type 0
   IsInNoPlace u = (base ≤ u.pc) × (u.pc < base + 4 * length p.code) × (range_in p.ranges u.pc ≡ None)
 
   pub bare_on : (t u : State) → u.ending ≡ None → IsInNoPlace u → IsOnWay g t u
-  bare_on t u live bare = on_none site h t u live bare.0 bare.1 bare.2
+  bare_on t u live bare = on_none site t u live bare.0 bare.1 bare.2
 
   -- A way through such words and the snippets of some edges: all stays as it was but what is dead behind these and
   -- words of the editor's, and in them the cells are updated, and the target that waits in word 1 of the page stays.
@@ -141,11 +141,11 @@ module _ (site : Site) (h : Placed site) where
       → run a count ≡ hopped b to m → Stores (IsAmongWords f.own) a.memory m → IsFit (hopped b to m)
   hopped_fit a b to k live low count m steps stores =
       let valid : IsValid (hopped b to m) = subst IsValid steps (run-valid a count k.valid) in
-      let has = images_stored site h a (hopped b to m) count steps stores k.has in
+      let has = images_stored site a (hopped b to m) count steps stores k.has in
       record {
         valid = valid;
         has = has;
-        runs = can_run site h (hopped b to m) valid live (omega arith) refl has;
+        runs = can_run site (hopped b to m) valid live (omega arith) refl has;
       }
 
   -- where a way ends
@@ -158,7 +158,7 @@ module _ (site : Site) (h : Placed site) where
   -- the words of the page can be stored in
   pub page_there : (a : State) → IsFit a → (n : ℕ) → n < 8 → CanStore a.memory (page_word n)
   page_there a fit n few =
-      stores_there (page_word n) a.memory (fit.has.ours.words (page_word n) (h.frame.page n (omega (arith, few))))
+      stores_there (page_word n) a.memory (fit.has.ours.words (page_word n) (placed.frame.page n (omega (arith, few))))
 
   -- stores in word 0 of the page
   pub first_kept : (a : State) (m : Memory) → IsFit a → Stores IsFirstWord a.memory m
@@ -166,11 +166,11 @@ module _ (site : Site) (h : Placed site) where
       × ((memory_word m (page_word 1) ≡ memory_word a.memory (page_word 1))
       × (words_at g.notes.base g.notes.cells m ≡ cells_in g.notes a))
   first_kept a m fit stores = (
-    stores_weaker IsFirstWord (IsAmongWords f.own) a.memory m (λ z e. rw e h.frame.own.first) stores,
+    stores_weaker IsFirstWord (IsAmongWords f.own) a.memory m (λ z e. rw e placed.frame.own.first) stores,
     (
       word_kept IsFirstWord (page_word 1) (λ z e. inr (omega (arith, e))) a.memory m stores
           (page_there a fit 1 (omega arith)),
-      cells_above site h IsFirstWord first_above a.memory m fit.has.ours stores,
+      cells_above site IsFirstWord first_above a.memory m fit.has.ours stores,
     ),
   )
 
@@ -222,11 +222,11 @@ module _ (site : Site) (h : Placed site) where
   bare_item k n x item closed u low high =
       let size = item_size l.list k n x item in
       let here = item_below l.list k n x item in
-      let ends = (h.laid.within k (suc n) here (omega arith)).ends in
-      let starts = (h.laid.within k n here (omega arith)).begins in (
+      let ends = (placed.laid.within k (suc n) here (omega arith)).ends in
+      let starts = (placed.laid.within k n here (omega arith)).begins in (
         omega arith,
         omega arith,
-        h.laid.ranges k n u.pc x item low high ∙ ap (range_of (place k)) closed,
+        placed.laid.ranges k n u.pc x item low high ∙ ap (range_of (place k)) closed,
       )
 
   -- a Jump outside each Mark
@@ -234,7 +234,7 @@ module _ (site : Site) (h : Placed site) where
       → open_in (slice_get l.list k) n ≡ None
       → (a : State) → IsFit a → a.pc ≡ place k n → FollowsRoute next [] a (slice_index p.at z.0) 4
   jump_on next k n z item closed a fit at =
-      let j = jumps_hop l.list base p place h.laid k n z item a fit.runs at in
+      let j = jumps_hop l.list base p place placed.laid k n z item a fit.runs at in
       let ins = j.inside in
       let none = bare_item k n (it.Jump z) item closed in
       hops_on [] refl a (slice_index p.at z.0) 4 j.count j.memory fit j.hops.stores (omega (arith, j.few))
@@ -315,7 +315,7 @@ module _ (site : Site) (h : Placed site) where
   }
   stood m has k n (w ∷ ws) xs r =
       let item : item_at l.list k n ≡ Some (it.Word w) = rw add-zero at (r.items 0) in
-      let at = h.laid.items k n (it.Word w) item in
+      let at = placed.laid.items k n (it.Word w) item in
       let more = stood m has k (suc n) ws xs (rw add-one at (rest_behind l k n (it.Word w ∷ []) (map it.Word ws ++ xs) r)) in
       let all : n + suc (length ws) ≡ suc n + length ws = omega arith in
       record {
@@ -332,8 +332,8 @@ module _ (site : Site) (h : Placed site) where
       → place k (n + length ws) ≤ 2 ^ 31
   stood_low k n ws xs r =
       let both = length-append (map it.Word ws) xs in
-      let ends = (h.laid.within k (n + length ws) r.within (omega (arith, r.size, both, length_words ws))).ends in
-      omega (arith, ends, h.laid.low)
+      let ends = (placed.laid.within k (n + length ws) r.within (omega (arith, r.size, both, length_words ws))).ends in
+      omega (arith, ends, placed.laid.low)
 
   -- ---- the snippets of some edges
 
@@ -345,22 +345,22 @@ module _ (site : Site) (h : Placed site) where
       let there = stood a.memory fit.has.code k n words xs r in
       let end = there.end in
       let low = stood_low k n words xs r in
-      let short = h.cells.short edge in
+      let short = placed.cells.short edge in
       let about : IsAboutToRun words g.notes.base (snippet_on g.snips edge) a = record {
         valid = fit.valid;
         ready = fit.runs.ready;
         slot = fit.runs.slot;
         low = omega (arith, at, end, low);
         stand = subst (λ z. HasWords (code_of a.memory) z words) (sym at) there.words;
-        cell = λ cell named. cell_stored site h a.memory fit.has.ours cell
-            (h.cells.named edge cell named);
-        page = λ i few. stores_there (kept_word i) a.memory (fit.has.ours.words (kept_word i) (h.frame.page (i + 2)
+        cell = λ cell named. cell_stored site a.memory fit.has.ours cell
+            (placed.cells.named edge cell named);
+        page = λ i few. stores_there (kept_word i) a.memory (fit.has.ours.words (kept_word i) (placed.frame.page (i + 2)
             (omega (arith, few))));
       } in
-      let past = h.cells.does edge (is_spill g.notes) (λ cell named.
-      spill_cell g.notes cell (h.cells.named edge cell named)) a about in
-      let again = h.cells.does edge in_first_word (λ cell named.
-      first_cell _ (cell_low site h cell (h.cells.named edge cell named))) a about in
+      let past = placed.cells.does edge (is_spill g.notes) (λ cell named.
+      spill_cell g.notes cell (placed.cells.named edge cell named)) a about in
+      let again = placed.cells.does edge in_first_word (λ cell named.
+      first_cell _ (cell_low site cell (placed.cells.named edge cell named))) a about in
       let same : again.steps ≡ past.steps =
       same_steps a again.steps past.steps (a.pc + 4 * length words) (rw again.path.steps again.pc)
       (rw past.path.steps past.pc) (λ j some less. (again.path.during j some less).before)
@@ -378,10 +378,10 @@ module _ (site : Site) (h : Placed site) where
             (leads_weaker _ IsInNoPlace a past.after past.steps
             (λ u q. there.bare u (omega (arith, at, q.past)) (omega (arith, at, q.before))) past.path);
         silent = past.silent;
-        stores = stores_weaker _ _ _ _ (may_own site h edge) past.stores;
-        waits = word_kept _ _ (may_beside site h edge) _ _ past.stores (page_there a fit 1 (omega arith));
-        found = λ _. word_kept _ _ (may_below site h edge) _ _ past.stores (page_there a fit 7 (omega arith));
-        cells = λ _. past.cells g.notes.cells (h.cells.named edge) h.cells.low;
+        stores = stores_weaker _ _ _ _ (may_own site edge) past.stores;
+        waits = word_kept _ _ (may_beside site edge) _ _ past.stores (page_there a fit 1 (omega arith));
+        found = λ _. word_kept _ _ (may_below site edge) _ _ past.stores (page_there a fit 7 (omega arith));
+        cells = λ _. past.cells g.notes.cells (placed.cells.named edge) placed.cells.low;
         begins = λ some. there.bare a (omega (arith, at)) (omega (arith, at, some, few));
         alike = record {
           ending = past.live ∙ sym fit.runs.ready.live;
@@ -442,7 +442,7 @@ module _ (site : Site) (h : Placed site) where
       let there = stood a.memory fit.has.code k n (words_of (long_jump to)) [] r in
       let low = stood_low k n (words_of (long_jump to)) [] r in
       let hops = long_jumps_hop to a fit.valid fit.runs.ready (omega (arith, at, there.end, low)) fit.runs.page
-      (rw at (words_after l.list base p place h.laid a.memory fit.has.code k n (long_jump to) (long_jump_fits to far.0)
+      (rw at (words_after l.list base p place placed.laid a.memory fit.has.code k n (long_jump to) (long_jump_fits to far.0)
       (λ i x e. r.items i ∙ e))) far.0 far.1 in
       hops_on [] refl a to 4 4 (store_word a.memory (page_word 0) (register_of a 1)) fit hops.stores (omega arith)
       (leads_weaker _ _ a _ 4 (λ u q. there.bare u (omega (arith, at, q.past)) (omega (arith, at, q.before))) hops.path)
@@ -465,16 +465,16 @@ module _ (site : Site) (h : Placed site) where
   pub arrive : (z : PieceNo) (edges : List ℕ) (a : State) (next : Option ℕ) (to : ℕ) → IsFit a
       → a.pc ≡ slice_index p.at z.0 → LeadsTo l p z edges next to → FollowsRoute next edges a to 4
   arrive z edges a next to fit at (inl (none, e)) =
-      rw none (bare_here [] a to 4 refl fit (at ∙ e) (omega (arith, at, (h.laid.aligned z.0).1)))
+      rw none (bare_here [] a to 4 refl fit (at ∙ e) (omega (arith, at, (placed.laid.aligned z.0).1)))
   arrive z edges a next to fit at (inr (inl (y, is, e))) =
       let r = rest_whole l z.0 (words_on l edges ++ it.Jump y ∷ []) (jump_unmarked edges y) is in
       for_all edges a to 4 (snippets_then next edges z.0 0 (it.Jump y ∷ []) r a fit
-      (at ∙ h.laid.starts z.0 r.within) [] to 4 (λ b fit2 there r2. rw (← e) (last_jump next z.0 _ y r2 b fit2 there)))
+      (at ∙ placed.laid.starts z.0 r.within) [] to 4 (λ b fit2 there r2. rw (← e) (last_jump next z.0 _ y r2 b fit2 there)))
   arrive z edges a next to fit at (inr (inr (out, far, is))) =
       let r = rest_whole l z.0 (words_on l edges ++ long_jump_piece to)
       (words_unmarked (flat_map l.codes edges) (long_jump_piece to) (far_unmarked to)) is in
       for_all edges a to 4 (snippets_then next edges z.0 0 (long_jump_piece to) r a fit
-      (at ∙ h.laid.starts z.0 r.within) [] to 4 (λ b fit2 there r2. far_on next out z.0 _ to far r2 b fit2 there))
+      (at ∙ placed.laid.starts z.0 r.within) [] to 4 (λ b fit2 there r2. far_on next out z.0 _ to far r2 b fit2 there))
 
   -- a Jump to a piece that leads on
   pub jump_along : (k n : ℕ) (z : PieceNo) → item_at l.list k n ≡ Some (it.Jump z)
@@ -484,7 +484,7 @@ module _ (site : Site) (h : Placed site) where
       let one = jump_on next k n z item shut a fit at in
       on_then edges [] edges refl a (slice_index p.at z.0) to 4 4 one
       (arrive z edges (hopped one.other (slice_index p.at z.0) one.memory) next to
-      (arrived [] a (slice_index p.at z.0) 4 fit (h.laid.aligned z.0).1 one) refl leads)
+      (arrived [] a (slice_index p.at z.0) 4 fit (placed.laid.aligned z.0).1 one) refl leads)
 
   pub jump_then : (k n : ℕ) (z : PieceNo) → PieceFrom l k n (it.Jump z ∷ []) → (edges : List ℕ) (a : State)
       (next : Option ℕ) (to : ℕ) → IsFit a → a.pc ≡ place k n → LeadsTo l p z edges next to → FollowsRoute next edges a to 8

@@ -127,7 +127,7 @@ module _ (edit : PlacedEdit) where
   l = edit_pieces g f codes
 
   abbrev pub site : Site
-  site = record { g = g; l = l; base = base; p = p; place = place; f = f }
+  site = record { g = g; l = l; base = base; p = p; place = place; f = f; placed = edit.placed }
 
   -- ---- where a machine stands that visits a point, or enters it
 
