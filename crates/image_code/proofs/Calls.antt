@@ -4,7 +4,7 @@ use Rattle.v8_decode.specs.declared.Instr.TheVariants as i
 use Rattle.jump_code.specs.Links.{IsAboutToCall}
 use Rattle.jump_code.proofs.Linking.{calls_act, calls_store}
 use Rattle.image_code.specs.Simulates.{at_point, does_at, gone_at, graph_in, number_in}
-use Rattle.image_code.proofs.Points.{ReachesNext, AtVisitIn, Site, StepsFrom, entered_at}
+use Rattle.image_code.proofs.Points.{ReachesNext, StepsFrom, entered_at, Visit}
 use Rattle.image_code.proofs.PointShapes.{LeadsTo, IsNoJumpsSlot, IsCall}
 use Rattle.image_code.proofs.Dead.{LastDead, gone_last}
 use Rattle.image_code.proofs.Through.{ahead, goes_through}
@@ -18,9 +18,9 @@ call_acts : (x : Point) (disp : ℤ) (t : State) → x.slot ≡ NoSlot → act (
 unfolding act call_step
 call_acts x disp t none = ap (λ (z : Slot). unless_couple z (at_point x t) (called x disp t)) none
 
-module _ (site : Site) (node : Node) (x : Point) (t : State) (here : AtVisitIn site node x t)
-    (c : IsCall site node x t) where
-  open site use {g, l, base, p, place, placed}
+module _ (visit : Visit)
+    (c : IsCall visit.site visit.node visit.x visit.t) where
+  open visit use {site, node, x, t, here, site.{g, l, base, p, place, placed}}
 
   does_is : does_at g x t ≡ called x c.disp t
   does_is = ap (on_word (at_point x t)) c.is_word ∙ ap (act (at_point x t)) c.says ∙ call_acts x c.disp t c.none
@@ -29,7 +29,7 @@ module _ (site : Site) (node : Node) (x : Point) (t : State) (here : AtVisitIn s
   image = link 15 c.address.0
 
   there : AtWords site node x t c.piece (length image) (words_of image)
-  there = ahead site node x t here _ c.marked image c.way refl
+  there = ahead visit _ c.marked image c.way refl
 
   about : IsAboutToCall c.address.0 t
   about =
@@ -53,7 +53,7 @@ module _ (site : Site) (node : Node) (x : Point) (t : State) (here : AtVisitIn s
   steps edges last leads never =
       let acts = calls_act c.address.0 t about in
       let none = calls_store c.address.0 t about in
-      goes_through site node x t here _ c.marked image c.way refl
+      goes_through visit _ c.marked image c.way refl
       (called x c.disp t) t.memory edges last
       (record {
         moves = record {

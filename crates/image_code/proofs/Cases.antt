@@ -9,7 +9,7 @@ use Rattle.code_runs.proofs.Points.{acts_anywhere}
 use Rattle.image_code.specs.Simulates.{at_point, does_at, gone_at, graph_in, number_in, word_of, edit_in}
 use Rattle.image_code.specs.Cost.{IsWatched, in_first_word, is_spill}
 use Rattle.image_code.specs.Store.{cells_in}
-use Rattle.image_code.proofs.Points.{ReachesNext, AtVisitIn, Site, StepsFrom, entered_at}
+use Rattle.image_code.proofs.Points.{ReachesNext, StepsFrom, entered_at, Visit}
 use Rattle.image_code.proofs.PointShapes.{next_entry, visits_it, IsMarkedWord, IsPlain, word_ahead}
 use Rattle.image_code.proofs.Ended.{stops_act}
 use Rattle.image_code.proofs.Sparing.{uncounted}
@@ -32,143 +32,143 @@ pub no_puts : (s : State) (cond : ℕ) (annul : Bool) (disp : ℤ) (descriptor :
 unfolding puts_by
 no_puts s cond annul disp descriptor = refl
 
-module _ (site : Site) where
-  open site use {g, place, placed}
+-- ---- words that are no transfers
 
-  -- ---- words that are no transfers
+module _ (visit : Visit) (rest : List Item) (c : IsMarkedWord visit.site visit.node visit.x rest) where
+  open visit use {site, node, x, t, here, site.{g, place, placed}}
 
-  module _ (node : Node) (x : Point) (t : State) (here : AtVisitIn site node x t) (rest : List Item)
-      (c : IsMarkedWord site node x rest) where
-    there : AtWords site node x t c.piece 1 (c.word ∷ [])
-    there = at_words site node x t here _ c.marked rest (c.word ∷ []) refl
+  there : AtWords site node x t c.piece 1 (c.word ∷ [])
+  there = at_words visit _ c.marked rest (c.word ∷ []) refl
 
-    visits : visits_it g node x t
-    visits = there.visits (omega arith)
+  visits : visits_it g node x t
+  visits = there.visits (omega arith)
 
-    -- the state after the word, of the machine and of the original
-    abbrev a : State
-    a = act t (decode_of c.word)
+  -- the state after the word, of the machine and of the original
+  abbrev a : State
+  a = act t (decode_of c.word)
 
-    abbrev v : State
-    v = act (at_point x t) (decode_of c.word)
+  abbrev v : State
+  v = act (at_point x t) (decode_of c.word)
 
-    one : step_of t ≡ a
-    one = step_is t c.word here.live there.words.0
+  one : step_of t ≡ a
+  one = step_is t c.word here.live there.words.0
 
-    same : moved x.pc x.npc x.slot a ≡ moved x.pc x.npc x.slot v
-    same = (acts_anywhere x.pc x.npc x.slot t (decode_of c.word) c.straight).0
+  same : moved x.pc x.npc x.slot a ≡ moved x.pc x.npc x.slot v
+  same = (acts_anywhere x.pc x.npc x.slot t (decode_of c.word) c.straight).0
 
-    puts_one : (descriptor : ℕ) → run_puts t 1 descriptor ≡ puts_on_word (at_point x t) (word_of g.text x.pc) descriptor
-    puts_one descriptor =
-        live_puts t c.word descriptor here.live (fetch_is t.memory t.pc ∙ there.words.0)
-        ∙ (acts_anywhere x.pc x.npc x.slot t (decode_of c.word) c.straight).1 descriptor
-        ∙ sym (ap (λ (o : Option ℕ). puts_on_word (at_point x t) o descriptor) c.is_word)
+  puts_one : (descriptor : ℕ) → run_puts t 1 descriptor ≡ puts_on_word (at_point x t) (word_of g.text x.pc) descriptor
+  puts_one descriptor =
+      live_puts t c.word descriptor here.live (fetch_is t.memory t.pc ∙ there.words.0)
+      ∙ (acts_anywhere x.pc x.npc x.slot t (decode_of c.word) c.straight).1 descriptor
+      ∙ sym (ap (λ (o : Option ℕ). puts_on_word (at_point x t) o descriptor) c.is_word)
 
-    -- its cells, where it judges no byte of the pages
-    still : AllApart (pages_of g.notes) (judged_by t (decode_of c.word))
-        → cells_in g.notes a ≡ cells_in g.notes t
-    still apart = cells_stay site t (decode_of c.word) apart here.memory.ours
+  -- its cells, where it judges no byte of the pages
+  still : AllApart (pages_of g.notes) (judged_by t (decode_of c.word))
+      → cells_in g.notes a ≡ cells_in g.notes t
+  still apart = cells_stay site t (decode_of c.word) apart here.memory.ours
 
-    -- the word is one step
-    past : (edges : List ℕ) → AllApart (pages_of g.notes) (judged_by t (decode_of c.word))
-        → ((counted : ℕ → Bool) → count_stores counted t 1 ≡ 0) ⊎ (a.ending ≡ None)
-        → Past site node x t here edges v a 1
-    past edges apart stores = record {
-      path = leads_one _ t a one;
-      some = omega arith;
-      few = omega arith;
-      puts = puts_one;
-      cells = still apart;
-      spares = λ _. record { spills = (spared stores).0; first = λ _. (spared stores).1; brief = λ _. omega arith };
-      alone = λ _. refl;
-    }
-      where
-        -- it stores nothing that is counted
-        spared : ((counted : ℕ → Bool) → count_stores counted t 1 ≡ 0) ⊎ (a.ending ≡ None)
-            → (count_stores (is_spill g.notes) t 1 ≡ 0) × (count_stores in_first_word t 1 ≡ 0)
-        spared (inl none) = (none _, none _)
-        spared (inr alive) =
-            let out = uncounted g.notes (placed.frame.own.within (page_word 0) placed.frame.own.first) t
-            (decode_of c.word) apart alive in
-            let says : Says (code_of t.memory) t.pc (decode_of c.word) =
-            record { word = c.word; fetched = there.words.0; decodes = refl } in (
-              no_stores (is_spill g.notes) t (decode_of c.word) here.live says out.0,
-              no_stores in_first_word t (decode_of c.word) here.live says out.1,
-            )
+  -- the word is one step
+  past : (edges : List ℕ) → AllApart (pages_of g.notes) (judged_by t (decode_of c.word))
+      → ((counted : ℕ → Bool) → count_stores counted t 1 ≡ 0) ⊎ (a.ending ≡ None)
+      → Past visit edges v a 1
+  past edges apart stores = record {
+    path = leads_one _ t a one;
+    some = omega arith;
+    few = omega arith;
+    puts = puts_one;
+    cells = still apart;
+    spares = λ _. record { spills = (spared stores).0; first = λ _. (spared stores).1; brief = λ _. omega arith };
+    alone = λ _. refl;
+  }
+    where
+      -- it stores nothing that is counted
+      spared : ((counted : ℕ → Bool) → count_stores counted t 1 ≡ 0) ⊎ (a.ending ≡ None)
+          → (count_stores (is_spill g.notes) t 1 ≡ 0) × (count_stores in_first_word t 1 ≡ 0)
+      spared (inl none) = (none _, none _)
+      spared (inr alive) =
+          let out = uncounted g.notes (placed.frame.own.within (page_word 0) placed.frame.own.first) t
+          (decode_of c.word) apart alive in
+          let says : Says (code_of t.memory) t.pc (decode_of c.word) =
+          record { word = c.word; fetched = there.words.0; decodes = refl } in (
+            no_stores (is_spill g.notes) t (decode_of c.word) here.live says out.0,
+            no_stores in_first_word t (decode_of c.word) here.live says out.1,
+          )
 
-    ends : (d : Ending) → v.ending ≡ Some d
-        → AllApart (pages_of g.notes) (judged_by t (decode_of c.word)) → ReachesNext site (gone_at g node x v) node x t v
-    ends d over apart =
-        let stopped : a.ending ≡ Some d = ap (λ (z : State). z.ending) same ∙ over in
-        let stays = stops_act t (decode_of c.word) c.straight here.live d stopped in
-        let none : (counted : ℕ → Bool) → count_stores counted t 1 ≡ 0 =
-        λ counted. count_one counted t ∙ ends_stores counted t d (ap (λ (z : State). z.ending) one ∙ stopped) in
-        ends_by site node x t here v a 0 (record {
-          past = past [] apart (inl none);
-          before = here.live;
-          ending = d;
-          over = over;
-          followed = followed_same site node x t here v a
-              (sym (ap (λ (z : State). hopped z 0 a.memory) same)) (sym (ap (λ (z : State). z.memory) same));
-          there = record { range = ap (range_at g.notes) stays; page = ap (in_pages g.notes) stays };
-        })
+  ends : (d : Ending) → v.ending ≡ Some d
+      → AllApart (pages_of g.notes) (judged_by t (decode_of c.word)) → ReachesNext site (gone_at g node x v) node x t v
+  ends d over apart =
+      let stopped : a.ending ≡ Some d = ap (λ (z : State). z.ending) same ∙ over in
+      let stays = stops_act t (decode_of c.word) c.straight here.live d stopped in
+      let none : (counted : ℕ → Bool) → count_stores counted t 1 ≡ 0 =
+      λ counted. count_one counted t ∙ ends_stores counted t d (ap (λ (z : State). z.ending) one ∙ stopped) in
+      ends_by visit v a 0 (record {
+        past = past [] apart (inl none);
+        before = here.live;
+        ending = d;
+        over = over;
+        followed = followed_same visit v a
+            (sym (ap (λ (z : State). hopped z 0 a.memory) same)) (sym (ap (λ (z : State). z.memory) same));
+        there = record { range = ap (range_at g.notes) stays; page = ap (in_pages g.notes) stays };
+      })
 
-    goes : (next : Option ℕ) (edges : List ℕ) → LastDead g edges → v.ending ≡ None
-        → AllApart (pages_of g.notes) (judged_by t (decode_of c.word))
-        → (IsFit site a → a.pc ≡ place c.piece 3 → Tail site next edges a
-        (entered_at site (node_after (graph_in g) node edges) (point_of v)) 24)
-        → (IsWatched (edit_in g) edges x v → next ≢ None) → ReachesNext site edges node x t v
-    goes next edges last live apart onward watched =
-        let alive : a.ending ≡ None = ap (λ (z : State). z.ending) same ∙ live in
-        let went = goes_act t (decode_of c.word) c.straight alive in
-        let vwent = goes_act (at_point x t) (decode_of c.word) c.straight live in
-        let npc = there.next (omega arith) in
-        let low = there.low in
-        let onpc : a.npc ≡ a.pc + 4 = omega arith in
-        let has = images_stay site t (decode_of c.word) one apart here.memory in
-        enters_by site node x t here next edges v a 1 last (record {
-          past = past edges apart (inr alive);
-          same = sym (ap (λ (z : State). hopped z 0 a.memory) same);
-          outside = λ n stores. rw (ap (λ (z : State). z.memory) same) at (same_stored site a.memory n has stores);
-          has = has;
-          live = alive;
-          npc = onpc;
-          slot = went.2;
-          waits = λ taken. let none = vwent.2 in absurd (cc);
-          watched = watched;
-          kept = λ _.
-              (words_stay (pages_of g.notes) (page_word 0) true t (decode_of c.word)
-              (placed.frame.own.within (page_word 0) placed.frame.own.first) apart
-              (here.memory.ours.words (page_word 0) placed.frame.own.first)).1;
-        }) (λ fit.
-        let tail = onward fit (omega (arith, npc, went.0, there.behind)) in
-        (tail.0, λ _. tail.1))
+  goes : (next : Option ℕ) (edges : List ℕ) → LastDead g edges → v.ending ≡ None
+      → AllApart (pages_of g.notes) (judged_by t (decode_of c.word))
+      → (IsFit site a → a.pc ≡ place c.piece 3 → Tail site next edges a
+      (entered_at site (node_after (graph_in g) node edges) (point_of v)) 24)
+      → (IsWatched (edit_in g) edges x v → next ≢ None) → ReachesNext site edges node x t v
+  goes next edges last live apart onward watched =
+      let alive : a.ending ≡ None = ap (λ (z : State). z.ending) same ∙ live in
+      let went = goes_act t (decode_of c.word) c.straight alive in
+      let vwent = goes_act (at_point x t) (decode_of c.word) c.straight live in
+      let npc = there.next (omega arith) in
+      let low = there.low in
+      let onpc : a.npc ≡ a.pc + 4 = omega arith in
+      let has = images_stay site t (decode_of c.word) one apart here.memory in
+      enters_by visit next edges v a 1 last (record {
+        past = past edges apart (inr alive);
+        same = sym (ap (λ (z : State). hopped z 0 a.memory) same);
+        outside = λ n stores. rw (ap (λ (z : State). z.memory) same) at (same_stored site a.memory n has stores);
+        has = has;
+        live = alive;
+        npc = onpc;
+        slot = went.2;
+        waits = λ taken. let none = vwent.2 in absurd (cc);
+        watched = watched;
+        kept = λ _.
+            (words_stay (pages_of g.notes) (page_word 0) true t (decode_of c.word)
+            (placed.frame.own.within (page_word 0) placed.frame.own.first) apart
+            (here.memory.ours.words (page_word 0) placed.frame.own.first)).1;
+      }) (λ fit.
+      let tail = onward fit (omega (arith, npc, went.0, there.behind)) in
+      (tail.0, λ _. tail.1))
 
-    -- The word ends the run as the original's does, or control goes on from item 3 of its piece.
-    pub marked_step : (next : Option ℕ) → AllApart (pages_of g.notes) (judged_by (at_point x t) (decode_of c.word))
-        → ((does_at g x t).ending ≡ None → IsFit site a → a.pc ≡ place c.piece 3
-        → Tail site next (gone_at g node x (does_at g x t)) a (next_entry site node x t) 24)
-        → ((does_at g x t).ending ≡ None → IsWatched (edit_in g) (gone_at g node x (does_at g x t)) x (does_at g x t) → next ≢ None)
-        → StepsFrom site node x t
-    marked_step next apart onward watched =
-        let is : does_at g x t ≡ v = ap (on_word (at_point x t)) c.is_word in
-        rw is (by v.ending refl (rw is at onward) (rw is at watched))
-      where
-        by : (e : Option Ending) → v.ending ≡ e
-            → (v.ending ≡ None → IsFit site a → a.pc ≡ place c.piece 3 → Tail site next (gone_at g node x v) a
-            (entered_at site (node_after (graph_in g) node (gone_at g node x v)) (point_of v)) 24)
-            → (v.ending ≡ None → IsWatched (edit_in g) (gone_at g node x v) x v → next ≢ None)
-            → ReachesNext site (gone_at g node x v) node x t v
-        by None e onward watched =
-            goes next _ (gone_last site node x v) e (judged_moved g.notes x t (decode_of c.word) apart)
-            (onward e) (watched e)
-        by (Some d) e onward watched = ends d e (judged_moved g.notes x t (decode_of c.word) apart)
+  -- The word ends the run as the original's does, or control goes on from item 3 of its piece.
+  pub marked_step : (next : Option ℕ) → AllApart (pages_of g.notes) (judged_by (at_point x t) (decode_of c.word))
+      → ((does_at g x t).ending ≡ None → IsFit site a → a.pc ≡ place c.piece 3
+      → Tail site next (gone_at g node x (does_at g x t)) a (next_entry site node x t) 24)
+      → ((does_at g x t).ending ≡ None → IsWatched (edit_in g) (gone_at g node x (does_at g x t)) x (does_at g x t) → next ≢ None)
+      → StepsFrom site node x t
+  marked_step next apart onward watched =
+      let is : does_at g x t ≡ v = ap (on_word (at_point x t)) c.is_word in
+      rw is (by v.ending refl (rw is at onward) (rw is at watched))
+    where
+      by : (e : Option Ending) → v.ending ≡ e
+          → (v.ending ≡ None → IsFit site a → a.pc ≡ place c.piece 3 → Tail site next (gone_at g node x v) a
+          (entered_at site (node_after (graph_in g) node (gone_at g node x v)) (point_of v)) 24)
+          → (v.ending ≡ None → IsWatched (edit_in g) (gone_at g node x v) x v → next ≢ None)
+          → ReachesNext site (gone_at g node x v) node x t v
+      by None e onward watched =
+          goes next _ (gone_last site node x v) e (judged_moved g.notes x t (decode_of c.word) apart)
+          (onward e) (watched e)
+      by (Some d) e onward watched = ends d e (judged_moved g.notes x t (decode_of c.word) apart)
 
-  module _ (node : Node) (x : Point) (t : State) (here : AtVisitIn site node x t) (c : IsPlain site node x t) where
-    pub plains_step : AllApart (pages_of g.notes) (judged_by (at_point x t) (decode_of c.word)) → StepsFrom site node x t
-    plains_step apart =
-        marked_step node x t here c.rest c.marked (word_ahead g x t) apart
-        (λ live fit pc.
-        weaker_tail site _ _ (next_entry site node x t) 8 24 (omega arith)
-        (tail site c.piece c.rest c.address (number_in g node) (it.Word c.word) c.items _ _ (word_ahead g x t)
-        (next_entry site node x t) fit pc (c.leads live))) (λ live w. w.inside)
+module _ (visit : Visit) (c : IsPlain visit.site visit.node visit.x visit.t) where
+  open visit use {site, node, x, t, site.{g}}
+
+  pub plains_step : AllApart (pages_of g.notes) (judged_by (at_point x t) (decode_of c.word)) → StepsFrom site node x t
+  plains_step apart =
+      marked_step visit c.rest c.marked (word_ahead g x t) apart
+      (λ live fit pc.
+      weaker_tail site _ _ (next_entry site node x t) 8 24 (omega arith)
+      (tail site c.piece c.rest c.address (number_in g node) (it.Word c.word) c.items _ _ (word_ahead g x t)
+      (next_entry site node x t) fit pc (c.leads live))) (λ live w. w.inside)

@@ -5,7 +5,7 @@ use Rattle.jump_code.specs.Choosing.{ComesToCase, IsAboutToChoose, choose, chose
 use Rattle.jump_code.proofs.Choosing.{choices_simulate}
 use Rattle.image_code.specs.Simulates.{does_at, graph_in}
 use Rattle.image_code.specs.Cost.{is_jmpl}
-use Rattle.image_code.proofs.Points.{ReachesNext, AtVisitIn, Site, StepsFrom, entered_at}
+use Rattle.image_code.proofs.Points.{ReachesNext, StepsFrom, entered_at, Visit}
 use Rattle.image_code.proofs.PointShapes.{IsSwitchJump}
 use Rattle.image_code.proofs.Routes.{bare_here}
 use Rattle.image_code.proofs.EntersBy.{moves_by}
@@ -24,9 +24,9 @@ choose_fits distance short =
 
 -- ---- the step
 
-module _ (site : Site) (node : Node) (x : Point) (t : State) (here : AtVisitIn site node x t)
-    (c : IsSwitchJump site node x t) where
-  open site use {g, p, f, placed}
+module _ (visit : Visit)
+    (c : IsSwitchJump visit.site visit.node visit.x visit.t) where
+  open visit use {site, node, x, t, here, site.{g, p, f, placed}}
 
   abbrev after_jump : State
   after_jump = jumped c.address.0 c.rd c.rs1 c.op2 t
@@ -50,7 +50,7 @@ module _ (site : Site) (node : Node) (x : Point) (t : State) (here : AtVisitIn s
   live = ap (λ (z : State). z.ending) (sym does_is) ∙ c.live
 
   there : AtWords site node x t c.piece (length image) (words_of image)
-  there = at_instrs site node x t here _ c.marked [] image refl
+  there = at_instrs visit _ c.marked [] image refl
 
   loaded : HasWordAt (choice_at c.distance t) false t.memory
       × (memory_word t.memory (choice_at c.distance t) ≡ table_word f.cases (choice_at c.distance t))
@@ -93,7 +93,7 @@ module _ (site : Site) (node : Node) (x : Point) (t : State) (here : AtVisitIn s
       let to = chosen c.distance t in
       let low = (placed.laid.aligned c.way).1 in
       let small : wrapped (to + 4) ≡ to + 4 = omega (arith, target, low) in
-      moves_by site node x t here [] after_jump (hopped after_jump to k.memory) (length image) tt
+      moves_by visit [] after_jump (hopped after_jump to k.memory) (length image) tt
       (record {
         moves = record {
           word = c.word;

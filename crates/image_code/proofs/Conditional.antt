@@ -6,7 +6,7 @@ use Rattle.layout.specs.Running.{Goes}
 use Rattle.layout.proofs.Going.{branches_hop}
 use Rattle.image_code.specs.Simulates.{does_at, gone_at, number_in}
 use Rattle.image_code.specs.Cost.{in_first_word, is_spill}
-use Rattle.image_code.proofs.Points.{ReachesNext, Forms, AtVisitIn, Site, StepsFrom}
+use Rattle.image_code.proofs.Points.{ReachesNext, Forms, StepsFrom, Visit}
 use Rattle.image_code.proofs.PointShapes.{LeadsTo, next_entry, word_ahead, IsConditionalBranch}
 use Rattle.image_code.proofs.Routes.{FollowsRoute, IsFit, arrive, jump_then, rest_marked, weaker_route}
 use Rattle.image_code.proofs.Between.{can_run, on_range, stores_weaker}
@@ -16,9 +16,9 @@ use Rattle.image_code.proofs.Dead.{gone_last}
 use Rattle.image_code.proofs.EntersBy.{OnWay, moves_by}
 use Rattle.image_code.proofs.Sparing.{spill_first}
 
-module _ (site : Site) (node : Node) (x : Point) (t : State) (here : AtVisitIn site node x t)
-    (c : IsConditionalBranch site node x t) where
-  open site use {g, l, base, p, place, placed}
+module _ (visit : Visit)
+    (c : IsConditionalBranch visit.site visit.node visit.x visit.t) where
+  open visit use {site, node, x, t, here, site.{g, l, base, p, place, placed}}
 
   b_item : (n : ℕ) → item_at l.list c.piece n ≡ slice_get (it.Mark c.address (number_in g node)
       ∷ it.Branch c.cond c.taken ∷ it.EndMark ∷ it.Jump c.untaken ∷ []) n
@@ -68,7 +68,7 @@ module _ (site : Site) (node : Node) (x : Point) (t : State) (here : AtVisitIn s
 
   -- between the branch's words, in its place
   on_way : (u : State) → t.pc < u.pc → u.pc < place c.piece 2 → Stores IsFirstWord t.memory u.memory
-      → OnWay site node x t here u
+      → OnWay visit u
   on_way u past before stores live =
       let a = b_at in
       let n0 = b_inside.0 in
@@ -93,14 +93,14 @@ module _ (site : Site) (node : Node) (x : Point) (t : State) (here : AtVisitIn s
   turned mid j low onward =
       let same = (branch_moves g x t c.none c.word c.is_word c.cond c.annul c.disp c.says).is in
       let small : wrapped (mid + 4) ≡ mid + 4 = omega arith in
-      moves_by site node x t here edges (does_at g x t) (hopped t mid j.memory) j.count
+      moves_by visit edges (does_at g x t) (hopped t mid j.memory) j.count
       (gone_last site node x (does_at g x t))
       (record {
         moves = record {
           word = c.word;
           is_word = c.is_word;
           transfer = ap is_transfer c.says;
-          path = leads_weaker _ (OnWay site node x t here) t _ j.count
+          path = leads_weaker _ (OnWay visit) t _ j.count
               (λ u q. on_way u q.past (omega (arith, q.before, j.inside)) q.stores) j.hops.path;
           some = omega (arith, j.some);
           few = omega (arith, j.few);

@@ -5,7 +5,7 @@ use Rattle.v8_step.specs.declared.Ending.TheVariants.{Couple}
 use Rattle.v8_step.specs.Transfers.{ended}
 use Rattle.layout.proofs.Going.{taken_acts}
 use Rattle.image_code.specs.Simulates.{IsOnWay, at_point, does_at, gone_at}
-use Rattle.image_code.proofs.Points.{ReachesNext, AtVisitIn, Site, StepsFrom}
+use Rattle.image_code.proofs.Points.{ReachesNext, StepsFrom, Visit}
 use Rattle.image_code.proofs.PointShapes.{IsCouple}
 use Rattle.image_code.proofs.Memories.{fetch_is}
 use Rattle.image_code.proofs.Marked.{AtWords, at_words}
@@ -28,12 +28,12 @@ couple_acts s x e ne = go x e
     go (i.Jmpl rd rs1 op2) e = by s.slot _ ne
     go _ e = absurd (cc)
 
-module _ (site : Site) (node : Node) (x : Point) (t : State) (here : AtVisitIn site node x t)
-    (c : IsCouple site node x) where
-  open site use {g, l, base, p, place}
+module _ (visit : Visit)
+    (c : IsCouple visit.site visit.node visit.x) where
+  open visit use {site, node, x, t, here, site.{g, l, base, p, place}}
 
   there : AtWords site node x t c.piece 2 (couple_word ∷ couple_word ∷ [])
-  there = at_words site node x t here _ c.marked [] (couple_word ∷ couple_word ∷ []) refl
+  there = at_words visit _ c.marked [] (couple_word ∷ couple_word ∷ []) refl
 
   npc : t.npc ≡ t.pc + 4
   npc = there.next (omega arith)
@@ -92,8 +92,8 @@ module _ (site : Site) (node : Node) (x : Point) (t : State) (here : AtVisitIn s
   steps =
       let v : State = ended (at_point x t) Couple in
       let after : State = ended (record t { pc = t.npc; npc = target_of t (pos 2); slot = Taken }) Couple in
-      ends_by site node x t here v after 1 (record {
-        past = moves_past site node x t here [] v after 2 (record {
+      ends_by visit v after 1 (record {
+        past = moves_past visit [] v after 2 (record {
           word = c.word;
           is_word = c.is_word;
           transfer = c.transfer;
@@ -111,7 +111,7 @@ module _ (site : Site) (node : Node) (x : Point) (t : State) (here : AtVisitIn s
         before = ap (λ (z : State). z.ending) one ∙ here.live;
         ending = Couple;
         over = refl;
-        followed = followed_same site node x t here v after refl refl;
+        followed = followed_same visit v after refl refl;
         there = there.there after (omega (arith, npc)) (omega (arith, npc));
       })
 

@@ -7,7 +7,7 @@ use Rattle.code_runs.proofs.PointsAlike.{no_puts as quiet_transfer}
 use Rattle.image_code.specs.Simulates.{IsFollowedBy, IsKept, IsOnWay, IsThere, at_point, gone_at, graph_in, word_of, edit_in}
 use Rattle.image_code.specs.Cost.{IsWatched, NoneIsOut, in_first_word, is_jmpl, is_spill, is_transfer_at}
 use Rattle.image_code.specs.Store.{cells_in, updates}
-use Rattle.image_code.proofs.Points.{ReachesNext, Forms, AtVisitIn, Site, entered_at}
+use Rattle.image_code.proofs.Points.{ReachesNext, Forms, Site, entered_at, Visit}
 use Rattle.image_code.specs.Images.{HasImages, HasNoCases}
 use Rattle.image_code.proofs.Routes.{FollowsRoute, IsFit, bare_on}
 use Rattle.image_code.proofs.Between.{can_run, ended_none, quiet_of, stores_weaker}
@@ -42,8 +42,8 @@ puts_then s t k l steps silent descriptor =
     ∙ ap (λ (z : State). run_puts s k descriptor ++ run_puts z l descriptor) steps
     ∙ ap (λ z. run_puts s k descriptor ++ z) (silent descriptor) ∙ append-nil (run_puts s k descriptor)
 
-module _ (site : Site) (node : Node) (x : Point) (t : State) (here : AtVisitIn site node x t) where
-  open site use {g, base, p, f}
+module _ (visit : Visit) where
+  open visit use {site, node, x, t, here, site.{g, base, p, f}}
 
   -- a state of a run that goes on is on the way from the visit
   abbrev pub OnWay : State → Type 0

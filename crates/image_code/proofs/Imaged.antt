@@ -5,7 +5,7 @@ use Rattle.two_runs.specs.Needed.{judged_in}
 use Rattle.layout.specs.Laid.{Stands, BranchStands, branch_short, branch_long, size_of}
 use Rattle.image_code.specs.Simulates.{Simulates, at_point, number_in, word_of}
 use Rattle.code_runs.specs.PointsAlike.{instr_of}
-use Rattle.image_code.proofs.Points.{Forms, AtVisitIn, Site, StepsFrom}
+use Rattle.image_code.proofs.Points.{Forms, AtVisitIn, Site, StepsFrom, Visit}
 use Rattle.image_code.proofs.PointShapes.{visits_it, TakesWords, IsCase, IsHead, IsImaged, plain, couple, turn, idle, call, jump, landing, choice, foreign, off, IsVisited, head, outside, beyond}
 use Rattle.image_code.specs.Outside.{IsOffPages}
 use Rattle.image_code.proofs.Between.{at_range}
@@ -34,7 +34,10 @@ has_room base p it.EndMark a b takes h = absurd takes
 module _ (site : Site) where
   open site use {g, l, base, p, place, placed}
 
-  pub heads_visit : (node : Node) (x : Point) (t : State) → AtVisitIn site node x t → IsHead site node x
+  abbrev at_visit : (node : Node) (x : Point) (t : State) → AtVisitIn site node x t → Visit
+  at_visit node x t here = record { site = site; node = node; x = x; t = t; here = here }
+
+  heads_visit : (node : Node) (x : Point) (t : State) → AtVisitIn site node x t → IsHead site node x
       → visits_it g node x t
   heads_visit node x t here c =
       let item = λ (n : ℕ). ap (λ (v : Option (List Item)). item_in v n) c.items in
@@ -55,8 +58,8 @@ module _ (site : Site) where
 
   there : (node : Node) (x : Point) (t : State) → AtVisitIn site node x t → IsVisited site node x → visits_it g node x t
   there node x t here (head k) = heads_visit node x t here k
-  there node x t here (outside k) = (foreign_step site node x t here k).0
-  there node x t here (beyond k) = (offs_step site node x t here k).0
+  there node x t here (outside k) = (foreign_step (at_visit node x t here) k).0
+  there node x t here (beyond k) = (offs_step (at_visit node x t here) k).0
 
   judged : (x : Point) (t : State) (word : ℕ) → word_of g.text x.pc ≡ Some word
       → AllApart (pages_of g.notes) (judged_in (at_point x t) (instr_of (word_of g.text x.pc)))
@@ -67,16 +70,16 @@ module _ (site : Site) where
   by : (node : Node) (x : Point) (t : State) → AtVisitIn site node x t
       → AllApart (pages_of g.notes) (judged_in (at_point x t) (instr_of (word_of g.text x.pc))) → IsCase site node x t
       → StepsFrom site node x t
-  by node x t here apart (plain k) = plains_step site node x t here k (judged x t k.word k.is_word apart)
-  by node x t here apart (couple k) = couples_step site node x t here k
-  by node x t here apart (turn k) = conditional_step site node x t here k
-  by node x t here apart (idle k) = unconditional_step site node x t here k
-  by node x t here apart (call k) = calls_step site node x t here k
-  by node x t here apart (jump k) = jumps_step site node x t here k
-  by node x t here apart (landing k) = jump_slots_step site node x t here k (judged x t k.word k.is_word apart)
-  by node x t here apart (choice k) = choices_step site node x t here k
-  by node x t here apart (foreign k) = (foreign_step site node x t here k).1
-  by node x t here apart (off k) = (offs_step site node x t here k).1
+  by node x t here apart (plain k) = plains_step (at_visit node x t here) k (judged x t k.word k.is_word apart)
+  by node x t here apart (couple k) = couples_step (at_visit node x t here) k
+  by node x t here apart (turn k) = conditional_step (at_visit node x t here) k
+  by node x t here apart (idle k) = unconditional_step (at_visit node x t here) k
+  by node x t here apart (call k) = calls_step (at_visit node x t here) k
+  by node x t here apart (jump k) = jumps_step (at_visit node x t here) k
+  by node x t here apart (landing k) = jump_slots_step (at_visit node x t here) k (judged x t k.word k.is_word apart)
+  by node x t here apart (choice k) = choices_step (at_visit node x t here) k
+  by node x t here apart (foreign k) = (foreign_step (at_visit node x t here) k).1
+  by node x t here apart (off k) = (offs_step (at_visit node x t here) k).1
 
   pub simulate : IsImaged site → Simulates g (IsOffPages g) (AtVisitIn site) (Forms site)
   simulate c = record {

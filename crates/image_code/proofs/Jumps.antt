@@ -6,7 +6,7 @@ use Rattle.jump_code.proofs.FindFollowing.{goes, look_up_simulates}
 use Rattle.jump_code.proofs.Jumping.{jump_stops}
 use Rattle.image_code.specs.Simulates.{does_at, gone_at, graph_in, number_in}
 use Rattle.image_code.specs.Cost.{is_jmpl}
-use Rattle.image_code.proofs.Points.{ReachesNext, AtVisitIn, Site, StepsFrom, entered_at}
+use Rattle.image_code.proofs.Points.{ReachesNext, StepsFrom, entered_at, Visit}
 use Rattle.image_code.proofs.PointShapes.{LeadsTo, IsJump}
 use Rattle.image_code.proofs.Memories.{same_stored}
 use Rattle.image_code.proofs.Dead.{LastDead, gone_last}
@@ -15,9 +15,9 @@ use Rattle.image_code.proofs.Sparing.{instr_is}
 use Rattle.image_code.proofs.Through.{ahead, goes_through}
 use Rattle.image_code.proofs.Marked.{AtWords, link_few}
 
-module _ (site : Site) (node : Node) (x : Point) (t : State) (here : AtVisitIn site node x t)
-    (c : IsJump site node x t) where
-  open site use {g, l, base, p, place, f, placed}
+module _ (visit : Visit)
+    (c : IsJump visit.site visit.node visit.x visit.t) where
+  open visit use {site, node, x, t, here, site.{g, l, base, p, place, f, placed}}
 
   -- the original after its JMPL
   abbrev after_jump : State
@@ -36,7 +36,7 @@ module _ (site : Site) (node : Node) (x : Point) (t : State) (here : AtVisitIn s
   does_is = rw (c.is_word, c.says, c.none, c.next, c.original)
 
   there : AtWords site node x t c.piece (length image) (words_of image)
-  there = ahead site node x t here _ c.marked image c.way refl
+  there = ahead visit _ c.marked image c.way refl
 
   about : IsAboutToFind c.scratch c.second c.rd c.rs1 c.op2 c.address.0 f.halves t
   about =
@@ -109,7 +109,7 @@ module _ (site : Site) (node : Node) (x : Point) (t : State) (here : AtVisitIn s
       → ReachesNext site edges node x t after_jump
   going edges last live leads =
       let on = (look_up_simulates c.scratch c.second c.rd c.rs1 c.op2 c.address.0 f.halves t about).0 live in
-      goes_through site node x t here _ c.marked image c.way refl
+      goes_through visit _ c.marked image c.way refl
       after_jump (found_memory t c.scratch c.second c.rs1 c.op2 f.halves) edges last
       (record {
         moves = record {
@@ -137,8 +137,8 @@ module _ (site : Site) (node : Node) (x : Point) (t : State) (here : AtVisitIn s
       let traps = end.traps in
       let same = only_ends d over in
       let valid : IsValid traps.after = subst IsValid traps.path.steps (run-valid t 10 here.valid) in
-      ends_by site node x t here after_jump traps.after 9 (record {
-        past = moves_past site node x t here [] after_jump traps.after 10 (record {
+      ends_by visit after_jump traps.after 9 (record {
+        past = moves_past visit [] after_jump traps.after 10 (record {
           word = c.word;
           is_word = c.is_word;
           transfer = ap is_transfer c.says;

@@ -11,7 +11,7 @@ use Rattle.jump_code.proofs.Leaving.{foreign_leaves}
 use Rattle.image_code.specs.Simulates.{at_point, does_at, gone_at, graph_in, number_in}
 use Rattle.image_code.specs.Cost.{NoneIsOut}
 use Rattle.image_code.specs.Store.{operations_on}
-use Rattle.image_code.proofs.Points.{AtVisitIn, Site, StepsFrom}
+use Rattle.image_code.proofs.Points.{Site, StepsFrom, Visit}
 use Rattle.image_code.proofs.PointShapes.{LeadsTo, next_entry, words_on, IsJumpsSlot, Lands}
 use Rattle.image_code.proofs.Routes.{FollowsRoute, IsInNoPlace, IsFit, PieceFrom, arrive, arrived, bare_here, eased, length_words, on_then, rest_behind, rest_marked, page_there, rest_whole, snippets_run, unwatched, CodeAt, stood, stood_low, weaker_route, words_unmarked}
 use Rattle.image_code.proofs.Cases.{judged_moved, marked_step}
@@ -101,118 +101,120 @@ module _ (site : Site) where
       (hops_out k 0 4 (waiting a) (words_of foreign) a fit there refl (omega arith) at 2 (register_of a 1) (omega arith)
       (foreign_leaves a about))
 
-  -- ---- the whole way
+-- ---- the whole way
 
-  module _ (node : Node) (x : Point) (t : State) (here : AtVisitIn site node x t)
-      (c : IsJumpsSlot site node x t) (apart : AllApart (pages_of g.notes) (judged_by t (decode_of c.word))) where
-    -- the target waits while the slot's word is run
-    target_waits : waiting (act t (decode_of c.word)) ≡ x.npc
-    target_waits =
-        let own = placed.frame.page 1 (omega arith) in
-        (words_stay (pages_of g.notes) (page_word 1) true t (decode_of c.word)
-        (placed.frame.own.within (page_word 1) own) apart (here.memory.ours.words (page_word 1) own)).1
-        ∙ (here.waits c.slot c.out c.caseless).0
+module _ (visit : Visit) (c : IsJumpsSlot visit.site visit.node visit.x visit.t)
+    (apart : AllApart (pages_of visit.site.g.notes) (judged_by visit.t (decode_of c.word))) where
+  open visit use {site, node, x, t, here, site.{g, l, p, place, f, placed}}
 
-    -- so does what was found
-    found_waits : found_there (act t (decode_of c.word)) ≡ found_in f.halves x.npc
-    found_waits =
-        let own = placed.frame.page 7 (omega arith) in
-        (words_stay (pages_of g.notes) (page_word 7) true t (decode_of c.word)
-        (placed.frame.own.within (page_word 7) own) apart (here.memory.ours.words (page_word 7) own)).1
-        ∙ (here.waits c.slot c.out c.caseless).2 (there (word_at g.text x.pc) c.is_word)
-      where
-        there : (o : Option ℕ) → option_map (λ word. slice_index g.text.words word) o ≡ Some c.word → o ≢ None
-        there o e none = cc (rw none at e)
+  -- the target waits while the slot's word is run
+  target_waits : waiting (act t (decode_of c.word)) ≡ x.npc
+  target_waits =
+      let own = placed.frame.page 1 (omega arith) in
+      (words_stay (pages_of g.notes) (page_word 1) true t (decode_of c.word)
+      (placed.frame.own.within (page_word 1) own) apart (here.memory.ours.words (page_word 1) own)).1
+      ∙ (here.waits c.slot c.out c.caseless).0
 
-    rest : PieceFrom l c.piece 3 (words_on l (c.edge ∷ []) ++ going_on)
-    rest = rest_marked l c.piece c.address (number_in g node) (it.Word c.word)
-        (words_on l (c.edge ∷ []) ++ going_on)
-        (words_unmarked (flat_map l.codes (c.edge ∷ [])) going_on (tt, (tt, (tt, tt)))) c.items
+  -- so does what was found
+  found_waits : found_there (act t (decode_of c.word)) ≡ found_in f.halves x.npc
+  found_waits =
+      let own = placed.frame.page 7 (omega arith) in
+      (words_stay (pages_of g.notes) (page_word 7) true t (decode_of c.word)
+      (placed.frame.own.within (page_word 7) own) apart (here.memory.ours.words (page_word 7) own)).1
+      ∙ (here.waits c.slot c.out c.caseless).2 (there (word_at g.text x.pc) c.is_word)
+    where
+      there : (o : Option ℕ) → option_map (λ word. slice_index g.text.words word) o ≡ Some c.word → o ≢ None
+      there o e none = cc (rw none at e)
 
-    -- through the snippet and the jump to what was found, and on from there
-    onward : (to : ℕ) → IsFit site (act t (decode_of c.word))
-        → (act t (decode_of c.word)).pc ≡ place c.piece 3 → found_in f.halves x.npc % 4 ≡ 0
-        → found_in f.halves x.npc ≤ 2 ^ 31
-        → ((b : State) → IsFit site b → b.pc ≡ found_in f.halves x.npc → waiting b ≡ x.npc
-        → FollowsRoute site None c.landing b to 4)
-        → FollowsRoute site None (c.edge ∷ c.landing) (act t (decode_of c.word)) to 24
-    unfolding eased
-    onward to fit at aligned low_there behind =
-        let a : State = act t (decode_of c.word) in
-        let edges = c.edge ∷ [] in
-        let n = 3 + length (flat_map l.codes (c.edge ∷ [])) in
-        let mid = place c.piece (3 + length (flat_map l.codes (c.edge ∷ []))) in
-        let way = snippets_run site (Some 0) (c.edge ∷ []) c.piece 3 going_on rest
-        (act t (decode_of c.word)) fit at in
-        let one = unwatched site (Some 0) (c.edge ∷ []) a mid 0 way in
-        let low = stood_low site c.piece 3 (flat_map l.codes (c.edge ∷ [])) going_on rest in
-        let b : State = hopped way.other mid way.memory in
-        let fit2 = arrived site (c.edge ∷ []) (act t (decode_of c.word)) mid 0 fit low way in
-        let r2 : PieceFrom l c.piece (3 + length (flat_map l.codes (c.edge ∷ []))) going_on =
-        rw (length_words (flat_map l.codes (c.edge ∷ []))) at
-        (rest_behind l c.piece 3 (words_on l (c.edge ∷ [])) going_on rest) in
-        let there = found_in f.halves x.npc in
-        let two = goes_found c.piece n r2 b fit2 refl there (way.found (λ e. cc) ∙ found_waits)
-        aligned in
-        let fit3 = arrived site [] b there 3 fit2 low_there two in
-        let three = behind (hopped two.other there two.memory) fit3 refl (two.waits ∙ way.waits ∙ target_waits) in
-        let both = on_then site c.landing [] c.landing refl b there to 3 4 two three in
-        weaker_route site (c.edge ∷ c.landing) a to (0 + (3 + 4)) 24 (omega arith)
-        (on_then site (c.edge ∷ c.landing) (c.edge ∷ []) c.landing refl a mid to 0 (3 + 4) one both)
+  rest : PieceFrom l c.piece 3 (words_on l (c.edge ∷ []) ++ going_on)
+  rest = rest_marked l c.piece c.address (number_in g node) (it.Word c.word)
+      (words_on l (c.edge ∷ []) ++ going_on)
+      (words_unmarked (flat_map l.codes (c.edge ∷ [])) going_on (tt, (tt, (tt, tt)))) c.items
 
-    lands : (to : ℕ) → IsFit site (act t (decode_of c.word))
-        → (act t (decode_of c.word)).pc ≡ place c.piece 3 → Lands site c.landing x.npc to
-        → (word_at g.text x.npc ≡ None → to ≡ x.npc)
-        → FollowsRoute site None (c.edge ∷ c.landing) (act t (decode_of c.word)) to 24
-    lands to fit at (inl (piece, within, found, leads)) out =
-        let place_there = placed.laid.aligned piece.0 in
-        let multiple : found_in f.halves x.npc % 4 ≡ 0 = ap (λ z. z % 4) found ∙ place_there.0 in
-        onward to fit at multiple (omega (arith, found, place_there.1)) (λ b fit2 there waits. by b fit2 (there ∙ found) leads)
-      where
-        by : (b : State) → IsFit site b → b.pc ≡ slice_index p.at piece.0
-            → LeadsTo l p piece c.landing (word_at g.text x.npc) to
-            ⊎ ((operations_on g.snips c.landing ≡ 0) × (slice_index p.at piece.0 ≡ to))
-            → FollowsRoute site None c.landing b to 4
-        by b fit2 there (inl leads) =
-            unwatched site (word_at g.text x.npc) c.landing b to 4
-            (arrive site piece c.landing b (word_at g.text x.npc) to fit2 there leads)
-        by b fit2 there (inr (none, e)) =
-            let low = (placed.laid.aligned piece.0).1 in
-            bare_here site c.landing b to 4 none fit2 (there ∙ e) (omega (arith, there, low))
-    lands to fit at (inr (no_landing, (piece, within, found, is, none))) out =
-        let place_there = placed.laid.aligned piece.0 in
-        let multiple : found_in f.halves x.npc % 4 ≡ 0 = ap (λ z. z % 4) found ∙ place_there.0 in
-        onward to fit at multiple (omega (arith, found, place_there.1)) (λ b fit2 there waits.
-        subst (λ z. FollowsRoute site None z b to 4) (sym no_landing)
-        (subst (λ z. FollowsRoute site None [] b z 4) (sym (out none))
-        (leaves piece.0 is b fit2 (there ∙ found ∙ placed.laid.starts piece.0 within) x.npc waits
-        (here.waits c.slot c.out c.caseless).1)))
+  -- through the snippet and the jump to what was found, and on from there
+  onward : (to : ℕ) → IsFit site (act t (decode_of c.word))
+      → (act t (decode_of c.word)).pc ≡ place c.piece 3 → found_in f.halves x.npc % 4 ≡ 0
+      → found_in f.halves x.npc ≤ 2 ^ 31
+      → ((b : State) → IsFit site b → b.pc ≡ found_in f.halves x.npc → waiting b ≡ x.npc
+      → FollowsRoute site None c.landing b to 4)
+      → FollowsRoute site None (c.edge ∷ c.landing) (act t (decode_of c.word)) to 24
+  unfolding eased
+  onward to fit at aligned low_there behind =
+      let a : State = act t (decode_of c.word) in
+      let edges = c.edge ∷ [] in
+      let n = 3 + length (flat_map l.codes (c.edge ∷ [])) in
+      let mid = place c.piece (3 + length (flat_map l.codes (c.edge ∷ []))) in
+      let way = snippets_run site (Some 0) (c.edge ∷ []) c.piece 3 going_on rest
+      (act t (decode_of c.word)) fit at in
+      let one = unwatched site (Some 0) (c.edge ∷ []) a mid 0 way in
+      let low = stood_low site c.piece 3 (flat_map l.codes (c.edge ∷ [])) going_on rest in
+      let b : State = hopped way.other mid way.memory in
+      let fit2 = arrived site (c.edge ∷ []) (act t (decode_of c.word)) mid 0 fit low way in
+      let r2 : PieceFrom l c.piece (3 + length (flat_map l.codes (c.edge ∷ []))) going_on =
+      rw (length_words (flat_map l.codes (c.edge ∷ []))) at
+      (rest_behind l c.piece 3 (words_on l (c.edge ∷ [])) going_on rest) in
+      let there = found_in f.halves x.npc in
+      let two = goes_found site c.piece n r2 b fit2 refl there (way.found (λ e. cc) ∙ found_waits)
+      aligned in
+      let fit3 = arrived site [] b there 3 fit2 low_there two in
+      let three = behind (hopped two.other there two.memory) fit3 refl (two.waits ∙ way.waits ∙ target_waits) in
+      let both = on_then site c.landing [] c.landing refl b there to 3 4 two three in
+      weaker_route site (c.edge ∷ c.landing) a to (0 + (3 + 4)) 24 (omega arith)
+      (on_then site (c.edge ∷ c.landing) (c.edge ∷ []) c.landing refl a mid to 0 (3 + 4) one both)
 
-    -- along the edge of a jump it isn't told what is stored
-    unwatched_out : (does_at g x t).ending ≡ None → NoneIsOut (graph_in g) (gone_at g node x (does_at g x t)) → ⊥
-    unwatched_out live none =
-        let other = (subst (NoneIsOut (graph_in g)) (c.completes live) none).0 in
-        false≢true (sym other ∙ c.outward)
+  lands : (to : ℕ) → IsFit site (act t (decode_of c.word))
+      → (act t (decode_of c.word)).pc ≡ place c.piece 3 → Lands site c.landing x.npc to
+      → (word_at g.text x.npc ≡ None → to ≡ x.npc)
+      → FollowsRoute site None (c.edge ∷ c.landing) (act t (decode_of c.word)) to 24
+  lands to fit at (inl (piece, within, found, leads)) out =
+      let place_there = placed.laid.aligned piece.0 in
+      let multiple : found_in f.halves x.npc % 4 ≡ 0 = ap (λ z. z % 4) found ∙ place_there.0 in
+      onward to fit at multiple (omega (arith, found, place_there.1)) (λ b fit2 there waits. by b fit2 (there ∙ found) leads)
+    where
+      by : (b : State) → IsFit site b → b.pc ≡ slice_index p.at piece.0
+          → LeadsTo l p piece c.landing (word_at g.text x.npc) to
+          ⊎ ((operations_on g.snips c.landing ≡ 0) × (slice_index p.at piece.0 ≡ to))
+          → FollowsRoute site None c.landing b to 4
+      by b fit2 there (inl leads) =
+          unwatched site (word_at g.text x.npc) c.landing b to 4
+          (arrive site piece c.landing b (word_at g.text x.npc) to fit2 there leads)
+      by b fit2 there (inr (none, e)) =
+          let low = (placed.laid.aligned piece.0).1 in
+          bare_here site c.landing b to 4 none fit2 (there ∙ e) (omega (arith, there, low))
+  lands to fit at (inr (no_landing, (piece, within, found, is, none))) out =
+      let place_there = placed.laid.aligned piece.0 in
+      let multiple : found_in f.halves x.npc % 4 ≡ 0 = ap (λ z. z % 4) found ∙ place_there.0 in
+      onward to fit at multiple (omega (arith, found, place_there.1)) (λ b fit2 there waits.
+      subst (λ z. FollowsRoute site None z b to 4) (sym no_landing)
+      (subst (λ z. FollowsRoute site None [] b z 4) (sym (out none))
+      (leaves site piece.0 is b fit2 (there ∙ found ∙ placed.laid.starts piece.0 within) x.npc waits
+      (here.waits c.slot c.out c.caseless).1)))
 
-    -- outside the text the next visit is at the target itself
-    out : (does_at g x t).ending ≡ None → word_at g.text x.npc ≡ None → next_entry site node x t ≡ x.npc
-    out live none =
-        let is : does_at g x t ≡ act (at_point x t) (decode_of c.word) = ap (on_word (at_point x t)) c.is_word in
-        let went = goes_act (at_point x t) (decode_of c.word) c.straight
-        (ap (λ (z : State). z.ending) (sym is) ∙ live) in
-        let pc : (does_at g x t).pc ≡ x.npc = ap (λ (z : State). z.pc) is ∙ went.0 in
-        let slot : (does_at g x t).slot ≡ NoSlot = ap (λ (z : State). z.slot) is ∙ went.2 in
-        rw (pc, none, slot) refl
+  -- along the edge of a jump it isn't told what is stored
+  unwatched_out : (does_at g x t).ending ≡ None → NoneIsOut (graph_in g) (gone_at g node x (does_at g x t)) → ⊥
+  unwatched_out live none =
+      let other = (subst (NoneIsOut (graph_in g)) (c.completes live) none).0 in
+      false≢true (sym other ∙ c.outward)
 
-  pub jump_slots_step : (node : Node) (x : Point) (t : State) (here : AtVisitIn site node x t)
-      (c : IsJumpsSlot site node x t) → AllApart (pages_of g.notes) (judged_by (at_point x t) (decode_of c.word))
-      → StepsFrom site node x t
-  jump_slots_step node x t here c apart =
+  -- outside the text the next visit is at the target itself
+  out : (does_at g x t).ending ≡ None → word_at g.text x.npc ≡ None → next_entry site node x t ≡ x.npc
+  out live none =
+      let is : does_at g x t ≡ act (at_point x t) (decode_of c.word) = ap (on_word (at_point x t)) c.is_word in
+      let went = goes_act (at_point x t) (decode_of c.word) c.straight
+      (ap (λ (z : State). z.ending) (sym is) ∙ live) in
+      let pc : (does_at g x t).pc ≡ x.npc = ap (λ (z : State). z.pc) is ∙ went.0 in
+      let slot : (does_at g x t).slot ≡ NoSlot = ap (λ (z : State). z.slot) is ∙ went.2 in
+      rw (pc, none, slot) refl
+
+module _ (visit : Visit) (c : IsJumpsSlot visit.site visit.node visit.x visit.t) where
+  open visit use {site, node, x, t, site.{g}}
+
+  pub jump_slots_step : AllApart (pages_of g.notes) (judged_by (at_point x t) (decode_of c.word)) → StepsFrom site node x t
+  jump_slots_step apart =
       let moved = judged_moved g.notes x t (decode_of c.word) apart in
-      marked_step site node x t here _ c.marked None apart (λ live fit at. (
+      marked_step visit _ c.marked None apart (λ live fit at. (
         subst (λ z. FollowsRoute site None z (act t (decode_of c.word)) (next_entry site node x t) 24)
             (sym (c.completes live))
-            (lands node x t here c moved (next_entry site node x t) fit at (c.lands live)
-            (out node x t here c moved live)),
+            (lands visit c moved (next_entry site node x t) fit at (c.lands live) (out visit c moved live)),
         λ there none. absurd (there refl),
-      )) (λ live w. absurd (unwatched_out node x t here c moved live w.out))
+      )) (λ live w. absurd (unwatched_out visit c moved live w.out))

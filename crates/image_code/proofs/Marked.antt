@@ -4,7 +4,7 @@ use Rattle.layout.specs.declared.items.Item.TheVariants as it
 use Rattle.layout.specs.Laid.{OpenMark as Open, size_of, end_from}
 use Rattle.layout.proofs.Going.{word_is}
 use Rattle.image_code.specs.Simulates.{IsOnWay, IsThere, number_in}
-use Rattle.image_code.proofs.Points.{AtVisitIn, Site}
+use Rattle.image_code.proofs.Points.{Site, Visit}
 use Rattle.image_code.proofs.PointShapes.{IsMarked, visits_it}
 use Rattle.image_code.proofs.Between.{at_range, can_run, on_range, there_in}
 use Rattle.image_code.proofs.Cells.{cells_above, page_above}
@@ -64,9 +64,9 @@ pub record AtWords (site : Site) (node : Node) (x : Point) (t : State) (k count 
   pub there : (u : State) → t.pc ≤ u.pc → u.pc < t.pc + 4 * count → IsThere site.g t u
   pub visits : 0 < count → visits_it site.g node x t
 
-module _ (site : Site) (node : Node) (x : Point) (t : State) (here : AtVisitIn site node x t)
-    (behind : Addr → ℕ → List Item) (c : IsMarked site node x behind) (rest : List Item) where
-  open site use {g, l, base, p, place, placed}
+module _ (visit : Visit)
+    (behind : Addr → ℕ → List Item) (c : IsMarked visit.site visit.node visit.x behind) (rest : List Item) where
+  open visit use {site, node, x, t, here, site.{g, l, base, p, place, placed}}
 
   module _ (ws : List ℕ) (same : behind c.address c.word ≡ map it.Word ws ++ it.EndMark ∷ rest) where
     is : slice_get l.list c.piece

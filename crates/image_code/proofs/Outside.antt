@@ -2,7 +2,7 @@
 use Rattle.image_code.proofs.Common.{◌≡◌, ℕ, ◌+◌, ◌*◌, inl, inr, true, false, Option, Some, None, [], length, refl, ap, sym, ◌∙◌, subst, arith, ◌==◌, option_map, cases_lt, eq-eqb, word_at, range_at, Slot, NoSlot, State, trapped, step_of, on_word, puts_on_word, in_pages, Node, Point, leads_one, fetch_of, puts_of}
 use Rattle.v8_step.specs.Traps.{instruction_access_exception}
 use Rattle.image_code.specs.Simulates.{at_point, does_at, number_in, word_of}
-use Rattle.image_code.proofs.Points.{AtVisitIn, Site, StepsFrom, visited_by}
+use Rattle.image_code.proofs.Points.{StepsFrom, visited_by, Visit}
 use Rattle.image_code.specs.Images.{IsBeside}
 use Rattle.image_code.proofs.PointShapes.{visits_it, IsForeign, IsOff}
 use Rattle.image_code.proofs.Memories.{fetch_is}
@@ -24,8 +24,8 @@ unfetched_puts s descriptor live fetched = rw (live, fetched) refl
 
 -- ---- both machines end
 
-module _ (site : Site) (node : Node) (x : Point) (t : State) (here : AtVisitIn site node x t) where
-  open site use {g, l, base, p, f, placed}
+module _ (visit : Visit) where
+  open visit use {site, node, x, t, here, site.{g, l, base, p, f, placed}}
 
   module _ (none : word_at g.text x.pc ≡ None) (beside : IsBeside base p.code t.pc) where
     no_word : word_of g.text x.pc ≡ None
@@ -41,7 +41,7 @@ module _ (site : Site) (node : Node) (x : Point) (t : State) (here : AtVisitIn s
     ends =
         let v : State = trapped (at_point x t) instruction_access_exception in
         let after : State = trapped t instruction_access_exception in
-        rw does_is (ends_by site node x t here v after 0 (record {
+        rw does_is (ends_by visit v after 0 (record {
           past = record {
             path = leads_one _ t _ (unfetched_step t here.live fetched);
             some = omega arith;
@@ -55,7 +55,7 @@ module _ (site : Site) (node : Node) (x : Point) (t : State) (here : AtVisitIn s
           before = here.live;
           ending = _;
           over = refl;
-          followed = followed_same site node x t here v after refl refl;
+          followed = followed_same visit v after refl refl;
           there = record { range = refl; page = refl };
         }))
 

@@ -32,6 +32,14 @@ entered_at site = placed_by site.l.enter site
 abbrev pub AtVisitIn : Site → Node → Point → State → Type 0
 AtVisitIn site node x t = AtVisit site.g site.l site.base site.p site.f node x t
 
+-- A machine at a point's visit.
+pub record Visit : Type 0 where
+  pub site : Site
+  pub node : Node
+  pub x : Point
+  pub t : State
+  pub here : AtVisitIn site node x t
+
 -- where control comes to it
 abbrev pub AtEntryIn : Site → Node → Point → State → Type 0
 AtEntryIn site node x t = AtPointBy site.l.enter site.g site.l site.base site.p site.f node x t

@@ -3,20 +3,20 @@ use Rattle.image_code.proofs.Common.{◌≡◌, ℕ, suc, Option, Some, None, Li
 use Rattle.layout.specs.declared.items.Item.TheVariants as it
 use Rattle.jump_code.specs.Pieces.{marked_piece}
 use Rattle.image_code.specs.Simulates.{number_in, graph_in}
-use Rattle.image_code.proofs.Points.{ReachesNext, AtVisitIn, Site, entered_at}
+use Rattle.image_code.proofs.Points.{ReachesNext, entered_at, Visit}
 use Rattle.image_code.proofs.PointShapes.{IsMarked, LeadsTo}
 use Rattle.image_code.proofs.Routes.{jump_along, weaker_route}
 use Rattle.image_code.proofs.Dead.{LastDead}
 use Rattle.image_code.proofs.EntersBy.{MovesOn, moves_by}
 use Rattle.image_code.proofs.Marked.{AtWords, at_instrs, jump_behind, shut_behind}
 
-module _ (site : Site) (node : Node) (x : Point) (t : State) (here : AtVisitIn site node x t)
-    (behind : Addr → ℕ → List Item) (c : IsMarked site node x behind) (xs : List Instr) (way : PieceNo)
+module _ (visit : Visit)
+    (behind : Addr → ℕ → List Item) (c : IsMarked visit.site visit.node visit.x behind) (xs : List Instr) (way : PieceNo)
     (same : behind c.address c.word ≡ word_items xs ++ it.EndMark ∷ it.Jump way ∷ []) where
-  open site use {g, l, p, place}
+  open visit use {site, node, x, t, here, site.{g, l, p, place}}
 
   pub ahead : AtWords site node x t c.piece (length xs) (words_of xs)
-  ahead = at_instrs site node x t here behind c (it.Jump way ∷ []) xs same
+  ahead = at_instrs visit behind c (it.Jump way ∷ []) xs same
 
   is : slice_get l.list c.piece ≡ Some (marked_piece xs c.address (number_in g node) way)
   is = c.items ∙ ap (λ items. Some (it.Mark c.address (number_in g node) ∷ items)) same
@@ -35,12 +35,12 @@ module _ (site : Site) (node : Node) (x : Point) (t : State) (here : AtVisitIn s
 
   -- past the words, and on along the way
   pub goes_through : (v : State) (m : Memory) (edges : List ℕ) → LastDead g edges
-      → MovesOn site node x t here edges v (past t (length xs) m v) (length xs)
+      → MovesOn visit edges v (past t (length xs) m v) (length xs)
       → LeadsTo l p way edges (word_at g.text v.pc) (entered_at site (node_after (graph_in g) node edges) (point_of v))
       → ReachesNext site edges node x t v
   goes_through v m edges last w leads =
       let to = entered_at site (node_after (graph_in g) node edges) (point_of v) in
-      moves_by site node x t here edges v (past t (length xs) m v) (length xs) last w (λ fit.
+      moves_by visit edges v (past t (length xs) m v) (length xs) last w (λ fit.
       weaker_route site edges _ to 8 24 (omega arith)
       (jump_along site c.piece (suc (suc (length xs))) way jump shut edges _ (word_at g.text v.pc) to fit
       (sym ahead.behind) leads))

@@ -2,7 +2,7 @@
 use Rattle.image_code.proofs.Common.{◌≡◌, ℕ, ◌+◌, Bool, [], ◌∷◌, refl, ap, ◌∙◌, arith, Instr, wrapped, NoSlot, State, act, puts_by, run_puts, is_transfer, live_puts, Point, Node, hopped, count_stores, step_is, no_stores, leads_one, stores_none, IsPageWord, nop}
 use Rattle.layout.specs.declared.items.Item.TheVariants as it
 use Rattle.image_code.specs.Simulates.{does_at, gone_at, number_in}
-use Rattle.image_code.proofs.Points.{AtVisitIn, Site, StepsFrom}
+use Rattle.image_code.proofs.Points.{StepsFrom, Visit}
 use Rattle.image_code.proofs.PointShapes.{next_entry, word_ahead, IsUnconditionalBranch}
 use Rattle.image_code.proofs.Routes.{jump_then, rest_marked, weaker_route}
 use Rattle.image_code.proofs.BranchMoves.{branch_moves}
@@ -13,12 +13,12 @@ use Rattle.image_code.proofs.EntersBy.{OnWay, moves_by}
 use Rattle.image_code.specs.Made.{nop_word}
 use Rattle.image_code.proofs.Branches.{nop_says}
 
-module _ (site : Site) (node : Node) (x : Point) (t : State) (here : AtVisitIn site node x t)
-    (c : IsUnconditionalBranch site node x t) where
-  open site use {g, l}
+module _ (visit : Visit)
+    (c : IsUnconditionalBranch visit.site visit.node visit.x visit.t) where
+  open visit use {site, node, x, t, here, site.{g, l}}
 
   there : AtWords site node x t c.piece 1 (nop_word ∷ [])
-  there = at_words site node x t here _ c.marked (it.Jump c.way ∷ []) (nop_word ∷ []) refl
+  there = at_words visit _ c.marked (it.Jump c.way ∷ []) (nop_word ∷ []) refl
 
   -- behind the nop
   abbrev mid : State
@@ -48,14 +48,14 @@ module _ (site : Site) (node : Node) (x : Point) (t : State) (here : AtVisitIn s
       let npc = there.next (omega arith) in
       let low = there.low in
       let on : wrapped (t.npc + 4) ≡ t.npc + 4 = omega arith in
-      moves_by site node x t here edges (does_at g x t) mid 1
+      moves_by visit edges (does_at g x t) mid 1
       (gone_last site node x (does_at g x t))
       (record {
         moves = record {
           word = c.word;
           is_word = c.is_word;
           transfer = ap is_transfer c.says;
-          path = leads_one (OnWay site node x t here) t mid (step_is t nop_word here.live there.words.0 ∙ ap (act t) nop_says ∙ idle_acts);
+          path = leads_one (OnWay visit) t mid (step_is t nop_word here.live there.words.0 ∙ ap (act t) nop_says ∙ idle_acts);
           some = omega arith;
           few = omega arith;
           silent = silent;
