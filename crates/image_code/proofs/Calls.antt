@@ -1,5 +1,5 @@
 -- The link of a CALL, and then the way.
-use Rattle.image_code.proofs.Common.{◌≡◌, ℕ, ◌^◌, ◌<◌, List, length, refl, ap, sym, ◌∙◌, subst, arith, ℤ, word_at, Instr, code_of, Slot, NoSlot, State, target_of, unless_couple, act, on_word, is_transfer, Node, Point, point_of, node_after, Leads, StandIn, leads_weaker, stores_none, words_of, link, past, IsPageWord, with_register, call_step, delayed, IsBetween, pieces_are_laid}
+use Rattle.image_code.proofs.Common.{◌≡◌, ℕ, ◌^◌, ◌<◌, List, length, refl, ap, sym, ◌∙◌, subst, arith, ℤ, word_at, Instr, code_of, Slot, NoSlot, State, target_of, unless_couple, act, on_word, is_transfer, Point, point_of, node_after, Leads, StandIn, leads_weaker, stores_none, words_of, link, past, IsPageWord, with_register, call_step, delayed, IsBetween, pieces_are_laid}
 use Rattle.v8_decode.specs.declared.Instr.TheVariants as i
 use Rattle.jump_code.specs.Links.{IsAboutToCall}
 use Rattle.jump_code.proofs.Linking.{calls_act, calls_store}

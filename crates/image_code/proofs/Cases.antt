@@ -1,5 +1,5 @@
 -- A word in its Mark at the head of a piece, and the images of plain words: they are one step each.
-use Rattle.image_code.proofs.Common.{◌≡◌, ◌≢◌, ℕ, ◌+◌, ◌⊎◌, inl, inr, Bool, true, Option, Some, None, List, [], ◌∷◌, refl, ap, sym, ◌∙◌, arith, ℤ, range_at, Instr, decode_of, code_of, AllApart, Ending, State, act, step_of, on_word, puts_by, puts_on_word, run_puts, judged_by, in_pages, pages_of, live_puts, goes_act, Point, point_of, node_after, Node, count_stores, moved, hopped, step_is, no_stores, leads_one, page_word, Item, words_stay, Notes, outside_refl}
+use Rattle.image_code.proofs.Common.{◌≡◌, ◌≢◌, ℕ, ◌+◌, ◌⊎◌, inl, inr, Bool, true, Option, Some, None, List, [], ◌∷◌, refl, ap, sym, ◌∙◌, arith, ℤ, range_at, Instr, decode_of, code_of, AllApart, Ending, State, act, step_of, on_word, puts_by, puts_on_word, run_puts, judged_by, in_pages, pages_of, live_puts, goes_act, Point, point_of, node_after, count_stores, moved, hopped, step_is, no_stores, leads_one, page_word, Item, words_stay, Notes, outside_refl}
 use Rattle.v8_decode.specs.declared.Instr.TheVariants as i
 use Rattle.layout.specs.declared.items.Item.TheVariants as it
 use Rattle.two_runs.proofs.JudgedAlike.{judged_alike}

@@ -1,5 +1,5 @@
 -- The words of an open switch's JMPL lead to the piece of a Case edge.
-use Rattle.image_code.proofs.Common.{◌≡◌, ℕ, ◌+◌, ◌%◌, ◌^◌, ◌<◌, ◌≤◌, false, Some, None, List, [], ◌∷◌, ◌++◌, length, refl, ap, sym, ◌∙◌, arith, ◌/◌, slice_index, length-append, Instr, wrapped, code_of, State, is_transfer, Node, Point, instr_at, node_after, point_of, hopped, table_word, page_word, memory_word, leads_weaker, stores_there, link, Fit, words_mean, choice_at, switch_jump, words_of, HasWordAt, loads_there, jumped}
+use Rattle.image_code.proofs.Common.{◌≡◌, ℕ, ◌+◌, ◌%◌, ◌^◌, ◌<◌, ◌≤◌, false, Some, None, List, [], ◌∷◌, ◌++◌, length, refl, ap, sym, ◌∙◌, arith, ◌/◌, slice_index, length-append, Instr, wrapped, code_of, State, is_transfer, instr_at, node_after, point_of, hopped, table_word, page_word, memory_word, leads_weaker, stores_there, link, Fit, words_mean, choice_at, switch_jump, words_of, HasWordAt, loads_there, jumped}
 use Rattle.jump_code.proofs.Fitting.{link_fits, lt}
 use Rattle.jump_code.specs.Choosing.{ComesToCase, IsAboutToChoose, choose, chosen}
 use Rattle.jump_code.proofs.Choosing.{choices_simulate}

@@ -1,5 +1,5 @@
 -- The image of a branch is one step, whatever its annul bit.
-use Rattle.image_code.proofs.Common.{◌≡◌, ℕ, ◌+◌, ◌*◌, ◌^◌, ◌<◌, ◌≤◌, inl, inr, Bool, true, false, Option, Some, List, [], ◌∷◌, length, refl, ap, sym, ◌∙◌, arith, if◌then◌else◌, slice_get, slice_index, NoteRange, holds_of, wrapped, State, is_transfer, Point, Node, Stores, hopped, leads_weaker, IsFirstWord, IsPageWord, Item, item_at, item_in, items_in, open_in, range_in, range_of, CanRun}
+use Rattle.image_code.proofs.Common.{◌≡◌, ℕ, ◌+◌, ◌*◌, ◌^◌, ◌<◌, ◌≤◌, inl, inr, Bool, true, false, Option, Some, List, [], ◌∷◌, length, refl, ap, sym, ◌∙◌, arith, if◌then◌else◌, slice_get, slice_index, NoteRange, holds_of, wrapped, State, is_transfer, Stores, hopped, leads_weaker, IsFirstWord, IsPageWord, Item, item_at, item_in, items_in, open_in, range_in, range_of, CanRun}
 use Rattle.layout.specs.declared.items.Item.TheVariants as it
 use Rattle.layout.specs.Laid.{size_of}
 use Rattle.layout.specs.Running.{Goes}

@@ -1,6 +1,6 @@
 -- From a visit to where control enters the next one: what runs at the visit itself, and the way behind it; or up to the
 -- end of the run.
-use Rattle.image_code.proofs.Common.{◌≡◌, ◌≢◌, ℕ, suc, ◌+◌, ◌-◌, ◌<◌, ◌≤◌, inl, inr, true, false, Option, Some, None, List, [], ◌++◌, append-nil, refl, ap, sym, ◌∙◌, subst, arith, ◌%◌, word_at, Instr, decode_of, Memory, IsSameOutside, Ending, NoSlot, Taken, State, register_of, puts_on_word, run, run_puts, is_transfer, IsValid, run-valid, pages_of, Node, Point, instr_at, node_after, point_of, way_of, lived_to, same_kind, count_stores, hopped, Leads, IsAmongWords, page_word, Stores, memory_word, count_add, none_then, leads_weaker, found_in, IsPageWord, saved_address, IsSilent, stores_then, leads_then, puts_add, outside_refl}
+use Rattle.image_code.proofs.Common.{◌≡◌, ◌≢◌, ℕ, suc, ◌+◌, ◌-◌, ◌<◌, ◌≤◌, inl, inr, true, false, Option, Some, None, List, [], ◌++◌, append-nil, refl, ap, sym, ◌∙◌, subst, arith, ◌%◌, word_at, Instr, decode_of, Memory, IsSameOutside, Ending, NoSlot, Taken, State, register_of, puts_on_word, run, run_puts, is_transfer, IsValid, run-valid, pages_of, instr_at, node_after, point_of, way_of, lived_to, same_kind, count_stores, hopped, Leads, IsAmongWords, page_word, Stores, memory_word, count_add, none_then, leads_weaker, found_in, IsPageWord, saved_address, IsSilent, stores_then, leads_then, puts_add, outside_refl}
 use Rattle.v8_decode.specs.declared.Instr.TheVariants as i
 use Rattle.cfg_blocks.specs.declared.EdgeKind.TheVariants as kinds
 use Rattle.code_runs.proofs.PointsAlike.{no_puts as quiet_transfer}

@@ -1,5 +1,5 @@
 -- A nop and then the way.
-use Rattle.image_code.proofs.Common.{◌≡◌, ℕ, ◌+◌, Bool, [], ◌∷◌, refl, ap, ◌∙◌, arith, Instr, wrapped, NoSlot, State, act, puts_by, run_puts, is_transfer, live_puts, Point, Node, hopped, count_stores, step_is, no_stores, leads_one, stores_none, IsPageWord, nop}
+use Rattle.image_code.proofs.Common.{◌≡◌, ℕ, ◌+◌, Bool, [], ◌∷◌, refl, ap, ◌∙◌, arith, Instr, wrapped, NoSlot, State, act, puts_by, run_puts, is_transfer, live_puts, hopped, count_stores, step_is, no_stores, leads_one, stores_none, IsPageWord, nop}
 use Rattle.layout.specs.declared.items.Item.TheVariants as it
 use Rattle.image_code.specs.Simulates.{does_at, gone_at, number_in}
 use Rattle.image_code.proofs.Points.{StepsFrom, Visit}
