@@ -23,7 +23,7 @@ use Rattle.image_code.proofs.EdgePieces.{along_far}
 use Rattle.image_code.proofs.Branches.{small}
 use Rattle.image_code.proofs.IntoSlots.{LeadsThere, entered, entered_untaken, no_jump, stands}
 use Rattle.image_code.proofs.Listed.{own_at, way_at}
-use Rattle.image_code.proofs.Visited.{AtWord, PlacedEdit, at_image, site, entered_none, entered_word, image_items, l, left_gone, word_is}
+use Rattle.image_code.proofs.Visited.{AtWord, at_image, site, entered_none, entered_word, image_items, l, left_gone, word_is}
 
 -- a branch comes to a taken transfer's slot only at the next instruction
 slot_next : (flag all annul : Bool) (s : State) (to : ℕ) → s.slot ≡ NoSlot
@@ -48,10 +48,9 @@ pub last_home : (b : Blocks) (opens : List Open) (node : Node) (k : ℕ) → hom
     → last_in (graph_of b opens) node ≡ last_word b.firsts b.words k
 last_home b opens node k h = elim (node_at node k h) [ inl here ↦ rw here | inr there ↦ rw there ]
 
-module _ (edit : PlacedEdit) (node : Node) (x : Point) (visit : AtWord edit node x) (cond : ℕ) (annul : Bool) (disp : ℤ)
-    (says : decode_of (slice_index edit.g.text.words visit.word) ≡ i.Branch cond annul disp) where
-  open edit use {g, codes, is, base, p, place, f}
-  open visit use {word, at, none, there, npc, inside, cut, low, home}
+module _ (visit : AtWord) (cond : ℕ) (annul : Bool) (disp : ℤ)
+    (says : decode_of (slice_index visit.edit.g.text.words visit.word) ≡ i.Branch cond annul disp) where
+  open visit use {edit, node, x, word, at, none, there, npc, inside, cut, low, home, edit.{g, codes, is, base, p, place, f}}
 
   abbrev b : Blocks
   b = blocks_of g.text g.given
@@ -60,7 +59,7 @@ module _ (edit : PlacedEdit) (node : Node) (x : Point) (visit : AtWord edit node
   branch = i.Branch cond annul disp
 
   here : Stands g.text b g.switches node x word branch
-  here = stands edit node x visit branch says
+  here = stands visit branch says
 
   end : end_at g.text word ≡ ends.Branch cond annul (branch_target g.text word cond disp)
   end = end_is g.text word branch says
@@ -130,7 +129,7 @@ module _ (edit : PlacedEdit) (node : Node) (x : Point) (visit : AtWord edit node
     -- past a slot that is annulled
     past : (if cond == always then kinds.Taken else kinds.Untaken) ≡ w.kind → (v : State) → v.ending ≡ None
         → v.slot ≡ NoSlot → word_at g.text v.pc ≡ w.to → LeadsIfThere b w.to → v.pc ≡ goal_address
-        → LeadsThere edit node x visit branch says w.kind v
+        → LeadsThere visit branch says w.kind v
     past kind_is v live slot to leads pc = by (word_at g.text v.pc) refl
       where
         after : Node
@@ -165,18 +164,18 @@ module _ (edit : PlacedEdit) (node : Node) (x : Point) (visit : AtWord edit node
     to = target_from (at_point x t) disp
 
     abbrev Goes : EdgeKind → State → Type 0
-    Goes kind v = LeadsThere edit node x visit branch says kind v
+    Goes kind v = LeadsThere visit branch says kind v
 
     into_taken : holds_of cond t.codes ≡ true → (not annul || not (cond == always)) ≡ true → (v : State)
         → v.ending ≡ None → v.pc ≡ x.npc → v.npc ≡ to → v.slot ≡ Taken → Goes kinds.Taken v
     into_taken holds runs v live pc next slot =
-        entered edit node x visit branch says v live pc slot (λ out. absurd (cc))
+        entered visit branch says v live pc slot (λ out. absurd (cc))
         (taken_delayed cond annul disp t.codes here (point_of v) holds runs pc next)
 
     into_untaken : holds_of cond t.codes ≡ false → annul ≡ false → (v : State)
         → v.ending ≡ None → v.pc ≡ x.npc → v.npc ≡ wrapped (x.npc + 4) → v.slot ≡ Untaken → Goes kinds.Untaken v
     into_untaken holds kept v live pc next slot =
-        entered_untaken edit node x visit branch says v live pc slot
+        entered_untaken visit branch says v live pc slot
         (λ out. absurd (cc))
         (untaken_delayed cond annul disp t.codes here (point_of v) holds kept pc next)
 
@@ -229,7 +228,7 @@ module _ (edit : PlacedEdit) (node : Node) (x : Point) (visit : AtWord edit node
 
     no_jumps_slot : IsNoJumpsSlot g (does_at g x t)
     no_jumps_slot =
-        no_jump edit node x visit branch says (does_at g x t) (λ slot. rw acts
+        no_jump visit branch says (does_at g x t) (λ slot. rw acts
         (slot_next (holds_of cond t.codes) (cond == always) annul (at_point x t) to none (rw acts at slot))) refl
 
     -- ---- its image
@@ -251,7 +250,7 @@ module _ (edit : PlacedEdit) (node : Node) (x : Point) (visit : AtWord edit node
 
     made : (always_is never_is : Bool) → (cond == always) ≡ always_is → (cond == never) ≡ never_is
         → slice_get (l edit).list number ≡ Some (image_if always_is never_is)
-    made always_is never_is a n = image_items edit node x visit branch says ∙ rw (a, n)
+    made always_is never_is a n = image_items visit branch says ∙ rw (a, n)
 
     one_way : (kind : EdgeKind) → slice_get (l edit).list number ≡ Some (plain_piece address (number_in g node) nop_word
         (jump_to (way_out g.text (graph_in g) node kind)))
@@ -263,7 +262,7 @@ module _ (edit : PlacedEdit) (node : Node) (x : Point) (visit : AtWord edit node
       disp = disp;
       says = says;
       way = record { 0 = way_out g.text (graph_in g) node kind };
-      marked = at_image edit node x visit _ found;
+      marked = at_image visit _ found;
       leads = leads_there;
       never = no_jumps_slot;
     })
@@ -286,7 +285,7 @@ module _ (edit : PlacedEdit) (node : Node) (x : Point) (visit : AtWord edit node
       says = says;
       taken = record { 0 = taken };
       untaken = record { 0 = untaken };
-      marked = at_image edit node x visit _ found;
+      marked = at_image visit _ found;
       leads = either (holds_of cond t.codes) (leads live (holds_of cond t.codes) refl);
       never = no_jumps_slot;
     })

@@ -17,7 +17,7 @@ use Rattle.image_code.proofs.ImageNumbers.{block_of}
 use Rattle.image_code.proofs.IntoSlots.{before, stands}
 use Rattle.image_code.proofs.JumpImages.{goes, jump_acts}
 use Rattle.image_code.proofs.Positions.{any_at, contains, get_behind, get_first}
-use Rattle.image_code.proofs.Visited.{AtWord, PlacedEdit, at_image, site, IsTargetOf, case_piece_is, entered_slot, image_items, l, nothing_gone, on_its_way, target, way_in}
+use Rattle.image_code.proofs.Visited.{AtWord, at_image, site, IsTargetOf, case_piece_is, entered_slot, image_items, l, nothing_gone, on_its_way, target, way_in}
 
 -- ---- the numbers of Case edges' pieces, by entries
 
@@ -59,13 +59,12 @@ choice_is : (text : Words) (graph : Graph) (jumps cases : ℕ) (codes : ℕ → 
 choice_is text graph jumps cases codes address block k o rd rs1 op2 jumping numbered is =
     rw (jumping, numbered, is)
 
-module _ (edit : PlacedEdit) (node : Node) (x : Point) (visit : AtWord edit node x) (t : State) (rd rs1 : ℕ) (op2 : Op2)
-    (says : decode_of (slice_index edit.g.text.words visit.word) ≡ i.Jmpl rd rs1 op2)
-    (chooses : Chooses edit.g node x t (does_at edit.g x t)) (k : ℕ) (o : Open)
-    (among : slice_get edit.g.switches k ≡ Some o) (numbered : jump_number edit.g.text (graph_in edit.g) o.block ≡ Some k)
-    (jumping : jumps_in edit.g.switches o.block ≡ true) (itself : node ≡ block o.block) where
-  open edit use {g, codes, is, p, place, f, cases}
-  open visit use {word, at, none, held, npc, cut, low}
+module _ (visit : AtWord) (t : State) (rd rs1 : ℕ) (op2 : Op2)
+    (says : decode_of (slice_index visit.edit.g.text.words visit.word) ≡ i.Jmpl rd rs1 op2)
+    (chooses : Chooses visit.edit.g visit.node visit.x t (does_at visit.edit.g visit.x t)) (k : ℕ) (o : Open)
+    (among : slice_get visit.edit.g.switches k ≡ Some o) (numbered : jump_number visit.edit.g.text (graph_in visit.edit.g) o.block ≡ Some k)
+    (jumping : jumps_in visit.edit.g.switches o.block ≡ true) (itself : visit.node ≡ block o.block) where
+  open visit use {edit, node, x, word, at, none, held, npc, cut, low, edit.{g, codes, is, p, place, f, cases}}
 
   abbrev b : Blocks
   b = blocks_of g.text g.given
@@ -152,8 +151,8 @@ module _ (edit : PlacedEdit) (node : Node) (x : Point) (visit : AtWord edit node
 
   acts : (v.pc ≡ x.npc) × (v.slot ≡ Taken)
   acts =
-      goes edit node x visit t rd rs1 op2 says v
-      (jump_acts edit node x visit t rd rs1 op2 says) chosen.live
+      goes visit t rd rs1 op2 says v
+      (jump_acts visit t rd rs1 op2 says) chosen.live
 
   not : v.slot ≢ NoSlot
   not n = let q : Taken ≡ NoSlot = sym acts.1 ∙ n in absurd (cc)
@@ -173,13 +172,13 @@ module _ (edit : PlacedEdit) (node : Node) (x : Point) (visit : AtWord edit node
   jumps_so : way_in edit (point_of v) ≡ kinds.Out
   jumps_so =
       ap (λ instr. way_of instr v.slot)
-      (before edit node x visit (i.Jmpl rd rs1 op2) says v acts.0)
+      (before visit (i.Jmpl rd rs1 op2) says v acts.0)
 
   way : IsOnItsWay g.text (graph_in g) node (point_of v) (way_in edit (point_of v))
   way =
       on_its_way edit node (point_of v) Taken acts.1 (λ q. absurd (cc))
       (jump_delayed rd rs1 op2 (point_of v)
-      (stands edit node x visit (i.Jmpl rd rs1 op2) says) acts.0 acts.1
+      (stands visit (i.Jmpl rd rs1 op2) says) acts.0 acts.1
       (λ _. is_target))
 
   out : same_kind (way_in edit (point_of v)) kinds.Out ≡ true
@@ -224,7 +223,7 @@ module _ (edit : PlacedEdit) (node : Node) (x : Point) (visit : AtWord edit node
 
   items : slice_get (l edit).list piece ≡ Some (switch_jump_piece rd address (number_in g node) distance)
   items =
-      image_items edit node x visit (i.Jmpl rd rs1 op2) says
+      image_items visit (i.Jmpl rd rs1 op2) says
       ∙ rw itself (ap (λ (xs : List Item). Some xs) (choice_is g.text (graph_in g) (jumps_at g.text f.table.base)
       f.cases.base codes address o.block k o rd rs1 op2 jumping numbered among))
 
@@ -248,7 +247,7 @@ module _ (edit : PlacedEdit) (node : Node) (x : Point) (visit : AtWord edit node
             (decoded_range (i.Jmpl rd rs1 op2) (slice_index g.text.words word) (sym says))).0;
         distance = distance;
         near = omega arith;
-        marked = at_image edit node x visit _ items;
+        marked = at_image visit _ items;
         aligned = omega (arith, place, cases.aligned);
         from = omega (arith, place);
         to = omega (arith, place, cases.long, many);

@@ -199,7 +199,7 @@ module _ (edit : PlacedEdit) where
       by NoSlot none m0 (Some word) e =
           head (head_of node x _ _ (record { 0 = address_of g.text word })
           (visited_word edit node x word e none) (sym (word_at-some g.text x.pc word e).is)
-          (image_items edit node x (at_word edit node x word e none m0.0 m.1 m0.1)
+          (image_items (at_word edit node x word e none m0.0 m.1 m0.1)
           (decode_of (slice_index g.text.words word)) refl)
           (image_head g.text b g.switches (jumps_at g.text f.table.base) f.cases.base codes
           (record { 0 = address_of g.text word }) node word (decode_of (slice_index g.text.words word))))

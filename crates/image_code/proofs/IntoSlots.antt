@@ -6,11 +6,10 @@ use Rattle.image_code.specs.Simulates.{gone_at, graph_in}
 use Rattle.image_code.proofs.Points.{entered_at}
 use Rattle.image_code.proofs.PointShapes.{LeadsTo, IsNoJumpsSlot}
 use Rattle.image_code.specs.Made.{way_out}
-use Rattle.image_code.proofs.Visited.{AtWord, PlacedEdit, site, enters, l, nothing_gone, on_its_way}
+use Rattle.image_code.proofs.Visited.{AtWord, site, enters, l, nothing_gone, on_its_way}
 
-module _ (edit : PlacedEdit) (node : Node) (x : Point) (visit : AtWord edit node x) (instr : Instr) (says : decode_of (slice_index edit.g.text.words visit.word) ≡ instr) where
-  open edit use {g, is, p, f}
-  open visit use {word, at, none, held, there, npc}
+module _ (visit : AtWord) (instr : Instr) (says : decode_of (slice_index visit.edit.g.text.words visit.word) ≡ instr) where
+  open visit use {edit, node, x, word, at, none, held, there, npc, edit.{g, is, p, f}}
 
   abbrev b : Blocks
   b = blocks_of g.text g.given

@@ -11,7 +11,7 @@ use Rattle.image_code.specs.Made.{jump_by, jump_image_by, jumps_at, way_out}
 use Rattle.image_code.specs.Numbered.{image_number}
 use Rattle.image_code.proofs.IntoSlots.{LeadsThere, entered, no_jump, stands}
 use Rattle.image_code.proofs.JumpWords.{jmpl_is}
-use Rattle.image_code.proofs.Visited.{AtWord, PlacedEdit, at_image, site, image_items, l, word_is}
+use Rattle.image_code.proofs.Visited.{AtWord, at_image, site, image_items, l, word_is}
 
 -- where no Case edges leave a node, a jump looks its target up
 jump_plain : (text : Words) (graph : Graph) (jumps cases : ℕ) (codes : ℕ → List ℕ) (address : Addr) (node : Node)
@@ -22,9 +22,8 @@ jump_plain : (text : Words) (graph : Graph) (jumps cases : ℕ) (codes : ℕ →
 jump_plain text graph jumps cases codes address (Block k) rd rs1 op2 e = rw e
 jump_plain text graph jumps cases codes address _ rd rs1 op2 e = refl
 
-module _ (edit : PlacedEdit) (node : Node) (x : Point) (visit : AtWord edit node x) (t : State) where
-  open edit use {g, codes, f, tables.{behind}}
-  open visit use {word, at, none, npc}
+module _ (visit : AtWord) (t : State) where
+  open visit use {edit, node, x, word, at, none, npc, edit.{g, codes, f, tables.{behind}}}
 
   abbrev address : Addr
   address = record { 0 = address_of g.text word }
@@ -47,16 +46,16 @@ module _ (edit : PlacedEdit) (node : Node) (x : Point) (visit : AtWord edit node
 
     call_items : slice_get (l edit).list number ≡ Some (call_piece address (number_in g node)
         (record { 0 = way_out g.text (graph_in g) node kinds.Call }))
-    call_items = image_items edit node x visit (i.Call disp) says
+    call_items = image_items visit (i.Call disp) says
 
     call_leads : t.ending ≡ None → (v : State)
         → v ≡ delayed (with_register (at_point x t) 15 x.pc) (target_of (at_point x t) disp)
-        → LeadsThere edit node x visit (i.Call disp) says kinds.Call v
+        → LeadsThere visit (i.Call disp) says kinds.Call v
     call_leads live v e =
-        entered edit node x visit (i.Call disp) says v
+        entered visit (i.Call disp) says v
         (ap (λ (z : State). z.ending) e ∙ live) (ap (λ (z : State). z.pc) e) (ap (λ (z : State). z.slot) e)
         (λ out. absurd (cc))
-        (call_delayed disp (point_of v) (stands edit node x visit
+        (call_delayed disp (point_of v) (stands visit
         (i.Call disp) says)
         (ap (λ (z : State). z.pc) e) (ap (λ (z : State). z.npc) e))
 
@@ -67,9 +66,9 @@ module _ (edit : PlacedEdit) (node : Node) (x : Point) (visit : AtWord edit node
       disp = disp;
       says = says;
       way = record { 0 = way_out g.text (graph_in g) node kinds.Call };
-      marked = at_image edit node x visit _ call_items;
+      marked = at_image visit _ call_items;
       leads = call_leads live (does_at g x t) call_acts;
-      never = no_jump edit node x visit (i.Call disp) says (does_at g x t)
+      never = no_jump visit (i.Call disp) says (does_at g x t)
           (λ _. ap (λ (z : State). z.pc) call_acts) refl;
     }
 
@@ -103,7 +102,7 @@ module _ (edit : PlacedEdit) (node : Node) (x : Point) (visit : AtWord edit node
           (number_in g node)
           (record { 0 = way_out g.text (graph_in g) node kinds.Out }))
       jump_items =
-          image_items edit node x visit (i.Jmpl rd rs1 op2) says
+          image_items visit (i.Jmpl rd rs1 op2) says
           ∙ ap (λ (xs : List Item). Some xs) (jump_plain g.text (graph_in g)
           (jumps_at g.text f.table.base) f.cases.base codes address
           node rd rs1 op2 caseless)
@@ -111,13 +110,13 @@ module _ (edit : PlacedEdit) (node : Node) (x : Point) (visit : AtWord edit node
           (number_in g node) (record { 0 = way_out g.text (graph_in g) node kinds.Out }))) (sym behind)
 
       jump_leads : (v : State) → v ≡ jumped → v.ending ≡ None
-          → LeadsThere edit node x visit (i.Jmpl rd rs1 op2) says kinds.Out v
+          → LeadsThere visit (i.Jmpl rd rs1 op2) says kinds.Out v
       jump_leads v e live =
           let w = goes v e live in
-          entered edit node x visit (i.Jmpl rd rs1 op2) says v live w.0 w.1
+          entered visit (i.Jmpl rd rs1 op2) says v live w.0 w.1
           (λ _. caseless)
           (jump_delayed rd rs1 op2 (point_of v)
-          (stands edit node x visit (i.Jmpl rd rs1 op2) says) w.0 w.1
+          (stands visit (i.Jmpl rd rs1 op2) says) w.0 w.1
           (λ e. absurd (false≢true (sym caseless ∙ e))))
 
       pub jump_is : IsJump (site edit) node x t
@@ -139,6 +138,6 @@ module _ (edit : PlacedEdit) (node : Node) (x : Point) (visit : AtWord edit node
             fits = k.fits;
             in_range = k.in_range;
             way = record { 0 = way_out g.text (graph_in g) node kinds.Out };
-            marked = at_image edit node x visit _ jump_items;
+            marked = at_image visit _ jump_items;
             leads = jump_leads (does_at g x t) jump_acts;
           }

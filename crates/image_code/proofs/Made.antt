@@ -19,35 +19,37 @@ use Rattle.image_code.proofs.PlainWords.{plain_is}
 use Rattle.image_code.proofs.SlotCopies.{copy_case}
 use Rattle.image_code.proofs.Visited.{AtWord, PlacedEdit, site, on_its_way, way_in, at_word}
 
+-- ---- at a word, outside a slot
+
+module _ (visit : AtWord) (t : State) (live : t.ending ≡ None)
+    (chooses : Chooses visit.edit.g visit.node visit.x t (does_at visit.edit.g visit.x t)) where
+  open visit use {edit, node, x, edit.{g}}
+
+  -- a JMPL chooses a Case edge, or its target is looked up
+  jump_case : (rd rs1 : ℕ) (op2 : Op2) → decode_of (slice_index g.text.words visit.word) ≡ i.Jmpl rd rs1 op2
+      → (n : Node) → node ≡ n → (c : Bool) → has_cases g.switches n ≡ c → IsCase (site edit) node x t
+  jump_case rd rs1 op2 says n same false e =
+      jump (jump_is visit t rd rs1 op2 says
+      (ap (has_cases g.switches) same ∙ e))
+  jump_case rd rs1 op2 says (Block k) same true e =
+      let found = jump_numbered g.text (blocks_of g.text g.given) g.switches k.0 e in
+      choice (choice_case visit t
+      rd rs1 op2 says chooses found.0 found.1 found.3 found.2 (ap (jumps_in g.switches) found.4 ∙ e)
+      (same ∙ ap block (sym found.4)))
+  jump_case rd rs1 op2 says (Landed k) same true e = absurd (cc)
+  jump_case rd rs1 op2 says X same true e = absurd (cc)
+
+  by_instr : (instr : Instr) → decode_of (slice_index g.text.words visit.word) ≡ instr → IsCase (site edit) node x t
+  by_instr (i.Branch cond annul disp) says = branch_case visit cond annul disp says t live
+  by_instr (i.Call disp) says = call (call_is visit t disp says live)
+  by_instr (i.Jmpl rd rs1 op2) says = jump_case rd rs1 op2 says node refl (has_cases g.switches node) refl
+  by_instr instr says = plain (plain_is visit t (ap is_transfer says))
+
 module _ (edit : PlacedEdit) where
   open edit use {g}
 
   abbrev b : Blocks
   b = blocks_of g.text g.given
-
-  -- ---- at a word, outside a slot
-
-  module _ (node : Node) (x : Point) (visit : AtWord edit node x) (t : State) (live : t.ending ≡ None)
-      (chooses : Chooses g node x t (does_at g x t)) where
-    -- a JMPL chooses a Case edge, or its target is looked up
-    jump_case : (rd rs1 : ℕ) (op2 : Op2) → decode_of (slice_index g.text.words visit.word) ≡ i.Jmpl rd rs1 op2
-        → (n : Node) → node ≡ n → (c : Bool) → has_cases g.switches n ≡ c → IsCase (site edit) node x t
-    jump_case rd rs1 op2 says n same false e =
-        jump (jump_is edit node x visit t rd rs1 op2 says
-        (ap (has_cases g.switches) same ∙ e))
-    jump_case rd rs1 op2 says (Block k) same true e =
-        let found = jump_numbered g.text b g.switches k.0 e in
-        choice (choice_case edit node x visit t
-        rd rs1 op2 says chooses found.0 found.1 found.3 found.2 (ap (jumps_in g.switches) found.4 ∙ e)
-        (same ∙ ap block (sym found.4)))
-    jump_case rd rs1 op2 says (Landed k) same true e = absurd (cc)
-    jump_case rd rs1 op2 says X same true e = absurd (cc)
-
-    by_instr : (instr : Instr) → decode_of (slice_index g.text.words visit.word) ≡ instr → IsCase (site edit) node x t
-    by_instr (i.Branch cond annul disp) says = branch_case edit node x visit cond annul disp says t live
-    by_instr (i.Call disp) says = call (call_is edit node x visit t disp says live)
-    by_instr (i.Jmpl rd rs1 op2) says = jump_case rd rs1 op2 says node refl (has_cases g.switches node) refl
-    by_instr instr says = plain (plain_is edit node x visit t (ap is_transfer says))
 
   -- ---- everywhere
 
@@ -64,8 +66,7 @@ module _ (edit : PlacedEdit) where
           → IsCase (site edit) node x t
       by NoSlot none m0 None e = foreign (foreign_is edit node x none e m0.0 open_there)
       by NoSlot none m0 (Some word) e =
-          by_instr node x
-          (at_word edit node x word e none m0.0 m.1 m0.1) t here.live chooses (decode_of (slice_index g.text.words word)) refl
+          by_instr (at_word edit node x word e none m0.0 m.1 m0.1) t here.live chooses (decode_of (slice_index g.text.words word)) refl
       by s some m0 o e =
           let not : x.slot ≢ NoSlot = λ n. let q : s ≡ NoSlot = sym some ∙ n in absurd (cc) in
           in_slot not (on_its_way edit node x s some (λ q. absurd (cc)) m0) o e

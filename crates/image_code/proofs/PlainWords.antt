@@ -17,7 +17,7 @@ use Rattle.image_code.proofs.Following.{compare_apart, compare_inner, held_next,
 use Rattle.image_code.proofs.ImageNumbers.{HasImage, at_compare, at_jump, enters_in_order, in_order}
 use Rattle.image_code.proofs.ImagePieces.{compare_next, enter_at, jump_next}
 use Rattle.image_code.proofs.Listed.{order_at}
-use Rattle.image_code.proofs.Visited.{AtWord, PlacedEdit, at_image, site, entered_none, entered_word, image_items, l, left_gone, word_is}
+use Rattle.image_code.proofs.Visited.{AtWord, at_image, site, entered_none, entered_word, image_items, l, left_gone, word_is}
 
 last_one : (n count : ℕ) → within count n ≡ None → count ≤ n
 last_one n count e = grind (arith, nat_tests)
@@ -36,9 +36,8 @@ transfer_end text word (i.Call disp30) e = refl
 transfer_end text word (i.Jmpl rd rs1 op2) e = refl
 transfer_end text word _ e = absurd (cc)
 
-module _ (edit : PlacedEdit) (node : Node) (x : Point) (visit : AtWord edit node x) (t : State) (straight : is_transfer (decode_of (slice_index edit.g.text.words visit.word)) ≡ false) where
-  open edit use {g, codes, is, p, place, f, placed.{laid}}
-  open visit use {word, at, none, there, npc, inside, cut, low, home, has}
+module _ (visit : AtWord) (t : State) (straight : is_transfer (decode_of (slice_index visit.edit.g.text.words visit.word)) ≡ false) where
+  open visit use {edit, node, x, word, at, none, there, npc, inside, cut, low, home, has, edit.{g, codes, is, p, place, f, placed.{laid}}}
 
   abbrev b : Blocks
   b = blocks_of g.text g.given
@@ -64,7 +63,7 @@ module _ (edit : PlacedEdit) (node : Node) (x : Point) (visit : AtWord edit node
   found : slice_get (l edit).list number
       ≡ Some (image (code ++ next_at g.text (graph_in g) node word))
   found =
-      image_items edit node x visit instr refl
+      image_items visit instr refl
       ∙ ap (λ z. Some z) (image_straight g.text (graph_in g) (jumps_at g.text f.table.base) f.cases.base codes
       (record { 0 = address_of g.text word }) node word instr straight)
 
@@ -259,6 +258,6 @@ module _ (edit : PlacedEdit) (node : Node) (x : Point) (visit : AtWord edit node
   pub plain_is : IsPlain (site edit) node x t
   plain_is = record {
     rest = code ++ next_at g.text (graph_in g) node word;
-    marked = record { marked = at_image edit node x visit _ found; straight = straight };
+    marked = record { marked = at_image visit _ found; straight = straight };
     leads = λ live. goes (does_at g x t) refl live;
   }

@@ -104,7 +104,10 @@ pub record PlacedEdit : Type 0 where
   pub noted : IsOffNoted g f.table.base
 
 -- a visit of a word at a node whose block holds it, outside a slot
-pub record AtWord (edit : PlacedEdit) (node : Node) (x : Point) : Type 0 where
+pub record AtWord : Type 0 where
+  pub edit : PlacedEdit
+  pub node : Node
+  pub x : Point
   pub word : ℕ
   pub at : word_at edit.g.text x.pc ≡ Some word
   pub none : x.slot ≡ NoSlot
@@ -190,13 +193,16 @@ module _ (edit : PlacedEdit) where
 
   abbrev pub at_word : (node : Node) (x : Point) (word : ℕ) → word_at g.text x.pc ≡ Some word → x.slot ≡ NoSlot
       → home_of node ≡ node_of b (word_at g.text x.pc) → IsNodeIn b g.switches node → x.npc ≡ (x.pc + 4) % 2 ^ 32
-      → AtWord edit node x
+      → AtWord
   at_word node x word at none held there npc =
       let inside = (word_at-some g.text x.pc word at).within in
       let cut = cut_in g is f.table.base f.cases.base in
       let low : word < b.words = omega (arith, inside, cut.words) in
       let held_there = held ∙ ap (node_of b) at in
       record {
+        edit = edit;
+        node = node;
+        x = x;
         word = word;
         at = at;
         none = none;
@@ -209,31 +215,6 @@ module _ (edit : PlacedEdit) where
         home = held_there ∙ node_is b word low;
         has = stands_at g is f.table.base f.cases.base codes node word inside held_there there;
       }
-
-  pub image_items : (node : Node) (x : Point) (visit : AtWord edit node x) (instr : Instr)
-      → decode_of (slice_index g.text.words visit.word) ≡ instr
-      → slice_get l.list (image_number g.text (graph_in g) node visit.word)
-      ≡ Some (image_by g.text (graph_in g) (jumps_at g.text f.table.base) f.cases.base codes
-      (record { 0 = address_of g.text visit.word }) node visit.word instr)
-  image_items node x visit instr e =
-      image_at g is f.table.base f.cases.base codes node visit.word visit.inside visit.has ∙ rw e
-
-  -- its piece begins with its Mark
-  abbrev pub at_image : (node : Node) (x : Point) (visit : AtWord edit node x) (behind : Addr → ℕ → List Item)
-      → slice_get l.list (image_number g.text (graph_in g) node visit.word)
-      ≡ Some (it.Mark (record { 0 = address_of g.text visit.word }) (number_in g node)
-      ∷ behind (record { 0 = address_of g.text visit.word }) (slice_index g.text.words visit.word))
-      → IsMarked site node x behind
-  at_image node x visit behind items = record {
-    piece = image_number g.text (graph_in g) node visit.word;
-    within = slice_get_within l.list _ _ items;
-    here = visited_word node x visit.word visit.at visit.none;
-    address = record { 0 = address_of g.text visit.word };
-    original = sym (word_at-some g.text x.pc visit.word visit.at).is;
-    word = slice_index g.text.words visit.word;
-    is_word = word_is g x visit.word visit.at;
-    items = items;
-  }
 
   -- ---- in a slot
 
@@ -444,3 +425,29 @@ module _ (edit : PlacedEdit) where
             table_far whole,
             ap (slice_get l.list) number ∙ plain_items node x way caseless carried.Off (off node x way e),
           )))
+
+module _ (visit : AtWord) where
+  open visit use {edit, node, x, word, edit.{g, codes, is, f}}
+
+  pub image_items : (instr : Instr) → decode_of (slice_index g.text.words word) ≡ instr
+      → slice_get (l edit).list (image_number g.text (graph_in g) node word)
+      ≡ Some (image_by g.text (graph_in g) (jumps_at g.text f.table.base) f.cases.base codes
+      (record { 0 = address_of g.text word }) node word instr)
+  image_items instr e = image_at g is f.table.base f.cases.base codes node word visit.inside visit.has ∙ rw e
+
+  -- its piece begins with its Mark
+  abbrev pub at_image : (behind : Addr → ℕ → List Item)
+      → slice_get (l edit).list (image_number g.text (graph_in g) node word)
+      ≡ Some (it.Mark (record { 0 = address_of g.text word }) (number_in g node)
+      ∷ behind (record { 0 = address_of g.text word }) (slice_index g.text.words word))
+      → IsMarked (site edit) node x behind
+  at_image behind items = record {
+    piece = image_number g.text (graph_in g) node word;
+    within = slice_get_within (l edit).list _ _ items;
+    here = visited_word edit node x word visit.at visit.none;
+    address = record { 0 = address_of g.text word };
+    original = sym (word_at-some g.text x.pc word visit.at).is;
+    word = slice_index g.text.words word;
+    is_word = word_is g x word visit.at;
+    items = items;
+  }
