@@ -8,7 +8,7 @@ use Rattle.cfg_walk.proofs.Holding.{Leads, is_last}
 use Rattle.layout.specs.Laid.{is_jump, size_of}
 use Rattle.image_code.specs.Simulates.{at_point, does_at, gone_at, graph_in, number_in}
 use Rattle.image_code.proofs.Points.{entered_at}
-use Rattle.image_code.proofs.PointShapes.{IsJumpTarget, IsPlain, JumpsOn, LeadsOn, words_on}
+use Rattle.image_code.proofs.PointShapes.{IsJumpTarget, IsPlain, LeadsOn, words_on}
 use Rattle.image_code.specs.Cases.{plain_piece}
 use Rattle.image_code.specs.Made.{is_slots, jump_to, jumps_at, next_at, next_to}
 use Rattle.image_code.specs.Numbered.{enter_number, image_number, node_in_order}
@@ -138,19 +138,6 @@ module _ (visit : AtWord) (t : State) (straight : is_transfer (decode_of (slice_
         (λ more. subst (λ (n : ℕ). Leads b.firsts n) next (cut.second (word - 1) transfer (omega (arith, cut.words)))) in
         some_edge g is node word low home there straight last
 
-    -- so its image may end in a Jump
-    jumps_on : word + 1 < length g.text.words → is_slots g.text word ≡ true → (next : Option ℕ) (to : ℕ)
-        → slice_index p.at (word + 1) ≡ to → JumpsOn (l edit) p number 3 edges next to
-    jumps_on more slots next to leads = record {
-      first = edges;
-      others = [];
-      all = sym (append-nil edges);
-      some = slot_ends slots;
-      piece = record { 0 = word + 1 };
-      rest = ap (option_map (drop 3)) (with_rest true true (lt-ltb _ _ more) slots);
-      leads = inl (refl, leads);
-    }
-
     falls : word + 1 < length g.text.words → is_slots g.text word ≡ false
         → place number (3 + length (flat_map codes edges)) ≡ slice_index p.at (word + 1)
     falls more alone =
@@ -183,7 +170,7 @@ module _ (visit : AtWord) (t : State) (straight : is_transfer (decode_of (slice_
             ∙ next_address g.text word is.text inside ∙ ap (address_of g.text) end in
             subst (LeadsOn (l edit) p place number 3 edges (word_at g.text v.pc))
             (sym (entered_none edit after (point_of v) none_there w.slot ∙ pc))
-            (inr (inr (none_there, end_far, leaves last)))
+            (inr ((λ there. absurd (there none_there)), inr (none_there, end_far, leaves last)))
         by (Some other) some =
             let next = within_some (length g.text.words) (word + 1) other (sym w.reaches ∙ some) in
             let on_word : word_at g.text v.pc ≡ Some (word + 1) = some ∙ ap (λ (z : ℕ). Some z) (sym next.1) in
@@ -193,7 +180,15 @@ module _ (visit : AtWord) (t : State) (straight : is_transfer (decode_of (slice_
             (next_in_order g is node word low home there straight (omega (arith, next.0, cut.words)) same)
             ∙ ap (slice_index p.at) (enters_in_order g.text b g.switches is.cased (word + 1))) in
             elim (cases_Bool (is_slots g.text word)) as (λ _. LeadsFrom number edges v) [
-              | inl slots ↦ inr (inl (jumps_on next.0 slots _ _ to))
+              | inl slots ↦
+                  inr (
+                    (λ _. slot_ends slots),
+                    inl (
+                      record { 0 = word + 1 },
+                      ap (option_map (drop 3)) (with_rest true true (lt-ltb _ _ next.0) slots),
+                      to,
+                    ),
+                  )
               | inr alone ↦ inl (ap (option_map (drop 3)) (ends next.0 alone), falls next.0 alone ∙ to)
             ]
 

@@ -35,40 +35,28 @@ IsJumpTarget to = (to < 2 ^ 32) × (to % 4 ≡ 0)
 abbrev pub words_on : Pieces → List ℕ → List Item
 words_on l edges = map it.Word (flat_map l.codes edges)
 
--- Control that comes to a piece goes on to an address, through the snippets of some edges: the piece stands there, or
--- what is behind the snippets' words is a Jump to a piece that does, or a long jump to the address itself, where the
--- original goes on at no word of the text.
+-- Behind the snippets of some edges items go on to an address: a Jump leads to a piece that stands there, or a long jump
+-- to the address itself, where the original goes on at no word of the text.
+abbrev pub GoesOn : Pieces → Placement → Option (List Item) → List ℕ → Option ℕ → ℕ → Type 0
+GoesOn l p items edges next to =
+    ((z : PieceNo) × (items ≡ Some (words_on l edges ++ it.Jump z ∷ [])) × (slice_index p.at z.0 ≡ to))
+    ⊎ ((next ≡ None) × IsJumpTarget to × (items ≡ Some (words_on l edges ++ long_jump_piece to)))
+
+-- control that comes to a piece goes on to an address: the piece stands there, or its items go on there
 abbrev pub LeadsTo : Pieces → Placement → PieceNo → List ℕ → Option ℕ → ℕ → Type 0
 LeadsTo l p piece edges next to =
-    ((edges ≡ []) × (slice_index p.at piece.0 ≡ to))
-    ⊎ (((z : PieceNo) × (slice_get l.list piece.0 ≡ Some (words_on l edges ++ it.Jump z ∷ []))
-    × (slice_index p.at z.0 ≡ to))
-    ⊎ ((next ≡ None) × IsJumpTarget to × (slice_get l.list piece.0 ≡ Some (words_on l edges ++ long_jump_piece to))))
+    ((edges ≡ []) × (slice_index p.at piece.0 ≡ to)) ⊎ GoesOn l p (slice_get l.list piece.0) edges next to
 
 -- the rest of a piece from its item n on
 abbrev pub rest_from : Pieces → ℕ → ℕ → Option (List Item)
 rest_from l k n = option_map (drop n) (slice_get l.list k)
 
--- A Jump behind the snippets of the first of some edges leads to a piece that goes on through those of the others.
-pub record JumpsOn (l : Pieces) (p : Placement) (k n : ℕ) (edges : List ℕ) (next : Option ℕ) (to : ℕ)
-    : Type 0 where
-  pub first : List ℕ
-  pub others : List ℕ
-  pub all : edges ≡ first ++ others
-  -- some edge is completed
-  pub some : edges ≢ []
-  pub piece : PieceNo
-  pub rest : rest_from l k n ≡ Some (words_on l first ++ it.Jump piece ∷ [])
-  pub leads : LeadsTo l p piece others next to
-
--- From its item n on, a piece goes on to an address, through the snippets of some edges: it ends behind them and the
--- next piece begins there, or a Jump leads on, or a long jump is all that is left, where the original goes on at no
--- word of the text.
+-- From its item n on, a piece goes on to an address: it ends behind the snippets of some edges, and the next piece begins
+-- there, or its items go on there. Where the original goes on at a word of the text, they do so for some edge.
 abbrev pub LeadsOn : Pieces → Placement → (ℕ → ℕ → ℕ) → ℕ → ℕ → List ℕ → Option ℕ → ℕ → Type 0
 LeadsOn l p place k n edges next to =
     ((rest_from l k n ≡ Some (words_on l edges)) × (place k (n + length (flat_map l.codes edges)) ≡ to))
-    ⊎ (JumpsOn l p k n edges next to
-    ⊎ ((next ≡ None) × IsJumpTarget to × (rest_from l k n ≡ Some (words_on l edges ++ long_jump_piece to))))
+    ⊎ ((next ≢ None → edges ≢ []) × GoesOn l p (rest_from l k n) edges next to)
 
 -- a piece leads to where the original goes on
 abbrev pub LeadsNext : Site → PieceNo → Node → Point → State → Type 0

@@ -14,7 +14,7 @@ use Rattle.image_code.specs.Cost.{in_first_word, is_spill, spills_on}
 use Rattle.image_code.specs.Store.{cells_in, operations_on, snippet_on, updates}
 use Rattle.image_code.proofs.Points.{Forms, Site}
 use Rattle.image_code.specs.Images.{HasImages, Pieces}
-use Rattle.image_code.proofs.PointShapes.{IsJumpTarget, LeadsTo, LeadsOn, rest_from, words_on}
+use Rattle.image_code.proofs.PointShapes.{GoesOn, IsJumpTarget, LeadsTo, LeadsOn, rest_from, words_on}
 use Rattle.image_code.proofs.Between.{can_run, item_below, item_size, on_none, stores_weaker}
 use Rattle.image_code.proofs.Cells.{cell_low, cells_above, cell_stored, first_above, may_below, may_beside, may_own, operations_then, updates_same, updates_then, word_kept}
 use Rattle.image_code.proofs.Dead.{IsAlike, LastDead, NothingDead, alike_itself, alike_then, last_first, last_others, last_parted, nothing_parted}
@@ -462,19 +462,25 @@ module _ (site : Site) where
       → FollowsRoute next edges a to most
   for_all {next} edges a to most way = subst (λ z. FollowsRoute next z a to most) (append-nil edges) way
 
+  -- through the snippets of some edges, and on
+  goes_on : (k n : ℕ) (items : Option (List Item)) → ((xs : List Item) → AreUnmarked xs → items ≡ Some xs → PieceFrom l k n xs)
+      → (edges : List ℕ) (a : State) (next : Option ℕ) (to : ℕ) → IsFit a → (k < length l.list → a.pc ≡ place k n)
+      → GoesOn l p items edges next to → FollowsRoute next edges a to 4
+  goes_on k n items from edges a next to fit at (inl (z, is, e)) =
+      let r = from _ (jump_unmarked edges z) is in
+      for_all edges a to 4 (snippets_then next edges k n (it.Jump z ∷ []) r a fit (at r.within) [] to 4
+      (λ b fit2 there r2. rw (← e) (last_jump next k _ z r2 b fit2 there)))
+  goes_on k n items from edges a next to fit at (inr (out, far, is)) =
+      let r = from _ (words_unmarked (flat_map l.codes edges) (long_jump_piece to) (far_unmarked to)) is in
+      for_all edges a to 4 (snippets_then next edges k n (long_jump_piece to) r a fit (at r.within) [] to 4
+      (λ b fit2 there r2. far_on next out k _ to far r2 b fit2 there))
+
   pub arrive : (z : PieceNo) (edges : List ℕ) (a : State) (next : Option ℕ) (to : ℕ) → IsFit a
       → a.pc ≡ slice_index p.at z.0 → LeadsTo l p z edges next to → FollowsRoute next edges a to 4
   arrive z edges a next to fit at (inl (none, e)) =
       rw none (bare_here [] a to 4 refl fit (at ∙ e) (omega (arith, at, (placed.laid.aligned z.0).1)))
-  arrive z edges a next to fit at (inr (inl (y, is, e))) =
-      let r = rest_whole l z.0 (words_on l edges ++ it.Jump y ∷ []) (jump_unmarked edges y) is in
-      for_all edges a to 4 (snippets_then next edges z.0 0 (it.Jump y ∷ []) r a fit
-      (at ∙ placed.laid.starts z.0 r.within) [] to 4 (λ b fit2 there r2. rw (← e) (last_jump next z.0 _ y r2 b fit2 there)))
-  arrive z edges a next to fit at (inr (inr (out, far, is))) =
-      let r = rest_whole l z.0 (words_on l edges ++ long_jump_piece to)
-      (words_unmarked (flat_map l.codes edges) (long_jump_piece to) (far_unmarked to)) is in
-      for_all edges a to 4 (snippets_then next edges z.0 0 (long_jump_piece to) r a fit
-      (at ∙ placed.laid.starts z.0 r.within) [] to 4 (λ b fit2 there r2. far_on next out z.0 _ to far r2 b fit2 there))
+  arrive z edges a next to fit at (inr on) =
+      goes_on z.0 0 _ (rest_whole l z.0) edges a next to fit (λ within. at ∙ placed.laid.starts z.0 within) on
 
   -- a Jump to a piece that leads on
   pub jump_along : (k n : ℕ) (z : PieceNo) → item_at l.list k n ≡ Some (it.Jump z)
@@ -552,16 +558,7 @@ module _ (site : Site) where
           let one = snippets_run next edges k 3 [] r a fit at in
           rw (← stands) (weaker_tail edges a _ 0 8 (omega arith)
           (one, λ there none. omega (arith, one.few, ap (operations_on g.snips) none)))
-      by (inr (inl j)) =
-          let r = with_rest (words_on l j.first ++ it.Jump j.piece ∷ []) (jump_unmarked j.first j.piece) j.rest in (
-            rw j.all (snippets_then next j.first k 3 (it.Jump j.piece ∷ []) r a fit at j.others to 8 (λ b fit2 there r2.
-                jump_then k _ j.piece r2 j.others b next to fit2 there j.leads)),
-            λ there none. absurd (j.some none),
-          )
-      by (inr (inr (out, far, e))) =
-          let r = with_rest (words_on l edges ++ long_jump_piece to)
-          (words_unmarked (flat_map l.codes edges) (long_jump_piece to) (far_unmarked to)) e in (
-            for_all edges a to 8 (snippets_then next edges k 3 (long_jump_piece to) r a fit at [] to 8 (λ b fit2 there r2.
-                weaker_route [] b to 4 8 (omega arith) (far_on next out k _ to far r2 b fit2 there))),
-            λ there none. absurd (there out),
-          )
+      by (inr (some, on)) = (
+        weaker_route edges a to 4 8 (omega arith) (goes_on k 3 _ with_rest edges a next to fit (λ _. at) on),
+        λ there none. absurd (some there none),
+      )

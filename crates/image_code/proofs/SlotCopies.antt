@@ -175,21 +175,20 @@ module _ (edit : PlacedEdit)
               → (word_at g.text x.npc ≡ None) × IsJumpTarget x.npc × (on_there ≡ long_jump_piece x.npc) → Leads
           leaves w (none, far, there) =
               rw (entered_none edit after (point_of v) (rw w.0 none) w.1, w.0)
-              (inr (inr (none, far, ap (option_map (drop 3)) (items (long_jump_piece x.npc) there))))
+              (inr ((λ _ e. absurd (cc)), inr (none, far, ap (option_map (drop 3)) (items (long_jump_piece x.npc) there))))
 
           goes_to : (v.pc ≡ x.npc) × (v.slot ≡ NoSlot)
               → (n : ℕ) × (word_at g.text x.npc ≡ Some n)
               × (on_there ≡ jump_to (enter_number g.text (graph_in g) way.edge.to n)) → Leads
           goes_to w (n, some, there) =
-              inr (inl (record {
-                first = way.number ∷ [];
-                others = [];
-                all = refl;
-                some = λ e. absurd (cc);
-                piece = record { 0 = enter_number g.text (graph_in g) way.edge.to n };
-                rest = ap (option_map (drop 3)) (items _ there);
-                leads = inl (refl, rw (entered_word edit after (point_of v) n (rw w.0 some) w.1, way.is) refl);
-              }))
+              inr (
+                (λ _ e. absurd (cc)),
+                inl (
+                  record { 0 = enter_number g.text (graph_in g) way.edge.to n },
+                  ap (option_map (drop 3)) (items _ there),
+                  rw (entered_word edit after (point_of v) n (rw w.0 some) w.1, way.is) refl,
+                ),
+              )
 
       plain_case : IsCase (site edit) node x t
       plain_case = plain (record {
