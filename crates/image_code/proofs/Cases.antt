@@ -14,7 +14,7 @@ use Rattle.image_code.proofs.PointShapes.{next_entry, visits_it, IsMarkedWord, I
 use Rattle.image_code.proofs.Ended.{stops_act}
 use Rattle.image_code.proofs.Sparing.{uncounted}
 use Rattle.image_code.proofs.Memories.{fetch_is, images_stay, same_stored}
-use Rattle.image_code.proofs.Routes.{Tail, IsFit, tail, weaker_tail}
+use Rattle.image_code.proofs.Routes.{Tail, IsFit, tail}
 use Rattle.image_code.proofs.Dead.{LastDead, gone_last}
 use Rattle.image_code.proofs.Marked.{AtWords, at_words}
 use Rattle.image_code.proofs.EntersBy.{Past, ends_by, enters_by, followed_same}
@@ -114,7 +114,7 @@ module _ (visit : Visit) (rest : List Item) (c : IsMarkedWord visit.site visit.n
   goes : (next : Option ℕ) (edges : List ℕ) → LastDead g edges → v.ending ≡ None
       → AllApart (pages_of g.notes) (judged_by t (decode_of c.word))
       → (IsFit site a → a.pc ≡ place c.piece 3 → Tail site next edges a
-      (entered_at site (node_after (graph_in g) node edges) (point_of v)) 24)
+      (entered_at site (node_after (graph_in g) node edges) (point_of v)) 8)
       → (IsWatched (edit_in g) edges x v → next ≢ None) → ReachesNext site edges node x t v
   goes next edges last live apart onward watched =
       let alive : a.ending ≡ None = ap (λ (z : State). z.ending) same ∙ live in
@@ -145,7 +145,7 @@ module _ (visit : Visit) (rest : List Item) (c : IsMarkedWord visit.site visit.n
   -- The word ends the run as the original's does, or control goes on from item 3 of its piece.
   pub marked_step : (next : Option ℕ) → AllApart (pages_of g.notes) (judged_by (at_point x t) (decode_of c.word))
       → ((does_at g x t).ending ≡ None → IsFit site a → a.pc ≡ place c.piece 3
-      → Tail site next (gone_at g node x (does_at g x t)) a (next_entry site node x t) 24)
+      → Tail site next (gone_at g node x (does_at g x t)) a (next_entry site node x t) 8)
       → ((does_at g x t).ending ≡ None → IsWatched (edit_in g) (gone_at g node x (does_at g x t)) x (does_at g x t) → next ≢ None)
       → StepsFrom site node x t
   marked_step next apart onward watched =
@@ -154,7 +154,7 @@ module _ (visit : Visit) (rest : List Item) (c : IsMarkedWord visit.site visit.n
     where
       by : (e : Option Ending) → v.ending ≡ e
           → (v.ending ≡ None → IsFit site a → a.pc ≡ place c.piece 3 → Tail site next (gone_at g node x v) a
-          (entered_at site (node_after (graph_in g) node (gone_at g node x v)) (point_of v)) 24)
+          (entered_at site (node_after (graph_in g) node (gone_at g node x v)) (point_of v)) 8)
           → (v.ending ≡ None → IsWatched (edit_in g) (gone_at g node x v) x v → next ≢ None)
           → ReachesNext site (gone_at g node x v) node x t v
       by None e onward watched =
@@ -169,6 +169,5 @@ module _ (visit : Visit) (c : IsPlain visit.site visit.node visit.x visit.t) whe
   plains_step apart =
       marked_step visit c.rest c.marked (word_ahead g x t) apart
       (λ live fit pc.
-      weaker_tail site _ _ (next_entry site node x t) 8 24 (omega arith)
-      (tail site c.piece c.rest c.address (number_in g node) (it.Word c.word) c.items _ _ (word_ahead g x t)
-      (next_entry site node x t) fit pc (c.leads live))) (λ live w. w.inside)
+      tail site c.piece c.rest c.address (number_in g node) (it.Word c.word) c.items _ _ (word_ahead g x t)
+      (next_entry site node x t) fit pc (c.leads live)) (λ live w. w.inside)

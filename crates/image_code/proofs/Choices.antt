@@ -113,7 +113,7 @@ module _ (visit : Visit)
         slot = refl;
         waits = λ _ _ plain. absurd (plain c.number c.open_switch c.among c.itself);
       })
-      (λ fit. bare_here site [] _ _ 24 refl fit (sym arrives) (omega (arith, target, low)))
+      (λ fit. bare_here site [] _ _ 8 refl fit (sym arrives) (omega (arith, target, low)))
     where
       jumping : is_jmpl (instr_at g.text x.pc) ≡ false → ⊥
       jumping e = let is = ap is_jmpl (instr_is g.text x.pc c.word c.is_word ∙ ap (λ (z : Instr). Some z) c.says) in cc

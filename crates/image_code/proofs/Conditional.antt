@@ -119,7 +119,7 @@ module _ (visit : Visit)
         slot = refl;
         waits = λ a b _. absurd (c.never a b);
       })
-      (λ fit. weaker_route site edges _ (next_entry site node x t) 8 24 (omega arith) (onward fit))
+      onward
 
   -- whichever way that is
   steps : (taken : Bool)

@@ -94,7 +94,7 @@ module _ (visit : Visit) where
   abbrev pub Behind : Option ℕ → List ℕ → State → State → Type 0
   Behind next edges v mid =
       (w : FollowsRoute site next edges mid
-      (entered_at site (node_after (graph_in g) node edges) (point_of v)) 24)
+      (entered_at site (node_after (graph_in g) node edges) (point_of v)) 8)
       × (is_transfer_at (instr_at g.text x.pc) ≡ false → next ≢ None → edges ≡ [] → w.count ≡ 0)
 
   pub enters_by : (next : Option ℕ) (edges : List ℕ) (v mid : State) (count : ℕ) → LastDead g edges
@@ -261,7 +261,7 @@ module _ (visit : Visit) where
 
   pub moves_by : (edges : List ℕ) (v mid : State) (count : ℕ) → LastDead g edges → MovesOn edges v mid count
       → (IsFit site mid → FollowsRoute site (word_at g.text v.pc) edges mid
-      (entered_at site (node_after (graph_in g) node edges) (point_of v)) 24)
+      (entered_at site (node_after (graph_in g) node edges) (point_of v)) 8)
       → ReachesNext site edges node x t v
   moves_by edges v mid count last w onward =
       let a = w.moves in

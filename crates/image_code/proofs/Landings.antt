@@ -137,7 +137,7 @@ module _ (visit : Visit) (c : IsJumpsSlot visit.site visit.node visit.x visit.t)
       → found_in f.halves x.npc ≤ 2 ^ 31
       → ((b : State) → IsFit site b → b.pc ≡ found_in f.halves x.npc → waiting b ≡ x.npc
       → FollowsRoute site None c.landing b to 4)
-      → FollowsRoute site None (c.edge ∷ c.landing) (act t (decode_of c.word)) to 24
+      → FollowsRoute site None (c.edge ∷ c.landing) (act t (decode_of c.word)) to 8
   unfolding eased
   onward to fit at aligned low_there behind =
       let a : State = act t (decode_of c.word) in
@@ -159,13 +159,13 @@ module _ (visit : Visit) (c : IsJumpsSlot visit.site visit.node visit.x visit.t)
       let fit3 = arrived site [] b there 3 fit2 low_there two in
       let three = behind (hopped two.other there two.memory) fit3 refl (two.waits ∙ way.waits ∙ target_waits) in
       let both = on_then site c.landing [] c.landing refl b there to 3 4 two three in
-      weaker_route site (c.edge ∷ c.landing) a to (0 + (3 + 4)) 24 (omega arith)
+      weaker_route site (c.edge ∷ c.landing) a to (0 + (3 + 4)) 8 (omega arith)
       (on_then site (c.edge ∷ c.landing) (c.edge ∷ []) c.landing refl a mid to 0 (3 + 4) one both)
 
   lands : (to : ℕ) → IsFit site (act t (decode_of c.word))
       → (act t (decode_of c.word)).pc ≡ place c.piece 3 → Lands site c.landing x.npc to
       → (word_at g.text x.npc ≡ None → to ≡ x.npc)
-      → FollowsRoute site None (c.edge ∷ c.landing) (act t (decode_of c.word)) to 24
+      → FollowsRoute site None (c.edge ∷ c.landing) (act t (decode_of c.word)) to 8
   lands to fit at (inl (piece, within, found, leads)) out =
       let place_there = placed.laid.aligned piece.0 in
       let multiple : found_in f.halves x.npc % 4 ≡ 0 = ap (λ z. z % 4) found ∙ place_there.0 in
@@ -213,7 +213,7 @@ module _ (visit : Visit) (c : IsJumpsSlot visit.site visit.node visit.x visit.t)
   jump_slots_step apart =
       let moved = judged_moved g.notes x t (decode_of c.word) apart in
       marked_step visit _ c.marked None apart (λ live fit at. (
-        subst (λ z. FollowsRoute site None z (act t (decode_of c.word)) (next_entry site node x t) 24)
+        subst (λ z. FollowsRoute site None z (act t (decode_of c.word)) (next_entry site node x t) 8)
             (sym (c.completes live))
             (lands visit c moved (next_entry site node x t) fit at (c.lands live) (out visit c moved live)),
         λ there none. absurd (there refl),

@@ -5,7 +5,7 @@ use Rattle.jump_code.specs.Pieces.{marked_piece}
 use Rattle.image_code.specs.Simulates.{number_in, graph_in}
 use Rattle.image_code.proofs.Points.{ReachesNext, entered_at, Visit}
 use Rattle.image_code.proofs.PointShapes.{IsMarked, LeadsTo}
-use Rattle.image_code.proofs.Routes.{jump_along, weaker_route}
+use Rattle.image_code.proofs.Routes.{jump_along}
 use Rattle.image_code.proofs.Dead.{LastDead}
 use Rattle.image_code.proofs.EntersBy.{MovesOn, moves_by}
 use Rattle.image_code.proofs.Marked.{AtWords, at_instrs, jump_behind, shut_behind}
@@ -41,6 +41,5 @@ module _ (visit : Visit)
   goes_through v m edges last w leads =
       let to = entered_at site (node_after (graph_in g) node edges) (point_of v) in
       moves_by visit edges v (past t (length xs) m v) (length xs) last w (λ fit.
-      weaker_route site edges _ to 8 24 (omega arith)
-      (jump_along site c.piece (suc (suc (length xs))) way jump shut edges _ (word_at g.text v.pc) to fit
-      (sym ahead.behind) leads))
+      jump_along site c.piece (suc (suc (length xs))) way jump shut edges _ (word_at g.text v.pc) to fit
+      (sym ahead.behind) leads)

@@ -4,7 +4,7 @@ use Rattle.layout.specs.declared.items.Item.TheVariants as it
 use Rattle.image_code.specs.Simulates.{does_at, gone_at, number_in}
 use Rattle.image_code.proofs.Points.{StepsFrom, Visit}
 use Rattle.image_code.proofs.PointShapes.{next_entry, word_ahead, IsUnconditionalBranch}
-use Rattle.image_code.proofs.Routes.{jump_then, rest_marked, weaker_route}
+use Rattle.image_code.proofs.Routes.{jump_then, rest_marked}
 use Rattle.image_code.proofs.BranchMoves.{branch_moves}
 use Rattle.image_code.proofs.Memories.{fetch_is}
 use Rattle.image_code.proofs.Marked.{AtWords, at_words}
@@ -70,8 +70,6 @@ module _ (visit : Visit)
         waits = λ a b _. absurd (c.never a b);
       })
       (λ fit.
-      weaker_route site edges mid (next_entry site node x t) 8 24 (omega arith)
-      (jump_then site c.piece 3 c.way
+      jump_then site c.piece 3 c.way
       (rest_marked l c.piece c.address (number_in g node) (it.Word nop_word) (it.Jump c.way ∷ []) (tt, tt) c.items)
-      edges mid (word_ahead g x t) (next_entry site node x t) fit
-      (omega (arith, npc, there.behind)) c.leads))
+      edges mid (word_ahead g x t) (next_entry site node x t) fit (omega (arith, npc, there.behind)) c.leads)
