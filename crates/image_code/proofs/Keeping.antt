@@ -18,7 +18,7 @@ use Rattle.image_code.proofs.Routes.{IsFit, PieceFrom, CodeAt, bare_on, first_ke
 use Rattle.image_code.proofs.Between.{can_run}
 use Rattle.image_code.proofs.Memories.{images_stored, same_stored}
 use Rattle.image_code.proofs.Sparing.{instr_is, spill_first}
-use Rattle.image_code.proofs.Visited.{left_gone, word_is}
+use Rattle.image_code.proofs.Visited.{goes_straight, left_gone, word_is}
 
 -- the operands of a state that is elsewhere
 sum_past : (s : State) (count : ℕ) (m : Memory) (rs1 : ℕ) (op2 : Op2) → sum_of (past s count m s) rs1 op2 ≡ sum_of s rs1 op2
@@ -50,23 +50,18 @@ module _ (g : EditSetup) (are : AreCaseTables g) where
       let c = are.each k o is in
       let straight = c.straight word from below in
       let here = word_is g x word at.stands in
-      let v_is : does_at g x t ≡ act (at_point x t) (decode_of (slice_index g.text.words word)) =
-      ap (on_word (at_point x t)) here in
-      let went = goes_act (at_point x t) (decode_of (slice_index g.text.words word)) straight
-      (ap (λ (z : State). z.ending) (sym v_is) ∙ live) in
-      let slot : (does_at g x t).slot ≡ NoSlot = ap (λ (z : State). z.slot) v_is ∙ went.2 in
-      let pc : (does_at g x t).pc ≡ x.npc = ap (λ (z : State). z.pc) v_is ∙ went.0 in
+      let went = goes_straight g x t (slice_index g.text.words word) here straight live in
       let match : MatchesBy g.text (graph_in g) node x NoSlot =
       subst (λ (s : Slot). MatchesBy g.text (graph_in g) node x s) at.outside matches in
       let w = word_at-some g.text x.pc word at.stands in
       record {
-        none = left_gone g node x (does_at g x t) at.outside slot live word at.stands
+        none = left_gone g node x (does_at g x t) at.outside went.1 live word at.stands
             (decode_of (slice_index g.text.words word)) refl
             ∙ left_none (decode_of (slice_index g.text.words word)) straight
             (ap (λ (n : Node). ends_block (graph_in g) n word) at.itself ∙ ap (λ z. word == z) c.last
             ∙ ne_eqb word o.jump (λ e. absurd (omega arith)));
         straight = ap is_transfer_at (instr_is g.text x.pc (slice_index g.text.words word) here) ∙ straight;
-        next = ap (word_at g.text) (pc ∙ match.1) ∙ next_word g.text x.pc word are.text w
+        next = ap (word_at g.text) (went.0 ∙ match.1) ∙ next_word g.text x.pc word are.text w
             ∙ ap (λ (b : Bool). if b then Some (word + 1) else None) (lt-ltb _ _ (omega (arith, below, c.within)));
       }
     where

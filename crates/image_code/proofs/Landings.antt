@@ -18,6 +18,7 @@ use Rattle.image_code.proofs.Cases.{judged_moved, marked_step}
 use Rattle.image_code.proofs.Cells.{cells_above, page_above}
 use Rattle.image_code.proofs.Dead.{alike_itself}
 use Rattle.image_code.proofs.EntersBy.{own_stored}
+use Rattle.image_code.proofs.Visited.{goes_straight}
 
 -- the jump to what was found
 abbrev going_on : List Item
@@ -199,12 +200,8 @@ module _ (visit : Visit) (c : IsJumpsSlot visit.site visit.node visit.x visit.t)
   -- outside the text the next visit is at the target itself
   out : (does_at g x t).ending ≡ None → word_at g.text x.npc ≡ None → next_entry site node x t ≡ x.npc
   out live none =
-      let is : does_at g x t ≡ act (at_point x t) (decode_of c.word) = ap (on_word (at_point x t)) c.is_word in
-      let went = goes_act (at_point x t) (decode_of c.word) c.straight
-      (ap (λ (z : State). z.ending) (sym is) ∙ live) in
-      let pc : (does_at g x t).pc ≡ x.npc = ap (λ (z : State). z.pc) is ∙ went.0 in
-      let slot : (does_at g x t).slot ≡ NoSlot = ap (λ (z : State). z.slot) is ∙ went.2 in
-      rw (pc, none, slot) refl
+      let went = goes_straight g x t c.word c.is_word c.straight live in
+      rw (went.0, none, went.1) refl
 
 module _ (visit : Visit) (c : IsJumpsSlot visit.site visit.node visit.x visit.t) where
   open visit use {site, node, x, t, site.{g}}

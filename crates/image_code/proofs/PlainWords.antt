@@ -17,7 +17,7 @@ use Rattle.image_code.proofs.Following.{compare_apart, compare_inner, held_next,
 use Rattle.image_code.proofs.ImageNumbers.{HasImage, at_compare, at_jump, enters_in_order, in_order}
 use Rattle.image_code.proofs.ImagePieces.{compare_next, enter_at, jump_next}
 use Rattle.image_code.proofs.Listed.{order_at}
-use Rattle.image_code.proofs.Visited.{AtWord, at_image, site, entered_none, entered_word, image_items, l, left_gone, word_is}
+use Rattle.image_code.proofs.Visited.{AtWord, at_image, goes_straight, site, entered_none, entered_word, image_items, l, left_gone, word_is}
 
 last_one : (n count : ℕ) → within count n ≡ None → count ≤ n
 last_one n count e = grind (arith, nat_tests)
@@ -90,10 +90,10 @@ module _ (visit : AtWord) (t : State) (straight : is_transfer (decode_of (slice_
 
   goes_to : (v : State) → does_at g x t ≡ v → v.ending ≡ None → Goes v
   goes_to v e live =
-      let same : v ≡ act (at_point x t) instr = sym e ∙ ap (on_word (at_point x t)) (word_is g x word at) in
-      let w = goes_act (at_point x t) instr straight (ap (λ (z : State). z.ending) (sym same) ∙ live) in
-      let pc : v.pc ≡ x.npc = ap (λ (z : State). z.pc) same ∙ w.0 in
-      let slot : v.slot ≡ NoSlot = ap (λ (z : State). z.slot) same ∙ w.2 in
+      let went = goes_straight g x t (slice_index g.text.words word) (word_is g x word at) straight
+      (ap (λ (z : State). z.ending) e ∙ live) in
+      let pc : v.pc ≡ x.npc = rw (← e) went.0 in
+      let slot : v.slot ≡ NoSlot = rw (← e) went.1 in
       record {
         pc = pc;
         slot = slot;

@@ -23,7 +23,7 @@ use Rattle.image_code.proofs.Heads.{HasCopy, by_cases, case_copy, copy_visited, 
 use Rattle.image_code.proofs.ImageNumbers.{jump_of}
 use Rattle.image_code.proofs.ImagePieces.{enter_at, stands_at}
 use Rattle.image_code.proofs.Listed.{foreign_at, landing_at}
-use Rattle.image_code.proofs.Visited.{PlacedEdit, site, case_kind, edge_is, entered_none, entered_word, kind_is, l, slot_gone, target, way_in, way_now, word_is}
+use Rattle.image_code.proofs.Visited.{PlacedEdit, GoesThere, goes_on_there, goes_straight, site, case_kind, edge_is, entered_none, entered_word, kind_is, l, slot_gone, target, way_in, way_now, word_is}
 use Rattle.image_code.specs.Cost.{is_out}
 
 -- ---- where control goes on at a node
@@ -126,10 +126,8 @@ module _ (edit : PlacedEdit)
 
     went : (v : State) → does_at g x t ≡ v → v.ending ≡ None → (v.pc ≡ x.npc) × (v.slot ≡ NoSlot)
     went v e live =
-        let same : v ≡ act (at_point x t) (decode_of word) =
-        sym e ∙ ap (on_word (at_point x t)) (word_is g x slot at) in
-        let w = goes_act (at_point x t) (decode_of word) straight (rw (← same) live) in
-        rw same (w.0, w.2)
+        subst (λ (z : State). z.ending ≡ None → (z.pc ≡ x.npc) × (z.slot ≡ NoSlot)) e
+        (goes_straight g x t word (word_is g x slot at) straight) live
 
     gone_left : (v : State) → v.pc ≡ x.npc → v.slot ≡ NoSlot → v.ending ≡ None
         → gone_at g node x v ≡ slot_left g.text (graph_in g) node (way_in edit x) x.npc
@@ -141,59 +139,32 @@ module _ (edit : PlacedEdit)
 
     -- ---- the edge leads on to where the machine goes
 
-    abbrev Ends : Type 0
-    Ends =
-        ((word_at g.text x.npc ≡ None) × IsJumpTarget x.npc × (on_there ≡ long_jump_piece x.npc))
-        ⊎ ((w : ℕ) × (word_at g.text x.npc ≡ Some w) × (on_there
-        ≡ jump_to (enter_number g.text (graph_in g) way.edge.to w)))
-
     abbrev marked : (rest : List Item)
         → slice_get (l edit).list piece ≡ Some (plain_piece address (number_in g node) word rest)
         → IsMarkedWord (site edit) node x rest
     marked rest items = record { marked = at_copy _ items; straight = straight }
 
-    module _ (other : same_kind way.edge.kind kinds.Out ≡ false) (ends : Ends) where
-      items : (rest : List Item) → on_there ≡ rest
-          → slice_get (l edit).list piece ≡ Some (plain_piece address (number_in g node) word (code ++ rest))
-      items rest e = past false other ∙ rw e
+    module _ (other : same_kind way.edge.kind kinds.Out ≡ false)
+        (ends : GoesThere edit way.edge.to x.npc on_there) where
+      items : slice_get (l edit).list piece ≡ Some (plain_piece address (number_in g node) word (code ++ on_there))
+      items = past false other
 
       goes : (v : State) → does_at g x t ≡ v → v.ending ≡ None
           → LeadsOn (l edit) p place piece 3 (gone_at g node x v) (word_at g.text v.pc) (Visit v)
       goes v e live =
           let w = went v e live in
-          rw (gone_along v w.0 w.1 live, not_landed g.text (graph_in g) way.edge.kind x.npc other)
-          (elim ends [ inl out ↦ leaves w out | inr on ↦ goes_to w on ])
-        where
-          after : Node
-          after = node_after (graph_in g) node (way.number ∷ [])
-
-          Leads : Type 0
-          Leads = LeadsOn (l edit) p place piece 3 (way.number ∷ []) (word_at g.text v.pc)
-              (entered_at (site edit) after (point_of v))
-
-          leaves : (v.pc ≡ x.npc) × (v.slot ≡ NoSlot)
-              → (word_at g.text x.npc ≡ None) × IsJumpTarget x.npc × (on_there ≡ long_jump_piece x.npc) → Leads
-          leaves w (none, far, there) =
-              rw (entered_none edit after (point_of v) (rw w.0 none) w.1, w.0)
-              (inr ((λ _ e. absurd (cc)), inr (none, far, ap (option_map (drop 3)) (items (long_jump_piece x.npc) there))))
-
-          goes_to : (v.pc ≡ x.npc) × (v.slot ≡ NoSlot)
-              → (n : ℕ) × (word_at g.text x.npc ≡ Some n)
-              × (on_there ≡ jump_to (enter_number g.text (graph_in g) way.edge.to n)) → Leads
-          goes_to w (n, some, there) =
-              inr (
-                (λ _ e. absurd (cc)),
-                inl (
-                  record { 0 = enter_number g.text (graph_in g) way.edge.to n },
-                  ap (option_map (drop 3)) (items _ there),
-                  rw (entered_word edit after (point_of v) n (rw w.0 some) w.1, way.is) refl,
-                ),
-              )
+          rw (gone_along v w.0 w.1 live, not_landed g.text (graph_in g) way.edge.kind x.npc other, way.is)
+          (inr (
+            (λ _ e. absurd (cc)),
+            goes_on_there edit way.edge.to (point_of v) (way.number ∷ []) _ on_there w.1
+                (subst (λ pc. GoesThere edit way.edge.to pc on_there) (sym w.0) ends)
+                (ap (option_map (drop 3)) items),
+          ))
 
       plain_case : IsCase (site edit) node x t
       plain_case = plain (record {
         rest = code ++ on_there;
-        marked = marked _ (items _ refl);
+        marked = marked _ items;
         leads = λ live. goes (does_at g x t) refl live;
       })
 
@@ -213,10 +184,11 @@ module _ (edit : PlacedEdit)
           (along_far g.text (last_in (graph_in g) node) (way_in edit x)
           (decode_of (slice_index g.text.words (last_in (graph_in g) node))) is.text (omega (arith, w.is, w.within, way.pc)))
 
-      plain_ends : Ends
+      plain_ends : GoesThere edit way.edge.to x.npc on_there
       plain_ends = by (word_at g.text x.npc) refl
         where
-          by : (o : Option ℕ) → word_at g.text x.npc ≡ o → Ends
+          by : (o : Option ℕ) → word_at g.text x.npc ≡ o
+              → GoesThere edit way.edge.to x.npc on_there
           by None e =
               inl (e, npc_far, there ∙ goes_out g.text (graph_in g) way.edge.to _ x.npc (rw e at (way.leads other).0))
           by (Some w) e =

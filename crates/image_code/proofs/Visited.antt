@@ -1,5 +1,5 @@
 -- Where the points of a text are visited, and what stands there.
-use Rattle.image_code.proofs.Common.{◌≡◌, ◌≢◌, ℕ, ◌+◌, ◌-◌, ◌%◌, ◌^◌, ◌<◌, inl, inr, Bool, true, false, Option, Some, None, List, [], ◌∷◌, suc, length, refl, ap, sym, ◌∙◌, subst, arith, ◌==◌, if◌then◌else◌, slice_get, slice_index, list_any, option_map, cond_both, eqb-true, false≢true, lt-ltb, address_of, word_at, Instr, decode_of, Slot, NoSlot, State, EdgeKind, Blocks, blocks_of, word_at-some, Edge, Node, Block, home_of, IsNodeIn, Open, targets_in, has_cases, lands, node_of, Point, WayOut, edge_along, instr_at, left_by, slot_left, way_of, same_kind, IsOnItsWay, MatchesBy, block, same_kinds, Placement, Addr, Item, slice_get_within, IsCut, holding_of, node_is, Carried, IsSlotIn, IsTarget, word_at-address}
+use Rattle.image_code.proofs.Common.{◌≡◌, ◌≢◌, ℕ, ◌+◌, ◌-◌, ◌%◌, ◌^◌, ◌<◌, inl, inr, Bool, true, false, Option, Some, None, List, [], ◌∷◌, suc, length, refl, ap, sym, ◌∙◌, subst, arith, ◌==◌, if◌then◌else◌, slice_get, slice_index, list_any, option_map, cond_both, eqb-true, false≢true, lt-ltb, address_of, word_at, Instr, decode_of, Slot, NoSlot, State, EdgeKind, Blocks, blocks_of, word_at-some, Edge, Node, Block, home_of, IsNodeIn, Open, targets_in, has_cases, lands, node_of, Point, WayOut, edge_along, instr_at, left_by, slot_left, way_of, same_kind, IsOnItsWay, MatchesBy, block, same_kinds, Placement, Addr, Item, slice_get_within, IsCut, holding_of, node_is, Carried, IsSlotIn, IsTarget, word_at-address, is_transfer, long_jump_piece, ◌++◌, act, on_word, goes_act, ◌⊎◌}
 use Rattle.cfg_blocks.specs.declared.EdgeKind.TheVariants as kinds
 use Rattle.layout.specs.declared.items.Item.TheVariants as it
 use Rattle.cfg_normal.specs.declared.Slot.TheVariants as carried
@@ -8,11 +8,11 @@ use Rattle.std.proofs.lemmas.List.Folds.{list_any-append}
 use Rattle.cfg_walk.specs.Walk.{by_kind, way_to}
 use Rattle.cfg_walk.specs.Matches.{IsCarried}
 use Rattle.addr_translate.specs.Lookup.{IsTable}
-use Rattle.image_code.specs.Simulates.{EditSetup, gone_at, graph_in, number_in, word_of}
+use Rattle.image_code.specs.Simulates.{EditSetup, gone_at, graph_in, number_in, word_of, at_point, does_at}
 use Rattle.image_code.specs.Images.{EditorData, IsPlaced, Pieces, along_first, place_by, slot_piece}
 use Rattle.image_code.proofs.Points.{Site, entered_at, visited_at}
-use Rattle.image_code.proofs.PointShapes.{IsJumpTarget, IsMarked, LeadsTo}
-use Rattle.image_code.specs.Made.{AreCasesFor, IsOffNoted, IsTableFor, edit_pieces, first_way, first_word, image_by, jumps_at, way_by, way_out}
+use Rattle.image_code.proofs.PointShapes.{GoesOn, IsJumpTarget, IsMarked, LeadsTo, words_on}
+use Rattle.image_code.specs.Made.{AreCasesFor, IsOffNoted, IsTableFor, edit_pieces, first_way, first_word, image_by, jumps_at, way_by, way_out, jump_to}
 use Rattle.image_code.specs.Numbered.{along_case, along_number, case_piece, enter_number, image_number, jump_number, way_piece}
 use Rattle.image_code.proofs.CaseTables.{IsKnown}
 use Rattle.image_code.proofs.EdgePieces.{IsAlong, along, by_case, cut_in, items_along, items_case, slot_in}
@@ -57,6 +57,15 @@ module _ (g : EditSetup) where
   pub word_is : (x : Point) (word : ℕ) → word_at g.text x.pc ≡ Some word
       → word_of g.text x.pc ≡ Some (slice_index g.text.words word)
   word_is x word e = ap (option_map (λ n. slice_index g.text.words n)) e
+
+  -- a word that is no transfer goes on to the next one, and into no slot
+  pub goes_straight : (x : Point) (t : State) (word : ℕ) → word_of g.text x.pc ≡ Some word
+      → is_transfer (decode_of word) ≡ false → (does_at g x t).ending ≡ None
+      → ((does_at g x t).pc ≡ x.npc) × ((does_at g x t).slot ≡ NoSlot)
+  goes_straight x t word is straight live =
+      let acts : does_at g x t ≡ act (at_point x t) (decode_of word) = ap (on_word (at_point x t)) is in
+      let went = goes_act (at_point x t) (decode_of word) straight (ap (λ (z : State). z.ending) (sym acts) ∙ live) in
+      rw acts (went.0, went.2)
 
   -- ---- the edges of a step: into a slot none
 
@@ -176,6 +185,21 @@ module _ (edit : PlacedEdit) where
   entered_off : (node : Node) (x : Point) → word_at g.text x.pc ≡ None → x.slot ≢ NoSlot
       → entered_at site node x ≡ f.table.base
   entered_off = placed_off l.enter
+
+  -- where items lead that go on at an address, at a node
+  abbrev pub GoesThere : Node → ℕ → List Item → Type 0
+  GoesThere node pc items =
+      ((word_at g.text pc ≡ None) × IsJumpTarget pc × (items ≡ long_jump_piece pc))
+      ⊎ ((word : ℕ) × (word_at g.text pc ≡ Some word)
+      × (items ≡ jump_to (enter_number g.text (graph_in g) node word)))
+
+  pub goes_on_there : (node : Node) (x : Point) (edges : List ℕ) (items : Option (List Item)) (rest : List Item)
+      → x.slot ≡ NoSlot → GoesThere node x.pc rest → items ≡ Some (words_on l edges ++ rest)
+      → GoesOn l p items edges (word_at g.text x.pc) (entered_at site node x)
+  goes_on_there node x edges items rest slot (inl (none, far, is)) stands =
+      rw (entered_none node x none slot) (inr (none, far, rw is at stands))
+  goes_on_there node x edges items rest slot (inr (word, some, is)) stands =
+      inl (record { 0 = enter_number g.text (graph_in g) node word }, rw is at stands, sym (entered_word node x word some slot))
 
   -- outside the words' images control comes to the visit itself
   pub enters_itself : (node : Node) (x : Point)
