@@ -1,5 +1,5 @@
 -- The images of branches: each way leads into a slot, to a word's image, or out of the text.
-use Rattle.image_code.proofs.Common.{◌≡◌, ℕ, ◌+◌, ◌%◌, ◌^◌, inl, inr, Bool, true, false, not, Option, Some, None, List, [], ◌∷◌, ◌++◌, refl, ap, sym, ◌∙◌, arith, if◌then◌else◌, ◌&&◌, ◌||◌, slice_get, slice_index, ◌==◌, ℤ, Words, address_of, word_at, Addr, Instr, decode_of, holds_of, wrapped, NoSlot, Taken, Untaken, State, act, EdgeKind, always, never, end_at, within, Blocks, blocks_of, end_of, holding_of, last_word, is_fall, is_jump, cases_Bool, cond_both, word_at-some, Edge, Node, home_of, Open, jumps_in, graph_of, has_cases, node_of, Point, edge_from, node_after, point_of, same_kind, block, copy, end_is, is_in, node_is, long_jump_piece, Item, branched, branch_step, Way, number_of, way, ways_of, directed, edge_of, is_compared, last_in, target_along, transfer_ends, way_found, Stands, IsOne, always_holds}
+use Rattle.image_code.proofs.Common.{◌≡◌, ℕ, ◌+◌, ◌%◌, ◌^◌, inl, inr, Bool, true, false, not, Option, Some, None, List, [], ◌∷◌, ◌++◌, refl, ap, sym, ◌∙◌, arith, if◌then◌else◌, ◌&&◌, ◌||◌, slice_get, slice_index, ◌==◌, ℤ, Words, address_of, word_at, Addr, Instr, decode_of, holds_of, wrapped, NoSlot, Taken, Untaken, State, act, EdgeKind, always, never, end_at, within, Blocks, blocks_of, end_of, holding_of, last_word, is_fall, is_jump, cases_Bool, cond_both, word_at-some, Edge, Node, home_of, Open, jumps_in, graph_of, has_cases, node_of, Point, edge_from, node_after, point_of, same_kind, block, copy, end_is, is_in, X, node_is, long_jump_piece, Item, branched, branch_step, Way, number_of, way, ways_of, directed, edge_of, is_compared, last_in, target_along, transfer_ends, way_found, Stands, IsOne, always_holds}
 use Rattle.v8_decode.specs.declared.Instr.TheVariants as i
 use Rattle.cfg_blocks.specs.declared.BlockEnd.TheVariants as ends
 use Rattle.cfg_blocks.specs.declared.EdgeKind.TheVariants as kinds
@@ -23,7 +23,7 @@ use Rattle.image_code.proofs.EdgePieces.{along_far}
 use Rattle.image_code.proofs.Branches.{small}
 use Rattle.image_code.proofs.IntoSlots.{LeadsThere, entered, entered_untaken, no_jump, stands}
 use Rattle.image_code.proofs.Listed.{own_at, way_at}
-use Rattle.image_code.proofs.Visited.{AtWord, at_image, site, entered_none, entered_word, image_items, l, left_gone, word_is}
+use Rattle.image_code.proofs.Visited.{AtWord, GoesThere, at_image, goes_on_there, site, image_items, l, left_gone, word_is}
 
 -- a branch comes to a taken transfer's slot only at the next instruction
 slot_next : (flag all annul : Bool) (s : State) (to : ℕ) → s.slot ≡ NoSlot
@@ -98,10 +98,10 @@ module _ (visit : AtWord) (cond : ℕ) (annul : Bool) (disp : ℤ)
     abbrev its_code : List Item
     its_code = words_on (l edit) (found.number ∷ [])
 
-    abbrev way_items : Node → List Item
-    way_items to = its_code ++ goes_on g.text (graph_in g) to (first_word (graph_in g) to) goal_address
+    abbrev way_on : Node → List Item
+    way_on to = goes_on g.text (graph_in g) to (first_word (graph_in g) to) goal_address
 
-    bare_items : slice_get (l edit).list (way_out g.text (graph_in g) node w.kind) ≡ Some (way_items edge.to)
+    bare_items : slice_get (l edit).list (way_out g.text (graph_in g) node w.kind) ≡ Some (its_code ++ way_on edge.to)
     bare_items =
         let ended : end_of b k ≡ end_at g.text word =
         cut.ends k (is_in g.text b g.switches cut word low).within ∙ ap (end_at g.text) (sym last) in
@@ -109,53 +109,37 @@ module _ (visit : AtWord) (cond : ℕ) (annul : Bool) (disp : ℤ)
         rw found.only (way_at g.text b g.switches is.cased f.table.base f.cases.base codes found.number edge
         (own_at b g.switches found.number edge found.is land) ∙ rw (fall, no_case, ended, bare, last_there, says))
 
-    bare_in : LeadsIfThere b w.to → (to : ℕ) → w.to ≡ Some to
-        → slice_get (l edit).list (way_out g.text (graph_in g) node w.kind)
-        ≡ Some (its_code ++ jump_to (enter_number g.text (graph_in g) edge.to to))
-    bare_in leads to e =
-        let target = leads to e in
-        let same : edge.to ≡ directed g.switches node w.kind (block (holding_of b to)) = rw (e, node_is b to target.0) in
-        bare_items ∙ rw (
-          same,
-          goes_there g.text b g.switches node w.kind (holding_of b to) to goal_address
-              (first_held b.words b.firsts cut.firsts to target.1),
-        )
-
-    bare_out : w.to ≡ None → slice_get (l edit).list (way_out g.text (graph_in g) node w.kind)
-        ≡ Some (its_code ++ long_jump_piece goal_address)
-    bare_out e =
-        bare_items ∙ ap (λ (o : Option ℕ). Some (way_items (directed g.switches node w.kind (node_of b o)))) e
+    bare_goes : (pc : ℕ) → word_at g.text pc ≡ w.to → LeadsIfThere b w.to → pc ≡ goal_address
+        → GoesThere edit edge.to pc (way_on edge.to)
+    bare_goes pc to leads at = by (word_at g.text pc) refl
+      where
+        by : (o : Option ℕ) → word_at g.text pc ≡ o → GoesThere edit edge.to pc (way_on edge.to)
+        by None e =
+            let out : edge.to ≡ directed g.switches node w.kind X = rw (sym to ∙ e) in
+            inl (e, rw at (along_far g.text word w.kind branch is.text inside), rw (out, at))
+        by (Some other) e =
+            let target = leads other (sym to ∙ e) in
+            let same : edge.to ≡ directed g.switches node w.kind (block (holding_of b other)) =
+            rw (sym to ∙ e, node_is b other target.0) in
+            inr (
+              other,
+              e,
+              rw same
+                  (goes_there g.text b g.switches node w.kind (holding_of b other) other goal_address
+                  (first_held b.words b.firsts cut.firsts other target.1)),
+            )
 
     -- past a slot that is annulled
     past : (if cond == always then kinds.Taken else kinds.Untaken) ≡ w.kind → (v : State) → v.ending ≡ None
         → v.slot ≡ NoSlot → word_at g.text v.pc ≡ w.to → LeadsIfThere b w.to → v.pc ≡ goal_address
         → LeadsThere visit branch says w.kind v
-    past kind_is v live slot to leads pc = by (word_at g.text v.pc) refl
-      where
-        after : Node
-        after = node_after (graph_in g) node (gone_at g node x v)
-
-        goes_along : gone_at g node x v ≡ edge_from (graph_in g) node w.kind
-        goes_along = left_gone g node x v none slot live word at branch says ∙ rw kind_is
-
-        completes : gone_at g node x v ≡ found.number ∷ []
-        completes = goes_along ∙ found.only
-
-        after_is : after ≡ edge.to
-        after_is = rw goes_along (leads_along (graph_in g) node (edge_from (graph_in g) node w.kind) edge found)
-
-        by : (o : Option ℕ) → word_at g.text v.pc ≡ o
-            → LeadsTo (l edit) p (record { 0 = way_out g.text (graph_in g) node w.kind })
-            (gone_at g node x v) (word_at g.text v.pc) (entered_at (site edit) after (point_of v))
-        by None e =
-            rw (entered_none edit after (point_of v) e slot ∙ pc)
-            (inr (inr (e, along_far g.text word w.kind branch is.text inside, bare_out (sym to ∙ e) ∙ rw completes)))
-        by (Some other) e =
-            inr (inl (
-              record { 0 = enter_number g.text (graph_in g) edge.to other },
-              bare_in leads other (sym to ∙ e) ∙ rw completes,
-              rw (entered_word edit after (point_of v) other e slot, after_is),
-            ))
+    past kind_is v live slot to leads pc =
+        let along : gone_at g node x v ≡ edge_from (graph_in g) node w.kind =
+        left_gone g node x v none slot live word at branch says ∙ rw kind_is in
+        let after : node_after (graph_in g) node (gone_at g node x v) ≡ edge.to =
+        rw along (leads_along (graph_in g) node (edge_from (graph_in g) node w.kind) edge found) in
+        rw after (inr (goes_on_there edit edge.to (point_of v) _ _ (way_on edge.to) slot (bare_goes v.pc to leads pc)
+        (bare_items ∙ rw (along ∙ found.only))))
 
   -- ---- each way that the branch goes
 
