@@ -14,7 +14,7 @@ use Rattle.image_code.specs.Numbered.{case_piece, first_entry}
 use Rattle.image_code.specs.Outside.{IsOffPages}
 use Rattle.image_code.proofs.Branches.{HeadOf}
 use Rattle.image_code.proofs.ImageNumbers.{jump_numbered}
-use Rattle.image_code.proofs.Visited.{PlacedEdit, site, case_items, case_piece_is, edge_is, image_items, l, off, off_address, on, on_its_way, plain_items, plain_piece_is, target, visited_slot, visited_word, way_in, at_word}
+use Rattle.image_code.proofs.Visited.{PlacedEdit, site, case_items, case_piece_is, edge_is, image_items, l, marked_at, off, off_address, on, on_its_way, plain_items, plain_piece_is, target, visited_slot, visited_word, way_in, at_word}
 
 -- ---- what pieces begin with
 
@@ -157,19 +157,14 @@ module _ (edit : PlacedEdit) where
 
   -- ---- all points
 
-  head_of : (node : Node) (x : Point) (piece : ℕ) (xs : List Item) (address : Addr)
-      → visited_at (site edit) node x ≡ slice_index p.at piece → address.0 ≡ x.pc
-      → slice_get (l edit).list piece ≡ Some xs → HeadOf address (number_in g node) xs → IsHead (site edit) node x
-  head_of node x piece xs address at original found begins = record {
-    piece = piece;
-    within = slice_get_within (l edit).list piece xs found;
-    here = at;
-    address = address;
-    original = original;
+  head_of : (node : Node) (x : Point) (word : ℕ) → word_at g.text x.pc ≡ Some word → (piece : ℕ) (xs : List Item)
+      → visited_at (site edit) node x ≡ slice_index p.at piece → slice_get (l edit).list piece ≡ Some xs
+      → HeadOf (record { 0 = address_of g.text word }) (number_in g node) xs → IsHead (site edit) node x
+  head_of node x word at piece xs here found begins = record {
     item = begins.item;
     takes = begins.takes;
     rest = begins.rest;
-    items = found ∙ ap (λ z. Some z) begins.is;
+    marked = marked_at edit node x word at piece here _ (found ∙ ap (λ z. Some z) begins.is);
   }
 
   pub visits : (node : Node) (x : Point) → MatchesIn g node x → IsOffPages g x → IsVisited (site edit) node x
@@ -179,8 +174,7 @@ module _ (edit : PlacedEdit) where
           → (e : word_at g.text x.pc ≡ Some slot) → (piece to : ℕ) → HasCopy node x slot e way piece to
           → IsVisited (site edit) node x
       copied not way slot e piece to copy =
-          head (head_of node x piece _ (record { 0 = address_of g.text slot })
-          (copy_visited node x slot e way piece to copy not) (sym (word_at-some g.text x.pc slot e).is) copy.items
+          head (head_of node x slot e piece _ (copy_visited node x slot e way piece to copy not) copy.items
           (copy_head g.text b g.switches 0 f.cases.base codes f.table.base (record { 0 = address_of g.text slot })
           (number_in g node) (slice_index g.text.words slot) way.number way.edge to))
 
@@ -197,8 +191,7 @@ module _ (edit : PlacedEdit) where
           → IsVisited (site edit) node x
       by NoSlot none m0 None e = outside (foreign_is node x none e m0.0 open_there)
       by NoSlot none m0 (Some word) e =
-          head (head_of node x _ _ (record { 0 = address_of g.text word })
-          (visited_word edit node x word e none) (sym (word_at-some g.text x.pc word e).is)
+          head (head_of node x word e _ _ (visited_word edit node x word e none)
           (image_items (at_word edit node x word e none m0.0 m.1 m0.1)
           (decode_of (slice_index g.text.words word)) refl)
           (image_head g.text b g.switches (jumps_at g.text f.table.base) f.cases.base codes

@@ -279,15 +279,11 @@ TakesWords _ = ⊥
 
 -- the piece of a point begins with its Mark, which covers a word
 pub record IsHead (site : Site) (node : Node) (x : Point) : Type 0 where
-  pub piece : ℕ
-  pub within : piece < length site.l.list
-  pub here : visited_at site node x ≡ slice_index site.p.at piece
-  pub address : Addr
-  pub original : address.0 ≡ x.pc
   pub item : Item
   pub takes : TakesWords item
   pub rest : List Item
-  pub items : slice_get site.l.list piece ≡ Some (it.Mark address (number_in site.g node) ∷ item ∷ rest)
+  pub marked : IsMarked site node x (λ _ _. item ∷ rest)
+  pub open marked use {piece, within, here, address, original, items}
 
 -- the shape of a point's piece, or the point lies outside the text
 pub data IsCase (site : Site) (node : Node) (x : Point) (t : State) : Type 0 where

@@ -23,7 +23,7 @@ use Rattle.image_code.proofs.Heads.{HasCopy, by_cases, case_copy, copy_visited, 
 use Rattle.image_code.proofs.ImageNumbers.{jump_of}
 use Rattle.image_code.proofs.ImagePieces.{enter_at, stands_at}
 use Rattle.image_code.proofs.Listed.{foreign_at, landing_at}
-use Rattle.image_code.proofs.Visited.{PlacedEdit, GoesThere, goes_on_there, goes_straight, site, case_kind, edge_is, entered_none, entered_word, kind_is, l, slot_gone, target, way_in, way_now, word_is}
+use Rattle.image_code.proofs.Visited.{PlacedEdit, GoesThere, goes_on_there, goes_straight, site, case_kind, edge_is, entered_none, entered_word, kind_is, l, marked_at, slot_gone, target, way_in, way_now, word_is}
 use Rattle.image_code.specs.Cost.{is_out}
 
 -- ---- where control goes on at a node
@@ -104,16 +104,7 @@ module _ (edit : PlacedEdit)
   abbrev at_copy : (behind : Addr → ℕ → List Item)
       → slice_get (l edit).list piece ≡ Some (it.Mark address (number_in g node) ∷ behind address word)
       → IsMarked (site edit) node x behind
-  at_copy behind items = record {
-    piece = piece;
-    within = slice_get_within (l edit).list piece _ items;
-    here = stands;
-    address = address;
-    original = sym (word_at-some g.text x.pc slot at).is;
-    word = word;
-    is_word = word_is g x slot at;
-    items = items;
-  }
+  at_copy = marked_at edit node x slot at piece stands
 
   module _ (straight : is_transfer (decode_of word) ≡ false) where
     -- where the edge leads on: out of the text, or to the word's image at the edge's node

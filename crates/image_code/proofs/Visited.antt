@@ -186,6 +186,23 @@ module _ (edit : PlacedEdit) where
       → entered_at site node x ≡ f.table.base
   entered_off = placed_off l.enter
 
+  -- a piece that is visited begins with the Mark of its word
+  abbrev pub marked_at : (node : Node) (x : Point) (word : ℕ) → word_at g.text x.pc ≡ Some word → (piece : ℕ)
+      → visited_at site node x ≡ slice_index p.at piece → (behind : Addr → ℕ → List Item)
+      → slice_get l.list piece ≡ Some (it.Mark (record { 0 = address_of g.text word }) (number_in g node)
+      ∷ behind (record { 0 = address_of g.text word }) (slice_index g.text.words word))
+      → IsMarked site node x behind
+  marked_at node x word at piece here behind items = record {
+    piece = piece;
+    within = slice_get_within l.list _ _ items;
+    here = here;
+    address = record { 0 = address_of g.text word };
+    original = sym (word_at-some g.text x.pc word at).is;
+    word = slice_index g.text.words word;
+    is_word = word_is g x word at;
+    items = items;
+  }
+
   -- where items lead that go on at an address, at a node
   abbrev pub GoesThere : Node → ℕ → List Item → Type 0
   GoesThere node pc items =
@@ -465,13 +482,4 @@ module _ (visit : AtWord) where
       ≡ Some (it.Mark (record { 0 = address_of g.text word }) (number_in g node)
       ∷ behind (record { 0 = address_of g.text word }) (slice_index g.text.words word))
       → IsMarked (site edit) node x behind
-  at_image behind items = record {
-    piece = image_number g.text (graph_in g) node word;
-    within = slice_get_within (l edit).list _ _ items;
-    here = visited_word edit node x word visit.at visit.none;
-    address = record { 0 = address_of g.text word };
-    original = sym (word_at-some g.text x.pc word visit.at).is;
-    word = slice_index g.text.words word;
-    is_word = word_is g x word visit.at;
-    items = items;
-  }
+  at_image = marked_at edit node x word visit.at _ (visited_word edit node x word visit.at visit.none)
