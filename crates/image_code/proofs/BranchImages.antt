@@ -1,5 +1,5 @@
 -- The images of branches: each way leads into a slot, to a word's image, or out of the text.
-use Rattle.image_code.proofs.Common.{◌≡◌, ℕ, ◌+◌, ◌%◌, ◌^◌, inl, inr, Bool, true, false, not, Option, Some, None, List, [], ◌∷◌, ◌++◌, refl, ap, sym, ◌∙◌, arith, if◌then◌else◌, ◌&&◌, ◌||◌, slice_get, slice_index, ◌==◌, ℤ, Words, address_of, word_at, Addr, Instr, decode_of, holds_of, wrapped, NoSlot, Taken, Untaken, State, act, EdgeKind, always, never, end_at, within, Blocks, blocks_of, end_of, holding_of, last_word, is_fall, is_jump, cases_Bool, cond_both, word_at-some, Edge, Node, home_of, Open, jumps_in, graph_of, has_cases, node_of, Point, edge_from, node_after, point_of, same_kind, block, copy, end_is, is_in, X, node_is, long_jump_piece, Item, branched, branch_step, Way, number_of, way, ways_of, directed, edge_of, is_compared, last_in, target_along, transfer_ends, way_found, Stands, IsOne, always_holds}
+use Rattle.image_code.proofs.Common.{◌≡◌, ℕ, ◌+◌, ◌%◌, ◌^◌, inl, inr, Bool, true, false, not, Option, Some, None, List, [], ◌∷◌, ◌++◌, refl, ap, sym, ◌∙◌, arith, if◌then◌else◌, ◌&&◌, ◌||◌, slice_get, slice_index, ◌==◌, ℤ, Words, address_of, word_at, Addr, Instr, decode_of, holds_of, wrapped, NoSlot, Taken, Untaken, State, act, EdgeKind, always, never, end_at, within, Blocks, blocks_of, end_of, holding_of, last_word, is_fall, is_jump, cases_Bool, cond_both, word_at-some, Edge, Node, home_of, Open, jumps_in, graph_of, has_cases, edge_from, node_after, point_of, same_kind, block, copy, end_is, is_in, X, node_is, Item, branched, branch_step, Way, number_of, way, ways_of, directed, edge_of, is_compared, last_in, target_along, transfer_ends, way_found, Stands, IsOne, always_holds}
 use Rattle.v8_decode.specs.declared.Instr.TheVariants as i
 use Rattle.cfg_blocks.specs.declared.BlockEnd.TheVariants as ends
 use Rattle.cfg_blocks.specs.declared.EdgeKind.TheVariants as kinds
@@ -14,7 +14,6 @@ use Rattle.cfg_walk.proofs.Slots.{LeadsIfThere}
 use Rattle.cfg_walk.proofs.Transfers.{taken_delayed, untaken_delayed}
 use Rattle.cfg_walk.proofs.Ways.{never_holds, not_always, not_never, taken_is_one, untaken_is_one}
 use Rattle.image_code.specs.Simulates.{at_point, does_at, gone_at, graph_in, number_in}
-use Rattle.image_code.proofs.Points.{entered_at}
 use Rattle.image_code.proofs.PointShapes.{LeadsTo, next_entry, word_ahead, words_on, IsCase, turn, idle, IsNoJumpsSlot}
 use Rattle.image_code.specs.Cases.{branch_piece, plain_piece}
 use Rattle.image_code.specs.Numbered.{enter_number, image_number}

@@ -1,5 +1,5 @@
 -- Each point outside the pages has a place: its piece begins with its Mark, or it lies outside the text.
-use Rattle.image_code.proofs.Common.{◌≡◌, ◌≢◌, ℕ, zero, suc, ◌+◌, inl, Bool, true, false, Option, Some, None, List, ◌∷◌, length, refl, ap, sym, ◌∙◌, slice_get, slice_index, ◌==◌, cond_both, slice_get_within, Words, address_of, word_at, Addr, Op2, Instr, decode_of, Slot, NoSlot, is_transfer, Blocks, blocks_of, always, never, word_at-some, Edge, Node, Block, X, home_of, Open, jumps_in, Graph, graph_of, has_cases, node_of, Point, same_kind, node_number, IsOnItsWay, MatchesBy, Item}
+use Rattle.image_code.proofs.Common.{◌≡◌, ◌≢◌, ℕ, zero, suc, ◌+◌, inl, Bool, true, false, Option, Some, None, List, ◌∷◌, length, refl, ap, sym, ◌∙◌, slice_get, slice_index, ◌==◌, cond_both, Words, address_of, word_at, Addr, Op2, Instr, decode_of, Slot, NoSlot, is_transfer, Blocks, blocks_of, always, never, Edge, Node, Block, X, home_of, Open, jumps_in, Graph, graph_of, has_cases, node_of, Point, same_kind, node_number, IsOnItsWay, MatchesBy, Item}
 use Rattle.v8_decode.specs.declared.Instr.TheVariants as i
 use Rattle.cfg_blocks.specs.declared.EdgeKind.TheVariants as kinds
 use Rattle.layout.specs.declared.items.Item.TheVariants as it

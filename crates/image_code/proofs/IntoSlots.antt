@@ -1,5 +1,5 @@
 -- A transfer at a word goes into its slot, where the way of its edge leads.
-use Rattle.image_code.proofs.Common.{◌≡◌, ◌≢◌, ◌+◌, ◌-◌, ◌^◌, ◌<◌, true, false, Option, Some, None, ap, sym, ◌∙◌, arith, slice_index, false≢true, word_at, Instr, decode_of, Slot, NoSlot, Taken, Untaken, State, EdgeKind, Blocks, blocks_of, word_at-some, Node, has_cases, Point, instr_at, node_after, point_of, way_of, same_kind, MatchesBy, Stands}
+use Rattle.image_code.proofs.Common.{◌≡◌, ◌≢◌, ◌+◌, ◌-◌, ◌^◌, ◌<◌, true, false, Option, Some, None, ap, sym, ◌∙◌, arith, slice_index, false≢true, word_at, Instr, decode_of, Slot, NoSlot, Taken, Untaken, State, EdgeKind, Blocks, blocks_of, word_at-some, has_cases, instr_at, node_after, point_of, way_of, same_kind, MatchesBy, Stands}
 use Rattle.cfg_blocks.specs.declared.EdgeKind.TheVariants as kinds
 use Rattle.cfg_walk.proofs.Points.{StepsTo}
 use Rattle.image_code.specs.Simulates.{gone_at, graph_in}

@@ -1,5 +1,5 @@
 -- The images of CALL and JMPL: the way of the edge leads into the slot.
-use Rattle.image_code.proofs.Common.{◌≡◌, ℕ, ◌%◌, ◌^◌, ◌<◌, false, Some, None, List, refl, ap, sym, ◌∙◌, arith, if◌then◌else◌, slice_get, slice_index, ◌==◌, ℤ, cond_both, false≢true, Words, address_of, Addr, Op2, decode_of, Taken, State, sum_of, target_of, trapped, act, word_at-some, Node, Block, Graph, has_cases, Point, point_of, free_register, other_register, Item, with_register, mem_address_not_aligned, call_step, delayed, jump_delayed}
+use Rattle.image_code.proofs.Common.{◌≡◌, ℕ, ◌%◌, ◌^◌, ◌<◌, false, Some, None, List, refl, ap, sym, ◌∙◌, arith, if◌then◌else◌, slice_get, slice_index, ◌==◌, ℤ, cond_both, false≢true, Words, address_of, Addr, Op2, decode_of, Taken, State, sum_of, target_of, trapped, act, word_at-some, Node, Block, Graph, has_cases, point_of, free_register, other_register, Item, with_register, mem_address_not_aligned, call_step, delayed, jump_delayed}
 use Rattle.v8_decode.specs.declared.Instr.TheVariants as i
 use Rattle.cfg_blocks.specs.declared.EdgeKind.TheVariants as kinds
 use Rattle.v8_step.specs.Transfers.{jump_step}

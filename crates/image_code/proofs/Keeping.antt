@@ -1,6 +1,6 @@
 -- From where control comes to a point, on to its visit: nothing is run between, but before the load of an open switch
 -- its address is kept.
-use Rattle.image_code.proofs.Common.{length, ◌≡◌, ℕ, ◌+◌, ◌-◌, ◌*◌, ◌%◌, ◌^◌, ◌<◌, ◌≤◌, inl, inr, Bool, true, false, Option, Some, None, List, [], ◌++◌, append-nil, refl, ap, sym, ◌∙◌, subst, arith, if◌then◌else◌, ◌==◌, slice_get, slice_index, and_parts, cases_lt, lt-ltb, ltb-true, ne_eqb, Words, address_of, word_at, Instr, Op2, op2_in_range, operands_in_range, decode_of, op2_fits, wrapped, Memory, code_of, Ending, Slot, NoSlot, State, sum_of, StateItem, Register, IsSameAt, is_transfer, act, on_word, run, run_puts, IsValid, pages_of, goes_act, run-valid, word_at-some, Node, Block, Landed, X, Point, edge_from, ends_block, instr_at, left_by, node_after, point_of, MatchesBy, next_word, lived_to, count_stores, page_word, IsAmongWords, Stores, memory_word, words_at, StandIn, count_add, stores_there, past, saved_address, word_items, Fit, words_mean, save_load_address, words_of, Reg, Imm, puts_add, second_register}
+use Rattle.image_code.proofs.Common.{length, ◌≡◌, ℕ, ◌+◌, ◌-◌, ◌*◌, ◌%◌, ◌^◌, ◌<◌, ◌≤◌, inl, inr, Bool, true, false, Option, Some, None, List, [], ◌++◌, append-nil, refl, ap, sym, ◌∙◌, subst, arith, if◌then◌else◌, ◌==◌, slice_get, slice_index, and_parts, cases_lt, lt-ltb, ltb-true, ne_eqb, Words, address_of, word_at, Instr, Op2, op2_in_range, operands_in_range, decode_of, op2_fits, wrapped, Memory, code_of, Ending, Slot, NoSlot, State, sum_of, StateItem, Register, IsSameAt, is_transfer, run, run_puts, IsValid, pages_of, run-valid, word_at-some, Node, Block, Landed, X, Point, edge_from, ends_block, instr_at, left_by, node_after, point_of, MatchesBy, next_word, lived_to, count_stores, page_word, IsAmongWords, Stores, memory_word, words_at, StandIn, count_add, stores_there, past, saved_address, word_items, Fit, words_mean, save_load_address, words_of, Reg, Imm, puts_add, second_register}
 use Rattle.v8_decode.specs.declared.Instr.TheVariants as i
 use Rattle.cfg_blocks.specs.declared.EdgeKind.TheVariants as kinds
 use Rattle.cfg_walk.specs.Matches.{Matches}
@@ -8,7 +8,7 @@ use Rattle.code_runs.proofs.Leads.{run_add}
 use Rattle.code_runs.proofs.Ours.{outside_trans}
 use Rattle.jump_code.specs.Keeping.{SavesLoadAddress, kept_memory}
 use Rattle.jump_code.proofs.Keeping.{addresses_are_saved}
-use Rattle.image_code.specs.Simulates.{CaseTable, IsAtWord, IsNoLoad, IsOnWay, EditSetup, Steps, StepsOn, at_point, does_at, gone_at, graph_in}
+use Rattle.image_code.specs.Simulates.{CaseTable, IsAtWord, IsNoLoad, IsOnWay, EditSetup, Steps, StepsOn, does_at, gone_at, graph_in}
 use Rattle.image_code.specs.Cost.{limit_by, is_spill, is_transfer_at}
 use Rattle.image_code.specs.Store.{cells_in}
 use Rattle.image_code.proofs.Points.{AtEntryIn, ReachesNext, Forms, AtVisitIn, Site, StepsFrom, entered_at, visited_at}

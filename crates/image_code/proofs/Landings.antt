@@ -1,6 +1,6 @@
 -- The way along the edge of a JMPL: the copy of its slot's word, the snippet, and the jump to what was found, a landing
 -- or the foreign piece.
-use Rattle.image_code.proofs.Common.{◌≡◌, ◌≢◌, ℕ, ◌+◌, ◌%◌, ◌^◌, ◌<◌, ◌≤◌, ◌⊎◌, inl, inr, true, Option, Some, None, List, [], ◌∷◌, ◌++◌, length, refl, ap, sym, ◌∙◌, subst, arith, slice_get, slice_index, option_map, flat_map, word_at, decode_of, code_of, AllApart, NoSlot, State, register_of, act, on_word, judged_by, pages_of, goes_act, hopped, page_word, store_word, StandIn, leads_weaker, words_stay, found_in, resume, IsPageWord, foreign_piece, word_items, words_mean, Item, words_of, other_word_stored, foreign, false≢true}
+use Rattle.image_code.proofs.Common.{◌≡◌, ◌≢◌, ℕ, ◌+◌, ◌%◌, ◌^◌, ◌<◌, ◌≤◌, ◌⊎◌, inl, inr, true, Option, Some, None, List, [], ◌∷◌, ◌++◌, length, refl, ap, sym, ◌∙◌, subst, arith, slice_get, slice_index, option_map, flat_map, word_at, decode_of, code_of, AllApart, State, register_of, act, judged_by, pages_of, hopped, page_word, store_word, StandIn, leads_weaker, words_stay, found_in, resume, IsPageWord, foreign_piece, word_items, words_mean, Item, words_of, other_word_stored, foreign, false≢true}
 use Rattle.layout.specs.declared.items.Item.TheVariants as it
 use Rattle.code_runs.specs.Hops.{Hops}
 use Rattle.jump_code.specs.Finding.{IsAboutToGoOn}

@@ -1,12 +1,12 @@
 -- The image of a word that is no transfer goes on to the next word's image, or at the text's end out of the text.
-use Rattle.image_code.proofs.Common.{◌≡◌, ◌≢◌, ℕ, suc, ◌+◌, ◌-◌, ◌%◌, ◌^◌, ◌<◌, ◌≤◌, inl, inr, Bool, true, false, Option, Some, None, List, [], ◌∷◌, ◌++◌, append-nil, drop, length, map, refl, ap, sym, ◌∙◌, subst, arith, if◌then◌else◌, nat_lt, slice_get, slice_index, flat_map, option_map, and_parts, cases_Bool, le-ltb, lt-ltb, ltb-true, nat_tests, length-map, slice_get_within, Words, address_of, word_at, Instr, decode_of, NoSlot, State, act, on_word, is_transfer, goes_act, Blocks, blocks_of, holding_of, last_word, end_at, ends_block_after, within, word_at-some, Node, same_node, Point, left_by, node_after, point_of, next_word, end_is, is_in, long_jump_piece, Item, item_at, same_itself}
+use Rattle.image_code.proofs.Common.{◌≡◌, ◌≢◌, ℕ, suc, ◌+◌, ◌-◌, ◌%◌, ◌^◌, ◌<◌, ◌≤◌, inl, inr, Bool, true, false, Option, Some, None, List, [], ◌∷◌, ◌++◌, append-nil, drop, length, map, refl, ap, sym, ◌∙◌, subst, arith, if◌then◌else◌, nat_lt, slice_get, slice_index, flat_map, option_map, and_parts, cases_Bool, le-ltb, lt-ltb, ltb-true, nat_tests, length-map, slice_get_within, Words, address_of, word_at, Instr, decode_of, NoSlot, State, is_transfer, Blocks, blocks_of, holding_of, last_word, end_at, ends_block_after, within, word_at-some, Node, same_node, left_by, node_after, point_of, next_word, end_is, is_in, long_jump_piece, Item, item_at, same_itself}
 use Rattle.v8_decode.specs.declared.Instr.TheVariants as i
 use Rattle.layout.specs.declared.items.Item.TheVariants as it
 use Rattle.cfg_blocks.specs.Ends.{end_by}
 use Rattle.cfg_walk.proofs.Addresses.{next_address}
 use Rattle.cfg_walk.proofs.Holding.{Leads, is_last}
 use Rattle.layout.specs.Laid.{is_jump, size_of}
-use Rattle.image_code.specs.Simulates.{at_point, does_at, gone_at, graph_in, number_in}
+use Rattle.image_code.specs.Simulates.{does_at, gone_at, graph_in, number_in}
 use Rattle.image_code.proofs.Points.{entered_at}
 use Rattle.image_code.proofs.PointShapes.{IsJumpTarget, IsPlain, LeadsOn, words_on}
 use Rattle.image_code.specs.Cases.{plain_piece}

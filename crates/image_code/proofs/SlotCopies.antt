@@ -1,6 +1,6 @@
 -- The copies of slots' words: a transfer ends the run, behind a JMPL without Case edges its target is looked up, and
 -- else the copy goes on to where the edge leads.
-use Rattle.image_code.proofs.Common.{◌≡◌, ◌≢◌, ℕ, ◌%◌, ◌^◌, ◌<◌, inl, inr, Bool, true, false, Option, Some, None, List, [], ◌∷◌, ◌++◌, drop, length, refl, ap, sym, ◌∙◌, subst, arith, ◌⊎◌, ◌==◌, if◌then◌else◌, slice_get, slice_index, cases_Bool, eqb-true, false≢true, option_map, Words, address_of, word_at, Addr, decode_of, NoSlot, State, act, on_word, is_transfer, goes_act, EdgeKind, Blocks, blocks_of, word_at-some, Node, X, Graph, has_cases, lands, Point, node_after, point_of, slot_left, same_kind, IsOnItsWay, lands_as, same_kinds, found_in, page_word, long_jump_piece, Item, slice_get_within, word_items, resume, landed, last_in}
+use Rattle.image_code.proofs.Common.{◌≡◌, ◌≢◌, ℕ, ◌%◌, ◌^◌, ◌<◌, inl, inr, Bool, true, false, Option, Some, None, List, [], ◌∷◌, ◌++◌, drop, length, refl, ap, sym, ◌∙◌, subst, arith, ◌==◌, if◌then◌else◌, slice_get, slice_index, cases_Bool, eqb-true, false≢true, option_map, Words, address_of, word_at, Addr, decode_of, NoSlot, State, is_transfer, EdgeKind, Blocks, blocks_of, word_at-some, Node, X, Graph, has_cases, lands, Point, node_after, point_of, slot_left, same_kind, IsOnItsWay, lands_as, same_kinds, found_in, page_word, long_jump_piece, Item, slice_get_within, word_items, resume, landed, last_in}
 use Rattle.cfg_blocks.specs.declared.EdgeKind.TheVariants as kinds
 use Rattle.layout.specs.declared.items.Item.TheVariants as it
 use Rattle.cfg_walk.specs.Walk.{landing_at as edge_landing}
@@ -8,7 +8,7 @@ use Rattle.cfg_walk.specs.Matches.{Begins, way_address}
 use Rattle.cfg_walk.proofs.Nodes.{home_lands, lands_in}
 use Rattle.cfg_walk.proofs.Slots.{jump_lands}
 use Rattle.code_runs.proofs.StoredWords.{memory_word-range}
-use Rattle.image_code.specs.Simulates.{EditSetup, at_point, does_at, gone_at, graph_in, number_in}
+use Rattle.image_code.specs.Simulates.{EditSetup, does_at, gone_at, graph_in, number_in}
 use Rattle.image_code.specs.Store.{operations_on}
 use Rattle.image_code.specs.Images.{HasNoCases}
 use Rattle.image_code.proofs.Points.{AtVisitIn, entered_at, visited_at}
@@ -23,7 +23,7 @@ use Rattle.image_code.proofs.Heads.{HasCopy, by_cases, case_copy, copy_visited, 
 use Rattle.image_code.proofs.ImageNumbers.{jump_of}
 use Rattle.image_code.proofs.ImagePieces.{enter_at, stands_at}
 use Rattle.image_code.proofs.Listed.{foreign_at, landing_at}
-use Rattle.image_code.proofs.Visited.{PlacedEdit, GoesThere, goes_on_there, goes_straight, site, case_kind, edge_is, entered_none, entered_word, kind_is, l, marked_at, slot_gone, target, way_in, way_now, word_is}
+use Rattle.image_code.proofs.Visited.{PlacedEdit, GoesThere, goes_on_there, goes_straight, site, case_kind, edge_is, entered_word, kind_is, l, marked_at, slot_gone, target, way_in, way_now, word_is}
 use Rattle.image_code.specs.Cost.{is_out}
 
 -- ---- where control goes on at a node

@@ -1,5 +1,5 @@
 -- From the visit of a transfer whose words stand in one Mark, through them, and on along the way behind them.
-use Rattle.image_code.proofs.Common.{◌≡◌, ℕ, suc, Option, Some, None, List, [], ◌∷◌, ◌++◌, length, ap, sym, ◌∙◌, subst, arith, slice_get, length-map, word_at, Addr, PieceNo, Instr, Memory, State, point_of, node_after, word_of, words_of, Item, item_at, item_in, open_in, past, word_items}
+use Rattle.image_code.proofs.Common.{◌≡◌, ℕ, suc, Option, Some, None, List, [], ◌∷◌, ◌++◌, length, ap, sym, ◌∙◌, subst, slice_get, length-map, word_at, Addr, PieceNo, Instr, Memory, State, point_of, node_after, word_of, words_of, Item, item_at, item_in, open_in, past, word_items}
 use Rattle.layout.specs.declared.items.Item.TheVariants as it
 use Rattle.jump_code.specs.Pieces.{marked_piece}
 use Rattle.image_code.specs.Simulates.{number_in, graph_in}
