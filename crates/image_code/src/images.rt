@@ -11,20 +11,25 @@ ghost use Rattle.cfg_walk.specs.Walk.{edge_from, ends_block as ends_block_of};
 ghost use Rattle.image_code.specs.Lookups.{is_land};
 ghost use Rattle.image_code.specs.Made.{branch_image as branch_image_of, choice_of, distance_of, image as image_of, is_slots as is_slots_of, jump_by, jump_image_by, next_at as next_at_of, next_to, way_out as way_out_of};
 ghost use Rattle.image_code.specs.Numbered.{node_in_order};
-ghost use Rattle.image_code.specs.Private.{code_at as code_at_of, items_of};
+ghost use Rattle.image_code.specs.Private.{code_at as code_at_of, exit_items};
 ghost use Rattle.v8_decode.specs.Words.{decode_of};
 ghost use Rattle.v8_encode.specs.Code.{op2_fits};
 
 use crate::maker::PieceMaker;
 use crate::numbering::piece;
-use crate::piece_forms::{Next, Visit, branch, choice, is_transfer, jump, marked, way_to};
+use crate::shape::{Exit, Head, NOP, Shape, Visit, assemble, is_transfer, marked, way_to};
 use cfg_blocks::EdgeKind;
 use cfg_normal::{FlowGraph, Node, node_number, same_node};
 use eel_base::{Addr, BlockNo, NoMemory, PieceNo, Text, WordNo};
-use jump_code::call_code;
+use jump_code::{call_code, choose_code, free_register, look_up_code, other_register};
 use layout::Piece;
 use std::alloc::Global;
 use v8_decode::{Cond, Instr, Op2, Reg, decode};
+
+// The conditions of `bn` and `ba`.
+const NEVER: u8 = 0;
+
+const ALWAYS: u8 = 8;
 
 // ---- words and nodes
 
@@ -66,17 +71,17 @@ fn is_slots(text: &Text, word: WordNo) -> bool
 
 // Where control goes on after a word that is no transfer: at the image of the next word, or behind the text's last one
 // out of the text. After the slot's word of a transfer that is another piece, which may stand elsewhere.
-fn next_after(text: &Text, word: WordNo) -> Next
+fn next_after(text: &Text, word: WordNo) -> Exit
     requires word { word.0 < length text.now.words }
-    ensures { items_of result ≡ next_to text.now word.0 }
+    ensures { exit_items result ≡ next_to text.now word.0 }
 {
     let words = text.len();
     if word.0 + 1 >= words {
-        Next::Far(text.address(WordNo(words)))
+        Exit::Far(text.address(WordNo(words)))
     } else if is_slots(text, word) {
-        Next::Piece(PieceNo(word.0 + 1))
+        Exit::Piece(PieceNo(word.0 + 1))
     } else {
-        Next::Behind
+        Exit::Behind
     }
 }
 
@@ -108,14 +113,14 @@ impl<'a> PieceMaker<'a> {
 
     // Where control goes on at a node after a word that is no transfer: in a switch's own blocks, which end in
     // transfers, at the next word's image.
-    fn next_at(&self, node: Node, word: WordNo) -> Next
+    fn next_at(&self, node: Node, word: WordNo) -> Exit
         requires word { word.0 < length self.now.text.now.words }
-        ensures { items_of result ≡ next_at_of self.now.text.now self.now.graph.now node word.0 }
+        ensures { exit_items result ≡ next_at_of self.now.text.now self.now.graph.now node word.0 }
     {
         if same_node(node, self.node_of(word, block_of(node))) {
             next_after(self.text, word)
         } else {
-            Next::Behind
+            Exit::Behind
         }
     }
 
@@ -147,14 +152,8 @@ impl<'a> PieceMaker<'a> {
         }
     }
 
-    // The image of a branch.
-    fn branch_image(
-        &self,
-        alloc: Global,
-        visit: Visit,
-        node: Node,
-        cond: Cond,
-    ) -> Result<Piece, NoMemory>
+    // The image of a branch. `ba` and `bn` are a nop and a jump to the way along their only edge.
+    fn branch_image(&self, visit: Visit, node: Node, cond: Cond) -> Result<Shape<'a>, NoMemory>
         requires node { IsNumbered (length self.now.graph.now.blocks.firsts) node }
         requires visit { visit.node ≡ node_number_of self.now.graph.now node }
         ensures { IfOk result (λ p. p
@@ -162,18 +161,26 @@ impl<'a> PieceMaker<'a> {
     {
         let taken = self.way_out(node, EdgeKind::Taken)?;
         let untaken = self.way_out(node, EdgeKind::Untaken)?;
-        branch(alloc, visit, cond, taken, untaken)
+        Ok(match cond.number() {
+            ALWAYS => marked(visit, Head::Word(NOP), &[], Exit::Piece(taken)),
+            NEVER => marked(visit, Head::Word(NOP), &[], Exit::Piece(untaken)),
+            _ => marked(
+                visit,
+                Head::Branch { cond, to: taken },
+                &[],
+                Exit::Piece(untaken),
+            ),
+        })
     }
 
     // The image of a JMPL at the block itself of an open switch.
     fn switch_jump(
         &self,
-        alloc: Global,
         visit: Visit,
         node: Node,
         rd: Reg,
         number: usize,
-    ) -> Result<Piece, NoMemory>
+    ) -> Result<Shape<'a>, NoMemory>
         requires visit { visit.node ≡ node_number_of self.now.graph.now node }
         ensures { IfOk result (λ p. p ≡ choice_of self.now.text.now self.now.graph.now self.now.jumps.0
             self.now.cases.0 visit.address node rd (Some number) (slice_get self.now.graph.now.opens number)) }
@@ -182,22 +189,22 @@ impl<'a> PieceMaker<'a> {
             Some(found) => {
                 let first = self.entry(number);
                 let distance = distance(self.cases, first, found.switch().table);
-                choice(alloc, visit, rd, distance)
+                let code = choose_code(distance);
+                Ok(marked(visit, Head::Choice { rd, code }, &[], Exit::Behind))
             }
-            None => way_to(alloc, &[], Next::Behind),
+            None => Ok(way_to(&[], Exit::Behind)),
         }
     }
 
     // The image of any other JMPL, which looks up in the jumps' table.
     fn jump_out(
         &self,
-        alloc: Global,
         visit: Visit,
         node: Node,
         rd: Reg,
         rs1: Reg,
         op2: Op2,
-    ) -> Result<Piece, NoMemory>
+    ) -> Result<Shape<'a>, NoMemory>
         requires node { IsNumbered (length self.now.graph.now.blocks.firsts) node }
         requires visit { visit.node ≡ node_number_of self.now.graph.now node }
         requires fits { IsTrue (op2_fits op2) }
@@ -205,19 +212,21 @@ impl<'a> PieceMaker<'a> {
             visit.address node rd rs1 op2) }
     {
         let way = self.way_out(node, EdgeKind::Out)?;
-        jump(alloc, visit, rd, rs1, op2, self.jumps, way)
+        let first = free_register(rd, rs1, &op2);
+        let second = other_register(rd, rs1, &op2);
+        let code = look_up_code(first, second, rs1, op2, self.jumps);
+        Ok(marked(visit, Head::LookUp { code, rd }, &[], Exit::Piece(way)))
     }
 
     // The image of a JMPL at a block itself.
     fn jump_at(
         &self,
-        alloc: Global,
         visit: Visit,
         block: BlockNo,
         rd: Reg,
         rs1: Reg,
         op2: Op2,
-    ) -> Result<Piece, NoMemory>
+    ) -> Result<Shape<'a>, NoMemory>
         requires block { block.0 < length self.now.graph.now.blocks.firsts }
         requires visit { visit.node ≡ node_number_of self.now.graph.now (Block block) }
         requires fits { IsTrue (op2_fits op2) }
@@ -226,21 +235,20 @@ impl<'a> PieceMaker<'a> {
     {
         let node = Node::Block(block);
         match self.jump_of(block) {
-            Some(number) => self.switch_jump(alloc, visit, node, rd, number as usize),
-            None => self.jump_out(alloc, visit, node, rd, rs1, op2),
+            Some(number) => self.switch_jump(visit, node, rd, number as usize),
+            None => self.jump_out(visit, node, rd, rs1, op2),
         }
     }
 
     // The image of a JMPL.
     fn jump_image(
         &self,
-        alloc: Global,
         visit: Visit,
         node: Node,
         rd: Reg,
         rs1: Reg,
         op2: Op2,
-    ) -> Result<Piece, NoMemory>
+    ) -> Result<Shape<'a>, NoMemory>
         requires node { IsNumbered (length self.now.graph.now.blocks.firsts) node }
         requires visit { visit.node ≡ node_number_of self.now.graph.now node }
         requires fits { IsTrue (op2_fits op2) }
@@ -248,15 +256,15 @@ impl<'a> PieceMaker<'a> {
             self.now.cases.0 visit.address node rd rs1 op2) }
     {
         match node {
-            Node::Block(block) => self.jump_at(alloc, visit, block, rd, rs1, op2),
-            Node::Landed(_) | Node::X => self.jump_out(alloc, visit, node, rd, rs1, op2),
+            Node::Block(block) => self.jump_at(visit, block, rd, rs1, op2),
+            Node::Landed(_) | Node::X => self.jump_out(visit, node, rd, rs1, op2),
         }
     }
 
     // ---- images
 
     // The image of a word, for a node whose block holds it.
-    fn image(&self, alloc: Global, node: Node, word: WordNo) -> Result<Piece, NoMemory>
+    fn image(&self, node: Node, word: WordNo) -> Result<Shape<'a>, NoMemory>
         requires node { IsNumbered (length self.now.graph.now.blocks.firsts) node }
         requires word { word.0 < length self.now.text.now.words }
         ensures { IfOk result (λ p. p ≡ image_of self.now.text.now self.now.graph.now self.now.jumps.0
@@ -267,22 +275,17 @@ impl<'a> PieceMaker<'a> {
             node: node_number(self.graph, node),
         };
         match decode(self.text.word(word)) {
-            Instr::Branch { cond, .. } => self.branch_image(alloc, visit, node, cond),
+            Instr::Branch { cond, .. } => self.branch_image(visit, node, cond),
             Instr::Call { .. } => {
                 let way = self.way_out(node, EdgeKind::Call)?;
-                marked(
-                    alloc,
-                    visit,
-                    &call_code(visit.address),
-                    &[],
-                    Next::Piece(way),
-                )
+                let link = Head::Pair(call_code(visit.address));
+                Ok(marked(visit, link, &[], Exit::Piece(way)))
             }
-            Instr::Jmpl { rd, rs1, op2 } => self.jump_image(alloc, visit, node, rd, rs1, op2),
+            Instr::Jmpl { rd, rs1, op2 } => self.jump_image(visit, node, rd, rs1, op2),
             _ => {
                 let code = self.code_behind(node, word);
                 let next = self.next_at(node, word);
-                marked(alloc, visit, &[self.text.word(word)], code, next)
+                Ok(marked(visit, Head::Word(self.text.word(word)), code, next))
             }
         }
     }
@@ -298,7 +301,7 @@ impl<'a> PieceMaker<'a> {
         for word in 0..self.text.len() {
             let word = WordNo(word);
             let node = self.node_of(word, near);
-            list.push(self.image(alloc, node, word)?)?;
+            list.push(assemble(alloc, &self.image(node, word)?)?)?;
             near = block_of(node);
         }
         Ok(())
@@ -321,7 +324,7 @@ impl<'a> PieceMaker<'a> {
     {
         let _words = self.text.len();
         for word in from..from + count {
-            list.push(self.image(alloc, node, WordNo(word))?)?;
+            list.push(assemble(alloc, &self.image(node, WordNo(word))?)?)?;
         }
         Ok(())
     }

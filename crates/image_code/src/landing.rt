@@ -11,7 +11,7 @@ ghost use Rattle.image_code.specs.Store.{operations_on};
 use crate::images::block_of;
 use crate::maker::PieceMaker;
 use crate::numbering::piece;
-use crate::piece_forms::{Next, way_to};
+use crate::shape::{Exit, Shape, assemble, way_to};
 use cfg_normal::Node;
 use eel_base::{BlockNo, NoMemory, PieceNo, WordNo};
 use layout::Piece;
@@ -31,12 +31,12 @@ fn operations(snips: &[Snippet], edge: Option<u32>) -> usize
     }
 }
 
-impl PieceMaker<'_> {
+impl<'a> PieceMaker<'a> {
     // ---- landings
 
     // The landing at a word and its node: the snippet of its node's landing, and the way to where control enters the
     // word there.
-    fn landing(&self, alloc: Global, word: WordNo, node: Node) -> Result<Piece, NoMemory>
+    fn landing(&self, word: WordNo, node: Node) -> Result<Shape<'a>, NoMemory>
         requires node { node ≡ lands self.now.graph.now (Some word.0) }
         requires numbered { IsNumbered (length self.now.graph.now.blocks.firsts) node }
         ensures { IfOk result (λ p. p
@@ -45,7 +45,7 @@ impl PieceMaker<'_> {
         let edge = self.landing_edge(node);
         let code = self.codes.code_on(edge);
         let to = self.enter(node, word)?;
-        way_to(alloc, code, Next::Piece(to))
+        Ok(way_to(code, Exit::Piece(to)))
     }
 
     /// Adds the landings at the words.
@@ -58,7 +58,7 @@ impl PieceMaker<'_> {
         for word in 0..self.text.len() {
             let word = WordNo(word);
             let node = self.graph.lands_near(word, near);
-            list.push(self.landing(alloc, word, node)?)?;
+            list.push(assemble(alloc, &self.landing(word, node)?)?)?;
             near = block_of(node);
         }
         Ok(())

@@ -13,7 +13,7 @@ mod lookups;
 mod maker;
 mod making;
 mod numbering;
-mod piece_forms;
+mod shape;
 mod switches;
 mod ways;
 

@@ -19,7 +19,7 @@ ghost use Rattle.cfg_blocks.specs.declared.EdgeKind.TheVariants.{Case};
 use crate::firsts::small;
 use crate::maker::PieceMaker;
 use crate::numbering::piece;
-use crate::piece_forms::keep;
+use crate::shape::{Shape, assemble, keep};
 use crate::ways::unused;
 use cfg_normal::{Node, OpenSwitch};
 use eel_base::{BlockNo, NoMemory, PieceNo, WordNo};
@@ -59,7 +59,7 @@ fn place_in(places: &IndexMap<u32, u32>, word: u32) -> u32
     }
 }
 
-impl PieceMaker<'_> {
+impl<'a> PieceMaker<'a> {
     // ---- the blocks of open switches
 
     // Adds the pieces of a jump's block itself: the images of its words, and the words that keep the load's address
@@ -90,7 +90,7 @@ impl PieceMaker<'_> {
         let first = self.graph.first(block).0;
         let end = first + self.graph.words(block);
         self.push_images_at(alloc, list, node, first, load - first)?;
-        list.push(keep(alloc, self.text.word(WordNo(load)))?)?;
+        list.push(assemble(alloc, &keep(self.text.word(WordNo(load))))?)?;
         self.push_images_at(alloc, list, node, load, end - load)?;
         Ok(())
     }
@@ -132,7 +132,7 @@ impl PieceMaker<'_> {
     // ---- the entries of tables
 
     // The way along the Case edge of a block to a word.
-    fn case_by(&self, alloc: Global, block: BlockNo, word: WordNo) -> Result<Piece, NoMemory>
+    fn case_by(&self, block: BlockNo, word: WordNo) -> Result<Shape<'a>, NoMemory>
         requires block { block.0 < length self.now.graph.now.blocks.firsts }
         ensures { IfOk result (λ p. p ≡ case_by_of self.now.text.now self.now.graph.now self.now.table.0
             (code_at self.now.codes.now) word.0 (edge_along self.now.graph.now (Block block)
@@ -140,32 +140,31 @@ impl PieceMaker<'_> {
     {
         let to = self.graph.lands(word);
         let Some(number) = self.case_edge(block, to) else {
-            return unused(alloc);
+            return Ok(unused());
         };
         match self.graph.edges().get(number as usize) {
-            Some(edge) => self.way_by(alloc, number, edge, word),
-            None => unused(alloc),
+            Some(edge) => self.way_by(number, edge, word),
+            None => Ok(unused()),
         }
     }
 
     // The piece of an entry, where the entry at `place` is the first that leads to its word.
     fn case_piece(
         &self,
-        alloc: Global,
         found: &OpenSwitch,
         place: u32,
         entry: usize,
         word: WordNo,
-    ) -> Result<Piece, NoMemory>
+    ) -> Result<Shape<'a>, NoMemory>
         requires block { found.now.block < length self.now.graph.now.blocks.firsts }
         requires place { place ≡ place_in_of self.now.text.now self.now.graph.now found.now.targets word.0 }
         ensures { IfOk result (λ p. p ≡ case_at self.now.text.now self.now.graph.now self.now.table.0
             (code_at self.now.codes.now) found.now entry word.0) }
     {
         if place as usize == entry {
-            self.case_by(alloc, found.block(), word)
+            self.case_by(found.block(), word)
         } else {
-            unused(alloc)
+            Ok(unused())
         }
     }
 
@@ -222,7 +221,7 @@ impl PieceMaker<'_> {
             let place = place_in(places, word.0);
             let number = piece(first + u64::from(place))?;
             numbers.push(number)?;
-            list.push(self.case_piece(alloc, found, place, entry, *word)?)?;
+            list.push(assemble(alloc, &self.case_piece(found, place, entry, *word)?)?)?;
         }
         Ok(())
     }

@@ -6,12 +6,12 @@ ghost use Rattle.cfg_normal.specs.Code.{IsEdgeIn, IsNodeIn};
 ghost use Rattle.cfg_walk.specs.Matches.{last_in as last_in_of, target_along, way_address};
 ghost use Rattle.image_code.specs.Made.{first_word as first_word_of, goes_behind, goes_on, jump_to, slot_copy as slot_copy_of, way_along, way_by as way_by_of, ways_from};
 ghost use Rattle.image_code.specs.Numbered.{edges_but_landings as edges_but_landings_of};
-ghost use Rattle.image_code.specs.Private.{code_at as code_at_of, items_of};
+ghost use Rattle.image_code.specs.Private.{code_at as code_at_of, exit_items};
 ghost use Rattle.v8_decode.specs.Words.{decode_of};
 
 use crate::images::last_word;
 use crate::maker::PieceMaker;
-use crate::piece_forms::{COUPLE, Next, Visit, is_transfer, marked, way_to};
+use crate::shape::{COUPLE, Exit, Head, Shape, Visit, assemble, is_transfer, marked, way_to};
 use cfg_blocks::EdgeKind;
 use cfg_normal::{Edge, FlowGraph, Node, Slot, node_number};
 use eel_base::{Addr, NoMemory, PieceNo, Text, WordNo};
@@ -56,13 +56,13 @@ fn first_word(graph: &FlowGraph, node: Node) -> WordNo
 }
 
 /// A piece that is never run.
-pub(crate) fn unused(alloc: Global) -> Result<Piece, NoMemory>
-    ensures { IfOk result (λ p. p ≡ jump_to 0) }
+pub(crate) fn unused<'a>() -> Shape<'a>
+    ensures { result ≡ jump_to 0 }
 {
-    way_to(alloc, &[], Next::Piece(PieceNo(0)))
+    way_to(&[], Exit::Piece(PieceNo(0)))
 }
 
-impl PieceMaker<'_> {
+impl<'a> PieceMaker<'a> {
     // ---- where edges lead
 
     // The last word of a node's block. X has none, and word 0 stands for it.
@@ -78,27 +78,27 @@ impl PieceMaker<'_> {
     }
 
     // Where control goes on along an edge, to a word at its node.
-    fn next_along(&self, edge: &Edge, to: WordNo) -> Result<Next, NoMemory>
+    fn next_along(&self, edge: &Edge, to: WordNo) -> Result<Exit, NoMemory>
         requires edge { IsEdgeIn self.now.graph.now.blocks self.now.graph.now.opens edge.now }
-        ensures { IfOk result (λ next. items_of next ≡ goes_on self.now.text.now self.now.graph.now edge.now.to to.0
+        ensures { IfOk result (λ next. exit_items next ≡ goes_on self.now.text.now self.now.graph.now edge.now.to to.0
             (way_address self.now.text.now self.now.graph.now edge.now.from edge.now.kind)) }
     {
         match edge.to {
             Node::X => {
                 let last = self.last_in(edge.from);
-                Ok(Next::Far(target(self.text, last, edge.kind)))
+                Ok(Exit::Far(target(self.text, last, edge.kind)))
             }
-            node => Ok(Next::Piece(self.enter(node, to)?)),
+            node => Ok(Exit::Piece(self.enter(node, to)?)),
         }
     }
 
     // Where control goes on behind the copy of a slot's word.
-    fn next_behind(&self, edge: &Edge, to: WordNo) -> Result<Next, NoMemory>
+    fn next_behind(&self, edge: &Edge, to: WordNo) -> Result<Exit, NoMemory>
         requires edge { IsEdgeIn self.now.graph.now.blocks self.now.graph.now.opens edge.now }
-        ensures { IfOk result (λ next. items_of next ≡ goes_behind self.now.text.now self.now.graph.now edge.now to.0) }
+        ensures { IfOk result (λ next. exit_items next ≡ goes_behind self.now.text.now self.now.graph.now edge.now to.0) }
     {
         match edge.kind {
-            EdgeKind::Out => Ok(Next::Found),
+            EdgeKind::Out => Ok(Exit::Found),
             _ => self.next_along(edge, to),
         }
     }
@@ -109,34 +109,27 @@ impl PieceMaker<'_> {
     // run.
     fn slot_copy(
         &self,
-        alloc: Global,
         visit: Visit,
         word: u32,
         number: u32,
         edge: &Edge,
         to: WordNo,
-    ) -> Result<Piece, NoMemory>
+    ) -> Result<Shape<'a>, NoMemory>
         requires edge { IsEdgeIn self.now.graph.now.blocks self.now.graph.now.opens edge.now }
         ensures { IfOk result (λ p. p ≡ slot_copy_of self.now.text.now self.now.graph.now self.now.table.0
             (code_at_of self.now.codes.now) visit.address visit.node word number edge.now to.0) }
     {
         if is_transfer(word) {
-            return marked(alloc, visit, &[COUPLE, COUPLE], &[], Next::Behind);
+            return Ok(marked(visit, Head::Pair([COUPLE, COUPLE]), &[], Exit::Behind));
         }
         let code = self.codes.code_at(number);
         let next = self.next_behind(edge, to)?;
-        marked(alloc, visit, &[word], code, next)
+        Ok(marked(visit, Head::Word(word), code, next))
     }
 
     /// The way along an edge with this number, to a word at its node, with the code of its snippet. A slot behind the
     /// text has its place where the table begins.
-    pub(crate) fn way_by(
-        &self,
-        alloc: Global,
-        number: u32,
-        edge: &Edge,
-        to: WordNo,
-    ) -> Result<Piece, NoMemory>
+    pub(crate) fn way_by(&self, number: u32, edge: &Edge, to: WordNo) -> Result<Shape<'a>, NoMemory>
         requires edge { IsEdgeIn self.now.graph.now.blocks self.now.graph.now.opens edge.now }
         ensures { IfOk result (λ p. p ≡ way_by_of self.now.text.now self.now.graph.now self.now.table.0
             (code_at_of self.now.codes.now) number edge.now to.0 edge.now.slot) }
@@ -145,28 +138,28 @@ impl PieceMaker<'_> {
             Slot::Nothing => {
                 let code = self.codes.code_at(number);
                 let next = self.next_along(edge, to)?;
-                way_to(alloc, code, next)
+                Ok(way_to(code, next))
             }
-            Slot::Off => way_to(alloc, &[], Next::Far(self.table)),
+            Slot::Off => Ok(way_to(&[], Exit::Far(self.table))),
             Slot::Word(slot) => {
                 let visit = Visit {
                     address: self.text.address(slot),
                     node: node_number(self.graph, edge.from),
                 };
-                self.slot_copy(alloc, visit, self.text.word(slot), number, edge, to)
+                self.slot_copy(visit, self.text.word(slot), number, edge, to)
             }
         }
     }
 
     // The way along an edge with this number; Fall edges have none, and Case edges have theirs by entries.
-    fn way(&self, alloc: Global, number: u32, edge: &Edge) -> Result<Piece, NoMemory>
+    fn way(&self, number: u32, edge: &Edge) -> Result<Shape<'a>, NoMemory>
         requires edge { IsEdgeIn self.now.graph.now.blocks self.now.graph.now.opens edge.now }
         ensures { IfOk result (λ p. p ≡ way_along self.now.text.now self.now.graph.now self.now.table.0
             (code_at_of self.now.codes.now) number edge.now) }
     {
         match edge.kind {
-            EdgeKind::Fall | EdgeKind::Case => unused(alloc),
-            _ => self.way_by(alloc, number, edge, first_word(self.graph, edge.to)),
+            EdgeKind::Fall | EdgeKind::Case => Ok(unused()),
+            _ => self.way_by(number, edge, first_word(self.graph, edge.to)),
         }
     }
 
@@ -178,7 +171,7 @@ impl PieceMaker<'_> {
     {
         for (number, edge) in self.edges_but_landings().iter().enumerate() {
             let number = number as u32;
-            list.push(self.way(alloc, number, edge)?)?;
+            list.push(assemble(alloc, &self.way(number, edge)?)?)?;
         }
         Ok(())
     }

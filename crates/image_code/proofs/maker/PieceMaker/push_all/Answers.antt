@@ -1,4 +1,4 @@
-use Rattle.std.proofs.Common.{append_assoc, append-nil}
+use Rattle.std.proofs.Common.{append_assoc}
 use Rattle.image_code.specs.Made.{piece_list}
 use Rattle.image_code.proofs.maker.PieceMaker.push_all.Goals as goal
 
@@ -7,8 +7,8 @@ unfolding piece_list
 returns-clause-list c =
     rw (
       c.in_ok-push.ensures.items,
-      c.in_ok-way_to.ensures,
-      c.foreign_code.ensures.words,
+      c.in_ok-assemble.ensures,
+      c.way_to.ensures,
       c.in_ok-cases.ensures.list,
       c.in_ok-push_opens.ensures,
       c.in_ok-push_landings.ensures,
@@ -17,4 +17,4 @@ returns-clause-list c =
       c.requires.empty,
       c.args.self.now.behind,
     )
-    (simp (append_assoc, append-nil))
+    (simp append_assoc)

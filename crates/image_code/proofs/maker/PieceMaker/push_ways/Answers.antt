@@ -1,4 +1,4 @@
-use Rattle.std.proofs.Common.{◌≡◌, ◌-◌, ◌^◌, ◌<◌, append-nil, length, length-take, ap, sym, arith}
+use Rattle.std.proofs.Common.{◌≡◌, ◌-◌, ◌^◌, ◌<◌, append-nil, length, length-take, ap, sym, arith, ◌∙◌}
 use Rattle.std.specs.Coded.{le_prop}
 use Rattle.std.proofs.Math.Logic.{∥∥₁_elim}
 use Rattle.image_code.specs.Numbered.{landing_count, edges_but_landings}
@@ -29,5 +29,5 @@ loop-number-preserved c =
     let maker = c.args.self.now in
     ways_pushed maker.text.now maker.graph.now maker.table.0 (code_at maker.codes.now)
     c.edges_but_landings-edge-items.result.now c.loop-number.number _ c.args.list.now.items c.loop-number.list.items
-    c.push.new.self.items _ c.loop-number-test.true c.in_ok-push.ensures.items c.in_ok-way.ensures
+    c.push.new.self.items _ c.loop-number-test.true c.in_ok-push.ensures.items (c.in_ok-assemble.ensures ∙ c.in_ok-way.ensures)
     c.loop-number.invariant

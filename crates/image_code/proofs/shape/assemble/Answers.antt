@@ -1,0 +1,23 @@
+use Rattle.std.proofs.Common.{◌≡◌, Option, Some, None, List, [], ◌∷◌, ◌++◌, append_assoc, refl, ap, ◌∙◌}
+use Rattle.layout.specs.declared.items.Item.{Item}
+use Rattle.layout.specs.declared.items.Item.TheVariants as it
+use Rattle.image_code.specs.declared.shape.Head.{Head}
+use Rattle.image_code.specs.declared.shape.Visit.{Visit}
+use Rattle.image_code.specs.Private.{head_items, mark_items}
+use Rattle.image_code.proofs.shape.assemble.Goals as goal
+
+mark_first : (mark : Option (Visit × Head)) (rest : List Item) → mark_items mark [] ++ rest ≡ mark_items mark rest
+mark_first None rest = refl
+mark_first (Some (visit, head)) rest =
+    ap (λ xs. it.Mark visit.address visit.node ∷ xs) (append_assoc (head_items visit.address head) (it.EndMark ∷ []) rest)
+
+pub returns : goal.returns
+returns c =
+    rw (
+      c.in_ok-push_exit.ensures,
+      c.in_ok-push_words.ensures,
+      c.in_ok-push_mark.ensures,
+      c.in_ok-items.ensures.items,
+      append_assoc (mark_items c.shape.inside.mark []),
+    )
+    (mark_first c.shape.inside.mark _ ∙ c.shape.view_is)

@@ -1,0 +1,229 @@
+//! The shapes of pieces: what stands in a piece's Mark, the code of a snippet, and where control goes on.
+
+ghost use Rattle.std.specs.Prelude.{◌≡◌, ◌<◌, IfOk, OnOk, IsTrue, [], ◌∷◌, ◌++◌, ◌+◌, ◌%◌, ◌^◌, ◌≤◌, map};
+ghost use Rattle.image_code.specs.Made.{save_by};
+ghost use Rattle.image_code.specs.Private.{exit_items, head_items, mark_items};
+ghost use Rattle.jump_code.specs.Links.{link};
+ghost use Rattle.jump_code.specs.Pieces.{word_items};
+ghost use Rattle.v8_decode.specs.Words.{decode_of};
+ghost use Rattle.v8_step.specs.Items.{is_transfer as is_transfer_of};
+ghost use Rattle.layout.specs.declared.items.Item.TheVariants as it;
+
+use eel_base::{Addr, NoMemory, PieceNo};
+use jump_code::{foreign_code, link_code, long_jump_code, resume_code, save_load_address_code};
+use layout::{Item, Piece};
+use std::alloc::Global;
+use std::marker::Model;
+use v8_decode::{Cond, Instr, Reg, decode};
+use v8_encode::register;
+
+/// `nop`.
+pub(crate) const NOP: u32 = 0x0100_0000;
+
+/// `ba` to the word after the next one. Two of them within one Mark stand for a transfer in a delay slot: the second
+/// stands in the slot of the first, so that it ends the run as a couple, as the original does.
+pub(crate) const COUPLE: u32 = 0x1080_0002;
+
+/// What a word stands for: an instruction of the original, by its address, at a node.
+#[derive(Clone, Copy)]
+pub struct Visit {
+    pub address: Addr,
+    pub node: u32,
+}
+
+/// What stands in the Mark of a visit.
+#[derive(Clone, Copy)]
+pub enum Head {
+    Word(u32),
+    Pair([u32; 2]),
+    Branch { cond: Cond, to: PieceNo },
+    /// What looks up the target of a JMPL, and then its link.
+    LookUp { code: [u32; 12], rd: Reg },
+    /// The link of an open switch's JMPL, and then what goes on by the address that was kept.
+    Choice { rd: Reg, code: [u32; 9] },
+}
+
+/// Where control goes on.
+#[derive(Clone, Copy)]
+pub enum Exit {
+    /// At the piece that comes next.
+    Behind,
+    Piece(PieceNo),
+    /// At an address outside the text.
+    Far(Addr),
+    /// At what a JMPL looked up.
+    Found,
+    /// Outside the text, at the address that a JMPL computed.
+    Foreign,
+    /// At the piece that comes next, the image of a load: these words keep its address.
+    Load([u32; 3]),
+}
+
+/// A piece: the Mark with which it begins, if it has one, the code of a snippet, and where control goes on.
+#[derive(Drop)]
+pub struct Shape<'a> {
+    pub mark: Option<(Visit, Head)>,
+    pub code: &'a [u32],
+    pub exit: Exit,
+}
+
+impl<'a> Model for Shape<'a> {
+    ghost use Rattle.std.specs.Prelude.{List, ◌++◌, map};
+    ghost use Rattle.layout.specs.declared.items.Item.{Item};
+    ghost use Rattle.layout.specs.declared.items.Item.TheVariants as it;
+    ghost use Rattle.image_code.specs.Private.{exit_items, mark_items};
+
+    ghost Value = { List Item };
+
+    ghost view = { λ s. mark_items s.mark (map it.Word s.code.now ++ exit_items s.exit) };
+}
+
+// ---- items
+
+fn push_words(items: &mut Vec<Item>, words: &[u32]) -> Result<(), NoMemory>
+    ensures { OnOk result (items.new.items ≡ items.old.items ++ map it.Word words.now) }
+{
+    for word in words {
+        items.push(Item::Word(*word))?;
+    }
+    Ok(())
+}
+
+// The link of a JMPL; one whose rd is %g0 has none.
+fn push_link(items: &mut Vec<Item>, rd: Reg, address: Addr) -> Result<(), NoMemory>
+    ensures { OnOk result (items.new.items ≡ items.old.items ++ word_items (link rd address.0)) }
+{
+    if rd.number() == 0 {
+        return Ok(());
+    }
+    push_words(items, &link_code(rd, address))?;
+    Ok(())
+}
+
+fn push_head(items: &mut Vec<Item>, address: Addr, head: Head) -> Result<(), NoMemory>
+    ensures { OnOk result (items.new.items ≡ items.old.items ++ head_items address head) }
+{
+    match head {
+        Head::Word(word) => items.push(Item::Word(word))?,
+        Head::Pair(words) => push_words(items, &words)?,
+        Head::Branch { cond, to } => items.push(Item::Branch { cond, to })?,
+        Head::LookUp { code, rd } => {
+            push_words(items, &code)?;
+            push_link(items, rd, address)?;
+        }
+        Head::Choice { rd, code } => {
+            push_link(items, rd, address)?;
+            push_words(items, &code)?;
+        }
+    }
+    Ok(())
+}
+
+fn push_mark(items: &mut Vec<Item>, mark: Option<(Visit, Head)>) -> Result<(), NoMemory>
+    ensures { OnOk result (items.new.items ≡ items.old.items ++ mark_items mark []) }
+{
+    if let Some((visit, head)) = mark {
+        items.push(Item::Mark {
+            address: visit.address,
+            node: visit.node,
+        })?;
+        push_head(items, visit.address, head)?;
+        items.push(Item::EndMark)?;
+    }
+    Ok(())
+}
+
+fn push_exit(items: &mut Vec<Item>, exit: Exit) -> Result<(), NoMemory>
+    ensures { OnOk result (items.new.items ≡ items.old.items ++ exit_items exit) }
+{
+    match exit {
+        Exit::Behind => {}
+        Exit::Piece(piece) => items.push(Item::Jump(piece))?,
+        Exit::Far(to) => push_words(items, &long_jump_code(to))?,
+        Exit::Found => push_words(items, &resume_code(register(1)))?,
+        Exit::Foreign => push_words(items, &foreign_code())?,
+        Exit::Load(code) => push_words(items, &code)?,
+    }
+    Ok(())
+}
+
+// How many items a Mark takes at most, with what stands in it.
+fn mark_room(mark: Option<(Visit, Head)>) -> usize
+    ensures few { result ≤ 16 }
+{
+    match mark {
+        Some((_, Head::Word(_) | Head::Branch { .. })) => 3,
+        Some((_, Head::Pair(_))) => 4,
+        Some(_) => 16,
+        None => 0,
+    }
+}
+
+// How many items the way on takes.
+fn exit_room(exit: Exit) -> usize
+    ensures few { result ≤ 4 }
+{
+    match exit {
+        Exit::Behind => 0,
+        Exit::Piece(_) => 1,
+        Exit::Found | Exit::Load(_) => 3,
+        Exit::Far(_) | Exit::Foreign => 4,
+    }
+}
+
+/// The piece of a shape.
+pub fn assemble(alloc: Global, shape: &Shape) -> Result<Piece, NoMemory>
+    ensures { IfOk result (λ p. p ≡ shape.now) }
+{
+    let room = mark_room(shape.mark) + shape.code.len() + exit_room(shape.exit);
+    let mut items = Vec::with_capacity(alloc, room)?;
+    push_mark(&mut items, shape.mark)?;
+    push_words(&mut items, shape.code)?;
+    push_exit(&mut items, shape.exit)?;
+    Ok(Piece { items })
+}
+
+// ---- shapes
+
+/// What stands in the Mark of a visit, the code of a snippet, and the way on.
+pub fn marked(visit: Visit, head: Head, code: &[u32], exit: Exit) -> Shape<'_>
+    ensures { result ≡ it.Mark visit.address visit.node
+        ∷ (head_items visit.address head ++ it.EndMark ∷ map it.Word code.now ++ exit_items exit) }
+{
+    Shape {
+        mark: Some((visit, head)),
+        code,
+        exit,
+    }
+}
+
+/// The code of a snippet, and the way on.
+pub fn way_to(code: &[u32], exit: Exit) -> Shape<'_>
+    ensures { result ≡ map it.Word code.now ++ exit_items exit }
+{
+    Shape {
+        mark: None,
+        code,
+        exit,
+    }
+}
+
+/// The words before the load of an open switch, which keep the load's address in the editor's page.
+pub fn keep<'a>(word: u32) -> Shape<'a>
+    ensures { result ≡ save_by (decode_of word) }
+{
+    match decode(word) {
+        Instr::Load { rs1, op2, .. } => way_to(&[], Exit::Load(save_load_address_code(rs1, op2))),
+        _ => way_to(&[], Exit::Behind),
+    }
+}
+
+/// Whether a word is a transfer.
+pub fn is_transfer(word: u32) -> bool
+    ensures { result ≡ is_transfer_of (decode_of word) }
+{
+    matches!(
+        decode(word),
+        Instr::Branch { .. } | Instr::Call { .. } | Instr::Jmpl { .. },
+    )
+}
