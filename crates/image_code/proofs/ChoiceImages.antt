@@ -1,5 +1,5 @@
 -- The image of an open switch's jump, at the jump's block itself: the Case edge that it chooses leads to the slot.
-use Rattle.image_code.proofs.Common.{◌≡◌, ◌≢◌, ℕ, zero, suc, ◌+◌, ◌*◌, ◌%◌, ◌^◌, ◌<◌, Bool, true, Some, None, List, [], ◌∷◌, length, map, take, refl, ap, sym, ◌∙◌, subst, arith, ◌==◌, if◌then◌else◌, slice_get, slice_index, sum_by, and_parts, eq-eqb, lt-ltb, ltb-true, length-map, sum_by-cons, slice_get-map, slice_get_within, Words, address_of, word_at, Addr, Op2, operands_in_range, decode_of, decoded_range, nat_lt, NoSlot, Taken, State, EdgeKind, Blocks, blocks_of, holding_of, last_word, ends_block_after, word_at-some, Node, Block, home_of, Open, jumps_in, Graph, has_cases, node_of, node_after, point_of, way_of, same_kind, IsOnItsWay, next_word, block, end_is, node_is, table_word, choice_at, saved_address, Item, IsTarget, transfer_ends, jump_delayed, IsCaseBlock}
+use Rattle.image_code.proofs.Common.{◌≡◌, ◌≢◌, ℕ, zero, suc, ◌+◌, ◌*◌, ◌%◌, ◌^◌, ◌<◌, Bool, true, Some, None, List, [], ◌∷◌, length, map, take, refl, ap, sym, ◌∙◌, subst, arith, ◌==◌, if◌then◌else◌, slice_get, slice_index, sum_by, and_parts, eq-eqb, lt-ltb, ltb-true, length-map, sum_by-cons, slice_get-map, slice_get_within, Words, address_of, word_at, Addr, Op2, operands_in_range, decode_of, decoded_range, nat_lt, NoSlot, Taken, State, EdgeKind, Blocks, blocks_of, holding_of, last_word, ends_block_after, word_at-some, Node, Block, home_of, Open, jumps_in, Graph, has_cases, node_of, node_after, point_of, way_of, same_kind, next_word, block, end_is, node_is, table_word, choice_at, saved_address, Item, IsTarget, transfer_ends, jump_delayed, IsCaseBlock}
 use Rattle.v8_decode.specs.declared.Instr.TheVariants as i
 use Rattle.cfg_blocks.specs.declared.EdgeKind.TheVariants as kinds
 use Rattle.jump_slice.proofs.About.{in_targets}
@@ -17,7 +17,7 @@ use Rattle.image_code.proofs.ImageNumbers.{block_of}
 use Rattle.image_code.proofs.IntoSlots.{before, stands}
 use Rattle.image_code.proofs.JumpImages.{goes, jump_acts}
 use Rattle.image_code.proofs.Positions.{any_at, contains, get_behind, get_first}
-use Rattle.image_code.proofs.Visited.{AtWord, at_image, site, IsTargetOf, case_piece_is, entered_slot, image_items, l, nothing_gone, on_its_way, target, way_in}
+use Rattle.image_code.proofs.Visited.{AtWord, InSlot, at_image, site, IsTargetOf, case_piece_is, entered_slot, image_items, l, nothing_gone, slotted, target, way_in}
 
 -- ---- the numbers of Case edges' pieces, by entries
 
@@ -174,9 +174,9 @@ module _ (visit : AtWord) (t : State) (rd rs1 : ℕ) (op2 : Op2)
       ap (λ instr. way_of instr v.slot)
       (before visit (i.Jmpl rd rs1 op2) says v acts.0)
 
-  way : IsOnItsWay g.text (graph_in g) node (point_of v) (way_in edit (point_of v))
-  way =
-      on_its_way edit node (point_of v) Taken acts.1 (λ q. absurd (cc))
+  abbrev in_slot : InSlot
+  in_slot =
+      slotted edit node (point_of v) Taken acts.1 (λ q. absurd (cc))
       (jump_delayed rd rs1 op2 (point_of v)
       (stands visit (i.Jmpl rd rs1 op2) says) acts.0 acts.1
       (λ _. is_target))
@@ -185,10 +185,10 @@ module _ (visit : AtWord) (t : State) (rd rs1 : ℕ) (op2 : Op2)
   out = ap (λ (kind : EdgeKind). same_kind kind kinds.Out) jumps_so
 
   its_piece : slot_piece g (l edit) node (point_of v) ≡ case_piece g.text (graph_in g) k o to
-  its_piece = case_piece_is edit node (point_of v) way out cased
-      ∙ same_piece (target edit node (point_of v) way out cased)
+  its_piece = case_piece_is in_slot out cased
+      ∙ same_piece (target in_slot out cased)
     where
-      same_piece : (r : IsTargetOf edit node (point_of v) way out cased)
+      same_piece : (r : IsTargetOf in_slot out cased)
           → case_piece g.text (graph_in g) r.k r.o r.word ≡ case_piece g.text (graph_in g) k o to
       same_piece r =
           let one : r.o ≡ o = is.cased.one r.k k r.o o r.among among (ap block_of (sym r.itself ∙ itself)) in

@@ -6,7 +6,7 @@ use Rattle.image_code.specs.Simulates.{gone_at, graph_in}
 use Rattle.image_code.proofs.Points.{entered_at}
 use Rattle.image_code.proofs.PointShapes.{LeadsTo, IsNoJumpsSlot}
 use Rattle.image_code.specs.Made.{way_out}
-use Rattle.image_code.proofs.Visited.{AtWord, site, enters, l, nothing_gone, on_its_way}
+use Rattle.image_code.proofs.Visited.{AtWord, site, enters, l, nothing_gone, slotted}
 
 module _ (visit : AtWord) (instr : Instr) (says : decode_of (slice_index visit.edit.g.text.words visit.word) ≡ instr) where
   open visit use {edit, node, x, word, at, none, held, there, npc, edit.{g, is, p, f}}
@@ -51,7 +51,7 @@ module _ (visit : AtWord) (instr : Instr) (says : decode_of (slice_index visit.e
       let same : way_of (instr_at g.text (v.pc - 4)) v.slot ≡ way_of (Some instr) now =
       ap (λ (o : Option Instr). way_of o v.slot) (before v pc) ∙ ap (way_of (Some instr)) slot in
       rw (nothing_gone g node x v none not live)
-      (enters edit node (point_of v) not (on_its_way edit node (point_of v) now slot some m)
+      (enters (slotted edit node (point_of v) now slot some m)
       (λ out. caseless (ap (λ (k : EdgeKind). same_kind k kinds.Out) (sym same) ∙ out))
       (way_of (Some instr) now) same)
 

@@ -1,5 +1,5 @@
 -- The pieces that are made are images.
-use Rattle.image_code.proofs.Common.{◌≡◌, ◌≢◌, ℕ, Bool, true, false, Option, Some, None, refl, ap, sym, ◌∙◌, slice_index, word_at, Op2, Instr, decode_of, Slot, NoSlot, State, is_transfer, Blocks, blocks_of, Node, Block, Landed, X, jumps_in, has_cases, Point, IsOnItsWay, MatchesBy, block}
+use Rattle.image_code.proofs.Common.{◌≡◌, ℕ, Bool, true, false, Option, Some, None, refl, ap, sym, ◌∙◌, slice_index, word_at, Op2, Instr, decode_of, Slot, NoSlot, State, is_transfer, Blocks, blocks_of, Node, Block, Landed, X, jumps_in, has_cases, Point, MatchesBy, block}
 use Rattle.v8_decode.specs.declared.Instr.TheVariants as i
 use Rattle.image_code.specs.Simulates.{Chooses, MatchesIn, does_at, graph_in}
 use Rattle.image_code.proofs.Points.{AtVisitIn}
@@ -17,7 +17,7 @@ use Rattle.image_code.proofs.KeptLoads.{entered_so}
 use Rattle.image_code.proofs.Opened.{cased}
 use Rattle.image_code.proofs.PlainWords.{plain_is}
 use Rattle.image_code.proofs.SlotCopies.{copy_case}
-use Rattle.image_code.proofs.Visited.{AtWord, PlacedEdit, site, on_its_way, way_in, at_word}
+use Rattle.image_code.proofs.Visited.{AtWord, InSlot, PlacedEdit, site, slotted, at_word}
 
 -- ---- at a word, outside a slot
 
@@ -45,6 +45,11 @@ module _ (visit : AtWord) (t : State) (live : t.ending ≡ None)
   by_instr (i.Jmpl rd rs1 op2) says = jump_case rd rs1 op2 says node refl (has_cases g.switches node) refl
   by_instr instr says = plain (plain_is visit t (ap is_transfer says))
 
+slot_case : (in_slot : InSlot) (t : State) → AtVisitIn (site in_slot.edit) in_slot.node in_slot.x t → (o : Option ℕ)
+    → word_at in_slot.edit.g.text in_slot.x.pc ≡ o → IsCase (site in_slot.edit) in_slot.node in_slot.x t
+slot_case in_slot t here None e = off (off_is in_slot e)
+slot_case in_slot t here (Some slot) e = copy_case (record { in_slot = in_slot; slot = slot; at = e }) t here
+
 module _ (edit : PlacedEdit) where
   open edit use {g}
 
@@ -57,19 +62,13 @@ module _ (edit : PlacedEdit) where
       → AtVisitIn (site edit) node x t → Chooses g node x t (does_at g x t) → IsCase (site edit) node x t
   case node x t m open_there here chooses = by x.slot refl m.0 (word_at g.text x.pc) refl
     where
-      in_slot : x.slot ≢ NoSlot → IsOnItsWay g.text (graph_in g) node x (way_in edit x) → (o : Option ℕ)
-          → word_at g.text x.pc ≡ o → IsCase (site edit) node x t
-      in_slot not way None e = off (off_is edit node x not e way)
-      in_slot not way (Some slot) e = copy_case edit node x t here slot e not way
-
       by : (s : Slot) → x.slot ≡ s → MatchesBy g.text (graph_in g) node x s → (o : Option ℕ) → word_at g.text x.pc ≡ o
           → IsCase (site edit) node x t
       by NoSlot none m0 None e = foreign (foreign_is edit node x none e m0.0 open_there)
       by NoSlot none m0 (Some word) e =
           by_instr (at_word edit node x word e none m0.0 m.1 m0.1) t here.live chooses (decode_of (slice_index g.text.words word)) refl
       by s some m0 o e =
-          let not : x.slot ≢ NoSlot = λ n. let q : s ≡ NoSlot = sym some ∙ n in absurd (cc) in
-          in_slot not (on_its_way edit node x s some (λ q. absurd (cc)) m0) o e
+          slot_case (slotted edit node x s some (λ q. absurd (cc)) m0) t here o e
 
 pub pieces_make_images : PiecesMakeImages
 pieces_make_images g codes base p place f text graph known placed tables cases below noted =

@@ -1,6 +1,6 @@
 -- The copies of slots' words: a transfer ends the run, behind a JMPL without Case edges its target is looked up, and
 -- else the copy goes on to where the edge leads.
-use Rattle.image_code.proofs.Common.{◌≡◌, ◌≢◌, ℕ, ◌%◌, ◌^◌, ◌<◌, inl, inr, Bool, true, false, Option, Some, None, List, [], ◌∷◌, ◌++◌, drop, length, refl, ap, sym, ◌∙◌, subst, arith, ◌==◌, if◌then◌else◌, slice_get, slice_index, cases_Bool, eqb-true, false≢true, option_map, Words, address_of, word_at, Addr, decode_of, NoSlot, State, is_transfer, EdgeKind, Blocks, blocks_of, word_at-some, Node, X, Graph, has_cases, lands, Point, node_after, point_of, slot_left, same_kind, IsOnItsWay, lands_as, same_kinds, found_in, page_word, long_jump_piece, Item, slice_get_within, word_items, resume, landed, last_in}
+use Rattle.image_code.proofs.Common.{◌≡◌, ℕ, ◌%◌, ◌^◌, ◌<◌, inl, inr, Bool, true, false, Option, Some, None, List, [], ◌∷◌, ◌++◌, drop, length, refl, ap, sym, ◌∙◌, subst, arith, ◌==◌, if◌then◌else◌, slice_get, slice_index, cases_Bool, eqb-true, false≢true, option_map, Words, address_of, word_at, Addr, decode_of, NoSlot, State, is_transfer, EdgeKind, Blocks, blocks_of, word_at-some, Node, X, Graph, has_cases, lands, node_after, point_of, slot_left, same_kind, IsOnItsWay, lands_as, same_kinds, found_in, page_word, long_jump_piece, Item, slice_get_within, word_items, resume, landed, last_in}
 use Rattle.cfg_blocks.specs.declared.EdgeKind.TheVariants as kinds
 use Rattle.layout.specs.declared.items.Item.TheVariants as it
 use Rattle.cfg_walk.specs.Walk.{landing_at as edge_landing}
@@ -23,7 +23,7 @@ use Rattle.image_code.proofs.Heads.{HasCopy, by_cases, case_copy, copy_visited, 
 use Rattle.image_code.proofs.ImageNumbers.{jump_of}
 use Rattle.image_code.proofs.ImagePieces.{enter_at, stands_at}
 use Rattle.image_code.proofs.Listed.{foreign_at, landing_at}
-use Rattle.image_code.proofs.Visited.{PlacedEdit, GoesThere, goes_on_there, goes_straight, site, case_kind, edge_is, entered_word, kind_is, l, marked_at, slot_gone, target, way_in, way_now, word_is}
+use Rattle.image_code.proofs.Visited.{AtSlot, GoesThere, goes_on_there, goes_straight, site, case_kind, edge_is, entered_word, kind_is, l, marked_at, slot_gone, target, way_in, way_now, word_is}
 use Rattle.image_code.specs.Cost.{is_out}
 
 -- ---- where control goes on at a node
@@ -61,12 +61,9 @@ no_cases g is node none k table e same =
     let t = table_of g is.known k table e in
     false≢true (sym none ∙ rw (same, ← t.same) (jump_of g.text (blocks_of g.text g.given) g.switches k t.o t.is))
 
-module _ (edit : PlacedEdit)
-    (node : Node) (x : Point) (t : State) (here : AtVisitIn (site edit) node x t)
-    (slot : ℕ) (at : word_at edit.g.text x.pc ≡ Some slot) (not : x.slot ≢ NoSlot)
-    (way : IsOnItsWay edit.g.text (graph_in edit.g) node x (way_in edit x)) (piece to : ℕ)
-    (copy : HasCopy edit node x slot at way piece to) where
-  open edit use {g, codes, is, p, place, f, tables}
+module _ (at_slot : AtSlot) (t : State) (here : AtVisitIn (site at_slot.edit) at_slot.node at_slot.x t)
+    (piece to : ℕ) (copy : HasCopy at_slot piece to) where
+  open at_slot use {in_slot, edit, node, x, not, way, slot, at, edit.{g, codes, is, p, place, f, tables}}
 
   abbrev b : Blocks
   b = blocks_of g.text g.given
@@ -78,8 +75,8 @@ module _ (edit : PlacedEdit)
   word = slice_index g.text.words slot
 
   -- where the machine is after the step
-  abbrev Visit : State → ℕ
-  Visit v = entered_at (site edit) (node_after (graph_in g) node (gone_at g node x v)) (point_of v)
+  abbrev entry_after : State → ℕ
+  entry_after v = entered_at (site edit) (node_after (graph_in g) node (gone_at g node x v)) (point_of v)
 
   -- the snippet of the edge
   abbrev code : List Item
@@ -91,13 +88,13 @@ module _ (edit : PlacedEdit)
       else plain_piece address (number_in g node) word (code ++ goes_behind g.text (graph_in g) way.edge to)
 
   its_edge : IsAlong g is f.table.base f.cases.base node (way_now edit node x) way.number way.edge
-  its_edge = edge_is edit node x way
+  its_edge = edge_is in_slot
 
   made : (b : Bool) → is_transfer (decode_of word) ≡ b → slice_get (l edit).list piece ≡ Some (copy_by b)
   made b e = copy.items ∙ rw e
 
   stands : visited_at (site edit) node x ≡ slice_index p.at piece
-  stands = copy_visited edit node x slot at way piece to copy not
+  stands = copy_visited at_slot piece to copy
 
   -- ---- a word that is no transfer
 
@@ -141,7 +138,7 @@ module _ (edit : PlacedEdit)
       items = past false other
 
       goes : (v : State) → does_at g x t ≡ v → v.ending ≡ None
-          → LeadsOn (l edit) p place piece 3 (gone_at g node x v) (word_at g.text v.pc) (Visit v)
+          → LeadsOn (l edit) p place piece 3 (gone_at g node x v) (word_at g.text v.pc) (entry_after v)
       goes v e live =
           let w = went v e live in
           rw (gone_along v w.0 w.1 live, not_landed g.text (graph_in g) way.edge.kind x.npc other, way.is)
@@ -163,7 +160,7 @@ module _ (edit : PlacedEdit)
     module _ (other : same_kind (way_in edit x) kinds.Out ≡ false)
         (first : to ≡ first_word (graph_in g) way.edge.to) where
       kind : way.edge.kind ≡ way_in edit x
-      kind = kind_is edit node x way (λ out. absurd (false≢true (sym other ∙ out)))
+      kind = kind_is in_slot (λ out. absurd (false≢true (sym other ∙ out)))
 
       there : on_there ≡ goes_on g.text (graph_in g) way.edge.to (first_word (graph_in g) way.edge.to) x.npc
       there = rw (first, its_edge.leaves, kind, ← (way.goes other))
@@ -205,7 +202,7 @@ module _ (edit : PlacedEdit)
           (λ _. refl) (λ _. refl))
 
       along_case : IsCase (site edit) node x t
-      along_case = plain_case (rw (case_kind edit node x way out cased)) (inr (to, goes_there, on_case))
+      along_case = plain_case (rw (case_kind in_slot out cased)) (inr (to, goes_there, on_case))
 
     -- ---- a JMPL's slot: the table leads on
 
@@ -215,7 +212,7 @@ module _ (edit : PlacedEdit)
       caseless = no_cases g is node quiet
 
       kind_out : way.edge.kind ≡ kinds.Out
-      kind_out = kind_is edit node x way (λ _. quiet) ∙ same_kinds (way_in edit x) kinds.Out out
+      kind_out = kind_is in_slot (λ _. quiet) ∙ same_kinds (way_in edit x) kinds.Out out
 
       edge_out : same_kind way.edge.kind kinds.Out ≡ true
       edge_out = rw kind_out
@@ -237,7 +234,7 @@ module _ (edit : PlacedEdit)
           (jump_lands g.text b g.switches (cut_in g is f.table.base f.cases.base) node x
           (subst (IsOnItsWay g.text (graph_in g) node x) (same_kinds _ kinds.Out out) way))
 
-      landed_at : (v : State) → does_at g x t ≡ v → v.ending ≡ None → Lands (site edit) lands_on x.npc (Visit v)
+      landed_at : (v : State) → does_at g x t ≡ v → v.ending ≡ None → Lands (site edit) lands_on x.npc (entry_after v)
       landed_at v e live = by (word_at g.text x.npc) refl
         where
           after : Node
@@ -345,12 +342,10 @@ module _ (edit : PlacedEdit)
   case_copy_case out cased goes_there = by_word (λ straight. along_case straight out cased goes_there)
 
 -- each slot at a word
-pub copy_case : (edit : PlacedEdit) (node : Node) (x : Point) (t : State) → AtVisitIn (site edit) node x t → (slot : ℕ)
-    → word_at edit.g.text x.pc ≡ Some slot → x.slot ≢ NoSlot
-    → IsOnItsWay edit.g.text (graph_in edit.g) node x (way_in edit x) → IsCase (site edit) node x t
-copy_case edit node x t here slot at not way =
-    by_cases _ (same_kind (way_in edit x) kinds.Out) (has_cases edit.g.switches node)
-    (λ caseless. plain_copy_case edit node x t here slot at not way _ _
-    (plain_copy edit node x slot at way caseless) caseless refl)
-    (λ out cased. case_copy_case edit node x t here slot at not way _ _
-    (case_copy edit node x slot at way out cased) out cased (target edit node x way out cased).goes)
+pub copy_case : (at_slot : AtSlot) (t : State) → AtVisitIn (site at_slot.edit) at_slot.node at_slot.x t
+    → IsCase (site at_slot.edit) at_slot.node at_slot.x t
+copy_case at_slot t here =
+    by_cases _ (same_kind (way_in at_slot.edit at_slot.x) kinds.Out) (has_cases at_slot.edit.g.switches at_slot.node)
+    (λ caseless. plain_copy_case at_slot t here _ _ (plain_copy at_slot caseless) caseless refl)
+    (λ out cased. case_copy_case at_slot t here _ _ (case_copy at_slot out cased) out cased
+    (target at_slot.in_slot out cased).goes)

@@ -281,190 +281,219 @@ module _ (edit : PlacedEdit) where
   way_to_plain node kinds.Out next h = rw (h refl)
   way_to_plain node _ next h = refl
 
-  module _ (node : Node) (x : Point) (way : IsOnItsWay g.text (graph_in g) node x (way_in x)) where
-    pub edge_is : IsAlong g is f.table.base f.cases.base node (way_now node x) way.number way.edge
-    edge_is = along g is f.table.base f.cases.base node (way_now node x) way.number way.edge way.only way.is
+-- A point in the slot of a transfer, on the way of its edge.
+pub record InSlot : Type 0 where
+  pub edit : PlacedEdit
+  pub node : Node
+  pub x : Point
+  pub not : x.slot ≢ NoSlot
+  pub way : IsOnItsWay edit.g.text (graph_in edit.g) node x (way_in edit x)
 
-    carried_by : (s : Carried) → way.edge.slot ≡ s → IsCarried g.text s x.pc
-    carried_by s e = subst (λ (s : Carried). IsCarried g.text s x.pc) e way.carries
+abbrev pub slotted : (edit : PlacedEdit) (node : Node) (x : Point) (s : Slot) → x.slot ≡ s → s ≢ NoSlot
+    → MatchesBy edit.g.text (graph_in edit.g) node x s → InSlot
+slotted edit node x s e not m = record {
+  edit = edit;
+  node = node;
+  x = x;
+  not = λ n. not (sym e ∙ n);
+  way = on_its_way edit node x s e not m;
+}
 
-    -- behind the text
-    pub off : word_at g.text x.pc ≡ None → way.edge.slot ≡ carried.Off
-    off none = by way.edge.slot refl
+-- at a word of the text
+pub record AtSlot : Type 0 where
+  pub in_slot : InSlot
+  pub open in_slot use {edit, node, x, not, way}
+  pub slot : ℕ
+  pub at : word_at edit.g.text x.pc ≡ Some slot
+
+module _ (in_slot : InSlot) where
+  open in_slot use {edit, node, x, not, way, edit.{g, codes, is, p, f, tables.{whole}}}
+
+  abbrev blocks : Blocks
+  blocks = blocks_of g.text g.given
+
+  pub edge_is : IsAlong g is f.table.base f.cases.base node (way_now edit node x) way.number way.edge
+  edge_is = along g is f.table.base f.cases.base node (way_now edit node x) way.number way.edge way.only way.is
+
+  carried_by : (s : Carried) → way.edge.slot ≡ s → IsCarried g.text s x.pc
+  carried_by s e = subst (λ (s : Carried). IsCarried g.text s x.pc) e way.carries
+
+  -- behind the text
+  pub off : word_at g.text x.pc ≡ None → way.edge.slot ≡ carried.Off
+  off none = by way.edge.slot refl
+    where
+      by : (s : Carried) → way.edge.slot ≡ s → way.edge.slot ≡ carried.Off
+      by carried.Nothing e = absurd (carried_by carried.Nothing e)
+      by carried.Off e = e
+      by (carried.Word w) e =
+          let low : w.0 < length g.text.words = omega (
+            arith,
+            subst (IsSlotIn blocks) e (slot_in g is f.table.base f.cases.base way.number way.edge way.is),
+            (cut_in g is f.table.base f.cases.base).words,
+          ) in
+          let some : word_at g.text x.pc ≡ Some w.0 =
+          ap (word_at g.text) (carried_by (carried.Word w) e) ∙ word_at-address g.text w.0
+          ∙ ap (λ (t : Bool). if t then Some w.0 else None) (lt-ltb _ _ low) in
+          absurd (cc)
+
+  pub off_address : word_at g.text x.pc ≡ None → x.pc ≡ address_of g.text (length g.text.words)
+  off_address none = carried_by carried.Off (off none)
+
+  -- at a word
+  pub on : (slot : ℕ) → word_at g.text x.pc ≡ Some slot → way.edge.slot ≡ carried.Word (record { 0 = slot })
+  on slot at = by way.edge.slot refl
+    where
+      by : (s : Carried) → way.edge.slot ≡ s → way.edge.slot ≡ carried.Word (record { 0 = slot })
+      by carried.Nothing e = absurd (carried_by carried.Nothing e)
+      by carried.Off e =
+          let past : length g.text.words ≡ slot = word_at_same edit (length g.text.words) slot
+          (sym (ap (word_at g.text) (carried_by carried.Off e)) ∙ at) in
+          let low = (word_at-some g.text x.pc slot at).within in
+          absurd (omega arith)
+      by (carried.Word w) e =
+          let same : w.0 ≡ slot = word_at_same edit w.0 slot
+          (sym (ap (word_at g.text) (carried_by (carried.Word w) e)) ∙ at) in
+          e ∙ ap (λ (n : ℕ). carried.Word (record { 0 = n })) same
+
+  -- the number of the piece at which its slot stands
+  piece_along : slot_piece g (l edit) node x
+      ≡ along_number g.text (graph_in g) way.number (Some way.edge) x.npc
+  piece_along =
+      ap (λ (ns : List ℕ). along_first (l edit) ns x.npc) way.only
+      ∙ ap (λ (o : Option Edge). along_number g.text (graph_in g) way.number o x.npc) way.is
+
+  -- ---- an edge of which the node has one
+
+  module _ (caseless : same_kind (way_in edit x) kinds.Out ≡ true → has_cases g.switches node ≡ false) where
+    pub way_is : way_now edit node x ≡ by_kind (way_in edit x)
+    way_is = way_to_plain edit node (way_in edit x) x.npc caseless
+
+    pub kind_is : way.edge.kind ≡ way_in edit x
+    kind_is = edge_is.same ∙ ap (λ (w : WayOut). w.kind) way_is
+
+    own : IsTransfersWay (way_in edit x)
+    own = way_is_own (instr_at g.text (x.pc - 4)) x.slot
+
+    pub plain_piece_is : slot_piece g (l edit) node x ≡ length g.text.words + way.number
+    plain_piece_is = piece_along ∙ rw (kind_is, own.caseless)
+
+    pub plain_items : (to : Carried) → way.edge.slot ≡ to
+        → slice_get (l edit).list (length g.text.words + way.number)
+        ≡ Some (way_by g.text (graph_in g) f.table.base codes way.number way.edge
+        (first_word (graph_in g) way.edge.to) to)
+    plain_items to e =
+        items_along g is f.table.base f.cases.base codes node (way_now edit node x) way.number way.edge edge_is
+        (subst IsTransfersWay (sym (ap (λ (w : WayOut). w.kind) way_is)) own) to e
+
+  -- ---- a Case edge
+
+  module _ (out : same_kind (way_in edit x) kinds.Out ≡ true) (cased : has_cases g.switches node ≡ true) where
+    pub case_way : way_now edit node x ≡ by_case (lands (graph_in g) (word_at g.text x.npc))
+    case_way = rw (same_kinds (way_in edit x) kinds.Out out, cased)
+
+    pub case_kind : way.edge.kind ≡ kinds.Case
+    case_kind = edge_is.same ∙ ap (λ (w : WayOut). w.kind) case_way
+
+    -- the target, and the open switch
+    pub record IsTargetOf : Type 0 where
+      pub k : ℕ
+      pub o : Open
+      pub among : slice_get g.switches k ≡ Some o
+      pub itself : node ≡ block o.block
+      pub numbered : jump_number g.text (graph_in g) o.block ≡ Some k
+      pub entry : ℕ
+      pub word : ℕ
+      pub at : slice_get o.targets entry ≡ Some word
+      pub goes : word_at g.text x.npc ≡ Some word
+
+    pub target : IsTargetOf
+    target = by node refl (way.cases out cased) cased
       where
-        by : (s : Carried) → way.edge.slot ≡ s → way.edge.slot ≡ carried.Off
-        by carried.Nothing e = absurd (carried_by carried.Nothing e)
-        by carried.Off e = e
-        by (carried.Word w) e =
-            let low : w.0 < length g.text.words = omega (
-              arith,
-              subst (IsSlotIn b) e (slot_in g is f.table.base f.cases.base way.number way.edge way.is),
-              (cut_in g is f.table.base f.cases.base).words,
-            ) in
-            let some : word_at g.text x.pc ≡ Some w.0 =
-            ap (word_at g.text) (carried_by (carried.Word w) e) ∙ word_at-address g.text w.0
-            ∙ ap (λ (t : Bool). if t then Some w.0 else None) (lt-ltb _ _ low) in
-            absurd (cc)
+        by : (n : Node) → node ≡ n → IsTarget g.text g.switches n x.npc → has_cases g.switches n ≡ true → IsTargetOf
+        by (Block k) same to has =
+            let found = among_targets g.switches k.0 to.0 to.2 in
+            let one = jump_numbered g.text blocks g.switches k.0 has in
+            let equal : found.o ≡ one.1 = is.cased.one found.number one.0 found.o one.1 found.is one.3
+            (found.itself ∙ sym one.4) in
+            record {
+              k = one.0;
+              o = one.1;
+              among = one.3;
+              itself = same ∙ ap block (sym one.4);
+              numbered = one.2;
+              entry = found.entry;
+              word = to.0;
+              at = ap (λ (o : Open). slice_get o.targets found.entry) (sym equal) ∙ found.at;
+              goes = to.1;
+            }
+        by _ same to has = absurd to
 
-    pub off_address : word_at g.text x.pc ≡ None → x.pc ≡ address_of g.text (length g.text.words)
-    off_address none = carried_by carried.Off (off none)
+    pub case_piece_is : slot_piece g (l edit) node x ≡ case_piece g.text (graph_in g) target.k target.o target.word
+    case_piece_is =
+        piece_along
+        ∙ ap (λ (t : Bool). if t then along_case g.text (graph_in g) way.edge.from way.number (word_at g.text x.npc)
+        else way_piece g.text (graph_in g) way.number)
+        (ap (λ (k : EdgeKind). same_kind k kinds.Case) case_kind)
+        ∙ ap (λ (n : Node). along_case g.text (graph_in g) n way.number (word_at g.text x.npc))
+        (edge_is.leaves ∙ target.itself)
+        ∙ ap (along_case g.text (graph_in g) (block target.o.block) way.number) target.goes
+        ∙ open_is g.text blocks g.switches (case_piece g.text (graph_in g)) target.k target.o
+        (jump_number g.text (graph_in g) target.o.block) target.word target.numbered target.among
 
-    -- at a word
-    pub on : (slot : ℕ) → word_at g.text x.pc ≡ Some slot → way.edge.slot ≡ carried.Word (record { 0 = slot })
-    on slot at = by way.edge.slot refl
-      where
-        by : (s : Carried) → way.edge.slot ≡ s → way.edge.slot ≡ carried.Word (record { 0 = slot })
-        by carried.Nothing e = absurd (carried_by carried.Nothing e)
-        by carried.Off e =
-            let past : length g.text.words ≡ slot = word_at_same (length g.text.words) slot
-            (sym (ap (word_at g.text) (carried_by carried.Off e)) ∙ at) in
-            let low = (word_at-some g.text x.pc slot at).within in
-            absurd (omega arith)
-        by (carried.Word w) e =
-            let same : w.0 ≡ slot = word_at_same w.0 slot
-            (sym (ap (word_at g.text) (carried_by (carried.Word w) e)) ∙ at) in
-            e ∙ ap (λ (n : ℕ). carried.Word (record { 0 = n })) same
-
-    -- the number of the piece at which its slot stands
-    piece_along : slot_piece g l node x
-        ≡ along_number g.text (graph_in g) way.number (Some way.edge) x.npc
-    piece_along =
-        ap (λ (ns : List ℕ). along_first l ns x.npc) way.only
-        ∙ ap (λ (o : Option Edge). along_number g.text (graph_in g) way.number o x.npc) way.is
-
-    -- ---- an edge of which the node has one
-
-    module _ (caseless : same_kind (way_in x) kinds.Out ≡ true → has_cases g.switches node ≡ false) where
-      pub way_is : way_now node x ≡ by_kind (way_in x)
-      way_is = way_to_plain node (way_in x) x.npc caseless
-
-      pub kind_is : way.edge.kind ≡ way_in x
-      kind_is = edge_is.same ∙ ap (λ (w : WayOut). w.kind) way_is
-
-      own : IsTransfersWay (way_in x)
-      own = way_is_own (instr_at g.text (x.pc - 4)) x.slot
-
-      pub plain_piece_is : slot_piece g l node x ≡ length g.text.words + way.number
-      plain_piece_is = piece_along ∙ rw (kind_is, own.caseless)
-
-      pub plain_items : (to : Carried) → way.edge.slot ≡ to
-          → slice_get l.list (length g.text.words + way.number)
-          ≡ Some (way_by g.text (graph_in g) f.table.base codes way.number way.edge
-          (first_word (graph_in g) way.edge.to) to)
-      plain_items to e =
-          items_along g is f.table.base f.cases.base codes node (way_now node x) way.number way.edge edge_is
-          (subst IsTransfersWay (sym (ap (λ (w : WayOut). w.kind) way_is)) own) to e
-
-    -- ---- a Case edge
-
-    module _ (out : same_kind (way_in x) kinds.Out ≡ true) (cased : has_cases g.switches node ≡ true) where
-      pub case_way : way_now node x ≡ by_case (lands (graph_in g) (word_at g.text x.npc))
-      case_way = rw (same_kinds (way_in x) kinds.Out out, cased)
-
-      pub case_kind : way.edge.kind ≡ kinds.Case
-      case_kind = edge_is.same ∙ ap (λ (w : WayOut). w.kind) case_way
-
-      -- the target, and the open switch
-      pub record IsTargetOf : Type 0 where
-        pub k : ℕ
-        pub o : Open
-        pub among : slice_get g.switches k ≡ Some o
-        pub itself : node ≡ block o.block
-        pub numbered : jump_number g.text (graph_in g) o.block ≡ Some k
-        pub entry : ℕ
-        pub word : ℕ
-        pub at : slice_get o.targets entry ≡ Some word
-        pub goes : word_at g.text x.npc ≡ Some word
-
-      pub target : IsTargetOf
-      target = by node refl (way.cases out cased) cased
-        where
-          by : (n : Node) → node ≡ n → IsTarget g.text g.switches n x.npc → has_cases g.switches n ≡ true → IsTargetOf
-          by (Block k) same to has =
-              let found = among_targets g.switches k.0 to.0 to.2 in
-              let one = jump_numbered g.text b g.switches k.0 has in
-              let equal : found.o ≡ one.1 = is.cased.one found.number one.0 found.o one.1 found.is one.3
-              (found.itself ∙ sym one.4) in
-              record {
-                k = one.0;
-                o = one.1;
-                among = one.3;
-                itself = same ∙ ap block (sym one.4);
-                numbered = one.2;
-                entry = found.entry;
-                word = to.0;
-                at = ap (λ (o : Open). slice_get o.targets found.entry) (sym equal) ∙ found.at;
-                goes = to.1;
-              }
-          by _ same to has = absurd to
-
-      pub case_piece_is : slot_piece g l node x ≡ case_piece g.text (graph_in g) target.k target.o target.word
-      case_piece_is =
-          piece_along
-          ∙ ap (λ (t : Bool). if t then along_case g.text (graph_in g) way.edge.from way.number (word_at g.text x.npc)
-          else way_piece g.text (graph_in g) way.number)
-          (ap (λ (k : EdgeKind). same_kind k kinds.Case) case_kind)
-          ∙ ap (λ (n : Node). along_case g.text (graph_in g) n way.number (word_at g.text x.npc))
-          (edge_is.leaves ∙ target.itself)
-          ∙ ap (along_case g.text (graph_in g) (block target.o.block) way.number) target.goes
-          ∙ open_is g.text b g.switches (case_piece g.text (graph_in g)) target.k target.o
-          (jump_number g.text (graph_in g) target.o.block) target.word target.numbered target.among
-
-      pub case_items : (to : Carried) → way.edge.slot ≡ to
-          → slice_get l.list (case_piece g.text (graph_in g) target.k target.o target.word)
-          ≡ Some (way_by g.text (graph_in g) f.table.base codes way.number way.edge target.word to)
-      case_items to e =
-          items_case g is f.table.base f.cases.base codes target.k target.o target.among target.entry target.word
-          target.at way.number way.edge
-          (record {
-            only = ap (λ (n : Node). edge_along (graph_in g) n
-                (by_case (lands (graph_in g) (Some target.word)))) (sym target.itself)
-                ∙ ap (λ (o : Option ℕ). edge_along (graph_in g) node
-                (by_case (lands (graph_in g) o)))
-                (sym target.goes)
-                ∙ ap (edge_along (graph_in g) node) (sym case_way) ∙ edge_is.only;
-            found = edge_is.found;
-            leaves = edge_is.leaves ∙ target.itself;
-            same = case_kind;
-          })
-          to e
+    pub case_items : (to : Carried) → way.edge.slot ≡ to
+        → slice_get (l edit).list (case_piece g.text (graph_in g) target.k target.o target.word)
+        ≡ Some (way_by g.text (graph_in g) f.table.base codes way.number way.edge target.word to)
+    case_items to e =
+        items_case g is f.table.base f.cases.base codes target.k target.o target.among target.entry target.word
+        target.at way.number way.edge
+        (record {
+          only = ap (λ (n : Node). edge_along (graph_in g) n
+              (by_case (lands (graph_in g) (Some target.word)))) (sym target.itself)
+              ∙ ap (λ (o : Option ℕ). edge_along (graph_in g) node
+              (by_case (lands (graph_in g) o)))
+              (sym target.goes)
+              ∙ ap (edge_along (graph_in g) node) (sym case_way) ∙ edge_is.only;
+          found = edge_is.found;
+          leaves = edge_is.leaves ∙ target.itself;
+          same = case_kind;
+        })
+        to e
 
   -- ---- into a slot
 
-  pub table_far : IsTable f.table → IsJumpTarget f.table.base
-  table_far whole = (omega arith, omega arith)
+  table_far : IsJumpTarget f.table.base
+  table_far = let table : IsTable f.table = whole in (omega arith, omega arith)
 
   -- the way of the edge on which a slot is run leads to where that is visited
-  pub enters : (node : Node) (x : Point) → x.slot ≢ NoSlot → (way : IsOnItsWay g.text (graph_in g) node x (way_in x))
-      → (same_kind (way_in x) kinds.Out ≡ true → has_cases g.switches node ≡ false)
-      → (kind : EdgeKind) → way_in x ≡ kind
-      → LeadsTo l p (record { 0 = way_out g.text (graph_in g) node kind }) [] (word_at g.text x.pc)
-      (entered_at site node x)
-  enters node x slot way caseless kind same = by (word_at g.text x.pc) refl
+  pub enters : (same_kind (way_in edit x) kinds.Out ≡ true → has_cases g.switches node ≡ false)
+      → (kind : EdgeKind) → way_in edit x ≡ kind
+      → LeadsTo (l edit) p (record { 0 = way_out g.text (graph_in g) node kind }) [] (word_at g.text x.pc)
+      (entered_at (site edit) node x)
+  enters caseless kind same = by (word_at g.text x.pc) refl
     where
       number : way_out g.text (graph_in g) node kind ≡ length g.text.words + way.number
       number =
           ap (λ (k : EdgeKind). way_out g.text (graph_in g) node k) (sym same)
           ∙ ap (λ (w : WayOut). first_way g.text (graph_in g) (edge_along (graph_in g) node w))
-          (sym (way_is node x way caseless))
+          (sym (way_is caseless))
           ∙ ap (first_way g.text (graph_in g)) way.only
 
       by : (o : Option ℕ) → word_at g.text x.pc ≡ o
-          → LeadsTo l p (record { 0 = way_out g.text (graph_in g) node kind }) [] (word_at g.text x.pc)
-          (entered_at site node x)
+          → LeadsTo (l edit) p (record { 0 = way_out g.text (graph_in g) node kind }) [] (word_at g.text x.pc)
+          (entered_at (site edit) node x)
       by (Some word) e =
           inl (
             refl,
-            ap (slice_index p.at) (number ∙ sym (plain_piece_is node x way caseless))
-                ∙ sym (entered_slot node x word e slot),
+            ap (slice_index p.at) (number ∙ sym (plain_piece_is caseless))
+                ∙ sym (entered_slot edit node x word e not),
           )
       by None e =
-          subst (LeadsTo l p (record { 0 = way_out g.text (graph_in g) node kind }) [] (word_at g.text x.pc))
-          (sym (entered_off node x e slot))
+          subst (LeadsTo (l edit) p (record { 0 = way_out g.text (graph_in g) node kind }) [] (word_at g.text x.pc))
+          (sym (entered_off edit node x e not))
           (inr (inr (
             e,
-            table_far whole,
-            ap (slice_get l.list) number ∙ plain_items node x way caseless carried.Off (off node x way e),
+            table_far,
+            ap (slice_get (l edit).list) number ∙ plain_items caseless carried.Off (off e),
           )))
 
 module _ (visit : AtWord) where
