@@ -375,7 +375,7 @@ module _ (original : List ℕ) (plan : Plan) (p : Placement) where
           table = has_table original plan p place table file is (program_name ∷ args);
           cases = has_cases original plan p place table file is (program_name ∷ args);
         };
-        waits = λ taken way. absurd (cc);
+        target_in_page = λ taken way. absurd (cc);
       }
 
       same_items : (item : StateItem) → IsSameAt item s0 t0

@@ -14,7 +14,7 @@ use Rattle.cfg_walk.proofs.Slots.{LeadsIfThere}
 use Rattle.cfg_walk.proofs.Transfers.{taken_delayed, untaken_delayed}
 use Rattle.cfg_walk.proofs.Ways.{never_holds, not_always, not_never, taken_is_one, untaken_is_one}
 use Rattle.image_code.specs.Simulates.{at_point, does_at, gone_at, graph_in, number_in}
-use Rattle.image_code.proofs.PointShapes.{LeadsTo, next_entry, word_ahead, words_on, IsCase, turn, idle, IsNoJumpsSlot}
+use Rattle.image_code.proofs.PointShapes.{LeadsTo, next_entry, word_ahead, words_on, IsCase, conditional, unconditional, IsNoJumpsSlot}
 use Rattle.image_code.specs.Cases.{branch_piece, plain_piece}
 use Rattle.image_code.specs.Numbered.{enter_number, image_number}
 use Rattle.image_code.specs.Made.{first_word, goes_on, jump_to, nop_word, way_out}
@@ -238,7 +238,7 @@ module _ (visit : AtWord) (cond : ℕ) (annul : Bool) (disp : ℤ)
     one_way : (kind : EdgeKind) → slice_get (l edit).list number ≡ Some (plain_piece address (number_in g node) nop_word
         (jump_to (way_out g.text (graph_in g) node kind)))
         → Goes kind (does_at g x t) → IsCase (site edit) node x t
-    one_way kind found leads_there = idle (record {
+    one_way kind found leads_there = unconditional (record {
       none = none;
       cond = cond;
       annul = annul;
@@ -259,7 +259,7 @@ module _ (visit : AtWord) (cond : ℕ) (annul : Bool) (disp : ℤ)
     two_ways : t.ending ≡ None
         → slice_get (l edit).list number ≡ Some (branch_piece address (number_in g node) cond taken untaken)
         → IsCase (site edit) node x t
-    two_ways live found = turn (record {
+    two_ways live found = conditional (record {
       none = none;
       cond = cond;
       small = small (slice_index g.text.words word) cond annul disp says;

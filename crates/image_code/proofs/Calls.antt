@@ -73,7 +73,7 @@ module _ (visit : Visit)
         live = here.live;
         npc = refl;
         slot = refl;
-        waits = λ a b _. absurd (never a b);
+        target_in_page = λ a b _. absurd (never a b);
       }) leads
 
   pub calls_step : StepsFrom site node x t

@@ -132,7 +132,7 @@ module _ (visit : Visit) (rest : List Item) (c : IsMarkedWord visit.site visit.n
         live = alive;
         npc = onpc;
         slot = went.2;
-        waits = λ taken. let none = vwent.2 in absurd (cc);
+        target_in_page = λ taken. let none = vwent.2 in absurd (cc);
         watched = watched;
         kept = λ _.
             (words_stay (pages_of g.notes) (page_word 0) true t (decode_of c.word)

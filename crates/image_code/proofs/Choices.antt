@@ -111,7 +111,7 @@ module _ (visit : Visit)
         live = live;
         npc = small;
         slot = refl;
-        waits = λ _ _ plain. absurd (plain c.number c.open_switch c.among c.itself);
+        target_in_page = λ _ _ plain. absurd (plain c.number c.open_switch c.among c.itself);
       })
       (λ fit. bare_here site [] _ _ 8 refl fit (sym arrives) (omega (arith, target, low)))
     where

@@ -117,7 +117,7 @@ module _ (visit : Visit)
         live = here.live;
         npc = small;
         slot = refl;
-        waits = λ a b _. absurd (c.never a b);
+        target_in_page = λ a b _. absurd (c.never a b);
       })
       onward
 

@@ -69,8 +69,8 @@ module _ (visit : Visit) where
     pub alone : is_transfer_at (instr_at g.text x.pc) ≡ false → count ≡ 1
 
   -- what the page has where control comes to the slot of a JMPL without Case edges
-  abbrev pub Waits : Option ℕ → List ℕ → State → Memory → Type 0
-  Waits next edges v m =
+  abbrev pub TargetInPage : Option ℕ → List ℕ → State → Memory → Type 0
+  TargetInPage next edges v m =
       v.slot ≡ Taken → same_kind (way_of (instr_at g.text (v.pc - 4)) v.slot) kinds.Out ≡ true
       → HasNoCases g (node_after (graph_in g) node edges) → (memory_word m (page_word 1) ≡ v.npc) × (v.npc % 4 ≡ 0)
       × (word_at g.text v.pc ≢ None → (next ≢ None) × (memory_word m (page_word 7) ≡ found_in f.halves v.npc))
@@ -86,7 +86,7 @@ module _ (visit : Visit) where
     pub live : mid.ending ≡ None
     pub npc : mid.npc ≡ mid.pc + 4
     pub slot : mid.slot ≡ NoSlot
-    pub waits : Waits next edges v mid.memory
+    pub target_in_page : TargetInPage next edges v mid.memory
     pub watched : IsWatched (edit_in g) edges x v → next ≢ None
     pub kept : is_transfer_at (instr_at g.text x.pc) ≡ false → saved_address mid ≡ saved_address t
 
@@ -138,9 +138,9 @@ module _ (visit : Visit) where
             npc = refl;
             slot = refl;
             memory = images_stored site mid _ rest.count rest.path.steps rest.stores w.has;
-            waits = λ taken out caseless.
-                let z = w.waits taken out caseless in
-                (rest.waits ∙ z.0, z.1, λ there. let y = z.2 there in rest.found y.0 ∙ y.1);
+            target_in_page = λ taken out caseless.
+                let z = w.target_in_page taken out caseless in
+                (rest.target_in_page ∙ z.0, z.1, λ there. let y = z.2 there in rest.found y.0 ∙ y.1);
           };
           place = λ over. absurd (over (ap (λ (z : State). z.ending) w.same ∙ w.live));
           sparing = λ watched.
@@ -257,7 +257,7 @@ module _ (visit : Visit) where
     pub live : mid.ending ≡ None
     pub npc : mid.npc ≡ mid.pc + 4
     pub slot : mid.slot ≡ NoSlot
-    pub waits : Waits (word_at g.text v.pc) edges v mid.memory
+    pub target_in_page : TargetInPage (word_at g.text v.pc) edges v mid.memory
 
   pub moves_by : (edges : List ℕ) (v mid : State) (count : ℕ) → LastDead g edges → MovesOn edges v mid count
       → (IsFit site mid → FollowsRoute site (word_at g.text v.pc) edges mid
@@ -275,7 +275,7 @@ module _ (visit : Visit) where
         live = w.live;
         npc = w.npc;
         slot = w.slot;
-        waits = w.waits;
+        target_in_page = w.target_in_page;
         watched = λ watched. watched.inside;
         kept = moving a.word a.is_word a.transfer;
       }) (λ fit. (onward fit, moving a.word a.is_word a.transfer))

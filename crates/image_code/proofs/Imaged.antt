@@ -6,7 +6,7 @@ use Rattle.layout.specs.Laid.{Stands, BranchStands, branch_short, branch_long, s
 use Rattle.image_code.specs.Simulates.{Simulates, at_point, number_in, word_of}
 use Rattle.code_runs.specs.PointsAlike.{instr_of}
 use Rattle.image_code.proofs.Points.{Forms, AtVisitIn, Site, StepsFrom, Visit}
-use Rattle.image_code.proofs.PointShapes.{visits_it, TakesWords, IsCase, IsHead, IsImaged, plain, couple, turn, idle, call, jump, landing, choice, foreign, off, IsVisited, head, outside, beyond}
+use Rattle.image_code.proofs.PointShapes.{visits_it, TakesWords, IsCase, IsHead, IsImaged, plain, couple, conditional, unconditional, call, jump, landing, choice, foreign, off, IsVisited, head, outside, beyond}
 use Rattle.image_code.specs.Outside.{IsOffPages}
 use Rattle.image_code.proofs.Between.{at_range}
 use Rattle.image_code.proofs.Cases.{plains_step}
@@ -72,8 +72,8 @@ module _ (site : Site) where
       → StepsFrom site node x t
   by node x t here apart (plain k) = plains_step (at_visit node x t here) k (judged x t k.word k.is_word apart)
   by node x t here apart (couple k) = couples_step (at_visit node x t here) k
-  by node x t here apart (turn k) = conditional_step (at_visit node x t here) k
-  by node x t here apart (idle k) = unconditional_step (at_visit node x t here) k
+  by node x t here apart (conditional k) = conditional_step (at_visit node x t here) k
+  by node x t here apart (unconditional k) = unconditional_step (at_visit node x t here) k
   by node x t here apart (call k) = calls_step (at_visit node x t here) k
   by node x t here apart (jump k) = jumps_step (at_visit node x t here) k
   by node x t here apart (landing k) = jump_slots_step (at_visit node x t here) k (judged x t k.word k.is_word apart)

@@ -128,7 +128,7 @@ module _ (visit : Visit)
         live = live;
         npc = refl;
         slot = refl;
-        waits = λ _ _ _. (on.waits, aligned live, λ there. (there, on.found));
+        target_in_page = λ _ _ _. (on.waits, aligned live, λ there. (there, on.found));
       }) leads
 
   ends : (d : Ending) → after_jump.ending ≡ Some d → ReachesNext site (gone_at g node x after_jump) node x t after_jump

@@ -253,7 +253,7 @@ module _ (site : Site) (are : AreCaseTables site.g) where
             memory = images_stored site s.after
                 (after) 3
                 keeps.path.steps stored.0 here.memory;
-            waits = λ taken _. let none = at.outside in absurd (cc);
+            target_in_page = λ taken _. let none = at.outside in absurd (cc);
           };
           place = λ over. absurd (over live);
           sparing = λ watched.

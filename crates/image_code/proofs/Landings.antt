@@ -45,7 +45,7 @@ module _ (site : Site) where
             hops.path;
         silent = hops.silent;
         stores = own_stored site a.memory left hops.stores;
-        waits = other_word_stored a.memory (page_word 1) (page_word word) v
+        target_in_page = other_word_stored a.memory (page_word 1) (page_word word) v
             (page_there site a fit 1 (omega arith)) (inl (omega (arith, above)));
         found = λ there. absurd (there refl);
         cells = λ _. cells_above site IsPageWord page_above a.memory left fit.has.ours hops.stores;
@@ -84,7 +84,7 @@ module _ (site : Site) where
 
   pub leaves : (k : ℕ) → slice_get l.list k ≡ Some foreign_piece → (a : State) → IsFit site a
       → a.pc ≡ place k 0 → (target : ℕ) → waiting a ≡ target → target % 4 ≡ 0 → FollowsRoute site None [] a target 4
-  leaves k is a fit at target waits aligned =
+  leaves k is a fit at target target_in_page aligned =
       let r = rest_whole l k foreign_piece (tt, (tt, (tt, (tt, tt)))) is in
       let there = stood site a.memory fit.has.code k 0 (words_of foreign) [] r in
       let low = stood_low site k 0 (words_of foreign) [] r in
@@ -96,9 +96,9 @@ module _ (site : Site) where
             (words_mean (code_of a.memory) (place k 0) foreign
             (refl, refl, (refl, refl, (refl, refl, (refl, refl, tt)))) there.words);
         page = λ n few. page_there site a fit n (omega (arith, few));
-        aligned = ap (λ z. z % 4) waits ∙ aligned;
+        aligned = ap (λ z. z % 4) target_in_page ∙ aligned;
       } in
-      subst (λ z. FollowsRoute site None [] a z 4) waits
+      subst (λ z. FollowsRoute site None [] a z 4) target_in_page
       (hops_out k 0 4 (waiting a) (words_of foreign) a fit there refl (omega arith) at 2 (register_of a 1) (omega arith)
       (foreign_leaves a about))
 
@@ -114,7 +114,7 @@ module _ (visit : Visit) (c : IsJumpsSlot visit.site visit.node visit.x visit.t)
       let own = placed.frame.page 1 (omega arith) in
       (words_stay (pages_of g.notes) (page_word 1) true t (decode_of c.word)
       (placed.frame.own.within (page_word 1) own) apart (here.memory.ours.words (page_word 1) own)).1
-      ∙ (here.waits c.slot c.out c.caseless).0
+      ∙ (here.target_in_page c.slot c.out c.caseless).0
 
   -- so does what was found
   found_waits : found_there (act t (decode_of c.word)) ≡ found_in f.halves x.npc
@@ -122,7 +122,7 @@ module _ (visit : Visit) (c : IsJumpsSlot visit.site visit.node visit.x visit.t)
       let own = placed.frame.page 7 (omega arith) in
       (words_stay (pages_of g.notes) (page_word 7) true t (decode_of c.word)
       (placed.frame.own.within (page_word 7) own) apart (here.memory.ours.words (page_word 7) own)).1
-      ∙ (here.waits c.slot c.out c.caseless).2 (there (word_at g.text x.pc) c.is_word)
+      ∙ (here.target_in_page c.slot c.out c.caseless).2 (there (word_at g.text x.pc) c.is_word)
     where
       there : (o : Option ℕ) → option_map (λ word. slice_index g.text.words word) o ≡ Some c.word → o ≢ None
       there o e none = cc (rw none at e)
@@ -158,7 +158,7 @@ module _ (visit : Visit) (c : IsJumpsSlot visit.site visit.node visit.x visit.t)
       let two = goes_found site c.piece n r2 b fit2 refl there (way.found (λ e. cc) ∙ found_waits)
       aligned in
       let fit3 = arrived site [] b there 3 fit2 low_there two in
-      let three = behind (hopped two.other there two.memory) fit3 refl (two.waits ∙ way.waits ∙ target_waits) in
+      let three = behind (hopped two.other there two.memory) fit3 refl (two.target_in_page ∙ way.target_in_page ∙ target_waits) in
       let both = on_then site c.landing [] c.landing refl b there to 3 4 two three in
       weaker_route site (c.edge ∷ c.landing) a to (0 + (3 + 4)) 8 (omega arith)
       (on_then site (c.edge ∷ c.landing) (c.edge ∷ []) c.landing refl a mid to 0 (3 + 4) one both)
@@ -170,7 +170,7 @@ module _ (visit : Visit) (c : IsJumpsSlot visit.site visit.node visit.x visit.t)
   lands to fit at (inl (piece, within, found, leads)) out =
       let place_there = placed.laid.aligned piece.0 in
       let multiple : found_in f.halves x.npc % 4 ≡ 0 = ap (λ z. z % 4) found ∙ place_there.0 in
-      onward to fit at multiple (omega (arith, found, place_there.1)) (λ b fit2 there waits. by b fit2 (there ∙ found) leads)
+      onward to fit at multiple (omega (arith, found, place_there.1)) (λ b fit2 there target_in_page. by b fit2 (there ∙ found) leads)
     where
       by : (b : State) → IsFit site b → b.pc ≡ slice_index p.at piece.0
           → LeadsTo l p piece c.landing (word_at g.text x.npc) to
@@ -185,11 +185,11 @@ module _ (visit : Visit) (c : IsJumpsSlot visit.site visit.node visit.x visit.t)
   lands to fit at (inr (no_landing, (piece, within, found, is, none))) out =
       let place_there = placed.laid.aligned piece.0 in
       let multiple : found_in f.halves x.npc % 4 ≡ 0 = ap (λ z. z % 4) found ∙ place_there.0 in
-      onward to fit at multiple (omega (arith, found, place_there.1)) (λ b fit2 there waits.
+      onward to fit at multiple (omega (arith, found, place_there.1)) (λ b fit2 there target_in_page.
       subst (λ z. FollowsRoute site None z b to 4) (sym no_landing)
       (subst (λ z. FollowsRoute site None [] b z 4) (sym (out none))
-      (leaves site piece.0 is b fit2 (there ∙ found ∙ placed.laid.starts piece.0 within) x.npc waits
-      (here.waits c.slot c.out c.caseless).1)))
+      (leaves site piece.0 is b fit2 (there ∙ found ∙ placed.laid.starts piece.0 within) x.npc target_in_page
+      (here.target_in_page c.slot c.out c.caseless).1)))
 
   -- along the edge of a jump it isn't told what is stored
   unwatched_out : (does_at g x t).ending ≡ None → NoneIsOut (graph_in g) (gone_at g node x (does_at g x t)) → ⊥

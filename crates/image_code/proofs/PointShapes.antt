@@ -289,8 +289,8 @@ pub record IsHead (site : Site) (node : Node) (x : Point) : Type 0 where
 pub data IsCase (site : Site) (node : Node) (x : Point) (t : State) : Type 0 where
   plain : IsPlain site node x t → IsCase site node x t
   couple : IsCouple site node x → IsCase site node x t
-  turn : IsConditionalBranch site node x t → IsCase site node x t
-  idle : IsUnconditionalBranch site node x t → IsCase site node x t
+  conditional : IsConditionalBranch site node x t → IsCase site node x t
+  unconditional : IsUnconditionalBranch site node x t → IsCase site node x t
   call : IsCall site node x t → IsCase site node x t
   jump : IsJump site node x t → IsCase site node x t
   landing : IsJumpsSlot site node x t → IsCase site node x t

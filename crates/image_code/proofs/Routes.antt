@@ -121,7 +121,7 @@ module _ (site : Site) where
     pub path : Leads IsInNoPlace a (hopped other to memory) count
     pub silent : IsSilent a count
     pub stores : Stores (IsAmongWords f.own) a.memory memory
-    pub waits : memory_word memory (page_word 1) ≡ memory_word a.memory (page_word 1)
+    pub target_in_page : memory_word memory (page_word 1) ≡ memory_word a.memory (page_word 1)
     pub found : next ≢ None → memory_word memory (page_word 7) ≡ memory_word a.memory (page_word 7)
     pub cells : LastDead g edges → words_at g.notes.base g.notes.cells memory ≡ updates g.snips edges (cells_in g.notes a) a
     pub begins : 0 < count → IsInNoPlace a
@@ -194,7 +194,7 @@ module _ (site : Site) where
         path = path;
         silent = silent;
         stores = kept.0;
-        waits = kept.1.0;
+        target_in_page = kept.1.0;
         found = λ _. word_kept IsFirstWord (page_word 7) (λ z e. inr (omega (arith, e))) a.memory m stores
             (page_there a fit 7 (omega arith));
         cells = λ _. kept.1.1 ∙ sym (no_updates g.snips edges (cells_in g.notes a) a none);
@@ -261,7 +261,7 @@ module _ (site : Site) where
         silent = silent_then a b one.count other.count one.path.steps one.silent other.silent;
         stores = stores_then (IsAmongWords f.own) (IsAmongWords f.own) a.memory one.memory other.memory
             (λ z e. e) one.stores other.stores;
-        waits = other.waits ∙ one.waits;
+        target_in_page = other.target_in_page ∙ one.target_in_page;
         found = λ there. other.found there ∙ one.found there;
         cells = λ d.
             other.cells (last_others g first others d) ∙ read_alike (last_parted g first others d)
@@ -379,7 +379,7 @@ module _ (site : Site) where
             (λ u q. there.bare u (omega (arith, at, q.past)) (omega (arith, at, q.before))) past.path);
         silent = past.silent;
         stores = stores_weaker _ _ _ _ (may_own site edge) past.stores;
-        waits = word_kept _ _ (may_beside site edge) _ _ past.stores (page_there a fit 1 (omega arith));
+        target_in_page = word_kept _ _ (may_beside site edge) _ _ past.stores (page_there a fit 1 (omega arith));
         found = λ _. word_kept _ _ (may_below site edge) _ _ past.stores (page_there a fit 7 (omega arith));
         cells = λ _. past.cells g.notes.cells (placed.cells.named edge) placed.cells.low;
         begins = λ some. there.bare a (omega (arith, at)) (omega (arith, at, some, few));
@@ -510,7 +510,7 @@ module _ (site : Site) where
         path = one.path;
         silent = one.silent;
         stores = one.stores;
-        waits = one.waits;
+        target_in_page = one.target_in_page;
         found = λ there. one.found (asked there);
         cells = one.cells;
         begins = one.begins;

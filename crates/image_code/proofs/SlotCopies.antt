@@ -217,9 +217,9 @@ module _ (at_slot : AtSlot) (t : State) (here : AtVisitIn (site at_slot.edit) at
       edge_out : same_kind way.edge.kind kinds.Out ≡ true
       edge_out = rw kind_out
 
-      waits : (x.npc < 2 ^ 32) × (x.npc % 4 ≡ 0)
-      waits =
-          let w = here.waits (way.jumps out) out caseless in
+      target_in_page : (x.npc < 2 ^ 32) × (x.npc % 4 ≡ 0)
+      target_in_page =
+          let w = here.target_in_page (way.jumps out) out caseless in
           (rw w.0 at (memory_word-range t.memory (page_word 1) here.valid.memory), w.1)
 
       -- the landing at the node to which the jump leads
@@ -253,7 +253,7 @@ module _ (at_slot : AtSlot) (t : State) (here : AtVisitIn (site at_slot.edit) at
                 (
                   record { 0 = foreign_number g.text (graph_in g) },
                   slice_get_within (l edit).list _ _ there,
-                  tables.others x.npc waits.0 waits.1 none,
+                  tables.others x.npc target_in_page.0 target_in_page.1 none,
                   there,
                   none,
                 ),
@@ -296,7 +296,7 @@ module _ (at_slot : AtSlot) (t : State) (here : AtVisitIn (site at_slot.edit) at
               led : (b : Bool) → (operations_on g.snips (landing_of (graph_in g) (Some to)) == 0) ≡ b
                   → found_in f.halves x.npc ≡ slice_index p.at
                   (if b then entry else landing_number g.text (graph_in g) to)
-              led b e = tables.words x.npc to waits.0 waits.1 some ∙ rw e
+              led b e = tables.words x.npc to target_in_page.0 target_in_page.1 some ∙ rw e
 
               visit : slice_index p.at entry ≡ entered_at (site edit) after (point_of v)
               visit = rw (entered_word edit after (point_of v) to (rw w.0 some) w.1, lands_to v e live, some)

@@ -67,7 +67,7 @@ module _ (visit : Visit)
         live = here.live;
         npc = on;
         slot = refl;
-        waits = λ a b _. absurd (c.never a b);
+        target_in_page = λ a b _. absurd (c.never a b);
       })
       (λ fit.
       jump_then site c.piece 3 c.way

@@ -103,7 +103,7 @@ pub record AtPointBy (image : Node → ℕ → ℕ) (g : EditSetup) (l : Pieces)
   pub memory : HasImages g base p f t.memory
   -- in the slot of a JMPL without Case edges, its target, a multiple of 4, waits in word 1 of the page, and what the
   -- table has for it in word 7
-  pub waits : x.slot ≡ Taken → same_kind (way_of (instr_at g.text (x.pc - 4)) x.slot) kinds.Out ≡ true
+  pub target_in_page : x.slot ≡ Taken → same_kind (way_of (instr_at g.text (x.pc - 4)) x.slot) kinds.Out ≡ true
       → HasNoCases g node → (memory_word t.memory (page_word 1) ≡ x.npc) × (x.npc % 4 ≡ 0)
       × (word_at g.text x.pc ≢ None → memory_word t.memory (page_word 7) ≡ found_in f.halves x.npc)
 

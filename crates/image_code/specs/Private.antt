@@ -36,7 +36,7 @@ exit_items (exits.Piece piece) = it.Jump piece ∷ []
 exit_items (exits.Far to) = long_jump_piece to.0
 exit_items exits.Found = word_items (resume 1)
 exit_items exits.Foreign = foreign_piece
-exit_items (exits.Load code) = map it.Word code
+exit_items (exits.Saved code) = map it.Word code
 
 -- what stands in the Mark of a visit at an address
 abbrev pub head_items : Addr → Head → List Item
@@ -44,7 +44,7 @@ head_items address (heads.Word word) = it.Word word ∷ []
 head_items address (heads.Pair words) = map it.Word words
 head_items address (heads.Branch cond to) = it.Branch cond to ∷ []
 head_items address (heads.LookUp code rd) = map it.Word code ++ word_items (link rd address.0)
-head_items address (heads.Choice rd code) = word_items (link rd address.0) ++ map it.Word code
+head_items address (heads.SwitchJump rd code) = word_items (link rd address.0) ++ map it.Word code
 
 -- a Mark, with what stands in it, before the rest of a piece
 abbrev pub mark_items : Option (Visit × Head) → List Item → List Item

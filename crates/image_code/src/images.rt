@@ -190,7 +190,7 @@ impl<'a> PieceMaker<'a> {
                 let first = self.entry(number);
                 let distance = distance(self.cases, first, found.switch().table);
                 let code = choose_code(distance);
-                Ok(marked(visit, Head::Choice { rd, code }, &[], Exit::Behind))
+                Ok(marked(visit, Head::SwitchJump { rd, code }, &[], Exit::Behind))
             }
             None => Ok(way_to(&[], Exit::Behind)),
         }

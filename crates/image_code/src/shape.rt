@@ -40,7 +40,7 @@ pub enum Head {
     /// What looks up the target of a JMPL, and then its link.
     LookUp { code: [u32; 12], rd: Reg },
     /// The link of an open switch's JMPL, and then what goes on by the address that was kept.
-    Choice { rd: Reg, code: [u32; 9] },
+    SwitchJump { rd: Reg, code: [u32; 9] },
 }
 
 /// Where control goes on.
@@ -56,7 +56,7 @@ pub enum Exit {
     /// Outside the text, at the address that a JMPL computed.
     Foreign,
     /// At the piece that comes next, the image of a load: these words keep its address.
-    Load([u32; 3]),
+    Saved([u32; 3]),
 }
 
 /// A piece: the Mark with which it begins, if it has one, the code of a snippet, and where control goes on.
@@ -111,7 +111,7 @@ fn push_head(items: &mut Vec<Item>, address: Addr, head: Head) -> Result<(), NoM
             push_words(items, &code)?;
             push_link(items, rd, address)?;
         }
-        Head::Choice { rd, code } => {
+        Head::SwitchJump { rd, code } => {
             push_link(items, rd, address)?;
             push_words(items, &code)?;
         }
@@ -142,7 +142,7 @@ fn push_exit(items: &mut Vec<Item>, exit: Exit) -> Result<(), NoMemory>
         Exit::Far(to) => push_words(items, &long_jump_code(to))?,
         Exit::Found => push_words(items, &resume_code(register(1)))?,
         Exit::Foreign => push_words(items, &foreign_code())?,
-        Exit::Load(code) => push_words(items, &code)?,
+        Exit::Saved(code) => push_words(items, &code)?,
     }
     Ok(())
 }
@@ -166,7 +166,7 @@ fn exit_room(exit: Exit) -> usize
     match exit {
         Exit::Behind => 0,
         Exit::Piece(_) => 1,
-        Exit::Found | Exit::Load(_) => 3,
+        Exit::Found | Exit::Saved(_) => 3,
         Exit::Far(_) | Exit::Foreign => 4,
     }
 }
@@ -209,11 +209,11 @@ pub fn way_to(code: &[u32], exit: Exit) -> Shape<'_>
 }
 
 /// The words before the load of an open switch, which keep the load's address in the editor's page.
-pub fn keep<'a>(word: u32) -> Shape<'a>
+pub fn save_address<'a>(word: u32) -> Shape<'a>
     ensures { result ≡ save_by (decode_of word) }
 {
     match decode(word) {
-        Instr::Load { rs1, op2, .. } => way_to(&[], Exit::Load(save_load_address_code(rs1, op2))),
+        Instr::Load { rs1, op2, .. } => way_to(&[], Exit::Saved(save_load_address_code(rs1, op2))),
         _ => way_to(&[], Exit::Behind),
     }
 }

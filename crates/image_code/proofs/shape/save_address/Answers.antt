@@ -1,6 +1,6 @@
 use Rattle.std.proofs.Common.{sym, ◌∙◌}
 use Rattle.image_code.proofs.Operands.{load_fits}
-use Rattle.image_code.proofs.shape.keep.Goals as goal
+use Rattle.image_code.proofs.shape.save_address.Goals as goal
 
 pub save_load_address_code-requires : goal.save_load_address_code-requires
 save_load_address_code-requires c = record {
