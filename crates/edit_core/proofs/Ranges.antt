@@ -17,7 +17,7 @@ use Rattle.layout.specs.declared.items.Item.TheVariants as it
 use Rattle.layout.specs.Laid.{Ascend, IsLaid, IsRangeOf, Placement, Stands, BranchStands, branch_short, branch_long, item_at, item_in, items_in, range_in, range_of, open_in, end_from, is_end}
 use Rattle.jump_code.specs.Pieces.{foreign_piece}
 use Rattle.image_code.proofs.PointShapes.{TakesWords}
-use Rattle.image_code.specs.Made.{cases_from, images_in_order, landing, open_pieces, piece_list, ways_from}
+use Rattle.image_code.specs.Made.{all_cases, all_ways, images_in_order, landing, open_pieces, piece_list}
 use Rattle.image_code.specs.Numbered.{edges_but_landings}
 use Rattle.image_code.specs.Graphs.{IsGraphOf}
 use Rattle.image_code.proofs.OpenNumbers.{each_index}
@@ -158,10 +158,10 @@ module _ (text : Words) (graph : Graph) (table cases : ℕ) (codes : ℕ → Lis
   last_piece : (k : ℕ) × (word : ℕ) × (item_at pieces k 0 ≡ Some (it.Word word))
   unfolding piece_list
   last_piece =
-      let xs = images_in_order text graph table cases codes ++ ways_from text graph table codes 0 (edges_but_landings graph)
+      let xs = images_in_order text graph table cases codes ++ all_ways text graph table codes
       ++ map (landing text graph codes) (below (length text.words))
       ++ flat_map (open_pieces text graph table cases codes) graph.opens
-      ++ flat_map (λ (o : Open). cases_from text graph table codes o 0 o.targets) graph.opens in
+      ++ flat_map (all_cases text graph table codes) graph.opens in
       (length xs, _, ap (λ o. item_in o 0) (last_is xs foreign_piece))
 
   pub some_code : 0 < length p.code

@@ -2,9 +2,11 @@
 use Rattle.image_code.proofs.Common.{◌≡◌, ℕ, suc, ◌+◌, ◌<◌, ◌==◌, List, [], ◌∷◌, ◌++◌, Option, length, length-take, map, take, ap, sym, ◌∙◌, arith, append_assoc, slice_index_or, position, option_or, append-nil, length-map, map-append, take_more, Words, PieceNo, Open, Graph, Item}
 use Rattle.eel_base.specs.declared.numbers.WordNo.{WordNo}
 use Rattle.image_code.specs.Lookups.{number_where}
-use Rattle.image_code.specs.Made.{case_at, cases_from}
+use Rattle.std.specs.List.{enumerate_from}
+use Rattle.image_code.specs.Made.{case_at}
 use Rattle.image_code.specs.Numbered.{case_piece, cases_of, first_entry, open_begin, or_zero, place_in}
 use Rattle.image_code.proofs.FirstPlaces.{position_more}
+use Rattle.image_code.proofs.Pushed.{pushed_numbered}
 
 abbrev word_of : WordNo → ℕ
 word_of w = w.0
@@ -49,31 +51,19 @@ entry_number text graph k o items word place first number found are is at made b
     omega (arith, where_it, made, begins)
 
 module _ (text : Words) (graph : Graph) where
-  cases_more : (table : ℕ) (codes : ℕ → List ℕ) (o : Open) (entry : ℕ) (words : List ℕ) (word : ℕ)
-      → cases_from text graph table codes o entry (words ++ word ∷ [])
-      ≡ cases_from text graph table codes o entry words
-      ++ case_at text graph table codes o (entry + length words) word ∷ []
-  cases_more table codes o entry [] word =
-      let here : entry ≡ entry + 0 = omega arith in
-      ap (λ (n : ℕ). case_at text graph table codes o n word ∷ []) here
-  cases_more table codes o entry (first ∷ words) word =
-      let next : suc entry + length words ≡ entry + suc (length words) = omega arith in
-      ap (λ (pieces : List (List Item)). case_at text graph table codes o entry first ∷ pieces)
-      (cases_more table codes o (suc entry) words word
-      ∙ ap (λ (n : ℕ). cases_from text graph table codes o (suc entry) words
-      ++ case_at text graph table codes o n word ∷ []) next)
+  -- the pieces of entries that lead to these words
+  abbrev pub cases_of_words : ℕ → (ℕ → List ℕ) → Open → List ℕ → List (List Item)
+  cases_of_words table codes o words =
+      map (λ (p : ℕ × ℕ). case_at text graph table codes o p.0 p.1) (enumerate_from 0 words)
 
   pub case_pushed : (table : ℕ) (codes : ℕ → List ℕ) (o : Open) (targets : List WordNo) (n : ℕ) (d : WordNo)
       (before list new : List (List Item)) (piece : List Item) → n < length targets → new ≡ list ++ piece ∷ []
       → piece ≡ case_at text graph table codes o n (slice_index_or targets n d).0
-      → list ≡ before ++ cases_from text graph table codes o 0 (map word_of (take n targets))
-      → new ≡ before ++ cases_from text graph table codes o 0 (map word_of (take (n + 1) targets))
+      → list ≡ before ++ cases_of_words table codes o (map word_of (take n targets))
+      → new ≡ before ++ cases_of_words table codes o (map word_of (take (n + 1) targets))
   case_pushed table codes o targets n d before list new piece l pushed made held =
-      let words = map word_of (take n targets) in
-      let word = (slice_index_or targets n d).0 in
-      let many : 0 + length words ≡ n = omega (arith, words_many targets n l) in
-      rw (pushed, made, held, words_more targets n d l, cases_more table codes o 0 words word, many)
-      (append_assoc before (cases_from text graph table codes o 0 words) (case_at text graph table codes o n word ∷ []))
+      pushed_numbered (case_at text graph table codes o) n (map word_of (take n targets)) _ _ before list new piece
+      (words_more targets n d l) (words_many targets n l) pushed made held
 
   -- the number of an entry
   pub number_pushed : (k : ℕ) (o : Open) (targets : List WordNo) (n : ℕ) (d : WordNo) (before list new : List PieceNo)

@@ -3,6 +3,7 @@ use Rattle.image_code.proofs.Common.{◌≡◌, sym, ◌∙◌, ℕ, zero, suc, 
 use Rattle.v8_decode.specs.declared.Instr.TheVariants as i
 use Rattle.cfg_blocks.specs.declared.EdgeKind.TheVariants as kinds
 use Rattle.layout.specs.declared.items.Item.TheVariants as it
+use Rattle.std.specs.List.{enumerate_from}
 use Rattle.std.proofs.lemmas.Bool.{or_left, or_right}
 use Rattle.std.proofs.lemmas.List.Sums.{sum_by-le}
 use Rattle.cfg_normal.specs.declared.Slot.{Slot}
@@ -11,7 +12,7 @@ use Rattle.layout.specs.Emitting.{words_of as encoded}
 use Rattle.layout.specs.Laid.{IsMarked}
 use Rattle.image_code.specs.Loads.{load_of}
 use Rattle.image_code.specs.Numbered.{enter_number, first_entry, foreign_number, node_in_order, edges_but_landings, pieces_of, place_in}
-use Rattle.image_code.specs.Made.{case_at, case_by, cases_from, choice_of, couple_word, distance_of, first_way, first_word, goes_on, image, image_by, images_in_order, images_of, is_slots, jump_by, jump_image_by, jump_to, jumps_at, save_by, landing, next_at, nop_word, open_pieces, piece_list, way_along, way_by, way_out, ways_from}
+use Rattle.image_code.specs.Made.{all_cases, case_at, case_by, choice_of, couple_word, distance_of, first_way, first_word, goes_on, image, image_by, images_in_order, images_of, is_slots, jump_by, jump_image_by, jump_to, jumps_at, save_by, landing, next_at, nop_word, open_pieces, piece_list, way_along, way_by, way_out}
 use Rattle.image_code.specs.Graphs.{IsGraphOf, opens_in}
 use Rattle.image_code.specs.Fit.{AreFit, AreShort, PiecesFit, PlacesSay, marks_in}
 use Rattle.image_code.proofs.Listed.{count_is}
@@ -342,13 +343,14 @@ module _ (text : Words) (graph : Graph) (table cases : ℕ) (codes : ℕ → Lis
 
   have_ways : (number : ℕ) (edges : List Edge) → Each (IsEdgeIn graph.blocks graph.opens) edges
       → Have (8 * length edges + ways_code codes number edges) (length edges)
-      (ways_from text graph table codes number edges)
+      (map (λ (p : ℕ × Edge). way_along text graph table codes p.0 p.1) (enumerate_from number edges))
   have_ways number [] inside = none
   have_ways number (edge ∷ edges) inside =
       within (omega arith) (omega arith) (joined (one_piece (omega arith)
       (λ f. cond_both (is_fall edge.kind) 0 _ (λ (n : ℕ). n ≤ 176) (λ _. omega arith)
       (λ _. cond_both (same_kind edge.kind kinds.Case) 0 _ (λ (n : ℕ). n ≤ 176) (λ _. omega arith) (λ _. f number)))
-      (way_made number edge inside.0)) (have_ways (suc number) edges inside.1))
+      (way_made number edge inside.0))
+      (have_ways (number + 1) edges inside.1))
 
   have_landings : Have (length (below (length text.words)) * 4
       + sum_by (landing_code graph codes) (below (length text.words))) (length (below (length text.words)) * 0)
@@ -361,17 +363,17 @@ module _ (text : Words) (graph : Graph) (table cases : ℕ) (codes : ℕ → Lis
 
   have_cases : (o : Open) (entry : ℕ) (words : List ℕ) → Each (λ word. word < length text.words) words
       → Have (8 * length words + sum_by (λ word. case_code graph codes (o, word)) words) (length words)
-      (cases_from text graph table codes o entry words)
+      (map (λ (p : ℕ × ℕ). case_at text graph table codes o p.0 p.1) (enumerate_from entry words))
   have_cases o entry [] low = none
   have_cases o entry (word ∷ words) low =
       within (omega (arith, sum_by-cons (λ (w : ℕ). case_code graph codes (o, w)) word words)) (omega arith)
       (joined (one_piece (omega arith) (λ f. optional_few f _) (case_made o entry word low.0))
-      (have_cases o (suc entry) words low.1))
+      (have_cases o (entry + 1) words low.1))
 
   have_chosen : (opens : List Open) → Each (λ (o : Open). Each (λ word. word < length text.words) o.targets) opens
       → Have (8 * sum_by (λ (o : Open). length o.targets) opens + sum_by (case_code graph codes) (entries_in opens))
       (sum_by (λ (o : Open). length o.targets) opens)
-      (flat_map (λ (o : Open). cases_from text graph table codes o 0 o.targets) opens)
+      (flat_map (all_cases text graph table codes) opens)
   have_chosen [] low = none
   have_chosen (o ∷ opens) low =
       within

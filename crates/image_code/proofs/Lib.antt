@@ -49,7 +49,6 @@ pub mod Codes
 pub mod Fit
 pub mod Landings
 pub mod Operands
-pub mod Along
 pub mod FirstPlaces
 pub mod EdgeTables
 pub mod Pushed

@@ -1,36 +1,16 @@
 -- Which piece has which number.
-use Rattle.image_code.proofs.Common.{◌≡◌, ℕ, zero, suc, ◌+◌, ◌-◌, ◌<◌, ◌≤◌, false, Some, List, [], ◌∷◌, ◌++◌, length, map, take, length-append, length-take, zero-add, refl, ap, ◌∙◌, arith, inl, inr, ◌==◌, if◌then◌else◌, nat_lt, slice_get, slice_index, flat_map, sum_by, cases_lt, eqb-true, eq-eqb, le-ltb, lt-ltb, ne_eqb, nat_tests, length-map, length-map-range_with_len, slice_get-map, slice_get-get_or, Words, Blocks, below, last_word, size_of, get_or-below, length-below, Edge, Node, Open, Graph, edges_in, graph_of, same_kind, block, copy, foreign_piece, Item, take-length, block_end}
+use Rattle.image_code.proofs.Common.{◌≡◌, ℕ, suc, ◌+◌, ◌-◌, ◌<◌, ◌≤◌, false, Some, List, [], ◌∷◌, ◌++◌, length, map, take, length-append, length-take, refl, ap, ◌∙◌, arith, inl, inr, ◌==◌, if◌then◌else◌, nat_lt, slice_get, slice_index, flat_map, sum_by, cases_lt, eqb-true, eq-eqb, le-ltb, lt-ltb, ne_eqb, nat_tests, length-map, length-map-range_with_len, slice_get-map, slice_get-get_or, Words, Blocks, below, last_word, size_of, get_or-below, length-below, Edge, Node, Open, Graph, edges_in, graph_of, same_kind, block, copy, foreign_piece, Item, take-length, block_end}
 use Rattle.cfg_blocks.specs.declared.EdgeKind.TheVariants as kinds
 use Rattle.cfg_blocks.specs.Values.{instr_at}
 use Rattle.image_code.specs.Loads.{load_of}
-use Rattle.image_code.specs.Made.{case_at, cases_from, image, images_of, jumps_at, save_by, landing, open_pieces, piece_list, way_along, ways_from}
+use Rattle.image_code.specs.Made.{all_cases, all_ways, case_at, image, images_of, jumps_at, save_by, landing, open_pieces, piece_list, way_along}
 use Rattle.image_code.specs.Numbered.{case_begin, compare_image, entries_of, first_entry, foreign_number, jump_begin, jump_enter, jump_image, landing_count, landing_number, node_in_order, open_begin, edges_but_landings, pieces_of, place_in}
 use Rattle.image_code.proofs.OpenBlocks.{own_before}
 use Rattle.image_code.proofs.Opened.{AreCased, load_is}
-use Rattle.image_code.proofs.Positions.{Sized, flat_count, flat_get, get_behind, get_first, get_taken, placed, any_at, range_get}
+use Rattle.image_code.proofs.Positions.{Sized, numbered_count, numbered_get, flat_count, flat_get, get_behind, get_first, get_taken, placed, any_at, range_get}
 
 pub get_below : (n k : ℕ) → k < n → slice_get (below n) k ≡ Some k
 get_below n k l = slice_get-get_or (below n) k 0 (omega (arith, length-below n)) ∙ rw (get_or-below n k 0 l)
-
--- what is made of the items of a list one by one, by their numbers: the ways along edges, the pieces of entries
-module _ {A B : Type 0} (f : ℕ → A → B) (made : ℕ → List A → List B) (none : (n : ℕ) → made n [] ≡ [])
-    (more : (n : ℕ) (x : A) (xs : List A) → made n (x ∷ xs) ≡ f n x ∷ made (suc n) xs) where
-  made_count : (n : ℕ) (xs : List A) → length (made n xs) ≡ length xs
-  made_count n [] = rw (none n)
-  made_count n (x ∷ xs) = rw (more n x xs) (ap suc (made_count (suc n) xs))
-
-  made_from : (n k : ℕ) (xs : List A) (x : A) → slice_get xs k ≡ Some x → slice_get (made n xs) k ≡ Some (f (n + k) x)
-  made_from n k [] x e = absurd (cc)
-  made_from n zero (y ∷ xs) x e =
-      let same : y ≡ x = cc in
-      let here : n ≡ n + 0 = omega arith in
-      rw (more n y xs, same, ← here)
-  made_from n (suc k) (y ∷ xs) x e =
-      let next : n + suc k ≡ suc n + k = omega arith in
-      rw (more n y xs, next) (made_from (suc n) k xs x e)
-
-  made_at : (k : ℕ) (xs : List A) (x : A) → slice_get xs k ≡ Some x → slice_get (made 0 xs) k ≡ Some (f k x)
-  made_at k xs x e = rw zero-add at (made_from 0 k xs x e)
 
 -- from a word's image to where control enters the next one's: the piece before the load's image keeps its address
 step_on : (begin first load word : ℕ) → first ≤ word
@@ -61,7 +41,7 @@ module _ (text : Words) (b : Blocks) (opens : List Open) (cased : AreCased text 
   images = map (λ word. image_of (node_in_order graph word) word) (below (length text.words))
 
   abbrev ways : List (List Item)
-  ways = ways_from text graph table codes 0 (edges_but_landings graph)
+  ways = all_ways text graph table codes
 
   abbrev landings : List (List Item)
   landings = map (landing text graph codes) (below (length text.words))
@@ -70,7 +50,7 @@ module _ (text : Words) (b : Blocks) (opens : List Open) (cased : AreCased text 
   its_pieces = open_pieces text graph table cases codes
 
   abbrev its_cases : Open → List (List Item)
-  its_cases = λ (o : Open). cases_from text graph table codes o 0 o.targets
+  its_cases = all_cases text graph table codes
 
   abbrev before_foreign : List (List Item)
   before_foreign = images ++ ways ++ landings ++ flat_map its_pieces opens ++ flat_map its_cases opens
@@ -128,7 +108,7 @@ module _ (text : Words) (b : Blocks) (opens : List Open) (cased : AreCased text 
 
   pub cases_sized : Sized its_cases (entries_of text graph) opens
   cases_sized k o e =
-      made_count (case_at text graph table codes o) (cases_from text graph table codes o) (λ _. refl) (λ _ _ _. refl) 0 _
+      numbered_count (case_at text graph table codes o) o.targets
 
   -- ---- how many come before
 
@@ -139,8 +119,7 @@ module _ (text : Words) (b : Blocks) (opens : List Open) (cased : AreCased text 
   ways_end =
       length-append images ways ∙ rw (
         images_end,
-        made_count (way_along text graph table codes)
-            (ways_from text graph table codes) (λ _. refl) (λ _ _ _. refl) 0 (edges_but_landings graph),
+        numbered_count (way_along text graph table codes) (edges_but_landings graph),
       )
 
   pub landings_end : length (images ++ ways ++ landings)
@@ -178,8 +157,8 @@ module _ (text : Words) (b : Blocks) (opens : List Open) (cased : AreCased text 
   way_at number edge e =
       let n = length text.words + number in
       get_first _ _ n _ (get_first _ _ n _ (get_first _ _ n _ (get_first _ _ n _
-      (get_behind images ways (length text.words) number _ images_end (made_at (way_along text graph table codes)
-      (ways_from text graph table codes) (λ _. refl) (λ _ _ _. refl) number (edges_but_landings graph) edge e)))))
+      (get_behind images ways (length text.words) number _ images_end
+      (numbered_get (way_along text graph table codes) (edges_but_landings graph) number edge e)))))
 
   pub landing_at : (word : ℕ) → word < length text.words
       → slice_get all (landing_number text graph word) ≡ Some (landing text graph codes word)
@@ -275,8 +254,8 @@ module _ (text : Words) (b : Blocks) (opens : List Open) (cased : AreCased text 
         ap (slice_get all) there ∙ get_first before_foreign _ (case_begin text graph + (first_entry text graph k + entry)) _
         (get_behind (images ++ ways ++ landings ++ flat_map its_pieces opens) (flat_map its_cases opens) _
         (first_entry text graph k + entry) _ opens_end
-        (flat_get its_cases (entries_of text graph) opens cases_sized k o e entry _ (made_at (case_at text graph table codes o)
-        (cases_from text graph table codes o) (λ _. refl) (λ _ _ _. refl) entry o.targets word at)))
+        (flat_get its_cases (entries_of text graph) opens cases_sized k o e entry _
+        (numbered_get (case_at text graph table codes o) o.targets entry word at)))
 
   pub foreign_at : slice_get all (foreign_number text graph) ≡ Some foreign_piece
   unfolding piece_list

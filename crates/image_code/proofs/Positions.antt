@@ -1,5 +1,7 @@
 -- Items of lists by their places: behind other lists, in the lists of items, and the first that passes a test.
-use Rattle.image_code.proofs.Common.{◌≡◌, ℕ, zero, suc, ◌+◌, ◌<◌, ◌≤◌, Bool, true, false, cond, Some, None, List, [], ◌∷◌, ◌++◌, length, get_or, map, take, length-append, refl, ap, sym, ◌∙◌, arith, inl, inr, slice_get, find, flat_map, list_any, position, position_or_len, range_with_len, sum_by, nat_tests, cases_lt, false≢true, lt-ltb, le-ltb, length-map-range_with_len, sum_by-cons, get_or_from_slice_get, slice_get-get_or, slice_get_within, Contains, find_at, get_or-map-range_with_len, get_or-range_with_len, length-range_with_len}
+use Rattle.image_code.proofs.Common.{◌≡◌, ℕ, zero, suc, ◌+◌, ◌<◌, ◌≤◌, Bool, true, false, cond, Some, None, List, [], ◌∷◌, ◌++◌, length, get_or, map, take, length-append, refl, ap, sym, ◌∙◌, arith, inl, inr, slice_get, find, flat_map, list_any, position, position_or_len, range_with_len, sum_by, nat_tests, cases_lt, false≢true, lt-ltb, le-ltb, length-map-range_with_len, sum_by-cons, get_or_from_slice_get, slice_get-get_or, slice_get_within, Contains, find_at, get_or-map-range_with_len, get_or-range_with_len, length-range_with_len, length-map, slice_get-map}
+use Rattle.std.specs.List.{enumerate_from}
+use Rattle.std.proofs.lemmas.List.FromFn.{get_or-enumerate_from, length-enumerate_from}
 use Rattle.std.proofs.lemmas.List.Folds.{Any-from_list_any, list_any_at}
 use Rattle.std.proofs.lemmas.List.Sums.{fails_before_first, passes_at_first}
 pub use Rattle.layout.proofs.Standing.{get_first, get_rest as get_second}
@@ -27,6 +29,24 @@ pub range_get : {A : Type 0} (f : ℕ → A) (from count n : ℕ) → n < count
 range_get {A = A} f from count n l =
     slice_get-get_or (map f (range_with_len from count)) n (f 0) (omega (arith, l, length-map-range_with_len f from count))
     ∙ ap (λ (x : A). Some x) (get_or-map-range_with_len f from count n (from + n) (f 0) l refl)
+
+-- of items with their numbers
+pub numbered_get : {A B : Type 0} (f : ℕ → A → B) (xs : List A) (k : ℕ) (x : A) → slice_get xs k ≡ Some x
+    → slice_get (map (λ (p : ℕ × A). f p.0 p.1) (enumerate_from 0 xs)) k ≡ Some (f k x)
+numbered_get f xs k x e =
+    let low = slice_get_within xs k x e in
+    let here : 0 + k ≡ k = omega arith in
+    rw (
+      slice_get-map,
+      slice_get-get_or (enumerate_from 0 xs) k (0, x) (omega (arith, low, length-enumerate_from 0 xs)),
+      get_or-enumerate_from 0 xs k (0, x) low,
+      get_or_from_slice_get xs k x x e,
+      here,
+    )
+
+pub numbered_count : {A B : Type 0} (f : ℕ → A → B) (xs : List A)
+    → length (map (λ (p : ℕ × A). f p.0 p.1) (enumerate_from 0 xs)) ≡ length xs
+numbered_count f xs = length-map (enumerate_from 0 xs) _ ∙ length-enumerate_from 0 xs
 
 -- ---- the lists of items, each of which is so long
 

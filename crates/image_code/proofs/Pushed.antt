@@ -1,5 +1,6 @@
 -- Lists that grow by one item in each turn of a loop.
 use Rattle.image_code.proofs.Common.{◌≡◌, ℕ, suc, ◌+◌, ◌-◌, ◌<◌, ◌≤◌, List, [], ◌∷◌, ◌++◌, Some, length, length-append, map, take, refl, ap, ◌∙◌, arith, append_assoc, slice_get, slice_index_or, flat_map, range_with_len, append-nil, map-append, take_more, get_or_from_slice_get, slice_get_within, below, get_or-below, length-below, PieceNo, flat_map-append, get_or-map}
+use Rattle.std.specs.List.{enumerate_from}
 use Rattle.std.proofs.lemmas.List.FromFn.{map-range_with_len_more}
 
 pub below_next : {A : Type 0} (f : ℕ → A) (n : ℕ) → map f (below (n + 1)) ≡ map f (below n) ++ f n ∷ []
@@ -38,6 +39,24 @@ pub pushed_all : {A B : Type 0} (f : A → List B) (xs : List A) (n : ℕ) (d : 
 pushed_all f xs n d before list new l pushed held =
     rw (pushed, held, take_more xs n d l, flat_map-append f (take n xs) (slice_index_or xs n d ∷ []), append-nil (f _))
     (append_assoc before (flat_map f (take n xs)) (f (slice_index_or xs n d)))
+
+-- of the items of a list with their numbers
+pub numbered_more : {A B : Type 0} (f : ℕ → A → B) (n : ℕ) (xs : List A) (x : A)
+    → map (λ (p : ℕ × A). f p.0 p.1) (enumerate_from n (xs ++ x ∷ []))
+    ≡ map (λ (p : ℕ × A). f p.0 p.1) (enumerate_from n xs) ++ f (n + length xs) x ∷ []
+numbered_more f n [] x = let e : n ≡ n + 0 = omega arith in ap (λ k. f k x ∷ []) e
+numbered_more f n (y ∷ xs) x =
+    let e : n + 1 + length xs ≡ n + suc (length xs) = omega arith in
+    rw (numbered_more f (n + 1) xs x, e)
+
+pub pushed_numbered : {A B : Type 0} (f : ℕ → A → B) (n : ℕ) (xs more : List A) (y : A) (before list new : List B) (x : B)
+    → more ≡ xs ++ y ∷ [] → length xs ≡ n → new ≡ list ++ x ∷ [] → x ≡ f n y
+    → list ≡ before ++ map (λ (p : ℕ × A). f p.0 p.1) (enumerate_from 0 xs)
+    → new ≡ before ++ map (λ (p : ℕ × A). f p.0 p.1) (enumerate_from 0 more)
+pushed_numbered f n xs more y before list new x next many pushed made held =
+    let count : 0 + length xs ≡ n = omega (arith, many) in
+    rw (pushed, made, held, next, numbered_more f 0 xs y, count)
+    (append_assoc before (map (λ (p : ℕ × _). f p.0 p.1) (enumerate_from 0 xs)) (f n y ∷ []))
 
 -- ---- counts and sums
 

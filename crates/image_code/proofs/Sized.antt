@@ -1,6 +1,6 @@
 -- How many of the pieces' words are those of snippets: each edge's once, but a landing's once for each word that lands
 -- there, and a Case edge's once for each entry that does.
-use Rattle.image_code.proofs.Common.{◌≡◌, ℕ, zero, suc, ◌+◌, ◌*◌, ◌<◌, ◌≤◌, Bool, true, false, ◌&&◌, ◌==◌, cond, Some, List, [], ◌∷◌, ◌++◌, length, map, take, refl, sym, ◌∙◌, arith, inl, inr, if◌then◌else◌, slice_index, position, sum_by, option_to_list, mul-le-mul_left, mul-le-mul_right, mul_left_comm, and_parts, cases_Bool, cases_lt, cond_both, eqb-true, false≢true, le-ltb, ne_eqb, nat_tests, sum_by-append, Words, Instr, decode_of, is_transfer, EdgeKind, below, holding_of, last_word, size_of, is_fall, Edge, Node, Block, Landed, X, same_kind, same_node, Open, targets_in, Graph, lands, IsEdgeIn, IsNodeIn, edge_along, edge_from, ends_block, landing_at, left_by, block, copy, same_nodes, ends_within, in_held, some_words, straight_left, Each, each, each-below, lands_as, Op, count_by, fold-map, same_itself}
+use Rattle.image_code.proofs.Common.{◌≡◌, ℕ, zero, suc, ◌+◌, ◌*◌, ◌<◌, ◌≤◌, Bool, true, false, ◌&&◌, ◌==◌, cond, Some, List, [], ◌∷◌, ◌++◌, length, map, take, refl, ap, sym, ◌∙◌, arith, inl, inr, if◌then◌else◌, slice_index, position, sum_by, option_to_list, mul-le-mul_left, mul-le-mul_right, mul_left_comm, and_parts, cases_Bool, cases_lt, cond_both, eqb-true, false≢true, le-ltb, ne_eqb, nat_tests, sum_by-append, Words, Instr, decode_of, is_transfer, EdgeKind, below, holding_of, last_word, size_of, is_fall, Edge, Node, Block, Landed, X, same_kind, same_node, Open, targets_in, Graph, lands, IsEdgeIn, IsNodeIn, edge_along, edge_from, ends_block, landing_at, left_by, block, copy, same_nodes, ends_within, in_held, some_words, straight_left, Each, each, each-below, lands_as, Op, count_by, fold-map, same_itself}
 use Rattle.cfg_blocks.specs.declared.EdgeKind.TheVariants as kinds
 use Rattle.std.proofs.lemmas.Bool.{and_right}
 use Rattle.image_code.specs.Store.{snippet_on}
@@ -37,7 +37,7 @@ way_code codes number edge = way_kind edge.kind (length (codes number))
 
 abbrev pub ways_code : (ℕ → List ℕ) → ℕ → List Edge → ℕ
 ways_code codes number [] = 0
-ways_code codes number (edge ∷ edges) = way_code codes number edge + ways_code codes (suc number) edges
+ways_code codes number (edge ∷ edges) = way_code codes number edge + ways_code codes (number + 1) edges
 
 -- along the Case edge of a switch to a word
 abbrev pub case_edge : Graph → Open → ℕ → List ℕ
@@ -247,7 +247,7 @@ own_kind kind words = if same_kind kind kinds.Land then 0 else way_kind kind wor
 
 abbrev own_code : (ℕ → List ℕ) → ℕ → List Edge → ℕ
 own_code codes number [] = 0
-own_code codes number (edge ∷ edges) = own_kind edge.kind (length (codes number)) + own_code codes (suc number) edges
+own_code codes number (edge ∷ edges) = own_kind edge.kind (length (codes number)) + own_code codes (number + 1) edges
 
 products : (a b c x y z l : ℕ) → a ≤ x → b ≤ y → c ≤ z → a * l + b * l + c * l ≤ (x + y + z) * l
 products a b c x y z l f g h =
@@ -266,7 +266,7 @@ ways_own codes number zero edges own = omega arith
 ways_own codes number (suc count) [] own = omega arith
 ways_own codes number (suc count) (edge ∷ edges) own =
     let here : own_kind edge.kind (length (codes number)) ≡ way_code codes number edge = rw own.0 in
-    omega (arith, ways_own codes (suc number) count edges own.1)
+    omega (arith, ways_own codes (number + 1) count edges own.1)
 
 module _ (text : Words) (graph : Graph) (codes : ℕ → List ℕ) (g : IsTextGraph text graph) (snips : List (List Op))
     (short : AreShort snips codes) where
@@ -277,8 +277,10 @@ module _ (text : Words) (graph : Graph) (codes : ℕ → List ℕ) (g : IsTextGr
       ≤ 22 * operations_from graph snips number edges
   edges_few number [] leads = omega arith
   edges_few number (edge ∷ edges) leads =
+      let next : number + 1 ≡ suc number = omega arith in
       omega (
         arith,
+        ap (λ (n : ℕ). own_code codes n edges) next,
         kinds_few edge.kind _ _ _ (length (codes number)) _ _ (falls_count text graph codes edge)
             (landings_count text graph codes g edge leads.0.to) (cases_count text graph codes edge),
         mul-le-mul_left (copies_of graph edge) (short.short number),

@@ -1,8 +1,8 @@
 -- The pieces that are made of a text: an image of each word for each node whose block holds it, the way along each edge
 -- but for the landings, a landing at each word, a way for each entry of a switch's table, and last the foreign piece,
 -- to which the table leads every address outside the text.
-use Rattle.std.specs.Prelude.{◌≡◌, ℕ, suc, ◌+◌, ◌-◌, ◌*◌, ◌%◌, ◌^◌, ◌<◌, ◌≤◌, ◌==◌, nat_lt, if◌then◌else◌, Bool, ◌&&◌, List, [], ◌∷◌, ◌++◌, length, map, slice_get, slice_index, Option, Some, None}
-use Rattle.std.specs.List.{flat_map, range_with_len}
+use Rattle.std.specs.Prelude.{◌≡◌, ℕ, ◌+◌, ◌-◌, ◌*◌, ◌%◌, ◌^◌, ◌<◌, ◌≤◌, ◌==◌, nat_lt, if◌then◌else◌, Bool, ◌&&◌, List, [], ◌∷◌, ◌++◌, length, map, slice_get, slice_index, Option, Some, None}
+use Rattle.std.specs.List.{enumerate_from, flat_map, range_with_len}
 use Rattle.eel_base.specs.CodeText.{Words, address_of, word_at}
 use Rattle.notes.specs.Format.{range_at}
 use Rattle.eel_base.specs.declared.numbers.Addr.{Addr}
@@ -219,10 +219,8 @@ module _ (text : Words) (graph : Graph) (table : ℕ) (codes : ℕ → List ℕ)
       if is_fall edge.kind then jump_to 0 else
       if same_kind edge.kind kinds.Case then jump_to 0 else way_by number edge (first_word graph edge.to) edge.slot
 
-  -- the ways along some edges, the first of which has this number
-  abbrev pub ways_from : ℕ → List Edge → List (List Item)
-  ways_from number [] = []
-  ways_from number (edge ∷ edges) = way_along number edge ∷ ways_from (suc number) edges
+  abbrev pub all_ways : List (List Item)
+  all_ways = map (λ (p : ℕ × Edge). way_along p.0 p.1) (enumerate_from 0 (edges_but_landings graph))
 
   -- ---- Case edges: where an earlier entry leads to the same word, a piece that is never run
 
@@ -240,10 +238,9 @@ module _ (text : Words) (graph : Graph) (table : ℕ) (codes : ℕ → List ℕ)
       then case_by word (edge_along graph (Block (record { 0 = o.block }))
       (record { kind = kinds.Case; to = Some (lands graph (Some word)) })) else jump_to 0
 
-  -- the pieces of some entries, the first of which has this number
-  abbrev pub cases_from : Open → ℕ → List ℕ → List (List Item)
-  cases_from o entry [] = []
-  cases_from o entry (word ∷ words) = case_at o entry word ∷ cases_from o (suc entry) words
+  -- the pieces of all entries
+  abbrev pub all_cases : Open → List (List Item)
+  all_cases o = map (λ (p : ℕ × ℕ). case_at o p.0 p.1) (enumerate_from 0 o.targets)
 
 -- ---- open switches
 
@@ -278,10 +275,10 @@ module _ (text : Words) (graph : Graph) (table cases : ℕ) (codes : ℕ → Lis
 
   unfoldable pub piece_list : List (List Item)
   piece_list =
-      images_in_order ++ ways_from text graph table codes 0 (edges_but_landings graph)
+      images_in_order ++ all_ways text graph table codes
       ++ map (landing text graph codes) (below (length text.words))
       ++ flat_map open_pieces graph.opens
-      ++ flat_map (λ (o : Open). cases_from text graph table codes o 0 o.targets) graph.opens
+      ++ flat_map (all_cases text graph table codes) graph.opens
       ++ foreign_piece ∷ []
 
 -- the pieces by what they are for

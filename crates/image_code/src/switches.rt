@@ -8,7 +8,7 @@ ghost use Rattle.v8_decode.specs.Words.{decode_of};
 ghost use Rattle.cfg_blocks.specs.Blocks.{size_of};
 ghost use Rattle.cfg_normal.specs.Opens.{Open};
 ghost use Rattle.image_code.specs.Lookups.{number_where};
-ghost use Rattle.image_code.specs.Made.{case_at, case_by as case_by_of, cases_from, image, save_by, open_pieces};
+ghost use Rattle.image_code.specs.Made.{case_at, case_by as case_by_of, all_cases, image, save_by, open_pieces};
 ghost use Rattle.image_code.specs.Numbered.{case_numbers, case_piece as case_piece_of, first_entry, open_begin, or_zero, place_in as place_in_of};
 ghost use Rattle.image_code.specs.Private.{code_at};
 ghost use Rattle.cfg_normal.specs.Graph.{lands as lands_of};
@@ -179,8 +179,7 @@ impl<'a> PieceMaker<'a> {
     ) -> Result<(), NoMemory>
         requires found { slice_get self.now.graph.now.opens number ≡ Some found.now }
         ensures list { OnOk result (list.new.items ≡ list.old.items
-            ++ cases_from self.now.text.now self.now.graph.now self.now.table.0 (code_at self.now.codes.now) found.now 0
-            found.now.targets) }
+            ++ all_cases self.now.text.now self.now.graph.now self.now.table.0 (code_at self.now.codes.now) found.now) }
         ensures numbers { OnOk result (map (λ (n : PieceNo). n.0) numbers.new.items
             ≡ map (λ (n : PieceNo). n.0) numbers.old.items
             ++ map (case_piece_of self.now.text.now self.now.graph.now number found.now) found.now.targets) }
@@ -211,8 +210,7 @@ impl<'a> PieceMaker<'a> {
         requires low { first < 2 ^ 33 }
         requires places { (word : ℕ) → get nat_eq places.now word ≡ position (λ t. t == word) found.now.targets }
         ensures list { OnOk result (list.new.items ≡ list.old.items
-            ++ cases_from self.now.text.now self.now.graph.now self.now.table.0 (code_at self.now.codes.now) found.now 0
-            found.now.targets) }
+            ++ all_cases self.now.text.now self.now.graph.now self.now.table.0 (code_at self.now.codes.now) found.now) }
         ensures numbers { OnOk result (map (λ (n : PieceNo). n.0) numbers.new.items
             ≡ map (λ (n : PieceNo). n.0) numbers.old.items
             ++ map (case_piece_of self.now.text.now self.now.graph.now number found.now) found.now.targets) }
@@ -233,8 +231,8 @@ impl<'a> PieceMaker<'a> {
         list: &mut Vec<Piece>,
     ) -> Result<Vec<PieceNo>, NoMemory>
         ensures list { OnOk result (list.new.items ≡ list.old.items
-            ++ flat_map (λ (o : Open). cases_from self.now.text.now self.now.graph.now self.now.table.0
-            (code_at self.now.codes.now) o 0 o.targets) self.now.graph.now.opens) }
+            ++ flat_map (all_cases self.now.text.now self.now.graph.now self.now.table.0 (code_at self.now.codes.now))
+            self.now.graph.now.opens) }
         ensures numbers { IfOk result (λ v. map (λ (n : PieceNo). n.0) v.items
             ≡ case_numbers self.now.text.now self.now.graph.now) }
     {

@@ -1,9 +1,8 @@
-use Rattle.std.proofs.Common.{◌++◌, List, map, Some, ap, sym, ◌∙◌}
+use Rattle.std.proofs.Common.{◌++◌, map, Some, ap, sym, ◌∙◌}
 use Rattle.std.proofs.lemmas.Option.{slice_get-get_or}
 use Rattle.eel_base.specs.declared.numbers.PieceNo.{PieceNo}
 use Rattle.cfg_normal.specs.Opens.{Open}
-use Rattle.layout.specs.declared.items.Item.{Item}
-use Rattle.image_code.specs.Made.{cases_from}
+use Rattle.image_code.specs.Made.{all_cases}
 use Rattle.image_code.specs.Numbered.{case_piece}
 use Rattle.image_code.specs.Private.{code_at}
 use Rattle.image_code.proofs.CasePieces.{numbers_pushed}
@@ -17,8 +16,7 @@ loop-number-preserved c =
     let graph = maker.graph.now in
     let opens = c.opens-found-items.result.now in
     let n = c.loop-number.number in
-    let cases : Open → List (List Item) =
-    λ (o : Open). cases_from text graph maker.table.0 (code_at maker.codes.now) o 0 o.targets in
+    let cases = all_cases text graph maker.table.0 (code_at maker.codes.now) in
     record {
       list = pushed_all cases opens n c.found-item.result c.args.list.now.items c.loop-number.list.items
           c.push_cases_of.new.list.items c.loop-number-test.true

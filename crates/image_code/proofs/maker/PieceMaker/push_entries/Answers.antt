@@ -6,10 +6,9 @@ use Rattle.std.proofs.lemmas.List.{take_all}
 use Rattle.indexmap.specs.IndexMap.{get}
 use Rattle.eel_base.specs.declared.numbers.PieceNo.{PieceNo}
 use Rattle.eel_base.specs.declared.numbers.WordNo.{WordNo}
-use Rattle.image_code.specs.Made.{cases_from}
 use Rattle.image_code.specs.Numbered.{case_piece}
 use Rattle.image_code.specs.Private.{code_at}
-use Rattle.image_code.proofs.CasePieces.{case_pushed, entry_number, number_pushed}
+use Rattle.image_code.proofs.CasePieces.{cases_of_words, case_pushed, entry_number, number_pushed}
 use Rattle.image_code.proofs.Found.{found_stands}
 use Rattle.image_code.proofs.maker.PieceMaker.push_entries.Goals as goal
 
@@ -42,7 +41,7 @@ loop-entry-preserved c =
 pub returns-clause-list : goal.returns-clause-list
 returns-clause-list c =
     let maker = c.args.self.now in
-    let cases = cases_from maker.text.now maker.graph.now maker.table.0 (code_at maker.codes.now) c.args.found.now 0 in
+    let cases = cases_of_words maker.text.now maker.graph.now maker.table.0 (code_at maker.codes.now) c.args.found.now in
     c.loop-entry.invariant.list
     ∙ ap (λ (ws : List WordNo). c.args.list.now.items ++ cases (map (λ (w : WordNo). w.0) ws))
     (take_all c.loop-entry.entry c.targets-word-items.result.now (omega (arith, c.loop-entry-test.false)))

@@ -3,7 +3,9 @@ use Rattle.std.specs.Coded.{le_prop}
 use Rattle.std.proofs.Math.Logic.{∥∥₁_elim}
 use Rattle.image_code.specs.Numbered.{landing_count, edges_but_landings}
 use Rattle.image_code.specs.Private.{code_at}
-use Rattle.image_code.proofs.Along.{ways_pushed}
+use Rattle.image_code.specs.Made.{way_along}
+use Rattle.image_code.proofs.Pushed.{pushed_numbered}
+use Rattle.image_code.proofs.Common.{take, take_more}
 use Rattle.image_code.proofs.maker.PieceMaker.push_ways.Goals as goal
 
 pub overflow_cast-number : goal.overflow_cast-number
@@ -27,7 +29,9 @@ loop-number-init c = sym (append-nil c.args.list.now.items)
 pub loop-number-preserved : goal.loop-number-preserved
 loop-number-preserved c =
     let maker = c.args.self.now in
-    ways_pushed maker.text.now maker.graph.now maker.table.0 (code_at maker.codes.now)
-    c.edges_but_landings-edge-items.result.now c.loop-number.number _ c.args.list.now.items c.loop-number.list.items
-    c.push.new.self.items _ c.loop-number-test.true c.in_ok-push.ensures.items (c.in_ok-assemble.ensures ∙ c.in_ok-way.ensures)
-    c.loop-number.invariant
+    let edges = c.edges_but_landings-edge-items.result.now in
+    pushed_numbered (way_along maker.text.now maker.graph.now maker.table.0 (code_at maker.codes.now))
+    c.loop-number.number (take c.loop-number.number edges) _ _ c.args.list.now.items c.loop-number.list.items
+    c.push.new.self.items _ (take_more edges c.loop-number.number _ c.loop-number-test.true)
+    (omega (arith, length-take c.loop-number.number edges, c.loop-number-test.true)) c.in_ok-push.ensures.items
+    (c.in_ok-assemble.ensures ∙ c.in_ok-way.ensures) c.loop-number.invariant
