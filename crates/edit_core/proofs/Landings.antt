@@ -47,10 +47,10 @@ entry_inside text graph snips list is h fit entry l =
 
 -- ---- the pieces that were made of a view, and where they were placed
 
-module _ {image : Program} {graph : Graph} {asked : Request} {pieces : List (List Item)} {words ways : List PieceNo}
-    {outside begin : PieceNo} (made : AreMade image graph asked pieces words ways outside begin) where
+module _ {image : Program} {graph : Graph} {request : Request} {pieces : List (List Item)} {words ways : List PieceNo}
+    {outside begin : PieceNo} (made : AreMade image graph request pieces words ways outside begin) where
   abbrev landing : ℕ → ℕ
-  landing = lands_at image.text graph asked.snips.items
+  landing = lands_at image.text graph request.snips.items
 
   pub landings_count : length words ≡ length image.text.words
   landings_count =
@@ -61,7 +61,7 @@ module _ {image : Program} {graph : Graph} {asked : Request} {pieces : List (Lis
   cases_count = sym (length-map ways (λ (n : PieceNo). n.0)) ∙ ap length made.cases
 
   landings_are : (p : Placement) → map (λ (n : PieceNo). addr (slice_index p.at n.0)) words
-      ≡ landings_of image.text graph asked.snips.items p
+      ≡ landings_of image.text graph request.snips.items p
   landings_are p =
       sym (map-map (λ (k : ℕ). addr (slice_index p.at k)) (λ (n : PieceNo). n.0) words)
       ∙ ap (map (λ (k : ℕ). addr (slice_index p.at k))) made.landing
@@ -74,13 +74,13 @@ module _ {image : Program} {graph : Graph} {asked : Request} {pieces : List (Lis
   pub tables_lead : (p : Placement) (table : TableAt)
       → AreTablesOf image.text (map (λ (n : PieceNo). addr (slice_index p.at n.0)) words)
       (addr (slice_index p.at outside.0)) (map (λ (n : PieceNo). slice_index p.at n.0) ways) table
-      → TablesMatch image.text graph asked.snips.items p table
+      → TablesMatch image.text graph request.snips.items p table
   tables_lead p table are = rw (cases_are p) at (rw made.foreign at (rw (landings_are p) at are))
 
   -- and the code is that of the edit
   pub code_built : (p : Placement) (place : ℕ → ℕ → ℕ) → AreLaid pieces
-      (table_after image.base asked.cells + (tables_size image.text + cells_size (length ways))) p place
-      → IsBuilt image.text graph image.base asked.cells asked.snips.items p
+      (table_after image.base request.cells + (tables_size image.text + cells_size (length ways))) p place
+      → IsBuilt image.text graph image.base request.cells request.snips.items p
   code_built p place laid = record {
     dead = made.dead;
     exact = made.exact;
@@ -91,8 +91,8 @@ module _ {image : Program} {graph : Graph} {asked : Request} {pieces : List (Lis
 
   -- ---- where there is room
 
-  module _ (fits : PiecesFit) (can : HasRoom image graph asked) where
-    pub made_fit : AreFit image.text graph asked.snips.items pieces
+  module _ (fits : PiecesFit) (can : HasRoom image graph request) where
+    pub made_fit : AreFit image.text graph request.snips.items pieces
     made_fit = rw made.list (new_fit fits can made.dead)
 
     landings_inside : All (λ (n : PieceNo). n.0 < length pieces) words
@@ -121,13 +121,13 @@ module _ {image : Program} {graph : Graph} {asked : Request} {pieces : List (Lis
       cases = cases_inside;
       foreign = rw made.foreign made_fit.foreign;
       entry = rw made.entry
-          (entry_inside image.text graph asked.snips.items pieces can.text can.graph made_fit image.entry made.begins);
+          (entry_inside image.text graph request.snips.items pieces can.text can.graph made_fit image.entry made.begins);
     }
 
     pub cases_few : length ways ≤ 2 ^ 22
     cases_few = omega (arith, cases_count, entries_few image.text graph can.text can.graph, can.text.few)
 
     -- and there is room for them, behind the cells and the tables
-    pub made_room : cells_size asked.cells + (tables_size image.text + cells_size (length ways)) + long_bytes pieces
+    pub made_room : cells_size request.cells + (tables_size image.text + cells_size (length ways)) + long_bytes pieces
         ≤ image.room
     made_room = rw cases_count (rw made.list (new_room fits can made.dead))

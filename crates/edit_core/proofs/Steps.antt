@@ -58,26 +58,26 @@ original_fit fits original plan can work dead =
     under base room cells words more same few enough = omega arith
 
 -- the pieces that are made of a view can be placed in its room
-module _ (fits : PiecesFit) {image : Program} {graph : Graph} {asked : Request} (can : HasRoom image graph asked)
+module _ (fits : PiecesFit) {image : Program} {graph : Graph} {request : Request} (can : HasRoom image graph request)
     (dead : ℕ → List Part) where
   abbrev new_pieces : List (List Item)
-  new_pieces = pieces_by image.text graph image.base asked.cells dead asked.snips.items
+  new_pieces = pieces_by image.text graph image.base request.cells dead request.snips.items
 
-  pub new_fit : AreFit image.text graph asked.snips.items new_pieces
+  pub new_fit : AreFit image.text graph request.snips.items new_pieces
   new_fit =
-      fits image.text graph (table_after image.base asked.cells)
-      (cases_at image.text (table_after image.base asked.cells)) asked.snips.items
-      (codes_of image.base dead asked.snips.items) can.text can.graph (omega (arith, can.room, can.low))
-      (short_codes image.base asked.cells dead asked.snips.items can.work.good)
+      fits image.text graph (table_after image.base request.cells)
+      (cases_at image.text (table_after image.base request.cells)) request.snips.items
+      (codes_of image.base dead request.snips.items) can.text can.graph (omega (arith, can.room, can.low))
+      (short_codes image.base request.cells dead request.snips.items can.work.good)
 
-  pub new_room : cells_size asked.cells + segment_size image.text graph + long_bytes new_pieces ≤ image.room
+  pub new_room : cells_size request.cells + segment_size image.text graph + long_bytes new_pieces ≤ image.room
   new_room =
       let bytes = new_fit.bytes in
       let small = small_tables image.text can.text in
-      let most = room_with_cases asked.cells (length image.text.words) (length (case_numbers image.text graph))
+      let most = room_with_cases request.cells (length image.text.words) (length (case_numbers image.text graph))
       (tables_size image.text) (long_bytes new_pieces) _
       (entries_few image.text graph can.text can.graph) small bytes in
-      omega (arith, operations_few graph asked.kind asked.cells asked.snips.items can.work, can.room)
+      omega (arith, operations_few graph request.kind request.cells request.snips.items can.work, can.room)
 
 -- how many bytes they have
 pub segment_is : (text : Words) (graph : Graph) (snips : List (List Op)) (p : Placement) (table : TableAt)
@@ -144,11 +144,11 @@ module _ (original : List ℕ) (plan : Plan) (image : Program) (graph : Graph) (
           (cc (same, segment_is image.text graph plan.snips (placement_in placed) _ leads))
 
 -- there is room for what is asked of an original that can be edited
-pub view_has_room : (original marks : List ℕ) (asked : Request) (image : Program) (graph : Graph)
-    → IsViewOf original (plan_of marks asked) image graph → CanEdit original (plan_of marks asked)
-    → CanDo original (plan_of marks asked) → HasRoom image graph asked
-view_has_room original marks asked image graph is can work =
-    seen original plan image graph is (λ i g. HasRoom i g asked) (record {
+pub view_has_room : (original marks : List ℕ) (request : Request) (image : Program) (graph : Graph)
+    → IsViewOf original (plan_of marks request) image graph → CanEdit original (plan_of marks request)
+    → CanDo original (plan_of marks request) → HasRoom image graph request
+view_has_room original marks request image graph is can work =
+    seen original plan image graph is (λ i g. HasRoom i g request) (record {
       text = image_text original can.sound;
       graph = graph_is original plan;
       work = work;
@@ -159,7 +159,7 @@ view_has_room original marks asked image graph is can work =
     })
   where
     plan : Plan
-    plan = plan_of marks asked
+    plan = plan_of marks request
 
     within : (base room : ℕ) → room ≡ min (2 ^ 30) (0x80000000 - base) → base ≤ 0x80000000 → base + room ≤ 2 ^ 31
     within base room same below = omega arith

@@ -14,8 +14,8 @@ module _ {F : Type 0} (says : F → EdgeRef → List Op → Type 0) (tool : Kept
     (is : view ≡ view_of bytes (numbers tool.marks)) (plan : Plan) where
   -- what it asks of the graph that was seen it asks of the file
   pub asks : IsPlanOf says tool view.graph.edges plan → AsksOf says tool bytes plan
-  asks asked = rw is at asked
+  asks request = rw is at request
 
   -- and it counts edges there
   pub counts : CountsEdges says tool bytes → IsPlanOf says tool view.graph.edges plan → AreCounted 2 plan
-  counts edges asked = edges plan (asks asked)
+  counts edges request = edges plan (asks request)

@@ -77,7 +77,7 @@ placement_in placed = placement_of placed.code.items placed.at.items placed.rang
 
 -- what is asked, with the words that are marked
 abbrev pub plan_of : List ℕ → Request → Plan
-plan_of marks asked = record { kind = asked.kind; marks = marks; cells = asked.cells; snips = asked.snips.items }
+plan_of marks request = record { kind = request.kind; marks = marks; cells = request.cells; snips = request.snips.items }
 
 -- what was asked, as it is told behind the snippets
 abbrev pub plan_told : List ℕ → Told → List (List Op) → Plan
@@ -86,23 +86,23 @@ plan_told marks told snips = record { kind = told.kind; marks = marks; cells = t
 -- ---- new code of a view
 
 -- There is as much room above a program as the edit asks for.
-pub record HasRoom (image : Program) (g : Graph) (asked : Request) : Type 0 where
+pub record HasRoom (image : Program) (g : Graph) (request : Request) : Type 0 where
   pub text : IsText image.text
   pub graph : IsGraphOf image.text g
-  pub work : IsWorkable g asked.kind asked.cells asked.snips.items
-  pub room : bound_by image.text g asked.kind asked.cells asked.snips.items ≤ image.room
+  pub work : IsWorkable g request.kind request.cells request.snips.items
+  pub room : bound_by image.text g request.kind request.cells request.snips.items ≤ image.room
   pub base : image.base % 4096 ≡ 0
   pub low : image.base + image.room ≤ 2 ^ 31
 
 -- Pieces are those of a view, with snippets that take what is dead behind them. These are the pieces of the words, of
 -- the Case edges, of what lies outside the text, and the one at which the program begins.
-pub record AreMade (image : Program) (graph : Graph) (asked : Request) (pieces : List (List Item))
+pub record AreMade (image : Program) (graph : Graph) (request : Request) (pieces : List (List Item))
     (words ways : List PieceNo) (outside begin : PieceNo) : Type 0 where
   pub dead : ℕ → List Part
-  pub exact : AreDead image.text graph (named_on asked.snips.items) dead
-  pub list : pieces ≡ pieces_by image.text graph image.base asked.cells dead asked.snips.items
+  pub exact : AreDead image.text graph (named_on request.snips.items) dead
+  pub list : pieces ≡ pieces_by image.text graph image.base request.cells dead request.snips.items
   pub landing : map (λ (n : PieceNo). n.0) words
-      ≡ map (lands_at image.text graph asked.snips.items) (below (length image.text.words))
+      ≡ map (lands_at image.text graph request.snips.items) (below (length image.text.words))
   pub cases : map (λ (n : PieceNo). n.0) ways ≡ case_numbers image.text graph
   pub foreign : outside.0 ≡ foreign_number image.text graph
   pub entry : begin.0 ≡ entry_number image.text graph image.entry

@@ -39,22 +39,22 @@ pub(crate) fn new_code(
     alloc: Global,
     image: &Image,
     graph: &FlowGraph,
-    asked: Request,
+    request: Request,
 ) -> Result<(NewCode, Vec<NoteEdge>), NoMemory>
-    requires { HasRoom image.now graph.now asked }
-    ensures built { IfOk result (λ new. IsBuilt image.now.text graph.now image.now.base asked.cells
-        asked.snips.items (placement_in new.0.placed)) }
+    requires { HasRoom image.now graph.now request }
+    ensures built { IfOk result (λ new. IsBuilt image.now.text graph.now image.now.base request.cells
+        request.snips.items (placement_in new.0.placed)) }
     ensures entry { IfOk result (λ new. new.0.entry.0 ≡ slice_index (placement_in new.0.placed).at
         (entry_number image.now.text graph.now image.now.entry)) }
     ensures leads { IfOk result (λ new.
-        TablesMatch image.now.text graph.now asked.snips.items (placement_in new.0.placed)
-        (record { base = table_after image.now.base asked.cells; bytes = new.0.tables.items })) }
+        TablesMatch image.now.text graph.now request.snips.items (placement_in new.0.placed)
+        (record { base = table_after image.now.base request.cells; bytes = new.0.tables.items })) }
     ensures edges { IfOk result (λ new. map edge_seen new.1.items
-        ≡ note_edges_of graph.now asked.kind graph.now.edges asked.snips.items) }
+        ≡ note_edges_of graph.now request.kind graph.now.edges request.snips.items) }
 {
-    let cells = asked.cells;
-    let edges = note_edges(alloc, graph, &asked)?;
-    let made = make_pieces(alloc, image, graph, asked)?;
+    let cells = request.cells;
+    let edges = note_edges(alloc, graph, &request)?;
+    let made = make_pieces(alloc, image, graph, request)?;
     let new = place_code(alloc, image, cells, &made)?;
     Ok((new, edges))
 }
@@ -64,18 +64,18 @@ fn make_pieces(
     alloc: Global,
     image: &Image,
     graph: &FlowGraph,
-    asked: Request,
+    request: Request,
 ) -> Result<PieceList, NoMemory>
-    requires { HasRoom image.now graph.now asked }
-    ensures { IfOk result (λ made. AreMade image.now graph.now asked made.list.items made.landing.items
+    requires { HasRoom image.now graph.now request }
+    ensures { IfOk result (λ made. AreMade image.now graph.now request made.list.items made.landing.items
         made.cases.items made.foreign made.entry) }
 {
     let text = image.text();
-    let addresses = AddressMap::above(image, asked.cells).data_addresses(text);
-    let live = live(alloc, text, graph, &asked.snips)?;
-    let code = snippet_code(alloc, text, graph, &asked.snips, &live, addresses)?;
+    let addresses = AddressMap::above(image, request.cells).data_addresses(text);
+    let live = live(alloc, text, graph, &request.snips)?;
+    let code = snippet_code(alloc, text, graph, &request.snips, &live, addresses)?;
     drop(live);
-    drop(asked);
+    drop(request);
     let made = pieces_with(alloc, text, graph, image.entry(), code, addresses)?;
     Ok(made)
 }

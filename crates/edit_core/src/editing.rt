@@ -63,30 +63,30 @@ pub fn edit_view<F: Chooser>(
         × CanEdit bytes.now plan × IsEdited bytes.now plan file.items × IsTheEdit bytes.now plan file.items) }
     ensures same { IfOk result (λ file. DoesTheSame bytes.now file.items) }
 {
-    let asked = ask(alloc, tool, &view.graph)?;
+    let request = ask(alloc, tool, &view.graph)?;
     let text = view.image.text();
     let needed = bound(
         alloc,
         text,
         &view.graph,
-        asked.kind,
-        asked.cells,
-        &asked.snips,
+        request.kind,
+        request.cells,
+        &request.snips,
     )?;
     let had = u64::from(view.image.room());
     if had < needed {
         return Err(EditFault::Room { needed, had });
     }
-    let file = write_edit(alloc, bytes, &view.image, &view.graph, asked)?;
+    let file = write_edit(alloc, bytes, &view.image, &view.graph, request)?;
     Ok(file)
 }
 
 // What a tool asks of a graph, where the snippets of a profile count edges.
 fn ask<F: Chooser>(alloc: Global, tool: &Tool<F>, graph: &FlowGraph) -> Result<Request, NoMemory>
     requires { (plan : Plan) → IsPlanOf F.says tool.now graph.now.edges plan → AreCounted 2 plan }
-    ensures plan { IfOk result (λ asked.
-        IsPlanOf F.says tool.now graph.now.edges (plan_of (numbers tool.now.marks) asked)) }
-    ensures work { IfOk result (λ asked. IsWorkable graph.now asked.kind asked.cells asked.snips.items) }
+    ensures plan { IfOk result (λ request.
+        IsPlanOf F.says tool.now graph.now.edges (plan_of (numbers tool.now.marks) request)) }
+    ensures work { IfOk result (λ request. IsWorkable graph.now request.kind request.cells request.snips.items) }
 {
     Ok(Request {
         kind: tool.kind(),
@@ -101,17 +101,17 @@ fn write_edit(
     bytes: &[u8],
     image: &Image,
     graph: &FlowGraph,
-    asked: Request,
+    request: Request,
 ) -> Result<Vec<u8>, NoMemory>
     requires limit { length bytes.now ≤ 2 ^ 26 }
-    requires asked { (marks : List ℕ) × IsViewOf bytes.now (plan_of marks asked) image.now graph.now
-        × CanEdit bytes.now (plan_of marks asked) × CanDo bytes.now (plan_of marks asked) }
-    ensures { (marks : List ℕ) → IsViewOf bytes.now (plan_of marks asked) image.now graph.now
-        → IfOk result (λ file. IsWritten bytes.now (plan_of marks asked) file.items) }
+    requires request { (marks : List ℕ) × IsViewOf bytes.now (plan_of marks request) image.now graph.now
+        × CanEdit bytes.now (plan_of marks request) × CanDo bytes.now (plan_of marks request) }
+    ensures { (marks : List ℕ) → IsViewOf bytes.now (plan_of marks request) image.now graph.now
+        → IfOk result (λ file. IsWritten bytes.now (plan_of marks request) file.items) }
 {
-    let (kind, cells) = (asked.kind, asked.cells);
+    let (kind, cells) = (request.kind, request.cells);
     let addresses = AddressMap::above(image, cells);
-    let built = new_code(alloc, image, graph, asked)?;
+    let built = new_code(alloc, image, graph, request)?;
     let (new, edges) = built;
     let added = added_segments(alloc, addresses, &new)?;
     let told = Told { kind, cells, edges };

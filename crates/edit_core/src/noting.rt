@@ -164,14 +164,14 @@ fn first_words(alloc: Global, graph: &FlowGraph) -> Result<Vec<u32>, NoMemory>
 pub(crate) fn note_edges(
     alloc: Global,
     graph: &FlowGraph,
-    asked: &Request,
+    request: &Request,
 ) -> Result<Vec<NoteEdge>, NoMemory>
     ensures { IfOk result (λ v. map edge_seen v.items
-        ≡ note_edges_of graph.now asked.now.kind graph.now.edges asked.now.snips.items) }
+        ≡ note_edges_of graph.now request.now.kind graph.now.edges request.now.snips.items) }
 {
     let mut edges = Vec::with_capacity(alloc, graph.edges().len())?;
-    for (edge, snippet) in graph.edges().iter().zip(asked.snips.iter()) {
-        edges.push(note_edge(graph, asked.kind, edge, snippet))?;
+    for (edge, snippet) in graph.edges().iter().zip(request.snips.iter()) {
+        edges.push(note_edge(graph, request.kind, edge, snippet))?;
     }
     Ok(edges)
 }

@@ -1,6 +1,6 @@
 //! The shapes of pieces: what stands in a piece's Mark, the code of a snippet, and where control goes on.
 
-ghost use Rattle.std.specs.Prelude.{◌≡◌, ◌<◌, IfOk, OnOk, IsTrue, [], ◌∷◌, ◌++◌, ◌+◌, ◌%◌, ◌^◌, ◌≤◌, map};
+ghost use Rattle.std.specs.Prelude.{◌≡◌, ◌<◌, IfOk, OnOk, [], ◌∷◌, ◌++◌, ◌+◌, ◌%◌, ◌^◌, ◌≤◌, map};
 ghost use Rattle.image_code.specs.Made.{save_by};
 ghost use Rattle.image_code.specs.Private.{exit_items, head_items, mark_items};
 ghost use Rattle.jump_code.specs.Links.{link};
@@ -34,7 +34,9 @@ pub struct Visit {
 /// What stands in the Mark of a visit.
 #[derive(Clone, Copy)]
 pub enum Head {
+    /// The instruction's own word, or a nop.
     Word(u32),
+    /// The link of a CALL, or a couple.
     Pair([u32; 2]),
     Branch { cond: Cond, to: PieceNo },
     /// What looks up the target of a JMPL, and then its link.

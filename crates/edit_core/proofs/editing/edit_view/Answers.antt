@@ -22,9 +22,9 @@ ask-requires g c =
 
 pub returns-then-had-needed-clause-refused : goal.returns-then-had-needed-clause-refused
 returns-then-had-needed-clause-refused g c =
-    let plan = plan_of (numbers c.args.tool.now.marks) c.in_ok-asked.asked in (
+    let plan = plan_of (numbers c.args.tool.now.marks) c.in_ok-request.request in (
       plan,
-      asks g.F.Chooser.says c.args.tool.now c.args.bytes.now _ c.requires.view plan c.in_ok-asked.ensures.plan,
+      asks g.F.Chooser.says c.args.tool.now c.args.bytes.now _ c.requires.view plan c.in_ok-request.ensures.plan,
       record {
         sound = c.requires.sound;
         needed_is = c.in_ok-needed.ensures ∙ rw (c.text-text.ensures, c.deref.ensures.value)
@@ -35,9 +35,9 @@ returns-then-had-needed-clause-refused g c =
       },
     )
 
-pub write_edit-requires-clause-asked : goal.write_edit-requires-clause-asked
-write_edit-requires-clause-asked g c =
-    let plan = plan_of (numbers c.args.tool.now.marks) c.in_ok-asked.asked in
+pub write_edit-requires-clause-request : goal.write_edit-requires-clause-request
+write_edit-requires-clause-request g c =
+    let plan = plan_of (numbers c.args.tool.now.marks) c.in_ok-request.request in
     let needed : c.in_ok-needed.needed ≡ bound_of c.args.view.now.image.text c.args.view.now.graph plan =
     c.in_ok-needed.ensures ∙ rw (c.text-text.ensures, c.deref.ensures.value) refl in
     let had = c.from-had.ensures ∙ c.room.ensures in (
@@ -45,23 +45,23 @@ write_edit-requires-clause-asked g c =
       view_is c.args.bytes.now plan _ c.requires.view,
       can_edit c.args.bytes.now plan _ c.requires.view (sym c.requires.sound)
           (omega (arith, needed, had, c.if-had-needed.false)),
-      view_can_do c.args.bytes.now plan _ c.requires.view c.in_ok-asked.ensures.work,
+      view_can_do c.args.bytes.now plan _ c.requires.view c.in_ok-request.ensures.work,
     )
 
 pub returns-clause-edited : goal.returns-clause-edited
 unfolding IsTheEdit
 returns-clause-edited g c =
     let bytes = c.args.bytes.now in
-    let plan = plan_of (numbers c.args.tool.now.marks) c.in_ok-asked.asked in
+    let plan = plan_of (numbers c.args.tool.now.marks) c.in_ok-request.request in
     let needed : c.in_ok-needed.needed ≡ bound_of c.args.view.now.image.text c.args.view.now.graph plan =
     c.in_ok-needed.ensures ∙ rw (c.text-text.ensures, c.deref.ensures.value) refl in
     let had = c.from-had.ensures ∙ c.room.ensures in
     let can = can_edit bytes plan _ c.requires.view (sym c.requires.sound)
     (omega (arith, needed, had, c.if-had-needed.false)) in
-    let work = view_can_do bytes plan _ c.requires.view c.in_ok-asked.ensures.work in
+    let work = view_can_do bytes plan _ c.requires.view c.in_ok-request.ensures.work in
     let written = c.in_ok-file.ensures (numbers c.args.tool.now.marks) (view_is bytes plan _ c.requires.view) in (
       plan,
-      asks g.F.Chooser.says c.args.tool.now bytes _ c.requires.view plan c.in_ok-asked.ensures.plan,
+      asks g.F.Chooser.says c.args.tool.now bytes _ c.requires.view plan c.in_ok-request.ensures.plan,
       can,
       subst (IsEdited bytes plan) (sym written.is)
           (edited (edits_run_alike pieces_make_images pieces_fit) places_say bytes plan

@@ -9,11 +9,11 @@ returns c = elim c.in-None.ensures.steps [
   | inl h ↦
       sym (append-nil (map edge_seen c.loop-edge.edges.items))
       ∙ ap (λ (rest : List NoteEdge). map edge_seen c.loop-edge.edges.items ++ rest)
-      (sym (none_first c.args.graph.now c.args.asked.now.kind c.loop-edge.edge-iterator.a.rest.now
+      (sym (none_first c.args.graph.now c.args.request.now.kind c.loop-edge.edge-iterator.a.rest.now
       c.loop-edge.edge-iterator.b.rest.now h.1.0)) ∙ c.loop-edge.invariant
   | inr h ↦
       sym (append-nil (map edge_seen c.loop-edge.edges.items))
       ∙ ap (λ (rest : List NoteEdge). map edge_seen c.loop-edge.edges.items ++ rest)
-      (sym (none_second c.args.graph.now c.args.asked.now.kind c.loop-edge.edge-iterator.a.rest.now
+      (sym (none_second c.args.graph.now c.args.request.now.kind c.loop-edge.edge-iterator.a.rest.now
       c.loop-edge.edge-iterator.b.rest.now h.1.0)) ∙ c.loop-edge.invariant
 ]
