@@ -183,7 +183,7 @@ flat_few f [] each = omega arith
 flat_few f (x ∷ xs) each = omega (arith, each x, flat_few f xs each, length-append (f x) (flat_map f xs))
 
 -- sums over the numbers below one
-pub total : (ℕ → ℕ) → ℕ → ℕ
+unfoldable pub total : (ℕ → ℕ) → ℕ → ℕ
 total f zero = 0
 total f (suc n) = total f n + f n
 
@@ -215,7 +215,7 @@ total_at at m zero = (λ h. refl, omega arith)
 total_at at m (suc n) =
     let before = total_at at m n in let none = before.0 in let few = before.1 in (λ h. grind (arith, none), grind (arith, none, few))
 
-pub entries_of : List Open → ℕ
+unfoldable pub entries_of : List Open → ℕ
 entries_of opens = sum_by (λ (o : Open). length o.targets) opens
 
 pub targets_few : (opens : List Open) (n : ℕ) → total (λ k. length (targets_in opens k)) n ≤ entries_of opens

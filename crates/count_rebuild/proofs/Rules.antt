@@ -140,13 +140,13 @@ node_inside notes address h =
         (λ e. (omega arith, block_is_node notes (length notes.blocks) (omega arith)))
     by (Some range) h = h
 
-find-map : {A B : Type 0} (p : B → Bool) (f : A → B) (xs : List A) → find p (map f xs) ≡ option_map f (find (λ x. p (f x)) xs)
+pub find-map : {A B : Type 0} (p : B → Bool) (f : A → B) (xs : List A) → find p (map f xs) ≡ option_map f (find (λ x. p (f x)) xs)
 find-map p f [] = refl
 find-map p f (x ∷ xs) = let rest = find-map p f xs in grind (arith, rest)
 
 -- as the code finds it
 module _ (n : declared_notes.Notes) (address : ℕ) where
-  abbrev found : Option declared_range.Range
+  abbrev pub found : Option declared_range.Range
   found = find (λ range. nat_le range.lo.0 address && nat_lt address range.hi.0) n.ranges.items
 
   abbrev paged : Bool

@@ -22,7 +22,7 @@ use Rattle.cfg_normal.specs.Nodes.{same_kind, same_node}
 use Rattle.cfg_normal.specs.Code.{AreOne}
 use Rattle.cfg_normal.specs.Opens.{Open, compares_in, is_copied, jumps_in, targets_in}
 use Rattle.cfg_normal.specs.Graph.{Graph, case_nodes, case_of, copied_edges, edge_of, edges_in, edges_of, graph_of, landing_at, landings_of, lands, lands_of, once_onto, ways_out}
-use Rattle.cfg_normal.proofs.GraphFacts.{once_few, ways_few}
+use Rattle.cfg_normal.proofs.GraphFacts.{entries_of, once_few, targets_few, total, total_at, total_le, total_plus, total_same, ways_few}
 use Rattle.cfg_walk.proofs.Cut.{IsCut, cut}
 use Rattle.cfg_walk.proofs.Edges.{block, copy, same_itself, same_nodes}
 use Rattle.cfg_walk.proofs.Holding.{some_words}
@@ -34,17 +34,19 @@ use Rattle.jump_slice.proofs.CaseBlocks.{case_block}
 use Rattle.jump_slice.proofs.Opened.{opens_are}
 use Rattle.image_code.specs.Graphs.{opens_in}
 use Rattle.image_code.specs.Copies.{copies_of}
-use Rattle.image_code.proofs.OpenBlocks.{are_open, entries_of, sizes_all, targets_few}
-use Rattle.image_code.proofs.OpenSums.{AreDistinct, distinct_sum, total, total_at, total_le, total_plus, total_same}
+use Rattle.image_code.proofs.OpenBlocks.{are_open, sizes_all}
+use Rattle.image_code.proofs.OpenSums.{AreDistinct, distinct_sum}
 
 -- ---- sums
 
 total_below : (f g : ℕ → ℕ) (n : ℕ) → ((k : ℕ) → k < n → f k ≤ g k) → total f n ≤ total g n
+unfolding total
 total_below f g zero each = omega arith
 total_below f g (suc n) each =
     omega (arith, total_below f g n (λ k l. each k (omega (arith, l))), each n (omega arith))
 
 total_ones : (n : ℕ) → total (λ k. 1) n ≡ n
+unfolding total
 total_ones zero = refl
 total_ones (suc n) = omega (arith, total_ones n)
 
@@ -55,6 +57,7 @@ sum_map f g (x ∷ xs) =
 
 sum_flat : {A : Type 0} (f : A → ℕ) (g : ℕ → List A) (n : ℕ)
     → sum_by f (flat_map g (below n)) ≡ total (λ k. sum_by f (g k)) n
+unfolding total
 sum_flat f g zero = refl
 sum_flat f g (suc n) = simp (flat_map-append, append-nil, sum_by-append) (omega (arith, sum_flat f g n))
 
@@ -168,6 +171,7 @@ caseless count word _ = (refl, tt)
 -- ---- sums over the edges of a graph
 
 compared_few : (opens : List Open) (m n : ℕ) → total (λ k. cond (compares_in opens k) m 0) n ≤ m * length opens
+unfolding total
 compared_few [] m n = omega (arith, none n)
   where
     none : (n : ℕ) → total (λ k. 0) n ≡ 0
@@ -367,6 +371,7 @@ own_low b [] each = tt
 own_low b (o ∷ opens) each = (each.0.within, own_low b opens each.1)
 
 less_one : (f : ℕ → ℕ) (n : ℕ) → ((k : ℕ) → k < n → 1 ≤ f k) → total (λ k. f k - 1) n + n ≡ total f n
+unfolding total
 less_one f zero some = refl
 less_one f (suc n) some =
     omega (arith, less_one f n (λ k l. some k (omega (arith, l))), some n (omega arith))

@@ -18,7 +18,7 @@ use Rattle.cfg_blocks.proofs.Targets.{targets_within}
 use Rattle.cfg_normal.specs.Code.{AreOne, AreOpenIn, IsOpenIn, IsTableIn}
 use Rattle.cfg_normal.specs.Graph.{case_of, copied_edges, edges_of, landing_at, landings_of, ways_out}
 use Rattle.cfg_normal.proofs.Candidates.{opens_are as open_in_blocks}
-use Rattle.cfg_normal.proofs.GraphFacts.{edges_of-few, flat_few, ways_out-few}
+use Rattle.cfg_normal.proofs.GraphFacts.{edges_of-few, entries_of, flat_few, targets_few, total, total_flat, total_le, ways_out-few}
 use Rattle.cfg_walk.proofs.Holding.{ends_at_next, ends_at_words}
 use Rattle.cfg_walk.proofs.Lists.{each-flat_map, each_in}
 use Rattle.cfg_walk.proofs.NoneOpen.{edges_lie_in}
@@ -32,7 +32,7 @@ use Rattle.image_code.specs.Numbered.{or_zero, edges_but_landings}
 use Rattle.image_code.specs.Graphs.{IsGraphOf, opens_in}
 use Rattle.image_code.proofs.NumberTables.{load_between}
 use Rattle.image_code.proofs.Positions.{get_taken as taken}
-use Rattle.image_code.proofs.OpenSums.{AreDistinct, distinct_sum, total, total_at, total_flat, total_le, total_plus, total_same}
+use Rattle.image_code.proofs.OpenSums.{AreDistinct, distinct_sum}
 
 -- ---- one open switch
 
@@ -225,6 +225,7 @@ keys_sum b (o ∷ opens) =
 
 sizes_before : (b : Blocks) → AreFirsts b.words b.firsts → (k : ℕ) → k < length b.firsts
     → total (size_of b) k ≡ slice_index b.firsts k
+unfolding total
 sizes_before b f zero l = omega (arith, f.begin)
 sizes_before b f (suc k) l =
     omega (
@@ -236,6 +237,7 @@ sizes_before b f (suc k) l =
 
 pub sizes_all : (b : Blocks) → AreFirsts b.words b.firsts → (n : ℕ) → n ≡ length b.firsts → total (size_of b) n
     ≡ b.words
+unfolding total
 sizes_all b f zero e = absurd (omega (arith, f.some))
 sizes_all b f (suc k) e =
     omega (
@@ -269,32 +271,6 @@ few_of text b f (o ∷ opens) are =
     )
 
 -- ---- edges
-
-unfoldable pub entries_of : List Open → ℕ
-entries_of opens = sum_by (λ (o : Open). length o.targets) opens
-
-pub targets_few : (opens : List Open) (n : ℕ) → total (λ k. length (targets_in opens k)) n ≤ entries_of opens
-unfolding entries_of
-targets_few [] n = omega (arith, none n)
-  where
-    none : (n : ℕ) → total (λ k. 0) n ≡ 0
-    none zero = refl
-    none (suc n) = omega (arith, none n)
-targets_few (o ∷ opens) n =
-    let here : ℕ → ℕ = λ k. cond (o.block == k) (length o.targets) 0 in
-    omega (
-      arith,
-      total_same (λ k. length (targets_in (o ∷ opens) k)) (λ k. here k + length (targets_in opens k)) n
-          (λ k. length-append (cond (o.block == k) o.targets []) (targets_in opens k) ∙ omega (arith, cut (o.block == k))),
-      total_plus here (λ k. length (targets_in opens k)) n,
-      (total_at o.block (length o.targets) n).1,
-      targets_few opens n,
-      sum_by-cons (λ (o : Open). length o.targets) o opens,
-    )
-  where
-    cut : (t : Bool) → length (cond t o.targets []) ≡ cond t (length o.targets) 0
-    cut true = refl
-    cut false = refl
 
 get_taken : {A : Type 0} (n k : ℕ) (xs : List A) (x : A) → slice_get (take n xs) k ≡ Some x → slice_get xs k ≡ Some x
 get_taken n k xs x e =

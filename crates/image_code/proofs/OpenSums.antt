@@ -1,37 +1,7 @@
 -- Sums over lists: of sizes at numbers that differ, of how many words pass a test, and of what the edges have that are
 -- found.
 use Rattle.image_code.proofs.Common.{◌≡◌, ℕ, zero, suc, ◌+◌, ◌-◌, ◌*◌, ◌<◌, ◌≤◌, Bool, true, false, ◌==◌, nat_lt, cond, Option, Some, None, List, [], ◌∷◌, ◌++◌, append-nil, length, refl, ap, sym, ◌∙◌, arith, if◌then◌else◌, flat_map, position, position_or_len, range_with_len, sum_by, option_to_list, add-mul, cond_both, false_from_ne_true, ltb-true, nat_tests, length-append, sum_by-append, sum_by-cons, below, Edge, Each, count_by, flat_map-append}
-
--- ---- sums over the numbers below one
-
-abbrev pub total : (ℕ → ℕ) → ℕ → ℕ
-total f zero = 0
-total f (suc n) = total f n + f n
-
-pub total_same : (f g : ℕ → ℕ) (n : ℕ) → ((k : ℕ) → f k ≡ g k) → total f n ≡ total g n
-total_same f g zero same = refl
-total_same f g (suc n) same = omega (arith, total_same f g n same, same n)
-
-pub total_le : (f g : ℕ → ℕ) (n : ℕ) → ((k : ℕ) → f k ≤ 2 + g k) → total f n ≤ 2 * n + total g n
-total_le f g zero each = omega arith
-total_le f g (suc n) each = omega (arith, total_le f g n each, each n)
-
-pub total_plus : (f g : ℕ → ℕ) (n : ℕ) → total (λ k. f k + g k) n ≡ total f n + total g n
-total_plus f g zero = omega arith
-total_plus f g (suc n) = omega (arith, total_plus f g n)
-
-pub total_flat : {A : Type 0} (f : ℕ → List A) (n : ℕ) → length (flat_map f (below n)) ≡ total (λ k. length (f k)) n
-total_flat f zero = refl
-total_flat f (suc n) =
-    ap length (flat_map-append f (below n) (n ∷ [])) ∙ length-append (flat_map f (below n)) (f n ++ [])
-    ∙ omega (arith, total_flat f n, length-append (f n) [])
-
--- what stands at one number alone counts once at most
-pub total_at : (at m n : ℕ) → (n ≤ at → total (λ k. cond (at == k) m 0) n ≡ 0) × (total (λ k. cond (at == k) m 0) n ≤ m)
-total_at at m zero = (λ h. refl, omega arith)
-total_at at m (suc n) =
-    let before = total_at at m n in
-    (λ h. grind (arith, nat_tests), grind (arith, nat_tests))
+use Rattle.cfg_normal.proofs.GraphFacts.{total}
 
 -- ---- numbers that differ
 
@@ -44,10 +14,12 @@ abbrev without : ℕ → (ℕ → ℕ) → ℕ → ℕ
 without k f j = if j == k then 0 else f j
 
 without_past : (k n : ℕ) (f : ℕ → ℕ) → n ≤ k → total (without k f) n ≡ total f n
+unfolding total
 without_past k zero f l = refl
 without_past k (suc n) f l = grind (arith, nat_tests, without_past k n f)
 
 without_one : (k n : ℕ) (f : ℕ → ℕ) → k < n → total (without k f) n + f k ≡ total f n
+unfolding total
 without_one k zero f l = absurd (omega arith)
 without_one k (suc n) f l = grind (arith, nat_tests, without_past k n f, without_one k n f)
 
@@ -59,6 +31,7 @@ without_apart k f (j ∷ ks) apart =
 
 pub distinct_sum : (f : ℕ → ℕ) (m : ℕ) (ks : List ℕ) → AreDistinct ks → Each (λ k. k < m) ks
     → sum_by f ks ≤ total f m
+unfolding total
 distinct_sum f m [] apart low = omega arith
 distinct_sum f m (k ∷ ks) apart low =
     omega (

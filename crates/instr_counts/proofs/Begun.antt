@@ -9,26 +9,18 @@ use Rattle.notes.specs.Format.{range_at}
 use Rattle.notes.specs.Code.{notes_seen, range_seen}
 use Rattle.notes.specs.declared.note.Notes as declared_notes
 use Rattle.cfg_normal.specs.Graph.{Graph}
+use Rattle.count_rebuild.proofs.Rules.{find-map, found}
 use Rattle.instr_counts.specs.Answers.{begun_in}
 
-find-map : {A B : Type 0} (p : B → Bool) (f : A → B) (xs : List A)
-    → find p (map f xs) ≡ option_map f (find (λ x. p (f x)) xs)
-find-map p f [] = refl
-find-map p f (x ∷ xs) = let rest = find-map p f xs in grind (arith, rest)
-
--- as the code finds it
 module _ (n : declared_notes.Notes) (address : ℕ) where
-  abbrev pub found : Option declared_range.Range
-  found = find (λ range. nat_le range.lo.0 address && nat_lt address range.hi.0) n.ranges.items
-
-  place_is : (place : Option declared_range.Range) → found ≡ place
+  place_is : (place : Option declared_range.Range) → found n address ≡ place
       → range_at (notes_seen n) address ≡ option_map range_seen place
   place_is place is =
       find-map (λ range. nat_le range.lo address && nat_lt address range.hi) range_seen n.ranges.items
       ∙ ap (option_map range_seen) is
 
   -- so what was begun there
-  pub begun_is : (text : Words) (graph : Graph) (place : Option declared_range.Range) → found ≡ place → (word : ℕ)
+  pub begun_is : (text : Words) (graph : Graph) (place : Option declared_range.Range) → found n address ≡ place → (word : ℕ)
       → begun_in text graph.blocks (range_at (notes_seen n) address) word
       ≡ begun_in text graph.blocks (option_map range_seen place) word
   begun_is text graph place is word = ap (λ seen. begun_in text graph.blocks seen word) (place_is place is)

@@ -1,6 +1,7 @@
 use Rattle.std.proofs.Common.{◌≡◌, Some, None, ap, sym, ◌∙◌}
 use Rattle.instr_counts.specs.Visits.{one_if}
-use Rattle.instr_counts.proofs.Begun.{begun_is, found}
+use Rattle.count_rebuild.proofs.Rules.{found}
+use Rattle.instr_counts.proofs.Begun.{begun_is}
 use Rattle.instr_counts.proofs.counting.begun.Goals as goal
 
 pub returns-in-Some : goal.returns-in-Some
