@@ -17,7 +17,7 @@ ghost use Rattle.v8_encode.specs.Code.{op2_fits};
 
 use crate::maker::PieceMaker;
 use crate::numbering::piece;
-use crate::shape::{Exit, Head, NOP, Shape, Visit, assemble, is_transfer, marked, way_to};
+use crate::shape::{Exit, Head, NOP, Shape, Visit, is_transfer, marked, push_piece, way_to};
 use cfg_blocks::EdgeKind;
 use cfg_normal::{FlowGraph, Node, node_number, same_node};
 use eel_base::{Addr, BlockNo, NoMemory, PieceNo, Text, WordNo};
@@ -301,7 +301,7 @@ impl<'a> PieceMaker<'a> {
         for word in 0..self.text.len() {
             let word = WordNo(word);
             let node = self.node_of(word, near);
-            list.push(assemble(alloc, &self.image(node, word)?)?)?;
+            push_piece(alloc, list, self.image(node, word)?)?;
             near = block_of(node);
         }
         Ok(())
@@ -324,7 +324,7 @@ impl<'a> PieceMaker<'a> {
     {
         let _words = self.text.len();
         for word in from..from + count {
-            list.push(assemble(alloc, &self.image(node, WordNo(word))?)?)?;
+            push_piece(alloc, list, self.image(node, WordNo(word))?)?;
         }
         Ok(())
     }

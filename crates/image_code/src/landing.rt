@@ -11,7 +11,7 @@ ghost use Rattle.image_code.specs.Store.{operations_on};
 use crate::images::block_of;
 use crate::maker::PieceMaker;
 use crate::numbering::piece;
-use crate::shape::{Exit, Shape, assemble, way_to};
+use crate::shape::{Exit, Shape, push_piece, way_to};
 use cfg_normal::Node;
 use eel_base::{BlockNo, NoMemory, PieceNo, WordNo};
 use layout::Piece;
@@ -58,7 +58,7 @@ impl<'a> PieceMaker<'a> {
         for word in 0..self.text.len() {
             let word = WordNo(word);
             let node = self.graph.lands_near(word, near);
-            list.push(assemble(alloc, &self.landing(word, node)?)?)?;
+            push_piece(alloc, list, self.landing(word, node)?)?;
             near = block_of(node);
         }
         Ok(())

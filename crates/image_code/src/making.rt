@@ -18,7 +18,7 @@ use crate::expansion::{Codes, codes_of};
 use crate::lookups::{Lookups, lookups_of};
 use crate::maker::PieceMaker;
 use crate::numbering::piece;
-use crate::shape::{Exit, assemble, way_to};
+use crate::shape::{Exit, push_piece, way_to};
 use addr_translate::table_size;
 use cfg_normal::{FlowGraph, Node};
 use eel_base::{Addr, NoMemory, PieceNo, Text, WordNo};
@@ -92,7 +92,7 @@ impl PieceMaker<'_> {
         self.push_landings(alloc, list)?;
         self.push_opens(alloc, list)?;
         let cases = self.push_cases(alloc, list)?;
-        list.push(assemble(alloc, &way_to(&[], Exit::Foreign))?)?;
+        push_piece(alloc, list, way_to(&[], Exit::Foreign))?;
         Ok(cases)
     }
 

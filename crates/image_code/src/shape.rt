@@ -173,8 +173,7 @@ fn exit_room(exit: Exit) -> usize
     }
 }
 
-/// The piece of a shape.
-pub fn assemble(alloc: Global, shape: &Shape) -> Result<Piece, NoMemory>
+fn assemble(alloc: Global, shape: &Shape) -> Result<Piece, NoMemory>
     ensures { IfOk result (λ p. p ≡ shape.now) }
 {
     let room = mark_room(shape.mark) + shape.code.len() + exit_room(shape.exit);
@@ -183,6 +182,14 @@ pub fn assemble(alloc: Global, shape: &Shape) -> Result<Piece, NoMemory>
     push_words(&mut items, shape.code)?;
     push_exit(&mut items, shape.exit)?;
     Ok(Piece { items })
+}
+
+/// Adds the piece of a shape.
+pub fn push_piece(alloc: Global, list: &mut Vec<Piece>, shape: Shape) -> Result<(), NoMemory>
+    ensures { OnOk result (list.new.items ≡ list.old.items ++ shape.entry ∷ []) }
+{
+    list.push(assemble(alloc, &shape)?)?;
+    Ok(())
 }
 
 // ---- shapes

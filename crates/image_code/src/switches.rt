@@ -19,7 +19,7 @@ ghost use Rattle.cfg_blocks.specs.declared.EdgeKind.TheVariants.{Case};
 use crate::firsts::small;
 use crate::maker::PieceMaker;
 use crate::numbering::piece;
-use crate::shape::{Shape, assemble, save_address};
+use crate::shape::{Shape, push_piece, save_address};
 use crate::ways::unused;
 use cfg_normal::{Node, OpenSwitch};
 use eel_base::{BlockNo, NoMemory, PieceNo, WordNo};
@@ -90,7 +90,7 @@ impl<'a> PieceMaker<'a> {
         let first = self.graph.first(block).0;
         let end = first + self.graph.words(block);
         self.push_images_at(alloc, list, node, first, load - first)?;
-        list.push(assemble(alloc, &save_address(self.text.word(WordNo(load))))?)?;
+        push_piece(alloc, list, save_address(self.text.word(WordNo(load))))?;
         self.push_images_at(alloc, list, node, load, end - load)?;
         Ok(())
     }
@@ -219,7 +219,7 @@ impl<'a> PieceMaker<'a> {
             let place = place_in(places, word.0);
             let number = piece(first + u64::from(place))?;
             numbers.push(number)?;
-            list.push(assemble(alloc, &self.case_piece(found, place, entry, *word)?)?)?;
+            push_piece(alloc, list, self.case_piece(found, place, entry, *word)?)?;
         }
         Ok(())
     }

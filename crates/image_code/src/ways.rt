@@ -11,7 +11,7 @@ ghost use Rattle.v8_decode.specs.Words.{decode_of};
 
 use crate::images::last_word;
 use crate::maker::PieceMaker;
-use crate::shape::{COUPLE, Exit, Head, Shape, Visit, assemble, is_transfer, marked, way_to};
+use crate::shape::{COUPLE, Exit, Head, Shape, Visit, is_transfer, marked, push_piece, way_to};
 use cfg_blocks::EdgeKind;
 use cfg_normal::{Edge, FlowGraph, Node, Slot, node_number};
 use eel_base::{Addr, NoMemory, PieceNo, Text, WordNo};
@@ -170,7 +170,7 @@ impl<'a> PieceMaker<'a> {
     {
         for (number, edge) in self.edges_but_landings().iter().enumerate() {
             let number = number as u32;
-            list.push(assemble(alloc, &self.way(number, edge)?)?)?;
+            push_piece(alloc, list, self.way(number, edge)?)?;
         }
         Ok(())
     }

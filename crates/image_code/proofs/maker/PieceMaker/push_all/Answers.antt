@@ -6,8 +6,7 @@ pub returns-clause-list : goal.returns-clause-list
 unfolding piece_list
 returns-clause-list c =
     rw (
-      c.in_ok-push.ensures.items,
-      c.in_ok-assemble.ensures,
+      c.in_ok-push_piece.ensures,
       c.way_to.ensures,
       c.in_ok-cases.ensures.list,
       c.in_ok-push_opens.ensures,

@@ -27,8 +27,8 @@ loop-entry-preserved c =
     λ word. c.requires.places word ∙ ap (position (λ t. t == word)) (sym c.targets-word-items.ensures) in
     record {
       list = case_pushed text graph maker.table.0 (code_at maker.codes.now) o targets c.loop-entry.entry _
-          c.args.list.now.items c.loop-entry.list.items c.push-in-loop-entry.new.self.items _ c.loop-entry-test.true
-          c.in_ok-push-2.ensures.items (c.in_ok-assemble.ensures ∙ c.in_ok-case_piece.ensures) c.loop-entry.invariant.list;
+          c.args.list.now.items c.loop-entry.list.items c.push_piece.new.list.items _ c.loop-entry-test.true
+          c.in_ok-push_piece.ensures (c.in_ok-case_piece.ensures) c.loop-entry.invariant.list;
       numbers = number_pushed text graph c.args.number o targets c.loop-entry.entry _ c.args.numbers.now.items
           c.loop-entry.numbers.items c.push.new.self.items c.in_ok-number.number c.loop-entry-test.true
           c.in_ok-push.ensures.items

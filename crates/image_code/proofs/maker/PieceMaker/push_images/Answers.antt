@@ -13,6 +13,6 @@ loop-word-preserved c =
     let maker = c.args.self.now in
     let image_at = image maker.text.now maker.graph.now maker.jumps.0 maker.cases.0 (code_at maker.codes.now) in
     pushed_below (λ word. image_at (node_in_order maker.graph.now word) word) c.loop-word.word c.args.list.now.items
-    c.loop-word.list.items c.push.new.self.items _ c.in_ok-push.ensures.items
-    (c.in_ok-assemble.ensures ∙ c.in_ok-image.ensures ∙ ap (λ node. image_at node c.loop-word.word) c.node_of-node.ensures.node)
+    c.loop-word.list.items c.push_piece.new.list.items _ c.in_ok-push_piece.ensures
+    (c.in_ok-image.ensures ∙ ap (λ node. image_at node c.loop-word.word) c.node_of-node.ensures.node)
     c.loop-word.invariant

@@ -1,4 +1,4 @@
-use Rattle.std.proofs.Common.{append-nil, sym, ◌∙◌}
+use Rattle.std.proofs.Common.{append-nil, sym}
 use Rattle.image_code.specs.Made.{landing}
 use Rattle.image_code.specs.Private.{code_at}
 use Rattle.image_code.proofs.Pushed.{pushed_below}
@@ -11,5 +11,5 @@ pub loop-word-preserved : goal.loop-word-preserved
 loop-word-preserved c =
     let maker = c.args.self.now in
     pushed_below (landing maker.text.now maker.graph.now (code_at maker.codes.now)) c.loop-word.word
-    c.args.list.now.items c.loop-word.list.items c.push.new.self.items _ c.in_ok-push.ensures.items
-    (c.in_ok-assemble.ensures ∙ c.in_ok-landing.ensures) c.loop-word.invariant
+    c.args.list.now.items c.loop-word.list.items c.push_piece.new.list.items _ c.in_ok-push_piece.ensures
+    (c.in_ok-landing.ensures) c.loop-word.invariant

@@ -1,4 +1,4 @@
-use Rattle.std.proofs.Common.{◌≡◌, ◌-◌, ◌^◌, ◌<◌, append-nil, length, length-take, ap, sym, arith, ◌∙◌}
+use Rattle.std.proofs.Common.{◌≡◌, ◌-◌, ◌^◌, ◌<◌, append-nil, length, length-take, ap, sym, arith}
 use Rattle.std.specs.Coded.{le_prop}
 use Rattle.std.proofs.Math.Logic.{∥∥₁_elim}
 use Rattle.image_code.specs.Numbered.{landing_count, edges_but_landings}
@@ -32,6 +32,6 @@ loop-number-preserved c =
     let edges = c.edges_but_landings-edge-items.result.now in
     pushed_numbered (way_along maker.text.now maker.graph.now maker.table.0 (code_at maker.codes.now))
     c.loop-number.number (take c.loop-number.number edges) _ _ c.args.list.now.items c.loop-number.list.items
-    c.push.new.self.items _ (take_more edges c.loop-number.number _ c.loop-number-test.true)
-    (omega (arith, length-take c.loop-number.number edges, c.loop-number-test.true)) c.in_ok-push.ensures.items
-    (c.in_ok-assemble.ensures ∙ c.in_ok-way.ensures) c.loop-number.invariant
+    c.push_piece.new.list.items _ (take_more edges c.loop-number.number _ c.loop-number-test.true)
+    (omega (arith, length-take c.loop-number.number edges, c.loop-number-test.true)) c.in_ok-push_piece.ensures
+    (c.in_ok-way.ensures) c.loop-number.invariant
