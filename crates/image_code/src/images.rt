@@ -12,7 +12,6 @@ ghost use Rattle.image_code.specs.Lookups.{is_land};
 ghost use Rattle.image_code.specs.Made.{branch_image as branch_image_of, choice_of, distance_of, image as image_of, is_slots as is_slots_of, jump_by, jump_image_by, next_at as next_at_of, next_to, way_out as way_out_of};
 ghost use Rattle.image_code.specs.Numbered.{node_in_order};
 ghost use Rattle.image_code.specs.Private.{code_at as code_at_of, exit_items};
-ghost use Rattle.v8_decode.specs.Words.{decode_of};
 ghost use Rattle.v8_encode.specs.Code.{op2_fits};
 
 use crate::maker::PieceMaker;

@@ -1,6 +1,6 @@
 //! The shapes of pieces: what stands in a piece's Mark, the code of a snippet, and where control goes on.
 
-ghost use Rattle.std.specs.Prelude.{◌≡◌, ◌<◌, IfOk, OnOk, [], ◌∷◌, ◌++◌, ◌+◌, ◌%◌, ◌^◌, ◌≤◌, map};
+ghost use Rattle.std.specs.Prelude.{◌≡◌, ◌<◌, IfOk, OnOk, [], ◌∷◌, ◌++◌, ◌+◌, ◌≤◌, map};
 ghost use Rattle.image_code.specs.Made.{save_by};
 ghost use Rattle.image_code.specs.Private.{exit_items, head_items, mark_items};
 ghost use Rattle.jump_code.specs.Links.{link};

@@ -6,7 +6,6 @@ ghost use Rattle.std.specs.Option.{option_or};
 ghost use Rattle.indexmap.specs.IndexMap.{get};
 ghost use Rattle.v8_decode.specs.Words.{decode_of};
 ghost use Rattle.cfg_blocks.specs.Blocks.{size_of};
-ghost use Rattle.cfg_normal.specs.Opens.{Open};
 ghost use Rattle.image_code.specs.Lookups.{number_where};
 ghost use Rattle.image_code.specs.Made.{case_at, case_by as case_by_of, all_cases, image, save_by, open_pieces};
 ghost use Rattle.image_code.specs.Numbered.{case_numbers, case_piece as case_piece_of, first_entry, open_begin, or_zero, place_in as place_in_of};

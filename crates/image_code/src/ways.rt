@@ -5,7 +5,6 @@ ghost use Rattle.std.specs.Int.{w32, cast_unsigned};
 ghost use Rattle.cfg_normal.specs.Code.{IsEdgeIn, IsNodeIn};
 ghost use Rattle.cfg_walk.specs.Matches.{last_in as last_in_of, target_along, way_address};
 ghost use Rattle.image_code.specs.Made.{first_word as first_word_of, goes_behind, goes_on, jump_to, slot_copy as slot_copy_of, way_along, way_by as way_by_of, all_ways};
-ghost use Rattle.image_code.specs.Numbered.{edges_but_landings as edges_but_landings_of};
 ghost use Rattle.image_code.specs.Private.{code_at as code_at_of, exit_items};
 ghost use Rattle.v8_decode.specs.Words.{decode_of};
 
