@@ -15,7 +15,7 @@ use Rattle.cfg_normal.specs.Numbers.{node_number}
 use Rattle.cfg_normal.specs.Opens.{Open, targets_in}
 use Rattle.cfg_walk.proofs.Nodes.{lands_in}
 use Rattle.image_code.specs.Copies.{is_at}
-use Rattle.edit_core.specs.declared.taking.CaseKey.{CaseKey}
+use Rattle.edit_core.specs.declared.requests.CaseKey.{CaseKey}
 use Rattle.edit_core.specs.Private.{case_key, count_of, entries_with, is_entry, same_key}
 
 -- ---- counts

@@ -23,7 +23,7 @@ use Rattle.image_code.specs.Numbered.{case_numbers}
 use Rattle.image_code.proofs.OpenBlocks.{text_graph}
 use Rattle.image_code.proofs.OpenNumbers.{enter_below}
 use Rattle.snippets.specs.declared.snippet.Op.{Op}
-use Rattle.edit_core.specs.declared.taking.Request.{Request}
+use Rattle.edit_core.specs.declared.requests.Request.{Request}
 use Rattle.edit_core.specs.Written.{addr, case_places, cells_size, entry_number, landings_of, table_after, tables_size, AreTablesOf, TablesMatch}
 use Rattle.edit_core.specs.Private.{AreInside, AreLaid, AreMade, HasRoom, IsBuilt}
 use Rattle.edit_core.proofs.Graphs.{entries_few, graph_cut}

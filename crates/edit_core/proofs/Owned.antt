@@ -104,7 +104,7 @@ frame text base cells tables = record {
   table = first_table text tables;
   halves = second_table text tables;
   cases = cases_table text tables;
-  own = own_words base cells;
+  stored = own_words base cells;
 }
 
 -- ---- pages behind that of the cells
@@ -150,7 +150,7 @@ pub is_framed : (original : List ℕ) (plan : Plan) (p : Placement) (table : Tab
     → table.base ≡ table_base original plan → TablesMatch (text_of original plan) (graph_in original plan) plan.snips p table
     → IsEditorData g (frame (text_of original plan) (cells_base original plan) plan.cells table)
 is_framed original plan p table g same base leads = record {
-  own = rw same (record { first = inl refl; within = within });
+  stored = rw same (record { first = inl refl; within = within });
   page = λ n l. among_first (words_from (page_word 0) 8) (words_from (cells_base original plan) plan.cells) (page_word n)
       (among_words (page_word 0) 0 8 n (omega arith) (omega (arith, l)));
   table = table_in (second_table text table) (omega (arith, second_long)) (omega (arith, second_long, size));

@@ -10,19 +10,19 @@ use Rattle.notes.specs.Format.{NoteSegment, NoteRange, holds}
 use Rattle.notes.specs.Rules.{are_ranges}
 use Rattle.cfg_blocks.specs.Blocks.{below}
 use Rattle.cfg_normal.specs.Graph.{Graph}
-use Rattle.cfg_normal.specs.Opens.{Open}
-use Rattle.cfg_walk.proofs.Lists.{Each, each_at}
+use Rattle.cfg_walk.proofs.Lists.{Each}
 use Rattle.layout.specs.declared.items.Item.{Item}
 use Rattle.layout.specs.declared.items.Item.TheVariants as it
-use Rattle.layout.specs.Laid.{Ascend, IsLaid, IsRangeOf, Placement, Stands, BranchStands, branch_short, branch_long, item_at, item_in, items_in, range_in, range_of, open_in, end_from, is_end}
-use Rattle.jump_code.specs.Pieces.{foreign_piece}
-use Rattle.image_code.proofs.PointShapes.{TakesWords}
-use Rattle.image_code.specs.Made.{all_cases, all_ways, images_in_order, landing, open_pieces, piece_list}
-use Rattle.image_code.specs.Numbered.{edges_but_landings}
+use Rattle.layout.specs.Laid.{Ascend, IsLaid, IsRangeOf, Placement, item_at, item_in, items_in, range_in, range_of, open_in, end_from, is_end}
+use Rattle.image_code.specs.declared.shape.Exit.TheVariants as exits
+use Rattle.image_code.specs.declared.shape.Head.{Head}
+use Rattle.image_code.specs.declared.shape.Visit.{Visit}
+use Rattle.image_code.specs.Shapes.{Shape, assembled, bare, exit_items, head_items, items_of, mark_items}
+use Rattle.image_code.specs.Made.{all_cases, all_ways, images_in_order, landing, open_pieces, piece_list, shape_list}
 use Rattle.image_code.specs.Graphs.{IsGraphOf}
 use Rattle.image_code.proofs.OpenNumbers.{each_index}
-use Rattle.image_code.proofs.Fit.{pieces_shaped}
-use Rattle.image_code.proofs.Shapes.{IsVisit, Marked, first_mark, first_taken}
+use Rattle.image_code.proofs.Fit.{piece_shaped}
+use Rattle.image_code.proofs.Shapes.{HasFirst, IsVisit, first_mark, first_of}
 use Rattle.edit_core.proofs.Graphs.{IsNumber, number_of}
 use Rattle.edit_core.proofs.Fronts.{passed}
 
@@ -86,16 +86,6 @@ ends_inside (x ∷ items) n =
     cond_both (is_end x) n (end_from items (suc n)) (λ (k : ℕ). k ≤ n + suc (length items)) (λ _. omega arith)
     (λ _. let later = ends_inside items (suc n) in omega arith)
 
--- an item that takes words ends behind where it begins
-covers : (base : ℕ) (p : Placement) (x : Item) (a b : ℕ) → TakesWords x → Stands base p x a b → a < b
-covers base p (it.Word w) a b t s = omega (arith, s.0)
-covers base p (it.Branch c to) a b t s = by s
-  where
-    by : {to : ℕ} → BranchStands base p.code c to a b → a < b
-    by (branch_short disp q r says) = omega (arith, q)
-    by (branch_long q says more) = omega (arith, q)
-covers base p _ a b t s = absurd t
-
 module _ (text : Words) (graph : Graph) (table cases : ℕ) (codes : ℕ → List ℕ) (is : IsText text)
     (h : IsGraphOf text graph) (base : ℕ) (p : Placement) (place : ℕ → ℕ → ℕ)
     (laid : IsLaid (piece_list text graph table cases codes) base p place) where
@@ -107,27 +97,28 @@ module _ (text : Words) (graph : Graph) (table cases : ℕ) (codes : ℕ → Lis
   some_piece k n x None e i = absurd (cc)
   some_piece k n x (Some items) e i = (items, e, i)
 
-  whole_here : (r : NoteRange) (k : ℕ) (m : Marked) (item : Item) (rest : List Item) → TakesWords item
-      → slice_get pieces k ≡ Some (it.Mark m.address m.node ∷ item ∷ rest) → IsVisit text graph m
-      → r.address ≡ m.address.0 → r.lo ≡ place k 1 → range_in p.ranges r.lo ≡ Some r → IsWhole graph r
-  whole_here r k m item rest takes piece visit says lo is_found =
+  whole_here : (r : NoteRange) (k : ℕ) (visit : Visit) (head : Head) (f : HasFirst base p (head_items visit.address head))
+      (rest : List Item) → slice_get pieces k ≡ Some (it.Mark visit.address visit.node ∷ f.item ∷ rest)
+      → IsVisit text graph visit head → r.address ≡ visit.address.0 → r.lo ≡ place k 1 → range_in p.ranges r.lo ≡ Some r
+      → IsWhole graph r
+  whole_here r k visit head f rest piece its says lo is_found =
       let inside : k < length pieces = slice_get_within pieces k _ piece in
-      let at : item_at pieces k 1 ≡ Some item = ap (λ o. item_in o 1) piece in
-      let stands = laid.items k 1 item at in
-      let wide : place k 1 < place k 2 = covers base p item (place k 1) (place k 2) takes stands in
-      let there = laid.ranges k 1 r.lo item at (omega (arith, lo)) (omega (arith, lo, wide)) in
-      let end = end_from (item ∷ rest) 1 in
-      let same : r ≡ record { lo = place k 1; hi = place k end; address = m.address.0; node = m.node } =
+      let at : item_at pieces k 1 ≡ Some f.item = ap (λ o. item_in o 1) piece in
+      let stands = laid.items k 1 f.item at in
+      let wide : place k 1 < place k 2 = f.room (place k 1) (place k 2) stands in
+      let there = laid.ranges k 1 r.lo f.item at (omega (arith, lo)) (omega (arith, lo, wide)) in
+      let end = end_from (f.item ∷ rest) 1 in
+      let same : r ≡ record { lo = place k 1; hi = place k end; address = visit.address.0; node = visit.node } =
       some_same (sym is_found ∙ there ∙ ap (λ o. range_of (place k) (open_in o 1)) piece) in
       let size : items_in (slice_get pieces k) ≡ suc (suc (length rest)) = ap items_in piece in
-      let last = laid.within k end inside (omega (arith, size, ends_inside (item ∷ rest) 1)) in
-      let from : m.address.0 ≡ address_of text visit.word = ap (λ (x : Marked). x.address.0) visit.is in
+      let last = laid.within k end inside (omega (arith, size, ends_inside (f.item ∷ rest) 1)) in
+      let from : visit.address.0 ≡ address_of text its.word = ap (λ (x : Visit). x.address.0) its.is in
       record {
         lo = ap (λ z. z % 4) lo ∙ (laid.within k 1 inside (omega (arith, size))).aligned;
         hi = ap (λ (z : NoteRange). z.hi % 4) same ∙ last.aligned;
         address = omega (arith, says, from, is.aligned);
-        low = omega (arith, says, from, is.below, visit.at.low);
-        node = rw (ap (λ (z : NoteRange). z.node) same, visit.is) (number_of graph visit.node visit.at.inside);
+        low = omega (arith, says, from, is.below, its.at.low);
+        node = rw (ap (λ (z : NoteRange). z.node) same, its.is) (number_of graph its.node its.at.inside);
       }
     where
       some_same : {a b : NoteRange} → Some a ≡ Some b → a ≡ b
@@ -137,12 +128,14 @@ module _ (text : Words) (graph : Graph) (table cases : ℕ) (codes : ℕ → Lis
   whole_at n r e =
       let m : IsRangeOf pieces place r = laid.marks n r e in
       let piece = some_piece m.piece m.item (it.Mark m.address r.node) (slice_get pieces m.piece) refl m.mark in
-      let s = each_at _ pieces m.piece piece.0 (pieces_shaped text graph table cases codes is h) piece.1 in
-      let first = first_mark s m.item m.address r.node piece.2 in
-      let about : Marked = record { address = m.address; node = r.node; covers = first.covers } in
-      let head = first_taken s about first.visit.some in
-      whole_here r m.piece about head.item head.rest head.takes
-      (piece.1 ∙ ap (λ (xs : List Item). Some xs) (first.is ∙ head.is)) first.visit m.says
+      let s = piece_shaped text graph table cases codes is h m.piece piece.0 piece.1 in
+      let first = first_mark codes s.0 s.2 m.item m.address r.node (rw s.1 at piece.2) in
+      let f = first_of base p m.address first.head first.visit.some in
+      whole_here r m.piece (record { address = m.address; node = r.node }) first.head f _
+      (piece.1 ∙ ap (λ (xs : List Item). Some xs) (s.1
+      ∙ ap (λ mark. mark_items mark (map it.Word (flat_map codes s.0.edges) ++ exit_items s.0.exit)) first.is
+      ∙ ap (λ xs. it.Mark m.address r.node
+      ∷ (xs ++ it.EndMark ∷ (map it.Word (flat_map codes s.0.edges) ++ exit_items s.0.exit))) f.is)) first.visit m.says
       (m.lo ∙ ap (λ z. place m.piece (suc z)) first.first)
       (found base (base + 4 * length p.code) p.ranges laid.ascend n r e)
 
@@ -151,18 +144,18 @@ module _ (text : Words) (graph : Graph) (table cases : ℕ) (codes : ℕ → Lis
 
   -- ---- how many words there are
 
-  last_is : (xs : List (List Item)) (x : List Item) → slice_get (xs ++ x ∷ []) (length xs) ≡ Some x
+  last_is : (xs : List Shape) (x : Shape) → slice_get (assembled codes (xs ++ x ∷ [])) (length xs) ≡ Some (items_of codes x)
   last_is [] x = refl
   last_is (y ∷ xs) x = last_is xs x
 
   last_piece : (k : ℕ) × (word : ℕ) × (item_at pieces k 0 ≡ Some (it.Word word))
-  unfolding piece_list
+  unfolding shape_list
   last_piece =
-      let xs = images_in_order text graph table cases codes ++ all_ways text graph table codes
-      ++ map (landing text graph codes) (below (length text.words))
-      ++ flat_map (open_pieces text graph table cases codes) graph.opens
-      ++ flat_map (all_cases text graph table codes) graph.opens in
-      (length xs, _, ap (λ o. item_in o 0) (last_is xs foreign_piece))
+      let xs = images_in_order text graph table cases ++ all_ways text graph table
+      ++ map (landing text graph) (below (length text.words))
+      ++ flat_map (open_pieces text graph table cases) graph.opens
+      ++ flat_map (all_cases text graph table) graph.opens in
+      (length xs, _, ap (λ o. item_in o 0) (last_is xs (bare [] exits.Foreign)))
 
   pub some_code : 0 < length p.code
   some_code =

@@ -273,7 +273,7 @@ module _ (original : List ℕ) (plan : Plan) (p : Placement) where
     cells_are = record {
       aligned = omega (arith, base_aligned);
       low = cells_end_low;
-      own = λ cell l. cell_is_own cells_from plan.cells cell l;
+      stored = λ cell l. cell_is_own cells_from plan.cells cell l;
       named = λ edge cell is_one.
           cells_in_range plan.cells (snippet_on plan.snips edge) (good_on plan.cells plan.snips is.workable.good edge) cell
           is_one;

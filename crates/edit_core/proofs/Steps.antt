@@ -23,7 +23,7 @@ use Rattle.image_code.specs.Numbered.{case_numbers}
 use Rattle.image_code.specs.SnippetWords.{codes_of}
 use Rattle.snippets.specs.declared.snippet.Op.{Op}
 use Rattle.tool_kit.specs.Plans.{Plan}
-use Rattle.edit_core.specs.declared.taking.Request.{Request}
+use Rattle.edit_core.specs.declared.requests.Request.{Request}
 use Rattle.edit_core.specs.Taken.{CanEdit}
 use Rattle.edit_core.specs.Written.{added, cells_at, code_at, if_any, page_segment, table_at, CanDo, IsNewCode, TablesMatch, cases_at, cells_base, cells_size, entry_number, entry_of, graph_in, pieces_by, pieces_of, segment_size, table_after, table_base, tables_size, text_of}
 use Rattle.edit_core.specs.Private.{HasRoom, IsBuilt, IsViewOf, placement_in, plan_of}

@@ -10,8 +10,8 @@ use Rattle.elf32_sparc.specs.FileFault.{fault}
 use Rattle.elf32_sparc.specs.declared.fault.ReadFault.{ReadFault}
 use Rattle.cfg_view.specs.View.{view_of}
 use Rattle.edit_core.specs.Faithful.{AreCounted, IsFaithful}
-use Rattle.edit_core.specs.declared.taking.EditFault.{EditFault}
-use Rattle.edit_core.specs.declared.taking.EditFault.TheVariants as faults
+use Rattle.edit_core.specs.declared.requests.EditFault.{EditFault}
+use Rattle.edit_core.specs.declared.requests.EditFault.TheVariants as faults
 use Rattle.edit_core.specs.Taken.{IsCramped}
 use Rattle.elf32_sparc.specs.declared.fault.ReadFault.TheVariants as reads
 use Rattle.elf32_sparc.specs.Image.{image_of}

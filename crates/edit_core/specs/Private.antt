@@ -19,13 +19,13 @@ use Rattle.layout.specs.declared.items.Placed.{Placed}
 use Rattle.image_code.specs.Graphs.{IsGraphOf}
 use Rattle.image_code.specs.Made.{lands_at}
 use Rattle.image_code.specs.Numbered.{case_numbers, foreign_number}
-use Rattle.edit_core.specs.declared.taking.CaseKey.{CaseKey}
-use Rattle.edit_core.specs.contracts.taking.CaseKeyPartialEq.TheImpl as key_eq
+use Rattle.edit_core.specs.declared.requests.CaseKey.{CaseKey}
+use Rattle.edit_core.specs.contracts.requests.CaseKeyPartialEq.TheImpl as key_eq
 use Rattle.edit_core.specs.Cost.{short_bound}
 use Rattle.edit_core.specs.Dead.{AreDead}
 use Rattle.edit_core.specs.Written.{table_after, segment_size, pieces_by, graph_in, IsWorkable, entry_number}
 use Rattle.edit_core.specs.declared.noting.Told.{Told}
-use Rattle.edit_core.specs.declared.taking.Request.{Request}
+use Rattle.edit_core.specs.declared.requests.Request.{Request}
 use Rattle.edit_core.specs.Taken.{bound_by}
 
 -- ---- the entries of tables, counted by the edges along which they lead

@@ -11,8 +11,8 @@ ghost use Rattle.edit_core.specs.Private.{placement_in, AreInside, AreLaid, AreM
 
 use crate::addresses::{AddressMap, cells_size, tables_size};
 use crate::noting::note_edges;
+use crate::requests::Request;
 use crate::segments::zeros;
-use crate::taking::Request;
 use addr_translate::{build, build_halves, table_size};
 use cfg_normal::FlowGraph;
 use eel_base::{Addr, NoMemory, PieceNo, Text};

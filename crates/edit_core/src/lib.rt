@@ -9,11 +9,11 @@ mod addresses;
 mod building;
 mod editing;
 mod noting;
+mod requests;
 mod segments;
-mod taking;
 
 pub use editing::{edit_bytes, edit_view};
-pub use taking::EditFault;
+pub use requests::EditFault;
 
 /// Where snippets change only what is dead behind them, everything is kept that the original's run still needs or that
 /// a later snippet names.

@@ -12,7 +12,7 @@ ghost use Rattle.edit_core.specs.Written.{is_off as is_off_of, notes_on, off_ran
 ghost use Rattle.edit_core.specs.Private.{placement_in, plan_told, IsViewOf};
 
 use crate::addresses::AddressMap;
-use crate::taking::Request;
+use crate::requests::Request;
 use cfg_normal::{Edge, FlowGraph, Slot, kind_number, node_number};
 use eel_base::{Addr, BlockNo, NoMemory, Range, Text, WordNo};
 use elf32_sparc::Image;

@@ -25,8 +25,8 @@ use Rattle.count_rebuild.specs.declared.fault.CountFault.{CountFault}
 use Rattle.count_rebuild.specs.declared.fault.CountFault.TheVariants as count_faults
 use Rattle.count_rebuild.specs.Answers.{AreCounts}
 use Rattle.count_rebuild.specs.Code.{IsRefused}
-use Rattle.edit_core.specs.declared.taking.EditFault.{EditFault}
-use Rattle.edit_core.specs.declared.taking.EditFault.TheVariants as faults
+use Rattle.edit_core.specs.declared.requests.EditFault.{EditFault}
+use Rattle.edit_core.specs.declared.requests.EditFault.TheVariants as faults
 use Rattle.edit_core.specs.Faithful.{HasPages, IsInRoom, holds_cells, note_of}
 use Rattle.edit_core.specs.Cost.{TakesFewSteps}
 use Rattle.edit_core.specs.RunsAlike.{AreRunsAlike, edit_of, visits_by}

@@ -24,8 +24,8 @@ use Rattle.tool_kit.specs.Plans.{AreCounters, Plan}
 use Rattle.tool_kit.specs.Sound.{IsSound}
 use Rattle.cfg_blocks.specs.Marks.{numbers}
 use Rattle.cfg_view.specs.View.{Seen, view_of}
-use Rattle.edit_core.specs.declared.taking.EditFault.{EditFault}
-use Rattle.edit_core.specs.declared.taking.EditFault.TheVariants as faults
+use Rattle.edit_core.specs.declared.requests.EditFault.{EditFault}
+use Rattle.edit_core.specs.declared.requests.EditFault.TheVariants as faults
 use Rattle.edit_core.specs.Faithful.{AreCounted}
 use Rattle.edit_core.specs.Taken.{CanEdit, IsCramped}
 use Rattle.edit_core.specs.Code.{AsksOf, CountsEdges, EditRefuses, IsEdited}

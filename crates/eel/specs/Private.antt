@@ -6,7 +6,7 @@ use Rattle.tool_kit.specs.Plans.{Plan}
 use Rattle.elf32_sparc.specs.FileFault.{code_of, fault}
 use Rattle.notes.specs.Format.{Notes}
 use Rattle.cfg_view.specs.View.{view_of}
-use Rattle.edit_core.specs.declared.taking.EditFault.{EditFault}
+use Rattle.edit_core.specs.declared.requests.EditFault.{EditFault}
 use Rattle.v8_step.specs.Run.{run}
 use Rattle.dump_file.specs.Dump.{Dump}
 use Rattle.exact_counts.specs.Stops.{dump_at}
@@ -15,7 +15,7 @@ use Rattle.v8_runner.specs.declared.Stop.{Stop}
 use Rattle.v8_runner.specs.declared.Stop.TheVariants as stops
 use Rattle.eel_said.specs.Outcome.{Outcome, DeviceFault, OutOfMemory, Done, BadFile, NoRoom, NoCounts, NoTrace, BadCell}
 use Rattle.eel_said.specs.Shared.{Store, IsPut}
-use Rattle.edit_core.specs.declared.taking.EditFault.TheVariants as faults
+use Rattle.edit_core.specs.declared.requests.EditFault.TheVariants as faults
 use Rattle.edit_core.specs.Taken.{IsCramped}
 use Rattle.edge_ring.specs.declared.fault.RingFault.{RingFault}
 use Rattle.eel_said.specs.declared.outcome.CountCause.TheVariants as causes

@@ -92,7 +92,7 @@ module _ (site : Site) where
     valid = valid;
     ready = record { live = live; npc = npc };
     slot = slot;
-    page = stores_there (page_word 0) t.memory (has.ours.words (page_word 0) placed.frame.own.first);
+    page = stores_there (page_word 0) t.memory (has.ours.words (page_word 0) placed.frame.stored.first);
     code = has.code;
   }
 

@@ -1,5 +1,5 @@
 -- The images of branches: each way leads into a slot, to a word's image, or out of the text.
-use Rattle.image_code.proofs.Common.{◌≡◌, ℕ, ◌+◌, ◌%◌, ◌^◌, inl, inr, Bool, true, false, not, Option, Some, None, List, [], ◌∷◌, ◌++◌, refl, ap, sym, ◌∙◌, arith, if◌then◌else◌, ◌&&◌, ◌||◌, slice_get, slice_index, ◌==◌, ℤ, Words, address_of, word_at, Addr, Instr, decode_of, holds_of, wrapped, NoSlot, Taken, Untaken, State, act, EdgeKind, always, never, end_at, within, Blocks, blocks_of, end_of, holding_of, last_word, is_fall, is_jump, cases_Bool, cond_both, word_at-some, Edge, Node, home_of, Open, jumps_in, graph_of, has_cases, edge_from, node_after, point_of, same_kind, block, copy, end_is, is_in, X, node_is, Item, branched, branch_step, Way, number_of, way, ways_of, directed, edge_of, is_compared, last_in, target_along, transfer_ends, way_found, Stands, IsOne, always_holds}
+use Rattle.image_code.proofs.Common.{◌≡◌, ℕ, ◌+◌, ◌%◌, ◌^◌, inl, inr, Bool, true, false, not, Option, Some, None, List, [], ◌∷◌, refl, ap, sym, ◌∙◌, arith, if◌then◌else◌, ◌&&◌, ◌||◌, slice_get, slice_index, ◌==◌, ℤ, Words, word_at, Instr, decode_of, holds_of, wrapped, NoSlot, Taken, Untaken, State, act, EdgeKind, always, never, end_at, within, Blocks, blocks_of, end_of, holding_of, last_word, is_fall, is_jump, cases_Bool, cond_both, word_at-some, Edge, Node, home_of, Open, jumps_in, graph_of, has_cases, edge_from, node_after, point_of, same_kind, block, copy, end_is, is_in, X, node_is, branched, branch_step, Way, number_of, way, ways_of, directed, edge_of, is_compared, last_in, target_along, transfer_ends, way_found, Stands, IsOne, always_holds, Exit, OfWord, Shape, bare, goes_to, marked}
 use Rattle.v8_decode.specs.declared.Instr.TheVariants as i
 use Rattle.cfg_blocks.specs.declared.BlockEnd.TheVariants as ends
 use Rattle.cfg_blocks.specs.declared.EdgeKind.TheVariants as kinds
@@ -13,16 +13,16 @@ use Rattle.cfg_walk.proofs.Points.{jumps_along, jumps_to, passes, quiet}
 use Rattle.cfg_walk.proofs.Slots.{LeadsIfThere}
 use Rattle.cfg_walk.proofs.Transfers.{taken_delayed, untaken_delayed}
 use Rattle.cfg_walk.proofs.Ways.{never_holds, not_always, not_never, taken_is_one, untaken_is_one}
-use Rattle.image_code.specs.Simulates.{at_point, does_at, gone_at, graph_in, number_in}
-use Rattle.image_code.proofs.PointShapes.{LeadsTo, next_entry, word_ahead, words_on, IsCase, conditional, unconditional, IsNoJumpsSlot}
-use Rattle.image_code.specs.Cases.{branch_piece, plain_piece}
+use Rattle.image_code.specs.Simulates.{at_point, does_at, gone_at, graph_in}
+use Rattle.image_code.proofs.PointShapes.{LeadsTo, next_entry, word_ahead, IsCase, conditional, unconditional, IsNoJumpsSlot}
+use Rattle.image_code.specs.declared.shape.Head.TheVariants as heads
 use Rattle.image_code.specs.Numbered.{enter_number, image_number}
-use Rattle.image_code.specs.Made.{first_word, goes_on, jump_to, nop_word, way_out}
+use Rattle.image_code.specs.Made.{first_word, goes_on, nop_word, visit_of, way_out}
 use Rattle.image_code.proofs.EdgePieces.{along_far}
 use Rattle.image_code.proofs.Branches.{small}
 use Rattle.image_code.proofs.IntoSlots.{LeadsThere, entered, entered_untaken, no_jump, stands}
 use Rattle.image_code.proofs.Listed.{own_at, way_at}
-use Rattle.image_code.proofs.Visited.{AtWord, GoesThere, at_image, goes_on_there, site, image_items, l, left_gone, word_is}
+use Rattle.image_code.proofs.Visited.{AtWord, GoesThere, at_image, goes_on_there, site, image_shape, left_gone, shapes, word_is}
 
 -- a branch comes to a taken transfer's slot only at the next instruction
 slot_next : (flag all annul : Bool) (s : State) (to : ℕ) → s.slot ≡ NoSlot
@@ -36,11 +36,11 @@ goes_there : (text : Words) (b : Blocks) (opens : List Open) (from : Node) (kind
     → slice_index b.firsts k ≡ to
     → goes_on text (graph_of b opens) (directed opens from kind (block k))
     (first_word (graph_of b opens) (directed opens from kind (block k))) address
-    ≡ jump_to (enter_number text (graph_of b opens) (directed opens from kind (block k)) to)
+    ≡ goes_to (enter_number text (graph_of b opens) (directed opens from kind (block k)) to)
 goes_there text b opens from kind k to address e =
     cond_both (jumps_in opens k && not (is_compared opens from kind k)) (copy k) (block k)
     (λ (n : Node). goes_on text (graph_of b opens) n (first_word (graph_of b opens) n) address
-    ≡ jump_to (enter_number text (graph_of b opens) n to))
+    ≡ goes_to (enter_number text (graph_of b opens) n to))
     (λ _. rw e) (λ _. rw e)
 
 pub last_home : (b : Blocks) (opens : List Open) (node : Node) (k : ℕ) → home_of node ≡ block k
@@ -49,7 +49,7 @@ last_home b opens node k h = elim (node_at node k h) [ inl here ↦ rw here | in
 
 module _ (visit : AtWord) (cond : ℕ) (annul : Bool) (disp : ℤ)
     (says : decode_of (slice_index visit.edit.g.text.words visit.word) ≡ i.Branch cond annul disp) where
-  open visit use {edit, node, x, word, at, none, there, npc, inside, cut, low, home, edit.{g, codes, is, base, p, place, f}}
+  open visit use {edit, node, x, word, at, none, there, npc, inside, cut, low, home, edit.{g, is, f}}
 
   abbrev b : Blocks
   b = blocks_of g.text g.given
@@ -77,7 +77,7 @@ module _ (visit : AtWord) (cond : ℕ) (annul : Bool) (disp : ℤ)
   -- ---- the way of an edge on which no slot is run
 
   module _ (w : Way) (one : IsOne w (ways_of b.words word (end_at g.text word)))
-      (bare : runs_slot (end_at g.text word) w.kind ≡ false) (fall : is_fall w.kind ≡ false)
+      (skips : runs_slot (end_at g.text word) w.kind ≡ false) (fall : is_fall w.kind ≡ false)
       (land : same_kind w.kind kinds.Land ≡ false) (no_case : same_kind w.kind kinds.Case ≡ false) where
     abbrev goal_address : ℕ
     goal_address = target_along g.text word w.kind branch
@@ -94,19 +94,17 @@ module _ (visit : AtWord) (cond : ℕ) (annul : Bool) (disp : ℤ)
     found : IsEdge (graph_in g) (edge_from (graph_in g) node w.kind) edge
     found = way_found g.text b g.switches cut word low is.cased.jumps node there home w last caseless one
 
-    abbrev its_code : List Item
-    its_code = words_on (l edit) (found.number ∷ [])
-
-    abbrev way_on : Node → List Item
+    abbrev way_on : Node → Exit
     way_on to = goes_on g.text (graph_in g) to (first_word (graph_in g) to) goal_address
 
-    bare_items : slice_get (l edit).list (way_out g.text (graph_in g) node w.kind) ≡ Some (its_code ++ way_on edge.to)
-    bare_items =
+    bare_shape : slice_get (shapes edit) (way_out g.text (graph_in g) node w.kind)
+        ≡ Some (bare (found.number ∷ []) (way_on edge.to))
+    bare_shape =
         let ended : end_of b k ≡ end_at g.text word =
         cut.ends k (is_in g.text b g.switches cut word low).within ∙ ap (end_at g.text) (sym last) in
         let last_there : last_in (graph_in g) node ≡ word = last_home b g.switches node k home ∙ sym last in
-        rw found.only (way_at g.text b g.switches is.cased f.table.base f.cases.base codes found.number edge
-        (own_at b g.switches found.number edge found.is land) ∙ rw (fall, no_case, ended, bare, last_there, says))
+        rw found.only (way_at g.text b g.switches is.cased f.table.base f.cases.base found.number edge
+        (own_at b g.switches found.number edge found.is land) ∙ rw (fall, no_case, ended, skips, last_there, says))
 
     bare_goes : (pc : ℕ) → word_at g.text pc ≡ w.to → LeadsIfThere b w.to → pc ≡ goal_address
         → GoesThere edit edge.to pc (way_on edge.to)
@@ -137,8 +135,11 @@ module _ (visit : AtWord) (cond : ℕ) (annul : Bool) (disp : ℤ)
         left_gone g node x v none slot live word at branch says ∙ rw kind_is in
         let after : node_after (graph_in g) node (gone_at g node x v) ≡ edge.to =
         rw along (leads_along (graph_in g) node (edge_from (graph_in g) node w.kind) edge found) in
-        rw after (inr (goes_on_there edit edge.to (point_of v) _ _ (way_on edge.to) slot (bare_goes v.pc to leads pc)
-        (bare_items ∙ rw (along ∙ found.only))))
+        rw after (inr (
+          way_on edge.to,
+          bare_shape ∙ ap (λ (edges : List ℕ). Some (bare edges (way_on edge.to))) (sym (along ∙ found.only)),
+          goes_on_there edit edge.to (point_of v) _ (way_on edge.to) slot (bare_goes v.pc to leads pc),
+        ))
 
   -- ---- each way that the branch goes
 
@@ -216,8 +217,8 @@ module _ (visit : AtWord) (cond : ℕ) (annul : Bool) (disp : ℤ)
 
     -- ---- its image
 
-    abbrev address : Addr
-    address = record { 0 = address_of g.text word }
+    abbrev visited : OfWord
+    visited = visit_of g.text (graph_in g) node word
 
     abbrev taken : ℕ
     taken = way_out g.text (graph_in g) node kinds.Taken
@@ -225,18 +226,18 @@ module _ (visit : AtWord) (cond : ℕ) (annul : Bool) (disp : ℤ)
     abbrev untaken : ℕ
     untaken = way_out g.text (graph_in g) node kinds.Untaken
 
-    abbrev image_if : Bool → Bool → List Item
+    abbrev image_if : Bool → Bool → Shape
     image_if always_is never_is =
-        if always_is then plain_piece address (number_in g node) nop_word (jump_to taken) else
-        if never_is then plain_piece address (number_in g node) nop_word (jump_to untaken) else
-        branch_piece address (number_in g node) cond taken untaken
+        if always_is then marked visited (heads.Word nop_word) [] (goes_to taken) else
+        if never_is then marked visited (heads.Word nop_word) [] (goes_to untaken) else
+        marked visited (heads.Branch cond (record { 0 = taken })) [] (goes_to untaken)
 
     made : (always_is never_is : Bool) → (cond == always) ≡ always_is → (cond == never) ≡ never_is
-        → slice_get (l edit).list number ≡ Some (image_if always_is never_is)
-    made always_is never_is a n = image_items visit branch says ∙ rw (a, n)
+        → slice_get (shapes edit) number ≡ Some (image_if always_is never_is)
+    made always_is never_is a n = image_shape visit branch says ∙ rw (a, n)
 
-    one_way : (kind : EdgeKind) → slice_get (l edit).list number ≡ Some (plain_piece address (number_in g node) nop_word
-        (jump_to (way_out g.text (graph_in g) node kind)))
+    one_way : (kind : EdgeKind) → slice_get (shapes edit) number
+        ≡ Some (marked visited (heads.Word nop_word) [] (goes_to (way_out g.text (graph_in g) node kind)))
         → Goes kind (does_at g x t) → IsCase (site edit) node x t
     one_way kind found leads_there = unconditional (record {
       none = none;
@@ -245,19 +246,20 @@ module _ (visit : AtWord) (cond : ℕ) (annul : Bool) (disp : ℤ)
       disp = disp;
       says = says;
       way = record { 0 = way_out g.text (graph_in g) node kind };
-      marked = at_image visit _ found;
+      mark = at_image visit (λ _ _. heads.Word nop_word) [] _ found;
       leads = leads_there;
       never = no_jumps_slot;
     })
 
     either : (flag : Bool) → Goes (if flag then kinds.Taken else kinds.Untaken) (does_at g x t)
-        → LeadsTo (l edit) p (if flag then record { 0 = taken } else record { 0 = untaken })
+        → LeadsTo (site edit) (if flag then record { 0 = taken } else record { 0 = untaken })
         (gone_at g node x (does_at g x t)) (word_ahead g x t) (next_entry (site edit) node x t)
     either true leads = leads
     either false leads = leads
 
     two_ways : t.ending ≡ None
-        → slice_get (l edit).list number ≡ Some (branch_piece address (number_in g node) cond taken untaken)
+        → slice_get (shapes edit) number
+        ≡ Some (marked visited (heads.Branch cond (record { 0 = taken })) [] (goes_to untaken))
         → IsCase (site edit) node x t
     two_ways live found = conditional (record {
       none = none;
@@ -268,7 +270,7 @@ module _ (visit : AtWord) (cond : ℕ) (annul : Bool) (disp : ℤ)
       says = says;
       taken = record { 0 = taken };
       untaken = record { 0 = untaken };
-      marked = at_image visit _ found;
+      mark = at_image visit (λ _ _. heads.Branch cond (record { 0 = taken })) [] _ found;
       leads = either (holds_of cond t.codes) (leads live (holds_of cond t.codes) refl);
       never = no_jumps_slot;
     })

@@ -1,12 +1,10 @@
 -- Branches, their ways, and the words of their images.
-use Rattle.image_code.proofs.Common.{◌≡◌, ◌≢◌, ℕ, ◌<◌, Bool, false, Option, Some, None, List, ◌∷◌, refl, sym, arith, pos, slice_index, ℤ, ltb-true, Words, Addr, Instr, decode_of, decoded_range, Slot, is_transfer, EdgeKind, within, is_fall, Node, Graph, same_kind, way_of, node_number, Item, nop, branch_or_sethi}
+use Rattle.image_code.proofs.Common.{◌≡◌, ◌≢◌, ℕ, ◌<◌, Bool, false, Option, Some, None, refl, sym, arith, pos, slice_index, ℤ, ltb-true, Words, Instr, decode_of, decoded_range, Slot, is_transfer, EdgeKind, within, is_fall, Node, Graph, same_kind, left_by, way_of, nop, branch_or_sethi, OfWord, marked}
 use Rattle.v8_decode.specs.declared.Instr.TheVariants as i
 use Rattle.cfg_blocks.specs.declared.EdgeKind.TheVariants as kinds
-use Rattle.layout.specs.declared.items.Item.TheVariants as it
+use Rattle.image_code.specs.declared.shape.Head.TheVariants as heads
 pub use Rattle.cfg_walk.proofs.Points.{within_some}
-use Rattle.image_code.specs.Cases.{plain_piece}
-use Rattle.image_code.proofs.PointShapes.{TakesWords}
-use Rattle.image_code.specs.Made.{couple_word, nop_word, image_by, rest_after}
+use Rattle.image_code.specs.Made.{couple_word, nop_word, image_by, next_at}
 
 -- ---- words
 
@@ -32,22 +30,14 @@ pub record IsTransfersWay (kind : EdgeKind) : Type 0 where
 pub way_is_own : (o : Option Instr) (slot : Slot) → IsTransfersWay (way_of o slot)
 way_is_own o slot = grind arith
 
-pub image_straight : (text : Words) (graph : Graph) (jumps cases : ℕ) (codes : ℕ → List ℕ) (address : Addr)
-    (node : Node)
-    (word : ℕ) (instr : Instr) → is_transfer instr ≡ false
-    → image_by text graph jumps cases codes address node word instr ≡ plain_piece address (node_number graph node)
-    (slice_index text.words word) (rest_after text graph codes node word instr)
-image_straight text graph jumps cases codes address node word (i.Branch cond annul disp) e = absurd (cc)
-image_straight text graph jumps cases codes address node word (i.Call disp) e = absurd (cc)
-image_straight text graph jumps cases codes address node word (i.Jmpl rd rs1 op2) e = absurd (cc)
-image_straight text graph jumps cases codes address node word _ e = refl
-
--- a piece begins with a Mark and an item that takes words
-pub record HeadOf (address : Addr) (node : ℕ) (xs : List Item) : Type 0 where
-  pub item : Item
-  pub takes : TakesWords item
-  pub rest : List Item
-  pub is : xs ≡ it.Mark address node ∷ item ∷ rest
+pub image_straight : (text : Words) (graph : Graph) (jumps cases : ℕ) (visit : OfWord) (node : Node) (word : ℕ)
+    (instr : Instr) → is_transfer instr ≡ false
+    → image_by text graph jumps cases visit node word instr
+    ≡ marked visit (heads.Word (slice_index text.words word)) (left_by graph node word instr) (next_at text graph node word)
+image_straight text graph jumps cases visit node word (i.Branch cond annul disp) e = absurd (cc)
+image_straight text graph jumps cases visit node word (i.Call disp) e = absurd (cc)
+image_straight text graph jumps cases visit node word (i.Jmpl rd rs1 op2) e = absurd (cc)
+image_straight text graph jumps cases visit node word _ e = refl
 
 pub within_is : (count word other : ℕ) → within count word ≡ Some other → word ≡ other
 within_is count word other e = (within_some count word other e).1

@@ -8,6 +8,7 @@ use Rattle.image_code.proofs.Points.{ReachesNext, StepsFrom, entered_at, Visit}
 use Rattle.image_code.proofs.PointShapes.{LeadsTo, IsNoJumpsSlot, IsCall}
 use Rattle.image_code.proofs.Dead.{LastDead, gone_last}
 use Rattle.image_code.proofs.Through.{ahead, goes_through}
+use Rattle.image_code.proofs.Routes.{items_at}
 use Rattle.image_code.proofs.Marked.{AtWords}
 
 -- the original after its CALL
@@ -29,7 +30,7 @@ module _ (visit : Visit)
   image = link 15 c.address.0
 
   there : AtWords site node x t c.piece (length image) (words_of image)
-  there = ahead visit _ c.marked image c.way refl
+  there = ahead visit _ c.way c.mark image refl
 
   about : IsAboutToCall c.address.0 t
   about =
@@ -38,7 +39,7 @@ module _ (visit : Visit)
         ready = record { live = here.live; npc = there.next (omega (arith, there.low)) };
         low = omega (arith, there.low);
         words = subst (λ z. StandIn (code_of t.memory) z image) (sym there.at)
-            ((pieces_are_laid l.list base p place placed.laid t.memory here.memory.code c.piece _ c.items).call
+            ((pieces_are_laid l.list base p place placed.laid t.memory here.memory.code c.piece _ (items_at site c.piece _ c.shape)).call
             c.address (number_in g node) c.way short refl).words;
         short = short;
       }
@@ -47,19 +48,17 @@ module _ (visit : Visit)
       short = let o = c.original in let low = c.low in omega arith
 
   steps : (edges : List ℕ) → LastDead g edges
-      → LeadsTo l p c.way edges (word_at g.text (called x c.disp t).pc)
+      → LeadsTo site c.way edges (word_at g.text (called x c.disp t).pc)
       (entered_at site (node_after (graph_in g) node edges) (point_of (called x c.disp t)))
       → IsNoJumpsSlot g (called x c.disp t) → ReachesNext site edges node x t (called x c.disp t)
   steps edges last leads never =
       let acts = calls_act c.address.0 t about in
       let none = calls_store c.address.0 t about in
-      goes_through visit _ c.marked image c.way refl
+      goes_through visit _ c.way c.mark image refl
       (called x c.disp t) t.memory edges last
       (record {
         moves = record {
-          word = c.word;
-          is_word = c.is_word;
-          transfer = ap is_transfer c.says;
+          transfer = (c.word, c.is_word, ap is_transfer c.says);
           path = leads_weaker _ _ t _ 2 there.on (subst
               (λ a. Leads (IsBetween t 2 IsPageWord) t (past t 2 t.memory (with_register t 15 a)) 2) c.original acts.0);
           some = omega arith;

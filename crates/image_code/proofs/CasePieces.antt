@@ -1,5 +1,5 @@
 -- The pieces of the entries of tables, and their numbers, as they are added.
-use Rattle.image_code.proofs.Common.{◌≡◌, ℕ, suc, ◌+◌, ◌<◌, ◌==◌, List, [], ◌∷◌, ◌++◌, Option, length, length-take, map, take, ap, sym, ◌∙◌, arith, append_assoc, slice_index_or, position, option_or, append-nil, length-map, map-append, take_more, Words, PieceNo, Open, Graph, Item}
+use Rattle.image_code.proofs.Common.{Item, ◌≡◌, ℕ, suc, ◌+◌, ◌<◌, ◌==◌, List, [], ◌∷◌, ◌++◌, Option, length, length-take, map, take, ap, sym, ◌∙◌, arith, append_assoc, slice_index_or, position, option_or, append-nil, length-map, map-append, take_more, Words, PieceNo, Open, Graph, Shape, assembled, items_of}
 use Rattle.eel_base.specs.declared.numbers.WordNo.{WordNo}
 use Rattle.image_code.specs.Lookups.{number_where}
 use Rattle.std.specs.List.{enumerate_from}
@@ -51,19 +51,18 @@ entry_number text graph k o items word place first number found are is at made b
     omega (arith, where_it, made, begins)
 
 module _ (text : Words) (graph : Graph) where
-  -- the pieces of entries that lead to these words
-  abbrev pub cases_of_words : ℕ → (ℕ → List ℕ) → Open → List ℕ → List (List Item)
-  cases_of_words table codes o words =
-      map (λ (p : ℕ × ℕ). case_at text graph table codes o p.0 p.1) (enumerate_from 0 words)
+  -- the shapes of entries that lead to these words
+  abbrev pub cases_of_words : ℕ → Open → List ℕ → List Shape
+  cases_of_words table o words = map (λ (p : ℕ × ℕ). case_at text graph table o p.0 p.1) (enumerate_from 0 words)
 
   pub case_pushed : (table : ℕ) (codes : ℕ → List ℕ) (o : Open) (targets : List WordNo) (n : ℕ) (d : WordNo)
-      (before list new : List (List Item)) (piece : List Item) → n < length targets → new ≡ list ++ piece ∷ []
-      → piece ≡ case_at text graph table codes o n (slice_index_or targets n d).0
-      → list ≡ before ++ cases_of_words table codes o (map word_of (take n targets))
-      → new ≡ before ++ cases_of_words table codes o (map word_of (take (n + 1) targets))
-  case_pushed table codes o targets n d before list new piece l pushed made held =
-      pushed_numbered (case_at text graph table codes o) n (map word_of (take n targets)) _ _ before list new piece
-      (words_more targets n d l) (words_many targets n l) pushed made held
+      (before list new : List (List Item)) (shape : Shape) → n < length targets
+      → new ≡ list ++ items_of codes shape ∷ [] → shape ≡ case_at text graph table o n (slice_index_or targets n d).0
+      → list ≡ before ++ assembled codes (cases_of_words table o (map word_of (take n targets)))
+      → new ≡ before ++ assembled codes (cases_of_words table o (map word_of (take (n + 1) targets)))
+  case_pushed table codes o targets n d before list new shape l pushed made held =
+      pushed_numbered (items_of codes) before list new (case_at text graph table o) n (map word_of (take n targets)) _ _
+      shape (words_more targets n d l) (words_many targets n l) pushed made held
 
   -- the number of an entry
   pub number_pushed : (k : ℕ) (o : Open) (targets : List WordNo) (n : ℕ) (d : WordNo) (before list new : List PieceNo)

@@ -1,16 +1,15 @@
 -- A word in its Mark at the head of a piece, and the images of plain words: they are one step each.
-use Rattle.image_code.proofs.Common.{◌≡◌, ◌≢◌, ℕ, ◌+◌, ◌⊎◌, inl, inr, Bool, true, Option, Some, None, List, [], ◌∷◌, refl, ap, sym, ◌∙◌, arith, ℤ, range_at, Instr, decode_of, code_of, AllApart, Ending, State, act, step_of, on_word, puts_by, puts_on_word, run_puts, judged_by, in_pages, pages_of, live_puts, goes_act, Point, point_of, node_after, count_stores, moved, hopped, step_is, no_stores, leads_one, page_word, Item, words_stay, Notes, outside_refl}
+use Rattle.image_code.proofs.Common.{◌≡◌, ◌≢◌, ℕ, ◌+◌, ◌⊎◌, inl, inr, Bool, true, Option, Some, None, List, [], ◌∷◌, refl, ap, sym, subst, ◌∙◌, arith, ℤ, range_at, Instr, decode_of, code_of, AllApart, Ending, State, act, step_of, on_word, puts_by, puts_on_word, run_puts, judged_by, in_pages, pages_of, live_puts, goes_act, Point, point_of, node_after, count_stores, moved, hopped, step_is, no_stores, leads_one, page_word, words_stay, Notes, outside_refl, Exit}
 use Rattle.v8_decode.specs.declared.Instr.TheVariants as i
-use Rattle.layout.specs.declared.items.Item.TheVariants as it
 use Rattle.two_runs.proofs.JudgedAlike.{judged_alike}
 use Rattle.code_runs.specs.Straight.{Says}
 use Rattle.code_runs.proofs.Counted.{count_one, ends_stores}
 use Rattle.code_runs.proofs.Points.{acts_anywhere}
-use Rattle.image_code.specs.Simulates.{at_point, does_at, gone_at, graph_in, number_in, word_of, edit_in}
+use Rattle.image_code.specs.Simulates.{at_point, does_at, gone_at, graph_in, word_of, edit_in}
 use Rattle.image_code.specs.Cost.{IsWatched, in_first_word, is_spill}
 use Rattle.image_code.specs.Store.{cells_in}
 use Rattle.image_code.proofs.Points.{ReachesNext, StepsFrom, entered_at, Visit}
-use Rattle.image_code.proofs.PointShapes.{next_entry, visits_it, IsMarkedWord, IsPlain, word_ahead}
+use Rattle.image_code.proofs.PointShapes.{next_entry, IsMarkedWord, IsPlain, word_ahead}
 use Rattle.image_code.proofs.Ended.{stops_act}
 use Rattle.image_code.proofs.Sparing.{uncounted}
 use Rattle.image_code.proofs.Memories.{fetch_is, images_stay, same_stored}
@@ -34,14 +33,11 @@ no_puts s cond annul disp descriptor = refl
 
 -- ---- words that are no transfers
 
-module _ (visit : Visit) (rest : List Item) (c : IsMarkedWord visit.site visit.node visit.x rest) where
+module _ (visit : Visit) (edges : List ℕ) (exit : Exit) (c : IsMarkedWord visit.site visit.node visit.x edges exit) where
   open visit use {site, node, x, t, here, site.{g, place, placed}}
 
   there : AtWords site node x t c.piece 1 (c.word ∷ [])
-  there = at_words visit _ c.marked rest (c.word ∷ []) refl
-
-  visits : visits_it g node x t
-  visits = there.visits (omega arith)
+  there = at_words visit _ _ _ c.mark (c.word ∷ []) refl
 
   -- the state after the word, of the machine and of the original
   abbrev a : State
@@ -86,7 +82,7 @@ module _ (visit : Visit) (rest : List Item) (c : IsMarkedWord visit.site visit.n
           → (count_stores (is_spill g.notes) t 1 ≡ 0) × (count_stores in_first_word t 1 ≡ 0)
       spared (inl none) = (none _, none _)
       spared (inr alive) =
-          let out = uncounted g.notes (placed.frame.own.within (page_word 0) placed.frame.own.first) t
+          let out = uncounted g.notes (placed.frame.stored.within (page_word 0) placed.frame.stored.first) t
           (decode_of c.word) apart alive in
           let says : Says (code_of t.memory) t.pc (decode_of c.word) =
           record { word = c.word; fetched = there.words.0; decodes = refl } in (
@@ -136,8 +132,8 @@ module _ (visit : Visit) (rest : List Item) (c : IsMarkedWord visit.site visit.n
         watched = watched;
         kept = λ _.
             (words_stay (pages_of g.notes) (page_word 0) true t (decode_of c.word)
-            (placed.frame.own.within (page_word 0) placed.frame.own.first) apart
-            (here.memory.ours.words (page_word 0) placed.frame.own.first)).1;
+            (placed.frame.stored.within (page_word 0) placed.frame.stored.first) apart
+            (here.memory.ours.words (page_word 0) placed.frame.stored.first)).1;
       }) (λ fit.
       let tail = onward fit (omega (arith, npc, went.0, there.behind)) in
       (tail.0, λ _. tail.1))
@@ -167,7 +163,10 @@ module _ (visit : Visit) (c : IsPlain visit.site visit.node visit.x visit.t) whe
 
   pub plains_step : AllApart (pages_of g.notes) (judged_by (at_point x t) (decode_of c.word)) → StepsFrom site node x t
   plains_step apart =
-      marked_step visit c.rest c.marked (word_ahead g x t) apart
+      marked_step visit c.edges c.exit c.mark (word_ahead g x t) apart
       (λ live fit pc.
-      tail site c.piece c.rest c.address (number_in g node) (it.Word c.word) c.items _ _ (word_ahead g x t)
-      (next_entry site node x t) fit pc (c.leads live)) (λ live w. w.inside)
+      let leads = c.leads live in
+      subst (λ gone. Tail site (word_ahead g x t) gone (act t (decode_of c.word)) (next_entry site node x t) 8)
+      (sym leads.0)
+      (tail site c.piece _ c.shape _ (word_ahead g x t) (next_entry site node x t) fit pc leads.1.0 leads.1.1))
+      (λ live w. w.inside)

@@ -63,14 +63,14 @@ module _ (site : Site) where
   pub cell_low : (cell : ℕ) → cell < g.notes.cells → cell_at g.notes.base cell + 4 ≤ 2 ^ 31
   cell_low cell within = let low = placed.cells.low in omega (arith, low, within)
 
-  pub cell_stored : (m : Memory) → IsOurs (pages_of g.notes) f.own m → (cell : ℕ) → cell < g.notes.cells
+  pub cell_stored : (m : Memory) → IsOurs (pages_of g.notes) f.stored m → (cell : ℕ) → cell < g.notes.cells
       → CanStore m (cell_at g.notes.base cell)
   cell_stored m ours cell within =
-      stores_there (cell_at g.notes.base cell) m (ours.words (cell_at g.notes.base cell) (placed.cells.own cell within))
+      stores_there (cell_at g.notes.base cell) m (ours.words (cell_at g.notes.base cell) (placed.cells.stored cell within))
 
   -- stores above the cells
   pub cells_above : (May : ℕ → Type 0) → ((z : ℕ) → May z → 2 ^ 31 ≤ z) → (m n : Memory)
-      → IsOurs (pages_of g.notes) f.own m → Stores May m n
+      → IsOurs (pages_of g.notes) f.stored m → Stores May m n
       → words_at g.notes.base g.notes.cells n ≡ words_at g.notes.base g.notes.cells m
   cells_above May above m n ours stores =
       words_same g.notes.base g.notes.cells m n (λ cell within.
@@ -80,18 +80,18 @@ module _ (site : Site) where
 
   -- an instruction that judges no byte of the pages
   pub cells_stay : (s : State) (x : Instr) → AllApart (pages_of g.notes) (judged_by s x)
-      → IsOurs (pages_of g.notes) f.own s.memory → cells_in g.notes (act s x) ≡ cells_in g.notes s
+      → IsOurs (pages_of g.notes) f.stored s.memory → cells_in g.notes (act s x) ≡ cells_in g.notes s
   cells_stay s x apart ours =
       words_same g.notes.base g.notes.cells s.memory (act s x).memory (λ cell within.
-      let own = placed.cells.own cell within in
+      let own = placed.cells.stored cell within in
       (words_stay (pages_of g.notes) (cell_at g.notes.base cell) true s x
-      (placed.frame.own.within (cell_at g.notes.base cell) own) apart (ours.words (cell_at g.notes.base cell) own)).1)
+      (placed.frame.stored.within (cell_at g.notes.base cell) own) apart (ours.words (cell_at g.notes.base cell) own)).1)
 
   -- where a snippet's words may store, the editor may
-  pub may_own : (edge z : ℕ) → MayStore g.notes.base (snippet_on g.snips edge) z → IsAmongWords f.own z
+  pub may_own : (edge z : ℕ) → MayStore g.notes.base (snippet_on g.snips edge) z → IsAmongWords f.stored z
   may_own edge z (inl (cell, named, is)) =
-      subst (IsAmongWords f.own) (sym is) (placed.cells.own cell (placed.cells.named edge cell named))
-  may_own edge z (inr (n, few, is)) = subst (IsAmongWords f.own) (sym is) (placed.frame.page (n + 2) (omega (arith, few)))
+      subst (IsAmongWords f.stored) (sym is) (placed.cells.stored cell (placed.cells.named edge cell named))
+  may_own edge z (inr (n, few, is)) = subst (IsAmongWords f.stored) (sym is) (placed.frame.page (n + 2) (omega (arith, few)))
 
   -- and they leave word 1 of the page
   pub may_beside : (edge z : ℕ) → MayStore g.notes.base (snippet_on g.snips edge) z

@@ -1,23 +1,25 @@
 -- The image of an open switch's jump, at the jump's block itself: the Case edge that it chooses leads to the slot.
-use Rattle.image_code.proofs.Common.{◌≡◌, ◌≢◌, ℕ, zero, suc, ◌+◌, ◌*◌, ◌%◌, ◌^◌, ◌<◌, Bool, true, Some, None, List, [], ◌∷◌, length, map, take, refl, ap, sym, ◌∙◌, subst, arith, ◌==◌, if◌then◌else◌, slice_get, slice_index, sum_by, and_parts, eq-eqb, lt-ltb, ltb-true, length-map, sum_by-cons, slice_get-map, slice_get_within, Words, address_of, word_at, Addr, Op2, operands_in_range, decode_of, decoded_range, nat_lt, NoSlot, Taken, State, EdgeKind, Blocks, blocks_of, holding_of, last_word, ends_block_after, word_at-some, Node, Block, home_of, Open, jumps_in, Graph, has_cases, node_of, node_after, point_of, way_of, same_kind, next_word, block, end_is, node_is, table_word, choice_at, saved_address, Item, IsTarget, transfer_ends, jump_delayed, IsCaseBlock}
+use Rattle.image_code.proofs.Common.{◌≡◌, ◌≢◌, ℕ, zero, suc, ◌+◌, ◌*◌, ◌%◌, ◌^◌, ◌<◌, Bool, true, Some, None, List, [], ◌∷◌, length, map, take, refl, ap, sym, ◌∙◌, subst, arith, ◌==◌, if◌then◌else◌, slice_get, slice_index, sum_by, and_parts, eq-eqb, lt-ltb, ltb-true, length-map, sum_by-cons, slice_get-map, slice_get_within, Words, word_at, Op2, words_of, operands_in_range, decode_of, decoded_range, nat_lt, NoSlot, Taken, State, EdgeKind, Blocks, blocks_of, holding_of, last_word, ends_block_after, word_at-some, Node, Block, home_of, Open, jumps_in, Graph, has_cases, node_of, node_after, point_of, way_of, same_kind, next_word, block, end_is, node_is, table_word, choice_at, saved_address, IsTarget, transfer_ends, jump_delayed, IsCaseBlock, OfWord, Shape, marked}
 use Rattle.v8_decode.specs.declared.Instr.TheVariants as i
 use Rattle.cfg_blocks.specs.declared.EdgeKind.TheVariants as kinds
 use Rattle.jump_slice.proofs.About.{in_targets}
 use Rattle.jump_slice.proofs.CaseBlocks.{some_of}
 use Rattle.image_code.proofs.PointShapes.{next_entry, IsSwitchJump}
-use Rattle.image_code.specs.Choices.{switch_jump_piece}
+use Rattle.jump_code.specs.Choosing.{choose}
+use Rattle.image_code.specs.declared.shape.Exit.TheVariants as exits
+use Rattle.image_code.specs.declared.shape.Head.TheVariants as heads
 use Rattle.image_code.specs.Graphs.{case_table}
 use Rattle.image_code.proofs.Points.{entered_at}
 use Rattle.image_code.specs.Images.{slot_piece}
-use Rattle.image_code.specs.Made.{distance_of, jump_image_by, jumps_at}
+use Rattle.image_code.specs.Made.{distance_of, jump_image_by, jumps_at, visit_of}
 use Rattle.image_code.specs.Numbered.{case_numbers, case_piece, cases_of, entries_of, first_entry, image_number, jump_number, or_zero}
-use Rattle.image_code.specs.Simulates.{CaseTable, Chooses, IsChosen, does_at, gone_at, graph_in, number_in}
+use Rattle.image_code.specs.Simulates.{CaseTable, Chooses, IsChosen, does_at, gone_at, graph_in}
 use Rattle.image_code.proofs.CaseTables.{known_at}
 use Rattle.image_code.proofs.ImageNumbers.{block_of}
 use Rattle.image_code.proofs.IntoSlots.{before, stands}
 use Rattle.image_code.proofs.JumpImages.{goes, jump_acts}
 use Rattle.image_code.proofs.Positions.{any_at, contains, get_behind, get_first}
-use Rattle.image_code.proofs.Visited.{AtWord, InSlot, at_image, site, IsTargetOf, case_piece_is, entered_slot, image_items, l, nothing_gone, slotted, target, way_in}
+use Rattle.image_code.proofs.Visited.{AtWord, InSlot, at_image, site, IsTargetOf, case_piece_is, entered_slot, image_shape, l, nothing_gone, shapes, slotted, target, way_in}
 
 -- ---- the numbers of Case edges' pieces, by entries
 
@@ -50,13 +52,13 @@ word_place : (cases first table entry : ℕ) → table < 2 ^ 32 → cases + 4 * 
 word_place cases first table entry low high = omega arith
 
 -- at the block of an open switch's jump
-choice_is : (text : Words) (graph : Graph) (jumps cases : ℕ) (codes : ℕ → List ℕ) (address : Addr) (block k : ℕ)
-    (o : Open)
+choice_is : (text : Words) (graph : Graph) (jumps cases : ℕ) (visit : OfWord) (block k : ℕ) (o : Open)
     (rd rs1 : ℕ) (op2 : Op2) → jumps_in graph.opens block ≡ true → jump_number text graph block ≡ Some k
     → slice_get graph.opens k ≡ Some o
-    → jump_image_by text graph jumps cases address (Block (record { 0 = block })) rd rs1 op2
-    ≡ switch_jump_piece rd address block (distance_of cases (first_entry text graph k) o.switch.table.0)
-choice_is text graph jumps cases codes address block k o rd rs1 op2 jumping numbered is =
+    → jump_image_by text graph jumps cases visit (Block (record { 0 = block })) rd rs1 op2
+    ≡ marked visit (heads.SwitchJump rd (words_of (choose (distance_of cases (first_entry text graph k) o.switch.table.0))))
+    [] exits.Behind
+choice_is text graph jumps cases visit block k o rd rs1 op2 jumping numbered is =
     rw (jumping, numbered, is)
 
 module _ (visit : AtWord) (t : State) (rd rs1 : ℕ) (op2 : Op2)
@@ -64,7 +66,7 @@ module _ (visit : AtWord) (t : State) (rd rs1 : ℕ) (op2 : Op2)
     (chooses : Chooses visit.edit.g visit.node visit.x t (does_at visit.edit.g visit.x t)) (k : ℕ) (o : Open)
     (among : slice_get visit.edit.g.switches k ≡ Some o) (numbered : jump_number visit.edit.g.text (graph_in visit.edit.g) o.block ≡ Some k)
     (jumping : jumps_in visit.edit.g.switches o.block ≡ true) (itself : visit.node ≡ block o.block) where
-  open visit use {edit, node, x, word, at, none, held, npc, cut, low, edit.{g, codes, is, p, place, f, cases}}
+  open visit use {edit, node, x, word, at, none, held, npc, cut, low, edit.{g, is, p, f, cases}}
 
   abbrev b : Blocks
   b = blocks_of g.text g.given
@@ -215,17 +217,15 @@ module _ (visit : AtWord) (t : State) (rd rs1 : ℕ) (op2 : Op2)
 
   -- ---- its image
 
-  abbrev address : Addr
-  address = record { 0 = address_of g.text word }
-
   abbrev piece : ℕ
   piece = image_number g.text (graph_in g) node word
 
-  items : slice_get (l edit).list piece ≡ Some (switch_jump_piece rd address (number_in g node) distance)
-  items =
-      image_items visit (i.Jmpl rd rs1 op2) says
-      ∙ rw itself (ap (λ (xs : List Item). Some xs) (choice_is g.text (graph_in g) (jumps_at g.text f.table.base)
-      f.cases.base codes address o.block k o rd rs1 op2 jumping numbered among))
+  shape : slice_get (shapes edit) piece ≡ Some (marked (visit_of g.text (graph_in g) node word)
+      (heads.SwitchJump rd (words_of (choose distance))) [] exits.Behind)
+  shape =
+      image_shape visit (i.Jmpl rd rs1 op2) says
+      ∙ rw itself (ap (λ (s : Shape). Some s) (choice_is g.text (graph_in g) (jumps_at g.text f.table.base)
+      f.cases.base _ o.block k o rd rs1 op2 jumping numbered among))
 
   pub choice_case : IsSwitchJump (site edit) node x t
   choice_case =
@@ -247,7 +247,7 @@ module _ (visit : AtWord) (t : State) (rd rs1 : ℕ) (op2 : Op2)
             (decoded_range (i.Jmpl rd rs1 op2) (slice_index g.text.words word) (sym says))).0;
         distance = distance;
         near = omega arith;
-        marked = at_image visit _ items;
+        mark = at_image visit (λ _ _. heads.SwitchJump rd (words_of (choose distance))) [] exits.Behind shape;
         aligned = omega (arith, place, cases.aligned);
         from = omega (arith, place);
         to = omega (arith, place, cases.long, many);

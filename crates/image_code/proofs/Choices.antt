@@ -1,5 +1,6 @@
 -- The words of an open switch's JMPL lead to the piece of a Case edge.
-use Rattle.image_code.proofs.Common.{◌≡◌, ℕ, ◌+◌, ◌%◌, ◌^◌, ◌<◌, ◌≤◌, false, Some, None, List, [], ◌∷◌, ◌++◌, length, refl, ap, sym, ◌∙◌, arith, ◌/◌, slice_index, length-append, Instr, wrapped, code_of, State, is_transfer, instr_at, node_after, point_of, hopped, table_word, page_word, memory_word, leads_weaker, stores_there, link, Fit, words_mean, choice_at, switch_jump, words_of, HasWordAt, loads_there, jumped}
+use Rattle.image_code.proofs.Common.{◌≡◌, ℕ, ◌+◌, ◌%◌, ◌^◌, ◌<◌, ◌≤◌, false, Some, None, List, [], ◌∷◌, ◌++◌, length, refl, ap, sym, ◌∙◌, arith, ◌/◌, slice_index, length-append, Instr, wrapped, code_of, State, is_transfer, instr_at, node_after, point_of, hopped, table_word, page_word, memory_word, leads_weaker, stores_there, link, Fit, words_mean, choice_at, switch_jump, word_of, words_of, map, map-append, HasWordAt, loads_there, jumped}
+use Rattle.layout.specs.declared.items.Item.TheVariants as it
 use Rattle.jump_code.proofs.Fitting.{link_fits, lt}
 use Rattle.jump_code.specs.Choosing.{ComesToCase, IsAboutToChoose, choose, chosen}
 use Rattle.jump_code.proofs.Choosing.{choices_simulate}
@@ -9,7 +10,8 @@ use Rattle.image_code.proofs.Points.{ReachesNext, StepsFrom, entered_at, Visit}
 use Rattle.image_code.proofs.PointShapes.{IsSwitchJump}
 use Rattle.image_code.proofs.Routes.{bare_here}
 use Rattle.image_code.proofs.EntersBy.{moves_by}
-use Rattle.image_code.proofs.Marked.{AtWords, at_instrs, link_few}
+use Rattle.image_code.proofs.Marked.{AtWords, at_instrs}
+use Rattle.image_code.proofs.Shapes.{link_few}
 use Rattle.image_code.proofs.Sparing.{instr_is}
 
 -- ---- the words have words
@@ -50,7 +52,10 @@ module _ (visit : Visit)
   live = ap (λ (z : State). z.ending) (sym does_is) ∙ c.live
 
   there : AtWords site node x t c.piece (length image) (words_of image)
-  there = at_instrs visit _ c.marked [] image refl
+  there =
+      at_instrs visit _ _ _ c.mark image
+      (sym (map-append it.Word (words_of (link c.rd c.address.0)) (words_of (choose c.distance)))
+      ∙ ap (map it.Word) (sym (map-append word_of (link c.rd c.address.0) (choose c.distance))))
 
   loaded : HasWordAt (choice_at c.distance t) false t.memory
       × (memory_word t.memory (choice_at c.distance t) ≡ table_word f.cases (choice_at c.distance t))
@@ -96,9 +101,7 @@ module _ (visit : Visit)
       moves_by visit [] after_jump (hopped after_jump to k.memory) (length image) tt
       (record {
         moves = record {
-          word = c.word;
-          is_word = c.is_word;
-          transfer = ap is_transfer c.says;
+          transfer = (c.word, c.is_word, ap is_transfer c.says);
           path = leads_weaker _ _ t _ (length image) there.on k.path;
           some = omega (arith, some);
           few = omega (arith, few);

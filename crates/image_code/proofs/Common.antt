@@ -1,4 +1,4 @@
--- The names of crates below that more than one proof cites, passed on from one place. Declares nothing.
+-- The names of crates below, and of shapes, that more than one proof cites, passed on from one place. Declares nothing.
 pub use Rattle.std.proofs.Common.{◌≡◌, ℕ, List, Some, ◌∙◌, ap, arith, refl, sym, ◌<◌, [], ◌+◌, ◌∷◌, length, None, Bool, false, slice_index, true, Option, slice_get, ◌++◌, ◌≤◌, subst, suc, ◌==◌, if◌then◌else◌, inl, inr, ◌-◌, ◌^◌, ◌≢◌, map, ◌%◌, ◌*◌, zero, append-nil, take, eq-eqb, nat_lt, ℤ, ◌&&◌, ◌⊎◌, eqb-true, length-append, append_assoc, ltb-true, cond, lt-ltb, length-take, ne_eqb, drop, get_or, le-ltb, slice_index_or, Result, not, pos, ◌||◌, Err, Ok, add-zero, zero-add, ◌/◌, add-mul, add-one, add_assoc, mul-le-mul_left, mul-le-mul_right, mul_left_comm, nat_le}
 pub use Rattle.addr_translate.specs.Halves.{found_in}
 pub use Rattle.addr_translate.specs.Lookup.{table_word}
@@ -62,6 +62,10 @@ pub use Rattle.eel_base.specs.CodeText.{Words, address_of, word_at}
 pub use Rattle.eel_base.specs.declared.numbers.Addr.{Addr}
 pub use Rattle.eel_base.specs.declared.numbers.BlockNo.{BlockNo}
 pub use Rattle.eel_base.specs.declared.numbers.PieceNo.{PieceNo}
+pub use Rattle.image_code.specs.Shapes.{Shape, assembled, bare, exit_items, goes_to, head_items, items_of, leaves_to, mark_items, marked}
+pub use Rattle.image_code.specs.declared.shape.Exit.{Exit}
+pub use Rattle.image_code.specs.declared.shape.Head.{Head}
+pub use Rattle.image_code.specs.declared.shape.Visit.{Visit as OfWord}
 pub use Rattle.jump_code.proofs.Fitting.{Fit, words_mean}
 pub use Rattle.jump_code.proofs.Laid.{pieces_are_laid}
 pub use Rattle.jump_code.specs.Choosing.{choice_at, switch_jump}

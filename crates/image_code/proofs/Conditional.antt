@@ -1,15 +1,15 @@
 -- The image of a branch is one step, whatever its annul bit.
-use Rattle.image_code.proofs.Common.{◌≡◌, ℕ, ◌+◌, ◌*◌, ◌^◌, ◌<◌, ◌≤◌, inl, inr, Bool, true, false, Option, Some, List, [], ◌∷◌, length, refl, ap, sym, ◌∙◌, arith, if◌then◌else◌, slice_get, slice_index, NoteRange, holds_of, wrapped, State, is_transfer, Stores, hopped, leads_weaker, IsFirstWord, IsPageWord, Item, item_at, item_in, items_in, open_in, range_in, range_of, CanRun}
+use Rattle.image_code.proofs.Common.{◌≡◌, ℕ, ◌+◌, ◌*◌, ◌^◌, ◌<◌, ◌≤◌, inl, inr, Bool, true, false, Option, Some, List, length, ap, sym, refl, arith, if◌then◌else◌, slice_index, holds_of, wrapped, State, is_transfer, Stores, hopped, leads_weaker, IsFirstWord, IsPageWord, Item, item_at, item_in, CanRun}
 use Rattle.layout.specs.declared.items.Item.TheVariants as it
-use Rattle.layout.specs.Laid.{size_of}
 use Rattle.layout.specs.Running.{Goes}
 use Rattle.layout.proofs.Going.{branches_hop}
-use Rattle.image_code.specs.Simulates.{does_at, gone_at, number_in}
+use Rattle.image_code.specs.Simulates.{does_at, gone_at}
 use Rattle.image_code.specs.Cost.{in_first_word, is_spill}
 use Rattle.image_code.proofs.Points.{ReachesNext, Forms, StepsFrom, Visit}
 use Rattle.image_code.proofs.PointShapes.{LeadsTo, next_entry, word_ahead, IsConditionalBranch}
-use Rattle.image_code.proofs.Routes.{FollowsRoute, IsFit, arrive, jump_then, rest_marked, weaker_route}
-use Rattle.image_code.proofs.Between.{can_run, on_range, stores_weaker}
+use Rattle.image_code.proofs.Marked.{at_first, closes, lies, on_mark}
+use Rattle.image_code.proofs.Routes.{FollowsRoute, IsFit, arrive, items_at, jump_then, weaker_route}
+use Rattle.image_code.proofs.Between.{can_run, stores_weaker}
 use Rattle.image_code.proofs.BranchMoves.{branch_moves}
 use Rattle.image_code.proofs.Cells.{cells_above, first_above}
 use Rattle.image_code.proofs.Dead.{gone_last}
@@ -20,68 +20,38 @@ module _ (visit : Visit)
     (c : IsConditionalBranch visit.site visit.node visit.x visit.t) where
   open visit use {site, node, x, t, here, site.{g, l, base, p, place, placed}}
 
-  b_item : (n : ℕ) → item_at l.list c.piece n ≡ slice_get (it.Mark c.address (number_in g node)
-      ∷ it.Branch c.cond c.taken ∷ it.EndMark ∷ it.Jump c.untaken ∷ []) n
-  b_item n = ap (λ (v : Option (List Item)). item_in v n) c.items
+  item : item_at l.list c.piece 1 ≡ Some (it.Branch c.cond c.taken)
+  item = ap (λ (v : Option (List Item)). item_in v 1) (items_at site c.piece _ c.shape)
 
-  b_size : size_of l.list c.piece ≡ 4
-  b_size = ap (λ (v : Option (List Item)). items_in v) c.items
+  abbrev branch_at : t.pc ≡ place c.piece 1
+  branch_at = at_first visit _ _ _ c.mark
 
-  b_mark : place c.piece 1 ≡ place c.piece 0
-  b_mark = placed.laid.items c.piece 0 (it.Mark c.address (number_in g node)) (b_item 0)
+  inside : (base ≤ t.pc) × (place c.piece 2 ≤ base + 4 * length p.code)
+  inside = (
+    omega (arith, branch_at, (lies visit _ _ _ c.mark 1 (omega arith)).begins),
+    (lies visit _ _ _ c.mark 2 (omega arith)).ends,
+  )
 
-  b_closes : place c.piece 3 ≡ place c.piece 2
-  b_closes = placed.laid.items c.piece 2 it.EndMark (b_item 2)
-
-  b_at : t.pc ≡ place c.piece 1
-  b_at = here.at ∙ c.here ∙ placed.laid.starts c.piece c.within ∙ sym b_mark
-
-  b_ready : CanRun base p.code t
-  b_ready =
-      let b = (placed.laid.within c.piece 1 c.within (omega (arith, b_size))).ends in
-      can_run site t here.valid here.live (omega (arith, b_at, b_size)) here.slot here.memory
+  ready : CanRun base p.code t
+  ready =
+      let b = (lies visit _ _ _ c.mark 1 (omega arith)).ends in
+      can_run site t here.valid here.live (omega (arith, here.npc, branch_at, placed.laid.low)) here.slot here.memory
 
   hop : Goes t (if holds_of c.cond t.codes then slice_index p.at c.taken.0 else place c.piece 2) (place c.piece 2) 1 6 2
-  hop = branches_hop l.list base p place placed.laid c.piece 1 c.cond c.taken (b_item 1) c.small t b_ready b_at
-
-  b_inside : (base ≤ t.pc) × (t.pc + 4 ≤ place c.piece 2) × (place c.piece 2 ≤ base + 4 * length p.code)
-      × (place c.piece 4 ≤ base + 4 * length p.code)
-  b_inside =
-      let s = b_size in
-      let a = b_at in
-      let some = hop.some in
-      let ins = hop.inside in
-      let b = (placed.laid.within c.piece 1 c.within (omega arith)).begins in (
-        omega arith,
-        omega arith,
-        (placed.laid.within c.piece 2 c.within (omega arith)).ends,
-        (placed.laid.within c.piece 4 c.within (omega arith)).ends,
-      )
-
-  abbrev range : NoteRange
-  range = record { lo = place c.piece 1; hi = place c.piece 2; address = c.address.0; node = number_in g node }
-
-  b_range : (a : ℕ) → place c.piece 1 ≤ a → a < place c.piece 2 → range_in p.ranges a ≡ Some range
-  b_range a low high =
-      placed.laid.ranges c.piece 1 a (it.Branch c.cond c.taken) (b_item 1) low high
-      ∙ ap (λ (v : Option (List Item)). range_of (place c.piece) (open_in v 1)) c.items
+  hop = branches_hop l.list base p place placed.laid c.piece 1 c.cond c.taken item c.small t ready branch_at
 
   -- between the branch's words, in its place
   on_way : (u : State) → t.pc < u.pc → u.pc < place c.piece 2 → Stores IsFirstWord t.memory u.memory
       → OnWay visit u
-  on_way u past before stores live =
-      let a = b_at in
-      let n0 = b_inside.0 in
-      let n2 = b_inside.2 in
-      on_range site t u range live (omega arith) past (omega arith)
-      (b_range t.pc (omega arith) (omega arith)) (b_range u.pc (omega arith) before) (sym b_at)
+  on_way u past before stores =
+      on_mark visit _ _ _ c.mark u past before
       (cells_above site IsFirstWord first_above t.memory u.memory here.memory.ours stores)
 
   -- a short branch takes two words
   b_short : Forms site → place c.piece 2 ≤ t.pc + 4 * 2
   b_short short =
-      let end = short c.piece 1 (it.Branch c.cond c.taken) (b_item 1) in
-      omega (arith, end, b_at)
+      let end = short c.piece 1 (it.Branch c.cond c.taken) item in
+      omega (arith, end, branch_at)
 
   abbrev edges : List ℕ
   edges = gone_at g node x (does_at g x t)
@@ -97,9 +67,7 @@ module _ (visit : Visit)
       (gone_last site node x (does_at g x t))
       (record {
         moves = record {
-          word = c.word;
-          is_word = c.is_word;
-          transfer = ap is_transfer c.says;
+          transfer = (c.word, c.is_word, ap is_transfer c.says);
           path = leads_weaker _ (OnWay visit) t _ j.count
               (λ u q. on_way u q.past (omega (arith, q.before, j.inside)) q.stores) j.hops.path;
           some = omega (arith, j.some);
@@ -124,7 +92,7 @@ module _ (visit : Visit)
   -- whichever way that is
   steps : (taken : Bool)
       → Goes t (if taken then slice_index p.at c.taken.0 else place c.piece 2) (place c.piece 2) 1 6 2
-      → LeadsTo l p (if taken then c.taken else c.untaken) edges (word_ahead g x t)
+      → LeadsTo site (if taken then c.taken else c.untaken) edges (word_ahead g x t)
       (next_entry site node x t)
       → ReachesNext site edges node x t (does_at g x t)
   steps true j leads =
@@ -133,11 +101,9 @@ module _ (visit : Visit)
       (arrive site c.taken edges _ (word_ahead g x t) (next_entry site node x t) fit
       refl leads))
   steps false j leads =
-      turned (place c.piece 2) j (omega (arith, b_inside.2)) (λ fit.
-      jump_then site c.piece 3 c.untaken
-      (rest_marked l c.piece c.address (number_in g node) (it.Branch c.cond c.taken)
-      (it.Jump c.untaken ∷ []) (tt, tt) c.items) edges _ (word_ahead g x t)
-      (next_entry site node x t) fit (sym b_closes) leads)
+      turned (place c.piece 2) j (omega (arith, inside.1, placed.laid.low)) (λ fit.
+      jump_then site c.piece _ _ c.untaken c.shape edges _ (word_ahead g x t) (next_entry site node x t) fit
+      (sym (closes visit _ _ _ c.mark)) leads)
 
   pub conditional_step : StepsFrom site node x t
   conditional_step = steps (holds_of c.cond t.codes) hop c.leads

@@ -33,7 +33,7 @@ module _ (visit : Visit)
   open visit use {site, node, x, t, here, site.{g, l, base, p, place}}
 
   there : AtWords site node x t c.piece 2 (couple_word ∷ couple_word ∷ [])
-  there = at_words visit _ c.marked [] (couple_word ∷ couple_word ∷ []) refl
+  there = at_words visit _ _ _ c.mark (couple_word ∷ couple_word ∷ []) refl
 
   npc : t.npc ≡ t.pc + 4
   npc = there.next (omega arith)
@@ -94,9 +94,7 @@ module _ (visit : Visit)
       let after : State = ended (record t { pc = t.npc; npc = target_of t (pos 2); slot = Taken }) Couple in
       ends_by visit v after 1 (record {
         past = moves_past visit [] v after 2 (record {
-          word = c.word;
-          is_word = c.is_word;
-          transfer = c.transfer;
+          transfer = (c.word, c.is_word, c.transfer);
           path = record {
             steps = ap step_of one ∙ two;
             during = λ j some less live. subst (λ (n : ℕ). IsOnWay g t (run t n)) (let e : 1 ≡ j = omega arith in e)

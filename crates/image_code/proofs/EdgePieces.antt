@@ -1,5 +1,5 @@
 -- The edges of a text's graph, and the pieces of the ways along them.
-use Rattle.image_code.proofs.Common.{◌≡◌, ℕ, ◌+◌, ◌*◌, ◌%◌, ◌^◌, ◌<◌, Bool, true, Some, List, [], ◌∷◌, length, refl, ap, sym, ◌∙◌, arith, ◌&&◌, slice_get, w32, position, and_parts, eq-eqb, position-Some, get_or_from_slice_get, Words, address_of, IsText, Instr, EdgeKind, Blocks, blocks_of, is_fall, Edge, Node, Open, edges_in, lands, WayOut, edge_along, same_kind, same_node, IsCut, cut, block, same_nodes, same_kinds, Carried, IsSlotIn, leads_along, target_along}
+use Rattle.image_code.proofs.Common.{◌≡◌, ℕ, ◌+◌, ◌*◌, ◌%◌, ◌^◌, ◌<◌, Bool, true, Some, [], ◌∷◌, length, refl, ap, sym, ◌∙◌, arith, ◌&&◌, slice_get, w32, position, and_parts, eq-eqb, position-Some, get_or_from_slice_get, Words, address_of, IsText, Instr, EdgeKind, Blocks, blocks_of, is_fall, Edge, Node, Open, edges_in, lands, WayOut, edge_along, same_kind, same_node, IsCut, cut, block, same_nodes, same_kinds, Carried, IsSlotIn, leads_along, target_along}
 use Rattle.v8_decode.specs.declared.Instr.TheVariants as i
 use Rattle.cfg_blocks.specs.declared.EdgeKind.TheVariants as kinds
 use Rattle.std.specs.Int.{cast_unsigned}
@@ -7,7 +7,7 @@ use Rattle.cfg_walk.proofs.Edges.{number_of_list}
 use Rattle.cfg_walk.proofs.NoneOpen.{edge_lies_in}
 use Rattle.image_code.specs.Simulates.{EditSetup, graph_in}
 use Rattle.image_code.proofs.PointShapes.{IsJumpTarget}
-use Rattle.image_code.specs.Made.{first_word, piece_list, way_by}
+use Rattle.image_code.specs.Made.{first_word, shape_list, way_by}
 use Rattle.image_code.specs.Numbered.{case_piece, place_in}
 use Rattle.image_code.proofs.CaseTables.{IsKnown}
 use Rattle.image_code.proofs.Branches.{IsTransfersWay}
@@ -69,26 +69,26 @@ module _ (g : EditSetup) (is : IsKnown g) (table cases : ℕ) where
       }
 
   -- the piece of its way
-  pub items_along : (codes : ℕ → List ℕ) (node : Node) (way : WayOut) (number : ℕ) (edge : Edge)
+  pub shape_along : (node : Node) (way : WayOut) (number : ℕ) (edge : Edge)
       → IsAlong node way number edge → IsTransfersWay way.kind → (to : Carried) → edge.slot ≡ to
-      → slice_get (piece_list g.text (graph_in g) table cases codes) (length g.text.words + number)
-      ≡ Some (way_by g.text (graph_in g) table codes number edge (first_word (graph_in g) edge.to) to)
-  items_along codes node way number edge k own to e =
-      way_at g.text b g.switches is.cased table cases codes number edge
+      → slice_get (shape_list g.text (graph_in g) table cases) (length g.text.words + number)
+      ≡ Some (way_by g.text (graph_in g) table number edge (first_word (graph_in g) edge.to) to)
+  shape_along node way number edge k own to e =
+      way_at g.text b g.switches is.cased table cases number edge
       (own_at b g.switches number edge k.found (ap (λ (j : EdgeKind). same_kind j kinds.Land) k.same ∙ own.land))
       ∙ rw (ap is_fall k.same ∙ own.fall, ap (λ (j : EdgeKind). same_kind j kinds.Case) k.same ∙ own.caseless, e)
 
   -- the piece of a Case edge, where control goes on at a target
-  pub items_case : (codes : ℕ → List ℕ) (k : ℕ) (o : Open) → slice_get g.switches k ≡ Some o → (entry word : ℕ)
+  pub shape_case : (k : ℕ) (o : Open) → slice_get g.switches k ≡ Some o → (entry word : ℕ)
       → slice_get o.targets entry ≡ Some word → (number : ℕ) (edge : Edge)
       → IsAlong (block o.block) (by_case (lands (graph_in g) (Some word))) number edge
       → (to : Carried) → edge.slot ≡ to
-      → slice_get (piece_list g.text (graph_in g) table cases codes) (case_piece g.text (graph_in g) k o word)
-      ≡ Some (way_by g.text (graph_in g) table codes number edge word to)
-  items_case codes k o e entry word at number edge along to slot =
+      → slice_get (shape_list g.text (graph_in g) table cases) (case_piece g.text (graph_in g) k o word)
+      ≡ Some (way_by g.text (graph_in g) table number edge word to)
+  shape_case k o e entry word at number edge along to slot =
       let place = place_in g.text (graph_in g) o.targets word in
       let way : WayOut = by_case (lands (graph_in g) (Some word)) in
-      case_entry_at g.text b g.switches is.cased table cases codes k o e place word
+      case_entry_at g.text b g.switches is.cased table cases k o e place word
       (place_is g.text (graph_in g) o.targets entry word at)
       ∙ rw (eq-eqb place place refl, along.only, along.found, slot)
 

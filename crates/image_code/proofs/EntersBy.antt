@@ -17,7 +17,7 @@ use Rattle.image_code.proofs.Memories.{images_stored, same_stored}
 use Rattle.image_code.proofs.Sparing.{transfers}
 
 -- the page's words are the editor's
-page_own : (site : Site) → (z : ℕ) → IsPageWord z → IsAmongWords site.f.own z
+page_own : (site : Site) → (z : ℕ) → IsPageWord z → IsAmongWords site.f.stored z
 page_own site z (inl e) = rw e (site.placed.frame.page 0 (omega arith))
 page_own site z (inr (inl e)) = rw e (site.placed.frame.page 1 (omega arith))
 page_own site z (inr (inr (inl e))) = rw e (site.placed.frame.page 2 (omega arith))
@@ -25,8 +25,8 @@ page_own site z (inr (inr (inr (inl e)))) = rw e (site.placed.frame.page 7 (omeg
 page_own site z (inr (inr (inr (inr e)))) = absurd e
 
 pub own_stored : (site : Site) → (m n : Memory) → Stores IsPageWord m n
-    → Stores (IsAmongWords site.f.own) m n
-own_stored site m n stores = stores_weaker IsPageWord (IsAmongWords site.f.own) m n (page_own site) stores
+    → Stores (IsAmongWords site.f.stored) m n
+own_stored site m n stores = stores_weaker IsPageWord (IsAmongWords site.f.stored) m n (page_own site) stores
 
 -- what is no transfer is no JMPL
 no_jump : (o : Option Instr) → is_transfer_at o ≡ false → is_jmpl o ≡ false
@@ -81,7 +81,7 @@ module _ (visit : Visit) where
   pub record PastOn (next : Option ℕ) (edges : List ℕ) (v mid : State) (count : ℕ) : Type 0 where
     pub past : Past edges v mid count
     pub same : hopped v 0 mid.memory ≡ hopped mid 0 mid.memory
-    pub outside : (n : Memory) → Stores (IsAmongWords f.own) mid.memory n → IsSameOutside (pages_of g.notes) v.memory n
+    pub outside : (n : Memory) → Stores (IsAmongWords f.stored) mid.memory n → IsSameOutside (pages_of g.notes) v.memory n
     pub has : HasImages g base p f mid.memory
     pub live : mid.ending ≡ None
     pub npc : mid.npc ≡ mid.pc + 4
@@ -219,9 +219,7 @@ module _ (visit : Visit) where
   -- ---- transfers, whose words store in the page alone
 
   pub record Moves (edges : List ℕ) (v mid : State) (count : ℕ) : Type 0 where
-    pub word : ℕ
-    pub is_word : word_of g.text x.pc ≡ Some word
-    pub transfer : is_transfer (decode_of word) ≡ true
+    pub transfer : (word : ℕ) × (word_of g.text x.pc ≡ Some word) × (is_transfer (decode_of word) ≡ true)
     pub path : Leads OnWay t mid count
     pub some : 0 < count
     pub few : count ≤ 14
@@ -230,10 +228,10 @@ module _ (visit : Visit) where
     pub spares : IsWatched (edit_in g) edges x v → IsSpared count
 
   -- so there is a transfer
-  pub moving : {A : Type 0} (word : ℕ) → word_of g.text x.pc ≡ Some word → is_transfer (decode_of word) ≡ true
+  moving : {A : Type 0} {edges : List ℕ} {v mid : State} {count : ℕ} → Moves edges v mid count
       → is_transfer_at (instr_at g.text x.pc) ≡ false → A
-  moving word is_word transfer straight =
-      let moves = transfers g.text x.pc word is_word transfer in
+  moving w straight =
+      let moves = transfers g.text x.pc w.transfer.0 w.transfer.1 w.transfer.2 in
       absurd (cc)
 
   pub moves_past : (edges : List ℕ) (v mid : State) (count : ℕ) → Moves edges v mid count → Past edges v mid count
@@ -242,11 +240,11 @@ module _ (visit : Visit) where
     some = w.some;
     few = w.few;
     puts = λ descriptor. w.silent descriptor
-        ∙ sym (ap (λ (o : Option ℕ). puts_on_word (at_point x t) o descriptor) w.is_word
-        ∙ quiet_transfer (at_point x t) (decode_of w.word) descriptor w.transfer);
+        ∙ sym (ap (λ (o : Option ℕ). puts_on_word (at_point x t) o descriptor) w.transfer.1
+        ∙ quiet_transfer (at_point x t) (decode_of w.transfer.0) descriptor w.transfer.2);
     cells = cells_above site IsPageWord page_above t.memory mid.memory here.memory.ours w.stores;
     spares = w.spares;
-    alone = moving w.word w.is_word w.transfer;
+    alone = moving w;
   }
 
   -- Where the run goes on
@@ -270,12 +268,12 @@ module _ (visit : Visit) where
         past = moves_past edges v mid count a;
         same = w.same;
         outside = λ n stores. rw w.memory (same_stored site t.memory n here.memory
-            (stores_then (IsAmongWords f.own) (IsAmongWords f.own) t.memory mid.memory n (λ z e. e) own stores));
+            (stores_then (IsAmongWords f.stored) (IsAmongWords f.stored) t.memory mid.memory n (λ z e. e) own stores));
         has = images_stored site t mid count a.path.steps own here.memory;
         live = w.live;
         npc = w.npc;
         slot = w.slot;
         target_in_page = w.target_in_page;
         watched = λ watched. watched.inside;
-        kept = moving a.word a.is_word a.transfer;
-      }) (λ fit. (onward fit, moving a.word a.is_word a.transfer))
+        kept = moving a;
+      }) (λ fit. (onward fit, moving a))

@@ -1,5 +1,5 @@
 -- What holds of each piece that is made, and so of all.
-use Rattle.image_code.proofs.Common.{◌≡◌, sym, ◌∙◌, ℕ, zero, suc, ◌+◌, ◌-◌, ◌*◌, ◌<◌, ◌≤◌, Bool, true, false, ◌&&◌, ◌==◌, Option, Some, None, List, [], ◌∷◌, ◌++◌, append-nil, length, map, get_or, length-append, refl, ap, arith, if◌then◌else◌, nat_lt, slice_get, slice_index, flat_map, position, sum_by, option_to_list, and_parts, cond_both, eq-eqb, false≢true, ltb-true, sum_by-append, sum_by-cons, position-Some, get_or_from_slice_get, slice_get-get_or, Words, address_of, word_at, IsText, Addr, Op2, Instr, decode_of, is_transfer, EdgeKind, always, never, below, blocks_of, holding_of, last_word, size_of, length-below, is_fall, Edge, Node, Block, X, same_kind, same_node, Open, jumps_in, Graph, lands, IsEdgeIn, IsNodeIn, ends_block, landing_at, left_by, block, copy, same_nodes, in_held, some_words, straight_left, same_kinds, Each, each_at, each-append, each-below, switch_jump, look_up, resume, free_register, other_register, save_load_address, link, long_jump_piece, Item, item_at, item_in, Op, fold-map, compares_in, is_copied, each-then, long_jump, foreign, LeadsBelow, piece_words}
+use Rattle.image_code.proofs.Common.{◌≡◌, sym, ◌∙◌, ℕ, zero, suc, ◌+◌, ◌-◌, ◌*◌, ◌<◌, ◌≤◌, Bool, true, false, ◌&&◌, ◌==◌, Option, Some, None, List, [], ◌∷◌, ◌++◌, append-nil, length, length-map, map, get_or, length-append, refl, ap, arith, if◌then◌else◌, nat_lt, slice_get, slice_get-map, slice_index, flat_map, option_map, position, sum_by, option_to_list, and_parts, cond_both, eq-eqb, false≢true, ltb-true, sum_by-append, sum_by-cons, position-Some, get_or_from_slice_get, slice_get-get_or, Words, word_at, IsText, Addr, Op2, Instr, decode_of, is_transfer, EdgeKind, always, never, below, blocks_of, holding_of, last_word, size_of, length-below, is_fall, Edge, Node, Block, X, same_kind, same_node, Open, jumps_in, Graph, lands, IsEdgeIn, IsNodeIn, ends_block, landing_at, left_by, block, copy, same_nodes, in_held, some_words, straight_left, same_kinds, Each, each_at, each-append, each-below, Item, item_at, item_in, Op, fold-map, compares_in, is_copied, LeadsBelow, piece_words, Exit, Head, OfWord, Shape, assembled, head_items, items_of, marked}
 use Rattle.v8_decode.specs.declared.Instr.TheVariants as i
 use Rattle.cfg_blocks.specs.declared.EdgeKind.TheVariants as kinds
 use Rattle.layout.specs.declared.items.Item.TheVariants as it
@@ -8,11 +8,12 @@ use Rattle.std.proofs.lemmas.Bool.{or_left, or_right}
 use Rattle.std.proofs.lemmas.List.Sums.{sum_by-le}
 use Rattle.cfg_normal.specs.declared.Slot.{Slot}
 use Rattle.cfg_normal.specs.declared.Slot.TheVariants as slots
-use Rattle.layout.specs.Emitting.{words_of as encoded}
 use Rattle.layout.specs.Laid.{IsMarked}
+use Rattle.image_code.specs.declared.shape.Exit.TheVariants as exits
+use Rattle.image_code.specs.declared.shape.Head.TheVariants as heads
 use Rattle.image_code.specs.Loads.{load_of}
-use Rattle.image_code.specs.Numbered.{enter_number, first_entry, foreign_number, node_in_order, edges_but_landings, pieces_of, place_in}
-use Rattle.image_code.specs.Made.{all_cases, case_at, case_by, choice_of, couple_word, distance_of, first_way, first_word, goes_on, image, image_by, images_in_order, images_of, is_slots, jump_by, jump_image_by, jump_to, jumps_at, save_by, landing, next_at, nop_word, open_pieces, piece_list, way_along, way_by, way_out}
+use Rattle.image_code.specs.Numbered.{enter_number, foreign_number, node_in_order, edges_but_landings, pieces_of, place_in}
+use Rattle.image_code.specs.Made.{all_cases, case_at, case_by, choice_of, couple_word, first_way, first_word, goes_on, image, image_by, images_in_order, images_of, is_slots, jump_by, jump_image_by, jumps_at, save_by, landing, next_at, nop_word, open_pieces, piece_list, shape_list, unused, visit_of, way_along, way_by, way_out}
 use Rattle.image_code.specs.Graphs.{IsGraphOf, opens_in}
 use Rattle.image_code.specs.Fit.{AreFit, AreShort, PiecesFit, PlacesSay, marks_in}
 use Rattle.image_code.proofs.Listed.{count_is}
@@ -21,19 +22,8 @@ use Rattle.image_code.proofs.OpenNumbers.{IsWordOf, case_number_below, each_inde
 use Rattle.image_code.proofs.Opened.{cased_of}
 use Rattle.image_code.proofs.OpenSums.{code_length}
 use Rattle.image_code.proofs.Sized.{case_code, case_edge, code_by, block_end_within, entries_in, image_code, landing_code, no_code, order_code, snippets_few, way_code, ways_code}
-use Rattle.image_code.proofs.Shapes.{IsAt, IsExit, IsMade, IsShaped, IsSome, Leads, Marked, Stretch, straight, branch, bare, behind, exits_by, exits_jump, falls, made, mark_at, mark_says, marked, sized, stretch_size}
+use Rattle.image_code.proofs.Shapes.{ExitLeads, HeadLeads, IsAt, IsMade, IsShaped, head_size, made, made_bare, mark_says, sized, switch_some, well_marked}
 use Rattle.image_code.proofs.Positions.{any_at}
-
-find_size : (x y rd rs1 : ℕ) (op2 : Op2) (jumps address : ℕ)
-    → let xs = encoded (look_up x y rd rs1 op2 jumps address) in
-    (0 < length xs) × (length xs ≤ 15)
-find_size x y zero rs1 op2 jumps address = (omega arith, omega arith)
-find_size x y (suc r) rs1 op2 jumps address = (omega arith, omega arith)
-
-choice_size : (rd address distance : ℕ) → let xs = encoded (switch_jump rd address distance) in
-    (0 < length xs) × (length xs ≤ 15)
-choice_size zero address distance = (omega arith, omega arith)
-choice_size (suc r) address distance = (omega arith, omega arith)
 
 number_of_list : (o : Option ℕ) (number : ℕ) (rest : List ℕ) → option_to_list o ≡ number ∷ rest → o ≡ Some number
 number_of_list None number rest e = absurd (cc)
@@ -41,21 +31,18 @@ number_of_list (Some n) number rest e = cc
 
 module _ (text : Words) (graph : Graph) (table cases : ℕ) (codes : ℕ → List ℕ) (is : IsText text)
     (g : IsTextGraph text graph)
-    (many : length (piece_list text graph table cases codes) ≡ foreign_number text graph + 1) where
-  abbrev pieces : List (List Item)
-  pieces = piece_list text graph table cases codes
+    (many : length (shape_list text graph table cases) ≡ foreign_number text graph + 1) where
+  abbrev shapes : List Shape
+  shapes = shape_list text graph table cases
 
   -- a piece of so many words, besides those of a snippet
-  abbrev Made : ℕ → ℕ → List Item → Type 0
-  Made = IsMade text graph (length pieces) 1
+  abbrev Made : ℕ → ℕ → Shape → Type 0
+  Made = IsMade text graph codes (length shapes) 1
 
-  abbrev Exits : List Item → Type 0
-  Exits = IsExit (length pieces)
+  abbrev Exits : Exit → Type 0
+  Exits = ExitLeads (length shapes)
 
-  far_exit : (to : ℕ) → Exits (long_jump_piece to)
-  far_exit to = exits_by (encoded (long_jump to)) (omega arith)
-
-  entered : (node : Node) (word : ℕ) → IsWordOf graph node word → enter_number text graph node word < length pieces
+  entered : (node : Node) (word : ℕ) → IsWordOf graph node word → enter_number text graph node word < length shapes
   entered node word inside = omega (arith, many, enter_below text graph g node word inside)
 
   -- ---- the way of a kind leads to a piece
@@ -75,81 +62,57 @@ module _ (text : Words) (graph : Graph) (table cases : ℕ) (codes : ℕ → Lis
       (rw (same_kinds (get_or graph.edges number no_edge).kind kind (and_parts (same_node _ node) _ found.1).1) other)
 
   way_by_number : (node : Node) (kind : EdgeKind) → same_kind kind kinds.Land ≡ false → (o : Option ℕ)
-      → position (Leaves node kind) graph.edges ≡ o → first_way text graph (option_to_list o) < length pieces
+      → position (Leaves node kind) graph.edges ≡ o → first_way text graph (option_to_list o) < length shapes
   way_by_number node kind other None e = omega (arith, many)
   way_by_number node kind other (Some number) e = omega (arith, many, found_below node kind other number e)
 
   way_below : (node : Node) (kind : EdgeKind) → same_kind kind kinds.Land ≡ false
-      → way_out text graph node kind < length pieces
+      → way_out text graph node kind < length shapes
   way_below node kind other = way_by_number node kind other (position (Leaves node kind) graph.edges) refl
-
-  way_exit : (node : Node) (kind : EdgeKind) → same_kind kind kinds.Land ≡ false
-      → Exits (jump_to (way_out text graph node kind))
-  way_exit node kind other = exits_jump _ (way_below node kind other)
 
   -- ---- images
 
   next_exit : (node : Node) (word : ℕ) → Exits (next_at text graph node word)
   next_exit node word =
-      cond_both (same_node node (node_in_order graph word)) _ [] Exits
+      cond_both (same_node node (node_in_order graph word)) _ exits.Behind Exits
       (λ _. cond_both (nat_lt (word + 1) (length text.words)) _ _ Exits
-      (λ more. cond_both (is_slots text word) _ [] Exits
-      (λ _. exits_jump (word + 1) (omega (arith, ltb-true (word + 1) (length text.words) more, many)))
-      (λ _. exits_by [] (omega arith)))
-      (λ _. far_exit (address_of text (length text.words))))
-      (λ _. exits_by [] (omega arith))
+      (λ more. cond_both (is_slots text word) _ exits.Behind Exits
+      (λ _. omega (arith, ltb-true (word + 1) (length text.words) more, many)) (λ _. tt)) (λ _. tt))
+      (λ _. tt)
 
   module _ (node : Node) (word : ℕ) (at : IsAt text graph node word) where
-    abbrev about : Stretch → Marked
-    about covers = mark_at text graph node word covers
+    abbrev visit : OfWord
+    visit = visit_of text graph node word
 
     -- the word itself in its Mark
-    itself : {size most : ℕ} (code : List ℕ) (rest : List Item) → 7 ≤ size → length code ≤ most → Exits rest
-        → Made size most (behind (Some (about (straight (slice_index text.words word ∷ [])))) (map it.Word code ++ rest))
-    itself code rest l few out =
-        made code few out (Some (about (straight (slice_index text.words word ∷ [])))) (
-          record { word = word; node = node; at = at; is = refl; some = omega arith; says = λ _. refl },
-          tt,
-        ) (omega (arith, l)) (omega arith)
+    itself : {size most : ℕ} (edges : List ℕ) (exit : Exit) → 7 ≤ size → length (flat_map codes edges) ≤ most → Exits exit
+        → Made size most (marked visit (heads.Word (slice_index text.words word)) edges exit)
+    itself edges exit l few out =
+        made edges few out visit (heads.Word (slice_index text.words word))
+        (record { word = word; node = node; at = at; is = refl; some = omega arith; says = λ _. refl }) tt l (omega arith)
 
     module _ (t : is_transfer (decode_of (slice_index text.words word)) ≡ true) where
       -- what does the same as a transfer
-      instead : {size most : ℕ} (covers : Stretch) (rest : List Item) → 6 + stretch_size covers ≤ size → IsSome covers
-          → Leads (length pieces) covers → Exits rest → Made size most (behind (Some (about covers)) rest)
-      instead covers rest l some leads out =
-          made [] (omega arith) out (Some (about covers)) (
-            record {
-              word = word;
-              node = node;
-              at = at;
-              is = refl;
-              some = some;
-              says = λ f. absurd (false≢true (sym f ∙ t));
-            },
-            leads,
-          ) (omega (arith, l)) (omega arith)
+      instead : {size most : ℕ} (head : Head) (exit : Exit) → 6 + head_size head ≤ size
+          → 0 < length (head_items visit.address head) → HeadLeads (length shapes) head → Exits exit
+          → Made size most (marked visit head [] exit)
+      instead head exit l some leads out =
+          made [] (omega arith) out visit head
+          (record { word = word; node = node; at = at; is = refl; some = some; says = λ f. absurd (false≢true (sym f ∙ t)) })
+          leads l (omega arith)
 
       choice_made : (rd : ℕ) (k : Option ℕ) (o : Option Open)
-          → Made 21 0 (choice_of text graph (jumps_at text table) cases (about (straight [])).address node rd k o)
-      choice_made rd (Some k) (Some o) =
-          let distance = distance_of cases (first_entry text graph k) o.switch.table.0 in
-          let size = choice_size rd (address_of text word) distance in
-          instead (straight (encoded (switch_jump rd (address_of text word) distance))) [] (omega (arith, size.1)) size.0 tt
-          falls
-      choice_made rd _ _ = bare [] (omega arith) falls (omega arith)
+          → Made 21 0 (choice_of text graph (jumps_at text table) cases visit rd k o)
+      choice_made rd (Some k) (Some o) = instead _ exits.Behind (omega arith) (switch_some _ rd _) tt tt
+      choice_made rd _ _ = made_bare [] (omega arith) tt (omega arith)
 
       jump_by_made : (rd rs1 : ℕ) (op2 : Op2)
-          → Made 21 0 (jump_by text graph (jumps_at text table) cases (about (straight [])).address node rd rs1 op2)
-      jump_by_made rd rs1 op2 =
-          let x = free_register rd rs1 op2 in
-          let y = other_register rd rs1 op2 in
-          let size = find_size x y rd rs1 op2 (jumps_at text table) (address_of text word) in
-          instead (straight (encoded (look_up x y rd rs1 op2 (jumps_at text table) (address_of text word)))) _
-          (omega (arith, size.1)) size.0 tt (way_exit node kinds.Out refl)
+          → Made 21 0 (jump_by text graph (jumps_at text table) cases visit node rd rs1 op2)
+      jump_by_made rd rs1 op2 = instead _ _ (omega arith) (omega arith) tt (way_below node kinds.Out refl)
 
   jump_made : (node : Node) (word : ℕ) → IsAt text graph node word
       → is_transfer (decode_of (slice_index text.words word)) ≡ true → (rd rs1 : ℕ) (op2 : Op2)
-      → Made 21 0 (jump_image_by text graph (jumps_at text table) cases (record { 0 = address_of text word }) node rd rs1 op2)
+      → Made 21 0 (jump_image_by text graph (jumps_at text table) cases (visit_of text graph node word) node rd rs1 op2)
   jump_made (Block k) word at t rd rs1 op2 =
       cond_both (jumps_in graph.opens k.0) _ _ (Made 21 0) (λ _. choice_made (Block k) word at t rd _ _)
       (λ _. jump_by_made (Block k) word at t rd rs1 op2)
@@ -158,23 +121,21 @@ module _ (text : Words) (graph : Graph) (table cases : ℕ) (codes : ℕ → Lis
   image_by_made : (node : Node) (word : ℕ) → IsAt text graph node word → (instr : Instr)
       → decode_of (slice_index text.words word) ≡ instr
       → Made 21 (code_by graph codes node word instr)
-      (image_by text graph (jumps_at text table) cases codes (record { 0 = address_of text word }) node word instr)
+      (image_by text graph (jumps_at text table) cases (visit_of text graph node word) node word instr)
   image_by_made node word at (i.Branch c annul disp) e =
       let by = instead node word at (ap is_transfer e) in
-      let idle = by (straight (nop_word ∷ [])) in
+      let idle = by (heads.Word nop_word) in
       cond_both (c == always) _ _ (Made 21 0)
-      (λ _. idle _ (omega arith) (omega arith) tt (way_exit node kinds.Taken refl))
+      (λ _. idle _ (omega arith) (omega arith) tt (way_below node kinds.Taken refl))
       (λ _. cond_both (c == never) _ _ (Made 21 0)
-      (λ _. idle _ (omega arith) (omega arith) tt (way_exit node kinds.Untaken refl))
-      (λ _. by (branch c (way_out text graph node kinds.Taken)) _ (omega arith) tt (way_below node kinds.Taken refl)
-      (way_exit node kinds.Untaken refl)))
+      (λ _. idle _ (omega arith) (omega arith) tt (way_below node kinds.Untaken refl))
+      (λ _. by (heads.Branch c (record { 0 = way_out text graph node kinds.Taken })) _ (omega arith) (omega arith)
+      (way_below node kinds.Taken refl) (way_below node kinds.Untaken refl)))
   image_by_made node word at (i.Call disp) e =
-      instead node word at (ap is_transfer e) (straight (encoded (link 15 (address_of text word)))) _ (omega arith)
-      (omega arith) tt (way_exit node kinds.Call refl)
+      instead node word at (ap is_transfer e) _ _ (omega arith) (omega arith) tt (way_below node kinds.Call refl)
   image_by_made node word at (i.Jmpl rd rs1 op2) e = jump_made node word at (ap is_transfer e) rd rs1 op2
   image_by_made node word at instr e =
-      itself node word at (flat_map codes (left_by graph node word instr)) _ (omega arith) (omega arith)
-      (next_exit node word)
+      itself node word at (left_by graph node word instr) _ (omega arith) (omega arith) (next_exit node word)
 
   -- ---- ways
 
@@ -182,37 +143,36 @@ module _ (text : Words) (graph : Graph) (table cases : ℕ) (codes : ℕ → Lis
   one_code number = omega (arith, ap length (append-nil (codes number)))
 
   goes_exit : (node : Node) (word address : ℕ) → IsWordOf graph node word → Exits (goes_on text graph node word address)
-  goes_exit X word address inside = far_exit address
-  goes_exit node word address inside = exits_jump _ (entered node word inside)
+  goes_exit X word address inside = tt
+  goes_exit node word address inside = entered node word inside
 
   way_by_made : {most : ℕ} (number : ℕ) (edge : Edge) (word : ℕ) → IsEdgeIn graph.blocks graph.opens edge
       → IsWordOf graph edge.to word → length (flat_map codes (number ∷ [])) ≤ most → (slot : Slot) → edge.slot ≡ slot
-      → Made 8 most (way_by text graph table codes number edge word slot)
+      → Made 8 most (way_by text graph table number edge word slot)
   way_by_made number edge word inside to few slots.Nothing e =
-      bare (flat_map codes (number ∷ [])) few (goes_exit edge.to word _ to) (omega arith)
-  way_by_made number edge word inside to few slots.Off e = bare [] (omega arith) (far_exit table) (omega arith)
+      made_bare (number ∷ []) few (goes_exit edge.to word _ to) (omega arith)
+  way_by_made number edge word inside to few slots.Off e = made_bare [] (omega arith) tt (omega arith)
   way_by_made {most = most} number edge word inside to few (slots.Word slot) e =
       let within : slot.0 < graph.blocks.words = rw e at inside.slot in
       let at : IsAt text graph edge.from slot.0 =
       record { inside = inside.from; low = omega (arith, within, g.cut.words) } in
-      let copied = itself edge.from slot.0 at (flat_map codes (number ∷ [])) in
       cond_both (is_transfer (decode_of (slice_index text.words slot.0))) _ _ (Made 8 most)
-      (λ t. instead edge.from slot.0 at t (straight (couple_word ∷ couple_word ∷ [])) [] (omega arith) (omega arith) tt
-      falls)
-      (λ _. copied _ (omega arith) few (cond_both (same_kind edge.kind kinds.Out) _ _ Exits
-      (λ _. exits_by (encoded (resume 1)) (omega arith)) (λ _. goes_exit edge.to word _ to)))
+      (λ t. instead edge.from slot.0 at t (heads.Pair (couple_word ∷ couple_word ∷ [])) exits.Behind (omega arith) (omega arith) tt
+      tt)
+      (λ _. itself edge.from slot.0 at (number ∷ []) _ (omega arith) few (cond_both (same_kind edge.kind kinds.Out) _ _ Exits
+      (λ _. tt) (λ _. goes_exit edge.to word _ to)))
 
   -- one that is never run
-  idle_made : {most : ℕ} → Made 8 most (jump_to 0)
-  idle_made = bare [] (omega arith) (exits_jump 0 (omega (arith, many))) (omega arith)
+  idle_made : {most : ℕ} → Made 8 most unused
+  idle_made = made_bare [] (omega arith) (omega (arith, many)) (omega arith)
 
   way_made : (number : ℕ) (edge : Edge) → IsEdgeIn graph.blocks graph.opens edge
-      → Made 8 (way_code codes number edge) (way_along text graph table codes number edge)
+      → Made 8 (way_code codes number edge) (way_along text graph table number edge)
   way_made number edge inside = by (is_fall edge.kind) (same_kind edge.kind kinds.Case)
     where
       by : (fall chosen : Bool) → Made 8 (if fall then 0 else if chosen then 0 else length (codes number))
-          (if fall then jump_to 0 else
-          if chosen then jump_to 0 else way_by text graph table codes number edge (first_word graph edge.to) edge.slot)
+          (if fall then unused else
+          if chosen then unused else way_by text graph table number edge (first_word graph edge.to) edge.slot)
       by false false =
           way_by_made number edge _ inside (first_word_of text graph g edge.to inside.to) (one_code number) edge.slot refl
       by _ _ = idle_made
@@ -226,12 +186,12 @@ module _ (text : Words) (graph : Graph) (table cases : ℕ) (codes : ℕ → Lis
 
   case_by_made : (o : Open) (word : ℕ) → word < length text.words → (numbers : List ℕ)
       → option_to_list (position (Goes o word) graph.edges) ≡ numbers
-      → Made 8 (code_length codes numbers) (case_by text graph table codes word numbers)
+      → Made 8 (code_length codes numbers) (case_by text graph table word numbers)
   case_by_made o word l [] e = idle_made
   case_by_made o word l (number ∷ rest) e = by (slice_get graph.edges number) refl
     where
       by : (x : Option Edge) → slice_get graph.edges number ≡ x
-          → Made 8 (code_length codes (number ∷ rest)) (case_by text graph table codes word (number ∷ rest))
+          → Made 8 (code_length codes (number ∷ rest)) (case_by text graph table word (number ∷ rest))
       by None none = rw none idle_made
       by (Some edge) here =
           let found = position-Some (Goes o word) graph.edges number edge (number_of_list _ number rest e) in
@@ -242,7 +202,7 @@ module _ (text : Words) (graph : Graph) (table cases : ℕ) (codes : ℕ → Lis
           (omega (arith, one_code number, length-append (codes number) (flat_map codes rest))) edge.slot refl)
 
   case_made : (o : Open) (entry word : ℕ) → word < length text.words
-      → Made 8 (case_code graph codes (o, word)) (case_at text graph table codes o entry word)
+      → Made 8 (case_code graph codes (o, word)) (case_at text graph table o entry word)
   case_made o entry word l =
       cond_both (place_in text graph o.targets word == entry) _ _ (Made 8 (case_code graph codes (o, word)))
       (λ _. case_by_made o word l (case_edge graph o word) refl) (λ _. idle_made)
@@ -253,20 +213,26 @@ module _ (text : Words) (graph : Graph) (table cases : ℕ) (codes : ℕ → Lis
   AreFew = (number : ℕ) → length (codes number) ≤ 176
 
   -- what holds of each piece
-  record IsPiece (items : List Item) : Type 0 where
-    few : AreFew → length items ≤ 197
-    shaped : IsShaped text graph (length pieces) items
+  record IsPiece (s : Shape) : Type 0 where
+    few : AreFew → length (items_of codes s) ≤ 197
+    shaped : IsShaped text graph (length shapes) s
 
-  -- Pieces that have at most so many words and Marks.
-  record Have (words marks : ℕ) (list : List (List Item)) : Type 0 where
+  abbrev words_by : Shape → ℕ
+  words_by s = piece_words (items_of codes s)
+
+  abbrev marks_by : Shape → ℕ
+  marks_by s = marks_in (items_of codes s)
+
+  -- Shapes whose pieces have at most so many words and Marks.
+  record Have (words marks : ℕ) (list : List Shape) : Type 0 where
     each : Each IsPiece list
-    words_few : sum_by piece_words list ≤ words
-    marks_few : sum_by marks_in list ≤ marks
+    words_few : sum_by words_by list ≤ words
+    marks_few : sum_by marks_by list ≤ marks
 
   none : Have 0 0 []
   none = record { each = tt; words_few = omega arith; marks_few = omega arith }
 
-  within : {words marks more_words more_marks : ℕ} {list : List (List Item)} → words ≤ more_words → marks ≤ more_marks
+  within : {words marks more_words more_marks : ℕ} {list : List Shape} → words ≤ more_words → marks ≤ more_marks
       → Have words marks list → Have more_words more_marks list
   within more_words more_marks have = record {
     each = have.each;
@@ -274,28 +240,28 @@ module _ (text : Words) (graph : Graph) (table cases : ℕ) (codes : ℕ → Lis
     marks_few = omega (arith, have.marks_few);
   }
 
-  joined : {words marks more_words more_marks : ℕ} {xs ys : List (List Item)} → Have words marks xs
+  joined : {words marks more_words more_marks : ℕ} {xs ys : List Shape} → Have words marks xs
       → Have more_words more_marks ys → Have (words + more_words) (marks + more_marks) (xs ++ ys)
   joined {xs = xs} {ys = ys} one other = record {
     each = each-append IsPiece xs ys one.each other.each;
-    words_few = omega (arith, one.words_few, other.words_few, sum_by-append piece_words xs ys);
-    marks_few = omega (arith, one.marks_few, other.marks_few, sum_by-append marks_in xs ys);
+    words_few = omega (arith, one.words_few, other.words_few, sum_by-append words_by xs ys);
+    marks_few = omega (arith, one.marks_few, other.marks_few, sum_by-append marks_by xs ys);
   }
 
-  one_piece : {size marks most : ℕ} {items : List Item} → size ≤ 21 → (AreFew → most ≤ 176)
-      → IsMade text graph (length pieces) marks size most items → Have (size + most) marks (items ∷ [])
-  one_piece {items = items} short few made =
-      let is = sized made.shaped in
+  one_piece : {size marks most : ℕ} {s : Shape} → size ≤ 21 → (AreFew → most ≤ 176)
+      → IsMade text graph codes (length shapes) marks size most s → Have (size + most) marks (s ∷ [])
+  one_piece {s = s} short few made =
+      let is = sized codes s made.shaped in
       let large = made.large in
       let coded = made.coded in
       record {
         each = (record { few = λ f. omega (arith, is.few, few f, short, large, coded); shaped = made.shaped }, tt);
-        words_few = omega (arith, is.words, large, coded, sum_by-cons piece_words items []);
-        marks_few = omega (arith, is.marks, made.once, sum_by-cons marks_in items []);
+        words_few = omega (arith, is.words, large, coded, sum_by-cons words_by s []);
+        marks_few = omega (arith, is.marks, made.once, sum_by-cons marks_by s []);
       }
 
   -- one for each item of a list, of so many words and those of its snippets
-  mapped : {A : Type 0} (f : A → List Item) (base marks : ℕ) (code : A → ℕ) (xs : List A)
+  mapped : {A : Type 0} (f : A → Shape) (base marks : ℕ) (code : A → ℕ) (xs : List A)
       → Each (λ x. Have (base + code x) marks (f x ∷ [])) xs
       → Have (length xs * base + sum_by code xs) (length xs * marks) (map f xs)
   mapped f base marks code [] have = within (omega arith) (omega arith) none
@@ -314,8 +280,8 @@ module _ (text : Words) (graph : Graph) (table cases : ℕ) (codes : ℕ → Lis
       rw (straight_left graph node word (decode_of (slice_index text.words word)) e) (cond_both (ends_block graph node word) _ _
       (λ (edges : List ℕ). code_length codes edges ≤ 176) (λ _. optional_few f _) (λ _. omega arith)))
 
-  abbrev image_at : Node → ℕ → List Item
-  image_at = image text graph (jumps_at text table) cases codes
+  abbrev image_at : Node → ℕ → Shape
+  image_at = image text graph (jumps_at text table) cases
 
   one_image : (node : Node) (word : ℕ) → IsAt text graph node word
       → Have (21 + image_code text graph codes node word) 1 (image_at node word ∷ [])
@@ -335,7 +301,7 @@ module _ (text : Words) (graph : Graph) (table cases : ℕ) (codes : ℕ → Lis
 
   have_ordered : Have (length (below (length text.words)) * 21
       + sum_by (order_code text graph codes) (below (length text.words))) (length (below (length text.words)) * 1)
-      (images_in_order text graph table cases codes)
+      (images_in_order text graph table cases)
   have_ordered =
       mapped (λ word. image_at (node_in_order graph word) word) 21 1 (order_code text graph codes)
       (below (length text.words)) (each-below _ (length text.words)
@@ -343,7 +309,7 @@ module _ (text : Words) (graph : Graph) (table cases : ℕ) (codes : ℕ → Lis
 
   have_ways : (number : ℕ) (edges : List Edge) → Each (IsEdgeIn graph.blocks graph.opens) edges
       → Have (8 * length edges + ways_code codes number edges) (length edges)
-      (map (λ (p : ℕ × Edge). way_along text graph table codes p.0 p.1) (enumerate_from number edges))
+      (map (λ (p : ℕ × Edge). way_along text graph table p.0 p.1) (enumerate_from number edges))
   have_ways number [] inside = none
   have_ways number (edge ∷ edges) inside =
       within (omega arith) (omega arith) (joined (one_piece (omega arith)
@@ -354,16 +320,16 @@ module _ (text : Words) (graph : Graph) (table cases : ℕ) (codes : ℕ → Lis
 
   have_landings : Have (length (below (length text.words)) * 4
       + sum_by (landing_code graph codes) (below (length text.words))) (length (below (length text.words)) * 0)
-      (map (landing text graph codes) (below (length text.words)))
+      (map (landing text graph) (below (length text.words)))
   have_landings =
-      mapped (landing text graph codes) 4 0 (landing_code graph codes) (below (length text.words))
+      mapped (landing text graph) 4 0 (landing_code graph codes) (below (length text.words))
       (each-below _ (length text.words) (λ word l. one_piece (omega arith) (λ f. optional_few f _)
-      (bare (flat_map codes (landing_at graph (lands graph (Some word)))) (omega arith)
-      (exits_jump _ (entered (lands graph (Some word)) word (lands_word text graph g word l))) (omega arith))))
+      (made_bare (landing_at graph (lands graph (Some word))) (omega arith)
+      (entered (lands graph (Some word)) word (lands_word text graph g word l)) (omega arith))))
 
   have_cases : (o : Open) (entry : ℕ) (words : List ℕ) → Each (λ word. word < length text.words) words
       → Have (8 * length words + sum_by (λ word. case_code graph codes (o, word)) words) (length words)
-      (map (λ (p : ℕ × ℕ). case_at text graph table codes o p.0 p.1) (enumerate_from entry words))
+      (map (λ (p : ℕ × ℕ). case_at text graph table o p.0 p.1) (enumerate_from entry words))
   have_cases o entry [] low = none
   have_cases o entry (word ∷ words) low =
       within (omega (arith, sum_by-cons (λ (w : ℕ). case_code graph codes (o, w)) word words)) (omega arith)
@@ -373,7 +339,7 @@ module _ (text : Words) (graph : Graph) (table cases : ℕ) (codes : ℕ → Lis
   have_chosen : (opens : List Open) → Each (λ (o : Open). Each (λ word. word < length text.words) o.targets) opens
       → Have (8 * sum_by (λ (o : Open). length o.targets) opens + sum_by (case_code graph codes) (entries_in opens))
       (sum_by (λ (o : Open). length o.targets) opens)
-      (flat_map (all_cases text graph table codes) opens)
+      (flat_map (all_cases text graph table) opens)
   have_chosen [] low = none
   have_chosen (o ∷ opens) low =
       within
@@ -391,20 +357,19 @@ module _ (text : Words) (graph : Graph) (table cases : ℕ) (codes : ℕ → Lis
       → ((word : ℕ) → ends_block graph node word ≡ (word == last_word graph.blocks.firsts graph.blocks.words k))
       → is_transfer (decode_of (slice_index text.words (last_word graph.blocks.firsts graph.blocks.words k))) ≡ true
       → (from count : ℕ) → from + count ≤ length text.words
-      → Have (21 * count) count (images_of text graph table cases codes node from count)
+      → Have (21 * count) count (images_of text graph table cases node from count)
   have_block node inside k at ends from zero low = none
   have_block node inside k at ends from (suc count) low =
       within (omega (arith, no_code text graph codes node k from (at from) ends)) (omega arith)
       (joined (one_image node from (record { inside = inside; low = omega (arith, low) }))
       (have_block node inside k at ends (from + 1) count (omega (arith, low))))
 
-  keep_made : (instr : Instr) → IsMade text graph (length pieces) 0 4 0 (save_by instr)
-  keep_made (i.Load kind rd rs1 op2) =
-      bare [] (omega arith) (exits_by (encoded (save_load_address rs1 op2)) (omega arith)) (omega arith)
-  keep_made _ = bare [] (omega arith) falls (omega arith)
+  save_made : (instr : Instr) → IsMade text graph codes (length shapes) 0 4 0 (save_by instr)
+  save_made (i.Load kind rd rs1 op2) = made_bare [] (omega arith) (omega arith) (omega arith)
+  save_made _ = made_bare [] (omega arith) tt (omega arith)
 
   have_open : (o : Open) → IsSwitchIn text graph.blocks o → is_copied graph.opens o.switch.compare.0 ≡ true
-      → Have (21 * pieces_of text graph o) (words_of graph.blocks o) (open_pieces text graph table cases codes o)
+      → Have (21 * pieces_of text graph o) (words_of graph.blocks o) (open_pieces text graph table cases o)
   have_open o its copied =
       let first = slice_index graph.blocks.firsts o.block in
       let load = load_of text o in
@@ -416,13 +381,13 @@ module _ (text : Words) (graph : Graph) (table cases : ℕ) (codes : ℕ → Lis
       its.branches (slice_index graph.blocks.firsts o.switch.compare.0) (size_of graph.blocks o.switch.compare.0)
       (block_end_within text graph codes g o.switch.compare.0 its.compare_in))
       (images first (load - first) (omega (arith, some, its.above, its.below, ends))))
-      (joined (one_piece (omega arith) (λ f. omega arith) (keep_made (decode_of (slice_index text.words load))))
+      (joined (one_piece (omega arith) (λ f. omega arith) (save_made (decode_of (slice_index text.words load))))
       (images load (first + size_of graph.blocks o.block - load) (omega (arith, some, its.above, its.below, ends)))))
 
   have_opens : (opens : List Open) → Each (IsSwitchIn text graph.blocks) opens
       → Each (λ (o : Open). is_copied graph.opens o.switch.compare.0 ≡ true) opens
       → Have (21 * sum_by (pieces_of text graph) opens) (sum_by (words_of graph.blocks) opens)
-      (flat_map (open_pieces text graph table cases codes) opens)
+      (flat_map (open_pieces text graph table cases) opens)
   have_opens [] its copied = none
   have_opens (o ∷ opens) its copied =
       within (omega (arith, sum_by-cons (pieces_of text graph) o opens))
@@ -458,38 +423,43 @@ module _ (text : Words) (graph : Graph) (table cases : ℕ) (codes : ℕ → Lis
       + 21 * sum_by (pieces_of text graph) graph.opens
       + (8 * sum_by (λ (o : Open). length o.targets) graph.opens
       + sum_by (case_code graph codes) (entries_in graph.opens)) + 4)
-      (8 * length text.words) pieces
-  unfolding piece_list
+      (8 * length text.words) shapes
+  unfolding shape_list
   have_all =
       let sizes = length-below (length text.words) in
       within (omega (arith, sizes)) (omega (arith, sizes, g.room, g.entries, g.own_few))
       (joined (joined (joined (joined (joined have_ordered (have_ways 0 (edges_but_landings graph) own_inside)) have_landings)
       (have_opens graph.opens g.switches compares_copied)) (have_chosen graph.opens g.targets))
       (one_piece {size = 4} {marks = 0} {most = 0} (omega arith) (λ f. omega arith)
-      (bare [] (omega arith) (exits_by (encoded foreign) (omega arith)) (omega arith))))
+      (made_bare [] (omega arith) tt (omega arith))))
 
-  pub shaped : Each (IsShaped text graph (length pieces)) pieces
-  shaped = each-then IsPiece _ pieces (λ items its. its.shaped) have_all.each
+  -- ---- its pieces
+
+  abbrev pieces : List (List Item)
+  pieces = assembled codes shapes
+
+  count : length pieces ≡ length shapes
+  count = length-map shapes (items_of codes)
 
   -- a property of each piece, at a piece's number
-  at_piece : (P : Option (List Item) → Type 0) → P None → ((items : List Item) → IsPiece items → P (Some items))
+  at_piece : (P : Option (List Item) → Type 0) → P None → ((s : Shape) → IsPiece s → P (Some (items_of codes s)))
       → (k : ℕ) → P (slice_get pieces k)
-  at_piece P none some k = by (slice_get pieces k) refl
+  at_piece P none some k = rw (slice_get-map (items_of codes) shapes k) (by (slice_get shapes k) refl)
     where
-      by : (o : Option (List Item)) → slice_get pieces k ≡ o → P o
+      by : (o : Option Shape) → slice_get shapes k ≡ o → P (option_map (items_of codes) o)
       by None e = none
-      by (Some items) e = some items (each_at _ pieces k items have_all.each e)
+      by (Some s) e = some s (each_at _ shapes k s have_all.each e)
 
-  item_says : (k n : ℕ) (address : Addr) (node : ℕ) → item_at pieces k n ≡ Some (it.Mark address node)
+  pub item_says : (k n : ℕ) (address : Addr) (node : ℕ) → item_at pieces k n ≡ Some (it.Mark address node)
       → (word : ℕ) → word_at text address.0 ≡ Some word → is_transfer (decode_of (slice_index text.words word)) ≡ false
       → item_at pieces k (suc n) ≡ Some (it.Word (slice_index text.words word))
   item_says k n address node e word at plain =
       at_piece (λ o. item_in o n ≡ Some (it.Mark address node)
       → item_in o (suc n) ≡ Some (it.Word (slice_index text.words word))) (λ q. absurd (cc))
-      (λ items its q. mark_says its.shaped n address node q word at plain) k e
+      (λ s its q. mark_says codes s its.shaped n address node q word at plain) k e
 
   -- so many pieces
-  few_pieces : length pieces ≤ 10 * length text.words + 1
+  few_pieces : length shapes ≤ 10 * length text.words + 1
   few_pieces =
       omega (arith, many, foreign_is text graph, opened_many graph.opens, g.own_few, g.room, g.few, g.entries)
 
@@ -498,45 +468,71 @@ module _ (text : Words) (graph : Graph) (table cases : ℕ) (codes : ℕ → Lis
   pub fits : (snips : List (List Op)) → AreShort snips codes → AreFit text graph snips pieces
   fits snips short =
       let few : AreFew = (λ number. omega (arith, short.short number, short.few number)) in
-      let items = sum_by-le length 197 pieces (λ k d l.
-      (each_at IsPiece pieces k _ have_all.each (slice_get-get_or pieces k d l)).few few) in
+      let items = sum_by-le (λ s. length (items_of codes s)) 197 shapes (λ k d l.
+      (each_at IsPiece shapes k _ have_all.each (slice_get-get_or shapes k d l)).few few) in
       let snippets = snippets_few text graph codes g snips short in
       let opened = opened_many graph.opens in
       record {
         pieces = record {
-          count = omega (arith, few_pieces, is.few);
-          items = omega (arith, items, few_pieces, is.few);
-          leads = λ k n. at_piece (λ (o : Option (List Item)). LeadsBelow (length pieces)
-              (item_in o n)) tt (λ items its. (sized its.shaped).leads n) k;
-          marked = at_piece IsMarked tt (λ items its. marked its.shaped);
+          count = omega (arith, few_pieces, is.few, count);
+          items = omega (
+            arith,
+            items,
+            few_pieces,
+            is.few,
+            fold-map (λ a (items : List Item). a + length items) (items_of codes) 0 shapes,
+          );
+          leads = λ k n. rw count (at_piece (λ (o : Option (List Item)). LeadsBelow (length shapes) (item_in o n)) tt
+              (λ s its. (sized codes s its.shaped).leads n) k);
+          marked = at_piece IsMarked tt (λ s its. well_marked codes s its.shaped);
         };
-        images = omega (arith, many, foreign_is text graph);
-        landings = λ word l. omega (arith, many, lands_below text graph g snips word l);
-        cases = λ entry number e. omega (arith, many, case_number_below text graph g entry number e);
-        foreign = omega (arith, many);
-        marks = omega (arith, have_all.marks_few, is.few);
-        bytes = omega (arith, have_all.words_few, snippets, opened, g.room, g.few, g.entries, g.own_few, is.few);
+        images = omega (arith, count, many, foreign_is text graph);
+        landings = λ word l. omega (arith, count, many, lands_below text graph g snips word l);
+        cases = λ entry number e. omega (arith, count, many, case_number_below text graph g entry number e);
+        foreign = omega (arith, count, many);
+        marks = omega (
+          arith,
+          have_all.marks_few,
+          is.few,
+          fold-map (λ a (items : List Item). a + marks_in items) (items_of codes) 0 shapes,
+        );
+        bytes = omega (
+          arith,
+          have_all.words_few,
+          snippets,
+          opened,
+          g.room,
+          g.few,
+          g.entries,
+          g.own_few,
+          is.few,
+          fold-map (λ a (items : List Item). a + piece_words items) (items_of codes) 0 shapes,
+        );
       }
 
-counted : (text : Words) (graph : Graph) (table cases : ℕ) (codes : ℕ → List ℕ) → IsText text → IsGraphOf text graph
-    → length (piece_list text graph table cases codes) ≡ foreign_number text graph + 1
-counted text graph table cases codes is h =
+counted : (text : Words) (graph : Graph) (table cases : ℕ) → IsText text → IsGraphOf text graph
+    → length (shape_list text graph table cases) ≡ foreign_number text graph + 1
+counted text graph table cases is h =
     rw h.is (count_is text (blocks_of text h.given) (opens_in text h.given h.entry) (cased_of text h.given h.entry is) table
-    cases codes)
+    cases)
+
+-- the shape of each piece
+pub piece_shaped : (text : Words) (graph : Graph) (table cases : ℕ) (codes : ℕ → List ℕ) → IsText text
+    → IsGraphOf text graph → (k : ℕ) (items : List Item) → slice_get (piece_list text graph table cases codes) k ≡ Some items
+    → (s : Shape) × (items ≡ items_of codes s) × IsShaped text graph (length (shape_list text graph table cases)) s
+piece_shaped text graph table cases codes is h k items =
+    at_piece text graph table cases codes is (text_graph text graph is h) (counted text graph table cases is h)
+    (λ o. o ≡ Some items → (s : Shape) × (items ≡ items_of codes s)
+    × IsShaped text graph (length (shape_list text graph table cases)) s) (λ e. absurd (cc))
+    (λ s its e. (s, cc, its.shaped)) k
 
 pub pieces_fit : PiecesFit
 pieces_fit text graph table cases snips codes is h low short =
-    fits text graph table cases codes is (text_graph text graph is h) (counted text graph table cases codes is h) snips short
+    fits text graph table cases codes is (text_graph text graph is h) (counted text graph table cases is h) snips short
 
 pub places_say : PlacesSay
 places_say text graph table cases codes base p place is h laid n r e word at plain =
     let m = laid.marks n r e in
     let item = item_says text graph table cases codes is (text_graph text graph is h)
-    (counted text graph table cases codes is h) m.piece m.item m.address r.node m.mark word (rw (← m.says) at) plain in
+    (counted text graph table cases is h) m.piece m.item m.address r.node m.mark word (rw (← m.says) at) plain in
     rw m.lo (laid.items m.piece (suc m.item) (it.Word (slice_index text.words word)) item).1
-
-pub pieces_shaped : (text : Words) (graph : Graph) (table cases : ℕ) (codes : ℕ → List ℕ) → IsText text
-    → IsGraphOf text graph → let pieces = piece_list text graph table cases codes in
-    Each (IsShaped text graph (length pieces)) pieces
-pieces_shaped text graph table cases codes is h =
-    shaped text graph table cases codes is (text_graph text graph is h) (counted text graph table cases codes is h)

@@ -1,24 +1,24 @@
 -- The pieces of the images of words, by nodes.
-use Rattle.image_code.proofs.Common.{◌≡◌, ℕ, suc, ◌+◌, ◌-◌, ◌<◌, ◌≤◌, Bool, true, false, Some, List, length, refl, ap, sym, ◌∙◌, subst, arith, ◌==◌, if◌then◌else◌, slice_get, slice_index, eqb-true, Blocks, blocks_of, holding_of, Node, home_of, IsNodeIn, Open, node_of, IsCut, block, copy, IsIn, is_in, node_is, Item}
+use Rattle.image_code.proofs.Common.{◌≡◌, ℕ, suc, ◌+◌, ◌-◌, ◌<◌, ◌≤◌, Bool, true, false, Some, List, length, refl, ap, sym, ◌∙◌, subst, arith, ◌==◌, if◌then◌else◌, slice_get, slice_index, eqb-true, Blocks, blocks_of, holding_of, Node, home_of, IsNodeIn, Open, node_of, IsCut, block, copy, IsIn, is_in, node_is, Shape}
 use Rattle.cfg_blocks.specs.Values.{instr_at}
 use Rattle.image_code.specs.Loads.{load_of}
-use Rattle.image_code.specs.Made.{image, jumps_at, save_by, piece_list}
+use Rattle.image_code.specs.Made.{image, jumps_at, save_by, shape_list}
 use Rattle.image_code.specs.Numbered.{compare_image, compare_number, enter_number, image_number, jump_enter, jump_image, jump_number}
 use Rattle.image_code.specs.Simulates.{EditSetup, graph_in}
 use Rattle.image_code.proofs.CaseTables.{IsKnown}
 use Rattle.image_code.proofs.EdgePieces.{cut_in}
 use Rattle.image_code.proofs.ImageNumbers.{HasImage, at_compare, at_jump, compare_enter_is, compare_image_is, has_image, in_order, jump_enter_is, jump_image_is}
-use Rattle.image_code.proofs.Listed.{compare_at, enter_next, jump_at, keep_at, order_at}
+use Rattle.image_code.proofs.Listed.{compare_at, enter_next, jump_at, save_at, order_at}
 
-module _ (g : EditSetup) (is : IsKnown g) (table cases : ℕ) (codes : ℕ → List ℕ) where
+module _ (g : EditSetup) (is : IsKnown g) (table cases : ℕ) where
   abbrev b : Blocks
   b = blocks_of g.text g.given
 
-  abbrev all : List (List Item)
-  all = piece_list g.text (graph_in g) table cases codes
+  abbrev all : List Shape
+  all = shape_list g.text (graph_in g) table cases
 
-  abbrev image_of : Node → ℕ → List Item
-  image_of = image g.text (graph_in g) (jumps_at g.text table) cases codes
+  abbrev image_of : Node → ℕ → Shape
+  image_of = image g.text (graph_in g) (jumps_at g.text table) cases
 
   cut : IsCut g.text b
   cut = cut_in g is table cases
@@ -37,19 +37,19 @@ module _ (g : EditSetup) (is : IsKnown g) (table cases : ℕ) (codes : ℕ → L
   pub image_at : (node : Node) (word : ℕ) → word < length g.text.words → HasImage g.text b g.switches node word
       → slice_get all (image_number g.text (graph_in g) node word) ≡ Some (image_of node word)
   image_at node word low (in_order same number enter) =
-      rw (number, same) (order_at g.text b g.switches is.cased table cases codes word low)
+      rw (number, same) (order_at g.text b g.switches is.cased table cases word low)
   image_at node word low (at_jump k o at e here held) =
       let inside = in_block word low o.block held in
       rw (jump_image_is g.text b g.switches k o node word at e here, here)
-      (jump_at g.text b g.switches is.cased table cases codes k o e word inside.above inside.below)
+      (jump_at g.text b g.switches is.cased table cases k o e word inside.above inside.below)
   image_at node word low (at_compare k o at e here held) =
       let inside = in_block word low o.switch.compare.0 held in
       rw (compare_image_is g.text b g.switches k o node word at e here, here)
-      (compare_at g.text b g.switches is.cased table cases codes k o e word inside.above inside.below)
+      (compare_at g.text b g.switches is.cased table cases k o e word inside.above inside.below)
 
   -- where control enters stands some piece
   pub enter_at : (node : Node) (word : ℕ) → word < length g.text.words → HasImage g.text b g.switches node word
-      → (xs : List Item) × (slice_get all (enter_number g.text (graph_in g) node word) ≡ Some xs)
+      → (shape : Shape) × (slice_get all (enter_number g.text (graph_in g) node word) ≡ Some shape)
   enter_at node word low (in_order same number enter) = (
     image_of node word,
     ap (slice_get all) (enter ∙ sym number) ∙ image_at node word low (in_order same number enter),
@@ -57,12 +57,12 @@ module _ (g : EditSetup) (is : IsKnown g) (table cases : ℕ) (codes : ℕ → L
   enter_at node word low (at_jump k o at e here held) = by (word == load_of g.text o) refl
     where
       by : (t : Bool) → (word == load_of g.text o) ≡ t
-          → (xs : List Item) × (slice_get all (enter_number g.text (graph_in g) node word) ≡ Some xs)
+          → (shape : Shape) × (slice_get all (enter_number g.text (graph_in g) node word) ≡ Some shape)
       by true same = (
         save_by (instr_at g.text (load_of g.text o)),
         ap (slice_get all) (jump_enter_is g.text b g.switches k o node word at e here
             ∙ ap (jump_enter g.text (graph_in g) k o) (eqb-true word (load_of g.text o) same))
-            ∙ keep_at g.text b g.switches is.cased table cases codes k o e,
+            ∙ save_at g.text b g.switches is.cased table cases k o e,
       )
       by false other = (
         image_of node word,
@@ -91,7 +91,7 @@ module _ (g : EditSetup) (is : IsKnown g) (table cases : ℕ) (codes : ℕ → L
         jump_enter_is g.text b g.switches k o node (suc word) at e here,
         jump_image_is g.text b g.switches k o node word at e here,
       )
-      (enter_next g.text b g.switches is.cased table cases codes k o e word above)
+      (enter_next g.text b g.switches is.cased table cases k o e word above)
 
   pub compare_next : (k : ℕ) (o : Open) (node : Node) (word : ℕ)
       → compare_number g.text (graph_in g) o.switch.compare.0 ≡ Some k

@@ -1,14 +1,15 @@
 -- From the cases to the promise as a whole.
-use Rattle.image_code.proofs.Common.{◌≡◌, ℕ, suc, ◌+◌, ◌<◌, Option, Some, List, length, refl, ap, sym, ◌∙◌, subst, arith, slice_index, decode_of, AllApart, State, judged_by, pages_of, Node, Point, Item, Placement, item_in, items_in, open_in, range_of}
+use Rattle.image_code.proofs.Common.{◌≡◌, ℕ, ◌<◌, Option, Some, List, ◌∷◌, ap, ◌∙◌, subst, arith, slice_get, decode_of, AllApart, State, judged_by, pages_of, Node, Point, Item, item_at, item_in, ◌++◌, exit_items}
 use Rattle.layout.specs.declared.items.Item.TheVariants as it
 use Rattle.two_runs.specs.Needed.{judged_in}
-use Rattle.layout.specs.Laid.{Stands, BranchStands, branch_short, branch_long, size_of}
-use Rattle.image_code.specs.Simulates.{Simulates, at_point, number_in, word_of}
+use Rattle.image_code.specs.Simulates.{Simulates, at_point, word_of}
 use Rattle.code_runs.specs.PointsAlike.{instr_of}
 use Rattle.image_code.proofs.Points.{Forms, AtVisitIn, Site, StepsFrom, Visit}
-use Rattle.image_code.proofs.PointShapes.{visits_it, TakesWords, IsCase, IsHead, IsImaged, plain, couple, conditional, unconditional, call, jump, landing, choice, foreign, off, IsVisited, head, outside, beyond}
+use Rattle.image_code.proofs.PointShapes.{visits_it, IsCase, IsHead, IsImaged, plain, couple, conditional, unconditional, call, jump, landing, choice, foreign, off, IsVisited, head, outside, beyond}
 use Rattle.image_code.specs.Outside.{IsOffPages}
-use Rattle.image_code.proofs.Between.{at_range}
+use Rattle.image_code.proofs.Marked.{at_first, visits_first}
+use Rattle.image_code.proofs.Shapes.{first_of}
+use Rattle.image_code.proofs.Routes.{items_at, words_on}
 use Rattle.image_code.proofs.Cases.{plains_step}
 use Rattle.image_code.proofs.Calls.{calls_step}
 use Rattle.image_code.proofs.Choices.{choices_step}
@@ -20,17 +21,6 @@ use Rattle.image_code.proofs.Conditional.{conditional_step}
 use Rattle.image_code.proofs.Unconditional.{unconditional_step}
 use Rattle.image_code.proofs.Outside.{foreign_step, offs_step}
 
-branch_room : (base : ℕ) (code : List ℕ) (cond to a b : ℕ) → BranchStands base code cond to a b → a < b
-branch_room base code cond to a b (branch_short d e r s) = omega arith
-branch_room base code cond to a b (branch_long e s r) = omega arith
-
-has_room : (base : ℕ) (p : Placement) (x : Item) (a b : ℕ) → TakesWords x → Stands base p x a b → a < b
-has_room base p (it.Word w) a b takes h = let e : b ≡ a + 4 = h.0 in omega arith
-has_room base p (it.Branch cond to) a b takes h = branch_room base p.code cond (slice_index p.at to.0) a b h
-has_room base p (it.Jump to) a b takes h = absurd takes
-has_room base p (it.Mark address node) a b takes h = absurd takes
-has_room base p it.EndMark a b takes h = absurd takes
-
 module _ (site : Site) where
   open site use {g, l, base, p, place, placed}
 
@@ -40,21 +30,14 @@ module _ (site : Site) where
   heads_visit : (node : Node) (x : Point) (t : State) → AtVisitIn site node x t → IsHead site node x
       → visits_it g node x t
   heads_visit node x t here c =
-      let item = λ (n : ℕ). ap (λ (v : Option (List Item)). item_in v n) c.items in
-      let size : size_of l.list c.piece ≡ suc (suc (length c.rest)) = ap
-      (λ (v : Option (List Item)). items_in v) c.items in
-      let mark : place c.piece 1 ≡ place c.piece 0 = placed.laid.items c.piece 0 (it.Mark c.address (number_in g node))
-      (item 0) in
-      let room : place c.piece 1 < place c.piece 2 = has_room base p c.item (place c.piece 1) (place c.piece 2) c.takes
-      (placed.laid.items c.piece 1 c.item (item 1)) in
-      let at : t.pc ≡ place c.piece 1 = here.at ∙ c.here ∙ placed.laid.starts c.piece c.within ∙ sym mark in
-      let low = (placed.laid.within c.piece 1 c.within (omega arith)).begins in
-      let high = (placed.laid.within c.piece 2 c.within (omega arith)).ends in
-      at_range site node x t _
-      here.live (omega arith) (omega arith)
-      (placed.laid.ranges c.piece 1 t.pc c.item (item 1) (omega arith) (omega arith)
-      ∙ ap (λ (v : Option (List Item)). range_of (place c.piece) (open_in v 1)) c.items)
-      (sym at) refl c.original
+      let visit = at_visit node x t here in
+      let f = first_of base p c.address c.head c.some in
+      let item : item_at l.list c.piece 1 ≡ Some f.item =
+      ap (λ (v : Option (List Item)). item_in v 1) (items_at site c.piece _ c.shape)
+      ∙ ap (λ (items : List Item). slice_get (items ++ it.EndMark ∷ (words_on l c.edges ++ exit_items c.exit)) 0) f.is in
+      let room : place c.piece 1 < place c.piece 2 =
+      f.room (place c.piece 1) (place c.piece 2) (placed.laid.items c.piece 1 f.item item) in
+      visits_first visit _ _ _ c.mark 1 (omega (arith, c.some)) (omega (arith, at_first visit _ _ _ c.mark, room))
 
   there : (node : Node) (x : Point) (t : State) → AtVisitIn site node x t → IsVisited site node x → visits_it g node x t
   there node x t here (head k) = heads_visit node x t here k

@@ -6,10 +6,10 @@ use Rattle.image_code.specs.Simulates.{gone_at, graph_in}
 use Rattle.image_code.proofs.Points.{entered_at}
 use Rattle.image_code.proofs.PointShapes.{LeadsTo, IsNoJumpsSlot}
 use Rattle.image_code.specs.Made.{way_out}
-use Rattle.image_code.proofs.Visited.{AtWord, site, enters, l, nothing_gone, slotted}
+use Rattle.image_code.proofs.Visited.{AtWord, site, enters, nothing_gone, slotted}
 
 module _ (visit : AtWord) (instr : Instr) (says : decode_of (slice_index visit.edit.g.text.words visit.word) ≡ instr) where
-  open visit use {edit, node, x, word, at, none, held, there, npc, edit.{g, is, p, f}}
+  open visit use {edit, node, x, word, at, none, held, there, npc, edit.{g, is}}
 
   abbrev b : Blocks
   b = blocks_of g.text g.given
@@ -39,7 +39,7 @@ module _ (visit : AtWord) (instr : Instr) (says : decode_of (slice_index visit.e
   -- the way of the edge leads to the slot
   abbrev pub LeadsThere : EdgeKind → State → Type 0
   LeadsThere kind v =
-      LeadsTo (l edit) p (record { 0 = way_out g.text (graph_in g) node kind }) (gone_at g node x v)
+      LeadsTo (site edit) (record { 0 = way_out g.text (graph_in g) node kind }) (gone_at g node x v)
       (word_at g.text v.pc)
       (entered_at (site edit) (node_after (graph_in g) node (gone_at g node x v)) (point_of v))
 

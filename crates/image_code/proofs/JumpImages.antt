@@ -1,32 +1,31 @@
 -- The images of CALL and JMPL: the way of the edge leads into the slot.
-use Rattle.image_code.proofs.Common.{◌≡◌, ℕ, ◌%◌, ◌^◌, ◌<◌, false, Some, None, List, refl, ap, sym, ◌∙◌, arith, if◌then◌else◌, slice_get, slice_index, ◌==◌, ℤ, cond_both, false≢true, Words, address_of, Addr, Op2, decode_of, Taken, State, sum_of, target_of, trapped, act, word_at-some, Node, Block, Graph, has_cases, point_of, free_register, other_register, Item, with_register, mem_address_not_aligned, call_step, delayed, jump_delayed}
+use Rattle.image_code.proofs.Common.{◌≡◌, ℕ, ◌%◌, ◌^◌, ◌<◌, false, Some, None, [], refl, ap, sym, ◌∙◌, arith, if◌then◌else◌, slice_get, slice_index, ◌==◌, ℤ, cond_both, false≢true, Words, Op2, decode_of, Taken, State, sum_of, target_of, trapped, act, word_at-some, Node, Block, Graph, has_cases, point_of, free_register, other_register, link, words_of, with_register, mem_address_not_aligned, call_step, delayed, jump_delayed, OfWord, Shape}
 use Rattle.v8_decode.specs.declared.Instr.TheVariants as i
 use Rattle.cfg_blocks.specs.declared.EdgeKind.TheVariants as kinds
 use Rattle.v8_step.specs.Transfers.{jump_step}
 use Rattle.cfg_walk.proofs.Transfers.{call_delayed}
-use Rattle.jump_code.specs.Pieces.{call_piece, look_up_piece}
-use Rattle.image_code.specs.Simulates.{at_point, does_at, graph_in, number_in}
+use Rattle.jump_code.specs.Finding.{find_words}
+use Rattle.image_code.specs.declared.shape.Head.TheVariants as heads
+use Rattle.image_code.specs.Simulates.{at_point, does_at, graph_in}
 use Rattle.image_code.proofs.PointShapes.{IsCall, IsJump}
-use Rattle.image_code.specs.Made.{jump_by, jump_image_by, jumps_at, way_out}
+use Rattle.image_code.specs.Made.{jump_by, jump_image_by, jumps_at, visit_of, way_out}
 use Rattle.image_code.specs.Numbered.{image_number}
 use Rattle.image_code.proofs.IntoSlots.{LeadsThere, entered, no_jump, stands}
 use Rattle.image_code.proofs.JumpWords.{jmpl_is}
-use Rattle.image_code.proofs.Visited.{AtWord, at_image, site, image_items, l, word_is}
+use Rattle.image_code.proofs.Visited.{AtWord, at_image, site, image_shape, shapes, word_is}
 
 -- where no Case edges leave a node, a jump looks its target up
-jump_plain : (text : Words) (graph : Graph) (jumps cases : ℕ) (codes : ℕ → List ℕ) (address : Addr) (node : Node)
-    (rd rs1 : ℕ) (op2 : Op2)
+jump_plain : (text : Words) (graph : Graph) (jumps cases : ℕ) (visit : OfWord) (node : Node) (rd rs1 : ℕ) (op2 : Op2)
     → has_cases graph.opens node ≡ false
-    → jump_image_by text graph jumps cases address node rd rs1 op2
-    ≡ jump_by text graph jumps cases address node rd rs1 op2
-jump_plain text graph jumps cases codes address (Block k) rd rs1 op2 e = rw e
-jump_plain text graph jumps cases codes address _ rd rs1 op2 e = refl
+    → jump_image_by text graph jumps cases visit node rd rs1 op2 ≡ jump_by text graph jumps cases visit node rd rs1 op2
+jump_plain text graph jumps cases visit (Block k) rd rs1 op2 e = rw e
+jump_plain text graph jumps cases visit _ rd rs1 op2 e = refl
 
 module _ (visit : AtWord) (t : State) where
-  open visit use {edit, node, x, word, at, none, npc, edit.{g, codes, f, tables.{behind}}}
+  open visit use {edit, node, x, word, at, none, npc, edit.{g, f, tables.{behind}}}
 
-  abbrev address : Addr
-  address = record { 0 = address_of g.text word }
+  abbrev visited : OfWord
+  visited = visit_of g.text (graph_in g) node word
 
   low : x.pc < 2 ^ 32
   low =
@@ -43,10 +42,6 @@ module _ (visit : AtWord) (t : State) where
     call_acts : does_at g x t ≡ delayed (with_register (at_point x t) 15 x.pc) (target_of (at_point x t) disp)
     unfolding act call_step
     call_acts = rw (word_is g x word at, says, none)
-
-    call_items : slice_get (l edit).list number ≡ Some (call_piece address (number_in g node)
-        (record { 0 = way_out g.text (graph_in g) node kinds.Call }))
-    call_items = image_items visit (i.Call disp) says
 
     call_leads : t.ending ≡ None → (v : State)
         → v ≡ delayed (with_register (at_point x t) 15 x.pc) (target_of (at_point x t) disp)
@@ -66,7 +61,8 @@ module _ (visit : AtWord) (t : State) where
       disp = disp;
       says = says;
       way = record { 0 = way_out g.text (graph_in g) node kinds.Call };
-      marked = at_image visit _ call_items;
+      mark = at_image visit (λ address _. heads.Pair (words_of (link 15 address.0))) [] _
+          (image_shape visit (i.Call disp) says);
       leads = call_leads live (does_at g x t) call_acts;
       never = no_jump visit (i.Call disp) says (does_at g x t)
           (λ _. ap (λ (z : State). z.pc) call_acts) refl;
@@ -97,17 +93,13 @@ module _ (visit : AtWord) (t : State) where
         (ap (λ (z : State). z.pc) e ∙ w.0, ap (λ (z : State). z.slot) e ∙ w.1)
 
     module _ (caseless : has_cases g.switches node ≡ false) where
-      jump_items : slice_get (l edit).list number
-          ≡ Some (look_up_piece (free_register rd rs1 op2) (other_register rd rs1 op2) rd rs1 op2 f.halves.base address
-          (number_in g node)
-          (record { 0 = way_out g.text (graph_in g) node kinds.Out }))
-      jump_items =
-          image_items visit (i.Jmpl rd rs1 op2) says
-          ∙ ap (λ (xs : List Item). Some xs) (jump_plain g.text (graph_in g)
-          (jumps_at g.text f.table.base) f.cases.base codes address
-          node rd rs1 op2 caseless)
-          ∙ ap (λ n. Some (look_up_piece (free_register rd rs1 op2) (other_register rd rs1 op2) rd rs1 op2 n address
-          (number_in g node) (record { 0 = way_out g.text (graph_in g) node kinds.Out }))) (sym behind)
+      jump_shape : slice_get (shapes edit) number
+          ≡ Some (jump_by g.text (graph_in g) f.halves.base f.cases.base visited node rd rs1 op2)
+      jump_shape =
+          image_shape visit (i.Jmpl rd rs1 op2) says
+          ∙ ap (λ (s : Shape). Some s) (jump_plain g.text (graph_in g) (jumps_at g.text f.table.base) f.cases.base
+          visited node rd rs1 op2 caseless)
+          ∙ ap (λ n. Some (jump_by g.text (graph_in g) n f.cases.base visited node rd rs1 op2)) (sym behind)
 
       jump_leads : (v : State) → v ≡ jumped → v.ending ≡ None
           → LeadsThere visit (i.Jmpl rd rs1 op2) says kinds.Out v
@@ -138,6 +130,7 @@ module _ (visit : AtWord) (t : State) where
             fits = k.fits;
             in_range = k.in_range;
             way = record { 0 = way_out g.text (graph_in g) node kinds.Out };
-            marked = at_image visit _ jump_items;
+            mark = at_image visit (λ _ _. heads.LookUp (words_of (find_words (free_register rd rs1 op2)
+                (other_register rd rs1 op2) rs1 op2 f.halves.base)) rd) [] _ jump_shape;
             leads = jump_leads (does_at g x t) jump_acts;
           }

@@ -13,7 +13,9 @@ use Rattle.image_code.proofs.Dead.{LastDead, gone_last}
 use Rattle.image_code.proofs.EntersBy.{ends_by, moves_past, own_stored}
 use Rattle.image_code.proofs.Sparing.{instr_is}
 use Rattle.image_code.proofs.Through.{ahead, goes_through}
-use Rattle.image_code.proofs.Marked.{AtWords, link_few}
+use Rattle.image_code.proofs.Routes.{items_at}
+use Rattle.image_code.proofs.Marked.{AtWords}
+use Rattle.image_code.proofs.Shapes.{link_few}
 
 module _ (visit : Visit)
     (c : IsJump visit.site visit.node visit.x visit.t) where
@@ -36,7 +38,7 @@ module _ (visit : Visit)
   does_is = rw (c.is_word, c.says, c.none, c.next, c.original)
 
   there : AtWords site node x t c.piece (length image) (words_of image)
-  there = ahead visit _ c.marked image c.way refl
+  there = ahead visit _ c.way c.mark image refl
 
   about : IsAboutToFind c.scratch c.second c.rd c.rs1 c.op2 c.address.0 f.halves t
   about =
@@ -48,7 +50,7 @@ module _ (visit : Visit)
         other = c.other;
         differ = c.differ;
         words = subst (λ z. StandIn (code_of t.memory) z image) (sym there.at)
-            ((pieces_are_laid l.list base p place placed.laid t.memory here.memory.code c.piece _ c.items).find
+            ((pieces_are_laid l.list base p place placed.laid t.memory here.memory.code c.piece _ (items_at site c.piece _ c.shape)).find
             c.scratch c.second c.rd c.rs1 c.op2 f.halves.base c.address (number_in g node) c.way c.apart c.other c.fits
             c.in_range (omega (arith, placed.frame.whole.below)) short refl).words;
         short = short;
@@ -104,18 +106,16 @@ module _ (visit : Visit)
   jumping e = let is = ap is_jmpl (instr_is g.text x.pc c.word c.is_word ∙ ap (λ (z : Instr). Some z) c.says) in cc
 
   going : (edges : List ℕ) → LastDead g edges → after_jump.ending ≡ None
-      → LeadsTo l p c.way edges (word_at g.text after_jump.pc) (entered_at site (node_after (graph_in g) node edges)
+      → LeadsTo site c.way edges (word_at g.text after_jump.pc) (entered_at site (node_after (graph_in g) node edges)
       (point_of after_jump))
       → ReachesNext site edges node x t after_jump
   going edges last live leads =
       let on = (look_up_simulates c.scratch c.second c.rd c.rs1 c.op2 c.address.0 f.halves t about).0 live in
-      goes_through visit _ c.marked image c.way refl
+      goes_through visit _ c.way c.mark image refl
       after_jump (found_memory t c.scratch c.second c.rs1 c.op2 f.halves) edges last
       (record {
         moves = record {
-          word = c.word;
-          is_word = c.is_word;
-          transfer = ap is_transfer c.says;
+          transfer = (c.word, c.is_word, ap is_transfer c.says);
           path = leads_weaker _ _ t _ (length image) there.on on.path;
           some = omega (arith, many);
           few = few;
@@ -139,9 +139,7 @@ module _ (visit : Visit)
       let valid : IsValid traps.after = subst IsValid traps.path.steps (run-valid t 10 here.valid) in
       ends_by visit after_jump traps.after 9 (record {
         past = moves_past visit [] after_jump traps.after 10 (record {
-          word = c.word;
-          is_word = c.is_word;
-          transfer = ap is_transfer c.says;
+          transfer = (c.word, c.is_word, ap is_transfer c.says);
           path = leads_weaker _ _ t _ 10 (λ u z.
               there.on u (record { past = z.past; before = omega (arith, z.before, many); stores = z.stores })) traps.path;
           some = omega arith;
@@ -168,7 +166,7 @@ module _ (visit : Visit)
       })
 
   steps : (e : Option Ending) → after_jump.ending ≡ e
-      → (after_jump.ending ≡ None → LeadsTo l p c.way (gone_at g node x after_jump) (word_at g.text after_jump.pc)
+      → (after_jump.ending ≡ None → LeadsTo site c.way (gone_at g node x after_jump) (word_at g.text after_jump.pc)
       (entered_at site
       (node_after (graph_in g) node (gone_at g node x after_jump)) (point_of after_jump)))
       → ReachesNext site (gone_at g node x after_jump) node x t after_jump

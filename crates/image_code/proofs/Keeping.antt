@@ -13,8 +13,8 @@ use Rattle.image_code.specs.Cost.{limit_by, is_spill, is_transfer_at}
 use Rattle.image_code.specs.Store.{cells_in}
 use Rattle.image_code.proofs.Points.{AtEntryIn, ReachesNext, Forms, AtVisitIn, Site, StepsFrom, entered_at, visited_at}
 use Rattle.image_code.specs.Keeping.{AreCaseTables}
-use Rattle.image_code.proofs.PointShapes.{IsEntered, IsKeeping, at_once, keeping}
-use Rattle.image_code.proofs.Routes.{IsFit, PieceFrom, CodeAt, bare_on, first_kept, rest_whole, stood, stood_low}
+use Rattle.image_code.proofs.PointShapes.{IsEntered, IsSaving, at_once, saving}
+use Rattle.image_code.proofs.Routes.{IsFit, PieceFrom, CodeAt, bare_on, first_kept, from_shape, stood, stood_low}
 use Rattle.image_code.proofs.Between.{can_run}
 use Rattle.image_code.proofs.Memories.{images_stored, same_stored}
 use Rattle.image_code.proofs.Sparing.{instr_is, spill_first}
@@ -127,12 +127,12 @@ module _ (site : Site) (are : AreCaseTables site.g) where
       (e : ReachesNext site edges node x t v) (live : v.ending ≡ None) (k : ℕ) (o : CaseTable)
       (is : slice_get g.opens k ≡ Some o)
       (at : IsAtWord g o (node_after (graph_in g) node edges) (point_of v) o.load)
-      (c : IsKeeping site (node_after (graph_in g) node edges) (point_of v) o) where
+      (c : IsSaving site (node_after (graph_in g) node edges) (point_of v) o) where
     here : AtEntryIn site (node_after (graph_in g) node edges) (point_of v) e.on.after
     here = e.on.here live
 
     whole : PieceFrom l c.piece 0 (word_items (save_load_address o.rs1 o.op2))
-    whole = rest_whole l c.piece (word_items (save_load_address o.rs1 o.op2)) (tt, (tt, (tt, tt))) c.items
+    whole = from_shape site c.piece _ c.shape
 
     stands : CodeAt site e.on.after.memory c.piece 0 (words_of (save_load_address o.rs1 o.op2))
     stands = stood site e.on.after.memory here.memory.code c.piece 0
@@ -181,7 +181,7 @@ module _ (site : Site) (are : AreCaseTables site.g) where
     abbrev after : State
     after = past e.on.after 3 m e.on.after
 
-    stored : Stores (IsAmongWords f.own) e.on.after.memory m
+    stored : Stores (IsAmongWords f.stored) e.on.after.memory m
         × ((memory_word m (page_word 1) ≡ memory_word e.on.after.memory (page_word 1))
         × (words_at g.notes.base g.notes.cells m ≡ cells_in g.notes e.on.after))
     stored = first_kept site e.on.after m fit keeps.stores
@@ -300,7 +300,7 @@ module _ (site : Site) (are : AreCaseTables site.g) where
         carried = carries e.on.after refl;
       };
     }
-    by_next (keeping k o is at c) live = record {
+    by_next (saving k o is at c) live = record {
       on = keeps_on node x t v gone e live k o is at c;
       keeps = record {
         loaded = λ _ j q iq there.

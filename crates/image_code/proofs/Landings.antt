@@ -1,19 +1,19 @@
 -- The way along the edge of a JMPL: the copy of its slot's word, the snippet, and the jump to what was found, a landing
 -- or the foreign piece.
-use Rattle.image_code.proofs.Common.{◌≡◌, ◌≢◌, ℕ, ◌+◌, ◌%◌, ◌^◌, ◌<◌, ◌≤◌, ◌⊎◌, inl, inr, true, Option, Some, None, List, [], ◌∷◌, ◌++◌, length, refl, ap, sym, ◌∙◌, subst, arith, slice_get, slice_index, option_map, flat_map, word_at, decode_of, code_of, AllApart, State, register_of, act, judged_by, pages_of, hopped, page_word, store_word, StandIn, leads_weaker, words_stay, found_in, resume, IsPageWord, foreign_piece, word_items, words_mean, Item, words_of, other_word_stored, foreign, false≢true}
-use Rattle.layout.specs.declared.items.Item.TheVariants as it
+use Rattle.image_code.proofs.Common.{◌≡◌, ◌≢◌, ℕ, ◌+◌, ◌%◌, ◌^◌, ◌<◌, ◌≤◌, ◌⊎◌, inl, inr, true, Option, Some, None, List, [], ◌∷◌, ◌++◌, length, refl, ap, sym, ◌∙◌, subst, arith, slice_get, slice_index, option_map, flat_map, word_at, decode_of, code_of, AllApart, State, register_of, act, judged_by, pages_of, hopped, page_word, store_word, StandIn, leads_weaker, words_stay, found_in, resume, IsPageWord, word_items, words_mean, Item, words_of, other_word_stored, foreign, false≢true, bare}
+use Rattle.image_code.specs.declared.shape.Exit.TheVariants as exits
 use Rattle.code_runs.specs.Hops.{Hops}
 use Rattle.jump_code.specs.Finding.{IsAboutToGoOn}
 use Rattle.jump_code.specs.Leaving.{IsAboutToLeave}
 use Rattle.jump_code.specs.PageWords.{found_there, waiting}
 use Rattle.jump_code.proofs.FindFollowing.{resume_hops}
 use Rattle.jump_code.proofs.Leaving.{foreign_leaves}
-use Rattle.image_code.specs.Simulates.{at_point, does_at, gone_at, graph_in, number_in}
+use Rattle.image_code.specs.Simulates.{at_point, does_at, gone_at, graph_in}
 use Rattle.image_code.specs.Cost.{NoneIsOut}
 use Rattle.image_code.specs.Store.{operations_on}
 use Rattle.image_code.proofs.Points.{Site, StepsFrom, Visit}
-use Rattle.image_code.proofs.PointShapes.{LeadsTo, next_entry, words_on, IsJumpsSlot, Lands}
-use Rattle.image_code.proofs.Routes.{FollowsRoute, IsInNoPlace, IsFit, PieceFrom, arrive, arrived, bare_here, eased, length_words, on_then, rest_behind, rest_marked, page_there, rest_whole, snippets_run, unwatched, CodeAt, stood, stood_low, weaker_route, words_unmarked}
+use Rattle.image_code.proofs.PointShapes.{LeadsTo, next_entry, IsJumpsSlot, Lands}
+use Rattle.image_code.proofs.Routes.{FollowsRoute, IsInNoPlace, IsFit, PieceFrom, arrive, arrived, bare_here, eased, from_shape, length_words, on_then, rest_behind, page_there, snippets_run, unwatched, CodeAt, stood, stood_low, weaker_route, words_on}
 use Rattle.image_code.proofs.Cases.{judged_moved, marked_step}
 use Rattle.image_code.proofs.Cells.{cells_above, page_above}
 use Rattle.image_code.proofs.Dead.{alike_itself}
@@ -25,7 +25,7 @@ abbrev going_on : List Item
 going_on = word_items (resume 1)
 
 module _ (site : Site) where
-  open site use {g, l, p, place, f, placed}
+  open site use {g, l, shapes, p, place, f, placed}
 
   -- Words that keep a register in one of the page's words above word 1, and jump: of such a way no more is asked.
   hops_out : (k n count to : ℕ) (ws : List ℕ) (a : State) → IsFit site a
@@ -82,10 +82,10 @@ module _ (site : Site) where
 
   -- ---- the foreign piece
 
-  pub leaves : (k : ℕ) → slice_get l.list k ≡ Some foreign_piece → (a : State) → IsFit site a
+  pub leaves : (k : ℕ) → slice_get shapes k ≡ Some (bare [] exits.Foreign) → (a : State) → IsFit site a
       → a.pc ≡ place k 0 → (target : ℕ) → waiting a ≡ target → target % 4 ≡ 0 → FollowsRoute site None [] a target 4
   leaves k is a fit at target target_in_page aligned =
-      let r = rest_whole l k foreign_piece (tt, (tt, (tt, (tt, tt)))) is in
+      let r = from_shape site k (bare [] exits.Foreign) is in
       let there = stood site a.memory fit.has.code k 0 (words_of foreign) [] r in
       let low = stood_low site k 0 (words_of foreign) [] r in
       let about : IsAboutToLeave a = record {
@@ -113,7 +113,7 @@ module _ (visit : Visit) (c : IsJumpsSlot visit.site visit.node visit.x visit.t)
   target_waits =
       let own = placed.frame.page 1 (omega arith) in
       (words_stay (pages_of g.notes) (page_word 1) true t (decode_of c.word)
-      (placed.frame.own.within (page_word 1) own) apart (here.memory.ours.words (page_word 1) own)).1
+      (placed.frame.stored.within (page_word 1) own) apart (here.memory.ours.words (page_word 1) own)).1
       ∙ (here.target_in_page c.slot c.out c.caseless).0
 
   -- so does what was found
@@ -121,16 +121,14 @@ module _ (visit : Visit) (c : IsJumpsSlot visit.site visit.node visit.x visit.t)
   found_waits =
       let own = placed.frame.page 7 (omega arith) in
       (words_stay (pages_of g.notes) (page_word 7) true t (decode_of c.word)
-      (placed.frame.own.within (page_word 7) own) apart (here.memory.ours.words (page_word 7) own)).1
+      (placed.frame.stored.within (page_word 7) own) apart (here.memory.ours.words (page_word 7) own)).1
       ∙ (here.target_in_page c.slot c.out c.caseless).2 (there (word_at g.text x.pc) c.is_word)
     where
       there : (o : Option ℕ) → option_map (λ word. slice_index g.text.words word) o ≡ Some c.word → o ≢ None
       there o e none = cc (rw none at e)
 
   rest : PieceFrom l c.piece 3 (words_on l (c.edge ∷ []) ++ going_on)
-  rest = rest_marked l c.piece c.address (number_in g node) (it.Word c.word)
-      (words_on l (c.edge ∷ []) ++ going_on)
-      (words_unmarked (flat_map l.codes (c.edge ∷ [])) going_on (tt, (tt, (tt, tt)))) c.items
+  rest = from_shape site c.piece _ c.shape
 
   -- through the snippet and the jump to what was found, and on from there
   onward : (to : ℕ) → IsFit site (act t (decode_of c.word))
@@ -155,10 +153,10 @@ module _ (visit : Visit) (c : IsJumpsSlot visit.site visit.node visit.x visit.t)
       rw (length_words (flat_map l.codes (c.edge ∷ []))) at
       (rest_behind l c.piece 3 (words_on l (c.edge ∷ [])) going_on rest) in
       let there = found_in f.halves x.npc in
-      let two = goes_found site c.piece n r2 b fit2 refl there (way.found (λ e. cc) ∙ found_waits)
+      let two = goes_found site c.piece n r2 b fit2 (refl {a = mid}) there (way.found (λ e. cc) ∙ found_waits)
       aligned in
       let fit3 = arrived site [] b there 3 fit2 low_there two in
-      let three = behind (hopped two.other there two.memory) fit3 refl (two.target_in_page ∙ way.target_in_page ∙ target_waits) in
+      let three = behind (hopped two.other there two.memory) fit3 (refl {a = there}) (two.target_in_page ∙ way.target_in_page ∙ target_waits) in
       let both = on_then site c.landing [] c.landing refl b there to 3 4 two three in
       weaker_route site (c.edge ∷ c.landing) a to (0 + (3 + 4)) 8 (omega arith)
       (on_then site (c.edge ∷ c.landing) (c.edge ∷ []) c.landing refl a mid to 0 (3 + 4) one both)
@@ -173,7 +171,7 @@ module _ (visit : Visit) (c : IsJumpsSlot visit.site visit.node visit.x visit.t)
       onward to fit at multiple (omega (arith, found, place_there.1)) (λ b fit2 there target_in_page. by b fit2 (there ∙ found) leads)
     where
       by : (b : State) → IsFit site b → b.pc ≡ slice_index p.at piece.0
-          → LeadsTo l p piece c.landing (word_at g.text x.npc) to
+          → LeadsTo site piece c.landing (word_at g.text x.npc) to
           ⊎ ((operations_on g.snips c.landing ≡ 0) × (slice_index p.at piece.0 ≡ to))
           → FollowsRoute site None c.landing b to 4
       by b fit2 there (inl leads) =
@@ -209,7 +207,7 @@ module _ (visit : Visit) (c : IsJumpsSlot visit.site visit.node visit.x visit.t)
   pub jump_slots_step : AllApart (pages_of g.notes) (judged_by (at_point x t) (decode_of c.word)) → StepsFrom site node x t
   jump_slots_step apart =
       let moved = judged_moved g.notes x t (decode_of c.word) apart in
-      marked_step visit _ c.marked None apart (λ live fit at. (
+      marked_step visit _ _ c.mark None apart (λ live fit at. (
         subst (λ z. FollowsRoute site None z (act t (decode_of c.word)) (next_entry site node x t) 8)
             (sym (c.completes live))
             (lands visit c moved (next_entry site node x t) fit at (c.lands live) (out visit c moved live)),

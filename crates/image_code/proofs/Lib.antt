@@ -5,7 +5,7 @@ pub mod ImageNumbers
 pub mod CaseTables
 pub mod ImagePieces
 pub mod Following
-pub mod KeptLoads
+pub mod SavedLoads
 pub mod ChoiceImages
 pub mod Memories
 pub mod Branches

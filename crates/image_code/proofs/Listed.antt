@@ -1,9 +1,10 @@
 -- Which piece has which number.
-use Rattle.image_code.proofs.Common.{◌≡◌, ℕ, suc, ◌+◌, ◌-◌, ◌<◌, ◌≤◌, false, Some, List, [], ◌∷◌, ◌++◌, length, map, take, length-append, length-take, refl, ap, ◌∙◌, arith, inl, inr, ◌==◌, if◌then◌else◌, nat_lt, slice_get, slice_index, flat_map, sum_by, cases_lt, eqb-true, eq-eqb, le-ltb, lt-ltb, ne_eqb, nat_tests, length-map, length-map-range_with_len, slice_get-map, slice_get-get_or, Words, Blocks, below, last_word, size_of, get_or-below, length-below, Edge, Node, Open, Graph, edges_in, graph_of, same_kind, block, copy, foreign_piece, Item, take-length, block_end}
+use Rattle.image_code.proofs.Common.{◌≡◌, ℕ, suc, ◌+◌, ◌-◌, ◌<◌, ◌≤◌, false, Some, List, [], ◌∷◌, ◌++◌, length, map, take, length-append, length-take, refl, ap, ◌∙◌, arith, inl, inr, ◌==◌, if◌then◌else◌, nat_lt, slice_get, slice_index, flat_map, sum_by, cases_lt, eqb-true, eq-eqb, le-ltb, lt-ltb, ne_eqb, nat_tests, length-map, length-map-range_with_len, slice_get-map, slice_get-get_or, Words, Blocks, below, last_word, size_of, get_or-below, length-below, Edge, Node, Open, Graph, edges_in, graph_of, same_kind, block, copy, take-length, block_end, Shape, bare}
 use Rattle.cfg_blocks.specs.declared.EdgeKind.TheVariants as kinds
 use Rattle.cfg_blocks.specs.Values.{instr_at}
 use Rattle.image_code.specs.Loads.{load_of}
-use Rattle.image_code.specs.Made.{all_cases, all_ways, case_at, image, images_of, jumps_at, save_by, landing, open_pieces, piece_list, way_along}
+use Rattle.image_code.specs.Made.{all_cases, all_ways, case_at, image, images_of, jumps_at, save_by, landing, open_pieces, shape_list, way_along}
+use Rattle.image_code.specs.declared.shape.Exit.TheVariants as exits
 use Rattle.image_code.specs.Numbered.{case_begin, compare_image, entries_of, first_entry, foreign_number, jump_begin, jump_enter, jump_image, landing_count, landing_number, node_in_order, open_begin, edges_but_landings, pieces_of, place_in}
 use Rattle.image_code.proofs.OpenBlocks.{own_before}
 use Rattle.image_code.proofs.Opened.{AreCased, load_is}
@@ -26,34 +27,36 @@ place_is text graph targets k word e =
     let found = placed (λ (t : ℕ). t == word) targets (any_at _ _ k word e (eq-eqb word word refl)) in
     rw (found.at, found.is, eqb-true found.item word found.passes)
 
-module _ (text : Words) (b : Blocks) (opens : List Open) (cased : AreCased text b opens) (table cases : ℕ)
-    (codes : ℕ → List ℕ) where
+module _ (text : Words) (b : Blocks) (opens : List Open) (cased : AreCased text b opens) (table cases : ℕ) where
   abbrev graph : Graph
   graph = graph_of b opens
 
-  abbrev all : List (List Item)
-  all = piece_list text graph table cases codes
+  abbrev all : List Shape
+  all = shape_list text graph table cases
 
-  abbrev image_of : Node → ℕ → List Item
-  image_of = image text graph (jumps_at text table) cases codes
+  abbrev image_of : Node → ℕ → Shape
+  image_of = image text graph (jumps_at text table) cases
 
-  abbrev images : List (List Item)
+  abbrev images : List Shape
   images = map (λ word. image_of (node_in_order graph word) word) (below (length text.words))
 
-  abbrev ways : List (List Item)
-  ways = all_ways text graph table codes
+  abbrev ways : List Shape
+  ways = all_ways text graph table
 
-  abbrev landings : List (List Item)
-  landings = map (landing text graph codes) (below (length text.words))
+  abbrev landings : List Shape
+  landings = map (landing text graph) (below (length text.words))
 
-  abbrev its_pieces : Open → List (List Item)
-  its_pieces = open_pieces text graph table cases codes
+  abbrev its_pieces : Open → List Shape
+  its_pieces = open_pieces text graph table cases
 
-  abbrev its_cases : Open → List (List Item)
-  its_cases = all_cases text graph table codes
+  abbrev its_cases : Open → List Shape
+  its_cases = all_cases text graph table
 
-  abbrev before_foreign : List (List Item)
+  abbrev before_foreign : List Shape
   before_foreign = images ++ ways ++ landings ++ flat_map its_pieces opens ++ flat_map its_cases opens
+
+  abbrev foreign : Shape
+  foreign = bare [] exits.Foreign
 
   -- ---- an open switch
 
@@ -68,24 +71,24 @@ module _ (text : Words) (b : Blocks) (opens : List Open) (cased : AreCased text 
       let l = load_is text b o c in
       omega (arith, l.above, l.below, c.first, c.last)
 
-  abbrev compared : Open → List (List Item)
-  compared o = images_of text graph table cases codes (copy o.switch.compare.0)
+  abbrev compared : Open → List Shape
+  compared o = images_of text graph table cases (copy o.switch.compare.0)
       (slice_index b.firsts o.switch.compare.0) (size_of b o.switch.compare.0)
 
-  abbrev before_load : Open → List (List Item)
-  before_load o = images_of text graph table cases codes (block o.block) (slice_index b.firsts o.block)
+  abbrev before_load : Open → List Shape
+  before_load o = images_of text graph table cases (block o.block) (slice_index b.firsts o.block)
       (load_of text o - slice_index b.firsts o.block)
 
-  abbrev from_load : Open → List (List Item)
-  from_load o = images_of text graph table cases codes (block o.block) (load_of text o)
+  abbrev from_load : Open → List Shape
+  from_load o = images_of text graph table cases (block o.block) (load_of text o)
       (slice_index b.firsts o.block + size_of b o.block - load_of text o)
 
-  abbrev kept : Open → List Item
-  kept o = save_by (instr_at text (load_of text o))
+  abbrev saved : Open → Shape
+  saved o = save_by (instr_at text (load_of text o))
 
   -- the image of a word among those of so many
   image_in : (node : Node) (from count word : ℕ) → from ≤ word → word < from + count
-      → slice_get (images_of text graph table cases codes node from count) (word - from) ≡ Some (image_of node word)
+      → slice_get (images_of text graph table cases node from count) (word - from) ≡ Some (image_of node word)
   image_in node from count word above below =
       let here : from + (word - from) ≡ word = omega arith in
       rw here at (range_get (image_of node) from count (word - from) (omega arith))
@@ -104,11 +107,11 @@ module _ (text : Words) (b : Blocks) (opens : List Open) (cased : AreCased text 
       let l = load_in k o e in
       let count : length (from_load o) ≡ slice_index b.firsts o.block + size_of b o.block - load_of text o =
       length-map-range_with_len _ _ _ in
-      length-append (compared o ++ before_load o) (kept o ∷ from_load o) ∙ omega (arith, count, before_count o, l.above, l.below)
+      length-append (compared o ++ before_load o) (saved o ∷ from_load o) ∙ omega (arith, count, before_count o, l.above, l.below)
 
   pub cases_sized : Sized its_cases (entries_of text graph) opens
   cases_sized k o e =
-      numbered_count (case_at text graph table codes o) o.targets
+      numbered_count (case_at text graph table o) o.targets
 
   -- ---- how many come before
 
@@ -119,14 +122,14 @@ module _ (text : Words) (b : Blocks) (opens : List Open) (cased : AreCased text 
   ways_end =
       length-append images ways ∙ rw (
         images_end,
-        numbered_count (way_along text graph table codes) (edges_but_landings graph),
+        numbered_count (way_along text graph table) (edges_but_landings graph),
       )
 
   pub landings_end : length (images ++ ways ++ landings)
       ≡ length text.words + length (edges_but_landings graph) + length text.words
   landings_end =
       length-append (images ++ ways) landings
-      ∙ rw (ways_end, length-map (below (length text.words)) (landing text graph codes), length-below)
+      ∙ rw (ways_end, length-map (below (length text.words)) (landing text graph), length-below)
 
   pub opens_end : length (images ++ ways ++ landings ++ flat_map its_pieces opens) ≡ case_begin text graph
   opens_end =
@@ -139,45 +142,45 @@ module _ (text : Words) (b : Blocks) (opens : List Open) (cased : AreCased text 
       ∙ rw (opens_end, flat_count its_cases (entries_of text graph) opens cases_sized, take-length opens)
 
   pub count_is : length all ≡ foreign_number text graph + 1
-  unfolding piece_list
-  count_is = length-append before_foreign (foreign_piece ∷ []) ∙ ap (λ n. n + 1) cases_end
+  unfolding shape_list
+  count_is = length-append before_foreign (foreign ∷ []) ∙ ap (λ n. n + 1) cases_end
 
   -- ---- each piece
 
   pub order_at : (word : ℕ) → word < length text.words
       → slice_get all word ≡ Some (image_of (node_in_order graph word) word)
-  unfolding piece_list
+  unfolding shape_list
   order_at word l =
       get_first _ _ word _ (get_first _ _ word _ (get_first _ _ word _ (get_first _ _ word _ (get_first images _ word _
       (rw (slice_get-map, get_below (length text.words) word l))))))
 
   pub way_at : (number : ℕ) (edge : Edge) → slice_get (edges_but_landings graph) number ≡ Some edge
-      → slice_get all (length text.words + number) ≡ Some (way_along text graph table codes number edge)
-  unfolding piece_list
+      → slice_get all (length text.words + number) ≡ Some (way_along text graph table number edge)
+  unfolding shape_list
   way_at number edge e =
       let n = length text.words + number in
       get_first _ _ n _ (get_first _ _ n _ (get_first _ _ n _ (get_first _ _ n _
       (get_behind images ways (length text.words) number _ images_end
-      (numbered_get (way_along text graph table codes) (edges_but_landings graph) number edge e)))))
+      (numbered_get (way_along text graph table) (edges_but_landings graph) number edge e)))))
 
   pub landing_at : (word : ℕ) → word < length text.words
-      → slice_get all (landing_number text graph word) ≡ Some (landing text graph codes word)
-  unfolding piece_list
+      → slice_get all (landing_number text graph word) ≡ Some (landing text graph word)
+  unfolding shape_list
   landing_at word l =
       let n = landing_number text graph word in
       get_first _ _ n _ (get_first _ _ n _ (get_first _ _ n _ (get_behind (images ++ ways) landings _ word _ ways_end
       (rw (slice_get-map, get_below (length text.words) word l)))))
 
   -- one of an open switch's own
-  pub own_piece_at : (k : ℕ) (o : Open) → slice_get opens k ≡ Some o → (n : ℕ) (xs : List Item)
-      → slice_get (its_pieces o) n ≡ Some xs → slice_get all (open_begin text graph k + n) ≡ Some xs
-  unfolding piece_list
-  own_piece_at k o e n xs at =
+  pub own_piece_at : (k : ℕ) (o : Open) → slice_get opens k ≡ Some o → (n : ℕ) (shape : Shape)
+      → slice_get (its_pieces o) n ≡ Some shape → slice_get all (open_begin text graph k + n) ≡ Some shape
+  unfolding shape_list
+  own_piece_at k o e n shape at =
       let m = sum_by (pieces_of text graph) (take k opens) + n in
       let at_m = length text.words + length (edges_but_landings graph) + length text.words + m in
       let there : open_begin text graph k + n ≡ at_m = omega arith in
       ap (slice_get all) there ∙ get_first _ _ at_m _ (get_first _ _ at_m _ (get_behind (images ++ ways ++ landings) _ _ m _
-      landings_end (flat_get its_pieces (pieces_of text graph) opens pieces_sized k o e n xs at)))
+      landings_end (flat_get its_pieces (pieces_of text graph) opens pieces_sized k o e n shape at)))
 
   -- the comparison's landed copy
   pub compare_at : (k : ℕ) (o : Open) → slice_get opens k ≡ Some o → (word : ℕ)
@@ -217,23 +220,23 @@ module _ (text : Words) (b : Blocks) (opens : List Open) (cased : AreCased text 
           let there : jump_image text graph k o word
           ≡ open_begin text graph k + (size + (load - first) + suc (word - load)) = omega (arith, late_is word m, above, low) in
           ap (slice_get all) there ∙ own_piece_at k o e (size + (load - first) + suc (word - load)) _
-          (get_behind (compared o ++ before_load o) (kept o ∷ from_load o) _ (suc (word - load)) _ (before_count o)
+          (get_behind (compared o ++ before_load o) (saved o ∷ from_load o) _ (suc (word - load)) _ (before_count o)
           (image_in (block o.block) load (first + size_of b o.block - load) word m (omega (arith, m, below, low))))
     ]
 
-    -- before the load its address is kept
+    -- before the load its address is saved
     pub enter_load : suc (jump_enter text graph k o load) ≡ jump_image text graph k o load
     enter_load =
         let at : jump_enter text graph k o load ≡ jump_image text graph k o load - 1 = rw (eq-eqb load load refl) in
         omega (arith, at, late_is load (omega arith))
 
-    pub keep_at : slice_get all (jump_enter text graph k o load) ≡ Some (kept o)
-    keep_at =
+    pub save_at : slice_get all (jump_enter text graph k o load) ≡ Some (saved o)
+    save_at =
         let at = enter_load in
         let there : jump_enter text graph k o load ≡ open_begin text graph k + (size + (load - first) + 0) =
         omega (arith, at, late_is load (omega arith)) in
         ap (slice_get all) there ∙ own_piece_at k o e (size + (load - first) + 0) _
-        (get_behind (compared o ++ before_load o) (kept o ∷ from_load o) _ 0 _ (before_count o) refl)
+        (get_behind (compared o ++ before_load o) (saved o ∷ from_load o) _ 0 _ (before_count o) refl)
 
     pub enter_other : (word : ℕ) → (word ≡ load → ⊥) → jump_enter text graph k o word ≡ jump_image text graph k o word
     enter_other word not = rw (ne_eqb word load not)
@@ -246,8 +249,8 @@ module _ (text : Words) (b : Blocks) (opens : List Open) (cased : AreCased text 
     -- the entries of its table
     pub case_entry_at : (entry word : ℕ) → slice_get o.targets entry ≡ Some word
         → slice_get all (case_begin text graph + first_entry text graph k + entry)
-        ≡ Some (case_at text graph table codes o entry word)
-    unfolding piece_list
+        ≡ Some (case_at text graph table o entry word)
+    unfolding shape_list
     case_entry_at entry word at =
         let there : case_begin text graph + first_entry text graph k + entry
         ≡ case_begin text graph + (first_entry text graph k + entry) = omega arith in
@@ -255,13 +258,13 @@ module _ (text : Words) (b : Blocks) (opens : List Open) (cased : AreCased text 
         (get_behind (images ++ ways ++ landings ++ flat_map its_pieces opens) (flat_map its_cases opens) _
         (first_entry text graph k + entry) _ opens_end
         (flat_get its_cases (entries_of text graph) opens cases_sized k o e entry _
-        (numbered_get (case_at text graph table codes o) o.targets entry word at)))
+        (numbered_get (case_at text graph table o) o.targets entry word at)))
 
-  pub foreign_at : slice_get all (foreign_number text graph) ≡ Some foreign_piece
-  unfolding piece_list
+  pub foreign_at : slice_get all (foreign_number text graph) ≡ Some foreign
+  unfolding shape_list
   foreign_at =
       let there : foreign_number text graph ≡ foreign_number text graph + 0 = omega arith in
-      ap (slice_get all) there ∙ get_behind before_foreign (foreign_piece ∷ []) _ 0 _ cases_end refl
+      ap (slice_get all) there ∙ get_behind before_foreign (foreign ∷ []) _ 0 _ cases_end refl
 
 -- an edge that is no landing is among those that have ways
 pub own_at : (b : Blocks) (opens : List Open) (number : ℕ) (edge : Edge) → slice_get (edges_in b opens) number

@@ -13,7 +13,7 @@ use Rattle.image_code.proofs.Heads.{foreign_is, off_is, visits}
 use Rattle.image_code.proofs.Imaged.{simulate}
 use Rattle.image_code.proofs.ImageNumbers.{jump_numbered}
 use Rattle.image_code.proofs.JumpImages.{call_is, jump_is}
-use Rattle.image_code.proofs.KeptLoads.{entered_so}
+use Rattle.image_code.proofs.SavedLoads.{entered_so}
 use Rattle.image_code.proofs.Opened.{cased}
 use Rattle.image_code.proofs.PlainWords.{plain_is}
 use Rattle.image_code.proofs.SlotCopies.{copy_case}

@@ -1,53 +1,32 @@
--- Words in one Mark at the beginning of a piece: where they stand, and a machine that visits them.
-use Rattle.image_code.proofs.Common.{◌≡◌, ℕ, zero, suc, ◌+◌, ◌-◌, ◌*◌, ◌^◌, ◌<◌, ◌≤◌, Option, Some, None, List, [], ◌∷◌, ◌++◌, length, map, add-zero, refl, ap, sym, ◌∙◌, subst, arith, ◌/◌, slice_get, length-map, Addr, NoteRange, Instr, wrapped, code_of, State, Node, Point, word_of, words_of, Item, item_at, item_in, open_in, range_in, range_of, CanRun, link, IsPageWord, HasWords, IsBetween, IsWordAt, open_from}
+-- What stands in a Mark at the beginning of a piece, and a machine that visits it.
+use Rattle.image_code.proofs.Common.{◌≡◌, ℕ, zero, suc, ◌+◌, ◌*◌, ◌^◌, ◌<◌, ◌≤◌, inl, inr, Option, Some, None, List, [], ◌∷◌, ◌++◌, length, map, add-zero, refl, ap, sym, ◌∙◌, subst, arith, cases_lt, slice_get, slice_get-get_or, get_or, length-append, length-map, Addr, NoteRange, Instr, wrapped, code_of, State, Node, Point, word_of, words_of, Item, item_at, item_in, open_in, range_in, range_of, IsPageWord, HasWords, IsBetween, open_from, Exit, Head, exit_items, head_items}
 use Rattle.layout.specs.declared.items.Item.TheVariants as it
-use Rattle.layout.specs.Laid.{OpenMark as Open, size_of, end_from}
-use Rattle.layout.proofs.Going.{word_is}
+use Rattle.layout.specs.Laid.{OpenMark as Open, IsPlaceIn, size_of, end_from}
 use Rattle.image_code.specs.Simulates.{IsOnWay, IsThere, number_in}
+use Rattle.image_code.specs.Store.{cells_in}
 use Rattle.image_code.proofs.Points.{Site, Visit}
 use Rattle.image_code.proofs.PointShapes.{IsMarked, visits_it}
-use Rattle.image_code.proofs.Between.{at_range, can_run, on_range, there_in}
+use Rattle.image_code.proofs.Between.{at_range, on_range, there_in}
 use Rattle.image_code.proofs.Cells.{cells_above, page_above}
+use Rattle.image_code.proofs.Positions.{get_first, get_second}
+use Rattle.image_code.proofs.Routes.{AreUnmarked, head_unmarked, items_at, length_words, shape_within, words_laid, words_on}
 
 -- ---- the items
 
-word_item : (ws : List ℕ) (rest : List Item) (j : ℕ) → j < length ws
-    → (word : ℕ) × (slice_get (map it.Word ws ++ rest) j ≡ Some (it.Word word))
-word_item [] rest j low = absurd (omega (arith, low))
-word_item (w ∷ ws) rest zero low = (_, refl)
-word_item (w ∷ ws) rest (suc j) low = word_item ws rest j (omega (arith, low))
+ends_at : (items rest : List Item) (n : ℕ) → AreUnmarked items
+    → end_from (items ++ it.EndMark ∷ rest) n ≡ n + length items
+ends_at [] rest n are = omega arith
+ends_at (it.EndMark ∷ items) rest n are = absurd are.0
+ends_at (x ∷ items) rest n are =
+    ends_at items rest (suc n) are.1 ∙ (let e : suc n + length items ≡ n + suc (length items) = omega arith in e)
 
-end_behind : (ws : List ℕ) (x : Item) (rest : List Item) → slice_get (map it.Word ws ++ x ∷ rest) (length ws) ≡ Some x
-end_behind [] x rest = refl
-end_behind (w ∷ ws) x rest = end_behind ws x rest
-
-pub jump_behind : (ws : List ℕ) (x z : Item) (rest : List Item)
-    → slice_get (map it.Word ws ++ x ∷ z ∷ rest) (suc (length ws)) ≡ Some z
-jump_behind [] x z rest = refl
-jump_behind (w ∷ ws) x z rest = jump_behind ws x z rest
-
-items_more : (ws : List ℕ) (rest : List Item) → length (map it.Word ws ++ rest) ≡ length ws + length rest
-items_more [] rest = omega arith
-items_more (w ∷ ws) rest = let more = items_more ws rest in omega arith
-
-ends_at : (ws : List ℕ) (rest : List Item) (n : ℕ) → end_from (map it.Word ws ++ it.EndMark ∷ rest) n ≡ n + length ws
-ends_at [] rest n = omega arith
-ends_at (w ∷ ws) rest n = ends_at ws rest (suc n) ∙ (let e : suc n + length ws ≡ n + suc (length ws) = omega arith in e)
-
-open_at : (ws : List ℕ) (rest : List Item) (n j : ℕ) (o : Option Open) → j < length ws
-    → open_from (map it.Word ws ++ rest) n j o ≡ o
-open_at [] rest n j o low = absurd (omega (arith, low))
-open_at (w ∷ ws) rest n zero o low = refl
-open_at (w ∷ ws) rest n (suc j) o low = open_at ws rest (suc n) j o (omega (arith, low))
-
-pub shut_behind : (ws : List ℕ) (x : Item) (n : ℕ) (o : Option Open)
-    → open_from (map it.Word ws ++ it.EndMark ∷ x ∷ []) n (suc (length ws)) o ≡ None
-shut_behind [] x n o = refl
-shut_behind (w ∷ ws) x n o = shut_behind ws x (suc n) o
-
-pub link_few : (rd address : ℕ) → length (link rd address) ≤ 2
-link_few zero address = omega arith
-link_few (suc rd) address = omega arith
+open_at : (items rest : List Item) (n j : ℕ) (o : Option Open) → AreUnmarked items → j < length items
+    → open_from (items ++ rest) n j o ≡ o
+open_at [] rest n j o are low = absurd (omega (arith, low))
+open_at (x ∷ items) rest n zero o are low = refl
+open_at (it.Mark a b ∷ items) rest n (suc j) o are low = absurd are.0
+open_at (it.EndMark ∷ items) rest n (suc j) o are low = absurd are.0
+open_at (x ∷ items) rest n (suc j) o are low = open_at items rest (suc n) j o are.1 (omega (arith, low))
 
 -- ---- a visit
 
@@ -58,105 +37,142 @@ pub record AtWords (site : Site) (node : Node) (x : Point) (t : State) (k count 
   pub low : t.pc + 4 * count ≤ 2 ^ 31
   pub behind : site.place k (suc (suc count)) ≡ t.pc + 4 * count
   pub next : 0 < count → t.npc ≡ t.pc + 4
-  pub ready : 0 < count → CanRun site.base site.p.code t
   pub words : HasWords (code_of t.memory) t.pc ws
   pub on : (u : State) → IsBetween t count IsPageWord u → u.ending ≡ None → IsOnWay site.g t u
   pub there : (u : State) → t.pc ≤ u.pc → u.pc < t.pc + 4 * count → IsThere site.g t u
-  pub visits : 0 < count → visits_it site.g node x t
 
-module _ (visit : Visit)
-    (behind : Addr → ℕ → List Item) (c : IsMarked visit.site visit.node visit.x behind) (rest : List Item) where
+module _ (visit : Visit) (head : Addr → ℕ → Head) (edges : List ℕ) (exit : Exit)
+    (c : IsMarked visit.site visit.node visit.x head edges exit) where
   open visit use {site, node, x, t, here, site.{g, l, base, p, place, placed}}
 
-  module _ (ws : List ℕ) (same : behind c.address c.word ≡ map it.Word ws ++ it.EndMark ∷ rest) where
-    is : slice_get l.list c.piece
-        ≡ Some (it.Mark c.address (number_in g node) ∷ (map it.Word ws ++ it.EndMark ∷ rest))
-    is = c.items ∙ ap (λ items. Some (it.Mark c.address (number_in g node) ∷ items)) same
+  -- ---- whatever stands in the Mark
 
-    item_is : (n : ℕ) → item_at l.list c.piece n
-        ≡ slice_get (it.Mark c.address (number_in g node) ∷ (map it.Word ws ++ it.EndMark ∷ rest)) n
-    item_is n = ap (λ (v : Option (List Item)). item_in v n) is
+  abbrev pub inside : List Item
+  inside = head_items c.address (head c.address c.word)
 
-    size : size_of l.list c.piece ≡ 2 + length ws + length rest
-    size = rw is (omega (arith, items_more ws (it.EndMark ∷ rest)))
+  abbrev rest : List Item
+  rest = words_on l edges ++ exit_items exit
 
-    word : (j : ℕ) → j < length ws → (w : ℕ) × (item_at l.list c.piece (suc j) ≡ Some (it.Word w))
-    word j low = let w = word_item ws (it.EndMark ∷ rest) j low in (w.0, item_is (suc j) ∙ w.1)
+  -- the number of the Mark's end
+  abbrev pub last : ℕ
+  last = suc (length inside)
 
-    stands : (j : ℕ) → j ≤ length ws → place c.piece (suc j) ≡ place c.piece 1 + 4 * j
-    stands zero low = omega arith
-    stands (suc j) low =
-        let w = word j (omega (arith, low)) in
-        let one : (place c.piece (suc (suc j)) ≡ place c.piece (suc j) + 4) × IsWordAt base p.code (place c.piece (suc j)) w.0 =
-        placed.laid.items c.piece (suc j) (it.Word w.0) w.1 in
-        let before = stands j (omega (arith, low)) in
-        omega arith
+  unmarked : AreUnmarked inside
+  unmarked = head_unmarked c.address (head c.address c.word)
 
-    open_word : (j : ℕ) → j < length ws → open_in (slice_get l.list c.piece) (suc j)
-        ≡ Some (record { first = 1; last = suc (length ws); address = c.address.0; node = number_in g node })
-    open_word j low =
-        ap (λ (v : Option (List Item)). open_in v (suc j)) is
-        ∙ open_at ws (it.EndMark ∷ rest) 1 j _ low
-        ∙ ap (λ n. Some (record { first = 1; last = n; address = c.address.0; node = number_in g node }))
-        (ends_at ws rest 1 ∙ (let e : 1 + length ws ≡ suc (length ws) = omega arith in e))
+  is : slice_get l.list c.piece ≡ Some (it.Mark c.address (number_in g node) ∷ (inside ++ it.EndMark ∷ rest))
+  is = items_at site c.piece _ c.shape
 
-    abbrev range : NoteRange
-    range = record { lo = place c.piece 1; hi = place c.piece (suc (length ws)); address = c.address.0; node = number_in g node }
+  within : c.piece < length l.list
+  within = shape_within site c.piece _ c.shape
 
-    in_range : (a : ℕ) → place c.piece 1 ≤ a → a < place c.piece 1 + 4 * length ws → range_in p.ranges a ≡ Some range
-    in_range a from below =
-        let low : (a - place c.piece 1) / 4 < length ws = omega arith in
-        let w = word ((a - place c.piece 1) / 4) low in
-        let begin = stands ((a - place c.piece 1) / 4) (omega (arith, low)) in
-        let end = stands (suc ((a - place c.piece 1) / 4)) (omega (arith, low)) in
-        placed.laid.ranges c.piece (suc ((a - place c.piece 1) / 4)) a (it.Word w.0) w.1 (omega arith) (omega arith)
-        ∙ ap (range_of (place c.piece)) (open_word ((a - place c.piece 1) / 4) low)
+  item_is : (n : ℕ) → item_at l.list c.piece n
+      ≡ slice_get (it.Mark c.address (number_in g node) ∷ (inside ++ it.EndMark ∷ rest)) n
+  item_is n = ap (λ (v : Option (List Item)). item_in v n) is
 
-    has_words : (n : ℕ) (vs : List ℕ) (ys : List Item)
-        → ((j : ℕ) → item_at l.list c.piece (n + j) ≡ slice_get (map it.Word vs ++ ys) j)
-        → HasWords (code_of t.memory) (place c.piece n) vs
-    has_words n [] ys items = tt
-    has_words n (v ∷ vs) ys items =
-        let at = placed.laid.items c.piece n (it.Word v) (rw add-zero at (items 0)) in (
-          word_is base (place c.piece n) v p.code t.memory here.memory.code at.1,
-          rw at.0 at (has_words (suc n) vs ys (λ j. let e : suc n + j ≡ n + suc j = omega arith in rw e (items (suc j)))),
-        )
+  size : size_of l.list c.piece ≡ 2 + length inside + length rest
+  size = rw is (omega (arith, length-append inside (it.EndMark ∷ rest)))
 
-    pub at_words : AtWords site node x t c.piece (length ws) ws
-    at_words =
-        let s = size in
-        let at : t.pc ≡ place c.piece 1 = here.at ∙ c.here ∙ placed.laid.starts c.piece c.within
-        ∙ sym (placed.laid.items c.piece 0 (it.Mark c.address (number_in g node)) (item_is 0)) in
-        let last = stands (length ws) (omega arith) in
-        let close : place c.piece (suc (suc (length ws))) ≡ place c.piece (suc (length ws)) =
-        placed.laid.items c.piece (suc (length ws)) it.EndMark (item_is (suc (length ws)) ∙ end_behind ws it.EndMark rest) in
-        let begins = (placed.laid.within c.piece 1 c.within (omega arith)).begins in
-        let ends = (placed.laid.within c.piece (suc (length ws)) c.within (omega arith)).ends in
-        let low = placed.laid.low in
-        let small : 0 < length ws → wrapped (t.pc + 4) ≡ t.pc + 4 = λ some. omega arith in
-        record {
-          at = at;
-          low = omega arith;
-          behind = omega arith;
-          next = λ some. here.npc ∙ small some;
-          ready = λ some. can_run site t here.valid here.live (here.npc ∙ small some) here.slot here.memory;
-          words = rw at (has_words 1 ws (it.EndMark ∷ rest) (λ j. let e : 1 + j ≡ suc j = omega arith in rw e (item_is (suc j))));
-          on = λ u z live.
-              let past = z.past in
-              let before = z.before in
-              on_range site t u range live (omega arith) past (omega arith) (in_range t.pc (omega arith) (omega arith))
-              (in_range u.pc (omega arith) (omega arith)) (sym at)
-              (cells_above site IsPageWord page_above t.memory u.memory here.memory.ours z.stores);
-          there = λ u from below.
-              there_in site t u range (omega arith) (omega arith) (omega arith) (omega arith)
-              (in_range t.pc (omega arith) (omega arith)) (in_range u.pc (omega arith) (omega arith));
-          visits = λ some.
-              at_range site node x t range here.live (omega arith) (omega arith)
-              (in_range t.pc (omega arith) (omega arith)) (sym at) refl c.original;
-        }
+  pub at_first : t.pc ≡ place c.piece 1
+  at_first = here.at ∙ c.here ∙ placed.laid.starts c.piece within
+      ∙ sym (placed.laid.items c.piece 0 (it.Mark c.address (number_in g node)) (item_is 0))
+
+  pub closes : place c.piece (suc last) ≡ place c.piece last
+  closes =
+      placed.laid.items c.piece last it.EndMark
+      (item_is last ∙ rw add-zero at (get_second inside (it.EndMark ∷ rest) 0))
+
+  pub lies : (n : ℕ) → n ≤ suc last → IsPlaceIn base p (place c.piece n)
+  lies n few = placed.laid.within c.piece n within (omega (arith, size, few))
+
+  -- ---- its range
+
+  abbrev range : NoteRange
+  range = record { lo = place c.piece 1; hi = place c.piece last; address = c.address.0; node = number_in g node }
+
+  open_item : (j : ℕ) → j < length inside → open_in (slice_get l.list c.piece) (suc j)
+      ≡ Some (record { first = 1; last = last; address = c.address.0; node = number_in g node })
+  open_item j low =
+      ap (λ (v : Option (List Item)). open_in v (suc j)) is
+      ∙ open_at inside (it.EndMark ∷ rest) 1 j _ unmarked low
+      ∙ ap (λ n. Some (record { first = 1; last = n; address = c.address.0; node = number_in g node }))
+      (ends_at inside rest 1 unmarked ∙ (let e : 1 + length inside ≡ last = omega arith in e))
+
+  in_range : (n : ℕ) → n ≤ length inside → (a : ℕ) → place c.piece 1 ≤ a → a < place c.piece (suc n)
+      → range_in p.ranges a ≡ Some range
+  in_range zero few a from below = absurd (omega (arith, from, below))
+  in_range (suc n) few a from below = elim (cases_lt a (place c.piece (suc n))) [
+    | inl l ↦ in_range n (omega (arith, few)) a from l
+    | inr m ↦
+        let low : n < length inside = omega (arith, few) in
+        placed.laid.ranges c.piece (suc n) a (get_or inside n it.EndMark)
+        (item_is (suc n) ∙ get_first inside _ n _ (slice_get-get_or inside n it.EndMark low)) m below
+        ∙ ap (range_of (place c.piece)) (open_item n low)
+  ]
+
+  -- at its first items
+  pub visits_first : (n : ℕ) → n ≤ length inside → t.pc < place c.piece (suc n) → visits_it g node x t
+  visits_first n few some =
+      let at = at_first in
+      let begins = (lies 1 (omega arith)).begins in
+      let ends = (lies (suc n) (omega (arith, few))).ends in
+      at_range site node x t range here.live (omega arith) (omega (arith, some))
+      (in_range n few t.pc (omega arith) some) (sym at) refl c.original
+
+  -- an address of its
+  record IsInMark (a : ℕ) : Type 0 where
+    above : base ≤ a
+    below : a < base + 4 * length p.code
+    range_is : range_in p.ranges a ≡ Some range
+
+  in_mark : (a : ℕ) → t.pc ≤ a → a < place c.piece last → IsInMark a
+  in_mark a from below = record {
+    above = omega (arith, at_first, from, (lies 1 (omega arith)).begins);
+    below = omega (arith, below, (lies last (omega arith)).ends);
+    range_is = in_range (length inside) (omega arith) a (omega (arith, at_first, from)) below;
+  }
+
+  pub on_mark : (u : State) → t.pc < u.pc → u.pc < place c.piece last → cells_in g.notes u ≡ cells_in g.notes t
+      → u.ending ≡ None → IsOnWay g t u
+  on_mark u past before same live =
+      let first = in_mark t.pc (omega arith) (omega (arith, past, before)) in
+      let there = in_mark u.pc (omega (arith, past)) before in
+      on_range site t u range live first.above past there.below first.range_is there.range_is (sym at_first) same
+
+  there_mark : (u : State) → t.pc ≤ u.pc → u.pc < place c.piece last → IsThere g t u
+  there_mark u from below =
+      let first = in_mark t.pc (omega arith) (omega (arith, from, below)) in
+      let there = in_mark u.pc from below in
+      there_in site t u range first.above first.below there.above there.below first.range_is there.range_is
+
+  -- ---- words
+
+  pub at_words : (ws : List ℕ) → head_items c.address (head c.address c.word) ≡ map it.Word ws
+      → AtWords site node x t c.piece (length ws) ws
+  at_words ws same =
+      let many : length inside ≡ length ws = ap length same ∙ length_words ws in
+      let laid = words_laid site t.memory here.memory.code c.piece 1 ws (it.EndMark ∷ rest) (λ j.
+      let e : 1 + j ≡ suc j = omega arith in
+      rw e (item_is (suc j)) ∙ ap (λ (items : List Item). slice_get (items ++ it.EndMark ∷ rest) j) same) in
+      let at : t.pc ≡ place c.piece 1 = at_first in
+      let next : 1 + length ws ≡ suc (length ws) = omega arith in
+      let end : place c.piece last ≡ t.pc + 4 * length ws =
+      ap (λ n. place c.piece (suc n)) many ∙ ap (place c.piece) (sym next) ∙ omega (arith, at, laid.1) in
+      let ends = (lies last (omega arith)).ends in
+      let low = placed.laid.low in
+      record {
+        at = at;
+        low = omega arith;
+        behind = ap (λ n. place c.piece (suc (suc n))) (sym many) ∙ closes ∙ end;
+        next = λ some. here.npc ∙ (let small : wrapped (t.pc + 4) ≡ t.pc + 4 = omega arith in small);
+        words = rw at laid.0;
+        on = λ u z. on_mark u z.past (omega (arith, z.before, end))
+            (cells_above site IsPageWord page_above t.memory u.memory here.memory.ours z.stores);
+        there = λ u from below. there_mark u from (omega (arith, below, end));
+      }
 
   -- words of instructions
-  pub at_instrs : (xs : List Instr) → behind c.address c.word ≡ map it.Word (words_of xs) ++ it.EndMark ∷ rest
+  pub at_instrs : (xs : List Instr) → head_items c.address (head c.address c.word) ≡ map it.Word (words_of xs)
       → AtWords site node x t c.piece (length xs) (words_of xs)
   at_instrs xs same =
       subst (λ count. AtWords site node x t c.piece count (words_of xs)) (length-map xs word_of)

@@ -61,7 +61,7 @@ module _ (site : Site) where
 
   -- so many steps that stored the editor's words alone
   pub images_stored : (t after : State) (count : ℕ) → run t count ≡ after
-      → Stores (IsAmongWords f.own) t.memory after.memory
+      → Stores (IsAmongWords f.stored) t.memory after.memory
       → HasImages g base p f t.memory → HasImages g base p f after.memory
   images_stored t after count steps stores has =
       let same : code_of after.memory ≡ code_of t.memory =
@@ -69,14 +69,14 @@ module _ (site : Site) where
       record {
         code = λ n word at. ap (λ code. fetch_from code (base + 4 * n)) same ∙ has.code n word at;
         only = λ a beside. ap (λ code. fetch_from code a) same ∙ has.only a beside;
-        ours = (ours_are_stored (pages_of g.notes) f.own t.memory after.memory has.ours stores).0;
-        table = table_stored g f.own f.halves placed.frame.table t.memory after.memory stores has.table;
-        cases = table_stored g f.own f.cases placed.frame.cases t.memory after.memory stores has.cases;
+        ours = (ours_are_stored (pages_of g.notes) f.stored t.memory after.memory has.ours stores).0;
+        table = table_stored g f.stored f.halves placed.frame.table t.memory after.memory stores has.table;
+        cases = table_stored g f.stored f.cases placed.frame.cases t.memory after.memory stores has.cases;
       }
 
-  pub same_stored : (m n : Memory) → HasImages g base p f m → Stores (IsAmongWords f.own) m n
+  pub same_stored : (m n : Memory) → HasImages g base p f m → Stores (IsAmongWords f.stored) m n
       → IsSameOutside (pages_of g.notes) m n
-  same_stored m n has stores = (ours_are_stored (pages_of g.notes) f.own m n has.ours stores).1
+  same_stored m n has stores = (ours_are_stored (pages_of g.notes) f.stored m n has.ours stores).1
 
   -- a step that judges no byte of the pages
   pub images_stay : (t : State) (x : Instr) → step_of t ≡ act t x → AllApart (pages_of g.notes) (judged_by t x)
@@ -87,7 +87,7 @@ module _ (site : Site) where
       record {
         code = λ n word at. ap (λ code. fetch_from code (base + 4 * n)) same ∙ has.code n word at;
         only = λ a beside. ap (λ code. fetch_from code a) same ∙ has.only a beside;
-        ours = ours_stay (pages_of g.notes) f.own t x placed.frame.own has.ours apart;
-        table = table_stays g f.own f.halves placed.frame.table t x apart has.table;
-        cases = table_stays g f.own f.cases placed.frame.cases t x apart has.cases;
+        ours = ours_stay (pages_of g.notes) f.stored t x placed.frame.stored has.ours apart;
+        table = table_stays g f.stored f.halves placed.frame.table t x apart has.table;
+        cases = table_stays g f.stored f.cases placed.frame.cases t x apart has.cases;
       }

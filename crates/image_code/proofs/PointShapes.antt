@@ -1,11 +1,14 @@
 -- The kinds of points, each with the piece that stands there, and where control goes on from it.
-use Rattle.image_code.proofs.Common.{◌≡◌, Some, ℕ, Option, ◌%◌, ◌^◌, ◌<◌, List, map, ◌⊎◌, [], ◌∷◌, ◌++◌, None, slice_get, slice_index, drop, ◌≢◌, ◌+◌, length, false, flat_map, option_map, word_at, PieceNo, Addr, decode_of, Node, State, is_transfer, Item, Point, point_of, node_after, Placement, long_jump_piece, node_at, visit_of, ◌-◌, true, Bool, if◌then◌else◌, ℤ, Taken, NoSlot, same_kind, instr_at, way_of, holds_of, Op2, op2_in_range, op2_fits, link, word_items, look_up, IsApart, ◌≤◌, Block, table_word, choice_at, switch_jump, found_in, foreign_piece, resume, X, NoteRange, range_at, save_load_address}
+use Rattle.image_code.proofs.Common.{◌≡◌, Some, ℕ, suc, Option, ◌%◌, ◌^◌, ◌<◌, List, ◌⊎◌, [], ◌∷◌, None, slice_get, slice_index, ◌≢◌, ◌+◌, length, false, word_at, PieceNo, Addr, decode_of, Node, State, is_transfer, Point, point_of, node_after, node_at, visit_of, ◌-◌, true, Bool, if◌then◌else◌, ℤ, Taken, NoSlot, same_kind, instr_at, way_of, holds_of, Op2, op2_in_range, op2_fits, link, words_of, IsApart, ◌≤◌, Block, table_word, choice_at, found_in, X, NoteRange, range_at, save_load_address, Exit, Head, bare, head_items, marked}
 use Rattle.v8_decode.specs.declared.Instr.TheVariants as i
 use Rattle.cfg_blocks.specs.declared.EdgeKind.TheVariants as kinds
-use Rattle.layout.specs.declared.items.Item.TheVariants as it
+use Rattle.jump_code.specs.Choosing.{choose}
+use Rattle.jump_code.specs.Finding.{find_words}
+use Rattle.image_code.specs.declared.shape.Exit.TheVariants as exits
+use Rattle.image_code.specs.declared.shape.Head.TheVariants as heads
 use Rattle.image_code.specs.Simulates.{EditSetup, number_in, does_at, gone_at, graph_in, word_of, CaseTable, IsAtWord, Chooses, MatchesIn}
 use Rattle.image_code.proofs.Points.{Site, entered_at, visited_at, AtVisitIn}
-use Rattle.image_code.specs.Images.{Pieces, HasNoCases, IsBeside}
+use Rattle.image_code.specs.Images.{HasNoCases, IsBeside}
 use Rattle.image_code.specs.Made.{nop_word, couple_word}
 use Rattle.image_code.specs.Store.{operations_on}
 use Rattle.image_code.specs.Cost.{is_out}
@@ -31,67 +34,57 @@ word_ahead g x t = word_at g.text (does_at g x t).pc
 abbrev pub IsJumpTarget : ℕ → Type 0
 IsJumpTarget to = (to < 2 ^ 32) × (to % 4 ≡ 0)
 
--- the words of the snippets on some edges, in order
-abbrev pub words_on : Pieces → List ℕ → List Item
-words_on l edges = map it.Word (flat_map l.codes edges)
+-- A piece's exit leads to an address: the next piece begins there, or the one that it names, or it leaves to that address
+-- itself, where the original goes on at no word of the text.
+abbrev pub Reaches : Site → ℕ → Exit → Option ℕ → ℕ → Type 0
+Reaches site k exits.Behind next to = (suc k < length site.l.list) × (slice_index site.p.at (suc k) ≡ to)
+Reaches site k (exits.Piece piece) next to = slice_index site.p.at piece.0 ≡ to
+Reaches site k (exits.Far address) next to = (next ≡ None) × IsJumpTarget to × (address.0 ≡ to)
+Reaches site k _ next to = ⊥
 
--- Behind the snippets of some edges items go on to an address: a Jump leads to a piece that stands there, or a long jump
--- to the address itself, where the original goes on at no word of the text.
-abbrev pub GoesOn : Pieces → Placement → Option (List Item) → List ℕ → Option ℕ → ℕ → Type 0
-GoesOn l p items edges next to =
-    ((z : PieceNo) × (items ≡ Some (words_on l edges ++ it.Jump z ∷ [])) × (slice_index p.at z.0 ≡ to))
-    ⊎ ((next ≡ None) × IsJumpTarget to × (items ≡ Some (words_on l edges ++ long_jump_piece to)))
-
--- control that comes to a piece goes on to an address: the piece stands there, or its items go on there
-abbrev pub LeadsTo : Pieces → Placement → PieceNo → List ℕ → Option ℕ → ℕ → Type 0
-LeadsTo l p piece edges next to =
-    ((edges ≡ []) × (slice_index p.at piece.0 ≡ to)) ⊎ GoesOn l p (slice_get l.list piece.0) edges next to
-
--- the rest of a piece from its item n on
-abbrev pub rest_from : Pieces → ℕ → ℕ → Option (List Item)
-rest_from l k n = option_map (drop n) (slice_get l.list k)
-
--- From its item n on, a piece goes on to an address: it ends behind the snippets of some edges, and the next piece begins
--- there, or its items go on there. Where the original goes on at a word of the text, they do so for some edge.
-abbrev pub LeadsOn : Pieces → Placement → (ℕ → ℕ → ℕ) → ℕ → ℕ → List ℕ → Option ℕ → ℕ → Type 0
-LeadsOn l p place k n edges next to =
-    ((rest_from l k n ≡ Some (words_on l edges)) × (place k (n + length (flat_map l.codes edges)) ≡ to))
-    ⊎ ((next ≢ None → edges ≢ []) × GoesOn l p (rest_from l k n) edges next to)
+-- Control that comes to a piece goes on to an address: the piece stands there, or it has no Mark, and leads there behind
+-- the snippets on these edges.
+abbrev pub LeadsTo : Site → PieceNo → List ℕ → Option ℕ → ℕ → Type 0
+LeadsTo site piece edges next to =
+    ((edges ≡ []) × (slice_index site.p.at piece.0 ≡ to))
+    ⊎ ((exit : Exit) × (slice_get site.shapes piece.0 ≡ Some (bare edges exit)) × Reaches site piece.0 exit next to)
 
 -- a piece leads to where the original goes on
 abbrev pub LeadsNext : Site → PieceNo → Node → Point → State → Type 0
 LeadsNext site piece node x t =
-    LeadsTo site.l site.p piece (gone_at site.g node x (does_at site.g x t)) (word_ahead site.g x t)
-    (next_entry site node x t)
+    LeadsTo site piece (gone_at site.g node x (does_at site.g x t)) (word_ahead site.g x t) (next_entry site node x t)
 
 -- ---- a word that is no transfer
 
--- A point's piece begins with the Mark of its instruction. In it and behind it stand these items, by the address and the
--- word that the original has there.
-pub record IsMarked (site : Site) (node : Node) (x : Point) (behind : Addr → ℕ → List Item) : Type 0 where
+-- A point's piece begins with the Mark of its instruction. A head stands in that, by the address and the word that the
+-- original has there; behind it come the snippets on some edges, and then an exit.
+pub record IsMarked (site : Site) (node : Node) (x : Point) (head : Addr → ℕ → Head) (edges : List ℕ) (exit : Exit)
+    : Type 0 where
   pub piece : ℕ
-  pub within : piece < length site.l.list
   pub here : visited_at site node x ≡ slice_index site.p.at piece
   pub address : Addr
   pub original : address.0 ≡ x.pc
   pub word : ℕ
   pub is_word : word_of site.g.text x.pc ≡ Some word
-  pub items : slice_get site.l.list piece ≡ Some (it.Mark address (number_in site.g node) ∷ behind address word)
+  pub shape : slice_get site.shapes piece
+      ≡ Some (marked (record { address = address; node = number_in site.g node }) (head address word) edges exit)
 
 -- the word itself, which is no transfer, in its Mark
-pub record IsMarkedWord (site : Site) (node : Node) (x : Point) (rest : List Item) : Type 0 where
-  pub marked : IsMarked site node x (λ _ word. it.Word word ∷ it.EndMark ∷ rest)
-  pub open marked use {piece, within, here, address, original, word, is_word, items}
+pub record IsMarkedWord (site : Site) (node : Node) (x : Point) (edges : List ℕ) (exit : Exit) : Type 0 where
+  pub mark : IsMarked site node x (λ _ word. heads.Word word) edges exit
+  pub open mark use {piece, here, address, original, word, is_word, shape}
   pub straight : is_transfer (decode_of word) ≡ false
 
 pub record IsPlain (site : Site) (node : Node) (x : Point) (t : State) : Type 0 where
-  pub rest : List Item
-  pub marked : IsMarkedWord site node x rest
-  pub open marked use {marked.{piece, address, word, is_word, items}}
-  -- where the walk goes on, there the piece leads
+  pub edges : List ℕ
+  pub exit : Exit
+  pub mark : IsMarkedWord site node x edges exit
+  pub open mark use {mark.{piece, address, word, is_word, shape}}
+  -- where the walk goes on, there the piece leads; without an edge it falls to the next piece, or leads out of the text
   pub leads : (does_at site.g x t).ending ≡ None
-      → LeadsOn site.l site.p site.place piece 3 (gone_at site.g node x (does_at site.g x t)) (word_ahead site.g x t)
-      (next_entry site node x t)
+      → (gone_at site.g node x (does_at site.g x t) ≡ edges)
+      × (Reaches site piece exit (word_ahead site.g x t) (next_entry site node x t)
+      × (word_ahead site.g x t ≢ None → edges ≡ [] → exit ≡ exits.Behind))
 
 -- ---- a conditional branch
 
@@ -108,8 +101,8 @@ pub record IsConditionalBranch (site : Site) (node : Node) (x : Point) (t : Stat
   pub disp : ℤ
   pub taken : PieceNo
   pub untaken : PieceNo
-  pub marked : IsMarked site node x (λ _ _. it.Branch cond taken ∷ it.EndMark ∷ it.Jump untaken ∷ [])
-  pub open marked use {piece, within, here, address, original, word, is_word, items}
+  pub mark : IsMarked site node x (λ _ _. heads.Branch cond taken) [] (exits.Piece untaken)
+  pub open mark use {piece, here, address, original, word, is_word, shape}
   pub says : decode_of word ≡ i.Branch cond annul disp
   pub leads : LeadsNext site (if holds_of cond t.codes then taken else untaken) node x t
   pub never : IsNoJumpsSlot site.g (does_at site.g x t)
@@ -122,8 +115,8 @@ pub record IsUnconditionalBranch (site : Site) (node : Node) (x : Point) (t : St
   pub annul : Bool
   pub disp : ℤ
   pub way : PieceNo
-  pub marked : IsMarked site node x (λ _ _. it.Word nop_word ∷ it.EndMark ∷ it.Jump way ∷ [])
-  pub open marked use {piece, within, here, address, original, word, is_word, items}
+  pub mark : IsMarked site node x (λ _ _. heads.Word nop_word) [] (exits.Piece way)
+  pub open mark use {piece, here, address, original, word, is_word, shape}
   pub says : decode_of word ≡ i.Branch cond annul disp
   pub leads : LeadsNext site way node x t
   pub never : IsNoJumpsSlot site.g (does_at site.g x t)
@@ -135,8 +128,8 @@ pub record IsCall (site : Site) (node : Node) (x : Point) (t : State) : Type 0 w
   pub low : x.pc < 2 ^ 32
   pub disp : ℤ
   pub way : PieceNo
-  pub marked : IsMarked site node x (λ address _. word_items (link 15 address.0) ++ it.EndMark ∷ it.Jump way ∷ [])
-  pub open marked use {piece, within, here, address, original, word, is_word, items}
+  pub mark : IsMarked site node x (λ address _. heads.Pair (words_of (link 15 address.0))) [] (exits.Piece way)
+  pub open mark use {piece, here, address, original, word, is_word, shape}
   pub says : decode_of word ≡ i.Call disp
   pub leads : LeadsNext site way node x t
   pub never : IsNoJumpsSlot site.g (does_at site.g x t)
@@ -158,10 +151,9 @@ pub record IsJump (site : Site) (node : Node) (x : Point) (t : State) : Type 0 w
   pub fits : op2_fits op2 ≡ true
   pub in_range : op2_in_range op2 ≡ true
   pub way : PieceNo
-  pub marked : IsMarked site node x (λ address _.
-      word_items (look_up scratch second rd rs1 op2 site.f.halves.base address.0)
-      ++ it.EndMark ∷ it.Jump way ∷ [])
-  pub open marked use {piece, within, here, address, original, word, is_word, items}
+  pub mark : IsMarked site node x
+      (λ _ _. heads.LookUp (words_of (find_words scratch second rs1 op2 site.f.halves.base)) rd) [] (exits.Piece way)
+  pub open mark use {piece, here, address, original, word, is_word, shape}
   pub says : decode_of word ≡ i.Jmpl rd rs1 op2
   pub leads : (does_at site.g x t).ending ≡ None → LeadsNext site way node x t
 
@@ -181,8 +173,8 @@ pub record IsSwitchJump (site : Site) (node : Node) (x : Point) (t : State) : Ty
   pub op2 : Op2
   pub distance : ℕ
   pub near : distance < 2 ^ 32
-  pub marked : IsMarked site node x (λ address _. word_items (switch_jump rd address.0 distance) ++ it.EndMark ∷ [])
-  pub open marked use {piece, within, here, address, original, word, is_word, items}
+  pub mark : IsMarked site node x (λ _ _. heads.SwitchJump rd (words_of (choose distance))) [] exits.Behind
+  pub open mark use {piece, here, address, original, word, is_word, shape}
   pub says : decode_of word ≡ i.Jmpl rd rs1 op2
   -- the word that has the piece's address
   pub aligned : choice_at distance t % 4 ≡ 0
@@ -200,8 +192,8 @@ pub record IsSwitchJump (site : Site) (node : Node) (x : Point) (t : State) : Ty
 
 pub record IsCouple (site : Site) (node : Node) (x : Point) : Type 0 where
   pub slot : x.slot ≢ NoSlot
-  pub marked : IsMarked site node x (λ _ _. it.Word couple_word ∷ it.Word couple_word ∷ it.EndMark ∷ [])
-  pub open marked use {piece, within, here, address, original, word, is_word, items}
+  pub mark : IsMarked site node x (λ _ _. heads.Pair (couple_word ∷ couple_word ∷ [])) [] exits.Behind
+  pub open mark use {piece, here, address, original, word, is_word, shape}
   pub transfer : is_transfer (decode_of word) ≡ true
 
 -- ---- behind the delay slot of a JMPL
@@ -213,11 +205,11 @@ abbrev pub Lands : Site → List ℕ → ℕ → ℕ → Type 0
 Lands site edges target visit =
     ((piece : PieceNo) × (piece.0 < length site.l.list)
     × (found_in site.f.halves target ≡ slice_index site.p.at piece.0)
-    × (LeadsTo site.l site.p piece edges (word_at site.g.text target) visit
+    × (LeadsTo site piece edges (word_at site.g.text target) visit
     ⊎ ((operations_on site.g.snips edges ≡ 0) × (slice_index site.p.at piece.0 ≡ visit))))
     ⊎ ((edges ≡ []) × ((piece : PieceNo) × (piece.0 < length site.l.list)
     × (found_in site.f.halves target ≡ slice_index site.p.at piece.0)
-    × (slice_get site.l.list piece.0 ≡ Some foreign_piece) × (word_at site.g.text target ≡ None)))
+    × (slice_get site.shapes piece.0 ≡ Some (bare [] exits.Foreign)) × (word_at site.g.text target ≡ None)))
 
 pub record IsJumpsSlot (site : Site) (node : Node) (x : Point) (t : State) : Type 0 where
   pub slot : x.slot ≡ Taken
@@ -228,8 +220,8 @@ pub record IsJumpsSlot (site : Site) (node : Node) (x : Point) (t : State) : Typ
   pub outward : is_out (slice_get (graph_in site.g).edges edge) ≡ true
   pub landing : List ℕ
   pub completes : (does_at site.g x t).ending ≡ None → gone_at site.g node x (does_at site.g x t) ≡ edge ∷ landing
-  pub marked : IsMarkedWord site node x (words_on site.l (edge ∷ []) ++ word_items (resume 1))
-  pub open marked use {straight, marked.{piece, address, word, is_word, items}}
+  pub mark : IsMarkedWord site node x (edge ∷ []) exits.Found
+  pub open mark use {straight, mark.{piece, address, word, is_word, shape}}
   -- where the walk goes on, there the table leads
   pub lands : (does_at site.g x t).ending ≡ None → Lands site landing x.npc (next_entry site node x t)
 
@@ -256,34 +248,29 @@ pub record IsOff (site : Site) (node : Node) (x : Point) : Type 0 where
 -- ---- before the load of an open switch
 
 -- a piece that keeps the load's address, and behind which the visit stands
-pub record IsKeeping (site : Site) (node : Node) (x : Point) (o : CaseTable) : Type 0 where
+pub record IsSaving (site : Site) (node : Node) (x : Point) (o : CaseTable) : Type 0 where
   pub piece : ℕ
   pub here : entered_at site node x ≡ slice_index site.p.at piece
-  pub items : slice_get site.l.list piece ≡ Some (word_items (save_load_address o.rs1 o.op2))
+  pub shape : slice_get site.shapes piece ≡ Some (bare [] (exits.Saved (words_of (save_load_address o.rs1 o.op2))))
   pub behind : site.place piece 3 ≡ visited_at site node x
 
 pub data IsEntered (site : Site) (node : Node) (x : Point) : Type 0 where
   at_once : entered_at site node x ≡ visited_at site node x
       → ((k : ℕ) (o : CaseTable) → slice_get site.g.opens k ≡ Some o → IsAtWord site.g o node x o.load → ⊥)
       → IsEntered site node x
-  keeping : (k : ℕ) (o : CaseTable) → slice_get site.g.opens k ≡ Some o → IsAtWord site.g o node x o.load
-      → IsKeeping site node x o → IsEntered site node x
+  saving : (k : ℕ) (o : CaseTable) → slice_get site.g.opens k ≡ Some o → IsAtWord site.g o node x o.load
+      → IsSaving site node x o → IsEntered site node x
 
 -- ---- each kind
 
--- an item that takes words in every form
-abbrev pub TakesWords : Item → Type 0
-TakesWords (it.Word w) = Unit {0}
-TakesWords (it.Branch cond to) = Unit {0}
-TakesWords _ = ⊥
-
--- the piece of a point begins with its Mark, which covers a word
+-- the piece of a point begins with its Mark, in which some word stands
 pub record IsHead (site : Site) (node : Node) (x : Point) : Type 0 where
-  pub item : Item
-  pub takes : TakesWords item
-  pub rest : List Item
-  pub marked : IsMarked site node x (λ _ _. item ∷ rest)
-  pub open marked use {piece, within, here, address, original, items}
+  pub head : Head
+  pub edges : List ℕ
+  pub exit : Exit
+  pub mark : IsMarked site node x (λ _ _. head) edges exit
+  pub open mark use {piece, here, address, original, shape}
+  pub some : 0 < length (head_items address head)
 
 -- the shape of a point's piece, or the point lies outside the text
 pub data IsCase (site : Site) (node : Node) (x : Point) (t : State) : Type 0 where

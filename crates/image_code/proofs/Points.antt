@@ -1,5 +1,5 @@
 -- Where machines stand at the visits of points, and what a step from there promises.
-use Rattle.image_code.proofs.Common.{◌≡◌, ◌≢◌, ℕ, false, Option, None, List, [], word_at, Node, Slot, State, Placement, Point, saved_address, instr_at}
+use Rattle.image_code.proofs.Common.{◌≡◌, ◌≢◌, ℕ, false, Option, None, List, [], word_at, Node, Slot, State, Placement, Point, saved_address, instr_at, Shape, assembled}
 use Rattle.layout.specs.Laid.{HasShortForms}
 use Rattle.image_code.specs.Cost.{is_transfer_at}
 use Rattle.image_code.specs.Simulates.{EditSetup, StepsOn, does_at, gone_at}
@@ -8,10 +8,13 @@ use Rattle.image_code.specs.Images.{Pieces, EditorData, place_by, AtVisit, AtPoi
 abbrev pub visited_by : EditSetup → Pieces → Placement → EditorData → Node → Point → Option ℕ → Slot → ℕ
 visited_by g l = place_by l.image g l
 
--- Pieces where they are placed, for a set-up. (`g l base p place f` is written out where another crate says it.)
+-- Pieces, by their shapes, where they are placed, for a set-up. (`g l base p place f` is written out where another crate
+-- says it.)
 pub record Site : Type 0 where
   pub g : EditSetup
   pub l : Pieces
+  pub shapes : List Shape
+  pub made : l.list ≡ assembled l.codes shapes
   pub base : ℕ
   pub p : Placement
   pub place : ℕ → ℕ → ℕ

@@ -1,12 +1,12 @@
 -- Ways through words in no place: the snippets of some edges, Jumps and long jumps.
-use Rattle.image_code.proofs.Common.{◌≡◌, ℕ, zero, suc, ◌+◌, ◌*◌, ◌^◌, ◌<◌, ◌≤◌, ◌⊎◌, inl, inr, Option, Some, None, List, [], ◌∷◌, ◌++◌, drop, length, map, append-nil, add-one, add-zero, zero-add, refl, ap, sym, ◌∙◌, subst, arith, add_assoc, ◌≢◌, slice_get, slice_index, flat_map, option_map, cases_lt, length-append, length-map, map-append, append_assoc, slice_get_within, PieceNo, Memory, code_of, fetch_from, State, register_of, run, IsValid, run-valid, count_stores, hopped, Leads, IsFirstWord, IsAmongWords, page_word, Stores, store_word, memory_word, count_add, none_then, leads_weaker, stores_there, stores_none, Op, words_at, long_jump_piece, words_of, Item, item_at, open_in, range_in, range_of, CanRun, nil_from_length, IsSilent, long_jump, CanStore, HasWords, stores_then, leads_then, kept_word, open_from, IsWordAt}
+use Rattle.image_code.proofs.Common.{◌≡◌, ℕ, zero, suc, ◌+◌, ◌-◌, ◌*◌, ◌^◌, ◌<◌, ◌≤◌, ◌⊎◌, inl, inr, false, Option, Some, None, List, [], ◌∷◌, ◌++◌, length, map, append-nil, add-one, add-zero, zero-add, refl, ap, sym, ◌∙◌, subst, arith, add_assoc, ◌≢◌, slice_get, slice_index, flat_map, option_map, cases_lt, length-append, length-map, map-append, append_assoc, slice_get_within, slice_get-map, Addr, PieceNo, Memory, code_of, fetch_from, State, register_of, run, IsValid, run-valid, count_stores, hopped, Leads, IsFirstWord, IsAmongWords, page_word, Stores, store_word, memory_word, count_add, none_then, leads_weaker, stores_there, stores_none, Op, words_at, long_jump_piece, words_of, Item, item_at, open_in, range_in, range_of, CanRun, nil_from_length, IsSilent, long_jump, CanStore, HasWords, stores_then, leads_then, kept_word, open_from, IsWordAt, Exit, Head, OfWord, Shape, bare, exit_items, head_items, items_of, mark_items, marked}
 use Rattle.layout.specs.declared.items.Item.TheVariants as it
 use Rattle.code_runs.proofs.Leads.{leads_none, silent_none, silent_then}
 use Rattle.code_runs.proofs.LongJump.{long_jumps_hop}
 use Rattle.snippet_code.specs.Runs.{IsAboutToRun}
 use Rattle.jump_code.proofs.Fitting.{long_jump_fits}
 use Rattle.jump_code.proofs.Laid.{words_after}
-use Rattle.layout.specs.Laid.{size_of}
+use Rattle.layout.specs.Laid.{OpenMark, is_jump, size_of}
 use Rattle.layout.specs.Running.{HasCode}
 use Rattle.layout.proofs.Going.{stays, jumps_hop}
 use Rattle.image_code.specs.Simulates.{IsOnWay}
@@ -14,12 +14,14 @@ use Rattle.image_code.specs.Cost.{in_first_word, is_spill, spills_on}
 use Rattle.image_code.specs.Store.{cells_in, operations_on, snippet_on, updates}
 use Rattle.image_code.proofs.Points.{Forms, Site}
 use Rattle.image_code.specs.Images.{HasImages, Pieces}
-use Rattle.image_code.proofs.PointShapes.{GoesOn, IsJumpTarget, LeadsTo, LeadsOn, rest_from, words_on}
+use Rattle.image_code.proofs.PointShapes.{IsJumpTarget, LeadsTo, Reaches}
+use Rattle.image_code.specs.declared.shape.Exit.TheVariants as exits
 use Rattle.image_code.proofs.Between.{can_run, item_below, item_size, on_none, stores_weaker}
 use Rattle.image_code.proofs.Cells.{cell_low, cells_above, cell_stored, first_above, may_below, may_beside, may_own, operations_then, updates_same, updates_then, word_kept}
 use Rattle.image_code.proofs.Dead.{IsAlike, LastDead, NothingDead, alike_itself, alike_then, last_first, last_others, last_parted, nothing_parted}
 use Rattle.image_code.proofs.Memories.{images_stored}
 use Rattle.image_code.proofs.Positions.{get_second}
+use Rattle.image_code.proofs.Shapes.{HeadIs, has_words, head_is, is_branch}
 use Rattle.image_code.proofs.Sparing.{first_cell, first_kept_word, same_steps, spill_cell, spill_first, spills_then}
 
 -- ---- items without a Mark
@@ -44,40 +46,15 @@ unmarked_open (it.Mark a b ∷ xs) n (suc k) are = absurd are.0
 unmarked_open (it.EndMark ∷ xs) n (suc k) are = absurd are.0
 unmarked_open (x ∷ xs) n (suc k) are = unmarked_open xs (suc n) k are.1
 
-behind_unmarked : (xs ys : List Item) → AreUnmarked (xs ++ ys) → AreUnmarked ys
-behind_unmarked [] ys are = are
-behind_unmarked (x ∷ xs) ys are = behind_unmarked xs ys are.1
-
 pub length_words : (ws : List ℕ) → length (map it.Word ws) ≡ length ws
 length_words ws = length-map ws it.Word
 
--- From its item n on, a piece is these items, none of them a Mark or the end of one.
+-- From its item n on, a piece is these items, and no Mark is open there.
 pub record PieceFrom (l : Pieces) (k n : ℕ) (xs : List Item) : Type 0 where
   pub within : k < length l.list
   pub size : size_of l.list k ≡ n + length xs
   pub items : (j : ℕ) → item_at l.list k (n + j) ≡ slice_get xs j
   pub shut : (j : ℕ) → open_in (slice_get l.list k) (n + j) ≡ None
-  pub unmarked : AreUnmarked xs
-
-pub rest_whole : (l : Pieces) (k : ℕ) (xs : List Item) → AreUnmarked xs → slice_get l.list k ≡ Some xs → PieceFrom l k 0 xs
-rest_whole l k xs are is = record {
-  within = slice_get_within l.list k xs is;
-  size = rw is (omega arith);
-  items = λ j. let e : 0 + j ≡ j = omega arith in rw (e, is);
-  shut = λ j. let e : 0 + j ≡ j = omega arith in rw (e, is) (unmarked_open xs 0 j are);
-  unmarked = are;
-}
-
--- behind a Mark with one item
-pub rest_marked : (l : Pieces) (k : ℕ) (address : _) (node : ℕ) (y : Item) (xs : List Item) → AreUnmarked xs
-    → slice_get l.list k ≡ Some (it.Mark address node ∷ y ∷ it.EndMark ∷ xs) → PieceFrom l k 3 xs
-rest_marked l k address node y xs are is = record {
-  within = slice_get_within l.list k _ is;
-  size = rw is (omega arith);
-  items = λ j. let e : 3 + j ≡ suc (suc (suc j)) = omega arith in rw (e, is);
-  shut = λ j. let e : 3 + j ≡ suc (suc (suc j)) = omega arith in rw (e, is) (unmarked_open xs 3 j are);
-  unmarked = are;
-}
 
 pub rest_behind : (l : Pieces) (k n : ℕ) (xs ys : List Item) → PieceFrom l k n (xs ++ ys) → PieceFrom l k (n + length xs) ys
 rest_behind l k n xs ys r = record {
@@ -85,11 +62,89 @@ rest_behind l k n xs ys r = record {
   size = omega (arith, r.size, length-append xs ys);
   items = λ j. rw (add_assoc n (length xs) j, r.items (length xs + j)) (get_second xs ys j);
   shut = λ j. rw (add_assoc n (length xs) j) (r.shut (length xs + j));
-  unmarked = behind_unmarked xs ys r.unmarked;
 }
 
-pub far_unmarked : (to : ℕ) → AreUnmarked (long_jump_piece to)
-far_unmarked to = (tt, (tt, (tt, (tt, tt))))
+-- the words of the snippets on some edges, in order
+abbrev pub words_on : Pieces → List ℕ → List Item
+words_on l edges = map it.Word (flat_map l.codes edges)
+
+-- ---- the items of a shape
+
+pub exit_unmarked : (exit : Exit) → AreUnmarked (exit_items exit)
+exit_unmarked exits.Behind = tt
+exit_unmarked (exits.Piece piece) = (tt, tt)
+exit_unmarked (exits.Far to) = (tt, (tt, (tt, (tt, tt))))
+exit_unmarked exits.Found = (tt, (tt, (tt, tt)))
+exit_unmarked exits.Foreign = (tt, (tt, (tt, (tt, tt))))
+exit_unmarked (exits.Saved code) = rw append-nil at (words_unmarked code [] tt)
+
+pub head_unmarked : (address : Addr) (head : Head) → AreUnmarked (head_items address head)
+head_unmarked address head = by (head_is address head)
+  where
+    by : HeadIs address head → AreUnmarked (head_items address head)
+    by (has_words ws is many) = rw is (rw append-nil at (words_unmarked ws [] tt))
+    by (is_branch cond to is) = rw is (tt, tt)
+
+-- how many items stand before the snippets
+abbrev pub front_of : Shape → ℕ
+front_of s = length (mark_items s.mark [])
+
+mark_first : (mark : Option (OfWord × Head)) (rest : List Item) → mark_items mark rest ≡ mark_items mark [] ++ rest
+mark_first None rest = refl
+mark_first (Some (visit, head)) rest =
+    ap (λ xs. it.Mark visit.address visit.node ∷ xs)
+    (sym (append_assoc (head_items visit.address head) (it.EndMark ∷ []) rest))
+
+-- behind the end of a Mark none is open
+open_behind : (hs xs : List Item) (n k j : ℕ) (o : Option OpenMark) → k ≡ length (hs ++ it.EndMark ∷ []) + j
+    → AreUnmarked hs → AreUnmarked xs → open_from ((hs ++ it.EndMark ∷ []) ++ xs) n k o ≡ None
+open_behind [] xs n zero j o e hs are = absurd (omega (arith, e))
+open_behind [] xs n (suc k) j o e hs are = unmarked_open xs (suc n) k are
+open_behind (x ∷ hs) xs n zero j o e those are = absurd (omega (arith, e))
+open_behind (it.Mark a b ∷ hs) xs n (suc k) j o e those are = absurd those.0
+open_behind (it.EndMark ∷ hs) xs n (suc k) j o e those are = absurd those.0
+open_behind (x ∷ hs) xs n (suc k) j o e those are =
+    open_behind hs xs (suc n) k j o (omega (arith, e)) those.1 are
+
+front_shut : (mark : Option (OfWord × Head)) (rest : List Item) (j : ℕ) → AreUnmarked rest
+    → open_from (mark_items mark [] ++ rest) 0 (length (mark_items mark []) + j) None ≡ None
+front_shut None rest j are = unmarked_open rest 0 (0 + j) are
+front_shut (Some (visit, head)) rest j are =
+    let hs = head_items visit.address head in
+    let next : length (mark_items (Some (visit, head)) []) + j ≡ suc (length (hs ++ it.EndMark ∷ []) + j) = omega arith in
+    rw next (open_behind hs rest 1 _ j _ refl (head_unmarked visit.address head) are)
+
+-- behind what its Mark has, if it has one
+from_mark : (l : Pieces) (k : ℕ) (mark : Option (OfWord × Head)) (rest : List Item) → AreUnmarked rest
+    → slice_get l.list k ≡ Some (mark_items mark rest) → PieceFrom l k (length (mark_items mark [])) rest
+from_mark l k mark rest are is =
+    let whole = is ∙ ap (λ (xs : List Item). Some xs) (mark_first mark rest) in
+    record {
+      within = slice_get_within l.list k _ is;
+      size = rw whole (length-append (mark_items mark []) rest);
+      items = λ j. rw whole (get_second (mark_items mark []) rest j);
+      shut = λ j. rw whole (front_shut mark rest j are);
+    }
+
+-- behind an item that is no Jump, the last of some words is none
+ends_without_jump : (x : Item) (ws : List ℕ) → is_jump (Some x) ≡ false
+    → is_jump (slice_get (x ∷ map it.Word ws) (length ws)) ≡ false
+ends_without_jump x [] h = h
+ends_without_jump x (w ∷ ws) h = ends_without_jump (it.Word w) ws refl
+
+-- without an exit no Jump stands at the end of a piece
+last_falls : (mark : Option (OfWord × Head)) (ws : List ℕ)
+    → let items = mark_items mark (map it.Word ws) in is_jump (slice_get items (length items - 1)) ≡ false
+last_falls None [] = refl
+last_falls None (w ∷ ws) =
+    let last : length (it.Word w ∷ map it.Word ws) - 1 ≡ length ws = omega (arith, length-map ws it.Word) in
+    rw last (ends_without_jump (it.Word w) ws refl)
+last_falls (Some (visit, head)) ws =
+    let before = it.Mark visit.address visit.node ∷ head_items visit.address head in
+    let behind = it.EndMark ∷ map it.Word ws in
+    let last : length (before ++ behind) - 1 ≡ length before + length ws =
+    omega (arith, length-append before behind, length-map ws it.Word) in
+    rw (last, get_second before behind (length ws)) (ends_without_jump it.EndMark ws refl)
 
 -- edges without operations leave the cells
 no_updates : (snips : List (List Op)) (edges cells : List ℕ) (s : State) → operations_on snips edges ≡ 0
@@ -100,7 +155,7 @@ no_updates snips (edge ∷ edges) cells s none =
     (no_updates snips edges cells s (omega (arith, none)))
 
 module _ (site : Site) where
-  open site use {g, l, base, p, place, f, placed}
+  open site use {g, l, shapes, made, base, p, place, f, placed}
 
   -- in the code, and in no place
   abbrev pub IsInNoPlace : State → Type 0
@@ -120,7 +175,7 @@ module _ (site : Site) where
     pub few : count ≤ most + 22 * operations_on g.snips edges
     pub path : Leads IsInNoPlace a (hopped other to memory) count
     pub silent : IsSilent a count
-    pub stores : Stores (IsAmongWords f.own) a.memory memory
+    pub stores : Stores (IsAmongWords f.stored) a.memory memory
     pub target_in_page : memory_word memory (page_word 1) ≡ memory_word a.memory (page_word 1)
     pub found : next ≢ None → memory_word memory (page_word 7) ≡ memory_word a.memory (page_word 7)
     pub cells : LastDead g edges → words_at g.notes.base g.notes.cells memory ≡ updates g.snips edges (cells_in g.notes a) a
@@ -138,7 +193,7 @@ module _ (site : Site) where
     pub runs : CanRun base p.code a
 
   pub hopped_fit : (a b : State) (to : ℕ) → IsFit a → b.ending ≡ None → to ≤ 2 ^ 31 → (count : ℕ) (m : Memory)
-      → run a count ≡ hopped b to m → Stores (IsAmongWords f.own) a.memory m → IsFit (hopped b to m)
+      → run a count ≡ hopped b to m → Stores (IsAmongWords f.stored) a.memory m → IsFit (hopped b to m)
   hopped_fit a b to k live low count m steps stores =
       let valid : IsValid (hopped b to m) = subst IsValid steps (run-valid a count k.valid) in
       let has = images_stored site a (hopped b to m) count steps stores k.has in
@@ -162,11 +217,11 @@ module _ (site : Site) where
 
   -- stores in word 0 of the page
   pub first_kept : (a : State) (m : Memory) → IsFit a → Stores IsFirstWord a.memory m
-      → Stores (IsAmongWords f.own) a.memory m
+      → Stores (IsAmongWords f.stored) a.memory m
       × ((memory_word m (page_word 1) ≡ memory_word a.memory (page_word 1))
       × (words_at g.notes.base g.notes.cells m ≡ cells_in g.notes a))
   first_kept a m fit stores = (
-    stores_weaker IsFirstWord (IsAmongWords f.own) a.memory m (λ z e. rw e placed.frame.own.first) stores,
+    stores_weaker IsFirstWord (IsAmongWords f.stored) a.memory m (λ z e. rw e placed.frame.stored.first) stores,
     (
       word_kept IsFirstWord (page_word 1) (λ z e. inr (omega (arith, e))) a.memory m stores
           (page_there a fit 1 (omega arith)),
@@ -259,7 +314,7 @@ module _ (site : Site) where
         few = omega (arith, one.few, other.few, operations_then g.snips first others);
         path = leads_then IsInNoPlace a b _ one.count other.count one.path other.path (λ _ some. other.begins some);
         silent = silent_then a b one.count other.count one.path.steps one.silent other.silent;
-        stores = stores_then (IsAmongWords f.own) (IsAmongWords f.own) a.memory one.memory other.memory
+        stores = stores_then (IsAmongWords f.stored) (IsAmongWords f.stored) a.memory one.memory other.memory
             (λ z e. e) one.stores other.stores;
         target_in_page = other.target_in_page ∙ one.target_in_page;
         found = λ there. other.found there ∙ one.found there;
@@ -306,26 +361,37 @@ module _ (site : Site) where
       → fetch_from (code_of m) a ≡ Some w
   word_fetched m has a w (n, at, found) = ap (fetch_from (code_of m)) at ∙ has n w found
 
+  -- wherever they stand
+  pub words_laid : (m : Memory) → HasCode base p.code m → (k n : ℕ) (ws : List ℕ) (xs : List Item)
+      → ((j : ℕ) → item_at l.list k (n + j) ≡ slice_get (map it.Word ws ++ xs) j)
+      → HasWords (code_of m) (place k n) ws × (place k (n + length ws) ≡ place k n + 4 * length ws)
+  words_laid m has k n [] xs items = (tt, omega (arith, ap (place k) (add-zero n)))
+  words_laid m has k n (w ∷ ws) xs items =
+      let at = placed.laid.items k n (it.Word w) (rw add-zero at (items 0)) in
+      let more = words_laid m has k (suc n) ws xs
+      (λ j. let e : suc n + j ≡ n + suc j = omega arith in rw e (items (suc j))) in
+      let all : n + suc (length ws) ≡ suc n + length ws = omega arith in (
+        (word_fetched m has (place k n) w at.1, rw at.0 at more.0),
+        omega (arith, ap (place k) all, more.1, at.0),
+      )
+
+  words_bare : (k n : ℕ) (ws : List ℕ) (xs : List Item) → PieceFrom l k n (map it.Word ws ++ xs) → (u : State)
+      → place k n ≤ u.pc → u.pc < place k (n + length ws) → IsInNoPlace u
+  words_bare k n [] xs r u from to = absurd (omega (arith, from, to, ap (place k) (add-zero n)))
+  words_bare k n (w ∷ ws) xs r u from to = elim (cases_lt u.pc (place k (suc n))) [
+    | inl before ↦
+        bare_item k n (it.Word w) (rw add-zero at (r.items 0)) (rw add-zero at (r.shut 0)) u from before
+    | inr behind ↦
+        let all : n + suc (length ws) ≡ suc n + length ws = omega arith in
+        words_bare k (suc n) ws xs (rw add-one at (rest_behind l k n (it.Word w ∷ []) (map it.Word ws ++ xs) r)) u behind
+        (omega (arith, to, ap (place k) all))
+  ]
+
   pub stood : (m : Memory) → HasCode base p.code m → (k n : ℕ) (ws : List ℕ) (xs : List Item)
       → PieceFrom l k n (map it.Word ws ++ xs) → CodeAt m k n ws
-  stood m has k n [] xs r = record {
-    words = tt;
-    end = omega (arith, ap (place k) (add-zero n));
-    bare = λ u from to. absurd (omega (arith, from, to));
-  }
-  stood m has k n (w ∷ ws) xs r =
-      let item : item_at l.list k n ≡ Some (it.Word w) = rw add-zero at (r.items 0) in
-      let at = placed.laid.items k n (it.Word w) item in
-      let more = stood m has k (suc n) ws xs (rw add-one at (rest_behind l k n (it.Word w ∷ []) (map it.Word ws ++ xs) r)) in
-      let all : n + suc (length ws) ≡ suc n + length ws = omega arith in
-      record {
-        words = (word_fetched m has (place k n) w at.1, rw at.0 at more.words);
-        end = omega (arith, ap (place k) all, more.end, at.0);
-        bare = λ u from to. elim (cases_lt u.pc (place k (suc n))) [
-          | inl before ↦ bare_item k n (it.Word w) item (rw add-zero at (r.shut 0)) u from before
-          | inr behind ↦ more.bare u behind (omega (arith, to, at.0))
-        ];
-      }
+  stood m has k n ws xs r =
+      let laid = words_laid m has k n ws xs r.items in
+      record { words = laid.0; end = laid.1; bare = λ u from to. words_bare k n ws xs r u from (omega (arith, to, laid.1)) }
 
   -- where words end, inside the code
   pub stood_low : (k n : ℕ) (ws : List ℕ) (xs : List Item) → PieceFrom l k n (map it.Word ws ++ xs)
@@ -413,7 +479,7 @@ module _ (site : Site) where
       let fit2 = arrived (edge ∷ []) a mid 0 fit (stood_low k n first rest r2) one in
       let other = snippets_run next edges k (n + length first) xs
       (rw (length_words first) at (rest_behind l k n (map it.Word first) rest r2)) (hopped one.other mid one.memory) fit2
-      refl in
+      (refl {a = mid}) in
       let sum : n + length first + length (flat_map l.codes edges) ≡ n + length (flat_map l.codes (edge ∷ edges)) =
       omega (arith, length-append first (flat_map l.codes edges)) in
       rw (← sum) (on_then (edge ∷ edges) (edge ∷ []) edges refl a mid _ 0 0 one other)
@@ -448,55 +514,12 @@ module _ (site : Site) where
       (leads_weaker _ _ a _ 4 (λ u q. there.bare u (omega (arith, at, q.past)) (omega (arith, at, q.before))) hops.path)
       hops.silent (λ q. there.bare a (omega (arith, at)) (omega (arith, at))) (λ there. absurd (there out))
 
-  -- ---- from the beginning of a piece
-
-  jump_unmarked : (edges : List ℕ) (z : PieceNo) → AreUnmarked (words_on l edges ++ it.Jump z ∷ [])
-  jump_unmarked edges z = words_unmarked (flat_map l.codes edges) (it.Jump z ∷ []) (tt, tt)
-
-  last_jump : (next : Option ℕ) (k n : ℕ) (z : PieceNo) → PieceFrom l k n (it.Jump z ∷ []) → (a : State) → IsFit a
-      → a.pc ≡ place k n → FollowsRoute next [] a (slice_index p.at z.0) 4
-  last_jump next k n z r a fit at = jump_on next k n z (rw add-zero at (r.items 0)) (rw add-zero at (r.shut 0)) a fit at
+  -- ---- weaker statements
 
   -- nothing comes after the edges' snippets
   pub for_all : {next : Option ℕ} (edges : List ℕ) (a : State) (to most : ℕ) → FollowsRoute next (edges ++ []) a to most
       → FollowsRoute next edges a to most
   for_all {next} edges a to most way = subst (λ z. FollowsRoute next z a to most) (append-nil edges) way
-
-  -- through the snippets of some edges, and on
-  goes_on : (k n : ℕ) (items : Option (List Item)) → ((xs : List Item) → AreUnmarked xs → items ≡ Some xs → PieceFrom l k n xs)
-      → (edges : List ℕ) (a : State) (next : Option ℕ) (to : ℕ) → IsFit a → (k < length l.list → a.pc ≡ place k n)
-      → GoesOn l p items edges next to → FollowsRoute next edges a to 4
-  goes_on k n items from edges a next to fit at (inl (z, is, e)) =
-      let r = from _ (jump_unmarked edges z) is in
-      for_all edges a to 4 (snippets_then next edges k n (it.Jump z ∷ []) r a fit (at r.within) [] to 4
-      (λ b fit2 there r2. rw (← e) (last_jump next k _ z r2 b fit2 there)))
-  goes_on k n items from edges a next to fit at (inr (out, far, is)) =
-      let r = from _ (words_unmarked (flat_map l.codes edges) (long_jump_piece to) (far_unmarked to)) is in
-      for_all edges a to 4 (snippets_then next edges k n (long_jump_piece to) r a fit (at r.within) [] to 4
-      (λ b fit2 there r2. far_on next out k _ to far r2 b fit2 there))
-
-  pub arrive : (z : PieceNo) (edges : List ℕ) (a : State) (next : Option ℕ) (to : ℕ) → IsFit a
-      → a.pc ≡ slice_index p.at z.0 → LeadsTo l p z edges next to → FollowsRoute next edges a to 4
-  arrive z edges a next to fit at (inl (none, e)) =
-      rw none (bare_here [] a to 4 refl fit (at ∙ e) (omega (arith, at, (placed.laid.aligned z.0).1)))
-  arrive z edges a next to fit at (inr on) =
-      goes_on z.0 0 _ (rest_whole l z.0) edges a next to fit (λ within. at ∙ placed.laid.starts z.0 within) on
-
-  -- a Jump to a piece that leads on
-  pub jump_along : (k n : ℕ) (z : PieceNo) → item_at l.list k n ≡ Some (it.Jump z)
-      → open_in (slice_get l.list k) n ≡ None → (edges : List ℕ) (a : State) (next : Option ℕ) (to : ℕ) → IsFit a
-      → a.pc ≡ place k n → LeadsTo l p z edges next to → FollowsRoute next edges a to 8
-  jump_along k n z item shut edges a next to fit at leads =
-      let one = jump_on next k n z item shut a fit at in
-      on_then edges [] edges refl a (slice_index p.at z.0) to 4 4 one
-      (arrive z edges (hopped one.other (slice_index p.at z.0) one.memory) next to
-      (arrived [] a (slice_index p.at z.0) 4 fit (placed.laid.aligned z.0).1 one) refl leads)
-
-  pub jump_then : (k n : ℕ) (z : PieceNo) → PieceFrom l k n (it.Jump z ∷ []) → (edges : List ℕ) (a : State)
-      (next : Option ℕ) (to : ℕ) → IsFit a → a.pc ≡ place k n → LeadsTo l p z edges next to → FollowsRoute next edges a to 8
-  jump_then k n z r = jump_along k n z (rw add-zero at (r.items 0)) (rw add-zero at (r.shut 0))
-
-  -- ---- from item 3 of a piece on
 
   -- where of fewer ways it is asked what they store, and the bound is no lower
   unfoldable pub eased : {next after : Option ℕ} (edges : List ℕ) (a : State) (to few most : ℕ)
@@ -530,35 +553,96 @@ module _ (site : Site) where
       → FollowsRoute None edges a to most
   unwatched next edges a to most one = eased edges a to most most (λ there. absurd (there refl)) (omega arith) one
 
+  -- ---- the piece of a shape
+
+  pub items_at : (k : ℕ) (s : Shape) → slice_get shapes k ≡ Some s → slice_get l.list k ≡ Some (items_of l.codes s)
+  items_at k s is =
+      ap (λ (list : List (List Item)). slice_get list k) made ∙ slice_get-map (items_of l.codes) shapes k
+      ∙ ap (option_map (items_of l.codes)) is
+
+  pub shape_within : (k : ℕ) (s : Shape) → slice_get shapes k ≡ Some s → k < length l.list
+  shape_within k s is = slice_get_within l.list k _ (items_at k s is)
+
+  -- its snippets and its exit
+  pub from_shape : (k : ℕ) (s : Shape) → slice_get shapes k ≡ Some s
+      → PieceFrom l k (front_of s) (words_on l s.edges ++ exit_items s.exit)
+  from_shape k s is =
+      from_mark l k s.mark _ (words_unmarked (flat_map l.codes s.edges) (exit_items s.exit) (exit_unmarked s.exit))
+      (items_at k s is)
+
+  -- a piece that ends in words goes on in the next one
+  pub falls : (k : ℕ) (s : Shape) (ws : List ℕ) → slice_get shapes k ≡ Some s
+      → words_on l s.edges ++ exit_items s.exit ≡ map it.Word ws → suc k < length l.list
+      → place k (size_of l.list k) ≡ slice_index p.at (suc k)
+  falls k s ws is words next =
+      let items = items_at k s is ∙ ap (λ (xs : List Item). Some (mark_items s.mark xs)) words in
+      let closed : is_jump (item_at l.list k (size_of l.list k - 1)) ≡ false = rw items (last_falls s.mark ws) in
+      placed.laid.falls k next closed ∙ sym (placed.laid.starts (suc k) next)
+
+  -- how many words of each way out there are at most
+  abbrev pub exit_most : Exit → ℕ
+  exit_most exits.Behind = 0
+  exit_most _ = 4
+
+  exit_few : (exit : Exit) → exit_most exit ≤ 4
+  exit_few exits.Behind = omega arith
+  exit_few _ = omega arith
+
+  exit_runs : (k n : ℕ) (exit : Exit) → PieceFrom l k n (exit_items exit)
+      → (exit ≡ exits.Behind → suc k < length l.list → place k (size_of l.list k) ≡ slice_index p.at (suc k))
+      → (a : State) (next : Option ℕ) (to : ℕ) → IsFit a → a.pc ≡ place k n → Reaches site k exit next to
+      → FollowsRoute next [] a to (exit_most exit)
+  exit_runs k n exits.Behind r falls a next to fit at reaches =
+      let end : place k n ≡ slice_index p.at (suc k) =
+      ap (place k) (omega (arith, r.size)) ∙ falls refl reaches.0 in
+      bare_here [] a to 0 refl fit (at ∙ end ∙ reaches.1) (omega (arith, at, end, (placed.laid.aligned (suc k)).1))
+  exit_runs k n (exits.Piece piece) r falls a next to fit at reaches =
+      rw (← reaches) (jump_on next k n piece (rw add-zero at (r.items 0)) (rw add-zero at (r.shut 0)) a fit at)
+  exit_runs k n (exits.Far address) r falls a next to fit at reaches =
+      far_on next reaches.0 k n to reaches.1 (rw reaches.2 at r) a fit at
+  exit_runs k n _ r falls a next to fit at reaches = absurd reaches
+
+  -- through the snippets of its edges, and on
+  pub shape_runs : (k : ℕ) (s : Shape) → slice_get shapes k ≡ Some s → (a : State) (next : Option ℕ) (to : ℕ)
+      → IsFit a → a.pc ≡ place k (front_of s) → Reaches site k s.exit next to
+      → FollowsRoute next s.edges a to (exit_most s.exit)
+  shape_runs k s is a next to fit at reaches =
+      for_all s.edges a to _ (snippets_then next s.edges k (front_of s) (exit_items s.exit) (from_shape k s is) a fit at []
+      to (exit_most s.exit) (λ b fit2 there rest.
+      exit_runs k _ s.exit rest (λ none. falls k s (flat_map l.codes s.edges) is (ap (λ (exit : Exit). words_on l s.edges
+      ++ exit_items exit) none ∙ append-nil (words_on l s.edges))) b next to fit2 there reaches))
+
+  pub arrive : (z : PieceNo) (edges : List ℕ) (a : State) (next : Option ℕ) (to : ℕ) → IsFit a
+      → a.pc ≡ slice_index p.at z.0 → LeadsTo site z edges next to → FollowsRoute next edges a to 4
+  arrive z edges a next to fit at (inl (none, e)) =
+      rw none (bare_here [] a to 4 refl fit (at ∙ e) (omega (arith, at, (placed.laid.aligned z.0).1)))
+  arrive z edges a next to fit at (inr (exit, is, reaches)) =
+      weaker_route edges a to (exit_most exit) 4 (exit_few exit) (shape_runs z.0 (bare edges exit) is a next to fit
+      (at ∙ placed.laid.starts z.0 (shape_within z.0 (bare edges exit) is)) reaches)
+
+  -- behind its Mark a piece goes to one that leads on
+  pub jump_then : (k : ℕ) (visit : OfWord) (head : Head) (z : PieceNo)
+      → slice_get shapes k ≡ Some (marked visit head [] (exits.Piece z)) → (edges : List ℕ) (a : State)
+      (next : Option ℕ) (to : ℕ) → IsFit a → a.pc ≡ place k (front_of (marked visit head [] (exits.Piece z)))
+      → LeadsTo site z edges next to → FollowsRoute next edges a to 8
+  jump_then k visit head z is edges a next to fit at leads =
+      let one = shape_runs k (marked visit head [] (exits.Piece z)) is a next (slice_index p.at z.0) fit at refl in
+      on_then edges [] edges refl a (slice_index p.at z.0) to 4 4 one
+      (arrive z edges (hopped one.other (slice_index p.at z.0) one.memory) next to
+      (arrived [] a (slice_index p.at z.0) 4 fit (placed.laid.aligned z.0).1 one) refl leads)
+
   -- Where no edge is completed, and the original goes on at a word of the text, the way has no step.
   abbrev pub Tail : Option ℕ → List ℕ → State → ℕ → ℕ → Type 0
   Tail next edges a to most = (w : FollowsRoute next edges a to most) × (next ≢ None → edges ≡ [] → w.count ≡ 0)
 
-  pub weaker_tail : {next : Option ℕ} (edges : List ℕ) (a : State) (to few most : ℕ) → few ≤ most
-      → Tail next edges a to few → Tail next edges a to most
+  pub tail : (k : ℕ) (s : Shape) → slice_get shapes k ≡ Some s → (a : State) (next : Option ℕ) (to : ℕ) → IsFit a
+      → a.pc ≡ place k (front_of s) → Reaches site k s.exit next to → (next ≢ None → s.edges ≡ [] → s.exit ≡ exits.Behind)
+      → Tail next s.edges a to 8
   unfolding eased
-  weaker_tail edges a to few most less one = (weaker_route edges a to few most less one.0, one.1)
-
-  pub tail : (k : ℕ) (rest : List Item) (address : _) (number : ℕ) (y : Item)
-      → slice_get l.list k ≡ Some (it.Mark address number ∷ y ∷ it.EndMark ∷ rest) → (edges : List ℕ) (a : State)
-      (next : Option ℕ) (to : ℕ) → IsFit a → a.pc ≡ place k 3 → LeadsOn l p place k 3 edges next to
-      → Tail next edges a to 8
-  tail k rest address number y is edges a next to fit at leads = by leads
-    where
-      some_rest : (xs : List Item) → rest_from l k 3 ≡ Some xs → rest ≡ xs
-      some_rest xs e = let q : Some rest ≡ Some xs = sym (ap (option_map (drop 3)) is) ∙ e in cc
-
-      with_rest : (xs : List Item) → AreUnmarked xs → rest_from l k 3 ≡ Some xs → PieceFrom l k 3 xs
-      with_rest xs are e = rest_marked l k address number y xs are (is ∙ rw (some_rest xs e))
-
-      by : LeadsOn l p place k 3 edges next to → Tail next edges a to 8
-      by (inl (e, stands)) =
-          let r = with_rest (words_on l edges ++ []) (words_unmarked (flat_map l.codes edges) [] tt)
-          (rw (append-nil (words_on l edges)) e) in
-          let one = snippets_run next edges k 3 [] r a fit at in
-          rw (← stands) (weaker_tail edges a _ 0 8 (omega arith)
-          (one, λ there none. omega (arith, one.few, ap (operations_on g.snips) none)))
-      by (inr (some, on)) = (
-        weaker_route edges a to 4 8 (omega arith) (goes_on k 3 _ with_rest edges a next to fit (λ _. at) on),
-        λ there none. absurd (some there none),
+  tail k s is a next to fit at reaches alone =
+      let one = shape_runs k s is a next to fit at reaches in (
+        weaker_route s.edges a to (exit_most s.exit) 8 (omega (arith, exit_few s.exit)) one,
+        λ there none.
+            let few : exit_most s.exit ≡ 0 = ap exit_most (alone there none) in
+            omega (arith, one.few, few, ap (operations_on g.snips) none),
       )

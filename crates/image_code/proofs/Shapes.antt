@@ -1,148 +1,157 @@
--- A piece by its shape: what its Mark covers, if it has one, then the words of snippets, and then where control goes on;
--- and what holds of each shape: what may be placed, how much room it takes, and where its Mark stands.
-use Rattle.image_code.proofs.Common.{◌≡◌, ℕ, zero, suc, ◌+◌, ◌<◌, ◌≤◌, Bool, true, false, cond, Option, Some, None, List, [], ◌∷◌, ◌++◌, append-nil, length, map, refl, ap, sym, subst, ◌∙◌, arith, if◌then◌else◌, slice_get, slice_index, sum_by-cons, Words, address_of, word_at, Addr, decode_of, is_transfer, Node, Graph, IsNodeIn, node_number, Item, word_at-address, LeadsBelow, piece_words}
+-- What holds of each shape: what may be placed, how much room it takes, and where its Mark stands.
+use Rattle.image_code.proofs.Common.{◌≡◌, ℕ, zero, suc, ◌+◌, ◌<◌, ◌≤◌, Bool, true, false, cond, Option, Some, None, List, [], ◌∷◌, ◌++◌, append-nil, length, length-append, length-map, map, map-append, flat_map, refl, ap, sym, ◌∙◌, arith, if◌then◌else◌, slice_get, slice_index, sum_by-cons, Words, address_of, word_at, Addr, PieceNo, decode_of, is_transfer, Node, Graph, IsNodeIn, Item, word_at-address, LeadsBelow, Placement, piece_words, link, long_jump, resume, foreign, word_of, words_of, word_items, Exit, Head, OfWord, Shape, bare, exit_items, head_items, items_of, mark_items, marked}
 use Rattle.layout.specs.declared.items.Item.TheVariants as it
-use Rattle.layout.specs.Laid.{AreMarked, long_words}
-use Rattle.image_code.specs.Made.{jump_to}
+use Rattle.layout.specs.Laid.{AreMarked, BranchStands, Stands, branch_long, branch_short, long_words}
+use Rattle.image_code.specs.declared.shape.Exit.TheVariants as exits
+use Rattle.image_code.specs.declared.shape.Head.TheVariants as heads
+use Rattle.jump_code.specs.Choosing.{choose}
+use Rattle.image_code.specs.Made.{visit_of}
 use Rattle.image_code.specs.Fit.{is_mark, marks_in}
-use Rattle.image_code.proofs.Branches.{HeadOf, within_is}
+use Rattle.image_code.proofs.Branches.{within_is}
 
--- ---- shapes
-
--- words, or one item that leads to a piece
-pub data Stretch : Type 0 where
-  straight : List ℕ → Stretch
-  branch : ℕ → ℕ → Stretch
-  jump : ℕ → Stretch
-
-abbrev pub stretch_items : Stretch → List Item
-stretch_items (straight ws) = map it.Word ws
-stretch_items (branch cond to) = it.Branch cond (record { 0 = to }) ∷ []
-stretch_items (jump to) = jump_to to
-
-pub record Marked : Type 0 where
-  pub address : Addr
-  pub node : ℕ
-  pub covers : Stretch
-
-pub record Shape : Type 0 where
-  pub mark : Option Marked
-  pub code : List ℕ
-  pub exit : Stretch
-
-abbrev pub behind : Option Marked → List Item → List Item
-behind None rest = rest
-behind (Some m) rest = it.Mark m.address m.node ∷ (stretch_items m.covers ++ it.EndMark ∷ rest)
-
-abbrev pub items_of : Shape → List Item
-items_of s = behind s.mark (map it.Word s.code ++ stretch_items s.exit)
+-- ---- how much room a shape takes
 
 -- how many words and items there are at most, besides those of snippets
-abbrev pub stretch_size : Stretch → ℕ
-stretch_size (straight ws) = length ws
-stretch_size (branch cond to) = long_words (it.Branch cond (record { 0 = to }))
-stretch_size (jump to) = long_words (it.Jump (record { 0 = to }))
+abbrev pub head_size : Head → ℕ
+head_size (heads.Word word) = 1
+head_size (heads.Pair words) = length words
+head_size (heads.Branch cond to) = long_words (it.Branch cond to)
+head_size (heads.LookUp code rd) = length code + 2
+head_size (heads.SwitchJump rd code) = 2 + length code
 
-abbrev pub mark_size : Option Marked → ℕ
+abbrev pub mark_size : Option (OfWord × Head) → ℕ
 mark_size None = 0
-mark_size (Some m) = 2 + stretch_size m.covers
+mark_size (Some (visit, head)) = 2 + head_size head
 
+-- an exit takes four at most
 abbrev pub shape_size : Shape → ℕ
-shape_size s = mark_size s.mark + stretch_size s.exit
+shape_size s = mark_size s.mark + 4
 
-abbrev pub marks_of : Option Marked → ℕ
+abbrev pub marks_of : Option (OfWord × Head) → ℕ
 marks_of None = 0
 marks_of (Some m) = 1
 
+pub link_few : (rd address : ℕ) → length (link rd address) ≤ 2
+link_few zero address = omega arith
+link_few (suc rd) address = omega arith
+
+-- ---- what stands in a Mark
+
+-- words, or one branch
+pub data HeadIs (address : Addr) (head : Head) : Type 0 where
+  has_words : (ws : List ℕ) → head_items address head ≡ map it.Word ws → length ws ≤ head_size head → HeadIs address head
+  is_branch : (cond : ℕ) (to : PieceNo) → head ≡ heads.Branch cond to → HeadIs address head
+
+pub head_is : (address : Addr) (head : Head) → HeadIs address head
+head_is address (heads.Word word) = has_words (word ∷ []) refl (omega arith)
+head_is address (heads.Pair words) = has_words words refl (omega arith)
+head_is address (heads.Branch cond to) = is_branch cond to refl
+head_is address (heads.LookUp code rd) =
+    let its_link = words_of (link rd address.0) in
+    has_words (code ++ its_link) (sym (map-append it.Word code its_link))
+    (omega (arith, length-append code its_link, length-map (link rd address.0) word_of, link_few rd address.0))
+head_is address (heads.SwitchJump rd code) =
+    let its_link = words_of (link rd address.0) in
+    has_words (its_link ++ code) (sym (map-append it.Word its_link code))
+    (omega (arith, length-append its_link code, length-map (link rd address.0) word_of, link_few rd address.0))
+
+pub switch_some : (address : Addr) (rd distance : ℕ)
+    → 0 < length (head_items address (heads.SwitchJump rd (words_of (choose distance))))
+switch_some address rd distance =
+    omega (arith, length-append (word_items (link rd address.0)) (word_items (choose distance)))
+
+branch_room : (base : ℕ) (code : List ℕ) (cond to a b : ℕ) → BranchStands base code cond to a b → a < b
+branch_room base code cond to a b (branch_short d e r s) = omega arith
+branch_room base code cond to a b (branch_long e s r) = omega arith
+
+-- the first of some items takes words
+pub record HasFirst (base : ℕ) (p : Placement) (items : List Item) : Type 0 where
+  pub item : Item
+  pub rest : List Item
+  pub is : items ≡ item ∷ rest
+  pub room : (a b : ℕ) → Stands base p item a b → a < b
+
+pub first_of : (base : ℕ) (p : Placement) (address : Addr) (head : Head) → 0 < length (head_items address head)
+    → HasFirst base p (head_items address head)
+first_of base p address head some = by (head_is address head)
+  where
+    by : HeadIs address head → HasFirst base p (head_items address head)
+    by (has_words [] is many) = let none = ap length is in absurd (omega (arith, some, none))
+    by (has_words (w ∷ ws) is many) = record {
+      item = it.Word w;
+      rest = map it.Word ws;
+      is = is;
+      room = λ a b h. let e : b ≡ a + 4 = h.0 in omega arith;
+    }
+    by (is_branch cond to is) = record {
+      item = it.Branch cond to;
+      rest = [];
+      is = rw is refl;
+      room = λ a b h. branch_room base p.code cond (slice_index p.at to.0) a b h;
+    }
+
 -- ---- what a shape may be
 
--- what a Mark covers takes words
-abbrev pub IsSome : Stretch → Type 0
-IsSome (straight ws) = 0 < length ws
-IsSome (branch cond to) = Unit {0}
-IsSome (jump to) = ⊥
+-- it leads to one of so many pieces, in no more than four words
+abbrev pub HeadLeads : ℕ → Head → Type 0
+HeadLeads count (heads.Branch cond to) = to.0 < count
+HeadLeads count _ = Unit {0}
 
--- it leads to one of so many pieces
-abbrev pub Leads : ℕ → Stretch → Type 0
-Leads count (straight ws) = Unit {0}
-Leads count (branch cond to) = to < count
-Leads count (jump to) = to < count
+abbrev pub ExitLeads : ℕ → Exit → Type 0
+ExitLeads count (exits.Piece piece) = piece.0 < count
+ExitLeads count (exits.Saved code) = length code ≤ 4
+ExitLeads count _ = Unit {0}
 
 -- a word of the text at a node of the graph
 pub record IsAt (text : Words) (graph : Graph) (node : Node) (word : ℕ) : Type 0 where
   pub inside : IsNodeIn graph.blocks graph.opens node
   pub low : word < length text.words
 
-abbrev pub mark_at : Words → Graph → Node → ℕ → Stretch → Marked
-mark_at text graph node word covers = record {
-  address = record { 0 = address_of text word };
-  node = node_number graph node;
-  covers = covers;
-}
-
 -- A Mark stands for a word of the text, and covers that word itself, but for transfers.
-pub record IsVisit (text : Words) (graph : Graph) (m : Marked) : Type 0 where
+pub record IsVisit (text : Words) (graph : Graph) (visit : OfWord) (head : Head) : Type 0 where
   pub word : ℕ
   pub node : Node
   pub at : IsAt text graph node word
-  pub is : m ≡ mark_at text graph node word m.covers
-  pub some : IsSome m.covers
+  pub is : visit ≡ visit_of text graph node word
+  pub some : 0 < length (head_items visit.address head)
   pub says : is_transfer (decode_of (slice_index text.words word)) ≡ false
-      → m.covers ≡ straight (slice_index text.words word ∷ [])
+      → head ≡ heads.Word (slice_index text.words word)
 
-abbrev pub AreVisits : Words → Graph → ℕ → Option Marked → Type 0
+abbrev pub AreVisits : Words → Graph → ℕ → Option (OfWord × Head) → Type 0
 AreVisits text graph count None = Unit {0}
-AreVisits text graph count (Some m) = IsVisit text graph m × Leads count m.covers
+AreVisits text graph count (Some (visit, head)) = IsVisit text graph visit head × HeadLeads count head
 
-pub record IsShaped (text : Words) (graph : Graph) (count : ℕ) (items : List Item) : Type 0 where
-  pub shape : Shape
-  pub is : items ≡ items_of shape
-  pub visits : AreVisits text graph count shape.mark
-  pub leads : Leads count shape.exit
+pub record IsShaped (text : Words) (graph : Graph) (count : ℕ) (s : Shape) : Type 0 where
+  pub visits : AreVisits text graph count s.mark
+  pub leads : ExitLeads count s.exit
 
--- ---- how pieces are put together
+-- ---- how large shapes are
 
--- the way out of a piece
-pub record IsExit (count : ℕ) (items : List Item) : Type 0 where
-  pub exit : Stretch
-  pub is : items ≡ stretch_items exit
-  pub leads : Leads count exit
-  pub size : stretch_size exit ≤ 4
+-- a shape of so many Marks and such a size, besides so many words of snippets
+pub record IsMade (text : Words) (graph : Graph) (codes : ℕ → List ℕ) (count marks size most : ℕ) (s : Shape) : Type 0 where
+  pub shaped : IsShaped text graph count s
+  pub once : marks_of s.mark ≤ marks
+  pub large : shape_size s ≤ size
+  pub coded : length (flat_map codes s.edges) ≤ most
 
-pub exits_jump : {count : ℕ} (to : ℕ) → to < count → IsExit count (jump_to to)
-exits_jump to l = record { exit = jump to; is = refl; leads = l; size = omega arith }
-
-pub falls : {count : ℕ} → IsExit count []
-falls = record { exit = straight []; is = refl; leads = tt; size = omega arith }
-
-pub exits_by : {count : ℕ} (ws : List ℕ) → length ws ≤ 4 → IsExit count (map it.Word ws)
-exits_by ws l = record { exit = straight ws; is = refl; leads = tt; size = l }
-
--- a piece of so many Marks and such a size, besides so many words of snippets
-pub record IsMade (text : Words) (graph : Graph) (count marks size most : ℕ) (items : List Item) : Type 0 where
-  pub shaped : IsShaped text graph count items
-  pub once : marks_of shaped.shape.mark ≤ marks
-  pub large : shape_size shaped.shape ≤ size
-  pub coded : length shaped.shape.code ≤ most
-
-module _ {text : Words} {graph : Graph} {count size most : ℕ} (code : List ℕ) {rest : List Item}
-    (few : length code ≤ most) (out : IsExit count rest) where
-  pub made : {marks : ℕ} (m : Option Marked) → AreVisits text graph count m → 4 + mark_size m ≤ size
-      → marks_of m ≤ marks → IsMade text graph count marks size most (behind m (map it.Word code ++ rest))
-  made m visits l once = record {
-    shaped = record {
-      shape = record { mark = m; code = code; exit = out.exit };
-      is = ap (λ (xs : List Item). behind m (map it.Word code ++ xs)) out.is;
-      visits = visits;
-      leads = out.leads;
-    };
+module _ {text : Words} {graph : Graph} {codes : ℕ → List ℕ} {count size most marks : ℕ} (edges : List ℕ) {exit : Exit}
+    (few : length (flat_map codes edges) ≤ most) (out : ExitLeads count exit) where
+  pub made : (visit : OfWord) (head : Head) → IsVisit text graph visit head → HeadLeads count head
+      → 6 + head_size head ≤ size → 1 ≤ marks → IsMade text graph codes count marks size most (marked visit head edges exit)
+  made visit head is leads l once = record {
+    shaped = record { visits = (is, leads); leads = out };
     once = once;
-    large = omega (arith, out.size, l);
+    large = omega (arith, l);
     coded = few;
   }
 
-  pub bare : {marks : ℕ} → 4 ≤ size → IsMade text graph count marks size most (map it.Word code ++ rest)
-  bare l = made None tt (omega (arith, l)) (omega arith)
+  pub made_bare : 4 ≤ size → IsMade text graph codes count marks size most (bare edges exit)
+  made_bare l = record {
+    shaped = record { visits = tt; leads = out };
+    once = omega arith;
+    large = omega (arith, l);
+    coded = few;
+  }
 
 -- ---- what holds of each shape
 
@@ -158,13 +167,23 @@ none_counted (x ∷ items) none zero address node e =
 none_counted (x ∷ items) none (suc n) address node e =
     none_counted items (omega (arith, marks_more x items, none)) n address node e
 
-stretch_marked : (inside : Bool) (x : Stretch) (items : List Item) → AreMarked inside items
-    → AreMarked inside (stretch_items x ++ items)
-stretch_marked inside (straight []) items m = m
-stretch_marked true (straight (w ∷ ws)) items m = stretch_marked true (straight ws) items m
-stretch_marked false (straight (w ∷ ws)) items m = stretch_marked false (straight ws) items m
-stretch_marked true _ items m = m
-stretch_marked false _ items m = m
+words_marked : (inside : Bool) (ws : List ℕ) (items : List Item) → AreMarked inside items
+    → AreMarked inside (map it.Word ws ++ items)
+words_marked inside [] items m = m
+words_marked true (w ∷ ws) items m = words_marked true ws items m
+words_marked false (w ∷ ws) items m = words_marked false ws items m
+
+exit_marked : (exit : Exit) → AreMarked false (exit_items exit)
+exit_marked (exits.Saved code) = rw append-nil at (words_marked false code [] tt)
+exit_marked _ = tt
+
+head_marked : (address : Addr) (head : Head) (rest : List Item) → AreMarked true rest
+    → AreMarked true (head_items address head ++ rest)
+head_marked address head rest m = by (head_is address head)
+  where
+    by : HeadIs address head → AreMarked true (head_items address head ++ rest)
+    by (has_words ws is many) = rw is (words_marked true ws rest m)
+    by (is_branch cond to is) = rw is m
 
 -- at most so many words and items, and so many Marks; and where they lead
 pub record IsSized (count size most : ℕ) (items : List Item) : Type 0 where
@@ -188,92 +207,93 @@ module _ {count : ℕ} where
       by zero = leads
       by (suc n) = s.leads n
 
-  with_stretch : (x : Stretch) (items : List Item) {size other most : ℕ} → Leads count x → stretch_size x + size ≤ other
-      → IsSized count size most items → IsSized count other most (stretch_items x ++ items)
-  with_stretch (straight []) items leads l s = search arith
-  with_stretch (straight (w ∷ ws)) items {size = size} leads l s =
+  with_words : (ws : List ℕ) (items : List Item) {size other most : ℕ} → length ws + size ≤ other
+      → IsSized count size most items → IsSized count other most (map it.Word ws ++ items)
+  with_words [] items l s = search arith
+  with_words (w ∷ ws) items {size = size} l s =
       more (it.Word w) tt (omega (arith, l)) (omega (arith, l)) (omega arith)
-      (with_stretch (straight ws) items {other = length ws + size} tt (omega arith) s)
-  with_stretch (branch c to) items leads l s = more _ leads (omega (arith, l)) (omega (arith, l)) (omega arith) s
-  with_stretch (jump to) items leads l s = more _ leads (omega (arith, l)) (omega (arith, l)) (omega arith) s
+      (with_words ws items {other = length ws + size} (omega arith) s)
 
-  -- behind a Mark
-  covered : (m : Marked) (rest : List Item) {size : ℕ} → Leads count m.covers → IsSized count size 0 rest
-      → IsSized count (1 + stretch_size m.covers + size) 0 (stretch_items m.covers ++ it.EndMark ∷ rest)
-  covered m rest {size} leads s =
-      with_stretch m.covers (it.EndMark ∷ rest) {size = 1 + size} leads (omega arith)
-      (more it.EndMark tt (omega arith) (omega arith) (omega arith) s)
+  no_items : IsSized count 0 0 []
+  no_items = record { words = omega arith; few = omega arith; marks = omega arith; leads = λ n. tt }
 
-module _ {text : Words} {graph : Graph} {count : ℕ} {items : List Item} (p : IsShaped text graph count items) where
-  abbrev s : Shape
-  s = p.shape
+  some_words : (ws : List ℕ) {size : ℕ} → length ws ≤ size → IsSized count size 0 (map it.Word ws)
+  some_words ws {size} l = rw append-nil at (with_words ws [] {size = 0} {other = size} (omega (arith, l)) no_items)
 
+  exit_sized : (exit : Exit) → ExitLeads count exit → IsSized count 4 0 (exit_items exit)
+  exit_sized exits.Behind leads = some_words [] (omega arith)
+  exit_sized (exits.Piece piece) leads =
+      more (it.Jump piece) leads (omega arith) (omega arith) (omega arith) no_items
+  exit_sized (exits.Far to) leads = some_words (words_of (long_jump to.0)) (omega arith)
+  exit_sized exits.Found leads = some_words (words_of (resume 1)) (omega arith)
+  exit_sized exits.Foreign leads = some_words (words_of foreign) (omega arith)
+  exit_sized (exits.Saved code) leads = some_words code leads
+
+  head_sized : (address : Addr) (head : Head) (rest : List Item) {size : ℕ} → HeadLeads count head
+      → IsSized count size 0 rest → IsSized count (head_size head + size) 0 (head_items address head ++ rest)
+  head_sized address head rest {size} leads s = by (head_is address head)
+    where
+      by : HeadIs address head → IsSized count (head_size head + size) 0 (head_items address head ++ rest)
+      by (has_words ws is many) = rw is (with_words ws rest (omega (arith, many)) s)
+      by (is_branch cond to is) =
+          rw is (more (it.Branch cond to) (rw is at leads) (omega arith) (omega arith) (omega arith) s)
+
+  mark_sized : (text : Words) (graph : Graph) (mark : Option (OfWord × Head)) (rest : List Item) {size : ℕ}
+      → AreVisits text graph count mark → IsSized count size 0 rest
+      → IsSized count (mark_size mark + size) (marks_of mark) (mark_items mark rest)
+  mark_sized text graph None rest visits s = search arith
+  mark_sized text graph (Some (visit, head)) rest {size = size} visits s =
+      more (it.Mark visit.address visit.node) tt (omega arith) (omega arith) (omega arith)
+      (head_sized visit.address head (it.EndMark ∷ rest) {size = 1 + size} visits.1
+      (more it.EndMark tt (omega arith) (omega arith) (omega arith) s))
+
+module _ {text : Words} {graph : Graph} {count : ℕ} (codes : ℕ → List ℕ) (s : Shape) (p : IsShaped text graph count s) where
   abbrev tail : List Item
-  tail = map it.Word s.code ++ stretch_items s.exit
+  tail = map it.Word (flat_map codes s.edges) ++ exit_items s.exit
 
-  tail_sized : IsSized count (length s.code + stretch_size s.exit) 0 tail
-  tail_sized =
-      with_stretch (straight s.code) (stretch_items s.exit) {size = stretch_size s.exit} tt (omega arith) (rw append-nil at
-      (with_stretch s.exit [] {size = 0} {other = stretch_size s.exit} {most = 0} p.leads (omega arith)
-      (record { words = omega arith; few = omega arith; marks = omega arith; leads = λ n. tt })))
+  tail_sized : IsSized count (length (flat_map codes s.edges) + 4) 0 tail
+  tail_sized = with_words (flat_map codes s.edges) (exit_items s.exit) (omega arith) (exit_sized s.exit p.leads)
 
-  pub sized : IsSized count (shape_size s + length s.code) (marks_of s.mark) items
-  sized = subst (IsSized count (shape_size s + length s.code) (marks_of s.mark)) (sym p.is) (by s.mark p.visits)
+  pub sized : IsSized count (shape_size s + length (flat_map codes s.edges)) (marks_of s.mark) (items_of codes s)
+  sized = let is = mark_sized text graph s.mark tail p.visits tail_sized in search arith
+
+  pub well_marked : AreMarked false (items_of codes s)
+  well_marked = by s.mark (words_marked false (flat_map codes s.edges) (exit_items s.exit) (exit_marked s.exit))
     where
-      by : (m : Option Marked) → AreVisits text graph count m
-          → IsSized count (mark_size m + stretch_size s.exit + length s.code) (marks_of m) (behind m tail)
-      by None visits = let t = tail_sized in search arith
-      by (Some m) visits =
-          more (it.Mark m.address m.node) tt (omega arith) (omega arith) (omega arith) (covered m _ visits.1 tail_sized)
-
-  pub marked : AreMarked false items
-  marked =
-      rw p.is (by s.mark (stretch_marked false (straight s.code) (stretch_items s.exit)
-      (rw append-nil at (stretch_marked false s.exit [] tt))))
-    where
-      by : (m : Option Marked) → AreMarked false tail → AreMarked false (behind m tail)
+      by : (m : Option (OfWord × Head)) → AreMarked false tail → AreMarked false (mark_items m tail)
       by None h = h
-      by (Some m) h = stretch_marked true m.covers (it.EndMark ∷ tail) h
+      by (Some (visit, head)) h = head_marked visit.address head (it.EndMark ∷ tail) h
 
   -- its Mark is its first item
   pub record IsFirst (n : ℕ) (address : Addr) (node : ℕ) : Type 0 where
     pub first : n ≡ 0
-    pub covers : Stretch
-    pub is : items ≡ behind (Some (record { address = address; node = node; covers = covers })) tail
-    pub visit : IsVisit text graph (record { address = address; node = node; covers = covers })
+    pub head : Head
+    pub is : s.mark ≡ Some (record { address = address; node = node }, head)
+    pub visit : IsVisit text graph (record { address = address; node = node }) head
 
-  pub first_mark : (n : ℕ) (address : Addr) (node : ℕ) → slice_get items n ≡ Some (it.Mark address node)
+  pub first_mark : (n : ℕ) (address : Addr) (node : ℕ) → slice_get (items_of codes s) n ≡ Some (it.Mark address node)
       → IsFirst n address node
-  first_mark n address node e = by s.mark p.is p.visits n (rw p.is at e)
+  first_mark n address node e = by s.mark refl p.visits n e
     where
-      by : (m : Option Marked) → items ≡ behind m tail → AreVisits text graph count m → (n : ℕ)
-          → slice_get (behind m tail) n ≡ Some (it.Mark address node) → IsFirst n address node
+      by : (m : Option (OfWord × Head)) → s.mark ≡ m → AreVisits text graph count m → (n : ℕ)
+          → slice_get (mark_items m tail) n ≡ Some (it.Mark address node) → IsFirst n address node
       by None is visits n e = absurd (none_counted _ tail_sized.marks n address node e)
-      by (Some m) is visits zero e =
-          let same : m ≡ record { address = address; node = node; covers = m.covers } = cc in
-          record { first = refl; covers = m.covers; is = rw same at is; visit = rw same at visits.0 }
-      by (Some m) is visits (suc n) e =
-          absurd (none_counted _ (covered m _ visits.1 tail_sized).marks n address node e)
+      by (Some (visit, head)) is visits zero e =
+          let same : visit ≡ record { address = address; node = node } = cc in
+          record { first = refl; head = head; is = rw same at is; visit = rw same at visits.0 }
+      by (Some (visit, head)) is visits (suc n) e =
+          absurd (none_counted _ (head_sized visit.address head (it.EndMark ∷ tail)
+          {size = 1 + (length (flat_map codes s.edges) + 4)} visits.1
+          (more it.EndMark tt (omega arith) (omega arith) (omega arith) tail_sized)).marks n address node e)
 
   -- and it covers the word for which it stands
-  pub mark_says : (n : ℕ) (address : Addr) (node : ℕ) → slice_get items n ≡ Some (it.Mark address node)
+  pub mark_says : (n : ℕ) (address : Addr) (node : ℕ) → slice_get (items_of codes s) n ≡ Some (it.Mark address node)
       → (word : ℕ) → word_at text address.0 ≡ Some word
       → is_transfer (decode_of (slice_index text.words word)) ≡ false
-      → slice_get items (suc n) ≡ Some (it.Word (slice_index text.words word))
+      → slice_get (items_of codes s) (suc n) ≡ Some (it.Word (slice_index text.words word))
   mark_says n address node e word at plain =
       let f = first_mark n address node e in
-      let stands : address.0 ≡ address_of text f.visit.word = ap (λ (m : Marked). m.address.0) f.visit.is in
+      let stands : address.0 ≡ address_of text f.visit.word = ap (λ (v : OfWord). v.address.0) f.visit.is in
       let same : f.visit.word ≡ word =
       within_is (length text.words) f.visit.word word (sym (word_at-address text f.visit.word) ∙ rw stands at at) in
       rw (f.first, f.is, (rw same at f.visit.says) plain) refl
-
-  -- a Mark covers an item that takes words
-  pub first_taken : (m : Marked) → IsSome m.covers → HeadOf m.address m.node (behind (Some m) tail)
-  first_taken m some = by m.covers some
-    where
-      by : (x : Stretch) → IsSome x
-          → HeadOf m.address m.node (it.Mark m.address m.node ∷ (stretch_items x ++ it.EndMark ∷ tail))
-      by (straight []) some = absurd (omega (arith, some))
-      by (straight (w ∷ ws)) some = record { item = it.Word w; takes = tt; rest = _; is = refl }
-      by (branch c to) some = record { item = it.Branch c (record { 0 = to }); takes = tt; rest = _; is = refl }
-      by (jump to) some = absurd some

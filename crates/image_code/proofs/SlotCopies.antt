@@ -1,21 +1,20 @@
 -- The copies of slots' words: a transfer ends the run, behind a JMPL without Case edges its target is looked up, and
 -- else the copy goes on to where the edge leads.
-use Rattle.image_code.proofs.Common.{◌≡◌, ℕ, ◌%◌, ◌^◌, ◌<◌, inl, inr, Bool, true, false, Option, Some, None, List, [], ◌∷◌, ◌++◌, drop, length, refl, ap, sym, ◌∙◌, subst, arith, ◌==◌, if◌then◌else◌, slice_get, slice_index, cases_Bool, eqb-true, false≢true, option_map, Words, address_of, word_at, Addr, decode_of, NoSlot, State, is_transfer, EdgeKind, Blocks, blocks_of, word_at-some, Node, X, Graph, has_cases, lands, node_after, point_of, slot_left, same_kind, IsOnItsWay, lands_as, same_kinds, found_in, page_word, long_jump_piece, Item, slice_get_within, word_items, resume, landed, last_in}
+use Rattle.image_code.proofs.Common.{◌≡◌, ◌≢◌, ℕ, ◌%◌, ◌^◌, ◌<◌, inl, inr, Bool, true, false, Option, Some, None, List, [], ◌∷◌, length, refl, ap, sym, ◌∙◌, subst, arith, ◌==◌, if◌then◌else◌, slice_get, slice_index, cases_Bool, eqb-true, false≢true, Words, address_of, word_at, Addr, decode_of, NoSlot, State, is_transfer, EdgeKind, Blocks, blocks_of, word_at-some, Node, X, Graph, has_cases, lands, node_after, point_of, slot_left, same_kind, IsOnItsWay, lands_as, same_kinds, found_in, page_word, landed, last_in, Exit, Head, OfWord, Shape, goes_to, leaves_to, marked}
 use Rattle.cfg_blocks.specs.declared.EdgeKind.TheVariants as kinds
-use Rattle.layout.specs.declared.items.Item.TheVariants as it
+use Rattle.image_code.specs.declared.shape.Exit.TheVariants as exits
+use Rattle.image_code.specs.declared.shape.Head.TheVariants as heads
 use Rattle.cfg_walk.specs.Walk.{landing_at as edge_landing}
 use Rattle.cfg_walk.specs.Matches.{Begins, way_address}
 use Rattle.cfg_walk.proofs.Nodes.{home_lands, lands_in}
 use Rattle.cfg_walk.proofs.Slots.{jump_lands}
 use Rattle.code_runs.proofs.StoredWords.{memory_word-range}
-use Rattle.image_code.specs.Simulates.{EditSetup, does_at, gone_at, graph_in, number_in}
+use Rattle.image_code.specs.Simulates.{EditSetup, does_at, gone_at, graph_in}
 use Rattle.image_code.specs.Store.{operations_on}
 use Rattle.image_code.specs.Images.{HasNoCases}
 use Rattle.image_code.proofs.Points.{AtVisitIn, entered_at, visited_at}
-use Rattle.image_code.proofs.PointShapes.{IsMarked, IsMarkedWord, IsJumpTarget, LeadsOn, words_on, Lands, IsCase, plain, couple, landing as jumps_slot}
-use Rattle.image_code.specs.Cases.{plain_piece}
-use Rattle.image_code.specs.Couple.{couple_piece}
-use Rattle.image_code.specs.Made.{couple_word, first_word, goes_on, jump_to, goes_behind}
+use Rattle.image_code.proofs.PointShapes.{IsMarked, IsMarkedWord, IsJumpTarget, Reaches, Lands, IsCase, plain, couple, landing as jumps_slot}
+use Rattle.image_code.specs.Made.{couple_word, first_word, goes_on, goes_behind, visit_of}
 use Rattle.image_code.specs.Numbered.{enter_number, foreign_number, landing_number}
 use Rattle.image_code.proofs.CaseTables.{IsKnown, table_of}
 use Rattle.image_code.proofs.EdgePieces.{IsAlong, along_far, cut_in}
@@ -23,18 +22,19 @@ use Rattle.image_code.proofs.Heads.{HasCopy, by_cases, case_copy, copy_visited, 
 use Rattle.image_code.proofs.ImageNumbers.{jump_of}
 use Rattle.image_code.proofs.ImagePieces.{enter_at, stands_at}
 use Rattle.image_code.proofs.Listed.{foreign_at, landing_at}
-use Rattle.image_code.proofs.Visited.{AtSlot, GoesThere, goes_on_there, goes_straight, site, case_kind, edge_is, entered_word, kind_is, l, marked_at, slot_gone, target, way_in, way_now, word_is}
+use Rattle.image_code.proofs.Visited.{AtSlot, GoesThere, goes_on_there, goes_straight, site, case_kind, edge_is, entered_word, kind_is, marked_at, shapes, slot_gone, target, way_in, way_now, word_is}
+use Rattle.image_code.proofs.Routes.{shape_within}
 use Rattle.image_code.specs.Cost.{is_out}
 
 -- ---- where control goes on at a node
 
 goes_begins : (text : Words) (graph : Graph) (node : Node) (address word : ℕ) → Begins graph node (Some word)
-    → goes_on text graph node (first_word graph node) address ≡ jump_to (enter_number text graph node word)
+    → goes_on text graph node (first_word graph node) address ≡ goes_to (enter_number text graph node word)
 goes_begins text graph X address word h = absurd h
-goes_begins text graph node address word h = ap (λ (n : ℕ). jump_to (enter_number text graph node n)) h
+goes_begins text graph node address word h = ap (λ (n : ℕ). goes_to (enter_number text graph node n)) h
 
 goes_out : (text : Words) (graph : Graph) (node : Node) (word address : ℕ) → Begins graph node None
-    → goes_on text graph node word address ≡ long_jump_piece address
+    → goes_on text graph node word address ≡ leaves_to address
 goes_out text graph X word address h = refl
 goes_out text graph node word address h = absurd h
 
@@ -63,13 +63,13 @@ no_cases g is node none k table e same =
 
 module _ (at_slot : AtSlot) (t : State) (here : AtVisitIn (site at_slot.edit) at_slot.node at_slot.x t)
     (piece to : ℕ) (copy : HasCopy at_slot piece to) where
-  open at_slot use {in_slot, edit, node, x, not, way, slot, at, edit.{g, codes, is, p, place, f, tables}}
+  open at_slot use {in_slot, edit, node, x, not, way, slot, at, edit.{g, is, p, f, tables}}
 
   abbrev b : Blocks
   b = blocks_of g.text g.given
 
-  abbrev address : Addr
-  address = record { 0 = address_of g.text slot }
+  abbrev visited : OfWord
+  visited = visit_of g.text (graph_in g) node slot
 
   abbrev word : ℕ
   word = slice_index g.text.words slot
@@ -78,38 +78,34 @@ module _ (at_slot : AtSlot) (t : State) (here : AtVisitIn (site at_slot.edit) at
   abbrev entry_after : State → ℕ
   entry_after v = entered_at (site edit) (node_after (graph_in g) node (gone_at g node x v)) (point_of v)
 
-  -- the snippet of the edge
-  abbrev code : List Item
-  code = words_on (l edit) (way.number ∷ [])
-
-  abbrev copy_by : Bool → List Item
+  abbrev copy_by : Bool → Shape
   copy_by transfer =
-      if transfer then couple_piece address (number_in g node) couple_word []
-      else plain_piece address (number_in g node) word (code ++ goes_behind g.text (graph_in g) way.edge to)
+      if transfer then marked visited (heads.Pair (couple_word ∷ couple_word ∷ [])) [] exits.Behind
+      else marked visited (heads.Word word) (way.number ∷ []) (goes_behind g.text (graph_in g) way.edge to)
 
   its_edge : IsAlong g is f.table.base f.cases.base node (way_now edit node x) way.number way.edge
   its_edge = edge_is in_slot
 
-  made : (b : Bool) → is_transfer (decode_of word) ≡ b → slice_get (l edit).list piece ≡ Some (copy_by b)
-  made b e = copy.items ∙ rw e
+  made : (b : Bool) → is_transfer (decode_of word) ≡ b → slice_get (shapes edit) piece ≡ Some (copy_by b)
+  made b e = copy.shape ∙ rw e
 
   stands : visited_at (site edit) node x ≡ slice_index p.at piece
   stands = copy_visited at_slot piece to copy
 
   -- ---- a word that is no transfer
 
-  abbrev at_copy : (behind : Addr → ℕ → List Item)
-      → slice_get (l edit).list piece ≡ Some (it.Mark address (number_in g node) ∷ behind address word)
-      → IsMarked (site edit) node x behind
+  abbrev at_copy : (head : Addr → ℕ → Head) (edges : List ℕ) (exit : Exit)
+      → slice_get (shapes edit) piece ≡ Some (marked visited (head (record { 0 = address_of g.text slot }) word) edges exit)
+      → IsMarked (site edit) node x head edges exit
   at_copy = marked_at edit node x slot at piece stands
 
   module _ (straight : is_transfer (decode_of word) ≡ false) where
     -- where the edge leads on: out of the text, or to the word's image at the edge's node
-    abbrev on_there : List Item
+    abbrev on_there : Exit
     on_there = goes_on g.text (graph_in g) way.edge.to to (way_address g.text (graph_in g) way.edge.from way.edge.kind)
 
-    past : (out : Bool) → same_kind way.edge.kind kinds.Out ≡ out → slice_get (l edit).list piece
-        ≡ Some (plain_piece address (number_in g node) word (code ++ (if out then word_items (resume 1) else on_there)))
+    past : (out : Bool) → same_kind way.edge.kind kinds.Out ≡ out → slice_get (shapes edit) piece
+        ≡ Some (marked visited (heads.Word word) (way.number ∷ []) (if out then exits.Found else on_there))
     past out e = made false straight ∙ rw e
 
     went : (v : State) → does_at g x t ≡ v → v.ending ≡ None → (v.pc ≡ x.npc) × (v.slot ≡ NoSlot)
@@ -127,32 +123,33 @@ module _ (at_slot : AtSlot) (t : State) (here : AtVisitIn (site at_slot.edit) at
 
     -- ---- the edge leads on to where the machine goes
 
-    abbrev marked : (rest : List Item)
-        → slice_get (l edit).list piece ≡ Some (plain_piece address (number_in g node) word rest)
-        → IsMarkedWord (site edit) node x rest
-    marked rest items = record { marked = at_copy _ items; straight = straight }
+    abbrev its_mark : (exit : Exit)
+        → slice_get (shapes edit) piece ≡ Some (marked visited (heads.Word word) (way.number ∷ []) exit)
+        → IsMarkedWord (site edit) node x (way.number ∷ []) exit
+    its_mark exit shape =
+        record { mark = at_copy (λ _ word. heads.Word word) (way.number ∷ []) exit shape; straight = straight }
 
     module _ (other : same_kind way.edge.kind kinds.Out ≡ false)
         (ends : GoesThere edit way.edge.to x.npc on_there) where
-      items : slice_get (l edit).list piece ≡ Some (plain_piece address (number_in g node) word (code ++ on_there))
-      items = past false other
-
       goes : (v : State) → does_at g x t ≡ v → v.ending ≡ None
-          → LeadsOn (l edit) p place piece 3 (gone_at g node x v) (word_at g.text v.pc) (entry_after v)
+          → (gone_at g node x v ≡ way.number ∷ []) × (Reaches (site edit) piece on_there (word_at g.text v.pc) (entry_after v)
+          × (word_at g.text v.pc ≢ None → way.number ∷ [] ≡ [] → on_there ≡ exits.Behind))
       goes v e live =
           let w = went v e live in
-          rw (gone_along v w.0 w.1 live, not_landed g.text (graph_in g) way.edge.kind x.npc other, way.is)
-          (inr (
-            (λ _ e. absurd (cc)),
-            goes_on_there edit way.edge.to (point_of v) (way.number ∷ []) _ on_there w.1
-                (subst (λ pc. GoesThere edit way.edge.to pc on_there) (sym w.0) ends)
-                (ap (option_map (drop 3)) items),
-          ))
+          rw (gone_along v w.0 w.1 live, not_landed g.text (graph_in g) way.edge.kind x.npc other, way.is) (
+            refl,
+            (
+              goes_on_there edit way.edge.to (point_of v) piece on_there w.1
+                  (subst (λ pc. GoesThere edit way.edge.to pc on_there) (sym w.0) ends),
+              λ _ e. absurd (cc),
+            ),
+          )
 
       plain_case : IsCase (site edit) node x t
       plain_case = plain (record {
-        rest = code ++ on_there;
-        marked = marked _ items;
+        edges = way.number ∷ [];
+        exit = on_there;
+        mark = its_mark on_there (past false other);
         leads = λ live. goes (does_at g x t) refl live;
       })
 
@@ -192,13 +189,13 @@ module _ (at_slot : AtSlot) (t : State) (here : AtVisitIn (site at_slot.edit) at
       lands_at_it : way.edge.to ≡ lands (graph_in g) (Some to)
       lands_at_it = way.lands_at out ∙ rw (cased, goes_there)
 
-      on_case : on_there ≡ jump_to (enter_number g.text (graph_in g) way.edge.to to)
+      on_case : on_there ≡ goes_to (enter_number g.text (graph_in g) way.edge.to to)
       on_case =
           let a = way_address g.text (graph_in g) way.edge.from way.edge.kind in
           let within = (word_at-some g.text x.npc to goes_there).within in
           rw lands_at_it
           (lands_as b g.switches to (omega (arith, within, (cut_in g is f.table.base f.cases.base).words))
-          (λ (n : Node). goes_on g.text (graph_in g) n to a ≡ jump_to (enter_number g.text (graph_in g) n to))
+          (λ (n : Node). goes_on g.text (graph_in g) n to a ≡ goes_to (enter_number g.text (graph_in g) n to))
           (λ _. refl) (λ _. refl))
 
       along_case : IsCase (site edit) node x t
@@ -247,12 +244,12 @@ module _ (at_slot : AtSlot) (t : State) (here : AtVisitIn (site at_slot.edit) at
               → Lands (site edit) (landed g.text (graph_in g) kinds.Out x.npc) x.npc
               (entered_at (site edit) after (point_of v))
           by None none =
-              let there = foreign_at g.text b g.switches is.cased f.table.base f.cases.base codes in
+              let there = foreign_at g.text b g.switches is.cased f.table.base f.cases.base in
               inr (
                 landed_out g.text (graph_in g) x.npc None none,
                 (
                   record { 0 = foreign_number g.text (graph_in g) },
-                  slice_get_within (l edit).list _ _ there,
+                  shape_within (site edit) _ _ there,
                   tables.others x.npc target_in_page.0 target_in_page.1 none,
                   there,
                   none,
@@ -262,21 +259,21 @@ module _ (at_slot : AtSlot) (t : State) (here : AtVisitIn (site at_slot.edit) at
             | inl e ↦
                 inl (
                   record { 0 = entry },
-                  slice_get_within (l edit).list entry _ image_there.1,
+                  shape_within (site edit) entry _ image_there.1,
                   led true e,
                   inr (rw (landed_out g.text (graph_in g) x.npc (Some to) some) (eqb-true _ _ e), visit),
                 )
             | inr e ↦
-                let landing_there = landing_at g.text b g.switches is.cased f.table.base f.cases.base codes to within in
+                let landing_there = landing_at g.text b g.switches is.cased f.table.base f.cases.base to within in
                 inl (
                   record { 0 = landing_number g.text (graph_in g) to },
-                  slice_get_within (l edit).list _ _ landing_there,
+                  shape_within (site edit) _ _ landing_there,
                   led false e,
-                  inl (inr (inl (
-                    record { 0 = entry },
+                  inl (inr (
+                    goes_to entry,
                     landing_there ∙ rw (landed_out g.text (graph_in g) x.npc (Some to) some),
                     visit,
-                  ))),
+                  )),
                 )
           ]
             where
@@ -286,11 +283,11 @@ module _ (at_slot : AtSlot) (t : State) (here : AtVisitIn (site at_slot.edit) at
               entry : ℕ
               entry = enter_number g.text (graph_in g) (lands (graph_in g) (Some to)) to
 
-              image_there : (xs : List Item) × (slice_get (l edit).list entry ≡ Some xs)
+              image_there : (s : Shape) × (slice_get (shapes edit) entry ≡ Some s)
               image_there =
                   let some_blocks = (cut_in g is f.table.base f.cases.base).firsts.some in
-                  enter_at g is f.table.base f.cases.base codes (lands (graph_in g) (Some to)) to within
-                  (stands_at g is f.table.base f.cases.base codes (lands (graph_in g) (Some to)) to within
+                  enter_at g is f.table.base f.cases.base (lands (graph_in g) (Some to)) to within
+                  (stands_at g is f.table.base f.cases.base (lands (graph_in g) (Some to)) to within
                   (home_lands b g.switches (Some to)) (lands_in b g.switches some_blocks (Some to)))
 
               led : (b : Bool) → (operations_on g.snips (landing_of (graph_in g) (Some to)) == 0) ≡ b
@@ -310,14 +307,14 @@ module _ (at_slot : AtSlot) (t : State) (here : AtVisitIn (site at_slot.edit) at
         outward = ap is_out way.is ∙ edge_out;
         landing = lands_on;
         completes = λ live. let w = went (does_at g x t) refl live in gone_along (does_at g x t) w.0 w.1 live ∙ rw kind_out;
-        marked = marked _ (past true edge_out);
+        mark = its_mark exits.Found (past true edge_out);
         lands = λ live. landed_at (does_at g x t) refl live;
       })
 
   couple_case : is_transfer (decode_of word) ≡ true → IsCase (site edit) node x t
   couple_case e = couple (record {
     slot = not;
-    marked = at_copy _ (made true e);
+    mark = at_copy (λ _ _. heads.Pair (couple_word ∷ couple_word ∷ [])) [] exits.Behind (made true e);
     transfer = e;
   })
 

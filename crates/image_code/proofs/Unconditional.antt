@@ -1,10 +1,9 @@
 -- A nop and then the way.
 use Rattle.image_code.proofs.Common.{◌≡◌, ℕ, ◌+◌, Bool, [], ◌∷◌, refl, ap, ◌∙◌, arith, Instr, wrapped, NoSlot, State, act, puts_by, run_puts, is_transfer, live_puts, hopped, count_stores, step_is, no_stores, leads_one, stores_none, IsPageWord, nop}
-use Rattle.layout.specs.declared.items.Item.TheVariants as it
-use Rattle.image_code.specs.Simulates.{does_at, gone_at, number_in}
+use Rattle.image_code.specs.Simulates.{does_at, gone_at}
 use Rattle.image_code.proofs.Points.{StepsFrom, Visit}
 use Rattle.image_code.proofs.PointShapes.{next_entry, word_ahead, IsUnconditionalBranch}
-use Rattle.image_code.proofs.Routes.{jump_then, rest_marked}
+use Rattle.image_code.proofs.Routes.{jump_then}
 use Rattle.image_code.proofs.BranchMoves.{branch_moves}
 use Rattle.image_code.proofs.Memories.{fetch_is}
 use Rattle.image_code.proofs.Marked.{AtWords, at_words}
@@ -15,10 +14,10 @@ use Rattle.image_code.proofs.Branches.{nop_says}
 
 module _ (visit : Visit)
     (c : IsUnconditionalBranch visit.site visit.node visit.x visit.t) where
-  open visit use {site, node, x, t, here, site.{g, l}}
+  open visit use {site, node, x, t, here, site.{g}}
 
   there : AtWords site node x t c.piece 1 (nop_word ∷ [])
-  there = at_words visit _ c.marked (it.Jump c.way ∷ []) (nop_word ∷ []) refl
+  there = at_words visit _ _ _ c.mark (nop_word ∷ []) refl
 
   -- behind the nop
   abbrev mid : State
@@ -52,9 +51,7 @@ module _ (visit : Visit)
       (gone_last site node x (does_at g x t))
       (record {
         moves = record {
-          word = c.word;
-          is_word = c.is_word;
-          transfer = ap is_transfer c.says;
+          transfer = (c.word, c.is_word, ap is_transfer c.says);
           path = leads_one (OnWay visit) t mid (step_is t nop_word here.live there.words.0 ∙ ap (act t) nop_says ∙ idle_acts);
           some = omega arith;
           few = omega arith;
@@ -70,6 +67,5 @@ module _ (visit : Visit)
         target_in_page = λ a b _. absurd (c.never a b);
       })
       (λ fit.
-      jump_then site c.piece 3 c.way
-      (rest_marked l c.piece c.address (number_in g node) (it.Word nop_word) (it.Jump c.way ∷ []) (tt, tt) c.items)
-      edges mid (word_ahead g x t) (next_entry site node x t) fit (omega (arith, npc, there.behind)) c.leads)
+      jump_then site c.piece _ _ c.way c.shape edges mid (word_ahead g x t) (next_entry site node x t) fit
+      (omega (arith, npc, there.behind)) c.leads)

@@ -1,21 +1,20 @@
 -- Where the points of a text are visited, and what stands there.
-use Rattle.image_code.proofs.Common.{◌≡◌, ◌≢◌, ℕ, ◌+◌, ◌-◌, ◌%◌, ◌^◌, ◌<◌, inl, inr, Bool, true, false, Option, Some, None, List, [], ◌∷◌, suc, length, refl, ap, sym, ◌∙◌, subst, arith, ◌==◌, if◌then◌else◌, slice_get, slice_index, list_any, option_map, cond_both, eqb-true, false≢true, lt-ltb, address_of, word_at, Instr, decode_of, Slot, NoSlot, State, EdgeKind, Blocks, blocks_of, word_at-some, Edge, Node, Block, home_of, IsNodeIn, Open, targets_in, has_cases, lands, node_of, Point, WayOut, edge_along, instr_at, left_by, slot_left, way_of, same_kind, IsOnItsWay, MatchesBy, block, same_kinds, Placement, Addr, Item, slice_get_within, IsCut, holding_of, node_is, Carried, IsSlotIn, IsTarget, word_at-address, is_transfer, long_jump_piece, ◌++◌, act, on_word, goes_act, ◌⊎◌}
+use Rattle.image_code.proofs.Common.{◌≡◌, ◌≢◌, ℕ, ◌+◌, ◌-◌, ◌%◌, ◌^◌, ◌<◌, inl, inr, Bool, true, false, Option, Some, None, List, [], ◌∷◌, suc, length, refl, ap, sym, ◌∙◌, subst, arith, ◌==◌, if◌then◌else◌, slice_get, slice_index, list_any, option_map, cond_both, eqb-true, false≢true, lt-ltb, address_of, word_at, Instr, decode_of, Slot, NoSlot, State, EdgeKind, Blocks, blocks_of, word_at-some, Edge, Node, Block, home_of, IsNodeIn, Open, targets_in, has_cases, lands, node_of, Point, WayOut, edge_along, instr_at, left_by, slot_left, way_of, same_kind, IsOnItsWay, MatchesBy, block, same_kinds, Placement, Addr, IsCut, holding_of, node_is, Carried, IsSlotIn, IsTarget, word_at-address, is_transfer, act, on_word, goes_act, ◌⊎◌, Exit, Head, Shape, goes_to, leaves_to, marked}
 use Rattle.cfg_blocks.specs.declared.EdgeKind.TheVariants as kinds
-use Rattle.layout.specs.declared.items.Item.TheVariants as it
 use Rattle.cfg_normal.specs.declared.Slot.TheVariants as carried
 use Rattle.std.proofs.lemmas.Bool.{or_cases}
 use Rattle.std.proofs.lemmas.List.Folds.{list_any-append}
 use Rattle.cfg_walk.specs.Walk.{by_kind, way_to}
 use Rattle.cfg_walk.specs.Matches.{IsCarried}
 use Rattle.addr_translate.specs.Lookup.{IsTable}
-use Rattle.image_code.specs.Simulates.{EditSetup, gone_at, graph_in, number_in, word_of, at_point, does_at}
+use Rattle.image_code.specs.Simulates.{EditSetup, gone_at, graph_in, word_of, at_point, does_at}
 use Rattle.image_code.specs.Images.{EditorData, IsPlaced, Pieces, along_first, place_by, slot_piece}
 use Rattle.image_code.proofs.Points.{Site, entered_at, visited_at}
-use Rattle.image_code.proofs.PointShapes.{GoesOn, IsJumpTarget, IsMarked, LeadsTo, words_on}
-use Rattle.image_code.specs.Made.{AreCasesFor, IsOffNoted, IsTableFor, edit_pieces, first_way, first_word, image_by, jumps_at, way_by, way_out, jump_to}
+use Rattle.image_code.proofs.PointShapes.{IsJumpTarget, IsMarked, LeadsTo, Reaches}
+use Rattle.image_code.specs.Made.{AreCasesFor, IsOffNoted, IsTableFor, edit_pieces, first_way, first_word, image_by, jumps_at, shape_list, visit_of, way_by, way_out}
 use Rattle.image_code.specs.Numbered.{along_case, along_number, case_piece, enter_number, image_number, jump_number, way_piece}
 use Rattle.image_code.proofs.CaseTables.{IsKnown}
-use Rattle.image_code.proofs.EdgePieces.{IsAlong, along, by_case, cut_in, items_along, items_case, slot_in}
+use Rattle.image_code.proofs.EdgePieces.{IsAlong, along, by_case, cut_in, shape_along, shape_case, slot_in}
 use Rattle.image_code.proofs.Positions.{placed}
 use Rattle.image_code.proofs.Branches.{IsTransfersWay, way_is_own, within_is}
 use Rattle.image_code.proofs.ImageNumbers.{HasImage, jump_numbered, open_is}
@@ -138,8 +137,21 @@ module _ (edit : PlacedEdit) where
   abbrev pub l : Pieces
   l = edit_pieces g f codes
 
+  abbrev pub shapes : List Shape
+  shapes = shape_list g.text (graph_in g) f.table.base f.cases.base
+
   abbrev pub site : Site
-  site = record { g = g; l = l; base = base; p = p; place = place; f = f; placed = edit.placed }
+  site = record {
+    g = g;
+    l = l;
+    shapes = shapes;
+    made = refl;
+    base = base;
+    p = p;
+    place = place;
+    f = f;
+    placed = edit.placed;
+  }
 
   -- ---- where a machine stands that visits a point, or enters it
 
@@ -188,35 +200,31 @@ module _ (edit : PlacedEdit) where
 
   -- a piece that is visited begins with the Mark of its word
   abbrev pub marked_at : (node : Node) (x : Point) (word : ℕ) → word_at g.text x.pc ≡ Some word → (piece : ℕ)
-      → visited_at site node x ≡ slice_index p.at piece → (behind : Addr → ℕ → List Item)
-      → slice_get l.list piece ≡ Some (it.Mark (record { 0 = address_of g.text word }) (number_in g node)
-      ∷ behind (record { 0 = address_of g.text word }) (slice_index g.text.words word))
-      → IsMarked site node x behind
-  marked_at node x word at piece here behind items = record {
+      → visited_at site node x ≡ slice_index p.at piece → (head : Addr → ℕ → Head) (edges : List ℕ) (exit : Exit)
+      → slice_get shapes piece ≡ Some (marked (visit_of g.text (graph_in g) node word)
+      (head (record { 0 = address_of g.text word }) (slice_index g.text.words word)) edges exit)
+      → IsMarked site node x head edges exit
+  marked_at node x word at piece here head edges exit shape = record {
     piece = piece;
-    within = slice_get_within l.list _ _ items;
     here = here;
     address = record { 0 = address_of g.text word };
     original = sym (word_at-some g.text x.pc word at).is;
     word = slice_index g.text.words word;
     is_word = word_is g x word at;
-    items = items;
+    shape = shape;
   }
 
-  -- where items lead that go on at an address, at a node
-  abbrev pub GoesThere : Node → ℕ → List Item → Type 0
-  GoesThere node pc items =
-      ((word_at g.text pc ≡ None) × IsJumpTarget pc × (items ≡ long_jump_piece pc))
+  -- where an exit leads that goes on at an address, at a node
+  abbrev pub GoesThere : Node → ℕ → Exit → Type 0
+  GoesThere node pc exit =
+      ((word_at g.text pc ≡ None) × IsJumpTarget pc × (exit ≡ leaves_to pc))
       ⊎ ((word : ℕ) × (word_at g.text pc ≡ Some word)
-      × (items ≡ jump_to (enter_number g.text (graph_in g) node word)))
+      × (exit ≡ goes_to (enter_number g.text (graph_in g) node word)))
 
-  pub goes_on_there : (node : Node) (x : Point) (edges : List ℕ) (items : Option (List Item)) (rest : List Item)
-      → x.slot ≡ NoSlot → GoesThere node x.pc rest → items ≡ Some (words_on l edges ++ rest)
-      → GoesOn l p items edges (word_at g.text x.pc) (entered_at site node x)
-  goes_on_there node x edges items rest slot (inl (none, far, is)) stands =
-      rw (entered_none node x none slot) (inr (none, far, rw is at stands))
-  goes_on_there node x edges items rest slot (inr (word, some, is)) stands =
-      inl (record { 0 = enter_number g.text (graph_in g) node word }, rw is at stands, sym (entered_word node x word some slot))
+  pub goes_on_there : (node : Node) (x : Point) (k : ℕ) (exit : Exit) → x.slot ≡ NoSlot → GoesThere node x.pc exit
+      → Reaches site k exit (word_at g.text x.pc) (entered_at site node x)
+  goes_on_there node x k exit slot (inl (none, far, is)) = rw (is, entered_none node x none slot) (none, far, refl)
+  goes_on_there node x k exit slot (inr (word, some, is)) = rw is (sym (entered_word node x word some slot))
 
   -- outside the words' images control comes to the visit itself
   pub enters_itself : (node : Node) (x : Point)
@@ -254,7 +262,7 @@ module _ (edit : PlacedEdit) where
         cut = cut;
         low = low;
         home = held_there ∙ node_is b word low;
-        has = stands_at g is f.table.base f.cases.base codes node word inside held_there there;
+        has = stands_at g is f.table.base f.cases.base node word inside held_there there;
       }
 
   -- ---- in a slot
@@ -377,12 +385,11 @@ module _ (in_slot : InSlot) where
     pub plain_piece_is : slot_piece g (l edit) node x ≡ length g.text.words + way.number
     plain_piece_is = piece_along ∙ rw (kind_is, own.caseless)
 
-    pub plain_items : (to : Carried) → way.edge.slot ≡ to
-        → slice_get (l edit).list (length g.text.words + way.number)
-        ≡ Some (way_by g.text (graph_in g) f.table.base codes way.number way.edge
-        (first_word (graph_in g) way.edge.to) to)
-    plain_items to e =
-        items_along g is f.table.base f.cases.base codes node (way_now edit node x) way.number way.edge edge_is
+    pub plain_shape : (to : Carried) → way.edge.slot ≡ to
+        → slice_get (shapes edit) (length g.text.words + way.number)
+        ≡ Some (way_by g.text (graph_in g) f.table.base way.number way.edge (first_word (graph_in g) way.edge.to) to)
+    plain_shape to e =
+        shape_along g is f.table.base f.cases.base node (way_now edit node x) way.number way.edge edge_is
         (subst IsTransfersWay (sym (ap (λ (w : WayOut). w.kind) way_is)) own) to e
 
   -- ---- a Case edge
@@ -440,11 +447,11 @@ module _ (in_slot : InSlot) where
         ∙ open_is g.text blocks g.switches (case_piece g.text (graph_in g)) target.k target.o
         (jump_number g.text (graph_in g) target.o.block) target.word target.numbered target.among
 
-    pub case_items : (to : Carried) → way.edge.slot ≡ to
-        → slice_get (l edit).list (case_piece g.text (graph_in g) target.k target.o target.word)
-        ≡ Some (way_by g.text (graph_in g) f.table.base codes way.number way.edge target.word to)
-    case_items to e =
-        items_case g is f.table.base f.cases.base codes target.k target.o target.among target.entry target.word
+    pub case_shape : (to : Carried) → way.edge.slot ≡ to
+        → slice_get (shapes edit) (case_piece g.text (graph_in g) target.k target.o target.word)
+        ≡ Some (way_by g.text (graph_in g) f.table.base way.number way.edge target.word to)
+    case_shape to e =
+        shape_case g is f.table.base f.cases.base target.k target.o target.among target.entry target.word
         target.at way.number way.edge
         (record {
           only = ap (λ (n : Node). edge_along (graph_in g) n
@@ -467,7 +474,7 @@ module _ (in_slot : InSlot) where
   -- the way of the edge on which a slot is run leads to where that is visited
   pub enters : (same_kind (way_in edit x) kinds.Out ≡ true → has_cases g.switches node ≡ false)
       → (kind : EdgeKind) → way_in edit x ≡ kind
-      → LeadsTo (l edit) p (record { 0 = way_out g.text (graph_in g) node kind }) [] (word_at g.text x.pc)
+      → LeadsTo (site edit) (record { 0 = way_out g.text (graph_in g) node kind }) [] (word_at g.text x.pc)
       (entered_at (site edit) node x)
   enters caseless kind same = by (word_at g.text x.pc) refl
     where
@@ -479,7 +486,7 @@ module _ (in_slot : InSlot) where
           ∙ ap (first_way g.text (graph_in g)) way.only
 
       by : (o : Option ℕ) → word_at g.text x.pc ≡ o
-          → LeadsTo (l edit) p (record { 0 = way_out g.text (graph_in g) node kind }) [] (word_at g.text x.pc)
+          → LeadsTo (site edit) (record { 0 = way_out g.text (graph_in g) node kind }) [] (word_at g.text x.pc)
           (entered_at (site edit) node x)
       by (Some word) e =
           inl (
@@ -488,27 +495,27 @@ module _ (in_slot : InSlot) where
                 ∙ sym (entered_slot edit node x word e not),
           )
       by None e =
-          subst (LeadsTo (l edit) p (record { 0 = way_out g.text (graph_in g) node kind }) [] (word_at g.text x.pc))
+          subst (LeadsTo (site edit) (record { 0 = way_out g.text (graph_in g) node kind }) [] (word_at g.text x.pc))
           (sym (entered_off edit node x e not))
-          (inr (inr (
-            e,
-            table_far,
-            ap (slice_get (l edit).list) number ∙ plain_items caseless carried.Off (off e),
-          )))
+          (inr (
+            leaves_to f.table.base,
+            ap (slice_get (shapes edit)) number ∙ plain_shape caseless carried.Off (off e),
+            (e, table_far, refl),
+          ))
 
 module _ (visit : AtWord) where
   open visit use {edit, node, x, word, edit.{g, codes, is, f}}
 
-  pub image_items : (instr : Instr) → decode_of (slice_index g.text.words word) ≡ instr
-      → slice_get (l edit).list (image_number g.text (graph_in g) node word)
-      ≡ Some (image_by g.text (graph_in g) (jumps_at g.text f.table.base) f.cases.base codes
-      (record { 0 = address_of g.text word }) node word instr)
-  image_items instr e = image_at g is f.table.base f.cases.base codes node word visit.inside visit.has ∙ rw e
+  pub image_shape : (instr : Instr) → decode_of (slice_index g.text.words word) ≡ instr
+      → slice_get (shapes edit) (image_number g.text (graph_in g) node word)
+      ≡ Some (image_by g.text (graph_in g) (jumps_at g.text f.table.base) f.cases.base
+      (visit_of g.text (graph_in g) node word) node word instr)
+  image_shape instr e = image_at g is f.table.base f.cases.base node word visit.inside visit.has ∙ rw e
 
   -- its piece begins with its Mark
-  abbrev pub at_image : (behind : Addr → ℕ → List Item)
-      → slice_get (l edit).list (image_number g.text (graph_in g) node word)
-      ≡ Some (it.Mark (record { 0 = address_of g.text word }) (number_in g node)
-      ∷ behind (record { 0 = address_of g.text word }) (slice_index g.text.words word))
-      → IsMarked (site edit) node x behind
+  abbrev pub at_image : (head : Addr → ℕ → Head) (edges : List ℕ) (exit : Exit)
+      → slice_get (shapes edit) (image_number g.text (graph_in g) node word)
+      ≡ Some (marked (visit_of g.text (graph_in g) node word)
+      (head (record { 0 = address_of g.text word }) (slice_index g.text.words word)) edges exit)
+      → IsMarked (site edit) node x head edges exit
   at_image = marked_at edit node x word visit.at _ (visited_word edit node x word visit.at visit.none)

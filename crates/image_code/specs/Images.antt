@@ -47,7 +47,7 @@ pub record EditorData : Type 0 where
   pub table : TableAt
   pub halves : TableAt
   pub cases : TableAt
-  pub own : List ℕ
+  pub stored : List ℕ
 
 abbrev pub along_first : Pieces → List ℕ → ℕ → ℕ
 along_first l [] next = 0
@@ -82,7 +82,7 @@ IsBeside base code a = (a < base) ⊎ (base + 4 * length code ≤ a)
 pub record HasImages (g : EditSetup) (base : ℕ) (p : Placement) (f : EditorData) (m : Memory) : Type 0 where
   pub code : HasCode base p.code m
   pub only : (a : ℕ) → IsBeside base p.code a → fetch_from (code_of m) a ≡ None
-  pub ours : IsOurs (pages_of g.notes) f.own m
+  pub ours : IsOurs (pages_of g.notes) f.stored m
   pub table : HasTable f.halves m
   pub cases : HasTable f.cases m
 
@@ -127,10 +127,10 @@ pub record IsTableIn (g : EditSetup) (own : List ℕ) (table : TableAt) : Type 0
 
 -- the words of the editor's page that its code stores, and the tables, which they leave alone
 pub record IsEditorData (g : EditSetup) (f : EditorData) : Type 0 where
-  pub own : AreOwn (pages_of g.notes) f.own
-  pub page : (n : ℕ) → n < 8 → IsAmongWords f.own (page_word n)
-  pub table : IsTableIn g f.own f.halves
-  pub cases : IsTableIn g f.own f.cases
+  pub stored : AreOwn (pages_of g.notes) f.stored
+  pub page : (n : ℕ) → n < 8 → IsAmongWords f.stored (page_word n)
+  pub table : IsTableIn g f.stored f.halves
+  pub cases : IsTableIn g f.stored f.cases
   pub whole : IsTwoLevel f.halves
 
 -- The cells stand below the heap, among the words that the editor's code may store, and the words of each snippet do
@@ -139,7 +139,7 @@ pub record IsEditorData (g : EditSetup) (f : EditorData) : Type 0 where
 pub record HasCells (g : EditSetup) (l : Pieces) (f : EditorData) : Type 0 where
   pub aligned : g.notes.base % 4 ≡ 0
   pub low : cell_at g.notes.base g.notes.cells ≤ 2 ^ 31
-  pub own : (cell : ℕ) → cell < g.notes.cells → IsAmongWords f.own (cell_at g.notes.base cell)
+  pub stored : (cell : ℕ) → cell < g.notes.cells → IsAmongWords f.stored (cell_at g.notes.base cell)
   pub named : (edge cell : ℕ) → IsCellOf (snippet_on g.snips edge) cell → cell < g.notes.cells
   pub does : (edge : ℕ)
       → DoesJust (l.codes edge) g.notes.base (g.dead edge) (spills_at g.snips g.dead edge) (snippet_on g.snips edge)

@@ -135,7 +135,7 @@ pub record AreLookups (text : Words) (graph : Graph) (l : Lookups) : Type 0 wher
   pub cases : (case : CaseEdge) → get same_case l.cases case ≡ position (is_case graph case) graph.edges
   pub jumps : AreFirst (length graph.blocks.firsts) jump_place graph.opens l.jumps.items
   pub compares : AreFirst (length graph.blocks.firsts) compare_place graph.opens l.compares.items
-  pub own : l.own ≡ length graph.edges - landing_count graph
+  pub ways : l.ways ≡ length graph.edges - landing_count graph
   pub begins : l.begins.items ≡ map (open_begin text graph) (below (length graph.opens + 1))
   pub loads : l.loads.items ≡ map (load_of text) graph.opens
   pub entries : l.entries.items ≡ map (first_entry text graph) (below (length graph.opens + 1))

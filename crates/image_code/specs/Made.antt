@@ -1,11 +1,10 @@
--- The pieces that are made of a text: an image of each word for each node whose block holds it, the way along each edge
--- but for the landings, a landing at each word, a way for each entry of a switch's table, and last the foreign piece,
--- to which the table leads every address outside the text.
+-- The pieces that are made of a text, by their shapes: an image of each word for each node whose block holds it, the way
+-- along each edge but for the landings, a landing at each word, a way for each entry of a switch's table, and last the
+-- foreign piece, to which the table leads every address outside the text.
 use Rattle.std.specs.Prelude.{◌≡◌, ℕ, ◌+◌, ◌-◌, ◌*◌, ◌%◌, ◌^◌, ◌<◌, ◌≤◌, ◌==◌, nat_lt, if◌then◌else◌, Bool, ◌&&◌, List, [], ◌∷◌, ◌++◌, length, map, slice_get, slice_index, Option, Some, None}
 use Rattle.std.specs.List.{enumerate_from, flat_map, range_with_len}
 use Rattle.eel_base.specs.CodeText.{Words, address_of, word_at}
 use Rattle.notes.specs.Format.{range_at}
-use Rattle.eel_base.specs.declared.numbers.Addr.{Addr}
 use Rattle.eel_base.specs.Code.{IsText}
 use Rattle.v8_decode.specs.declared.Op2.{Op2}
 use Rattle.v8_decode.specs.declared.Instr.{Instr}
@@ -32,20 +31,23 @@ use Rattle.addr_translate.specs.Halves.{found_in}
 use Rattle.addr_translate.specs.Lookup.{TableAt, IsTable, table_word}
 use Rattle.addr_translate.specs.Table.{size_of}
 use Rattle.jump_code.specs.FreeRegister.{free_register, other_register}
+use Rattle.jump_code.specs.Choosing.{choose}
+use Rattle.jump_code.specs.Finding.{find_words}
 use Rattle.jump_code.specs.Keeping.{save_load_address}
-use Rattle.jump_code.specs.Finding.{resume}
-use Rattle.jump_code.specs.Pieces.{call_piece, long_jump_piece, look_up_piece, foreign_piece, word_items}
+use Rattle.jump_code.specs.Links.{link}
+use Rattle.layout.specs.Emitting.{words_of}
 use Rattle.layout.specs.Laid.{HasShortForms, Placement}
 use Rattle.snippets.specs.declared.snippet.Op.{Op}
 use Rattle.layout.specs.declared.items.Item.{Item}
-use Rattle.layout.specs.declared.items.Item.TheVariants as it
+use Rattle.image_code.specs.declared.shape.Exit.{Exit}
+use Rattle.image_code.specs.declared.shape.Exit.TheVariants as exits
+use Rattle.image_code.specs.declared.shape.Head.TheVariants as heads
+use Rattle.image_code.specs.declared.shape.Visit.{Visit}
 use Rattle.image_code.specs.Simulates.{EditSetup, Simulates, graph_in, number_in}
 use Rattle.image_code.specs.Store.{operations_on}
 use Rattle.image_code.specs.Images.{EditorData, AtVisit, IsPlaced, Pieces}
-use Rattle.image_code.specs.Cases.{plain_piece, branch_piece}
-use Rattle.image_code.specs.Couple.{couple_piece}
 use Rattle.image_code.specs.Outside.{IsOffPages}
-use Rattle.image_code.specs.Choices.{switch_jump_piece}
+use Rattle.image_code.specs.Shapes.{Shape, assembled, bare, goes_to, leaves_to, marked}
 use Rattle.image_code.specs.Loads.{load_of}
 use Rattle.image_code.specs.Numbered.{along_number, case_numbers, enter_number, first_entry, foreign_number, image_number, jump_number, landing_number, node_in_order, or_zero, edges_but_landings, place_in, way_piece}
 use Rattle.image_code.specs.Graphs.{IsGraphOf, case_table}
@@ -60,21 +62,26 @@ nop_word = 0x01000000
 abbrev pub couple_word : ℕ
 couple_word = 0x10800002
 
-abbrev pub jump_to : ℕ → List Item
-jump_to piece = it.Jump (record { 0 = piece }) ∷ []
-
 -- a word that is the slot of the transfer before it
 abbrev pub is_slots : Words → ℕ → Bool
 is_slots text word = nat_lt 0 word && is_transfer (decode_of (slice_index text.words (word - 1)))
 
 -- A word goes on to the image of the next one, which comes next; the slot's word of a transfer, which is a block of its
 -- own, by a Jump. Behind the text's last word control leaves the text.
-abbrev pub next_to : Words → ℕ → List Item
+abbrev pub next_to : Words → ℕ → Exit
 next_to text word =
-    if nat_lt (word + 1) (length text.words) then (if is_slots text word then jump_to (word + 1) else [])
-    else long_jump_piece (address_of text (length text.words))
+    if nat_lt (word + 1) (length text.words) then (if is_slots text word then goes_to (word + 1) else exits.Behind)
+    else leaves_to (address_of text (length text.words))
+
+-- a piece that is never run; it ends in a Jump, as the ways do
+abbrev pub unused : Shape
+unused = bare [] (goes_to 0)
 
 module _ (text : Words) (graph : Graph) where
+  -- a word of the text at a node
+  abbrev pub visit_of : Node → ℕ → Visit
+  visit_of node word = record { address = record { 0 = address_of text word }; node = node_number graph node }
+
   abbrev pub first_way : List ℕ → ℕ
   first_way [] = 0
   first_way (edge ∷ edges) = way_piece text graph edge
@@ -84,31 +91,30 @@ module _ (text : Words) (graph : Graph) where
   way_out node kind = first_way (edge_from graph node kind)
 
   -- `ba` and `bn` go one way
-  abbrev pub branch_image : Addr → Node → ℕ → List Item
-  branch_image address node cond =
-      let number = node_number graph node in
+  abbrev pub branch_image : Visit → Node → ℕ → Shape
+  branch_image visit node cond =
       let taken = way_out node kinds.Taken in
       let untaken = way_out node kinds.Untaken in
-      if cond == always then plain_piece address number nop_word (jump_to taken) else
-      if cond == never then plain_piece address number nop_word (jump_to untaken) else
-      branch_piece address number cond taken untaken
+      if cond == always then marked visit (heads.Word nop_word) [] (goes_to taken) else
+      if cond == never then marked visit (heads.Word nop_word) [] (goes_to untaken) else
+      marked visit (heads.Branch cond (record { 0 = taken })) [] (goes_to untaken)
 
   -- at a node control goes on to a word of its block, outside the text to the original's address
-  abbrev pub goes_on : Node → ℕ → ℕ → List Item
-  goes_on X word address = long_jump_piece address
-  goes_on node word address = jump_to (enter_number text graph node word)
+  abbrev pub goes_on : Node → ℕ → ℕ → Exit
+  goes_on X word address = leaves_to address
+  goes_on node word address = goes_to (enter_number text graph node word)
 
   -- Behind the copy of a slot's word, and the snippet, a JMPL goes on at what was found; along any other edge control
   -- goes on to a word at the edge's node.
-  abbrev pub goes_behind : Edge → ℕ → List Item
+  abbrev pub goes_behind : Edge → ℕ → Exit
   goes_behind edge word =
-      if same_kind edge.kind kinds.Out then word_items (resume 1)
+      if same_kind edge.kind kinds.Out then exits.Found
       else goes_on edge.to word (way_address text graph edge.from edge.kind)
 
   -- Where control goes on after a word that is no transfer. At the comparison's landed copy and at the block itself of
   -- an open switch's jump, whose last words are transfers, that is within the block.
-  abbrev pub next_at : Node → ℕ → List Item
-  next_at node word = if same_node node (node_in_order graph word) then next_to text word else []
+  abbrev pub next_at : Node → ℕ → Exit
+  next_at node word = if same_node node (node_in_order graph word) then next_to text word else exits.Behind
 
 -- The piece to which the table leads from a word: where some operation is made on the landing's edge that is the
 -- landing, and else where control enters the word's image.
@@ -117,18 +123,7 @@ lands_at text graph snips word =
     if operations_on snips (landing_at graph (lands graph (Some word))) == 0
     then enter_number text graph (lands graph (Some word)) word else landing_number text graph word
 
--- Below, `codes` has the words of the snippet on each edge.
-
--- the snippets of some edges, in order
-abbrev pub snippet_items : (ℕ → List ℕ) → List ℕ → List Item
-snippet_items codes edges = map it.Word (flat_map codes edges)
-
 -- ---- images of words
-
-module _ (text : Words) (graph : Graph) (codes : ℕ → List ℕ) where
-  -- behind the last word of a block comes the snippet of the edge to the next word
-  abbrev pub rest_after : Node → ℕ → Instr → List Item
-  rest_after node word instr = snippet_items codes (left_by graph node word instr) ++ next_at text graph node word
 
 -- where the jumps' table stands: behind the other one
 abbrev pub jumps_at : Words → ℕ → ℕ
@@ -140,56 +135,48 @@ distance_of cases first table = (cases + 4 * first + 2 ^ 32 - table) % 2 ^ 32
 
 -- Jumps look up in the table at `jumps`, and `cases` is where the words stand that have the pieces of Case edges.
 module _ (text : Words) (graph : Graph) (jumps cases : ℕ) where
-  abbrev pub choice_of : Addr → Node → ℕ → Option ℕ → Option Open → List Item
-  choice_of address node rd (Some k) (Some o) =
-      switch_jump_piece rd address (node_number graph node) (distance_of cases (first_entry text graph k) o.switch.table.0)
-  choice_of address node rd _ _ = []
+  abbrev pub choice_of : Visit → ℕ → Option ℕ → Option Open → Shape
+  choice_of visit rd (Some k) (Some o) =
+      let distance = distance_of cases (first_entry text graph k) o.switch.table.0 in
+      marked visit (heads.SwitchJump rd (words_of (choose distance))) [] exits.Behind
+  choice_of visit rd _ _ = bare [] exits.Behind
 
-  abbrev pub jump_by : Addr → Node → ℕ → ℕ → Op2 → List Item
-  jump_by address node rd rs1 op2 =
-      look_up_piece (free_register rd rs1 op2) (other_register rd rs1 op2) rd rs1 op2 jumps address
-      (node_number graph node) (record { 0 = way_out text graph node kinds.Out })
+  abbrev pub jump_by : Visit → Node → ℕ → ℕ → Op2 → Shape
+  jump_by visit node rd rs1 op2 =
+      let code = find_words (free_register rd rs1 op2) (other_register rd rs1 op2) rs1 op2 jumps in
+      marked visit (heads.LookUp (words_of code) rd) [] (goes_to (way_out text graph node kinds.Out))
 
   -- at the block itself of an open switch's jump a Case edge is chosen
-  abbrev pub jump_image_by : Addr → Node → ℕ → ℕ → Op2 → List Item
-  jump_image_by address (Block block) rd rs1 op2 =
+  abbrev pub jump_image_by : Visit → Node → ℕ → ℕ → Op2 → Shape
+  jump_image_by visit (Block block) rd rs1 op2 =
       if jumps_in graph.opens block.0
-      then choice_of address (Block block) rd (jump_number text graph block.0)
+      then choice_of visit rd (jump_number text graph block.0)
       (slice_get graph.opens (or_zero (jump_number text graph block.0)))
-      else jump_by address (Block block) rd rs1 op2
-  jump_image_by address node rd rs1 op2 = jump_by address node rd rs1 op2
+      else jump_by visit (Block block) rd rs1 op2
+  jump_image_by visit node rd rs1 op2 = jump_by visit node rd rs1 op2
 
-module _ (text : Words) (graph : Graph) (jumps cases : ℕ) (codes : ℕ → List ℕ) where
-  abbrev pub image_by : Addr → Node → ℕ → Instr → List Item
-  image_by address node word (i.Branch cond annul disp22) = branch_image text graph address node cond
-  image_by address node word (i.Call disp30) =
-      call_piece address (node_number graph node) (record { 0 = way_out text graph node kinds.Call })
-  image_by address node word (i.Jmpl rd rs1 op2) = jump_image_by text graph jumps cases address node rd rs1 op2
-  image_by address node word instr =
-      plain_piece address (node_number graph node) (slice_index text.words word)
-      (rest_after text graph codes node word instr)
+  -- Behind the last word of a block comes the snippet of the edge to the next word.
+  abbrev pub image_by : Visit → Node → ℕ → Instr → Shape
+  image_by visit node word (i.Branch cond annul disp22) = branch_image text graph visit node cond
+  image_by visit node word (i.Call disp30) =
+      marked visit (heads.Pair (words_of (link 15 visit.address.0))) [] (goes_to (way_out text graph node kinds.Call))
+  image_by visit node word (i.Jmpl rd rs1 op2) = jump_image_by visit node rd rs1 op2
+  image_by visit node word instr =
+      marked visit (heads.Word (slice_index text.words word)) (left_by graph node word instr)
+      (next_at text graph node word)
 
-  -- the image of a word, at its address, for a node whose block holds it
-  abbrev pub image : Node → ℕ → List Item
-  image node word =
-      image_by (record { 0 = address_of text word }) node word (decode_of (slice_index text.words word))
+  -- the image of a word for a node whose block holds it
+  abbrev pub image : Node → ℕ → Shape
+  image node word = image_by (visit_of text graph node word) node word (decode_of (slice_index text.words word))
 
 -- ---- landings
 
-module _ (text : Words) (graph : Graph) (codes : ℕ → List ℕ) where
-  -- at a landing the snippet of its node's landing edge runs, and control goes on to the word's image there
-  abbrev pub landing : ℕ → List Item
-  landing word =
-      snippet_items codes (landing_at graph (lands graph (Some word)))
-      ++ jump_to (enter_number text graph (lands graph (Some word)) word)
+-- at a landing the snippet of its node's landing edge runs, and control goes on to the word's image there
+abbrev pub landing : Words → Graph → ℕ → Shape
+landing text graph word =
+    bare (landing_at graph (lands graph (Some word))) (goes_to (enter_number text graph (lands graph (Some word)) word))
 
-  -- ---- ways along edges
-
-  -- along an edge, by its number, to a word at its node: its snippet, and on
-  abbrev pub goes_along : ℕ → Edge → ℕ → List Item
-  goes_along number edge word =
-      snippet_items codes (number ∷ [])
-      ++ goes_on text graph edge.to word (way_address text graph edge.from edge.kind)
+-- ---- ways along edges
 
 -- the first word of a node's block
 abbrev pub first_word : Graph → Node → ℕ
@@ -197,65 +184,65 @@ first_word graph (Block block) = slice_index graph.blocks.firsts block.0
 first_word graph (Landed block) = slice_index graph.blocks.firsts block.0
 first_word graph X = 0
 
-module _ (text : Words) (graph : Graph) (table : ℕ) (codes : ℕ → List ℕ) where
+module _ (text : Words) (graph : Graph) (table : ℕ) where
   -- a transfer in a slot ends the run
-  abbrev pub slot_copy : Addr → ℕ → ℕ → ℕ → Edge → ℕ → List Item
-  slot_copy address node word number edge to =
-      if is_transfer (decode_of word) then couple_piece address node couple_word []
-      else plain_piece address node word (snippet_items codes (number ∷ []) ++ goes_behind text graph edge to)
+  abbrev pub slot_copy : Visit → ℕ → ℕ → Edge → ℕ → Shape
+  slot_copy visit word number edge to =
+      if is_transfer (decode_of word) then marked visit (heads.Pair (couple_word ∷ couple_word ∷ [])) [] exits.Behind
+      else marked visit (heads.Word word) (number ∷ []) (goes_behind text graph edge to)
 
-  -- A slot that is run is a visit at the block that the edge leaves. One behind the text is where the table begins.
-  abbrev pub way_by : ℕ → Edge → ℕ → Slot → List Item
-  way_by number edge to slots.Nothing = goes_along text graph codes number edge to
+  -- Along an edge, by its number, to a word at its node. A slot that is run is a visit at the block that the edge
+  -- leaves. One behind the text is where the table begins.
+  abbrev pub way_by : ℕ → Edge → ℕ → Slot → Shape
+  way_by number edge to slots.Nothing =
+      bare (number ∷ []) (goes_on text graph edge.to to (way_address text graph edge.from edge.kind))
   way_by number edge to (slots.Word slot) =
-      slot_copy (record { 0 = address_of text slot.0 }) (node_number graph edge.from) (slice_index text.words slot.0)
-      number edge to
-  way_by number edge to slots.Off = long_jump_piece table
+      slot_copy (visit_of text graph edge.from slot.0) (slice_index text.words slot.0) number edge to
+  way_by number edge to slots.Off = bare [] (leaves_to table)
 
-  -- To the next word control falls without a way, and Case edges have theirs by entries. The piece that stands for it
-  -- is never run; it ends in a Jump, as the ways do.
-  abbrev pub way_along : ℕ → Edge → List Item
+  -- to the next word control falls without a way, and Case edges have theirs by entries
+  abbrev pub way_along : ℕ → Edge → Shape
   way_along number edge =
-      if is_fall edge.kind then jump_to 0 else
-      if same_kind edge.kind kinds.Case then jump_to 0 else way_by number edge (first_word graph edge.to) edge.slot
+      if is_fall edge.kind then unused else
+      if same_kind edge.kind kinds.Case then unused else way_by number edge (first_word graph edge.to) edge.slot
 
-  abbrev pub all_ways : List (List Item)
+  abbrev pub all_ways : List Shape
   all_ways = map (λ (p : ℕ × Edge). way_along p.0 p.1) (enumerate_from 0 (edges_but_landings graph))
 
   -- ---- Case edges: where an earlier entry leads to the same word, a piece that is never run
 
-  abbrev pub case_by : ℕ → List ℕ → List Item
-  case_by word [] = jump_to 0
+  abbrev pub case_by : ℕ → List ℕ → Shape
+  case_by word [] = unused
   case_by word (number ∷ numbers) = on (slice_get graph.edges number)
     where
-      on : Option Edge → List Item
-      on None = jump_to 0
+      on : Option Edge → Shape
+      on None = unused
       on (Some edge) = way_by number edge word edge.slot
 
-  abbrev pub case_at : Open → ℕ → ℕ → List Item
+  abbrev pub case_at : Open → ℕ → ℕ → Shape
   case_at o entry word =
       if place_in text graph o.targets word == entry
       then case_by word (edge_along graph (Block (record { 0 = o.block }))
-      (record { kind = kinds.Case; to = Some (lands graph (Some word)) })) else jump_to 0
+      (record { kind = kinds.Case; to = Some (lands graph (Some word)) })) else unused
 
-  -- the pieces of all entries
-  abbrev pub all_cases : Open → List (List Item)
+  -- those of all entries
+  abbrev pub all_cases : Open → List Shape
   all_cases o = map (λ (p : ℕ × ℕ). case_at o p.0 p.1) (enumerate_from 0 o.targets)
 
 -- ---- open switches
 
--- the words that keep the address of a load
-abbrev pub save_by : Instr → List Item
-save_by (i.Load kind rd rs1 op2) = word_items (save_load_address rs1 op2)
-save_by _ = []
+-- what keeps the address of a load
+abbrev pub save_by : Instr → Shape
+save_by (i.Load kind rd rs1 op2) = bare [] (exits.Saved (words_of (save_load_address rs1 op2)))
+save_by _ = bare [] exits.Behind
 
-module _ (text : Words) (graph : Graph) (table cases : ℕ) (codes : ℕ → List ℕ) where
+module _ (text : Words) (graph : Graph) (table cases : ℕ) where
   -- the images of so many words at a node
-  abbrev pub images_of : Node → ℕ → ℕ → List (List Item)
-  images_of node from count = map (image text graph (jumps_at text table) cases codes node) (range_with_len from count)
+  abbrev pub images_of : Node → ℕ → ℕ → List Shape
+  images_of node from count = map (image text graph (jumps_at text table) cases node) (range_with_len from count)
 
   -- the landed copy of the comparison's block, and the block itself of the jump
-  abbrev pub open_pieces : Open → List (List Item)
+  abbrev pub open_pieces : Open → List Shape
   open_pieces o =
       let compare = o.switch.compare.0 in
       let first = slice_index graph.blocks.firsts o.block in
@@ -266,20 +253,24 @@ module _ (text : Words) (graph : Graph) (table cases : ℕ) (codes : ℕ → Lis
       ++ save_by (decode_of (slice_index text.words load))
       ∷ images_of (Block (record { 0 = o.block })) load (first + block_size graph.blocks o.block - load)
 
-  -- ---- all pieces
+  -- ---- all of them
 
-  abbrev pub images_in_order : List (List Item)
+  abbrev pub images_in_order : List Shape
   images_in_order =
-      map (λ word. image text graph (jumps_at text table) cases codes (node_in_order graph word) word)
+      map (λ word. image text graph (jumps_at text table) cases (node_in_order graph word) word)
       (below (length text.words))
 
-  unfoldable pub piece_list : List (List Item)
-  piece_list =
-      images_in_order ++ all_ways text graph table codes
-      ++ map (landing text graph codes) (below (length text.words))
+  unfoldable pub shape_list : List Shape
+  shape_list =
+      images_in_order ++ all_ways text graph table
+      ++ map (landing text graph) (below (length text.words))
       ++ flat_map open_pieces graph.opens
-      ++ flat_map (all_cases text graph table codes) graph.opens
-      ++ foreign_piece ∷ []
+      ++ flat_map (all_cases text graph table) graph.opens
+      ++ bare [] exits.Foreign ∷ []
+
+-- where the snippet on each edge has these words
+abbrev pub piece_list : Words → Graph → ℕ → ℕ → (ℕ → List ℕ) → List (List Item)
+piece_list text graph table cases codes = assembled codes (shape_list text graph table cases)
 
 -- the pieces by what they are for
 abbrev pub pieces_in : Words → Graph → ℕ → ℕ → (ℕ → List ℕ) → Pieces

@@ -1,22 +1,22 @@
 //! The images of words.
 
-ghost use Rattle.std.specs.Prelude.{◌≡◌, ◌+◌, ◌-◌, ◌%◌, ◌^◌, ◌<◌, ◌≤◌, ◌++◌, if◌then◌else◌, IsTrue, false, [], length, map, slice_get, Some, IfOk, OnOk};
-ghost use Rattle.std.specs.List.{flat_map, range_with_len};
+ghost use Rattle.std.specs.Prelude.{◌≡◌, ◌+◌, ◌-◌, ◌%◌, ◌^◌, ◌<◌, ◌≤◌, ◌++◌, if◌then◌else◌, IsTrue, false, [], length, map, option_to_list, slice_get, Some, IfOk, OnOk};
+ghost use Rattle.std.specs.List.{range_with_len};
 ghost use Rattle.cfg_blocks.specs.Blocks.{below, last_word as last_word_of};
 ghost use Rattle.cfg_blocks.specs.declared.EdgeKind.TheVariants.{Fall};
 ghost use Rattle.cfg_normal.specs.declared.Node.TheVariants.{Block};
 ghost use Rattle.cfg_normal.specs.Landings.{IsNumbered};
-ghost use Rattle.cfg_normal.specs.Numbers.{node_number as node_number_of};
 ghost use Rattle.cfg_walk.specs.Walk.{edge_from, ends_block as ends_block_of};
 ghost use Rattle.image_code.specs.Lookups.{is_land};
 ghost use Rattle.image_code.specs.Made.{branch_image as branch_image_of, choice_of, distance_of, image as image_of, is_slots as is_slots_of, jump_by, jump_image_by, next_at as next_at_of, next_to, way_out as way_out_of};
 ghost use Rattle.image_code.specs.Numbered.{node_in_order};
-ghost use Rattle.image_code.specs.Private.{code_at as code_at_of, exit_items};
+ghost use Rattle.image_code.specs.Private.{code_at};
+ghost use Rattle.image_code.specs.Shapes.{assembled};
 ghost use Rattle.v8_encode.specs.Code.{op2_fits};
 
 use crate::maker::PieceMaker;
 use crate::numbering::piece;
-use crate::shape::{Exit, Head, NOP, Shape, Visit, is_transfer, marked, push_piece, way_to};
+use crate::shape::{Exit, Head, NOP, Shape, Visit, bare, is_transfer, marked, push_piece};
 use cfg_blocks::EdgeKind;
 use cfg_normal::{FlowGraph, Node, node_number, same_node};
 use eel_base::{Addr, BlockNo, NoMemory, PieceNo, Text, WordNo};
@@ -72,7 +72,7 @@ fn is_slots(text: &Text, word: WordNo) -> bool
 // out of the text. After the slot's word of a transfer that is another piece, which may stand elsewhere.
 fn next_after(text: &Text, word: WordNo) -> Exit
     requires word { word.0 < length text.now.words }
-    ensures { exit_items result ≡ next_to text.now word.0 }
+    ensures { result ≡ next_to text.now word.0 }
 {
     let words = text.len();
     if word.0 + 1 >= words {
@@ -92,7 +92,7 @@ fn distance(cases: Addr, first: u32, table: Addr) -> u32
     cases.0.wrapping_add(4 * first).wrapping_sub(table.0)
 }
 
-impl<'a> PieceMaker<'a> {
+impl PieceMaker<'_> {
     // ---- where control goes on
 
     // The node of a word's image in the order of the text: the landed copy of a jump's block, and else the block
@@ -114,7 +114,7 @@ impl<'a> PieceMaker<'a> {
     // transfers, at the next word's image.
     fn next_at(&self, node: Node, word: WordNo) -> Exit
         requires word { word.0 < length self.now.text.now.words }
-        ensures { exit_items result ≡ next_at_of self.now.text.now self.now.graph.now node word.0 }
+        ensures { result ≡ next_at_of self.now.text.now self.now.graph.now node word.0 }
     {
         if same_node(node, self.node_of(word, block_of(node))) {
             next_after(self.text, word)
@@ -123,17 +123,16 @@ impl<'a> PieceMaker<'a> {
         }
     }
 
-    // The code of the snippet of the edge to the next word, behind the last word of a block.
-    fn code_behind(&self, node: Node, word: WordNo) -> &'a [u32]
+    // The edge to the next word, behind the last word of a block.
+    fn edge_behind(&self, node: Node, word: WordNo) -> Option<u32>
         requires node { IsNumbered (length self.now.graph.now.blocks.firsts) node }
-        ensures { result.now ≡ flat_map (code_at_of self.now.codes.now)
-            (if ends_block_of self.now.graph.now node word.0 then edge_from self.now.graph.now node Fall else []) }
+        ensures { option_to_list result
+            ≡ (if ends_block_of self.now.graph.now node word.0 then edge_from self.now.graph.now node Fall else []) }
     {
         if ends_block(self.graph, node, word) {
-            let fall = self.leaving(node, EdgeKind::Fall);
-            self.codes.code_on(fall)
+            self.leaving(node, EdgeKind::Fall)
         } else {
-            &[]
+            None
         }
     }
 
@@ -152,46 +151,37 @@ impl<'a> PieceMaker<'a> {
     }
 
     // The image of a branch. `ba` and `bn` are a nop and a jump to the way along their only edge.
-    fn branch_image(&self, visit: Visit, node: Node, cond: Cond) -> Result<Shape<'a>, NoMemory>
+    fn branch_image(&self, visit: Visit, node: Node, cond: Cond) -> Result<Shape, NoMemory>
         requires node { IsNumbered (length self.now.graph.now.blocks.firsts) node }
-        requires visit { visit.node ≡ node_number_of self.now.graph.now node }
-        ensures { IfOk result (λ p. p
-            ≡ branch_image_of self.now.text.now self.now.graph.now visit.address node cond) }
+        ensures { IfOk result (λ p. p ≡ branch_image_of self.now.text.now self.now.graph.now visit node cond) }
     {
         let taken = self.way_out(node, EdgeKind::Taken)?;
         let untaken = self.way_out(node, EdgeKind::Untaken)?;
         Ok(match cond.number() {
-            ALWAYS => marked(visit, Head::Word(NOP), &[], Exit::Piece(taken)),
-            NEVER => marked(visit, Head::Word(NOP), &[], Exit::Piece(untaken)),
+            ALWAYS => marked(visit, Head::Word(NOP), None, Exit::Piece(taken)),
+            NEVER => marked(visit, Head::Word(NOP), None, Exit::Piece(untaken)),
             _ => marked(
                 visit,
                 Head::Branch { cond, to: taken },
-                &[],
+                None,
                 Exit::Piece(untaken),
             ),
         })
     }
 
     // The image of a JMPL at the block itself of an open switch.
-    fn switch_jump(
-        &self,
-        visit: Visit,
-        node: Node,
-        rd: Reg,
-        number: usize,
-    ) -> Result<Shape<'a>, NoMemory>
-        requires visit { visit.node ≡ node_number_of self.now.graph.now node }
-        ensures { IfOk result (λ p. p ≡ choice_of self.now.text.now self.now.graph.now self.now.jumps.0
-            self.now.cases.0 visit.address node rd (Some number) (slice_get self.now.graph.now.opens number)) }
+    fn switch_jump(&self, visit: Visit, rd: Reg, number: usize) -> Shape
+        ensures { result ≡ choice_of self.now.text.now self.now.graph.now self.now.jumps.0 self.now.cases.0 visit rd
+            (Some number) (slice_get self.now.graph.now.opens number) }
     {
         match self.graph.opens().get(number) {
             Some(found) => {
                 let first = self.entry(number);
                 let distance = distance(self.cases, first, found.switch().table);
                 let code = choose_code(distance);
-                Ok(marked(visit, Head::SwitchJump { rd, code }, &[], Exit::Behind))
+                marked(visit, Head::SwitchJump { rd, code }, None, Exit::Behind)
             }
-            None => Ok(way_to(&[], Exit::Behind)),
+            None => bare(None, Exit::Behind),
         }
     }
 
@@ -203,18 +193,17 @@ impl<'a> PieceMaker<'a> {
         rd: Reg,
         rs1: Reg,
         op2: Op2,
-    ) -> Result<Shape<'a>, NoMemory>
+    ) -> Result<Shape, NoMemory>
         requires node { IsNumbered (length self.now.graph.now.blocks.firsts) node }
-        requires visit { visit.node ≡ node_number_of self.now.graph.now node }
         requires fits { IsTrue (op2_fits op2) }
         ensures { IfOk result (λ p. p ≡ jump_by self.now.text.now self.now.graph.now self.now.jumps.0 self.now.cases.0
-            visit.address node rd rs1 op2) }
+            visit node rd rs1 op2) }
     {
         let way = self.way_out(node, EdgeKind::Out)?;
         let first = free_register(rd, rs1, &op2);
         let second = other_register(rd, rs1, &op2);
         let code = look_up_code(first, second, rs1, op2, self.jumps);
-        Ok(marked(visit, Head::LookUp { code, rd }, &[], Exit::Piece(way)))
+        Ok(marked(visit, Head::LookUp { code, rd }, None, Exit::Piece(way)))
     }
 
     // The image of a JMPL at a block itself.
@@ -225,16 +214,15 @@ impl<'a> PieceMaker<'a> {
         rd: Reg,
         rs1: Reg,
         op2: Op2,
-    ) -> Result<Shape<'a>, NoMemory>
+    ) -> Result<Shape, NoMemory>
         requires block { block.0 < length self.now.graph.now.blocks.firsts }
-        requires visit { visit.node ≡ node_number_of self.now.graph.now (Block block) }
         requires fits { IsTrue (op2_fits op2) }
         ensures { IfOk result (λ p. p ≡ jump_image_by self.now.text.now self.now.graph.now self.now.jumps.0
-            self.now.cases.0 visit.address (Block block) rd rs1 op2) }
+            self.now.cases.0 visit (Block block) rd rs1 op2) }
     {
         let node = Node::Block(block);
         match self.jump_of(block) {
-            Some(number) => self.switch_jump(visit, node, rd, number as usize),
+            Some(number) => Ok(self.switch_jump(visit, rd, number as usize)),
             None => self.jump_out(visit, node, rd, rs1, op2),
         }
     }
@@ -247,12 +235,11 @@ impl<'a> PieceMaker<'a> {
         rd: Reg,
         rs1: Reg,
         op2: Op2,
-    ) -> Result<Shape<'a>, NoMemory>
+    ) -> Result<Shape, NoMemory>
         requires node { IsNumbered (length self.now.graph.now.blocks.firsts) node }
-        requires visit { visit.node ≡ node_number_of self.now.graph.now node }
         requires fits { IsTrue (op2_fits op2) }
         ensures { IfOk result (λ p. p ≡ jump_image_by self.now.text.now self.now.graph.now self.now.jumps.0
-            self.now.cases.0 visit.address node rd rs1 op2) }
+            self.now.cases.0 visit node rd rs1 op2) }
     {
         match node {
             Node::Block(block) => self.jump_at(visit, block, rd, rs1, op2),
@@ -263,11 +250,11 @@ impl<'a> PieceMaker<'a> {
     // ---- images
 
     // The image of a word, for a node whose block holds it.
-    fn image(&self, node: Node, word: WordNo) -> Result<Shape<'a>, NoMemory>
+    fn image(&self, node: Node, word: WordNo) -> Result<Shape, NoMemory>
         requires node { IsNumbered (length self.now.graph.now.blocks.firsts) node }
         requires word { word.0 < length self.now.text.now.words }
         ensures { IfOk result (λ p. p ≡ image_of self.now.text.now self.now.graph.now self.now.jumps.0
-            self.now.cases.0 (code_at_of self.now.codes.now) node word.0) }
+            self.now.cases.0 node word.0) }
     {
         let visit = Visit {
             address: self.text.address(word),
@@ -278,13 +265,13 @@ impl<'a> PieceMaker<'a> {
             Instr::Call { .. } => {
                 let way = self.way_out(node, EdgeKind::Call)?;
                 let link = Head::Pair(call_code(visit.address));
-                Ok(marked(visit, link, &[], Exit::Piece(way)))
+                Ok(marked(visit, link, None, Exit::Piece(way)))
             }
             Instr::Jmpl { rd, rs1, op2 } => self.jump_image(visit, node, rd, rs1, op2),
             _ => {
-                let code = self.code_behind(node, word);
+                let edge = self.edge_behind(node, word);
                 let next = self.next_at(node, word);
-                Ok(marked(visit, Head::Word(self.text.word(word)), code, next))
+                Ok(marked(visit, Head::Word(self.text.word(word)), edge, next))
             }
         }
     }
@@ -292,15 +279,15 @@ impl<'a> PieceMaker<'a> {
     /// Adds the images of the words in the order of the text.
     pub(crate) fn push_images(&self, alloc: Global, list: &mut Vec<Piece>) -> Result<(), NoMemory>
         ensures { OnOk result (list.new.items ≡ list.old.items
-            ++ map (λ word. image_of self.now.text.now self.now.graph.now self.now.jumps.0 self.now.cases.0
-            (code_at_of self.now.codes.now) (node_in_order self.now.graph.now word) word)
-            (below (length self.now.text.now.words))) }
+            ++ assembled (code_at self.now.codes.now)
+            (map (λ word. image_of self.now.text.now self.now.graph.now self.now.jumps.0 self.now.cases.0
+            (node_in_order self.now.graph.now word) word) (below (length self.now.text.now.words)))) }
     {
         let mut near = BlockNo(0);
         for word in 0..self.text.len() {
             let word = WordNo(word);
             let node = self.node_of(word, near);
-            push_piece(alloc, list, self.image(node, word)?)?;
+            push_piece(alloc, list, self.codes, self.image(node, word)?)?;
             near = block_of(node);
         }
         Ok(())
@@ -318,12 +305,13 @@ impl<'a> PieceMaker<'a> {
         requires node { IsNumbered (length self.now.graph.now.blocks.firsts) node }
         requires words { from + count ≤ length self.now.text.now.words }
         ensures { OnOk result (list.new.items ≡ list.old.items
-            ++ map (image_of self.now.text.now self.now.graph.now self.now.jumps.0 self.now.cases.0
-            (code_at_of self.now.codes.now) node) (range_with_len from count)) }
+            ++ assembled (code_at self.now.codes.now)
+            (map (image_of self.now.text.now self.now.graph.now self.now.jumps.0 self.now.cases.0 node)
+            (range_with_len from count))) }
     {
         let _words = self.text.len();
         for word in from..from + count {
-            push_piece(alloc, list, self.image(node, WordNo(word))?)?;
+            push_piece(alloc, list, self.codes, self.image(node, WordNo(word))?)?;
         }
         Ok(())
     }

@@ -5,13 +5,14 @@ ghost use Rattle.cfg_blocks.specs.Blocks.{below};
 ghost use Rattle.cfg_normal.specs.Graph.{lands};
 ghost use Rattle.cfg_normal.specs.Landings.{IsNumbered};
 ghost use Rattle.image_code.specs.Made.{landing as landing_of, lands_at as lands_at_of};
-ghost use Rattle.image_code.specs.Private.{code_at as code_at_of};
+ghost use Rattle.image_code.specs.Private.{code_at};
+ghost use Rattle.image_code.specs.Shapes.{assembled};
 ghost use Rattle.image_code.specs.Store.{operations_on};
 
 use crate::images::block_of;
 use crate::maker::PieceMaker;
 use crate::numbering::piece;
-use crate::shape::{Exit, Shape, push_piece, way_to};
+use crate::shape::{Exit, Shape, bare, push_piece};
 use cfg_normal::Node;
 use eel_base::{BlockNo, NoMemory, PieceNo, WordNo};
 use layout::Piece;
@@ -31,34 +32,32 @@ fn operations(snips: &[Snippet], edge: Option<u32>) -> usize
     }
 }
 
-impl<'a> PieceMaker<'a> {
+impl PieceMaker<'_> {
     // ---- landings
 
     // The landing at a word and its node: the snippet of its node's landing, and the way to where control enters the
     // word there.
-    fn landing(&self, word: WordNo, node: Node) -> Result<Shape<'a>, NoMemory>
+    fn landing(&self, word: WordNo, node: Node) -> Result<Shape, NoMemory>
         requires node { node ≡ lands self.now.graph.now (Some word.0) }
         requires numbered { IsNumbered (length self.now.graph.now.blocks.firsts) node }
-        ensures { IfOk result (λ p. p
-            ≡ landing_of self.now.text.now self.now.graph.now (code_at_of self.now.codes.now) word.0) }
+        ensures { IfOk result (λ p. p ≡ landing_of self.now.text.now self.now.graph.now word.0) }
     {
         let edge = self.landing_edge(node);
-        let code = self.codes.code_on(edge);
         let to = self.enter(node, word)?;
-        Ok(way_to(code, Exit::Piece(to)))
+        Ok(bare(edge, Exit::Piece(to)))
     }
 
     /// Adds the landings at the words.
     pub(crate) fn push_landings(&self, alloc: Global, list: &mut Vec<Piece>) -> Result<(), NoMemory>
         ensures { OnOk result (list.new.items ≡ list.old.items
-            ++ map (landing_of self.now.text.now self.now.graph.now (code_at_of self.now.codes.now))
-            (below (length self.now.text.now.words))) }
+            ++ assembled (code_at self.now.codes.now)
+            (map (landing_of self.now.text.now self.now.graph.now) (below (length self.now.text.now.words)))) }
     {
         let mut near = BlockNo(0);
         for word in 0..self.text.len() {
             let word = WordNo(word);
             let node = self.graph.lands_near(word, near);
-            push_piece(alloc, list, self.landing(word, node)?)?;
+            push_piece(alloc, list, self.codes, self.landing(word, node)?)?;
             near = block_of(node);
         }
         Ok(())
@@ -76,8 +75,8 @@ impl<'a> PieceMaker<'a> {
         if operations(snips, self.landing_edge(node)) == 0 {
             self.enter(node, word)
         } else {
-            let own = self.edges_but_landings().len() as u64;
-            piece(u64::from(self.text.len()) + own + u64::from(word.0))
+            let ways = self.edges_but_landings().len() as u64;
+            piece(u64::from(self.text.len()) + ways + u64::from(word.0))
         }
     }
 

@@ -40,7 +40,7 @@ pub(crate) struct Lookups {
     /// The first open switch whose comparison stands in a block, by the block's number.
     compares: Vec<u32>,
     /// How many edges are no landings. The landings come behind them.
-    own: usize,
+    ways: usize,
     /// The number of the first piece of each open switch; one more entry for the first piece of a Case edge.
     begins: Vec<u32>,
     /// The text word of the load of each open switch.
@@ -111,14 +111,14 @@ fn begins_of(
     alloc: Global,
     text: &Text,
     graph: &FlowGraph,
-    own: usize,
+    ways: usize,
 ) -> Result<Vec<u32>, NoMemory>
     requires source { IsSource text.now graph.now }
-    requires own { own ≡ length (edges_but_landings_of graph.now) }
+    requires ways { ways ≡ length (edges_but_landings_of graph.now) }
     ensures { IfOk result (λ v. v.items ≡ map (open_begin text.now graph.now) (below (length graph.now.opens + 1))) }
 {
     let mut begins = Vec::new(alloc);
-    let mut begin = u64::from(text.len()) + own as u64 + u64::from(text.len());
+    let mut begin = u64::from(text.len()) + ways as u64 + u64::from(text.len());
     begins.push(small(begin)?)?;
     for found in graph.opens() {
         begin += pieces_of(graph, found);
@@ -175,15 +175,15 @@ fn opens_of(
     alloc: Global,
     text: &Text,
     graph: &FlowGraph,
-    own: usize,
+    ways: usize,
 ) -> Result<(Vec<u32>, Vec<u32>, Vec<u32>), NoMemory>
     requires source { IsSource text.now graph.now }
-    requires own { own ≡ length (edges_but_landings_of graph.now) }
+    requires ways { ways ≡ length (edges_but_landings_of graph.now) }
     ensures begins { IfOk result (λ tables. tables.0.items ≡ map (open_begin text.now graph.now) (below (length graph.now.opens + 1))) }
     ensures loads { IfOk result (λ tables. tables.1.items ≡ map (load_in text.now) graph.now.opens) }
     ensures entries { IfOk result (λ tables. tables.2.items ≡ map (first_entry text.now graph.now) (below (length graph.now.opens + 1))) }
 {
-    let begins = begins_of(alloc, text, graph, own)?;
+    let begins = begins_of(alloc, text, graph, ways)?;
     let loads = loads_of(alloc, text, graph)?;
     let entries = entries_of(alloc, text, graph)?;
     Ok((begins, loads, entries))
@@ -195,18 +195,18 @@ pub(crate) fn lookups_of(alloc: Global, text: &Text, graph: &FlowGraph) -> Resul
     ensures { IfOk result (AreLookups text.now graph.now) }
 {
     let jumps = first_jumps(alloc, graph)?;
-    let own = graph
+    let ways = graph
         .edges()
         .len()
         .saturating_sub(landing_count(graph, &jumps));
     let (edges, cases, compares) = firsts_of(alloc, graph)?;
-    let (begins, loads, entries) = opens_of(alloc, text, graph, own)?;
+    let (begins, loads, entries) = opens_of(alloc, text, graph, ways)?;
     Ok(Lookups {
         edges,
         cases,
         jumps,
         compares,
-        own,
+        ways,
         begins,
         loads,
         entries,
@@ -227,7 +227,7 @@ impl<'a> PieceMaker<'a> {
         ensures edges { result.now ≡ edges_but_landings_of self.now.graph.now }
         ensures inside { All (IsEdgeIn self.now.graph.now.blocks self.now.graph.now.opens) result.now }
     {
-        &self.graph.edges()[..self.lookups.own]
+        &self.graph.edges()[..self.lookups.ways]
     }
 
     // The first edge of a kind that leaves a node, or the landing that leads to it.

@@ -18,7 +18,7 @@ use crate::expansion::{Codes, codes_of};
 use crate::lookups::{Lookups, lookups_of};
 use crate::maker::PieceMaker;
 use crate::numbering::piece;
-use crate::shape::{Exit, push_piece, way_to};
+use crate::shape::{Exit, bare, push_piece};
 use addr_translate::table_size;
 use cfg_normal::{FlowGraph, Node};
 use eel_base::{Addr, NoMemory, PieceNo, Text, WordNo};
@@ -79,7 +79,7 @@ impl PieceMaker<'_> {
     }
 
     // Adds all pieces to an empty list, and answers the numbers of those of Case edges.
-    #[tactic(auto, unfolding(crate::specs::Made::piece_list))]
+    #[tactic(auto, unfolding(crate::specs::Made::shape_list))]
     fn push_all(&self, alloc: Global, list: &mut Vec<Piece>) -> Result<Vec<PieceNo>, NoMemory>
         requires empty { list.old.items ≡ [] }
         ensures list { OnOk result (list.new.items ≡ piece_list self.now.text.now self.now.graph.now self.now.table.0
@@ -92,7 +92,7 @@ impl PieceMaker<'_> {
         self.push_landings(alloc, list)?;
         self.push_opens(alloc, list)?;
         let cases = self.push_cases(alloc, list)?;
-        push_piece(alloc, list, way_to(&[], Exit::Foreign))?;
+        push_piece(alloc, list, self.codes, bare(None, Exit::Foreign))?;
         Ok(cases)
     }
 

@@ -1,14 +1,17 @@
-//! The shapes of pieces: what stands in a piece's Mark, the code of a snippet, and where control goes on.
+//! The shapes of pieces: what stands in a piece's Mark, the edge whose snippet runs behind that, and where control goes
+//! on.
 
-ghost use Rattle.std.specs.Prelude.{◌≡◌, ◌<◌, IfOk, OnOk, [], ◌∷◌, ◌++◌, ◌+◌, ◌≤◌, map};
-ghost use Rattle.image_code.specs.Made.{save_by};
-ghost use Rattle.image_code.specs.Private.{exit_items, head_items, mark_items};
+ghost use Rattle.std.specs.Prelude.{◌≡◌, ◌<◌, IfOk, OnOk, [], ◌∷◌, ◌++◌, ◌+◌, ◌≤◌, map, option_to_list};
+ghost use Rattle.image_code.specs.Made.{save_by, unused as unused_of};
+ghost use Rattle.image_code.specs.Private.{code_at};
+ghost use Rattle.image_code.specs.Shapes.{bare as bare_of, exit_items, head_items, items_of, mark_items, marked as marked_of};
 ghost use Rattle.jump_code.specs.Links.{link};
 ghost use Rattle.jump_code.specs.Pieces.{word_items};
 ghost use Rattle.v8_decode.specs.Words.{decode_of};
 ghost use Rattle.v8_step.specs.Items.{is_transfer as is_transfer_of};
 ghost use Rattle.layout.specs.declared.items.Item.TheVariants as it;
 
+use crate::expansion::Codes;
 use eel_base::{Addr, NoMemory, PieceNo};
 use jump_code::{foreign_code, link_code, long_jump_code, resume_code, save_load_address_code};
 use layout::{Item, Piece};
@@ -61,23 +64,22 @@ pub enum Exit {
     Saved([u32; 3]),
 }
 
-/// A piece: the Mark with which it begins, if it has one, the code of a snippet, and where control goes on.
+/// A piece: the Mark with which it begins, if it has one, the edge whose snippet runs behind that, and where control goes
+/// on.
 #[derive(Drop)]
-pub struct Shape<'a> {
+pub struct Shape {
     pub mark: Option<(Visit, Head)>,
-    pub code: &'a [u32],
+    pub edge: Option<u32>,
     pub exit: Exit,
 }
 
-impl<'a> Model for Shape<'a> {
-    ghost use Rattle.std.specs.Prelude.{List, ◌++◌, map};
-    ghost use Rattle.layout.specs.declared.items.Item.{Item};
-    ghost use Rattle.layout.specs.declared.items.Item.TheVariants as it;
-    ghost use Rattle.image_code.specs.Private.{exit_items, mark_items};
+impl Model for Shape {
+    ghost use Rattle.std.specs.Prelude.{option_to_list};
+    ghost use Rattle.image_code.specs.Shapes.{Shape as ShapeOf};
 
-    ghost Value = { List Item };
+    ghost Value = { ShapeOf };
 
-    ghost view = { λ s. mark_items s.mark (map it.Word s.code.now ++ exit_items s.exit) };
+    ghost view = { λ s. record { mark = s.mark; edges = option_to_list s.edge; exit = s.exit } };
 }
 
 // ---- items
@@ -173,57 +175,69 @@ fn exit_room(exit: Exit) -> usize
     }
 }
 
-fn assemble(alloc: Global, shape: &Shape) -> Result<Piece, NoMemory>
-    ensures { IfOk result (λ p. p ≡ shape.now) }
+fn assemble(alloc: Global, codes: &Codes, shape: &Shape) -> Result<Piece, NoMemory>
+    ensures { IfOk result (λ p. p ≡ items_of (code_at codes.now) shape.now) }
 {
-    let room = mark_room(shape.mark) + shape.code.len() + exit_room(shape.exit);
+    let code = codes.code_on(shape.edge);
+    let room = mark_room(shape.mark) + code.len() + exit_room(shape.exit);
     let mut items = Vec::with_capacity(alloc, room)?;
     push_mark(&mut items, shape.mark)?;
-    push_words(&mut items, shape.code)?;
+    push_words(&mut items, code)?;
     push_exit(&mut items, shape.exit)?;
     Ok(Piece { items })
 }
 
 /// Adds the piece of a shape.
-pub fn push_piece(alloc: Global, list: &mut Vec<Piece>, shape: Shape) -> Result<(), NoMemory>
-    ensures { OnOk result (list.new.items ≡ list.old.items ++ shape.entry ∷ []) }
+pub fn push_piece(
+    alloc: Global,
+    list: &mut Vec<Piece>,
+    codes: &Codes,
+    shape: Shape,
+) -> Result<(), NoMemory>
+    ensures { OnOk result (list.new.items ≡ list.old.items ++ items_of (code_at codes.now) shape ∷ []) }
 {
-    list.push(assemble(alloc, &shape)?)?;
+    list.push(assemble(alloc, codes, &shape)?)?;
     Ok(())
 }
 
 // ---- shapes
 
-/// What stands in the Mark of a visit, the code of a snippet, and the way on.
-pub fn marked(visit: Visit, head: Head, code: &[u32], exit: Exit) -> Shape<'_>
-    ensures { result ≡ it.Mark visit.address visit.node
-        ∷ (head_items visit.address head ++ it.EndMark ∷ map it.Word code.now ++ exit_items exit) }
+/// What stands in the Mark of a visit, the snippet on an edge, and the way on.
+pub fn marked(visit: Visit, head: Head, edge: Option<u32>, exit: Exit) -> Shape
+    ensures { result ≡ marked_of visit head (option_to_list edge) exit }
 {
     Shape {
         mark: Some((visit, head)),
-        code,
+        edge,
         exit,
     }
 }
 
-/// The code of a snippet, and the way on.
-pub fn way_to(code: &[u32], exit: Exit) -> Shape<'_>
-    ensures { result ≡ map it.Word code.now ++ exit_items exit }
+/// The snippet on an edge, and the way on.
+pub fn bare(edge: Option<u32>, exit: Exit) -> Shape
+    ensures { result ≡ bare_of (option_to_list edge) exit }
 {
     Shape {
         mark: None,
-        code,
+        edge,
         exit,
     }
 }
 
+/// A piece that is never run.
+pub fn unused() -> Shape
+    ensures { result ≡ unused_of }
+{
+    bare(None, Exit::Piece(PieceNo(0)))
+}
+
 /// The words before the load of an open switch, which keep the load's address in the editor's page.
-pub fn save_address<'a>(word: u32) -> Shape<'a>
+pub fn save_address(word: u32) -> Shape
     ensures { result ≡ save_by (decode_of word) }
 {
     match decode(word) {
-        Instr::Load { rs1, op2, .. } => way_to(&[], Exit::Saved(save_load_address_code(rs1, op2))),
-        _ => way_to(&[], Exit::Behind),
+        Instr::Load { rs1, op2, .. } => bare(None, Exit::Saved(save_load_address_code(rs1, op2))),
+        _ => bare(None, Exit::Behind),
     }
 }
 

@@ -10,6 +10,7 @@ ghost use Rattle.image_code.specs.Lookups.{number_where};
 ghost use Rattle.image_code.specs.Made.{case_at, case_by as case_by_of, all_cases, image, save_by, open_pieces};
 ghost use Rattle.image_code.specs.Numbered.{case_numbers, case_piece as case_piece_of, first_entry, open_begin, or_zero, place_in as place_in_of};
 ghost use Rattle.image_code.specs.Private.{code_at};
+ghost use Rattle.image_code.specs.Shapes.{assembled};
 ghost use Rattle.cfg_normal.specs.Graph.{lands as lands_of};
 ghost use Rattle.cfg_walk.specs.Walk.{edge_along};
 ghost use Rattle.cfg_normal.specs.declared.Node.TheVariants.{Block};
@@ -18,8 +19,7 @@ ghost use Rattle.cfg_blocks.specs.declared.EdgeKind.TheVariants.{Case};
 use crate::firsts::small;
 use crate::maker::PieceMaker;
 use crate::numbering::piece;
-use crate::shape::{Shape, push_piece, save_address};
-use crate::ways::unused;
+use crate::shape::{Shape, push_piece, save_address, unused};
 use cfg_normal::{Node, OpenSwitch};
 use eel_base::{BlockNo, NoMemory, PieceNo, WordNo};
 use indexmap::IndexMap;
@@ -58,7 +58,7 @@ fn place_in(places: &IndexMap<u32, u32>, word: u32) -> u32
     }
 }
 
-impl<'a> PieceMaker<'a> {
+impl PieceMaker<'_> {
     // ---- the blocks of open switches
 
     // Adds the pieces of a jump's block itself: the images of its words, and the words that keep the load's address
@@ -75,13 +75,12 @@ impl<'a> PieceMaker<'a> {
         requires below { load
             < slice_index self.now.graph.now.blocks.firsts block.0 + size_of self.now.graph.now.blocks block.0 }
         ensures { OnOk result (list.new.items ≡ list.old.items
-            ++ (map (image self.now.text.now self.now.graph.now self.now.jumps.0 self.now.cases.0
-            (code_at self.now.codes.now) (Block block))
+            ++ assembled (code_at self.now.codes.now)
+            (map (image self.now.text.now self.now.graph.now self.now.jumps.0 self.now.cases.0 (Block block))
             (range_with_len (slice_index self.now.graph.now.blocks.firsts block.0)
             (load - slice_index self.now.graph.now.blocks.firsts block.0))
             ++ save_by (decode_of (slice_index self.now.text.now.words load))
-            ∷ map (image self.now.text.now self.now.graph.now self.now.jumps.0 self.now.cases.0
-            (code_at self.now.codes.now) (Block block))
+            ∷ map (image self.now.text.now self.now.graph.now self.now.jumps.0 self.now.cases.0 (Block block))
             (range_with_len load (slice_index self.now.graph.now.blocks.firsts block.0
             + size_of self.now.graph.now.blocks block.0 - load)))) }
     {
@@ -89,7 +88,12 @@ impl<'a> PieceMaker<'a> {
         let first = self.graph.first(block).0;
         let end = first + self.graph.words(block);
         self.push_images_at(alloc, list, node, first, load - first)?;
-        push_piece(alloc, list, save_address(self.text.word(WordNo(load))))?;
+        push_piece(
+            alloc,
+            list,
+            self.codes,
+            save_address(self.text.word(WordNo(load))),
+        )?;
         self.push_images_at(alloc, list, node, load, end - load)?;
         Ok(())
     }
@@ -104,8 +108,8 @@ impl<'a> PieceMaker<'a> {
     ) -> Result<(), NoMemory>
         requires found { slice_get self.now.graph.now.opens number ≡ Some found.now }
         ensures { OnOk result (list.new.items ≡ list.old.items
-            ++ open_pieces self.now.text.now self.now.graph.now self.now.table.0 self.now.cases.0
-            (code_at self.now.codes.now) found.now) }
+            ++ assembled (code_at self.now.codes.now)
+            (open_pieces self.now.text.now self.now.graph.now self.now.table.0 self.now.cases.0 found.now)) }
     {
         let compare = found.switch().compare;
         let from = self.graph.first(compare).0;
@@ -119,8 +123,9 @@ impl<'a> PieceMaker<'a> {
     /// Adds the pieces of open switches.
     pub(crate) fn push_opens(&self, alloc: Global, list: &mut Vec<Piece>) -> Result<(), NoMemory>
         ensures { OnOk result (list.new.items ≡ list.old.items
-            ++ flat_map (open_pieces self.now.text.now self.now.graph.now self.now.table.0 self.now.cases.0
-            (code_at self.now.codes.now)) self.now.graph.now.opens) }
+            ++ assembled (code_at self.now.codes.now)
+            (flat_map (open_pieces self.now.text.now self.now.graph.now self.now.table.0 self.now.cases.0)
+            self.now.graph.now.opens)) }
     {
         for (number, found) in self.graph.opens().iter().enumerate() {
             self.push_open(alloc, list, number, found)?;
@@ -131,10 +136,10 @@ impl<'a> PieceMaker<'a> {
     // ---- the entries of tables
 
     // The way along the Case edge of a block to a word.
-    fn case_by(&self, block: BlockNo, word: WordNo) -> Result<Shape<'a>, NoMemory>
+    fn case_by(&self, block: BlockNo, word: WordNo) -> Result<Shape, NoMemory>
         requires block { block.0 < length self.now.graph.now.blocks.firsts }
         ensures { IfOk result (λ p. p ≡ case_by_of self.now.text.now self.now.graph.now self.now.table.0
-            (code_at self.now.codes.now) word.0 (edge_along self.now.graph.now (Block block)
+            word.0 (edge_along self.now.graph.now (Block block)
             (record { kind = Case; to = Some (lands_of self.now.graph.now (Some word.0)) }))) }
     {
         let to = self.graph.lands(word);
@@ -154,11 +159,11 @@ impl<'a> PieceMaker<'a> {
         place: u32,
         entry: usize,
         word: WordNo,
-    ) -> Result<Shape<'a>, NoMemory>
+    ) -> Result<Shape, NoMemory>
         requires block { found.now.block < length self.now.graph.now.blocks.firsts }
         requires place { place ≡ place_in_of self.now.text.now self.now.graph.now found.now.targets word.0 }
         ensures { IfOk result (λ p. p ≡ case_at self.now.text.now self.now.graph.now self.now.table.0
-            (code_at self.now.codes.now) found.now entry word.0) }
+            found.now entry word.0) }
     {
         if place as usize == entry {
             self.case_by(found.block(), word)
@@ -178,7 +183,8 @@ impl<'a> PieceMaker<'a> {
     ) -> Result<(), NoMemory>
         requires found { slice_get self.now.graph.now.opens number ≡ Some found.now }
         ensures list { OnOk result (list.new.items ≡ list.old.items
-            ++ all_cases self.now.text.now self.now.graph.now self.now.table.0 (code_at self.now.codes.now) found.now) }
+            ++ assembled (code_at self.now.codes.now)
+            (all_cases self.now.text.now self.now.graph.now self.now.table.0 found.now)) }
         ensures numbers { OnOk result (map (λ (n : PieceNo). n.0) numbers.new.items
             ≡ map (λ (n : PieceNo). n.0) numbers.old.items
             ++ map (case_piece_of self.now.text.now self.now.graph.now number found.now) found.now.targets) }
@@ -209,7 +215,8 @@ impl<'a> PieceMaker<'a> {
         requires low { first < 2 ^ 33 }
         requires places { (word : ℕ) → get nat_eq places.now word ≡ position (λ t. t == word) found.now.targets }
         ensures list { OnOk result (list.new.items ≡ list.old.items
-            ++ all_cases self.now.text.now self.now.graph.now self.now.table.0 (code_at self.now.codes.now) found.now) }
+            ++ assembled (code_at self.now.codes.now)
+            (all_cases self.now.text.now self.now.graph.now self.now.table.0 found.now)) }
         ensures numbers { OnOk result (map (λ (n : PieceNo). n.0) numbers.new.items
             ≡ map (λ (n : PieceNo). n.0) numbers.old.items
             ++ map (case_piece_of self.now.text.now self.now.graph.now number found.now) found.now.targets) }
@@ -218,7 +225,8 @@ impl<'a> PieceMaker<'a> {
             let place = place_in(places, word.0);
             let number = piece(first + u64::from(place))?;
             numbers.push(number)?;
-            push_piece(alloc, list, self.case_piece(found, place, entry, *word)?)?;
+            let shape = self.case_piece(found, place, entry, *word)?;
+            push_piece(alloc, list, self.codes, shape)?;
         }
         Ok(())
     }
@@ -230,8 +238,8 @@ impl<'a> PieceMaker<'a> {
         list: &mut Vec<Piece>,
     ) -> Result<Vec<PieceNo>, NoMemory>
         ensures list { OnOk result (list.new.items ≡ list.old.items
-            ++ flat_map (all_cases self.now.text.now self.now.graph.now self.now.table.0 (code_at self.now.codes.now))
-            self.now.graph.now.opens) }
+            ++ assembled (code_at self.now.codes.now)
+            (flat_map (all_cases self.now.text.now self.now.graph.now self.now.table.0) self.now.graph.now.opens)) }
         ensures numbers { IfOk result (λ v. map (λ (n : PieceNo). n.0) v.items
             ≡ case_numbers self.now.text.now self.now.graph.now) }
     {

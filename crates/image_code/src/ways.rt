@@ -4,16 +4,19 @@ ghost use Rattle.std.specs.Prelude.{◌≡◌, ◌+◌, ◌*◌, ◌^◌, ◌<�
 ghost use Rattle.std.specs.Int.{w32, cast_unsigned};
 ghost use Rattle.cfg_normal.specs.Code.{IsEdgeIn, IsNodeIn};
 ghost use Rattle.cfg_walk.specs.Matches.{last_in as last_in_of, target_along, way_address};
-ghost use Rattle.image_code.specs.Made.{first_word as first_word_of, goes_behind, goes_on, jump_to, slot_copy as slot_copy_of, way_along, way_by as way_by_of, all_ways};
-ghost use Rattle.image_code.specs.Private.{code_at as code_at_of, exit_items};
+ghost use Rattle.image_code.specs.Made.{all_ways, first_word as first_word_of, goes_behind, goes_on, slot_copy as slot_copy_of, way_along, way_by as way_by_of};
+ghost use Rattle.image_code.specs.Private.{code_at};
+ghost use Rattle.image_code.specs.Shapes.{assembled};
 ghost use Rattle.v8_decode.specs.Words.{decode_of};
 
 use crate::images::last_word;
 use crate::maker::PieceMaker;
-use crate::shape::{COUPLE, Exit, Head, Shape, Visit, is_transfer, marked, push_piece, way_to};
+use crate::shape::{
+    COUPLE, Exit, Head, Shape, Visit, bare, is_transfer, marked, push_piece, unused,
+};
 use cfg_blocks::EdgeKind;
 use cfg_normal::{Edge, FlowGraph, Node, Slot, node_number};
-use eel_base::{Addr, NoMemory, PieceNo, Text, WordNo};
+use eel_base::{Addr, NoMemory, Text, WordNo};
 use layout::Piece;
 use std::alloc::Global;
 use v8_decode::{Instr, decode};
@@ -54,14 +57,7 @@ fn first_word(graph: &FlowGraph, node: Node) -> WordNo
     }
 }
 
-/// A piece that is never run.
-pub(crate) fn unused<'a>() -> Shape<'a>
-    ensures { result ≡ jump_to 0 }
-{
-    way_to(&[], Exit::Piece(PieceNo(0)))
-}
-
-impl<'a> PieceMaker<'a> {
+impl PieceMaker<'_> {
     // ---- where edges lead
 
     // The last word of a node's block. X has none, and word 0 stands for it.
@@ -79,7 +75,7 @@ impl<'a> PieceMaker<'a> {
     // Where control goes on along an edge, to a word at its node.
     fn next_along(&self, edge: &Edge, to: WordNo) -> Result<Exit, NoMemory>
         requires edge { IsEdgeIn self.now.graph.now.blocks self.now.graph.now.opens edge.now }
-        ensures { IfOk result (λ next. exit_items next ≡ goes_on self.now.text.now self.now.graph.now edge.now.to to.0
+        ensures { IfOk result (λ next. next ≡ goes_on self.now.text.now self.now.graph.now edge.now.to to.0
             (way_address self.now.text.now self.now.graph.now edge.now.from edge.now.kind)) }
     {
         match edge.to {
@@ -94,7 +90,7 @@ impl<'a> PieceMaker<'a> {
     // Where control goes on behind the copy of a slot's word.
     fn next_behind(&self, edge: &Edge, to: WordNo) -> Result<Exit, NoMemory>
         requires edge { IsEdgeIn self.now.graph.now.blocks self.now.graph.now.opens edge.now }
-        ensures { IfOk result (λ next. exit_items next ≡ goes_behind self.now.text.now self.now.graph.now edge.now to.0) }
+        ensures { IfOk result (λ next. next ≡ goes_behind self.now.text.now self.now.graph.now edge.now to.0) }
     {
         match edge.kind {
             EdgeKind::Out => Ok(Exit::Found),
@@ -113,33 +109,28 @@ impl<'a> PieceMaker<'a> {
         number: u32,
         edge: &Edge,
         to: WordNo,
-    ) -> Result<Shape<'a>, NoMemory>
+    ) -> Result<Shape, NoMemory>
         requires edge { IsEdgeIn self.now.graph.now.blocks self.now.graph.now.opens edge.now }
         ensures { IfOk result (λ p. p ≡ slot_copy_of self.now.text.now self.now.graph.now self.now.table.0
-            (code_at_of self.now.codes.now) visit.address visit.node word number edge.now to.0) }
+            visit word number edge.now to.0) }
     {
         if is_transfer(word) {
-            return Ok(marked(visit, Head::Pair([COUPLE, COUPLE]), &[], Exit::Behind));
+            return Ok(marked(visit, Head::Pair([COUPLE, COUPLE]), None, Exit::Behind));
         }
-        let code = self.codes.code_at(number);
         let next = self.next_behind(edge, to)?;
-        Ok(marked(visit, Head::Word(word), code, next))
+        Ok(marked(visit, Head::Word(word), Some(number), next))
     }
 
-    /// The way along an edge with this number, to a word at its node, with the code of its snippet. A slot behind the
+    /// The way along an edge with this number, to a word at its node, with its snippet. A slot behind the
     /// text has its place where the table begins.
-    pub(crate) fn way_by(&self, number: u32, edge: &Edge, to: WordNo) -> Result<Shape<'a>, NoMemory>
+    pub(crate) fn way_by(&self, number: u32, edge: &Edge, to: WordNo) -> Result<Shape, NoMemory>
         requires edge { IsEdgeIn self.now.graph.now.blocks self.now.graph.now.opens edge.now }
         ensures { IfOk result (λ p. p ≡ way_by_of self.now.text.now self.now.graph.now self.now.table.0
-            (code_at_of self.now.codes.now) number edge.now to.0 edge.now.slot) }
+            number edge.now to.0 edge.now.slot) }
     {
         match edge.slot {
-            Slot::Nothing => {
-                let code = self.codes.code_at(number);
-                let next = self.next_along(edge, to)?;
-                Ok(way_to(code, next))
-            }
-            Slot::Off => Ok(way_to(&[], Exit::Far(self.table))),
+            Slot::Nothing => Ok(bare(Some(number), self.next_along(edge, to)?)),
+            Slot::Off => Ok(bare(None, Exit::Far(self.table))),
             Slot::Word(slot) => {
                 let visit = Visit {
                     address: self.text.address(slot),
@@ -151,10 +142,10 @@ impl<'a> PieceMaker<'a> {
     }
 
     // The way along an edge with this number; Fall edges have none, and Case edges have theirs by entries.
-    fn way(&self, number: u32, edge: &Edge) -> Result<Shape<'a>, NoMemory>
+    fn way(&self, number: u32, edge: &Edge) -> Result<Shape, NoMemory>
         requires edge { IsEdgeIn self.now.graph.now.blocks self.now.graph.now.opens edge.now }
         ensures { IfOk result (λ p. p ≡ way_along self.now.text.now self.now.graph.now self.now.table.0
-            (code_at_of self.now.codes.now) number edge.now) }
+            number edge.now) }
     {
         match edge.kind {
             EdgeKind::Fall | EdgeKind::Case => Ok(unused()),
@@ -165,11 +156,12 @@ impl<'a> PieceMaker<'a> {
     /// Adds the ways along the edges but for the landings.
     pub(crate) fn push_ways(&self, alloc: Global, list: &mut Vec<Piece>) -> Result<(), NoMemory>
         ensures { OnOk result (list.new.items ≡ list.old.items
-            ++ all_ways self.now.text.now self.now.graph.now self.now.table.0 (code_at_of self.now.codes.now)) }
+            ++ assembled (code_at self.now.codes.now)
+            (all_ways self.now.text.now self.now.graph.now self.now.table.0)) }
     {
         for (number, edge) in self.edges_but_landings().iter().enumerate() {
             let number = number as u32;
-            push_piece(alloc, list, self.way(number, edge)?)?;
+            push_piece(alloc, list, self.codes, self.way(number, edge)?)?;
         }
         Ok(())
     }

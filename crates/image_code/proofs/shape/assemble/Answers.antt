@@ -3,7 +3,8 @@ use Rattle.layout.specs.declared.items.Item.{Item}
 use Rattle.layout.specs.declared.items.Item.TheVariants as it
 use Rattle.image_code.specs.declared.shape.Head.{Head}
 use Rattle.image_code.specs.declared.shape.Visit.{Visit}
-use Rattle.image_code.specs.Private.{head_items, mark_items}
+use Rattle.image_code.specs.Private.{code_at}
+use Rattle.image_code.specs.Shapes.{head_items, items_of, mark_items}
 use Rattle.image_code.proofs.shape.assemble.Goals as goal
 
 mark_first : (mark : Option (Visit × Head)) (rest : List Item) → mark_items mark [] ++ rest ≡ mark_items mark rest
@@ -18,6 +19,7 @@ returns c =
       c.in_ok-push_words.ensures,
       c.in_ok-push_mark.ensures,
       c.in_ok-items.ensures.items,
+      c.code_on-code.ensures,
       append_assoc (mark_items c.shape.inside.mark []),
     )
-    (mark_first c.shape.inside.mark _ ∙ c.shape.view_is)
+    (mark_first c.shape.inside.mark _ ∙ ap (items_of (code_at c.args.codes.now)) c.shape.view_is)

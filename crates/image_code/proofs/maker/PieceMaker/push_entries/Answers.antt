@@ -8,6 +8,8 @@ use Rattle.eel_base.specs.declared.numbers.PieceNo.{PieceNo}
 use Rattle.eel_base.specs.declared.numbers.WordNo.{WordNo}
 use Rattle.image_code.specs.Numbered.{case_piece}
 use Rattle.image_code.specs.Private.{code_at}
+use Rattle.image_code.specs.Shapes.{assembled}
+use Rattle.layout.specs.declared.items.Item.{Item}
 use Rattle.image_code.proofs.CasePieces.{cases_of_words, case_pushed, entry_number, number_pushed}
 use Rattle.image_code.proofs.Found.{found_stands}
 use Rattle.image_code.proofs.maker.PieceMaker.push_entries.Goals as goal
@@ -28,7 +30,7 @@ loop-entry-preserved c =
     record {
       list = case_pushed text graph maker.table.0 (code_at maker.codes.now) o targets c.loop-entry.entry _
           c.args.list.now.items c.loop-entry.list.items c.push_piece.new.list.items _ c.loop-entry-test.true
-          c.in_ok-push_piece.ensures (c.in_ok-case_piece.ensures) c.loop-entry.invariant.list;
+          c.in_ok-push_piece.ensures (c.in_ok-shape.ensures) c.loop-entry.invariant.list;
       numbers = number_pushed text graph c.args.number o targets c.loop-entry.entry _ c.args.numbers.now.items
           c.loop-entry.numbers.items c.push.new.self.items c.in_ok-number.number c.loop-entry-test.true
           c.in_ok-push.ensures.items
@@ -41,7 +43,8 @@ loop-entry-preserved c =
 pub returns-clause-list : goal.returns-clause-list
 returns-clause-list c =
     let maker = c.args.self.now in
-    let cases = cases_of_words maker.text.now maker.graph.now maker.table.0 (code_at maker.codes.now) c.args.found.now in
+    let cases : List ℕ → List (List Item) = λ words.
+    assembled (code_at maker.codes.now) (cases_of_words maker.text.now maker.graph.now maker.table.0 c.args.found.now words) in
     c.loop-entry.invariant.list
     ∙ ap (λ (ws : List WordNo). c.args.list.now.items ++ cases (map (λ (w : WordNo). w.0) ws))
     (take_all c.loop-entry.entry c.targets-word-items.result.now (omega (arith, c.loop-entry-test.false)))

@@ -3,6 +3,7 @@ use Rattle.std.specs.Coded.{le_prop}
 use Rattle.std.proofs.Math.Logic.{∥∥₁_elim}
 use Rattle.image_code.specs.Numbered.{landing_count, edges_but_landings}
 use Rattle.image_code.specs.Private.{code_at}
+use Rattle.image_code.specs.Shapes.{items_of}
 use Rattle.image_code.specs.Made.{way_along}
 use Rattle.image_code.proofs.Pushed.{pushed_numbered}
 use Rattle.image_code.proofs.Common.{take, take_more}
@@ -30,8 +31,8 @@ pub loop-number-preserved : goal.loop-number-preserved
 loop-number-preserved c =
     let maker = c.args.self.now in
     let edges = c.edges_but_landings-edge-items.result.now in
-    pushed_numbered (way_along maker.text.now maker.graph.now maker.table.0 (code_at maker.codes.now))
-    c.loop-number.number (take c.loop-number.number edges) _ _ c.args.list.now.items c.loop-number.list.items
-    c.push_piece.new.list.items _ (take_more edges c.loop-number.number _ c.loop-number-test.true)
+    pushed_numbered (items_of (code_at maker.codes.now)) c.args.list.now.items c.loop-number.list.items
+    c.push_piece.new.list.items (way_along maker.text.now maker.graph.now maker.table.0) c.loop-number.number
+    (take c.loop-number.number edges) _ _ _ (take_more edges c.loop-number.number _ c.loop-number-test.true)
     (omega (arith, length-take c.loop-number.number edges, c.loop-number-test.true)) c.in_ok-push_piece.ensures
     (c.in_ok-way.ensures) c.loop-number.invariant

@@ -1,7 +1,7 @@
 use Rattle.std.proofs.Common.{◌≡◌, ◌-◌}
 use Rattle.std.specs.List.{count_by, range_with_len}
 use Rattle.image_code.specs.Copies.{is_at}
-use Rattle.edit_core.proofs.taking.landing_words_in.Given as goal
+use Rattle.edit_core.proofs.requests.landing_words_in.Given as goal
 
 -- those among the words so far
 abbrev pub invariant-loop-word : goal.invariant-loop-word

@@ -4,7 +4,7 @@ use Rattle.eel_base.specs.declared.numbers.WordNo.{WordNo}
 use Rattle.cfg_normal.specs.Opens.{Open}
 use Rattle.edit_core.specs.Private.{is_entry}
 use Rattle.std.proofs.lemmas.List.Sums.{sum_by_more}
-use Rattle.edit_core.proofs.taking.case_counts.Goals as goal
+use Rattle.edit_core.proofs.requests.case_counts.Goals as goal
 
 pub loop-found-preserved : goal.loop-found-preserved
 loop-found-preserved c = λ key.

@@ -30,7 +30,7 @@ pub enum EditFault {
 
 impl From<NoMemory> for EditFault {
     ghost use Rattle.std.specs.Prelude.{◌≡◌};
-    ghost use Rattle.edit_core.specs.declared.taking.EditFault.TheVariants as faults;
+    ghost use Rattle.edit_core.specs.declared.requests.EditFault.TheVariants as faults;
 
     ghost from_gives = { λ _ fault. fault ≡ faults.NoMemory };
 

@@ -1,23 +1,24 @@
 -- Before the load of an open switch control comes to a piece that keeps its address; everywhere else it comes to the
 -- visit itself.
-use Rattle.image_code.proofs.Common.{◌≡◌, ℕ, suc, ◌-◌, ◌<◌, Bool, true, false, Option, Some, None, List, length, refl, ap, sym, ◌∙◌, arith, inl, inr, ◌==◌, slice_get, slice_index, false≢true, slice_get_within, word_at, Slot, NoSlot, Blocks, blocks_of, Node, Block, Open, jumps_in, Point, block, save_load_address, word_items, Item, item_at, items_in, cases_eq}
+use Rattle.image_code.proofs.Common.{◌≡◌, ℕ, suc, ◌<◌, Bool, true, false, Option, Some, None, List, [], length, refl, ap, sym, ◌∙◌, arith, inl, inr, ◌==◌, slice_get, slice_index, false≢true, word_at, Slot, NoSlot, Blocks, blocks_of, Node, Block, Open, jumps_in, Point, block, save_load_address, words_of, Item, items_in, cases_eq, bare}
+use Rattle.image_code.specs.declared.shape.Exit.TheVariants as exits
 use Rattle.cfg_blocks.specs.Values.{instr_at}
-use Rattle.layout.specs.Laid.{is_jump, size_of}
 use Rattle.image_code.specs.Graphs.{case_table}
-use Rattle.image_code.proofs.PointShapes.{IsEntered, at_once, keeping}
+use Rattle.image_code.proofs.PointShapes.{IsEntered, at_once, saving}
 use Rattle.image_code.specs.Loads.{first_operand, load_of, second_operand}
 use Rattle.image_code.specs.Made.{save_by}
 use Rattle.image_code.specs.Numbered.{enter_number, image_number, jump_enter, jump_image, jump_number}
 use Rattle.image_code.specs.Simulates.{CaseTable, IsAtWord, graph_in}
 use Rattle.image_code.proofs.CaseTables.{known_at, table_of}
 use Rattle.image_code.proofs.ImageNumbers.{block_of, jump_enter_is, jump_image_is, jump_numbered, jump_of}
-use Rattle.image_code.proofs.Listed.{enter_load, enter_other, jump_at, keep_at, load_in}
+use Rattle.image_code.proofs.Listed.{enter_load, enter_other, jump_at, save_at, load_in}
 use Rattle.image_code.proofs.Opened.{load_is}
 use Rattle.image_code.proofs.Positions.{not_placed}
-use Rattle.image_code.proofs.Visited.{PlacedEdit, site, entered_word, enters_itself, l, visited_word}
+use Rattle.image_code.proofs.Routes.{falls as goes_behind, items_at, shape_within}
+use Rattle.image_code.proofs.Visited.{PlacedEdit, site, entered_word, enters_itself, l, shapes, visited_word}
 
 module _ (edit : PlacedEdit) (node : Node) (x : Point) where
-  open edit use {g, codes, is, p, place, f, placed.{laid}}
+  open edit use {g, is, p, place, f, placed.{laid}}
 
   abbrev b : Blocks
   b = blocks_of g.text g.given
@@ -36,42 +37,40 @@ module _ (edit : PlacedEdit) (node : Node) (x : Point) where
     abbrev piece : ℕ
     piece = jump_enter g.text (graph_in g) k o load
 
-    abbrev kept : List Item
-    kept = word_items (save_load_address (first_operand (instr_at g.text load)) (second_operand (instr_at g.text load)))
+    abbrev saving_words : List ℕ
+    saving_words =
+        words_of (save_load_address (first_operand (instr_at g.text load)) (second_operand (instr_at g.text load)))
 
-    items : slice_get (l edit).list piece ≡ Some kept
-    items =
-        keep_at g.text b g.switches is.cased f.table.base f.cases.base codes k o among
+    shape : slice_get (shapes edit) piece ≡ Some (bare [] (exits.Saved saving_words))
+    shape =
+        save_at g.text b g.switches is.cased f.table.base f.cases.base k o among
         ∙ ap (λ i. Some (save_by i)) (load_is g.text b o (is.cased.each k o among)).is
 
     next : suc piece ≡ jump_image g.text (graph_in g) k o load
-    next = enter_load g.text b g.switches is.cased f.table.base f.cases.base codes k o among
+    next = enter_load g.text b g.switches is.cased f.table.base f.cases.base k o among
 
     next_within : suc piece < length (l edit).list
     next_within =
-        let low = load_in g.text b g.switches is.cased f.table.base f.cases.base codes k o among in
-        slice_get_within (l edit).list (suc piece) _
-        (ap (slice_get (l edit).list) next
-        ∙ jump_at g.text b g.switches is.cased f.table.base f.cases.base codes k o among load low.above (omega arith))
+        let low = load_in g.text b g.switches is.cased f.table.base f.cases.base k o among in
+        shape_within (site edit) (suc piece) _
+        (ap (slice_get (shapes edit)) next
+        ∙ jump_at g.text b g.switches is.cased f.table.base f.cases.base k o among load low.above (omega arith))
 
     falls : place piece 3 ≡ slice_index p.at (suc piece)
     falls =
-        let size : size_of (l edit).list piece ≡ 3 = ap (λ (v : Option (List Item)). items_in v) items in
-        let closed : is_jump (item_at (l edit).list piece (size_of (l edit).list piece - 1))
-        ≡ false =
-        rw (size, items) in
-        ap (place piece) (sym size) ∙ laid.falls piece next_within closed ∙ sym (laid.starts (suc piece) next_within)
+        ap (place piece) (sym (ap (λ (v : Option (List Item)). items_in v) (items_at (site edit) piece _ shape)))
+        ∙ goes_behind (site edit) piece _ saving_words shape refl next_within
 
     pub keeps : IsEntered (site edit) node x
     keeps =
-        keeping k (case_table g.text o) (known_at g is.known k o among)
+        saving k (case_table g.text o) (known_at g is.known k o among)
         (record { itself = itself; outside = none; stands = at })
         (record {
           piece = piece;
           here =
               entered_word edit node x load at none
               ∙ ap (slice_index p.at) (jump_enter_is g.text b g.switches k o node load numbered among itself);
-          items = items;
+          shape = shape;
           behind =
               falls ∙ ap (slice_index p.at) (next
               ∙ sym (jump_image_is g.text b g.switches k o node load numbered among itself))
@@ -106,7 +105,7 @@ module _ (edit : PlacedEdit) (node : Node) (x : Point) where
       comes_itself
       (λ word at none.
       jump_enter_is g.text b g.switches k o node word numbered among itself
-      ∙ enter_other g.text b g.switches is.cased f.table.base f.cases.base codes k o among word (not word at none)
+      ∙ enter_other g.text b g.switches is.cased f.table.base f.cases.base k o among word (not word at none)
       ∙ sym (jump_image_is g.text b g.switches k o node word numbered among itself))
       (λ j table e a.
       let t = table_of g is.known j table e in

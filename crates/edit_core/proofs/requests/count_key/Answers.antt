@@ -2,7 +2,7 @@ use Rattle.std.proofs.Common.{cond, Some, ap, ◌∙◌}
 use Rattle.indexmap.specs.IndexMap.{get}
 use Rattle.edit_core.specs.Private.{count_of, same_key}
 use Rattle.edit_core.proofs.Counting.{key_counted}
-use Rattle.edit_core.proofs.taking.count_key.Goals as goal
+use Rattle.edit_core.proofs.requests.count_key.Goals as goal
 
 pub returns : goal.returns
 returns c = λ other.

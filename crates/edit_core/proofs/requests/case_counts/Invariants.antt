@@ -1,8 +1,8 @@
 use Rattle.std.proofs.Common.{◌≡◌, take}
 use Rattle.indexmap.specs.IndexMap.{get}
-use Rattle.edit_core.specs.declared.taking.CaseKey.{CaseKey}
+use Rattle.edit_core.specs.declared.requests.CaseKey.{CaseKey}
 use Rattle.edit_core.specs.Private.{count_of, entries_with, same_key}
-use Rattle.edit_core.proofs.taking.case_counts.Given as goal
+use Rattle.edit_core.proofs.requests.case_counts.Given as goal
 
 -- those of the switches so far
 abbrev pub invariant-loop-found : goal.invariant-loop-found

@@ -2,9 +2,9 @@ use Rattle.std.proofs.Common.{◌≡◌, ◌+◌, map, take}
 use Rattle.std.specs.List.{count_by}
 use Rattle.indexmap.specs.IndexMap.{get}
 use Rattle.eel_base.specs.declared.numbers.WordNo.{WordNo}
-use Rattle.edit_core.specs.declared.taking.CaseKey.{CaseKey}
+use Rattle.edit_core.specs.declared.requests.CaseKey.{CaseKey}
 use Rattle.edit_core.specs.Private.{count_of, is_entry, same_key}
-use Rattle.edit_core.proofs.taking.count_entries.Given as goal
+use Rattle.edit_core.proofs.requests.count_entries.Given as goal
 
 -- those of the words so far
 abbrev pub invariant-loop-word : goal.invariant-loop-word

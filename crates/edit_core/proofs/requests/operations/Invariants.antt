@@ -1,6 +1,6 @@
 use Rattle.std.proofs.Common.{◌≡◌, ℕ, ◌+◌, ◌*◌, ◌^◌, ◌≤◌, length}
 use Rattle.edit_core.specs.Taken.{operations_on}
-use Rattle.edit_core.proofs.taking.operations.Given as goal
+use Rattle.edit_core.proofs.requests.operations.Given as goal
 
 -- The sum so far and that of what is left are the whole, and each edge adds 2^23 at most.
 pub record IsSum (whole sum rest left : ℕ) : Type 0 where

@@ -1,6 +1,6 @@
 use Rattle.std.proofs.Common.{inl, inr, arith}
 use Rattle.edit_core.proofs.Bounds.{none_first, none_second}
-use Rattle.edit_core.proofs.taking.operations.Goals as goal
+use Rattle.edit_core.proofs.requests.operations.Goals as goal
 
 pub returns-clause-sum : goal.returns-clause-sum
 returns-clause-sum c = elim c.in-None.ensures.steps [

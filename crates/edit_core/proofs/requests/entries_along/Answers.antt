@@ -6,7 +6,7 @@ use Rattle.cfg_normal.specs.Numbers.{node_number}
 use Rattle.image_code.specs.Copies.{is_at, targets_from}
 use Rattle.edit_core.specs.Private.{case_key, count_of, same_key}
 use Rattle.edit_core.proofs.Counting.{led_few, led_is}
-use Rattle.edit_core.proofs.taking.entries_along.Goals as goal
+use Rattle.edit_core.proofs.requests.entries_along.Goals as goal
 
 pub returns-in-Block-clause-entries : goal.returns-in-Block-clause-entries
 returns-in-Block-clause-entries c =

@@ -2,7 +2,7 @@ use Rattle.std.proofs.Common.{◌≡◌, ℕ, suc, if◌then◌else◌, ◌+◌,
 use Rattle.std.specs.List.{count_by, range_with_len}
 use Rattle.image_code.specs.Copies.{is_at}
 use Rattle.edit_core.proofs.Counting.{range_few, range_more}
-use Rattle.edit_core.proofs.taking.landing_words_in.Goals as goal
+use Rattle.edit_core.proofs.requests.landing_words_in.Goals as goal
 
 pub overflow_add-count : goal.overflow_add-count
 overflow_add-count c =
