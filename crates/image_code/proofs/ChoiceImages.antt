@@ -1,11 +1,10 @@
 -- The image of an open switch's jump, at the jump's block itself: the Case edge that it chooses leads to the slot.
-use Rattle.image_code.proofs.Common.{◌≡◌, ◌≢◌, ℕ, zero, suc, ◌+◌, ◌*◌, ◌%◌, ◌^◌, ◌<◌, Bool, true, Some, None, List, [], ◌∷◌, length, map, take, refl, ap, sym, ◌∙◌, subst, arith, ◌==◌, if◌then◌else◌, slice_get, slice_index, sum_by, and_parts, eq-eqb, lt-ltb, ltb-true, length-map, sum_by-cons, slice_get-map, slice_get_within, Words, word_at, Op2, words_of, operands_in_range, decode_of, decoded_range, nat_lt, NoSlot, Taken, State, EdgeKind, Blocks, blocks_of, holding_of, last_word, ends_block_after, word_at-some, Node, Block, home_of, Open, jumps_in, Graph, has_cases, node_of, node_after, point_of, way_of, same_kind, next_word, block, end_is, node_is, table_word, choice_at, saved_address, IsTarget, transfer_ends, jump_delayed, IsCaseBlock, OfWord, Shape, marked}
+use Rattle.image_code.proofs.Common.{◌≡◌, ◌≢◌, ℕ, zero, suc, ◌+◌, ◌*◌, ◌%◌, ◌^◌, ◌<◌, Bool, true, Some, None, List, [], ◌∷◌, length, map, take, refl, ap, sym, ◌∙◌, subst, arith, ◌==◌, if◌then◌else◌, slice_get, slice_index, sum_by, and_parts, eq-eqb, lt-ltb, ltb-true, length-map, sum_by-cons, slice_get-map, slice_get_within, Words, word_at, Op2, operands_in_range, decode_of, decoded_range, nat_lt, NoSlot, Taken, State, EdgeKind, Blocks, blocks_of, holding_of, last_word, ends_block_after, word_at-some, Node, Block, home_of, Open, jumps_in, Graph, has_cases, node_of, node_after, point_of, way_of, same_kind, next_word, block, end_is, node_is, table_word, choice_at, saved_address, IsTarget, transfer_ends, jump_delayed, IsCaseBlock, OfWord, Shape, marked}
 use Rattle.v8_decode.specs.declared.Instr.TheVariants as i
 use Rattle.cfg_blocks.specs.declared.EdgeKind.TheVariants as kinds
 use Rattle.jump_slice.proofs.About.{in_targets}
 use Rattle.jump_slice.proofs.CaseBlocks.{some_of}
 use Rattle.image_code.proofs.PointShapes.{next_entry, IsSwitchJump}
-use Rattle.jump_code.specs.Choosing.{choose}
 use Rattle.image_code.specs.declared.shape.Exit.TheVariants as exits
 use Rattle.image_code.specs.declared.shape.Head.TheVariants as heads
 use Rattle.image_code.specs.Graphs.{case_table}
@@ -56,8 +55,7 @@ choice_is : (text : Words) (graph : Graph) (jumps cases : ℕ) (visit : OfWord) 
     (rd rs1 : ℕ) (op2 : Op2) → jumps_in graph.opens block ≡ true → jump_number text graph block ≡ Some k
     → slice_get graph.opens k ≡ Some o
     → jump_image_by text graph jumps cases visit (Block (record { 0 = block })) rd rs1 op2
-    ≡ marked visit (heads.SwitchJump rd (words_of (choose (distance_of cases (first_entry text graph k) o.switch.table.0))))
-    [] exits.Behind
+    ≡ marked visit (heads.SwitchJump rd (distance_of cases (first_entry text graph k) o.switch.table.0)) [] exits.Behind
 choice_is text graph jumps cases visit block k o rd rs1 op2 jumping numbered is =
     rw (jumping, numbered, is)
 
@@ -221,7 +219,7 @@ module _ (visit : AtWord) (t : State) (rd rs1 : ℕ) (op2 : Op2)
   piece = image_number g.text (graph_in g) node word
 
   shape : slice_get (shapes edit) piece ≡ Some (marked (visit_of g.text (graph_in g) node word)
-      (heads.SwitchJump rd (words_of (choose distance))) [] exits.Behind)
+      (heads.SwitchJump rd distance) [] exits.Behind)
   shape =
       image_shape visit (i.Jmpl rd rs1 op2) says
       ∙ rw itself (ap (λ (s : Shape). Some s) (choice_is g.text (graph_in g) (jumps_at g.text f.table.base)
@@ -247,7 +245,7 @@ module _ (visit : AtWord) (t : State) (rd rs1 : ℕ) (op2 : Op2)
             (decoded_range (i.Jmpl rd rs1 op2) (slice_index g.text.words word) (sym says))).0;
         distance = distance;
         near = omega arith;
-        mark = at_image visit (λ _ _. heads.SwitchJump rd (words_of (choose distance))) [] exits.Behind shape;
+        mark = at_image visit (λ _ _. heads.SwitchJump rd distance) [] exits.Behind shape;
         aligned = omega (arith, place, cases.aligned);
         from = omega (arith, place);
         to = omega (arith, place, cases.long, many);

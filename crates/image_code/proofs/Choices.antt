@@ -1,6 +1,5 @@
 -- The words of an open switch's JMPL lead to the piece of a Case edge.
-use Rattle.image_code.proofs.Common.{◌≡◌, ℕ, ◌+◌, ◌%◌, ◌^◌, ◌<◌, ◌≤◌, false, Some, None, List, [], ◌∷◌, ◌++◌, length, refl, ap, sym, ◌∙◌, arith, ◌/◌, slice_index, length-append, Instr, wrapped, code_of, State, is_transfer, instr_at, node_after, point_of, hopped, table_word, page_word, memory_word, leads_weaker, stores_there, link, Fit, words_mean, choice_at, switch_jump, word_of, words_of, map, map-append, HasWordAt, loads_there, jumped}
-use Rattle.layout.specs.declared.items.Item.TheVariants as it
+use Rattle.image_code.proofs.Common.{◌≡◌, ℕ, ◌+◌, ◌%◌, ◌^◌, ◌<◌, ◌≤◌, false, Some, None, List, [], ◌∷◌, ◌++◌, length, refl, ap, sym, ◌∙◌, arith, ◌/◌, slice_index, length-append, Instr, wrapped, code_of, State, is_transfer, instr_at, node_after, point_of, hopped, table_word, page_word, memory_word, leads_weaker, stores_there, link, Fit, words_mean, choice_at, switch_jump, words_of, HasWordAt, loads_there, jumped}
 use Rattle.jump_code.proofs.Fitting.{link_fits, lt}
 use Rattle.jump_code.specs.Choosing.{ComesToCase, IsAboutToChoose, choose, chosen}
 use Rattle.jump_code.proofs.Choosing.{choices_simulate}
@@ -52,10 +51,7 @@ module _ (visit : Visit)
   live = ap (λ (z : State). z.ending) (sym does_is) ∙ c.live
 
   there : AtWords site node x t c.piece (length image) (words_of image)
-  there =
-      at_instrs visit _ _ _ c.mark image
-      (sym (map-append it.Word (words_of (link c.rd c.address.0)) (words_of (choose c.distance)))
-      ∙ ap (map it.Word) (sym (map-append word_of (link c.rd c.address.0) (choose c.distance))))
+  there = at_instrs visit _ _ _ c.mark image refl
 
   loaded : HasWordAt (choice_at c.distance t) false t.memory
       × (memory_word t.memory (choice_at c.distance t) ≡ table_word f.cases (choice_at c.distance t))

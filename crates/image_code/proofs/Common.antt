@@ -62,7 +62,7 @@ pub use Rattle.eel_base.specs.CodeText.{Words, address_of, word_at}
 pub use Rattle.eel_base.specs.declared.numbers.Addr.{Addr}
 pub use Rattle.eel_base.specs.declared.numbers.BlockNo.{BlockNo}
 pub use Rattle.eel_base.specs.declared.numbers.PieceNo.{PieceNo}
-pub use Rattle.image_code.specs.Shapes.{Shape, assembled, bare, exit_items, goes_to, head_items, items_of, leaves_to, mark_items, marked}
+pub use Rattle.image_code.specs.Shapes.{Shape, assembled, bare, couple_word, exit_items, goes_to, head_items, items_of, leaves_to, mark_items, marked}
 pub use Rattle.image_code.specs.declared.shape.Exit.{Exit}
 pub use Rattle.image_code.specs.declared.shape.Head.{Head}
 pub use Rattle.image_code.specs.declared.shape.Visit.{Visit as OfWord}

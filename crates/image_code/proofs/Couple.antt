@@ -1,5 +1,5 @@
 -- A transfer in the slot of another one.
-use Rattle.image_code.proofs.Common.{◌≡◌, ◌≢◌, ℕ, ◌+◌, Bool, true, false, Some, [], ◌∷◌, ◌++◌, refl, ap, sym, ◌∙◌, subst, arith, Instr, decode_of, code_of, fetch_from, Slot, NoSlot, Taken, State, target_of, unless_couple, act, step_of, on_word, puts_by, run, run_puts, is_transfer, live_puts, count_stores, step_is, no_stores, none_then, stores_none, IsPageWord, pos, puts_of, always_holds}
+use Rattle.image_code.proofs.Common.{◌≡◌, ◌≢◌, ℕ, ◌+◌, Bool, true, false, Some, [], ◌∷◌, ◌++◌, refl, ap, sym, ◌∙◌, subst, arith, Instr, decode_of, code_of, fetch_from, Slot, NoSlot, Taken, State, target_of, unless_couple, act, step_of, on_word, puts_by, run, run_puts, is_transfer, live_puts, count_stores, step_is, no_stores, none_then, stores_none, IsPageWord, pos, puts_of, always_holds, couple_word}
 use Rattle.v8_decode.specs.declared.Instr.TheVariants as i
 use Rattle.v8_step.specs.declared.Ending.TheVariants.{Couple}
 use Rattle.v8_step.specs.Transfers.{ended}
@@ -11,7 +11,6 @@ use Rattle.image_code.proofs.Memories.{fetch_is}
 use Rattle.image_code.proofs.Marked.{AtWords, at_words}
 use Rattle.image_code.proofs.Cases.{no_puts}
 use Rattle.image_code.proofs.EntersBy.{ends_by, followed_same, moves_past}
-use Rattle.image_code.specs.Made.{couple_word}
 use Rattle.image_code.proofs.Branches.{couple_says}
 
 couple_acts : (s : State) (x : Instr) → is_transfer x ≡ true → s.slot ≢ NoSlot → act s x ≡ ended s Couple

@@ -13,7 +13,7 @@ use Rattle.image_code.specs.declared.shape.Exit.TheVariants as exits
 use Rattle.image_code.specs.declared.shape.Head.TheVariants as heads
 use Rattle.image_code.specs.Loads.{load_of}
 use Rattle.image_code.specs.Numbered.{enter_number, foreign_number, node_in_order, edges_but_landings, pieces_of, place_in}
-use Rattle.image_code.specs.Made.{all_cases, case_at, case_by, choice_of, couple_word, first_way, first_word, goes_on, image, image_by, images_in_order, images_of, is_slots, jump_by, jump_image_by, jumps_at, save_by, landing, next_at, nop_word, open_pieces, piece_list, shape_list, unused, visit_of, way_along, way_by, way_out}
+use Rattle.image_code.specs.Made.{all_cases, case_at, case_by, choice_of, first_way, first_word, goes_on, image, image_by, images_in_order, images_of, is_slots, jump_by, jump_image_by, jumps_at, save_by, landing, next_at, nop_word, open_pieces, piece_list, shape_list, unused, visit_of, way_along, way_by, way_out}
 use Rattle.image_code.specs.Graphs.{IsGraphOf, opens_in}
 use Rattle.image_code.specs.Fit.{AreFit, AreShort, PiecesFit, PlacesSay, marks_in}
 use Rattle.image_code.proofs.Listed.{count_is}
@@ -157,7 +157,7 @@ module _ (text : Words) (graph : Graph) (table cases : ℕ) (codes : ℕ → Lis
       let at : IsAt text graph edge.from slot.0 =
       record { inside = inside.from; low = omega (arith, within, g.cut.words) } in
       cond_both (is_transfer (decode_of (slice_index text.words slot.0))) _ _ (Made 8 most)
-      (λ t. instead edge.from slot.0 at t (heads.Pair (couple_word ∷ couple_word ∷ [])) exits.Behind (omega arith) (omega arith) tt
+      (λ t. instead edge.from slot.0 at t heads.Couple exits.Behind (omega arith) (omega arith) tt
       tt)
       (λ _. itself edge.from slot.0 at (number ∷ []) _ (omega arith) few (cond_both (same_kind edge.kind kinds.Out) _ _ Exits
       (λ _. tt) (λ _. goes_exit edge.to word _ to)))

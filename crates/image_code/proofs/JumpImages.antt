@@ -1,5 +1,5 @@
 -- The images of CALL and JMPL: the way of the edge leads into the slot.
-use Rattle.image_code.proofs.Common.{◌≡◌, ℕ, ◌%◌, ◌^◌, ◌<◌, false, Some, None, [], refl, ap, sym, ◌∙◌, arith, if◌then◌else◌, slice_get, slice_index, ◌==◌, ℤ, cond_both, false≢true, Words, Op2, decode_of, Taken, State, sum_of, target_of, trapped, act, word_at-some, Node, Block, Graph, has_cases, point_of, free_register, other_register, link, words_of, with_register, mem_address_not_aligned, call_step, delayed, jump_delayed, OfWord, Shape}
+use Rattle.image_code.proofs.Common.{◌≡◌, ℕ, ◌%◌, ◌^◌, ◌<◌, false, Some, None, [], refl, ap, sym, ◌∙◌, arith, if◌then◌else◌, slice_get, slice_index, ◌==◌, ℤ, cond_both, false≢true, Words, Op2, decode_of, Taken, State, sum_of, target_of, trapped, act, word_at-some, Node, Block, Graph, has_cases, point_of, free_register, other_register, words_of, with_register, mem_address_not_aligned, call_step, delayed, jump_delayed, OfWord, Shape}
 use Rattle.v8_decode.specs.declared.Instr.TheVariants as i
 use Rattle.cfg_blocks.specs.declared.EdgeKind.TheVariants as kinds
 use Rattle.v8_step.specs.Transfers.{jump_step}
@@ -61,7 +61,7 @@ module _ (visit : AtWord) (t : State) where
       disp = disp;
       says = says;
       way = record { 0 = way_out g.text (graph_in g) node kinds.Call };
-      mark = at_image visit (λ address _. heads.Pair (words_of (link 15 address.0))) [] _
+      mark = at_image visit (λ _ _. heads.Call) [] _
           (image_shape visit (i.Call disp) says);
       leads = call_leads live (does_at g x t) call_acts;
       never = no_jump visit (i.Call disp) says (does_at g x t)

@@ -1,15 +1,14 @@
 -- The kinds of points, each with the piece that stands there, and where control goes on from it.
-use Rattle.image_code.proofs.Common.{◌≡◌, Some, ℕ, suc, Option, ◌%◌, ◌^◌, ◌<◌, List, ◌⊎◌, [], ◌∷◌, None, slice_get, slice_index, ◌≢◌, ◌+◌, length, false, word_at, PieceNo, Addr, decode_of, Node, State, is_transfer, Point, point_of, node_after, node_at, visit_of, ◌-◌, true, Bool, if◌then◌else◌, ℤ, Taken, NoSlot, same_kind, instr_at, way_of, holds_of, Op2, op2_in_range, op2_fits, link, words_of, IsApart, ◌≤◌, Block, table_word, choice_at, found_in, X, NoteRange, range_at, save_load_address, Exit, Head, bare, head_items, marked}
+use Rattle.image_code.proofs.Common.{◌≡◌, Some, ℕ, suc, Option, ◌%◌, ◌^◌, ◌<◌, List, ◌⊎◌, [], ◌∷◌, None, slice_get, slice_index, ◌≢◌, ◌+◌, length, false, word_at, PieceNo, Addr, decode_of, Node, State, is_transfer, Point, point_of, node_after, node_at, visit_of, ◌-◌, true, Bool, if◌then◌else◌, ℤ, Taken, NoSlot, same_kind, instr_at, way_of, holds_of, Op2, op2_in_range, op2_fits, words_of, IsApart, ◌≤◌, Block, table_word, choice_at, found_in, X, NoteRange, range_at, save_load_address, Exit, Head, bare, head_items, marked}
 use Rattle.v8_decode.specs.declared.Instr.TheVariants as i
 use Rattle.cfg_blocks.specs.declared.EdgeKind.TheVariants as kinds
-use Rattle.jump_code.specs.Choosing.{choose}
 use Rattle.jump_code.specs.Finding.{find_words}
 use Rattle.image_code.specs.declared.shape.Exit.TheVariants as exits
 use Rattle.image_code.specs.declared.shape.Head.TheVariants as heads
 use Rattle.image_code.specs.Simulates.{EditSetup, number_in, does_at, gone_at, graph_in, word_of, CaseTable, IsAtWord, Chooses, MatchesIn}
 use Rattle.image_code.proofs.Points.{Site, entered_at, visited_at, AtVisitIn}
 use Rattle.image_code.specs.Images.{HasNoCases, IsBeside}
-use Rattle.image_code.specs.Made.{nop_word, couple_word}
+use Rattle.image_code.specs.Made.{nop_word}
 use Rattle.image_code.specs.Store.{operations_on}
 use Rattle.image_code.specs.Cost.{is_out}
 use Rattle.image_code.specs.Outside.{IsOffPages}
@@ -128,7 +127,7 @@ pub record IsCall (site : Site) (node : Node) (x : Point) (t : State) : Type 0 w
   pub low : x.pc < 2 ^ 32
   pub disp : ℤ
   pub way : PieceNo
-  pub mark : IsMarked site node x (λ address _. heads.Pair (words_of (link 15 address.0))) [] (exits.Piece way)
+  pub mark : IsMarked site node x (λ _ _. heads.Call) [] (exits.Piece way)
   pub open mark use {piece, here, address, original, word, is_word, shape}
   pub says : decode_of word ≡ i.Call disp
   pub leads : LeadsNext site way node x t
@@ -173,7 +172,7 @@ pub record IsSwitchJump (site : Site) (node : Node) (x : Point) (t : State) : Ty
   pub op2 : Op2
   pub distance : ℕ
   pub near : distance < 2 ^ 32
-  pub mark : IsMarked site node x (λ _ _. heads.SwitchJump rd (words_of (choose distance))) [] exits.Behind
+  pub mark : IsMarked site node x (λ _ _. heads.SwitchJump rd distance) [] exits.Behind
   pub open mark use {piece, here, address, original, word, is_word, shape}
   pub says : decode_of word ≡ i.Jmpl rd rs1 op2
   -- the word that has the piece's address
@@ -192,7 +191,7 @@ pub record IsSwitchJump (site : Site) (node : Node) (x : Point) (t : State) : Ty
 
 pub record IsCouple (site : Site) (node : Node) (x : Point) : Type 0 where
   pub slot : x.slot ≢ NoSlot
-  pub mark : IsMarked site node x (λ _ _. heads.Pair (couple_word ∷ couple_word ∷ [])) [] exits.Behind
+  pub mark : IsMarked site node x (λ _ _. heads.Couple) [] exits.Behind
   pub open mark use {piece, here, address, original, word, is_word, shape}
   pub transfer : is_transfer (decode_of word) ≡ true
 

@@ -1,5 +1,5 @@
 -- What holds of each shape: what may be placed, how much room it takes, and where its Mark stands.
-use Rattle.image_code.proofs.Common.{◌≡◌, ℕ, zero, suc, ◌+◌, ◌<◌, ◌≤◌, Bool, true, false, cond, Option, Some, None, List, [], ◌∷◌, ◌++◌, append-nil, length, length-append, length-map, map, map-append, flat_map, refl, ap, sym, ◌∙◌, arith, if◌then◌else◌, slice_get, slice_index, sum_by-cons, Words, address_of, word_at, Addr, PieceNo, decode_of, is_transfer, Node, Graph, IsNodeIn, Item, word_at-address, LeadsBelow, Placement, piece_words, link, long_jump, resume, foreign, word_of, words_of, word_items, Exit, Head, OfWord, Shape, bare, exit_items, head_items, items_of, mark_items, marked}
+use Rattle.image_code.proofs.Common.{◌≡◌, ℕ, zero, suc, ◌+◌, ◌<◌, ◌≤◌, Bool, true, false, cond, Option, Some, None, List, [], ◌∷◌, ◌++◌, append-nil, length, length-append, length-map, map, map-append, flat_map, refl, ap, sym, ◌∙◌, arith, if◌then◌else◌, slice_get, slice_index, sum_by-cons, Words, address_of, word_at, Addr, PieceNo, decode_of, is_transfer, Node, Graph, IsNodeIn, Item, word_at-address, LeadsBelow, Placement, piece_words, link, long_jump, resume, foreign, word_of, words_of, Exit, Head, OfWord, Shape, bare, exit_items, head_items, items_of, mark_items, marked, couple_word, switch_jump}
 use Rattle.layout.specs.declared.items.Item.TheVariants as it
 use Rattle.layout.specs.Laid.{AreMarked, BranchStands, Stands, branch_long, branch_short, long_words}
 use Rattle.image_code.specs.declared.shape.Exit.TheVariants as exits
@@ -14,10 +14,10 @@ use Rattle.image_code.proofs.Branches.{within_is}
 -- how many words and items there are at most, besides those of snippets
 abbrev pub head_size : Head → ℕ
 head_size (heads.Word word) = 1
-head_size (heads.Pair words) = length words
 head_size (heads.Branch cond to) = long_words (it.Branch cond to)
 head_size (heads.LookUp code rd) = length code + 2
-head_size (heads.SwitchJump rd code) = 2 + length code
+head_size (heads.SwitchJump rd distance) = 11
+head_size _ = 2
 
 abbrev pub mark_size : Option (OfWord × Head) → ℕ
 mark_size None = 0
@@ -44,21 +44,25 @@ pub data HeadIs (address : Addr) (head : Head) : Type 0 where
 
 pub head_is : (address : Addr) (head : Head) → HeadIs address head
 head_is address (heads.Word word) = has_words (word ∷ []) refl (omega arith)
-head_is address (heads.Pair words) = has_words words refl (omega arith)
 head_is address (heads.Branch cond to) = is_branch cond to refl
+head_is address heads.Call = has_words (words_of (link 15 address.0)) refl (omega arith)
+head_is address heads.Couple = has_words (couple_word ∷ couple_word ∷ []) refl (omega arith)
 head_is address (heads.LookUp code rd) =
     let its_link = words_of (link rd address.0) in
     has_words (code ++ its_link) (sym (map-append it.Word code its_link))
     (omega (arith, length-append code its_link, length-map (link rd address.0) word_of, link_few rd address.0))
-head_is address (heads.SwitchJump rd code) =
-    let its_link = words_of (link rd address.0) in
-    has_words (its_link ++ code) (sym (map-append it.Word its_link code))
-    (omega (arith, length-append its_link code, length-map (link rd address.0) word_of, link_few rd address.0))
+head_is address (heads.SwitchJump rd distance) =
+    has_words (words_of (switch_jump rd address.0 distance)) refl
+    (omega (
+      arith,
+      length-map (switch_jump rd address.0 distance) word_of,
+      length-append (link rd address.0) (choose distance),
+      link_few rd address.0,
+    ))
 
-pub switch_some : (address : Addr) (rd distance : ℕ)
-    → 0 < length (head_items address (heads.SwitchJump rd (words_of (choose distance))))
-switch_some address rd distance =
-    omega (arith, length-append (word_items (link rd address.0)) (word_items (choose distance)))
+pub switch_some : (address : Addr) (rd distance : ℕ) → 0 < length (head_items address (heads.SwitchJump rd distance))
+switch_some address zero distance = omega arith
+switch_some address (suc r) distance = omega arith
 
 branch_room : (base : ℕ) (code : List ℕ) (cond to a b : ℕ) → BranchStands base code cond to a b → a < b
 branch_room base code cond to a b (branch_short d e r s) = omega arith

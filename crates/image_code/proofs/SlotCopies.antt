@@ -14,7 +14,7 @@ use Rattle.image_code.specs.Store.{operations_on}
 use Rattle.image_code.specs.Images.{HasNoCases}
 use Rattle.image_code.proofs.Points.{AtVisitIn, entered_at, visited_at}
 use Rattle.image_code.proofs.PointShapes.{IsMarked, IsMarkedWord, IsJumpTarget, Reaches, Lands, IsCase, plain, couple, landing as jumps_slot}
-use Rattle.image_code.specs.Made.{couple_word, first_word, goes_on, goes_behind, visit_of}
+use Rattle.image_code.specs.Made.{first_word, goes_on, goes_behind, visit_of}
 use Rattle.image_code.specs.Numbered.{enter_number, foreign_number, landing_number}
 use Rattle.image_code.proofs.CaseTables.{IsKnown, table_of}
 use Rattle.image_code.proofs.EdgePieces.{IsAlong, along_far, cut_in}
@@ -80,7 +80,7 @@ module _ (at_slot : AtSlot) (t : State) (here : AtVisitIn (site at_slot.edit) at
 
   abbrev copy_by : Bool → Shape
   copy_by transfer =
-      if transfer then marked visited (heads.Pair (couple_word ∷ couple_word ∷ [])) [] exits.Behind
+      if transfer then marked visited heads.Couple [] exits.Behind
       else marked visited (heads.Word word) (way.number ∷ []) (goes_behind g.text (graph_in g) way.edge to)
 
   its_edge : IsAlong g is f.table.base f.cases.base node (way_now edit node x) way.number way.edge
@@ -314,7 +314,7 @@ module _ (at_slot : AtSlot) (t : State) (here : AtVisitIn (site at_slot.edit) at
   couple_case : is_transfer (decode_of word) ≡ true → IsCase (site edit) node x t
   couple_case e = couple (record {
     slot = not;
-    mark = at_copy (λ _ _. heads.Pair (couple_word ∷ couple_word ∷ [])) [] exits.Behind (made true e);
+    mark = at_copy (λ _ _. heads.Couple) [] exits.Behind (made true e);
     transfer = e;
   })
 

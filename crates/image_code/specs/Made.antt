@@ -31,10 +31,8 @@ use Rattle.addr_translate.specs.Halves.{found_in}
 use Rattle.addr_translate.specs.Lookup.{TableAt, IsTable, table_word}
 use Rattle.addr_translate.specs.Table.{size_of}
 use Rattle.jump_code.specs.FreeRegister.{free_register, other_register}
-use Rattle.jump_code.specs.Choosing.{choose}
 use Rattle.jump_code.specs.Finding.{find_words}
 use Rattle.jump_code.specs.Keeping.{save_load_address}
-use Rattle.jump_code.specs.Links.{link}
 use Rattle.layout.specs.Emitting.{words_of}
 use Rattle.layout.specs.Laid.{HasShortForms, Placement}
 use Rattle.snippets.specs.declared.snippet.Op.{Op}
@@ -57,10 +55,6 @@ use Rattle.image_code.specs.Graphs.{IsGraphOf, case_table}
 -- NOP (B.10)
 abbrev pub nop_word : ℕ
 nop_word = 0x01000000
-
--- `ba` to the word after the next one (B.21)
-abbrev pub couple_word : ℕ
-couple_word = 0x10800002
 
 -- a word that is the slot of the transfer before it
 abbrev pub is_slots : Words → ℕ → Bool
@@ -138,7 +132,7 @@ module _ (text : Words) (graph : Graph) (jumps cases : ℕ) where
   abbrev pub choice_of : Visit → ℕ → Option ℕ → Option Open → Shape
   choice_of visit rd (Some k) (Some o) =
       let distance = distance_of cases (first_entry text graph k) o.switch.table.0 in
-      marked visit (heads.SwitchJump rd (words_of (choose distance))) [] exits.Behind
+      marked visit (heads.SwitchJump rd distance) [] exits.Behind
   choice_of visit rd _ _ = bare [] exits.Behind
 
   abbrev pub jump_by : Visit → Node → ℕ → ℕ → Op2 → Shape
@@ -159,7 +153,7 @@ module _ (text : Words) (graph : Graph) (jumps cases : ℕ) where
   abbrev pub image_by : Visit → Node → ℕ → Instr → Shape
   image_by visit node word (i.Branch cond annul disp22) = branch_image text graph visit node cond
   image_by visit node word (i.Call disp30) =
-      marked visit (heads.Pair (words_of (link 15 visit.address.0))) [] (goes_to (way_out text graph node kinds.Call))
+      marked visit heads.Call [] (goes_to (way_out text graph node kinds.Call))
   image_by visit node word (i.Jmpl rd rs1 op2) = jump_image_by visit node rd rs1 op2
   image_by visit node word instr =
       marked visit (heads.Word (slice_index text.words word)) (left_by graph node word instr)
@@ -188,7 +182,7 @@ module _ (text : Words) (graph : Graph) (table : ℕ) where
   -- a transfer in a slot ends the run
   abbrev pub slot_copy : Visit → ℕ → ℕ → Edge → ℕ → Shape
   slot_copy visit word number edge to =
-      if is_transfer (decode_of word) then marked visit (heads.Pair (couple_word ∷ couple_word ∷ [])) [] exits.Behind
+      if is_transfer (decode_of word) then marked visit heads.Couple [] exits.Behind
       else marked visit (heads.Word word) (number ∷ []) (goes_behind text graph edge to)
 
   -- Along an edge, by its number, to a word at its node. A slot that is run is a visit at the block that the edge

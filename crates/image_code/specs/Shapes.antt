@@ -4,6 +4,7 @@ use Rattle.std.specs.List.{flat_map}
 use Rattle.eel_base.specs.declared.numbers.Addr.{Addr}
 use Rattle.layout.specs.declared.items.Item.{Item}
 use Rattle.layout.specs.declared.items.Item.TheVariants as it
+use Rattle.jump_code.specs.Choosing.{switch_jump}
 use Rattle.jump_code.specs.Finding.{resume}
 use Rattle.jump_code.specs.Links.{link}
 use Rattle.jump_code.specs.Pieces.{foreign_piece, long_jump_piece, word_items}
@@ -32,6 +33,10 @@ leaves_to address = exits.Far (record { 0 = address })
 
 -- ---- its items
 
+-- `ba` to the word after the next one (B.21): the second of two stands in the slot of the first, and ends the run
+abbrev pub couple_word : ℕ
+couple_word = 0x10800002
+
 abbrev pub exit_items : Exit → List Item
 exit_items exits.Behind = []
 exit_items (exits.Piece piece) = it.Jump piece ∷ []
@@ -43,10 +48,11 @@ exit_items (exits.Saved code) = map it.Word code
 -- what stands in the Mark of a visit at an address
 abbrev pub head_items : Addr → Head → List Item
 head_items address (heads.Word word) = it.Word word ∷ []
-head_items address (heads.Pair words) = map it.Word words
 head_items address (heads.Branch cond to) = it.Branch cond to ∷ []
+head_items address heads.Call = word_items (link 15 address.0)
 head_items address (heads.LookUp code rd) = map it.Word code ++ word_items (link rd address.0)
-head_items address (heads.SwitchJump rd code) = word_items (link rd address.0) ++ map it.Word code
+head_items address (heads.SwitchJump rd distance) = word_items (switch_jump rd address.0 distance)
+head_items address heads.Couple = it.Word couple_word ∷ it.Word couple_word ∷ []
 
 -- a Mark, with what stands in it, before the rest of a piece
 abbrev pub mark_items : Option (Visit × Head) → List Item → List Item

@@ -20,7 +20,7 @@ use crate::shape::{Exit, Head, NOP, Shape, Visit, bare, is_transfer, marked, pus
 use cfg_blocks::EdgeKind;
 use cfg_normal::{FlowGraph, Node, node_number, same_node};
 use eel_base::{Addr, BlockNo, NoMemory, PieceNo, Text, WordNo};
-use jump_code::{call_code, choose_code, free_register, look_up_code, other_register};
+use jump_code::{free_register, look_up_code, other_register};
 use layout::Piece;
 use std::alloc::Global;
 use v8_decode::{Cond, Instr, Op2, Reg, decode};
@@ -178,8 +178,7 @@ impl PieceMaker<'_> {
             Some(found) => {
                 let first = self.entry(number);
                 let distance = distance(self.cases, first, found.switch().table);
-                let code = choose_code(distance);
-                marked(visit, Head::SwitchJump { rd, code }, None, Exit::Behind)
+                marked(visit, Head::SwitchJump { rd, distance }, None, Exit::Behind)
             }
             None => bare(None, Exit::Behind),
         }
@@ -264,8 +263,7 @@ impl PieceMaker<'_> {
             Instr::Branch { cond, .. } => self.branch_image(visit, node, cond),
             Instr::Call { .. } => {
                 let way = self.way_out(node, EdgeKind::Call)?;
-                let link = Head::Pair(call_code(visit.address));
-                Ok(marked(visit, link, None, Exit::Piece(way)))
+                Ok(marked(visit, Head::Call, None, Exit::Piece(way)))
             }
             Instr::Jmpl { rd, rs1, op2 } => self.jump_image(visit, node, rd, rs1, op2),
             _ => {

@@ -13,7 +13,10 @@ ghost use Rattle.layout.specs.declared.items.Item.TheVariants as it;
 
 use crate::expansion::Codes;
 use eel_base::{Addr, NoMemory, PieceNo};
-use jump_code::{foreign_code, link_code, long_jump_code, resume_code, save_load_address_code};
+use jump_code::{
+    call_code, choose_code, foreign_code, link_code, long_jump_code, resume_code,
+    save_load_address_code,
+};
 use layout::{Item, Piece};
 use std::alloc::Global;
 use std::marker::Model;
@@ -23,9 +26,9 @@ use v8_encode::register;
 /// `nop`.
 pub(crate) const NOP: u32 = 0x0100_0000;
 
-/// `ba` to the word after the next one. Two of them within one Mark stand for a transfer in a delay slot: the second
-/// stands in the slot of the first, so that it ends the run as a couple, as the original does.
-pub(crate) const COUPLE: u32 = 0x1080_0002;
+// `ba` to the word after the next one. Two of them within one Mark stand for a transfer in a delay slot: the second
+// stands in the slot of the first, so that it ends the run as a couple, as the original does.
+const COUPLE: u32 = 0x1080_0002;
 
 /// What a word stands for: an instruction of the original, by its address, at a node.
 #[derive(Clone, Copy)]
@@ -39,13 +42,16 @@ pub struct Visit {
 pub enum Head {
     /// The instruction's own word, or a nop.
     Word(u32),
-    /// The link of a CALL, or a couple.
-    Pair([u32; 2]),
     Branch { cond: Cond, to: PieceNo },
+    /// The link of a CALL.
+    Call,
     /// What looks up the target of a JMPL, and then its link.
     LookUp { code: [u32; 12], rd: Reg },
-    /// The link of an open switch's JMPL, and then what goes on by the address that was kept.
-    SwitchJump { rd: Reg, code: [u32; 9] },
+    /// The link of an open switch's JMPL, and then what goes on at the address in the word that lies so far above the
+    /// kept address.
+    SwitchJump { rd: Reg, distance: u32 },
+    /// A transfer in a delay slot, which ends the run.
+    Couple,
 }
 
 /// Where control goes on.
@@ -109,16 +115,17 @@ fn push_head(items: &mut Vec<Item>, address: Addr, head: Head) -> Result<(), NoM
 {
     match head {
         Head::Word(word) => items.push(Item::Word(word))?,
-        Head::Pair(words) => push_words(items, &words)?,
         Head::Branch { cond, to } => items.push(Item::Branch { cond, to })?,
+        Head::Call => push_words(items, &call_code(address))?,
         Head::LookUp { code, rd } => {
             push_words(items, &code)?;
             push_link(items, rd, address)?;
         }
-        Head::SwitchJump { rd, code } => {
+        Head::SwitchJump { rd, distance } => {
             push_link(items, rd, address)?;
-            push_words(items, &code)?;
+            push_words(items, &choose_code(distance))?;
         }
+        Head::Couple => push_words(items, &[COUPLE, COUPLE])?,
     }
     Ok(())
 }
@@ -157,7 +164,7 @@ fn mark_room(mark: Option<(Visit, Head)>) -> usize
 {
     match mark {
         Some((_, Head::Word(_) | Head::Branch { .. })) => 3,
-        Some((_, Head::Pair(_))) => 4,
+        Some((_, Head::Call | Head::Couple)) => 4,
         Some(_) => 16,
         None => 0,
     }

@@ -11,9 +11,7 @@ ghost use Rattle.v8_decode.specs.Words.{decode_of};
 
 use crate::images::last_word;
 use crate::maker::PieceMaker;
-use crate::shape::{
-    COUPLE, Exit, Head, Shape, Visit, bare, is_transfer, marked, push_piece, unused,
-};
+use crate::shape::{Exit, Head, Shape, Visit, bare, is_transfer, marked, push_piece, unused};
 use cfg_blocks::EdgeKind;
 use cfg_normal::{Edge, FlowGraph, Node, Slot, node_number};
 use eel_base::{Addr, NoMemory, Text, WordNo};
@@ -115,7 +113,7 @@ impl PieceMaker<'_> {
             visit word number edge.now to.0) }
     {
         if is_transfer(word) {
-            return Ok(marked(visit, Head::Pair([COUPLE, COUPLE]), None, Exit::Behind));
+            return Ok(marked(visit, Head::Couple, None, Exit::Behind));
         }
         let next = self.next_behind(edge, to)?;
         Ok(marked(visit, Head::Word(word), Some(number), next))
