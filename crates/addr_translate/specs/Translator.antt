@@ -13,7 +13,7 @@ use Rattle.v8_step.specs.Valid.{IsValid}
 use Rattle.code_runs.specs.Page.{page_word}
 use Rattle.code_runs.specs.StoredWords.{memory_word}
 use Rattle.code_runs.specs.Straight.{HasWords, IsReady}
-use Rattle.code_runs.specs.TwoRegisters.{Works}
+use Rattle.code_runs.specs.Picked.{WorksInTwo}
 use Rattle.code_runs.specs.Code.{of_page, CanLoad, CanStore, store_word}
 use Rattle.addr_translate.specs.Lookup.{TableAt, IsTable, looked_up, table_word, third_block}
 
@@ -59,7 +59,7 @@ pub record IsAboutToTranslate (words : List ℕ) (t : TableAt) (s : State) : Typ
 -- address; all else is as it was.
 abbrev pub Translates : List ℕ → ℕ → ℕ → ℕ → Type 0
 Translates words base a b = (t : TableAt) (s : State) → t.base ≡ base → IsAboutToTranslate words t s
-    → Works s 12 IsSecondWord a b 12 (store_word s.memory (page_word 1) (register_of s a))
+    → WorksInTwo s 12 IsSecondWord a b 12 (store_word s.memory (page_word 1) (register_of s a))
     (looked_up t (register_of s a)) (third_block t (register_of s a))
 
 -- A table stands where a region that may be read has its bytes from its base on, and is the first that has each word.

@@ -1,5 +1,5 @@
 -- Several blocks in one, and jumps through a register that is kept in memory meanwhile.
-use Rattle.std.proofs.Common.{◌≡◌, ◌≢◌, ℕ, ◌+◌, ◌*◌, ◌%◌, ◌<◌, ◌⊎◌, inl, inr, true, Option, List, [], ◌∷◌, ◌++◌, length, refl, ap, sym, ◌∙◌, subst, arith}
+use Rattle.std.proofs.Common.{◌≡◌, ◌≢◌, ℕ, zero, suc, ◌+◌, ◌*◌, ◌%◌, ◌<◌, ◌⊎◌, inl, inr, true, Option, List, refl, ap, sym, ◌∙◌, subst, arith}
 use Rattle.std.specs.Prelude.{◌==◌, slice_index}
 use Rattle.std.proofs.Math.Seq.{ext_get_or}
 use Rattle.v8_decode.specs.declared.Op2.{Op2}
@@ -7,9 +7,8 @@ use Rattle.v8_decode.specs.declared.Instr.TheVariants as i
 use Rattle.v8_decode.specs.declared.LoadKind.TheVariants as loads
 use Rattle.v8_alu.specs.declared.Codes.{Codes}
 use Rattle.v8_memory.specs.Regions.{Memory, code_of}
-use Rattle.v8_windows.specs.Registers.{place_of, register_in, register_set}
+use Rattle.v8_windows.specs.Registers.{place_of, register_set}
 pub use Rattle.v8_windows.proofs.Places.{in_place}
-use Rattle.v8_windows.proofs.Places.{register_in-set, register_in-other, length-register_set}
 use Rattle.v8_step.specs.declared.Ending.{Ending}
 use Rattle.v8_step.specs.declared.Slot.{Slot}
 use Rattle.v8_step.specs.declared.Slot.TheVariants.{NoSlot}
@@ -17,42 +16,28 @@ use Rattle.v8_step.specs.State.{State, register_of, with_register, sum_of}
 use Rattle.v8_step.specs.Transfers.{next, delayed}
 use Rattle.v8_step.specs.Step.{step_of}
 use Rattle.code_runs.specs.StoredWords.{memory_word}
-use Rattle.code_runs.specs.Code.{store_word, store_all, AllAt, Stores, CanLoad}
-use Rattle.code_runs.specs.Leads.{Leads, IsSilent}
+use Rattle.code_runs.specs.Code.{CanLoad}
+use Rattle.code_runs.specs.Leads.{Leads, IsBetween, IsSilent}
+use Rattle.code_runs.specs.Picked.{AreHeld, IsAlike, Works, Is}
 use Rattle.code_runs.specs.Straight.{Says}
-use Rattle.code_runs.specs.TwoRegisters.{HasScratch, IsAlike, IsBetween, Works}
 use Rattle.code_runs.specs.Hops.{hopped, Hops}
 use Rattle.code_runs.proofs.Acts.{says_step, says_puts, ld_acts, jump_acts}
 use Rattle.code_runs.proofs.Leads.{leads_one, leads_then, silent_one, silent_then}
-use Rattle.code_runs.proofs.TwoRegisters.{places_differ, set_stays, other_is}
-use Rattle.std.proofs.lemmas.Bool.{cases_eq}
+use Rattle.code_runs.proofs.Picked.{HasBlock, equal_or_not, held_put, put, put_other, put_same, says_here, unpicked_is}
 
-pub equal_or_not : (p q : ℕ) → (p ≡ q) ⊎ (p ≢ q)
-equal_or_not p q = cases_eq p q
-
--- ---- stores after stores
-store_all-then : (ws vs : List (ℕ × ℕ)) (m : Memory) → store_all (ws ++ vs) m ≡ store_all vs (store_all ws m)
-store_all-then [] vs m = refl
-store_all-then (w ∷ ws) vs m = store_all-then ws vs (store_word m w.0 w.1)
-
-each-then : (May : ℕ → Type 0) (ws vs : List (ℕ × ℕ)) → AllAt May ws → AllAt May vs → AllAt May (ws ++ vs)
-each-then May [] vs h k = k
-each-then May (w ∷ ws) vs h k = (h.0, each-then May ws vs h.1 k)
-
-pub each-weaker : (May Might : ℕ → Type 0) → ((z : ℕ) → May z → Might z) → (ws : List (ℕ × ℕ)) → AllAt May ws
-    → AllAt Might ws
-each-weaker May Might f [] h = tt
-each-weaker May Might f (w ∷ ws) h = (f w.0 h.0, each-weaker May Might f ws h.1)
-
-pub stores_then : (May Might : ℕ → Type 0) (m n o : Memory) → ((z : ℕ) → May z → Might z) → Stores Might m n
-    → Stores May n o → Stores Might m o
-stores_then May Might m n o f h k = record {
-  writes = h.writes ++ k.writes;
-  each = each-then Might h.writes k.writes h.each (each-weaker May Might f k.writes k.each);
-  result = k.result ∙ ap (store_all k.writes) h.result ∙ sym (store_all-then h.writes k.writes m);
-}
-
--- ---- one block after another
+-- one of the first picked numbers, or none of them
+pub picked_or_not : (r : ℕ → ℕ) (want q : ℕ) → ((k : ℕ) × (k < want) × (q ≡ r k)) ⊎ ((k : ℕ) → k < want → q ≢ r k)
+picked_or_not r zero q = inr (λ k b. absurd (omega arith))
+picked_or_not r (suc n) q = elim (equal_or_not q (r n)) [
+  | inl e ↦ inl (n, omega arith, e)
+  | inr ne ↦ elim (picked_or_not r n q) [
+    | inl h ↦ inl (h.0, (let b = h.1 in omega arith), h.2)
+    | inr none ↦ inr (λ k b. elim (equal_or_not k n) [
+      | inl e ↦ rw e ne
+      | inr o ↦ none k (omega arith)
+    ])
+  ]
+]
 
 -- ---- the state that was reached, as a whole
 same_state : (u : State) (pc npc : ℕ) (slot : Slot) (registers : List ℕ) (window valid : ℕ) (codes : Codes) (y : ℕ)
@@ -63,102 +48,108 @@ same_state : (u : State) (pc npc : ℕ) (slot : Slot) (registers : List ℕ) (wi
 same_state u pc npc slot registers window valid codes y memory input ending e1 e2 e3 e4 e5 e6 e7 e8 e9 e10 e11 =
     rw (← e1, ← e2, ← e3, ← e4, ← e5, ← e6, ← e7, ← e8, ← e9, ← e10, ← e11) refl
 
--- both registers as they are in another list
-both_same : (us qs : List ℕ) (w a b : ℕ) → 0 < a → 0 < b → length us ≡ 136 → length qs ≡ 136
-    → register_in us w a ≡ register_in qs w a → register_in us w b ≡ register_in qs w b
-    → ((p : ℕ) → p ≢ place_of w a → p ≢ place_of w b → slice_index us p ≡ slice_index qs p) → us ≡ qs
-both_same us qs w a b sa sb lu lq ea eb others = ext_get_or 0 us qs (lu
-    ∙ sym lq) (λ p h. at p (equal_or_not p (place_of w a)) (equal_or_not p (place_of w b)))
-  where
-    at : (p : ℕ) → (p ≡ place_of w a) ⊎ (p ≢ place_of w a) → (p ≡ place_of w b) ⊎ (p ≢ place_of w b)
-        → slice_index us p ≡ slice_index qs p
-    at p (inl e) k = rw e (sym (in_place us w a sa) ∙ ea ∙ in_place qs w a sa)
-    at p (inr n) (inl e) = rw e (sym (in_place us w b sb) ∙ eb ∙ in_place qs w b sb)
-    at p (inr n) (inr k) = others p n k
+module _ {s : State} {count : ℕ} {r : ℕ → ℕ} {want : ℕ} (c : HasBlock s count r want) where
+  -- registers that hold the same are the same
+  held_same : {f : ℕ → ℕ} (us qs : List ℕ) → AreHeld s r want f us s.window → AreHeld s r want f qs s.window → us ≡ qs
+  held_same us qs h g = ext_get_or 0 us qs (h.count ∙ sym g.count)
+      (λ p l. at p (picked_or_not (λ k. place_of s.window (r k)) want p))
+    where
+      at : (p : ℕ) → ((k : ℕ) × (k < want) × (p ≡ place_of s.window (r k)))
+          ⊎ ((k : ℕ) → k < want → p ≢ place_of s.window (r k)) → slice_index us p ≡ slice_index qs p
+      at p (inl (k, b, e)) =
+          rw e (sym (in_place us s.window (r k) (c.some k b)) ∙ h.picked k b ∙ sym (g.picked k b)
+          ∙ in_place qs s.window (r k) (c.some k b))
+      at p (inr none) = h.others p none ∙ sym (g.others p none)
 
-module _ (s : State) (count : ℕ) (May : ℕ → Type 0) (a b : ℕ) (c : HasScratch s count a b) where
-  kept : (v : ℕ) → register_in (register_set s.registers s.window b v) s.window a ≡ register_in s.registers s.window a
-  kept v = register_in-other s.registers s.window b v s.window a
-      (places_differ s.window b a c.window c.second_below c.first_below (λ e. c.differ (sym e)))
-
-  -- the first register as it was, the second with another value
-  pub works_state : (n : ℕ) (m : Memory) (y : ℕ) (w : Works s count May a b n m (register_of s a) y) → 0 < n
-      → w.after ≡ record (with_register s b y) { pc = s.pc + 4 * n; npc = s.pc + 4 * n + 4; slot = NoSlot; memory = m }
-  works_state n m y w some =
+  -- where words lead, by the registers that hold such values
+  works_is : {May : ℕ → Type 0} {k n : ℕ} {m : Memory} {f : ℕ → ℕ} (qs : List ℕ) → AreHeld s r want f qs s.window
+      → (w : Works s count May r want k n (Is m) s.codes f) → 0 < n
+      → w.after ≡ record s
+      { pc = s.pc + 4 * n; npc = s.pc + 4 * n + 4; slot = NoSlot; registers = qs; memory = m }
+  works_is {f = f} qs is w some =
       let h = w.alike in
-      same_state w.after _ _ _ (register_set s.registers s.window b y) _ _ _ _ _ _ s.ending w.pc w.npc (w.slot some)
-      (both_same w.after.registers (register_set s.registers s.window b y) s.window a b c.first_some c.second_some h.registers (length-register_set s.registers s.window b y ∙ c.registers)
-      ((rw h.window at h.first) ∙ sym (kept y))
-      ((rw h.window at h.second) ∙ sym (register_in-set s.registers s.window b y c.registers c.second_some))
-      (λ p na nb. h.others p na nb ∙ sym (set_stays s.registers s.window b y p nb)))
-      h.window h.valid h.codes h.y_register h.memory h.input (h.live ∙ sym c.ready.live)
+      let b = h.same in
+      same_state w.after _ _ _ qs _ _ _ _ _ _ s.ending w.pc w.npc (w.slot (inr some))
+      (held_same w.after.registers qs
+      (subst (AreHeld s r want f w.after.registers) b.window h.held) is)
+      b.window b.valid h.codes_are b.y_register h.memory b.input (b.live ∙ sym c.ready.live)
 
-  set_own : register_set s.registers s.window b (register_of s b) ≡ s.registers
-  set_own = both_same _ _ s.window a b c.first_some c.second_some
-      (length-register_set s.registers s.window b (register_of s b) ∙ c.registers) c.registers
-      (kept (register_of s b)) (register_in-set s.registers s.window b (register_of s b) c.registers c.second_some)
-      (λ p na nb. set_stays s.registers s.window b (register_of s b) p nb)
+  -- all as it was but for one register
+  pub works_state : {May : ℕ → Type 0} {k n : ℕ} {m : Memory} {f : ℕ → ℕ} (j v : ℕ) → j < want
+      → (w : Works s count May r want k n (Is m) s.codes f)
+      → ((i : ℕ) → i < want → f i ≡ put j v (λ k. register_of s (r k)) i) → 0 < n
+      → w.after ≡ record (with_register s (r j) v)
+      { pc = s.pc + 4 * n; npc = s.pc + 4 * n + 4; slot = NoSlot; memory = m }
+  works_state j v b w same some =
+      let h = held_put c j v b refl (record { count = c.registers; picked = λ k l. refl; others = λ p ne. refl }) in
+      works_is (register_set s.registers s.window (r j) v)
+      (record { count = h.count; picked = λ i l. h.picked i l ∙ sym (same i l); others = h.others }) w some
 
-  -- both registers as they were
-  pub works_same : (n : ℕ) (m : Memory) (w : Works s count May a b n m (register_of s a) (register_of s b)) → 0 < n
+  -- all as it was
+  pub works_same : {May : ℕ → Type 0} {k n : ℕ} {m : Memory} {f : ℕ → ℕ}
+      (w : Works s count May r want k n (Is m) s.codes f) → ((i : ℕ) → i < want → f i ≡ register_of s (r i)) → 0 < n
       → w.after ≡ record s { pc = s.pc + 4 * n; npc = s.pc + 4 * n + 4; slot = NoSlot; memory = m }
-  works_same n m w some = works_state n m (register_of s b) w some
-      ∙ ap (λ (z : List ℕ). record s { pc = s.pc + 4 * n; npc = s.pc + 4 * n + 4; slot = NoSlot; memory = m; registers = z }) set_own
+  works_same w same some =
+      works_is s.registers (record { count = c.registers; picked = λ i l. sym (same i l); others = λ p ne. refl }) w some
 
-  -- a register that isn't the first, as long as the second is as it was
-  pub read_is : (m : Memory) (x : ℕ) (u : State) (r : ℕ) → IsAlike s a b m x (register_of s b) u → r < 32 → r ≢ a
-      → register_of u r ≡ register_of s r
-  read_is m x u r h low na = elim (equal_or_not r b) [
-    | inl e ↦ rw e h.second
-    | inr n ↦ other_is s count May a b c m x (register_of s b) u r h low na n
-  ]
+  -- a register that is as it was
+  pub read_is : {M : Memory → Type 0} {codes : Codes} {f : ℕ → ℕ} (u : State) (q : ℕ) → IsAlike s r want M codes f u
+      → q < 32 → ((k : ℕ) → k < want → q ≡ r k → f k ≡ register_of s (r k)) → register_of u q ≡ register_of s q
+  read_is {f = f} u q h low same = go (picked_or_not r want q)
+    where
+      go : ((k : ℕ) × (k < want) × (q ≡ r k)) ⊎ ((k : ℕ) → k < want → q ≢ r k) → register_of u q ≡ register_of s q
+      go (inl (k, b, e)) = rw e (h.held.picked k b ∙ same k b e)
+      go (inr none) = unpicked_is c u q h low none
 
-  -- a jump through the first register, which is loaded back in the jump's slot
-  pub hops_through : (n : ℕ) (m : Memory) (x to : ℕ) (through back : Op2) (address : ℕ)
-      (w : Works s count May a b n m x (register_of s b)) → 0 < n → n + 2 ≡ count
-      → (to % 4 == 0) ≡ true → Says (code_of s.memory) (s.pc + 4 * n) (i.Jmpl 0 a through)
-      → Says (code_of s.memory) (s.pc + 4 * n + 4) (i.Load loads.LD a 0 back)
-      → ((u : State) → IsAlike s a b m x (register_of s b) u → sum_of u a through ≡ to)
+  -- a jump through a picked register, which is loaded back in the jump's slot
+  pub hops_through : {May : ℕ → Type 0} {n : ℕ} {m : Memory} {f : ℕ → ℕ} (j to : ℕ) (through back : Op2) (address : ℕ)
+      (w : Works s count May r want n n (Is m) s.codes f) → j < want
+      → ((k : ℕ) → k < want → k ≢ j → f k ≡ register_of s (r k)) → 0 < n → n + 2 ≡ count
+      → (to % 4 == 0) ≡ true → Says (code_of s.memory) (s.pc + 4 * n) (i.Jmpl 0 (r j) through)
+      → Says (code_of s.memory) (s.pc + 4 * suc n) (i.Load loads.LD (r j) 0 back)
+      → ((u : State) → IsAlike s r want (Is m) s.codes f u → sum_of u (r j) through ≡ to)
       → ((u : State) → sum_of u 0 back ≡ address) → (address % 4 == 0) ≡ true → CanLoad m address
-      → memory_word m address ≡ register_of s a
+      → memory_word m address ≡ register_of s (r j)
       → Hops s count May to m
-  hops_through n m x to through back address w some whole four jump load target sums aligned can value =
+  hops_through {May = May} {n = n} {m = m} {f = f} j to through back address w b same some whole four jump load target sums aligned can value =
       let h = w.alike in
+      let z = h.same in
       let p = w.pc in
       let q = w.npc in
       let l = c.low in
+      let v = register_of s (r j) in
       let s2 = delayed (with_register w.after 0 w.after.pc) to in
-      let code_is : code_of w.after.memory ≡ code_of s.memory = ap code_of h.memory ∙ w.code in
-      let jump_here : Says (code_of w.after.memory) w.after.pc (i.Jmpl 0 a through) = rw (code_is, w.pc) jump in
-      let load_here : Says (code_of w.after.memory) w.after.npc (i.Load loads.LD a 0 back) = rw (code_is, w.npc) load in
-      let one : step_of w.after ≡ s2 = says_step w.after (i.Jmpl 0 a through) h.live jump_here
-      ∙ jump_acts w.after 0 a through to (w.slot some) (target w.after h) four in
-      let two : step_of s2 ≡ next (with_register s2 a (register_of s a)) =
-      says_step s2 (i.Load loads.LD a 0 back) h.live load_here
-      ∙ ld_acts s2 a 0 back address (sums s2) aligned (rw h.memory can)
-      ∙ ap (λ z. next (with_register s2 a z)) (ap (λ (z : Memory). memory_word z address) h.memory ∙ value) in
-      let there : next (with_register s2 a (register_of s a)) ≡ hopped s to m =
-      same_state (next (with_register s2 a (register_of s a))) _ _ _ s.registers _ _ _ _ _ _ s.ending refl refl refl
-      (both_same (register_set w.after.registers w.after.window a
-      (register_of s a)) s.registers s.window a b c.first_some c.second_some
-      (length-register_set w.after.registers w.after.window a (register_of s a) ∙ h.registers) c.registers
-      (rw h.window (register_in-set w.after.registers s.window a (register_of s a) h.registers c.first_some))
-      (rw h.window (register_in-other w.after.registers s.window a (register_of s a) s.window b
-      (places_differ s.window a b c.window c.first_below c.second_below c.differ) ∙ (rw h.window at h.second)))
-      (λ z na nb. set_stays w.after.registers w.after.window a (register_of s a) z
-      (rw h.window na) ∙ h.others z na nb))
-      h.window h.valid h.codes h.y_register h.memory h.input (h.live ∙ sym c.ready.live) in
-      let inside : Stores May s.memory w.after.memory = rw h.memory w.stores in
+      let jump_here = says_here c (i.Jmpl 0 (r j) through) w jump in
+      let behind : w.after.npc ≡ s.pc + 4 * suc n = omega arith in
+      let load_here : Says (code_of w.after.memory) w.after.npc (i.Load loads.LD (r j) 0 back) = rw (w.code, behind) load in
+      let one : step_of w.after ≡ s2 = says_step w.after (i.Jmpl 0 (r j) through) z.live jump_here
+      ∙ jump_acts w.after 0 (r j) through to (w.slot (inr some)) (target w.after h) four in
+      let two : step_of s2 ≡ next (with_register s2 (r j) v) =
+      says_step s2 (i.Load loads.LD (r j) 0 back) z.live load_here
+      ∙ ld_acts s2 (r j) 0 back address (sums s2) aligned (rw h.memory can)
+      ∙ ap (λ x. next (with_register s2 (r j) x)) (ap (λ (x : Memory). memory_word x address) h.memory ∙ value) in
+      let held = held_put c j v b refl (subst (AreHeld s r want f w.after.registers) z.window h.held) in
+      let there : next (with_register s2 (r j) v) ≡ hopped s to m =
+      same_state (next (with_register s2 (r j) v)) _ _ _ s.registers _ _ _ _ _ _ s.ending refl refl refl
+      (rw z.window (held_same (register_set w.after.registers s.window (r j) v) s.registers held
+      (record { count = c.registers; picked = λ k x. back_again k x (equal_or_not k j); others = λ x ne. refl })))
+      z.window z.valid h.codes_are z.y_register h.memory z.input (z.live ∙ sym c.ready.live) in
       let last = leads_then (IsBetween s count May) w.after s2 (hopped s to m) 1 1 (leads_one _ w.after s2 one)
-      (leads_one _ s2 _ (two ∙ there)) (λ _ _. record { past = omega arith; before = omega arith; stores = inside }) in
+      (leads_one _ s2 _ (two ∙ there)) (λ _ _. record { past = omega arith; before = omega arith; stores = w.stores }) in
       record {
-        path = subst (λ z. Leads (IsBetween s count May) s (hopped s to m) z) whole
+        path = subst (λ x. Leads (IsBetween s count May) s (hopped s to m) x) whole
             (leads_then (IsBetween s count May) s w.after (hopped s to m) n 2 w.path last
-            (λ _ _. record { past = omega arith; before = omega arith; stores = inside }));
-        silent = subst (λ z. IsSilent s z) whole
+            (λ _ _. record { past = omega arith; before = omega arith; stores = w.stores }));
+        silent = subst (λ x. IsSilent s x) whole
             (silent_then s w.after n 2 w.path.steps w.silent
             (silent_then w.after s2 1 1 one (silent_one w.after
-            (says_puts w.after (i.Jmpl 0 a through) (λ cond r x e. cc) jump_here)) (silent_one s2
-            (says_puts s2 (i.Load loads.LD a 0 back) (λ cond r x e. cc) load_here))));
-        stores = w.stores;
+            (says_puts w.after (i.Jmpl 0 (r j) through) (λ cond k x e. cc) jump_here)) (silent_one s2
+            (says_puts s2 (i.Load loads.LD (r j) 0 back) (λ cond k x e. cc) load_here))));
+        stores = rw h.memory at w.stores;
       }
+    where
+      back_again : (k : ℕ) → k < want → (k ≡ j) ⊎ (k ≢ j) → register_of s (r k) ≡ put j (register_of s (r j)) f k
+      back_again k x (inl e) =
+          ap (λ q. register_of s (r q)) e ∙ sym (put_same j (register_of s (r j)) f)
+          ∙ ap (put j (register_of s (r j)) f) (sym e)
+      back_again k x (inr ne) = sym (same k x ne) ∙ sym (put_other j (register_of s (r j)) f k ne)

@@ -8,5 +8,6 @@ pub mod Points
 pub mod PointsAlike
 pub mod Stays
 pub mod StoredWords
+pub mod Stores
 pub mod Straight
-pub mod TwoRegisters
+pub mod Picked

@@ -8,5 +8,5 @@ pub mod Points
 pub mod PointsAlike
 pub mod StoredWords
 pub mod Straight
-pub mod TwoRegisters
+pub mod Picked
 pub mod Code

@@ -7,13 +7,6 @@ ghost use Rattle.code_runs.specs.LongJump.{LongJumpsHop, LongJumpsStore};
 ghost use Rattle.code_runs.specs.Ours.{OursAreStored, OursStay, WordsStay};
 ghost use Rattle.code_runs.specs.Points.{ActsAnywhere};
 ghost use Rattle.code_runs.specs.PointsAlike.{PointsActAlike};
-ghost use Rattle.code_runs.specs.TwoRegisters.{BlocksWork};
-
-/// What each further word of a block makes of its two registers and of memory. All else stays as it was, and the words
-/// that the block may store are the only ones that change.
-pub fn blocks_work()
-    ensures { BlocksWork }
-{}
 
 /// A jump to any address below 2^32, in four words: all stays as it was but word 0 of the editor's page, in which %g1
 /// waits meanwhile.

@@ -39,24 +39,22 @@ pub use Rattle.cfg_walk.specs.Matches.{IsOnItsWay, IsTarget, MatchesBy, last_in,
 pub use Rattle.cfg_walk.specs.Walk.{Point, WayOut, edge_along, edge_from, ends_block, gone, instr_at, landed, landing_at, leads_along, left_by, node_after, point_of, slot_left, unless_ended, way_of}
 pub use Rattle.code_runs.proofs.Acts.{step_is}
 pub use Rattle.code_runs.proofs.Counted.{count_add, no_stores, none_then}
-pub use Rattle.code_runs.proofs.Hops.{stores_then}
 pub use Rattle.code_runs.proofs.Leads.{leads_one, leads_then, leads_weaker, puts_add}
 pub use Rattle.code_runs.proofs.Ours.{outside_refl}
 pub use Rattle.code_runs.proofs.Stays.{loads_there, stores_there, words_stay}
 pub use Rattle.code_runs.proofs.StoredWords.{other_word_stored}
-pub use Rattle.code_runs.proofs.TwoRegisters.{stores_none}
+pub use Rattle.code_runs.proofs.Stores.{stores_none, stores_then}
 pub use Rattle.code_runs.specs.Code.{AllAt, CanStore, Stores, store_all}
 unfoldable pub use Rattle.code_runs.specs.Code.{store_word}
 pub use Rattle.code_runs.specs.Counted.{count_stores}
 pub use Rattle.code_runs.specs.Hops.{hopped}
-pub use Rattle.code_runs.specs.Leads.{IsSilent, Leads}
+pub use Rattle.code_runs.specs.Leads.{IsBetween, IsSilent, Leads}
 pub use Rattle.code_runs.specs.LongJump.{IsFirstWord, long_jump}
 pub use Rattle.code_runs.specs.Ours.{HasWordAt, IsAmongWords}
 pub use Rattle.code_runs.specs.Page.{page_word}
 pub use Rattle.code_runs.specs.Points.{moved}
 pub use Rattle.code_runs.specs.StoredWords.{memory_word}
 pub use Rattle.code_runs.specs.Straight.{HasWords, StandIn}
-pub use Rattle.code_runs.specs.TwoRegisters.{IsBetween}
 pub use Rattle.eel_base.specs.Code.{IsText}
 pub use Rattle.eel_base.specs.CodeText.{Words, address_of, word_at}
 pub use Rattle.eel_base.specs.declared.numbers.Addr.{Addr}

@@ -1,6 +1,6 @@
 -- The words of a JMPL, and then the way; or the ending that a misaligned target has.
 use Rattle.image_code.proofs.Common.{◌≡◌, ◌≢◌, ℕ, ◌+◌, ◌%◌, ◌^◌, ◌<◌, ◌≤◌, inl, inr, false, Option, Some, None, List, [], length, refl, ap, sym, ◌∙◌, subst, arith, word_at, Instr, wrapped, code_of, Ending, NoSlot, State, sum_of, is_transfer, IsValid, run-valid, instr_at, point_of, node_after, page_word, moved, StandIn, leads_weaker, stores_there, words_of, look_up, loads_there, jumped, pieces_are_laid}
-use Rattle.code_runs.proofs.Hops.{equal_or_not}
+use Rattle.code_runs.proofs.Picked.{equal_or_not}
 use Rattle.jump_code.specs.Finding.{IsAboutToFind, found_memory}
 use Rattle.jump_code.proofs.FindFollowing.{goes, look_up_simulates}
 use Rattle.jump_code.proofs.Jumping.{jump_stops}

@@ -5,6 +5,7 @@ use Rattle.std.proofs.lemmas.Bool.Decides.{nat_tests}
 use Rattle.v8_decode.specs.declared.Op2.{Op2}
 use Rattle.v8_decode.specs.declared.Op2.TheVariants.{Imm}
 use Rattle.v8_decode.specs.declared.AluOp.TheVariants as ops
+use Rattle.v8_alu.specs.declared.Codes.{Codes}
 use Rattle.v8_alu.specs.Alu.{alu_of}
 use Rattle.v8_alu.specs.Numbers.{wrapped}
 use Rattle.v8_memory.specs.Regions.{Memory, code_of}
@@ -12,10 +13,10 @@ use Rattle.v8_step.specs.State.{State, register_of, operand_of, sum_of}
 use Rattle.v8_step.specs.Valid.{IsValid, IsValidMemory}
 use Rattle.v8_step.proofs.ValidSteps.{run-valid}
 use Rattle.code_runs.specs.Page.{page_word}
-use Rattle.code_runs.specs.Straight.{IsReady, StandIn}
-use Rattle.code_runs.specs.TwoRegisters.{HasScratch, Works, Gives, BlockRules}
-use Rattle.code_runs.proofs.LongJump.{says_at}
-use Rattle.code_runs.proofs.TwoRegisters.{block_rules}
+use Rattle.code_runs.specs.Picked.{Is, Works, WorksInTwo}
+use Rattle.code_runs.specs.Straight.{StandIn}
+use Rattle.code_runs.proofs.Straight.{says_at}
+use Rattle.code_runs.proofs.Picked.{Gives, HasTwo, alu, goes_on, in_two, second, sethi}
 pub use Rattle.addr_translate.proofs.TwelveWords.{four}
 use Rattle.jump_code.specs.Links.{address_into}
 use Rattle.jump_code.specs.PageWords.{IsPageWord}
@@ -36,18 +37,10 @@ word7 = inr (inr (inr (inl refl)))
 
 -- ---- blocks
 
-pub scratch : (s : State) (count a b : ℕ) → IsValid s → IsReady s → s.pc + 4 * count < 2 ^ 32 - 4 → 0 < a → a < 32
-    → 0 < b → b < 32 → a ≢ b → HasScratch s count a b
-scratch s count a b valid ready low some below others within differ = assumption
-
-after_valid : (s : State) (count : ℕ) (May : ℕ → Type 0) (a b n : ℕ) (m : Memory) (x y : ℕ) → IsValid s
-    → (w : Works s count May a b n m x y) → IsValid w.after
-after_valid s count May a b n m x y v w = subst IsValid w.path.steps (run-valid s n v)
-
-pub memory_valid : (s : State) (count : ℕ) (May : ℕ → Type 0) (a b n : ℕ) (m : Memory) (x y : ℕ) → IsValid s
-    → Works s count May a b n m x y → IsValidMemory m
-memory_valid s count May a b n m x y v w =
-    let k = after_valid s count May a b n m x y v w in subst IsValidMemory w.alike.memory k.memory
+pub memory_valid : {s : State} {count : ℕ} {May : ℕ → Type 0} {r : ℕ → ℕ} {want k n : ℕ} {m : Memory} {codes : Codes}
+    {f : ℕ → ℕ} → IsValid s → Works s count May r want k n (Is m) codes f → IsValidMemory m
+memory_valid {s} {k = k} v w =
+    let valid = subst IsValid w.path.steps (run-valid s k v) in subst IsValidMemory w.alike.memory valid.memory
 
 -- ---- sums, and addresses
 
@@ -58,20 +51,17 @@ gives_sum u rs1 op2 t e =
     ((let f : wrapped (register_of u rs1 + operand_of u op2 + 0) ≡ wrapped (register_of u rs1 + operand_of u op2) = ap
     wrapped (omega arith) in f) ∙ e)
 
-module _ (s : State) (count a b : ℕ) (c : HasScratch s count a b) where
-  rules : BlockRules s count IsPageWord a b
-  rules = block_rules s count IsPageWord a b c
-
-  -- the second register takes an address
-  pub addressed : (n : ℕ) (m : Memory) (x y address : ℕ) → Works s count IsPageWord a b n m x y → address < 2 ^ 32
-      → suc (suc n) ≤ count → StandIn (code_of s.memory) (s.pc + 4 * n) (address_into b address)
-      → Works s count IsPageWord a b (suc (suc n)) m x address
-  addressed n m x y address w short room stand =
-      let high : Works s count IsPageWord a b (suc n) m x (1024 * (address / 1024)) =
-      rules.sethi_second n m x y (address / 1024) (1024 * (address / 1024)) w (omega arith, stand.0)
-      (let e : wrapped (1024 * (address / 1024)) ≡ 1024 * (address / 1024) = omega arith in e) in
-      rules.alu_second (suc n) m x (1024 * (address / 1024)) ops.ADD b (Imm (pos (address % 1024))) address high
-      (omega arith, says_at (code_of s.memory) _ _ _ (omega arith) stand.1.0)
-      (λ u k. gives_sum u b (Imm (pos (address % 1024))) address
-      (ap (λ z. wrapped (z + wrapped (address % 1024))) k.second
-      ∙ (let e : wrapped (1024 * (address / 1024) + wrapped (address % 1024)) ≡ address = omega arith in e)))
+-- the second register takes an address
+pub addressed : {s : State} {count a b : ℕ} (c : HasTwo s count a b) {n : ℕ} {m : Memory} {x y : ℕ} (address : ℕ)
+    → WorksInTwo s count IsPageWord a b n m x y → address < 2 ^ 32 → suc (suc n) ≤ count
+    → StandIn (code_of s.memory) (s.pc + 4 * n) (address_into b address)
+    → WorksInTwo s count IsPageWord a b (suc (suc n)) m x address
+addressed {s} {b = b} c {n} address w short room stand =
+    let high = goes_on c w (omega arith, stand.0)
+    (sethi c 1 (address / 1024) (1024 * (address / 1024)) (omega arith)
+    (let e : wrapped (1024 * (address / 1024)) ≡ 1024 * (address / 1024) = omega arith in e)) in
+    in_two (goes_on c high (omega arith, says_at (code_of s.memory) _ _ _ (omega arith) stand.1.0)
+    (alu c 1 ops.ADD b (Imm (pos (address % 1024))) address (omega arith)
+    (λ u h. gives_sum u b (Imm (pos (address % 1024))) address
+    (ap (λ z. wrapped (z + wrapped (address % 1024))) (second h)
+    ∙ (let e : wrapped (1024 * (address / 1024) + wrapped (address % 1024)) ≡ address = omega arith in e))))) refl refl

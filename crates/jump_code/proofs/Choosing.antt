@@ -10,30 +10,28 @@ use Rattle.v8_step.specs.Valid.{IsValid}
 use Rattle.v8_step.proofs.ValidStates.{register_of-range}
 use Rattle.v8_step.proofs.ValidSteps.{run-valid}
 use Rattle.code_runs.specs.Hops.{Hops, hopped}
-use Rattle.code_runs.specs.Leads.{Leads, IsSilent}
+use Rattle.code_runs.specs.Leads.{Leads, IsBetween, IsSilent}
 use Rattle.code_runs.specs.Page.{page_word}
 use Rattle.code_runs.specs.Code.{of_page, store_word, CanLoad, CanStore, Stores}
 use Rattle.code_runs.specs.StoredWords.{memory_word}
-use Rattle.code_runs.specs.Straight.{StandIn}
-use Rattle.code_runs.specs.TwoRegisters.{BlockRules, HasScratch, IsBetween, Works}
+use Rattle.code_runs.specs.Picked.{WorksInTwo}
+use Rattle.code_runs.specs.Straight.{Says, StandIn}
 use Rattle.code_runs.proofs.Hops.{hops_through, works_state}
 use Rattle.code_runs.proofs.Leads.{leads_then, leads_weaker, silent_then}
-use Rattle.code_runs.proofs.LongJump.{says_at}
+use Rattle.code_runs.proofs.Picked.{HasTwo, IsNext, both, first, goes_on, in_two, ld_in, none_in_two, second, st_in, two_registers, word}
+use Rattle.code_runs.proofs.Straight.{nth, says_at}
 use Rattle.code_runs.proofs.StoredWords.{word_stored, other_word_stored, other_loaded, loads_stored, still_stored, can_load, whole_of}
-use Rattle.code_runs.proofs.TwoRegisters.{block_rules, stores_none}
+use Rattle.code_runs.proofs.Stores.{stores_none}
 use Rattle.jump_code.specs.Choosing.{ChoicesHop, ChoicesSimulate, ComesToCase, IsAboutToGo, choice_at, choose, chosen, chosen_memory}
 use Rattle.jump_code.specs.Jumped.{jumped}
 use Rattle.jump_code.specs.PageWords.{IsPageWord, saved_address}
 use Rattle.jump_code.specs.Links.{past}
-use Rattle.jump_code.proofs.Blocks.{four, scratch, addressed, memory_valid, word2, word7}
+use Rattle.jump_code.proofs.Blocks.{four, addressed, memory_valid, word2, word7}
 use Rattle.jump_code.proofs.Finding.{another}
 use Rattle.jump_code.proofs.Jumping.{jump_aligned, jump_goes}
 pub use Rattle.jump_code.proofs.Words.{returns}
 
 module _ (distance : ℕ) (s : State) (h : IsAboutToGo distance s) where
-  abbrev code : List Region
-  code = code_of s.memory
-
   abbrev g1 : ℕ
   g1 = register_of s 1
 
@@ -66,34 +64,37 @@ module _ (distance : ℕ) (s : State) (h : IsAboutToGo distance s) where
   second_waits : memory_word m2 (page_word 7) ≡ g2
   second_waits = word_stored m1 (page_word 7) g2 (register_of-range s 2 h.valid) (can1 7 (omega arith))
 
-  block : HasScratch s 9 1 2
-  block = scratch s 9 1 2 h.valid h.ready h.low (omega arith) (omega arith) (omega arith) (omega arith) (omega arith)
+  block : HasTwo s 9 1 2
+  block = two_registers s 9 1 2 h.valid h.ready h.low (omega arith) (omega arith) (omega arith) (omega arith) (omega arith)
 
-  rules : BlockRules s 9 IsPageWord 1 2
-  rules = block_rules s 9 IsPageWord 1 2 block
+  at : (n : ℕ) → n < 9 → IsNext s 9 n (nth (choose distance) n)
+  at = word s 9 (choose distance) h.words (omega arith)
 
-  one : Works s 9 IsPageWord 1 2 1 m1 g1 g2
+  begun : WorksInTwo s 9 IsPageWord 1 2 0 s.memory g1 g2
+  begun = none_in_two block
+
+  one : WorksInTwo s 9 IsPageWord 1 2 1 m1 g1 g2
   one =
-      rules.st 0 s.memory g1 g2 1 0 (of_page 2) (page_word 2) g1 rules.none
-      (omega arith, says_at code _ _ _ (omega arith) h.words.0) (record { sums = λ u k. refl; aligned = refl })
-      (h.page 2 (omega arith)) (λ u k. k.first) word2
+      goes_on block begun (at 0 (omega arith))
+      (st_in block 1 0 (of_page 2) (page_word 2) g1 (λ u k. refl) refl (h.page 2 (omega arith)) (λ u k. first k) word2)
 
-  two : Works s 9 IsPageWord 1 2 2 m2 g1 g2
+  two : WorksInTwo s 9 IsPageWord 1 2 2 m2 g1 g2
   two =
-      rules.st 1 m1 g1 g2 2 0 (of_page 7) (page_word 7) g2 one
-      (omega arith, says_at code _ _ _ (omega arith) h.words.1.0) (record { sums = λ u k. refl; aligned = refl })
-      (can1 7 (omega arith)) (λ u k. k.second) word7
+      goes_on block one (at 1 (omega arith))
+      (st_in block 2 0 (of_page 7) (page_word 7) g2 (λ u k. refl) refl (can1 7 (omega arith)) (λ u k. second k) word7)
 
-  three : Works s 9 IsPageWord 1 2 3 m2 (saved_address s) g2
+  three : WorksInTwo s 9 IsPageWord 1 2 3 m2 (saved_address s) g2
   three =
-      rules.ld_first 2 m2 g1 g2 0 (of_page 0) (page_word 0) (saved_address s) two
-      (omega arith, says_at code _ _ _ (omega arith) h.words.1.1.0) (record { sums = λ u k. refl; aligned = refl })
-      (can_load m2 (page_word 0) (can2 0 (omega arith))) kept_stays
+      in_two (goes_on block two (at 2 (omega arith))
+      (ld_in block 0 0 (of_page 0) (page_word 0) (saved_address s) (omega arith) (λ u k. refl) refl
+      (can_load m2 (page_word 0) (can2 0 (omega arith))) kept_stays)) refl refl
 
-  five : Works s 9 IsPageWord 1 2 5 m2 (saved_address s) distance
+  five : WorksInTwo s 9 IsPageWord 1 2 5 m2 (saved_address s) distance
   five =
-      addressed s 9 1 2 block 3 m2 (saved_address s) g2 distance three h.near (omega arith)
-      (says_at code _ _ _ (omega arith) h.words.1.1.1.0, (says_at code _ _ _ (omega arith) h.words.1.1.1.1.0, tt))
+      addressed block distance three h.near (omega arith) ((at 3 (omega arith)).1, (at_four, tt))
+    where
+      at_four : Says (code_of s.memory) (s.pc + 4 * 3 + 4) (nth (choose distance) 4)
+      at_four = says_at (code_of s.memory) _ _ _ (omega arith) (at 4 (omega arith)).1
 
   -- the word of the choice is none of the page's
   choice_loads1 : CanLoad m1 (choice_at distance s)
@@ -105,40 +106,35 @@ module _ (distance : ℕ) (s : State) (h : IsAboutToGo distance s) where
       let below = h.choice.below in
       let k0 = h.choice.loads in
       let k1 = choice_loads1 in
-      let v1 = memory_valid s 9 IsPageWord 1 2 1 m1 g1 g2 h.valid one in
+      let v1 = memory_valid h.valid one in
       other_loaded m1 there (page_word 7) g2 k1 (whole_of m1 there k1.region v1 k1.at) (inl (omega (arith, below)))
       ∙ other_loaded s.memory there (page_word 2) g1 k0 (whole_of s.memory there k0.region h.valid.memory k0.at)
       (inl (omega (arith, below)))
 
-  six : Works s 9 IsPageWord 1 2 6 m2 (chosen distance s) distance
+  six : WorksInTwo s 9 IsPageWord 1 2 6 m2 (chosen distance s) distance
   six =
-      rules.ld_first 5 m2 (saved_address s) distance 1 (Reg 2) (choice_at distance s) (chosen distance s) five
-      (omega arith, says_at code _ _ _ (omega arith) h.words.1.1.1.1.1.0)
-      (record {
-        sums = λ u k. ap (λ z. wrapped (z + register_of u 2)) k.first ∙ ap (λ z. wrapped (saved_address s + z)) k.second;
-        aligned = four (choice_at distance s) h.choice.aligned;
-      })
-      (loads_stored m1 (choice_at distance s) (page_word 7) g2 choice_loads1) choice_stays
+      in_two (goes_on block five (at 5 (omega arith))
+      (ld_in block 0 1 (Reg 2) (choice_at distance s) (chosen distance s) (omega arith)
+      (λ u k. ap (λ z. wrapped (z + register_of u 2)) (first k) ∙ ap (λ z. wrapped (saved_address s + z)) (second k))
+      (four (choice_at distance s) h.choice.aligned)
+      (loads_stored m1 (choice_at distance s) (page_word 7) g2 choice_loads1) choice_stays)) refl refl
 
-  seven : Works s 9 IsPageWord 1 2 7 m2 (chosen distance s) g2
+  seven : WorksInTwo s 9 IsPageWord 1 2 7 m2 (chosen distance s) g2
   seven =
-      rules.ld_second 6 m2 (chosen distance s) distance 0 (of_page 7) (page_word 7) g2 six
-      (omega arith, says_at code _ _ _ (omega arith) h.words.1.1.1.1.1.1.0)
-      (record { sums = λ u k. refl; aligned = refl }) (can_load m2 (page_word 7) (can2 7 (omega arith))) second_waits
+      in_two (goes_on block six (at 6 (omega arith))
+      (ld_in block 1 0 (of_page 7) (page_word 7) g2 (omega arith) (λ u k. refl) refl
+      (can_load m2 (page_word 7) (can2 7 (omega arith))) second_waits)) refl refl
 
   hops : Hops s 9 IsPageWord (chosen distance s) m2
   hops =
       let to = chosen distance s in
       let small : to < 2 ^ 32 =
-      rw seven.alike.first at
-      (register_of-range seven.after 1 (subst IsValid seven.path.steps (run-valid s 7 h.valid))) in
-      hops_through s 9 IsPageWord 1 2 block 7 m2 to to (Imm (pos 0)) (of_page 2) (page_word 2) seven
-      (omega arith) (omega arith) (four to h.choice.target)
-      (says_at code _ _ _ (omega arith) h.words.1.1.1.1.1.1.1.0)
-      (says_at code _ _ _ (omega arith) h.words.1.1.1.1.1.1.1.1.0)
-      (λ u k. ap (λ z. wrapped (z + 0)) k.first ∙ (let e : wrapped (to + 0) ≡ to = omega (arith, small) in e))
-      (λ u. refl) refl
-      (can_load m2 (page_word 2) (can2 2 (omega arith))) first_waits
+      rw (first seven.alike) at (register_of-range seven.after 1 (subst IsValid seven.path.steps (run-valid s 7 h.valid))) in
+      hops_through block 0 to (Imm (pos 0)) (of_page 2) (page_word 2) seven (omega arith)
+      (both _ (λ ne. absurd (ne refl)) (λ _. refl)) (omega arith) (omega arith) (four to h.choice.target)
+      (at 7 (omega arith)).1 (at 8 (omega arith)).1
+      (λ u k. ap (λ z. wrapped (z + 0)) (first k) ∙ (let e : wrapped (to + 0) ≡ to = omega (arith, small) in e))
+      (λ u. refl) refl (can_load m2 (page_word 2) (can2 2 (omega arith))) first_waits
 
 pub choices_hop : ChoicesHop
 choices_hop = hops
@@ -170,16 +166,15 @@ choices_simulate zero rs1 op2 address distance s h live =
 choices_simulate (suc r) rs1 op2 address distance s h live =
     let low = h.low in
     let o = another (suc r) in
-    let c = scratch s 11 o.0 (suc r) h.valid h.ready (omega arith) o.1 o.2 (omega arith) h.register (λ e. o.3 (sym e)) in
-    let w : Works s 11 IsPageWord o.0 (suc r) 2 s.memory (register_of s o.0) address =
-    addressed s 11 o.0 (suc r) c 0 s.memory (register_of s o.0) (register_of s (suc r)) address
-    (block_rules s 11 IsPageWord o.0 (suc r) c).none h.short (omega arith) (
+    let c = two_registers s 11 o.0 (suc r) h.valid h.ready (omega arith) o.1 o.2 (omega arith) h.register
+    (λ e. o.3 (sym e)) in
+    let w = addressed c address (none_in_two c) h.short (omega arith) (
       says_at (code_of s.memory) _ _ _ (omega arith) h.words.0,
       (says_at (code_of s.memory) _ _ _ (omega arith) h.words.1.0, tt),
     ) in
     let linked : State = past s 2 s.memory (with_register s (suc r) address) in
     let path : Leads (IsBetween s 11 IsPageWord) s linked 2 =
-    rw (works_state s 11 IsPageWord o.0 (suc r) c 2 s.memory address w (omega arith)) at w.path in
+    rw (works_state c 1 address (omega arith) w (both _ refl refl) (omega arith)) at w.path in
     let hop : Hops linked 9 IsPageWord (chosen distance s) (chosen_memory linked) =
     choices_hop distance linked (record {
       valid = subst IsValid path.steps (run-valid s 2 h.valid);

@@ -9,26 +9,25 @@ use Rattle.v8_step.specs.declared.Ending.{Ending}
 use Rattle.v8_step.specs.declared.Slot.TheVariants.{NoSlot}
 use Rattle.v8_step.specs.State.{State, register_of, with_register, sum_of}
 use Rattle.v8_step.specs.Transfers.{delayed}
-use Rattle.code_runs.specs.Leads.{Leads}
+use Rattle.code_runs.specs.Leads.{Leads, IsBetween}
 use Rattle.code_runs.specs.Page.{page_word}
 use Rattle.code_runs.specs.Code.{of_page, store_word, Stores}
 use Rattle.code_runs.specs.Points.{moved}
-use Rattle.code_runs.specs.TwoRegisters.{IsBetween, Works}
-use Rattle.code_runs.proofs.Hops.{equal_or_not, hops_through}
-use Rattle.code_runs.proofs.LongJump.{says_at}
+use Rattle.code_runs.proofs.Hops.{hops_through}
+use Rattle.code_runs.proofs.Picked.{both, equal_or_not, first, goes_on, none_in_two, two_registers, word}
+use Rattle.code_runs.proofs.Straight.{nth_says}
 use Rattle.code_runs.proofs.StoredWords.{can_load, memory_word-range, still_stored, word_stored}
 use Rattle.v8_step.proofs.ValidStates.{register_of-range}
-use Rattle.code_runs.proofs.TwoRegisters.{block_rules}
 use Rattle.addr_translate.specs.Lookup.{TableAt}
 use Rattle.addr_translate.specs.Halves.{found_in}
-use Rattle.jump_code.specs.Finding.{ComesFound, EndsFinding, LookUpSimulates, ResumeHops, IsAboutToFind, look_up, found_memory}
+use Rattle.jump_code.specs.Finding.{ComesFound, EndsFinding, LookUpSimulates, ResumeHops, IsAboutToFind, look_up, found_memory, resume}
 use Rattle.jump_code.specs.Jumped.{jumped}
 use Rattle.jump_code.specs.Links.{past}
 use Rattle.jump_code.specs.PageWords.{IsPageWord, found_there}
-use Rattle.jump_code.proofs.Blocks.{four, scratch, word7}
+use Rattle.jump_code.proofs.Blocks.{four, word7}
 use Rattle.jump_code.proofs.Finding.{another, looks_up}
 use Rattle.jump_code.proofs.Jumping.{jump_aligned, jump_goes, jump_stops}
-use Rattle.jump_code.proofs.Swaps.{swap_first}
+use Rattle.jump_code.proofs.Swaps.{swap}
 
 module _ (x y rd rs1 : ℕ) (op2 : Op2) (address : ℕ) (t : TableAt) (s : State)
     (h : IsAboutToFind x y rd rs1 op2 address t s) where
@@ -76,22 +75,19 @@ look_up_simulates x y rd rs1 op2 address t s h =
 
 pub resume_hops : ResumeHops
 resume_hops x s h =
-    let code = code_of s.memory in
     let o = another x in
     let g = register_of s x in
     let to = found_there s in
     let m = store_word s.memory (page_word 7) (register_of s x) in
     let r = memory_word-range s.memory (page_word 7) h.valid.memory in
-    let c = scratch s 3 x o.0 h.valid h.ready h.low h.some h.below o.1 o.2 o.3 in
-    let rules = block_rules s 3 IsPageWord x o.0 c in
+    let c = two_registers s 3 x o.0 h.valid h.ready h.low h.some h.below o.1 o.2 o.3 in
     let p7 = h.page 7 (omega arith) in
-    let w : Works s 3 IsPageWord x o.0 1 m (found_there s) (register_of s o.0) =
-    swap_first s 3 IsPageWord x o.0 c 0 s.memory (register_of s x) (register_of s o.0) 0 (of_page 7) (page_word 7)
-    (found_there s) rules.none (omega arith, says_at code _ _ _ (omega arith) h.words.0)
-    (record { sums = λ u k. refl; aligned = refl }) p7 refl word7 in
-    hops_through s 3 IsPageWord x o.0 c 1 m (found_there s) (found_there s) (Imm (pos 0)) (of_page 7) (page_word 7)
-    w (omega arith) (omega arith) (four (found_there s) h.aligned)
-    (says_at code _ _ _ (omega arith) h.words.1.0) (says_at code _ _ _ (omega arith) h.words.1.1.0)
-    (λ u k. ap (λ z. wrapped (z + 0)) k.first ∙ (let e : wrapped (to + 0) ≡ to = omega (arith, r) in e)) (λ u. refl) refl
+    let w0 = none_in_two c in
+    let w1 = goes_on c w0 (word s 3 (resume x) h.words (omega arith) 0 (omega arith))
+    (swap c 0 0 (of_page 7) (page_word 7) (found_there s) (omega arith) (λ u k. refl) refl p7 refl word7) in
+    hops_through c 0 (found_there s) (Imm (pos 0)) (of_page 7) (page_word 7) w1 (omega arith)
+    (both _ (λ ne. absurd (ne refl)) (λ _. refl)) (omega arith) (omega arith) (four (found_there s) h.aligned)
+    (nth_says (code_of s.memory) s.pc (resume x) 1 h.words (omega arith)) (nth_says (code_of s.memory) s.pc (resume x) 2 h.words (omega arith))
+    (λ u k. ap (λ z. wrapped (z + 0)) (first k) ∙ (let e : wrapped (to + 0) ≡ to = omega (arith, r) in e)) (λ u. refl) refl
     (can_load m (page_word 7) (still_stored s.memory (page_word 7) (page_word 7) g p7))
     (word_stored s.memory (page_word 7) g (register_of-range s x h.valid) p7)

@@ -17,27 +17,28 @@ use Rattle.v8_step.specs.Transfers.{trapped}
 use Rattle.v8_step.specs.Valid.{IsValid, IsValidMemory}
 use Rattle.v8_step.proofs.ValidStates.{register_of-range, wrapped-range}
 use Rattle.v8_step.proofs.ValidSteps.{run-valid}
-use Rattle.code_runs.specs.Leads.{Leads, IsSilent}
+use Rattle.code_runs.specs.Leads.{Leads, IsBetween, IsSilent}
 use Rattle.code_runs.specs.Page.{page_word}
 use Rattle.code_runs.specs.Code.{of_page, store_word, CanStore, Stores}
 use Rattle.code_runs.specs.StoredWords.{memory_word}
 use Rattle.code_runs.specs.Straight.{Says, StandIn, IsReady}
-use Rattle.code_runs.specs.TwoRegisters.{HasScratch, IsAlike, IsBetween, Works, Gives, BlockRules}
+use Rattle.code_runs.specs.Picked.{Is, IsAlike, WorksInTwo, pair}
 use Rattle.code_runs.proofs.Acts.{says_step, says_puts, ld_traps}
-use Rattle.code_runs.proofs.Hops.{equal_or_not, stores_then, works_state, works_same}
+use Rattle.code_runs.proofs.Hops.{works_state, works_same}
 use Rattle.code_runs.proofs.Leads.{leads_one, leads_then, leads_weaker, silent_one, silent_then}
-use Rattle.code_runs.proofs.LongJump.{says_at}
+use Rattle.code_runs.proofs.Picked.{Gives, HasTwo, alu, both, equal_or_not, first, goes_on, in_two, ld_in, none_in_two, says_here, second, sethi, st_in, two_registers, unpicked_is}
+use Rattle.code_runs.proofs.Straight.{nth, nth_says}
 use Rattle.code_runs.proofs.StoredWords.{word_stored, other_loaded, other_word_stored, loads_stored, still_stored, can_load, whole_of, memory_word-range}
-use Rattle.code_runs.proofs.TwoRegisters.{block_rules, other_is}
+use Rattle.code_runs.proofs.Stores.{stores_then}
 use Rattle.addr_translate.specs.Lookup.{TableAt, table_word}
 use Rattle.addr_translate.specs.Halves.{IsTwoLevel, entry_at, found_in, half_at}
 use Rattle.addr_translate.specs.Translator.{StandsAt}
 use Rattle.jump_code.specs.Finding.{LooksUp, FindsIt, IsAboutToFind, TrapsFinding, look_up, found_memory, sought_memory}
 use Rattle.jump_code.specs.FreeRegister.{IsNotIn}
-use Rattle.jump_code.specs.Links.{address_into, past}
+use Rattle.jump_code.specs.Links.{address_into, link, past}
 use Rattle.jump_code.specs.PageWords.{IsPageWord}
-use Rattle.jump_code.proofs.Blocks.{four, not_four, scratch, gives_sum, addressed, memory_valid, word1, word2, word7}
-use Rattle.jump_code.proofs.Swaps.{swap_first}
+use Rattle.jump_code.proofs.Blocks.{four, not_four, gives_sum, addressed, memory_valid, word1, word2, word7}
+use Rattle.jump_code.proofs.Swaps.{swap}
 
 -- the table stays where a word elsewhere is stored
 stands_stored : (m : Memory) (t : TableAt) (b v : ℕ) → StandsAt m t → IsValidMemory m
@@ -121,53 +122,54 @@ module _ (x y rd rs1 : ℕ) (op2 : Op2) (address : ℕ) (t : TableAt) (s : State
   can4 : (n : ℕ) → n < 8 → CanStore m4 (page_word n)
   can4 n few = still_stored m3 (page_word n) (page_word 7) (found_in t target) (can3 n few)
 
-  module _ (count : ℕ) (c : HasScratch s count x y) (many : 10 ≤ count) where
-    rules : BlockRules s count IsPageWord x y
-    rules = block_rules s count IsPageWord x y c
+  -- the words before the link
+  at : (n : ℕ) → n < 12 → Says (code_of s.memory) (s.pc + 4 * n) (nth (look_up x y rd rs1 op2 t.base address) n)
+  at n few =
+      nth_says (code_of s.memory) s.pc (look_up x y rd rs1 op2 t.base address) n h.words (omega arith)
 
+  module _ {count : ℕ} (c : HasTwo s count x y) (many : 10 ≤ count) where
     -- the target, as long as only x and y have changed
-    sum_is : (m : Memory) (v w : ℕ) (u : State) → IsAlike s x y m v w u → (o : Op2) → IsNotIn x o → IsNotIn y o
-        → sum_of u rs1 o ≡ sum_of s rs1 o
-    sum_is m v w u k (Reg r) apart other =
+    sum_is : {m : Memory} {f : ℕ → ℕ} (u : State) → IsAlike s (pair x y) 2 (Is m) s.codes f u → (o : Op2)
+        → IsNotIn x o → IsNotIn y o → sum_of u rs1 o ≡ sum_of s rs1 o
+    sum_is u k (Reg r) apart other =
         rw (
-          other_is s count IsPageWord x y c m v w u rs1 k h.apart.rs1_below h.apart.rs1_not h.other.rs1_not,
-          other_is s count IsPageWord x y c m v w u r k apart.0 apart.1 other.1,
+          unpicked_is c u rs1 k h.apart.rs1_below (both _ h.apart.rs1_not h.other.rs1_not),
+          unpicked_is c u r k apart.0 (both _ apart.1 other.1),
         )
-    sum_is m v w u k (Imm n) apart other =
-        rw (other_is s count IsPageWord x y c m v w u rs1 k h.apart.rs1_below h.apart.rs1_not h.other.rs1_not)
+    sum_is u k (Imm n) apart other =
+        rw (unpicked_is c u rs1 k h.apart.rs1_below (both _ h.apart.rs1_not h.other.rs1_not))
 
-    kept_one : Works s count IsPageWord x y 4 m3 target gy
+    begun : WorksInTwo s count IsPageWord x y 0 s.memory gx gy
+    begun = none_in_two c
+
+    one : WorksInTwo s count IsPageWord x y 1 m1 gx gy
+    one =
+        goes_on c begun (omega arith, at 0 (omega arith))
+        (st_in c x 0 (of_page 7) (page_word 7) gx (λ u k. refl) refl (h.page 7 (omega arith)) (λ u k. first k) word7)
+
+    two : WorksInTwo s count IsPageWord x y 2 m2 gx gy
+    two =
+        goes_on c one (omega arith, at 1 (omega arith))
+        (st_in c y 0 (of_page 2) (page_word 2) gy (λ u k. refl) refl (can1 2 (omega arith)) (λ u k. second k) word2)
+
+    kept_one : WorksInTwo s count IsPageWord x y 4 m3 target gy
     kept_one =
-        let code = code_of s.memory in
-        let w1 = rules.st 0 s.memory gx gy x 0 (of_page 7) (page_word 7) gx rules.none
-        (omega arith, says_at code _ _ _ (omega arith) h.words.0) (record { sums = λ u k. refl; aligned = refl })
-        (h.page 7 (omega arith)) (λ u k. k.first) word7 in
-        let w2 = rules.st 1 m1 gx gy y 0 (of_page 2) (page_word 2) gy w1
-        (omega arith, says_at code _ _ _ (omega arith) h.words.1.0) (record { sums = λ u k. refl; aligned = refl })
-        (can1 2 (omega arith)) (λ u k. k.second) word2 in
-        let w3 = rules.alu_first 2 m2 gx gy ops.ADD rs1 op2 target w2
-        (omega arith, says_at code _ _ _ (omega arith) h.words.1.1.0)
-        (λ u k. gives_sum u rs1 op2 target (sum_is m2 gx gy u k op2 h.apart.op2_not h.other.op2_not)) in
-        rules.st 3 m2 target gy x 0 (of_page 1) (page_word 1) target w3
-        (omega arith, says_at code _ _ _ (omega arith) h.words.1.1.1.0) (record { sums = λ u k. refl; aligned = refl })
-        (can2 1 (omega arith)) (λ u k. k.first) word1
+        let w3 = goes_on c two (omega arith, at 2 (omega arith))
+        (alu c 0 ops.ADD rs1 op2 target (omega arith)
+        (λ u k. gives_sum u rs1 op2 target (sum_is u k op2 h.apart.op2_not h.other.op2_not))) in
+        in_two (goes_on c w3 (omega arith, at 3 (omega arith))
+        (st_in c x 0 (of_page 1) (page_word 1) target (λ u k. refl) refl (can2 1 (omega arith)) (λ u k. first k) word1))
+        refl refl
 
     -- the table stands there
     stands : StandsAt m3 t
     stands =
-        let code = code_of s.memory in
         let above = h.table.below in
-        let w1 = rules.st 0 s.memory gx gy x 0 (of_page 7) (page_word 7) gx rules.none
-        (omega arith, says_at code _ _ _ (omega arith) h.words.0) (record { sums = λ u k. refl; aligned = refl })
-        (h.page 7 (omega arith)) (λ u k. k.first) word7 in
-        let w2 = rules.st 1 m1 gx gy y 0 (of_page 2) (page_word 2) gy w1
-        (omega arith, says_at code _ _ _ (omega arith) h.words.1.0) (record { sums = λ u k. refl; aligned = refl })
-        (can1 2 (omega arith)) (λ u k. k.second) word2 in
         stands_stored m2 t (page_word 1) target
         (stands_stored m1 t (page_word 2) gy
         (stands_stored s.memory t (page_word 7) gx h.stands h.valid.memory above (omega arith))
-        (memory_valid s count IsPageWord x y 1 m1 gx gy h.valid w1) above (omega arith))
-        (memory_valid s count IsPageWord x y 2 m2 gx gy h.valid w2) above (omega arith)
+        (memory_valid h.valid one) above (omega arith))
+        (memory_valid h.valid two) above (omega arith)
 
     half_there : t.base + 4 * (target / 2 ^ 16) + 4 ≤ t.base + length t.bytes
     half_there = let first = h.table.first in let low = low_target in omega arith
@@ -176,38 +178,37 @@ module _ (x y rd rs1 : ℕ) (op2 : Op2) (address : ℕ) (t : TableAt) (s : State
     half_aligned = let e = h.table.aligned in omega arith
 
     -- x has the target, and y the word for its high half
-    sought : Works s count IsPageWord x y 9 m3 target half
+    sought : WorksInTwo s count IsPageWord x y 9 m3 target half
     sought =
-        let code = code_of s.memory in
-        let high = target / 2 ^ 16 in
         let low = low_target in
         let limit = h.table.below in
-        let first = h.table.first in
+        let from = h.table.first in
         let base_aligned = h.table.aligned in
-        let w5 = rules.alu_second 4 m3 target gy ops.SRL x (Imm (pos 16)) (target / 2 ^ 16) kept_one
-        (omega arith, says_at code _ _ _ (omega arith) h.words.1.1.1.1.0) (λ u k. gives_right u x target k.first) in
-        let w6 = rules.alu_second 5 m3 target (target / 2 ^ 16) ops.SLL y (Imm (pos 2)) (4 * (target / 2 ^ 16)) w5
-        (omega arith, says_at code _ _ _ (omega arith) h.words.1.1.1.1.1.0)
-        (λ u k. gives_left u y (target / 2 ^ 16) k.second (omega arith)) in
-        let w7 = rules.sethi_first 6 m3 target (4 * (target / 2 ^ 16)) (t.base / 1024) t.base w6
-        (omega arith, says_at code _ _ _ (omega arith) h.words.1.1.1.1.1.1.0)
-        (let e : wrapped (1024 * (t.base / 1024)) ≡ t.base = omega arith in e) in
-        let w8 = rules.ld_second 7 m3 t.base (4 * (target / 2 ^ 16)) x (Reg y) (t.base + 4 * (target / 2 ^ 16)) half w7
-        (omega arith, says_at code _ _ _ (omega arith) h.words.1.1.1.1.1.1.1.0)
-        (record {
-          sums = λ u k. ap (λ z. wrapped (z + register_of u y)) k.first ∙ ap (λ z. wrapped (t.base + z)) k.second
-              ∙ (let e : wrapped (t.base + 4 * (target / 2 ^ 16)) ≡ t.base + 4 * (target / 2 ^ 16) = omega arith in e);
-          aligned = four (t.base + 4 * (target / 2 ^ 16)) half_aligned;
-        })
+        let w4 = kept_one in
+        let w5 = goes_on c w4 (omega arith, at 4 (omega arith))
+        (alu c 1 ops.SRL x (Imm (pos 16)) (target / 2 ^ 16) (omega arith)
+        (λ u k. gives_right u x target (first k))) in
+        let w6 = goes_on c w5 (omega arith, at 5 (omega arith))
+        (alu c 1 ops.SLL y (Imm (pos 2)) (4 * (target / 2 ^ 16)) (omega arith)
+        (λ u k. gives_left u y (target / 2 ^ 16) (second k) (omega arith))) in
+        let w7 = goes_on c w6 (omega arith, at 6 (omega arith))
+        (sethi c 0 (t.base / 1024) t.base (omega arith)
+        (let e : wrapped (1024 * (t.base / 1024)) ≡ t.base = omega arith in e)) in
+        let w8 = goes_on c w7 (omega arith, at 7 (omega arith))
+        (ld_in c 1 x (Reg y) (t.base + 4 * (target / 2 ^ 16)) half (omega arith)
+        (λ u k. ap (λ z. wrapped (z + register_of u y)) (first k) ∙ ap (λ z. wrapped (t.base + z)) (second k)
+        ∙ (let e : wrapped (t.base + 4 * (target / 2 ^ 16)) ≡ t.base + 4 * (target / 2 ^ 16) = omega arith in e))
+        (four (t.base + 4 * (target / 2 ^ 16)) half_aligned)
         (stands.readable (t.base + 4 * (target / 2 ^ 16)) (omega arith) half_there half_aligned)
-        (stands.same (t.base + 4 * (target / 2 ^ 16)) (omega arith) half_there half_aligned) in
-        rules.alu_first 8 m3 t.base half ops.ADD rs1 op2 target w8
-        (omega arith, says_at code _ _ _ (omega arith) h.words.1.1.1.1.1.1.1.1.0)
-        (λ u k. gives_sum u rs1 op2 target (sum_is m3 t.base half u k op2 h.apart.op2_not h.other.op2_not))
+        (stands.same (t.base + 4 * (target / 2 ^ 16)) (omega arith) half_there half_aligned)) in
+        in_two (goes_on c w8 (omega arith, at 8 (omega arith))
+        (alu c 0 ops.ADD rs1 op2 target (omega arith)
+        (λ u k. gives_sum u rs1 op2 target (sum_is u k op2 h.apart.op2_not h.other.op2_not)))) refl refl
 
     -- where they lead, the entry's address
-    entry_sum : (u : State) → IsAlike s x y m3 target half u → sum_of u y (Reg x) ≡ entry_at t target
-    entry_sum u k = ap (λ z. wrapped (z + register_of u x)) k.second ∙ ap (λ z. wrapped (half + z)) k.first
+    entry_sum : (u : State) → IsAlike s (pair x y) 2 (Is m3) s.codes (pair target half) u
+        → sum_of u y (Reg x) ≡ entry_at t target
+    entry_sum u k = ap (λ z. wrapped (z + register_of u x)) (second k) ∙ ap (λ z. wrapped (half + z)) (first k)
 
     -- the load of a misaligned target ends the run
     traps : target % 4 ≢ 0 → 10 ≡ count → TrapsFinding s x y
@@ -216,33 +217,31 @@ module _ (x y rd rs1 : ℕ) (op2 : Op2) (address : ℕ) (t : TableAt) (s : State
         let k = w.alike in
         let p = w.pc in
         let load = i.Load loads.LD x y (Reg x) in
-        let code_is : code_of w.after.memory ≡ code_of s.memory = ap code_of k.memory ∙ w.code in
-        let here : Says (code_of w.after.memory) w.after.pc load =
-        rw code_is (says_at (code_of s.memory) _ _ load (omega arith) h.words.1.1.1.1.1.1.1.1.1.0) in
+        let here = says_here c load w (at 9 (omega arith)) in
         let low = entry_low t target h.table low_target in
         let not_aligned : (sum_of w.after y (Reg x) % 4 == 0) ≡ false =
         ap (λ z. z % 4 == 0) (entry_sum w.after k) ∙ not_four (entry_at t target) (λ e. odd (sym low ∙ e)) in
-        let one : step_of w.after ≡ trapped w.after mem_address_not_aligned =
-        says_step w.after load k.live here ∙ ld_traps w.after x y (Reg x) not_aligned in
+        let end : step_of w.after ≡ trapped w.after mem_address_not_aligned =
+        says_step w.after load k.same.live here ∙ ld_traps w.after x y (Reg x) not_aligned in
         let room = c.low in
         record {
           after = trapped w.after mem_address_not_aligned;
           path = leads_then (IsBetween s 10 IsPageWord) s w.after _ 9 1
-              (subst (λ z. Leads (IsBetween s z IsPageWord) s w.after 9) (sym ten) w.path) (leads_one _ w.after _ one)
-              (λ _ _. record { past = omega arith; before = omega arith; stores = rw k.memory w.stores });
-          live = ap (λ (z : State). z.ending) w.path.steps ∙ k.live;
+              (subst (λ z. Leads (IsBetween s z IsPageWord) s w.after 9) (sym ten) w.path) (leads_one _ w.after _ end)
+              (λ _ _. record { past = omega arith; before = omega arith; stores = w.stores });
+          live = ap (λ (z : State). z.ending) w.path.steps ∙ k.same.live;
           silent = silent_then s w.after 9 1 w.path.steps w.silent
               (silent_one w.after (says_puts w.after load (λ cond r o e. cc) here));
           ending = refl;
           pc = p;
-          window = k.window;
-          valid = k.valid;
-          codes = k.codes;
-          y_register = k.y_register;
-          registers = k.registers ∙ sym c.registers;
-          others = k.others;
-          input = k.input;
-          stores = subst (Stores IsPageWord s.memory) (sym k.memory) w.stores;
+          window = k.same.window;
+          valid = k.same.valid;
+          codes = k.codes_are;
+          y_register = k.same.y_register;
+          registers = k.held.count ∙ sym c.registers;
+          others = λ q na nb. k.held.others q (both _ na nb);
+          input = k.same.input;
+          stores = w.stores;
         }
 
   -- what the page has then
@@ -272,26 +271,23 @@ module _ (x y rd rs1 : ℕ) (op2 : Op2) (address : ℕ) (t : TableAt) (s : State
       (memory_word-range s.memory (entry_at t target) h.valid.memory)) (can3 7 (omega arith))
 
   -- both registers are as they were, where the target is aligned
-  restored : (count : ℕ) (c : HasScratch s count x y) → 12 ≤ count → target % 4 ≡ 0
-      → Works s count IsPageWord x y 12 m4 gx gy
-  restored count c many aligned =
-      let code = code_of s.memory in
-      let rules = block_rules s count IsPageWord x y c in
-      let many' : 10 ≤ count = omega arith in
-      let st = stands count c many' in
+  restored : {count : ℕ} (c : HasTwo s count x y) → 12 ≤ count → target % 4 ≡ 0
+      → WorksInTwo s count IsPageWord x y 12 m4 gx gy
+  restored {count} c room aligned =
+      let many : 10 ≤ count = omega arith in
+      let st = stands c many in
       let found = found_in t target in
       let entry = h.table.entries target low_target aligned in
-      let w10 = rules.ld_first 9 m3 target half y (Reg x) (entry_at t target) found (sought count c many')
-      (omega arith, says_at code _ _ _ (omega arith) h.words.1.1.1.1.1.1.1.1.1.0)
-      (record { sums = entry_sum count c many'; aligned = four (entry_at t target) entry.aligned })
-      (st.readable (entry_at t target) entry.from entry.to entry.aligned)
-      (st.same (entry_at t target) entry.from entry.to entry.aligned) in
-      let w11 = swap_first s count IsPageWord x y c 10 m3 found half 0 (of_page 7) (page_word 7) gx w10
-      (omega arith, says_at code _ _ _ (omega arith) h.words.1.1.1.1.1.1.1.1.1.1.0)
-      (record { sums = λ u k. refl; aligned = refl }) (can3 7 (omega arith)) kept_x word7 in
-      rules.ld_second 11 m4 gx half 0 (of_page 2) (page_word 2) gy w11
-      (omega arith, says_at code _ _ _ (omega arith) h.words.1.1.1.1.1.1.1.1.1.1.1.0)
-      (record { sums = λ u k. refl; aligned = refl }) (can_load m4 (page_word 2) (can4 2 (omega arith))) kept_y
+      let w9 = sought c many in
+      let w10 = goes_on c w9 (omega arith, at 9 (omega arith))
+      (ld_in c 0 y (Reg x) (entry_at t target) found (omega arith) (entry_sum c many)
+      (four (entry_at t target) entry.aligned) (st.readable (entry_at t target) entry.from entry.to entry.aligned)
+      (st.same (entry_at t target) entry.from entry.to entry.aligned)) in
+      let w11 = goes_on c w10 (omega arith, at 10 (omega arith))
+      (swap c 0 0 (of_page 7) (page_word 7) gx (omega arith) (λ u k. refl) refl (can3 7 (omega arith)) kept_x word7) in
+      in_two (goes_on c w11 (omega arith, at 11 (omega arith))
+      (ld_in c 1 0 (of_page 2) (page_word 2) gy (omega arith) (λ u k. refl) refl
+      (can_load m4 (page_word 2) (can4 2 (omega arith))) kept_y)) refl refl
 
 -- the link, in a block of its own
 linked : (r address : ℕ) (u : State) → IsValid u → IsReady u → u.pc + 4 * 2 < 2 ^ 32 - 4 → suc r < 32
@@ -299,61 +295,60 @@ linked : (r address : ℕ) (u : State) → IsValid u → IsReady u → u.pc + 4 
     → Leads (IsBetween u 2 IsPageWord) u (past u 2 u.memory (with_register u (suc r) address)) 2 × IsSilent u 2
 linked r address u valid ready low below short stand =
     let o = another (suc r) in
-    let c = scratch u 2 o.0 (suc r) valid ready low o.1 o.2 (omega arith) below (λ e. o.3 (sym e)) in
-    let w : Works u 2 IsPageWord o.0 (suc r) 2 u.memory (register_of u o.0) address =
-    addressed u 2 o.0 (suc r) c 0 u.memory (register_of u o.0) (register_of u (suc r)) address
-    (block_rules u 2 IsPageWord o.0 (suc r) c).none short (omega arith) stand in (
-      rw (works_state u 2 IsPageWord o.0 (suc r) c 2 u.memory address w (omega arith)) at w.path,
+    let c = two_registers u 2 o.0 (suc r) valid ready low o.1 o.2 (omega arith) below (λ e. o.3 (sym e)) in
+    let w = addressed c address (none_in_two c) short (omega arith) stand in (
+      rw (works_state c 1 address (omega arith) w (both _ refl refl) (omega arith)) at w.path,
       w.silent,
     )
 
 beside : (x y rd rs1 : ℕ) (op2 : Op2) (address : ℕ) (t : TableAt) (s : State)
-    → IsAboutToFind x y rd rs1 op2 address t s → (count : ℕ) → count ≤ 14 → HasScratch s count x y
+    → IsAboutToFind x y rd rs1 op2 address t s → (count : ℕ) → count ≤ 14 → HasTwo s count x y
 beside x y rd rs1 op2 address t s h count few =
     let low = h.low in
-    scratch s count x y h.valid h.ready (omega arith) h.apart.some h.apart.below h.other.some h.other.below h.differ
+    two_registers s count x y h.valid h.ready (omega arith) h.apart.some h.apart.below h.other.some h.other.below h.differ
 
 goes : (x y rd rs1 : ℕ) (op2 : Op2) (address : ℕ) (t : TableAt) (s : State)
     → IsAboutToFind x y rd rs1 op2 address t s → sum_of s rs1 op2 % 4 ≡ 0
     → FindsIt s x y rd rs1 op2 address t (length (look_up x y rd rs1 op2 t.base address))
 goes x y zero rs1 op2 address t s h aligned =
-    let m = found_memory s x y rs1 op2 t in
     let c = beside x y zero rs1 op2 address t s h 12 (omega arith) in
-    let w = restored x y zero rs1 op2 address t s h 12 c (omega arith) aligned in
+    let w = restored x y zero rs1 op2 address t s h c (omega arith) aligned in
     record {
-      path = rw (works_same s 12 IsPageWord x y c 12 m w (omega arith)) at w.path;
+      path = rw (works_same c w (both _ refl refl) (omega arith)) at w.path;
       silent = w.silent;
-      stores = w.stores;
+      stores = rw w.alike.memory at w.stores;
       target = kept_target x y zero rs1 op2 address t s h;
       found = kept_found x y zero rs1 op2 address t s h aligned;
     }
 goes x y (suc r) rs1 op2 address t s h aligned =
     let m = found_memory s x y rs1 op2 t in
     let c = beside x y (suc r) rs1 op2 address t s h 14 (omega arith) in
-    let w = restored x y (suc r) rs1 op2 address t s h 14 c (omega arith) aligned in
+    let w = restored x y (suc r) rs1 op2 address t s h c (omega arith) aligned in
+    let inside : Stores IsPageWord s.memory m = rw w.alike.memory at w.stores in
     let low = h.low in
     let u : State = past s 12 m s in
-    let is : w.after ≡ past s 12 m s = works_same s 14 IsPageWord x y c 12 m w (omega arith) in
-    let first : Leads (IsBetween s 14 IsPageWord) s (past s 12 m s) 12 = rw is at w.path in
+    let is : w.after ≡ past s 12 m s = works_same c w (both _ refl refl) (omega arith) in
+    let before : Leads (IsBetween s 14 IsPageWord) s (past s 12 m s) 12 = rw is at w.path in
     let stand : StandIn (code_of m) (s.pc + 4 * 12 + 4 * 0) (address_into (suc r) address) =
-    rw w.code (subst (λ z. StandIn (code_of s.memory) z (address_into (suc r) address)) (omega arith)
+    rw (ap code_of (sym w.alike.memory) ∙ w.code)
+    (subst (λ z. StandIn (code_of s.memory) z (address_into (suc r) address)) (omega arith)
     h.words.1.1.1.1.1.1.1.1.1.1.1.1) in
-    let k = linked r address (past s 12 m s) (subst IsValid first.steps (run-valid s 12 h.valid))
+    let k = linked r address (past s 12 m s) (subst IsValid before.steps (run-valid s 12 h.valid))
     (record { live = h.ready.live; npc = refl }) (omega arith) h.apart.rd_below h.short stand in
-    let both = leads_then (IsBetween s 14 IsPageWord) s (past s 12 m s) _ 12 2 first
+    let whole = leads_then (IsBetween s 14 IsPageWord) s (past s 12 m s) _ 12 2 before
     (leads_weaker (IsBetween (past s 12 m s) 2 IsPageWord) (IsBetween s 14 IsPageWord) (past s 12 m s) _ 2
     (λ v z. let a1 = z.past in let a2 = z.before in record {
       past = omega arith;
       before = omega arith;
-      stores = stores_then IsPageWord IsPageWord s.memory m v.memory (λ a b. b) w.stores z.stores;
+      stores = stores_then IsPageWord IsPageWord s.memory m v.memory (λ a b. b) inside z.stores;
     }) k.0)
-    (λ _ _. record { past = omega arith; before = omega arith; stores = w.stores }) in
+    (λ _ _. record { past = omega arith; before = omega arith; stores = inside }) in
     record {
       path = subst (λ (z : State). Leads (IsBetween s 14 IsPageWord) s z 14)
           (let e : s.pc + 4 * 12 + 4 * 2 ≡ s.pc + 4 * 14 = omega arith in
-          ap (λ z. record (with_register s (suc r) address) { pc = z; npc = z + 4; slot = NoSlot; memory = m }) e) both;
-      silent = silent_then s (past s 12 m s) 12 2 first.steps w.silent k.1;
-      stores = w.stores;
+          ap (λ z. record (with_register s (suc r) address) { pc = z; npc = z + 4; slot = NoSlot; memory = m }) e) whole;
+      silent = silent_then s (past s 12 m s) 12 2 before.steps w.silent k.1;
+      stores = inside;
       target = kept_target x y (suc r) rs1 op2 address t s h;
       found = kept_found x y (suc r) rs1 op2 address t s h aligned;
     }
@@ -361,6 +356,6 @@ goes x y (suc r) rs1 op2 address t s h aligned =
 pub looks_up : LooksUp
 looks_up x y rd rs1 op2 address t s h = (
   goes x y rd rs1 op2 address t s h,
-  λ odd. traps x y rd rs1 op2 address t s h 10 (beside x y rd rs1 op2 address t s h 10 (omega arith)) (omega arith)
+  λ odd. traps x y rd rs1 op2 address t s h (beside x y rd rs1 op2 address t s h 10 (omega arith)) (omega arith)
       odd refl,
 )

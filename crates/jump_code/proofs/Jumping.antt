@@ -11,7 +11,7 @@ use Rattle.v8_step.specs.Traps.{mem_address_not_aligned}
 use Rattle.v8_step.specs.Transfers.{delayed, trapped}
 use Rattle.code_runs.specs.Points.{moved}
 use Rattle.code_runs.proofs.Acts.{jump_acts, jump_traps}
-use Rattle.code_runs.proofs.Hops.{equal_or_not}
+use Rattle.code_runs.proofs.Picked.{equal_or_not}
 use Rattle.jump_code.specs.Jumped.{jumped}
 use Rattle.jump_code.proofs.Blocks.{four, not_four}
 

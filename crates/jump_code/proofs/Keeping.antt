@@ -15,21 +15,17 @@ use Rattle.code_runs.specs.Code.{any_of_word, word_span, of_page, store_word, Ca
 use Rattle.code_runs.specs.Counted.{count_stores, one_if, stores_in_step}
 use Rattle.code_runs.specs.LongJump.{IsFirstWord}
 use Rattle.code_runs.specs.Page.{page_word}
-use Rattle.code_runs.specs.TwoRegisters.{BlockRules, HasScratch, IsAlike, Works}
-use Rattle.code_runs.proofs.Counted.{stores_there}
-use Rattle.code_runs.proofs.Hops.{equal_or_not, works_same, read_is}
-use Rattle.code_runs.proofs.LongJump.{says_at}
+use Rattle.code_runs.specs.Picked.{Is, IsAlike, WorksInTwo, pair}
+use Rattle.code_runs.proofs.Hops.{works_same, read_is}
+use Rattle.code_runs.proofs.Picked.{HasTwo, IsNext, alu, both, first, goes_on, in_two, none_in_two, st_in, stores_next, two_registers, word}
+use Rattle.code_runs.proofs.Straight.{nth}
 use Rattle.code_runs.proofs.StoredWords.{word_stored, still_stored}
-use Rattle.code_runs.proofs.TwoRegisters.{block_rules}
 use Rattle.jump_code.specs.FreeRegister.{second_register}
 use Rattle.jump_code.specs.Keeping.{save_load_address, kept_memory, IsAboutToSave, SavesLoadAddress, AddressesAreSaved}
-use Rattle.jump_code.proofs.Blocks.{scratch, gives_sum}
-use Rattle.jump_code.proofs.Swaps.{swap_first}
+use Rattle.jump_code.proofs.Blocks.{gives_sum}
+use Rattle.jump_code.proofs.Swaps.{swap}
 
 module _ (rs1 : ℕ) (op2 : Op2) (s : State) (h : IsAboutToSave rs1 op2 s) where
-  abbrev code : List Region
-  code = code_of s.memory
-
   abbrev g1 : ℕ
   g1 = register_of s 1
 
@@ -42,63 +38,59 @@ module _ (rs1 : ℕ) (op2 : Op2) (s : State) (h : IsAboutToSave rs1 op2 s) where
   p0 : CanStore s.memory (page_word 0)
   p0 = h.page 0 (omega arith)
 
-  block : HasScratch s 3 1 2
-  block = scratch s 3 1 2 h.valid h.ready h.low (omega arith) (omega arith) (omega arith) (omega arith) (omega arith)
+  block : HasTwo s 3 1 2
+  block = two_registers s 3 1 2 h.valid h.ready h.low (omega arith) (omega arith) (omega arith) (omega arith) (omega arith)
 
-  rules : BlockRules s 3 IsFirstWord 1 2
-  rules = block_rules s 3 IsFirstWord 1 2 block
+  at : (n : ℕ) → n < 3 → IsNext s 3 n (nth (save_load_address rs1 op2) n)
+  at = word s 3 (save_load_address rs1 op2) h.words (omega arith)
 
-  -- no register has changed yet
-  reads : (m : Memory) (u : State) → IsAlike s 1 2 m g1 g2 u → (r : ℕ) → r < 32 → register_of u r ≡ register_of s r
-  reads m u k r low = elim (equal_or_not r 1) [
-    | inl e ↦ rw e k.first
-    | inr n ↦ read_is s 3 IsFirstWord 1 2 block m g1 u r k low n
-  ]
+  begun : WorksInTwo s 3 IsFirstWord 1 2 0 s.memory g1 g2
+  begun = none_in_two block
 
-  sums : (m : Memory) (u : State) → IsAlike s 1 2 m g1 g2 u → (o : Op2) → second_register o < 32
-      → sum_of u rs1 o ≡ sum_of s rs1 o
-  sums m u k (Reg r) low = rw (reads m u k rs1 h.rs1_below, reads m u k r low)
-  sums m u k (Imm n) low = ap (λ z. wrapped (z + operand_of s (Imm n))) (reads m u k rs1 h.rs1_below)
-
-  one : Works s 3 IsFirstWord 1 2 1 waits g1 g2
+  one : WorksInTwo s 3 IsFirstWord 1 2 1 waits g1 g2
   one =
-      rules.st 0 s.memory g1 g2 1 0 (of_page 0) (page_word 0) g1 rules.none
-      (omega arith, says_at code _ _ _ (omega arith) h.words.0) (record { sums = λ u k. refl; aligned = refl }) p0
-      (λ u k. k.first) refl
+      goes_on block begun (at 0 (omega arith))
+      (st_in block 1 0 (of_page 0) (page_word 0) g1 (λ u k. refl) refl p0 (λ u k. first k) refl)
 
-  two : Works s 3 IsFirstWord 1 2 2 waits (sum_of s rs1 op2) g2
+  -- as long as no register has changed
+  module _ (u : State) (k : IsAlike s (pair 1 2) 2 (Is waits) s.codes (pair g1 g2) u) where
+    reads : (r : ℕ) → r < 32 → register_of u r ≡ register_of s r
+    reads r low = read_is block u r k low (both _ (λ _. refl) (λ _. refl))
+
+    sums : (o : Op2) → second_register o < 32 → sum_of u rs1 o ≡ sum_of s rs1 o
+    sums (Reg r) low = rw (reads rs1 h.rs1_below, reads r low)
+    sums (Imm n) low = ap (λ z. wrapped (z + operand_of s (Imm n))) (reads rs1 h.rs1_below)
+
+  two : WorksInTwo s 3 IsFirstWord 1 2 2 waits (sum_of s rs1 op2) g2
   two =
-      rules.alu_first 1 waits g1 g2 ops.ADD rs1 op2 (sum_of s rs1 op2) one
-      (omega arith, says_at code _ _ _ (omega arith) h.words.1.0)
-      (λ u k. gives_sum u rs1 op2 (sum_of s rs1 op2) (sums waits u k op2 h.op2_below))
+      in_two (goes_on block one (at 1 (omega arith))
+      (alu block 0 ops.ADD rs1 op2 (sum_of s rs1 op2) (omega arith)
+      (λ u k. gives_sum u rs1 op2 (sum_of s rs1 op2) (sums u k op2 h.op2_below)))) refl refl
 
   can : CanStore waits (page_word 0)
   can = still_stored s.memory (page_word 0) (page_word 0) g1 p0
 
-  three : Works s 3 IsFirstWord 1 2 3 (kept_memory s rs1 op2) g1 g2
+  three : WorksInTwo s 3 IsFirstWord 1 2 3 (kept_memory s rs1 op2) g1 g2
   three =
-      swap_first s 3 IsFirstWord 1 2 block 2 waits (sum_of s rs1 op2) g2 0 (of_page 0) (page_word 0) g1 two
-      (omega arith, says_at code _ _ _ (omega arith) h.words.1.1.0) (record { sums = λ u k. refl; aligned = refl })
-      can (word_stored s.memory (page_word 0) g1 (register_of-range s 1 h.valid) p0) refl
+      in_two (goes_on block two (at 2 (omega arith))
+      (swap block 0 0 (of_page 0) (page_word 0) g1 (omega arith) (λ u k. refl) refl can
+      (word_stored s.memory (page_word 0) g1 (register_of-range s 1 h.valid) p0) refl)) refl refl
 
   alone : (counted : ℕ → Bool) → any_of_word counted (page_word 0) ≡ false → count_stores counted s 3 ≡ 0
   alone counted free =
       let none : one_if counted (Some (word_span (page_word 0))) ≡ 0 = ap (λ (b : Bool). if b then 1 else 0) free in
       let first : stores_in_step counted s ≤ one_if counted (Some (word_span (page_word 0))) =
-      stores_there counted s code s.pc (i.Store stores.ST 1 0 (of_page 0)) h.ready.live refl refl h.words.0 in
-      let second : stores_in_step counted (run s 1) ≤ 0 =
-      rw one.path.steps (stores_there counted one.after code (s.pc + 4 * 1) (i.Alu ops.ADD false 1 rs1 op2) one.alike.live
-      (ap code_of one.alike.memory ∙ one.code) one.pc (says_at code _ _ _ (omega arith) h.words.1.0)) in
+      stores_next block counted _ begun (at 0 (omega arith)).1 in
+      let second : stores_in_step counted (run s 1) ≤ 0 = stores_next block counted _ one (at 1 (omega arith)).1 in
       let third : stores_in_step counted (run s 2) ≤ one_if counted (Some (word_span (page_word 0))) =
-      rw two.path.steps (stores_there counted two.after code (s.pc + 4 * 2) (i.Swap 1 0 (of_page 0)) two.alike.live
-      (ap code_of two.alike.memory ∙ two.code) two.pc (says_at code _ _ _ (omega arith) h.words.1.1.0)) in
+      stores_next block counted _ two (at 2 (omega arith)).1 in
       omega (arith, none, first, second, third)
 
   keeps : SavesLoadAddress rs1 op2 s (length (save_load_address rs1 op2))
   keeps = record {
-    path = rw (works_same s 3 IsFirstWord 1 2 block 3 (kept_memory s rs1 op2) three (omega arith)) at three.path;
+    path = rw (works_same block three (both _ refl refl) (omega arith)) at three.path;
     silent = three.silent;
-    stores = three.stores;
+    stores = rw three.alike.memory at three.stores;
     kept = word_stored waits (page_word 0) (sum_of s rs1 op2)
         (wrapped-range (register_of s rs1 + operand_of s op2)) can;
     elsewhere = alone;

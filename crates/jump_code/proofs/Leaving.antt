@@ -10,41 +10,40 @@ use Rattle.code_runs.specs.LongJump.{IsFirstWord}
 use Rattle.code_runs.specs.Page.{page_word}
 use Rattle.code_runs.specs.Code.{of_page, store_word, Stores}
 use Rattle.code_runs.specs.StoredWords.{memory_word}
-use Rattle.code_runs.specs.TwoRegisters.{IsBetween}
-use Rattle.code_runs.proofs.Hops.{hops_through, stores_then}
+use Rattle.code_runs.specs.Leads.{IsBetween}
+use Rattle.code_runs.proofs.Hops.{hops_through}
 use Rattle.code_runs.proofs.Leads.{leads_weaker}
-use Rattle.code_runs.proofs.LongJump.{long_jumps_hop, says_at}
+use Rattle.code_runs.proofs.LongJump.{long_jumps_hop}
 use Rattle.code_runs.proofs.StoredWords.{word_stored, other_word_stored, still_stored, can_load, memory_word-range}
-use Rattle.code_runs.proofs.TwoRegisters.{block_rules, stores_none}
-use Rattle.jump_code.specs.Leaving.{ForeignLeaves, FarGoes}
+use Rattle.code_runs.proofs.Picked.{both, first, goes_on, ld_in, none_in_two, st_in, two_registers, word}
+use Rattle.code_runs.proofs.Stores.{stores_none, stores_then}
+use Rattle.code_runs.proofs.Straight.{nth_says}
+use Rattle.jump_code.specs.Leaving.{ForeignLeaves, FarGoes, foreign}
 use Rattle.jump_code.specs.PageWords.{IsPageWord, waiting}
-use Rattle.jump_code.proofs.Blocks.{four, scratch, word2}
+use Rattle.jump_code.proofs.Blocks.{four, word2}
 
 pub foreign_leaves : ForeignLeaves
 foreign_leaves s h =
-    let code = code_of s.memory in
     let g1 = register_of s 1 in
-    let g2 = register_of s 2 in
     let x = waiting s in
     let m = store_word s.memory (page_word 2) g1 in
-    let c = scratch s 4 1 2 h.valid h.ready h.low (omega arith) (omega arith) (omega arith) (omega arith)
+    let c = two_registers s 4 1 2 h.valid h.ready h.low (omega arith) (omega arith) (omega arith) (omega arith)
     (omega arith) in
-    let rules = block_rules s 4 IsPageWord 1 2 c in
     let p1 = h.page 1 (omega arith) in
     let p2 = h.page 2 (omega arith) in
     let r : x < 2 ^ 32 = memory_word-range s.memory (page_word 1) h.valid.memory in
-    let w1 = rules.st 0 s.memory g1 g2 1 0 (of_page 2) (page_word 2) g1 rules.none
-    (omega arith, says_at code _ _ _ (omega arith) h.words.0) (record { sums = λ u k. refl; aligned = refl }) p2
-    (λ u k. k.first) word2 in
+    let w0 = none_in_two c in
+    let w1 = goes_on c w0 (word s 4 foreign h.words (omega arith) 0 (omega arith))
+    (st_in c 1 0 (of_page 2) (page_word 2) g1 (λ u k. refl) refl p2 (λ u k. first k) word2) in
     let keeps : memory_word m (page_word 1) ≡ x =
     other_word_stored s.memory (page_word 1) (page_word 2) g1 p1 (inl (omega arith)) in
-    let w2 = rules.ld_first 1 m g1 g2 0 (of_page 1) (page_word 1) x w1
-    (omega arith, says_at code _ _ _ (omega arith) h.words.1.0) (record { sums = λ u k. refl; aligned = refl })
-    (can_load m (page_word 1) (still_stored s.memory (page_word 1) (page_word 2) g1 p1)) keeps in
-    hops_through s 4 IsPageWord 1 2 c 2 m x x (Imm (pos 0)) (of_page 2) (page_word 2) w2 (omega arith) (omega arith)
-    (four x h.aligned)
-    (says_at code _ _ _ (omega arith) h.words.1.1.0) (says_at code _ _ _ (omega arith) h.words.1.1.1.0)
-    (λ u k. ap (λ z. wrapped (z + 0)) k.first ∙ (let e : wrapped (x + 0) ≡ x = omega arith in e)) (λ u. refl) refl
+    let w2 = goes_on c w1 (word s 4 foreign h.words (omega arith) 1 (omega arith))
+    (ld_in c 0 0 (of_page 1) (page_word 1) x (omega arith) (λ u k. refl) refl
+    (can_load m (page_word 1) (still_stored s.memory (page_word 1) (page_word 2) g1 p1)) keeps) in
+    hops_through c 0 x (Imm (pos 0)) (of_page 2) (page_word 2) w2 (omega arith)
+    (both _ (λ ne. absurd (ne refl)) (λ _. refl)) (omega arith) (omega arith) (four x h.aligned)
+    (nth_says (code_of s.memory) s.pc foreign 2 h.words (omega arith)) (nth_says (code_of s.memory) s.pc foreign 3 h.words (omega arith))
+    (λ u k. ap (λ z. wrapped (z + 0)) (first k) ∙ (let e : wrapped (x + 0) ≡ x = omega arith in e)) (λ u. refl) refl
     (can_load m (page_word 2) (still_stored s.memory (page_word 2) (page_word 2) g1 p2))
     (word_stored s.memory (page_word 2) g1 (register_of-range s 1 h.valid) p2)
 

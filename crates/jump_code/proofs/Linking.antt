@@ -10,29 +10,26 @@ use Rattle.v8_step.specs.Transfers.{call_step, next}
 use Rattle.v8_step.specs.State.{State, register_of, with_register}
 use Rattle.code_runs.specs.Counted.{count_stores}
 use Rattle.code_runs.specs.Straight.{StandIn}
-use Rattle.code_runs.specs.TwoRegisters.{Works}
 use Rattle.code_runs.proofs.Acts.{says_step}
 use Rattle.code_runs.proofs.Counted.{no_stores, none_then}
 use Rattle.code_runs.proofs.Hops.{works_state}
-use Rattle.code_runs.proofs.LongJump.{says_at}
-use Rattle.code_runs.proofs.TwoRegisters.{block_rules}
+use Rattle.code_runs.proofs.Straight.{says_at}
+use Rattle.code_runs.proofs.Picked.{both, none_in_two, two_registers}
 use Rattle.v8_memory.specs.Regions.{code_of}
 use Rattle.jump_code.specs.Jumped.{CallsSimulate}
 use Rattle.jump_code.specs.Links.{address_into, CallsAct, IsAboutToCall}
 use Rattle.jump_code.specs.PageWords.{IsPageWord}
-use Rattle.jump_code.proofs.Blocks.{scratch, addressed}
+use Rattle.jump_code.proofs.Blocks.{addressed}
 
 pub calls_act : CallsAct
 calls_act address s h =
     let low = h.low in
-    let c = scratch s 2 1 15 h.valid h.ready (omega arith) (omega arith) (omega arith) (omega arith) (omega arith)
+    let c = two_registers s 2 1 15 h.valid h.ready (omega arith) (omega arith) (omega arith) (omega arith) (omega arith)
     (omega arith) in
     let stand : StandIn (code_of s.memory) (s.pc + 4 * 0) (address_into 15 address) =
     subst (λ z. StandIn (code_of s.memory) z (address_into 15 address)) (omega arith) h.words in
-    let w : Works s 2 IsPageWord 1 15 2 s.memory (register_of s 1) address =
-    addressed s 2 1 15 c 0 s.memory (register_of s 1) (register_of s 15) address
-    (block_rules s 2 IsPageWord 1 15 c).none h.short (omega arith) stand in (
-      rw (works_state s 2 IsPageWord 1 15 c 2 s.memory address w (omega arith)) at w.path,
+    let w = addressed c address (none_in_two c) h.short (omega arith) stand in (
+      rw (works_state c 1 address (omega arith) w (both _ refl refl) (omega arith)) at w.path,
       w.silent,
     )
 

@@ -13,11 +13,10 @@ use Rattle.v8_memory.specs.Regions.{Memory, code_of}
 use Rattle.v8_step.specs.State.{State, register_of}
 use Rattle.v8_step.specs.Valid.{IsValid}
 use Rattle.code_runs.specs.Hops.{Hops, hopped}
-use Rattle.code_runs.specs.Leads.{Leads, IsSilent}
+use Rattle.code_runs.specs.Leads.{Leads, IsBetween, IsSilent}
 use Rattle.code_runs.specs.Page.{page_word}
 use Rattle.code_runs.specs.StoredWords.{memory_word}
 use Rattle.code_runs.specs.Straight.{StandIn, IsReady}
-use Rattle.code_runs.specs.TwoRegisters.{IsBetween}
 use Rattle.code_runs.specs.Code.{of_page, CanLoad, store_word, Stores}
 use Rattle.jump_code.specs.Jumped.{jumped}
 use Rattle.jump_code.specs.Links.{link}

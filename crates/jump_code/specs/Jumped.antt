@@ -7,9 +7,8 @@ use Rattle.v8_step.specs.declared.Slot.TheVariants.{NoSlot}
 use Rattle.v8_step.specs.State.{State}
 use Rattle.v8_step.specs.Step.{act}
 use Rattle.code_runs.specs.Counted.{count_stores}
-use Rattle.code_runs.specs.Leads.{Leads, IsSilent}
+use Rattle.code_runs.specs.Leads.{Leads, IsBetween, IsSilent}
 use Rattle.code_runs.specs.Points.{moved}
-use Rattle.code_runs.specs.TwoRegisters.{IsBetween}
 use Rattle.jump_code.specs.Links.{link, past, IsAboutToCall}
 use Rattle.jump_code.specs.PageWords.{IsPageWord}
 

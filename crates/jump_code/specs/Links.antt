@@ -8,9 +8,8 @@ use Rattle.v8_memory.specs.Regions.{Memory, code_of}
 use Rattle.v8_step.specs.declared.Slot.TheVariants.{NoSlot}
 use Rattle.v8_step.specs.State.{State, with_register}
 use Rattle.v8_step.specs.Valid.{IsValid}
-use Rattle.code_runs.specs.Leads.{Leads, IsSilent}
+use Rattle.code_runs.specs.Leads.{Leads, IsBetween, IsSilent}
 use Rattle.code_runs.specs.Straight.{StandIn, IsReady}
-use Rattle.code_runs.specs.TwoRegisters.{IsBetween}
 use Rattle.jump_code.specs.PageWords.{IsPageWord}
 
 -- a register takes an address: its high part, and then its low one

@@ -18,13 +18,14 @@ use Rattle.v8_step.proofs.ValidSteps.{run-valid}
 use Rattle.code_runs.specs.Code.{store_word}
 use Rattle.code_runs.specs.Counted.{count_stores}
 use Rattle.code_runs.specs.Straight.{IsReady, Says, StandIn}
-use Rattle.code_runs.specs.TwoRegisters.{IsBetween}
+use Rattle.code_runs.specs.Leads.{IsBetween}
 use Rattle.code_runs.specs.Hops.{hopped, Hops}
 use Rattle.code_runs.proofs.Acts.{says_step, says_puts}
 use Rattle.code_runs.proofs.Leads.{leads_none, leads_one, leads_then, leads_weaker, silent_none, silent_one, silent_then}
 use Rattle.code_runs.proofs.Counted.{no_stores, none_then}
-use Rattle.code_runs.proofs.LongJump.{long_jumps_hop, long_jumps_store, says_at}
-use Rattle.code_runs.proofs.TwoRegisters.{stores_none}
+use Rattle.code_runs.proofs.LongJump.{long_jumps_hop, long_jumps_store}
+use Rattle.code_runs.proofs.Stores.{stores_none}
+use Rattle.code_runs.proofs.Straight.{says_at}
 use Rattle.layout.specs.declared.items.Item.{Item}
 use Rattle.layout.specs.declared.items.Item.TheVariants as it
 use Rattle.layout.specs.Laid.{Placement, IsLaid, IsWordAt, SaysFrom, JumpStands, jump_nothing, jump_short, jump_long, BranchStands, branch_short, branch_long, Reaches, nop, opposite, item_at, size_of}

@@ -14,13 +14,13 @@ use Rattle.v8_step.specs.State.{State, register_of}
 use Rattle.v8_step.proofs.ValidStates.{register_of-range}
 use Rattle.code_runs.specs.Code.{any_of_word}
 use Rattle.code_runs.specs.Straight.{StandIn}
-use Rattle.code_runs.proofs.Hops.{equal_or_not}
+use Rattle.code_runs.proofs.Picked.{equal_or_not, put, put_other, put_same, unpicked_is}
 use Rattle.snippets.specs.declared.snippet.Op.TheVariants.{Top}
 use Rattle.snippet_code.specs.Cells.{cell_at}
 use Rattle.snippet_code.specs.Words.{op_words, small, high, load_low, store_low, of_two, with_number}
-use Rattle.snippet_code.proofs.Working.{HasBlock, Works, put, update_one, Does}
+use Rattle.snippet_code.proofs.Working.{HasWorkspace, WorksWithin, update_one, Does}
 use Rattle.snippet_code.proofs.OneOperation.{sum_low, high_is, gives, free_store, at, works_words, as_many, Doing}
-use Rattle.snippet_code.proofs.Blocks.{put_same, put_other, unpicked_is, sethi, alu, ld, st, compares, branches}
+use Rattle.snippet_code.proofs.Blocks.{sethi, alu, ld, st, compares, branches}
 use Rattle.v8_alu.specs.Conditions.{holds_of}
 use Rattle.snippet_code.proofs.TopValue.{top_of}
 use Rattle.snippet_code.proofs.TopValue as laws
@@ -65,14 +65,14 @@ unfolding top_of
 top_is k0 y0 cell reg lc lr = top_is_greater k0 y0 cell reg lc lr
 
 module _ {s : State} {count : ℕ} {May : ℕ → Type 0} {counted : ℕ → Bool} {r : ℕ → ℕ} {want : ℕ}
-    (c : HasBlock s count May r want) {n t : ℕ} {g : ℕ → ℕ} {codes : Codes} {f : ℕ → ℕ}
-    (w : Works s count May counted r want n t g codes f) where
+    (c : HasWorkspace s count May r want) {n t : ℕ} {g : ℕ → ℕ} {codes : Codes} {f : ℕ → ℕ}
+    (w : WorksWithin s count May counted r want n t g codes f) where
   pub tops_short : (a q x : ℕ) → n + 5 ≤ count → 2 ≤ want → May a → any_of_word counted a ≡ false → a < 2 ^ 32
       → g a < 2 ^ 32
       → q < 32 → ((k : ℕ) → k < want → q ≢ r k) → register_of s q ≡ x → StandIn (code_of s.memory) (s.pc + 4 * n)
       (high a (r 0) ∷ load_low a (r 0) (r 1) ∷ i.Alu ops.SUB true 0 q (o.Reg (r 1)) ∷ i.Branch 12 true (pos 2) ∷
       store_low a (r 0) q ∷ [])
-      → Works s count May counted r want (suc (suc (suc (suc (suc n))))) t (put a (max (g a) x) g)
+      → WorksWithin s count May counted r want (suc (suc (suc (suc (suc n))))) t (put a (max (g a) x) g)
       (codes_of (wrapped (2 ^ 33 + x - (g a + 0))) (difference_overflows x (g a) (wrapped (2 ^ 33 + x - (g a + 0))))
       (nat_lt x (g a + 0))) (put 1 (g a) (put 0 (1024 * (a / 1024)) f))
   tops_short a q x room enough ok free below small reg unpicked value stand =
@@ -85,7 +85,7 @@ module _ {s : State} {count : ℕ} {May : ℕ → Type 0} {counted : ℕ → Boo
       (λ u h. sum_low u (r 0) a (h.held.picked 0 (omega arith)) below) ok in
       let w3 = compares c ops.SUB q (o.Reg (r 1)) v k w2 (omega arith) (at stand.1.1.0 (omega arith))
       (λ u h. ap (λ z. alu_of ops.SUB true z (register_of u (r 1)) u.codes u.y)
-      (unpicked_is c u q h reg unpicked ∙ value)
+      (unpicked_is c.block u q h reg unpicked ∙ value)
       ∙ ap (λ z. alu_of ops.SUB true x z u.codes u.y) (h.held.picked 1 (omega arith)) ∙ compared x (g a) u.codes u.y)
       in
       works_words (put a (max (g a) x) g) (stored_or_not a x g (nat_lt (g a) x) refl)
@@ -93,7 +93,7 @@ module _ {s : State} {count : ℕ} {May : ℕ → Type 0} {counted : ℕ → Boo
       (is_greater x (g a) (difference_overflows x (g a) v) fits small)
       (at stand.1.1.1.0 (omega arith)) (at stand.1.1.1.1.0 (omega arith))
       (λ u h. sum_low u (r 0) a (h.held.picked 0 (omega arith)) below) ok
-      (λ u h. unpicked_is c u q h reg unpicked ∙ value) fits free)
+      (λ u h. unpicked_is c.block u q h reg unpicked ∙ value) fits free)
 
   pub tops_long : (a q x : ℕ) → n + 11 ≤ count → 5 ≤ want → May a → any_of_word counted a ≡ false → a < 2 ^ 32
       → g a < 2 ^ 32
@@ -103,7 +103,7 @@ module _ {s : State} {count : ℕ} {May : ℕ → Type 0} {counted : ℕ → Boo
       ∷ of_two ops.ANDN q (r 1) (r 4) ∷ of_two ops.OR (r 3) (r 4) (r 3) ∷ with_number ops.SRA (r 3) (pos 31) (r 3) ∷
       of_two ops.AND (r 3) (r 2) (r 3)
       ∷ of_two ops.SUB (r 1) (r 3) (r 1) ∷ store_low a (r 0) (r 1) ∷ [])
-      → (f' : ℕ → ℕ) × Works s count May counted r want (n + 11) t (put a (max (g a) x) g) codes f'
+      → (f' : ℕ → ℕ) × WorksWithin s count May counted r want (n + 11) t (put a (max (g a) x) g) codes f'
   unfolding alu_of
   tops_long a q x room enough ok free below small reg unpicked value stand =
       let fits : x < 2 ^ 32 = rw value at (register_of-range s q c.valid) in
@@ -120,15 +120,15 @@ module _ {s : State} {count : ℕ} {May : ℕ → Type 0} {counted : ℕ → Boo
       (λ u h. sum_low u (r 0) a (h.held.picked 0 (omega arith)) below) ok in
       let w3 = alu c 2 ops.SUB (r 1) (o.Reg q) d w2 (omega arith) (omega arith) (at stand.1.1.0 (omega arith))
       (λ u h. gives u ops.SUB (r 1) (o.Reg q) (g a) x d (h.held.picked 1 (omega arith))
-      (unpicked_is c u q h reg unpicked ∙ value) (λ codes z. refl)) in
+      (unpicked_is c.block u q h reg unpicked ∙ value) (λ codes z. refl)) in
       let w4 = alu c 3 ops.ORN q (o.Reg (r 1)) e w3 (omega arith) (omega arith) (at stand.1.1.1.0 (omega arith))
-      (λ u h. gives u ops.ORN q (o.Reg (r 1)) x (g a) e (unpicked_is c u q h reg unpicked ∙ value)
+      (λ u h. gives u ops.ORN q (o.Reg (r 1)) x (g a) e (unpicked_is c.block u q h reg unpicked ∙ value)
       (h.held.picked 1 (omega arith)) (λ codes z. refl)) in
       let w5 = alu c 3 ops.AND (r 3) (o.Reg (r 2)) l w4 (omega arith) (omega arith) (at stand.1.1.1.1.0 (omega arith))
       (λ u h. gives u ops.AND (r 3) (o.Reg (r 2)) e d l (h.held.picked 3 (omega arith)) (h.held.picked 2 (omega arith))
       (λ codes z. refl)) in
       let w6 = alu c 4 ops.ANDN q (o.Reg (r 1)) b w5 (omega arith) (omega arith) (at stand.1.1.1.1.1.0 (omega arith))
-      (λ u h. gives u ops.ANDN q (o.Reg (r 1)) x (g a) b (unpicked_is c u q h reg unpicked ∙ value)
+      (λ u h. gives u ops.ANDN q (o.Reg (r 1)) x (g a) b (unpicked_is c.block u q h reg unpicked ∙ value)
       (h.held.picked 1 (omega arith)) (λ codes z. refl)) in
       let w7 = alu c 3 ops.OR (r 3) (o.Reg (r 4)) o1 w6 (omega arith) (omega arith)
       (at stand.1.1.1.1.1.1.0 (omega arith))
@@ -176,13 +176,13 @@ module _ {s : State} {count : ℕ} {May : ℕ → Type 0} {counted : ℕ → Boo
           works = as_many (let z : suc (suc (suc (suc (suc n)))) ≡ n + 5 = omega arith in z)
               (tops_short (cell_at cells cell) reg (register_of s reg) room' enough
               (h.cell cell (omega arith, omega arith)) (h.free cell (omega arith, omega arith)) below
-              (w.reach.alike.memory.range (cell_at cells cell) (h.cell cell (omega arith, omega arith))) h.numbers.1 (λ k b. h.unpicked reg k refl b)
+              (w.ran.alike.memory.range (cell_at cells cell) (h.cell cell (omega arith, omega arith))) h.numbers.1 (λ k b. h.unpicked reg k refl b)
               refl stand');
           kept = λ z. absurd (cc);
         }
         go false e enough room' stand' =
             let p = tops_long (cell_at cells cell) reg (register_of s reg) room' enough
             (h.cell cell (omega arith, omega arith)) (h.free cell (omega arith, omega arith)) below
-            (w.reach.alike.memory.range (cell_at cells cell) (h.cell cell (omega arith, omega arith))) h.numbers.1 (λ k b. h.unpicked reg k refl b)
+            (w.ran.alike.memory.range (cell_at cells cell) (h.cell cell (omega arith, omega arith))) h.numbers.1 (λ k b. h.unpicked reg k refl b)
             refl stand' in
             record { codes = codes; picked = p.0; works = p.1; kept = kept }

@@ -9,10 +9,11 @@ use Rattle.v8_alu.specs.declared.Codes.{Codes}
 use Rattle.v8_windows.specs.Registers.{place_of, register_in}
 use Rattle.v8_step.specs.State.{State, register_of}
 use Rattle.v8_step.specs.Items.{StateItem, Register, Codes as CodesItem, YRegister, IsAmong, IsSameAt, item_of}
-use Rattle.code_runs.proofs.Hops.{equal_or_not, in_place}
+use Rattle.code_runs.specs.Picked.{IsAlike}
+use Rattle.code_runs.proofs.Hops.{in_place, picked_or_not}
 use Rattle.code_runs.proofs.Leads.{split_below}
 use Rattle.scavenge.specs.Code.{ArePicked}
-use Rattle.snippet_code.proofs.Working.{HasBlock, IsAlike}
+use Rattle.snippet_code.proofs.Working.{AreStored, HasWorkspace}
 
 among : (w : ℕ) (ps : List Part) (q : ℕ) → has ps (parts.Reg q) ≡ true → IsAmong (Register (place_of w q)) w ps
 among w [] q e = absurd (cc)
@@ -35,33 +36,15 @@ codes_among w (p ∷ ps) e = go p e (codes_among w ps)
     go parts.Icc k rec = inl refl
     go z k rec = inr (rec k)
 
--- a place is that of one of the picked registers, or of none
-picked_or_not : (w : ℕ) (r : ℕ → ℕ) (want p : ℕ)
-    → ((k : ℕ) × (k < want) × (p ≡ place_of w (r k))) ⊎ ((k : ℕ) → k < want → p ≢ place_of w (r k))
-picked_or_not w r zero p = inr (λ k h e. absurd (omega arith))
-picked_or_not w r (suc n) p = go (equal_or_not p (place_of w (r n))) (picked_or_not w r n p)
-  where
-    last : (p ≢ place_of w (r n)) → ((k : ℕ) → k < n → p ≢ place_of w (r k)) → (k : ℕ) → k < suc n
-        → (k ≡ n) ⊎ (k ≢ n) → p ≢ place_of w (r k)
-    last ne h k b (inl e) f = ne (f ∙ ap (λ z. place_of w (r z)) e)
-    last ne h k b (inr d) f = h k (omega arith) f
-
-    go : (p ≡ place_of w (r n)) ⊎ (p ≢ place_of w (r n))
-        → ((k : ℕ) × (k < n) × (p ≡ place_of w (r k))) ⊎ ((k : ℕ) → k < n → p ≢ place_of w (r k))
-        → ((k : ℕ) × (k < suc n) × (p ≡ place_of w (r k))) ⊎ ((k : ℕ) → k < suc n → p ≢ place_of w (r k))
-    go (inl e) h = inl (n, omega arith, e)
-    go (inr ne) (inl h) = inl (h.0, (let b = h.1 in omega arith), h.2)
-    go (inr ne) (inr h) = inr (λ k b. last ne h k b (equal_or_not k n))
-
 -- An item that isn't dead stays: a picked register that isn't dead has its value again, and the others kept theirs.
 pub item_stays : {s : State} {count : ℕ} {May : ℕ → Type 0} {want : ℕ} {dead avoid : List Part} {regs : List ℕ}
-    {spilled : ℕ} {g : ℕ → ℕ} {codes : Codes} {f : ℕ → ℕ} (c : HasBlock s count May (slice_index regs) want)
+    {spilled : ℕ} {g : ℕ → ℕ} {codes : Codes} {f : ℕ → ℕ} (c : HasWorkspace s count May (slice_index regs) want)
     (p : ArePicked dead avoid want regs spilled)
     → ((j : ℕ) → want - spilled ≤ j → j < want → f j ≡ register_of s (slice_index regs j))
-    → (u : State) → IsAlike s May (slice_index regs) want g codes f u → (has dead parts.Icc ≡ false → codes ≡ s.codes)
+    → (u : State) → IsAlike s (slice_index regs) want (AreStored May g) codes f u → (has dead parts.Icc ≡ false → codes ≡ s.codes)
     → (y : StateItem) → (IsAmong y s.window dead → ⊥) → IsSameAt y s u
 item_stays {s} {want = want} {dead = dead} {regs = regs} {spilled = spilled} {f = f} c p back u h kept (Register n) ne =
-    go (picked_or_not s.window (slice_index regs) want n)
+    go (picked_or_not (λ k. place_of s.window (slice_index regs k)) want n)
   where
     r : ℕ → ℕ
     r = slice_index regs

@@ -6,15 +6,14 @@ use Rattle.std.proofs.lemmas.Bool.{cases_lt}
 use Rattle.std.proofs.lemmas.Nat.{mod_below, pow_pos}
 use Rattle.std.proofs.lemmas.List.{get_or-set_same, get_or-set_other, length-set}
 use Rattle.std.proofs.lemmas.List.FromFn.{get_or-map-range_with_len, length-map-range_with_len}
-use Rattle.code_runs.proofs.Hops.{equal_or_not}
+use Rattle.code_runs.proofs.Picked.{equal_or_not, put, put_other, put_same}
 use Rattle.snippets.specs.declared.snippet.Op.{Op}
 use Rattle.snippets.specs.declared.snippet.Op.TheVariants.{Add, Put, Keep, Top, Count, Log}
 use Rattle.snippets.specs.Cells.{changed, with_wide, updated_by, update}
 use Rattle.snippets.specs.Ops.{cell_of, cells_end}
 use Rattle.snippet_code.specs.Cells.{cell_at}
 use Rattle.snippet_code.specs.Code.{IsCellIn, IsCellOf}
-use Rattle.snippet_code.proofs.Working.{put, update_one, update_all}
-use Rattle.snippet_code.proofs.Blocks.{put_same, put_other}
+use Rattle.snippet_code.proofs.Working.{update_one, update_all}
 
 -- so many cells, by the words at their addresses
 abbrev pub listed : ℕ → ℕ → (ℕ → ℕ) → List ℕ

@@ -16,17 +16,16 @@ use Rattle.v8_memory.specs.Regions.{Region, code_of}
 use Rattle.v8_step.specs.State.{State, register_of, operand_of, sum_of}
 use Rattle.v8_step.proofs.ValidStates.{register_of-range}
 use Rattle.code_runs.specs.Straight.{Says, StandIn}
-use Rattle.code_runs.specs.TwoRegisters.{Gives}
 use Rattle.snippets.specs.declared.snippet.Op.{Op}
 use Rattle.snippets.specs.declared.snippet.Op.TheVariants.{Add, Put, Keep}
-use Rattle.code_runs.specs.StoredWords.{memory_word}
 use Rattle.snippet_code.specs.Cells.{cell_at}
 use Rattle.snippet_code.specs.Words.{op_words, small, low, high, load_low, store_low, of_two, with_number}
 use Rattle.snippet_code.specs.Spills.{is_small}
-use Rattle.snippet_code.proofs.Working.{HasBlock, Works, put, update_one, IsFit, Does}
+use Rattle.snippet_code.proofs.Working.{HasWorkspace, WorksWithin, update_one, IsFit, Does}
 use Rattle.code_runs.specs.Code.{any_of_word, word_span}
 use Rattle.code_runs.specs.Counted.{one_if}
-use Rattle.snippet_code.proofs.Blocks.{unpicked_is, sethi, alu, ld, st}
+use Rattle.code_runs.proofs.Picked.{Gives, put, unpicked_is, works_like}
+use Rattle.snippet_code.proofs.Blocks.{sethi, alu, ld, st}
 
 -- ---- words in two parts
 pub sum_low : (u : State) (q a : ℕ) → register_of u q ≡ 1024 * (a / 1024) → a < 2 ^ 32
@@ -69,42 +68,40 @@ at {code = code} {x = x} says e = rw e at says
 module _ {s : State} {count : ℕ} {May : ℕ → Type 0} {counted : ℕ → Bool} {r : ℕ → ℕ} {want : ℕ} {n t : ℕ}
     {g : ℕ → ℕ} {codes : Codes} {f : ℕ → ℕ} where
   -- the same words of memory, by another function
-  pub works_words : (g' : ℕ → ℕ) → ((b : ℕ) → g b ≡ g' b) → Works s count May counted r want n t g codes f
-      → Works s count May counted r want n t g' codes f
+  pub works_words : (g' : ℕ → ℕ) → ((b : ℕ) → g b ≡ g' b) → WorksWithin s count May counted r want n t g codes f
+      → WorksWithin s count May counted r want n t g' codes f
   works_words g' same w =
-      let x = w.reach in
-      let h = x.alike in
-      let words : (b : ℕ) → May b → memory_word x.after.memory b ≡ g' b = λ b m. h.memory.words b m ∙ same b in
-      let range : (b : ℕ) → May b → g' b < 2 ^ 32 = λ b m. rw (same b) at (h.memory.range b m) in
+      let h = w.ran.alike in
+      let m = h.memory in
       record {
-        reach = record {
-          after = x.after;
-          steps = x.steps;
-          few = x.few;
-          path = x.path;
-          silent = x.silent;
-          stored = x.stored;
-          pc = x.pc;
-          npc = x.npc;
-          alike = assumption (words, range, h);
-        };
-        slot = w.slot;
+        steps = w.steps;
+        ran = works_like w.ran (record {
+          same = h.same;
+          codes_are = h.codes_are;
+          held = h.held;
+          memory = record {
+            can = m.can;
+            words = λ b l. m.words b l ∙ same b;
+            range = λ b l. rw (same b) at (m.range b l);
+          };
+        });
+        stored = w.stored;
       }
 
   -- as many words, by another name
-  pub as_many : {m : ℕ} → n ≡ m → Works s count May counted r want n t g codes f
-      → Works s count May counted r want m t g codes f
+  pub as_many : {m : ℕ} → n ≡ m → WorksWithin s count May counted r want n t g codes f
+      → WorksWithin s count May counted r want m t g codes f
   as_many e w = rw e at w
 
 -- ---- one operation
 module _ {s : State} {count : ℕ} {May : ℕ → Type 0} {counted : ℕ → Bool} {r : ℕ → ℕ} {want : ℕ}
-    (c : HasBlock s count May r want) {n t : ℕ} {g : ℕ → ℕ} {codes : Codes} {f : ℕ → ℕ}
-    (w : Works s count May counted r want n t g codes f) where
+    (c : HasWorkspace s count May r want) {n t : ℕ} {g : ℕ → ℕ} {codes : Codes} {f : ℕ → ℕ}
+    (w : WorksWithin s count May counted r want n t g codes f) where
   adds_small : (a amount : ℕ) → n + 4 ≤ count → 2 ≤ want → May a → any_of_word counted a ≡ false → a < 2 ^ 32
       → amount < 2 ^ 32 → StandIn (code_of s.memory) (s.pc + 4 * n)
       (high a (r 0) ∷ load_low a (r 0) (r 1) ∷ with_number ops.ADD (r 1) (small amount) (r 1) ∷
       store_low a (r 0) (r 1) ∷ [])
-      → Works s count May counted r want (suc (suc (suc (suc n)))) t (put a (wrapped (g a + amount)) g) codes
+      → WorksWithin s count May counted r want (suc (suc (suc (suc n)))) t (put a (wrapped (g a + amount)) g) codes
       (put 1 (wrapped (g a + amount)) (put 1 (g a) (put 0 (1024 * (a / 1024)) f)))
   adds_small a amount room enough ok free below fits stand =
       let w1 = sethi c 0 (a / 1024) (1024 * (a / 1024)) w (omega arith) (omega arith) stand.0 (high_is a below) in
@@ -123,7 +120,7 @@ module _ {s : State} {count : ℕ} {May : ℕ → Type 0} {counted : ℕ → Boo
       (high a (r 0) ∷ load_low a (r 0) (r 1) ∷ high amount (r 2) ∷
       with_number ops.ADD (r 2) (pos (low amount)) (r 2) ∷ of_two ops.ADD (r 1) (r 2) (r 1) ∷
       store_low a (r 0) (r 1) ∷ [])
-      → Works s count May counted r want (suc (suc (suc (suc (suc (suc n)))))) t (put a (wrapped (g a + amount)) g)
+      → WorksWithin s count May counted r want (suc (suc (suc (suc (suc (suc n)))))) t (put a (wrapped (g a + amount)) g)
       codes (put 1 (wrapped (g a + amount))
       (put 2 amount (put 2 (1024 * (amount / 1024)) (put 1 (g a) (put 0 (1024 * (a / 1024)) f)))))
   adds_other a amount room enough ok free below fits stand =
@@ -149,18 +146,18 @@ module _ {s : State} {count : ℕ} {May : ℕ → Type 0} {counted : ℕ → Boo
   puts_register : (a q v : ℕ) → n + 2 ≤ count → 1 ≤ want → May a → any_of_word counted a ≡ false → a < 2 ^ 32 → q < 32
       → ((k : ℕ) → k < want → q ≢ r k) → register_of s q ≡ v
       → StandIn (code_of s.memory) (s.pc + 4 * n) (high a (r 0) ∷ store_low a (r 0) q ∷ [])
-      → Works s count May counted r want (suc (suc n)) t (put a v g) codes (put 0 (1024 * (a / 1024)) f)
+      → WorksWithin s count May counted r want (suc (suc n)) t (put a v g) codes (put 0 (1024 * (a / 1024)) f)
   puts_register a q v room enough ok free below reg unpicked value stand =
       let w1 = sethi c 0 (a / 1024) (1024 * (a / 1024)) w (omega arith) (omega arith) stand.0 (high_is a below) in
       st c t q (r 0) (o.Imm (pos (a % 1024))) a v w1 (omega arith) (at stand.1.0 (omega arith))
       (λ u h. sum_low u (r 0) a (h.held.picked 0 (omega arith)) below) ok
-      (λ u h. unpicked_is c u q h reg unpicked ∙ value)
+      (λ u h. unpicked_is c.block u q h reg unpicked ∙ value)
       (rw value at (register_of-range s q c.valid)) (free_store counted t a free)
 
   puts_number : (a v : ℕ) → n + 4 ≤ count → 2 ≤ want → May a → any_of_word counted a ≡ false → a < 2 ^ 32 → v < 2 ^ 32
       → StandIn (code_of s.memory) (s.pc + 4 * n)
       (high a (r 0) ∷ high v (r 1) ∷ with_number ops.ADD (r 1) (pos (low v)) (r 1) ∷ store_low a (r 0) (r 1) ∷ [])
-      → Works s count May counted r want (suc (suc (suc (suc n)))) t (put a v g) codes
+      → WorksWithin s count May counted r want (suc (suc (suc (suc n)))) t (put a v g) codes
       (put 1 v (put 1 (1024 * (v / 1024)) (put 0 (1024 * (a / 1024)) f)))
   puts_number a v room enough ok free below fits stand =
       let w1 = sethi c 0 (a / 1024) (1024 * (a / 1024)) w (omega arith) (omega arith) stand.0 (high_is a below) in
@@ -181,7 +178,7 @@ module _ {s : State} {count : ℕ} {May : ℕ → Type 0} {counted : ℕ → Boo
         IsFit May counted r want cells d op → n + length xs ≤ count → StandIn (code_of s.memory) (s.pc + 4 * n) xs
         → Does s count May counted r want d (n + length xs) t (update_one (cell_at cells) (register_of s) op g)
 
-    pub done : {g' : ℕ → ℕ} {f' : ℕ → ℕ} (m l : ℕ) → m ≡ n + l → Works s count May counted r want m t g' codes f'
+    pub done : {g' : ℕ → ℕ} {f' : ℕ → ℕ} (m l : ℕ) → m ≡ n + l → WorksWithin s count May counted r want m t g' codes f'
         → Does s count May counted r want d (n + l) t g'
     done {g'} {f'} m l e x = record { codes = codes; picked = f'; works = rw e at x; kept = kept }
 
@@ -216,7 +213,7 @@ module _ {s : State} {count : ℕ} {May : ℕ → Type 0} {counted : ℕ → Boo
         go true e enough h room stand =
             done _ 2 (omega arith)
             (puts_register (cell_at cells cell) 0 value room enough (h.cell cell (omega arith, omega arith))
-            (h.free cell (omega arith, omega arith)) (let z = h.below in omega arith) (omega arith) (λ k b z. let some = c.some k b in absurd (omega arith)) (zero_is e) stand)
+            (h.free cell (omega arith, omega arith)) (let z = h.below in omega arith) (omega arith) (λ k b z. let some = c.block.some k b in absurd (omega arith)) (zero_is e) stand)
         go false e enough h room stand =
             done _ 4 (omega arith)
             (puts_number (cell_at cells cell) value room enough (h.cell cell (omega arith, omega arith))

@@ -10,19 +10,19 @@ use Rattle.v8_memory.specs.Regions.{Region, code_of}
 use Rattle.v8_step.specs.State.{State, register_of, sum_of}
 use Rattle.v8_step.proofs.ValidStates.{register_of-range}
 use Rattle.code_runs.specs.Straight.{Says, StandIn}
-use Rattle.code_runs.proofs.Hops.{equal_or_not}
+use Rattle.code_runs.proofs.Picked.{equal_or_not, put, put_other, put_same}
 use Rattle.snippets.specs.declared.snippet.Op.{Op}
 use Rattle.snippets.specs.declared.snippet.Op.TheVariants.{Add, Put, Keep, Top, Count, Log}
 use Rattle.snippet_code.specs.Cells.{cell_at}
 use Rattle.snippet_code.specs.Code.{kept_word}
 use Rattle.code_runs.specs.Code.{of_page, any_of_word, word_span}
 use Rattle.snippet_code.specs.Words.{op_words, all_words, numbered, save, restore, low, high}
-use Rattle.snippet_code.proofs.Working.{HasBlock, Works, put, update_all, Does, AreFit, AreFrom, HavePage, saved, AreSaved}
+use Rattle.snippet_code.proofs.Working.{HasWorkspace, WorksWithin, update_all, Does, AreFit, AreFrom, HavePage, saved, AreSaved}
 use Rattle.code_runs.specs.Counted.{one_if}
 use Rattle.snippet_code.proofs.OneOperation.{as_many, Doing, add_works, put_works, keep_works}
 use Rattle.snippet_code.proofs.Greater.{top_works}
 use Rattle.snippet_code.proofs.Wide.{count_works, log_works}
-use Rattle.snippet_code.proofs.Blocks.{put_same, put_other, ld, st}
+use Rattle.snippet_code.proofs.Blocks.{ld, st}
 
 -- ---- words of two lists
 pub stand_then : (code : List Region) (a : ℕ) (xs ys : List Instr) → StandIn code a (xs ++ ys)
@@ -106,9 +106,9 @@ page_sum u (suc (suc (suc (suc (suc m))))) h = absurd (omega arith)
 page_sum u m h = refl
 
 module _ {s : State} {count : ℕ} {May : ℕ → Type 0} {counted : ℕ → Bool} {r : ℕ → ℕ} {want : ℕ}
-    (c : HasBlock s count May r want) where
+    (c : HasWorkspace s count May r want) where
   -- any operation
-  op_works : {n t : ℕ} {g : ℕ → ℕ} {codes : Codes} {f : ℕ → ℕ} (w : Works s count May counted r want n t g codes f)
+  op_works : {n t : ℕ} {g : ℕ → ℕ} {codes : Codes} {f : ℕ → ℕ} (w : WorksWithin s count May counted r want n t g codes f)
       (cells : ℕ) (d : Bool) (kept : d ≡ false → codes ≡ s.codes) (op : Op)
       → Doing c w cells d kept op (op_words cells d r op)
   op_works w cells d kept (Add cell amount) = add_works c w cells d kept cell amount
@@ -139,15 +139,15 @@ module _ {s : State} {count : ℕ} {May : ℕ → Type 0} {counted : ℕ → Boo
 
   -- ---- saved before
   pub saves : (cost : ℕ) → IsCost counted cost → (k m : ℕ) (qs : List ℕ) {n t : ℕ} {g : ℕ → ℕ} {codes : Codes}
-      → Works s count May counted r want n t g codes (λ j. register_of s (r j)) → AreFrom r want k qs
+      → WorksWithin s count May counted r want n t g codes (λ j. register_of s (r j)) → AreFrom r want k qs
       → HavePage May m qs
       → n + length (numbered save m qs) ≤ count → StandIn (code_of s.memory) (s.pc + 4 * n) (numbered save m qs)
-      → Works s count May counted r want (n + length qs) (t + cost * length qs) (saved (register_of s) m qs g) codes
+      → WorksWithin s count May counted r want (n + length qs) (t + cost * length qs) (saved (register_of s) m qs g) codes
       (λ j. register_of s (r j))
   saves cost is k m [] {n} {t} {g} {codes} w picked page room stand =
-      subst (λ z. Works s count May counted r want z (t + cost * 0) g codes (λ j. register_of s (r j)))
+      subst (λ z. WorksWithin s count May counted r want z (t + cost * 0) g codes (λ j. register_of s (r j)))
       (let e : n ≡ n + 0 = omega arith in e)
-      (subst (λ z. Works s count May counted r want n z g codes (λ j. register_of s (r j)))
+      (subst (λ z. WorksWithin s count May counted r want n z g codes (λ j. register_of s (r j)))
       (let e : t ≡ t + cost * 0 = omega arith in e) w)
   saves cost is k m (q ∷ qs) {n} {t} {g} {codes} w picked page room stand =
       let paid = is.each m page.0 in
@@ -158,19 +158,19 @@ module _ {s : State} {count : ℕ} {May : ℕ → Type 0} {counted : ℕ → Boo
       let more = saves cost is (suc k) (suc m) qs one picked.2 page.2 (omega arith)
       (stand_at (code_of s.memory) (s.pc + 4 * n + 4) (s.pc + 4 * suc n) (numbered save (suc m) qs) stand.1
       (omega arith)) in
-      subst (λ z. Works s count May counted r want z (t + cost * suc (length qs))
+      subst (λ z. WorksWithin s count May counted r want z (t + cost * suc (length qs))
       (saved (register_of s) (suc m) qs (put (kept_word m) (register_of s q) g)) codes
       (λ j. register_of s (r j))) (let e : suc n + length qs ≡ n + suc (length qs) = omega arith in e)
-      (subst (λ z. Works s count May counted r want (suc n + length qs) z
+      (subst (λ z. WorksWithin s count May counted r want (suc n + length qs) z
       (saved (register_of s) (suc m) qs (put (kept_word m) (register_of s q) g)) codes
       (λ j. register_of s (r j))) (one_more cost t (length qs)) more)
 
   -- ---- and loaded after
   pub restores : (k m : ℕ) (qs : List ℕ) {n t : ℕ} {g : ℕ → ℕ} {codes : Codes} {f : ℕ → ℕ}
-      → Works s count May counted r want n t g codes f → AreFrom r want k qs → HavePage May m qs
+      → WorksWithin s count May counted r want n t g codes f → AreFrom r want k qs → HavePage May m qs
       → AreSaved (register_of s) m qs g
       → n + length (numbered restore m qs) ≤ count → StandIn (code_of s.memory) (s.pc + 4 * n) (numbered restore m qs)
-      → (f' : ℕ → ℕ) × Works s count May counted r want (n + length qs) t g codes f' ×
+      → (f' : ℕ → ℕ) × WorksWithin s count May counted r want (n + length qs) t g codes f' ×
       ((j : ℕ) → j < k → f' j ≡ f j) × ((j : ℕ) → k ≤ j → j < k + length qs → f' j ≡ register_of s (r j))
   restores k m [] {n} {t} {g} {codes} {f} w picked page held room stand =
       (f, as_many (let e : n ≡ n + 0 = omega arith in e) w, λ j h. refl, λ j h l. absurd (omega arith))

@@ -20,6 +20,7 @@ use Rattle.code_runs.specs.StoredWords.{memory_word}
 use Rattle.code_runs.specs.Straight.{StandIn}
 use Rattle.code_runs.proofs.Leads.{split_below}
 use Rattle.code_runs.proofs.Straight.{words_say}
+use Rattle.code_runs.proofs.Picked.{put, put_other, put_same}
 use Rattle.scavenge.specs.Code.{ArePicked, picked}
 use Rattle.scavenge.specs.Picks.{spills}
 use Rattle.scavenge.proofs.Picks.{are_picked}
@@ -33,8 +34,8 @@ use Rattle.snippet_code.specs.Spills.{registers_for}
 use Rattle.snippet_code.specs.Words.{all_words, numbered, save, restore}
 use Rattle.snippet_code.specs.Runs.{MayStore, IsAboutToRun, RunsPast}
 use Rattle.snippet_code.specs.Laws.{EndsLow, EndLow, SnippetsRun}
-use Rattle.snippet_code.proofs.Working.{HasBlock, Works, Does, put, update_all, IsRead, AreFit, AreFrom, HavePage, saved, AreSaved}
-use Rattle.snippet_code.proofs.Blocks.{put_same, put_other, works_none}
+use Rattle.snippet_code.proofs.Working.{HasWorkspace, WorksWithin, Does, update_all, IsRead, AreFit, AreFrom, HavePage, saved, AreSaved}
+use Rattle.snippet_code.proofs.Blocks.{works_none}
 use Rattle.snippet_code.proofs.OneOperation.{as_many}
 use Rattle.snippet_code.proofs.Sequences.{cost_of_page, stand_then, stand_at, all_work, saves, restores}
 use Rattle.snippet_code.proofs.Listed.{listed_same, listed_all, all_away, cell_or_not}
@@ -152,8 +153,22 @@ module _ (counted : ℕ → Bool) (base : ℕ) (dead avoid : List Part) (ops : L
 
   -- what a block needs
   block : (regs : List ℕ) (spills : ℕ) → base % 4 ≡ 0 → ArePicked dead avoid Want regs spills
-      → IsAboutToRun words base ops s → HasBlock s (length words) (MayStore base ops) (slice_index regs) Want
-  block regs spills four p h = assumption (aligned, can)
+      → IsAboutToRun words base ops s → HasWorkspace s (length words) (MayStore base ops) (slice_index regs) Want
+  block regs spills four p h = record {
+    block = record {
+      ready = h.ready;
+      low = h.low;
+      registers = h.valid.registers.count;
+      window = h.valid.window;
+      some = p.some;
+      below = p.below;
+      differ = p.differ;
+    };
+    valid = h.valid;
+    slot = h.slot;
+    aligned = aligned;
+    can = can;
+  }
     where
       aligned : (a : ℕ) → MayStore base ops a → a % 4 ≡ 0
       aligned a (inl (k, m, e)) = omega arith
@@ -231,7 +246,7 @@ module _ (counted : ℕ → Bool) (base : ℕ) (dead avoid : List Part) (ops : L
       let one = stand_then code s.pc xs (ys ++ zs) all in
       let two = stand_then code (s.pc + 4 * length xs) ys zs one.1 in
       let pages = page_of (MayStore base ops) (λ m b. inr (m, b, refl)) 0 out (omega arith) in
-      let w0 : Works s (length words) (MayStore base ops) counted r Want 0 0 g0 s.codes (λ k. register_of s (r k)) =
+      let w0 : WorksWithin s (length words) (MayStore base ops) counted r Want 0 0 g0 s.codes (λ k. register_of s (r k)) =
       works_none c in
       let cost = cost_of_page counted in
       let w1 = saves c cost.0 cost.1 first 0 out w0 from pages (omega arith)
@@ -249,21 +264,22 @@ module _ (counted : ℕ → Bool) (base : ℕ) (dead avoid : List Part) (ops : L
       (stand_at code (s.pc + 4 * length xs + 4 * length ys) (s.pc + 4 * (0 + length out + length ys)) zs two.1
       (omega arith)) in
       let w4 = as_many (let z : 0 + length out + length ys + length out ≡ length words = omega arith in z) w3.1 in
-      let x = w4.reach in
+      let x = w4.ran in
+      let slot = x.slot (inl h.slot) in
       let a = x.alike in
       let limit = h.low in
       let items = item_stays c p (λ j l m. w3.3 j l (omega arith)) x.after a d2.kept in
       record {
         after = x.after;
-        steps = x.steps;
+        steps = w4.steps;
         few = x.few;
         path = x.path;
         silent = x.silent;
-        stored = (let z = x.stored in let y = at_most cost.0 (length out) cost.1.one in omega arith);
-        elsewhere = λ free. (let z = x.stored in let y = at_none cost.0 (length out) (cost.1.none free) in omega arith);
+        stored = (let z = w4.stored in let y = at_most cost.0 (length out) cost.1.one in omega arith);
+        elsewhere = λ free. (let z = w4.stored in let y = at_none cost.0 (length out) (cost.1.none free) in omega arith);
         pc = x.pc;
         npc = x.npc;
-        slot = w4.slot;
+        slot = slot;
         live = a.same.live;
         window = a.same.window;
         windows = a.same.valid;
@@ -273,12 +289,12 @@ module _ (counted : ℕ → Bool) (base : ℕ) (dead avoid : List Part) (ops : L
         all = λ none. nothing_dead s x.after (s.pc + 4 * length words) h.valid.registers.count a.held.count
             (subst (λ (z : List Part). (item : StateItem) → (IsAmong item s.window z → ⊥) → IsSameAt item s x.after) none
             items)
-            x.pc x.npc (omega arith) w4.slot a.same.window a.same.valid a.same.input (a.same.live ∙ sym h.ready.live);
+            x.pc x.npc (omega arith) slot a.same.window a.same.valid a.same.input (a.same.live ∙ sym h.ready.live);
         cells = cells_are regs_of out x.after low h a.memory.words
             (λ k n other below far. word_unmoved (MayStore base ops) s.memory x.after.memory (cell_at base k)
-            h.valid.memory a.memory.stores (cell_apart k n other below far));
-        stores = a.memory.stores;
-        code = a.memory.code;
+            h.valid.memory x.stores (cell_apart k n other below far));
+        stores = x.stores;
+        code = x.code;
       }
 
 pub snippets_run : SnippetsRun

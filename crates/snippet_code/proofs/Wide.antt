@@ -14,12 +14,13 @@ use Rattle.v8_memory.specs.Regions.{code_of}
 use Rattle.v8_step.specs.State.{State, register_of}
 use Rattle.code_runs.specs.Code.{any_of_word}
 use Rattle.code_runs.specs.Straight.{StandIn}
+use Rattle.code_runs.proofs.Picked.{put, put_other}
 use Rattle.snippets.specs.declared.snippet.Op.TheVariants.{Count, Log}
 use Rattle.snippet_code.specs.Cells.{cell_at}
 use Rattle.snippet_code.specs.Words.{op_words, count_words, log_words, low}
-use Rattle.snippet_code.proofs.Working.{HasBlock, Works, put, update_one, Does}
+use Rattle.snippet_code.proofs.Working.{HasWorkspace, WorksWithin, update_one, Does}
 use Rattle.snippet_code.proofs.OneOperation.{Doing, add_is, as_many, at, free_store, gives, high_is, sum_low, sum_next, works_words}
-use Rattle.snippet_code.proofs.Blocks.{alu, alu_codes, ld, put_other, sethi, st}
+use Rattle.snippet_code.proofs.Blocks.{alu, alu_codes, ld, sethi, st}
 
 -- ---- numbers
 
@@ -115,13 +116,13 @@ unfolding alu_of
 sll_is x y v e codes z = ap (λ n. Ok (record { value = n; codes = codes; y = z })) e
 
 module _ {s : State} {count : ℕ} {May : ℕ → Type 0} {counted : ℕ → Bool} {r : ℕ → ℕ} {want : ℕ}
-    (c : HasBlock s count May r want) {n t : ℕ} {g : ℕ → ℕ} {codes : Codes} {f : ℕ → ℕ}
-    (w : Works s count May counted r want n t g codes f) where
+    (c : HasWorkspace s count May r want) {n t : ℕ} {g : ℕ → ℕ} {codes : Codes} {f : ℕ → ℕ}
+    (w : WorksWithin s count May counted r want n t g codes f) where
   -- with the codes
   counts_short : (a b : ℕ) → b ≡ a + 4 → n + 7 ≤ count → 2 ≤ want → May a → May b → any_of_word counted a ≡ false
       → any_of_word counted b ≡ false → b < 2 ^ 31 → g b < 2 ^ 32
       → StandIn (code_of s.memory) (s.pc + 4 * n) (count_words a true r)
-      → (codes' : Codes) × (f' : ℕ → ℕ) × Works s count May counted r want (n + 7) t
+      → (codes' : Codes) × (f' : ℕ → ℕ) × WorksWithin s count May counted r want (n + 7) t
       (put a (wrapped (g a + (g b + 1) / 2 ^ 32)) (put b (wrapped (g b + 1)) g)) codes' f'
   counts_short a b next room enough ok ok' free free' below small stand =
       let x = wrapped (g b + 1 + 0) in
@@ -160,7 +161,7 @@ module _ {s : State} {count : ℕ} {May : ℕ → Type 0} {counted : ℕ → Boo
   counts_long : (a b : ℕ) → b ≡ a + 4 → n + 9 ≤ count → 3 ≤ want → May a → May b → any_of_word counted a ≡ false
       → any_of_word counted b ≡ false → b < 2 ^ 31 → g b < 2 ^ 32
       → StandIn (code_of s.memory) (s.pc + 4 * n) (count_words a false r)
-      → (f' : ℕ → ℕ) × Works s count May counted r want (n + 9) t
+      → (f' : ℕ → ℕ) × WorksWithin s count May counted r want (n + 9) t
       (put a (wrapped (g a + (g b + 1) / 2 ^ 32)) (put b (wrapped (g b + 1)) g)) codes f'
   counts_long a b next room enough ok ok' free free' below small stand =
       let x = wrapped (g b + 1) in
@@ -201,7 +202,7 @@ module _ {s : State} {count : ℕ} {May : ℕ → Type 0} {counted : ℕ → Boo
   logs : (a b bits v : ℕ) → b ≡ a + 4 * (g a % 2 ^ bits) + 4 → n + 10 ≤ count → 3 ≤ want → 1 ≤ bits → bits ≤ 16
       → May a → May b → any_of_word counted a ≡ false → any_of_word counted b ≡ false → b < 2 ^ 31 → v < 2 ^ 32
       → StandIn (code_of s.memory) (s.pc + 4 * n) (log_words a r bits v)
-      → (f' : ℕ → ℕ) × Works s count May counted r want (n + 10) t (put b v (put a (wrapped (g a + 1)) g)) codes f'
+      → (f' : ℕ → ℕ) × WorksWithin s count May counted r want (n + 10) t (put b v (put a (wrapped (g a + 1)) g)) codes f'
   logs a b bits v next room enough some few ok ok' free free' below fits stand =
       let p = g a in
       let off = 4 * (g a % 2 ^ bits) in
@@ -273,13 +274,13 @@ module _ {s : State} {count : ℕ} {May : ℕ → Type 0} {counted : ℕ → Boo
             let next = h.cell (cell + 1) (omega arith, omega arith) in
             let p = counts_short (cell_at cells cell) (cell_at cells (cell + 1)) (omega arith) room' enough here next
             (h.free cell (omega arith, omega arith)) (h.free (cell + 1) (omega arith, omega arith)) (omega arith)
-            (w.reach.alike.memory.range (cell_at cells (cell + 1)) next) stand' in
+            (w.ran.alike.memory.range (cell_at cells (cell + 1)) next) stand' in
             record {
               codes = p.0;
               picked = p.1;
               works = works_words (update_one (cell_at cells) (register_of s) (Count cell) g)
-                  (counted_up cell (w.reach.alike.memory.range (cell_at cells cell) here)
-                  (w.reach.alike.memory.range (cell_at cells (cell + 1)) next)) p.2;
+                  (counted_up cell (w.ran.alike.memory.range (cell_at cells cell) here)
+                  (w.ran.alike.memory.range (cell_at cells (cell + 1)) next)) p.2;
               kept = λ q. absurd (cc);
             }
         go false e enough room' stand' =
@@ -287,13 +288,13 @@ module _ {s : State} {count : ℕ} {May : ℕ → Type 0} {counted : ℕ → Boo
             let next = h.cell (cell + 1) (omega arith, omega arith) in
             let p = counts_long (cell_at cells cell) (cell_at cells (cell + 1)) (omega arith) room' enough here next
             (h.free cell (omega arith, omega arith)) (h.free (cell + 1) (omega arith, omega arith)) (omega arith)
-            (w.reach.alike.memory.range (cell_at cells (cell + 1)) next) stand' in
+            (w.ran.alike.memory.range (cell_at cells (cell + 1)) next) stand' in
             record {
               codes = codes;
               picked = p.0;
               works = works_words (update_one (cell_at cells) (register_of s) (Count cell) g)
-                  (counted_up cell (w.reach.alike.memory.range (cell_at cells cell) here)
-                  (w.reach.alike.memory.range (cell_at cells (cell + 1)) next)) p.1;
+                  (counted_up cell (w.ran.alike.memory.range (cell_at cells cell) here)
+                  (w.ran.alike.memory.range (cell_at cells (cell + 1)) next)) p.1;
               kept = kept;
             }
 

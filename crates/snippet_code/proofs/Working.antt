@@ -1,102 +1,53 @@
 -- What is kept of code that works in a few picked registers and in some words of memory, where branches only lead
 -- forward.
-use Rattle.std.proofs.Common.{◌≡◌, ◌≢◌, ℕ, suc, ◌+◌, ◌*◌, ◌-◌, ◌/◌, ◌%◌, ◌^◌, ◌<◌, ◌≤◌, ◌==◌, max, Bool, false, Option, None, List, [], ◌∷◌, length}
-use Rattle.std.specs.Prelude.{slice_index, if◌then◌else◌}
+use Rattle.std.proofs.Common.{◌≡◌, ◌≢◌, ℕ, suc, ◌+◌, ◌*◌, ◌/◌, ◌%◌, ◌^◌, ◌<◌, ◌≤◌, max, Bool, false, List, [], ◌∷◌}
 use Rattle.v8_alu.specs.declared.Codes.{Codes}
-use Rattle.v8_memory.specs.Regions.{Memory, code_of}
-use Rattle.v8_windows.specs.Registers.{place_of, register_in}
-use Rattle.v8_step.specs.declared.Ending.{Ending}
+use Rattle.v8_memory.specs.Regions.{Memory}
 use Rattle.v8_step.specs.declared.Slot.TheVariants.{NoSlot}
 use Rattle.v8_step.specs.State.{State}
 use Rattle.v8_step.specs.Valid.{IsValid}
-use Rattle.code_runs.specs.Leads.{Leads, IsSilent}
+use Rattle.code_runs.specs.Code.{CanStore, any_of_word}
+use Rattle.code_runs.specs.Counted.{count_stores}
+use Rattle.code_runs.specs.Picked.{Works}
 use Rattle.code_runs.specs.StoredWords.{memory_word}
-use Rattle.code_runs.specs.Code.{Stores, CanStore, any_of_word}
-use Rattle.code_runs.specs.Straight.{IsReady}
-use Rattle.code_runs.specs.TwoRegisters.{IsBetween}
+use Rattle.code_runs.proofs.Picked.{HasBlock, put}
 use Rattle.snippets.specs.declared.snippet.Op.{Op}
 use Rattle.snippets.specs.declared.snippet.Op.TheVariants.{Add, Put, Keep, Top, Count, Log}
 use Rattle.snippets.specs.Grammar.{IsOp}
 use Rattle.snippets.specs.Ops.{cells_end}
 use Rattle.snippet_code.specs.Code.{IsCellIn, kept_word}
 use Rattle.snippet_code.specs.Cells.{cell_at}
-use Rattle.code_runs.specs.Counted.{count_stores}
 use Rattle.snippet_code.specs.Spills.{op_registers}
 
 -- ---- blocks
 
--- a function with another value at one place
-abbrev pub put : ℕ → ℕ → (ℕ → ℕ) → ℕ → ℕ
-put k v f j = if j == k then v else f j
-
 -- `count` words of code that begin where s stands, `want` registers r 0, r 1, .., and words that may be stored
-pub record HasBlock (s : State) (count : ℕ) (May : ℕ → Type 0) (r : ℕ → ℕ) (want : ℕ) : Type 0 where
+pub record HasWorkspace (s : State) (count : ℕ) (May : ℕ → Type 0) (r : ℕ → ℕ) (want : ℕ) : Type 0 where
+  pub block : HasBlock s count r want
   pub valid : IsValid s
-  pub ready : IsReady s
   pub slot : s.slot ≡ NoSlot
-  pub low : s.pc + 4 * count < 2 ^ 32 - 4
-  pub some : (k : ℕ) → k < want → 0 < r k
-  pub below : (k : ℕ) → k < want → r k < 32
-  pub differ : (j k : ℕ) → j < want → k < want → j ≢ k → r j ≢ r k
   pub aligned : (a : ℕ) → May a → a % 4 ≡ 0
   pub can : (a : ℕ) → May a → CanStore s.memory a
 
--- what no word of a block changes
-pub record IsSameBeside (s : State) (ending : Option Ending) (current windows : ℕ) (left : List ℕ) (y : ℕ) : Type 0 where
-  pub live : ending ≡ None
-  pub window : current ≡ s.window
-  pub valid : windows ≡ s.valid
-  pub input : left ≡ s.input
-  pub y_register : y ≡ s.y
-
--- the picked registers hold f, and the others what they held
-pub record AreHeld (s : State) (r : ℕ → ℕ) (want : ℕ) (f : ℕ → ℕ) (registers : List ℕ) (window : ℕ) : Type 0 where
-  pub count : length registers ≡ 136
-  pub picked : (k : ℕ) → k < want → register_in registers window (r k) ≡ f k
-  pub others : (p : ℕ) → ((k : ℕ) → k < want → p ≢ place_of s.window (r k))
-      → slice_index registers p ≡ slice_index s.registers p
-
--- these words of memory hold g, and may be stored; no others were stored
-pub record AreStored (s : State) (May : ℕ → Type 0) (g : ℕ → ℕ) (memory : Memory) : Type 0 where
+-- these words of memory hold g, and may be stored
+pub record AreStored (May : ℕ → Type 0) (g : ℕ → ℕ) (memory : Memory) : Type 0 where
   pub can : (a : ℕ) → May a → CanStore memory a
   pub words : (a : ℕ) → May a → memory_word memory a ≡ g a
   pub range : (a : ℕ) → May a → g a < 2 ^ 32
-  pub stores : Stores May s.memory memory
-  pub code : code_of memory ≡ code_of s.memory
-
--- u is s but for the picked registers, which hold f, the codes, and these words of memory, which hold g
-pub record IsAlike (s : State) (May : ℕ → Type 0) (r : ℕ → ℕ) (want : ℕ) (g : ℕ → ℕ) (codes : Codes) (f : ℕ → ℕ)
-    (u : State) : Type 0 where
-  pub same : IsSameBeside s u.ending u.window u.valid u.input u.y
-  pub codes_are : u.codes ≡ codes
-  pub held : AreHeld s r want f u.registers u.window
-  pub memory : AreStored s May g u.memory
 
 -- Where n words lead, in no more steps than words, of which at most t are stores that are counted.
-pub record Reaches (s : State) (count : ℕ) (May : ℕ → Type 0) (counted : ℕ → Bool) (r : ℕ → ℕ) (want n t : ℕ)
+pub record WorksWithin (s : State) (count : ℕ) (May : ℕ → Type 0) (counted : ℕ → Bool) (r : ℕ → ℕ) (want n t : ℕ)
     (g : ℕ → ℕ) (codes : Codes) (f : ℕ → ℕ) : Type 0 where
-  pub after : State
   pub steps : ℕ
-  pub few : steps ≤ n
-  pub path : Leads (IsBetween s count May) s after steps
-  pub silent : IsSilent s steps
+  pub ran : Works s count May r want steps n (AreStored May g) codes f
   pub stored : count_stores counted s steps ≤ t
-  pub pc : after.pc ≡ s.pc + 4 * n
-  pub npc : after.npc ≡ s.pc + 4 * n + 4
-  pub alike : IsAlike s May r want g codes f after
 
--- and the machine is in no slot there
-pub record Works (s : State) (count : ℕ) (May : ℕ → Type 0) (counted : ℕ → Bool) (r : ℕ → ℕ) (want n t : ℕ)
-    (g : ℕ → ℕ) (codes : Codes) (f : ℕ → ℕ) : Type 0 where
-  pub reach : Reaches s count May counted r want n t g codes f
-  pub slot : reach.after.slot ≡ NoSlot
-
--- Works, with some values in the picked registers, and with the codes as they were unless they are dead
+-- WorksWithin, with some values in the picked registers, and with the codes as they were unless they are dead
 pub record Does (s : State) (count : ℕ) (May : ℕ → Type 0) (counted : ℕ → Bool) (r : ℕ → ℕ) (want : ℕ) (d : Bool)
     (n t : ℕ) (g : ℕ → ℕ) : Type 0 where
   pub codes : Codes
   pub picked : ℕ → ℕ
-  pub works : Works s count May counted r want n t g codes picked
+  pub works : WorksWithin s count May counted r want n t g codes picked
   pub kept : d ≡ false → codes ≡ s.codes
 
 -- ---- operations

@@ -7,9 +7,8 @@ use Rattle.v8_step.specs.State.{State, register_of}
 use Rattle.v8_step.specs.Valid.{IsValid}
 use Rattle.v8_step.specs.Items.{StateItem, IsAmong, IsSameAt}
 use Rattle.code_runs.specs.Hops.{hopped}
-use Rattle.code_runs.specs.Leads.{Leads, IsSilent}
+use Rattle.code_runs.specs.Leads.{Leads, IsBetween, IsSilent}
 use Rattle.code_runs.specs.Straight.{IsReady, HasWords}
-use Rattle.code_runs.specs.TwoRegisters.{IsBetween}
 use Rattle.snippets.specs.declared.snippet.Op.{Op}
 use Rattle.snippets.specs.Cells.{update}
 use Rattle.code_runs.specs.Counted.{count_stores}
