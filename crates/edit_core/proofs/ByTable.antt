@@ -21,11 +21,11 @@ use Rattle.cfg_normal.specs.Opens.{Open}
 use Rattle.cfg_normal.specs.Graph.{Graph, graph_of}
 use Rattle.cfg_walk.specs.Walk.{end_of_walk, point_of}
 use Rattle.cfg_walk.specs.Matches.{BeginsAt, FetchesOnly}
-use Rattle.jump_slice.specs.Cases.{LoadsEntry}
-use Rattle.jump_slice.specs.Held.{HoldsText}
-use Rattle.jump_slice.specs.Joined.{IsCaseBlock, StandsAt}
-use Rattle.jump_slice.proofs.CaseBlocks.{case_blocks}
-use Rattle.jump_slice.proofs.Joined.{jumps_go_by_table}
+use Rattle.switch_runs.specs.Cases.{LoadsEntry}
+use Rattle.switch_runs.specs.Held.{HoldsText}
+use Rattle.switch_runs.specs.Joined.{IsCaseBlock, StandsAt}
+use Rattle.switch_runs.proofs.CaseBlocks.{case_blocks}
+use Rattle.switch_runs.proofs.Joined.{jumps_go_by_table}
 use Rattle.image_code.specs.Graphs.{case_table, opens_in}
 use Rattle.image_code.specs.Loads.{first_operand, is_place, load_of, loads_by, or_first, second_operand}
 use Rattle.image_code.specs.Numbered.{or_zero}

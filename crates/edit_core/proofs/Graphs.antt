@@ -20,9 +20,9 @@ use Rattle.cfg_normal.proofs.GraphFacts.{is_graph}
 use Rattle.cfg_walk.proofs.Cut.{IsCut, cut, entry_leads}
 use Rattle.cfg_walk.proofs.Holding.{first_held}
 use Rattle.cfg_walk.proofs.Lists.{Each, each-then}
-use Rattle.jump_slice.specs.Cases.{IsOpenSwitch}
-use Rattle.jump_slice.proofs.About.{about}
-use Rattle.jump_slice.proofs.Opened.{opens_are}
+use Rattle.switch_runs.specs.Cases.{IsOpenSwitch}
+use Rattle.switch_runs.proofs.About.{about}
+use Rattle.switch_runs.proofs.Opened.{opens_are}
 use Rattle.image_code.specs.Graphs.{IsGraphOf, opens_in}
 use Rattle.image_code.specs.Numbered.{case_numbers, cases_of}
 use Rattle.image_code.proofs.OpenBlocks.{are_open, is_list, text_graph}

@@ -40,8 +40,8 @@ use Rattle.cfg_view.specs.View.{view_of}
 use Rattle.cfg_view.proofs.Given.{entry_leads}
 use Rattle.walk_counts.proofs.Fetching.{only_text_is_fetched}
 use Rattle.walk_counts.proofs.Files.{begins, by_case, entry_is, opened}
-use Rattle.jump_slice.specs.Held.{HoldsText}
-use Rattle.jump_slice.proofs.Starts.{text_is_held}
+use Rattle.switch_runs.specs.Held.{HoldsText}
+use Rattle.switch_runs.proofs.Starts.{text_is_held}
 use Rattle.addr_translate.specs.Halves.{found_in}
 use Rattle.addr_translate.specs.Lookup.{TableAt}
 use Rattle.addr_translate.specs.Table.{target_of}

@@ -28,10 +28,10 @@ use Rattle.cfg_walk.proofs.Edges.{block, copy, same_itself, same_nodes}
 use Rattle.cfg_walk.proofs.Holding.{some_words}
 use Rattle.cfg_walk.proofs.Lists.{Each, each-map, each-then}
 use Rattle.cfg_walk.proofs.Ways.{IsOwn, ways_are_own}
-use Rattle.jump_slice.specs.Cases.{IsOpenSwitch}
-use Rattle.jump_slice.specs.Joined.{IsCaseBlock}
-use Rattle.jump_slice.proofs.CaseBlocks.{case_block}
-use Rattle.jump_slice.proofs.Opened.{opens_are}
+use Rattle.switch_runs.specs.Cases.{IsOpenSwitch}
+use Rattle.switch_runs.specs.Joined.{IsCaseBlock}
+use Rattle.switch_runs.proofs.CaseBlocks.{case_block}
+use Rattle.switch_runs.proofs.Opened.{opens_are}
 use Rattle.image_code.specs.Graphs.{opens_in}
 use Rattle.image_code.specs.Copies.{copies_of}
 use Rattle.image_code.proofs.OpenBlocks.{are_open, sizes_all}

@@ -2,8 +2,8 @@
 use Rattle.image_code.proofs.Common.{◌≡◌, ◌≢◌, ℕ, zero, suc, ◌+◌, ◌*◌, ◌%◌, ◌^◌, ◌<◌, Bool, true, Some, None, List, [], ◌∷◌, length, map, take, refl, ap, sym, ◌∙◌, subst, arith, ◌==◌, if◌then◌else◌, slice_get, slice_index, sum_by, and_parts, eq-eqb, lt-ltb, ltb-true, length-map, sum_by-cons, slice_get-map, slice_get_within, Words, word_at, Op2, operands_in_range, decode_of, decoded_range, nat_lt, NoSlot, Taken, State, EdgeKind, Blocks, blocks_of, holding_of, last_word, ends_block_after, word_at-some, Node, Block, home_of, Open, jumps_in, Graph, has_cases, node_of, node_after, point_of, way_of, same_kind, next_word, block, end_is, node_is, table_word, choice_at, saved_address, IsTarget, transfer_ends, jump_delayed, IsCaseBlock, OfWord, Shape, marked}
 use Rattle.v8_decode.specs.declared.Instr.TheVariants as i
 use Rattle.cfg_blocks.specs.declared.EdgeKind.TheVariants as kinds
-use Rattle.jump_slice.proofs.About.{in_targets}
-use Rattle.jump_slice.proofs.CaseBlocks.{some_of}
+use Rattle.switch_runs.proofs.About.{in_targets}
+use Rattle.switch_runs.proofs.CaseBlocks.{some_of}
 use Rattle.image_code.proofs.PointShapes.{next_entry, IsSwitchJump}
 use Rattle.image_code.specs.declared.shape.Exit.TheVariants as exits
 use Rattle.image_code.specs.declared.shape.Head.TheVariants as heads

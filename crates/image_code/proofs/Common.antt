@@ -75,10 +75,10 @@ pub use Rattle.jump_code.specs.Leaving.{foreign}
 pub use Rattle.jump_code.specs.Links.{link, past}
 pub use Rattle.jump_code.specs.PageWords.{IsPageWord, saved_address}
 pub use Rattle.jump_code.specs.Pieces.{long_jump_piece, foreign_piece, word_items}
-pub use Rattle.jump_slice.proofs.About.{about}
-pub use Rattle.jump_slice.proofs.Opened.{opens_are}
-pub use Rattle.jump_slice.specs.Cases.{IsOpenSwitch}
-pub use Rattle.jump_slice.specs.Joined.{IsCaseBlock}
+pub use Rattle.switch_runs.proofs.About.{about}
+pub use Rattle.switch_runs.proofs.Opened.{opens_are}
+pub use Rattle.switch_runs.specs.Cases.{IsOpenSwitch}
+pub use Rattle.switch_runs.specs.Joined.{IsCaseBlock}
 pub use Rattle.layout.specs.Emitting.{words_of}
 pub use Rattle.layout.specs.Laid.{IsWordAt, LeadsBelow, Placement, item_at, item_in, items_in, nop, open_from, open_in, piece_words, range_in, range_of}
 pub use Rattle.layout.specs.Running.{CanRun}

@@ -23,10 +23,10 @@ use Rattle.cfg_walk.proofs.Holding.{ends_at_next, ends_at_words}
 use Rattle.cfg_walk.proofs.Lists.{each-flat_map, each_in}
 use Rattle.cfg_walk.proofs.NoneOpen.{edges_lie_in}
 use Rattle.cfg_walk.proofs.Ways.{IsOwn, ways_are_own}
-use Rattle.jump_slice.proofs.Into.{leads_in}
-use Rattle.jump_slice.proofs.Opened.{found_in}
 use Rattle.jump_slice.proofs.Parts.{switch_of-is, table_in}
-use Rattle.jump_slice.proofs.Whole.{ends_count}
+use Rattle.switch_runs.proofs.Into.{leads_in}
+use Rattle.switch_runs.proofs.Opened.{found_in}
+use Rattle.switch_runs.proofs.Whole.{ends_count}
 use Rattle.image_code.specs.Loads.{load_of}
 use Rattle.image_code.specs.Numbered.{or_zero, edges_but_landings}
 use Rattle.image_code.specs.Graphs.{IsGraphOf, opens_in}

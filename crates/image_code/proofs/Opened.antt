@@ -6,10 +6,10 @@ use Rattle.cfg_blocks.specs.Ends.{is_transfer}
 use Rattle.cfg_blocks.specs.declared.switches.Value.TheVariants.{Place}
 use Rattle.cfg_blocks.specs.Values.{instr_at, sum_in}
 use Rattle.cfg_walk.specs.Matches.{AreOpen}
-use Rattle.jump_slice.specs.Cases.{LoadsEntry, approach_to}
-use Rattle.jump_slice.proofs.CaseBlocks.{case_block, open_in}
-use Rattle.jump_slice.proofs.Numbered.{opens_are_one}
-use Rattle.jump_slice.proofs.Opened.{are_open}
+use Rattle.switch_runs.specs.Cases.{LoadsEntry, approach_to}
+use Rattle.switch_runs.proofs.CaseBlocks.{case_block, open_in}
+use Rattle.switch_runs.proofs.Numbered.{opens_are_one}
+use Rattle.switch_runs.proofs.Opened.{are_open}
 use Rattle.image_code.specs.Graphs.{IsGraphOf, opens_in}
 use Rattle.image_code.specs.Loads.{first_operand, is_place, load_of, loads_by, or_first, second_operand}
 use Rattle.image_code.specs.Simulates.{EditSetup, graph_in}

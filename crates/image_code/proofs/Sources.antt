@@ -3,10 +3,10 @@ use Rattle.image_code.proofs.Common.{◌≡◌, ℕ, ◌<◌, ◌≤◌, Bool, L
 use Rattle.v8_decode.specs.declared.Op2.TheVariants as operand
 use Rattle.v8_decode.specs.Ranges.{is_in_range}
 use Rattle.cfg_blocks.specs.Switches.{runs_slot}
-use Rattle.jump_slice.proofs.About.{About}
-use Rattle.jump_slice.proofs.Acts.{operands}
-use Rattle.jump_slice.proofs.CaseBlocks.{open_in}
-use Rattle.jump_slice.proofs.Compared.{Compares, compare_at-is}
+use Rattle.switch_runs.proofs.About.{About}
+use Rattle.switch_runs.proofs.Acts.{operands}
+use Rattle.switch_runs.proofs.CaseBlocks.{open_in}
+use Rattle.switch_runs.proofs.Compared.{Compares, compare_at-is}
 use Rattle.image_code.specs.Graphs.{IsGraphOf, opens_in}
 use Rattle.image_code.specs.Lookups.{StandsInText, IsSource}
 use Rattle.image_code.proofs.Positions.{contains}

@@ -12,7 +12,7 @@ use Rattle.cfg_blocks.specs.declared.switches.Value.TheVariants.{Place}
 use Rattle.cfg_blocks.specs.Switches.{before_jump}
 use Rattle.cfg_blocks.specs.Values.{instr_at, sum_in}
 use Rattle.cfg_normal.specs.Opens.{Open}
-use Rattle.jump_slice.specs.Cases.{approach_to}
+use Rattle.switch_runs.specs.Cases.{approach_to}
 
 abbrev pub is_place : ℕ → Value → Bool
 is_place table (Place c) = c == table

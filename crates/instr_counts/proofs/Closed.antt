@@ -21,7 +21,7 @@ use Rattle.cfg_blocks.specs.Switches.{compare_at, compare_of, last_setting, sets
 use Rattle.cfg_blocks.specs.Values.{instr_at}
 use Rattle.cfg_normal.specs.Opens.{Open, candidate, candidate_behind, candidate_into, candidate_on, is_closed, opened, opens_of, with_switch}
 use Rattle.cfg_walk.proofs.Cut.{IsCut, cut}
-use Rattle.jump_slice.proofs.Whole.{ends_count}
+use Rattle.switch_runs.proofs.Whole.{ends_count}
 use Rattle.instr_counts.specs.Visits.{AreSingle}
 use Rattle.instr_counts.specs.Laws.{HasEach, NoneAreOpen}
 use Rattle.instr_counts.proofs.Single.{first_is, last_is, words_are_blocks}

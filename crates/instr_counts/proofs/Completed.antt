@@ -49,7 +49,7 @@ use Rattle.cfg_walk.proofs.Points.{Stands, at, home, low}
 use Rattle.cfg_walk.proofs.Slots.{lands_not}
 use Rattle.cfg_walk.proofs.States.{couples, out_goes}
 use Rattle.cfg_walk.proofs.Ways.{IsOne, fall_is_one, same_kinds, taken_is_one, untaken_is_one}
-use Rattle.jump_slice.proofs.Steps.{carries_out, comes_to}
+use Rattle.switch_runs.proofs.Steps.{carries_out, comes_to}
 use Rattle.span_tree.specs.Links.{edge_at, no_edge}
 use Rattle.instr_counts.specs.Visits.{AreSingle, is_slot, leads_to, one_if, runs_slot}
 use Rattle.instr_counts.proofs.Single.{as_many, holds_itself, last_is}

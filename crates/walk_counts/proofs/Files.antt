@@ -25,9 +25,9 @@ use Rattle.walk_counts.specs.Files.{WalksOfFilesMatch}
 use Rattle.cfg_normal.specs.Numbers.{node_number}
 use Rattle.span_tree.specs.Links.{links_of}
 use Rattle.walk_counts.specs.Counts.{AreFlows, CountsAreEnough, ExecutionsOfFilesAreFlows, IsPath}
-use Rattle.jump_slice.proofs.Opened.{are_open, opens_are}
-use Rattle.jump_slice.proofs.Starts.{text_is_held}
-use Rattle.jump_slice.proofs.Walking.{jumps_are_cases}
+use Rattle.switch_runs.proofs.Opened.{are_open, opens_are}
+use Rattle.switch_runs.proofs.Starts.{text_is_held}
+use Rattle.switch_runs.proofs.Walking.{jumps_are_cases}
 use Rattle.walk_counts.proofs.Texts.{HasText, text_found, text_from-start}
 use Rattle.walk_counts.proofs.Fetching.{only_text_is_fetched}
 use Rattle.cfg_walk.proofs.Walks.{walks_match}
