@@ -96,11 +96,12 @@ first_of base p address head some = by (head_is address head)
 
 -- ---- what a shape may be
 
--- it leads to one of so many pieces, in no more than four words
+-- it leads to one of so many pieces
 abbrev pub HeadLeads : ℕ → Head → Type 0
 HeadLeads count (heads.Branch cond to) = to.0 < count
 HeadLeads count _ = Unit {0}
 
+-- likewise, and the words that save an address are four at most
 abbrev pub ExitLeads : ℕ → Exit → Type 0
 ExitLeads count (exits.Piece piece) = piece.0 < count
 ExitLeads count (exits.Saved code) = length code ≤ 4

@@ -33,9 +33,9 @@ impl PieceMaker<'_> {
     {
         let copy = u64::from(self.graph.words(found.switch().compare));
         let first = self.graph.first(found.block()).0;
-        let save = if word.0 < self.load(number) { 0 } else { 1 };
+        let saves_before = if word.0 < self.load(number) { 0 } else { 1 };
         let begin = u64::from(self.begin(number)) + copy;
-        begin + u64::from(word.0.saturating_sub(first)) + save
+        begin + u64::from(word.0.saturating_sub(first)) + saves_before
     }
 
     // The piece where control enters it.

@@ -1,10 +1,10 @@
 -- The words of a switch's JMPL, one by one, and beside the original's step.
-use Rattle.std.proofs.Common.{◌≡◌, ℕ, zero, suc, ◌+◌, ◌-◌, ◌*◌, ◌^◌, ◌<◌, inl, None, List, refl, ap, sym, ◌∙◌, subst, arith}
+use Rattle.std.proofs.Common.{◌≡◌, ℕ, zero, suc, ◌+◌, ◌-◌, ◌*◌, ◌^◌, ◌<◌, inl, None, refl, ap, sym, ◌∙◌, subst, arith}
 use Rattle.std.specs.Prelude.{pos}
 use Rattle.v8_decode.specs.declared.Op2.{Op2}
 use Rattle.v8_decode.specs.declared.Op2.TheVariants.{Reg, Imm}
 use Rattle.v8_alu.specs.Numbers.{wrapped}
-use Rattle.v8_memory.specs.Regions.{Memory, Region, code_of}
+use Rattle.v8_memory.specs.Regions.{Memory, code_of}
 use Rattle.v8_step.specs.State.{State, register_of, with_register}
 use Rattle.v8_step.specs.Valid.{IsValid}
 use Rattle.v8_step.proofs.ValidStates.{register_of-range}

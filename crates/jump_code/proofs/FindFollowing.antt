@@ -13,6 +13,7 @@ use Rattle.code_runs.specs.Leads.{Leads, IsBetween}
 use Rattle.code_runs.specs.Page.{page_word}
 use Rattle.code_runs.specs.Code.{of_page, store_word, Stores}
 use Rattle.code_runs.specs.Points.{moved}
+use Rattle.code_runs.specs.Picked.{WorksInTwo}
 use Rattle.code_runs.proofs.Hops.{hops_through}
 use Rattle.code_runs.proofs.Picked.{both, equal_or_not, first, goes_on, none_in_two, two_registers, word}
 use Rattle.code_runs.proofs.Straight.{nth_says}
@@ -82,7 +83,7 @@ resume_hops x s h =
     let r = memory_word-range s.memory (page_word 7) h.valid.memory in
     let c = two_registers s 3 x o.0 h.valid h.ready h.low h.some h.below o.1 o.2 o.3 in
     let p7 = h.page 7 (omega arith) in
-    let w0 = none_in_two c in
+    let w0 : WorksInTwo s 3 IsPageWord x o.0 0 s.memory g (register_of s o.0) = none_in_two c in
     let w1 = goes_on c w0 (word s 3 (resume x) h.words (omega arith) 0 (omega arith))
     (swap c 0 0 (of_page 7) (page_word 7) (found_there s) (omega arith) (λ u k. refl) refl p7 refl word7) in
     hops_through c 0 (found_there s) (Imm (pos 0)) (of_page 7) (page_word 7) w1 (omega arith)

@@ -35,7 +35,7 @@ use Rattle.addr_translate.specs.Halves.{IsTwoLevel, entry_at, found_in, half_at}
 use Rattle.addr_translate.specs.Translator.{StandsAt}
 use Rattle.jump_code.specs.Finding.{LooksUp, FindsIt, IsAboutToFind, TrapsFinding, look_up, found_memory, sought_memory}
 use Rattle.jump_code.specs.FreeRegister.{IsNotIn}
-use Rattle.jump_code.specs.Links.{address_into, link, past}
+use Rattle.jump_code.specs.Links.{address_into, past}
 use Rattle.jump_code.specs.PageWords.{IsPageWord}
 use Rattle.jump_code.proofs.Blocks.{four, not_four, gives_sum, addressed, memory_valid, word1, word2, word7}
 use Rattle.jump_code.proofs.Swaps.{swap}

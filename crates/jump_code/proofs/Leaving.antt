@@ -11,6 +11,7 @@ use Rattle.code_runs.specs.Page.{page_word}
 use Rattle.code_runs.specs.Code.{of_page, store_word, Stores}
 use Rattle.code_runs.specs.StoredWords.{memory_word}
 use Rattle.code_runs.specs.Leads.{IsBetween}
+use Rattle.code_runs.specs.Picked.{WorksInTwo}
 use Rattle.code_runs.proofs.Hops.{hops_through}
 use Rattle.code_runs.proofs.Leads.{leads_weaker}
 use Rattle.code_runs.proofs.LongJump.{long_jumps_hop}
@@ -32,8 +33,8 @@ foreign_leaves s h =
     let p1 = h.page 1 (omega arith) in
     let p2 = h.page 2 (omega arith) in
     let r : x < 2 ^ 32 = memory_word-range s.memory (page_word 1) h.valid.memory in
-    let w0 = none_in_two c in
-    let w1 = goes_on c w0 (word s 4 foreign h.words (omega arith) 0 (omega arith))
+    let w0 : WorksInTwo s 4 IsPageWord 1 2 0 s.memory g1 (register_of s 2) = none_in_two c in
+    let w1 : WorksInTwo s 4 IsPageWord 1 2 1 m g1 (register_of s 2) = goes_on c w0 (word s 4 foreign h.words (omega arith) 0 (omega arith))
     (st_in c 1 0 (of_page 2) (page_word 2) g1 (λ u k. refl) refl p2 (λ u k. first k) word2) in
     let keeps : memory_word m (page_word 1) ≡ x =
     other_word_stored s.memory (page_word 1) (page_word 2) g1 p1 (inl (omega arith)) in

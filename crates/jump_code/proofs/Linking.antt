@@ -7,7 +7,7 @@ use Rattle.v8_decode.specs.declared.Instr.TheVariants as i
 use Rattle.v8_alu.specs.Numbers.{wrapped}
 use Rattle.v8_step.specs.Step.{act, step_of}
 use Rattle.v8_step.specs.Transfers.{call_step, next}
-use Rattle.v8_step.specs.State.{State, register_of, with_register}
+use Rattle.v8_step.specs.State.{State, with_register}
 use Rattle.code_runs.specs.Counted.{count_stores}
 use Rattle.code_runs.specs.Straight.{StandIn}
 use Rattle.code_runs.proofs.Acts.{says_step}
@@ -18,7 +18,6 @@ use Rattle.code_runs.proofs.Picked.{both, none_in_two, two_registers}
 use Rattle.v8_memory.specs.Regions.{code_of}
 use Rattle.jump_code.specs.Jumped.{CallsSimulate}
 use Rattle.jump_code.specs.Links.{address_into, CallsAct, IsAboutToCall}
-use Rattle.jump_code.specs.PageWords.{IsPageWord}
 use Rattle.jump_code.proofs.Blocks.{addressed}
 
 pub calls_act : CallsAct

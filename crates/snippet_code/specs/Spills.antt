@@ -2,7 +2,6 @@
 use Rattle.std.specs.Prelude.{ℕ, ◌-◌, ◌^◌, Bool, ◌||◌, nat_lt, nat_le, ◌==◌, if◌then◌else◌, max, List, [], ◌∷◌}
 use Rattle.snippets.specs.declared.snippet.Op.{Op}
 use Rattle.snippets.specs.declared.snippet.Op.TheVariants.{Add, Put, Keep, Top, Count, Log}
-use Rattle.v8_decode.specs.declared.AluOp.TheVariants as ops
 use Rattle.v8_decode.specs.declared.Part.{Part}
 use Rattle.v8_decode.specs.declared.Part.TheVariants.{Icc}
 use Rattle.v8_decode.specs.Parts.{has}
