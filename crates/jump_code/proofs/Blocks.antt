@@ -1,22 +1,8 @@
 -- What the proofs of these words share.
-use Rattle.std.proofs.Common.{◌≡◌, ◌≢◌, ℕ, suc, ◌+◌, ◌*◌, ◌/◌, ◌%◌, ◌^◌, ◌<◌, ◌≤◌, inl, inr, false, Ok, refl, ap, ◌∙◌, subst, arith}
-use Rattle.std.specs.Prelude.{◌==◌, pos}
+use Rattle.jump_code.proofs.Common.{◌≡◌, ◌≢◌, ℕ, suc, ◌+◌, ◌*◌, ◌/◌, ◌%◌, ◌^◌, ◌<◌, ◌≤◌, inl, inr, false, Ok, refl, ap, ◌∙◌, subst, arith, ◌==◌, pos, Op2, Imm, Codes, alu_of, wrapped, Memory, code_of, State, register_of, operand_of, sum_of, IsValid, IsValidMemory, run-valid, page_word, Is, WorksInTwo, StandIn, says_at, Gives, HasTwo, alu, goes_on, in_two, second, sethi}
 use Rattle.std.proofs.lemmas.Bool.Decides.{nat_tests}
-use Rattle.v8_decode.specs.declared.Op2.{Op2}
-use Rattle.v8_decode.specs.declared.Op2.TheVariants.{Imm}
 use Rattle.v8_decode.specs.declared.AluOp.TheVariants as ops
-use Rattle.v8_alu.specs.declared.Codes.{Codes}
-use Rattle.v8_alu.specs.Alu.{alu_of}
-use Rattle.v8_alu.specs.Numbers.{wrapped}
-use Rattle.v8_memory.specs.Regions.{Memory, code_of}
-use Rattle.v8_step.specs.State.{State, register_of, operand_of, sum_of}
-use Rattle.v8_step.specs.Valid.{IsValid, IsValidMemory}
-use Rattle.v8_step.proofs.ValidSteps.{run-valid}
-use Rattle.code_runs.specs.Page.{page_word}
-use Rattle.code_runs.specs.Picked.{Is, Works, WorksInTwo}
-use Rattle.code_runs.specs.Straight.{StandIn}
-use Rattle.code_runs.proofs.Straight.{says_at}
-use Rattle.code_runs.proofs.Picked.{Gives, HasTwo, alu, goes_on, in_two, second, sethi}
+use Rattle.code_runs.specs.Picked.{Works}
 pub use Rattle.addr_translate.proofs.TwelveWords.{four}
 use Rattle.jump_code.specs.Links.{address_into}
 use Rattle.jump_code.specs.PageWords.{IsPageWord}

@@ -1,27 +1,7 @@
 -- The words of a switch's JMPL, one by one, and beside the original's step.
-use Rattle.std.proofs.Common.{◌≡◌, ℕ, zero, suc, ◌+◌, ◌-◌, ◌*◌, ◌^◌, ◌<◌, inl, None, refl, ap, sym, ◌∙◌, subst, arith}
-use Rattle.std.specs.Prelude.{pos}
-use Rattle.v8_decode.specs.declared.Op2.{Op2}
-use Rattle.v8_decode.specs.declared.Op2.TheVariants.{Reg, Imm}
-use Rattle.v8_alu.specs.Numbers.{wrapped}
-use Rattle.v8_memory.specs.Regions.{Memory, code_of}
-use Rattle.v8_step.specs.State.{State, register_of, with_register}
-use Rattle.v8_step.specs.Valid.{IsValid}
-use Rattle.v8_step.proofs.ValidStates.{register_of-range}
-use Rattle.v8_step.proofs.ValidSteps.{run-valid}
+use Rattle.jump_code.proofs.Common.{◌≡◌, ℕ, zero, suc, ◌+◌, ◌-◌, ◌*◌, ◌^◌, ◌<◌, inl, None, refl, ap, sym, ◌∙◌, subst, arith, pos, Op2, Reg, Imm, wrapped, Memory, code_of, State, register_of, with_register, IsValid, register_of-range, run-valid, Leads, IsBetween, IsSilent, page_word, of_page, store_word, CanStore, Stores, memory_word, WorksInTwo, Says, StandIn, hops_through, works_state, leads_then, leads_weaker, silent_then, HasTwo, IsNext, both, first, goes_on, in_two, ld_in, none_in_two, second, st_in, two_registers, word, nth, says_at, word_stored, other_word_stored, other_loaded, loads_stored, still_stored, can_load, whole_of, stores_none}
 use Rattle.code_runs.specs.Hops.{Hops, hopped}
-use Rattle.code_runs.specs.Leads.{Leads, IsBetween, IsSilent}
-use Rattle.code_runs.specs.Page.{page_word}
-use Rattle.code_runs.specs.Code.{of_page, store_word, CanLoad, CanStore, Stores}
-use Rattle.code_runs.specs.StoredWords.{memory_word}
-use Rattle.code_runs.specs.Picked.{WorksInTwo}
-use Rattle.code_runs.specs.Straight.{Says, StandIn}
-use Rattle.code_runs.proofs.Hops.{hops_through, works_state}
-use Rattle.code_runs.proofs.Leads.{leads_then, leads_weaker, silent_then}
-use Rattle.code_runs.proofs.Picked.{HasTwo, IsNext, both, first, goes_on, in_two, ld_in, none_in_two, second, st_in, two_registers, word}
-use Rattle.code_runs.proofs.Straight.{nth, says_at}
-use Rattle.code_runs.proofs.StoredWords.{word_stored, other_word_stored, other_loaded, loads_stored, still_stored, can_load, whole_of}
-use Rattle.code_runs.proofs.Stores.{stores_none}
+use Rattle.code_runs.specs.Code.{CanLoad}
 use Rattle.jump_code.specs.Choosing.{ChoicesHop, ChoicesSimulate, ComesToCase, IsAboutToGo, choice_at, choose, chosen, chosen_memory}
 use Rattle.jump_code.specs.Jumped.{jumped}
 use Rattle.jump_code.specs.PageWords.{IsPageWord, saved_address}

@@ -1,26 +1,6 @@
 -- The image of a JMPL that looks its target up follows the original's step.
-use Rattle.std.proofs.Common.{◌≡◌, ℕ, ◌+◌, ◌%◌, inl, inr, Some, None, length, refl, ap, sym, ◌∙◌, subst, arith}
-use Rattle.std.specs.Prelude.{pos}
-use Rattle.v8_decode.specs.declared.Op2.{Op2}
-use Rattle.v8_decode.specs.declared.Op2.TheVariants.{Imm}
-use Rattle.v8_memory.specs.Regions.{Memory, code_of}
-use Rattle.v8_alu.specs.Numbers.{wrapped}
+use Rattle.jump_code.proofs.Common.{◌≡◌, ℕ, ◌+◌, ◌%◌, inl, inr, Some, None, length, refl, ap, sym, ◌∙◌, subst, arith, pos, Op2, Imm, Memory, code_of, wrapped, NoSlot, State, register_of, with_register, sum_of, delayed, Leads, IsBetween, page_word, of_page, store_word, Stores, moved, WorksInTwo, hops_through, both, equal_or_not, first, goes_on, none_in_two, two_registers, word, nth_says, can_load, memory_word-range, still_stored, word_stored, register_of-range, TableAt, found_in}
 use Rattle.v8_step.specs.declared.Ending.{Ending}
-use Rattle.v8_step.specs.declared.Slot.TheVariants.{NoSlot}
-use Rattle.v8_step.specs.State.{State, register_of, with_register, sum_of}
-use Rattle.v8_step.specs.Transfers.{delayed}
-use Rattle.code_runs.specs.Leads.{Leads, IsBetween}
-use Rattle.code_runs.specs.Page.{page_word}
-use Rattle.code_runs.specs.Code.{of_page, store_word, Stores}
-use Rattle.code_runs.specs.Points.{moved}
-use Rattle.code_runs.specs.Picked.{WorksInTwo}
-use Rattle.code_runs.proofs.Hops.{hops_through}
-use Rattle.code_runs.proofs.Picked.{both, equal_or_not, first, goes_on, none_in_two, two_registers, word}
-use Rattle.code_runs.proofs.Straight.{nth_says}
-use Rattle.code_runs.proofs.StoredWords.{can_load, memory_word-range, still_stored, word_stored}
-use Rattle.v8_step.proofs.ValidStates.{register_of-range}
-use Rattle.addr_translate.specs.Lookup.{TableAt}
-use Rattle.addr_translate.specs.Halves.{found_in}
 use Rattle.jump_code.specs.Finding.{ComesFound, EndsFinding, LookUpSimulates, ResumeHops, IsAboutToFind, look_up, found_memory, resume}
 use Rattle.jump_code.specs.Jumped.{jumped}
 use Rattle.jump_code.specs.Links.{past}

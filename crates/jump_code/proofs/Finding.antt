@@ -1,37 +1,14 @@
 -- The words of a JMPL that looks its target up, one by one.
-use Rattle.std.proofs.Common.{◌≡◌, ◌≢◌, ℕ, zero, suc, ◌+◌, ◌-◌, ◌*◌, ◌/◌, ◌%◌, ◌^◌, ◌<◌, ◌≤◌, inl, inr, false, Ok, length, refl, ap, sym, ◌∙◌, subst, arith}
-use Rattle.std.specs.Prelude.{◌==◌, pos}
-use Rattle.v8_decode.specs.declared.Op2.{Op2}
-use Rattle.v8_decode.specs.declared.Op2.TheVariants.{Reg, Imm}
+use Rattle.jump_code.proofs.Common.{◌≡◌, ◌≢◌, ℕ, zero, suc, ◌+◌, ◌-◌, ◌*◌, ◌/◌, ◌%◌, ◌^◌, ◌<◌, ◌≤◌, inl, inr, false, Ok, length, refl, ap, sym, ◌∙◌, subst, arith, ◌==◌, pos, Op2, Reg, Imm, alu_of, wrapped, Memory, code_of, NoSlot, State, register_of, operand_of, with_register, sum_of, step_of, mem_address_not_aligned, trapped, IsValid, IsValidMemory, register_of-range, wrapped-range, run-valid, Leads, IsBetween, IsSilent, page_word, of_page, store_word, CanStore, Stores, memory_word, Says, StandIn, Is, IsAlike, WorksInTwo, pair, says_step, works_state, works_same, leads_then, leads_weaker, silent_then, Gives, HasTwo, alu, both, equal_or_not, first, goes_on, in_two, ld_in, none_in_two, second, sethi, st_in, two_registers, nth, nth_says, word_stored, other_loaded, other_word_stored, loads_stored, still_stored, can_load, whole_of, memory_word-range, stores_then, TableAt, found_in}
 use Rattle.v8_decode.specs.declared.AluOp.TheVariants as ops
 use Rattle.v8_decode.specs.declared.Instr.TheVariants as i
 use Rattle.v8_decode.specs.declared.LoadKind.TheVariants as loads
-use Rattle.v8_alu.specs.Alu.{alu_of}
-use Rattle.v8_alu.specs.Numbers.{wrapped}
-use Rattle.v8_memory.specs.Regions.{Memory, code_of}
-use Rattle.v8_step.specs.declared.Slot.TheVariants.{NoSlot}
-use Rattle.v8_step.specs.State.{State, register_of, operand_of, with_register, sum_of}
-use Rattle.v8_step.specs.Step.{step_of}
-use Rattle.v8_step.specs.Traps.{mem_address_not_aligned}
-use Rattle.v8_step.specs.Transfers.{trapped}
-use Rattle.v8_step.specs.Valid.{IsValid, IsValidMemory}
-use Rattle.v8_step.proofs.ValidStates.{register_of-range, wrapped-range}
-use Rattle.v8_step.proofs.ValidSteps.{run-valid}
-use Rattle.code_runs.specs.Leads.{Leads, IsBetween, IsSilent}
-use Rattle.code_runs.specs.Page.{page_word}
-use Rattle.code_runs.specs.Code.{of_page, store_word, CanStore, Stores}
-use Rattle.code_runs.specs.StoredWords.{memory_word}
-use Rattle.code_runs.specs.Straight.{Says, StandIn, IsReady}
-use Rattle.code_runs.specs.Picked.{Is, IsAlike, WorksInTwo, pair}
-use Rattle.code_runs.proofs.Acts.{says_step, says_puts, ld_traps}
-use Rattle.code_runs.proofs.Hops.{works_state, works_same}
-use Rattle.code_runs.proofs.Leads.{leads_one, leads_then, leads_weaker, silent_one, silent_then}
-use Rattle.code_runs.proofs.Picked.{Gives, HasTwo, alu, both, equal_or_not, first, goes_on, in_two, ld_in, none_in_two, says_here, second, sethi, st_in, two_registers, unpicked_is}
-use Rattle.code_runs.proofs.Straight.{nth, nth_says}
-use Rattle.code_runs.proofs.StoredWords.{word_stored, other_loaded, other_word_stored, loads_stored, still_stored, can_load, whole_of, memory_word-range}
-use Rattle.code_runs.proofs.Stores.{stores_then}
-use Rattle.addr_translate.specs.Lookup.{TableAt, table_word}
-use Rattle.addr_translate.specs.Halves.{IsTwoLevel, entry_at, found_in, half_at}
+use Rattle.code_runs.specs.Straight.{IsReady}
+use Rattle.code_runs.proofs.Acts.{says_puts, ld_traps}
+use Rattle.code_runs.proofs.Leads.{leads_one, silent_one}
+use Rattle.code_runs.proofs.Picked.{says_here, unpicked_is}
+use Rattle.addr_translate.specs.Lookup.{table_word}
+use Rattle.addr_translate.specs.Halves.{IsTwoLevel, entry_at, half_at}
 use Rattle.addr_translate.specs.Translator.{StandsAt}
 use Rattle.jump_code.specs.Finding.{LooksUp, FindsIt, IsAboutToFind, TrapsFinding, look_up, found_memory, sought_memory}
 use Rattle.jump_code.specs.FreeRegister.{IsNotIn}

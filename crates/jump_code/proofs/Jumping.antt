@@ -1,17 +1,7 @@
 -- What a JMPL does at the original's address.
-use Rattle.std.proofs.Common.{◌≡◌, ◌≢◌, ℕ, ◌+◌, ◌%◌, inl, inr, Some, None, refl, ap, sym, ◌∙◌}
-use Rattle.std.specs.Prelude.{◌==◌}
-use Rattle.v8_decode.specs.declared.Op2.{Op2}
-use Rattle.v8_decode.specs.declared.Op2.TheVariants.{Reg, Imm}
-use Rattle.v8_alu.specs.Numbers.{wrapped}
+use Rattle.jump_code.proofs.Common.{◌≡◌, ◌≢◌, ℕ, ◌+◌, ◌%◌, inl, inr, Some, None, refl, ap, sym, ◌∙◌, ◌==◌, Op2, Reg, Imm, wrapped, NoSlot, State, with_register, sum_of, mem_address_not_aligned, delayed, trapped, moved, equal_or_not}
 use Rattle.v8_step.specs.declared.Ending.TheVariants.{Trap}
-use Rattle.v8_step.specs.declared.Slot.TheVariants.{NoSlot}
-use Rattle.v8_step.specs.State.{State, with_register, sum_of}
-use Rattle.v8_step.specs.Traps.{mem_address_not_aligned}
-use Rattle.v8_step.specs.Transfers.{delayed, trapped}
-use Rattle.code_runs.specs.Points.{moved}
 use Rattle.code_runs.proofs.Acts.{jump_acts, jump_traps}
-use Rattle.code_runs.proofs.Picked.{equal_or_not}
 use Rattle.jump_code.specs.Jumped.{jumped}
 use Rattle.jump_code.proofs.Blocks.{four, not_four}
 

@@ -1,23 +1,12 @@
 -- The words before the load of a switch, one by one.
-use Rattle.std.proofs.Common.{length, ◌≡◌, ℕ, ◌+◌, ◌<◌, ◌≤◌, Bool, false, Some, refl, ap, arith}
+use Rattle.jump_code.proofs.Common.{length, ◌≡◌, ℕ, ◌+◌, ◌<◌, ◌≤◌, Bool, false, Some, refl, ap, arith, Op2, Reg, Imm, wrapped, Memory, State, register_of, operand_of, sum_of, register_of-range, wrapped-range, of_page, store_word, CanStore, count_stores, IsFirstWord, page_word, Is, IsAlike, WorksInTwo, pair, works_same, HasTwo, IsNext, alu, both, first, goes_on, in_two, none_in_two, st_in, two_registers, word, nth, word_stored, still_stored}
 use Rattle.std.specs.Prelude.{if◌then◌else◌}
-use Rattle.v8_decode.specs.declared.Op2.{Op2}
-use Rattle.v8_decode.specs.declared.Op2.TheVariants.{Reg, Imm}
 use Rattle.v8_decode.specs.declared.AluOp.TheVariants as ops
-use Rattle.v8_alu.specs.Numbers.{wrapped}
-use Rattle.v8_memory.specs.Regions.{Memory}
-use Rattle.v8_step.specs.State.{State, register_of, operand_of, sum_of}
 use Rattle.v8_step.specs.Run.{run}
-use Rattle.v8_step.proofs.ValidStates.{register_of-range, wrapped-range}
-use Rattle.code_runs.specs.Code.{any_of_word, word_span, of_page, store_word, CanStore}
-use Rattle.code_runs.specs.Counted.{count_stores, one_if, stores_in_step}
-use Rattle.code_runs.specs.LongJump.{IsFirstWord}
-use Rattle.code_runs.specs.Page.{page_word}
-use Rattle.code_runs.specs.Picked.{Is, IsAlike, WorksInTwo, pair}
-use Rattle.code_runs.proofs.Hops.{works_same, read_is}
-use Rattle.code_runs.proofs.Picked.{HasTwo, IsNext, alu, both, first, goes_on, in_two, none_in_two, st_in, stores_next, two_registers, word}
-use Rattle.code_runs.proofs.Straight.{nth}
-use Rattle.code_runs.proofs.StoredWords.{word_stored, still_stored}
+use Rattle.code_runs.specs.Code.{any_of_word, word_span}
+use Rattle.code_runs.specs.Counted.{one_if, stores_in_step}
+use Rattle.code_runs.proofs.Hops.{read_is}
+use Rattle.code_runs.proofs.Picked.{stores_next}
 use Rattle.jump_code.specs.FreeRegister.{second_register}
 use Rattle.jump_code.specs.Keeping.{save_load_address, kept_memory, IsAboutToSave, SavesLoadAddress, AddressesAreSaved}
 use Rattle.jump_code.proofs.Blocks.{gives_sum}

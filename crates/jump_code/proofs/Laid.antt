@@ -1,14 +1,11 @@
 -- Where the words of laid pieces stand.
-use Rattle.std.proofs.Common.{◌≡◌, ℕ, suc, ◌+◌, ◌*◌, Some, Option, List, [], ◌∷◌, ◌++◌, length, map, append-nil, refl, ap, sym, ◌∙◌, subst, arith}
+use Rattle.jump_code.proofs.Common.{◌≡◌, ℕ, suc, ◌+◌, ◌*◌, Some, List, [], ◌∷◌, length, map, refl, ap, sym, ◌∙◌, subst, arith, Instr, Memory, code_of, StandIn, HasWords, words_of}
+use Rattle.std.proofs.Common.{Option, ◌++◌, append-nil}
 use Rattle.std.specs.Prelude.{slice_get}
 use Rattle.eel_base.specs.declared.numbers.Addr.{Addr}
 use Rattle.eel_base.specs.declared.numbers.PieceNo.{PieceNo}
-use Rattle.v8_decode.specs.declared.Instr.{Instr}
-use Rattle.v8_memory.specs.Regions.{Memory, code_of}
-use Rattle.code_runs.specs.Straight.{StandIn, HasWords}
 use Rattle.layout.specs.declared.items.Item.{Item}
 use Rattle.layout.specs.declared.items.Item.TheVariants as it
-use Rattle.layout.specs.Emitting.{words_of}
 use Rattle.layout.specs.Laid.{IsLaid, Placement, Stands, item_at, item_in}
 use Rattle.layout.specs.Running.{HasCode}
 use Rattle.layout.proofs.Going.{word_is}

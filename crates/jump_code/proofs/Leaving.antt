@@ -1,24 +1,6 @@
 -- The foreign piece, and long jumps out of the text.
-use Rattle.std.proofs.Common.{◌≡◌, ◌+◌, ◌^◌, ◌<◌, inl, refl, ap, ◌∙◌, arith}
-use Rattle.std.specs.Prelude.{pos}
-use Rattle.v8_decode.specs.declared.Op2.TheVariants.{Imm}
-use Rattle.v8_alu.specs.Numbers.{wrapped}
-use Rattle.v8_memory.specs.Regions.{Memory, code_of}
-use Rattle.v8_step.specs.State.{register_of}
-use Rattle.v8_step.proofs.ValidStates.{register_of-range}
-use Rattle.code_runs.specs.LongJump.{IsFirstWord}
-use Rattle.code_runs.specs.Page.{page_word}
-use Rattle.code_runs.specs.Code.{of_page, store_word, Stores}
-use Rattle.code_runs.specs.StoredWords.{memory_word}
-use Rattle.code_runs.specs.Leads.{IsBetween}
-use Rattle.code_runs.specs.Picked.{WorksInTwo}
-use Rattle.code_runs.proofs.Hops.{hops_through}
-use Rattle.code_runs.proofs.Leads.{leads_weaker}
+use Rattle.jump_code.proofs.Common.{◌≡◌, ◌+◌, ◌^◌, ◌<◌, inl, refl, ap, ◌∙◌, arith, pos, Imm, wrapped, Memory, code_of, register_of, register_of-range, IsFirstWord, page_word, of_page, store_word, Stores, memory_word, IsBetween, WorksInTwo, hops_through, leads_weaker, word_stored, other_word_stored, still_stored, can_load, memory_word-range, both, first, goes_on, ld_in, none_in_two, st_in, two_registers, word, stores_none, stores_then, nth_says}
 use Rattle.code_runs.proofs.LongJump.{long_jumps_hop}
-use Rattle.code_runs.proofs.StoredWords.{word_stored, other_word_stored, still_stored, can_load, memory_word-range}
-use Rattle.code_runs.proofs.Picked.{both, first, goes_on, ld_in, none_in_two, st_in, two_registers, word}
-use Rattle.code_runs.proofs.Stores.{stores_none, stores_then}
-use Rattle.code_runs.proofs.Straight.{nth_says}
 use Rattle.jump_code.specs.Leaving.{ForeignLeaves, FarGoes, foreign}
 use Rattle.jump_code.specs.PageWords.{IsPageWord, waiting}
 use Rattle.jump_code.proofs.Blocks.{four, word2}

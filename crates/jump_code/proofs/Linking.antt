@@ -1,21 +1,9 @@
 -- The words of a CALL write its link, as the original's step does.
-use Rattle.std.proofs.Common.{◌≡◌, ℕ, ◌+◌, ◌*◌, ◌/◌, ◌%◌, Bool, false, refl, sym, subst, arith}
-use Rattle.std.specs.Prelude.{pos}
-use Rattle.v8_decode.specs.declared.Op2.TheVariants.{Imm}
+use Rattle.jump_code.proofs.Common.{◌≡◌, ℕ, ◌+◌, ◌*◌, ◌/◌, ◌%◌, Bool, false, refl, sym, subst, arith, pos, Imm, wrapped, act, step_of, next, State, with_register, count_stores, StandIn, says_step, works_state, says_at, both, none_in_two, two_registers, code_of}
 use Rattle.v8_decode.specs.declared.AluOp.TheVariants as ops
 use Rattle.v8_decode.specs.declared.Instr.TheVariants as i
-use Rattle.v8_alu.specs.Numbers.{wrapped}
-use Rattle.v8_step.specs.Step.{act, step_of}
-use Rattle.v8_step.specs.Transfers.{call_step, next}
-use Rattle.v8_step.specs.State.{State, with_register}
-use Rattle.code_runs.specs.Counted.{count_stores}
-use Rattle.code_runs.specs.Straight.{StandIn}
-use Rattle.code_runs.proofs.Acts.{says_step}
+use Rattle.v8_step.specs.Transfers.{call_step}
 use Rattle.code_runs.proofs.Counted.{no_stores, none_then}
-use Rattle.code_runs.proofs.Hops.{works_state}
-use Rattle.code_runs.proofs.Straight.{says_at}
-use Rattle.code_runs.proofs.Picked.{both, none_in_two, two_registers}
-use Rattle.v8_memory.specs.Regions.{code_of}
 use Rattle.jump_code.specs.Jumped.{CallsSimulate}
 use Rattle.jump_code.specs.Links.{address_into, CallsAct, IsAboutToCall}
 use Rattle.jump_code.proofs.Blocks.{addressed}

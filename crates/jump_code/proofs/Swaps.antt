@@ -1,19 +1,9 @@
 -- A register and a word change places.
-use Rattle.std.proofs.Common.{◌≡◌, ℕ, ◌%◌, ◌<◌, true, refl, ap, sym, ◌∙◌}
-use Rattle.std.specs.Prelude.{◌==◌}
-use Rattle.v8_decode.specs.declared.Op2.{Op2}
+use Rattle.jump_code.proofs.Common.{◌≡◌, ℕ, ◌%◌, ◌<◌, true, refl, ap, sym, ◌∙◌, ◌==◌, Op2, Codes, Memory, code_of, State, register_of, with_register, sum_of, next, act, memory_word, store_word, CanStore, Is, IsAlike, can_load}
 use Rattle.v8_decode.specs.declared.Instr.TheVariants as i
-use Rattle.v8_alu.specs.declared.Codes.{Codes}
-use Rattle.v8_memory.specs.Regions.{Memory, code_of}
-use Rattle.v8_step.specs.State.{State, register_of, with_register, sum_of}
-use Rattle.v8_step.specs.Transfers.{next}
 use Rattle.v8_step.specs.Accesses.{swap_step}
-use Rattle.v8_step.specs.Step.{act}
-use Rattle.code_runs.specs.StoredWords.{memory_word}
-use Rattle.code_runs.specs.Code.{store_word, CanStore}
-use Rattle.code_runs.specs.Picked.{Is, IsAlike}
 use Rattle.code_runs.proofs.Picked.{Acts, HasBlock, held_put, put}
-use Rattle.code_runs.proofs.StoredWords.{word_bytes, word_written, can_load, code-store_word}
+use Rattle.code_runs.proofs.StoredWords.{word_bytes, word_written, code-store_word}
 use Rattle.code_runs.proofs.Stores.{stores_one}
 
 pub swap_acts : (s : State) (rd rs1 : ℕ) (x : Op2) (a : ℕ) → sum_of s rs1 x ≡ a → (a % 4 == 0) ≡ true

@@ -1,6 +1,5 @@
 -- The words compute.
-use Rattle.std.specs.Prelude.{◌≡◌, [], ◌∷◌, map, Some, pos, refl}
-use Rattle.v8_decode.specs.declared.Op2.TheVariants.{Imm, Reg}
+use Rattle.jump_code.proofs.Common.{◌≡◌, [], ◌∷◌, map, Some, pos, refl, Imm, Reg}
 use Rattle.v8_encode.specs.Code.{encode_of}
 use Rattle.jump_code.specs.Finding.{look_up, resume}
 use Rattle.jump_code.specs.FreeRegister.{free_register, other_register}

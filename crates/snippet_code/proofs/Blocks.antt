@@ -1,34 +1,21 @@
 -- Code in picked registers, word by word.
-use Rattle.std.proofs.Common.{◌≡◌, ◌≢◌, ℕ, suc, ◌+◌, ◌*◌, ◌%◌, ◌^◌, ◌<◌, ◌≤◌, ◌⊎◌, inl, inr, Bool, true, false, Ok, Some, refl, ap, sym, ◌∙◌, arith}
-use Rattle.std.specs.Prelude.{if◌then◌else◌, ◌==◌, pos}
-use Rattle.v8_decode.specs.declared.Op2.{Op2}
-use Rattle.v8_decode.specs.declared.AluOp.{AluOp}
-use Rattle.v8_decode.specs.declared.Instr.{Instr}
+use Rattle.snippet_code.proofs.Common.{◌≡◌, ◌≢◌, ℕ, suc, ◌+◌, ◌*◌, ◌%◌, ◌^◌, ◌<◌, ◌≤◌, ◌⊎◌, inl, inr, Bool, true, false, Ok, Some, refl, ap, sym, ◌∙◌, arith, if◌then◌else◌, ◌==◌, pos, Op2, AluOp, Instr, Codes, alu_of, holds_of, wrapped, Memory, code_of, NoSlot, State, register_of, operand_of, sum_of, store_word, any_of_word, word_span, one_if, IsAlike, Works, memory_word, Says, split_below, Gives, equal_or_not, put, put_other, put_same}
 use Rattle.v8_decode.specs.declared.Instr.TheVariants as i
 use Rattle.v8_decode.specs.declared.LoadKind.TheVariants as loads
 use Rattle.v8_decode.specs.declared.StoreKind.TheVariants as stores
-use Rattle.v8_alu.specs.declared.Codes.{Codes}
-use Rattle.v8_alu.specs.Alu.{alu_of}
-use Rattle.v8_alu.specs.Conditions.{holds_of}
-use Rattle.v8_alu.specs.Numbers.{wrapped}
-use Rattle.v8_memory.specs.Regions.{Memory, code_of}
-use Rattle.v8_step.specs.declared.Slot.TheVariants.{NoSlot, Taken}
-use Rattle.v8_step.specs.State.{State, register_of, with_register, operand_of, sum_of}
+use Rattle.v8_step.specs.declared.Slot.TheVariants.{Taken}
+use Rattle.v8_step.specs.State.{with_register}
 use Rattle.v8_step.specs.Transfers.{next, branched, branch_step}
 use Rattle.v8_step.specs.Step.{act, step_of, alu_step}
 use Rattle.v8_step.specs.Run.{run}
-use Rattle.code_runs.specs.Code.{store_word, any_of_word, word_span}
-use Rattle.code_runs.specs.Counted.{one_if, stores_at, stores_in_step}
+use Rattle.code_runs.specs.Counted.{stores_at, stores_in_step}
 use Rattle.code_runs.specs.Leads.{IsBetween, IsSilent}
-use Rattle.code_runs.specs.Picked.{IsAlike, Works}
 use Rattle.code_runs.specs.Points.{moved}
-use Rattle.code_runs.specs.StoredWords.{memory_word}
-use Rattle.code_runs.specs.Straight.{Says}
 use Rattle.code_runs.proofs.Acts.{says_step, says_puts}
 use Rattle.code_runs.proofs.Counted.{says_stores}
-use Rattle.code_runs.proofs.Leads.{leads_one, leads_then, silent_one, silent_then, split_below}
+use Rattle.code_runs.proofs.Leads.{leads_one, leads_then, silent_one, silent_then}
 use Rattle.code_runs.proofs.Picked as word
-use Rattle.code_runs.proofs.Picked.{Acts, Gives, IsNext, equal_or_not, goes_on, held_put, put, put_other, put_same, says_here, stores_next, works_to}
+use Rattle.code_runs.proofs.Picked.{Acts, IsNext, goes_on, held_put, says_here, stores_next, works_to}
 use Rattle.code_runs.proofs.StoredWords.{word_stored, other_word_stored, still_stored, can_load, memory_word-range}
 use Rattle.code_runs.proofs.Stores.{stores_none, stores_then}
 use Rattle.snippet_code.proofs.Working.{AreStored, HasWorkspace, WorksWithin}

@@ -1,22 +1,10 @@
 -- The words of a snippet decode to its instructions.
-use Rattle.std.proofs.Common.{◌≡◌, ℕ, suc, ◌+◌, ◌-◌, ◌^◌, ◌<◌, ◌≤◌, Bool, true, false, ◌==◌, List, [], ◌∷◌, ◌++◌, length, map, refl, arith, All}
-use Rattle.std.proofs.lemmas.Bool.{cond_both}
-use Rattle.std.specs.Prelude.{if◌then◌else◌, nat_lt, slice_index, pos, negsuc}
-use Rattle.std.proofs.lemmas.Bool.Decides.{nat_tests}
-use Rattle.std.proofs.lemmas.List.Elements.{All-head, All-tail}
-use Rattle.v8_decode.specs.Words.{decode_of}
+use Rattle.snippet_code.proofs.Common.{◌≡◌, ℕ, suc, ◌+◌, ◌-◌, ◌^◌, ◌<◌, ◌≤◌, Bool, true, false, ◌==◌, List, [], ◌∷◌, ◌++◌, length, map, refl, arith, All, cond_both, if◌then◌else◌, nat_lt, slice_index, pos, negsuc, nat_tests, All-head, All-tail, decode_of, AluOp, Instr, word_of, Op, Add, Put, Keep, Top, Count, Log, IsOp, cells_end}
 use Rattle.v8_decode.specs.Ranges.{is_in_range}
-use Rattle.v8_decode.specs.declared.AluOp.{AluOp}
 use Rattle.v8_decode.specs.declared.AluOp.TheVariants as ops
-use Rattle.v8_decode.specs.declared.Instr.{Instr}
 use Rattle.v8_decode.specs.Forms.{has_form}
 use Rattle.v8_encode.specs.Code.{has_word, fits_signed}
-use Rattle.v8_encode.specs.Encoding.{word_of}
 use Rattle.v8_encode.proofs.Decoded.{decode_of-word_of}
-use Rattle.snippets.specs.declared.snippet.Op.{Op}
-use Rattle.snippets.specs.declared.snippet.Op.TheVariants.{Add, Put, Keep, Top, Count, Log}
-use Rattle.snippets.specs.Grammar.{IsOp}
-use Rattle.snippets.specs.Ops.{cells_end}
 use Rattle.snippet_code.specs.Cells.{cell_at}
 use Rattle.snippet_code.specs.Words.{high, low, load_low, store_low, load_next, store_next, add_one, of_two, with_number, add_low, compare, next_if_greater, small, add_words, put_words, top_words, count_words, log_words, op_words, all_words, numbered, save, restore}
 use Rattle.snippet_code.specs.Spills.{is_small, op_registers, registers_for}

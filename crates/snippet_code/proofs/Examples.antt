@@ -1,13 +1,10 @@
 -- Facts that compute: what some of the definitions say of one case.
-use Rattle.std.specs.Prelude.{◌≡◌, false, [], ◌∷◌, pos, refl, length}
+use Rattle.snippet_code.proofs.Common.{◌≡◌, false, [], ◌∷◌, pos, refl, length, Reg, Icc, Add, Top, registers}
 use Rattle.v8_decode.specs.declared.AluOp.TheVariants as ops
 use Rattle.v8_decode.specs.declared.Op2.TheVariants as o
 use Rattle.v8_decode.specs.declared.Instr.TheVariants as i
 use Rattle.v8_decode.specs.declared.LoadKind.TheVariants as loads
 use Rattle.v8_decode.specs.declared.StoreKind.TheVariants as stores
-use Rattle.v8_decode.specs.declared.Part.TheVariants.{Reg, Icc}
-use Rattle.snippets.specs.declared.snippet.Op.TheVariants.{Add, Top}
-use Rattle.scavenge.specs.Picks.{registers}
 use Rattle.snippet_code.specs.Words.{snippet_words}
 
 -- They compute.

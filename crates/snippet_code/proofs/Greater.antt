@@ -1,27 +1,14 @@
 -- The greater of a cell and a register: with the codes, where they are dead, and without.
-use Rattle.std.proofs.Common.{◌≡◌, ◌≢◌, ℕ, suc, ◌+◌, ◌-◌, ◌*◌, ◌/◌, ◌%◌, ◌^◌, ◌<◌, ◌≤◌, inl, inr, max, Bool, true, false, Ok, [], ◌∷◌, length, refl, ap, sym, ◌∙◌, arith}
-use Rattle.std.specs.Prelude.{if◌then◌else◌, nat_lt, pos}
-use Rattle.std.proofs.lemmas.Bool.Decides.{nat_tests}
+use Rattle.snippet_code.proofs.Common.{◌≡◌, ◌≢◌, ℕ, suc, ◌+◌, ◌-◌, ◌*◌, ◌/◌, ◌%◌, ◌^◌, ◌<◌, ◌≤◌, inl, inr, max, Bool, true, false, Ok, [], ◌∷◌, length, refl, ap, sym, ◌∙◌, arith, if◌then◌else◌, nat_lt, pos, nat_tests, AluOp, Codes, alu_of, codes_of, wrapped, code_of, State, register_of, register_of-range, any_of_word, StandIn, equal_or_not, put, put_other, put_same, unpicked_is, Top, holds_of}
 use Rattle.v8_decode.specs.declared.Op2.TheVariants as o
-use Rattle.v8_decode.specs.declared.AluOp.{AluOp}
 use Rattle.v8_decode.specs.declared.AluOp.TheVariants as ops
 use Rattle.v8_decode.specs.declared.Instr.TheVariants as i
-use Rattle.v8_alu.specs.declared.Codes.{Codes}
-use Rattle.v8_alu.specs.Alu.{alu_of, codes_of, difference_overflows}
-use Rattle.v8_alu.specs.Numbers.{wrapped}
-use Rattle.v8_memory.specs.Regions.{code_of}
-use Rattle.v8_step.specs.State.{State, register_of}
-use Rattle.v8_step.proofs.ValidStates.{register_of-range}
-use Rattle.code_runs.specs.Code.{any_of_word}
-use Rattle.code_runs.specs.Straight.{StandIn}
-use Rattle.code_runs.proofs.Picked.{equal_or_not, put, put_other, put_same, unpicked_is}
-use Rattle.snippets.specs.declared.snippet.Op.TheVariants.{Top}
+use Rattle.v8_alu.specs.Alu.{difference_overflows}
 use Rattle.snippet_code.specs.Cells.{cell_at}
 use Rattle.snippet_code.specs.Words.{op_words, small, high, load_low, store_low, of_two, with_number}
 use Rattle.snippet_code.proofs.Working.{HasWorkspace, WorksWithin, update_one, Does}
 use Rattle.snippet_code.proofs.OneOperation.{sum_low, high_is, gives, free_store, at, works_words, as_many, Doing}
 use Rattle.snippet_code.proofs.Blocks.{sethi, alu, ld, st, compares, branches}
-use Rattle.v8_alu.specs.Conditions.{holds_of}
 use Rattle.snippet_code.proofs.TopValue.{top_of}
 use Rattle.snippet_code.proofs.TopValue as laws
 use Rattle.snippet_code.proofs.Tops.{top_is_greater}

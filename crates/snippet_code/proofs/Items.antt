@@ -1,18 +1,10 @@
 -- Items of a state beside picked registers.
-use Rattle.std.proofs.Common.{◌≡◌, ◌≢◌, ℕ, ◌-◌, ◌<◌, ◌≤◌, ◌⊎◌, inl, inr, Bool, true, false, ◌||◌, List, [], ◌∷◌, refl, ap, sym, ◌∙◌, arith}
-use Rattle.std.specs.Prelude.{slice_index}
-use Rattle.std.proofs.lemmas.Bool.Decides.{nat_tests}
-use Rattle.v8_decode.specs.declared.Part.{Part}
+use Rattle.snippet_code.proofs.Common.{◌≡◌, ◌≢◌, ℕ, ◌-◌, ◌<◌, ◌≤◌, ◌⊎◌, inl, inr, Bool, true, false, ◌||◌, List, [], ◌∷◌, refl, ap, sym, ◌∙◌, arith, slice_index, nat_tests, Part, has, Codes, State, register_of, StateItem, Register, CodesItem, YRegister, IsAmong, IsSameAt, IsAlike, split_below, ArePicked}
 use Rattle.v8_decode.specs.declared.Part.TheVariants as parts
-use Rattle.v8_decode.specs.Parts.{has, is_same}
-use Rattle.v8_alu.specs.declared.Codes.{Codes}
+use Rattle.v8_decode.specs.Parts.{is_same}
 use Rattle.v8_windows.specs.Registers.{place_of, register_in}
-use Rattle.v8_step.specs.State.{State, register_of}
-use Rattle.v8_step.specs.Items.{StateItem, Register, Codes as CodesItem, YRegister, IsAmong, IsSameAt, item_of}
-use Rattle.code_runs.specs.Picked.{IsAlike}
+use Rattle.v8_step.specs.Items.{item_of}
 use Rattle.code_runs.proofs.Hops.{in_place, picked_or_not}
-use Rattle.code_runs.proofs.Leads.{split_below}
-use Rattle.scavenge.specs.Code.{ArePicked}
 use Rattle.snippet_code.proofs.Working.{AreStored, HasWorkspace}
 
 among : (w : ℕ) (ps : List Part) (q : ℕ) → has ps (parts.Reg q) ≡ true → IsAmong (Register (place_of w q)) w ps

@@ -1,13 +1,8 @@
 -- How many words a snippet has.
-use Rattle.std.proofs.Common.{◌≡◌, ℕ, suc, ◌-◌, ◌*◌, ◌≤◌, Bool, List, [], ◌∷◌, ◌++◌, length, refl, ap, arith, length-append, length-take, length-drop}
-use Rattle.std.specs.Prelude.{slice_index}
-use Rattle.v8_decode.specs.declared.Part.{Part}
-use Rattle.v8_decode.specs.declared.Part.TheVariants.{Icc}
-use Rattle.v8_decode.specs.Parts.{has}
-use Rattle.v8_decode.specs.declared.Instr.{Instr}
-use Rattle.scavenge.specs.Code.{picked, spilled, free_live}
-use Rattle.scavenge.specs.Picks.{spills, free_dead}
-use Rattle.snippets.specs.declared.snippet.Op.{Op}
+use Rattle.snippet_code.proofs.Common.{◌≡◌, ℕ, suc, ◌-◌, ◌*◌, ◌≤◌, Bool, List, [], ◌∷◌, ◌++◌, length, refl, ap, arith, length-append, length-drop, slice_index, Part, Icc, has, Instr, picked, spilled, spills, Op}
+use Rattle.std.proofs.Common.{length-take}
+use Rattle.scavenge.specs.Code.{free_live}
+use Rattle.scavenge.specs.Picks.{free_dead}
 use Rattle.snippet_code.specs.Words.{op_words, op_cost, all_words, cost_of_all, cost_of, numbered, save, restore}
 use Rattle.snippet_code.specs.Spills.{op_registers, registers_for}
 use Rattle.snippet_code.specs.Laws.{CostsHold}

@@ -1,16 +1,10 @@
 -- Cells as a list, and as words of memory.
-use Rattle.std.proofs.Common.{◌≡◌, ◌≢◌, ℕ, ◌+◌, ◌*◌, ◌/◌, ◌%◌, ◌^◌, ◌<◌, ◌≤◌, ◌⊎◌, inl, inr, max, List, [], ◌∷◌, length, map, get_or, set, refl, ap, ap₂, sym, ◌∙◌, arith}
-use Rattle.std.specs.List.{range_with_len}
-use Rattle.std.proofs.Math.Seq.{ext_get_or}
-use Rattle.std.proofs.lemmas.Bool.{cases_lt}
-use Rattle.std.proofs.lemmas.Nat.{mod_below, pow_pos}
+use Rattle.snippet_code.proofs.Common.{◌≡◌, ◌≢◌, ℕ, ◌+◌, ◌*◌, ◌/◌, ◌%◌, ◌^◌, ◌<◌, ◌≤◌, ◌⊎◌, inl, inr, max, List, [], ◌∷◌, length, map, get_or, refl, ap, sym, ◌∙◌, arith, range_with_len, ext_get_or, cases_lt, mod_below, pow_pos, equal_or_not, put, put_other, put_same, Op, Add, Put, Keep, Top, Count, Log, update, cells_end}
+use Rattle.std.proofs.Common.{set, ap₂}
 use Rattle.std.proofs.lemmas.List.{get_or-set_same, get_or-set_other, length-set}
 use Rattle.std.proofs.lemmas.List.FromFn.{get_or-map-range_with_len, length-map-range_with_len}
-use Rattle.code_runs.proofs.Picked.{equal_or_not, put, put_other, put_same}
-use Rattle.snippets.specs.declared.snippet.Op.{Op}
-use Rattle.snippets.specs.declared.snippet.Op.TheVariants.{Add, Put, Keep, Top, Count, Log}
-use Rattle.snippets.specs.Cells.{changed, with_wide, updated_by, update}
-use Rattle.snippets.specs.Ops.{cell_of, cells_end}
+use Rattle.snippets.specs.Cells.{changed, with_wide, updated_by}
+use Rattle.snippets.specs.Ops.{cell_of}
 use Rattle.snippet_code.specs.Cells.{cell_at}
 use Rattle.snippet_code.specs.Code.{IsCellIn, IsCellOf}
 use Rattle.snippet_code.proofs.Working.{update_one, update_all}

@@ -1,20 +1,15 @@
 -- The registers that a snippet names.
-use Rattle.std.proofs.Common.{◌≡◌, ℕ, zero, suc, ◌+◌, ◌<◌, ◌≤◌, ◌⊎◌, inl, inr, Bool, true, false, not, ◌&&◌, cond, List, [], ◌∷◌, length, refl, ap, ◌∙◌, arith, length-append}
+use Rattle.snippet_code.proofs.Common.{◌≡◌, ℕ, zero, suc, ◌+◌, ◌<◌, ◌≤◌, ◌⊎◌, inl, inr, Bool, true, false, cond, List, [], ◌∷◌, length, refl, ap, ◌∙◌, arith, length-append, nat_lt, range_with_len, nat_tests, Part, Reg, Icc, has, registers, register_count, Op, Keep, Top, named_by}
+use Rattle.std.proofs.Common.{not, ◌&&◌}
 use Rattle.std.proofs.lemmas.Bool.{or_right}
-use Rattle.std.specs.Prelude.{filter, nat_lt}
-use Rattle.std.specs.List.{range_with_len}
-use Rattle.std.proofs.lemmas.Bool.Decides.{nat_tests}
+use Rattle.std.specs.Prelude.{filter}
 use Rattle.std.proofs.lemmas.List.Elements.{filter-append}
-use Rattle.v8_decode.specs.declared.Part.{Part}
-use Rattle.v8_decode.specs.declared.Part.TheVariants.{Reg, Icc, Y}
-use Rattle.v8_decode.specs.Parts.{has, is_member, registers_from, every_part, members, set_of}
+use Rattle.v8_decode.specs.declared.Part.TheVariants.{Y}
+use Rattle.v8_decode.specs.Parts.{is_member, registers_from, every_part, members, set_of}
 use Rattle.v8_decode.proofs.Members.{has-members, is_same-self}
-use Rattle.scavenge.specs.Picks.{registers}
-use Rattle.scavenge.specs.Code.{is_register, register_count}
+use Rattle.scavenge.specs.Code.{is_register}
 use Rattle.scavenge.proofs.Picks.{all_off, joined, registers_ascend, registers_count}
-use Rattle.snippets.specs.declared.snippet.Op.{Op}
-use Rattle.snippets.specs.declared.snippet.Op.TheVariants.{Keep, Top}
-use Rattle.snippets.specs.Cells.{read_by, named_by}
+use Rattle.snippets.specs.Cells.{read_by}
 use Rattle.snippet_code.proofs.Working.{IsRead}
 
 abbrev pub IsReadIn : List Op → ℕ → Type 0

@@ -1,30 +1,13 @@
 -- The operations of snippets, one by one.
-use Rattle.std.proofs.Common.{◌≡◌, ◌≢◌, ℕ, suc, ◌+◌, ◌-◌, ◌*◌, ◌/◌, ◌%◌, ◌^◌, ◌<◌, ◌≤◌, Bool, true, false, Ok, Some, List, [], ◌∷◌, length, refl, ap, ◌∙◌, arith}
-use Rattle.std.proofs.lemmas.Bool.{cond_both}
-use Rattle.std.specs.Prelude.{if◌then◌else◌, ◌==◌, nat_lt, pos, negsuc}
-use Rattle.std.specs.Int.{w32, cast_unsigned}
-use Rattle.std.proofs.lemmas.Bool.Decides.{nat_tests}
-use Rattle.v8_decode.specs.declared.Op2.{Op2}
+use Rattle.snippet_code.proofs.Common.{◌≡◌, ◌≢◌, ℕ, suc, ◌+◌, ◌-◌, ◌*◌, ◌/◌, ◌%◌, ◌^◌, ◌<◌, ◌≤◌, Bool, true, false, Ok, Some, List, [], ◌∷◌, length, refl, ap, ◌∙◌, arith, cond_both, if◌then◌else◌, ◌==◌, nat_lt, pos, negsuc, w32, nat_tests, Op2, AluOp, Instr, Codes, alu_of, wrapped, Region, code_of, State, register_of, operand_of, sum_of, register_of-range, Says, StandIn, Op, Add, Put, Keep, any_of_word, word_span, one_if, Gives, put, unpicked_is}
+use Rattle.std.specs.Int.{cast_unsigned}
 use Rattle.v8_decode.specs.declared.Op2.TheVariants as o
-use Rattle.v8_decode.specs.declared.AluOp.{AluOp}
 use Rattle.v8_decode.specs.declared.AluOp.TheVariants as ops
-use Rattle.v8_decode.specs.declared.Instr.{Instr}
-use Rattle.v8_alu.specs.declared.Codes.{Codes}
-use Rattle.v8_alu.specs.Alu.{alu_of}
-use Rattle.v8_alu.specs.Numbers.{wrapped}
-use Rattle.v8_memory.specs.Regions.{Region, code_of}
-use Rattle.v8_step.specs.State.{State, register_of, operand_of, sum_of}
-use Rattle.v8_step.proofs.ValidStates.{register_of-range}
-use Rattle.code_runs.specs.Straight.{Says, StandIn}
-use Rattle.snippets.specs.declared.snippet.Op.{Op}
-use Rattle.snippets.specs.declared.snippet.Op.TheVariants.{Add, Put, Keep}
 use Rattle.snippet_code.specs.Cells.{cell_at}
 use Rattle.snippet_code.specs.Words.{op_words, small, low, high, load_low, store_low, of_two, with_number}
 use Rattle.snippet_code.specs.Spills.{is_small}
 use Rattle.snippet_code.proofs.Working.{HasWorkspace, WorksWithin, update_one, IsFit, Does}
-use Rattle.code_runs.specs.Code.{any_of_word, word_span}
-use Rattle.code_runs.specs.Counted.{one_if}
-use Rattle.code_runs.proofs.Picked.{Gives, put, unpicked_is, works_like}
+use Rattle.code_runs.proofs.Picked.{works_like}
 use Rattle.snippet_code.proofs.Blocks.{sethi, alu, ld, st}
 
 -- ---- words in two parts

@@ -1,13 +1,9 @@
 -- Words are added for one operation after the other, and for one register after the other.
-use Rattle.std.proofs.Common.{◌≡◌, ℕ, zero, suc, ◌+◌, ◌<◌, ◌≤◌, Bool, List, [], ◌∷◌, ◌++◌, length, map, take, get_or, ap, sym, ◌∙◌, arith, append_assoc, append-nil}
+use Rattle.snippet_code.proofs.Common.{◌≡◌, ℕ, zero, suc, ◌+◌, ◌<◌, ◌≤◌, Bool, List, [], ◌∷◌, ◌++◌, length, map, take, get_or, ap, sym, ◌∙◌, arith, append_assoc, take_more, map-append, Instr, word_of, Op, IsOp}
+use Rattle.std.proofs.Common.{append-nil}
 use Rattle.std.specs.List.{All}
-use Rattle.std.proofs.lemmas.List.{take_more, map-append}
 use Rattle.std.proofs.lemmas.Grind.{flat_map-append}
 use Rattle.std.proofs.lemmas.List.Elements.{All-get_or, All-push}
-use Rattle.v8_decode.specs.declared.Instr.{Instr}
-use Rattle.v8_encode.specs.Encoding.{word_of}
-use Rattle.snippets.specs.declared.snippet.Op.{Op}
-use Rattle.snippets.specs.Grammar.{IsOp}
 use Rattle.snippet_code.specs.Spills.{op_registers, registers_for}
 use Rattle.snippet_code.specs.Words.{op_words, all_words}
 use Rattle.snippet_code.specs.Laws.{EndsLow, EndLow}

@@ -1,24 +1,13 @@
 -- Operations one after the other, and the registers that are saved before them and loaded after them.
-use Rattle.std.proofs.Common.{◌≡◌, ◌≢◌, ℕ, zero, suc, ◌+◌, ◌*◌, ◌<◌, ◌≤◌, ◌⊎◌, inl, inr, Bool, false, Some, List, [], ◌∷◌, ◌++◌, length, refl, ap, sym, ◌∙◌, subst, arith, length-append}
+use Rattle.snippet_code.proofs.Common.{◌≡◌, ◌≢◌, ℕ, zero, suc, ◌+◌, ◌*◌, ◌<◌, ◌≤◌, ◌⊎◌, inl, inr, Bool, false, Some, List, [], ◌∷◌, ◌++◌, length, refl, ap, sym, ◌∙◌, subst, arith, length-append, if◌then◌else◌, ◌||◌, Instr, Codes, Region, code_of, State, register_of, sum_of, register_of-range, Says, StandIn, equal_or_not, put, put_other, put_same, Op, Add, Put, Keep, Top, Count, Log, any_of_word, word_span, one_if}
 use Rattle.std.proofs.lemmas.Bool.{or_parts, or_from}
-use Rattle.std.specs.Prelude.{if◌then◌else◌, ◌||◌}
-use Rattle.v8_decode.specs.declared.Instr.{Instr}
 use Rattle.v8_decode.specs.declared.Instr.TheVariants as i
 use Rattle.v8_decode.specs.declared.LoadKind.TheVariants as loads
-use Rattle.v8_alu.specs.declared.Codes.{Codes}
-use Rattle.v8_memory.specs.Regions.{Region, code_of}
-use Rattle.v8_step.specs.State.{State, register_of, sum_of}
-use Rattle.v8_step.proofs.ValidStates.{register_of-range}
-use Rattle.code_runs.specs.Straight.{Says, StandIn}
-use Rattle.code_runs.proofs.Picked.{equal_or_not, put, put_other, put_same}
-use Rattle.snippets.specs.declared.snippet.Op.{Op}
-use Rattle.snippets.specs.declared.snippet.Op.TheVariants.{Add, Put, Keep, Top, Count, Log}
 use Rattle.snippet_code.specs.Cells.{cell_at}
 use Rattle.snippet_code.specs.Code.{kept_word}
-use Rattle.code_runs.specs.Code.{of_page, any_of_word, word_span}
+use Rattle.code_runs.specs.Code.{of_page}
 use Rattle.snippet_code.specs.Words.{op_words, all_words, numbered, save, restore, low, high}
 use Rattle.snippet_code.proofs.Working.{HasWorkspace, WorksWithin, update_all, Does, AreFit, AreFrom, HavePage, saved, AreSaved}
-use Rattle.code_runs.specs.Counted.{one_if}
 use Rattle.snippet_code.proofs.OneOperation.{as_many, Doing, add_works, put_works, keep_works}
 use Rattle.snippet_code.proofs.Greater.{top_works}
 use Rattle.snippet_code.proofs.Wide.{count_works, log_works}

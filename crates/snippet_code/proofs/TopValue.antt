@@ -1,11 +1,9 @@
 -- What the words of Top make of two numbers where the codes stay.
-use Rattle.std.proofs.Common.{◌≡◌, ℕ, ◌^◌, ◌<◌, max, false, Result, Ok, Err}
-use Rattle.v8_decode.specs.declared.AluOp.{AluOp}
+use Rattle.snippet_code.proofs.Common.{◌≡◌, ℕ, ◌^◌, ◌<◌, max, false, Ok, AluOp, Codes, alu_of}
+use Rattle.std.proofs.Common.{Result, Err}
 use Rattle.v8_decode.specs.declared.AluOp.TheVariants as ops
 use Rattle.v8_alu.specs.declared.AluOut.{AluOut}
 use Rattle.v8_alu.specs.declared.AluTrap.{AluTrap}
-use Rattle.v8_alu.specs.declared.Codes.{Codes}
-use Rattle.v8_alu.specs.Alu.{alu_of}
 
 abbrev pub value_of : Result AluOut AluTrap → ℕ
 value_of (Ok out) = out.value

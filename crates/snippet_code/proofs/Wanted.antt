@@ -1,7 +1,5 @@
 -- In how many registers operations work.
-use Rattle.std.proofs.Common.{◌≡◌, ℕ, ◌+◌, ◌<◌, max, Bool, List, [], ◌∷◌, ◌++◌, length, take, get_or, arith}
-use Rattle.std.proofs.lemmas.List.{take_more}
-use Rattle.snippets.specs.declared.snippet.Op.{Op}
+use Rattle.snippet_code.proofs.Common.{◌≡◌, ℕ, ◌+◌, ◌<◌, max, Bool, List, [], ◌∷◌, ◌++◌, length, take, get_or, arith, take_more, Op}
 use Rattle.snippet_code.specs.Spills.{op_registers, registers_for}
 
 for-append : (d : Bool) (ops : List Op) (op : Op)

@@ -1,33 +1,8 @@
 -- What the words of a whole snippet do.
-use Rattle.std.proofs.Common.{◌≡◌, ◌≢◌, ℕ, suc, ◌+◌, ◌-◌, ◌*◌, ◌%◌, ◌^◌, ◌<◌, ◌≤◌, ◌⊎◌, inl, inr, Bool, true, false, List, [], ◌∷◌, ◌++◌, length, drop, map, refl, ap, sym, ◌∙◌, subst, arith, length-append, length-drop, All}
-use Rattle.std.specs.Prelude.{slice_index}
-use Rattle.std.proofs.Math.Seq.{ext_get_or}
-use Rattle.std.proofs.lemmas.List.{length-map, get_or-drop}
-use Rattle.std.proofs.lemmas.List.Elements.{All-head, All-tail}
-use Rattle.v8_decode.specs.Words.{decode_of}
-use Rattle.v8_decode.specs.declared.Instr.{Instr}
-use Rattle.v8_decode.specs.declared.Part.{Part}
+use Rattle.snippet_code.proofs.Common.{◌≡◌, ◌≢◌, ℕ, suc, ◌+◌, ◌-◌, ◌*◌, ◌%◌, ◌^◌, ◌<◌, ◌≤◌, ◌⊎◌, inl, inr, Bool, true, false, List, [], ◌∷◌, ◌++◌, length, drop, map, refl, ap, sym, ◌∙◌, subst, arith, length-append, length-drop, All, slice_index, ext_get_or, length-map, get_or-drop, All-head, All-tail, decode_of, Instr, Part, has, wrapped, code_of, NoSlot, State, register_of, StateItem, Register, CodesItem, YRegister, IsAmong, IsSameAt, any_of_word, CanStore, memory_word, StandIn, split_below, put, put_other, put_same, ArePicked, picked, spills, are_picked, Op, Keep, Top, update, named_by, IsOp}
 use Rattle.v8_decode.specs.declared.Part.TheVariants as parts
-use Rattle.v8_decode.specs.Parts.{has}
-use Rattle.v8_alu.specs.Numbers.{wrapped}
-use Rattle.v8_memory.specs.Regions.{code_of}
-use Rattle.v8_step.specs.declared.Slot.TheVariants.{NoSlot}
-use Rattle.v8_step.specs.State.{State, register_of}
-use Rattle.v8_step.specs.Items.{StateItem, Register, Codes as CodesItem, YRegister, IsAmong, IsSameAt}
-use Rattle.code_runs.specs.Code.{any_of_word, CanStore}
 use Rattle.code_runs.specs.Hops.{hopped}
-use Rattle.code_runs.specs.StoredWords.{memory_word}
-use Rattle.code_runs.specs.Straight.{StandIn}
-use Rattle.code_runs.proofs.Leads.{split_below}
 use Rattle.code_runs.proofs.Straight.{words_say}
-use Rattle.code_runs.proofs.Picked.{put, put_other, put_same}
-use Rattle.scavenge.specs.Code.{ArePicked, picked}
-use Rattle.scavenge.specs.Picks.{spills}
-use Rattle.scavenge.proofs.Picks.{are_picked}
-use Rattle.snippets.specs.declared.snippet.Op.{Op}
-use Rattle.snippets.specs.declared.snippet.Op.TheVariants.{Keep, Top}
-use Rattle.snippets.specs.Cells.{update, named_by}
-use Rattle.snippets.specs.Grammar.{IsOp}
 use Rattle.snippet_code.specs.Cells.{cell_at, words_at}
 use Rattle.snippet_code.specs.Code.{IsCellOf, kept_word}
 use Rattle.snippet_code.specs.Spills.{registers_for}

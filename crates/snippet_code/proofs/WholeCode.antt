@@ -1,19 +1,6 @@
 -- The words of a whole snippet.
-use Rattle.std.proofs.Common.{◌≡◌, ℕ, ◌+◌, ◌-◌, ◌%◌, ◌≤◌, Bool, List, ◌++◌, length, map, take, drop, ap, ◌∙◌, arith, All, length-drop, append_assoc}
-use Rattle.std.specs.Prelude.{slice_index}
-use Rattle.std.proofs.lemmas.List.{length-map, map-append, get_or-drop, take_all}
-use Rattle.v8_decode.specs.Words.{decode_of}
-use Rattle.v8_decode.specs.declared.Instr.{Instr}
-use Rattle.v8_decode.specs.declared.Part.{Part}
-use Rattle.v8_decode.specs.declared.Part.TheVariants.{Icc}
-use Rattle.v8_decode.specs.Parts.{has}
-use Rattle.v8_encode.specs.Encoding.{word_of}
-use Rattle.scavenge.specs.Code.{picked, register_count, spilled}
-use Rattle.scavenge.specs.Picks.{spills}
-use Rattle.scavenge.proofs.Picks.{are_picked}
-use Rattle.snippets.specs.declared.snippet.Op.{Op}
-use Rattle.snippets.specs.Cells.{named_by}
-use Rattle.snippets.specs.Grammar.{IsOp}
+use Rattle.snippet_code.proofs.Common.{◌≡◌, ℕ, ◌+◌, ◌-◌, ◌%◌, ◌≤◌, Bool, List, ◌++◌, length, map, take, drop, ap, ◌∙◌, arith, All, length-drop, append_assoc, slice_index, length-map, map-append, get_or-drop, decode_of, Instr, Part, Icc, has, word_of, picked, register_count, spilled, spills, are_picked, Op, named_by, IsOp}
+use Rattle.std.proofs.lemmas.List.{take_all}
 use Rattle.snippet_code.specs.Spills.{registers_for, spills_of}
 use Rattle.snippet_code.specs.Words.{all_words, numbered, save, restore, snippet_words, code_of_snippet, cost_of}
 use Rattle.snippet_code.specs.Runs.{DoesJust}

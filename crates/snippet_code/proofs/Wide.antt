@@ -1,21 +1,10 @@
 -- Counters of two cells, and rings of cells.
-use Rattle.std.proofs.Common.{◌≡◌, ◌≢◌, ℕ, zero, suc, ◌+◌, ◌-◌, ◌*◌, ◌/◌, ◌%◌, ◌^◌, ◌<◌, ◌≤◌, min, Bool, true, false, bit_and, Ok, length, refl, ap, sym, ◌∙◌, arith}
-use Rattle.std.specs.Prelude.{if◌then◌else◌, ◌==◌, nat_le, pos}
-use Rattle.std.specs.Int.{bit_at}
-use Rattle.std.proofs.lemmas.Bool.Decides.{nat_tests}
-use Rattle.std.proofs.lemmas.Nat.{and_le_l, mod_below, pow_pos}
-use Rattle.std.proofs.lemmas.Nat.Bits.{bit_at_and}
+use Rattle.snippet_code.proofs.Common.{◌≡◌, ◌≢◌, ℕ, zero, suc, ◌+◌, ◌-◌, ◌*◌, ◌/◌, ◌%◌, ◌^◌, ◌<◌, ◌≤◌, min, Bool, true, false, bit_and, Ok, length, refl, ap, sym, ◌∙◌, arith, if◌then◌else◌, ◌==◌, pos, bit_at, nat_tests, and_le_l, mod_below, pow_pos, bit_at_and, Codes, alu_of, codes_of, complement, wrapped, code_of, State, register_of, any_of_word, StandIn, put, put_other, Count, Log}
+use Rattle.std.specs.Prelude.{nat_le}
 use Rattle.v8_decode.specs.declared.Op2.TheVariants as o
 use Rattle.v8_decode.specs.declared.AluOp.TheVariants as ops
-use Rattle.v8_alu.specs.declared.Codes.{Codes}
-use Rattle.v8_alu.specs.Alu.{alu_of, codes_of, sum_overflows}
-use Rattle.v8_alu.specs.Numbers.{complement, one_if, wrapped}
-use Rattle.v8_memory.specs.Regions.{code_of}
-use Rattle.v8_step.specs.State.{State, register_of}
-use Rattle.code_runs.specs.Code.{any_of_word}
-use Rattle.code_runs.specs.Straight.{StandIn}
-use Rattle.code_runs.proofs.Picked.{put, put_other}
-use Rattle.snippets.specs.declared.snippet.Op.TheVariants.{Count, Log}
+use Rattle.v8_alu.specs.Alu.{sum_overflows}
+use Rattle.v8_alu.specs.Numbers.{one_if}
 use Rattle.snippet_code.specs.Cells.{cell_at}
 use Rattle.snippet_code.specs.Words.{op_words, count_words, log_words, low}
 use Rattle.snippet_code.proofs.Working.{HasWorkspace, WorksWithin, update_one, Does}

@@ -1,20 +1,9 @@
 -- What is kept of code that works in a few picked registers and in some words of memory, where branches only lead
 -- forward.
-use Rattle.std.proofs.Common.{◌≡◌, ◌≢◌, ℕ, suc, ◌+◌, ◌*◌, ◌/◌, ◌%◌, ◌^◌, ◌<◌, ◌≤◌, max, Bool, false, List, [], ◌∷◌}
-use Rattle.v8_alu.specs.declared.Codes.{Codes}
-use Rattle.v8_memory.specs.Regions.{Memory}
-use Rattle.v8_step.specs.declared.Slot.TheVariants.{NoSlot}
-use Rattle.v8_step.specs.State.{State}
+use Rattle.snippet_code.proofs.Common.{◌≡◌, ◌≢◌, ℕ, suc, ◌+◌, ◌*◌, ◌/◌, ◌%◌, ◌^◌, ◌<◌, ◌≤◌, max, Bool, false, List, [], ◌∷◌, Codes, Memory, NoSlot, State, CanStore, any_of_word, Works, memory_word, put, Op, Add, Put, Keep, Top, Count, Log, IsOp, cells_end}
 use Rattle.v8_step.specs.Valid.{IsValid}
-use Rattle.code_runs.specs.Code.{CanStore, any_of_word}
 use Rattle.code_runs.specs.Counted.{count_stores}
-use Rattle.code_runs.specs.Picked.{Works}
-use Rattle.code_runs.specs.StoredWords.{memory_word}
-use Rattle.code_runs.proofs.Picked.{HasBlock, put}
-use Rattle.snippets.specs.declared.snippet.Op.{Op}
-use Rattle.snippets.specs.declared.snippet.Op.TheVariants.{Add, Put, Keep, Top, Count, Log}
-use Rattle.snippets.specs.Grammar.{IsOp}
-use Rattle.snippets.specs.Ops.{cells_end}
+use Rattle.code_runs.proofs.Picked.{HasBlock}
 use Rattle.snippet_code.specs.Code.{IsCellIn, kept_word}
 use Rattle.snippet_code.specs.Cells.{cell_at}
 use Rattle.snippet_code.specs.Spills.{op_registers}

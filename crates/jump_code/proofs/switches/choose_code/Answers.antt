@@ -1,4 +1,4 @@
-use Rattle.std.proofs.Common.{rules}
+use Rattle.jump_code.proofs.Common.{rules}
 use Rattle.jump_code.proofs.switches.choose_code.Goals as goal
 
 pub returns : goal.returns

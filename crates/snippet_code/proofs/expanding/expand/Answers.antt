@@ -1,4 +1,4 @@
-use Rattle.std.proofs.Common.{rules}
+use Rattle.snippet_code.proofs.Common.{rules}
 use Rattle.snippet_code.proofs.WholeCode.{few_avoided, is_code}
 use Rattle.snippet_code.proofs.expanding.expand.Goals as goal
 

@@ -1,5 +1,4 @@
-use Rattle.std.proofs.Common.{◌≡◌, ◌++◌, map, take}
-use Rattle.v8_encode.specs.Encoding.{word_of}
+use Rattle.snippet_code.proofs.Common.{◌≡◌, ◌++◌, map, take, word_of}
 use Rattle.snippet_code.specs.Words.{numbered, save}
 use Rattle.snippet_code.proofs.expanding.push_saves.Given as goal
 

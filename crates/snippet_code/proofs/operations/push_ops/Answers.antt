@@ -1,5 +1,4 @@
-use Rattle.std.proofs.Common.{arith}
-use Rattle.std.specs.Prelude.{slice_index}
+use Rattle.snippet_code.proofs.Common.{arith, slice_index}
 use Rattle.snippet_code.proofs.Pushed.{are_more, op_low, op_more, op_room}
 use Rattle.snippet_code.proofs.operations.push_ops.Goals as goal
 

@@ -1,7 +1,4 @@
-use Rattle.std.proofs.Common.{◌≡◌, ◌++◌, map, take, All}
-use Rattle.std.specs.Prelude.{slice_index}
-use Rattle.v8_encode.specs.Encoding.{word_of}
-use Rattle.snippets.specs.Grammar.{IsOp}
+use Rattle.snippet_code.proofs.Common.{◌≡◌, ◌++◌, map, take, All, slice_index, word_of, IsOp}
 use Rattle.snippet_code.specs.Words.{all_words}
 use Rattle.snippet_code.proofs.operations.push_ops.Given as goal
 

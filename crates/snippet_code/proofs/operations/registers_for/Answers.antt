@@ -1,4 +1,4 @@
-use Rattle.std.proofs.Common.{◌≡◌, max, arith, rules}
+use Rattle.snippet_code.proofs.Common.{◌≡◌, max, arith, rules}
 use Rattle.snippet_code.proofs.Wanted.{for_more}
 use Rattle.snippet_code.proofs.operations.registers_for.Goals as goal
 
