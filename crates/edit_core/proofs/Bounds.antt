@@ -1,17 +1,9 @@
 -- The room that an edit asks for is enough for the operations that are made.
-use Rattle.std.proofs.Common.{◌≡◌, ℕ, suc, ◌+◌, ◌≤◌, List, [], ◌∷◌, length, refl, ap, arith}
+use Rattle.edit_core.proofs.Common.{◌≡◌, ℕ, suc, ◌+◌, ◌≤◌, List, [], ◌∷◌, length, refl, ap, arith, Edge, Graph, Each, each, snippet_on, Op, cells_end, ToolKind, AreCounters}
 use Rattle.std.proofs.lemmas.Nat.{mul-le}
-use Rattle.cfg_normal.specs.declared.Edge.{Edge}
-use Rattle.cfg_normal.specs.Graph.{Graph}
-use Rattle.cfg_walk.proofs.Lists.{Each, each}
 use Rattle.image_code.specs.Copies.{copies_of}
 use Rattle.image_code.specs.Fit.{operations_from, operations_in}
-use Rattle.image_code.specs.Store.{snippet_on}
-use Rattle.snippets.specs.declared.snippet.Op.{Op}
-use Rattle.snippets.specs.Ops.{cells_end}
-use Rattle.tool_kit.specs.declared.edge_ref.ToolKind.{ToolKind}
 use Rattle.tool_kit.specs.declared.edge_ref.ToolKind.TheVariants as tools
-use Rattle.tool_kit.specs.Plans.{AreCounters}
 use Rattle.edit_core.specs.Taken.{counted_on, operations_on}
 use Rattle.edit_core.specs.Written.{IsWorkable}
 

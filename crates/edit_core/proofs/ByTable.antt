@@ -1,36 +1,17 @@
 -- The jumps of an original's open switches go by their tables.
-use Rattle.std.proofs.Common.{◌≡◌, ℕ, ◌+◌, ◌-◌, ◌*◌, true, List, map, Some, refl, ap, sym, ◌∙◌, arith}
-use Rattle.std.specs.Prelude.{slice_get}
-use Rattle.std.specs.List.{find, range_with_len}
-use Rattle.std.proofs.lemmas.Bool.{eqb-true}
-use Rattle.eel_base.specs.CodeText.{Words, address_of, word_at}
-use Rattle.eel_base.specs.Code.{IsText}
-use Rattle.v8_decode.specs.declared.Instr.{Instr}
+use Rattle.edit_core.proofs.Common.{◌≡◌, ℕ, ◌+◌, ◌-◌, ◌*◌, true, List, map, Some, refl, ap, sym, ◌∙◌, arith, slice_get, find, range_with_len, eqb-true, Words, address_of, word_at, IsText, Instr, State, sum_of, run, IsValid, Blocks, blocks_of, is_among, entered_of, word_at-some, Open, Graph, graph_of, end_of_walk, point_of, BeginsAt, FetchesOnly, HoldsText, opens_in, CaseTable, IsAtWord, EditSetup, graph_in, table_of}
 use Rattle.v8_decode.specs.declared.Instr.TheVariants as i
 use Rattle.v8_decode.specs.declared.LoadKind.TheVariants as loads
-use Rattle.v8_step.specs.State.{State, sum_of}
-use Rattle.v8_step.specs.Run.{run}
-use Rattle.v8_step.specs.Valid.{IsValid}
 use Rattle.cfg_blocks.specs.declared.switches.Value.{Value}
 use Rattle.cfg_blocks.specs.declared.switches.Value.TheVariants.{Place}
-use Rattle.cfg_blocks.specs.Blocks.{Blocks, blocks_of, is_among}
-use Rattle.cfg_blocks.specs.Entries.{entered_of}
 use Rattle.cfg_blocks.specs.Values.{instr_at}
-use Rattle.cfg_blocks.proofs.Targets.{word_at-some}
-use Rattle.cfg_normal.specs.Opens.{Open}
-use Rattle.cfg_normal.specs.Graph.{Graph, graph_of}
-use Rattle.cfg_walk.specs.Walk.{end_of_walk, point_of}
-use Rattle.cfg_walk.specs.Matches.{BeginsAt, FetchesOnly}
 use Rattle.switch_runs.specs.Cases.{LoadsEntry}
-use Rattle.switch_runs.specs.Held.{HoldsText}
 use Rattle.switch_runs.specs.Joined.{IsCaseBlock, StandsAt}
 use Rattle.switch_runs.proofs.CaseBlocks.{case_blocks}
 use Rattle.switch_runs.proofs.Joined.{jumps_go_by_table}
-use Rattle.image_code.specs.Graphs.{case_table, opens_in}
+use Rattle.image_code.specs.Graphs.{case_table}
 use Rattle.image_code.specs.Loads.{first_operand, is_place, load_of, loads_by, or_first, second_operand}
 use Rattle.image_code.specs.Numbered.{or_zero}
-use Rattle.image_code.specs.Simulates.{CaseTable, IsAtWord, EditSetup, graph_in}
-use Rattle.image_code.proofs.CaseTables.{table_of}
 use Rattle.image_code.proofs.Opened.{load_is, load_passes}
 use Rattle.image_code.proofs.Positions.{contains, found_in_range}
 use Rattle.edit_core.specs.Runs.{GoesByTable, JumpsGoByTable}

@@ -1,20 +1,9 @@
 -- The entries of tables, counted by the edges along which they lead.
-use Rattle.std.proofs.Common.{◌≡◌, ◌≢◌, ℕ, zero, suc, ◌+◌, ◌^◌, ◌≤◌, ◌==◌, ◌&&◌, Bool, true, false, cond, nat_eq, Option, Some, List, [], ◌∷◌, length, length-append, refl, ap, ◌∙◌, arith}
-use Rattle.std.specs.Prelude.{if◌then◌else◌}
-use Rattle.std.specs.List.{count_by, range_with_len, sum_by}
+use Rattle.edit_core.proofs.Common.{◌≡◌, ◌≢◌, ℕ, zero, suc, ◌+◌, ◌^◌, ◌≤◌, ◌==◌, ◌&&◌, Bool, true, false, cond, nat_eq, Option, Some, List, [], ◌∷◌, length, length-append, refl, ap, ◌∙◌, arith, if◌then◌else◌, count_by, range_with_len, sum_by, and_parts, eqb-true, nat_tests, count_by-le-length, sum_by-cons, Node, Block, Landed, X, Graph, lands, IsGraph, IsNodeIn, same_node, node_number, Open, is_at}
 use Rattle.std.proofs.lemmas.List.FromFn.{length-range_with_len}
-use Rattle.std.proofs.lemmas.Bool.{and_parts, eqb-true}
-use Rattle.std.proofs.lemmas.Bool.Decides.{nat_tests}
-use Rattle.std.proofs.lemmas.List.Sums.{count_by-le-length, sum_by-append, sum_by-cons}
-use Rattle.cfg_normal.specs.declared.Node.{Node}
-use Rattle.cfg_normal.specs.declared.Node.TheVariants.{Block, Landed, X}
-use Rattle.cfg_normal.specs.Graph.{Graph, lands}
-use Rattle.cfg_normal.specs.Code.{IsGraph, IsNodeIn}
-use Rattle.cfg_normal.specs.Nodes.{same_node}
-use Rattle.cfg_normal.specs.Numbers.{node_number}
-use Rattle.cfg_normal.specs.Opens.{Open, targets_in}
+use Rattle.std.proofs.lemmas.List.Sums.{sum_by-append}
+use Rattle.cfg_normal.specs.Opens.{targets_in}
 use Rattle.cfg_walk.proofs.Nodes.{lands_in}
-use Rattle.image_code.specs.Copies.{is_at}
 use Rattle.edit_core.specs.declared.requests.CaseKey.{CaseKey}
 use Rattle.edit_core.specs.Private.{case_key, count_of, entries_with, is_entry, same_key}
 

@@ -1,12 +1,7 @@
 -- What the live sets leave is dead.
-use Rattle.std.proofs.Common.{◌≡◌, ℕ, Bool, true, false, not, List, refl}
-use Rattle.eel_base.specs.CodeText.{Words}
-use Rattle.v8_decode.specs.declared.Part.{Part}
-use Rattle.v8_decode.specs.Parts.{has}
+use Rattle.edit_core.proofs.Common.{◌≡◌, ℕ, Bool, true, false, not, List, refl, Words, Part, has, Graph, IsLiveOn, dead_on}
 use Rattle.v8_decode.proofs.Marks.{has-members_at, set_of-members}
-use Rattle.cfg_normal.specs.Graph.{Graph}
-use Rattle.liveness.specs.Live.{IsLiveOn}
-use Rattle.liveness.specs.Sets.{AreLive, Live, dead_on, edge_set}
+use Rattle.liveness.specs.Sets.{AreLive, Live, edge_set}
 use Rattle.edit_core.specs.Dead.{AreDead}
 
 pub rest_is_dead : (text : Words) (graph : Graph) (named : ℕ → List Part) (sets : Live) → AreLive text graph named sets

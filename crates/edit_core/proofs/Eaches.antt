@@ -1,7 +1,5 @@
 -- What holds of each element.
-use Rattle.std.proofs.Common.{zero, suc, List, [], ◌∷◌, arith, All}
-use Rattle.std.specs.List.{flat_map}
-use Rattle.cfg_walk.proofs.Lists.{Each, each-append}
+use Rattle.edit_core.proofs.Common.{zero, suc, List, [], ◌∷◌, arith, All, flat_map, Each, each-append}
 
 pub all_each : {A : Type 0} (P : A → Type 0) (xs : List A) → Each P xs → All P xs
 all_each P [] each k d l = absurd (omega arith)

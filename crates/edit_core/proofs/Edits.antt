@@ -1,21 +1,8 @@
 -- What is written is an edit: its notes meet their rules, and the laws of written files give the rest.
-use Rattle.std.proofs.Common.{◌≡◌, ℕ, zero, suc, ◌+◌, ◌*◌, ◌%◌, ◌^◌, ◌<◌, ◌≤◌, List, [], ◌∷◌, ◌++◌, length, length-append, nat_le, None, inl, inr, refl, ap, ◌∙◌, arith, All}
-use Rattle.std.specs.List.{sum_by}
-use Rattle.std.proofs.lemmas.List.{length-replicate}
-use Rattle.std.proofs.lemmas.List.Sums.{count_by-le-length}
+use Rattle.edit_core.proofs.Common.{◌≡◌, ℕ, zero, suc, ◌+◌, ◌*◌, ◌%◌, ◌^◌, ◌<◌, ◌≤◌, List, [], ◌∷◌, ◌++◌, length, length-append, nat_le, None, inl, inr, refl, ap, ◌∙◌, arith, All, sum_by, length-replicate, count_by-le-length, big_bytes, IsText, Words, fault, image_of, highest_end, Notes, accepted-program, AreNotes, notes_bytes, notes_words, words_bytes, AddedSegment, length-words_bytes, Blocks, holding_of, Graph, TableAt, Each, Placement, AreFit, codes_of, WorksBelow, ToolKind, Plan}
 use Rattle.std.proofs.lemmas.List.Elements.{All-replicate}
-use Rattle.byteorder.specs.Endian.{big_bytes}
-use Rattle.eel_base.specs.Code.{IsText}
-use Rattle.eel_base.specs.CodeText.{Words}
-use Rattle.elf32_sparc.specs.FileFault.{fault}
-use Rattle.elf32_sparc.specs.Image.{image_of, highest_end}
-use Rattle.notes.specs.Format.{Notes}
-use Rattle.elf32_sparc.proofs.Images.{accepted-program}
-use Rattle.notes.specs.Rules.{AreNotes}
-use Rattle.notes.specs.Written.{notes_bytes, notes_words, words_bytes as note_bytes}
+use Rattle.notes.specs.Written.{words_bytes as note_bytes}
 use Rattle.notes.proofs.ReadsBack.{written_back}
-use Rattle.elf32_write.specs.Kept.{words_bytes}
-use Rattle.elf32_write.specs.Headers.{AddedSegment}
 use Rattle.elf32_write.specs.Conditions.{CanWrite, AreNumbers, Ascend, CanLoad, HasWords, IsInReach}
 use Rattle.elf32_write.specs.Laws.{AreBytes, HoldsOriginal}
 use Rattle.elf32_write.specs.Written.{written}
@@ -23,20 +10,9 @@ use Rattle.elf32_write.proofs.Carried.{segments_are_mapped}
 use Rattle.elf32_write.proofs.FileBytes.{file_is_bytes}
 use Rattle.elf32_write.proofs.Laws.{original_is_held, notes_are_read, entry_is_given, size_is_bounded}
 use Rattle.elf32_write.proofs.Loads.{file_loads}
-use Rattle.elf32_write.proofs.WordsBytes.{length-words_bytes}
 use Rattle.v8_step.proofs.ValidNumbers.{high_first-bytes, flat_map-bytes}
-use Rattle.cfg_blocks.specs.Blocks.{Blocks, holding_of}
-use Rattle.cfg_normal.specs.Graph.{Graph}
-use Rattle.addr_translate.specs.Lookup.{TableAt}
-use Rattle.cfg_walk.proofs.Lists.{Each}
-use Rattle.layout.specs.Laid.{Placement}
-use Rattle.image_code.specs.Fit.{AreFit}
 use Rattle.edit_core.specs.Taken.{CanEdit}
 use Rattle.edit_core.specs.Faithful.{editor_page, page_size, tool_number}
-use Rattle.image_code.specs.SnippetWords.{codes_of}
-use Rattle.snippets.specs.Cells.{WorksBelow}
-use Rattle.tool_kit.specs.declared.edge_ref.ToolKind.{ToolKind}
-use Rattle.tool_kit.specs.Plans.{Plan}
 use Rattle.edit_core.specs.Written.{CanDo, IsNewCode, IsEdit, if_any, cells_at, cells_base, text_of, graph_in, table_base, code_base, pieces_of, entry_of, table_at, segment_size, cases_at, code_segment, page_segment, added, notes_on, edit_file}
 use Rattle.edit_core.proofs.Bounds.{operations_few}
 use Rattle.edit_core.proofs.Fronts.{any_length, each_any}

@@ -1,18 +1,5 @@
 -- Where a program is entered: at a block that is the jump's block of no open switch.
-use Rattle.std.proofs.Common.{◌≡◌, ℕ, ◌<◌, ◌==◌, true, Some, None, List, length, ap, sym, ◌∙◌, arith}
-use Rattle.std.specs.Prelude.{slice_get}
-use Rattle.std.proofs.lemmas.Bool.{eq-eqb, false≢true}
-use Rattle.eel_base.specs.CodeText.{Words}
-use Rattle.eel_base.specs.Code.{IsText}
-use Rattle.cfg_blocks.specs.Blocks.{blocks_of, holding_of, is_among}
-use Rattle.cfg_normal.specs.declared.Node.{Node}
-use Rattle.cfg_normal.specs.declared.Node.TheVariants.{Block, Landed, X}
-use Rattle.cfg_normal.specs.Graph.{Graph, graph_of, node_of}
-use Rattle.cfg_normal.specs.Opens.{Open}
-use Rattle.cfg_walk.proofs.Cut.{cut}
-use Rattle.cfg_walk.proofs.Edges.{block}
-use Rattle.cfg_walk.proofs.Leaving.{node_is}
-use Rattle.image_code.specs.Graphs.{opens_in}
+use Rattle.edit_core.proofs.Common.{◌≡◌, ℕ, ◌<◌, ◌==◌, true, Some, None, List, length, ap, sym, ◌∙◌, arith, slice_get, eq-eqb, false≢true, Words, IsText, blocks_of, holding_of, is_among, Node, Block, Landed, X, Graph, graph_of, node_of, Open, cut, block, node_is, opens_in}
 use Rattle.image_code.specs.Numbered.{enter_number, image_number, jump_number}
 use Rattle.image_code.proofs.Positions.{any_at, not_placed}
 use Rattle.edit_core.proofs.Graphs.{entry_apart}

@@ -1,48 +1,16 @@
 -- An edit is faithful.
-use Rattle.std.proofs.Common.{◌≡◌, ℕ, suc, ◌+◌, ◌*◌, ◌^◌, ◌<◌, ◌≤◌, true, false, List, [], ◌∷◌, ◌++◌, length, map, slice_index, Some, refl, ap, sym, ◌∙◌, subst, arith, All}
-use Rattle.std.specs.Prelude.{slice_get}
-use Rattle.std.specs.List.{list_any}
-use Rattle.std.specs.Option.{option_map}
-use Rattle.std.proofs.lemmas.Bool.{le-leb, lt-ltb}
-use Rattle.std.proofs.lemmas.List.{append_assoc}
-use Rattle.std.proofs.lemmas.Option.{slice_get_within, get_or_from_slice_get}
-use Rattle.eel_base.specs.Code.{IsText}
-use Rattle.eel_base.specs.CodeText.{Words, address_of, word_at}
-use Rattle.elf32_sparc.specs.Image.{image_of}
-use Rattle.elf32_sparc.specs.Mapping.{Mapping, mappings}
-use Rattle.notes.specs.Format.{NoteRange, NoteSegment, Notes}
-use Rattle.v8_decode.specs.declared.Part.{Part}
-use Rattle.v8_decode.specs.Words.{decode_of}
-use Rattle.v8_step.specs.State.{State}
-use Rattle.v8_step.specs.Run.{run}
-use Rattle.v8_process.specs.Start.{start_of}
-use Rattle.cfg_walk.specs.Walk.{instr_at}
-use Rattle.elf32_write.specs.Headers.{AddedSegment}
-use Rattle.elf32_write.specs.Laws.{AreBytes, mapping_added}
-use Rattle.elf32_write.specs.Kept.{kept}
-use Rattle.cfg_blocks.specs.Blocks.{holding_of}
-use Rattle.cfg_normal.specs.declared.Edge.{Edge}
-use Rattle.cfg_normal.specs.Graph.{Graph}
-use Rattle.cfg_normal.specs.Code.{IsEdgeIn}
-use Rattle.cfg_normal.specs.Numbers.{is_node}
+use Rattle.edit_core.proofs.Common.{◌≡◌, ℕ, suc, ◌+◌, ◌*◌, ◌^◌, ◌<◌, ◌≤◌, true, false, List, [], ◌∷◌, ◌++◌, length, map, slice_index, Some, refl, ap, sym, ◌∙◌, subst, arith, All, slice_get, list_any, option_map, le-leb, lt-ltb, append_assoc, slice_get_within, get_or_from_slice_get, IsText, Words, address_of, word_at, image_of, Mapping, mappings, NoteRange, NoteSegment, Notes, Part, decode_of, State, run, start_of, instr_at, AddedSegment, mapping_added, kept, holding_of, Edge, Graph, IsEdgeIn, is_node, Each, each, each-append, each-then, TableAt, Placement, AreFit, IsNoLoad, are_tables, cased, codes_of, Plan, each_index}
+use Rattle.elf32_write.specs.Laws.{AreBytes}
 use Rattle.cfg_walk.proofs.Addresses.{word_at-address}
-use Rattle.cfg_walk.proofs.Lists.{Each, each, each-append, each-then}
-use Rattle.addr_translate.specs.Lookup.{TableAt}
-use Rattle.layout.specs.Laid.{Placement, IsWordAt}
-use Rattle.image_code.specs.Fit.{AreFit, PlacesSay}
+use Rattle.layout.specs.Laid.{IsWordAt}
+use Rattle.image_code.specs.Fit.{PlacesSay}
 use Rattle.image_code.specs.Keeping.{AreCaseTables}
-use Rattle.image_code.specs.Simulates.{IsNoLoad}
-use Rattle.image_code.proofs.CaseTables.{are_tables}
-use Rattle.image_code.proofs.Opened.{cased}
-use Rattle.image_code.specs.SnippetWords.{codes_of}
-use Rattle.tool_kit.specs.Plans.{Plan}
 use Rattle.edit_core.specs.Taken.{CanEdit, bound_in}
 use Rattle.edit_core.specs.Code.{IsEdited}
 use Rattle.edit_core.specs.Cost.{IsWithinBound, StoresLittle, is_ld}
 use Rattle.edit_core.specs.RunsAlike.{ForEachRun, edit_of}
 use Rattle.edit_core.specs.Faithful.{HasGraph, HasPages, IsInRoom, IsPlace, holds_cells, note_edges, note_of, word_mapped}
 use Rattle.edit_core.specs.Written.{CanDo, IsNewCode, IsEdit, EditsRunAlike, RunsOf, setup_of, added, cases_at, cells_at, cells_base, if_any, segment_size, text_of, graph_in, table_base, code_base, pieces_of, off_range, off_ranges, table_at, code_segment, page_segment, notes_on, edit_file}
-use Rattle.image_code.proofs.OpenNumbers.{each_index}
 use Rattle.edit_core.proofs.Eaches.{all_each}
 use Rattle.edit_core.proofs.Graphs.{edges_inside, entries_few, graph_is, number_of}
 use Rattle.edit_core.proofs.Steps.{segment_is}

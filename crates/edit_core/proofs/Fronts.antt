@@ -1,8 +1,6 @@
 -- What stands before others only where there are cells.
-use Rattle.std.proofs.Common.{◌≡◌, ℕ, zero, suc, ◌<◌, ◌≤◌, Bool, true, false, ◌&&◌, ◌||◌, cond, List, ◌++◌, length, map, Option, Some, None, refl, ap, arith}
-use Rattle.std.specs.List.{find, list_any}
-use Rattle.std.proofs.lemmas.Bool.{or_left, or_parts, or_right}
-use Rattle.cfg_walk.proofs.Lists.{Each}
+use Rattle.edit_core.proofs.Common.{◌≡◌, ℕ, zero, suc, ◌<◌, ◌≤◌, Bool, true, false, ◌&&◌, cond, List, ◌++◌, length, map, Option, Some, None, refl, ap, arith, find, list_any, or_left, or_parts, or_right, Each}
+use Rattle.std.proofs.Common.{◌||◌}
 use Rattle.edit_core.specs.Written.{if_any}
 
 pub any-map : {A B : Type 0} (f : A → B) (count : ℕ) (x : A) (xs : List A)

@@ -1,32 +1,15 @@
 -- The graph of an original, with its open switches.
-use Rattle.std.proofs.Common.{◌≡◌, ℕ, suc, ◌+◌, ◌-◌, ◌*◌, ◌<◌, ◌≤◌, ◌==◌, inl, inr, true, false, Bool, List, [], ◌∷◌, length, length-append, refl, ap, sym, ◌∙◌, arith}
-use Rattle.std.specs.Prelude.{slice_index}
-use Rattle.std.specs.List.{list_any, sum_by}
-use Rattle.std.proofs.lemmas.Bool.{cases_Bool, eq-eqb, eqb-true, false_from_ne_true, false≢true, le-ltb, lt-ltb, or_cases}
-use Rattle.std.proofs.lemmas.List.{length-map}
-use Rattle.std.proofs.lemmas.List.Sums.{sum_by-cons}
-use Rattle.eel_base.specs.CodeText.{Words}
-use Rattle.eel_base.specs.Code.{IsText}
-use Rattle.elf32_sparc.specs.Image.{image_of}
-use Rattle.cfg_blocks.specs.Blocks.{Blocks, blocks_of, holding_of, is_among, last_word}
-use Rattle.cfg_blocks.specs.Entries.{entered_of}
-use Rattle.cfg_normal.specs.declared.Node.{Node}
-use Rattle.cfg_normal.specs.declared.Node.TheVariants.{Block, Landed, X}
-use Rattle.cfg_normal.specs.Graph.{Graph, edges_in}
-use Rattle.cfg_normal.specs.Code.{IsEdgeIn, IsGraph, IsNodeIn}
-use Rattle.cfg_normal.specs.Numbers.{is_node, node_number}
-use Rattle.cfg_normal.specs.Opens.{Open, compares_in, is_copied, jumps_in}
+use Rattle.edit_core.proofs.Common.{◌≡◌, ℕ, suc, ◌+◌, ◌-◌, ◌*◌, ◌<◌, ◌≤◌, ◌==◌, inl, inr, true, false, Bool, List, [], ◌∷◌, length, length-append, refl, ap, sym, ◌∙◌, arith, slice_index, list_any, sum_by, cases_Bool, eq-eqb, eqb-true, false_from_ne_true, false≢true, le-ltb, lt-ltb, length-map, sum_by-cons, Words, IsText, image_of, Blocks, blocks_of, holding_of, is_among, last_word, entered_of, Node, Block, Landed, X, Graph, edges_in, IsEdgeIn, IsGraph, IsNodeIn, is_node, node_number, Open, is_copied, jumps_in, cut, Each, each-then, IsGraphOf, opens_in, case_numbers, text_graph, Plan}
+use Rattle.std.proofs.lemmas.Bool.{or_cases}
+use Rattle.cfg_normal.specs.Opens.{compares_in}
 use Rattle.cfg_normal.proofs.GraphFacts.{is_graph}
-use Rattle.cfg_walk.proofs.Cut.{IsCut, cut, entry_leads}
+use Rattle.cfg_walk.proofs.Cut.{IsCut, entry_leads}
 use Rattle.cfg_walk.proofs.Holding.{first_held}
-use Rattle.cfg_walk.proofs.Lists.{Each, each-then}
 use Rattle.switch_runs.specs.Cases.{IsOpenSwitch}
 use Rattle.switch_runs.proofs.About.{about}
 use Rattle.switch_runs.proofs.Opened.{opens_are}
-use Rattle.image_code.specs.Graphs.{IsGraphOf, opens_in}
-use Rattle.image_code.specs.Numbered.{case_numbers, cases_of}
-use Rattle.image_code.proofs.OpenBlocks.{are_open, is_list, text_graph}
-use Rattle.tool_kit.specs.Plans.{Plan}
+use Rattle.image_code.specs.Numbered.{cases_of}
+use Rattle.image_code.proofs.OpenBlocks.{are_open, is_list}
 use Rattle.edit_core.specs.Written.{given_of, graph_in, text_of}
 
 pub graph_is : (original : List ℕ) (plan : Plan) → IsGraphOf (text_of original plan) (graph_in original plan)

@@ -1,28 +1,9 @@
 -- Where the tables lead: to places of pieces that are there.
-use Rattle.std.proofs.Common.{◌≡◌, ℕ, ◌+◌, ◌^◌, ◌<◌, ◌≤◌, List, length, map, get_or, slice_index, ap, sym, ◌∙◌, arith, All}
-use Rattle.std.proofs.lemmas.Simd.{map-map}
-use Rattle.std.proofs.lemmas.List.{get_or-map, length-map}
+use Rattle.edit_core.proofs.Common.{◌≡◌, ℕ, ◌+◌, ◌^◌, ◌<◌, ◌≤◌, List, length, map, get_or, slice_index, ap, sym, ◌∙◌, arith, All, map-map, get_or-map, length-map, Words, IsText, PieceNo, Program, TableAt, below, holding_of, Graph, block, node_is, Item, Placement, long_bytes, AreFit, PiecesFit, IsGraphOf, lands_at, case_numbers, text_graph, Op}
 use Rattle.std.proofs.lemmas.Option.{slice_get-get_or}
-use Rattle.eel_base.specs.CodeText.{Words}
-use Rattle.eel_base.specs.Code.{IsText}
-use Rattle.eel_base.specs.declared.numbers.PieceNo.{PieceNo}
-use Rattle.elf32_sparc.specs.Image.{Program}
-use Rattle.addr_translate.specs.Lookup.{TableAt}
-use Rattle.cfg_blocks.specs.Blocks.{below, holding_of}
 use Rattle.cfg_blocks.proofs.Below.{get_or-below, length-below}
-use Rattle.cfg_normal.specs.Graph.{Graph}
-use Rattle.cfg_walk.proofs.Edges.{block}
 use Rattle.cfg_walk.proofs.Holding.{in_held}
-use Rattle.cfg_walk.proofs.Leaving.{node_is}
-use Rattle.layout.specs.declared.items.Item.{Item}
-use Rattle.layout.specs.Laid.{Placement, long_bytes}
-use Rattle.image_code.specs.Fit.{AreFit, PiecesFit}
-use Rattle.image_code.specs.Graphs.{IsGraphOf}
-use Rattle.image_code.specs.Made.{lands_at}
-use Rattle.image_code.specs.Numbered.{case_numbers}
-use Rattle.image_code.proofs.OpenBlocks.{text_graph}
 use Rattle.image_code.proofs.OpenNumbers.{enter_below}
-use Rattle.snippets.specs.declared.snippet.Op.{Op}
 use Rattle.edit_core.specs.declared.requests.Request.{Request}
 use Rattle.edit_core.specs.Written.{addr, case_places, cells_size, entry_number, landings_of, table_after, tables_size, AreTablesOf, TablesMatch}
 use Rattle.edit_core.specs.Private.{AreInside, AreLaid, AreMade, HasRoom, IsBuilt}

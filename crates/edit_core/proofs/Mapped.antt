@@ -1,17 +1,10 @@
 -- The words of the code in the memory of a written file.
-use Rattle.std.proofs.Common.{◌≡◌, ℕ, zero, suc, ◌+◌, ◌-◌, ◌*◌, ◌^◌, ◌<◌, ◌≤◌, Bool, false, ◌&&◌, nat_le, max, List, [], ◌∷◌, ◌++◌, length, drop, map, slice_index, Some, None, refl, ap, ◌∙◌, arith, All}
-use Rattle.std.specs.List.{find, fold}
+use Rattle.edit_core.proofs.Common.{◌≡◌, ℕ, zero, suc, ◌+◌, ◌-◌, ◌*◌, ◌^◌, ◌<◌, ◌≤◌, Bool, false, ◌&&◌, nat_le, List, [], ◌∷◌, ◌++◌, length, drop, map, slice_index, Some, None, refl, ap, ◌∙◌, arith, All, find, le-leb, lt-leb, find-append, nat_tests, big_number, big_bytes, ProgramHeader, program_headers, loadable, Mapping, mapping_of, mappings, image_of, segment_of, words_bytes, kept}
+use Rattle.std.proofs.Common.{max}
+use Rattle.std.specs.List.{fold}
 use Rattle.std.proofs.Math.Seq.{drop-append-add}
-use Rattle.std.proofs.lemmas.Bool.{le-leb, lt-leb}
-use Rattle.std.proofs.lemmas.List.Folds.{find-append}
-use Rattle.std.proofs.lemmas.Bool.Decides.{nat_tests}
-use Rattle.byteorder.specs.Endian.{big_number, big_bytes}
 use Rattle.byteorder.specs.Numbers.{big_number-reads_back}
-use Rattle.elf32_sparc.specs.declared.header.ProgramHeader.{ProgramHeader}
-use Rattle.elf32_sparc.specs.Header.{program_headers, loadable}
-use Rattle.elf32_sparc.specs.Mapping.{Mapping, mapping_of, mappings}
-use Rattle.elf32_sparc.specs.Image.{image_of, segment_of, segment_end}
-use Rattle.elf32_write.specs.Kept.{words_bytes, kept}
+use Rattle.elf32_sparc.specs.Image.{segment_end}
 use Rattle.edit_core.specs.Faithful.{word_mapped}
 use Rattle.edit_core.specs.Written.{if_any}
 use Rattle.edit_core.proofs.Fronts.{passed, past_any}

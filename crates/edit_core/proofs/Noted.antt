@@ -1,36 +1,15 @@
 -- The notes on an edit meet their rules.
-use Rattle.std.proofs.Common.{◌≡◌, ℕ, zero, suc, ◌+◌, ◌*◌, ◌%◌, ◌^◌, ◌<◌, ◌≤◌, ◌==◌, true, false, Option, Some, None, List, [], ◌∷◌, ◌++◌, length, length-append, map, refl, ap, sym, ◌∙◌, subst, arith}
-use Rattle.std.specs.Prelude.{slice_index}
-use Rattle.std.specs.List.{flat_map, list_any}
-use Rattle.std.proofs.lemmas.Grind.{get_or_default_zero}
-use Rattle.std.proofs.lemmas.Bool.{and_from, eq-eqb, le-leb, lt-ltb, ne_eqb, or_left, or_right}
-use Rattle.byteorder.specs.Endian.{big_bytes}
+use Rattle.edit_core.proofs.Common.{◌≡◌, ℕ, zero, suc, ◌+◌, ◌*◌, ◌%◌, ◌^◌, ◌<◌, ◌≤◌, ◌==◌, true, false, Option, Some, None, List, [], ◌∷◌, ◌++◌, length, length-append, map, refl, ap, sym, ◌∙◌, subst, arith, slice_index, flat_map, list_any, get_or_default_zero, and_from, eq-eqb, le-leb, lt-ltb, or_left, or_right, big_bytes, Words, address_of, IsText, Notes, NoteRange, NoteSegment, holds, AreNotes, are_ranges, AddedSegment, notes_bytes, notes_words, EdgeKind, AreFirsts, Edge, Node, Block, Landed, X, Graph, IsEdgeIn, IsNodeIn, node_number, Each, each-append, each-then, Ascend, Placement, Op, Count, WorksBelow, WorksIn, cells_end, ToolKind, AreCounters}
+use Rattle.std.proofs.lemmas.Bool.{ne_eqb}
 use Rattle.byteorder.specs.Numbers.{length-bytes_high_first}
 use Rattle.elf32_write.proofs.WordsBytes.{length-flat_map}
-use Rattle.eel_base.specs.CodeText.{Words, address_of}
-use Rattle.eel_base.specs.Code.{IsText}
-use Rattle.notes.specs.Format.{Notes, NoteRange, NoteSegment, follows, holds, is_version}
-use Rattle.notes.specs.Rules.{AreNotes, are_segments, are_blocks, are_edges, are_ranges, is_edge, is_free}
+use Rattle.notes.specs.Format.{follows, is_version}
+use Rattle.notes.specs.Rules.{are_segments, are_blocks, are_edges, is_edge, is_free}
 use Rattle.notes.specs.Laws.{AreWords}
-use Rattle.elf32_write.specs.Headers.{AddedSegment}
-use Rattle.notes.specs.Written.{words_bytes, notes_bytes, notes_words, segment_words, edge_words, range_words, cell_word}
-use Rattle.cfg_blocks.specs.declared.EdgeKind.{EdgeKind}
-use Rattle.cfg_blocks.specs.Code.{AreFirsts, IsAscending}
-use Rattle.cfg_normal.specs.declared.Edge.{Edge}
-use Rattle.cfg_normal.specs.declared.Node.{Node}
-use Rattle.cfg_normal.specs.declared.Node.TheVariants.{Block, Landed, X}
-use Rattle.cfg_normal.specs.Graph.{Graph}
-use Rattle.cfg_normal.specs.Code.{IsEdgeIn, IsNodeIn}
-use Rattle.cfg_normal.specs.Numbers.{node_number, kind_number}
-use Rattle.cfg_walk.proofs.Lists.{Each, each-append, each-then}
-use Rattle.layout.specs.Laid.{Ascend, Placement}
-use Rattle.snippets.specs.declared.snippet.Op.{Op}
-use Rattle.snippets.specs.declared.snippet.Op.TheVariants.{Count}
-use Rattle.snippets.specs.Cells.{WorksBelow, WorksIn}
-use Rattle.snippets.specs.Ops.{cells_end}
-use Rattle.tool_kit.specs.declared.edge_ref.ToolKind.{ToolKind}
+use Rattle.notes.specs.Written.{words_bytes, segment_words, edge_words, range_words, cell_word}
+use Rattle.cfg_blocks.specs.Code.{IsAscending}
+use Rattle.cfg_normal.specs.Numbers.{kind_number}
 use Rattle.tool_kit.specs.declared.edge_ref.ToolKind.TheVariants as tools
-use Rattle.tool_kit.specs.Plans.{AreCounters}
 use Rattle.edit_core.specs.Faithful.{cell_noted, editor_page, note_edge, note_edges, page_size}
 use Rattle.edit_core.specs.Written.{cells_at, code_at, if_any, off_range, off_ranges, page_segment, segment_noted, segments_noted, table_after, table_at}
 use Rattle.edit_core.proofs.Fronts.{any-map, any_length, any_past, each_any}

@@ -1,27 +1,14 @@
 -- The place of a slot behind the text: that of each edge which runs one.
-use Rattle.std.proofs.Common.{◌≡◌, ℕ, zero, suc, ◌+◌, ◌-◌, ◌<◌, ◌≤◌, ◌⊎◌, inl, inr, Bool, true, false, ◌&&◌, cond, nat_le, nat_lt, List, [], ◌∷◌, ◌++◌, filter, length, map, Option, Some, None, refl, ap, sym, ◌∙◌, arith}
-use Rattle.std.specs.Prelude.{slice_get}
-use Rattle.std.specs.List.{find, flat_map}
-use Rattle.std.specs.Option.{option_map, option_or, option_to_list}
-use Rattle.std.proofs.lemmas.Bool.{cases_Bool, cases_lt, cond_both, false_from_ne_true, false≢true, le-leb, lt-ltb}
-use Rattle.std.proofs.lemmas.Bool.Decides.{nat_tests}
-use Rattle.std.proofs.lemmas.List.Folds.{find-append}
-use Rattle.eel_base.specs.CodeText.{Words}
-use Rattle.notes.specs.Format.{NoteRange}
-use Rattle.cfg_blocks.specs.declared.EdgeKind.{EdgeKind}
+use Rattle.edit_core.proofs.Common.{◌≡◌, ℕ, zero, suc, ◌+◌, ◌-◌, ◌<◌, ◌≤◌, ◌⊎◌, inl, inr, Bool, true, false, ◌&&◌, cond, nat_le, nat_lt, List, [], ◌∷◌, ◌++◌, length, map, Option, Some, None, refl, ap, sym, ◌∙◌, arith, slice_get, find, flat_map, option_map, option_or, cases_Bool, cases_lt, cond_both, false_from_ne_true, false≢true, le-leb, lt-ltb, nat_tests, find-append, Words, NoteRange, EdgeKind, AreFirsts, Blocks, below, last_word, Edge, Node, Block, Graph, edges_in, Open, is_copied, jumps_in, Each, each, each-append, range_in}
+use Rattle.std.proofs.Common.{filter}
+use Rattle.std.specs.Option.{option_to_list}
 use Rattle.cfg_blocks.specs.declared.EdgeKind.TheVariants as kinds
-use Rattle.cfg_blocks.specs.Code.{AreFirsts}
-use Rattle.cfg_blocks.specs.Blocks.{Blocks, below, end_of, last_word}
+use Rattle.cfg_blocks.specs.Blocks.{end_of}
 use Rattle.cfg_blocks.specs.Entries.{ways_from}
-use Rattle.cfg_normal.specs.declared.Edge.{Edge}
-use Rattle.cfg_normal.specs.declared.Node.{Node}
-use Rattle.cfg_normal.specs.declared.Node.TheVariants.{Block}
 use Rattle.cfg_normal.specs.declared.Slot.TheVariants as slots
-use Rattle.cfg_normal.specs.Graph.{Graph, case_nodes, case_of, copied_edges, edge_of, edges_in, edges_of, landing_at, landings_of, runs_slot, slot_behind, slot_on, ways_out}
-use Rattle.cfg_normal.specs.Opens.{Open, is_copied, jumps_in}
+use Rattle.cfg_normal.specs.Graph.{case_nodes, case_of, copied_edges, edge_of, edges_of, landing_at, landings_of, runs_slot, slot_behind, slot_on, ways_out}
 use Rattle.cfg_walk.proofs.Edges.{block as block_at, copy, each_edge}
-use Rattle.cfg_walk.proofs.Lists.{Each, each, each-append, each-below, each-flat_map, each-map, each_at}
-use Rattle.layout.specs.Laid.{range_in}
+use Rattle.cfg_walk.proofs.Lists.{each-below, each-flat_map, each-map, each_at}
 use Rattle.edit_core.specs.Written.{is_behind, is_off, off_range, off_ranges}
 
 -- ---- one that passes is found

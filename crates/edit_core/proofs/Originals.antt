@@ -1,12 +1,10 @@
 -- What a file that can be edited has.
-use Rattle.std.proofs.Common.{◌≡◌, ℕ, ◌+◌, ◌-◌, ◌*◌, ◌/◌, ◌^◌, ◌≤◌, min, List, map, Option, Some, None, refl, arith}
+use Rattle.edit_core.proofs.Common.{◌≡◌, ℕ, ◌+◌, ◌-◌, ◌*◌, ◌^◌, ◌≤◌, min, List, map, Option, Some, None, refl, arith, IsText, ProgramHeader, program_headers, loadable, fault, segment_of, highest_end, image_of, accepted}
+use Rattle.std.proofs.Common.{◌/◌}
 use Rattle.std.specs.Option.{option_map_or}
-use Rattle.eel_base.specs.Code.{IsText}
-use Rattle.elf32_sparc.specs.declared.header.ProgramHeader.{ProgramHeader}
-use Rattle.elf32_sparc.specs.Header.{program_headers, loadable, text_header}
-use Rattle.elf32_sparc.specs.FileFault.{fault}
-use Rattle.elf32_sparc.specs.Image.{text_from, text_of, no_text, segment_of, highest_end, image_of}
-use Rattle.elf32_sparc.proofs.Accepted.{Accepted, IsFit, accepted, has_text, text_is_fit}
+use Rattle.elf32_sparc.specs.Header.{text_header}
+use Rattle.elf32_sparc.specs.Image.{text_from, text_of, no_text}
+use Rattle.elf32_sparc.proofs.Accepted.{Accepted, IsFit, has_text, text_is_fit}
 
 text_is : (file : List ℕ) → Accepted file → (found : Option ProgramHeader) → text_header (program_headers file) ≡ found
     → IsText (option_map_or (text_from file) found no_text)

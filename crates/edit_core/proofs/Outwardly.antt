@@ -1,36 +1,16 @@
 -- Of a faithful edit all can be seen from outside that its original shows.
-use Rattle.std.proofs.Common.{◌≡◌, ℕ, suc, ◌+◌, ◌-◌, ◌^◌, ◌&&◌, not, ◌≤◌, inl, inr, true, false, List, [], ◌∷◌, ◌++◌, length, map, Option, Some, None, refl, ap, sym, ◌∙◌, arith, append-nil, append_assoc}
-use Rattle.std.specs.List.{list_any}
-use Rattle.std.proofs.lemmas.Bool.{and_parts, or_parts}
-use Rattle.std.proofs.lemmas.Bool.Decides.{nat_tests}
-use Rattle.std.proofs.lemmas.List.{map-append}
-use Rattle.std.proofs.lemmas.Simd.{map-map}
-use Rattle.notes.specs.Format.{Notes, NoteSegment, range_at}
-use Rattle.elf32_sparc.specs.declared.header.ProgramHeader.{ProgramHeader}
+use Rattle.edit_core.proofs.Common.{◌≡◌, ℕ, suc, ◌+◌, ◌-◌, ◌^◌, ◌&&◌, not, ◌≤◌, inl, inr, true, false, List, [], ◌∷◌, ◌++◌, length, map, Option, Some, None, refl, ap, sym, ◌∙◌, arith, append-nil, list_any, and_parts, or_parts, nat_tests, map-append, map-map, Notes, NoteSegment, range_at, ProgramHeader, loadable, program_headers, image_of, Mapping, mapping_of, mappings, kept, region_of, Span, IsApart, IsApartFromAll, AllApart, Ending, State, AreBytes, run, run_puts, puts_nothing, stays_ended, Answers, if_live, in_pages, pages_of, own_trail, trail_of, visit_of, visited, AreArguments, program_name, stack_region, start_memory, start_of, Plan}
+use Rattle.std.proofs.Common.{append_assoc}
 use Rattle.elf32_sparc.specs.FileFault.{has_memory_outside_a_run, is_last_page, leaves_room, load_fault}
-use Rattle.elf32_sparc.specs.Header.{loadable, program_headers}
-use Rattle.elf32_sparc.specs.Image.{image_of}
-use Rattle.elf32_sparc.specs.Mapping.{Mapping, mapping_of, mappings}
 use Rattle.elf32_sparc.proofs.Loadable.{loadable_file}
-use Rattle.elf32_write.specs.Kept.{kept}
-use Rattle.v8_memory.specs.Segments.{region_of}
-use Rattle.v8_memory.specs.Spans.{Span, IsApart, IsApartFromAll, AllApart}
 use Rattle.v8_memory.specs.Code.{are_apart, heap_span, is_apart, is_apart_from, span_of, span_of_mapping}
-use Rattle.v8_step.specs.declared.Ending.{Ending}
 use Rattle.v8_step.specs.declared.Ending.TheVariants.{Exit}
-use Rattle.v8_step.specs.State.{State, AreBytes}
-use Rattle.v8_step.specs.Run.{run, run_puts}
-use Rattle.v8_step.proofs.Live.{puts_nothing, stays_ended}
 use Rattle.two_runs.specs.Refused.{HasBuffers, IsGranted, is_refusal}
 use Rattle.two_runs.specs.Code.{IsUnmapped}
-use Rattle.two_runs.specs.TwoRuns.{Answers}
-use Rattle.two_runs.specs.Visits.{if_live, in_pages, page_of, pages_of, own_trail, trail_of, visit_of, visited}
+use Rattle.two_runs.specs.Visits.{page_of}
 use Rattle.two_runs.proofs.Unmapped.{granted_is_untouched, unmapped_is_untouched}
 use Rattle.cfg_walk.proofs.Walks.{lived_to}
-use Rattle.v8_process.specs.Arguments.{AreArguments}
-use Rattle.v8_process.specs.Start.{program_name, stack_region, start_memory, start_of}
 use Rattle.v8_process.proofs.Loading.{mapped_apart}
-use Rattle.tool_kit.specs.Plans.{Plan}
 use Rattle.edit_core.specs.Faithful.{HasPages, IsFaithful, note_of}
 use Rattle.edit_core.specs.Code.{EditsAreUntouched, EditsCrashAlike, EditsDoTheSame, GrantedRunsAreAlike}
 use Rattle.edit_core.specs.Outwardly.{LooksAs, RunsLike}

@@ -1,36 +1,14 @@
 -- The words of the tables, of the cells and of the editor's page, in the memory with which a written file starts.
-use Rattle.std.proofs.Common.{◌≡◌, ℕ, zero, suc, ◌+◌, ◌-◌, ◌*◌, ◌^◌, ◌<◌, ◌≤◌, ◌⊎◌, inl, inr, Bool, true, false, cond, List, [], ◌∷◌, ◌++◌, length, length-append, map, replicate, take, drop, Option, Some, None, refl, ap, ◌∙◌, arith}
-use Rattle.std.specs.List.{find, range_with_len}
-use Rattle.std.specs.Option.{option_map, option_or}
-use Rattle.std.proofs.lemmas.Bool.{and_from, cases_Bool, cases_lt, cond_both, false_from_ne_true, le-leb, lt-leb}
-use Rattle.std.proofs.lemmas.Bool.Decides.{nat_tests}
-use Rattle.std.specs.Int.{from_be_bytes, w32}
-use Rattle.std.proofs.lemmas.List.{append-nil, append_assoc, drop-replicate, length-drop, take-replicate, length-replicate, map-append}
-use Rattle.std.proofs.lemmas.List.Folds.{find-append}
-use Rattle.eel_base.specs.CodeText.{Words}
-use Rattle.elf32_sparc.specs.Mapping.{Mapping, mappings}
-use Rattle.elf32_sparc.proofs.Images.{accepted-program}
-use Rattle.elf32_write.specs.Headers.{AddedSegment}
-use Rattle.elf32_write.specs.Kept.{kept}
-use Rattle.elf32_write.specs.Laws.{mapping_added}
-use Rattle.v8_memory.specs.Regions.{Memory, Region, covers, region_at}
-use Rattle.v8_memory.specs.Segments.{empty_heap, heap_room, heap_start, region_of}
-use Rattle.v8_memory.specs.Spans.{IsApart, IsApartFromAll, Span}
-use Rattle.v8_process.specs.Start.{start_memory, stack_region}
+use Rattle.edit_core.proofs.Common.{◌≡◌, ℕ, zero, suc, ◌+◌, ◌-◌, ◌*◌, ◌^◌, ◌<◌, ◌≤◌, ◌⊎◌, inl, inr, Bool, true, false, cond, List, [], ◌∷◌, ◌++◌, length, length-append, map, replicate, take, drop, Option, Some, None, refl, ap, ◌∙◌, arith, find, range_with_len, option_map, option_or, and_from, cases_Bool, cases_lt, cond_both, false_from_ne_true, le-leb, lt-leb, nat_tests, from_be_bytes, w32, append_assoc, length-replicate, map-append, find-append, Words, Mapping, mappings, accepted-program, AddedSegment, kept, mapping_added, Region, region_of, IsApart, IsApartFromAll, Span, start_memory, stack_region, memory_word, Notes, NoteSegment, halves_size, TableAt, Placement, EditSetup, EditorData, pages_of, cell_at, Plan}
+use Rattle.std.proofs.lemmas.List.{append-nil, drop-replicate, length-drop, take-replicate}
+use Rattle.v8_memory.specs.Regions.{Memory, covers, region_at}
+use Rattle.v8_memory.specs.Segments.{empty_heap, heap_room, heap_start}
 use Rattle.code_runs.specs.Ours.{HasNot, HasWordAt, IsAmongWords, IsIn, IsOurs}
 use Rattle.code_runs.specs.Page.{page_word}
-use Rattle.code_runs.specs.StoredWords.{memory_word, word_in}
-use Rattle.notes.specs.Format.{Notes, NoteSegment}
-use Rattle.addr_translate.specs.Halves.{halves_size}
-use Rattle.addr_translate.specs.Lookup.{TableAt}
+use Rattle.code_runs.specs.StoredWords.{word_in}
 use Rattle.addr_translate.specs.Translator.{StandsAt}
 use Rattle.addr_translate.proofs.Regions.{regions_stand}
-use Rattle.layout.specs.Laid.{Placement}
-use Rattle.image_code.specs.Simulates.{EditSetup}
-use Rattle.image_code.specs.Images.{EditorData, HasTable, IsEditorData, IsTableIn}
-use Rattle.two_runs.specs.Visits.{pages_of}
-use Rattle.snippet_code.specs.Cells.{cell_at}
-use Rattle.tool_kit.specs.Plans.{Plan}
+use Rattle.image_code.specs.Images.{HasTable, IsEditorData, IsTableIn}
 use Rattle.edit_core.specs.Faithful.{editor_page, page_size}
 use Rattle.edit_core.specs.Written.{IsEdit, TablesMatch, cells_at, cells_base, code_base, code_segment, cases_table, first_table, graph_in, if_any, notes_on, page_segment, second_table, segment_size, table_at, table_base, tables_size, text_of}
 use Rattle.edit_core.proofs.Fronts.{any-map, any_none, any_some}

@@ -1,26 +1,12 @@
 -- What laid code has: words, and ranges that notes may have.
-use Rattle.std.proofs.Common.{◌≡◌, ℕ, zero, suc, ◌+◌, ◌*◌, ◌%◌, ◌^◌, ◌<◌, ◌≤◌, true, nat_lt, nat_le, Option, Some, None, List, [], ◌∷◌, ◌++◌, length, map, refl, ap, sym, ◌∙◌, arith}
-use Rattle.std.specs.Prelude.{slice_get}
-use Rattle.std.specs.List.{flat_map, list_any}
-use Rattle.std.proofs.lemmas.Bool.{and_from, cond_both, le-leb, le-ltb, lt-ltb, eq-eqb}
-use Rattle.std.proofs.lemmas.Option.{slice_get_within}
-use Rattle.eel_base.specs.CodeText.{Words, address_of}
-use Rattle.eel_base.specs.Code.{IsText}
-use Rattle.notes.specs.Format.{NoteSegment, NoteRange, holds}
-use Rattle.notes.specs.Rules.{are_ranges}
-use Rattle.cfg_blocks.specs.Blocks.{below}
-use Rattle.cfg_normal.specs.Graph.{Graph}
-use Rattle.cfg_walk.proofs.Lists.{Each}
-use Rattle.layout.specs.declared.items.Item.{Item}
+use Rattle.edit_core.proofs.Common.{◌≡◌, ℕ, zero, suc, ◌+◌, ◌*◌, ◌%◌, ◌^◌, ◌<◌, ◌≤◌, true, nat_lt, nat_le, Option, Some, None, List, [], ◌∷◌, ◌++◌, length, map, refl, ap, sym, ◌∙◌, arith, slice_get, flat_map, list_any, and_from, cond_both, le-leb, le-ltb, lt-ltb, eq-eqb, slice_get_within, Words, address_of, IsText, NoteSegment, NoteRange, holds, are_ranges, below, Graph, Each, Item, Ascend, IsLaid, IsRangeOf, Placement, item_at, range_in, piece_list, IsGraphOf, each_index}
 use Rattle.layout.specs.declared.items.Item.TheVariants as it
-use Rattle.layout.specs.Laid.{Ascend, IsLaid, IsRangeOf, Placement, item_at, item_in, items_in, range_in, range_of, open_in, end_from, is_end}
+use Rattle.layout.specs.Laid.{item_in, items_in, range_of, open_in, end_from, is_end}
 use Rattle.image_code.specs.declared.shape.Exit.TheVariants as exits
 use Rattle.image_code.specs.declared.shape.Head.{Head}
 use Rattle.image_code.specs.declared.shape.Visit.{Visit}
 use Rattle.image_code.specs.Shapes.{Shape, assembled, bare, exit_items, head_items, items_of, mark_items}
-use Rattle.image_code.specs.Made.{all_cases, all_ways, images_in_order, landing, open_pieces, piece_list, shape_list}
-use Rattle.image_code.specs.Graphs.{IsGraphOf}
-use Rattle.image_code.proofs.OpenNumbers.{each_index}
+use Rattle.image_code.specs.Made.{all_cases, all_ways, images_in_order, landing, open_pieces, shape_list}
 use Rattle.image_code.proofs.Fit.{piece_shaped}
 use Rattle.image_code.proofs.Shapes.{HasFirst, IsVisit, first_mark, first_of}
 use Rattle.edit_core.proofs.Graphs.{IsNumber, number_of}

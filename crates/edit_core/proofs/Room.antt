@@ -1,8 +1,5 @@
 -- How many bytes the tables have at most.
-use Rattle.std.proofs.Common.{ℕ, ◌+◌, ◌*◌, ◌^◌, ◌≤◌, length, arith}
-use Rattle.eel_base.specs.CodeText.{Words}
-use Rattle.eel_base.specs.Code.{IsText}
-use Rattle.addr_translate.specs.Halves.{halves_size}
+use Rattle.edit_core.proofs.Common.{ℕ, ◌+◌, ◌*◌, ◌^◌, ◌≤◌, length, arith, Words, IsText, halves_size}
 use Rattle.edit_core.specs.Written.{cells_size, tables_size}
 
 second_small : (t : Words) → IsText t → halves_size t ≤ 397312 + 4 * length t.words

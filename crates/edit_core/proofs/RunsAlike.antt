@@ -1,65 +1,25 @@
 -- What was written of an original has runs like the original's.
-use Rattle.std.proofs.Common.{◌≡◌, ℕ, suc, ◌+◌, ◌-◌, ◌*◌, ◌%◌, ◌^◌, ◌<◌, ◌≤◌, ◌⊎◌, inl, inr, true, false, nat_le, nat_lt, List, [], ◌∷◌, ◌++◌, length, map, replicate, slice_index, Option, Some, None, refl, ap, sym, ◌∙◌, subst, arith}
-use Rattle.std.specs.Prelude.{slice_get}
-use Rattle.std.specs.List.{list_any}
-use Rattle.std.proofs.lemmas.Option.{get_or_from_slice_get, slice_get_within}
-use Rattle.std.proofs.lemmas.Bool.{and_from, cases_lt, false_from_ne_true, le-leb, le-ltb, lt-leb, or_left, or_parts, or_right}
-use Rattle.std.proofs.lemmas.Bool.Decides.{nat_tests}
+use Rattle.edit_core.proofs.Common.{◌≡◌, ℕ, suc, ◌+◌, ◌-◌, ◌*◌, ◌%◌, ◌^◌, ◌<◌, ◌≤◌, ◌⊎◌, inl, inr, true, false, nat_le, nat_lt, List, [], ◌∷◌, ◌++◌, length, map, replicate, slice_index, Option, Some, None, refl, ap, sym, ◌∙◌, subst, arith, slice_get, list_any, get_or_from_slice_get, slice_get_within, and_from, cases_lt, false_from_ne_true, le-leb, le-ltb, lt-leb, or_left, or_parts, or_right, nat_tests, length-replicate, map-map, NoteRange, NoteSegment, Notes, holds, range_at, image_of, IsText, Words, word_at, Addr, Part, has, is_member, set_of, State, AreBytes, NoSlot, IsSameAt, StateItem, Register, IsUntouched, in_pages, pages_of, AreArguments, program_name, start_of, below, blocks_of, is_among, word_at-some, Edge, Node, Block, Graph, node_of, BeginsAt, FetchesOnly, Point, end_of_walk, point_of, same_kind, edge_at, is_call_or_jump, is_outside, is_unknown, named_on, entered_of, view_of, HoldsText, TableAt, Ascend, HasShortForms, IsLaid, Placement, range_in, memory_word, cell_at, Plan, PiecesFit, CaseTable, IsNoLoad, EditSetup, edit_in, snippet_on, EditorData, AtVisit, codes_of, lands_at, piece_list, IsOffPages, are_tables, table_of, cased, accepted-program}
 use Rattle.std.proofs.Math.Seq.{ext_get_or}
-use Rattle.std.proofs.lemmas.List.{get_or-replicate, length-replicate}
+use Rattle.std.proofs.lemmas.List.{get_or-replicate}
 use Rattle.std.proofs.lemmas.List.FromFn.{get_or-map-range_with_len, length-map-range_with_len}
-use Rattle.std.proofs.lemmas.Simd.{map-map}
-use Rattle.notes.specs.Format.{NoteRange, NoteSegment, Notes, holds, range_at}
-use Rattle.elf32_sparc.specs.Image.{image_of}
-use Rattle.eel_base.specs.Code.{IsText}
-use Rattle.eel_base.specs.CodeText.{Words, word_at}
-use Rattle.eel_base.specs.declared.numbers.Addr.{Addr}
-use Rattle.v8_decode.specs.declared.Part.{Part}
-use Rattle.v8_decode.specs.Parts.{every_part, has, is_member, members, set_of}
+use Rattle.v8_decode.specs.Parts.{every_part, members}
 use Rattle.v8_decode.proofs.Marks.{same_sets}
-use Rattle.v8_step.specs.State.{State, AreBytes}
-use Rattle.v8_step.specs.declared.Slot.TheVariants.{NoSlot}
-use Rattle.v8_step.specs.Items.{IsSameAt, StateItem, Register}
-use Rattle.two_runs.specs.Needed.{IsUntouched}
-use Rattle.two_runs.specs.Visits.{in_pages, pages_of}
-use Rattle.v8_process.specs.Arguments.{AreArguments}
-use Rattle.v8_process.specs.Start.{program_name, start_of}
-use Rattle.cfg_blocks.specs.Blocks.{below, blocks_of, is_among}
-use Rattle.cfg_blocks.proofs.Targets.{word_at-some}
 use Rattle.cfg_blocks.specs.declared.EdgeKind.TheVariants as kinds
-use Rattle.cfg_normal.specs.declared.Edge.{Edge}
-use Rattle.cfg_normal.specs.declared.Node.{Node}
-use Rattle.cfg_normal.specs.declared.Node.TheVariants.{Block}
-use Rattle.cfg_normal.specs.Graph.{Graph, node_of}
-use Rattle.cfg_walk.specs.Matches.{AreOpen, BeginsAt, FetchesOnly, JumpsGoByCase}
-use Rattle.cfg_walk.specs.Walk.{Point, end_of_walk, point_of}
-use Rattle.cfg_normal.specs.Nodes.{same_kind}
-use Rattle.liveness.specs.Live.{edge_at, is_call_or_jump, is_outside, is_unknown, named_on}
-use Rattle.cfg_blocks.specs.Entries.{entered_of}
-use Rattle.cfg_view.specs.View.{view_of}
+use Rattle.cfg_walk.specs.Matches.{AreOpen, JumpsGoByCase}
 use Rattle.cfg_view.proofs.Given.{entry_leads}
 use Rattle.walk_counts.proofs.Fetching.{only_text_is_fetched}
 use Rattle.walk_counts.proofs.Files.{begins, by_case, entry_is, opened}
-use Rattle.switch_runs.specs.Held.{HoldsText}
 use Rattle.switch_runs.proofs.Starts.{text_is_held}
 use Rattle.addr_translate.specs.Halves.{found_in}
-use Rattle.addr_translate.specs.Lookup.{TableAt}
 use Rattle.addr_translate.specs.Table.{target_of}
-use Rattle.layout.specs.Laid.{Ascend, HasShortForms, IsLaid, Placement, range_in}
-use Rattle.code_runs.specs.StoredWords.{memory_word}
-use Rattle.snippet_code.specs.Cells.{cell_at, words_at}
-use Rattle.tool_kit.specs.Plans.{Plan}
-use Rattle.image_code.specs.Fit.{PiecesFit}
-use Rattle.image_code.specs.Simulates.{CaseTable, IsNoLoad, EditSetup, Simulates, edit_in}
+use Rattle.snippet_code.specs.Cells.{words_at}
+use Rattle.image_code.specs.Simulates.{Simulates}
 use Rattle.image_code.specs.Cost.{is_out}
-use Rattle.image_code.specs.Store.{Edit, snippet_on}
-use Rattle.image_code.specs.Images.{AreNoted, EditorData, HasCells, AtVisit, IsPlaced, Pieces}
+use Rattle.image_code.specs.Store.{Edit}
+use Rattle.image_code.specs.Images.{AreNoted, HasCells, IsPlaced, Pieces}
 use Rattle.image_code.proofs.Points.{visited_by}
-use Rattle.image_code.specs.SnippetWords.{codes_of}
-use Rattle.image_code.specs.Made.{IsOffNoted, IsTableFor, PiecesMakeImages, lands_at, piece_list, pieces_in}
-use Rattle.image_code.specs.Outside.{IsOffPages}
-use Rattle.image_code.proofs.CaseTables.{are_tables, table_of}
-use Rattle.image_code.proofs.Opened.{cased}
+use Rattle.image_code.specs.Made.{IsOffNoted, IsTableFor, PiecesMakeImages, pieces_in}
 use Rattle.edit_core.specs.Faithful.{editor_page, page_size}
 use Rattle.edit_core.specs.Runs.{CameFrom, Linked, RunFacts}
 use Rattle.edit_core.specs.Cost.{StoresLittle, TakesFewSteps, short_bound}
@@ -80,7 +40,6 @@ use Rattle.edit_core.proofs.Off.{off_here, off_is, ranges_beside}
 use Rattle.edit_core.proofs.Fronts.{any_past, passed, past_fails}
 use Rattle.edit_core.proofs.Originals.{image_text}
 use Rattle.edit_core.proofs.Snippets.{cells_in_range, code_short, good_on, snippet_does}
-use Rattle.elf32_sparc.proofs.Images.{accepted-program}
 use Rattle.edit_core.proofs.Owned.{cell_is_own, cell_zero, frame, has_cases, has_table, is_framed, owned}
 use Rattle.edit_core.proofs.Ranges.{ends_by}
 use Rattle.edit_core.proofs.Tables.{cases_for}

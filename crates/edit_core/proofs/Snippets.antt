@@ -1,15 +1,9 @@
 -- The code of good snippets.
-use Rattle.std.proofs.Common.{◌≡◌, ℕ, suc, ◌*◌, ◌%◌, ◌^◌, ◌<◌, ◌≤◌, inl, inr, List, [], ◌∷◌, length, get_or, arith, All}
-use Rattle.std.proofs.lemmas.Bool.{cases_lt}
-use Rattle.std.proofs.lemmas.List.{get_or_past, length-map}
-use Rattle.v8_decode.specs.declared.Part.{Part}
+use Rattle.edit_core.proofs.Common.{◌≡◌, ℕ, suc, ◌*◌, ◌%◌, ◌^◌, ◌<◌, ◌≤◌, inl, inr, List, [], ◌∷◌, length, get_or, arith, All, cases_lt, get_or_past, length-map, Part, Op, Count, WorksBelow, WorksIn, named_by, cells_end, cell_at, codes_of, snippet_on, IsGood}
 use Rattle.v8_encode.specs.Encoding.{word_of}
-use Rattle.snippets.specs.declared.snippet.Op.{Op}
-use Rattle.snippets.specs.declared.snippet.Op.TheVariants.{Add, Put, Keep, Top, Count, Log}
-use Rattle.snippets.specs.Cells.{WorksBelow, WorksIn, named_by}
-use Rattle.snippets.specs.Ops.{cell_of, cells_end}
+use Rattle.snippets.specs.declared.snippet.Op.TheVariants.{Add, Put, Keep, Top, Log}
+use Rattle.snippets.specs.Ops.{cell_of}
 use Rattle.snippet_code.specs.Code.{IsCellOf}
-use Rattle.snippet_code.specs.Cells.{cell_at}
 use Rattle.snippet_code.specs.Laws.{CanExpand, EndLow, HasBits}
 use Rattle.snippet_code.specs.Runs.{DoesJust}
 use Rattle.snippet_code.specs.Words.{snippet_words}
@@ -17,9 +11,6 @@ use Rattle.snippet_code.specs.Spills.{spills_of}
 use Rattle.snippet_code.proofs.Lengths.{costs_hold}
 use Rattle.snippet_code.proofs.WholeCode.{snippet_code_runs}
 use Rattle.image_code.specs.Fit.{AreShort}
-use Rattle.image_code.specs.SnippetWords.{codes_of}
-use Rattle.image_code.specs.Store.{snippet_on}
-use Rattle.tool_kit.specs.Good.{IsGood}
 
 -- no operation is good
 none_good : (cells : ℕ) → IsGood cells []

@@ -1,28 +1,13 @@
 -- An original and its written file start in valid states, which are the same but for the pages and where they stand.
-use Rattle.std.proofs.Common.{◌≡◌, ℕ, Bool, true, false, cond, nat_eq, List, [], ◌∷◌, ◌++◌, length, map, refl, ap, sym, ◌∙◌}
+use Rattle.edit_core.proofs.Common.{◌≡◌, ℕ, Bool, true, false, cond, nat_eq, List, [], ◌∷◌, ◌++◌, length, map, refl, ap, sym, ◌∙◌, and_assoc, has_flag, program_headers, Mapping, mappings, accepted, not_executable, is_code, kept, mapping_added, Span, AreBytes, IsValid, pages_of, AreArguments, start_memory, start_of, TableAt, Placement, Plan}
 use Rattle.std.specs.Prelude.{bit_and}
-use Rattle.std.proofs.lemmas.Nat.{and_assoc}
-use Rattle.elf32_sparc.specs.Header.{has_flag, program_headers}
 use Rattle.elf32_sparc.specs.FileFault.{has_bytes_outside}
-use Rattle.elf32_sparc.specs.Mapping.{Mapping, mappings}
-use Rattle.elf32_sparc.proofs.Accepted.{accepted}
 use Rattle.elf32_sparc.proofs.Loadable.{loads_inside}
-use Rattle.elf32_write.specs.Kept.{not_executable, is_code, kept}
-use Rattle.elf32_write.specs.Laws.{mapping_added}
 use Rattle.v8_memory.specs.Code.{IsSameOutside}
-use Rattle.v8_memory.specs.Spans.{Span}
-use Rattle.v8_step.specs.State.{AreBytes}
-use Rattle.v8_step.specs.Valid.{IsValid}
-use Rattle.two_runs.specs.Visits.{pages_of}
 use Rattle.v8_process.specs.Alike.{AreSameMappings, IsSameMapping, span_of}
-use Rattle.v8_process.specs.Arguments.{AreArguments}
-use Rattle.v8_process.specs.Start.{start_memory, start_of}
 use Rattle.v8_process.proofs.Alike.{starts_alike}
 use Rattle.v8_process.proofs.Arguments.{arguments_fit}
 use Rattle.v8_process.proofs.Valid.{mappings_have_room, starts_valid}
-use Rattle.addr_translate.specs.Lookup.{TableAt}
-use Rattle.layout.specs.Laid.{Placement}
-use Rattle.tool_kit.specs.Plans.{Plan}
 use Rattle.edit_core.specs.Written.{IsEdit, added, if_any, notes_on, graph_in, text_of}
 use Rattle.edit_core.proofs.Owned.{cells_span, spans_are}
 use Rattle.edit_core.proofs.Steps.{segment_is}

@@ -1,28 +1,12 @@
 -- What the parts of an edit give it.
-use Rattle.std.proofs.Common.{◌≡◌, ℕ, ◌+◌, ◌-◌, ◌*◌, ◌^◌, ◌<◌, ◌≤◌, min, List, [], ◌∷◌, ◌++◌, length, Err, refl, arith, All}
-use Rattle.std.specs.Prelude.{slice_index}
-use Rattle.std.proofs.lemmas.List.{length-map}
-use Rattle.eel_base.specs.Code.{IsText}
-use Rattle.eel_base.specs.CodeText.{Words}
-use Rattle.elf32_sparc.specs.Image.{Program, image_of}
-use Rattle.elf32_sparc.proofs.Images.{accepted-program}
-use Rattle.v8_decode.specs.declared.Part.{Part}
-use Rattle.cfg_normal.specs.Graph.{Graph}
-use Rattle.elf32_write.specs.Headers.{AddedSegment}
+use Rattle.edit_core.proofs.Common.{◌≡◌, ℕ, ◌+◌, ◌-◌, ◌*◌, ◌^◌, ◌<◌, ◌≤◌, min, List, [], ◌∷◌, ◌++◌, length, refl, arith, All, slice_index, length-map, IsText, Words, Program, image_of, accepted-program, Part, Graph, AddedSegment, TableAt, Item, Placement, long_bytes, long_is_enough, AreFit, PiecesFit, case_numbers, codes_of, Op, Plan}
+use Rattle.std.proofs.Common.{Err}
 use Rattle.elf32_write.specs.Laws.{AreBytes}
-use Rattle.addr_translate.specs.Lookup.{TableAt}
 use Rattle.layout.specs.declared.items.Placed.{Placed}
-use Rattle.layout.specs.declared.items.Item.{Item}
 use Rattle.layout.specs.declared.items.LayoutFault.{LayoutFault}
 use Rattle.layout.specs.declared.items.LayoutFault.TheVariants.{Room}
-use Rattle.layout.specs.Laid.{ArePieces, Placement, long_bytes}
+use Rattle.layout.specs.Laid.{ArePieces}
 use Rattle.layout.specs.Compact.{RoomIs}
-use Rattle.layout.proofs.Needed.{long_is_enough}
-use Rattle.image_code.specs.Fit.{AreFit, PiecesFit}
-use Rattle.image_code.specs.Numbered.{case_numbers}
-use Rattle.image_code.specs.SnippetWords.{codes_of}
-use Rattle.snippets.specs.declared.snippet.Op.{Op}
-use Rattle.tool_kit.specs.Plans.{Plan}
 use Rattle.edit_core.specs.declared.requests.Request.{Request}
 use Rattle.edit_core.specs.Taken.{CanEdit}
 use Rattle.edit_core.specs.Written.{added, cells_at, code_at, if_any, page_segment, table_at, CanDo, IsNewCode, TablesMatch, cases_at, cells_base, cells_size, entry_number, entry_of, graph_in, pieces_by, pieces_of, segment_size, table_after, table_base, tables_size, text_of}

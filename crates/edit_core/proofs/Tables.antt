@@ -1,22 +1,11 @@
 -- Tables, one behind the other.
-use Rattle.std.proofs.Common.{◌≡◌, ℕ, zero, suc, ◌+◌, ◌-◌, ◌*◌, ◌%◌, ◌^◌, ◌<◌, ◌≤◌, List, [], ◌∷◌, ◌++◌, length, length-append, replicate, take, drop, ap, sym, ◌∙◌, subst, arith}
-use Rattle.std.specs.Prelude.{slice_index}
-use Rattle.std.specs.Int.{w32, from_be_bytes}
-use Rattle.std.proofs.lemmas.List.{append_assoc, drop-drop, drop-take, get_or-map, length-map, length-replicate, take-take}
+use Rattle.edit_core.proofs.Common.{◌≡◌, ℕ, zero, suc, ◌+◌, ◌-◌, ◌*◌, ◌%◌, ◌^◌, ◌<◌, ◌≤◌, List, [], ◌∷◌, ◌++◌, length, length-append, replicate, take, drop, ap, sym, ◌∙◌, subst, arith, slice_index, w32, from_be_bytes, append_assoc, get_or-map, length-map, length-replicate, get_or_from_slice_get, slice_get_within, Words, Addr, words_bytes, length-words_bytes, Graph, TableAt, IsTableOf, IsHalvesOf, halves_size, Placement, case_numbers}
+use Rattle.std.proofs.lemmas.List.{drop-drop, drop-take, take-take}
 use Rattle.std.proofs.lemmas.Nat.{from_be_bytes-to_be_bytes_4}
-use Rattle.std.proofs.lemmas.Option.{get_or_from_slice_get, slice_get_within}
 use Rattle.std.proofs.Math.Seq.{drop-append_seam, take-append_seam}
-use Rattle.eel_base.specs.CodeText.{Words}
-use Rattle.eel_base.specs.declared.numbers.Addr.{Addr}
-use Rattle.elf32_write.specs.Kept.{words_bytes}
-use Rattle.elf32_write.proofs.WordsBytes.{length-words_bytes}
-use Rattle.cfg_normal.specs.Graph.{Graph}
-use Rattle.addr_translate.specs.Lookup.{TableAt, table_word}
-use Rattle.addr_translate.specs.Table.{IsTableOf, size_of}
-use Rattle.addr_translate.specs.Halves.{IsHalvesOf, halves_size}
-use Rattle.layout.specs.Laid.{Placement}
+use Rattle.addr_translate.specs.Lookup.{table_word}
+use Rattle.addr_translate.specs.Table.{size_of}
 use Rattle.image_code.specs.Made.{AreCasesFor, jumps_at}
-use Rattle.image_code.specs.Numbered.{case_numbers}
 use Rattle.edit_core.specs.Written.{AreTablesOf, case_places, cases_at, cases_table, cells_size, second_table, tables_size, whole_pages}
 
 pages_length : (words : List ℕ) → length (whole_pages words) ≡ cells_size (length words)

@@ -1,12 +1,8 @@
 -- What a tool asks of a file, as it was seen.
-use Rattle.std.proofs.Common.{◌≡◌, ℕ, List}
-use Rattle.cfg_blocks.specs.Marks.{numbers}
-use Rattle.cfg_view.specs.View.{Seen, view_of}
-use Rattle.snippets.specs.declared.snippet.Op.{Op}
+use Rattle.edit_core.proofs.Common.{◌≡◌, ℕ, List, numbers, Seen, view_of, Op, Plan}
 use Rattle.tool_kit.specs.declared.edge_ref.EdgeRef.{EdgeRef}
 use Rattle.tool_kit.specs.Kept.{Kept}
 use Rattle.tool_kit.specs.Code.{IsPlanOf}
-use Rattle.tool_kit.specs.Plans.{Plan}
 use Rattle.edit_core.specs.Faithful.{AreCounted}
 use Rattle.edit_core.specs.Code.{AsksOf, CountsEdges}
 

@@ -1,11 +1,5 @@
 -- What the view of a file has.
-use Rattle.std.proofs.Common.{◌≡◌, ℕ, ◌≤◌, List, None, refl, sym, ap, ◌∙◌}
-use Rattle.elf32_sparc.specs.FileFault.{fault}
-use Rattle.elf32_sparc.specs.Image.{image_of}
-use Rattle.cfg_blocks.specs.Entries.{entered_of}
-use Rattle.cfg_normal.specs.Graph.{Graph}
-use Rattle.cfg_view.specs.View.{Seen, view_of}
-use Rattle.tool_kit.specs.Plans.{Plan}
+use Rattle.edit_core.proofs.Common.{◌≡◌, ℕ, ◌≤◌, List, None, refl, sym, ap, ◌∙◌, fault, image_of, entered_of, Graph, Seen, view_of, Plan}
 use Rattle.edit_core.specs.Taken.{CanEdit, bound_in, bound_of}
 use Rattle.edit_core.specs.Written.{CanDo, IsWorkable, graph_in}
 use Rattle.edit_core.specs.Private.{IsViewOf}

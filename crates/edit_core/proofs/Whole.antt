@@ -1,10 +1,6 @@
 -- Whole runs.
-use Rattle.std.proofs.Common.{◌≡◌, ℕ, suc, ◌≤◌, arith}
-use Rattle.two_runs.specs.TwoRuns.{Answers, IsLeast}
+use Rattle.edit_core.proofs.Common.{◌≡◌, ℕ, suc, ◌≤◌, arith, Answers, IsLeast, AtVisit, IsOffPages, HasShortForms}
 use Rattle.two_runs.proofs.Follows.{runs_follow}
-use Rattle.image_code.specs.Images.{AtVisit}
-use Rattle.image_code.specs.Outside.{IsOffPages}
-use Rattle.layout.specs.Laid.{HasShortForms}
 use Rattle.edit_core.specs.Runs.{limits_in}
 use Rattle.edit_core.specs.Whole.{EditsAnswer, KeptIn}
 use Rattle.edit_core.proofs.Induction.{follows}

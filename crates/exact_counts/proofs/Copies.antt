@@ -1,39 +1,33 @@
 -- How many edges a graph has, and how often the snippets on all of them are made, by the words of its text.
-use Rattle.std.proofs.Common.{inl, inr, ◌≡◌, ℕ, zero, suc, ◌+◌, ◌-◌, ◌*◌, ◌<◌, ◌≤◌, Bool, true, false, ◌||◌, ◌==◌, cond, List, [], ◌∷◌, ◌++◌, append-nil, length, map, Some, refl, ap, sym, ◌∙◌, arith}
-use Rattle.std.specs.Prelude.{if◌then◌else◌, slice_index}
-use Rattle.std.specs.List.{count_by, filter, flat_map, list_any, range_with_len, sum_by}
-use Rattle.std.proofs.lemmas.Bool.{cases_Bool, cond_both, eq-eqb, false≢true, or_parts, false_from_ne_true}
+use Rattle.exact_counts.proofs.Common.{inl, inr, ◌≡◌, ℕ, zero, suc, ◌+◌, ◌-◌, ◌*◌, ◌<◌, ◌≤◌, Bool, true, false, ◌==◌, cond, List, [], ◌∷◌, ◌++◌, append-nil, length, Some, refl, ap, sym, ◌∙◌, arith, if◌then◌else◌, slice_index, list_any, sum_by, eq-eqb, false≢true, false_from_ne_true, sum_by-cons, IsText, Words, blocks_of, entered_of, Edge, Node, is_copied, Graph, edges_in, graph_of, cut, Each, opens_in, copies_of}
+use Rattle.std.proofs.Common.{◌||◌, map}
+use Rattle.std.specs.List.{count_by, filter, flat_map, range_with_len}
+use Rattle.std.proofs.lemmas.Bool.{cases_Bool, cond_both, or_parts}
 use Rattle.std.proofs.lemmas.Grind.{flat_map-append}
 use Rattle.std.proofs.lemmas.List.{length-map}
 use Rattle.std.proofs.lemmas.List.Folds.{list_any-append}
 use Rattle.std.proofs.lemmas.List.FromFn.{length-range_with_len}
-use Rattle.std.proofs.lemmas.List.Sums.{sum_by-append, sum_by-cons}
-use Rattle.eel_base.specs.Code.{IsText}
-use Rattle.eel_base.specs.CodeText.{Words}
+use Rattle.std.proofs.lemmas.List.Sums.{sum_by-append}
 use Rattle.cfg_blocks.specs.declared.BlockEnd.{BlockEnd}
 use Rattle.cfg_blocks.specs.declared.BlockEnd.TheVariants as ends
 use Rattle.cfg_blocks.specs.declared.EdgeKind.TheVariants as kinds
-use Rattle.cfg_blocks.specs.Blocks.{Blocks, below, blocks_of, end_of, last_word, size_of}
+use Rattle.cfg_blocks.specs.Blocks.{Blocks, below, end_of, last_word, size_of}
 use Rattle.cfg_blocks.specs.Ends.{Way, always, never, ways_of}
-use Rattle.cfg_blocks.specs.Entries.{entered_of, ways_from}
-use Rattle.cfg_normal.specs.declared.Edge.{Edge}
-use Rattle.cfg_normal.specs.declared.Node.{Node}
+use Rattle.cfg_blocks.specs.Entries.{ways_from}
 use Rattle.cfg_normal.specs.Nodes.{same_kind, same_node}
 use Rattle.cfg_normal.specs.Code.{AreOne}
-use Rattle.cfg_normal.specs.Opens.{Open, compares_in, is_copied, jumps_in, targets_in}
-use Rattle.cfg_normal.specs.Graph.{Graph, case_nodes, case_of, copied_edges, edge_of, edges_in, edges_of, graph_of, landing_at, landings_of, lands, lands_of, once_onto, ways_out}
+use Rattle.cfg_normal.specs.Opens.{Open, compares_in, jumps_in, targets_in}
+use Rattle.cfg_normal.specs.Graph.{case_nodes, case_of, copied_edges, edge_of, edges_of, landing_at, landings_of, lands, lands_of, once_onto, ways_out}
 use Rattle.cfg_normal.proofs.GraphFacts.{entries_of, once_few, targets_few, total, total_at, total_le, total_plus, total_same, ways_few}
-use Rattle.cfg_walk.proofs.Cut.{IsCut, cut}
+use Rattle.cfg_walk.proofs.Cut.{IsCut}
 use Rattle.cfg_walk.proofs.Edges.{block, copy, same_itself, same_nodes}
 use Rattle.cfg_walk.proofs.Holding.{some_words}
-use Rattle.cfg_walk.proofs.Lists.{Each, each-map, each-then}
+use Rattle.cfg_walk.proofs.Lists.{each-map, each-then}
 use Rattle.cfg_walk.proofs.Ways.{IsOwn, ways_are_own}
 use Rattle.switch_runs.specs.Cases.{IsOpenSwitch}
 use Rattle.switch_runs.specs.Joined.{IsCaseBlock}
 use Rattle.switch_runs.proofs.CaseBlocks.{case_block}
 use Rattle.switch_runs.proofs.Opened.{opens_are}
-use Rattle.image_code.specs.Graphs.{opens_in}
-use Rattle.image_code.specs.Copies.{copies_of}
 use Rattle.image_code.proofs.OpenBlocks.{are_open, sizes_all}
 use Rattle.image_code.proofs.OpenSums.{AreDistinct, distinct_sum}
 

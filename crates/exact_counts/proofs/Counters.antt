@@ -1,24 +1,15 @@
 -- An edge's counter holds how often the edge was completed, in 32 bits or in 64.
-use Rattle.std.proofs.Common.{◌≡◌, ℕ, zero, suc, ◌+◌, ◌/◌, ◌%◌, ◌^◌, ◌<◌, ◌≤◌, ◌⊎◌, inl, inr, ◌≢◌, Bool, true, false, if◌then◌else◌, cond, List, [], ◌∷◌, length, get_or, set, replicate, refl, ap, sym, ◌∙◌, subst, arith}
-use Rattle.std.specs.Prelude.{◌==◌}
-use Rattle.std.specs.List.{All}
-use Rattle.std.proofs.lemmas.Bool.{cases_eq, cases_lt, eq-eqb, ne_eqb}
+use Rattle.exact_counts.proofs.Common.{◌≡◌, ℕ, zero, suc, ◌+◌, ◌^◌, ◌<◌, ◌≤◌, ◌⊎◌, inl, inr, ◌≢◌, Bool, true, false, if◌then◌else◌, cond, List, [], ◌∷◌, length, get_or, refl, ap, sym, ◌∙◌, subst, arith, ◌==◌, All, cases_eq, cases_lt, eq-eqb, ne_eqb, counter_width, State, run, times, Op, WorksBelow, AreCounters, gone_in, walk, Edit, snippet_on, counter_value, times-append}
+use Rattle.std.proofs.Common.{◌/◌, ◌%◌, set, replicate}
 use Rattle.std.proofs.lemmas.List.{get_or-replicate, get_or-set_other, get_or-set_same, get_or_past, length-replicate, length-set}
-use Rattle.notes.specs.Format.{counter_width}
-use Rattle.v8_step.specs.State.{State, register_of}
-use Rattle.v8_step.specs.Run.{run}
-use Rattle.flows.specs.Flows.{times}
-use Rattle.snippets.specs.declared.snippet.Op.{Op}
+use Rattle.v8_step.specs.State.{register_of}
 use Rattle.snippets.specs.declared.snippet.Op.TheVariants.{Add, Count}
-use Rattle.snippets.specs.Cells.{WorksBelow, WorksIn, update, updated_by, wide_at, with_wide}
+use Rattle.snippets.specs.Cells.{WorksIn, update, updated_by, wide_at, with_wide}
 use Rattle.snippets.specs.Ops.{cell_of, cells_end}
-use Rattle.tool_kit.specs.Plans.{AreCounters, counter_op}
-use Rattle.cfg_walk.specs.Walk.{gone_in, walk}
-use Rattle.image_code.specs.Store.{Edit, snippet_on, store_of, updates}
-use Rattle.count_rebuild.specs.Counts.{counter_value}
+use Rattle.tool_kit.specs.Plans.{counter_op}
+use Rattle.image_code.specs.Store.{store_of, updates}
 use Rattle.exact_counts.specs.Laws.{CellsCount}
 use Rattle.exact_counts.specs.Profiles.{counter_limit}
-use Rattle.flows.proofs.Walks.{times-append}
 
 -- ---- a counter of either version: `narrow` says that it has 32 bits
 

@@ -1,15 +1,9 @@
 -- What a written file's run tells where it has ended.
-use Rattle.std.proofs.Common.{◌≡◌, ℕ, suc, ◌-◌, ◌<◌, ◌≤◌, ◌⊎◌, inl, inr, length, Option, Some, None, refl, ap, sym, ◌∙◌, arith}
-use Rattle.std.proofs.lemmas.Bool.{cases_lt}
-use Rattle.v8_step.specs.declared.Ending.{Ending}
-use Rattle.v8_step.specs.State.{State}
-use Rattle.v8_step.specs.Run.{run}
+use Rattle.exact_counts.proofs.Common.{◌≡◌, ℕ, suc, ◌-◌, ◌<◌, ◌≤◌, ◌⊎◌, inl, inr, length, Option, Some, None, refl, ap, sym, ◌∙◌, arith, cases_lt, Ending, State, run, trail_of, Edit, visits_by, ending, few_visits, longer, over_or_not, stays}
 use Rattle.cfg_walk.proofs.Walks.{lived_to}
 use Rattle.two_runs.specs.TwoRuns.{GoesOn}
-use Rattle.two_runs.specs.Visits.{trail_of}
-use Rattle.image_code.specs.Store.{Edit}
-use Rattle.edit_core.specs.RunsAlike.{IsAnswered, visits_by}
-use Rattle.edit_core.proofs.Trails.{ending, few_visits, going, longer, none_over, over_or_not, own_live, quiet_more, stays, visit_more}
+use Rattle.edit_core.specs.RunsAlike.{IsAnswered}
+use Rattle.edit_core.proofs.Trails.{going, none_over, own_live, quiet_more, visit_more}
 use Rattle.exact_counts.specs.Laws.{EndedRunsTell, EndsWithStep}
 
 -- two moments at which it has

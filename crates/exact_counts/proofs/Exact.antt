@@ -1,44 +1,20 @@
 -- What is rebuilt from the dump of a run, wherever it is stopped, is how often the original's run completes each edge.
-use Rattle.std.proofs.Common.{◌≡◌, ℕ, suc, ◌-◌, ◌<◌, Bool, true, cond, List, length, None, refl, ap, sym, ◌∙◌, subst, arith}
-use Rattle.std.specs.Prelude.{pos}
-use Rattle.std.specs.List.{All}
-use Rattle.std.proofs.lemmas.Bool.{lt-ltb}
-use Rattle.elf32_sparc.specs.FileFault.{fault}
-use Rattle.elf32_sparc.specs.Image.{image_of}
-use Rattle.notes.specs.Format.{Notes}
+use Rattle.exact_counts.proofs.Common.{◌≡◌, ℕ, suc, ◌-◌, ◌<◌, Bool, true, cond, List, length, None, refl, ap, sym, ◌∙◌, subst, arith, pos, All, lt-ltb, fault, image_of, Notes, State, start_of, IsFlow, rest, IsSpanningTree, WorksBelow, blocks_of, entered_of, Graph, is_node, node_number, cut, ToolKind, Plan, links_of, executions, Edit, edit_of, visits_by, image_text, few_visits, view_graph, note_edges, noted_graph}
 use Rattle.elf32_sparc.proofs.Accepted.{accepted}
-use Rattle.v8_step.specs.State.{State, AreBytes}
+use Rattle.v8_step.specs.State.{AreBytes}
 use Rattle.v8_step.specs.Valid.{IsValid}
 use Rattle.v8_process.specs.Arguments.{AreArguments}
-use Rattle.v8_process.specs.Start.{start_of}
 use Rattle.v8_process.proofs.Arguments.{arguments_fit}
 use Rattle.v8_process.proofs.Valid.{mappings_have_room, starts_valid}
-use Rattle.flows.specs.Flows.{IsFlow, rest}
-use Rattle.flows.specs.SpanningTrees.{IsSpanningTree}
-use Rattle.snippets.specs.Cells.{WorksBelow}
-use Rattle.cfg_blocks.specs.Blocks.{blocks_of, holding_of}
-use Rattle.cfg_blocks.specs.Entries.{entered_of}
+use Rattle.cfg_blocks.specs.Blocks.{holding_of}
 use Rattle.cfg_normal.specs.declared.Node.TheVariants.{Block, X}
-use Rattle.cfg_normal.specs.Graph.{Graph}
-use Rattle.cfg_normal.specs.Numbers.{is_node, node_number}
-use Rattle.cfg_walk.proofs.Cut.{cut}
-use Rattle.cfg_walk.proofs.Lists.{Each}
-use Rattle.tool_kit.specs.declared.edge_ref.ToolKind.{ToolKind}
-use Rattle.tool_kit.specs.Plans.{Plan}
 use Rattle.cfg_view.proofs.Given.{entry_leads}
-use Rattle.span_tree.specs.Links.{links_of}
-use Rattle.walk_counts.specs.Executions.{executions}
 use Rattle.walk_counts.specs.Counts.{first_node}
 use Rattle.walk_counts.proofs.Files.{begins, entry_is, executions_of_files_are_flows}
-use Rattle.image_code.specs.Store.{Edit}
-use Rattle.edit_core.specs.RunsAlike.{IsStop, edit_of, visits_by}
+use Rattle.edit_core.specs.RunsAlike.{IsStop}
 use Rattle.edit_core.proofs.Eaches.{each_all}
-use Rattle.edit_core.proofs.Originals.{image_text}
-use Rattle.edit_core.proofs.Trails.{few_visits}
-use Rattle.edit_core.proofs.Views.{view_graph}
 use Rattle.edit_core.specs.Written.{given_of, graph_in, text_of}
-use Rattle.edit_core.specs.Faithful.{HasGraph, note_edges, tool_number}
-use Rattle.count_rebuild.specs.Noted.{noted_graph}
+use Rattle.edit_core.specs.Faithful.{HasGraph, tool_number}
 use Rattle.exact_counts.specs.Profiles.{CountsOffTree, counted_by, original_graph}
 use Rattle.exact_counts.specs.Laws.{CountsAreExact}
 use Rattle.exact_counts.proofs.Noted.{AreNotesOf, flow_alike, graphs_alike, tree_noted}

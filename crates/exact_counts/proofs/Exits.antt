@@ -1,22 +1,9 @@
 -- The counts of a run that ended by `exit` are those of the whole run.
-use Rattle.std.proofs.Common.{◌≡◌, ℕ, suc, ◌-◌, ◌≤◌, inl, inr, List, ◌++◌, length, Some, refl, ap, sym, ◌∙◌, arith, append-nil}
-use Rattle.std.proofs.lemmas.Bool.{cases_lt}
-use Rattle.eel_base.specs.CodeText.{Words}
-use Rattle.elf32_sparc.specs.Image.{image_of}
-use Rattle.notes.specs.Format.{Notes}
-use Rattle.v8_step.specs.declared.Ending.{Ending}
-use Rattle.v8_step.specs.State.{State}
-use Rattle.v8_step.specs.Run.{run}
-use Rattle.two_runs.specs.Needed.{IsUntouched}
-use Rattle.two_runs.specs.Visits.{own_trail, pages_of, trail_of}
-use Rattle.v8_process.specs.Start.{start_of}
-use Rattle.cfg_normal.specs.Graph.{Graph}
-use Rattle.cfg_walk.specs.Walk.{end_of_walk, gone, point_of, unless_ended, walk}
-use Rattle.flows.specs.Flows.{times}
-use Rattle.walk_counts.specs.Executions.{executions}
-use Rattle.edit_core.specs.RunsAlike.{AreRunsAlike, edit_of, visits_by}
+use Rattle.exact_counts.proofs.Common.{◌≡◌, ℕ, suc, ◌-◌, ◌≤◌, inl, inr, List, ◌++◌, length, Some, refl, ap, sym, ◌∙◌, arith, append-nil, cases_lt, Words, image_of, Notes, Ending, State, run, IsUntouched, pages_of, trail_of, start_of, Graph, end_of_walk, point_of, walk, times, executions, AreRunsAlike, edit_of, visits_by, ending, longer, over_or_not, stays}
+use Rattle.two_runs.specs.Visits.{own_trail}
+use Rattle.cfg_walk.specs.Walk.{gone, unless_ended}
 use Rattle.edit_core.proofs.Outwardly.{edits_are_untouched, exit_granted}
-use Rattle.edit_core.proofs.Trails.{ending, from_on, longer, over_or_not, own_few, stays, trail_stays}
+use Rattle.edit_core.proofs.Trails.{from_on, own_few, trail_stays}
 use Rattle.exact_counts.specs.Code.{CountsOfExitsAreExact}
 use Rattle.exact_counts.specs.Profiles.{original_graph}
 use Rattle.exact_counts.specs.Laws.{EndsWithStep}

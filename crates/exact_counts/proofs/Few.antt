@@ -1,13 +1,6 @@
 -- No step completes an edge twice.
-use Rattle.std.proofs.Common.{◌≡◌, ℕ, zero, suc, ◌≤◌, Bool, cond, List, [], ◌∷◌, arith}
-use Rattle.std.specs.Prelude.{◌==◌}
+use Rattle.exact_counts.proofs.Common.{◌≡◌, ℕ, zero, suc, ◌≤◌, Bool, cond, List, [], ◌∷◌, arith, ◌==◌, run, times, times-append, Graph, end_of_walk, gone_in, goes_on_at, point_of, walk, Completes, gone_completes, none, one, two}
 use Rattle.std.proofs.lemmas.Bool.Decides.{nat_tests}
-use Rattle.v8_step.specs.Run.{run}
-use Rattle.flows.specs.Flows.{times}
-use Rattle.flows.proofs.Walks.{times-append}
-use Rattle.cfg_normal.specs.Graph.{Graph}
-use Rattle.cfg_walk.specs.Walk.{end_of_walk, gone_in, goes_on_at, point_of, walk}
-use Rattle.edit_core.proofs.Completed.{Completes, gone_completes, none, one, two}
 use Rattle.exact_counts.specs.Laws.{ExecutionsAreFew}
 
 abbrev IsOnce : List ℕ → Type 0

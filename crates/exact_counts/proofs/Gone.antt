@@ -1,12 +1,6 @@
 -- How many edges a step completes, and that they are edges of the graph.
-use Rattle.std.proofs.Common.{ℕ, zero, suc, ◌<◌, ◌≤◌, List, length, arith}
-use Rattle.eel_base.specs.CodeText.{Words}
-use Rattle.v8_step.specs.State.{State}
-use Rattle.v8_step.specs.Run.{run}
-use Rattle.cfg_normal.specs.Graph.{Graph}
-use Rattle.cfg_walk.specs.Walk.{end_of_walk, gone_in, goes_on_at, point_of, walk}
-use Rattle.cfg_walk.proofs.Lists.{Each, each-append}
-use Rattle.edit_core.proofs.Completed.{Completes, gone_completes, none, one, two}
+use Rattle.exact_counts.proofs.Common.{ℕ, zero, suc, ◌<◌, ◌≤◌, List, length, arith, Words, State, run, Graph, end_of_walk, gone_in, goes_on_at, point_of, walk, Each, Completes, gone_completes, none, one, two}
+use Rattle.cfg_walk.proofs.Lists.{each-append}
 
 -- two edges at most, and all of them edges of the graph
 pub record AreFew (count : ℕ) (es : List ℕ) : Type 0 where

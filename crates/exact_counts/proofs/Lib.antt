@@ -1,3 +1,4 @@
+pub mod Common
 pub mod Few
 pub mod Counters
 pub mod Ends

@@ -1,22 +1,9 @@
 -- A profile asks for little room.
-use Rattle.std.proofs.Common.{◌≡◌, ℕ, ◌*◌, ◌≤◌, List, [], ◌∷◌, length, None, refl, ap, arith}
-use Rattle.std.specs.List.{sum_by}
-use Rattle.std.proofs.lemmas.List.Sums.{sum_by-cons}
-use Rattle.eel_base.specs.Code.{IsText}
-use Rattle.elf32_sparc.specs.FileFault.{fault}
-use Rattle.elf32_sparc.specs.Image.{Program, image_of}
-use Rattle.cfg_blocks.specs.Blocks.{blocks_of}
-use Rattle.cfg_normal.specs.declared.Edge.{Edge}
-use Rattle.cfg_normal.specs.Graph.{Graph, graph_of}
+use Rattle.exact_counts.proofs.Common.{◌≡◌, ℕ, ◌*◌, ◌≤◌, List, [], ◌∷◌, length, None, refl, ap, arith, sum_by, sum_by-cons, IsText, fault, image_of, blocks_of, Edge, Graph, graph_of, Op, Plan, opens_in, copies_of, image_text, view_graph}
+use Rattle.elf32_sparc.specs.Image.{Program}
 use Rattle.cfg_view.specs.View.{given_in}
-use Rattle.snippets.specs.declared.snippet.Op.{Op}
 use Rattle.tool_kit.specs.declared.edge_ref.ToolKind.TheVariants as tools
-use Rattle.tool_kit.specs.Plans.{Plan}
-use Rattle.image_code.specs.Graphs.{opens_in}
-use Rattle.image_code.specs.Copies.{copies_of}
 use Rattle.edit_core.specs.Taken.{operations_on}
-use Rattle.edit_core.proofs.Originals.{image_text}
-use Rattle.edit_core.proofs.Views.{view_graph}
 use Rattle.exact_counts.specs.Profiles.{original_graph}
 use Rattle.exact_counts.specs.Sizes.{ProfilesNeedLittle}
 use Rattle.exact_counts.proofs.Copies.{copies_in_all, edges_in_all}

@@ -1,31 +1,22 @@
 -- The graph that notes tell is the original's.
-use Rattle.std.proofs.Common.{◌≡◌, ℕ, zero, suc, ◌+◌, ◌-◌, ◌*◌, ◌<◌, ◌≤◌, inl, inr, Bool, true, false, not, nat_le, List, [], ◌∷◌, length, get_or, refl, ap, sym, ◌∙◌, subst, arith}
-use Rattle.std.specs.Prelude.{◌==◌, if◌then◌else◌, IsTrue, ℤ, pos, ◌+ℤ◌}
-use Rattle.std.specs.Option.{is_some}
-use Rattle.std.specs.List.{AllByRecursion, list_any}
-use Rattle.std.proofs.lemmas.Bool.{cases_lt, eq-eqb, eqb-true, false≢true, le-leb, le-ltb, lt-leb, lt-ltb, or_left, or_right, false_from_ne_true}
-use Rattle.notes.specs.Format.{NoteEdge, NoteRange, Notes}
-use Rattle.flows.specs.Flows.{EdgeSet, NodeSet, Graph as PlainGraph, IsFlow, count_below, one_at, rest, total}
-use Rattle.flows.specs.SpanningTrees.{IsSpanningTree}
+use Rattle.exact_counts.proofs.Common.{◌≡◌, ℕ, zero, suc, ◌+◌, ◌-◌, ◌*◌, ◌<◌, ◌≤◌, inl, inr, Bool, true, false, not, List, [], ◌∷◌, length, get_or, refl, ap, sym, ◌∙◌, subst, arith, ◌==◌, if◌then◌else◌, ℤ, pos, is_some, list_any, cases_lt, eq-eqb, false≢true, lt-ltb, false_from_ne_true, NoteEdge, Notes, EdgeSet, IsFlow, count_below, rest, IsSpanningTree, Op, Edge, Node, Graph, edges_in, is_node, node_number, is_copied, ToolKind, links_of, snippet_on, cell_noted, note_edges, Each, edge_at, has_cell, noted_graph}
+use Rattle.std.proofs.Common.{nat_le}
+use Rattle.std.specs.Prelude.{IsTrue, ◌+ℤ◌}
+use Rattle.std.specs.List.{AllByRecursion}
+use Rattle.std.proofs.lemmas.Bool.{eqb-true, le-leb, le-ltb, lt-leb, or_left, or_right}
+use Rattle.notes.specs.Format.{NoteRange}
+use Rattle.flows.specs.Flows.{NodeSet, Graph as PlainGraph, one_at, total}
 use Rattle.flows.proofs.Sums.{total_same}
 use Rattle.flows.proofs.Weights.{weight_same}
-use Rattle.snippets.specs.declared.snippet.Op.{Op}
-use Rattle.cfg_normal.specs.declared.Edge.{Edge}
-use Rattle.cfg_normal.specs.declared.Node.{Node}
-use Rattle.cfg_normal.specs.Graph.{Graph, edges_in}
 use Rattle.cfg_normal.specs.Code.{IsEdgeIn, IsNodeIn}
-use Rattle.cfg_normal.specs.Numbers.{is_node, node_number, node_numbers}
-use Rattle.cfg_normal.specs.Opens.{is_copied}
-use Rattle.tool_kit.specs.declared.edge_ref.ToolKind.{ToolKind}
+use Rattle.cfg_normal.specs.Numbers.{node_numbers}
 use Rattle.tool_kit.specs.declared.edge_ref.ToolKind.TheVariants as tools
-use Rattle.span_tree.specs.Links.{edge_at as own_edge, links_of}
+use Rattle.span_tree.specs.Links.{edge_at as own_edge}
 use Rattle.span_tree.proofs.Connected.{numbered}
 use Rattle.span_tree.proofs.Landings.{landed_copy}
-use Rattle.image_code.specs.Store.{snippet_on}
-use Rattle.edit_core.specs.Faithful.{cell_noted, note_edge, note_edges}
-use Rattle.cfg_walk.proofs.Lists.{Each}
+use Rattle.edit_core.specs.Faithful.{note_edge}
 use Rattle.cfg_walk.proofs.NoneOpen.{edges_lie_in}
-use Rattle.count_rebuild.specs.Noted.{edge_at, ends_at, has_cell, is_node as is_noted, lies_at, no_edge, noted_graph}
+use Rattle.count_rebuild.specs.Noted.{ends_at, is_node as is_noted, lies_at, no_edge}
 use Rattle.exact_counts.specs.Profiles.{counted_by, is_counter}
 
 -- ---- plain graphs with the same links, the second with no more nodes

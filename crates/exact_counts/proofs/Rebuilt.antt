@@ -1,29 +1,18 @@
 -- What is rebuilt from a dump that has the cells of a walk, and stands where the walk ends.
-use Rattle.std.proofs.Common.{◌≡◌, ◌≢◌, ℕ, ◌^◌, ◌<◌, ◌⊎◌, inl, inr, Bool, true, false, if◌then◌else◌, List, [], length, slice_index, Option, Some, None, refl, ap, sym, ◌∙◌, subst, arith}
-use Rattle.std.specs.Prelude.{◌==◌, ℤ, pos}
-use Rattle.std.specs.List.{All}
-use Rattle.std.specs.Option.{is_some}
-use Rattle.std.proofs.lemmas.Bool.{false≢true, leb-true}
+use Rattle.exact_counts.proofs.Common.{◌≡◌, ◌≢◌, ℕ, ◌^◌, ◌<◌, ◌⊎◌, inl, inr, Bool, true, false, if◌then◌else◌, List, [], length, slice_index, Option, Some, None, refl, ap, sym, ◌∙◌, subst, arith, ◌==◌, ℤ, pos, All, is_some, false≢true, NoteEdge, Ending, State, run, IsFlow, WorksBelow, AreCounters, executions, Edit, snippet_on, cell_noted, counter_value, edge_at, has_cell, noted_graph}
+use Rattle.std.proofs.lemmas.Bool.{leb-true}
 use Rattle.std.proofs.lemmas.List.FromFn.{length-map-range_with_len}
-use Rattle.notes.specs.Format.{NoteEdge, node_at}
-use Rattle.v8_step.specs.declared.Ending.{Ending}
-use Rattle.v8_step.specs.State.{State}
-use Rattle.v8_step.specs.Run.{run}
-use Rattle.flows.specs.Flows.{AgreeOn, IsFlow}
-use Rattle.snippets.specs.Cells.{WorksBelow}
-use Rattle.tool_kit.specs.Plans.{AreCounters}
+use Rattle.notes.specs.Format.{node_at}
+use Rattle.flows.specs.Flows.{AgreeOn}
 use Rattle.tool_kit.specs.declared.edge_ref.ToolKind.TheVariants as tools
-use Rattle.walk_counts.specs.Executions.{executions}
 use Rattle.dump_file.specs.Dump.{Dump}
-use Rattle.image_code.specs.Store.{Edit, snippet_on}
-use Rattle.edit_core.specs.Faithful.{cell_noted}
 use Rattle.edit_core.specs.RunsAlike.{TellsStep, node_behind}
 use Rattle.count_rebuild.specs.declared.fault.CountFault.{CountFault}
 use Rattle.count_rebuild.specs.declared.fault.CountFault.TheVariants as faults
 use Rattle.count_rebuild.specs.Answers.{AreCounts}
 use Rattle.count_rebuild.specs.Code.{IsRefused}
-use Rattle.count_rebuild.specs.Counts.{IsFlowTo, StandsAt, cell_counts, cell_value, counter_value, is_large, is_negative}
-use Rattle.count_rebuild.specs.Noted.{IsProfile, edge_at, has_cell, noted_graph}
+use Rattle.count_rebuild.specs.Counts.{IsFlowTo, StandsAt, cell_counts, cell_value, is_large, is_negative}
+use Rattle.count_rebuild.specs.Noted.{IsProfile}
 use Rattle.exact_counts.specs.Laws.{MayRefuse}
 use Rattle.exact_counts.specs.Profiles.{counter_limit}
 use Rattle.exact_counts.specs.Stops.{dump_at}

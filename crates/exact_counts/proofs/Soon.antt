@@ -1,20 +1,10 @@
 -- A profile's runs end soon after the original's.
-use Rattle.std.proofs.Common.{◌≡◌, ℕ, zero, suc, ◌+◌, ◌*◌, ◌≤◌, inl, inr, List, [], ◌∷◌, length, Some, ap, ◌∙◌, arith}
-use Rattle.notes.specs.Format.{Notes}
-use Rattle.v8_step.specs.declared.Ending.{Ending}
-use Rattle.v8_step.specs.State.{State}
-use Rattle.v8_step.specs.Run.{run}
-use Rattle.two_runs.specs.Needed.{IsUntouched}
-use Rattle.two_runs.specs.Visits.{pages_of}
-use Rattle.cfg_walk.specs.Walk.{gone_in}
-use Rattle.tool_kit.specs.Plans.{AreCounters}
+use Rattle.exact_counts.proofs.Common.{◌≡◌, ℕ, zero, suc, ◌+◌, ◌*◌, ◌≤◌, inl, inr, List, [], ◌∷◌, length, Some, ap, ◌∙◌, arith, Notes, Ending, State, run, IsUntouched, pages_of, gone_in, AreCounters, Edit, snippet_on, AreRunsAlike, over_or_not, ending}
 use Rattle.image_code.specs.Cost.{limit_on}
-use Rattle.image_code.specs.Store.{Edit, operations_on, snippet_on}
+use Rattle.image_code.specs.Store.{operations_on}
 use Rattle.edit_core.specs.Cost.{TakesFewSteps}
-use Rattle.edit_core.specs.RunsAlike.{AreRunsAlike}
 use Rattle.exact_counts.specs.Sizes.{HasEndedBy, ProfilesEndSoon}
 use Rattle.exact_counts.proofs.Counters.{none_or_counter}
-use Rattle.edit_core.proofs.Trails.{over_or_not, ending}
 use Rattle.exact_counts.proofs.Gone.{step_few}
 
 -- fewer steps touch no page either

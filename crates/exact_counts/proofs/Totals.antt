@@ -1,12 +1,6 @@
 -- How often each edge is completed is in all how long the walk is.
-use Rattle.std.proofs.Common.{◌≡◌, ℕ, zero, suc, ◌+◌, ◌<◌, ◌≤◌, Bool, cond, List, [], ◌∷◌, length, slice_index, refl, ap, sym, ◌∙◌, subst, arith}
-use Rattle.std.specs.Prelude.{◌==◌}
+use Rattle.exact_counts.proofs.Common.{◌≡◌, ℕ, zero, suc, ◌+◌, ◌<◌, ◌≤◌, Bool, cond, List, [], ◌∷◌, length, slice_index, refl, ap, sym, ◌∙◌, subst, arith, ◌==◌, ne_eqb, eq-eqb, sum_by-cons, times, walk, Each}
 use Rattle.std.specs.List.{sum}
-use Rattle.std.proofs.lemmas.Bool.{ne_eqb, eq-eqb}
-use Rattle.std.proofs.lemmas.List.Sums.{sum_by-cons}
-use Rattle.flows.specs.Flows.{times}
-use Rattle.cfg_walk.specs.Walk.{walk}
-use Rattle.cfg_walk.proofs.Lists.{Each}
 use Rattle.exact_counts.specs.Sizes.{ExecutionsAddUp}
 use Rattle.exact_counts.proofs.Gone.{walk_within}
 

@@ -1,18 +1,8 @@
 -- The cells of a spanning tree make a profile.
-use Rattle.std.proofs.Common.{◌≡◌, ℕ, zero, suc, ◌+◌, ◌*◌, ◌<◌, ◌≤◌, ◌⊎◌, inl, inr, Bool, true, false, not, cond, List, [], ◌∷◌, length, Option, Some, None, refl, ap, sym, ◌∙◌, subst, arith}
-use Rattle.std.specs.Prelude.{◌==◌, slice_index_or}
-use Rattle.std.specs.Option.{is_some}
-use Rattle.std.proofs.lemmas.Bool.{cases_eq}
+use Rattle.exact_counts.proofs.Common.{◌≡◌, ℕ, zero, suc, ◌+◌, ◌*◌, ◌<◌, ◌≤◌, ◌⊎◌, inl, inr, Bool, true, false, not, cond, List, [], ◌∷◌, length, Option, Some, None, refl, ap, sym, ◌∙◌, subst, arith, ◌==◌, is_some, cases_eq, counter_width, EdgeSet, count_below, rest, Op, WorksBelow, AreCounters, is_node, links_of, snippet_on}
+use Rattle.std.specs.Prelude.{slice_index_or}
 use Rattle.std.proofs.lemmas.List.{get_or_default}
-use Rattle.notes.specs.Format.{counter_width}
-use Rattle.flows.specs.Flows.{EdgeSet, count_below, rest}
-use Rattle.snippets.specs.declared.snippet.Op.{Op}
-use Rattle.snippets.specs.Cells.{WorksBelow}
-use Rattle.tool_kit.specs.Plans.{AreCounters}
 use Rattle.span_tree.specs.Cells.{cell_at, cell_count, cell_of, has_cell}
-use Rattle.cfg_normal.specs.Numbers.{is_node}
-use Rattle.span_tree.specs.Links.{links_of}
-use Rattle.image_code.specs.Store.{snippet_on}
 use Rattle.exact_counts.specs.Laws.{TreesMakeProfiles}
 use Rattle.exact_counts.specs.Profiles.{counted_by, counter_in, is_counter}
 use Rattle.exact_counts.proofs.Counters.{end_is, narrow_width, works_in}

@@ -1,5 +1,4 @@
-use Rattle.image_code.proofs.Fit.{pieces_fit}
-use Rattle.image_code.proofs.Made.{pieces_make_images}
+use Rattle.edit_core.proofs.Common.{pieces_fit, pieces_make_images}
 use Rattle.edit_core.proofs.RunsAlike.{edits_run_alike}
 use Rattle.edit_core.proofs.edits_run_alike.Goals as goal
 

@@ -1,9 +1,5 @@
-use Rattle.std.proofs.Common.{refl, ap, ◌∙◌, arith}
-use Rattle.eel_base.specs.CodeText.{Words}
-use Rattle.liveness.specs.Sets.{dead_on}
-use Rattle.image_code.specs.Made.{piece_list}
-use Rattle.image_code.specs.Numbered.{case_numbers, foreign_number}
-use Rattle.image_code.proofs.Fit.{pieces_fit}
+use Rattle.edit_core.proofs.Common.{refl, ap, ◌∙◌, arith, Words, dead_on, piece_list, case_numbers, pieces_fit}
+use Rattle.image_code.specs.Numbered.{foreign_number}
 use Rattle.edit_core.proofs.Dead.{rest_is_dead}
 use Rattle.edit_core.proofs.Graphs.{graph_cut}
 use Rattle.edit_core.proofs.Steps.{new_room}

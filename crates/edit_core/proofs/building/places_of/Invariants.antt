@@ -1,4 +1,4 @@
-use Rattle.std.proofs.Common.{◌≡◌, map, slice_index, take}
+use Rattle.edit_core.proofs.Common.{◌≡◌, map, slice_index, take}
 use Rattle.edit_core.specs.Written.{addr}
 use Rattle.edit_core.proofs.building.places_of.Given as goal
 

@@ -1,6 +1,4 @@
-use Rattle.std.proofs.Common.{◌+◌, ℕ, subst}
-use Rattle.addr_translate.specs.Halves.{IsHalvesOf}
-use Rattle.addr_translate.specs.Table.{IsTableOf}
+use Rattle.edit_core.proofs.Common.{◌+◌, ℕ, subst, IsHalvesOf, IsTableOf}
 use Rattle.edit_core.proofs.Tables.{tables_joined}
 use Rattle.edit_core.proofs.building.tables_for.Goals as goal
 

@@ -1,4 +1,4 @@
-use Rattle.std.proofs.Common.{◌≡◌, map, slice_index, take}
+use Rattle.edit_core.proofs.Common.{◌≡◌, map, slice_index, take}
 use Rattle.edit_core.proofs.building.words_of.Given as goal
 
 abbrev pub invariant-loop-piece : goal.invariant-loop-piece

@@ -1,5 +1,4 @@
-use Rattle.std.proofs.Common.{◌^◌, ◌≤◌, ℕ, subst, sym, All, refl}
-use Rattle.tool_kit.specs.Good.{IsGood}
+use Rattle.edit_core.proofs.Common.{◌^◌, ◌≤◌, ℕ, subst, sym, All, refl, IsGood}
 use Rattle.edit_core.proofs.editing.ask.Goals as goal
 
 pub returns-clause-plan : goal.returns-clause-plan

@@ -1,7 +1,4 @@
-use Rattle.std.proofs.Common.{ap, ◌∙◌, sym, List}
-use Rattle.eel_base.specs.declared.numbers.WordNo.{WordNo}
-use Rattle.cfg_blocks.specs.Marks.{numbers}
-use Rattle.cfg_view.specs.View.{view_of}
+use Rattle.edit_core.proofs.Common.{ap, ◌∙◌, sym, List, WordNo, numbers, view_of}
 use Rattle.edit_core.proofs.editing.edit_bytes.Goals as goal
 
 pub edit_view-requires-clause-sound : goal.edit_view-requires-clause-sound

@@ -1,9 +1,5 @@
-use Rattle.std.proofs.Common.{◌≡◌, refl, ap, ◌∙◌, subst, sym, arith}
-use Rattle.std.proofs.lemmas.Grind.{get_or_default_zero}
-use Rattle.elf32_sparc.specs.Image.{Program}
-use Rattle.cfg_blocks.specs.Marks.{numbers}
-use Rattle.image_code.proofs.Fit.{pieces_fit, places_say}
-use Rattle.image_code.proofs.Made.{pieces_make_images}
+use Rattle.edit_core.proofs.Common.{◌≡◌, refl, ap, ◌∙◌, subst, sym, arith, get_or_default_zero, Program, numbers, pieces_fit, pieces_make_images}
+use Rattle.image_code.proofs.Fit.{places_say}
 use Rattle.edit_core.specs.Code.{IsEdited}
 use Rattle.edit_core.specs.Taken.{bound_of}
 use Rattle.edit_core.specs.Written.{IsTheEdit}

@@ -1,10 +1,4 @@
-use Rattle.std.proofs.Common.{ℕ, ◌+◌, ◌*◌, ◌^◌, ◌≤◌, List, length, refl, ap, ◌∙◌, arith}
-use Rattle.eel_base.specs.CodeText.{Words}
-use Rattle.cfg_normal.specs.Graph.{Graph}
-use Rattle.snippets.specs.declared.snippet.Op.{Op}
-use Rattle.layout.specs.Laid.{Placement}
-use Rattle.notes.specs.Format.{Notes}
-use Rattle.image_code.proofs.Fit.{pieces_fit}
+use Rattle.edit_core.proofs.Common.{ℕ, ◌+◌, ◌*◌, ◌^◌, ◌≤◌, List, length, refl, ap, ◌∙◌, arith, Words, Graph, Op, Placement, Notes, pieces_fit}
 use Rattle.edit_core.specs.Private.{IsBuilt, placement_in, plan_of}
 use Rattle.edit_core.specs.Written.{TablesMatch, table_after}
 use Rattle.edit_core.proofs.Steps.{code_is, original_fit, segment_is, segments_are, view_entry, view_has_room, view_text, view_words}

@@ -1,4 +1,4 @@
-use Rattle.std.proofs.Common.{◌≡◌, take}
+use Rattle.edit_core.proofs.Common.{◌≡◌, take}
 use Rattle.edit_core.proofs.noting.first_words.Given as goal
 
 abbrev pub invariant-loop-block : goal.invariant-loop-block

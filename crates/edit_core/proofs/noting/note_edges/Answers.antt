@@ -1,6 +1,5 @@
-use Rattle.std.proofs.Common.{◌++◌, List, inl, inr, map, append-nil, ap, sym, ◌∙◌}
+use Rattle.edit_core.proofs.Common.{◌++◌, List, inl, inr, map, append-nil, ap, sym, ◌∙◌, edge_seen}
 use Rattle.notes.specs.Format.{NoteEdge}
-use Rattle.notes.specs.Code.{edge_seen}
 use Rattle.edit_core.proofs.Noted.{none_first, none_second}
 use Rattle.edit_core.proofs.noting.note_edges.Goals as goal
 

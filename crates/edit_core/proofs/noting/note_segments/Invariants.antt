@@ -1,4 +1,4 @@
-use Rattle.std.proofs.Common.{◌≡◌, map, take}
+use Rattle.edit_core.proofs.Common.{◌≡◌, map, take}
 use Rattle.elf32_write.specs.Headers.{segment_seen as segment_added}
 use Rattle.notes.specs.Code.{segment_seen}
 use Rattle.edit_core.specs.Written.{segment_noted}

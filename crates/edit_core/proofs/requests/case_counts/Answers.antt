@@ -1,7 +1,4 @@
-use Rattle.std.proofs.Common.{◌≡◌, map, ap, ◌∙◌, arith}
-use Rattle.std.specs.List.{count_by}
-use Rattle.eel_base.specs.declared.numbers.WordNo.{WordNo}
-use Rattle.cfg_normal.specs.Opens.{Open}
+use Rattle.edit_core.proofs.Common.{◌≡◌, map, ap, ◌∙◌, arith, count_by, WordNo, Open}
 use Rattle.edit_core.specs.Private.{is_entry}
 use Rattle.std.proofs.lemmas.List.Sums.{sum_by_more}
 use Rattle.edit_core.proofs.requests.case_counts.Goals as goal

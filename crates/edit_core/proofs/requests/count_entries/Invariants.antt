@@ -1,7 +1,4 @@
-use Rattle.std.proofs.Common.{◌≡◌, ◌+◌, map, take}
-use Rattle.std.specs.List.{count_by}
-use Rattle.indexmap.specs.IndexMap.{get}
-use Rattle.eel_base.specs.declared.numbers.WordNo.{WordNo}
+use Rattle.edit_core.proofs.Common.{◌≡◌, ◌+◌, map, take, count_by, get, WordNo}
 use Rattle.edit_core.specs.declared.requests.CaseKey.{CaseKey}
 use Rattle.edit_core.specs.Private.{count_of, is_entry, same_key}
 use Rattle.edit_core.proofs.requests.count_entries.Given as goal

@@ -1,9 +1,5 @@
-use Rattle.std.proofs.Common.{ap, sym, ◌∙◌, arith}
-use Rattle.std.specs.List.{count_by}
-use Rattle.indexmap.specs.IndexMap.{get}
-use Rattle.cfg_normal.specs.declared.Node.{Node}
-use Rattle.cfg_normal.specs.Numbers.{node_number}
-use Rattle.image_code.specs.Copies.{is_at, targets_from}
+use Rattle.edit_core.proofs.Common.{ap, sym, ◌∙◌, arith, count_by, get, Node, node_number, is_at}
+use Rattle.image_code.specs.Copies.{targets_from}
 use Rattle.edit_core.specs.Private.{case_key, count_of, same_key}
 use Rattle.edit_core.proofs.Counting.{led_few, led_is}
 use Rattle.edit_core.proofs.requests.entries_along.Goals as goal

@@ -1,6 +1,4 @@
-use Rattle.std.proofs.Common.{◌≡◌, ℕ, suc, if◌then◌else◌, ◌+◌, ◌-◌, ap, ◌∙◌, arith}
-use Rattle.std.specs.List.{count_by, range_with_len}
-use Rattle.image_code.specs.Copies.{is_at}
+use Rattle.edit_core.proofs.Common.{◌≡◌, ℕ, suc, if◌then◌else◌, ◌+◌, ◌-◌, ap, ◌∙◌, arith, count_by, range_with_len, is_at}
 use Rattle.edit_core.proofs.Counting.{range_few, range_more}
 use Rattle.edit_core.proofs.requests.landing_words_in.Goals as goal
 

@@ -1,6 +1,4 @@
-use Rattle.std.proofs.Common.{◌≡◌, ◌-◌}
-use Rattle.std.specs.List.{count_by, range_with_len}
-use Rattle.image_code.specs.Copies.{is_at}
+use Rattle.edit_core.proofs.Common.{◌≡◌, ◌-◌, count_by, range_with_len, is_at}
 use Rattle.edit_core.proofs.requests.landing_words_in.Given as goal
 
 -- those among the words so far

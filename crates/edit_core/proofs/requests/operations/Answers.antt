@@ -1,4 +1,4 @@
-use Rattle.std.proofs.Common.{inl, inr, arith}
+use Rattle.edit_core.proofs.Common.{inl, inr, arith}
 use Rattle.edit_core.proofs.Bounds.{none_first, none_second}
 use Rattle.edit_core.proofs.requests.operations.Goals as goal
 

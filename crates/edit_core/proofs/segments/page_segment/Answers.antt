@@ -1,5 +1,4 @@
-use Rattle.std.proofs.Common.{ℕ, List, ap}
-use Rattle.elf32_write.specs.Headers.{AddedSegment}
+use Rattle.edit_core.proofs.Common.{ℕ, List, ap, AddedSegment}
 use Rattle.edit_core.specs.Faithful.{editor_page, page_size}
 use Rattle.edit_core.proofs.segments.page_segment.Goals as goal
 
