@@ -1,29 +1,8 @@
 -- The words about an open switch.
-use Rattle.std.proofs.Common.{◌≡◌, ℕ, zero, suc, ◌+◌, ◌*◌, ◌<◌, ◌≤◌, Bool, true, false, ◌&&◌, nat_lt, List, [], ◌∷◌, length, Option, Some, None, refl, ap, sym, ◌∙◌, arith, slice_index}
-use Rattle.std.specs.Prelude.{if◌then◌else◌, ◌==◌, slice_index_or, ℤ}
-use Rattle.std.specs.List.{Contains, flat_map, list_any}
-use Rattle.std.specs.Option.{option_to_list}
+use Rattle.switch_runs.proofs.Common.{◌≡◌, ℕ, zero, suc, ◌+◌, ◌*◌, ◌<◌, ◌≤◌, Bool, true, false, ◌&&◌, nat_lt, List, [], ◌∷◌, length, Option, Some, None, refl, ap, sym, ◌∙◌, arith, slice_index, if◌then◌else◌, ◌==◌, slice_index_or, ℤ, Contains, flat_map, list_any, option_to_list, append-nil, length-map, get_or-below, length-below, eq-eqb, false≢true, lt-ltb, or_left, or_right, common_steps, Words, word_at, IsText, Approach, Switch, end_by, Blocks, below, blocks_of, last_word, size_of, Entered, entered_of, bounds, is_table, is_table_at, runs_slot, instr_at, word_at-some, Open, targets_in, targets_of, words_from, IsCut, cut, IsSwitch, branch_at, in_list, switch_of-is, IsOpenSwitch}
 use Rattle.std.proofs.lemmas.List.Folds.{list_any-append}
-use Rattle.std.proofs.lemmas.List.{append-nil, length-map}
-use Rattle.cfg_blocks.proofs.Below.{get_or-below, length-below}
-use Rattle.std.proofs.lemmas.Bool.{eq-eqb, false≢true, lt-ltb, or_left, or_right}
-use Rattle.std.proofs.lemmas.Grind.{common_steps}
-use Rattle.eel_base.specs.CodeText.{Words, word_at}
-use Rattle.eel_base.specs.Code.{IsText}
 use Rattle.v8_decode.specs.declared.Instr.TheVariants as i
 use Rattle.cfg_blocks.specs.declared.BlockEnd.TheVariants as ends
-use Rattle.cfg_blocks.specs.declared.switches.Approach.{Approach}
-use Rattle.cfg_blocks.specs.declared.switches.Switch.{Switch}
-use Rattle.cfg_blocks.specs.Ends.{end_by}
-use Rattle.cfg_blocks.specs.Blocks.{Blocks, below, blocks_of, last_word, size_of}
-use Rattle.cfg_blocks.specs.Entries.{Entered, entered_of}
-use Rattle.cfg_blocks.specs.Switches.{bounds, is_table, is_table_at, runs_slot}
-use Rattle.cfg_blocks.specs.Values.{instr_at}
-use Rattle.cfg_blocks.proofs.Targets.{word_at-some}
-use Rattle.cfg_normal.specs.Opens.{Open, targets_in, targets_of, words_from}
-use Rattle.cfg_walk.proofs.Cut.{IsCut, cut}
-use Rattle.jump_slice.proofs.Parts.{IsSwitch, branch_at, in_list, switch_of-is}
-use Rattle.switch_runs.specs.Cases.{IsOpenSwitch}
 use Rattle.switch_runs.proofs.Compared.{Compares, compare_at-is}
 use Rattle.switch_runs.proofs.Opened.{found_in}
 use Rattle.switch_runs.proofs.Whole.{block_bounds, different, end_at-is, ends_count, inside, not_fall}

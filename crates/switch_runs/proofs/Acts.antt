@@ -1,43 +1,15 @@
 -- What an instruction does to the registers is what the table says.
-use Rattle.std.proofs.Common.{◌≡◌, ℕ, suc, ◌+◌, ◌%◌, ◌^◌, ◌<◌, Bool, true, false, ◌&&◌, Option, Some, None, Result, Ok, Err, List, length, refl, ap, ◌∙◌, arith}
-use Rattle.std.specs.Prelude.{if◌then◌else◌, ◌==◌, nat_lt}
-use Rattle.std.specs.Int.{Width, byte_len, w8, w32, from_be_bytes}
-use Rattle.std.proofs.lemmas.Bool.{ltb-true}
-use Rattle.std.proofs.lemmas.Bool.Decides.{nat_tests}
-use Rattle.eel_base.specs.CodeText.{Words, word_at}
-use Rattle.eel_base.specs.Code.{IsText}
-use Rattle.v8_decode.specs.declared.Op2.{Op2}
+use Rattle.switch_runs.proofs.Common.{◌≡◌, ℕ, suc, ◌+◌, ◌%◌, ◌^◌, ◌<◌, Bool, true, false, ◌&&◌, Option, Some, None, Result, Ok, Err, List, length, refl, ap, ◌∙◌, arith, if◌then◌else◌, ◌==◌, nat_lt, Width, byte_len, w8, w32, from_be_bytes, ltb-true, nat_tests, Words, word_at, IsText, Op2, Instr, Memory, bytes_at, with_bytes, register_set, length-register_set, Codes, alu_of, keeping, result_of, wrapped, Slot, NoSlot, Ending, Trap, State, operand_of, register_of, sum_of, branched, branch_step, call_step, ended, jump_step, next, unless_couple, exchange_step, ldstub_step, load_size, load_step, on_bytes, on_memory, store_size, store_step, stored, swap_step, word_of, act, alu_step, register_in-range, Value, Unknown, Place, after, all_unknown, loaded_at, operand_in, put, sum_in, value_in, sets_codes, HoldsText}
 use Rattle.v8_decode.specs.declared.Op2.TheVariants as o
 use Rattle.v8_decode.specs.declared.AluOp.TheVariants as ops
 use Rattle.v8_decode.specs.declared.LoadKind.TheVariants as loads
-use Rattle.v8_decode.specs.declared.Instr.{Instr}
 use Rattle.v8_decode.specs.declared.Instr.TheVariants as i
 use Rattle.v8_decode.specs.Ranges.{has_even_pair, is_in_range, op2_in_range, operands_in_range}
-use Rattle.v8_memory.specs.Regions.{Memory, bytes_at, with_bytes}
 use Rattle.v8_windows.specs.Code.{AreRegisters}
-use Rattle.v8_windows.specs.Registers.{register_set}
-use Rattle.v8_windows.proofs.Places.{length-register_set}
-use Rattle.v8_alu.specs.declared.Codes.{Codes}
 use Rattle.v8_alu.specs.declared.AluOut.{AluOut}
 use Rattle.v8_alu.specs.declared.AluTrap.{AluTrap}
 use Rattle.v8_alu.specs.declared.AluTrap.TheVariants.{DivZero}
-use Rattle.v8_alu.specs.Alu.{alu_of, keeping, result_of}
-use Rattle.v8_alu.specs.Numbers.{wrapped}
-use Rattle.v8_step.specs.declared.Slot.{Slot}
-use Rattle.v8_step.specs.declared.Slot.TheVariants.{NoSlot}
-use Rattle.v8_step.specs.declared.Ending.{Ending}
-use Rattle.v8_step.specs.declared.Ending.TheVariants.{Trap}
-use Rattle.v8_step.specs.State.{State, operand_of, register_of, sum_of}
 use Rattle.v8_step.specs.Traps.{data_access_exception}
-use Rattle.v8_step.specs.Transfers.{branched, branch_step, call_step, ended, jump_step, next, unless_couple}
-use Rattle.v8_step.specs.Accesses.{exchange_step, ldstub_step, load_size, load_step, on_bytes, on_memory, store_size, store_step, stored, swap_step, word_of}
-use Rattle.v8_step.specs.Step.{act, alu_step}
-use Rattle.v8_step.proofs.ValidNumbers.{register_in-range}
-use Rattle.cfg_blocks.specs.declared.switches.Value.{Value}
-use Rattle.cfg_blocks.specs.declared.switches.Value.TheVariants.{Unknown, Place}
-use Rattle.cfg_blocks.specs.Values.{after, all_unknown, loaded_at, operand_in, put, sum_in, value_in}
-use Rattle.cfg_blocks.specs.Switches.{sets_codes}
-use Rattle.switch_runs.specs.Held.{HoldsText}
 use Rattle.switch_runs.proofs.Meaning.{AllMean, Meaning, all_with, length-put, none_known, put_means}
 use Rattle.switch_runs.proofs.Sums.{either_means, plus_means, shifted_means}
 use Rattle.switch_runs.proofs.Held.{read_text}

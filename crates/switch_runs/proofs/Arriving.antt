@@ -1,32 +1,8 @@
 -- The words from the comparison to the jump are carried out in order.
-use Rattle.std.proofs.Common.{◌≡◌, ◌≢◌, ℕ, zero, suc, ◌+◌, ◌-◌, ◌*◌, ◌<◌, ◌≤◌, Bool, true, false, not, ◌||◌, Some, None, length, refl, ap, sym, ◌∙◌, subst, arith, inl, inr}
-use Rattle.std.specs.Prelude.{if◌then◌else◌, ◌==◌, ℤ}
-use Rattle.std.specs.Int.{w32, cast_unsigned}
-use Rattle.std.proofs.lemmas.Bool.{cases_Bool, lt-ltb}
-use Rattle.eel_base.specs.CodeText.{Words, address_of}
-use Rattle.eel_base.specs.Code.{IsText}
+use Rattle.switch_runs.proofs.Common.{◌≡◌, ◌≢◌, ℕ, zero, suc, ◌+◌, ◌-◌, ◌*◌, ◌<◌, ◌≤◌, Bool, true, false, not, ◌||◌, Some, None, length, refl, ap, sym, ◌∙◌, subst, arith, inl, inr, if◌then◌else◌, ◌==◌, ℤ, w32, cast_unsigned, cases_Bool, lt-ltb, Words, address_of, IsText, wrapped, holds_of, Couple, Slot, NoSlot, State, branch_step, branched, target_of, unless_couple, act, run, transfers as is_transfer, goes_act, FetchesOnly, instr_at, live_before, lived_to, EdgeKind, Approach, is_taken, runs_slot, slot_words, to_branch, to_jump, couples}
 use Rattle.v8_decode.specs.declared.Instr.TheVariants as i
-use Rattle.v8_alu.specs.Numbers.{wrapped}
-use Rattle.v8_alu.specs.Conditions.{holds_of}
-use Rattle.v8_step.specs.declared.Ending.TheVariants.{Couple}
-use Rattle.v8_step.specs.declared.Slot.{Slot}
-use Rattle.v8_step.specs.declared.Slot.TheVariants.{NoSlot}
-use Rattle.v8_step.specs.State.{State}
-use Rattle.v8_step.specs.Transfers.{branch_step, branched, target_of, unless_couple}
-use Rattle.v8_step.specs.Step.{act}
-use Rattle.v8_step.specs.Run.{run}
-use Rattle.v8_step.specs.Items.{is_transfer}
-use Rattle.v8_step.proofs.CopiedMoves.{goes_act}
-use Rattle.cfg_walk.specs.Matches.{FetchesOnly}
-use Rattle.cfg_blocks.specs.Values.{instr_at}
-use Rattle.cfg_walk.proofs.Walks.{live_before, lived_to}
-use Rattle.cfg_blocks.specs.declared.EdgeKind.{EdgeKind}
-use Rattle.cfg_blocks.specs.declared.switches.Approach.{Approach}
-use Rattle.cfg_blocks.specs.Switches.{is_taken, runs_slot, slot_words}
-use Rattle.switch_runs.specs.Runs.{to_branch, to_jump}
 use Rattle.switch_runs.proofs.Coming.{Carries, IsAt, Ready, at_last, goes_to, to_block}
 use Rattle.switch_runs.proofs.Steps.{carries_out, is_inside}
-use Rattle.cfg_walk.proofs.States.{couples}
 
 -- ---- behind a branch
 

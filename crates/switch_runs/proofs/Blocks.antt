@@ -1,24 +1,8 @@
 -- The words of a block, and where a branch that ends one leads.
-use Rattle.std.proofs.Common.{◌≡◌, ℕ, ◌+◌, ◌<◌, ◌≤◌, Bool, true, false, ◌&&◌, ◌||◌, [], Option, Some, None, length, slice_index, refl, ap, sym, ◌∙◌, arith, inl, inr}
-use Rattle.std.proofs.lemmas.Bool.{cases_Bool}
-use Rattle.std.specs.Prelude.{if◌then◌else◌, ◌==◌, ℤ}
-use Rattle.std.proofs.lemmas.Bool.Decides.{nat_tests}
-use Rattle.eel_base.specs.declared.numbers.WordNo.{WordNo}
-use Rattle.eel_base.specs.CodeText.{Words, address_of, numbered, target_of}
-use Rattle.v8_decode.specs.declared.Instr.{Instr}
+use Rattle.switch_runs.proofs.Common.{◌≡◌, ℕ, ◌+◌, ◌<◌, ◌≤◌, Bool, true, false, ◌&&◌, ◌||◌, [], Option, Some, None, length, slice_index, refl, ap, sym, ◌∙◌, arith, inl, inr, cases_Bool, if◌then◌else◌, ◌==◌, ℤ, nat_tests, WordNo, Words, address_of, numbered, Instr, transfers, EdgeKind, branch_target, end_at, end_by, is_transfer, Blocks, holding_of, last_word, bounds, is_taken, instr_at, word_at-some, IsCut, IsIn, Leads, ends_within, is_held, some_words, end_is, transfer_ends, number_of-numbered, within_some}
+use Rattle.eel_base.specs.CodeText.{target_of}
 use Rattle.v8_decode.specs.declared.Instr.TheVariants as i
-use Rattle.v8_step.specs.Items.{is_transfer as transfers}
-use Rattle.cfg_blocks.specs.declared.EdgeKind.{EdgeKind}
 use Rattle.cfg_blocks.specs.declared.EdgeKind.TheVariants as kinds
-use Rattle.cfg_blocks.specs.Ends.{branch_target, end_at, end_by, is_transfer}
-use Rattle.cfg_blocks.specs.Blocks.{Blocks, holding_of, last_word}
-use Rattle.cfg_blocks.specs.Switches.{bounds, is_taken}
-use Rattle.cfg_blocks.specs.Values.{instr_at}
-use Rattle.cfg_blocks.proofs.Targets.{word_at-some}
-use Rattle.cfg_walk.proofs.Cut.{IsCut}
-use Rattle.cfg_walk.proofs.Holding.{IsIn, Leads, ends_within, is_held, some_words}
-use Rattle.cfg_walk.proofs.Leaving.{end_is, transfer_ends}
-use Rattle.cfg_walk.proofs.Points.{number_of-numbered, within_some}
 use Rattle.switch_runs.proofs.Coming.{goes_to}
 use Rattle.switch_runs.proofs.Into.{LeadsIn}
 

@@ -1,21 +1,6 @@
 -- How a branch goes: by its condition, with its slot or past it.
-use Rattle.std.proofs.Common.{◌≡◌, ◌≢◌, ℕ, zero, suc, ◌+◌, ◌*◌, ◌%◌, Bool, true, false, not, Some, None, refl, ap, sym, ◌∙◌, subst, arith, inl, inr, ◌⊎◌}
-use Rattle.std.specs.Prelude.{◌==◌, ◌⊎◌, ℤ}
-use Rattle.std.proofs.lemmas.Bool.{cond_both, false≢true}
-use Rattle.v8_decode.specs.declared.Instr.{Instr}
+use Rattle.switch_runs.proofs.Common.{◌≡◌, ◌≢◌, ℕ, zero, suc, ◌+◌, ◌*◌, ◌%◌, Bool, true, false, not, Some, None, refl, ap, sym, ◌∙◌, subst, arith, inl, inr, ◌⊎◌, ◌==◌, ℤ, cond_both, false≢true, Instr, holds_of, wrapped, Slot, NoSlot, Taken, Untaken, State, sum_of, act, step_of, run, transfers, is_taken, runs_slot, way_of, w32, cast_unsigned, branch_step, branched, call_step, delayed, jump_step, target_of, unless_couple}
 use Rattle.v8_decode.specs.declared.Instr.TheVariants as i
-use Rattle.v8_alu.specs.Conditions.{holds_of}
-use Rattle.v8_alu.specs.Numbers.{wrapped}
-use Rattle.v8_step.specs.declared.Slot.{Slot}
-use Rattle.v8_step.specs.declared.Slot.TheVariants.{NoSlot, Taken, Untaken}
-use Rattle.v8_step.specs.State.{State, sum_of}
-use Rattle.v8_step.specs.Step.{act, step_of}
-use Rattle.v8_step.specs.Run.{run}
-use Rattle.v8_step.specs.Items.{is_transfer as transfers}
-use Rattle.cfg_blocks.specs.Switches.{is_taken, runs_slot}
-use Rattle.cfg_walk.specs.Walk.{way_of}
-use Rattle.std.specs.Int.{w32, cast_unsigned}
-use Rattle.v8_step.specs.Transfers.{branch_step, branched, call_step, delayed, jump_step, target_of, unless_couple}
 
 pub run_add : (s : State) (k l : ℕ) → run s (k + l) ≡ run (run s k) l
 run_add s k zero = let e : k + zero ≡ k = omega arith in ap (run s) e

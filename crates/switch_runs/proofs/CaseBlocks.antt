@@ -1,26 +1,6 @@
 -- What is known of an open switch without a run: its jump's block, and a target for each entry of its table.
-use Rattle.std.proofs.Common.{◌≡◌, ℕ, zero, suc, ◌+◌, ◌<◌, true, List, [], ◌∷◌, ◌++◌, length, Option, Some, None, refl, ap, sym, ◌∙◌, arith, slice_get, slice_index}
-use Rattle.std.specs.Prelude.{slice_index_or}
-use Rattle.std.specs.List.{Contains, flat_map}
-use Rattle.std.specs.Option.{is_some, option_to_list}
-use Rattle.std.proofs.lemmas.Bool.{false≢true}
-use Rattle.std.proofs.lemmas.List.{length-map}
-use Rattle.eel_base.specs.CodeText.{Words, word_at}
-use Rattle.eel_base.specs.Code.{IsText}
-use Rattle.std.proofs.lemmas.Grind.{common_steps}
-use Rattle.cfg_blocks.specs.declared.switches.Switch.{Switch}
-use Rattle.cfg_blocks.specs.Blocks.{Blocks, below, blocks_of}
-use Rattle.cfg_blocks.specs.Entries.{entered_of}
-use Rattle.cfg_blocks.proofs.Below.{get_or-below, length-below}
-use Rattle.cfg_normal.specs.Code.{IsTableIn}
-use Rattle.cfg_normal.specs.Opens.{Open, targets_of, words_from}
+use Rattle.switch_runs.proofs.Common.{◌≡◌, ℕ, zero, suc, ◌+◌, ◌<◌, true, List, [], ◌∷◌, ◌++◌, length, Option, Some, None, refl, ap, sym, ◌∙◌, arith, slice_get, slice_index, slice_index_or, Contains, flat_map, is_some, option_to_list, false≢true, length-map, Words, word_at, IsText, common_steps, Switch, Blocks, below, blocks_of, entered_of, get_or-below, length-below, IsTableIn, Open, targets_of, words_from, IsCut, cut, some_words, Each, each-below, each-map, each_in, IsJump, switch_of-is, table_in, IsOpenSwitch, CaseBlocks, IsCaseBlock}
 use Rattle.cfg_normal.proofs.TableWords.{are_targets, entry_in, targets_are}
-use Rattle.cfg_walk.proofs.Cut.{IsCut, cut}
-use Rattle.cfg_walk.proofs.Holding.{some_words}
-use Rattle.cfg_walk.proofs.Lists.{Each, each-below, each-map, each_in}
-use Rattle.jump_slice.proofs.Parts.{IsJump, switch_of-is, table_in}
-use Rattle.switch_runs.specs.Cases.{IsOpenSwitch}
-use Rattle.switch_runs.specs.Joined.{CaseBlocks, IsCaseBlock}
 use Rattle.switch_runs.proofs.About.{About, about}
 use Rattle.switch_runs.proofs.Blocks.{no_transfer}
 use Rattle.switch_runs.proofs.Loading.{has_load}

@@ -1,39 +1,11 @@
 -- What is known of the registers from the comparison to the jump holds along a run that carries out these words.
-use Rattle.std.proofs.Common.{length, ◌≡◌, ℕ, suc, ◌+◌, ◌-◌, ◌*◌, ◌<◌, ◌≤◌, Bool, true, false, Some, None, List, slice_index, refl, ap, sym, ◌∙◌, subst, arith, length-set}
-use Rattle.std.specs.Prelude.{◌==◌, ℤ, pos}
-use Rattle.eel_base.specs.CodeText.{Words, address_of, word_at}
-use Rattle.eel_base.specs.Code.{IsText}
+use Rattle.switch_runs.proofs.Common.{length, ◌≡◌, ℕ, suc, ◌+◌, ◌-◌, ◌*◌, ◌<◌, ◌≤◌, Bool, true, false, Some, None, List, slice_index, refl, ap, sym, ◌∙◌, subst, arith, length-set, ◌==◌, ℤ, pos, Words, address_of, word_at, IsText, decoded_range, Codes, wrapped, State, register_of, sum_of, act, run, IsValid, transfers as is_transfer, NoSlot, w32, cast_unsigned, register_in-range, run-valid, EdgeKind, FetchesOnly, Value, Index, after, all_unknown, instr_at, Switch, Approach, after_slot, before_branch, before_jump, bounds, first_values, is_taken, sets_codes, slot_words, holds_of, IsJump, HoldsText, to_branch, live_before, lived_to}
 use Rattle.v8_decode.specs.declared.Op2.TheVariants as o
 use Rattle.v8_decode.specs.declared.AluOp.TheVariants as ops
 use Rattle.v8_decode.specs.declared.Instr.TheVariants as i
-use Rattle.v8_decode.proofs.Rows.{decoded_range}
-use Rattle.v8_alu.specs.declared.Codes.{Codes}
-use Rattle.v8_alu.specs.Numbers.{wrapped}
-use Rattle.v8_step.specs.State.{State, register_of, sum_of}
-use Rattle.v8_step.specs.Step.{act}
-use Rattle.v8_step.specs.Run.{run}
-use Rattle.v8_step.specs.Valid.{IsValid}
-use Rattle.v8_step.specs.Items.{is_transfer}
-use Rattle.v8_step.specs.declared.Slot.TheVariants.{NoSlot}
-use Rattle.std.specs.Int.{w32, cast_unsigned}
-use Rattle.v8_step.proofs.ValidNumbers.{register_in-range}
-use Rattle.v8_step.proofs.ValidSteps.{run-valid}
-use Rattle.cfg_blocks.specs.declared.EdgeKind.{EdgeKind}
-use Rattle.cfg_walk.specs.Matches.{FetchesOnly}
-use Rattle.cfg_blocks.specs.declared.switches.Value.{Value}
-use Rattle.cfg_blocks.specs.declared.switches.Value.TheVariants.{Index}
-use Rattle.cfg_blocks.specs.Values.{after, all_unknown, instr_at}
-use Rattle.cfg_blocks.specs.declared.switches.Switch.{Switch}
-use Rattle.cfg_blocks.specs.declared.switches.Approach.{Approach}
-use Rattle.cfg_blocks.specs.Switches.{after_slot, before_branch, before_jump, bounds, first_values, is_taken, sets_codes, slot_words}
-use Rattle.v8_alu.specs.Conditions.{holds_of}
-use Rattle.jump_slice.proofs.Parts.{IsJump}
-use Rattle.switch_runs.specs.Held.{HoldsText}
-use Rattle.switch_runs.specs.Runs.{to_branch}
 use Rattle.switch_runs.proofs.Meaning.{all_with}
 use Rattle.switch_runs.proofs.Acts.{Holds, operands, sum_means}
 use Rattle.switch_runs.proofs.Compared.{Bounds, IsCompare, compared-bounds, compared-register, first_means, way-bounds}
-use Rattle.cfg_walk.proofs.Walks.{live_before, lived_to}
 use Rattle.switch_runs.proofs.Steps.{carries_out}
 use Rattle.switch_runs.proofs.Follows.{Stands, stands_after, stands_behind}
 

@@ -1,29 +1,9 @@
 -- The comparison: where it stands, and what its codes say.
-use Rattle.std.proofs.Common.{◌≡◌, ◌≢◌, ℕ, zero, suc, ◌+◌, ◌-◌, ◌^◌, ◌<◌, ◌≤◌, Bool, true, false, ◌&&◌, ◌||◌, not, inl, inr, Option, Some, None, List, refl, ap, sym, ◌∙◌, subst, arith, get_or-set_other, get_or-set_same}
-use Rattle.std.specs.Prelude.{if◌then◌else◌, ◌==◌, nat_lt, slice_set, slice_index_or, pos}
-use Rattle.std.specs.Int.{w32, cast_unsigned}
-use Rattle.std.proofs.lemmas.Bool.Decides.{nat_tests}
-use Rattle.std.proofs.lemmas.Bool.{cases_eq, cases_lt, or_cases}
-use Rattle.eel_base.specs.CodeText.{Words}
+use Rattle.switch_runs.proofs.Common.{◌≡◌, ◌≢◌, ℕ, zero, suc, ◌+◌, ◌-◌, ◌^◌, ◌<◌, ◌≤◌, Bool, true, false, ◌&&◌, ◌||◌, not, inl, inr, Option, Some, None, List, refl, ap, sym, ◌∙◌, subst, arith, get_or-set_other, get_or-set_same, if◌then◌else◌, ◌==◌, nat_lt, slice_set, slice_index_or, pos, w32, cast_unsigned, nat_tests, cases_eq, cases_lt, or_cases, Words, Instr, register_in, register_in-other, Codes, alu_of, wrapped, holds_of, State, register_of, act, alu_step, EdgeKind, Value, Unknown, Index, all_unknown, instr_at, Compare, bounds, compare_at, compare_by, is_taken, is_untaken, last_setting, sets_codes}
 use Rattle.v8_decode.specs.declared.Op2.TheVariants as o
 use Rattle.v8_decode.specs.declared.AluOp.TheVariants as ops
-use Rattle.v8_decode.specs.declared.Instr.{Instr}
 use Rattle.v8_decode.specs.declared.Instr.TheVariants as i
-use Rattle.v8_windows.specs.Registers.{register_in}
-use Rattle.v8_windows.proofs.Places.{register_in-other}
-use Rattle.v8_alu.specs.declared.Codes.{Codes}
-use Rattle.v8_alu.specs.Alu.{alu_of}
-use Rattle.v8_alu.specs.Numbers.{wrapped}
-use Rattle.v8_alu.specs.Conditions.{holds_of}
-use Rattle.v8_step.specs.State.{State, register_of}
-use Rattle.v8_step.specs.Step.{act, alu_step}
-use Rattle.cfg_blocks.specs.declared.EdgeKind.{EdgeKind}
 use Rattle.cfg_blocks.specs.declared.EdgeKind.TheVariants as kinds
-use Rattle.cfg_blocks.specs.declared.switches.Value.{Value}
-use Rattle.cfg_blocks.specs.declared.switches.Value.TheVariants.{Unknown, Index}
-use Rattle.cfg_blocks.specs.Values.{all_unknown, instr_at}
-use Rattle.cfg_blocks.specs.declared.switches.Compare.{Compare}
-use Rattle.cfg_blocks.specs.Switches.{bounds, compare_at, compare_by, is_taken, is_untaken, last_setting, sets_codes}
 use Rattle.switch_runs.proofs.Meaning.{AllMean, Meaning, same_place, unknown_at}
 
 -- ---- where it stands

@@ -1,29 +1,10 @@
 -- A run of a small program that comes to the jump of its switch, and the walk of it: they compute.
-use Rattle.std.specs.Prelude.{[], ◌∷◌, ◌≡◌, refl, false, Some}
+use Rattle.switch_runs.proofs.Common.{[], ◌∷◌, ◌≡◌, refl, false, Some, blocks_of, leaders, end_at, entered_of, into_of, Entered, after, before_jump, switch_of, switches_of, approach_of, Compare, candidate, loads_here, opens_of, targets_of, Graph, edges_in, graph_of, alu_of, holds_of, half_at, program_header, program_headers, mappings, bytes_at, fetch_of, with_bytes, branch_step, load_step, act, alu_step, step_of, run, end_of_walk, walk, start_of, IsInto, ComesAlong}
 use Rattle.v8_decode.specs.Words.{decode_of, branch_or_sethi, arithmetic, memory}
-use Rattle.cfg_blocks.specs.Blocks.{blocks_of, leaders}
-use Rattle.cfg_blocks.specs.Ends.{end_at}
-use Rattle.cfg_blocks.specs.Entries.{entered_of, into_of, Entered}
-use Rattle.cfg_blocks.specs.Values.{after}
-use Rattle.cfg_blocks.specs.Switches.{before_jump, switch_of, switches_of, approach_of}
-use Rattle.cfg_blocks.specs.declared.switches.Compare.{Compare}
 use Rattle.cfg_blocks.specs.declared.EdgeKind.TheVariants.{Untaken}
-use Rattle.cfg_normal.specs.Opens.{candidate, loads_here, opens_of, targets_of}
-use Rattle.cfg_normal.specs.Graph.{Graph, edges_in, graph_of}
-use Rattle.v8_alu.specs.Alu.{alu_of}
-use Rattle.v8_alu.specs.Conditions.{holds_of}
-use Rattle.elf32_sparc.specs.Header.{half_at, word_at, program_header, program_headers}
-use Rattle.elf32_sparc.specs.Mapping.{mappings}
-use Rattle.v8_memory.specs.Regions.{bytes_at, fetch_of, with_bytes}
-use Rattle.v8_step.specs.Transfers.{branch_step}
-use Rattle.v8_step.specs.Accesses.{load_step}
-use Rattle.v8_step.specs.Step.{act, alu_step, step_of}
-use Rattle.v8_step.specs.Run.{run}
-use Rattle.cfg_walk.specs.Walk.{end_of_walk, walk}
+use Rattle.elf32_sparc.specs.Header.{word_at}
 use Rattle.v8_process.proofs.Programs.{switch_of_four, file_of, after as run_after}
-use Rattle.v8_process.specs.Start.{start_of}
 use Rattle.jump_slice.proofs.Examples.{text_in}
-use Rattle.switch_runs.specs.Runs.{IsInto, ComesAlong}
 
 abbrev compare : Compare
 compare = record { word = 1; register = 8; limit = 3 }

@@ -1,20 +1,5 @@
 -- The values that are followed over words hold along a run that carries out these words.
-use Rattle.std.proofs.Common.{◌≡◌, ℕ, zero, suc, ◌+◌, ◌<◌, true, None, List, length, slice_index, refl, ap, sym, ◌∙◌, arith, length-set}
-use Rattle.eel_base.specs.CodeText.{Words, address_of}
-use Rattle.eel_base.specs.Code.{IsText}
-use Rattle.v8_decode.specs.declared.Instr.{Instr}
-use Rattle.v8_decode.proofs.Rows.{decoded_pair, decoded_range}
-use Rattle.v8_alu.specs.declared.Codes.{Codes}
-use Rattle.v8_step.specs.State.{State}
-use Rattle.v8_step.specs.Run.{run}
-use Rattle.v8_step.specs.Valid.{IsValid}
-use Rattle.v8_step.proofs.ValidSteps.{run-valid}
-use Rattle.cfg_walk.specs.Matches.{FetchesOnly}
-use Rattle.cfg_walk.proofs.Walks.{live_before}
-use Rattle.cfg_blocks.specs.declared.switches.Value.{Value}
-use Rattle.cfg_blocks.specs.Values.{after, followed, instr_at}
-use Rattle.cfg_blocks.specs.Switches.{sets_codes}
-use Rattle.switch_runs.specs.Held.{HoldsText}
+use Rattle.switch_runs.proofs.Common.{◌≡◌, ℕ, zero, suc, ◌+◌, ◌<◌, true, None, List, length, slice_index, refl, ap, sym, ◌∙◌, arith, length-set, Words, address_of, IsText, Instr, decoded_pair, decoded_range, Codes, State, run, IsValid, run-valid, FetchesOnly, live_before, Value, after, followed, instr_at, sets_codes, HoldsText}
 use Rattle.switch_runs.proofs.Acts.{Holds, acts}
 use Rattle.switch_runs.proofs.Held.{holds_run}
 use Rattle.switch_runs.proofs.Steps.{carries_out}

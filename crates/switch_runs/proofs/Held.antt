@@ -1,20 +1,7 @@
 -- What can be read where the text stands is the text, and no step changes that.
-use Rattle.std.proofs.Common.{◌≡◌, ℕ, zero, suc, Bool, ◌&&◌, Option, Some, None, List, length, slice_index, arith}
-use Rattle.std.specs.Prelude.{if◌then◌else◌}
-use Rattle.std.specs.List.{find}
-use Rattle.std.specs.Option.{option_map}
-use Rattle.std.proofs.lemmas.Bool.{cond_both, lt-leb}
-use Rattle.eel_base.specs.CodeText.{Words, address_of, word_at}
-use Rattle.eel_base.specs.Code.{IsText}
-use Rattle.v8_memory.specs.Regions.{Memory, Region, all_written, bytes_at, changed, covers, read_region, with_heap_end, written}
+use Rattle.switch_runs.proofs.Common.{◌≡◌, ℕ, zero, suc, Bool, ◌&&◌, Option, Some, None, List, length, slice_index, arith, if◌then◌else◌, find, option_map, cond_both, lt-leb, Words, address_of, word_at, IsText, Memory, Region, all_written, bytes_at, changed, covers, read_region, with_heap_end, written, State, step_of, run, word_of, word_at-some, IsFixed, HoldsText}
 use Rattle.v8_memory.proofs.Same.{find-written}
-use Rattle.v8_step.specs.State.{State}
-use Rattle.v8_step.specs.Step.{step_of}
-use Rattle.v8_step.specs.Run.{run}
-use Rattle.v8_step.specs.Accesses.{word_of}
 use Rattle.v8_step.proofs.Kept.{kept_step}
-use Rattle.cfg_blocks.proofs.Targets.{word_at-some}
-use Rattle.switch_runs.specs.Held.{IsFixed, HoldsText}
 
 -- ---- writing
 

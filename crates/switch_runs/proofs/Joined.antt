@@ -1,24 +1,5 @@
 -- From the load of an entry to the jump of an open switch.
-use Rattle.std.proofs.Common.{◌≡◌, ℕ, suc, ◌+◌, ◌-◌, ◌<◌, ◌≤◌, true, List, length, Some, None, refl, ap, sym, ◌∙◌, arith}
-use Rattle.std.specs.Prelude.{◌==◌, ◌*◌}
-use Rattle.std.proofs.lemmas.Bool.{eq-eqb, lt-ltb}
-use Rattle.eel_base.specs.CodeText.{Words, word_at}
-use Rattle.eel_base.specs.Code.{IsText}
-use Rattle.v8_step.specs.State.{State}
-use Rattle.v8_step.specs.Run.{run}
-use Rattle.v8_step.specs.Valid.{IsValid}
-use Rattle.cfg_blocks.specs.Blocks.{Blocks, below, blocks_of, is_among}
-use Rattle.cfg_blocks.specs.Entries.{Entered, entered_of}
-use Rattle.cfg_blocks.specs.Switches.{switches_of}
-use Rattle.cfg_blocks.proofs.Targets.{word_at-some}
-use Rattle.cfg_normal.specs.Opens.{Open, opens_of}
-use Rattle.cfg_normal.specs.Graph.{Graph, graph_of}
-use Rattle.cfg_walk.specs.Matches.{BeginsAt, FetchesOnly}
-use Rattle.cfg_walk.proofs.Addresses.{word_at-address}
-use Rattle.switch_runs.specs.Cases.{ComesFromCompare, HasPassed, IsOpenSwitch, IsNumbered, LoadsEntry, number_in, steps_to}
-use Rattle.switch_runs.specs.Held.{HoldsText}
-use Rattle.switch_runs.specs.Joined.{GoesByTable, IsCaseBlock, JumpsGoByTable, StandsAt, StoodFrom}
-use Rattle.switch_runs.specs.Runs.{GoesIntoTable}
+use Rattle.switch_runs.proofs.Common.{◌≡◌, ℕ, suc, ◌+◌, ◌-◌, ◌<◌, ◌≤◌, true, List, length, Some, None, refl, ap, sym, ◌∙◌, arith, ◌==◌, ◌*◌, eq-eqb, lt-ltb, Words, word_at, IsText, State, run, IsValid, Blocks, below, blocks_of, is_among, Entered, entered_of, switches_of, word_at-some, Open, opens_of, Graph, graph_of, BeginsAt, FetchesOnly, word_at-address, ComesFromCompare, HasPassed, IsOpenSwitch, IsNumbered, LoadsEntry, number_in, steps_to, HoldsText, GoesByTable, IsCaseBlock, JumpsGoByTable, StandsAt, StoodFrom, GoesIntoTable}
 use Rattle.switch_runs.proofs.Coming.{IsAt}
 use Rattle.switch_runs.proofs.Known.{IsRun}
 use Rattle.switch_runs.proofs.Numbered.{numbers_are_compared, opens_are_one}

@@ -1,28 +1,6 @@
 -- From its own block the jump of an open switch goes to a word of the table.
-use Rattle.std.proofs.Common.{◌≡◌, ℕ, suc, ◌+◌, Bool, true, List, Option, Some, None, refl, ap, sym, ◌∙◌, subst, arith}
-use Rattle.std.specs.Prelude.{◌==◌}
-use Rattle.std.specs.List.{list_any}
-use Rattle.std.specs.Option.{is_some}
-use Rattle.std.proofs.lemmas.Bool.{false≢true}
-use Rattle.eel_base.specs.CodeText.{Words, word_at}
-use Rattle.v8_step.specs.declared.Slot.TheVariants.{NoSlot, Taken}
-use Rattle.v8_step.specs.State.{State, register_of}
-use Rattle.v8_step.specs.Run.{run}
-use Rattle.cfg_blocks.specs.Blocks.{holding_of, last_word}
-use Rattle.cfg_blocks.specs.Entries.{entered_of}
-use Rattle.cfg_blocks.specs.Switches.{runs_slot}
-use Rattle.cfg_normal.specs.declared.Node.{Node}
-use Rattle.cfg_normal.specs.declared.Node.TheVariants.{Block}
-use Rattle.cfg_normal.specs.Opens.{Open, jumps_in}
-use Rattle.cfg_walk.specs.Walk.{point_of}
-use Rattle.cfg_walk.specs.Matches.{GoesByCase, IsTarget}
-use Rattle.cfg_walk.proofs.Edges.{block}
-use Rattle.cfg_blocks.specs.declared.switches.Approach.{Approach}
-use Rattle.cfg_walk.proofs.Leaving.{transfer_ends}
+use Rattle.switch_runs.proofs.Common.{◌≡◌, ℕ, suc, ◌+◌, Bool, true, List, Option, Some, None, refl, ap, sym, ◌∙◌, subst, arith, ◌==◌, list_any, is_some, false≢true, Words, word_at, NoSlot, Taken, State, register_of, run, holding_of, last_word, entered_of, runs_slot, Node, Block, Open, jumps_in, point_of, GoesByCase, IsTarget, block, Approach, transfer_ends, live_before, ComesFromCompare, IsOpenSwitch, ComesAlong, GoesIntoTable, to_branch, to_jump}
 use Rattle.switch_runs.proofs.Blocks.{transfer_at}
-use Rattle.cfg_walk.proofs.Walks.{live_before}
-use Rattle.switch_runs.specs.Cases.{ComesFromCompare, IsOpenSwitch}
-use Rattle.switch_runs.specs.Runs.{ComesAlong, GoesIntoTable, to_branch, to_jump}
 use Rattle.switch_runs.proofs.About.{About, about, in_targets, target_among}
 use Rattle.switch_runs.proofs.Whole.{switches_hold}
 use Rattle.switch_runs.proofs.Branching.{run_add, taken_not}

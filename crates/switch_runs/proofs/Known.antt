@@ -1,44 +1,7 @@
 -- What is known of a run where its walk stands about open switches, and what a step carries out there.
-use Rattle.std.proofs.Common.{◌≡◌, ◌≢◌, ℕ, suc, ◌+◌, ◌-◌, ◌<◌, true, ◌&&◌, List, length, Option, Some, None, inl, inr, refl, ap, sym, ◌∙◌, arith, slice_index}
-use Rattle.std.specs.Prelude.{◌==◌}
-use Rattle.std.specs.List.{Contains}
-use Rattle.std.proofs.lemmas.Bool.{and_parts, cases_Bool, eqb-true, false≢true, lt-ltb}
-use Rattle.eel_base.specs.CodeText.{Words, word_at, address_of}
-use Rattle.eel_base.specs.Code.{IsText}
-use Rattle.v8_step.specs.declared.Slot.{Slot}
-use Rattle.v8_step.specs.declared.Slot.TheVariants.{NoSlot}
-use Rattle.v8_step.specs.State.{State}
-use Rattle.v8_step.specs.Step.{act}
-use Rattle.v8_step.specs.Run.{run}
-use Rattle.v8_step.specs.Valid.{IsValid}
-use Rattle.v8_step.specs.Items.{is_transfer as transfers}
-use Rattle.cfg_blocks.specs.declared.EdgeKind.{EdgeKind}
-use Rattle.cfg_blocks.specs.Blocks.{Blocks, blocks_of, holding_of}
-use Rattle.cfg_blocks.specs.Entries.{Entered, entered_of}
-use Rattle.cfg_blocks.specs.Switches.{runs_slot}
-use Rattle.cfg_blocks.specs.Values.{instr_at as word_instr}
-use Rattle.cfg_normal.specs.declared.Node.{Node}
-use Rattle.cfg_normal.specs.declared.Node.TheVariants.{Block, Landed, X}
-use Rattle.cfg_normal.specs.Code.{home_of, IsNodeIn}
-use Rattle.cfg_normal.specs.Opens.{Open, jumps_in}
-use Rattle.cfg_normal.specs.Graph.{Graph, directed, graph_of, is_compared, node_of}
-use Rattle.cfg_walk.specs.Walk.{instr_at, point_of, way_of}
-use Rattle.cfg_normal.specs.Nodes.{same_kind}
-use Rattle.cfg_walk.specs.Matches.{AreOpen, BeginsAt, FetchesOnly, Matches, MatchesBy}
-use Rattle.cfg_walk.proofs.Cut.{IsCut, cut}
-use Rattle.cfg_walk.proofs.Edges.{block}
-use Rattle.cfg_blocks.specs.Ends.{within}
-use Rattle.cfg_blocks.proofs.Targets.{IsWord}
-use Rattle.cfg_walk.proofs.Addresses.{word_at-address}
-use Rattle.cfg_walk.proofs.Leaving.{node_is}
-use Rattle.v8_step.proofs.CopiedMoves.{goes_act}
+use Rattle.switch_runs.proofs.Common.{◌≡◌, ◌≢◌, ℕ, suc, ◌+◌, ◌-◌, ◌<◌, true, ◌&&◌, List, length, Option, Some, None, inl, inr, refl, ap, sym, ◌∙◌, arith, slice_index, ◌==◌, Contains, and_parts, cases_Bool, eqb-true, false≢true, lt-ltb, Words, word_at, address_of, IsText, Slot, NoSlot, State, act, run, IsValid, transfers, EdgeKind, Blocks, blocks_of, holding_of, Entered, entered_of, runs_slot, instr_at as word_instr, Node, Block, Landed, X, home_of, IsNodeIn, Open, jumps_in, Graph, directed, graph_of, is_compared, node_of, point_of, way_of, same_kind, AreOpen, BeginsAt, FetchesOnly, Matches, MatchesBy, IsCut, cut, block, within, IsWord, word_at-address, node_is, goes_act, home_directed, home_of_node, Each, same_kinds, ComesFromCompare, HasPassed, IsOpenSwitch, HoldsText, to_branch}
+use Rattle.cfg_walk.specs.Walk.{instr_at}
 use Rattle.switch_runs.proofs.Steps.{carries_out, comes_to}
-use Rattle.cfg_walk.proofs.Nodes.{home_directed, home_of_node}
-use Rattle.cfg_walk.proofs.Lists.{Each}
-use Rattle.cfg_walk.proofs.Ways.{same_kinds}
-use Rattle.switch_runs.specs.Cases.{ComesFromCompare, HasPassed, IsOpenSwitch}
-use Rattle.switch_runs.specs.Held.{HoldsText}
-use Rattle.switch_runs.specs.Runs.{to_branch}
 use Rattle.switch_runs.proofs.About.{about}
 use Rattle.switch_runs.proofs.Opened.{are_open, open_found}
 

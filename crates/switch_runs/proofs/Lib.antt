@@ -1,3 +1,4 @@
+pub mod Common
 pub mod Meaning
 pub mod Sums
 pub mod Held

@@ -1,23 +1,9 @@
 -- An open switch's jump goes to an entry that an LD of its own block loads.
-use Rattle.std.proofs.Common.{◌≡◌, ◌≢◌, ℕ, zero, suc, ◌+◌, ◌-◌, ◌<◌, ◌≤◌, true, false, List, [], ◌∷◌, map, slice_set, refl, ap, sym, ◌∙◌, arith, inl, inr}
-use Rattle.std.specs.Prelude.{◌==◌, ◌⊎◌, slice_index_or}
-use Rattle.std.proofs.lemmas.Bool.{cond_both}
-use Rattle.eel_base.specs.CodeText.{Words}
-use Rattle.v8_decode.specs.declared.Op2.{Op2}
+use Rattle.switch_runs.proofs.Common.{◌≡◌, ◌≢◌, ℕ, zero, suc, ◌+◌, ◌-◌, ◌<◌, ◌≤◌, true, false, List, [], ◌∷◌, map, slice_set, refl, ap, sym, ◌∙◌, arith, inl, inr, ◌==◌, ◌⊎◌, slice_index_or, cond_both, Words, Op2, Instr, Approach, Value, Unknown, Const, Index, Place, Entry, after_slot, before_jump, after, either, either_const, followed, if_zero, instr_at, loaded_at, operand_in, plus, plus_const, put, shifted, sum_in, unknown, value_in, Open, is_entry, loaded_here, loads_by, loads_here, unloaded, each, IsJump, HasLoad}
 use Rattle.v8_decode.specs.declared.Op2.TheVariants as o
 use Rattle.v8_decode.specs.declared.AluOp.TheVariants as ops
 use Rattle.v8_decode.specs.declared.LoadKind.TheVariants as loads
-use Rattle.v8_decode.specs.declared.Instr.{Instr}
 use Rattle.v8_decode.specs.declared.Instr.TheVariants as i
-use Rattle.cfg_blocks.specs.declared.switches.Approach.{Approach}
-use Rattle.cfg_blocks.specs.declared.switches.Value.{Value}
-use Rattle.cfg_blocks.specs.declared.switches.Value.TheVariants.{Unknown, Const, Index, Place, Entry}
-use Rattle.cfg_blocks.specs.Switches.{after_slot, before_jump}
-use Rattle.cfg_blocks.specs.Values.{after, either, either_const, followed, if_zero, instr_at, loaded_at, operand_in, plus, plus_const, put, shifted, sum_in, unknown, value_in}
-use Rattle.cfg_normal.specs.Opens.{Open, is_entry, loaded_here, loads_by, loads_here, unloaded}
-use Rattle.cfg_walk.proofs.Lists.{each}
-use Rattle.jump_slice.proofs.Parts.{IsJump}
-use Rattle.switch_runs.specs.Joined.{HasLoad}
 
 -- ---- what is so of the values of two lists, register by register, stays so after an instruction
 

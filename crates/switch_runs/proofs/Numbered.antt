@@ -1,26 +1,9 @@
 -- The number that was compared is that of the entry where the jump goes.
-use Rattle.std.proofs.Common.{◌≡◌, ℕ, ◌+◌, ◌*◌, ◌<◌, ◌≤◌, Bool, List, Option, Some, None, ap, sym, ◌∙◌, arith}
-use Rattle.eel_base.specs.declared.numbers.BlockNo.{BlockNo}
+use Rattle.switch_runs.proofs.Common.{◌≡◌, ℕ, ◌+◌, ◌*◌, ◌<◌, ◌≤◌, Bool, List, Option, Some, None, ap, sym, ◌∙◌, arith, BlockNo, holds_of, wrapped, State, register_of, sum_of, run, lived_to, EdgeKind, Switch, WordNo, blocks_of, entered_of, is_taken, runs_slot, switch_of, switches_of, Open, opens_of, targets_of, IsJump, HasPassed, IsOpenSwitch, LoadsEntry, NumbersAreCompared, OpensAreOne, approach_to, steps_to, GoesIntoTable, to_branch, to_jump, Words}
 use Rattle.v8_decode.specs.declared.LoadKind.TheVariants as loads
-use Rattle.v8_alu.specs.Conditions.{holds_of}
-use Rattle.v8_alu.specs.Numbers.{wrapped}
-use Rattle.v8_step.specs.State.{State, register_of, sum_of}
-use Rattle.v8_step.specs.Run.{run}
-use Rattle.cfg_walk.proofs.Walks.{lived_to}
 use Rattle.cfg_blocks.specs.declared.BlockEnd.TheVariants as ends
-use Rattle.cfg_blocks.specs.declared.EdgeKind.{EdgeKind}
 use Rattle.cfg_blocks.specs.declared.Into.TheVariants as into
-use Rattle.cfg_blocks.specs.declared.switches.Switch.{Switch}
-use Rattle.eel_base.specs.declared.numbers.WordNo.{WordNo}
-use Rattle.cfg_blocks.specs.Blocks.{blocks_of}
-use Rattle.cfg_blocks.specs.Entries.{entered_of}
-use Rattle.cfg_blocks.specs.Switches.{is_taken, runs_slot, switch_of, switches_of}
-use Rattle.cfg_normal.specs.Opens.{Open, opens_of, targets_of}
-use Rattle.jump_slice.proofs.Parts.{IsJump}
-use Rattle.switch_runs.specs.Cases.{HasPassed, IsOpenSwitch, LoadsEntry, NumbersAreCompared, OpensAreOne, approach_to, steps_to}
-use Rattle.switch_runs.specs.Runs.{GoesIntoTable, to_branch, to_jump}
 use Rattle.switch_runs.proofs.About.{About, about}
-use Rattle.eel_base.specs.CodeText.{Words}
 use Rattle.switch_runs.proofs.Known.{IsRun}
 use Rattle.switch_runs.proofs.Walking.{run_of}
 use Rattle.switch_runs.proofs.Branching.{run_add}

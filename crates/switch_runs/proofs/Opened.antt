@@ -1,33 +1,8 @@
 -- What is known of each open switch of a text.
-use Rattle.std.proofs.Common.{◌≡◌, ℕ, suc, ◌+◌, ◌<◌, Bool, true, false, not, ◌&&◌, nat_lt, List, [], ◌∷◌, ◌++◌, length, Option, Some, None, refl, ap, sym, ◌∙◌, arith, slice_index, inl, inr}
-use Rattle.std.specs.Prelude.{if◌then◌else◌, ◌==◌, slice_index_or}
-use Rattle.std.specs.List.{Contains, list_any}
-use Rattle.std.specs.Option.{option_to_list}
-use Rattle.std.proofs.lemmas.Bool.{and_parts, cases_Bool, cond_both, eq-eqb, eqb-true, false≢true}
-use Rattle.std.proofs.lemmas.Bool.Decides.{nat_tests}
-use Rattle.eel_base.specs.CodeText.{Words}
-use Rattle.eel_base.specs.Code.{IsText}
-use Rattle.eel_base.specs.declared.numbers.BlockNo.{BlockNo}
-use Rattle.eel_base.specs.declared.numbers.WordNo.{WordNo}
-use Rattle.cfg_blocks.specs.declared.BlockEnd.{BlockEnd}
+use Rattle.switch_runs.proofs.Common.{◌≡◌, ℕ, suc, ◌+◌, ◌<◌, Bool, true, false, not, ◌&&◌, nat_lt, List, [], ◌∷◌, ◌++◌, length, Option, Some, None, refl, ap, sym, ◌∙◌, arith, slice_index, inl, inr, if◌then◌else◌, ◌==◌, slice_index_or, Contains, list_any, option_to_list, and_parts, cases_Bool, cond_both, eq-eqb, eqb-true, false≢true, nat_tests, Words, IsText, BlockNo, WordNo, BlockEnd, EdgeKind, Approach, Compare, Switch, Blocks, below, blocks_of, end_of, holding_of, last_word, Entered, entered_of, approach_of, compare_of, switch_of, switches_of, bounds, is_jump, switch_behind, switch_into, switch_on, Open, candidate, is_candidate, is_closed, loads_here, opened, opens_of, targets_of, with_switch, AreOpen, cut, is_held, some_words, Each, each-append, each-below, each-flat_map, if_some, switch_at-is, IsOpenSwitch, instr_at}
 use Rattle.cfg_blocks.specs.declared.BlockEnd.TheVariants as ends
-use Rattle.cfg_blocks.specs.declared.EdgeKind.{EdgeKind}
 use Rattle.cfg_blocks.specs.declared.Into.{Into}
 use Rattle.cfg_blocks.specs.declared.Into.TheVariants as into
-use Rattle.cfg_blocks.specs.declared.switches.Approach.{Approach}
-use Rattle.cfg_blocks.specs.declared.switches.Compare.{Compare}
-use Rattle.cfg_blocks.specs.declared.switches.Switch.{Switch}
-use Rattle.cfg_blocks.specs.Blocks.{Blocks, below, blocks_of, end_of, holding_of, last_word}
-use Rattle.cfg_blocks.specs.Entries.{Entered, entered_of}
-use Rattle.cfg_blocks.specs.Switches.{approach_of, compare_of, switch_of, switches_of, bounds, is_jump, switch_behind, switch_into, switch_on}
-use Rattle.cfg_normal.specs.Opens.{Open, candidate, is_candidate, is_closed, loads_here, opened, opens_of, targets_of, with_switch}
-use Rattle.cfg_walk.specs.Matches.{AreOpen}
-use Rattle.cfg_walk.proofs.Cut.{cut}
-use Rattle.cfg_walk.proofs.Holding.{is_held, some_words}
-use Rattle.cfg_walk.proofs.Lists.{Each, each-append, each-below, each-flat_map}
-use Rattle.jump_slice.proofs.Parts.{if_some, switch_at-is}
-use Rattle.switch_runs.specs.Cases.{IsOpenSwitch}
-use Rattle.cfg_blocks.specs.Values.{instr_at}
 
 -- ---- what a switch is made of
 

@@ -1,34 +1,7 @@
 -- The machine stands outside a delay slot where it has come to a word that isn't the second of a block or later, but
 -- for the last: each slot is the word after a transfer, and the word after that begins a block.
-use Rattle.std.proofs.Common.{◌≡◌, ◌≢◌, ℕ, zero, suc, ◌+◌, ◌%◌, ◌^◌, ◌<◌, ◌≤◌, Bool, true, false, Some, None, List, [], length, slice_index, refl, ap, sym, ◌∙◌, subst, arith, inl, inr}
-use Rattle.std.specs.Prelude.{◌==◌}
-use Rattle.std.proofs.lemmas.Bool.{cases_Bool, cond_both, false≢true}
-use Rattle.eel_base.specs.CodeText.{Words, address_of}
-use Rattle.eel_base.specs.Code.{IsText}
-use Rattle.v8_decode.specs.declared.Instr.{Instr}
+use Rattle.switch_runs.proofs.Common.{◌≡◌, ◌≢◌, ℕ, zero, suc, ◌+◌, ◌%◌, ◌^◌, ◌<◌, ◌≤◌, Bool, true, false, Some, None, List, [], length, slice_index, refl, ap, sym, ◌∙◌, subst, arith, inl, inr, ◌==◌, cases_Bool, cond_both, false≢true, Words, address_of, IsText, Instr, holds_of, wrapped, Couple, Slot, NoSlot, State, sum_of, branch_step, branched, call_step, jump_step, target_of, unless_couple, act, run, transfers, goes_act, end_at, is_transfer, Blocks, blocks_of, last_word, instr_at, Graph, graph_of, end_of_walk, point_of, BeginsAt, FetchesOnly, MatchesBy, next_address, IsCut, cut, ends_within, live_before, walks_match, couples}
 use Rattle.v8_decode.specs.declared.Instr.TheVariants as i
-use Rattle.v8_alu.specs.Conditions.{holds_of}
-use Rattle.v8_alu.specs.Numbers.{wrapped}
-use Rattle.v8_step.specs.declared.Ending.TheVariants.{Couple}
-use Rattle.v8_step.specs.declared.Slot.{Slot}
-use Rattle.v8_step.specs.declared.Slot.TheVariants.{NoSlot}
-use Rattle.v8_step.specs.State.{State, sum_of}
-use Rattle.v8_step.specs.Transfers.{branch_step, branched, call_step, jump_step, target_of, unless_couple}
-use Rattle.v8_step.specs.Step.{act}
-use Rattle.v8_step.specs.Run.{run}
-use Rattle.v8_step.specs.Items.{is_transfer as transfers}
-use Rattle.v8_step.proofs.CopiedMoves.{goes_act}
-use Rattle.cfg_blocks.specs.Ends.{end_at, is_transfer}
-use Rattle.cfg_blocks.specs.Blocks.{Blocks, blocks_of, last_word}
-use Rattle.cfg_blocks.specs.Values.{instr_at}
-use Rattle.cfg_normal.specs.Graph.{Graph, graph_of}
-use Rattle.cfg_walk.specs.Walk.{end_of_walk, point_of}
-use Rattle.cfg_walk.specs.Matches.{BeginsAt, FetchesOnly, MatchesBy}
-use Rattle.cfg_walk.proofs.Addresses.{next_address}
-use Rattle.cfg_walk.proofs.Cut.{IsCut, cut}
-use Rattle.cfg_walk.proofs.Holding.{ends_within}
-use Rattle.cfg_walk.proofs.Walks.{live_before, walks_match}
-use Rattle.cfg_walk.proofs.States.{couples}
 use Rattle.switch_runs.proofs.Coming.{IsAt}
 use Rattle.switch_runs.proofs.Blocks.{no_leader, transfer_at}
 use Rattle.switch_runs.proofs.Steps.{carries_out, comes_to}

@@ -1,38 +1,11 @@
 -- What is known in a slot, and where the walk comes out of one.
-use Rattle.std.proofs.Common.{◌≡◌, ◌≢◌, ℕ, zero, suc, ◌+◌, ◌-◌, ◌<◌, Bool, true, false, ◌&&◌, ◌||◌, nat_lt, List, [], ◌∷◌, Some, None, refl, ap, sym, ◌∙◌, subst, arith, slice_index, inl, inr}
-use Rattle.std.specs.Prelude.{if◌then◌else◌, ◌==◌}
-use Rattle.std.specs.List.{Contains, list_any}
-use Rattle.std.proofs.lemmas.Bool.{and_from, cases_Bool, eq-eqb, false≢true, lt-ltb, or_left, or_right}
-use Rattle.eel_base.specs.CodeText.{Words, word_at}
+use Rattle.switch_runs.proofs.Common.{◌≡◌, ◌≢◌, ℕ, zero, suc, ◌+◌, ◌-◌, ◌<◌, Bool, true, false, ◌&&◌, ◌||◌, nat_lt, List, [], ◌∷◌, Some, None, refl, ap, sym, ◌∙◌, subst, arith, slice_index, inl, inr, if◌then◌else◌, ◌==◌, Contains, list_any, and_from, cases_Bool, eq-eqb, false≢true, lt-ltb, or_left, or_right, Words, word_at, holds_of, Slot, NoSlot, State, act, run, transfers, EdgeKind, holding_of, last_word, is_taken, runs_slot, instr_at as word_instr, word_at-some, Node, home_of, Open, is_behind, jumps_in, lands_of, node_of, slot_left, node_after, point_of, way_of, same_kind, Begins, IsOnItsWay, MatchesBy, block, node_at, node_is, transfer_ends, home_directed, home_of_node, same_kinds, to_branch}
 use Rattle.v8_decode.specs.declared.Instr.TheVariants as i
-use Rattle.v8_alu.specs.Conditions.{holds_of}
-use Rattle.v8_step.specs.declared.Slot.{Slot}
-use Rattle.v8_step.specs.declared.Slot.TheVariants.{NoSlot}
-use Rattle.v8_step.specs.State.{State}
-use Rattle.v8_step.specs.Step.{act}
-use Rattle.v8_step.specs.Run.{run}
-use Rattle.v8_step.specs.Items.{is_transfer as transfers}
-use Rattle.cfg_blocks.specs.declared.EdgeKind.{EdgeKind}
 use Rattle.cfg_blocks.specs.declared.EdgeKind.TheVariants as kinds
-use Rattle.cfg_blocks.specs.Blocks.{holding_of, last_word}
-use Rattle.cfg_blocks.specs.Switches.{is_taken, runs_slot}
-use Rattle.cfg_blocks.specs.Values.{instr_at as word_instr}
-use Rattle.cfg_blocks.proofs.Targets.{word_at-some}
-use Rattle.cfg_normal.specs.declared.Node.{Node}
-use Rattle.cfg_normal.specs.Code.{home_of}
-use Rattle.cfg_normal.specs.Opens.{Open, is_behind, jumps_in}
-use Rattle.cfg_normal.specs.Graph.{lands_of, node_of}
-use Rattle.cfg_walk.specs.Walk.{slot_left, instr_at, node_after, point_of, way_of}
-use Rattle.cfg_normal.specs.Nodes.{same_kind}
-use Rattle.cfg_walk.specs.Matches.{Begins, IsOnItsWay, MatchesBy}
-use Rattle.cfg_walk.proofs.Edges.{block, node_at}
+use Rattle.cfg_walk.specs.Walk.{instr_at}
 use Rattle.cfg_walk.proofs.Slots.{jump_lands, way_leads}
-use Rattle.cfg_walk.proofs.Leaving.{node_is, transfer_ends}
 use Rattle.switch_runs.proofs.Blocks.{transfer_at}
 use Rattle.switch_runs.proofs.Outside.{enters}
-use Rattle.cfg_walk.proofs.Nodes.{home_directed, home_of_node}
-use Rattle.cfg_walk.proofs.Ways.{same_kinds}
-use Rattle.switch_runs.specs.Runs.{to_branch}
 use Rattle.switch_runs.proofs.About.{About, about}
 use Rattle.switch_runs.proofs.Branching.{branch_tells}
 use Rattle.switch_runs.proofs.Known.{Carries, Compared, IsRun, Passed, Passing, Tells, b, carried, graph, heads, holds_word, known_outside, parts, sets_transfer, HasCompared}

@@ -1,37 +1,10 @@
 -- What is known after a step that neither sets a slot nor leaves one.
-use Rattle.std.proofs.Common.{◌≡◌, ℕ, suc, ◌+◌, ◌<◌, Bool, true, false, List, [], length, Some, None, refl, ap, sym, ◌∙◌, subst, arith, slice_index, inl, inr}
-use Rattle.std.specs.Prelude.{if◌then◌else◌, ◌==◌, ℤ}
-use Rattle.std.proofs.lemmas.Bool.{cases_Bool, cases_lt, eqb-true, false≢true}
-use Rattle.eel_base.specs.CodeText.{Words, address_of, word_at}
+use Rattle.switch_runs.proofs.Common.{◌≡◌, ℕ, suc, ◌+◌, ◌<◌, Bool, true, false, List, [], length, Some, None, refl, ap, sym, ◌∙◌, subst, arith, slice_index, inl, inr, if◌then◌else◌, ◌==◌, ℤ, cases_Bool, cases_lt, eqb-true, false≢true, Words, address_of, word_at, NoSlot, State, run, transfers, EdgeKind, holding_of, last_word, bounds, instr_at as word_instr, Node, home_of, Open, directed, node_of, Point, edge_from, left_at, node_after, point_of, same_kind, MatchesBy, block, IsIn, Leads, ends_at_next, ends_at_words, first_held, in_held, some_words, within, is_transfer, next_word, end_is, ends_home, falls_to, node_is, straight_end, straight_left, transfer_ends, Stands, within_some, goes_act, IsOpenSwitch, to_branch}
 use Rattle.v8_decode.specs.declared.Instr.TheVariants as i
-use Rattle.v8_step.specs.declared.Slot.TheVariants.{NoSlot}
-use Rattle.v8_step.specs.State.{State}
-use Rattle.v8_step.specs.Run.{run}
-use Rattle.v8_step.specs.Items.{is_transfer as transfers}
-use Rattle.cfg_blocks.specs.declared.EdgeKind.{EdgeKind}
 use Rattle.cfg_blocks.specs.declared.EdgeKind.TheVariants as kinds
-use Rattle.cfg_blocks.specs.Blocks.{holding_of, last_word}
-use Rattle.cfg_blocks.specs.Switches.{bounds}
-use Rattle.cfg_blocks.specs.Values.{instr_at as word_instr}
-use Rattle.cfg_normal.specs.declared.Node.{Node}
-use Rattle.cfg_normal.specs.Code.{home_of}
-use Rattle.cfg_normal.specs.Opens.{Open}
-use Rattle.cfg_normal.specs.Graph.{directed, node_of}
-use Rattle.cfg_walk.specs.Walk.{Point, edge_from, left_at, node_after, point_of}
-use Rattle.cfg_normal.specs.Nodes.{same_kind}
-use Rattle.cfg_walk.specs.Matches.{MatchesBy}
-use Rattle.cfg_walk.proofs.Edges.{block}
 use Rattle.cfg_walk.proofs.Slots.{LeadsIfThere}
-use Rattle.cfg_walk.proofs.Holding.{IsIn, Leads, ends_at_next, ends_at_words, first_held, in_held, some_words}
-use Rattle.cfg_blocks.specs.Ends.{within, is_transfer}
-use Rattle.cfg_walk.proofs.Addresses.{next_word}
-use Rattle.cfg_walk.proofs.Leaving.{end_is, ends_home, falls_to, node_is, straight_end, straight_left, transfer_ends}
-use Rattle.cfg_walk.proofs.Points.{Stands, within_some}
 use Rattle.cfg_walk.proofs.Transfers.{always_goes, untaken_goes}
 use Rattle.switch_runs.proofs.Blocks.{is_conditional, not_bounded}
-use Rattle.v8_step.proofs.CopiedMoves.{goes_act}
-use Rattle.switch_runs.specs.Cases.{IsOpenSwitch}
-use Rattle.switch_runs.specs.Runs.{to_branch}
 use Rattle.switch_runs.proofs.About.{about}
 use Rattle.switch_runs.proofs.Branching.{Annulled, annul_of, annulled_is, cond_of}
 use Rattle.switch_runs.proofs.Known.{Carries, Compared, IsHead, IsRun, Passed, Tells, b, carried, graph, heads, holds_word, known_outside, list, opened, parts}

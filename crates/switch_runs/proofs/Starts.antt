@@ -1,22 +1,12 @@
 -- A file without a fault starts with its text in memory, in a region that may not be written.
-use Rattle.std.proofs.Common.{◌≡◌, ℕ, ◌+◌, ◌%◌, ◌<◌, ◌≤◌, Bool, true, false, not, nat_le, nat_lt, Option, Some, None, List, [], ◌∷◌, ◌++◌, map, slice_index, refl, sym, ◌∙◌, arith}
-use Rattle.std.specs.Prelude.{if◌then◌else◌, ◌==◌}
-use Rattle.std.specs.List.{filter, find}
-use Rattle.std.specs.Option.{option_map}
-use Rattle.std.proofs.lemmas.Bool.{and_parts, cond-false, cond-true, cond_both, leb-true, ltb-false, or_parts}
-use Rattle.eel_base.specs.CodeText.{address_of}
+use Rattle.switch_runs.proofs.Common.{◌≡◌, ℕ, ◌+◌, ◌%◌, ◌<◌, ◌≤◌, Bool, true, false, not, nat_le, nat_lt, Option, Some, None, List, [], ◌∷◌, ◌++◌, map, slice_index, refl, sym, ◌∙◌, arith, if◌then◌else◌, ◌==◌, filter, find, option_map, and_parts, cond-false, cond-true, cond_both, leb-true, ltb-false, or_parts, address_of, loadable, program_headers, mapping_of, mappings, Region, code_of, covers, fetch_from, fetch_of, is_code, word_in, program_name, stack_region, start_memory, start_of, IsFixed, TextIsHeld, nat_tests}
 use Rattle.elf32_sparc.specs.declared.header.ProgramHeader.{ProgramHeader}
-use Rattle.elf32_sparc.specs.Header.{end_of, loadable, program_headers}
-use Rattle.elf32_sparc.specs.Mapping.{mapping_of, mappings}
+use Rattle.elf32_sparc.specs.Header.{end_of}
 use Rattle.elf32_sparc.specs.FileFault.{descends_from, has_disorder}
 use Rattle.elf32_sparc.specs.Image.{image_of, text_of}
 use Rattle.elf32_sparc.proofs.Accepted.{Accepted, accepted}
-use Rattle.v8_memory.specs.Regions.{Region, code_of, covers, fetch_from, fetch_of, is_code, word_in}
 use Rattle.v8_memory.specs.Segments.{region_of}
-use Rattle.v8_process.specs.Start.{program_name, stack_region, start_memory, start_of}
 use Rattle.v8_process.proofs.Fetched.{text_is_fetched}
-use Rattle.switch_runs.specs.Held.{IsFixed, TextIsHeld}
-use Rattle.std.proofs.lemmas.Bool.Decides.{nat_tests}
 
 not_true : (b : Bool) → not b ≡ true → b ≡ false
 not_true b e = grind arith

@@ -1,21 +1,6 @@
 -- What the steps of a run carry out: the words of the text.
-use Rattle.std.proofs.Common.{◌≡◌, ℕ, suc, ◌<◌, Option, Some, None, length, slice_index, refl, ap, sym, ◌∙◌, arith}
-use Rattle.std.specs.Option.{option_map}
-use Rattle.std.proofs.lemmas.Bool.{lt-ltb}
-use Rattle.eel_base.specs.CodeText.{Words, address_of, word_at}
-use Rattle.eel_base.specs.Code.{IsText}
-use Rattle.v8_memory.specs.Regions.{fetch_of}
-use Rattle.v8_step.specs.State.{State}
-use Rattle.v8_step.specs.Step.{act, on_word, step_of}
-use Rattle.v8_step.specs.Run.{run}
+use Rattle.switch_runs.proofs.Common.{◌≡◌, ℕ, suc, ◌<◌, Option, Some, None, length, slice_index, refl, ap, sym, ◌∙◌, arith, option_map, lt-ltb, Words, address_of, word_at, IsText, fetch_of, State, act, on_word, step_of, run, code_stays, within, instr_at, IsWord, word_at-some, FetchesOnly, word_at-address, live_before}
 use Rattle.v8_step.proofs.Live.{live_step}
-use Rattle.v8_step.proofs.Executable.{code_stays}
-use Rattle.cfg_blocks.specs.Ends.{within}
-use Rattle.cfg_blocks.specs.Values.{instr_at}
-use Rattle.cfg_blocks.proofs.Targets.{IsWord, word_at-some}
-use Rattle.cfg_walk.specs.Matches.{FetchesOnly}
-use Rattle.cfg_walk.proofs.Addresses.{word_at-address}
-use Rattle.cfg_walk.proofs.Walks.{live_before}
 
 -- ---- a step carries out the word at pc
 

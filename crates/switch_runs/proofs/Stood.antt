@@ -1,33 +1,7 @@
 -- In the jump's block of an open switch: the machine stands at each word so many steps after the comparison, and where
 -- the walk is at the block itself at the jump, it was so before.
-use Rattle.std.proofs.Common.{◌≡◌, ℕ, zero, suc, ◌+◌, ◌<◌, ◌≤◌, Bool, true, false, List, [], length, Option, Some, None, ap, sym, ◌∙◌, arith, slice_index}
-use Rattle.std.specs.Prelude.{if◌then◌else◌}
-use Rattle.std.proofs.lemmas.Bool.{ne_eqb}
-use Rattle.eel_base.specs.CodeText.{Words, word_at}
-use Rattle.v8_step.specs.declared.Ending.{Ending}
-use Rattle.v8_step.specs.declared.Slot.{Slot}
-use Rattle.v8_step.specs.declared.Slot.TheVariants.{NoSlot}
-use Rattle.v8_step.specs.State.{State}
-use Rattle.v8_step.specs.Items.{is_transfer}
-use Rattle.v8_step.specs.Run.{run}
+use Rattle.switch_runs.proofs.Common.{◌≡◌, ℕ, zero, suc, ◌+◌, ◌<◌, ◌≤◌, Bool, true, false, List, [], length, Option, Some, None, ap, sym, ◌∙◌, arith, slice_index, if◌then◌else◌, ne_eqb, Words, word_at, Ending, Slot, NoSlot, State, transfers as is_transfer, run, below, blocks_of, holding_of, is_among, last_word, within, entered_of, runs_slot, instr_at, Node, home_of, Open, node_of, Point, completed, edge_from, end_of_walk, gone, left_at, node_after, point_of, unless_ended, MatchesBy, block, ends_within, is_held, ends_home, node_is, straight_left, live_before, lived_to, HasPassed, IsOpenSwitch, approach_to, steps_to, to_jump}
 use Rattle.cfg_blocks.specs.declared.EdgeKind.TheVariants as kinds
-use Rattle.cfg_blocks.specs.Blocks.{below, blocks_of, holding_of, is_among, last_word}
-use Rattle.cfg_blocks.specs.Ends.{within}
-use Rattle.cfg_blocks.specs.Entries.{entered_of}
-use Rattle.cfg_blocks.specs.Switches.{runs_slot}
-use Rattle.cfg_blocks.specs.Values.{instr_at}
-use Rattle.cfg_normal.specs.declared.Node.{Node}
-use Rattle.cfg_normal.specs.Code.{home_of}
-use Rattle.cfg_normal.specs.Opens.{Open}
-use Rattle.cfg_normal.specs.Graph.{node_of}
-use Rattle.cfg_walk.specs.Walk.{Point, completed, edge_from, end_of_walk, gone, left_at, node_after, point_of, unless_ended}
-use Rattle.cfg_walk.specs.Matches.{MatchesBy}
-use Rattle.cfg_walk.proofs.Edges.{block}
-use Rattle.cfg_walk.proofs.Holding.{ends_within, is_held}
-use Rattle.cfg_walk.proofs.Leaving.{ends_home, node_is, straight_left}
-use Rattle.cfg_walk.proofs.Walks.{live_before, lived_to}
-use Rattle.switch_runs.specs.Cases.{HasPassed, IsOpenSwitch, approach_to, steps_to}
-use Rattle.switch_runs.specs.Runs.{to_jump}
 use Rattle.switch_runs.proofs.About.{About, about}
 use Rattle.switch_runs.proofs.Arriving.{at_jump}
 use Rattle.switch_runs.proofs.Coming.{IsAt, Ready}

@@ -1,15 +1,6 @@
 -- The rows for ADD, OR, SLL and LD say what these do.
-use Rattle.std.proofs.Common.{◌≡◌, ℕ, ◌+◌, ◌*◌, ◌^◌, ◌<◌, ap, ◌∙◌, arith}
-use Rattle.std.proofs.lemmas.Bool.{cond_both}
-use Rattle.std.specs.Prelude.{if◌then◌else◌, ◌==◌, bit_or}
+use Rattle.switch_runs.proofs.Common.{◌≡◌, ℕ, ◌+◌, ◌*◌, ◌^◌, ◌<◌, ap, ◌∙◌, arith, cond_both, if◌then◌else◌, ◌==◌, bit_or, nat_tests, Words, wrapped, count_of, Value, Unknown, Const, Index, Place, either, either_const, if_zero, plus, plus_const, shifted}
 use Rattle.std.specs.Int.Bits.{or_zero_l, or_zero_r}
-use Rattle.std.proofs.lemmas.Bool.Decides.{nat_tests}
-use Rattle.eel_base.specs.CodeText.{Words}
-use Rattle.v8_alu.specs.Numbers.{wrapped}
-use Rattle.v8_alu.specs.Alu.{count_of}
-use Rattle.cfg_blocks.specs.declared.switches.Value.{Value}
-use Rattle.cfg_blocks.specs.declared.switches.Value.TheVariants.{Unknown, Const, Index, Place}
-use Rattle.cfg_blocks.specs.Values.{either, either_const, if_zero, plus, plus_const, shifted}
 use Rattle.switch_runs.proofs.Meaning.{Meaning}
 
 module _ (text : Words) (x : ℕ) (K : Type 0) where

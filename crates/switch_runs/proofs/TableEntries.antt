@@ -1,14 +1,5 @@
 -- The entries of a switch's table: each stands in the text, and leads into it.
-use Rattle.std.proofs.Common.{◌≡◌, ℕ, ◌+◌, ◌*◌, ◌<◌, ◌≤◌, true, Option, Some, None, length, slice_index, refl, arith, nat_le}
-use Rattle.std.specs.Option.{is_some}
-use Rattle.std.proofs.lemmas.Bool.{and_parts, lt-ltb, leb-true}
-use Rattle.eel_base.specs.CodeText.{Words, address_of, word_at}
-use Rattle.eel_base.specs.Code.{IsText}
-use Rattle.v8_alu.specs.Numbers.{wrapped}
-use Rattle.cfg_blocks.specs.Switches.{are_targets, is_table, is_table_at}
-use Rattle.cfg_blocks.proofs.Targets.{word_at-some}
-use Rattle.cfg_walk.proofs.Addresses.{word_at-address}
-use Rattle.jump_slice.proofs.Parts.{targets_inside}
+use Rattle.switch_runs.proofs.Common.{◌≡◌, ℕ, ◌+◌, ◌*◌, ◌<◌, ◌≤◌, true, Option, Some, None, length, slice_index, refl, arith, nat_le, is_some, and_parts, lt-ltb, leb-true, Words, address_of, word_at, IsText, wrapped, are_targets, is_table, is_table_at, word_at-some, word_at-address, targets_inside}
 
 pub record HasEntry (text : Words) (table x : ℕ) : Type 0 where
   pub entry : ℕ

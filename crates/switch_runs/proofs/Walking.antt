@@ -1,41 +1,7 @@
 -- Where the walk stands at the block of an open switch's jump, the comparison was made: along each run.
-use Rattle.std.proofs.Common.{◌≡◌, ◌≢◌, ℕ, zero, suc, ◌-◌, ◌<◌, true, false, List, length, Option, Some, None, refl, ap, sym, ◌∙◌, subst, arith, slice_index, inl, inr}
-use Rattle.std.specs.Prelude.{◌==◌}
-use Rattle.std.proofs.lemmas.Bool.{cases_Bool, eq-eqb, eqb-true, false≢true, lt-ltb}
-use Rattle.eel_base.specs.CodeText.{Words, word_at}
-use Rattle.eel_base.specs.Code.{IsText}
-use Rattle.v8_step.specs.declared.Ending.{Ending}
-use Rattle.v8_step.specs.declared.Slot.{Slot}
-use Rattle.v8_step.specs.declared.Slot.TheVariants.{NoSlot}
-use Rattle.v8_step.specs.State.{State}
-use Rattle.v8_step.specs.Run.{run}
-use Rattle.v8_step.specs.Valid.{IsValid}
-use Rattle.v8_step.specs.Items.{is_transfer as transfers}
-use Rattle.cfg_blocks.specs.declared.EdgeKind.{EdgeKind}
-use Rattle.cfg_blocks.specs.Blocks.{holding_of, is_among}
-use Rattle.cfg_blocks.specs.Entries.{entered_of}
-use Rattle.cfg_blocks.specs.Switches.{switches_of}
-use Rattle.cfg_blocks.specs.Values.{instr_at as word_instr}
-use Rattle.cfg_normal.specs.declared.Node.{Node}
-use Rattle.cfg_normal.specs.Opens.{Open, jumps_in, opens_of}
-use Rattle.cfg_normal.specs.Graph.{node_of}
-use Rattle.cfg_walk.specs.Walk.{completed, end_of_walk, gone, goes_on_at, instr_at, node_after, point_of, unless_ended, way_of}
-use Rattle.cfg_walk.specs.Matches.{JumpsGoByCase, BeginsAt, FetchesOnly, MatchesBy}
-use Rattle.cfg_walk.proofs.Cut.{entry_leads}
-use Rattle.cfg_walk.proofs.Edges.{block}
-use Rattle.cfg_walk.proofs.Holding.{first_held}
-use Rattle.cfg_blocks.specs.Ends.{within}
-use Rattle.cfg_walk.proofs.Addresses.{word_at-address}
-use Rattle.cfg_walk.proofs.Leaving.{node_is}
-use Rattle.v8_step.proofs.CopiedMoves.{goes_act}
-use Rattle.cfg_walk.proofs.States.{couples}
-use Rattle.cfg_walk.proofs.Walks.{first as first_matches, live_before, steps_match}
-use Rattle.cfg_walk.proofs.Nodes.{node_in}
-use Rattle.v8_step.proofs.Executable.{code_stays}
-use Rattle.v8_step.specs.declared.Ending.TheVariants.{Couple}
+use Rattle.switch_runs.proofs.Common.{◌≡◌, ◌≢◌, ℕ, zero, suc, ◌-◌, ◌<◌, true, false, List, length, Option, Some, None, refl, ap, sym, ◌∙◌, subst, arith, slice_index, inl, inr, ◌==◌, cases_Bool, eq-eqb, eqb-true, false≢true, lt-ltb, Words, word_at, IsText, Ending, Slot, NoSlot, State, run, IsValid, transfers, EdgeKind, holding_of, is_among, entered_of, switches_of, instr_at as word_instr, Node, Open, jumps_in, opens_of, node_of, completed, end_of_walk, gone, goes_on_at, node_after, point_of, unless_ended, way_of, JumpsGoByCase, BeginsAt, FetchesOnly, MatchesBy, entry_leads, block, first_held, within, word_at-address, node_is, goes_act, couples, first_matches, live_before, steps_match, node_in, code_stays, Couple, JumpsAreCases, SwitchesAreCompared, SwitchWalksMatch, ComesFromCompare, HoldsText}
+use Rattle.cfg_walk.specs.Walk.{instr_at}
 use Rattle.switch_runs.proofs.Opened.{opens_are, open_found}
-use Rattle.switch_runs.specs.Cases.{JumpsAreCases, SwitchesAreCompared, SwitchWalksMatch, ComesFromCompare}
-use Rattle.switch_runs.specs.Held.{HoldsText}
 use Rattle.switch_runs.proofs.About.{about}
 use Rattle.switch_runs.proofs.Known.{Carries, Compared, IsHead, IsRun, KnownBy, Passed, Tells, b, block_number, carried, graph, known_outside, list, opened, parts, same_some, sets_transfer}
 use Rattle.switch_runs.proofs.Jumping.{goes_by_case}

@@ -1,60 +1,21 @@
 -- The jump of a switch goes to an entry of its table.
-use Rattle.std.proofs.Common.{◌≡◌, ◌≢◌, ℕ, ◌+◌, ◌*◌, ◌%◌, ◌<◌, ◌≤◌, Bool, true, Option, Some, None, List, length, slice_index, inl, inr, refl, ap, sym, ◌∙◌, subst, arith}
-use Rattle.std.specs.Prelude.{ℤ, pos}
-use Rattle.std.specs.Option.{is_some}
-use Rattle.std.proofs.lemmas.Bool.{cases_order, eq-eqb}
-use Rattle.std.proofs.lemmas.List.{length-map}
-use Rattle.eel_base.specs.declared.numbers.WordNo.{WordNo}
-use Rattle.eel_base.specs.CodeText.{Words, address_of, word_at}
-use Rattle.eel_base.specs.Code.{IsText}
-use Rattle.v8_decode.specs.declared.Op2.{Op2}
+use Rattle.switch_runs.proofs.Common.{◌≡◌, ◌≢◌, ℕ, ◌+◌, ◌*◌, ◌%◌, ◌<◌, ◌≤◌, Bool, true, Option, Some, None, List, length, slice_index, inl, inr, refl, ap, sym, ◌∙◌, subst, arith, ℤ, pos, is_some, cases_order, eq-eqb, length-map, WordNo, Words, address_of, word_at, IsText, Op2, NoSlot, State, register_of, sum_of, jump_step, act, step_of, run, IsValid, holds_of, wrapped, EdgeKind, HoldsText, code_stays, run-valid, Approach, Compare, Switch, branch_target, end_at, end_by, Blocks, blocks_of, last_word, leaders, size_of, Entered, entered_of, approach_of, is_taken, runs_slot, before_jump, switch_of, instr_at, sum_in, length-below, FetchesOnly, BeginsAt, IsCut, cut, ends_within, some_words, lived_to, IsJump, IsSwitch, branch_at, in_list, switch_of-is, GoesIntoTable, SwitchesHold, to_branch, to_jump, IsInto, decoded_range, Place, BlockNo, nat_tests}
 use Rattle.v8_decode.specs.declared.Op2.TheVariants as o
 use Rattle.v8_decode.specs.declared.AluOp.TheVariants as ops
 use Rattle.v8_decode.specs.declared.Instr.TheVariants as i
-use Rattle.v8_step.specs.declared.Slot.TheVariants.{NoSlot}
-use Rattle.v8_step.specs.State.{State, register_of, sum_of}
-use Rattle.v8_step.specs.Transfers.{jump_step}
-use Rattle.v8_step.specs.Step.{act, step_of}
-use Rattle.v8_step.specs.Run.{run}
-use Rattle.v8_step.specs.Valid.{IsValid}
-use Rattle.v8_alu.specs.Conditions.{holds_of}
-use Rattle.v8_alu.specs.Numbers.{wrapped}
-use Rattle.cfg_blocks.specs.declared.EdgeKind.{EdgeKind}
-use Rattle.switch_runs.specs.Held.{HoldsText}
-use Rattle.v8_step.proofs.Executable.{code_stays}
-use Rattle.v8_step.proofs.ValidSteps.{run-valid}
 use Rattle.cfg_blocks.specs.declared.BlockEnd.TheVariants as ends
-use Rattle.cfg_blocks.specs.declared.switches.Approach.{Approach}
-use Rattle.cfg_blocks.specs.declared.switches.Compare.{Compare}
-use Rattle.cfg_blocks.specs.declared.switches.Switch.{Switch}
-use Rattle.cfg_blocks.specs.Ends.{branch_target, end_at, end_by}
 use Rattle.cfg_blocks.specs.Code.{AreFirsts}
-use Rattle.cfg_blocks.specs.Blocks.{Blocks, blocks_of, last_word, leaders, size_of}
-use Rattle.cfg_blocks.specs.Entries.{Entered, entered_of}
-use Rattle.cfg_blocks.specs.Switches.{approach_of, is_taken, runs_slot, before_jump, switch_of}
-use Rattle.cfg_blocks.specs.Values.{instr_at, sum_in}
-use Rattle.cfg_blocks.proofs.Below.{length-below}
-use Rattle.cfg_walk.specs.Matches.{FetchesOnly, BeginsAt}
-use Rattle.cfg_walk.proofs.Cut.{IsCut, cut}
-use Rattle.cfg_walk.proofs.Holding.{ends_within, some_words}
-use Rattle.cfg_walk.proofs.Walks.{lived_to}
-use Rattle.jump_slice.proofs.Parts.{IsJump, IsSwitch, branch_at, in_list, switch_of-is}
-use Rattle.switch_runs.specs.Runs.{GoesIntoTable, SwitchesHold, to_branch, to_jump, IsInto}
 use Rattle.switch_runs.proofs.Arriving.{at_jump, at_last-is, carries}
 use Rattle.switch_runs.proofs.Blocks.{goes_to_first, is_conditional, no_transfer}
 use Rattle.switch_runs.proofs.Coming.{IsAt, Ready, at_jump as values_at_jump, at_last, sum_goes}
 use Rattle.switch_runs.proofs.Acts.{operands, sum_means}
 use Rattle.v8_decode.specs.declared.LoadKind.{LoadKind}
-use Rattle.v8_decode.proofs.Rows.{decoded_range}
-use Rattle.cfg_blocks.specs.declared.switches.Value.TheVariants.{Place}
-use Rattle.eel_base.specs.declared.numbers.BlockNo.{BlockNo}
 use Rattle.switch_runs.proofs.Compared.{Compares, IsCompare, compare_at-is}
 use Rattle.switch_runs.proofs.Held.{holds_run}
 use Rattle.switch_runs.proofs.Into.{leads_in}
 use Rattle.switch_runs.proofs.Outside.{stands_outside}
 use Rattle.switch_runs.proofs.Steps.{carries_here}
 use Rattle.switch_runs.proofs.TableEntries.{HasEntry, entry_of}
-use Rattle.std.proofs.lemmas.Bool.Decides.{nat_tests}
 
 -- ---- a jump outside a slot, to an aligned address
 
