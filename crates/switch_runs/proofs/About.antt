@@ -54,21 +54,18 @@ about text given entry is_text o is =
     inside (slice_index b.firsts o.switch.compare.0 + size_of b o.switch.compare.0) last o.approach.compare.word here.1
     made.last.below (different text o.approach.compare last made.is is.cond is.annul branches.0 branches.1) in
     let room : nat_lt (last + 1) (length text.words) ≡ true = lt-ltb _ _ (rw last_is at is.last) in
-    record {
-      from_in = from_in;
-      block_in = block_in;
-      last = last_is;
-      first = ap (λ (a : Approach). a.first) is.approach;
-      jump = ap (λ (a : Approach). a.jump) is.approach;
-      slot = cc (is.approach, only_runs (runs_slot is.annul o.way) (nat_lt (last + 1) (length text.words)) room);
-      disp = branches.0;
-      branch = ap (instr_at text) last_is ∙ branches.1;
-      bounded = s.bounded;
-      above = made.last.above;
-      below = omega (arith, last_is, low);
-      apart = (found_in text list o.block o.switch entry is.is_switch).2;
-      table = ap (is_table text o.switch.table.0) s.jumps.count ∙ s.jumps.table;
-    }
+    let slot : o.approach.slot ≡ (if runs_slot is.annul o.way then 1 else 0) =
+    cc (is.approach, only_runs (runs_slot is.annul o.way) (nat_lt (last + 1) (length text.words)) room) in
+    let below : o.approach.compare.word < o.approach.last = omega (arith, last_is, low) in
+    search (
+      ap (λ (a : Approach). a.first) is.approach,
+      ap (λ (a : Approach). a.jump) is.approach,
+      ap (instr_at text) last_is ∙ branches.1,
+      s.bounded,
+      made.last.above,
+      (found_in text list o.block o.switch entry is.is_switch).2,
+      ap (is_table text o.switch.table.0) s.jumps.count ∙ s.jumps.table,
+    )
 
 -- ---- the entries of a table are among the targets
 

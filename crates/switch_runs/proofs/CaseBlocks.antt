@@ -4,7 +4,7 @@ use Rattle.cfg_normal.proofs.TableWords.{are_targets, entry_in, targets_are}
 use Rattle.switch_runs.proofs.About.{About, about}
 use Rattle.switch_runs.proofs.Blocks.{no_transfer}
 use Rattle.switch_runs.proofs.Loading.{has_load}
-use Rattle.switch_runs.proofs.Numbered.{opens_are_one}
+use Rattle.switch_runs.proofs.Opened.{opens_are_one}
 use Rattle.switch_runs.proofs.Opened.{opens_are}
 pub use Rattle.switch_runs.proofs.Examples.{into}
 

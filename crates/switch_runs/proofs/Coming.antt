@@ -1,5 +1,5 @@
 -- What is known of the registers from the comparison to the jump holds along a run that carries out these words.
-use Rattle.switch_runs.proofs.Common.{length, ◌≡◌, ℕ, suc, ◌+◌, ◌-◌, ◌*◌, ◌<◌, ◌≤◌, Bool, true, false, Some, None, List, slice_index, refl, ap, sym, ◌∙◌, subst, arith, length-set, ◌==◌, ℤ, pos, Words, address_of, word_at, IsText, decoded_range, Codes, wrapped, State, register_of, sum_of, act, run, IsValid, transfers as is_transfer, NoSlot, w32, cast_unsigned, register_in-range, run-valid, EdgeKind, FetchesOnly, Value, Index, after, all_unknown, instr_at, Switch, Approach, after_slot, before_branch, before_jump, bounds, first_values, is_taken, sets_codes, slot_words, holds_of, IsJump, HoldsText, to_branch, live_before, lived_to}
+use Rattle.switch_runs.proofs.Common.{length, ◌≡◌, ℕ, suc, ◌+◌, ◌-◌, ◌*◌, ◌<◌, ◌≤◌, Bool, true, false, Some, None, List, slice_index, refl, ap, ◌∙◌, arith, length-set, ◌==◌, ℤ, pos, Words, address_of, word_at, IsText, decoded_range, Codes, wrapped, State, register_of, sum_of, act, run, IsValid, transfers as is_transfer, NoSlot, w32, cast_unsigned, register_in-range, run-valid, EdgeKind, FetchesOnly, Value, Index, after, all_unknown, instr_at, Switch, Approach, after_slot, before_branch, before_jump, bounds, first_values, is_taken, sets_codes, slot_words, holds_of, IsJump, HoldsText, to_branch, live_before, lived_to}
 use Rattle.v8_decode.specs.declared.Op2.TheVariants as o
 use Rattle.v8_decode.specs.declared.AluOp.TheVariants as ops
 use Rattle.v8_decode.specs.declared.Instr.TheVariants as i
@@ -124,14 +124,13 @@ module _ {text : Words} (is_text : IsText text) {a : Approach} {cond : ℕ} {ann
   at_branch : (run s (to_branch a)).ending ≡ None → Comes (Bounds x limit) (before_branch text a) (to_branch a)
   at_branch live =
       let e : 1 + (a.last - (a.compare.word + 1)) ≡ to_branch a = omega arith in
-      subst (λ (n : ℕ). Comes (Bounds x limit) (before_branch text a) n) e
+      rw e at
       (stands_behind text is_text s r.valid r.fetches r.holds x (Bounds x limit) (first_values a.compare) 1
       (a.compare.word + 1) (a.last - (a.compare.word + 1)) (begins (lived_to s 1 (to_branch a) (omega arith) live))
       (λ k l.
       let f : a.compare.word + (1 + k) ≡ a.compare.word + 1 + k = omega arith in
       along.comparison (1 + k) (omega arith) ∙ ap (address_of text) f) (λ k l c d sets.
-      let none = r.quiet (a.compare.word + 1 + k) (omega arith) (omega arith) in
-      absurd (cc)) (subst (λ (n : ℕ). (run s n).ending ≡ None) (sym e) live))
+      let none = r.quiet (a.compare.word + 1 + k) (omega arith) (omega arith) in absurd (cc)) (rw e live))
 
   abbrev pub Known : Codes → Type 0
   Known k = x ≤ limit

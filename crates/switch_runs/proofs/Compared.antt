@@ -1,4 +1,5 @@
 -- The comparison: where it stands, and what its codes say.
+use Rattle.std.proofs.lemmas.Bool.{not-false}
 use Rattle.switch_runs.proofs.Common.{◌≡◌, ◌≢◌, ℕ, zero, suc, ◌+◌, ◌-◌, ◌^◌, ◌<◌, ◌≤◌, Bool, true, false, ◌&&◌, ◌||◌, not, inl, inr, Option, Some, None, List, refl, ap, sym, ◌∙◌, subst, arith, get_or-set_other, get_or-set_same, if◌then◌else◌, ◌==◌, nat_lt, slice_set, slice_index_or, pos, w32, cast_unsigned, nat_tests, cases_eq, cases_lt, or_cases, Words, Instr, register_in, register_in-other, Codes, alu_of, wrapped, holds_of, State, register_of, act, alu_step, EdgeKind, Value, Unknown, Index, all_unknown, instr_at, Compare, bounds, compare_at, compare_by, is_taken, is_untaken, last_setting, sets_codes}
 use Rattle.v8_decode.specs.declared.Op2.TheVariants as o
 use Rattle.v8_decode.specs.declared.AluOp.TheVariants as ops
@@ -104,26 +105,18 @@ unfolding act alu_step alu_of
 compared-register s rd r m l l' apart =
     register_in-other s.registers s.window rd _ s.window r (λ e. apart (same_place s.window rd r l l' e))
 
-turn : (b : Bool) → not b ≡ false → b ≡ true
-turn b e = grind arith
-
 pub way-bounds : (cond : ℕ) (way : EdgeKind) (k : Codes) → bounds cond way ≡ true → holds_of cond k ≡ is_taken way
     → (k.c || k.z) ≡ true
 unfolding holds_of
 way-bounds cond way k h goes = by (cond == 12) (cond == 4) refl refl way h goes
   where
-    twelve : holds_of 12 k ≡ false → (k.c || k.z) ≡ true
-    twelve e = turn (k.c || k.z) e
-
-    four : holds_of 4 k ≡ true → (k.c || k.z) ≡ true
-    four e = e
-
     by : (a b : Bool) → (cond == 12) ≡ a → (cond == 4) ≡ b → (way : EdgeKind)
         → ((a && is_untaken way) || (b && is_taken way)) ≡ true → holds_of cond k ≡ is_taken way → (k.c || k.z) ≡ true
     by true b e f kinds.Untaken h goes =
-        let is : cond ≡ 12 = grind (arith, nat_tests) in twelve (ap (λ n. holds_of n k) (sym is) ∙ goes)
+        let is : cond ≡ 12 = grind (arith, nat_tests) in
+        not-false (k.c || k.z) (ap (λ n. holds_of n k) (sym is) ∙ goes)
     by a true e f kinds.Taken h goes =
-        let is : cond ≡ 4 = grind (arith, nat_tests) in four (ap (λ n. holds_of n k) (sym is) ∙ goes)
+        let is : cond ≡ 4 = grind (arith, nat_tests) in ap (λ n. holds_of n k) (sym is) ∙ goes
     by a b e f way h goes = absurd (grind arith)
 
 -- ---- what is known behind it

@@ -18,13 +18,11 @@ pub mod Opened
 pub mod About
 pub mod Branching
 pub mod Known
-pub mod Jumping
 pub mod Passing
 pub mod Quiet
 pub mod Walking
 pub mod Numbered
 pub mod Loading
 pub mod CaseBlocks
-pub mod Stood
 pub mod Joined
 pub mod Examples

@@ -1,5 +1,5 @@
 -- What is known of each open switch of a text.
-use Rattle.switch_runs.proofs.Common.{◌≡◌, ℕ, suc, ◌+◌, ◌<◌, Bool, true, false, not, ◌&&◌, nat_lt, List, [], ◌∷◌, ◌++◌, length, Option, Some, None, refl, ap, sym, ◌∙◌, arith, slice_index, inl, inr, if◌then◌else◌, ◌==◌, slice_index_or, Contains, list_any, option_to_list, and_parts, cases_Bool, cond_both, eq-eqb, eqb-true, false≢true, nat_tests, Words, IsText, BlockNo, WordNo, BlockEnd, EdgeKind, Approach, Compare, Switch, Blocks, below, blocks_of, end_of, holding_of, last_word, Entered, entered_of, approach_of, compare_of, switch_of, switches_of, bounds, is_jump, switch_behind, switch_into, switch_on, Open, candidate, is_candidate, is_closed, loads_here, opened, opens_of, targets_of, with_switch, AreOpen, cut, is_held, some_words, Each, each-append, each-below, each-flat_map, if_some, switch_at-is, IsOpenSwitch, instr_at}
+use Rattle.switch_runs.proofs.Common.{◌≡◌, ℕ, suc, ◌+◌, ◌<◌, Bool, true, false, not, ◌&&◌, nat_lt, List, [], ◌∷◌, ◌++◌, length, Option, Some, None, refl, ap, sym, ◌∙◌, arith, slice_index, inl, inr, if◌then◌else◌, ◌==◌, slice_index_or, Contains, list_any, option_to_list, and_parts, cases_Bool, cond_both, eq-eqb, eqb-true, false≢true, nat_tests, Words, IsText, BlockNo, WordNo, BlockEnd, EdgeKind, Approach, Compare, Switch, Blocks, below, blocks_of, end_of, holding_of, last_word, Entered, entered_of, approach_of, compare_of, switch_of, switches_of, bounds, is_jump, switch_behind, switch_into, switch_on, Open, candidate, is_candidate, is_closed, loads_here, opened, opens_of, targets_of, with_switch, AreOpen, cut, is_held, some_words, Each, each-append, each-below, each-flat_map, if_some, switch_at-is, IsOpenSwitch, instr_at, OpensAreOne}
 use Rattle.cfg_blocks.specs.declared.BlockEnd.TheVariants as ends
 use Rattle.cfg_blocks.specs.declared.Into.{Into}
 use Rattle.cfg_blocks.specs.declared.Into.TheVariants as into
@@ -31,19 +31,7 @@ module _ (text : Words) (list : Entered) (block : ℕ) (switch : Switch) where
   found_on from way cond annul target (Some c) e f g h =
       let jumps = switch_at-is text (approach_of text b block from.0 annul way c) from.0
       (instr_at text (last_word b.firsts b.words block)) switch refl h in
-      record {
-        from = from;
-        way = way;
-        cond = cond;
-        annul = annul;
-        target = target;
-        compare = c;
-        edge = e;
-        branch = f;
-        sets = g;
-        compare_is = jumps.from;
-        jump_is = jumps.at;
-      }
+      search (e, f, g, jumps.from, jumps.at)
 
   found_behind : (from : BlockNo) (way : EdgeKind) (end : BlockEnd)
       → slice_index_or list.intos block into.Nothing ≡ into.One from way → end_of b from.0 ≡ end
@@ -174,3 +162,29 @@ opens_are text given entry is =
           below = omega (arith, some_words b.words b.firsts c.firsts block l);
         }) in
         (candidate_is text (entered_of text given) entry block switch held e found.0, tt)
+
+-- ---- a block has one open switch
+
+same_way : (a b : BlockNo) (v w : EdgeKind) → into.One a v ≡ into.One b w → v ≡ w
+same_way a b v w e = cc
+
+same_some : {A : Type 0} (a b : A) → Some a ≡ Some b → a ≡ b
+same_some a b e = cc
+
+same_annul : (c d : ℕ) (a e : Bool) (t u : Option WordNo) → ends.Branch c a t ≡ ends.Branch d e u → a ≡ e
+same_annul c d a e t u h = cc
+
+pub opens_are_one : OpensAreOne
+opens_are_one text list entry one other p q block =
+    let switch : one.switch ≡ other.switch = same_some one.switch other.switch
+    (sym p.is_switch ∙ ap (switch_of text list entry) block ∙ q.is_switch) in
+    let from : one.switch.compare ≡ other.switch.compare = ap (λ (w : Switch). w.compare) switch in
+    let way : one.way ≡ other.way = same_way one.switch.compare other.switch.compare one.way other.way
+    (cc (p.parts.edge, block, q.parts.edge)) in
+    let annul : p.annul ≡ q.annul = same_annul p.cond q.cond p.annul q.annul p.parts.target q.parts.target
+    (cc (p.parts.branch, from, q.parts.branch)) in
+    let compare : one.approach.compare ≡ other.approach.compare =
+    same_some one.approach.compare other.approach.compare (cc (p.parts.sets, from, q.parts.sets)) in
+    let approach : one.approach ≡ other.approach = cc (p.approach, block, from, annul, way, compare, q.approach) in
+    let targets : one.targets ≡ other.targets = p.targets ∙ ap (targets_of text) switch ∙ sym q.targets in
+    rw (switch, block, way, approach, targets)

@@ -1,4 +1,5 @@
 -- A file without a fault starts with its text in memory, in a region that may not be written.
+use Rattle.std.proofs.lemmas.Bool.{not-true}
 use Rattle.switch_runs.proofs.Common.{◌≡◌, ℕ, ◌+◌, ◌%◌, ◌<◌, ◌≤◌, Bool, true, false, not, nat_le, nat_lt, Option, Some, None, List, [], ◌∷◌, ◌++◌, map, slice_index, refl, sym, ◌∙◌, arith, if◌then◌else◌, ◌==◌, filter, find, option_map, and_parts, cond-false, cond-true, cond_both, leb-true, ltb-false, or_parts, address_of, loadable, program_headers, mapping_of, mappings, Region, code_of, covers, fetch_from, fetch_of, is_code, word_in, program_name, stack_region, start_memory, start_of, IsFixed, TextIsHeld, nat_tests}
 use Rattle.elf32_sparc.specs.declared.header.ProgramHeader.{ProgramHeader}
 use Rattle.elf32_sparc.specs.Header.{end_of}
@@ -7,9 +8,6 @@ use Rattle.elf32_sparc.specs.Image.{image_of, text_of}
 use Rattle.elf32_sparc.proofs.Accepted.{Accepted, accepted}
 use Rattle.v8_memory.specs.Segments.{region_of}
 use Rattle.v8_process.proofs.Fetched.{text_is_fetched}
-
-not_true : (b : Bool) → not b ≡ true → b ≡ false
-not_true b e = grind arith
 
 module _ (file : List ℕ) (texts : List (List ℕ)) (a : ℕ) where
   abbrev region : ProgramHeader → Region
@@ -56,7 +54,7 @@ module _ (file : List ℕ) (texts : List (List ℕ)) (a : ℕ) where
           let is : Some (region h) ≡ Some r = sym (cond-true (covers a 4 (region h)) _ _ e) ∙ found in
           let same : region h ≡ r = cc in
           let ok = and_parts (region h).executable (not (region h).writable) f in
-          (is, cc (same, not_true (region h).writable ok.1))
+          (is, cc (same, not-true (region h).writable ok.1))
       go true false e f later none found =
           let ends : a + 4 ≤ h.p_vaddr + h.p_memsz =
           leb-true (a + 4) (h.p_vaddr + h.p_memsz) (and_parts (nat_le h.p_vaddr a) (nat_le (a + 4) (h.p_vaddr + h.p_memsz)) e).1 in

@@ -1,21 +1,60 @@
--- Where the walk stands at the block of an open switch's jump, the comparison was made: along each run.
-use Rattle.switch_runs.proofs.Common.{◌≡◌, ◌≢◌, ℕ, zero, suc, ◌-◌, ◌<◌, true, false, List, length, Option, Some, None, refl, ap, sym, ◌∙◌, subst, arith, slice_index, inl, inr, ◌==◌, cases_Bool, eq-eqb, eqb-true, false≢true, lt-ltb, Words, word_at, IsText, Ending, Slot, NoSlot, State, run, IsValid, transfers, EdgeKind, holding_of, is_among, entered_of, switches_of, instr_at as word_instr, Node, Open, jumps_in, opens_of, node_of, completed, end_of_walk, gone, goes_on_at, node_after, point_of, unless_ended, way_of, JumpsGoByCase, BeginsAt, FetchesOnly, MatchesBy, entry_leads, block, first_held, within, word_at-address, node_is, goes_act, couples, first_matches, live_before, steps_match, node_in, code_stays, Couple, JumpsAreCases, SwitchesAreCompared, SwitchWalksMatch, ComesFromCompare, HoldsText}
+-- Along each run: where the walk stands at the block of an open switch's jump, the comparison was made, and the jump
+-- goes to a word of the table.
+use Rattle.switch_runs.proofs.Common.{◌≡◌, ◌≢◌, ℕ, zero, suc, ◌-◌, ◌<◌, true, false, List, length, Option, Some, None, refl, ap, sym, ◌∙◌, subst, arith, inl, inr, cases_Bool, eq-eqb, false≢true, lt-ltb, Words, word_at, Ending, Slot, NoSlot, State, run, transfers, EdgeKind, is_among, entered_of, instr_at as word_instr, Node, Open, jumps_in, node_of, completed, end_of_walk, gone, goes_on_at, node_after, point_of, unless_ended, way_of, JumpsGoByCase, FetchesOnly, MatchesBy, entry_leads, block, first_held, within, word_at-address, goes_act, couples, first_matches, live_before, steps_match, node_in, code_stays, Couple, JumpsAreCases, SwitchesAreCompared, SwitchWalksMatch, ComesFromCompare, Matches, home_of, ◌==◌, list_any, Taken, Block, GoesByCase, IsTarget, GoesIntoTable, number_in}
 use Rattle.cfg_walk.specs.Walk.{instr_at}
-use Rattle.switch_runs.proofs.Opened.{opens_are, open_found}
-use Rattle.switch_runs.proofs.About.{about}
-use Rattle.switch_runs.proofs.Known.{Carries, Compared, IsHead, IsRun, KnownBy, Passed, Tells, b, block_number, carried, graph, known_outside, list, opened, parts, same_some, sets_transfer}
-use Rattle.switch_runs.proofs.Jumping.{goes_by_case}
+use Rattle.switch_runs.proofs.About.{about, About, in_targets, target_among}
+use Rattle.switch_runs.proofs.Known.{AtHead, Carries, IsRun, KnownBy, Knows, Tells, b, begins_block, carried, comes_from, graph, heads, known_outside, list, opened, outside, parts, run_of, sets_transfer, Outside, ends_block}
 use Rattle.switch_runs.proofs.Passing.{leaves_slot, passes}
 use Rattle.switch_runs.proofs.Quiet.{quiet_knows}
+use Rattle.switch_runs.proofs.Numbered.{goes_by_number}
+use Rattle.switch_runs.proofs.CaseBlocks.{some_of}
+use Rattle.switch_runs.proofs.Branching.{taken_not}
 
 module _ {text : Words} {given : List ℕ} {entry : ℕ} {opens : List Open} {s0 : State}
     (r : IsRun text given entry opens s0) where
+  -- from its own block it goes to a word of the table
+  jump_goes : (n k : ℕ) → Tells r n (block k) → (run s0 (suc n)).ending ≡ None → jumps_in opens k ≡ true
+      → (run s0 n).slot ≡ NoSlot → (run s0 (suc n)).slot ≡ Taken → IsTarget text opens (block k) (run s0 (suc n)).npc
+  jump_goes n k h live jumps slot taken =
+      let to = some_of (word_at text (run s0 (suc n)).npc) goes.inside in (
+        to.0,
+        to.1,
+        in_targets (λ x. x == to.0) opens o k from.among from.block_is (ap (list_any (λ x. x == to.0)) from.is.targets
+            ∙ target_among text o.switch (number_in o s0 from.passed.moment) goes.entry to.0 r.is_text a.table
+            goes.below goes.is (ap (word_at text) (sym goes.goes) ∙ to.1)),
+      )
+    where
+      out : Outside r n (block k)
+      out = outside r n (block k) h live slot
+
+      from : ComesFromCompare text (list r) entry opens s0 n k out.on.word
+      from = comes_from r n (block k) out.known.1 k refl jumps out.on.word out.on.at
+
+      o : Open
+      o = from.switch
+
+      a : About text (b r) entry o from.is.cond from.is.annul
+      a = about text given entry r.is_text o from.is
+
+      goes : GoesIntoTable text o.switch (number_in o s0 from.passed.moment) (run s0 n)
+      goes =
+          let last = ends_block r n (block k) out (sets_transfer r n out.on (λ e. taken_not (sym taken ∙ e))) k refl in
+          goes_by_number r o from.is n out.on.word (live_before (run s0 n) live) from.passed
+          (cc (last, from.block_is, a.jump))
+
+  goes_by_case : (n : ℕ) (node : Node) → Tells r n node → (run s0 (suc n)).ending ≡ None
+      → GoesByCase text opens node (point_of (run s0 n)) (point_of (run s0 (suc n)))
+  goes_by_case n (Block k) h live cased slot taken = jump_goes n k.0 h live cased slot taken
+  goes_by_case n _ h live cased slot taken = absurd (false≢true cased)
+
+  -- ---- what is known after a step
+
   abbrev Next : ℕ → Node → Slot → Slot → Node
   Next n node x y = node_after (graph r) node (completed text (graph r) node (point_of (run s0 n)) (point_of (run s0 (suc n))) x y)
 
   -- what is carried out in a slot is no transfer
-  slot_straight : (n : ℕ) (node : Node) → (run s0 n).slot ≢ NoSlot → (c : Carries r n node) → transfers (word_instr text c.word) ≡ false
-  slot_straight n node was c = elim (cases_Bool (transfers (word_instr text c.word))) [
+  slot_straight : (n : ℕ) → (run s0 n).slot ≢ NoSlot → (c : Carries r n) → transfers (word_instr text c.word) ≡ false
+  slot_straight n was c = elim (cases_Bool (transfers (word_instr text c.word))) [
     | inr e ↦ e
     | inl e ↦ absurd (ended_live (sym (couples (run s0 n).slot (run s0 n) (word_instr text c.word) was refl e) ∙ c.acted))
   ]
@@ -24,17 +63,15 @@ module _ {text : Words} {given : List ℕ} {entry : ℕ} {opens : List Open} {s0
       ended_live e = absurd (cc)
 
   -- a step out of a slot leaves no other behind
-  never_both : (n : ℕ) (node : Node) → (run s0 (suc n)).ending ≡ None → (run s0 n).slot ≢ NoSlot
-      → (run s0 (suc n)).slot ≢ NoSlot → ⊥
-  never_both n node live was now =
-      let c = carried r n node live in absurd (false≢true (sym (slot_straight n node was c) ∙ sets_transfer r n node c now))
+  never_both : (n : ℕ) → (run s0 (suc n)).ending ≡ None → (run s0 n).slot ≢ NoSlot → (run s0 (suc n)).slot ≢ NoSlot → ⊥
+  never_both n live was now =
+      let c = carried r n live in absurd (false≢true (sym (slot_straight n was c) ∙ sets_transfer r n c now))
 
   -- it goes on where the transfer before leads
-  pc_after : (n : ℕ) (node : Node) → (run s0 (suc n)).ending ≡ None → (run s0 n).slot ≢ NoSlot
-      → (run s0 (suc n)).pc ≡ (run s0 n).npc
-  pc_after n node live was =
-      let c = carried r n node live in
-      cc (c.acts, (goes_act (run s0 n) (word_instr text c.word) (slot_straight n node was c) c.acted).0)
+  pc_after : (n : ℕ) → (run s0 (suc n)).ending ≡ None → (run s0 n).slot ≢ NoSlot → (run s0 (suc n)).pc ≡ (run s0 n).npc
+  pc_after n live was =
+      let c = carried r n live in
+      cc (c.acts, (goes_act (run s0 n) (word_instr text c.word) (slot_straight n was c) c.acted).0)
 
   -- the way of the transfer before a slot
   abbrev WayIn : ℕ → Slot → EdgeKind
@@ -42,12 +79,12 @@ module _ {text : Words} {given : List ℕ} {entry : ℕ} {opens : List Open} {s0
 
   next_knows : (n : ℕ) (node : Node) → Tells r n node → (run s0 (suc n)).ending ≡ None → (x y : Slot)
       → (run s0 n).slot ≡ x → (run s0 (suc n)).slot ≡ y → KnownBy r (suc n) (Next n node x y) y
-  next_knows n node h live NoSlot NoSlot was now = quiet_knows r n node h live was now
-  next_knows n node h live NoSlot y was now = passes r n node h live was y now (λ e. absurd (cc))
+  next_knows n node h live NoSlot NoSlot was now = quiet_knows r n node (outside r n node h live was) now
+  next_knows n node h live NoSlot y was now = passes r n node (outside r n node h live was) y now (λ e. absurd (cc))
   next_knows n node h live x NoSlot was now =
       leaves_slot r n node (WayIn n x) (subst (λ (x : Slot). MatchesBy text (graph r) node (point_of (run s0 n)) x) was h.matches)
-      (subst (λ (x : Slot). KnownBy r n node x) was h.known) (pc_after n node live (λ e. absurd (cc)))
-  next_knows n node h live x y was now = absurd (never_both n node live (λ e. absurd (cc)) (λ e. absurd (cc)))
+      (subst (λ (x : Slot). KnownBy r n node x) was h.known) (pc_after n live (λ e. absurd (cc)))
+  next_knows n node h live x y was now = absurd (never_both n live (λ e. absurd (cc)) (λ e. absurd (cc)))
 
   fetches_at : (n : ℕ) → FetchesOnly text (run s0 n)
   fetches_at n a = code_stays.1 s0 n a ∙ r.fetches a
@@ -56,7 +93,7 @@ module _ {text : Words} {given : List ℕ} {entry : ℕ} {opens : List Open} {s0
       → Tells r (suc n) (node_after (graph r) node (gone text (graph r) node (point_of (run s0 n)) (goes_on_at (run s0 (suc n)))))
   tells_next n node h live =
       let went = steps_match text given opens node (run s0 n) r.is_text (opened r) (fetches_at n) h.inside
-      (live_before (run s0 n) live) h.matches (goes_by_case r n node h live) live in
+      (live_before (run s0 n) live) h.matches (goes_by_case n node h live) live in
       record {
         matches = went.0;
         inside = went.1;
@@ -66,63 +103,57 @@ module _ {text : Words} {given : List ℕ} {entry : ℕ} {opens : List Open} {s0
       }
 
   module _ (among : is_among given entry ≡ true) where
-    low : entry < (b r).words
-    low = omega (arith, r.begins.within, (parts r).words)
+    begins : Matches text (graph r) (node_of (b r) (Some entry)) (point_of s0)
+    begins = first_matches text given opens entry s0 r.is_text r.fetches r.begins (opened r)
 
-    entry_head : IsHead r entry
-    entry_head = first_held (b r).words (b r).firsts (parts r).firsts entry (entry_leads text given entry among r.begins.within)
-
-    start_knows : Compared r 0 (node_of (b r) (Some entry)) × Passed r 0 (node_of (b r) (Some entry))
-    start_knows = (compared, passed)
+    start_knows : Knows r 0 (node_of (b r) (Some entry))
+    start_knows =
+        heads r 0 (node_of (b r) (Some entry)) home first (λ o among is there.
+        let a = about text given entry r.is_text o is in
+        let begins = begins_block r 0 entry o.block (node_of (b r) (Some entry)) home first at there in
+        absurd (false≢true (sym a.apart ∙ eq-eqb _ _ begins)))
       where
         at : word_at text s0.pc ≡ Some entry
-        at = cc (r.begins.pc, word_at-address text entry, within_is)
-          where
-            within_is : within (length text.words) entry ≡ Some entry
-            within_is = rw (lt-ltb _ _ r.begins.within)
+        at =
+            let inside : within (length text.words) entry ≡ Some entry = rw (lt-ltb _ _ r.begins.within) in
+            cc (r.begins.pc, word_at-address text entry, inside)
 
-        compared : Compared r 0 (node_of (b r) (Some entry))
-        compared o f is there w here behind =
-            let held : holding_of (b r) entry ≡ o.switch.compare.0 = ap block_number (sym (node_is (b r) entry low) ∙ there) in
-            let a = about text given entry r.is_text o is in
-            let first : slice_index (b r).firsts o.switch.compare.0 ≡ entry =
-            ap (slice_index (b r).firsts) (sym held) ∙ entry_head in
-            let above = a.above in
-            absurd (omega (arith, same_some w entry (sym here ∙ at)))
+        home : home_of (node_of (b r) (Some entry)) ≡ node_of (b r) (word_at text s0.pc)
+        home =
+            let matched : MatchesBy text (graph r) (node_of (b r) (Some entry)) (point_of s0) NoSlot =
+            rw r.begins.slot at begins in
+            matched.0
 
-        passed : Passed r 0 (node_of (b r) (Some entry))
-        passed k there jumps w here =
-            let held : holding_of (b r) entry ≡ k = ap block_number (sym (node_is (b r) entry low) ∙ there) in
-            let o = open_found text (list r) entry opens r.all (λ (o : Open). o.block == k) jumps in
-            let a = about text given entry r.is_text o.0 o.3 in
-            let first : slice_index (b r).firsts o.0.block ≡ entry = cc (eqb-true o.0.block k o.2, held, entry_head) in
-            absurd (false≢true (sym a.apart ∙ eq-eqb _ _ first))
+        first : AtHead r 0
+        first w here =
+            let same : entry ≡ w = cc (at, here) in
+            let low : entry < (b r).words = omega (arith, r.begins.within, (parts r).words) in
+            rw (← same) (
+              low,
+              first_held (b r).words (b r).firsts (parts r).firsts entry
+                  (entry_leads text given entry among r.begins.within),
+            )
 
     pub tells : (n : ℕ) → (run s0 n).ending ≡ None → Tells r n (end_of_walk text (graph r) entry s0 n)
     unfolding end_of_walk
     tells zero live = record {
-      matches = first_matches text given opens entry s0 r.is_text r.fetches r.begins (opened r);
+      matches = begins;
       inside = node_in (b r) opens (parts r).firsts.some (Some entry);
       known = subst (λ (x : Slot). KnownBy r 0 (node_of (b r) (Some entry)) x) (sym r.begins.slot) start_knows;
     }
     tells (suc n) live = tells_next n (end_of_walk text (graph r) entry s0 n) (tells n (live_before (run s0 n) live)) live
 
     pub goes : JumpsGoByCase text (graph r) entry s0
-    goes n live = goes_by_case r n (end_of_walk text (graph r) entry s0 n) (tells n (live_before (run s0 n) live)) live
+    goes n live = goes_by_case n (end_of_walk text (graph r) entry s0 n) (tells n (live_before (run s0 n) live)) live
 
     pub from_compare : (n k word : ℕ) → (run s0 n).ending ≡ None → (run s0 n).slot ≡ NoSlot
         → end_of_walk text (graph r) entry s0 n ≡ block k → jumps_in opens k ≡ true → word_at text (run s0 n).pc ≡ Some word
         → ComesFromCompare text (list r) entry opens s0 n k word
     from_compare n k word live slot there jumps at =
-        (known_outside r n (end_of_walk text (graph r) entry s0 n) (tells n live) slot).1 k there jumps word at
+        let node : Node = end_of_walk text (graph r) entry s0 n in
+        comes_from r n node (known_outside r n node (tells n live) slot).1 k there jumps word at
 
 -- ---- the laws
-
-pub run_of : (text : Words) (given : List ℕ) (entry : ℕ) (s0 : State) → IsText text → IsValid s0 → FetchesOnly text s0
-    → HoldsText text s0.memory → BeginsAt text entry s0
-    → let list = entered_of text given in
-    IsRun text given entry (opens_of text list (switches_of text list entry)) s0
-run_of text given entry s0 is valid fetches holds begins = assumption (opens_are text given entry is)
 
 pub switches_are_compared : SwitchesAreCompared
 unfolding entered_of

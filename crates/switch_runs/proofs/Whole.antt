@@ -1,5 +1,5 @@
 -- The jump of a switch goes to an entry of its table.
-use Rattle.switch_runs.proofs.Common.{◌≡◌, ◌≢◌, ℕ, ◌+◌, ◌*◌, ◌%◌, ◌<◌, ◌≤◌, Bool, true, Option, Some, None, List, length, slice_index, inl, inr, refl, ap, sym, ◌∙◌, subst, arith, ℤ, pos, is_some, cases_order, eq-eqb, length-map, WordNo, Words, address_of, word_at, IsText, Op2, NoSlot, State, register_of, sum_of, jump_step, act, step_of, run, IsValid, holds_of, wrapped, EdgeKind, HoldsText, code_stays, run-valid, Approach, Compare, Switch, branch_target, end_at, end_by, Blocks, blocks_of, last_word, leaders, size_of, Entered, entered_of, approach_of, is_taken, runs_slot, before_jump, switch_of, instr_at, sum_in, length-below, FetchesOnly, BeginsAt, IsCut, cut, ends_within, some_words, lived_to, IsJump, IsSwitch, branch_at, in_list, switch_of-is, GoesIntoTable, SwitchesHold, to_branch, to_jump, IsInto, decoded_range, Place, BlockNo, nat_tests}
+use Rattle.switch_runs.proofs.Common.{◌≡◌, ◌≢◌, ℕ, ◌+◌, ◌*◌, ◌%◌, ◌<◌, ◌≤◌, Bool, true, Option, Some, None, List, length, slice_index, inl, inr, refl, ap, sym, ◌∙◌, subst, arith, ℤ, pos, is_some, cases_order, eq-eqb, length-map, WordNo, Words, address_of, word_at, IsText, Op2, NoSlot, State, register_of, sum_of, jump_step, act, step_of, run, IsValid, holds_of, wrapped, EdgeKind, HoldsText, code_stays, run-valid, Approach, Compare, Switch, branch_target, end_at, end_by, Blocks, blocks_of, last_word, leaders, size_of, Entered, entered_of, approach_of, is_taken, runs_slot, before_jump, switch_of, instr_at, sum_in, length-below, FetchesOnly, BeginsAt, IsCut, cut, ends_within, some_words, lived_to, IsJump, IsSwitch, branch_at, in_list, switch_of-is, GoesIntoTable, SwitchesHold, to_branch, to_jump, IsInto, decoded_range, Place, BlockNo, nat_tests, transfers, false}
 use Rattle.v8_decode.specs.declared.Op2.TheVariants as o
 use Rattle.v8_decode.specs.declared.AluOp.TheVariants as ops
 use Rattle.v8_decode.specs.declared.Instr.TheVariants as i
@@ -144,26 +144,11 @@ inside end last word e l apart = elim (cases_order word last) [
 pub up_to : (text : Words) (a : Approach) (cond : ℕ) (annul : Bool) (way : EdgeKind) (s : State) (word : ℕ)
     → Ready text a cond annul way s → a.first ≤ word → word ≤ a.jump
     → Ready text (record { compare = a.compare; last = a.last; slot = a.slot; first = a.first; jump = word }) cond annul way s
-up_to text a cond annul way s word r above below = record {
-  valid = r.valid;
-  fetches = r.fetches;
-  holds = r.holds;
-  disp = r.disp;
-  at = r.at;
-  ordered = r.ordered;
-  last_low = r.last_low;
-  branch = r.branch;
-  other = r.other;
-  compared = r.compared;
-  slot = r.slot;
-  leads = r.leads;
-  behind = above;
-  jump_low = let low = r.jump_low in omega arith;
-  jumping = λ k m l. r.jumping k m (omega (arith, l, below));
-  bounded = r.bounded;
-  is_compare = r.is_compare;
-  quiet = r.quiet;
-}
+up_to text a cond annul way s word r above below =
+    let low : word < length text.words = let low = r.jump_low in omega arith in
+    let jumping : (k : ℕ) → a.first ≤ k → k < word → transfers (instr_at text k) ≡ false =
+    (λ k m l. r.jumping k m (omega (arith, l, below))) in
+    search (r.at, r.branch, r.leads, r.is_compare)
 
 pub ready : (text : Words) (given : List ℕ) (entry block : ℕ) (switch : Switch)
     → switch_of text (entered_of text given) entry block ≡ Some switch
