@@ -43,39 +43,40 @@ module _ (site : Site) where
       let n : range_at g.notes u.pc ≡ None = placed.noted.ranges u.pc low high ∙ r in
       record { live = live; visit = visit_is u None live low high r; place = λ q e. absurd (cc) }
 
+  -- an address in a range
+  pub record IsInRange (r : NoteRange) (a : ℕ) : Type 0 where
+    pub above : base ≤ a
+    pub below : a < base + 4 * length p.code
+    pub is : range_in p.ranges a ≡ Some r
+
   -- in the place of the visit, past its first address
-  pub on_range : (t u : State) (r : NoteRange) → u.ending ≡ None → base ≤ t.pc → t.pc < u.pc
-      → u.pc < base + 4 * length p.code
-      → range_in p.ranges t.pc ≡ Some r → range_in p.ranges u.pc ≡ Some r → r.lo ≡ t.pc → cells_in g.notes u ≡ cells_in g.notes t
-      → IsOnWay g t u
-  on_range t u r live low past high here is lo cells =
-      let there : range_at g.notes u.pc ≡ Some r = placed.noted.ranges u.pc (omega (arith, low, past)) high ∙ is in
-      let at : range_at g.notes t.pc ≡ Some r = placed.noted.ranges t.pc low (omega (arith, past, high)) ∙ here in
+  pub on_range : (t u : State) (r : NoteRange) → u.ending ≡ None → t.pc < u.pc → IsInRange r t.pc → IsInRange r u.pc
+      → r.lo ≡ t.pc → cells_in g.notes u ≡ cells_in g.notes t → IsOnWay g t u
+  on_range t u r live past from to lo cells =
+      let there : range_at g.notes u.pc ≡ Some r = placed.noted.ranges u.pc to.above to.below ∙ to.is in
+      let at : range_at g.notes t.pc ≡ Some r = placed.noted.ranges t.pc from.above from.below ∙ from.is in
       record {
         live = live;
-        visit = visit_is u (Some r) live (omega (arith, low, past)) high is
+        visit = visit_is u (Some r) live to.above to.below to.is
             ∙ ap (λ (b : Bool). if b then Some r.address else None) (ne_eqb r.lo u.pc (λ e. absurd (omega arith)));
         place = λ q e. (at ∙ sym there ∙ e, cells);
       }
 
   -- at an address of the visit's place
-  pub there_in : (t u : State) (r : NoteRange) → base ≤ t.pc → t.pc < base + 4 * length p.code → base ≤ u.pc
-      → u.pc < base + 4 * length p.code
-      → range_in p.ranges t.pc ≡ Some r → range_in p.ranges u.pc ≡ Some r → IsThere g t u
-  there_in t u r low high from to here is = record {
-    range = placed.noted.ranges u.pc from to ∙ is ∙ sym (placed.noted.ranges t.pc low high ∙ here);
-    page = placed.noted.inside u.pc from to ∙ sym (placed.noted.inside t.pc low high);
+  pub there_in : (t u : State) (r : NoteRange) → IsInRange r t.pc → IsInRange r u.pc → IsThere g t u
+  there_in t u r from to = record {
+    range = placed.noted.ranges u.pc to.above to.below ∙ to.is
+        ∙ sym (placed.noted.ranges t.pc from.above from.below ∙ from.is);
+    page = placed.noted.inside u.pc to.above to.below ∙ sym (placed.noted.inside t.pc from.above from.below);
   }
 
   -- at the first address of a place
-  pub at_range : (node : Node) (x : Point) (t : State) (r : NoteRange) → t.ending ≡ None → base ≤ t.pc
-      → t.pc < base + 4 * length p.code
-      → range_in p.ranges t.pc ≡ Some r → r.lo ≡ t.pc → r.node ≡ number_in g node → r.address ≡ x.pc
-      → visits_it g node x t
-  at_range node x t r live low high is lo same address = (
-    visit_is t (Some r) live low high is ∙ ap (λ (b : Bool). if b then Some r.address else None) (eq-eqb r.lo t.pc lo)
-        ∙ ap (λ z. Some z) address,
-    node_is t.pc (Some r) low high is ∙ ap (λ z. Some z) same,
+  pub at_range : (node : Node) (x : Point) (t : State) (r : NoteRange) → t.ending ≡ None → IsInRange r t.pc
+      → r.lo ≡ t.pc → r.node ≡ number_in g node → r.address ≡ x.pc → visits_it g node x t
+  at_range node x t r live at lo same address = (
+    visit_is t (Some r) live at.above at.below at.is
+        ∙ ap (λ (b : Bool). if b then Some r.address else None) (eq-eqb r.lo t.pc lo) ∙ ap (λ z. Some z) address,
+    node_is t.pc (Some r) at.above at.below at.is ∙ ap (λ z. Some z) same,
   )
 
   pub quiet_of : (t after : State) (count : ℕ) (P : State → Type 0) → Leads P t after count
@@ -86,14 +87,24 @@ module _ (site : Site) where
       let before = lived_to t j count (omega arith) (ap (λ (z : State). z.ending) way.steps ∙ live) in
       on (run t j) before (way.during j a b)
 
-  pub can_run : (t : State) → IsValid t → t.ending ≡ None → t.npc ≡ t.pc + 4 → t.slot ≡ NoSlot
-      → HasImages g base p f t.memory → CanRun base p.code t
-  can_run t valid live npc slot has = record {
+  -- what it takes to run on
+  pub record IsFit (a : State) : Type 0 where
+    pub valid : IsValid a
+    pub has : HasImages g base p f a.memory
+    pub runs : CanRun base p.code a
+
+  pub fits : (a : State) → IsValid a → a.ending ≡ None → a.npc ≡ a.pc + 4 → a.slot ≡ NoSlot
+      → HasImages g base p f a.memory → IsFit a
+  fits a valid live npc slot has = record {
     valid = valid;
-    ready = record { live = live; npc = npc };
-    slot = slot;
-    page = stores_there (page_word 0) t.memory (has.ours.words (page_word 0) placed.frame.stored.first);
-    code = has.code;
+    has = has;
+    runs = record {
+      valid = valid;
+      ready = record { live = live; npc = npc };
+      slot = slot;
+      page = stores_there (page_word 0) a.memory (has.ours.words (page_word 0) placed.frame.stored.first);
+      code = has.code;
+    };
   }
 
 -- a step that ends the run completes no edge

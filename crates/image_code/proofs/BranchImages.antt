@@ -1,5 +1,5 @@
 -- The images of branches: each way leads into a slot, to a word's image, or out of the text.
-use Rattle.image_code.proofs.Common.{◌≡◌, ℕ, ◌+◌, ◌%◌, ◌^◌, inl, inr, Bool, true, false, not, Option, Some, None, List, [], ◌∷◌, refl, ap, sym, ◌∙◌, arith, if◌then◌else◌, ◌&&◌, ◌||◌, slice_get, slice_index, ◌==◌, ℤ, Words, word_at, Instr, decode_of, holds_of, wrapped, NoSlot, Taken, Untaken, State, act, EdgeKind, always, never, end_at, within, Blocks, blocks_of, end_of, holding_of, last_word, is_fall, is_jump, cases_Bool, cond_both, word_at-some, Edge, Node, home_of, Open, jumps_in, graph_of, has_cases, edge_from, node_after, point_of, same_kind, block, copy, end_is, is_in, X, node_is, branched, branch_step, Way, number_of, way, ways_of, directed, edge_of, is_compared, last_in, target_along, transfer_ends, way_found, Stands, IsOne, always_holds, Exit, OfWord, Shape, bare, goes_to, marked}
+use Rattle.image_code.proofs.Common.{◌≡◌, ℕ, ◌+◌, ◌%◌, ◌^◌, inl, inr, Bool, true, false, not, Option, Some, None, List, [], ◌∷◌, refl, ap, sym, ◌∙◌, arith, if◌then◌else◌, ◌&&◌, ◌||◌, slice_get, slice_index, ◌==◌, ℤ, Words, word_at, Instr, decode_of, holds_of, wrapped, NoSlot, Taken, Untaken, State, act, EdgeKind, always, never, end_at, within, Blocks, blocks_of, end_of, holding_of, last_word, is_fall, is_jump, cases_Bool, cond_both, word_at-some, Edge, Node, home_of, Open, jumps_in, graph_of, has_cases, edge_from, node_after, point_of, same_kind, block, copy, end_is, is_in, X, node_is, branched, branch_step, Way, number_of, way, ways_of, directed, edge_of, is_compared, last_in, target_along, transfer_ends, way_found, Stands, IsOne, always_holds, Exit, OfWord, bare, goes_to, marked}
 use Rattle.v8_decode.specs.declared.Instr.TheVariants as i
 use Rattle.cfg_blocks.specs.declared.BlockEnd.TheVariants as ends
 use Rattle.cfg_blocks.specs.declared.EdgeKind.TheVariants as kinds
@@ -14,13 +14,13 @@ use Rattle.cfg_walk.proofs.Slots.{LeadsIfThere}
 use Rattle.cfg_walk.proofs.Transfers.{taken_delayed, untaken_delayed}
 use Rattle.cfg_walk.proofs.Ways.{never_holds, not_always, not_never, taken_is_one, untaken_is_one}
 use Rattle.image_code.specs.Simulates.{at_point, does_at, gone_at, graph_in}
-use Rattle.image_code.proofs.PointShapes.{LeadsTo, next_entry, word_ahead, IsCase, conditional, unconditional, IsNoJumpsSlot}
+use Rattle.image_code.proofs.PointShapes.{LeadsNext, IsCase, conditional, unconditional, IsNoJumpsSlot}
 use Rattle.image_code.specs.declared.shape.Head.TheVariants as heads
 use Rattle.image_code.specs.Numbered.{enter_number, image_number}
 use Rattle.image_code.specs.Made.{first_word, goes_on, nop_word, visit_of, way_out}
 use Rattle.image_code.proofs.EdgePieces.{along_far}
 use Rattle.image_code.proofs.Branches.{small}
-use Rattle.image_code.proofs.IntoSlots.{LeadsThere, entered, entered_untaken, no_jump, stands}
+use Rattle.image_code.proofs.IntoSlots.{LeadsThere, entered, no_jump, stands}
 use Rattle.image_code.proofs.Listed.{own_at, way_at}
 use Rattle.image_code.proofs.Visited.{AtWord, GoesThere, at_image, goes_on_there, site, image_shape, left_gone, shapes, word_is}
 
@@ -153,14 +153,13 @@ module _ (visit : AtWord) (cond : ℕ) (annul : Bool) (disp : ℤ)
     into_taken : holds_of cond t.codes ≡ true → (not annul || not (cond == always)) ≡ true → (v : State)
         → v.ending ≡ None → v.pc ≡ x.npc → v.npc ≡ to → v.slot ≡ Taken → Goes kinds.Taken v
     into_taken holds runs v live pc next slot =
-        entered visit branch says v live pc slot (λ out. absurd (cc))
+        entered visit branch says v live pc Taken slot (λ n. absurd (cc)) (λ out. absurd (cc))
         (taken_delayed cond annul disp t.codes here (point_of v) holds runs pc next)
 
     into_untaken : holds_of cond t.codes ≡ false → annul ≡ false → (v : State)
         → v.ending ≡ None → v.pc ≡ x.npc → v.npc ≡ wrapped (x.npc + 4) → v.slot ≡ Untaken → Goes kinds.Untaken v
     into_untaken holds kept v live pc next slot =
-        entered_untaken visit branch says v live pc slot
-        (λ out. absurd (cc))
+        entered visit branch says v live pc Untaken slot (λ n. absurd (cc)) (λ out. absurd (cc))
         (untaken_delayed cond annul disp t.codes here (point_of v) holds kept pc next)
 
     past_taken : holds_of cond t.codes ≡ true → annul ≡ true → (cond == always) ≡ true → (v : State)
@@ -226,16 +225,6 @@ module _ (visit : AtWord) (cond : ℕ) (annul : Bool) (disp : ℤ)
     abbrev untaken : ℕ
     untaken = way_out g.text (graph_in g) node kinds.Untaken
 
-    abbrev image_if : Bool → Bool → Shape
-    image_if always_is never_is =
-        if always_is then marked visited (heads.Word nop_word) [] (goes_to taken) else
-        if never_is then marked visited (heads.Word nop_word) [] (goes_to untaken) else
-        marked visited (heads.Branch cond (record { 0 = taken })) [] (goes_to untaken)
-
-    made : (always_is never_is : Bool) → (cond == always) ≡ always_is → (cond == never) ≡ never_is
-        → slice_get (shapes edit) number ≡ Some (image_if always_is never_is)
-    made always_is never_is a n = image_shape visit branch says ∙ rw (a, n)
-
     one_way : (kind : EdgeKind) → slice_get (shapes edit) number
         ≡ Some (marked visited (heads.Word nop_word) [] (goes_to (way_out g.text (graph_in g) node kind)))
         → Goes kind (does_at g x t) → IsCase (site edit) node x t
@@ -251,35 +240,30 @@ module _ (visit : AtWord) (cond : ℕ) (annul : Bool) (disp : ℤ)
       never = no_jumps_slot;
     })
 
-    either : (flag : Bool) → Goes (if flag then kinds.Taken else kinds.Untaken) (does_at g x t)
-        → LeadsTo (site edit) (if flag then record { 0 = taken } else record { 0 = untaken })
-        (gone_at g node x (does_at g x t)) (word_ahead g x t) (next_entry (site edit) node x t)
-    either true leads = leads
-    either false leads = leads
-
-    two_ways : t.ending ≡ None
-        → slice_get (shapes edit) number
-        ≡ Some (marked visited (heads.Branch cond (record { 0 = taken })) [] (goes_to untaken))
-        → IsCase (site edit) node x t
-    two_ways live found = conditional (record {
-      none = none;
-      cond = cond;
-      small = small (slice_index g.text.words word) cond annul disp says;
-      annul = annul;
-      disp = disp;
-      says = says;
-      taken = record { 0 = taken };
-      untaken = record { 0 = untaken };
-      mark = at_image visit (λ _ _. heads.Branch cond (record { 0 = taken })) [] _ found;
-      leads = either (holds_of cond t.codes) (leads live (holds_of cond t.codes) refl);
-      never = no_jumps_slot;
-    })
-
     pub branch_case : t.ending ≡ None → IsCase (site edit) node x t
     branch_case live = elim (cases_Bool (cond == always)) [
-      | inl a ↦ one_way kinds.Taken (made true _ a refl) (leads live true (always_holds cond t.codes a))
+      | inl a ↦
+          one_way kinds.Taken (image_shape visit branch says ∙ rw a) (leads live true (always_holds cond t.codes a))
       | inr a ↦ elim (cases_Bool (cond == never)) [
-        | inl n ↦ one_way kinds.Untaken (made false true a n) (leads live false (never_holds cond t.codes n))
-        | inr n ↦ two_ways live (made false false a n)
+        | inl n ↦
+            one_way kinds.Untaken (image_shape visit branch says ∙ rw (a, n))
+            (leads live false (never_holds cond t.codes n))
+        | inr n ↦ conditional (record {
+          none = none;
+          cond = cond;
+          small = small (slice_index g.text.words word) cond annul disp says;
+          annul = annul;
+          disp = disp;
+          says = says;
+          taken = record { 0 = taken };
+          untaken = record { 0 = untaken };
+          mark =
+              at_image visit (λ _ _. heads.Branch cond (record { 0 = taken })) [] (goes_to untaken)
+              (image_shape visit branch says ∙ rw (a, n));
+          leads =
+              cond_both (holds_of cond t.codes) (record { 0 = taken }) (record { 0 = untaken })
+              (λ way. LeadsNext (site edit) way node x t) (leads live true) (leads live false);
+          never = no_jumps_slot;
+        })
       ]
     ]

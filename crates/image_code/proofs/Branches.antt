@@ -1,5 +1,5 @@
 -- Branches, their ways, and the words of their images.
-use Rattle.image_code.proofs.Common.{◌≡◌, ◌≢◌, ℕ, ◌<◌, Bool, false, Option, Some, None, refl, sym, arith, pos, slice_index, ℤ, ltb-true, Words, Instr, decode_of, decoded_range, Slot, is_transfer, EdgeKind, within, is_fall, Node, Graph, same_kind, left_by, way_of, nop, branch_or_sethi, OfWord, marked, couple_word}
+use Rattle.image_code.proofs.Common.{◌≡◌, ℕ, ◌<◌, Bool, false, Option, Some, refl, sym, arith, pos, slice_index, ℤ, ltb-true, Words, Instr, decode_of, decoded_range, Slot, is_transfer, EdgeKind, within, is_fall, Node, Graph, same_kind, left_by, way_of, nop, branch_or_sethi, OfWord, marked, couple_word}
 use Rattle.v8_decode.specs.declared.Instr.TheVariants as i
 use Rattle.cfg_blocks.specs.declared.EdgeKind.TheVariants as kinds
 use Rattle.image_code.specs.declared.shape.Head.TheVariants as heads
@@ -41,7 +41,3 @@ image_straight text graph jumps cases visit node word _ e = refl
 
 pub within_is : (count word other : ℕ) → within count word ≡ Some other → word ≡ other
 within_is count word other e = (within_some count word other e).1
-
-pub is_there : (o : Option ℕ) → o ≢ None → (word : ℕ) × (o ≡ Some word)
-is_there None h = absurd (h refl)
-is_there (Some word) h = (word, refl)

@@ -1,14 +1,14 @@
 -- The link of a CALL, and then the way.
-use Rattle.image_code.proofs.Common.{◌≡◌, ℕ, ◌^◌, ◌<◌, List, length, refl, ap, sym, ◌∙◌, subst, arith, ℤ, word_at, Instr, code_of, Slot, NoSlot, State, target_of, unless_couple, act, on_word, is_transfer, Point, point_of, node_after, Leads, StandIn, leads_weaker, stores_none, words_of, link, past, IsPageWord, with_register, call_step, delayed, IsBetween, pieces_are_laid}
+use Rattle.image_code.proofs.Common.{words_mean, ◌≡◌, ℕ, ◌^◌, ◌<◌, List, length, refl, ap, ◌∙◌, subst, arith, ℤ, word_at, Instr, code_of, Slot, NoSlot, State, target_of, unless_couple, act, on_word, is_transfer, Point, point_of, node_after, Leads, leads_weaker, stores_none, words_of, link, past, IsPageWord, with_register, call_step, delayed, IsBetween}
 use Rattle.v8_decode.specs.declared.Instr.TheVariants as i
 use Rattle.jump_code.specs.Links.{IsAboutToCall}
+use Rattle.jump_code.proofs.Fitting.{link_fits}
 use Rattle.jump_code.proofs.Linking.{calls_act, calls_store}
-use Rattle.image_code.specs.Simulates.{at_point, does_at, gone_at, graph_in, number_in}
+use Rattle.image_code.specs.Simulates.{at_point, does_at, gone_at, graph_in}
 use Rattle.image_code.proofs.Points.{ReachesNext, StepsFrom, entered_at, Visit}
 use Rattle.image_code.proofs.PointShapes.{LeadsTo, IsNoJumpsSlot, IsCall}
 use Rattle.image_code.proofs.Dead.{LastDead, gone_last}
 use Rattle.image_code.proofs.Through.{ahead, goes_through}
-use Rattle.image_code.proofs.Routes.{items_at}
 use Rattle.image_code.proofs.Marked.{AtWords}
 
 -- the original after its CALL
@@ -21,7 +21,7 @@ call_acts x disp t none = ap (λ (z : Slot). unless_couple z (at_point x t) (cal
 
 module _ (visit : Visit)
     (c : IsCall visit.site visit.node visit.x visit.t) where
-  open visit use {site, node, x, t, here, site.{g, l, base, p, place, placed}}
+  open visit use {site, node, x, t, here, site.{g}}
 
   does_is : does_at g x t ≡ called x c.disp t
   does_is = ap (on_word (at_point x t)) c.is_word ∙ ap (act (at_point x t)) c.says ∙ call_acts x c.disp t c.none
@@ -38,9 +38,7 @@ module _ (visit : Visit)
         valid = here.valid;
         ready = record { live = here.live; npc = there.next (omega (arith, there.low)) };
         low = omega (arith, there.low);
-        words = subst (λ z. StandIn (code_of t.memory) z image) (sym there.at)
-            ((pieces_are_laid l.list base p place placed.laid t.memory here.memory.code c.piece _ (items_at site c.piece _ c.shape)).call
-            c.address (number_in g node) c.way short refl).words;
+        words = words_mean (code_of t.memory) t.pc image (link_fits 15 c.address.0 (omega arith) short) there.words;
         short = short;
       }
     where

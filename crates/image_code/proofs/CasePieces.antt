@@ -92,11 +92,9 @@ module _ (text : Words) (graph : Graph) where
       ∙ ap (λ (n : ℕ). map (case_piece text graph n o) o.targets) here
   cases_of_more k (first ∷ opens) o =
       let next : suc k + length opens ≡ k + suc (length opens) = omega arith in
-      ap (λ (ns : List ℕ). map (case_piece text graph k first) first.targets ++ ns)
-      (cases_of_more (suc k) opens o
-      ∙ ap (λ (n : ℕ). cases_of text graph (suc k) opens ++ map (case_piece text graph n o) o.targets) next)
-      ∙ sym (append_assoc (map (case_piece text graph k first) first.targets) (cases_of text graph (suc k) opens)
-      (map (case_piece text graph (k + suc (length opens)) o) o.targets))
+      rw (cases_of_more (suc k) opens o, next)
+      (sym (append_assoc (map (case_piece text graph k first) first.targets) (cases_of text graph (suc k) opens)
+      (map (case_piece text graph (k + suc (length opens)) o) o.targets)))
 
   -- the numbers of one open switch more
   pub numbers_pushed : (opens : List Open) (n : ℕ) (d : Open) (list new : List PieceNo) → n < length opens

@@ -1,35 +1,28 @@
 -- A word in its Mark at the head of a piece, and the images of plain words: they are one step each.
-use Rattle.image_code.proofs.Common.{◌≡◌, ◌≢◌, ℕ, ◌+◌, ◌⊎◌, inl, inr, Bool, true, Option, Some, None, List, [], ◌∷◌, refl, ap, sym, subst, ◌∙◌, arith, ℤ, range_at, Instr, decode_of, code_of, AllApart, Ending, State, act, step_of, on_word, puts_by, puts_on_word, run_puts, judged_by, in_pages, pages_of, live_puts, goes_act, Point, point_of, node_after, count_stores, moved, hopped, step_is, no_stores, leads_one, page_word, words_stay, Notes, outside_refl, Exit}
-use Rattle.v8_decode.specs.declared.Instr.TheVariants as i
+use Rattle.image_code.proofs.Common.{◌≡◌, ◌≢◌, ℕ, ◌+◌, Bool, Option, Some, None, List, [], ◌∷◌, refl, ap, sym, subst, ◌∙◌, arith, range_at, Instr, decode_of, code_of, AllApart, Ending, State, act, step_of, on_word, puts_on_word, run_puts, judged_by, in_pages, pages_of, live_puts, goes_act, Point, point_of, node_after, count_stores, moved, hopped, step_is, no_stores, leads_one, page_word, Notes, outside_refl, Exit}
 use Rattle.two_runs.proofs.JudgedAlike.{judged_alike}
 use Rattle.code_runs.specs.Straight.{Says}
 use Rattle.code_runs.proofs.Counted.{count_one, ends_stores}
 use Rattle.code_runs.proofs.Points.{acts_anywhere}
 use Rattle.image_code.specs.Simulates.{at_point, does_at, gone_at, graph_in, word_of, edit_in}
 use Rattle.image_code.specs.Cost.{IsWatched, in_first_word, is_spill}
-use Rattle.image_code.specs.Store.{cells_in}
 use Rattle.image_code.proofs.Points.{ReachesNext, StepsFrom, entered_at, Visit}
 use Rattle.image_code.proofs.PointShapes.{next_entry, IsMarkedWord, IsPlain, word_ahead}
 use Rattle.image_code.proofs.Ended.{stops_act}
 use Rattle.image_code.proofs.Sparing.{uncounted}
 use Rattle.image_code.proofs.Memories.{fetch_is, images_stay, same_stored}
-use Rattle.image_code.proofs.Routes.{Tail, IsFit, tail}
+use Rattle.image_code.proofs.Routes.{Tail, tail}
+use Rattle.image_code.proofs.Between.{IsFit}
 use Rattle.image_code.proofs.Dead.{LastDead, gone_last}
 use Rattle.image_code.proofs.Marked.{AtWords, at_words}
 use Rattle.image_code.proofs.EntersBy.{Past, ends_by, enters_by, followed_same}
-use Rattle.image_code.proofs.Cells.{cells_stay}
+use Rattle.image_code.proofs.Cells.{cells_stay, own_stays}
 
 -- an instruction judges the same bytes wherever it stands
 pub judged_moved : (notes : Notes) (x : Point) (t : State) (instr : Instr)
     → AllApart (pages_of notes) (judged_by (at_point x t) instr) → AllApart (pages_of notes) (judged_by t instr)
 judged_moved notes x t instr apart =
     judged_alike notes instr (at_point x t) t (assumption (outside_refl (pages_of notes) t.memory)) apart
-
--- a branch puts nothing out
-pub no_puts : (s : State) (cond : ℕ) (annul : Bool) (disp : ℤ) (descriptor : ℕ)
-    → puts_by s (i.Branch cond annul disp) descriptor ≡ []
-unfolding puts_by
-no_puts s cond annul disp descriptor = refl
 
 -- ---- words that are no transfers
 
@@ -58,37 +51,18 @@ module _ (visit : Visit) (edges : List ℕ) (exit : Exit) (c : IsMarkedWord visi
       ∙ (acts_anywhere x.pc x.npc x.slot t (decode_of c.word) c.straight).1 descriptor
       ∙ sym (ap (λ (o : Option ℕ). puts_on_word (at_point x t) o descriptor) c.is_word)
 
-  -- its cells, where it judges no byte of the pages
-  still : AllApart (pages_of g.notes) (judged_by t (decode_of c.word))
-      → cells_in g.notes a ≡ cells_in g.notes t
-  still apart = cells_stay site t (decode_of c.word) apart here.memory.ours
-
   -- the word is one step
   past : (edges : List ℕ) → AllApart (pages_of g.notes) (judged_by t (decode_of c.word))
-      → ((counted : ℕ → Bool) → count_stores counted t 1 ≡ 0) ⊎ (a.ending ≡ None)
-      → Past visit edges v a 1
+      → (count_stores (is_spill g.notes) t 1 ≡ 0) × (count_stores in_first_word t 1 ≡ 0) → Past visit edges v a 1
   past edges apart stores = record {
     path = leads_one _ t a one;
     some = omega arith;
     few = omega arith;
     puts = puts_one;
-    cells = still apart;
-    spares = λ _. record { spills = (spared stores).0; first = λ _. (spared stores).1; brief = λ _. omega arith };
+    cells = cells_stay site t (decode_of c.word) apart here.memory.ours;
+    spares = λ _. record { spills = stores.0; first = λ _. stores.1; brief = λ _. omega arith };
     alone = λ _. refl;
   }
-    where
-      -- it stores nothing that is counted
-      spared : ((counted : ℕ → Bool) → count_stores counted t 1 ≡ 0) ⊎ (a.ending ≡ None)
-          → (count_stores (is_spill g.notes) t 1 ≡ 0) × (count_stores in_first_word t 1 ≡ 0)
-      spared (inl none) = (none _, none _)
-      spared (inr alive) =
-          let out = uncounted g.notes (placed.frame.stored.within (page_word 0) placed.frame.stored.first) t
-          (decode_of c.word) apart alive in
-          let says : Says (code_of t.memory) t.pc (decode_of c.word) =
-          record { word = c.word; fetched = there.words.0; decodes = refl } in (
-            no_stores (is_spill g.notes) t (decode_of c.word) here.live says out.0,
-            no_stores in_first_word t (decode_of c.word) here.live says out.1,
-          )
 
   ends : (d : Ending) → v.ending ≡ Some d
       → AllApart (pages_of g.notes) (judged_by t (decode_of c.word)) → ReachesNext site (gone_at g node x v) node x t v
@@ -98,7 +72,7 @@ module _ (visit : Visit) (edges : List ℕ) (exit : Exit) (c : IsMarkedWord visi
       let none : (counted : ℕ → Bool) → count_stores counted t 1 ≡ 0 =
       λ counted. count_one counted t ∙ ends_stores counted t d (ap (λ (z : State). z.ending) one ∙ stopped) in
       ends_by visit v a 0 (record {
-        past = past [] apart (inl none);
+        past = past [] apart (none _, none _);
         before = here.live;
         ending = d;
         over = over;
@@ -120,8 +94,12 @@ module _ (visit : Visit) (edges : List ℕ) (exit : Exit) (c : IsMarkedWord visi
       let low = there.low in
       let onpc : a.npc ≡ a.pc + 4 = omega arith in
       let has = images_stay site t (decode_of c.word) one apart here.memory in
+      let out = uncounted g.notes (placed.frame.stored.within (page_word 0) placed.frame.stored.first) t
+      (decode_of c.word) apart alive in
+      let says : Says (code_of t.memory) t.pc (decode_of c.word) =
+      record { word = c.word; fetched = there.words.0; decodes = refl } in
       enters_by visit next edges v a 1 last (record {
-        past = past edges apart (inr alive);
+        past = past edges apart (no_stores _ t _ here.live says out.0, no_stores _ t _ here.live says out.1);
         same = sym (ap (λ (z : State). hopped z 0 a.memory) same);
         outside = λ n stores. rw (ap (λ (z : State). z.memory) same) at (same_stored site a.memory n has stores);
         has = has;
@@ -131,9 +109,7 @@ module _ (visit : Visit) (edges : List ℕ) (exit : Exit) (c : IsMarkedWord visi
         target_in_page = λ taken. let none = vwent.2 in absurd (cc);
         watched = watched;
         kept = λ _.
-            (words_stay (pages_of g.notes) (page_word 0) true t (decode_of c.word)
-            (placed.frame.stored.within (page_word 0) placed.frame.stored.first) apart
-            (here.memory.ours.words (page_word 0) placed.frame.stored.first)).1;
+            own_stays site t (decode_of c.word) apart here.memory.ours (page_word 0) placed.frame.stored.first;
       }) (λ fit.
       let tail = onward fit (omega (arith, npc, went.0, there.behind)) in
       (tail.0, λ _. tail.1))

@@ -7,6 +7,7 @@ use Rattle.snippets.specs.Cells.{update}
 use Rattle.snippet_code.specs.Runs.{MayStore}
 use Rattle.image_code.specs.Store.{cells_in, operations_on, snippet_on, updates}
 use Rattle.image_code.proofs.Points.{Site}
+use Rattle.image_code.proofs.Between.{stores_weaker}
 
 -- ---- a word that nothing is stored in
 
@@ -68,6 +69,22 @@ module _ (site : Site) where
   cell_stored m ours cell within =
       stores_there (cell_at g.notes.base cell) m (ours.words (cell_at g.notes.base cell) (placed.cells.stored cell within))
 
+  -- the words of the page can be stored in
+  pub page_there : (m : Memory) → IsOurs (pages_of g.notes) f.stored m → (n : ℕ) → n < 8 → CanStore m (page_word n)
+  page_there m ours n few =
+      stores_there (page_word n) m (ours.words (page_word n) (placed.frame.page n (omega (arith, few))))
+
+  -- they are the editor's
+  pub own_stored : (m n : Memory) → Stores IsPageWord m n → Stores (IsAmongWords f.stored) m n
+  own_stored m n stores = stores_weaker IsPageWord (IsAmongWords f.stored) m n page_own stores
+    where
+      page_own : (z : ℕ) → IsPageWord z → IsAmongWords f.stored z
+      page_own z (inl e) = rw e (placed.frame.page 0 (omega arith))
+      page_own z (inr (inl e)) = rw e (placed.frame.page 1 (omega arith))
+      page_own z (inr (inr (inl e))) = rw e (placed.frame.page 2 (omega arith))
+      page_own z (inr (inr (inr (inl e)))) = rw e (placed.frame.page 7 (omega arith))
+      page_own z (inr (inr (inr (inr e)))) = absurd e
+
   -- stores above the cells
   pub cells_above : (May : ℕ → Type 0) → ((z : ℕ) → May z → 2 ^ 31 ≤ z) → (m n : Memory)
       → IsOurs (pages_of g.notes) f.stored m → Stores May m n
@@ -79,13 +96,16 @@ module _ (site : Site) where
       (cell_stored m ours cell within))
 
   -- an instruction that judges no byte of the pages
-  pub cells_stay : (s : State) (x : Instr) → AllApart (pages_of g.notes) (judged_by s x)
-      → IsOurs (pages_of g.notes) f.stored s.memory → cells_in g.notes (act s x) ≡ cells_in g.notes s
-  cells_stay s x apart ours =
-      words_same g.notes.base g.notes.cells s.memory (act s x).memory (λ cell within.
-      let own = placed.cells.stored cell within in
-      (words_stay (pages_of g.notes) (cell_at g.notes.base cell) true s x
-      (placed.frame.stored.within (cell_at g.notes.base cell) own) apart (ours.words (cell_at g.notes.base cell) own)).1)
+  module _ (s : State) (x : Instr) (apart : AllApart (pages_of g.notes) (judged_by s x))
+      (ours : IsOurs (pages_of g.notes) f.stored s.memory) where
+    pub own_stays : (a : ℕ) → IsAmongWords f.stored a → memory_word (act s x).memory a ≡ memory_word s.memory a
+    own_stays a own =
+        (words_stay (pages_of g.notes) a true s x (placed.frame.stored.within a own) apart (ours.words a own)).1
+
+    pub cells_stay : cells_in g.notes (act s x) ≡ cells_in g.notes s
+    cells_stay =
+        words_same g.notes.base g.notes.cells s.memory (act s x).memory (λ cell within.
+        own_stays (cell_at g.notes.base cell) (placed.cells.stored cell within))
 
   -- where a snippet's words may store, the editor may
   pub may_own : (edge z : ℕ) → MayStore g.notes.base (snippet_on g.snips edge) z → IsAmongWords f.stored z

@@ -1,24 +1,23 @@
 -- The image of an open switch's jump, at the jump's block itself: the Case edge that it chooses leads to the slot.
-use Rattle.image_code.proofs.Common.{◌≡◌, ◌≢◌, ℕ, zero, suc, ◌+◌, ◌*◌, ◌%◌, ◌^◌, ◌<◌, Bool, true, Some, None, List, [], ◌∷◌, length, map, take, refl, ap, sym, ◌∙◌, subst, arith, ◌==◌, if◌then◌else◌, slice_get, slice_index, sum_by, and_parts, eq-eqb, lt-ltb, ltb-true, length-map, sum_by-cons, slice_get-map, slice_get_within, Words, word_at, Op2, operands_in_range, decode_of, decoded_range, nat_lt, NoSlot, Taken, State, EdgeKind, Blocks, blocks_of, holding_of, last_word, ends_block_after, word_at-some, Node, Block, home_of, Open, jumps_in, Graph, has_cases, node_of, node_after, point_of, way_of, same_kind, next_word, block, end_is, node_is, table_word, choice_at, saved_address, IsTarget, transfer_ends, jump_delayed, IsCaseBlock, OfWord, Shape, marked}
+use Rattle.image_code.proofs.Common.{◌≡◌, ◌≢◌, ℕ, zero, suc, ◌+◌, ◌*◌, ◌%◌, ◌^◌, ◌<◌, Bool, true, Some, None, List, [], ◌∷◌, length, map, take, refl, ap, sym, ◌∙◌, arith, ◌==◌, if◌then◌else◌, slice_get, slice_index, sum_by, and_parts, eq-eqb, lt-ltb, ltb-true, length-map, sum_by-cons, slice_get-map, slice_get_within, Words, word_at, Op2, operands_in_range, decode_of, decoded_range, nat_lt, NoSlot, Taken, State, Blocks, blocks_of, last_word, ends_block_after, word_at-some, home_of, Open, jumps_in, Graph, has_cases, node_of, point_of, same_kind, next_word, block, end_is, node_is, table_word, choice_at, saved_address, IsTarget, transfer_ends, jump_delayed, IsCaseBlock}
 use Rattle.v8_decode.specs.declared.Instr.TheVariants as i
 use Rattle.cfg_blocks.specs.declared.EdgeKind.TheVariants as kinds
 use Rattle.switch_runs.proofs.About.{in_targets}
 use Rattle.switch_runs.proofs.CaseBlocks.{some_of}
-use Rattle.image_code.proofs.PointShapes.{next_entry, IsSwitchJump}
+use Rattle.image_code.proofs.PointShapes.{IsSwitchJump}
 use Rattle.image_code.specs.declared.shape.Exit.TheVariants as exits
 use Rattle.image_code.specs.declared.shape.Head.TheVariants as heads
 use Rattle.image_code.specs.Graphs.{case_table}
-use Rattle.image_code.proofs.Points.{entered_at}
 use Rattle.image_code.specs.Images.{slot_piece}
-use Rattle.image_code.specs.Made.{distance_of, jump_image_by, jumps_at, visit_of}
-use Rattle.image_code.specs.Numbered.{case_numbers, case_piece, cases_of, entries_of, first_entry, image_number, jump_number, or_zero}
+use Rattle.image_code.specs.Made.{distance_of}
+use Rattle.image_code.specs.Numbered.{case_numbers, case_piece, cases_of, entries_of, first_entry, jump_number, or_zero}
 use Rattle.image_code.specs.Simulates.{CaseTable, Chooses, IsChosen, does_at, gone_at, graph_in}
 use Rattle.image_code.proofs.CaseTables.{known_at}
 use Rattle.image_code.proofs.ImageNumbers.{block_of}
 use Rattle.image_code.proofs.IntoSlots.{before, stands}
-use Rattle.image_code.proofs.JumpImages.{goes, jump_acts}
+use Rattle.image_code.proofs.JumpImages.{jump_goes}
 use Rattle.image_code.proofs.Positions.{any_at, contains, get_behind, get_first}
-use Rattle.image_code.proofs.Visited.{AtWord, InSlot, at_image, site, IsTargetOf, case_piece_is, entered_slot, image_shape, l, nothing_gone, shapes, slotted, target, way_in}
+use Rattle.image_code.proofs.Visited.{AtWord, InSlot, at_image, site, IsTargetOf, case_piece_is, entered_slot, image_shape, l, nothing_gone, slotted, target, way_in}
 
 -- ---- the numbers of Case edges' pieces, by entries
 
@@ -50,15 +49,6 @@ word_place : (cases first table entry : ℕ) → table < 2 ^ 32 → cases + 4 * 
     → (table + 4 * entry + distance_of cases first table) % 2 ^ 32 ≡ cases + 4 * (first + entry)
 word_place cases first table entry low high = omega arith
 
--- at the block of an open switch's jump
-choice_is : (text : Words) (graph : Graph) (jumps cases : ℕ) (visit : OfWord) (block k : ℕ) (o : Open)
-    (rd rs1 : ℕ) (op2 : Op2) → jumps_in graph.opens block ≡ true → jump_number text graph block ≡ Some k
-    → slice_get graph.opens k ≡ Some o
-    → jump_image_by text graph jumps cases visit (Block (record { 0 = block })) rd rs1 op2
-    ≡ marked visit (heads.SwitchJump rd (distance_of cases (first_entry text graph k) o.switch.table.0)) [] exits.Behind
-choice_is text graph jumps cases visit block k o rd rs1 op2 jumping numbered is =
-    rw (jumping, numbered, is)
-
 module _ (visit : AtWord) (t : State) (rd rs1 : ℕ) (op2 : Op2)
     (says : decode_of (slice_index visit.edit.g.text.words visit.word) ≡ i.Jmpl rd rs1 op2)
     (chooses : Chooses visit.edit.g visit.node visit.x t (does_at visit.edit.g visit.x t)) (k : ℕ) (o : Open)
@@ -79,14 +69,13 @@ module _ (visit : AtWord) (t : State) (rd rs1 : ℕ) (op2 : Op2)
   block_is = is.cased.each k o among
 
   -- it is the jump that ends the block
-  held_in : holding_of b word ≡ o.block
-  held_in = ap block_of (sym (node_is b word low) ∙ ap (node_of b) (sym at) ∙ sym held ∙ ap home_of itself)
-
   jump_is : word ≡ o.approach.jump
   jump_is =
       transfer_ends g.text b g.switches cut word low
       (ap ends_block_after (end_is g.text word (i.Jmpl rd rs1 op2) says))
-      ∙ ap (last_word b.firsts b.words) held_in ∙ sym block_is.last
+      ∙ ap (last_word b.firsts b.words)
+      (ap block_of (sym (node_is b word low) ∙ ap (node_of b) (sym at) ∙ sym held ∙ ap home_of itself))
+      ∙ sym block_is.last
 
   chosen : IsChosen g table t v
   chosen =
@@ -133,46 +122,32 @@ module _ (visit : AtWord) (t : State) (rd rs1 : ℕ) (op2 : Op2)
   many : first + entry < length (case_numbers g.text (graph_in g))
   many = slice_get_within (case_numbers g.text (graph_in g)) (first + entry) _ number_at
 
-  kept : saved_address t ≡ o.switch.table.0 + 4 * entry
-  kept =
-      omega (arith, (word_at-some g.text o.switch.table.0 begins block_is.table.at).is, from_is, chosen.kept)
-
-  table_low : o.switch.table.0 < 2 ^ 32
-  table_low =
-      let w = word_at-some g.text o.switch.table.0 begins block_is.table.at in
-      omega (arith, w.within, w.is, is.text.below)
-
   place_is : choice_at distance t ≡ f.cases.base + 4 * (first + entry)
   place_is =
+      let w = word_at-some g.text o.switch.table.0 begins block_is.table.at in
+      let kept : saved_address t ≡ o.switch.table.0 + 4 * entry = omega (arith, w.is, from_is, chosen.kept) in
       ap (λ (n : ℕ). (n + distance) % 2 ^ 32) kept
-      ∙ word_place f.cases.base first o.switch.table.0 entry table_low (omega (arith, many, cases.low, cases.long))
+      ∙ word_place f.cases.base first o.switch.table.0 entry (omega (arith, w.within, w.is, is.text.below))
+      (omega (arith, many, cases.low, cases.long))
 
   -- ---- into the slot, along the Case edge
 
   acts : (v.pc ≡ x.npc) × (v.slot ≡ Taken)
-  acts =
-      goes visit t rd rs1 op2 says v
-      (jump_acts visit t rd rs1 op2 says) chosen.live
+  acts = jump_goes visit t rd rs1 op2 says chosen.live
 
   not : v.slot ≢ NoSlot
   not n = let q : Taken ≡ NoSlot = sym acts.1 ∙ n in absurd (cc)
 
   is_target : IsTarget g.text g.switches node v.npc
-  is_target =
-      subst (λ (n : Node). IsTarget g.text g.switches n v.npc) (sym itself) (
-        to,
-        goes_to,
-        in_targets (λ (y : ℕ). y == to) g.switches o o.block (contains g.switches k o among) refl
-            (any_at (λ (y : ℕ). y == to) o.targets entry to targeted (eq-eqb to to refl)),
-      )
+  is_target = rw itself (
+    to,
+    goes_to,
+    in_targets (λ (y : ℕ). y == to) g.switches o o.block (contains g.switches k o among) refl
+        (any_at (λ (y : ℕ). y == to) o.targets entry to targeted (eq-eqb to to refl)),
+  )
 
   cased : has_cases g.switches node ≡ true
   cased = ap (has_cases g.switches) itself ∙ jumping
-
-  jumps_so : way_in edit (point_of v) ≡ kinds.Out
-  jumps_so =
-      ap (λ instr. way_of instr v.slot)
-      (before visit (i.Jmpl rd rs1 op2) says v acts.0)
 
   abbrev in_slot : InSlot
   in_slot =
@@ -182,7 +157,7 @@ module _ (visit : AtWord) (t : State) (rd rs1 : ℕ) (op2 : Op2)
       (λ _. is_target))
 
   out : same_kind (way_in edit (point_of v)) kinds.Out ≡ true
-  out = ap (λ (kind : EdgeKind). same_kind kind kinds.Out) jumps_so
+  out = rw (before visit (i.Jmpl rd rs1 op2) says v acts.0)
 
   its_piece : slot_piece g (l edit) node (point_of v) ≡ case_piece g.text (graph_in g) k o to
   its_piece = case_piece_is in_slot out cased
@@ -206,24 +181,7 @@ module _ (visit : AtWord) (t : State) (rd rs1 : ℕ) (op2 : Op2)
   gone_nothing : gone_at g node x v ≡ []
   gone_nothing = nothing_gone g node x v none not chosen.live
 
-  leads : slice_index p.at (case_piece g.text (graph_in g) k o to) ≡ next_entry (site edit) node x t
-  leads =
-      ap (slice_index p.at) (sym its_piece)
-      ∙ sym (entered_slot edit node (point_of v) (word + 1) slot_there not)
-      ∙ ap (λ (edges : List ℕ). entered_at (site edit) (node_after (graph_in g) node edges) (point_of v))
-      (sym gone_nothing)
-
   -- ---- its image
-
-  abbrev piece : ℕ
-  piece = image_number g.text (graph_in g) node word
-
-  shape : slice_get (shapes edit) piece ≡ Some (marked (visit_of g.text (graph_in g) node word)
-      (heads.SwitchJump rd distance) [] exits.Behind)
-  shape =
-      image_shape visit (i.Jmpl rd rs1 op2) says
-      ∙ rw itself (ap (λ (s : Shape). Some s) (choice_is g.text (graph_in g) (jumps_at g.text f.table.base)
-      f.cases.base _ o.block k o rd rs1 op2 jumping numbered among))
 
   pub choice_case : IsSwitchJump (site edit) node x t
   choice_case =
@@ -245,7 +203,9 @@ module _ (visit : AtWord) (t : State) (rd rs1 : ℕ) (op2 : Op2)
             (decoded_range (i.Jmpl rd rs1 op2) (slice_index g.text.words word) (sym says))).0;
         distance = distance;
         near = omega arith;
-        mark = at_image visit (λ _ _. heads.SwitchJump rd distance) [] exits.Behind shape;
+        mark =
+            at_image visit (λ _ _. heads.SwitchJump rd distance) [] exits.Behind
+            (image_shape visit (i.Jmpl rd rs1 op2) says ∙ rw (itself, jumping, numbered, among));
         aligned = omega (arith, place, cases.aligned);
         from = omega (arith, place);
         to = omega (arith, place, cases.long, many);
@@ -254,5 +214,8 @@ module _ (visit : AtWord) (t : State) (rd rs1 : ℕ) (op2 : Op2)
         has = ap (table_word f.cases) place ∙ cases.words (first + entry) _ number_at;
         live = chosen.live;
         nothing = gone_nothing;
-        leads = leads;
+        leads =
+            rw gone_nothing
+            (ap (slice_index p.at) (sym its_piece)
+            ∙ sym (entered_slot edit node (point_of v) (word + 1) slot_there not));
       }

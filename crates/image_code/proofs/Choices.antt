@@ -1,5 +1,5 @@
 -- The words of an open switch's JMPL lead to the piece of a Case edge.
-use Rattle.image_code.proofs.Common.{◌≡◌, ℕ, ◌+◌, ◌%◌, ◌^◌, ◌<◌, ◌≤◌, false, Some, None, List, [], ◌∷◌, ◌++◌, length, refl, ap, sym, ◌∙◌, arith, ◌/◌, slice_index, length-append, Instr, wrapped, code_of, State, is_transfer, instr_at, node_after, point_of, hopped, table_word, page_word, memory_word, leads_weaker, stores_there, link, Fit, words_mean, choice_at, switch_jump, words_of, HasWordAt, loads_there, jumped}
+use Rattle.image_code.proofs.Common.{◌≡◌, ℕ, ◌+◌, ◌%◌, ◌^◌, ◌<◌, ◌≤◌, false, Some, None, List, [], ◌∷◌, ◌++◌, length, refl, ap, sym, ◌∙◌, arith, ◌/◌, slice_index, length-append, Instr, wrapped, code_of, State, is_transfer, instr_at, node_after, point_of, hopped, table_word, memory_word, leads_weaker, link, Fit, words_mean, choice_at, switch_jump, words_of, HasWordAt, loads_there, jumped}
 use Rattle.jump_code.proofs.Fitting.{link_fits, lt}
 use Rattle.jump_code.specs.Choosing.{ComesToCase, IsAboutToChoose, choose, chosen}
 use Rattle.jump_code.proofs.Choosing.{choices_simulate}
@@ -7,6 +7,7 @@ use Rattle.image_code.specs.Simulates.{does_at, graph_in}
 use Rattle.image_code.specs.Cost.{is_jmpl}
 use Rattle.image_code.proofs.Points.{ReachesNext, StepsFrom, entered_at, Visit}
 use Rattle.image_code.proofs.PointShapes.{IsSwitchJump}
+use Rattle.image_code.proofs.Cells.{page_there}
 use Rattle.image_code.proofs.Routes.{bare_here}
 use Rattle.image_code.proofs.EntersBy.{moves_by}
 use Rattle.image_code.proofs.Marked.{AtWords, at_instrs}
@@ -70,8 +71,7 @@ module _ (visit : Visit)
         register = c.register;
         short = omega (arith, c.original, c.low);
         near = c.near;
-        page = λ n less. stores_there (page_word n) t.memory
-            (here.memory.ours.words (page_word n) (placed.frame.page n (omega (arith, less))));
+        page = λ n less. page_there site t.memory here.memory.ours n (omega (arith, less));
         choice = record {
           aligned = c.aligned;
           below = c.below;

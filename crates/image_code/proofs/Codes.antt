@@ -1,5 +1,5 @@
 -- The words of snippets do what they should.
-use Rattle.image_code.proofs.Common.{◌≡◌, ℕ, zero, suc, ◌+◌, ◌*◌, ◌%◌, ◌<◌, ◌≤◌, List, [], ◌∷◌, ◌++◌, length, append-nil, append_assoc, Result, Ok, Err, Some, slice_get, refl, ap, sym, ◌∙◌, subst, arith, inl, inr, cases_lt, length-map, word_of, Op, take-append_seam, nil_from_length}
+use Rattle.image_code.proofs.Common.{◌≡◌, ℕ, ◌+◌, ◌*◌, ◌%◌, ◌<◌, ◌≤◌, List, [], ◌∷◌, ◌++◌, length, append-nil, append_assoc, Result, Ok, Err, Some, slice_get, refl, ap, sym, ◌∙◌, subst, arith, inl, inr, cases_lt, length-map, word_of, Op, take-append_seam, nil_from_length, slice_get-get_or}
 use Rattle.std.specs.Result.{IfOk}
 use Rattle.std.proofs.Math.ListN.{get_or-eq_default}
 use Rattle.std.proofs.Math.Seq.{drop-append_seam}
@@ -18,6 +18,7 @@ use Rattle.image_code.specs.Private.{code_at, words_in}
 use Rattle.image_code.specs.declared.expansion.CodeSpan.{CodeSpan}
 use Rattle.image_code.specs.declared.expansion.Codes.{Codes}
 use Rattle.image_code.specs.SnippetWords.{codes_of}
+use Rattle.image_code.proofs.Positions.{get_first, get_past}
 
 pub if_both : {A E : Type 0} (P Q R : A → Type 0) (r : Result A E) → ((a : A) → P a → Q a → R a) → IfOk r P → IfOk r Q
     → IfOk r R
@@ -94,13 +95,8 @@ module _ (base : ℕ) (dead : ℕ → List Part) (snips : List (List Op)) where
 
 spans_before : (spans : List CodeSpan) (span : CodeSpan) (edge : ℕ) → edge < length spans
     → slice_get (spans ++ span ∷ []) edge ≡ slice_get spans edge
-spans_before [] span edge l = absurd (omega (arith, l))
-spans_before (first ∷ spans) span zero l = refl
-spans_before (first ∷ spans) span (suc edge) l = spans_before spans span edge (omega (arith, l))
-
-span_here : (spans : List CodeSpan) (span : CodeSpan) → slice_get (spans ++ span ∷ []) (length spans) ≡ Some span
-span_here [] span = refl
-span_here (first ∷ spans) span = span_here spans span
+spans_before spans span edge l =
+    let at = slice_get-get_or spans edge span l in get_first spans (span ∷ []) edge _ at ∙ sym at
 
 -- where the words of one edge more come to stand behind others
 abbrev pub behind : List ℕ → List ℕ → CodeSpan
@@ -126,7 +122,7 @@ codes_more f words code spans n long made held more edge l = elim (cases_lt edge
       let here : edge ≡ length spans = omega (arith, above, l, long) in
       let same : n ≡ edge = omega (arith, above, l) in
       ap (λ (k : ℕ). words_in ((words ++ code) ++ more) (slice_get (spans ++ behind words code ∷ []) k)) here
-      ∙ ap (words_in ((words ++ code) ++ more)) (span_here spans (behind words code))
+      ∙ ap (words_in ((words ++ code) ++ more)) (get_past spans (behind words code ∷ []) _ 0 _ (omega arith) refl)
       ∙ code_there words code more ∙ made ∙ ap f same
 ]
 

@@ -65,7 +65,6 @@ pub use Rattle.image_code.specs.declared.shape.Exit.{Exit}
 pub use Rattle.image_code.specs.declared.shape.Head.{Head}
 pub use Rattle.image_code.specs.declared.shape.Visit.{Visit as OfWord}
 pub use Rattle.jump_code.proofs.Fitting.{Fit, words_mean}
-pub use Rattle.jump_code.proofs.Laid.{pieces_are_laid}
 pub use Rattle.jump_code.specs.Choosing.{choice_at, switch_jump}
 pub use Rattle.jump_code.specs.Finding.{look_up, resume}
 pub use Rattle.jump_code.specs.FreeRegister.{IsApart, free_register, other_register, second_register}

@@ -8,8 +8,8 @@ use Rattle.image_code.specs.Cost.{in_first_word, is_spill}
 use Rattle.image_code.proofs.Points.{ReachesNext, Forms, StepsFrom, Visit}
 use Rattle.image_code.proofs.PointShapes.{LeadsTo, next_entry, word_ahead, IsConditionalBranch}
 use Rattle.image_code.proofs.Marked.{at_first, closes, lies, on_mark}
-use Rattle.image_code.proofs.Routes.{FollowsRoute, IsFit, arrive, items_at, jump_then, weaker_route}
-use Rattle.image_code.proofs.Between.{can_run, stores_weaker}
+use Rattle.image_code.proofs.Routes.{FollowsRoute, arrive, items_at, jump_then, weaker_route}
+use Rattle.image_code.proofs.Between.{IsFit, fits, stores_weaker}
 use Rattle.image_code.proofs.BranchMoves.{branch_moves}
 use Rattle.image_code.proofs.Cells.{cells_above, first_above}
 use Rattle.image_code.proofs.Dead.{gone_last}
@@ -35,7 +35,7 @@ module _ (visit : Visit)
   ready : CanRun base p.code t
   ready =
       let b = (lies visit _ _ _ c.mark 1 (omega arith)).ends in
-      can_run site t here.valid here.live (omega (arith, here.npc, branch_at, placed.laid.low)) here.slot here.memory
+      (fits site t here.valid here.live (omega (arith, here.npc, branch_at, placed.laid.low)) here.slot here.memory).runs
 
   hop : Goes t (if holds_of c.cond t.codes then slice_index p.at c.taken.0 else place c.piece 2) (place c.piece 2) 1 6 2
   hop = branches_hop l.list base p place placed.laid c.piece 1 c.cond c.taken item c.small t ready branch_at

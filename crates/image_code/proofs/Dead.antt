@@ -1,9 +1,10 @@
 -- What is dead on a way along some edges: only behind the snippet of the last of them, so that no snippet reads a
 -- register in which an earlier one left anything else.
-use Rattle.image_code.proofs.Common.{◌≡◌, ℕ, ◌⊎◌, inl, inr, Bool, true, ◌&&◌, Option, Some, None, List, [], ◌∷◌, ◌++◌, length, refl, ap, sym, ◌∙◌, subst, if◌then◌else◌, ◌-◌, slice_index, position, option_to_list, and_parts, cond_both, position-Some, slice_get-get_or, word_at, Instr, decode_of, Memory, IsSameOutside, Ending, Slot, NoSlot, Taken, Untaken, State, pages_of, StateItem, Register, IsSameAt, EdgeKind, Edge, has_cases, lands, Node, X, Point, WayOut, instr_at, left_by, point_of, slot_left, way_of, same_kind, same_node, hopped, Codes, YRegister, gone, landed, leads_along, unless_ended}
+use Rattle.image_code.proofs.Common.{get_or, ◌≡◌, ℕ, ◌⊎◌, inl, inr, Bool, ◌&&◌, Option, Some, None, List, [], ◌∷◌, ◌++◌, length, refl, ap, sym, ◌∙◌, subst, if◌then◌else◌, ◌-◌, slice_index, position, option_to_list, and_parts, cond_both, position-Some, slice_get-get_or, word_at, Instr, decode_of, Memory, IsSameOutside, Ending, Slot, NoSlot, Taken, Untaken, State, pages_of, StateItem, Register, IsSameAt, append-nil, EdgeKind, Edge, has_cases, lands, Node, X, Point, WayOut, instr_at, left_by, point_of, slot_left, way_of, same_kind, same_node, hopped, gone, landed, leads_along, unless_ended}
 use Rattle.v8_decode.specs.declared.Instr.TheVariants as i
 use Rattle.cfg_blocks.specs.declared.EdgeKind.TheVariants as kinds
 use Rattle.cfg_normal.specs.declared.Slot.TheVariants.{Nothing}
+use Rattle.v8_step.specs.Items.{IsItem}
 use Rattle.cfg_walk.specs.Walk.{completed, left_along, left_at}
 use Rattle.image_code.specs.Simulates.{IsFollowedBy, IsKept, EditSetup, gone_at, graph_in}
 use Rattle.image_code.specs.Cost.{is_out}
@@ -67,67 +68,47 @@ pub record IsAlike (g : EditSetup) (edges : List ℕ) (a b : State) : Type 0 whe
   pub registers : length b.registers ≡ length a.registers
   pub items : (item : StateItem) → IsKept g edges a.window item → IsSameAt item a b
 
-pub alike_itself : (g : EditSetup) (edges : List ℕ) (a : State) → IsAlike g edges a a
-alike_itself g edges a =
-    let items : (item : StateItem) → IsKept g edges a.window item → IsSameAt item a a =
-    λ item _. same_at item a a refl refl refl in
-    assumption
-
--- the place and memory are none of its items
-pub same_hopped : (item : StateItem) (a b : State) (to : ℕ) (m : Memory) → IsSameAt item a b
-    → IsSameAt item a (hopped b to m)
-same_hopped (Register n) a b to m e = e
-same_hopped _ a b to m e = e
-
-pub same_from : (item : StateItem) (a b c : State) → a.registers ≡ b.registers → a.codes ≡ b.codes → a.y ≡ b.y
-    → IsSameAt item b c → IsSameAt item a c
-same_from (Register n) a b c e f h same = ap (λ z. slice_index z n) e ∙ same
-same_from Codes a b c e f h same = f ∙ same
-same_from YRegister a b c e f h same = h ∙ same
-
-same_then : (item : StateItem) (a b c : State) (to : ℕ) (m : Memory) → IsSameAt item a b
-    → IsSameAt item (hopped b to m) c → IsSameAt item a c
-same_then (Register n) a b c to m e f = e ∙ f
-same_then _ a b c to m e f = e ∙ f
-
-pub alike_hopped : (g : EditSetup) (edges : List ℕ) (a b : State) (to : ℕ) (m : Memory) → IsAlike g edges a b
-    → IsAlike g edges a (hopped b to m)
-alike_hopped g edges a b to m one =
-    let items : (item : StateItem) → IsKept g edges a.window item → IsSameAt item a (hopped b to m) =
-    λ item kept. same_hopped item a b to m (one.items item kept) in
-    assumption
-
--- what is alike to a state with the items of the original follows it
-pub followed_alike : (g : EditSetup) (edges : List ℕ) (v a after : State)
-    → hopped v 0 after.memory ≡ hopped a 0 after.memory
-    → IsSameOutside (pages_of g.notes) v.memory after.memory → IsAlike g edges a after
-    → IsFollowedBy (pages_of g.notes) (IsKept g edges v.window) v after
-followed_alike g edges v a after same outside alike = record {
-  ending = alike.ending ∙ sym (ap (λ (z : State). z.ending) same);
-  window = alike.window ∙ sym (ap (λ (z : State). z.window) same);
-  valid = alike.valid ∙ sym (ap (λ (z : State). z.valid) same);
-  registers = alike.registers ∙ sym (ap (λ (z : State). length z.registers) same);
-  input = alike.input ∙ sym (ap (λ (z : State). z.input) same);
-  memory = outside;
-  items = λ _ item _ kept.
-      same_from item v a after (ap (λ (z : State). z.registers) same) (ap (λ (z : State). z.codes) same)
-      (ap (λ (z : State). z.y) same)
-      (alike.items item (subst (λ z. IsKept g edges z item) (ap (λ (z : State). z.window) same) kept));
+-- so is what differs in its place and memory alone
+pub alike_same : (g : EditSetup) (edges : List ℕ) (a b : State) (m : Memory) → hopped a 0 m ≡ hopped b 0 m
+    → IsAlike g edges a b
+alike_same g edges a b m same = record {
+  ending = sym (ap (λ (z : State). z.ending) same);
+  window = sym (ap (λ (z : State). z.window) same);
+  valid = sym (ap (λ (z : State). z.valid) same);
+  input = sym (ap (λ (z : State). z.input) same);
+  registers = sym (ap (λ (z : State). length z.registers) same);
+  items = λ item _.
+      same_at item a b (ap (λ (z : State). z.registers) same) (ap (λ (z : State). z.codes) same)
+      (ap (λ (z : State). z.y) same);
 }
 
-pub alike_then : (g : EditSetup) (edges first others : List ℕ) → edges ≡ first ++ others → (a b c : State) (to : ℕ)
-    (m : Memory) → IsAlike g first a b → IsAlike g others (hopped b to m) c → IsAlike g edges a c
-alike_then g edges first others all a b c to m one other = record {
+pub same_then : (item : StateItem) (a b c : State) → IsSameAt item a b → IsSameAt item b c → IsSameAt item a c
+same_then (Register n) a b c e f = e ∙ f
+same_then _ a b c e f = e ∙ f
+
+pub alike_then : (g : EditSetup) (first others : List ℕ) (a b c : State) → IsAlike g first a b → IsAlike g others b c
+    → IsAlike g (first ++ others) a c
+alike_then g first others a b c one other = record {
   ending = other.ending ∙ one.ending;
   window = other.window ∙ one.window;
   valid = other.valid ∙ one.valid;
   input = other.input ∙ one.input;
   registers = other.registers ∙ one.registers;
   items = λ item kept.
-      let both = kept_parted g first others a.window item (subst (λ z. IsKept g z a.window item) all kept) in
-      same_then item a b c to m (one.items item both.0)
+      let both = kept_parted g first others a.window item kept in
+      same_then item a b c (one.items item both.0)
       (other.items item (subst (λ z. IsKept g others z item) (sym one.window) both.1));
 }
+
+-- it follows the original's, if memory does
+pub followed_alike : (g : EditSetup) (edges : List ℕ) (v after : State)
+    → IsSameOutside (pages_of g.notes) v.memory after.memory → IsAlike g edges v after
+    → IsFollowedBy (pages_of g.notes) (IsKept g edges v.window) v after
+followed_alike g edges v after outside all =
+    let items : v.ending ≡ None → (item : StateItem) → IsItem item → IsKept g edges v.window item
+    → IsSameAt item v after =
+    λ _ item _ kept. all.items item kept in
+    assumption (items, all)
 
 -- ---- the edges of a step
 
@@ -139,33 +120,24 @@ listed_last g (Some edge) = (inl refl, tt)
 module _ (site : Site) where
   open site use {g, placed}
 
-  found_out : (p : Edge → Bool) → ((edge : Edge) → p edge ≡ true → same_kind edge.kind kinds.Out ≡ true) → (edge : ℕ)
-      → position p (graph_in g).edges ≡ Some edge → g.dead edge ≡ []
-  found_out p outs edge e =
-      let some : Edge = record { from = X; to = X; kind = kinds.Land; slot = Nothing } in
-      let found = position-Some p (graph_in g).edges edge some e in
-      placed.cells.jumps edge (ap is_out (slice_get-get_or (graph_in g).edges edge some found.0) ∙ outs _ found.1)
-
   landing : (next : ℕ) (o : Option ℕ) → word_at g.text next ≡ o → LastDead g (landed g.text (graph_in g) kinds.Out next)
   landing next None e = rw e tt
   landing next (Some word) e = rw e (listed_last g _)
-
-  alone : (o : Option ℕ) → LastDead g (option_to_list o ++ [])
-  alone None = tt
-  alone (Some edge) = (inl refl, tt)
 
   of_jump : (node : Node) (next : ℕ) (o : Option ℕ)
       → position (λ (edge : Edge). leads_along None edge && (same_node edge.from node && same_kind edge.kind kinds.Out))
       (graph_in g).edges ≡ o
       → LastDead g (option_to_list o ++ landed g.text (graph_in g) kinds.Out next)
   of_jump node next None e = landing next (word_at g.text next) refl
-  of_jump node next (Some edge) e = (inr (found_out _ outs edge e), landing next (word_at g.text next) refl)
-    where
-      outs : (x : Edge) → (leads_along None x && (same_node x.from node && same_kind x.kind kinds.Out)) ≡ true
-          → same_kind x.kind kinds.Out ≡ true
-      outs x is =
-          (and_parts (same_node x.from node) (same_kind x.kind kinds.Out)
-          (and_parts (leads_along None x) (same_node x.from node && same_kind x.kind kinds.Out) is).1).1
+  of_jump node next (Some edge) e =
+      let some : Edge = record { from = X; to = X; kind = kinds.Land; slot = Nothing } in
+      let found = position-Some _ (graph_in g).edges edge some e in
+      let x : Edge = get_or (graph_in g).edges edge some in
+      let own = (and_parts (leads_along None x) (same_node x.from node && same_kind x.kind kinds.Out) found.1).1 in
+      let out = (and_parts (same_node x.from node) (same_kind x.kind kinds.Out) own).1 in (
+        inr (placed.cells.jumps edge (ap is_out (slice_get-get_or (graph_in g).edges edge some found.0) ∙ out)),
+        landing next (word_at g.text next) refl,
+      )
 
   by_kind : (node : Node) (kind : EdgeKind) (next : ℕ) → LastDead g (slot_left g.text (graph_in g) node kind next)
   by_kind node kinds.Out next =
@@ -173,8 +145,8 @@ module _ (site : Site) where
       (record { kind = kinds.Case; to = Some (lands (graph_in g) (word_at g.text next)) })
       (record { kind = kinds.Out; to = None })
       (λ (way : WayOut). LastDead g (left_along g.text (graph_in g) node way next))
-      (λ _. alone _) (λ _. of_jump node next _ refl)
-  by_kind node _ next = alone _
+      (λ _. rw append-nil (listed_last g _)) (λ _. of_jump node next _ refl)
+  by_kind node _ next = rw append-nil (listed_last g _)
 
   if_last : (b : Bool) (o : Option ℕ) → LastDead g (if b then option_to_list o else [])
   if_last b o = cond_both b _ _ (LastDead g) (λ _. listed_last g o) (λ _. tt)

@@ -36,7 +36,7 @@ along_far text word kind instr is l = past_far text word is l
 abbrev pub by_case : Node → WayOut
 by_case to = record { kind = kinds.Case; to = Some to }
 
-module _ (g : EditSetup) (is : IsKnown g) (table cases : ℕ) where
+module _ (g : EditSetup) (is : IsKnown g) where
   abbrev b : Blocks
   b = blocks_of g.text g.given
 
@@ -68,30 +68,31 @@ module _ (g : EditSetup) (is : IsKnown g) (table cases : ℕ) where
         same = same_kinds edge.kind way.kind parts.1;
       }
 
-  -- the piece of its way
-  pub shape_along : (node : Node) (way : WayOut) (number : ℕ) (edge : Edge)
-      → IsAlong node way number edge → IsTransfersWay way.kind → (to : Carried) → edge.slot ≡ to
-      → slice_get (shape_list g.text (graph_in g) table cases) (length g.text.words + number)
-      ≡ Some (way_by g.text (graph_in g) table number edge (first_word (graph_in g) edge.to) to)
-  shape_along node way number edge k own to e =
-      way_at g.text b g.switches is.cased table cases number edge
-      (own_at b g.switches number edge k.found (ap (λ (j : EdgeKind). same_kind j kinds.Land) k.same ∙ own.land))
-      ∙ rw (ap is_fall k.same ∙ own.fall, ap (λ (j : EdgeKind). same_kind j kinds.Case) k.same ∙ own.caseless, e)
-
-  -- the piece of a Case edge, where control goes on at a target
-  pub shape_case : (k : ℕ) (o : Open) → slice_get g.switches k ≡ Some o → (entry word : ℕ)
-      → slice_get o.targets entry ≡ Some word → (number : ℕ) (edge : Edge)
-      → IsAlong (block o.block) (by_case (lands (graph_in g) (Some word))) number edge
-      → (to : Carried) → edge.slot ≡ to
-      → slice_get (shape_list g.text (graph_in g) table cases) (case_piece g.text (graph_in g) k o word)
-      ≡ Some (way_by g.text (graph_in g) table number edge word to)
-  shape_case k o e entry word at number edge along to slot =
-      let place = place_in g.text (graph_in g) o.targets word in
-      let way : WayOut = by_case (lands (graph_in g) (Some word)) in
-      case_entry_at g.text b g.switches is.cased table cases k o e place word
-      (place_is g.text (graph_in g) o.targets entry word at)
-      ∙ rw (eq-eqb place place refl, along.only, along.found, slot)
-
   -- the slot that an edge carries stands in the text, or behind its end
   pub slot_in : (number : ℕ) (edge : Edge) → slice_get (edges_in b g.switches) number ≡ Some edge → IsSlotIn b edge.slot
   slot_in number edge found = (edge_lies_in b g.switches cut_in.firsts.some number edge found).slot
+
+  module _ (table cases : ℕ) where
+    -- the piece of its way
+    pub shape_along : (node : Node) (way : WayOut) (number : ℕ) (edge : Edge)
+        → IsAlong node way number edge → IsTransfersWay way.kind → (to : Carried) → edge.slot ≡ to
+        → slice_get (shape_list g.text (graph_in g) table cases) (length g.text.words + number)
+        ≡ Some (way_by g.text (graph_in g) table number edge (first_word (graph_in g) edge.to) to)
+    shape_along node way number edge k own to e =
+        way_at g.text b g.switches is.cased table cases number edge
+        (own_at b g.switches number edge k.found (ap (λ (j : EdgeKind). same_kind j kinds.Land) k.same ∙ own.land))
+        ∙ rw (ap is_fall k.same ∙ own.fall, ap (λ (j : EdgeKind). same_kind j kinds.Case) k.same ∙ own.caseless, e)
+
+    -- the piece of a Case edge, where control goes on at a target
+    pub shape_case : (k : ℕ) (o : Open) → slice_get g.switches k ≡ Some o → (entry word : ℕ)
+        → slice_get o.targets entry ≡ Some word → (number : ℕ) (edge : Edge)
+        → IsAlong (block o.block) (by_case (lands (graph_in g) (Some word))) number edge
+        → (to : Carried) → edge.slot ≡ to
+        → slice_get (shape_list g.text (graph_in g) table cases) (case_piece g.text (graph_in g) k o word)
+        ≡ Some (way_by g.text (graph_in g) table number edge word to)
+    shape_case k o e entry word at number edge along to slot =
+        let place = place_in g.text (graph_in g) o.targets word in
+        let way : WayOut = by_case (lands (graph_in g) (Some word)) in
+        case_entry_at g.text b g.switches is.cased table cases k o e place word
+        (place_is g.text (graph_in g) o.targets entry word at)
+        ∙ rw (eq-eqb place place refl, along.only, along.found, slot)

@@ -1,32 +1,20 @@
 -- From a visit to where control enters the next one: what runs at the visit itself, and the way behind it; or up to the
 -- end of the run.
-use Rattle.image_code.proofs.Common.{◌≡◌, ◌≢◌, ℕ, suc, ◌+◌, ◌-◌, ◌<◌, ◌≤◌, inl, inr, true, false, Option, Some, None, List, [], ◌++◌, append-nil, refl, ap, sym, ◌∙◌, subst, arith, ◌%◌, word_at, Instr, decode_of, Memory, IsSameOutside, Ending, NoSlot, Taken, State, register_of, puts_on_word, run, run_puts, is_transfer, IsValid, run-valid, pages_of, instr_at, node_after, point_of, way_of, lived_to, same_kind, count_stores, hopped, Leads, IsAmongWords, page_word, Stores, memory_word, count_add, none_then, leads_weaker, found_in, IsPageWord, saved_address, IsSilent, stores_then, leads_then, puts_add, outside_refl}
+use Rattle.image_code.proofs.Common.{◌≡◌, ◌≢◌, ℕ, suc, ◌+◌, ◌-◌, ◌<◌, ◌≤◌, true, false, Option, Some, None, List, [], ◌++◌, append-nil, refl, ap, sym, ◌∙◌, subst, arith, ◌%◌, word_at, Instr, decode_of, Memory, IsSameOutside, Ending, NoSlot, Taken, State, register_of, puts_on_word, run, run_puts, is_transfer, IsValid, run-valid, pages_of, instr_at, node_after, point_of, way_of, lived_to, same_kind, count_stores, hopped, Leads, IsAmongWords, page_word, Stores, memory_word, count_add, none_then, leads_weaker, found_in, IsPageWord, saved_address, IsSilent, stores_then, leads_then, puts_add, outside_refl}
 use Rattle.v8_decode.specs.declared.Instr.TheVariants as i
 use Rattle.cfg_blocks.specs.declared.EdgeKind.TheVariants as kinds
 use Rattle.code_runs.proofs.PointsAlike.{no_puts as quiet_transfer}
 use Rattle.image_code.specs.Simulates.{IsFollowedBy, IsKept, IsOnWay, IsThere, at_point, gone_at, graph_in, word_of, edit_in}
 use Rattle.image_code.specs.Cost.{IsWatched, NoneIsOut, in_first_word, is_jmpl, is_spill, is_transfer_at}
 use Rattle.image_code.specs.Store.{cells_in, updates}
-use Rattle.image_code.proofs.Points.{ReachesNext, Forms, Site, entered_at, Visit}
+use Rattle.image_code.proofs.Points.{ReachesNext, Forms, entered_at, Visit}
 use Rattle.image_code.specs.Images.{HasImages, HasNoCases}
-use Rattle.image_code.proofs.Routes.{FollowsRoute, IsFit, bare_on}
-use Rattle.image_code.proofs.Between.{can_run, ended_none, quiet_of, stores_weaker}
-use Rattle.image_code.proofs.Cells.{cells_above, page_above, updates_same}
-use Rattle.image_code.proofs.Dead.{LastDead, alike_hopped, alike_itself, followed_alike}
+use Rattle.image_code.proofs.Routes.{FollowsRoute, bare_on}
+use Rattle.image_code.proofs.Between.{IsFit, ended_none, fits, quiet_of}
+use Rattle.image_code.proofs.Cells.{cells_above, own_stored, page_above, updates_same}
+use Rattle.image_code.proofs.Dead.{LastDead, alike_same, alike_then, followed_alike}
 use Rattle.image_code.proofs.Memories.{images_stored, same_stored}
 use Rattle.image_code.proofs.Sparing.{transfers}
-
--- the page's words are the editor's
-page_own : (site : Site) → (z : ℕ) → IsPageWord z → IsAmongWords site.f.stored z
-page_own site z (inl e) = rw e (site.placed.frame.page 0 (omega arith))
-page_own site z (inr (inl e)) = rw e (site.placed.frame.page 1 (omega arith))
-page_own site z (inr (inr (inl e))) = rw e (site.placed.frame.page 2 (omega arith))
-page_own site z (inr (inr (inr (inl e)))) = rw e (site.placed.frame.page 7 (omega arith))
-page_own site z (inr (inr (inr (inr e)))) = absurd e
-
-pub own_stored : (site : Site) → (m n : Memory) → Stores IsPageWord m n
-    → Stores (IsAmongWords site.f.stored) m n
-own_stored site m n stores = stores_weaker IsPageWord (IsAmongWords site.f.stored) m n (page_own site) stores
 
 -- what is no transfer is no JMPL
 no_jump : (o : Option Instr) → is_transfer_at o ≡ false → is_jmpl o ≡ false
@@ -35,7 +23,7 @@ no_jump (Some (i.Jmpl rd rs1 op2)) e = absurd (cc)
 no_jump (Some instr) e = refl
 
 -- steps that put nothing out behind others
-puts_then : (s t : State) (k l : ℕ) → run s k ≡ t → IsSilent t l → (descriptor : ℕ)
+pub puts_then : (s t : State) (k l : ℕ) → run s k ≡ t → IsSilent t l → (descriptor : ℕ)
     → run_puts s (k + l) descriptor ≡ run_puts s k descriptor
 puts_then s t k l steps silent descriptor =
     ap (λ n. run_puts s n descriptor) (let e : k + l ≡ l + k = omega arith in e) ∙ puts_add s k l descriptor
@@ -103,11 +91,7 @@ module _ (visit : Visit) where
       let a = w.past in
       let to = entered_at site (node_after (graph_in g) node edges) (point_of v) in
       let valid : IsValid mid = subst IsValid a.path.steps (run-valid t count here.valid) in
-      let behind = onward (record {
-        valid = valid;
-        has = w.has;
-        runs = can_run site mid valid w.live w.npc w.slot w.has;
-      }) in
+      let behind = onward (fits site mid valid w.live w.npc w.slot w.has) in
       let rest = behind.0 in
       let way = leads_then OnWay t mid (hopped rest.other to rest.memory) count rest.count a.path
       (leads_weaker _ OnWay mid _ rest.count (λ u bare live. bare_on site t u live bare) rest.path)
@@ -125,9 +109,8 @@ module _ (visit : Visit) where
           };
           puts = λ descriptor.
               puts_then t mid count rest.count a.path.steps rest.silent descriptor ∙ a.puts descriptor;
-          followed = followed_alike g edges v mid (hopped rest.other to rest.memory)
-              (ap (λ (z : State). hopped z 0 rest.memory) w.same) (w.outside rest.memory rest.stores)
-              (alike_hopped g edges mid rest.other to rest.memory rest.alike);
+          followed = followed_alike g edges v (hopped rest.other to rest.memory) (w.outside rest.memory rest.stores)
+              (alike_then g [] edges v mid _ (alike_same g [] v mid mid.memory w.same) rest.alike);
           cells = rest.cells last
               ∙ updates_same g.snips edges (cells_in g.notes mid) mid v (sym (ap (λ (z : State). register_of z) w.same))
               ∙ ap (λ z. updates g.snips edges z v) a.cells;
@@ -140,7 +123,7 @@ module _ (visit : Visit) where
             memory = images_stored site mid _ rest.count rest.path.steps rest.stores w.has;
             target_in_page = λ taken out caseless.
                 let z = w.target_in_page taken out caseless in
-                (rest.target_in_page ∙ z.0, z.1, λ there. let y = z.2 there in rest.found y.0 ∙ y.1);
+                (rest.target_in_page ∙ z.0, z.1, λ there. let y = z.2 there in (rest.told y.0).found ∙ y.1);
           };
           place = λ over. absurd (over (ap (λ (z : State). z.ending) w.same ∙ w.live));
           sparing = λ watched.
@@ -148,12 +131,12 @@ module _ (visit : Visit) where
               let s = a.spares watched in
               let both = count_add (is_spill g.notes) t mid count a.path.steps rest.count in
               record {
-                spills = omega (arith, s.spills, rest.spares there, both);
+                spills = omega (arith, s.spills, (rest.told there).spares, both);
                 first = λ forms.
                     none_then in_first_word t mid count rest.count a.path.steps (s.first forms)
-                    (rest.leaves_first there forms);
+                    ((rest.told there).leaves_first forms);
                 alone = λ _ none straight. omega (arith, a.alone straight, behind.1 straight there none);
-                few = λ forms none. omega (arith, none, s.brief forms, rest.brief there forms);
+                few = λ forms none. omega (arith, none, s.brief forms, (rest.told there).brief forms);
               };
         };
         first = λ _ none straight inside.
@@ -182,8 +165,8 @@ module _ (visit : Visit) where
   pub followed_same : (v after : State) → hopped v 0 after.memory ≡ hopped after 0 after.memory
       → v.memory ≡ after.memory → IsFollowedBy (pages_of g.notes) (IsKept g [] v.window) v after
   followed_same v after same memory =
-      followed_alike g [] v after after same (rw memory (outside_refl (pages_of g.notes) after.memory))
-      (alike_itself g [] after)
+      followed_alike g [] v after (rw memory (outside_refl (pages_of g.notes) after.memory))
+      (alike_same g [] v after after.memory same)
 
   pub ends_by : (v after : State) (last : ℕ) → PastOver v after last → ReachesNext site (gone_at g node x v) node x t v
   ends_by v after last w =

@@ -1,5 +1,5 @@
 -- What holds of each piece that is made, and so of all.
-use Rattle.image_code.proofs.Common.{◌≡◌, sym, ◌∙◌, ℕ, zero, suc, ◌+◌, ◌-◌, ◌*◌, ◌<◌, ◌≤◌, Bool, true, false, ◌&&◌, ◌==◌, Option, Some, None, List, [], ◌∷◌, ◌++◌, append-nil, length, length-map, map, get_or, length-append, refl, ap, arith, if◌then◌else◌, nat_lt, slice_get, slice_get-map, slice_index, flat_map, option_map, position, sum_by, option_to_list, and_parts, cond_both, eq-eqb, false≢true, ltb-true, sum_by-append, sum_by-cons, position-Some, get_or_from_slice_get, slice_get-get_or, Words, word_at, IsText, Addr, Op2, Instr, decode_of, is_transfer, EdgeKind, always, never, below, blocks_of, holding_of, last_word, size_of, length-below, is_fall, Edge, Node, Block, X, same_kind, same_node, Open, jumps_in, Graph, lands, IsEdgeIn, IsNodeIn, ends_block, landing_at, left_by, block, copy, same_nodes, in_held, some_words, straight_left, same_kinds, Each, each_at, each-append, each-below, Item, item_at, item_in, Op, fold-map, compares_in, is_copied, LeadsBelow, piece_words, Exit, Head, OfWord, Shape, assembled, head_items, items_of, marked}
+use Rattle.image_code.proofs.Common.{◌≡◌, sym, ◌∙◌, ℕ, zero, suc, ◌+◌, ◌-◌, ◌*◌, ◌<◌, ◌≤◌, Bool, true, false, ◌&&◌, ◌==◌, Option, Some, None, List, [], ◌∷◌, ◌++◌, append-nil, length, length-map, map, get_or, length-append, refl, ap, arith, if◌then◌else◌, nat_lt, slice_get, slice_get-map, slice_index, flat_map, option_map, position, sum_by, option_to_list, and_parts, cond_both, eq-eqb, false≢true, ltb-true, sum_by-append, sum_by-cons, position-Some, slice_get-get_or, Words, word_at, IsText, Addr, Op2, Instr, decode_of, is_transfer, EdgeKind, always, never, below, blocks_of, holding_of, last_word, size_of, length-below, is_fall, Edge, Node, Block, X, same_kind, same_node, Open, jumps_in, Graph, lands, IsEdgeIn, IsNodeIn, ends_block, landing_at, left_by, block, copy, same_nodes, in_held, some_words, straight_left, same_kinds, Each, each_at, each-append, each-below, Item, item_at, item_in, Op, fold-map, is_copied, LeadsBelow, piece_words, Exit, Head, OfWord, Shape, assembled, head_items, items_of, marked}
 use Rattle.v8_decode.specs.declared.Instr.TheVariants as i
 use Rattle.cfg_blocks.specs.declared.EdgeKind.TheVariants as kinds
 use Rattle.layout.specs.declared.items.Item.TheVariants as it
@@ -26,14 +26,19 @@ use Rattle.image_code.proofs.Shapes.{ExitLeads, HeadLeads, IsAt, IsMade, IsShape
 use Rattle.image_code.proofs.Positions.{any_at}
 
 number_of_list : (o : Option ℕ) (number : ℕ) (rest : List ℕ) → option_to_list o ≡ number ∷ rest → o ≡ Some number
-number_of_list None number rest e = absurd (cc)
-number_of_list (Some n) number rest e = cc
+number_of_list o number rest e = grind arith
 
 module _ (text : Words) (graph : Graph) (table cases : ℕ) (codes : ℕ → List ℕ) (is : IsText text)
-    (g : IsTextGraph text graph)
-    (many : length (shape_list text graph table cases) ≡ foreign_number text graph + 1) where
+    (h : IsGraphOf text graph) where
   abbrev shapes : List Shape
   shapes = shape_list text graph table cases
+
+  g : IsTextGraph text graph
+  g = text_graph text graph is h
+
+  many : length shapes ≡ foreign_number text graph + 1
+  many = rw h.is (count_is text (blocks_of text h.given) (opens_in text h.given h.entry) (cased_of text h.given h.entry is)
+      table cases)
 
   -- a piece of so many words, besides those of a snippet
   abbrev Made : ℕ → ℕ → Shape → Type 0
@@ -188,18 +193,14 @@ module _ (text : Words) (graph : Graph) (table cases : ℕ) (codes : ℕ → Lis
       → option_to_list (position (Goes o word) graph.edges) ≡ numbers
       → Made 8 (code_length codes numbers) (case_by text graph table word numbers)
   case_by_made o word l [] e = idle_made
-  case_by_made o word l (number ∷ rest) e = by (slice_get graph.edges number) refl
-    where
-      by : (x : Option Edge) → slice_get graph.edges number ≡ x
-          → Made 8 (code_length codes (number ∷ rest)) (case_by text graph table word (number ∷ rest))
-      by None none = rw none idle_made
-      by (Some edge) here =
-          let found = position-Some (Goes o word) graph.edges number edge (number_of_list _ number rest e) in
-          let goes : Goes o word edge ≡ true = rw (get_or_from_slice_get graph.edges number edge edge here) at found.1 in
-          let to : edge.to ≡ lands graph (Some word) = same_nodes _ _ (and_parts _ _ goes).0 in
-          let inside : IsWordOf graph edge.to word = rw to (lands_word text graph g word l) in
-          rw here (way_by_made number edge word (each_at _ graph.edges number edge g.edges here) inside
-          (omega (arith, one_code number, length-append (codes number) (flat_map codes rest))) edge.slot refl)
+  case_by_made o word l (number ∷ rest) e =
+      let edge = get_or graph.edges number no_edge in
+      let found = position-Some (Goes o word) graph.edges number no_edge (number_of_list _ number rest e) in
+      let here = slice_get-get_or graph.edges number no_edge found.0 in
+      let to : edge.to ≡ lands graph (Some word) = same_nodes _ _ (and_parts _ _ found.1).0 in
+      let inside : IsWordOf graph edge.to word = rw to (lands_word text graph g word l) in
+      rw here (way_by_made number edge word (each_at _ graph.edges number edge g.edges here) inside
+      (omega (arith, one_code number, length-append (codes number) (flat_map codes rest))) edge.slot refl)
 
   case_made : (o : Open) (entry word : ℕ) → word < length text.words
       → Made 8 (case_code graph codes (o, word)) (case_at text graph table o entry word)
@@ -234,11 +235,7 @@ module _ (text : Words) (graph : Graph) (table cases : ℕ) (codes : ℕ → Lis
 
   within : {words marks more_words more_marks : ℕ} {list : List Shape} → words ≤ more_words → marks ≤ more_marks
       → Have words marks list → Have more_words more_marks list
-  within more_words more_marks have = record {
-    each = have.each;
-    words_few = omega (arith, have.words_few);
-    marks_few = omega (arith, have.marks_few);
-  }
+  within more_words more_marks have = search arith
 
   joined : {words marks more_words more_marks : ℕ} {xs ys : List Shape} → Have words marks xs
       → Have more_words more_marks ys → Have (words + more_words) (marks + more_marks) (xs ++ ys)
@@ -384,25 +381,18 @@ module _ (text : Words) (graph : Graph) (table cases : ℕ) (codes : ℕ → Lis
       (joined (one_piece (omega arith) (λ f. omega arith) (save_made (decode_of (slice_index text.words load))))
       (images load (first + size_of graph.blocks o.block - load) (omega (arith, some, its.above, its.below, ends)))))
 
-  have_opens : (opens : List Open) → Each (IsSwitchIn text graph.blocks) opens
-      → Each (λ (o : Open). is_copied graph.opens o.switch.compare.0 ≡ true) opens
+  have_opens : (opens : List Open) → Each (λ (o : Open). IsSwitchIn text graph.blocks o
+      × (is_copied graph.opens o.switch.compare.0 ≡ true)) opens
       → Have (21 * sum_by (pieces_of text graph) opens) (sum_by (words_of graph.blocks) opens)
       (flat_map (open_pieces text graph table cases) opens)
-  have_opens [] its copied = none
-  have_opens (o ∷ opens) its copied =
+  have_opens [] its = none
+  have_opens (o ∷ opens) its =
       within (omega (arith, sum_by-cons (pieces_of text graph) o opens))
       (omega (arith, sum_by-cons (words_of graph.blocks) o opens))
-      (joined (have_open o its.0 copied.0) (have_opens opens its.1 copied.1))
+      (joined (have_open o its.0.0 its.0.1) (have_opens opens its.1))
 
   own_inside : Each (IsEdgeIn graph.blocks graph.opens) (edges_but_landings graph)
   own_inside = each_index _ _ (λ number edge e. each_at _ graph.edges number edge g.edges (g.own number edge e))
-
-  -- the comparison of an open switch stands in a block that has a copy
-  compares_copied : Each (λ (o : Open). is_copied graph.opens o.switch.compare.0 ≡ true) graph.opens
-  compares_copied =
-      each_index _ graph.opens (λ k o e.
-      or_right (jumps_in graph.opens o.switch.compare.0) (compares_in graph.opens o.switch.compare.0)
-      (any_at (λ (x : Open). x.switch.compare.0 == o.switch.compare.0) graph.opens k o e (eq-eqb _ _ refl)))
 
   -- ---- all of them
 
@@ -429,7 +419,12 @@ module _ (text : Words) (graph : Graph) (table cases : ℕ) (codes : ℕ → Lis
       let sizes = length-below (length text.words) in
       within (omega (arith, sizes)) (omega (arith, sizes, g.room, g.entries, g.own_few))
       (joined (joined (joined (joined (joined have_ordered (have_ways 0 (edges_but_landings graph) own_inside)) have_landings)
-      (have_opens graph.opens g.switches compares_copied)) (have_chosen graph.opens g.targets))
+      (have_opens graph.opens (each_index _ graph.opens (λ k o e. (
+        each_at _ graph.opens k o g.switches e,
+        or_right (jumps_in graph.opens o.switch.compare.0) _
+            (any_at (λ (x : Open). x.switch.compare.0 == o.switch.compare.0) graph.opens k o e (eq-eqb _ _ refl)),
+      )))))
+      (have_chosen graph.opens g.targets))
       (one_piece {size = 4} {marks = 0} {most = 0} (omega arith) (λ f. omega arith)
       (made_bare [] (omega arith) tt (omega arith))))
 
@@ -457,6 +452,13 @@ module _ (text : Words) (graph : Graph) (table cases : ℕ) (codes : ℕ → Lis
       at_piece (λ o. item_in o n ≡ Some (it.Mark address node)
       → item_in o (suc n) ≡ Some (it.Word (slice_index text.words word))) (λ q. absurd (cc))
       (λ s its q. mark_says codes s its.shaped n address node q word at plain) k e
+
+  -- the shape of each piece
+  pub piece_shaped : (k : ℕ) (items : List Item) → slice_get (piece_list text graph table cases codes) k ≡ Some items
+      → (s : Shape) × (items ≡ items_of codes s) × IsShaped text graph (length shapes) s
+  piece_shaped k items =
+      at_piece (λ o. o ≡ Some items → (s : Shape) × (items ≡ items_of codes s) × IsShaped text graph (length shapes) s)
+      (λ e. absurd (cc)) (λ s its e. (s, cc, its.shaped)) k
 
   -- so many pieces
   few_pieces : length shapes ≤ 10 * length text.words + 1
@@ -510,29 +512,12 @@ module _ (text : Words) (graph : Graph) (table cases : ℕ) (codes : ℕ → Lis
         );
       }
 
-counted : (text : Words) (graph : Graph) (table cases : ℕ) → IsText text → IsGraphOf text graph
-    → length (shape_list text graph table cases) ≡ foreign_number text graph + 1
-counted text graph table cases is h =
-    rw h.is (count_is text (blocks_of text h.given) (opens_in text h.given h.entry) (cased_of text h.given h.entry is) table
-    cases)
-
--- the shape of each piece
-pub piece_shaped : (text : Words) (graph : Graph) (table cases : ℕ) (codes : ℕ → List ℕ) → IsText text
-    → IsGraphOf text graph → (k : ℕ) (items : List Item) → slice_get (piece_list text graph table cases codes) k ≡ Some items
-    → (s : Shape) × (items ≡ items_of codes s) × IsShaped text graph (length (shape_list text graph table cases)) s
-piece_shaped text graph table cases codes is h k items =
-    at_piece text graph table cases codes is (text_graph text graph is h) (counted text graph table cases is h)
-    (λ o. o ≡ Some items → (s : Shape) × (items ≡ items_of codes s)
-    × IsShaped text graph (length (shape_list text graph table cases)) s) (λ e. absurd (cc))
-    (λ s its e. (s, cc, its.shaped)) k
-
 pub pieces_fit : PiecesFit
-pieces_fit text graph table cases snips codes is h low short =
-    fits text graph table cases codes is (text_graph text graph is h) (counted text graph table cases is h) snips short
+pieces_fit text graph table cases snips codes is h low short = fits text graph table cases codes is h snips short
 
 pub places_say : PlacesSay
 places_say text graph table cases codes base p place is h laid n r e word at plain =
     let m = laid.marks n r e in
-    let item = item_says text graph table cases codes is (text_graph text graph is h)
-    (counted text graph table cases is h) m.piece m.item m.address r.node m.mark word (rw (← m.says) at) plain in
+    let item = item_says text graph table cases codes is h m.piece m.item m.address r.node m.mark word
+    (rw (← m.says) at) plain in
     rw m.lo (laid.items m.piece (suc m.item) (it.Word (slice_index text.words word)) item).1

@@ -1,5 +1,5 @@
 -- Where a word that is no transfer goes on: to the next word, and at which node.
-use Rattle.image_code.proofs.Common.{◌≡◌, ◌≢◌, ℕ, ◌+◌, ◌<◌, Bool, true, false, Some, List, [], ◌∷◌, refl, ap, sym, ◌∙◌, subst, arith, inl, inr, ◌==◌, ◌&&◌, if◌then◌else◌, slice_get, slice_index, and_parts, eq-eqb, eqb-true, false_from_ne_true, false≢true, ne_eqb, Instr, decode_of, is_transfer, EdgeKind, Blocks, blocks_of, end_of, holding_of, last_word, end_at, ends_block_after, within, is_jump, Node, Block, Landed, X, home_of, IsNodeIn, Open, jumps_in, edge_from, left_by, node_after, same_kind, same_node, IsCut, block, copy, IsIn, ends_within, end_is, is_in, straight_left, cases_eq, BlockEnd, block_end, way, ways_of, directed, is_compared, is_held, way_found, IsOne}
+use Rattle.image_code.proofs.Common.{◌≡◌, ◌≢◌, ℕ, ◌+◌, ◌<◌, false, Some, List, [], ◌∷◌, refl, ap, sym, ◌∙◌, arith, inl, inr, ◌==◌, ◌&&◌, if◌then◌else◌, slice_get, slice_index, and_parts, eq-eqb, eqb-true, false_from_ne_true, false≢true, ne_eqb, Instr, decode_of, is_transfer, EdgeKind, Blocks, blocks_of, end_of, holding_of, last_word, end_at, ends_block_after, within, is_jump, Node, Block, home_of, Open, jumps_in, edge_from, left_by, node_after, same_kind, same_node, block, copy, IsIn, ends_within, end_is, is_in, straight_left, cases_eq, block_end, way, directed, is_compared, is_held, way_found}
 use Rattle.cfg_blocks.specs.declared.BlockEnd.TheVariants as ends
 use Rattle.cfg_blocks.specs.declared.EdgeKind.TheVariants as kinds
 use Rattle.std.proofs.Math.Bool.{and-true}
@@ -8,138 +8,122 @@ use Rattle.cfg_walk.proofs.Ways.{fall_is_one}
 use Rattle.image_code.specs.Numbered.{node_in_order}
 use Rattle.image_code.specs.Simulates.{EditSetup, graph_in}
 use Rattle.image_code.proofs.CaseTables.{IsKnown}
-use Rattle.image_code.proofs.EdgePieces.{cut_in}
 use Rattle.image_code.proofs.ImageNumbers.{block_of, jump_of}
 use Rattle.image_code.proofs.Positions.{placed}
+use Rattle.image_code.proofs.Visited.{AtWord}
 
-module _ (g : EditSetup) (is : IsKnown g) where
+-- from a block that ends in no branch
+not_compared : (g : EditSetup) → IsKnown g → (node : Node) (k : ℕ) → home_of node ≡ block k
+    → ends_block_after (end_of (blocks_of g.text g.given) k) ≡ false → (kind : EdgeKind) (to : ℕ)
+    → is_compared g.switches node kind to ≡ false
+not_compared g is (Block from) k home plain kind to = false_from_ne_true _ (λ e.
+    let p = (λ (o : Open). (o.block == to) && (o.switch.compare.0 == from.0) && same_kind kind o.way) in
+    let found = placed p g.switches e in
+    let o = found.item in
+    let parts = and_parts ((o.block == to) && (o.switch.compare.0 == from.0)) (same_kind kind o.way) found.passes in
+    let compares : o.switch.compare.0 ≡ from.0 = eqb-true _ _ (and_parts (o.block == to) _ parts.0).1 in
+    false≢true (sym plain ∙ rw (← ap block_of home, ← compares) (is.cased.branches found.number o found.is).0))
+not_compared g is _ k home plain kind to = refl
+
+module _ (visit : AtWord)
+    (straight : is_transfer (decode_of (slice_index visit.edit.g.text.words visit.word)) ≡ false) where
+  open visit use {node, word, there, cut, low, home, edit.{g, is}}
+
   abbrev b : Blocks
   b = blocks_of g.text g.given
 
-  cut : IsCut g.text b
-  cut = cut_in g is 0 0
+  abbrev its_block : ℕ
+  its_block = holding_of b word
 
-  -- ---- nodes to which edges lead
+  abbrev its_last : ℕ
+  its_last = last_word b.firsts b.words its_block
 
-  -- from a block that ends in no branch
-  not_compared : (node : Node) (k : ℕ) → home_of node ≡ block k → ends_block_after (end_of b k) ≡ false
-      → (kind : EdgeKind) (to : ℕ) → is_compared g.switches node kind to ≡ false
-  not_compared (Block from) k home plain kind to = false_from_ne_true _ (λ e.
-      let p = (λ (o : Open). (o.block == to) && (o.switch.compare.0 == from.0) && same_kind kind o.way) in
-      let found = placed p g.switches e in
-      let o = found.item in
-      let parts = and_parts ((o.block == to) && (o.switch.compare.0 == from.0)) (same_kind kind o.way) found.passes in
-      let compares : o.switch.compare.0 ≡ from.0 = eqb-true _ _ (and_parts (o.block == to) _ parts.0).1 in
-      let ends : ends_block_after (end_of b k) ≡ true =
-      rw (← ap block_of home, ← compares) (is.cased.branches found.number o found.is).0 in
-      false≢true (sym plain ∙ ends))
-  not_compared (Landed from) k home plain kind to = refl
-  not_compared X k home plain kind to = refl
+  abbrev instr : Instr
+  instr = decode_of (slice_index g.text.words word)
 
-  pub directed_order : (node : Node) (kind : EdgeKind) (to : ℕ) → is_compared g.switches node kind to ≡ false
-      → directed g.switches node kind (block to) ≡ (if jumps_in g.switches to then copy to else block to)
-  directed_order node kind to e =
-      rw (e, and-true) refl
+  abbrev edges : List ℕ
+  edges = left_by (graph_in g) node word instr
 
-  module _ (node : Node) (word : ℕ) (low : word < b.words) (home : home_of node ≡ block (holding_of b word))
-      (there : IsNodeIn b g.switches node) (straight : is_transfer (decode_of (slice_index g.text.words word))
-      ≡ false) where
-    abbrev its_block : ℕ
-    its_block = holding_of b word
+  inside : IsIn b.words b.firsts word its_block
+  inside = is_in g.text b g.switches cut word low
 
-    abbrev instr : Instr
-    instr = decode_of (slice_index g.text.words word)
+  falls : end_at g.text word ≡ ends.Fall
+  falls = end_is g.text word instr refl ∙ straight_end g.text word instr straight
 
-    abbrev edges : List ℕ
-    edges = left_by (graph_in g) node word instr
+  ended : word ≡ its_last → end_of b its_block ≡ ends.Fall
+  ended last = end_here g.text b g.switches cut word low last ∙ falls
 
-    inside : IsIn b.words b.firsts word its_block
-    inside = is_in g.text b g.switches cut word low
+  edges_are : edges ≡ (if word == its_last then edge_from (graph_in g) node kinds.Fall else [])
+  edges_are =
+      straight_left (graph_in g) node word instr straight ∙ rw (ends_home b g.switches node its_block word home)
 
-    falls : end_at g.text word ≡ ends.Fall
-    falls = end_is g.text word instr refl ∙ straight_end g.text word instr straight
+  last_edges : word ≡ its_last → edges ≡ edge_from (graph_in g) node kinds.Fall
+  last_edges last = edges_are ∙ rw (eq-eqb word its_last last)
 
-    pub ended : word ≡ last_word b.firsts b.words its_block → end_of b its_block ≡ ends.Fall
-    ended last = end_here g.text b g.switches cut word low last ∙ falls
+  pub inner_edges : (word ≡ its_last → ⊥) → edges ≡ []
+  inner_edges inner = edges_are ∙ rw (ne_eqb word its_last inner)
 
-    edges_if : (t : Bool) → (word == last_word b.firsts b.words its_block) ≡ t
-        → edges ≡ (if t then edge_from (graph_in g) node kinds.Fall else [])
-    edges_if t e =
-        straight_left (graph_in g) node word instr straight
-        ∙ ap (λ (x : Bool). if x then edge_from (graph_in g) node kinds.Fall else [])
-        (ends_home b g.switches node its_block word home ∙ e)
+  -- the edge to the next block
+  pub some_edge : word ≡ its_last → edges ≢ []
+  some_edge last none =
+      let w = way kinds.Fall (within b.words (word + 1)) in
+      let quiet = no_cases b g.switches is.cased.jumps node its_block home (ap is_jump (ended last)) in
+      let found = way_found g.text b g.switches cut word low is.cased.jumps node there home w last quiet
+      (rw falls (fall_is_one b.words word)) in
+      let one : found.number ∷ [] ≡ [] = sym found.only ∙ sym (last_edges last) ∙ none in
+      absurd (cc)
 
-    pub last_edges : word ≡ last_word b.firsts b.words its_block → edges ≡ edge_from (graph_in g) node kinds.Fall
-    last_edges last = edges_if true (eq-eqb word (last_word b.firsts b.words its_block) last)
+  pub more_words : (word ≡ its_last → ⊥) → word + 1 < block_end b.firsts b.words its_block
+  more_words inner = omega (arith, inside.below, inner)
 
-    pub inner_edges : (word ≡ last_word b.firsts b.words its_block → ⊥) → edges ≡ []
-    inner_edges inner =
-        edges_if false (ne_eqb word (last_word b.firsts b.words its_block) inner)
+  pub held_next : (word ≡ its_last → ⊥) → holding_of b (word + 1) ≡ its_block
+  held_next inner =
+      is_held b.words b.firsts cut.firsts (word + 1) its_block
+      (record { within = inside.within; above = omega (arith, inside.above); below = more_words inner })
 
-    -- the edge to the next block
-    pub some_edge : word ≡ last_word b.firsts b.words its_block → edges ≢ []
-    some_edge last none =
-        let w = way kinds.Fall (within b.words (word + 1)) in
-        let quiet = no_cases b g.switches is.cased.jumps node its_block home (ap is_jump (ended last)) in
-        let found = way_found g.text b g.switches cut word low is.cased.jumps node there home w last quiet
-        (subst (λ (end : BlockEnd). IsOne w (ways_of b.words word end)) (sym falls) (fall_is_one b.words word)) in
-        let one : found.number ∷ [] ≡ [] = sym found.only ∙ sym (last_edges last) ∙ none in
-        absurd (cc)
+  pub next_low : (word ≡ its_last → ⊥) → word + 1 < b.words
+  next_low inner = omega (arith, more_words inner, ends_within b.words b.firsts cut.firsts its_block inside.within)
 
-    pub more_words : (word ≡ last_word b.firsts b.words its_block → ⊥) → word + 1 < block_end b.firsts b.words its_block
-    more_words inner = omega (arith, inside.below, inner)
+  -- ---- in the order of the text
 
-    pub held_next : (word ≡ last_word b.firsts b.words its_block → ⊥) → holding_of b (word + 1) ≡ its_block
-    held_next inner =
-        is_held b.words b.firsts cut.firsts (word + 1) its_block
-        (record { within = inside.within; above = omega (arith, inside.above); below = more_words inner })
+  pub next_in_order : word + 1 < b.words → node ≡ node_in_order (graph_in g) word
+      → node_after (graph_in g) node edges ≡ node_in_order (graph_in g) (word + 1)
+  next_in_order more same = elim (cases_eq word (its_last)) [
+    | inl last ↦
+        ap (node_after (graph_in g) node) (last_edges last)
+        ∙ falls_to g.text b g.switches cut word low is.cased.jumps node there home falls last
+        ∙ ap (directed g.switches node kinds.Fall) (node_within b (word + 1) more)
+        ∙ rw (
+          not_compared g is node its_block home (ap ends_block_after (ended last)) kinds.Fall (holding_of b (word + 1)),
+          and-true,
+        ) refl
+    | inr inner ↦
+        ap (node_after (graph_in g) node) (inner_edges inner) ∙ same
+        ∙ ap (λ (k : ℕ). if jumps_in g.switches k then copy k else block k) (sym (held_next inner))
+  ]
 
-    pub next_low : (word ≡ last_word b.firsts b.words its_block → ⊥) → word + 1 < b.words
-    next_low inner = omega (arith, more_words inner, ends_within b.words b.firsts cut.firsts its_block inside.within)
+  -- ---- at the block itself of a jump, and at the landed copy of a comparison's
 
-    -- ---- in the order of the text
+  pub jump_inner : (k : ℕ) (o : Open) → slice_get g.switches k ≡ Some o → its_block ≡ o.block
+      → word ≡ its_last → ⊥
+  jump_inner k o e held last =
+      false≢true (rw (ended last) at (is.cased.jumps its_block (rw held (jump_of g.text b g.switches k o e))))
 
-    pub next_in_order : word + 1 < b.words → node ≡ node_in_order (graph_in g) word
-        → node_after (graph_in g) node edges ≡ node_in_order (graph_in g) (word + 1)
-    next_in_order more same = elim (cases_eq word (last_word b.firsts b.words its_block)) [
-      | inl last ↦
-          ap (node_after (graph_in g) node) (last_edges last)
-          ∙ falls_to g.text b g.switches cut word low is.cased.jumps node there home falls last
-          ∙ ap (directed g.switches node kinds.Fall) (node_within b (word + 1) more)
-          ∙ directed_order node kinds.Fall (holding_of b (word + 1))
-          (not_compared node its_block home (ap ends_block_after (ended last)) kinds.Fall (holding_of b (word + 1)))
-      | inr inner ↦
-          ap (node_after (graph_in g) node) (inner_edges inner) ∙ same
-          ∙ ap (λ (k : ℕ). if jumps_in g.switches k then copy k else block k) (sym (held_next inner))
-    ]
+  pub compare_inner : (k : ℕ) (o : Open) → slice_get g.switches k ≡ Some o → its_block ≡ o.switch.compare.0
+      → word ≡ its_last → ⊥
+  compare_inner k o e held last = false≢true (rw (← held, ended last) at (is.cased.branches k o e).0)
 
-    -- ---- at the block itself of a jump, and at the landed copy of a comparison's
+  -- neither is the node in the order of the text
+  pub jump_apart : (k : ℕ) (o : Open) → slice_get g.switches k ≡ Some o → node ≡ block o.block → its_block ≡ o.block
+      → same_node node (node_in_order (graph_in g) word) ≡ false
+  jump_apart k o e here held =
+      rw (here, ap (jumps_in g.switches) held ∙ jump_of g.text b g.switches k o e)
 
-    pub jump_inner : (k : ℕ) (o : Open) → slice_get g.switches k ≡ Some o → its_block ≡ o.block
-        → word ≡ last_word b.firsts b.words its_block → ⊥
-    jump_inner k o e held last =
-        let jumps : is_jump (end_of b its_block) ≡ true =
-        is.cased.jumps its_block (ap (jumps_in g.switches) held ∙ jump_of g.text b g.switches k o e) in
-        false≢true (sym (ap is_jump (ended last)) ∙ jumps)
-
-    pub compare_inner : (k : ℕ) (o : Open) → slice_get g.switches k ≡ Some o → its_block ≡ o.switch.compare.0
-        → word ≡ last_word b.firsts b.words its_block → ⊥
-    compare_inner k o e held last =
-        let transfers : ends_block_after (end_of b its_block) ≡ true =
-        ap (λ (n : ℕ). ends_block_after (end_of b n)) held ∙ (is.cased.branches k o e).0 in
-        false≢true (sym (ap ends_block_after (ended last)) ∙ transfers)
-
-    -- neither is the node in the order of the text
-    pub jump_apart : (k : ℕ) (o : Open) → slice_get g.switches k ≡ Some o → node ≡ block o.block → its_block ≡ o.block
-        → same_node node (node_in_order (graph_in g) word) ≡ false
-    jump_apart k o e here held =
-        rw (here, ap (jumps_in g.switches) held ∙ jump_of g.text b g.switches k o e)
-
-    pub compare_apart : (k : ℕ) (o : Open) → slice_get g.switches k ≡ Some o → node ≡ copy o.switch.compare.0
-        → its_block ≡ o.switch.compare.0 → same_node node (node_in_order (graph_in g) word) ≡ false
-    compare_apart k o e here held = rw (
-      here,
-      false_from_ne_true (jumps_in g.switches its_block) (λ j.
-          let plain : is_jump (end_of b its_block) ≡ false = rw held (is.cased.branches k o e).1 in
-          false≢true (sym plain ∙ is.cased.jumps its_block j)),
-    )
+  pub compare_apart : (k : ℕ) (o : Open) → slice_get g.switches k ≡ Some o → node ≡ copy o.switch.compare.0
+      → its_block ≡ o.switch.compare.0 → same_node node (node_in_order (graph_in g) word) ≡ false
+  compare_apart k o e here held = rw (
+    here,
+    false_from_ne_true (jumps_in g.switches its_block) (λ j.
+        let plain : is_jump (end_of b its_block) ≡ false = rw held (is.cased.branches k o e).1 in
+        false≢true (sym plain ∙ is.cased.jumps its_block j)),
+  )

@@ -7,7 +7,7 @@ use Rattle.image_code.specs.Simulates.{MatchesIn, graph_in, number_in}
 use Rattle.image_code.specs.Images.{slot_piece}
 use Rattle.image_code.proofs.Points.{visited_at}
 use Rattle.image_code.proofs.PointShapes.{IsHead, IsVisited, head, outside, beyond, IsForeign, IsOff}
-use Rattle.image_code.specs.Made.{first_word, image_by, jump_by, jump_image_by, jumps_at, slot_copy, visit_of, way_by}
+use Rattle.image_code.specs.Made.{first_word, image_by, jump_image_by, jumps_at, slot_copy, visit_of, way_by}
 use Rattle.image_code.specs.Numbered.{case_piece}
 use Rattle.image_code.specs.Outside.{IsOffPages}
 use Rattle.image_code.proofs.Shapes.{switch_some}
@@ -39,9 +39,6 @@ module _ (text : Words) (b : Blocks) (opens : List Open) (jumps cases : ℕ) (vi
   abbrev graph : Graph
   graph = graph_of b opens
 
-  find_head : (node : Node) (rd rs1 : ℕ) (op2 : Op2) → HasHead visit (jump_by text graph jumps cases visit node rd rs1 op2)
-  find_head node rd rs1 op2 = headed (omega arith)
-
   jump_head : (node : Node) (rd rs1 : ℕ) (op2 : Op2)
       → HasHead visit (jump_image_by text graph jumps cases visit node rd rs1 op2)
   jump_head (Block k) rd rs1 op2 =
@@ -49,15 +46,14 @@ module _ (text : Words) (b : Blocks) (opens : List Open) (jumps cases : ℕ) (vi
       (λ e.
       let found = jump_numbered text b opens k.0 e in
       rw (rw found.4 at found.2, found.3) (headed (switch_some visit.address rd _)))
-      (λ _. find_head (Block k) rd rs1 op2)
-  jump_head node rd rs1 op2 = find_head node rd rs1 op2
+      (λ _. headed (omega arith))
+  jump_head _ rd rs1 op2 = headed (omega arith)
 
   image_head : (node : Node) (word : ℕ) (instr : Instr)
       → HasHead visit (image_by text graph jumps cases visit node word instr)
   image_head node word (i.Branch cond annul disp) =
       cond_both (cond == always) _ _ (HasHead visit) (λ _. headed (omega arith))
       (λ _. cond_both (cond == never) _ _ (HasHead visit) (λ _. headed (omega arith)) (λ _. headed (omega arith)))
-  image_head node word (i.Call disp) = headed (omega arith)
   image_head node word (i.Jmpl rd rs1 op2) = jump_head node rd rs1 op2
   image_head node word instr = headed (omega arith)
 
@@ -117,12 +113,8 @@ module _ (edit : PlacedEdit) where
 
   pub foreign_is : (node : Node) (x : Point) → x.slot ≡ NoSlot → word_at g.text x.pc ≡ None
       → home_of node ≡ node_of b (word_at g.text x.pc) → IsOffPages g x → IsForeign g node x
-  foreign_is node x slot none held open_there = record {
-    slot = slot;
-    none = none;
-    beyond = home_outside node (held ∙ ap (node_of b) none);
-    apart = open_there;
-  }
+  foreign_is node x slot none held open_there =
+      let beyond = home_outside node (held ∙ ap (node_of b) none) in assumption
 
   -- ---- at a word
 

@@ -1,5 +1,5 @@
 -- From the cases to the promise as a whole.
-use Rattle.image_code.proofs.Common.{◌≡◌, ℕ, ◌<◌, Option, Some, List, ◌∷◌, ap, ◌∙◌, subst, arith, slice_get, decode_of, AllApart, State, judged_by, pages_of, Node, Point, Item, item_at, item_in, ◌++◌, exit_items}
+use Rattle.image_code.proofs.Common.{◌≡◌, ℕ, ◌<◌, Option, Some, List, ◌∷◌, ap, ◌∙◌, subst, arith, slice_get, AllApart, pages_of, Item, item_at, item_in, ◌++◌, exit_items}
 use Rattle.layout.specs.declared.items.Item.TheVariants as it
 use Rattle.two_runs.specs.Needed.{judged_in}
 use Rattle.image_code.specs.Simulates.{Simulates, at_point, word_of}
@@ -21,16 +21,11 @@ use Rattle.image_code.proofs.Conditional.{conditional_step}
 use Rattle.image_code.proofs.Unconditional.{unconditional_step}
 use Rattle.image_code.proofs.Outside.{foreign_step, offs_step}
 
-module _ (site : Site) where
-  open site use {g, l, base, p, place, placed}
+module _ (visit : Visit) where
+  open visit use {site, node, x, t, here, site.{g, l, base, p, place, placed}}
 
-  abbrev at_visit : (node : Node) (x : Point) (t : State) → AtVisitIn site node x t → Visit
-  at_visit node x t here = record { site = site; node = node; x = x; t = t; here = here }
-
-  heads_visit : (node : Node) (x : Point) (t : State) → AtVisitIn site node x t → IsHead site node x
-      → visits_it g node x t
-  heads_visit node x t here c =
-      let visit = at_visit node x t here in
+  heads_visit : IsHead site node x → visits_it g node x t
+  heads_visit c =
       let f = first_of base p c.address c.head c.some in
       let item : item_at l.list c.piece 1 ≡ Some f.item =
       ap (λ (v : Option (List Item)). item_in v 1) (items_at site c.piece _ c.shape)
@@ -39,39 +34,33 @@ module _ (site : Site) where
       f.room (place c.piece 1) (place c.piece 2) (placed.laid.items c.piece 1 f.item item) in
       visits_first visit _ _ _ c.mark 1 (omega (arith, c.some)) (omega (arith, at_first visit _ _ _ c.mark, room))
 
-  there : (node : Node) (x : Point) (t : State) → AtVisitIn site node x t → IsVisited site node x → visits_it g node x t
-  there node x t here (head k) = heads_visit node x t here k
-  there node x t here (outside k) = (foreign_step (at_visit node x t here) k).0
-  there node x t here (beyond k) = (offs_step (at_visit node x t here) k).0
+  there : IsVisited site node x → visits_it g node x t
+  there (head k) = heads_visit k
+  there (outside k) = (foreign_step visit k).0
+  there (beyond k) = (offs_step visit k).0
 
-  judged : (x : Point) (t : State) (word : ℕ) → word_of g.text x.pc ≡ Some word
-      → AllApart (pages_of g.notes) (judged_in (at_point x t) (instr_of (word_of g.text x.pc)))
-      → AllApart (pages_of g.notes) (judged_by (at_point x t) (decode_of word))
-  judged x t word is apart =
-      subst (λ (o : Option ℕ). AllApart (pages_of g.notes) (judged_in (at_point x t) (instr_of o))) is apart
+  abbrev IsApart : Option ℕ → Type 0
+  IsApart o = AllApart (pages_of g.notes) (judged_in (at_point x t) (instr_of o))
 
-  by : (node : Node) (x : Point) (t : State) → AtVisitIn site node x t
-      → AllApart (pages_of g.notes) (judged_in (at_point x t) (instr_of (word_of g.text x.pc))) → IsCase site node x t
-      → StepsFrom site node x t
-  by node x t here apart (plain k) = plains_step (at_visit node x t here) k (judged x t k.word k.is_word apart)
-  by node x t here apart (couple k) = couples_step (at_visit node x t here) k
-  by node x t here apart (conditional k) = conditional_step (at_visit node x t here) k
-  by node x t here apart (unconditional k) = unconditional_step (at_visit node x t here) k
-  by node x t here apart (call k) = calls_step (at_visit node x t here) k
-  by node x t here apart (jump k) = jumps_step (at_visit node x t here) k
-  by node x t here apart (landing k) = jump_slots_step (at_visit node x t here) k (judged x t k.word k.is_word apart)
-  by node x t here apart (choice k) = choices_step (at_visit node x t here) k
-  by node x t here apart (foreign k) = (foreign_step (at_visit node x t here) k).1
-  by node x t here apart (off k) = (offs_step (at_visit node x t here) k).1
+  by : IsApart (word_of g.text x.pc) → IsCase site node x t → StepsFrom site node x t
+  by apart (plain k) = plains_step visit k (subst IsApart k.is_word apart)
+  by apart (couple k) = couples_step visit k
+  by apart (conditional k) = conditional_step visit k
+  by apart (unconditional k) = unconditional_step visit k
+  by apart (call k) = calls_step visit k
+  by apart (jump k) = jumps_step visit k
+  by apart (landing k) = jump_slots_step visit k (subst IsApart k.is_word apart)
+  by apart (choice k) = choices_step visit k
+  by apart (foreign k) = (foreign_step visit k).1
+  by apart (off k) = (offs_step visit k).1
 
-  pub simulate : IsImaged site → Simulates g (IsOffPages g) (AtVisitIn site) (Forms site)
-  simulate c = record {
-    visits = λ node x t matches clear here. let at = there node x t here (c.visits node x matches clear) in (
-      here.live,
-      at.0,
-      at.1,
-    );
-    steps = λ node x t matches clear here apart on chooses.
-        next_steps site c.opens c.enters node x t matches.0
-        (by node x t here apart (c.cases node x t matches clear here on chooses));
-  }
+pub simulate : (site : Site) → IsImaged site → Simulates site.g (IsOffPages site.g) (AtVisitIn site) (Forms site)
+simulate site c = record {
+  visits = λ node x t matches clear here.
+      let at = there (record { site = site; node = node; x = x; t = t; here = here }) (c.visits node x matches clear) in
+      (here.live, at.0, at.1);
+  steps = λ node x t matches clear here apart on chooses.
+      next_steps site c.opens c.enters node x t matches.0
+      (by (record { site = site; node = node; x = x; t = t; here = here }) apart
+      (c.cases node x t matches clear here on chooses));
+}

@@ -1,7 +1,6 @@
 -- A transfer at a word goes into its slot, where the way of its edge leads.
-use Rattle.image_code.proofs.Common.{◌≡◌, ◌≢◌, ◌+◌, ◌-◌, ◌^◌, ◌<◌, true, false, Option, Some, None, ap, sym, ◌∙◌, arith, slice_index, false≢true, word_at, Instr, decode_of, Slot, NoSlot, Taken, Untaken, State, EdgeKind, Blocks, blocks_of, word_at-some, has_cases, instr_at, node_after, point_of, way_of, same_kind, MatchesBy, Stands}
+use Rattle.image_code.proofs.Common.{◌≡◌, ◌≢◌, ◌-◌, true, false, Some, None, sym, ◌∙◌, arith, slice_index, false≢true, word_at, Instr, decode_of, Slot, NoSlot, Taken, State, EdgeKind, Blocks, blocks_of, word_at-some, has_cases, instr_at, node_after, point_of, way_of, same_kind, MatchesBy, Stands}
 use Rattle.cfg_blocks.specs.declared.EdgeKind.TheVariants as kinds
-use Rattle.cfg_walk.proofs.Points.{StepsTo}
 use Rattle.image_code.specs.Simulates.{gone_at, graph_in}
 use Rattle.image_code.proofs.Points.{entered_at}
 use Rattle.image_code.proofs.PointShapes.{LeadsTo, IsNoJumpsSlot}
@@ -26,14 +25,10 @@ module _ (visit : AtWord) (instr : Instr) (says : decode_of (slice_index visit.e
     held = held;
   }
 
-  address_low : x.pc + 4 < 2 ^ 32
-  address_low =
-      let w = word_at-some g.text x.pc word at in
-      omega arith
-
   pub before : (v : State) → v.pc ≡ x.npc → instr_at g.text (v.pc - 4) ≡ Some instr
   before v pc =
-      let back : v.pc - 4 ≡ x.pc = (let low = address_low in omega arith) in
+      let w = word_at-some g.text x.pc word at in
+      let back : v.pc - 4 ≡ x.pc = omega arith in
       rw (back, at, says)
 
   -- the way of the edge leads to the slot
@@ -43,32 +38,16 @@ module _ (visit : AtWord) (instr : Instr) (says : decode_of (slice_index visit.e
       (word_at g.text v.pc)
       (entered_at (site edit) (node_after (graph_in g) node (gone_at g node x v)) (point_of v))
 
-  in_slot : (v : State) → v.ending ≡ None → v.pc ≡ x.npc → (now : Slot) → v.slot ≡ now → now ≢ NoSlot
+  pub entered : (v : State) → v.ending ≡ None → v.pc ≡ x.npc → (now : Slot) → v.slot ≡ now → now ≢ NoSlot
       → (same_kind (way_of (Some instr) now) kinds.Out ≡ true → has_cases g.switches node ≡ false)
       → MatchesBy g.text (graph_in g) node (point_of v) now → LeadsThere (way_of (Some instr) now) v
-  in_slot v live pc now slot some caseless m =
-      let not : v.slot ≢ NoSlot = λ n. some (sym slot ∙ n) in
-      let same : way_of (instr_at g.text (v.pc - 4)) v.slot ≡ way_of (Some instr) now =
-      ap (λ (o : Option Instr). way_of o v.slot) (before v pc) ∙ ap (way_of (Some instr)) slot in
-      rw (nothing_gone g node x v none not live)
-      (enters (slotted edit node (point_of v) now slot some m)
-      (λ out. caseless (ap (λ (k : EdgeKind). same_kind k kinds.Out) (sym same) ∙ out))
+  entered v live pc now slot some caseless m =
+      let same : way_of (instr_at g.text (v.pc - 4)) v.slot ≡ way_of (Some instr) now = rw (before v pc, slot) in
+      rw (nothing_gone g node x v none (λ n. some (sym slot ∙ n)) live)
+      (enters (slotted edit node (point_of v) now slot some m) (λ out. caseless (rw same at out))
       (way_of (Some instr) now) same)
-
-  pub entered : (v : State) → v.ending ≡ None → v.pc ≡ x.npc → v.slot ≡ Taken
-      → (same_kind (way_of (Some instr) Taken) kinds.Out ≡ true → has_cases g.switches node ≡ false)
-      → StepsTo g.text (graph_in g) node x (point_of v) NoSlot Taken → LeadsThere (way_of (Some instr) Taken) v
-  entered v live pc slot caseless m = in_slot v live pc Taken slot (λ n. absurd (cc)) caseless m
-
-  pub entered_untaken : (v : State) → v.ending ≡ None → v.pc ≡ x.npc → v.slot ≡ Untaken
-      → (same_kind (way_of (Some instr) Untaken) kinds.Out ≡ true → has_cases g.switches node ≡ false)
-      → StepsTo g.text (graph_in g) node x (point_of v) NoSlot Untaken → LeadsThere (way_of (Some instr) Untaken) v
-  entered_untaken v live pc slot caseless m = in_slot v live pc Untaken slot (λ n. absurd (cc)) caseless m
 
   -- it is no JMPL's
   pub no_jump : (v : State) → (v.slot ≡ Taken → v.pc ≡ x.npc) → same_kind (way_of (Some instr) Taken) kinds.Out ≡ false
       → IsNoJumpsSlot g v
-  no_jump v pc other slot out =
-      let same : way_of (instr_at g.text (v.pc - 4)) v.slot ≡ way_of (Some instr) Taken =
-      ap (λ (o : Option Instr). way_of o v.slot) (before v (pc slot)) ∙ ap (way_of (Some instr)) slot in
-      absurd (false≢true (sym other ∙ ap (λ (k : EdgeKind). same_kind k kinds.Out) (sym same) ∙ out))
+  no_jump v pc other slot out = absurd (false≢true (sym other ∙ rw (before v (pc slot), slot) at out))

@@ -39,20 +39,18 @@ module _ (visit : AtWord) (t : State) where
   -- ---- a CALL
 
   module _ (disp : ℤ) (says : decode_of (slice_index g.text.words word) ≡ i.Call disp) where
-    call_acts : does_at g x t ≡ delayed (with_register (at_point x t) 15 x.pc) (target_of (at_point x t) disp)
+    abbrev called : State
+    called = delayed (with_register (at_point x t) 15 x.pc) (target_of (at_point x t) disp)
+
+    call_acts : does_at g x t ≡ called
     unfolding act call_step
     call_acts = rw (word_is g x word at, says, none)
 
-    call_leads : t.ending ≡ None → (v : State)
-        → v ≡ delayed (with_register (at_point x t) 15 x.pc) (target_of (at_point x t) disp)
-        → LeadsThere visit (i.Call disp) says kinds.Call v
-    call_leads live v e =
-        entered visit (i.Call disp) says v
-        (ap (λ (z : State). z.ending) e ∙ live) (ap (λ (z : State). z.pc) e) (ap (λ (z : State). z.slot) e)
-        (λ out. absurd (cc))
-        (call_delayed disp (point_of v) (stands visit
-        (i.Call disp) says)
-        (ap (λ (z : State). z.pc) e) (ap (λ (z : State). z.npc) e))
+    call_leads : t.ending ≡ None → LeadsThere visit (i.Call disp) says kinds.Call (does_at g x t)
+    call_leads live =
+        rw call_acts
+        (entered visit (i.Call disp) says called live refl Taken refl (λ n. absurd (cc)) (λ out. absurd (cc))
+        (call_delayed disp (point_of called) (stands visit (i.Call disp) says) refl refl))
 
     pub call_is : t.ending ≡ None → IsCall (site edit) node x t
     call_is live = record {
@@ -61,11 +59,9 @@ module _ (visit : AtWord) (t : State) where
       disp = disp;
       says = says;
       way = record { 0 = way_out g.text (graph_in g) node kinds.Call };
-      mark = at_image visit (λ _ _. heads.Call) [] _
-          (image_shape visit (i.Call disp) says);
-      leads = call_leads live (does_at g x t) call_acts;
-      never = no_jump visit (i.Call disp) says (does_at g x t)
-          (λ _. ap (λ (z : State). z.pc) call_acts) refl;
+      mark = at_image visit (λ _ _. heads.Call) [] _ (image_shape visit (i.Call disp) says);
+      leads = call_leads live;
+      never = no_jump visit (i.Call disp) says (does_at g x t) (λ _. rw call_acts) refl;
     }
 
   -- ---- a JMPL
@@ -75,40 +71,31 @@ module _ (visit : AtWord) (t : State) where
     abbrev target : ℕ
     target = sum_of (at_point x t) rs1 op2
 
-    abbrev pub jumped : State
-    jumped =
-        if target % 4 == 0 then delayed (with_register (at_point x t) rd x.pc) target
-        else trapped (at_point x t) mem_address_not_aligned
-
-    pub jump_acts : does_at g x t ≡ jumped
+    jump_acts : does_at g x t
+        ≡ (if target % 4 == 0 then delayed (with_register (at_point x t) rd x.pc) target
+        else trapped (at_point x t) mem_address_not_aligned)
     unfolding act jump_step
     jump_acts = rw (word_is g x word at, says, none)
 
-    pub goes : (v : State) → v ≡ jumped → v.ending ≡ None → (v.pc ≡ x.npc) × (v.slot ≡ Taken)
-    goes v e live =
-        let w = cond_both (target % 4 == 0) (delayed (with_register (at_point x t) rd x.pc) target)
-        (trapped (at_point x t) mem_address_not_aligned)
-        (λ (z : State). z.ending ≡ None → (z.pc ≡ x.npc) × (z.slot ≡ Taken)) (λ _ _. (refl, refl)) (λ _ h. absurd (cc))
-        (ap (λ (z : State). z.ending) (sym e) ∙ live) in
-        (ap (λ (z : State). z.pc) e ∙ w.0, ap (λ (z : State). z.slot) e ∙ w.1)
+    pub jump_goes : (does_at g x t).ending ≡ None → ((does_at g x t).pc ≡ x.npc) × ((does_at g x t).slot ≡ Taken)
+    jump_goes =
+        rw jump_acts
+        (cond_both (target % 4 == 0) _ _ (λ (z : State). z.ending ≡ None → (z.pc ≡ x.npc) × (z.slot ≡ Taken))
+        (λ _ _. (refl, refl)) (λ _ h. absurd (cc)))
 
     module _ (caseless : has_cases g.switches node ≡ false) where
       jump_shape : slice_get (shapes edit) number
           ≡ Some (jump_by g.text (graph_in g) f.halves.base f.cases.base visited node rd rs1 op2)
       jump_shape =
           image_shape visit (i.Jmpl rd rs1 op2) says
-          ∙ ap (λ (s : Shape). Some s) (jump_plain g.text (graph_in g) (jumps_at g.text f.table.base) f.cases.base
-          visited node rd rs1 op2 caseless)
-          ∙ ap (λ n. Some (jump_by g.text (graph_in g) n f.cases.base visited node rd rs1 op2)) (sym behind)
+          ∙ rw behind (ap (λ (s : Shape). Some s) (jump_plain g.text (graph_in g) (jumps_at g.text f.table.base)
+          f.cases.base visited node rd rs1 op2 caseless))
 
-      jump_leads : (v : State) → v ≡ jumped → v.ending ≡ None
-          → LeadsThere visit (i.Jmpl rd rs1 op2) says kinds.Out v
-      jump_leads v e live =
-          let w = goes v e live in
-          entered visit (i.Jmpl rd rs1 op2) says v live w.0 w.1
-          (λ _. caseless)
-          (jump_delayed rd rs1 op2 (point_of v)
-          (stands visit (i.Jmpl rd rs1 op2) says) w.0 w.1
+      jump_leads : (does_at g x t).ending ≡ None → LeadsThere visit (i.Jmpl rd rs1 op2) says kinds.Out (does_at g x t)
+      jump_leads live =
+          let w = jump_goes live in
+          entered visit (i.Jmpl rd rs1 op2) says (does_at g x t) live w.0 Taken w.1 (λ n. absurd (cc)) (λ _. caseless)
+          (jump_delayed rd rs1 op2 (point_of (does_at g x t)) (stands visit (i.Jmpl rd rs1 op2) says) w.0 w.1
           (λ e. absurd (false≢true (sym caseless ∙ e))))
 
       pub jump_is : IsJump (site edit) node x t
@@ -132,5 +119,5 @@ module _ (visit : AtWord) (t : State) where
             way = record { 0 = way_out g.text (graph_in g) node kinds.Out };
             mark = at_image visit (λ _ _. heads.LookUp (words_of (find_words (free_register rd rs1 op2)
                 (other_register rd rs1 op2) rs1 op2 f.halves.base)) rd) [] _ jump_shape;
-            leads = jump_leads (does_at g x t) jump_acts;
+            leads = jump_leads;
           }

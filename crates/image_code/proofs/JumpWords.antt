@@ -1,25 +1,13 @@
 -- What is known of the words that are JMPLs, and the register that one doesn't name.
-use Rattle.image_code.proofs.Common.{◌≡◌, ◌≢◌, ℕ, ◌<◌, true, false, not, nat_lt, sym, arith, and_parts, cond_both, ltb-true, nat_tests, Op2, op2_in_range, operands_in_range, decode_of, decoded_range, op2_fits, free_register, other_register, Reg, Imm, second_register, IsApart}
+use Rattle.image_code.proofs.Common.{◌≡◌, ◌≢◌, ℕ, ◌<◌, true, not, nat_lt, sym, arith, and_parts, cond_both, ltb-true, nat_tests, Op2, op2_in_range, operands_in_range, decode_of, decoded_range, op2_fits, free_register, other_register, Reg, Imm, second_register, IsApart}
 use Rattle.v8_decode.specs.declared.Instr.TheVariants as i
 use Rattle.jump_code.specs.FreeRegister.{first_free, is_one_of_four, next_free}
 use Rattle.jump_code.specs.FreeRegister.{IsNotIn}
 use Rattle.image_code.proofs.Operands.{operand_fits}
 
--- ---- the first register that is free
+-- ---- registers that are free
 
-record IsFree (number a b c : ℕ) : Type 0 where
-  pub some : 0 < number
-  pub few : number < 5
-  pub first : a ≢ number
-  pub second : b ≢ number
-  pub third : c ≢ number
-
-first_is_free : (a b c : ℕ) → IsFree (first_free a b c) a b c
-first_is_free a b c = grind (arith, nat_tests)
-
--- ---- the second one
-
-record IsNext (number a b c d : ℕ) : Type 0 where
+record IsFree (number a b c d : ℕ) : Type 0 where
   pub some : 0 < number
   pub few : number < 6
   pub first : a ≢ number
@@ -27,25 +15,18 @@ record IsNext (number a b c d : ℕ) : Type 0 where
   pub third : c ≢ number
   pub fourth : d ≢ number
 
-next_if : (number a b c d : ℕ) → 0 < number → number < 6 → not (is_one_of_four number a b c d) ≡ true
-    → IsNext number a b c d
-next_if number a b c d some few e = grind (e, arith, nat_tests)
+first_is_free : (a b c : ℕ) → IsFree (first_free a b c) a b c 0
+first_is_free a b c = grind (arith, nat_tests)
 
--- where 1 to 4 are all named, 5 isn't
-fifth : (a b c d : ℕ) → not (is_one_of_four 1 a b c d) ≡ false → not (is_one_of_four 2 a b c d) ≡ false
-    → not (is_one_of_four 3 a b c d) ≡ false → not (is_one_of_four 4 a b c d) ≡ false → IsNext 5 a b c d
-fifth a b c d one two three four = grind (one, two, three, four, arith, nat_tests)
-
-next_is_free : (a b c d : ℕ) → IsNext (next_free a b c d) a b c d
+-- the second one
+next_is_free : (a b c d : ℕ) → IsFree (next_free a b c d) a b c d
 next_is_free a b c d =
-    cond_both (not (is_one_of_four 1 a b c d)) _ _ (λ (n : ℕ). IsNext n a b c d)
-    (next_if 1 a b c d (omega arith) (omega arith))
-    (λ one. cond_both (not (is_one_of_four 2 a b c d)) _ _ (λ (n : ℕ). IsNext n a b c d)
-    (next_if 2 a b c d (omega arith) (omega arith))
-    (λ two. cond_both (not (is_one_of_four 3 a b c d)) _ _ (λ (n : ℕ). IsNext n a b c d)
-    (next_if 3 a b c d (omega arith) (omega arith))
-    (λ three. cond_both (not (is_one_of_four 4 a b c d)) _ _ (λ (n : ℕ). IsNext n a b c d)
-    (next_if 4 a b c d (omega arith) (omega arith)) (λ four. fifth a b c d one two three four))))
+    let is_free : ℕ → Type 0 = λ n. IsFree n a b c d in
+    cond_both (not (is_one_of_four 1 a b c d)) _ _ is_free (λ e. grind (e, arith, nat_tests))
+    (λ one. cond_both (not (is_one_of_four 2 a b c d)) _ _ is_free (λ e. grind (e, arith, nat_tests))
+    (λ two. cond_both (not (is_one_of_four 3 a b c d)) _ _ is_free (λ e. grind (e, arith, nat_tests))
+    (λ three. cond_both (not (is_one_of_four 4 a b c d)) _ _ is_free (λ e. grind (e, arith, nat_tests))
+    (λ four. grind (one, two, three, four, arith, nat_tests)))))
 
 -- ---- a JMPL that a word is
 
@@ -67,26 +48,20 @@ jmpl_is word rd rs1 op2 says =
     let more = and_parts (nat_lt rs1 32) (op2_in_range op2) parts.1 in
     let free = first_is_free rd rs1 (second_register op2) in
     let next = next_is_free rd rs1 (second_register op2) (free_register rd rs1 op2) in
+    let apart : (number other : ℕ) → IsFree number rd rs1 (second_register op2) other → IsApart number rd rs1 op2 =
+    λ number other is. record {
+      some = is.some;
+      below = omega (arith, is.few);
+      rd_below = ltb-true rd 32 parts.0;
+      rs1_below = ltb-true rs1 32 more.0;
+      rd_not = is.first;
+      rs1_not = is.second;
+      op2_not = not_in number op2 more.1 is.third;
+    } in
     record {
-      other = record {
-        some = next.some;
-        below = omega (arith, next.few);
-        rd_below = ltb-true rd 32 parts.0;
-        rs1_below = ltb-true rs1 32 more.0;
-        rd_not = next.first;
-        rs1_not = next.second;
-        op2_not = not_in (other_register rd rs1 op2) op2 more.1 next.third;
-      };
+      other = apart _ _ next;
       differ = next.fourth;
-      apart = record {
-        some = free.some;
-        below = omega arith;
-        rd_below = ltb-true rd 32 parts.0;
-        rs1_below = ltb-true rs1 32 more.0;
-        rd_not = free.first;
-        rs1_not = free.second;
-        op2_not = not_in (free_register rd rs1 op2) op2 more.1 free.third;
-      };
+      apart = apart _ _ free;
       fits = operand_fits word rd rs1 op2 says;
       in_range = more.1;
     }

@@ -1,25 +1,26 @@
 -- The words of a JMPL, and then the way; or the ending that a misaligned target has.
-use Rattle.image_code.proofs.Common.{◌≡◌, ◌≢◌, ℕ, ◌+◌, ◌%◌, ◌^◌, ◌<◌, ◌≤◌, inl, inr, false, Option, Some, None, List, [], length, refl, ap, sym, ◌∙◌, subst, arith, word_at, Instr, wrapped, code_of, Ending, NoSlot, State, sum_of, is_transfer, IsValid, run-valid, instr_at, point_of, node_after, page_word, moved, StandIn, leads_weaker, stores_there, words_of, look_up, loads_there, jumped, pieces_are_laid}
+use Rattle.image_code.proofs.Common.{words_mean, ◌≡◌, ◌≢◌, ℕ, ◌+◌, ◌%◌, ◌^◌, ◌<◌, ◌≤◌, inl, inr, false, Option, Some, None, List, [], length, refl, ap, sym, ◌∙◌, subst, arith, word_at, Instr, wrapped, code_of, Ending, NoSlot, State, sum_of, is_transfer, IsValid, run-valid, instr_at, point_of, node_after, moved, leads_weaker, words_of, look_up, loads_there, jumped}
 use Rattle.code_runs.proofs.Picked.{equal_or_not}
+use Rattle.jump_code.proofs.Fitting.{find_fits}
 use Rattle.jump_code.specs.Finding.{IsAboutToFind, found_memory}
 use Rattle.jump_code.proofs.FindFollowing.{goes, look_up_simulates}
 use Rattle.jump_code.proofs.Jumping.{jump_stops}
-use Rattle.image_code.specs.Simulates.{does_at, gone_at, graph_in, number_in}
+use Rattle.image_code.specs.Simulates.{does_at, gone_at, graph_in}
 use Rattle.image_code.specs.Cost.{is_jmpl}
 use Rattle.image_code.proofs.Points.{ReachesNext, StepsFrom, entered_at, Visit}
 use Rattle.image_code.proofs.PointShapes.{LeadsTo, IsJump}
 use Rattle.image_code.proofs.Memories.{same_stored}
 use Rattle.image_code.proofs.Dead.{LastDead, gone_last}
-use Rattle.image_code.proofs.EntersBy.{ends_by, moves_past, own_stored}
+use Rattle.image_code.proofs.EntersBy.{ends_by, moves_past}
+use Rattle.image_code.proofs.Cells.{own_stored, page_there}
 use Rattle.image_code.proofs.Sparing.{instr_is}
 use Rattle.image_code.proofs.Through.{ahead, goes_through}
-use Rattle.image_code.proofs.Routes.{items_at}
 use Rattle.image_code.proofs.Marked.{AtWords}
 use Rattle.image_code.proofs.Shapes.{link_few}
 
 module _ (visit : Visit)
     (c : IsJump visit.site visit.node visit.x visit.t) where
-  open visit use {site, node, x, t, here, site.{g, l, base, p, place, f, placed}}
+  open visit use {site, node, x, t, here, site.{g, f, placed}}
 
   -- the original after its JMPL
   abbrev after_jump : State
@@ -49,18 +50,16 @@ module _ (visit : Visit)
         apart = c.apart;
         other = c.other;
         differ = c.differ;
-        words = subst (λ z. StandIn (code_of t.memory) z image) (sym there.at)
-            ((pieces_are_laid l.list base p place placed.laid t.memory here.memory.code c.piece _ (items_at site c.piece _ c.shape)).find
-            c.scratch c.second c.rd c.rs1 c.op2 f.halves.base c.address (number_in g node) c.way c.apart c.other c.fits
-            c.in_range (omega (arith, placed.frame.whole.below)) short refl).words;
+        words = words_mean (code_of t.memory) t.pc image
+            (find_fits c.scratch c.second c.rd c.rs1 c.op2 f.halves.base c.address.0 c.apart c.other c.fits c.in_range
+            (omega (arith, placed.frame.whole.below)) short) there.words;
         short = short;
         table = placed.frame.whole;
         stands = record {
           readable = λ z from to aligned. loads_there z false t.memory (here.memory.table z from to aligned).0;
           same = λ z from to aligned. (here.memory.table z from to aligned).1;
         };
-        page = λ n below. stores_there (page_word n) t.memory
-            (here.memory.ours.words (page_word n) (placed.frame.page n (omega (arith, below))));
+        page = page_there site t.memory here.memory.ours;
       }
     where
       short : c.address.0 < 2 ^ 32

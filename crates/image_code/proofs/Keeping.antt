@@ -1,33 +1,25 @@
 -- From where control comes to a point, on to its visit: nothing is run between, but before the load of an open switch
 -- its address is kept.
-use Rattle.image_code.proofs.Common.{length, ◌≡◌, ℕ, ◌+◌, ◌-◌, ◌*◌, ◌%◌, ◌^◌, ◌<◌, ◌≤◌, inl, inr, Bool, true, false, Option, Some, None, List, [], ◌++◌, append-nil, refl, ap, sym, ◌∙◌, subst, arith, if◌then◌else◌, ◌==◌, slice_get, slice_index, and_parts, cases_lt, lt-ltb, ltb-true, ne_eqb, Words, address_of, word_at, Instr, Op2, op2_in_range, operands_in_range, decode_of, op2_fits, wrapped, Memory, code_of, Ending, Slot, NoSlot, State, sum_of, StateItem, Register, IsSameAt, is_transfer, run, run_puts, IsValid, pages_of, run-valid, word_at-some, Node, Block, Landed, X, Point, edge_from, ends_block, instr_at, left_by, node_after, point_of, MatchesBy, next_word, lived_to, count_stores, page_word, IsAmongWords, Stores, memory_word, words_at, StandIn, count_add, stores_there, past, saved_address, word_items, Fit, words_mean, save_load_address, words_of, Reg, Imm, puts_add, second_register}
+use Rattle.image_code.proofs.Common.{Leads, leads_then, leads_weaker, IsFirstWord, IsPageWord, length, ◌≡◌, ℕ, ◌+◌, ◌-◌, ◌*◌, ◌%◌, ◌^◌, ◌<◌, ◌≤◌, inl, Bool, true, false, Option, Some, None, List, [], refl, ap, sym, ◌∙◌, subst, arith, if◌then◌else◌, ◌==◌, slice_get, slice_index, and_parts, lt-ltb, ltb-true, ne_eqb, Words, address_of, word_at, Instr, Op2, op2_in_range, operands_in_range, decode_of, op2_fits, wrapped, Memory, code_of, Ending, Slot, NoSlot, State, sum_of, is_transfer, IsValid, pages_of, run-valid, word_at-some, Node, Block, Landed, X, Point, edge_from, ends_block, instr_at, left_by, node_after, point_of, MatchesBy, next_word, IsAmongWords, Stores, StandIn, count_add, past, saved_address, word_items, Fit, words_mean, save_load_address, words_of, Reg, Imm, second_register}
 use Rattle.v8_decode.specs.declared.Instr.TheVariants as i
 use Rattle.cfg_blocks.specs.declared.EdgeKind.TheVariants as kinds
 use Rattle.cfg_walk.specs.Matches.{Matches}
-use Rattle.code_runs.proofs.Leads.{run_add}
 use Rattle.code_runs.proofs.Ours.{outside_trans}
 use Rattle.jump_code.specs.Keeping.{SavesLoadAddress, kept_memory}
 use Rattle.jump_code.proofs.Keeping.{addresses_are_saved}
 use Rattle.image_code.specs.Simulates.{CaseTable, IsAtWord, IsNoLoad, IsOnWay, EditSetup, Steps, StepsOn, does_at, gone_at, graph_in}
 use Rattle.image_code.specs.Cost.{limit_by, is_spill, is_transfer_at}
-use Rattle.image_code.specs.Store.{cells_in}
 use Rattle.image_code.proofs.Points.{AtEntryIn, ReachesNext, Forms, AtVisitIn, Site, StepsFrom, entered_at, visited_at}
 use Rattle.image_code.specs.Keeping.{AreCaseTables}
 use Rattle.image_code.proofs.PointShapes.{IsEntered, IsSaving, at_once, saving}
-use Rattle.image_code.proofs.Routes.{IsFit, PieceFrom, CodeAt, bare_on, first_kept, from_shape, stood, stood_low}
-use Rattle.image_code.proofs.Between.{can_run}
+use Rattle.image_code.proofs.Routes.{PieceFrom, CodeAt, bare_on, from_shape, stood}
+use Rattle.image_code.proofs.Between.{quiet_of, same_at, stores_weaker}
+use Rattle.image_code.proofs.Dead.{same_then}
+use Rattle.image_code.proofs.EntersBy.{puts_then}
+use Rattle.image_code.proofs.Cells.{cells_above, first_above, own_stored, page_there}
 use Rattle.image_code.proofs.Memories.{images_stored, same_stored}
 use Rattle.image_code.proofs.Sparing.{instr_is, spill_first}
 use Rattle.image_code.proofs.Visited.{goes_straight, left_gone, word_is}
-
--- the operands of a state that is elsewhere
-sum_past : (s : State) (count : ℕ) (m : Memory) (rs1 : ℕ) (op2 : Op2) → sum_of (past s count m s) rs1 op2 ≡ sum_of s rs1 op2
-sum_past s count m rs1 op2 = grind arith
-
-same_past : (thing : StateItem) (v s : State) (count : ℕ) (m : Memory) → IsSameAt thing v s
-    → IsSameAt thing v (past s count m s)
-same_past (Register n) v s count m e = e
-same_past _ v s count m e = e
 
 -- ---- within a switch's block
 
@@ -145,19 +137,12 @@ module _ (site : Site) (are : AreCaseTables site.g) where
     end = stands.end
 
     low : place c.piece 3 ≤ 2 ^ 31
-    low = stood_low site c.piece 0 (words_of (save_load_address o.rs1 o.op2)) [] whole
+    low = stands.low
 
     npc : e.on.after.npc ≡ e.on.after.pc + 4
     npc =
         let small : wrapped (e.on.after.pc + 4) ≡ e.on.after.pc + 4 = omega (arith, begin, end, low) in
         here.npc ∙ small
-
-    fit : IsFit site e.on.after
-    fit = record {
-      valid = here.valid;
-      has = here.memory;
-      runs = can_run site e.on.after here.valid here.live npc here.slot here.memory;
-    }
 
     keeps : SavesLoadAddress o.rs1 o.op2 e.on.after (length (save_load_address o.rs1 o.op2))
     keeps =
@@ -171,8 +156,7 @@ module _ (site : Site) (are : AreCaseTables site.g) where
               (keep_fits o.rs1 o.op2 q.in_range q.fits) stands.words);
           rs1_below = ltb-true o.rs1 32 (and_parts _ _ q.in_range).0;
           op2_below = second_below o.op2 (and_parts _ _ q.in_range).1;
-          page = λ n less. stores_there (page_word n) e.on.after.memory
-              (here.memory.ours.words (page_word n) (placed.frame.page n (omega (arith, less))));
+          page = λ n less. page_there site e.on.after.memory here.memory.ours n (omega (arith, less));
         })
 
     abbrev m : Memory
@@ -182,55 +166,38 @@ module _ (site : Site) (are : AreCaseTables site.g) where
     after = past e.on.after 3 m e.on.after
 
     stored : Stores (IsAmongWords f.stored) e.on.after.memory m
-        × ((memory_word m (page_word 1) ≡ memory_word e.on.after.memory (page_word 1))
-        × (words_at g.notes.base g.notes.cells m ≡ cells_in g.notes e.on.after))
-    stored = first_kept site e.on.after m fit keeps.stores
+    stored = own_stored site e.on.after.memory m (stores_weaker IsFirstWord IsPageWord _ _ (λ z e. inl e) keeps.stores)
 
-    steps : run t (3 + e.on.count) ≡ after
-    steps = run_add t e.on.count 3 ∙ ap (λ (z : State). run z 3) e.on.path.steps ∙ keeps.path.steps
+    abbrev OnWay : State → Type 0
+    OnWay u = u.ending ≡ None → IsOnWay g t u
 
-    on_way : (j : ℕ) → j < 3 → IsOnWay g t (run e.on.after j)
-    on_way j less = elim (cases_lt 0 j) [
-      | inl some ↦
-          let z = keeps.path.during j some less in
-          bare (run e.on.after j) running (omega (arith, z.past)) z.before
-      | inr none ↦
-          let zero : j ≡ 0 = omega arith in
-          subst (λ n. IsOnWay g t (run e.on.after n)) (sym zero) (bare e.on.after here.live (omega arith) (omega arith))
-    ]
-      where
-        bare : (u : State) → u.ending ≡ None → e.on.after.pc ≤ u.pc → u.pc < e.on.after.pc + 12 → IsOnWay g t u
-        bare u running from to =
-            bare_on site t u running (stands.bare u (omega (arith, begin)) (omega (arith, begin)))
+    bare : (u : State) → e.on.after.pc ≤ u.pc → u.pc < e.on.after.pc + 12 → OnWay u
+    bare u from to live = bare_on site t u live (stands.bare u (omega (arith, begin)) (omega (arith, begin)))
 
-        running : (run e.on.after j).ending ≡ None
-        running =
-            lived_to e.on.after j 3 (omega arith) (ap (λ (z : State). z.ending) keeps.path.steps ∙ here.live)
+    way : Leads OnWay t after (e.on.count + 3)
+    way =
+        let first : Leads OnWay t e.on.after e.on.count = record {
+          steps = e.on.path.steps;
+          during = λ j some less _. e.on.path.quiet j some less;
+        } in
+        leads_then OnWay t e.on.after after e.on.count 3 first
+        (leads_weaker _ OnWay e.on.after after 3 (λ u z. bare u (omega (arith, z.past)) z.before) keeps.path)
+        (λ _ _. bare e.on.after (omega arith) (omega arith))
 
     keeps_on : StepsOn g (AtVisitIn site) (Forms site × IsNoLoad g v) 64 edges node x t v
     keeps_on =
         let s = e.on in
         record {
-          count = 3 + s.count;
+          count = s.count + 3;
           after = after;
           path = record {
-            steps = steps;
+            steps = way.steps;
             some = omega arith;
             few = omega (arith, s.path.few);
-            quiet = λ j some less. elim (cases_lt j s.count) [
-              | inl before ↦ s.path.quiet j some before
-              | inr behind ↦
-                  let there : run t j ≡ run s.after (j - s.count) =
-                  (let q : j ≡ j - s.count + s.count = omega (arith, behind) in ap (run t) q)
-                  ∙ run_add t s.count (j - s.count) ∙ ap (λ (z : State). run z (j - s.count)) s.path.steps in
-                  subst (λ (z : State). IsOnWay g t z) (sym there) (on_way (j - s.count) (omega (arith, behind, less)))
-            ];
+            quiet = quiet_of site t after (s.count + 3) OnWay way here.live (λ u live on. on live);
           };
           puts = λ descriptor.
-              puts_add t s.count 3 descriptor
-              ∙ ap (λ (z : State). run_puts t s.count descriptor ++ run_puts z 3 descriptor) s.path.steps
-              ∙ ap (λ z. run_puts t s.count descriptor ++ z) (keeps.silent descriptor)
-              ∙ append-nil (run_puts t s.count descriptor) ∙ s.puts descriptor;
+              puts_then t s.after s.count 3 s.path.steps keeps.silent descriptor ∙ s.puts descriptor;
           followed = record {
             ending = s.followed.ending;
             window = s.followed.window;
@@ -238,21 +205,19 @@ module _ (site : Site) (are : AreCaseTables site.g) where
             registers = s.followed.registers;
             input = s.followed.input;
             memory = outside_trans (pages_of g.notes) v.memory s.after.memory m s.followed.memory
-                (same_stored site s.after.memory m here.memory stored.0);
+                (same_stored site s.after.memory m here.memory stored);
             items = λ running thing good kept.
-                same_past thing v s.after 3 m
-                (s.followed.items running thing good kept);
+                same_then thing v s.after after (s.followed.items running thing good kept)
+                (same_at thing s.after after refl refl refl);
           };
-          cells = stored.1.1 ∙ s.cells;
+          cells = cells_above site IsFirstWord first_above s.after.memory m here.memory.ours keeps.stores ∙ s.cells;
           here = λ _. record {
             valid = subst IsValid keeps.path.steps (run-valid s.after 3 here.valid);
             live = here.live;
             at = (let q : s.after.pc + 12 ≡ place c.piece 3 = omega (arith, begin, end) in q) ∙ c.behind;
             npc = (let q : s.after.pc + 12 + 4 ≡ wrapped (s.after.pc + 12 + 4) = omega (arith, begin, end, low) in q);
             slot = refl;
-            memory = images_stored site s.after
-                (after) 3
-                keeps.path.steps stored.0 here.memory;
+            memory = images_stored site s.after after 3 keeps.path.steps stored here.memory;
             target_in_page = λ taken _. let none = at.outside in absurd (cc);
           };
           place = λ over. absurd (over live);
@@ -260,9 +225,8 @@ module _ (site : Site) (are : AreCaseTables site.g) where
               let q = s.sparing watched in
               let none = keeps.elsewhere (is_spill g.notes) (spill_first g.notes) in
               let all = count_add (is_spill g.notes) t s.after s.count s.path.steps 3 in
-              let same_count : 3 + s.count ≡ s.count + 3 = omega arith in
               record {
-                spills = omega (arith, q.spills, none, all, ap (count_stores (is_spill g.notes) t) same_count);
+                spills = omega (arith, q.spills, none, all);
                 first = λ forms. absurd (forms.1 k o is at.stands);
                 alone = λ forms. absurd (forms.1 k o is at.stands);
                 few = λ forms. absurd (forms.1 k o is at.stands);
@@ -271,7 +235,8 @@ module _ (site : Site) (are : AreCaseTables site.g) where
 
     address_kept : saved_address keeps_on.after ≡ sum_of keeps_on.after o.rs1 o.op2
     unfolding keeps_on
-    address_kept = keeps.kept ∙ sym (sum_past e.on.after 3 m o.rs1 o.op2)
+    address_kept =
+        keeps.kept ∙ (let same : sum_of e.on.after o.rs1 o.op2 ≡ sum_of after o.rs1 o.op2 = grind arith in same)
 
   -- ---- whatever the next point is
 

@@ -8,7 +8,7 @@ use Rattle.image_code.specs.declared.shape.Exit.TheVariants as exits
 use Rattle.image_code.specs.Numbered.{case_begin, compare_image, entries_of, first_entry, foreign_number, jump_begin, jump_enter, jump_image, landing_count, landing_number, node_in_order, open_begin, edges_but_landings, pieces_of, place_in}
 use Rattle.image_code.proofs.OpenBlocks.{own_before}
 use Rattle.image_code.proofs.Opened.{AreCased, load_is}
-use Rattle.image_code.proofs.Positions.{Sized, numbered_count, numbered_get, flat_count, flat_get, get_behind, get_first, get_taken, placed, any_at, range_get}
+use Rattle.image_code.proofs.Positions.{Sized, numbered_count, numbered_get, flat_count, flat_get, get_behind, get_first, get_past, get_taken, placed, any_at, range_get}
 
 pub get_below : (n k : ℕ) → k < n → slice_get (below n) k ≡ Some k
 get_below n k l = slice_get-get_or (below n) k 0 (omega (arith, length-below n)) ∙ rw (get_or-below n k 0 l)
@@ -172,22 +172,20 @@ module _ (text : Words) (b : Blocks) (opens : List Open) (cased : AreCased text 
       (rw (slice_get-map, get_below (length text.words) word l)))))
 
   -- one of an open switch's own
-  pub own_piece_at : (k : ℕ) (o : Open) → slice_get opens k ≡ Some o → (n : ℕ) (shape : Shape)
-      → slice_get (its_pieces o) n ≡ Some shape → slice_get all (open_begin text graph k + n) ≡ Some shape
+  own_piece_at : (k : ℕ) (o : Open) → slice_get opens k ≡ Some o → (n m : ℕ) (shape : Shape)
+      → n ≡ open_begin text graph k + m → slice_get (its_pieces o) m ≡ Some shape → slice_get all n ≡ Some shape
   unfolding shape_list
-  own_piece_at k o e n shape at =
-      let m = sum_by (pieces_of text graph) (take k opens) + n in
-      let at_m = length text.words + length (edges_but_landings graph) + length text.words + m in
-      let there : open_begin text graph k + n ≡ at_m = omega arith in
-      ap (slice_get all) there ∙ get_first _ _ at_m _ (get_first _ _ at_m _ (get_behind (images ++ ways ++ landings) _ _ m _
-      landings_end (flat_get its_pieces (pieces_of text graph) opens pieces_sized k o e n shape at)))
+  own_piece_at k o e n m shape is at =
+      get_first _ _ n _ (get_first _ _ n _ (get_past (images ++ ways ++ landings) _ n
+      (sum_by (pieces_of text graph) (take k opens) + m) _ (omega (arith, is, landings_end))
+      (flat_get its_pieces (pieces_of text graph) opens pieces_sized k o e m shape at)))
 
   -- the comparison's landed copy
   pub compare_at : (k : ℕ) (o : Open) → slice_get opens k ≡ Some o → (word : ℕ)
       → slice_index b.firsts o.switch.compare.0 ≤ word → word < block_end b.firsts b.words o.switch.compare.0
       → slice_get all (compare_image text graph k o word) ≡ Some (image_of (copy o.switch.compare.0) word)
   compare_at k o e word above below =
-      own_piece_at k o e (word - slice_index b.firsts o.switch.compare.0) _
+      own_piece_at k o e _ (word - slice_index b.firsts o.switch.compare.0) _ refl
       (get_first (compared o ++ before_load o) _ (word - slice_index b.firsts o.switch.compare.0) _ (get_first (compared o) _ _ _
       (image_in (copy o.switch.compare.0) _ _ word above (omega (arith, above, below)))))
 
@@ -210,16 +208,12 @@ module _ (text : Words) (b : Blocks) (opens : List Open) (cased : AreCased text 
         → slice_get all (jump_image text graph k o word) ≡ Some (image_of (block o.block) word)
     jump_at word above below = elim (cases_lt word load) [
       | inl l ↦
-          let there : jump_image text graph k o word ≡ open_begin text graph k + (size + (word - first)) =
-          rw (lt-ltb word load l) (omega arith) in
-          ap (slice_get all) there ∙ own_piece_at k o e (size + (word - first)) _
+          own_piece_at k o e _ (size + (word - first)) _ (rw (lt-ltb word load l) (omega arith))
           (get_first (compared o ++ before_load o) _ _ _ (get_behind (compared o) _ size (word - first) _ (compared_count o)
           (image_in (block o.block) first (load - first) word above (omega (arith, above, l)))))
       | inr m ↦
           let low = (load_in k o e).above in
-          let there : jump_image text graph k o word
-          ≡ open_begin text graph k + (size + (load - first) + suc (word - load)) = omega (arith, late_is word m, above, low) in
-          ap (slice_get all) there ∙ own_piece_at k o e (size + (load - first) + suc (word - load)) _
+          own_piece_at k o e _ (size + (load - first) + suc (word - load)) _ (omega (arith, late_is word m, above, low))
           (get_behind (compared o ++ before_load o) (saved o ∷ from_load o) _ (suc (word - load)) _ (before_count o)
           (image_in (block o.block) load (first + size_of b o.block - load) word m (omega (arith, m, below, low))))
     ]
@@ -232,10 +226,7 @@ module _ (text : Words) (b : Blocks) (opens : List Open) (cased : AreCased text 
 
     pub save_at : slice_get all (jump_enter text graph k o load) ≡ Some (saved o)
     save_at =
-        let at = enter_load in
-        let there : jump_enter text graph k o load ≡ open_begin text graph k + (size + (load - first) + 0) =
-        omega (arith, at, late_is load (omega arith)) in
-        ap (slice_get all) there ∙ own_piece_at k o e (size + (load - first) + 0) _
+        own_piece_at k o e _ (size + (load - first) + 0) _ (omega (arith, enter_load, late_is load (omega arith)))
         (get_behind (compared o ++ before_load o) (saved o ∷ from_load o) _ 0 _ (before_count o) refl)
 
     pub enter_other : (word : ℕ) → (word ≡ load → ⊥) → jump_enter text graph k o word ≡ jump_image text graph k o word
@@ -252,19 +243,15 @@ module _ (text : Words) (b : Blocks) (opens : List Open) (cased : AreCased text 
         ≡ Some (case_at text graph table o entry word)
     unfolding shape_list
     case_entry_at entry word at =
-        let there : case_begin text graph + first_entry text graph k + entry
-        ≡ case_begin text graph + (first_entry text graph k + entry) = omega arith in
-        ap (slice_get all) there ∙ get_first before_foreign _ (case_begin text graph + (first_entry text graph k + entry)) _
-        (get_behind (images ++ ways ++ landings ++ flat_map its_pieces opens) (flat_map its_cases opens) _
-        (first_entry text graph k + entry) _ opens_end
+        get_first before_foreign _ _ _
+        (get_past (images ++ ways ++ landings ++ flat_map its_pieces opens) (flat_map its_cases opens) _
+        (first_entry text graph k + entry) _ (omega (arith, opens_end))
         (flat_get its_cases (entries_of text graph) opens cases_sized k o e entry _
         (numbered_get (case_at text graph table o) o.targets entry word at)))
 
   pub foreign_at : slice_get all (foreign_number text graph) ≡ Some foreign
   unfolding shape_list
-  foreign_at =
-      let there : foreign_number text graph ≡ foreign_number text graph + 0 = omega arith in
-      ap (slice_get all) there ∙ get_behind before_foreign (foreign ∷ []) _ 0 _ cases_end refl
+  foreign_at = get_past before_foreign (foreign ∷ []) _ 0 _ (omega (arith, cases_end)) refl
 
 -- an edge that is no landing is among those that have ways
 pub own_at : (b : Blocks) (opens : List Open) (number : ℕ) (edge : Edge) → slice_get (edges_in b opens) number

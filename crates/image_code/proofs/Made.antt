@@ -1,5 +1,5 @@
 -- The pieces that are made are images.
-use Rattle.image_code.proofs.Common.{◌≡◌, ℕ, Bool, true, false, Option, Some, None, refl, ap, sym, ◌∙◌, slice_index, word_at, Op2, Instr, decode_of, Slot, NoSlot, State, is_transfer, Blocks, blocks_of, Node, Block, Landed, X, jumps_in, has_cases, Point, MatchesBy, block}
+use Rattle.image_code.proofs.Common.{◌≡◌, false≢true, ℕ, Bool, true, false, Option, Some, None, refl, ap, sym, ◌∙◌, slice_index, word_at, Op2, Instr, decode_of, Slot, NoSlot, State, is_transfer, Blocks, blocks_of, Node, Block, jumps_in, has_cases, Point, MatchesBy, block}
 use Rattle.v8_decode.specs.declared.Instr.TheVariants as i
 use Rattle.image_code.specs.Simulates.{Chooses, MatchesIn, does_at, graph_in}
 use Rattle.image_code.proofs.Points.{AtVisitIn}
@@ -17,7 +17,7 @@ use Rattle.image_code.proofs.SavedLoads.{entered_so}
 use Rattle.image_code.proofs.Opened.{cased}
 use Rattle.image_code.proofs.PlainWords.{plain_is}
 use Rattle.image_code.proofs.SlotCopies.{copy_case}
-use Rattle.image_code.proofs.Visited.{AtWord, InSlot, PlacedEdit, site, slotted, at_word}
+use Rattle.image_code.proofs.Visited.{AtWord, PlacedEdit, site, slotted, at_word}
 
 -- ---- at a word, outside a slot
 
@@ -36,19 +36,13 @@ module _ (visit : AtWord) (t : State) (live : t.ending ≡ None)
       choice (choice_case visit t
       rd rs1 op2 says chooses found.0 found.1 found.3 found.2 (ap (jumps_in g.switches) found.4 ∙ e)
       (same ∙ ap block (sym found.4)))
-  jump_case rd rs1 op2 says (Landed k) same true e = absurd (cc)
-  jump_case rd rs1 op2 says X same true e = absurd (cc)
+  jump_case rd rs1 op2 says _ same true e = absurd (false≢true e)
 
   by_instr : (instr : Instr) → decode_of (slice_index g.text.words visit.word) ≡ instr → IsCase (site edit) node x t
   by_instr (i.Branch cond annul disp) says = branch_case visit cond annul disp says t live
   by_instr (i.Call disp) says = call (call_is visit t disp says live)
   by_instr (i.Jmpl rd rs1 op2) says = jump_case rd rs1 op2 says node refl (has_cases g.switches node) refl
   by_instr instr says = plain (plain_is visit t (ap is_transfer says))
-
-slot_case : (in_slot : InSlot) (t : State) → AtVisitIn (site in_slot.edit) in_slot.node in_slot.x t → (o : Option ℕ)
-    → word_at in_slot.edit.g.text in_slot.x.pc ≡ o → IsCase (site in_slot.edit) in_slot.node in_slot.x t
-slot_case in_slot t here None e = off (off_is in_slot e)
-slot_case in_slot t here (Some slot) e = copy_case (record { in_slot = in_slot; slot = slot; at = e }) t here
 
 module _ (edit : PlacedEdit) where
   open edit use {g}
@@ -67,26 +61,14 @@ module _ (edit : PlacedEdit) where
       by NoSlot none m0 None e = foreign (foreign_is edit node x none e m0.0 open_there)
       by NoSlot none m0 (Some word) e =
           by_instr (at_word edit node x word e none m0.0 m.1 m0.1) t here.live chooses (decode_of (slice_index g.text.words word)) refl
-      by s some m0 o e =
-          slot_case (slotted edit node x s some (λ q. absurd (cc)) m0) t here o e
+      by s some m0 None e = off (off_is (slotted edit node x s some (λ q. absurd (cc)) m0) e)
+      by s some m0 (Some slot) e =
+          copy_case (record { in_slot = slotted edit node x s some (λ q. absurd (cc)) m0; slot = slot; at = e }) t here
 
 pub pieces_make_images : PiecesMakeImages
 pieces_make_images g codes base p place f text graph known placed tables cases below noted =
     let is : IsKnown g = record { text = text; cased = cased g text graph; known = known } in
-    let edit : PlacedEdit = record {
-      g = g;
-      codes = codes;
-      base = base;
-      p = p;
-      place = place;
-      f = f;
-      is = is;
-      placed = placed;
-      tables = tables;
-      cases = cases;
-      below = below;
-      noted = noted;
-    } in
+    let edit : PlacedEdit = search in
     simulate (site edit) (record {
       visits = visits edit;
       cases = λ node x t m clear here _ chooses. case edit node x t m clear here chooses;

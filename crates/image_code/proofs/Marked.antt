@@ -6,7 +6,7 @@ use Rattle.image_code.specs.Simulates.{IsOnWay, IsThere, number_in}
 use Rattle.image_code.specs.Store.{cells_in}
 use Rattle.image_code.proofs.Points.{Site, Visit}
 use Rattle.image_code.proofs.PointShapes.{IsMarked, visits_it}
-use Rattle.image_code.proofs.Between.{at_range, on_range, there_in}
+use Rattle.image_code.proofs.Between.{IsInRange, at_range, on_range, there_in}
 use Rattle.image_code.proofs.Cells.{cells_above, page_above}
 use Rattle.image_code.proofs.Positions.{get_first, get_second}
 use Rattle.image_code.proofs.Routes.{AreUnmarked, head_unmarked, items_at, length_words, shape_within, words_laid, words_on}
@@ -110,40 +110,29 @@ module _ (visit : Visit) (head : Addr → ℕ → Head) (edges : List ℕ) (exit
         ∙ ap (range_of (place c.piece)) (open_item n low)
   ]
 
-  -- at its first items
+  -- the addresses of its first items
+  in_mark : (n : ℕ) → n ≤ length inside → (a : ℕ) → t.pc ≤ a → a < place c.piece (suc n) → IsInRange site range a
+  in_mark n few a from below = record {
+    above = omega (arith, at_first, from, (lies 1 (omega arith)).begins);
+    below = omega (arith, below, (lies (suc n) (omega (arith, few))).ends);
+    is = in_range n few a (omega (arith, at_first, from)) below;
+  }
+
   pub visits_first : (n : ℕ) → n ≤ length inside → t.pc < place c.piece (suc n) → visits_it g node x t
   visits_first n few some =
-      let at = at_first in
-      let begins = (lies 1 (omega arith)).begins in
-      let ends = (lies (suc n) (omega (arith, few))).ends in
-      at_range site node x t range here.live (omega arith) (omega (arith, some))
-      (in_range n few t.pc (omega arith) some) (sym at) refl c.original
-
-  -- an address of its
-  record IsInMark (a : ℕ) : Type 0 where
-    above : base ≤ a
-    below : a < base + 4 * length p.code
-    range_is : range_in p.ranges a ≡ Some range
-
-  in_mark : (a : ℕ) → t.pc ≤ a → a < place c.piece last → IsInMark a
-  in_mark a from below = record {
-    above = omega (arith, at_first, from, (lies 1 (omega arith)).begins);
-    below = omega (arith, below, (lies last (omega arith)).ends);
-    range_is = in_range (length inside) (omega arith) a (omega (arith, at_first, from)) below;
-  }
+      at_range site node x t range here.live (in_mark n few t.pc (omega arith) some) (sym at_first) refl c.original
 
   pub on_mark : (u : State) → t.pc < u.pc → u.pc < place c.piece last → cells_in g.notes u ≡ cells_in g.notes t
       → u.ending ≡ None → IsOnWay g t u
   on_mark u past before same live =
-      let first = in_mark t.pc (omega arith) (omega (arith, past, before)) in
-      let there = in_mark u.pc (omega (arith, past)) before in
-      on_range site t u range live first.above past there.below first.range_is there.range_is (sym at_first) same
+      let all = in_mark (length inside) (omega arith) in
+      on_range site t u range live past (all t.pc (omega arith) (omega (arith, past, before)))
+      (all u.pc (omega (arith, past)) before) (sym at_first) same
 
   there_mark : (u : State) → t.pc ≤ u.pc → u.pc < place c.piece last → IsThere g t u
   there_mark u from below =
-      let first = in_mark t.pc (omega arith) (omega (arith, from, below)) in
-      let there = in_mark u.pc from below in
-      there_in site t u range first.above first.below there.above there.below first.range_is there.range_is
+      let all = in_mark (length inside) (omega arith) in
+      there_in site t u range (all t.pc (omega arith) (omega (arith, from, below))) (all u.pc from below)
 
   -- ---- words
 

@@ -1,10 +1,11 @@
 -- The numbers of the pieces of open switches, and where they stand.
-use Rattle.image_code.proofs.Common.{◌≡◌, ℕ, ◌+◌, ◌-◌, ◌<◌, ◌≤◌, Bool, List, Option, Some, None, length, take, refl, sym, ◌∙◌, arith, slice_get, slice_index, slice_index_or, find, position_or_len, range_with_len, sum_by, get_or_from_slice_get, slice_get_within, Words, Blocks, last_word, size_of, Graph, Open, find_at, get_or-range_with_len, length-range_with_len}
+use Rattle.image_code.proofs.Common.{◌≡◌, ℕ, ◌+◌, ◌-◌, ◌<◌, ◌≤◌, List, Option, Some, None, length, take, refl, arith, slice_index, slice_index_or, find, range_with_len, sum_by, Words, Blocks, last_word, size_of, Graph, Open}
 use Rattle.std.proofs.lemmas.List.Sums.{sum_by_more}
 use Rattle.cfg_blocks.specs.Values.{instr_at}
 use Rattle.image_code.specs.Loads.{load_of, loads_by, or_first}
 use Rattle.image_code.specs.Lookups.{StandsInText}
 use Rattle.image_code.specs.Numbered.{entries_of, first_entry, open_begin, pieces_of}
+use Rattle.image_code.proofs.Positions.{found_within}
 
 -- a sum over the open switches, with the next one
 part_more : (f : Open → ℕ) (opens all : List Open) → opens ≡ all → (n : ℕ) (o : Open) → n < length opens
@@ -28,14 +29,6 @@ entry_more text graph opens same n o l is entry count here many =
     omega (arith, part_more (entries_of text graph) opens graph.opens same n o l is, here, many)
 
 -- ---- the load stands in the jump's block
-
-found_within : (p : ℕ → Bool) (a n word : ℕ) → find p (range_with_len a n) ≡ Some word → (a ≤ word) × (word < a + n)
-found_within p a n word e =
-    let xs = range_with_len a n in
-    let k = position_or_len p xs in
-    let at : slice_get xs k ≡ Some word = sym (find_at p xs) ∙ e in
-    let low : k < n = omega (arith, slice_get_within xs k word at, length-range_with_len a n) in
-    omega (arith, low, get_or-range_with_len a n k word low, get_or_from_slice_get xs k word word at)
 
 pub load_between : (text : Words) (o : Open) → o.approach.first ≤ o.approach.jump
     → (o.approach.first ≤ load_of text o) × (load_of text o ≤ o.approach.jump)

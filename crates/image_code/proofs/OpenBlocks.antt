@@ -1,6 +1,6 @@
 -- What is known of the graph of a text with its open switches: where their blocks lie, that no two share one, and so
 -- how many words, entries and edges there are.
-use Rattle.image_code.proofs.Common.{◌≡◌, ℕ, zero, suc, ◌+◌, ◌-◌, ◌*◌, ◌<◌, ◌≤◌, Bool, true, false, ◌&&◌, ◌==◌, cond, Option, Some, None, List, [], ◌∷◌, ◌++◌, length, length-take, map, take, refl, ap, sym, ◌∙◌, subst, arith, ◌||◌, if◌then◌else◌, slice_get, slice_index, flat_map, sum_by, option_to_list, cond_both, eq-eqb, false≢true, nat_tests, length-append, length-map, slice_get_within, sum_by-cons, Words, IsText, decode_of, is_transfer, EdgeKind, within, Blocks, below, blocks_of, end_of, holding_of, last_word, size_of, entered_of, is_jump, get_or-below, length-below, Edge, Node, same_kind, IsEdgeIn, Open, jumps_in, targets_in, Graph, edges_in, graph_of, IsCut, cut, block, copy, ends_within, some_words, Each, each, each-append, each-below, each_at, IsOpenSwitch, opens_are, All, get_or-map, take-append_seam, BlockEnd, Way, number_of, is_copied, edge_of, is_held, each-map, each-then, about}
+use Rattle.image_code.proofs.Common.{◌≡◌, ℕ, zero, suc, ◌+◌, ◌-◌, ◌*◌, ◌<◌, ◌≤◌, true, false, ◌&&◌, ◌==◌, cond, Option, Some, None, List, [], ◌∷◌, ◌++◌, length, map, refl, ap, sym, ◌∙◌, subst, arith, ◌||◌, if◌then◌else◌, slice_get, slice_index, flat_map, sum_by, option_to_list, cond_both, eq-eqb, false≢true, nat_tests, length-append, length-map, sum_by-cons, Words, IsText, decode_of, is_transfer, EdgeKind, within, Blocks, below, blocks_of, end_of, holding_of, last_word, size_of, entered_of, is_jump, get_or-below, length-below, Edge, Node, same_kind, IsEdgeIn, Open, jumps_in, targets_in, Graph, edges_in, graph_of, IsCut, cut, block, copy, ends_within, some_words, Each, each, each-append, each-below, each_at, IsOpenSwitch, opens_are, All, get_or-map, take-append_seam, BlockEnd, Way, number_of, is_copied, edge_of, is_held, each-map, each-then, about}
 use Rattle.cfg_blocks.specs.declared.BlockEnd.TheVariants as ends
 use Rattle.cfg_blocks.specs.declared.EdgeKind.TheVariants as kinds
 use Rattle.std.specs.List.{filter}
@@ -31,7 +31,7 @@ use Rattle.image_code.specs.Loads.{load_of}
 use Rattle.image_code.specs.Numbered.{or_zero, edges_but_landings}
 use Rattle.image_code.specs.Graphs.{IsGraphOf, opens_in}
 use Rattle.image_code.proofs.NumberTables.{load_between}
-use Rattle.image_code.proofs.Positions.{get_taken as taken}
+use Rattle.image_code.proofs.Positions.{get_first}
 use Rattle.image_code.proofs.OpenSums.{AreDistinct, distinct_sum}
 
 -- ---- one open switch
@@ -58,16 +58,10 @@ pub record IsSwitchIn (text : Words) (b : Blocks) (o : Open) : Type 0 where
   pub above : slice_index b.firsts o.block ≤ load_of text o
   pub below : load_of text o ≤ last_word b.firsts b.words o.block
 
-untaken_is : (kind : EdgeKind) → is_untaken kind ≡ true → kind ≡ kinds.Untaken
-untaken_is kind e = grind arith
-
-taken_is : (kind : EdgeKind) → is_taken kind ≡ true → kind ≡ kinds.Taken
-taken_is kind e = grind arith
-
 -- a bound's way, by its condition
-bounded_is : (cond : ℕ) (untaken taken : Bool) → (((cond == 12) && untaken) || ((cond == 4) && taken)) ≡ true
-    → (if cond == 12 then untaken else taken) ≡ true
-bounded_is cond untaken taken e = grind (arith, nat_tests)
+bounded_is : (cond : ℕ) (kind : EdgeKind) → (((cond == 12) && is_untaken kind) || ((cond == 4) && is_taken kind)) ≡ true
+    → kind ≡ (if cond == 12 then kinds.Untaken else kinds.Taken)
+bounded_is cond kind e = grind (arith, nat_tests)
 
 module _ (text : Words) (given : List ℕ) (entry : ℕ) (is_text : IsText text) where
   abbrev its : Blocks
@@ -83,11 +77,11 @@ module _ (text : Words) (given : List ℕ) (entry : ℕ) (is_text : IsText text)
       let a = about text given entry is_text o is in
       let leads = leads_in text given o.block o.switch.compare o.way a.block_in is.parts.edge is.cond is.annul
       is.parts.target is.parts.branch in
-      let way = bounded_is is.cond (is_untaken o.way) (is_taken o.way) a.bounded in
+      let way = bounded_is is.cond o.way a.bounded in
       ap (led_by its.words (last_word its.firsts its.words o.switch.compare.0)) is.parts.branch
       ∙ cond_both (is.cond == 12) _ _ (λ (to : Option ℕ). or_zero to ≡ slice_index its.firsts o.block)
-      (λ e. ap or_zero (leads.untaken (untaken_is o.way (rw e at way))))
-      (λ e. ap or_zero (leads.taken (taken_is o.way (rw e at way))))
+      (λ e. ap or_zero (leads.untaken (rw e at way)))
+      (λ e. ap or_zero (leads.taken (rw e at way)))
 
   switch_in : (o : Open) → IsOpenSwitch text (entered_of text given) entry o → IsSwitchIn text its o
   unfolding entered_of
@@ -122,17 +116,14 @@ module _ (text : Words) (given : List ℕ) (entry : ℕ) (is_text : IsText text)
       subst (All (TargetsWithin (length text.words))) (ap (λ (list : Entered). list.blocks.ends) alike)
       (targets_within text _ _ _ _ refl refl)
 
-  words_are : its.words ≡ length text.words
-  words_are = parts.words
-
   pub is_list : IsBlockList (entered_of text given)
   unfolding entered_of
   is_list = record {
     firsts = parts.firsts;
     ends = ends_count text given;
-    targets = subst (λ (n : ℕ). All (TargetsWithin n) its.ends) (sym words_are) ends_within_text;
+    targets = subst (λ (n : ℕ). All (TargetsWithin n) its.ends) (sym parts.words) ends_within_text;
     intos = length-map (below (length its.firsts)) _ ∙ length-below (length its.firsts);
-    few = omega (arith, words_are, is_text.few);
+    few = omega (arith, parts.words, is_text.few);
   }
 
   table_of : (k : ℕ) (switch : Switch) → k < length its.firsts → switch_of text (entered_of text given) entry k
@@ -145,7 +136,7 @@ module _ (text : Words) (given : List ℕ) (entry : ℕ) (is_text : IsText text)
       f.edge f.branch f.sets in
       let some = some_words its.words its.firsts parts.firsts k l in
       let inside = ends_within its.words its.firsts parts.firsts k l in
-      table_in text switch (omega (arith, f.jump_is, words_are)) (omega (arith, s.jumps.count))
+      table_in text switch (omega (arith, f.jump_is, parts.words)) (omega (arith, s.jumps.count))
       (rw s.jumps.count s.jumps.table)
 
   tables : Each (IsTableIn text) (switches_of text (entered_of text given) entry)
@@ -163,7 +154,7 @@ module _ (text : Words) (given : List ℕ) (entry : ℕ) (is_text : IsText text)
   pub are_open : AreOpenIn its (opens_in text given entry)
   unfolding entered_of
   are_open =
-      open_in_blocks text (entered_of text given) words_are is_list (switches_of text (entered_of text given) entry)
+      open_in_blocks text (entered_of text given) parts.words is_list (switches_of text (entered_of text given) entry)
       (λ k d l. each_in (IsTableIn text) (switches_of text (entered_of text given) entry) k d tables l)
 
 -- ---- their blocks differ
@@ -247,17 +238,6 @@ sizes_all b f (suc k) e =
       ends_at_words b.words b.firsts f k (omega (arith, e)),
     )
 
-room_of : (text : Words) (b : Blocks) → AreFirsts b.words b.firsts → (opens : List Open)
-    → Each (IsSwitchIn text b) opens → AreOne opens → sum_by (words_of b) opens ≤ b.words
-room_of text b f opens are one =
-    omega (
-      arith,
-      keys_sum b opens,
-      distinct_sum (size_of b) (length b.firsts) (keys opens) (keys_apart text b opens are one)
-          (keys_low text b opens are),
-      sizes_all b f (length b.firsts) refl,
-    )
-
 -- each has a word at least
 few_of : (text : Words) (b : Blocks) → AreFirsts b.words b.firsts → (opens : List Open) → Each (IsSwitchIn text b) opens
     → length opens ≤ sum_by (words_of b) opens
@@ -271,10 +251,6 @@ few_of text b f (o ∷ opens) are =
     )
 
 -- ---- edges
-
-get_taken : {A : Type 0} (n k : ℕ) (xs : List A) (x : A) → slice_get (take n xs) k ≡ Some x → slice_get xs k ≡ Some x
-get_taken n k xs x e =
-    let low = slice_get_within (take n xs) k x e in sym (taken n k xs (omega (arith, length-take n xs))) ∙ e
 
 -- an edge that is no landing stands before the landings
 before_landings : (xs : List Edge) (nodes : List Node) (number : ℕ) (edge : Edge)
@@ -376,7 +352,7 @@ each_from P Q (x ∷ xs) f h =
     (f x (h 0 x (omega arith)), each_from P Q xs f (λ k d l. h (suc k) d (omega (arith, l))))
 
 pub text_graph : (text : Words) (graph : Graph) → IsText text → IsGraphOf text graph → IsTextGraph text graph
-unfolding entries_of
+unfolding edges_in entries_of
 text_graph text graph is_text h =
     let b = blocks_of text h.given in
     let opens = opens_in text h.given h.entry in
@@ -384,7 +360,14 @@ text_graph text graph is_text h =
     let switches = are_switches text h.given h.entry is_text in
     let are = are_open text h.given h.entry is_text in
     let words = c.words in
-    let room = room_of text b c.firsts opens switches are.one in
+    let room : sum_by (words_of b) opens ≤ b.words =
+    omega (
+      arith,
+      keys_sum b opens,
+      distinct_sum (size_of b) (length b.firsts) (keys opens) (keys_apart text b opens switches are.one)
+          (keys_low text b opens switches),
+      sizes_all b c.firsts (length b.firsts) refl,
+    ) in
     let entries : sum_by (λ (o : Open). length o.targets) (opens_in text h.given h.entry) ≤
     (blocks_of text h.given).words = are.entries in
     let own = own_few b opens are.entries c.firsts.few in
@@ -398,7 +381,8 @@ text_graph text graph is_text h =
           (λ o is. each_from (λ word. word < b.words) _ o.targets (λ word l. omega (arith, l)) is.targets) are.each;
       own_few = omega arith;
       no_landings = no_landings b opens;
-      own = λ number edge e. get_taken _ number (edges_in b opens) edge e;
+      own = λ number edge e.
+          get_first (blocks_edges b opens ++ copies_edges b opens) _ number edge (rw (own_are b opens) at e);
       before = own_before b opens;
       edges = edges_lie_in b opens c.firsts.some;
     })

@@ -1,11 +1,12 @@
 -- How many pieces there are, and that the numbers of pieces are below that.
-use Rattle.image_code.proofs.Common.{◌≡◌, ℕ, suc, ◌+◌, ◌-◌, ◌*◌, ◌<◌, ◌≤◌, ◌==◌, nat_lt, Option, Some, None, List, [], ◌∷◌, ◌++◌, length, map, take, refl, append_assoc, ap, ◌∙◌, arith, slice_get, slice_index, position, sum_by, cond_both, eqb-true, length-append, position-Some, get_or_from_slice_get, slice_get_within, Words, Node, Block, Landed, X, Open, Graph, lands, IsNodeIn, IsIn, ends_within, in_held, some_words, Each, each, each-append, each_at, lands_as, Op, take-length, each-map}
+use Rattle.image_code.proofs.Common.{position_or_len, ltb-true, ◌≡◌, ℕ, suc, ◌+◌, ◌-◌, ◌*◌, ◌<◌, ◌≤◌, ◌==◌, nat_lt, Option, Some, None, List, [], ◌∷◌, ◌++◌, length, map, take, refl, append_assoc, ap, ◌∙◌, arith, slice_get, slice_index, position, sum_by, cond_both, eqb-true, length-append, position-Some, get_or_from_slice_get, slice_get_within, Words, Node, Block, Landed, X, Open, Graph, lands, IsNodeIn, IsIn, ends_within, in_held, some_words, Each, each-append, each_at, lands_as, Op, take-length, each-map}
 use Rattle.std.proofs.lemmas.List.Sums.{sum_by_more_le}
 use Rattle.cfg_blocks.specs.Blocks.{size_of as block_size}
 use Rattle.image_code.specs.Loads.{load_of}
 use Rattle.image_code.specs.Numbered.{at_open, by_open, case_numbers, case_piece, cases_of, compare_image, compare_number, enter_number, entries_of, foreign_number, jump_enter, jump_image, landing_number, open_begin, or_zero, edges_but_landings, pieces_of, place_in}
 use Rattle.image_code.specs.Made.{first_word, lands_at}
 use Rattle.image_code.proofs.OpenBlocks.{IsTextGraph}
+use Rattle.image_code.proofs.Positions.{get_past}
 
 -- ---- sums over the first of some
 
@@ -17,10 +18,6 @@ at_most f xs j x e =
       sum_by_more_le f xs j x (slice_get_within xs j x e),
       ap f (get_or_from_slice_get xs j x x e),
     )
-
-get_behind : {A : Type 0} (xs : List A) (y : A) (ys : List A) → slice_get (xs ++ y ∷ ys) (length xs) ≡ Some y
-get_behind [] y ys = refl
-get_behind (x ∷ xs) y ys = get_behind xs y ys
 
 pub each_index : {A : Type 0} (P : A → Type 0) (xs : List A) → ((k : ℕ) (x : A) → slice_get xs k ≡ Some x → P x)
     → Each P xs
@@ -43,16 +40,9 @@ module _ (text : Words) (graph : Graph) (g : IsTextGraph text graph) where
 
   pub first_word_of : (node : Node) → IsNodeIn graph.blocks graph.opens node → IsWordOf graph node
       (first_word graph node)
-  first_word_of (Block k) l = record {
-    within = l;
-    above = omega arith;
-    below = some_words graph.blocks.words graph.blocks.firsts g.cut.firsts k.0 l;
-  }
-  first_word_of (Landed k) l = record {
-    within = l.0;
-    above = omega arith;
-    below = some_words graph.blocks.words graph.blocks.firsts g.cut.firsts k.0 l.0;
-  }
+  first_word_of (Block k) l = omega (arith, l, some_words graph.blocks.words graph.blocks.firsts g.cut.firsts k.0 l)
+  first_word_of (Landed k) l =
+      omega (arith, l.0, some_words graph.blocks.words graph.blocks.firsts g.cut.firsts k.0 l.0)
   first_word_of X l = tt
 
   -- ---- which numbers are low
@@ -60,8 +50,7 @@ module _ (text : Words) (graph : Graph) (g : IsTextGraph text graph) where
   open_below : (k : ℕ) (o : Open) → slice_get graph.opens k ≡ Some o
       → open_begin text graph k + pieces_of text graph o ≤ foreign_number text graph
   open_below k o e =
-      let some = at_most (pieces_of text graph) graph.opens k o e in
-      rw (take-length graph.opens) (omega arith)
+      rw (take-length graph.opens) (omega (arith, at_most (pieces_of text graph) graph.opens k o e))
 
   word_below : (node : ℕ) (word : ℕ) → IsIn graph.blocks.words graph.blocks.firsts word node
       → word < foreign_number text graph
@@ -126,33 +115,26 @@ module _ (text : Words) (graph : Graph) (g : IsTextGraph text graph) where
   -- ---- Case edges
 
   place_below : (targets : List ℕ) (word : ℕ) → 1 ≤ length targets → place_in text graph targets word < length targets
-  place_below targets word some = by (position (λ t. t == word) targets) refl
-    where
-      by : (x : Option ℕ) → position (λ t. t == word) targets ≡ x → or_zero x < length targets
-      by None e = some
-      by (Some n) e = (position-Some (λ t. t == word) targets n 0 e).0
+  place_below targets word some =
+      cond_both (nat_lt (position_or_len (λ t. t == word) targets) (length targets)) (Some _) None
+      (λ (x : Option ℕ). or_zero x < length targets) (ltb-true _ _) (λ _. some)
 
   case_below : (k : ℕ) (o : Open) (word : ℕ) → slice_get graph.opens k ≡ Some o → 1 ≤ length o.targets
       → case_piece text graph k o word < foreign_number text graph
   case_below k o word e some =
-      let among = at_most (entries_of text graph) graph.opens k o e in
-      rw (take-length graph.opens) (omega (arith, place_below o.targets word some))
-
-  each_some : (xs : List ℕ) (P : ℕ → Type 0) → (1 ≤ length xs → (x : ℕ) → P x) → Each P xs
-  each_some [] P h = tt
-  each_some (x ∷ xs) P h = each P (x ∷ xs) (h (omega arith))
+      rw (take-length graph.opens)
+      (omega (arith, place_below o.targets word some, at_most (entries_of text graph) graph.opens k o e))
 
   cases_below : (before opens : List Open) → before ++ opens ≡ graph.opens
       → Each (λ n. n < foreign_number text graph) (cases_of text graph (length before) opens)
   cases_below before [] e = tt
   cases_below before (o ∷ opens) e =
-      let here : slice_get graph.opens (length before) ≡ Some o = rw (← e) (get_behind before o opens) in
+      let here : slice_get graph.opens (length before) ≡ Some o = rw (← e) (get_past before (o ∷ opens) _ 0 o (omega arith) refl) in
       let next : length (before ++ o ∷ []) ≡ suc (length before) = omega (arith, length-append before (o ∷ [])) in
       each-append (λ n. n < foreign_number text graph) (map (case_piece text graph (length before) o) o.targets)
       (cases_of text graph (suc (length before)) opens)
-      (each-map (λ n. n < foreign_number text graph) (case_piece text graph (length before) o) o.targets
-      (each_some o.targets (λ word. case_piece text graph (length before) o word < foreign_number text graph)
-      (λ some word. case_below (length before) o word here some)))
+      (each-map _ (case_piece text graph (length before) o) o.targets (each_index _ o.targets (λ n word at.
+      case_below (length before) o word here (omega (arith, slice_get_within o.targets n word at)))))
       (rw next at (cases_below (before ++ o ∷ []) opens (append_assoc before (o ∷ []) opens ∙ e)))
 
   pub case_number_below : (entry number : ℕ) → slice_get (case_numbers text graph) entry ≡ Some number

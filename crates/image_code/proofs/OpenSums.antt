@@ -1,6 +1,6 @@
 -- Sums over lists: of sizes at numbers that differ, of how many words pass a test, and of what the edges have that are
 -- found.
-use Rattle.image_code.proofs.Common.{◌≡◌, ℕ, zero, suc, ◌+◌, ◌-◌, ◌*◌, ◌<◌, ◌≤◌, Bool, true, false, ◌==◌, nat_lt, cond, Option, Some, None, List, [], ◌∷◌, ◌++◌, append-nil, length, refl, ap, sym, ◌∙◌, arith, if◌then◌else◌, flat_map, position, position_or_len, range_with_len, sum_by, option_to_list, add-mul, cond_both, false_from_ne_true, ltb-true, nat_tests, sum_by-append, sum_by-cons, below, Edge, Each, count_by}
+use Rattle.image_code.proofs.Common.{◌≡◌, ℕ, zero, suc, ◌+◌, ◌*◌, ◌<◌, ◌≤◌, Bool, true, false, ◌&&◌, ◌==◌, not, nat_lt, and_parts, each, cond, Option, Some, None, List, [], ◌∷◌, append-nil, length, refl, ap, ◌∙◌, arith, if◌then◌else◌, flat_map, position, position_or_len, range_with_len, sum_by, option_to_list, add-mul, cond_both, false_from_ne_true, ltb-true, nat_tests, sum_by-append, sum_by-cons, below, Edge, Each, count_by}
 use Rattle.cfg_normal.proofs.GraphFacts.{total}
 
 -- ---- numbers that differ
@@ -69,45 +69,40 @@ count_one c (suc n) =
 
 -- ---- ranges
 
-pub range-append : (a m n : ℕ) → range_with_len a (m + n) ≡ range_with_len a m ++ range_with_len (a + m) n
-range-append a zero n =
-    let e : 0 + n ≡ n = omega arith in
-    let f : a + 0 ≡ a = omega arith in
-    ap (range_with_len a) e ∙ sym (ap (λ (k : ℕ). range_with_len k n) f)
-range-append a (suc m) n =
-    let e : suc m + n ≡ suc (m + n) = omega arith in
-    let f : a + 1 + m ≡ a + suc m = omega arith in
-    rw (e, range-append (a + 1) m n, f) refl
+-- all that pass but one
+abbrev but : (ℕ → Bool) → ℕ → ℕ → Bool
+but q a w = q w && not (w == a)
 
-pub below-range : (n : ℕ) → below n ≡ range_with_len 0 n
-below-range zero = refl
-below-range (suc n) =
-    let e : n + 1 ≡ suc n = omega arith in
-    let f : 0 + n ≡ n = omega arith in
-    ap (λ (ws : List ℕ). ws ++ n ∷ []) (below-range n)
-    ∙ ap (λ (k : ℕ). range_with_len 0 n ++ k ∷ []) (sym f)
-    ∙ sym (range-append 0 n 1) ∙ ap (range_with_len 0) e
-
-pub each_range : (P : ℕ → Type 0) (a n : ℕ) → ((w : ℕ) → a ≤ w → w < a + n → P w) → Each P (range_with_len a n)
-each_range P a zero each = tt
-each_range P a (suc n) each =
-    (each a (omega arith) (omega arith), each_range P (a + 1) n (λ w l m. each w (omega arith) (omega arith)))
+count_but : (q : ℕ → Bool) (a : ℕ) (xs : List ℕ)
+    → count_by q xs ≤ count_by (but q a) xs + (if q a then count_by (λ w. w == a) xs else 0)
+count_but q a [] = omega arith
+count_but q a (x ∷ xs) =
+    let rest = count_but q a xs in
+    grind (
+      arith,
+      nat_tests,
+      sum_by-cons (counts q) x xs,
+      sum_by-cons (counts (but q a)) x xs,
+      sum_by-cons (counts (λ w. w == a)) x xs,
+    )
 
 -- where only words of a range pass, those below a number are no more
-pub count_within : (q : ℕ → Bool) (n a s : ℕ) → a + s ≤ n
-    → ((w : ℕ) → q w ≡ true → (a ≤ w) × (w < a + s))
+pub count_within : (q : ℕ → Bool) (n a s : ℕ) → ((w : ℕ) → q w ≡ true → (a ≤ w) × (w < a + s))
     → count_by q (below n) ≤ count_by q (range_with_len a s)
-count_within q n a s l only =
-    let whole : n ≡ a + (s + (n - (a + s))) = omega arith in
-    let zero_a : 0 + a ≡ a = omega arith in
-    let split : below n ≡ range_with_len 0 a ++ (range_with_len a s ++ range_with_len (a + s) (n - (a + s))) =
-    below-range n ∙ ap (range_with_len 0) whole ∙ rw (range-append 0 a, zero_a, range-append a s) refl in
-    let early = count_none q (range_with_len 0 a)
-    (each_range _ 0 a (λ w m k. false_from_ne_true _ (λ e. absurd (omega (arith, (only w e).0))))) in
-    let late = count_none q (range_with_len (a + s) (n - (a + s)))
-    (each_range _ _ _ (λ w m k. false_from_ne_true _ (λ e. absurd (omega (arith, (only w e).1))))) in
-    let two = sum_by-append (counts q) (range_with_len a s) (range_with_len (a + s) (n - (a + s))) in
-    rw split (omega (arith, sum_by-append (counts q) (range_with_len 0 a)))
+count_within q n a zero only =
+    omega (
+      arith,
+      count_none q (below n)
+          (each _ _ (λ w. false_from_ne_true _ (λ e. absurd (omega (arith, (only w e).0, (only w e).1))))),
+    )
+count_within q n a (suc s) only =
+    let rest = count_within (but q a) n (a + 1) s (λ w e.
+    let passes = and_parts (q w) (not (w == a)) e in
+    let within = only w passes.0 in
+    grind (arith, nat_tests, passes.1, within.0, within.1)) in
+    let one = (count_one a n).1 in
+    let fewer = count_le (but q a) q (range_with_len (a + 1) s) (λ w e. (and_parts _ _ e).0) in
+    grind (arith, nat_tests, count_but q a (below n), sum_by-cons (counts q) a (range_with_len (a + 1) s))
 
 -- ---- the words of edges that are found: p says which edges may be found for an item
 

@@ -8,14 +8,14 @@ use Rattle.cfg_walk.proofs.Addresses.{next_address}
 use Rattle.cfg_walk.proofs.Holding.{Leads, is_last}
 use Rattle.image_code.specs.Simulates.{does_at, gone_at, graph_in}
 use Rattle.image_code.proofs.Points.{entered_at}
-use Rattle.image_code.proofs.PointShapes.{IsJumpTarget, IsPlain, Reaches}
+use Rattle.image_code.proofs.PointShapes.{IsPlain, Reaches}
 use Rattle.image_code.specs.Made.{is_slots, jumps_at, next_at, next_to, visit_of}
-use Rattle.image_code.specs.Numbered.{enter_number, image_number, node_in_order}
+use Rattle.image_code.specs.Numbered.{compare_image, enter_number, image_number, node_in_order}
 use Rattle.image_code.proofs.Branches.{image_straight, within_some}
 use Rattle.image_code.proofs.Following.{compare_apart, compare_inner, held_next, inner_edges, jump_apart, jump_inner, next_in_order, next_low, some_edge}
 use Rattle.image_code.proofs.ImageNumbers.{HasImage, at_compare, at_jump, enters_in_order, in_order}
-use Rattle.image_code.proofs.ImagePieces.{compare_next, enter_at, jump_next}
-use Rattle.image_code.proofs.Listed.{order_at}
+use Rattle.image_code.proofs.ImagePieces.{enter_at}
+use Rattle.image_code.proofs.Listed.{enter_next, order_at}
 use Rattle.image_code.proofs.Routes.{shape_within}
 use Rattle.image_code.proofs.Visited.{AtWord, at_image, goes_straight, site, entered_none, entered_word, image_shape, l, left_gone, shapes, word_is}
 
@@ -47,6 +47,9 @@ module _ (visit : AtWord) (t : State) (straight : is_transfer (decode_of (slice_
   abbrev number : ℕ
   number = image_number g.text (graph_in g) node word
 
+  next : word + 1 ≡ suc word
+  next = omega arith
+
   abbrev exit : Exit
   exit = next_at g.text (graph_in g) node word
 
@@ -58,139 +61,128 @@ module _ (visit : AtWord) (t : State) (straight : is_transfer (decode_of (slice_
       (visit_of g.text (graph_in g) node word) node word instr straight)
 
   -- where the step leads
-  record Goes (v : State) : Type 0 where
-    pc : v.pc ≡ x.npc
-    slot : v.slot ≡ NoSlot
+  module _ (v : State) (does : does_at g x t ≡ v) (live : v.ending ≡ None) where
+    went : (v.pc ≡ x.npc) × (v.slot ≡ NoSlot)
+    went =
+        rw (← does)
+        (goes_straight g x t (slice_index g.text.words word) (word_is g x word at) straight (rw does live))
+
     completes : gone_at g node x v ≡ edges
+    completes = left_gone g node x v none went.1 live word at instr refl
+
     reaches : word_at g.text v.pc ≡ within (length g.text.words) (word + 1)
+    reaches =
+        ap (word_at g.text) (went.0 ∙ npc)
+        ∙ next_word g.text x.pc word is.text (word_at-some g.text x.pc word at)
 
-  step_goes : (v : State) → does_at g x t ≡ v → v.ending ≡ None → Goes v
-  step_goes v e live =
-      let went = goes_straight g x t (slice_index g.text.words word) (word_is g x word at) straight
-      (ap (λ (z : State). z.ending) e ∙ live) in
-      let pc : v.pc ≡ x.npc = rw (← e) went.0 in
-      let slot : v.slot ≡ NoSlot = rw (← e) went.1 in
-      record {
-        pc = pc;
-        slot = slot;
-        completes = left_gone g node x v none slot live word at instr refl;
-        reaches = ap (word_at g.text) (pc ∙ npc) ∙ next_word g.text x.pc word is.text
-            (word_at-some g.text x.pc word at);
-      }
+    -- so the piece's exit leads there, and without an edge only behind the piece
+    abbrev LeadsOut : Exit → Type 0
+    LeadsOut exit =
+        Reaches (site edit) number exit (word_at g.text v.pc)
+        (entered_at (site edit) (node_after (graph_in g) node edges) (point_of v))
+        × (word_at g.text v.pc ≢ None → edges ≡ [] → exit ≡ exits.Behind)
 
-  -- so the piece's exit leads there, and without an edge only behind the piece
-  abbrev LeadsOut : Exit → State → Type 0
-  LeadsOut exit v =
-      Reaches (site edit) number exit (word_at g.text v.pc)
-      (entered_at (site edit) (node_after (graph_in g) node edges) (point_of v))
-      × (word_at g.text v.pc ≢ None → edges ≡ [] → exit ≡ exits.Behind)
+    -- ---- in the order of the text
 
-  -- ---- in the order of the text
+    module _ (same : node ≡ node_in_order (graph_in g) word) (is_number : number ≡ word) where
+      ordered : exit ≡ next_to g.text word
+      ordered = rw (← same, same_itself node) refl
 
-  module _ (same : node ≡ node_in_order (graph_in g) word) (is_number : number ≡ word) where
-    ordered : exit ≡ next_to g.text word
-    ordered = rw (← same, same_itself node) refl
+      -- a slot's word ends its block
+      slot_ends : is_slots g.text word ≡ true → edges ≢ []
+      slot_ends slots =
+          let before = decode_of (slice_index g.text.words (word - 1)) in
+          let two = and_parts (nat_lt 0 word) (is_transfer (decode_of (slice_index g.text.words (word - 1)))) slots in
+          let some : 0 < word = ltb-true 0 word two.0 in
+          let transfer : ends_block_after (end_at g.text (word - 1)) ≡ true =
+          ap ends_block_after (end_is g.text (word - 1) before refl) ∙ transfer_end g.text (word - 1) before two.1 in
+          let next : word - 1 + 2 ≡ suc word = omega (arith, some) in
+          let last = is_last b.words b.firsts cut.firsts word (holding_of b word)
+          (is_in g.text b g.switches cut word low)
+          (λ more. subst (λ (n : ℕ). Leads b.firsts n) next
+          (cut.second (word - 1) transfer (omega (arith, cut.words)))) in
+          some_edge visit straight last
 
-    -- a slot's word ends its block
-    slot_ends : is_slots g.text word ≡ true → edges ≢ []
-    slot_ends slots =
-        let before = decode_of (slice_index g.text.words (word - 1)) in
-        let two = and_parts (nat_lt 0 word) (is_transfer (decode_of (slice_index g.text.words (word - 1)))) slots in
-        let some : 0 < word = ltb-true 0 word two.0 in
-        let transfer : ends_block_after (end_at g.text (word - 1)) ≡ true =
-        ap ends_block_after (end_is g.text (word - 1) before refl) ∙ transfer_end g.text (word - 1) before two.1 in
-        let next : word - 1 + 2 ≡ suc word = omega (arith, some) in
-        let last = is_last b.words b.firsts cut.firsts word (holding_of b word) (is_in g.text b g.switches cut word low)
-        (λ more. subst (λ (n : ℕ). Leads b.firsts n) next (cut.second (word - 1) transfer (omega (arith, cut.words)))) in
-        some_edge g is node word low home there straight last
+      after : word + 1 < length g.text.words → suc number < length (l edit).list
+      after more =
+          shape_within (site edit) (suc number) _
+          (ap (slice_get (shapes edit)) (let e : suc number ≡ word + 1 = omega (arith, is_number) in e)
+          ∙ order_at g.text b g.switches is.cased f.table.base f.cases.base (word + 1) more)
 
-    after : word + 1 < length g.text.words → suc number < length (l edit).list
-    after more =
-        shape_within (site edit) (suc number) _
-        (ap (slice_get (shapes edit)) (let e : suc number ≡ word + 1 = omega (arith, is_number) in e)
-        ∙ order_at g.text b g.switches is.cased f.table.base f.cases.base (word + 1) more)
+      order_goes : LeadsOut exit
+      order_goes = rw ordered (by (word_at g.text v.pc) refl)
+        where
+          goal : Node
+          goal = node_after (graph_in g) node edges
 
-    end_far : IsJumpTarget (address_of g.text (length g.text.words))
-    end_far = (omega (arith, is.text.aligned), omega (arith, is.text.below))
+          by : (o : Option ℕ) → word_at g.text v.pc ≡ o → LeadsOut (next_to g.text word)
+          by None none_there =
+              let last = last_one (word + 1) (length g.text.words) (sym reaches ∙ none_there) in
+              let end : word + 1 ≡ length g.text.words = omega (arith, inside) in
+              let pc : v.pc ≡ address_of g.text (length g.text.words) =
+              went.0 ∙ npc ∙ ap (λ (a : ℕ). (a + 4) % 2 ^ 32) (word_at-some g.text x.pc word at).is
+              ∙ next_address g.text word is.text inside ∙ ap (address_of g.text) end in
+              rw (le-ltb _ _ last, entered_none edit goal (point_of v) none_there went.1) (
+                (none_there, rw pc (omega (arith, is.text.aligned), omega (arith, is.text.below)), sym pc),
+                λ there. absurd (there none_there),
+              )
+          by (Some other) some =
+              let next = within_some (length g.text.words) (word + 1) other (sym reaches ∙ some) in
+              let on_word : word_at g.text v.pc ≡ Some (word + 1) = some ∙ ap (λ (z : ℕ). Some z) (sym next.1) in
+              let to : slice_index p.at (word + 1) ≡ entered_at (site edit) goal (point_of v) =
+              sym (entered_word edit goal (point_of v) (word + 1) on_word went.1
+              ∙ ap (λ (n : Node). slice_index p.at (enter_number g.text (graph_in g) n (word + 1)))
+              (next_in_order visit straight (omega (arith, next.0, cut.words)) same)
+              ∙ ap (slice_index p.at) (enters_in_order g.text b g.switches is.cased (word + 1))) in
+              rw (lt-ltb _ _ next.0) (elim (cases_Bool (is_slots g.text word)) as
+              (λ _. LeadsOut (if is_slots g.text word then goes_to (word + 1) else exits.Behind)) [
+                | inl slots ↦ rw slots (to, λ _ none. absurd (slot_ends slots none))
+                | inr alone ↦
+                    let next_piece : suc number ≡ word + 1 = omega (arith, is_number) in
+                    rw alone ((after next.0, ap (slice_index p.at) next_piece ∙ to), λ _ _. refl)
+              ])
 
-    order_goes : (v : State) → Goes v → LeadsOut exit v
-    order_goes v w = rw ordered (by (word_at g.text v.pc) refl)
-      where
-        goal : Node
-        goal = node_after (graph_in g) node edges
+    -- ---- apart from it: within its block a word goes on to the next
 
-        by : (o : Option ℕ) → word_at g.text v.pc ≡ o → LeadsOut (next_to g.text word) v
-        by None none_there =
-            let last = last_one (word + 1) (length g.text.words) (sym w.reaches ∙ none_there) in
-            let end : word + 1 ≡ length g.text.words = omega (arith, inside) in
-            let pc : v.pc ≡ address_of g.text (length g.text.words) =
-            w.pc ∙ npc ∙ ap (λ (a : ℕ). (a + 4) % 2 ^ 32) (word_at-some g.text x.pc word at).is
-            ∙ next_address g.text word is.text inside ∙ ap (address_of g.text) end in
-            rw (le-ltb _ _ last, entered_none edit goal (point_of v) none_there w.slot)
-            ((none_there, subst IsJumpTarget (sym pc) end_far, sym pc), λ there. absurd (there none_there))
-        by (Some other) some =
-            let next = within_some (length g.text.words) (word + 1) other (sym w.reaches ∙ some) in
-            let on_word : word_at g.text v.pc ≡ Some (word + 1) = some ∙ ap (λ (z : ℕ). Some z) (sym next.1) in
-            let to : slice_index p.at (word + 1) ≡ entered_at (site edit) goal (point_of v) =
-            sym (entered_word edit goal (point_of v) (word + 1) on_word w.slot
-            ∙ ap (λ (n : Node). slice_index p.at (enter_number g.text (graph_in g) n (word + 1)))
-            (next_in_order g is node word low home there straight (omega (arith, next.0, cut.words)) same)
-            ∙ ap (slice_index p.at) (enters_in_order g.text b g.switches is.cased (word + 1))) in
-            rw (lt-ltb _ _ next.0) (elim (cases_Bool (is_slots g.text word)) as
-            (λ _. LeadsOut (if is_slots g.text word then goes_to (word + 1) else exits.Behind) v) [
-              | inl slots ↦ rw slots (to, λ _ none. absurd (slot_ends slots none))
-              | inr alone ↦
-                  let next_piece : suc number ≡ word + 1 = omega (arith, is_number) in
-                  rw alone ((after next.0, ap (slice_index p.at) next_piece ∙ to), λ _ _. refl)
-            ])
+    module _ (inner : word ≡ last_word b.firsts b.words (holding_of b word) → ⊥)
+        (apart : same_node node (node_in_order (graph_in g) word) ≡ false)
+        (follows : enter_number g.text (graph_in g) node (word + 1) ≡ suc number)
+        (next_has : HasImage g.text b g.switches node (word + 1)) where
+      more : word + 1 < length g.text.words
+      more = omega (arith, next_low visit straight inner, cut.words)
 
-  -- ---- apart from it: within its block a word goes on to the next
+      apart_goes : LeadsOut exit
+      apart_goes =
+          let on_word = rw (lt-ltb _ _ more) at reaches in
+          let next = enter_at g is f.table.base f.cases.base node (word + 1) more next_has in
+          rw apart (
+            (
+              shape_within (site edit) (suc number) _ (ap (slice_get (shapes edit)) (sym follows) ∙ next.1),
+              ap (slice_index p.at) (sym follows)
+                  ∙ ap (λ (n : Node). slice_index p.at (enter_number g.text (graph_in g) n (word + 1)))
+                  (sym (ap (node_after (graph_in g) node) (inner_edges visit straight inner)))
+                  ∙ sym (entered_word edit (node_after (graph_in g) node edges) (point_of v)
+                  (word + 1) on_word went.1),
+            ),
+            λ _ _. refl,
+          )
 
-  module _ (inner : word ≡ last_word b.firsts b.words (holding_of b word) → ⊥)
-      (apart : same_node node (node_in_order (graph_in g) word) ≡ false)
-      (follows : enter_number g.text (graph_in g) node (word + 1) ≡ suc number)
-      (next_has : HasImage g.text b g.switches node (word + 1)) where
-    nothing : edges ≡ []
-    nothing = inner_edges g is node word low home there straight inner
-
-    more : word + 1 < length g.text.words
-    more = omega (arith, next_low g is node word low home there straight inner, cut.words)
-
-    alone : exit ≡ exits.Behind
-    alone = rw apart refl
-
-    apart_goes : (v : State) → Goes v → LeadsOut exit v
-    apart_goes v w =
-        let on_word = rw (lt-ltb _ _ more) at w.reaches in
-        let next = enter_at g is f.table.base f.cases.base node (word + 1) more next_has in
-        rw alone (
-          (
-            shape_within (site edit) (suc number) _ (ap (slice_get (shapes edit)) (sym follows) ∙ next.1),
-            ap (slice_index p.at) (sym follows)
-                ∙ ap (λ (n : Node). slice_index p.at (enter_number g.text (graph_in g) n (word + 1)))
-                (sym (ap (node_after (graph_in g) node) nothing))
-                ∙ sym (entered_word edit (node_after (graph_in g) node edges) (point_of v)
-                (word + 1) on_word w.slot),
-          ),
-          λ _ _. refl,
-        )
-
-  by_image : HasImage g.text b g.switches node word → (v : State) → Goes v → LeadsOut exit v
-  by_image (in_order same is_number enter) v w = order_goes same is_number v w
-  by_image (at_jump k o numbered e here block_is) v w =
-      let inner = jump_inner g is node word low home there straight k o e block_is in
-      apart_goes inner
-      (jump_apart g is node word low home there straight k o e here block_is)
-      (jump_next g is f.table.base f.cases.base k o node word numbered e here
-      (rw block_is at (is_in g.text b g.switches cut word low).above))
-      (at_jump k o numbered e here (held_next g is node word low home there straight inner ∙ block_is)) v w
-  by_image (at_compare k o numbered e here block_is) v w =
-      let inner = compare_inner g is node word low home there straight k o e block_is in
-      apart_goes inner
-      (compare_apart g is node word low home there straight k o e here block_is)
-      (compare_next g is f.table.base f.cases.base k o node word numbered e here
-      (rw block_is at (is_in g.text b g.switches cut word low).above))
-      (at_compare k o numbered e here (held_next g is node word low home there straight inner ∙ block_is)) v w
+    by_image : HasImage g.text b g.switches node word → LeadsOut exit
+    by_image (in_order same is_number enter) = order_goes same is_number
+    by_image (at_jump k o numbered e here block_is) =
+        let inner = jump_inner visit straight k o e block_is in
+        let above = rw block_is at (is_in g.text b g.switches cut word low).above in
+        apart_goes inner (jump_apart visit straight k o e here block_is)
+        (rw (next, here, numbered, e)
+        (enter_next g.text b g.switches is.cased f.table.base f.cases.base k o e word above))
+        (at_jump k o numbered e here (held_next visit straight inner ∙ block_is))
+    by_image (at_compare k o numbered e here block_is) =
+        let inner = compare_inner visit straight k o e block_is in
+        let above = rw block_is at (is_in g.text b g.switches cut word low).above in
+        let more : compare_image g.text (graph_in g) k o (suc word) ≡ suc (compare_image g.text (graph_in g) k o word) =
+        omega (arith, above) in
+        apart_goes inner (compare_apart visit straight k o e here block_is) (rw (next, here, numbered, e) more)
+        (at_compare k o numbered e here (held_next visit straight inner ∙ block_is))
 
   pub plain_is : IsPlain (site edit) node x t
   plain_is = record {
@@ -201,6 +193,6 @@ module _ (visit : AtWord) (t : State) (straight : is_transfer (decode_of (slice_
       straight = straight;
     };
     leads = λ live.
-        let w = step_goes (does_at g x t) refl live in
-        (w.completes, rw w.completes (by_image has (does_at g x t) w));
+        let gone = completes (does_at g x t) refl live in
+        (gone, rw gone (by_image (does_at g x t) refl live has));
   }

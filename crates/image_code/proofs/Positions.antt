@@ -8,10 +8,14 @@ pub use Rattle.layout.proofs.Standing.{get_first, get_rest as get_second}
 
 -- ---- lists behind others
 
+pub get_past : {A : Type 0} (xs ys : List A) (n m : ℕ) (x : A) → n ≡ length xs + m → slice_get ys m ≡ Some x
+    → slice_get (xs ++ ys) n ≡ Some x
+get_past xs ys n m x e at = rw e (get_second xs ys m ∙ at)
+
 -- behind a list of so many
 pub get_behind : {A : Type 0} (xs ys : List A) (many n : ℕ) (x : A) → length xs ≡ many → slice_get ys n ≡ Some x
     → slice_get (xs ++ ys) (many + n) ≡ Some x
-get_behind xs ys many n x e at = ap (λ (m : ℕ). slice_get (xs ++ ys) (m + n)) (sym e) ∙ get_second xs ys n ∙ at
+get_behind xs ys many n x e at = get_past xs ys (many + n) n x (omega (arith, e)) at
 
 pub get_taken : {A : Type 0} (n k : ℕ) (xs : List A) → k < n → slice_get (take n xs) k ≡ slice_get xs k
 get_taken zero k xs l = absurd (omega arith)
@@ -54,13 +58,10 @@ module _ {A B : Type 0} (f : A → List B) (size : A → ℕ) where
   abbrev pub Sized : List A → Type 0
   Sized xs = (k : ℕ) (x : A) → slice_get xs k ≡ Some x → length (f x) ≡ size x
 
-  later : (y : A) (xs : List A) → Sized (y ∷ xs) → Sized xs
-  later y xs sized k x e = sized (suc k) x e
-
   pub flat_count : (xs : List A) → Sized xs → length (flat_map f xs) ≡ sum_by size xs
   flat_count [] sized = refl
   flat_count (y ∷ xs) sized =
-      omega (arith, length-append (f y) (flat_map f xs), sized 0 y refl, flat_count xs (later y xs sized), sum_by-cons size y xs)
+      omega (arith, length-append (f y) (flat_map f xs), sized 0 y refl, flat_count xs (λ k. sized (suc k)), sum_by-cons size y xs)
 
   pub flat_get : (xs : List A) → Sized xs → (k : ℕ) (x : A) → slice_get xs k ≡ Some x → (n : ℕ) (y : B)
       → slice_get (f x) n ≡ Some y → slice_get (flat_map f xs) (sum_by size (take k xs) + n) ≡ Some y
@@ -70,11 +71,8 @@ module _ {A B : Type 0} (f : A → List B) (size : A → ℕ) where
       let here : 0 + n ≡ n = omega arith in
       get_first (f z) (flat_map f xs) (0 + n) y (rw (here, same) at)
   flat_get (z ∷ xs) sized (suc k) x e n y at =
-      let sum : sum_by size (z ∷ take k xs) ≡ size z + sum_by size (take k xs) = sum_by-cons size z (take k xs) in
-      let there : sum_by size (z ∷ take k xs) + n ≡ size z + (sum_by size (take k xs) + n) = omega (arith, sum) in
-      ap (slice_get (f z ++ flat_map f xs)) there
-      ∙ get_behind (f z) (flat_map f xs) (size z) (sum_by size (take k xs) + n) y (sized 0 z refl)
-      (flat_get xs (later z xs sized) k x e n y at)
+      get_past (f z) (flat_map f xs) _ (sum_by size (take k xs) + n) y
+      (omega (arith, sized 0 z refl, sum_by-cons size z (take k xs))) (flat_get xs (λ j. sized (suc j)) k x e n y at)
 
 -- ---- the first that passes a test
 
@@ -120,7 +118,16 @@ pub any_at : {A : Type 0} (p : A → Bool) (xs : List A) (k : ℕ) (x : A) → s
 any_at p xs k x e h =
     list_any_at p xs k x (slice_get_within xs k x e) (ap p (get_or_from_slice_get xs k x x e) ∙ h)
 
--- one that is found in a range
+-- ---- one that is found in a range
+
+pub found_within : (p : ℕ → Bool) (a n word : ℕ) → find p (range_with_len a n) ≡ Some word → (a ≤ word) × (word < a + n)
+found_within p a n word e =
+    let xs = range_with_len a n in
+    let k = position_or_len p xs in
+    let at : slice_get xs k ≡ Some word = sym (find_at p xs) ∙ e in
+    let low : k < n = omega (arith, slice_get_within xs k word at, length-range_with_len a n) in
+    omega (arith, low, get_or-range_with_len a n k word low, get_or_from_slice_get xs k word word at)
+
 pub record IsFoundIn (p : ℕ → Bool) (from count word : ℕ) : Type 0 where
   pub is : find p (range_with_len from count) ≡ Some word
   pub above : from ≤ word
@@ -134,14 +141,5 @@ found_in_range p from count n l h =
     let many = length-range_with_len from count in
     let found = placed p xs (list_any_at p xs n 0 (omega (arith, l, many))
     (ap p (get_or-range_with_len from count n 0 l) ∙ h)) in
-    let low = slice_get_within xs found.number found.item found.is in
-    let at = get_or-range_with_len from count found.number 0 (omega (arith, low, many)) in
-    let same = get_or_from_slice_get xs found.number found.item 0 found.is in (
-      found.item,
-      record {
-        is = found.first;
-        above = omega (arith, at, same);
-        below = omega (arith, at, same, low, many);
-        passes = found.passes;
-      },
-    )
+    let inside = found_within p from count found.item found.first in
+    (found.item, record { is = found.first; above = inside.0; below = inside.1; passes = found.passes })

@@ -1,11 +1,11 @@
 -- Ways through words in no place: the snippets of some edges, Jumps and long jumps.
-use Rattle.image_code.proofs.Common.{◌≡◌, ℕ, zero, suc, ◌+◌, ◌-◌, ◌*◌, ◌^◌, ◌<◌, ◌≤◌, ◌⊎◌, inl, inr, false, Option, Some, None, List, [], ◌∷◌, ◌++◌, length, map, append-nil, add-one, add-zero, zero-add, refl, ap, sym, ◌∙◌, subst, arith, add_assoc, ◌≢◌, slice_get, slice_index, flat_map, option_map, cases_lt, length-append, length-map, map-append, append_assoc, slice_get_within, slice_get-map, Addr, PieceNo, Memory, code_of, fetch_from, State, register_of, run, IsValid, run-valid, count_stores, hopped, Leads, IsFirstWord, IsAmongWords, page_word, Stores, store_word, memory_word, count_add, none_then, leads_weaker, stores_there, stores_none, Op, words_at, long_jump_piece, words_of, Item, item_at, open_in, range_in, range_of, CanRun, nil_from_length, IsSilent, long_jump, CanStore, HasWords, stores_then, leads_then, kept_word, open_from, IsWordAt, Exit, Head, OfWord, Shape, bare, exit_items, head_items, items_of, mark_items, marked}
+use Rattle.image_code.proofs.Common.{Instr, IsPageWord, StandIn, Fit, words_mean, word_items, word_of, other_word_stored, ◌≡◌, ℕ, zero, suc, ◌+◌, ◌-◌, ◌*◌, ◌^◌, ◌<◌, ◌≤◌, ◌⊎◌, inl, inr, false, Option, Some, None, List, [], ◌∷◌, ◌++◌, length, map, append-nil, add-one, add-zero, zero-add, refl, ap, sym, ◌∙◌, subst, arith, add_assoc, ◌≢◌, slice_get, slice_index, flat_map, option_map, cases_lt, length-append, length-map, map-append, append_assoc, slice_get_within, slice_get-map, Addr, PieceNo, Memory, code_of, fetch_from, State, register_of, run, IsValid, run-valid, count_stores, hopped, Leads, IsFirstWord, IsAmongWords, page_word, Stores, store_word, memory_word, count_add, none_then, leads_weaker, stores_none, Op, words_at, words_of, Item, item_at, open_in, range_in, range_of, nil_from_length, IsSilent, long_jump, HasWords, stores_then, leads_then, open_from, IsWordAt, Exit, Head, OfWord, Shape, bare, exit_items, head_items, items_of, mark_items, marked}
 use Rattle.layout.specs.declared.items.Item.TheVariants as it
 use Rattle.code_runs.proofs.Leads.{leads_none, silent_none, silent_then}
+use Rattle.code_runs.specs.Hops.{Hops}
 use Rattle.code_runs.proofs.LongJump.{long_jumps_hop}
 use Rattle.snippet_code.specs.Runs.{IsAboutToRun}
 use Rattle.jump_code.proofs.Fitting.{long_jump_fits}
-use Rattle.jump_code.proofs.Laid.{words_after}
 use Rattle.layout.specs.Laid.{OpenMark, is_jump, size_of}
 use Rattle.layout.specs.Running.{HasCode}
 use Rattle.layout.proofs.Going.{stays, jumps_hop}
@@ -13,12 +13,12 @@ use Rattle.image_code.specs.Simulates.{IsOnWay}
 use Rattle.image_code.specs.Cost.{in_first_word, is_spill, spills_on}
 use Rattle.image_code.specs.Store.{cells_in, operations_on, snippet_on, updates}
 use Rattle.image_code.proofs.Points.{Forms, Site}
-use Rattle.image_code.specs.Images.{HasImages, Pieces}
-use Rattle.image_code.proofs.PointShapes.{IsJumpTarget, LeadsTo, Reaches}
+use Rattle.image_code.specs.Images.{Pieces}
+use Rattle.image_code.proofs.PointShapes.{LeadsTo, Reaches}
 use Rattle.image_code.specs.declared.shape.Exit.TheVariants as exits
-use Rattle.image_code.proofs.Between.{can_run, item_below, item_size, on_none, stores_weaker}
-use Rattle.image_code.proofs.Cells.{cell_low, cells_above, cell_stored, first_above, may_below, may_beside, may_own, operations_then, updates_same, updates_then, word_kept}
-use Rattle.image_code.proofs.Dead.{IsAlike, LastDead, NothingDead, alike_itself, alike_then, last_first, last_others, last_parted, nothing_parted}
+use Rattle.image_code.proofs.Between.{IsFit, fits, item_below, item_size, on_none, stores_weaker}
+use Rattle.image_code.proofs.Cells.{cell_low, cells_above, cell_stored, own_stored, page_above, page_there, may_below, may_beside, may_own, operations_then, updates_same, updates_then, word_kept}
+use Rattle.image_code.proofs.Dead.{IsAlike, LastDead, NothingDead, alike_same, alike_then, last_first, last_others, last_parted, nothing_parted}
 use Rattle.image_code.proofs.Memories.{images_stored}
 use Rattle.image_code.proofs.Positions.{get_second}
 use Rattle.image_code.proofs.Shapes.{HeadIs, has_words, head_is, is_branch}
@@ -164,10 +164,16 @@ module _ (site : Site) where
   pub bare_on : (t u : State) → u.ending ≡ None → IsInNoPlace u → IsOnWay g t u
   bare_on t u live bare = on_none site t u live bare.0 bare.1 bare.2
 
-  -- A way through such words and the snippets of some edges: all stays as it was but what is dead behind these and
-  -- words of the editor's, and in them the cells are updated, and the target that waits in word 1 of the page stays.
   -- Where the original goes on at a word of the text, it is known what the way stores, and that it takes a word for
   -- each four of its bound where nothing is long.
+  pub record IsTold (edges : List ℕ) (a : State) (most count : ℕ) (m : Memory) : Type 0 where
+    pub found : memory_word m (page_word 7) ≡ memory_word a.memory (page_word 7)
+    pub spares : count_stores (is_spill g.notes) a count ≤ spills_on g.snips g.dead edges
+    pub leaves_first : Forms site → count_stores in_first_word a count ≡ 0
+    pub brief : Forms site → 4 * count ≤ most + 88 * operations_on g.snips edges
+
+  -- A way through such words and the snippets of some edges: all stays as it was but what is dead behind these and
+  -- words of the editor's, and in them the cells are updated, and the target that waits in word 1 of the page stays.
   pub record FollowsRoute (next : Option ℕ) (edges : List ℕ) (a : State) (to most : ℕ) : Type 0 where
     pub count : ℕ
     pub other : State
@@ -177,98 +183,65 @@ module _ (site : Site) where
     pub silent : IsSilent a count
     pub stores : Stores (IsAmongWords f.stored) a.memory memory
     pub target_in_page : memory_word memory (page_word 1) ≡ memory_word a.memory (page_word 1)
-    pub found : next ≢ None → memory_word memory (page_word 7) ≡ memory_word a.memory (page_word 7)
     pub cells : LastDead g edges → words_at g.notes.base g.notes.cells memory ≡ updates g.snips edges (cells_in g.notes a) a
     pub begins : 0 < count → IsInNoPlace a
-    pub alike : IsAlike g edges a other
+    pub alike : IsAlike g edges a (hopped other to memory)
     pub still : NothingDead g edges → hopped other to memory ≡ hopped a to memory
-    pub spares : next ≢ None → count_stores (is_spill g.notes) a count ≤ spills_on g.snips g.dead edges
-    pub leaves_first : next ≢ None → Forms site → count_stores in_first_word a count ≡ 0
-    pub brief : next ≢ None → Forms site → 4 * count ≤ most + 88 * operations_on g.snips edges
-
-  -- what it takes to run on
-  pub record IsFit (a : State) : Type 0 where
-    pub valid : IsValid a
-    pub has : HasImages g base p f a.memory
-    pub runs : CanRun base p.code a
-
-  pub hopped_fit : (a b : State) (to : ℕ) → IsFit a → b.ending ≡ None → to ≤ 2 ^ 31 → (count : ℕ) (m : Memory)
-      → run a count ≡ hopped b to m → Stores (IsAmongWords f.stored) a.memory m → IsFit (hopped b to m)
-  hopped_fit a b to k live low count m steps stores =
-      let valid : IsValid (hopped b to m) = subst IsValid steps (run-valid a count k.valid) in
-      let has = images_stored site a (hopped b to m) count steps stores k.has in
-      record {
-        valid = valid;
-        has = has;
-        runs = can_run site (hopped b to m) valid live (omega arith) refl has;
-      }
+    pub told : next ≢ None → IsTold edges a most count memory
 
   -- where a way ends
-  pub arrived : {next : Option ℕ} (edges : List ℕ) (a : State) (to most : ℕ) → IsFit a → to ≤ 2 ^ 31
+  pub arrived : {next : Option ℕ} (edges : List ℕ) (a : State) (to most : ℕ) → IsFit site a → to ≤ 2 ^ 31
       → (w : FollowsRoute next edges a to most)
-      → IsFit (hopped w.other to w.memory)
+      → IsFit site (hopped w.other to w.memory)
   arrived edges a to most k low w =
-      hopped_fit a w.other to k (w.alike.ending ∙ k.runs.ready.live) low w.count w.memory w.path.steps w.stores
+      let b : State = hopped w.other to w.memory in
+      fits site b (subst IsValid w.path.steps (run-valid a w.count k.valid)) (w.alike.ending ∙ k.runs.ready.live)
+      (omega arith) refl (images_stored site a b w.count w.path.steps w.stores k.has)
 
-  -- the words of the page can be stored in
-  pub page_there : (a : State) → IsFit a → (n : ℕ) → n < 8 → CanStore a.memory (page_word n)
-  page_there a fit n few =
-      stores_there (page_word n) a.memory (fit.has.ours.words (page_word n) (placed.frame.page n (omega (arith, few))))
+  -- stores in word 0 of the page leave the others
+  first_kept : (a : State) (m : Memory) → IsFit site a → Stores IsFirstWord a.memory m → (n : ℕ) → 0 < n → n < 8
+      → memory_word m (page_word n) ≡ memory_word a.memory (page_word n)
+  first_kept a m fit stores n some few =
+      word_kept IsFirstWord (page_word n) (λ z e. inr (omega (arith, e, some))) a.memory m stores
+      (page_there site a.memory fit.has.ours n few)
 
-  -- stores in word 0 of the page
-  pub first_kept : (a : State) (m : Memory) → IsFit a → Stores IsFirstWord a.memory m
-      → Stores (IsAmongWords f.stored) a.memory m
-      × ((memory_word m (page_word 1) ≡ memory_word a.memory (page_word 1))
-      × (words_at g.notes.base g.notes.cells m ≡ cells_in g.notes a))
-  first_kept a m fit stores = (
-    stores_weaker IsFirstWord (IsAmongWords f.stored) a.memory m (λ z e. rw e placed.frame.stored.first) stores,
-    (
-      word_kept IsFirstWord (page_word 1) (λ z e. inr (omega (arith, e))) a.memory m stores
-          (page_there a fit 1 (omega arith)),
-      cells_above site IsFirstWord first_above a.memory m fit.has.ours stores,
-    ),
-  )
-
-  -- A way of stores in word 0 of the page alone, and what is known of it where the original goes on in the text.
-  record IsBrief (a : State) (most count : ℕ) : Type 0 where
-    spares : count_stores (is_spill g.notes) a count ≤ 0
-    leaves_first : Forms site → count_stores in_first_word a count ≡ 0
-    brief : Forms site → 4 * count ≤ most
-
-  -- along edges without operations
-  hops_on : {next : Option ℕ} (edges : List ℕ) → operations_on g.snips edges ≡ 0 → (a : State) (to most count : ℕ)
-      (m : Memory) → IsFit a → Stores IsFirstWord a.memory m → count ≤ most → Leads IsInNoPlace a (hopped a to m) count
-      → IsSilent a count → (0 < count → IsInNoPlace a) → (next ≢ None → IsBrief a most count) → FollowsRoute next edges a to most
-  hops_on edges none a to most count m fit stores few path silent begins brief =
-      let kept = first_kept a m fit stores in
+  -- in no place, and along edges without operations
+  hops_on : {next : Option ℕ} {May : ℕ → Type 0} (edges : List ℕ) → operations_on g.snips edges ≡ 0 → (a : State)
+      (to most count : ℕ) (m : Memory) → IsFit site a → Hops a count May to m → ((z : ℕ) → May z → IsPageWord z)
+      → memory_word m (page_word 1) ≡ memory_word a.memory (page_word 1) → count ≤ most
+      → ((u : State) → a.pc ≤ u.pc → u.pc < a.pc + 4 * count → IsInNoPlace u)
+      → (next ≢ None → IsTold edges a most count m) → FollowsRoute next edges a to most
+  hops_on edges none a to most count m fit hops in_page same few bare told =
+      let stores = stores_weaker _ IsPageWord a.memory m in_page hops.stores in
       record {
         count = count;
         other = a;
         memory = m;
         few = omega (arith, few);
-        path = path;
-        silent = silent;
-        stores = kept.0;
-        target_in_page = kept.1.0;
-        found = λ _. word_kept IsFirstWord (page_word 7) (λ z e. inr (omega (arith, e))) a.memory m stores
-            (page_there a fit 7 (omega arith));
-        cells = λ _. kept.1.1 ∙ sym (no_updates g.snips edges (cells_in g.notes a) a none);
-        begins = begins;
-        alike = alike_itself g edges a;
+        path = leads_weaker _ _ a _ count (λ u q. bare u (omega (arith, q.past)) q.before) hops.path;
+        silent = hops.silent;
+        stores = own_stored site a.memory m stores;
+        target_in_page = same;
+        cells = λ _. cells_above site IsPageWord page_above a.memory m fit.has.ours stores
+            ∙ sym (no_updates g.snips edges (cells_in g.notes a) a none);
+        begins = λ some. bare a (omega arith) (omega (arith, some));
+        alike = alike_same g edges a (hopped a to m) m refl;
         still = λ _. refl;
-        spares = λ there. omega (arith, (brief there).spares);
-        leaves_first = λ there short. (brief there).leaves_first short;
-        brief = λ there short. omega (arith, (brief there).brief short);
+        told = told;
       }
 
   -- the way has no step
   pub bare_here : {next : Option ℕ} (edges : List ℕ) (a : State) (to most : ℕ) → operations_on g.snips edges ≡ 0
-      → IsFit a → a.pc ≡ to → a.pc ≤ 2 ^ 31 → FollowsRoute next edges a to most
+      → IsFit site a → a.pc ≡ to → a.pc ≤ 2 ^ 31 → FollowsRoute next edges a to most
   bare_here edges a to most none fit e low =
-      hops_on edges none a to most 0 a.memory fit (stores_none IsFirstWord a.memory) (omega arith)
-      (rw (stays a to e fit.runs.ready.npc fit.runs.slot (omega arith)) (leads_none _ a)) (silent_none a)
-      (λ q. absurd (omega arith))
-      (λ _. record { spares = omega arith; leaves_first = λ _. refl; brief = λ _. omega arith })
+      let hops : Hops a 0 IsFirstWord to a.memory = record {
+        path = rw (stays a to e fit.runs.ready.npc fit.runs.slot (omega arith)) (leads_none _ a);
+        silent = silent_none a;
+        stores = stores_none IsFirstWord a.memory;
+      } in
+      hops_on edges none a to most 0 a.memory fit hops (λ z e. inl e) refl (omega arith)
+      (λ u from to. absurd (omega (arith, from, to)))
+      (λ _. record { found = refl; spares = omega arith; leaves_first = λ _. refl; brief = λ _. omega arith })
 
   -- an item outside each Mark
   pub bare_item : (k n : ℕ) (x : Item) → item_at l.list k n ≡ Some x → open_in (slice_get l.list k) n ≡ None
@@ -287,15 +260,16 @@ module _ (site : Site) where
   -- a Jump outside each Mark
   pub jump_on : (next : Option ℕ) (k n : ℕ) (z : PieceNo) → item_at l.list k n ≡ Some (it.Jump z)
       → open_in (slice_get l.list k) n ≡ None
-      → (a : State) → IsFit a → a.pc ≡ place k n → FollowsRoute next [] a (slice_index p.at z.0) 4
+      → (a : State) → IsFit site a → a.pc ≡ place k n → FollowsRoute next [] a (slice_index p.at z.0) 4
   jump_on next k n z item closed a fit at =
       let j = jumps_hop l.list base p place placed.laid k n z item a fit.runs at in
       let ins = j.inside in
-      let none = bare_item k n (it.Jump z) item closed in
-      hops_on [] refl a (slice_index p.at z.0) 4 j.count j.memory fit j.hops.stores (omega (arith, j.few))
-      (leads_weaker _ _ a _ j.count (λ u q. none u (omega (arith, q.past)) (omega (arith, q.before))) j.hops.path)
-      j.hops.silent (λ q. none a (omega arith) (omega arith))
+      let kept = first_kept a j.memory fit j.hops.stores in
+      hops_on [] refl a (slice_index p.at z.0) 4 j.count j.memory fit j.hops (λ z e. inl e)
+      (kept 1 (omega arith) (omega arith)) (omega (arith, j.few))
+      (λ u from to. bare_item k n (it.Jump z) item closed u (omega (arith, at, from)) (omega (arith, at, to, ins)))
       (λ _. record {
+        found = kept 7 (omega arith) (omega arith);
         spares = omega (arith, j.stored (is_spill g.notes) (inl (spill_first g.notes)));
         leaves_first = λ short. j.stored in_first_word (inr (omega (arith, short k n (it.Jump z) item, at)));
         brief = λ short. omega (arith, short k n (it.Jump z) item, at, ins);
@@ -317,7 +291,6 @@ module _ (site : Site) where
         stores = stores_then (IsAmongWords f.stored) (IsAmongWords f.stored) a.memory one.memory other.memory
             (λ z e. e) one.stores other.stores;
         target_in_page = other.target_in_page ∙ one.target_in_page;
-        found = λ there. other.found there ∙ one.found there;
         cells = λ d.
             other.cells (last_others g first others d) ∙ read_alike (last_parted g first others d)
             ∙ rw (one.cells (last_first g first others d)) (sym (updates_then g.snips first others (cells_in g.notes a) a));
@@ -327,18 +300,22 @@ module _ (site : Site) where
               let still : one.count ≡ 0 = omega arith in
               subst IsInNoPlace (sym one.path.steps ∙ ap (run a) still) (other.begins (omega arith))
         ];
-        alike = alike_then g _ first others refl a one.other other.other mid one.memory one.alike other.alike;
+        alike = alike_then g first others a b _ one.alike other.alike;
         still = λ d.
             let both = nothing_parted g first others d in
             other.still both.1 ∙ ap (λ (z : State). hopped z to other.memory) (one.still both.0);
-        spares = λ there.
+        told = λ there.
             let both = count_add (is_spill g.notes) a b one.count one.path.steps other.count in
-            omega (arith, one.spares there, other.spares there, spills_then g first others, both);
-        leaves_first = λ there short.
-            none_then in_first_word a b one.count other.count one.path.steps (one.leaves_first there short)
-            (other.leaves_first there short);
-        brief = λ there short.
-            omega (arith, one.brief there short, other.brief there short, operations_then g.snips first others);
+            let q = one.told there in
+            let r = other.told there in
+            record {
+              found = r.found ∙ q.found;
+              spares = omega (arith, q.spares, r.spares, spills_then g first others, both);
+              leaves_first = λ short.
+                  none_then in_first_word a b one.count other.count one.path.steps (q.leaves_first short)
+                  (r.leaves_first short);
+              brief = λ short. omega (arith, q.brief short, r.brief short, operations_then g.snips first others);
+            };
       })
     where
       -- the later snippets read what the earlier ones left
@@ -355,6 +332,7 @@ module _ (site : Site) where
   pub record CodeAt (m : Memory) (k n : ℕ) (ws : List ℕ) : Type 0 where
     pub words : HasWords (code_of m) (place k n) ws
     pub end : place k (n + length ws) ≡ place k n + 4 * length ws
+    pub low : place k (n + length ws) ≤ 2 ^ 31
     pub bare : (u : State) → place k n ≤ u.pc → u.pc < place k n + 4 * length ws → IsInNoPlace u
 
   word_fetched : (m : Memory) → HasCode base p.code m → (a w : ℕ) → IsWordAt base p.code a w
@@ -387,30 +365,35 @@ module _ (site : Site) where
         (omega (arith, to, ap (place k) all))
   ]
 
-  pub stood : (m : Memory) → HasCode base p.code m → (k n : ℕ) (ws : List ℕ) (xs : List Item)
-      → PieceFrom l k n (map it.Word ws ++ xs) → CodeAt m k n ws
-  stood m has k n ws xs r =
-      let laid = words_laid m has k n ws xs r.items in
-      record { words = laid.0; end = laid.1; bare = λ u from to. words_bare k n ws xs r u from (omega (arith, to, laid.1)) }
-
   -- where words end, inside the code
-  pub stood_low : (k n : ℕ) (ws : List ℕ) (xs : List Item) → PieceFrom l k n (map it.Word ws ++ xs)
+  stood_low : (k n : ℕ) (ws : List ℕ) (xs : List Item) → PieceFrom l k n (map it.Word ws ++ xs)
       → place k (n + length ws) ≤ 2 ^ 31
   stood_low k n ws xs r =
       let both = length-append (map it.Word ws) xs in
       let ends = (placed.laid.within k (n + length ws) r.within (omega (arith, r.size, both, length_words ws))).ends in
       omega (arith, ends, placed.laid.low)
 
+  pub stood : (m : Memory) → HasCode base p.code m → (k n : ℕ) (ws : List ℕ) (xs : List Item)
+      → PieceFrom l k n (map it.Word ws ++ xs) → CodeAt m k n ws
+  stood m has k n ws xs r =
+      let laid = words_laid m has k n ws xs r.items in
+      record {
+        words = laid.0;
+        end = laid.1;
+        low = stood_low k n ws xs r;
+        bare = λ u from to. words_bare k n ws xs r u from (omega (arith, to, laid.1));
+      }
+
   -- ---- the snippets of some edges
 
   snippet_runs : (next : Option ℕ) (edge k n : ℕ) (xs : List Item) → PieceFrom l k n (map it.Word (l.codes edge) ++ xs)
-      → (a : State) → IsFit a → a.pc ≡ place k n
+      → (a : State) → IsFit site a → a.pc ≡ place k n
       → FollowsRoute next (edge ∷ []) a (place k (n + length (l.codes edge))) 0
   snippet_runs next edge k n xs r a fit at =
       let words = l.codes edge in
       let there = stood a.memory fit.has.code k n words xs r in
       let end = there.end in
-      let low = stood_low k n words xs r in
+      let low = there.low in
       let short = placed.cells.short edge in
       let about : IsAboutToRun words g.notes.base (snippet_on g.snips edge) a = record {
         valid = fit.valid;
@@ -420,8 +403,7 @@ module _ (site : Site) where
         stand = subst (λ z. HasWords (code_of a.memory) z words) (sym at) there.words;
         cell = λ cell named. cell_stored site a.memory fit.has.ours cell
             (placed.cells.named edge cell named);
-        page = λ i few. stores_there (kept_word i) a.memory (fit.has.ours.words (kept_word i) (placed.frame.page (i + 2)
-            (omega (arith, few))));
+        page = λ i few. page_there site a.memory fit.has.ours (i + 2) (omega (arith, few));
       } in
       let past = placed.cells.does edge (is_spill g.notes) (λ cell named.
       spill_cell g.notes cell (placed.cells.named edge cell named)) a about in
@@ -434,37 +416,43 @@ module _ (site : Site) where
       (λ e. (omega (arith, e, again.few), omega (arith, e, past.few))) in
       let few = past.few in
       let pc = past.pc in
+      let there_is =
+      stays past.after (place k (n + length words)) (omega (arith, pc, at, end)) (omega (arith, pc, past.npc)) past.slot
+      (omega (arith, low)) in
       record {
         count = past.steps;
         other = past.after;
         memory = past.after.memory;
         few = omega (arith, few, short);
-        path = rw (stays past.after (place k (n + length words)) (omega (arith, pc, at, end)) (omega (arith, pc, past.npc))
-            past.slot (omega (arith, low)))
+        path = rw there_is
             (leads_weaker _ IsInNoPlace a past.after past.steps
             (λ u q. there.bare u (omega (arith, at, q.past)) (omega (arith, at, q.before))) past.path);
         silent = past.silent;
         stores = stores_weaker _ _ _ _ (may_own site edge) past.stores;
-        target_in_page = word_kept _ _ (may_beside site edge) _ _ past.stores (page_there a fit 1 (omega arith));
-        found = λ _. word_kept _ _ (may_below site edge) _ _ past.stores (page_there a fit 7 (omega arith));
+        target_in_page = word_kept _ _ (may_beside site edge) _ _ past.stores
+            (page_there site a.memory fit.has.ours 1 (omega arith));
         cells = λ _. past.cells g.notes.cells (placed.cells.named edge) placed.cells.low;
         begins = λ some. there.bare a (omega (arith, at)) (omega (arith, at, some, few));
-        alike = record {
+        alike = rw there_is (record {
           ending = past.live ∙ sym fit.runs.ready.live;
           window = past.window;
           valid = past.windows;
           input = past.input;
           registers = past.registers ∙ sym fit.valid.registers.count;
           items = λ item kept. past.items item kept.0;
-        };
+        });
         still = λ d. ap (λ (z : State). hopped z (place k (n + length words)) past.after.memory) (past.all d.0);
-        spares = λ _. omega (arith, past.stored);
-        leaves_first = λ _ _. rw (← same) (again.elsewhere (λ word _. first_kept_word word));
-        brief = λ _ _. omega (arith, few, short);
+        told = λ _. record {
+          found = word_kept _ _ (may_below site edge) _ _ past.stores
+              (page_there site a.memory fit.has.ours 7 (omega arith));
+          spares = omega (arith, past.stored);
+          leaves_first = λ _. rw (← same) (again.elsewhere (λ word _. first_kept_word word));
+          brief = λ _. omega (arith, few, short);
+        };
       }
 
   pub snippets_run : (next : Option ℕ) (edges : List ℕ) (k n : ℕ) (xs : List Item) → PieceFrom l k n (words_on l edges ++ xs)
-      → (a : State) → IsFit a → a.pc ≡ place k n
+      → (a : State) → IsFit site a → a.pc ≡ place k n
       → FollowsRoute next edges a (place k (n + length (flat_map l.codes edges))) 0
   snippets_run next [] k n xs r a fit at =
       rw add-zero
@@ -484,42 +472,29 @@ module _ (site : Site) where
       omega (arith, length-append first (flat_map l.codes edges)) in
       rw (← sum) (on_then (edge ∷ edges) (edge ∷ []) edges refl a mid _ 0 0 one other)
 
-  -- and then whatever comes behind them
-  pub snippets_then : (next : Option ℕ) (edges : List ℕ) (k n : ℕ) (xs : List Item)
-      → PieceFrom l k n (words_on l edges ++ xs) → (a : State)
-      → IsFit a → a.pc ≡ place k n → (others : List ℕ) (to more : ℕ)
-      → ((b : State) → IsFit b → b.pc ≡ place k (n + length (flat_map l.codes edges))
-      → PieceFrom l k (n + length (flat_map l.codes edges)) xs → FollowsRoute next others b to more)
-      → FollowsRoute next (edges ++ others) a to more
-  snippets_then next edges k n xs r a fit at others to more behind =
-      let one = snippets_run next edges k n xs r a fit at in
-      let mid = place k (n + length (flat_map l.codes edges)) in
-      let fit2 = arrived edges a mid 0 fit (stood_low k n (flat_map l.codes edges) xs r) one in
-      rw zero-add at (on_then (edges ++ others) edges others refl a mid to 0 more one
-      (behind (hopped one.other mid one.memory) fit2 refl
-      (rw (length_words (flat_map l.codes edges)) at (rest_behind l k n (words_on l edges) xs r))))
-
   -- ---- long jumps
 
-  -- a long jump to an address, outside each Mark
-  pub far_on : (next : Option ℕ) → next ≡ None → (k n to : ℕ) → IsJumpTarget to → PieceFrom l k n (long_jump_piece to) → (a : State)
-      → IsFit a → a.pc ≡ place k n → FollowsRoute next [] a to 4
-  far_on next out k n to far r a fit at =
-      let there = stood a.memory fit.has.code k n (words_of (long_jump to)) [] r in
-      let low = stood_low k n (words_of (long_jump to)) [] r in
-      let hops = long_jumps_hop to a fit.valid fit.runs.ready (omega (arith, at, there.end, low)) fit.runs.page
-      (rw at (words_after l.list base p place placed.laid a.memory fit.has.code k n (long_jump to) (long_jump_fits to far.0)
-      (λ i x e. r.items i ∙ e))) far.0 far.1 in
-      hops_on [] refl a to 4 4 (store_word a.memory (page_word 0) (register_of a 1)) fit hops.stores (omega arith)
-      (leads_weaker _ _ a _ 4 (λ u q. there.bare u (omega (arith, at, q.past)) (omega (arith, at, q.before))) hops.path)
-      hops.silent (λ q. there.bare a (omega (arith, at)) (omega (arith, at))) (λ there. absurd (there out))
+  -- Instructions outside each Mark that keep a register in another word of the page than word 1, and jump.
+  pub words_hop : {May : ℕ → Type 0} (k n to : ℕ) (xs : List Instr) → Fit xs
+      → PieceFrom l k n (word_items xs) → (a : State) → IsFit site a → a.pc ≡ place k n → 0 < length xs
+      → ((z : ℕ) → May z → IsPageWord z) → (word v : ℕ)
+      → (page_word 1 + 4 ≤ page_word word) ⊎ (page_word word + 4 ≤ page_word 1)
+      → (StandIn (code_of a.memory) a.pc xs → a.pc + 4 * length xs ≤ 2 ^ 31
+      → Hops a (length xs) May to (store_word a.memory (page_word word) v))
+      → FollowsRoute None [] a to (length xs)
+  words_hop k n to xs fits r a fit at some in_page word v other does =
+      let there = stood a.memory fit.has.code k n (words_of xs) [] (rw append-nil r) in
+      let many : length (words_of xs) ≡ length xs = length-map xs word_of in
+      let left = store_word a.memory (page_word word) v in
+      let hops =
+      does (rw at (words_mean (code_of a.memory) (place k n) xs fits there.words))
+      (omega (arith, at, many, there.end, there.low)) in
+      hops_on [] refl a to (length xs) (length xs) left fit hops in_page
+      (other_word_stored a.memory (page_word 1) (page_word word) v
+      (page_there site a.memory fit.has.ours 1 (omega arith)) other) (omega arith) (λ u from to. there.bare u (omega (arith, at, from)) (omega (arith, at, to, many)))
+      (λ there. absurd (there refl))
 
   -- ---- weaker statements
-
-  -- nothing comes after the edges' snippets
-  pub for_all : {next : Option ℕ} (edges : List ℕ) (a : State) (to most : ℕ) → FollowsRoute next (edges ++ []) a to most
-      → FollowsRoute next edges a to most
-  for_all {next} edges a to most way = subst (λ z. FollowsRoute next z a to most) (append-nil edges) way
 
   -- where of fewer ways it is asked what they store, and the bound is no lower
   unfoldable pub eased : {next after : Option ℕ} (edges : List ℕ) (a : State) (to few most : ℕ)
@@ -534,14 +509,15 @@ module _ (site : Site) where
         silent = one.silent;
         stores = one.stores;
         target_in_page = one.target_in_page;
-        found = λ there. one.found (asked there);
         cells = one.cells;
         begins = one.begins;
         alike = one.alike;
         still = one.still;
-        spares = λ there. one.spares (asked there);
-        leaves_first = λ there. one.leaves_first (asked there);
-        brief = λ there forms. let brief = one.brief (asked there) forms in omega (arith, less, brief);
+        told = λ there.
+            let q = one.told (asked there) in
+            let brief : Forms site → 4 * one.count ≤ most + 88 * operations_on g.snips edges =
+            λ short. omega (arith, less, q.brief short) in
+            assumption (brief, q);
       }
 
   abbrev pub weaker_route : {next : Option ℕ} (edges : List ℕ) (a : State) (to few most : ℕ) → few ≤ most
@@ -590,7 +566,7 @@ module _ (site : Site) where
 
   exit_runs : (k n : ℕ) (exit : Exit) → PieceFrom l k n (exit_items exit)
       → (exit ≡ exits.Behind → suc k < length l.list → place k (size_of l.list k) ≡ slice_index p.at (suc k))
-      → (a : State) (next : Option ℕ) (to : ℕ) → IsFit a → a.pc ≡ place k n → Reaches site k exit next to
+      → (a : State) (next : Option ℕ) (to : ℕ) → IsFit site a → a.pc ≡ place k n → Reaches site k exit next to
       → FollowsRoute next [] a to (exit_most exit)
   exit_runs k n exits.Behind r falls a next to fit at reaches =
       let end : place k n ≡ slice_index p.at (suc k) =
@@ -598,21 +574,28 @@ module _ (site : Site) where
       bare_here [] a to 0 refl fit (at ∙ end ∙ reaches.1) (omega (arith, at, end, (placed.laid.aligned (suc k)).1))
   exit_runs k n (exits.Piece piece) r falls a next to fit at reaches =
       rw (← reaches) (jump_on next k n piece (rw add-zero at (r.items 0)) (rw add-zero at (r.shut 0)) a fit at)
-  exit_runs k n (exits.Far address) r falls a next to fit at reaches =
-      far_on next reaches.0 k n to reaches.1 (rw reaches.2 at r) a fit at
+  exit_runs k n (exits.Far address) r falls a next to fit at (out, far, is) =
+      rw out (words_hop k n to (long_jump to) (long_jump_fits to far.0) (rw is at r) a fit at (omega arith)
+      (λ z e. inl e) 0 (register_of a 1) (inr (omega arith)) (λ stand low.
+      long_jumps_hop to a fit.valid fit.runs.ready (omega (arith, low)) fit.runs.page stand far.0 far.1))
   exit_runs k n _ r falls a next to fit at reaches = absurd reaches
 
   -- through the snippets of its edges, and on
   pub shape_runs : (k : ℕ) (s : Shape) → slice_get shapes k ≡ Some s → (a : State) (next : Option ℕ) (to : ℕ)
-      → IsFit a → a.pc ≡ place k (front_of s) → Reaches site k s.exit next to
+      → IsFit site a → a.pc ≡ place k (front_of s) → Reaches site k s.exit next to
       → FollowsRoute next s.edges a to (exit_most s.exit)
   shape_runs k s is a next to fit at reaches =
-      for_all s.edges a to _ (snippets_then next s.edges k (front_of s) (exit_items s.exit) (from_shape k s is) a fit at []
-      to (exit_most s.exit) (λ b fit2 there rest.
-      exit_runs k _ s.exit rest (λ none. falls k s (flat_map l.codes s.edges) is (ap (λ (exit : Exit). words_on l s.edges
-      ++ exit_items exit) none ∙ append-nil (words_on l s.edges))) b next to fit2 there reaches))
+      let words = flat_map l.codes s.edges in
+      let r = from_shape k s is in
+      let one = snippets_run next s.edges k (front_of s) (exit_items s.exit) r a fit at in
+      let mid = place k (front_of s + length words) in
+      let other =
+      exit_runs k _ s.exit (rw (length_words words) at (rest_behind l k (front_of s) (words_on l s.edges) _ r))
+      (λ none. falls k s words is (rw none (append-nil (words_on l s.edges)))) (hopped one.other mid one.memory) next to
+      (arrived s.edges a mid 0 fit (stood_low k (front_of s) words (exit_items s.exit) r) one) refl reaches in
+      rw zero-add at (on_then s.edges s.edges [] (sym (append-nil s.edges)) a mid to 0 (exit_most s.exit) one other)
 
-  pub arrive : (z : PieceNo) (edges : List ℕ) (a : State) (next : Option ℕ) (to : ℕ) → IsFit a
+  pub arrive : (z : PieceNo) (edges : List ℕ) (a : State) (next : Option ℕ) (to : ℕ) → IsFit site a
       → a.pc ≡ slice_index p.at z.0 → LeadsTo site z edges next to → FollowsRoute next edges a to 4
   arrive z edges a next to fit at (inl (none, e)) =
       rw none (bare_here [] a to 4 refl fit (at ∙ e) (omega (arith, at, (placed.laid.aligned z.0).1)))
@@ -623,7 +606,7 @@ module _ (site : Site) where
   -- behind its Mark a piece goes to one that leads on
   pub jump_then : (k : ℕ) (visit : OfWord) (head : Head) (z : PieceNo)
       → slice_get shapes k ≡ Some (marked visit head [] (exits.Piece z)) → (edges : List ℕ) (a : State)
-      (next : Option ℕ) (to : ℕ) → IsFit a → a.pc ≡ place k (front_of (marked visit head [] (exits.Piece z)))
+      (next : Option ℕ) (to : ℕ) → IsFit site a → a.pc ≡ place k (front_of (marked visit head [] (exits.Piece z)))
       → LeadsTo site z edges next to → FollowsRoute next edges a to 8
   jump_then k visit head z is edges a next to fit at leads =
       let one = shape_runs k (marked visit head [] (exits.Piece z)) is a next (slice_index p.at z.0) fit at refl in
@@ -635,7 +618,7 @@ module _ (site : Site) where
   abbrev pub Tail : Option ℕ → List ℕ → State → ℕ → ℕ → Type 0
   Tail next edges a to most = (w : FollowsRoute next edges a to most) × (next ≢ None → edges ≡ [] → w.count ≡ 0)
 
-  pub tail : (k : ℕ) (s : Shape) → slice_get shapes k ≡ Some s → (a : State) (next : Option ℕ) (to : ℕ) → IsFit a
+  pub tail : (k : ℕ) (s : Shape) → slice_get shapes k ≡ Some s → (a : State) (next : Option ℕ) (to : ℕ) → IsFit site a
       → a.pc ≡ place k (front_of s) → Reaches site k s.exit next to → (next ≢ None → s.edges ≡ [] → s.exit ≡ exits.Behind)
       → Tail next s.edges a to 8
   unfolding eased

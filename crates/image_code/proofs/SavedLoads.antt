@@ -1,6 +1,6 @@
 -- Before the load of an open switch control comes to a piece that keeps its address; everywhere else it comes to the
 -- visit itself.
-use Rattle.image_code.proofs.Common.{◌≡◌, ℕ, suc, ◌<◌, Bool, true, false, Option, Some, None, List, [], length, refl, ap, sym, ◌∙◌, arith, inl, inr, ◌==◌, slice_get, slice_index, false≢true, word_at, Slot, NoSlot, Blocks, blocks_of, Node, Block, Open, jumps_in, Point, block, save_load_address, words_of, Item, items_in, cases_eq, bare}
+use Rattle.image_code.proofs.Common.{◌≡◌, ℕ, suc, ◌<◌, Bool, true, false, Option, Some, None, List, [], length, refl, ap, sym, ◌∙◌, subst, arith, inl, inr, ◌==◌, slice_get, slice_index, false≢true, word_at, Slot, NoSlot, Blocks, blocks_of, Node, Block, Open, jumps_in, Point, block, save_load_address, words_of, Item, items_in, cases_eq, bare}
 use Rattle.image_code.specs.declared.shape.Exit.TheVariants as exits
 use Rattle.cfg_blocks.specs.Values.{instr_at}
 use Rattle.image_code.specs.Graphs.{case_table}
@@ -10,7 +10,7 @@ use Rattle.image_code.specs.Made.{save_by}
 use Rattle.image_code.specs.Numbered.{enter_number, image_number, jump_enter, jump_image, jump_number}
 use Rattle.image_code.specs.Simulates.{CaseTable, IsAtWord, graph_in}
 use Rattle.image_code.proofs.CaseTables.{known_at, table_of}
-use Rattle.image_code.proofs.ImageNumbers.{block_of, jump_enter_is, jump_image_is, jump_numbered, jump_of}
+use Rattle.image_code.proofs.ImageNumbers.{block_of, jump_numbered, jump_of}
 use Rattle.image_code.proofs.Listed.{enter_load, enter_other, jump_at, save_at, load_in}
 use Rattle.image_code.proofs.Opened.{load_is}
 use Rattle.image_code.proofs.Positions.{not_placed}
@@ -23,16 +23,41 @@ module _ (edit : PlacedEdit) (node : Node) (x : Point) where
   abbrev b : Blocks
   b = blocks_of g.text g.given
 
-  abbrev NotAtLoad : Type 0
-  NotAtLoad = (k : ℕ) (o : CaseTable) → slice_get g.opens k ≡ Some o → IsAtWord g o node x o.load → ⊥
+  -- ---- where control comes to the visit itself
 
-  -- ---- at the load
+  comes_itself : ((word : ℕ) → word_at g.text x.pc ≡ Some word → x.slot ≡ NoSlot
+      → enter_number g.text (graph_in g) node word ≡ image_number g.text (graph_in g) node word)
+      → ((j : ℕ) (o : Open) → slice_get g.switches j ≡ Some o
+      → IsAtWord g (case_table g.text o) node x (load_of g.text o) → ⊥)
+      → IsEntered (site edit) node x
+  comes_itself same none = at_once (enters_itself edit node x same) (λ j table e a.
+      let t = table_of g is.known j table e in
+      none j t.o t.is (subst (λ (c : CaseTable). IsAtWord g c node x c.load) (sym t.same) a))
+
+  -- no open switch's jump ends the block
+  other_block : (k : ℕ) → node ≡ block k → jumps_in g.switches k ≡ false → IsEntered (site edit) node x
+  other_block k here quiet =
+      comes_itself
+      (λ word _ _. rw (here, not_placed (λ (o : Open). o.block == k) g.switches quiet))
+      (λ j o e a. false≢true (sym quiet ∙ ap (jumps_in g.switches) (ap block_of (sym here ∙ a.itself))
+      ∙ jump_of g.text b g.switches j o e))
+
+  -- ---- in the block of an open switch's jump
 
   module _ (k : ℕ) (o : Open) (among : slice_get g.switches k ≡ Some o)
-      (numbered : jump_number g.text (graph_in g) o.block ≡ Some k) (itself : node ≡ block o.block)
-      (none : x.slot ≡ NoSlot) (at : word_at g.text x.pc ≡ Some (load_of g.text o)) where
+      (numbered : jump_number g.text (graph_in g) o.block ≡ Some k) (itself : node ≡ block o.block) where
     abbrev load : ℕ
     load = load_of g.text o
+
+    -- at a word that isn't the load
+    other_word : ((word : ℕ) → word_at g.text x.pc ≡ Some word → x.slot ≡ NoSlot → word ≡ load → ⊥)
+        → IsEntered (site edit) node x
+    other_word not =
+        comes_itself
+        (λ word at none. rw (itself, numbered, among)
+        (enter_other g.text b g.switches is.cased f.table.base f.cases.base k o among word (not word at none)))
+        (λ j q e a. not (load_of g.text q) a.stands a.outside
+        (ap (load_of g.text) (is.cased.one j k q o e among (ap block_of (sym a.itself ∙ itself)))))
 
     abbrev piece : ℕ
     piece = jump_enter g.text (graph_in g) k o load
@@ -61,82 +86,30 @@ module _ (edit : PlacedEdit) (node : Node) (x : Point) where
         ap (place piece) (sym (ap (λ (v : Option (List Item)). items_in v) (items_at (site edit) piece _ shape)))
         ∙ goes_behind (site edit) piece _ saving_words shape refl next_within
 
-    pub keeps : IsEntered (site edit) node x
-    keeps =
+    keeps : x.slot ≡ NoSlot → word_at g.text x.pc ≡ Some load → IsEntered (site edit) node x
+    keeps none at =
         saving k (case_table g.text o) (known_at g is.known k o among)
         (record { itself = itself; outside = none; stands = at })
         (record {
           piece = piece;
-          here =
-              entered_word edit node x load at none
-              ∙ ap (slice_index p.at) (jump_enter_is g.text b g.switches k o node load numbered among itself);
+          here = entered_word edit node x load at none ∙ rw (itself, numbered, among);
           shape = shape;
           behind =
-              falls ∙ ap (slice_index p.at) (next
-              ∙ sym (jump_image_is g.text b g.switches k o node load numbered among itself))
-              ∙ sym (visited_word edit node x load at none);
+              falls ∙ ap (slice_index p.at) next
+              ∙ sym (visited_word edit node x load at none ∙ rw (itself, numbered, among));
         })
 
-  -- ---- anywhere else
-
-  comes_itself : ((word : ℕ) → word_at g.text x.pc ≡ Some word → x.slot ≡ NoSlot
-      → enter_number g.text (graph_in g) node word ≡ image_number g.text (graph_in g) node word) → NotAtLoad
-      → IsEntered (site edit) node x
-  comes_itself same not = at_once (enters_itself edit node x same) not
-
-  -- no open switch's jump ends the block
-  other_block : (k : ℕ) → node ≡ block k → jumps_in g.switches k ≡ false → IsEntered (site edit) node x
-  other_block k here quiet =
-      comes_itself
-      (λ word _ _.
-      rw (here, not_placed (λ (o : Open). o.block == k) g.switches quiet))
-      (λ j table e a.
-      let t = table_of g is.known j table e in
-      let same : k ≡ t.o.block =
-      ap block_of (sym here ∙ a.itself) ∙ sym (ap (λ (c : CaseTable). c.block) t.same) in
-      false≢true (sym quiet ∙ ap (jumps_in g.switches) same ∙ jump_of g.text b g.switches j t.o t.is))
-
-  -- at a word of the jump's block that isn't its load
-  other_word : (k : ℕ) (o : Open) → slice_get g.switches k ≡ Some o → jump_number g.text (graph_in g) o.block ≡ Some k
-      → node ≡ block o.block
-      → ((word : ℕ) → word_at g.text x.pc ≡ Some word → x.slot ≡ NoSlot → word ≡ load_of g.text o → ⊥)
-      → IsEntered (site edit) node x
-  other_word k o among numbered itself not =
-      comes_itself
-      (λ word at none.
-      jump_enter_is g.text b g.switches k o node word numbered among itself
-      ∙ enter_other g.text b g.switches is.cased f.table.base f.cases.base k o among word (not word at none)
-      ∙ sym (jump_image_is g.text b g.switches k o node word numbered among itself))
-      (λ j table e a.
-      let t = table_of g is.known j table e in
-      let same : t.o.block ≡ o.block =
-      ap (λ (c : CaseTable). c.block) t.same ∙ sym (ap block_of (sym itself ∙ a.itself)) in
-      let equal : t.o ≡ o = is.cased.one j k t.o o t.is among same in
-      let load : table.load ≡ load_of g.text o = sym (ap (λ (c : CaseTable). c.load) t.same)
-      ∙ ap (load_of g.text) equal in
-      not table.load a.stands a.outside load)
+    at_word : (w : Option ℕ) → word_at g.text x.pc ≡ w → (s : Slot) → x.slot ≡ s → IsEntered (site edit) node x
+    at_word (Some word) at NoSlot none = elim (cases_eq word load) [
+      | inl e ↦ keeps none (rw (at, e))
+      | inr n ↦ other_word (λ other there _ q. let one : word ≡ other = cc in n (one ∙ q))
+    ]
+    at_word None at NoSlot none = other_word (λ other there _ _. absurd (cc))
+    at_word w at s some = other_word (λ other _ outside _. absurd (cc))
 
   pub entered_so : IsEntered (site edit) node x
   entered_so = by node refl
     where
-      at_word : (k : ℕ) (o : Open) → slice_get g.switches k ≡ Some o → jump_number g.text (graph_in g) o.block ≡ Some k
-          → node ≡ block o.block → (w : Option ℕ) → word_at g.text x.pc ≡ w → (s : Slot) → x.slot ≡ s
-          → IsEntered (site edit) node x
-      at_word k o among numbered itself (Some word) at NoSlot none = elim (cases_eq word (load_of g.text o)) [
-        | inl e ↦ keeps k o among numbered itself none (at ∙ ap (λ (n : ℕ). Some n) e)
-        | inr n ↦
-            other_word k o among numbered itself
-            (λ other there _ q.
-            let one : word ≡ other = (let s : Some word ≡ Some other = sym at ∙ there in cc) in
-            n (one ∙ q))
-      ]
-      at_word k o among numbered itself None at NoSlot none =
-          other_word k o among numbered itself
-          (λ other there _ _. let s : None ≡ Some other = sym at ∙ there in absurd (cc))
-      at_word k o among numbered itself w at s some =
-          other_word k o among numbered itself
-          (λ other _ outside _. let q : s ≡ NoSlot = sym some ∙ outside in absurd (cc))
-
       in_block : (k : ℕ) → node ≡ block k → (t : Bool) → jumps_in g.switches k ≡ t → IsEntered (site edit) node x
       in_block k here false e = other_block k here e
       in_block k here true e =
@@ -146,6 +119,5 @@ module _ (edit : PlacedEdit) (node : Node) (x : Point) where
       by : (n : Node) → node ≡ n → IsEntered (site edit) node x
       by (Block k) here = in_block k.0 here (jumps_in g.switches k.0) refl
       by n here =
-          comes_itself
-          (λ word _ _. rw here)
-          (λ j table e a. let s : n ≡ block table.block = sym here ∙ a.itself in absurd (cc))
+          comes_itself (λ word _ _. rw here)
+          (λ j o e a. let s : n ≡ block o.block = sym here ∙ a.itself in absurd (cc))

@@ -143,20 +143,13 @@ module _ {text : Words} {graph : Graph} {codes : ℕ → List ℕ} {count size m
     (few : length (flat_map codes edges) ≤ most) (out : ExitLeads count exit) where
   pub made : (visit : OfWord) (head : Head) → IsVisit text graph visit head → HeadLeads count head
       → 6 + head_size head ≤ size → 1 ≤ marks → IsMade text graph codes count marks size most (marked visit head edges exit)
-  made visit head is leads l once = record {
-    shaped = record { visits = (is, leads); leads = out };
-    once = once;
-    large = omega (arith, l);
-    coded = few;
-  }
+  made visit head is leads l once =
+      let shaped : IsShaped text graph count (marked visit head edges exit) = record { visits = (is, leads); leads = out } in
+      search arith
 
   pub made_bare : 4 ≤ size → IsMade text graph codes count marks size most (bare edges exit)
-  made_bare l = record {
-    shaped = record { visits = tt; leads = out };
-    once = omega arith;
-    large = omega (arith, l);
-    coded = few;
-  }
+  made_bare l =
+      let shaped : IsShaped text graph count (bare edges exit) = record { visits = tt; leads = out } in search arith
 
 -- ---- what holds of each shape
 
@@ -184,11 +177,10 @@ exit_marked _ = tt
 
 head_marked : (address : Addr) (head : Head) (rest : List Item) → AreMarked true rest
     → AreMarked true (head_items address head ++ rest)
-head_marked address head rest m = by (head_is address head)
-  where
-    by : HeadIs address head → AreMarked true (head_items address head ++ rest)
-    by (has_words ws is many) = rw is (words_marked true ws rest m)
-    by (is_branch cond to is) = rw is m
+head_marked address head rest m = elim (head_is address head) [
+  | has_words ws is many ↦ rw is (words_marked true ws rest m)
+  | is_branch cond to is ↦ rw is m
+]
 
 -- at most so many words and items, and so many Marks; and where they lead
 pub record IsSized (count size most : ℕ) (items : List Item) : Type 0 where
@@ -236,12 +228,11 @@ module _ {count : ℕ} where
 
   head_sized : (address : Addr) (head : Head) (rest : List Item) {size : ℕ} → HeadLeads count head
       → IsSized count size 0 rest → IsSized count (head_size head + size) 0 (head_items address head ++ rest)
-  head_sized address head rest {size} leads s = by (head_is address head)
-    where
-      by : HeadIs address head → IsSized count (head_size head + size) 0 (head_items address head ++ rest)
-      by (has_words ws is many) = rw is (with_words ws rest (omega (arith, many)) s)
-      by (is_branch cond to is) =
-          rw is (more (it.Branch cond to) (rw is at leads) (omega arith) (omega arith) (omega arith) s)
+  head_sized address head rest {size} leads s = elim (head_is address head) [
+    | has_words ws is many ↦ rw is (with_words ws rest (omega (arith, many)) s)
+    | is_branch cond to is ↦
+        rw is (more (it.Branch cond to) (rw is at leads) (omega arith) (omega arith) (omega arith) s)
+  ]
 
   mark_sized : (text : Words) (graph : Graph) (mark : Option (OfWord × Head)) (rest : List Item) {size : ℕ}
       → AreVisits text graph count mark → IsSized count size 0 rest

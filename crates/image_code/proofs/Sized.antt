@@ -1,6 +1,6 @@
 -- How many of the pieces' words are those of snippets: each edge's once, but a landing's once for each word that lands
 -- there, and a Case edge's once for each entry that does.
-use Rattle.image_code.proofs.Common.{◌≡◌, ℕ, zero, suc, ◌+◌, ◌*◌, ◌<◌, ◌≤◌, Bool, true, false, ◌&&◌, ◌==◌, cond, Some, List, [], ◌∷◌, ◌++◌, length, map, take, refl, ap, sym, ◌∙◌, arith, inl, inr, if◌then◌else◌, slice_index, position, sum_by, option_to_list, mul-le-mul_left, mul-le-mul_right, mul_left_comm, and_parts, cases_Bool, cases_lt, cond_both, eqb-true, false≢true, le-ltb, ne_eqb, nat_tests, sum_by-append, Words, Instr, decode_of, is_transfer, EdgeKind, below, holding_of, last_word, size_of, is_fall, Edge, Node, Block, Landed, X, same_kind, same_node, Open, targets_in, Graph, lands, IsEdgeIn, IsNodeIn, edge_along, edge_from, ends_block, landing_at, left_by, block, copy, same_nodes, ends_within, in_held, some_words, straight_left, Each, each, each-below, lands_as, Op, count_by, fold-map, same_itself}
+use Rattle.image_code.proofs.Common.{◌≡◌, ℕ, zero, suc, ◌+◌, ◌*◌, ◌<◌, ◌≤◌, Bool, true, false, ◌&&◌, ◌==◌, cond, Some, List, [], ◌∷◌, ◌++◌, length, map, take, refl, ap, sym, ◌∙◌, arith, inl, inr, if◌then◌else◌, slice_index, position, sum_by, option_to_list, mul-le-mul_left, mul-le-mul_right, mul_left_comm, and_parts, cases_Bool, cases_lt, cond_both, false≢true, le-ltb, ne_eqb, nat_tests, sum_by-append, Words, Instr, decode_of, is_transfer, EdgeKind, below, last_word, size_of, is_fall, Edge, Node, Block, Landed, X, same_kind, same_node, Open, targets_in, Graph, lands, IsEdgeIn, IsNodeIn, edge_along, edge_from, ends_block, landing_at, left_by, block, same_nodes, ends_within, some_words, straight_left, Each, each, each-below, lands_as, Op, count_by, fold-map, same_itself}
 use Rattle.cfg_blocks.specs.declared.EdgeKind.TheVariants as kinds
 use Rattle.std.proofs.lemmas.Bool.{and_right}
 use Rattle.image_code.specs.Store.{snippet_on}
@@ -8,6 +8,7 @@ use Rattle.image_code.specs.Numbered.{node_in_order, edges_but_landings}
 use Rattle.image_code.specs.Fit.{AreShort, operations_from, operations_in}
 use Rattle.image_code.specs.Copies.{copies_of, is_at, targets_from, words_at}
 use Rattle.image_code.proofs.OpenBlocks.{IsTextGraph}
+use Rattle.image_code.proofs.OpenNumbers.{IsWordOf, lands_word}
 use Rattle.image_code.proofs.OpenSums.{code_length, count_le, count_none, count_one, count_within, uses, uses_cover}
 
 -- ---- the words of snippets in the pieces
@@ -55,10 +56,13 @@ entries_in (o ∷ opens) = map (λ word. (o, word)) o.targets ++ entries_in open
 same_turned : (one other : Node) → same_node one other ≡ true → same_node other one ≡ true
 same_turned one other e = rw (same_nodes one other e) (same_itself other)
 
-eqb-turned : (m n : ℕ) → (m == n) ≡ (n == m)
-eqb-turned m n = grind (arith, nat_tests)
-
 -- ---- how often an edge is found
+
+-- only where a part of a test holds that is the same for all
+count_if : {A : Type 0} (t : Bool) (p : A → Bool) (xs : List A) (n : ℕ) → (t ≡ true → count_by p xs ≤ n)
+    → (t ≡ false → (x : A) → p x ≡ false) → count_by p xs ≤ (if t then n else 0)
+count_if true p xs n some none = some refl
+count_if false p xs n some none = omega (arith, count_none p xs (each _ _ (none refl)))
 
 module _ (text : Words) (graph : Graph) (codes : ℕ → List ℕ) where
   -- ---- behind the last word of a block
@@ -97,8 +101,7 @@ module _ (text : Words) (graph : Graph) (codes : ℕ → List ℕ) where
   falls_count : (edge : Edge) → count_by (λ word. falls word edge) (below (length text.words))
       ≤ (if same_kind edge.kind kinds.Fall then 1 else 0)
   falls_count edge =
-      cond_both (same_kind edge.kind kinds.Fall) 1 0
-      (λ (n : ℕ). count_by (λ word. falls word edge) (below (length text.words)) ≤ n)
+      count_if (same_kind edge.kind kinds.Fall) (λ word. falls word edge) (below (length text.words)) 1
       (λ _. omega (
         arith,
         count_le (λ word. falls word edge) (λ word. word == last_of edge.from) (below (length text.words)) (λ word h.
@@ -106,11 +109,7 @@ module _ (text : Words) (graph : Graph) (codes : ℕ → List ℕ) where
             let from = and_parts _ _ ends.1 in
             rw (same_nodes edge.from (node_in_order graph word) from.0) (ends_last (node_in_order graph word) word ends.0)),
         (count_one (last_of edge.from) (length text.words)).1,
-      ))
-      (λ e. omega (
-        arith,
-        count_none (λ word. falls word edge) (below (length text.words)) (each _ _ (λ word. and_right _ _ (and_right _ _ e))),
-      ))
+      )) (λ e word. and_right _ _ (and_right _ _ e))
 
   -- ---- at landings
 
@@ -118,25 +117,11 @@ module _ (text : Words) (graph : Graph) (codes : ℕ → List ℕ) where
   lands_there word edge = same_node edge.to (lands graph (Some word)) && same_kind edge.kind kinds.Land
 
   module _ (g : IsTextGraph text graph) where
-    -- the word stands in the block
-    abbrev StandsIn : ℕ → ℕ → Type 0
-    StandsIn k word =
-        (slice_index graph.blocks.firsts k ≤ word)
-        × (word < slice_index graph.blocks.firsts k + size_of graph.blocks k)
-
     -- where a run lands at a node, the word stands in the node's block
-    at_node : (k word : ℕ) (node : Node) → same_node X node ≡ false
-        → (same_node (block (holding_of graph.blocks word)) node ≡ true → holding_of graph.blocks word ≡ k)
-        → (same_node (copy (holding_of graph.blocks word)) node ≡ true → holding_of graph.blocks word ≡ k)
-        → same_node (lands graph (Some word)) node ≡ true → StandsIn k word
-    at_node k word node none itself copied e = elim (cases_lt word (length text.words)) [
-      | inl l ↦
-          let low : word < graph.blocks.words = omega (arith, g.cut.words) in
-          let held = in_held graph.blocks.words graph.blocks.firsts g.cut.firsts word low in
-          let there : holding_of graph.blocks word ≡ k → StandsIn k word =
-          λ same. rw (← same) (held.above, omega (arith, held.above, held.below)) in
-          lands_as graph.blocks graph.opens word low (λ (n : Node). same_node n node ≡ true → StandsIn k word)
-          (λ _ h. there (copied h)) (λ _ h. there (itself h)) e
+    at_node : (node : Node) (word : ℕ) → same_node X node ≡ false → is_at graph node word ≡ true
+        → IsWordOf graph node word
+    at_node node word none e = elim (cases_lt word (length text.words)) [
+      | inl l ↦ rw (same_nodes _ node e) at (lands_word text graph g word l)
       | inr m ↦
           absurd (false≢true (sym none ∙ rw (le-ltb word graph.blocks.words (omega (arith, m, g.cut.words))) at e))
     ]
@@ -154,11 +139,11 @@ module _ (text : Words) (graph : Graph) (codes : ℕ → List ℕ) where
     node_count : (node : Node) → IsNodeIn graph.blocks graph.opens node
         → count_by (is_at graph node) (below (length text.words)) ≤ count_by (is_at graph node) (words_at graph node)
     node_count (Block k) l =
-        count_within (is_at graph (Block k)) _ _ _ (block_end_within k.0 l)
-        (λ word. at_node k.0 word (Block k) refl (eqb-true _ k.0) (λ e. absurd (false≢true e)))
+        count_within (is_at graph (Block k)) (length text.words) (slice_index graph.blocks.firsts k.0)
+        (size_of graph.blocks k.0) (λ word e. let is = at_node (Block k) word refl e in omega (arith, is.above, is.below))
     node_count (Landed k) l =
-        count_within (is_at graph (Landed k)) _ _ _ (block_end_within k.0 l.0)
-        (λ word. at_node k.0 word (Landed k) refl (λ e. absurd (false≢true e)) (eqb-true _ k.0))
+        count_within (is_at graph (Landed k)) (length text.words) (slice_index graph.blocks.firsts k.0)
+        (size_of graph.blocks k.0) (λ word e. let is = at_node (Landed k) word refl e in omega (arith, is.above, is.below))
     node_count X l =
         omega (
           arith,
@@ -171,18 +156,13 @@ module _ (text : Words) (graph : Graph) (codes : ℕ → List ℕ) where
         → count_by (λ word. lands_there word edge) (below (length text.words))
         ≤ (if same_kind edge.kind kinds.Land then count_by (is_at graph edge.to) (words_at graph edge.to) else 0)
     landings_count edge inside =
-        cond_both (same_kind edge.kind kinds.Land) (count_by (is_at graph edge.to) (words_at graph edge.to)) 0
-        (λ (n : ℕ). count_by (λ word. lands_there word edge) (below (length text.words)) ≤ n)
+        count_if (same_kind edge.kind kinds.Land) (λ word. lands_there word edge) (below (length text.words)) _
         (λ _. omega (
           arith,
           count_le (λ word. lands_there word edge) (is_at graph edge.to) (below (length text.words))
               (λ word h. same_turned edge.to (lands graph (Some word)) (and_parts _ _ h).0),
           node_count edge.to inside,
-        ))
-        (λ e. omega (
-          arith,
-          count_none (λ word. lands_there word edge) (below (length text.words)) (each _ _ (λ word. and_right _ _ e)),
-        ))
+        )) (λ e word. and_right _ _ e)
 
   -- ---- by entries
 
@@ -208,10 +188,10 @@ module _ (text : Words) (graph : Graph) (codes : ℕ → List ℕ) where
             count_by (λ word. leads_there (block k) to true (o, word)) o.targets ≤ count_by (is_at graph to) words)
             (λ _. count_le (λ word. leads_there (block k) to true (o, word)) (is_at graph to) o.targets
             (λ word h. same_turned to (lands graph (Some word)) (and_parts _ _ h).0))
-            (λ e. omega (
+            (λ e. let turned : (k == o.block) ≡ false = grind (arith, nat_tests) in omega (
               arith,
               count_none (λ word. leads_there (block k) to true (o, word)) o.targets (each _ _
-                  (λ word. and_right (same_node to (lands graph (Some word))) _ (rw (eqb-turned k o.block, e) refl))),
+                  (λ word. and_right (same_node to (lands graph (Some word))) _ (rw turned refl))),
             )),
         cases_from_block k to opens,
       )
@@ -219,25 +199,15 @@ module _ (text : Words) (graph : Graph) (codes : ℕ → List ℕ) where
   cases_count : (edge : Edge) → count_by (λ entry. chooses entry edge) (entries_in graph.opens)
       ≤ (if same_kind edge.kind kinds.Case then count_by (is_at graph edge.to) (targets_from graph edge.from) else 0)
   cases_count edge =
-      cond_both (same_kind edge.kind kinds.Case) (count_by (is_at graph edge.to) (targets_from graph edge.from)) 0
-      (λ (n : ℕ). count_by (λ entry. chooses entry edge) (entries_in graph.opens) ≤ n)
-      (λ e. rw e (leaving edge.from))
-      (λ e. omega (
-        arith,
-        count_none (λ entry. chooses entry edge) (entries_in graph.opens) (each _ _ (λ entry. and_right _ _ (and_right _ _ e))),
-      ))
+      count_if (same_kind edge.kind kinds.Case) (λ entry. chooses entry edge) (entries_in graph.opens) _
+      (λ e. rw e (leaving edge.from)) (λ e entry. and_right _ _ (and_right _ _ e))
     where
-      none : (from : Node) → ((o : Open) → same_node from (block o.block) ≡ false)
-          → count_by (leads_there from edge.to true) (entries_in graph.opens) ≡ 0
-      none from apart =
-          count_none (leads_there from edge.to true) (entries_in graph.opens)
-          (each _ _ (λ entry. and_right (same_node edge.to (lands graph (Some entry.1))) _ (rw (apart entry.0) refl)))
-
       leaving : (from : Node) → count_by (leads_there from edge.to true) (entries_in graph.opens)
           ≤ count_by (is_at graph edge.to) (targets_from graph from)
       leaving (Block k) = cases_from_block k.0 edge.to graph.opens
-      leaving (Landed k) = omega (arith, none (Landed k) (λ o. refl))
-      leaving X = omega (arith, none X (λ o. refl))
+      leaving from =
+          count_if false (leads_there from edge.to true) (entries_in graph.opens) 0 (λ e. absurd (cc))
+          (λ _ entry. and_right (same_node edge.to (lands graph (Some entry.1))) _ refl)
 
 -- ---- no more often than it is counted
 

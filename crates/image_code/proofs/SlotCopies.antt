@@ -12,17 +12,17 @@ use Rattle.code_runs.proofs.StoredWords.{memory_word-range}
 use Rattle.image_code.specs.Simulates.{EditSetup, does_at, gone_at, graph_in}
 use Rattle.image_code.specs.Store.{operations_on}
 use Rattle.image_code.specs.Images.{HasNoCases}
-use Rattle.image_code.proofs.Points.{AtVisitIn, entered_at, visited_at}
+use Rattle.image_code.proofs.Points.{AtVisitIn, entered_at}
 use Rattle.image_code.proofs.PointShapes.{IsMarked, IsMarkedWord, IsJumpTarget, Reaches, Lands, IsCase, plain, couple, landing as jumps_slot}
-use Rattle.image_code.specs.Made.{first_word, goes_on, goes_behind, visit_of}
+use Rattle.image_code.specs.Made.{first_word, goes_on, visit_of}
 use Rattle.image_code.specs.Numbered.{enter_number, foreign_number, landing_number}
 use Rattle.image_code.proofs.CaseTables.{IsKnown, table_of}
-use Rattle.image_code.proofs.EdgePieces.{IsAlong, along_far, cut_in}
+use Rattle.image_code.proofs.EdgePieces.{along_far, cut_in}
 use Rattle.image_code.proofs.Heads.{HasCopy, by_cases, case_copy, copy_visited, plain_copy}
 use Rattle.image_code.proofs.ImageNumbers.{jump_of}
 use Rattle.image_code.proofs.ImagePieces.{enter_at, stands_at}
 use Rattle.image_code.proofs.Listed.{foreign_at, landing_at}
-use Rattle.image_code.proofs.Visited.{AtSlot, GoesThere, goes_on_there, goes_straight, site, case_kind, edge_is, entered_word, kind_is, marked_at, shapes, slot_gone, target, way_in, way_now, word_is}
+use Rattle.image_code.proofs.Visited.{AtSlot, GoesThere, goes_on_there, goes_straight, site, case_kind, edge_is, entered_word, kind_is, marked_at, shapes, slot_gone, target, way_in, word_is}
 use Rattle.image_code.proofs.Routes.{shape_within}
 use Rattle.image_code.specs.Cost.{is_out}
 
@@ -78,26 +78,12 @@ module _ (at_slot : AtSlot) (t : State) (here : AtVisitIn (site at_slot.edit) at
   abbrev entry_after : State → ℕ
   entry_after v = entered_at (site edit) (node_after (graph_in g) node (gone_at g node x v)) (point_of v)
 
-  abbrev copy_by : Bool → Shape
-  copy_by transfer =
-      if transfer then marked visited heads.Couple [] exits.Behind
-      else marked visited (heads.Word word) (way.number ∷ []) (goes_behind g.text (graph_in g) way.edge to)
-
-  its_edge : IsAlong g is f.table.base f.cases.base node (way_now edit node x) way.number way.edge
-  its_edge = edge_is in_slot
-
-  made : (b : Bool) → is_transfer (decode_of word) ≡ b → slice_get (shapes edit) piece ≡ Some (copy_by b)
-  made b e = copy.shape ∙ rw e
-
-  stands : visited_at (site edit) node x ≡ slice_index p.at piece
-  stands = copy_visited at_slot piece to copy
-
   -- ---- a word that is no transfer
 
   abbrev at_copy : (head : Addr → ℕ → Head) (edges : List ℕ) (exit : Exit)
       → slice_get (shapes edit) piece ≡ Some (marked visited (head (record { 0 = address_of g.text slot }) word) edges exit)
       → IsMarked (site edit) node x head edges exit
-  at_copy = marked_at edit node x slot at piece stands
+  at_copy = marked_at edit node x slot at piece (copy_visited at_slot piece to copy)
 
   module _ (straight : is_transfer (decode_of word) ≡ false) where
     -- where the edge leads on: out of the text, or to the word's image at the edge's node
@@ -106,20 +92,17 @@ module _ (at_slot : AtSlot) (t : State) (here : AtVisitIn (site at_slot.edit) at
 
     past : (out : Bool) → same_kind way.edge.kind kinds.Out ≡ out → slice_get (shapes edit) piece
         ≡ Some (marked visited (heads.Word word) (way.number ∷ []) (if out then exits.Found else on_there))
-    past out e = made false straight ∙ rw e
+    past out e = copy.shape ∙ rw (straight, e)
 
-    went : (v : State) → does_at g x t ≡ v → v.ending ≡ None → (v.pc ≡ x.npc) × (v.slot ≡ NoSlot)
-    went v e live =
-        subst (λ (z : State). z.ending ≡ None → (z.pc ≡ x.npc) × (z.slot ≡ NoSlot)) e
-        (goes_straight g x t word (word_is g x slot at) straight) live
+    module _ (v : State) (does : does_at g x t ≡ v) (live : v.ending ≡ None) where
+      went : (v.pc ≡ x.npc) × (v.slot ≡ NoSlot)
+      went = rw (← does) (goes_straight g x t word (word_is g x slot at) straight (rw does live))
 
-    gone_left : (v : State) → v.pc ≡ x.npc → v.slot ≡ NoSlot → v.ending ≡ None
-        → gone_at g node x v ≡ slot_left g.text (graph_in g) node (way_in edit x) x.npc
-    gone_left v pc after live = slot_gone g node x v not after live ∙ rw pc
+      gone_left : gone_at g node x v ≡ slot_left g.text (graph_in g) node (way_in edit x) x.npc
+      gone_left = slot_gone g node x v not went.1 live ∙ rw went.0
 
-    gone_along : (v : State) → v.pc ≡ x.npc → v.slot ≡ NoSlot → v.ending ≡ None
-        → gone_at g node x v ≡ way.number ∷ landed g.text (graph_in g) way.edge.kind x.npc
-    gone_along v pc after live = gone_left v pc after live ∙ rw (way.only, its_edge.same)
+      gone_along : gone_at g node x v ≡ way.number ∷ landed g.text (graph_in g) way.edge.kind x.npc
+      gone_along = gone_left ∙ rw (way.only, (edge_is in_slot).same)
 
     -- ---- the edge leads on to where the machine goes
 
@@ -134,9 +117,9 @@ module _ (at_slot : AtSlot) (t : State) (here : AtVisitIn (site at_slot.edit) at
       goes : (v : State) → does_at g x t ≡ v → v.ending ≡ None
           → (gone_at g node x v ≡ way.number ∷ []) × (Reaches (site edit) piece on_there (word_at g.text v.pc) (entry_after v)
           × (word_at g.text v.pc ≢ None → way.number ∷ [] ≡ [] → on_there ≡ exits.Behind))
-      goes v e live =
-          let w = went v e live in
-          rw (gone_along v w.0 w.1 live, not_landed g.text (graph_in g) way.edge.kind x.npc other, way.is) (
+      goes v does live =
+          let w = went v does live in
+          rw (gone_along v does live, not_landed g.text (graph_in g) way.edge.kind x.npc other, way.is) (
             refl,
             (
               goes_on_there edit way.edge.to (point_of v) piece on_there w.1
@@ -160,7 +143,7 @@ module _ (at_slot : AtSlot) (t : State) (here : AtVisitIn (site at_slot.edit) at
       kind = kind_is in_slot (λ out. absurd (false≢true (sym other ∙ out)))
 
       there : on_there ≡ goes_on g.text (graph_in g) way.edge.to (first_word (graph_in g) way.edge.to) x.npc
-      there = rw (first, its_edge.leaves, kind, ← (way.goes other))
+      there = rw (first, (edge_is in_slot).leaves, kind, ← (way.goes other))
 
       npc_far : IsJumpTarget x.npc
       npc_far =
@@ -194,7 +177,7 @@ module _ (at_slot : AtSlot) (t : State) (here : AtVisitIn (site at_slot.edit) at
           let a = way_address g.text (graph_in g) way.edge.from way.edge.kind in
           let within = (word_at-some g.text x.npc to goes_there).within in
           rw lands_at_it
-          (lands_as b g.switches to (omega (arith, within, (cut_in g is f.table.base f.cases.base).words))
+          (lands_as b g.switches to (omega (arith, within, (cut_in g is).words))
           (λ (n : Node). goes_on g.text (graph_in g) n to a ≡ goes_to (enter_number g.text (graph_in g) n to))
           (λ _. refl) (λ _. refl))
 
@@ -223,80 +206,78 @@ module _ (at_slot : AtSlot) (t : State) (here : AtVisitIn (site at_slot.edit) at
       abbrev lands_on : List ℕ
       lands_on = landed g.text (graph_in g) kinds.Out x.npc
 
-      lands_to : (v : State) → does_at g x t ≡ v → v.ending ≡ None
-          → node_after (graph_in g) node (gone_at g node x v) ≡ lands (graph_in g) (word_at g.text x.npc)
-      lands_to v e live =
-          let w = went v e live in
-          rw (gone_left v w.0 w.1 live, same_kinds (way_in edit x) kinds.Out out)
-          (jump_lands g.text b g.switches (cut_in g is f.table.base f.cases.base) node x
-          (subst (IsOnItsWay g.text (graph_in g) node x) (same_kinds _ kinds.Out out) way))
+      module _ (v : State) (does : does_at g x t ≡ v) (live : v.ending ≡ None) where
+        abbrev after : Node
+        after = node_after (graph_in g) node (gone_at g node x v)
 
-      landed_at : (v : State) → does_at g x t ≡ v → v.ending ≡ None → Lands (site edit) lands_on x.npc (entry_after v)
-      landed_at v e live = by (word_at g.text x.npc) refl
-        where
-          after : Node
-          after = node_after (graph_in g) node (gone_at g node x v)
+        lands_to : after ≡ lands (graph_in g) (word_at g.text x.npc)
+        lands_to =
+            rw (gone_left v does live, same_kinds (way_in edit x) kinds.Out out)
+            (jump_lands g.text b g.switches (cut_in g is) node x
+            (subst (IsOnItsWay g.text (graph_in g) node x) (same_kinds _ kinds.Out out) way))
 
-          w : (v.pc ≡ x.npc) × (v.slot ≡ NoSlot)
-          w = went v e live
-
-          by : (o : Option ℕ) → word_at g.text x.npc ≡ o
-              → Lands (site edit) (landed g.text (graph_in g) kinds.Out x.npc) x.npc
-              (entered_at (site edit) after (point_of v))
-          by None none =
-              let there = foreign_at g.text b g.switches is.cased f.table.base f.cases.base in
-              inr (
-                landed_out g.text (graph_in g) x.npc None none,
-                (
-                  record { 0 = foreign_number g.text (graph_in g) },
-                  shape_within (site edit) _ _ there,
-                  tables.others x.npc target_in_page.0 target_in_page.1 none,
-                  there,
-                  none,
-                ),
-              )
-          by (Some to) some = elim (cases_Bool (operations_on g.snips (landing_of (graph_in g) (Some to)) == 0)) [
-            | inl e ↦
-                inl (
-                  record { 0 = entry },
-                  shape_within (site edit) entry _ image_there.1,
-                  led true e,
-                  inr (rw (landed_out g.text (graph_in g) x.npc (Some to) some) (eqb-true _ _ e), visit),
+        landed_at : Lands (site edit) lands_on x.npc (entry_after v)
+        landed_at = by (word_at g.text x.npc) refl
+          where
+            by : (o : Option ℕ) → word_at g.text x.npc ≡ o
+                → Lands (site edit) (landed g.text (graph_in g) kinds.Out x.npc) x.npc
+                (entered_at (site edit) after (point_of v))
+            by None none =
+                let there = foreign_at g.text b g.switches is.cased f.table.base f.cases.base in
+                inr (
+                  landed_out g.text (graph_in g) x.npc None none,
+                  (
+                    record { 0 = foreign_number g.text (graph_in g) },
+                    shape_within (site edit) _ _ there,
+                    tables.others x.npc target_in_page.0 target_in_page.1 none,
+                    there,
+                    none,
+                  ),
                 )
-            | inr e ↦
-                let landing_there = landing_at g.text b g.switches is.cased f.table.base f.cases.base to within in
-                inl (
-                  record { 0 = landing_number g.text (graph_in g) to },
-                  shape_within (site edit) _ _ landing_there,
-                  led false e,
-                  inl (inr (
-                    goes_to entry,
-                    landing_there ∙ rw (landed_out g.text (graph_in g) x.npc (Some to) some),
-                    visit,
-                  )),
-                )
-          ]
-            where
-              within : to < length g.text.words
-              within = (word_at-some g.text x.npc to some).within
+            by (Some to) some = elim (cases_Bool (operations_on g.snips (landing_of (graph_in g) (Some to)) == 0)) [
+              | inl e ↦
+                  inl (
+                    record { 0 = entry },
+                    shape_within (site edit) entry _ image_there.1,
+                    led true e,
+                    inr (rw (landed_out g.text (graph_in g) x.npc (Some to) some) (eqb-true _ _ e), visit),
+                  )
+              | inr e ↦
+                  let landing_there = landing_at g.text b g.switches is.cased f.table.base f.cases.base to within in
+                  inl (
+                    record { 0 = landing_number g.text (graph_in g) to },
+                    shape_within (site edit) _ _ landing_there,
+                    led false e,
+                    inl (inr (
+                      goes_to entry,
+                      landing_there ∙ rw (landed_out g.text (graph_in g) x.npc (Some to) some),
+                      visit,
+                    )),
+                  )
+            ]
+              where
+                within : to < length g.text.words
+                within = (word_at-some g.text x.npc to some).within
 
-              entry : ℕ
-              entry = enter_number g.text (graph_in g) (lands (graph_in g) (Some to)) to
+                entry : ℕ
+                entry = enter_number g.text (graph_in g) (lands (graph_in g) (Some to)) to
 
-              image_there : (s : Shape) × (slice_get (shapes edit) entry ≡ Some s)
-              image_there =
-                  let some_blocks = (cut_in g is f.table.base f.cases.base).firsts.some in
-                  enter_at g is f.table.base f.cases.base (lands (graph_in g) (Some to)) to within
-                  (stands_at g is f.table.base f.cases.base (lands (graph_in g) (Some to)) to within
-                  (home_lands b g.switches (Some to)) (lands_in b g.switches some_blocks (Some to)))
+                image_there : (s : Shape) × (slice_get (shapes edit) entry ≡ Some s)
+                image_there =
+                    let some_blocks = (cut_in g is).firsts.some in
+                    enter_at g is f.table.base f.cases.base (lands (graph_in g) (Some to)) to within
+                    (stands_at g is f.table.base f.cases.base (lands (graph_in g) (Some to)) to within
+                    (home_lands b g.switches (Some to)) (lands_in b g.switches some_blocks (Some to)))
 
-              led : (b : Bool) → (operations_on g.snips (landing_of (graph_in g) (Some to)) == 0) ≡ b
-                  → found_in f.halves x.npc ≡ slice_index p.at
-                  (if b then entry else landing_number g.text (graph_in g) to)
-              led b e = tables.words x.npc to target_in_page.0 target_in_page.1 some ∙ rw e
+                led : (b : Bool) → (operations_on g.snips (landing_of (graph_in g) (Some to)) == 0) ≡ b
+                    → found_in f.halves x.npc ≡ slice_index p.at
+                    (if b then entry else landing_number g.text (graph_in g) to)
+                led b e = tables.words x.npc to target_in_page.0 target_in_page.1 some ∙ rw e
 
-              visit : slice_index p.at entry ≡ entered_at (site edit) after (point_of v)
-              visit = rw (entered_word edit after (point_of v) to (rw w.0 some) w.1, lands_to v e live, some)
+                visit : slice_index p.at entry ≡ entered_at (site edit) after (point_of v)
+                visit =
+                    let w = went v does live in
+                    rw (entered_word edit after (point_of v) to (rw w.0 some) w.1, lands_to, some)
 
       jump_case : IsCase (site edit) node x t
       jump_case = jumps_slot (record {
@@ -306,7 +287,7 @@ module _ (at_slot : AtSlot) (t : State) (here : AtVisitIn (site at_slot.edit) at
         edge = way.number;
         outward = ap is_out way.is ∙ edge_out;
         landing = lands_on;
-        completes = λ live. let w = went (does_at g x t) refl live in gone_along (does_at g x t) w.0 w.1 live ∙ rw kind_out;
+        completes = λ live. gone_along (does_at g x t) refl live ∙ rw kind_out;
         mark = its_mark exits.Found (past true edge_out);
         lands = λ live. landed_at (does_at g x t) refl live;
       })
@@ -314,7 +295,7 @@ module _ (at_slot : AtSlot) (t : State) (here : AtVisitIn (site at_slot.edit) at
   couple_case : is_transfer (decode_of word) ≡ true → IsCase (site edit) node x t
   couple_case e = couple (record {
     slot = not;
-    mark = at_copy (λ _ _. heads.Couple) [] exits.Behind (made true e);
+    mark = at_copy (λ _ _. heads.Couple) [] exits.Behind (copy.shape ∙ rw e);
     transfer = e;
   })
 

@@ -1,5 +1,5 @@
 -- What is known of a text, its graph and its open switches.
-use Rattle.image_code.proofs.Common.{◌≡◌, ℕ, ◌<◌, ◌≤◌, Bool, List, Some, refl, ap, sym, ◌∙◌, subst, arith, length, get_or, if◌then◌else◌, slice_get, slice_index, pos, Words, IsText, decoded_range, Blocks, blocks_of, size_of, entered_of, Open, Graph, graph_of, IsCut, cut, some_words, IsOpenSwitch, opens_are, Contains, IsGraph, about}
+use Rattle.image_code.proofs.Common.{◌≡◌, ℕ, ◌<◌, ◌≤◌, List, Some, refl, ap, sym, ◌∙◌, subst, arith, length, get_or, cond_both, slice_get, slice_index, pos, Words, IsText, decoded_range, Blocks, blocks_of, size_of, entered_of, Open, Graph, graph_of, IsCut, cut, some_words, IsOpenSwitch, opens_are, Contains, IsGraph, about}
 use Rattle.v8_decode.specs.declared.Op2.TheVariants as operand
 use Rattle.v8_decode.specs.Ranges.{is_in_range}
 use Rattle.cfg_blocks.specs.Switches.{runs_slot}
@@ -18,12 +18,6 @@ module _ (text : Words) (graph : Graph) (h : IsGraphOf text graph) where
 
   pub graph_is : graph ≡ graph_of graph.blocks graph.opens
   graph_is = subst (λ (g : Graph). g ≡ graph_of g.blocks g.opens) (sym h.is) refl
-
-slot_few : (t : Bool) → (if t then 1 else 0) ≤ 1
-slot_few t = grind arith
-
-positive : (n : ℕ) → (n ≡ 0 → ⊥) → 0 < n
-positive n h = omega arith
 
 module _ (text : Words) (given : List ℕ) (entry : ℕ) (is_text : IsText text) (o : Open)
     (is : IsOpenSwitch text (entered_of text given) entry o) where
@@ -49,10 +43,10 @@ module _ (text : Words) (given : List ℕ) (entry : ℕ) (is_text : IsText text)
 
   pub stands_in_text : StandsInText text b o
   stands_in_text = record {
-    some = positive o.approach.compare.register made.is.some;
+    some = omega (arith, made.is.some);
     register = in_range;
     compare = omega (arith, a.below, is.last);
-    branch = omega (arith, is.last, a.slot, slot_few (runs_slot is.annul o.way));
+    branch = omega (arith, is.last, a.slot, cond_both (runs_slot is.annul o.way) 1 0 (λ n. n ≤ 1) (λ _. omega arith) (λ _. omega arith));
     from = a.from_in;
     block = a.block_in;
     first = a.first;

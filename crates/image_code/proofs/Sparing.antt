@@ -1,8 +1,7 @@
 -- Which stores are counted, and what is known of them.
-use Rattle.image_code.proofs.Common.{◌≡◌, ℕ, zero, suc, ◌+◌, ◌*◌, ◌%◌, ◌^◌, ◌<◌, ◌≤◌, ◌⊎◌, inl, inr, Bool, true, false, not, ◌&&◌, ◌||◌, Some, None, List, [], ◌∷◌, ◌++◌, map, refl, ap, sym, ◌∙◌, arith, if◌then◌else◌, ◌==◌, nat_le, nat_lt, slice_index, list_any, nat_tests, Words, word_at, Instr, Op2, decode_of, AllApart, State, sum_of, is_transfer, judged_by, act, run, trapped, in_pages, pages_of, instr_at, page_word, and-false, Notes, ldstub_step, store_size, store_step, swap_step, mem_address_not_aligned, mapped, cell_at, kept_word}
+use Rattle.image_code.proofs.Common.{◌≡◌, ℕ, zero, suc, ◌+◌, ◌*◌, ◌%◌, ◌^◌, ◌<◌, ◌≤◌, ◌⊎◌, inl, inr, Bool, true, false, not, ◌&&◌, ◌||◌, Some, None, List, [], ◌∷◌, ◌++◌, map, refl, ap, ◌∙◌, arith, if◌then◌else◌, ◌==◌, nat_le, nat_lt, slice_index, list_any, nat_tests, Words, word_at, Instr, decode_of, AllApart, State, sum_of, is_transfer, judged_by, act, run, trapped, in_pages, pages_of, instr_at, page_word, and-false, Notes, ldstub_step, store_size, store_step, swap_step, mem_address_not_aligned, mapped, cell_at, kept_word}
 use Rattle.v8_decode.specs.declared.Instr.TheVariants as i
 use Rattle.notes.specs.Format.{NoteSegment, holds}
-use Rattle.v8_decode.specs.declared.StoreKind.{StoreKind}
 use Rattle.v8_memory.specs.Spans.{IsApart, IsApartFromAll, Span}
 use Rattle.two_runs.specs.Visits.{page_of}
 use Rattle.code_runs.specs.Code.{any_of_word}
@@ -89,32 +88,18 @@ first_out (page ∷ pages) a (inl (from, to)) (inl past, more) = first_below a (
 first_out (page ∷ pages) a (inl (from, to)) (inr before, more) = first_above a (omega (arith, from, before))
 first_out (page ∷ pages) a (inr inside) (apart, more) = first_out pages a inside more
 
-store_traps : (s : State) (kind : StoreKind) (rd rs1 : ℕ) (x : Op2) → (sum_of s rs1 x % store_size kind == 0) ≡ false
-    → act s (i.Store kind rd rs1 x) ≡ trapped s mem_address_not_aligned
-unfolding act store_step
-store_traps s kind rd rs1 x e = rw e
-
-ldstub_traps : (s : State) (rd rs1 : ℕ) (x : Op2) → (sum_of s rs1 x % 1 == 0) ≡ false
-    → act s (i.Ldstub rd rs1 x) ≡ trapped s mem_address_not_aligned
-unfolding act ldstub_step
-ldstub_traps s rd rs1 x e = rw e
-
-swap_traps : (s : State) (rd rs1 : ℕ) (x : Op2) → (sum_of s rs1 x % 4 == 0) ≡ false
-    → act s (i.Swap rd rs1 x) ≡ trapped s mem_address_not_aligned
-unfolding act swap_step
-swap_traps s rd rs1 x e = rw e
-
 module _ (notes : Notes) (own : IsIn (pages_of notes) (page_word 0)) (s : State) where
   abbrev IsUncounted : Instr → Type 0
   IsUncounted x = (one_if (is_spill notes) (stores_at s x) ≡ 0) × (one_if in_first_word (stores_at s x) ≡ 0)
 
   -- an access that is made
-  made : (b : Bool) (from count : ℕ)
-      → AllApart (pages_of notes) (if b then record { from = from; count = count } ∷ [] else []) → (b ≡ false → ⊥)
+  made : (b : Bool) (from count : ℕ) (u : State)
+      → AllApart (pages_of notes) (if b then record { from = from; count = count } ∷ [] else [])
+      → (if b then u else trapped s mem_address_not_aligned).ending ≡ None
       → (one_if (is_spill notes) (Some (record { from = from; count = count })) ≡ 0)
       × (one_if in_first_word (Some (record { from = from; count = count })) ≡ 0)
-  made false from count apart never = absurd (never refl)
-  made true from count apart never =
+  made false from count u apart live = absurd (cc)
+  made true from count u apart live =
       let byte = apart_byte (pages_of notes) from count in (
         ap (λ (b : Bool). if b then 1 else 0) (uncounted_span (is_spill notes) from count (λ a low high.
             spill_out notes a (out_of_pages notes a (byte a low high apart.0)))),
@@ -122,20 +107,15 @@ module _ (notes : Notes) (own : IsIn (pages_of notes) (page_word 0)) (s : State)
             first_out (pages_of notes) a own (byte a low high apart.0))),
       )
 
-  trap_ends : (u : State) → u ≡ trapped s mem_address_not_aligned → u.ending ≡ None → ⊥
-  trap_ends u e live = let f = sym (ap (λ (z : State). z.ending) e) ∙ live in cc
-
   -- what goes on, and judges no byte of the pages
   pub uncounted : (x : Instr) → AllApart (pages_of notes) (judged_by s x) → (act s x).ending ≡ None → IsUncounted x
+  unfolding act store_step ldstub_step swap_step
   uncounted (i.Store kind rd rs1 op2) apart live =
-      made (sum_of s rs1 op2 % store_size kind == 0) (sum_of s rs1 op2) (store_size kind) apart
-      (λ e. trap_ends (act s (i.Store kind rd rs1 op2)) (store_traps s kind rd rs1 op2 e) live)
+      made (sum_of s rs1 op2 % store_size kind == 0) (sum_of s rs1 op2) (store_size kind) _ apart live
   uncounted (i.Ldstub rd rs1 op2) apart live =
-      made (sum_of s rs1 op2 % 1 == 0) (sum_of s rs1 op2) 1 apart
-      (λ e. trap_ends (act s (i.Ldstub rd rs1 op2)) (ldstub_traps s rd rs1 op2 e) live)
+      made (sum_of s rs1 op2 % 1 == 0) (sum_of s rs1 op2) 1 _ apart live
   uncounted (i.Swap rd rs1 op2) apart live =
-      made (sum_of s rs1 op2 % 4 == 0) (sum_of s rs1 op2) 4 apart
-      (λ e. trap_ends (act s (i.Swap rd rs1 op2)) (swap_traps s rd rs1 op2 e) live)
+      made (sum_of s rs1 op2 % 4 == 0) (sum_of s rs1 op2) 4 _ apart live
   uncounted _ apart live = (refl, refl)
 
 -- ---- the words of the text

@@ -1,5 +1,5 @@
 -- Where the points of a text are visited, and what stands there.
-use Rattle.image_code.proofs.Common.{◌≡◌, ◌≢◌, ℕ, ◌+◌, ◌-◌, ◌%◌, ◌^◌, ◌<◌, inl, inr, Bool, true, false, Option, Some, None, List, [], ◌∷◌, suc, length, refl, ap, sym, ◌∙◌, subst, arith, ◌==◌, if◌then◌else◌, slice_get, slice_index, list_any, option_map, cond_both, eqb-true, false≢true, lt-ltb, address_of, word_at, Instr, decode_of, Slot, NoSlot, State, EdgeKind, Blocks, blocks_of, word_at-some, Edge, Node, Block, home_of, IsNodeIn, Open, targets_in, has_cases, lands, node_of, Point, WayOut, edge_along, instr_at, left_by, slot_left, way_of, same_kind, IsOnItsWay, MatchesBy, block, same_kinds, Placement, Addr, IsCut, holding_of, node_is, Carried, IsSlotIn, IsTarget, word_at-address, is_transfer, act, on_word, goes_act, ◌⊎◌, Exit, Head, Shape, goes_to, leaves_to, marked}
+use Rattle.image_code.proofs.Common.{◌≡◌, ◌≢◌, ℕ, ◌+◌, ◌-◌, ◌%◌, ◌^◌, ◌<◌, inl, inr, Bool, true, false, Option, Some, None, List, [], ◌∷◌, suc, length, refl, ap, sym, ◌∙◌, subst, arith, ◌==◌, if◌then◌else◌, slice_get, slice_index, list_any, option_map, cond_both, eqb-true, false≢true, lt-ltb, le-ltb, address_of, word_at, Instr, decode_of, Slot, NoSlot, State, EdgeKind, Blocks, blocks_of, word_at-some, Node, Block, home_of, IsNodeIn, Open, targets_in, has_cases, lands, node_of, Point, WayOut, edge_along, instr_at, left_by, slot_left, way_of, same_kind, IsOnItsWay, MatchesBy, block, same_kinds, Placement, Addr, IsCut, holding_of, node_is, Carried, IsSlotIn, IsTarget, word_at-address, is_transfer, act, on_word, goes_act, ◌⊎◌, Exit, Head, Shape, goes_to, leaves_to, marked}
 use Rattle.cfg_blocks.specs.declared.EdgeKind.TheVariants as kinds
 use Rattle.cfg_normal.specs.declared.Slot.TheVariants as carried
 use Rattle.std.proofs.lemmas.Bool.{or_cases}
@@ -8,7 +8,7 @@ use Rattle.cfg_walk.specs.Walk.{by_kind, way_to}
 use Rattle.cfg_walk.specs.Matches.{IsCarried}
 use Rattle.addr_translate.specs.Lookup.{IsTable}
 use Rattle.image_code.specs.Simulates.{EditSetup, gone_at, graph_in, word_of, at_point, does_at}
-use Rattle.image_code.specs.Images.{EditorData, IsPlaced, Pieces, along_first, place_by, slot_piece}
+use Rattle.image_code.specs.Images.{EditorData, IsPlaced, Pieces, place_by, slot_piece}
 use Rattle.image_code.proofs.Points.{Site, entered_at, visited_at}
 use Rattle.image_code.proofs.PointShapes.{IsJumpTarget, IsMarked, LeadsTo, Reaches}
 use Rattle.image_code.specs.Made.{AreCasesFor, IsOffNoted, IsTableFor, edit_pieces, first_way, first_word, image_by, jumps_at, shape_list, visit_of, way_by, way_out}
@@ -16,7 +16,7 @@ use Rattle.image_code.specs.Numbered.{along_case, along_number, case_piece, ente
 use Rattle.image_code.proofs.CaseTables.{IsKnown}
 use Rattle.image_code.proofs.EdgePieces.{IsAlong, along, by_case, cut_in, shape_along, shape_case, slot_in}
 use Rattle.image_code.proofs.Positions.{placed}
-use Rattle.image_code.proofs.Branches.{IsTransfersWay, way_is_own, within_is}
+use Rattle.image_code.proofs.Branches.{IsTransfersWay, way_is_own}
 use Rattle.image_code.proofs.ImageNumbers.{HasImage, jump_numbered, open_is}
 use Rattle.image_code.proofs.ImagePieces.{image_at, stands_at}
 
@@ -29,13 +29,6 @@ record IsAmongTargets (opens : List Open) (block word : ℕ) : Type 0 where
   entry : ℕ
   at : slice_get o.targets entry ≡ Some word
 
-among_words : (words : List ℕ) (word : ℕ) → list_any (λ x. x == word) words ≡ true
-    → (entry : ℕ) × (slice_get words entry ≡ Some word)
-among_words words word any =
-    let found = placed (λ (x : ℕ). x == word) words any in
-    let same : found.item ≡ word = eqb-true found.item word found.passes in
-    (found.number, found.is ∙ ap (λ (z : ℕ). Some z) same)
-
 among_targets : (opens : List Open) (block word : ℕ) → list_any (λ x. x == word) (targets_in opens block) ≡ true
     → IsAmongTargets opens block word
 among_targets [] block word any = absurd (false≢true any)
@@ -44,8 +37,15 @@ among_targets (o ∷ opens) block word any =
       | inl here ↦ cond_both (o.block == block) o.targets []
           (λ ts. list_any (λ x. x == word) ts ≡ true → IsAmongTargets (o ∷ opens) block word)
           (λ same e.
-          let found = among_words o.targets word e in
-          record { number = 0; o = o; is = refl; itself = eqb-true o.block block same; entry = found.0; at = found.1 })
+          let found = placed (λ (x : ℕ). x == word) o.targets e in
+          record {
+            number = 0;
+            o = o;
+            is = refl;
+            itself = eqb-true o.block block same;
+            entry = found.number;
+            at = found.is ∙ ap (λ (z : ℕ). Some z) (eqb-true found.item word found.passes);
+          })
           (λ _ e. absurd (false≢true e)) here
       | inr rest ↦
           let r = among_targets opens block word rest in
@@ -155,48 +155,29 @@ module _ (edit : PlacedEdit) where
 
   -- ---- where a machine stands that visits a point, or enters it
 
-  module _ (image : Node → ℕ → ℕ) where
-    abbrev placed_at : Node → Point → ℕ
-    placed_at node x = place_by image g l p f node x (word_at g.text x.pc) x.slot
-
-    placed_word : (node : Node) (x : Point) (word : ℕ) → word_at g.text x.pc ≡ Some word → x.slot ≡ NoSlot
-        → placed_at node x ≡ slice_index p.at (image node word)
-    placed_word node x word e n = rw (e, n)
-
-    placed_none : (node : Node) (x : Point) → word_at g.text x.pc ≡ None → x.slot ≡ NoSlot → placed_at node x ≡ x.pc
-    placed_none node x e n = rw (e, n)
-
-    placed_slot : (node : Node) (x : Point) (word : ℕ) → word_at g.text x.pc ≡ Some word → x.slot ≢ NoSlot
-        → placed_at node x ≡ slice_index p.at (slot_piece g l node x)
-    placed_slot node x word e n = rw e (at_slot image g l p f node x word x.slot n)
-
-    placed_off : (node : Node) (x : Point) → word_at g.text x.pc ≡ None → x.slot ≢ NoSlot
-        → placed_at node x ≡ f.table.base
-    placed_off node x e n = rw e (off_slot image g l p f node x x.slot n)
-
   pub visited_word : (node : Node) (x : Point) (word : ℕ) → word_at g.text x.pc ≡ Some word → x.slot ≡ NoSlot
       → visited_at site node x ≡ slice_index p.at (image_number g.text (graph_in g) node word)
-  visited_word = placed_word l.image
+  visited_word node x word e n = rw (e, n)
 
   pub visited_slot : (node : Node) (x : Point) (word : ℕ) → word_at g.text x.pc ≡ Some word → x.slot ≢ NoSlot
       → visited_at site node x ≡ slice_index p.at (slot_piece g l node x)
-  visited_slot = placed_slot l.image
+  visited_slot node x word e n = rw e (at_slot l.image g l p f node x word x.slot n)
 
   pub entered_word : (node : Node) (x : Point) (word : ℕ) → word_at g.text x.pc ≡ Some word → x.slot ≡ NoSlot
       → entered_at site node x ≡ slice_index p.at (enter_number g.text (graph_in g) node word)
-  entered_word = placed_word l.enter
+  entered_word node x word e n = rw (e, n)
 
   pub entered_none : (node : Node) (x : Point) → word_at g.text x.pc ≡ None → x.slot ≡ NoSlot
       → entered_at site node x ≡ x.pc
-  entered_none = placed_none l.enter
+  entered_none node x e n = rw (e, n)
 
   pub entered_slot : (node : Node) (x : Point) (word : ℕ) → word_at g.text x.pc ≡ Some word → x.slot ≢ NoSlot
       → entered_at site node x ≡ slice_index p.at (slot_piece g l node x)
-  entered_slot = placed_slot l.enter
+  entered_slot node x word e n = rw e (at_slot l.enter g l p f node x word x.slot n)
 
   entered_off : (node : Node) (x : Point) → word_at g.text x.pc ≡ None → x.slot ≢ NoSlot
       → entered_at site node x ≡ f.table.base
-  entered_off = placed_off l.enter
+  entered_off node x e n = rw e (off_slot l.enter g l p f node x x.slot n)
 
   -- a piece that is visited begins with the Mark of its word
   abbrev pub marked_at : (node : Node) (x : Point) (word : ℕ) → word_at g.text x.pc ≡ Some word → (piece : ℕ)
@@ -245,25 +226,12 @@ module _ (edit : PlacedEdit) where
       → AtWord
   at_word node x word at none held there npc =
       let inside = (word_at-some g.text x.pc word at).within in
-      let cut = cut_in g is f.table.base f.cases.base in
+      let cut = cut_in g is in
       let low : word < b.words = omega (arith, inside, cut.words) in
       let held_there = held ∙ ap (node_of b) at in
-      record {
-        edit = edit;
-        node = node;
-        x = x;
-        word = word;
-        at = at;
-        none = none;
-        held = held;
-        there = there;
-        npc = npc;
-        inside = inside;
-        cut = cut;
-        low = low;
-        home = held_there ∙ node_is b word low;
-        has = stands_at g is f.table.base f.cases.base node word inside held_there there;
-      }
+      let home = held_there ∙ node_is b word low in
+      let has = stands_at g is f.table.base f.cases.base node word inside held_there there in
+      search
 
   -- ---- in a slot
 
@@ -279,9 +247,6 @@ module _ (edit : PlacedEdit) where
   on_its_way node x NoSlot e n m = absurd (n refl)
   on_its_way node x _ e n m =
       subst (λ (s : Slot). IsOnItsWay g.text (graph_in g) node x (way_of (instr_at g.text (x.pc - 4)) s)) (sym e) m
-
-  word_at_same : (word other : ℕ) → word_at g.text (address_of g.text word) ≡ Some other → word ≡ other
-  word_at_same word other e = within_is (length g.text.words) word other (sym (word_at-address g.text word) ∙ e)
 
   way_to_plain : (node : Node) (kind : EdgeKind) (next : ℕ)
       → (same_kind kind kinds.Out ≡ true → has_cases g.switches node ≡ false)
@@ -314,61 +279,48 @@ pub record AtSlot : Type 0 where
   pub slot : ℕ
   pub at : word_at edit.g.text x.pc ≡ Some slot
 
+abbrev slot_for : Option ℕ → Carried
+slot_for None = carried.Off
+slot_for (Some word) = carried.Word (record { 0 = word })
+
 module _ (in_slot : InSlot) where
   open in_slot use {edit, node, x, not, way, edit.{g, codes, is, p, f, tables.{whole}}}
 
   abbrev blocks : Blocks
   blocks = blocks_of g.text g.given
 
-  pub edge_is : IsAlong g is f.table.base f.cases.base node (way_now edit node x) way.number way.edge
-  edge_is = along g is f.table.base f.cases.base node (way_now edit node x) way.number way.edge way.only way.is
+  pub edge_is : IsAlong g is node (way_now edit node x) way.number way.edge
+  edge_is = along g is node (way_now edit node x) way.number way.edge way.only way.is
 
-  carried_by : (s : Carried) → way.edge.slot ≡ s → IsCarried g.text s x.pc
-  carried_by s e = subst (λ (s : Carried). IsCarried g.text s x.pc) e way.carries
+  -- the edge carries what stands at the point
+  carries : way.edge.slot ≡ slot_for (word_at g.text x.pc)
+  carries = by way.edge.slot refl way.carries
+    where
+      by : (s : Carried) → way.edge.slot ≡ s → IsCarried g.text s x.pc → s ≡ slot_for (word_at g.text x.pc)
+      by carried.Nothing e c = absurd c
+      by carried.Off e c =
+          rw (c, word_at-address g.text (length g.text.words), le-ltb (length g.text.words) (length g.text.words) (omega arith))
+          refl
+      by (carried.Word w) e c =
+          let low : w.0 < length g.text.words =
+          omega (arith, subst (IsSlotIn blocks) e (slot_in g is way.number way.edge way.is), (cut_in g is).words) in
+          rw (c, word_at-address g.text w.0, lt-ltb _ _ low)
 
   -- behind the text
   pub off : word_at g.text x.pc ≡ None → way.edge.slot ≡ carried.Off
-  off none = by way.edge.slot refl
-    where
-      by : (s : Carried) → way.edge.slot ≡ s → way.edge.slot ≡ carried.Off
-      by carried.Nothing e = absurd (carried_by carried.Nothing e)
-      by carried.Off e = e
-      by (carried.Word w) e =
-          let low : w.0 < length g.text.words = omega (
-            arith,
-            subst (IsSlotIn blocks) e (slot_in g is f.table.base f.cases.base way.number way.edge way.is),
-            (cut_in g is f.table.base f.cases.base).words,
-          ) in
-          let some : word_at g.text x.pc ≡ Some w.0 =
-          ap (word_at g.text) (carried_by (carried.Word w) e) ∙ word_at-address g.text w.0
-          ∙ ap (λ (t : Bool). if t then Some w.0 else None) (lt-ltb _ _ low) in
-          absurd (cc)
+  off none = carries ∙ rw none
 
   pub off_address : word_at g.text x.pc ≡ None → x.pc ≡ address_of g.text (length g.text.words)
-  off_address none = carried_by carried.Off (off none)
+  off_address none = subst (λ (s : Carried). IsCarried g.text s x.pc) (off none) way.carries
 
   -- at a word
   pub on : (slot : ℕ) → word_at g.text x.pc ≡ Some slot → way.edge.slot ≡ carried.Word (record { 0 = slot })
-  on slot at = by way.edge.slot refl
-    where
-      by : (s : Carried) → way.edge.slot ≡ s → way.edge.slot ≡ carried.Word (record { 0 = slot })
-      by carried.Nothing e = absurd (carried_by carried.Nothing e)
-      by carried.Off e =
-          let past : length g.text.words ≡ slot = word_at_same edit (length g.text.words) slot
-          (sym (ap (word_at g.text) (carried_by carried.Off e)) ∙ at) in
-          let low = (word_at-some g.text x.pc slot at).within in
-          absurd (omega arith)
-      by (carried.Word w) e =
-          let same : w.0 ≡ slot = word_at_same edit w.0 slot
-          (sym (ap (word_at g.text) (carried_by (carried.Word w) e)) ∙ at) in
-          e ∙ ap (λ (n : ℕ). carried.Word (record { 0 = n })) same
+  on slot at = carries ∙ rw at
 
   -- the number of the piece at which its slot stands
   piece_along : slot_piece g (l edit) node x
       ≡ along_number g.text (graph_in g) way.number (Some way.edge) x.npc
-  piece_along =
-      ap (λ (ns : List ℕ). along_first (l edit) ns x.npc) way.only
-      ∙ ap (λ (o : Option Edge). along_number g.text (graph_in g) way.number o x.npc) way.is
+  piece_along = rw (way.only, way.is)
 
   -- ---- an edge of which the node has one
 
@@ -456,9 +408,7 @@ module _ (in_slot : InSlot) where
         (record {
           only = ap (λ (n : Node). edge_along (graph_in g) n
               (by_case (lands (graph_in g) (Some target.word)))) (sym target.itself)
-              ∙ ap (λ (o : Option ℕ). edge_along (graph_in g) node
-              (by_case (lands (graph_in g) o)))
-              (sym target.goes)
+              ∙ ap (λ (o : Option ℕ). edge_along (graph_in g) node (by_case (lands (graph_in g) o))) (sym target.goes)
               ∙ ap (edge_along (graph_in g) node) (sym case_way) ∙ edge_is.only;
           found = edge_is.found;
           leaves = edge_is.leaves ∙ target.itself;
@@ -480,10 +430,9 @@ module _ (in_slot : InSlot) where
     where
       number : way_out g.text (graph_in g) node kind ≡ length g.text.words + way.number
       number =
-          ap (λ (k : EdgeKind). way_out g.text (graph_in g) node k) (sym same)
-          ∙ ap (λ (w : WayOut). first_way g.text (graph_in g) (edge_along (graph_in g) node w))
-          (sym (way_is caseless))
-          ∙ ap (first_way g.text (graph_in g)) way.only
+          rw (← same)
+          (ap (λ (w : WayOut). first_way g.text (graph_in g) (edge_along (graph_in g) node w)) (sym (way_is caseless))
+          ∙ rw way.only)
 
       by : (o : Option ℕ) → word_at g.text x.pc ≡ o
           → LeadsTo (site edit) (record { 0 = way_out g.text (graph_in g) node kind }) [] (word_at g.text x.pc)

@@ -1,18 +1,18 @@
 -- Where the words of laid pieces stand.
-use Rattle.jump_code.proofs.Common.{◌≡◌, ℕ, suc, ◌+◌, ◌*◌, Some, List, [], ◌∷◌, length, map, refl, ap, sym, ◌∙◌, subst, arith, Instr, Memory, code_of, StandIn, HasWords, words_of}
-use Rattle.std.proofs.Common.{Option, ◌++◌, append-nil}
+use Rattle.jump_code.proofs.Common.{◌≡◌, ℕ, suc, ◌+◌, ◌*◌, Some, List, [], ◌∷◌, length, map, refl, ap, sym, ◌∙◌, subst, arith, Instr, Memory, code_of, HasWords, words_of}
+use Rattle.std.proofs.Common.{Option, ◌++◌}
 use Rattle.std.specs.Prelude.{slice_get}
 use Rattle.eel_base.specs.declared.numbers.Addr.{Addr}
 use Rattle.eel_base.specs.declared.numbers.PieceNo.{PieceNo}
 use Rattle.layout.specs.declared.items.Item.{Item}
 use Rattle.layout.specs.declared.items.Item.TheVariants as it
-use Rattle.layout.specs.Laid.{IsLaid, Placement, Stands, item_at, item_in}
+use Rattle.layout.specs.Laid.{Placement, Stands, item_in}
 use Rattle.layout.specs.Running.{HasCode}
 use Rattle.layout.proofs.Going.{word_is}
 use Rattle.jump_code.proofs.Fitting.{words_mean, link_fits, find_fits, as_many, Fit}
 use Rattle.jump_code.specs.Finding.{look_up}
 use Rattle.jump_code.specs.Links.{link}
-use Rattle.jump_code.specs.Pieces.{word_items, marked_piece, MarkedIsLaid, PiecesAreLaid}
+use Rattle.jump_code.specs.Pieces.{marked_piece, MarkedIsLaid, PiecesAreLaid}
 
 -- ---- items that stand one after the other
 
@@ -62,17 +62,6 @@ module _ (base : ℕ) (p : Placement) (m : Memory) (has : HasCode base p.code m)
         words = words_mean (code_of m) (place 1) xs fit w.0;
         hi = subst (λ z. place (1 + z) ≡ place 1 + 4 * z) (as_many xs) w.1.end;
       }
-
--- words that stand in a piece from its item n on
-pub words_after : (pieces : List (List Item)) (base : ℕ) (p : Placement) (place : ℕ → ℕ → ℕ) → IsLaid pieces base p place
-    → (m : Memory) → HasCode base p.code m → (k n : ℕ) (xs : List Instr) → Fit xs
-    → ((i : ℕ) (x : Item) → slice_get (word_items xs) i ≡ Some x → item_at pieces k (n + i) ≡ Some x)
-    → StandIn (code_of m) (place k n) xs
-words_after pieces base p place laid m has k n xs fit items =
-    words_mean (code_of m) (place k n) xs fit
-    (words_stand base p m has (place k) (words_of xs) [] n
-    (subst (λ (z : List Item). AllStand base p m has (place k) z n) (sym (append-nil (word_items xs)))
-    (all_stand base p m has (place k) (word_items xs) n (λ j x e. laid.items k (n + j) x (items j x e))))).0
 
 pub pieces_are_laid : PiecesAreLaid
 pieces_are_laid pieces base p place laid m has k piece is =
