@@ -1,5 +1,5 @@
 -- The names of crates below, and of shapes, that more than one proof cites, passed on from one place. Declares nothing.
-pub use Rattle.std.proofs.Common.{◌≡◌, ℕ, List, Some, ◌∙◌, ap, arith, refl, sym, ◌<◌, [], ◌+◌, ◌∷◌, length, None, Bool, false, slice_index, true, Option, slice_get, ◌++◌, ◌≤◌, subst, suc, ◌==◌, if◌then◌else◌, inl, inr, ◌-◌, ◌^◌, ◌≢◌, map, ◌%◌, ◌*◌, zero, append-nil, take, eq-eqb, nat_lt, ℤ, ◌&&◌, ◌⊎◌, eqb-true, length-append, append_assoc, ltb-true, cond, lt-ltb, length-take, ne_eqb, drop, get_or, le-ltb, slice_index_or, Result, not, pos, ◌||◌, Err, Ok, add-zero, zero-add, ◌/◌, add-mul, add-one, add_assoc, mul-le-mul_left, mul-le-mul_right, mul_left_comm, nat_le}
+pub use Rattle.std.proofs.Common.{◌≡◌, ℕ, List, Some, ◌∙◌, ap, arith, refl, sym, ◌<◌, [], ◌+◌, ◌∷◌, length, None, Bool, false, slice_index, true, Option, slice_get, ◌++◌, ◌≤◌, subst, suc, ◌==◌, if◌then◌else◌, inl, inr, ◌-◌, ◌^◌, ◌≢◌, map, ◌%◌, ◌*◌, zero, append-nil, take, eq-eqb, nat_lt, ℤ, ◌&&◌, ◌⊎◌, eqb-true, length-append, append_assoc, ltb-true, cond, lt-ltb, length-take, ne_eqb, get_or, le-ltb, slice_index_or, Result, not, pos, ◌||◌, Err, Ok, add-zero, zero-add, ◌/◌, add-mul, add-one, add_assoc, mul-le-mul_left, mul-le-mul_right, mul_left_comm, nat_le}
 pub use Rattle.addr_translate.specs.Halves.{found_in}
 pub use Rattle.addr_translate.specs.Lookup.{table_word}
 pub use Rattle.cfg_blocks.proofs.Below.{get_or-below, length-below}
@@ -73,7 +73,7 @@ pub use Rattle.jump_code.specs.Keeping.{save_load_address}
 pub use Rattle.jump_code.specs.Leaving.{foreign}
 pub use Rattle.jump_code.specs.Links.{link, past}
 pub use Rattle.jump_code.specs.PageWords.{IsPageWord, saved_address}
-pub use Rattle.jump_code.specs.Pieces.{long_jump_piece, foreign_piece, word_items}
+pub use Rattle.jump_code.specs.Pieces.{word_items}
 pub use Rattle.switch_runs.proofs.About.{about}
 pub use Rattle.switch_runs.proofs.Opened.{opens_are}
 pub use Rattle.switch_runs.specs.Cases.{IsOpenSwitch}

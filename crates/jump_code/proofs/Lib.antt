@@ -6,7 +6,6 @@ pub mod Finding
 pub mod Fitting
 pub mod Jumping
 pub mod Keeping
-pub mod Laid
 pub mod Leaving
 pub mod Linking
 pub mod Swaps

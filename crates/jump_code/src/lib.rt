@@ -7,7 +7,6 @@ ghost use Rattle.jump_code.specs.Jumped.{CallsSimulate};
 ghost use Rattle.jump_code.specs.Keeping.{AddressesAreSaved};
 ghost use Rattle.jump_code.specs.Leaving.{FarGoes, ForeignLeaves};
 ghost use Rattle.jump_code.specs.Links.{CallsAct};
-ghost use Rattle.jump_code.specs.Pieces.{PiecesAreLaid};
 
 mod code;
 mod registers;
@@ -68,9 +67,4 @@ pub fn foreign_leaves()
 /// A long jump goes on at any address that is known when it is made.
 pub fn far_goes()
     ensures { FarGoes }
-{}
-
-/// The words of laid pieces stand where the laws above ask for them.
-pub fn pieces_are_laid()
-    ensures { PiecesAreLaid }
 {}
