@@ -1,5 +1,5 @@
 -- Code in picked registers, word by word.
-use Rattle.snippet_code.proofs.Common.{◌≡◌, ◌≢◌, ℕ, suc, ◌+◌, ◌*◌, ◌%◌, ◌^◌, ◌<◌, ◌≤◌, ◌⊎◌, inl, inr, Bool, true, false, Ok, Some, refl, ap, sym, ◌∙◌, arith, if◌then◌else◌, ◌==◌, pos, Op2, AluOp, Instr, Codes, alu_of, holds_of, wrapped, Memory, code_of, NoSlot, State, register_of, operand_of, sum_of, store_word, any_of_word, word_span, one_if, IsAlike, Works, memory_word, Says, split_below, Gives, equal_or_not, put, put_other, put_same}
+use Rattle.snippet_code.proofs.Common.{◌≡◌, ◌≢◌, ℕ, suc, ◌+◌, ◌*◌, ◌%◌, ◌^◌, ◌<◌, ◌≤◌, ◌⊎◌, inl, inr, Bool, true, false, Ok, Some, refl, ap, sym, ◌∙◌, arith, if◌then◌else◌, ◌==◌, pos, Op2, AluOp, Instr, Codes, alu_of, holds_of, wrapped, Memory, code_of, NoSlot, State, register_of, operand_of, sum_of, store_word, any_of_word, word_span, one_if, IsAlike, Works, memory_word, Says, split_below, equal_or_not, put, put_other, put_same}
 use Rattle.v8_decode.specs.declared.Instr.TheVariants as i
 use Rattle.v8_decode.specs.declared.LoadKind.TheVariants as loads
 use Rattle.v8_decode.specs.declared.StoreKind.TheVariants as stores
@@ -15,7 +15,7 @@ use Rattle.code_runs.proofs.Acts.{says_step, says_puts}
 use Rattle.code_runs.proofs.Counted.{says_stores}
 use Rattle.code_runs.proofs.Leads.{leads_one, leads_then, silent_one, silent_then}
 use Rattle.code_runs.proofs.Picked as word
-use Rattle.code_runs.proofs.Picked.{Acts, IsNext, goes_on, held_put, says_here, stores_next, works_to}
+use Rattle.code_runs.proofs.Picked.{Acts, IsNext, goes_on, says_here, stores_next, works_to}
 use Rattle.code_runs.proofs.StoredWords.{word_stored, other_word_stored, still_stored, can_load, memory_word-range}
 use Rattle.code_runs.proofs.Stores.{stores_none, stores_then}
 use Rattle.snippet_code.proofs.Working.{AreStored, HasWorkspace, WorksWithin}
@@ -28,19 +28,12 @@ words_apart a b ne x y = elim (split_below a b) [
 ]
 
 -- ---- what operations do
-codes_acts : (u : State) (op : AluOp) (rs1 : ℕ) (op2 : Op2) (v : ℕ) (codes : Codes)
-    → alu_of op true (register_of u rs1) (operand_of u op2) u.codes u.y ≡ Ok
+pub both_act : (u : State) (op : AluOp) (sets : Bool) (rd rs1 : ℕ) (op2 : Op2) (v : ℕ) (codes : Codes)
+    → alu_of op sets (register_of u rs1) (operand_of u op2) u.codes u.y ≡ Ok
     (record { value = v; codes = codes; y = u.y })
-    → act u (i.Alu op true 0 rs1 op2) ≡ next (record u { codes = codes })
+    → act u (i.Alu op sets rd rs1 op2) ≡ next (record (with_register u rd v) { codes = codes })
 unfolding act alu_step
-codes_acts u op rs1 op2 v codes e = ap (alu_step u 0) e
-
-both_act : (u : State) (op : AluOp) (rd rs1 : ℕ) (op2 : Op2) (v : ℕ) (codes : Codes)
-    → alu_of op true (register_of u rs1) (operand_of u op2) u.codes u.y ≡ Ok
-    (record { value = v; codes = codes; y = u.y })
-    → act u (i.Alu op true rd rs1 op2) ≡ next (record (with_register u rd v) { codes = codes })
-unfolding act alu_step
-both_act u op rd rs1 op2 v codes e = ap (alu_step u rd) e
+both_act u op sets rd rs1 op2 v codes e = ap (alu_step u rd) e
 
 branch_acts : (u : State) (cond : ℕ) (b : Bool) → u.slot ≡ NoSlot → (cond == 8) ≡ false → holds_of cond u.codes ≡ b
     → act u (i.Branch cond true (pos 2)) ≡ branched b false true u (wrapped (u.pc + 8))
@@ -99,7 +92,7 @@ module _ {s : State} {count : ℕ} {May : ℕ → Type 0} {counted : ℕ → Boo
   }
 
   -- one word more, by what it does beside going on
-  works_step : {n t : ℕ} {g : ℕ → ℕ} {codes : Codes} {f : ℕ → ℕ} (t' : ℕ) {g' : ℕ → ℕ} {codes' : Codes} {f' : ℕ → ℕ}
+  pub works_step : {n t : ℕ} {g : ℕ → ℕ} {codes : Codes} {f : ℕ → ℕ} (t' : ℕ) {g' : ℕ → ℕ} {codes' : Codes} {f' : ℕ → ℕ}
       (x : Instr) (w : WorksWithin s count May counted r want n t g codes f) → IsNext s count n x
       → Acts May x (IsAlike s r want (AreStored May g) codes f) (IsAlike s r want (AreStored May g') codes' f')
       → ((u : State) → IsAlike s r want (AreStored May g) codes f u → t + one_if counted (stores_at u x) ≤ t')
@@ -109,24 +102,6 @@ module _ {s : State} {count : ℕ} {May : ℕ → Type 0} {counted : ℕ → Boo
       let last = stores_next c.block counted x w.ran is.1 in
       let paid = more w.ran.after w.ran.alike in
       record { steps = suc w.steps; ran = goes_on c.block w.ran is acts; stored = omega arith }
-
-  -- ---- SETHI
-  pub sethi : {n t : ℕ} {g : ℕ → ℕ} {codes : Codes} {f : ℕ → ℕ} (j imm v : ℕ)
-      → WorksWithin s count May counted r want n t g codes f → n < count → j < want
-      → Says (code_of s.memory) (s.pc + 4 * n) (i.Sethi (r j) imm) → wrapped (1024 * imm) ≡ v
-      → WorksWithin s count May counted r want (suc n) t g codes (put j v f)
-  sethi {t = t} j imm v w below b says e =
-      works_step t (i.Sethi (r j) imm) w (below, says) (word.sethi c.block j imm v b e) (λ u h. omega arith)
-
-  -- ---- operations that leave the codes and Y
-  pub alu : {n t : ℕ} {g : ℕ → ℕ} {codes : Codes} {f : ℕ → ℕ} (j : ℕ) (op : AluOp) (rs1 : ℕ) (op2 : Op2) (v : ℕ)
-      → WorksWithin s count May counted r want n t g codes f → n < count → j < want
-      → Says (code_of s.memory) (s.pc + 4 * n) (i.Alu op false (r j) rs1 op2)
-      → ((u : State) → IsAlike s r want (AreStored May g) codes f u → Gives op rs1 op2 v u)
-      → WorksWithin s count May counted r want (suc n) t g codes (put j v f)
-  alu {t = t} j op rs1 op2 v w below b says e =
-      works_step t (i.Alu op false (r j) rs1 op2) w (below, says)
-      (word.alu c.block j op rs1 op2 v b e) (λ u h. omega arith)
 
   -- ---- an operation that sets the codes alone
   pub compares : {n t : ℕ} {g : ℕ → ℕ} {codes : Codes} {f : ℕ → ℕ} (op : AluOp) (rs1 : ℕ) (op2 : Op2) (v : ℕ)
@@ -138,38 +113,13 @@ module _ {s : State} {count : ℕ} {May : ℕ → Type 0} {counted : ℕ → Boo
   compares {t = t} op rs1 op2 v codes' w below says e =
       works_step t (i.Alu op true 0 rs1 op2) w (below, says) (λ u h. record {
         to = record u { codes = codes' };
-        acts = codes_acts u op rs1 op2 v codes' (e u h);
+        acts = both_act u op true 0 rs1 op2 v codes' (e u h);
         plain = λ cond q k z. cc;
         pc = refl;
         npc = refl;
         stores = stores_none May u.memory;
         code = refl;
         there = record { same = h.same; codes_are = refl; held = h.held; memory = h.memory };
-      }) (λ u h. omega arith)
-
-  -- ---- an operation that sets the codes and a picked register
-  pub alu_codes : {n t : ℕ} {g : ℕ → ℕ} {codes : Codes} {f : ℕ → ℕ} (j : ℕ) (op : AluOp) (rs1 : ℕ) (op2 : Op2)
-      (v : ℕ) (codes' : Codes) → WorksWithin s count May counted r want n t g codes f → n < count → j < want
-      → Says (code_of s.memory) (s.pc + 4 * n) (i.Alu op true (r j) rs1 op2)
-      → ((u : State) → IsAlike s r want (AreStored May g) codes f u
-      → alu_of op true (register_of u rs1) (operand_of u op2) u.codes u.y ≡ Ok
-      (record { value = v; codes = codes'; y = u.y }))
-      → WorksWithin s count May counted r want (suc n) t g codes' (put j v f)
-  alu_codes {t = t} j op rs1 op2 v codes' w below b says e =
-      works_step t (i.Alu op true (r j) rs1 op2) w (below, says) (λ u h. record {
-        to = record (with_register u (r j) v) { codes = codes' };
-        acts = both_act u op (r j) rs1 op2 v codes' (e u h);
-        plain = λ cond q k z. cc;
-        pc = refl;
-        npc = refl;
-        stores = stores_none May u.memory;
-        code = refl;
-        there = record {
-          same = h.same;
-          codes_are = refl;
-          held = held_put c.block j v b h.same.window h.held;
-          memory = h.memory;
-        };
       }) (λ u h. omega arith)
 
   -- ---- loads and stores

@@ -1,6 +1,6 @@
 -- The names of crates below that more than one proof cites, passed on from one place. Declares nothing.
 pub use Rattle.code_runs.proofs.Leads.{split_below}
-pub use Rattle.code_runs.proofs.Picked.{Gives, equal_or_not, put, put_other, put_same, unpicked_is}
+pub use Rattle.code_runs.proofs.Picked.{equal_or_not, put, put_other, put_same, unpicked_is}
 pub use Rattle.code_runs.specs.Code.{CanStore, any_of_word, store_word, word_span}
 pub use Rattle.code_runs.specs.Counted.{one_if}
 pub use Rattle.code_runs.specs.Picked.{IsAlike, Works}

@@ -9,11 +9,7 @@ use Rattle.snippet_code.specs.Cells.{cell_at}
 use Rattle.snippet_code.specs.Words.{high, low, load_low, store_low, load_next, store_next, add_one, of_two, with_number, add_low, compare, next_if_greater, small, add_words, put_words, top_words, count_words, log_words, op_words, all_words, numbered, save, restore}
 use Rattle.snippet_code.specs.Spills.{is_small, op_registers, registers_for}
 use Rattle.snippet_code.specs.Laws.{EndsLow, EndLow}
-
-infixr 20 ◌&◌
--- both
-◌&◌ : {A B : Type 0} → A → B → A × B
-h & k = (h, k)
+use Rattle.snippet_code.proofs.Micro.{◌&◌}
 
 -- an instruction that a word has
 abbrev pub HasWord : Instr → Type 0

@@ -1,5 +1,5 @@
 -- Operations one after the other, and the registers that are saved before them and loaded after them.
-use Rattle.snippet_code.proofs.Common.{◌≡◌, ◌≢◌, ℕ, zero, suc, ◌+◌, ◌*◌, ◌<◌, ◌≤◌, ◌⊎◌, inl, inr, Bool, false, Some, List, [], ◌∷◌, ◌++◌, length, refl, ap, sym, ◌∙◌, subst, arith, length-append, if◌then◌else◌, ◌||◌, Instr, Codes, Region, code_of, State, register_of, sum_of, register_of-range, Says, StandIn, equal_or_not, put, put_other, put_same, Op, Add, Put, Keep, Top, Count, Log, any_of_word, word_span, one_if}
+use Rattle.snippet_code.proofs.Common.{◌≡◌, ◌≢◌, ℕ, zero, suc, ◌+◌, ◌*◌, ◌<◌, ◌≤◌, ◌⊎◌, inl, inr, Bool, false, Some, List, [], ◌∷◌, ◌++◌, length, refl, ap, sym, ◌∙◌, subst, arith, length-append, if◌then◌else◌, ◌||◌, Instr, Codes, Region, code_of, State, register_of, sum_of, register_of-range, Says, StandIn, equal_or_not, put, put_other, put_same, Op, any_of_word, word_span, one_if}
 use Rattle.std.proofs.lemmas.Bool.{or_parts, or_from}
 use Rattle.v8_decode.specs.declared.Instr.TheVariants as i
 use Rattle.v8_decode.specs.declared.LoadKind.TheVariants as loads
@@ -8,9 +8,8 @@ use Rattle.snippet_code.specs.Code.{kept_word}
 use Rattle.code_runs.specs.Code.{of_page}
 use Rattle.snippet_code.specs.Words.{op_words, all_words, numbered, save, restore, low, high}
 use Rattle.snippet_code.proofs.Working.{HasWorkspace, WorksWithin, update_all, Does, AreFit, AreFrom, HavePage, saved, AreSaved}
-use Rattle.snippet_code.proofs.OneOperation.{as_many, Doing, add_works, put_works, keep_works}
-use Rattle.snippet_code.proofs.Greater.{top_works}
-use Rattle.snippet_code.proofs.Wide.{count_works, log_works}
+use Rattle.snippet_code.proofs.Micro.{as_many, stand_at}
+use Rattle.snippet_code.proofs.OneOperation.{op_works}
 use Rattle.snippet_code.proofs.Blocks.{ld, st}
 
 -- ---- words of two lists
@@ -22,9 +21,6 @@ stand_then code a (x ∷ xs) ys h =
       (h.0, p.0),
       rw (let e : a + 4 + 4 * length xs ≡ a + 4 * suc (length xs) = omega arith in e) at p.1,
     )
-
-pub stand_at : (code : List Region) (a b : ℕ) (xs : List Instr) → StandIn code a xs → a ≡ b → StandIn code b xs
-stand_at code a b xs h e = rw e at h
 
 -- what a store in the page's words costs at most
 pub record IsCost (counted : ℕ → Bool) (cost : ℕ) : Type 0 where
@@ -96,17 +92,6 @@ page_sum u m h = refl
 
 module _ {s : State} {count : ℕ} {May : ℕ → Type 0} {counted : ℕ → Bool} {r : ℕ → ℕ} {want : ℕ}
     (c : HasWorkspace s count May r want) where
-  -- any operation
-  op_works : {n t : ℕ} {g : ℕ → ℕ} {codes : Codes} {f : ℕ → ℕ} (w : WorksWithin s count May counted r want n t g codes f)
-      (cells : ℕ) (d : Bool) (kept : d ≡ false → codes ≡ s.codes) (op : Op)
-      → Doing c w cells d kept op (op_words cells d r op)
-  op_works w cells d kept (Add cell amount) = add_works c w cells d kept cell amount
-  op_works w cells d kept (Put cell value) = put_works c w cells d kept cell value
-  op_works w cells d kept (Keep cell reg) = keep_works c w cells d kept cell reg
-  op_works w cells d kept (Top cell reg) = top_works c w cells d kept cell reg
-  op_works w cells d kept (Count cell) = count_works c w cells d kept cell
-  op_works w cells d kept (Log cell bits value) = log_works c w cells d kept cell bits value
-
   pub all_work : (cells : ℕ) (d : Bool) (ops : List Op) {n t : ℕ} {g : ℕ → ℕ}
       → Does s count May counted r want d n t g → AreFit May counted r want cells d ops
       → n + length (all_words cells d r ops) ≤ count
@@ -121,7 +106,7 @@ module _ {s : State} {count : ℕ} {May : ℕ → Type 0} {counted : ℕ → Boo
       let ys = all_words cells d r rest in
       let l : length (xs ++ ys) ≡ length xs + length ys = length-append xs ys in
       let two = stand_then code (s.pc + 4 * n) xs ys stand in
-      let one = op_works w.works cells d w.kept op h.0 (omega arith) two.0 in
+      let one = op_works c w.works cells d op w.kept h.0 (omega arith) two.0 in
       let more = all_work cells d rest one h.1 (omega arith)
       (stand_at code (s.pc + 4 * n + 4 * length xs) (s.pc + 4 * (n + length xs)) ys two.1 (omega arith)) in
       rw (let e : n + length xs + length ys ≡ n + length (xs ++ ys) = omega arith in e) at more

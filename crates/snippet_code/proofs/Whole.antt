@@ -11,8 +11,8 @@ use Rattle.snippet_code.specs.Runs.{MayStore, IsAboutToRun, RunsPast}
 use Rattle.snippet_code.specs.Laws.{EndsLow, EndLow, SnippetsRun}
 use Rattle.snippet_code.proofs.Working.{HasWorkspace, WorksWithin, Does, update_all, IsRead, AreFit, AreFrom, HavePage, saved, AreSaved}
 use Rattle.snippet_code.proofs.Blocks.{works_none}
-use Rattle.snippet_code.proofs.OneOperation.{as_many}
-use Rattle.snippet_code.proofs.Sequences.{cost_of_page, stand_then, stand_at, all_work, saves, restores}
+use Rattle.snippet_code.proofs.Micro.{as_many, stand_at}
+use Rattle.snippet_code.proofs.Sequences.{cost_of_page, stand_then, all_work, saves, restores}
 use Rattle.snippet_code.proofs.Listed.{listed_same, listed_all, all_away, cell_or_not}
 use Rattle.snippet_code.proofs.Unmoved.{IsApart, word_unmoved}
 use Rattle.snippet_code.proofs.Items.{item_stays}
