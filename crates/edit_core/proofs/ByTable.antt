@@ -11,7 +11,7 @@ use Rattle.switch_runs.proofs.CaseBlocks.{case_blocks}
 use Rattle.switch_runs.proofs.Joined.{jumps_go_by_table}
 use Rattle.image_code.specs.Graphs.{case_table}
 use Rattle.image_code.specs.Loads.{first_operand, is_place, load_of, loads_by, or_first, second_operand}
-use Rattle.image_code.specs.Numbered.{or_zero}
+use Rattle.image_code.specs.Labels.{or_zero}
 use Rattle.image_code.proofs.Opened.{load_is, load_passes}
 use Rattle.image_code.proofs.Positions.{contains, found_in_range}
 use Rattle.edit_core.specs.Runs.{GoesByTable, JumpsGoByTable}

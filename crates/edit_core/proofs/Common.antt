@@ -57,7 +57,7 @@ pub use Rattle.image_code.specs.Fit.{AreFit, PiecesFit}
 pub use Rattle.image_code.specs.Graphs.{IsGraphOf, opens_in}
 pub use Rattle.image_code.specs.Images.{AtVisit, EditorData}
 pub use Rattle.image_code.specs.Made.{lands_at, piece_list}
-pub use Rattle.image_code.specs.Numbered.{case_numbers}
+pub use Rattle.image_code.specs.Labels.{case_numbers}
 pub use Rattle.image_code.specs.Outside.{IsOffPages}
 pub use Rattle.image_code.specs.Simulates.{CaseTable, EditSetup, IsAtWord, IsNoLoad, IsThere, edit_in, graph_in, number_in}
 unfoldable pub use Rattle.image_code.specs.SnippetWords.{codes_of}

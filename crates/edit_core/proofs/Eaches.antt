@@ -1,5 +1,5 @@
 -- What holds of each element.
-use Rattle.edit_core.proofs.Common.{zero, suc, List, [], ◌∷◌, arith, All, flat_map, Each, each-append}
+use Rattle.edit_core.proofs.Common.{zero, suc, List, [], ◌∷◌, arith, All, Each}
 
 pub all_each : {A : Type 0} (P : A → Type 0) (xs : List A) → Each P xs → All P xs
 all_each P [] each k d l = absurd (omega arith)
@@ -9,8 +9,3 @@ all_each P (x ∷ xs) each (suc k) d l = all_each P xs each.1 k d (omega arith)
 pub each_all : {A : Type 0} (P : A → Type 0) (xs : List A) → All P xs → Each P xs
 each_all P [] all = tt
 each_all P (x ∷ xs) all = (all zero x (omega arith), each_all P xs (λ k d l. all (suc k) d (omega arith)))
-
-pub each_flat : {A B : Type 0} (P : B → Type 0) (f : A → List B) (xs : List A) → Each (λ x. Each P (f x)) xs
-    → Each P (flat_map f xs)
-each_flat P f [] each = tt
-each_flat P f (x ∷ xs) each = each-append P (f x) (flat_map f xs) each.0 (each_flat P f xs each.1)

@@ -1,5 +1,5 @@
--- What is written is an edit: its notes meet their rules, and the laws of written files give the rest.
-use Rattle.edit_core.proofs.Common.{◌≡◌, ℕ, zero, suc, ◌+◌, ◌*◌, ◌%◌, ◌^◌, ◌<◌, ◌≤◌, List, [], ◌∷◌, ◌++◌, length, length-append, nat_le, None, inl, inr, refl, ap, ◌∙◌, arith, All, sum_by, length-replicate, count_by-le-length, big_bytes, IsText, Words, fault, image_of, highest_end, Notes, accepted-program, AreNotes, notes_bytes, notes_words, words_bytes, AddedSegment, length-words_bytes, Blocks, holding_of, Graph, TableAt, Each, Placement, AreFit, codes_of, WorksBelow, ToolKind, Plan}
+-- What is written is an edit: its notes meet their rules, and the laws of written files give the rest. It is faithful.
+use Rattle.edit_core.proofs.Common.{◌≡◌, ℕ, suc, ◌+◌, ◌*◌, ◌%◌, ◌^◌, ◌<◌, ◌≤◌, List, [], ◌∷◌, ◌++◌, length, length-append, nat_le, None, inl, inr, refl, ap, ◌∙◌, arith, All, sum_by, length-replicate, count_by-le-length, big_bytes, IsText, Words, fault, image_of, highest_end, Notes, accepted-program, AreNotes, notes_bytes, notes_words, words_bytes, AddedSegment, length-words_bytes, Blocks, holding_of, Graph, TableAt, Each, Placement, AreFit, codes_of, WorksBelow, ToolKind, Plan, true, false, map, slice_index, Some, sym, subst, slice_get, list_any, option_map, le-leb, lt-ltb, append_assoc, slice_get_within, get_or_from_slice_get, address_of, word_at, Mapping, mappings, NoteRange, NoteSegment, Part, decode_of, State, run, start_of, instr_at, mapping_added, kept, Edge, IsEdgeIn, is_node, each, each-append, each-then, IsNoLoad, are_tables, cased, each_index}
 use Rattle.std.proofs.lemmas.List.Elements.{All-replicate}
 use Rattle.notes.specs.Written.{words_bytes as note_bytes}
 use Rattle.notes.proofs.ReadsBack.{written_back}
@@ -11,26 +11,40 @@ use Rattle.elf32_write.proofs.FileBytes.{file_is_bytes}
 use Rattle.elf32_write.proofs.Laws.{original_is_held, notes_are_read, entry_is_given, size_is_bounded}
 use Rattle.elf32_write.proofs.Loads.{file_loads}
 use Rattle.v8_step.proofs.ValidNumbers.{high_first-bytes, flat_map-bytes}
-use Rattle.edit_core.specs.Taken.{CanEdit}
-use Rattle.edit_core.specs.Faithful.{editor_page, page_size, tool_number}
-use Rattle.edit_core.specs.Written.{CanDo, IsNewCode, IsEdit, if_any, cells_at, cells_base, text_of, graph_in, table_base, code_base, pieces_of, entry_of, table_at, segment_size, cases_at, code_segment, page_segment, added, notes_on, edit_file}
+use Rattle.cfg_walk.proofs.Addresses.{word_at-address}
+use Rattle.layout.specs.Laid.{IsWordAt}
+use Rattle.image_code.specs.Fit.{PlacesSay}
+use Rattle.image_code.specs.Keeping.{AreCaseTables}
+use Rattle.edit_core.specs.Taken.{CanEdit, bound_in}
+use Rattle.edit_core.specs.Faithful.{editor_page, page_size, tool_number, HasGraph, HasPages, IsInRoom, IsPlace, holds_cells, note_edges, note_of, word_mapped}
+use Rattle.edit_core.specs.Written.{CanDo, IsNewCode, IsEdit, if_any, cells_at, cells_base, text_of, graph_in, table_base, code_base, pieces_of, entry_of, table_at, segment_size, cases_at, code_segment, page_segment, added, notes_on, edit_file, EditsRunAlike, RunsOf, setup_of, off_range, off_ranges}
 use Rattle.edit_core.proofs.Bounds.{operations_few}
-use Rattle.edit_core.proofs.Fronts.{any_length, each_any}
-use Rattle.edit_core.proofs.Counted.{ranges_few}
+use Rattle.edit_core.proofs.Fronts.{any_length, by_any, each_any, any-map, any_first}
 use Rattle.edit_core.proofs.Eaches.{all_each, each_all}
-use Rattle.edit_core.proofs.Graphs.{edges_inside, entries_few, graph_cut, graph_facts, graph_is}
-use Rattle.edit_core.proofs.Originals.{image_text, image_room, base_above}
-use Rattle.edit_core.proofs.Views.{bound_is}
-use Rattle.edit_core.proofs.Ranges.{ranges_whole, some_code}
-use Rattle.edit_core.proofs.Room.{small_tables}
+use Rattle.edit_core.proofs.Counted.{ranges_few}
+use Rattle.edit_core.proofs.Graphs.{edges_inside, entries_few, graph_cut, graph_facts, graph_is, number_of}
+use Rattle.edit_core.proofs.Originals.{image_text, image_room, base_above, small_tables}
+use Rattle.edit_core.proofs.Views.{bound_is, view_graph}
+use Rattle.edit_core.proofs.Ranges.{ranges_whole, some_code, IsWhole}
 use Rattle.edit_core.proofs.Steps.{segment_is}
 use Rattle.edit_core.proofs.Noted.{IsNoted, are_notes, are_words, few_bytes}
+use Rattle.edit_core.specs.Code.{IsEdited}
+use Rattle.edit_core.specs.Cost.{IsWithinBound, StoresLittle, is_ld}
+use Rattle.edit_core.specs.RunsAlike.{ForEachRun, edit_of}
+use Rattle.edit_core.proofs.Off.{off_by, off_each}
+use Rattle.edit_core.proofs.Mapped.{code_mapped}
 
--- ---- three segments
+-- ---- added segments
 
--- tables, code right behind them, and a page that can be added
-record AreThree (end : ℕ) (t s w : AddedSegment) : Type 0 where
-  pub above : end ≤ t.vaddr
+-- tables, code right behind them, and a page that can be added; cells that may stand before them have no bytes in the file
+record AreAdded (original : List ℕ) (count : ℕ) (z t s w : AddedSegment) : Type 0 where
+  pub front : highest_end (image_of original).segments ≤ z.vaddr
+  pub before : z.vaddr + z.memsz ≤ t.vaddr
+  pub whole : z.vaddr % 4096 ≡ 0
+  pub none : length z.bytes ≡ 0
+  pub cells_filled : 0 < count → 0 < z.memsz
+  pub cells_few : z.memsz ≤ 2 ^ 25
+  pub cells_flags : z.flags < 2 ^ 32
   pub aligned : t.vaddr % 4096 ≡ 0
   pub table_filled : length t.bytes ≡ t.memsz
   pub table_some : 0 < t.memsz
@@ -48,79 +62,49 @@ record AreThree (end : ℕ) (t s w : AddedSegment) : Type 0 where
   pub bytes : length w.bytes ≡ page_size
   pub page_flags : w.flags < 2 ^ 32
 
--- cells that may stand before them, without bytes in the file
-record AreBefore (count end : ℕ) (z t : AddedSegment) : Type 0 where
-  pub front : end ≤ z.vaddr
-  pub behind : z.vaddr + z.memsz ≤ t.vaddr
-  pub whole : z.vaddr % 4096 ≡ 0
-  pub none : length z.bytes ≡ 0
-  pub filled : 0 < count → 0 < z.memsz
-  pub cells_few : z.memsz ≤ 2 ^ 25
-  pub cells_flags : z.flags < 2 ^ 32
-
-pub all_any : {A : Type 0} (P : A → Type 0) (count : ℕ) (z : A) (xs : List A) → (0 < count → P z) → Each P xs
+all_any : {A : Type 0} (P : A → Type 0) (count : ℕ) (z : A) (xs : List A) → (0 < count → P z) → Each P xs
     → All P (if_any count z ++ xs)
 all_any P count z xs here each = all_each P (if_any count z ++ xs) (each_any P count z xs here each)
 
--- how many bytes they have in the file
-sum_few : (count : ℕ) (z t s w : AddedSegment) (end : ℕ) → AreBefore count end z t → AreThree end t s w
-    → sum_by (λ x. length x.bytes) (if_any count z ++ t ∷ s ∷ w ∷ []) ≤ 2 ^ 24 + 2 ^ 30 + 4096
-sum_few zero z t s w end before three =
-    omega (arith, three.table_filled, three.table_few, three.filled, three.few, three.bytes)
-sum_few (suc k) z t s w end before three =
-    omega (arith, before.none, three.table_filled, three.table_few, three.filled, three.few, three.bytes)
+module _ (original : List ℕ) (count : ℕ) (z t s w : AddedSegment) (are : AreAdded original count z t s w) where
+  abbrev behind : List AddedSegment
+  behind = t ∷ s ∷ w ∷ []
 
-can_write : (original : List ℕ) (count : ℕ) (z t s w : AddedSegment) (notes : List ℕ) → fault original ≡ None
-    → length original ≤ 2 ^ 26 → AreBefore count (highest_end (image_of original).segments) z t
-    → AreThree (highest_end (image_of original).segments) t s w → length notes ≤ 2 ^ 28
-    → CanWrite original (if_any count z ++ t ∷ s ∷ w ∷ []) notes
-can_write original count z t s w notes sound limit before three few = record {
-  sound = sound;
-  limit = limit;
-  few = omega (arith, any_length count z, length-append (if_any count z) (t ∷ s ∷ w ∷ []));
-  above = above count;
-  fits = all_any (λ x. length x.bytes ≤ x.memsz) count z (t ∷ s ∷ w ∷ []) (λ some. omega (arith, before.none))
-      (omega (arith, three.table_filled), (omega (arith, three.filled), (omega (arith, three.bytes, three.size), tt)));
-  small = let sum = sum_few count z t s w _ before three in omega (arith, sum, limit, few);
-}
-  where
-    rest : (from : ℕ) → from ≤ t.vaddr → Ascend from (t ∷ s ∷ w ∷ [])
-    rest from under = (under, (omega arith, (omega arith, omega arith)))
+  -- how many bytes they have in the file
+  sum_few : sum_by (λ x. length x.bytes) (if_any count z ++ behind) ≤ 2 ^ 24 + 2 ^ 30 + 4096
+  sum_few =
+      by_any (λ xs. sum_by (λ x. length x.bytes) xs ≤ 2 ^ 24 + 2 ^ 30 + 4096) count z behind (λ _. omega arith)
+      (λ _. omega arith)
 
-    above : (n : ℕ) → Ascend (highest_end (image_of original).segments) (if_any n z ++ t ∷ s ∷ w ∷ [])
-    above zero = rest _ three.above
-    above (suc k) = (before.front, rest _ before.behind)
+  can_write : (notes : List ℕ) → fault original ≡ None → length original ≤ 2 ^ 26 → length notes ≤ 2 ^ 28
+      → CanWrite original (if_any count z ++ behind) notes
+  can_write notes sound limit few = record {
+    sound = sound;
+    limit = limit;
+    few = omega (arith, any_length count z, length-append (if_any count z) behind);
+    above = by_any (Ascend (highest_end (image_of original).segments)) count z behind (λ _. omega arith)
+        (λ _. omega arith);
+    fits = all_any (λ x. length x.bytes ≤ x.memsz) count z behind (λ some. omega arith) (omega arith);
+    small = omega (arith, sum_few, limit, few);
+  }
 
-are_numbers : (original : List ℕ) (count : ℕ) (z t s w : AddedSegment) (entry end : ℕ) → AreBefore count end z t
-    → AreThree end t s w → AreBytes original
-    → entry < 2 ^ 32 → AreNumbers original (if_any count z ++ t ∷ s ∷ w ∷ []) entry
-are_numbers original count z t s w entry end before three bytes l =
-    record {
-      bytes = bytes;
-      words = all_any HasWords count z (t ∷ s ∷ w ∷ []) (λ _. (omega arith, omega arith, before.cells_flags)) (
-        (omega arith, omega arith, three.table_flags),
-        ((omega arith, omega arith, three.flags), ((omega arith, omega arith, three.page_flags), tt)),
-      );
-      address = l;
-    }
+  are_numbers : (entry : ℕ) → AreBytes original → entry < 2 ^ 32
+      → AreNumbers original (if_any count z ++ behind) entry
+  are_numbers entry bytes l = record {
+    bytes = bytes;
+    words = all_any HasWords count z behind (λ _. omega arith) (omega arith);
+    address = l;
+  }
 
-can_load : (count : ℕ) (z t s w : AddedSegment) (end : ℕ) → AreBefore count end z t → AreThree end t s w
-    → CanLoad (if_any count z ++ t ∷ s ∷ w ∷ [])
-can_load count z t s w end before three =
-    let page = three.page in
-    record {
-      pages = all_any (λ x. x.vaddr % 4096 ≡ 0) count z (t ∷ s ∷ w ∷ []) (λ _. before.whole)
-          (three.aligned, (omega arith, (ap (λ z. z % 4096) page, tt)));
-      filled = all_any (λ x. 0 < x.memsz) count z (t ∷ s ∷ w ∷ []) before.filled
-          (three.table_some, (three.some, (omega arith, tt)));
-      reached = all_any IsInReach count z (t ∷ s ∷ w ∷ []) (λ _. inl (omega arith))
-          (inl (omega arith), (inl three.low, (inr (page, three.size), tt)));
-      memory = memory count;
-    }
-  where
-    memory : (n : ℕ) → sum_by (λ x. x.memsz) (if_any n z ++ t ∷ s ∷ w ∷ []) ≤ 1152 * 2 ^ 20
-    memory zero = omega (arith, three.few, three.table_few, three.size)
-    memory (suc k) = omega (arith, before.cells_few, three.few, three.table_few, three.size)
+  can_load : CanLoad (if_any count z ++ behind)
+  can_load = record {
+    pages = all_any (λ x. x.vaddr % 4096 ≡ 0) count z behind (λ _. are.whole) (omega arith);
+    filled = all_any (λ x. 0 < x.memsz) count z behind are.cells_filled (omega arith);
+    reached = all_any IsInReach count z behind (λ _. inl (omega arith))
+        (inl (omega arith), (inl are.low, (inr (are.page, are.size), tt)));
+    memory = by_any (λ xs. sum_by (λ x. x.memsz) xs ≤ 1152 * 2 ^ 20) count z behind (λ _. omega arith)
+        (λ _. omega arith);
+  }
 
 pub words_are_bytes : (words : List ℕ) → AreBytes (words_bytes words)
 unfolding words_bytes
@@ -132,6 +116,62 @@ notes_are_bytes n = flat_map-bytes (big_bytes 4) (high_first-bytes 4) (notes_wor
 
 held_few : (b : Blocks) (word : ℕ) → 1 ≤ length b.firsts → holding_of b word < length b.firsts
 held_few b word some = let c = count_by-le-length (λ first. nat_le first word) b.firsts in omega arith
+
+has_graph : (original : List ℕ) (plan : Plan) (p : Placement)
+    → All (λ range. is_node (graph_in original plan) range.node ≡ true) (notes_on original plan p).ranges
+    → HasGraph original plan (notes_on original plan p)
+has_graph original plan p places =
+    let same = sym (view_graph original plan) in
+    record {
+      start = refl;
+      words = refl;
+      entry = ap (λ (g : Graph). holding_of g.blocks (image_of original).entry) same;
+      blocks = ap (λ (g : Graph). g.blocks.firsts) same;
+      edges = ap (λ (g : Graph). note_edges g plan.kind g.edges plan.snips) same;
+      tool = refl;
+      cells = refl;
+      places = subst (λ (g : Graph). All (λ range. is_node g range.node ≡ true) (notes_on original plan p).ranges) same places;
+    }
+
+pub word_here : (original : List ℕ) (plan : Plan) (word : ℕ) → word < length (text_of original plan).words
+    → word_at (text_of original plan) (address_of (text_of original plan) word) ≡ Some word
+word_here original plan word l =
+    cc (word_at-address (text_of original plan) word, lt-ltb word (length (text_of original plan).words) l)
+
+-- what is kept before the load of an open switch is kept before an LD
+no_load : (original : List ℕ) (plan : Plan) (dead : ℕ → List Part) (p : Placement) (s : State)
+    → AreCaseTables (setup_of original plan dead (notes_on original plan p))
+    → is_ld (instr_at (text_of original plan) s.pc) ≡ false
+    → IsNoLoad (setup_of original plan dead (notes_on original plan p)) s
+no_load original plan dead p s tables none k o some at =
+    let table = tables.each k o some in
+    let is : is_ld (instr_at (text_of original plan) s.pc) ≡ true =
+    ap (λ found. is_ld (option_map (λ word. decode_of (slice_index (text_of original plan).words word)) found)) at
+    ∙ ap (λ instr. is_ld (Some instr)) table.loads in
+    absurd (cc (none, is))
+
+edit_tables : (original : List ℕ) (plan : Plan) (p : Placement) (place : ℕ → ℕ → ℕ) (table : TableAt) (file : List ℕ)
+    → (is : IsEdit original plan p place table file)
+    → AreCaseTables (setup_of original plan is.code.dead (notes_on original plan p))
+edit_tables original plan p place table file is =
+    let g = setup_of original plan is.code.dead (notes_on original plan p) in
+    let text = image_text original is.taken.sound in
+    are_tables g refl text (cased g text (graph_is original plan))
+
+weaker : (original : List ℕ) (plan : Plan) (dead : ℕ → List Part) (p : Placement) (file : List ℕ)
+    → AreCaseTables (setup_of original plan dead (notes_on original plan p))
+    → RunsOf original plan dead file (notes_on original plan p)
+    → ForEachRun original file (StoresLittle (edit_of original plan (notes_on original plan p)) dead
+    (λ s. is_ld (instr_at (text_of original plan) s.pc) ≡ false) (bound_in original plan) (image_of original).entry)
+weaker original plan dead p file tables runs args input given read n untouched watched m k first next =
+    let sparing = runs.stores args input given read n untouched watched m k first next in
+    let strict = no_load original plan dead p (run (start_of original args input) (suc n)) tables in
+    record {
+      spills = sparing.spills;
+      first = λ short. sparing.first (short.0, short.1, strict short.2);
+      alone = λ short. sparing.alone (short.0, short.1, strict short.2);
+      few = λ short. sparing.few (short.0, short.1, strict short.2);
+    }
 
 -- ---- an edit
 
@@ -150,6 +190,9 @@ module _ (original : List ℕ) (plan : Plan) (limit : length original ≤ 2 ^ 26
 
   abbrev tables_from : ℕ
   tables_from = table_base original plan
+
+  abbrev file : List ℕ
+  file = edit_file original plan p table
 
   abbrev notes : Notes
   notes = notes_on original plan p
@@ -178,38 +221,23 @@ module _ (original : List ℕ) (plan : Plan) (limit : length original ≤ 2 ^ 26
   abbrev cells : AddedSegment
   cells = cells_at (cells_base original plan) plan.cells
 
-  -- the code needs no more than the room
-  code_room : 4 * length p.code ≤ (image_of original).room
-  code_room =
+  -- what is added needs no more than the bound
+  within : code_base original plan + 4 * length p.code ≤ cells_base original plan + bound_in original plan
+  within =
       omega (
         arith,
         code.size,
         fit.bytes,
+        entries_few text graph text_is (graph_is original plan),
+        small_tables text text_is,
         operations_few graph plan.kind plan.cells plan.snips work,
         bound_is original plan,
-        can.room,
-        text_is.some,
       )
 
-  before : AreBefore plan.cells (highest_end (image_of original).segments) cells (table_at table)
-  before =
+  are : AreAdded original plan.cells cells (table_at table) its_code page_segment
+  are =
       let base = (accepted-program original can.sound).base in
-      let above = base_above original in
-      let few = work.few in
-      let at = code.base in
-      record {
-        front = omega arith;
-        behind = omega arith;
-        whole = omega arith;
-        none = refl;
-        filled = λ some. omega (arith, some);
-        cells_few = omega arith;
-        cells_flags = omega arith;
-      }
-
-  three : AreThree (highest_end (image_of original).segments) (table_at table) its_code page_segment
-  three =
-      let base = (accepted-program original can.sound).base in
+      let cells_few = work.few in
       let at = code.base in
       let size = size_is in
       let entries = entries_few text graph text_is (graph_is original plan) in
@@ -217,68 +245,44 @@ module _ (original : List ℕ) (plan : Plan) (limit : length original ≤ 2 ^ 26
       let few = text_is.few in
       let some = code_some in
       let above = base_above original in
-      let long = code_room in
+      let long = within in
+      let most = can.room in
       let room = image_room original in
-      record {
-        above = omega arith;
-        aligned = omega arith;
-        table_filled = refl;
-        table_some = omega arith;
-        table_whole = omega arith;
-        table_few = omega arith;
-        table_flags = omega arith;
-        behind = omega arith;
-        filled = length-words_bytes p.code;
-        some = omega arith;
-        low = code.laid.low;
-        few = omega arith;
-        flags = omega arith;
-        page = refl;
-        size = refl;
-        bytes = length-replicate {A = ℕ} page_size 0;
-        page_flags = omega arith;
-      }
+      let filled = length-words_bytes p.code in
+      let low = code.laid.low in
+      let bytes = length-replicate {A = ℕ} page_size 0 in
+      omega arith
 
   held : (ns : List ℕ) → length ns ≤ 2 ^ 28 → HoldsOriginal original (written original segments entry_at ns)
   held ns few = original_is_held original segments entry_at ns
-      (can_write original plan.cells cells (table_at table) its_code page_segment ns can.sound limit before three few)
+      (can_write original plan.cells cells (table_at table) its_code page_segment are ns can.sound limit few)
 
-  noted : IsNoted graph (segment_size text graph) p notes
+  noted : IsNoted original plan p
   noted =
       let cut = graph_cut text graph text_is (graph_is original plan) in
       let first = held [] (omega arith) in
       let base = (accepted-program original can.sound).base in
       record {
-        version = refl;
         delta_from = first.from;
         delta_to = first.to;
         length_to = limit;
         tool = tool_few plan.kind;
-        text = text;
         is_text = text_is;
-        start = refl;
-        words = refl;
         graph_words = cut.words;
         entry = held_few graph.blocks (image_of original).entry cut.firsts.some;
         base = omega arith;
         cells = work.few;
         some = code_some;
-        table = (omega arith, omega arith);
+        table_size = omega arith;
         low = code.laid.low;
-        segments = refl;
         firsts = cut.firsts;
-        blocks = refl;
         edge_count =
             let most = (graph_facts text graph text_is (graph_is original plan)).edge_count in
             let few = text_is.few in
             omega (arith, cut.words);
         edges_in = edges_inside text graph text_is (graph_is original plan);
-        kind = plan.kind;
-        snips = plan.snips;
-        edges = refl;
         counters = work.counters;
         below = each_all (WorksBelow plan.cells) plan.snips (λ k d l. (work.good k d l).below);
-        ranges = refl;
         range_count =
             let marks = ranges_few (pieces_of original plan code.dead) (code_base original plan) p place code.laid in
             omega (arith, fit.marks);
@@ -289,41 +293,36 @@ module _ (original : List ℕ) (plan : Plan) (limit : length original ≤ 2 ^ 26
       }
 
   pub notes_meet_rules : AreNotes notes
-  notes_meet_rules = are_notes graph (segment_size text graph) p notes noted
+  notes_meet_rules = are_notes original plan p noted
 
   notes_few : length (notes_bytes notes) ≤ 2 ^ 28
-  notes_few = few_bytes graph (segment_size text graph) p notes noted
+  notes_few = few_bytes original plan p noted
 
   pub can_be_written : CanWrite original segments (notes_bytes notes)
   can_be_written =
-      can_write original plan.cells cells (table_at table) its_code page_segment _ can.sound limit
-      before three notes_few
+      can_write original plan.cells cells (table_at table) its_code page_segment are _ can.sound limit notes_few
 
-  pub holds : HoldsOriginal original (edit_file original plan p table)
+  holds : HoldsOriginal original file
   holds = held (notes_bytes notes) notes_few
-
-  entry_low : entry_at < 2 ^ 32
-  entry_low = omega arith
 
   module _ (bytes : AreBytes original) where
     numbers : AreNumbers original segments entry_at
     numbers =
-        are_numbers original plan.cells cells (table_at table) its_code page_segment
-        entry_at _ before three bytes entry_low
+        are_numbers original plan.cells cells (table_at table) its_code page_segment are entry_at bytes (omega arith)
 
-    pub small_file : length (edit_file original plan p table) ≤ 1536 * 2 ^ 20
+    small_file : length file ≤ 1536 * 2 ^ 20
     small_file =
         omega (
           arith,
           notes_few,
           size_is_bounded original segments entry_at (notes_bytes notes) can_be_written numbers,
-          sum_few plan.cells cells (table_at table) its_code page_segment _ before three,
+          sum_few original plan.cells cells (table_at table) its_code page_segment are,
         )
 
-    pub is_edit : IsEdit original plan p place table (edit_file original plan p table)
+    is_edit : IsEdit original plan p place table file
     is_edit =
         let ns = notes_bytes notes in
-        let loadable = can_load plan.cells cells (table_at table) its_code page_segment _ before three in
+        let loadable = can_load original plan.cells cells (table_at table) its_code page_segment are in
         record {
           taken = can;
           limit = limit;
@@ -337,8 +336,133 @@ module _ (original : List ℕ) (plan : Plan) (limit : length original ≤ 2 ^ 26
               (notes_are_bytes notes);
           loads = file_loads original segments entry_at ns can_be_written numbers loadable;
           reads = notes_are_read original segments entry_at ns can_be_written
-              ∙ written_back notes (length (edit_file original plan p table)) notes_meet_rules
-              (are_words graph (segment_size text graph) p notes noted) holds.inside;
+              ∙ written_back notes (length file) notes_meet_rules
+              (are_words original plan p noted) holds.inside;
           mapped = segments_are_mapped original segments entry_at ns can_be_written numbers loadable.filled;
           entered = entry_is_given original segments entry_at ns can_be_written numbers;
         }
+
+    -- ---- each place is at a node
+
+    abbrev IsAtNode : NoteRange → Type 0
+    IsAtNode range = is_node graph range.node ≡ true
+
+    nodes_are : All IsAtNode notes.ranges
+    nodes_are =
+        all_each IsAtNode (off_ranges text graph tables_from ++ p.ranges)
+        (each-append IsAtNode (off_ranges text graph tables_from) p.ranges (off_each text graph tables_from
+        (IsEdgeIn graph.blocks graph.opens) (Each IsAtNode) noted.edges_in tt
+        (λ edge inside. ((number_of graph edge.from inside.from).is, tt)))
+        (each-then (IsWhole graph) IsAtNode p.ranges (λ r whole. whole.node.is) noted.whole))
+
+    -- the pages in the room
+    abbrev room_pages : List Mapping
+    room_pages = if_any plan.cells (mapping_added cells) ++ mapping_added (table_at table) ∷ mapping_added its_code ∷ []
+
+    pages_mapped : map mapping_added (added original plan p table) ≡ room_pages ++ mapping_added page_segment ∷ []
+    pages_mapped = rw (any-map mapping_added plan.cells cells, append_assoc) refl
+
+    pages_noted : map note_of (room_pages ++ mapping_added page_segment ∷ []) ≡ notes.segments
+    pages_noted =
+        let base = code.base in
+        let long = size_is in
+        rw (append_assoc, any-map note_of plan.cells (mapping_added cells))
+        (ap (λ (segments : List NoteSegment). if_any plan.cells (note_of (mapping_added cells)) ++ segments) (cc (base, long)))
+
+    has_pages : HasPages original file notes
+    has_pages =
+        let base = code.base in
+        let long = size_is in
+        let bound = within in
+        let room = can.room in
+        record {
+          room = room_pages;
+          editor = mapping_added page_segment;
+          mapped = is_edit.mapped ∙ ap (λ (ms : List Mapping). map kept (mappings original) ++ ms) pages_mapped;
+          noted = pages_noted;
+          inside = all_any (IsInRoom original) plan.cells (mapping_added cells)
+              (mapping_added (table_at table) ∷ mapping_added its_code ∷ []) (λ some. omega arith) (omega arith);
+          own = (refl, refl);
+          cells = has_cells;
+        }
+      where
+        has_cells : 0 < plan.cells → list_any (holds_cells (cells_base original plan) plan.cells) room_pages ≡ true
+        has_cells some =
+            any_first (holds_cells (cells_base original plan) plan.cells) plan.cells (mapping_added cells) _ some (rw (
+              le-leb (cells_base original plan) (cells_base original plan) (omega arith),
+              le-leb (cells_base original plan + 4 * plan.cells) (cells_base original plan + 4 * plan.cells) (omega arith),
+            ) refl)
+
+    within_bound : All (IsWithinBound original plan) notes.segments
+    within_bound =
+        let bound = within in
+        all_any (IsWithinBound original plan) plan.cells (record { start = cells_base original plan; length = 4 * plan.cells })
+        (record { start = tables_from; length = segment_size text graph }
+        ∷ record { start = code_base original plan; length = 4 * length p.code } ∷ note_of (mapping_added page_segment) ∷ [])
+        (λ some low. omega arith) ((λ low. omega arith), ((λ low. omega arith), ((λ low. absurd (omega (arith, low))), tt)))
+
+    place_is : PlacesSay → (n : ℕ) (r : NoteRange) → slice_get p.ranges n ≡ Some r → IsPlace original file r
+    place_is say n r e word l plain same =
+        let here : word_at text r.address ≡ Some word = ap (word_at text) same ∙ word_here original plan word l in
+        let at : IsWordAt (code_base original plan) p.code r.lo (slice_index text.words word) = say text graph tables_from
+        (cases_at text tables_from) (codes_of (cells_base original plan) code.dead plan.snips) (code_base original plan) p place text_is
+        (graph_is original plan) code.laid n r e word here plain in
+        let inside = slice_get_within p.code at.0 (slice_index text.words word) at.2 in
+        let base = code.base in
+        let size = size_is in
+        ap (word_mapped file) at.1
+        ∙ code_mapped original file p.code plan.cells (mapping_added cells) (mapping_added (table_at table))
+        (mapping_added its_code) (mapping_added page_segment ∷ [])
+        (is_edit.mapped ∙ ap (λ (ms : List Mapping). map kept (mappings original) ++ ms)
+        (any-map mapping_added plan.cells cells (table_at table ∷ its_code ∷ page_segment ∷ [])))
+        code.words (omega arith) (omega arith) (omega arith) refl refl at.0 inside
+        ∙ ap (λ w. Some w) (get_or_from_slice_get p.code at.0 (slice_index text.words word) 0 at.2)
+
+    -- no word of the text stands at its end
+    off_place : (edge : Edge) → IsPlace original file (off_range text graph tables_from edge)
+    off_place edge word l plain same = absurd (omega (arith, same, l))
+
+    places_are : PlacesSay → All (IsPlace original file) notes.ranges
+    places_are say =
+        all_each (IsPlace original file) (off_ranges text graph tables_from ++ p.ranges)
+        (each-append (IsPlace original file) (off_ranges text graph tables_from) p.ranges
+        (off_by text graph tables_from (Each (IsPlace original file)) tt (λ edge. (off_place edge, tt)))
+        (each_index (IsPlace original file) p.ranges (place_is say)))
+
+    faithful : EditsRunAlike → PlacesSay → IsEdited original plan file
+    faithful alike say =
+        let runs = alike original plan p place table file is_edit in
+        let tables = edit_tables original plan p place table file is_edit in
+        record {
+          faithful = record {
+            notes = notes;
+            whole = record {
+              loads = is_edit.loads;
+              reads = is_edit.reads;
+              size = refl;
+              holds = holds.holds;
+              small = small_file;
+            };
+            graph = has_graph original plan p nodes_are;
+            pages = has_pages;
+            places = places_are say;
+            runs = runs.alike;
+            counters = work.counters;
+          };
+          version = refl;
+          cost = record {
+            room = within_bound;
+            steps = runs.steps;
+            dead = is_edit.code.dead;
+            exact = rw (view_graph original plan) is_edit.code.exact;
+            stores = weaker original plan is_edit.code.dead p file tables runs;
+          };
+        }
+
+pub edited : EditsRunAlike → PlacesSay → (original : List ℕ) (plan : Plan) → ((dead : ℕ → List Part)
+    → AreFit (text_of original plan) (graph_in original plan) plan.snips (pieces_of original plan dead))
+    → length original ≤ 2 ^ 26 → AreBytes original → CanEdit original plan → CanDo original plan
+    → (p : Placement) (place : ℕ → ℕ → ℕ) (table : TableAt) → IsNewCode original plan p place table
+    → IsEdited original plan (edit_file original plan p table)
+edited alike say original plan fit limit bytes can work p place table code =
+    faithful original plan limit can work p place table code (fit code.dead) bytes alike say

@@ -1,7 +1,8 @@
 -- Where a program is entered: at a block that is the jump's block of no open switch.
 use Rattle.edit_core.proofs.Common.{◌≡◌, ℕ, ◌<◌, ◌==◌, true, Some, None, List, length, ap, sym, ◌∙◌, arith, slice_get, eq-eqb, false≢true, Words, IsText, blocks_of, holding_of, is_among, Node, Block, Landed, X, Graph, graph_of, node_of, Open, cut, block, node_is, opens_in}
-use Rattle.image_code.specs.Numbered.{enter_number, image_number, jump_number}
-use Rattle.image_code.proofs.Positions.{any_at, not_placed}
+use Rattle.image_code.specs.Labels.{enter_number, image_number, switch_at}
+use Rattle.image_code.proofs.ImageNumbers.{not_found}
+use Rattle.image_code.proofs.Positions.{any_at}
 use Rattle.edit_core.proofs.Graphs.{entry_apart}
 
 module _ (text : Words) (given : List ℕ) (entry : ℕ) (is_text : IsText text) (among : is_among given entry ≡ true)
@@ -12,9 +13,9 @@ module _ (text : Words) (given : List ℕ) (entry : ℕ) (is_text : IsText text)
   pub entry_node : node_of (blocks_of text given) (Some entry) ≡ block (holding_of (blocks_of text given) entry)
   entry_node = node_is (blocks_of text given) entry (omega (arith, low, (cut text given is_text.some).words))
 
-  no_jump : jump_number text its_graph (holding_of (blocks_of text given) entry) ≡ None
+  no_jump : switch_at text its_graph (holding_of (blocks_of text given) entry) ≡ None
   no_jump =
-      not_placed (λ (o : Open). o.block == holding_of (blocks_of text given) entry) (opens_in text given entry)
+      not_found (λ (o : Open). o.block == holding_of (blocks_of text given) entry) (opens_in text given entry)
       (entry_apart text given entry is_text among low)
 
   -- control enters it where it is visited

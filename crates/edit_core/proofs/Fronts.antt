@@ -1,5 +1,5 @@
 -- What stands before others only where there are cells.
-use Rattle.edit_core.proofs.Common.{◌≡◌, ℕ, zero, suc, ◌<◌, ◌≤◌, Bool, true, false, ◌&&◌, cond, List, ◌++◌, length, map, Option, Some, None, refl, ap, arith, find, list_any, or_left, or_parts, or_right, Each}
+use Rattle.edit_core.proofs.Common.{◌≡◌, ℕ, zero, suc, ◌<◌, ◌≤◌, Bool, true, false, ◌&&◌, cond, List, ◌∷◌, ◌++◌, length, map, Option, Some, None, refl, ap, arith, find, list_any, or_left, or_parts, or_right, Each}
 use Rattle.std.proofs.Common.{◌||◌}
 use Rattle.edit_core.specs.Written.{if_any}
 
@@ -7,6 +7,11 @@ pub any-map : {A B : Type 0} (f : A → B) (count : ℕ) (x : A) (xs : List A)
     → map f (if_any count x ++ xs) ≡ if_any count (f x) ++ map f xs
 any-map f zero x xs = refl
 any-map f (suc n) x xs = refl
+
+pub by_any : {A : Type 0} (P : List A → Type 0) (count : ℕ) (x : A) (xs : List A) → (count ≡ 0 → P xs)
+    → (0 < count → P (x ∷ xs)) → P (if_any count x ++ xs)
+by_any P zero x xs none some = none refl
+by_any P (suc n) x xs none some = some (omega arith)
 
 pub each_any : {A : Type 0} (P : A → Type 0) (count : ℕ) (x : A) (xs : List A) → (0 < count → P x) → Each P xs
     → Each P (if_any count x ++ xs)

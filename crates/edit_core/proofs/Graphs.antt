@@ -1,5 +1,5 @@
 -- The graph of an original, with its open switches.
-use Rattle.edit_core.proofs.Common.{◌≡◌, ℕ, suc, ◌+◌, ◌-◌, ◌*◌, ◌<◌, ◌≤◌, ◌==◌, inl, inr, true, false, Bool, List, [], ◌∷◌, length, length-append, refl, ap, sym, ◌∙◌, arith, slice_index, list_any, sum_by, cases_Bool, eq-eqb, eqb-true, false_from_ne_true, false≢true, le-ltb, lt-ltb, length-map, sum_by-cons, Words, IsText, image_of, Blocks, blocks_of, holding_of, is_among, last_word, entered_of, Node, Block, Landed, X, Graph, edges_in, IsEdgeIn, IsGraph, IsNodeIn, is_node, node_number, Open, is_copied, jumps_in, cut, Each, each-then, IsGraphOf, opens_in, case_numbers, text_graph, Plan}
+use Rattle.edit_core.proofs.Common.{flat_map, ◌≡◌, ℕ, ◌+◌, ◌-◌, ◌*◌, ◌<◌, ◌≤◌, ◌==◌, inl, inr, true, false, Bool, List, [], ◌∷◌, length, length-append, refl, ap, sym, ◌∙◌, arith, slice_index, list_any, sum_by, cases_Bool, eq-eqb, eqb-true, false_from_ne_true, false≢true, le-ltb, lt-ltb, length-map, sum_by-cons, Words, IsText, image_of, Blocks, blocks_of, holding_of, is_among, last_word, entered_of, Node, Block, Landed, X, Graph, edges_in, IsEdgeIn, IsGraph, IsNodeIn, is_node, node_number, Open, is_copied, jumps_in, cut, Each, each-then, IsGraphOf, opens_in, case_numbers, text_graph, Plan}
 use Rattle.std.proofs.lemmas.Bool.{or_cases}
 use Rattle.cfg_normal.specs.Opens.{compares_in}
 use Rattle.cfg_normal.proofs.GraphFacts.{is_graph}
@@ -8,7 +8,7 @@ use Rattle.cfg_walk.proofs.Holding.{first_held}
 use Rattle.switch_runs.specs.Cases.{IsOpenSwitch}
 use Rattle.switch_runs.proofs.About.{about}
 use Rattle.switch_runs.proofs.Opened.{opens_are}
-use Rattle.image_code.specs.Numbered.{cases_of}
+use Rattle.image_code.specs.Labels.{cases_of}
 use Rattle.image_code.proofs.OpenBlocks.{are_open, is_list}
 use Rattle.edit_core.specs.Written.{given_of, graph_in, text_of}
 
@@ -50,15 +50,14 @@ module _ (text : Words) (graph : Graph) (is_text : IsText text) (h : IsGraphOf t
 
   -- ---- entries
 
-  cases_count : (k : ℕ) (opens : List Open) → length (cases_of text graph k opens)
+  cases_count : (opens : List Open) → length (flat_map (cases_of text graph) opens)
       ≡ sum_by (λ (o : Open). length o.targets) opens
-  cases_count k [] = refl
-  cases_count k (o ∷ opens) =
-      simp (length-append, length-map, cases_count (suc k) opens, sum_by-cons)
+  cases_count [] = refl
+  cases_count (o ∷ opens) = simp (length-append, length-map, cases_count opens, sum_by-cons)
 
   -- there are no more entries than words
   pub entries_few : length (case_numbers text graph) ≤ length text.words
-  entries_few = let few = (text_graph text graph is_text h).entries in omega (arith, cases_count 0 graph.opens)
+  entries_few = let few = (text_graph text graph is_text h).entries in omega (arith, cases_count graph.opens)
 
 -- ---- blocks of open switches
 

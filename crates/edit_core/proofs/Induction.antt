@@ -1,5 +1,5 @@
--- The induction over the steps of the original.
-use Rattle.edit_core.proofs.Common.{◌≡◌, ◌≢◌, ℕ, zero, suc, ◌+◌, ◌-◌, ◌<◌, ◌≤◌, ◌⊎◌, inl, inr, Option, Some, None, List, ◌++◌, append-nil, refl, ap, sym, ◌∙◌, subst, arith, word_at, node_at, NoteRange, range_at, fetch_of, Span, AllApart, Ending, State, sum_of, run, run_puts, IsAmong, StateItem, Register, IsItem, IsSameAt, place_of, place_of-below, slice_get, WritesIn, IsUntouched, visit_of, pages_of, GoesOn, Ends, stays_ended, puts_nothing, Node, Point, point_of, goes_on_at, gone, gone_in, node_after, end_of_walk, CaseTable, IsAtWord, IsNoLoad, IsThere, EditSetup, graph_in, number_in, edit_in, cells_in, store_of, updates, step_stays}
+-- The induction over the steps of the original, and whole runs.
+use Rattle.edit_core.proofs.Common.{◌≡◌, ◌≢◌, ℕ, zero, suc, ◌+◌, ◌-◌, ◌<◌, ◌≤◌, ◌⊎◌, inl, inr, Option, Some, None, List, ◌++◌, append-nil, refl, ap, sym, ◌∙◌, subst, arith, word_at, node_at, NoteRange, range_at, fetch_of, Span, AllApart, Ending, State, sum_of, run, run_puts, IsAmong, StateItem, Register, IsItem, IsSameAt, place_of, place_of-below, slice_get, WritesIn, IsUntouched, visit_of, pages_of, GoesOn, Ends, stays_ended, puts_nothing, Node, Point, point_of, goes_on_at, gone, gone_in, node_after, end_of_walk, CaseTable, IsAtWord, IsNoLoad, IsThere, EditSetup, graph_in, number_in, edit_in, cells_in, store_of, updates, step_stays, Answers, IsLeast, AtVisit, IsOffPages, HasShortForms}
 use Rattle.v8_step.specs.Step.{step_of, puts_of, on_word, puts_on_word}
 use Rattle.v8_step.specs.Code.{AreSameAt}
 use Rattle.two_runs.proofs.Reading.{same_sum}
@@ -21,13 +21,15 @@ use Rattle.code_runs.proofs.Leads.{run_add, puts_add, split_below}
 use Rattle.code_runs.specs.PointsAlike.{AreAlikeOn, AreAtOnePoint, instr_of}
 use Rattle.code_runs.proofs.Ours.{outside_trans}
 use Rattle.code_runs.proofs.PointsAlike.{points_act_alike}
-use Rattle.image_code.specs.Simulates.{IsChosen, KeepsAddress, Steps, IsFollowedBy, IsOnWay, MatchesIn, StepsOn, at_point, does_at, word_of}
+use Rattle.image_code.specs.Simulates.{IsChosen, KeepsAddress, Steps, IsFollowedBy, MatchesIn, StepsOn, at_point, does_at, word_of}
 use Rattle.jump_code.specs.PageWords.{saved_address}
+use Rattle.two_runs.proofs.Stays.{ended_stays}
+use Rattle.two_runs.proofs.Follows.{runs_follow}
 use Rattle.edit_core.specs.RunsAlike.{EndsAtNode, TellsStep}
 use Rattle.edit_core.specs.Runs.{KeepsLoaded, AreTogether, Linked, RunFacts, Spares, instr_in, limits_in}
-use Rattle.two_runs.proofs.Stays.{ended_stays}
-use Rattle.edit_core.proofs.Stops.{gone_none, same_node, same_store, Follows, Tells}
-use Rattle.edit_core.proofs.Places.{node_of_place, placed_between, there_node, visited_address}
+use Rattle.edit_core.proofs.Stops.{gone_none, same_node, same_store, Follows, Tells, stop_is}
+use Rattle.edit_core.proofs.Trails.{node_of_place, placed_between, there_node, visited_address}
+use Rattle.edit_core.specs.Whole.{EditsAnswer, KeptIn}
 
 -- both are over; the written file's pc is then in a place of the node where the original's walk ended, and of the last
 -- instruction, or outside the pages
@@ -166,10 +168,10 @@ module _ (g : EditSetup) (entry : ℕ) (Inside : Point → Type 0) (AtVisit : No
     pub node : node_at g.notes (t m).pc ≡ Some (number_in g (node n))
 
   -- how far both runs have come, up to step `last`
-  data Reached (last n : ℕ) : Type 0 where
-    goes : (m : ℕ) → Links n m → Reached last n
-    ends : (m : ℕ) (d : Ending) → Closes n m d → Reached last n
-    past : (m : ℕ) → last < n → Reached last n
+  data Reached (last n m : ℕ) : Type 0 where
+    goes : Links n m → Reached last n m
+    ends : (d : Ending) → Closes n m d → Reached last n m
+    past : last < n → Reached last n m
 
   module _ (r : RunFacts g entry Inside AtVisit NoLongForms K s0 t0) where
     fetched : (n : ℕ) → fetch_of (s n).memory (s n).pc ≡ word n
@@ -232,85 +234,100 @@ module _ (g : EditSetup) (entry : ℕ) (Inside : Point → Type 0) (AtVisit : No
             ap (λ (z : State). z.pc) stepped ∙ ended_stays (s n) (word n) h.live (λ none. absurd (cc))
             ∙ sym (ended_stays (at_point (point n) (t m)) (word n) other (λ none. absurd (cc)))
 
-    -- where the written file is after the step
-    arrived : (n m : ℕ) (x : IsNext n m) → t (x.on.count + m) ≡ x.on.after
-    arrived n m x = run_add t0 m x.on.count ∙ x.on.path.steps
+    -- what holds where the written file is after the step
+    module _ (n m : ℕ) (h : Links n m) (x : IsNext n m) where
+      abbrev later : ℕ
+      later = x.on.count + m
 
-    puts_next : (n m : ℕ) → Links n m → (x : IsNext n m) (descriptor : ℕ)
-        → run_puts s0 (suc n) descriptor ≡ run_puts t0 (x.on.count + m) descriptor
-    puts_next n m h x descriptor =
-        ap (λ z. z ++ puts_of (s n) descriptor) (h.together.puts descriptor) ∙ ap (λ z. run_puts t0 m descriptor ++ z)
-        (puts_live (s n) (word n) descriptor h.live (fetched n) ∙ x.alike.puts descriptor ∙ sym (x.on.puts descriptor))
-        ∙ sym (puts_add t0 m x.on.count descriptor)
+      arrived : t later ≡ x.on.after
+      arrived = run_add t0 m x.on.count ∙ x.on.path.steps
 
-    world_next : (n m : ℕ) (x : IsNext n m) → IsSameWorld pages (s (suc n)) (t (x.on.count + m))
-    world_next n m x = rw (arrived n m x) (world_then pages _ _ (does n m) x.on.after x.alike.world x.on.followed)
+      puts_next : (descriptor : ℕ) → run_puts s0 (suc n) descriptor ≡ run_puts t0 later descriptor
+      puts_next descriptor =
+          ap (λ z. z ++ puts_of (s n) descriptor) (h.together.puts descriptor) ∙ ap (λ z. run_puts t0 m descriptor ++ z)
+          (puts_live (s n) (word n) descriptor h.live (fetched n) ∙ x.alike.puts descriptor ∙ sym (x.on.puts descriptor))
+          ∙ sym (puts_add t0 m x.on.count descriptor)
 
-    before : (n m : ℕ) → Links n m → (item : StateItem) → IsItem item
-        → WritesIn (instr_in g s0 n) (s n).window item ⊎ K n item
-        → WritesIn (instr_in g s0 n) (s n).window item ⊎ IsSameAt item (s n) (at_point (point n) (t m))
-    before n m h item is (inl a) = inl a
-    before n m h item is (inr a) = inr (same_moved item (s n) (t m) (point n) (h.items item is a))
+      world_next : IsSameWorld pages (s (suc n)) (t later)
+      world_next = rw arrived (world_then pages _ _ (does n m) x.on.after x.alike.world x.on.followed)
 
-    items_next : (n m : ℕ) → Links n m → (x : IsNext n m)
-        → (s (suc n)).ending ≡ None → (item : StateItem) → IsItem item → K (suc n) item
-        → IsSameAt item (s (suc n)) x.on.after
-    items_next n m h x live item is k =
-        let go : (does n m).ending ≡ None = sym x.alike.ending ∙ live in
-        same_trans item (s (suc n)) (does n m) x.on.after
-        (x.alike.items live item is (before n m h item is (r.keeping.back n item k))) (x.on.followed.items go item is
-        (rw x.alike.world.window at (r.keeping.live n item k)))
+      before : (item : StateItem) → IsItem item → WritesIn (instr_in g s0 n) (s n).window item ⊎ K n item
+          → WritesIn (instr_in g s0 n) (s n).window item ⊎ IsSameAt item (s n) (at_point (point n) (t m))
+      before item is (inl a) = inl a
+      before item is (inr a) = inr (same_moved item (s n) (t m) (point n) (h.items item is a))
 
-    -- at a load both compute the same address
-    sums_next : (n m : ℕ) → Links n m → (x : IsNext n m)
-        → (s (suc n)).ending ≡ None → (k : ℕ) (o : CaseTable) → slice_get g.opens k ≡ Some o
-        → word_at g.text (s (suc n)).pc ≡ Some o.load → sum_of (s (suc n)) o.rs1 o.op2 ≡ sum_of x.on.after o.rs1 o.op2
-    sums_next n m h x live k o is at =
-        let c = r.opens.each k o is in
-        let instr : instr_in g s0 (suc n) ≡ Some (i.Load loads.LD c.rd o.rs1 o.op2) = cc (at, c.loads) in
-        load_sum o.rs1 o.op2 (s (suc n)) x.on.after (x.alike.world.window ∙ sym x.on.followed.window)
-        (λ item is among. items_next n m h x live item is (r.keeping.reads (suc n) item is live
-        (rw instr (inr among))))
+      module _ (live : (s (suc n)).ending ≡ None) where
+        go : (does n m).ending ≡ None
+        go = sym x.alike.ending ∙ live
 
-    kept_next : (n m : ℕ) → Links n m → (x : IsNext n m)
-        → (s (suc n)).ending ≡ None → KeepsLoaded g entry s0 (suc n) (t (x.on.count + m))
-    kept_next n m h x live k o is start zero e low came =
-        let now : suc n ≡ start = omega (arith, e) in
-        let first : IsAtWord g o (node (suc n)) (point (suc n)) o.load =
-        (let q : o.load + 0 ≡ o.load = omega arith in let z : 0 + start ≡ suc n = omega (arith, now) in
-        rw q at (rw z at (came 0 (omega arith)))) in
-        let go : (does n m).ending ≡ None = sym x.alike.ending ∙ live in
-        ap (λ (z : State). saved_address z) (arrived n m x) ∙ x.keeps.loaded go k o is
-        (subst (λ (z : Point). IsAtWord g o (node_after (graph_in g) (node n) (edges n)) z o.load)
-        (one_point (s (suc n)) (does n m) (x.alike.point live)) (rw (← end_next n) at first))
-        ∙ sym (sums_next n m h x live k o is first.stands) ∙ ap (λ a. sum_of (s a) o.rs1 o.op2) now
-    kept_next n m h x live k o is start (suc more) e low came =
-        let before_it : n ≡ more + start = omega (arith, e) in
-        let go : (does n m).ending ≡ None = sym x.alike.ending ∙ live in
-        ap (λ (z : State). saved_address z) (arrived n m x) ∙ x.keeps.carried go k o is (o.load + more)
-        (rw (← before_it) at (came more (omega arith)))
-        (omega arith) (omega (arith, low))
-        ∙ h.kept k o is start more before_it (omega (arith, low)) (λ j less. came j (omega (arith, less)))
+        moved : point (suc n) ≡ point_of (does n m)
+        moved = one_point (s (suc n)) (does n m) (x.alike.point live)
 
-    linked_next : (n m : ℕ) → Links n m → (x : IsNext n m)
-        → (s (suc n)).ending ≡ None → Links (suc n) (x.on.count + m)
-    linked_next n m h x live =
-        let at = arrived n m x in
-        let go : (does n m).ending ≡ None = sym x.alike.ending ∙ live in
-        record {
+        items_next : (item : StateItem) → IsItem item → K (suc n) item → IsSameAt item (s (suc n)) x.on.after
+        items_next item is k =
+            same_trans item (s (suc n)) (does n m) x.on.after
+            (x.alike.items live item is (before item is (r.keeping.back n item k))) (x.on.followed.items go item is
+            (rw x.alike.world.window at (r.keeping.live n item k)))
+
+        -- at a load both compute the same address
+        sums_next : (k : ℕ) (o : CaseTable) → slice_get g.opens k ≡ Some o → word_at g.text (s (suc n)).pc ≡ Some o.load
+            → sum_of (s (suc n)) o.rs1 o.op2 ≡ sum_of x.on.after o.rs1 o.op2
+        sums_next k o is at =
+            let c = r.opens.each k o is in
+            let instr : instr_in g s0 (suc n) ≡ Some (i.Load loads.LD c.rd o.rs1 o.op2) = cc (at, c.loads) in
+            load_sum o.rs1 o.op2 (s (suc n)) x.on.after (x.alike.world.window ∙ sym x.on.followed.window)
+            (λ item is among. items_next item is (r.keeping.reads (suc n) item is live (rw instr (inr among))))
+
+        kept_next : KeepsLoaded g entry s0 (suc n) (t later)
+        kept_next k o is start zero e low came =
+            let now : suc n ≡ start = omega (arith, e) in
+            let first : IsAtWord g o (node (suc n)) (point (suc n)) o.load =
+            (let q : o.load + 0 ≡ o.load = omega arith in let z : 0 + start ≡ suc n = omega (arith, now) in
+            rw q at (rw z at (came 0 (omega arith)))) in
+            ap (λ (z : State). saved_address z) arrived ∙ x.keeps.loaded go k o is
+            (subst (λ (z : Point). IsAtWord g o (node_after (graph_in g) (node n) (edges n)) z o.load) moved
+            (rw (← end_next n) at first)) ∙ sym (sums_next k o is first.stands) ∙ ap (λ a. sum_of (s a) o.rs1 o.op2) now
+        kept_next k o is start (suc more) e low came =
+            let before_it : n ≡ more + start = omega (arith, e) in
+            ap (λ (z : State). saved_address z) arrived ∙ x.keeps.carried go k o is (o.load + more)
+            (rw (← before_it) at (came more (omega arith))) (omega arith) (omega (arith, low))
+            ∙ h.kept k o is start more before_it (omega (arith, low)) (λ j less. came j (omega (arith, less)))
+
+        linked_next : Links (suc n) later
+        linked_next = record {
           live = live;
-          here = rw at (rw (one_point (s (suc n)) (does n m) (x.alike.point live))
-              (rw (end_next n) at (x.on.here go)));
-          items = λ item is k. rw at (items_next n m h x live item is k);
-          kept = kept_next n m h x live;
+          here = rw arrived (rw moved (rw (end_next n) at (x.on.here go)));
+          items = λ item is k. rw arrived (items_next item is k);
+          kept = kept_next;
           together = record {
-            world = world_next n m x;
-            puts = puts_next n m h x;
-            cells = ap (cells_in g.notes) at ∙ x.on.cells ∙ ap (λ z. updates g.snips (edges n) z (does n m)) h.together.cells
+            world = world_next;
+            puts = puts_next;
+            cells = ap (cells_in g.notes) arrived ∙ x.on.cells
+                ∙ ap (λ z. updates g.snips (edges n) z (does n m)) h.together.cells
                 ∙ sym (r.keeping.named n (store n) (does n m) live x.alike.world.window
-                (λ item is k. x.alike.items live item is (before n m h item is k)));
+                (λ item is k. x.alike.items live item is (before item is k)));
           };
         }
+
+      closed_next : (d : Ending) → (s (suc n)).ending ≡ Some d → Closes (suc n) later d
+      closed_next d over =
+          let ended : (does n m).ending ≡ Some d = sym x.alike.ending ∙ over in
+          let there : IsThere g (t m) x.on.after = x.on.place (λ none. absurd (cc)) in
+          let at = arrived in
+          record {
+            first = over;
+            second = ap (λ (z : State). z.ending) at ∙ x.on.followed.ending ∙ ended;
+            node = cc (at, there_node g (t m) x.on.after there, x.node, same_node g entry s0 n d over);
+            address = λ place is. visited_address g.notes (t m) (s n).pc place x.visit (cc (there.range, at, is))
+                ∙ sym (step_stays (s n) d h.live over);
+            together = record {
+              world = world_next;
+              puts = puts_next;
+              cells = ap (cells_in g.notes) at ∙ x.on.cells
+                  ∙ ap (λ es. updates g.snips es (cells_in g.notes (t m)) (does n m)) (gone_none g entry s0 n d over)
+                  ∙ h.together.cells ∙ sym (same_store g entry s0 n d over);
+            };
+          }
 
     -- what its steps store and take
     spares_next : (n m : ℕ) (x : IsNext n m) → Saves n m (x.on.count + m)
@@ -342,28 +359,6 @@ module _ (g : EditSetup) (entry : ℕ) (Inside : Point → Type 0) (AtVisit : No
           few = λ short none. omega arith;
         })
 
-    closed_next : (n m : ℕ) → Links n m → (x : IsNext n m) (d : Ending)
-        → (s (suc n)).ending ≡ Some d → Closes (suc n) (x.on.count + m) d
-    closed_next n m h x d over =
-        let at = arrived n m x in
-        let ended : (does n m).ending ≡ Some d = sym x.alike.ending ∙ over in
-        record {
-          first = over;
-          second = ap (λ (z : State). z.ending) at ∙ x.on.followed.ending ∙ ended;
-          node = cc (at, there_node g (t m) x.on.after (there ended), x.node, same_node g entry s0 n d over);
-          address = λ place is. visited_address g.notes (t m) (s n).pc place x.visit
-              (cc ((there ended).range, at, is)) ∙ sym (step_stays (s n) d h.live over);
-          together = record {
-            world = world_next n m x;
-            puts = puts_next n m h x;
-            cells = ap (cells_in g.notes) at ∙ x.on.cells ∙ ap (λ es. updates g.snips es (cells_in g.notes (t m)) (does n m))
-                (gone_none g entry s0 n d over) ∙ h.together.cells ∙ sym (same_store g entry s0 n d over);
-          };
-        }
-      where
-        there : (does n m).ending ≡ Some d → IsThere g (t m) x.on.after
-        there ended = x.on.place (λ none. absurd (cc))
-
     closed_stays : (n m : ℕ) (d : Ending) → Closes n m d → Closes (suc n) m d
     closed_stays n m d h =
         let stays : s (suc n) ≡ s n = stays_ended (s n) d h.first in
@@ -382,40 +377,6 @@ module _ (g : EditSetup) (entry : ℕ) (Inside : Point → Type 0) (AtVisit : No
         }
 
     module _ (last : ℕ) (u : IsUntouched pages s0 last) (inside : StaysInside Inside s0 last) where
-      -- ---- every step
-
-      moment_of : (n : ℕ) → Reached last n → ℕ
-      moment_of n (goes m h) = m
-      moment_of n (ends m d h) = m
-      moment_of n (past m h) = m
-
-      went_by : (n m : ℕ) → Links n m → IsNext n m → (e : Option Ending) → (s (suc n)).ending ≡ e → Reached last (suc n)
-      went_by n m h x None e = goes (x.on.count + m) (linked_next n m h x e)
-      went_by n m h x (Some d) e = ends (x.on.count + m) d (closed_next n m h x d e)
-
-      moment_by : (n m : ℕ) (h : Links n m) (x : IsNext n m) (e : Option Ending)
-          (is : (s (suc n)).ending ≡ e) → moment_of (suc n) (went_by n m h x e is) ≡ x.on.count + m
-      unfolding moment_of went_by
-      moment_by n m h x None is = refl
-      moment_by n m h x (Some d) is = refl
-
-      go_on : (n m : ℕ) → Links n m → (n < last) ⊎ (last ≤ n) → Reached last (suc n)
-      go_on n m h (inl l) = went_by n m h (next_of n m h (u.unjudged n l) (inside n (omega arith) h.live)
-          (inside (suc n) l)) (s (suc n)).ending refl
-      go_on n m h (inr l) = past m (omega arith)
-
-      step : (n : ℕ) → Reached last n → Reached last (suc n)
-      step n (goes m h) = go_on n m h (split_below n last)
-      step n (ends m d h) = ends m d (closed_stays n m d h)
-      step n (past m l) = past m (omega arith)
-
-      reached : (n : ℕ) → Reached last n
-      reached zero = goes r.begin r.first
-      reached (suc n) = step n (reached n)
-
-      moments : ℕ → ℕ
-      moments n = moment_of n (reached n)
-
       -- ---- what holds at each
 
       record IsMoment (n m : ℕ) : Type 0 where
@@ -442,9 +403,8 @@ module _ (g : EditSetup) (entry : ℕ) (Inside : Point → Type 0) (AtVisit : No
             address = λ place is. visited_address g.notes (t m) (s n).pc place visits.1 is;
           }
 
-      moment_at : (n : ℕ) → n ≤ last → (x : Reached last n) → IsMoment n (moment_of n x)
-      unfolding moment_of
-      moment_at n l (goes m h) =
+      moment_at : (n m : ℕ) → n ≤ last → Reached last n m → IsMoment n m
+      moment_at n m l (goes h) =
           let on : GoesOn g.notes s0 t0 n m = record {
             visit = (r.simulates.visits _ _ _ (matched n h.live) (inside n l h.live) h.here).1;
             window = h.together.world.window;
@@ -458,7 +418,7 @@ module _ (g : EditSetup) (entry : ℕ) (Inside : Point → Type 0) (AtVisit : No
             told = λ some. tells_there n m l h;
             over = λ over. absurd (over h.live);
           }
-      moment_at n l (ends m d h) =
+      moment_at n m l (ends d h) =
           let on : Ends g.notes s0 t0 n m = record {
             ending = h.second ∙ sym h.first;
             world = same_outside n m h.together;
@@ -469,7 +429,7 @@ module _ (g : EditSetup) (entry : ℕ) (Inside : Point → Type 0) (AtVisit : No
             told = λ some. record { cells = h.together.cells; node = h.node; address = h.address };
             over = λ over. h.node;
           }
-      moment_at n l (past m k) = absurd (omega arith)
+      moment_at n m l (past k) = absurd (omega arith)
 
       -- ---- what holds from one to the next
 
@@ -478,6 +438,11 @@ module _ (g : EditSetup) (entry : ℕ) (Inside : Point → Type 0) (AtVisit : No
         stays : (d : Ending) → (s n).ending ≡ Some d → k ≡ m
         spared : Saves n m k
         between : (j : ℕ) → m ≤ j → j < k → Tells g entry s0 t0 n j
+
+      record Next (n m : ℕ) : Type 0 where
+        moment : ℕ
+        reached : Reached last (suc n) moment
+        step : n < last → IsStep n m moment
 
       -- a moment on the way
       quiet_at : (m j : ℕ) → m ≤ j → t j ≡ run (t m) (j - m)
@@ -494,10 +459,14 @@ module _ (g : EditSetup) (entry : ℕ) (Inside : Point → Type 0) (AtVisit : No
                 (ap (λ (s : State). s.ending) at ∙ on.live, ap (visit_of g.notes) at ∙ on.visit);
           }
 
-      -- past it, in the place of the visit
-      on_the_way : (n m k : ℕ) → Links n m → IsNext n m → (u : State)
-          → t k ≡ u → IsOnWay g (t m) u → Tells g entry s0 t0 n k
-      on_the_way n m k h x u at on some =
+      -- at a visit, or past it, in its place
+      told_from : (n m k : ℕ) → n ≤ last → Links n m → (x : IsNext n m) → m ≤ k → k < x.on.count + m
+          → (m < k) ⊎ (k ≤ m) → Tells g entry s0 t0 n k
+      told_from n m k l h x a b (inr c) = let e : k ≡ m = omega arith in rw e (λ some. tells_there n m l h)
+      told_from n m k l h x a b (inl c) = λ some.
+          let u = run (t m) (k - m) in
+          let at = quiet_at m k a in
+          let on = x.on.path.quiet (k - m) (omega arith) (omega arith) in
           let same : node_at g.notes (t k).pc ≡ node_at g.notes u.pc = ap (λ (z : State). node_at g.notes z.pc) at in
           let place = placed_between g.notes u on.live on.visit (λ none. some (same ∙ none)) in
           let there = on.place place.0 place.1 in
@@ -505,58 +474,95 @@ module _ (g : EditSetup) (entry : ℕ) (Inside : Point → Type 0) (AtVisit : No
             cells = ap (cells_in g.notes) at ∙ there.1 ∙ h.together.cells;
             node = same ∙ node_of_place g.notes u.pc place.0 place.1
                 ∙ sym (node_of_place g.notes (t m).pc place.0 there.0) ∙ x.node;
-            address = λ other is. visited_address g.notes (t m) (s n).pc other x.visit
-                (cc (there.0, place.1, at, is));
+            address = λ other is. visited_address g.notes (t m) (s n).pc other x.visit (cc (there.0, place.1, at, is));
           }
 
-      -- at a visit, or past it
-      told_from : (n m k : ℕ) → n ≤ last → (h : Links n m) (x : IsNext n m) → m ≤ k → k < x.on.count + m
-          → (m < k) ⊎ (k ≤ m) → Tells g entry s0 t0 n k
-      told_from n m k l h x a b (inr c) =
-          let e : k ≡ m = omega arith in rw e (λ some. tells_there n m l h)
-      told_from n m k l h x a b (inl c) =
-          on_the_way n m k h x (run (t m) (k - m)) (quiet_at m k a)
-          (x.on.path.quiet (k - m) (omega arith) (omega arith))
+      went_by : (n m : ℕ) → Links n m → (x : IsNext n m) → (e : Option Ending) → (s (suc n)).ending ≡ e
+          → Reached last (suc n) (x.on.count + m)
+      went_by n m h x None e = goes (linked_next n m h x e)
+      went_by n m h x (Some d) e = ends d (closed_next n m h x d e)
 
-      step_on : (n m : ℕ) (h : Links n m) → n < last → (c : (n < last) ⊎ (last ≤ n))
-          → IsStep n m (moment_of (suc n) (go_on n m h c))
-      unfolding go_on
-      step_on n m h l (inl k) =
-          let x = next_of n m h (u.unjudged n k) (inside n (omega arith) h.live) (inside (suc n) k) in
-          rw (moment_by n m h x (s (suc n)).ending refl) (record {
-            goes = λ live. way_by n m x;
-            stays = λ d over. absurd (let live : (s n).ending ≡ None = h.live in cc);
-            spared = spares_next n m x;
-            between = λ j a b. told_from n m j (omega arith) h x a b (split_below m j);
-          })
-      step_on n m h l (inr k) = absurd (omega arith)
-
-      step_at : (n : ℕ) → n < last → (x : Reached last n) → IsStep n (moment_of n x) (moment_of (suc n) (step n x))
-      unfolding moment_of step
-      step_at n l (goes m h) = step_on n m h l (split_below n last)
-      step_at n l (ends m d h) = record {
-        goes = λ live. absurd (let over : (s n).ending ≡ Some d = h.first in cc);
-        stays = λ e over. refl;
-        spared = spares_ended n m d h.first;
-        between = λ j a b. absurd (omega arith);
+      next : (n m : ℕ) → Reached last n m → Next n m
+      next n m (goes h) = elim (split_below n last) [
+        | inl l ↦
+            let x = next_of n m h (u.unjudged n l) (inside n (omega (arith, l)) h.live) (inside (suc n) l) in
+            record {
+              moment = x.on.count + m;
+              reached = went_by n m h x (s (suc n)).ending refl;
+              step = λ _. record {
+                goes = λ live. way_by n m x;
+                stays = λ d over. absurd (let live : (s n).ending ≡ None = h.live in cc);
+                spared = spares_next n m x;
+                between = λ j a b. told_from n m j (omega (arith, l)) h x a b (split_below m j);
+              };
+            }
+        | inr l ↦ record { moment = m; reached = past (omega (arith, l)); step = λ k. absurd (omega (arith, l, k)) }
+      ]
+      next n m (ends d h) = record {
+        moment = m;
+        reached = ends d (closed_stays n m d h);
+        step = λ _. record {
+          goes = λ live. absurd (let over : (s n).ending ≡ Some d = h.first in cc);
+          stays = λ e over. refl;
+          spared = spares_ended n m d h.first;
+          between = λ j a b. absurd (omega arith);
+        };
       }
-      step_at n l (past m k) = absurd (omega arith)
+      next n m (past l) = record { moment = m; reached = past (omega arith); step = λ k. absurd (omega arith) }
+
+      came : (n : ℕ) → (m : ℕ) × Reached last n m
+      came zero = (r.begin, goes r.first)
+      came (suc n) = let x = next n (came n).0 (came n).1 in (x.moment, x.reached)
+
+      moment : (n : ℕ) → n ≤ last → IsMoment n (came n).0
+      moment n l = moment_at n (came n).0 l (came n).1
+
+      stepped : (n : ℕ) → n < last → IsStep n (came n).0 (came (suc n)).0
+      unfolding came
+      stepped n l = (next n (came n).0 (came n).1).step l
 
       pub follows : Follows g entry NoLongForms s0 t0 last
-      unfolding moments reached moment_of
+      unfolding came
       follows = record {
-        moments = moments;
+        moments = λ n. (came n).0;
         followed = record {
           soon = r.soon;
           quiet = λ j a b. ((r.early j b).0, (r.early j b).1);
-          matches = λ n l. (moment_at n l (reached n)).matches;
-          goes = λ n l live. (step_at n l (reached n)).goes live;
-          stays = λ n l d over. (step_at n l (reached n)).stays d over;
+          matches = λ n l. (moment n l).matches;
+          goes = λ n l live. (stepped n l).goes live;
+          stays = λ n l d over. (stepped n l).stays d over;
         };
-        cells = λ n l. (moment_at n l (reached n)).cells;
-        spared = λ n l. (step_at n l (reached n)).spared;
+        cells = λ n l. (moment n l).cells;
+        spared = λ n l. (stepped n l).spared;
         early = λ m l. (r.early m l).2;
-        told = λ n l. (moment_at n l (reached n)).told;
-        between = λ n m l a b. (step_at n l (reached n)).between m a b;
-        over = λ n l. (moment_at n l (reached n)).over;
+        told = λ n l. (moment n l).told;
+        between = λ n m l a b. (stepped n l).between m a b;
+        over = λ n l. (moment n l).over;
       }
+
+-- there is one first moment
+one_least : (P : ℕ → Type 0) (m k : ℕ) → IsLeast P m → IsLeast P k → m ≡ k
+one_least P m k h i =
+    let below : m ≤ k = h.least k i.holds in
+    let above : k ≤ m = i.least m h.holds in
+    omega arith
+
+pub edits_answer : EditsAnswer
+edits_answer g l base p place f entry s0 t0 last r u =
+    let k : Follows g entry (HasShortForms l.list place) s0 t0 last = follows g entry (IsOffPages g)
+    (AtVisit g l base p f) (HasShortForms l.list place) (KeptIn g entry s0) s0 t0 r last u (λ k below live. u.outside k below) in
+    let all = runs_follow g.notes s0 t0 64 (limits_in g entry s0) k.moments last k.followed in
+    record {
+      moments = k.moments;
+      answers = all.0;
+      soon = all.1;
+      bounded = all.2;
+      spared = λ n below m i first next.
+          rw (one_least (Answers g.notes s0 t0 n) (k.moments n) m (all.0 n (omega (arith, below))) first) at
+          (rw (one_least (Answers g.notes s0 t0 (suc n)) (k.moments (suc n)) i
+          (all.0 (suc n) (omega (arith, below))) next) at
+          (k.spared n below));
+      cells = k.cells;
+      stops = λ m visits. stop_is g entry (HasShortForms l.list place) s0 t0 last r.first.live k all.0 m visits;
+      over = k.over;
+    }

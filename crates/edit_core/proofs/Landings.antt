@@ -7,6 +7,7 @@ use Rattle.image_code.proofs.OpenNumbers.{enter_below}
 use Rattle.edit_core.specs.declared.requests.Request.{Request}
 use Rattle.edit_core.specs.Written.{addr, case_places, cells_size, entry_number, landings_of, table_after, tables_size, AreTablesOf, TablesMatch}
 use Rattle.edit_core.specs.Private.{AreInside, AreLaid, AreMade, HasRoom, IsBuilt}
+use Rattle.image_code.proofs.Listed.{count_is}
 use Rattle.edit_core.proofs.Graphs.{entries_few, graph_cut}
 use Rattle.edit_core.proofs.Steps.{new_fit, new_room}
 
@@ -22,9 +23,11 @@ pub entry_inside : (text : Words) (graph : Graph) (snips : List (List Op)) (list
 entry_inside text graph snips list is h fit entry l =
     let c = graph_cut text graph is h in
     let low : entry < graph.blocks.words = (let same = c.words in omega (arith, l, same)) in
-    let below = enter_below text graph (text_graph text graph is h) (block (holding_of graph.blocks entry)) entry
-    (in_held graph.blocks.words graph.blocks.firsts c.firsts entry low) in
-    rw (node_is graph.blocks entry low) (omega (arith, below, fit.foreign))
+    let facts = text_graph text graph is h in
+    let held = in_held graph.blocks.words graph.blocks.firsts c.firsts entry low in
+    let below = enter_below text graph facts (block (holding_of graph.blocks entry)) entry
+    (held.within, (held.above, held.below)) in
+    rw (node_is graph.blocks entry low) (omega (arith, below, count_is text graph facts, fit.foreign))
 
 -- ---- the pieces that were made of a view, and where they were placed
 

@@ -1,12 +1,10 @@
 pub mod Common
-pub mod Places
 pub mod Trails
 pub mod Stops
 pub mod Induction
 pub mod Completed
 pub mod Dead
 pub mod Kept
-pub mod Whole
 pub mod Views
 pub mod Tools
 pub mod Eaches
@@ -23,8 +21,6 @@ pub mod Noted
 pub mod Originals
 pub mod Edits
 pub mod Mapped
-pub mod Faithful
-pub mod Room
 pub mod Tables
 pub mod Landings
 pub mod Off

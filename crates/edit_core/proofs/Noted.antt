@@ -1,9 +1,9 @@
 -- The notes on an edit meet their rules.
-use Rattle.edit_core.proofs.Common.{◌≡◌, ℕ, zero, suc, ◌+◌, ◌*◌, ◌%◌, ◌^◌, ◌<◌, ◌≤◌, ◌==◌, true, false, Option, Some, None, List, [], ◌∷◌, ◌++◌, length, length-append, map, refl, ap, sym, ◌∙◌, subst, arith, slice_index, flat_map, list_any, get_or_default_zero, and_from, eq-eqb, le-leb, lt-ltb, or_left, or_right, big_bytes, Words, address_of, IsText, Notes, NoteRange, NoteSegment, holds, AreNotes, are_ranges, AddedSegment, notes_bytes, notes_words, EdgeKind, AreFirsts, Edge, Node, Block, Landed, X, Graph, IsEdgeIn, IsNodeIn, node_number, Each, each-append, each-then, Ascend, Placement, Op, Count, WorksBelow, WorksIn, cells_end, ToolKind, AreCounters}
+use Rattle.edit_core.proofs.Common.{◌≡◌, ℕ, suc, ◌+◌, ◌*◌, ◌%◌, ◌^◌, ◌<◌, ◌≤◌, ◌==◌, true, false, Option, Some, None, List, [], ◌∷◌, ◌++◌, length, length-append, map, refl, ap, sym, subst, arith, slice_index, flat_map, list_any, get_or_default_zero, and_from, eq-eqb, le-leb, lt-ltb, or_left, or_right, big_bytes, Words, address_of, IsText, Notes, NoteRange, NoteSegment, holds, AreNotes, are_ranges, AddedSegment, notes_bytes, notes_words, EdgeKind, AreFirsts, Edge, Node, Block, Landed, X, Graph, IsEdgeIn, IsNodeIn, node_number, Each, each-append, each-then, Ascend, Placement, Op, Count, WorksBelow, WorksIn, cells_end, ToolKind, AreCounters, Plan}
 use Rattle.std.proofs.lemmas.Bool.{ne_eqb}
 use Rattle.byteorder.specs.Numbers.{length-bytes_high_first}
 use Rattle.elf32_write.proofs.WordsBytes.{length-flat_map}
-use Rattle.notes.specs.Format.{follows, is_version}
+use Rattle.notes.specs.Format.{follows}
 use Rattle.notes.specs.Rules.{are_segments, are_blocks, are_edges, is_edge, is_free}
 use Rattle.notes.specs.Laws.{AreWords}
 use Rattle.notes.specs.Written.{words_bytes, segment_words, edge_words, range_words, cell_word}
@@ -11,9 +11,10 @@ use Rattle.cfg_blocks.specs.Code.{IsAscending}
 use Rattle.cfg_normal.specs.Numbers.{kind_number}
 use Rattle.tool_kit.specs.declared.edge_ref.ToolKind.TheVariants as tools
 use Rattle.edit_core.specs.Faithful.{cell_noted, editor_page, note_edge, note_edges, page_size}
-use Rattle.edit_core.specs.Written.{cells_at, code_at, if_any, off_range, off_ranges, page_segment, segment_noted, segments_noted, table_after, table_at}
-use Rattle.edit_core.proofs.Fronts.{any-map, any_length, any_past, each_any}
-use Rattle.edit_core.proofs.Eaches.{all_each, each_all, each_flat}
+use Rattle.edit_core.specs.Written.{cells_at, code_at, if_any, off_range, off_ranges, page_segment, segment_noted, segments_noted, table_after, table_at, text_of, graph_in, notes_on, segment_size, table_base}
+use Rattle.edit_core.proofs.Fronts.{any-map, any_length, any_past, by_any, each_any}
+use Rattle.edit_core.proofs.Eaches.{all_each, each_all}
+use Rattle.image_code.proofs.OpenNumbers.{each_of_all}
 use Rattle.edit_core.proofs.Off.{off_each, off_few}
 use Rattle.edit_core.proofs.Ranges.{IsWhole, ends_by, ranges_rule}
 use Rattle.edit_core.proofs.Snippets.{begins_within}
@@ -149,7 +150,7 @@ edges_fit graph kind cells (e ∷ es) (ops ∷ snips) few cells_few each below =
     let k = kind_few e.kind in
     let f = node_few graph e.from each.0.from in
     let t = node_few graph e.to each.0.to in (
-      (omega arith, (omega arith, (omega arith, (cell_fits cells kind ops cells_few below.0, tt)))),
+      (let c = cell_fits cells kind ops cells_few below.0 in omega arith),
       edges_fit graph kind cells es snips few cells_few each.1 below.1,
     )
 
@@ -161,52 +162,64 @@ ranges_fit graph from to (r ∷ rs) few low a each =
     let wide = a.1 in
     let address = each.0.low in
     let node = each.0.node.few in
-    ((omega arith, (omega arith, (omega arith, (omega arith, tt)))), ranges_fit graph r.hi to rs few low a.2 each.1)
+    (omega arith, ranges_fit graph r.hi to rs few low a.2 each.1)
+
+-- how many bytes notes take
+count_bytes : (n : Notes) → length (notes_bytes n)
+    ≤ 64 + 8 * length n.segments + 4 * length n.blocks + 16 * length n.edges + 16 * length n.ranges
+unfolding notes_bytes words_bytes
+count_bytes n =
+    let w = simp length-append at (length-flat_map (big_bytes 4) 4 (length-bytes_high_first 4) (notes_words n)) in
+    let s = length-flat_map segment_words 2 (λ x. refl) n.segments in
+    let e = length-flat_map edge_words 4 (λ x. refl) n.edges in
+    let g = length-flat_map range_words 4 (λ x. refl) n.ranges in
+    omega arith
 
 -- ---- all of the notes
 
--- notes on cells, a table of this size behind them, code right behind that, and the editor's page
-pub record IsNoted (graph : Graph) (size : ℕ) (p : Placement) (n : Notes) : Type 0 where
-  pub version : n.version ≡ 2
-  pub delta_from : 4096 ≤ n.delta
-  pub delta_to : n.delta ≤ 2 ^ 20
-  pub length_to : n.length ≤ 2 ^ 26
-  pub tool : n.tool ≤ 3
-  pub text : Words
-  pub is_text : IsText text
-  pub start : n.start ≡ text.start
-  pub words : n.words ≡ length text.words
-  pub graph_words : graph.blocks.words ≡ length text.words
-  pub entry : n.entry < length graph.blocks.firsts
-  pub base : n.base % 4 ≡ 0
-  pub cells : n.cells ≤ 2 ^ 23
-  pub some : 0 < length p.code
-  pub table : (4 ≤ size) × (size % 4 ≡ 0)
-  pub low : table_after n.base n.cells + size + 4 * length p.code ≤ 2 ^ 31
-  pub segments : n.segments ≡ segments_noted n.base n.cells size p.code
-  pub firsts : AreFirsts graph.blocks.words graph.blocks.firsts
-  pub blocks : n.blocks ≡ graph.blocks.firsts
-  pub edge_count : length graph.edges ≤ 7 * 2 ^ 20
-  pub edges_in : Each (IsEdgeIn graph.blocks graph.opens) graph.edges
-  pub kind : ToolKind
-  pub snips : List (List Op)
-  pub edges : n.edges ≡ note_edges graph kind graph.edges snips
-  pub counters : kind ≡ tools.Profile → AreCounters 2 0 snips
-  pub below : Each (WorksBelow n.cells) snips
-  pub ranges : n.ranges ≡ off_ranges text graph (table_after n.base n.cells) ++ p.ranges
-  pub range_count : length p.ranges ≤ 2 ^ 23
-  pub ascend : Ascend (table_after n.base n.cells + size) (table_after n.base n.cells + size + 4 * length p.code)
-      p.ranges
-  pub whole : Each (IsWhole graph) p.ranges
+module _ (original : List ℕ) (plan : Plan) (p : Placement) where
+  abbrev text : Words
+  text = text_of original plan
 
-module _ (graph : Graph) (size : ℕ) (p : Placement) (n : Notes) (is : IsNoted graph size p n) where
+  abbrev graph : Graph
+  graph = graph_in original plan
+
+  abbrev n : Notes
+  n = notes_on original plan p
+
+  abbrev size : ℕ
+  size = segment_size text graph
+
+  abbrev table : ℕ
+  table = table_base original plan
+
   abbrev nodes : ℕ
   nodes = length graph.blocks.firsts
 
-  abbrev table : ℕ
-  table = table_after n.base n.cells
+  -- of what the notes are made
+  pub record IsNoted : Type 0 where
+    pub delta_from : 4096 ≤ n.delta
+    pub delta_to : n.delta ≤ 2 ^ 20
+    pub length_to : n.length ≤ 2 ^ 26
+    pub tool : n.tool ≤ 3
+    pub is_text : IsText text
+    pub graph_words : graph.blocks.words ≡ length text.words
+    pub entry : n.entry < length graph.blocks.firsts
+    pub base : n.base % 4 ≡ 0
+    pub cells : n.cells ≤ 2 ^ 23
+    pub some : 0 < length p.code
+    pub table_size : (4 ≤ size) × (size % 4 ≡ 0)
+    pub low : table + size + 4 * length p.code ≤ 2 ^ 31
+    pub firsts : AreFirsts graph.blocks.words graph.blocks.firsts
+    pub edge_count : length graph.edges ≤ 7 * 2 ^ 20
+    pub edges_in : Each (IsEdgeIn graph.blocks graph.opens) graph.edges
+    pub counters : plan.kind ≡ tools.Profile → AreCounters 2 0 plan.snips
+    pub below : Each (WorksBelow n.cells) plan.snips
+    pub range_count : length p.ranges ≤ 2 ^ 23
+    pub ascend : Ascend (table + size) (table + size + 4 * length p.code) p.ranges
+    pub whole : Each (IsWhole graph) p.ranges
 
-  abbrev behind : List NoteSegment
+  abbrev pub behind : List NoteSegment
   behind =
       record { start = table; length = size } ∷ record { start = table + size; length = 4 * length p.code }
       ∷ record { start = editor_page; length = page_size } ∷ []
@@ -214,182 +227,156 @@ module _ (graph : Graph) (size : ℕ) (p : Placement) (n : Notes) (is : IsNoted 
   abbrev pages : List NoteSegment
   pages = segments_noted n.base n.cells size p.code
 
-  nodes_few : length graph.blocks.firsts ≤ 2 ^ 20
-  nodes_few = omega (arith, is.firsts.few, is.graph_words, is.is_text.few)
-
-  ranges_few : length n.ranges ≤ 2 ^ 23 + 1
-  ranges_few =
-      rw is.ranges (simp length-append (omega (arith, off_few is.text graph table, is.range_count)))
-
-  edges_fewer : length n.edges ≤ length graph.edges
-  edges_fewer = rw is.edges (edges_count graph is.kind graph.edges is.snips)
-
-  behind_rule : (end : ℕ) → end ≤ table → are_segments end behind ≡ true
-  behind_rule end under =
-      rw (
-        le-leb end table under,
-        lt-ltb 0 size (omega arith),
-        le-leb (table + size) (2 ^ 32) (omega arith),
-        le-leb (table + size) (table + size) (omega arith),
-        lt-ltb 0 (4 * length p.code) (omega arith),
-        le-leb (table + size + 4 * length p.code) (2 ^ 32) (omega arith),
-        le-leb (table + size + 4 * length p.code) editor_page (omega arith),
-      ) refl
-
-  segments_rule : are_segments 0 pages ≡ true
-  segments_rule = by n.cells refl
-    where
-      by : (count : ℕ) → n.cells ≡ count
-          → are_segments 0 (if_any count (record { start = n.base; length = 4 * count }) ++ behind) ≡ true
-      by zero same = behind_rule 0 (omega arith)
-      by (suc k) same =
-          and_from _ _ (rw (
-            le-leb 0 n.base (omega arith),
-            lt-ltb 0 (4 * suc k) (omega arith),
-            le-leb (n.base + 4 * suc k) (2 ^ 32) (omega arith),
-          ) refl) (behind_rule (n.base + 4 * suc k) (omega (arith, same)))
-
   -- the table and the code hold what lies in them
   table_holds : (lo hi : ℕ) → table ≤ lo → hi ≤ table + size → list_any (holds lo hi) pages ≡ true
   table_holds lo hi from to =
       any_past (holds lo hi) n.cells (record { start = n.base; length = 4 * n.cells }) behind
       (or_left _ _ (and_from _ _ (le-leb table lo from) (le-leb hi (table + size) to)))
 
-  code_holds : (lo hi : ℕ) → table + size ≤ lo → hi ≤ table + size + 4 * length p.code
+  pub code_holds : (lo hi : ℕ) → table + size ≤ lo → hi ≤ table + size + 4 * length p.code
       → list_any (holds lo hi) pages ≡ true
   code_holds lo hi from to =
       any_past (holds lo hi) n.cells (record { start = n.base; length = 4 * n.cells }) behind
       (or_right _ _ (or_left _ _ (and_from _ _ (le-leb (table + size) lo from)
       (le-leb hi (table + size + 4 * length p.code) to))))
 
-  code_rule : (end : ℕ) → end ≤ table + size → are_ranges nodes pages end p.ranges ≡ true
-  code_rule end l =
-      ranges_rule graph pages end (table + size) (table + size + 4 * length p.code) p.ranges
-      is.ascend is.whole l code_holds
+  module _ (is : IsNoted) where
+    nodes_few : length graph.blocks.firsts ≤ 2 ^ 20
+    nodes_few = omega (arith, is.firsts.few, is.graph_words, is.is_text.few)
 
-  off_rule : (edge : Edge) → IsEdgeIn graph.blocks graph.opens edge
-      → are_ranges nodes pages 0 ((off_range is.text graph table edge ∷ []) ++ p.ranges) ≡ true
-  off_rule edge inside =
-      let base : table % 4 ≡ 0 = omega (arith, is.base) in
-      and_from _ _ (rw (
-        eq-eqb (table % 4) 0 base,
-        eq-eqb ((table + 4) % 4) 0 (omega arith),
-        eq-eqb (address_of is.text (length is.text.words) % 4) 0 (omega (arith, is.is_text.aligned)),
-        lt-ltb table (table + 4) (omega arith),
-        le-leb 0 table (omega arith),
-        table_holds table (table + 4) (omega arith) (omega arith),
-        le-leb (node_number graph edge.from) (2 * nodes) (node_few graph edge.from inside.from),
-      ) refl) (code_rule (table + 4) (omega arith))
+    ranges_few : length n.ranges ≤ 2 ^ 23 + 1
+    ranges_few =
+        simp length-append (omega (arith, off_few text graph table, is.range_count))
 
-  all_rule : are_ranges nodes pages 0 (off_ranges is.text graph table ++ p.ranges) ≡ true
-  all_rule =
-      off_each is.text graph table (IsEdgeIn graph.blocks graph.opens)
-      (λ offs. are_ranges nodes pages 0 (offs ++ p.ranges) ≡ true) is.edges_in (code_rule 0 (omega arith)) off_rule
+    edges_fewer : length n.edges ≤ length graph.edges
+    edges_fewer = edges_count graph plan.kind graph.edges plan.snips
 
-  pages_count : length n.segments ≤ 4
-  pages_count =
-      let page = any_length {A = NoteSegment} n.cells (record { start = n.base; length = 4 * n.cells }) in
-      rw is.segments (simp length-append (omega (arith, page)))
+    behind_rule : (end : ℕ) → end ≤ table → are_segments end behind ≡ true
+    behind_rule end under =
+        rw (
+          le-leb end table under,
+          lt-ltb 0 size (omega arith),
+          le-leb (table + size) (2 ^ 32) (omega arith),
+          le-leb (table + size) (table + size) (omega arith),
+          lt-ltb 0 (4 * length p.code) (omega arith),
+          le-leb (table + size + 4 * length p.code) (2 ^ 32) (omega arith),
+          le-leb (table + size + 4 * length p.code) editor_page (omega arith),
+        ) refl
 
-  pub are_notes : AreNotes n
-  are_notes =
-      let text = is.is_text in
-      let f = is.firsts in
-      let blocks = ap length is.blocks in
-      record {
-        version = ap is_version is.version;
-        delta = is.delta_from;
-        tool = rw is.version is.tool;
-        start = (ap (λ z. z % 4) is.start ∙ text.aligned, omega (arith, is.start, text.above));
-        words = (
-          omega (arith, is.words, text.some),
-          omega (arith, is.words, text.few),
-          omega (arith, is.words, is.start, text.below),
-        );
-        entry = omega (arith, is.entry, blocks);
-        base = (is.base, omega (arith, is.cells));
-        cells = rw is.version is.cells;
-        segment_count = omega (arith, pages_count);
-        segments = rw (is.segments) segments_rule;
-        block_count = omega (arith, blocks, f.few, is.graph_words, is.words);
-        blocks = rw (is.blocks, is.words, ← is.graph_words) (blocks_rule graph.blocks.words graph.blocks.firsts None
-            (λ b e l. absurd (cc)) (λ e l. f.begin) f.ascend f.within);
-        edge_count = omega (arith, edges_fewer, is.edge_count);
-        edges = rw (is.version, is.edges, is.blocks) (edges_rule graph is.kind n.cells graph.edges is.snips is.edges_in is.counters is.below);
-        range_count = omega (arith, ranges_few);
-        ranges = rw (is.segments, is.ranges, is.blocks) all_rule;
-      }
+    segments_rule : are_segments 0 pages ≡ true
+    segments_rule =
+        by_any (λ xs. are_segments 0 xs ≡ true) n.cells (record { start = n.base; length = 4 * n.cells }) behind (λ _. behind_rule 0 (omega arith)) (λ some.
+        and_from _ _ (rw (
+          le-leb 0 n.base (omega arith),
+          lt-ltb 0 (4 * n.cells) (omega (arith, some)),
+          le-leb (n.base + 4 * n.cells) (2 ^ 32) (omega arith),
+        ) refl) (behind_rule (n.base + 4 * n.cells) (omega arith)))
 
-  pub are_words : AreWords n
-  are_words =
-      let text = is.is_text in
-      let r = ranges_few in
-      let numbers : List ℕ = n.delta ∷ n.length ∷ n.tool ∷ n.start ∷ n.words ∷ n.entry ∷ n.base ∷ n.cells ∷ [] in
-      let areas : List ℕ = length n.segments ∷ flat_map segment_words n.segments in
-      let firsts : List ℕ = length n.blocks ∷ n.blocks in
-      let links : List ℕ = length n.edges ∷ flat_map edge_words n.edges in
-      let marks : List ℕ = length n.ranges ∷ flat_map range_words n.ranges in
-      all_each Fits (numbers ++ areas ++ firsts ++ links ++ marks)
-      (each-append Fits (numbers ++ areas ++ firsts ++ links) marks (each-append Fits (numbers ++ areas ++ firsts) links
-      (each-append Fits (numbers ++ areas) firsts (each-append Fits numbers areas (
-        omega (arith, is.delta_to),
-        (
-          omega (arith, is.length_to),
-          (
-            omega (arith, is.tool),
-            (
-              omega (arith, is.start, text.below),
-              (
-                omega (arith, is.words, text.few),
-                (omega (arith, is.entry, nodes_few), (omega arith, (omega (arith, is.cells), tt))),
-              ),
-            ),
-          ),
-        ),
-      ) (
-        omega (arith, pages_count),
-        rw (is.segments) segment_words_fit,
-      )) (omega (arith, ap length is.blocks, nodes_few), rw (is.blocks) first_words)) (
-        omega (arith, edges_fewer, is.edge_count),
-        rw (is.edges) (each_flat Fits edge_words (note_edges graph is.kind graph.edges is.snips)
-            (edges_fit graph is.kind n.cells graph.edges is.snips nodes_few is.cells is.edges_in is.below)),
-      ))
-      (omega (arith, r), rw (is.ranges) (each_flat Fits range_words (off_ranges is.text graph table ++ p.ranges) all_fit)))
-    where
-      segment_words_fit : Each Fits (flat_map segment_words pages)
-      segment_words_fit =
-          each_flat Fits segment_words pages (each_any (λ segment. Each Fits (segment_words segment)) n.cells
-          (record { start = n.base; length = 4 * n.cells }) behind (λ some. (omega arith, (omega arith, tt)))
-          ((omega arith, (omega arith, tt)), ((omega arith, (omega arith, tt)), ((omega arith, (omega arith, tt)), tt))))
+    code_rule : (end : ℕ) → end ≤ table + size → are_ranges nodes pages end p.ranges ≡ true
+    code_rule end l =
+        ranges_rule graph pages end (table + size) (table + size + 4 * length p.code) p.ranges
+        is.ascend is.whole l code_holds
 
-      off_fits : (edge : Edge) → IsEdgeIn graph.blocks graph.opens edge
-          → Each (λ range. Each Fits (range_words range)) (off_range is.text graph table edge ∷ [])
-      off_fits edge inside =
-          let node = node_few graph edge.from inside.from in
-          ((omega arith, (omega arith, (omega arith, (omega (arith, node, nodes_few), tt)))), tt)
+    off_rule : (edge : Edge) → IsEdgeIn graph.blocks graph.opens edge
+        → are_ranges nodes pages 0 ((off_range text graph table edge ∷ []) ++ p.ranges) ≡ true
+    off_rule edge inside =
+        let base : table % 4 ≡ 0 = omega (arith, is.base) in
+        and_from _ _ (rw (
+          eq-eqb (table % 4) 0 base,
+          eq-eqb ((table + 4) % 4) 0 (omega arith),
+          eq-eqb (address_of text (length text.words) % 4) 0 (omega (arith, is.is_text.aligned)),
+          lt-ltb table (table + 4) (omega arith),
+          le-leb 0 table (omega arith),
+          table_holds table (table + 4) (omega arith) (omega arith),
+          le-leb (node_number graph edge.from) (2 * nodes) (node_few graph edge.from inside.from),
+        ) refl) (code_rule (table + 4) (omega arith))
 
-      all_fit : Each (λ range. Each Fits (range_words range)) (off_ranges is.text graph table ++ p.ranges)
-      all_fit =
-          each-append _ _ _ (off_each is.text graph table (IsEdgeIn graph.blocks graph.opens)
-          (Each (λ range. Each Fits (range_words range))) is.edges_in tt off_fits)
-          (ranges_fit graph (table + size) (table + size + 4 * length p.code) p.ranges nodes_few is.low is.ascend
-          is.whole)
+    all_rule : are_ranges nodes pages 0 (off_ranges text graph table ++ p.ranges) ≡ true
+    all_rule =
+        off_each text graph table (IsEdgeIn graph.blocks graph.opens)
+        (λ offs. are_ranges nodes pages 0 (offs ++ p.ranges) ≡ true) is.edges_in (code_rule 0 (omega arith)) off_rule
 
-      first_words : Each Fits graph.blocks.firsts
-      first_words = each_all Fits graph.blocks.firsts (λ k d l.
-          omega (arith, is.firsts.within k l, get_or_default_zero graph.blocks.firsts k d l, is.graph_words, is.is_text.few))
+    pages_count : length n.segments ≤ 4
+    pages_count =
+        let page = any_length {A = NoteSegment} n.cells (record { start = n.base; length = 4 * n.cells }) in
+        simp length-append (omega (arith, page))
 
-  -- how many bytes they take
-  pub few_bytes : length (notes_bytes n) ≤ 2 ^ 28
-  unfolding notes_bytes words_bytes
-  few_bytes =
-      let text = is.is_text in
-      let blocks = ap length is.blocks in
-      let w = simp length-append at (length-flat_map (big_bytes 4) 4 (length-bytes_high_first 4) (notes_words n)) in
-      let s = length-flat_map segment_words 2 (λ x. refl) n.segments in
-      let e = length-flat_map edge_words 4 (λ x. refl) n.edges in
-      let g = length-flat_map range_words 4 (λ x. refl) n.ranges in
-      omega (arith, pages_count, ranges_few, nodes_few, edges_fewer, is.edge_count, text.few)
+    pub are_notes : AreNotes n
+    are_notes =
+        let text = is.is_text in
+        record {
+          version = refl;
+          delta = is.delta_from;
+          tool = is.tool;
+          start = (text.aligned, text.above);
+          words = (text.some, text.few, text.below);
+          entry = omega (arith, is.entry);
+          base = (is.base, omega (arith, is.cells));
+          cells = is.cells;
+          segment_count = omega (arith, pages_count);
+          segments = segments_rule;
+          block_count = omega (arith, is.firsts.few, is.graph_words);
+          blocks = subst (λ (words : ℕ). are_blocks words None graph.blocks.firsts ≡ true) is.graph_words
+              (blocks_rule graph.blocks.words graph.blocks.firsts None (λ b e l. absurd (cc))
+              (λ e l. is.firsts.begin) is.firsts.ascend is.firsts.within);
+          edge_count = omega (arith, edges_fewer, is.edge_count);
+          edges = edges_rule graph plan.kind n.cells graph.edges plan.snips is.edges_in is.counters is.below;
+          range_count = omega (arith, ranges_few);
+          ranges = all_rule;
+        }
+
+    pub are_words : AreWords n
+    are_words =
+        let numbers : List ℕ = n.delta ∷ n.length ∷ n.tool ∷ n.start ∷ n.words ∷ n.entry ∷ n.base ∷ n.cells ∷ [] in
+        let areas : List ℕ = length n.segments ∷ flat_map segment_words n.segments in
+        let firsts : List ℕ = length n.blocks ∷ n.blocks in
+        let links : List ℕ = length n.edges ∷ flat_map edge_words n.edges in
+        let marks : List ℕ = length n.ranges ∷ flat_map range_words n.ranges in
+        let small : Each Fits numbers = omega (arith, is.delta_to, is.length_to, is.tool, is.is_text.below, is.is_text.few, is.entry, nodes_few, is.cells) in
+        all_each Fits (numbers ++ areas ++ firsts ++ links ++ marks)
+        (each-append Fits (numbers ++ areas ++ firsts ++ links) marks (each-append Fits (numbers ++ areas ++ firsts) links
+        (each-append Fits (numbers ++ areas) firsts (each-append Fits numbers areas small
+        (omega (arith, pages_count), segment_words_fit)) (omega (arith, nodes_few), first_words)) (
+          omega (arith, edges_fewer, is.edge_count),
+          each_of_all Fits edge_words (note_edges graph plan.kind graph.edges plan.snips)
+              (edges_fit graph plan.kind n.cells graph.edges plan.snips nodes_few is.cells is.edges_in is.below),
+        ))
+        (omega (arith, ranges_few), each_of_all Fits range_words (off_ranges text graph table ++ p.ranges) all_fit))
+      where
+        segment_words_fit : Each Fits (flat_map segment_words pages)
+        segment_words_fit =
+            each_of_all Fits segment_words pages (each_any (λ segment. Each Fits (segment_words segment)) n.cells
+            (record { start = n.base; length = 4 * n.cells }) behind (λ some. omega arith) (omega arith))
+
+        off_fits : (edge : Edge) → IsEdgeIn graph.blocks graph.opens edge
+            → Each (λ range. Each Fits (range_words range)) (off_range text graph table edge ∷ [])
+        off_fits edge inside =
+            let node = node_few graph edge.from inside.from in
+            omega (arith, node, nodes_few)
+
+        all_fit : Each (λ range. Each Fits (range_words range)) (off_ranges text graph table ++ p.ranges)
+        all_fit =
+            each-append _ _ _ (off_each text graph table (IsEdgeIn graph.blocks graph.opens)
+            (Each (λ range. Each Fits (range_words range))) is.edges_in tt off_fits)
+            (ranges_fit graph (table + size) (table + size + 4 * length p.code) p.ranges nodes_few is.low is.ascend
+            is.whole)
+
+        first_words : Each Fits graph.blocks.firsts
+        first_words = each_all Fits graph.blocks.firsts (λ k d l.
+            omega (arith, is.firsts.within k l, get_or_default_zero graph.blocks.firsts k d l, is.graph_words, is.is_text.few))
+
+    pub few_bytes : length (notes_bytes n) ≤ 2 ^ 28
+    few_bytes =
+        omega (
+          arith,
+          count_bytes n,
+          pages_count,
+          ranges_few,
+          nodes_few,
+          edges_fewer,
+          is.edge_count,
+          is.is_text.few,
+        )
 
 -- where no edge or no snippet is left
 pub none_first : (graph : Graph) (kind : ToolKind) (edges : List Edge) (snips : List (List Op)) → length edges ≡ 0

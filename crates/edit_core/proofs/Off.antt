@@ -125,13 +125,18 @@ module _ (text : Words) (graph : Graph) (table : ℕ) where
           → e.from ≡ Block (record { 0 = length graph.blocks.firsts - 1 })
       own_last all k e at here = each_at (IsLast graph.blocks firsts) graph.edges k e all at here
 
+  -- what holds of nothing, and of each edge's place
+  pub off_by : (P : List NoteRange → Type 0) → P [] → ((edge : Edge) → P (off_range text graph table edge ∷ []))
+      → P (off_ranges text graph table)
+  off_by P none some = by (find is_off graph.edges)
+    where
+      by : (o : Option Edge) → P (option_to_list (option_map (off_range text graph table) o))
+      by None = none
+      by (Some edge) = some edge
+
   -- there is one place at most
   pub off_few : length (off_ranges text graph table) ≤ 1
-  off_few = by (find is_off graph.edges)
-    where
-      by : (o : Option Edge) → length (option_to_list (option_map (off_range text graph table) o)) ≤ 1
-      by None = omega arith
-      by (Some edge) = omega arith
+  off_few = off_by (λ rs. length rs ≤ 1) (omega arith) (λ edge. omega arith)
 
   -- what is so for each edge holds of the place
   pub off_each : (Q : Edge → Type 0) (P : List NoteRange → Type 0) → Each Q graph.edges → P []
@@ -156,11 +161,8 @@ module _ (text : Words) (graph : Graph) (table : ℕ) where
 
   -- no other address is in it
   pub off_none : (a : ℕ) → (a < table) ⊎ (table + 4 ≤ a) → range_in (off_ranges text graph table) a ≡ None
-  off_none a beside = by (find is_off graph.edges)
-    where
-      by : (o : Option Edge) → range_in (option_to_list (option_map (off_range text graph table) o)) a ≡ None
-      by None = refl
-      by (Some edge) = unfound (off_range text graph table edge) a beside
+  off_none a beside =
+      off_by (λ rs. range_in rs a ≡ None) refl (λ edge. unfound (off_range text graph table edge) a beside)
 
   pub ranges_beside : (ranges : List NoteRange) (a : ℕ) → (a < table) ⊎ (table + 4 ≤ a)
       → range_in (off_ranges text graph table ++ ranges) a ≡ range_in ranges a

@@ -1,10 +1,11 @@
--- What a file that can be edited has.
-use Rattle.edit_core.proofs.Common.{◌≡◌, ℕ, ◌+◌, ◌-◌, ◌*◌, ◌^◌, ◌≤◌, min, List, map, Option, Some, None, refl, arith, IsText, ProgramHeader, program_headers, loadable, fault, segment_of, highest_end, image_of, accepted}
+-- What a file that can be edited has, and how many bytes its tables have at most.
+use Rattle.edit_core.proofs.Common.{◌≡◌, ℕ, ◌+◌, ◌-◌, ◌*◌, ◌^◌, ◌≤◌, min, List, map, Option, Some, None, refl, arith, IsText, ProgramHeader, program_headers, loadable, fault, segment_of, highest_end, image_of, accepted, length, Words, halves_size}
 use Rattle.std.proofs.Common.{◌/◌}
 use Rattle.std.specs.Option.{option_map_or}
 use Rattle.elf32_sparc.specs.Header.{text_header}
 use Rattle.elf32_sparc.specs.Image.{text_from, text_of, no_text}
 use Rattle.elf32_sparc.proofs.Accepted.{Accepted, IsFit, has_text, text_is_fit}
+use Rattle.edit_core.specs.Written.{cells_size, tables_size}
 
 text_is : (file : List ℕ) → Accepted file → (found : Option ProgramHeader) → text_header (program_headers file) ≡ found
     → IsText (option_map_or (text_from file) found no_text)
@@ -26,3 +27,20 @@ base_above file = rounded (highest_end (map segment_of (loadable (program_header
   where
     rounded : (end : ℕ) → end ≤ (end + 0xffff) / 0x10000 * 0x10000
     rounded end = omega arith
+
+second_small : (t : Words) → IsText t → halves_size t ≤ 397312 + 4 * length t.words
+second_small t text =
+    let few = text.few in
+    omega arith
+
+pub small_tables : (t : Words) → IsText t → tables_size t ≤ 425984 + 8 * length t.words
+small_tables t text =
+    let second = second_small t text in
+    omega arith
+
+-- so they do with the words behind them that have the pieces of Case edges, in whole pages: one for each entry of a table,
+-- and no word of the text stands in two
+pub room_with_cases : (cells words entries size long more : ℕ) → entries ≤ words → size ≤ 425984 + 8 * words
+    → long ≤ 2 ^ 19 + 500 * words + 128 * more
+    → cells_size cells + size + cells_size entries + long ≤ 2 ^ 20 + 512 * words + 4 * cells + 128 * more
+room_with_cases cells words entries size long more few small fit = omega (arith, few, small, fit)

@@ -1,5 +1,5 @@
 -- Of a faithful edit all can be seen from outside that its original shows.
-use Rattle.edit_core.proofs.Common.{◌≡◌, ℕ, suc, ◌+◌, ◌-◌, ◌^◌, ◌&&◌, not, ◌≤◌, inl, inr, true, false, List, [], ◌∷◌, ◌++◌, length, map, Option, Some, None, refl, ap, sym, ◌∙◌, arith, append-nil, list_any, and_parts, or_parts, nat_tests, map-append, map-map, Notes, NoteSegment, range_at, ProgramHeader, loadable, program_headers, image_of, Mapping, mapping_of, mappings, kept, region_of, Span, IsApart, IsApartFromAll, AllApart, Ending, State, AreBytes, run, run_puts, puts_nothing, stays_ended, Answers, if_live, in_pages, pages_of, own_trail, trail_of, visit_of, visited, AreArguments, program_name, stack_region, start_memory, start_of, Plan}
+use Rattle.edit_core.proofs.Common.{◌≡◌, ℕ, suc, ◌+◌, ◌-◌, ◌^◌, ◌&&◌, not, ◌≤◌, inl, inr, true, false, List, [], ◌∷◌, ◌++◌, length, map, Some, None, refl, ap, sym, ◌∙◌, arith, append-nil, list_any, and_parts, or_parts, nat_tests, map-append, map-map, Notes, NoteSegment, ProgramHeader, loadable, program_headers, image_of, Mapping, mapping_of, mappings, kept, region_of, Span, IsApart, IsApartFromAll, AllApart, Ending, State, AreBytes, run, run_puts, puts_nothing, stays_ended, Answers, pages_of, own_trail, trail_of, IsUntouched, Each, AreArguments, program_name, stack_region, start_memory, start_of, Plan}
 use Rattle.std.proofs.Common.{append_assoc}
 use Rattle.elf32_sparc.specs.FileFault.{has_memory_outside_a_run, is_last_page, leaves_room, load_fault}
 use Rattle.elf32_sparc.proofs.Loadable.{loadable_file}
@@ -15,7 +15,7 @@ use Rattle.edit_core.specs.Faithful.{HasPages, IsFaithful, note_of}
 use Rattle.edit_core.specs.Code.{EditsAreUntouched, EditsCrashAlike, EditsDoTheSame, GrantedRunsAreAlike}
 use Rattle.edit_core.specs.Outwardly.{LooksAs, RunsLike}
 use Rattle.edit_core.specs.RunsAlike.{AreRunsAlike, edit_of}
-use Rattle.edit_core.proofs.Trails.{ending, few_visits, from_on, going, over_or_not, own_live, stays}
+use Rattle.edit_core.proofs.Trails.{visit_lives, ending, few_visits, from_on, going, over_or_not, own_live, stays}
 
 -- ---- spans of which no two have a common address
 
@@ -102,10 +102,6 @@ unmapped original file notes has loads texts = record {
 abbrev IsHigh : Span → Type 0
 IsHigh p = (0x1000 ≤ p.from) × (p.from + p.count ≤ 2 ^ 32)
 
-abbrev AreHigh : List Span → Type 0
-AreHigh [] = Unit {0}
-AreHigh (p ∷ pages) = IsHigh p × AreHigh pages
-
 high : (file : List ℕ) (h : ProgramHeader) → (leaves_room h && not (is_last_page h)) ≡ false
     → IsHigh (span_of_mapping (mapping_of file h))
 high file h none = (low, end)
@@ -117,22 +113,20 @@ high file h none = (low, end)
     end = grind (arith, nat_tests)
 
 each_high : (file : List ℕ) (hs : List ProgramHeader) → list_any (λ h. leaves_room h && not (is_last_page h)) hs ≡ false
-    → AreHigh (map span_of_mapping (map (mapping_of file) hs))
+    → Each IsHigh (map span_of_mapping (map (mapping_of file) hs))
 each_high file [] none = tt
-each_high file (h ∷ hs) none =
-    let parts = or_parts (leaves_room h && not (is_last_page h)) (list_any (λ h. leaves_room h && not (is_last_page h)) hs) none in
-    (high file h parts.0, each_high file hs parts.1)
+each_high file (h ∷ hs) none = let parts = or_parts _ _ none in (high file h parts.0, each_high file hs parts.1)
 
-all_high : (file : List ℕ) → load_fault file ≡ None → AreHigh (map span_of_mapping (mappings file))
+all_high : (file : List ℕ) → load_fault file ≡ None → Each IsHigh (map span_of_mapping (mappings file))
 unfolding mappings has_memory_outside_a_run
 all_high file loads = each_high file (loadable (program_headers file)) (loadable_file file loads).segment_room
 
-rest_high : (xs ys : List Span) → AreHigh (xs ++ ys) → AreHigh ys
+rest_high : (xs ys : List Span) → Each IsHigh (xs ++ ys) → Each IsHigh ys
 rest_high [] ys h = h
 rest_high (x ∷ xs) ys h = rest_high xs ys h.1
 
 pages_high : (original file : List ℕ) (notes : Notes) → HasPages original file notes
-    → load_fault file ≡ None → AreHigh (pages_of notes)
+    → load_fault file ≡ None → Each IsHigh (pages_of notes)
 pages_high original file notes has loads =
     let all = all_high file loads in
     rest_high (map span_of_mapping (map kept (mappings original))) (pages_of notes)
@@ -145,24 +139,17 @@ pages_high original file notes has loads =
 lower : (p y : Span) → IsHigh p → IsApart (record { from = 0x1000; count = 2 ^ 32 - 0x1000 }) y → IsApart p y
 lower p y is apart = grind arith
 
-lower_each : (pages : List Span) (y : Span) → AreHigh pages
+lower_each : (pages : List Span) (y : Span) → Each IsHigh pages
     → IsApartFromAll (record { from = 0x1000; count = 2 ^ 32 - 0x1000 } ∷ []) y → IsApartFromAll pages y
 lower_each [] y are apart = tt
 lower_each (p ∷ pages) y are apart = (lower p y are.0 apart.0, lower_each pages y are.1 apart)
 
-lower_all : (pages ys : List Span) → AreHigh pages
+lower_all : (pages ys : List Span) → Each IsHigh pages
     → AllApart (record { from = 0x1000; count = 2 ^ 32 - 0x1000 } ∷ []) ys → AllApart pages ys
 lower_all pages [] are apart = tt
 lower_all pages (y ∷ ys) are apart = (lower_each pages y are apart.0, lower_all pages ys are apart.1)
 
 -- ---- runs
-
-visit_lives : (notes : Notes) (t : State) (a : ℕ) → visit_of notes t ≡ Some a → t.ending ≡ None
-visit_lives notes t a is = by t.ending (visited (range_at notes t.pc) (in_pages notes t.pc) t.pc) refl is
-  where
-    by : (e : Option Ending) (o : Option ℕ) → t.ending ≡ e → if_live e o ≡ Some a → t.ending ≡ None
-    by None o live is = live
-    by (Some d) o over is = absurd (cc)
 
 -- a run that has ended puts nothing more out
 puts_stay : (t0 : State) (m k : ℕ) (d : Ending) (descriptor : ℕ) → m ≤ k → (run t0 m).ending ≡ Some d
@@ -247,39 +234,35 @@ module _ (original : List ℕ) (plan : Plan) (file : List ℕ) (faithful : IsFai
   alike : AreRunsAlike (edit_of original plan faithful.notes) (image_of original).entry s0 t0
   alike = faithful.runs args input given read
 
-  comes_to : (n : ℕ) → IsGranted s0 n → (m : ℕ) × LooksAs s0 t0 n m
-  comes_to n granted =
-      let answered = alike.answered n (edits_are_untouched original plan file faithful args input n granted) in
+  comes_to : (n : ℕ) → IsUntouched (pages_of faithful.notes) s0 n → (m : ℕ) × LooksAs s0 t0 n m
+  comes_to n untouched =
+      let answered = alike.answered n untouched in
       shown faithful.notes s0 t0 n answered.moment answered.first.holds
 
 pub does_the_same : EditsDoTheSame
 does_the_same original plan file faithful args input given read =
     runs_like (start_of original args input) (start_of file args input)
-    (comes_to original plan file faithful args input given read)
+    (λ n granted. comes_to original plan file faithful args input given read n
+    (edits_are_untouched original plan file faithful args input n granted))
 
 pub granted_runs_are_alike : GrantedRunsAreAlike
 granted_runs_are_alike original plan file is args input given read =
-    let alike : AreRunsAlike (edit_of original plan is.faithful.notes) (image_of original).entry
-    (start_of original args input) (start_of file args input) = is.faithful.runs args input given read in
+    let its = alike original plan file is.faithful args input given read in
     let untouched = edits_are_untouched original plan file is.faithful args input in
     record {
-      answered = λ n granted. alike.answered n (untouched n granted);
+      answered = λ n granted. its.answered n (untouched n granted);
       bounded = λ n granted. (is.cost.steps args input given read).bounded n (untouched (suc n) granted);
-      stops = λ m granted. alike.stops m (untouched _ granted);
+      stops = λ m granted. its.stops m (untouched _ granted);
     }
 
 pub crash_alike : EditsCrashAlike
 unfolding start_of
 crash_alike original plan file faithful args input given read n refused =
-    let alike : AreRunsAlike (edit_of original plan faithful.notes) (image_of original).entry
-    (start_of original args input) (start_of file args input) = faithful.runs args input given read in
     let pages = pages_of faithful.notes in
     let are = pages_high original file faithful.notes faithful.pages faithful.whole.loads in
-    let untouched = unmapped_is_untouched pages (start_of original args input) n refl
-    (unmapped original file faithful.notes faithful.pages faithful.whole.loads (program_name ∷ args))
-    (record {
+    comes_to original plan file faithful args input given read n
+    (unmapped_is_untouched pages (start_of original args input) n refl
+    (unmapped original file faithful.notes faithful.pages faithful.whole.loads (program_name ∷ args)) (record {
       outside = λ k below live none. lower_each pages _ are (refused.outside k below live none);
       unjudged = λ k below is. lower_all pages _ are (refused.unjudged k below is);
-    }) in
-    let answered = alike.answered n untouched in
-    shown faithful.notes (start_of original args input) (start_of file args input) n answered.moment answered.first.holds
+    }))

@@ -1,5 +1,5 @@
 -- The words of the tables, of the cells and of the editor's page, in the memory with which a written file starts.
-use Rattle.edit_core.proofs.Common.{◌≡◌, ℕ, zero, suc, ◌+◌, ◌-◌, ◌*◌, ◌^◌, ◌<◌, ◌≤◌, ◌⊎◌, inl, inr, Bool, true, false, cond, List, [], ◌∷◌, ◌++◌, length, length-append, map, replicate, take, drop, Option, Some, None, refl, ap, ◌∙◌, arith, find, range_with_len, option_map, option_or, and_from, cases_Bool, cases_lt, cond_both, false_from_ne_true, le-leb, lt-leb, nat_tests, from_be_bytes, w32, append_assoc, length-replicate, map-append, find-append, Words, Mapping, mappings, accepted-program, AddedSegment, kept, mapping_added, Region, region_of, IsApart, IsApartFromAll, Span, start_memory, stack_region, memory_word, Notes, NoteSegment, halves_size, TableAt, Placement, EditSetup, EditorData, pages_of, cell_at, Plan}
+use Rattle.edit_core.proofs.Common.{◌≡◌, ℕ, zero, suc, ◌+◌, ◌-◌, ◌*◌, ◌^◌, ◌<◌, ◌≤◌, ◌⊎◌, inl, inr, Bool, true, false, cond, List, [], ◌∷◌, ◌++◌, length, length-append, map, replicate, take, drop, Some, None, refl, ap, ◌∙◌, arith, find, range_with_len, option_map, option_or, and_from, cases_Bool, cases_lt, cond_both, le-leb, lt-leb, nat_tests, from_be_bytes, w32, append_assoc, length-replicate, map-append, find-append, Each, each-append, each-then, Words, Mapping, mappings, accepted-program, AddedSegment, kept, mapping_added, Region, region_of, IsApart, IsApartFromAll, Span, start_memory, stack_region, memory_word, Notes, NoteSegment, halves_size, TableAt, Placement, EditSetup, EditorData, pages_of, cell_at, Plan}
 use Rattle.std.proofs.lemmas.List.{append-nil, drop-replicate, length-drop, take-replicate}
 use Rattle.v8_memory.specs.Regions.{Memory, covers, region_at}
 use Rattle.v8_memory.specs.Segments.{empty_heap, heap_room, heap_start}
@@ -11,7 +11,7 @@ use Rattle.addr_translate.proofs.Regions.{regions_stand}
 use Rattle.image_code.specs.Images.{HasTable, IsEditorData, IsTableIn}
 use Rattle.edit_core.specs.Faithful.{editor_page, page_size}
 use Rattle.edit_core.specs.Written.{IsEdit, TablesMatch, cells_at, cells_base, code_base, code_segment, cases_table, first_table, graph_in, if_any, notes_on, page_segment, second_table, segment_size, table_at, table_base, tables_size, text_of}
-use Rattle.edit_core.proofs.Fronts.{any-map, any_none, any_some}
+use Rattle.edit_core.proofs.Fronts.{any-map, any_none, any_some, by_any, each_any}
 use Rattle.edit_core.proofs.Mapped.{original_covers}
 use Rattle.edit_core.proofs.Steps.{segment_is}
 use Rattle.edit_core.proofs.Tables.{cases_word, second_word}
@@ -90,25 +90,6 @@ frame text base cells tables = record {
 abbrev segment_span : NoteSegment → Span
 segment_span segment = record { from = segment.start; count = segment.length }
 
-in_any : (count : ℕ) (page : Span) (pages : List Span) (a : ℕ) → IsIn pages a → IsIn (if_any count page ++ pages) a
-in_any zero page pages a is = is
-in_any (suc n) page pages a is = inr is
-
-in_first : (count : ℕ) (page : Span) (pages : List Span) (a : ℕ) → 0 < count → page.from ≤ a
-    → a + 4 ≤ page.from + page.count → IsIn (if_any count page ++ pages) a
-in_first zero page pages a some from to = absurd (omega (arith, some))
-in_first (suc n) page pages a some from to = inl (from, to)
-
-apart_any : (count : ℕ) (page : Span) (pages : List Span) (y : Span) → IsApartFromAll (if_any count page ++ pages) y
-    → IsApartFromAll pages y
-apart_any zero page pages y apart = apart
-apart_any (suc n) page pages y apart = apart.1
-
-apart_first : (count : ℕ) (page : Span) (pages : List Span) (y : Span) → 0 < count
-    → IsApartFromAll (if_any count page ++ pages) y → IsApart page y
-apart_first zero page pages y some apart = absurd (omega (arith, some))
-apart_first (suc n) page pages y some apart = apart.0
-
 module _ (original : List ℕ) (plan : Plan) (p : Placement) where
   abbrev pub cells_span : Span
   cells_span = record { from = cells_base original plan; count = 4 * plan.cells }
@@ -155,29 +136,26 @@ is_framed original plan p table g same base leads = record {
         → IsIn (pages_of (notes_on original plan p)) a
     there a is = rw (spans_are original plan p) is
 
-    by : (a : ℕ) → IsEither (cells_base original plan) plan.cells a → IsIn (pages_of (notes_on original plan p)) a
-    by a (inl is) = there a (in_any plan.cells (cells_span original plan p) (behind_spans original plan p) a
-        (inr (inr (inl (is.from, omega (arith, is.to))))))
-    by a (inr is) =
-        there a (in_first plan.cells (cells_span original plan p) (behind_spans original plan p) a is.some is.from is.to)
-
     within : (a : ℕ) → IsAmongWords own a → IsIn (pages_of (notes_on original plan p)) a
-    within a among = by a (own_either (cells_base original plan) plan.cells a among)
+    within a among = there a (elim (own_either (cells_base original plan) plan.cells a among) [
+      | inl is ↦ by_any (λ xs. IsIn xs a) plan.cells _ _ (λ _. inr (inr (inl (is.from, omega (arith, is.to)))))
+          (λ _. inr (inr (inr (inl (is.from, omega (arith, is.to))))))
+      | inr is ↦ by_any (λ xs. IsIn xs a) plan.cells _ _ (λ e. absurd (omega (arith, e, is.some)))
+          (λ _. inl (is.from, is.to))
+    ])
 
     -- a part of the tables
     table_in : (part : TableAt) → table.base ≤ part.base
         → part.base + length part.bytes ≤ table.base + length table.bytes → IsTableIn g own part
     table_in part above below = record {
-      within = λ a from to. rw same
-          (there a (in_any plan.cells (cells_span original plan p) (behind_spans original plan p) a
-          (inl (omega (arith, from, base, above), omega (arith, to, base, below, size)))));
-      apart = λ a among. beside a (own_either (cells_base original plan) plan.cells a among);
+      within = λ a from to. let here : (table.base ≤ a) × (a + 4 ≤ table.base + length table.bytes) = omega arith in
+          rw same (there a (by_any (λ xs. IsIn xs a) plan.cells _ _ (λ _. inl (omega (arith, here, base, size)))
+          (λ _. inr (inl (omega (arith, here, base, size))))));
+      apart = λ a among. elim (own_either (cells_base original plan) plan.cells a among) [
+        | inl is ↦ let low = leads.low in inr (omega (arith, is.from, below, low))
+        | inr is ↦ inl (omega (arith, is.to, base, above))
+      ];
     }
-      where
-        beside : (a : ℕ) → IsEither (cells_base original plan) plan.cells a
-            → (a + 4 ≤ part.base) ⊎ (part.base + length part.bytes ≤ a)
-        beside a (inl is) = let low = leads.low in inr (omega (arith, is.from, below, low))
-        beside a (inr is) = inl (omega (arith, is.to, base, above))
 
 -- ---- regions
 
@@ -186,50 +164,39 @@ find_regions : (p : Region → Bool) (ms : List Mapping)
 find_regions p [] = refl
 find_regions p (m ∷ ms) = let rest = find_regions p ms in grind (arith, rest)
 
--- where no region has a word, none that is found has it
-found_has_not : (rs : List Region) (a from count : ℕ) → find (covers a 4) rs ≡ None
-    → HasNot a (find (covers from count) rs)
-found_has_not [] a from count none = tt
-found_has_not (r ∷ rs) a from count none = elim (cases_Bool (covers a 4 r)) [
+-- what has these bytes lacks the word
+abbrev Lacks : ℕ → ℕ → ℕ → Region → Type 0
+Lacks a from count r = covers from count r ≡ true → covers a 4 r ≡ false
+
+-- where each does, none that is found has it
+found_has_not : (rs : List Region) (a from count : ℕ) → Each (Lacks a from count) rs → HasNot a (find (covers from count) rs)
+found_has_not [] a from count each = tt
+found_has_not (r ∷ rs) a from count each =
+    cond_both (covers from count r) (Some r) (find (covers from count) rs) (HasNot a) each.0
+    (λ _. found_has_not rs a from count each.1)
+
+none_lack : (rs : List Region) (a from count : ℕ) → find (covers a 4) rs ≡ None → Each (Lacks a from count) rs
+none_lack [] a from count none = tt
+none_lack (r ∷ rs) a from count none = elim (cases_Bool (covers a 4 r)) [
   | inl e ↦ let some = rw e at none in absurd (cc)
-  | inr e ↦ cond_both (covers from count r) (Some r) (find (covers from count) rs) (HasNot a) (λ _. e)
-      (λ _. found_has_not rs a from count (rw e at none))
+  | inr e ↦ (λ _. e, none_lack rs a from count (rw e at none))
 ]
 
 region_whole : (m : Mapping) → (region_of m).size ≤ length (region_of m).bytes
 region_whole m = simp (length-append, length-replicate) (omega arith)
 
-or_has_not : (a : ℕ) (x y : Option Region) → HasNot a x → HasNot a y → HasNot a (option_or x y)
-or_has_not a None y hx hy = hy
-or_has_not a (Some r) y hx hy = hx
-
-unless_found : (a : ℕ) (found : Bool) (r : Region) (rest : Option Region) → (found ≡ true → covers a 4 r ≡ false)
-    → HasNot a rest → HasNot a (cond found (Some r) rest)
-unless_found a found r rest here later = cond_both found (Some r) rest (HasNot a) here (λ _. later)
-
 -- a region that ends below an address, or begins above it, has no word there
-past_covers : (a : ℕ) (r : Region) → r.start + r.size ≤ a → covers a 4 r ≡ false
-past_covers a r under = grind (arith, nat_tests)
-
 below_covers : (a : ℕ) (r : Region) → a < r.start → covers a 4 r ≡ false
 below_covers a r over = grind (arith, nat_tests)
 
 none_covers : (a : ℕ) (r : Region) → r.start + r.size < a + 4 → covers a 4 r ≡ false
 none_covers a r low = grind (arith, nat_tests)
 
--- a region apart from some span has no bytes of it
-inside_region : (r : Region) (from count : ℕ) → covers from count r ≡ true
-    → (r.start ≤ from) × (from + count ≤ r.start + r.size)
-inside_region r from count is = (grind (arith, nat_tests), grind (arith, nat_tests))
-
 -- nothing apart from a region lies in it
 apart_outside : (r : Region) (from count : ℕ) → 0 < count
     → IsApart (record { from = r.start; count = r.size }) (record { from = from; count = count })
     → covers from count r ≡ true → ⊥
-apart_outside r from count some (inl after) found =
-    let b = (inside_region r from count found).1 in omega (arith, after, b, some)
-apart_outside r from count some (inr before) found =
-    let b = (inside_region r from count found).0 in omega (arith, before, b, some)
+apart_outside r from count some apart found = grind (arith, nat_tests)
 
 -- ---- a written file
 
@@ -298,24 +265,13 @@ module _ (original : List ℕ) (plan : Plan) (p : Placement) (place : ℕ → �
   kept_none : (a : ℕ) → cells_from ≤ a → find (covers a 4) kept_regions ≡ None
   kept_none a above = rw (find_regions (covers a 4) (map kept (mappings original)), original_covers original a above)
 
-  -- each region behind the cells lacks a word, or some bytes
-  record IsBeside (a from count : ℕ) : Type 0 where
-    tables : covers from count table_region ≡ true → covers a 4 table_region ≡ false
-    code : covers from count code_region ≡ true → covers a 4 code_region ≡ false
-    page : covers from count page_region ≡ true → covers a 4 page_region ≡ false
-    stack : covers from count (stack_region texts) ≡ true → covers a 4 (stack_region texts) ≡ false
-
+  -- of the region that has these bytes the word is a part
   alone_among : (a from count : ℕ) → find (covers a 4) kept_regions ≡ None
-      → HasNot a (find (covers from count) (if_any plan.cells cells_region)) → IsBeside a from count
+      → (0 < plan.cells → Lacks a from count cells_region) → Each (Lacks a from count) behind
       → HasNot a (find (covers from count) memory.regions)
   alone_among a from count none front beside =
-      rw (found_in (covers from count))
-      (or_has_not a (find (covers from count) kept_regions) _ (found_has_not kept_regions a from count none)
-      (or_has_not a (find (covers from count) (if_any plan.cells cells_region)) _ front
-      (unless_found a (covers from count table_region) table_region _ beside.tables
-      (unless_found a (covers from count code_region) code_region _ beside.code
-      (unless_found a (covers from count page_region) page_region _ beside.page
-      (unless_found a (covers from count (stack_region texts)) (stack_region texts) None beside.stack tt))))))
+      rw regions_are (found_has_not _ a from count (each-append _ kept_regions _ (none_lack kept_regions a from count none)
+      (each_any (Lacks a from count) plan.cells cells_region behind front beside)))
 
   -- a word of the region that covers it first
   word_at : (a : ℕ) (m : Mapping) → find (covers a 4) memory.regions ≡ Some (region_of m)
@@ -339,7 +295,7 @@ module _ (original : List ℕ) (plan : Plan) (p : Placement) (place : ℕ → �
 
   module _ (a : ℕ) (from : table.base ≤ a) (to : a + 4 ≤ table.base + length table.bytes) where
     cells_below : 0 < plan.cells → covers a 4 cells_region ≡ false
-    cells_below some = let base = is.code.base in past_covers a cells_region (omega (arith, base, from))
+    cells_below some = let base = is.code.base in none_covers a cells_region (omega (arith, base, from))
 
     table_found : find (covers a 4) memory.regions ≡ Some table_region
     table_found =
@@ -390,16 +346,13 @@ module _ (original : List ℕ) (plan : Plan) (p : Placement) (place : ℕ → �
     none_kept = kept_none a (omega (arith, (accepted-program original is.taken.sound).below, of.from))
 
     cells_low : 0 < plan.cells → covers a 4 cells_region ≡ false
-    cells_low some = past_covers a cells_region (omega (arith, table_below, is.code.base, of.from))
+    cells_low some = none_covers a cells_region (omega (arith, table_below, is.code.base, of.from))
 
     table_low : covers a 4 table_region ≡ false
     table_low = let from = of.from in none_covers a table_region (omega (arith, table_below, from))
 
     code_low : covers a 4 code_region ≡ false
     code_low = let low = is.code.laid.low in let from = of.from in none_covers a code_region (omega (arith, low, from))
-
-    stack_low : covers a 4 (stack_region texts) ≡ false
-    stack_low = let from = of.from in none_covers a (stack_region texts) (omega (arith, from))
 
     page_covers : covers a 4 page_region ≡ true
     page_covers =
@@ -415,15 +368,15 @@ module _ (original : List ℕ) (plan : Plan) (p : Placement) (place : ℕ → �
     alone_at_page : (from count : ℕ) → 0 < count → IsApartFromAll (pages_of notes) (record { from = from; count = count })
         → HasNot a (find (covers from count) memory.regions)
     alone_at_page from count some apart =
-        let rest = apart_any plan.cells (cells_span original plan p) (behind_spans original plan p) _
-        (rw (spans_are original plan p) at apart) in
-        alone_among a from count none_kept (found_has_not (if_any plan.cells cells_region) a from count
-        (any_none (covers a 4) plan.cells cells_region cells_low)) (record {
-          tables = λ found. table_low;
-          code = λ found. code_low;
-          page = λ found. absurd (apart_outside page_region from count some rest.1.1.0 found);
-          stack = λ found. stack_low;
-        })
+        let y : Span = record { from = from; count = count } in
+        let rest = by_any (λ xs. IsApartFromAll xs y → IsApartFromAll (behind_spans original plan p) y) plan.cells
+        (cells_span original plan p) _ (λ _ all. all) (λ _ all. all.1) (rw (spans_are original plan p) at apart) in
+        let page : Lacks a from count page_region = λ found.
+        absurd (apart_outside page_region from count some rest.1.1.0 found) in
+        let stack : Lacks a from count (stack_region texts) = λ _.
+        none_covers a (stack_region texts) (omega (arith, of.from)) in
+        alone_among a from count none_kept (λ some _. cells_low some)
+        (λ _. table_low, (λ _. code_low, (page, (stack, tt))))
 
   -- ---- cells
 
@@ -444,46 +397,27 @@ module _ (original : List ℕ) (plan : Plan) (p : Placement) (place : ℕ → �
     word_at_cell : HasWordAt a true memory
     word_at_cell = word_at a (mapping_added cells) cell_found refl (inl (omega (arith, cells_under, table_below)))
 
-    table_past : covers a 4 table_region ≡ false
-    table_past = below_covers a table_region (omega (arith, cells_under))
-
-    code_past : covers a 4 code_region ≡ false
-    code_past = let base = is.code.base in below_covers a code_region (omega (arith, cells_under, base))
-
-    page_past : covers a 4 page_region ≡ false
-    page_past = below_covers a page_region (omega (arith, cells_under, table_below))
-
-    stack_past : covers a 4 (stack_region texts) ≡ false
-    stack_past = below_covers a (stack_region texts) (omega (arith, cells_under, table_below))
-
     alone_at_cell : (from count : ℕ) → 0 < count → IsApartFromAll (pages_of notes) (record { from = from; count = count })
         → HasNot a (find (covers from count) memory.regions)
     alone_at_cell from count some apart =
-        let beside = apart_first plan.cells (cells_span original plan p) (behind_spans original plan p) _ of.some
+        let y : Span = record { from = from; count = count } in
+        let beside = by_any (λ xs. IsApartFromAll xs y → IsApart (cells_span original plan p) y) plan.cells _
+        (behind_spans original plan p) (λ e. absurd (omega (arith, e, of.some))) (λ _ all. all.0)
         (rw (spans_are original plan p) at apart) in
-        alone_among a from count cell_kept
-        (rw (any_none (covers from count) plan.cells cells_region (λ _. false_from_ne_true (covers from count cells_region)
-        (apart_outside cells_region from count some beside))) tt) (record {
-          tables = λ found. table_past;
-          code = λ found. code_past;
-          page = λ found. page_past;
-          stack = λ found. stack_past;
-        })
-
-  either_word : (a : ℕ) → IsEither cells_from plan.cells a → HasWordAt a true memory
-  either_word a (inl is) = word_at_page a is
-  either_word a (inr is) = word_at_cell a is
-
-  either_alone : (a : ℕ) → IsEither cells_from plan.cells a → (from count : ℕ) → 0 < count
-      → IsApartFromAll (pages_of notes) (record { from = from; count = count })
-      → HasNot a (find (covers from count) memory.regions)
-  either_alone a (inl is) = alone_at_page a is
-  either_alone a (inr is) = alone_at_cell a is
+        alone_among a from count cell_kept (λ _ found. absurd (apart_outside cells_region from count some beside found))
+        (each-then (λ r. a < r.start) (Lacks a from count) behind (λ r low _. below_covers a r low)
+        (omega (arith, cells_under, is.code.base, table_below)))
 
   pub owned : IsOurs (pages_of notes) (own_words cells_from plan.cells) memory
   owned = record {
-    words = λ a among. either_word a (own_either cells_from plan.cells a among);
-    alone = λ a from count among. either_alone a (own_either cells_from plan.cells a among) from count;
+    words = λ a among. elim (own_either cells_from plan.cells a among) [
+      | inl of ↦ word_at_page a of
+      | inr of ↦ word_at_cell a of
+    ];
+    alone = λ a from count among. elim (own_either cells_from plan.cells a among) [
+      | inl of ↦ alone_at_page a of from count
+      | inr of ↦ alone_at_cell a of from count
+    ];
   }
 
   -- ---- they begin as zeros
@@ -495,10 +429,9 @@ module _ (original : List ℕ) (plan : Plan) (p : Placement) (place : ℕ → �
       let of : IsWordOf cells_from plan.cells a =
       record { from = omega arith; to = omega (arith, l); some = omega (arith, l) } in
       let at = cell_at cells_from cell - cells_from in
-      ap (word_in a) (all_found a of) ∙ ap (λ (n : ℕ). from_be_bytes w32 (take 4 (drop at (replicate n 0))))
+      let found : region_at memory a 4 ≡ Some cells_region =
+      cc (heap_low a (omega (arith, cells_under a of, table_below)), cell_found a of) in
+      ap (word_in a) found ∙ ap (λ (n : ℕ). from_be_bytes w32 (take 4 (drop at (replicate n 0))))
       (let e : 4 * plan.cells - 0 ≡ 4 * plan.cells = omega arith in e)
       ∙ ap (λ (z : List ℕ). from_be_bytes w32 (take 4 z)) (drop-replicate at (4 * plan.cells) 0)
       ∙ ap (from_be_bytes w32) (take-replicate 4 (4 * plan.cells - at) 0 (omega (arith, l)))
-    where
-      all_found : (a : ℕ) → IsWordOf cells_from plan.cells a → region_at memory a 4 ≡ Some cells_region
-      all_found a of = cc (heap_low a (omega (arith, cells_under a of, table_below)), cell_found a of)

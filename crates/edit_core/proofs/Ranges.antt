@@ -1,12 +1,16 @@
 -- What laid code has: words, and ranges that notes may have.
 use Rattle.edit_core.proofs.Common.{◌≡◌, ℕ, zero, suc, ◌+◌, ◌*◌, ◌%◌, ◌^◌, ◌<◌, ◌≤◌, true, nat_lt, nat_le, Option, Some, None, List, [], ◌∷◌, ◌++◌, length, map, refl, ap, sym, ◌∙◌, arith, slice_get, flat_map, list_any, and_from, cond_both, le-leb, le-ltb, lt-ltb, eq-eqb, slice_get_within, Words, address_of, IsText, NoteSegment, NoteRange, holds, are_ranges, below, Graph, Each, Item, Ascend, IsLaid, IsRangeOf, Placement, item_at, range_in, piece_list, IsGraphOf, each_index}
+use Rattle.std.specs.Option.{option_map}
+use Rattle.std.proofs.lemmas.Option.{slice_get-map}
 use Rattle.layout.specs.declared.items.Item.TheVariants as it
 use Rattle.layout.specs.Laid.{item_in, items_in, range_of, open_in, end_from, is_end}
-use Rattle.image_code.specs.declared.shape.Exit.TheVariants as exits
 use Rattle.image_code.specs.declared.shape.Head.{Head}
 use Rattle.image_code.specs.declared.shape.Visit.{Visit}
-use Rattle.image_code.specs.Shapes.{Shape, assembled, bare, exit_items, head_items, items_of, mark_items}
-use Rattle.image_code.specs.Made.{all_cases, all_ways, images_in_order, landing, open_pieces, shape_list}
+use Rattle.image_code.specs.Shapes.{exit_items, head_items, items_of, mark_items}
+use Rattle.image_code.specs.Labels.{Foreign, number_of as piece_number}
+use Rattle.image_code.specs.Made.{shape_list}
+use Rattle.image_code.proofs.Listed.{foreign_stands, shape_at}
+use Rattle.image_code.proofs.OpenBlocks.{text_graph}
 use Rattle.image_code.proofs.Fit.{piece_shaped}
 use Rattle.image_code.proofs.Shapes.{HasFirst, IsVisit, first_mark, first_of}
 use Rattle.edit_core.proofs.Graphs.{IsNumber, number_of}
@@ -130,21 +134,19 @@ module _ (text : Words) (graph : Graph) (table cases : ℕ) (codes : ℕ → Lis
 
   -- ---- how many words there are
 
-  last_is : (xs : List Shape) (x : Shape) → slice_get (assembled codes (xs ++ x ∷ [])) (length xs) ≡ Some (items_of codes x)
-  last_is [] x = refl
-  last_is (y ∷ xs) x = last_is xs x
-
-  last_piece : (k : ℕ) × (word : ℕ) × (item_at pieces k 0 ≡ Some (it.Word word))
-  unfolding shape_list
-  last_piece =
-      let xs = images_in_order text graph table cases ++ all_ways text graph table
-      ++ map (landing text graph) (below (length text.words))
-      ++ flat_map (open_pieces text graph table cases) graph.opens
-      ++ flat_map (all_cases text graph table) graph.opens in
-      (length xs, _, ap (λ o. item_in o 0) (last_is xs (bare [] exits.Foreign)))
+  foreign_piece : (k : ℕ) × (word : ℕ) × (item_at pieces k 0 ≡ Some (it.Word word))
+  foreign_piece =
+      let facts = text_graph text graph is h in
+      let k = piece_number text graph Foreign in
+      let shape = shape_at text graph facts table cases Foreign _ (foreign_stands text graph facts) in (
+        k,
+        _,
+        ap (λ o. item_in o 0) (slice_get-map (items_of codes) (shape_list text graph table cases) k
+            ∙ ap (option_map (items_of codes)) shape),
+      )
 
   pub some_code : 0 < length p.code
   some_code =
-      let last = last_piece in
+      let last = foreign_piece in
       let word = (laid.items last.0 0 (it.Word last.1) last.2).1 in
       omega (arith, slice_get_within p.code word.0 last.1 word.2)

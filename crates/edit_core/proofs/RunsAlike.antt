@@ -1,5 +1,5 @@
 -- What was written of an original has runs like the original's.
-use Rattle.edit_core.proofs.Common.{◌≡◌, ℕ, suc, ◌+◌, ◌-◌, ◌*◌, ◌%◌, ◌^◌, ◌<◌, ◌≤◌, ◌⊎◌, inl, inr, true, false, nat_le, nat_lt, List, [], ◌∷◌, ◌++◌, length, map, replicate, slice_index, Option, Some, None, refl, ap, sym, ◌∙◌, subst, arith, slice_get, list_any, get_or_from_slice_get, slice_get_within, and_from, cases_lt, false_from_ne_true, le-leb, le-ltb, lt-leb, or_left, or_parts, or_right, nat_tests, length-replicate, map-map, NoteRange, NoteSegment, Notes, holds, range_at, image_of, IsText, Words, word_at, Addr, Part, has, is_member, set_of, State, AreBytes, NoSlot, IsSameAt, StateItem, Register, IsUntouched, in_pages, pages_of, AreArguments, program_name, start_of, below, blocks_of, is_among, word_at-some, Edge, Node, Block, Graph, node_of, BeginsAt, FetchesOnly, Point, end_of_walk, point_of, same_kind, edge_at, is_call_or_jump, is_outside, is_unknown, named_on, entered_of, view_of, HoldsText, TableAt, Ascend, HasShortForms, IsLaid, Placement, range_in, memory_word, cell_at, Plan, PiecesFit, CaseTable, IsNoLoad, EditSetup, edit_in, snippet_on, EditorData, AtVisit, codes_of, lands_at, piece_list, IsOffPages, are_tables, table_of, cased, accepted-program}
+use Rattle.edit_core.proofs.Common.{◌≡◌, ℕ, suc, ◌+◌, ◌-◌, ◌*◌, ◌%◌, ◌^◌, ◌<◌, ◌≤◌, ◌⊎◌, inl, inr, true, false, nat_le, nat_lt, List, [], ◌∷◌, ◌++◌, length, map, replicate, slice_index, Option, Some, None, refl, ap, sym, ◌∙◌, subst, arith, slice_get, get_or_from_slice_get, slice_get_within, cases_lt, false_from_ne_true, le-ltb, lt-leb, or_left, or_parts, nat_tests, length-replicate, map-map, NoteRange, NoteSegment, Notes, holds, range_at, image_of, IsText, Words, word_at, Addr, Part, has, is_member, set_of, State, AreBytes, NoSlot, IsSameAt, StateItem, Register, IsUntouched, in_pages, pages_of, AreArguments, program_name, start_of, below, blocks_of, is_among, word_at-some, Edge, Node, Block, Graph, node_of, BeginsAt, FetchesOnly, Point, end_of_walk, point_of, edge_at, is_call_or_jump, is_outside, is_unknown, named_on, entered_of, view_of, HoldsText, TableAt, Ascend, HasShortForms, IsLaid, Placement, range_in, memory_word, cell_at, Plan, PiecesFit, CaseTable, IsNoLoad, EditSetup, edit_in, snippet_on, EditorData, AtVisit, codes_of, lands_at, piece_list, IsOffPages, are_tables, table_of, cased, accepted-program}
 use Rattle.std.proofs.Math.Seq.{ext_get_or}
 use Rattle.std.proofs.lemmas.List.{get_or-replicate}
 use Rattle.std.proofs.lemmas.List.FromFn.{get_or-map-range_with_len, length-map-range_with_len}
@@ -16,14 +16,12 @@ use Rattle.addr_translate.specs.Table.{target_of}
 use Rattle.snippet_code.specs.Cells.{words_at}
 use Rattle.image_code.specs.Simulates.{Simulates}
 use Rattle.image_code.specs.Cost.{is_out}
-use Rattle.image_code.specs.Store.{Edit}
 use Rattle.image_code.specs.Images.{AreNoted, HasCells, IsPlaced, Pieces}
 use Rattle.image_code.proofs.Points.{visited_by}
 use Rattle.image_code.specs.Made.{IsOffNoted, IsTableFor, PiecesMakeImages, pieces_in}
-use Rattle.edit_core.specs.Faithful.{editor_page, page_size}
 use Rattle.edit_core.specs.Runs.{CameFrom, Linked, RunFacts}
 use Rattle.edit_core.specs.Cost.{StoresLittle, TakesFewSteps, short_bound}
-use Rattle.edit_core.specs.RunsAlike.{AreRunsAlike, IsAnswered, edit_of, visits_by}
+use Rattle.edit_core.specs.RunsAlike.{AreRunsAlike, IsAnswered, visits_by}
 use Rattle.edit_core.specs.Taken.{bound_in}
 use Rattle.edit_core.specs.Whole.{Answered, KeptIn}
 use Rattle.edit_core.specs.Written.{EditsRunAlike, IsEdit, setup_of, TablesMatch, addr, cases_at, cells_base, code_base, first_table, foreign_of, given_of, graph_in, landings_of, notes_on, second_table, segment_size, table_base, text_of}
@@ -33,11 +31,12 @@ use Rattle.edit_core.proofs.Completed.{jump_kind, unknown_lives}
 use Rattle.edit_core.proofs.Kept.{keeps_what_lives}
 use Rattle.edit_core.proofs.CodeFetched.{has_code, only_code}
 use Rattle.edit_core.proofs.Entering.{entry_enters, entry_outside}
-use Rattle.edit_core.proofs.Faithful.{word_here}
+use Rattle.edit_core.proofs.Edits.{word_here}
 use Rattle.edit_core.proofs.Graphs.{copied_inside, graph_cut, graph_is}
 use Rattle.edit_core.proofs.Landings.{map_below}
+use Rattle.edit_core.proofs.Noted.{behind, code_holds}
 use Rattle.edit_core.proofs.Off.{off_here, off_is, ranges_beside}
-use Rattle.edit_core.proofs.Fronts.{any_past, passed, past_fails}
+use Rattle.edit_core.proofs.Fronts.{passed, past_fails}
 use Rattle.edit_core.proofs.Originals.{image_text}
 use Rattle.edit_core.proofs.Snippets.{cells_in_range, code_short, good_on, snippet_does}
 use Rattle.edit_core.proofs.Owned.{cell_is_own, cell_zero, frame, has_cases, has_table, is_framed, owned}
@@ -46,7 +45,7 @@ use Rattle.edit_core.proofs.Tables.{cases_for}
 use Rattle.edit_core.proofs.Starts.{file_valid, memory_alike, original_valid}
 use Rattle.edit_core.proofs.Steps.{original_fit}
 use Rattle.edit_core.proofs.Views.{bound_is}
-use Rattle.edit_core.proofs.Whole.{edits_answer}
+use Rattle.edit_core.proofs.Induction.{edits_answer}
 
 -- a set that has no part
 all_live_none : (set : List Part) → set_of set ≡ set → ((part : Part) → is_member part ≡ true → has set part ≡ true → ⊥)
@@ -80,11 +79,8 @@ beside_page : (segment : NoteSegment) (a : ℕ) → holds a (a + 1) segment ≡ 
     → (a < segment.start) ⊎ (segment.start + segment.length ≤ a)
 beside_page segment a none = elim (cases_lt a segment.start) [
   | inl below ↦ inl below
-  | inr from ↦ inr (past from)
+  | inr from ↦ inr (grind (arith, nat_tests))
 ]
-  where
-    past : segment.start ≤ a → segment.start + segment.length ≤ a
-    past from = grind (arith, nat_tests)
 
 none_beside : (base : ℕ) (p : Placement) (a : ℕ) → Ascend base (base + 4 * length p.code) p.ranges
     → (a < base) ⊎ (base + 4 * length p.code ≤ a) → range_in p.ranges a ≡ None
@@ -112,44 +108,26 @@ module _ (original : List ℕ) (plan : Plan) (p : Placement) where
   notes = notes_on original plan p
 
   module _ (dead : ℕ → List Part) where
-    abbrev size : ℕ
-    size = segment_size text graph
-
-    abbrev code_end : ℕ
-    code_end = code_from + 4 * length p.code
-
-    abbrev cells_page : NoteSegment
-    cells_page = record { start = cells_from; length = 4 * plan.cells }
-
     abbrev table_page : NoteSegment
-    table_page = record { start = tables_from; length = size }
+    table_page = record { start = tables_from; length = segment_size text graph }
 
     abbrev code_page : NoteSegment
     code_page = record { start = code_from; length = 4 * length p.code }
 
-    abbrev own_page : NoteSegment
-    own_page = record { start = editor_page; length = page_size }
-
-    in_code : (a : ℕ) → code_from ≤ a → a < code_end → in_pages notes a ≡ true
-    in_code a from to =
-        any_past (holds a (a + 1)) plan.cells cells_page (table_page ∷ code_page ∷ own_page ∷ [])
-        (or_right (holds a (a + 1) table_page) (list_any (holds a (a + 1)) (code_page ∷ own_page ∷ []))
-        (or_left (holds a (a + 1) code_page) (list_any (holds a (a + 1)) (own_page ∷ []))
-        (and_from _ _ (le-leb code_from a from) (le-leb (a + 1) code_end (omega (arith, to))))))
-
-    outside : Ascend code_from code_end p.ranges → (a : ℕ) → in_pages notes a ≡ false → range_at notes a ≡ None
+    outside : Ascend code_from (code_from + 4 * length p.code) p.ranges → (a : ℕ) → in_pages notes a ≡ false
+        → range_at notes a ≡ None
     outside ascend a out =
-        let behind = past_fails (holds a (a + 1)) plan.cells cells_page (table_page ∷ code_page ∷ own_page ∷ []) out in
-        let first = or_parts (holds a (a + 1) table_page) (list_any (holds a (a + 1)) (code_page ∷ own_page ∷ [])) behind in
-        let second = or_parts (holds a (a + 1) code_page) (list_any (holds a (a + 1)) (own_page ∷ [])) first.1 in
+        let first = or_parts (holds a (a + 1) table_page) _ (past_fails (holds a (a + 1)) plan.cells
+        (record { start = cells_from; length = 4 * plan.cells }) (behind original plan p) out) in
+        let second = or_parts (holds a (a + 1) code_page) _ first.1 in
         ranges_beside text graph tables_from p.ranges a (elim (beside_page table_page a first.0) [
           | inl below ↦ inl below
           | inr past ↦ inr (omega (arith, past))
         ]) ∙ none_beside code_from p a ascend (beside_page code_page a second.0)
 
-    are_noted : Ascend code_from code_end p.ranges → AreNoted (setup original plan dead p) code_from p
+    are_noted : Ascend code_from (code_from + 4 * length p.code) p.ranges → AreNoted (setup original plan dead p) code_from p
     are_noted ascend = record {
-      inside = in_code;
+      inside = λ a from to. code_holds original plan p a (a + 1) from (omega (arith, to));
       ranges = λ a from to. ranges_beside text graph tables_from p.ranges a (inr (omega (arith, from)));
       outside = outside ascend;
       blocks = refl;
@@ -215,15 +193,13 @@ module _ (original : List ℕ) (plan : Plan) (p : Placement) where
     none_dead : (edge : ℕ) → is_out (slice_get graph.edges edge) ≡ true → dead edge ≡ []
     none_dead edge out = by (slice_get graph.edges edge) refl out
       where
-        out_unknown : (e : Edge) → same_kind e.kind kinds.Out ≡ true → is_unknown e ≡ true
-        out_unknown e out = or_left (is_call_or_jump e.kind) (is_outside e.to) (jump_kind e.kind out)
-
         by : (o : Option Edge) → slice_get graph.edges edge ≡ o → is_out o ≡ true → dead edge ≡ []
         by None at out = absurd (cc)
         by (Some e) at out =
             let within = slice_get_within graph.edges edge e at in
             let unknown : is_unknown (edge_at graph edge) ≡ true =
-            ap (λ (x : Edge). is_unknown x) (get_or_from_slice_get graph.edges edge e _ at) ∙ out_unknown e out in
+            ap (λ (x : Edge). is_unknown x) (get_or_from_slice_get graph.edges edge e _ at)
+            ∙ or_left (is_call_or_jump e.kind) (is_outside e.to) (jump_kind e.kind out) in
             all_live_none (dead edge) (is.code.exact.sets edge within) (λ part member.
             (λ gone. (is.code.exact.all edge within part member).0 gone
             (unknown_lives text graph (named_on plan.snips) edge unknown part member)))
@@ -268,20 +244,17 @@ module _ (original : List ℕ) (plan : Plan) (p : Placement) where
     -- as where little room is asked
     small_short : PiecesFit → bound_in original plan ≤ short_bound → NoLongForms
     small_short fits small =
-        let few : 4 * length p.code < short_bound = in_bound in
+        let fit = original_fit fits original plan is.taken is.workable dead in
+        let few : 4 * length p.code < short_bound =
+        omega (
+          arith,
+          fit.bytes,
+          is.code.size,
+          operations_few graph plan.kind plan.cells plan.snips is.workable,
+          bound_is original plan,
+        ) in
         subst (λ (a : ℕ). HasShortForms (piece_list text graph a
         (cases_at text a) (codes_of cells_from dead plan.snips)) place) (sym is.code.base) (is.code.short few)
-      where
-        in_bound : 4 * length p.code < short_bound
-        in_bound =
-            let fit = original_fit fits original plan is.taken is.workable dead in
-            omega (
-              arith,
-              fit.bytes,
-              is.code.size,
-              operations_few graph plan.kind plan.cells plan.snips is.workable,
-              bound_is original plan,
-            )
 
     simulates : PiecesMakeImages → Simulates its (IsOffPages its) IsHere NoLongForms
     simulates make =
@@ -462,24 +435,10 @@ module _ (original : List ℕ) (plan : Plan) (p : Placement) where
           }
 
 -- the graph of the view is that of the edit
-same_edit : (original : List ℕ) (plan : Plan) (dead : ℕ → List Part) (notes : Notes)
-    → edit_in (setup_of original plan dead notes) ≡ edit_of original plan notes
-unfolding view_of entered_of
-same_edit original plan dead notes = refl
-
 pub edits_run_alike : PiecesMakeImages → PiecesFit → EditsRunAlike
-edits_run_alike make fits original plan p place table file is =
-    let same = same_edit original plan is.code.dead (notes_on original plan p) in
-    let entry : ℕ = (image_of original).entry in
-    record {
-      alike = λ args input given read.
-          subst (λ (e : Edit). AreRunsAlike e entry (start_of original args input) (start_of file args input)) same
-          (alike original plan p place table file is make fits args input given read);
-      steps = λ args input given read.
-          subst (λ (e : Edit). TakesFewSteps e entry (start_of original args input) (start_of file args input)) same
-          (steps original plan p place table file is make fits args input given read);
-      stores = λ args input given read.
-          subst (λ (e : Edit). StoresLittle e is.code.dead (IsNoLoad (setup original plan is.code.dead p))
-          (bound_in original plan) entry (start_of original args input) (start_of file args input)) same
-          (stores original plan p place table file is make fits args input given read);
-    }
+unfolding view_of entered_of
+edits_run_alike make fits original plan p place table file is = record {
+  alike = alike original plan p place table file is make fits;
+  steps = steps original plan p place table file is make fits;
+  stores = stores original plan p place table file is make fits;
+}

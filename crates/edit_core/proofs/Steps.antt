@@ -13,10 +13,9 @@ use Rattle.edit_core.specs.Written.{added, cells_at, code_at, if_any, page_segme
 use Rattle.edit_core.specs.Private.{HasRoom, IsBuilt, IsViewOf, placement_in, plan_of}
 use Rattle.edit_core.proofs.Bounds.{operations_few}
 use Rattle.edit_core.proofs.Graphs.{entries_few, graph_cut, graph_is}
-use Rattle.edit_core.proofs.Room.{room_with_cases, small_tables}
+use Rattle.edit_core.proofs.Originals.{room_with_cases, small_tables, image_text, image_room}
 use Rattle.edit_core.proofs.Snippets.{short_codes}
 use Rattle.edit_core.proofs.Views.{bound_is}
-use Rattle.edit_core.proofs.Originals.{image_text, image_room}
 
 -- pieces have room where their long forms have
 pub never_lacks_room : (list : List (List Item)) (room : ℕ) (fault : LayoutFault) (needed had : ℕ) → ArePieces list

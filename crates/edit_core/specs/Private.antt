@@ -18,7 +18,7 @@ use Rattle.layout.specs.Laid.{HasShortForms, IsLaid, Placement, long_bytes, plac
 use Rattle.layout.specs.declared.items.Placed.{Placed}
 use Rattle.image_code.specs.Graphs.{IsGraphOf}
 use Rattle.image_code.specs.Made.{lands_at}
-use Rattle.image_code.specs.Numbered.{case_numbers, foreign_number}
+use Rattle.image_code.specs.Labels.{case_numbers, foreign_number}
 use Rattle.edit_core.specs.declared.requests.CaseKey.{CaseKey}
 use Rattle.edit_core.specs.contracts.requests.CaseKeyPartialEq.TheImpl as key_eq
 use Rattle.edit_core.specs.Cost.{short_bound}

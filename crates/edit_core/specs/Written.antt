@@ -32,7 +32,7 @@ use Rattle.cfg_normal.specs.Opens.{Open}
 use Rattle.image_code.specs.Graphs.{case_table, opens_in}
 use Rattle.image_code.specs.Simulates.{IsNoLoad, EditSetup}
 use Rattle.image_code.specs.Made.{jumps_at, lands_at, piece_list}
-use Rattle.image_code.specs.Numbered.{case_numbers, enter_number, foreign_number}
+use Rattle.image_code.specs.Labels.{case_numbers, enter_number, foreign_number}
 use Rattle.image_code.specs.SnippetWords.{codes_of}
 use Rattle.snippets.specs.declared.snippet.Op.{Op}
 use Rattle.tool_kit.specs.Good.{IsGood}

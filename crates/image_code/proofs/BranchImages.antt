@@ -16,12 +16,11 @@ use Rattle.cfg_walk.proofs.Ways.{never_holds, not_always, not_never, taken_is_on
 use Rattle.image_code.specs.Simulates.{at_point, does_at, gone_at, graph_in}
 use Rattle.image_code.proofs.PointShapes.{LeadsNext, IsCase, conditional, unconditional, IsNoJumpsSlot}
 use Rattle.image_code.specs.declared.shape.Head.TheVariants as heads
-use Rattle.image_code.specs.Numbered.{enter_number, image_number}
+use Rattle.image_code.specs.Labels.{enter_number, image_number}
 use Rattle.image_code.specs.Made.{first_word, goes_on, nop_word, visit_of, way_out}
-use Rattle.image_code.proofs.EdgePieces.{along_far}
+use Rattle.image_code.proofs.EdgePieces.{along_far, way_at}
 use Rattle.image_code.proofs.Branches.{small}
 use Rattle.image_code.proofs.IntoSlots.{LeadsThere, entered, no_jump, stands}
-use Rattle.image_code.proofs.Listed.{own_at, way_at}
 use Rattle.image_code.proofs.Visited.{AtWord, GoesThere, at_image, goes_on_there, site, image_shape, left_gone, shapes, word_is}
 
 -- a branch comes to a taken transfer's slot only at the next instruction
@@ -103,8 +102,7 @@ module _ (visit : AtWord) (cond : ℕ) (annul : Bool) (disp : ℤ)
         let ended : end_of b k ≡ end_at g.text word =
         cut.ends k (is_in g.text b g.switches cut word low).within ∙ ap (end_at g.text) (sym last) in
         let last_there : last_in (graph_in g) node ≡ word = last_home b g.switches node k home ∙ sym last in
-        rw found.only (way_at g.text b g.switches is.cased f.table.base f.cases.base found.number edge
-        (own_at b g.switches found.number edge found.is land) ∙ rw (fall, no_case, ended, skips, last_there, says))
+        rw found.only (way_at g is f.table.base f.cases.base found.number edge found.is land ∙ rw (fall, no_case, ended, skips, last_there, says))
 
     bare_goes : (pc : ℕ) → word_at g.text pc ≡ w.to → LeadsIfThere b w.to → pc ≡ goal_address
         → GoesThere edit edge.to pc (way_on edge.to)

@@ -3,16 +3,17 @@ use Rattle.image_code.proofs.Common.{◌≡◌, ℕ, Some, List, map, ap, sym, �
 use Rattle.v8_decode.specs.declared.Instr.TheVariants as i
 use Rattle.v8_decode.specs.declared.LoadKind.TheVariants as loads
 use Rattle.cfg_blocks.specs.Values.{instr_at}
-use Rattle.image_code.specs.Graphs.{case_table}
+use Rattle.image_code.specs.Graphs.{IsGraphOf, case_table}
 use Rattle.image_code.specs.Keeping.{AreCaseTables, IsCaseTable}
 use Rattle.image_code.specs.Loads.{first_operand, load_of, second_operand}
-use Rattle.image_code.specs.Simulates.{CaseTable, EditSetup}
+use Rattle.image_code.specs.Simulates.{CaseTable, EditSetup, graph_in}
 use Rattle.image_code.proofs.Opened.{AreCased, load_is}
 use Rattle.image_code.proofs.Operands.{load_fits}
 
 -- The graph of a set-up is that of its text, with the open switches of which the code knows.
 pub record IsKnown (g : EditSetup) : Type 0 where
   pub text : IsText g.text
+  pub graph : IsGraphOf g.text (graph_in g)
   pub cased : AreCased g.text (blocks_of g.text g.given) g.switches
   pub known : g.opens ≡ map (case_table g.text) g.switches
 

@@ -1,5 +1,5 @@
 -- The image of an open switch's jump, at the jump's block itself: the Case edge that it chooses leads to the slot.
-use Rattle.image_code.proofs.Common.{◌≡◌, ◌≢◌, ℕ, zero, suc, ◌+◌, ◌*◌, ◌%◌, ◌^◌, ◌<◌, Bool, true, Some, None, List, [], ◌∷◌, length, map, take, refl, ap, sym, ◌∙◌, arith, ◌==◌, if◌then◌else◌, slice_get, slice_index, sum_by, and_parts, eq-eqb, lt-ltb, ltb-true, length-map, sum_by-cons, slice_get-map, slice_get_within, Words, word_at, Op2, operands_in_range, decode_of, decoded_range, nat_lt, NoSlot, Taken, State, Blocks, blocks_of, last_word, ends_block_after, word_at-some, home_of, Open, jumps_in, Graph, has_cases, node_of, point_of, same_kind, next_word, block, end_is, node_is, table_word, choice_at, saved_address, IsTarget, transfer_ends, jump_delayed, IsCaseBlock}
+use Rattle.image_code.proofs.Common.{flat_map, ◌≡◌, ◌≢◌, ℕ, zero, suc, ◌+◌, ◌*◌, ◌%◌, ◌^◌, ◌<◌, Bool, true, Some, None, List, [], ◌∷◌, length, take, refl, ap, sym, ◌∙◌, arith, ◌==◌, if◌then◌else◌, slice_get, slice_index, sum_by, and_parts, eq-eqb, lt-ltb, ltb-true, length-map, sum_by-cons, slice_get-map, slice_get_within, Words, word_at, Op2, operands_in_range, decode_of, decoded_range, nat_lt, NoSlot, Taken, State, Blocks, blocks_of, last_word, ends_block_after, word_at-some, home_of, Open, jumps_in, Graph, has_cases, node_of, point_of, same_kind, next_word, block, end_is, node_is, table_word, choice_at, saved_address, IsTarget, transfer_ends, jump_delayed, IsCaseBlock}
 use Rattle.v8_decode.specs.declared.Instr.TheVariants as i
 use Rattle.cfg_blocks.specs.declared.EdgeKind.TheVariants as kinds
 use Rattle.switch_runs.proofs.About.{in_targets}
@@ -10,39 +10,36 @@ use Rattle.image_code.specs.declared.shape.Head.TheVariants as heads
 use Rattle.image_code.specs.Graphs.{case_table}
 use Rattle.image_code.specs.Images.{slot_piece}
 use Rattle.image_code.specs.Made.{distance_of}
-use Rattle.image_code.specs.Numbered.{case_numbers, case_piece, cases_of, entries_of, first_entry, jump_number, or_zero}
+use Rattle.image_code.specs.Labels.{or_zero, case_numbers, case_piece, cases_of, first_entry, jump_number}
 use Rattle.image_code.specs.Simulates.{CaseTable, Chooses, IsChosen, does_at, gone_at, graph_in}
 use Rattle.image_code.proofs.CaseTables.{known_at}
-use Rattle.image_code.proofs.ImageNumbers.{block_of}
+use Rattle.image_code.specs.Lookups.{block_of}
 use Rattle.image_code.proofs.IntoSlots.{before, stands}
 use Rattle.image_code.proofs.JumpImages.{jump_goes}
-use Rattle.image_code.proofs.Positions.{any_at, contains, get_behind, get_first}
+use Rattle.image_code.proofs.Positions.{any_at, contains, get_first, get_past}
 use Rattle.image_code.proofs.Visited.{AtWord, InSlot, at_image, site, IsTargetOf, case_piece_is, entered_slot, image_shape, l, nothing_gone, slotted, target, way_in}
 
 -- ---- the numbers of Case edges' pieces, by entries
 
-case_number_at : (text : Words) (graph : Graph) (opens : List Open) (begin k : ℕ) (o : Open) → slice_get opens k
-    ≡ Some o
+case_number_at : (text : Words) (graph : Graph) (opens : List Open) (k : ℕ) (o : Open) → slice_get opens k ≡ Some o
     → (entry word : ℕ) → slice_get o.targets entry ≡ Some word
-    → slice_get (cases_of text graph begin opens) (sum_by (entries_of text graph) (take k opens) + entry)
-    ≡ Some (case_piece text graph (begin + k) o word)
-case_number_at text graph [] begin k o e entry word at = absurd (cc)
-case_number_at text graph (q ∷ opens) begin zero o e entry word at =
+    → slice_get (flat_map (cases_of text graph) opens) (sum_by (λ (q : Open). length q.targets) (take k opens) + entry)
+    ≡ Some (case_piece text graph o.block word)
+case_number_at text graph [] k o e entry word at = absurd (cc)
+case_number_at text graph (q ∷ opens) zero o e entry word at =
     let same : q ≡ o = cc in
-    let here : begin ≡ begin + 0 = omega arith in
     let there : 0 + entry ≡ entry = omega arith in
-    get_first (map (case_piece text graph begin q) q.targets) (cases_of text graph (suc begin) opens) (0 + entry) _
-    (rw (there, same, slice_get-map (case_piece text graph begin o) o.targets entry, at, ← here))
-case_number_at text graph (q ∷ opens) begin (suc k) o e entry word at =
-    let there : sum_by (entries_of text graph) (q ∷ take k opens) + entry
-    ≡ length q.targets + (sum_by (entries_of text graph) (take k opens) + entry) =
-    omega (arith, sum_by-cons (entries_of text graph) q (take k opens)) in
-    let next : suc begin + k ≡ begin + suc k = omega arith in
-    rw (there, ← next)
-    (get_behind (map (case_piece text graph begin q) q.targets) (cases_of text graph (suc begin) opens)
-    (length q.targets)
-    (sum_by (entries_of text graph) (take k opens) + entry) _ (length-map q.targets (case_piece text graph begin q))
-    (case_number_at text graph opens (suc begin) k o e entry word at))
+    get_first (cases_of text graph q) (flat_map (cases_of text graph) opens) (0 + entry) _
+    (rw (there, same, slice_get-map (case_piece text graph o.block) o.targets entry, at))
+case_number_at text graph (q ∷ opens) (suc k) o e entry word at =
+    get_past (cases_of text graph q) (flat_map (cases_of text graph) opens) _
+    (sum_by (λ (r : Open). length r.targets) (take k opens) + entry) _
+    (omega (
+      arith,
+      sum_by-cons (λ (r : Open). length r.targets) q (take k opens),
+      length-map q.targets (case_piece text graph q.block),
+    ))
+    (case_number_at text graph opens k o e entry word at)
 
 -- where the word of an entry stands
 word_place : (cases first table entry : ℕ) → table < 2 ^ 32 → cases + 4 * (first + entry) < 2 ^ 32
@@ -114,10 +111,8 @@ module _ (visit : AtWord) (t : State) (rd rs1 : ℕ) (op2 : Op2)
   distance = distance_of f.cases.base first o.switch.table.0
 
   number_at : slice_get (case_numbers g.text (graph_in g)) (first + entry)
-      ≡ Some (case_piece g.text (graph_in g) k o to)
-  number_at =
-      let here : 0 + k ≡ k = omega arith in
-      case_number_at g.text (graph_in g) g.switches 0 k o among entry to targeted ∙ rw here refl
+      ≡ Some (case_piece g.text (graph_in g) o.block to)
+  number_at = case_number_at g.text (graph_in g) g.switches k o among entry to targeted
 
   many : first + entry < length (case_numbers g.text (graph_in g))
   many = slice_get_within (case_numbers g.text (graph_in g)) (first + entry) _ number_at
@@ -159,19 +154,17 @@ module _ (visit : AtWord) (t : State) (rd rs1 : ℕ) (op2 : Op2)
   out : same_kind (way_in edit (point_of v)) kinds.Out ≡ true
   out = rw (before visit (i.Jmpl rd rs1 op2) says v acts.0)
 
-  its_piece : slot_piece g (l edit) node (point_of v) ≡ case_piece g.text (graph_in g) k o to
+  its_piece : slot_piece g (l edit) node (point_of v) ≡ case_piece g.text (graph_in g) o.block to
   its_piece = case_piece_is in_slot out cased
       ∙ same_piece (target in_slot out cased)
     where
       same_piece : (r : IsTargetOf in_slot out cased)
-          → case_piece g.text (graph_in g) r.k r.o r.word ≡ case_piece g.text (graph_in g) k o to
+          → case_piece g.text (graph_in g) r.o.block r.word ≡ case_piece g.text (graph_in g) o.block to
       same_piece r =
           let one : r.o ≡ o = is.cased.one r.k k r.o o r.among among (ap block_of (sym r.itself ∙ itself)) in
-          let number : Some r.k ≡ Some k = sym r.numbered ∙ rw one numbered in
           let goes : Some r.word ≡ Some to = sym r.goes ∙ goes_to in
-          let same_k : r.k ≡ k = cc in
           let same_word : r.word ≡ to = cc in
-          rw (same_k, one, same_word) refl
+          rw (one, same_word) refl
 
   slot_there : word_at g.text v.pc ≡ Some (word + 1)
   slot_there =
@@ -210,7 +203,7 @@ module _ (visit : AtWord) (t : State) (rd rs1 : ℕ) (op2 : Op2)
         from = omega (arith, place);
         to = omega (arith, place, cases.long, many);
         below = omega (arith, place, cases.long, many, cases.low);
-        way = case_piece g.text (graph_in g) k o to;
+        way = case_piece g.text (graph_in g) o.block to;
         has = ap (table_word f.cases) place ∙ cases.words (first + entry) _ number_at;
         live = chosen.live;
         nothing = gone_nothing;

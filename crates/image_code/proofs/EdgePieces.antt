@@ -1,5 +1,5 @@
 -- The edges of a text's graph, and the pieces of the ways along them.
-use Rattle.image_code.proofs.Common.{◌≡◌, ℕ, ◌+◌, ◌*◌, ◌%◌, ◌^◌, ◌<◌, Bool, true, Some, [], ◌∷◌, length, refl, ap, sym, ◌∙◌, arith, ◌&&◌, slice_get, w32, position, and_parts, eq-eqb, position-Some, get_or_from_slice_get, Words, address_of, IsText, Instr, EdgeKind, Blocks, blocks_of, is_fall, Edge, Node, Open, edges_in, lands, WayOut, edge_along, same_kind, same_node, IsCut, cut, block, same_nodes, same_kinds, Carried, IsSlotIn, leads_along, target_along}
+use Rattle.image_code.proofs.Common.{Option, false, ◌≡◌, ℕ, ◌+◌, ◌*◌, ◌%◌, ◌^◌, ◌<◌, Bool, true, Some, [], ◌∷◌, length, ap, sym, ◌∙◌, arith, ◌&&◌, slice_get, w32, position, and_parts, position-Some, get_or_from_slice_get, Words, address_of, IsText, Instr, EdgeKind, Blocks, blocks_of, is_fall, Edge, Node, Open, edges_in, lands, WayOut, edge_along, same_kind, same_node, IsCut, cut, block, same_nodes, same_kinds, Carried, IsSlotIn, leads_along, target_along}
 use Rattle.v8_decode.specs.declared.Instr.TheVariants as i
 use Rattle.cfg_blocks.specs.declared.EdgeKind.TheVariants as kinds
 use Rattle.std.specs.Int.{cast_unsigned}
@@ -7,11 +7,12 @@ use Rattle.cfg_walk.proofs.Edges.{number_of_list}
 use Rattle.cfg_walk.proofs.NoneOpen.{edge_lies_in}
 use Rattle.image_code.specs.Simulates.{EditSetup, graph_in}
 use Rattle.image_code.proofs.PointShapes.{IsJumpTarget}
-use Rattle.image_code.specs.Made.{first_word, shape_list, way_by}
-use Rattle.image_code.specs.Numbered.{case_piece, place_in}
+use Rattle.image_code.specs.Made.{first_word, shape_list, way_along, way_by, way_shape}
+use Rattle.image_code.specs.Labels.{Case, Way, case_piece, way_piece}
 use Rattle.image_code.proofs.CaseTables.{IsKnown}
 use Rattle.image_code.proofs.Branches.{IsTransfersWay}
-use Rattle.image_code.proofs.Listed.{case_entry_at, own_at, place_is, way_at}
+use Rattle.image_code.proofs.Listed.{case_stands, shape_at, way_stands}
+use Rattle.image_code.proofs.OpenBlocks.{IsTextGraph, text_graph}
 
 -- ---- addresses to which a long jump can lead
 
@@ -43,6 +44,9 @@ module _ (g : EditSetup) (is : IsKnown g) where
   pub cut_in : IsCut g.text b
   cut_in = cut g.text g.given is.text.some
 
+  pub facts : IsTextGraph g.text (graph_in g)
+  facts = text_graph g.text (graph_in g) is.text is.graph
+
   -- the one edge along which a way leaves a node
   pub record IsAlong (node : Node) (way : WayOut) (number : ℕ) (edge : Edge) : Type 0 where
     pub only : edge_along (graph_in g) node way ≡ number ∷ []
@@ -73,14 +77,23 @@ module _ (g : EditSetup) (is : IsKnown g) where
   slot_in number edge found = (edge_lies_in b g.switches cut_in.firsts.some number edge found).slot
 
   module _ (table cases : ℕ) where
+    -- the piece of an edge that is no landing
+    pub way_at : (number : ℕ) (edge : Edge) → slice_get (edges_in b g.switches) number ≡ Some edge
+        → same_kind edge.kind kinds.Land ≡ false
+        → slice_get (shape_list g.text (graph_in g) table cases) (way_piece g.text (graph_in g) number)
+        ≡ Some (way_along g.text (graph_in g) table number edge)
+    way_at number edge e other =
+        shape_at g.text (graph_in g) facts table cases (Way number) _
+        (way_stands g.text (graph_in g) facts number (facts.before number edge e other))
+        ∙ ap (λ (o : Option Edge). Some (way_shape g.text (graph_in g) table number o)) e
+
     -- the piece of its way
     pub shape_along : (node : Node) (way : WayOut) (number : ℕ) (edge : Edge)
         → IsAlong node way number edge → IsTransfersWay way.kind → (to : Carried) → edge.slot ≡ to
-        → slice_get (shape_list g.text (graph_in g) table cases) (length g.text.words + number)
+        → slice_get (shape_list g.text (graph_in g) table cases) (way_piece g.text (graph_in g) number)
         ≡ Some (way_by g.text (graph_in g) table number edge (first_word (graph_in g) edge.to) to)
     shape_along node way number edge k own to e =
-        way_at g.text b g.switches is.cased table cases number edge
-        (own_at b g.switches number edge k.found (ap (λ (j : EdgeKind). same_kind j kinds.Land) k.same ∙ own.land))
+        way_at number edge k.found (ap (λ (j : EdgeKind). same_kind j kinds.Land) k.same ∙ own.land)
         ∙ rw (ap is_fall k.same ∙ own.fall, ap (λ (j : EdgeKind). same_kind j kinds.Case) k.same ∙ own.caseless, e)
 
     -- the piece of a Case edge, where control goes on at a target
@@ -88,11 +101,9 @@ module _ (g : EditSetup) (is : IsKnown g) where
         → slice_get o.targets entry ≡ Some word → (number : ℕ) (edge : Edge)
         → IsAlong (block o.block) (by_case (lands (graph_in g) (Some word))) number edge
         → (to : Carried) → edge.slot ≡ to
-        → slice_get (shape_list g.text (graph_in g) table cases) (case_piece g.text (graph_in g) k o word)
+        → slice_get (shape_list g.text (graph_in g) table cases) (case_piece g.text (graph_in g) o.block word)
         ≡ Some (way_by g.text (graph_in g) table number edge word to)
     shape_case k o e entry word at number edge along to slot =
-        let place = place_in g.text (graph_in g) o.targets word in
-        let way : WayOut = by_case (lands (graph_in g) (Some word)) in
-        case_entry_at g.text b g.switches is.cased table cases k o e place word
-        (place_is g.text (graph_in g) o.targets entry word at)
-        ∙ rw (eq-eqb place place refl, along.only, along.found, slot)
+        shape_at g.text (graph_in g) facts table cases (Case o.block word) _
+        (case_stands g.text (graph_in g) facts k o e entry word at)
+        ∙ rw (along.only, along.found, slot)

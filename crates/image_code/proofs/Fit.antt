@@ -1,5 +1,5 @@
 -- What holds of each piece that is made, and so of all.
-use Rattle.image_code.proofs.Common.{◌≡◌, sym, ◌∙◌, ℕ, zero, suc, ◌+◌, ◌-◌, ◌*◌, ◌<◌, ◌≤◌, Bool, true, false, ◌&&◌, ◌==◌, Option, Some, None, List, [], ◌∷◌, ◌++◌, append-nil, length, length-map, map, get_or, length-append, refl, ap, arith, if◌then◌else◌, nat_lt, slice_get, slice_get-map, slice_index, flat_map, option_map, position, sum_by, option_to_list, and_parts, cond_both, eq-eqb, false≢true, ltb-true, sum_by-append, sum_by-cons, position-Some, slice_get-get_or, Words, word_at, IsText, Addr, Op2, Instr, decode_of, is_transfer, EdgeKind, always, never, below, blocks_of, holding_of, last_word, size_of, length-below, is_fall, Edge, Node, Block, X, same_kind, same_node, Open, jumps_in, Graph, lands, IsEdgeIn, IsNodeIn, ends_block, landing_at, left_by, block, copy, same_nodes, in_held, some_words, straight_left, same_kinds, Each, each_at, each-append, each-below, Item, item_at, item_in, Op, fold-map, is_copied, LeadsBelow, piece_words, Exit, Head, OfWord, Shape, assembled, head_items, items_of, marked}
+use Rattle.image_code.proofs.Common.{subst, range_with_len, map-append, ◌≡◌, sym, ◌∙◌, ℕ, zero, suc, ◌+◌, ◌-◌, ◌*◌, ◌<◌, ◌≤◌, Bool, true, false, ◌==◌, Option, Some, None, List, [], ◌∷◌, ◌++◌, append-nil, length, length-map, map, get_or, length-append, refl, ap, arith, if◌then◌else◌, nat_lt, slice_get, slice_get-map, slice_index, flat_map, option_map, position, sum_by, option_to_list, cond_both, eq-eqb, false≢true, ltb-true, sum_by-append, sum_by-cons, position-Some, slice_get-get_or, Words, word_at, IsText, Addr, Op2, Instr, decode_of, is_transfer, EdgeKind, always, never, below, holding_of, last_word, size_of, length-below, is_fall, Edge, Node, Block, X, same_kind, same_node, Open, jumps_in, Graph, lands, IsEdgeIn, IsNodeIn, ends_block, landing_at, left_by, block, copy, in_held, some_words, straight_left, Each, each_at, each-append, each-below, Item, item_at, item_in, Op, fold-map, is_copied, LeadsBelow, piece_words, Exit, Head, OfWord, Shape, assembled, head_items, items_of, marked}
 use Rattle.v8_decode.specs.declared.Instr.TheVariants as i
 use Rattle.cfg_blocks.specs.declared.EdgeKind.TheVariants as kinds
 use Rattle.layout.specs.declared.items.Item.TheVariants as it
@@ -12,21 +12,20 @@ use Rattle.layout.specs.Laid.{IsMarked}
 use Rattle.image_code.specs.declared.shape.Exit.TheVariants as exits
 use Rattle.image_code.specs.declared.shape.Head.TheVariants as heads
 use Rattle.image_code.specs.Loads.{load_of}
-use Rattle.image_code.specs.Numbered.{enter_number, foreign_number, node_in_order, edges_but_landings, pieces_of, place_in}
-use Rattle.image_code.specs.Made.{all_cases, case_at, case_by, choice_of, first_way, first_word, goes_on, image, image_by, images_in_order, images_of, is_slots, jump_by, jump_image_by, jumps_at, save_by, landing, next_at, nop_word, open_pieces, piece_list, shape_list, unused, visit_of, way_along, way_by, way_out}
-use Rattle.image_code.specs.Graphs.{IsGraphOf, opens_in}
+use Rattle.image_code.specs.Labels.{Case, Spare, Foreign, Image, Label, Landing, Save, Way, entry_label, entry_labels, labels_in_order, switch_labels, edges_but_landings, enter_number, foreign_number, node_in_order, number_of, piece_labels, place_in}
+use Rattle.image_code.specs.Lookups.{IsReached, IsWordOf, pieces_of}
+use Rattle.image_code.specs.Made.{way_shape, case_by, choice_of, first_way, first_word, goes_on, image, image_by, is_slots, jump_by, jump_image_by, jumps_at, save_by, next_at, nop_word, piece_list, shape_list, shape_of, unused, visit_of, way_along, way_by, way_out}
+use Rattle.image_code.specs.Graphs.{IsGraphOf}
 use Rattle.image_code.specs.Fit.{AreFit, AreShort, PiecesFit, PlacesSay, marks_in}
-use Rattle.image_code.proofs.Listed.{count_is}
+use Rattle.image_code.proofs.Listed.{count_is, number_below, way_stands}
+use Rattle.image_code.proofs.Numbers.{no_edge, Leaves, found_below, number_of_list, Goes, case_reaches, ordered_number}
 use Rattle.image_code.proofs.OpenBlocks.{IsSwitchIn, IsTextGraph, text_graph, words_of}
-use Rattle.image_code.proofs.OpenNumbers.{IsWordOf, case_number_below, each_index, enter_below, first_word_of, foreign_is, lands_below, lands_word}
-use Rattle.image_code.proofs.Opened.{cased_of}
+use Rattle.image_code.proofs.OpenNumbers.{case_number_below, each_index, enter_below, first_word_of, foreign_is, lands_below, lands_word}
 use Rattle.image_code.proofs.OpenSums.{code_length}
 use Rattle.image_code.proofs.Sized.{case_code, case_edge, code_by, block_end_within, entries_in, image_code, landing_code, no_code, order_code, snippets_few, way_code, ways_code}
 use Rattle.image_code.proofs.Shapes.{ExitLeads, HeadLeads, IsAt, IsMade, IsShaped, head_size, made, made_bare, mark_says, sized, switch_some, well_marked}
-use Rattle.image_code.proofs.Positions.{any_at}
-
-number_of_list : (o : Option ℕ) (number : ℕ) (rest : List ℕ) → option_to_list o ≡ number ∷ rest → o ≡ Some number
-number_of_list o number rest e = grind arith
+use Rattle.image_code.proofs.Positions.{StandsIn, any_at}
+use Rattle.std.proofs.lemmas.List.FromFn.{map-range_with_len_more}
 
 module _ (text : Words) (graph : Graph) (table cases : ℕ) (codes : ℕ → List ℕ) (is : IsText text)
     (h : IsGraphOf text graph) where
@@ -36,9 +35,12 @@ module _ (text : Words) (graph : Graph) (table cases : ℕ) (codes : ℕ → Lis
   g : IsTextGraph text graph
   g = text_graph text graph is h
 
+  labelled : length shapes ≡ length (piece_labels text graph)
+  unfolding shape_list
+  labelled = length-map (piece_labels text graph) (shape_of text graph table cases)
+
   many : length shapes ≡ foreign_number text graph + 1
-  many = rw h.is (count_is text (blocks_of text h.given) (opens_in text h.given h.entry) (cased_of text h.given h.entry is)
-      table cases)
+  many = labelled ∙ count_is text graph g
 
   -- a piece of so many words, besides those of a snippet
   abbrev Made : ℕ → ℕ → Shape → Type 0
@@ -48,32 +50,22 @@ module _ (text : Words) (graph : Graph) (table cases : ℕ) (codes : ℕ → Lis
   Exits = ExitLeads (length shapes)
 
   entered : (node : Node) (word : ℕ) → IsWordOf graph node word → enter_number text graph node word < length shapes
-  entered node word inside = omega (arith, many, enter_below text graph g node word inside)
+  entered node word inside = omega (arith, labelled, enter_below text graph g node word inside)
+
+  numbered : (x : Label) (n : ℕ) → StandsIn (piece_labels text graph) x n → number_of text graph x < length shapes
+  numbered x n s = omega (arith, labelled, number_below text graph g x n s)
 
   -- ---- the way of a kind leads to a piece
 
-  abbrev Leaves : Node → EdgeKind → Edge → Bool
-  Leaves node kind edge = same_node edge.from node && same_kind edge.kind kind
-
-  abbrev no_edge : Edge
-  no_edge = record { from = X; to = X; kind = kinds.Land; slot = slots.Nothing }
-
-  found_below : (node : Node) (kind : EdgeKind) → same_kind kind kinds.Land ≡ false → (number : ℕ)
-      → position (Leaves node kind) graph.edges ≡ Some number
-      → number < length (edges_but_landings graph)
-  found_below node kind other number e =
-      let found = position-Some (Leaves node kind) graph.edges number no_edge e in
-      g.before number (get_or graph.edges number no_edge) (slice_get-get_or graph.edges number no_edge found.0)
-      (rw (same_kinds (get_or graph.edges number no_edge).kind kind (and_parts (same_node _ node) _ found.1).1) other)
-
   way_by_number : (node : Node) (kind : EdgeKind) → same_kind kind kinds.Land ≡ false → (o : Option ℕ)
-      → position (Leaves node kind) graph.edges ≡ o → first_way text graph (option_to_list o) < length shapes
+      → position (Leaves text graph g node kind) graph.edges ≡ o → first_way text graph (option_to_list o) < length shapes
   way_by_number node kind other None e = omega (arith, many)
-  way_by_number node kind other (Some number) e = omega (arith, many, found_below node kind other number e)
+  way_by_number node kind other (Some number) e =
+      numbered (Way number) _ (way_stands text graph g number (found_below text graph g node kind other number e))
 
   way_below : (node : Node) (kind : EdgeKind) → same_kind kind kinds.Land ≡ false
       → way_out text graph node kind < length shapes
-  way_below node kind other = way_by_number node kind other (position (Leaves node kind) graph.edges) refl
+  way_below node kind other = way_by_number node kind other (position (Leaves text graph g node kind) graph.edges) refl
 
   -- ---- images
 
@@ -82,8 +74,9 @@ module _ (text : Words) (graph : Graph) (table cases : ℕ) (codes : ℕ → Lis
       cond_both (same_node node (node_in_order graph word)) _ exits.Behind Exits
       (λ _. cond_both (nat_lt (word + 1) (length text.words)) _ _ Exits
       (λ more. cond_both (is_slots text word) _ exits.Behind Exits
-      (λ _. omega (arith, ltb-true (word + 1) (length text.words) more, many)) (λ _. tt)) (λ _. tt))
-      (λ _. tt)
+      (λ _. let low = ltb-true (word + 1) (length text.words) more in
+      omega (arith, many, foreign_is text graph g, ordered_number text graph g (word + 1) low, low)) (λ _. tt))
+      (λ _. tt)) (λ _. tt)
 
   module _ (node : Node) (word : ℕ) (at : IsAt text graph node word) where
     abbrev visit : OfWord
@@ -147,12 +140,12 @@ module _ (text : Words) (graph : Graph) (table cases : ℕ) (codes : ℕ → Lis
   one_code : (number : ℕ) → length (flat_map codes (number ∷ [])) ≤ length (codes number)
   one_code number = omega (arith, ap length (append-nil (codes number)))
 
-  goes_exit : (node : Node) (word address : ℕ) → IsWordOf graph node word → Exits (goes_on text graph node word address)
+  goes_exit : (node : Node) (word address : ℕ) → IsReached graph node word → Exits (goes_on text graph node word address)
   goes_exit X word address inside = tt
   goes_exit node word address inside = entered node word inside
 
   way_by_made : {most : ℕ} (number : ℕ) (edge : Edge) (word : ℕ) → IsEdgeIn graph.blocks graph.opens edge
-      → IsWordOf graph edge.to word → length (flat_map codes (number ∷ [])) ≤ most → (slot : Slot) → edge.slot ≡ slot
+      → IsReached graph edge.to word → length (flat_map codes (number ∷ [])) ≤ most → (slot : Slot) → edge.slot ≡ slot
       → Made 8 most (way_by text graph table number edge word slot)
   way_by_made number edge word inside to few slots.Nothing e =
       made_bare (number ∷ []) few (goes_exit edge.to word _ to) (omega arith)
@@ -184,28 +177,24 @@ module _ (text : Words) (graph : Graph) (table cases : ℕ) (codes : ℕ → Lis
 
   -- ---- Case edges
 
-  abbrev Goes : Open → ℕ → Edge → Bool
-  Goes o word edge =
-      same_node edge.to (lands graph (Some word)) && (same_node edge.from
-      (block o.block) && same_kind edge.kind kinds.Case)
-
   case_by_made : (o : Open) (word : ℕ) → word < length text.words → (numbers : List ℕ)
-      → option_to_list (position (Goes o word) graph.edges) ≡ numbers
+      → option_to_list (position (Goes text graph g o.block word) graph.edges) ≡ numbers
       → Made 8 (code_length codes numbers) (case_by text graph table word numbers)
   case_by_made o word l [] e = idle_made
   case_by_made o word l (number ∷ rest) e =
       let edge = get_or graph.edges number no_edge in
-      let found = position-Some (Goes o word) graph.edges number no_edge (number_of_list _ number rest e) in
+      let found =
+      position-Some (Goes text graph g o.block word) graph.edges number no_edge (number_of_list _ number rest e) in
       let here = slice_get-get_or graph.edges number no_edge found.0 in
-      let to : edge.to ≡ lands graph (Some word) = same_nodes _ _ (and_parts _ _ found.1).0 in
-      let inside : IsWordOf graph edge.to word = rw to (lands_word text graph g word l) in
+      let inside = case_reaches text graph g o.block word number rest edge l e here in
       rw here (way_by_made number edge word (each_at _ graph.edges number edge g.edges here) inside
       (omega (arith, one_code number, length-append (codes number) (flat_map codes rest))) edge.slot refl)
 
   case_made : (o : Open) (entry word : ℕ) → word < length text.words
-      → Made 8 (case_code graph codes (o, word)) (case_at text graph table o entry word)
+      → Made 8 (case_code graph codes (o, word)) (shape_of text graph table cases (entry_label o entry word))
   case_made o entry word l =
-      cond_both (place_in text graph o.targets word == entry) _ _ (Made 8 (case_code graph codes (o, word)))
+      cond_both (place_in o.targets word == entry) (Case o.block word) Spare
+      (λ (x : Label). Made 8 (case_code graph codes (o, word)) (shape_of text graph table cases x))
       (λ _. case_by_made o word l (case_edge graph o word) refl) (λ _. idle_made)
 
   -- ---- all of them: where a snippet isn't long, no piece is
@@ -225,6 +214,9 @@ module _ (text : Words) (graph : Graph) (table cases : ℕ) (codes : ℕ → Lis
   marks_by s = marks_in (items_of codes s)
 
   -- Shapes whose pieces have at most so many words and Marks.
+  abbrev shape : Label → Shape
+  shape = shape_of text graph table cases
+
   record Have (words marks : ℕ) (list : List Shape) : Type 0 where
     each : Each IsPiece list
     words_few : sum_by words_by list ≤ words
@@ -237,13 +229,14 @@ module _ (text : Words) (graph : Graph) (table cases : ℕ) (codes : ℕ → Lis
       → Have words marks list → Have more_words more_marks list
   within more_words more_marks have = search arith
 
-  joined : {words marks more_words more_marks : ℕ} {xs ys : List Shape} → Have words marks xs
-      → Have more_words more_marks ys → Have (words + more_words) (marks + more_marks) (xs ++ ys)
-  joined {xs = xs} {ys = ys} one other = record {
-    each = each-append IsPiece xs ys one.each other.each;
-    words_few = omega (arith, one.words_few, other.words_few, sum_by-append words_by xs ys);
-    marks_few = omega (arith, one.marks_few, other.marks_few, sum_by-append marks_by xs ys);
-  }
+  joined : {words marks more_words more_marks : ℕ} (xs ys : List Label) → Have words marks (map shape xs)
+      → Have more_words more_marks (map shape ys)
+      → Have (words + more_words) (marks + more_marks) (map shape (xs ++ ys))
+  joined xs ys one other = rw (map-append shape xs ys) (record {
+    each = each-append IsPiece (map shape xs) (map shape ys) one.each other.each;
+    words_few = omega (arith, one.words_few, other.words_few, sum_by-append words_by (map shape xs) (map shape ys));
+    marks_few = omega (arith, one.marks_few, other.marks_few, sum_by-append marks_by (map shape xs) (map shape ys));
+  })
 
   one_piece : {size marks most : ℕ} {s : Shape} → size ≤ 21 → (AreFew → most ≤ 176)
       → IsMade text graph codes (length shapes) marks size most s → Have (size + most) marks (s ∷ [])
@@ -258,12 +251,13 @@ module _ (text : Words) (graph : Graph) (table cases : ℕ) (codes : ℕ → Lis
       }
 
   -- one for each item of a list, of so many words and those of its snippets
-  mapped : {A : Type 0} (f : A → Shape) (base marks : ℕ) (code : A → ℕ) (xs : List A)
-      → Each (λ x. Have (base + code x) marks (f x ∷ [])) xs
-      → Have (length xs * base + sum_by code xs) (length xs * marks) (map f xs)
+  mapped : {A : Type 0} (f : A → Label) (base marks : ℕ) (code : A → ℕ) (xs : List A)
+      → Each (λ x. Have (base + code x) marks (shape (f x) ∷ [])) xs
+      → Have (length xs * base + sum_by code xs) (length xs * marks) (map shape (map f xs))
   mapped f base marks code [] have = within (omega arith) (omega arith) none
   mapped f base marks code (x ∷ xs) have =
-      within (omega (arith, sum_by-cons code x xs)) (omega arith) (joined have.0 (mapped f base marks code xs have.1))
+      within (omega (arith, sum_by-cons code x xs)) (omega arith)
+      (joined (f x ∷ []) (map f xs) have.0 (mapped f base marks code xs have.1))
 
   -- ---- the parts
 
@@ -298,45 +292,53 @@ module _ (text : Words) (graph : Graph) (table cases : ℕ) (codes : ℕ → Lis
 
   have_ordered : Have (length (below (length text.words)) * 21
       + sum_by (order_code text graph codes) (below (length text.words))) (length (below (length text.words)) * 1)
-      (images_in_order text graph table cases)
+      (map shape (labels_in_order text graph))
   have_ordered =
-      mapped (λ word. image_at (node_in_order graph word) word) 21 1 (order_code text graph codes)
+      mapped (λ word. Image (node_in_order graph word) word) 21 1 (order_code text graph codes)
       (below (length text.words)) (each-below _ (length text.words)
       (λ word l. one_image (node_in_order graph word) word (ordered_in word l)))
 
-  have_ways : (number : ℕ) (edges : List Edge) → Each (IsEdgeIn graph.blocks graph.opens) edges
+  have_ways : (number : ℕ) (edges : List Edge)
+      → ((k : ℕ) (edge : Edge) → slice_get edges k ≡ Some edge → slice_get graph.edges (number + k) ≡ Some edge)
       → Have (8 * length edges + ways_code codes number edges) (length edges)
-      (map (λ (p : ℕ × Edge). way_along text graph table p.0 p.1) (enumerate_from number edges))
-  have_ways number [] inside = none
-  have_ways number (edge ∷ edges) inside =
-      within (omega arith) (omega arith) (joined (one_piece (omega arith)
+      (map shape (map Way (range_with_len number (length edges))))
+  have_ways number [] are = none
+  have_ways number (edge ∷ edges) are =
+      let here : number + 0 ≡ number = omega arith in
+      let at : slice_get graph.edges number ≡ Some edge = ap (slice_get graph.edges) (sym here) ∙ are 0 edge refl in
+      within (omega arith) (omega arith) (joined (Way number ∷ []) (map Way (range_with_len (number + 1) (length edges)))
+      (one_piece (omega arith)
       (λ f. cond_both (is_fall edge.kind) 0 _ (λ (n : ℕ). n ≤ 176) (λ _. omega arith)
       (λ _. cond_both (same_kind edge.kind kinds.Case) 0 _ (λ (n : ℕ). n ≤ 176) (λ _. omega arith) (λ _. f number)))
-      (way_made number edge inside.0))
-      (have_ways (number + 1) edges inside.1))
+      (subst (λ (o : Option Edge). Made 8 (way_code codes number edge) (way_shape text graph table number o)) (sym at)
+      (way_made number edge (each_at _ graph.edges number edge g.edges at))))
+      (have_ways (number + 1) edges (λ k other e.
+      let next : number + 1 + k ≡ number + suc k = omega arith in
+      ap (slice_get graph.edges) next ∙ are (suc k) other e)))
 
   have_landings : Have (length (below (length text.words)) * 4
       + sum_by (landing_code graph codes) (below (length text.words))) (length (below (length text.words)) * 0)
-      (map (landing text graph) (below (length text.words)))
+      (map shape (map Landing (below (length text.words))))
   have_landings =
-      mapped (landing text graph) 4 0 (landing_code graph codes) (below (length text.words))
+      mapped Landing 4 0 (landing_code graph codes) (below (length text.words))
       (each-below _ (length text.words) (λ word l. one_piece (omega arith) (λ f. optional_few f _)
       (made_bare (landing_at graph (lands graph (Some word))) (omega arith)
       (entered (lands graph (Some word)) word (lands_word text graph g word l)) (omega arith))))
 
   have_cases : (o : Open) (entry : ℕ) (words : List ℕ) → Each (λ word. word < length text.words) words
       → Have (8 * length words + sum_by (λ word. case_code graph codes (o, word)) words) (length words)
-      (map (λ (p : ℕ × ℕ). case_at text graph table o p.0 p.1) (enumerate_from entry words))
+      (map shape (map (λ (p : ℕ × ℕ). entry_label o p.0 p.1) (enumerate_from entry words)))
   have_cases o entry [] low = none
   have_cases o entry (word ∷ words) low =
       within (omega (arith, sum_by-cons (λ (w : ℕ). case_code graph codes (o, w)) word words)) (omega arith)
-      (joined (one_piece (omega arith) (λ f. optional_few f _) (case_made o entry word low.0))
+      (joined (entry_label o entry word ∷ []) (map (λ (p : ℕ × ℕ). entry_label o p.0 p.1) (enumerate_from (entry + 1) words))
+      (one_piece (omega arith) (λ f. optional_few f _) (case_made o entry word low.0))
       (have_cases o (entry + 1) words low.1))
 
   have_chosen : (opens : List Open) → Each (λ (o : Open). Each (λ word. word < length text.words) o.targets) opens
       → Have (8 * sum_by (λ (o : Open). length o.targets) opens + sum_by (case_code graph codes) (entries_in opens))
       (sum_by (λ (o : Open). length o.targets) opens)
-      (flat_map (all_cases text graph table) opens)
+      (map shape (flat_map entry_labels opens))
   have_chosen [] low = none
   have_chosen (o ∷ opens) low =
       within
@@ -347,18 +349,19 @@ module _ (text : Words) (graph : Graph) (table cases : ℕ) (codes : ℕ → Lis
         sum_by-cons (λ (p : Open). length p.targets) o opens,
       ))
       (omega (arith, sum_by-cons (λ (p : Open). length p.targets) o opens))
-      (joined (have_cases o 0 o.targets low.0) (have_chosen opens low.1))
+      (joined (entry_labels o) (flat_map entry_labels opens) (have_cases o 0 o.targets low.0) (have_chosen opens low.1))
 
   -- the images of some words of a block that ends in a transfer
   have_block : (node : Node) → IsNodeIn graph.blocks graph.opens node → (k : ℕ)
       → ((word : ℕ) → ends_block graph node word ≡ (word == last_word graph.blocks.firsts graph.blocks.words k))
       → is_transfer (decode_of (slice_index text.words (last_word graph.blocks.firsts graph.blocks.words k))) ≡ true
       → (from count : ℕ) → from + count ≤ length text.words
-      → Have (21 * count) count (images_of text graph table cases node from count)
+      → Have (21 * count) count (map shape (map (Image node) (range_with_len from count)))
   have_block node inside k at ends from zero low = none
   have_block node inside k at ends from (suc count) low =
       within (omega (arith, no_code text graph codes node k from (at from) ends)) (omega arith)
-      (joined (one_image node from (record { inside = inside; low = omega (arith, low) }))
+      (joined (Image node from ∷ []) (map (Image node) (range_with_len (from + 1) count))
+      (one_image node from (record { inside = inside; low = omega (arith, low) }))
       (have_block node inside k at ends (from + 1) count (omega (arith, low))))
 
   save_made : (instr : Instr) → IsMade text graph codes (length shapes) 0 4 0 (save_by instr)
@@ -366,59 +369,77 @@ module _ (text : Words) (graph : Graph) (table cases : ℕ) (codes : ℕ → Lis
   save_made _ = made_bare [] (omega arith) tt (omega arith)
 
   have_open : (o : Open) → IsSwitchIn text graph.blocks o → is_copied graph.opens o.switch.compare.0 ≡ true
-      → Have (21 * pieces_of text graph o) (words_of graph.blocks o) (open_pieces text graph table cases o)
+      → Have (21 * pieces_of graph o) (words_of graph.blocks o) (map shape (switch_labels text graph o))
   have_open o its copied =
       let first = slice_index graph.blocks.firsts o.block in
       let load = load_of text o in
       let some = some_words graph.blocks.words graph.blocks.firsts g.cut.firsts o.block its.block_in in
       let ends = block_end_within text graph codes g o.block its.block_in in
       let images = have_block (block o.block) its.block_in o.block (λ word. refl) its.jumps in
+      let compared = map (Image (copy o.switch.compare.0)) (range_with_len (slice_index graph.blocks.firsts o.switch.compare.0)
+      (size_of graph.blocks o.switch.compare.0)) in
+      let before_load = map (Image (block o.block)) (range_with_len first (load - first)) in
+      let from_load = map (Image (block o.block)) (range_with_len load (first + size_of graph.blocks o.block - load)) in
       within (omega (arith, some, its.above, its.below)) (omega (arith, some, its.above, its.below))
-      (joined (joined (have_block (copy o.switch.compare.0) (its.compare_in, copied) o.switch.compare.0 (λ word. refl)
+      (joined (compared ++ before_load) (Save o.block load ∷ from_load) (joined compared before_load
+      (have_block (copy o.switch.compare.0) (its.compare_in, copied) o.switch.compare.0 (λ word. refl)
       its.branches (slice_index graph.blocks.firsts o.switch.compare.0) (size_of graph.blocks o.switch.compare.0)
       (block_end_within text graph codes g o.switch.compare.0 its.compare_in))
       (images first (load - first) (omega (arith, some, its.above, its.below, ends))))
-      (joined (one_piece (omega arith) (λ f. omega arith) (save_made (decode_of (slice_index text.words load))))
+      (joined (Save o.block load ∷ []) from_load (one_piece (omega arith) (λ f. omega arith) (save_made (decode_of (slice_index text.words load))))
       (images load (first + size_of graph.blocks o.block - load) (omega (arith, some, its.above, its.below, ends)))))
 
   have_opens : (opens : List Open) → Each (λ (o : Open). IsSwitchIn text graph.blocks o
       × (is_copied graph.opens o.switch.compare.0 ≡ true)) opens
-      → Have (21 * sum_by (pieces_of text graph) opens) (sum_by (words_of graph.blocks) opens)
-      (flat_map (open_pieces text graph table cases) opens)
+      → Have (21 * sum_by (pieces_of graph) opens) (sum_by (words_of graph.blocks) opens)
+      (map shape (flat_map (switch_labels text graph) opens))
   have_opens [] its = none
   have_opens (o ∷ opens) its =
-      within (omega (arith, sum_by-cons (pieces_of text graph) o opens))
+      within (omega (arith, sum_by-cons (pieces_of graph) o opens))
       (omega (arith, sum_by-cons (words_of graph.blocks) o opens))
-      (joined (have_open o its.0.0 its.0.1) (have_opens opens its.1))
+      (joined (switch_labels text graph o) (flat_map (switch_labels text graph) opens) (have_open o its.0.0 its.0.1)
+      (have_opens opens its.1))
 
-  own_inside : Each (IsEdgeIn graph.blocks graph.opens) (edges_but_landings graph)
-  own_inside = each_index _ _ (λ number edge e. each_at _ graph.edges number edge g.edges (g.own number edge e))
+  ways_in_range : (n : ℕ) → map Way (below n) ≡ map Way (range_with_len 0 n)
+  ways_in_range zero = refl
+  ways_in_range (suc n) =
+      let next : n + 1 ≡ suc n = omega arith in
+      map-append Way (below n) (n ∷ []) ∙ ap (λ (xs : List Label). xs ++ Way n ∷ []) (ways_in_range n)
+      ∙ sym (map-range_with_len_more Way 0 n n (omega arith)) ∙ ap (λ (m : ℕ). map Way (range_with_len 0 m)) next
 
   -- ---- all of them
 
   opened_many : (opens : List Open)
-      → sum_by (pieces_of text graph) opens ≡ sum_by (words_of graph.blocks) opens + length opens
+      → sum_by (pieces_of graph) opens ≡ sum_by (words_of graph.blocks) opens + length opens
   opened_many [] = omega arith
   opened_many (o ∷ opens) =
-      omega (
-        arith,
-        sum_by-cons (pieces_of text graph) o opens,
-        sum_by-cons (words_of graph.blocks) o opens,
-        opened_many opens,
-      )
+      let pieces = sum_by-cons (pieces_of graph) o opens in
+      omega (arith, pieces, sum_by-cons (words_of graph.blocks) o opens, opened_many opens)
 
   have_all : Have (21 * length text.words + sum_by (order_code text graph codes) (below (length text.words))
       + (8 * length (edges_but_landings graph) + ways_code codes 0 (edges_but_landings graph))
       + (4 * length text.words + sum_by (landing_code graph codes) (below (length text.words)))
-      + 21 * sum_by (pieces_of text graph) graph.opens
+      + 21 * sum_by (pieces_of graph) graph.opens
       + (8 * sum_by (λ (o : Open). length o.targets) graph.opens
       + sum_by (case_code graph codes) (entries_in graph.opens)) + 4)
       (8 * length text.words) shapes
-  unfolding shape_list
+  unfolding piece_labels shape_list
   have_all =
       let sizes = length-below (length text.words) in
+      let ordered = labels_in_order text graph in
+      let ways = map Way (below (length (edges_but_landings graph))) in
+      let landings = map Landing (below (length text.words)) in
+      let switches = flat_map (switch_labels text graph) graph.opens in
+      let entries = flat_map entry_labels graph.opens in
+      let own = edges_but_landings graph in
+      let along : Have (8 * length own + ways_code codes 0 own) (length own) (map shape ways) =
+      subst (λ (labels : List Label). Have (8 * length own + ways_code codes 0 own) (length own) (map shape labels))
+      (sym (ways_in_range (length own))) (have_ways 0 own (λ k edge e.
+      let here : 0 + k ≡ k = omega arith in ap (slice_get graph.edges) here ∙ g.own k edge e)) in
       within (omega (arith, sizes)) (omega (arith, sizes, g.room, g.entries, g.own_few))
-      (joined (joined (joined (joined (joined have_ordered (have_ways 0 (edges_but_landings graph) own_inside)) have_landings)
+      (joined (ordered ++ ways ++ landings ++ switches ++ entries) (Foreign ∷ [])
+      (joined (ordered ++ ways ++ landings ++ switches) entries (joined (ordered ++ ways ++ landings) switches
+      (joined (ordered ++ ways) landings (joined ordered ways have_ordered along) have_landings)
       (have_opens graph.opens (each_index _ graph.opens (λ k o e. (
         each_at _ graph.opens k o g.switches e,
         or_right (jumps_in graph.opens o.switch.compare.0) _
@@ -463,7 +484,7 @@ module _ (text : Words) (graph : Graph) (table cases : ℕ) (codes : ℕ → Lis
   -- so many pieces
   few_pieces : length shapes ≤ 10 * length text.words + 1
   few_pieces =
-      omega (arith, many, foreign_is text graph, opened_many graph.opens, g.own_few, g.room, g.few, g.entries)
+      omega (arith, many, foreign_is text graph g, opened_many graph.opens, g.own_few, g.room, g.few, g.entries)
 
   -- ---- they fit
 
@@ -488,9 +509,9 @@ module _ (text : Words) (graph : Graph) (table cases : ℕ) (codes : ℕ → Lis
               (λ s its. (sized codes s its.shaped).leads n) k);
           marked = at_piece IsMarked tt (λ s its. well_marked codes s its.shaped);
         };
-        images = omega (arith, count, many, foreign_is text graph);
-        landings = λ word l. omega (arith, count, many, lands_below text graph g snips word l);
-        cases = λ entry number e. omega (arith, count, many, case_number_below text graph g entry number e);
+        images = omega (arith, count, many, foreign_is text graph g);
+        landings = λ word l. omega (arith, count, labelled, lands_below text graph g snips word l);
+        cases = λ entry number e. omega (arith, count, labelled, case_number_below text graph g entry number e);
         foreign = omega (arith, count, many);
         marks = omega (
           arith,

@@ -1,14 +1,15 @@
 -- Where a word that is no transfer goes on: to the next word, and at which node.
-use Rattle.image_code.proofs.Common.{◌≡◌, ◌≢◌, ℕ, ◌+◌, ◌<◌, false, Some, List, [], ◌∷◌, refl, ap, sym, ◌∙◌, arith, inl, inr, ◌==◌, ◌&&◌, if◌then◌else◌, slice_get, slice_index, and_parts, eq-eqb, eqb-true, false_from_ne_true, false≢true, ne_eqb, Instr, decode_of, is_transfer, EdgeKind, Blocks, blocks_of, end_of, holding_of, last_word, end_at, ends_block_after, within, is_jump, Node, Block, home_of, Open, jumps_in, edge_from, left_by, node_after, same_kind, same_node, block, copy, IsIn, ends_within, end_is, is_in, straight_left, cases_eq, block_end, way, directed, is_compared, is_held, way_found}
+use Rattle.image_code.proofs.Common.{◌≡◌, ◌≢◌, ℕ, ◌+◌, ◌<◌, false, Some, List, [], ◌∷◌, refl, ap, sym, ◌∙◌, arith, inl, inr, ◌==◌, ◌&&◌, if◌then◌else◌, slice_get, slice_index, and_parts, eq-eqb, eqb-true, false_from_ne_true, false≢true, ne_eqb, Instr, decode_of, is_transfer, EdgeKind, Blocks, blocks_of, end_of, holding_of, last_word, end_at, ends_block_after, within, is_jump, Node, Block, home_of, Open, jumps_in, edge_from, left_by, node_after, same_kind, block, copy, IsIn, ends_within, end_is, is_in, straight_left, cases_eq, block_end, way, directed, is_compared, is_held, way_found}
 use Rattle.cfg_blocks.specs.declared.BlockEnd.TheVariants as ends
 use Rattle.cfg_blocks.specs.declared.EdgeKind.TheVariants as kinds
 use Rattle.std.proofs.Math.Bool.{and-true}
 use Rattle.cfg_walk.proofs.Leaving.{end_here, ends_home, falls_to, no_cases, node_within, straight_end}
 use Rattle.cfg_walk.proofs.Ways.{fall_is_one}
-use Rattle.image_code.specs.Numbered.{node_in_order}
+use Rattle.image_code.specs.Labels.{node_in_order}
 use Rattle.image_code.specs.Simulates.{EditSetup, graph_in}
 use Rattle.image_code.proofs.CaseTables.{IsKnown}
-use Rattle.image_code.proofs.ImageNumbers.{block_of, jump_of}
+use Rattle.image_code.proofs.Listed.{jump_of}
+use Rattle.image_code.specs.Lookups.{block_of}
 use Rattle.image_code.proofs.Positions.{placed}
 use Rattle.image_code.proofs.Visited.{AtWord}
 
@@ -107,23 +108,8 @@ module _ (visit : AtWord)
   pub jump_inner : (k : ℕ) (o : Open) → slice_get g.switches k ≡ Some o → its_block ≡ o.block
       → word ≡ its_last → ⊥
   jump_inner k o e held last =
-      false≢true (rw (ended last) at (is.cased.jumps its_block (rw held (jump_of g.text b g.switches k o e))))
+      false≢true (rw (ended last) at (is.cased.jumps its_block (rw held (jump_of g.switches k o e))))
 
   pub compare_inner : (k : ℕ) (o : Open) → slice_get g.switches k ≡ Some o → its_block ≡ o.switch.compare.0
       → word ≡ its_last → ⊥
   compare_inner k o e held last = false≢true (rw (← held, ended last) at (is.cased.branches k o e).0)
-
-  -- neither is the node in the order of the text
-  pub jump_apart : (k : ℕ) (o : Open) → slice_get g.switches k ≡ Some o → node ≡ block o.block → its_block ≡ o.block
-      → same_node node (node_in_order (graph_in g) word) ≡ false
-  jump_apart k o e here held =
-      rw (here, ap (jumps_in g.switches) held ∙ jump_of g.text b g.switches k o e)
-
-  pub compare_apart : (k : ℕ) (o : Open) → slice_get g.switches k ≡ Some o → node ≡ copy o.switch.compare.0
-      → its_block ≡ o.switch.compare.0 → same_node node (node_in_order (graph_in g) word) ≡ false
-  compare_apart k o e here held = rw (
-    here,
-    false_from_ne_true (jumps_in g.switches its_block) (λ j.
-        let plain : is_jump (end_of b its_block) ≡ false = rw held (is.cased.branches k o e).1 in
-        false≢true (sym plain ∙ is.cased.jumps its_block j)),
-  )

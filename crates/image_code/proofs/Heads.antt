@@ -8,7 +8,7 @@ use Rattle.image_code.specs.Images.{slot_piece}
 use Rattle.image_code.proofs.Points.{visited_at}
 use Rattle.image_code.proofs.PointShapes.{IsHead, IsVisited, head, outside, beyond, IsForeign, IsOff}
 use Rattle.image_code.specs.Made.{first_word, image_by, jump_image_by, jumps_at, slot_copy, visit_of, way_by}
-use Rattle.image_code.specs.Numbered.{case_piece}
+use Rattle.image_code.specs.Labels.{case_piece, way_piece}
 use Rattle.image_code.specs.Outside.{IsOffPages}
 use Rattle.image_code.proofs.Shapes.{switch_some}
 use Rattle.image_code.proofs.ImageNumbers.{jump_numbered}
@@ -85,7 +85,7 @@ module _ (at_slot : AtSlot) where
   leaves to = rw (edge_is in_slot).leaves
 
   pub plain_copy : (same_kind (way_in edit x) kinds.Out ≡ true → has_cases g.switches node ≡ false)
-      → HasCopy (length g.text.words + way.number) (first_word (graph_in g) way.edge.to)
+      → HasCopy (way_piece g.text (graph_in g) way.number) (first_word (graph_in g) way.edge.to)
   plain_copy caseless = record {
     here = plain_piece_is in_slot caseless;
     shape = plain_shape in_slot caseless (carried.Word (record { 0 = slot })) (on in_slot slot at)
@@ -93,7 +93,7 @@ module _ (at_slot : AtSlot) where
   }
 
   pub case_copy : (out : same_kind (way_in edit x) kinds.Out ≡ true) (cased : has_cases g.switches node ≡ true)
-      → let to = target in_slot out cased in HasCopy (case_piece g.text (graph_in g) to.k to.o to.word) to.word
+      → let to = target in_slot out cased in HasCopy (case_piece g.text (graph_in g) to.o.block to.word) to.word
   case_copy out cased = record {
     here = case_piece_is in_slot out cased;
     shape = case_shape in_slot out cased (carried.Word (record { 0 = slot })) (on in_slot slot at)

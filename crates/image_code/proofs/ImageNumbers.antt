@@ -1,103 +1,195 @@
--- The number of a word's image at a node: in the order of the text, or among the pieces of an open switch.
-use Rattle.image_code.proofs.Common.{◌≡◌, ℕ, true, false, Option, Some, List, refl, ap, sym, ◌∙◌, inl, inr, ◌==◌, slice_get, list_any, position, cases_Bool, eq-eqb, eqb-true, false_from_ne_true, false≢true, Words, Blocks, end_of, holding_of, is_jump, Node, Block, Landed, X, home_of, IsNodeIn, Open, jumps_in, Graph, graph_of, block, copy, compares_in}
+-- Where the image of a word at a node stands, and where control enters it: in the order of the text, or among the pieces
+-- of an open switch.
+use Rattle.image_code.proofs.Common.{◌⊎◌, ◌≡◌, ℕ, suc, ◌+◌, ◌-◌, ◌<◌, ◌≤◌, true, false, Bool, Option, Some, None, List, [], ◌∷◌, length, refl, ap, sym, ◌∙◌, arith, subst, inl, inr, if◌then◌else◌, ◌==◌, nat_lt, slice_get, slice_index, list_any, position, find, cases_Bool, cases_eq, cases_lt, eq-eqb, eqb-true, ne_eqb, le-ltb, nat_tests, Words, Blocks, block_end, holding_of, size_of, Node, Block, Landed, X, home_of, IsNodeIn, IsIn, Open, jumps_in, Graph, graph_of, block, copy, compares_in, in_held}
 use Rattle.std.proofs.Math.Bool.{or-false}
-use Rattle.image_code.specs.Numbered.{at_open, compare_number, enter_number, image_number, jump_number, node_in_order}
-use Rattle.image_code.proofs.Opened.{AreCased}
-use Rattle.image_code.proofs.Positions.{any_at, not_placed, placed}
-
-abbrev pub block_of : Node → ℕ
-block_of (Block k) = k.0
-block_of (Landed k) = k.0
-block_of X = 0
+use Rattle.image_code.specs.Labels.{Image, Label, Save, entering, enter_number, image_number, is_saved, number_of, jump_number, node_in_order, piece_labels, switch_at}
+use Rattle.image_code.specs.Loads.{load_of}
+use Rattle.image_code.specs.Lookups.{open_begin}
+use Rattle.image_code.proofs.Listed.{compare_stands, image_stands, jump_of, load_stands, number_is, ordered_stands, save_stands}
+use Rattle.image_code.proofs.OpenBlocks.{IsTextGraph}
+use Rattle.image_code.proofs.Positions.{StandsIn, placed}
 
 module _ (text : Words) (b : Blocks) (opens : List Open) where
-  abbrev graph : Graph
-  graph = graph_of b opens
+  abbrev its_graph : Graph
+  its_graph = graph_of b opens
 
-  pub data HasImage (node : Node) (word : ℕ) : Type 0 where
-    in_order : node ≡ node_in_order graph word → image_number text graph node word ≡ word
-        → enter_number text graph node word ≡ word → HasImage node word
-    at_jump : (k : ℕ) (o : Open) → jump_number text graph o.block ≡ Some k → slice_get opens k ≡ Some o
-        → node ≡ block o.block → holding_of b word ≡ o.block
-        → HasImage node word
-    at_compare : (k : ℕ) (o : Open) → compare_number text graph o.switch.compare.0 ≡ Some k → slice_get opens k ≡ Some o
-        → node ≡ copy o.switch.compare.0 → holding_of b word ≡ o.switch.compare.0
-        → HasImage node word
-
-  -- ---- by the open switch
-
-  pub open_is : (number : ℕ → Open → ℕ → ℕ) (k : ℕ) (o : Open) (n : Option ℕ) (word : ℕ) → n ≡ Some k
-      → slice_get opens k ≡ Some o → at_open text graph number n word ≡ number k o word
-  open_is number k o n word at is = rw (at, is) refl
-
-  -- ---- the nodes of a word's block
-
-  -- the first open switch with such a key
-  by_place : (key : Open → ℕ) (k : ℕ) → list_any (λ (o : Open). key o == k) opens ≡ true
-      → (j : ℕ) × (o : Open) × (position (λ (q : Open). key q == key o) opens ≡ Some j) × (slice_get opens j ≡ Some o)
-      × (key o ≡ k)
-  by_place key k e =
-      let found = placed (λ (o : Open). key o == k) opens e in
-      let same : key found.item ≡ k = eqb-true (key found.item) k found.passes in (
+  -- the open switch whose jump ends the block
+  pub jump_numbered : (k : ℕ) → jumps_in opens k ≡ true
+      → (j : ℕ) × (o : Open) × (jump_number text its_graph o.block ≡ Some j) × (slice_get opens j ≡ Some o)
+      × (o.block ≡ k)
+  jump_numbered k e =
+      let found = placed (λ (o : Open). o.block == k) opens e in
+      let same : found.item.block ≡ k = eqb-true (found.item.block) k found.passes in (
         found.number,
         found.item,
-        ap (λ n. position (λ (q : Open). key q == n) opens) same ∙ found.at,
+        ap (λ n. position (λ (q : Open). q.block == n) opens) same ∙ found.at,
         found.is,
         same,
       )
 
-  -- the first one whose jump ends the block
-  pub jump_numbered : (k : ℕ) → jumps_in opens k ≡ true
-      → (j : ℕ) × (o : Open) × (jump_number text graph o.block ≡ Some j) × (slice_get opens j ≡ Some o) × (o.block ≡ k)
-  jump_numbered k e = by_place (λ (o : Open). o.block) k e
+-- none that passes is found
+pub not_found : {A : Type 0} (p : A → Bool) (xs : List A) → list_any p xs ≡ false → find p xs ≡ None
+not_found p [] none = refl
+not_found p (x ∷ xs) none = grind (arith, nat_tests, not_found p xs)
 
-  pub jump_of : (j : ℕ) (o : Open) → slice_get opens j ≡ Some o → jumps_in opens o.block ≡ true
-  jump_of j o is = any_at (λ (q : Open). q.block == o.block) opens j o is (eq-eqb o.block o.block refl)
+module _ (text : Words) (graph : Graph) (g : IsTextGraph text graph) where
+  abbrev b : Blocks
+  b = graph.blocks
 
-  compare_place : (k : ℕ) → compares_in opens k ≡ true
-      → (j : ℕ) × (o : Open) × (compare_number text graph o.switch.compare.0 ≡ Some j) × (slice_get opens j ≡ Some o)
-      × (o.switch.compare.0 ≡ k)
-  compare_place k e = by_place (λ (o : Open). o.switch.compare.0) k e
+  abbrev all : List Label
+  all = piece_labels text graph
 
-  pub has_image : (node : Node) (word : ℕ) → home_of node ≡ block (holding_of b word) → IsNodeIn b opens node
-      → HasImage node word
+  -- a block of no open switch's jump has none, and saves no address
+  pub not_switched : (k : ℕ) → jumps_in graph.opens k ≡ false → switch_at text graph k ≡ None
+  not_switched k none = not_found (λ (o : Open). o.block == k) graph.opens none
+
+  pub unsaved : (k word : ℕ) → jumps_in graph.opens k ≡ false → entering text graph (block k) word ≡ Image (block k) word
+  unsaved k word none =
+      ap (λ (o : Option Open). if is_saved text graph o word then Save k word else Image (block k) word)
+      (not_switched k none)
+
+  -- the open switch whose comparison stands in the block
+  pub compare_numbered : (k : ℕ) → compares_in graph.opens k ≡ true
+      → (j : ℕ) × (o : Open) × (slice_get graph.opens j ≡ Some o) × (o.switch.compare.0 ≡ k)
+  compare_numbered k e =
+      let found = placed (λ (o : Open). o.switch.compare.0 == k) graph.opens e in
+      (found.number, found.item, found.is, eqb-true found.item.switch.compare.0 k found.passes)
+
+  -- the one that is found is the one there is
+  pub switch_found : (k : ℕ) (o : Open) → slice_get graph.opens k ≡ Some o → switch_at text graph o.block ≡ Some o
+  switch_found k o e =
+      let found = placed (λ (q : Open). q.block == o.block) graph.opens (jump_of graph.opens k o e) in
+      let same : found.item.block ≡ o.block = eqb-true found.item.block o.block found.passes in
+      found.first ∙ by found.number found.item found.is same (cases_lt found.number k)
+    where
+      by : (j : ℕ) (q : Open) → slice_get graph.opens j ≡ Some q → q.block ≡ o.block → (j < k) ⊎ (k ≤ j)
+          → Some q ≡ Some o
+      by j q is same (inl l) = absurd (g.apart j k q o l is e same)
+      by j q is same (inr m) = elim (cases_eq j k) [
+        | inl here ↦ sym is ∙ ap (slice_get graph.opens) here ∙ e
+        | inr other ↦ absurd (g.apart k j o q (omega (arith, m, other)) e is (sym same))
+      ]
+
+  -- the address of the load is saved, and no other word's
+  pub comes : (k : ℕ) (o : Open) → slice_get graph.opens k ≡ Some o → (word : ℕ) (t : Bool)
+      → (word == load_of text o) ≡ t
+      → entering text graph (block o.block) word ≡ (if t then Save o.block word else Image (block o.block) word)
+  comes k o e word t is =
+      ap (λ (q : Option Open). if is_saved text graph q word then Save o.block word else Image (block o.block) word)
+      (switch_found k o e) ∙ ap (λ (t : Bool). if t then Save o.block word else Image (block o.block) word) is
+
+  -- ---- at an open switch
+
+  module _ (k : ℕ) (o : Open) (e : slice_get graph.opens k ≡ Some o) (word : ℕ)
+      (above : slice_index b.firsts o.block ≤ word) (below : word < block_end b.firsts b.words o.block) where
+    abbrev load : ℕ
+    load = load_of text o
+
+    abbrev from : ℕ
+    from = open_begin text graph k + size_of b o.switch.compare.0 + (word - slice_index b.firsts o.block)
+
+    pub entry_stands : StandsIn all (entering text graph (block o.block) word) (from + (if nat_lt load word then 1 else 0))
+    entry_stands = elim (cases_eq word load) [
+      | inl same ↦
+          rw (comes k o e word true (eq-eqb word load same), same, le-ltb load load (omega arith))
+          (subst (StandsIn all (Save o.block load)) (omega arith) (save_stands text graph g k o e))
+      | inr other ↦
+          rw (comes k o e word false (ne_eqb word load other)) (subst (StandsIn all (Image (block o.block) word))
+          (let same : ◌≡◌ {A = ℕ} (if nat_lt word load then 0 else 1) (if nat_lt load word then 1 else 0) = grind (arith, nat_tests) in
+          omega (arith, same)) (image_stands text graph g k o e word above (omega (arith, below, above))))
+    ]
+
+  -- the load's image follows what saves its address
+  pub saved_follows : (k : ℕ) (o : Open) (e : slice_get graph.opens k ≡ Some o)
+      → suc (number_of text graph (Save o.block (load_of text o))) ≡ image_number text graph (block o.block) (load_of text o)
+  saved_follows k o e =
+      let saved = number_is text graph g _ _ (save_stands text graph g k o e) in
+      omega (arith, saved, number_is text graph g _ _ (load_stands text graph g k o e))
+
+  -- ---- the nodes of a word's block
+
+  pub data HasImage (node : Node) (word : ℕ) : Type 0 where
+    in_order : node ≡ node_in_order graph word → entering text graph node word ≡ Image node word → HasImage node word
+    at_jump : (k : ℕ) (o : Open) → slice_get graph.opens k ≡ Some o → node ≡ block o.block
+        → holding_of b word ≡ o.block → HasImage node word
+    at_compare : (k : ℕ) (o : Open) → slice_get graph.opens k ≡ Some o → node ≡ copy o.switch.compare.0
+        → holding_of b word ≡ o.switch.compare.0 → HasImage node word
+
+  pub has_image : (node : Node) (word : ℕ) → home_of node ≡ block (holding_of b word)
+      → IsNodeIn b graph.opens node → HasImage node word
   has_image (Block k) word home there =
       let same : k.0 ≡ holding_of b word = cc in
-      elim (cases_Bool (jumps_in opens k.0)) as (λ _. HasImage (Block k) word) [
+      elim (cases_Bool (jumps_in graph.opens k.0)) as (λ _. HasImage (Block k) word) [
         | inl e ↦
-            let found = jump_numbered k.0 e in
-            at_jump found.0 found.1 found.2 found.3 (ap block (sym found.4)) (sym same ∙ sym found.4)
-        | inr e ↦
-            in_order (rw (← same, e)) (rw (not_placed (λ (o : Open). o.block == k.0) opens e))
-            (rw (not_placed (λ (o : Open). o.block == k.0) opens e))
+            let found = jump_numbered text b graph.opens k.0 e in
+            at_jump found.0 found.1 found.3 (ap block (sym found.4)) (sym same ∙ sym found.4)
+        | inr e ↦ in_order (rw (← same, e)) (unsaved k.0 word e)
       ]
   has_image (Landed k) word home there =
       let same : k.0 ≡ holding_of b word = cc in
-      elim (cases_Bool (compares_in opens k.0)) as (λ _. HasImage (Landed k) word) [
+      elim (cases_Bool (compares_in graph.opens k.0)) as (λ _. HasImage (Landed k) word) [
         | inl e ↦
-            let found = compare_place k.0 e in
-            at_compare found.0 found.1 found.2 found.3 (ap copy (sym found.4)) (sym same ∙ sym found.4)
-        | inr e ↦
-            in_order (rw (← same, rw (e, or-false) at there.1))
-            (rw (not_placed (λ (o : Open). o.switch.compare.0 == k.0) opens e))
-            (rw (not_placed (λ (o : Open). o.switch.compare.0 == k.0) opens e))
+            let found = compare_numbered k.0 e in
+            at_compare found.0 found.1 found.2 (ap copy (sym found.3)) (sym same ∙ sym found.3)
+        | inr e ↦ in_order (rw (← same, rw (e, or-false) at there.1)) refl
       ]
   has_image X word home there = absurd (cc)
 
-  -- control that comes to a word in the order of the text comes to the image that stands there
-  module _ (cased : AreCased text b opens) where
-    no_compare : (k : ℕ) → jumps_in opens k ≡ true → compares_in opens k ≡ false
-    no_compare k jumps = false_from_ne_true _ (λ e.
-        let found = compare_place k e in
-        let plain : is_jump (end_of b k) ≡ false = rw (← found.4) (cased.branches found.0 found.1 found.3).1 in
-        false≢true (sym plain ∙ cased.jumps k jumps))
+  -- in the order of the text control comes to the image itself
+  pub ordered_enters : (word : ℕ) → entering text graph (node_in_order graph word) word ≡ Image (node_in_order graph word) word
+  ordered_enters word = elim (cases_Bool (jumps_in graph.opens (holding_of b word))) [
+    | inl e ↦ rw e refl
+    | inr e ↦ rw e (unsaved (holding_of b word) word e)
+  ]
 
-    pub enters_in_order : (word : ℕ) → enter_number text graph (node_in_order graph word) word ≡ word
-    enters_in_order word = elim (cases_Bool (jumps_in opens (holding_of b word))) [
-      | inl e ↦
-          rw (
-            e,
-            not_placed (λ (o : Open). o.switch.compare.0 == holding_of b word) opens (no_compare (holding_of b word) e),
-          )
-      | inr e ↦ rw (e, not_placed (λ (o : Open). o.block == holding_of b word) opens e)
-    ]
+  in_block : (word : ℕ) → word < length text.words → (k : ℕ) → holding_of b word ≡ k → IsIn b.words b.firsts word k
+  in_block word low k held =
+      subst (λ (n : ℕ). IsIn b.words b.firsts word n) held
+      (in_held b.words b.firsts g.cut.firsts word (omega (arith, low, g.cut.words)))
+
+  -- where both stand
+  pub record AreListed (node : Node) (word : ℕ) : Type 0 where
+    pub image : ℕ
+    pub visited : StandsIn all (Image node word) image
+    pub enter : ℕ
+    pub entered : StandsIn all (entering text graph node word) enter
+
+  pub listed : (node : Node) (word : ℕ) → word < length text.words → HasImage node word → AreListed node word
+  listed node word low (in_order same enters) =
+      let stands : StandsIn all (Image node word) word = rw same (ordered_stands text graph g word low) in
+      record { image = word; visited = stands; enter = word; entered = rw enters stands }
+  listed node word low (at_jump k o e here held) =
+      let inside = in_block word low o.block held in
+      rw here (record {
+        image = _;
+        visited = image_stands text graph g k o e word inside.above (omega (arith, inside.above, inside.below));
+        enter = _;
+        entered = entry_stands k o e word inside.above inside.below;
+      })
+  listed node word low (at_compare k o e here held) =
+      let inside = in_block word low o.switch.compare.0 held in
+      let stands = compare_stands text graph g k o e word inside.above (omega (arith, inside.above, inside.below)) in
+      rw here (record { image = _; visited = stands; enter = _; entered = stands })
+
+  -- ---- within a block the pieces follow each other
+
+  pub jump_follows : (k : ℕ) (o : Open) (e : slice_get graph.opens k ≡ Some o) (word : ℕ)
+      → slice_index b.firsts o.block ≤ word → word + 1 < block_end b.firsts b.words o.block
+      → enter_number text graph (block o.block) (word + 1) ≡ suc (image_number text graph (block o.block) word)
+  jump_follows k o e word above below =
+      let load = load_of text o in
+      let next = number_is text graph g _ _ (entry_stands k o e (word + 1) (omega (arith, above)) below) in
+      let here =
+      number_is text graph g _ _ (image_stands text graph g k o e word above (omega (arith, below, above))) in
+      let step : ◌≡◌ {A = ℕ} (if nat_lt load (word + 1) then 1 else 0) (if nat_lt word load then 0 else 1) = grind (arith, nat_tests) in
+      omega (arith, next, here, step, above)
+
+  pub compare_follows : (k : ℕ) (o : Open) (e : slice_get graph.opens k ≡ Some o) (word : ℕ)
+      → slice_index b.firsts o.switch.compare.0 ≤ word → word + 1 < block_end b.firsts b.words o.switch.compare.0
+      → enter_number text graph (copy o.switch.compare.0) (word + 1)
+      ≡ suc (image_number text graph (copy o.switch.compare.0) word)
+  compare_follows k o e word above below =
+      let next = number_is text graph g _ _ (compare_stands text graph g k o e (word + 1) (omega (arith, above))
+      (omega (arith, below, above))) in
+      let here = number_is text graph g _ _ (compare_stands text graph g k o e word above (omega (arith, below, above))) in
+      omega (arith, next, here, above)

@@ -9,7 +9,7 @@ use Rattle.image_code.specs.declared.shape.Head.TheVariants as heads
 use Rattle.image_code.specs.Simulates.{at_point, does_at, graph_in}
 use Rattle.image_code.proofs.PointShapes.{IsCall, IsJump}
 use Rattle.image_code.specs.Made.{jump_by, jump_image_by, jumps_at, visit_of, way_out}
-use Rattle.image_code.specs.Numbered.{image_number}
+use Rattle.image_code.specs.Labels.{image_number}
 use Rattle.image_code.proofs.IntoSlots.{LeadsThere, entered, no_jump, stands}
 use Rattle.image_code.proofs.JumpWords.{jmpl_is}
 use Rattle.image_code.proofs.Visited.{AtWord, at_image, site, image_shape, shapes, word_is}

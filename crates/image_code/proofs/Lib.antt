@@ -1,7 +1,6 @@
 pub mod Common
 pub mod Positions
 pub mod Opened
-pub mod ImageNumbers
 pub mod CaseTables
 pub mod ImagePieces
 pub mod Following
@@ -39,10 +38,12 @@ pub mod IntoSlots
 pub mod BranchImages
 pub mod JumpImages
 pub mod Listed
+pub mod ImageNumbers
 pub mod Made
 pub mod OpenSums
 pub mod OpenBlocks
 pub mod OpenNumbers
+pub mod Numbers
 pub mod Shapes
 pub mod Sized
 pub mod Codes

@@ -67,7 +67,7 @@ module _ (edit : PlacedEdit) where
 
 pub pieces_make_images : PiecesMakeImages
 pieces_make_images g codes base p place f text graph known placed tables cases below noted =
-    let is : IsKnown g = record { text = text; cased = cased g text graph; known = known } in
+    let is : IsKnown g = record { text = text; graph = graph; cased = cased g text graph; known = known } in
     let edit : PlacedEdit = search in
     simulate (site edit) (record {
       visits = visits edit;

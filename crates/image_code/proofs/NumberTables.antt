@@ -1,32 +1,30 @@
 -- The numbers of the pieces of open switches, and where they stand.
-use Rattle.image_code.proofs.Common.{◌≡◌, ℕ, ◌+◌, ◌-◌, ◌<◌, ◌≤◌, List, Option, Some, None, length, take, refl, arith, slice_index, slice_index_or, find, range_with_len, sum_by, Words, Blocks, last_word, size_of, Graph, Open}
+use Rattle.image_code.proofs.Common.{◌≡◌, ℕ, ◌+◌, ◌-◌, ◌<◌, ◌≤◌, List, Option, Some, None, length, take, refl, arith, slice_index, slice_index_or, find, range_with_len, sum_by, Words, Blocks, last_word, Graph, Open}
 use Rattle.std.proofs.lemmas.List.Sums.{sum_by_more}
 use Rattle.cfg_blocks.specs.Values.{instr_at}
 use Rattle.image_code.specs.Loads.{load_of, loads_by, or_first}
-use Rattle.image_code.specs.Lookups.{StandsInText}
-use Rattle.image_code.specs.Numbered.{entries_of, first_entry, open_begin, pieces_of}
+use Rattle.image_code.specs.Lookups.{StandsInText, open_begin, pieces_of}
+use Rattle.image_code.specs.Labels.{first_entry}
 use Rattle.image_code.proofs.Positions.{found_within}
 
 -- a sum over the open switches, with the next one
 part_more : (f : Open → ℕ) (opens all : List Open) → opens ≡ all → (n : ℕ) (o : Open) → n < length opens
     → o ≡ slice_index_or opens n o → sum_by f (take (n + 1) all) ≡ sum_by f (take n all) + f o
-part_more f opens all same n o l is =
-    rw (← same, sum_by_more f opens n o l, ← is) refl
+part_more f opens all same n o l is = rw (← same, sum_by_more f opens n o l, ← is) refl
 
 -- where the pieces of the next open switch begin
 pub open_more : (text : Words) (graph : Graph) (opens : List Open) → opens ≡ graph.opens → (n : ℕ) (o : Open)
     → n < length opens → o ≡ slice_index_or opens n o → (begin count : ℕ) → begin ≡ open_begin text graph n
-    → count ≡ size_of graph.blocks o.switch.compare.0 + size_of graph.blocks o.block + 1
-    → begin + count ≡ open_begin text graph (n + 1)
+    → count ≡ pieces_of graph o → begin + count ≡ open_begin text graph (n + 1)
 open_more text graph opens same n o l is begin count here many =
-    omega (arith, part_more (pieces_of text graph) opens graph.opens same n o l is, here, many)
+    omega (arith, part_more (pieces_of graph) opens graph.opens same n o l is, here, many)
 
 -- the number of its first entry
 pub entry_more : (text : Words) (graph : Graph) (opens : List Open) → opens ≡ graph.opens → (n : ℕ) (o : Open)
     → n < length opens → o ≡ slice_index_or opens n o → (entry count : ℕ) → entry ≡ first_entry text graph n
     → count ≡ length o.targets → entry + count ≡ first_entry text graph (n + 1)
 entry_more text graph opens same n o l is entry count here many =
-    omega (arith, part_more (entries_of text graph) opens graph.opens same n o l is, here, many)
+    omega (arith, part_more (λ (p : Open). length p.targets) opens graph.opens same n o l is, here, many)
 
 -- ---- the load stands in the jump's block
 

@@ -28,10 +28,10 @@ use Rattle.switch_runs.proofs.Into.{leads_in}
 use Rattle.switch_runs.proofs.Opened.{found_in}
 use Rattle.switch_runs.proofs.Whole.{ends_count}
 use Rattle.image_code.specs.Loads.{load_of}
-use Rattle.image_code.specs.Numbered.{or_zero, edges_but_landings}
+use Rattle.image_code.specs.Labels.{or_zero, edges_but_landings}
 use Rattle.image_code.specs.Graphs.{IsGraphOf, opens_in}
 use Rattle.image_code.proofs.NumberTables.{load_between}
-use Rattle.image_code.proofs.Positions.{get_first}
+use Rattle.image_code.proofs.Positions.{any_at, get_first}
 use Rattle.image_code.proofs.OpenSums.{AreDistinct, distinct_sum}
 
 -- ---- one open switch
@@ -197,6 +197,18 @@ module _ (text : Words) (b : Blocks) where
         (each-then (IsNoneOf o) _ (keys opens) (λ j h. h.1) others, keys_apart opens are.1 one.1),
       )
 
+-- each by its number
+apart_at : (opens : List Open) → AreOne opens → (j k : ℕ) (o p : Open) → j < k → slice_get opens j ≡ Some o
+    → slice_get opens k ≡ Some p → o.block ≡ p.block → ⊥
+apart_at [] one j k o p l e d same = absurd (cc)
+apart_at (q ∷ opens) one zero (suc k) o p l e d same =
+    let here : q ≡ o = cc in
+    false≢true (sym one.0 ∙ any_at (λ (x : Open). x.block == q.block) opens k p d
+    (eq-eqb p.block q.block (sym same ∙ ap (λ (x : Open). x.block) (sym here))))
+apart_at (q ∷ opens) one (suc j) (suc k) o p l e d same = apart_at opens one.1 j k o p (omega (arith, l)) e d same
+apart_at (q ∷ opens) one zero zero o p l e d same = omega arith
+apart_at (q ∷ opens) one (suc j) zero o p l e d same = omega arith
+
 -- the words of both blocks
 abbrev pub words_of : Blocks → Open → ℕ
 words_of b o = size_of b o.switch.compare.0 + size_of b o.block
@@ -334,6 +346,8 @@ module _ (b : Blocks) (opens : List Open) where
 pub record IsTextGraph (text : Words) (graph : Graph) : Type 0 where
   pub cut : IsCut text graph.blocks
   pub switches : Each (IsSwitchIn text graph.blocks) graph.opens
+  pub apart : (j k : ℕ) (o p : Open) → j < k → slice_get graph.opens j ≡ Some o → slice_get graph.opens k ≡ Some p
+      → o.block ≡ p.block → ⊥
   pub room : sum_by (words_of graph.blocks) graph.opens ≤ length text.words
   pub few : length graph.opens ≤ length text.words
   pub entries : sum_by (λ (o : Open). length o.targets) graph.opens ≤ length text.words
@@ -374,6 +388,7 @@ text_graph text graph is_text h =
     subst (IsTextGraph text) (sym h.is) (record {
       cut = c;
       switches = switches;
+      apart = apart_at opens are.one;
       room = omega arith;
       few = omega (arith, few_of text b c.firsts opens switches);
       entries = omega arith;

@@ -1,153 +1,99 @@
 -- How many pieces there are, and that the numbers of pieces are below that.
-use Rattle.image_code.proofs.Common.{position_or_len, ltb-true, ◌≡◌, ℕ, suc, ◌+◌, ◌-◌, ◌*◌, ◌<◌, ◌≤◌, ◌==◌, nat_lt, Option, Some, None, List, [], ◌∷◌, ◌++◌, length, map, take, refl, append_assoc, ap, ◌∙◌, arith, slice_get, slice_index, position, sum_by, cond_both, eqb-true, length-append, position-Some, get_or_from_slice_get, slice_get_within, Words, Node, Block, Landed, X, Open, Graph, lands, IsNodeIn, IsIn, ends_within, in_held, some_words, Each, each-append, each_at, lands_as, Op, take-length, each-map}
-use Rattle.std.proofs.lemmas.List.Sums.{sum_by_more_le}
-use Rattle.cfg_blocks.specs.Blocks.{size_of as block_size}
-use Rattle.image_code.specs.Loads.{load_of}
-use Rattle.image_code.specs.Numbered.{at_open, by_open, case_numbers, case_piece, cases_of, compare_image, compare_number, enter_number, entries_of, foreign_number, jump_enter, jump_image, landing_number, open_begin, or_zero, edges_but_landings, pieces_of, place_in}
+use Rattle.image_code.proofs.Common.{◌≡◌, ℕ, suc, ◌+◌, ◌*◌, ◌<◌, ◌≤◌, Some, List, [], ◌∷◌, length, refl, ap, sym, ◌∙◌, arith, block_end, slice_get, slice_index, sum_by, flat_map, cond_both, Words, block, holding_of, Node, Block, Landed, X, Open, Graph, lands, IsNodeIn, in_held, is_held, some_words, ends_within, Each, each-append, each-map, each_at, lands_as, Op, take-length}
+use Rattle.cfg_walk.proofs.Nodes.{lands_in}
+use Rattle.image_code.specs.Labels.{Case, Foreign, Landing, Label, case_numbers, case_piece, cases_of, enter_number, entering, foreign_number, landing_number, edges_but_landings, piece_labels}
+use Rattle.image_code.specs.Lookups.{IsReached, IsWordOf, pieces_of}
 use Rattle.image_code.specs.Made.{first_word, lands_at}
+use Rattle.image_code.proofs.ImageNumbers.{HasImage, has_image, listed}
+use Rattle.image_code.proofs.Listed.{case_stands, foreign_stands, landing_stands, number_below, number_is}
 use Rattle.image_code.proofs.OpenBlocks.{IsTextGraph}
-use Rattle.image_code.proofs.Positions.{get_past}
-
--- ---- sums over the first of some
-
-at_most : {A : Type 0} (f : A → ℕ) (xs : List A) (j : ℕ) (x : A) → slice_get xs j ≡ Some x
-    → sum_by f (take j xs) + f x ≤ sum_by f xs
-at_most f xs j x e =
-    omega (
-      arith,
-      sum_by_more_le f xs j x (slice_get_within xs j x e),
-      ap f (get_or_from_slice_get xs j x x e),
-    )
 
 pub each_index : {A : Type 0} (P : A → Type 0) (xs : List A) → ((k : ℕ) (x : A) → slice_get xs k ≡ Some x → P x)
     → Each P xs
 each_index P [] h = tt
 each_index P (x ∷ xs) h = (h 0 x refl, each_index P xs (λ k y e. h (suc k) y e))
 
--- ---- the word stands in the node's block
-
-abbrev pub IsWordOf : Graph → Node → ℕ → Type 0
-IsWordOf graph (Block k) word = IsIn graph.blocks.words graph.blocks.firsts word k.0
-IsWordOf graph (Landed k) word = IsIn graph.blocks.words graph.blocks.firsts word k.0
-IsWordOf graph X word = Unit {0}
+pub each_of_all : {A B : Type 0} (P : B → Type 0) (f : A → List B) (xs : List A) → Each (λ x. Each P (f x)) xs
+    → Each P (flat_map f xs)
+each_of_all P f [] h = tt
+each_of_all P f (x ∷ xs) h = each-append P (f x) (flat_map f xs) h.0 (each_of_all P f xs h.1)
 
 module _ (text : Words) (graph : Graph) (g : IsTextGraph text graph) where
+  abbrev all : List Label
+  all = piece_labels text graph
+
+  -- ---- words of nodes
+
   pub lands_word : (word : ℕ) → word < length text.words → IsWordOf graph (lands graph (Some word)) word
   lands_word word l =
-      let low : word < graph.blocks.words = omega (arith, g.cut.words) in
+      let low : word < graph.blocks.words = omega (arith, l, g.cut.words) in
       let held = in_held graph.blocks.words graph.blocks.firsts g.cut.firsts word low in
-      lands_as graph.blocks graph.opens word low (λ node. IsWordOf graph node word) (λ _. held) (λ _. held)
+      lands_as graph.blocks graph.opens word low
+      (λ node. IsNodeIn graph.blocks graph.opens node → IsWordOf graph node word)
+      (λ _ there. (there, (held.above, held.below))) (λ _ there. (there, (held.above, held.below)))
+      (lands_in graph.blocks graph.opens g.cut.firsts.some (Some word))
 
-  pub first_word_of : (node : Node) → IsNodeIn graph.blocks graph.opens node → IsWordOf graph node
-      (first_word graph node)
-  first_word_of (Block k) l = omega (arith, l, some_words graph.blocks.words graph.blocks.firsts g.cut.firsts k.0 l)
+  pub reached : (node : Node) (word : ℕ) → IsWordOf graph node word → IsReached graph node word
+  reached (Block k) word is = is
+  reached (Landed k) word is = is
+  reached X word is = absurd is
+
+  pub first_word_of : (node : Node) → IsNodeIn graph.blocks graph.opens node → IsReached graph node (first_word graph node)
+  first_word_of (Block k) l = (l, omega (arith, some_words graph.blocks.words graph.blocks.firsts g.cut.firsts k.0 l))
   first_word_of (Landed k) l =
-      omega (arith, l.0, some_words graph.blocks.words graph.blocks.firsts g.cut.firsts k.0 l.0)
+      (l, omega (arith, some_words graph.blocks.words graph.blocks.firsts g.cut.firsts k.0 l.0))
   first_word_of X l = tt
+
+  pub record IsHeld (node : Node) (word : ℕ) : Type 0 where
+    pub low : word < length text.words
+    pub has : HasImage text graph g node word
+
+  pub held_in : (k word : ℕ) → k < length graph.blocks.firsts → slice_index graph.blocks.firsts k ≤ word
+      → word < block_end graph.blocks.firsts graph.blocks.words k
+      → (word < length text.words) × (holding_of graph.blocks word ≡ k)
+  held_in k word within above below = (
+    omega (arith, below, ends_within graph.blocks.words graph.blocks.firsts g.cut.firsts k within, g.cut.words),
+    is_held graph.blocks.words graph.blocks.firsts g.cut.firsts word k
+        (record { within = within; above = above; below = below }),
+  )
+
+  pub word_held : (node : Node) (word : ℕ) → IsWordOf graph node word → IsHeld node word
+  word_held (Block k) word is =
+      let h = held_in k.0 word is.0 is.1.0 is.1.1 in
+      record { low = h.0; has = has_image text graph g (Block k) word (ap block (sym h.1)) is.0 }
+  word_held (Landed k) word is =
+      let h = held_in k.0 word is.0.0 is.1.0 is.1.1 in
+      record { low = h.0; has = has_image text graph g (Landed k) word (ap block (sym h.1)) is.0 }
+  word_held X word is = absurd is
 
   -- ---- which numbers are low
 
-  open_below : (k : ℕ) (o : Open) → slice_get graph.opens k ≡ Some o
-      → open_begin text graph k + pieces_of text graph o ≤ foreign_number text graph
-  open_below k o e =
-      rw (take-length graph.opens) (omega (arith, at_most (pieces_of text graph) graph.opens k o e))
-
-  word_below : (node : ℕ) (word : ℕ) → IsIn graph.blocks.words graph.blocks.firsts word node
-      → word < foreign_number text graph
-  word_below k word is =
-      omega (
-        arith,
-        is.below,
-        ends_within graph.blocks.words graph.blocks.firsts g.cut.firsts k is.within,
-        g.cut.words,
-      )
-
-  jump_below : (j : ℕ) (o : Open) (word : ℕ) → slice_get graph.opens j ≡ Some o
-      → IsIn graph.blocks.words graph.blocks.firsts word o.block
-      → jump_enter text graph j o word < foreign_number text graph
-  jump_below j o word e is =
-      let low : jump_image text graph j o word < foreign_number text graph =
-      cond_both (nat_lt word (load_of text o)) 0 1
-      (λ (n : ℕ). open_begin text graph j + block_size graph.blocks o.switch.compare.0
-      + (word - slice_index graph.blocks.firsts o.block) + n < foreign_number text graph)
-      (λ _. omega (arith, open_below j o e, is.above, is.below))
-      (λ _. omega (arith, open_below j o e, is.above, is.below)) in
-      cond_both (word == load_of text o) (jump_image text graph j o word - 1) (jump_image text graph j o word)
-      (λ (n : ℕ). n < foreign_number text graph) (λ _. omega arith) (λ _. low)
-
-  -- by the switch that is found
-  module _ (key : Open → ℕ) (number : ℕ → Open → ℕ → ℕ) (k word : ℕ)
-      (is : IsIn graph.blocks.words graph.blocks.firsts word k)
-      (low : (j : ℕ) (o : Open) → slice_get graph.opens j ≡ Some o
-      → IsIn graph.blocks.words graph.blocks.firsts word (key o) → number j o word < foreign_number text graph) where
-    by_open_below : (j : ℕ) (x : Option Open) → slice_get graph.opens j ≡ x
-        → position (λ (o : Open). key o == k) graph.opens ≡ Some j
-        → by_open text graph number j x word < foreign_number text graph
-    by_open_below j None e found = word_below k word is
-    by_open_below j (Some o) e found =
-        let at = position-Some (λ (o : Open). key o == k) graph.opens j o found in
-        let found_is = rw (get_or_from_slice_get graph.opens j o o e) at at.1 in
-        low j o e (rw (eqb-true (key o) k found_is) is)
-
-    at_open_below : (x : Option ℕ) → position (λ (o : Open). key o == k) graph.opens ≡ x
-        → at_open text graph number x word < foreign_number text graph
-    at_open_below None e = word_below k word is
-    at_open_below (Some j) e = by_open_below j (slice_get graph.opens j) refl e
-
-  pub enter_below : (node : Node) (word : ℕ) → IsWordOf graph node word
-      → enter_number text graph node word < foreign_number text graph + 1
-  enter_below (Block k) word is =
-      let low = at_open_below _ (jump_enter text graph) k.0 word is (λ j o. jump_below j o word) _ refl in
-      omega arith
-  enter_below (Landed k) word is =
-      let low = at_open_below (λ (o : Open). o.switch.compare.0) (compare_image text graph) k.0 word is
-      (λ j o e inside. omega (arith, open_below j o e, inside.above, inside.below)) (compare_number text graph k.0) refl in
-      omega arith
-  enter_below X word is = omega arith
+  pub enter_below : (node : Node) (word : ℕ) → IsWordOf graph node word → enter_number text graph node word < length all
+  enter_below node word is =
+      let h = word_held node word is in
+      number_below text graph g (entering text graph node word) _ (listed text graph g node word h.low h.has).entered
 
   pub lands_below : (snips : List (List Op)) (word : ℕ) → word < length text.words
-      → lands_at text graph snips word < foreign_number text graph + 1
+      → lands_at text graph snips word < length all
   lands_below snips word l =
       cond_both _ (enter_number text graph (lands graph (Some word)) word) (landing_number text graph word)
-      (λ (n : ℕ). n < foreign_number text graph + 1)
-      (λ _. enter_below (lands graph (Some word)) word (lands_word word l)) (λ _. omega arith)
-
-  -- ---- Case edges
-
-  place_below : (targets : List ℕ) (word : ℕ) → 1 ≤ length targets → place_in text graph targets word < length targets
-  place_below targets word some =
-      cond_both (nat_lt (position_or_len (λ t. t == word) targets) (length targets)) (Some _) None
-      (λ (x : Option ℕ). or_zero x < length targets) (ltb-true _ _) (λ _. some)
-
-  case_below : (k : ℕ) (o : Open) (word : ℕ) → slice_get graph.opens k ≡ Some o → 1 ≤ length o.targets
-      → case_piece text graph k o word < foreign_number text graph
-  case_below k o word e some =
-      rw (take-length graph.opens)
-      (omega (arith, place_below o.targets word some, at_most (entries_of text graph) graph.opens k o e))
-
-  cases_below : (before opens : List Open) → before ++ opens ≡ graph.opens
-      → Each (λ n. n < foreign_number text graph) (cases_of text graph (length before) opens)
-  cases_below before [] e = tt
-  cases_below before (o ∷ opens) e =
-      let here : slice_get graph.opens (length before) ≡ Some o = rw (← e) (get_past before (o ∷ opens) _ 0 o (omega arith) refl) in
-      let next : length (before ++ o ∷ []) ≡ suc (length before) = omega (arith, length-append before (o ∷ [])) in
-      each-append (λ n. n < foreign_number text graph) (map (case_piece text graph (length before) o) o.targets)
-      (cases_of text graph (suc (length before)) opens)
-      (each-map _ (case_piece text graph (length before) o) o.targets (each_index _ o.targets (λ n word at.
-      case_below (length before) o word here (omega (arith, slice_get_within o.targets n word at)))))
-      (rw next at (cases_below (before ++ o ∷ []) opens (append_assoc before (o ∷ []) opens ∙ e)))
+      (λ (n : ℕ). n < length all) (λ _. enter_below (lands graph (Some word)) word (lands_word word l))
+      (λ _. number_below text graph g (Landing word) _ (landing_stands text graph g word l))
 
   pub case_number_below : (entry number : ℕ) → slice_get (case_numbers text graph) entry ≡ Some number
-      → number < foreign_number text graph
+      → number < length all
   case_number_below entry number e =
-      each_at (λ n. n < foreign_number text graph) (case_numbers text graph) entry number
-      (cases_below [] graph.opens refl) e
+      each_at (λ n. n < length all) (case_numbers text graph) entry number
+      (each_of_all (λ n. n < length all) (cases_of text graph) graph.opens (each_index _ graph.opens (λ k o is.
+      each-map (λ n. n < length all) (case_piece text graph o.block) o.targets (each_index _ o.targets (λ n word at.
+      number_below text graph g (Case o.block word) _ (case_stands text graph g k o is n word at))))))
+      e
 
--- ---- how many pieces there are
+  -- ---- how many pieces there are
 
--- the foreign piece comes behind all others
-pub foreign_is : (text : Words) (graph : Graph) → foreign_number text graph
-    ≡ 2 * length text.words + length (edges_but_landings graph) + sum_by (pieces_of text graph) graph.opens
-    + sum_by (λ (o : Open). length o.targets) graph.opens
-foreign_is text graph =
-    rw (take-length graph.opens) (omega arith)
+  -- the foreign piece comes behind all others
+  pub foreign_is : foreign_number text graph
+      ≡ 2 * length text.words + length (edges_but_landings graph) + sum_by (pieces_of graph) graph.opens
+      + sum_by (λ (o : Open). length o.targets) graph.opens
+  foreign_is =
+      number_is text graph g Foreign _ (foreign_stands text graph g) ∙ rw (take-length graph.opens) (omega arith)

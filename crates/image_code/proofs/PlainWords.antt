@@ -10,12 +10,14 @@ use Rattle.image_code.specs.Simulates.{does_at, gone_at, graph_in}
 use Rattle.image_code.proofs.Points.{entered_at}
 use Rattle.image_code.proofs.PointShapes.{IsPlain, Reaches}
 use Rattle.image_code.specs.Made.{is_slots, jumps_at, next_at, next_to, visit_of}
-use Rattle.image_code.specs.Numbered.{compare_image, enter_number, image_number, node_in_order}
+use Rattle.image_code.specs.Labels.{enter_number, image_number, node_in_order}
 use Rattle.image_code.proofs.Branches.{image_straight, within_some}
-use Rattle.image_code.proofs.Following.{compare_apart, compare_inner, held_next, inner_edges, jump_apart, jump_inner, next_in_order, next_low, some_edge}
-use Rattle.image_code.proofs.ImageNumbers.{HasImage, at_compare, at_jump, enters_in_order, in_order}
+use Rattle.image_code.proofs.Following.{compare_inner, held_next, inner_edges, jump_inner, more_words, next_in_order, next_low, some_edge}
+use Rattle.image_code.proofs.EdgePieces.{facts}
+use Rattle.image_code.proofs.ImageNumbers.{HasImage, at_compare, at_jump, compare_follows, in_order, jump_follows, ordered_enters}
 use Rattle.image_code.proofs.ImagePieces.{enter_at}
-use Rattle.image_code.proofs.Listed.{enter_next, order_at}
+use Rattle.image_code.proofs.Listed.{block_apart, copy_apart, number_is, ordered_stands}
+use Rattle.image_code.proofs.Numbers.{ordered_number}
 use Rattle.image_code.proofs.Routes.{shape_within}
 use Rattle.image_code.proofs.Visited.{AtWord, at_image, goes_straight, site, entered_none, entered_word, image_shape, l, left_gone, shapes, word_is}
 
@@ -64,16 +66,13 @@ module _ (visit : AtWord) (t : State) (straight : is_transfer (decode_of (slice_
   module _ (v : State) (does : does_at g x t ≡ v) (live : v.ending ≡ None) where
     went : (v.pc ≡ x.npc) × (v.slot ≡ NoSlot)
     went =
-        rw (← does)
-        (goes_straight g x t (slice_index g.text.words word) (word_is g x word at) straight (rw does live))
+        rw (← does) (goes_straight g x t (slice_index g.text.words word) (word_is g x word at) straight (rw does live))
 
     completes : gone_at g node x v ≡ edges
     completes = left_gone g node x v none went.1 live word at instr refl
 
     reaches : word_at g.text v.pc ≡ within (length g.text.words) (word + 1)
-    reaches =
-        ap (word_at g.text) (went.0 ∙ npc)
-        ∙ next_word g.text x.pc word is.text (word_at-some g.text x.pc word at)
+    reaches = ap (word_at g.text) (went.0 ∙ npc) ∙ next_word g.text x.pc word is.text (word_at-some g.text x.pc word at)
 
     -- so the piece's exit leads there, and without an edge only behind the piece
     abbrev LeadsOut : Exit → Type 0
@@ -84,8 +83,8 @@ module _ (visit : AtWord) (t : State) (straight : is_transfer (decode_of (slice_
 
     -- ---- in the order of the text
 
-    module _ (same : node ≡ node_in_order (graph_in g) word) (is_number : number ≡ word) where
-      ordered : exit ≡ next_to g.text word
+    module _ (same : node ≡ node_in_order (graph_in g) word) where
+      ordered : exit ≡ next_to g.text (graph_in g) word
       ordered = rw (← same, same_itself node) refl
 
       -- a slot's word ends its block
@@ -98,16 +97,23 @@ module _ (visit : AtWord) (t : State) (straight : is_transfer (decode_of (slice_
           ap ends_block_after (end_is g.text (word - 1) before refl) ∙ transfer_end g.text (word - 1) before two.1 in
           let next : word - 1 + 2 ≡ suc word = omega (arith, some) in
           let last = is_last b.words b.firsts cut.firsts word (holding_of b word)
-          (is_in g.text b g.switches cut word low)
-          (λ more. subst (λ (n : ℕ). Leads b.firsts n) next
+          (is_in g.text b g.switches cut word low) (λ more. subst (λ (n : ℕ). Leads b.firsts n) next
           (cut.second (word - 1) transfer (omega (arith, cut.words)))) in
           some_edge visit straight last
 
+      next_number : word + 1 < length g.text.words
+          → enter_number g.text (graph_in g) (node_in_order (graph_in g) (word + 1)) (word + 1) ≡ suc number
+      next_number more =
+          ordered_number g.text (graph_in g) (facts g is) (word + 1) more ∙ next
+          ∙ sym (ap (λ (n : Node). suc (image_number g.text (graph_in g) n word)) same
+          ∙ ap suc (number_is g.text (graph_in g) (facts g is) _ _
+          (ordered_stands g.text (graph_in g) (facts g is) word inside)))
+
       after : word + 1 < length g.text.words → suc number < length (l edit).list
       after more =
-          shape_within (site edit) (suc number) _
-          (ap (slice_get (shapes edit)) (let e : suc number ≡ word + 1 = omega (arith, is_number) in e)
-          ∙ order_at g.text b g.switches is.cased f.table.base f.cases.base (word + 1) more)
+          shape_within (site edit) (suc number) _ (ap (slice_get (shapes edit)) (sym (next_number more))
+          ∙ enter_at g is f.table.base f.cases.base (node_in_order (graph_in g) (word + 1)) (word + 1) more
+          (in_order refl (ordered_enters g.text (graph_in g) (facts g is) (word + 1))))
 
       order_goes : LeadsOut exit
       order_goes = rw ordered (by (word_at g.text v.pc) refl)
@@ -115,7 +121,7 @@ module _ (visit : AtWord) (t : State) (straight : is_transfer (decode_of (slice_
           goal : Node
           goal = node_after (graph_in g) node edges
 
-          by : (o : Option ℕ) → word_at g.text v.pc ≡ o → LeadsOut (next_to g.text word)
+          by : (o : Option ℕ) → word_at g.text v.pc ≡ o → LeadsOut (next_to g.text (graph_in g) word)
           by None none_there =
               let last = last_one (word + 1) (length g.text.words) (sym reaches ∙ none_there) in
               let end : word + 1 ≡ length g.text.words = omega (arith, inside) in
@@ -129,17 +135,17 @@ module _ (visit : AtWord) (t : State) (straight : is_transfer (decode_of (slice_
           by (Some other) some =
               let next = within_some (length g.text.words) (word + 1) other (sym reaches ∙ some) in
               let on_word : word_at g.text v.pc ≡ Some (word + 1) = some ∙ ap (λ (z : ℕ). Some z) (sym next.1) in
-              let to : slice_index p.at (word + 1) ≡ entered_at (site edit) goal (point_of v) =
+              let in_order = node_in_order (graph_in g) (word + 1) in
+              let to : slice_index p.at (enter_number g.text (graph_in g) in_order (word + 1))
+              ≡ entered_at (site edit) goal (point_of v) =
               sym (entered_word edit goal (point_of v) (word + 1) on_word went.1
               ∙ ap (λ (n : Node). slice_index p.at (enter_number g.text (graph_in g) n (word + 1)))
-              (next_in_order visit straight (omega (arith, next.0, cut.words)) same)
-              ∙ ap (slice_index p.at) (enters_in_order g.text b g.switches is.cased (word + 1))) in
+              (next_in_order visit straight (omega (arith, next.0, cut.words)) same)) in
               rw (lt-ltb _ _ next.0) (elim (cases_Bool (is_slots g.text word)) as
-              (λ _. LeadsOut (if is_slots g.text word then goes_to (word + 1) else exits.Behind)) [
+              (λ _. LeadsOut (if is_slots g.text word then goes_to (enter_number g.text (graph_in g) in_order (word + 1))
+              else exits.Behind)) [
                 | inl slots ↦ rw slots (to, λ _ none. absurd (slot_ends slots none))
-                | inr alone ↦
-                    let next_piece : suc number ≡ word + 1 = omega (arith, is_number) in
-                    rw alone ((after next.0, ap (slice_index p.at) next_piece ∙ to), λ _ _. refl)
+                | inr alone ↦ rw alone ((after next.0, ap (slice_index p.at) (sym (next_number next.0)) ∙ to), λ _ _. refl)
               ])
 
     -- ---- apart from it: within its block a word goes on to the next
@@ -147,7 +153,7 @@ module _ (visit : AtWord) (t : State) (straight : is_transfer (decode_of (slice_
     module _ (inner : word ≡ last_word b.firsts b.words (holding_of b word) → ⊥)
         (apart : same_node node (node_in_order (graph_in g) word) ≡ false)
         (follows : enter_number g.text (graph_in g) node (word + 1) ≡ suc number)
-        (next_has : HasImage g.text b g.switches node (word + 1)) where
+        (next_has : HasImage g.text (graph_in g) (facts g is) node (word + 1)) where
       more : word + 1 < length g.text.words
       more = omega (arith, next_low visit straight inner, cut.words)
 
@@ -157,32 +163,31 @@ module _ (visit : AtWord) (t : State) (straight : is_transfer (decode_of (slice_
           let next = enter_at g is f.table.base f.cases.base node (word + 1) more next_has in
           rw apart (
             (
-              shape_within (site edit) (suc number) _ (ap (slice_get (shapes edit)) (sym follows) ∙ next.1),
+              shape_within (site edit) (suc number) _ (ap (slice_get (shapes edit)) (sym follows) ∙ next),
               ap (slice_index p.at) (sym follows)
                   ∙ ap (λ (n : Node). slice_index p.at (enter_number g.text (graph_in g) n (word + 1)))
                   (sym (ap (node_after (graph_in g) node) (inner_edges visit straight inner)))
-                  ∙ sym (entered_word edit (node_after (graph_in g) node edges) (point_of v)
-                  (word + 1) on_word went.1),
+                  ∙ sym (entered_word edit (node_after (graph_in g) node edges) (point_of v) (word + 1) on_word went.1),
             ),
             λ _ _. refl,
           )
 
-    by_image : HasImage g.text b g.switches node word → LeadsOut exit
-    by_image (in_order same is_number enter) = order_goes same is_number
-    by_image (at_jump k o numbered e here block_is) =
+    by_image : HasImage g.text (graph_in g) (facts g is) node word → LeadsOut exit
+    by_image (in_order same enters) = order_goes same
+    by_image (at_jump k o e here block_is) =
         let inner = jump_inner visit straight k o e block_is in
         let above = rw block_is at (is_in g.text b g.switches cut word low).above in
-        apart_goes inner (jump_apart visit straight k o e here block_is)
-        (rw (next, here, numbered, e)
-        (enter_next g.text b g.switches is.cased f.table.base f.cases.base k o e word above))
-        (at_jump k o numbered e here (held_next visit straight inner ∙ block_is))
-    by_image (at_compare k o numbered e here block_is) =
+        let below = rw block_is at (more_words visit straight inner) in
+        apart_goes inner (rw here (block_apart g.text (graph_in g) (facts g is) k o e word))
+        (rw here (jump_follows g.text (graph_in g) (facts g is) k o e word above below))
+        (at_jump k o e here (held_next visit straight inner ∙ block_is))
+    by_image (at_compare k o e here block_is) =
         let inner = compare_inner visit straight k o e block_is in
         let above = rw block_is at (is_in g.text b g.switches cut word low).above in
-        let more : compare_image g.text (graph_in g) k o (suc word) ≡ suc (compare_image g.text (graph_in g) k o word) =
-        omega (arith, above) in
-        apart_goes inner (compare_apart visit straight k o e here block_is) (rw (next, here, numbered, e) more)
-        (at_compare k o numbered e here (held_next visit straight inner ∙ block_is))
+        let below = rw block_is at (more_words visit straight inner) in
+        apart_goes inner (rw here (copy_apart g.text (graph_in g) (facts g is) k o e word))
+        (rw here (compare_follows g.text (graph_in g) (facts g is) k o e word above below))
+        (at_compare k o e here (held_next visit straight inner ∙ block_is))
 
   pub plain_is : IsPlain (site edit) node x t
   plain_is = record {

@@ -1,9 +1,11 @@
 -- Items of lists by their places: behind other lists, in the lists of items, and the first that passes a test.
-use Rattle.image_code.proofs.Common.{◌≡◌, ℕ, zero, suc, ◌+◌, ◌<◌, ◌≤◌, Bool, true, false, cond, Some, None, List, [], ◌∷◌, ◌++◌, length, get_or, map, take, length-append, refl, ap, sym, ◌∙◌, arith, inl, inr, slice_get, find, flat_map, list_any, position, position_or_len, range_with_len, sum_by, nat_tests, cases_lt, false≢true, lt-ltb, le-ltb, length-map-range_with_len, sum_by-cons, get_or_from_slice_get, slice_get-get_or, slice_get_within, Contains, find_at, get_or-map-range_with_len, get_or-range_with_len, length-range_with_len, length-map, slice_get-map}
+use Rattle.image_code.proofs.Common.{get_or-below, length-below, ◌-◌, each-append, below, Each, ◌≡◌, ℕ, zero, suc, ◌+◌, ◌<◌, ◌≤◌, Bool, true, false, cond, Some, None, List, [], ◌∷◌, ◌++◌, length, get_or, map, take, length-append, refl, ap, sym, ◌∙◌, arith, inl, inr, slice_get, find, flat_map, list_any, position, position_or_len, range_with_len, sum_by, nat_tests, cases_lt, false≢true, lt-ltb, length-map-range_with_len, sum_by-cons, get_or_from_slice_get, slice_get-get_or, slice_get_within, Contains, find_at, get_or-map-range_with_len, get_or-range_with_len, length-range_with_len, length-map, slice_get-map, option_map}
 use Rattle.std.specs.List.{enumerate_from}
 use Rattle.std.proofs.lemmas.List.FromFn.{get_or-enumerate_from, length-enumerate_from}
 use Rattle.std.proofs.lemmas.List.Folds.{Any-from_list_any, list_any_at}
-use Rattle.std.proofs.lemmas.List.Sums.{fails_before_first, passes_at_first}
+use Rattle.std.proofs.lemmas.Option.{same_Some}
+use Rattle.std.proofs.lemmas.List.Sums.{fails_before_first, passes_at_first, position_or_len_is}
+use Rattle.image_code.specs.Labels.{Label, same_label}
 pub use Rattle.layout.proofs.Standing.{get_first, get_rest as get_second}
 
 -- ---- lists behind others
@@ -11,11 +13,6 @@ pub use Rattle.layout.proofs.Standing.{get_first, get_rest as get_second}
 pub get_past : {A : Type 0} (xs ys : List A) (n m : ℕ) (x : A) → n ≡ length xs + m → slice_get ys m ≡ Some x
     → slice_get (xs ++ ys) n ≡ Some x
 get_past xs ys n m x e at = rw e (get_second xs ys m ∙ at)
-
--- behind a list of so many
-pub get_behind : {A : Type 0} (xs ys : List A) (many n : ℕ) (x : A) → length xs ≡ many → slice_get ys n ≡ Some x
-    → slice_get (xs ++ ys) (many + n) ≡ Some x
-get_behind xs ys many n x e at = get_past xs ys (many + n) n x (omega (arith, e)) at
 
 pub get_taken : {A : Type 0} (n k : ℕ) (xs : List A) → k < n → slice_get (take n xs) k ≡ slice_get xs k
 get_taken zero k xs l = absurd (omega arith)
@@ -25,6 +22,11 @@ get_taken (suc n) (suc k) (x ∷ xs) l = get_taken n k xs (omega arith)
 
 pub contains : {A : Type 0} (xs : List A) (k : ℕ) (x : A) → slice_get xs k ≡ Some x → Contains xs x
 contains xs k x e = (k, slice_get_within xs k x e, get_or_from_slice_get xs k x x e)
+
+-- an item that was looked up
+pub looked_up : {A : Type 0} (xs ys : List A) (k : ℕ) (x : A) → xs ≡ ys → k < length xs → x ≡ get_or xs k x
+    → slice_get ys k ≡ Some x
+looked_up {A = A} xs ys k x same low is = rw (← same) (slice_get-get_or xs k x low ∙ ap (λ (y : A). Some y) (sym is))
 
 -- ---- ranges
 
@@ -40,13 +42,9 @@ pub numbered_get : {A B : Type 0} (f : ℕ → A → B) (xs : List A) (k : ℕ) 
 numbered_get f xs k x e =
     let low = slice_get_within xs k x e in
     let here : 0 + k ≡ k = omega arith in
-    rw (
-      slice_get-map,
-      slice_get-get_or (enumerate_from 0 xs) k (0, x) (omega (arith, low, length-enumerate_from 0 xs)),
-      get_or-enumerate_from 0 xs k (0, x) low,
-      get_or_from_slice_get xs k x x e,
-      here,
-    )
+    let many = length-enumerate_from 0 xs in
+    let at = slice_get-get_or (enumerate_from 0 xs) k (0, x) (omega (arith, low, many)) in
+    rw (slice_get-map, at, get_or-enumerate_from 0 xs k (0, x) low, get_or_from_slice_get xs k x x e, here)
 
 pub numbered_count : {A B : Type 0} (f : ℕ → A → B) (xs : List A)
     → length (map (λ (p : ℕ × A). f p.0 p.1) (enumerate_from 0 xs)) ≡ length xs
@@ -63,17 +61,6 @@ module _ {A B : Type 0} (f : A → List B) (size : A → ℕ) where
   flat_count (y ∷ xs) sized =
       omega (arith, length-append (f y) (flat_map f xs), sized 0 y refl, flat_count xs (λ k. sized (suc k)), sum_by-cons size y xs)
 
-  pub flat_get : (xs : List A) → Sized xs → (k : ℕ) (x : A) → slice_get xs k ≡ Some x → (n : ℕ) (y : B)
-      → slice_get (f x) n ≡ Some y → slice_get (flat_map f xs) (sum_by size (take k xs) + n) ≡ Some y
-  flat_get [] sized k x e n y at = absurd (cc)
-  flat_get (z ∷ xs) sized zero x e n y at =
-      let same : z ≡ x = cc in
-      let here : 0 + n ≡ n = omega arith in
-      get_first (f z) (flat_map f xs) (0 + n) y (rw (here, same) at)
-  flat_get (z ∷ xs) sized (suc k) x e n y at =
-      get_past (f z) (flat_map f xs) _ (sum_by size (take k xs) + n) y
-      (omega (arith, sized 0 z refl, sum_by-cons size z (take k xs))) (flat_get xs (λ j. sized (suc j)) k x e n y at)
-
 -- ---- the first that passes a test
 
 pub record IsPlace {A : Type 0} (p : A → Bool) (xs : List A) : Type 0 where
@@ -83,6 +70,7 @@ pub record IsPlace {A : Type 0} (p : A → Bool) (xs : List A) : Type 0 where
   pub is : slice_get xs number ≡ Some item
   pub first : find p xs ≡ Some item
   pub passes : p item ≡ true
+  pub fails : (k : ℕ) (y : A) → k < number → slice_get xs k ≡ Some y → p y ≡ false
 
 pub placed : {A : Type 0} (p : A → Bool) (xs : List A) → list_any p xs ≡ true → IsPlace p xs
 placed p xs any =
@@ -102,21 +90,101 @@ placed p xs any =
       is = is;
       first = find_at p xs ∙ is;
       passes = passes_at_first p xs some.1 within;
+      fails = λ k y l e. sym (ap p (get_or_from_slice_get xs k y y e)) ∙ fails_before_first p xs k y l;
     }
-
-none_is : {A : Type 0} (p : A → Bool) (xs : List A) → list_any p xs ≡ false → position_or_len p xs ≡ length xs
-none_is p [] none = refl
-none_is p (x ∷ xs) none = grind (arith, nat_tests, none_is p xs)
-
-pub not_placed : {A : Type 0} (p : A → Bool) (xs : List A) → list_any p xs ≡ false → position p xs ≡ None
-not_placed p xs none =
-    ap (λ (b : Bool). cond b (Some (position_or_len p xs)) None)
-    (le-ltb (position_or_len p xs) (length xs) (omega (arith, none_is p xs none)))
 
 pub any_at : {A : Type 0} (p : A → Bool) (xs : List A) (k : ℕ) (x : A) → slice_get xs k ≡ Some x → p x ≡ true
     → list_any p xs ≡ true
-any_at p xs k x e h =
-    list_any_at p xs k x (slice_get_within xs k x e) (ap p (get_or_from_slice_get xs k x x e) ∙ h)
+any_at p xs k x e h = list_any_at p xs k x (slice_get_within xs k x e) (ap p (get_or_from_slice_get xs k x x e) ∙ h)
+
+-- ---- the first such label
+
+-- it stands there, and nowhere before
+pub record StandsIn (xs : List Label) (x : Label) (n : ℕ) : Type 0 where
+  pub is : slice_get xs n ≡ Some x
+  pub first : position_or_len (same_label x) xs ≡ n
+
+abbrev pub IsNew : Label → List Label → Type 0
+IsNew x = Each (λ y. same_label x y ≡ false)
+
+position_within : {A : Type 0} (p : A → Bool) (xs ys : List A) → position_or_len p xs < length xs
+    → position_or_len p (xs ++ ys) ≡ position_or_len p xs
+position_within p [] ys l = absurd (omega arith)
+position_within p (x ∷ xs) ys l = grind (arith, nat_tests, position_within p xs ys)
+
+position_past : {A : Type 0} (p : A → Bool) (xs ys : List A) → Each (λ y. p y ≡ false) xs
+    → position_or_len p (xs ++ ys) ≡ length xs + position_or_len p ys
+position_past p [] ys none = omega arith
+position_past p (x ∷ xs) ys none = grind (arith, nat_tests, none.0, position_past p xs ys none.1)
+
+pub before : (xs ys : List Label) (x : Label) (n : ℕ) → StandsIn xs x n → StandsIn (xs ++ ys) x n
+before xs ys x n s =
+    let low = slice_get_within xs n x s.is in
+    record {
+      is = get_first xs ys n x s.is;
+      first = position_within (same_label x) xs ys (omega (arith, s.first, low)) ∙ s.first;
+    }
+
+pub behind : (xs ys : List Label) (x : Label) (n m : ℕ) → IsNew x xs → StandsIn ys x m → n ≡ length xs + m
+    → StandsIn (xs ++ ys) x n
+behind xs ys x n m new s e = record {
+  is = get_past xs ys n m x e s.is;
+  first = omega (arith, position_past (same_label x) xs ys new, s.first, e);
+}
+
+pub stands_at : (xs : List Label) (x : Label) (n : ℕ) → slice_get xs n ≡ Some x → same_label x x ≡ true
+    → ((k : ℕ) (y : Label) → k < n → slice_get xs k ≡ Some y → same_label x y ≡ false) → StandsIn xs x n
+stands_at xs x n is same apart =
+    let low = slice_get_within xs n x is in
+    record {
+      is = is;
+      first = position_or_len_is (same_label x) xs n x (omega (arith, low))
+          (λ k l. apart k (get_or xs k x) l (slice_get-get_or xs k x (omega (arith, l, low))))
+          (λ l. ap (same_label x) (get_or_from_slice_get xs n x x is) ∙ same);
+    }
+
+-- each of a list with its number
+module _ (f : ℕ → Label) (word : ℕ) (same : same_label (f word) (f word) ≡ true)
+    (apart : (v : ℕ) → (word ≡ v → ⊥) → same_label (f word) (f v) ≡ false) where
+  stands_among : (xs : List Label) (from n : ℕ) → from + n ≡ word
+      → ((k : ℕ) → k < n + 1 → slice_get xs k ≡ Some (f (from + k))) → StandsIn xs (f word) n
+  stands_among xs from n here at =
+      stands_at xs (f word) n (at n (omega arith) ∙ ap (λ (v : ℕ). Some (f v)) here) same (λ k y l e.
+      rw (same_Some y (f (from + k)) (sym e ∙ at k (omega (arith, l))))
+      (apart (from + k) (λ q. omega (arith, q, l, here))))
+
+  pub stands_in_range : (from count : ℕ) → from ≤ word → word < from + count
+      → StandsIn (map f (range_with_len from count)) (f word) (word - from)
+  stands_in_range from count above low =
+      stands_among (map f (range_with_len from count)) from (word - from) (omega (arith, above))
+      (λ k l. range_get f from count k (omega (arith, l, above, low)))
+
+  pub stands_below : (count : ℕ) → word < count → StandsIn (map f (below count)) (f word) word
+  stands_below count low =
+      stands_among (map f (below count)) 0 word (omega arith) (λ k l.
+      slice_get-map f (below count) k ∙ ap (option_map f)
+      (slice_get-get_or (below count) k 0 (omega (arith, l, low, length-below count))
+      ∙ ap (λ (v : ℕ). Some v) (get_or-below count k 0 (omega (arith, l, low)) ∙ omega arith)))
+
+-- in the lists of items
+pub new_in_all : {A : Type 0} (x : Label) (f : A → List Label) (xs : List A) → ((a : A) → IsNew x (f a))
+    → IsNew x (flat_map f xs)
+new_in_all x f [] new = tt
+new_in_all x f (a ∷ xs) new = each-append _ (f a) (flat_map f xs) (new a) (new_in_all x f xs new)
+
+pub stands_in_all : {A : Type 0} (f : A → List Label) (size : A → ℕ) (xs : List A) → Sized f size xs → (k : ℕ) (a : A)
+    → slice_get xs k ≡ Some a → (x : Label) (m : ℕ) → StandsIn (f a) x m
+    → ((j : ℕ) (c : A) → j < k → slice_get xs j ≡ Some c → IsNew x (f c))
+    → StandsIn (flat_map f xs) x (sum_by size (take k xs) + m)
+stands_in_all f size [] sized k a e x m s new = absurd (cc)
+stands_in_all f size (c ∷ xs) sized zero a e x m s new =
+    let same : c ≡ a = cc in
+    let here : 0 + m ≡ m = omega arith in
+    rw (here, same) (before (f a) (flat_map f xs) x m s)
+stands_in_all f size (c ∷ xs) sized (suc k) a e x m s new =
+    behind (f c) (flat_map f xs) x _ (sum_by size (take k xs) + m) (new 0 c (omega arith) refl)
+    (stands_in_all f size xs (λ j. sized (suc j)) k a e x m s (λ j d l. new (suc j) d (omega (arith, l))))
+    (omega (arith, sized 0 c refl, sum_by-cons size c (take k xs)))
 
 -- ---- one that is found in a range
 

@@ -4,11 +4,12 @@ use Rattle.image_code.proofs.Common.{◌≡◌, ℕ, zero, suc, ◌+◌, ◌*◌
 use Rattle.cfg_blocks.specs.declared.EdgeKind.TheVariants as kinds
 use Rattle.std.proofs.lemmas.Bool.{and_right}
 use Rattle.image_code.specs.Store.{snippet_on}
-use Rattle.image_code.specs.Numbered.{node_in_order, edges_but_landings}
+use Rattle.image_code.specs.Labels.{node_in_order, edges_but_landings}
 use Rattle.image_code.specs.Fit.{AreShort, operations_from, operations_in}
 use Rattle.image_code.specs.Copies.{copies_of, is_at, targets_from, words_at}
 use Rattle.image_code.proofs.OpenBlocks.{IsTextGraph}
-use Rattle.image_code.proofs.OpenNumbers.{IsWordOf, lands_word}
+use Rattle.image_code.specs.Lookups.{IsWordOf}
+use Rattle.image_code.proofs.OpenNumbers.{lands_word}
 use Rattle.image_code.proofs.OpenSums.{code_length, count_le, count_none, count_one, count_within, uses, uses_cover}
 
 -- ---- the words of snippets in the pieces
@@ -140,10 +141,10 @@ module _ (text : Words) (graph : Graph) (codes : ℕ → List ℕ) where
         → count_by (is_at graph node) (below (length text.words)) ≤ count_by (is_at graph node) (words_at graph node)
     node_count (Block k) l =
         count_within (is_at graph (Block k)) (length text.words) (slice_index graph.blocks.firsts k.0)
-        (size_of graph.blocks k.0) (λ word e. let is = at_node (Block k) word refl e in omega (arith, is.above, is.below))
+        (size_of graph.blocks k.0) (λ word e. let is = at_node (Block k) word refl e in omega (arith, is.1.0, is.1.1))
     node_count (Landed k) l =
         count_within (is_at graph (Landed k)) (length text.words) (slice_index graph.blocks.firsts k.0)
-        (size_of graph.blocks k.0) (λ word e. let is = at_node (Landed k) word refl e in omega (arith, is.above, is.below))
+        (size_of graph.blocks k.0) (λ word e. let is = at_node (Landed k) word refl e in omega (arith, is.1.0, is.1.1))
     node_count X l =
         omega (
           arith,

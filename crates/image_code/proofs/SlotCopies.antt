@@ -1,6 +1,6 @@
 -- The copies of slots' words: a transfer ends the run, behind a JMPL without Case edges its target is looked up, and
 -- else the copy goes on to where the edge leads.
-use Rattle.image_code.proofs.Common.{◌≡◌, ◌≢◌, ℕ, ◌%◌, ◌^◌, ◌<◌, inl, inr, Bool, true, false, Option, Some, None, List, [], ◌∷◌, length, refl, ap, sym, ◌∙◌, subst, arith, ◌==◌, if◌then◌else◌, slice_get, slice_index, cases_Bool, eqb-true, false≢true, Words, address_of, word_at, Addr, decode_of, NoSlot, State, is_transfer, EdgeKind, Blocks, blocks_of, word_at-some, Node, X, Graph, has_cases, lands, node_after, point_of, slot_left, same_kind, IsOnItsWay, lands_as, same_kinds, found_in, page_word, landed, last_in, Exit, Head, OfWord, Shape, goes_to, leaves_to, marked}
+use Rattle.image_code.proofs.Common.{◌≡◌, ◌≢◌, ℕ, ◌%◌, ◌^◌, ◌<◌, inl, inr, Bool, true, false, Option, Some, None, List, [], ◌∷◌, length, refl, ap, sym, ◌∙◌, subst, arith, ◌==◌, if◌then◌else◌, slice_get, slice_index, cases_Bool, eqb-true, false≢true, Words, address_of, word_at, Addr, decode_of, NoSlot, State, is_transfer, EdgeKind, Blocks, blocks_of, word_at-some, Node, X, Graph, has_cases, lands, node_after, point_of, slot_left, same_kind, IsOnItsWay, lands_as, same_kinds, found_in, page_word, landed, last_in, Exit, Head, OfWord, goes_to, leaves_to, marked}
 use Rattle.cfg_blocks.specs.declared.EdgeKind.TheVariants as kinds
 use Rattle.image_code.specs.declared.shape.Exit.TheVariants as exits
 use Rattle.image_code.specs.declared.shape.Head.TheVariants as heads
@@ -14,14 +14,13 @@ use Rattle.image_code.specs.Store.{operations_on}
 use Rattle.image_code.specs.Images.{HasNoCases}
 use Rattle.image_code.proofs.Points.{AtVisitIn, entered_at}
 use Rattle.image_code.proofs.PointShapes.{IsMarked, IsMarkedWord, IsJumpTarget, Reaches, Lands, IsCase, plain, couple, landing as jumps_slot}
-use Rattle.image_code.specs.Made.{first_word, goes_on, visit_of}
-use Rattle.image_code.specs.Numbered.{enter_number, foreign_number, landing_number}
+use Rattle.image_code.specs.Made.{first_word, goes_on, shape_of, visit_of}
+use Rattle.image_code.specs.Labels.{Foreign, Landing, enter_number, entering, foreign_number, landing_number}
 use Rattle.image_code.proofs.CaseTables.{IsKnown, table_of}
-use Rattle.image_code.proofs.EdgePieces.{along_far, cut_in}
+use Rattle.image_code.proofs.EdgePieces.{along_far, cut_in, facts}
 use Rattle.image_code.proofs.Heads.{HasCopy, by_cases, case_copy, copy_visited, plain_copy}
-use Rattle.image_code.proofs.ImageNumbers.{jump_of}
 use Rattle.image_code.proofs.ImagePieces.{enter_at, stands_at}
-use Rattle.image_code.proofs.Listed.{foreign_at, landing_at}
+use Rattle.image_code.proofs.Listed.{foreign_stands, jump_of, landing_stands, shape_at}
 use Rattle.image_code.proofs.Visited.{AtSlot, GoesThere, goes_on_there, goes_straight, site, case_kind, edge_is, entered_word, kind_is, marked_at, shapes, slot_gone, target, way_in, word_is}
 use Rattle.image_code.proofs.Routes.{shape_within}
 use Rattle.image_code.specs.Cost.{is_out}
@@ -59,7 +58,7 @@ landed_out text graph address (Some word) e = rw e
 pub no_cases : (g : EditSetup) → IsKnown g → (node : Node) → has_cases g.switches node ≡ false → HasNoCases g node
 no_cases g is node none k table e same =
     let t = table_of g is.known k table e in
-    false≢true (sym none ∙ rw (same, ← t.same) (jump_of g.text (blocks_of g.text g.given) g.switches k t.o t.is))
+    false≢true (sym none ∙ rw (same, ← t.same) (jump_of g.switches k t.o t.is))
 
 module _ (at_slot : AtSlot) (t : State) (here : AtVisitIn (site at_slot.edit) at_slot.node at_slot.x t)
     (piece to : ℕ) (copy : HasCopy at_slot piece to) where
@@ -223,7 +222,8 @@ module _ (at_slot : AtSlot) (t : State) (here : AtVisitIn (site at_slot.edit) at
                 → Lands (site edit) (landed g.text (graph_in g) kinds.Out x.npc) x.npc
                 (entered_at (site edit) after (point_of v))
             by None none =
-                let there = foreign_at g.text b g.switches is.cased f.table.base f.cases.base in
+                let there = shape_at g.text (graph_in g) (facts g is) f.table.base f.cases.base Foreign _
+                (foreign_stands g.text (graph_in g) (facts g is)) in
                 inr (
                   landed_out g.text (graph_in g) x.npc None none,
                   (
@@ -238,12 +238,13 @@ module _ (at_slot : AtSlot) (t : State) (here : AtVisitIn (site at_slot.edit) at
               | inl e ↦
                   inl (
                     record { 0 = entry },
-                    shape_within (site edit) entry _ image_there.1,
+                    shape_within (site edit) entry _ image_there,
                     led true e,
                     inr (rw (landed_out g.text (graph_in g) x.npc (Some to) some) (eqb-true _ _ e), visit),
                   )
               | inr e ↦
-                  let landing_there = landing_at g.text b g.switches is.cased f.table.base f.cases.base to within in
+                  let landing_there = shape_at g.text (graph_in g) (facts g is) f.table.base f.cases.base (Landing to) _
+                  (landing_stands g.text (graph_in g) (facts g is) to within) in
                   inl (
                     record { 0 = landing_number g.text (graph_in g) to },
                     shape_within (site edit) _ _ landing_there,
@@ -262,7 +263,8 @@ module _ (at_slot : AtSlot) (t : State) (here : AtVisitIn (site at_slot.edit) at
                 entry : ℕ
                 entry = enter_number g.text (graph_in g) (lands (graph_in g) (Some to)) to
 
-                image_there : (s : Shape) × (slice_get (shapes edit) entry ≡ Some s)
+                image_there : slice_get (shapes edit) entry ≡ Some (shape_of g.text (graph_in g) f.table.base f.cases.base
+                    (entering g.text (graph_in g) (lands (graph_in g) (Some to)) to))
                 image_there =
                     let some_blocks = (cut_in g is).firsts.some in
                     enter_at g is f.table.base f.cases.base (lands (graph_in g) (Some to)) to within

@@ -59,6 +59,7 @@ pub source_is : (text : Words) (graph : Graph) → IsText text → IsGraph graph
     → IsSource text graph
 source_is text graph is_text is_graph h = record {
   is_text = is_text;
+  is_graph_of = h;
   is_graph = is_graph;
   words = words_are text graph h;
   stands = λ o among.

@@ -12,12 +12,12 @@ use Rattle.image_code.specs.Images.{EditorData, IsPlaced, Pieces, place_by, slot
 use Rattle.image_code.proofs.Points.{Site, entered_at, visited_at}
 use Rattle.image_code.proofs.PointShapes.{IsJumpTarget, IsMarked, LeadsTo, Reaches}
 use Rattle.image_code.specs.Made.{AreCasesFor, IsOffNoted, IsTableFor, edit_pieces, first_way, first_word, image_by, jumps_at, shape_list, visit_of, way_by, way_out}
-use Rattle.image_code.specs.Numbered.{along_case, along_number, case_piece, enter_number, image_number, jump_number, way_piece}
+use Rattle.image_code.specs.Labels.{along_case, along_number, case_piece, enter_number, image_number, jump_number, way_piece}
 use Rattle.image_code.proofs.CaseTables.{IsKnown}
-use Rattle.image_code.proofs.EdgePieces.{IsAlong, along, by_case, cut_in, shape_along, shape_case, slot_in}
+use Rattle.image_code.proofs.EdgePieces.{IsAlong, along, by_case, cut_in, facts, shape_along, shape_case, slot_in}
 use Rattle.image_code.proofs.Positions.{placed}
 use Rattle.image_code.proofs.Branches.{IsTransfersWay, way_is_own}
-use Rattle.image_code.proofs.ImageNumbers.{HasImage, jump_numbered, open_is}
+use Rattle.image_code.proofs.ImageNumbers.{HasImage, jump_numbered}
 use Rattle.image_code.proofs.ImagePieces.{image_at, stands_at}
 
 -- the open switch among whose targets a word is
@@ -126,7 +126,7 @@ pub record AtWord : Type 0 where
   pub cut : IsCut edit.g.text (blocks_of edit.g.text edit.g.given)
   pub low : word < (blocks_of edit.g.text edit.g.given).words
   pub home : home_of node ≡ block (holding_of (blocks_of edit.g.text edit.g.given) word)
-  pub has : HasImage edit.g.text (blocks_of edit.g.text edit.g.given) edit.g.switches node word
+  pub has : HasImage edit.g.text (graph_in edit.g) (facts edit.g edit.is) node word
 
 module _ (edit : PlacedEdit) where
   open edit use {g, codes, is, base, p, place, f, tables.{whole}}
@@ -334,11 +334,11 @@ module _ (in_slot : InSlot) where
     own : IsTransfersWay (way_in edit x)
     own = way_is_own (instr_at g.text (x.pc - 4)) x.slot
 
-    pub plain_piece_is : slot_piece g (l edit) node x ≡ length g.text.words + way.number
+    pub plain_piece_is : slot_piece g (l edit) node x ≡ way_piece g.text (graph_in g) way.number
     plain_piece_is = piece_along ∙ rw (kind_is, own.caseless)
 
     pub plain_shape : (to : Carried) → way.edge.slot ≡ to
-        → slice_get (shapes edit) (length g.text.words + way.number)
+        → slice_get (shapes edit) (way_piece g.text (graph_in g) way.number)
         ≡ Some (way_by g.text (graph_in g) f.table.base way.number way.edge (first_word (graph_in g) way.edge.to) to)
     plain_shape to e =
         shape_along g is f.table.base f.cases.base node (way_now edit node x) way.number way.edge edge_is
@@ -387,7 +387,7 @@ module _ (in_slot : InSlot) where
             }
         by _ same to has = absurd to
 
-    pub case_piece_is : slot_piece g (l edit) node x ≡ case_piece g.text (graph_in g) target.k target.o target.word
+    pub case_piece_is : slot_piece g (l edit) node x ≡ case_piece g.text (graph_in g) target.o.block target.word
     case_piece_is =
         piece_along
         ∙ ap (λ (t : Bool). if t then along_case g.text (graph_in g) way.edge.from way.number (word_at g.text x.npc)
@@ -396,11 +396,9 @@ module _ (in_slot : InSlot) where
         ∙ ap (λ (n : Node). along_case g.text (graph_in g) n way.number (word_at g.text x.npc))
         (edge_is.leaves ∙ target.itself)
         ∙ ap (along_case g.text (graph_in g) (block target.o.block) way.number) target.goes
-        ∙ open_is g.text blocks g.switches (case_piece g.text (graph_in g)) target.k target.o
-        (jump_number g.text (graph_in g) target.o.block) target.word target.numbered target.among
 
     pub case_shape : (to : Carried) → way.edge.slot ≡ to
-        → slice_get (shapes edit) (case_piece g.text (graph_in g) target.k target.o target.word)
+        → slice_get (shapes edit) (case_piece g.text (graph_in g) target.o.block target.word)
         ≡ Some (way_by g.text (graph_in g) f.table.base way.number way.edge target.word to)
     case_shape to e =
         shape_case g is f.table.base f.cases.base target.k target.o target.among target.entry target.word
@@ -428,7 +426,7 @@ module _ (in_slot : InSlot) where
       (entered_at (site edit) node x)
   enters caseless kind same = by (word_at g.text x.pc) refl
     where
-      number : way_out g.text (graph_in g) node kind ≡ length g.text.words + way.number
+      number : way_out g.text (graph_in g) node kind ≡ way_piece g.text (graph_in g) way.number
       number =
           rw (← same)
           (ap (λ (w : WayOut). first_way g.text (graph_in g) (edge_along (graph_in g) node w)) (sym (way_is caseless))

@@ -13,7 +13,7 @@ use Rattle.snippets.specs.declared.snippet.Op.{Op}
 use Rattle.layout.specs.declared.items.Item.{Item}
 use Rattle.layout.specs.declared.items.Item.TheVariants as it
 use Rattle.layout.specs.Laid.{ArePieces, IsLaid, IsWordAt, Placement, long_bytes}
-use Rattle.image_code.specs.Numbered.{case_numbers, foreign_number}
+use Rattle.image_code.specs.Labels.{case_numbers, foreign_number}
 use Rattle.image_code.specs.Graphs.{IsGraphOf}
 use Rattle.image_code.specs.Copies.{copies_of}
 use Rattle.image_code.specs.Made.{lands_at, piece_list}

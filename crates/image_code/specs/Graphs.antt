@@ -8,7 +8,7 @@ use Rattle.cfg_blocks.specs.Values.{instr_at}
 use Rattle.cfg_normal.specs.Opens.{Open, opens_of}
 use Rattle.cfg_normal.specs.Graph.{Graph, graph_of}
 use Rattle.image_code.specs.Loads.{first_operand, load_of, second_operand}
-use Rattle.image_code.specs.Numbered.{or_zero}
+use Rattle.image_code.specs.Labels.{or_zero}
 use Rattle.image_code.specs.Simulates.{CaseTable}
 
 -- the open switches of a text, whose program is entered at a word, where these words lead besides

@@ -4,7 +4,7 @@ pub mod Simulates
 pub mod Images
 pub mod Keeping
 pub mod Loads
-pub mod Numbered
+pub mod Labels
 pub mod Graphs
 pub mod Copies
 pub mod Shapes

@@ -1,8 +1,7 @@
 -- The pieces that are made of a text, by their shapes: an image of each word for each node whose block holds it, the way
 -- along each edge but for the landings, a landing at each word, a way for each entry of a switch's table, and last the
 -- foreign piece, to which the table leads every address outside the text.
-use Rattle.std.specs.Prelude.{◌≡◌, ℕ, ◌+◌, ◌-◌, ◌*◌, ◌%◌, ◌^◌, ◌<◌, ◌≤◌, ◌==◌, nat_lt, if◌then◌else◌, Bool, ◌&&◌, List, [], ◌∷◌, ◌++◌, length, map, slice_get, slice_index, Option, Some, None}
-use Rattle.std.specs.List.{enumerate_from, flat_map, range_with_len}
+use Rattle.std.specs.Prelude.{◌≡◌, ℕ, ◌+◌, ◌-◌, ◌*◌, ◌%◌, ◌^◌, ◌<◌, ◌≤◌, ◌==◌, nat_lt, if◌then◌else◌, Bool, ◌&&◌, List, [], ◌∷◌, length, map, slice_get, slice_index, Option, Some, None}
 use Rattle.eel_base.specs.CodeText.{Words, address_of, word_at}
 use Rattle.notes.specs.Format.{range_at}
 use Rattle.eel_base.specs.Code.{IsText}
@@ -14,7 +13,6 @@ use Rattle.v8_step.specs.Items.{is_transfer}
 use Rattle.cfg_blocks.specs.declared.EdgeKind.{EdgeKind}
 use Rattle.cfg_blocks.specs.declared.EdgeKind.TheVariants as kinds
 use Rattle.cfg_blocks.specs.Ends.{always, never}
-use Rattle.cfg_blocks.specs.Blocks.{below, size_of as block_size}
 use Rattle.cfg_blocks.specs.Entries.{is_fall}
 use Rattle.cfg_normal.specs.declared.Edge.{Edge}
 use Rattle.cfg_normal.specs.declared.Node.{Node}
@@ -46,8 +44,8 @@ use Rattle.image_code.specs.Store.{operations_on}
 use Rattle.image_code.specs.Images.{EditorData, AtVisit, IsPlaced, Pieces}
 use Rattle.image_code.specs.Outside.{IsOffPages}
 use Rattle.image_code.specs.Shapes.{Shape, assembled, bare, goes_to, leaves_to, marked}
-use Rattle.image_code.specs.Loads.{load_of}
-use Rattle.image_code.specs.Numbered.{along_number, case_numbers, enter_number, first_entry, foreign_number, image_number, jump_number, landing_number, node_in_order, or_zero, edges_but_landings, place_in, way_piece}
+use Rattle.image_code.specs.Labels as labels
+use Rattle.image_code.specs.Labels.{Label, along_number, case_numbers, enter_number, first_entry, foreign_number, image_number, jump_number, landing_number, node_in_order, number_of, or_zero, piece_labels, way_piece}
 use Rattle.image_code.specs.Graphs.{IsGraphOf, case_table}
 
 -- ---- words
@@ -60,18 +58,20 @@ nop_word = 0x01000000
 abbrev pub is_slots : Words → ℕ → Bool
 is_slots text word = nat_lt 0 word && is_transfer (decode_of (slice_index text.words (word - 1)))
 
--- A word goes on to the image of the next one, which comes next; the slot's word of a transfer, which is a block of its
--- own, by a Jump. Behind the text's last word control leaves the text.
-abbrev pub next_to : Words → ℕ → Exit
-next_to text word =
-    if nat_lt (word + 1) (length text.words) then (if is_slots text word then goes_to (word + 1) else exits.Behind)
-    else leaves_to (address_of text (length text.words))
-
 -- a piece that is never run; it ends in a Jump, as the ways do
 abbrev pub unused : Shape
 unused = bare [] (goes_to 0)
 
 module _ (text : Words) (graph : Graph) where
+  -- A word goes on to the image of the next one, which comes next; the slot's word of a transfer, which is a block of
+  -- its own, by a Jump. Behind the text's last word control leaves the text.
+  abbrev pub next_to : ℕ → Exit
+  next_to word =
+      if nat_lt (word + 1) (length text.words)
+      then (if is_slots text word then goes_to (enter_number text graph (node_in_order graph (word + 1)) (word + 1))
+      else exits.Behind)
+      else leaves_to (address_of text (length text.words))
+
   -- a word of the text at a node
   abbrev pub visit_of : Node → ℕ → Visit
   visit_of node word = record { address = record { 0 = address_of text word }; node = node_number graph node }
@@ -108,7 +108,7 @@ module _ (text : Words) (graph : Graph) where
   -- Where control goes on after a word that is no transfer. At the comparison's landed copy and at the block itself of
   -- an open switch's jump, whose last words are transfers, that is within the block.
   abbrev pub next_at : Node → ℕ → Exit
-  next_at node word = if same_node node (node_in_order graph word) then next_to text word else exits.Behind
+  next_at node word = if same_node node (node_in_order graph word) then next_to word else exits.Behind
 
 -- The piece to which the table leads from a word: where some operation is made on the landing's edge that is the
 -- landing, and else where control enters the word's image.
@@ -200,11 +200,11 @@ module _ (text : Words) (graph : Graph) (table : ℕ) where
       if is_fall edge.kind then unused else
       if same_kind edge.kind kinds.Case then unused else way_by number edge (first_word graph edge.to) edge.slot
 
-  abbrev pub all_ways : List Shape
-  all_ways = map (λ (p : ℕ × Edge). way_along p.0 p.1) (enumerate_from 0 (edges_but_landings graph))
+  abbrev pub way_shape : ℕ → Option Edge → Shape
+  way_shape number None = unused
+  way_shape number (Some edge) = way_along number edge
 
-  -- ---- Case edges: where an earlier entry leads to the same word, a piece that is never run
-
+  -- the way along the Case edge of a block to a word
   abbrev pub case_by : ℕ → List ℕ → Shape
   case_by word [] = unused
   case_by word (number ∷ numbers) = on (slice_get graph.edges number)
@@ -213,15 +213,10 @@ module _ (text : Words) (graph : Graph) (table : ℕ) where
       on None = unused
       on (Some edge) = way_by number edge word edge.slot
 
-  abbrev pub case_at : Open → ℕ → ℕ → Shape
-  case_at o entry word =
-      if place_in text graph o.targets word == entry
-      then case_by word (edge_along graph (Block (record { 0 = o.block }))
-      (record { kind = kinds.Case; to = Some (lands graph (Some word)) })) else unused
-
-  -- those of all entries
-  abbrev pub all_cases : Open → List Shape
-  all_cases o = map (λ (p : ℕ × ℕ). case_at o p.0 p.1) (enumerate_from 0 o.targets)
+  abbrev pub case_shape : ℕ → ℕ → Shape
+  case_shape block word =
+      case_by word (edge_along graph (Block (record { 0 = block }))
+      (record { kind = kinds.Case; to = Some (lands graph (Some word)) }))
 
 -- ---- open switches
 
@@ -230,37 +225,20 @@ abbrev pub save_by : Instr → Shape
 save_by (i.Load kind rd rs1 op2) = bare [] (exits.Saved (words_of (save_load_address rs1 op2)))
 save_by _ = bare [] exits.Behind
 
+-- ---- all of them
+
 module _ (text : Words) (graph : Graph) (table cases : ℕ) where
-  -- the images of so many words at a node
-  abbrev pub images_of : Node → ℕ → ℕ → List Shape
-  images_of node from count = map (image text graph (jumps_at text table) cases node) (range_with_len from count)
-
-  -- the landed copy of the comparison's block, and the block itself of the jump
-  abbrev pub open_pieces : Open → List Shape
-  open_pieces o =
-      let compare = o.switch.compare.0 in
-      let first = slice_index graph.blocks.firsts o.block in
-      let load = load_of text o in
-      images_of (Landed (record { 0 = compare })) (slice_index graph.blocks.firsts compare)
-      (block_size graph.blocks compare)
-      ++ images_of (Block (record { 0 = o.block })) first (load - first)
-      ++ save_by (decode_of (slice_index text.words load))
-      ∷ images_of (Block (record { 0 = o.block })) load (first + block_size graph.blocks o.block - load)
-
-  -- ---- all of them
-
-  abbrev pub images_in_order : List Shape
-  images_in_order =
-      map (λ word. image text graph (jumps_at text table) cases (node_in_order graph word) word)
-      (below (length text.words))
+  abbrev pub shape_of : Label → Shape
+  shape_of (labels.Image node word) = image text graph (jumps_at text table) cases node word
+  shape_of (labels.Save block load) = save_by (decode_of (slice_index text.words load))
+  shape_of (labels.Way edge) = way_shape text graph table edge (slice_get graph.edges edge)
+  shape_of (labels.Landing word) = landing text graph word
+  shape_of (labels.Case block word) = case_shape text graph table block word
+  shape_of labels.Spare = unused
+  shape_of labels.Foreign = bare [] exits.Foreign
 
   unfoldable pub shape_list : List Shape
-  shape_list =
-      images_in_order ++ all_ways text graph table
-      ++ map (landing text graph) (below (length text.words))
-      ++ flat_map open_pieces graph.opens
-      ++ flat_map (all_cases text graph table) graph.opens
-      ++ bare [] exits.Foreign ∷ []
+  shape_list = map shape_of (piece_labels text graph)
 
 -- where the snippet on each edge has these words
 abbrev pub piece_list : Words → Graph → ℕ → ℕ → (ℕ → List ℕ) → List (List Item)

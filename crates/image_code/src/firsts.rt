@@ -6,7 +6,7 @@ ghost use Rattle.std.specs.Option.{option_or};
 ghost use Rattle.indexmap.specs.IndexMap.{get};
 ghost use Rattle.cfg_normal.specs.Code.{IsEdgeIn, IsGraph};
 ghost use Rattle.cfg_normal.specs.Numbers.{node_numbers};
-ghost use Rattle.image_code.specs.Lookups.{AreFirst, AreFirstEdges, compare_place, first_mark, is_case, is_edge_at, jump_place, mark_at, mark_of, node_of_edge as node_of_edge_in, number_where, same_case};
+ghost use Rattle.image_code.specs.Lookups.{AreFirst, AreFirstEdges, first_mark, is_case, is_edge_at, jump_place, mark_at, mark_of, node_of_edge as node_of_edge_in, number_where, same_case};
 
 use cfg_blocks::EdgeKind;
 use cfg_normal::{Edge, FlowGraph, kind_number, node_number};
@@ -165,20 +165,6 @@ fn note_jumps(table: &mut [u32], graph: &FlowGraph) -> Result<(), NoMemory>
     Ok(())
 }
 
-// Notes them by the blocks of their comparisons.
-fn note_compares(table: &mut [u32], graph: &FlowGraph) -> Result<(), NoMemory>
-    requires graph { IsGraph graph.now }
-    requires long { length table.old ≡ length graph.now.blocks.firsts }
-    requires fresh { (n : ℕ) → slice_index table.old n ≡ 0 }
-    ensures { OnOk result (AreFirst (length graph.now.blocks.firsts) compare_place graph.now.opens table.new) }
-{
-    for (number, found) in graph.opens().iter().enumerate() {
-        let number = small(number as u64)?;
-        note_first(table, found.switch().compare.0 as usize, number);
-    }
-    Ok(())
-}
-
 /// The open switches, by the blocks of their jumps.
 pub(crate) fn first_jumps(alloc: Global, graph: &FlowGraph) -> Result<Vec<u32>, NoMemory>
     requires graph { IsGraph graph.now }
@@ -186,16 +172,5 @@ pub(crate) fn first_jumps(alloc: Global, graph: &FlowGraph) -> Result<Vec<u32>, 
 {
     let mut table = vec![in alloc; 0; graph.count() as usize]?;
     note_jumps(&mut table, graph)?;
-    Ok(table)
-}
-
-/// The first open switches, by the blocks of their comparisons.
-pub(crate) fn first_compares(alloc: Global, graph: &FlowGraph) -> Result<Vec<u32>, NoMemory>
-    requires graph { IsGraph graph.now }
-    ensures { IfOk result (λ table.
-        AreFirst (length graph.now.blocks.firsts) compare_place graph.now.opens table.items) }
-{
-    let mut table = vec![in alloc; 0; graph.count() as usize]?;
-    note_compares(&mut table, graph)?;
     Ok(table)
 }

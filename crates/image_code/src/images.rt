@@ -1,17 +1,16 @@
 //! The images of words.
 
-ghost use Rattle.std.specs.Prelude.{◌≡◌, ◌+◌, ◌-◌, ◌%◌, ◌^◌, ◌<◌, ◌≤◌, ◌++◌, if◌then◌else◌, IsTrue, false, [], length, map, option_to_list, slice_get, Some, IfOk, OnOk};
+ghost use Rattle.std.specs.Prelude.{◌≡◌, ◌+◌, ◌-◌, ◌^◌, ◌<◌, ◌≤◌, ◌++◌, if◌then◌else◌, IsTrue, false, [], length, map, option_to_list, slice_get, Some, IfOk, OnOk};
 ghost use Rattle.std.specs.List.{range_with_len};
-ghost use Rattle.cfg_blocks.specs.Blocks.{below, last_word as last_word_of};
+ghost use Rattle.cfg_blocks.specs.Blocks.{last_word as last_word_of};
 ghost use Rattle.cfg_blocks.specs.declared.EdgeKind.TheVariants.{Fall};
 ghost use Rattle.cfg_normal.specs.declared.Node.TheVariants.{Block};
 ghost use Rattle.cfg_normal.specs.Landings.{IsNumbered};
 ghost use Rattle.cfg_walk.specs.Walk.{edge_from, ends_block as ends_block_of};
 ghost use Rattle.image_code.specs.Lookups.{is_land};
 ghost use Rattle.image_code.specs.Made.{branch_image as branch_image_of, choice_of, distance_of, image as image_of, is_slots as is_slots_of, jump_by, jump_image_by, next_at as next_at_of, next_to, way_out as way_out_of};
-ghost use Rattle.image_code.specs.Numbered.{node_in_order};
-ghost use Rattle.image_code.specs.Private.{code_at};
-ghost use Rattle.image_code.specs.Shapes.{assembled};
+ghost use Rattle.image_code.specs.Labels.{Image, labels_in_order, node_in_order};
+ghost use Rattle.image_code.specs.Private.{pieces_for};
 ghost use Rattle.v8_encode.specs.Code.{op2_fits};
 
 use crate::maker::PieceMaker;
@@ -68,22 +67,6 @@ fn is_slots(text: &Text, word: WordNo) -> bool
     word.0 > 0 && is_transfer(text.word(WordNo(word.0 - 1)))
 }
 
-// Where control goes on after a word that is no transfer: at the image of the next word, or behind the text's last one
-// out of the text. After the slot's word of a transfer that is another piece, which may stand elsewhere.
-fn next_after(text: &Text, word: WordNo) -> Exit
-    requires word { word.0 < length text.now.words }
-    ensures { result ≡ next_to text.now word.0 }
-{
-    let words = text.len();
-    if word.0 + 1 >= words {
-        Exit::Far(text.address(WordNo(words)))
-    } else if is_slots(text, word) {
-        Exit::Piece(PieceNo(word.0 + 1))
-    } else {
-        Exit::Behind
-    }
-}
-
 // How far the word with the piece of a switch's first entry lies from that entry.
 fn distance(cases: Addr, first: u32, table: Addr) -> u32
     requires { first < 2 ^ 30 }
@@ -110,6 +93,22 @@ impl PieceMaker<'_> {
         }
     }
 
+    // Where control goes on after a word that is no transfer: at the image of the next word, or behind the text's last
+    // one out of the text. After the slot's word of a transfer that is another piece, which may stand elsewhere.
+    fn next_after(&self, word: WordNo) -> Exit
+        requires word { word.0 < length self.now.text.now.words }
+        ensures { result ≡ next_to self.now.text.now self.now.graph.now word.0 }
+    {
+        let words = self.text.len();
+        if word.0 + 1 >= words {
+            Exit::Far(self.text.address(WordNo(words)))
+        } else if is_slots(self.text, word) {
+            Exit::Piece(PieceNo(word.0 + 1))
+        } else {
+            Exit::Behind
+        }
+    }
+
     // Where control goes on at a node after a word that is no transfer: in a switch's own blocks, which end in
     // transfers, at the next word's image.
     fn next_at(&self, node: Node, word: WordNo) -> Exit
@@ -117,7 +116,7 @@ impl PieceMaker<'_> {
         ensures { result ≡ next_at_of self.now.text.now self.now.graph.now node word.0 }
     {
         if same_node(node, self.node_of(word, block_of(node))) {
-            next_after(self.text, word)
+            self.next_after(word)
         } else {
             Exit::Behind
         }
@@ -277,9 +276,7 @@ impl PieceMaker<'_> {
     /// Adds the images of the words in the order of the text.
     pub(crate) fn push_images(&self, alloc: Global, list: &mut Vec<Piece>) -> Result<(), NoMemory>
         ensures { OnOk result (list.new.items ≡ list.old.items
-            ++ assembled (code_at self.now.codes.now)
-            (map (λ word. image_of self.now.text.now self.now.graph.now self.now.jumps.0 self.now.cases.0
-            (node_in_order self.now.graph.now word) word) (below (length self.now.text.now.words)))) }
+            ++ pieces_for self.now (labels_in_order self.now.text.now self.now.graph.now)) }
     {
         let mut near = BlockNo(0);
         for word in 0..self.text.len() {
@@ -303,9 +300,7 @@ impl PieceMaker<'_> {
         requires node { IsNumbered (length self.now.graph.now.blocks.firsts) node }
         requires words { from + count ≤ length self.now.text.now.words }
         ensures { OnOk result (list.new.items ≡ list.old.items
-            ++ assembled (code_at self.now.codes.now)
-            (map (image_of self.now.text.now self.now.graph.now self.now.jumps.0 self.now.cases.0 node)
-            (range_with_len from count))) }
+            ++ pieces_for self.now (map (Image node) (range_with_len from count))) }
     {
         let _words = self.text.len();
         for word in from..from + count {

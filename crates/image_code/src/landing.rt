@@ -1,12 +1,12 @@
 //! The landings at words, and the pieces to which the table leads.
 
-ghost use Rattle.std.specs.Prelude.{◌≡◌, ◌++◌, length, map, option_to_list, Some, IfOk, OnOk};
+ghost use Rattle.std.specs.Prelude.{◌≡◌, ◌<◌, ◌++◌, length, map, option_to_list, Some, IfOk, OnOk};
 ghost use Rattle.cfg_blocks.specs.Blocks.{below};
 ghost use Rattle.cfg_normal.specs.Graph.{lands};
 ghost use Rattle.cfg_normal.specs.Landings.{IsNumbered};
 ghost use Rattle.image_code.specs.Made.{landing as landing_of, lands_at as lands_at_of};
-ghost use Rattle.image_code.specs.Private.{code_at};
-ghost use Rattle.image_code.specs.Shapes.{assembled};
+ghost use Rattle.image_code.specs.Labels.{Landing};
+ghost use Rattle.image_code.specs.Private.{pieces_for};
 ghost use Rattle.image_code.specs.Store.{operations_on};
 
 use crate::images::block_of;
@@ -38,6 +38,7 @@ impl PieceMaker<'_> {
     // The landing at a word and its node: the snippet of its node's landing, and the way to where control enters the
     // word there.
     fn landing(&self, word: WordNo, node: Node) -> Result<Shape, NoMemory>
+        requires word { word.0 < length self.now.text.now.words }
         requires node { node ≡ lands self.now.graph.now (Some word.0) }
         requires numbered { IsNumbered (length self.now.graph.now.blocks.firsts) node }
         ensures { IfOk result (λ p. p ≡ landing_of self.now.text.now self.now.graph.now word.0) }
@@ -50,8 +51,7 @@ impl PieceMaker<'_> {
     /// Adds the landings at the words.
     pub(crate) fn push_landings(&self, alloc: Global, list: &mut Vec<Piece>) -> Result<(), NoMemory>
         ensures { OnOk result (list.new.items ≡ list.old.items
-            ++ assembled (code_at self.now.codes.now)
-            (map (landing_of self.now.text.now self.now.graph.now) (below (length self.now.text.now.words)))) }
+            ++ pieces_for self.now (map Landing (below (length self.now.text.now.words)))) }
     {
         let mut near = BlockNo(0);
         for word in 0..self.text.len() {
@@ -68,6 +68,7 @@ impl PieceMaker<'_> {
     // The piece to which the table leads from a word, at the node where control lands that comes to it: where some
     // operation is made there its landing, and else where control enters its image.
     fn lands_at(&self, snips: &[Snippet], word: WordNo, node: Node) -> Result<PieceNo, NoMemory>
+        requires word { word.0 < length self.now.text.now.words }
         requires node { node ≡ lands self.now.graph.now (Some word.0) }
         requires numbered { IsNumbered (length self.now.graph.now.blocks.firsts) node }
         ensures { IfOk result (λ p. p.0 ≡ lands_at_of self.now.text.now self.now.graph.now snips.now word.0) }

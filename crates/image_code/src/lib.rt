@@ -5,6 +5,7 @@ ghost use Rattle.image_code.specs.Fit.{PiecesFit, PlacesSay};
 ghost use Rattle.image_code.specs.Made.{PiecesMakeImages};
 
 mod expansion;
+mod first_images;
 mod firsts;
 mod images;
 mod landing;

@@ -1,24 +1,24 @@
 //! The tables by which the numbers of edges and of pieces are found.
 
-ghost use Rattle.std.specs.Prelude.{◌≡◌, ◌+◌, ◌-◌, ◌^◌, ◌<◌, ◌≤◌, false, length, map, option_to_list, slice_get, slice_index, Some, All, IfOk};
+ghost use Rattle.std.specs.Prelude.{◌≡◌, ◌+◌, ◌-◌, ◌<◌, ◌≤◌, false, length, map, option_to_list, slice_get, slice_index, Some, All, IfOk};
 ghost use Rattle.std.specs.List.{position};
 ghost use Rattle.indexmap.specs.IndexMap.{get};
-ghost use Rattle.cfg_blocks.specs.Blocks.{below, size_of};
+ghost use Rattle.cfg_blocks.specs.Blocks.{below};
 ghost use Rattle.cfg_blocks.specs.declared.EdgeKind.TheVariants.{Case};
 ghost use Rattle.cfg_normal.specs.declared.Node.TheVariants.{Block};
 ghost use Rattle.cfg_normal.specs.Code.{IsEdgeIn, IsGraph};
 ghost use Rattle.cfg_normal.specs.Graph.{landings_of};
 ghost use Rattle.cfg_normal.specs.Opens.{Open, jumps_in};
 ghost use Rattle.cfg_normal.specs.Landings.{IsNumbered};
-ghost use Rattle.cfg_normal.specs.Numbers.{kind_number as kind_number_of, node_number as node_number_of};
+ghost use Rattle.cfg_normal.specs.Numbers.{kind_number as kind_number_of, node_number as node_number_of, node_numbers};
 ghost use Rattle.cfg_walk.specs.Walk.{edge_along, edge_from, landing_at};
 ghost use Rattle.image_code.specs.Loads.{load_of as load_in};
-ghost use Rattle.image_code.specs.Lookups.{AreFirst, AreFirstEdges, AreLookups, IsSource, compare_place, is_case, is_land, jump_place, mark_at, mark_of, same_case};
-ghost use Rattle.image_code.specs.Numbered.{compare_number, first_entry, jump_number, landing_count as landing_count_of, open_begin, edges_but_landings as edges_but_landings_of};
+ghost use Rattle.image_code.specs.Lookups.{AreFirst, AreFirstEdges, AreLookups, IsSource, is_case, is_land, jump_place, mark_at, mark_of, open_begin, same_case};
+ghost use Rattle.image_code.specs.Labels.{edges_but_landings as edges_but_landings_of, first_entry, jump_number, landing_count as landing_count_of};
 
+use crate::first_images::{first_images, is_jumps};
 use crate::firsts::{
-    CaseEdge, FirstCases, KindMarks, first_at, first_cases, first_compares, first_edges,
-    first_jumps, small,
+    CaseEdge, FirstCases, KindMarks, first_at, first_cases, first_edges, first_jumps, small,
 };
 use crate::loads::load_of;
 use crate::maker::PieceMaker;
@@ -27,8 +27,8 @@ use cfg_normal::{Edge, FlowGraph, Node, OpenSwitch, kind_number, node_number};
 use eel_base::{BlockNo, NoMemory, Text};
 use std::alloc::Global;
 
-/// Tables that find edges, open switches and pieces by their numbers. `edges`, `jumps` and `compares` are marks: an
-/// entry is one more than the number of the first item at its place, or 0 where there is none.
+/// Tables that find edges, open switches and pieces by their numbers. `edges` and `jumps` are marks: an entry is one more
+/// than the number of the first item at its place, or 0 where there is none.
 #[derive(Drop)]
 pub(crate) struct Lookups {
     /// The first edge of each kind that leaves a node, or the landing that leads to it, by the node's number.
@@ -37,12 +37,12 @@ pub(crate) struct Lookups {
     cases: FirstCases,
     /// The open switch whose jump ends a block, by the block's number.
     jumps: Vec<u32>,
-    /// The first open switch whose comparison stands in a block, by the block's number.
-    compares: Vec<u32>,
     /// How many edges are no landings. The landings come behind them.
     ways: usize,
-    /// The number of the first piece of each open switch; one more entry for the first piece of a Case edge.
-    begins: Vec<u32>,
+    /// The number of the piece where control enters the first word of a node, by the node's number.
+    images: Vec<u32>,
+    /// The number of the first piece behind those of open switches: the first one of a Case edge.
+    behind: u32,
     /// The text word of the load of each open switch.
     loads: Vec<u32>,
     /// The number of the first table entry of each open switch, where the entries of all tables are numbered in one
@@ -51,18 +51,6 @@ pub(crate) struct Lookups {
 }
 
 // ---- landings
-
-// Whether the jump of an open switch ends the block.
-fn is_jumps(graph: &FlowGraph, jumps: &[u32], block: BlockNo) -> bool
-    requires jumps { AreFirst (length graph.now.blocks.firsts) jump_place graph.now.opens jumps.now }
-    requires block { block.0 < length graph.now.blocks.firsts }
-    ensures { result ≡ jumps_in graph.now.opens block.0 }
-{
-    match first_at(jumps, block.0 as usize) {
-        Some(_) => true,
-        None => false,
-    }
-}
 
 // How many landings a block has.
 fn landings_at(graph: &FlowGraph, jumps: &[u32], block: BlockNo) -> usize
@@ -94,39 +82,6 @@ fn landing_count(graph: &FlowGraph, jumps: &[u32]) -> usize
 
 // ---- open switches
 
-// How many pieces one has.
-fn pieces_of(graph: &FlowGraph, found: &OpenSwitch) -> u64
-    requires compare { found.now.switch.compare.0 < length graph.now.blocks.firsts }
-    requires block { found.now.block < length graph.now.blocks.firsts }
-    ensures count { result ≡ size_of graph.now.blocks found.now.switch.compare.0
-        + size_of graph.now.blocks found.now.block + 1 }
-    ensures few { result < 2 ^ 34 }
-{
-    let compare = u64::from(graph.words(found.switch().compare));
-    compare + u64::from(graph.words(found.block())) + 1
-}
-
-// Where the pieces of each open switch begin, and where the last one's end.
-fn begins_of(
-    alloc: Global,
-    text: &Text,
-    graph: &FlowGraph,
-    ways: usize,
-) -> Result<Vec<u32>, NoMemory>
-    requires source { IsSource text.now graph.now }
-    requires ways { ways ≡ length (edges_but_landings_of graph.now) }
-    ensures { IfOk result (λ v. v.items ≡ map (open_begin text.now graph.now) (below (length graph.now.opens + 1))) }
-{
-    let mut begins = Vec::new(alloc);
-    let mut begin = u64::from(text.len()) + ways as u64 + u64::from(text.len());
-    begins.push(small(begin)?)?;
-    for found in graph.opens() {
-        begin += pieces_of(graph, found);
-        begins.push(small(begin)?)?;
-    }
-    Ok(begins)
-}
-
 // The number of the first entry of each, and how many entries all have.
 fn entries_of(alloc: Global, text: &Text, graph: &FlowGraph) -> Result<Vec<u32>, NoMemory>
     requires source { IsSource text.now graph.now }
@@ -154,39 +109,26 @@ fn loads_of(alloc: Global, text: &Text, graph: &FlowGraph) -> Result<Vec<u32>, N
     Ok(loads)
 }
 
-// The tables `edges`, `cases` and `compares`.
-fn firsts_of(
-    alloc: Global,
-    graph: &FlowGraph,
-) -> Result<(Vec<KindMarks>, FirstCases, Vec<u32>), NoMemory>
+// The tables of the edges: `edges` and `cases`.
+fn edges_of(alloc: Global, graph: &FlowGraph) -> Result<(Vec<KindMarks>, FirstCases), NoMemory>
     requires graph { IsGraph graph.now }
     ensures edges { IfOk result (λ tables. AreFirstEdges graph.now graph.now.edges tables.0.items) }
     ensures cases { IfOk result (λ tables. (case : CaseEdge) → get same_case tables.1 case ≡ position (is_case graph.now case) graph.now.edges) }
-    ensures compares { IfOk result (λ tables. AreFirst (length graph.now.blocks.firsts) compare_place graph.now.opens tables.2.items) }
 {
     let edges = first_edges(alloc, graph)?;
     let cases = first_cases(alloc, graph)?;
-    let compares = first_compares(alloc, graph)?;
-    Ok((edges, cases, compares))
+    Ok((edges, cases))
 }
 
-// The tables of open switches: `begins`, `loads` and `entries`.
-fn opens_of(
-    alloc: Global,
-    text: &Text,
-    graph: &FlowGraph,
-    ways: usize,
-) -> Result<(Vec<u32>, Vec<u32>, Vec<u32>), NoMemory>
+// The tables of open switches: `loads` and `entries`.
+fn opens_of(alloc: Global, text: &Text, graph: &FlowGraph) -> Result<(Vec<u32>, Vec<u32>), NoMemory>
     requires source { IsSource text.now graph.now }
-    requires ways { ways ≡ length (edges_but_landings_of graph.now) }
-    ensures begins { IfOk result (λ tables. tables.0.items ≡ map (open_begin text.now graph.now) (below (length graph.now.opens + 1))) }
-    ensures loads { IfOk result (λ tables. tables.1.items ≡ map (load_in text.now) graph.now.opens) }
-    ensures entries { IfOk result (λ tables. tables.2.items ≡ map (first_entry text.now graph.now) (below (length graph.now.opens + 1))) }
+    ensures loads { IfOk result (λ tables. tables.0.items ≡ map (load_in text.now) graph.now.opens) }
+    ensures entries { IfOk result (λ tables. tables.1.items ≡ map (first_entry text.now graph.now) (below (length graph.now.opens + 1))) }
 {
-    let begins = begins_of(alloc, text, graph, ways)?;
     let loads = loads_of(alloc, text, graph)?;
     let entries = entries_of(alloc, text, graph)?;
-    Ok((begins, loads, entries))
+    Ok((loads, entries))
 }
 
 /// Builds the tables of a text's graph.
@@ -199,15 +141,16 @@ pub(crate) fn lookups_of(alloc: Global, text: &Text, graph: &FlowGraph) -> Resul
         .edges()
         .len()
         .saturating_sub(landing_count(graph, &jumps));
-    let (edges, cases, compares) = firsts_of(alloc, graph)?;
-    let (begins, loads, entries) = opens_of(alloc, text, graph, ways)?;
+    let (edges, cases) = edges_of(alloc, graph)?;
+    let (images, behind) = first_images(alloc, text, graph, &jumps, ways)?;
+    let (loads, entries) = opens_of(alloc, text, graph)?;
     Ok(Lookups {
         edges,
         cases,
         jumps,
-        compares,
         ways,
-        begins,
+        images,
+        behind,
         loads,
         entries,
     })
@@ -282,14 +225,6 @@ impl<'a> PieceMaker<'a> {
         first_at(&self.lookups.jumps, block.0 as usize)
     }
 
-    /// The number of the first open switch whose comparison stands in the block.
-    pub(crate) fn compare_of(&self, block: BlockNo) -> Option<u32>
-        requires block { block.0 < length self.now.graph.now.blocks.firsts }
-        ensures { result ≡ compare_number self.now.text.now self.now.graph.now block.0 }
-    {
-        first_at(&self.lookups.compares, block.0 as usize)
-    }
-
     /// Whether the jump of an open switch ends the block.
     pub(crate) fn is_jumps(&self, block: BlockNo) -> bool
         requires block { block.0 < length self.now.graph.now.blocks.firsts }
@@ -298,12 +233,19 @@ impl<'a> PieceMaker<'a> {
         self.jump_of(block).is_some()
     }
 
-    /// Where the pieces of an open switch begin; behind the last one, those of Case edges.
-    pub(crate) fn begin(&self, number: usize) -> u32
-        requires number { number ≤ length self.now.graph.now.opens }
-        ensures { result ≡ open_begin self.now.text.now self.now.graph.now number }
+    /// The number of the piece where control enters the first word of the node with a number.
+    pub(crate) fn first_image(&self, node: u32) -> u32
+        requires node { node < node_numbers self.now.graph.now }
+        ensures { result ≡ slice_index self.now.lookups.now.images.items node }
     {
-        number_at(&self.lookups.begins, number)
+        number_at(&self.lookups.images, node as usize)
+    }
+
+    /// The number of the first piece behind those of open switches: the first one of a Case edge.
+    pub(crate) fn behind(&self) -> u32
+        ensures { result ≡ open_begin self.now.text.now self.now.graph.now (length self.now.graph.now.opens) }
+    {
+        self.lookups.behind
     }
 
     /// The number of the first entry of an open switch; behind the last one, how many entries there are.

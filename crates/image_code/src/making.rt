@@ -7,7 +7,7 @@ ghost use Rattle.cfg_normal.specs.Graph.{node_of};
 ghost use Rattle.image_code.specs.Codes.{CodeDoes};
 ghost use Rattle.image_code.specs.Graphs.{IsGraphOf};
 ghost use Rattle.image_code.specs.Made.{jumps_at, lands_at, piece_list};
-ghost use Rattle.image_code.specs.Numbered.{case_numbers, enter_number, foreign_number as foreign_number_of};
+ghost use Rattle.image_code.specs.Labels.{case_numbers, enter_number, foreign_number as foreign_number_of};
 ghost use Rattle.image_code.specs.Lookups.{AreFound};
 ghost use Rattle.image_code.specs.Private.{code_at, code_in};
 ghost use Rattle.image_code.specs.SnippetWords.{codes_of as codes_in};
@@ -17,7 +17,6 @@ ghost use Rattle.snippet_code.specs.Laws.{EndLow};
 use crate::expansion::{Codes, codes_of};
 use crate::lookups::{Lookups, lookups_of};
 use crate::maker::PieceMaker;
-use crate::numbering::piece;
 use crate::shape::{Exit, bare, push_piece};
 use addr_translate::table_size;
 use cfg_normal::{FlowGraph, Node};
@@ -69,17 +68,7 @@ fn jumps_of(text: &Text, table: Addr) -> Addr
 }
 
 impl PieceMaker<'_> {
-    // The foreign piece: the last one.
-    fn foreign_number(&self) -> Result<PieceNo, NoMemory>
-        ensures { IfOk result (λ p. p.0 ≡ foreign_number_of self.now.text.now self.now.graph.now) }
-    {
-        let count = self.graph.opens().len();
-        let begin = u64::from(self.begin(count));
-        piece(begin + u64::from(self.entry(count)))
-    }
-
     // Adds all pieces to an empty list, and answers the numbers of those of Case edges.
-    #[tactic(auto, unfolding(crate::specs::Made::shape_list))]
     fn push_all(&self, alloc: Global, list: &mut Vec<Piece>) -> Result<Vec<PieceNo>, NoMemory>
         requires empty { list.old.items ≡ [] }
         ensures list { OnOk result (list.new.items ≡ piece_list self.now.text.now self.now.graph.now self.now.table.0
@@ -113,7 +102,7 @@ impl PieceMaker<'_> {
         ensures cases { IfOk result (λ p. map (λ (n : PieceNo). n.0) p.cases.items
             ≡ case_numbers self.now.text.now self.now.graph.now) }
     {
-        let foreign = self.foreign_number()?;
+        let foreign = self.foreign()?;
         let mut list = Vec::with_capacity(alloc, foreign.0 as usize + 1)?;
         let cases = self.push_all(alloc, &mut list)?;
         let node = Node::Block(self.graph.holding(entry));

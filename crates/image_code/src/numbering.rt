@@ -1,12 +1,13 @@
 //! The numbers of pieces.
 
-ghost use Rattle.std.specs.Prelude.{◌≡◌, ◌<◌, ◌≤◌, length, slice_get, Some, IfOk};
+ghost use Rattle.std.specs.Prelude.{◌≡◌, ◌+◌, ◌-◌, ◌<◌, ◌^◌, length, IfOk};
 ghost use Rattle.cfg_normal.specs.Landings.{IsNumbered};
-ghost use Rattle.image_code.specs.Numbered.{at_open, compare_image as compare_image_of, compare_number, enter_number, jump_enter as jump_enter_of, jump_image as jump_image_of, jump_number};
+ghost use Rattle.image_code.specs.Labels.{enter_number, foreign_number as foreign_number_of};
+ghost use Rattle.image_code.specs.Lookups.{IsWordOf, saved_before, image_after};
 
 use crate::firsts::small;
 use crate::maker::PieceMaker;
-use cfg_normal::{Node, OpenSwitch};
+use cfg_normal::{Node, node_number};
 use eel_base::{BlockNo, NoMemory, PieceNo, WordNo};
 
 /// The piece with a number.
@@ -17,79 +18,55 @@ pub(crate) fn piece(number: u64) -> Result<PieceNo, NoMemory>
 }
 
 impl PieceMaker<'_> {
-    // The piece of a word at the landed copy of a comparison's block.
-    fn compare_piece(&self, number: usize, found: &OpenSwitch, word: WordNo) -> u64
-        requires found { slice_get self.now.graph.now.opens number ≡ Some found.now }
-        ensures { result ≡ compare_image_of self.now.text.now self.now.graph.now number found.now word.0 }
+    /// The foreign piece: the last one.
+    pub(crate) fn foreign(&self) -> Result<PieceNo, NoMemory>
+        ensures { IfOk result (λ p. p.0 ≡ foreign_number_of self.now.text.now self.now.graph.now) }
     {
-        let first = self.graph.first(found.switch().compare).0;
-        u64::from(self.begin(number)) + u64::from(word.0.saturating_sub(first))
+        let entries = self.entry(self.graph.opens().len());
+        piece(u64::from(self.behind()) + u64::from(entries))
     }
 
-    // The piece of a word at the block itself of a switch's jump.
-    fn jump_piece(&self, number: usize, found: &OpenSwitch, word: WordNo) -> u64
-        requires found { slice_get self.now.graph.now.opens number ≡ Some found.now }
-        ensures { result ≡ jump_image_of self.now.text.now self.now.graph.now number found.now word.0 }
-    {
-        let copy = u64::from(self.graph.words(found.switch().compare));
-        let first = self.graph.first(found.block()).0;
-        let saves_before = if word.0 < self.load(number) { 0 } else { 1 };
-        let begin = u64::from(self.begin(number)) + copy;
-        begin + u64::from(word.0.saturating_sub(first)) + saves_before
-    }
-
-    // The piece where control enters it.
-    fn jump_enter(&self, number: usize, found: &OpenSwitch, word: WordNo) -> u64
-        requires found { slice_get self.now.graph.now.opens number ≡ Some found.now }
-        ensures { result ≡ jump_enter_of self.now.text.now self.now.graph.now number found.now word.0 }
-    {
-        let image = self.jump_piece(number, found, word);
-        if word.0 == self.load(number) {
-            image.saturating_sub(1)
-        } else {
-            image
-        }
-    }
-
-    // The piece of a word where control enters a block itself.
-    fn enter_block(&self, block: BlockNo, word: WordNo) -> u64
+    // How many pieces of a block stand before a word's image and not for its words: behind the load of an open
+    // switch there is the one that saves the load's address.
+    fn saved_before(&self, block: BlockNo, word: WordNo) -> u64
         requires block { block.0 < length self.now.graph.now.blocks.firsts }
-        ensures { result ≡ at_open self.now.text.now self.now.graph.now (jump_enter_of self.now.text.now self.now.graph.now)
-            (jump_number self.now.text.now self.now.graph.now block.0) word.0 }
+        ensures { result ≡ saved_before self.now.text.now self.now.graph.now block.0 word.0 }
     {
-        let Some(number) = self.jump_of(block) else {
-            return u64::from(word.0);
-        };
-        match self.graph.opens().get(number as usize) {
-            Some(found) => self.jump_enter(number as usize, found, word),
-            None => u64::from(word.0),
+        match self.jump_of(block) {
+            Some(number) => {
+                if word.0 > self.load(number as usize) {
+                    1
+                } else {
+                    0
+                }
+            }
+            None => 0,
         }
     }
 
-    // The piece of a word where control enters a landed copy.
-    fn enter_copy(&self, block: BlockNo, word: WordNo) -> u64
-        requires block { block.0 < length self.now.graph.now.blocks.firsts }
-        ensures { result ≡ at_open self.now.text.now self.now.graph.now (compare_image_of self.now.text.now self.now.graph.now)
-            (compare_number self.now.text.now self.now.graph.now block.0) word.0 }
-    {
-        let Some(number) = self.compare_of(block) else {
-            return u64::from(word.0);
-        };
-        match self.graph.opens().get(number as usize) {
-            Some(found) => self.compare_piece(number as usize, found, word),
-            None => u64::from(word.0),
-        }
-    }
-
-    /// The piece of a word where control enters a node.
-    pub(crate) fn enter(&self, node: Node, word: WordNo) -> Result<PieceNo, NoMemory>
+    // The number of a word's image at a node, as if each piece of its block were for a word.
+    fn image_after(&self, node: Node, block: BlockNo, word: WordNo) -> u64
         requires node { IsNumbered (length self.now.graph.now.blocks.firsts) node }
+        requires block { block.0 < length self.now.graph.now.blocks.firsts }
+        ensures number { result ≡ image_after self.now.graph.now self.now.lookups.now.images.items node block.0 word.0 }
+        ensures few { result < 2 ^ 33 }
+    {
+        let first = self.first_image(node_number(self.graph, node));
+        u64::from(first) + u64::from(word.0.saturating_sub(self.graph.first(block).0))
+    }
+
+    /// The piece where control enters a word at a node whose block holds it.
+    pub(crate) fn enter(&self, node: Node, word: WordNo) -> Result<PieceNo, NoMemory>
+        requires { IsWordOf self.now.graph.now node word.0 }
         ensures { IfOk result (λ p. p.0 ≡ enter_number self.now.text.now self.now.graph.now node word.0) }
     {
         match node {
-            Node::Block(block) => piece(self.enter_block(block, word)),
-            Node::Landed(block) => piece(self.enter_copy(block, word)),
-            Node::X => Ok(PieceNo(0)),
+            Node::Block(block) => {
+                piece(self.image_after(node, block, word) + self.saved_before(block, word))
+            }
+            Node::Landed(block) => piece(self.image_after(node, block, word)),
+            // X has no words.
+            Node::X => self.foreign(),
         }
     }
 }

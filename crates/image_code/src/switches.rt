@@ -1,20 +1,15 @@
 //! The pieces of open switches, and of the entries of their tables.
 
-ghost use Rattle.std.specs.Prelude.{◌≡◌, ℕ, ◌+◌, ◌-◌, ◌<◌, ◌≤◌, ◌++◌, ◌==◌, ◌∷◌, ◌^◌, length, map, nat_eq, slice_get, slice_index, Some, IfOk, OnOk};
-ghost use Rattle.std.specs.List.{flat_map, position, range_with_len};
+ghost use Rattle.std.specs.Prelude.{◌≡◌, ℕ, ◌+◌, ◌-◌, ◌<◌, ◌≤◌, ◌++◌, ◌==◌, ◌^◌, length, map, nat_eq, slice_get, slice_index, Some, IfOk, OnOk};
+ghost use Rattle.std.specs.List.{flat_map, position};
 ghost use Rattle.std.specs.Option.{option_or};
 ghost use Rattle.indexmap.specs.IndexMap.{get};
-ghost use Rattle.v8_decode.specs.Words.{decode_of};
 ghost use Rattle.cfg_blocks.specs.Blocks.{size_of};
-ghost use Rattle.image_code.specs.Lookups.{number_where};
-ghost use Rattle.image_code.specs.Made.{case_at, case_by as case_by_of, all_cases, image, save_by, open_pieces};
-ghost use Rattle.image_code.specs.Numbered.{case_numbers, case_piece as case_piece_of, first_entry, open_begin, or_zero, place_in as place_in_of};
-ghost use Rattle.image_code.specs.Private.{code_at};
-ghost use Rattle.image_code.specs.Shapes.{assembled};
-ghost use Rattle.cfg_normal.specs.Graph.{lands as lands_of};
-ghost use Rattle.cfg_walk.specs.Walk.{edge_along};
+ghost use Rattle.image_code.specs.Lookups.{number_where, open_begin};
+ghost use Rattle.image_code.specs.Made.{case_shape, shape_of};
+ghost use Rattle.image_code.specs.Labels.{case_numbers, cases_of, entry_label, entry_labels, first_entry, or_zero, place_in as place_in_of, switch_labels};
+ghost use Rattle.image_code.specs.Private.{block_labels, pieces_for};
 ghost use Rattle.cfg_normal.specs.declared.Node.TheVariants.{Block};
-ghost use Rattle.cfg_blocks.specs.declared.EdgeKind.TheVariants.{Case};
 
 use crate::firsts::small;
 use crate::maker::PieceMaker;
@@ -75,14 +70,7 @@ impl PieceMaker<'_> {
         requires below { load
             < slice_index self.now.graph.now.blocks.firsts block.0 + size_of self.now.graph.now.blocks block.0 }
         ensures { OnOk result (list.new.items ≡ list.old.items
-            ++ assembled (code_at self.now.codes.now)
-            (map (image self.now.text.now self.now.graph.now self.now.jumps.0 self.now.cases.0 (Block block))
-            (range_with_len (slice_index self.now.graph.now.blocks.firsts block.0)
-            (load - slice_index self.now.graph.now.blocks.firsts block.0))
-            ++ save_by (decode_of (slice_index self.now.text.now.words load))
-            ∷ map (image self.now.text.now self.now.graph.now self.now.jumps.0 self.now.cases.0 (Block block))
-            (range_with_len load (slice_index self.now.graph.now.blocks.firsts block.0
-            + size_of self.now.graph.now.blocks block.0 - load)))) }
+            ++ pieces_for self.now (block_labels self.now.graph.now block.0 load)) }
     {
         let node = Node::Block(block);
         let first = self.graph.first(block).0;
@@ -108,8 +96,7 @@ impl PieceMaker<'_> {
     ) -> Result<(), NoMemory>
         requires found { slice_get self.now.graph.now.opens number ≡ Some found.now }
         ensures { OnOk result (list.new.items ≡ list.old.items
-            ++ assembled (code_at self.now.codes.now)
-            (open_pieces self.now.text.now self.now.graph.now self.now.table.0 self.now.cases.0 found.now)) }
+            ++ pieces_for self.now (switch_labels self.now.text.now self.now.graph.now found.now)) }
     {
         let compare = found.switch().compare;
         let from = self.graph.first(compare).0;
@@ -123,8 +110,7 @@ impl PieceMaker<'_> {
     /// Adds the pieces of open switches.
     pub(crate) fn push_opens(&self, alloc: Global, list: &mut Vec<Piece>) -> Result<(), NoMemory>
         ensures { OnOk result (list.new.items ≡ list.old.items
-            ++ assembled (code_at self.now.codes.now)
-            (flat_map (open_pieces self.now.text.now self.now.graph.now self.now.table.0 self.now.cases.0)
+            ++ pieces_for self.now (flat_map (switch_labels self.now.text.now self.now.graph.now)
             self.now.graph.now.opens)) }
     {
         for (number, found) in self.graph.opens().iter().enumerate() {
@@ -138,9 +124,8 @@ impl PieceMaker<'_> {
     // The way along the Case edge of a block to a word.
     fn case_by(&self, block: BlockNo, word: WordNo) -> Result<Shape, NoMemory>
         requires block { block.0 < length self.now.graph.now.blocks.firsts }
-        ensures { IfOk result (λ p. p ≡ case_by_of self.now.text.now self.now.graph.now self.now.table.0
-            word.0 (edge_along self.now.graph.now (Block block)
-            (record { kind = Case; to = Some (lands_of self.now.graph.now (Some word.0)) }))) }
+        requires word { word.0 < length self.now.text.now.words }
+        ensures { IfOk result (λ p. p ≡ case_shape self.now.text.now self.now.graph.now self.now.table.0 block.0 word.0) }
     {
         let to = self.graph.lands(word);
         let Some(number) = self.case_edge(block, to) else {
@@ -161,9 +146,10 @@ impl PieceMaker<'_> {
         word: WordNo,
     ) -> Result<Shape, NoMemory>
         requires block { found.now.block < length self.now.graph.now.blocks.firsts }
-        requires place { place ≡ place_in_of self.now.text.now self.now.graph.now found.now.targets word.0 }
-        ensures { IfOk result (λ p. p ≡ case_at self.now.text.now self.now.graph.now self.now.table.0
-            found.now entry word.0) }
+        requires place { place ≡ place_in_of found.now.targets word.0 }
+        requires word { word.0 < length self.now.text.now.words }
+        ensures { IfOk result (λ p. p ≡ shape_of self.now.text.now self.now.graph.now self.now.table.0 self.now.cases.0
+            (entry_label found.now entry word.0)) }
     {
         if place as usize == entry {
             self.case_by(found.block(), word)
@@ -183,16 +169,12 @@ impl PieceMaker<'_> {
     ) -> Result<(), NoMemory>
         requires found { slice_get self.now.graph.now.opens number ≡ Some found.now }
         ensures list { OnOk result (list.new.items ≡ list.old.items
-            ++ assembled (code_at self.now.codes.now)
-            (all_cases self.now.text.now self.now.graph.now self.now.table.0 found.now)) }
+            ++ pieces_for self.now (entry_labels found.now)) }
         ensures numbers { OnOk result (map (λ (n : PieceNo). n.0) numbers.new.items
             ≡ map (λ (n : PieceNo). n.0) numbers.old.items
-            ++ map (case_piece_of self.now.text.now self.now.graph.now number found.now) found.now.targets) }
+            ++ cases_of self.now.text.now self.now.graph.now found.now) }
     {
-        let count = self.graph.opens().len();
-        let begin = self.begin(count);
-        let before = self.entry(number);
-        let first = u64::from(begin) + u64::from(before);
+        let first = u64::from(self.behind()) + u64::from(self.entry(number));
         let places = first_entries(alloc, found.targets())?;
         self.push_entries(alloc, list, numbers, number, found, first, &places)?;
         Ok(())
@@ -215,11 +197,10 @@ impl PieceMaker<'_> {
         requires low { first < 2 ^ 33 }
         requires places { (word : ℕ) → get nat_eq places.now word ≡ position (λ t. t == word) found.now.targets }
         ensures list { OnOk result (list.new.items ≡ list.old.items
-            ++ assembled (code_at self.now.codes.now)
-            (all_cases self.now.text.now self.now.graph.now self.now.table.0 found.now)) }
+            ++ pieces_for self.now (entry_labels found.now)) }
         ensures numbers { OnOk result (map (λ (n : PieceNo). n.0) numbers.new.items
             ≡ map (λ (n : PieceNo). n.0) numbers.old.items
-            ++ map (case_piece_of self.now.text.now self.now.graph.now number found.now) found.now.targets) }
+            ++ cases_of self.now.text.now self.now.graph.now found.now) }
     {
         for (entry, word) in found.targets().iter().enumerate() {
             let place = place_in(places, word.0);
@@ -238,8 +219,7 @@ impl PieceMaker<'_> {
         list: &mut Vec<Piece>,
     ) -> Result<Vec<PieceNo>, NoMemory>
         ensures list { OnOk result (list.new.items ≡ list.old.items
-            ++ assembled (code_at self.now.codes.now)
-            (flat_map (all_cases self.now.text.now self.now.graph.now self.now.table.0) self.now.graph.now.opens)) }
+            ++ pieces_for self.now (flat_map entry_labels self.now.graph.now.opens)) }
         ensures numbers { IfOk result (λ v. map (λ (n : PieceNo). n.0) v.items
             ≡ case_numbers self.now.text.now self.now.graph.now) }
     {

@@ -1,12 +1,14 @@
 //! The ways along edges.
 
-ghost use Rattle.std.specs.Prelude.{◌≡◌, ◌+◌, ◌*◌, ◌^◌, ◌<◌, ◌%◌, ◌++◌, length, slice_index, IfOk, OnOk};
+ghost use Rattle.std.specs.Prelude.{◌≡◌, ◌+◌, ◌*◌, ◌^◌, ◌<◌, ◌%◌, ◌++◌, length, map, slice_index, IfOk, OnOk};
 ghost use Rattle.std.specs.Int.{w32, cast_unsigned};
 ghost use Rattle.cfg_normal.specs.Code.{IsEdgeIn, IsNodeIn};
 ghost use Rattle.cfg_walk.specs.Matches.{last_in as last_in_of, target_along, way_address};
-ghost use Rattle.image_code.specs.Made.{all_ways, first_word as first_word_of, goes_behind, goes_on, slot_copy as slot_copy_of, way_along, way_by as way_by_of};
-ghost use Rattle.image_code.specs.Private.{code_at};
-ghost use Rattle.image_code.specs.Shapes.{assembled};
+ghost use Rattle.image_code.specs.Made.{first_word as first_word_of, goes_behind, goes_on, slot_copy as slot_copy_of, way_along, way_by as way_by_of};
+ghost use Rattle.image_code.specs.Lookups.{IsReached};
+ghost use Rattle.image_code.specs.Labels.{Way, edges_but_landings};
+ghost use Rattle.image_code.specs.Private.{pieces_for};
+ghost use Rattle.cfg_blocks.specs.Blocks.{below};
 ghost use Rattle.v8_decode.specs.Words.{decode_of};
 
 use crate::images::last_word;
@@ -73,6 +75,7 @@ impl PieceMaker<'_> {
     // Where control goes on along an edge, to a word at its node.
     fn next_along(&self, edge: &Edge, to: WordNo) -> Result<Exit, NoMemory>
         requires edge { IsEdgeIn self.now.graph.now.blocks self.now.graph.now.opens edge.now }
+        requires to { IsReached self.now.graph.now edge.now.to to.0 }
         ensures { IfOk result (λ next. next ≡ goes_on self.now.text.now self.now.graph.now edge.now.to to.0
             (way_address self.now.text.now self.now.graph.now edge.now.from edge.now.kind)) }
     {
@@ -88,6 +91,7 @@ impl PieceMaker<'_> {
     // Where control goes on behind the copy of a slot's word.
     fn next_behind(&self, edge: &Edge, to: WordNo) -> Result<Exit, NoMemory>
         requires edge { IsEdgeIn self.now.graph.now.blocks self.now.graph.now.opens edge.now }
+        requires to { IsReached self.now.graph.now edge.now.to to.0 }
         ensures { IfOk result (λ next. next ≡ goes_behind self.now.text.now self.now.graph.now edge.now to.0) }
     {
         match edge.kind {
@@ -109,6 +113,7 @@ impl PieceMaker<'_> {
         to: WordNo,
     ) -> Result<Shape, NoMemory>
         requires edge { IsEdgeIn self.now.graph.now.blocks self.now.graph.now.opens edge.now }
+        requires to { IsReached self.now.graph.now edge.now.to to.0 }
         ensures { IfOk result (λ p. p ≡ slot_copy_of self.now.text.now self.now.graph.now self.now.table.0
             visit word number edge.now to.0) }
     {
@@ -123,6 +128,7 @@ impl PieceMaker<'_> {
     /// text has its place where the table begins.
     pub(crate) fn way_by(&self, number: u32, edge: &Edge, to: WordNo) -> Result<Shape, NoMemory>
         requires edge { IsEdgeIn self.now.graph.now.blocks self.now.graph.now.opens edge.now }
+        requires to { IsReached self.now.graph.now edge.now.to to.0 }
         ensures { IfOk result (λ p. p ≡ way_by_of self.now.text.now self.now.graph.now self.now.table.0
             number edge.now to.0 edge.now.slot) }
     {
@@ -154,8 +160,7 @@ impl PieceMaker<'_> {
     /// Adds the ways along the edges but for the landings.
     pub(crate) fn push_ways(&self, alloc: Global, list: &mut Vec<Piece>) -> Result<(), NoMemory>
         ensures { OnOk result (list.new.items ≡ list.old.items
-            ++ assembled (code_at self.now.codes.now)
-            (all_ways self.now.text.now self.now.graph.now self.now.table.0)) }
+            ++ pieces_for self.now (map Way (below (length (edges_but_landings self.now.graph.now))))) }
     {
         for (number, edge) in self.edges_but_landings().iter().enumerate() {
             let number = number as u32;

@@ -1,4 +1,4 @@
-use Rattle.edit_core.proofs.Whole.{edits_answer}
+use Rattle.edit_core.proofs.Induction.{edits_answer}
 use Rattle.edit_core.proofs.edits_answer.Goals as goal
 
 pub returns : goal.returns

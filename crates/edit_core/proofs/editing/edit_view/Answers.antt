@@ -5,7 +5,7 @@ use Rattle.edit_core.specs.Taken.{bound_of}
 use Rattle.edit_core.specs.Written.{IsTheEdit}
 use Rattle.edit_core.specs.Private.{plan_of}
 use Rattle.edit_core.proofs.Views.{can_edit, view_bound, view_can_do, view_is}
-use Rattle.edit_core.proofs.Faithful.{edited}
+use Rattle.edit_core.proofs.Edits.{edited}
 use Rattle.edit_core.proofs.Outwardly.{does_the_same}
 use Rattle.edit_core.proofs.RunsAlike.{edits_run_alike}
 use Rattle.edit_core.proofs.Steps.{original_fit}

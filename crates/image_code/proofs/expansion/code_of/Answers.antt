@@ -1,7 +1,5 @@
-use Rattle.std.proofs.Common.{◌≡◌, ◌≤◌, List, [], length, ◌∙◌, subst, sym, arith}
-use Rattle.std.proofs.lemmas.Bool.Decides.{nat_tests}
+use Rattle.image_code.proofs.Common.{◌≡◌, ◌≤◌, List, [], length, ◌∙◌, subst, sym, arith, nat_tests, Op}
 use Rattle.std.proofs.lemmas.List.{get_or_default, nil_from_length}
-use Rattle.snippets.specs.declared.snippet.Op.{Op}
 use Rattle.snippets.specs.Cells.{named_by}
 use Rattle.snippet_code.specs.Runs.{DoesJust}
 use Rattle.snippet_code.specs.Spills.{spills_of}

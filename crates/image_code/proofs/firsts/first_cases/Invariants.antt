@@ -1,5 +1,4 @@
-use Rattle.std.proofs.Common.{◌≡◌, take}
-use Rattle.std.specs.List.{position}
+use Rattle.image_code.proofs.Common.{◌≡◌, take, position}
 use Rattle.indexmap.specs.IndexMap.{get}
 use Rattle.image_code.specs.declared.firsts.CaseEdge.{CaseEdge}
 use Rattle.image_code.specs.Lookups.{is_case, same_case}

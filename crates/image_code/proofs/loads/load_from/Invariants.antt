@@ -1,5 +1,4 @@
-use Rattle.std.proofs.Common.{◌≡◌, ◌-◌, length}
-use Rattle.std.specs.List.{find, range_with_len}
+use Rattle.image_code.proofs.Common.{◌≡◌, ◌-◌, length, find, range_with_len}
 use Rattle.cfg_blocks.specs.Values.{followed}
 use Rattle.image_code.specs.Lookups.{loads_at}
 use Rattle.image_code.proofs.loads.load_from.Given as goal

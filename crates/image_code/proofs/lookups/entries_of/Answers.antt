@@ -1,7 +1,6 @@
-use Rattle.std.proofs.Common.{◌≡◌, ◌+◌, length, ap, ◌∙◌, arith}
-use Rattle.std.proofs.lemmas.List.{length-map}
+use Rattle.image_code.proofs.Common.{◌≡◌, ◌+◌, length, ap, ◌∙◌, arith, length-map}
 use Rattle.eel_base.specs.declared.numbers.WordNo.{WordNo}
-use Rattle.image_code.specs.Numbered.{first_entry}
+use Rattle.image_code.specs.Labels.{first_entry}
 use Rattle.image_code.proofs.NumberTables.{entry_more}
 use Rattle.image_code.proofs.Pushed.{pushed_alone}
 use Rattle.image_code.proofs.lookups.entries_of.Goals as goal

@@ -1,6 +1,5 @@
-use Rattle.std.proofs.Common.{◌≡◌, ◌+◌, ◌^◌, ◌<◌, map}
-use Rattle.cfg_blocks.specs.Blocks.{below}
-use Rattle.image_code.specs.Numbered.{first_entry}
+use Rattle.image_code.proofs.Common.{◌≡◌, ◌+◌, ◌^◌, ◌<◌, map, below}
+use Rattle.image_code.specs.Labels.{first_entry}
 use Rattle.image_code.proofs.lookups.entries_of.Given as goal
 
 abbrev pub invariant-loop-found : goal.invariant-loop-found

@@ -1,6 +1,4 @@
-use Rattle.std.proofs.Common.{◌≡◌, ◌*◌, ◌≤◌, length}
-use Rattle.std.specs.List.{flat_map}
-use Rattle.cfg_blocks.specs.Blocks.{below}
+use Rattle.image_code.proofs.Common.{◌≡◌, ◌*◌, ◌≤◌, length, flat_map, below}
 use Rattle.cfg_normal.specs.Graph.{landings_of}
 use Rattle.image_code.proofs.lookups.landing_count.Given as goal
 

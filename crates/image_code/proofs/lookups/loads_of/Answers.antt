@@ -1,7 +1,4 @@
-use Rattle.std.proofs.Common.{sym, subst}
-use Rattle.std.specs.List.{Contains}
-use Rattle.cfg_normal.specs.Opens.{Open}
-use Rattle.std.proofs.Common.{List}
+use Rattle.image_code.proofs.Common.{sym, subst, Contains, Open, List}
 use Rattle.image_code.proofs.lookups.loads_of.Goals as goal
 
 pub load_of-requires : goal.load_of-requires

@@ -1,10 +1,7 @@
-use Rattle.std.proofs.Common.{◌≡◌, Option, Some, None, List, [], ◌∷◌, ◌++◌, append_assoc, refl, ap, ◌∙◌}
-use Rattle.layout.specs.declared.items.Item.{Item}
+use Rattle.image_code.proofs.Common.{◌≡◌, Option, Some, None, List, [], ◌∷◌, ◌++◌, append_assoc, refl, ap, ◌∙◌, Item, Head, head_items, items_of, mark_items}
 use Rattle.layout.specs.declared.items.Item.TheVariants as it
-use Rattle.image_code.specs.declared.shape.Head.{Head}
 use Rattle.image_code.specs.declared.shape.Visit.{Visit}
 use Rattle.image_code.specs.Private.{code_at}
-use Rattle.image_code.specs.Shapes.{head_items, items_of, mark_items}
 use Rattle.image_code.proofs.shape.assemble.Goals as goal
 
 mark_first : (mark : Option (Visit × Head)) (rest : List Item) → mark_items mark [] ++ rest ≡ mark_items mark rest

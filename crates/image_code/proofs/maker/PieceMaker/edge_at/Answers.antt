@@ -1,23 +1,16 @@
-use Rattle.std.proofs.Common.{ℕ, ◌<◌, List, [], length, ap, ◌∙◌, arith}
-use Rattle.std.specs.Prelude.{slice_index}
+use Rattle.image_code.proofs.Common.{ℕ, ◌<◌, List, [], length, ap, ◌∙◌, arith, slice_index, node_number}
 use Rattle.std.specs.Coded.{le_prop}
 use Rattle.std.proofs.lemmas.List.{get_or_default}
-use Rattle.std.proofs.Math.Logic.{∥∥₁_elim}
-use Rattle.cfg_normal.specs.Numbers.{node_number}
 use Rattle.image_code.specs.Lookups.{mark_at}
+use Rattle.image_code.proofs.Found.{known}
 use Rattle.image_code.proofs.maker.PieceMaker.edge_at.Goals as goal
 
 pub returns : goal.returns
 returns c =
     let rows = c.args.self.now.lookups.now.edges.items in
     let within : c.node_number.result < length rows =
-    ∥∥₁_elim c.args.self.now.found le_prop (λ found. omega (
-      arith,
-      c.node_number.ensures.within,
-      found.lookups.edges.long,
-    )) in
-    c.first_at.ensures
-    ∙ ap (λ (row : List ℕ). slice_index row c.kind_number.result)
+    known c.args.self.now.found le_prop (λ _ l. omega (arith, c.node_number.ensures.within, l.edges.long)) in
+    c.first_at.ensures ∙ ap (λ (row : List ℕ). slice_index row c.kind_number.result)
     (c.index-row.ensures ∙ get_or_default rows c.node_number.result c.index-row.result.now [] within)
     ∙ ap (λ (n : ℕ). mark_at rows n c.kind_number.result) c.node_number.ensures.number
     ∙ ap (mark_at rows (node_number c.args.self.now.graph.now c.args.node)) c.kind_number.ensures.number

@@ -1,6 +1,4 @@
-use Rattle.std.proofs.Common.{◌==◌, ap, ◌∙◌}
-use Rattle.std.specs.Option.{is_some}
-use Rattle.cfg_normal.specs.Opens.{Open}
+use Rattle.image_code.proofs.Common.{◌==◌, ap, ◌∙◌, is_some, Open}
 use Rattle.image_code.proofs.EdgeTables.{some_is_any}
 use Rattle.image_code.proofs.maker.PieceMaker.is_jumps.Goals as goal
 

@@ -1,6 +1,4 @@
-use Rattle.std.proofs.Common.{◌==◌, List, ℕ, ap, ◌∙◌}
-use Rattle.std.specs.Prelude.{slice_index}
-use Rattle.cfg_normal.specs.Opens.{Open}
+use Rattle.image_code.proofs.Common.{◌==◌, List, ℕ, ap, ◌∙◌, slice_index, Open}
 use Rattle.image_code.proofs.Found.{first_found}
 use Rattle.image_code.proofs.maker.PieceMaker.jump_of.Goals as goal
 

@@ -1,5 +1,4 @@
-use Rattle.std.proofs.Common.{map, ap}
-use Rattle.eel_base.specs.declared.numbers.PieceNo.{PieceNo}
+use Rattle.image_code.proofs.Common.{map, ap, PieceNo}
 use Rattle.image_code.specs.Made.{lands_at}
 use Rattle.image_code.proofs.Pushed.{pushed_number}
 use Rattle.image_code.proofs.maker.PieceMaker.landings.Goals as goal

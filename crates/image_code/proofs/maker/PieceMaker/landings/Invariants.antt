@@ -1,6 +1,4 @@
-use Rattle.std.proofs.Common.{◌≡◌, map}
-use Rattle.eel_base.specs.declared.numbers.PieceNo.{PieceNo}
-use Rattle.cfg_blocks.specs.Blocks.{below}
+use Rattle.image_code.proofs.Common.{◌≡◌, map, PieceNo, below}
 use Rattle.image_code.specs.Made.{lands_at}
 use Rattle.image_code.proofs.maker.PieceMaker.landings.Given as goal
 

@@ -1,10 +1,11 @@
-use Rattle.std.proofs.Common.{append_assoc}
-use Rattle.image_code.proofs.Common.{map-append}
+use Rattle.image_code.proofs.Common.{append_assoc, map-append}
+use Rattle.std.proofs.lemmas.Simd.{map-map}
+use Rattle.image_code.specs.Labels.{piece_labels}
 use Rattle.image_code.specs.Made.{shape_list}
 use Rattle.image_code.proofs.maker.PieceMaker.push_all.Goals as goal
 
 pub returns-clause-list : goal.returns-clause-list
-unfolding shape_list
+unfolding piece_labels shape_list
 returns-clause-list c =
     rw (
       c.in_ok-push_piece.ensures,
@@ -15,6 +16,5 @@ returns-clause-list c =
       c.in_ok-push_ways.ensures,
       c.in_ok-push_images.ensures,
       c.requires.empty,
-      c.args.self.now.behind,
     )
-    (simp (append_assoc, map-append))
+    (simp (append_assoc, map-append, map-map))

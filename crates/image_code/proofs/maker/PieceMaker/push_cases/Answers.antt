@@ -2,10 +2,8 @@ use Rattle.std.proofs.Common.{◌++◌, map, Some, ap, sym, ◌∙◌}
 use Rattle.std.proofs.lemmas.Option.{slice_get-get_or}
 use Rattle.eel_base.specs.declared.numbers.PieceNo.{PieceNo}
 use Rattle.cfg_normal.specs.Opens.{Open}
-use Rattle.image_code.specs.Made.{all_cases}
-use Rattle.image_code.specs.Numbered.{case_piece}
-use Rattle.image_code.specs.Private.{code_at}
-use Rattle.image_code.specs.Shapes.{assembled, items_of}
+use Rattle.image_code.specs.Private.{piece_for, pieces_for}
+use Rattle.image_code.specs.Labels.{cases_of, entry_labels}
 use Rattle.image_code.proofs.CasePieces.{numbers_pushed}
 use Rattle.image_code.proofs.Pushed.{pushed_all}
 use Rattle.image_code.proofs.maker.PieceMaker.push_cases.Goals as goal
@@ -17,19 +15,17 @@ loop-number-preserved c =
     let graph = maker.graph.now in
     let opens = c.opens-found-items.result.now in
     let n = c.loop-number.number in
-    let codes = code_at maker.codes.now in
-    let cases = all_cases text graph maker.table.0 in
     record {
-      list = pushed_all (items_of codes) c.args.list.now.items c.loop-number.list.items
-          c.push_cases_of.new.list.items cases opens n c.found-item.result c.loop-number-test.true
+      list = pushed_all (piece_for maker) c.args.list.now.items c.loop-number.list.items
+          c.push_cases_of.new.list.items entry_labels opens n c.found-item.result c.loop-number-test.true
           (c.in_ok-push_cases_of.ensures.list
-          ∙ ap (λ (o : Open). c.loop-number.list.items ++ assembled codes (cases o)) c.found-item.is)
+          ∙ ap (λ (o : Open). c.loop-number.list.items ++ pieces_for maker (entry_labels o)) c.found-item.is)
           c.loop-number.invariant.list;
       numbers = numbers_pushed text graph opens n c.found-item.result c.loop-number.numbers.items
           c.push_cases_of.new.numbers.items c.loop-number-test.true
           (c.in_ok-push_cases_of.ensures.numbers
           ∙ ap (λ (o : Open). map (λ (n : PieceNo). n.0) c.loop-number.numbers.items
-          ++ map (case_piece text graph n o) o.targets) c.found-item.is)
+          ++ cases_of text graph o) c.found-item.is)
           c.loop-number.invariant.numbers;
     }
 

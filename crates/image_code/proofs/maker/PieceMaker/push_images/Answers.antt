@@ -1,8 +1,10 @@
-use Rattle.std.proofs.Common.{append-nil, ap, sym, ◌∙◌}
-use Rattle.image_code.specs.Made.{image}
-use Rattle.image_code.specs.Numbered.{node_in_order}
-use Rattle.image_code.specs.Private.{code_at}
-use Rattle.image_code.specs.Shapes.{items_of}
+use Rattle.std.proofs.Common.{append-nil, ap, sym, ◌∙◌, ◌++◌, ◌∷◌, [], ℕ}
+use Rattle.cfg_normal.specs.declared.Node.{Node}
+use Rattle.image_code.specs.Labels.{Image, node_in_order}
+use Rattle.image_code.specs.Made.{image, jumps_at}
+use Rattle.image_code.specs.Private.{code_at, piece_for}
+use Rattle.image_code.specs.Shapes.{Shape, items_of}
+use Rattle.image_code.proofs.Common.{refl}
 use Rattle.image_code.proofs.Pushed.{pushed_below}
 use Rattle.image_code.proofs.maker.PieceMaker.push_images.Goals as goal
 
@@ -12,9 +14,13 @@ loop-word-init c = sym (append-nil c.args.list.now.items)
 pub loop-word-preserved : goal.loop-word-preserved
 loop-word-preserved c =
     let maker = c.args.self.now in
-    let image_at = image maker.text.now maker.graph.now maker.jumps.0 maker.cases.0 in
-    pushed_below (items_of (code_at maker.codes.now)) c.args.list.now.items c.loop-word.list.items
-    c.push_piece.new.list.items (λ word. image_at (node_in_order maker.graph.now word) word) c.loop-word.word _
-    c.in_ok-push_piece.ensures
-    (c.in_ok-image.ensures ∙ ap (λ node. image_at node c.loop-word.word) c.node_of-node.ensures.node)
-    c.loop-word.invariant
+    let graph = maker.graph.now in
+    let word = c.loop-word.word in
+    pushed_below (piece_for maker) c.args.list.now.items c.loop-word.list.items c.push_piece.new.list.items
+    (λ word. Image (node_in_order graph word) word) word _
+    (c.in_ok-push_piece.ensures
+    ∙ ap (λ (s : Shape). c.loop-word.list.items ++ items_of (code_at maker.codes.now) s ∷ []) (c.in_ok-image.ensures
+    ∙ ap (λ (jumps : ℕ). image maker.text.now graph jumps maker.cases.0 c.node_of-node.result word) maker.behind
+    ∙ ap (λ (node : Node). image maker.text.now graph (jumps_at maker.text.now maker.table.0) maker.cases.0 node word)
+    c.node_of-node.ensures.node))
+    refl c.loop-word.invariant

@@ -1,7 +1,8 @@
-use Rattle.std.proofs.Common.{append-nil, sym}
-use Rattle.image_code.specs.Made.{landing}
-use Rattle.image_code.specs.Private.{code_at}
-use Rattle.image_code.specs.Shapes.{items_of}
+use Rattle.std.proofs.Common.{append-nil, ap, sym, ◌∙◌, ◌++◌, ◌∷◌, []}
+use Rattle.image_code.specs.Labels.{Landing}
+use Rattle.image_code.specs.Private.{code_at, piece_for}
+use Rattle.image_code.specs.Shapes.{Shape, items_of}
+use Rattle.image_code.proofs.Common.{refl}
 use Rattle.image_code.proofs.Pushed.{pushed_below}
 use Rattle.image_code.proofs.maker.PieceMaker.push_landings.Goals as goal
 
@@ -11,6 +12,8 @@ loop-word-init c = sym (append-nil c.args.list.now.items)
 pub loop-word-preserved : goal.loop-word-preserved
 loop-word-preserved c =
     let maker = c.args.self.now in
-    pushed_below (items_of (code_at maker.codes.now)) c.args.list.now.items c.loop-word.list.items
-    c.push_piece.new.list.items (landing maker.text.now maker.graph.now) c.loop-word.word _ c.in_ok-push_piece.ensures
-    (c.in_ok-landing.ensures) c.loop-word.invariant
+    pushed_below (piece_for maker) c.args.list.now.items c.loop-word.list.items c.push_piece.new.list.items Landing
+    c.loop-word.word _
+    (c.in_ok-push_piece.ensures
+    ∙ ap (λ (s : Shape). c.loop-word.list.items ++ items_of (code_at maker.codes.now) s ∷ []) c.in_ok-landing.ensures)
+    refl c.loop-word.invariant

@@ -1,13 +1,9 @@
-use Rattle.std.proofs.Common.{◌≡◌, ap, arith}
-use Rattle.std.specs.Prelude.{slice_index}
+use Rattle.image_code.proofs.Common.{ap, arith, slice_index, size_of, some_words}
 use Rattle.std.specs.Coded.{le_prop}
 use Rattle.std.proofs.Math.Logic.{∥∥₁_elim}
 use Rattle.cfg_blocks.specs.declared.switches.Switch.{Switch}
-use Rattle.cfg_blocks.specs.Blocks.{size_of}
-use Rattle.cfg_walk.proofs.Holding.{some_words}
-use Rattle.image_code.specs.Loads.{load_of}
-use Rattle.image_code.specs.Private.{code_at}
-use Rattle.image_code.proofs.Found.{found_stands}
+use Rattle.image_code.specs.Private.{piece_for}
+use Rattle.image_code.proofs.Found.{found_stands, known}
 use Rattle.image_code.proofs.NumberTables.{load_within}
 use Rattle.image_code.proofs.OpenPieces.{open_added}
 use Rattle.image_code.proofs.Sources.{open_stands}
@@ -30,12 +26,8 @@ push_images_at-requires-clause-node c =
 
 pub push_images_at-requires-clause-words : goal.push_images_at-requires-clause-words
 push_images_at-requires-clause-words c =
-    ∥∥₁_elim c.args.self.now.found le_prop (λ found. omega (
-      arith,
-      c.first-from.ensures.first,
-      c.words-count.ensures.within,
-      found.source.words,
-    ))
+    known c.args.self.now.found le_prop (λ g _.
+    omega (arith, c.first-from.ensures.first, c.words-count.ensures.within, g.cut.words))
 
 pub push_block-requires-clause-block : goal.push_block-requires-clause-block
 push_block-requires-clause-block c =
@@ -44,15 +36,11 @@ push_block-requires-clause-block c =
 
 pub push_block-requires-clause-above : goal.push_block-requires-clause-above
 push_block-requires-clause-above c =
-    let text = c.args.self.now.text.now in
     let blocks = c.args.self.now.graph.now.blocks in
     let o = c.args.found.now in
     found_stands c.args.self.now.found le_prop c.args.number o c.requires.found (λ stands.
-    let h = load_within text blocks o stands in
-    let same : c.load-load.result ≡ load_of text o = c.load-load.ensures o c.requires.found in
-    let at : slice_index blocks.firsts c.block.result.0 ≡ slice_index blocks.firsts o.block =
-    ap (slice_index blocks.firsts) c.block.ensures in
-    omega (arith, h.0, same, at))
+    let h = load_within c.args.self.now.text.now blocks o stands in
+    omega (arith, h.0, c.load-load.ensures o c.requires.found, ap (slice_index blocks.firsts) c.block.ensures))
 
 pub push_block-requires-clause-below : goal.push_block-requires-clause-below
 push_block-requires-clause-below c =
@@ -63,25 +51,16 @@ push_block-requires-clause-below c =
     ∥∥₁_elim c.args.self.now.found le_prop (λ found.
     let stands = open_stands text graph found.source c.args.number o c.requires.found in
     let h = load_within text blocks o stands in
-    let same : c.load-load.result ≡ load_of text o = c.load-load.ensures o c.requires.found in
-    let at : slice_index blocks.firsts c.block.result.0 ≡ slice_index blocks.firsts o.block =
-    ap (slice_index blocks.firsts) c.block.ensures in
-    let many : size_of blocks c.block.result.0 ≡ size_of blocks o.block = ap (size_of blocks) c.block.ensures in
-    omega (
-      arith,
-      h.1,
-      same,
-      at,
-      many,
-      some_words blocks.words blocks.firsts found.source.is_graph.firsts o.block stands.block,
-    ))
+    let same = c.block.ensures in
+    let some = some_words blocks.words blocks.firsts found.source.is_graph.firsts o.block stands.block in
+    let load = c.load-load.ensures o c.requires.found in
+    omega (arith, h.1, load, ap (slice_index blocks.firsts) same, ap (size_of blocks) same, some))
 
 pub returns : goal.returns
 returns c =
     let maker = c.args.self.now in
-    open_added maker.text.now maker.graph.now maker.table.0 maker.cases.0 (code_at maker.codes.now)
-    c.args.list.now.items c.args.found.now maker.jumps.0 c.first-from.result.0 c.words-count.result
-    c.block.result.0 c.load-load.result c.switch.result.compare c.push_images_at.new.list.items
-    c.push_block.new.list.items maker.behind (ap (λ (s : Switch). s.compare) c.switch.ensures)
+    open_added maker.text.now maker.graph.now (piece_for maker) c.args.list.now.items c.args.found.now
+    c.first-from.result.0 c.words-count.result c.block.result.0 c.load-load.result c.switch.result.compare
+    c.push_images_at.new.list.items c.push_block.new.list.items (ap (λ (s : Switch). s.compare) c.switch.ensures)
     c.first-from.ensures.first c.words-count.ensures.size c.block.ensures
     (c.load-load.ensures c.args.found.now c.requires.found) c.in_ok-push_images_at.ensures c.in_ok-push_block.ensures
