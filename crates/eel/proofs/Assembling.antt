@@ -1,6 +1,5 @@
 -- Words that are written, by the status.
-use Rattle.std.proofs.Common.{ℕ, List, lit≤}
-use Rattle.eel_said.specs.Outcome.{Outcome, BadLine, OutOfMemory, status_of}
+use Rattle.eel.proofs.Common.{ℕ, List, lit≤, Outcome, BadLine, OutOfMemory, status_of}
 use Rattle.eel_said.specs.declared.outcome.LineCause.TheVariants as causes
 use Rattle.eel_reports.specs.Answers.Words.{IsAssembled, IsNotListing, listing_limit, words_means}
 use Rattle.eel.proofs.Meanings.{IsBad, IsByStatus, bad}

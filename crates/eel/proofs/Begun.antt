@@ -1,10 +1,7 @@
 -- A program that isn't begun isn't run, with a dump or without one.
-use Rattle.std.proofs.Common.{◌≡◌, ℕ, inl, List}
-use Rattle.std.specs.Prelude.{Option, Some, None}
-use Rattle.eel_said.specs.Outcome.{Outcome}
-use Rattle.eel_said.specs.Shared.{Outside, IsQuiet}
+use Rattle.eel.proofs.Common.{◌≡◌, ℕ, inl, List, Option, Some, None, Outcome, Outside, IsQuiet, Runs, unfed, refused}
 use Rattle.eel_reports.specs.Code.{IsUnbegun, no_file, no_input, not_loaded}
-use Rattle.eel.specs.Answers.Dump.{Runs, unread, unfed, refused}
+use Rattle.eel.specs.Answers.Dump.{unread}
 
 pub not_run : (file : List ℕ) (limit : ℕ) (dump : Option (List ℕ)) (args : List (List ℕ)) (old new : Outside)
     (outcome : Outcome) → IsUnbegun file old.files new.files old.input new.input outcome → IsQuiet old new

@@ -1,18 +1,17 @@
 -- Cells in one loaded segment with leave to be read can be read at each moment of a run.
-use Rattle.std.proofs.Common.{◌≡◌, ℕ, zero, suc, ◌+◌, ◌*◌, ◌^◌, ◌≤◌, ◌==◌, ◌⊎◌, inl, inr, Bool, true, false, ◌&&◌, ◌||◌, not, nat_le, nat_lt, cond, List, [], ◌∷◌, ◌++◌, map, Option, Some, None, Result, Ok, Err, ◌%◌, if◌then◌else◌, refl, ap, sym, ◌∙◌, subst, arith}
+use Rattle.eel.proofs.Common.{◌≡◌, ℕ, zero, suc, ◌+◌, ◌*◌, ◌^◌, ◌≤◌, ◌==◌, ◌⊎◌, inl, inr, Bool, true, false, nat_lt, cond, List, [], ◌∷◌, ◌++◌, map, Option, Some, None, Result, Ok, Err, if◌then◌else◌, refl, ap, sym, ◌∙◌, subst, arith, list_any, option_map, load_fault, mappings, Notes, Ending, State, run, start_of, words_at, holds_cells}
+use Rattle.std.proofs.Common.{◌&&◌, ◌||◌, not, nat_le, ◌%◌}
 use Rattle.std.specs.Int.{from_be_bytes, w32}
-use Rattle.std.specs.List.{find, list_any}
-use Rattle.std.specs.Option.{option_map}
+use Rattle.std.specs.List.{find}
 use Rattle.std.proofs.lemmas.Bool.{and_cases, and_from, and_parts, eq-eqb, eqb-true, le-leb, leb-true, ltb-false, or_parts}
 use Rattle.std.proofs.lemmas.Bool.Decides.{nat_tests}
 use Rattle.std.proofs.lemmas.List.FromFn.{map-range_with_len_more}
 use Rattle.elf32_sparc.specs.declared.header.ProgramHeader.{ProgramHeader}
 use Rattle.elf32_sparc.specs.declared.program.Segment.{Segment}
 use Rattle.elf32_sparc.specs.Header.{end_of, has_flag, loadable, program_headers}
-use Rattle.elf32_sparc.specs.FileFault.{descends_from, has_disorder, has_memory_outside_a_run, is_last_page, leaves_room, load_fault}
-use Rattle.elf32_sparc.specs.Mapping.{mapping_of, mappings}
+use Rattle.elf32_sparc.specs.FileFault.{descends_from, has_disorder, has_memory_outside_a_run, is_last_page, leaves_room}
+use Rattle.elf32_sparc.specs.Mapping.{mapping_of}
 use Rattle.elf32_sparc.specs.Image.{segment_of}
-use Rattle.notes.specs.Format.{Notes}
 use Rattle.elf32_sparc.proofs.Loadable.{loadable_file}
 use Rattle.v8_decode.specs.declared.Instr.{Instr}
 use Rattle.v8_decode.specs.Words.{decode_of}
@@ -23,19 +22,15 @@ use Rattle.v8_memory.specs.Calls.{Loads, allowed, load_of}
 use Rattle.v8_memory.specs.Segments.{heap_room, heap_start, region_of}
 use Rattle.v8_memory.specs.Spans.{AllApart, Span}
 use Rattle.v8_memory.proofs.Same.{find-written}
-use Rattle.v8_step.specs.declared.Ending.{Ending}
-use Rattle.v8_step.specs.State.{State}
 use Rattle.v8_step.specs.Step.{act, on_word, step_of, unless_ended}
-use Rattle.v8_step.specs.Run.{run}
 use Rattle.v8_step.specs.Judged.{judged_by}
-use Rattle.v8_process.specs.Start.{program_name, stack_region, start_memory, start_of}
+use Rattle.v8_process.specs.Start.{program_name, stack_region, start_memory}
 use Rattle.code_runs.specs.Code.{CanLoad}
 use Rattle.code_runs.specs.StoredWords.{memory_word, word_in}
 use Rattle.v8_step.proofs.KeptOutside.{kept_act}
 use Rattle.code_runs.proofs.StoredWords.{shape}
-use Rattle.snippet_code.specs.Cells.{cell_at, words_at}
+use Rattle.snippet_code.specs.Cells.{cell_at}
 use Rattle.notes.specs.Rules.{AreNotes}
-use Rattle.edit_core.specs.Faithful.{holds_cells}
 use Rattle.exact_counts.specs.Stops.{length_told}
 use Rattle.eel.specs.Answers.Dump.{AreMapped}
 use Rattle.eel.specs.Cells.{KeepCells, has_cells}

@@ -1,20 +1,13 @@
 -- A run, with a dump or without one, by its status.
-use Rattle.std.proofs.Common.{◌≡◌, ◌≢◌, ℕ, ◌⊎◌, inl, inr, List, [], Option, Some, None, true, false, ◌≤◌, ap, refl, sym, subst, ◌∙◌, lit≤, arith}
+use Rattle.eel.proofs.Common.{◌≡◌, ◌≢◌, ℕ, ◌⊎◌, inl, inr, List, [], Option, Some, None, true, false, ◌≤◌, ap, refl, sym, subst, ◌∙◌, lit≤, arith, Holding, Rose, Notes, Ending, State, start_of, Outcome, Done, Stopped, BadNotes, OutOfMemory, DeviceFault, Stream, status_of, Feed, Outside, Store, outside, store, with_err, written_limit, IsRun, put-later, Runs, unfed, refused, ran}
 use Rattle.std.proofs.lemmas.Option.{none-some}
-use Rattle.eel_base.specs.Outside.{Holding, Rose}
-use Rattle.notes.specs.Format.{Notes}
-use Rattle.v8_step.specs.declared.Ending.{Ending}
-use Rattle.v8_step.specs.State.{State}
-use Rattle.v8_process.specs.Start.{start_of}
 use Rattle.v8_runner.specs.declared.Stop.{Stop}
 use Rattle.v8_runner.specs.declared.Stop.TheVariants.{Limit, Ended, SinkFault}
-use Rattle.eel_said.specs.Outcome.{Outcome, Done, Stopped, BadNotes, OutOfMemory, DeviceFault, Stream, status_of}
-use Rattle.eel_said.specs.Shared.{Feed, Outside, Store, WasRead, outside, store, with_err, written_limit}
-use Rattle.eel_reports.specs.Answers.Run.{HasRun, IsRun, WasBroken, WasFed}
+use Rattle.eel_said.specs.Shared.{WasRead}
+use Rattle.eel_reports.specs.Answers.Run.{HasRun, WasBroken, WasFed}
 use Rattle.eel_reports.specs.Code.{stopped_of}
-use Rattle.eel_reports.proofs.Later.{put-later}
 use Rattle.eel.specs.Private.{was_broken, IsPutAfter}
-use Rattle.eel.specs.Answers.Dump.{Runs, unread, unfed, refused, ran, AreUnmapped, HasGone, HasPutAll, HasStopped, IsDumped, IsNotBegun, IsNotNoted, dump_after, run_means}
+use Rattle.eel.specs.Answers.Dump.{unread, AreUnmapped, HasGone, HasPutAll, HasStopped, IsDumped, IsNotBegun, IsNotNoted, dump_after, run_means}
 use Rattle.eel.proofs.Meanings.{IsByStatus, IsBad, bad, refusal_is_bad, refusal_not_wanting, wanting_is_bad, unread_failed}
 use Rattle.eel.proofs.Restoring.{unnoted_is_bad}
 use Rattle.eel.proofs.Running.{not_run, ran_failed, ran_not_refused, unfed_failed}

@@ -1,15 +1,6 @@
 -- A file that was made with counters is a profile, and its notes have version 2.
-use Rattle.std.proofs.Common.{◌≡◌, ℕ, List, [], ap, sym, ◌∙◌, subst}
-use Rattle.std.specs.Prelude.{Ok}
-use Rattle.notes.specs.Format.{Notes, notes_of}
-use Rattle.cfg_view.specs.View.{view_of}
-use Rattle.exact_counts.specs.Profiles.{CountsOffTree}
-use Rattle.v8_step.specs.State.{AreBytes}
-use Rattle.exact_counts.specs.Laws.{IsProfiled}
-use Rattle.eel.specs.Answers.Profile.{plan_with}
-use Rattle.eel.specs.Answers.ExactCounts.{IsProfile}
+use Rattle.eel.proofs.Common.{◌≡◌, ℕ, List, [], ap, sym, ◌∙◌, subst, Ok, Notes, notes_of, view_of, CountsOffTree, AreBytes, IsProfiled, plan_with, IsProfile, IsProfileOf, profile_plan}
 use Rattle.eel.specs.Code.{EditsAreProfiles, IsMarkedProfile}
-use Rattle.eel.specs.Private.{IsProfileOf, profile_plan}
 use Rattle.eel.proofs.ExactProfiles.{is_profiled, off_tree, one_notes}
 
 is_profile : (marks weights original file : List ℕ) (notes : Notes) → (profile : IsMarkedProfile marks weights original file)

@@ -1,14 +1,8 @@
 -- An edit by a tool, by its status; and its lines, which are read once the file is.
-use Rattle.std.proofs.Common.{◌≡◌, ℕ, ◌≤◌, ◌⊎◌, inl, inr, List, [], subst, lit≤}
-use Rattle.std.specs.Prelude.{Option, Some, None}
-use Rattle.eel_base.specs.Outside.{Holding, IsMissing}
+use Rattle.eel.proofs.Common.{◌≡◌, ℕ, ◌≤◌, ◌⊎◌, inl, inr, List, [], subst, lit≤, Option, Some, None, Holding, IsMissing, Outcome, BadFile, BadLine, OutOfMemory, status_of, Store, edit_limit, store, Puts, unread, was_read, lines_of, read-later, unread-later}
 use Rattle.eel_said.specs.Command.{Tool}
-use Rattle.eel_said.specs.Outcome.{Outcome, BadFile, BadLine, NoRoom, OutOfMemory, status_of}
-use Rattle.eel_said.specs.Shared.{Store, edit_limit, store}
-use Rattle.eel_reports.specs.Answers.Steps.{Puts, unread, was_read}
-use Rattle.eel_reports.specs.Answers.Lines.{lines_of}
+use Rattle.eel_said.specs.Outcome.{NoRoom}
 use Rattle.eel_reports.specs.Code.{AreLines, AreUnread, AreWithin}
-use Rattle.eel_reports.proofs.Later.{read-later, unread-later}
 use Rattle.eel.specs.Answers.Tool.{AreMissing, Edits, IsEditBy, IsNotEdited, Takes, edit_means}
 use Rattle.eel.proofs.Meanings.{AreByStatus, IsBad, IsByStatus, bad, files_by_status}
 use Rattle.eel.proofs.Steps.{puts_by_status, reads_by_status}

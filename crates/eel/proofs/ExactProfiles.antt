@@ -1,25 +1,9 @@
 -- The counts of a profile are exact.
-use Rattle.std.proofs.Common.{◌≡◌, ℕ, ◌-◌, ◌<◌, List, [], refl, ap, sym, ◌∙◌, subst, arith}
-use Rattle.std.specs.Prelude.{Option, None, Result, Ok, Err}
-use Rattle.std.proofs.lemmas.List.{get_or-map, length-map}
-use Rattle.notes.specs.Format.{NoNotes, Notes, notes_of}
-use Rattle.v8_step.specs.State.{AreBytes}
-use Rattle.cfg_normal.specs.Graph.{Graph}
-use Rattle.dump_file.specs.Dump.{Dump}
-use Rattle.tool_kit.specs.Plans.{Plan}
-use Rattle.count_rebuild.specs.Answers.{AreCounts}
-use Rattle.edit_core.specs.Faithful.{HasGraph}
-use Rattle.edit_core.specs.RunsAlike.{HaveRunsAlike, visits_by}
-use Rattle.exact_counts.specs.Profiles.{CountsOffTree, counter_in, original_graph, counter_limit}
-use Rattle.exact_counts.specs.Laws.{IsProfiled, IsExact}
-use Rattle.exact_counts.proofs.Exact.{counts_are_exact}
+use Rattle.eel.proofs.Common.{◌≡◌, ℕ, ◌-◌, ◌<◌, List, [], refl, ap, sym, ◌∙◌, subst, arith, Option, None, Result, Ok, Err, get_or-map, length-map, Notes, notes_of, AreBytes, Graph, Dump, Plan, AreCounts, HasGraph, HaveRunsAlike, visits_by, CountsOffTree, counter_in, original_graph, counter_limit, IsProfiled, IsExact, counts_are_exact, start_of, dump_at, AreCells, plan_with, IsOfRun, IsProfile}
+use Rattle.notes.specs.Format.{NoNotes}
 use Rattle.exact_counts.proofs.Exits.{counts_of_exits_are_exact}
 use Rattle.exact_counts.proofs.Trees.{trees_make_profiles}
-use Rattle.v8_process.specs.Start.{start_of}
-use Rattle.exact_counts.specs.Stops.{dump_at}
-use Rattle.eel_reports.specs.Answers.Trees.{AreCells}
-use Rattle.eel.specs.Answers.Profile.{plan_with}
-use Rattle.eel.specs.Answers.ExactCounts.{AreExact, AreOfWholeRuns, IsOfRun, IsProfile}
+use Rattle.eel.specs.Answers.ExactCounts.{AreExact, AreOfWholeRuns}
 
 -- counters off a spanning tree are a profile's
 pub off_tree : (graph : Graph) (marks weights : List ℕ) (cells : List (Option ℕ)) → AreCells graph weights cells

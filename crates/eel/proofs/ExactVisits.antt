@@ -1,48 +1,32 @@
 -- The visits of a profile with every word marked are exact.
-use Rattle.std.proofs.Common.{◌≡◌, ◌≢◌, ℕ, zero, suc, ◌+◌, ◌-◌, ◌<◌, Bool, true, false, cond, List, length, refl, ap, sym, ◌∙◌, subst, arith}
-use Rattle.std.specs.Prelude.{Option, Some, None, Ok, ◌==◌, nat_lt, slice_index, unwrap_or}
-use Rattle.std.specs.List.{list_any}
-use Rattle.std.specs.Option.{option_map, option_or}
+use Rattle.eel.proofs.Common.{◌≡◌, ◌≢◌, ℕ, zero, suc, ◌+◌, ◌-◌, ◌<◌, Bool, true, false, cond, List, length, refl, ap, sym, ◌∙◌, subst, arith, Option, Some, None, Ok, ◌==◌, nat_lt, unwrap_or, list_any, option_map, fault, image_of, NoteEdge, Notes, node_at, notes_of, State, run, start_of, Graph, view_of, Plan, Dump, AreCounts, IsStop, edit_of, visits_by, image_text, IsProfiled, original_graph, notes_of_graph, edge_count, every_word, IsOfRun}
+use Rattle.std.specs.Prelude.{slice_index}
+use Rattle.std.specs.Option.{option_or}
 use Rattle.std.proofs.lemmas.Bool.{and_left, and_right, le-ltb}
 use Rattle.eel_base.specs.CodeText.{Words, address_of}
-use Rattle.elf32_sparc.specs.FileFault.{fault}
-use Rattle.elf32_sparc.specs.Image.{image_of}
-use Rattle.notes.specs.Format.{NoteEdge, NoteRange, Notes, holds, node_at, notes_of, range_at}
+use Rattle.notes.specs.Format.{NoteRange, holds, range_at}
 use Rattle.flows.specs.Flows.{weight_below, times}
-use Rattle.v8_step.specs.State.{State}
-use Rattle.v8_step.specs.Run.{run}
 use Rattle.two_runs.specs.Visits.{own_trail}
-use Rattle.v8_process.specs.Start.{start_of}
 use Rattle.cfg_blocks.specs.declared.EdgeKind.{EdgeKind}
 use Rattle.cfg_blocks.specs.declared.EdgeKind.TheVariants as kinds
 use Rattle.cfg_blocks.specs.Blocks.{holding_of}
 use Rattle.cfg_blocks.specs.Entries.{entered_of}
-use Rattle.cfg_normal.specs.Graph.{Graph}
-use Rattle.cfg_view.specs.View.{given_in, view_of}
+use Rattle.cfg_view.specs.View.{given_in}
 use Rattle.span_tree.specs.Links.{edge_at as own_edge}
-use Rattle.tool_kit.specs.Plans.{Plan}
 use Rattle.walk_counts.specs.Executions.{executions}
 use Rattle.walk_counts.specs.Counts.{last_node}
-use Rattle.dump_file.specs.Dump.{Dump}
-use Rattle.count_rebuild.specs.Answers.{AreCounts}
 use Rattle.cfg_normal.specs.Numbers.{kind_number as noted_kind, kind_number}
-use Rattle.edit_core.specs.RunsAlike.{IsStop, edit_of, visits_by}
-use Rattle.edit_core.proofs.Originals.{image_text}
-use Rattle.exact_counts.specs.Laws.{IsProfiled}
-use Rattle.exact_counts.specs.Profiles.{original_graph}
-use Rattle.exact_counts.proofs.Exact.{notes_of_graph}
-use Rattle.exact_counts.proofs.Noted.{AreNotesOf, edge_count, edge_is}
+use Rattle.exact_counts.proofs.Noted.{AreNotesOf, edge_is}
 use Rattle.instr_counts.specs.Answers.{AreVisits, begun_in}
 use Rattle.instr_counts.specs.Laws.{AreVisited, HasEach}
 use Rattle.instr_counts.specs.Matches.{AreNoted, Matches}
 use Rattle.instr_counts.specs.Visits.{AreSingle, finished, is_begun, leads_to, one_if, runs_slot, sum_where}
 use Rattle.instr_counts.proofs.Counted.{visits_are_counted}
 use Rattle.instr_counts.proofs.Single.{words_are_blocks}
-use Rattle.eel_reports.specs.Answers.Every.{every_view, every_word}
+use Rattle.eel_reports.specs.Answers.Every.{every_view}
 use Rattle.eel_reports.specs.Answers.Restore.{original_in}
 use Rattle.eel_reports.specs.Answers.Visits.{HasEveryWord}
 use Rattle.eel_reports.proofs.Marked.{leads_marked}
-use Rattle.eel.specs.Answers.ExactCounts.{IsOfRun}
 use Rattle.eel.specs.Answers.ExactVisits.{AreExactVisits}
 use Rattle.eel.proofs.ExactProfiles.{are_exact, is_profiled, one_notes}
 

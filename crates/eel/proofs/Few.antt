@@ -1,10 +1,6 @@
 -- The graph of a file without a fault has few edges, so that each can have a cell.
-use Rattle.std.proofs.Common.{◌≡◌, ℕ, ◌^◌, ◌≤◌, List, [], length, None, ap, arith}
-use Rattle.elf32_sparc.specs.FileFault.{fault}
-use Rattle.cfg_view.specs.View.{Seen, view_of}
-use Rattle.edit_core.proofs.Originals.{image_text}
+use Rattle.eel.proofs.Common.{◌≡◌, ℕ, ◌^◌, ◌≤◌, List, [], length, None, ap, arith, fault, Seen, view_of, image_text, plan_with}
 use Rattle.exact_counts.proofs.Little.{edges_few}
-use Rattle.eel.specs.Answers.Profile.{plan_with}
 
 pub few_edges : (bytes marks : List ℕ) (view : Seen) → view ≡ view_of bytes marks → fault bytes ≡ None
     → length view.graph.edges ≤ 2 ^ 22

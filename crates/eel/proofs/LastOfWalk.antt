@@ -1,41 +1,19 @@
 -- What the dump of a trace's run tells are the last edges of its original's walk.
-use Rattle.std.proofs.Common.{◌≡◌, ◌≢◌, ℕ, suc, ◌-◌, ◌<◌, List, [], ◌∷◌, length, refl, ap, sym, ◌∙◌, subst, arith}
-use Rattle.std.specs.Prelude.{◌==◌, if◌then◌else◌, Option, Some, None, Ok}
-use Rattle.std.specs.List.{All}
+use Rattle.eel.proofs.Common.{◌≡◌, ◌≢◌, ℕ, suc, ◌-◌, ◌<◌, List, [], ◌∷◌, length, refl, ap, sym, ◌∙◌, subst, arith, ◌==◌, if◌then◌else◌, Option, Some, None, Ok, All, get_or-map-range_with_len, length-map-range_with_len, image_of, NoteEdge, Notes, node_at, notes_of, Ending, State, AreBytes, run, IsUntouched, pages_of, AreArguments, start_of, Op, Edge, Graph, walk, Plan, Dump, Edit, HasGraph, HaveRunsAlike, IsStop, edit_of, visits_by, dump_at, RingFault, AreLast, IsRefused, view_of}
 use Rattle.std.proofs.lemmas.List.Elements.{All-weaker}
-use Rattle.std.proofs.lemmas.List.FromFn.{get_or-map-range_with_len, length-map-range_with_len}
-use Rattle.elf32_sparc.specs.Image.{image_of}
-use Rattle.notes.specs.Format.{NoteEdge, Notes, node_at, notes_of}
-use Rattle.v8_step.specs.declared.Ending.{Ending}
-use Rattle.v8_step.specs.State.{State, AreBytes}
-use Rattle.v8_step.specs.Run.{run}
-use Rattle.two_runs.specs.Needed.{IsUntouched}
-use Rattle.two_runs.specs.Visits.{pages_of}
-use Rattle.v8_process.specs.Arguments.{AreArguments}
-use Rattle.v8_process.specs.Start.{start_of}
-use Rattle.snippets.specs.declared.snippet.Op.{Op}
-use Rattle.cfg_normal.specs.declared.Edge.{Edge}
-use Rattle.cfg_normal.specs.Graph.{Graph}
-use Rattle.cfg_walk.specs.Walk.{walk}
 use Rattle.tool_kit.specs.declared.edge_ref.ToolKind.{ToolKind}
-use Rattle.tool_kit.specs.Plans.{Plan}
-use Rattle.dump_file.specs.Dump.{Dump}
-use Rattle.image_code.specs.Store.{Edit, snippet_on}
-use Rattle.edit_core.specs.Faithful.{HasGraph, note_edges}
-use Rattle.edit_core.specs.RunsAlike.{HaveRunsAlike, IsStop, TellsStep, edit_of, visits_by}
+use Rattle.image_code.specs.Store.{snippet_on}
+use Rattle.edit_core.specs.Faithful.{note_edges}
+use Rattle.edit_core.specs.RunsAlike.{TellsStep}
 use Rattle.edit_core.proofs.Eaches.{all_each}
-use Rattle.exact_counts.specs.Stops.{dump_at}
 use Rattle.exact_counts.proofs.Gone.{walk_within}
-use Rattle.edge_ring.specs.declared.fault.RingFault.{RingFault}
 use Rattle.edge_ring.specs.declared.fault.RingFault.TheVariants as faults
-use Rattle.edge_ring.specs.Answers.{AreLast}
-use Rattle.edge_ring.specs.Code.{IsRefused, IsRingOf}
+use Rattle.edge_ring.specs.Code.{IsRingOf}
 use Rattle.edge_ring.specs.Laws.{TellsTheLast}
 use Rattle.edge_ring.specs.Ring.{last_of, ring_on}
 use Rattle.edge_ring.specs.Traces.{IsTrace}
 use Rattle.edge_ring.proofs.Stores.{stores_are_rings}
 use Rattle.edge_ring.proofs.Told.{rings_tell}
-use Rattle.cfg_view.specs.View.{view_of}
 use Rattle.eel.specs.Answers.Edit.{edges_in}
 use Rattle.eel.specs.Code.{EditsAreTraces}
 use Rattle.eel.specs.Answers.LastEdges.{IsTraceOf}

@@ -1,9 +1,6 @@
 -- What is true of each command, by the status: the statements, and what all commands share.
-use Rattle.std.proofs.Common.{◌≡◌, ℕ, ◌≤◌, ◌⊎◌, inr, List, refl, ap, arith}
-use Rattle.eel_base.specs.Outside.{Rose, IsMissing}
-use Rattle.eel_said.specs.Outcome.{Outcome, Done, TooLong, OutOfMemory, DeviceFault, Stream, status_of}
-use Rattle.eel_said.specs.Shared.{Store, Outside, Meaning, with_err, IsUnread, IsPut, IsPrinted, HaveFailed, files_mean, prints_mean}
-use Rattle.eel.specs.Answers.{IsRefusal, IsUnchanged}
+use Rattle.eel.proofs.Common.{◌≡◌, ℕ, ◌≤◌, ◌⊎◌, inr, List, refl, ap, arith, Rose, IsMissing, Outcome, Done, TooLong, OutOfMemory, DeviceFault, Stream, status_of, Store, Outside, with_err, IsPrinted, HaveFailed, IsRefusal, IsUnchanged}
+use Rattle.eel_said.specs.Shared.{Meaning, IsUnread, IsPut, files_mean, prints_mean}
 
 pub record IsByStatus (m : Meaning) : Type 0 where
   pub refused : (old new : Outside) (outcome : Outcome) → m.follows old new outcome → IsRefusal (status_of outcome)

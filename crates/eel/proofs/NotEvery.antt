@@ -1,14 +1,6 @@
 -- A dump of a run of a profile with every word marked has visits, but where it stands between places, and for want of
 -- memory.
-use Rattle.std.proofs.Common.{◌≡◌, ℕ, List}
-use Rattle.std.specs.Prelude.{Ok}
-use Rattle.notes.specs.Format.{Notes, notes_of}
-use Rattle.dump_file.specs.Dump.{Dump}
-use Rattle.eel_said.specs.Outcome.{Outcome, NotEveryWord, NoProfile, NoCounts, OutOfMemory}
-use Rattle.eel_reports.specs.Answers.Counts.{IsUncounted}
-use Rattle.eel_reports.specs.Answers.Every.{every_word}
-use Rattle.eel_reports.specs.Answers.Visits.{IsUnvisited}
-use Rattle.eel.specs.Answers.ExactCounts.{IsOfRun, MayMiss}
+use Rattle.eel.proofs.Common.{◌≡◌, ℕ, List, Ok, Notes, notes_of, Dump, Outcome, NotEveryWord, NoProfile, NoCounts, OutOfMemory, IsUncounted, every_word, IsUnvisited, IsOfRun, MayMiss}
 use Rattle.eel.specs.Answers.ExactVisits.{AreSeldomUnvisited}
 use Rattle.eel.proofs.ExactVisits.{has_every_word}
 use Rattle.eel.proofs.Missed.{seldom_missed}

@@ -1,12 +1,8 @@
 -- Lines that are printed of a file, by the status.
-use Rattle.std.proofs.Common.{ℕ, List, lit≤}
-use Rattle.eel_base.specs.Outside.{IsMissing}
+use Rattle.eel.proofs.Common.{ℕ, List, lit≤, IsMissing, Outcome, BadFile, OutOfMemory, status_of, HaveFailed, edit_limit, Prints}
 use Rattle.eel_said.specs.declared.command.Shown.{Shown}
-use Rattle.eel_said.specs.Outcome.{Outcome, BadFile, OutOfMemory, status_of}
-use Rattle.eel_said.specs.Shared.{HaveFailed, edit_limit}
 use Rattle.eel_reports.specs.Answers.Files.{IsNotSound}
 use Rattle.eel_reports.specs.Answers.Print.{AreLinesOf, PrintsFile, show_means}
-use Rattle.eel_reports.specs.Answers.Steps.{Prints}
 use Rattle.eel.proofs.Meanings.{IsByStatus, IsBad, bad, prints_by_status}
 use Rattle.eel.proofs.Steps.{lines_printed, reads_printed}
 

@@ -1,15 +1,7 @@
 -- What is told of a run, by the status; and where it is told, it is exact.
-use Rattle.std.proofs.Common.{◌≡◌, ℕ, ◌⊎◌, inl, inr, List}
-use Rattle.std.specs.Prelude.{Ok}
-use Rattle.eel_base.specs.Outside.{IsMissing}
-use Rattle.notes.specs.Format.{Notes, notes_of}
-use Rattle.dump_file.specs.Dump.{Dump}
-use Rattle.eel_said.specs.declared.command.Report.{Report}
+use Rattle.eel.proofs.Common.{◌≡◌, ℕ, ◌⊎◌, inl, inr, List, Ok, IsMissing, Notes, notes_of, Dump, Report, Outside, Store, HaveFailed, written_limit, IsQuiet, Outcome, Prints, Reads}
 use Rattle.eel_said.specs.declared.command.Report.TheVariants as reports
-use Rattle.eel_said.specs.Shared.{Outside, Store, HaveFailed, written_limit, IsQuiet}
-use Rattle.eel_said.specs.Outcome.{Outcome}
 use Rattle.eel_reports.specs.Answers.Noted.{dump_limit}
-use Rattle.eel_reports.specs.Answers.Steps.{Prints, Reads}
 use Rattle.eel.specs.Answers.Report.{HasNone, IsExact, IsReported, Reports, Tell, report_means}
 use Rattle.eel.proofs.ExactProfiles.{are_exact, are_of_whole_runs}
 use Rattle.eel.proofs.ExactVisits.{exact_visits}

@@ -1,8 +1,5 @@
 -- A restored original, by its status.
-use Rattle.std.proofs.Common.{ℕ, List, lit≤}
-use Rattle.eel_said.specs.Outcome.{Outcome, NoNotes, BadNotes, OutOfMemory, status_of}
-use Rattle.eel_said.specs.Shared.{written_limit}
-use Rattle.eel_reports.specs.Answers.Noted.{IsUnnoted}
+use Rattle.eel.proofs.Common.{ℕ, List, lit≤, Outcome, NoNotes, BadNotes, OutOfMemory, status_of, written_limit, IsUnnoted}
 use Rattle.eel_reports.specs.Answers.Restore.{HasOriginal, restore_means}
 use Rattle.eel.proofs.Meanings.{IsBad, IsByStatus, bad}
 use Rattle.eel.proofs.Steps.{make_by_status}

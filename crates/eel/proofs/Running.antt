@@ -1,10 +1,6 @@
 -- The parts of a run, by the status.
-use Rattle.std.proofs.Common.{◌≡◌, ℕ, ◌⊎◌, List, refl, arith, lit≤}
-use Rattle.eel_base.specs.Outside.{Rose}
-use Rattle.v8_step.specs.State.{State}
-use Rattle.eel_said.specs.Outcome.{Outcome, Stopped, BadFile, TooLong, OutOfMemory, DeviceFault, Stream, status_of}
-use Rattle.eel_said.specs.Shared.{Feed}
-use Rattle.eel_reports.specs.Answers.Run.{IsRun, IsNotRun, IsUnfed}
+use Rattle.eel.proofs.Common.{◌≡◌, ℕ, ◌⊎◌, List, refl, arith, lit≤, Rose, State, Outcome, Stopped, BadFile, TooLong, OutOfMemory, DeviceFault, Stream, status_of, Feed, IsRun}
+use Rattle.eel_reports.specs.Answers.Run.{IsNotRun, IsUnfed}
 use Rattle.eel.proofs.Meanings.{IsBad, bad}
 
 pub not_run : (name bytes : List ℕ) (outcome : Outcome) → IsNotRun name bytes outcome → IsBad (status_of outcome)

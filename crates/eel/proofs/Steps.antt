@@ -1,9 +1,6 @@
 -- The steps of which commands are made, by the status.
-use Rattle.std.proofs.Common.{◌≡◌, ℕ, ◌⊎◌, inl, inr, List, ap}
-use Rattle.eel_base.specs.Outside.{IsMissing, Rose}
-use Rattle.eel_said.specs.Outcome.{Outcome, status_of}
-use Rattle.eel_said.specs.Shared.{Outside, Store, HaveFailed, IsQuiet}
-use Rattle.eel_reports.specs.Answers.Steps.{Makes, Prints, Puts, Reads, make_means, printed, put, unmade, unread, untold, was_read}
+use Rattle.eel.proofs.Common.{◌≡◌, ℕ, ◌⊎◌, inl, inr, List, ap, IsMissing, Rose, Outcome, status_of, Outside, Store, HaveFailed, IsQuiet, Prints, Puts, Reads, printed, put, unmade, unread, untold, was_read}
+use Rattle.eel_reports.specs.Answers.Steps.{Makes, make_means}
 use Rattle.eel.proofs.Meanings.{AreByStatus, ArePrintedByStatus, IsBad, IsByStatus, files_by_status, printed_failed, printed_not_refused, put_failed, put_refused, unread_failed}
 
 -- ---- a file is made

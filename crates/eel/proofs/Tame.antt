@@ -1,50 +1,32 @@
 -- Of a tame file a profile is made, and its run ends, and tells how often edges are completed.
-use Rattle.std.proofs.Common.{◌≡◌, ℕ, suc, ◌+◌, ◌-◌, ◌*◌, ◌^◌, ◌<◌, ◌≤◌, ◌==◌, ◌⊎◌, inl, inr, Bool, true, false, List, [], ◌∷◌, ◌++◌, append-nil, length, map, Some, None, Ok, refl, ap, sym, ◌∙◌, subst, arith}
-use Rattle.std.specs.Prelude.{if◌then◌else◌}
-use Rattle.std.specs.List.{All, list_any, sum}
+use Rattle.eel.proofs.Common.{◌≡◌, ℕ, suc, ◌+◌, ◌-◌, ◌*◌, ◌^◌, ◌<◌, ◌≤◌, ◌==◌, ◌⊎◌, inl, inr, Bool, true, false, List, [], ◌∷◌, ◌++◌, length, map, Some, None, Ok, refl, ap, sym, ◌∙◌, subst, arith, if◌then◌else◌, All, list_any, sum, load_fault, image_of, mappings, Notes, notes_of, Ending, State, run, IsUntouched, pages_of, AreArguments, walk, has_cell, Dump, Plan, CountFault, AreCounts, EditFault, holds_cells, edit_of, visits_by, Edit, IsProfiled, IsExact, MayRefuse, original_graph, counter_limit, dump_at, counts_are_exact, notes_of_graph, edge_count, IsProfileOf, guessed, profile_plan}
+use Rattle.std.proofs.Common.{append-nil}
 use Rattle.std.proofs.lemmas.Bool.{cases_lt, or_left, or_right}
 use Rattle.std.proofs.lemmas.List.Elements.{All-head, All-nil, All-tail}
 use Rattle.std.proofs.lemmas.List.Folds.{list_any-append}
-use Rattle.elf32_sparc.specs.FileFault.{load_fault}
-use Rattle.elf32_sparc.specs.Image.{image_of}
-use Rattle.elf32_sparc.specs.Mapping.{Mapping, mappings}
-use Rattle.notes.specs.Format.{Notes, NoteSegment, notes_of}
+use Rattle.elf32_sparc.specs.Mapping.{Mapping}
+use Rattle.notes.specs.Format.{NoteSegment}
 use Rattle.elf32_write.specs.Kept.{kept}
-use Rattle.v8_step.specs.declared.Ending.{Ending}
-use Rattle.v8_step.specs.State.{State}
-use Rattle.v8_step.specs.Run.{run}
-use Rattle.two_runs.specs.Needed.{IsUntouched}
-use Rattle.two_runs.specs.Visits.{page_of, pages_of}
-use Rattle.v8_process.specs.Arguments.{AreArguments}
-use Rattle.cfg_walk.specs.Walk.{end_of_walk, gone, point_of, unless_ended, walk}
-use Rattle.span_tree.specs.Cells.{has_cell}
+use Rattle.two_runs.specs.Visits.{page_of}
+use Rattle.cfg_walk.specs.Walk.{end_of_walk, gone, point_of, unless_ended}
 use Rattle.span_tree.proofs.LoopBounds.{counted_few}
-use Rattle.dump_file.specs.Dump.{Dump}
-use Rattle.tool_kit.specs.Plans.{Plan}
-use Rattle.count_rebuild.specs.declared.fault.CountFault.{CountFault}
 use Rattle.count_rebuild.specs.declared.fault.CountFault.TheVariants as count_faults
-use Rattle.count_rebuild.specs.Answers.{AreCounts}
 use Rattle.count_rebuild.specs.Code.{IsRefused}
-use Rattle.edit_core.specs.declared.requests.EditFault.{EditFault}
 use Rattle.edit_core.specs.declared.requests.EditFault.TheVariants as faults
-use Rattle.edit_core.specs.Faithful.{HasPages, IsInRoom, holds_cells, note_of}
+use Rattle.edit_core.specs.Faithful.{HasPages, IsInRoom, note_of}
 use Rattle.edit_core.specs.Cost.{TakesFewSteps}
-use Rattle.edit_core.specs.RunsAlike.{AreRunsAlike, edit_of, visits_by}
-use Rattle.image_code.specs.Store.{Edit}
-use Rattle.exact_counts.specs.Laws.{IsProfiled, EndsWithStep, IsOver, IsExact, MayRefuse}
-use Rattle.exact_counts.specs.Profiles.{original_graph, counter_limit}
+use Rattle.edit_core.specs.RunsAlike.{AreRunsAlike}
+use Rattle.exact_counts.specs.Laws.{EndsWithStep, IsOver}
 use Rattle.exact_counts.specs.Sizes.{HasEndedBy}
-use Rattle.exact_counts.specs.Stops.{dump_at}
 use Rattle.exact_counts.proofs.Ends.{ended_runs_tell}
-use Rattle.exact_counts.proofs.Exact.{begins_live, counts_are_exact, notes_of_graph}
+use Rattle.exact_counts.proofs.Exact.{begins_live}
 use Rattle.exact_counts.proofs.Little.{profiles_need_little}
-use Rattle.exact_counts.proofs.Noted.{edge_count}
 use Rattle.exact_counts.proofs.Soon.{profiles_end_soon}
 use Rattle.exact_counts.proofs.Totals.{executions_add_up}
 use Rattle.eel_reports.specs.Answers.Demo.{EndsAlone, alone, walk_alone}
 use Rattle.eel_reports.specs.Tame.{AreAbove, EndsWithin, IsTame}
 use Rattle.eel.specs.Answers.Dump.{IsNoted}
-use Rattle.eel.specs.Private.{IsProfileOf, ProfileRefuses, guessed, profile_plan, IsLastDump}
+use Rattle.eel.specs.Private.{ProfileRefuses, IsLastDump}
 use Rattle.eel.proofs.EditedProfiles.{edit_is_profiled}
 use Rattle.eel.proofs.ExactProfiles.{one_notes}
 

@@ -1,9 +1,6 @@
 -- A demonstration, by its status.
-use Rattle.std.proofs.Common.{◌≡◌, ℕ, ◌⊎◌, inl, inr, refl, ap, sym, subst, lit≤}
-use Rattle.eel_said.specs.Outcome.{Outcome, Done, DeviceFault, OutOfMemory, status_of}
-use Rattle.eel_said.specs.Shared.{Outside, IsPrinted}
+use Rattle.eel.proofs.Common.{◌≡◌, ℕ, ◌⊎◌, inl, inr, refl, ap, sym, subst, lit≤, Outcome, Done, DeviceFault, OutOfMemory, status_of, Outside, IsPrinted, printed, untold}
 use Rattle.eel_reports.specs.Answers.Demo.{IsTold, Tells, demo_means}
-use Rattle.eel_reports.specs.Answers.Steps.{printed, untold}
 use Rattle.eel.proofs.Meanings.{IsBad, IsByStatus, bad, prints_by_status}
 use Rattle.eel.proofs.Steps.{lines_printed}
 

@@ -1,18 +1,9 @@
 -- The edges that are told of a trace's run are the last ones, and they are told but where the run stands between places,
 -- and for want of memory.
-use Rattle.std.proofs.Common.{◌≡◌, ℕ, List, sym, subst}
-use Rattle.std.specs.Prelude.{Ok}
-use Rattle.notes.specs.Format.{Notes, notes_of}
-use Rattle.dump_file.specs.Dump.{Dump}
-use Rattle.edge_ring.specs.declared.fault.RingFault.{RingFault}
+use Rattle.eel.proofs.Common.{◌≡◌, ℕ, List, sym, subst, Ok, Notes, notes_of, Dump, RingFault, AreLast, IsRefused, CountCause, Outcome, NoTrace, NoCounts, BadCell, OutOfMemory, MayMiss, IsUntold}
 use Rattle.edge_ring.specs.declared.fault.RingFault.TheVariants as faults
-use Rattle.edge_ring.specs.Answers.{AreLast}
-use Rattle.edge_ring.specs.Code.{IsRefused}
-use Rattle.eel_said.specs.declared.outcome.CountCause.{CountCause}
 use Rattle.eel_said.specs.declared.outcome.CountCause.TheVariants as causes
-use Rattle.eel_said.specs.Outcome.{Outcome, NoTrace, NoCounts, BadCell, OutOfMemory}
-use Rattle.eel.specs.Answers.ExactCounts.{MayMiss}
-use Rattle.eel.specs.Answers.LastEdges.{AreSeldomUntold, AreTheLast, HasRingCause, IsOfTraced, IsUntold}
+use Rattle.eel.specs.Answers.LastEdges.{AreSeldomUntold, AreTheLast, HasRingCause, IsOfTraced}
 use Rattle.eel.proofs.LastOfWalk.{MayHide, hidden, last_told}
 
 pub are_the_last : (file : List ℕ) (notes : Notes) (dump : Dump) (edges : List ℕ) → notes_of file ≡ Ok notes

@@ -1,43 +1,35 @@
 -- What is put on edges is what its tool asks for, and so the edit by that is one as the words ask.
-use Rattle.std.proofs.Common.{◌≡◌, ℕ, zero, suc, ◌+◌, ◌*◌, ◌^◌, ◌<◌, ◌≤◌, if◌then◌else◌, List, [], ◌∷◌, length, map, Option, Some, None, Result, Ok, Err, refl, ap, sym, subst, ◌∙◌, arith}
-use Rattle.std.specs.Prelude.{IfErr, IfOk, get_or, unwrap_or}
+use Rattle.eel.proofs.Common.{◌≡◌, ℕ, zero, suc, ◌+◌, ◌*◌, ◌^◌, ◌<◌, ◌≤◌, if◌then◌else◌, List, [], ◌∷◌, length, map, Option, Some, None, Result, Ok, Err, refl, ap, sym, subst, ◌∙◌, arith, get_or, unwrap_or, get_or-map, length-map, get_or-map-range_with_len, length-map-range_with_len, Op, has_cell, Edge, Plan, IsSound, Seen, view_of, EditFault, counter_in, AreCells, IsProfileOf, MayAsk, Says, guessed}
+use Rattle.std.specs.Prelude.{IfErr, IfOk}
 use Rattle.std.specs.List.{range_with_len}
 use Rattle.std.specs.Option.{is_some}
 use Rattle.std.proofs.Math.Nat.{pow-le-pow_right}
-use Rattle.std.proofs.lemmas.List.{ext_get_or, get_or-map, length-map}
-use Rattle.std.proofs.lemmas.List.FromFn.{get_or-map-range_with_len, length-map-range_with_len}
+use Rattle.std.proofs.lemmas.List.{ext_get_or}
 use Rattle.std.proofs.lemmas.Option.{slice_get-get_or}
 use Rattle.eel_base.specs.declared.numbers.WordNo.{WordNo}
 use Rattle.flows.specs.Flows.{EdgeSet, count_below}
-use Rattle.snippets.specs.declared.snippet.Op.{Op}
 use Rattle.snippets.specs.declared.snippet.Op.TheVariants.{Count}
-use Rattle.span_tree.specs.Cells.{AreNumbered, cell_at, cell_count, has_cell}
+use Rattle.span_tree.specs.Cells.{AreNumbered, cell_at, cell_count}
 use Rattle.span_tree.specs.Links.{no_edge}
 use Rattle.span_tree.specs.Weights.{weights_of}
 use Rattle.weights_in.specs.Weights.{AreWeights}
-use Rattle.cfg_normal.specs.declared.Edge.{Edge}
 use Rattle.tool_kit.specs.declared.edge_ref.EdgeRef.{EdgeRef}
 use Rattle.tool_kit.specs.declared.edge_ref.ToolKind.TheVariants as kinds
 use Rattle.tool_kit.specs.Kept.{Kept}
 use Rattle.tool_kit.specs.Code.{AreAnswers, numbered}
-use Rattle.tool_kit.specs.Plans.{AreCounters, Plan}
-use Rattle.tool_kit.specs.Sound.{IsSound}
+use Rattle.tool_kit.specs.Plans.{AreCounters}
 use Rattle.cfg_blocks.specs.Marks.{numbers}
-use Rattle.cfg_view.specs.View.{Seen, view_of}
-use Rattle.edit_core.specs.declared.requests.EditFault.{EditFault}
 use Rattle.edit_core.specs.declared.requests.EditFault.TheVariants as faults
 use Rattle.edit_core.specs.Faithful.{AreCounted}
 use Rattle.edit_core.specs.Taken.{CanEdit, IsCramped}
 use Rattle.edit_core.specs.Code.{AsksOf, CountsEdges, EditRefuses, IsEdited}
 use Rattle.edit_core.specs.Written.{IsTheEdit}
 use Rattle.edit_core.proofs.Outwardly.{does_the_same}
-use Rattle.exact_counts.specs.Profiles.{counter_in}
 use Rattle.eel_said.specs.Command as words
-use Rattle.eel_reports.specs.Answers.Trees.{AreCells}
 use Rattle.eel.specs.Answers.Edit.{IsEditOf, plan_of}
 use Rattle.eel.specs.Answers.Profile.{AsksCounters, AsksGuessed}
 use Rattle.eel.specs.Answers.Tool.{Asks}
-use Rattle.eel.specs.Private.{IsFit, IsProfileOf, MayAsk, ProfileRefuses, Says, cells_of, guessed, kind_of, ops_on, plan_for}
+use Rattle.eel.specs.Private.{ProfileRefuses, IsFit, cells_of, kind_of, ops_on, plan_for}
 use Rattle.eel.specs.declared.edge_work.EdgeWork.{EdgeWork}
 use Rattle.eel.specs.declared.edge_work.EdgeWork.TheVariants as works
 

@@ -1,17 +1,9 @@
 -- What is told of a run is refused seldom, and each refusal has a status of its own.
-use Rattle.std.proofs.Common.{◌≡◌, ℕ, inl, inr, List, ap, sym, ◌∙◌, subst, lit≤}
-use Rattle.std.specs.Prelude.{Result, Ok, Err}
-use Rattle.notes.specs.Format.{Notes}
-use Rattle.dump_file.specs.Dump.{Dump}
+use Rattle.eel.proofs.Common.{◌≡◌, ℕ, inl, inr, List, ap, sym, ◌∙◌, subst, lit≤, Result, Ok, Err, Notes, Dump, Report, Outcome, NoNotes, BadNotes, NotEveryWord, NoProfile, NoTrace, NoCounts, BadCell, OutOfMemory, status_of, IsUncounted, IsUnnoted, IsUnvisited, MayMiss, IsUntold}
 use Rattle.dump_file.specs.Reading.{read_dump}
-use Rattle.eel_said.specs.declared.command.Report.{Report}
 use Rattle.eel_said.specs.declared.command.Report.TheVariants as reports
-use Rattle.eel_said.specs.Outcome.{Outcome, NoNotes, BadNotes, BadDump, NotEveryWord, NoProfile, NoTrace, NoCounts, BadCell, OutOfMemory, status_of}
-use Rattle.eel_reports.specs.Answers.Counts.{IsUncounted}
-use Rattle.eel_reports.specs.Answers.Noted.{AreRead, IsUndumped, IsUnnoted}
-use Rattle.eel_reports.specs.Answers.Visits.{IsUnvisited}
-use Rattle.eel.specs.Answers.ExactCounts.{MayMiss}
-use Rattle.eel.specs.Answers.LastEdges.{IsUntold}
+use Rattle.eel_said.specs.Outcome.{BadDump}
+use Rattle.eel_reports.specs.Answers.Noted.{AreRead, IsUndumped}
 use Rattle.eel.specs.Answers.Report.{IsRefused, IsSeldom, IsUnreported}
 use Rattle.eel.proofs.ExactProfiles.{one_notes}
 use Rattle.eel.proofs.Meanings.{IsBad, bad}

@@ -1,5 +1,4 @@
-use Rattle.std.proofs.Common.{refl}
-use Rattle.eel_reports.specs.Answers.Steps.{printed}
+use Rattle.eel.proofs.Common.{refl, printed}
 use Rattle.eel.proofs.demo.demonstrate.Goals as goal
 
 pub returns-in-Ok-clause-tells : goal.returns-in-Ok-clause-tells

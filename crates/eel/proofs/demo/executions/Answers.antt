@@ -1,7 +1,4 @@
-use Rattle.std.proofs.Common.{ap, ◌∙◌}
-use Rattle.std.specs.List.{sum}
-use Rattle.notes.specs.Code.{notes_seen}
-use Rattle.dump_file.specs.Code.{dump_seen}
+use Rattle.eel.proofs.Common.{ap, ◌∙◌, sum, notes_seen, dump_seen}
 use Rattle.eel.proofs.Tame.{adds_up, ends, tells}
 use Rattle.eel.proofs.demo.executions.Goals as goal
 

@@ -1,5 +1,4 @@
-use Rattle.std.proofs.Common.{[]}
-use Rattle.notes.specs.Code.{notes_seen}
+use Rattle.eel.proofs.Common.{[], notes_seen}
 use Rattle.eel.proofs.Cells.{cells_kept}
 use Rattle.eel.proofs.demo.last_dump.Goals as goal
 

@@ -1,5 +1,4 @@
-use Rattle.std.proofs.Common.{[]}
-use Rattle.cfg_view.specs.Code.{view_seen}
+use Rattle.eel.proofs.Common.{[], view_seen}
 use Rattle.eel.proofs.Few.{few_edges}
 use Rattle.eel.proofs.Tame.{profiled_or_wanting}
 use Rattle.eel.proofs.Tools.{profile_made, profile_refused}

@@ -1,4 +1,4 @@
-use Rattle.std.proofs.Common.{ap, ◌∙◌}
+use Rattle.eel.proofs.Common.{ap, ◌∙◌}
 use Rattle.eel_reports.specs.Answers.Demo.{demo_lines, size_in, size_of}
 use Rattle.eel.proofs.demo.told_of.Goals as goal
 

@@ -1,7 +1,5 @@
-use Rattle.std.proofs.Common.{ap, sym, ◌∙◌}
+use Rattle.eel.proofs.Common.{ap, sym, ◌∙◌, notes_seen, Dump}
 use Rattle.notes.specs.Format.{is_version}
-use Rattle.notes.specs.Code.{notes_seen}
-use Rattle.dump_file.specs.Dump.{Dump}
 use Rattle.eel.proofs.Cells.{no_length}
 use Rattle.eel.proofs.dumps.dump_bytes.Goals as goal
 

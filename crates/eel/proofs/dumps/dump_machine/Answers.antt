@@ -1,7 +1,4 @@
-use Rattle.std.proofs.Common.{sym, refl, inl, ◌∙◌}
-use Rattle.notes.specs.Code.{notes_seen}
-use Rattle.eel_said.specs.Shared.{outside}
-use Rattle.eel_said.specs.Seen.{files_seen, stream_seen}
+use Rattle.eel.proofs.Common.{sym, refl, inl, ◌∙◌, notes_seen, outside, files_seen, stream_seen}
 use Rattle.eel_reports.proofs.Running.{run_comes}
 use Rattle.eel.proofs.Dumping.{dump_comes, has_stopped, run_broken}
 use Rattle.eel.proofs.dumps.dump_machine.Goals as goal

@@ -1,4 +1,4 @@
-use Rattle.notes.specs.Code.{notes_seen}
+use Rattle.eel.proofs.Common.{notes_seen}
 use Rattle.eel.proofs.Cells.{few_cells}
 use Rattle.eel.proofs.dumps.dump_of.Goals as goal
 

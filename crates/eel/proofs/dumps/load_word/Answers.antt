@@ -1,4 +1,4 @@
-use Rattle.std.proofs.Common.{sym, ◌∙◌}
+use Rattle.eel.proofs.Common.{sym, ◌∙◌}
 use Rattle.eel.proofs.Cells.{word_loaded}
 use Rattle.eel.proofs.dumps.load_word.Goals as goal
 

@@ -1,9 +1,6 @@
-use Rattle.std.proofs.Common.{inr, refl}
-use Rattle.notes.specs.Code.{notes_seen}
-use Rattle.v8_process.specs.Start.{start_of}
+use Rattle.eel.proofs.Common.{inr, refl, notes_seen, start_of, files_seen, stream_seen, refused, ran}
 use Rattle.v8_process.specs.Arguments.{texts}
-use Rattle.eel_said.specs.Seen.{files_seen, input_seen, stream_seen}
-use Rattle.eel.specs.Answers.Dump.{refused, ran}
+use Rattle.eel_said.specs.Seen.{input_seen}
 use Rattle.eel.proofs.Begun.{not_run}
 use Rattle.eel.proofs.Cells.{cells_kept}
 use Rattle.eel.proofs.Dumping.{dumped_later}

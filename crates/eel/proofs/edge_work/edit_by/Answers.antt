@@ -1,6 +1,4 @@
-use Rattle.std.proofs.Common.{ℕ, sym, subst, ◌∙◌}
-use Rattle.tool_kit.specs.Sound.{IsSound}
-use Rattle.eel.specs.Private.{MayAsk, Says}
+use Rattle.eel.proofs.Common.{ℕ, sym, subst, ◌∙◌, IsSound, MayAsk, Says}
 use Rattle.eel.proofs.Tools.{counts_edges, edits_made, edits_refused, is_sound}
 use Rattle.eel.proofs.edge_work.edit_by.Goals as goal
 

@@ -1,4 +1,4 @@
-use Rattle.std.proofs.Common.{◌≡◌, [], get_or, rules, sym, subst}
+use Rattle.eel.proofs.Common.{◌≡◌, [], get_or, rules, sym, subst}
 use Rattle.snippets.specs.Cells.{WorksBelow}
 use Rattle.eel.proofs.edge_work.named_on.Goals as goal
 

@@ -1,9 +1,5 @@
-use Rattle.std.proofs.Common.{◌∙◌, arith}
+use Rattle.eel.proofs.Common.{◌∙◌, arith, files_seen, put, unmade, was_read, lines_of, put-later}
 use Rattle.eel_said.specs.Code.{tool_seen}
-use Rattle.eel_said.specs.Seen.{files_seen}
-use Rattle.eel_reports.specs.Answers.Steps.{put, unmade, was_read}
-use Rattle.eel_reports.specs.Answers.Lines.{lines_of}
-use Rattle.eel_reports.proofs.Later.{put-later}
 use Rattle.eel.proofs.Editing.{lines_read, lines_unread, within}
 use Rattle.eel.proofs.edit.edit_file.Goals as goal
 

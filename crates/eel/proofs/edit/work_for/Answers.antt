@@ -1,6 +1,4 @@
-use Rattle.std.proofs.Common.{[]}
-use Rattle.cfg_view.specs.Code.{view_seen}
-use Rattle.eel_reports.specs.Answers.Every.{every_word}
+use Rattle.eel.proofs.Common.{[], view_seen, every_word}
 use Rattle.eel.proofs.Tools.{guessed_asked, weighed_asked}
 use Rattle.eel.proofs.edit.work_for.Goals as goal
 

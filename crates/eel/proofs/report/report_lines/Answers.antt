@@ -1,5 +1,4 @@
-use Rattle.dump_file.specs.Code.{dump_seen}
-use Rattle.notes.specs.Code.{notes_seen}
+use Rattle.eel.proofs.Common.{dump_seen, notes_seen}
 use Rattle.eel.proofs.Reported.{exact}
 use Rattle.eel.proofs.report.report_lines.Goals as goal
 

@@ -1,7 +1,4 @@
-use Rattle.std.proofs.Common.{refl}
-use Rattle.eel_said.specs.Seen.{files_seen}
-use Rattle.eel_reports.specs.Answers.Steps.{printed, unread, untold, was_read}
-use Rattle.eel_reports.proofs.Later.{read-later, unread-later}
+use Rattle.eel.proofs.Common.{refl, files_seen, printed, unread, untold, was_read, read-later, unread-later}
 use Rattle.eel.proofs.Unreported.{seldom_unreported}
 use Rattle.eel.proofs.report.report_run.Goals as goal
 

@@ -1,5 +1,4 @@
-use Rattle.std.proofs.Common.{refl}
-use Rattle.eel.specs.Answers.Dump.{ran}
+use Rattle.eel.proofs.Common.{refl, ran}
 use Rattle.eel.proofs.Begun.{not_run}
 use Rattle.eel.proofs.run.run_program.Goals as goal
 

@@ -1,4 +1,4 @@
-use Rattle.std.proofs.Common.{refl}
+use Rattle.eel.proofs.Common.{refl}
 use Rattle.eel.proofs.top.perform.Goals as goal
 
 pub returns-in-Edit-clause-follows : goal.returns-in-Edit-clause-follows
