@@ -3,23 +3,19 @@ use Rattle.eel.proofs.Common.{◌≡◌, ℕ, ◌≤◌, inl, inr, ap, subst, ar
 use Rattle.eel_said.specs.Command.{Command, Edit, Run, Show, Restore, ReportRun, Demo, PutWords, Unknown}
 use Rattle.eel_said.specs.Outcome.{Shows, shown, failed}
 use Rattle.eel_reports.proofs.Later.{rose-before, rose-after}
-use Rattle.eel.specs.Answers.{Ran, IsDone, IsUnrefused, HasFailed, WasWanting, meaning_of, unknown_means}
-use Rattle.eel.proofs.Meanings.{IsByStatus, refusal_is_bad}
+use Rattle.eel.specs.Answers.{IsDone, IsUnrefused, HasFailed, WasWanting, meaning_of, unknown_means}
+use Rattle.eel.proofs.Meanings.{IsByStatus, is_failed, refusal_is_bad}
 use Rattle.eel.proofs.Editing.{edit_by_status}
 use Rattle.eel.proofs.Dumping.{run_by_status}
-use Rattle.eel.proofs.Assembling.{words_by_status}
-use Rattle.eel.proofs.Printing.{show_by_status}
-use Rattle.eel.proofs.Restoring.{restore_by_status}
+use Rattle.eel.proofs.Printing.{demo_by_status, restore_by_status, show_by_status, status_told, words_by_status}
 use Rattle.eel.proofs.Reported.{report_by_status}
-use Rattle.eel.proofs.Telling.{demo_by_status, status_told}
 
 unknown_by_status : IsByStatus unknown_means
 unknown_by_status = record {
   refused = λ old new outcome follows refusal. record { files = follows.1; out = ap (λ s. s.taken) follows.3.0 };
   wanting = λ old new err outcome follows wants.
       let at : status_of outcome ≡ 64 = ap status_of follows.0 in absurd (omega (arith, wants, at));
-  failed = λ old new err outcome follows fails.
-      let at : status_of outcome ≡ 64 = ap status_of follows.0 in absurd (omega (arith, fails, at));
+  failed = λ old new err follows. absurd (let is = follows.0 in cc is);
 }
 
 by_status : (command : Command) → IsByStatus (meaning_of command)
@@ -33,64 +29,51 @@ by_status (Demo number routines) = demo_by_status number routines
 by_status Unknown = unknown_by_status
 
 -- a call of the program
-pub has_run : (command : Command) (old new : Outside) (status : ℕ) (outcome : Outcome) (err : Stream)
-    → (meaning_of command).follows old (with_err new err) outcome → Shows outcome status err new.err
-    → old.err.faults ≤ err.faults → err.faults ≤ new.err.faults → Ran command old new status
-has_run command old new status outcome err follows shows later at_last = record {
-  outcome = outcome;
-  err = err;
-  follows = follows;
-  shown = shows;
-  later = later;
-  at_last = at_last;
-}
+module _ (old new : Outside) (status : ℕ) (outcome : Outcome) (err : Stream) (shows : Shows outcome status err new.err)
+    (later : old.err.faults ≤ err.faults) (at_last : err.faults ≤ new.err.faults) where
+  abbrev Follows : Command → Type 0
+  Follows command = (meaning_of command).follows old (with_err new err) outcome
 
-pub done_shown : (command : Command) (old new : Outside) (status : ℕ) → Ran command old new status
-    → status ≡ 0 → IsDone command old new
-done_shown command old new status r zero = elim r.shown [
-  | shown is took ↦ record {
-    outcome = r.outcome;
-    good = omega (arith, is, zero);
-    err = r.err;
-    follows = r.follows;
-    line = took;
-  }
-  | failed is took rose ↦ absurd (omega (arith, is, zero))
-]
+  pub done_shown : (command : Command) → Follows command → status ≡ 0 → IsDone command old new
+  done_shown command follows zero = elim shows [
+    | shown is took ↦ record {
+      outcome = outcome;
+      good = omega (arith, is, zero);
+      err = err;
+      follows = follows;
+      line = took;
+    }
+    | failed is took rose ↦ absurd (omega (arith, is, zero))
+  ]
 
-pub refused_shown : (command : Command) (old new : Outside) (status : ℕ) → Ran command old new status
-    → IsRefusal status → IsUnchanged old new
-refused_shown command old new status r refusal = elim r.shown [
-  | shown is took ↦
-      let kept = (by_status command).refused old (with_err new r.err) r.outcome r.follows (subst IsRefusal is refusal) in
-      record { files = kept.files; out = kept.out }
-  | failed is took rose ↦ absurd ((refusal_is_bad status refusal).not_failed is)
-]
+  pub refused_shown : (command : Command) → Follows command → IsRefusal status → IsUnchanged old new
+  refused_shown command follows refusal = elim shows [
+    | shown is took ↦
+        let kept = (by_status command).refused old (with_err new err) outcome follows (subst IsRefusal is refusal) in
+        record { files = kept.files; out = kept.out }
+    | failed is took rose ↦ absurd ((refusal_is_bad status refusal).not_failed is)
+  ]
 
-pub unrefused_shown : (command : Command) (old new : Outside) (status : ℕ) → Ran command old new status
-    → IsUnrefused command status
-unrefused_shown (Demo number routines) old new status r = elim r.shown [
-  | shown is took ↦ rw is (status_told number routines old (with_err new r.err) r.outcome r.follows.0)
-  | failed is took rose ↦ inr (inr is)
-]
-unrefused_shown _ old new status r = tt
+  pub unrefused_shown : (command : Command) → Follows command → IsUnrefused command status
+  unrefused_shown (Demo number routines) follows = elim shows [
+    | shown is took ↦ rw is (status_told number routines old (with_err new err) outcome follows.0)
+    | failed is took rose ↦ inr (inr is)
+  ]
+  unrefused_shown _ follows = tt
 
-pub wanting_shown : (command : Command) (old new : Outside) (status : ℕ) → Ran command old new status
-    → status ≡ 70 → WasWanting command old new
-wanting_shown command old new status r wants = elim r.shown [
-  | shown is took ↦
-      let kept = (by_status command).wanting old new r.err r.outcome r.follows (omega (arith, is, wants)) in
-      record { files = kept.0; out = kept.1 }
-  | failed is took rose ↦ absurd (omega (arith, is, wants))
-]
+  pub wanting_shown : (command : Command) → Follows command → status ≡ 70 → WasWanting command old new
+  wanting_shown command follows wants = elim shows [
+    | shown is took ↦
+        let kept = (by_status command).wanting old new err outcome follows (omega (arith, is, wants)) in
+        record { files = kept.0; out = kept.1 }
+    | failed is took rose ↦ absurd (omega (arith, is, wants))
+  ]
 
-pub failed_shown : (command : Command) (old new : Outside) (status : ℕ) → Ran command old new status
-    → status ≡ 74 → HasFailed command old new
-failed_shown command old new status r fails = elim r.shown [
-  | shown is took ↦
-      elim ((by_status command).failed old new r.err r.outcome r.follows (omega (arith, is, fails))) [
-        | inl rose ↦ inl (rose-after old.err.faults r.err.faults new.err.faults r.at_last rose)
-        | inr fails ↦ inr fails
-      ]
-  | failed is took rose ↦ inl (rose-before old.err.faults r.err.faults new.err.faults r.later rose)
-]
+  pub failed_shown : (command : Command) → Follows command → status ≡ 74 → HasFailed command old new
+  failed_shown command follows fails = elim shows [
+    | shown is took ↦ elim ((by_status command).failed old new err (is_failed ((meaning_of command).follows old (with_err new err)) outcome follows (omega (arith, is, fails)))) [
+      | inl rose ↦ inl (rose-after old.err.faults err.faults new.err.faults at_last rose)
+      | inr fails ↦ inr fails
+    ]
+    | failed is took rose ↦ inl (rose-before old.err.faults err.faults new.err.faults later rose)
+  ]

@@ -1,4 +1,4 @@
--- The names of other crates, and of what this one states, that more than one proof cites, passed on from one place. Declares nothing.
+-- The names of other crates, and of what this one states, that its proofs cite, most of them in more than one, passed on from one place. Declares nothing.
 pub use Rattle.cfg_normal.specs.Graph.{Graph}
 pub use Rattle.cfg_normal.specs.declared.Edge.{Edge}
 pub use Rattle.cfg_view.specs.Code.{view_seen}
@@ -21,7 +21,6 @@ pub use Rattle.eel.specs.Answers.Dump.{Runs, ran, refused, unfed}
 pub use Rattle.eel.specs.Answers.ExactCounts.{IsOfRun, IsProfile, MayMiss}
 pub use Rattle.eel.specs.Answers.LastEdges.{IsUntold}
 pub use Rattle.eel.specs.Answers.Profile.{plan_with}
-pub use Rattle.eel.specs.Private.{IsProfileOf, MayAsk, Says, guessed, profile_plan}
 pub use Rattle.eel_base.specs.Outside.{Holding, IsMissing, Rose}
 pub use Rattle.eel_reports.proofs.Later.{put-later, read-later, unread-later}
 pub use Rattle.eel_reports.specs.Answers.Counts.{IsUncounted}
@@ -32,18 +31,17 @@ pub use Rattle.eel_reports.specs.Answers.Run.{IsRun}
 pub use Rattle.eel_reports.specs.Answers.Steps.{Prints, Puts, Reads, printed, put, unmade, unread, untold, was_read}
 pub use Rattle.eel_reports.specs.Answers.Trees.{AreCells}
 pub use Rattle.eel_reports.specs.Answers.Visits.{IsUnvisited}
-pub use Rattle.eel_said.specs.Outcome.{BadCell, BadFile, BadLine, BadNotes, DeviceFault, Done, NoCounts, NoNotes, NoProfile, NoTrace, NotEveryWord, OutOfMemory, Outcome, Stopped, Stream, TooLong, status_of}
+pub use Rattle.eel_said.specs.Outcome.{BadCell, BadNotes, DeviceFault, Done, NoCounts, NoNotes, NoProfile, NoTrace, NotEveryWord, OutOfMemory, Outcome, Stopped, Stream, status_of}
 pub use Rattle.eel_said.specs.Seen.{files_seen, stream_seen}
-pub use Rattle.eel_said.specs.Shared.{Feed, HaveFailed, IsPrinted, IsQuiet, Outside, Store, edit_limit, outside, store, with_err, written_limit}
+pub use Rattle.eel_said.specs.Shared.{Feed, HaveFailed, IsQuiet, Outside, Store, edit_limit, outside, store, with_err, written_limit}
 pub use Rattle.eel_said.specs.declared.command.Report.{Report}
-pub use Rattle.eel_said.specs.declared.outcome.CountCause.{CountCause}
 pub use Rattle.elf32_sparc.specs.FileFault.{fault, load_fault}
 unfoldable pub use Rattle.elf32_sparc.specs.Image.{image_of}
 unfoldable pub use Rattle.elf32_sparc.specs.Mapping.{mappings}
 pub use Rattle.exact_counts.proofs.Exact.{counts_are_exact, notes_of_graph}
 pub use Rattle.exact_counts.proofs.Noted.{edge_count}
 pub use Rattle.exact_counts.specs.Laws.{IsExact, IsProfiled, MayRefuse}
-pub use Rattle.exact_counts.specs.Profiles.{CountsOffTree, counter_in, counter_limit, original_graph}
+pub use Rattle.exact_counts.specs.Profiles.{CountsOffTree, counter_in, original_graph}
 pub use Rattle.exact_counts.specs.Stops.{dump_at}
 pub use Rattle.image_code.specs.Store.{Edit}
 pub use Rattle.notes.specs.Code.{notes_seen}
@@ -52,8 +50,10 @@ pub use Rattle.snippet_code.specs.Cells.{words_at}
 pub use Rattle.snippets.specs.declared.snippet.Op.{Op}
 pub use Rattle.span_tree.specs.Cells.{has_cell}
 pub use Rattle.std.proofs.Common.{Bool, Err, List, None, Ok, Option, Result, Some, [], ap, arith, cond, false, get_or, if◌then◌else◌, inl, inr, length, lit≤, map, nat_lt, refl, rules, subst, suc, sym, true, zero, ℕ, ◌*◌, ◌++◌, ◌+◌, ◌-◌, ◌<◌, ◌==◌, ◌^◌, ◌∙◌, ◌∷◌, ◌≡◌, ◌≢◌, ◌≤◌, ◌⊎◌}
+pub use Rattle.std.proofs.lemmas.Bool.Decides.{nat_tests}
 pub use Rattle.std.proofs.lemmas.List.{get_or-map, length-map}
 pub use Rattle.std.proofs.lemmas.List.FromFn.{get_or-map-range_with_len, length-map-range_with_len}
+pub use Rattle.std.proofs.lemmas.Option.{none-some}
 pub use Rattle.std.specs.List.{All, list_any, sum}
 pub use Rattle.std.specs.Option.{option_map}
 pub use Rattle.std.specs.Prelude.{unwrap_or}

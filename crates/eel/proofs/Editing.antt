@@ -1,11 +1,9 @@
 -- An edit by a tool, by its status; and its lines, which are read once the file is.
-use Rattle.eel.proofs.Common.{◌≡◌, ℕ, ◌≤◌, ◌⊎◌, inl, inr, List, [], subst, lit≤, Option, Some, None, Holding, IsMissing, Outcome, BadFile, BadLine, OutOfMemory, status_of, Store, edit_limit, store, Puts, unread, was_read, lines_of, read-later, unread-later}
+use Rattle.eel.proofs.Common.{◌≡◌, ℕ, ◌≤◌, ◌⊎◌, inl, inr, List, [], subst, Option, Some, None, Holding, IsMissing, Outcome, Store, edit_limit, store, Puts, unread, was_read, lines_of, read-later, unread-later}
 use Rattle.eel_said.specs.Command.{Tool}
-use Rattle.eel_said.specs.Outcome.{NoRoom}
 use Rattle.eel_reports.specs.Code.{AreLines, AreUnread, AreWithin}
 use Rattle.eel.specs.Answers.Tool.{AreMissing, Edits, IsEditBy, IsNotEdited, Takes, edit_means}
-use Rattle.eel.proofs.Meanings.{AreByStatus, IsBad, IsByStatus, bad, files_by_status}
-use Rattle.eel.proofs.Steps.{puts_by_status, reads_by_status}
+use Rattle.eel.proofs.Meanings.{AreByStatus, IsByStatus, files_by_status, puts_by_status, reads_by_status}
 
 -- ---- lines that are read once the file is
 
@@ -14,7 +12,7 @@ pub within : (file : Option (List ℕ × ℕ)) (files : Store) (lines : List ℕ
 within None files lines is = tt
 within (Some file) files lines is = is.within
 
-module _ (old mid : Option Holding) (faults more : ℕ) (same : mid ≡ old) (later : faults ≤ more) (still : Type 0)
+module _ {old mid : Option Holding} {faults more : ℕ} (same : mid ≡ old) (later : faults ≤ more) (still : Type 0)
     (next : List ℕ → Type 0) (new : Store) (outcome : Outcome) where
   pub lines_unread : (file : Option (List ℕ × ℕ)) → AreUnread file (store mid more) new outcome → still
       → Takes file still next (store old faults) new outcome
@@ -29,14 +27,6 @@ module _ (old mid : Option Holding) (faults more : ℕ) (same : mid ≡ old) (la
       was_read lines (read-later old mid faults more file.0 file.1 lines same is) then
 
 -- ---- the command, by the status
-
-not_edited : (tool : Tool) (input bytes lines : List ℕ) (outcome : Outcome)
-    → IsNotEdited tool input bytes lines outcome → IsBad (status_of outcome)
-not_edited tool input bytes lines (BadFile named code) is = bad 65 (lit≤ tt) (lit≤ tt)
-not_edited tool input bytes lines (BadLine named number cause) is = bad 65 (lit≤ tt) (lit≤ tt)
-not_edited tool input bytes lines (NoRoom named needed had) is = bad 69 (lit≤ tt) (lit≤ tt)
-not_edited tool input bytes lines OutOfMemory is = bad 70 (lit≤ tt) (lit≤ tt)
-not_edited tool input bytes lines _ is = absurd is
 
 takes_by_status : (file : Option (List ℕ × ℕ)) (lacks : Store → Type 0)
     → ((files : Store) → AreMissing file files → lacks files) → (next : List ℕ → Store → Store → Outcome → Type 0)
@@ -60,4 +50,4 @@ module _ (tool : Tool) (input output : List ℕ) where
       Takes (lines_of tool) (new.held ≡ old.held) (λ lines. Behind bytes lines old new outcome) old new outcome)
       (λ bytes. takes_by_status (lines_of tool) Lacks (λ files lack. inr lack) (Behind bytes)
       (λ lines. puts_by_status (IsNotEdited tool input bytes lines) (IsEditBy tool bytes lines) output Lacks
-      (not_edited tool input bytes lines))))
+      (λ x. x))))

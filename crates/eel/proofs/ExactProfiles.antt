@@ -1,12 +1,13 @@
 -- The counts of a profile are exact.
-use Rattle.eel.proofs.Common.{◌≡◌, ℕ, ◌-◌, ◌<◌, List, [], refl, ap, sym, ◌∙◌, subst, arith, Option, None, Result, Ok, Err, get_or-map, length-map, Notes, notes_of, AreBytes, Graph, Dump, Plan, AreCounts, HasGraph, HaveRunsAlike, visits_by, CountsOffTree, counter_in, original_graph, counter_limit, IsProfiled, IsExact, counts_are_exact, start_of, dump_at, AreCells, plan_with, IsOfRun, IsProfile}
-use Rattle.notes.specs.Format.{NoNotes}
+use Rattle.eel.proofs.Common.{◌≡◌, ℕ, ◌-◌, List, [], refl, ap, sym, ◌∙◌, subst, arith, Option, None, Ok, get_or-map, length-map, Notes, notes_of, AreBytes, Graph, Dump, Plan, AreCounts, HasGraph, HaveRunsAlike, visits_by, CountsOffTree, counter_in, IsProfiled, IsExact, counts_are_exact, start_of, dump_at, AreCells, plan_with, IsOfRun, IsProfile, view_of}
 use Rattle.exact_counts.proofs.Exits.{counts_of_exits_are_exact}
 use Rattle.exact_counts.proofs.Trees.{trees_make_profiles}
+use Rattle.eel.specs.Code.{EditsAreProfiles, IsMarkedProfile}
 use Rattle.eel.specs.Answers.ExactCounts.{AreExact, AreOfWholeRuns}
+use Rattle.eel.specs.Private.{IsProfileOf, profile_plan}
 
 -- counters off a spanning tree are a profile's
-pub off_tree : (graph : Graph) (marks weights : List ℕ) (cells : List (Option ℕ)) → AreCells graph weights cells
+off_tree : (graph : Graph) (marks weights : List ℕ) (cells : List (Option ℕ)) → AreCells graph weights cells
     → CountsOffTree 2 graph (plan_with marks cells)
 off_tree graph marks weights cells are =
     trees_make_profiles 2 graph (plan_with marks cells) cells (record {
@@ -20,12 +21,8 @@ off_tree graph marks weights cells are =
     })
 
 -- a file has one list of notes
-abbrev notes_in : Notes → Result Notes NoNotes → Notes
-notes_in notes (Ok read) = read
-notes_in notes (Err why) = notes
-
 pub one_notes : (file : List ℕ) (one other : Notes) → notes_of file ≡ Ok one → notes_of file ≡ Ok other → other ≡ one
-one_notes file one other first second = ap (notes_in one) (sym second ∙ first)
+one_notes file one other first second = cc (first, second)
 
 pub is_profiled : (original : List ℕ) (plan : Plan) (file : List ℕ) (notes : Notes)
     → IsProfile original plan file notes → AreBytes original → notes_of file ≡ Ok notes
@@ -64,9 +61,34 @@ are_of_whole_runs file notes dump counts read are = λ original args input n m r
     let faithful = run.profile.faithful in
     let same : faithful.notes ≡ notes = one_notes file notes faithful.notes read faithful.whole.reads in
     let exact : IsExact original run.plan notes s0 (dump_at notes t0 m) n =
-    subst (λ (k : Notes). IsExact original run.plan k s0 (dump_at k t0 m) n) same
+    rw same at
     (counts_of_exits_are_exact original run.plan file args input n m run.profile.sound run.bytes faithful
-    (subst (λ (k : Notes). CountsOffTree k.version (original_graph original run.plan) run.plan) (sym same)
-    run.profile.counters)
-    run.arguments run.given run.exited (subst (λ (k : Notes). m < counter_limit k.version) (sym same) run.few)) in
+    (rw same run.profile.counters) run.arguments run.given run.exited (rw same run.few)) in
     exact.counts counts (subst (λ (d : Dump). AreCounts notes d counts) run.is are) e inside
+
+-- ---- a file that was made with counters is a profile, and its notes have version 2
+
+is_profile : (marks weights original file : List ℕ) (notes : Notes) → (profile : IsMarkedProfile marks weights original file)
+    → notes_of file ≡ Ok notes → (notes.version ≡ 2) × IsProfile original (plan_with marks profile.cells) file notes
+is_profile marks weights original file notes profile read =
+    let faithful = profile.made.faithful in
+    let version : notes.version ≡ 2 =
+    ap (λ (n : Notes). n.version) (one_notes file faithful.notes notes faithful.whole.reads read) ∙ profile.made.version in (
+      version,
+      record {
+        sound = profile.made.taken.sound;
+        counters = subst (λ (v : ℕ). CountsOffTree v (view_of original marks).graph (plan_with marks profile.cells)) (sym version)
+            (off_tree (view_of original marks).graph marks weights profile.cells profile.are);
+        faithful = profile.made.faithful;
+      },
+    )
+
+pub edits_are_profiles : EditsAreProfiles
+edits_are_profiles marks weights original file notes limit bytes profile read =
+    is_profile marks weights original file notes profile read
+
+pub edit_is_profiled : (weights original file : List ℕ) (notes : Notes) (profile : IsProfileOf weights original file)
+    → AreBytes original → notes_of file ≡ Ok notes → IsProfiled original (profile_plan profile.cells) file notes
+edit_is_profiled weights original file notes profile bytes read =
+    is_profiled original (profile_plan profile.cells) file notes
+    (is_profile [] weights original file notes profile read).1 bytes read

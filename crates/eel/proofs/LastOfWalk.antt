@@ -1,11 +1,10 @@
 -- What the dump of a trace's run tells are the last edges of its original's walk.
-use Rattle.eel.proofs.Common.{◌≡◌, ◌≢◌, ℕ, suc, ◌-◌, ◌<◌, List, [], ◌∷◌, length, refl, ap, sym, ◌∙◌, subst, arith, ◌==◌, if◌then◌else◌, Option, Some, None, Ok, All, get_or-map-range_with_len, length-map-range_with_len, image_of, NoteEdge, Notes, node_at, notes_of, Ending, State, AreBytes, run, IsUntouched, pages_of, AreArguments, start_of, Op, Edge, Graph, walk, Plan, Dump, Edit, HasGraph, HaveRunsAlike, IsStop, edit_of, visits_by, dump_at, RingFault, AreLast, IsRefused, view_of}
+use Rattle.eel.proofs.Common.{◌≡◌, ◌≢◌, ℕ, ◌-◌, ◌<◌, List, [], length, refl, ap, sym, ◌∙◌, subst, arith, ◌==◌, if◌then◌else◌, Option, Some, None, Ok, All, get_or-map-range_with_len, length-map-range_with_len, image_of, NoteEdge, Notes, node_at, notes_of, Ending, State, AreBytes, run, IsUntouched, pages_of, AreArguments, start_of, walk, Plan, Dump, Edit, HasGraph, HaveRunsAlike, IsStop, edit_of, visits_by, dump_at, RingFault, AreLast, IsRefused, view_of}
 use Rattle.std.proofs.lemmas.List.Elements.{All-weaker}
-use Rattle.tool_kit.specs.declared.edge_ref.ToolKind.{ToolKind}
 use Rattle.image_code.specs.Store.{snippet_on}
-use Rattle.edit_core.specs.Faithful.{note_edges}
 use Rattle.edit_core.specs.RunsAlike.{TellsStep}
 use Rattle.edit_core.proofs.Eaches.{all_each}
+use Rattle.exact_counts.proofs.Noted.{length_noted}
 use Rattle.exact_counts.proofs.Gone.{walk_within}
 use Rattle.edge_ring.specs.declared.fault.RingFault.TheVariants as faults
 use Rattle.edge_ring.specs.Code.{IsRingOf}
@@ -19,14 +18,6 @@ use Rattle.eel.specs.Code.{EditsAreTraces}
 use Rattle.eel.specs.Answers.LastEdges.{IsTraceOf}
 use Rattle.eel.specs.Answers.Trace.{trace_plan}
 use Rattle.eel.proofs.ExactProfiles.{one_notes}
-
--- the notes tell all edges
-length_noted : (graph : Graph) (kind : ToolKind) (edges : List Edge) (snips : List (List Op))
-    → length snips ≡ length edges → length (note_edges graph kind edges snips) ≡ length edges
-length_noted graph kind [] snips size = refl
-length_noted graph kind (edge ∷ edges) [] size = absurd (omega (arith, size))
-length_noted graph kind (edge ∷ edges) (ops ∷ snips) size =
-    ap suc (length_noted graph kind edges snips (omega (arith, size)))
 
 -- why the last edges of a trace's run may not be told
 abbrev pub MayHide : Dump → RingFault → Type 0
@@ -90,7 +81,7 @@ module _ (bits : ℕ) (original file : List ℕ) (notes : Notes) (trace : IsTrac
     -- each edge of the walk is written into the ring
     logged : All (λ edge. snippet_on plan.snips edge ≡ ring_on bits edge) path
     logged =
-        All-weaker (λ edge. edge < length (edges_in original)) (λ edge. snippet_on plan.snips edge ≡ ring_on bits edge)
+        All-weaker _ _
         (λ edge l. get_or-map-range_with_len (ring_on bits) 0 (length (edges_in original)) edge edge [] l (omega arith))
         path within
 

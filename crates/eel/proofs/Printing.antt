@@ -1,20 +1,42 @@
--- Lines that are printed of a file, by the status.
-use Rattle.eel.proofs.Common.{ℕ, List, lit≤, IsMissing, Outcome, BadFile, OutOfMemory, status_of, HaveFailed, edit_limit, Prints}
+-- Commands that print lines, or make one file of another, by the status.
+use Rattle.eel.proofs.Common.{◌≡◌, ℕ, ◌⊎◌, inl, inr, refl, ap, List, IsMissing, Outcome, Done, DeviceFault, OutOfMemory, status_of, Outside, HaveFailed, edit_limit, written_limit, IsUnnoted, Prints, printed, untold}
 use Rattle.eel_said.specs.declared.command.Shown.{Shown}
+use Rattle.eel_reports.specs.Answers.Demo.{IsTold, Tells, demo_means}
 use Rattle.eel_reports.specs.Answers.Files.{IsNotSound}
 use Rattle.eel_reports.specs.Answers.Print.{AreLinesOf, PrintsFile, show_means}
-use Rattle.eel.proofs.Meanings.{IsByStatus, IsBad, bad, prints_by_status}
-use Rattle.eel.proofs.Steps.{lines_printed, reads_printed}
+use Rattle.eel_reports.specs.Answers.Restore.{HasOriginal, restore_means}
+use Rattle.eel_reports.specs.Answers.Words.{IsAssembled, IsNotListing, listing_limit, words_means}
+use Rattle.eel.proofs.Meanings.{IsByStatus, prints_by_status, lines_printed, make_by_status, reads_printed}
 
-not_sound : (name bytes : List ℕ) (outcome : Outcome) → IsNotSound name bytes outcome → IsBad (status_of outcome)
-not_sound name bytes (BadFile named code) is = bad 65 (lit≤ tt) (lit≤ tt)
-not_sound name bytes OutOfMemory is = bad 70 (lit≤ tt) (lit≤ tt)
-not_sound name bytes _ is = absurd is
-
+-- lines of a file
 pub show_by_status : (shown : Shown) (file : List ℕ) → IsByStatus (show_means shown file)
 show_by_status shown file =
     prints_by_status (PrintsFile shown file) (HaveFailed (λ files. IsMissing files.held file))
     (reads_printed file edit_limit (λ files. IsMissing files.held file) (λ files lack. lack)
     (λ bytes. Prints (IsNotSound file bytes) (AreLinesOf shown bytes))
     (λ bytes. lines_printed (IsNotSound file bytes) (AreLinesOf shown bytes)
-    (HaveFailed (λ files. IsMissing files.held file)) (not_sound file bytes)))
+    (HaveFailed (λ files. IsMissing files.held file)) (λ x. x)))
+
+-- a restored original
+pub restore_by_status : (written output : List ℕ) → IsByStatus (restore_means written output)
+restore_by_status written output =
+    make_by_status written_limit (IsUnnoted written) HasOriginal written output (λ bytes x. x)
+
+-- words that are written
+pub words_by_status : (listing output : List ℕ) → IsByStatus (words_means listing output)
+words_by_status listing output =
+    make_by_status listing_limit (IsNotListing listing) IsAssembled listing output (λ bytes x. x)
+
+-- a demonstration
+module _ (number routines : ℕ) where
+  pub status_told : (old new : Outside) (outcome : Outcome) → Tells number routines old new outcome
+      → (status_of outcome ≡ 0) ⊎ (status_of outcome ≡ 70) ⊎ (status_of outcome ≡ 74)
+  status_told old new outcome (untold is quiet) = inr (inl (ap status_of is))
+  status_told old new Done (printed lines told is same) = inl refl
+  status_told old new DeviceFault (printed lines told is same) = inr (inr refl)
+  status_told old new _ (printed lines told is same) = absurd is
+
+  pub demo_by_status : IsByStatus (demo_means number routines)
+  demo_by_status =
+      prints_by_status (Tells number routines) (λ old new. ⊥)
+      (lines_printed (λ outcome. outcome ≡ OutOfMemory) (IsTold number routines) (λ old new. ⊥) (λ is. cc))

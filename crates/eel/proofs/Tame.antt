@@ -1,14 +1,11 @@
 -- Of a tame file a profile is made, and its run ends, and tells how often edges are completed.
-use Rattle.eel.proofs.Common.{◌≡◌, ℕ, suc, ◌+◌, ◌-◌, ◌*◌, ◌^◌, ◌<◌, ◌≤◌, ◌==◌, ◌⊎◌, inl, inr, Bool, true, false, List, [], ◌∷◌, ◌++◌, length, map, Some, None, Ok, refl, ap, sym, ◌∙◌, subst, arith, if◌then◌else◌, All, list_any, sum, load_fault, image_of, mappings, Notes, notes_of, Ending, State, run, IsUntouched, pages_of, AreArguments, walk, has_cell, Dump, Plan, CountFault, AreCounts, EditFault, holds_cells, edit_of, visits_by, Edit, IsProfiled, IsExact, MayRefuse, original_graph, counter_limit, dump_at, counts_are_exact, notes_of_graph, edge_count, IsProfileOf, guessed, profile_plan}
+use Rattle.eel.proofs.Common.{◌≡◌, ℕ, suc, ◌+◌, ◌-◌, ◌*◌, ◌^◌, ◌<◌, ◌≤◌, inl, inr, List, [], ◌∷◌, ◌++◌, length, map, Some, None, Ok, refl, ap, sym, ◌∙◌, subst, arith, All, sum, image_of, Notes, notes_of, Ending, State, run, IsUntouched, pages_of, AreArguments, walk, has_cell, Dump, Plan, CountFault, AreCounts, EditFault, edit_of, visits_by, Edit, IsProfiled, IsExact, MayRefuse, original_graph, dump_at, counts_are_exact, notes_of_graph, edge_count, nat_tests, none-some}
 use Rattle.std.proofs.Common.{append-nil}
-use Rattle.std.proofs.lemmas.Bool.{cases_lt, or_left, or_right}
+use Rattle.std.proofs.lemmas.Bool.{cases_lt}
 use Rattle.std.proofs.lemmas.List.Elements.{All-head, All-nil, All-tail}
-use Rattle.std.proofs.lemmas.List.Folds.{list_any-append}
 use Rattle.elf32_sparc.specs.Mapping.{Mapping}
 use Rattle.notes.specs.Format.{NoteSegment}
-use Rattle.elf32_write.specs.Kept.{kept}
 use Rattle.two_runs.specs.Visits.{page_of}
-use Rattle.cfg_walk.specs.Walk.{end_of_walk, gone, point_of, unless_ended}
 use Rattle.span_tree.proofs.LoopBounds.{counted_few}
 use Rattle.count_rebuild.specs.declared.fault.CountFault.TheVariants as count_faults
 use Rattle.count_rebuild.specs.Code.{IsRefused}
@@ -25,13 +22,8 @@ use Rattle.exact_counts.proofs.Soon.{profiles_end_soon}
 use Rattle.exact_counts.proofs.Totals.{executions_add_up}
 use Rattle.eel_reports.specs.Answers.Demo.{EndsAlone, alone, walk_alone}
 use Rattle.eel_reports.specs.Tame.{AreAbove, EndsWithin, IsTame}
-use Rattle.eel.specs.Answers.Dump.{IsNoted}
-use Rattle.eel.specs.Private.{ProfileRefuses, IsLastDump}
-use Rattle.eel.proofs.EditedProfiles.{edit_is_profiled}
-use Rattle.eel.proofs.ExactProfiles.{one_notes}
-
-some_not_none : (d : Ending) → Some d ≡ None → ⊥
-some_not_none d e = cc
+use Rattle.eel.specs.Private.{IsLastDump, IsProfileOf, ProfileRefuses, guessed, profile_plan}
+use Rattle.eel.proofs.ExactProfiles.{edit_is_profiled, one_notes}
 
 -- of a run that has ended only want of memory refuses the counts
 only_memory : (dump : Dump) (fault : CountFault) → (dump.ending ≡ None → ⊥) → MayRefuse dump fault
@@ -39,14 +31,6 @@ only_memory : (dump : Dump) (fault : CountFault) → (dump.ending ≡ None → �
 only_memory dump (count_faults.Between pc) ended may = absurd (ended may.1)
 only_memory dump count_faults.NoMemory ended may = refl
 only_memory dump _ ended may = absurd may
-
--- no counter begins at 0 again within so many steps
-in_each_version : (version m : ℕ) → m < 2 ^ 32 → m < counter_limit version
-in_each_version version m few = by (version == 1)
-  where
-    by : (b : Bool) → m < (if b then 2 ^ 32 else 2 ^ 64)
-    by true = few
-    by false = omega (arith, few)
 
 -- ---- the edit
 
@@ -65,8 +49,6 @@ profiled_or_wanting file tame (faults.Room needed had) (cells, are, cramped) =
     let less = cramped.less in
     absurd (omega (arith, little, room, needs, has, less))
 profiled_or_wanting file tame faults.NoMemory is = refl
-
--- ---- its run ends soon
 
 -- ---- pages of notes
 
@@ -97,26 +79,12 @@ module _ (file written : List ℕ) (tame : IsTame file) (profile : IsProfileOf (
   is : IsProfiled file plan written notes
   is = edit_is_profiled (guessed file) file written notes profile tame.bytes reads
 
-  pub loads : load_fault written ≡ None
-  loads = profile.made.faithful.whole.loads
+  same : profile.made.faithful.notes ≡ notes
+  same =
+      let faithful = profile.made.faithful in one_notes written notes faithful.notes reads faithful.whole.reads
 
   pages : HasPages file written notes
-  pages =
-      let faithful = profile.made.faithful in
-      subst (HasPages file written) (one_notes written notes faithful.notes reads faithful.whole.reads)
-      faithful.pages
-
-  pub noted : IsNoted written notes
-  noted = record {
-    reads = reads;
-    mapped = λ some.
-        let holds = holds_cells notes.base notes.cells in
-        ap (list_any holds) pages.mapped
-        ∙ list_any-append holds (map kept (mappings file)) (pages.room ++ pages.editor ∷ [])
-        ∙ or_right (list_any holds (map kept (mappings file))) (list_any holds (pages.room ++ pages.editor ∷ []))
-        (list_any-append holds pages.room (pages.editor ∷ [])
-        ∙ or_left (list_any holds pages.room) (list_any holds (pages.editor ∷ [])) (pages.cells some));
-  }
+  pages = subst (HasPages file written) same profile.made.faithful.pages
 
   above : AreAbove (image_of file).base (pages_of notes)
   above =
@@ -146,15 +114,13 @@ module _ (file written : List ℕ) (tame : IsTame file) (profile : IsProfileOf (
 
   few_steps : TakesFewSteps g entry s0 t0
   few_steps =
-      let faithful = profile.made.faithful in
-      subst (λ (n : Notes). TakesFewSteps (edit_of file plan n) entry s0 t0)
-      (one_notes written notes faithful.notes reads faithful.whole.reads)
+      subst (λ (n : Notes). TakesFewSteps (edit_of file plan n) entry s0 t0) same
       (profile.made.cost.steps [] [] no_arguments (All-nil _))
 
   soon : HasEndedBy t0 (64 + 128 * tame.steps)
   soon =
       profiles_end_soon notes.version g entry s0 t0 tame.steps is.counters.counters alike few_steps
-      (λ none. some_not_none tame.ending (sym tame.ran.ends ∙ none)) (untouched tame.steps)
+      (λ none. none-some tame.ending (sym none ∙ tame.ran.ends)) (untouched tame.steps)
 
   pub ends : EndsWithin t0 (2 ^ 32)
   ends =
@@ -172,18 +138,19 @@ module _ (file written : List ℕ) (tame : IsTame file) (profile : IsProfileOf (
     over = record { ended = last.ended; untouched = untouched (visits_by notes t0 m) }
 
     short : m < 2 ^ 32
-    short = by (cases_lt ends.steps m)
-      where
-        by : (ends.steps < m) ⊎ (m ≤ ends.steps) → m < 2 ^ 32
-        by (inl before) = absurd (ends.ended (last.made ends.steps before))
-        by (inr after) = let few = ends.few in omega (arith, few, after)
+    short = elim (cases_lt ends.steps m) [
+      | inl before ↦ absurd (ends.ended (last.made ends.steps before))
+      | inr after ↦ (let few = ends.few in omega (arith, few, after))
+    ]
 
     abbrev v : ℕ
     v = visits_by notes t0 m
 
     exact : IsExact file plan notes s0 (dump_at notes t0 m) (v - 1)
-    exact = counts_are_exact file plan written notes [] [] m is no_arguments (All-nil _) (untouched v)
-        (in_each_version notes.version m short)
+    exact =
+        let few = short in
+        counts_are_exact file plan written notes [] [] m is no_arguments (All-nil _) (untouched v)
+        (grind (arith, nat_tests, few))
 
     pub tells : (fault : CountFault) → IsRefused notes dump fault → fault ≡ count_faults.NoMemory
     tells fault refused =
@@ -195,30 +162,21 @@ module _ (file written : List ℕ) (tame : IsTame file) (profile : IsProfileOf (
 
     -- the original's run ends with its last visit
     last_visit : (ending : Ending) (steps : ℕ) → EndsAlone file ending steps → v ≡ steps
-    last_visit ending steps ran = by (cases_lt v steps) (cases_lt steps v)
-      where
-        by : (v < steps) ⊎ (steps ≤ v) → (steps < v) ⊎ (v ≤ steps) → v ≡ steps
-        by (inl before) other = absurd (last.ended (sym told.ending ∙ ran.made v before))
-        by (inr below) (inl after) =
-            absurd (some_not_none ending (sym ran.ends ∙ told.before steps after))
-        by (inr below) (inr above) = omega (arith, below, above)
+    last_visit ending steps ran = elim (cases_lt v steps) [
+      | inl before ↦ absurd (last.ended (sym told.ending ∙ ran.made v before))
+      | inr below ↦ elim (cases_lt steps v) [
+        | inl after ↦ absurd (none-some ending (sym (told.before steps after) ∙ ran.ends))
+        | inr above ↦ omega (arith, below, above)
+      ]
+    ]
 
     -- which completes no edge
     no_more : (ending : Ending) (steps n : ℕ) → EndsAlone file ending steps → steps ≡ suc n
         → walk_alone file steps ≡ walk_alone file n
     unfolding walk
     no_more ending steps n ran one =
-        let graph = original_graph file plan in
-        let over : (run s0 (suc n)).ending ≡ Some ending = ap (λ k. (run s0 k).ending) (sym one) ∙ ran.ends in
-        ap (walk_alone file) one
-        ∙ ap (λ o. walk_alone file n ++ gone (image_of file).text graph (end_of_walk (image_of file).text graph entry s0 n)
-        (point_of (run s0 n)) (unless_ended o (point_of (run s0 (suc n))))) over
-        ∙ append-nil (walk_alone file n)
-
-    counted : (counts : List ℕ) → AreCounts notes dump counts → length counts ≡ length (original_graph file plan).edges
-    counted counts are =
-        are.len
-        ∙ edge_count (original_graph file plan) plan.snips notes (notes_of_graph file plan notes is.counters is.graph)
+        let over : (run s0 (suc n)).ending ≡ Some ending = rw one at ran.ends in
+        ap (walk_alone file) one ∙ rw over (append-nil (walk_alone file n))
 
     pub adds_up : (counts : List ℕ) → AreCounts notes dump counts → (ending : Ending) (steps : ℕ)
         → EndsAlone file ending steps → sum counts ≡ length (walk_alone file steps)
@@ -227,8 +185,7 @@ module _ (file written : List ℕ) (tame : IsTame file) (profile : IsProfileOf (
         let some = told.some in
         let given = subst (λ (d : Dump). AreCounts notes d counts) last.is are in
         let len = are.len in
-        executions_add_up (image_of file).text (original_graph file plan) entry s0 (v - 1) counts (counted counts are)
+        executions_add_up (image_of file).text (original_graph file plan) entry s0 (v - 1) counts
+        (len ∙ edge_count (original_graph file plan) plan.snips notes (notes_of_graph file plan notes is.counters is.graph))
         (λ e inside. exact.counts counts given e (omega (arith, inside, len)))
         ∙ ap length (sym (no_more ending steps (v - 1) ran (omega (arith, visits, some))))
-
--- ---- runs whose output goes nowhere

@@ -1,14 +1,14 @@
 -- What is put on edges is what its tool asks for, and so the edit by that is one as the words ask.
-use Rattle.eel.proofs.Common.{◌≡◌, ℕ, zero, suc, ◌+◌, ◌*◌, ◌^◌, ◌<◌, ◌≤◌, if◌then◌else◌, List, [], ◌∷◌, length, map, Option, Some, None, Result, Ok, Err, refl, ap, sym, subst, ◌∙◌, arith, get_or, unwrap_or, get_or-map, length-map, get_or-map-range_with_len, length-map-range_with_len, Op, has_cell, Edge, Plan, IsSound, Seen, view_of, EditFault, counter_in, AreCells, IsProfileOf, MayAsk, Says, guessed}
+use Rattle.eel.proofs.Common.{◌≡◌, fault, image_text, plan_with, ℕ, zero, suc, ◌+◌, ◌*◌, ◌^◌, ◌<◌, ◌≤◌, List, [], ◌∷◌, length, map, Option, Some, None, Result, Ok, Err, refl, ap, sym, subst, ◌∙◌, arith, get_or, get_or-map, length-map, get_or-map-range_with_len, length-map-range_with_len, Op, has_cell, Edge, Plan, IsSound, Seen, view_of, EditFault, counter_in, AreCells}
 use Rattle.std.specs.Prelude.{IfErr, IfOk}
 use Rattle.std.specs.List.{range_with_len}
-use Rattle.std.specs.Option.{is_some}
 use Rattle.std.proofs.Math.Nat.{pow-le-pow_right}
 use Rattle.std.proofs.lemmas.List.{ext_get_or}
 use Rattle.std.proofs.lemmas.Option.{slice_get-get_or}
 use Rattle.eel_base.specs.declared.numbers.WordNo.{WordNo}
 use Rattle.flows.specs.Flows.{EdgeSet, count_below}
 use Rattle.snippets.specs.declared.snippet.Op.TheVariants.{Count}
+use Rattle.exact_counts.proofs.Little.{edges_few}
 use Rattle.span_tree.specs.Cells.{AreNumbered, cell_at, cell_count}
 use Rattle.span_tree.specs.Links.{no_edge}
 use Rattle.span_tree.specs.Weights.{weights_of}
@@ -29,7 +29,7 @@ use Rattle.eel_said.specs.Command as words
 use Rattle.eel.specs.Answers.Edit.{IsEditOf, plan_of}
 use Rattle.eel.specs.Answers.Profile.{AsksCounters, AsksGuessed}
 use Rattle.eel.specs.Answers.Tool.{Asks}
-use Rattle.eel.specs.Private.{ProfileRefuses, IsFit, cells_of, kind_of, ops_on, plan_for}
+use Rattle.eel.specs.Private.{IsFit, IsProfileOf, MayAsk, ProfileRefuses, Says, cells_of, guessed, kind_of, ops_on, plan_for}
 use Rattle.eel.specs.declared.edge_work.EdgeWork.{EdgeWork}
 use Rattle.eel.specs.declared.edge_work.EdgeWork.TheVariants as works
 
@@ -61,15 +61,12 @@ module _ (cells : List (Option ℕ)) (are : AreNumbered cells) where
       → (cell : Option ℕ) → cell_at cells k ≡ cell
       → AreCounters 2 (2 * count_below k counted) (counter_in 2 cell ∷ more)
   next_counter k more rest None is =
-      let count : count_below (suc k) counted ≡ count_below k counted + 0 =
-      ap (λ (c : Option ℕ). count_below k counted + (if is_some c then 1 else 0)) is in
+      let count : count_below (suc k) counted ≡ count_below k counted + 0 = rw is refl in
       subst (λ (n : ℕ). AreCounters 2 n more) (omega (arith, count)) rest
   next_counter k more rest (Some cell) is =
-      let one : Some cell ≡ Some (count_below k counted) =
-      sym is ∙ are k ∙ ap (λ (c : Option ℕ). if is_some c then Some (count_below k counted) else None) is in
-      let first : cell ≡ count_below k counted = ap (λ c. unwrap_or c 0) one in
-      let count : count_below (suc k) counted ≡ count_below k counted + 1 =
-      ap (λ (c : Option ℕ). count_below k counted + (if is_some c then 1 else 0)) is in (
+      let one : Some cell ≡ Some (count_below k counted) = rw is at (are k) in
+      let first : cell ≡ count_below k counted = cc one in
+      let count : count_below (suc k) counted ≡ count_below k counted + 1 = rw is refl in (
         ap Count (omega (arith, first)),
         subst (λ (n : ℕ). AreCounters 2 n more) (omega (arith, first, count)) rest,
       )
@@ -104,8 +101,7 @@ pub guessed_asked : (view : Seen) (bytes marks : List ℕ) (cells : List (Option
     → AreCells view.graph (weights_of view.graph.blocks view.graph.edges) cells
     → AsksGuessed marks bytes (plan_for (works.Counters cells) marks bytes)
 guessed_asked view bytes marks cells is found =
-    subst (λ (v : Seen). AsksCounters marks (weights_of v.graph.blocks v.graph.edges) bytes (plan_for (works.Counters cells) marks bytes))
-    is (counters_asked view bytes marks _ cells is found)
+    rw is at (counters_asked view bytes marks _ cells is found)
 
 module _ (view : Seen) (bytes : List ℕ) (cells : List (Option ℕ)) (is : view ≡ view_of bytes [])
     (found : AreCells view.graph (weights_of view.graph.blocks view.graph.edges) cells) where
@@ -118,20 +114,16 @@ module _ (view : Seen) (bytes : List ℕ) (cells : List (Option ℕ)) (is : view
   pub profile_refused : (fault : EditFault)
       → EditRefuses bytes (λ plan. plan ≡ plan_for (works.Counters cells) [] bytes) fault
       → ProfileRefuses (guessed bytes) bytes fault
-  profile_refused (faults.File first) refused = refused
   profile_refused (faults.Room needed had) (plan, asks, cramped) =
       let (counted, are, same) = guessed_asked view bytes [] cells is found in
       (counted, are, subst (IsCramped needed had bytes) (asks ∙ same) cramped)
-  profile_refused faults.NoMemory refused = refused
+  profile_refused _ refused = refused
 
 pub weighed_asked : (view : Seen) (bytes name lines weights : List ℕ) (cells : List (Option ℕ)) → view ≡ view_of bytes []
     → AreWeights view lines weights → AreCells view.graph weights cells
     → Asks (words.Weighed name) bytes lines (plan_for (works.Counters cells) [] bytes)
-weighed_asked view bytes name lines weights cells is are found = (
-  weights,
-  subst (λ (v : Seen). AreWeights v lines weights) is are,
-  counters_asked view bytes [] weights cells is found,
-)
+weighed_asked view bytes name lines weights cells is are found =
+    (weights, rw is at are, counters_asked view bytes [] weights cells is found)
 
 -- ---- the tool that is made of it
 
@@ -158,25 +150,13 @@ are_counted works.Nothing fit marks bytes = λ profile. absurd (cc profile)
 are_counted (works.Script script) fit marks bytes = λ profile. absurd (cc profile)
 are_counted (works.Ring bits) fit marks bytes = λ profile. absurd (cc profile)
 
-pub is_edit_of : (bytes : List ℕ) (plan : Plan) (file : List ℕ) → CanEdit bytes plan → IsEdited bytes plan file
-    → IsEditOf bytes plan file
-is_edit_of bytes plan file can edited = record {
-  taken = can;
-  same = does_the_same bytes plan file edited.faithful;
-  faithful = edited.faithful;
-  version = edited.version;
-  cost = edited.cost;
-}
-
 module _ (work : EdgeWork) (tool : Kept EdgeWork) (bytes : List ℕ) (marks : List WordNo) (chooses : tool.choose ≡ work)
     (counts : tool.cells ≡ cells_of work) (marked : tool.marks ≡ marks) (serves : tool.kind ≡ kind_of work) where
   plan_is : (plan : Plan) → AsksOf Says tool bytes plan → plan ≡ plan_for work (numbers marks) bytes
   plan_is plan asks =
-      let answers =
-      subst (λ marks. AreAnswers Says tool.choose (view_of bytes (numbers marks)).graph.edges plan.snips) marked asks.snips in
       let snips =
       all_asked Says tool.choose (view_of bytes (numbers marks)).graph.edges plan.snips (λ edge. ops_on work edge)
-      (λ k edge answer said. said.0 ∙ ap (λ (w : EdgeWork). ops_on w k) chooses) answers in
+      (λ k edge answer said. said.0 ∙ ap (λ (w : EdgeWork). ops_on w k) chooses) (rw marked at asks.snips) in
       λ i. record {
         kind = (asks.kind ∙ serves) i;
         marks = (asks.marks ∙ ap numbers marked) i;
@@ -193,17 +173,29 @@ module _ (work : EdgeWork) (tool : Kept EdgeWork) (bytes : List ℕ) (marks : Li
       × IsEdited bytes plan (items file) × IsTheEdit bytes plan (items file))
       → IfOk result (λ file. IsEditOf bytes (plan_for work (numbers marks) bytes) (items file))
   edits_made items (Ok file) (plan, asks, can, edited, written) =
-      subst (λ p. IsEditOf bytes p (items file)) (plan_is plan asks) (is_edit_of bytes plan (items file) can edited)
+      subst (λ p. IsEditOf bytes p (items file)) (plan_is plan asks) (record {
+        taken = can;
+        same = does_the_same bytes plan (items file) edited.faithful;
+        faithful = edited.faithful;
+        version = edited.version;
+        cost = edited.cost;
+      })
   edits_made items (Err fault) is = is
-
-  refusal_is : (fault : EditFault) → EditRefuses bytes (AsksOf Says tool bytes) fault
-      → EditRefuses bytes (λ plan. plan ≡ plan_for work (numbers marks) bytes) fault
-  refusal_is (faults.File first) is = is
-  refusal_is (faults.Room needed had) (plan, asks, cramped) = (plan, plan_is plan asks, cramped)
-  refusal_is faults.NoMemory is = is
 
   pub edits_refused : {A : Type 0} (result : Result A EditFault)
       → IfErr result (EditRefuses bytes (AsksOf Says tool bytes))
       → IfErr result (EditRefuses bytes (λ plan. plan ≡ plan_for work (numbers marks) bytes))
-  edits_refused (Ok file) is = is
-  edits_refused (Err fault) is = refusal_is fault is
+  edits_refused (Err (faults.Room needed had)) (plan, asks, cramped) = (plan, plan_is plan asks, cramped)
+  edits_refused _ is = is
+
+-- ---- the graph of a file without a fault has few edges, so that each can have a cell
+
+pub few_edges : (bytes marks : List ℕ) (view : Seen) → view ≡ view_of bytes marks → fault bytes ≡ None
+    → length view.graph.edges ≤ 2 ^ 22
+few_edges bytes marks view is sound =
+    omega (
+      arith,
+      ap (λ (v : Seen). length v.graph.edges) is,
+      edges_few bytes (plan_with marks []) sound,
+      (image_text bytes sound).few,
+    )

@@ -1,9 +1,7 @@
 pub mod Common
-pub mod Few
 pub mod Counters
 pub mod Ends
 pub mod Noted
-pub mod Rebuilt
 pub mod Exact
 pub mod Exits
 pub mod Trees

@@ -1,5 +1,5 @@
 -- A profile asks for little room.
-use Rattle.exact_counts.proofs.Common.{◌≡◌, ℕ, ◌*◌, ◌≤◌, List, [], ◌∷◌, length, None, refl, ap, arith, sum_by, sum_by-cons, IsText, fault, image_of, blocks_of, Edge, Graph, graph_of, Op, Plan, opens_in, copies_of, image_text, view_graph}
+use Rattle.exact_counts.proofs.Common.{◌≡◌, ℕ, ◌*◌, ◌≤◌, List, [], ◌∷◌, length, None, arith, sum_by, sum_by-cons, fault, image_of, Edge, Graph, Op, Plan, copies_of, image_text, view_graph}
 use Rattle.elf32_sparc.specs.Image.{Program}
 use Rattle.cfg_view.specs.View.{given_in}
 use Rattle.tool_kit.specs.declared.edge_ref.ToolKind.TheVariants as tools
@@ -20,24 +20,16 @@ pub edges_few : (original : List ℕ) (plan : Plan) → fault original ≡ None
     → length (original_graph original plan).edges ≤ 4 * length (image_of original).text.words
 edges_few original plan sound =
     let program : Program = image_of original in
-    let size = ap (λ (g : Graph). length g.edges) (view_graph original plan) in
-    omega (arith, size, edges_in_all program.text (given_in program plan.marks) program.entry (image_text original sound))
+    rw (view_graph original plan)
+    (edges_in_all program.text (given_in program plan.marks) program.entry (image_text original sound))
 
 pub profiles_need_little : ProfilesNeedLittle
 profiles_need_little original plan sound kind cells =
     let program : Program = image_of original in
-    let given : List ℕ = given_in program plan.marks in
-    let text : IsText program.text = image_text original sound in
-    let own : Graph = original_graph original plan in
-    let graph : Graph = graph_of (blocks_of program.text given) (opens_in program.text given program.entry) in
-    let same : own ≡ graph = view_graph original plan in
-    let made : operations_on plan.kind own own.edges plan.snips
-    ≡ operations_on tools.Profile graph graph.edges plan.snips = rw (kind, same) refl in
-    omega (
-      arith,
-      cells,
-      made,
-      one_each graph graph.edges plan.snips,
-      copies_in_all program.text given program.entry text,
-      edges_few original plan sound,
-    )
+    let graph : Graph = original_graph original plan in
+    let taken : operations_on plan.kind graph graph.edges plan.snips ≤ sum_by (copies_of graph) graph.edges =
+    rw kind (one_each graph graph.edges plan.snips) in
+    let copies : sum_by (copies_of graph) graph.edges ≤ 4 * length program.text.words =
+    rw (view_graph original plan)
+    (copies_in_all program.text (given_in program plan.marks) program.entry (image_text original sound)) in
+    omega (arith, cells, taken, copies, edges_few original plan sound)

@@ -1,4 +1,5 @@
-use Rattle.eel.proofs.Common.{ℕ, sym, subst, ◌∙◌, IsSound, MayAsk, Says}
+use Rattle.eel.proofs.Common.{ℕ, sym, subst, ◌∙◌, IsSound}
+use Rattle.eel.specs.Private.{MayAsk, Says}
 use Rattle.eel.proofs.Tools.{counts_edges, edits_made, edits_refused, is_sound}
 use Rattle.eel.proofs.edge_work.edit_by.Goals as goal
 
@@ -8,18 +9,15 @@ new-tool-requires c =
 
 pub edit_view-requires-clause-counters : goal.edit_view-requires-clause-counters
 edit_view-requires-clause-counters c =
-    counts_edges c.args.work c.new-tool.result c.args.bytes.now c.args.marks.items c.new-tool.ensures.choose
-    (c.new-tool.ensures.cells ∙ c.cells-cells.ensures) c.new-tool.ensures.marks (c.new-tool.ensures.kind ∙ c.kind-kind.ensures)
-    c.requires.fit
+    counts_edges _ _ _ _ c.new-tool.ensures.choose (c.new-tool.ensures.cells ∙ c.cells-cells.ensures) c.new-tool.ensures.marks
+    (c.new-tool.ensures.kind ∙ c.kind-kind.ensures) c.requires.fit
 
 pub returns-clause-edited : goal.returns-clause-edited
 returns-clause-edited c =
-    edits_made c.args.work c.new-tool.result c.args.bytes.now c.args.marks.items c.new-tool.ensures.choose
-    (c.new-tool.ensures.cells ∙ c.cells-cells.ensures) c.new-tool.ensures.marks (c.new-tool.ensures.kind ∙ c.kind-kind.ensures)
-    (λ file. file.items) c.edit_view.result c.edit_view.ensures.edited
+    edits_made _ _ _ _ c.new-tool.ensures.choose (c.new-tool.ensures.cells ∙ c.cells-cells.ensures) c.new-tool.ensures.marks
+    (c.new-tool.ensures.kind ∙ c.kind-kind.ensures) (λ file. file.items) c.edit_view.result c.edit_view.ensures.edited
 
 pub returns-clause-refused : goal.returns-clause-refused
 returns-clause-refused c =
-    edits_refused c.args.work c.new-tool.result c.args.bytes.now c.args.marks.items c.new-tool.ensures.choose
-    (c.new-tool.ensures.cells ∙ c.cells-cells.ensures) c.new-tool.ensures.marks (c.new-tool.ensures.kind ∙ c.kind-kind.ensures)
-    c.edit_view.result c.edit_view.ensures.refused
+    edits_refused _ _ _ _ c.new-tool.ensures.choose (c.new-tool.ensures.cells ∙ c.cells-cells.ensures) c.new-tool.ensures.marks
+    (c.new-tool.ensures.kind ∙ c.kind-kind.ensures) c.edit_view.result c.edit_view.ensures.refused

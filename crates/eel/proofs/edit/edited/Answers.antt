@@ -1,4 +1,4 @@
-use Rattle.eel.proofs.Few.{few_edges}
+use Rattle.eel.proofs.Tools.{few_edges}
 use Rattle.eel.proofs.edit.edited.Goals as goal
 
 pub work_for-requires-clause-few : goal.work_for-requires-clause-few

@@ -8,6 +8,5 @@ returns-clause-lines c = record {
   dump = dump_seen c.in_ok-state.state;
   read = record { noted = c.in_ok-notes.ensures.notes; dumped = c.in_ok-state.ensures.dump };
   tell = c.in_ok-lines.ensures.lines;
-  exact = exact c.args.report c.args.file.now (notes_seen c.in_ok-notes.notes) (dump_seen c.in_ok-state.state) _
-      c.in_ok-notes.ensures.notes c.in_ok-lines.ensures.lines;
+  exact = exact _ _ _ _ _ c.in_ok-notes.ensures.notes c.in_ok-lines.ensures.lines;
 }

@@ -1,5 +1,5 @@
 use Rattle.eel.proofs.Common.{refl, files_seen, printed, unread, untold, was_read, read-later, unread-later}
-use Rattle.eel.proofs.Unreported.{seldom_unreported}
+use Rattle.eel.proofs.Reported.{seldom}
 use Rattle.eel.proofs.report.report_run.Goals as goal
 
 pub returns-in-Err-fetch_file-clause-reports : goal.returns-in-Err-fetch_file-clause-reports
@@ -25,5 +25,5 @@ returns-clause-reports g c = λ feed err.
     (read-later _ _ _ _ _ _ _ c.fetch_file.ensures.kept c.in-Ok-fetch_file.ensures.read)
     (untold
     (let is = rw (c.deref.ensures.value, c.deref-2.ensures.value) at c.in-Err-report_lines.ensures.refused in
-    record { is = is; seldom = seldom_unreported _ _ _ _ _ _ is })
+    record { is = is; seldom = λ notes dump read. seldom _ _ _ _ notes dump read _ _ is })
     (refl, refl)))

@@ -1,5 +1,5 @@
 use Rattle.eel.proofs.Common.{refl, ran}
-use Rattle.eel.proofs.Begun.{not_run}
+use Rattle.eel.proofs.Dumping.{not_run}
 use Rattle.eel.proofs.run.run_program.Goals as goal
 
 pub returns-in-Ok-clause-runs : goal.returns-in-Ok-clause-runs
