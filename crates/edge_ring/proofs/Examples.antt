@@ -1,8 +1,5 @@
--- Facts that compute: what some of the definitions say of one case.
-use Rattle.std.specs.Prelude.{◌≡◌, [], ◌∷◌, refl}
-use Rattle.edge_ring.specs.Ring.{edges_in, last_of}
-
--- They compute: no edge, two edges, and six, in a ring of four places.
+-- Facts that compute: no edge, two edges, and six, in a ring of four places.
+use Rattle.edge_ring.proofs.Common.{◌≡◌, [], ◌∷◌, refl, edges_in, last_of}
 
 pub no_edges : edges_in 2 (0 ∷ 0 ∷ 0 ∷ 0 ∷ 0 ∷ []) ≡ []
 no_edges = refl

@@ -1,25 +1,13 @@
 -- The store of a trace is the ring of the walk: by induction over the steps, and over the edges that a step completes.
-use Rattle.std.proofs.Common.{◌≡◌, ℕ, zero, suc, ◌+◌, ◌^◌, ◌≤◌, List, [], ◌∷◌, ◌++◌, length, sym, subst, arith}
-use Rattle.std.specs.List.{All}
-use Rattle.std.proofs.lemmas.List.{append-nil, append_assoc}
-use Rattle.std.proofs.lemmas.List.Elements.{All-drop, All-head, All-tail, All-take}
-use Rattle.std.proofs.Math.Seq.{drop-append_seam, take-append_seam}
+use Rattle.edge_ring.proofs.Common.{◌≡◌, ℕ, zero, suc, ◌+◌, ◌^◌, ◌≤◌, List, [], ◌∷◌, ◌++◌, sym, arith, All, append-nil, append_assoc, All-head, All-tail, update, IsRingOf, ring_on}
 use Rattle.v8_step.specs.State.{State, register_of}
 use Rattle.v8_step.specs.Run.{run}
 use Rattle.snippets.specs.declared.snippet.Op.{Op}
-use Rattle.snippets.specs.Cells.{update}
 use Rattle.cfg_walk.specs.Walk.{gone_in, walk}
 use Rattle.image_code.specs.Store.{Edit, snippet_on, store_of, updates}
-use Rattle.edge_ring.specs.Code.{IsRingOf}
-use Rattle.edge_ring.specs.Ring.{ring_on}
 use Rattle.edge_ring.specs.Stores.{StoresAreRings}
+use Rattle.edge_ring.proofs.Places.{all_first, all_last}
 use Rattle.edge_ring.proofs.Ring.{goes_on, zeros}
-
-all_first : (P : ℕ → Type 0) (xs ys : List ℕ) → All P (xs ++ ys) → All P xs
-all_first P xs ys all = subst (All P) (take-append_seam xs ys) (All-take P (length xs) (xs ++ ys) all)
-
-all_last : (P : ℕ → Type 0) (xs ys : List ℕ) → All P (xs ++ ys) → All P ys
-all_last P xs ys all = subst (All P) (drop-append_seam xs ys) (All-drop P (length xs) (xs ++ ys) all)
 
 module _ (bits : ℕ) (few : bits ≤ 16) where
   module _ (snips : List (List Op)) where
@@ -29,25 +17,20 @@ module _ (bits : ℕ) (few : bits ≤ 16) where
     -- the edges of a step
     updated : (edges before cells : List ℕ) (s : State) → All HasRing edges → IsRingOf bits before cells
         → IsRingOf bits (before ++ edges) (updates snips edges cells s)
-    updated [] before cells s have ring = subst (λ (w : List ℕ). IsRingOf bits w cells) (sym (append-nil before)) ring
+    updated [] before cells s have ring = rw (append-nil before) ring
     updated (edge ∷ edges) before cells s have ring =
-        let one =
-        subst (λ (ops : List Op). IsRingOf bits (before ++ edge ∷ []) (update (register_of s) ops cells))
-        (sym (All-head HasRing edge edges have)) (goes_on bits few (register_of s) before cells edge ring)
-        in
-        subst (λ (w : List ℕ). IsRingOf bits w (updates snips (edge ∷ edges) cells s))
-        (append_assoc before (edge ∷ []) edges)
-        (updated edges (before ++ edge ∷ []) (update (register_of s) (snippet_on snips edge) cells) s
+        let more : before ++ edge ∷ edges ≡ (before ++ edge ∷ []) ++ edges = sym (append_assoc before (edge ∷ []) edges) in
+        let one : IsRingOf bits (before ++ edge ∷ []) (update (register_of s) (snippet_on snips edge) cells) =
+        rw (All-head HasRing edge edges have) (goes_on bits few (register_of s) before cells edge ring) in
+        rw more (updated edges (before ++ edge ∷ []) (update (register_of s) (snippet_on snips edge) cells) s
         (All-tail HasRing edge edges have) one)
 
   stores : (g : Edit) (entry : ℕ) (s0 : State) (n : ℕ) → g.notes.cells ≡ 1 + 2 ^ bits
       → All (HasRing g.snips) (walk g.text g.graph entry s0 n)
       → IsRingOf bits (walk g.text g.graph entry s0 n) (store_of g entry s0 n)
   unfolding walk
-  stores g entry s0 zero size have = zeros bits few g.notes.cells (size_more size)
-    where
-      size_more : g.notes.cells ≡ 1 + 2 ^ bits → g.notes.cells ≡ suc (2 ^ bits)
-      size_more is = omega (arith, is)
+  stores g entry s0 zero size have =
+      zeros bits few g.notes.cells (let e : g.notes.cells ≡ suc (2 ^ bits) = omega (arith, size) in e)
   stores g entry s0 (suc n) size have =
       let before = walk g.text g.graph entry s0 n in
       let gone = gone_in g.text g.graph entry s0 n in

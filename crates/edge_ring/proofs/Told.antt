@@ -1,30 +1,22 @@
 -- What the dump of a run tells, whose cells are the ring of a walk.
-use Rattle.std.proofs.Common.{◌≡◌, ℕ, suc, ◌+◌, ◌-◌, ◌%◌, ◌^◌, ◌<◌, ◌≤◌, ◌⊎◌, inl, inr, List, length, map, drop, replicate, None, ap, sym, ◌∙◌, subst, arith}
-use Rattle.std.specs.List.{All}
-use Rattle.std.proofs.lemmas.Bool.{cases_lt}
+use Rattle.edge_ring.proofs.Common.{◌≡◌, ℕ, suc, ◌+◌, ◌-◌, ◌%◌, ◌^◌, ◌<◌, ◌≤◌, List, length, map, drop, replicate, None, sym, ◌∙◌, arith, All-append, All-drop, Notes, Dump, last_of, bad_place}
 use Rattle.std.proofs.lemmas.Option.{none-some}
-use Rattle.std.proofs.lemmas.List.Elements.{All-append, All-drop, All-map, All-replicate, All-weaker}
+use Rattle.std.proofs.lemmas.List.Elements.{All-map, All-replicate, All-weaker}
 use Rattle.std.proofs.Math.Pow.{pow-lt}
-use Rattle.notes.specs.Format.{Notes}
-use Rattle.dump_file.specs.Dump.{Dump}
 use Rattle.edge_ring.specs.declared.fault.RingFault.{RingFault}
 use Rattle.edge_ring.specs.declared.fault.RingFault.TheVariants as faults
 use Rattle.edge_ring.specs.Answers.{AreLast}
 use Rattle.edge_ring.specs.Code.{IsRefused}
 use Rattle.edge_ring.specs.Laws.{IsOfWalk, MayRefuse, RingsTellTheLast}
-use Rattle.edge_ring.specs.Ring.{edges_in, last_of}
-use Rattle.edge_ring.specs.Traces.{bad_place}
 use Rattle.edge_ring.proofs.Places.{none_bad, unround}
 use Rattle.edge_ring.proofs.Ring.{tells}
 
 -- the number of places tells the bits
 same_bits : (a b : ℕ) → 1 + 2 ^ a ≡ 1 + 2 ^ b → a ≡ b
-same_bits a b is = by (cases_lt a b) (cases_lt b a)
-  where
-    by : (a < b) ⊎ (b ≤ a) → (b < a) ⊎ (a ≤ b) → a ≡ b
-    by (inl less) other = let more = pow-lt less in absurd (omega (arith, is, more))
-    by (inr least) (inl more) = let less = pow-lt more in absurd (omega (arith, is, less))
-    by (inr least) (inr most) = omega (arith, least, most)
+same_bits a b is =
+    let up : a < b → 2 ^ a < 2 ^ b = pow-lt in
+    let down : b < a → 2 ^ b < 2 ^ a = pow-lt in
+    grind (arith, is, up, down)
 
 module _ (bits : ℕ) (notes : Notes) (walk : List ℕ) (dump : Dump) (is : IsOfWalk bits notes walk dump) where
   good : bad_place notes dump ≡ None
@@ -33,12 +25,10 @@ module _ (bits : ℕ) (notes : Notes) (walk : List ℕ) (dump : Dump) (is : IsOf
       let fit : ℕ → Type 0 = λ entry. entry ≤ edges in
       let gone = length walk - 2 ^ bits in
       let walked = All-weaker (λ edge. edge < edges) (λ edge. suc edge ≤ edges) (λ edge l. omega (arith, l)) walk is.edges in
-      none_bad edges (drop 1 dump.cells)
-      (unround fit (length walk % 2 ^ bits) (drop 1 dump.cells)
-      (subst (All fit) (sym is.ring.places)
-      (All-append fit (replicate (2 ^ bits - length walk) 0) (map suc (drop gone walk))
-      (All-replicate fit (2 ^ bits - length walk) 0 (omega arith))
-      (All-map fit suc (drop gone walk) (All-drop (λ edge. suc edge ≤ edges) gone walk walked)))))
+      let last = All-map fit suc (drop gone walk) (All-drop (λ edge. suc edge ≤ edges) gone walk walked) in
+      none_bad edges (drop 1 dump.cells) (unround fit (length walk % 2 ^ bits) (drop 1 dump.cells)
+      (rw (is.ring.places) (All-append fit (replicate (2 ^ bits - length walk) 0) (map suc (drop gone walk))
+      (All-replicate fit (2 ^ bits - length walk) 0 (omega arith)) last)))
 
   refused : (fault : RingFault) → IsRefused notes dump fault → MayRefuse notes dump fault
   refused faults.NoTrace none = none is.trace
@@ -52,10 +42,10 @@ module _ (bits : ℕ) (notes : Notes) (walk : List ℕ) (dump : Dump) (is : IsOf
 
   last : (edges : List ℕ) → AreLast notes dump edges → edges ≡ last_of bits walk
   last edges told =
-      let same = same_bits told.bits bits (sym told.size ∙ is.size) in
+      let few = is.trace.few in
       let own = same_bits is.trace.bits bits (sym is.trace.cells ∙ is.size) in
-      told.are ∙ ap (λ (b : ℕ). edges_in b dump.cells) same
-      ∙ tells bits (subst (λ (b : ℕ). b ≤ 16) own is.trace.few) walk dump.cells is.ring
+      rw (told.are, same_bits told.bits bits (sym told.size ∙ is.size))
+      (tells bits (omega (arith, few, own)) walk dump.cells is.ring)
 
 pub rings_tell : RingsTellTheLast
 rings_tell bits notes walk dump is = record { refused = refused bits notes walk dump is; last = last bits notes walk dump is }

@@ -1,11 +1,11 @@
 -- Which numbers of cells are those of a ring.
-use Rattle.std.proofs.Common.{◌≡◌, ℕ, ◌+◌, ◌-◌, ◌^◌, ◌<◌, ◌≤◌, Bool, true, false, length, get_or, sym, ◌∙◌, arith}
+use Rattle.edge_ring.proofs.Common.{◌≡◌, ℕ, ◌+◌, ◌-◌, ◌^◌, ◌<◌, ◌≤◌, get_or, sym, ◌∙◌, arith, Notes}
+use Rattle.std.proofs.Common.{Bool, true, false}
+use Rattle.std.proofs.lemmas.Bool.{false≢true, eq-eqb, eqb-true}
 use Rattle.std.specs.Prelude.{◌==◌, MatchBool}
 use Rattle.std.specs.List.{Any, list_any, range_with_len}
-use Rattle.std.proofs.lemmas.Bool.{eq-eqb, eqb-true, false≢true}
-use Rattle.std.proofs.lemmas.List.Folds.{Any-from_list_any, list_any-from_Any}
+use Rattle.std.proofs.lemmas.List.Folds.{Any-from_list_any, list_any_at}
 use Rattle.std.proofs.lemmas.List.FromFn.{get_or-range_with_len, length-range_with_len}
-use Rattle.notes.specs.Format.{Notes}
 use Rattle.edge_ring.specs.Traces.{IsTrace}
 
 module _ (notes : Notes) where
@@ -15,8 +15,7 @@ module _ (notes : Notes) where
   -- where the test finds bits, the notes are those of a trace
   trace_of : (most : ℕ) → most ≤ 16 → notes.tool ≡ 3 → Any (λ bits. has bits ≡ true) (range_with_len 1 most) → IsTrace notes
   trace_of most few tool (k, bits, inside, at, same) =
-      let many = length-range_with_len 1 most in
-      let within : k < most = omega (arith, inside, many) in
+      let within : k < most = omega (arith, inside, length-range_with_len 1 most) in
       let is : bits ≡ 1 + k = sym at ∙ get_or-range_with_len 1 most k bits within in
       record {
         tool = tool;
@@ -32,12 +31,12 @@ module _ (notes : Notes) where
       let size = length-range_with_len 1 most in
       let some = is.some in
       let few = is.few in
-      let inside : is.bits - 1 < length (range_with_len 1 most) = omega (arith, many, some, few, size) in
-      let at : get_or (range_with_len 1 most) (is.bits - 1) is.bits ≡ is.bits =
-      get_or-range_with_len 1 most (is.bits - 1) is.bits (omega (arith, many, some, few)) ∙ omega (arith, some) in
-      let same : has is.bits ≡ true = eq-eqb (1 + 2 ^ is.bits) notes.cells (sym is.cells) in
-      false≢true (sym none
-      ∙ list_any-from_Any has (range_with_len 1 most) (is.bits - 1, is.bits, inside, at, same))
+      let within : is.bits - 1 < most = omega (arith, many, some, few) in
+      let at : get_or (range_with_len 1 most) (is.bits - 1) 0 ≡ is.bits =
+      get_or-range_with_len 1 most (is.bits - 1) 0 within ∙ omega (arith, some) in
+      let same : has (get_or (range_with_len 1 most) (is.bits - 1) 0) ≡ true =
+      rw at (eq-eqb (1 + 2 ^ is.bits) notes.cells (sym is.cells)) in
+      false≢true (sym none ∙ list_any_at has (range_with_len 1 most) (is.bits - 1) 0 (omega (arith, within, size)) same)
 
   pub ring_decides : (b : Bool) (most : ℕ) → most ≡ 16 → notes.tool ≡ 3
       → b ≡ list_any has (range_with_len 1 most) → MatchBool b (IsTrace notes) (¬ IsTrace notes)

@@ -1,95 +1,55 @@
 -- The fields of program headers are words.
-use Rattle.std.proofs.Common.{ℕ, zero, suc, ◌+◌, ◌^◌, ◌<◌, Bool, true, false, cond, nat_le, List, [], ◌∷◌, length, map, drop, slice_index, unwrap_or, Some, None, arith, lit<, All}
-use Rattle.std.proofs.lemmas.Bool.{cond_both}
-use Rattle.std.specs.List.{filter}
+use Rattle.elf32_write.proofs.Common.{get_or, ℕ, zero, suc, ◌+◌, ◌^◌, ◌<◌, Bool, true, false, cond, nat_le, List, [], ◌∷◌, length, map, drop, slice_index, Some, None, arith, lit<, All, cond_both, filter, All-append, All-drop, All-cons, All-nil, big_number, ProgramHeader, word_at, half_at, headers_from, program_headers, e_phoff, e_phnum, is_text, section_count, next_page, AddedSegment, segments_end, added_header, added_headers, is_carried, carried_on, delta_in, original_end, segment_headers, CanWrite}
+use Rattle.eel_base.specs.Fields.{be_field}
+use Rattle.std.proofs.Common.{unwrap_or}
 use Rattle.std.specs.Int.Bits.{and_lt}
-use Rattle.std.proofs.lemmas.List.Elements.{All-map, All-filter, All-append, All-drop, All-cons, All-nil}
-use Rattle.byteorder.specs.Endian.{big_number}
+use Rattle.std.proofs.lemmas.List.Elements.{All-map, All-filter}
 use Rattle.byteorder.specs.Numbers.{big_from-lt}
-use Rattle.elf32_sparc.specs.declared.header.ProgramHeader.{ProgramHeader}
-use Rattle.elf32_sparc.specs.Header.{word_at, half_at, program_header, headers_from, program_headers, e_phoff, e_phnum, is_text}
-use Rattle.elf32_sparc.specs.Symbols.{e_shnum, has_sections, section_count}
-use Rattle.elf32_write.specs.Bytes.{next_page}
-use Rattle.elf32_write.specs.Headers.{AddedSegment, segments_end, added_header, added_headers, is_carried, carried_on}
+use Rattle.elf32_sparc.specs.Header.{program_header}
+use Rattle.elf32_sparc.specs.Symbols.{e_shnum, has_sections}
 use Rattle.elf32_write.specs.Kept.{not_executable}
-use Rattle.elf32_write.specs.Written.{delta_in, original_end, segment_headers}
-use Rattle.elf32_write.specs.Conditions.{CanWrite, AreNumbers, HasWords}
-use Rattle.elf32_write.proofs.Segments.{segments_end-from}
-use Rattle.elf32_write.proofs.Deltas.{offsets_fit}
+use Rattle.elf32_write.specs.Conditions.{AreNumbers, HasWords}
+use Rattle.elf32_write.proofs.Segments.{segments_end-from, offsets_fit}
 
 -- each field of a header fits its word
-pub record HasFields (h : ProgramHeader) : Type 0 where
-  pub p_type : h.p_type < 2 ^ 32
-  pub p_offset : h.p_offset < 2 ^ 32
-  pub p_vaddr : h.p_vaddr < 2 ^ 32
-  pub p_paddr : h.p_paddr < 2 ^ 32
-  pub p_filesz : h.p_filesz < 2 ^ 32
-  pub p_memsz : h.p_memsz < 2 ^ 32
-  pub p_flags : h.p_flags < 2 ^ 32
-  pub p_align : h.p_align < 2 ^ 32
-
-byte_below : (file : List ℕ) → All (λ byte. byte < 256) file → (k : ℕ) → slice_index file k < 256
-byte_below [] bytes k = omega arith
-byte_below (b ∷ file) bytes zero = bytes zero b (omega arith)
-byte_below (b ∷ file) bytes (suc k) = byte_below file (λ n d below. bytes (suc n) d (omega arith)) k
+abbrev pub HasFields : ProgramHeader → Type 0
+HasFields h =
+    (h.p_type < 2 ^ 32) × (h.p_offset < 2 ^ 32) × (h.p_vaddr < 2 ^ 32) × (h.p_paddr < 2 ^ 32) × (h.p_filesz < 2 ^ 32)
+    × (h.p_memsz < 2 ^ 32) × (h.p_flags < 2 ^ 32) × (h.p_align < 2 ^ 32)
 
 -- a field that is there, or is not
 there_below : (there : Bool) (n most : ℕ) → n < most → unwrap_or (cond there (Some n) None) 0 < most
 there_below true n most below = below
 there_below false n most below = omega arith
 
-word_below : (file : List ℕ) → All (λ byte. byte < 256) file → (at : ℕ) → word_at file at < 2 ^ 32
-unfolding word_at
-word_below file bytes at =
-    there_below (nat_le (at + 4) (length file)) (big_number 4 (drop at file)) (2 ^ 32)
-    (big_from-lt 0 4 (drop at file) (byte_below (drop at file) (All-drop (λ byte. byte < 256) at file bytes)))
+byte_below : (file : List ℕ) → All (λ byte. byte < 256) file → (k : ℕ) → slice_index file k < 256
+byte_below [] bytes k = omega arith
+byte_below (b ∷ file) bytes zero = bytes zero b (omega arith)
+byte_below (b ∷ file) bytes (suc k) = byte_below file (λ n d below. bytes (suc n) d (omega arith)) k
 
-half_below : (file : List ℕ) → All (λ byte. byte < 256) file → (at : ℕ) → half_at file at < 2 ^ 16
-unfolding half_at
-half_below file bytes at =
-    there_below (nat_le (at + 2) (length file)) (big_number 2 (drop at file)) (2 ^ 16)
-    (big_from-lt 0 2 (drop at file) (byte_below (drop at file) (All-drop (λ byte. byte < 256) at file bytes)))
+module _ (file : List ℕ) (bytes : All (λ byte. byte < 256) file) where
+  field_below : (n at : ℕ) → unwrap_or (be_field n file at) 0 < 256 ^ n
+  field_below n at =
+      there_below (nat_le (at + n) (length file)) (big_number n (drop at file)) (256 ^ n)
+      (big_from-lt 0 n (drop at file) (byte_below (drop at file) (All-drop (λ byte. byte < 256) at file bytes)))
 
-pub few_sections : (file : List ℕ) → All (λ byte. byte < 256) file → section_count file < 2 ^ 16
-few_sections file bytes =
-    cond_both (has_sections file) (e_shnum file) 0 (λ n. n < 2 ^ 16) (λ _. half_below file bytes 48) (λ _. omega arith)
+  pub few_sections : section_count file < 2 ^ 16
+  unfolding half_at
+  few_sections = cond_both (has_sections file) (e_shnum file) 0 (λ n. n < 2 ^ 16) (λ _. field_below 2 48) (λ _. omega arith)
 
-header_fields : (file : List ℕ) → All (λ byte. byte < 256) file → (at : ℕ) → HasFields (program_header file at)
-unfolding program_header
-header_fields file bytes at = record {
-  p_type = word_below file bytes at;
-  p_offset = word_below file bytes (at + 4);
-  p_vaddr = word_below file bytes (at + 8);
-  p_paddr = word_below file bytes (at + 12);
-  p_filesz = word_below file bytes (at + 16);
-  p_memsz = word_below file bytes (at + 20);
-  p_flags = word_below file bytes (at + 24);
-  p_align = word_below file bytes (at + 28);
-}
-
-headers_fields : (file : List ℕ) → All (λ byte. byte < 256) file → (at n : ℕ) → All HasFields (headers_from file at n)
-headers_fields file bytes at zero = All-nil HasFields
-headers_fields file bytes at (suc n) = All-cons HasFields (program_header file at) (headers_from file (at + 32) n) (header_fields file bytes at) (headers_fields file bytes (at + 32) n)
-
-pub program_headers-fields : (file : List ℕ) → All (λ byte. byte < 256) file → All HasFields (program_headers file)
-unfolding program_headers
-program_headers-fields file bytes = headers_fields file bytes (e_phoff file) (e_phnum file)
+  headers_fields : (at n : ℕ) → All HasFields (headers_from file at n)
+  unfolding program_header word_at
+  headers_fields at zero = All-nil HasFields
+  headers_fields at (suc n) =
+      let w = field_below 4 in
+      All-cons HasFields (program_header file at) (headers_from file (at + 32) n)
+      (w at, w (at + 4), w (at + 8), w (at + 12), w (at + 16), w (at + 20), w (at + 24), w (at + 28)) (headers_fields (at + 32) n)
 
 carried_fields : (delta : ℕ) (h : ProgramHeader) → HasFields h → HasFields (carried_on delta h)
-carried_fields delta h fields = record {
-  p_type = fields.p_type;
-  p_offset = omega arith;
-  p_vaddr = fields.p_vaddr;
-  p_paddr = fields.p_paddr;
-  p_filesz = fields.p_filesz;
-  p_memsz = fields.p_memsz;
-  p_flags = cond_both (is_text h) (not_executable h.p_flags) h.p_flags (λ n. n < 2 ^ 32)
-      (λ _. and_lt 32 h.p_flags 0xfffffffe fields.p_flags (lit< tt)) (λ _. fields.p_flags);
-  p_align = fields.p_align;
-}
-
-pub carried-fields : (delta : ℕ) (hs : List ProgramHeader) → All HasFields hs → All HasFields (map (carried_on delta) (filter is_carried hs))
-carried-fields delta hs fields = All-map HasFields (carried_on delta) (filter is_carried hs) (λ k d below. carried_fields delta _ (All-filter is_carried HasFields hs fields k d below))
+carried_fields delta h f =
+    let flags = cond_both (is_text h) (not_executable h.p_flags) h.p_flags (λ n. n < 2 ^ 32)
+    (λ _. and_lt 32 h.p_flags 0xfffffffe f.6 (lit< tt)) (λ _. f.6) in
+    (f.0, omega arith, f.2, f.3, f.4, f.5, flags, f.7)
 
 added-fields : (end : ℕ) (added : List AddedSegment) → segments_end end added < 2 ^ 32 → All HasWords added → All HasFields (added_headers end added)
 added-fields end [] fits words = All-nil HasFields
@@ -97,21 +57,14 @@ added-fields end (s ∷ added) fits words =
     let rest = segments_end-from (next_page end + length s.bytes) added in
     let here : HasWords s = words zero s (omega arith) in
     All-cons HasFields (added_header (next_page end) s) (added_headers (next_page end + length s.bytes) added)
-    (record {
-      p_type = omega arith;
-      p_offset = omega (arith, rest, fits);
-      p_vaddr = here.0;
-      p_paddr = here.0;
-      p_filesz = omega (arith, rest, fits);
-      p_memsz = here.1;
-      p_flags = here.2;
-      p_align = omega arith;
-    })
+    (omega arith, omega (arith, rest, fits), here.0, here.0, omega (arith, rest, fits), here.1, here.2, omega arith)
     (added-fields (next_page end + length s.bytes) added fits (λ k d below. words (suc k) d (omega arith)))
 
 pub segments-fields : (original : List ℕ) (added : List AddedSegment) (entry : ℕ) (notes : List ℕ) → CanWrite original added notes → AreNumbers original added entry → All HasFields (segment_headers original added)
+unfolding program_headers
 segments-fields original added entry notes can are =
-    let fit = offsets_fit original added notes can in
-    All-append HasFields (map (carried_on (delta_in original)) (filter is_carried (program_headers original))) (added_headers (original_end original) added)
-    (carried-fields (delta_in original) (program_headers original) (program_headers-fields original are.bytes))
-    (added-fields (original_end original) added (omega (arith, fit)) are.words)
+    let hs = headers_fields original are.bytes (e_phoff original) (e_phnum original) in
+    let kept = filter is_carried (program_headers original) in
+    All-append HasFields (map (carried_on (delta_in original)) kept) (added_headers (original_end original) added)
+    (All-map HasFields (carried_on (delta_in original)) kept (λ k d below. carried_fields _ (get_or kept k d) (All-filter is_carried HasFields _ hs k d below)))
+    (added-fields (original_end original) added (omega (arith, offsets_fit original added notes can)) are.words)

@@ -1,44 +1,45 @@
 -- What is true of every written file.
-use Rattle.std.proofs.Common.{◌≡◌, ℕ, ◌+◌, ◌≤◌, true, false, nat_lt, List, length, take, drop, refl, arith}
-use Rattle.std.proofs.lemmas.Bool.{le-ltb}
-use Rattle.notes.specs.Format.{has_locator, notes_version, notes_offset, notes_length, notes_of, read_notes}
-use Rattle.elf32_write.specs.Written.{delta_in, original_end, notes_at}
+use Rattle.elf32_write.proofs.Common.{◌≡◌, ◌+◌, false, nat_lt, [], ◌∷◌, length, refl, arith, le-leb, le-ltb, written, delta_in, original_end, notes_at, locator_at, words_bytes, word_at}
+use Rattle.notes.specs.Format.{notes_of}
 use Rattle.elf32_write.specs.Laws.{OriginalIsHeld, NotesAreRead, EntryIsGiven, SizeIsBounded}
-use Rattle.elf32_write.proofs.Part.{take_part, length_part}
-use Rattle.elf32_write.proofs.Deltas.{delta-from, delta-to}
-use Rattle.elf32_write.proofs.Segments.{segments_end-to}
+use Rattle.elf32_write.proofs.Part.{take_part, length_part, fields_at}
+use Rattle.elf32_write.proofs.Segments.{segments_end-to, delta-from, delta-to, offsets_fit, notes-beyond}
 use Rattle.elf32_write.proofs.Fields.{few_sections}
 use Rattle.elf32_write.proofs.Tables.{length-section_table}
-use Rattle.elf32_write.proofs.WrittenParts.{written_stands}
-use Rattle.elf32_write.proofs.WrittenHeader.{locator_facts, header_facts}
+use Rattle.elf32_write.proofs.WrittenParts.{written_stands, header_facts}
 
 pub original_is_held : OriginalIsHeld
 original_is_held original added entry notes can =
     let s = written_stands original added entry notes can in
     record {
-      holds = take_part _ (delta_in original) (length original) original refl s.original;
+      holds = take_part s.original;
       from = delta-from original;
       to = delta-to original added notes can;
-      inside = omega (arith, length_part _ (delta_in original) original s.original);
+      inside = omega (arith, length_part s.original);
     }
 
--- notes that stand where the locator says
-located : (file bytes : List ℕ) (version offset size : ℕ) → has_locator file ≡ true → notes_version file ≡ version → notes_offset file ≡ offset → notes_length file ≡ size → offset + size ≤ length file
-    → take size (drop offset file) ≡ bytes → notes_of file ≡ read_notes version (length file) bytes
-unfolding notes_of
-located file bytes version offset size there numbered at long within are =
-    let inside : nat_lt (length file) (notes_offset file + notes_length file) ≡ false = le-ltb (length file) (notes_offset file + notes_length file) (omega (arith, at, long, within)) in
-    rw (there, inside, numbered, at, long, are) refl
-
 pub notes_are_read : NotesAreRead
+unfolding notes_of words_bytes word_at
 notes_are_read original added entry notes can =
+    let file = written original added entry notes in
     let s = written_stands original added entry notes can in
-    let facts = locator_facts original added entry notes can in
-    located _ notes 2 (notes_at original added) (length notes) facts.there facts.version facts.offset facts.size
-    (omega (arith, length_part _ (notes_at original added) notes s.notes)) (take_part _ _ (length notes) notes refl s.notes)
+    let at = notes_at original added in
+    let fit = offsets_fit original added notes can in
+    let f = fields_at 4 file locator_at 0 (0x45454c4e ∷ 2 ∷ at ∷ length notes ∷ []) s.locator in
+    let inside : nat_lt (length file) (at + length notes) ≡ false = le-ltb (length file) (at + length notes) (omega (arith, s.whole)) in
+    rw (
+      le-leb 4096 (length file) (omega (arith, notes-beyond original added, s.whole)),
+      f.0 (omega arith),
+      f.1.0 (omega arith),
+      f.1.1.0 (omega (arith, fit)),
+      f.1.1.1.0 (omega (arith, fit)),
+      inside,
+      take_part s.notes,
+    ) refl
 
 pub entry_is_given : EntryIsGiven
-entry_is_given original added entry notes can are = (header_facts original added entry notes can are.address).start
+unfolding word_at
+entry_is_given original added entry notes can are = (header_facts original added entry notes can).words.1.0 are.address
 
 pub size_is_bounded : SizeIsBounded
 size_is_bounded original added entry notes can are =

@@ -1,15 +1,12 @@
+pub mod Common
 pub mod Carried
-pub mod Deltas
 pub mod Fields
 pub mod FileBytes
 pub mod Laws
-pub mod LoadParts
 pub mod Loads
-pub mod Mapped
 pub mod Part
 pub mod Powers
 pub mod Segments
 pub mod Tables
 pub mod WordsBytes
-pub mod WrittenHeader
 pub mod WrittenParts

@@ -1,45 +1,89 @@
 -- That a written file can be run.
-use Rattle.std.proofs.Common.{◌≡◌, ℕ, zero, suc, ◌+◌, ◌*◌, ◌%◌, ◌^◌, ◌≤◌, max, Bool, true, false, not, ◌&&◌, ◌||◌, nat_lt, nat_eq, List, [], ◌∷◌, ◌++◌, length, map, Option, Some, None, refl, sym, ap, ◌∙◌, subst, arith, length-append, All}
-use Rattle.std.specs.List.{filter, fold, list_any, sum_by}
-use Rattle.std.proofs.lemmas.Bool.{or_parts, or_from, and_left, and_right, ltb-false, le-ltb, false≢true}
-use Rattle.std.proofs.lemmas.List.{length-map}
-use Rattle.std.proofs.lemmas.List.Sums.{sum_by-cons, length-filter, count_by-le-length}
-use Rattle.std.proofs.lemmas.Bool.Decides.{nat_tests}
-use Rattle.elf32_sparc.specs.declared.header.ProgramHeader.{ProgramHeader}
-use Rattle.elf32_sparc.specs.Header.{e_phoff, e_ehsize, e_phentsize, e_phnum, program_headers, is_loadable, loadable, end_of, text_header}
-use Rattle.elf32_sparc.specs.FileFault.{header_rows, load_rows, load_fault, leaves_file, leaves_room, is_last_page, descends_from, is_aligned, is_short, has_other_magic, has_other_class, has_other_order, has_other_version, has_other_type, has_other_machine, has_other_sizes, has_bad_table, has_bytes_outside, has_memory_outside, has_memory_outside_a_run, has_disorder, has_misaligned, memory_size}
-use Rattle.elf32_sparc.specs.Image.{segment_of, segment_end, highest_end, text_from, image_of}
-use Rattle.elf32_sparc.proofs.Accepted.{Accepted, HeaderAccepted, NoneHolds, accepted, has_text, text_passes, text_is_fit}
-use Rattle.elf32_write.specs.Bytes.{next_page}
-use Rattle.elf32_write.specs.Headers.{AddedSegment, segments_end, added_header, added_headers, is_carried, carried_on, carried_headers}
-use Rattle.elf32_write.specs.Written.{delta_in, original_end, segment_headers, written}
-use Rattle.elf32_write.specs.Conditions.{CanWrite, CanLoad, IsInReach, Ascend}
+use Rattle.elf32_sparc.specs.Header.{is_text, ei_version, e_version}
+use Rattle.std.proofs.lemmas.List.Folds.{list_any_none, list_any-append}
+use Rattle.std.proofs.lemmas.List.Elements.{All-map, All-filter}
+use Rattle.elf32_write.proofs.Common.{sections_at, whole_header, word_at, half_at, ◌<◌, filter, get_or, carried_headers, All-nil, All-cons, ◌≡◌, ℕ, zero, suc, ◌+◌, ◌^◌, ◌≤◌, ◌⊎◌, inl, inr, max, Bool, false, not, cond, nat_lt, nat_le, nat_eq, List, [], ◌∷◌, ◌++◌, map, Some, None, refl, ap, ◌∙◌, arith, All, fold, list_any, or_parts, or_from, and_parts, eqb-true, le-ltb, nat_tests, ProgramHeader, end_of, leaves_file, descends_from, is_aligned, segment_of, segment_end, NoneHolds, carried_on, ◌*◌, ◌%◌, ◌&&◌, length, length-append, sum_by, length-map, sum_by-cons, length-filter, count_by-le-length, e_phoff, e_phnum, program_headers, is_loadable, loadable, has_bytes_outside, image_of, accepted, next_page, AddedSegment, segments_end, added_header, added_headers, is_carried, delta_in, original_end, segment_headers, written, CanWrite}
+use Rattle.std.proofs.lemmas.Bool.{or_cases, not-false, and_left}
+use Rattle.elf32_sparc.specs.declared.fault.FileFault.{FileFault}
+use Rattle.elf32_sparc.specs.FileFault.{first_that_holds, header_rows, load_rows, load_fault, leaves_room, is_last_page, is_short, has_other_magic, has_other_class, has_other_order, has_other_version, has_other_type, has_other_machine, has_other_sizes, has_bad_table, has_memory_outside, has_memory_outside_a_run, has_disorder, has_misaligned, memory_size}
+use Rattle.elf32_write.proofs.Powers.{IsPower, power_of_two, power_divides, shifted, power-4096, greatest_power, greatest_above}
+use Rattle.std.proofs.Common.{◌||◌}
+use Rattle.elf32_sparc.specs.Image.{highest_end}
+use Rattle.elf32_sparc.proofs.Accepted.{Accepted, HeaderAccepted}
+use Rattle.elf32_write.specs.Conditions.{CanLoad, IsInReach, Ascend}
 use Rattle.elf32_write.specs.Laws.{FileLoads}
-use Rattle.elf32_write.proofs.Powers.{IsPower, power-4096, greatest_power, greatest_above}
-use Rattle.elf32_write.proofs.LoadParts.{passes, any-map, any-filter, any-append, carried-inside, ends-below, in_order, aligns_of, all-aligned, memory-all}
-use Rattle.elf32_write.proofs.Segments.{segments_end-from, few-segment_headers}
-use Rattle.elf32_write.proofs.Deltas.{delta-to, notes-beyond}
+use Rattle.elf32_write.proofs.Segments.{segments_end-from, few-segment_headers, delta-to, notes-beyond}
 use Rattle.elf32_write.proofs.Fields.{segments-fields}
-use Rattle.elf32_write.proofs.WrittenParts.{next_word_from, written_stands}
-use Rattle.elf32_write.proofs.WrittenHeader.{HeaderFacts, header_facts, headers_are}
+use Rattle.elf32_write.proofs.WrittenParts.{written_stands, HeaderFacts, header_facts, same_magic, same_byte}
 use Rattle.elf32_write.proofs.Carried.{loadable-carried, loadable-segment_headers}
 
--- ---- where the original's segments end
+-- No test holds.
 
-ends_under : (original : List ℕ) → list_any (λ h. nat_lt (highest_end (image_of original).segments) (end_of h)) (loadable (program_headers original)) ≡ false
-unfolding image_of
-ends_under original =
-    let ends = fold (λ end segment. max end (segment_end segment)) 0 (map segment_of (loadable (program_headers original))) in
-    (ends-below (loadable (program_headers original)) 0 ends (omega arith)).1
+pub passes : (rows : List (FileFault × Bool)) → NoneHolds rows → first_that_holds rows ≡ None
+passes [] none = refl
+passes (row ∷ rows) none = ap (λ b. cond b (Some row.0) (first_that_holds rows)) none.0 ∙ passes rows none.1
 
-top_beyond : (original : List ℕ) → Accepted original → (found : Option ProgramHeader) → text_header (program_headers original) ≡ found → 0x1000 ≤ highest_end (image_of original).segments
-unfolding text_from
-top_beyond original ok None none = absurd (has_text original ok none)
-top_beyond original ok (Some h) found =
-    let above : 0x1000 ≤ h.p_vaddr = (text_is_fit original h ok found).text.above in
-    let top = highest_end (image_of original).segments in
-    let ends : h.p_vaddr + h.p_memsz ≤ top = ltb-false top (end_of h) (text_passes (λ g. nat_lt top (end_of g)) (program_headers original) h found (ends_under original)) in
-    omega arith
+-- Of the entries that are carried on.
+
+pub passed : (p : ProgramHeader → Bool) (hs : List ProgramHeader) → list_any p hs ≡ false → All (λ h. p h ≡ false) hs
+passed p [] none = All-nil (λ h. p h ≡ false)
+passed p (h ∷ hs) none = let parts = or_parts (p h) (list_any p hs) none in All-cons (λ g. p g ≡ false) h hs parts.0 (passed p hs parts.1)
+
+pub none_of_both : (p : ProgramHeader → Bool) (xs ys : List ProgramHeader) → All (λ h. p h ≡ false) xs → list_any p ys ≡ false → list_any p (xs ++ ys) ≡ false
+none_of_both p xs ys first second = rw (list_any-append p xs ys, list_any_none p xs first, second) refl
+
+-- Bytes inside the file.
+
+pub carried-inside : (delta size new : ℕ) → delta + size ≤ new → (h : ProgramHeader) → leaves_file size h ≡ false → leaves_file new (carried_on delta h) ≡ false
+carried-inside delta size new fits h none = grind (arith, nat_tests)
+
+-- Order.
+
+pub ends-below : (hs : List ProgramHeader) (n top : ℕ) → fold (λ end segment. max end (segment_end segment)) n (map segment_of hs) ≤ top → (n ≤ top) × All (λ h. end_of h ≤ top) hs
+ends-below [] n top le = (le, All-nil (λ h. end_of h ≤ top))
+ends-below (h ∷ hs) n top le =
+    let later = ends-below hs (max n (h.p_vaddr + h.p_memsz)) top le in
+    let here = later.0 in
+    (omega arith, All-cons (λ g. end_of g ≤ top) h hs (omega arith) later.1)
+
+pub in_order : (delta : ℕ) (hs added : List ProgramHeader) (end top : ℕ) → end ≤ top → All (λ h. end_of h ≤ top) hs → descends_from end hs ≡ false → ((e : ℕ) → e ≤ top → descends_from e added ≡ false) → descends_from end (map (carried_on delta) hs ++ added) ≡ false
+in_order delta [] added end top below ends order then = then end below
+in_order delta (h ∷ hs) added end top below ends order then =
+    let parts = or_parts (nat_lt h.p_vaddr end) (descends_from (end_of h) hs) order in
+    or_from _ _ parts.0 (in_order delta hs added (end_of h) top (ends zero h (omega arith)) (λ k d under. ends (suc k) d (omega arith)) parts.1 then)
+
+-- Alignment.
+
+pub align_of : (h : ProgramHeader) → not (is_aligned h) ≡ false → (h.p_align ≡ 0) ⊎ IsPower h.p_align
+align_of h holds =
+    elim (or_cases (nat_eq h.p_align 0) _ (not-false (is_aligned h) holds)) [
+      | inl none ↦ inl (eqb-true h.p_align 0 none)
+      | inr both ↦ inr (power_of_two h.p_align (and_parts _ (nat_le h.p_align (2 ^ 20)) (and_parts _ _ both).0).0)
+    ]
+
+pub carried-aligned : (delta : ℕ) → IsPower delta → delta ≤ 2 ^ 20 → (h : ProgramHeader) → h.p_align ≤ delta → not (is_aligned h) ≡ false → not (is_aligned (carried_on delta h)) ≡ false
+carried-aligned delta power small h below holds = elim (align_of h holds) [
+  | inl none ↦ rw none refl
+  | inr align ↦
+      rw (shifted h.p_align delta h.p_offset (power_divides h.p_align delta align power below)
+      (power_divides h.p_align (2 ^ 32) align (32, refl) (omega arith))) holds
+]
+
+-- ---- the text
+
+texts_load : (hs : List ProgramHeader) → length (filter is_text hs) ≤ length (loadable hs)
+texts_load [] = omega arith
+texts_load (h ∷ hs) = grind (arith, nat_tests, texts_load hs)
+
+some_text : (original : List ℕ) → Accepted original → 1 ≤ length (loadable (program_headers original))
+some_text original ok =
+    let texts = texts_load (program_headers original) in
+    let count = length-filter is_text (program_headers original) in
+    let some = ok.some_text in grind (arith, nat_tests)
+
+top_beyond : (hs : List ProgramHeader) (top : ℕ) → 1 ≤ length hs → list_any leaves_room hs ≡ false → All (λ h. end_of h ≤ top) hs → 0x1000 ≤ top
+top_beyond [] top some room ends = omega arith
+top_beyond (h ∷ hs) top some room ends = let e : end_of h ≤ top = ends zero h (omega arith) in grind (arith, nat_tests)
 
 -- ---- the segments that are added
 
@@ -55,16 +99,15 @@ added-inside new end [] inside fits = refl
 added-inside new end (s ∷ added) inside fits =
     let rest = segments_end-from (next_page end + length s.bytes) added in
     let room : length s.bytes ≤ s.memsz = fits zero s (omega arith) in
-    or_from _ _ (or_from _ _ (le-ltb s.memsz (length s.bytes) room)
-    (and_right _ _ (le-ltb new (next_page end + length s.bytes) (omega (arith, rest, inside)))))
-    (added-inside new (next_page end + length s.bytes) added inside (λ k d below. fits (suc k) d (omega arith)))
+    let later = added-inside new (next_page end + length s.bytes) added inside (λ k d below. fits (suc k) d (omega arith)) in
+    grind (arith, nat_tests, rest, room, later, inside)
 
 placed_all : (end : ℕ) (added : List AddedSegment) → 0x1000 ≤ end → Ascend end added → All IsInReach added → All (λ s. (0x1000 ≤ s.vaddr) × IsInReach s) added
-placed_all end [] above order reached k d below = absurd (omega arith)
-placed_all end (s ∷ added) above order reached zero d below = let from = order.0 in (omega arith, reached zero d below)
-placed_all end (s ∷ added) above order reached (suc k) d below =
+placed_all end [] above order reached = All-nil (λ s. (0x1000 ≤ s.vaddr) × IsInReach s)
+placed_all end (s ∷ added) above order reached =
     let from = order.0 in
-    placed_all (s.vaddr + s.memsz) added (omega arith) order.1 (λ i e under. reached (suc i) e (omega arith)) k d (omega arith)
+    All-cons (λ r. (0x1000 ≤ r.vaddr) × IsInReach r) s added (omega arith, reached zero s (omega arith))
+    (placed_all (s.vaddr + s.memsz) added (omega arith) order.1 (λ k d below. reached (suc k) d (omega arith)))
 
 in_room : (offset : ℕ) (s : AddedSegment) → (0x1000 ≤ s.vaddr) × IsInReach s → (leaves_room (added_header offset s) && not (is_last_page (added_header offset s))) ≡ false
 in_room offset s placed = grind (arith, nat_tests)
@@ -80,154 +123,97 @@ at_page offset s whole =
     let page : next_page offset % 4096 ≡ 0 = omega arith in
     rw (power-4096, whole, page) refl
 
-added-memory : (end n : ℕ) (added : List AddedSegment) → fold (λ a h. a + h.p_memsz) n (added_headers end added) ≡ n + sum_by (λ s. s.memsz) added
-added-memory end n [] = omega arith
-added-memory end n (s ∷ added) =
-    omega (arith, added-memory (next_page end + length s.bytes) (n + s.memsz) added, sum_by-cons (λ s. s.memsz) s added)
+memory-all : (delta end : ℕ) (hs : List ProgramHeader) (added : List AddedSegment) (n : ℕ)
+    → fold (λ a h. a + h.p_memsz) n (map (carried_on delta) hs ++ added_headers end added) ≡ fold (λ a h. a + h.p_memsz) n hs + sum_by (λ s. s.memsz) added
+memory-all delta end [] [] n = omega arith
+memory-all delta end [] (s ∷ added) n =
+    omega (arith, memory-all delta (next_page end + length s.bytes) [] added (n + s.memsz), sum_by-cons (λ s. s.memsz) s added)
+memory-all delta end (h ∷ hs) added n = memory-all delta end hs added (n + h.p_memsz)
+
+sum_fits : (sum more : ℕ) → nat_lt (128 * 2 ^ 20) sum ≡ false → more ≤ 1152 * 2 ^ 20 → nat_lt (1280 * 2 ^ 20) (sum + more) ≡ false
+sum_fits sum more fits few = grind (arith, nat_tests)
 
 -- ---- the header of the file
 
--- there is an entry at least: the text's
-some_loadable : (hs : List ProgramHeader) (h : ProgramHeader) → text_header hs ≡ Some h → (ls : List ProgramHeader) → loadable hs ≡ ls → 1 ≤ length ls
-some_loadable hs h found [] none = absurd (false≢true (sym (text_passes (λ g. true) hs h found (ap (list_any (λ g. true)) none))))
-some_loadable hs h found (l ∷ ls) are = omega arith
-
-some_text : (original : List ℕ) → Accepted original → (found : Option ProgramHeader) → text_header (program_headers original) ≡ found → 1 ≤ length (loadable (program_headers original))
-some_text original ok None none = absurd (has_text original ok none)
-some_text original ok (Some h) found = some_loadable (program_headers original) h found (loadable (program_headers original)) refl
-
 some_headers : (original : List ℕ) (added : List AddedSegment) → Accepted original → 1 ≤ length (segment_headers original added)
 some_headers original added ok =
-    let hs = program_headers original in
-    let carried = carried_headers (delta_in original) hs in
-    let loads = simp length-map at (ap length (loadable-carried (delta_in original) hs)) in
-    simp length-append (omega (
-      arith,
-      loads,
-      length-filter is_loadable carried,
-      count_by-le-length is_loadable carried,
-      some_text original ok (text_header hs) refl,
-    ))
+    let carried = carried_headers (delta_in original) (program_headers original) in
+    let loads = simp length-map at (ap length (loadable-carried (delta_in original) (program_headers original))) in
+    simp length-append (omega (arith, loads, length-filter is_loadable carried, count_by-le-length is_loadable carried, some_text original ok))
 
 good_table : (phnum phoff size : ℕ) → 1 ≤ phnum → phnum ≤ 72 → phoff ≡ 52 → 4096 ≤ size → ((nat_eq phnum 0 || nat_lt 80 phnum) || nat_lt size (phoff + 32 * phnum)) ≡ false
 good_table phnum phoff size some few place long = grind (arith, nat_tests)
 
-header_passes : (original : List ℕ) (added : List AddedSegment) (entry : ℕ) (notes new : List ℕ) → CanWrite original added notes → HeaderFacts original added entry new → 4096 ≤ length new → HeaderAccepted 80 new
-unfolding is_short has_other_magic has_other_class has_other_order has_other_version has_other_type has_other_machine has_other_sizes has_bad_table
-header_passes original added entry notes new can facts long =
+by_rows : (original : List ℕ) (added : List AddedSegment) (entry : ℕ) (notes new : List ℕ) → CanWrite original added notes → HeaderFacts original added entry (sections_at original added notes) new → 4096 ≤ length new
+    → NoneHolds (load_rows (length new) (program_headers new)) → load_fault new ≡ None
+unfolding load_fault is_short has_other_magic has_other_class has_other_order has_other_version has_other_type has_other_machine has_other_sizes has_bad_table word_at half_at
+by_rows original added entry notes new can facts long loads =
     let ok : Accepted original = accepted original can.sound in
     let few = few-segment_headers original added notes can in
     let some = some_headers original added ok in
-    let entries = facts.entries in
-    record {
+    let w = facts.words in
+    let z = facts.sizes in
+    let entries = z.1.1.0 (omega (arith, few)) in
+    let old = whole_header original ok in
+    let h : HeaderAccepted 80 new = record {
       short = le-ltb (length new) 52 (omega arith);
-      magic = ap (λ n. not (nat_eq n 0x7f454c46)) facts.magic ∙ ok.header.magic;
-      «class» = ap (λ n. not (nat_eq n 1)) facts.file_class ∙ ok.header.«class»;
-      order = ap (λ n. not (nat_eq n 2)) facts.order ∙ ok.header.order;
-      version = or_from _ _ (ap (λ n. not (nat_eq n 1)) facts.ident_version ∙ (or_parts _ _ ok.header.version).0)
-          (ap (λ n. not (nat_eq n 1)) facts.version);
-      kind = ap (λ n. not (nat_eq n 2)) facts.kind;
-      machine = ap (λ n. not (nat_eq n 2)) facts.machine;
-      header_size = or_from (not (nat_eq (e_ehsize new) 52)) (not (nat_eq (e_phentsize new) 32)) (ap (λ n. not (nat_eq n 52)) facts.header_size) (ap (λ n. not (nat_eq n 32)) facts.entry_size);
-      headers = good_table (e_phnum new) (e_phoff new) (length new) (omega (arith, entries, some)) (omega (arith, entries, few)) facts.table long;
-    }
+      magic = rw (same_magic new original (omega arith) (omega arith) facts.ident) ok.header.magic;
+      «class» = rw (same_byte new original 4 (omega arith) facts.ident) ok.header.«class»;
+      order = rw (same_byte new original 5 (omega arith) facts.ident) ok.header.order;
+      version = or_from (not (nat_eq (ei_version new) 1)) (not (nat_eq (e_version new) 1))
+          (rw (same_byte new original 6 (omega arith) facts.ident) (or_parts _ _ ok.header.version).0) (rw (w.0 (omega arith)) refl);
+      kind = rw (facts.kinds.0 (omega arith)) refl;
+      machine = rw (facts.kinds.1.0 (omega arith)) refl;
+      header_size = rw (z.0 (omega arith), z.1.0 (omega arith)) refl;
+      headers = good_table (e_phnum new) (e_phoff new) (length new) (omega (arith, entries, some)) (omega (arith, entries, few)) (w.1.1.0 (omega arith)) long;
+    } in
+    passes (header_rows 80 new ++ load_rows (length new) (program_headers new))
+    (h.short, (h.magic, (h.«class», (h.order, (h.version, (h.kind, (h.machine, (h.header_size, (h.headers, loads)))))))))
 
 -- ---- the program headers
 
-record EntryPasses (size : ℕ) (headers : List ProgramHeader) : Type 0 where
-  segment_file : has_bytes_outside size headers ≡ false
-  segment_room : has_memory_outside_a_run headers ≡ false
-  segment_order : has_disorder headers ≡ false
-  align : has_misaligned headers ≡ false
-  memory_large : nat_lt (1280 * 2 ^ 20) (memory_size headers) ≡ false
-
-delta_power : (original : List ℕ) → Accepted original → IsPower (delta_in original)
-unfolding has_misaligned
-delta_power original ok = greatest_power (loadable (program_headers original)) 4096 (12, refl) (aligns_of (loadable (program_headers original)) ok.align)
-
-entry-inside : (original : List ℕ) (added : List AddedSegment) (notes : List ℕ) (new : ℕ) → CanWrite original added notes → segments_end (original_end original) added ≤ new → has_bytes_outside new (segment_headers original added) ≡ false
-unfolding has_bytes_outside
-entry-inside original added notes new can within =
-    let hs = program_headers original in
+entries_pass : (original : List ℕ) (added : List AddedSegment) (notes : List ℕ) (new : ℕ) → CanWrite original added notes → CanLoad added
+    → segments_end (original_end original) added ≤ new → NoneHolds (load_rows new (segment_headers original added))
+unfolding has_bytes_outside has_memory_outside has_memory_outside_a_run has_disorder has_misaligned memory_size image_of
+entries_pass original added notes new can loads within =
+    let hs = loadable (program_headers original) in
     let delta = delta_in original in
+    let end = original_end original in
     let ok : Accepted original = accepted original can.sound in
-    let from = segments_end-from (original_end original) added in
-    any-append (leaves_file new) (carried_headers delta hs) (added_headers (original_end original) added)
-    (any-map (leaves_file (length original)) (leaves_file new) (carried_on delta) (carried-inside delta (length original) new (omega (arith, from, within))) (filter is_carried hs) (any-filter (leaves_file (length original)) is_carried hs ok.segment_file))
-    (added-inside new (original_end original) added within can.fits)
-
-entry-room : (original : List ℕ) (added : List AddedSegment) (notes : List ℕ) → CanWrite original added notes → CanLoad added → has_memory_outside_a_run (segment_headers original added) ≡ false
-unfolding has_memory_outside has_memory_outside_a_run
-entry-room original added notes can loads =
-    let hs = program_headers original in
-    let delta = delta_in original in
-    let ok : Accepted original = accepted original can.sound in
+    let from = segments_end-from end added in
+    let top = highest_end (image_of original).segments in
+    let is = loadable-segment_headers original added loads.filled in
+    let ends = (ends-below hs 0 top (omega arith)).1 in
     let leaves : ProgramHeader → Bool = λ h. leaves_room h && not (is_last_page h) in
-    let top = highest_end (image_of original).segments in
-    ap (λ z. list_any leaves z) (loadable-segment_headers original added loads.filled)
-    ∙ any-append leaves (map (carried_on delta) (loadable hs)) (added_headers (original_end original) added)
-    (any-map leaves_room leaves (carried_on delta) (λ h none. and_left (leaves_room h) (not (is_last_page h)) none) (loadable hs) ok.segment_room)
-    (no_fault leaves (λ s. (0x1000 ≤ s.vaddr) × IsInReach s) (λ offset s placed. in_room (next_page offset) s placed) (original_end original) added
-    (placed_all top added (top_beyond original ok (text_header hs) refl) can.above loads.reached))
-
-entry-order : (original : List ℕ) (added : List AddedSegment) (notes : List ℕ) → CanWrite original added notes → CanLoad added → has_disorder (segment_headers original added) ≡ false
-unfolding has_disorder
-entry-order original added notes can loads =
-    let hs = program_headers original in
-    let ok : Accepted original = accepted original can.sound in
-    let top = highest_end (image_of original).segments in
-    ap (λ z. descends_from 0 z) (loadable-segment_headers original added loads.filled)
-    ∙ in_order (delta_in original) (loadable hs) (added_headers (original_end original) added) 0 top (omega arith) (ends_under original) ok.segment_order
-    (λ e le. added-order (original_end original) top e added le can.above)
-
-entry-aligned : (original : List ℕ) (added : List AddedSegment) (notes : List ℕ) → CanWrite original added notes → CanLoad added → has_misaligned (segment_headers original added) ≡ false
-unfolding has_misaligned
-entry-aligned original added notes can loads =
-    let hs = program_headers original in
-    let delta = delta_in original in
-    let ok : Accepted original = accepted original can.sound in
-    ap (λ z. list_any (λ h. not (is_aligned h)) z) (loadable-segment_headers original added loads.filled)
-    ∙ any-append (λ h. not (is_aligned h)) (map (carried_on delta) (loadable hs)) (added_headers (original_end original) added)
-    (all-aligned delta (delta_power original ok) (delta-to original added notes can) (loadable hs) (greatest_above (loadable hs) 4096).1 ok.align)
-    (no_fault (λ h. not (is_aligned h)) (λ s. s.vaddr % 4096 ≡ 0) (λ offset s whole. at_page offset s whole) (original_end original) added loads.pages)
-
-sum_fits : (sum more : ℕ) → nat_lt (128 * 2 ^ 20) sum ≡ false → more ≤ 1152 * 2 ^ 20 → nat_lt (1280 * 2 ^ 20) (sum + more) ≡ false
-sum_fits sum more fits few = let e : sum ≤ 128 * 2 ^ 20 = ltb-false (128 * 2 ^ 20) sum fits in le-ltb (1280 * 2 ^ 20) (sum + more) (omega arith)
-
-entry-memory : (original : List ℕ) (added : List AddedSegment) (notes : List ℕ) → CanWrite original added notes → CanLoad added → nat_lt (1280 * 2 ^ 20) (memory_size (segment_headers original added)) ≡ false
-unfolding memory_size
-entry-memory original added notes can loads =
-    let hs = program_headers original in
-    let ok : Accepted original = accepted original can.sound in
-    let sum = fold (λ a h. a + h.p_memsz) 0 (loadable hs) in
-    ap (λ z. nat_lt (1280 * 2 ^ 20) (fold (λ a h. a + h.p_memsz) 0 z)) (loadable-segment_headers original added loads.filled)
-    ∙ ap (λ n. nat_lt (1280 * 2 ^ 20) n) (memory-all (delta_in original) (loadable hs) (added_headers (original_end original) added) 0 ∙ added-memory (original_end original) sum added)
-    ∙ sum_fits sum (sum_by (λ s. s.memsz) added) ok.memory_large loads.memory
-
-by_rows : (new : List ℕ) → HeaderAccepted 80 new → EntryPasses (length new) (program_headers new) → load_fault new ≡ None
-unfolding load_fault
-by_rows new h e =
-    let loads : NoneHolds (load_rows (length new) (program_headers new)) =
-    (e.segment_file, (e.segment_room, (e.segment_order, (e.align, (e.memory_large, tt))))) in
-    passes (header_rows 80 new ++ load_rows (length new) (program_headers new))
-    (h.short, (h.magic, (h.«class», (h.order, (h.version, (h.kind, (h.machine, (h.header_size, (h.headers, loads)))))))))
+    let strays : ProgramHeader → Bool = λ h. not (is_aligned h) in
+    let inside = passed (leaves_file (length original)) (program_headers original) ok.segment_file in
+    let placed = placed_all top added (top_beyond hs top (some_text original ok) ok.segment_room ends) can.above loads.reached in
+    let align = passed strays hs ok.align in
+    let power = greatest_power hs 4096 (12, refl) (λ k d below. align_of (get_or hs k d) (align k d below)) in
+    let below = (greatest_above hs 4096).1 in
+    let each = λ (k : ℕ) (d : ProgramHeader) (lt : k < length (program_headers original)). carried-inside delta (length original) new (omega (arith, from, within)) (get_or (program_headers original) k d) (inside k d lt) in
+    let bytes : has_bytes_outside new (segment_headers original added) ≡ false =
+    none_of_both (leaves_file new) (carried_headers delta (program_headers original)) (added_headers end added)
+    (All-map (λ h. leaves_file new h ≡ false) (carried_on delta) _ (All-filter is_carried (λ h. leaves_file new (carried_on delta h) ≡ false) _ each))
+    (added-inside new end added within can.fits) in
+    let room : has_memory_outside_a_run (segment_headers original added) ≡ false =
+    rw is (none_of_both leaves (map (carried_on delta) hs) (added_headers end added)
+    (All-map (λ h. leaves h ≡ false) (carried_on delta) hs (λ k d lt. and_left _ _ (passed leaves_room hs ok.segment_room k d lt)))
+    (no_fault leaves (λ s. (0x1000 ≤ s.vaddr) × IsInReach s) (λ offset s. in_room (next_page offset) s) end added placed)) in
+    let order : has_disorder (segment_headers original added) ≡ false =
+    rw is (in_order delta hs (added_headers end added) 0 top (omega arith) ends ok.segment_order (λ e le. added-order end top e added le can.above)) in
+    let straight : has_misaligned (segment_headers original added) ≡ false =
+    rw is (none_of_both strays (map (carried_on delta) hs) (added_headers end added)
+    (All-map (λ h. strays h ≡ false) (carried_on delta) hs (λ k d lt. carried-aligned delta power (delta-to original added notes can) (get_or hs k d) (below k d lt) (align k d lt)))
+    (no_fault strays (λ s. s.vaddr % 4096 ≡ 0) at_page end added loads.pages)) in
+    let memory : nat_lt (1280 * 2 ^ 20) (memory_size (segment_headers original added)) ≡ false = rw (is, memory-all delta end hs added 0) (sum_fits _ _ ok.memory_large loads.memory) in
+    (bytes, (room, (order, (straight, (memory, tt)))))
 
 -- ---- the file
 
 pub file_loads : FileLoads
 file_loads original added entry notes can are loads =
-    let file = written original added entry notes in
     let s = written_stands original added entry notes can in
-    let whole = s.whole in
-    let beyond = notes-beyond original added in
-    let end = next_word_from (segments_end (original_end original) added) in
-    let fields = headers_are original added entry notes can are.address (segments-fields original added entry notes can are) in
-    by_rows file
-    (header_passes original added entry notes file can (header_facts original added entry notes can are.address) (omega (arith, whole, beyond)))
-    (subst (EntryPasses (length file)) (sym fields) (record {
-      segment_file = entry-inside original added notes (length file) can (omega (arith, whole, end));
-      segment_room = entry-room original added notes can loads;
-      segment_order = entry-order original added notes can loads;
-      align = entry-aligned original added notes can loads;
-      memory_large = entry-memory original added notes can loads;
-    }))
+    let facts = header_facts original added entry notes can in
+    by_rows original added entry notes _ can facts (omega (arith, s.whole, notes-beyond original added))
+    (rw (facts.entries (segments-fields original added entry notes can are)) (entries_pass original added notes _ can loads (omega (arith, s.whole))))

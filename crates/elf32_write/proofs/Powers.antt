@@ -1,14 +1,11 @@
 -- Powers of two, and what stands a multiple of them further on.
-use Rattle.std.proofs.Common.{◌≡◌, ℕ, zero, suc, ◌+◌, ◌-◌, ◌*◌, ◌/◌, ◌%◌, ◌^◌, ◌≤◌, ◌⊎◌, inl, inr, max, true, nat_eq, List, [], ◌∷◌, sym, ap, ◌∙◌, arith, lit<, All}
-use Rattle.std.specs.List.{fold}
+use Rattle.elf32_write.proofs.Common.{◌≡◌, ℕ, zero, suc, ◌+◌, ◌-◌, ◌*◌, ◌/◌, ◌%◌, ◌^◌, ◌≤◌, ◌⊎◌, inl, inr, max, true, nat_eq, List, [], ◌∷◌, sym, ap, ◌∙◌, arith, lit<, All, fold, eqb-true, All-cons, ProgramHeader}
 use Rattle.std.specs.Int.{is_power_of_two}
 use Rattle.std.specs.Int.RustNames.{count_ones}
 use Rattle.std.proofs.Math.Nat.{mod-mod_of_dvd, add-mul-mod_self_left, mul-mod_right, div-add-mod, pow-suc, pow-le-pow_right}
 use Rattle.std.proofs.lemmas.Nat.{ones_cat, ones_le_self, zero_from_ones, pow-add, pow_pos}
 use Rattle.std.proofs.lemmas.Nat.Gcd.{dvd_of_mod-eq-zero}
-use Rattle.std.proofs.lemmas.Bool.{cases_lt, cases_eq, eqb-true}
-use Rattle.std.proofs.lemmas.List.Elements.{All-cons}
-use Rattle.elf32_sparc.specs.declared.header.ProgramHeader.{ProgramHeader}
+use Rattle.std.proofs.lemmas.Bool.{cases_lt, cases_eq}
 
 abbrev pub IsPower : ℕ → Type 0
 IsPower n = (k : ℕ) × (n ≡ 2 ^ k)
@@ -22,17 +19,15 @@ ones_parts n =
 power_from : (d n : ℕ) → n ≤ d → count_ones n ≡ 1 → IsPower n
 power_from zero n few one = let le = ones_le_self n in absurd (omega arith)
 power_from (suc d) n few one =
+    let parts = ones_parts n in
+    let le = ones_le_self n in
     elim (cases_eq (n % 2) 0) [
       | inl even ↦
-          let parts = ones_parts n in
           let low = ones_le_self (n % 2) in
-          let le = ones_le_self n in
           let half : IsPower (n / 2) = power_from d (n / 2) (omega arith) (omega arith) in
           (suc half.0, (let h : n / 2 ≡ 2 ^ half.0 = half.1 in rw (pow-suc 2 half.0) (omega arith)))
       | inr odd ↦
-          let parts = ones_parts n in
-          let none = zero_from_ones (n % 2) in
-          let some : count_ones (n % 2) ≡ 0 → ⊥ = λ e. odd (none e) in
+          let some : count_ones (n % 2) ≡ 0 → ⊥ = λ e. odd (zero_from_ones (n % 2) e) in
           let half : n / 2 ≡ 0 = zero_from_ones (n / 2) (omega arith) in
           (0, omega arith)
     ]
@@ -45,24 +40,18 @@ unfolding count_ones
 power-4096 = ap (λ n. nat_eq n 1) (ones_cat 12 1 0 (lit< tt))
 
 -- the lesser of two powers divides the greater
-lesser : (k f : ℕ) → 2 ^ k ≤ 2 ^ f → k ≤ f
-lesser k f le = elim (cases_lt f k) [
+divides : (k f : ℕ) → 2 ^ k ≤ 2 ^ f → 2 ^ f % 2 ^ k ≡ 0
+divides k f le = elim (cases_lt f k) [
   | inl more ↦
       let up : 2 ^ suc f ≤ 2 ^ k = pow-le-pow_right {n = 2} (omega arith) {i = suc f} {j = k} (omega arith) in
-      let twice = pow-suc 2 f in
-      let some = pow_pos f in
-      absurd (omega arith)
-  | inr few ↦ few
+      absurd (omega (arith, up, pow-suc 2 f, pow_pos f))
+  | inr few ↦
+      let e : f ≡ k + (f - k) = omega arith in
+      ap (λ n. 2 ^ n % 2 ^ k) e ∙ rw (pow-add 2 k (f - k)) (mul-mod_right (2 ^ k) (2 ^ (f - k)))
 ]
 
-divides : (k f : ℕ) → k ≤ f → 2 ^ f % 2 ^ k ≡ 0
-divides k f le =
-    let parts : 2 ^ f ≡ 2 ^ k * 2 ^ (f - k) = let e : f ≡ k + (f - k) = omega arith in ap (λ n. 2 ^ n) e ∙ pow-add 2 k (f - k) in
-    ap (λ n. n % 2 ^ k) parts ∙ mul-mod_right (2 ^ k) (2 ^ (f - k))
-
 pub power_divides : (a d : ℕ) → IsPower a → IsPower d → a ≤ d → d % a ≡ 0
-power_divides a d (k, first) (f, second) le =
-    ap (λ n. d % n) first ∙ ap (λ n. n % 2 ^ k) second ∙ divides k f (lesser k f (rw (← first, ← second) le))
+power_divides a d (k, first) (f, second) le = rw (first, second) (divides k f (rw (← first, ← second) le))
 
 -- an offset is the same modulo what divides the distance and the size of a word
 pub shifted : (a d offset : ℕ) → d % a ≡ 0 → 2 ^ 32 % a ≡ 0 → (offset + d) % 2 ^ 32 % a ≡ offset % a
@@ -74,22 +63,20 @@ shifted a d offset whole wraps =
 -- The greatest of some alignments, each a power or none.
 
 max_power : (m a : ℕ) → IsPower m → (a ≡ 0) ⊎ IsPower a → IsPower (max m a)
-max_power m a power align = elim (cases_lt m a) [
-  | inl more ↦ elim align [
-    | inl none ↦ absurd (omega arith)
-    | inr other ↦ (other.0, (let e : max m a ≡ a = omega arith in e ∙ other.1))
-  ]
+max_power m a power (inl none) = (power.0, (let e : max m a ≡ m = omega arith in e ∙ power.1))
+max_power m a power (inr other) = elim (cases_lt m a) [
+  | inl more ↦ (other.0, (let e : max m a ≡ a = omega arith in e ∙ other.1))
   | inr few ↦ (power.0, (let e : max m a ≡ m = omega arith in e ∙ power.1))
 ]
 
 pub greatest_power : (hs : List ProgramHeader) (least : ℕ) → IsPower least → All (λ h. (h.p_align ≡ 0) ⊎ IsPower h.p_align) hs → IsPower (fold (λ most h. max most h.p_align) least hs)
 greatest_power [] least power all = power
-greatest_power (h ∷ hs) least power all = greatest_power hs (max least h.p_align) (max_power least h.p_align power (all zero h (omega arith))) (λ k d below. all (suc k) d (omega arith))
+greatest_power (h ∷ hs) least power all =
+    greatest_power hs (max least h.p_align) (max_power least h.p_align power (all zero h (omega arith))) (λ k d below. all (suc k) d (omega arith))
 
 pub greatest_above : (hs : List ProgramHeader) (least : ℕ) → (least ≤ fold (λ most h. max most h.p_align) least hs) × All (λ h. h.p_align ≤ fold (λ most h. max most h.p_align) least hs) hs
 greatest_above [] least = (omega arith, λ k d below. absurd (omega arith))
 greatest_above (h ∷ hs) least =
     let later = greatest_above hs (max least h.p_align) in
     let here = later.0 in
-    let top = fold (λ most g. max most g.p_align) (max least h.p_align) hs in
-    (omega arith, All-cons (λ g. g.p_align ≤ top) h hs (omega arith) later.1)
+    (omega arith, All-cons (λ g. g.p_align ≤ fold (λ most g. max most g.p_align) (max least h.p_align) hs) h hs (omega arith) later.1)

@@ -1,19 +1,12 @@
--- The segments that are added, one after the other.
-use Rattle.std.proofs.Common.{◌≡◌, ℕ, zero, suc, ◌+◌, ◌*◌, ◌≤◌, ◌<◌, List, [], ◌∷◌, ◌++◌, length, map, filter, take, drop, get_or, length-append, refl, sym, ap, ◌∙◌, append-nil, arith}
-use Rattle.std.specs.List.{flat_map, sum_by}
+-- The segments that are added, one after the other; where the original stands, and that all offsets fit.
+use Rattle.elf32_write.proofs.Common.{◌≡◌, ℕ, zero, suc, ◌+◌, ◌*◌, ◌≤◌, ◌<◌, List, [], ◌∷◌, ◌++◌, length, map, filter, take, drop, get_or, length-append, refl, sym, ap, ◌∙◌, append-nil, arith, flat_map, sum_by, map-append, length-map, sum_by-cons, length-filter, count_by-le-length, flat_map-append, next_page, padded_to, headers_from, program_headers, e_phoff, e_phnum, accepted, AddedSegment, segment_seen, segments_end, added_header, added_headers, is_carried, program_header, segment_headers, with_segments, CanWrite, ◌^◌, max, All, fold, ProgramHeader, loadable, segment_of, image_of, delta_in, original_end, notes_at}
 use Rattle.std.specs.Int.{next_multiple_of}
-use Rattle.std.proofs.Math.Seq.{drop-cons}
-use Rattle.std.proofs.lemmas.List.{take_more, map-append, take-append-drop, length-map}
-use Rattle.std.proofs.lemmas.List.Sums.{sum_by-cons, length-filter, count_by-le-length}
-use Rattle.std.proofs.lemmas.Grind.{flat_map-append}
+use Rattle.std.proofs.lemmas.List.{take_more, take-append-drop}
 use Rattle.elf32_write.specs.declared.segment.NewSegment.{NewSegment}
-use Rattle.elf32_write.specs.Bytes.{next_page, next_word, padded_to}
-use Rattle.elf32_sparc.specs.Header.{headers_from, program_headers, e_phoff, e_phnum}
-use Rattle.elf32_sparc.proofs.Accepted.{accepted}
-use Rattle.elf32_sparc.proofs.Tables.{few_headers}
-use Rattle.elf32_write.specs.Headers.{AddedSegment, segment_seen, segments_end, added_header, added_headers, is_carried, program_header}
-use Rattle.elf32_write.specs.Written.{segment_headers, with_segments}
-use Rattle.elf32_write.specs.Conditions.{CanWrite}
+use Rattle.elf32_write.specs.Bytes.{next_word}
+use Rattle.elf32_sparc.proofs.Tables.{few_headers, aligned}
+use Rattle.std.proofs.lemmas.List.Folds.{fold-map}
+use Rattle.elf32_write.proofs.Powers.{greatest_above}
 
 -- ---- one more at the end
 
@@ -29,12 +22,6 @@ pub with_segments-append : (file : List ℕ) (xs ys : List AddedSegment) → wit
 with_segments-append file [] ys = refl
 with_segments-append file (x ∷ xs) ys = with_segments-append (padded_to (next_page (length file)) file ++ x.bytes) xs ys
 
--- the segments up to one more
-pub seen_more : (added : List NewSegment) (i : ℕ) (x : NewSegment) → i < length added → x ≡ get_or added i x
-    → map segment_seen (take (i + 1) added) ≡ map segment_seen (take i added) ++ segment_seen x ∷ []
-seen_more added i x below is =
-    rw (take_more added i x below, map-append, ← is) refl
-
 -- ---- where they end
 
 pub segments_end-from : (end : ℕ) (xs : List AddedSegment) → end ≤ segments_end end xs
@@ -46,50 +33,41 @@ segments_end-to end [] = omega arith
 segments_end-to end (x ∷ xs) =
     omega (arith, segments_end-to (next_page end + length x.bytes) xs, sum_by-cons (λ s. length s.bytes) x xs)
 
--- one segment's bytes end where all do, or before
-pub one_ends : (end : ℕ) (xs : List AddedSegment) (x : AddedSegment) (ys : List AddedSegment)
-    → next_page (segments_end end xs) + length x.bytes ≤ segments_end end (xs ++ x ∷ ys)
-one_ends end xs x ys =
-    rw (segments_end-append end xs (x ∷ ys)) (segments_end-from (next_page (segments_end end xs) + length x.bytes) ys)
-
--- that of the program's segments at an index
-pub seen_ends : (end : ℕ) (added : List NewSegment) (i : ℕ) (x : NewSegment) → i < length added → x ≡ get_or added i x
-    → next_page (segments_end end (map segment_seen (take i added))) + length x.bytes.items
-    ≤ segments_end end (map segment_seen added)
-seen_ends end added i x below is =
-    let split : map segment_seen added ≡ map segment_seen (take i added) ++ segment_seen x ∷ map segment_seen (drop (suc i) added) =
-    ap (map segment_seen) (sym (take-append-drop i added) ∙ ap (λ z. take i added ++ z) (drop-cons added i x below) ∙ ap (λ y. take i added ++ y ∷ drop (suc i) added) (sym is))
-    ∙ map-append segment_seen (take i added) (x ∷ drop (suc i) added) in
-    rw split (one_ends end (map segment_seen (take i added)) (segment_seen x) (map segment_seen (drop (suc i) added)))
-
--- ---- the loops over them, one turn more
-
-pub end_more : (end : ℕ) (added : List NewSegment) (i : ℕ) (x : NewSegment) → i < length added → x ≡ get_or added i x
-    → segments_end end (map segment_seen (take (i + 1) added))
-    ≡ next_page (segments_end end (map segment_seen (take i added))) + length x.bytes.items
-end_more end added i x below is =
-    rw (seen_more added i x below is, segments_end-append) refl
-
-pub headers_more : (end : ℕ) (added : List NewSegment) (i : ℕ) (x : NewSegment) → i < length added → x ≡ get_or added i x
-    → flat_map program_header (added_headers end (map segment_seen (take (i + 1) added)))
-    ≡ flat_map program_header (added_headers end (map segment_seen (take i added)))
-    ++ program_header (added_header (next_page (segments_end end (map segment_seen (take i added)))) (segment_seen x))
-headers_more end added i x below is =
-    rw (seen_more added i x below is, added_headers-append, flat_map-append, append-nil) refl
-
-pub bytes_more : (file : List ℕ) (added : List NewSegment) (i : ℕ) (x : NewSegment) → i < length added → x ≡ get_or added i x
-    → with_segments file (map segment_seen (take (i + 1) added))
-    ≡ padded_to (next_page (length (with_segments file (map segment_seen (take i added))))) (with_segments file (map segment_seen (take i added)))
-    ++ x.bytes.items
-bytes_more file added i x below is =
-    rw (seen_more added i x below is, with_segments-append) refl
-
 -- the next page, as std has it
 pub page_is : (n : ℕ) → next_multiple_of n 4096 ≡ next_page n
 page_is n = omega arith
 
 pub word_is : (n : ℕ) → next_multiple_of n 4 ≡ next_word n
 word_is n = omega arith
+
+-- ---- the loops over them, one turn more
+
+module _ (added : List NewSegment) (i : ℕ) (x : NewSegment) (below : i < length added) (is : x ≡ get_or added i x) where
+  abbrev so_far : List AddedSegment
+  so_far = map segment_seen (take i added)
+
+  -- the segments up to one more
+  seen_more : map segment_seen (take (i + 1) added) ≡ so_far ++ segment_seen x ∷ []
+  seen_more = rw (take_more added i x below, map-append, ← is) refl
+
+  module _ (end file_end : ℕ) (at : file_end ≡ segments_end end (map segment_seen (take i added))) where
+    pub end_more : segments_end end (map segment_seen (take (i + 1) added)) ≡ next_multiple_of file_end 4096 + length x.bytes.items
+    end_more = rw (seen_more, segments_end-append, ← at) (omega arith)
+
+    -- its bytes end where all do, or before
+    pub seen_ends : next_multiple_of file_end 4096 + length x.bytes.items ≤ segments_end end (map segment_seen added)
+    seen_ends =
+        let split = ap (map segment_seen) (sym (take-append-drop (i + 1) added)) ∙ map-append segment_seen (take (i + 1) added) (drop (i + 1) added) in
+        let later = segments_end-from (segments_end end (map segment_seen (take (i + 1) added))) (map segment_seen (drop (i + 1) added)) in
+        rw (split, segments_end-append) (omega (arith, later, end_more))
+
+    pub headers_more : flat_map program_header (added_headers end (map segment_seen (take (i + 1) added)))
+        ≡ flat_map program_header (added_headers end so_far) ++ program_header (added_header (next_multiple_of file_end 4096) (segment_seen x))
+    headers_more = rw (seen_more, added_headers-append, flat_map-append, append-nil, ← at, page_is file_end) refl
+
+  pub bytes_more : (file : List ℕ) → with_segments file (map segment_seen (take (i + 1) added))
+      ≡ padded_to (next_page (length (with_segments file so_far))) (with_segments file so_far) ++ x.bytes.items
+  bytes_more file = rw (seen_more, with_segments-append) refl
 
 -- ---- how many headers
 
@@ -117,11 +95,37 @@ pub few-segment_headers : (original : List ℕ) (added : List AddedSegment) (not
 few-segment_headers original added notes can =
     let headers = program_headers original in
     let few = few_headers original (accepted original can.sound) in
-    simp (length-append, length-map, length-added_headers) (omega (
-      arith,
-      length-filter is_carried headers,
-      count_by-le-length is_carried headers,
-      length-program_headers original,
-      few,
-      can.few,
-    ))
+    let carried = length-filter is_carried headers in
+    let most = count_by-le-length is_carried headers in
+    simp (length-append, length-map, length-added_headers) (omega (arith, carried, most, length-program_headers original, few, can.few))
+
+-- ---- where the original stands
+
+greatest-to : (headers : List ProgramHeader) (least : ℕ) → least ≤ 2 ^ 20 → All (λ h. h.p_align ≤ 2 ^ 20) headers
+    → fold (λ most header. max most header.p_align) least headers ≤ 2 ^ 20
+greatest-to [] least small all = small
+greatest-to (h ∷ headers) least small all =
+    greatest-to headers _ (omega (arith, all zero h (omega arith))) (λ k d below. all (suc k) d (omega arith))
+
+pub delta-from : (original : List ℕ) → 4096 ≤ delta_in original
+delta-from original = (greatest_above (loadable (program_headers original)) 4096).0
+
+pub delta-to : (original : List ℕ) (added : List AddedSegment) (notes : List ℕ) → CanWrite original added notes → delta_in original ≤ 2 ^ 20
+delta-to original added notes can =
+    greatest-to (loadable (program_headers original)) 4096 (omega arith) (aligned original (accepted original can.sound))
+
+-- as the image has it
+pub delta-image : (original : List ℕ) → fold (λ most segment. max most segment.align) 4096 (image_of original).segments ≡ delta_in original
+unfolding image_of
+delta-image original = fold-map (λ most segment. max most segment.align) segment_of 4096 (loadable (program_headers original))
+
+-- all offsets fit their words
+pub offsets_fit : (original : List ℕ) (added : List AddedSegment) (notes : List ℕ) → CanWrite original added notes
+    → notes_at original added + length notes < 1544 * 2 ^ 20
+offsets_fit original added notes can =
+    omega (arith, segments_end-to (original_end original) added, delta-to original added notes can, can.few, can.small)
+
+-- the notes stand behind the locator's page
+pub notes-beyond : (original : List ℕ) (added : List AddedSegment) → 4096 ≤ notes_at original added
+notes-beyond original added =
+    omega (arith, segments_end-from (original_end original) added, delta-from original)

@@ -1,15 +1,9 @@
 -- The section table: an entry more, and how long it is.
-use Rattle.std.proofs.Common.{nat_eq, ap, ◌∙◌, ◌≡◌, ℕ, ◌+◌, ◌*◌, ◌<◌, ◌≤◌, List, [], ◌∷◌, ◌++◌, length, drop, get_or, take, append-nil, length-append, refl, add-one, arith}
-use Rattle.std.proofs.lemmas.Bool.{cond_both}
-use Rattle.std.specs.List.{flat_map, range_with_len}
-use Rattle.std.proofs.lemmas.List.{length-take, length-drop}
+use Rattle.elf32_write.proofs.Common.{nat_eq, ap, ◌∙◌, ◌≡◌, ℕ, ◌+◌, ◌*◌, ◌<◌, ◌≤◌, List, [], ◌∷◌, ◌++◌, length, get_or, take, append-nil, length-append, refl, arith, cond_both, flat_map, range_with_len, length-take, length-bytes_high_first, word_at, section_count, moved, section_copy, section_entry, section_table, common_steps, flat_map-append}
+use Rattle.std.proofs.Common.{add-one}
+use Rattle.std.proofs.lemmas.List.{length-drop}
 use Rattle.std.proofs.lemmas.List.FromFn.{length-range_with_len}
-use Rattle.byteorder.specs.Numbers.{length-bytes_high_first}
-use Rattle.elf32_sparc.specs.Header.{word_at}
-use Rattle.elf32_sparc.specs.Symbols.{e_shoff, section_count}
 use Rattle.elf32_sparc.proofs.Functions.{one_more}
-use Rattle.elf32_write.specs.Sections.{moved, section_copy, section_entry, section_table}
-use Rattle.std.proofs.lemmas.Grind.{common_steps, flat_map-append}
 
 pub entries-more : (h : ℕ → List ℕ) (n : ℕ) → flat_map h (range_with_len 0 (n + 1)) ≡ flat_map h (range_with_len 0 n) ++ h n
 entries-more h n =
@@ -18,15 +12,11 @@ entries-more h n =
 
 -- ---- how many bytes it has
 
-length-moved : (delta : ℕ) (entry : List ℕ) → length entry ≤ 40 → length (moved delta entry) ≤ 40
-length-moved delta entry few =
-    simp (length-append, length-take, length-drop, length-bytes_high_first) (omega arith)
-
 length-section_copy : (delta : ℕ) (entry : List ℕ) → length entry ≤ 40 → length (section_copy delta entry) ≤ 40
 unfolding section_copy
 length-section_copy delta entry few =
     cond_both (nat_eq (word_at entry 4) 0) entry (moved delta entry) (λ e. length e ≤ 40) (λ _. few)
-    (λ _. length-moved delta entry few)
+    (λ _. simp (length-append, length-take, length-drop, length-bytes_high_first) (omega arith))
 
 length-entries : (h : ℕ → List ℕ) → ((n : ℕ) → length (h n) ≤ 40) → (ns : List ℕ) → length (flat_map h ns) ≤ 40 * length ns
 length-entries h each [] = omega arith
@@ -35,14 +25,10 @@ length-entries h each (n ∷ ns) = simp length-append (omega (arith, each n, len
 pub length-section_table : (delta : ℕ) (original : List ℕ) → length (section_table delta original) ≤ 40 * section_count original
 unfolding section_table
 length-section_table delta original =
-    let entry = λ (n : ℕ). length-section_copy delta (section_entry original n)
-    (omega (arith, length-take 40 (drop (e_shoff original + 40 * n) original))) in
-    omega (
-      arith,
-      length-entries (λ n. section_copy delta (section_entry original n)) entry
-          (range_with_len 0 (section_count original)),
-      length-range_with_len 0 (section_count original),
-    )
+    let copy = λ (n : ℕ). section_copy delta (section_entry original n) in
+    let short = λ (n : ℕ). length-section_copy delta (section_entry original n) (simp length-take (omega arith)) in
+    let count = section_count original in
+    omega (arith, length-entries copy short (range_with_len 0 count), length-range_with_len 0 count)
 
 -- fields that are added one by one
 pub fields-more : (field : ℕ → List ℕ) (numbers : List ℕ) (k : ℕ) (old out bytes new : List ℕ) → k < length numbers

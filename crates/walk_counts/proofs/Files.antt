@@ -1,5 +1,5 @@
 -- The walk of a file's run matches it.
-use Rattle.std.proofs.Common.{◌≡◌, ℕ, ◌<◌, true, List, [], ◌∷◌, length, Some, None, refl, sym, ap, ◌∙◌, subst, arith}
+use Rattle.std.proofs.Common.{◌≡◌, ℕ, ◌<◌, true, List, [], ◌∷◌, length, Some, None, refl, arith}
 use Rattle.eel_base.specs.CodeText.{Words, address_of}
 use Rattle.eel_base.specs.Code.{IsText}
 use Rattle.elf32_sparc.specs.Header.{e_entry}
@@ -18,24 +18,20 @@ use Rattle.cfg_blocks.specs.Blocks.{blocks_of, is_among}
 use Rattle.cfg_blocks.specs.Entries.{entered_of}
 use Rattle.cfg_blocks.specs.Switches.{switches_of}
 use Rattle.cfg_normal.specs.Opens.{Open, opens_of}
-use Rattle.cfg_normal.specs.Graph.{graph_of, node_of}
-use Rattle.cfg_normal.specs.Numbers.{node_numbers}
-use Rattle.cfg_walk.specs.Matches.{AreOpen, BeginsAt, FetchesOnly, JumpsGoByCase, MatchesRun}
-use Rattle.walk_counts.specs.Files.{WalksOfFilesMatch}
-use Rattle.cfg_normal.specs.Numbers.{node_number}
+use Rattle.cfg_normal.specs.Graph.{Graph, graph_of}
+use Rattle.cfg_walk.specs.Matches.{AreOpen, BeginsAt, FetchesOnly, JumpsGoByCase, MatchesRun, OfEachRun}
+use Rattle.walk_counts.specs.Files.{OfEachFile, WalksOfFilesMatch, graph_in}
 use Rattle.span_tree.specs.Links.{links_of}
 use Rattle.walk_counts.specs.Counts.{AreFlows, CountsAreEnough, ExecutionsOfFilesAreFlows, IsPath}
 use Rattle.switch_runs.proofs.Opened.{are_open, opens_are}
 use Rattle.switch_runs.proofs.Starts.{text_is_held}
 use Rattle.switch_runs.proofs.Walking.{jumps_are_cases}
-use Rattle.walk_counts.proofs.Texts.{HasText, text_found, text_from-start}
-use Rattle.walk_counts.proofs.Fetching.{only_text_is_fetched}
+use Rattle.walk_counts.proofs.Fetching.{only_text_is_fetched, text_found}
 use Rattle.cfg_walk.proofs.Walks.{walks_match}
 use Rattle.cfg_walk.proofs.Nodes.{node_in}
 use Rattle.span_tree.proofs.Connected.{number_inside}
-use Rattle.walk_counts.proofs.Links.{links_are_a_graph}
 use Rattle.cfg_walk.proofs.Cut.{cut}
-use Rattle.walk_counts.proofs.Paths.{executions_are_flows, walks_are_paths}
+use Rattle.walk_counts.proofs.Paths.{links_are_a_graph, executions_are_flows, walks_are_paths}
 
 -- the entry is the address of a word
 pub record IsEntry (text : Words) (entry : ℕ) : Type 0 where
@@ -46,17 +42,12 @@ pub record IsEntry (text : Words) (entry : ℕ) : Type 0 where
 pub entry_is : (file : List ℕ) → fault file ≡ None → IsEntry (text_of file) (e_entry file)
 unfolding image_of
 entry_is file sound =
-    let text : HasText file = text_found file (accepted file sound) in
+    let text = text_found file (accepted file sound) _ refl in
     let program : IsProgram (image_of file) = accepted-program file sound in
-    let start : (text_of file).start ≡ text.header.p_vaddr =
-    ap (λ (t : Words). t.start) text.is ∙ text_from-start file text.header in
+    let start = text.start in
     let starts = text.fit.starts in
     let aligned = text.fit.aligned in
-    record {
-      text_is = subst IsText (sym text.is) text.fit.text;
-      within = program.entry;
-      address = omega (arith, start, starts, aligned);
-    }
+    record { text_is = text.text_is; within = program.entry; address = omega arith }
 
 pub begins : (file : List ℕ) (args : List (List ℕ)) (input : List ℕ) → IsEntry (text_of file) (e_entry file)
     → BeginsAt (text_of file) (word_number (text_of file) (e_entry file)) (start_of file args input)
@@ -64,20 +55,9 @@ unfolding start_of
 begins file args input entry =
     let below = entry.text_is.below in
     let within = entry.within in
-    record {
-      within = entry.within;
-      pc = entry.address;
-      npc = omega (arith, entry.address, below, within);
-      slot = refl;
-    }
+    record { within = within; pc = entry.address; npc = omega (arith, entry.address); slot = refl }
 
 -- ---- the laws of files
-
--- the open switches of a file's text, where these words lead besides
-abbrev pub opens_in : List ℕ → List ℕ → ℕ → List Open
-opens_in file given entry =
-    let list = entered_of (text_of file) given in
-    opens_of (text_of file) list (switches_of (text_of file) list entry)
 
 module _ (file : List ℕ) (args : List (List ℕ)) (input given : List ℕ) (sound : fault file ≡ None)
     (bytes : AreBytes file) (valid : IsValid (start_of file args input))
@@ -91,17 +71,15 @@ module _ (file : List ℕ) (args : List (List ℕ)) (input given : List ℕ) (so
   abbrev s0 : State
   s0 = start_of file args input
 
+  -- the open switches of a file's text, where these words lead besides
   abbrev opens : List Open
-  opens = opens_in file given number
+  opens = opens_of text (entered_of text given) (switches_of text (entered_of text given) number)
 
   entry : IsEntry text (e_entry file)
   entry = entry_is file sound
 
   fetches : FetchesOnly text s0
   fetches = only_text_is_fetched file args input sound bytes
-
-  starts : BeginsAt text number s0
-  starts = begins file args input entry
 
   pub opened : AreOpen (blocks_of text given) opens
   unfolding entered_of
@@ -110,44 +88,39 @@ module _ (file : List ℕ) (args : List (List ℕ)) (input given : List ℕ) (so
   pub by_case : JumpsGoByCase text (graph_of (blocks_of text given) opens) number s0
   unfolding entered_of
   by_case =
-      jumps_are_cases text given number s0 entry.text_is valid fetches (text_is_held file args input sound bytes) starts
-      among
+      jumps_are_cases text given number s0 entry.text_is valid fetches (text_is_held file args input sound bytes)
+      (begins file args input entry) among
 
-  pub matching : (n : ℕ) → MatchesRun text (graph_of (blocks_of text given) opens) number s0 n
-  matching n = walks_match text given opens number s0 n entry.text_is fetches starts opened by_case
+  -- what holds of each run holds of this one
+  of_file : (Holds : Words → Graph → ℕ → State → ℕ → Type 0) → OfEachRun Holds → (n : ℕ)
+      → Holds text (graph_of (blocks_of text given) opens) number s0 n
+  of_file Holds of_runs n =
+      of_runs text given opens number s0 n entry.text_is fetches (begins file args input entry) opened by_case
 
-  pub paths : (n : ℕ) → IsPath text (graph_of (blocks_of text given) opens) number s0 n
-  paths n = walks_are_paths text given opens number s0 n entry.text_is fetches starts opened by_case
-
-  pub flow : (n : ℕ) → AreFlows text (graph_of (blocks_of text given) opens) number s0 n
-  flow n = executions_are_flows text given opens number s0 n entry.text_is fetches starts opened by_case
+of_files : (Holds : Words → Graph → ℕ → State → ℕ → Type 0) → OfEachRun Holds → OfEachFile Holds
+unfolding image_of entered_of
+of_files Holds of_runs file args input given n sound bytes valid among =
+    of_file file args input given sound bytes valid among Holds of_runs n
 
 pub walks_of_files_match : WalksOfFilesMatch
-unfolding image_of entered_of
-walks_of_files_match file args input given n sound bytes valid among =
-    matching file args input given sound bytes valid among n
+walks_of_files_match = of_files MatchesRun walks_match
 
 pub executions_of_files_are_flows : ExecutionsOfFilesAreFlows
-unfolding image_of entered_of
-executions_of_files_are_flows file args input given n sound bytes valid among =
-    flow file args input given sound bytes valid among n
+executions_of_files_are_flows = of_files AreFlows executions_are_flows
 
 -- a walk of a graph from one of its nodes ends at one
 ends_inside : (g : PlainGraph) (a : ℕ) (es : List ℕ) (b : ℕ) → IsGraph g → a < g.nodes → IsWalk g a es b → b < g.nodes
-ends_inside g a [] b is inside walk = subst (λ (v : ℕ). v < g.nodes) walk inside
+ends_inside g a [] b is inside walk = rw (← walk) inside
 ends_inside g a (e ∷ es) b is inside (below, leaves, walk) = ends_inside g (g.to e) es b is (is e below).1 walk
 
 pub counts_are_enough : CountsAreEnough
 unfolding image_of entered_of
 counts_are_enough file args input given n sound bytes valid among edges flow_of determines is_flow agrees =
     let number = word_number (text_of file) (e_entry file) in
-    let b = blocks_of (text_of file) given in
-    let opens = opens_in file given number in
-    let g = graph_of b opens in
+    let g = graph_in file given in
     let some = (cut (text_of file) given (entry_is file sound).text_is.some).firsts.some in
-    let first_inside : node_number g (node_of b (Some number)) < node_numbers g =
-    number_inside g (node_of b (Some number)) (node_in b opens some (Some number)) in
+    let first_inside = number_inside g _ (node_in (blocks_of (text_of file) given) g.opens some (Some number)) in
     determines _ _ flow_of _ first_inside
-    (ends_inside (links_of g) _ _ _ (links_are_a_graph b opens) first_inside
-    (paths file args input given sound bytes valid among n))
-    is_flow (flow file args input given sound bytes valid among n) agrees
+    (ends_inside (links_of g) _ _ _ (links_are_a_graph g.blocks g.opens) first_inside
+    (of_files IsPath walks_are_paths file args input given n sound bytes valid among))
+    is_flow (executions_of_files_are_flows file args input given n sound bytes valid among) agrees

@@ -1,9 +1,8 @@
--- The walk of a run is a walk of the plain graph.
-use Rattle.std.specs.Prelude.{if◌then◌else◌}
-use Rattle.std.proofs.Common.{◌-◌, ◌≡◌, ◌≢◌, ℕ, zero, suc, ◌<◌, Bool, true, false, ◌&&◌, List, [], ◌∷◌, ◌++◌, length, Option, Some, None, refl, ap, sym, ◌∙◌, subst}
+-- The plain graph of a flow graph; the walk of a run is a walk of it.
+use Rattle.std.proofs.Common.{◌-◌, ◌≡◌, ℕ, zero, suc, ◌<◌, Bool, true, ◌&&◌, List, [], ◌∷◌, ◌++◌, length, Option, Some, None, refl, ap, sym, subst, inl, inr, arith}
 use Rattle.std.specs.List.{position, slice_get}
 use Rattle.std.specs.Option.{option_to_list}
-use Rattle.std.proofs.lemmas.Bool.{and_parts, cond_both, false≢true}
+use Rattle.std.proofs.lemmas.Bool.{and_parts, cond_both, cases_lt}
 use Rattle.std.proofs.lemmas.List.Quantifiers.{position-Some}
 use Rattle.std.proofs.lemmas.Option.{slice_get-get_or}
 use Rattle.eel_base.specs.CodeText.{Words, word_at}
@@ -24,18 +23,39 @@ use Rattle.cfg_normal.specs.declared.Edge.{Edge}
 use Rattle.cfg_normal.specs.declared.Node.{Node}
 use Rattle.cfg_normal.specs.declared.Node.TheVariants.{X}
 use Rattle.cfg_normal.specs.Opens.{Open}
-use Rattle.cfg_normal.specs.Graph.{Graph, graph_of, has_cases, lands_of}
-use Rattle.cfg_walk.specs.Walk.{instr_at, way_of, Point, WayOut, by_kind, completed, edge_along, leads_along as is_to, way_to, edge_from, end_of_walk, ends_block, gone, landed, landing_at, led_to, left_at, left_by, node_after, point_of, slot_left, unless_ended, walk}
+use Rattle.cfg_normal.specs.Graph.{Graph, graph_of, has_cases, lands_of, edges_in}
+use Rattle.cfg_walk.specs.Walk.{instr_at, way_of, Point, WayOut, by_kind, completed, edge_along, leads_along as is_to, edge_from, end_of_walk, ends_block, gone, landed, landing_at, led_to, left_at, left_by, node_after, point_of, slot_left, unless_ended, walk}
 use Rattle.cfg_normal.specs.Nodes.{same_kind, same_node}
 use Rattle.cfg_walk.specs.Matches.{IsOnItsWay, MatchesBy}
 use Rattle.cfg_normal.specs.Numbers.{node_number}
-use Rattle.span_tree.specs.Links.{edge_at, links_of}
-use Rattle.walk_counts.specs.Counts.{ExecutionsAreFlows, WalksArePaths}
+use Rattle.span_tree.specs.Links.{edge_at, links_of, no_edge}
+use Rattle.walk_counts.specs.Counts.{ExecutionsAreFlows, WalksArePaths, LinksAreAGraph}
 use Rattle.cfg_walk.proofs.Lists.{each_in}
 use Rattle.cfg_walk.proofs.Edges.{land_from, leads_along, same_nodes}
-use Rattle.cfg_walk.proofs.Slots.{lands_not}
-use Rattle.cfg_walk.proofs.States.{out_goes}
 use Rattle.cfg_walk.proofs.Walks.{live_before, walks_match}
+use Rattle.cfg_normal.specs.Code.{IsNodeIn}
+use Rattle.span_tree.proofs.Connected.{number_inside}
+use Rattle.cfg_walk.proofs.Nodes.{edges_leave_in, edges_lead_in}
+
+-- ---- both ends of each edge are nodes
+
+-- without blocks there are no edges
+no_edges : (b : Blocks) (opens : List Open) → length b.firsts ≡ 0 → edges_in b opens ≡ []
+unfolding edges_in
+no_edges b opens none = rw none refl
+
+pub links_are_a_graph : LinksAreAGraph
+links_are_a_graph b opens e l = elim (cases_lt 0 (length b.firsts)) [
+  | inl some ↦ (
+    number_inside (graph_of b opens) _
+        (each_in (λ (edge : Edge). IsNodeIn b opens edge.from) (edges_in b opens) e no_edge (edges_leave_in b opens (omega arith)) l),
+    number_inside (graph_of b opens) _
+        (each_in (λ (edge : Edge). IsNodeIn b opens edge.to) (edges_in b opens) e no_edge (edges_lead_in b opens (omega arith)) l),
+  )
+  | inr none ↦ absurd (let none = no_edges b opens (omega arith) in omega (arith, rw none at l))
+]
+
+-- ---- paths
 
 walk-append : (g : PlainGraph) (a b c : ℕ) (es more : List ℕ) → IsWalk g a es b → IsWalk g b more c
     → IsWalk g a (es ++ more) c
@@ -112,78 +132,47 @@ module _ (text : Words) (b : Blocks) (opens : List Open) where
   landed_path address None e = rw e refl
   landed_path address (Some word) e = rw e (landing_path (lands_of b opens (Some word)))
 
-  slot_path : (node : Node) (before : Point) (way : EdgeKind) (next : ℕ) → next ≡ before.npc
-      → IsOnItsWay text graph node before way → IsPath graph node (slot_left text graph node way next)
-  slot_path node before way next same h =
-      path-append graph node (edge_along graph node w) (landed text graph w.kind next)
-      (along_path graph node w) (by (same_kind w.kind kinds.Out) refl)
-    where
-      w : WayOut
-      w = way_to text graph node way next
-
-      -- a way that goes out is that of a jump without Case edges
-      out_of : (way : EdgeKind) → same_kind (way_to text graph node way next).kind kinds.Out ≡ true
-          → (way ≡ kinds.Out) × (has_cases opens node ≡ false)
-      out_of kinds.Out e = (refl, plain (has_cases opens node) e)
-        where
-          plain : (x : Bool)
-              → same_kind (if x then record { kind = kinds.Case; to = Some (lands_of b opens (word_at text next)) } else by_kind kinds.Out).kind kinds.Out ≡ true
-              → x ≡ false
-          plain true e = absurd (false≢true e)
-          plain false e = refl
-      out_of _ e = absurd (false≢true e)
-
-      by : (x : Bool) → same_kind w.kind kinds.Out ≡ x
-          → IsPath graph (node_after graph node (edge_along graph node w)) (landed text graph w.kind next)
-      by false e = subst (IsPath graph (node_after graph node (edge_along graph node w))) (sym (lands_not text graph w.kind next e)) refl
-      by true e =
-          let out = out_of way e in
-          let h' : IsOnItsWay text graph node before kinds.Out =
-          subst (λ (k : EdgeKind). IsOnItsWay text graph node before k) out.0 h in
-          let is : w ≡ by_kind kinds.Out =
-          ap (λ k. way_to text graph node k next) out.0
-          ∙ ap (λ (x : Bool). if x then record { kind = kinds.Case; to = Some (lands_of b opens (word_at text next)) } else by_kind kinds.Out) out.1 in
-          let only : edge_along graph node w ≡ h'.number ∷ [] =
-          ap (λ k. edge_along graph node (way_to text graph node k next)) out.0
-          ∙ ap (λ a. edge_along graph node (way_to text graph node kinds.Out a)) same ∙ h'.only in
-          let to_x : node_after graph node (edge_along graph node w) ≡ X =
-          leads_along graph node _ h'.edge (record { number = h'.number; only = only; is = h'.is })
-          ∙ h'.lands_at refl
-          ∙ ap (λ (x : Bool). if x then lands_of b opens (word_at text before.npc) else X) out.1 in
-          subst (λ to. IsPath graph to (landed text graph w.kind next)) (sym to_x)
-          (subst (λ (v : WayOut). IsPath graph X (landed text graph v.kind next)) (sym is)
-          (landed_path next (word_at text next) refl))
+  slot_path : (node : Node) (before : Point) (way : EdgeKind) (next : ℕ) → IsOnItsWay text graph node before way
+      → IsPath graph node (slot_left text graph node way next)
+  slot_path node before kinds.Out next h =
+      let case : WayOut = record { kind = kinds.Case; to = Some (lands_of b opens (word_at text next)) } in
+      cond_both (has_cases opens node) case (by_kind kinds.Out)
+      (λ way. IsPath graph node (edge_along graph node way ++ landed text graph way.kind next))
+      (λ cased. path-append graph node (edge_along graph node case) [] (along_path graph node case) refl)
+      (λ plain.
+      let to : h.edge.to ≡ X = rw plain at (h.lands_at refl) in
+      let only : edge_from graph node kinds.Out ≡ h.number ∷ [] = rw plain at h.only in
+      path-append graph node (edge_from graph node kinds.Out) _ (edge_path graph node kinds.Out)
+      (rw (leads_along graph node _ h.edge (record { number = h.number; only = only; is = h.is }), to)
+      (landed_path next _ refl)))
+  slot_path node before way next h = path-append graph node (edge_from graph node way) [] (edge_path graph node way) refl
 
   -- ---- a step
 
   step_path : (node : Node) (before after : Point) (was now : Slot) → MatchesBy text graph node before was
-      → (was ≢ NoSlot → now ≡ NoSlot → after.pc ≡ before.npc)
       → IsPath graph node (completed text graph node before after was now)
-  step_path node before after NoSlot NoSlot h goes = path_at graph text node (word_at text before.pc)
-  step_path node before after was NoSlot h goes =
-      slot_path node before (way_of (instr_at text (before.pc - 4)) was) after.pc (goes (λ e. absurd (cc)) refl) h
-  step_path node before after _ _ h goes = refl
+  step_path node before after NoSlot NoSlot h = path_at graph text node (word_at text before.pc)
+  step_path node before after was NoSlot h =
+      slot_path node before (way_of (instr_at text (before.pc - 4)) was) after.pc h
+  step_path node before after _ _ h = refl
 
   pub gone_path : (node : Node) (s t : State) (o : Option Ending)
       → (o ≡ None → MatchesBy text graph node (point_of s) s.slot)
-      → (o ≡ None → s.slot ≢ NoSlot → t.slot ≡ NoSlot → t.pc ≡ s.npc)
       → IsPath graph node (gone text graph node (point_of s) (unless_ended o (point_of t)))
-  gone_path node s t None h goes = step_path node (point_of s) (point_of t) s.slot t.slot (h refl) (goes refl)
-  gone_path node s t (Some ending) h goes = refl
+  gone_path node s t None h = step_path node (point_of s) (point_of t) s.slot t.slot (h refl)
+  gone_path node s t (Some ending) h = refl
 
 pub walks_are_paths : WalksArePaths
 unfolding walk end_of_walk
 walks_are_paths text given opens entry s0 zero is fetches begins are cases = refl
 walks_are_paths text given opens entry s0 (suc n) is fetches begins are cases =
     let b = blocks_of text given in
-    let node : Node = end_of_walk text (graph_of b opens) entry s0 n in
     let s : State = run s0 n in
     let t : State = run s0 (suc n) in
     walk-append (links_of (graph_of b opens)) _ _ _ (walk text (graph_of b opens) entry s0 n) _
     (walks_are_paths text given opens entry s0 n is fetches begins are cases)
-    (gone_path text b opens node s t t.ending
-    (λ live. (walks_match text given opens entry s0 n is fetches begins are cases (live_before s live)).0)
-    (λ live was now. out_goes s live was))
+    (gone_path text b opens (end_of_walk text (graph_of b opens) entry s0 n) s t t.ending
+    (λ live. (walks_match text given opens entry s0 n is fetches begins are cases (live_before s live)).0))
 
 pub executions_are_flows : ExecutionsAreFlows
 executions_are_flows text given opens entry s0 n is fetches begins are cases =

@@ -1,7 +1,6 @@
 -- The walks of small programs: they compute.
 use Rattle.std.specs.Prelude.{ℕ, List, [], ◌≡◌, ◌∷◌, refl, length, map}
 use Rattle.eel_base.specs.CodeText.{Words}
-use Rattle.flows.specs.Flows.{Graph as PlainGraph}
 use Rattle.cfg_blocks.specs.Blocks.{blocks_of, leaders, below}
 use Rattle.cfg_blocks.specs.Ends.{end_at}
 use Rattle.cfg_normal.specs.Graph.{Graph, graph_of, edges_in}
@@ -30,109 +29,61 @@ unfolding graph_with walk end_of_walk
 executions_with words starts n e =
     executions (text_with words) (graph_with words starts) 0 (start_of (file_of words) [] []) n e
 
--- falls off no block: it exits within its first one
-pub three_words_walk : walk_with three_words (0 ∷ []) 3 ≡ []
-unfolding walk_with
-three_words_walk = refl
+-- the walk of so many steps, and how many edges the graph has
+abbrev Walks : List ℕ → List ℕ → ℕ → List ℕ → ℕ → Type 0
+Walks words starts n es edges =
+    (walk_with words starts n ≡ es) × (length (graph_with words starts).edges ≡ edges)
 
-three_words_edges : length (graph_with three_words (0 ∷ [])).edges ≡ 2
-unfolding graph_with
-three_words_edges = refl
+-- falls off no block: it exits within its first one
+pub three_words_walks : Walks three_words (0 ∷ []) 3 [] 2
+unfolding walk_with
+three_words_walks = (refl, refl)
 
 -- a branch that is taken, and a fall into the next block
-taken_branch_walk : walk_with taken_branch (0 ∷ []) 6 ≡ 0 ∷ 5 ∷ []
+taken_branch_walks : Walks taken_branch (0 ∷ []) 6 (0 ∷ 5 ∷ []) 13
 unfolding walk_with
-taken_branch_walk = refl
-
-taken_branch_edges : length (graph_with taken_branch (0 ∷ [])).edges ≡ 13
-unfolding graph_with
-taken_branch_edges = refl
+taken_branch_walks = (refl, refl)
 
 -- a branch to the word after its slot
-branch_over_nop_walk : walk_with branch_over_nop (0 ∷ []) 6 ≡ 0 ∷ []
+branch_over_nop_walks : Walks branch_over_nop (0 ∷ []) 6 (0 ∷ []) 7
 unfolding walk_with
-branch_over_nop_walk = refl
-
-branch_over_nop_edges : length (graph_with branch_over_nop (0 ∷ [])).edges ≡ 7
-unfolding graph_with
-branch_over_nop_edges = refl
+branch_over_nop_walks = (refl, refl)
 
 -- a loop: its branch is taken four times
-carry_loop_walk : walk_with carry_loop (0 ∷ []) 23 ≡ 0 ∷ 1 ∷ 1 ∷ 1 ∷ 1 ∷ 2 ∷ []
+carry_loop_walks : Walks carry_loop (0 ∷ []) 23 (0 ∷ 1 ∷ 1 ∷ 1 ∷ 1 ∷ 2 ∷ []) 9
+    × (map (executions_with carry_loop (0 ∷ []) 23) (below 9) ≡ 1 ∷ 4 ∷ 1 ∷ 0 ∷ 0 ∷ 0 ∷ 0 ∷ 0 ∷ 0 ∷ [])
+unfolding walk_with executions_with
+carry_loop_walks = ((refl, refl), refl)
+
+-- a CALL, and the jump back, which lands at the block of its target: edges 0, 3 and 7 lead from block 0 to block 3, from
+-- there to X, which is node 5, and from X to block 2
+call_and_return_walks : Walks call_and_return (0 ∷ 4 ∷ []) 6 (0 ∷ 3 ∷ 7 ∷ []) 10
+    × (map (links_of (graph_with call_and_return (0 ∷ 4 ∷ []))).from (0 ∷ 3 ∷ 7 ∷ []) ≡ 0 ∷ 3 ∷ 5 ∷ [])
+    × (map (links_of (graph_with call_and_return (0 ∷ 4 ∷ []))).to (0 ∷ 3 ∷ 7 ∷ []) ≡ 3 ∷ 5 ∷ 2 ∷ [])
 unfolding walk_with
-carry_loop_walk = refl
-
-carry_loop_edges : length (graph_with carry_loop (0 ∷ [])).edges ≡ 9
-unfolding graph_with
-carry_loop_edges = refl
-
-carry_loop_executions : map (executions_with carry_loop (0 ∷ []) 23) (below 9)
-    ≡ 1 ∷ 4 ∷ 1 ∷ 0 ∷ 0 ∷ 0 ∷ 0 ∷ 0 ∷ 0 ∷ []
-unfolding executions_with
-carry_loop_executions = refl
-
--- a CALL, and the jump back, which lands at the block of its target
-call_and_return_walk : walk_with call_and_return (0 ∷ 4 ∷ []) 6 ≡ 0 ∷ 3 ∷ 7 ∷ []
-unfolding walk_with
-call_and_return_walk = refl
-
-call_and_return_edges : length (graph_with call_and_return (0 ∷ 4 ∷ [])).edges ≡ 10
-unfolding graph_with
-call_and_return_edges = refl
-
--- edges 0, 3 and 7 lead from block 0 to block 3, from there to X, which is node 5, and from X to block 2
-abbrev call_and_return_links : PlainGraph
-call_and_return_links = links_of (graph_with call_and_return (0 ∷ 4 ∷ []))
-
-call_and_return_from : map call_and_return_links.from (0 ∷ 3 ∷ 7 ∷ []) ≡ 0 ∷ 3 ∷ 5 ∷ []
-unfolding graph_with
-call_and_return_from = refl
-
-call_and_return_to : map call_and_return_links.to (0 ∷ 3 ∷ 7 ∷ []) ≡ 3 ∷ 5 ∷ 2 ∷ []
-unfolding graph_with
-call_and_return_to = refl
+call_and_return_walks = ((refl, refl), refl, refl)
 
 -- landings in the middle of a block, and at a delay slot
-inner_landings_walk : walk_with inner_landings (0 ∷ 2 ∷ []) 10 ≡ 0 ∷ 2 ∷ 13 ∷ 4 ∷ 16 ∷ 7 ∷ []
+inner_landings_walks : Walks inner_landings (0 ∷ 2 ∷ []) 10 (0 ∷ 2 ∷ 13 ∷ 4 ∷ 16 ∷ 7 ∷ []) 18
 unfolding walk_with
-inner_landings_walk = refl
-
-inner_landings_edges : length (graph_with inner_landings (0 ∷ 2 ∷ [])).edges ≡ 18
-unfolding graph_with
-inner_landings_edges = refl
+inner_landings_walks = (refl, refl)
 
 -- ends where nothing has returned
-exit_three_calls_deep_walk : walk_with exit_three_calls_deep (0 ∷ 2 ∷ 4 ∷ 6 ∷ []) 9 ≡ 0 ∷ 2 ∷ 4 ∷ []
+exit_three_calls_deep_walks : Walks exit_three_calls_deep (0 ∷ 2 ∷ 4 ∷ 6 ∷ []) 9 (0 ∷ 2 ∷ 4 ∷ []) 14
 unfolding walk_with
-exit_three_calls_deep_walk = refl
-
-exit_three_calls_deep_edges : length (graph_with exit_three_calls_deep (0 ∷ 2 ∷ 4 ∷ 6 ∷ [])).edges ≡ 14
-unfolding graph_with
-exit_three_calls_deep_edges = refl
+exit_three_calls_deep_walks = (refl, refl)
 
 -- falls out of the text
-one_nop_walk : walk_with one_nop (0 ∷ []) 2 ≡ 0 ∷ []
+one_nop_walks : Walks one_nop (0 ∷ []) 2 (0 ∷ []) 2
 unfolding walk_with
-one_nop_walk = refl
-
-one_nop_edges : length (graph_with one_nop (0 ∷ [])).edges ≡ 2
-unfolding graph_with
-one_nop_edges = refl
+one_nop_walks = (refl, refl)
 
 -- a jump out of the text lands nowhere
-jump_to_zero_walk : walk_with jump_to_zero (0 ∷ []) 3 ≡ 0 ∷ []
+jump_to_zero_walks : Walks jump_to_zero (0 ∷ []) 3 (0 ∷ []) 4
 unfolding walk_with
-jump_to_zero_walk = refl
-
-jump_to_zero_edges : length (graph_with jump_to_zero (0 ∷ [])).edges ≡ 4
-unfolding graph_with
-jump_to_zero_edges = refl
+jump_to_zero_walks = (refl, refl)
 
 -- a step that ends the run completes no edge
-transfer_in_slot_walk : walk_with transfer_in_slot (0 ∷ []) 2 ≡ []
+transfer_in_slot_walks : Walks transfer_in_slot (0 ∷ []) 2 [] 6
 unfolding walk_with
-transfer_in_slot_walk = refl
-
-transfer_in_slot_edges : length (graph_with transfer_in_slot (0 ∷ [])).edges ≡ 6
-unfolding graph_with
-transfer_in_slot_edges = refl
+transfer_in_slot_walks = (refl, refl)

@@ -1,25 +1,16 @@
 -- The headers of a file that holds some words, and their fields.
-use Rattle.std.proofs.Common.{◌≡◌, ℕ, ◌+◌, ◌*◌, ◌^◌, ◌<◌, ◌≤◌, List, [], ◌∷◌, ◌++◌, length, drop, refl, ap, ◌∙◌, length-append, arith}
-use Rattle.std.specs.Int.{w32, to_be_bytes}
-use Rattle.std.proofs.lemmas.Bool.{le-leb}
-use Rattle.byteorder.specs.Endian.{big_number}
-use Rattle.byteorder.specs.Numbers.{length-bytes_high_first, big_number-reads_back}
+use Rattle.workload.proofs.Common.{◌≡◌, ℕ, ◌+◌, ◌*◌, ◌^◌, ◌<◌, ◌≤◌, List, [], ◌∷◌, ◌++◌, length, drop, refl, arith, w32, to_be_bytes, big_number, big_number-reads_back, e_entry, program_headers, bytes_of, header_words, file_of}
 use Rattle.elf32_sparc.specs.declared.header.ProgramHeader.{ProgramHeader}
-use Rattle.elf32_sparc.specs.Header.{half_at, word_at, ei_magic, e_type, e_machine, e_version, e_entry, e_phoff, e_ehsize, e_phentsize, e_phnum, program_header, headers_from, program_headers}
-use Rattle.workload.specs.Generated.{bytes_of, header_words, file_of}
+use Rattle.std.proofs.lemmas.Bool.{le-leb}
+use Rattle.workload.proofs.Made.{length-flat_map}
+use Rattle.byteorder.specs.Numbers.{length-bytes_high_first}
+use Rattle.elf32_sparc.specs.Header.{half_at, word_at, ei_magic, e_type, e_machine, e_version, e_phoff, e_ehsize, e_phentsize, e_phnum, program_header}
 
 pub length-bytes_of : (ws : List ℕ) → length (bytes_of ws) ≡ 4 * length ws
-length-bytes_of [] = refl
-length-bytes_of (w ∷ ws) =
-    let here = length-bytes_high_first 4 w in
-    let rest = length-bytes_of ws in
-    let both = length-append (to_be_bytes w32 w) (bytes_of ws) in
-    omega (arith, here, rest, both)
+length-bytes_of = length-flat_map (to_be_bytes w32) 4 (length-bytes_high_first 4)
 
 pub length-file : (ws : List ℕ) → length (file_of ws) ≡ 84 + 4 * length ws
-length-file ws =
-    let all = length-bytes_of (header_words (4 * length ws) ++ ws) in
-    omega (arith, all)
+length-file ws = omega (arith, length-bytes_of (header_words (4 * length ws) ++ ws))
 
 word_there : (file : List ℕ) (at n : ℕ) → at + 4 ≤ length file → big_number 4 (drop at file) ≡ n → word_at file at ≡ n
 unfolding word_at
@@ -63,24 +54,13 @@ entry_read ws fits =
     let long = length-file ws in
     let memsz = big_number-reads_back 4 size (bytes_of (5 ∷ 0x10000 ∷ ws)) (omega arith) in
     let filesz = big_number-reads_back 4 size (bytes_of (size ∷ 5 ∷ 0x10000 ∷ ws)) (omega arith) in
-    rw (
-      word_there file 52 1 (omega arith) refl,
-      word_there file 56 84 (omega arith) refl,
-      word_there file 60 0x10054 (omega arith) refl,
-      word_there file 64 0x10054 (omega arith) refl,
-      word_there file 68 size (omega arith) filesz,
-      word_there file 72 size (omega arith) memsz,
-      word_there file 76 5 (omega arith) refl,
-      word_there file 80 0x10000 (omega arith) refl,
-    ) refl
-
-table_read : (ws : List ℕ) → 4 * length ws < 2 ^ 32 → e_phoff (file_of ws) ≡ 52 → e_phnum (file_of ws) ≡ 1
-    → program_headers (file_of ws) ≡ text_entry (4 * length ws) ∷ []
-unfolding program_headers
-table_read ws fits at count =
-    rw (at, count, entry_read ws fits) refl
+    rw (word_there file 52 1 (omega arith) refl, word_there file 56 84 (omega arith) refl)
+    (rw (word_there file 60 0x10054 (omega arith) refl, word_there file 64 0x10054 (omega arith) refl)
+    (rw (word_there file 68 size (omega arith) filesz, word_there file 72 size (omega arith) memsz)
+    (rw (word_there file 76 5 (omega arith) refl, word_there file 80 0x10000 (omega arith) refl) refl)))
 
 pub header_facts : (ws : List ℕ) → 4 * length ws < 2 ^ 32 → HeaderFacts ws
+unfolding program_headers
 header_facts ws fits =
     let file = file_of ws in
     let long = length-file ws in
@@ -96,5 +76,5 @@ header_facts ws fits =
       ehsize = half_there file 40 52 (omega arith) refl;
       phentsize = half_there file 42 32 (omega arith) refl;
       phnum = count;
-      entries = table_read ws fits at count;
+      entries = rw (at, count, entry_read ws fits) refl;
     }

@@ -1,12 +1,8 @@
+pub mod Common
 mod Made
 mod Headers
 pub mod Faults
-mod Steps
-mod Way
-mod Turns
-mod Calls
-mod Ends
-mod Standing
+mod Ways
 pub mod Texts
 pub mod Runs
 pub mod Room

@@ -1,31 +1,25 @@
 -- The run of the generated file.
-use Rattle.std.proofs.Common.{◌≡◌, ℕ, zero, suc, ◌+◌, ◌*◌, ◌%◌, ◌≤◌, false, List, [], ◌∷◌, length, map, ap, sym, subst, mul-le-mul, arith}
-use Rattle.std.specs.List.{sum_by}
-use Rattle.std.proofs.lemmas.List.Sums.{sum_by-cons}
-use Rattle.v8_encode.specs.Encoding.{word_of}
-use Rattle.v8_memory.specs.Regions.{Memory}
-use Rattle.v8_alu.specs.declared.Codes.{Codes}
-use Rattle.v8_step.specs.declared.Slot.TheVariants.{NoSlot}
-use Rattle.v8_step.specs.State.{State}
+use Rattle.workload.proofs.Common.{◌≡◌, ℕ, zero, suc, ◌+◌, ◌-◌, ◌*◌, ◌%◌, ◌≤◌, false, inl, inr, List, [], ◌∷◌, length, map, refl, ap, sym, ◌∙◌, arith, cases_lt, fetch_of, sum_by, sum_by-cons, judged_in, instr_at, run, State, Exit, word_of, Codes, start_memory, routines_from, code_of, file_of, generated, IsTextWord, routine_steps, routine_sum, Routine, drawn}
+use Rattle.std.proofs.Common.{subst, mul-le-mul}
+use Rattle.two_runs.specs.Needed.{decoded}
+use Rattle.v8_step.specs.Step.{step_of}
+use Rattle.v8_memory.specs.Spans.{Span, IsApart, IsApartFromAll}
 use Rattle.v8_step.specs.Run.{first_state}
-use Rattle.v8_process.specs.Start.{start_of, start_memory, first_sp, program_name}
-use Rattle.workload.specs.declared.draws.Routine.{Routine}
-use Rattle.workload.specs.Generated.{stirred, drawn, routines_from, code_of, file_of, generated}
-use Rattle.workload.specs.Laws.{first, routine_steps, routine_sum, step_count, total, GeneratedRunsEnd}
+use Rattle.v8_step.proofs.Live.{stays_ended}
+use Rattle.v8_process.specs.Start.{start_of, first_sp, program_name}
+use Rattle.workload.specs.Laws.{first, step_count, text_span, total, GeneratedRunsEnd}
 use Rattle.workload.proofs.Made.{length-routines, word_count}
 use Rattle.workload.proofs.Headers.{header_facts}
-use Rattle.workload.proofs.Steps.{at}
-use Rattle.workload.proofs.Turns.{holding}
-use Rattle.workload.proofs.Calls.{IsDrawn, AreDrawn}
-use Rattle.workload.proofs.Standing.{text_stands}
-use Rattle.workload.proofs.Ends.{Ends, whole_run, goes_on, exits_at, holds_at, in_text, judges_none, untouched}
+use Rattle.workload.proofs.Ways.{IsDrawn, AreDrawn, Ends, later, whole_run}
+use Rattle.workload.proofs.Texts.{are_drawn, text_stands}
 
-pub are_drawn : (count x : ℕ) → AreDrawn (routines_from count x)
-are_drawn zero x = tt
-are_drawn (suc count) x = (
-  record { more = drawn x % 16; turns = omega arith; few = omega arith; small = omega arith },
-  are_drawn count (stirred (stirred x)),
-)
+-- what each routine has at most, all have at most as many times
+at_most : (f : Routine → ℕ) (most : ℕ) → ((r : Routine) → IsDrawn r → f r ≤ most) → (rs : List Routine) → AreDrawn rs
+    → sum_by f rs ≤ most * length rs
+at_most f most each [] d = omega arith
+at_most f most each (r ∷ rs) d =
+    let more : most * suc (length rs) ≡ most + most * length rs = omega arith in
+    omega (arith, each r d.0, at_most f most each rs d.1, sum_by-cons f r rs, more)
 
 -- a routine adds less than 1,024
 small_sum : (r : Routine) → IsDrawn r → routine_sum r ≤ 1024
@@ -34,72 +28,78 @@ small_sum r d =
     let below : r.amount ≤ 64 = omega (arith, d.small) in
     mul-le-mul most below
 
-small_sums : (rs : List Routine) → AreDrawn rs → sum_by routine_sum rs ≤ 1024 * length rs
-small_sums [] d = omega arith
-small_sums (r ∷ rs) d =
-    let here = small_sum r d.0 in
-    let rest = small_sums rs d.1 in
-    let both = sum_by-cons routine_sum r rs in
-    let more : 1024 * suc (length rs) ≡ 1024 + 1024 * length rs = omega arith in
-    omega (arith, here, rest, both, more)
-
-few_steps : (rs : List Routine) → AreDrawn rs → sum_by routine_steps rs ≤ 67 * length rs
-few_steps [] d = omega arith
-few_steps (r ∷ rs) d =
-    let turns = d.0.turns in
-    let few = d.0.few in
-    let here : routine_steps r ≤ 67 = omega arith in
-    let rest = few_steps rs d.1 in
-    let both = sum_by-cons routine_steps r rs in
-    let more : 67 * suc (length rs) ≡ 67 + 67 * length rs = omega arith in
-    omega (arith, here, rest, both, more)
-
-clear : Codes
-clear = record { n = false; z = false; v = false; c = false }
+few_steps : (r : Routine) → IsDrawn r → routine_steps r ≤ 67
+few_steps r d = omega (arith, d.turns, d.few)
 
 module _ (number count : ℕ) (some : 1 ≤ count) (few : count ≤ 100000) where
   abbrev rs : List Routine
   rs = routines_from count number
 
-  abbrev ws : List ℕ
-  ws = map word_of (code_of rs count)
-
-  abbrev m : Memory
-  m = start_memory (file_of ws) (program_name ∷ [])
-
-  abbrev sp : ℕ
-  sp = first_sp (program_name ∷ [])
-
-  starts : first number count ≡ at m sp 0x10054 0x10058 NoSlot (holding 0 0 0 clear)
-  unfolding start_of generated clear
-  starts =
-      let words = word_count number count in
-      ap (λ entry. first_state m entry sp []) (header_facts ws (omega arith)).entry
+  abbrev clear : Codes
+  clear = record { n = false; z = false; v = false; c = false }
 
   ends : Ends count (first number count) (total number count) (step_count number count)
+  unfolding start_of generated
   ends =
       let drawn = are_drawn count number in
-      let size = length-routines count number in
       let words = word_count number count in
-      let sums = small_sums rs drawn in
-      rw starts
+      let size = length-routines count number in
+      let sums = at_most routine_sum 1024 small_sum rs drawn in
+      let ws = map word_of (code_of rs count) in
+      let sp = first_sp (program_name ∷ []) in
+      let m = start_memory (file_of ws) (program_name ∷ []) in
+      subst (λ (s : State). Ends count s (total number count) (step_count number count))
+      (sym (ap (λ entry. first_state m entry sp []) (header_facts ws (omega (arith, words))).entry))
       (whole_run count m sp rs clear drawn size few
       (text_stands rs count (program_name ∷ []) drawn some few words) (omega (arith, sums, size)))
+
+-- ---- what is true of each of its states
+
+module _ (count : ℕ) (s : State) (sum k : ℕ) (e : Ends count s sum k) where
+  over : (n : ℕ) → k ≤ n → run s n ≡ e.last
+  over n late = later count e.way n late ∙ stays (n - k)
+    where
+      stays : (n : ℕ) → run e.last n ≡ e.last
+      stays zero = refl
+      stays (suc n) = ap step_of (stays n) ∙ stays_ended e.last (Exit (sum % 256)) e.ending
+
+  in_text : (n : ℕ) → IsTextWord count (run s n).pc
+  in_text n = elim (cases_lt n k) [
+    | inl early ↦ (e.way.during n early).inside
+    | inr late ↦ rw (over n late) e.inside
+  ]
+
+  judges_none : (n : ℕ) → judged_in (run s n) (instr_at (run s n)) ≡ []
+  judges_none n = elim (cases_lt n k) [
+    | inl early ↦ (e.way.during n early).judges_none
+    | inr late ↦ rw (over n late) (ap (λ x. judged_in e.last (decoded x (fetch_of e.last.memory e.last.pc))) e.ending)
+  ]
+
+all_apart : (count pc : ℕ) → IsTextWord count pc → (pages : List Span) → IsApartFromAll pages (text_span count)
+    → IsApartFromAll pages (record { from = pc; count = 1 })
+all_apart count pc at [] all = tt
+all_apart count pc at (page ∷ pages) all = (apart all.0, all_apart count pc at pages all.1)
+  where
+    apart : IsApart page (text_span count) → IsApart page (record { from = pc; count = 1 })
+    apart (inl before) = let above = at.above in inl (omega arith)
+    apart (inr after) = let below = at.below in inr (omega arith)
 
 pub generated_runs_end : GeneratedRunsEnd
 generated_runs_end number count some few =
     let s = first number count in
-    let sum = total number count in
-    let k = step_count number count in
     let e = ends number count some few in
-    let steps = few_steps (routines_from count number) (are_drawn count number) in
-    let size = length-routines count number in
+    let rs = routines_from count number in
+    let stands = in_text count s (total number count) (step_count number count) e in
+    let none = judges_none count s (total number count) (step_count number count) e in
     record {
-      few = omega (arith, steps, size);
-      goes_on = goes_on count s sum k e;
-      holds = holds_at count s sum k e;
-      exits = exits_at count s sum k e;
-      in_text = in_text count s sum k e;
-      judges_none = judges_none count s sum k e;
-      untouched = untouched count s sum k e;
+      few = omega (arith, at_most routine_steps 67 few_steps rs (are_drawn count number), length-routines count number);
+      goes_on = λ n early. (e.way.during n early).live;
+      holds = rw (e.way.arrives) e.holds;
+      exits = rw (e.way.arrives) e.ending;
+      in_text = stands;
+      judges_none = none;
+      untouched = λ pages all n. record {
+        outside = λ j l. all_apart count (run s j).pc (stands j) pages all;
+        unjudged = λ j l. rw (none j) tt;
+      };
     }

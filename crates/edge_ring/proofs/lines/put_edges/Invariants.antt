@@ -1,7 +1,4 @@
-use Rattle.std.proofs.Common.{◌≡◌, ◌++◌, take}
-use Rattle.std.specs.List.{flat_map}
-use Rattle.notes.specs.Code.{notes_seen}
-use Rattle.edge_ring.specs.Lines.{edge_line}
+use Rattle.edge_ring.proofs.Common.{◌≡◌, ◌++◌, take, flat_map, notes_seen, edge_line}
 use Rattle.edge_ring.proofs.lines.put_edges.Given as goal
 
 abbrev pub invariant-loop-edge : goal.invariant-loop-edge

@@ -1,5 +1,4 @@
-use Rattle.std.proofs.Common.{rules, refl}
-use Rattle.notes.specs.Code.{notes_seen}
+use Rattle.edge_ring.proofs.Common.{rules, refl, notes_seen}
 use Rattle.edge_ring.proofs.Traces.{ring_decides}
 use Rattle.edge_ring.proofs.reading.is_trace.Goals as goal
 

@@ -1,4 +1,4 @@
-use Rattle.byteorder.specs.Endian.{big_bytes}
+use Rattle.elf32_write.proofs.Common.{big_bytes}
 use Rattle.elf32_write.proofs.Tables.{fields-more}
 use Rattle.elf32_write.proofs.bytes.put_halves.Goals as goal
 

@@ -1,4 +1,4 @@
-use Rattle.std.proofs.Common.{rules}
+use Rattle.elf32_write.proofs.Common.{rules}
 use Rattle.elf32_write.proofs.Segments.{page_is}
 use Rattle.elf32_write.proofs.file.put_at_page.Goals as goal
 

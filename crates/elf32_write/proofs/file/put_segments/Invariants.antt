@@ -1,6 +1,4 @@
-use Rattle.std.proofs.Common.{◌≡◌, map, take}
-use Rattle.elf32_write.specs.Headers.{segment_seen}
-use Rattle.elf32_write.specs.Written.{with_segments}
+use Rattle.elf32_write.proofs.Common.{◌≡◌, map, take, segment_seen, with_segments}
 use Rattle.elf32_write.proofs.file.put_segments.Given as goal
 
 abbrev pub invariant-loop-segment : goal.invariant-loop-segment

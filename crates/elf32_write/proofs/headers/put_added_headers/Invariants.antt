@@ -1,6 +1,4 @@
-use Rattle.std.proofs.Common.{◌≡◌, ◌++◌, map, take}
-use Rattle.std.specs.List.{flat_map}
-use Rattle.elf32_write.specs.Headers.{segment_seen, segments_end, added_headers, program_header}
+use Rattle.elf32_write.proofs.Common.{◌≡◌, ◌++◌, map, take, flat_map, segment_seen, segments_end, added_headers, program_header}
 use Rattle.elf32_write.proofs.headers.put_added_headers.Given as goal
 
 abbrev pub invariant-loop-segment : goal.invariant-loop-segment

@@ -1,8 +1,4 @@
-use Rattle.std.proofs.Common.{arith, true, false, ◌≡◌, ℕ, ◌+◌, ◌<◌, List, ◌++◌, length, take, get_or, refl, sym, ◌∙◌}
-use Rattle.std.specs.List.{flat_map}
-use Rattle.std.proofs.lemmas.Grind.{common_steps}
-use Rattle.elf32_sparc.specs.declared.header.ProgramHeader.{ProgramHeader}
-use Rattle.elf32_write.specs.Headers.{carried_headers, carried_on, is_carried, program_header}
+use Rattle.elf32_write.proofs.Common.{arith, true, false, ◌≡◌, ℕ, ◌+◌, ◌<◌, List, ◌++◌, length, take, get_or, refl, sym, ◌∙◌, flat_map, common_steps, ProgramHeader, carried_headers, carried_on, is_carried, program_header}
 use Rattle.elf32_write.proofs.headers.put_carried_headers.Goals.{then-is_carried+in_ok-put_header, else-is_carried}
 use Rattle.elf32_write.proofs.headers.put_carried_headers.Goals as goal
 

@@ -1,6 +1,4 @@
-use Rattle.std.proofs.Common.{◌≡◌, ◌++◌, take}
-use Rattle.std.specs.List.{flat_map}
-use Rattle.elf32_write.specs.Headers.{carried_headers, program_header}
+use Rattle.elf32_write.proofs.Common.{◌≡◌, ◌++◌, take, flat_map, carried_headers, program_header}
 use Rattle.elf32_write.proofs.headers.put_carried_headers.Given as goal
 
 abbrev pub invariant-loop-header : goal.invariant-loop-header

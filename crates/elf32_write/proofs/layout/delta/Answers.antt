@@ -1,4 +1,4 @@
-use Rattle.elf32_write.proofs.Deltas.{delta-image}
+use Rattle.elf32_write.proofs.Segments.{delta-image}
 use Rattle.elf32_write.proofs.layout.delta.Goals as goal
 
 pub returns : goal.returns

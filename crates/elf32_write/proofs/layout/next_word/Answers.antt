@@ -1,5 +1,5 @@
 use Rattle.elf32_write.proofs.Segments.{word_is}
-use Rattle.std.proofs.Common.{◌∙◌}
+use Rattle.elf32_write.proofs.Common.{◌∙◌}
 use Rattle.elf32_write.proofs.layout.next_word.Goals as goal
 
 pub next_multiple_of-requires-clause-fits : goal.next_multiple_of-requires-clause-fits

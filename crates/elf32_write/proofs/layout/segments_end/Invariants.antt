@@ -1,5 +1,4 @@
-use Rattle.std.proofs.Common.{◌≡◌, map, take}
-use Rattle.elf32_write.specs.Headers.{segment_seen, segments_end}
+use Rattle.elf32_write.proofs.Common.{◌≡◌, map, take, segment_seen, segments_end}
 use Rattle.elf32_write.proofs.layout.segments_end.Given as goal
 
 abbrev pub invariant-loop-segment : goal.invariant-loop-segment

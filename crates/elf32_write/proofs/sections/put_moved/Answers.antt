@@ -1,8 +1,4 @@
-use Rattle.std.proofs.Common.{arith, rules, ◌≡◌, ℕ, ◌+◌, ◌%◌, ◌^◌, List, [], ◌∷◌, ◌++◌, take, drop}
-use Rattle.std.proofs.lemmas.Grind.{common_steps}
-use Rattle.elf32_sparc.specs.Header.{word_at}
-use Rattle.elf32_write.specs.Kept.{words_bytes}
-use Rattle.elf32_write.specs.Sections.{moved}
+use Rattle.elf32_write.proofs.Common.{arith, rules, ◌≡◌, ℕ, ◌+◌, ◌%◌, ◌^◌, List, [], ◌∷◌, ◌++◌, take, drop, common_steps, word_at, words_bytes, moved}
 use Rattle.elf32_write.proofs.sections.put_moved.Goals as goal
 
 put_around : (old one two new before after entry : List ℕ) (offset delta : ℕ) → before ≡ take 16 entry → after ≡ drop 20 entry

@@ -1,5 +1,4 @@
-use Rattle.std.proofs.Common.{append_assoc}
-use Rattle.elf32_write.specs.Sections.{section_copy, section_entry}
+use Rattle.elf32_write.proofs.Common.{append_assoc, section_copy, section_entry}
 use Rattle.elf32_write.proofs.Tables.{entries-more}
 use Rattle.elf32_write.proofs.sections.put_sections.Goals as goal
 

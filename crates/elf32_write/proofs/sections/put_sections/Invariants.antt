@@ -1,6 +1,4 @@
-use Rattle.std.proofs.Common.{◌≡◌, ◌++◌}
-use Rattle.std.specs.List.{flat_map, range_with_len}
-use Rattle.elf32_write.specs.Sections.{section_copy, section_entry}
+use Rattle.elf32_write.proofs.Common.{◌≡◌, ◌++◌, flat_map, range_with_len, section_copy, section_entry}
 use Rattle.elf32_write.proofs.sections.put_sections.Given as goal
 
 abbrev pub invariant-loop-number : goal.invariant-loop-number

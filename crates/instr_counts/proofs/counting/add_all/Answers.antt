@@ -1,9 +1,5 @@
-use Rattle.std.proofs.Common.{◌≡◌, ℕ, ◌+◌, ◌*◌, ◌<◌, length, slice_index, ap, ◌∙◌, arith}
-use Rattle.std.specs.Prelude.{◌==◌}
+use Rattle.instr_counts.proofs.Common.{◌≡◌, ℕ, ◌<◌, length, ap, ◌∙◌, arith, Graph}
 use Rattle.std.proofs.lemmas.List.Elements.{All-from_get_or}
-use Rattle.cfg_normal.specs.Graph.{Graph}
-use Rattle.instr_counts.specs.Private.{along, as_slot}
-use Rattle.instr_counts.specs.Visits.{one_if}
 use Rattle.instr_counts.proofs.Adding.{finished_is}
 use Rattle.instr_counts.proofs.counting.add_all.Goals as goal
 
@@ -17,21 +13,21 @@ returns-clause-visits c =
     let counts = c.args.counts.now in
     let words : g.blocks.words ≡ length v.image.text.words =
     ap (λ (g : Graph). g.blocks.words) c.requires.view.graph ∙ c.requires.view.words in
+    let len = c.requires.len in
+    let add_edges = c.add_edges.ensures.len in
+    let add = c.add.ensures.len in
+    let add_to = c.add_to.ensures.len in
     record {
-      len = omega (arith, c.requires.len, c.add_edges.ensures.len, c.add.ensures.len, c.add_to.ensures.len);
+      len = omega arith;
       each = λ word l.
-          let inside : word < length c.args.visits.now =
-          omega (arith, l, c.add_edges.ensures.len, c.add.ensures.len, c.add_to.ensures.len) in
-          let first : slice_index c.add_edges.new.visits word
-          ≡ along g.edges counts (length g.edges) word + as_slot g.edges counts (length g.edges) word =
-          rw c.edges.ensures.edges at (c.add_edges.ensures.added word inside) in
-          let second : slice_index c.add.new.visits word
-          ≡ slice_index c.add_edges.new.visits word + 1 * one_if (v.image.entry == word) =
-          rw c.entry.ensures.word at (c.add.ensures.added word (omega (arith, inside, c.add_edges.ensures.len))) in
-          let third = c.add_to.ensures.added word (omega (arith, inside, c.add_edges.ensures.len, c.add.ensures.len)) in
-          let begun = (rw c.text.ensures at c.begun.ensures) word (omega (arith, inside, c.requires.len)) in
+          let inside : word < length c.args.visits.now = omega arith in
+          let first = rw c.edges.ensures.edges at (c.add_edges.ensures.added word inside) in
+          let second = rw c.entry.ensures.word at (c.add.ensures.added word (omega arith)) in
+          let third = c.add_to.ensures.added word (omega arith) in
+          let begun = (rw c.text.ensures at c.begun.ensures) word (omega arith) in
+          let starts = c.entry.ensures.inside in
           let all = finished_is g c.edges.ensures.graph.firsts c.requires.matches.single counts v.image.entry word
-          (omega (arith, c.entry.ensures.inside, words)) (omega (arith, inside, c.requires.len, words)) in
+          (omega arith) (omega arith) in
           omega (arith, first, second, third, begun, all);
     }
 

@@ -1,4 +1,4 @@
-use Rattle.std.proofs.Common.{◌≡◌, ◌+◌, ◌*◌, ◌<◌, ◌≤◌, ℕ, length, slice_index}
+use Rattle.instr_counts.proofs.Common.{◌≡◌, ◌+◌, ◌*◌, ◌<◌, ◌≤◌, ℕ, length, slice_index}
 use Rattle.instr_counts.specs.Private.{along, as_slot}
 use Rattle.instr_counts.proofs.counting.add_edges.Given as goal
 

@@ -1,17 +1,24 @@
-use Rattle.std.proofs.Common.{◌≡◌, Some, None, ap, sym, ◌∙◌}
+use Rattle.instr_counts.proofs.Common.{◌≡◌, ◌&&◌, ℕ, refl, ap, nat_lt}
 use Rattle.instr_counts.specs.Visits.{one_if}
-use Rattle.count_rebuild.proofs.Rules.{found}
-use Rattle.instr_counts.proofs.Begun.{begun_is}
+use Rattle.std.specs.Prelude.{nat_le}
+use Rattle.std.specs.Option.{option_map}
+use Rattle.notes.specs.Format.{range_at}
+use Rattle.notes.specs.Code.{notes_seen, range_seen}
+use Rattle.notes.specs.declared.note.Notes as declared_notes
+use Rattle.count_rebuild.proofs.Rules.{find-map, found}
 use Rattle.instr_counts.proofs.counting.begun.Goals as goal
+
+-- the place that is found, as notes have it
+place_is : (n : declared_notes.Notes) (address : ℕ)
+    → range_at (notes_seen n) address ≡ option_map range_seen (found n address)
+place_is n address = find-map (λ range. nat_le range.lo address && nat_lt address range.hi) range_seen n.ranges.items
 
 pub returns-in-Some : goal.returns-in-Some
 returns-in-Some c word l =
     let is : c.range_at.result ≡ found c.args.n.now c.args.pc.0 = rw c.deref.ensures.value at c.range_at.ensures in
-    begun_is c.args.n.now c.args.pc.0 c.args.text.now c.args.graph.now (Some c.in-Some.range) (sym is ∙ c.in-Some.is)
-    word
-    ∙ ap one_if (c.begun_at.ensures word l)
+    rw (place_is c.args.n.now c.args.pc.0, ← is, c.in-Some.is) (ap one_if (c.begun_at.ensures word l))
 
 pub returns-in-None : goal.returns-in-None
 returns-in-None c word l =
     let is : c.range_at.result ≡ found c.args.n.now c.args.pc.0 = rw c.deref.ensures.value at c.range_at.ensures in
-    begun_is c.args.n.now c.args.pc.0 c.args.text.now c.args.graph.now None (sym is ∙ c.in-None.is) word
+    rw (place_is c.args.n.now c.args.pc.0, ← is, c.in-None.is) refl

@@ -1,4 +1,4 @@
-use Rattle.std.proofs.Common.{◌≡◌, ◌<◌, ℕ}
+use Rattle.instr_counts.proofs.Common.{◌≡◌, ◌<◌, ℕ}
 use Rattle.cfg_blocks.specs.Blocks.{size_of}
 use Rattle.instr_counts.proofs.matching.are_single.Given as goal
 

@@ -1,4 +1,4 @@
-use Rattle.std.proofs.Common.{◌≡◌, take}
+use Rattle.instr_counts.proofs.Common.{◌≡◌, take}
 use Rattle.instr_counts.proofs.matching.has_blocks.Given as goal
 
 abbrev pub invariant-loop-block : goal.invariant-loop-block

@@ -1,9 +1,6 @@
-use Rattle.std.proofs.Common.{◌<◌, ℕ, map}
-use Rattle.std.specs.Prelude.{slice_index_or}
-use Rattle.notes.specs.Code.{edge_seen}
-use Rattle.span_tree.specs.Links.{no_edge}
-use Rattle.count_rebuild.specs.Noted.{no_edge as no_noted}
+use Rattle.instr_counts.proofs.Common.{◌<◌, ℕ, map, edge_seen, no_edge, no_noted}
 use Rattle.instr_counts.specs.Matches.{IsNoted}
+use Rattle.std.specs.Prelude.{slice_index_or}
 use Rattle.instr_counts.proofs.matching.has_edges.Given as goal
 
 abbrev pub invariant-loop-number : goal.invariant-loop-number

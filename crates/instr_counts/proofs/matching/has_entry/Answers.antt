@@ -1,6 +1,4 @@
-use Rattle.std.proofs.Common.{◌≡◌, sym, ◌∙◌}
-use Rattle.std.proofs.lemmas.Bool.{eq-eqb, eqb-true}
-use Rattle.cfg_blocks.specs.Blocks.{holding_of}
+use Rattle.instr_counts.proofs.Common.{◌≡◌, sym, ◌∙◌, eq-eqb, eqb-true, holding_of}
 use Rattle.instr_counts.proofs.matching.has_entry.Goals as goal
 
 pub returns : goal.returns

@@ -1,6 +1,6 @@
-use Rattle.std.proofs.Common.{◌≡◌, ◌++◌, take}
-use Rattle.std.specs.List.{enumerate_from, flat_map}
+use Rattle.instr_counts.proofs.Common.{◌≡◌, ◌++◌, take, enumerate_from}
 use Rattle.instr_counts.specs.Lines.{visit_line}
+use Rattle.std.specs.List.{flat_map}
 use Rattle.instr_counts.proofs.printing.put_visits.Given as goal
 
 abbrev pub invariant-loop-word : goal.invariant-loop-word

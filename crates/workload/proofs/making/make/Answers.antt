@@ -1,4 +1,4 @@
-use Rattle.std.proofs.Common.{length, ap, ◌∙◌}
+use Rattle.workload.proofs.Common.{length, ap, ◌∙◌}
 use Rattle.workload.proofs.Faults.{generated_size}
 use Rattle.workload.proofs.Made.{whole}
 use Rattle.workload.proofs.making.make.Goals as goal

@@ -1,7 +1,4 @@
-use Rattle.std.proofs.Common.{◌≡◌, ◌-◌, ◌++◌, map}
-use Rattle.std.specs.List.{flat_map, range_with_len}
-use Rattle.v8_encode.specs.Encoding.{word_of}
-use Rattle.workload.specs.Generated.{bytes_of, call_of, exit_code, caller_code}
+use Rattle.workload.proofs.Common.{◌≡◌, ◌-◌, ◌++◌, map, flat_map, range_with_len, word_of, bytes_of, call_of, exit_code, caller_code}
 use Rattle.workload.proofs.making.put_caller.Given as goal
 
 abbrev pub invariant-loop-routine : goal.invariant-loop-routine

@@ -1,7 +1,4 @@
-use Rattle.std.proofs.Common.{◌≡◌, ◌-◌, ◌++◌, map}
-use Rattle.std.specs.List.{flat_map}
-use Rattle.v8_encode.specs.Encoding.{word_of}
-use Rattle.workload.specs.Generated.{bytes_of, routine_code, routines_from}
+use Rattle.workload.proofs.Common.{◌≡◌, ◌-◌, ◌++◌, map, flat_map, word_of, bytes_of, routine_code, routines_from}
 use Rattle.workload.proofs.making.put_routines.Given as goal
 
 abbrev pub invariant-loop : goal.invariant-loop

@@ -1,5 +1,4 @@
-use Rattle.std.proofs.Common.{◌≡◌, ◌++◌, drop}
-use Rattle.workload.specs.Generated.{bytes_of}
+use Rattle.workload.proofs.Common.{◌≡◌, ◌++◌, drop, bytes_of}
 use Rattle.workload.proofs.making.put_words.Given as goal
 
 abbrev pub invariant-loop-word : goal.invariant-loop-word

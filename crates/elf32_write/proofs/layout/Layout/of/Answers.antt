@@ -1,27 +1,22 @@
-use Rattle.std.proofs.Common.{map, arith}
-use Rattle.elf32_write.specs.Headers.{segment_seen}
-use Rattle.elf32_write.proofs.Deltas.{delta-to, offsets_fit}
+use Rattle.elf32_write.proofs.Common.{arith}
+use Rattle.elf32_write.proofs.Segments.{delta-to, offsets_fit}
 use Rattle.elf32_write.proofs.layout.Layout.of.Goals as goal
 
 pub overflow_add-original_end : goal.overflow_add-original_end
 overflow_add-original_end c =
-    let most = delta-to c.args.bytes.now (map segment_seen c.args.added.now) c.args.notes.now c.requires.original in
-    omega (arith, c.delta-delta.ensures c.args.bytes.now c.requires.image, most, c.requires.original.limit)
+    omega (arith, c.delta-delta.ensures c.args.bytes.now c.requires.image, delta-to _ _ _ c.requires.original, c.requires.original.limit)
 
 pub segments_end-requires : goal.segments_end-requires
 segments_end-requires c =
-    let fit = offsets_fit c.args.bytes.now (map segment_seen c.args.added.now) c.args.notes.now c.requires.original in
-    rw (c.delta-delta.ensures _ c.requires.image) (omega (arith, fit))
+    rw (c.delta-delta.ensures _ c.requires.image) (omega (arith, offsets_fit _ _ _ c.requires.original))
 
 pub next_word-notes_at-requires : goal.next_word-notes_at-requires
 next_word-notes_at-requires c =
-    let fit = offsets_fit c.args.bytes.now (map segment_seen c.args.added.now) c.args.notes.now c.requires.original in
-    rw (c.segments_end.ensures, c.delta-delta.ensures _ c.requires.image) (omega (arith, fit))
+    rw (c.segments_end.ensures, c.delta-delta.ensures _ c.requires.image) (omega (arith, offsets_fit _ _ _ c.requires.original))
 
 pub overflow_add-notes_end : goal.overflow_add-notes_end
 overflow_add-notes_end c =
-    let fit = offsets_fit c.args.bytes.now (map segment_seen c.args.added.now) c.args.notes.now c.requires.original in
-    rw (c.next_word-notes_at.ensures, c.segments_end.ensures, c.delta-delta.ensures _ c.requires.image) (omega (arith, fit))
+    rw (c.next_word-notes_at.ensures, c.segments_end.ensures, c.delta-delta.ensures _ c.requires.image) (omega (arith, offsets_fit _ _ _ c.requires.original))
 
 pub returns-clause-notes : goal.returns-clause-notes
 returns-clause-notes c = rw (c.next_word-notes_at.ensures, c.segments_end.ensures, c.delta-delta.ensures _ c.requires.image)
@@ -32,5 +27,4 @@ returns-clause-sections c =
 
 pub returns-clause-small : goal.returns-clause-small
 returns-clause-small c =
-    let fit = offsets_fit c.args.bytes.now (map segment_seen c.args.added.now) c.args.notes.now c.requires.original in
-    rw (c.next_word-notes_at.ensures, c.segments_end.ensures, c.delta-delta.ensures _ c.requires.image) (omega (arith, fit))
+    rw (c.next_word-notes_at.ensures, c.segments_end.ensures, c.delta-delta.ensures _ c.requires.image) (omega (arith, offsets_fit _ _ _ c.requires.original))
