@@ -1,18 +1,6 @@
 -- A built table of two levels finds every aligned address.
-use Rattle.std.proofs.Common.{◌≡◌, ℕ, ◌+◌, ◌-◌, ◌*◌, ◌/◌, ◌%◌, ◌^◌, ◌<◌, ◌≤◌, ◌⊎◌, inl, inr, Bool, true, false, None, List, length, map, refl, ap, sym, ◌∙◌, arith}
-use Rattle.std.specs.Prelude.{if◌then◌else◌, nat_lt}
-use Rattle.std.specs.List.{range_with_len}
-use Rattle.std.proofs.lemmas.Bool.Decides.{nat_tests}
-use Rattle.std.proofs.lemmas.List.FromFn.{length-map-range_with_len}
-use Rattle.eel_base.specs.CodeText.{Words, word_at}
-use Rattle.eel_base.specs.Code.{IsText}
-use Rattle.eel_base.specs.declared.numbers.Addr.{Addr}
-use Rattle.v8_alu.specs.Numbers.{wrapped}
-use Rattle.addr_translate.specs.Lookup.{table_word, TableAt}
-use Rattle.addr_translate.specs.Table.{last_byte, target_of, target_for}
-use Rattle.addr_translate.specs.Halves.{IsHalvesOf, entry_at, first_half, halves_size, span_of}
+use Rattle.addr_translate.proofs.Common.{◌≡◌, ℕ, ◌+◌, ◌-◌, ◌*◌, ◌/◌, ◌%◌, ◌^◌, ◌<◌, ◌≤◌, ◌⊎◌, inl, inr, Bool, true, false, None, List, length, map, refl, ap, sym, ◌∙◌, arith, if◌then◌else◌, nat_lt, range_with_len, nat_tests, length-map-range_with_len, Words, word_at, IsText, Addr, wrapped, table_word, TableAt, last_byte, target_of, target_for, IsHalvesOf, entry_at, first_half, halves_size, span_of, half_bytes, half_entry, half_word, half_words}
 use Rattle.addr_translate.specs.Private.{halves}
-use Rattle.addr_translate.specs.HalfEntries.{half_bytes, half_entry, half_word, half_words}
 use Rattle.addr_translate.proofs.Tables.{IsIn, IsOff, among, entry_found, length-words, outside}
 
 module _ (t : Words) (targets : List Addr) (foreign : Addr) (base : ℕ) where

@@ -1,3 +1,4 @@
+pub mod Common
 pub mod HalfTables
 pub mod Regions
 pub mod Tables

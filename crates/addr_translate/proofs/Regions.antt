@@ -1,9 +1,5 @@
 -- A table stands where a region has its bytes.
-use Rattle.std.proofs.Common.{ℕ, List, ◌-◌, take, drop, ap, ◌∙◌}
-use Rattle.std.specs.Int.{w32, from_be_bytes}
-use Rattle.code_runs.specs.StoredWords.{word_in, memory_word}
-use Rattle.addr_translate.specs.Lookup.{table_word}
-use Rattle.addr_translate.specs.Translator.{RegionsStand}
+use Rattle.addr_translate.proofs.Common.{ℕ, List, ◌-◌, take, drop, ap, ◌∙◌, w32, from_be_bytes, word_in, memory_word, table_word, RegionsStand}
 
 pub regions_stand : RegionsStand
 unfolding memory_word table_word

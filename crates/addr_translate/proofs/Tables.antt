@@ -1,19 +1,8 @@
 -- A built table finds every address.
-use Rattle.std.proofs.Common.{◌≡◌, ℕ, zero, suc, ◌+◌, ◌-◌, ◌*◌, ◌/◌, ◌%◌, ◌^◌, ◌<◌, ◌≤◌, ◌⊎◌, inl, inr, Bool, true, false, ◌&&◌, Some, None, List, [], ◌∷◌, ◌++◌, length, map, take, drop, refl, ap, sym, ◌∙◌, subst, arith}
-use Rattle.std.specs.Prelude.{if◌then◌else◌, ◌==◌, nat_le, nat_lt, slice_index}
-use Rattle.std.specs.Int.{w32, to_be_bytes, from_be_bytes}
-use Rattle.std.specs.List.{flat_map, range_with_len}
+use Rattle.addr_translate.proofs.Common.{◌≡◌, ℕ, zero, suc, ◌+◌, ◌-◌, ◌*◌, ◌/◌, ◌%◌, ◌^◌, ◌<◌, ◌≤◌, ◌⊎◌, inl, inr, Bool, true, false, ◌&&◌, Some, None, List, [], ◌∷◌, ◌++◌, length, map, take, drop, refl, ap, sym, ◌∙◌, subst, arith, if◌then◌else◌, ◌==◌, nat_le, nat_lt, slice_index, w32, to_be_bytes, from_be_bytes, flat_map, range_with_len, nat_tests, length-map-range_with_len, get_or-map-range_with_len, map-range_with_len_more, Words, word_at, IsText, Addr, table_word, second_entry, third_entry, second_block, third_block, IsBlock, TableAt, first_part, parts, first_page, pages, blocks, size_of, target_of, target_for, IsTableOf, is_among, second_for, third_for, entry_in, entry, table_words, table_bytes}
 use Rattle.std.proofs.lemmas.Nat.{from_be_bytes-to_be_bytes_4}
 use Rattle.std.proofs.lemmas.Grind.{flat_map-append}
-use Rattle.std.proofs.lemmas.Bool.Decides.{nat_tests}
-use Rattle.std.proofs.lemmas.List.FromFn.{length-map-range_with_len, get_or-map-range_with_len, map-range_with_len_more}
-use Rattle.eel_base.specs.CodeText.{Words, word_at}
-use Rattle.eel_base.specs.Code.{IsText}
-use Rattle.eel_base.specs.declared.numbers.Addr.{Addr}
 use Rattle.code_runs.proofs.Leads.{split_below}
-use Rattle.addr_translate.specs.Lookup.{table_word, second_entry, third_entry, second_block, third_block, IsBlock, TableAt}
-use Rattle.addr_translate.specs.Table.{first_part, parts, first_page, pages, blocks, size_of, target_of, target_for, IsTableOf}
-use Rattle.addr_translate.specs.Entries.{is_among, second_for, third_for, entry_in, entry, table_words, table_bytes}
 
 module _ (t : Words) (targets : List Addr) (foreign : Addr) (base : ℕ) where
   abbrev pub built : TableAt

@@ -1,25 +1,20 @@
 -- The translator, word by word.
-use Rattle.std.proofs.Common.{◌≡◌, ◌≢◌, ℕ, ◌+◌, ◌*◌, ◌/◌, ◌%◌, ◌^◌, ◌<◌, ◌≤◌, inl, true, Ok, List, length, map, refl, ap, sym, ◌∙◌, subst, arith, bit_and}
-use Rattle.std.specs.Prelude.{◌==◌, pos}
+use Rattle.addr_translate.proofs.Common.{◌≡◌, ◌≢◌, ℕ, ◌+◌, ◌*◌, ◌/◌, ◌%◌, ◌^◌, ◌<◌, ◌≤◌, inl, true, Ok, List, length, map, refl, ap, sym, ◌∙◌, subst, arith, bit_and, ◌==◌, pos, wrapped, memory_word, TableAt, table_word, second_block, third_block, looked_up, IsBlock, translator, IsSecondWord, IsAboutToTranslate, Translates}
 use Rattle.std.proofs.lemmas.Nat.Bits.{and_high}
 use Rattle.v8_decode.specs.declared.Op2.TheVariants.{Reg, Imm}
 use Rattle.v8_decode.specs.declared.AluOp.TheVariants as ops
 use Rattle.v8_decode.specs.Words.{decode_of}
 use Rattle.v8_alu.specs.Alu.{alu_of}
-use Rattle.v8_alu.specs.Numbers.{wrapped}
 use Rattle.v8_memory.specs.Regions.{Memory, code_of}
 use Rattle.v8_step.specs.State.{State, register_of, sum_of}
 use Rattle.v8_step.proofs.ValidStates.{register_of-range}
 use Rattle.code_runs.specs.Page.{page_word}
 use Rattle.code_runs.specs.Code.{of_page, store_word, CanLoad, CanStore}
-use Rattle.code_runs.specs.StoredWords.{memory_word}
 use Rattle.code_runs.specs.Straight.{StandIn}
 use Rattle.code_runs.specs.Picked.{WorksInTwo}
 use Rattle.code_runs.proofs.StoredWords.{word_stored, other_loaded, loads_stored, still_stored, can_load, whole_of}
 use Rattle.code_runs.proofs.Picked.{Gives, HasTwo, alu, first, goes_on, in_two, ld_in, second, sethi, st_in, two_registers, word, works_none}
 use Rattle.code_runs.proofs.Straight.{words_say}
-use Rattle.addr_translate.specs.Lookup.{TableAt, table_word, second_block, third_block, looked_up, IsBlock}
-use Rattle.addr_translate.specs.Translator.{translator, IsSecondWord, IsAboutToTranslate, Translates}
 
 -- ---- numbers
 masked : (y : ℕ) → bit_and y 0xffc ≡ 4 * (y / 4 % 1024)

@@ -1,23 +1,6 @@
 -- The lists from which blocks are made say what the definitions say.
-use Rattle.std.proofs.Common.{◌≡◌, ℕ, zero, suc, ◌-◌, ◌<◌, ◌≤◌, Bool, not, ◌||◌, ◌&&◌, nat_le, List, [], ◌∷◌, ◌++◌, length, map, filter, slice_index, refl, ap, ◌∙◌, arith}
-use Rattle.std.specs.List.{flat_map}
-use Rattle.std.proofs.lemmas.List.{append-nil, get_or-map, length-map}
-use Rattle.std.proofs.lemmas.List.Elements.{filter-append}
-use Rattle.std.proofs.lemmas.List.Folds.{list_any-append}
-use Rattle.std.proofs.lemmas.Grind.{flat_map-append}
-use Rattle.eel_base.specs.CodeText.{Words}
+use Rattle.cfg_blocks.proofs.Common.{◌≡◌, ℕ, zero, suc, ◌-◌, ◌<◌, ◌≤◌, Bool, not, ◌||◌, ◌&&◌, nat_le, List, [], ◌∷◌, ◌++◌, length, map, filter, slice_index, refl, ap, ◌∙◌, arith, flat_map, append-nil, get_or-map, length-map, filter-append, list_any-append, flat_map-append, Words, BlockEnd, Fall, Into, Nothing, end_at, is_transfer, Blocks, below, is_target, follows_transfer, is_among, leads, leaders, blocks_of, last_word, AreFirsts, Entered, entered_of, entries_from, into_of, is_bare_slot, is_counted, is_fall, leads_to, ways_from, block_end_in, end_in, is_in, leads_in, marked, word_ends, numbers, added_all, counted, counted_from, entered_in, into_in, is_bare_by}
 use Rattle.eel_base.specs.declared.numbers.WordNo.{WordNo}
-use Rattle.cfg_blocks.specs.declared.BlockEnd.{BlockEnd}
-use Rattle.cfg_blocks.specs.declared.BlockEnd.TheVariants.{Fall}
-use Rattle.cfg_blocks.specs.declared.Into.{Into}
-use Rattle.cfg_blocks.specs.declared.Into.TheVariants.{Nothing}
-use Rattle.cfg_blocks.specs.Ends.{end_at, is_transfer}
-use Rattle.cfg_blocks.specs.Blocks.{Blocks, below, is_target, follows_transfer, is_among, leads, leaders, blocks_of, last_word}
-use Rattle.cfg_blocks.specs.Code.{AreFirsts}
-use Rattle.cfg_blocks.specs.Entries.{Entered, entered_of, entries_from, into_of, is_bare_slot, is_counted, is_fall, leads_to, ways_from}
-use Rattle.cfg_blocks.specs.Private.{block_end_in, end_in, is_in, leads_in, marked, word_ends}
-use Rattle.cfg_blocks.specs.Marks.{numbers}
-use Rattle.cfg_blocks.specs.Arrivals.{added_all, counted, counted_from, entered_in, into_in, is_bare_by}
 use Rattle.cfg_blocks.proofs.Below.{any_below_same, length-below, get_or-below, list_any-map, filter_below_same, filter_below_firsts, map_below_same}
 use Rattle.cfg_blocks.proofs.Entering.{counted_from_same, into_by-added}
 use Rattle.cfg_blocks.proofs.Held.{ends_within, some_words}

@@ -1,12 +1,5 @@
 -- The numbers below n, and those of them that pass a test.
-use Rattle.std.proofs.Common.{◌≡◌, ℕ, zero, suc, ◌+◌, ◌<◌, ◌≤◌, Bool, true, false, ◌||◌, cond, List, [], ◌∷◌, ◌++◌, length, map, get_or, slice_index, refl, ap, add-one, arith, length-append}
-use Rattle.std.specs.List.{filter, list_any}
-use Rattle.std.proofs.lemmas.List.{append-nil, map-append}
-use Rattle.std.proofs.lemmas.List.Elements.{filter-append}
-use Rattle.std.proofs.lemmas.Grind.{common_steps}
-use Rattle.std.proofs.lemmas.List.Folds.{list_any-append}
-use Rattle.cfg_blocks.specs.Blocks.{below}
-use Rattle.cfg_blocks.specs.Code.{AreFirsts}
+use Rattle.cfg_blocks.proofs.Common.{◌≡◌, ℕ, zero, suc, ◌+◌, ◌<◌, ◌≤◌, Bool, true, false, ◌||◌, cond, List, [], ◌∷◌, ◌++◌, length, map, get_or, slice_index, refl, ap, add-one, arith, length-append, filter, list_any, append-nil, map-append, filter-append, common_steps, list_any-append, below, AreFirsts}
 
 pub length-below : (n : ℕ) → length (below n) ≡ n
 length-below zero = refl

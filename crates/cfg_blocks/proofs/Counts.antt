@@ -1,12 +1,6 @@
 -- How many numbers of an ascending list are at most some number.
-use Rattle.std.proofs.Common.{◌≡◌, ℕ, zero, suc, ◌+◌, ◌-◌, ◌<◌, ◌≤◌, Bool, true, false, nat_le, List, length, take, slice_index, count_by, refl, arith, add-one, add-zero, inl, inr}
-use Rattle.std.specs.List.{AllWithin}
-use Rattle.std.specs.List.Sorted.{IsPartitionedBy, IsPartitionPoint}
+use Rattle.cfg_blocks.proofs.Common.{◌≡◌, ℕ, zero, suc, ◌+◌, ◌-◌, ◌<◌, ◌≤◌, Bool, true, false, nat_le, List, length, take, slice_index, count_by, refl, arith, add-one, add-zero, inl, inr, AllWithin, IsPartitionedBy, IsPartitionPoint, cases_lt, leb-true, leb-false, le-leb, take-length, get_or_default_zero, AreFirsts, IsAscending}
 use Rattle.std.proofs.lemmas.List.Sums.{count_by_more_yes, count_by_more_no}
-use Rattle.std.proofs.lemmas.Bool.{cases_lt, leb-true, leb-false, le-leb}
-use Rattle.std.proofs.Math.Seq.{take-length}
-use Rattle.std.proofs.lemmas.Grind.{get_or_default_zero}
-use Rattle.cfg_blocks.specs.Code.{AreFirsts, IsAscending}
 
 pub not_down : (xs : List ℕ) (i j : ℕ) → IsAscending xs → i ≤ j → j < length xs → slice_index xs i ≤ slice_index xs j
 not_down xs i j a l h = elim (cases_lt i j) [ inl less ↦ omega (arith, a i j less h) | inr same ↦ grind arith ]

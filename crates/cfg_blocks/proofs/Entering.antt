@@ -1,17 +1,6 @@
 -- What leads to a word, edge by edge.
-use Rattle.std.proofs.Common.{◌≡◌, ℕ, zero, suc, ◌+◌, ◌<◌, Bool, true, false, not, ◌&&◌, ◌||◌, List, [], ◌∷◌, ◌++◌, filter, length, replicate, slice_index, refl, ap, ◌∙◌, arith, add-one}
-use Rattle.std.specs.List.{flat_map}
+use Rattle.cfg_blocks.proofs.Common.{◌≡◌, ℕ, zero, suc, ◌+◌, ◌<◌, Bool, true, false, not, ◌&&◌, ◌||◌, List, [], ◌∷◌, ◌++◌, filter, length, replicate, slice_index, refl, ap, ◌∙◌, arith, add-one, flat_map, list_any-append, common_steps, flat_map-append, append-nil, BlockEnd, Into, Nothing, More, Way, target_in, Blocks, below, is_it, is_target, Entry, all_entries, entries_from, into_by, is_empty, is_fall, ways_from, added, added_all, counted, counted_from, into_at, into_first, into_in, is_bare_by, is_bare_in, is_nothing}
 use Rattle.std.proofs.Math.Bool.{or-false, or_assoc}
-use Rattle.std.proofs.lemmas.List.Folds.{list_any-append}
-use Rattle.std.proofs.lemmas.Grind.{common_steps, flat_map-append}
-use Rattle.std.proofs.lemmas.List.{append-nil}
-use Rattle.cfg_blocks.specs.declared.BlockEnd.{BlockEnd}
-use Rattle.cfg_blocks.specs.declared.Into.{Into}
-use Rattle.cfg_blocks.specs.declared.Into.TheVariants.{Nothing, More}
-use Rattle.cfg_blocks.specs.Ends.{Way, target_in}
-use Rattle.cfg_blocks.specs.Blocks.{Blocks, below, is_it, is_target}
-use Rattle.cfg_blocks.specs.Entries.{Entry, all_entries, entries_from, into_by, is_empty, is_fall, ways_from}
-use Rattle.cfg_blocks.specs.Arrivals.{added, added_all, counted, counted_from, into_at, into_first, into_in, is_bare_by, is_bare_in, is_nothing}
 
 pub added_all-append : (into : Into) (xs ys : List Entry)
     → added_all into (xs ++ ys) ≡ added_all (added_all into xs) ys

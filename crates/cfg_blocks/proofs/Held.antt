@@ -1,10 +1,5 @@
 -- The block that holds a word.
-use Rattle.std.proofs.Common.{◌≡◌, ℕ, zero, suc, ◌-◌, ◌<◌, ◌≤◌, true, false, nat_le, List, length, slice_index, count_by, arith, inl, inr}
-use Rattle.std.specs.List.Sorted.{IsPartitionPoint}
-use Rattle.std.proofs.lemmas.Bool.{cases_lt, lt-ltb, le-ltb, le-leb, lt-leb, leb-true, leb-false}
-use Rattle.std.proofs.lemmas.Grind.{get_or_default_zero}
-use Rattle.cfg_blocks.specs.Code.{AreFirsts}
-use Rattle.cfg_blocks.specs.Blocks.{block_end}
+use Rattle.cfg_blocks.proofs.Common.{◌≡◌, ℕ, zero, suc, ◌-◌, ◌<◌, ◌≤◌, true, false, nat_le, List, length, slice_index, count_by, arith, inl, inr, IsPartitionPoint, cases_lt, lt-ltb, le-ltb, le-leb, lt-leb, leb-true, leb-false, get_or_default_zero, AreFirsts, block_end}
 use Rattle.cfg_blocks.proofs.Counts.{count_at_point, not_down, some_begun}
 
 -- the word stands in the block

@@ -1,3 +1,4 @@
+pub mod Common
 pub mod Marks
 pub mod Targets
 pub mod Below

@@ -1,11 +1,5 @@
 -- Marks of words.
-use Rattle.std.proofs.Common.{◌≡◌, ℕ, ◌<◌, Bool, true, ◌||◌, ◌==◌, List, length, arith}
-use Rattle.std.specs.Prelude.{slice_set}
-use Rattle.std.proofs.lemmas.Bool.Decides.{nat_tests}
-use Rattle.std.proofs.lemmas.Grind.{common_steps}
-use Rattle.cfg_blocks.specs.declared.BlockEnd.{BlockEnd}
-use Rattle.cfg_blocks.specs.Blocks.{is_target}
-use Rattle.cfg_blocks.specs.Private.{end_in, leads_by, leads_in, marked}
+use Rattle.cfg_blocks.proofs.Common.{◌≡◌, ℕ, ◌<◌, Bool, true, ◌||◌, ◌==◌, List, length, arith, slice_set, nat_tests, common_steps, BlockEnd, is_target, end_in, leads_by, leads_in, marked}
 
 pub marked_set : (marks : List Bool) (i k : ℕ) → i < length marks
     → marked (slice_set marks i true) k ≡ (marked marks k || (i == k))

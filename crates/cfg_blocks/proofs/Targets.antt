@@ -1,21 +1,9 @@
 -- Where a transfer of a text leads to a word, the text has that word.
-use Rattle.std.proofs.Common.{◌≡◌, ℕ, ◌<◌, ◌==◌, List, length, map, Option, Some, None, IfSome, inl, inr, refl, arith}
-use Rattle.std.specs.Prelude.{slice_index}
-use Rattle.std.specs.List.{All}
+use Rattle.cfg_blocks.proofs.Common.{◌≡◌, ℕ, ◌<◌, ◌==◌, List, length, map, Option, Some, None, IfSome, inl, inr, refl, arith, slice_index, All, cases_lt, cond_both, nat_tests, All-get_or, All-map, Words, address_of, numbered, target_of, word_at, BlockEnd, Fall, TargetsWithin, end_at, end_by, never, below, last_word, block_end_in, end_in, word_ends}
 use Rattle.std.proofs.Math.ListN.{get_or-eq_default}
-use Rattle.std.proofs.lemmas.Bool.{cases_lt, cond_both}
-use Rattle.std.proofs.lemmas.Bool.Decides.{nat_tests}
-use Rattle.std.proofs.lemmas.List.Elements.{All-get_or, All-map}
-use Rattle.eel_base.specs.CodeText.{Words, address_of, numbered, target_of, word_at}
 use Rattle.v8_decode.specs.declared.Instr.{Instr}
 use Rattle.v8_decode.specs.declared.Instr.TheVariants as i
 use Rattle.v8_decode.specs.Words.{decode_of}
-use Rattle.cfg_blocks.specs.declared.BlockEnd.{BlockEnd}
-use Rattle.cfg_blocks.specs.declared.BlockEnd.TheVariants.{Fall}
-use Rattle.cfg_blocks.specs.Code.{TargetsWithin}
-use Rattle.cfg_blocks.specs.Ends.{end_at, end_by, never}
-use Rattle.cfg_blocks.specs.Blocks.{below, last_word}
-use Rattle.cfg_blocks.specs.Private.{block_end_in, end_in, word_ends}
 
 abbrev IsWithin : Words → Option ℕ → Type 0
 IsWithin text to = IfSome (numbered to) (λ word. word.0 < length text.words)

@@ -1,26 +1,11 @@
 -- What a candidate is, and what is true of the open switches of a text.
-use Rattle.std.proofs.Common.{◌≡◌, ℕ, zero, suc, ◌+◌, ◌<◌, Bool, true, false, ◌||◌, List, [], ◌∷◌, ◌++◌, length, Option, Some, None, refl, ap, sym, ◌∙◌, arith, cond, inl, inr, get_or}
-use Rattle.std.specs.Prelude.{◌==◌, nat_le, slice_index_or}
-use Rattle.std.specs.List.{All, AllPairs, list_any, sum_by}
-use Rattle.std.proofs.lemmas.List.{append-nil, get_or_past}
-use Rattle.std.proofs.lemmas.List.Elements.{All-head, All-nil, All-push, All-tail}
+use Rattle.cfg_normal.proofs.Common.{◌≡◌, ℕ, zero, suc, ◌+◌, ◌<◌, Bool, true, false, ◌||◌, List, [], ◌∷◌, ◌++◌, length, Option, Some, None, refl, ap, sym, ◌∙◌, arith, cond, inl, inr, get_or, ◌==◌, nat_le, slice_index_or, All, AllPairs, list_any, sum_by, append-nil, get_or_past, All-head, All-nil, All-push, All-tail, count_by-le-length, sum_by_push, cases_lt, cond_both, eqb-true, or_parts, Words, BlockEnd, EdgeKind, Switch, Blocks, end_of, holding_of, Entered, IsBlockList, AreApart, AreOne, AreOpenIn, IsOpenIn, IsTableIn, Open, candidate, candidate_behind, candidate_into, candidate_on, is_candidate, is_closed, is_tabled, jumps_in, meets_any, open_by, opened, opens_of, targets_of, with_switch, words_from}
 use Rattle.std.proofs.lemmas.List.Quantifiers.{all_pairs_push}
-use Rattle.std.proofs.lemmas.List.Sums.{count_by-le-length, sum_by_push}
-use Rattle.std.proofs.lemmas.Bool.{cases_lt, cond_both, eqb-true, or_parts}
-use Rattle.eel_base.specs.CodeText.{Words}
-use Rattle.cfg_blocks.specs.declared.BlockEnd.{BlockEnd}
 use Rattle.cfg_blocks.specs.declared.BlockEnd.TheVariants as ends
-use Rattle.cfg_blocks.specs.declared.EdgeKind.{EdgeKind}
 use Rattle.cfg_blocks.specs.declared.Into.{Into}
 use Rattle.cfg_blocks.specs.declared.Into.TheVariants as into
 use Rattle.cfg_blocks.specs.declared.switches.Compare.{Compare}
-use Rattle.cfg_blocks.specs.declared.switches.Switch.{Switch}
-use Rattle.cfg_blocks.specs.Blocks.{Blocks, end_of, holding_of}
-use Rattle.cfg_blocks.specs.Entries.{Entered}
-use Rattle.cfg_blocks.specs.Code.{IsBlockList}
 use Rattle.cfg_blocks.specs.Switches.{approach_of, compare_of}
-use Rattle.cfg_normal.specs.Code.{AreApart, AreOne, AreOpenIn, IsOpenIn, IsTableIn}
-use Rattle.cfg_normal.specs.Opens.{Open, candidate, candidate_behind, candidate_into, candidate_on, is_candidate, is_closed, is_tabled, jumps_in, meets_any, open_by, opened, opens_of, targets_of, with_switch, words_from}
 use Rattle.cfg_normal.proofs.TableWords.{any_push, are_targets, none_tabled, table_is, tables_apart, tally, tally_few, tally_same, tally_table}
 pub use Rattle.cfg_normal.proofs.Examples.{rows}
 

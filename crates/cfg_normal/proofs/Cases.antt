@@ -1,21 +1,6 @@
 -- Which nodes have an edge from a jump's block is kept by marks.
-use Rattle.std.proofs.Common.{◌≡◌, ℕ, ◌+◌, ◌<◌, ◌≤◌, Bool, true, false, List, [], ◌∷◌, ◌++◌, length, map, refl, ap, sym, ◌∙◌, arith, cond, inl, inr, slice_index, Some, add-one, get_or, take}
-use Rattle.std.specs.Prelude.{◌==◌}
-use Rattle.std.specs.List.{All, filter, flat_map, list_any}
-use Rattle.std.proofs.lemmas.List.{append-nil, append_assoc, get_or-map, length-map, map-append, take_more}
-use Rattle.std.proofs.lemmas.List.Concat.{flat_map-append}
-use Rattle.std.proofs.Math.Bool.{or-false}
-use Rattle.std.proofs.lemmas.List.Elements.{filter-append}
-use Rattle.std.proofs.lemmas.Bool.{cases_eq, cases_Bool, eq-eqb, ne_eqb, or_right}
+use Rattle.cfg_normal.proofs.Common.{◌≡◌, ℕ, ◌+◌, ◌<◌, ◌≤◌, Bool, true, false, List, [], ◌∷◌, ◌++◌, length, map, refl, ap, sym, ◌∙◌, arith, cond, inl, inr, slice_index, Some, add-one, get_or, take, ◌==◌, All, filter, flat_map, list_any, append-nil, append_assoc, get_or-map, length-map, map-append, take_more, flat_map-append, or-false, filter-append, cases_eq, cases_Bool, eq-eqb, ne_eqb, or_right, Blocks, below, Edge, Node, same_node, case_of, lands_of, once_onto, IsNumbered, landed_once, number_in, seen_mark, unseen_case, Open}
 use Rattle.eel_base.specs.declared.numbers.WordNo.{WordNo}
-use Rattle.cfg_blocks.specs.Blocks.{Blocks, below}
-use Rattle.cfg_normal.specs.declared.Edge.{Edge}
-use Rattle.cfg_normal.specs.declared.Node.{Node}
-use Rattle.cfg_normal.specs.Nodes.{same_node}
-use Rattle.cfg_normal.specs.Graph.{case_of, lands_of, once_onto}
-use Rattle.cfg_normal.specs.Landings.{IsNumbered}
-use Rattle.cfg_normal.specs.Private.{landed_once, number_in, seen_mark, unseen_case}
-use Rattle.cfg_normal.specs.Opens.{Open}
 use Rattle.cfg_normal.proofs.TableWords.{any_push}
 
 -- ---- nodes and their numbers

@@ -1,29 +1,8 @@
 -- The edges of a graph lie between its nodes, and their slots in its text; they are at most seven for each word.
-use Rattle.std.proofs.Common.{◌≡◌, ℕ, zero, suc, ◌+◌, ◌*◌, ◌<◌, ◌≤◌, nat_le, nat_lt, Bool, true, ◌||◌, List, [], ◌∷◌, ◌++◌, length, map, Option, Some, None, refl, ap, arith, cond, get_or}
-use Rattle.std.specs.Prelude.{◌==◌, ◌&&◌, not}
-use Rattle.std.specs.List.{All, filter, flat_map, list_any, sum_by}
-use Rattle.std.proofs.lemmas.List.{append-nil, length-append, length-map}
-use Rattle.std.proofs.lemmas.List.Concat.{flat_map-append}
-use Rattle.std.proofs.lemmas.List.Elements.{All-append, All-cons, All-filter, All-head, All-map, All-nil, All-tail, All-weaker, filter_passes}
-use Rattle.std.proofs.lemmas.List.Sums.{count_by-le-length, length-filter, sum_by-cons}
-use Rattle.std.proofs.lemmas.Bool.{and_parts, cond_both, or_left}
-use Rattle.std.proofs.lemmas.Bool.Decides.{nat_tests}
-use Rattle.cfg_blocks.specs.Blocks.{Blocks, below, end_of, holding_of, last_word}
+use Rattle.cfg_normal.proofs.Common.{◌≡◌, ℕ, zero, suc, ◌+◌, ◌*◌, ◌<◌, ◌≤◌, nat_le, nat_lt, Bool, true, ◌||◌, List, [], ◌∷◌, ◌++◌, length, map, Option, Some, None, refl, ap, arith, cond, get_or, ◌==◌, ◌&&◌, not, All, filter, flat_map, list_any, sum_by, append-nil, length-append, length-map, flat_map-append, All-append, All-cons, All-filter, All-head, All-map, All-nil, All-tail, All-weaker, filter_passes, count_by-le-length, length-filter, sum_by-cons, and_parts, cond_both, or_left, nat_tests, Blocks, below, end_of, holding_of, last_word, Entered, ways_from, IsBlockList, BlockEnd, EdgeKind, get_or-below, length-below, Edge, Node, Block, Landed, X, same_node, AreOpenIn, IsEdgeIn, IsGraph, IsNodeIn, IsSlotIn, Open, compares_in, is_behind, is_copied, jumps_in, targets_in, case_nodes, case_of, copied_edges, directed, edge_of, edges_in, edges_of, is_compared, landing_at, landings_of, lands_of, node_of, once_onto, runs_slot, slot_behind, slot_on, ways_out}
 use Rattle.cfg_blocks.specs.Ends.{ways_of}
-use Rattle.cfg_blocks.specs.Entries.{Entered, ways_from}
-use Rattle.cfg_blocks.specs.Code.{IsBlockList}
-use Rattle.cfg_blocks.specs.declared.BlockEnd.{BlockEnd}
-use Rattle.cfg_blocks.specs.declared.EdgeKind.{EdgeKind}
 use Rattle.cfg_blocks.specs.declared.EdgeKind.TheVariants as kinds
-use Rattle.cfg_blocks.proofs.Below.{get_or-below, length-below}
-use Rattle.cfg_normal.specs.declared.Edge.{Edge}
-use Rattle.cfg_normal.specs.declared.Node.{Node}
-use Rattle.cfg_normal.specs.declared.Node.TheVariants.{Block, Landed, X}
 use Rattle.cfg_normal.specs.declared.Slot.TheVariants.{Nothing, Word, Off}
-use Rattle.cfg_normal.specs.Nodes.{same_node}
-use Rattle.cfg_normal.specs.Code.{AreOpenIn, IsEdgeIn, IsGraph, IsNodeIn, IsSlotIn}
-use Rattle.cfg_normal.specs.Opens.{Open, compares_in, is_behind, is_copied, jumps_in, targets_in}
-use Rattle.cfg_normal.specs.Graph.{case_nodes, case_of, copied_edges, directed, edge_of, edges_in, edges_of, is_compared, landing_at, landings_of, lands_of, node_of, once_onto, runs_slot, slot_behind, slot_on, ways_out}
 
 -- ---- lists
 

@@ -1,31 +1,9 @@
 -- What is kept of a block says what the open switches do.
-use Rattle.std.proofs.Common.{◌≡◌, ℕ, zero, suc, ◌+◌, ◌<◌, ◌≤◌, Bool, true, false, ◌||◌, List, [], ◌∷◌, ◌++◌, length, refl, ap, sym, ◌∙◌, arith, cond, inl, inr, subst, get_or, Some}
-use Rattle.std.specs.Prelude.{◌==◌, ◌&&◌, not, nat_lt}
-use Rattle.std.specs.List.{All, list_any}
-use Rattle.std.proofs.lemmas.List.{append-nil, get_or_append_left, get_or_push, length_push}
-use Rattle.std.proofs.lemmas.List.Folds.{list_any-append, list_any_at}
-use Rattle.std.proofs.Math.Bool.{or-false}
-use Rattle.std.proofs.lemmas.Bool.{ne_eqb, or_parts, cases_Bool, eq-eqb, eqb-true, or_left}
-use Rattle.eel_base.specs.CodeText.{Words, word_at}
-use Rattle.cfg_blocks.specs.declared.EdgeKind.{EdgeKind}
-use Rattle.cfg_blocks.specs.declared.switches.Switch.{Switch}
-use Rattle.cfg_blocks.specs.Blocks.{Blocks, holding_of}
-use Rattle.cfg_blocks.specs.Entries.{Entered}
-use Rattle.cfg_blocks.specs.Private.{marked}
-use Rattle.cfg_blocks.proofs.Below.{any_below_same, list_any-map}
+use Rattle.cfg_normal.proofs.Common.{◌≡◌, ℕ, zero, suc, ◌+◌, ◌<◌, ◌≤◌, Bool, true, false, ◌||◌, List, [], ◌∷◌, ◌++◌, length, refl, ap, sym, ◌∙◌, arith, cond, inl, inr, subst, get_or, Some, ◌==◌, ◌&&◌, not, nat_lt, All, list_any, append-nil, get_or_append_left, get_or_push, length_push, list_any-append, list_any_at, or-false, ne_eqb, or_parts, cases_Bool, eq-eqb, eqb-true, or_left, Words, word_at, EdgeKind, Switch, Blocks, holding_of, Entered, marked, any_below_same, list_any-map, Node, Block, Landed, X, same_kind, directed, is_compared, AreTabled, AreTargetsIn, IsJumpOf, has_copy, is_from, is_jump_block, lands_by, noted, with_compare, IsLanding, AreOne, AreOpenIn, Open, compares_in, is_behind, is_closed, is_copied, is_tabled, jumps_in, meets_any, targets_in, words_from, nat_tests}
 use Rattle.eel_base.specs.declared.numbers.BlockNo.{BlockNo}
-use Rattle.cfg_normal.specs.declared.Node.{Node}
-use Rattle.cfg_normal.specs.declared.Node.TheVariants.{Block, Landed, X}
-use Rattle.cfg_normal.specs.Nodes.{same_kind}
-use Rattle.cfg_normal.specs.Graph.{directed, is_compared}
 use Rattle.cfg_normal.specs.declared.landings.Landing.{Landing}
 use Rattle.cfg_normal.specs.declared.landings.Landing.TheVariants.{Home, Behind, Copied}
-use Rattle.cfg_normal.specs.Private.{AreTabled, AreTargetsIn, IsJumpOf, has_copy, is_from, is_jump_block, lands_by, noted, with_compare}
-use Rattle.cfg_normal.specs.Landings.{IsLanding}
-use Rattle.cfg_normal.specs.Code.{AreOne, AreOpenIn}
-use Rattle.cfg_normal.specs.Opens.{Open, compares_in, is_behind, is_closed, is_copied, is_tabled, jumps_in, meets_any, targets_in, words_from}
 use Rattle.cfg_normal.proofs.TableWords.{table_is}
-use Rattle.std.proofs.lemmas.Bool.Decides.{nat_tests}
 
 -- a number in the list of them, with its block
 pub jumps_at : (opens : List Open) (block k : ℕ) → k < length opens

@@ -1,3 +1,4 @@
+pub mod Common
 pub mod TableWords
 pub mod Candidates
 pub mod LandingFacts

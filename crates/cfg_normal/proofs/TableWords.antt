@@ -1,21 +1,5 @@
 -- The words of tables.
-use Rattle.std.proofs.Common.{◌≡◌, ℕ, zero, suc, ◌+◌, ◌<◌, ◌≤◌, Bool, true, false, ◌||◌, List, [], ◌∷◌, ◌++◌, length, Option, Some, None, refl, ap, sym, ◌∙◌, arith, add-one, cond, slice_index, inl, inr, ◌*◌, ◌⊎◌, get_or}
-use Rattle.std.specs.Prelude.{◌==◌, nat_le, nat_lt, ◌-◌, ◌/◌, ◌%◌, ◌&&◌}
-use Rattle.std.specs.List.{All, flat_map, list_any}
-use Rattle.std.specs.Option.{is_some, option_to_list}
-use Rattle.std.proofs.lemmas.List.{append-nil, length-append, map-append, length-map}
-use Rattle.std.proofs.lemmas.List.Concat.{flat_map-append}
-use Rattle.std.proofs.lemmas.List.Elements.{All-append, All-cons, All-nil}
-use Rattle.std.proofs.lemmas.List.Folds.{list_any-append, list_any_at}
-use Rattle.std.proofs.lemmas.Grind.{common_steps}
-use Rattle.std.proofs.Math.Bool.{or-false, or_assoc}
-use Rattle.std.proofs.lemmas.Bool.{and_parts, cond_both, eq-eqb, ltb-true, ne_eqb, or_from, or_parts, both_ways, cases_lt, false_from_ne_true}
-use Rattle.eel_base.specs.CodeText.{Words, word_at}
-use Rattle.cfg_blocks.specs.declared.switches.Switch.{Switch}
-use Rattle.cfg_blocks.specs.Blocks.{below}
-use Rattle.cfg_blocks.proofs.Below.{get_or-below, length-below}
-use Rattle.cfg_normal.specs.Code.{IsTableIn}
-use Rattle.cfg_normal.specs.Opens.{Open, is_tabled, table_words, targets_of, words_from}
+use Rattle.cfg_normal.proofs.Common.{◌≡◌, ℕ, zero, suc, ◌+◌, ◌<◌, ◌≤◌, Bool, true, false, ◌||◌, List, [], ◌∷◌, ◌++◌, length, Option, Some, None, refl, ap, sym, ◌∙◌, arith, add-one, cond, slice_index, inl, inr, ◌*◌, ◌⊎◌, get_or, ◌==◌, nat_le, nat_lt, ◌-◌, ◌/◌, ◌%◌, ◌&&◌, All, flat_map, list_any, is_some, option_to_list, append-nil, length-append, map-append, length-map, flat_map-append, All-append, All-cons, All-nil, list_any-append, list_any_at, common_steps, or-false, or_assoc, and_parts, cond_both, eq-eqb, ltb-true, ne_eqb, or_from, or_parts, both_ways, cases_lt, false_from_ne_true, Words, word_at, Switch, below, get_or-below, length-below, IsTableIn, Open, is_tabled, table_words, targets_of, words_from}
 use Rattle.cfg_blocks.proofs.Targets.{word_at-some}
 
 pub any_push : {X : Type 0} (p : X → Bool) (xs : List X) (x : X)

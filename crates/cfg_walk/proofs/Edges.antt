@@ -1,26 +1,9 @@
 -- The edges of a graph, found by the node that they leave, or to which they lead, and by their kind.
-use Rattle.std.proofs.Common.{◌≡◌, ℕ, ◌<◌, Bool, true, false, ◌&&◌, ◌||◌, List, [], ◌∷◌, ◌++◌, length, map, Option, Some, refl, ap, sym, ◌∙◌, subst, inl, inr, arith}
-use Rattle.std.specs.Prelude.{if◌then◌else◌, ◌⊎◌, ◌==◌}
-use Rattle.std.specs.List.{filter, list_any, flat_map, slice_get, position}
-use Rattle.std.specs.Option.{option_to_list}
-use Rattle.std.proofs.lemmas.List.Folds.{list_any-append}
+use Rattle.cfg_walk.proofs.Common.{◌≡◌, ℕ, ◌<◌, Bool, true, false, ◌&&◌, ◌||◌, List, [], ◌∷◌, ◌++◌, length, map, Option, Some, refl, ap, sym, ◌∙◌, subst, inl, inr, arith, if◌then◌else◌, ◌⊎◌, ◌==◌, filter, list_any, flat_map, slice_get, position, option_to_list, list_any-append, and_parts, cases_Bool, cond_both, eq-eqb, false≢true, EdgeKind, Way, Blocks, below, end_of, last_word, ways_from, Edge, Node, Block, Landed, X, home_of, IsNodeIn, Open, is_copied, jumps_in, Graph, case_nodes, case_of, copied_edges, directed, graph_of, has_cases, landings_of, node_of, edge_of, edges_of, edges_in, landing_at, once_onto, ways_out, edge_along, edge_from, landing_number, is_to, node_after, led_to, same_kind, same_node}
 use Rattle.std.proofs.lemmas.List.Quantifiers.{position-Some}
 use Rattle.std.proofs.lemmas.Option.{get_or_from_slice_get}
-use Rattle.std.proofs.lemmas.Bool.{and_parts, cases_Bool, cond_both, eq-eqb, false≢true}
 use Rattle.std.proofs.Math.Bool.{or-true}
-use Rattle.cfg_blocks.specs.declared.EdgeKind.{EdgeKind}
 use Rattle.cfg_blocks.specs.declared.EdgeKind.TheVariants as kinds
-use Rattle.cfg_blocks.specs.Ends.{Way}
-use Rattle.cfg_blocks.specs.Blocks.{Blocks, below, end_of, last_word}
-use Rattle.cfg_blocks.specs.Entries.{ways_from}
-use Rattle.cfg_normal.specs.declared.Edge.{Edge}
-use Rattle.cfg_normal.specs.declared.Node.{Node}
-use Rattle.cfg_normal.specs.declared.Node.TheVariants.{Block, Landed, X}
-use Rattle.cfg_normal.specs.Code.{home_of, IsNodeIn}
-use Rattle.cfg_normal.specs.Opens.{Open, is_copied, jumps_in}
-use Rattle.cfg_normal.specs.Graph.{Graph, case_nodes, case_of, copied_edges, directed, graph_of, has_cases, landings_of, node_of, edge_of, edges_of, edges_in, landing_at, once_onto, ways_out}
-use Rattle.cfg_walk.specs.Walk.{edge_along, edge_from, landing_at as landing_number, leads_along as is_to, node_after, led_to}
-use Rattle.cfg_normal.specs.Nodes.{same_kind, same_node}
 use Rattle.cfg_walk.proofs.Lists.{Each, each, each-append, each-flat_map, each-map, each-then, each_at, any_below, any-map, IsFound, found}
 use Rattle.cfg_walk.proofs.Ways.{IsOne, IsOwn, ways_are_own}
 

@@ -1,24 +1,8 @@
 -- Leaving a block from its last word.
-use Rattle.std.proofs.Common.{◌≡◌, ℕ, suc, ◌+◌, ◌<◌, true, false, ◌==◌, List, [], inl, inr, slice_index, Some, refl, ap, sym, ◌∙◌, subst, arith}
-use Rattle.std.specs.Prelude.{if◌then◌else◌}
-use Rattle.std.proofs.lemmas.Bool.{cond_both, eqb-false, eqb-true, false_from_ne_true, false≢true, lt-ltb}
-use Rattle.eel_base.specs.CodeText.{Words}
-use Rattle.v8_decode.specs.declared.Instr.{Instr}
+use Rattle.cfg_walk.proofs.Common.{◌≡◌, ℕ, suc, ◌+◌, ◌<◌, true, false, ◌==◌, List, [], inl, inr, slice_index, Some, refl, ap, sym, ◌∙◌, subst, arith, if◌then◌else◌, cond_both, eqb-false, eqb-true, false_from_ne_true, false≢true, lt-ltb, Words, Instr, decode_of, transfers, Way, way, within, end_at, end_by, is_transfer, ways_of, Blocks, block_end, end_of, holding_of, last_word, ways_from, Node, home_of, IsNodeIn, Open, jumps_in, Graph, directed, graph_of, has_cases, node_of, edge_of, AreOpen, is_jump, edge_from, ends_block, left_at, left_by, node_after}
 use Rattle.v8_decode.specs.declared.Instr.TheVariants as i
-use Rattle.v8_decode.specs.Words.{decode_of}
-use Rattle.v8_step.specs.Items.{is_transfer as transfers}
 use Rattle.cfg_blocks.specs.declared.BlockEnd.TheVariants as ends
 use Rattle.cfg_blocks.specs.declared.EdgeKind.TheVariants as kinds
-use Rattle.cfg_blocks.specs.Ends.{Way, way, within, end_at, end_by, is_transfer, ways_of}
-use Rattle.cfg_blocks.specs.Blocks.{Blocks, block_end, end_of, holding_of, last_word}
-use Rattle.cfg_blocks.specs.Entries.{ways_from}
-use Rattle.cfg_normal.specs.declared.Node.{Node}
-use Rattle.cfg_normal.specs.Code.{home_of, IsNodeIn}
-use Rattle.cfg_normal.specs.Opens.{Open, jumps_in}
-use Rattle.cfg_normal.specs.Graph.{Graph, directed, graph_of, has_cases, node_of, edge_of}
-use Rattle.cfg_walk.specs.Matches.{AreOpen}
-use Rattle.cfg_blocks.specs.Switches.{is_jump}
-use Rattle.cfg_walk.specs.Walk.{edge_from, ends_block, left_at, left_by, node_after}
 use Rattle.cfg_walk.proofs.Holding.{IsIn, Leads, in_held, is_held, is_last, ends_within}
 use Rattle.cfg_walk.proofs.Cut.{IsCut}
 use Rattle.cfg_walk.proofs.Ways.{IsOne, fall_is_one}

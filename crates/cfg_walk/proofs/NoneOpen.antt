@@ -1,27 +1,7 @@
 -- The graph where no switch is open: blocks and X are its nodes, and a block has an edge for each way out of it.
-use Rattle.std.proofs.Common.{◌≡◌, ℕ, suc, ◌+◌, ◌≤◌, Bool, true, false, nat_lt, List, [], ◌∷◌, ◌++◌, append-nil, length, map, Option, Some, refl, ap, sym, ◌∙◌, arith}
-use Rattle.std.specs.Prelude.{if◌then◌else◌}
-use Rattle.std.specs.List.{filter, flat_map, slice_get}
-use Rattle.std.proofs.lemmas.Bool.{cond_both, false≢true}
-use Rattle.std.proofs.lemmas.Bool.Decides.{nat_tests}
-use Rattle.eel_base.specs.CodeText.{Words, address_of, word_at}
-use Rattle.v8_step.specs.declared.Slot.TheVariants.{Taken}
-use Rattle.v8_step.specs.State.{State}
-use Rattle.v8_step.specs.Run.{run}
-use Rattle.cfg_blocks.specs.declared.EdgeKind.{EdgeKind}
+use Rattle.cfg_walk.proofs.Common.{◌≡◌, ℕ, suc, ◌+◌, ◌≤◌, Bool, true, false, nat_lt, List, [], ◌∷◌, ◌++◌, append-nil, length, map, Option, Some, refl, ap, sym, ◌∙◌, arith, if◌then◌else◌, filter, flat_map, slice_get, cond_both, false≢true, nat_tests, Words, address_of, word_at, Taken, State, run, EdgeKind, Blocks, below, end_of, last_word, ways_from, Edge, Node, Block, Landed, X, home_of, IsEdgeIn, IsNodeIn, IsSlotIn, Open, is_copied, jumps_in, Graph, case_nodes, case_of, copied_edges, directed, edge_of, edges_in, edges_of, graph_of, has_cases, landing_at, landings_of, lands, lands_of, node_of, runs_slot, slot_behind, slot_on, ways_out, Point, WayOut, by_kind, edge_along, edge_from, end_of_walk, landed, left_along, point_of, slot_left, way_to, same_kind, AreOpen, Begins, GoesByCase, IsCarried, IsOnItsWay, JumpsGoByCase, last_in, way_address}
 use Rattle.cfg_blocks.specs.declared.EdgeKind.TheVariants as kinds
-use Rattle.cfg_blocks.specs.Blocks.{Blocks, below, end_of, last_word}
-use Rattle.cfg_blocks.specs.Entries.{ways_from}
-use Rattle.cfg_normal.specs.declared.Edge.{Edge}
-use Rattle.cfg_normal.specs.declared.Node.{Node}
-use Rattle.cfg_normal.specs.declared.Node.TheVariants.{Block, Landed, X}
 use Rattle.cfg_normal.specs.declared.Slot.TheVariants as carried
-use Rattle.cfg_normal.specs.Code.{home_of, IsEdgeIn, IsNodeIn, IsSlotIn}
-use Rattle.cfg_normal.specs.Opens.{Open, is_copied, jumps_in}
-use Rattle.cfg_normal.specs.Graph.{Graph, case_nodes, case_of, copied_edges, directed, edge_of, edges_in, edges_of, graph_of, has_cases, landing_at, landings_of, lands, lands_of, node_of, runs_slot, slot_behind, slot_on, ways_out}
-use Rattle.cfg_walk.specs.Walk.{Point, WayOut, by_kind, edge_along, edge_from, end_of_walk, landed, left_along, point_of, slot_left, way_to}
-use Rattle.cfg_normal.specs.Nodes.{same_kind}
-use Rattle.cfg_walk.specs.Matches.{AreOpen, Begins, GoesByCase, IsCarried, IsOnItsWay, JumpsGoByCase, last_in, way_address}
 use Rattle.cfg_walk.proofs.Edges.{block, each_edge}
 use Rattle.cfg_walk.proofs.Lists.{Each, each, each-flat_map, each-map, each_at}
 use Rattle.cfg_walk.proofs.Nodes.{edges_lead_in, edges_leave_in}

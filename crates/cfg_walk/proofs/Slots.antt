@@ -1,30 +1,10 @@
 -- A transfer goes into its slot, and out of it.
-use Rattle.std.proofs.Common.{◌≡◌, ℕ, ◌+◌, ◌<◌, inl, inr, not, ◌&&◌, List, Bool, true, false, nat_lt, [], ◌++◌, Option, Some, None, refl, ap, sym, ◌∙◌, subst, arith, append-nil}
-use Rattle.std.specs.Prelude.{if◌then◌else◌, slice_index}
-use Rattle.std.specs.List.{list_any}
-use Rattle.std.proofs.lemmas.Bool.{cases_Bool, cond_both, false≢true}
-use Rattle.std.proofs.lemmas.Bool.Decides.{nat_tests}
-use Rattle.eel_base.specs.CodeText.{Words, address_of, word_at}
-use Rattle.v8_decode.specs.Words.{decode_of}
-use Rattle.v8_step.specs.declared.Slot.TheVariants.{Taken}
-use Rattle.cfg_blocks.specs.declared.EdgeKind.{EdgeKind}
+use Rattle.cfg_walk.proofs.Common.{◌≡◌, ℕ, ◌+◌, ◌<◌, inl, inr, not, ◌&&◌, List, Bool, true, false, nat_lt, [], ◌++◌, Option, Some, None, refl, ap, sym, ◌∙◌, subst, arith, append-nil, if◌then◌else◌, slice_index, list_any, cases_Bool, cond_both, false≢true, nat_tests, Words, address_of, word_at, decode_of, Taken, EdgeKind, Way, end_at, is_transfer, ways_of, Blocks, holding_of, last_word, Node, X, Block, Landed, home_of, IsNodeIn, Open, jumps_in, Graph, case_of, directed, graph_of, case_nodes, has_cases, is_compared, lands_of, node_of, edge_of, runs_slot, slot_behind, slot_on, landing, Point, WayOut, by_kind, edge_along, edge_from, landed, left_along, node_after, led_to, slot_left, way_to, same_kind, AreOpen, Begins, IsCarried, IsOnItsWay, IsTarget, last_in, target_along, word_at-some}
 use Rattle.cfg_blocks.specs.declared.EdgeKind.TheVariants as kinds
-use Rattle.cfg_blocks.specs.Ends.{Way, end_at, is_transfer, ways_of}
-use Rattle.cfg_blocks.specs.Blocks.{Blocks, holding_of, last_word}
-use Rattle.cfg_normal.specs.declared.Node.{Node}
-use Rattle.cfg_normal.specs.declared.Node.TheVariants.{X}
 use Rattle.cfg_normal.specs.declared.Slot.TheVariants as carried_slots
-use Rattle.cfg_normal.specs.declared.Node.TheVariants.{Block, Landed}
-use Rattle.cfg_normal.specs.Code.{home_of, IsNodeIn}
-use Rattle.cfg_normal.specs.Opens.{Open, jumps_in}
-use Rattle.cfg_normal.specs.Graph.{Graph, case_of, directed, graph_of, case_nodes, has_cases, is_compared, lands_of, node_of, edge_of, runs_slot, slot_behind, slot_on, landing_at as landing}
-use Rattle.cfg_walk.specs.Walk.{Point, WayOut, by_kind, edge_along, edge_from, landed, left_along, node_after, led_to, slot_left, way_to}
-use Rattle.cfg_normal.specs.Nodes.{same_kind}
-use Rattle.cfg_walk.specs.Matches.{AreOpen, Begins, IsCarried, IsOnItsWay, IsTarget, last_in, target_along}
 use Rattle.cfg_walk.proofs.Holding.{Leads, in_held, first_held}
 use Rattle.cfg_walk.proofs.Cut.{IsCut}
 use Rattle.cfg_walk.proofs.Ways.{IsOne}
-use Rattle.cfg_blocks.proofs.Targets.{word_at-some}
 use Rattle.cfg_walk.proofs.Edges.{block, case_found, is_it, landing_found, leads_along, node_at}
 use Rattle.cfg_walk.proofs.Nodes.{case_any, home_directed, home_lands, home_of_node, lands_there}
 use Rattle.cfg_walk.proofs.Leaving.{end_here, here, is_in, node_is, transfer_ends, way_found}

@@ -1,38 +1,14 @@
 -- The walk follows each step of the machine.
-use Rattle.std.proofs.Common.{◌≡◌, ◌≢◌, ℕ, ◌+◌, ◌-◌, ◌%◌, ◌^◌, List, Bool, true, false, not, ◌==◌, Option, Some, None, refl, ap, sym, ◌∙◌, subst, arith, slice_index, inl, inr}
-use Rattle.std.specs.Prelude.{ℤ}
-use Rattle.std.specs.Option.{option_map}
-use Rattle.std.proofs.lemmas.Bool.{cases_Bool, cond_both}
-use Rattle.eel_base.specs.CodeText.{Words, word_at}
-use Rattle.eel_base.specs.Code.{IsText}
-use Rattle.v8_decode.specs.declared.Op2.{Op2}
-use Rattle.v8_decode.specs.declared.Instr.{Instr}
+use Rattle.cfg_walk.proofs.Common.{◌≡◌, ◌≢◌, ℕ, ◌+◌, ◌-◌, ◌%◌, ◌^◌, List, Bool, true, false, not, ◌==◌, Option, Some, None, refl, ap, sym, ◌∙◌, subst, arith, slice_index, inl, inr, ℤ, option_map, cases_Bool, cond_both, Words, word_at, IsText, Op2, Instr, decode_of, holds_of, Ending, Slot, NoSlot, Taken, Untaken, State, with_register, sum_of, live_step, always, Blocks, EdgeKind, Node, home_of, IsNodeIn, Open, Graph, graph_of, node_of, point_of, instr_at, node_after, slot_left, way_of, AreOpen, FetchesOnly, GoesByCase, IsOnItsWay, MatchesBy, Matches, word_at-some}
 use Rattle.v8_decode.specs.declared.Instr.TheVariants as i
-use Rattle.v8_decode.specs.Words.{decode_of}
 use Rattle.v8_memory.specs.Regions.{fetch_of}
-use Rattle.v8_alu.specs.Conditions.{holds_of}
 use Rattle.v8_alu.specs.Numbers.{wrapped}
-use Rattle.v8_step.specs.declared.Ending.{Ending}
 use Rattle.v8_step.specs.declared.Ending.TheVariants.{Couple}
-use Rattle.v8_step.specs.declared.Slot.{Slot}
-use Rattle.v8_step.specs.declared.Slot.TheVariants.{NoSlot, Taken, Untaken}
-use Rattle.v8_step.specs.State.{State, with_register, sum_of}
 use Rattle.v8_step.specs.Transfers.{target_of, delayed, branched, unless_couple, branch_step, call_step, jump_step}
 use Rattle.v8_step.specs.Step.{act, on_word, step_of, unless_ended}
 use Rattle.v8_step.specs.Items.{is_transfer}
-use Rattle.v8_step.proofs.Live.{live_step}
 use Rattle.v8_step.proofs.CopiedMoves.{goes_act}
-use Rattle.cfg_blocks.specs.Ends.{always}
-use Rattle.cfg_blocks.specs.Blocks.{Blocks}
-use Rattle.cfg_blocks.specs.declared.EdgeKind.{EdgeKind}
-use Rattle.cfg_normal.specs.declared.Node.{Node}
-use Rattle.cfg_normal.specs.Code.{home_of, IsNodeIn}
-use Rattle.cfg_normal.specs.Opens.{Open}
-use Rattle.cfg_normal.specs.Graph.{Graph, graph_of, node_of}
-use Rattle.cfg_walk.specs.Walk.{point_of, instr_at, node_after, slot_left, way_of}
-use Rattle.cfg_walk.specs.Matches.{AreOpen, FetchesOnly, GoesByCase, IsOnItsWay, MatchesBy, Matches}
 use Rattle.cfg_walk.proofs.Cut.{IsCut}
-use Rattle.cfg_blocks.proofs.Targets.{word_at-some}
 use Rattle.cfg_walk.proofs.Slots.{out_of_slot}
 use Rattle.cfg_walk.proofs.Points.{Stands, StepsTo, straight_step}
 use Rattle.cfg_walk.proofs.Transfers.{always_annulled, untaken_annulled, taken_delayed, untaken_delayed, call_delayed, jump_delayed}

@@ -1,28 +1,9 @@
 -- What the walk does at each transfer outside a slot.
-use Rattle.std.proofs.Common.{◌≡◌, ℕ, ◌+◌, ◌*◌, ◌%◌, ◌^◌, Bool, true, false, not, ◌==◌, ◌||◌, List, Option, Some, None, refl, ap, sym, ◌∙◌, subst, inl, inr}
-use Rattle.std.specs.Prelude.{if◌then◌else◌, ℤ}
-use Rattle.std.specs.Int.{w32, cast_unsigned}
-use Rattle.std.proofs.lemmas.Bool.{cases_Bool, false≢true}
-use Rattle.eel_base.specs.CodeText.{Words, numbered, target_of, word_at}
-use Rattle.eel_base.specs.declared.numbers.WordNo.{WordNo}
-use Rattle.v8_decode.specs.declared.Op2.{Op2}
+use Rattle.cfg_walk.proofs.Common.{◌≡◌, ℕ, ◌+◌, ◌*◌, ◌%◌, ◌^◌, Bool, true, false, not, ◌==◌, ◌||◌, List, Option, Some, None, refl, ap, sym, ◌∙◌, subst, inl, inr, if◌then◌else◌, ℤ, w32, cast_unsigned, cases_Bool, false≢true, Words, numbered, target_of, word_at, WordNo, Op2, NoSlot, Taken, Untaken, Codes, holds_of, BlockEnd, Way, way, within, end_at, is_transfer, ways_of, branch_target, number_of, target_in, always, Blocks, Node, Open, directed, graph_of, has_cases, lands_of, node_of, runs_slot, Point, by_kind, left_at, node_after, EdgeKind, IsTarget, is_jump}
 use Rattle.v8_decode.specs.declared.Instr.TheVariants as i
-use Rattle.v8_step.specs.declared.Slot.TheVariants.{NoSlot, Taken, Untaken}
-use Rattle.v8_alu.specs.declared.Codes.{Codes}
-use Rattle.v8_alu.specs.Conditions.{holds_of}
-use Rattle.cfg_blocks.specs.declared.BlockEnd.{BlockEnd}
 use Rattle.cfg_blocks.specs.declared.BlockEnd.TheVariants as ends
 use Rattle.cfg_blocks.specs.declared.EdgeKind.TheVariants as kinds
-use Rattle.cfg_blocks.specs.Ends.{Way, way, within, end_at, is_transfer, ways_of, branch_target, number_of, target_in, always}
-use Rattle.cfg_blocks.specs.Blocks.{Blocks}
-use Rattle.cfg_normal.specs.declared.Node.{Node}
-use Rattle.cfg_normal.specs.Opens.{Open}
-use Rattle.cfg_normal.specs.Graph.{directed, graph_of, has_cases, lands_of, node_of, runs_slot}
-use Rattle.cfg_walk.specs.Walk.{Point, by_kind, left_at, node_after}
 use Rattle.cfg_walk.proofs.Slots.{LeadsIfThere}
-use Rattle.cfg_blocks.specs.declared.EdgeKind.{EdgeKind}
-use Rattle.cfg_walk.specs.Matches.{IsTarget}
-use Rattle.cfg_blocks.specs.Switches.{is_jump}
 use Rattle.cfg_walk.proofs.Ways.{IsOne, taken_is_one, untaken_is_one, call_is_one, jump_is_one, not_never, not_always}
 use Rattle.cfg_walk.proofs.Leaving.{end_is}
 use Rattle.cfg_walk.proofs.Points.{Stands, StepsTo, annulled, annulled_to, leads_second, into_case, into_slot, quiet, jumps_along, jumps_to, passes, passes_along, skips}

@@ -1,21 +1,7 @@
 -- The walk matches its run.
-use Rattle.std.proofs.Common.{◌≡◌, ℕ, zero, suc, ◌+◌, ◌-◌, ◌≤◌, Option, Some, None, List, refl, ap, sym, ◌∙◌, subst, arith, length}
-use Rattle.std.proofs.lemmas.Bool.{lt-ltb}
-use Rattle.eel_base.specs.CodeText.{Words, word_at}
-use Rattle.eel_base.specs.Code.{IsText}
-use Rattle.v8_step.specs.declared.Ending.{Ending}
-use Rattle.v8_step.specs.declared.Slot.{Slot}
-use Rattle.v8_step.specs.State.{State}
+use Rattle.cfg_walk.proofs.Common.{◌≡◌, ℕ, zero, suc, ◌+◌, ◌-◌, ◌≤◌, Option, Some, None, List, refl, ap, sym, ◌∙◌, subst, arith, length, lt-ltb, Words, word_at, IsText, Ending, Slot, State, run, stays_ended, within, blocks_of, Open, Graph, graph_of, node_of, Point, point_of, end_of_walk, gone, goes_on_at, node_after, unless_ended, AreOpen, BeginsAt, FetchesOnly, JumpsGoByCase, Matches, MatchesBy, MatchesRun, StepsMatch, WalksMatch}
 use Rattle.v8_step.specs.Step.{step_of}
-use Rattle.v8_step.specs.Run.{run}
 use Rattle.v8_step.proofs.Executable.{code_stays}
-use Rattle.v8_step.proofs.Live.{stays_ended}
-use Rattle.cfg_blocks.specs.Ends.{within}
-use Rattle.cfg_blocks.specs.Blocks.{blocks_of}
-use Rattle.cfg_normal.specs.Opens.{Open}
-use Rattle.cfg_normal.specs.Graph.{Graph, graph_of, node_of}
-use Rattle.cfg_walk.specs.Walk.{Point, point_of, end_of_walk, gone, goes_on_at, node_after, unless_ended}
-use Rattle.cfg_walk.specs.Matches.{AreOpen, BeginsAt, FetchesOnly, JumpsGoByCase, Matches, MatchesBy, MatchesRun, StepsMatch, WalksMatch}
 use Rattle.cfg_walk.proofs.Cut.{cut}
 use Rattle.cfg_walk.proofs.Addresses.{word_at-address}
 use Rattle.cfg_walk.proofs.Nodes.{after_in, home_of_node, node_in}

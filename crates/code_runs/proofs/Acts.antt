@@ -1,23 +1,8 @@
 -- What one word of such code does.
-use Rattle.std.proofs.Common.{◌≡◌, ℕ, ◌%◌, true, false, Option, Some, None, [], refl, ap, ◌∙◌}
-use Rattle.std.specs.Prelude.{◌==◌}
-use Rattle.v8_decode.specs.declared.Op2.{Op2}
-use Rattle.v8_decode.specs.declared.Instr.{Instr}
+use Rattle.code_runs.proofs.Common.{◌≡◌, ℕ, ◌%◌, true, false, Option, Some, None, [], refl, ap, ◌∙◌, ◌==◌, Op2, Instr, decode_of, code_of, fetch_of, fetch_from, NoSlot, State, register_of, with_register, sum_of, mem_address_not_aligned, next, trapped, delayed, jump_step, load_step, store_step, act, step_of, on_word, unless_ended, puts_of, puts_unless_ended, IsPlain, puts_nothing, memory_word, store_word, CanLoad, CanStore, Says}
 use Rattle.v8_decode.specs.declared.Instr.TheVariants as i
 use Rattle.v8_decode.specs.declared.LoadKind.TheVariants as loads
 use Rattle.v8_decode.specs.declared.StoreKind.TheVariants as stores
-use Rattle.v8_decode.specs.Words.{decode_of}
-use Rattle.v8_memory.specs.Regions.{code_of, fetch_of, fetch_from}
-use Rattle.v8_step.specs.declared.Slot.TheVariants.{NoSlot}
-use Rattle.v8_step.specs.State.{State, register_of, with_register, sum_of}
-use Rattle.v8_step.specs.Traps.{mem_address_not_aligned}
-use Rattle.v8_step.specs.Transfers.{next, trapped, delayed, jump_step}
-use Rattle.v8_step.specs.Accesses.{load_step, store_step}
-use Rattle.v8_step.specs.Step.{act, step_of, on_word, unless_ended, puts_of, puts_unless_ended}
-use Rattle.v8_step.proofs.Quiet.{IsPlain, puts_nothing}
-use Rattle.code_runs.specs.StoredWords.{memory_word}
-use Rattle.code_runs.specs.Code.{store_word, CanLoad, CanStore}
-use Rattle.code_runs.specs.Straight.{Says}
 use Rattle.code_runs.proofs.StoredWords.{word_bytes, word_written}
 
 -- a step of a word

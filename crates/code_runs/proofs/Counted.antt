@@ -1,14 +1,5 @@
 -- Stores that are counted.
-use Rattle.std.proofs.Common.{◌≡◌, ℕ, zero, suc, ◌+◌, ◌<◌, ◌≤◌, Bool, false, ◌||◌, Option, Some, None, List, refl, ap, ◌∙◌, arith}
-use Rattle.std.specs.List.{list_any, range_with_len}
-use Rattle.v8_decode.specs.declared.Instr.{Instr}
-use Rattle.v8_memory.specs.Regions.{Region, code_of, fetch_of, fetch_from}
-use Rattle.v8_step.specs.declared.Ending.{Ending}
-use Rattle.v8_step.specs.State.{State}
-use Rattle.v8_step.specs.Step.{step_of}
-use Rattle.v8_step.specs.Run.{run}
-use Rattle.code_runs.specs.Counted.{any_byte, stores_at, one_if, on_fetched, unless_over, stores_in_step, count_stores}
-use Rattle.code_runs.specs.Straight.{Says}
+use Rattle.code_runs.proofs.Common.{◌≡◌, ℕ, zero, suc, ◌+◌, ◌<◌, ◌≤◌, Bool, false, ◌||◌, Option, Some, None, List, refl, ap, ◌∙◌, arith, list_any, range_with_len, Instr, Region, code_of, fetch_of, fetch_from, Ending, State, step_of, run, any_byte, stores_at, one_if, on_fetched, unless_over, stores_in_step, count_stores, Says}
 use Rattle.code_runs.proofs.Leads.{run_add}
 
 none_within : (counted : ℕ → Bool) (from count : ℕ)

@@ -1,26 +1,8 @@
 -- Several blocks in one, and jumps through a register that is kept in memory meanwhile.
-use Rattle.std.proofs.Common.{◌≡◌, ◌≢◌, ℕ, zero, suc, ◌+◌, ◌*◌, ◌%◌, ◌<◌, ◌⊎◌, inl, inr, true, Option, List, refl, ap, sym, ◌∙◌, subst, arith}
-use Rattle.std.specs.Prelude.{◌==◌, slice_index}
-use Rattle.std.proofs.Math.Seq.{ext_get_or}
-use Rattle.v8_decode.specs.declared.Op2.{Op2}
+use Rattle.code_runs.proofs.Common.{◌≡◌, ◌≢◌, ℕ, zero, suc, ◌+◌, ◌*◌, ◌%◌, ◌<◌, ◌⊎◌, inl, inr, true, Option, List, refl, ap, sym, ◌∙◌, subst, arith, ◌==◌, slice_index, ext_get_or, Op2, Codes, Memory, code_of, place_of, register_set, Ending, Slot, NoSlot, State, register_of, with_register, sum_of, next, delayed, step_of, memory_word, CanLoad, Leads, IsBetween, IsSilent, AreHeld, IsAlike, Works, Is, Says, hopped, Hops}
 use Rattle.v8_decode.specs.declared.Instr.TheVariants as i
 use Rattle.v8_decode.specs.declared.LoadKind.TheVariants as loads
-use Rattle.v8_alu.specs.declared.Codes.{Codes}
-use Rattle.v8_memory.specs.Regions.{Memory, code_of}
-use Rattle.v8_windows.specs.Registers.{place_of, register_set}
 pub use Rattle.v8_windows.proofs.Places.{in_place}
-use Rattle.v8_step.specs.declared.Ending.{Ending}
-use Rattle.v8_step.specs.declared.Slot.{Slot}
-use Rattle.v8_step.specs.declared.Slot.TheVariants.{NoSlot}
-use Rattle.v8_step.specs.State.{State, register_of, with_register, sum_of}
-use Rattle.v8_step.specs.Transfers.{next, delayed}
-use Rattle.v8_step.specs.Step.{step_of}
-use Rattle.code_runs.specs.StoredWords.{memory_word}
-use Rattle.code_runs.specs.Code.{CanLoad}
-use Rattle.code_runs.specs.Leads.{Leads, IsBetween, IsSilent}
-use Rattle.code_runs.specs.Picked.{AreHeld, IsAlike, Works, Is}
-use Rattle.code_runs.specs.Straight.{Says}
-use Rattle.code_runs.specs.Hops.{hopped, Hops}
 use Rattle.code_runs.proofs.Acts.{says_step, says_puts, ld_acts, jump_acts}
 use Rattle.code_runs.proofs.Leads.{leads_one, leads_then, silent_one, silent_then}
 use Rattle.code_runs.proofs.Picked.{HasBlock, equal_or_not, held_put, put, put_other, put_same, says_here, unpicked_is}

@@ -1,24 +1,11 @@
 -- A jump to any address, through a register that waits in the page meanwhile.
-use Rattle.std.proofs.Common.{◌≡◌, ℕ, ◌+◌, ◌-◌, ◌*◌, ◌/◌, ◌%◌, ◌^◌, ◌<◌, ◌≤◌, inr, Bool, false, Some, refl, ap, ◌∙◌, arith, List}
-use Rattle.std.specs.Prelude.{◌==◌, if◌then◌else◌, pos}
+use Rattle.code_runs.proofs.Common.{◌≡◌, ℕ, ◌+◌, ◌-◌, ◌*◌, ◌/◌, ◌%◌, ◌^◌, ◌<◌, ◌≤◌, inr, Bool, false, Some, refl, ap, ◌∙◌, arith, List, ◌==◌, if◌then◌else◌, pos, wrapped, Memory, Region, code_of, State, register_of, with_register, sum_of, delayed, step_of, run, IsValid, any_of_word, word_span, of_page, CanStore, store_word, count_stores, one_if, stores_in_step, Hops, IsReady, StandIn, Is, IsAlike, WorksInTwo, pair}
 use Rattle.v8_decode.specs.declared.Op2.TheVariants.{Imm}
 use Rattle.v8_decode.specs.declared.Instr.TheVariants as i
 use Rattle.v8_decode.specs.declared.LoadKind.TheVariants as loads
-use Rattle.v8_alu.specs.Numbers.{wrapped}
-use Rattle.v8_memory.specs.Regions.{Memory, Region, code_of}
-use Rattle.v8_step.specs.State.{State, register_of, with_register, sum_of}
-use Rattle.v8_step.specs.Transfers.{delayed}
-use Rattle.v8_step.specs.Step.{step_of}
-use Rattle.v8_step.specs.Run.{run}
-use Rattle.v8_step.specs.Valid.{IsValid}
 use Rattle.v8_step.proofs.ValidStates.{register_of-range}
-use Rattle.code_runs.specs.Code.{any_of_word, word_span, of_page, CanStore, store_word}
-use Rattle.code_runs.specs.Counted.{count_stores, one_if, stores_in_step}
-use Rattle.code_runs.specs.Hops.{Hops}
 use Rattle.code_runs.specs.LongJump.{IsFirstWord, LongJumpsHop, LongJumpsStore, long_jump}
 use Rattle.code_runs.specs.Page.{page_word}
-use Rattle.code_runs.specs.Straight.{IsReady, StandIn}
-use Rattle.code_runs.specs.Picked.{Is, IsAlike, WorksInTwo, pair}
 use Rattle.code_runs.proofs.Acts.{says_step, jump_acts}
 use Rattle.code_runs.proofs.Counted.{stores_there}
 use Rattle.code_runs.proofs.Hops.{hops_through}

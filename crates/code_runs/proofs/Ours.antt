@@ -1,20 +1,6 @@
 -- The editor's words stay the editor's.
-use Rattle.std.proofs.Common.{◌≡◌, ℕ, ◌<◌, Bool, true, false, ◌&&◌, Option, Some, None, List, [], ◌∷◌, refl, ap, sym, ◌∙◌, subst}
-use Rattle.std.specs.Prelude.{if◌then◌else◌}
-use Rattle.std.specs.Int.{w32, to_be_bytes}
-use Rattle.std.specs.List.{find}
-use Rattle.std.specs.Option.{option_map}
-use Rattle.v8_decode.specs.declared.Instr.{Instr}
-use Rattle.v8_memory.specs.Regions.{Memory, Region, covers, changed, written}
-use Rattle.v8_memory.specs.Spans.{Span, IsApartFromAll, AllApart}
+use Rattle.code_runs.proofs.Common.{◌≡◌, ℕ, ◌<◌, Bool, true, false, ◌&&◌, Option, Some, None, List, [], ◌∷◌, refl, ap, sym, ◌∙◌, subst, if◌then◌else◌, w32, to_be_bytes, find, option_map, Instr, Memory, Region, covers, changed, written, Span, IsApartFromAll, AllApart, covers-written, find-written, State, act, judged_by, HasNot, IsAmongWords, AreOwn, IsOurs, OursStay, OursAreStored, store_word, store_all, AllAt, kept_act}
 use Rattle.v8_memory.specs.Code.{without_execution, IsSameRegion, IsSameOutside}
-use Rattle.v8_memory.proofs.Same.{covers-written, find-written}
-use Rattle.v8_step.specs.State.{State}
-use Rattle.v8_step.specs.Step.{act}
-use Rattle.v8_step.specs.Judged.{judged_by}
-use Rattle.code_runs.specs.Ours.{HasNot, IsAmongWords, AreOwn, IsOurs, OursStay, OursAreStored}
-use Rattle.code_runs.specs.Code.{store_word, store_all, AllAt}
-use Rattle.v8_step.proofs.KeptOutside.{kept_act}
 use Rattle.code_runs.proofs.Stays.{not_heap, there_written, words_stay}
 
 has_not_written : (a b : ℕ) (bs : List ℕ) (o : Option Region) → HasNot a o → HasNot a (option_map (written b bs) o)

@@ -1,33 +1,9 @@
 -- Code that works in picked registers, word by word: what each kind of word does there, and where one more leads.
-use Rattle.std.proofs.Common.{◌≡◌, ◌≢◌, ℕ, zero, suc, ◌+◌, ◌*◌, ◌%◌, ◌^◌, ◌-◌, ◌<◌, ◌≤◌, ◌⊎◌, inl, inr, Bool, true, false, Ok, List, length, refl, ap, sym, ◌∙◌, subst, arith, get_or-set_other}
-use Rattle.std.specs.Prelude.{if◌then◌else◌, ◌==◌, slice_index}
-use Rattle.std.proofs.lemmas.Bool.{cases_eq}
-use Rattle.std.proofs.lemmas.Bool.Decides.{nat_tests}
-use Rattle.v8_decode.specs.declared.Op2.{Op2}
-use Rattle.v8_decode.specs.declared.AluOp.{AluOp}
-use Rattle.v8_decode.specs.declared.Instr.{Instr}
+use Rattle.code_runs.proofs.Common.{◌≡◌, ◌≢◌, ℕ, zero, suc, ◌+◌, ◌*◌, ◌%◌, ◌^◌, ◌-◌, ◌<◌, ◌≤◌, ◌⊎◌, inl, inr, Bool, true, false, Ok, List, length, refl, ap, sym, ◌∙◌, subst, arith, get_or-set_other, if◌then◌else◌, ◌==◌, slice_index, cases_eq, nat_tests, Op2, AluOp, Instr, Codes, wrapped, Memory, code_of, place_of, register_in, register_set, windows, register_in-set, register_in-other, length-register_set, NoSlot, State, register_of, with_register, operand_of, sum_of, next, act, step_of, alu_step, run, IsValid, IsPlain, memory_word, store_word, Stores, CanLoad, CanStore, one_if, stores_at, stores_in_step, Leads, IsBetween, IsSilent, AreHeld, IsAlike, Works, pair, Is, WorksInTwo, IsReady, Says, StandIn}
 use Rattle.v8_decode.specs.declared.Instr.TheVariants as i
 use Rattle.v8_decode.specs.declared.LoadKind.TheVariants as loads
 use Rattle.v8_decode.specs.declared.StoreKind.TheVariants as stores
-use Rattle.v8_alu.specs.declared.Codes.{Codes}
 use Rattle.v8_alu.specs.Alu.{alu_of}
-use Rattle.v8_alu.specs.Numbers.{wrapped}
-use Rattle.v8_memory.specs.Regions.{Memory, code_of}
-use Rattle.v8_windows.specs.Registers.{place_of, register_in, register_set, windows}
-use Rattle.v8_windows.proofs.Places.{register_in-set, register_in-other, length-register_set}
-use Rattle.v8_step.specs.declared.Slot.TheVariants.{NoSlot}
-use Rattle.v8_step.specs.State.{State, register_of, with_register, operand_of, sum_of}
-use Rattle.v8_step.specs.Transfers.{next}
-use Rattle.v8_step.specs.Step.{act, step_of, alu_step}
-use Rattle.v8_step.specs.Run.{run}
-use Rattle.v8_step.specs.Valid.{IsValid}
-use Rattle.v8_step.proofs.Quiet.{IsPlain}
-use Rattle.code_runs.specs.StoredWords.{memory_word}
-use Rattle.code_runs.specs.Code.{store_word, Stores, CanLoad, CanStore}
-use Rattle.code_runs.specs.Counted.{one_if, stores_at, stores_in_step}
-use Rattle.code_runs.specs.Leads.{Leads, IsBetween, IsSilent}
-use Rattle.code_runs.specs.Picked.{AreHeld, IsAlike, Works, pair, Is, WorksInTwo}
-use Rattle.code_runs.specs.Straight.{IsReady, Says, StandIn}
 use Rattle.code_runs.proofs.Acts.{says_step, says_puts, ld_acts, st_acts}
 use Rattle.code_runs.proofs.Counted.{says_stores}
 use Rattle.code_runs.proofs.Leads.{leads_none, leads_one, leads_then, silent_none, silent_one, silent_then}

@@ -1,38 +1,17 @@
 -- Two machines at one point do the same: what the word there reads are items, which both have alike.
-use Rattle.std.proofs.Common.{◌≡◌, ◌≢◌, ℕ, zero, suc, ◌+◌, ◌*◌, ◌%◌, ◌<◌, ◌⊎◌, inl, inr, Bool, true, false, not, ◌&&◌, Some, None, List, [], ◌∷◌, ◌++◌, length, refl, ap, sym, ◌∙◌, subst, arith, eqb-true}
-use Rattle.std.specs.Prelude.{if◌then◌else◌, ◌==◌, slice_index, ℤ}
-use Rattle.std.specs.Int.{w32, cast_unsigned}
-use Rattle.std.proofs.Math.Seq.{ext_get_or}
+use Rattle.code_runs.proofs.Common.{◌≡◌, ◌≢◌, ℕ, zero, suc, ◌+◌, ◌*◌, ◌%◌, ◌<◌, ◌⊎◌, inl, inr, Bool, true, false, not, ◌&&◌, Some, None, List, [], ◌∷◌, ◌++◌, length, refl, ap, sym, ◌∙◌, subst, arith, eqb-true, if◌then◌else◌, ◌==◌, slice_index, ℤ, w32, cast_unsigned, ext_get_or, AluOp, Op2, Instr, decode_of, CodesOf, holds_of, wrapped, Span, AllApart, register_set, place_of, place_of-below, place_of-some, length-register_set, Trap, Couple, Slot, NoSlot, Taken, Untaken, State, with_register, sum_of, act, puts_by, delayed, branched, target_of, trapped, unless_couple, branch_step, call_step, jump_step, mem_address_not_aligned, judged_by, moved, true≢false}
 use Rattle.notes.specs.Format.{Notes}
-use Rattle.v8_decode.specs.declared.AluOp.{AluOp}
 use Rattle.v8_decode.specs.declared.AluOp.TheVariants as ops
-use Rattle.v8_decode.specs.declared.Op2.{Op2}
 use Rattle.v8_decode.specs.declared.Op2.TheVariants as o
-use Rattle.v8_decode.specs.declared.Instr.{Instr}
 use Rattle.v8_decode.specs.declared.Instr.TheVariants as i
 use Rattle.v8_decode.specs.declared.StoreKind.{StoreKind}
 use Rattle.v8_decode.specs.declared.StoreKind.TheVariants as stores
 use Rattle.v8_decode.specs.declared.Part.{Part}
 use Rattle.v8_decode.specs.declared.Part.TheVariants.{Reg, Icc, Y}
 use Rattle.v8_decode.specs.Effects.{reg, op2_parts, when, alu_inputs, stored_parts, is_conditional, reads_of, writes_of}
-use Rattle.v8_decode.specs.Words.{decode_of}
-use Rattle.v8_alu.specs.declared.Codes.{Codes as CodesOf}
-use Rattle.v8_alu.specs.Conditions.{holds_of}
-use Rattle.v8_alu.specs.Numbers.{wrapped}
-use Rattle.v8_memory.specs.Spans.{Span, AllApart}
 use Rattle.v8_windows.specs.Code.{AreRegisters}
-use Rattle.v8_windows.specs.Registers.{register_set, place_of}
-use Rattle.v8_windows.proofs.Places.{place_of-below, place_of-some, length-register_set}
-use Rattle.v8_step.specs.declared.Ending.TheVariants.{Trap, Couple}
-use Rattle.v8_step.specs.declared.Slot.{Slot}
-use Rattle.v8_step.specs.declared.Slot.TheVariants.{NoSlot, Taken, Untaken}
-use Rattle.v8_step.specs.State.{State, with_register, sum_of}
-use Rattle.v8_step.specs.Step.{act, puts_by}
-use Rattle.v8_step.specs.Transfers.{delayed, branched, target_of, trapped, unless_couple, branch_step, call_step, jump_step}
-use Rattle.v8_step.specs.Traps.{mem_address_not_aligned}
 use Rattle.v8_step.specs.Items.{StateItem, Register, Codes, YRegister, IsItem, IsAmong, IsSameAt, is_transfer}
 use Rattle.v8_step.specs.Code.{AreSameAt, IsSameForReading}
-use Rattle.v8_step.specs.Judged.{judged_by}
 use Rattle.two_runs.specs.Alike.{IsSameWorld, AreSameAfter}
 use Rattle.two_runs.specs.Needed.{ReadsIn}
 use Rattle.two_runs.proofs.Twins.{AreTwins}
@@ -41,9 +20,7 @@ use Rattle.two_runs.proofs.Reading.{same_first, same_rest, same_sum, place_one, 
 use Rattle.two_runs.proofs.JudgedAlike.{judged_alike}
 use Rattle.v8_step.proofs.CopiedMoves.{goes_act}
 use Rattle.two_runs.proofs.Alike.{acts_alike}
-use Rattle.code_runs.specs.Points.{moved}
 use Rattle.code_runs.specs.PointsAlike.{AreAtOnePoint, AreAlikeOn, PointsActAlike}
-use Rattle.std.proofs.lemmas.Bool.{true≢false}
 
 -- ---- what is read are items
 

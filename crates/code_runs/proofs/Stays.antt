@@ -1,20 +1,6 @@
 -- Words of the pages stay.
-use Rattle.std.proofs.Common.{◌≡◌, ℕ, ◌+◌, ◌<◌, ◌≤◌, ◌⊎◌, inl, inr, Bool, true, false, Some, List, [], ◌∷◌, length, refl, ap, sym, ◌∙◌, arith}
-use Rattle.std.proofs.lemmas.Bool.{false_from_ne_true}
-use Rattle.std.specs.Prelude.{if◌then◌else◌}
-use Rattle.std.specs.Int.{w32, from_be_bytes}
-use Rattle.std.specs.List.{find}
-use Rattle.std.specs.Option.{option_map}
-use Rattle.std.proofs.lemmas.Bool.Decides.{nat_tests}
-use Rattle.v8_memory.specs.Regions.{Memory, covers, written, all_written, with_heap_end, is_heap_end, region_at}
-use Rattle.v8_memory.specs.Spans.{Span, IsApartFromAll}
-use Rattle.v8_memory.proofs.Same.{find-written}
-use Rattle.v8_step.specs.Step.{act}
-use Rattle.code_runs.specs.StoredWords.{word_in, memory_word}
-use Rattle.code_runs.specs.Code.{CanLoad, CanStore}
-use Rattle.code_runs.specs.Ours.{HasWordAt, IsIn, WordsStay}
+use Rattle.code_runs.proofs.Common.{◌≡◌, ℕ, ◌+◌, ◌<◌, ◌≤◌, ◌⊎◌, inl, inr, Bool, true, false, Some, List, [], ◌∷◌, length, refl, ap, sym, ◌∙◌, arith, false_from_ne_true, if◌then◌else◌, w32, from_be_bytes, find, option_map, nat_tests, Memory, covers, written, all_written, with_heap_end, is_heap_end, region_at, Span, IsApartFromAll, find-written, act, word_in, memory_word, CanLoad, CanStore, HasWordAt, IsIn, WordsStay, kept_act}
 use Rattle.code_runs.proofs.StoredWords.{covered, covers_first, part, shape}
-use Rattle.v8_step.proofs.KeptOutside.{kept_act}
 
 -- what is apart from all of the pages is apart from the word
 abbrev IsWithin : List Span → ℕ → Type 0

@@ -1,23 +1,10 @@
 -- What loads and stores of words do.
-use Rattle.std.proofs.Common.{◌≡◌, ℕ, ◌+◌, ◌-◌, ◌^◌, ◌<◌, ◌≤◌, ◌⊎◌, inl, inr, Bool, true, ◌&&◌, Option, Some, None, List, [], ◌∷◌, ◌++◌, length, take, drop, refl, ap, sym, ◌∙◌, subst, arith, length-append, length-drop, append_assoc, drop-drop, All, IfSome}
-use Rattle.std.proofs.lemmas.Bool.{cond_both}
-use Rattle.std.specs.Prelude.{if◌then◌else◌}
-use Rattle.std.specs.Int.{w32, to_be_bytes, from_be_bytes}
-use Rattle.std.specs.List.{find}
-use Rattle.std.specs.Option.{option_map}
+use Rattle.code_runs.proofs.Common.{◌≡◌, ℕ, ◌+◌, ◌-◌, ◌^◌, ◌<◌, ◌≤◌, ◌⊎◌, inl, inr, Bool, true, ◌&&◌, Option, Some, None, List, [], ◌∷◌, ◌++◌, length, take, drop, refl, ap, sym, ◌∙◌, subst, arith, length-append, length-drop, append_assoc, drop-drop, All, IfSome, cond_both, if◌then◌else◌, w32, to_be_bytes, from_be_bytes, find, option_map, take-append_seam, drop-append_seam, drop-append-add, nat_tests, Memory, Region, covers, region_at, part_of, changed, written, with_bytes, bytes_at, read_region, if_allowed, code_of, find-written, AreBytes, IsValidMemory, IsValidRegion, word_in, memory_word, store_word, CanLoad, CanStore}
 use Rattle.std.proofs.lemmas.Nat.{from_be_bytes-to_be_bytes_4}
 use Rattle.std.proofs.lemmas.List.{take-append-le, drop-append-le, take-append-drop, length-take}
 use Rattle.std.proofs.lemmas.List.Elements.{All-cons, All-head, All-tail, All-weaker, All-take, All-drop}
-use Rattle.std.proofs.Math.Seq.{take-append_seam, drop-append_seam, drop-append-add}
-use Rattle.std.proofs.lemmas.Bool.Decides.{nat_tests}
-use Rattle.v8_memory.specs.Regions.{Memory, Region, covers, region_at, part_of, changed, written, with_bytes, bytes_at, read_region, if_allowed, code_of}
-use Rattle.v8_memory.proofs.Same.{find-written}
 use Rattle.v8_memory.proofs.Executable.{filter-written}
-use Rattle.v8_step.specs.State.{AreBytes}
-use Rattle.v8_step.specs.Valid.{IsValidMemory, IsValidRegion}
 use Rattle.v8_step.proofs.ValidNumbers.{word_of-range}
-use Rattle.code_runs.specs.StoredWords.{word_in, memory_word}
-use Rattle.code_runs.specs.Code.{store_word, CanLoad, CanStore}
 
 pub covers_first : (p : Region → Bool) (rs : List Region) (r : Region) → find p rs ≡ Some r → p r ≡ true
 covers_first p [] r e = absurd (cc)

@@ -1,7 +1,5 @@
 -- Words stored, one after the other.
-use Rattle.std.proofs.Common.{◌≡◌, ℕ, List, [], ◌∷◌, ◌++◌, refl, ap, sym, ◌∙◌}
-use Rattle.v8_memory.specs.Regions.{Memory}
-use Rattle.code_runs.specs.Code.{store_word, store_all, AllAt, Stores}
+use Rattle.code_runs.proofs.Common.{◌≡◌, ℕ, List, [], ◌∷◌, ◌++◌, refl, ap, sym, ◌∙◌, Memory, store_word, store_all, AllAt, Stores}
 
 pub stores_none : (May : ℕ → Type 0) (m : Memory) → Stores May m m
 stores_none May m = record { writes = []; each = tt; result = refl }

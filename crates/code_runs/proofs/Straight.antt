@@ -1,10 +1,6 @@
 -- Runs of code without transfers.
-use Rattle.std.proofs.Common.{◌≡◌, ℕ, zero, suc, ◌+◌, ◌*◌, ◌<◌, List, [], ◌∷◌, length, map, get_or, refl, subst, arith}
-use Rattle.v8_decode.specs.declared.Instr.{Instr}
+use Rattle.code_runs.proofs.Common.{◌≡◌, ℕ, zero, suc, ◌+◌, ◌*◌, ◌<◌, List, [], ◌∷◌, length, map, get_or, refl, subst, arith, Instr, decode_of, Region, Says, StandIn, HasWords}
 use Rattle.v8_decode.specs.declared.Instr.TheVariants as i
-use Rattle.v8_decode.specs.Words.{decode_of}
-use Rattle.v8_memory.specs.Regions.{Region}
-use Rattle.code_runs.specs.Straight.{Says, StandIn, HasWords}
 
 -- what the words say that stand there
 pub words_say : (code : List Region) (a : ℕ) (ws : List ℕ) (xs : List Instr) → HasWords code a ws

@@ -1,3 +1,4 @@
+pub mod Common
 pub mod Profile
 pub mod NodeMarks
 pub mod Rules

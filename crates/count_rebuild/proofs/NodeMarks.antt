@@ -1,19 +1,9 @@
 -- Marks of numbers, one more or many.
-use Rattle.std.proofs.Common.{◌≡◌, ℕ, ◌+◌, ◌*◌, ◌<◌, Bool, true, false, ◌||◌, List, ◌++◌, length, map, nat_le, get_or, set, take, drop, ap, sym, ◌∙◌, arith}
-use Rattle.std.specs.Prelude.{◌==◌}
-use Rattle.std.specs.List.{list_any, range_with_len}
-use Rattle.std.proofs.lemmas.List.{append-nil, drop_all, get_or-map, length-map, take_all, take_more}
+use Rattle.count_rebuild.proofs.Common.{◌≡◌, ℕ, ◌+◌, ◌*◌, ◌<◌, Bool, true, false, ◌||◌, List, ◌++◌, length, map, nat_le, get_or, set, take, drop, ap, sym, ◌∙◌, arith, ◌==◌, list_any, range_with_len, append-nil, drop_all, length-map, take_all, take_more, list_any-append, common_steps, or-false, or_assoc, marked, edge_seen, notes_seen, range_seen, AreNodes, ends_at, lies_at, any_map}
+use Rattle.std.proofs.lemmas.List.{get_or-map}
 use Rattle.std.proofs.lemmas.List.FromFn.{get_or-range_with_len, length-range_with_len}
-use Rattle.std.proofs.lemmas.List.Folds.{list_any-append}
 use Rattle.std.proofs.lemmas.Bool.Decides.{nat_tests}
-use Rattle.std.proofs.lemmas.Grind.{common_steps}
-use Rattle.std.proofs.Math.Bool.{or-false, or_assoc}
-use Rattle.flows.specs.Links.{marked}
-use Rattle.notes.specs.Code.{edge_seen, notes_seen, range_seen}
 use Rattle.notes.specs.declared.note.Notes as declared_notes
-use Rattle.count_rebuild.specs.Private.{AreNodes}
-use Rattle.count_rebuild.specs.Noted.{ends_at, lies_at}
-use Rattle.notes.proofs.Steps.{any_map}
 
 pub marked_more : (marks : List Bool) (number : ℕ) → number < length marks → (node : ℕ)
     → marked (set marks number true) node ≡ (marked marks node || (number == node))

@@ -1,19 +1,6 @@
 -- Notes of a profile, as the code tells them.
-use Rattle.std.proofs.Common.{◌≡◌, ℕ, ◌*◌, ◌≤◌, Bool, true, List, [], get_or, length, map, refl, ap, sym, ◌∙◌, subst, arith}
-use Rattle.std.specs.Prelude.{IsTrue}
-use Rattle.std.proofs.lemmas.Bool.{eq-eqb, or_left, or_right}
-use Rattle.std.proofs.lemmas.List.{length-map}
-use Rattle.std.proofs.lemmas.List.Elements.{All-map}
-use Rattle.notes.specs.Format.{NoteEdge, counter_width}
-use Rattle.flows.specs.Flows.{EdgeSet, Graph, rest}
-use Rattle.flows.specs.Links.{JoinsNodes, graph_of, marked}
-use Rattle.flows.specs.SpanningTrees.{IsSpanningTree}
-use Rattle.flows.specs.declared.Link.{Link}
-use Rattle.notes.specs.Rules.{AreNotes}
-use Rattle.notes.specs.Code.{edge_seen, notes_seen}
+use Rattle.count_rebuild.proofs.Common.{◌≡◌, ℕ, ◌*◌, ◌≤◌, Bool, true, List, [], get_or, length, map, refl, ap, sym, ◌∙◌, subst, arith, IsTrue, eq-eqb, or_left, or_right, length-map, All-map, NoteEdge, counter_width, EdgeSet, Graph, rest, JoinsNodes, graph_of, marked, IsSpanningTree, Link, AreNotes, edge_seen, notes_seen, AreNodes, is_counted, link_of, has_cell, is_node, noted_graph}
 use Rattle.notes.specs.declared.note.Notes as declared_notes
-use Rattle.count_rebuild.specs.Private.{AreNodes, is_counted, link_of}
-use Rattle.count_rebuild.specs.Noted.{has_cell, is_node, noted_graph}
 use Rattle.count_rebuild.proofs.Rules.{counted_is, edge_named, edges_inside, graph_is, links_seen, same_nodes}
 
 module _ (n : declared_notes.Notes) (nodes : List Bool) (are_nodes : AreNodes (notes_seen n) nodes) where

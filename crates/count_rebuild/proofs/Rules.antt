@@ -1,29 +1,9 @@
 -- What the notes' rules and lists say of their graph.
-use Rattle.std.proofs.Common.{◌≡◌, ℕ, ◌+◌, ◌*◌, ◌<◌, ◌≤◌, Bool, true, false, ◌&&◌, List, [], ◌∷◌, get_or, length, map, nat_le, nat_lt, Option, Some, None, refl, ap, sym, ◌∙◌, arith}
-use Rattle.std.specs.Prelude.{IfSome, ℤ, if◌then◌else◌}
-use Rattle.std.specs.List.{All, find, list_any}
-use Rattle.std.specs.Option.{option_map, option_or}
-use Rattle.std.proofs.Math.ListN.{get_or-map}
-use Rattle.std.proofs.lemmas.Bool.{and_parts, cond_both, eq-eqb, le-leb, leb-true, or_left, or_right}
-use Rattle.std.proofs.lemmas.List.{length-map}
-use Rattle.std.proofs.lemmas.List.Elements.{All-cons, All-head, All-nil, All-tail}
-use Rattle.std.proofs.lemmas.List.Folds.{list_any_at}
-use Rattle.notes.specs.Format.{NoteEdge, NoteRange, NoteSegment, Notes, holds, node_at, range_at}
-use Rattle.flows.specs.Flows.{EdgeSet, Graph, NodeSet}
-use Rattle.flows.specs.Links.{graph_of, marked}
-use Rattle.flows.specs.SpanningTrees.{IsSpanningTree}
-use Rattle.flows.specs.declared.Link.{Link}
+use Rattle.count_rebuild.proofs.Common.{◌≡◌, ℕ, ◌+◌, ◌*◌, ◌<◌, ◌≤◌, Bool, true, false, ◌&&◌, List, [], ◌∷◌, get_or, length, map, nat_le, nat_lt, Option, Some, None, refl, ap, sym, ◌∙◌, arith, IfSome, ℤ, if◌then◌else◌, All, find, list_any, option_map, option_or, get_or-map, and_parts, cond_both, eq-eqb, le-leb, leb-true, or_left, or_right, length-map, All-cons, All-head, All-nil, All-tail, list_any_at, NoteEdge, NoteRange, NoteSegment, Notes, holds, node_at, range_at, EdgeSet, Graph, NodeSet, graph_of, marked, IsSpanningTree, Link, int_at, are_edges, are_ranges, is_edge, is_range, with_cell, edge_seen, notes_seen, range_seen, segment_seen, any_map, cell_value, edge_at, ends_at, has_cell, is_node, lies_at, no_edge, noted_graph, is_counted, link_of}
 use Rattle.flows.proofs.Weights.{weight_same}
-use Rattle.flow_rebuild.specs.Values.{int_at}
-use Rattle.notes.specs.Rules.{are_edges, are_ranges, is_edge, is_range, with_cell}
 use Rattle.eel_base.specs.declared.range.Range as declared_range
-use Rattle.notes.specs.Code.{edge_seen, notes_seen, range_seen, segment_seen}
-use Rattle.notes.proofs.Steps.{any_map}
 use Rattle.notes.specs.declared.note.NoteEdge as declared_edge
 use Rattle.notes.specs.declared.note.Notes as declared_notes
-use Rattle.count_rebuild.specs.Counts.{cell_value}
-use Rattle.count_rebuild.specs.Noted.{edge_at, ends_at, has_cell, is_node, lies_at, no_edge, noted_graph}
-use Rattle.count_rebuild.specs.Private.{is_counted, link_of}
 
 -- ---- lists that are made of the edges
 

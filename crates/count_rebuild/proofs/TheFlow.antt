@@ -1,28 +1,11 @@
 -- The rebuilt flow as the definitions have it.
-use Rattle.std.proofs.Common.{◌≡◌, ℕ, ◌*◌, ◌<◌, ◌≤◌, true, not, List, length, map, ap, sym, ◌∙◌, subst}
-use Rattle.std.specs.Prelude.{ℤ, IfSome, Option}
-use Rattle.notes.specs.Format.{Notes}
-use Rattle.flows.specs.Flows.{EdgeSet, Graph, IsTheFlow, rest}
-use Rattle.flows.specs.Links.{graph_of}
-use Rattle.flows.specs.Trees.{on}
-use Rattle.flows.specs.declared.Link.{Link}
+use Rattle.count_rebuild.proofs.Common.{◌≡◌, ℕ, ◌*◌, ◌<◌, ◌≤◌, true, not, List, length, map, ap, sym, ◌∙◌, subst, ℤ, IfSome, Option, Notes, EdgeSet, Graph, IsTheFlow, rest, graph_of, on, Link, edges_of, Tree, int_at, AreNotes, edge_seen, notes_seen, dump_seen, IsRefused, IsFirst, IsFlowTo, is_large, is_negative, StandsAt, cell_counts, cell_value, has_cell, is_node, noted_graph, link_of, IsBad, IsTreeOf}
 use Rattle.flows.proofs.Bools.{not_twice}
-use Rattle.flow_tree.specs.Tree.{edges_of}
-use Rattle.flow_tree.specs.declared.Tree.{Tree}
-use Rattle.flow_rebuild.specs.Values.{int_at}
-use Rattle.notes.specs.Rules.{AreNotes}
-use Rattle.notes.specs.Code.{edge_seen, notes_seen}
 use Rattle.notes.specs.declared.note.Notes as declared_notes
 use Rattle.dump_file.specs.Dump.{Dump}
-use Rattle.dump_file.specs.Code.{dump_seen}
 use Rattle.dump_file.specs.declared.dump.Dump as declared_dump
 use Rattle.count_rebuild.specs.declared.fault.CountFault.{CountFault}
 use Rattle.count_rebuild.specs.declared.fault.CountFault.TheVariants as faults
-use Rattle.count_rebuild.specs.Code.{IsRefused}
-use Rattle.count_rebuild.specs.Counts.{IsFirst, IsFlowTo, is_large, is_negative, StandsAt, cell_counts, cell_value}
-use Rattle.count_rebuild.specs.Noted.{has_cell, is_node, noted_graph}
-use Rattle.count_rebuild.specs.Private.{link_of}
-use Rattle.count_rebuild.specs.Parts.{IsBad, IsTreeOf}
 use Rattle.count_rebuild.proofs.Profile.{plain_is}
 use Rattle.count_rebuild.proofs.Rules.{node_inside, values_are}
 

@@ -1,15 +1,6 @@
 -- The values of counters, and the numbers of a flow.
-use Rattle.std.proofs.Common.{◌≡◌, ℕ, ◌+◌, ◌*◌, ◌^◌, ◌<◌, ◌==◌, false, List, [], ◌∷◌, length, map, get_or, Option, Some, None, refl, ap, sym, ◌∙◌, subst, arith}
-use Rattle.std.specs.Prelude.{ℤ, pos, negsuc, nat_abs, slice_index}
-use Rattle.std.specs.List.{All}
-use Rattle.std.proofs.Math.ListN.{get_or-map}
-use Rattle.std.proofs.lemmas.Bool.{cond_both, false≢true, leb-false}
-use Rattle.std.proofs.lemmas.List.{length-map}
-use Rattle.std.proofs.lemmas.List.Elements.{All-cons, All-nil}
-use Rattle.flow_rebuild.specs.Values.{int_at}
-use Rattle.notes.specs.Code.{edge_seen}
+use Rattle.count_rebuild.proofs.Common.{◌≡◌, ℕ, ◌+◌, ◌*◌, ◌^◌, ◌<◌, ◌==◌, false, List, [], ◌∷◌, length, map, get_or, Option, Some, None, refl, ap, sym, ◌∙◌, subst, arith, ℤ, pos, negsuc, nat_abs, slice_index, All, get_or-map, cond_both, false≢true, leb-false, length-map, All-cons, All-nil, int_at, edge_seen, cell_value, counter_value, is_large, is_negative}
 use Rattle.notes.specs.declared.note.NoteEdge as declared_edge
-use Rattle.count_rebuild.specs.Counts.{cell_value, counter_value, is_large, is_negative}
 
 -- ---- the values of counters
 

@@ -1,14 +1,5 @@
 -- The fields of a dump, and the steps of a reading.
-use Rattle.std.proofs.Common.{◌≡◌, ℕ, ◌+◌, ◌*◌, ◌<◌, ◌≤◌, ◌^◌, Bool, true, false, List, ◌++◌, length, drop, Result, Ok, Err, Some, None, if◌then◌else◌, refl, ap, arith}
-use Rattle.std.specs.Prelude.{nat_le}
-use Rattle.std.proofs.lemmas.Bool.{le-leb, leb-true}
-use Rattle.std.proofs.lemmas.List.{length-append, length-drop, drop-drop}
-use Rattle.std.proofs.Math.Seq.{drop-append_seam}
-use Rattle.byteorder.specs.Endian.{big_number, big_bytes}
-use Rattle.byteorder.specs.Numbers.{big_number-reads_back, length-bytes_high_first, big_from-lt}
-use Rattle.dump_file.specs.Dump.{Dump, kind_of, number_of}
-use Rattle.dump_file.specs.Written.{mark}
-use Rattle.dump_file.specs.Reading.{◌>>=◌, count_place, found, field_at, kept, length_at}
+use Rattle.dump_file.proofs.Common.{◌≡◌, ℕ, ◌+◌, ◌*◌, ◌<◌, ◌≤◌, ◌^◌, Bool, true, false, List, ◌++◌, length, drop, Result, Ok, Err, Some, None, if◌then◌else◌, refl, ap, arith, nat_le, le-leb, leb-true, length-append, length-drop, drop-drop, drop-append_seam, big_number, big_bytes, big_number-reads_back, length-bytes_high_first, big_from-lt, Dump, kind_of, number_of, mark, ◌>>=◌, count_place, found, field_at, kept, length_at}
 use Rattle.dump_file.proofs.Words.{AreBytes, bytes_dropped}
 
 -- The fields that a dump has before its cells.

@@ -1,16 +1,5 @@
 -- What reads is what is written of the dump that was read.
-use Rattle.std.proofs.Common.{◌≡◌, ℕ, zero, suc, ◌+◌, ◌*◌, ◌<◌, ◌≤◌, ◌^◌, ◌==◌, Bool, true, false, List, [], ◌∷◌, ◌++◌, length, drop, Option, Result, Ok, if◌then◌else◌, refl, ap, sym, subst, ◌∙◌, arith}
-use Rattle.std.specs.Prelude.{nat_le}
-use Rattle.std.specs.List.{All}
-use Rattle.std.proofs.lemmas.Bool.{leb-true, eq-eqb, eqb-true, false≢true}
-use Rattle.std.proofs.lemmas.List.{length-drop}
-use Rattle.byteorder.specs.Endian.{big_bytes}
-use Rattle.notes.specs.Format.{is_version}
-use Rattle.v8_step.specs.declared.Ending.{Ending}
-use Rattle.dump_file.specs.Dump.{Dump, kind_of, number_of}
-use Rattle.dump_file.specs.Code.{IsDump}
-use Rattle.dump_file.specs.Written.{mark, words_bytes, dump_bytes}
-use Rattle.dump_file.specs.Reading.{count_at, count_place, field_at, version_at, kept, length_at, number_limit, ending_of, ending_at, fits, words_of, read_dump}
+use Rattle.dump_file.proofs.Common.{◌≡◌, ℕ, zero, suc, ◌+◌, ◌*◌, ◌<◌, ◌≤◌, ◌^◌, ◌==◌, Bool, true, false, List, [], ◌∷◌, ◌++◌, length, drop, Option, Result, Ok, if◌then◌else◌, refl, ap, sym, subst, ◌∙◌, arith, nat_le, All, leb-true, eq-eqb, eqb-true, false≢true, length-drop, big_bytes, is_version, Ending, Dump, kind_of, number_of, IsDump, mark, words_bytes, dump_bytes, count_at, count_place, field_at, version_at, kept, length_at, number_limit, ending_of, ending_at, fits, words_of, read_dump}
 use Rattle.dump_file.proofs.Words.{AreBytes, are_bytes, bytes_dropped, words_again, length-words, words_fit, written_4, written_8}
 use Rattle.dump_file.proofs.Fields.{Found, after, field_fits, parted, met}
 use Rattle.dump_file.proofs.ReadsBack.{parts as fields_stand}

@@ -1,17 +1,7 @@
 -- What was written reads back.
-use Rattle.std.proofs.Common.{◌≡◌, ◌∙◌, ℕ, ◌+◌, ◌*◌, ◌<◌, ◌^◌, ◌==◌, Bool, true, false, List, [], ◌∷◌, ◌++◌, length, drop, Option, Some, None, Ok, if◌then◌else◌, refl, ap, sym, arith}
-use Rattle.std.proofs.lemmas.Bool.{ltb-true, le-leb, eq-eqb, eqb-true}
+use Rattle.dump_file.proofs.Common.{◌≡◌, ◌∙◌, ℕ, ◌+◌, ◌*◌, ◌<◌, ◌^◌, ◌==◌, Bool, true, false, List, [], ◌∷◌, ◌++◌, length, drop, Option, Some, None, Ok, if◌then◌else◌, refl, ap, sym, arith, ltb-true, le-leb, eq-eqb, eqb-true, append_assoc, length-append, drop-append_seam, big_bytes, is_version, Ending, Dump, kind_of, number_of, IsDump, mark, words_bytes, dump_bytes, count_place, count_at, field_at, ending_at, version_at, words_of, read_dump}
 use Rattle.std.proofs.lemmas.Bool.Decides.{nat_tests}
-use Rattle.std.proofs.lemmas.List.{append_assoc, length-append}
-use Rattle.std.proofs.Math.Seq.{drop-append_seam}
-use Rattle.byteorder.specs.Endian.{big_bytes}
-use Rattle.notes.specs.Format.{is_version}
-use Rattle.v8_step.specs.declared.Ending.{Ending}
 use Rattle.v8_step.specs.declared.Ending.TheVariants.{Exit, Trap, Window, Couple}
-use Rattle.dump_file.specs.Dump.{Dump, kind_of, number_of}
-use Rattle.dump_file.specs.Code.{IsDump}
-use Rattle.dump_file.specs.Written.{mark, words_bytes, dump_bytes}
-use Rattle.dump_file.specs.Reading.{count_place, count_at, field_at, ending_at, version_at, words_of, read_dump}
 use Rattle.dump_file.proofs.Words.{words_back}
 use Rattle.dump_file.proofs.Fields.{Found, field_there}
 

@@ -1,21 +1,11 @@
 -- Places that hold edges, or none, and the edges that they hold, as the code has them.
 use Rattle.edge_ring.specs.Private.{edge_no_in}
-use Rattle.edge_ring.proofs.Common.{◌≡◌, ℕ, zero, suc, ◌<◌, ◌≤◌, List, [], ◌∷◌, ◌++◌, length, take, drop, get_or, nat_lt, None, subst, arith, ◌+◌, ◌%◌, ◌^◌, map, refl, All, filter_map, position, flat_map, All-append, All-drop, All-head, All-tail, edge_in, round_from, edges_in, Notes, edge_line, ring_line, length-drop, length-map, Dump, dump_seen, notes_seen, bad_place}
-use Rattle.std.proofs.lemmas.List.Elements.{All-take, All-cons, All-nil}
-use Rattle.std.proofs.Math.Seq.{drop-append_seam, take-append_seam}
-use Rattle.std.proofs.Common.{Option}
-use Rattle.std.specs.List.{position_or_len}
-use Rattle.std.proofs.lemmas.Bool.{ltb-false}
-use Rattle.std.proofs.lemmas.List.{take-append-drop, get_or-map}
+use Rattle.edge_ring.proofs.Common.{◌≡◌, ℕ, zero, suc, ◌<◌, ◌≤◌, List, [], ◌∷◌, ◌++◌, length, take, drop, get_or, nat_lt, None, subst, arith, ◌+◌, ◌%◌, ◌^◌, map, refl, All, filter_map, position, flat_map, All-append, All-drop, All-head, All-tail, edge_in, round_from, edges_in, Notes, edge_line, ring_line, length-drop, length-map, Dump, dump_seen, notes_seen, bad_place, All-take, All-cons, All-nil, drop-append_seam, take-append_seam, Option, position_or_len, ltb-false, take-append-drop, get_or-map, ring_lines, edge_seen, next_place, IsWhole}
 use Rattle.std.proofs.lemmas.List.Sums.{fails_before_first, passes_at_first}
 use Rattle.std.proofs.lemmas.Bool.Decides.{nat_tests}
-use Rattle.edge_ring.specs.Lines.{ring_lines}
 use Rattle.eel_base.specs.declared.numbers.EdgeNo.{EdgeNo}
 use Rattle.dump_file.specs.declared.dump.Dump as declared_dump
-use Rattle.notes.specs.Code.{edge_seen}
 use Rattle.notes.specs.declared.note.Notes as declared_notes
-use Rattle.edge_ring.specs.Ring.{next_place}
-use Rattle.edge_ring.specs.Traces.{IsWhole}
 pub use Rattle.edge_ring.proofs.Examples.{no_edges}
 
 -- ---- no place is bad just where each holds an edge or none

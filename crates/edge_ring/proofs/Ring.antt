@@ -1,15 +1,7 @@
 -- The ring of a walk: how it begins, grows and is read.
-use Rattle.edge_ring.proofs.Common.{◌≡◌, ℕ, zero, suc, ◌+◌, ◌-◌, ◌%◌, ◌^◌, ◌<◌, ◌≤◌, List, [], ◌∷◌, ◌++◌, length, map, take, drop, replicate, refl, ap, sym, ◌∙◌, subst, arith, filter_map, append-nil, append_assoc, length-drop, update, IsRingOf, edge_in, edges_in, last_of, ring_on, round_from}
-use Rattle.std.proofs.Common.{inl, inr, ap₂, ◌*◌, ◌/◌, set}
-use Rattle.std.proofs.lemmas.Bool.{cases_lt}
+use Rattle.edge_ring.proofs.Common.{◌≡◌, ℕ, zero, suc, ◌+◌, ◌-◌, ◌%◌, ◌^◌, ◌<◌, ◌≤◌, List, [], ◌∷◌, ◌++◌, length, map, take, drop, replicate, refl, ap, sym, ◌∙◌, subst, arith, filter_map, append-nil, append_assoc, length-drop, update, IsRingOf, edge_in, edges_in, last_of, ring_on, round_from, inl, inr, ap₂, ◌*◌, ◌/◌, set, cases_lt, drop-append-le, drop-drop, drop-map, drop-set-lt, drop_all, length-append, length-replicate, length-set, map-append, take_all, take_more_set, filter_map-append, mod-mod-pow, drop-nil, WorksBelow, place_in, AllRingsKeepTheLast}
 use Rattle.std.proofs.lemmas.Nat.{pow_pos}
-use Rattle.std.proofs.lemmas.List.{drop-append-le, drop-drop, drop-map, drop-set-lt, drop_all, length-append, length-replicate, length-set, map-append, take_all, take_more_set}
-use Rattle.std.proofs.lemmas.List.Elements.{filter_map-append}
 use Rattle.std.proofs.Math.Nat.{add-mul-mod_self_left, div-add-mod, mod-eq_of_lt, mod-lt, mod_self, zero-mod}
-use Rattle.std.proofs.Math.Pow.{mod-mod-pow}
-use Rattle.std.proofs.Math.Seq.{drop-nil}
-use Rattle.snippets.specs.Cells.{WorksBelow, place_in}
-use Rattle.edge_ring.specs.Laws.{AllRingsKeepTheLast}
 
 -- ---- numbers
 

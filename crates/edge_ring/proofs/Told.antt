@@ -1,13 +1,9 @@
 -- What the dump of a run tells, whose cells are the ring of a walk.
-use Rattle.edge_ring.proofs.Common.{◌≡◌, ℕ, suc, ◌+◌, ◌-◌, ◌%◌, ◌^◌, ◌<◌, ◌≤◌, List, length, map, drop, replicate, None, sym, ◌∙◌, arith, All-append, All-drop, Notes, Dump, last_of, bad_place}
+use Rattle.edge_ring.proofs.Common.{◌≡◌, ℕ, suc, ◌+◌, ◌-◌, ◌%◌, ◌^◌, ◌<◌, ◌≤◌, List, length, map, drop, replicate, None, sym, ◌∙◌, arith, All-append, All-drop, Notes, Dump, last_of, bad_place, All-map, All-replicate, All-weaker, pow-lt, IsRefused, IsOfWalk, MayRefuse, RingsTellTheLast}
 use Rattle.std.proofs.lemmas.Option.{none-some}
-use Rattle.std.proofs.lemmas.List.Elements.{All-map, All-replicate, All-weaker}
-use Rattle.std.proofs.Math.Pow.{pow-lt}
 use Rattle.edge_ring.specs.declared.fault.RingFault.{RingFault}
 use Rattle.edge_ring.specs.declared.fault.RingFault.TheVariants as faults
 use Rattle.edge_ring.specs.Answers.{AreLast}
-use Rattle.edge_ring.specs.Code.{IsRefused}
-use Rattle.edge_ring.specs.Laws.{IsOfWalk, MayRefuse, RingsTellTheLast}
 use Rattle.edge_ring.proofs.Places.{none_bad, unround}
 use Rattle.edge_ring.proofs.Ring.{tells}
 

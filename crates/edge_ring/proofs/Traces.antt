@@ -1,12 +1,8 @@
 -- Which numbers of cells are those of a ring.
-use Rattle.edge_ring.proofs.Common.{◌≡◌, ℕ, ◌+◌, ◌-◌, ◌^◌, ◌<◌, ◌≤◌, get_or, sym, ◌∙◌, arith, Notes}
-use Rattle.std.proofs.Common.{Bool, true, false}
-use Rattle.std.proofs.lemmas.Bool.{false≢true, eq-eqb, eqb-true}
+use Rattle.edge_ring.proofs.Common.{◌≡◌, ℕ, ◌+◌, ◌-◌, ◌^◌, ◌<◌, ◌≤◌, get_or, sym, ◌∙◌, arith, Notes, Bool, true, false, false≢true, eq-eqb, eqb-true, Any, list_any, range_with_len, IsTrace}
 use Rattle.std.specs.Prelude.{◌==◌, MatchBool}
-use Rattle.std.specs.List.{Any, list_any, range_with_len}
 use Rattle.std.proofs.lemmas.List.Folds.{Any-from_list_any, list_any_at}
 use Rattle.std.proofs.lemmas.List.FromFn.{get_or-range_with_len, length-range_with_len}
-use Rattle.edge_ring.specs.Traces.{IsTrace}
 
 module _ (notes : Notes) where
   abbrev has : ℕ → Bool

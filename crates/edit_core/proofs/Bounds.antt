@@ -1,11 +1,6 @@
 -- The room that an edit asks for is enough for the operations that are made.
-use Rattle.edit_core.proofs.Common.{◌≡◌, ℕ, suc, ◌+◌, ◌≤◌, List, [], ◌∷◌, length, refl, ap, arith, Edge, Graph, Each, each, snippet_on, Op, cells_end, ToolKind, AreCounters}
-use Rattle.std.proofs.lemmas.Nat.{mul-le}
-use Rattle.image_code.specs.Copies.{copies_of}
-use Rattle.image_code.specs.Fit.{operations_from, operations_in}
+use Rattle.edit_core.proofs.Common.{◌≡◌, ℕ, suc, ◌+◌, ◌≤◌, List, [], ◌∷◌, length, refl, ap, arith, Edge, Graph, Each, each, snippet_on, Op, cells_end, ToolKind, AreCounters, mul-le, copies_of, operations_from, operations_in, counted_on, operations_on, IsWorkable}
 use Rattle.tool_kit.specs.declared.edge_ref.ToolKind.TheVariants as tools
-use Rattle.edit_core.specs.Taken.{counted_on, operations_on}
-use Rattle.edit_core.specs.Written.{IsWorkable}
 
 -- counters are one operation each at most
 few_counted : (version next : ℕ) (snips : List (List Op)) → AreCounters version next snips

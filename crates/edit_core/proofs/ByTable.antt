@@ -1,20 +1,14 @@
 -- The jumps of an original's open switches go by their tables.
-use Rattle.edit_core.proofs.Common.{◌≡◌, ℕ, ◌+◌, ◌-◌, ◌*◌, true, List, map, Some, refl, ap, sym, ◌∙◌, arith, slice_get, find, range_with_len, eqb-true, Words, address_of, word_at, IsText, Instr, State, sum_of, run, IsValid, Blocks, blocks_of, is_among, entered_of, word_at-some, Open, Graph, graph_of, end_of_walk, point_of, BeginsAt, FetchesOnly, HoldsText, opens_in, CaseTable, IsAtWord, EditSetup, graph_in, table_of}
+use Rattle.edit_core.proofs.Common.{◌≡◌, ℕ, ◌+◌, ◌-◌, ◌*◌, true, List, map, Some, refl, ap, sym, ◌∙◌, arith, slice_get, find, range_with_len, eqb-true, Words, address_of, word_at, IsText, Instr, State, sum_of, run, IsValid, Blocks, blocks_of, is_among, entered_of, word_at-some, Open, Graph, graph_of, end_of_walk, point_of, BeginsAt, FetchesOnly, HoldsText, opens_in, CaseTable, IsAtWord, EditSetup, graph_in, table_of, LoadsEntry, case_table, or_zero, load_is, load_passes, contains, found_in_range, GoesByTable, JumpsGoByTable}
 use Rattle.v8_decode.specs.declared.Instr.TheVariants as i
 use Rattle.v8_decode.specs.declared.LoadKind.TheVariants as loads
 use Rattle.cfg_blocks.specs.declared.switches.Value.{Value}
 use Rattle.cfg_blocks.specs.declared.switches.Value.TheVariants.{Place}
 use Rattle.cfg_blocks.specs.Values.{instr_at}
-use Rattle.switch_runs.specs.Cases.{LoadsEntry}
 use Rattle.switch_runs.specs.Joined.{IsCaseBlock, StandsAt}
 use Rattle.switch_runs.proofs.CaseBlocks.{case_blocks}
 use Rattle.switch_runs.proofs.Joined.{jumps_go_by_table}
-use Rattle.image_code.specs.Graphs.{case_table}
 use Rattle.image_code.specs.Loads.{first_operand, is_place, load_of, loads_by, or_first, second_operand}
-use Rattle.image_code.specs.Labels.{or_zero}
-use Rattle.image_code.proofs.Opened.{load_is, load_passes}
-use Rattle.image_code.proofs.Positions.{contains, found_in_range}
-use Rattle.edit_core.specs.Runs.{GoesByTable, JumpsGoByTable}
 
 -- ---- the load whose address is kept loads an entry
 

@@ -1,15 +1,10 @@
 -- The code of a written file is fetched before its first step.
-use Rattle.edit_core.proofs.Common.{◌≡◌, ℕ, ◌+◌, ◌-◌, ◌*◌, ◌<◌, ◌≤◌, ◌⊎◌, inl, inr, false, nat_eq, List, [], ◌∷◌, ◌++◌, length, drop, map, replicate, slice_index, Some, None, refl, ap, ◌∙◌, arith, list_any, and_assoc, cases_Bool, nat_tests, append_assoc, slice_get_within, get_or_from_slice_get, big_number, has_flag, Mapping, mappings, accepted-program, words_bytes, not_executable, is_code, kept, mapping_added, length-words_bytes, Region, fetch_of, region_of, stack_region, start_memory, TableAt, Placement, Plan}
+use Rattle.edit_core.proofs.Common.{◌≡◌, ℕ, ◌+◌, ◌-◌, ◌*◌, ◌<◌, ◌≤◌, ◌⊎◌, inl, inr, false, nat_eq, List, [], ◌∷◌, ◌++◌, length, drop, map, replicate, slice_index, Some, None, refl, ap, ◌∙◌, arith, list_any, and_assoc, cases_Bool, nat_tests, append_assoc, slice_get_within, get_or_from_slice_get, big_number, has_flag, Mapping, mappings, accepted-program, words_bytes, not_executable, is_code, kept, mapping_added, length-words_bytes, Region, fetch_of, region_of, stack_region, start_memory, TableAt, Placement, Plan, append-nil, list_any-append, code_of, fetch_from, IsBeside, IsEdit, cells_at, cells_base, code_base, code_segment, if_any, page_segment, table_at}
 use Rattle.std.specs.Int.Bits.{and_zero_r}
-use Rattle.std.proofs.lemmas.List.{append-nil}
-use Rattle.std.proofs.lemmas.List.Folds.{list_any-append}
 use Rattle.v8_memory.specs.Regions as regions
-use Rattle.v8_memory.specs.Regions.{code_of, fetch_from}
 use Rattle.v8_process.specs.Fetched.{IsFirstCode}
 use Rattle.v8_process.proofs.Fetched.{code-from, code_is_fetched}
 use Rattle.layout.specs.Running.{HasCode}
-use Rattle.image_code.specs.Images.{IsBeside}
-use Rattle.edit_core.specs.Written.{IsEdit, cells_at, cells_base, code_base, code_segment, if_any, page_segment, table_at}
 use Rattle.edit_core.proofs.Fronts.{any-map, any_fails}
 use Rattle.edit_core.proofs.Edits.{words_are_bytes}
 use Rattle.edit_core.proofs.Mapped.{word_among}

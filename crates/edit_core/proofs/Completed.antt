@@ -1,14 +1,11 @@
 -- Which edges a step completes: none, one, or that of a jump and then a landing.
-use Rattle.edit_core.proofs.Common.{◌≡◌, ℕ, ◌-◌, ◌<◌, Bool, true, false, ◌&&◌, ◌==◌, List, [], ◌∷◌, ◌++◌, length, append-nil, Option, Some, None, slice_index, refl, if◌then◌else◌, and_parts, cond_both, or_left, Words, word_at, Instr, Part, is_member, decode_of, NoSlot, EdgeKind, Edge, Node, X, Graph, lands, Point, gone, instr_at, same_kind, same_node, IsLiveOn, edge_at, is_call_or_jump, is_outside, is_unknown}
-use Rattle.std.proofs.Common.{option_to_list, position}
+use Rattle.edit_core.proofs.Common.{◌≡◌, ℕ, ◌-◌, ◌<◌, Bool, true, false, ◌&&◌, ◌==◌, List, [], ◌∷◌, ◌++◌, length, append-nil, Option, Some, None, slice_index, refl, if◌then◌else◌, and_parts, cond_both, or_left, Words, word_at, Instr, Part, is_member, decode_of, NoSlot, EdgeKind, Edge, Node, X, Graph, lands, Point, gone, instr_at, same_kind, same_node, IsLiveOn, edge_at, is_call_or_jump, is_outside, is_unknown, option_to_list, position, has-every_part, has_cases}
 use Rattle.std.proofs.lemmas.List.Quantifiers.{position-Some}
 use Rattle.v8_decode.specs.declared.Instr.TheVariants as i
-use Rattle.v8_decode.proofs.Members.{has-every_part}
 use Rattle.v8_step.specs.declared.Slot.{Slot}
 use Rattle.cfg_blocks.specs.Ends.{always}
 use Rattle.cfg_blocks.specs.declared.EdgeKind.TheVariants as kinds
 use Rattle.cfg_normal.specs.declared.Slot.TheVariants as carried
-use Rattle.cfg_normal.specs.Graph.{has_cases}
 use Rattle.cfg_walk.specs.Walk.{WayOut, by_kind, completed, edge_along, edge_from, ends_block, landed, landing_at, leads_along, left_along, left_at, left_by, slot_left, way_of}
 
 abbrev IsIn : Graph → ℕ → Type 0

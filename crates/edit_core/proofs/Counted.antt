@@ -1,7 +1,6 @@
 -- There are no more ranges than Marks, wherever pieces are laid.
-use Rattle.edit_core.proofs.Common.{◌≡◌, ℕ, zero, suc, ◌+◌, ◌*◌, ◌<◌, ◌≤◌, Bool, true, ◌&&◌, cond, nat_le, nat_lt, List, [], ◌∷◌, length, Some, refl, ap, sym, ◌∙◌, arith, slice_get, sum_by, and_from, le-leb, lt-ltb, nat_tests, sum_by-cons, NoteRange, Item, Ascend, IsLaid, IsRangeOf, Placement, item_at}
+use Rattle.edit_core.proofs.Common.{◌≡◌, ℕ, zero, suc, ◌+◌, ◌*◌, ◌<◌, ◌≤◌, Bool, true, ◌&&◌, cond, nat_le, nat_lt, List, [], ◌∷◌, length, Some, refl, ap, sym, ◌∙◌, arith, slice_get, sum_by, and_from, le-leb, lt-ltb, nat_tests, sum_by-cons, NoteRange, Item, Ascend, IsLaid, IsRangeOf, Placement, item_at, is_mark, marks_in}
 use Rattle.layout.specs.declared.items.Item.TheVariants as it
-use Rattle.image_code.specs.Fit.{is_mark, marks_in}
 
 abbrev one : Bool → ℕ
 one b = cond b 1 0

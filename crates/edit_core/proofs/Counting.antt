@@ -1,11 +1,6 @@
 -- The entries of tables, counted by the edges along which they lead.
-use Rattle.edit_core.proofs.Common.{◌≡◌, ◌≢◌, ℕ, zero, suc, ◌+◌, ◌^◌, ◌≤◌, ◌==◌, ◌&&◌, Bool, true, false, cond, nat_eq, Option, Some, List, [], ◌∷◌, length, length-append, refl, ap, ◌∙◌, arith, if◌then◌else◌, count_by, range_with_len, sum_by, and_parts, eqb-true, nat_tests, count_by-le-length, sum_by-cons, Node, Block, Landed, X, Graph, lands, IsGraph, IsNodeIn, same_node, node_number, Open, is_at}
-use Rattle.std.proofs.lemmas.List.FromFn.{length-range_with_len}
-use Rattle.std.proofs.lemmas.List.Sums.{sum_by-append}
-use Rattle.cfg_normal.specs.Opens.{targets_in}
+use Rattle.edit_core.proofs.Common.{◌≡◌, ◌≢◌, ℕ, zero, suc, ◌+◌, ◌^◌, ◌≤◌, ◌==◌, ◌&&◌, Bool, true, false, cond, nat_eq, Option, Some, List, [], ◌∷◌, length, length-append, refl, ap, ◌∙◌, arith, if◌then◌else◌, count_by, range_with_len, sum_by, and_parts, eqb-true, nat_tests, count_by-le-length, sum_by-cons, Node, Block, Landed, X, Graph, lands, IsGraph, IsNodeIn, same_node, node_number, Open, is_at, length-range_with_len, sum_by-append, targets_in, CaseKey, case_key, count_of, entries_with, is_entry, same_key}
 use Rattle.cfg_walk.proofs.Nodes.{lands_in}
-use Rattle.edit_core.specs.declared.requests.CaseKey.{CaseKey}
-use Rattle.edit_core.specs.Private.{case_key, count_of, entries_with, is_entry, same_key}
 
 -- ---- counts
 

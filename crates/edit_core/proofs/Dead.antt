@@ -1,8 +1,5 @@
 -- What the live sets leave is dead.
-use Rattle.edit_core.proofs.Common.{◌≡◌, ℕ, Bool, true, false, not, List, refl, Words, Part, has, Graph, IsLiveOn, dead_on}
-use Rattle.v8_decode.proofs.Marks.{has-members_at, set_of-members}
-use Rattle.liveness.specs.Sets.{AreLive, Live, edge_set}
-use Rattle.edit_core.specs.Dead.{AreDead}
+use Rattle.edit_core.proofs.Common.{◌≡◌, ℕ, Bool, true, false, not, List, refl, Words, Part, has, Graph, IsLiveOn, dead_on, has-members_at, set_of-members, AreLive, Live, edge_set, AreDead}
 
 pub rest_is_dead : (text : Words) (graph : Graph) (named : ℕ → List Part) (sets : Live) → AreLive text graph named sets
     → AreDead text graph named (dead_on sets)

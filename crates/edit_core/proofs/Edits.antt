@@ -1,7 +1,6 @@
 -- What is written is an edit: its notes meet their rules, and the laws of written files give the rest. It is faithful.
-use Rattle.edit_core.proofs.Common.{◌≡◌, ℕ, suc, ◌+◌, ◌*◌, ◌%◌, ◌^◌, ◌<◌, ◌≤◌, List, [], ◌∷◌, ◌++◌, length, length-append, nat_le, None, inl, inr, refl, ap, ◌∙◌, arith, All, sum_by, length-replicate, count_by-le-length, big_bytes, IsText, Words, fault, image_of, highest_end, Notes, accepted-program, AreNotes, notes_bytes, notes_words, words_bytes, AddedSegment, length-words_bytes, Blocks, holding_of, Graph, TableAt, Each, Placement, AreFit, codes_of, WorksBelow, ToolKind, Plan, true, false, map, slice_index, Some, sym, subst, slice_get, list_any, option_map, le-leb, lt-ltb, append_assoc, slice_get_within, get_or_from_slice_get, address_of, word_at, Mapping, mappings, NoteRange, NoteSegment, Part, decode_of, State, run, start_of, instr_at, mapping_added, kept, Edge, IsEdgeIn, is_node, each, each-append, each-then, IsNoLoad, are_tables, cased, each_index}
+use Rattle.edit_core.proofs.Common.{◌≡◌, ℕ, suc, ◌+◌, ◌*◌, ◌%◌, ◌^◌, ◌<◌, ◌≤◌, List, [], ◌∷◌, ◌++◌, length, length-append, nat_le, None, inl, inr, refl, ap, ◌∙◌, arith, All, sum_by, length-replicate, count_by-le-length, big_bytes, IsText, Words, fault, image_of, highest_end, Notes, accepted-program, AreNotes, notes_bytes, notes_words, words_bytes, AddedSegment, length-words_bytes, Blocks, holding_of, Graph, TableAt, Each, Placement, AreFit, codes_of, WorksBelow, ToolKind, Plan, true, false, map, slice_index, Some, sym, subst, slice_get, list_any, option_map, le-leb, lt-ltb, append_assoc, slice_get_within, get_or_from_slice_get, address_of, word_at, Mapping, mappings, NoteRange, NoteSegment, Part, decode_of, State, run, start_of, instr_at, mapping_added, kept, Edge, IsEdgeIn, is_node, each, each-append, each-then, IsNoLoad, are_tables, cased, each_index, note_bytes, IsWordAt, PlacesSay, CanEdit, bound_in, editor_page, page_size, tool_number, HasGraph, HasPages, IsInRoom, IsPlace, holds_cells, note_edges, note_of, word_mapped, IsEdited, IsWithinBound, StoresLittle, is_ld, ForEachRun, edit_of}
 use Rattle.std.proofs.lemmas.List.Elements.{All-replicate}
-use Rattle.notes.specs.Written.{words_bytes as note_bytes}
 use Rattle.notes.proofs.ReadsBack.{written_back}
 use Rattle.elf32_write.specs.Conditions.{CanWrite, AreNumbers, Ascend, CanLoad, HasWords, IsInReach}
 use Rattle.elf32_write.specs.Laws.{AreBytes, HoldsOriginal}
@@ -12,11 +11,7 @@ use Rattle.elf32_write.proofs.Laws.{original_is_held, notes_are_read, entry_is_g
 use Rattle.elf32_write.proofs.Loads.{file_loads}
 use Rattle.v8_step.proofs.ValidNumbers.{high_first-bytes, flat_map-bytes}
 use Rattle.cfg_walk.proofs.Addresses.{word_at-address}
-use Rattle.layout.specs.Laid.{IsWordAt}
-use Rattle.image_code.specs.Fit.{PlacesSay}
 use Rattle.image_code.specs.Keeping.{AreCaseTables}
-use Rattle.edit_core.specs.Taken.{CanEdit, bound_in}
-use Rattle.edit_core.specs.Faithful.{editor_page, page_size, tool_number, HasGraph, HasPages, IsInRoom, IsPlace, holds_cells, note_edges, note_of, word_mapped}
 use Rattle.edit_core.specs.Written.{CanDo, IsNewCode, IsEdit, if_any, cells_at, cells_base, text_of, graph_in, table_base, code_base, pieces_of, entry_of, table_at, segment_size, cases_at, code_segment, page_segment, added, notes_on, edit_file, EditsRunAlike, RunsOf, setup_of, off_range, off_ranges}
 use Rattle.edit_core.proofs.Bounds.{operations_few}
 use Rattle.edit_core.proofs.Fronts.{any_length, by_any, each_any, any-map, any_first}
@@ -28,9 +23,6 @@ use Rattle.edit_core.proofs.Views.{bound_is, view_graph}
 use Rattle.edit_core.proofs.Ranges.{ranges_whole, some_code, IsWhole}
 use Rattle.edit_core.proofs.Steps.{segment_is}
 use Rattle.edit_core.proofs.Noted.{IsNoted, are_notes, are_words, few_bytes}
-use Rattle.edit_core.specs.Code.{IsEdited}
-use Rattle.edit_core.specs.Cost.{IsWithinBound, StoresLittle, is_ld}
-use Rattle.edit_core.specs.RunsAlike.{ForEachRun, edit_of}
 use Rattle.edit_core.proofs.Off.{off_by, off_each}
 use Rattle.edit_core.proofs.Mapped.{code_mapped}
 

@@ -1,8 +1,6 @@
 -- Where a program is entered: at a block that is the jump's block of no open switch.
-use Rattle.edit_core.proofs.Common.{◌≡◌, ℕ, ◌<◌, ◌==◌, true, Some, None, List, length, ap, sym, ◌∙◌, arith, slice_get, eq-eqb, false≢true, Words, IsText, blocks_of, holding_of, is_among, Node, Block, Landed, X, Graph, graph_of, node_of, Open, cut, block, node_is, opens_in}
-use Rattle.image_code.specs.Labels.{enter_number, image_number, switch_at}
+use Rattle.edit_core.proofs.Common.{◌≡◌, ℕ, ◌<◌, ◌==◌, true, Some, None, List, length, ap, sym, ◌∙◌, arith, slice_get, eq-eqb, false≢true, Words, IsText, blocks_of, holding_of, is_among, Node, Block, Landed, X, Graph, graph_of, node_of, Open, cut, block, node_is, opens_in, enter_number, image_number, switch_at, any_at}
 use Rattle.image_code.proofs.ImageNumbers.{not_found}
-use Rattle.image_code.proofs.Positions.{any_at}
 use Rattle.edit_core.proofs.Graphs.{entry_apart}
 
 module _ (text : Words) (given : List ℕ) (entry : ℕ) (is_text : IsText text) (among : is_among given entry ≡ true)

@@ -1,7 +1,5 @@
 -- What stands before others only where there are cells.
-use Rattle.edit_core.proofs.Common.{◌≡◌, ℕ, zero, suc, ◌<◌, ◌≤◌, Bool, true, false, ◌&&◌, cond, List, ◌∷◌, ◌++◌, length, map, Option, Some, None, refl, ap, arith, find, list_any, or_left, or_parts, or_right, Each}
-use Rattle.std.proofs.Common.{◌||◌}
-use Rattle.edit_core.specs.Written.{if_any}
+use Rattle.edit_core.proofs.Common.{◌≡◌, ℕ, zero, suc, ◌<◌, ◌≤◌, Bool, true, false, ◌&&◌, cond, List, ◌∷◌, ◌++◌, length, map, Option, Some, None, refl, ap, arith, find, list_any, or_left, or_parts, or_right, Each, ◌||◌, if_any}
 
 pub any-map : {A B : Type 0} (f : A → B) (count : ℕ) (x : A) (xs : List A)
     → map f (if_any count x ++ xs) ≡ if_any count (f x) ++ map f xs

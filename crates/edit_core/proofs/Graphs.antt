@@ -1,15 +1,8 @@
 -- The graph of an original, with its open switches.
-use Rattle.edit_core.proofs.Common.{flat_map, ◌≡◌, ℕ, ◌+◌, ◌-◌, ◌*◌, ◌<◌, ◌≤◌, ◌==◌, inl, inr, true, false, Bool, List, [], ◌∷◌, length, length-append, refl, ap, sym, ◌∙◌, arith, slice_index, list_any, sum_by, cases_Bool, eq-eqb, eqb-true, false_from_ne_true, false≢true, le-ltb, lt-ltb, length-map, sum_by-cons, Words, IsText, image_of, Blocks, blocks_of, holding_of, is_among, last_word, entered_of, Node, Block, Landed, X, Graph, edges_in, IsEdgeIn, IsGraph, IsNodeIn, is_node, node_number, Open, is_copied, jumps_in, cut, Each, each-then, IsGraphOf, opens_in, case_numbers, text_graph, Plan}
-use Rattle.std.proofs.lemmas.Bool.{or_cases}
-use Rattle.cfg_normal.specs.Opens.{compares_in}
+use Rattle.edit_core.proofs.Common.{flat_map, ◌≡◌, ℕ, ◌+◌, ◌-◌, ◌*◌, ◌<◌, ◌≤◌, ◌==◌, inl, inr, true, false, Bool, List, [], ◌∷◌, length, length-append, refl, ap, sym, ◌∙◌, arith, slice_index, list_any, sum_by, cases_Bool, eq-eqb, eqb-true, false_from_ne_true, false≢true, le-ltb, lt-ltb, length-map, sum_by-cons, Words, IsText, image_of, Blocks, blocks_of, holding_of, is_among, last_word, entered_of, Node, Block, Landed, X, Graph, edges_in, IsEdgeIn, IsGraph, IsNodeIn, is_node, node_number, Open, is_copied, jumps_in, cut, Each, each-then, IsGraphOf, opens_in, case_numbers, text_graph, Plan, or_cases, compares_in, IsCut, entry_leads, first_held, IsOpenSwitch, cases_of, are_open, is_list}
 use Rattle.cfg_normal.proofs.GraphFacts.{is_graph}
-use Rattle.cfg_walk.proofs.Cut.{IsCut, entry_leads}
-use Rattle.cfg_walk.proofs.Holding.{first_held}
-use Rattle.switch_runs.specs.Cases.{IsOpenSwitch}
 use Rattle.switch_runs.proofs.About.{about}
 use Rattle.switch_runs.proofs.Opened.{opens_are}
-use Rattle.image_code.specs.Labels.{cases_of}
-use Rattle.image_code.proofs.OpenBlocks.{are_open, is_list}
 use Rattle.edit_core.specs.Written.{given_of, graph_in, text_of}
 
 pub graph_is : (original : List ℕ) (plan : Plan) → IsGraphOf (text_of original plan) (graph_in original plan)

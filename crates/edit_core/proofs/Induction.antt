@@ -1,9 +1,8 @@
 -- The induction over the steps of the original, and whole runs.
-use Rattle.edit_core.proofs.Common.{◌≡◌, ◌≢◌, ℕ, zero, suc, ◌+◌, ◌-◌, ◌<◌, ◌≤◌, ◌⊎◌, inl, inr, Option, Some, None, List, ◌++◌, append-nil, refl, ap, sym, ◌∙◌, subst, arith, word_at, node_at, NoteRange, range_at, fetch_of, Span, AllApart, Ending, State, sum_of, run, run_puts, IsAmong, StateItem, Register, IsItem, IsSameAt, place_of, place_of-below, slice_get, WritesIn, IsUntouched, visit_of, pages_of, GoesOn, Ends, stays_ended, puts_nothing, Node, Point, point_of, goes_on_at, gone, gone_in, node_after, end_of_walk, CaseTable, IsAtWord, IsNoLoad, IsThere, EditSetup, graph_in, number_in, edit_in, cells_in, store_of, updates, step_stays, Answers, IsLeast, AtVisit, IsOffPages, HasShortForms}
+use Rattle.edit_core.proofs.Common.{◌≡◌, ◌≢◌, ℕ, zero, suc, ◌+◌, ◌-◌, ◌<◌, ◌≤◌, ◌⊎◌, inl, inr, Option, Some, None, List, ◌++◌, append-nil, refl, ap, sym, ◌∙◌, subst, arith, word_at, node_at, NoteRange, range_at, fetch_of, Span, AllApart, Ending, State, sum_of, run, run_puts, IsAmong, StateItem, Register, IsItem, IsSameAt, place_of, place_of-below, slice_get, WritesIn, IsUntouched, visit_of, pages_of, GoesOn, Ends, stays_ended, puts_nothing, Node, Point, point_of, goes_on_at, gone, gone_in, node_after, end_of_walk, CaseTable, IsAtWord, IsNoLoad, IsThere, EditSetup, graph_in, number_in, edit_in, cells_in, store_of, updates, step_stays, Answers, IsLeast, AtVisit, IsOffPages, HasShortForms, place_of-some, HasSameOutside, Matches, IsWay, walks_match, IsChosen, KeepsAddress, Steps, IsFollowedBy, MatchesIn, StepsOn, at_point, does_at, word_of, ended_stays, EndsAtNode, TellsStep, KeepsLoaded, AreTogether, Linked, RunFacts, Spares, instr_in, limits_in, EditsAnswer, KeptIn}
 use Rattle.v8_step.specs.Step.{step_of, puts_of, on_word, puts_on_word}
 use Rattle.v8_step.specs.Code.{AreSameAt}
 use Rattle.two_runs.proofs.Reading.{same_sum}
-use Rattle.v8_windows.proofs.Places.{place_of-some}
 use Rattle.v8_decode.specs.Effects.{op2_parts, reg}
 use Rattle.v8_decode.specs.declared.Op2.{Op2}
 use Rattle.v8_decode.specs.declared.Op2.TheVariants.{Reg, Imm}
@@ -11,25 +10,17 @@ use Rattle.v8_decode.specs.declared.Instr.TheVariants as i
 use Rattle.v8_decode.specs.declared.LoadKind.TheVariants as loads
 use Rattle.two_runs.specs.Alike.{IsSameWorld}
 use Rattle.two_runs.specs.Needed.{decoded, instr_at, judged_in}
-use Rattle.two_runs.specs.TwoRuns.{HasSameOutside, Matches}
-use Rattle.two_runs.specs.Follows.{IsWay}
 use Rattle.v8_step.proofs.Executable.{code_stays}
 use Rattle.two_runs.proofs.Outside.{byte_outside, heap_end_same}
 use Rattle.v8_step.proofs.ValidSteps.{run-valid}
-use Rattle.cfg_walk.proofs.Walks.{walks_match}
 use Rattle.code_runs.proofs.Leads.{run_add, puts_add, split_below}
 use Rattle.code_runs.specs.PointsAlike.{AreAlikeOn, AreAtOnePoint, instr_of}
 use Rattle.code_runs.proofs.Ours.{outside_trans}
 use Rattle.code_runs.proofs.PointsAlike.{points_act_alike}
-use Rattle.image_code.specs.Simulates.{IsChosen, KeepsAddress, Steps, IsFollowedBy, MatchesIn, StepsOn, at_point, does_at, word_of}
 use Rattle.jump_code.specs.PageWords.{saved_address}
-use Rattle.two_runs.proofs.Stays.{ended_stays}
 use Rattle.two_runs.proofs.Follows.{runs_follow}
-use Rattle.edit_core.specs.RunsAlike.{EndsAtNode, TellsStep}
-use Rattle.edit_core.specs.Runs.{KeepsLoaded, AreTogether, Linked, RunFacts, Spares, instr_in, limits_in}
 use Rattle.edit_core.proofs.Stops.{gone_none, same_node, same_store, Follows, Tells, stop_is}
 use Rattle.edit_core.proofs.Trails.{node_of_place, placed_between, there_node, visited_address}
-use Rattle.edit_core.specs.Whole.{EditsAnswer, KeptIn}
 
 -- both are over; the written file's pc is then in a place of the node where the original's walk ended, and of the last
 -- instruction, or outside the pages

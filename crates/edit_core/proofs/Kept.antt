@@ -1,20 +1,11 @@
 -- What lives is kept: the code of a snippet takes only what isn't live behind it, and what a snippet makes of the cells
 -- depends on the registers alone that it names.
-use Rattle.edit_core.proofs.Common.{◌≡◌, ℕ, zero, suc, ◌<◌, ◌⊎◌, inl, inr, true, List, [], ◌∷◌, length, slice_index, refl, ap, sym, ◌∙◌, arith, All, and_parts, cases_lt, or_left, or_right, get_or_past, nat_tests, Part, has, is_member, set_of, place_of, place_of-below, State, IsAmong, IsItem, IsSameAt, StateItem, Register, WritesIn, run, end_of_walk, goes_on_at, gone_in, point_of, IsLiveOn, named_on, Op, named_by, EditSetup, graph_in, snippet_on, updates}
-use Rattle.std.proofs.Common.{Contains}
+use Rattle.edit_core.proofs.Common.{◌≡◌, ℕ, zero, suc, ◌<◌, ◌⊎◌, inl, inr, true, List, [], ◌∷◌, length, slice_index, refl, ap, sym, ◌∙◌, arith, All, and_parts, cases_lt, or_left, or_right, get_or_past, nat_tests, Part, has, is_member, set_of, place_of, place_of-below, State, IsAmong, IsItem, IsSameAt, StateItem, Register, WritesIn, run, end_of_walk, goes_on_at, gone_in, point_of, IsLiveOn, named_on, Op, named_by, EditSetup, graph_in, snippet_on, updates, Contains, has-members, is_same-self, register_of, item_of, read_by, update, IsKept, AreDead, instr_in, KeepsWhatLives, KeptIn}
 use Rattle.v8_decode.specs.declared.Part.TheVariants.{Reg}
-use Rattle.v8_decode.proofs.Members.{has-members, is_same-self}
-use Rattle.v8_step.specs.State.{register_of}
-use Rattle.v8_step.specs.Items.{item_of}
 use Rattle.live_walk.specs.Keeps.{IsKeptBehind, Keeps}
 use Rattle.live_walk.proofs.Keeps.{what_lives_is_kept}
-use Rattle.snippets.specs.Cells.{read_by, update}
 use Rattle.snippets.specs.Grammar.{IsOp}
 use Rattle.snippets.proofs.Decide.{decide}
-use Rattle.image_code.specs.Simulates.{IsKept}
-use Rattle.edit_core.specs.Dead.{AreDead}
-use Rattle.edit_core.specs.Runs.{instr_in}
-use Rattle.edit_core.specs.Whole.{KeepsWhatLives, KeptIn}
 use Rattle.edit_core.proofs.Completed.{Completes, gone_completes, none, one, two, unknown_lives}
 
 -- ---- what snippets make of cells depends on the registers alone that they name

@@ -1,13 +1,6 @@
 -- Where the tables lead: to places of pieces that are there.
-use Rattle.edit_core.proofs.Common.{◌≡◌, ℕ, ◌+◌, ◌^◌, ◌<◌, ◌≤◌, List, length, map, get_or, slice_index, ap, sym, ◌∙◌, arith, All, map-map, get_or-map, length-map, Words, IsText, PieceNo, Program, TableAt, below, holding_of, Graph, block, node_is, Item, Placement, long_bytes, AreFit, PiecesFit, IsGraphOf, lands_at, case_numbers, text_graph, Op}
-use Rattle.std.proofs.lemmas.Option.{slice_get-get_or}
+use Rattle.edit_core.proofs.Common.{◌≡◌, ℕ, ◌+◌, ◌^◌, ◌<◌, ◌≤◌, List, length, map, get_or, slice_index, ap, sym, ◌∙◌, arith, All, map-map, get_or-map, length-map, Words, IsText, PieceNo, Program, TableAt, below, holding_of, Graph, block, node_is, Item, Placement, long_bytes, AreFit, PiecesFit, IsGraphOf, lands_at, case_numbers, text_graph, Op, slice_get-get_or, in_held, enter_below, Request, addr, case_places, cells_size, entry_number, landings_of, table_after, tables_size, AreTablesOf, TablesMatch, AreInside, AreLaid, AreMade, HasRoom, IsBuilt, count_is}
 use Rattle.cfg_blocks.proofs.Below.{get_or-below, length-below}
-use Rattle.cfg_walk.proofs.Holding.{in_held}
-use Rattle.image_code.proofs.OpenNumbers.{enter_below}
-use Rattle.edit_core.specs.declared.requests.Request.{Request}
-use Rattle.edit_core.specs.Written.{addr, case_places, cells_size, entry_number, landings_of, table_after, tables_size, AreTablesOf, TablesMatch}
-use Rattle.edit_core.specs.Private.{AreInside, AreLaid, AreMade, HasRoom, IsBuilt}
-use Rattle.image_code.proofs.Listed.{count_is}
 use Rattle.edit_core.proofs.Graphs.{entries_few, graph_cut}
 use Rattle.edit_core.proofs.Steps.{new_fit, new_room}
 

@@ -1,12 +1,5 @@
 -- The words of the code in the memory of a written file.
-use Rattle.edit_core.proofs.Common.{◌≡◌, ℕ, zero, suc, ◌+◌, ◌-◌, ◌*◌, ◌^◌, ◌<◌, ◌≤◌, Bool, false, ◌&&◌, nat_le, List, [], ◌∷◌, ◌++◌, length, drop, map, slice_index, Some, None, refl, ap, ◌∙◌, arith, All, find, le-leb, lt-leb, find-append, nat_tests, big_number, big_bytes, ProgramHeader, program_headers, loadable, Mapping, mapping_of, mappings, image_of, segment_of, words_bytes, kept}
-use Rattle.std.proofs.Common.{max}
-use Rattle.std.specs.List.{fold}
-use Rattle.std.proofs.Math.Seq.{drop-append-add}
-use Rattle.byteorder.specs.Numbers.{big_number-reads_back}
-use Rattle.elf32_sparc.specs.Image.{segment_end}
-use Rattle.edit_core.specs.Faithful.{word_mapped}
-use Rattle.edit_core.specs.Written.{if_any}
+use Rattle.edit_core.proofs.Common.{◌≡◌, ℕ, zero, suc, ◌+◌, ◌-◌, ◌*◌, ◌^◌, ◌<◌, ◌≤◌, Bool, false, ◌&&◌, nat_le, List, [], ◌∷◌, ◌++◌, length, drop, map, slice_index, Some, None, refl, ap, ◌∙◌, arith, All, find, le-leb, lt-leb, find-append, nat_tests, big_number, big_bytes, ProgramHeader, program_headers, loadable, Mapping, mapping_of, mappings, image_of, segment_of, words_bytes, kept, max, fold, drop-append-add, big_number-reads_back, segment_end, word_mapped, if_any}
 use Rattle.edit_core.proofs.Fronts.{passed, past_any}
 
 abbrev covers : ℕ → Mapping → Bool

@@ -1,20 +1,11 @@
 -- The notes on an edit meet their rules.
-use Rattle.edit_core.proofs.Common.{◌≡◌, ℕ, suc, ◌+◌, ◌*◌, ◌%◌, ◌^◌, ◌<◌, ◌≤◌, ◌==◌, true, false, Option, Some, None, List, [], ◌∷◌, ◌++◌, length, length-append, map, refl, ap, sym, subst, arith, slice_index, flat_map, list_any, get_or_default_zero, and_from, eq-eqb, le-leb, lt-ltb, or_left, or_right, big_bytes, Words, address_of, IsText, Notes, NoteRange, NoteSegment, holds, AreNotes, are_ranges, AddedSegment, notes_bytes, notes_words, EdgeKind, AreFirsts, Edge, Node, Block, Landed, X, Graph, IsEdgeIn, IsNodeIn, node_number, Each, each-append, each-then, Ascend, Placement, Op, Count, WorksBelow, WorksIn, cells_end, ToolKind, AreCounters, Plan}
-use Rattle.std.proofs.lemmas.Bool.{ne_eqb}
-use Rattle.byteorder.specs.Numbers.{length-bytes_high_first}
-use Rattle.elf32_write.proofs.WordsBytes.{length-flat_map}
-use Rattle.notes.specs.Format.{follows}
-use Rattle.notes.specs.Rules.{are_segments, are_blocks, are_edges, is_edge, is_free}
+use Rattle.edit_core.proofs.Common.{◌≡◌, ℕ, suc, ◌+◌, ◌*◌, ◌%◌, ◌^◌, ◌<◌, ◌≤◌, ◌==◌, true, false, Option, Some, None, List, [], ◌∷◌, ◌++◌, length, length-append, map, refl, ap, sym, subst, arith, slice_index, flat_map, list_any, get_or_default_zero, and_from, eq-eqb, le-leb, lt-ltb, or_left, or_right, big_bytes, Words, address_of, IsText, Notes, NoteRange, NoteSegment, holds, AreNotes, are_ranges, AddedSegment, notes_bytes, notes_words, EdgeKind, AreFirsts, Edge, Node, Block, Landed, X, Graph, IsEdgeIn, IsNodeIn, node_number, Each, each-append, each-then, Ascend, Placement, Op, Count, WorksBelow, WorksIn, cells_end, ToolKind, AreCounters, Plan, ne_eqb, length-bytes_high_first, length-flat_map, follows, are_segments, are_blocks, are_edges, is_edge, is_free, IsAscending, kind_number, cell_noted, editor_page, note_edge, note_edges, page_size, each_of_all}
 use Rattle.notes.specs.Laws.{AreWords}
 use Rattle.notes.specs.Written.{words_bytes, segment_words, edge_words, range_words, cell_word}
-use Rattle.cfg_blocks.specs.Code.{IsAscending}
-use Rattle.cfg_normal.specs.Numbers.{kind_number}
 use Rattle.tool_kit.specs.declared.edge_ref.ToolKind.TheVariants as tools
-use Rattle.edit_core.specs.Faithful.{cell_noted, editor_page, note_edge, note_edges, page_size}
 use Rattle.edit_core.specs.Written.{cells_at, code_at, if_any, off_range, off_ranges, page_segment, segment_noted, segments_noted, table_after, table_at, text_of, graph_in, notes_on, segment_size, table_base}
 use Rattle.edit_core.proofs.Fronts.{any-map, any_length, any_past, by_any, each_any}
 use Rattle.edit_core.proofs.Eaches.{all_each, each_all}
-use Rattle.image_code.proofs.OpenNumbers.{each_of_all}
 use Rattle.edit_core.proofs.Off.{off_each, off_few}
 use Rattle.edit_core.proofs.Ranges.{IsWhole, ends_by, ranges_rule}
 use Rattle.edit_core.proofs.Snippets.{begins_within}

@@ -1,15 +1,8 @@
 -- The place of a slot behind the text: that of each edge which runs one.
-use Rattle.edit_core.proofs.Common.{◌≡◌, ℕ, zero, suc, ◌+◌, ◌-◌, ◌<◌, ◌≤◌, ◌⊎◌, inl, inr, Bool, true, false, ◌&&◌, cond, nat_le, nat_lt, List, [], ◌∷◌, ◌++◌, length, map, Option, Some, None, refl, ap, sym, ◌∙◌, arith, slice_get, find, flat_map, option_map, option_or, cases_Bool, cases_lt, cond_both, false_from_ne_true, false≢true, le-leb, lt-ltb, nat_tests, find-append, Words, NoteRange, EdgeKind, AreFirsts, Blocks, below, last_word, Edge, Node, Block, Graph, edges_in, Open, is_copied, jumps_in, Each, each, each-append, range_in}
-use Rattle.std.proofs.Common.{filter}
-use Rattle.std.specs.Option.{option_to_list}
+use Rattle.edit_core.proofs.Common.{◌≡◌, ℕ, zero, suc, ◌+◌, ◌-◌, ◌<◌, ◌≤◌, ◌⊎◌, inl, inr, Bool, true, false, ◌&&◌, cond, nat_le, nat_lt, List, [], ◌∷◌, ◌++◌, length, map, Option, Some, None, refl, ap, sym, ◌∙◌, arith, slice_get, find, flat_map, option_map, option_or, cases_Bool, cases_lt, cond_both, false_from_ne_true, false≢true, le-leb, lt-ltb, nat_tests, find-append, Words, NoteRange, EdgeKind, AreFirsts, Blocks, below, last_word, Edge, Node, Block, Graph, edges_in, Open, is_copied, jumps_in, Each, each, each-append, range_in, filter, option_to_list, end_of, ways_from, block_at, copy, each_edge, each-below, each-flat_map, each-map, each_at, is_behind, is_off, off_range, off_ranges}
 use Rattle.cfg_blocks.specs.declared.EdgeKind.TheVariants as kinds
-use Rattle.cfg_blocks.specs.Blocks.{end_of}
-use Rattle.cfg_blocks.specs.Entries.{ways_from}
 use Rattle.cfg_normal.specs.declared.Slot.TheVariants as slots
 use Rattle.cfg_normal.specs.Graph.{case_nodes, case_of, copied_edges, edge_of, edges_of, landing_at, landings_of, runs_slot, slot_behind, slot_on, ways_out}
-use Rattle.cfg_walk.proofs.Edges.{block as block_at, copy, each_edge}
-use Rattle.cfg_walk.proofs.Lists.{each-below, each-flat_map, each-map, each_at}
-use Rattle.edit_core.specs.Written.{is_behind, is_off, off_range, off_ranges}
 
 -- ---- one that passes is found
 

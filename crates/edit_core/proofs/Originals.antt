@@ -1,11 +1,6 @@
 -- What a file that can be edited has, and how many bytes its tables have at most.
-use Rattle.edit_core.proofs.Common.{◌≡◌, ℕ, ◌+◌, ◌-◌, ◌*◌, ◌^◌, ◌≤◌, min, List, map, Option, Some, None, refl, arith, IsText, ProgramHeader, program_headers, loadable, fault, segment_of, highest_end, image_of, accepted, length, Words, halves_size}
-use Rattle.std.proofs.Common.{◌/◌}
-use Rattle.std.specs.Option.{option_map_or}
-use Rattle.elf32_sparc.specs.Header.{text_header}
+use Rattle.edit_core.proofs.Common.{◌≡◌, ℕ, ◌+◌, ◌-◌, ◌*◌, ◌^◌, ◌≤◌, min, List, map, Option, Some, None, refl, arith, IsText, ProgramHeader, program_headers, loadable, fault, segment_of, highest_end, image_of, accepted, length, Words, halves_size, ◌/◌, option_map_or, text_header, Accepted, IsFit, has_text, text_is_fit, cells_size, tables_size}
 use Rattle.elf32_sparc.specs.Image.{text_from, text_of, no_text}
-use Rattle.elf32_sparc.proofs.Accepted.{Accepted, IsFit, has_text, text_is_fit}
-use Rattle.edit_core.specs.Written.{cells_size, tables_size}
 
 text_is : (file : List ℕ) → Accepted file → (found : Option ProgramHeader) → text_header (program_headers file) ≡ found
     → IsText (option_map_or (text_from file) found no_text)

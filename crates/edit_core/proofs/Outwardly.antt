@@ -1,20 +1,11 @@
 -- Of a faithful edit all can be seen from outside that its original shows.
-use Rattle.edit_core.proofs.Common.{◌≡◌, ℕ, suc, ◌+◌, ◌-◌, ◌^◌, ◌&&◌, not, ◌≤◌, inl, inr, true, false, List, [], ◌∷◌, ◌++◌, length, map, Some, None, refl, ap, sym, ◌∙◌, arith, append-nil, list_any, and_parts, or_parts, nat_tests, map-append, map-map, Notes, NoteSegment, ProgramHeader, loadable, program_headers, image_of, Mapping, mapping_of, mappings, kept, region_of, Span, IsApart, IsApartFromAll, AllApart, Ending, State, AreBytes, run, run_puts, puts_nothing, stays_ended, Answers, pages_of, own_trail, trail_of, IsUntouched, Each, AreArguments, program_name, stack_region, start_memory, start_of, Plan}
-use Rattle.std.proofs.Common.{append_assoc}
-use Rattle.elf32_sparc.specs.FileFault.{has_memory_outside_a_run, is_last_page, leaves_room, load_fault}
-use Rattle.elf32_sparc.proofs.Loadable.{loadable_file}
-use Rattle.v8_memory.specs.Code.{are_apart, heap_span, is_apart, is_apart_from, span_of, span_of_mapping}
+use Rattle.edit_core.proofs.Common.{◌≡◌, ℕ, suc, ◌+◌, ◌-◌, ◌^◌, ◌&&◌, not, ◌≤◌, inl, inr, true, false, List, [], ◌∷◌, ◌++◌, length, map, Some, None, refl, ap, sym, ◌∙◌, arith, append-nil, list_any, and_parts, or_parts, nat_tests, map-append, map-map, Notes, NoteSegment, ProgramHeader, loadable, program_headers, image_of, Mapping, mapping_of, mappings, kept, region_of, Span, IsApart, IsApartFromAll, AllApart, Ending, State, AreBytes, run, run_puts, puts_nothing, stays_ended, Answers, pages_of, own_trail, trail_of, IsUntouched, Each, AreArguments, program_name, stack_region, start_memory, start_of, Plan, append_assoc, has_memory_outside_a_run, is_last_page, leaves_room, load_fault, loadable_file, are_apart, heap_span, is_apart, is_apart_from, span_of, span_of_mapping, page_of, lived_to, HasPages, IsFaithful, note_of, EditsAreUntouched, EditsCrashAlike, EditsDoTheSame, GrantedRunsAreAlike, AreRunsAlike, edit_of}
 use Rattle.v8_step.specs.declared.Ending.TheVariants.{Exit}
 use Rattle.two_runs.specs.Refused.{HasBuffers, IsGranted, is_refusal}
 use Rattle.two_runs.specs.Code.{IsUnmapped}
-use Rattle.two_runs.specs.Visits.{page_of}
 use Rattle.two_runs.proofs.Unmapped.{granted_is_untouched, unmapped_is_untouched}
-use Rattle.cfg_walk.proofs.Walks.{lived_to}
 use Rattle.v8_process.proofs.Loading.{mapped_apart}
-use Rattle.edit_core.specs.Faithful.{HasPages, IsFaithful, note_of}
-use Rattle.edit_core.specs.Code.{EditsAreUntouched, EditsCrashAlike, EditsDoTheSame, GrantedRunsAreAlike}
 use Rattle.edit_core.specs.Outwardly.{LooksAs, RunsLike}
-use Rattle.edit_core.specs.RunsAlike.{AreRunsAlike, edit_of}
 use Rattle.edit_core.proofs.Trails.{visit_lives, ending, few_visits, from_on, going, over_or_not, own_live, stays}
 
 -- ---- spans of which no two have a common address

@@ -1,15 +1,9 @@
 -- The words of the tables, of the cells and of the editor's page, in the memory with which a written file starts.
-use Rattle.edit_core.proofs.Common.{◌≡◌, ℕ, zero, suc, ◌+◌, ◌-◌, ◌*◌, ◌^◌, ◌<◌, ◌≤◌, ◌⊎◌, inl, inr, Bool, true, false, cond, List, [], ◌∷◌, ◌++◌, length, length-append, map, replicate, take, drop, Some, None, refl, ap, ◌∙◌, arith, find, range_with_len, option_map, option_or, and_from, cases_Bool, cases_lt, cond_both, le-leb, lt-leb, nat_tests, from_be_bytes, w32, append_assoc, length-replicate, map-append, find-append, Each, each-append, each-then, Words, Mapping, mappings, accepted-program, AddedSegment, kept, mapping_added, Region, region_of, IsApart, IsApartFromAll, Span, start_memory, stack_region, memory_word, Notes, NoteSegment, halves_size, TableAt, Placement, EditSetup, EditorData, pages_of, cell_at, Plan}
-use Rattle.std.proofs.lemmas.List.{append-nil, drop-replicate, length-drop, take-replicate}
-use Rattle.v8_memory.specs.Regions.{Memory, covers, region_at}
-use Rattle.v8_memory.specs.Segments.{empty_heap, heap_room, heap_start}
+use Rattle.edit_core.proofs.Common.{◌≡◌, ℕ, zero, suc, ◌+◌, ◌-◌, ◌*◌, ◌^◌, ◌<◌, ◌≤◌, ◌⊎◌, inl, inr, Bool, true, false, cond, List, [], ◌∷◌, ◌++◌, length, length-append, map, replicate, take, drop, Some, None, refl, ap, ◌∙◌, arith, find, range_with_len, option_map, option_or, and_from, cases_Bool, cases_lt, cond_both, le-leb, lt-leb, nat_tests, from_be_bytes, w32, append_assoc, length-replicate, map-append, find-append, Each, each-append, each-then, Words, Mapping, mappings, accepted-program, AddedSegment, kept, mapping_added, Region, region_of, IsApart, IsApartFromAll, Span, start_memory, stack_region, memory_word, Notes, NoteSegment, halves_size, TableAt, Placement, EditSetup, EditorData, pages_of, cell_at, Plan, append-nil, drop-replicate, length-drop, take-replicate, Memory, covers, region_at, empty_heap, heap_room, heap_start, word_in, HasTable, IsEditorData, IsTableIn, editor_page, page_size}
 use Rattle.code_runs.specs.Ours.{HasNot, HasWordAt, IsAmongWords, IsIn, IsOurs}
 use Rattle.code_runs.specs.Page.{page_word}
-use Rattle.code_runs.specs.StoredWords.{word_in}
 use Rattle.addr_translate.specs.Translator.{StandsAt}
 use Rattle.addr_translate.proofs.Regions.{regions_stand}
-use Rattle.image_code.specs.Images.{HasTable, IsEditorData, IsTableIn}
-use Rattle.edit_core.specs.Faithful.{editor_page, page_size}
 use Rattle.edit_core.specs.Written.{IsEdit, TablesMatch, cells_at, cells_base, code_base, code_segment, cases_table, first_table, graph_in, if_any, notes_on, page_segment, second_table, segment_size, table_at, table_base, tables_size, text_of}
 use Rattle.edit_core.proofs.Fronts.{any-map, any_none, any_some, by_any, each_any}
 use Rattle.edit_core.proofs.Mapped.{original_covers}

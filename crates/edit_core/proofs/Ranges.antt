@@ -1,17 +1,9 @@
 -- What laid code has: words, and ranges that notes may have.
-use Rattle.edit_core.proofs.Common.{◌≡◌, ℕ, zero, suc, ◌+◌, ◌*◌, ◌%◌, ◌^◌, ◌<◌, ◌≤◌, true, nat_lt, nat_le, Option, Some, None, List, [], ◌∷◌, ◌++◌, length, map, refl, ap, sym, ◌∙◌, arith, slice_get, flat_map, list_any, and_from, cond_both, le-leb, le-ltb, lt-ltb, eq-eqb, slice_get_within, Words, address_of, IsText, NoteSegment, NoteRange, holds, are_ranges, below, Graph, Each, Item, Ascend, IsLaid, IsRangeOf, Placement, item_at, range_in, piece_list, IsGraphOf, each_index}
-use Rattle.std.specs.Option.{option_map}
-use Rattle.std.proofs.lemmas.Option.{slice_get-map}
+use Rattle.edit_core.proofs.Common.{◌≡◌, ℕ, zero, suc, ◌+◌, ◌*◌, ◌%◌, ◌^◌, ◌<◌, ◌≤◌, true, nat_lt, nat_le, Option, Some, None, List, [], ◌∷◌, ◌++◌, length, map, refl, ap, sym, ◌∙◌, arith, slice_get, flat_map, list_any, and_from, cond_both, le-leb, le-ltb, lt-ltb, eq-eqb, slice_get_within, Words, address_of, IsText, NoteSegment, NoteRange, holds, are_ranges, below, Graph, Each, Item, Ascend, IsLaid, IsRangeOf, Placement, item_at, range_in, piece_list, IsGraphOf, each_index, option_map, slice_get-map, item_in, items_in, range_of, open_in, end_from, is_end, Foreign, piece_number, shape_list, foreign_stands, shape_at, text_graph, piece_shaped}
 use Rattle.layout.specs.declared.items.Item.TheVariants as it
-use Rattle.layout.specs.Laid.{item_in, items_in, range_of, open_in, end_from, is_end}
 use Rattle.image_code.specs.declared.shape.Head.{Head}
 use Rattle.image_code.specs.declared.shape.Visit.{Visit}
 use Rattle.image_code.specs.Shapes.{exit_items, head_items, items_of, mark_items}
-use Rattle.image_code.specs.Labels.{Foreign, number_of as piece_number}
-use Rattle.image_code.specs.Made.{shape_list}
-use Rattle.image_code.proofs.Listed.{foreign_stands, shape_at}
-use Rattle.image_code.proofs.OpenBlocks.{text_graph}
-use Rattle.image_code.proofs.Fit.{piece_shaped}
 use Rattle.image_code.proofs.Shapes.{HasFirst, IsVisit, first_mark, first_of}
 use Rattle.edit_core.proofs.Graphs.{IsNumber, number_of}
 use Rattle.edit_core.proofs.Fronts.{passed}

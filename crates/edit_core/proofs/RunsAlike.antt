@@ -1,29 +1,12 @@
 -- What was written of an original has runs like the original's.
-use Rattle.edit_core.proofs.Common.{◌≡◌, ℕ, suc, ◌+◌, ◌-◌, ◌*◌, ◌%◌, ◌^◌, ◌<◌, ◌≤◌, ◌⊎◌, inl, inr, true, false, nat_le, nat_lt, List, [], ◌∷◌, ◌++◌, length, map, replicate, slice_index, Option, Some, None, refl, ap, sym, ◌∙◌, subst, arith, slice_get, get_or_from_slice_get, slice_get_within, cases_lt, false_from_ne_true, le-ltb, lt-leb, or_left, or_parts, nat_tests, length-replicate, map-map, NoteRange, NoteSegment, Notes, holds, range_at, image_of, IsText, Words, word_at, Addr, Part, has, is_member, set_of, State, AreBytes, NoSlot, IsSameAt, StateItem, Register, IsUntouched, in_pages, pages_of, AreArguments, program_name, start_of, below, blocks_of, is_among, word_at-some, Edge, Node, Block, Graph, node_of, BeginsAt, FetchesOnly, Point, end_of_walk, point_of, edge_at, is_call_or_jump, is_outside, is_unknown, named_on, entered_of, view_of, HoldsText, TableAt, Ascend, HasShortForms, IsLaid, Placement, range_in, memory_word, cell_at, Plan, PiecesFit, CaseTable, IsNoLoad, EditSetup, edit_in, snippet_on, EditorData, AtVisit, codes_of, lands_at, piece_list, IsOffPages, are_tables, table_of, cased, accepted-program}
-use Rattle.std.proofs.Math.Seq.{ext_get_or}
-use Rattle.std.proofs.lemmas.List.{get_or-replicate}
-use Rattle.std.proofs.lemmas.List.FromFn.{get_or-map-range_with_len, length-map-range_with_len}
-use Rattle.v8_decode.specs.Parts.{every_part, members}
-use Rattle.v8_decode.proofs.Marks.{same_sets}
+use Rattle.edit_core.proofs.Common.{◌≡◌, ℕ, suc, ◌+◌, ◌-◌, ◌*◌, ◌%◌, ◌^◌, ◌<◌, ◌≤◌, ◌⊎◌, inl, inr, true, false, nat_le, nat_lt, List, [], ◌∷◌, ◌++◌, length, map, replicate, slice_index, Option, Some, None, refl, ap, sym, ◌∙◌, subst, arith, slice_get, get_or_from_slice_get, slice_get_within, cases_lt, false_from_ne_true, le-ltb, lt-leb, or_left, or_parts, nat_tests, length-replicate, map-map, NoteRange, NoteSegment, Notes, holds, range_at, image_of, IsText, Words, word_at, Addr, Part, has, is_member, set_of, State, AreBytes, NoSlot, IsSameAt, StateItem, Register, IsUntouched, in_pages, pages_of, AreArguments, program_name, start_of, below, blocks_of, is_among, word_at-some, Edge, Node, Block, Graph, node_of, BeginsAt, FetchesOnly, Point, end_of_walk, point_of, edge_at, is_call_or_jump, is_outside, is_unknown, named_on, entered_of, view_of, HoldsText, TableAt, Ascend, HasShortForms, IsLaid, Placement, range_in, memory_word, cell_at, Plan, PiecesFit, CaseTable, IsNoLoad, EditSetup, edit_in, snippet_on, EditorData, AtVisit, codes_of, lands_at, piece_list, IsOffPages, are_tables, table_of, cased, accepted-program, ext_get_or, get_or-replicate, get_or-map-range_with_len, length-map-range_with_len, every_part, members, same_sets, AreOpen, JumpsGoByCase, found_in, target_of, words_at, Simulates, AreNoted, HasCells, IsPlaced, Pieces, IsOffNoted, IsTableFor, PiecesMakeImages, pieces_in, CameFrom, Linked, RunFacts, StoresLittle, TakesFewSteps, short_bound, AreRunsAlike, IsAnswered, visits_by, bound_in, Answered, KeptIn}
 use Rattle.cfg_blocks.specs.declared.EdgeKind.TheVariants as kinds
-use Rattle.cfg_walk.specs.Matches.{AreOpen, JumpsGoByCase}
 use Rattle.cfg_view.proofs.Given.{entry_leads}
 use Rattle.walk_counts.proofs.Fetching.{only_text_is_fetched}
 use Rattle.walk_counts.proofs.Files.{begins, by_case, entry_is, opened}
 use Rattle.switch_runs.proofs.Starts.{text_is_held}
-use Rattle.addr_translate.specs.Halves.{found_in}
-use Rattle.addr_translate.specs.Table.{target_of}
-use Rattle.snippet_code.specs.Cells.{words_at}
-use Rattle.image_code.specs.Simulates.{Simulates}
 use Rattle.image_code.specs.Cost.{is_out}
-use Rattle.image_code.specs.Images.{AreNoted, HasCells, IsPlaced, Pieces}
 use Rattle.image_code.proofs.Points.{visited_by}
-use Rattle.image_code.specs.Made.{IsOffNoted, IsTableFor, PiecesMakeImages, pieces_in}
-use Rattle.edit_core.specs.Runs.{CameFrom, Linked, RunFacts}
-use Rattle.edit_core.specs.Cost.{StoresLittle, TakesFewSteps, short_bound}
-use Rattle.edit_core.specs.RunsAlike.{AreRunsAlike, IsAnswered, visits_by}
-use Rattle.edit_core.specs.Taken.{bound_in}
-use Rattle.edit_core.specs.Whole.{Answered, KeptIn}
 use Rattle.edit_core.specs.Written.{EditsRunAlike, IsEdit, setup_of, TablesMatch, addr, cases_at, cells_base, code_base, first_table, foreign_of, given_of, graph_in, landings_of, notes_on, second_table, segment_size, table_base, text_of}
 use Rattle.edit_core.proofs.Bounds.{operations_few}
 use Rattle.edit_core.proofs.ByTable.{by_table}

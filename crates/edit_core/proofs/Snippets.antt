@@ -1,8 +1,6 @@
 -- The code of good snippets.
-use Rattle.edit_core.proofs.Common.{◌≡◌, ℕ, suc, ◌*◌, ◌%◌, ◌^◌, ◌<◌, ◌≤◌, inl, inr, List, [], ◌∷◌, length, get_or, arith, All, cases_lt, get_or_past, length-map, Part, Op, Count, WorksBelow, WorksIn, named_by, cells_end, cell_at, codes_of, snippet_on, IsGood}
+use Rattle.edit_core.proofs.Common.{◌≡◌, ℕ, suc, ◌*◌, ◌%◌, ◌^◌, ◌<◌, ◌≤◌, inl, inr, List, [], ◌∷◌, length, get_or, arith, All, cases_lt, get_or_past, length-map, Part, Op, Count, WorksBelow, WorksIn, named_by, cells_end, cell_at, codes_of, snippet_on, IsGood, Add, Put, Keep, Top, Log, cell_of, AreShort}
 use Rattle.v8_encode.specs.Encoding.{word_of}
-use Rattle.snippets.specs.declared.snippet.Op.TheVariants.{Add, Put, Keep, Top, Log}
-use Rattle.snippets.specs.Ops.{cell_of}
 use Rattle.snippet_code.specs.Code.{IsCellOf}
 use Rattle.snippet_code.specs.Laws.{CanExpand, EndLow, HasBits}
 use Rattle.snippet_code.specs.Runs.{DoesJust}
@@ -10,7 +8,6 @@ use Rattle.snippet_code.specs.Words.{snippet_words}
 use Rattle.snippet_code.specs.Spills.{spills_of}
 use Rattle.snippet_code.proofs.Lengths.{costs_hold}
 use Rattle.snippet_code.proofs.WholeCode.{snippet_code_runs}
-use Rattle.image_code.specs.Fit.{AreShort}
 
 -- no operation is good
 none_good : (cells : ℕ) → IsGood cells []

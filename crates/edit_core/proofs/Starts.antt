@@ -1,9 +1,5 @@
 -- An original and its written file start in valid states, which are the same but for the pages and where they stand.
-use Rattle.edit_core.proofs.Common.{◌≡◌, ℕ, Bool, true, false, cond, nat_eq, List, [], ◌∷◌, ◌++◌, length, map, refl, ap, sym, ◌∙◌, and_assoc, has_flag, program_headers, Mapping, mappings, accepted, not_executable, is_code, kept, mapping_added, Span, AreBytes, IsValid, pages_of, AreArguments, start_memory, start_of, TableAt, Placement, Plan}
-use Rattle.std.specs.Prelude.{bit_and}
-use Rattle.elf32_sparc.specs.FileFault.{has_bytes_outside}
-use Rattle.elf32_sparc.proofs.Loadable.{loads_inside}
-use Rattle.v8_memory.specs.Code.{IsSameOutside}
+use Rattle.edit_core.proofs.Common.{◌≡◌, ℕ, Bool, true, false, cond, nat_eq, List, [], ◌∷◌, ◌++◌, length, map, refl, ap, sym, ◌∙◌, and_assoc, has_flag, program_headers, Mapping, mappings, accepted, not_executable, is_code, kept, mapping_added, Span, AreBytes, IsValid, pages_of, AreArguments, start_memory, start_of, TableAt, Placement, Plan, bit_and, has_bytes_outside, loads_inside, IsSameOutside}
 use Rattle.v8_process.specs.Alike.{AreSameMappings, IsSameMapping, span_of}
 use Rattle.v8_process.proofs.Alike.{starts_alike}
 use Rattle.v8_process.proofs.Arguments.{arguments_fit}

@@ -1,16 +1,11 @@
 -- What the parts of an edit give it.
-use Rattle.edit_core.proofs.Common.{◌≡◌, ℕ, ◌+◌, ◌-◌, ◌*◌, ◌^◌, ◌<◌, ◌≤◌, min, List, [], ◌∷◌, ◌++◌, length, refl, arith, All, slice_index, length-map, IsText, Words, Program, image_of, accepted-program, Part, Graph, AddedSegment, TableAt, Item, Placement, long_bytes, long_is_enough, AreFit, PiecesFit, case_numbers, codes_of, Op, Plan}
-use Rattle.std.proofs.Common.{Err}
+use Rattle.edit_core.proofs.Common.{◌≡◌, ℕ, ◌+◌, ◌-◌, ◌*◌, ◌^◌, ◌<◌, ◌≤◌, min, List, [], ◌∷◌, ◌++◌, length, refl, arith, All, slice_index, length-map, IsText, Words, Program, image_of, accepted-program, Part, Graph, AddedSegment, TableAt, Item, Placement, long_bytes, long_is_enough, AreFit, PiecesFit, case_numbers, codes_of, Op, Plan, Err, ArePieces, Request, CanEdit, HasRoom, IsBuilt, IsViewOf, placement_in, plan_of}
 use Rattle.elf32_write.specs.Laws.{AreBytes}
 use Rattle.layout.specs.declared.items.Placed.{Placed}
 use Rattle.layout.specs.declared.items.LayoutFault.{LayoutFault}
 use Rattle.layout.specs.declared.items.LayoutFault.TheVariants.{Room}
-use Rattle.layout.specs.Laid.{ArePieces}
 use Rattle.layout.specs.Compact.{RoomIs}
-use Rattle.edit_core.specs.declared.requests.Request.{Request}
-use Rattle.edit_core.specs.Taken.{CanEdit}
 use Rattle.edit_core.specs.Written.{added, cells_at, code_at, if_any, page_segment, table_at, CanDo, IsNewCode, TablesMatch, cases_at, cells_base, cells_size, entry_number, entry_of, graph_in, pieces_by, pieces_of, segment_size, table_after, table_base, tables_size, text_of}
-use Rattle.edit_core.specs.Private.{HasRoom, IsBuilt, IsViewOf, placement_in, plan_of}
 use Rattle.edit_core.proofs.Bounds.{operations_few}
 use Rattle.edit_core.proofs.Graphs.{entries_few, graph_cut, graph_is}
 use Rattle.edit_core.proofs.Originals.{room_with_cases, small_tables, image_text, image_room}

@@ -1,12 +1,5 @@
 -- Tables, one behind the other.
-use Rattle.edit_core.proofs.Common.{◌≡◌, ℕ, zero, suc, ◌+◌, ◌-◌, ◌*◌, ◌%◌, ◌^◌, ◌<◌, ◌≤◌, List, [], ◌∷◌, ◌++◌, length, length-append, replicate, take, drop, ap, sym, ◌∙◌, subst, arith, slice_index, w32, from_be_bytes, append_assoc, get_or-map, length-map, length-replicate, get_or_from_slice_get, slice_get_within, Words, Addr, words_bytes, length-words_bytes, Graph, TableAt, IsTableOf, IsHalvesOf, halves_size, Placement, case_numbers}
-use Rattle.std.proofs.lemmas.List.{drop-drop, drop-take, take-take}
-use Rattle.std.proofs.lemmas.Nat.{from_be_bytes-to_be_bytes_4}
-use Rattle.std.proofs.Math.Seq.{drop-append_seam, take-append_seam}
-use Rattle.addr_translate.specs.Lookup.{table_word}
-use Rattle.addr_translate.specs.Table.{size_of}
-use Rattle.image_code.specs.Made.{AreCasesFor, jumps_at}
-use Rattle.edit_core.specs.Written.{AreTablesOf, case_places, cases_at, cases_table, cells_size, second_table, tables_size, whole_pages}
+use Rattle.edit_core.proofs.Common.{◌≡◌, ℕ, zero, suc, ◌+◌, ◌-◌, ◌*◌, ◌%◌, ◌^◌, ◌<◌, ◌≤◌, List, [], ◌∷◌, ◌++◌, length, length-append, replicate, take, drop, ap, sym, ◌∙◌, subst, arith, slice_index, w32, from_be_bytes, append_assoc, get_or-map, length-map, length-replicate, get_or_from_slice_get, slice_get_within, Words, Addr, words_bytes, length-words_bytes, Graph, TableAt, IsTableOf, IsHalvesOf, halves_size, Placement, case_numbers, drop-drop, drop-take, take-take, from_be_bytes-to_be_bytes_4, drop-append_seam, take-append_seam, table_word, size_of, AreCasesFor, jumps_at, AreTablesOf, case_places, cases_at, cases_table, cells_size, second_table, tables_size, whole_pages}
 
 pages_length : (words : List ℕ) → length (whole_pages words) ≡ cells_size (length words)
 pages_length words =

@@ -1,10 +1,8 @@
 -- What a tool asks of a file, as it was seen.
-use Rattle.edit_core.proofs.Common.{◌≡◌, ℕ, List, numbers, Seen, view_of, Op, Plan}
+use Rattle.edit_core.proofs.Common.{◌≡◌, ℕ, List, numbers, Seen, view_of, Op, Plan, AreCounted, AsksOf, CountsEdges}
 use Rattle.tool_kit.specs.declared.edge_ref.EdgeRef.{EdgeRef}
 use Rattle.tool_kit.specs.Kept.{Kept}
 use Rattle.tool_kit.specs.Code.{IsPlanOf}
-use Rattle.edit_core.specs.Faithful.{AreCounted}
-use Rattle.edit_core.specs.Code.{AsksOf, CountsEdges}
 
 module _ {F : Type 0} (says : F → EdgeRef → List Op → Type 0) (tool : Kept F) (bytes : List ℕ) (view : Seen)
     (is : view ≡ view_of bytes (numbers tool.marks)) (plan : Plan) where

@@ -1,8 +1,6 @@
 -- What the view of a file has.
-use Rattle.edit_core.proofs.Common.{◌≡◌, ℕ, ◌≤◌, List, None, refl, sym, ap, ◌∙◌, fault, image_of, entered_of, Graph, Seen, view_of, Plan}
-use Rattle.edit_core.specs.Taken.{CanEdit, bound_in, bound_of}
+use Rattle.edit_core.proofs.Common.{◌≡◌, ℕ, ◌≤◌, List, None, refl, sym, ap, ◌∙◌, fault, image_of, entered_of, Graph, Seen, view_of, Plan, CanEdit, bound_in, bound_of, IsViewOf}
 use Rattle.edit_core.specs.Written.{CanDo, IsWorkable, graph_in}
-use Rattle.edit_core.specs.Private.{IsViewOf}
 
 pub view_image : (file marks : List ℕ) → (view_of file marks).image ≡ image_of file
 unfolding view_of

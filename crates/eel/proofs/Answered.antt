@@ -1,9 +1,6 @@
 -- What there is after a call, by its status.
-use Rattle.eel.proofs.Common.{◌≡◌, ℕ, ◌≤◌, inl, inr, ap, subst, arith, Outcome, Stream, status_of, Outside, with_err, IsRefusal, IsUnchanged}
+use Rattle.eel.proofs.Common.{◌≡◌, ℕ, ◌≤◌, inl, inr, ap, subst, arith, Outcome, Stream, status_of, Outside, with_err, IsRefusal, IsUnchanged, Shows, shown, failed, rose-before, rose-after, IsDone, IsUnrefused, HasFailed, WasWanting, meaning_of, unknown_means}
 use Rattle.eel_said.specs.Command.{Command, Edit, Run, Show, Restore, ReportRun, Demo, PutWords, Unknown}
-use Rattle.eel_said.specs.Outcome.{Shows, shown, failed}
-use Rattle.eel_reports.proofs.Later.{rose-before, rose-after}
-use Rattle.eel.specs.Answers.{IsDone, IsUnrefused, HasFailed, WasWanting, meaning_of, unknown_means}
 use Rattle.eel.proofs.Meanings.{IsByStatus, is_failed, refusal_is_bad}
 use Rattle.eel.proofs.Editing.{edit_by_status}
 use Rattle.eel.proofs.Dumping.{run_by_status}

@@ -1,17 +1,10 @@
 -- Cells in one loaded segment with leave to be read can be read at each moment of a run.
-use Rattle.eel.proofs.Common.{◌≡◌, ℕ, zero, suc, ◌+◌, ◌*◌, ◌^◌, ◌≤◌, ◌==◌, ◌⊎◌, Bool, true, false, nat_lt, cond, List, [], ◌∷◌, ◌++◌, map, Option, Some, None, Result, Ok, if◌then◌else◌, refl, ap, sym, ◌∙◌, subst, arith, list_any, option_map, load_fault, mappings, Notes, Ending, State, run, start_of, words_at, holds_cells, nat_tests}
-use Rattle.std.proofs.Common.{◌&&◌, ◌||◌, not, nat_le, ◌%◌}
+use Rattle.eel.proofs.Common.{◌≡◌, ℕ, zero, suc, ◌+◌, ◌*◌, ◌^◌, ◌≤◌, ◌==◌, ◌⊎◌, Bool, true, false, nat_lt, cond, List, [], ◌∷◌, ◌++◌, map, Option, Some, None, Result, Ok, if◌then◌else◌, refl, ap, sym, ◌∙◌, subst, arith, list_any, option_map, load_fault, mappings, Notes, Ending, State, run, start_of, words_at, holds_cells, nat_tests, ◌&&◌, ◌||◌, not, nat_le, ◌%◌, find, and_from, and_parts, eq-eqb, le-leb, leb-true, ltb-false, or_parts, map-range_with_len_more, descends_from, is_last_page, leaves_room, mapping_of, segment_of, program_name, stack_region, start_memory, cell_at, length_told, AreMapped}
 use Rattle.std.specs.Int.{from_be_bytes, w32}
-use Rattle.std.specs.List.{find}
-use Rattle.std.proofs.lemmas.Bool.{and_from, and_parts, eq-eqb, le-leb, leb-true, ltb-false, or_parts}
-use Rattle.std.proofs.lemmas.List.FromFn.{map-range_with_len_more}
 use Rattle.elf32_sparc.specs.declared.header.ProgramHeader.{ProgramHeader}
 use Rattle.elf32_sparc.specs.declared.program.Segment.{Segment}
 use Rattle.elf32_sparc.specs.Header.{end_of, has_flag, loadable, program_headers}
 unfoldable use Rattle.elf32_sparc.specs.FileFault.{has_disorder, has_memory_outside_a_run}
-use Rattle.elf32_sparc.specs.FileFault.{descends_from, is_last_page, leaves_room}
-use Rattle.elf32_sparc.specs.Mapping.{mapping_of}
-use Rattle.elf32_sparc.specs.Image.{segment_of}
 use Rattle.elf32_sparc.proofs.Loadable.{loadable_file}
 use Rattle.v8_decode.specs.declared.Instr.{Instr}
 use Rattle.v8_decode.specs.Words.{decode_of}
@@ -22,16 +15,12 @@ use Rattle.v8_memory.specs.Segments.{heap_room, heap_start, region_of}
 use Rattle.v8_memory.proofs.Same.{find-written}
 use Rattle.v8_step.specs.Step.{act, on_word, step_of, unless_ended}
 use Rattle.v8_step.specs.Judged.{judged_by}
-use Rattle.v8_process.specs.Start.{program_name, stack_region, start_memory}
 use Rattle.code_runs.specs.Code.{CanLoad}
 use Rattle.code_runs.specs.StoredWords.{memory_word, word_in}
 use Rattle.v8_step.proofs.Kept.{none_near}
 use Rattle.v8_step.proofs.KeptOutside.{kept_act}
 use Rattle.code_runs.proofs.StoredWords.{shape}
-use Rattle.snippet_code.specs.Cells.{cell_at}
 use Rattle.notes.specs.Rules.{AreNotes}
-use Rattle.exact_counts.specs.Stops.{length_told}
-use Rattle.eel.specs.Answers.Dump.{AreMapped}
 use Rattle.eel.specs.Cells.{KeepCells, has_cells}
 
 -- ---- a word that may be read, away from all addresses that the heap can take

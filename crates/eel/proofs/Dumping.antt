@@ -1,10 +1,7 @@
 -- A run, with a dump or without one, by its status.
-use Rattle.eel.proofs.Common.{◌≡◌, ◌≢◌, ℕ, IsQuiet, ◌⊎◌, inl, inr, List, [], Option, Some, None, true, false, ◌≤◌, ap, refl, sym, subst, ◌∙◌, Holding, Rose, Notes, Ending, State, Outcome, Done, Stopped, OutOfMemory, DeviceFault, Stream, status_of, Feed, Outside, Store, outside, store, with_err, IsRun, put-later, Runs, unfed, refused, ran, none-some}
+use Rattle.eel.proofs.Common.{◌≡◌, ◌≢◌, ℕ, IsQuiet, ◌⊎◌, inl, inr, List, [], Option, Some, None, true, false, ◌≤◌, ap, refl, sym, subst, ◌∙◌, Holding, Rose, Notes, Ending, State, Outcome, Done, Stopped, OutOfMemory, DeviceFault, Stream, status_of, Feed, Outside, Store, outside, store, with_err, IsRun, put-later, Runs, unfed, refused, ran, none-some, HasRun, WasBroken, IsUnbegun, no_file, no_input, not_loaded, stopped_of, was_broken, IsPutAfter}
 use Rattle.v8_runner.specs.declared.Stop.{Stop}
 use Rattle.v8_runner.specs.declared.Stop.TheVariants.{Limit, Ended, SinkFault}
-use Rattle.eel_reports.specs.Answers.Run.{HasRun, WasBroken}
-use Rattle.eel_reports.specs.Code.{IsUnbegun, no_file, no_input, not_loaded, stopped_of}
-use Rattle.eel.specs.Private.{was_broken, IsPutAfter}
 use Rattle.eel.specs.Answers.Dump.{unread, HasPutAll, HasStopped, IsDumped, dump_after, run_means}
 use Rattle.eel.proofs.Meanings.{IsByStatus, IsBad, refusal_is_bad, refusal_not_wanting, wanting_is_bad}
 

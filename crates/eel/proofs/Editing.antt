@@ -1,8 +1,6 @@
 -- An edit by a tool, by its status; and its lines, which are read once the file is.
-use Rattle.eel.proofs.Common.{◌≡◌, ℕ, ◌≤◌, ◌⊎◌, inl, inr, List, [], subst, Option, Some, None, Holding, IsMissing, Outcome, Store, edit_limit, store, Puts, unread, was_read, lines_of, read-later, unread-later}
+use Rattle.eel.proofs.Common.{◌≡◌, ℕ, ◌≤◌, ◌⊎◌, inl, inr, List, [], subst, Option, Some, None, Holding, IsMissing, Outcome, Store, edit_limit, store, Puts, unread, was_read, lines_of, read-later, unread-later, AreLines, AreUnread, AreWithin, AreMissing, Edits, IsEditBy, IsNotEdited, Takes, edit_means}
 use Rattle.eel_said.specs.Command.{Tool}
-use Rattle.eel_reports.specs.Code.{AreLines, AreUnread, AreWithin}
-use Rattle.eel.specs.Answers.Tool.{AreMissing, Edits, IsEditBy, IsNotEdited, Takes, edit_means}
 use Rattle.eel.proofs.Meanings.{AreByStatus, IsByStatus, files_by_status, puts_by_status, reads_by_status}
 
 -- ---- lines that are read once the file is

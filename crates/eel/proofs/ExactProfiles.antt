@@ -1,10 +1,7 @@
 -- The counts of a profile are exact.
-use Rattle.eel.proofs.Common.{◌≡◌, ℕ, ◌-◌, List, [], refl, ap, sym, ◌∙◌, subst, arith, Option, None, Ok, get_or-map, length-map, Notes, notes_of, AreBytes, Graph, Dump, Plan, AreCounts, HasGraph, HaveRunsAlike, visits_by, CountsOffTree, counter_in, IsProfiled, IsExact, counts_are_exact, start_of, dump_at, AreCells, plan_with, IsOfRun, IsProfile, view_of}
+use Rattle.eel.proofs.Common.{◌≡◌, ℕ, ◌-◌, List, [], refl, ap, sym, ◌∙◌, subst, arith, Option, None, Ok, get_or-map, length-map, Notes, notes_of, AreBytes, Graph, Dump, Plan, AreCounts, HasGraph, HaveRunsAlike, visits_by, CountsOffTree, counter_in, IsProfiled, IsExact, counts_are_exact, start_of, dump_at, AreCells, plan_with, IsOfRun, IsProfile, view_of, EditsAreProfiles, IsMarkedProfile, AreExact, AreOfWholeRuns, IsProfileOf, profile_plan}
 use Rattle.exact_counts.proofs.Exits.{counts_of_exits_are_exact}
 use Rattle.exact_counts.proofs.Trees.{trees_make_profiles}
-use Rattle.eel.specs.Code.{EditsAreProfiles, IsMarkedProfile}
-use Rattle.eel.specs.Answers.ExactCounts.{AreExact, AreOfWholeRuns}
-use Rattle.eel.specs.Private.{IsProfileOf, profile_plan}
 
 -- counters off a spanning tree are a profile's
 off_tree : (graph : Graph) (marks weights : List ℕ) (cells : List (Option ℕ)) → AreCells graph weights cells

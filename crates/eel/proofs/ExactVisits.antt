@@ -1,25 +1,15 @@
 -- The visits of a profile with every word marked are exact.
-use Rattle.eel.proofs.Common.{nat_tests, ◌≡◌, ◌≢◌, ℕ, zero, suc, ◌+◌, ◌-◌, ◌<◌, Bool, true, false, cond, List, length, refl, ap, sym, ◌∙◌, arith, Option, Some, None, Ok, unwrap_or, list_any, image_of, Notes, node_at, notes_of, State, run, start_of, Graph, view_of, Plan, Dump, AreCounts, IsStop, edit_of, visits_by, image_text, IsProfiled, original_graph, notes_of_graph, edge_count, every_word, IsOfRun}
-use Rattle.std.specs.Prelude.{slice_index}
+use Rattle.eel.proofs.Common.{nat_tests, ◌≡◌, ◌≢◌, ℕ, zero, suc, ◌+◌, ◌-◌, ◌<◌, Bool, true, false, cond, List, length, refl, ap, sym, ◌∙◌, arith, Option, Some, None, Ok, unwrap_or, list_any, image_of, Notes, node_at, notes_of, State, run, start_of, Graph, view_of, Plan, Dump, AreCounts, IsStop, edit_of, visits_by, image_text, IsProfiled, original_graph, notes_of_graph, edge_count, every_word, IsOfRun, slice_index, NoteRange, holds, range_at, weight_below, times, own_trail, given_in, own_edge, AreNotesOf, edge_is, every_view, original_in, HasEveryWord}
 use Rattle.eel_base.specs.CodeText.{Words, address_of}
-use Rattle.notes.specs.Format.{NoteRange, holds, range_at}
-use Rattle.flows.specs.Flows.{weight_below, times}
-use Rattle.two_runs.specs.Visits.{own_trail}
 use Rattle.cfg_blocks.specs.Entries.{entered_of}
-use Rattle.cfg_view.specs.View.{given_in}
-use Rattle.span_tree.specs.Links.{edge_at as own_edge}
 use Rattle.walk_counts.specs.Executions.{executions}
 use Rattle.walk_counts.specs.Counts.{last_node}
-use Rattle.exact_counts.proofs.Noted.{AreNotesOf, edge_is}
 use Rattle.instr_counts.specs.Answers.{AreVisits, begun_in}
 use Rattle.instr_counts.specs.Laws.{AreVisited, HasEach}
 use Rattle.instr_counts.specs.Matches.{AreNoted, Matches}
 use Rattle.instr_counts.specs.Visits.{finished, is_begun, leads_to, one_if, runs_slot}
 use Rattle.instr_counts.proofs.Counted.{visits_are_counted}
 use Rattle.instr_counts.proofs.Single.{words_are_blocks}
-use Rattle.eel_reports.specs.Answers.Every.{every_view}
-use Rattle.eel_reports.specs.Answers.Restore.{original_in}
-use Rattle.eel_reports.specs.Answers.Visits.{HasEveryWord}
 use Rattle.eel_reports.proofs.Marked.{leads_marked}
 use Rattle.eel.specs.Answers.ExactVisits.{AreExactVisits}
 use Rattle.eel.proofs.ExactProfiles.{are_exact, is_profiled, one_notes}

@@ -1,21 +1,13 @@
 -- What the dump of a trace's run tells are the last edges of its original's walk.
-use Rattle.eel.proofs.Common.{◌≡◌, ◌≢◌, ℕ, ◌-◌, ◌<◌, List, [], length, refl, ap, sym, ◌∙◌, subst, arith, ◌==◌, if◌then◌else◌, Option, Some, None, Ok, All, get_or-map-range_with_len, length-map-range_with_len, image_of, NoteEdge, Notes, node_at, notes_of, Ending, State, AreBytes, run, IsUntouched, pages_of, AreArguments, start_of, walk, Plan, Dump, Edit, HasGraph, HaveRunsAlike, IsStop, edit_of, visits_by, dump_at, RingFault, AreLast, IsRefused, view_of}
-use Rattle.std.proofs.lemmas.List.Elements.{All-weaker}
-use Rattle.image_code.specs.Store.{snippet_on}
-use Rattle.edit_core.specs.RunsAlike.{TellsStep}
+use Rattle.eel.proofs.Common.{◌≡◌, ◌≢◌, ℕ, ◌-◌, ◌<◌, List, [], length, refl, ap, sym, ◌∙◌, subst, arith, ◌==◌, if◌then◌else◌, Option, Some, None, Ok, All, get_or-map-range_with_len, length-map-range_with_len, image_of, NoteEdge, Notes, node_at, notes_of, Ending, State, AreBytes, run, IsUntouched, pages_of, AreArguments, start_of, walk, Plan, Dump, Edit, HasGraph, HaveRunsAlike, IsStop, edit_of, visits_by, dump_at, RingFault, AreLast, IsRefused, view_of, All-weaker, snippet_on, TellsStep, length_noted, IsRingOf, edges_in, EditsAreTraces, IsTraceOf}
 use Rattle.edit_core.proofs.Eaches.{all_each}
-use Rattle.exact_counts.proofs.Noted.{length_noted}
 use Rattle.exact_counts.proofs.Gone.{walk_within}
 use Rattle.edge_ring.specs.declared.fault.RingFault.TheVariants as faults
-use Rattle.edge_ring.specs.Code.{IsRingOf}
 use Rattle.edge_ring.specs.Laws.{TellsTheLast}
 use Rattle.edge_ring.specs.Ring.{last_of, ring_on}
 use Rattle.edge_ring.specs.Traces.{IsTrace}
 use Rattle.edge_ring.proofs.Stores.{stores_are_rings}
 use Rattle.edge_ring.proofs.Told.{rings_tell}
-use Rattle.eel.specs.Answers.Edit.{edges_in}
-use Rattle.eel.specs.Code.{EditsAreTraces}
-use Rattle.eel.specs.Answers.LastEdges.{IsTraceOf}
 use Rattle.eel.specs.Answers.Trace.{trace_plan}
 use Rattle.eel.proofs.ExactProfiles.{one_notes}
 

@@ -1,7 +1,5 @@
 -- What is true of each command, by the status: the statements, and the steps of which commands are made.
-use Rattle.eel.proofs.Common.{◌≡◌, ℕ, ◌≤◌, ◌⊎◌, inr, ap, arith, lit≤, Rose, Outcome, Done, Stopped, DeviceFault, Stream, status_of, Store, Outside, with_err, HaveFailed, IsRefusal, IsUnchanged, inl, List, refl, OutOfMemory, IsMissing, IsQuiet, Prints, Puts, Reads, printed, put, unmade, unread, untold, was_read}
-use Rattle.eel_said.specs.Shared.{IsUnread, Meaning, files_mean, prints_mean}
-use Rattle.eel_reports.specs.Answers.Steps.{Makes, make_means}
+use Rattle.eel.proofs.Common.{◌≡◌, ℕ, ◌≤◌, ◌⊎◌, inr, ap, arith, lit≤, Rose, Outcome, Done, Stopped, DeviceFault, Stream, status_of, Store, Outside, with_err, HaveFailed, IsRefusal, IsUnchanged, inl, List, refl, OutOfMemory, IsMissing, IsQuiet, Prints, Puts, Reads, printed, put, unmade, unread, untold, was_read, IsUnread, Meaning, files_mean, prints_mean, Makes, make_means}
 
 pub record IsByStatus (m : Meaning) : Type 0 where
   pub refused : (old new : Outside) (outcome : Outcome) → m.follows old new outcome → IsRefusal (status_of outcome)

@@ -1,10 +1,8 @@
 -- Commands that print lines, or make one file of another, by the status.
-use Rattle.eel.proofs.Common.{◌≡◌, ℕ, ◌⊎◌, inl, inr, refl, ap, List, IsMissing, Outcome, Done, DeviceFault, OutOfMemory, status_of, Outside, HaveFailed, edit_limit, written_limit, IsUnnoted, Prints, printed, untold}
+use Rattle.eel.proofs.Common.{◌≡◌, ℕ, ◌⊎◌, inl, inr, refl, ap, List, IsMissing, Outcome, Done, DeviceFault, OutOfMemory, status_of, Outside, HaveFailed, edit_limit, written_limit, IsUnnoted, Prints, printed, untold, IsTold, Tells, demo_means, HasOriginal, restore_means}
 use Rattle.eel_said.specs.declared.command.Shown.{Shown}
-use Rattle.eel_reports.specs.Answers.Demo.{IsTold, Tells, demo_means}
 use Rattle.eel_reports.specs.Answers.Files.{IsNotSound}
 use Rattle.eel_reports.specs.Answers.Print.{AreLinesOf, PrintsFile, show_means}
-use Rattle.eel_reports.specs.Answers.Restore.{HasOriginal, restore_means}
 use Rattle.eel_reports.specs.Answers.Words.{IsAssembled, IsNotListing, listing_limit, words_means}
 use Rattle.eel.proofs.Meanings.{IsByStatus, prints_by_status, lines_printed, make_by_status, reads_printed}
 

@@ -1,14 +1,11 @@
 -- What is told of a run, by the status: where it is told, it is exact, and it is refused seldom.
-use Rattle.eel.proofs.Common.{◌≡◌, ℕ, ◌⊎◌, inl, inr, List, Ok, IsMissing, Notes, notes_of, Dump, Report, Outside, Store, HaveFailed, written_limit, IsQuiet, Outcome, Prints, Reads, subst, AreLast, CountFault, MayRefuse, RingFault, IsRefused, NoNotes, BadNotes, NotEveryWord, NoProfile, NoTrace, NoCounts, BadCell, OutOfMemory, DeviceFault, IsOfRun, IsUncounted, IsUnnoted, IsUnvisited, MayMiss, IsUntold, every_word}
+use Rattle.eel.proofs.Common.{◌≡◌, ℕ, ◌⊎◌, inl, inr, List, Ok, IsMissing, Notes, notes_of, Dump, Report, Outside, Store, HaveFailed, written_limit, IsQuiet, Outcome, Prints, Reads, subst, AreLast, CountFault, MayRefuse, RingFault, IsRefused, NoNotes, BadNotes, NotEveryWord, NoProfile, NoTrace, NoCounts, BadCell, OutOfMemory, DeviceFault, IsOfRun, IsUncounted, IsUnnoted, IsUnvisited, MayMiss, IsUntold, every_word, BadDump, AreRead, IsUndumped, dump_limit, AreTheLast, IsOfTraced}
 use Rattle.count_rebuild.specs.declared.fault.CountFault.TheVariants as count_faults
 use Rattle.count_rebuild.specs.Code.{IsRefused as IsMiscounted}
 use Rattle.dump_file.specs.Reading.{read_dump}
 use Rattle.edge_ring.specs.declared.fault.RingFault.TheVariants as ring_faults
 use Rattle.eel_said.specs.declared.command.Report.TheVariants as reports
 use Rattle.eel_said.specs.declared.outcome.CountCause.TheVariants as causes
-use Rattle.eel_said.specs.Outcome.{BadDump}
-use Rattle.eel_reports.specs.Answers.Noted.{AreRead, IsUndumped, dump_limit}
-use Rattle.eel.specs.Answers.LastEdges.{AreTheLast, IsOfTraced}
 use Rattle.eel.specs.Answers.Report.{HasNone, IsExact, IsRefused as IsNotTold, IsReported, IsSeldom, IsUnreported, Reports, Tell, report_means}
 use Rattle.eel.proofs.ExactProfiles.{are_exact, are_of_whole_runs, exact_in, one_notes}
 use Rattle.eel.proofs.ExactVisits.{exact_visits, has_every_word}

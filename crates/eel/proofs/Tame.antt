@@ -1,28 +1,15 @@
 -- Of a tame file a profile is made, and its run ends, and tells how often edges are completed.
-use Rattle.eel.proofs.Common.{◌≡◌, ℕ, suc, ◌+◌, ◌-◌, ◌*◌, ◌^◌, ◌<◌, ◌≤◌, inl, inr, List, [], ◌∷◌, ◌++◌, length, map, Some, None, Ok, refl, ap, sym, ◌∙◌, subst, arith, All, sum, image_of, Notes, notes_of, Ending, State, run, IsUntouched, pages_of, AreArguments, walk, has_cell, Dump, Plan, CountFault, AreCounts, EditFault, edit_of, visits_by, Edit, IsProfiled, IsExact, MayRefuse, original_graph, dump_at, counts_are_exact, notes_of_graph, edge_count, nat_tests, none-some}
-use Rattle.std.proofs.Common.{append-nil}
-use Rattle.std.proofs.lemmas.Bool.{cases_lt}
-use Rattle.std.proofs.lemmas.List.Elements.{All-head, All-nil, All-tail}
-use Rattle.elf32_sparc.specs.Mapping.{Mapping}
-use Rattle.notes.specs.Format.{NoteSegment}
-use Rattle.two_runs.specs.Visits.{page_of}
+use Rattle.eel.proofs.Common.{◌≡◌, ℕ, suc, ◌+◌, ◌-◌, ◌*◌, ◌^◌, ◌<◌, ◌≤◌, inl, inr, List, [], ◌∷◌, ◌++◌, length, map, Some, None, Ok, refl, ap, sym, ◌∙◌, subst, arith, All, sum, image_of, Notes, notes_of, Ending, State, run, IsUntouched, pages_of, AreArguments, walk, has_cell, Dump, Plan, CountFault, AreCounts, EditFault, edit_of, visits_by, Edit, IsProfiled, IsExact, MayRefuse, original_graph, dump_at, counts_are_exact, notes_of_graph, edge_count, nat_tests, none-some, append-nil, cases_lt, All-head, All-nil, All-tail, Mapping, NoteSegment, page_of, HasPages, IsInRoom, note_of, AreRunsAlike, EndsWithStep, IsOver, begins_live, profiles_need_little, EndsAlone, alone, walk_alone, IsLastDump, IsProfileOf, ProfileRefuses, guessed, profile_plan}
 use Rattle.span_tree.proofs.LoopBounds.{counted_few}
 use Rattle.count_rebuild.specs.declared.fault.CountFault.TheVariants as count_faults
 use Rattle.count_rebuild.specs.Code.{IsRefused}
 use Rattle.edit_core.specs.declared.requests.EditFault.TheVariants as faults
-use Rattle.edit_core.specs.Faithful.{HasPages, IsInRoom, note_of}
 use Rattle.edit_core.specs.Cost.{TakesFewSteps}
-use Rattle.edit_core.specs.RunsAlike.{AreRunsAlike}
-use Rattle.exact_counts.specs.Laws.{EndsWithStep, IsOver}
 use Rattle.exact_counts.specs.Sizes.{HasEndedBy}
 use Rattle.exact_counts.proofs.Ends.{ended_runs_tell}
-use Rattle.exact_counts.proofs.Exact.{begins_live}
-use Rattle.exact_counts.proofs.Little.{profiles_need_little}
 use Rattle.exact_counts.proofs.Soon.{profiles_end_soon}
 use Rattle.exact_counts.proofs.Totals.{executions_add_up}
-use Rattle.eel_reports.specs.Answers.Demo.{EndsAlone, alone, walk_alone}
 use Rattle.eel_reports.specs.Tame.{AreAbove, EndsWithin, IsTame}
-use Rattle.eel.specs.Private.{IsLastDump, IsProfileOf, ProfileRefuses, guessed, profile_plan}
 use Rattle.eel.proofs.ExactProfiles.{edit_is_profiled, one_notes}
 
 -- of a run that has ended only want of memory refuses the counts

@@ -1,35 +1,22 @@
 -- What is put on edges is what its tool asks for, and so the edit by that is one as the words ask.
-use Rattle.eel.proofs.Common.{◌≡◌, fault, image_text, plan_with, ℕ, zero, suc, ◌+◌, ◌*◌, ◌^◌, ◌<◌, ◌≤◌, List, [], ◌∷◌, length, map, Option, Some, None, Result, Ok, Err, refl, ap, sym, subst, ◌∙◌, arith, get_or, get_or-map, length-map, get_or-map-range_with_len, length-map-range_with_len, Op, has_cell, Edge, Plan, IsSound, Seen, view_of, EditFault, counter_in, AreCells}
-use Rattle.std.specs.Prelude.{IfErr, IfOk}
-use Rattle.std.specs.List.{range_with_len}
+use Rattle.eel.proofs.Common.{◌≡◌, fault, image_text, plan_with, ℕ, zero, suc, ◌+◌, ◌*◌, ◌^◌, ◌<◌, ◌≤◌, List, [], ◌∷◌, length, map, Option, Some, None, Result, Ok, Err, refl, ap, sym, subst, ◌∙◌, arith, get_or, get_or-map, length-map, get_or-map-range_with_len, length-map-range_with_len, Op, has_cell, Edge, Plan, IsSound, Seen, view_of, EditFault, counter_in, AreCells, IfErr, IfOk, range_with_len, ext_get_or, slice_get-get_or, EdgeSet, count_below, edges_few, no_edge, AreCounters, AreCounted, IsEditOf, plan_of, AsksCounters, AsksGuessed, Asks, IsFit, IsProfileOf, MayAsk, ProfileRefuses, Says, cells_of, guessed, kind_of, ops_on, plan_for}
 use Rattle.std.proofs.Math.Nat.{pow-le-pow_right}
-use Rattle.std.proofs.lemmas.List.{ext_get_or}
-use Rattle.std.proofs.lemmas.Option.{slice_get-get_or}
 use Rattle.eel_base.specs.declared.numbers.WordNo.{WordNo}
-use Rattle.flows.specs.Flows.{EdgeSet, count_below}
 use Rattle.snippets.specs.declared.snippet.Op.TheVariants.{Count}
-use Rattle.exact_counts.proofs.Little.{edges_few}
 use Rattle.span_tree.specs.Cells.{AreNumbered, cell_at, cell_count}
-use Rattle.span_tree.specs.Links.{no_edge}
 use Rattle.span_tree.specs.Weights.{weights_of}
 use Rattle.weights_in.specs.Weights.{AreWeights}
 use Rattle.tool_kit.specs.declared.edge_ref.EdgeRef.{EdgeRef}
 use Rattle.tool_kit.specs.declared.edge_ref.ToolKind.TheVariants as kinds
 use Rattle.tool_kit.specs.Kept.{Kept}
 use Rattle.tool_kit.specs.Code.{AreAnswers, numbered}
-use Rattle.tool_kit.specs.Plans.{AreCounters}
 use Rattle.cfg_blocks.specs.Marks.{numbers}
 use Rattle.edit_core.specs.declared.requests.EditFault.TheVariants as faults
-use Rattle.edit_core.specs.Faithful.{AreCounted}
 use Rattle.edit_core.specs.Taken.{CanEdit, IsCramped}
 use Rattle.edit_core.specs.Code.{AsksOf, CountsEdges, EditRefuses, IsEdited}
 use Rattle.edit_core.specs.Written.{IsTheEdit}
 use Rattle.edit_core.proofs.Outwardly.{does_the_same}
 use Rattle.eel_said.specs.Command as words
-use Rattle.eel.specs.Answers.Edit.{IsEditOf, plan_of}
-use Rattle.eel.specs.Answers.Profile.{AsksCounters, AsksGuessed}
-use Rattle.eel.specs.Answers.Tool.{Asks}
-use Rattle.eel.specs.Private.{IsFit, IsProfileOf, MayAsk, ProfileRefuses, Says, cells_of, guessed, kind_of, ops_on, plan_for}
 use Rattle.eel.specs.declared.edge_work.EdgeWork.{EdgeWork}
 use Rattle.eel.specs.declared.edge_work.EdgeWork.TheVariants as works
 

@@ -1,15 +1,5 @@
 -- What is true of a file without a fault.
-use Rattle.std.proofs.Common.{◌≡◌, ℕ, zero, suc, ◌+◌, ◌-◌, ◌*◌, ◌/◌, ◌%◌, ◌^◌, ◌<◌, ◌≤◌, max, Bool, true, false, not, ◌&&◌, cond, nat_lt, nat_le, nat_eq, List, [], ◌∷◌, ◌++◌, length, map, drop, Option, Some, None, refl, sym, ap, ◌∙◌, arith}
-use Rattle.std.specs.List.{fold, list_any}
-use Rattle.std.specs.Option.{option_map_or}
-use Rattle.std.proofs.lemmas.Bool.{or_parts, and_parts, ltb-false, ltb-true, leb-true, eqb-true, not-false, false≢true}
-use Rattle.eel_base.specs.Code.{IsText}
-use Rattle.elf32_sparc.specs.declared.header.ProgramHeader.{ProgramHeader}
-use Rattle.elf32_sparc.specs.declared.fault.FileFault.{FileFault}
-use Rattle.elf32_sparc.specs.Header.{e_entry, program_headers, is_loadable, loadable, end_of, is_text, text_header, text_count}
-use Rattle.elf32_sparc.specs.FileFault.{first_that_holds, header_rows, entry_rows, fault, leaves_room, is_misshapen, is_word_address, word_count, is_short, has_other_magic, has_other_class, has_other_order, has_other_version, has_other_type, has_other_machine, has_other_sizes, has_bad_table, has_dynamic, has_bytes_outside, has_memory_outside, has_disorder, has_misaligned, has_misshapen_text, has_large_text, has_other_entry, memory_size}
-use Rattle.elf32_sparc.specs.Mapping.{memory_bytes}
-use Rattle.elf32_sparc.specs.Image.{segment_of, segment_end, highest_end, words_of, text_from, word_number}
+use Rattle.elf32_sparc.proofs.Common.{◌≡◌, ℕ, zero, suc, ◌+◌, ◌-◌, ◌*◌, ◌/◌, ◌%◌, ◌^◌, ◌<◌, ◌≤◌, max, Bool, true, false, not, ◌&&◌, cond, nat_lt, nat_le, nat_eq, List, [], ◌∷◌, ◌++◌, length, map, drop, Option, Some, None, refl, sym, ap, ◌∙◌, arith, fold, list_any, option_map_or, or_parts, and_parts, ltb-false, ltb-true, leb-true, eqb-true, not-false, false≢true, IsText, ProgramHeader, FileFault, e_entry, program_headers, is_loadable, loadable, end_of, is_text, text_header, text_count, first_that_holds, header_rows, entry_rows, fault, leaves_room, is_misshapen, is_word_address, word_count, is_short, has_other_magic, has_other_class, has_other_order, has_other_version, has_other_type, has_other_machine, has_other_sizes, has_bad_table, has_dynamic, has_bytes_outside, has_memory_outside, has_disorder, has_misaligned, has_misshapen_text, has_large_text, has_other_entry, memory_size, memory_bytes, segment_of, segment_end, highest_end, words_of, text_from, word_number}
 pub use Rattle.elf32_sparc.proofs.ThreeWords.{no_fault}
 
 -- no row holds

@@ -1,10 +1,5 @@
 -- The first fault of a file, from that of its header and that of a survey.
-use Rattle.std.proofs.Common.{◌≡◌, ℕ, Bool, true, false, cond, not, List, [], ◌∷◌, ◌++◌, Option, Some, None, refl, ap, ◌∙◌, length}
-use Rattle.std.specs.Option.{option_or}
-use Rattle.elf32_sparc.specs.declared.fault.FileFault.{FileFault}
-use Rattle.elf32_sparc.specs.Header.{e_entry, program_headers}
-use Rattle.elf32_sparc.specs.FileFault.{first_that_holds, header_rows, entry_rows, load_rows, fault, load_fault, has_dynamic, has_bytes_outside, has_memory_outside, has_memory_outside_a_run, has_disorder, has_misaligned, has_misshapen_text, has_large_text, has_other_entry, memory_size, is_dynamic, leaves_file, leaves_room, is_aligned}
-use Rattle.elf32_sparc.specs.Survey.{survey_rows, run_survey_rows, survey_of, no_survey, noted, leaves_run}
+use Rattle.elf32_sparc.proofs.Common.{◌≡◌, ℕ, Bool, true, false, cond, not, List, [], ◌∷◌, ◌++◌, Option, Some, None, refl, ap, ◌∙◌, length, option_or, FileFault, e_entry, program_headers, first_that_holds, header_rows, entry_rows, load_rows, fault, load_fault, has_dynamic, has_bytes_outside, has_memory_outside, has_memory_outside_a_run, has_disorder, has_misaligned, has_misshapen_text, has_large_text, has_other_entry, memory_size, is_dynamic, leaves_file, leaves_room, is_aligned, survey_rows, run_survey_rows, survey_of, no_survey, noted, leaves_run}
 use Rattle.elf32_sparc.proofs.SurveyFacts.{fold-any, fold-kept, fold-descends, fold-texts, fold-text, fold-memory}
 
 -- the first of some rows, or else of the rows after them

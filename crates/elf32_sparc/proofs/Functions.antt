@@ -1,19 +1,9 @@
 -- Sections by their numbers, names, and the functions of a symbol table, one after the other.
-use Rattle.std.proofs.Common.{◌≡◌, ℕ, zero, suc, ◌+◌, ◌-◌, ◌*◌, ◌/◌, ◌<◌, ◌≤◌, min, Bool, true, not, cond, List, [], ◌∷◌, ◌++◌, length, take, Option, Some, None, IfSome, ap, ◌∙◌, inl, inr, arith, add-one}
-use Rattle.std.specs.Prelude.{◌==◌, take_while, slice_get, option_map, filter_map}
-use Rattle.std.specs.List.{range_with_len, prefix_len, cons_option, All}
-use Rattle.std.specs.Option.{option_map_or}
-use Rattle.std.proofs.lemmas.Bool.{and_parts, ltb-true, cases_lt, cond_both}
-use Rattle.std.proofs.lemmas.List.{append-nil, length-take, take-take, take_all}
-use Rattle.std.proofs.lemmas.List.Elements.{All-nil, All-cons, filter_map-append}
+use Rattle.elf32_sparc.proofs.Common.{◌≡◌, ℕ, zero, suc, ◌+◌, ◌-◌, ◌*◌, ◌/◌, ◌<◌, ◌≤◌, min, Bool, true, not, cond, List, [], ◌∷◌, ◌++◌, length, take, Option, Some, None, IfSome, ap, ◌∙◌, inl, inr, arith, add-one, ◌==◌, take_while, slice_get, option_map, filter_map, range_with_len, prefix_len, cons_option, All, option_map_or, and_parts, ltb-true, cases_lt, cond_both, append-nil, length-take, take-take, take_all, All-nil, All-cons, filter_map-append, Words, numbered, word_of, Func, word_at, e_shoff, section_count, sections, section_header, section_bytes, longest_name, name_in, named, is_function, func_at, funcs_in, funcs_with, funcs_of, symbol_table, string_table}
 use Rattle.std.proofs.lemmas.List.FromFn.{length-map-range_with_len, get_or-map-range_with_len}
 use Rattle.std.proofs.lemmas.Option.{slice_get-get_or, slice_get_past}
-use Rattle.eel_base.specs.CodeText.{Words, numbered, word_at as word_of}
 use Rattle.eel_base.specs.declared.numbers.WordNo.{WordNo}
-use Rattle.elf32_sparc.specs.declared.sections.Func.{Func}
 use Rattle.elf32_sparc.specs.declared.sections.SectionHeader.{SectionHeader}
-use Rattle.elf32_sparc.specs.Header.{word_at}
-use Rattle.elf32_sparc.specs.Symbols.{e_shoff, section_count, sections, section_header, section_bytes, longest_name, name_in, named, is_function, func_at, funcs_in, funcs_with, funcs_of, symbol_table, string_table}
 
 -- a section by its number
 pub sections-at : (file : List ℕ) (i : ℕ) → i < section_count file → slice_get (sections file) i ≡ Some (section_header file (e_shoff file + 40 * i))

@@ -1,15 +1,5 @@
 -- What was read of a file without a fault is its image.
-use Rattle.std.proofs.Common.{◌≡◌, ℕ, ◌-◌, ◌/◌, ◌≤◌, List, length, map, Option, Some, None, refl, sym, ap, ◌∙◌, subst, arith}
-use Rattle.std.specs.Option.{option_map_or}
-use Rattle.eel_base.specs.CodeText.{Words}
-use Rattle.elf32_sparc.specs.declared.header.ProgramHeader.{ProgramHeader}
-use Rattle.elf32_sparc.specs.declared.program.Segment.{Segment}
-use Rattle.elf32_sparc.specs.Header.{e_entry, program_headers, loadable, text_header}
-use Rattle.elf32_sparc.specs.FileFault.{fault}
-use Rattle.elf32_sparc.specs.declared.sections.Func.{Func}
-use Rattle.elf32_sparc.specs.Symbols.{funcs_of}
-use Rattle.elf32_sparc.specs.Survey.{no_survey, survey_of}
-use Rattle.elf32_sparc.specs.Image.{segment_of, highest_end, rounded_up, room_from, text_from, text_of, no_text, word_number, Program, image_of}
+use Rattle.elf32_sparc.proofs.Common.{◌≡◌, ℕ, ◌-◌, ◌/◌, ◌≤◌, List, length, map, Option, Some, None, refl, sym, ap, ◌∙◌, subst, arith, option_map_or, Words, ProgramHeader, Segment, e_entry, program_headers, loadable, text_header, fault, Func, funcs_of, no_survey, survey_of, segment_of, highest_end, rounded_up, room_from, text_from, text_of, no_text, word_number, Program, image_of}
 use Rattle.elf32_sparc.specs.Code.{IsProgram}
 use Rattle.elf32_sparc.proofs.SurveyFacts.{fold-text}
 use Rattle.elf32_sparc.proofs.Functions.{funcs-inside}

@@ -1,3 +1,4 @@
+pub mod Common
 pub mod Surveys
 pub mod SurveyFacts
 pub mod FirstFaults

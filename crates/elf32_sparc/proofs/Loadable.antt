@@ -1,7 +1,5 @@
 -- What is true of a file that can be run.
-use Rattle.std.proofs.Common.{◌≡◌, ℕ, ◌*◌, ◌^◌, false, nat_lt, List, ◌++◌, length, None}
-use Rattle.elf32_sparc.specs.Header.{program_headers}
-use Rattle.elf32_sparc.specs.FileFault.{header_rows, load_rows, load_fault, has_bytes_outside, has_memory_outside_a_run, has_disorder, has_misaligned, memory_size}
+use Rattle.elf32_sparc.proofs.Common.{◌≡◌, ℕ, ◌*◌, ◌^◌, false, nat_lt, List, ◌++◌, length, None, program_headers, header_rows, load_rows, load_fault, has_bytes_outside, has_memory_outside_a_run, has_disorder, has_misaligned, memory_size}
 use Rattle.elf32_sparc.proofs.Accepted.{none_holds, HeaderAccepted, header_accepted}
 
 pub record Loadable (file : List ℕ) : Type 0 where

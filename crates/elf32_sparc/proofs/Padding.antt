@@ -1,11 +1,5 @@
 -- Zeros after the last byte change no word.
-use Rattle.std.proofs.Common.{◌≡◌, ℕ, zero, suc, ◌+◌, ◌/◌, List, [], ◌∷◌, ◌++◌, drop, get_or, replicate, refl, sym, ap, ◌∙◌}
-use Rattle.std.proofs.lemmas.List.{get_or-drop}
-use Rattle.byteorder.specs.Endian.{big_number}
-use Rattle.eel_base.specs.CodeText.{Words}
-use Rattle.elf32_sparc.specs.declared.header.ProgramHeader.{ProgramHeader}
-use Rattle.elf32_sparc.specs.Mapping.{file_bytes}
-use Rattle.elf32_sparc.specs.Image.{words_of, text_from}
+use Rattle.elf32_sparc.proofs.Common.{◌≡◌, ℕ, zero, suc, ◌+◌, ◌/◌, List, [], ◌∷◌, ◌++◌, drop, get_or, replicate, refl, sym, ap, ◌∙◌, get_or-drop, big_number, Words, ProgramHeader, file_bytes, words_of, text_from}
 
 zeros : (count i zero_byte : ℕ) → get_or (replicate count zero_byte) i zero_byte ≡ zero_byte
 zeros zero i z = refl

@@ -1,14 +1,6 @@
 -- The fields of a file of bytes fit their words, and its mappings have room for their bytes.
-use Rattle.std.proofs.Common.{◌≡◌, ℕ, zero, suc, ◌+◌, ◌^◌, ◌<◌, ◌≤◌, true, false, nat_lt, nat_le, unwrap_or, List, [], ◌∷◌, length, map, drop, slice_index, All, arith}
-use Rattle.std.specs.List.{list_any}
-use Rattle.std.proofs.lemmas.Bool.{and_parts, cond_both, or_parts, ltb-false}
-use Rattle.std.proofs.lemmas.List.{length-take}
-use Rattle.std.proofs.lemmas.List.Elements.{All-nil, All-cons, All-head, All-tail, All-drop}
+use Rattle.elf32_sparc.proofs.Common.{◌≡◌, ℕ, zero, suc, ◌+◌, ◌^◌, ◌<◌, ◌≤◌, true, false, nat_lt, nat_le, unwrap_or, List, [], ◌∷◌, length, map, drop, slice_index, All, arith, list_any, and_parts, cond_both, or_parts, ltb-false, length-take, All-nil, All-cons, All-head, All-tail, All-drop, ProgramHeader, word_at, program_headers, is_load, is_loadable, loadable, leaves_file, has_bytes_outside, file_bytes, mapping_of, mappings}
 use Rattle.byteorder.specs.Numbers.{big_from-lt}
-use Rattle.elf32_sparc.specs.declared.header.ProgramHeader.{ProgramHeader}
-use Rattle.elf32_sparc.specs.Header.{word_at, program_headers, is_load, is_loadable, loadable}
-use Rattle.elf32_sparc.specs.FileFault.{leaves_file, has_bytes_outside}
-use Rattle.elf32_sparc.specs.Mapping.{file_bytes, mapping_of, mappings}
 
 byte_below : (file : List ℕ) (k : ℕ) → All (λ b. b < 256) file → slice_index file k < 256
 byte_below [] k h = omega arith

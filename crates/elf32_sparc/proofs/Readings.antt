@@ -1,11 +1,5 @@
 -- Segments and words, read one after the other, are all of them.
-use Rattle.std.proofs.Common.{◌≡◌, ℕ, suc, ◌+◌, ◌-◌, ◌*◌, ◌<◌, ◌≤◌, true, false, List, [], ◌∷◌, ◌++◌, map, drop, append_assoc, arith}
-use Rattle.std.proofs.lemmas.List.{append-nil, drop-drop}
-use Rattle.byteorder.specs.Endian.{big_number}
-use Rattle.elf32_sparc.specs.declared.header.ProgramHeader.{ProgramHeader}
-use Rattle.elf32_sparc.specs.declared.program.Segment.{Segment}
-use Rattle.elf32_sparc.specs.Header.{program_header, headers_from, is_loadable, loadable}
-use Rattle.elf32_sparc.specs.Image.{segment_of, words_of}
+use Rattle.elf32_sparc.proofs.Common.{◌≡◌, ℕ, suc, ◌+◌, ◌-◌, ◌*◌, ◌<◌, ◌≤◌, true, false, List, [], ◌∷◌, ◌++◌, map, drop, append_assoc, arith, append-nil, drop-drop, big_number, ProgramHeader, Segment, program_header, headers_from, is_loadable, loadable, segment_of, words_of}
 use Rattle.elf32_sparc.proofs.Surveys.{headers_from-more}
 
 -- one header more, that is a segment or not

@@ -1,13 +1,6 @@
 -- What a survey of headers shows is what is true of all of them.
-use Rattle.std.proofs.Common.{◌≡◌, ℕ, ◌+◌, Bool, true, false, ◌&&◌, ◌||◌, cond, ltb, List, [], ◌∷◌, Option, Some, None, refl, sym, ap, ◌∙◌, arith}
+use Rattle.elf32_sparc.proofs.Common.{◌≡◌, ℕ, ◌+◌, Bool, true, false, ◌&&◌, ◌||◌, cond, ltb, List, [], ◌∷◌, Option, Some, None, refl, sym, ap, ◌∙◌, arith, fold, find, list_any, option_or, ProgramHeader, Survey, is_loadable, end_of, is_text, loadable, descends_from, noted}
 use Rattle.std.proofs.Math.Bool.{or_assoc}
-use Rattle.std.specs.List.{fold, find, list_any}
-use Rattle.std.specs.Option.{option_or}
-use Rattle.elf32_sparc.specs.declared.header.ProgramHeader.{ProgramHeader}
-use Rattle.elf32_sparc.specs.declared.survey.Survey.{Survey}
-use Rattle.elf32_sparc.specs.Header.{is_loadable, end_of, is_text, loadable}
-use Rattle.elf32_sparc.specs.FileFault.{descends_from}
-use Rattle.elf32_sparc.specs.Survey.{noted}
 
 or-false : (a : Bool) → a ≡ (a || false)
 or-false true = refl

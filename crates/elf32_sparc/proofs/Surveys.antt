@@ -1,11 +1,5 @@
 -- A survey of headers, one after the other, and what it says of all of them.
-use Rattle.std.proofs.Common.{◌≡◌, ℕ, suc, ◌+◌, ◌-◌, ◌*◌, ◌<◌, ◌≤◌, List, ◌∷◌, length, sym, ap, ◌∙◌, arith, add-zero}
-use Rattle.std.specs.List.{fold}
-use Rattle.std.proofs.lemmas.Bool.{cond_both}
-use Rattle.elf32_sparc.specs.declared.header.ProgramHeader.{ProgramHeader}
-use Rattle.elf32_sparc.specs.declared.survey.Survey.{Survey}
-use Rattle.elf32_sparc.specs.Header.{program_header, headers_from, program_headers, e_phoff, e_phnum, is_text, is_loadable}
-use Rattle.elf32_sparc.specs.Survey.{no_survey, noted, survey_of}
+use Rattle.elf32_sparc.proofs.Common.{◌≡◌, ℕ, suc, ◌+◌, ◌-◌, ◌*◌, ◌<◌, ◌≤◌, List, ◌∷◌, length, sym, ap, ◌∙◌, arith, add-zero, fold, cond_both, ProgramHeader, Survey, program_header, headers_from, program_headers, e_phoff, e_phnum, is_text, is_loadable, no_survey, noted, survey_of}
 
 pub texts-noted : (size : ℕ) (s : Survey) (h : ProgramHeader) → (noted size s h).texts ≤ s.texts + 1
 unfolding noted

@@ -1,10 +1,5 @@
 -- The table of program headers of a file without a fault.
-use Rattle.std.proofs.Common.{◌≡◌, ℕ, zero, suc, ◌+◌, ◌-◌, ◌*◌, ◌^◌, ◌<◌, ◌≤◌, true, false, not, nat_eq, List, [], ◌∷◌, ◌++◌, length, sym, ap, ◌∙◌, append_assoc, append-nil, arith, All, inl, inr}
-use Rattle.std.specs.List.{list_any}
-use Rattle.std.proofs.lemmas.Bool.{or_cases, or_parts, and_parts, ltb-false, leb-true, eqb-true, not-false}
-use Rattle.elf32_sparc.specs.declared.header.ProgramHeader.{ProgramHeader}
-use Rattle.elf32_sparc.specs.Header.{e_phnum, program_header, headers_from, program_headers, loadable}
-use Rattle.elf32_sparc.specs.FileFault.{is_short, has_bad_table, has_misaligned, is_aligned}
+use Rattle.elf32_sparc.proofs.Common.{◌≡◌, ℕ, zero, suc, ◌+◌, ◌-◌, ◌*◌, ◌^◌, ◌<◌, ◌≤◌, true, false, not, nat_eq, List, [], ◌∷◌, ◌++◌, length, sym, ap, ◌∙◌, append_assoc, append-nil, arith, All, inl, inr, list_any, or_cases, or_parts, and_parts, ltb-false, leb-true, eqb-true, not-false, ProgramHeader, e_phnum, program_header, headers_from, program_headers, loadable, is_short, has_bad_table, has_misaligned, is_aligned}
 use Rattle.elf32_sparc.proofs.Accepted.{Accepted}
 use Rattle.elf32_sparc.proofs.Surveys.{headers_from-more}
 

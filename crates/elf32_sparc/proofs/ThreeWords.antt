@@ -1,11 +1,7 @@
 -- A file of three words, by computation.
-use Rattle.std.proofs.Common.{◌≡◌, ℕ, List, [], ◌∷◌, None, refl}
+use Rattle.elf32_sparc.proofs.Common.{◌≡◌, ℕ, List, [], ◌∷◌, None, refl, flat_map, half_at, word_at, program_header, program_headers, is_short, has_other_magic, has_other_class, has_other_order, has_other_version, has_other_type, has_other_machine, has_other_sizes, has_bad_table, has_dynamic, has_bytes_outside, has_memory_outside, has_disorder, has_misaligned, has_misshapen_text, has_large_text, has_other_entry, memory_size, fault, load_fault, has_memory_outside_a_run, text_from, text_of, image_of}
 use Rattle.std.specs.Int.{w32, to_be_bytes}
-use Rattle.std.specs.List.{flat_map}
 use Rattle.std.specs.Int.RustNames.{count_ones}
-use Rattle.elf32_sparc.specs.Header.{half_at, word_at, program_header, program_headers}
-use Rattle.elf32_sparc.specs.FileFault.{is_short, has_other_magic, has_other_class, has_other_order, has_other_version, has_other_type, has_other_machine, has_other_sizes, has_bad_table, has_dynamic, has_bytes_outside, has_memory_outside, has_disorder, has_misaligned, has_misshapen_text, has_large_text, has_other_entry, memory_size, fault, load_fault, has_memory_outside_a_run}
-use Rattle.elf32_sparc.specs.Image.{text_from, text_of, image_of}
 
 abbrev pub three_words : List ℕ
 three_words = flat_map (to_be_bytes w32) (0x7f454c46 ∷ 0x01020100 ∷ 0 ∷ 0 ∷ 0x00020002 ∷ 1 ∷ 0x00010054 ∷ 0x34 ∷ 0 ∷ 0 ∷ 0x00340020 ∷ 0x00010000 ∷ 0 ∷ 1 ∷ 0x54 ∷ 0x10054 ∷ 0x10054 ∷ 0xc ∷ 0xc ∷ 5 ∷ 0x10000 ∷ 0x82102001 ∷ 0x90102003 ∷ 0x91d02010 ∷ [])

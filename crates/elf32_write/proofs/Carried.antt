@@ -1,15 +1,10 @@
 -- What is loaded of a written file: the entries of the original as they are carried on, then the segments that
 -- are added.
-use Rattle.elf32_write.proofs.Common.{◌^◌, ◌≡◌, ℕ, zero, suc, ◌+◌, ◌<◌, true, List, [], ◌∷◌, ◌++◌, length, map, refl, arith, All, filter, lt-ltb, map-append, nat_tests, ProgramHeader, program_headers, is_loadable, loadable, mapping_of, has_bytes_outside, accepted, next_page, padded_to, AddedSegment, added_headers, is_carried, carried_on, delta_in, original_end, segment_headers, headers, locator, with_segments, ◌-◌, ◌%◌, ◌≤◌, false, take, drop, ap, ◌∙◌, list_any, cond_both, or_parts, leaves_file}
-use Rattle.std.proofs.lemmas.List.Elements.{filter-append}
-use Rattle.elf32_sparc.specs.Mapping.{mappings, file_bytes}
-use Rattle.elf32_write.specs.Laws.{mapping_added, SegmentsAreMapped}
+use Rattle.elf32_write.proofs.Common.{◌^◌, ◌≡◌, ℕ, zero, suc, ◌+◌, ◌<◌, true, List, [], ◌∷◌, ◌++◌, length, map, refl, arith, All, filter, lt-ltb, map-append, nat_tests, ProgramHeader, program_headers, is_loadable, loadable, mapping_of, has_bytes_outside, accepted, next_page, padded_to, AddedSegment, added_headers, is_carried, carried_on, delta_in, original_end, segment_headers, headers, locator, with_segments, ◌-◌, ◌%◌, ◌≤◌, false, take, drop, ap, ◌∙◌, list_any, cond_both, or_parts, leaves_file, filter-append, mappings, file_bytes, mapping_added, SegmentsAreMapped, take-take, drop-drop, drop-take, kept}
 use Rattle.elf32_write.proofs.Part.{Part, take_part}
 use Rattle.elf32_write.proofs.Segments.{delta-to}
 use Rattle.elf32_write.proofs.Fields.{segments-fields}
 use Rattle.elf32_write.proofs.WrittenParts.{front, part_segment, length-segment, written_stands, header_facts}
-use Rattle.std.proofs.lemmas.List.{take-take, drop-drop, drop-take}
-use Rattle.elf32_write.specs.Kept.{kept}
 
 -- an entry to load is carried on
 is_carried-loadable : (h : ProgramHeader) → is_loadable h ≡ true → is_carried h ≡ true

@@ -1,14 +1,7 @@
 -- The fields of program headers are words.
-use Rattle.elf32_write.proofs.Common.{get_or, ℕ, zero, suc, ◌+◌, ◌^◌, ◌<◌, Bool, true, false, cond, nat_le, List, [], ◌∷◌, length, map, drop, slice_index, Some, None, arith, lit<, All, cond_both, filter, All-append, All-drop, All-cons, All-nil, big_number, ProgramHeader, word_at, half_at, headers_from, program_headers, e_phoff, e_phnum, is_text, section_count, next_page, AddedSegment, segments_end, added_header, added_headers, is_carried, carried_on, delta_in, original_end, segment_headers, CanWrite}
-use Rattle.eel_base.specs.Fields.{be_field}
-use Rattle.std.proofs.Common.{unwrap_or}
+use Rattle.elf32_write.proofs.Common.{get_or, ℕ, zero, suc, ◌+◌, ◌^◌, ◌<◌, Bool, true, false, cond, nat_le, List, [], ◌∷◌, length, map, drop, slice_index, Some, None, arith, lit<, All, cond_both, filter, All-append, All-drop, All-cons, All-nil, big_number, ProgramHeader, word_at, half_at, headers_from, program_headers, e_phoff, e_phnum, is_text, section_count, next_page, AddedSegment, segments_end, added_header, added_headers, is_carried, carried_on, delta_in, original_end, segment_headers, CanWrite, be_field, unwrap_or, All-map, All-filter, big_from-lt, e_shnum, has_sections, not_executable, AreNumbers, HasWords}
 use Rattle.std.specs.Int.Bits.{and_lt}
-use Rattle.std.proofs.lemmas.List.Elements.{All-map, All-filter}
-use Rattle.byteorder.specs.Numbers.{big_from-lt}
 use Rattle.elf32_sparc.specs.Header.{program_header}
-use Rattle.elf32_sparc.specs.Symbols.{e_shnum, has_sections}
-use Rattle.elf32_write.specs.Kept.{not_executable}
-use Rattle.elf32_write.specs.Conditions.{AreNumbers, HasWords}
 use Rattle.elf32_write.proofs.Segments.{segments_end-from, offsets_fit}
 
 -- each field of a header fits its word

@@ -1,8 +1,5 @@
 -- A written file is made of bytes, where its parts are.
-use Rattle.elf32_write.proofs.Common.{drop, e_shoff, ◌*◌, cond_both, nat_eq, take, All-drop, moved, ℕ, zero, suc, ◌+◌, ◌-◌, ◌%◌, ◌^◌, ◌<◌, List, [], ◌∷◌, ◌++◌, length, slice_index, arith, All, flat_map, range_with_len, All-nil, All-cons, All-append, big_bytes, ProgramHeader, word_at, section_count, words_bytes, halves_bytes, padded_to, next_page, AddedSegment, program_header, file_header, section_copy, section_entry, section_table, delta_in, notes_at, sections_at, locator_at, segment_headers, locator, with_segments, written, common_steps}
-use Rattle.std.proofs.lemmas.List.Elements.{All-take, All-replicate}
-use Rattle.std.specs.Int.{bytes_high_first}
-use Rattle.elf32_write.specs.Laws.{AreBytes, FileIsBytes}
+use Rattle.elf32_write.proofs.Common.{drop, e_shoff, ◌*◌, cond_both, nat_eq, take, All-drop, moved, ℕ, zero, suc, ◌+◌, ◌-◌, ◌%◌, ◌^◌, ◌<◌, List, [], ◌∷◌, ◌++◌, length, slice_index, arith, All, flat_map, range_with_len, All-nil, All-cons, All-append, big_bytes, ProgramHeader, word_at, section_count, words_bytes, halves_bytes, padded_to, next_page, AddedSegment, program_header, file_header, section_copy, section_entry, section_table, delta_in, notes_at, sections_at, locator_at, segment_headers, locator, with_segments, written, common_steps, All-take, All-replicate, bytes_high_first, AreBytes, FileIsBytes}
 
 high_first-bytes : (count n : ℕ) → AreBytes (bytes_high_first count n)
 high_first-bytes zero n = All-nil (λ b. b < 256)

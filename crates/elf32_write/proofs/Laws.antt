@@ -1,7 +1,6 @@
 -- What is true of every written file.
-use Rattle.elf32_write.proofs.Common.{◌≡◌, ◌+◌, false, nat_lt, [], ◌∷◌, length, refl, arith, le-leb, le-ltb, written, delta_in, original_end, notes_at, locator_at, words_bytes, word_at}
+use Rattle.elf32_write.proofs.Common.{◌≡◌, ◌+◌, false, nat_lt, [], ◌∷◌, length, refl, arith, le-leb, le-ltb, written, delta_in, original_end, notes_at, locator_at, words_bytes, word_at, OriginalIsHeld, NotesAreRead, EntryIsGiven, SizeIsBounded}
 use Rattle.notes.specs.Format.{notes_of}
-use Rattle.elf32_write.specs.Laws.{OriginalIsHeld, NotesAreRead, EntryIsGiven, SizeIsBounded}
 use Rattle.elf32_write.proofs.Part.{take_part, length_part, fields_at}
 use Rattle.elf32_write.proofs.Segments.{segments_end-to, delta-from, delta-to, offsets_fit, notes-beyond}
 use Rattle.elf32_write.proofs.Fields.{few_sections}

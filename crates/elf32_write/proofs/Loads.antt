@@ -1,17 +1,7 @@
 -- That a written file can be run.
-use Rattle.elf32_sparc.specs.Header.{is_text, ei_version, e_version}
-use Rattle.std.proofs.lemmas.List.Folds.{list_any_none, list_any-append}
-use Rattle.std.proofs.lemmas.List.Elements.{All-map, All-filter}
-use Rattle.elf32_write.proofs.Common.{sections_at, whole_header, word_at, half_at, ◌<◌, filter, get_or, carried_headers, All-nil, All-cons, ◌≡◌, ℕ, zero, suc, ◌+◌, ◌^◌, ◌≤◌, ◌⊎◌, inl, inr, max, Bool, false, not, cond, nat_lt, nat_le, nat_eq, List, [], ◌∷◌, ◌++◌, map, Some, None, refl, ap, ◌∙◌, arith, All, fold, list_any, or_parts, or_from, and_parts, eqb-true, le-ltb, nat_tests, ProgramHeader, end_of, leaves_file, descends_from, is_aligned, segment_of, segment_end, NoneHolds, carried_on, ◌*◌, ◌%◌, ◌&&◌, length, length-append, sum_by, length-map, sum_by-cons, length-filter, count_by-le-length, e_phoff, e_phnum, program_headers, is_loadable, loadable, has_bytes_outside, image_of, accepted, next_page, AddedSegment, segments_end, added_header, added_headers, is_carried, delta_in, original_end, segment_headers, written, CanWrite}
-use Rattle.std.proofs.lemmas.Bool.{or_cases, not-false, and_left}
+use Rattle.elf32_write.proofs.Common.{sections_at, whole_header, word_at, half_at, ◌<◌, filter, get_or, carried_headers, All-nil, All-cons, ◌≡◌, ℕ, zero, suc, ◌+◌, ◌^◌, ◌≤◌, ◌⊎◌, inl, inr, max, Bool, false, not, cond, nat_lt, nat_le, nat_eq, List, [], ◌∷◌, ◌++◌, map, Some, None, refl, ap, ◌∙◌, arith, All, fold, list_any, or_parts, or_from, and_parts, eqb-true, le-ltb, nat_tests, ProgramHeader, end_of, leaves_file, descends_from, is_aligned, segment_of, segment_end, NoneHolds, carried_on, ◌*◌, ◌%◌, ◌&&◌, length, length-append, sum_by, length-map, sum_by-cons, length-filter, count_by-le-length, e_phoff, e_phnum, program_headers, is_loadable, loadable, has_bytes_outside, image_of, accepted, next_page, AddedSegment, segments_end, added_header, added_headers, is_carried, delta_in, original_end, segment_headers, written, CanWrite, is_text, ei_version, e_version, list_any_none, list_any-append, All-map, All-filter, or_cases, not-false, and_left, first_that_holds, header_rows, load_rows, load_fault, leaves_room, is_last_page, is_short, has_other_magic, has_other_class, has_other_order, has_other_version, has_other_type, has_other_machine, has_other_sizes, has_bad_table, has_memory_outside, has_memory_outside_a_run, has_disorder, has_misaligned, memory_size, ◌||◌, highest_end, Accepted, HeaderAccepted, CanLoad, IsInReach, Ascend, FileLoads}
 use Rattle.elf32_sparc.specs.declared.fault.FileFault.{FileFault}
-use Rattle.elf32_sparc.specs.FileFault.{first_that_holds, header_rows, load_rows, load_fault, leaves_room, is_last_page, is_short, has_other_magic, has_other_class, has_other_order, has_other_version, has_other_type, has_other_machine, has_other_sizes, has_bad_table, has_memory_outside, has_memory_outside_a_run, has_disorder, has_misaligned, memory_size}
 use Rattle.elf32_write.proofs.Powers.{IsPower, power_of_two, power_divides, shifted, power-4096, greatest_power, greatest_above}
-use Rattle.std.proofs.Common.{◌||◌}
-use Rattle.elf32_sparc.specs.Image.{highest_end}
-use Rattle.elf32_sparc.proofs.Accepted.{Accepted, HeaderAccepted}
-use Rattle.elf32_write.specs.Conditions.{CanLoad, IsInReach, Ascend}
-use Rattle.elf32_write.specs.Laws.{FileLoads}
 use Rattle.elf32_write.proofs.Segments.{segments_end-from, few-segment_headers, delta-to, notes-beyond}
 use Rattle.elf32_write.proofs.Fields.{segments-fields}
 use Rattle.elf32_write.proofs.WrittenParts.{written_stands, HeaderFacts, header_facts, same_magic, same_byte}

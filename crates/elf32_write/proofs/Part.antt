@@ -1,9 +1,5 @@
 -- A part of a file, by its place, and the fields that are read in it.
-use Rattle.elf32_write.proofs.Common.{◌≡◌, ℕ, ◌+◌, ◌^◌, ◌<◌, ◌≤◌, List, [], ◌∷◌, ◌++◌, length, take, drop, refl, ap, ◌∙◌, append_assoc, append-nil, length-append, arith, le-leb, big_bytes, length-bytes_high_first, flat_map}
-use Rattle.std.proofs.Common.{unwrap_or}
-use Rattle.std.proofs.lemmas.List.{take_at, drop_at}
-use Rattle.byteorder.specs.Numbers.{big_number-reads_back}
-use Rattle.eel_base.specs.Fields.{be_field}
+use Rattle.elf32_write.proofs.Common.{◌≡◌, ℕ, ◌+◌, ◌^◌, ◌<◌, ◌≤◌, List, [], ◌∷◌, ◌++◌, length, take, drop, refl, ap, ◌∙◌, append_assoc, append-nil, length-append, arith, le-leb, big_bytes, length-bytes_high_first, flat_map, unwrap_or, take_at, drop_at, big_number-reads_back, be_field}
 
 -- `part` stands at `at`
 pub record Part (file : List ℕ) (at : ℕ) (part : List ℕ) : Type 0 where

@@ -1,11 +1,9 @@
 -- Powers of two, and what stands a multiple of them further on.
-use Rattle.elf32_write.proofs.Common.{◌≡◌, ℕ, zero, suc, ◌+◌, ◌-◌, ◌*◌, ◌/◌, ◌%◌, ◌^◌, ◌≤◌, ◌⊎◌, inl, inr, max, true, nat_eq, List, [], ◌∷◌, sym, ap, ◌∙◌, arith, lit<, All, fold, eqb-true, All-cons, ProgramHeader}
-use Rattle.std.specs.Int.{is_power_of_two}
+use Rattle.elf32_write.proofs.Common.{◌≡◌, ℕ, zero, suc, ◌+◌, ◌-◌, ◌*◌, ◌/◌, ◌%◌, ◌^◌, ◌≤◌, ◌⊎◌, inl, inr, max, true, nat_eq, List, [], ◌∷◌, sym, ap, ◌∙◌, arith, lit<, All, fold, eqb-true, All-cons, ProgramHeader, is_power_of_two, cases_lt, cases_eq}
 use Rattle.std.specs.Int.RustNames.{count_ones}
 use Rattle.std.proofs.Math.Nat.{mod-mod_of_dvd, add-mul-mod_self_left, mul-mod_right, div-add-mod, pow-suc, pow-le-pow_right}
 use Rattle.std.proofs.lemmas.Nat.{ones_cat, ones_le_self, zero_from_ones, pow-add, pow_pos}
 use Rattle.std.proofs.lemmas.Nat.Gcd.{dvd_of_mod-eq-zero}
-use Rattle.std.proofs.lemmas.Bool.{cases_lt, cases_eq}
 
 abbrev pub IsPower : ℕ → Type 0
 IsPower n = (k : ℕ) × (n ≡ 2 ^ k)

@@ -1,11 +1,6 @@
 -- The segments that are added, one after the other; where the original stands, and that all offsets fit.
-use Rattle.elf32_write.proofs.Common.{◌≡◌, ℕ, zero, suc, ◌+◌, ◌*◌, ◌≤◌, ◌<◌, List, [], ◌∷◌, ◌++◌, length, map, filter, take, drop, get_or, length-append, refl, sym, ap, ◌∙◌, append-nil, arith, flat_map, sum_by, map-append, length-map, sum_by-cons, length-filter, count_by-le-length, flat_map-append, next_page, padded_to, headers_from, program_headers, e_phoff, e_phnum, accepted, AddedSegment, segment_seen, segments_end, added_header, added_headers, is_carried, program_header, segment_headers, with_segments, CanWrite, ◌^◌, max, All, fold, ProgramHeader, loadable, segment_of, image_of, delta_in, original_end, notes_at}
-use Rattle.std.specs.Int.{next_multiple_of}
-use Rattle.std.proofs.lemmas.List.{take_more, take-append-drop}
+use Rattle.elf32_write.proofs.Common.{◌≡◌, ℕ, zero, suc, ◌+◌, ◌*◌, ◌≤◌, ◌<◌, List, [], ◌∷◌, ◌++◌, length, map, filter, take, drop, get_or, length-append, refl, sym, ap, ◌∙◌, append-nil, arith, flat_map, sum_by, map-append, length-map, sum_by-cons, length-filter, count_by-le-length, flat_map-append, next_page, padded_to, headers_from, program_headers, e_phoff, e_phnum, accepted, AddedSegment, segment_seen, segments_end, added_header, added_headers, is_carried, program_header, segment_headers, with_segments, CanWrite, ◌^◌, max, All, fold, ProgramHeader, loadable, segment_of, image_of, delta_in, original_end, notes_at, next_multiple_of, take_more, take-append-drop, next_word, few_headers, aligned, fold-map}
 use Rattle.elf32_write.specs.declared.segment.NewSegment.{NewSegment}
-use Rattle.elf32_write.specs.Bytes.{next_word}
-use Rattle.elf32_sparc.proofs.Tables.{few_headers, aligned}
-use Rattle.std.proofs.lemmas.List.Folds.{fold-map}
 use Rattle.elf32_write.proofs.Powers.{greatest_above}
 
 -- ---- one more at the end

@@ -1,7 +1,5 @@
 -- The section table: an entry more, and how long it is.
-use Rattle.elf32_write.proofs.Common.{nat_eq, ap, ◌∙◌, ◌≡◌, ℕ, ◌+◌, ◌*◌, ◌<◌, ◌≤◌, List, [], ◌∷◌, ◌++◌, length, get_or, take, append-nil, length-append, refl, arith, cond_both, flat_map, range_with_len, length-take, length-bytes_high_first, word_at, section_count, moved, section_copy, section_entry, section_table, common_steps, flat_map-append}
-use Rattle.std.proofs.Common.{add-one}
-use Rattle.std.proofs.lemmas.List.{length-drop}
+use Rattle.elf32_write.proofs.Common.{nat_eq, ap, ◌∙◌, ◌≡◌, ℕ, ◌+◌, ◌*◌, ◌<◌, ◌≤◌, List, [], ◌∷◌, ◌++◌, length, get_or, take, append-nil, length-append, refl, arith, cond_both, flat_map, range_with_len, length-take, length-bytes_high_first, word_at, section_count, moved, section_copy, section_entry, section_table, common_steps, flat_map-append, add-one, length-drop}
 use Rattle.std.proofs.lemmas.List.FromFn.{length-range_with_len}
 use Rattle.elf32_sparc.proofs.Functions.{one_more}
 

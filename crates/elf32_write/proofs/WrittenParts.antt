@@ -1,12 +1,9 @@
 -- Where the parts of a written file stand, and what its header and program headers say.
-use Rattle.elf32_write.proofs.Common.{length-take, ◌≡◌, ℕ, ◌+◌, ◌-◌, ◌*◌, ◌≤◌, List, [], ◌∷◌, ◌++◌, length, replicate, refl, length-append, arith, flat_map, ProgramHeader, accepted, whole_header, padded_to, next_page, AddedSegment, segments_end, program_header, section_table, delta_in, notes_at, locator_at, segment_headers, headers, locator, with_segments, written, CanWrite, zero, suc, ◌<◌, take, slice_index, sym, ap, ◌∙◌, All, le-leb, big_number, word_at, half_at, headers_from, program_headers, halves_bytes, words_bytes, sections_at, section_count, section_names}
-use Rattle.std.proofs.lemmas.List.{length-replicate, get_or-take, length-take-le}
+use Rattle.elf32_write.proofs.Common.{length-take, ◌≡◌, ℕ, ◌+◌, ◌-◌, ◌*◌, ◌≤◌, List, [], ◌∷◌, ◌++◌, length, replicate, refl, length-append, arith, flat_map, ProgramHeader, accepted, whole_header, padded_to, next_page, AddedSegment, segments_end, program_header, section_table, delta_in, notes_at, locator_at, segment_headers, headers, locator, with_segments, written, CanWrite, zero, suc, ◌<◌, take, slice_index, sym, ap, ◌∙◌, All, le-leb, big_number, word_at, half_at, headers_from, program_headers, halves_bytes, words_bytes, sections_at, section_count, section_names, length-replicate, get_or-take, length-take-le, big_from-take, ei_magic}
 use Rattle.elf32_write.proofs.WordsBytes.{length-words_bytes, length-halves_bytes, length-flat_map}
 use Rattle.elf32_write.proofs.Part.{Part, part_more, part_last, FieldsAt, part_front, part_back, take_part, fields_at}
 use Rattle.elf32_write.proofs.Segments.{few-segment_headers, delta-from}
-use Rattle.byteorder.specs.Numbers.{big_from-take}
 use Rattle.elf32_sparc.specs.Header as elf
-use Rattle.elf32_sparc.specs.Header.{ei_magic}
 use Rattle.elf32_write.proofs.Fields.{HasFields}
 
 length-program_header : (h : ProgramHeader) → length (program_header h) ≡ 32

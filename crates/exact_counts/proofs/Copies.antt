@@ -1,31 +1,15 @@
 -- How many edges a graph has, and how often the snippets on all of them are made, by the words of its text.
-use Rattle.exact_counts.proofs.Common.{◌≡◌, ℕ, zero, suc, ◌+◌, ◌-◌, ◌*◌, ◌<◌, ◌≤◌, true, false, ◌==◌, cond, List, [], ◌∷◌, append-nil, length, Some, refl, ap, sym, ◌∙◌, arith, if◌then◌else◌, slice_index, list_any, sum_by, eq-eqb, false≢true, sum_by-cons, Words, blocks_of, entered_of, Edge, is_copied, Graph, edges_in, cut, Each, copies_of}
+use Rattle.exact_counts.proofs.Common.{◌≡◌, ℕ, zero, suc, ◌+◌, ◌-◌, ◌*◌, ◌<◌, ◌≤◌, true, false, ◌==◌, cond, List, [], ◌∷◌, append-nil, length, Some, refl, ap, sym, ◌∙◌, arith, if◌then◌else◌, slice_index, list_any, sum_by, eq-eqb, false≢true, sum_by-cons, Words, blocks_of, entered_of, Edge, is_copied, Graph, edges_in, cut, Each, copies_of, map, ◌++◌, Bool, count_by, filter, flat_map, range_with_len, cond_both, or_parts, flat_map-append, length-map, length-range_with_len, filter-append, sum_by-append, sum_by-le, sum_by_push, Blocks, below, end_of, last_word, size_of, ways_from, AreOne, Open, compares_in, jumps_in, targets_in, case_nodes, case_of, copied_edges, edge_of, edges_of, landing_at, landings_of, lands, lands_of, once_onto, ways_out, graph_of, entries_of, once_few, targets_few, total, total_at, total_le, total_plus, ways_out-few, IsCut, each-map, each-then}
 use Rattle.image_code.specs.Graphs.{opens_in}
 use Rattle.eel_base.specs.Code.{IsText}
 use Rattle.cfg_normal.specs.declared.Node.{Node}
-use Rattle.std.proofs.Common.{map, ◌++◌, Bool}
-use Rattle.std.specs.List.{count_by, filter, flat_map, range_with_len}
-use Rattle.std.proofs.lemmas.Bool.{cond_both, or_parts}
-use Rattle.std.proofs.lemmas.Grind.{flat_map-append}
-use Rattle.std.proofs.lemmas.List.{length-map}
-use Rattle.std.proofs.lemmas.List.FromFn.{length-range_with_len}
-use Rattle.std.proofs.lemmas.List.Elements.{filter-append}
-use Rattle.std.proofs.lemmas.List.Sums.{sum_by-append, sum_by-le, sum_by_push}
 use Rattle.cfg_blocks.specs.declared.BlockEnd.{BlockEnd}
 use Rattle.cfg_blocks.specs.declared.BlockEnd.TheVariants as ends
 use Rattle.cfg_blocks.specs.declared.EdgeKind.TheVariants as kinds
-use Rattle.cfg_blocks.specs.Blocks.{Blocks, below, end_of, last_word, size_of}
 use Rattle.cfg_blocks.specs.Ends.{Way, always, never, ways_of}
-use Rattle.cfg_blocks.specs.Entries.{ways_from}
 use Rattle.cfg_normal.specs.Nodes.{same_kind, same_node}
-use Rattle.cfg_normal.specs.Code.{AreOne}
-use Rattle.cfg_normal.specs.Opens.{Open, compares_in, jumps_in, targets_in}
-use Rattle.cfg_normal.specs.Graph.{case_nodes, case_of, copied_edges, edge_of, edges_of, landing_at, landings_of, lands, lands_of, once_onto, ways_out, graph_of}
-use Rattle.cfg_normal.proofs.GraphFacts.{entries_of, once_few, targets_few, total, total_at, total_le, total_plus, ways_out-few}
-use Rattle.cfg_walk.proofs.Cut.{IsCut}
 use Rattle.cfg_walk.proofs.Edges.{block, copy, same_nodes}
 use Rattle.cfg_walk.proofs.Holding.{some_words}
-use Rattle.cfg_walk.proofs.Lists.{each-map, each-then}
 use Rattle.switch_runs.specs.Cases.{IsOpenSwitch}
 use Rattle.switch_runs.specs.Joined.{IsCaseBlock}
 use Rattle.switch_runs.proofs.CaseBlocks.{case_block}

@@ -1,16 +1,7 @@
 -- An edge's counter holds how often the edge was completed, in 32 bits or in 64.
-use Rattle.exact_counts.proofs.Common.{◌≡◌, ℕ, zero, suc, ◌+◌, ◌^◌, ◌<◌, ◌≤◌, inl, inr, cond, List, [], ◌∷◌, length, refl, ap, sym, ◌∙◌, arith, ◌==◌, All, cases_eq, cases_lt, eq-eqb, ne_eqb, counter_width, State, run, times, Op, WorksBelow, AreCounters, gone_in, walk, Edit, snippet_on, times-append, WorksIn, counter_op}
-use Rattle.count_rebuild.specs.Counts.{counter_value}
-use Rattle.std.proofs.Common.{◌%◌, replicate, ◌⊎◌}
-use Rattle.std.proofs.lemmas.Grind.{get_or-set_at}
-use Rattle.std.proofs.lemmas.List.{get_or-replicate, get_or-set_other, get_or_past, length-replicate, length-set}
-use Rattle.v8_step.specs.State.{register_of}
+use Rattle.exact_counts.proofs.Common.{◌≡◌, ℕ, zero, suc, ◌+◌, ◌^◌, ◌<◌, ◌≤◌, inl, inr, cond, List, [], ◌∷◌, length, refl, ap, sym, ◌∙◌, arith, ◌==◌, All, cases_eq, cases_lt, eq-eqb, ne_eqb, counter_width, State, run, times, Op, WorksBelow, AreCounters, gone_in, walk, Edit, snippet_on, times-append, WorksIn, counter_op, counter_value, ◌%◌, replicate, ◌⊎◌, get_or-set_at, get_or-replicate, get_or-set_other, get_or_past, length-replicate, length-set, register_of, update, updated_by, store_of, updates, CellsCount, counter_limit}
 use Rattle.snippets.specs.declared.snippet.Op.TheVariants.{Add}
-use Rattle.snippets.specs.Cells.{update, updated_by}
 use Rattle.snippets.specs.Ops.{cell_of, cells_end}
-use Rattle.image_code.specs.Store.{store_of, updates}
-use Rattle.exact_counts.specs.Laws.{CellsCount}
-use Rattle.exact_counts.specs.Profiles.{counter_limit}
 
 -- ---- a counter of either version
 

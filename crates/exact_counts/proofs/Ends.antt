@@ -1,9 +1,6 @@
 -- What a written file's run tells where it has ended.
-use Rattle.exact_counts.proofs.Common.{◌≡◌, ℕ, suc, ◌-◌, inl, inr, length, Some, None, ap, sym, ◌∙◌, arith, cases_lt, Ending, State, run, Edit, visits_by, ending, few_visits, longer, over_or_not, stays}
+use Rattle.exact_counts.proofs.Common.{◌≡◌, ℕ, suc, ◌-◌, inl, inr, length, Some, None, ap, sym, ◌∙◌, arith, cases_lt, Ending, State, run, Edit, visits_by, ending, few_visits, longer, over_or_not, stays, IsAnswered, going, none_over, own_live, quiet_more, visit_more, EndedRunsTell}
 use Rattle.cfg_walk.proofs.Walks.{lived_to}
-use Rattle.edit_core.specs.RunsAlike.{IsAnswered}
-use Rattle.edit_core.proofs.Trails.{going, none_over, own_live, quiet_more, visit_more}
-use Rattle.exact_counts.specs.Laws.{EndedRunsTell}
 
 -- two moments at which it has
 both_over : (s : State) (m k : ℕ) (d c : Ending) → (run s m).ending ≡ Some d → (run s k).ending ≡ Some c

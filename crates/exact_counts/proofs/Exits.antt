@@ -1,7 +1,6 @@
 -- The counts of a run that ended by `exit` are those of the whole run.
-use Rattle.exact_counts.proofs.Common.{◌≡◌, ℕ, suc, ◌-◌, ◌≤◌, inl, inr, List, length, Some, refl, ap, sym, ◌∙◌, arith, append-nil, cases_lt, Words, image_of, Notes, Ending, State, run, IsUntouched, pages_of, start_of, Graph, walk, executions, AreRunsAlike, edit_of, visits_by, ending, longer, over_or_not, stays}
+use Rattle.exact_counts.proofs.Common.{◌≡◌, ℕ, suc, ◌-◌, ◌≤◌, inl, inr, List, length, Some, refl, ap, sym, ◌∙◌, arith, append-nil, cases_lt, Words, image_of, Notes, Ending, State, run, IsUntouched, pages_of, start_of, Graph, walk, executions, AreRunsAlike, edit_of, visits_by, ending, longer, over_or_not, stays, from_on, own_few, trail_stays}
 use Rattle.edit_core.proofs.Outwardly.{edits_are_untouched, exit_granted}
-use Rattle.edit_core.proofs.Trails.{from_on, own_few, trail_stays}
 use Rattle.exact_counts.specs.Code.{CountsOfExitsAreExact}
 use Rattle.exact_counts.proofs.Ends.{ended_runs_tell}
 use Rattle.exact_counts.proofs.Exact.{begins_live, counts_are_exact}

@@ -1,8 +1,6 @@
 -- How many edges a step completes, that they are edges of the graph, and that it completes none of them twice.
-use Rattle.exact_counts.proofs.Common.{ℕ, zero, suc, ◌<◌, ◌≤◌, List, length, arith, Words, State, run, Graph, end_of_walk, gone_in, goes_on_at, point_of, walk, Each, times, times-append, nat_tests}
+use Rattle.exact_counts.proofs.Common.{ℕ, zero, suc, ◌<◌, ◌≤◌, List, length, arith, Words, State, run, Graph, end_of_walk, gone_in, goes_on_at, point_of, walk, Each, times, times-append, nat_tests, each-append, ExecutionsAreFew}
 use Rattle.edit_core.proofs.Completed.{Completes, gone_completes, none, one, two}
-use Rattle.cfg_walk.proofs.Lists.{each-append}
-use Rattle.exact_counts.specs.Laws.{ExecutionsAreFew}
 
 -- two edges at most, none of them twice, and all of them edges of the graph
 pub record AreFew (count : ℕ) (es : List ℕ) : Type 0 where

@@ -1,11 +1,8 @@
 -- A profile asks for little room.
-use Rattle.exact_counts.proofs.Common.{◌≡◌, ℕ, ◌*◌, ◌≤◌, List, [], ◌∷◌, length, None, arith, sum_by, sum_by-cons, fault, image_of, Edge, Graph, Op, Plan, copies_of, image_text, view_graph}
-use Rattle.elf32_sparc.specs.Image.{Program}
+use Rattle.exact_counts.proofs.Common.{◌≡◌, ℕ, ◌*◌, ◌≤◌, List, [], ◌∷◌, length, None, arith, sum_by, sum_by-cons, fault, image_of, Edge, Graph, Op, Plan, copies_of, image_text, view_graph, Program, original_graph, ProfilesNeedLittle}
 use Rattle.cfg_view.specs.View.{given_in}
 use Rattle.tool_kit.specs.declared.edge_ref.ToolKind.TheVariants as tools
 use Rattle.edit_core.specs.Taken.{operations_on}
-use Rattle.exact_counts.specs.Profiles.{original_graph}
-use Rattle.exact_counts.specs.Sizes.{ProfilesNeedLittle}
 use Rattle.exact_counts.proofs.Copies.{copies_in_all, edges_in_all}
 
 -- one operation is taken for each edge

@@ -1,28 +1,15 @@
 -- The graph that notes tell is the original's.
-use Rattle.exact_counts.proofs.Common.{All, ◌≡◌, ℕ, zero, suc, ◌+◌, ◌-◌, ◌*◌, ◌<◌, ◌≤◌, inl, inr, true, false, List, [], ◌∷◌, length, refl, ap, sym, ◌∙◌, arith, ◌==◌, if◌then◌else◌, ℤ, pos, is_some, list_any, cases_lt, eq-eqb, false≢true, lt-ltb, Notes, EdgeSet, IsFlow, count_below, rest, Op, Edge, Graph, edges_in, is_node, is_copied, links_of, snippet_on, Each, has_cell, noted_graph, leb-true, cases_Bool}
+use Rattle.exact_counts.proofs.Common.{All, ◌≡◌, ℕ, zero, suc, ◌+◌, ◌-◌, ◌*◌, ◌<◌, ◌≤◌, inl, inr, true, false, List, [], ◌∷◌, length, refl, ap, sym, ◌∙◌, arith, ◌==◌, if◌then◌else◌, ℤ, pos, is_some, list_any, cases_lt, eq-eqb, false≢true, lt-ltb, Notes, EdgeSet, IsFlow, count_below, rest, Op, Edge, Graph, edges_in, is_node, is_copied, links_of, snippet_on, Each, has_cell, noted_graph, leb-true, cases_Bool, nat_le, get_or, IsTrue, AllByRecursion, eqb-true, le-leb, le-ltb, or_left, or_right, false_from_ne_true, NoteEdge, get_or_default, each_in, IsEdgeIn, node_numbers, node_number, own_edge, no_own, note_edge, cell_noted, note_edges, ends_at, is_noted, lies_at, no_edge, edge_at, counted_by, is_counter}
 use Rattle.tool_kit.specs.declared.edge_ref.ToolKind.{ToolKind}
 use Rattle.flows.specs.SpanningTrees.{IsSpanningTree}
-use Rattle.std.proofs.Common.{nat_le, get_or}
-use Rattle.std.specs.Prelude.{IsTrue}
-use Rattle.std.specs.List.{AllByRecursion}
-use Rattle.std.proofs.lemmas.Bool.{eqb-true, le-leb, le-ltb, or_left, or_right, false_from_ne_true}
-use Rattle.notes.specs.Format.{NoteEdge}
 use Rattle.flows.specs.Flows.{NodeSet, Graph as PlainGraph, total}
-use Rattle.std.proofs.lemmas.List.{get_or_default}
 use Rattle.std.proofs.lemmas.List.Folds.{list_any_at, list_any_none}
-use Rattle.cfg_walk.proofs.Lists.{each_in}
 use Rattle.flows.proofs.Sums.{total_same}
 use Rattle.flows.proofs.Weights.{weight_same}
-use Rattle.cfg_normal.specs.Code.{IsEdgeIn}
-use Rattle.cfg_normal.specs.Numbers.{node_numbers, node_number}
 use Rattle.tool_kit.specs.declared.edge_ref.ToolKind.TheVariants as tools
-use Rattle.span_tree.specs.Links.{edge_at as own_edge, no_edge as no_own}
 use Rattle.span_tree.proofs.Connected.{numbered}
 use Rattle.span_tree.proofs.Landings.{landed_copy}
-use Rattle.edit_core.specs.Faithful.{note_edge, cell_noted, note_edges}
 use Rattle.cfg_walk.proofs.NoneOpen.{edges_lie_in}
-use Rattle.count_rebuild.specs.Noted.{ends_at, is_node as is_noted, lies_at, no_edge, edge_at}
-use Rattle.exact_counts.specs.Profiles.{counted_by, is_counter}
 
 -- ---- plain graphs with the same links, the second with no more nodes
 

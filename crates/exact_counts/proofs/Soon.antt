@@ -1,8 +1,6 @@
 -- A profile's runs end soon after the original's.
-use Rattle.exact_counts.proofs.Common.{◌≡◌, ℕ, zero, suc, ◌+◌, ◌*◌, ◌≤◌, inl, inr, List, [], ◌∷◌, length, Some, ◌∙◌, arith, Notes, State, run, IsUntouched, pages_of, gone_in, AreCounters, Edit, AreRunsAlike, over_or_not, ending}
-use Rattle.image_code.specs.Store.{operations_on}
+use Rattle.exact_counts.proofs.Common.{◌≡◌, ℕ, zero, suc, ◌+◌, ◌*◌, ◌≤◌, inl, inr, List, [], ◌∷◌, length, Some, ◌∙◌, arith, Notes, State, run, IsUntouched, pages_of, gone_in, AreCounters, Edit, AreRunsAlike, over_or_not, ending, operations_on, ProfilesEndSoon}
 use Rattle.edit_core.specs.Cost.{TakesFewSteps}
-use Rattle.exact_counts.specs.Sizes.{ProfilesEndSoon}
 use Rattle.exact_counts.proofs.Counters.{none_or_counter}
 use Rattle.exact_counts.proofs.Gone.{step_few}
 

@@ -1,8 +1,5 @@
 -- How often each edge is completed is in all how long the walk is.
-use Rattle.exact_counts.proofs.Common.{◌≡◌, ℕ, zero, suc, ◌+◌, ◌<◌, ◌≤◌, cond, List, [], ◌∷◌, length, slice_index, refl, ◌∙◌, arith, ◌==◌, sum_by-cons, times, walk, Each, nat_tests}
-use Rattle.std.specs.List.{sum}
-use Rattle.cfg_normal.proofs.GraphFacts.{total, total_plus}
-use Rattle.exact_counts.specs.Sizes.{ExecutionsAddUp}
+use Rattle.exact_counts.proofs.Common.{◌≡◌, ℕ, zero, suc, ◌+◌, ◌<◌, ◌≤◌, cond, List, [], ◌∷◌, length, slice_index, refl, ◌∙◌, arith, ◌==◌, sum_by-cons, times, walk, Each, nat_tests, sum, total, total_plus, ExecutionsAddUp}
 use Rattle.exact_counts.proofs.Gone.{walk_within}
 
 total_first : (n : ℕ) (f : ℕ → ℕ) → total f (suc n) ≡ f 0 + total (λ i. f (suc i)) n

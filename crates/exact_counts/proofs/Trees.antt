@@ -1,10 +1,6 @@
 -- The cells of a spanning tree make a profile.
-use Rattle.exact_counts.proofs.Common.{◌≡◌, ℕ, zero, suc, ◌+◌, ◌*◌, ◌<◌, inl, inr, true, not, List, [], ◌∷◌, length, Option, Some, None, refl, ap, ◌∙◌, arith, is_some, counter_width, EdgeSet, count_below, rest, Op, WorksBelow, AreCounters, is_node, links_of, snippet_on, WorksIn, counter_op, cases_Bool}
-use Rattle.std.proofs.lemmas.List.{get_or_default}
-use Rattle.std.proofs.lemmas.List.Elements.{All-cons, All-nil}
+use Rattle.exact_counts.proofs.Common.{◌≡◌, ℕ, zero, suc, ◌+◌, ◌*◌, ◌<◌, inl, inr, true, not, List, [], ◌∷◌, length, Option, Some, None, refl, ap, ◌∙◌, arith, is_some, counter_width, EdgeSet, count_below, rest, Op, WorksBelow, AreCounters, is_node, links_of, snippet_on, WorksIn, counter_op, cases_Bool, get_or_default, All-cons, All-nil, TreesMakeProfiles, counted_by, counter_in, is_counter}
 use Rattle.span_tree.specs.Cells.{cell_at, cell_of, has_cell}
-use Rattle.exact_counts.specs.Laws.{TreesMakeProfiles}
-use Rattle.exact_counts.specs.Profiles.{counted_by, counter_in, is_counter}
 use Rattle.exact_counts.proofs.Counters.{end_is, works_in}
 use Rattle.exact_counts.proofs.Noted.{tree_alike}
 

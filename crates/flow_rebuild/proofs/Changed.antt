@@ -1,15 +1,7 @@
 -- One edge changed: how the excess of each node changes. Flows are built on a tree from the last node that was joined back to the first.
-use Rattle.std.proofs.Common.{◌≡◌, ℕ, suc, ◌<◌, ◌⊎◌, inl, inr, cond, ap, sym, ◌∙◌, arith}
-use Rattle.std.specs.Prelude.{ℤ, pos, ◌+ℤ◌, ◌-ℤ◌, neg_ℤ, ◌==◌, if◌then◌else◌}
-use Rattle.std.proofs.lemmas.Int.{ints}
-use Rattle.std.proofs.lemmas.Bool.{cases_eq}
-use Rattle.flows.specs.Flows.{Graph, one_at, IsFlow}
-use Rattle.flows.specs.Code.{IsGraph}
-use Rattle.flows.specs.Trees.{only}
+use Rattle.flow_rebuild.proofs.Common.{◌≡◌, ℕ, suc, ◌<◌, ◌⊎◌, inl, inr, cond, ap, sym, ◌∙◌, arith, ℤ, pos, ◌+ℤ◌, ◌-ℤ◌, neg_ℤ, ◌==◌, if◌then◌else◌, ints, cases_eq, Graph, one_at, IsFlow, IsGraph, only, total_same, total_change, excess}
 use Rattle.flows.proofs.Cuts.{Balanced, root_balanced}
 use Rattle.flows.proofs.Nets.{part, net, net_is, part_zero}
-use Rattle.flows.proofs.Sums.{total_same, total_change}
-use Rattle.flow_rebuild.specs.Excess.{excess}
 
 -- x with z at the edge e
 abbrev pub with_at : (ℕ → ℤ) → ℕ → ℤ → ℕ → ℤ

@@ -1,27 +1,9 @@
 -- One step of the peeling, on lists.
-use Rattle.std.proofs.Common.{◌≡◌, ℕ, ◌<◌, ◌≤◌, ◌⊎◌, inl, inr, true, false, cond, List, [], ◌∷◌, ◌++◌, not, length, set, refl, ap, sym, ◌∙◌, arith}
-use Rattle.std.specs.Prelude.{ℤ, pos, ◌+ℤ◌, ◌==◌, if◌then◌else◌}
-use Rattle.std.proofs.lemmas.Int.{ints}
-use Rattle.std.proofs.lemmas.Bool.{cases_eq, eq-eqb, ne_eqb}
-use Rattle.std.proofs.lemmas.List.{get_or-set_same, get_or-set_other, length-set, length-append}
-use Rattle.flows.specs.Flows.{Graph, IsFlow, NodeSet, IsTheFlow, rest}
-use Rattle.flows.specs.Links.{graph_of, link_at, IsLinked}
-use Rattle.flows.specs.Trees.{only, far_end, Grows, on, joined_by, HasEveryEnd}
-use Rattle.flows.specs.declared.Link.{Link}
-use Rattle.flows.proofs.Bools.{eqb_swap, not_twice}
-use Rattle.flows.proofs.Least.{off_grown_determines, far_inside}
-use Rattle.flows.proofs.Sums.{total_zero}
-use Rattle.flow_rebuild.specs.Excess.{excess}
-use Rattle.flow_rebuild.specs.Values.{int_at, abs_sum}
-use Rattle.flow_rebuild.specs.Private.{other_node, carries}
-use Rattle.flow_tree.specs.Tree.{reached_by, edges_of, IsGrown, nodes_in, edges_in}
-use Rattle.flow_tree.specs.declared.Join.{Join}
+use Rattle.flow_rebuild.proofs.Common.{◌≡◌, ℕ, ◌<◌, ◌≤◌, ◌⊎◌, inl, inr, true, false, cond, List, [], ◌∷◌, ◌++◌, not, length, set, refl, ap, sym, ◌∙◌, arith, ℤ, pos, ◌+ℤ◌, ◌==◌, if◌then◌else◌, ints, cases_eq, eq-eqb, ne_eqb, get_or-set_same, get_or-set_other, length-set, length-append, Graph, IsFlow, NodeSet, IsTheFlow, rest, graph_of, link_at, IsLinked, only, far_end, Grows, on, joined_by, HasEveryEnd, Link, eqb_swap, not_twice, off_grown_determines, far_inside, total_zero, excess, int_at, abs_sum, other_node, carries, reached_by, edges_of, IsGrown, nodes_in, edges_in, Join, marked_below, graph_ok, edges-push, nodes-push}
 use Rattle.flow_tree.specs.declared.Tree.{Tree}
 use Rattle.flow_rebuild.proofs.Changed.{Moved, carried, other_end, with_at}
 use Rattle.flow_rebuild.proofs.Settling.{Settled, settle_last, moved, last_of, Last, on_pushed, settled_flow, on_in_push}
 use Rattle.flow_rebuild.proofs.Sums.{abs_moved}
-use Rattle.flow_tree.proofs.Check.{marked_below}
-use Rattle.flow_tree.proofs.Steps.{graph_ok, edges-push, nodes-push}
 
 pub int_set : (xs : List ℤ) (e : ℕ) (z : ℤ) → e < length xs → int_at (set xs e z) ≡ with_at (int_at xs) e z
 int_set xs e z l = λ i u. at u i

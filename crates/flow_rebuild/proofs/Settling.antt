@@ -1,13 +1,5 @@
 -- The last edge of a tree settles the node that it joined.
-use Rattle.std.proofs.Common.{◌≡◌, ℕ, ◌<◌, ◌⊎◌, inl, inr, true, false, List, [], ◌∷◌, ◌++◌, refl, ap, sym, ◌∙◌, arith}
-use Rattle.std.specs.Prelude.{ℤ, pos, ◌==◌, if◌then◌else◌}
-use Rattle.std.proofs.lemmas.Bool.{cases_eq, eq-eqb, ne_eqb, or_left, or_right}
-use Rattle.flows.specs.Flows.{Graph, IsFlow, NodeSet}
-use Rattle.flows.specs.Code.{IsGraph}
-use Rattle.flows.specs.Trees.{only, and_also, crosses, differ, far_end, IsHeaviest, Grows, on, joined_by}
-use Rattle.flows.proofs.Bools.{true_or_false, differ_same}
-use Rattle.flows.proofs.Least.{Ends, ends_of, grows_keeps}
-use Rattle.flow_rebuild.specs.Excess.{excess}
+use Rattle.flow_rebuild.proofs.Common.{◌≡◌, ℕ, ◌<◌, ◌⊎◌, inl, inr, true, false, List, [], ◌∷◌, ◌++◌, refl, ap, sym, ◌∙◌, arith, ℤ, pos, ◌==◌, if◌then◌else◌, cases_eq, eq-eqb, ne_eqb, or_left, or_right, Graph, IsFlow, NodeSet, IsGraph, only, and_also, crosses, differ, far_end, IsHeaviest, Grows, on, joined_by, true_or_false, differ_same, Ends, ends_of, grows_keeps, excess}
 use Rattle.flow_rebuild.proofs.Changed.{with_at, at_other, Moved, carried, moved_on, other_end, balanced_flow}
 
 -- ---- the last edge apart from the others

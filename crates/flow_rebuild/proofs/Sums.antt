@@ -1,25 +1,7 @@
 -- Sums of absolute values.
-use Rattle.std.proofs.Common.{◌≡◌, ◌*◌, Bool, true, false, cond, ℕ, zero, suc, ◌+◌, ◌<◌, ◌≤◌, ◌^◌, inl, inr, List, [], ◌∷◌, length, get_or, set, take, add-one, refl, ap, sym, ◌∙◌, arith}
-use Rattle.std.specs.Prelude.{ℤ, pos, ◌+ℤ◌, neg_ℤ, nat_abs, FitsSigned}
-use Rattle.std.specs.Int.{w128}
+use Rattle.flow_rebuild.proofs.Common.{◌≡◌, ◌*◌, Bool, true, false, cond, ℕ, zero, suc, ◌+◌, ◌<◌, ◌≤◌, ◌^◌, inl, inr, List, [], ◌∷◌, length, get_or, set, take, add-one, refl, ap, sym, ◌∙◌, arith, ℤ, pos, ◌+ℤ◌, neg_ℤ, nat_abs, FitsSigned, w128, ints, to_z-of_z, fits_signed_from_abs, get_or_read, get_or-set_other, get_or-set_same, length-set, get_or-replicate, get_or_past, length-replicate, cond_both, cases_lt, cases_eq, eq-eqb, ne_eqb, or_parts, All, All-head, All-tail, replicate, ◌==◌, if◌then◌else◌, link_at, graph_of, on, Link, true_or_false, excess_below, int_at, abs_sum, added, passed, carries, edges_in, Join, on_more}
 use mir.Val.{to_z, of_z}
-use Rattle.std.proofs.lemmas.Int.{ints, to_z-of_z, fits_signed_from_abs}
-use Rattle.std.proofs.lemmas.List.{get_or_read, get_or-set_other, get_or-set_same, length-set, get_or-replicate, get_or_past, length-replicate}
-use Rattle.std.proofs.lemmas.Bool.{cond_both, cases_lt, cases_eq, eq-eqb, ne_eqb, or_parts}
-use Rattle.std.specs.List.{All}
-use Rattle.std.proofs.lemmas.List.Elements.{All-head, All-tail}
-use Rattle.std.specs.Prelude.{replicate, ◌==◌, if◌then◌else◌}
 use Rattle.std.proofs.Math.Bool.{or-false}
-use Rattle.flows.specs.Links.{link_at, graph_of}
-use Rattle.flows.specs.Trees.{on}
-use Rattle.flows.specs.declared.Link.{Link}
-use Rattle.flows.proofs.Bools.{true_or_false}
-use Rattle.flow_rebuild.specs.Excess.{excess_below}
-use Rattle.flow_rebuild.specs.Values.{int_at, abs_sum}
-use Rattle.flow_rebuild.specs.Private.{added, passed, carries}
-use Rattle.flow_tree.specs.Tree.{edges_in}
-use Rattle.flow_tree.specs.declared.Join.{Join}
-use Rattle.flow_tree.proofs.Steps.{on_more}
 
 pub small_at : (xs : List ℤ) (i : ℕ) → nat_abs (int_at xs i) ≤ abs_sum xs
 small_at [] i = omega arith

@@ -1,22 +1,5 @@
 -- Growth at the weights 1 and 0 tells a spanning tree.
-use Rattle.std.proofs.Common.{◌≡◌, ℕ, zero, suc, ◌+◌, ◌-◌, ◌<◌, ◌≤◌, ◌⊎◌, inl, inr, Bool, true, false, not, cond, List, [], ◌∷◌, length, refl, ap, ◌∙◌, subst, arith, map}
-use Rattle.std.specs.Prelude.{if◌then◌else◌}
-use Rattle.std.specs.List.{All}
-use Rattle.std.proofs.lemmas.Bool.{cases_lt, eqb-true}
-use Rattle.std.proofs.lemmas.List.{get_or_past, get_or-map, length-map}
-use Rattle.std.proofs.lemmas.List.Elements.{All-cons, All-nil, All-head, All-tail}
-use Rattle.flows.specs.Flows.{Graph, count_below, NodeSet, EdgeSet, rest, weight_in}
-use Rattle.flows.specs.Code.{IsGraph}
-use Rattle.flows.specs.Links.{JoinsNodes, IsLinked, graph_of, marked}
-use Rattle.flows.specs.Trees.{HasEveryEnd, IsWhole, far_end, on, and_also, Grows, only}
-use Rattle.flows.specs.SpanningTrees.{IsSpanningTree}
-use Rattle.flows.specs.declared.Link.{Link}
-use Rattle.flows.proofs.Bools.{true_or_false}
-use Rattle.flows.proofs.Least.{listed_is}
-use Rattle.flows.proofs.Spanning.{tree_if, AllIn, part_count, one_if, tree_only_if, grown_size, same_set, all_count, reached_nodes}
-use Rattle.flows.proofs.Weights.{weight_rest}
-use Rattle.flow_tree.specs.Tree.{edges_in, edges_of, reached_by, IsHeaviestFirst}
-use Rattle.flow_tree.specs.declared.Join.{Join}
+use Rattle.flow_tree.proofs.Common.{◌≡◌, ℕ, zero, suc, ◌+◌, ◌-◌, ◌<◌, ◌≤◌, ◌⊎◌, inl, inr, Bool, true, false, not, cond, List, [], ◌∷◌, length, refl, ap, ◌∙◌, subst, arith, map, if◌then◌else◌, All, cases_lt, eqb-true, get_or_past, get_or-map, length-map, All-cons, All-nil, All-head, All-tail, Graph, count_below, NodeSet, EdgeSet, rest, weight_in, IsGraph, JoinsNodes, IsLinked, graph_of, marked, HasEveryEnd, IsWhole, far_end, on, and_also, Grows, only, IsSpanningTree, Link, true_or_false, listed_is, tree_if, AllIn, part_count, one_if, tree_only_if, grown_size, same_set, all_count, reached_nodes, weight_rest, edges_in, edges_of, reached_by, IsHeaviestFirst, Join}
 use Rattle.flow_tree.specs.declared.Tree.{Tree}
 use Rattle.flow_tree.proofs.Steps.{listed_length, graph_ok}
 

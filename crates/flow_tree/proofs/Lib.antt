@@ -1,3 +1,4 @@
+pub mod Common
 pub mod Heaps
 pub mod RowLemmas
 pub mod Steps

@@ -1,11 +1,5 @@
 -- Rows of edges.
-use Rattle.std.proofs.Common.{◌≡◌, ℕ, ◌+◌, ◌<◌, ◌⊎◌, inl, inr, List, length, ap, sym, ◌∙◌, subst, arith, get_or, set}
-use Rattle.std.specs.List.{Contains}
-use Rattle.std.proofs.lemmas.List.{get_or_read, get_or-set_same, get_or-set_other}
-use Rattle.std.proofs.lemmas.Bool.{cases_eq}
-use Rattle.flows.specs.Links.{link_at}
-use Rattle.flows.specs.declared.Link.{Link}
-use Rattle.flow_tree.specs.Rows.{Row, IsAttached, HasEnds}
+use Rattle.flow_tree.proofs.Common.{◌≡◌, ℕ, ◌+◌, ◌<◌, ◌⊎◌, inl, inr, List, length, ap, sym, ◌∙◌, subst, arith, get_or, set, Contains, get_or_read, get_or-set_same, get_or-set_other, cases_eq, link_at, Link, Row, IsAttached, HasEnds}
 
 -- a row is replaced by one that has all that it had
 pub row_kept : (rows : List Row) (v : ℕ) (old new : Row) → v < length rows → old ≡ get_or rows v old → ((x : ℕ) → Contains old.items x → Contains new.items x) →

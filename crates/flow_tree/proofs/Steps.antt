@@ -1,28 +1,7 @@
 -- One step of the search.
-use Rattle.std.proofs.Common.{◌≡◌, ℕ, ◌+◌, ◌<◌, ◌≤◌, ◌⊎◌, inl, inr, Bool, true, false, not, ◌||◌, List, [], ◌∷◌, ◌++◌, length, refl, ap, sym, ◌∙◌, subst, arith, get_or, set, take}
-use Rattle.std.specs.Prelude.{◌==◌}
-use Rattle.std.specs.List.{All, Contains}
-use Rattle.std.proofs.lemmas.Bool.{cases_eq, cases_lt, eq-eqb, ne_eqb}
-use Rattle.std.specs.Prelude.{replicate}
-use Rattle.std.proofs.lemmas.List.{length-map, get_or-set_same, get_or-set_other, get_or-replicate, get_or_past, length-replicate, take_more}
-use Rattle.std.proofs.lemmas.List.Elements.{All-contains, All-nil, All-cons}
+use Rattle.flow_tree.proofs.Common.{◌≡◌, ℕ, ◌+◌, ◌<◌, ◌≤◌, ◌⊎◌, inl, inr, Bool, true, false, not, ◌||◌, List, [], ◌∷◌, ◌++◌, length, refl, ap, sym, ◌∙◌, subst, arith, get_or, set, take, ◌==◌, All, Contains, cases_eq, cases_lt, eq-eqb, ne_eqb, replicate, length-map, get_or-set_same, get_or-set_other, get_or-replicate, get_or_past, length-replicate, take_more, All-contains, All-nil, All-cons, Graph, IsLeast, NodeSet, rest, Determines, weight_in, IsGraph, link_at, graph_of, marked, IsLinked, on, only, and_also, differ, crosses, far_end, IsHeaviest, Grows, IsWhole, joined_by, IsConnected, IsSpanningTree, Link, differ_same, not_twice, ends_of, least_alike, off_tree_least, off_grown_determines, determines_alike, grown_count, same_set, all_count, connected_spans, spanning_alike, connected_ends, weight_one, Row, HasEnds, IsAttached, candidate, IsReal, IsSearch, edges_in, nodes_in, IsGrown, RisesWith, edges_of, reached_by, Join, Candidate}
 use Rattle.std.proofs.Math.Bool.{or-true, or-false}
-use Rattle.flows.specs.Flows.{Graph, IsLeast, NodeSet, rest, Determines, weight_in}
-use Rattle.flows.specs.Code.{IsGraph}
-use Rattle.flows.specs.Links.{link_at, graph_of, marked, IsLinked}
-use Rattle.flows.specs.Trees.{on, only, and_also, differ, crosses, far_end, IsHeaviest, Grows, IsWhole, joined_by, IsConnected}
-use Rattle.flows.specs.SpanningTrees.{IsSpanningTree}
-use Rattle.flows.specs.declared.Link.{Link}
-use Rattle.flows.proofs.Bools.{differ_same, not_twice}
 use Rattle.flows.proofs.Grown.{listed_weight}
-use Rattle.flows.proofs.Least.{ends_of, least_alike, off_tree_least, off_grown_determines, determines_alike}
-use Rattle.flows.proofs.Spanning.{grown_count, same_set, all_count, connected_spans, spanning_alike, connected_ends}
-use Rattle.flows.proofs.Weights.{weight_one}
-use Rattle.flow_tree.specs.Rows.{Row, HasEnds, IsAttached}
-use Rattle.flow_tree.specs.Search.{candidate, IsReal, IsSearch}
-use Rattle.flow_tree.specs.Tree.{edges_in, nodes_in, IsGrown, RisesWith, edges_of, reached_by}
-use Rattle.flow_tree.specs.declared.Join.{Join}
-use Rattle.flow_tree.specs.declared.growth.Candidate.{Candidate}
 use Rattle.flow_tree.specs.declared.growth.Search.{Search}
 
 -- ---- a mark more

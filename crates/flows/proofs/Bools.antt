@@ -1,7 +1,5 @@
 -- Small facts about tests.
-use Rattle.std.proofs.Common.{◌≡◌, ℕ, Bool, true, false, not, arith}
-use Rattle.std.specs.Prelude.{◌==◌}
-use Rattle.flows.specs.Trees.{differ}
+use Rattle.flows.proofs.Common.{◌≡◌, ℕ, Bool, true, false, not, arith, ◌==◌, differ}
 
 pub true_or_false : (b : Bool) {P : Type 0} → b ≡ true → b ≡ false → P
 true_or_false b p q = absurd (cc)

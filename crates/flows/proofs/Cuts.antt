@@ -1,12 +1,5 @@
 -- Sets of nodes: their nets, and which edges cross.
-use Rattle.std.proofs.Common.{◌≡◌, ℕ, zero, suc, ◌<◌, ◌≤◌, ◌⊎◌, inl, inr, Bool, true, false, not, ◌||◌, ◌&&◌, refl, ap, sym, ◌∙◌, arith}
-use Rattle.std.specs.Prelude.{ℤ, pos, ◌+ℤ◌, nat_abs, ◌==◌}
-use Rattle.std.proofs.lemmas.Int.{ints}
-use Rattle.std.proofs.lemmas.Bool.{cases_Bool, cases_eq, ne_eqb}
-use Rattle.std.proofs.Math.Bool.{and-false, and-true}
-use Rattle.flows.specs.Flows.{Graph, NodeSet}
-use Rattle.flows.specs.Code.{IsGraph}
-use Rattle.flows.specs.Trees.{only, and_also, crosses}
+use Rattle.flows.proofs.Common.{◌≡◌, ℕ, zero, suc, ◌<◌, ◌≤◌, ◌⊎◌, inl, inr, Bool, true, false, not, ◌||◌, ◌&&◌, refl, ap, sym, ◌∙◌, arith, ℤ, pos, ◌+ℤ◌, nat_abs, ◌==◌, ints, cases_Bool, cases_eq, ne_eqb, and-false, and-true, Graph, NodeSet, IsGraph, only, and_also, crosses}
 use Rattle.flows.proofs.Sums.{zero_or_not, total_same, total_zero, total_add}
 use Rattle.flows.proofs.Nets.{part, net, all_but, part_same}
 

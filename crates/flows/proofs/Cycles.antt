@@ -1,14 +1,5 @@
 -- A set determines the counts exactly where the other edges have no cycle.
-use Rattle.std.proofs.Common.{◌≡◌, ℕ, zero, suc, ◌<◌, ◌≤◌, ◌⊎◌, inl, inr, Bool, true, false, not, ◌||◌, ◌&&◌, cond, List, [], ◌∷◌, refl, ap, sym, subst, arith}
-use Rattle.std.specs.Prelude.{ℤ, pos, negsuc, ◌+ℤ◌, ◌==◌, if◌then◌else◌, ◌↔◌}
-use Rattle.std.proofs.lemmas.Int.{ints}
-use Rattle.std.proofs.lemmas.Bool.{cases_Bool, eqb-true, eq-eqb, or_left, and_parts}
-use Rattle.std.proofs.Math.Bool.{and-false}
-use Rattle.flows.specs.Flows.{Graph, NodeSet, EdgeSet, rest, total, one_at, IsFlow, Determines, AgreeOn}
-use Rattle.flows.specs.Code.{IsGraph}
-use Rattle.flows.specs.Walks.{Step, tail, head, takes, IsTrail, HasCycle}
-use Rattle.flows.specs.SpanningTrees.{NoneCrosses}
-use Rattle.flows.specs.Trees.{only, and_also, crosses, far_end, Grows}
+use Rattle.flows.proofs.Common.{◌≡◌, ℕ, zero, suc, ◌<◌, ◌≤◌, ◌⊎◌, inl, inr, Bool, true, false, not, ◌||◌, ◌&&◌, cond, List, [], ◌∷◌, refl, ap, sym, subst, arith, ℤ, pos, negsuc, ◌+ℤ◌, ◌==◌, if◌then◌else◌, ◌↔◌, ints, cases_Bool, eqb-true, eq-eqb, or_left, and_parts, and-false, Graph, NodeSet, EdgeSet, rest, total, one_at, IsFlow, Determines, AgreeOn, IsGraph, Step, tail, head, takes, IsTrail, HasCycle, NoneCrosses, only, and_also, crosses, far_end, Grows}
 use Rattle.flows.proofs.Sums.{total_change, total_one}
 use Rattle.flows.proofs.Nets.{part}
 use Rattle.flows.proofs.Cuts.{Balanced, balanced_all, balanced_out}

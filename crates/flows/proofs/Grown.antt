@@ -1,12 +1,6 @@
 -- A tree that is grown from a set of nodes, each time by an edge that no other crossing edge outweighs.
-use Rattle.std.proofs.Common.{◌≡◌, ℕ, ◌+◌, ◌<◌, ◌≤◌, ◌⊎◌, inl, inr, Bool, true, false, not, cond, List, [], ◌∷◌, ◌∙◌, subst, arith}
-use Rattle.std.specs.Prelude.{ℤ, pos, ◌-ℤ◌, ◌*ℤ◌, nat_abs, ◌==◌}
-use Rattle.std.proofs.lemmas.Int.{ints}
-use Rattle.std.proofs.lemmas.Bool.{cases_eq, cases_lt, ne_eqb, and_left, false_from_ne_true, or_from}
+use Rattle.flows.proofs.Common.{◌≡◌, ℕ, ◌+◌, ◌<◌, ◌≤◌, ◌⊎◌, inl, inr, Bool, true, false, not, cond, List, [], ◌∷◌, ◌∙◌, subst, arith, ℤ, pos, ◌-ℤ◌, ◌*ℤ◌, nat_abs, ◌==◌, ints, cases_eq, cases_lt, ne_eqb, and_left, false_from_ne_true, or_from, Graph, NodeSet, EdgeSet, weight_of, IsGraph, only, and_also, crosses, far_end, Grows, HasEveryEnd}
 use lib.IntN.{*ℤ_comm, *ℤ-zero}
-use Rattle.flows.specs.Flows.{Graph, NodeSet, EdgeSet, weight_of}
-use Rattle.flows.specs.Code.{IsGraph}
-use Rattle.flows.specs.Trees.{only, and_also, crosses, far_end, Grows, HasEveryEnd}
 use Rattle.flows.proofs.Sums.{zero_or_not, factor_zero, total_zero}
 use Rattle.flows.proofs.Nets.{net, net_mix}
 use Rattle.flows.proofs.Cuts.{Balanced, balanced_out, net_and_also, none_crosses, some_or_none}

@@ -1,11 +1,5 @@
 -- The edges off a grown tree are a least set that determines the counts.
-use Rattle.std.proofs.Common.{◌≡◌, ℕ, ◌+◌, ◌<◌, ◌≤◌, ◌⊎◌, inl, inr, Bool, true, false, not, List, [], ◌∷◌, refl, ap, sym, ◌∙◌, arith}
-use Rattle.std.specs.Prelude.{ℤ, pos, ◌+ℤ◌, ◌-ℤ◌, ◌==◌, if◌then◌else◌}
-use Rattle.std.proofs.lemmas.Int.{ints}
-use Rattle.std.proofs.lemmas.Bool.{cases_eq, or_left, or_parts}
-use Rattle.flows.specs.Flows.{Graph, NodeSet, EdgeSet, rest, Determines, IsLeast, weight_of, sum_in, sum_out, one_at}
-use Rattle.flows.specs.Code.{IsGraph}
-use Rattle.flows.specs.Trees.{only, and_also, crosses, far_end, Grows, HasEveryEnd, on}
+use Rattle.flows.proofs.Common.{◌≡◌, ℕ, ◌+◌, ◌<◌, ◌≤◌, ◌⊎◌, inl, inr, Bool, true, false, not, List, [], ◌∷◌, refl, ap, sym, ◌∙◌, arith, ℤ, pos, ◌+ℤ◌, ◌-ℤ◌, ◌==◌, if◌then◌else◌, ints, cases_eq, or_left, or_parts, Graph, NodeSet, EdgeSet, rest, Determines, IsLeast, weight_of, sum_in, sum_out, one_at, IsGraph, only, and_also, crosses, far_end, Grows, HasEveryEnd, on}
 use Rattle.flows.proofs.Bools.{true_or_false, not_twice}
 use Rattle.flows.proofs.Cuts.{Balanced, balanced_all}
 use Rattle.flows.proofs.Grown.{Within, Independent, far_out, listed_weight, heaviest_tree}

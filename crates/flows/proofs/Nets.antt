@@ -1,10 +1,6 @@
 -- What crosses into a set of nodes, and independent sets of edges.
-use Rattle.std.proofs.Common.{◌≡◌, ℕ, Bool, true, false, not, cond, refl, ◌∙◌, arith}
-use Rattle.std.specs.Prelude.{ℤ, pos, ◌+ℤ◌, ◌-ℤ◌, ◌*ℤ◌, neg_ℤ, ◌==◌, if◌then◌else◌}
-use Rattle.std.proofs.lemmas.Int.{ints}
+use Rattle.flows.proofs.Common.{◌≡◌, ℕ, Bool, true, false, not, cond, refl, ◌∙◌, arith, ℤ, pos, ◌+ℤ◌, ◌-ℤ◌, ◌*ℤ◌, neg_ℤ, ◌==◌, if◌then◌else◌, ints, Graph, NodeSet, total, sum_in, sum_out, only}
 use lib.IntN.{*ℤ-zero}
-use Rattle.flows.specs.Flows.{Graph, NodeSet, total, sum_in, sum_out}
-use Rattle.flows.specs.Trees.{only}
 use Rattle.flows.proofs.Sums.{mul_add, total_same, total_sub, total_scale}
 
 -- the part of an edge whose head is in the set where p, and its tail where q

@@ -1,12 +1,5 @@
 -- Spanning trees, and how growth tells them.
-use Rattle.std.proofs.Common.{◌≡◌, ℕ, zero, suc, ◌+◌, ◌<◌, ◌≤◌, ◌⊎◌, inl, inr, Bool, true, not, ◌||◌, ◌&&◌, List, [], ◌∷◌, refl, ap, sym, ◌∙◌, arith}
-use Rattle.std.specs.Prelude.{◌==◌, if◌then◌else◌}
-use Rattle.std.proofs.lemmas.Bool.{cases_Bool, eqb-true, eq-eqb, or_left, or_right, and_parts}
-use Rattle.std.proofs.Math.Bool.{or_comm}
-use Rattle.flows.specs.Flows.{Graph, NodeSet, EdgeSet, rest, Determines, count_below}
-use Rattle.flows.specs.Code.{IsGraph}
-use Rattle.flows.specs.SpanningTrees.{NoneCrosses, JoinsAll, IsSpanningTree}
-use Rattle.flows.specs.Trees.{HasEveryEnd, only, and_also, crosses, far_end, IsWhole, IsHeaviest, Grows, on, IsConnected}
+use Rattle.flows.proofs.Common.{◌≡◌, ℕ, zero, suc, ◌+◌, ◌<◌, ◌≤◌, ◌⊎◌, inl, inr, Bool, true, not, ◌||◌, ◌&&◌, List, [], ◌∷◌, refl, ap, sym, ◌∙◌, arith, ◌==◌, if◌then◌else◌, cases_Bool, eqb-true, eq-eqb, or_left, or_right, and_parts, or_comm, Graph, NodeSet, EdgeSet, rest, Determines, count_below, IsGraph, NoneCrosses, JoinsAll, IsSpanningTree, HasEveryEnd, only, and_also, crosses, far_end, IsWhole, IsHeaviest, Grows, on, IsConnected}
 use Rattle.flows.proofs.Bools.{true_or_false, not_twice, differ_equal}
 use Rattle.flows.proofs.Grown.{far_out, listed_weight}
 use Rattle.flows.proofs.Least.{far_inside, listed_is, no_cycle, determines_if, grows_keeps}

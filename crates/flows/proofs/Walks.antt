@@ -1,9 +1,5 @@
 -- How often a walk takes each edge is a flow.
-use Rattle.std.proofs.Common.{◌≡◌, ℕ, ◌+◌, ◌<◌, List, [], ◌∷◌, ◌++◌, arith}
-use Rattle.std.specs.Prelude.{pos, ◌+ℤ◌, ◌==◌, if◌then◌else◌}
-use Rattle.std.proofs.lemmas.Int.{ints}
-use Rattle.flows.specs.Flows.{Graph, total, one_at, IsFlow, times}
-use Rattle.flows.specs.Walks.{IsWalk}
+use Rattle.flows.proofs.Common.{◌≡◌, ℕ, ◌+◌, ◌<◌, List, [], ◌∷◌, ◌++◌, arith, pos, ◌+ℤ◌, ◌==◌, if◌then◌else◌, ints, Graph, total, one_at, IsFlow, times, IsWalk}
 use Rattle.flows.proofs.Sums.{total_zero, total_change}
 
 pub times-append : (es more : List ℕ) (e : ℕ) → times (es ++ more) e ≡ times es e + times more e

@@ -1,8 +1,5 @@
 -- Weights of sets of edges.
-use Rattle.std.proofs.Common.{◌≡◌, ℕ, zero, suc, ◌+◌, ◌<◌, Bool, true, false, not, ◌||◌, ◌&&◌, refl, ap, sym, ◌∙◌, arith}
-use Rattle.std.specs.Prelude.{◌==◌}
-use Rattle.std.proofs.lemmas.Bool.{ne_eqb}
-use Rattle.flows.specs.Flows.{weight_below}
+use Rattle.flows.proofs.Common.{◌≡◌, ℕ, zero, suc, ◌+◌, ◌<◌, Bool, true, false, not, ◌||◌, ◌&&◌, refl, ap, sym, ◌∙◌, arith, ◌==◌, ne_eqb, weight_below}
 
 pub weight_same : (n : ℕ) (w : ℕ → ℕ) (s r : ℕ → Bool) → ((e : ℕ) → e < n → s e ≡ r e) → weight_below n w s ≡ weight_below n w r
 weight_same zero w s r h = refl

@@ -1,11 +1,6 @@
 -- Small things, and what the notes say of states between two visits.
-use Rattle.image_code.proofs.Common.{◌≡◌, ℕ, ◌+◌, ◌*◌, ◌<◌, ◌≤◌, Bool, true, Option, Some, None, [], length, ap, sym, ◌∙◌, arith, if◌then◌else◌, slice_index, option_map, option_or, eq-eqb, ne_eqb, NoteRange, range_at, Memory, Ending, NoSlot, State, run, StateItem, Register, IsSameAt, IsValid, lived_to, Point, point_of, Node, Stores, Leads, stores_there, page_word, range_in, CanRun, node_at, Codes, YRegister, visit_of, gone, unless_ended}
-use Rattle.two_runs.specs.Visits.{visited}
-use Rattle.code_runs.proofs.Stores.{each-weaker}
+use Rattle.image_code.proofs.Common.{◌≡◌, ℕ, ◌+◌, ◌*◌, ◌<◌, ◌≤◌, Bool, true, Option, Some, None, [], length, ap, sym, ◌∙◌, arith, if◌then◌else◌, slice_index, option_map, option_or, eq-eqb, ne_eqb, NoteRange, range_at, Memory, Ending, NoSlot, State, run, StateItem, Register, IsSameAt, IsValid, lived_to, Point, point_of, Node, Stores, Leads, stores_there, page_word, range_in, CanRun, node_at, Codes, YRegister, visit_of, gone, unless_ended, visited, each-weaker, EditSetup, IsOnWay, IsThere, gone_at, graph_in, number_in, cells_in, HasImages}
 pub use Rattle.layout.proofs.Going.{item_size, piece_size as item_below}
-use Rattle.image_code.specs.Simulates.{EditSetup, IsOnWay, IsThere, gone_at, graph_in, number_in}
-use Rattle.image_code.specs.Store.{cells_in}
-use Rattle.image_code.specs.Images.{HasImages}
 use Rattle.image_code.proofs.Points.{Site}
 use Rattle.image_code.proofs.PointShapes.{visits_it}
 

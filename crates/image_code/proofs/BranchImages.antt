@@ -1,22 +1,12 @@
 -- The images of branches: each way leads into a slot, to a word's image, or out of the text.
-use Rattle.image_code.proofs.Common.{◌≡◌, ℕ, ◌+◌, ◌%◌, ◌^◌, inl, inr, Bool, true, false, not, Option, Some, None, List, [], ◌∷◌, refl, ap, sym, ◌∙◌, arith, if◌then◌else◌, ◌&&◌, ◌||◌, slice_get, slice_index, ◌==◌, ℤ, Words, word_at, Instr, decode_of, holds_of, wrapped, NoSlot, Taken, Untaken, State, act, EdgeKind, always, never, end_at, within, Blocks, blocks_of, end_of, holding_of, last_word, is_fall, is_jump, cases_Bool, cond_both, word_at-some, Edge, Node, home_of, Open, jumps_in, graph_of, has_cases, edge_from, node_after, point_of, same_kind, block, copy, end_is, is_in, X, node_is, branched, branch_step, Way, number_of, way, ways_of, directed, edge_of, is_compared, last_in, target_along, transfer_ends, way_found, Stands, IsOne, always_holds, Exit, OfWord, bare, goes_to, marked}
+use Rattle.image_code.proofs.Common.{◌≡◌, ℕ, ◌+◌, ◌%◌, ◌^◌, inl, inr, Bool, true, false, not, Option, Some, None, List, [], ◌∷◌, refl, ap, sym, ◌∙◌, arith, if◌then◌else◌, ◌&&◌, ◌||◌, slice_get, slice_index, ◌==◌, ℤ, Words, word_at, Instr, decode_of, holds_of, wrapped, NoSlot, Taken, Untaken, State, act, EdgeKind, always, never, end_at, within, Blocks, blocks_of, end_of, holding_of, last_word, is_fall, is_jump, cases_Bool, cond_both, word_at-some, Edge, Node, home_of, Open, jumps_in, graph_of, has_cases, edge_from, node_after, point_of, same_kind, block, copy, end_is, is_in, X, node_is, branched, branch_step, Way, number_of, way, ways_of, directed, edge_of, is_compared, last_in, target_along, transfer_ends, way_found, Stands, IsOne, always_holds, Exit, OfWord, bare, goes_to, marked, target_from, branch_target, transfers, target_in, second_address, first_held, jumps_along, jumps_to, passes, quiet, LeadsIfThere, taken_delayed, untaken_delayed, never_holds, not_always, not_never, taken_is_one, untaken_is_one, at_point, does_at, gone_at, graph_in, enter_number, image_number}
 use Rattle.v8_decode.specs.declared.Instr.TheVariants as i
 use Rattle.cfg_blocks.specs.declared.BlockEnd.TheVariants as ends
 use Rattle.cfg_blocks.specs.declared.EdgeKind.TheVariants as kinds
-use Rattle.v8_step.specs.Transfers.{target_of as target_from}
-use Rattle.cfg_blocks.specs.Ends.{branch_target, is_transfer as transfers, target_in}
 use Rattle.cfg_normal.specs.Graph.{runs_slot}
-use Rattle.cfg_walk.proofs.Addresses.{second_address}
 use Rattle.cfg_walk.proofs.Edges.{IsEdge, leads_along, node_at}
-use Rattle.cfg_walk.proofs.Holding.{first_held}
-use Rattle.cfg_walk.proofs.Points.{jumps_along, jumps_to, passes, quiet}
-use Rattle.cfg_walk.proofs.Slots.{LeadsIfThere}
-use Rattle.cfg_walk.proofs.Transfers.{taken_delayed, untaken_delayed}
-use Rattle.cfg_walk.proofs.Ways.{never_holds, not_always, not_never, taken_is_one, untaken_is_one}
-use Rattle.image_code.specs.Simulates.{at_point, does_at, gone_at, graph_in}
 use Rattle.image_code.proofs.PointShapes.{LeadsNext, IsCase, conditional, unconditional, IsNoJumpsSlot}
 use Rattle.image_code.specs.declared.shape.Head.TheVariants as heads
-use Rattle.image_code.specs.Labels.{enter_number, image_number}
 use Rattle.image_code.specs.Made.{first_word, goes_on, nop_word, visit_of, way_out}
 use Rattle.image_code.proofs.EdgePieces.{along_far, way_at}
 use Rattle.image_code.proofs.Branches.{small}

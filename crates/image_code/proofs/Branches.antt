@@ -1,10 +1,9 @@
 -- Branches, their ways, and the words of their images.
-use Rattle.image_code.proofs.Common.{◌≡◌, ℕ, ◌<◌, Bool, false, Option, Some, refl, sym, arith, pos, slice_index, ℤ, ltb-true, Words, Instr, decode_of, decoded_range, Slot, is_transfer, EdgeKind, within, is_fall, Node, Graph, same_kind, left_by, way_of, nop, branch_or_sethi, OfWord, marked, couple_word}
+use Rattle.image_code.proofs.Common.{◌≡◌, ℕ, ◌<◌, Bool, false, Option, Some, refl, sym, arith, pos, slice_index, ℤ, ltb-true, Words, Instr, decode_of, decoded_range, Slot, is_transfer, EdgeKind, within, is_fall, Node, Graph, same_kind, left_by, way_of, nop, branch_or_sethi, OfWord, marked, couple_word, nop_word, image_by, next_at}
 use Rattle.v8_decode.specs.declared.Instr.TheVariants as i
 use Rattle.cfg_blocks.specs.declared.EdgeKind.TheVariants as kinds
 use Rattle.image_code.specs.declared.shape.Head.TheVariants as heads
 pub use Rattle.cfg_walk.proofs.Points.{within_some}
-use Rattle.image_code.specs.Made.{nop_word, image_by, next_at}
 
 -- ---- words
 

@@ -1,10 +1,7 @@
 -- The link of a CALL, and then the way.
-use Rattle.image_code.proofs.Common.{words_mean, ◌≡◌, ℕ, ◌^◌, ◌<◌, List, length, refl, ap, ◌∙◌, subst, arith, ℤ, word_at, Instr, code_of, Slot, NoSlot, State, target_of, unless_couple, act, on_word, is_transfer, Point, point_of, node_after, Leads, leads_weaker, stores_none, words_of, link, past, IsPageWord, with_register, call_step, delayed, IsBetween}
+use Rattle.image_code.proofs.Common.{words_mean, ◌≡◌, ℕ, ◌^◌, ◌<◌, List, length, refl, ap, ◌∙◌, subst, arith, ℤ, word_at, Instr, code_of, Slot, NoSlot, State, target_of, unless_couple, act, on_word, is_transfer, Point, point_of, node_after, Leads, leads_weaker, stores_none, words_of, link, past, IsPageWord, with_register, call_step, delayed, IsBetween, IsAboutToCall, link_fits, at_point, does_at, gone_at, graph_in}
 use Rattle.v8_decode.specs.declared.Instr.TheVariants as i
-use Rattle.jump_code.specs.Links.{IsAboutToCall}
-use Rattle.jump_code.proofs.Fitting.{link_fits}
 use Rattle.jump_code.proofs.Linking.{calls_act, calls_store}
-use Rattle.image_code.specs.Simulates.{at_point, does_at, gone_at, graph_in}
 use Rattle.image_code.proofs.Points.{ReachesNext, StepsFrom, entered_at, Visit}
 use Rattle.image_code.proofs.PointShapes.{LeadsTo, IsNoJumpsSlot, IsCall}
 use Rattle.image_code.proofs.Dead.{LastDead, gone_last}

@@ -1,10 +1,5 @@
 -- The pieces of the entries of tables, and their numbers, as they are added.
-use Rattle.image_code.proofs.Common.{refl, slice_get-get_or, slice_get-map, Some, flat_map-append, flat_map, slice_get, Item, ◌≡◌, ℕ, ◌+◌, ◌<◌, ◌==◌, List, [], ◌∷◌, ◌++◌, Option, length, length-take, map, take, ap, ◌∙◌, arith, append_assoc, slice_index_or, position, option_or, append-nil, length-map, map-append, take_more, Words, PieceNo, Open, Graph, ◌≤◌}
-use Rattle.std.proofs.lemmas.List.{take_all}
-use Rattle.eel_base.specs.declared.numbers.WordNo.{WordNo}
-use Rattle.image_code.specs.Lookups.{number_where, open_begin}
-use Rattle.std.specs.List.{enumerate_from}
-use Rattle.image_code.specs.Labels.{Case, Label, case_piece, cases_of, entry_label, first_entry, or_zero, place_in}
+use Rattle.image_code.proofs.Common.{refl, slice_get-get_or, slice_get-map, Some, flat_map-append, flat_map, slice_get, Item, ◌≡◌, ℕ, ◌+◌, ◌<◌, ◌==◌, List, [], ◌∷◌, ◌++◌, Option, length, length-take, map, take, ap, ◌∙◌, arith, append_assoc, slice_index_or, position, option_or, append-nil, length-map, map-append, take_more, Words, PieceNo, Open, Graph, ◌≤◌, take_all, WordNo, number_where, open_begin, enumerate_from, Case, Label, case_piece, cases_of, entry_label, first_entry, or_zero, place_in}
 use Rattle.image_code.proofs.FirstPlaces.{position_more}
 use Rattle.image_code.proofs.Listed.{case_stands, number_is}
 use Rattle.image_code.proofs.OpenBlocks.{IsTextGraph}

@@ -1,12 +1,8 @@
 -- What the code knows of the open switches is true of the text.
-use Rattle.image_code.proofs.Common.{◌≡◌, ℕ, Some, List, map, ap, sym, ◌∙◌, subst, arith, nat_lt, slice_get, option_map, and_parts, slice_get-map, IsText, operands_in_range, decoded_range, blocks_of, Open, slice_index, mapped}
+use Rattle.image_code.proofs.Common.{◌≡◌, ℕ, Some, List, map, ap, sym, ◌∙◌, subst, arith, nat_lt, slice_get, option_map, and_parts, slice_get-map, IsText, operands_in_range, decoded_range, blocks_of, Open, slice_index, mapped, IsGraphOf, case_table, AreCaseTables, IsCaseTable, first_operand, load_of, second_operand, CaseTable, EditSetup, graph_in}
 use Rattle.v8_decode.specs.declared.Instr.TheVariants as i
 use Rattle.v8_decode.specs.declared.LoadKind.TheVariants as loads
 use Rattle.cfg_blocks.specs.Values.{instr_at}
-use Rattle.image_code.specs.Graphs.{IsGraphOf, case_table}
-use Rattle.image_code.specs.Keeping.{AreCaseTables, IsCaseTable}
-use Rattle.image_code.specs.Loads.{first_operand, load_of, second_operand}
-use Rattle.image_code.specs.Simulates.{CaseTable, EditSetup, graph_in}
 use Rattle.image_code.proofs.Opened.{AreCased, load_is}
 use Rattle.image_code.proofs.Operands.{load_fits}
 

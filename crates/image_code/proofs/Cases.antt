@@ -1,11 +1,8 @@
 -- A word in its Mark at the head of a piece, and the images of plain words: they are one step each.
-use Rattle.image_code.proofs.Common.{◌≡◌, ◌≢◌, ℕ, ◌+◌, Bool, Option, Some, None, List, [], ◌∷◌, refl, ap, sym, subst, ◌∙◌, arith, range_at, Instr, decode_of, code_of, AllApart, Ending, State, act, step_of, on_word, puts_on_word, run_puts, judged_by, in_pages, pages_of, live_puts, goes_act, Point, point_of, node_after, count_stores, moved, hopped, step_is, no_stores, leads_one, page_word, Notes, outside_refl, Exit}
+use Rattle.image_code.proofs.Common.{◌≡◌, ◌≢◌, ℕ, ◌+◌, Bool, Option, Some, None, List, [], ◌∷◌, refl, ap, sym, subst, ◌∙◌, arith, range_at, Instr, decode_of, code_of, AllApart, Ending, State, act, step_of, on_word, puts_on_word, run_puts, judged_by, in_pages, pages_of, live_puts, goes_act, Point, point_of, node_after, count_stores, moved, hopped, step_is, no_stores, leads_one, page_word, Notes, outside_refl, Exit, Says, count_one, ends_stores, IsWatched, in_first_word, is_spill}
 use Rattle.two_runs.proofs.JudgedAlike.{judged_alike}
-use Rattle.code_runs.specs.Straight.{Says}
-use Rattle.code_runs.proofs.Counted.{count_one, ends_stores}
 use Rattle.code_runs.proofs.Points.{acts_anywhere}
 use Rattle.image_code.specs.Simulates.{at_point, does_at, gone_at, graph_in, word_of, edit_in}
-use Rattle.image_code.specs.Cost.{IsWatched, in_first_word, is_spill}
 use Rattle.image_code.proofs.Points.{ReachesNext, StepsFrom, entered_at, Visit}
 use Rattle.image_code.proofs.PointShapes.{next_entry, IsMarkedWord, IsPlain, word_ahead}
 use Rattle.image_code.proofs.Ended.{stops_act}

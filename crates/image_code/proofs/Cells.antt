@@ -1,11 +1,5 @@
 -- The cells in memory: what leaves them as they are, and what the snippets of some edges make of them.
-use Rattle.image_code.proofs.Common.{◌≡◌, ℕ, ◌+◌, ◌^◌, ◌<◌, ◌≤◌, ◌⊎◌, inl, inr, true, List, [], ◌∷◌, ◌++◌, length, refl, ap, sym, ◌∙◌, subst, arith, length-map-range_with_len, Instr, Memory, AllApart, State, register_of, act, judged_by, pages_of, IsFirstWord, IsAmongWords, page_word, Stores, store_word, memory_word, stores_there, words_stay, Op, words_at, IsPageWord, get_or-map-range_with_len, AllAt, CanStore, store_all, other_word_stored, cell_at}
-use Rattle.std.proofs.Math.Seq.{ext_get_or}
-use Rattle.code_runs.specs.Ours.{IsOurs}
-use Rattle.code_runs.proofs.StoredWords.{still_stored}
-use Rattle.snippets.specs.Cells.{update}
-use Rattle.snippet_code.specs.Runs.{MayStore}
-use Rattle.image_code.specs.Store.{cells_in, operations_on, snippet_on, updates}
+use Rattle.image_code.proofs.Common.{◌≡◌, ℕ, ◌+◌, ◌^◌, ◌<◌, ◌≤◌, ◌⊎◌, inl, inr, true, List, [], ◌∷◌, ◌++◌, length, refl, ap, sym, ◌∙◌, subst, arith, length-map-range_with_len, Instr, Memory, AllApart, State, register_of, act, judged_by, pages_of, IsFirstWord, IsAmongWords, page_word, Stores, store_word, memory_word, stores_there, words_stay, Op, words_at, IsPageWord, get_or-map-range_with_len, AllAt, CanStore, store_all, other_word_stored, cell_at, ext_get_or, IsOurs, still_stored, update, MayStore, cells_in, operations_on, snippet_on, updates}
 use Rattle.image_code.proofs.Points.{Site}
 use Rattle.image_code.proofs.Between.{stores_weaker}
 

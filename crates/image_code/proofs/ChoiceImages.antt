@@ -1,19 +1,12 @@
 -- The image of an open switch's jump, at the jump's block itself: the Case edge that it chooses leads to the slot.
-use Rattle.image_code.proofs.Common.{flat_map, ◌≡◌, ◌≢◌, ℕ, zero, suc, ◌+◌, ◌*◌, ◌%◌, ◌^◌, ◌<◌, Bool, true, Some, None, List, [], ◌∷◌, length, take, refl, ap, sym, ◌∙◌, arith, ◌==◌, if◌then◌else◌, slice_get, slice_index, sum_by, and_parts, eq-eqb, lt-ltb, ltb-true, length-map, sum_by-cons, slice_get-map, slice_get_within, Words, word_at, Op2, operands_in_range, decode_of, decoded_range, nat_lt, NoSlot, Taken, State, Blocks, blocks_of, last_word, ends_block_after, word_at-some, home_of, Open, jumps_in, Graph, has_cases, node_of, point_of, same_kind, next_word, block, end_is, node_is, table_word, choice_at, saved_address, IsTarget, transfer_ends, jump_delayed, IsCaseBlock}
+use Rattle.image_code.proofs.Common.{flat_map, ◌≡◌, ◌≢◌, ℕ, zero, suc, ◌+◌, ◌*◌, ◌%◌, ◌^◌, ◌<◌, Bool, true, Some, None, List, [], ◌∷◌, length, take, refl, ap, sym, ◌∙◌, arith, ◌==◌, if◌then◌else◌, slice_get, slice_index, sum_by, and_parts, eq-eqb, lt-ltb, ltb-true, length-map, sum_by-cons, slice_get-map, slice_get_within, Words, word_at, Op2, operands_in_range, decode_of, decoded_range, nat_lt, NoSlot, Taken, State, Blocks, blocks_of, last_word, ends_block_after, word_at-some, home_of, Open, jumps_in, Graph, has_cases, node_of, point_of, same_kind, next_word, block, end_is, node_is, table_word, choice_at, saved_address, IsTarget, transfer_ends, jump_delayed, IsCaseBlock, in_targets, case_table, slot_piece, distance_of, or_zero, case_numbers, case_piece, cases_of, first_entry, jump_number, CaseTable, Chooses, IsChosen, does_at, gone_at, graph_in, block_of}
 use Rattle.v8_decode.specs.declared.Instr.TheVariants as i
 use Rattle.cfg_blocks.specs.declared.EdgeKind.TheVariants as kinds
-use Rattle.switch_runs.proofs.About.{in_targets}
 use Rattle.switch_runs.proofs.CaseBlocks.{some_of}
 use Rattle.image_code.proofs.PointShapes.{IsSwitchJump}
 use Rattle.image_code.specs.declared.shape.Exit.TheVariants as exits
 use Rattle.image_code.specs.declared.shape.Head.TheVariants as heads
-use Rattle.image_code.specs.Graphs.{case_table}
-use Rattle.image_code.specs.Images.{slot_piece}
-use Rattle.image_code.specs.Made.{distance_of}
-use Rattle.image_code.specs.Labels.{or_zero, case_numbers, case_piece, cases_of, first_entry, jump_number}
-use Rattle.image_code.specs.Simulates.{CaseTable, Chooses, IsChosen, does_at, gone_at, graph_in}
 use Rattle.image_code.proofs.CaseTables.{known_at}
-use Rattle.image_code.specs.Lookups.{block_of}
 use Rattle.image_code.proofs.IntoSlots.{before, stands}
 use Rattle.image_code.proofs.JumpImages.{jump_goes}
 use Rattle.image_code.proofs.Positions.{any_at, contains, get_first, get_past}

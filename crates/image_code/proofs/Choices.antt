@@ -1,10 +1,6 @@
 -- The words of an open switch's JMPL lead to the piece of a Case edge.
-use Rattle.image_code.proofs.Common.{◌≡◌, ℕ, ◌+◌, ◌%◌, ◌^◌, ◌<◌, ◌≤◌, false, Some, None, List, [], ◌∷◌, ◌++◌, length, refl, ap, sym, ◌∙◌, arith, ◌/◌, slice_index, length-append, Instr, wrapped, code_of, State, is_transfer, instr_at, node_after, point_of, hopped, table_word, memory_word, leads_weaker, link, Fit, words_mean, choice_at, switch_jump, words_of, HasWordAt, loads_there, jumped}
-use Rattle.jump_code.proofs.Fitting.{link_fits, lt}
-use Rattle.jump_code.specs.Choosing.{ComesToCase, IsAboutToChoose, choose, chosen}
+use Rattle.image_code.proofs.Common.{◌≡◌, ℕ, ◌+◌, ◌%◌, ◌^◌, ◌<◌, ◌≤◌, false, Some, None, List, [], ◌∷◌, ◌++◌, length, refl, ap, sym, ◌∙◌, arith, ◌/◌, slice_index, length-append, Instr, wrapped, code_of, State, is_transfer, instr_at, node_after, point_of, hopped, table_word, memory_word, leads_weaker, link, Fit, words_mean, choice_at, switch_jump, words_of, HasWordAt, loads_there, jumped, link_fits, lt, ComesToCase, IsAboutToChoose, choose, chosen, does_at, graph_in, is_jmpl}
 use Rattle.jump_code.proofs.Choosing.{choices_simulate}
-use Rattle.image_code.specs.Simulates.{does_at, graph_in}
-use Rattle.image_code.specs.Cost.{is_jmpl}
 use Rattle.image_code.proofs.Points.{ReachesNext, StepsFrom, entered_at, Visit}
 use Rattle.image_code.proofs.PointShapes.{IsSwitchJump}
 use Rattle.image_code.proofs.Cells.{page_there}

@@ -1,23 +1,13 @@
 -- The words of snippets do what they should.
-use Rattle.image_code.proofs.Common.{◌≡◌, ℕ, ◌+◌, ◌*◌, ◌%◌, ◌<◌, ◌≤◌, List, [], ◌∷◌, ◌++◌, length, append-nil, append_assoc, Result, Ok, Err, Some, slice_get, refl, ap, sym, ◌∙◌, subst, arith, inl, inr, cases_lt, length-map, word_of, Op, take-append_seam, nil_from_length, slice_get-get_or}
-use Rattle.std.specs.Result.{IfOk}
+use Rattle.image_code.proofs.Common.{◌≡◌, ℕ, ◌+◌, ◌*◌, ◌%◌, ◌<◌, ◌≤◌, List, [], ◌∷◌, ◌++◌, length, append-nil, append_assoc, Result, Ok, Err, Some, slice_get, refl, ap, sym, ◌∙◌, subst, arith, inl, inr, cases_lt, length-map, word_of, Op, take-append_seam, nil_from_length, slice_get-get_or, IfOk, drop-append_seam, slice_get_past, named_by, DoesJust, spills_of, snippet_on, CodeDoes, code_at, words_in, codes_of}
 use Rattle.std.proofs.Math.ListN.{get_or-eq_default}
-use Rattle.std.proofs.Math.Seq.{drop-append_seam}
-use Rattle.std.proofs.lemmas.Option.{slice_get_past}
 use Rattle.v8_decode.specs.declared.Part.{Part}
-use Rattle.snippets.specs.Cells.{named_by}
 use Rattle.snippet_code.specs.Laws.{CanExpand}
-use Rattle.snippet_code.specs.Runs.{DoesJust}
 use Rattle.snippet_code.specs.Words.{snippet_words}
-use Rattle.snippet_code.specs.Spills.{spills_of}
 use Rattle.snippet_code.proofs.Lengths.{costs_hold}
 use Rattle.snippet_code.proofs.WholeCode.{snippet_code_runs}
-use Rattle.image_code.specs.Store.{snippet_on}
-use Rattle.image_code.specs.Codes.{CodeDoes}
-use Rattle.image_code.specs.Private.{code_at, words_in}
 use Rattle.image_code.specs.declared.expansion.CodeSpan.{CodeSpan}
 use Rattle.image_code.specs.declared.expansion.Codes.{Codes}
-use Rattle.image_code.specs.SnippetWords.{codes_of}
 use Rattle.image_code.proofs.Positions.{get_first, get_past}
 
 pub if_both : {A E : Type 0} (P Q R : A → Type 0) (r : Result A E) → ((a : A) → P a → Q a → R a) → IfOk r P → IfOk r Q

@@ -1,10 +1,6 @@
 -- The image of a branch is one step, whatever its annul bit.
-use Rattle.image_code.proofs.Common.{◌≡◌, ℕ, ◌+◌, ◌*◌, ◌^◌, ◌<◌, ◌≤◌, inl, inr, Bool, true, false, Option, Some, List, length, ap, sym, refl, arith, if◌then◌else◌, slice_index, holds_of, wrapped, State, is_transfer, Stores, hopped, leads_weaker, IsFirstWord, IsPageWord, Item, item_at, item_in, CanRun}
+use Rattle.image_code.proofs.Common.{◌≡◌, ℕ, ◌+◌, ◌*◌, ◌^◌, ◌<◌, ◌≤◌, inl, inr, Bool, true, false, Option, Some, List, length, ap, sym, refl, arith, if◌then◌else◌, slice_index, holds_of, wrapped, State, is_transfer, Stores, hopped, leads_weaker, IsFirstWord, IsPageWord, Item, item_at, item_in, CanRun, Goes, branches_hop, does_at, gone_at, in_first_word, is_spill}
 use Rattle.layout.specs.declared.items.Item.TheVariants as it
-use Rattle.layout.specs.Running.{Goes}
-use Rattle.layout.proofs.Going.{branches_hop}
-use Rattle.image_code.specs.Simulates.{does_at, gone_at}
-use Rattle.image_code.specs.Cost.{in_first_word, is_spill}
 use Rattle.image_code.proofs.Points.{ReachesNext, Forms, StepsFrom, Visit}
 use Rattle.image_code.proofs.PointShapes.{LeadsTo, next_entry, word_ahead, IsConditionalBranch}
 use Rattle.image_code.proofs.Marked.{at_first, closes, lies, on_mark}

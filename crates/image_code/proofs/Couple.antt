@@ -1,11 +1,6 @@
 -- A transfer in the slot of another one.
-use Rattle.image_code.proofs.Common.{None, ◌≡◌, ◌≢◌, ℕ, ◌+◌, Bool, true, false, Some, [], ◌∷◌, ◌++◌, refl, ap, sym, ◌∙◌, subst, arith, Instr, decode_of, code_of, fetch_from, Slot, NoSlot, Taken, State, target_of, unless_couple, act, step_of, on_word, run, run_puts, is_transfer, live_puts, count_stores, step_is, no_stores, none_then, stores_none, IsPageWord, pos, puts_of, always_holds, couple_word}
+use Rattle.image_code.proofs.Common.{None, ◌≡◌, ◌≢◌, ℕ, ◌+◌, Bool, true, false, Some, [], ◌∷◌, ◌++◌, refl, ap, sym, ◌∙◌, subst, arith, Instr, decode_of, code_of, fetch_from, Slot, NoSlot, Taken, State, target_of, unless_couple, act, step_of, on_word, run, run_puts, is_transfer, live_puts, count_stores, step_is, no_stores, none_then, stores_none, IsPageWord, pos, puts_of, always_holds, couple_word, Couple, ended, quiet_transfer, taken_acts, IsOnWay, at_point, does_at, gone_at}
 use Rattle.v8_decode.specs.declared.Instr.TheVariants as i
-use Rattle.v8_step.specs.declared.Ending.TheVariants.{Couple}
-use Rattle.v8_step.specs.Transfers.{ended}
-use Rattle.code_runs.proofs.PointsAlike.{no_puts as quiet_transfer}
-use Rattle.layout.proofs.Going.{taken_acts}
-use Rattle.image_code.specs.Simulates.{IsOnWay, at_point, does_at, gone_at}
 use Rattle.image_code.proofs.Points.{ReachesNext, StepsFrom, Visit}
 use Rattle.image_code.proofs.PointShapes.{IsCouple}
 use Rattle.image_code.proofs.Memories.{fetch_is}

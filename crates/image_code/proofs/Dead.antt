@@ -1,13 +1,9 @@
 -- What is dead on a way along some edges: only behind the snippet of the last of them, so that no snippet reads a
 -- register in which an earlier one left anything else.
-use Rattle.image_code.proofs.Common.{get_or, ◌≡◌, ℕ, ◌⊎◌, inl, inr, Bool, ◌&&◌, Option, Some, None, List, [], ◌∷◌, ◌++◌, length, refl, ap, sym, ◌∙◌, subst, if◌then◌else◌, ◌-◌, slice_index, position, option_to_list, and_parts, cond_both, position-Some, slice_get-get_or, word_at, Instr, decode_of, Memory, IsSameOutside, Ending, Slot, NoSlot, Taken, Untaken, State, pages_of, StateItem, Register, IsSameAt, append-nil, EdgeKind, Edge, has_cases, lands, Node, X, Point, WayOut, instr_at, left_by, point_of, slot_left, way_of, same_kind, same_node, hopped, gone, landed, leads_along, unless_ended}
+use Rattle.image_code.proofs.Common.{get_or, ◌≡◌, ℕ, ◌⊎◌, inl, inr, Bool, ◌&&◌, Option, Some, None, List, [], ◌∷◌, ◌++◌, length, refl, ap, sym, ◌∙◌, subst, if◌then◌else◌, ◌-◌, slice_index, position, option_to_list, and_parts, cond_both, position-Some, slice_get-get_or, word_at, Instr, decode_of, Memory, IsSameOutside, Ending, Slot, NoSlot, Taken, Untaken, State, pages_of, StateItem, Register, IsSameAt, append-nil, EdgeKind, Edge, has_cases, lands, Node, X, Point, WayOut, instr_at, left_by, point_of, slot_left, way_of, same_kind, same_node, hopped, gone, landed, leads_along, unless_ended, IsItem, completed, left_along, left_at, IsFollowedBy, IsKept, EditSetup, gone_at, graph_in, is_out}
 use Rattle.v8_decode.specs.declared.Instr.TheVariants as i
 use Rattle.cfg_blocks.specs.declared.EdgeKind.TheVariants as kinds
 use Rattle.cfg_normal.specs.declared.Slot.TheVariants.{Nothing}
-use Rattle.v8_step.specs.Items.{IsItem}
-use Rattle.cfg_walk.specs.Walk.{completed, left_along, left_at}
-use Rattle.image_code.specs.Simulates.{IsFollowedBy, IsKept, EditSetup, gone_at, graph_in}
-use Rattle.image_code.specs.Cost.{is_out}
 use Rattle.image_code.proofs.Points.{Site}
 use Rattle.image_code.proofs.Between.{same_at}
 

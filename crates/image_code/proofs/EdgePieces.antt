@@ -1,13 +1,8 @@
 -- The edges of a text's graph, and the pieces of the ways along them.
-use Rattle.image_code.proofs.Common.{Option, false, ◌≡◌, ℕ, ◌+◌, ◌*◌, ◌%◌, ◌^◌, ◌<◌, Bool, true, Some, [], ◌∷◌, length, ap, sym, ◌∙◌, arith, ◌&&◌, slice_get, w32, position, and_parts, position-Some, get_or_from_slice_get, Words, address_of, IsText, Instr, EdgeKind, Blocks, blocks_of, is_fall, Edge, Node, Open, edges_in, lands, WayOut, edge_along, same_kind, same_node, IsCut, cut, block, same_nodes, same_kinds, Carried, IsSlotIn, leads_along, target_along}
+use Rattle.image_code.proofs.Common.{Option, false, ◌≡◌, ℕ, ◌+◌, ◌*◌, ◌%◌, ◌^◌, ◌<◌, Bool, true, Some, [], ◌∷◌, length, ap, sym, ◌∙◌, arith, ◌&&◌, slice_get, w32, position, and_parts, position-Some, get_or_from_slice_get, Words, address_of, IsText, Instr, EdgeKind, Blocks, blocks_of, is_fall, Edge, Node, Open, edges_in, lands, WayOut, edge_along, same_kind, same_node, IsCut, cut, block, same_nodes, same_kinds, Carried, IsSlotIn, leads_along, target_along, cast_unsigned, number_of_list, edge_lies_in, EditSetup, graph_in, first_word, shape_list, way_along, way_by, way_shape}
 use Rattle.v8_decode.specs.declared.Instr.TheVariants as i
 use Rattle.cfg_blocks.specs.declared.EdgeKind.TheVariants as kinds
-use Rattle.std.specs.Int.{cast_unsigned}
-use Rattle.cfg_walk.proofs.Edges.{number_of_list}
-use Rattle.cfg_walk.proofs.NoneOpen.{edge_lies_in}
-use Rattle.image_code.specs.Simulates.{EditSetup, graph_in}
 use Rattle.image_code.proofs.PointShapes.{IsJumpTarget}
-use Rattle.image_code.specs.Made.{first_word, shape_list, way_along, way_by, way_shape}
 use Rattle.image_code.specs.Labels.{Case, Way, case_piece, way_piece}
 use Rattle.image_code.proofs.CaseTables.{IsKnown}
 use Rattle.image_code.proofs.Branches.{IsTransfersWay}

@@ -1,9 +1,7 @@
 -- The tables of first edges say which edges there are.
-use Rattle.image_code.proofs.Common.{◌≡◌, ℕ, ◌<◌, Bool, false, ◌&&◌, ◌==◌, List, [], ◌∷◌, Option, Some, length, refl, ap, ◌∙◌, arith, inl, inr, cases_Bool, if◌then◌else◌, list_any, position, option_to_list, nat_tests, BlockNo, EdgeKind, Edge, Node, Block, Landed, X, Graph, IsEdgeIn, IsNodeIn, same_kind, same_node, node_number, edge_along, edge_from, landing_at, same_kinds, is_some, and-false, IsGraph}
+use Rattle.image_code.proofs.Common.{◌≡◌, ℕ, ◌<◌, Bool, false, ◌&&◌, ◌==◌, List, [], ◌∷◌, Option, Some, length, refl, ap, ◌∙◌, arith, inl, inr, cases_Bool, if◌then◌else◌, list_any, position, option_to_list, nat_tests, BlockNo, EdgeKind, Edge, Node, Block, Landed, X, Graph, IsEdgeIn, IsNodeIn, same_kind, same_node, node_number, edge_along, edge_from, landing_at, same_kinds, is_some, and-false, IsGraph, kind_number, AreFirstEdges, is_case, is_edge_at, is_land, mark_at, mark_of, node_of_edge}
 use Rattle.cfg_blocks.specs.declared.EdgeKind.TheVariants as kinds
 use Rattle.cfg_normal.specs.Landings.{IsNumbered}
-use Rattle.cfg_normal.specs.Numbers.{kind_number}
-use Rattle.image_code.specs.Lookups.{AreFirstEdges, is_case, is_edge_at, is_land, mark_at, mark_of, node_of_edge}
 use Rattle.image_code.proofs.FirstPlaces.{mark_same, position-cons, position-same}
 
 -- ---- numbers by which nodes and kinds are told apart

@@ -1,14 +1,10 @@
 -- From a visit to where control enters the next one: what runs at the visit itself, and the way behind it; or up to the
 -- end of the run.
-use Rattle.image_code.proofs.Common.{◌≡◌, ◌≢◌, ℕ, suc, ◌+◌, ◌-◌, ◌<◌, ◌≤◌, true, false, Option, Some, None, List, [], ◌++◌, append-nil, refl, ap, sym, ◌∙◌, subst, arith, ◌%◌, word_at, Instr, decode_of, Memory, IsSameOutside, Ending, NoSlot, Taken, State, register_of, puts_on_word, run, run_puts, is_transfer, IsValid, run-valid, pages_of, instr_at, node_after, point_of, way_of, lived_to, same_kind, count_stores, hopped, Leads, IsAmongWords, page_word, Stores, memory_word, count_add, none_then, leads_weaker, found_in, IsPageWord, saved_address, IsSilent, stores_then, leads_then, puts_add, outside_refl}
+use Rattle.image_code.proofs.Common.{◌≡◌, ◌≢◌, ℕ, suc, ◌+◌, ◌-◌, ◌<◌, ◌≤◌, true, false, Option, Some, None, List, [], ◌++◌, append-nil, refl, ap, sym, ◌∙◌, subst, arith, ◌%◌, word_at, Instr, decode_of, Memory, IsSameOutside, Ending, NoSlot, Taken, State, register_of, puts_on_word, run, run_puts, is_transfer, IsValid, run-valid, pages_of, instr_at, node_after, point_of, way_of, lived_to, same_kind, count_stores, hopped, Leads, IsAmongWords, page_word, Stores, memory_word, count_add, none_then, leads_weaker, found_in, IsPageWord, saved_address, IsSilent, stores_then, leads_then, puts_add, outside_refl, quiet_transfer, IsWatched, NoneIsOut, in_first_word, is_jmpl, is_spill, is_transfer_at, cells_in, updates, HasImages, HasNoCases}
 use Rattle.v8_decode.specs.declared.Instr.TheVariants as i
 use Rattle.cfg_blocks.specs.declared.EdgeKind.TheVariants as kinds
-use Rattle.code_runs.proofs.PointsAlike.{no_puts as quiet_transfer}
 use Rattle.image_code.specs.Simulates.{IsFollowedBy, IsKept, IsOnWay, IsThere, at_point, gone_at, graph_in, word_of, edit_in}
-use Rattle.image_code.specs.Cost.{IsWatched, NoneIsOut, in_first_word, is_jmpl, is_spill, is_transfer_at}
-use Rattle.image_code.specs.Store.{cells_in, updates}
 use Rattle.image_code.proofs.Points.{ReachesNext, Forms, entered_at, Visit}
-use Rattle.image_code.specs.Images.{HasImages, HasNoCases}
 use Rattle.image_code.proofs.Routes.{FollowsRoute, bare_on}
 use Rattle.image_code.proofs.Between.{IsFit, ended_none, fits, quiet_of}
 use Rattle.image_code.proofs.Cells.{cells_above, own_stored, page_above, updates_same}

@@ -1,6 +1,5 @@
 -- Where an item first stands in a list, and the tables that say so.
-use Rattle.image_code.proofs.Common.{◌≡◌, ℕ, suc, ◌+◌, ◌<◌, Bool, ◌==◌, cond, List, [], ◌∷◌, ◌++◌, Option, Some, length, length-take, take, refl, ap, sym, ◌∙◌, arith, slice_index, slice_index_or, position, option_map, option_or, nat_tests, take_more, All}
-use Rattle.image_code.specs.Lookups.{AreFirst, first_mark, mark_of, number_where}
+use Rattle.image_code.proofs.Common.{◌≡◌, ℕ, suc, ◌+◌, ◌<◌, Bool, ◌==◌, cond, List, [], ◌∷◌, ◌++◌, Option, Some, length, length-take, take, refl, ap, sym, ◌∙◌, arith, slice_index, slice_index_or, position, option_map, option_or, nat_tests, take_more, All, AreFirst, first_mark, mark_of, number_where}
 
 -- ---- positions
 

@@ -1,22 +1,14 @@
 -- What holds of each piece that is made, and so of all.
-use Rattle.image_code.proofs.Common.{subst, range_with_len, map-append, ◌≡◌, sym, ◌∙◌, ℕ, zero, suc, ◌+◌, ◌-◌, ◌*◌, ◌<◌, ◌≤◌, Bool, true, false, ◌==◌, Option, Some, None, List, [], ◌∷◌, ◌++◌, append-nil, length, length-map, map, get_or, length-append, refl, ap, arith, if◌then◌else◌, nat_lt, slice_get, slice_get-map, slice_index, flat_map, option_map, position, sum_by, option_to_list, cond_both, eq-eqb, false≢true, ltb-true, sum_by-append, sum_by-cons, position-Some, slice_get-get_or, Words, word_at, IsText, Addr, Op2, Instr, decode_of, is_transfer, EdgeKind, always, never, below, holding_of, last_word, size_of, length-below, is_fall, Edge, Node, Block, X, same_kind, same_node, Open, jumps_in, Graph, lands, IsEdgeIn, IsNodeIn, ends_block, landing_at, left_by, block, copy, in_held, some_words, straight_left, Each, each_at, each-append, each-below, Item, item_at, item_in, Op, fold-map, is_copied, LeadsBelow, piece_words, Exit, Head, OfWord, Shape, assembled, head_items, items_of, marked}
+use Rattle.image_code.proofs.Common.{subst, range_with_len, map-append, ◌≡◌, sym, ◌∙◌, ℕ, zero, suc, ◌+◌, ◌-◌, ◌*◌, ◌<◌, ◌≤◌, Bool, true, false, ◌==◌, Option, Some, None, List, [], ◌∷◌, ◌++◌, append-nil, length, length-map, map, get_or, length-append, refl, ap, arith, if◌then◌else◌, nat_lt, slice_get, slice_get-map, slice_index, flat_map, option_map, position, sum_by, option_to_list, cond_both, eq-eqb, false≢true, ltb-true, sum_by-append, sum_by-cons, position-Some, slice_get-get_or, Words, word_at, IsText, Addr, Op2, Instr, decode_of, is_transfer, EdgeKind, always, never, below, holding_of, last_word, size_of, length-below, is_fall, Edge, Node, Block, X, same_kind, same_node, Open, jumps_in, Graph, lands, IsEdgeIn, IsNodeIn, ends_block, landing_at, left_by, block, copy, in_held, some_words, straight_left, Each, each_at, each-append, each-below, Item, item_at, item_in, Op, fold-map, is_copied, LeadsBelow, piece_words, Exit, Head, OfWord, Shape, assembled, head_items, items_of, marked, enumerate_from, or_left, or_right, sum_by-le, IsMarked, load_of, IsReached, IsWordOf, pieces_of, IsGraphOf, AreFit, AreShort, PiecesFit, PlacesSay, marks_in, map-range_with_len_more}
 use Rattle.v8_decode.specs.declared.Instr.TheVariants as i
 use Rattle.cfg_blocks.specs.declared.EdgeKind.TheVariants as kinds
 use Rattle.layout.specs.declared.items.Item.TheVariants as it
-use Rattle.std.specs.List.{enumerate_from}
-use Rattle.std.proofs.lemmas.Bool.{or_left, or_right}
-use Rattle.std.proofs.lemmas.List.Sums.{sum_by-le}
 use Rattle.cfg_normal.specs.declared.Slot.{Slot}
 use Rattle.cfg_normal.specs.declared.Slot.TheVariants as slots
-use Rattle.layout.specs.Laid.{IsMarked}
 use Rattle.image_code.specs.declared.shape.Exit.TheVariants as exits
 use Rattle.image_code.specs.declared.shape.Head.TheVariants as heads
-use Rattle.image_code.specs.Loads.{load_of}
 use Rattle.image_code.specs.Labels.{Case, Spare, Foreign, Image, Label, Landing, Save, Way, entry_label, entry_labels, labels_in_order, switch_labels, edges_but_landings, enter_number, foreign_number, node_in_order, number_of, piece_labels, place_in}
-use Rattle.image_code.specs.Lookups.{IsReached, IsWordOf, pieces_of}
 use Rattle.image_code.specs.Made.{way_shape, case_by, choice_of, first_way, first_word, goes_on, image, image_by, is_slots, jump_by, jump_image_by, jumps_at, save_by, next_at, nop_word, piece_list, shape_list, shape_of, unused, visit_of, way_along, way_by, way_out}
-use Rattle.image_code.specs.Graphs.{IsGraphOf}
-use Rattle.image_code.specs.Fit.{AreFit, AreShort, PiecesFit, PlacesSay, marks_in}
 use Rattle.image_code.proofs.Listed.{count_is, number_below, way_stands}
 use Rattle.image_code.proofs.Numbers.{no_edge, Leaves, found_below, number_of_list, Goes, case_reaches, ordered_number}
 use Rattle.image_code.proofs.OpenBlocks.{IsSwitchIn, IsTextGraph, text_graph, words_of}
@@ -25,7 +17,6 @@ use Rattle.image_code.proofs.OpenSums.{code_length}
 use Rattle.image_code.proofs.Sized.{case_code, case_edge, code_by, block_end_within, entries_in, image_code, landing_code, no_code, order_code, snippets_few, way_code, ways_code}
 use Rattle.image_code.proofs.Shapes.{ExitLeads, HeadLeads, IsAt, IsMade, IsShaped, head_size, made, made_bare, mark_says, sized, switch_some, well_marked}
 use Rattle.image_code.proofs.Positions.{StandsIn, any_at}
-use Rattle.std.proofs.lemmas.List.FromFn.{map-range_with_len_more}
 
 module _ (text : Words) (graph : Graph) (table cases : ℕ) (codes : ℕ → List ℕ) (is : IsText text)
     (h : IsGraphOf text graph) where

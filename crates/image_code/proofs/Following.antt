@@ -1,15 +1,9 @@
 -- Where a word that is no transfer goes on: to the next word, and at which node.
-use Rattle.image_code.proofs.Common.{◌≡◌, ◌≢◌, ℕ, ◌+◌, ◌<◌, false, Some, List, [], ◌∷◌, refl, ap, sym, ◌∙◌, arith, inl, inr, ◌==◌, ◌&&◌, if◌then◌else◌, slice_get, slice_index, and_parts, eq-eqb, eqb-true, false_from_ne_true, false≢true, ne_eqb, Instr, decode_of, is_transfer, EdgeKind, Blocks, blocks_of, end_of, holding_of, last_word, end_at, ends_block_after, within, is_jump, Node, Block, home_of, Open, jumps_in, edge_from, left_by, node_after, same_kind, block, copy, IsIn, ends_within, end_is, is_in, straight_left, cases_eq, block_end, way, directed, is_compared, is_held, way_found}
+use Rattle.image_code.proofs.Common.{◌≡◌, ◌≢◌, ℕ, ◌+◌, ◌<◌, false, Some, List, [], ◌∷◌, refl, ap, sym, ◌∙◌, arith, inl, inr, ◌==◌, ◌&&◌, if◌then◌else◌, slice_get, slice_index, and_parts, eq-eqb, eqb-true, false_from_ne_true, false≢true, ne_eqb, Instr, decode_of, is_transfer, EdgeKind, Blocks, blocks_of, end_of, holding_of, last_word, end_at, ends_block_after, within, is_jump, Node, Block, home_of, Open, jumps_in, edge_from, left_by, node_after, same_kind, block, copy, IsIn, ends_within, end_is, is_in, straight_left, cases_eq, block_end, way, directed, is_compared, is_held, way_found, and-true, end_here, ends_home, falls_to, no_cases, node_within, straight_end, fall_is_one, node_in_order, EditSetup, graph_in, block_of}
 use Rattle.cfg_blocks.specs.declared.BlockEnd.TheVariants as ends
 use Rattle.cfg_blocks.specs.declared.EdgeKind.TheVariants as kinds
-use Rattle.std.proofs.Math.Bool.{and-true}
-use Rattle.cfg_walk.proofs.Leaving.{end_here, ends_home, falls_to, no_cases, node_within, straight_end}
-use Rattle.cfg_walk.proofs.Ways.{fall_is_one}
-use Rattle.image_code.specs.Labels.{node_in_order}
-use Rattle.image_code.specs.Simulates.{EditSetup, graph_in}
 use Rattle.image_code.proofs.CaseTables.{IsKnown}
 use Rattle.image_code.proofs.Listed.{jump_of}
-use Rattle.image_code.specs.Lookups.{block_of}
 use Rattle.image_code.proofs.Positions.{placed}
 use Rattle.image_code.proofs.Visited.{AtWord}
 

@@ -1,10 +1,6 @@
 -- What is found by tables of which it is known that they are a graph's.
-use Rattle.image_code.proofs.Common.{Node, PieceNo, Result, lands, subst, ◌≡◌, ℕ, ◌+◌, ◌<◌, ◌≤◌, Bool, List, length, map, Option, Some, ap, ◌∙◌, arith, slice_get, slice_index, position, length-map, Words, below, length-below, Graph, Open}
-use Rattle.std.specs.Result.{IfOk}
-use Rattle.std.specs.Coded.{Coded-set, coded_ℕ, le_prop}
-use Rattle.std.proofs.Math.Logic.{∥∥₁_elim}
+use Rattle.image_code.proofs.Common.{Node, PieceNo, Result, lands, subst, ◌≡◌, ℕ, ◌+◌, ◌<◌, ◌≤◌, Bool, List, length, map, Option, Some, ap, ◌∙◌, arith, slice_get, slice_index, position, length-map, Words, below, length-below, Graph, Open, IfOk, Coded-set, coded_ℕ, le_prop, ∥∥₁_elim, AreFound, AreLookups, IsWordOf, StandsInText, mark_of}
 use Rattle.image_code.specs.declared.lookups.Lookups.{Lookups}
-use Rattle.image_code.specs.Lookups.{AreFound, AreLookups, IsWordOf, StandsInText, mark_of}
 use Rattle.image_code.proofs.FirstPlaces.{mark_same}
 use Rattle.image_code.proofs.Numbers.{word_prop}
 use Rattle.image_code.proofs.OpenBlocks.{IsTextGraph, text_graph}

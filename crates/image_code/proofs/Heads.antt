@@ -1,15 +1,11 @@
 -- Each point outside the pages has a place: its piece begins with its Mark, or it lies outside the text.
-use Rattle.image_code.proofs.Common.{◌≡◌, ℕ, ◌+◌, inl, Bool, true, false, Option, Some, None, List, length, arith, refl, ap, sym, ◌∙◌, slice_get, slice_index, ◌==◌, cond_both, Words, address_of, word_at, Op2, Instr, decode_of, Slot, NoSlot, is_transfer, Blocks, blocks_of, always, never, Edge, Node, Block, X, home_of, Open, jumps_in, Graph, graph_of, has_cases, node_of, Point, same_kind, MatchesBy, ◌<◌, Exit, Head, OfWord, Shape, head_items, marked}
+use Rattle.image_code.proofs.Common.{◌≡◌, ℕ, ◌+◌, inl, Bool, true, false, Option, Some, None, List, length, arith, refl, ap, sym, ◌∙◌, slice_get, slice_index, ◌==◌, cond_both, Words, address_of, word_at, Op2, Instr, decode_of, Slot, NoSlot, is_transfer, Blocks, blocks_of, always, never, Edge, Node, Block, X, home_of, Open, jumps_in, Graph, graph_of, has_cases, node_of, Point, same_kind, MatchesBy, ◌<◌, Exit, Head, OfWord, Shape, head_items, marked, MatchesIn, graph_in, number_in, slot_piece, case_piece, way_piece, IsOffPages}
 use Rattle.v8_decode.specs.declared.Instr.TheVariants as i
 use Rattle.cfg_blocks.specs.declared.EdgeKind.TheVariants as kinds
 use Rattle.cfg_normal.specs.declared.Slot.TheVariants as carried
-use Rattle.image_code.specs.Simulates.{MatchesIn, graph_in, number_in}
-use Rattle.image_code.specs.Images.{slot_piece}
 use Rattle.image_code.proofs.Points.{visited_at}
 use Rattle.image_code.proofs.PointShapes.{IsHead, IsVisited, head, outside, beyond, IsForeign, IsOff}
 use Rattle.image_code.specs.Made.{first_word, image_by, jump_image_by, jumps_at, slot_copy, visit_of, way_by}
-use Rattle.image_code.specs.Labels.{case_piece, way_piece}
-use Rattle.image_code.specs.Outside.{IsOffPages}
 use Rattle.image_code.proofs.Shapes.{switch_some}
 use Rattle.image_code.proofs.ImageNumbers.{jump_numbered}
 use Rattle.image_code.proofs.Visited.{PlacedEdit, site, AtSlot, InSlot, case_shape, case_piece_is, edge_is, image_shape, l, marked_at, off, off_address, on, shapes, slotted, plain_shape, plain_piece_is, target, visited_slot, visited_word, way_in, at_word}

@@ -1,10 +1,7 @@
 -- Where the image of a word at a node stands, and where control enters it: in the order of the text, or among the pieces
 -- of an open switch.
-use Rattle.image_code.proofs.Common.{◌⊎◌, ◌≡◌, ℕ, suc, ◌+◌, ◌-◌, ◌<◌, ◌≤◌, true, false, Bool, Option, Some, None, List, [], ◌∷◌, length, refl, ap, sym, ◌∙◌, arith, subst, inl, inr, if◌then◌else◌, ◌==◌, nat_lt, slice_get, slice_index, list_any, position, find, cases_Bool, cases_eq, cases_lt, eq-eqb, eqb-true, ne_eqb, le-ltb, nat_tests, Words, Blocks, block_end, holding_of, size_of, Node, Block, Landed, X, home_of, IsNodeIn, IsIn, Open, jumps_in, Graph, graph_of, block, copy, compares_in, in_held}
-use Rattle.std.proofs.Math.Bool.{or-false}
+use Rattle.image_code.proofs.Common.{◌⊎◌, ◌≡◌, ℕ, suc, ◌+◌, ◌-◌, ◌<◌, ◌≤◌, true, false, Bool, Option, Some, None, List, [], ◌∷◌, length, refl, ap, sym, ◌∙◌, arith, subst, inl, inr, if◌then◌else◌, ◌==◌, nat_lt, slice_get, slice_index, list_any, position, find, cases_Bool, cases_eq, cases_lt, eq-eqb, eqb-true, ne_eqb, le-ltb, nat_tests, Words, Blocks, block_end, holding_of, size_of, Node, Block, Landed, X, home_of, IsNodeIn, IsIn, Open, jumps_in, Graph, graph_of, block, copy, compares_in, in_held, or-false, load_of, open_begin}
 use Rattle.image_code.specs.Labels.{Image, Label, Save, entering, enter_number, image_number, is_saved, number_of, jump_number, node_in_order, piece_labels, switch_at}
-use Rattle.image_code.specs.Loads.{load_of}
-use Rattle.image_code.specs.Lookups.{open_begin}
 use Rattle.image_code.proofs.Listed.{compare_stands, image_stands, jump_of, load_stands, number_is, ordered_stands, save_stands}
 use Rattle.image_code.proofs.OpenBlocks.{IsTextGraph}
 use Rattle.image_code.proofs.Positions.{StandsIn, placed}

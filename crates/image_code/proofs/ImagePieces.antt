@@ -1,8 +1,5 @@
 -- The pieces of the images of words, by nodes.
-use Rattle.image_code.proofs.Common.{List, ◌≡◌, ℕ, ◌<◌, Some, arith, slice_get, length, Blocks, blocks_of, Node, home_of, IsNodeIn, node_of, node_is, Shape, ◌∙◌}
-use Rattle.image_code.specs.Labels.{Image, entering, enter_number, image_number}
-use Rattle.image_code.specs.Made.{image, jumps_at, shape_list, shape_of}
-use Rattle.image_code.specs.Simulates.{EditSetup, graph_in}
+use Rattle.image_code.proofs.Common.{List, ◌≡◌, ℕ, ◌<◌, Some, arith, slice_get, length, Blocks, blocks_of, Node, home_of, IsNodeIn, node_of, node_is, Shape, ◌∙◌, Image, entering, enter_number, image_number, image, jumps_at, shape_list, shape_of, EditSetup, graph_in}
 use Rattle.image_code.proofs.CaseTables.{IsKnown}
 use Rattle.image_code.proofs.EdgePieces.{cut_in, facts}
 use Rattle.image_code.proofs.ImageNumbers.{HasImage, has_image, listed}

@@ -1,12 +1,11 @@
 -- From the cases to the promise as a whole.
-use Rattle.image_code.proofs.Common.{◌≡◌, ℕ, ◌<◌, Option, Some, List, ◌∷◌, ap, ◌∙◌, subst, arith, slice_get, AllApart, pages_of, Item, item_at, item_in, ◌++◌, exit_items}
+use Rattle.image_code.proofs.Common.{◌≡◌, ℕ, ◌<◌, Option, Some, List, ◌∷◌, ap, ◌∙◌, subst, arith, slice_get, AllApart, pages_of, Item, item_at, item_in, ◌++◌, exit_items, IsOffPages}
 use Rattle.layout.specs.declared.items.Item.TheVariants as it
 use Rattle.two_runs.specs.Needed.{judged_in}
 use Rattle.image_code.specs.Simulates.{Simulates, at_point, word_of}
 use Rattle.code_runs.specs.PointsAlike.{instr_of}
 use Rattle.image_code.proofs.Points.{Forms, AtVisitIn, Site, StepsFrom, Visit}
 use Rattle.image_code.proofs.PointShapes.{visits_it, IsCase, IsHead, IsImaged, plain, couple, conditional, unconditional, call, jump, landing, choice, foreign, off, IsVisited, head, outside, beyond}
-use Rattle.image_code.specs.Outside.{IsOffPages}
 use Rattle.image_code.proofs.Marked.{at_first, visits_first}
 use Rattle.image_code.proofs.Shapes.{first_of}
 use Rattle.image_code.proofs.Routes.{items_at, words_on}

@@ -1,10 +1,8 @@
 -- A transfer at a word goes into its slot, where the way of its edge leads.
-use Rattle.image_code.proofs.Common.{◌≡◌, ◌≢◌, ◌-◌, true, false, Some, None, sym, ◌∙◌, arith, slice_index, false≢true, word_at, Instr, decode_of, Slot, NoSlot, Taken, State, EdgeKind, Blocks, blocks_of, word_at-some, has_cases, instr_at, node_after, point_of, way_of, same_kind, MatchesBy, Stands}
+use Rattle.image_code.proofs.Common.{◌≡◌, ◌≢◌, ◌-◌, true, false, Some, None, sym, ◌∙◌, arith, slice_index, false≢true, word_at, Instr, decode_of, Slot, NoSlot, Taken, State, EdgeKind, Blocks, blocks_of, word_at-some, has_cases, instr_at, node_after, point_of, way_of, same_kind, MatchesBy, Stands, gone_at, graph_in, way_out}
 use Rattle.cfg_blocks.specs.declared.EdgeKind.TheVariants as kinds
-use Rattle.image_code.specs.Simulates.{gone_at, graph_in}
 use Rattle.image_code.proofs.Points.{entered_at}
 use Rattle.image_code.proofs.PointShapes.{LeadsTo, IsNoJumpsSlot}
-use Rattle.image_code.specs.Made.{way_out}
 use Rattle.image_code.proofs.Visited.{AtWord, site, enters, nothing_gone, slotted}
 
 module _ (visit : AtWord) (instr : Instr) (says : decode_of (slice_index visit.edit.g.text.words visit.word) ≡ instr) where

@@ -1,15 +1,10 @@
 -- The images of CALL and JMPL: the way of the edge leads into the slot.
-use Rattle.image_code.proofs.Common.{◌≡◌, ℕ, ◌%◌, ◌^◌, ◌<◌, false, Some, None, [], refl, ap, sym, ◌∙◌, arith, if◌then◌else◌, slice_get, slice_index, ◌==◌, ℤ, cond_both, false≢true, Words, Op2, decode_of, Taken, State, sum_of, target_of, trapped, act, word_at-some, Node, Block, Graph, has_cases, point_of, free_register, other_register, words_of, with_register, mem_address_not_aligned, call_step, delayed, jump_delayed, OfWord, Shape}
+use Rattle.image_code.proofs.Common.{◌≡◌, ℕ, ◌%◌, ◌^◌, ◌<◌, false, Some, None, [], refl, ap, sym, ◌∙◌, arith, if◌then◌else◌, slice_get, slice_index, ◌==◌, ℤ, cond_both, false≢true, Words, Op2, decode_of, Taken, State, sum_of, target_of, trapped, act, word_at-some, Node, Block, Graph, has_cases, point_of, free_register, other_register, words_of, with_register, mem_address_not_aligned, call_step, delayed, jump_delayed, OfWord, Shape, jump_step, call_delayed, find_words, at_point, does_at, graph_in, image_number}
 use Rattle.v8_decode.specs.declared.Instr.TheVariants as i
 use Rattle.cfg_blocks.specs.declared.EdgeKind.TheVariants as kinds
-use Rattle.v8_step.specs.Transfers.{jump_step}
-use Rattle.cfg_walk.proofs.Transfers.{call_delayed}
-use Rattle.jump_code.specs.Finding.{find_words}
 use Rattle.image_code.specs.declared.shape.Head.TheVariants as heads
-use Rattle.image_code.specs.Simulates.{at_point, does_at, graph_in}
 use Rattle.image_code.proofs.PointShapes.{IsCall, IsJump}
 use Rattle.image_code.specs.Made.{jump_by, jump_image_by, jumps_at, visit_of, way_out}
-use Rattle.image_code.specs.Labels.{image_number}
 use Rattle.image_code.proofs.IntoSlots.{LeadsThere, entered, no_jump, stands}
 use Rattle.image_code.proofs.JumpWords.{jmpl_is}
 use Rattle.image_code.proofs.Visited.{AtWord, at_image, site, image_shape, shapes, word_is}

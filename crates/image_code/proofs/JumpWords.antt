@@ -1,8 +1,6 @@
 -- What is known of the words that are JMPLs, and the register that one doesn't name.
-use Rattle.image_code.proofs.Common.{◌≡◌, ◌≢◌, ℕ, ◌<◌, true, not, nat_lt, sym, arith, and_parts, cond_both, ltb-true, nat_tests, Op2, op2_in_range, operands_in_range, decode_of, decoded_range, op2_fits, free_register, other_register, Reg, Imm, second_register, IsApart}
+use Rattle.image_code.proofs.Common.{◌≡◌, ◌≢◌, ℕ, ◌<◌, true, not, nat_lt, sym, arith, and_parts, cond_both, ltb-true, nat_tests, Op2, op2_in_range, operands_in_range, decode_of, decoded_range, op2_fits, free_register, other_register, Reg, Imm, second_register, IsApart, first_free, is_one_of_four, next_free, IsNotIn}
 use Rattle.v8_decode.specs.declared.Instr.TheVariants as i
-use Rattle.jump_code.specs.FreeRegister.{first_free, is_one_of_four, next_free}
-use Rattle.jump_code.specs.FreeRegister.{IsNotIn}
 use Rattle.image_code.proofs.Operands.{operand_fits}
 
 -- ---- registers that are free

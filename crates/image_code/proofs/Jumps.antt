@@ -1,12 +1,7 @@
 -- The words of a JMPL, and then the way; or the ending that a misaligned target has.
-use Rattle.image_code.proofs.Common.{words_mean, ◌≡◌, ◌≢◌, ℕ, ◌+◌, ◌%◌, ◌^◌, ◌<◌, ◌≤◌, inl, inr, false, Option, Some, None, List, [], length, refl, ap, sym, ◌∙◌, subst, arith, word_at, Instr, wrapped, code_of, Ending, NoSlot, State, sum_of, is_transfer, IsValid, run-valid, instr_at, point_of, node_after, moved, leads_weaker, words_of, look_up, loads_there, jumped}
+use Rattle.image_code.proofs.Common.{words_mean, ◌≡◌, ◌≢◌, ℕ, ◌+◌, ◌%◌, ◌^◌, ◌<◌, ◌≤◌, inl, inr, false, Option, Some, None, List, [], length, refl, ap, sym, ◌∙◌, subst, arith, word_at, Instr, wrapped, code_of, Ending, NoSlot, State, sum_of, is_transfer, IsValid, run-valid, instr_at, point_of, node_after, moved, leads_weaker, words_of, look_up, loads_there, jumped, find_fits, IsAboutToFind, found_memory, goes, look_up_simulates, does_at, gone_at, graph_in, is_jmpl}
 use Rattle.code_runs.proofs.Picked.{equal_or_not}
-use Rattle.jump_code.proofs.Fitting.{find_fits}
-use Rattle.jump_code.specs.Finding.{IsAboutToFind, found_memory}
-use Rattle.jump_code.proofs.FindFollowing.{goes, look_up_simulates}
 use Rattle.jump_code.proofs.Jumping.{jump_stops}
-use Rattle.image_code.specs.Simulates.{does_at, gone_at, graph_in}
-use Rattle.image_code.specs.Cost.{is_jmpl}
 use Rattle.image_code.proofs.Points.{ReachesNext, StepsFrom, entered_at, Visit}
 use Rattle.image_code.proofs.PointShapes.{LeadsTo, IsJump}
 use Rattle.image_code.proofs.Memories.{same_stored}

@@ -1,7 +1,5 @@
 -- Which image a JMPL has at a block itself.
-use Rattle.image_code.proofs.Common.{◌≡◌, ℕ, Bool, ◌==◌, Option, Some, None, ap, sym, ◌∙◌, if◌then◌else◌, slice_get, Words, BlockNo, Op2, Block, Graph, Open, jumps_in, is_some, OfWord, Shape}
-use Rattle.image_code.specs.Made.{choice_of, jump_by, jump_image_by}
-use Rattle.image_code.specs.Labels.{jump_number, or_zero}
+use Rattle.image_code.proofs.Common.{◌≡◌, ℕ, Bool, ◌==◌, Option, Some, None, ap, sym, ◌∙◌, if◌then◌else◌, slice_get, Words, BlockNo, Op2, Block, Graph, Open, jumps_in, is_some, OfWord, Shape, choice_of, jump_by, jump_image_by, jump_number, or_zero}
 use Rattle.image_code.proofs.EdgeTables.{some_is_any}
 
 module _ (text : Words) (graph : Graph) (jumps cases : ℕ) (visit : OfWord) (block : BlockNo) (rd rs1 : ℕ) (op2 : Op2) where

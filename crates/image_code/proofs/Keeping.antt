@@ -1,16 +1,10 @@
 -- From where control comes to a point, on to its visit: nothing is run between, but before the load of an open switch
 -- its address is kept.
-use Rattle.image_code.proofs.Common.{Leads, leads_then, leads_weaker, IsFirstWord, IsPageWord, length, ◌≡◌, ℕ, ◌+◌, ◌-◌, ◌*◌, ◌%◌, ◌^◌, ◌<◌, ◌≤◌, inl, Bool, true, false, Option, Some, None, List, [], refl, ap, sym, ◌∙◌, subst, arith, if◌then◌else◌, ◌==◌, slice_get, slice_index, and_parts, lt-ltb, ltb-true, ne_eqb, Words, address_of, word_at, Instr, Op2, op2_in_range, operands_in_range, decode_of, op2_fits, wrapped, Memory, code_of, Ending, Slot, NoSlot, State, sum_of, is_transfer, IsValid, pages_of, run-valid, word_at-some, Node, Block, Landed, X, Point, edge_from, ends_block, instr_at, left_by, node_after, point_of, MatchesBy, next_word, IsAmongWords, Stores, StandIn, count_add, past, saved_address, word_items, Fit, words_mean, save_load_address, words_of, Reg, Imm, second_register}
+use Rattle.image_code.proofs.Common.{Leads, leads_then, leads_weaker, IsFirstWord, IsPageWord, length, ◌≡◌, ℕ, ◌+◌, ◌-◌, ◌*◌, ◌%◌, ◌^◌, ◌<◌, ◌≤◌, inl, Bool, true, false, Option, Some, None, List, [], refl, ap, sym, ◌∙◌, subst, arith, if◌then◌else◌, ◌==◌, slice_get, slice_index, and_parts, lt-ltb, ltb-true, ne_eqb, Words, address_of, word_at, Instr, Op2, op2_in_range, operands_in_range, decode_of, op2_fits, wrapped, Memory, code_of, Ending, Slot, NoSlot, State, sum_of, is_transfer, IsValid, pages_of, run-valid, word_at-some, Node, Block, Landed, X, Point, edge_from, ends_block, instr_at, left_by, node_after, point_of, MatchesBy, next_word, IsAmongWords, Stores, StandIn, count_add, past, saved_address, word_items, Fit, words_mean, save_load_address, words_of, Reg, Imm, second_register, Matches, outside_trans, SavesLoadAddress, kept_memory, CaseTable, IsAtWord, IsNoLoad, IsOnWay, EditSetup, Steps, StepsOn, does_at, gone_at, graph_in, limit_by, is_spill, is_transfer_at, AreCaseTables}
 use Rattle.v8_decode.specs.declared.Instr.TheVariants as i
 use Rattle.cfg_blocks.specs.declared.EdgeKind.TheVariants as kinds
-use Rattle.cfg_walk.specs.Matches.{Matches}
-use Rattle.code_runs.proofs.Ours.{outside_trans}
-use Rattle.jump_code.specs.Keeping.{SavesLoadAddress, kept_memory}
 use Rattle.jump_code.proofs.Keeping.{addresses_are_saved}
-use Rattle.image_code.specs.Simulates.{CaseTable, IsAtWord, IsNoLoad, IsOnWay, EditSetup, Steps, StepsOn, does_at, gone_at, graph_in}
-use Rattle.image_code.specs.Cost.{limit_by, is_spill, is_transfer_at}
 use Rattle.image_code.proofs.Points.{AtEntryIn, ReachesNext, Forms, AtVisitIn, Site, StepsFrom, entered_at, visited_at}
-use Rattle.image_code.specs.Keeping.{AreCaseTables}
 use Rattle.image_code.proofs.PointShapes.{IsEntered, IsSaving, at_once, saving}
 use Rattle.image_code.proofs.Routes.{PieceFrom, CodeAt, bare_on, from_shape, stood}
 use Rattle.image_code.proofs.Between.{quiet_of, same_at, stores_weaker}

@@ -1,12 +1,8 @@
 -- The way along the edge of a JMPL: the copy of its slot's word, the snippet, and the jump to what was found, a landing
 -- or the foreign piece.
-use Rattle.image_code.proofs.Common.{PieceNo, ◌≡◌, ◌≢◌, ℕ, ◌+◌, ◌%◌, inl, inr, Option, Some, None, List, [], ◌∷◌, ◌++◌, length, refl, ap, sym, ◌∙◌, subst, arith, slice_get, slice_index, option_map, flat_map, word_at, decode_of, AllApart, State, register_of, act, judged_by, pages_of, hopped, page_word, found_in, resume, word_items, Item, foreign, false≢true, bare}
+use Rattle.image_code.proofs.Common.{PieceNo, ◌≡◌, ◌≢◌, ℕ, ◌+◌, ◌%◌, inl, inr, Option, Some, None, List, [], ◌∷◌, ◌++◌, length, refl, ap, sym, ◌∙◌, subst, arith, slice_get, slice_index, option_map, flat_map, word_at, decode_of, AllApart, State, register_of, act, judged_by, pages_of, hopped, page_word, found_in, resume, word_items, Item, foreign, false≢true, bare, found_there, waiting, resume_hops, at_point, does_at, gone_at, graph_in, NoneIsOut}
 use Rattle.image_code.specs.declared.shape.Exit.TheVariants as exits
-use Rattle.jump_code.specs.PageWords.{found_there, waiting}
-use Rattle.jump_code.proofs.FindFollowing.{resume_hops}
 use Rattle.jump_code.proofs.Leaving.{foreign_leaves}
-use Rattle.image_code.specs.Simulates.{at_point, does_at, gone_at, graph_in}
-use Rattle.image_code.specs.Cost.{NoneIsOut}
 use Rattle.image_code.proofs.Points.{Site, StepsFrom, Visit}
 use Rattle.image_code.proofs.PointShapes.{next_entry, IsJumpsSlot, Lands}
 use Rattle.image_code.proofs.Routes.{words_hop, FollowsRoute, PieceFrom, arrive, arrived, bare_here, eased, from_shape, length_words, on_then, rest_behind, snippets_run, unwatched, stood, weaker_route, words_on}

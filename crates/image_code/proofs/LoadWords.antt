@@ -1,11 +1,8 @@
 -- The load of an open switch, as it is found from word to word.
-use Rattle.image_code.proofs.Common.{◌≡◌, ℕ, suc, ◌+◌, ◌-◌, ◌<◌, ◌≤◌, Bool, true, false, List, [], ◌∷◌, Option, Some, None, refl, ap, ◌∙◌, arith, find, range_with_len, Words, Instr, Open, Value, before_jump}
+use Rattle.image_code.proofs.Common.{◌≡◌, ℕ, suc, ◌+◌, ◌-◌, ◌<◌, ◌≤◌, Bool, true, false, List, [], ◌∷◌, Option, Some, None, refl, ap, ◌∙◌, arith, find, range_with_len, Words, Instr, Open, Value, before_jump, after_slot, load_of, loads_by, or_first, is_load, load_after, loads_at, or_word}
 use Rattle.v8_decode.specs.declared.Instr.TheVariants as i
 use Rattle.v8_decode.specs.declared.LoadKind.TheVariants as loads
-use Rattle.cfg_blocks.specs.Switches.{after_slot}
 use Rattle.cfg_blocks.specs.Values.{followed, instr_at}
-use Rattle.image_code.specs.Loads.{load_of, loads_by, or_first}
-use Rattle.image_code.specs.Lookups.{is_load, load_after, loads_at, or_word}
 
 find_same : (p q : ℕ → Bool) (xs : List ℕ) → ((x : ℕ) → p x ≡ q x) → find p xs ≡ find q xs
 find_same p q [] same = refl

@@ -1,11 +1,8 @@
 -- The pieces that are made are images.
-use Rattle.image_code.proofs.Common.{◌≡◌, false≢true, ℕ, Bool, true, false, Option, Some, None, refl, ap, sym, ◌∙◌, slice_index, word_at, Op2, Instr, decode_of, Slot, NoSlot, State, is_transfer, Blocks, blocks_of, Node, Block, jumps_in, has_cases, Point, MatchesBy, block}
+use Rattle.image_code.proofs.Common.{◌≡◌, false≢true, ℕ, Bool, true, false, Option, Some, None, refl, ap, sym, ◌∙◌, slice_index, word_at, Op2, Instr, decode_of, Slot, NoSlot, State, is_transfer, Blocks, blocks_of, Node, Block, jumps_in, has_cases, Point, MatchesBy, block, Chooses, MatchesIn, does_at, graph_in, PiecesMakeImages, IsOffPages}
 use Rattle.v8_decode.specs.declared.Instr.TheVariants as i
-use Rattle.image_code.specs.Simulates.{Chooses, MatchesIn, does_at, graph_in}
 use Rattle.image_code.proofs.Points.{AtVisitIn}
 use Rattle.image_code.proofs.PointShapes.{IsCase, call, choice, foreign, jump, off, plain}
-use Rattle.image_code.specs.Made.{PiecesMakeImages}
-use Rattle.image_code.specs.Outside.{IsOffPages}
 use Rattle.image_code.proofs.BranchImages.{branch_case}
 use Rattle.image_code.proofs.CaseTables.{IsKnown, are_tables}
 use Rattle.image_code.proofs.ChoiceImages.{choice_case}

@@ -1,9 +1,7 @@
 -- What stands in a Mark at the beginning of a piece, and a machine that visits it.
-use Rattle.image_code.proofs.Common.{◌≡◌, ℕ, zero, suc, ◌+◌, ◌*◌, ◌^◌, ◌<◌, ◌≤◌, inl, inr, Option, Some, None, List, [], ◌∷◌, ◌++◌, length, map, add-zero, refl, ap, sym, ◌∙◌, subst, arith, cases_lt, slice_get, slice_get-get_or, get_or, length-append, length-map, Addr, NoteRange, Instr, wrapped, code_of, State, Node, Point, word_of, words_of, Item, item_at, item_in, open_in, range_in, range_of, IsPageWord, HasWords, IsBetween, open_from, Exit, Head, exit_items, head_items}
+use Rattle.image_code.proofs.Common.{◌≡◌, ℕ, zero, suc, ◌+◌, ◌*◌, ◌^◌, ◌<◌, ◌≤◌, inl, inr, Option, Some, None, List, [], ◌∷◌, ◌++◌, length, map, add-zero, refl, ap, sym, ◌∙◌, subst, arith, cases_lt, slice_get, slice_get-get_or, get_or, length-append, length-map, Addr, NoteRange, Instr, wrapped, code_of, State, Node, Point, word_of, words_of, Item, item_at, item_in, open_in, range_in, range_of, IsPageWord, HasWords, IsBetween, open_from, Exit, Head, exit_items, head_items, IsOnWay, IsThere, number_in, cells_in}
 use Rattle.layout.specs.declared.items.Item.TheVariants as it
 use Rattle.layout.specs.Laid.{OpenMark as Open, IsPlaceIn, size_of, end_from}
-use Rattle.image_code.specs.Simulates.{IsOnWay, IsThere, number_in}
-use Rattle.image_code.specs.Store.{cells_in}
 use Rattle.image_code.proofs.Points.{Site, Visit}
 use Rattle.image_code.proofs.PointShapes.{IsMarked, visits_it}
 use Rattle.image_code.proofs.Between.{IsInRange, at_range, on_range, there_in}

@@ -1,12 +1,6 @@
 -- The memory of a written file keeps its code, the editor's words and the table.
-use Rattle.image_code.proofs.Common.{◌≡◌, ℕ, ◌+◌, ◌*◌, ◌≤◌, ◌⊎◌, inl, inr, false, List, [], ◌∷◌, length, refl, ap, sym, ◌∙◌, subst, arith, w32, Instr, Memory, code_of, fetch_from, AllApart, IsSameOutside, State, act, step_of, run, judged_by, pages_of, Stores, store_word, memory_word, IsAmongWords, words_stay, fetch_of, AllAt, store_all, HasWordAt}
-use Rattle.std.specs.Int.{to_be_bytes}
+use Rattle.image_code.proofs.Common.{◌≡◌, ℕ, ◌+◌, ◌*◌, ◌≤◌, ◌⊎◌, inl, inr, false, List, [], ◌∷◌, length, refl, ap, sym, ◌∙◌, subst, arith, w32, Instr, Memory, code_of, fetch_from, AllApart, IsSameOutside, State, act, step_of, run, judged_by, pages_of, Stores, store_word, memory_word, IsAmongWords, words_stay, fetch_of, AllAt, store_all, HasWordAt, to_be_bytes, ours_are_stored, ours_stay, region_of_word, there_written, other_loaded, TableAt, EditSetup}
 use Rattle.v8_step.proofs.Executable.{code_of-run}
-use Rattle.code_runs.proofs.Ours.{ours_are_stored, ours_stay}
-use Rattle.code_runs.proofs.Stays.{region_of_word, there_written}
-use Rattle.code_runs.proofs.StoredWords.{other_loaded}
-use Rattle.addr_translate.specs.Lookup.{TableAt}
-use Rattle.image_code.specs.Simulates.{EditSetup}
 use Rattle.image_code.specs.Images.{HasImages, HasTable, IsTableIn}
 use Rattle.image_code.proofs.Points.{Site}
 

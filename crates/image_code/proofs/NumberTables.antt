@@ -1,10 +1,6 @@
 -- The numbers of the pieces of open switches, and where they stand.
-use Rattle.image_code.proofs.Common.{◌≡◌, ℕ, ◌+◌, ◌-◌, ◌<◌, ◌≤◌, List, Option, Some, None, length, take, refl, arith, slice_index, slice_index_or, find, range_with_len, sum_by, Words, Blocks, last_word, Graph, Open}
-use Rattle.std.proofs.lemmas.List.Sums.{sum_by_more}
+use Rattle.image_code.proofs.Common.{◌≡◌, ℕ, ◌+◌, ◌-◌, ◌<◌, ◌≤◌, List, Option, Some, None, length, take, refl, arith, slice_index, slice_index_or, find, range_with_len, sum_by, Words, Blocks, last_word, Graph, Open, sum_by_more, load_of, loads_by, or_first, StandsInText, open_begin, pieces_of, first_entry}
 use Rattle.cfg_blocks.specs.Values.{instr_at}
-use Rattle.image_code.specs.Loads.{load_of, loads_by, or_first}
-use Rattle.image_code.specs.Lookups.{StandsInText, open_begin, pieces_of}
-use Rattle.image_code.specs.Labels.{first_entry}
 use Rattle.image_code.proofs.Positions.{found_within}
 
 -- a sum over the open switches, with the next one

@@ -1,14 +1,10 @@
 -- The numbers of pieces, as the code finds them.
-use Rattle.image_code.proofs.Common.{◌==◌, nat_tests, Landed, X, Each, each_at, Block, is_some, None, subst, Option, ◌*◌, ◌≡◌, ℕ, ◌+◌, ◌-◌, ◌<◌, ◌≤◌, Bool, true, false, Some, List, [], ◌∷◌, length, refl, ap, sym, ◌∙◌, arith, inl, inr, ◌&&◌, if◌then◌else◌, nat_lt, and_parts, cases_Bool, cases_eq, ne_eqb, le-ltb, false≢true, get_or, slice_get, slice_index, option_to_list, position, position-Some, slice_get-get_or, slice_get_within, get_or_from_slice_get, Words, Blocks, block_end, holding_of, size_of, some_words, EdgeKind, Edge, Node, Open, jumps_in, is_copied, Graph, block, copy, edge_from, edge_along, same_kind, same_node, same_kinds, same_nodes, lands}
-use Rattle.std.specs.Coded.{Coded-set, coded_bool, le_prop, ×_prop, Unit-prop}
-use Rattle.std.proofs.lemmas.List.{get_or-set_same, get_or-set_other}
+use Rattle.image_code.proofs.Common.{◌==◌, nat_tests, Landed, X, Each, each_at, Block, is_some, None, subst, Option, ◌*◌, ◌≡◌, ℕ, ◌+◌, ◌-◌, ◌<◌, ◌≤◌, Bool, true, false, Some, List, [], ◌∷◌, length, refl, ap, sym, ◌∙◌, arith, inl, inr, ◌&&◌, if◌then◌else◌, nat_lt, and_parts, cases_Bool, cases_eq, ne_eqb, le-ltb, false≢true, get_or, slice_get, slice_index, option_to_list, position, position-Some, slice_get-get_or, slice_get_within, get_or_from_slice_get, Words, Blocks, block_end, holding_of, size_of, some_words, EdgeKind, Edge, Node, Open, jumps_in, is_copied, Graph, block, copy, edge_from, edge_along, same_kind, same_node, same_kinds, same_nodes, lands, Coded-set, coded_bool, le_prop, ×_prop, Unit-prop, get_or-set_same, get_or-set_other, load_of, AreFirst, AreFirstImages, jump_place, mark_of, AreSwitchesNoted, IsReached, IsSource, IsWordOf, saved_before, image_after, image_noted, saved_by, open_begin, place_in_order}
 use Rattle.std.specs.Prelude.{slice_set}
 use Rattle.cfg_blocks.specs.declared.EdgeKind.TheVariants as kinds
 use Rattle.cfg_normal.specs.declared.Slot.TheVariants as slots
 use Rattle.image_code.specs.Labels.{Foreign, Image, Landing, Way, edges_but_landings, enter_number, entering, first_entry, foreign_number, jump_number, landing_number, node_in_order, switch_at, way_piece}
-use Rattle.image_code.specs.Loads.{load_of}
 use Rattle.image_code.proofs.FirstPlaces.{first_is}
-use Rattle.image_code.specs.Lookups.{AreFirst, AreFirstImages, jump_place, mark_of, AreSwitchesNoted, IsReached, IsSource, IsWordOf, saved_before, image_after, image_noted, saved_by, open_begin, place_in_order}
 use Rattle.image_code.proofs.ImageNumbers.{not_found, compare_numbered, entry_stands, jump_numbered, ordered_enters, switch_found, not_switched}
 use Rattle.image_code.proofs.Listed.{compare_stands, compares_apart, foreign_stands, jump_of, landing_stands, load_in, no_jump, number_is, ordered_stands, switch_in, way_stands}
 use Rattle.image_code.proofs.OpenBlocks.{IsTextGraph, text_graph}

@@ -1,35 +1,18 @@
 -- What is known of the graph of a text with its open switches: where their blocks lie, that no two share one, and so
 -- how many words, entries and edges there are.
-use Rattle.image_code.proofs.Common.{◌≡◌, ℕ, zero, suc, ◌+◌, ◌-◌, ◌*◌, ◌<◌, ◌≤◌, true, false, ◌&&◌, ◌==◌, cond, Option, Some, None, List, [], ◌∷◌, ◌++◌, length, map, refl, ap, sym, ◌∙◌, subst, arith, ◌||◌, if◌then◌else◌, slice_get, slice_index, flat_map, sum_by, option_to_list, cond_both, eq-eqb, false≢true, nat_tests, length-append, length-map, sum_by-cons, Words, IsText, decode_of, is_transfer, EdgeKind, within, Blocks, below, blocks_of, end_of, holding_of, last_word, size_of, entered_of, is_jump, get_or-below, length-below, Edge, Node, same_kind, IsEdgeIn, Open, jumps_in, targets_in, Graph, edges_in, graph_of, IsCut, cut, block, copy, ends_within, some_words, Each, each, each-append, each-below, each_at, IsOpenSwitch, opens_are, All, get_or-map, take-append_seam, BlockEnd, Way, number_of, is_copied, edge_of, is_held, each-map, each-then, about}
+use Rattle.image_code.proofs.Common.{◌≡◌, ℕ, zero, suc, ◌+◌, ◌-◌, ◌*◌, ◌<◌, ◌≤◌, true, false, ◌&&◌, ◌==◌, cond, Option, Some, None, List, [], ◌∷◌, ◌++◌, length, map, refl, ap, sym, ◌∙◌, subst, arith, ◌||◌, if◌then◌else◌, slice_get, slice_index, flat_map, sum_by, option_to_list, cond_both, eq-eqb, false≢true, nat_tests, length-append, length-map, sum_by-cons, Words, IsText, decode_of, is_transfer, EdgeKind, within, Blocks, below, blocks_of, end_of, holding_of, last_word, size_of, entered_of, is_jump, get_or-below, length-below, Edge, Node, same_kind, IsEdgeIn, Open, jumps_in, targets_in, Graph, edges_in, graph_of, IsCut, cut, block, copy, ends_within, some_words, Each, each, each-append, each-below, each_at, IsOpenSwitch, opens_are, All, get_or-map, take-append_seam, BlockEnd, Way, number_of, is_copied, edge_of, is_held, each-map, each-then, about, filter, or_parts, count_by-le-length, length-filter, Switch, is_among, Entered, ways_from, is_taken, is_untaken, switch_of, switches_of, targets_within, AreOne, AreOpenIn, IsOpenIn, IsTableIn, edges_of-few, entries_of, flat_few, targets_few, total, total_flat, total_le, ways_out-few, ends_at_next, ends_at_words, each-flat_map, each_in, edges_lie_in, IsOwn, ways_are_own, load_of, or_zero, edges_but_landings, IsGraphOf, opens_in}
 use Rattle.cfg_blocks.specs.declared.BlockEnd.TheVariants as ends
 use Rattle.cfg_blocks.specs.declared.EdgeKind.TheVariants as kinds
-use Rattle.std.specs.List.{filter}
-use Rattle.std.proofs.lemmas.Bool.{or_parts}
-use Rattle.std.proofs.lemmas.List.Sums.{count_by-le-length, length-filter}
-use Rattle.cfg_blocks.specs.declared.switches.Switch.{Switch}
 use Rattle.cfg_blocks.specs.Code.{TargetsWithin, AreFirsts, IsBlockList}
-use Rattle.cfg_blocks.specs.Blocks.{is_among}
 use Rattle.cfg_blocks.specs.Arrivals.{entered_in}
-use Rattle.cfg_blocks.specs.Entries.{Entered, ways_from}
-use Rattle.cfg_blocks.specs.Switches.{is_taken, is_untaken, switch_of, switches_of}
 use Rattle.cfg_blocks.specs.Values.{instr_at}
 use Rattle.cfg_blocks.proofs.Agreement.{entered_alike}
-use Rattle.cfg_blocks.proofs.Targets.{targets_within}
-use Rattle.cfg_normal.specs.Code.{AreOne, AreOpenIn, IsOpenIn, IsTableIn}
 use Rattle.cfg_normal.specs.Graph.{case_of, copied_edges, edges_of, landing_at, landings_of, ways_out}
 use Rattle.cfg_normal.proofs.Candidates.{opens_are as open_in_blocks}
-use Rattle.cfg_normal.proofs.GraphFacts.{edges_of-few, entries_of, flat_few, targets_few, total, total_flat, total_le, ways_out-few}
-use Rattle.cfg_walk.proofs.Holding.{ends_at_next, ends_at_words}
-use Rattle.cfg_walk.proofs.Lists.{each-flat_map, each_in}
-use Rattle.cfg_walk.proofs.NoneOpen.{edges_lie_in}
-use Rattle.cfg_walk.proofs.Ways.{IsOwn, ways_are_own}
 use Rattle.jump_slice.proofs.Parts.{switch_of-is, table_in}
 use Rattle.switch_runs.proofs.Into.{leads_in}
 use Rattle.switch_runs.proofs.Opened.{found_in}
 use Rattle.switch_runs.proofs.Whole.{ends_count}
-use Rattle.image_code.specs.Loads.{load_of}
-use Rattle.image_code.specs.Labels.{or_zero, edges_but_landings}
-use Rattle.image_code.specs.Graphs.{IsGraphOf, opens_in}
 use Rattle.image_code.proofs.NumberTables.{load_between}
 use Rattle.image_code.proofs.Positions.{any_at, get_first}
 use Rattle.image_code.proofs.OpenSums.{AreDistinct, distinct_sum}

@@ -1,9 +1,5 @@
 -- How many pieces there are, and that the numbers of pieces are below that.
-use Rattle.image_code.proofs.Common.{◌≡◌, ℕ, suc, ◌+◌, ◌*◌, ◌<◌, ◌≤◌, Some, List, [], ◌∷◌, length, refl, ap, sym, ◌∙◌, arith, block_end, slice_get, slice_index, sum_by, flat_map, cond_both, Words, block, holding_of, Node, Block, Landed, X, Open, Graph, lands, IsNodeIn, in_held, is_held, some_words, ends_within, Each, each-append, each-map, each_at, lands_as, Op, take-length}
-use Rattle.cfg_walk.proofs.Nodes.{lands_in}
-use Rattle.image_code.specs.Labels.{Case, Foreign, Landing, Label, case_numbers, case_piece, cases_of, enter_number, entering, foreign_number, landing_number, edges_but_landings, piece_labels}
-use Rattle.image_code.specs.Lookups.{IsReached, IsWordOf, pieces_of}
-use Rattle.image_code.specs.Made.{first_word, lands_at}
+use Rattle.image_code.proofs.Common.{◌≡◌, ℕ, suc, ◌+◌, ◌*◌, ◌<◌, ◌≤◌, Some, List, [], ◌∷◌, length, refl, ap, sym, ◌∙◌, arith, block_end, slice_get, slice_index, sum_by, flat_map, cond_both, Words, block, holding_of, Node, Block, Landed, X, Open, Graph, lands, IsNodeIn, in_held, is_held, some_words, ends_within, Each, each-append, each-map, each_at, lands_as, Op, take-length, lands_in, Case, Foreign, Landing, Label, case_numbers, case_piece, cases_of, enter_number, entering, foreign_number, landing_number, edges_but_landings, piece_labels, IsReached, IsWordOf, pieces_of, first_word, lands_at}
 use Rattle.image_code.proofs.ImageNumbers.{HasImage, has_image, listed}
 use Rattle.image_code.proofs.Listed.{case_stands, foreign_stands, landing_stands, number_below, number_is}
 use Rattle.image_code.proofs.OpenBlocks.{IsTextGraph}

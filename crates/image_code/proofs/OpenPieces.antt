@@ -1,8 +1,5 @@
 -- The pieces of an open switch, as they are added.
-use Rattle.image_code.proofs.Common.{◌≡◌, ℕ, List, ◌++◌, map, map-append, append_assoc, slice_index, range_with_len, Words, BlockNo, size_of, Landed, Graph, Open, Item}
-use Rattle.image_code.specs.Labels.{Image, Label, switch_labels}
-use Rattle.image_code.specs.Loads.{load_of}
-use Rattle.image_code.specs.Private.{block_labels}
+use Rattle.image_code.proofs.Common.{◌≡◌, ℕ, List, ◌++◌, map, map-append, append_assoc, slice_index, range_with_len, Words, BlockNo, size_of, Landed, Graph, Open, Item, Image, Label, switch_labels, load_of, block_labels}
 
 pub open_added : (text : Words) (graph : Graph) (piece : Label → List Item) (old : List (List Item)) (o : Open)
     (from count block load : ℕ) (compare : BlockNo) (list new : List (List Item)) → compare ≡ o.switch.compare

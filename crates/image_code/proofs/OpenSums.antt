@@ -1,7 +1,6 @@
 -- Sums over lists: of sizes at numbers that differ, of how many words pass a test, and of what the edges have that are
 -- found.
-use Rattle.image_code.proofs.Common.{◌≡◌, ℕ, zero, suc, ◌+◌, ◌*◌, ◌<◌, ◌≤◌, Bool, true, false, ◌&&◌, ◌==◌, not, nat_lt, and_parts, each, cond, Option, Some, None, List, [], ◌∷◌, append-nil, length, refl, ap, ◌∙◌, arith, if◌then◌else◌, flat_map, position, position_or_len, range_with_len, sum_by, option_to_list, add-mul, cond_both, false_from_ne_true, ltb-true, nat_tests, sum_by-append, sum_by-cons, below, Edge, Each, count_by}
-use Rattle.cfg_normal.proofs.GraphFacts.{total}
+use Rattle.image_code.proofs.Common.{◌≡◌, ℕ, zero, suc, ◌+◌, ◌*◌, ◌<◌, ◌≤◌, Bool, true, false, ◌&&◌, ◌==◌, not, nat_lt, and_parts, each, cond, Option, Some, None, List, [], ◌∷◌, append-nil, length, refl, ap, ◌∙◌, arith, if◌then◌else◌, flat_map, position, position_or_len, range_with_len, sum_by, option_to_list, add-mul, cond_both, false_from_ne_true, ltb-true, nat_tests, sum_by-append, sum_by-cons, below, Edge, Each, count_by, total}
 
 -- ---- numbers that differ
 

@@ -1,18 +1,12 @@
 -- What is known of the open switches of a set-up's graph, each by its number.
-use Rattle.image_code.proofs.Common.{◌≡◌, ℕ, ◌+◌, ◌-◌, ◌<◌, ◌≤◌, true, false, Some, List, refl, ap, ◌∙◌, arith, slice_get, find, range_with_len, eq-eqb, eqb-true, Words, IsText, Instr, Blocks, blocks_of, end_of, entered_of, is_jump, Open, Graph, Each, IsOpenSwitch, opens_are, before_jump, Value, IsCaseBlock}
+use Rattle.image_code.proofs.Common.{◌≡◌, ℕ, ◌+◌, ◌-◌, ◌<◌, ◌≤◌, true, false, Some, List, refl, ap, ◌∙◌, arith, slice_get, find, range_with_len, eq-eqb, eqb-true, Words, IsText, Instr, Blocks, blocks_of, end_of, entered_of, is_jump, Open, Graph, Each, IsOpenSwitch, opens_are, before_jump, Value, IsCaseBlock, AreOpen, LoadsEntry, approach_to, are_open, IsGraphOf, opens_in, first_operand, is_place, load_of, loads_by, or_first, second_operand, EditSetup, graph_in}
 use Rattle.v8_decode.specs.declared.Instr.TheVariants as i
 use Rattle.v8_decode.specs.declared.LoadKind.TheVariants as loads
 use Rattle.cfg_blocks.specs.Ends.{is_transfer}
 use Rattle.cfg_blocks.specs.declared.switches.Value.TheVariants.{Place}
 use Rattle.cfg_blocks.specs.Values.{instr_at, sum_in}
-use Rattle.cfg_walk.specs.Matches.{AreOpen}
-use Rattle.switch_runs.specs.Cases.{LoadsEntry, approach_to}
 use Rattle.switch_runs.proofs.CaseBlocks.{case_block, open_in}
 use Rattle.switch_runs.proofs.Numbered.{opens_are_one}
-use Rattle.switch_runs.proofs.Opened.{are_open}
-use Rattle.image_code.specs.Graphs.{IsGraphOf, opens_in}
-use Rattle.image_code.specs.Loads.{first_operand, is_place, load_of, loads_by, or_first, second_operand}
-use Rattle.image_code.specs.Simulates.{EditSetup, graph_in}
 use Rattle.image_code.proofs.Positions.{contains, found_in_range}
 
 -- the load whose address is kept

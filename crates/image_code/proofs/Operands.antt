@@ -1,10 +1,9 @@
 -- The second operand of a JMPL or of a load that a word is has a word.
-use Rattle.image_code.proofs.Common.{◌≡◌, ℕ, ◌%◌, Bool, true, ◌==◌, [], ◌∷◌, refl, ap, sym, ◌∙◌, arith, cond_both, Op2, Instr, decode_of, op2_fits, branch_or_sethi}
+use Rattle.image_code.proofs.Common.{◌≡◌, ℕ, ◌%◌, Bool, true, ◌==◌, [], ◌∷◌, refl, ap, sym, ◌∙◌, arith, cond_both, Op2, Instr, decode_of, op2_fits, branch_or_sethi, field, rd_of, op3_of, op2_rows, arithmetic_rows, memory_rows, arithmetic, memory, call, load, store, read_state, write_state, even_rd}
 use Rattle.v8_decode.specs.declared.Instr.TheVariants as i
 use Rattle.v8_decode.specs.declared.LoadKind.TheVariants as loads
 use Rattle.v8_decode.specs.declared.LoadKind.{LoadKind}
 use Rattle.v8_decode.specs.declared.StoreKind.TheVariants as stores
-use Rattle.v8_decode.specs.Words.{field, rd_of, op3_of, op2_rows, arithmetic_rows, memory_rows, arithmetic, memory, call, load, store, read_state, write_state, even_rd}
 use Rattle.v8_decode.proofs.Rows.{Each, row_by_row}
 use Rattle.v8_encode.proofs.Fields.{op2_fits-op2_of}
 

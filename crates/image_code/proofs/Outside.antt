@@ -1,9 +1,7 @@
 -- Nothing can be fetched outside the code: there the run ends, as the original's does.
-use Rattle.image_code.proofs.Common.{◌≡◌, ℕ, ◌+◌, ◌*◌, inl, inr, true, false, Option, Some, None, [], length, refl, ap, sym, ◌∙◌, subst, arith, ◌==◌, option_map, cases_lt, eq-eqb, word_at, range_at, Slot, NoSlot, State, trapped, step_of, on_word, puts_on_word, in_pages, leads_one, fetch_of, puts_of}
-use Rattle.v8_step.specs.Traps.{instruction_access_exception}
+use Rattle.image_code.proofs.Common.{◌≡◌, ℕ, ◌+◌, ◌*◌, inl, inr, true, false, Option, Some, None, [], length, refl, ap, sym, ◌∙◌, subst, arith, ◌==◌, option_map, cases_lt, eq-eqb, word_at, range_at, Slot, NoSlot, State, trapped, step_of, on_word, puts_on_word, in_pages, leads_one, fetch_of, puts_of, instruction_access_exception, IsBeside}
 use Rattle.image_code.specs.Simulates.{at_point, does_at, number_in, word_of}
 use Rattle.image_code.proofs.Points.{StepsFrom, visited_by, Visit}
-use Rattle.image_code.specs.Images.{IsBeside}
 use Rattle.image_code.proofs.PointShapes.{visits_it, IsForeign, IsOff}
 use Rattle.image_code.proofs.Memories.{fetch_is}
 use Rattle.image_code.proofs.Sparing.{out_of_pages}

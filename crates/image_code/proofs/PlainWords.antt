@@ -1,16 +1,12 @@
 -- The image of a word that is no transfer goes on to the next word's image, or at the text's end out of the text.
-use Rattle.image_code.proofs.Common.{◌≡◌, ◌≢◌, ℕ, suc, ◌+◌, ◌-◌, ◌%◌, ◌^◌, ◌<◌, ◌≤◌, inl, inr, true, false, Option, Some, None, List, [], length, refl, ap, sym, ◌∙◌, subst, arith, if◌then◌else◌, nat_lt, slice_get, slice_index, and_parts, cases_Bool, le-ltb, lt-ltb, ltb-true, nat_tests, Words, address_of, word_at, Instr, decode_of, NoSlot, State, is_transfer, Blocks, blocks_of, holding_of, last_word, end_at, ends_block_after, within, word_at-some, Node, same_node, left_by, node_after, point_of, next_word, end_is, is_in, same_itself, Exit, Shape, goes_to, marked}
+use Rattle.image_code.proofs.Common.{◌≡◌, ◌≢◌, ℕ, suc, ◌+◌, ◌-◌, ◌%◌, ◌^◌, ◌<◌, ◌≤◌, inl, inr, true, false, Option, Some, None, List, [], length, refl, ap, sym, ◌∙◌, subst, arith, if◌then◌else◌, nat_lt, slice_get, slice_index, and_parts, cases_Bool, le-ltb, lt-ltb, ltb-true, nat_tests, Words, address_of, word_at, Instr, decode_of, NoSlot, State, is_transfer, Blocks, blocks_of, holding_of, last_word, end_at, ends_block_after, within, word_at-some, Node, same_node, left_by, node_after, point_of, next_word, end_is, is_in, same_itself, Exit, Shape, goes_to, marked, end_by, next_address, does_at, gone_at, graph_in, enter_number, image_number, node_in_order}
 use Rattle.v8_decode.specs.declared.Instr.TheVariants as i
 use Rattle.image_code.specs.declared.shape.Exit.TheVariants as exits
 use Rattle.image_code.specs.declared.shape.Head.TheVariants as heads
-use Rattle.cfg_blocks.specs.Ends.{end_by}
-use Rattle.cfg_walk.proofs.Addresses.{next_address}
 use Rattle.cfg_walk.proofs.Holding.{Leads, is_last}
-use Rattle.image_code.specs.Simulates.{does_at, gone_at, graph_in}
 use Rattle.image_code.proofs.Points.{entered_at}
 use Rattle.image_code.proofs.PointShapes.{IsPlain, Reaches}
 use Rattle.image_code.specs.Made.{is_slots, jumps_at, next_at, next_to, visit_of}
-use Rattle.image_code.specs.Labels.{enter_number, image_number, node_in_order}
 use Rattle.image_code.proofs.Branches.{image_straight, within_some}
 use Rattle.image_code.proofs.Following.{compare_inner, held_next, inner_edges, jump_inner, more_words, next_in_order, next_low, some_edge}
 use Rattle.image_code.proofs.EdgePieces.{facts}

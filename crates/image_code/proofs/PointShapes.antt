@@ -1,18 +1,11 @@
 -- The kinds of points, each with the piece that stands there, and where control goes on from it.
-use Rattle.image_code.proofs.Common.{◌≡◌, Some, ℕ, suc, Option, ◌%◌, ◌^◌, ◌<◌, List, ◌⊎◌, [], ◌∷◌, None, slice_get, slice_index, ◌≢◌, ◌+◌, length, false, word_at, PieceNo, Addr, decode_of, Node, State, is_transfer, Point, point_of, node_after, node_at, visit_of, ◌-◌, true, Bool, if◌then◌else◌, ℤ, Taken, NoSlot, same_kind, instr_at, way_of, holds_of, Op2, op2_in_range, op2_fits, words_of, IsApart, ◌≤◌, Block, table_word, choice_at, found_in, X, NoteRange, range_at, save_load_address, Exit, Head, bare, head_items, marked}
+use Rattle.image_code.proofs.Common.{◌≡◌, Some, ℕ, suc, Option, ◌%◌, ◌^◌, ◌<◌, List, ◌⊎◌, [], ◌∷◌, None, slice_get, slice_index, ◌≢◌, ◌+◌, length, false, word_at, PieceNo, Addr, decode_of, Node, State, is_transfer, Point, point_of, node_after, node_at, visit_of, ◌-◌, true, Bool, if◌then◌else◌, ℤ, Taken, NoSlot, same_kind, instr_at, way_of, holds_of, Op2, op2_in_range, op2_fits, words_of, IsApart, ◌≤◌, Block, table_word, choice_at, found_in, X, NoteRange, range_at, save_load_address, Exit, Head, bare, head_items, marked, find_words, HasNoCases, IsBeside, nop_word, operations_on, is_out, IsOffPages, AreCaseTables}
 use Rattle.v8_decode.specs.declared.Instr.TheVariants as i
 use Rattle.cfg_blocks.specs.declared.EdgeKind.TheVariants as kinds
-use Rattle.jump_code.specs.Finding.{find_words}
 use Rattle.image_code.specs.declared.shape.Exit.TheVariants as exits
 use Rattle.image_code.specs.declared.shape.Head.TheVariants as heads
 use Rattle.image_code.specs.Simulates.{EditSetup, number_in, does_at, gone_at, graph_in, word_of, CaseTable, IsAtWord, Chooses, MatchesIn}
 use Rattle.image_code.proofs.Points.{Site, entered_at, visited_at, AtVisitIn}
-use Rattle.image_code.specs.Images.{HasNoCases, IsBeside}
-use Rattle.image_code.specs.Made.{nop_word}
-use Rattle.image_code.specs.Store.{operations_on}
-use Rattle.image_code.specs.Cost.{is_out}
-use Rattle.image_code.specs.Outside.{IsOffPages}
-use Rattle.image_code.specs.Keeping.{AreCaseTables}
 
 -- ---- where control goes on
 

@@ -1,9 +1,5 @@
 -- Where machines stand at the visits of points, and what a step from there promises.
-use Rattle.image_code.proofs.Common.{◌≡◌, ◌≢◌, ℕ, false, Option, None, List, [], word_at, Node, Slot, State, Placement, Point, saved_address, instr_at, Shape, assembled}
-use Rattle.layout.specs.Laid.{HasShortForms}
-use Rattle.image_code.specs.Cost.{is_transfer_at}
-use Rattle.image_code.specs.Simulates.{EditSetup, StepsOn, does_at, gone_at}
-use Rattle.image_code.specs.Images.{Pieces, EditorData, place_by, AtVisit, AtPointBy, IsPlaced}
+use Rattle.image_code.proofs.Common.{◌≡◌, ◌≢◌, ℕ, false, Option, None, List, [], word_at, Node, Slot, State, Placement, Point, saved_address, instr_at, Shape, assembled, HasShortForms, is_transfer_at, EditSetup, StepsOn, does_at, gone_at, Pieces, EditorData, place_by, AtVisit, AtPointBy, IsPlaced}
 
 abbrev pub visited_by : EditSetup → Pieces → Placement → EditorData → Node → Point → Option ℕ → Slot → ℕ
 visited_by g l = place_by l.image g l

@@ -1,11 +1,5 @@
 -- Items of lists by their places: behind other lists, in the lists of items, and the first that passes a test.
-use Rattle.image_code.proofs.Common.{get_or-below, length-below, ◌-◌, each-append, below, Each, ◌≡◌, ℕ, zero, suc, ◌+◌, ◌<◌, ◌≤◌, Bool, true, false, cond, Some, None, List, [], ◌∷◌, ◌++◌, length, get_or, map, take, length-append, refl, ap, sym, ◌∙◌, arith, inl, inr, slice_get, find, flat_map, list_any, position, position_or_len, range_with_len, sum_by, nat_tests, cases_lt, false≢true, lt-ltb, length-map-range_with_len, sum_by-cons, get_or_from_slice_get, slice_get-get_or, slice_get_within, Contains, find_at, get_or-map-range_with_len, get_or-range_with_len, length-range_with_len, length-map, slice_get-map, option_map}
-use Rattle.std.specs.List.{enumerate_from}
-use Rattle.std.proofs.lemmas.List.FromFn.{get_or-enumerate_from, length-enumerate_from}
-use Rattle.std.proofs.lemmas.List.Folds.{Any-from_list_any, list_any_at}
-use Rattle.std.proofs.lemmas.Option.{same_Some}
-use Rattle.std.proofs.lemmas.List.Sums.{fails_before_first, passes_at_first, position_or_len_is}
-use Rattle.image_code.specs.Labels.{Label, same_label}
+use Rattle.image_code.proofs.Common.{get_or-below, length-below, ◌-◌, each-append, below, Each, ◌≡◌, ℕ, zero, suc, ◌+◌, ◌<◌, ◌≤◌, Bool, true, false, cond, Some, None, List, [], ◌∷◌, ◌++◌, length, get_or, map, take, length-append, refl, ap, sym, ◌∙◌, arith, inl, inr, slice_get, find, flat_map, list_any, position, position_or_len, range_with_len, sum_by, nat_tests, cases_lt, false≢true, lt-ltb, length-map-range_with_len, sum_by-cons, get_or_from_slice_get, slice_get-get_or, slice_get_within, Contains, find_at, get_or-map-range_with_len, get_or-range_with_len, length-range_with_len, length-map, slice_get-map, option_map, enumerate_from, get_or-enumerate_from, length-enumerate_from, Any-from_list_any, list_any_at, same_Some, fails_before_first, passes_at_first, position_or_len_is, Label, same_label}
 pub use Rattle.layout.proofs.Standing.{get_first, get_rest as get_second}
 
 -- ---- lists behind others

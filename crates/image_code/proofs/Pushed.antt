@@ -1,7 +1,5 @@
 -- Lists that grow by one item in each turn of a loop.
-use Rattle.image_code.proofs.Common.{◌≡◌, ℕ, suc, ◌+◌, ◌-◌, ◌<◌, ◌≤◌, List, [], ◌∷◌, ◌++◌, Some, length, length-append, map, take, refl, ap, ◌∙◌, arith, append_assoc, slice_get, slice_index_or, flat_map, range_with_len, append-nil, map-append, take_more, get_or_from_slice_get, slice_get_within, below, get_or-below, length-below, PieceNo, flat_map-append, get_or-map}
-use Rattle.std.specs.List.{enumerate_from}
-use Rattle.std.proofs.lemmas.List.FromFn.{map-range_with_len_more}
+use Rattle.image_code.proofs.Common.{◌≡◌, ℕ, suc, ◌+◌, ◌-◌, ◌<◌, ◌≤◌, List, [], ◌∷◌, ◌++◌, Some, length, length-append, map, take, refl, ap, ◌∙◌, arith, append_assoc, slice_get, slice_index_or, flat_map, range_with_len, append-nil, map-append, take_more, get_or_from_slice_get, slice_get_within, below, get_or-below, length-below, PieceNo, flat_map-append, get_or-map, enumerate_from, map-range_with_len_more}
 
 pub below_next : {A : Type 0} (f : ℕ → A) (n : ℕ) → map f (below (n + 1)) ≡ map f (below n) ++ f n ∷ []
 below_next f n = let e : n + 1 ≡ suc n = omega arith in ap (λ k. map f (below k)) e ∙ map-append f (below n) (n ∷ [])

@@ -1,19 +1,9 @@
 -- Ways through words in no place: the snippets of some edges, Jumps and long jumps.
-use Rattle.image_code.proofs.Common.{Instr, IsPageWord, StandIn, Fit, words_mean, word_items, word_of, other_word_stored, ◌≡◌, ℕ, zero, suc, ◌+◌, ◌-◌, ◌*◌, ◌^◌, ◌<◌, ◌≤◌, ◌⊎◌, inl, inr, false, Option, Some, None, List, [], ◌∷◌, ◌++◌, length, map, append-nil, add-one, add-zero, zero-add, refl, ap, sym, ◌∙◌, subst, arith, add_assoc, ◌≢◌, slice_get, slice_index, flat_map, option_map, cases_lt, length-append, length-map, map-append, append_assoc, slice_get_within, slice_get-map, Addr, PieceNo, Memory, code_of, fetch_from, State, register_of, run, IsValid, run-valid, count_stores, hopped, Leads, IsFirstWord, IsAmongWords, page_word, Stores, store_word, memory_word, count_add, none_then, leads_weaker, stores_none, Op, words_at, words_of, Item, item_at, open_in, range_in, range_of, nil_from_length, IsSilent, long_jump, HasWords, stores_then, leads_then, open_from, IsWordAt, Exit, Head, OfWord, Shape, bare, exit_items, head_items, items_of, mark_items, marked}
+use Rattle.image_code.proofs.Common.{Instr, IsPageWord, StandIn, Fit, words_mean, word_items, word_of, other_word_stored, ◌≡◌, ℕ, zero, suc, ◌+◌, ◌-◌, ◌*◌, ◌^◌, ◌<◌, ◌≤◌, ◌⊎◌, inl, inr, false, Option, Some, None, List, [], ◌∷◌, ◌++◌, length, map, append-nil, add-one, add-zero, zero-add, refl, ap, sym, ◌∙◌, subst, arith, add_assoc, ◌≢◌, slice_get, slice_index, flat_map, option_map, cases_lt, length-append, length-map, map-append, append_assoc, slice_get_within, slice_get-map, Addr, PieceNo, Memory, code_of, fetch_from, State, register_of, run, IsValid, run-valid, count_stores, hopped, Leads, IsFirstWord, IsAmongWords, page_word, Stores, store_word, memory_word, count_add, none_then, leads_weaker, stores_none, Op, words_at, words_of, Item, item_at, open_in, range_in, range_of, nil_from_length, IsSilent, long_jump, HasWords, stores_then, leads_then, open_from, IsWordAt, Exit, Head, OfWord, Shape, bare, exit_items, head_items, items_of, mark_items, marked, leads_none, silent_none, silent_then, Hops, IsAboutToRun, long_jump_fits, HasCode, stays, jumps_hop, IsOnWay, in_first_word, is_spill, spills_on, cells_in, operations_on, snippet_on, updates, Pieces}
 use Rattle.layout.specs.declared.items.Item.TheVariants as it
-use Rattle.code_runs.proofs.Leads.{leads_none, silent_none, silent_then}
-use Rattle.code_runs.specs.Hops.{Hops}
 use Rattle.code_runs.proofs.LongJump.{long_jumps_hop}
-use Rattle.snippet_code.specs.Runs.{IsAboutToRun}
-use Rattle.jump_code.proofs.Fitting.{long_jump_fits}
 use Rattle.layout.specs.Laid.{OpenMark, is_jump, size_of}
-use Rattle.layout.specs.Running.{HasCode}
-use Rattle.layout.proofs.Going.{stays, jumps_hop}
-use Rattle.image_code.specs.Simulates.{IsOnWay}
-use Rattle.image_code.specs.Cost.{in_first_word, is_spill, spills_on}
-use Rattle.image_code.specs.Store.{cells_in, operations_on, snippet_on, updates}
 use Rattle.image_code.proofs.Points.{Forms, Site}
-use Rattle.image_code.specs.Images.{Pieces}
 use Rattle.image_code.proofs.PointShapes.{LeadsTo, Reaches}
 use Rattle.image_code.specs.declared.shape.Exit.TheVariants as exits
 use Rattle.image_code.proofs.Between.{IsFit, fits, item_below, item_size, on_none, stores_weaker}

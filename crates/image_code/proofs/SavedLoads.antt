@@ -1,17 +1,12 @@
 -- Before the load of an open switch control comes to a piece that keeps its address; everywhere else it comes to the
 -- visit itself.
-use Rattle.image_code.proofs.Common.{ne_eqb, eq-eqb, ◌≡◌, ℕ, suc, ◌<◌, Bool, true, false, Option, Some, None, List, [], length, refl, ap, sym, ◌∙◌, subst, inl, inr, slice_get, slice_index, false≢true, word_at, Slot, NoSlot, Blocks, blocks_of, Node, Block, Open, jumps_in, Point, block, save_load_address, words_of, Item, items_in, cases_eq, bare}
+use Rattle.image_code.proofs.Common.{ne_eqb, eq-eqb, ◌≡◌, ℕ, suc, ◌<◌, Bool, true, false, Option, Some, None, List, [], length, refl, ap, sym, ◌∙◌, subst, inl, inr, slice_get, slice_index, false≢true, word_at, Slot, NoSlot, Blocks, blocks_of, Node, Block, Open, jumps_in, Point, block, save_load_address, words_of, Item, items_in, cases_eq, bare, case_table, first_operand, load_of, second_operand, save_by, CaseTable, IsAtWord, graph_in, block_of}
 use Rattle.image_code.specs.declared.shape.Exit.TheVariants as exits
 use Rattle.cfg_blocks.specs.Values.{instr_at}
-use Rattle.image_code.specs.Graphs.{case_table}
 use Rattle.image_code.proofs.PointShapes.{IsEntered, at_once, saving}
-use Rattle.image_code.specs.Loads.{first_operand, load_of, second_operand}
-use Rattle.image_code.specs.Made.{save_by}
 use Rattle.image_code.specs.Labels.{Image, Label, Save, enter_number, image_number, number_of}
-use Rattle.image_code.specs.Simulates.{CaseTable, IsAtWord, graph_in}
 use Rattle.image_code.proofs.CaseTables.{known_at, table_of}
 use Rattle.image_code.proofs.ImageNumbers.{comes, jump_numbered, saved_follows, unsaved}
-use Rattle.image_code.specs.Lookups.{block_of}
 use Rattle.image_code.proofs.EdgePieces.{facts}
 use Rattle.image_code.proofs.Listed.{jump_of, load_stands, save_stands, shape_at}
 use Rattle.image_code.proofs.Opened.{load_is}

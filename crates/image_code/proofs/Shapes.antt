@@ -1,12 +1,10 @@
 -- What holds of each shape: what may be placed, how much room it takes, and where its Mark stands.
-use Rattle.image_code.proofs.Common.{◌≡◌, ℕ, zero, suc, ◌+◌, ◌<◌, ◌≤◌, Bool, true, false, cond, Option, Some, None, List, [], ◌∷◌, ◌++◌, append-nil, length, length-append, length-map, map, map-append, flat_map, refl, ap, sym, ◌∙◌, arith, if◌then◌else◌, slice_get, slice_index, sum_by-cons, Words, address_of, word_at, Addr, PieceNo, decode_of, is_transfer, Node, Graph, IsNodeIn, Item, word_at-address, LeadsBelow, Placement, piece_words, link, long_jump, resume, foreign, word_of, words_of, Exit, Head, OfWord, Shape, bare, exit_items, head_items, items_of, mark_items, marked, couple_word, switch_jump}
+use Rattle.image_code.proofs.Common.{◌≡◌, ℕ, zero, suc, ◌+◌, ◌<◌, ◌≤◌, Bool, true, false, cond, Option, Some, None, List, [], ◌∷◌, ◌++◌, append-nil, length, length-append, length-map, map, map-append, flat_map, refl, ap, sym, ◌∙◌, arith, if◌then◌else◌, slice_get, slice_index, sum_by-cons, Words, address_of, word_at, Addr, PieceNo, decode_of, is_transfer, Node, Graph, IsNodeIn, Item, word_at-address, LeadsBelow, Placement, piece_words, link, long_jump, resume, foreign, word_of, words_of, Exit, Head, OfWord, Shape, bare, exit_items, head_items, items_of, mark_items, marked, couple_word, switch_jump, choose, is_mark, marks_in}
 use Rattle.layout.specs.declared.items.Item.TheVariants as it
 use Rattle.layout.specs.Laid.{AreMarked, BranchStands, Stands, branch_long, branch_short, long_words}
 use Rattle.image_code.specs.declared.shape.Exit.TheVariants as exits
 use Rattle.image_code.specs.declared.shape.Head.TheVariants as heads
-use Rattle.jump_code.specs.Choosing.{choose}
 use Rattle.image_code.specs.Made.{visit_of}
-use Rattle.image_code.specs.Fit.{is_mark, marks_in}
 use Rattle.image_code.proofs.Branches.{within_is}
 
 -- ---- how much room a shape takes

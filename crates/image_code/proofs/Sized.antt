@@ -1,14 +1,9 @@
 -- How many of the pieces' words are those of snippets: each edge's once, but a landing's once for each word that lands
 -- there, and a Case edge's once for each entry that does.
-use Rattle.image_code.proofs.Common.{◌≡◌, ℕ, zero, suc, ◌+◌, ◌*◌, ◌<◌, ◌≤◌, Bool, true, false, ◌&&◌, ◌==◌, cond, Some, List, [], ◌∷◌, ◌++◌, length, map, take, refl, ap, sym, ◌∙◌, arith, inl, inr, if◌then◌else◌, slice_index, position, sum_by, option_to_list, mul-le-mul_left, mul-le-mul_right, mul_left_comm, and_parts, cases_Bool, cases_lt, cond_both, false≢true, le-ltb, ne_eqb, nat_tests, sum_by-append, Words, Instr, decode_of, is_transfer, EdgeKind, below, last_word, size_of, is_fall, Edge, Node, Block, Landed, X, same_kind, same_node, Open, targets_in, Graph, lands, IsEdgeIn, IsNodeIn, edge_along, edge_from, ends_block, landing_at, left_by, block, same_nodes, ends_within, some_words, straight_left, Each, each, each-below, lands_as, Op, count_by, fold-map, same_itself}
+use Rattle.image_code.proofs.Common.{◌≡◌, ℕ, zero, suc, ◌+◌, ◌*◌, ◌<◌, ◌≤◌, Bool, true, false, ◌&&◌, ◌==◌, cond, Some, List, [], ◌∷◌, ◌++◌, length, map, take, refl, ap, sym, ◌∙◌, arith, inl, inr, if◌then◌else◌, slice_index, position, sum_by, option_to_list, mul-le-mul_left, mul-le-mul_right, mul_left_comm, and_parts, cases_Bool, cases_lt, cond_both, false≢true, le-ltb, ne_eqb, nat_tests, sum_by-append, Words, Instr, decode_of, is_transfer, EdgeKind, below, last_word, size_of, is_fall, Edge, Node, Block, Landed, X, same_kind, same_node, Open, targets_in, Graph, lands, IsEdgeIn, IsNodeIn, edge_along, edge_from, ends_block, landing_at, left_by, block, same_nodes, ends_within, some_words, straight_left, Each, each, each-below, lands_as, Op, count_by, fold-map, same_itself, and_right, snippet_on, node_in_order, edges_but_landings, AreShort, operations_from, operations_in, IsWordOf}
 use Rattle.cfg_blocks.specs.declared.EdgeKind.TheVariants as kinds
-use Rattle.std.proofs.lemmas.Bool.{and_right}
-use Rattle.image_code.specs.Store.{snippet_on}
-use Rattle.image_code.specs.Labels.{node_in_order, edges_but_landings}
-use Rattle.image_code.specs.Fit.{AreShort, operations_from, operations_in}
 use Rattle.image_code.specs.Copies.{copies_of, is_at, targets_from, words_at}
 use Rattle.image_code.proofs.OpenBlocks.{IsTextGraph}
-use Rattle.image_code.specs.Lookups.{IsWordOf}
 use Rattle.image_code.proofs.OpenNumbers.{lands_word}
 use Rattle.image_code.proofs.OpenSums.{code_length, count_le, count_none, count_one, count_within, uses, uses_cover}
 

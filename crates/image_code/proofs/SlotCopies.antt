@@ -1,21 +1,12 @@
 -- The copies of slots' words: a transfer ends the run, behind a JMPL without Case edges its target is looked up, and
 -- else the copy goes on to where the edge leads.
-use Rattle.image_code.proofs.Common.{◌≡◌, ◌≢◌, ℕ, ◌%◌, ◌^◌, ◌<◌, inl, inr, Bool, true, false, Option, Some, None, List, [], ◌∷◌, length, refl, ap, sym, ◌∙◌, subst, arith, ◌==◌, if◌then◌else◌, slice_get, slice_index, cases_Bool, eqb-true, false≢true, Words, address_of, word_at, Addr, decode_of, NoSlot, State, is_transfer, EdgeKind, Blocks, blocks_of, word_at-some, Node, X, Graph, has_cases, lands, node_after, point_of, slot_left, same_kind, IsOnItsWay, lands_as, same_kinds, found_in, page_word, landed, last_in, Exit, Head, OfWord, goes_to, leaves_to, marked}
+use Rattle.image_code.proofs.Common.{◌≡◌, ◌≢◌, ℕ, ◌%◌, ◌^◌, ◌<◌, inl, inr, Bool, true, false, Option, Some, None, List, [], ◌∷◌, length, refl, ap, sym, ◌∙◌, subst, arith, ◌==◌, if◌then◌else◌, slice_get, slice_index, cases_Bool, eqb-true, false≢true, Words, address_of, word_at, Addr, decode_of, NoSlot, State, is_transfer, EdgeKind, Blocks, blocks_of, word_at-some, Node, X, Graph, has_cases, lands, node_after, point_of, slot_left, same_kind, IsOnItsWay, lands_as, same_kinds, found_in, page_word, landed, last_in, Exit, Head, OfWord, goes_to, leaves_to, marked, edge_landing, Begins, way_address, home_lands, lands_in, jump_lands, memory_word-range, EditSetup, does_at, gone_at, graph_in, operations_on, HasNoCases, Foreign, Landing, enter_number, entering, foreign_number, landing_number, is_out}
 use Rattle.cfg_blocks.specs.declared.EdgeKind.TheVariants as kinds
 use Rattle.image_code.specs.declared.shape.Exit.TheVariants as exits
 use Rattle.image_code.specs.declared.shape.Head.TheVariants as heads
-use Rattle.cfg_walk.specs.Walk.{landing_at as edge_landing}
-use Rattle.cfg_walk.specs.Matches.{Begins, way_address}
-use Rattle.cfg_walk.proofs.Nodes.{home_lands, lands_in}
-use Rattle.cfg_walk.proofs.Slots.{jump_lands}
-use Rattle.code_runs.proofs.StoredWords.{memory_word-range}
-use Rattle.image_code.specs.Simulates.{EditSetup, does_at, gone_at, graph_in}
-use Rattle.image_code.specs.Store.{operations_on}
-use Rattle.image_code.specs.Images.{HasNoCases}
 use Rattle.image_code.proofs.Points.{AtVisitIn, entered_at}
 use Rattle.image_code.proofs.PointShapes.{IsMarked, IsMarkedWord, IsJumpTarget, Reaches, Lands, IsCase, plain, couple, landing as jumps_slot}
 use Rattle.image_code.specs.Made.{first_word, goes_on, shape_of, visit_of}
-use Rattle.image_code.specs.Labels.{Foreign, Landing, enter_number, entering, foreign_number, landing_number}
 use Rattle.image_code.proofs.CaseTables.{IsKnown, table_of}
 use Rattle.image_code.proofs.EdgePieces.{along_far, cut_in, facts}
 use Rattle.image_code.proofs.Heads.{HasCopy, by_cases, case_copy, copy_visited, plain_copy}
@@ -23,7 +14,6 @@ use Rattle.image_code.proofs.ImagePieces.{enter_at, stands_at}
 use Rattle.image_code.proofs.Listed.{foreign_stands, jump_of, landing_stands, shape_at}
 use Rattle.image_code.proofs.Visited.{AtSlot, GoesThere, goes_on_there, goes_straight, site, case_kind, edge_is, entered_word, kind_is, marked_at, shapes, slot_gone, target, way_in, word_is}
 use Rattle.image_code.proofs.Routes.{shape_within}
-use Rattle.image_code.specs.Cost.{is_out}
 
 -- ---- where control goes on at a node
 

@@ -1,14 +1,9 @@
 -- What is known of a text, its graph and its open switches.
-use Rattle.image_code.proofs.Common.{◌≡◌, ℕ, ◌<◌, ◌≤◌, List, Some, refl, ap, sym, ◌∙◌, subst, arith, length, get_or, cond_both, slice_get, slice_index, pos, Words, IsText, decoded_range, Blocks, blocks_of, size_of, entered_of, Open, Graph, graph_of, IsCut, cut, some_words, IsOpenSwitch, opens_are, Contains, IsGraph, about}
+use Rattle.image_code.proofs.Common.{◌≡◌, ℕ, ◌<◌, ◌≤◌, List, Some, refl, ap, sym, ◌∙◌, subst, arith, length, get_or, cond_both, slice_get, slice_index, pos, Words, IsText, decoded_range, Blocks, blocks_of, size_of, entered_of, Open, Graph, graph_of, IsCut, cut, some_words, IsOpenSwitch, opens_are, Contains, IsGraph, about, is_in_range, runs_slot, About, IsGraphOf, opens_in, StandsInText, IsSource}
 use Rattle.v8_decode.specs.declared.Op2.TheVariants as operand
-use Rattle.v8_decode.specs.Ranges.{is_in_range}
-use Rattle.cfg_blocks.specs.Switches.{runs_slot}
-use Rattle.switch_runs.proofs.About.{About}
 use Rattle.switch_runs.proofs.Acts.{operands}
 use Rattle.switch_runs.proofs.CaseBlocks.{open_in}
 use Rattle.switch_runs.proofs.Compared.{Compares, compare_at-is}
-use Rattle.image_code.specs.Graphs.{IsGraphOf, opens_in}
-use Rattle.image_code.specs.Lookups.{StandsInText, IsSource}
 use Rattle.image_code.proofs.Positions.{contains}
 
 module _ (text : Words) (graph : Graph) (h : IsGraphOf text graph) where

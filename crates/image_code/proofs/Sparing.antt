@@ -1,16 +1,9 @@
 -- Which stores are counted, and what is known of them.
-use Rattle.image_code.proofs.Common.{◌≡◌, ℕ, zero, suc, ◌+◌, ◌*◌, ◌%◌, ◌^◌, ◌<◌, ◌≤◌, ◌⊎◌, inl, inr, Bool, true, false, not, ◌&&◌, ◌||◌, Some, None, List, [], ◌∷◌, ◌++◌, map, refl, ap, ◌∙◌, arith, if◌then◌else◌, ◌==◌, nat_le, nat_lt, slice_index, list_any, nat_tests, Words, word_at, Instr, decode_of, AllApart, State, sum_of, is_transfer, judged_by, act, run, trapped, in_pages, pages_of, instr_at, page_word, and-false, Notes, ldstub_step, store_size, store_step, swap_step, mem_address_not_aligned, mapped, cell_at, kept_word}
+use Rattle.image_code.proofs.Common.{◌≡◌, ℕ, zero, suc, ◌+◌, ◌*◌, ◌%◌, ◌^◌, ◌<◌, ◌≤◌, ◌⊎◌, inl, inr, Bool, true, false, not, ◌&&◌, ◌||◌, Some, None, List, [], ◌∷◌, ◌++◌, map, refl, ap, ◌∙◌, arith, if◌then◌else◌, ◌==◌, nat_le, nat_lt, slice_index, list_any, nat_tests, Words, word_at, Instr, decode_of, AllApart, State, sum_of, is_transfer, judged_by, act, run, trapped, in_pages, pages_of, instr_at, page_word, and-false, Notes, ldstub_step, store_size, store_step, swap_step, mem_address_not_aligned, mapped, cell_at, kept_word, NoteSegment, holds, page_of, any_of_word, one_if, stores_at, uncounted_span, split_below, in_first_word, is_cell, is_spill, is_transfer_at, spills_on}
 use Rattle.v8_decode.specs.declared.Instr.TheVariants as i
-use Rattle.notes.specs.Format.{NoteSegment, holds}
 use Rattle.v8_memory.specs.Spans.{IsApart, IsApartFromAll, Span}
-use Rattle.two_runs.specs.Visits.{page_of}
-use Rattle.code_runs.specs.Code.{any_of_word}
-use Rattle.code_runs.specs.Counted.{one_if, stores_at}
 use Rattle.code_runs.specs.Ours.{IsIn}
-use Rattle.code_runs.proofs.Counted.{uncounted_span}
-use Rattle.code_runs.proofs.Leads.{split_below}
 use Rattle.image_code.specs.Simulates.{EditSetup, word_of}
-use Rattle.image_code.specs.Cost.{in_first_word, is_cell, is_spill, is_transfer_at, spills_on}
 
 -- ---- an address outside the pages is in none of them
 

@@ -1,8 +1,7 @@
 -- From the visit of a transfer whose words stand in one Mark, through them, and on along the way behind them.
-use Rattle.image_code.proofs.Common.{◌≡◌, ℕ, suc, List, [], ◌∷◌, ◌++◌, length, length-append, ap, sym, ◌∙◌, arith, length-map, word_at, Addr, PieceNo, Instr, Memory, State, point_of, node_after, word_of, words_of, past, word_items, Head, Shape, head_items, marked}
+use Rattle.image_code.proofs.Common.{◌≡◌, ℕ, suc, List, [], ◌∷◌, ◌++◌, length, length-append, ap, sym, ◌∙◌, arith, length-map, word_at, Addr, PieceNo, Instr, Memory, State, point_of, node_after, word_of, words_of, past, word_items, Head, Shape, head_items, marked, number_in, graph_in}
 use Rattle.layout.specs.declared.items.Item.TheVariants as it
 use Rattle.image_code.specs.declared.shape.Exit.TheVariants as exits
-use Rattle.image_code.specs.Simulates.{number_in, graph_in}
 use Rattle.image_code.proofs.Points.{ReachesNext, entered_at, Visit}
 use Rattle.image_code.proofs.PointShapes.{IsMarked, LeadsTo}
 use Rattle.image_code.proofs.Routes.{front_of, jump_then}

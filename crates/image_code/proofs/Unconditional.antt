@@ -1,6 +1,5 @@
 -- A nop and then the way.
-use Rattle.image_code.proofs.Common.{◌≡◌, ℕ, ◌+◌, Bool, [], ◌∷◌, refl, ap, ◌∙◌, arith, Instr, wrapped, NoSlot, State, act, puts_by, run_puts, is_transfer, live_puts, hopped, count_stores, step_is, no_stores, leads_one, stores_none, IsPageWord, nop}
-use Rattle.image_code.specs.Simulates.{does_at, gone_at}
+use Rattle.image_code.proofs.Common.{◌≡◌, ℕ, ◌+◌, Bool, [], ◌∷◌, refl, ap, ◌∙◌, arith, Instr, wrapped, NoSlot, State, act, puts_by, run_puts, is_transfer, live_puts, hopped, count_stores, step_is, no_stores, leads_one, stores_none, IsPageWord, nop, does_at, gone_at, nop_word}
 use Rattle.image_code.proofs.Points.{StepsFrom, Visit}
 use Rattle.image_code.proofs.PointShapes.{next_entry, word_ahead, IsUnconditionalBranch}
 use Rattle.image_code.proofs.Routes.{jump_then}
@@ -9,7 +8,6 @@ use Rattle.image_code.proofs.Memories.{fetch_is}
 use Rattle.image_code.proofs.Marked.{AtWords, at_words}
 use Rattle.image_code.proofs.Dead.{gone_last}
 use Rattle.image_code.proofs.EntersBy.{OnWay, moves_by}
-use Rattle.image_code.specs.Made.{nop_word}
 use Rattle.image_code.proofs.Branches.{nop_says}
 
 module _ (visit : Visit)

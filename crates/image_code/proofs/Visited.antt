@@ -1,18 +1,11 @@
 -- Where the points of a text are visited, and what stands there.
-use Rattle.image_code.proofs.Common.{◌≡◌, ◌≢◌, ℕ, ◌+◌, ◌-◌, ◌%◌, ◌^◌, ◌<◌, inl, inr, Bool, true, false, Option, Some, None, List, [], ◌∷◌, suc, length, refl, ap, sym, ◌∙◌, subst, arith, ◌==◌, if◌then◌else◌, slice_get, slice_index, list_any, option_map, cond_both, eqb-true, false≢true, lt-ltb, le-ltb, address_of, word_at, Instr, decode_of, Slot, NoSlot, State, EdgeKind, Blocks, blocks_of, word_at-some, Node, Block, home_of, IsNodeIn, Open, targets_in, has_cases, lands, node_of, Point, WayOut, edge_along, instr_at, left_by, slot_left, way_of, same_kind, IsOnItsWay, MatchesBy, block, same_kinds, Placement, Addr, IsCut, holding_of, node_is, Carried, IsSlotIn, IsTarget, word_at-address, is_transfer, act, on_word, goes_act, ◌⊎◌, Exit, Head, Shape, goes_to, leaves_to, marked}
+use Rattle.image_code.proofs.Common.{◌≡◌, ◌≢◌, ℕ, ◌+◌, ◌-◌, ◌%◌, ◌^◌, ◌<◌, inl, inr, Bool, true, false, Option, Some, None, List, [], ◌∷◌, suc, length, refl, ap, sym, ◌∙◌, subst, arith, ◌==◌, if◌then◌else◌, slice_get, slice_index, list_any, option_map, cond_both, eqb-true, false≢true, lt-ltb, le-ltb, address_of, word_at, Instr, decode_of, Slot, NoSlot, State, EdgeKind, Blocks, blocks_of, word_at-some, Node, Block, home_of, IsNodeIn, Open, targets_in, has_cases, lands, node_of, Point, WayOut, edge_along, instr_at, left_by, slot_left, way_of, same_kind, IsOnItsWay, MatchesBy, block, same_kinds, Placement, Addr, IsCut, holding_of, node_is, Carried, IsSlotIn, IsTarget, word_at-address, is_transfer, act, on_word, goes_act, ◌⊎◌, Exit, Head, Shape, goes_to, leaves_to, marked, or_cases, list_any-append, by_kind, way_to, IsCarried, IsTable, EditorData, IsPlaced, Pieces, place_by, slot_piece, along_case, along_number, case_piece, enter_number, image_number, jump_number, way_piece}
 use Rattle.cfg_blocks.specs.declared.EdgeKind.TheVariants as kinds
 use Rattle.cfg_normal.specs.declared.Slot.TheVariants as carried
-use Rattle.std.proofs.lemmas.Bool.{or_cases}
-use Rattle.std.proofs.lemmas.List.Folds.{list_any-append}
-use Rattle.cfg_walk.specs.Walk.{by_kind, way_to}
-use Rattle.cfg_walk.specs.Matches.{IsCarried}
-use Rattle.addr_translate.specs.Lookup.{IsTable}
 use Rattle.image_code.specs.Simulates.{EditSetup, gone_at, graph_in, word_of, at_point, does_at}
-use Rattle.image_code.specs.Images.{EditorData, IsPlaced, Pieces, place_by, slot_piece}
 use Rattle.image_code.proofs.Points.{Site, entered_at, visited_at}
 use Rattle.image_code.proofs.PointShapes.{IsJumpTarget, IsMarked, LeadsTo, Reaches}
 use Rattle.image_code.specs.Made.{AreCasesFor, IsOffNoted, IsTableFor, edit_pieces, first_way, first_word, image_by, jumps_at, shape_list, visit_of, way_by, way_out}
-use Rattle.image_code.specs.Labels.{along_case, along_number, case_piece, enter_number, image_number, jump_number, way_piece}
 use Rattle.image_code.proofs.CaseTables.{IsKnown}
 use Rattle.image_code.proofs.EdgePieces.{IsAlong, along, by_case, cut_in, facts, shape_along, shape_case, slot_in}
 use Rattle.image_code.proofs.Positions.{placed}

@@ -1,7 +1,5 @@
 -- What is added up to the visits of each word.
-use Rattle.instr_counts.proofs.Common.{◌≡◌, ℕ, ◌+◌, ◌<◌, List, length, slice_index, Some, refl, arith, ◌==◌, lt-ltb, AreFirsts, Node, same_node, Graph, node_of, edge_at, holding_of}
-use Rattle.instr_counts.specs.Private.{along, as_slot, is_block}
-use Rattle.instr_counts.specs.Visits.{AreSingle, leads_to, one_if, runs_slot, finished, sum_where}
+use Rattle.instr_counts.proofs.Common.{◌≡◌, ℕ, ◌+◌, ◌<◌, List, length, slice_index, Some, refl, arith, ◌==◌, lt-ltb, AreFirsts, Node, same_node, Graph, node_of, edge_at, holding_of, along, as_slot, is_block, AreSingle, leads_to, one_if, runs_slot, finished, sum_where}
 use Rattle.instr_counts.proofs.Single.{holds_itself}
 use Rattle.flows.proofs.Weights.{weight_same}
 

@@ -1,14 +1,9 @@
 -- How often each word is visited, along a run, where each block has one word and no switch is open: along the edges that
 -- a step completes the run comes to the word where it goes on, and has run the slot out of which it goes.
-use Rattle.instr_counts.proofs.Common.{◌≡◌, ℕ, zero, suc, ◌+◌, ◌<◌, Bool, List, [], ◌∷◌, ◌++◌, refl, arith, ◌-◌, inl, inr, false, length, slice_index, Option, Some, ap, sym, ◌∙◌, ◌&&◌, nat_lt, ◌==◌, cond_both, eq-eqb, eqb-true, lt-ltb, Words, IsText, WordNo, Instr, decode_of, BlockEnd, EdgeKind, end_at, end_by, Blocks, holding_of, last_word, blocks_of, Edge, Node, same_node, Graph, node_of, IsCut, cut, edge_at, no_edge, entered_of}
-use Rattle.instr_counts.specs.Visits.{one_if, AreSingle, leads_to, runs_slot, is_slot, is_begun}
-use Rattle.std.proofs.Common.{◌≢◌, true, not, None, subst}
-use Rattle.std.specs.Prelude.{if◌then◌else◌}
+use Rattle.instr_counts.proofs.Common.{◌≡◌, ℕ, zero, suc, ◌+◌, ◌<◌, Bool, List, [], ◌∷◌, ◌++◌, refl, arith, ◌-◌, inl, inr, false, length, slice_index, Option, Some, ap, sym, ◌∙◌, ◌&&◌, nat_lt, ◌==◌, cond_both, eq-eqb, eqb-true, lt-ltb, Words, IsText, WordNo, Instr, decode_of, BlockEnd, EdgeKind, end_at, end_by, Blocks, holding_of, last_word, blocks_of, Edge, Node, same_node, Graph, node_of, IsCut, cut, edge_at, no_edge, entered_of, one_if, AreSingle, leads_to, runs_slot, is_slot, is_begun, ◌≢◌, true, not, None, subst, if◌then◌else◌, cases_Bool, false≢true, ne_eqb, and_parts, cases_eq, address_of, word_at, Way, always, branch_target, number_of, way, ways_of, within, same_kind, edge_of, edges_in, graph_of, landing, lands_of, runs_on, copied_edges, edges_of, in_held, links_of, switches_of, VisitsAreCounted}
 use Rattle.flows.specs.Flows.{weight_below, times, Graph as PlainGraph}
 use Rattle.cfg_walk.proofs.Lists.{Each, each, each-flat_map, each-map, each-then, each_in}
-use Rattle.std.proofs.lemmas.Bool.{cases_Bool, false≢true, ne_eqb, and_parts, cases_eq}
 use Rattle.std.proofs.lemmas.Option.{get_or_from_slice_get}
-use Rattle.eel_base.specs.CodeText.{address_of, word_at}
 use Rattle.v8_decode.specs.declared.Instr.TheVariants as i
 use Rattle.v8_step.specs.declared.Slot.{Slot}
 use Rattle.v8_step.specs.declared.Slot.TheVariants.{NoSlot, Taken, Untaken}
@@ -19,19 +14,15 @@ use Rattle.v8_step.specs.Items.{is_transfer}
 use Rattle.v8_step.proofs.CopiedMoves.{goes_act}
 use Rattle.cfg_blocks.specs.declared.BlockEnd.TheVariants as ends
 use Rattle.cfg_blocks.specs.declared.EdgeKind.TheVariants as kinds
-use Rattle.cfg_blocks.specs.Ends.{Way, always, branch_target, number_of, way, ways_of, within}
 use Rattle.cfg_blocks.proofs.Targets.{IsWord, word_at-some}
 use Rattle.cfg_normal.specs.declared.Node.TheVariants.{X, Block, Landed}
 use Rattle.cfg_normal.specs.declared.Slot.{Slot as Carried}
 use Rattle.cfg_normal.specs.declared.Slot.TheVariants as carried
 use Rattle.cfg_normal.specs.Code.{home_of, IsNodeIn}
-use Rattle.cfg_normal.specs.Nodes.{same_kind}
-use Rattle.cfg_normal.specs.Graph.{edge_of, edges_in, graph_of, landing_at as landing, lands_of, runs_slot as runs_on, copied_edges, edges_of}
 use Rattle.cfg_walk.specs.Walk.{Point, completed, edge_from, gone, goes_on_at, instr_at, landed, landing_at, left_by, node_after, point_of, slot_left, way_of, end_of_walk, gone_in, walk}
 use Rattle.cfg_walk.specs.Matches.{FetchesOnly, IsCarried, IsOnItsWay, Matches, MatchesBy, BeginsAt, MatchesRun}
 use Rattle.cfg_walk.proofs.Addresses.{word_at-address}
 use Rattle.cfg_walk.proofs.Edges.{IsEdge, block, landing_found, leads_along, out_to, copy, each_edge, leave_node, leave_own, number_of_list}
-use Rattle.cfg_walk.proofs.Holding.{in_held}
 use Rattle.cfg_walk.proofs.Leaving.{end_here, end_is, ends_home, node_is, straight_end, straight_left, way_found}
 use Rattle.cfg_walk.proofs.Nodes.{lands_there}
 use Rattle.cfg_walk.proofs.NoneOpen.{IsOnEdge, cases_none, home_none, lands_none, on_edge, open_none, slot_none, jumps_none}
@@ -39,7 +30,6 @@ use Rattle.cfg_walk.proofs.Points.{Stands, at, home, low}
 use Rattle.cfg_walk.proofs.States.{couples, out_goes}
 use Rattle.cfg_walk.proofs.Ways.{IsOne, fall_is_one, same_kinds, taken_is_one, untaken_is_one}
 use Rattle.switch_runs.proofs.Steps.{carries_out, comes_to}
-use Rattle.span_tree.specs.Links.{links_of}
 use Rattle.instr_counts.proofs.Single.{none_are_open, as_many, holds_itself, last_is, words_are_blocks}
 use Rattle.std.proofs.lemmas.List.Quantifiers.{position-Some}
 use Rattle.elf32_sparc.specs.Header.{e_entry}
@@ -50,7 +40,6 @@ use Rattle.v8_step.specs.Run.{run}
 use Rattle.two_runs.specs.Visits.{as_list, own_trail, own_visit}
 use Rattle.v8_step.proofs.Executable.{code_stays}
 use Rattle.v8_process.specs.Start.{start_of}
-use Rattle.cfg_blocks.specs.Switches.{switches_of}
 use Rattle.cfg_normal.specs.Numbers.{node_number}
 use Rattle.cfg_walk.proofs.Walks.{live_before, walks_match}
 use Rattle.walk_counts.specs.Executions.{executions}
@@ -60,7 +49,6 @@ use Rattle.walk_counts.proofs.Fetching.{only_text_is_fetched}
 use Rattle.walk_counts.proofs.Files.{begins, entry_is}
 use Rattle.walk_counts.proofs.Paths.{walks_are_paths}
 use Rattle.instr_counts.specs.Code.{visits_by}
-use Rattle.instr_counts.specs.Laws.{VisitsAreCounted}
 
 -- ---- what is counted of the numbers of a list
 

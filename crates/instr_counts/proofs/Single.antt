@@ -1,16 +1,10 @@
 -- Blocks of one word each; no switch is open then: that of a comparison is no branch.
-use Rattle.instr_counts.proofs.Common.{◌≤◌, ◌≡◌, ℕ, zero, suc, ◌+◌, ◌-◌, ◌<◌, length, slice_index, arith, inl, inr, Bool, false, List, [], ◌∷◌, Option, refl, ap, sym, ◌∙◌, AreFirsts, Blocks, blocks_of, holding_of, last_word, cut, IsCut, ◌==◌, cases_lt, cond_both, Words, IsText, Instr, decode_of, WordNo, BlockEnd, EdgeKind, end_at, end_by, entered_of}
-use Rattle.instr_counts.specs.Visits.{AreSingle}
-use Rattle.cfg_blocks.specs.Blocks.{block_end, end_of}
-use Rattle.cfg_walk.proofs.Cut.{entry_leads}
-use Rattle.cfg_walk.proofs.Holding.{ends_at_next, ends_at_words, is_held, is_last, some_words}
-use Rattle.instr_counts.specs.Laws.{WordsAreBlocks, HasEach, NoneAreOpen}
+use Rattle.instr_counts.proofs.Common.{◌≤◌, ◌≡◌, ℕ, zero, suc, ◌+◌, ◌-◌, ◌<◌, length, slice_index, arith, inl, inr, Bool, false, List, [], ◌∷◌, Option, refl, ap, sym, ◌∙◌, AreFirsts, Blocks, blocks_of, holding_of, last_word, cut, IsCut, ◌==◌, cases_lt, cond_both, Words, IsText, Instr, decode_of, WordNo, BlockEnd, EdgeKind, end_at, end_by, entered_of, AreSingle, block_end, end_of, entry_leads, ends_at_next, ends_at_words, is_held, is_last, some_words, WordsAreBlocks, HasEach, NoneAreOpen, compare_at, last_setting, sets_codes}
 use Rattle.std.proofs.Math.ListN.{get_or-eq_default}
 use Rattle.cfg_blocks.specs.declared.BlockEnd.TheVariants as ends
 use Rattle.cfg_blocks.specs.declared.Into.{Into}
 use Rattle.cfg_blocks.specs.declared.Into.TheVariants as into
 use Rattle.cfg_blocks.specs.declared.switches.Switch.{Switch}
-use Rattle.cfg_blocks.specs.Switches.{compare_at, last_setting, sets_codes}
 use Rattle.cfg_normal.specs.Opens.{Open, candidate, candidate_behind, candidate_into, candidate_on, is_closed, opened, opens_of, with_switch}
 use Rattle.switch_runs.proofs.Whole.{ends_count}
 

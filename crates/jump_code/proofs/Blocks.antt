@@ -1,11 +1,8 @@
 -- What the proofs of these words share.
-use Rattle.jump_code.proofs.Common.{◌≡◌, ◌≢◌, ℕ, suc, ◌+◌, ◌*◌, ◌/◌, ◌%◌, ◌^◌, ◌<◌, ◌≤◌, inl, inr, false, Ok, refl, ap, ◌∙◌, subst, arith, ◌==◌, pos, Op2, Imm, Codes, alu_of, wrapped, Memory, code_of, State, register_of, operand_of, sum_of, IsValid, IsValidMemory, run-valid, page_word, Is, WorksInTwo, StandIn, says_at, Gives, HasTwo, alu, goes_on, in_two, second, sethi}
+use Rattle.jump_code.proofs.Common.{◌≡◌, ◌≢◌, ℕ, suc, ◌+◌, ◌*◌, ◌/◌, ◌%◌, ◌^◌, ◌<◌, ◌≤◌, inl, inr, false, Ok, refl, ap, ◌∙◌, subst, arith, ◌==◌, pos, Op2, Imm, Codes, alu_of, wrapped, Memory, code_of, State, register_of, operand_of, sum_of, IsValid, IsValidMemory, run-valid, page_word, Is, WorksInTwo, StandIn, says_at, Gives, HasTwo, alu, goes_on, in_two, second, sethi, Works, address_into, IsPageWord}
 use Rattle.std.proofs.lemmas.Bool.Decides.{nat_tests}
 use Rattle.v8_decode.specs.declared.AluOp.TheVariants as ops
-use Rattle.code_runs.specs.Picked.{Works}
 pub use Rattle.addr_translate.proofs.TwelveWords.{four}
-use Rattle.jump_code.specs.Links.{address_into}
-use Rattle.jump_code.specs.PageWords.{IsPageWord}
 
 pub not_four : (n : ℕ) → n % 4 ≢ 0 → (n % 4 == 0) ≡ false
 not_four n ne = grind (arith, nat_tests)

@@ -1,11 +1,6 @@
 -- The words of a switch's JMPL, one by one, and beside the original's step.
-use Rattle.jump_code.proofs.Common.{◌≡◌, ℕ, zero, suc, ◌+◌, ◌-◌, ◌*◌, ◌^◌, ◌<◌, inl, None, refl, ap, sym, ◌∙◌, subst, arith, pos, Op2, Reg, Imm, wrapped, Memory, code_of, State, register_of, with_register, IsValid, register_of-range, run-valid, Leads, IsBetween, IsSilent, page_word, of_page, store_word, CanStore, Stores, memory_word, WorksInTwo, Says, StandIn, hops_through, works_state, leads_then, leads_weaker, silent_then, HasTwo, IsNext, both, first, goes_on, in_two, ld_in, none_in_two, second, st_in, two_registers, word, nth, says_at, word_stored, other_word_stored, other_loaded, loads_stored, still_stored, can_load, whole_of, stores_none}
+use Rattle.jump_code.proofs.Common.{◌≡◌, ℕ, zero, suc, ◌+◌, ◌-◌, ◌*◌, ◌^◌, ◌<◌, inl, None, refl, ap, sym, ◌∙◌, subst, arith, pos, Op2, Reg, Imm, wrapped, Memory, code_of, State, register_of, with_register, IsValid, register_of-range, run-valid, Leads, IsBetween, IsSilent, page_word, of_page, store_word, CanStore, Stores, memory_word, WorksInTwo, Says, StandIn, hops_through, works_state, leads_then, leads_weaker, silent_then, HasTwo, IsNext, both, first, goes_on, in_two, ld_in, none_in_two, second, st_in, two_registers, word, nth, says_at, word_stored, other_word_stored, other_loaded, loads_stored, still_stored, can_load, whole_of, stores_none, CanLoad, ChoicesHop, ChoicesSimulate, ComesToCase, IsAboutToGo, choice_at, choose, chosen, chosen_memory, jumped, IsPageWord, saved_address, past}
 use Rattle.code_runs.specs.Hops.{Hops, hopped}
-use Rattle.code_runs.specs.Code.{CanLoad}
-use Rattle.jump_code.specs.Choosing.{ChoicesHop, ChoicesSimulate, ComesToCase, IsAboutToGo, choice_at, choose, chosen, chosen_memory}
-use Rattle.jump_code.specs.Jumped.{jumped}
-use Rattle.jump_code.specs.PageWords.{IsPageWord, saved_address}
-use Rattle.jump_code.specs.Links.{past}
 use Rattle.jump_code.proofs.Blocks.{four, addressed, memory_valid, word2, word7}
 use Rattle.jump_code.proofs.Finding.{another}
 use Rattle.jump_code.proofs.Jumping.{jump_aligned, jump_goes}

@@ -1,10 +1,6 @@
 -- The image of a JMPL that looks its target up follows the original's step.
-use Rattle.jump_code.proofs.Common.{◌≡◌, ℕ, ◌+◌, ◌%◌, inl, inr, Some, None, length, refl, ap, sym, ◌∙◌, subst, arith, pos, Op2, Imm, Memory, code_of, wrapped, NoSlot, State, register_of, with_register, sum_of, delayed, Leads, IsBetween, page_word, of_page, store_word, Stores, moved, WorksInTwo, hops_through, both, equal_or_not, first, goes_on, none_in_two, two_registers, word, nth_says, can_load, memory_word-range, still_stored, word_stored, register_of-range, TableAt, found_in}
+use Rattle.jump_code.proofs.Common.{◌≡◌, ℕ, ◌+◌, ◌%◌, inl, inr, Some, None, length, refl, ap, sym, ◌∙◌, subst, arith, pos, Op2, Imm, Memory, code_of, wrapped, NoSlot, State, register_of, with_register, sum_of, delayed, Leads, IsBetween, page_word, of_page, store_word, Stores, moved, WorksInTwo, hops_through, both, equal_or_not, first, goes_on, none_in_two, two_registers, word, nth_says, can_load, memory_word-range, still_stored, word_stored, register_of-range, TableAt, found_in, ComesFound, EndsFinding, LookUpSimulates, ResumeHops, IsAboutToFind, look_up, found_memory, resume, jumped, past, IsPageWord, found_there}
 use Rattle.v8_step.specs.declared.Ending.{Ending}
-use Rattle.jump_code.specs.Finding.{ComesFound, EndsFinding, LookUpSimulates, ResumeHops, IsAboutToFind, look_up, found_memory, resume}
-use Rattle.jump_code.specs.Jumped.{jumped}
-use Rattle.jump_code.specs.Links.{past}
-use Rattle.jump_code.specs.PageWords.{IsPageWord, found_there}
 use Rattle.jump_code.proofs.Blocks.{four, word7}
 use Rattle.jump_code.proofs.Finding.{another, looks_up}
 use Rattle.jump_code.proofs.Jumping.{jump_aligned, jump_goes, jump_stops}

@@ -1,19 +1,9 @@
 -- The words of a JMPL that looks its target up, one by one.
-use Rattle.jump_code.proofs.Common.{◌≡◌, ◌≢◌, ℕ, zero, suc, ◌+◌, ◌-◌, ◌*◌, ◌/◌, ◌%◌, ◌^◌, ◌<◌, ◌≤◌, inl, inr, false, Ok, length, refl, ap, sym, ◌∙◌, subst, arith, ◌==◌, pos, Op2, Reg, Imm, alu_of, wrapped, Memory, code_of, NoSlot, State, register_of, operand_of, with_register, sum_of, step_of, mem_address_not_aligned, trapped, IsValid, IsValidMemory, register_of-range, wrapped-range, run-valid, Leads, IsBetween, IsSilent, page_word, of_page, store_word, CanStore, Stores, memory_word, Says, StandIn, Is, IsAlike, WorksInTwo, pair, says_step, works_state, works_same, leads_then, leads_weaker, silent_then, Gives, HasTwo, alu, both, equal_or_not, first, goes_on, in_two, ld_in, none_in_two, second, sethi, st_in, two_registers, nth, nth_says, word_stored, other_loaded, other_word_stored, loads_stored, still_stored, can_load, whole_of, memory_word-range, stores_then, TableAt, found_in}
+use Rattle.jump_code.proofs.Common.{◌≡◌, ◌≢◌, ℕ, zero, suc, ◌+◌, ◌-◌, ◌*◌, ◌/◌, ◌%◌, ◌^◌, ◌<◌, ◌≤◌, inl, inr, false, Ok, length, refl, ap, sym, ◌∙◌, subst, arith, ◌==◌, pos, Op2, Reg, Imm, alu_of, wrapped, Memory, code_of, NoSlot, State, register_of, operand_of, with_register, sum_of, step_of, mem_address_not_aligned, trapped, IsValid, IsValidMemory, register_of-range, wrapped-range, run-valid, Leads, IsBetween, IsSilent, page_word, of_page, store_word, CanStore, Stores, memory_word, Says, StandIn, Is, IsAlike, WorksInTwo, pair, says_step, works_state, works_same, leads_then, leads_weaker, silent_then, Gives, HasTwo, alu, both, equal_or_not, first, goes_on, in_two, ld_in, none_in_two, second, sethi, st_in, two_registers, nth, nth_says, word_stored, other_loaded, other_word_stored, loads_stored, still_stored, can_load, whole_of, memory_word-range, stores_then, TableAt, found_in, IsReady, says_puts, ld_traps, leads_one, silent_one, says_here, unpicked_is, table_word, IsTwoLevel, entry_at, half_at, LooksUp, FindsIt, IsAboutToFind, TrapsFinding, look_up, found_memory, sought_memory, IsNotIn, address_into, past, IsPageWord}
 use Rattle.v8_decode.specs.declared.AluOp.TheVariants as ops
 use Rattle.v8_decode.specs.declared.Instr.TheVariants as i
 use Rattle.v8_decode.specs.declared.LoadKind.TheVariants as loads
-use Rattle.code_runs.specs.Straight.{IsReady}
-use Rattle.code_runs.proofs.Acts.{says_puts, ld_traps}
-use Rattle.code_runs.proofs.Leads.{leads_one, silent_one}
-use Rattle.code_runs.proofs.Picked.{says_here, unpicked_is}
-use Rattle.addr_translate.specs.Lookup.{table_word}
-use Rattle.addr_translate.specs.Halves.{IsTwoLevel, entry_at, half_at}
 use Rattle.addr_translate.specs.Translator.{StandsAt}
-use Rattle.jump_code.specs.Finding.{LooksUp, FindsIt, IsAboutToFind, TrapsFinding, look_up, found_memory, sought_memory}
-use Rattle.jump_code.specs.FreeRegister.{IsNotIn}
-use Rattle.jump_code.specs.Links.{address_into, past}
-use Rattle.jump_code.specs.PageWords.{IsPageWord}
 use Rattle.jump_code.proofs.Blocks.{four, not_four, gives_sum, addressed, memory_valid, word1, word2, word7}
 use Rattle.jump_code.proofs.Swaps.{swap}
 

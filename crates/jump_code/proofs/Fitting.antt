@@ -1,17 +1,10 @@
 -- Instructions that have words.
-use Rattle.jump_code.proofs.Common.{◌≡◌, ℕ, zero, suc, ◌+◌, ◌/◌, ◌%◌, ◌^◌, ◌<◌, true, List, [], ◌∷◌, length, map, refl, ap, ◌∙◌, arith, Op2, Instr, Says, StandIn, HasWords, words_of}
-use Rattle.std.specs.Prelude.{nat_lt}
+use Rattle.jump_code.proofs.Common.{◌≡◌, ℕ, zero, suc, ◌+◌, ◌/◌, ◌%◌, ◌^◌, ◌<◌, true, List, [], ◌∷◌, length, map, refl, ap, ◌∙◌, arith, Op2, Instr, Says, StandIn, HasWords, words_of, nat_lt, has_word, op2_fits, Region, long_jump, look_up, IsApart, link}
 use Rattle.std.proofs.lemmas.Bool.{and_from, lt-ltb}
 use Rattle.v8_decode.specs.Ranges.{op2_in_range, is_in_range}
 use Rattle.v8_decode.specs.Words.{decode_of}
 use Rattle.v8_encode.specs.Encoding.{word_of}
-use Rattle.v8_encode.specs.Code.{has_word, op2_fits}
 use Rattle.v8_encode.proofs.Decoded.{decode_of-word_of}
-use Rattle.v8_memory.specs.Regions.{Region}
-use Rattle.code_runs.specs.LongJump.{long_jump}
-use Rattle.jump_code.specs.Finding.{look_up}
-use Rattle.jump_code.specs.FreeRegister.{IsApart}
-use Rattle.jump_code.specs.Links.{link}
 
 abbrev pub Fit : List Instr → Type 0
 Fit [] = Unit {0}

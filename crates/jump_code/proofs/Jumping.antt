@@ -1,8 +1,6 @@
 -- What a JMPL does at the original's address.
-use Rattle.jump_code.proofs.Common.{◌≡◌, ◌≢◌, ℕ, ◌+◌, ◌%◌, inl, inr, Some, None, refl, ap, sym, ◌∙◌, ◌==◌, Op2, Reg, Imm, wrapped, NoSlot, State, with_register, sum_of, mem_address_not_aligned, delayed, trapped, moved, equal_or_not}
+use Rattle.jump_code.proofs.Common.{◌≡◌, ◌≢◌, ℕ, ◌+◌, ◌%◌, inl, inr, Some, None, refl, ap, sym, ◌∙◌, ◌==◌, Op2, Reg, Imm, wrapped, NoSlot, State, with_register, sum_of, mem_address_not_aligned, delayed, trapped, moved, equal_or_not, jump_acts, jump_traps, jumped}
 use Rattle.v8_step.specs.declared.Ending.TheVariants.{Trap}
-use Rattle.code_runs.proofs.Acts.{jump_acts, jump_traps}
-use Rattle.jump_code.specs.Jumped.{jumped}
 use Rattle.jump_code.proofs.Blocks.{four, not_four}
 
 module _ (address rd rs1 : ℕ) (op2 : Op2) (s : State) where

@@ -1,14 +1,7 @@
 -- The words before the load of a switch, one by one.
-use Rattle.jump_code.proofs.Common.{length, ◌≡◌, ℕ, ◌+◌, ◌<◌, ◌≤◌, Bool, false, Some, refl, ap, arith, Op2, Reg, Imm, wrapped, Memory, State, register_of, operand_of, sum_of, register_of-range, wrapped-range, of_page, store_word, CanStore, count_stores, IsFirstWord, page_word, Is, IsAlike, WorksInTwo, pair, works_same, HasTwo, IsNext, alu, both, first, goes_on, in_two, none_in_two, st_in, two_registers, word, nth, word_stored, still_stored}
-use Rattle.std.specs.Prelude.{if◌then◌else◌}
+use Rattle.jump_code.proofs.Common.{length, ◌≡◌, ℕ, ◌+◌, ◌<◌, ◌≤◌, Bool, false, Some, refl, ap, arith, Op2, Reg, Imm, wrapped, Memory, State, register_of, operand_of, sum_of, register_of-range, wrapped-range, of_page, store_word, CanStore, count_stores, IsFirstWord, page_word, Is, IsAlike, WorksInTwo, pair, works_same, HasTwo, IsNext, alu, both, first, goes_on, in_two, none_in_two, st_in, two_registers, word, nth, word_stored, still_stored, if◌then◌else◌, any_of_word, word_span, one_if, stores_in_step, read_is, stores_next, second_register, save_load_address, kept_memory, IsAboutToSave, SavesLoadAddress, AddressesAreSaved}
 use Rattle.v8_decode.specs.declared.AluOp.TheVariants as ops
 use Rattle.v8_step.specs.Run.{run}
-use Rattle.code_runs.specs.Code.{any_of_word, word_span}
-use Rattle.code_runs.specs.Counted.{one_if, stores_in_step}
-use Rattle.code_runs.proofs.Hops.{read_is}
-use Rattle.code_runs.proofs.Picked.{stores_next}
-use Rattle.jump_code.specs.FreeRegister.{second_register}
-use Rattle.jump_code.specs.Keeping.{save_load_address, kept_memory, IsAboutToSave, SavesLoadAddress, AddressesAreSaved}
 use Rattle.jump_code.proofs.Blocks.{gives_sum}
 use Rattle.jump_code.proofs.Swaps.{swap}
 

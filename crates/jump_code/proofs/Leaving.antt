@@ -1,8 +1,6 @@
 -- The foreign piece, and long jumps out of the text.
-use Rattle.jump_code.proofs.Common.{◌≡◌, ◌+◌, ◌^◌, ◌<◌, inl, refl, ap, ◌∙◌, arith, pos, Imm, wrapped, Memory, code_of, register_of, register_of-range, IsFirstWord, page_word, of_page, store_word, Stores, memory_word, IsBetween, WorksInTwo, hops_through, leads_weaker, word_stored, other_word_stored, still_stored, can_load, memory_word-range, both, first, goes_on, ld_in, none_in_two, st_in, two_registers, word, stores_none, stores_then, nth_says}
+use Rattle.jump_code.proofs.Common.{◌≡◌, ◌+◌, ◌^◌, ◌<◌, inl, refl, ap, ◌∙◌, arith, pos, Imm, wrapped, Memory, code_of, register_of, register_of-range, IsFirstWord, page_word, of_page, store_word, Stores, memory_word, IsBetween, WorksInTwo, hops_through, leads_weaker, word_stored, other_word_stored, still_stored, can_load, memory_word-range, both, first, goes_on, ld_in, none_in_two, st_in, two_registers, word, stores_none, stores_then, nth_says, ForeignLeaves, FarGoes, foreign, IsPageWord, waiting}
 use Rattle.code_runs.proofs.LongJump.{long_jumps_hop}
-use Rattle.jump_code.specs.Leaving.{ForeignLeaves, FarGoes, foreign}
-use Rattle.jump_code.specs.PageWords.{IsPageWord, waiting}
 use Rattle.jump_code.proofs.Blocks.{four, word2}
 
 pub foreign_leaves : ForeignLeaves

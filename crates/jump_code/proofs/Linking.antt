@@ -1,11 +1,8 @@
 -- The words of a CALL write its link, as the original's step does.
-use Rattle.jump_code.proofs.Common.{◌≡◌, ℕ, ◌+◌, ◌*◌, ◌/◌, ◌%◌, Bool, false, refl, sym, subst, arith, pos, Imm, wrapped, act, step_of, next, State, with_register, count_stores, StandIn, says_step, works_state, says_at, both, none_in_two, two_registers, code_of}
+use Rattle.jump_code.proofs.Common.{◌≡◌, ℕ, ◌+◌, ◌*◌, ◌/◌, ◌%◌, Bool, false, refl, sym, subst, arith, pos, Imm, wrapped, act, step_of, next, State, with_register, count_stores, StandIn, says_step, works_state, says_at, both, none_in_two, two_registers, code_of, call_step, CallsSimulate, address_into, CallsAct, IsAboutToCall}
 use Rattle.v8_decode.specs.declared.AluOp.TheVariants as ops
 use Rattle.v8_decode.specs.declared.Instr.TheVariants as i
-use Rattle.v8_step.specs.Transfers.{call_step}
 use Rattle.code_runs.proofs.Counted.{no_stores, none_then}
-use Rattle.jump_code.specs.Jumped.{CallsSimulate}
-use Rattle.jump_code.specs.Links.{address_into, CallsAct, IsAboutToCall}
 use Rattle.jump_code.proofs.Blocks.{addressed}
 
 pub calls_act : CallsAct

@@ -1,10 +1,7 @@
 -- A register and a word change places.
-use Rattle.jump_code.proofs.Common.{◌≡◌, ℕ, ◌%◌, ◌<◌, true, refl, ap, sym, ◌∙◌, ◌==◌, Op2, Codes, Memory, code_of, State, register_of, with_register, sum_of, next, act, memory_word, store_word, CanStore, Is, IsAlike, can_load}
+use Rattle.jump_code.proofs.Common.{◌≡◌, ℕ, ◌%◌, ◌<◌, true, refl, ap, sym, ◌∙◌, ◌==◌, Op2, Codes, Memory, code_of, State, register_of, with_register, sum_of, next, act, memory_word, store_word, CanStore, Is, IsAlike, can_load, Acts, HasBlock, held_put, put, word_bytes, word_written, code-store_word, stores_one}
 use Rattle.v8_decode.specs.declared.Instr.TheVariants as i
 use Rattle.v8_step.specs.Accesses.{swap_step}
-use Rattle.code_runs.proofs.Picked.{Acts, HasBlock, held_put, put}
-use Rattle.code_runs.proofs.StoredWords.{word_bytes, word_written, code-store_word}
-use Rattle.code_runs.proofs.Stores.{stores_one}
 
 pub swap_acts : (s : State) (rd rs1 : ℕ) (x : Op2) (a : ℕ) → sum_of s rs1 x ≡ a → (a % 4 == 0) ≡ true
     → CanStore s.memory a → act s (i.Swap rd rs1 x) ≡ next

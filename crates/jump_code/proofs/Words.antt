@@ -1,12 +1,5 @@
 -- The words compute.
-use Rattle.jump_code.proofs.Common.{◌≡◌, [], ◌∷◌, map, Some, pos, refl, Imm, Reg}
-use Rattle.v8_encode.specs.Code.{encode_of}
-use Rattle.jump_code.specs.Finding.{look_up, resume}
-use Rattle.jump_code.specs.FreeRegister.{free_register, other_register}
-use Rattle.jump_code.specs.Links.{link}
-use Rattle.jump_code.specs.Leaving.{foreign}
-use Rattle.jump_code.specs.Keeping.{save_load_address}
-use Rattle.jump_code.specs.Choosing.{switch_jump}
+use Rattle.jump_code.proofs.Common.{◌≡◌, [], ◌∷◌, map, Some, pos, refl, Imm, Reg, encode_of, look_up, resume, free_register, other_register, link, foreign, save_load_address, switch_jump}
 
 -- jmpl %o7 + 8, %g0 at 0x10058, through %g1 and %g2, with the table at 0x20000
 pub returns : map encode_of (look_up (free_register 0 15 (Imm (pos 8))) (other_register 0 15 (Imm (pos 8))) 0 15

@@ -1,24 +1,8 @@
 -- What was made is a layout.
-use Rattle.std.proofs.Common.{◌≡◌, ℕ, zero, suc, ◌+◌, ◌-◌, ◌*◌, ◌%◌, ◌^◌, ◌<◌, ◌≤◌, inl, inr, Bool, true, false, List, [], ◌∷◌, ◌++◌, length, map, slice_get, slice_index, Option, Some, None, refl, ap, sym, ◌∙◌, subst, append_assoc, arith}
-use Rattle.std.specs.Prelude.{if◌then◌else◌}
-use Rattle.std.specs.Option.{option_map}
-use Rattle.std.proofs.lemmas.Bool.{cases_lt, eqb-true, false≢true}
-use Rattle.std.proofs.lemmas.List.{get_or_past, length-append, length-map}
-use Rattle.std.proofs.lemmas.Option.{slice_get-get_or, slice_get_within}
+use Rattle.layout.proofs.Common.{◌≡◌, ℕ, zero, suc, ◌+◌, ◌-◌, ◌*◌, ◌%◌, ◌^◌, ◌<◌, ◌≤◌, inl, inr, Bool, true, false, List, [], ◌∷◌, ◌++◌, length, map, slice_get, slice_index, Option, Some, None, refl, ap, sym, ◌∙◌, subst, append_assoc, arith, if◌then◌else◌, option_map, cases_lt, eqb-true, false≢true, get_or_past, length-append, length-map, slice_get-get_or, slice_get_within, PieceNo, NoteRange, Item, Placed, Entry, Placement, placement_of, note_range, item_at, size_of, range_in, range_of, open_in, is_jump, AllLead, LeadsBelow, AllMarked, AreMarked, Ascend, IsLaid, IsPlaceIn, Stands, Lays, compact_order, exit_at, jump_to, IsWhole, Forms, entries_in, entries_from, entries_of, far, leads_next, offset, start_of, target, width, IsWidened, IsCompact, address_of, addresses, or_zero, target_offset, ranges_from, IsEmitted, IsOffsets}
 use Rattle.eel_base.specs.declared.numbers.Addr.{Addr}
-use Rattle.eel_base.specs.declared.numbers.PieceNo.{PieceNo}
-use Rattle.notes.specs.Format.{NoteRange}
-use Rattle.layout.specs.declared.items.Item.{Item}
 use Rattle.layout.specs.declared.items.Item.TheVariants as it
-use Rattle.layout.specs.declared.items.Placed.{Placed}
-use Rattle.layout.specs.declared.entries.Entry.{Entry}
 use Rattle.layout.specs.declared.entries.Entry.TheVariants as en
-use Rattle.layout.specs.Laid.{Placement, placement_of, note_range, item_at, size_of, range_in, range_of, open_in, is_jump, AllLead, LeadsBelow, AllMarked, AreMarked, Ascend, IsLaid, IsPlaceIn, Stands, Lays}
-use Rattle.layout.specs.Order.{compact_order, exit_at, jump_to}
-use Rattle.layout.specs.Laying.{IsWhole}
-use Rattle.layout.specs.Forms.{Forms, entries_in, entries_from, entries_of, far, leads_next, offset, start_of, target, width, IsWidened}
-use Rattle.layout.specs.Compact.{IsCompact}
-use Rattle.layout.specs.Private.{address_of, addresses, or_zero, target_offset, ranges_from, IsEmitted, IsOffsets}
 use Rattle.layout.proofs.Laying.{exits_lead, follows, item_is, whole_is}
 use Rattle.layout.proofs.Listed.{items_at, from_append, split_at, start_at, before_absent}
 use Rattle.layout.proofs.Widening.{offset_more, rises}

@@ -1,10 +1,5 @@
 -- The words of one entry more.
-use Rattle.std.proofs.Common.{◌≡◌, ℕ, suc, ◌+◌, inl, inr, true, false, List, [], ◌++◌, slice_get, Option, None, Some, refl, ap, sym, ◌∙◌, add-one, arith}
-use Rattle.std.specs.Option.{option_map}
-use Rattle.std.proofs.lemmas.Bool.{cases_lt, false≢true, false_from_ne_true}
-use Rattle.layout.specs.declared.entries.Entry.{Entry}
-use Rattle.layout.specs.Forms.{Forms, far_from, goal_of, out_of_reach, offset, NoneLeft}
-use Rattle.layout.specs.Private.{code_at, code_to, far_of, has_condition, target_offset, IsEmitted}
+use Rattle.layout.proofs.Common.{◌≡◌, ℕ, suc, ◌+◌, inl, inr, true, false, List, [], ◌++◌, slice_get, Option, None, Some, refl, ap, sym, ◌∙◌, add-one, arith, option_map, cases_lt, false≢true, false_from_ne_true, Entry, Forms, far_from, goal_of, out_of_reach, offset, NoneLeft, code_at, code_to, far_of, has_condition, target_offset, IsEmitted}
 pub use Rattle.layout.proofs.Rows.{three_order}
 
 pub code_none : (base : ℕ) (entries : List Entry) (long : Forms) → code_to base entries long 0 ≡ []

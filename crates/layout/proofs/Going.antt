@@ -1,8 +1,5 @@
 -- What placed items do.
-use Rattle.std.proofs.Common.{◌≡◌, ℕ, zero, suc, ◌+◌, ◌-◌, ◌%◌, ◌^◌, ◌<◌, ◌≤◌, inl, inr, Bool, true, false, not, Some, List, [], ◌∷◌, length, refl, ap, sym, ◌∙◌, arith}
-use Rattle.std.specs.Prelude.{if◌then◌else◌, ◌==◌, slice_index, ℤ, pos}
-use Rattle.std.proofs.lemmas.Option.{slice_get_within}
-use Rattle.v8_decode.specs.declared.Instr.{Instr}
+use Rattle.layout.proofs.Common.{◌≡◌, ℕ, zero, suc, ◌+◌, ◌-◌, ◌%◌, ◌^◌, ◌<◌, ◌≤◌, inl, inr, Bool, true, false, not, Some, List, [], ◌∷◌, length, refl, ap, sym, ◌∙◌, arith, if◌then◌else◌, ◌==◌, slice_index, ℤ, pos, slice_get_within, Instr, store_word, Item, Placement, IsLaid, IsWordAt, SaysFrom, JumpStands, jump_nothing, jump_short, jump_long, BranchStands, branch_short, branch_long, Reaches, nop, opposite, item_at, size_of, long_jump, IsFirstWord}
 use Rattle.v8_decode.specs.declared.Instr.TheVariants as i
 use Rattle.v8_alu.specs.declared.Codes.{Codes}
 use Rattle.v8_alu.specs.Numbers.{wrapped}
@@ -15,7 +12,6 @@ use Rattle.v8_step.specs.Transfers.{branched, branch_step, target_of}
 use Rattle.v8_step.specs.Step.{act, step_of}
 use Rattle.v8_step.specs.Valid.{IsValid}
 use Rattle.v8_step.proofs.ValidSteps.{run-valid}
-use Rattle.code_runs.specs.Code.{store_word}
 use Rattle.code_runs.specs.Counted.{count_stores}
 use Rattle.code_runs.specs.Straight.{IsReady, Says, StandIn}
 use Rattle.code_runs.specs.Leads.{IsBetween}
@@ -26,10 +22,7 @@ use Rattle.code_runs.proofs.Counted.{no_stores, none_then}
 use Rattle.code_runs.proofs.LongJump.{long_jumps_hop, long_jumps_store}
 use Rattle.code_runs.proofs.Stores.{stores_none}
 use Rattle.code_runs.proofs.Straight.{says_at}
-use Rattle.layout.specs.declared.items.Item.{Item}
 use Rattle.layout.specs.declared.items.Item.TheVariants as it
-use Rattle.layout.specs.Laid.{Placement, IsLaid, IsWordAt, SaysFrom, JumpStands, jump_nothing, jump_short, jump_long, BranchStands, branch_short, branch_long, Reaches, nop, opposite, item_at, size_of}
-use Rattle.code_runs.specs.LongJump.{long_jump, IsFirstWord}
 use Rattle.code_runs.specs.Page.{page_word}
 use Rattle.layout.specs.Running.{HasCode, CanRun, Goes, JumpsHop, BranchesHop, WordsStand}
 

@@ -1,19 +1,11 @@
 -- Pieces are laid one by one, each once.
-use Rattle.std.proofs.Common.{◌≡◌, ◌≢◌, ℕ, zero, suc, ◌+◌, ◌-◌, ◌<◌, ◌≤◌, inl, inr, Bool, true, false, not, ◌&&◌, ◌||◌, eqb, List, [], ◌∷◌, ◌++◌, length, get_or, set, slice_get, Option, Some, None, is_some, IfSome, ltb, replicate, refl, ap, sym, ◌∙◌, arith}
+use Rattle.layout.proofs.Common.{◌≡◌, ◌≢◌, ℕ, zero, suc, ◌+◌, ◌-◌, ◌<◌, ◌≤◌, inl, inr, Bool, true, false, not, ◌&&◌, ◌||◌, eqb, List, [], ◌∷◌, ◌++◌, length, get_or, set, slice_get, Option, Some, None, is_some, IfSome, ltb, replicate, refl, ap, sym, ◌∙◌, arith, All, IsDistinct, and_parts, cond_both, not-true, or_right, cases_lt, cases_eq, eqb-true, eq-eqb, cases_Bool, ltb-true, lt-ltb, false≢true, ne_eqb, false_from_ne_true, get_or-replicate, length-set, length-replicate, length-append, get_or-set_same, get_or-set_other, Item, AllLead, LeadsBelow, item_at, jump_to, exit_at, is_laid, first_left, lowest_left, behind, next_after, ends_in_jump, first_laid, next_piece, compact_order, LeadsInside, IsLaying, IsMarking, IsLowestLeft, IsWhole, PieceNo}
 use Rattle.std.specs.Cmp.{IsEquivalence}
-use Rattle.std.specs.List.{All, IsDistinct}
-use Rattle.std.proofs.lemmas.Bool.{and_parts, cond_both, not-true, or_right, cases_lt, cases_eq, eqb-true, eq-eqb, cases_Bool, ltb-true, lt-ltb, false≢true, ne_eqb, false_from_ne_true}
 use Rattle.std.proofs.lemmas.List.Folds.{list_any-append, Any-from_list_any}
 use Rattle.std.proofs.lemmas.Map.Keys.{any_passes_from_place, IsDistinct-push}
 use Rattle.std.proofs.lemmas.List.Elements.{All-push}
-use Rattle.std.proofs.lemmas.List.{get_or-replicate, length-set, length-replicate, length-append, get_or-set_same, get_or-set_other}
 use Rattle.std.proofs.lemmas.Map.Steps.{le-length_from_below, length-le_from_distinct_below}
-use Rattle.layout.specs.declared.items.Item.{Item}
 use Rattle.layout.specs.declared.items.Item.TheVariants as it
-use Rattle.layout.specs.Laid.{AllLead, LeadsBelow, item_at}
-use Rattle.layout.specs.Order.{jump_to, exit_at, is_laid, first_left, lowest_left, behind, next_after, ends_in_jump, first_laid, next_piece, compact_order}
-use Rattle.layout.specs.Laying.{LeadsInside, IsLaying, IsMarking, IsLowestLeft, IsWhole}
-use Rattle.eel_base.specs.declared.numbers.PieceNo.{PieceNo}
 
 -- k may be laid next: it isn't laid, and what falls into it is
 pub record IsNext (pieces : List (List Item)) (laid : List ℕ) (k : ℕ) : Type 0 where

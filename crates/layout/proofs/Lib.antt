@@ -1,3 +1,4 @@
+pub mod Common
 pub mod Assembled
 pub mod Emitted
 pub mod Going

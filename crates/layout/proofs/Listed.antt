@@ -1,18 +1,6 @@
 -- The pieces as one list of entries.
-use Rattle.std.proofs.Common.{◌≡◌, ℕ, zero, suc, ◌+◌, ◌<◌, ◌≤◌, inl, inr, Bool, true, false, ◌||◌, eqb, List, [], ◌∷◌, ◌++◌, length, get_or, set, slice_get, Some, IfSome, map, refl, ap, sym, ◌∙◌, append_assoc, arith}
-use Rattle.std.specs.Prelude.{if◌then◌else◌}
-use Rattle.std.specs.List.{All, AllByRecursion, IsDistinct, sum_by}
-use Rattle.std.proofs.lemmas.Bool.{cases_Bool, eqb-true, eq-eqb, false≢true, ne_eqb, or_parts}
-use Rattle.std.proofs.lemmas.List.Sums.{sum_by-set}
-use Rattle.std.proofs.lemmas.List.{get_or-set_other, length-set, length-append, length-map}
-use Rattle.layout.specs.declared.items.Item.{Item}
-use Rattle.layout.specs.declared.entries.Entry.{Entry}
+use Rattle.layout.proofs.Common.{◌≡◌, ℕ, zero, suc, ◌+◌, ◌<◌, ◌≤◌, inl, inr, Bool, true, false, ◌||◌, eqb, List, [], ◌∷◌, ◌++◌, length, get_or, set, slice_get, Some, IfSome, map, refl, ap, sym, ◌∙◌, append_assoc, arith, if◌then◌else◌, All, AllByRecursion, IsDistinct, sum_by, cases_Bool, eqb-true, eq-eqb, false≢true, ne_eqb, or_parts, sum_by-set, get_or-set_other, length-set, length-append, length-map, Item, Entry, AllLead, LeadsBelow, is_laid, IsWhole, entries_in, entries_from, start_of, target, IsListing}
 use Rattle.layout.specs.declared.entries.Entry.TheVariants as en
-use Rattle.layout.specs.Laid.{AllLead, LeadsBelow}
-use Rattle.layout.specs.Order.{is_laid}
-use Rattle.layout.specs.Laying.{IsWhole}
-use Rattle.layout.specs.Forms.{entries_in, entries_from, start_of, target}
-use Rattle.layout.specs.Private.{IsListing}
 use Rattle.layout.proofs.Laying.{the_equality, laid_inside, item_is}
 use Rattle.layout.proofs.Offsets.{piece_in}
 

@@ -1,19 +1,8 @@
 -- How much room the compact layout needs.
-use Rattle.std.proofs.Common.{◌≡◌, ℕ, zero, suc, ◌+◌, ◌*◌, ◌^◌, ◌<◌, ◌≤◌, Bool, false, List, [], ◌∷◌, ◌++◌, length, map, get_or, take, slice_get, Option, Some, None, refl, ap, sym, ◌∙◌, arith}
-use Rattle.std.proofs.lemmas.Bool.{false≢true, false_from_ne_true}
-use Rattle.std.proofs.lemmas.List.Sums.{sum_by-cons}
-use Rattle.std.proofs.lemmas.List.{take_more, take_all}
-use Rattle.std.proofs.lemmas.Option.{slice_get-get_or, slice_get_within}
-use Rattle.layout.specs.declared.items.Item.{Item}
+use Rattle.layout.proofs.Common.{◌≡◌, ℕ, zero, suc, ◌+◌, ◌*◌, ◌^◌, ◌<◌, ◌≤◌, Bool, false, List, [], ◌∷◌, ◌++◌, length, map, get_or, take, slice_get, Option, Some, None, refl, ap, sym, ◌∙◌, arith, false≢true, false_from_ne_true, sum_by-cons, take_more, take_all, slice_get-get_or, slice_get_within, Item, Entry, AllLead, LeadsBelow, IsLaid, Placement, item_at, long_words, piece_words, short_words, size_of, compact_order, Forms, entries_in, entries_from, entries_of, far, far_from, goal_of, out_of_reach, offset, start_of, target, width, IsCompact, LongIsEnough, NeededOnce, ShortIsEnough, nat_tests}
 use Rattle.layout.specs.declared.items.Item.TheVariants as it
-use Rattle.layout.specs.declared.entries.Entry.{Entry}
 use Rattle.layout.specs.declared.entries.Entry.TheVariants as en
-use Rattle.layout.specs.Laid.{AllLead, LeadsBelow, IsLaid, Placement, item_at, long_words, piece_words, short_words, size_of}
-use Rattle.layout.specs.Order.{compact_order}
-use Rattle.layout.specs.Forms.{Forms, entries_in, entries_from, entries_of, far, far_from, goal_of, out_of_reach, offset, start_of, target, width}
-use Rattle.layout.specs.Compact.{IsCompact, LongIsEnough, NeededOnce, ShortIsEnough}
 use Rattle.layout.proofs.Offsets.{offset_none}
-use Rattle.std.proofs.lemmas.Bool.Decides.{nat_tests}
 use Rattle.layout.proofs.Laying.{exits_lead, item_is, whole_is}
 use Rattle.layout.proofs.Listed.{items_at, weigh, weighs_less}
 use Rattle.layout.proofs.Widening.{offset_more, widened_once}

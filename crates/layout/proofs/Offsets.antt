@@ -1,13 +1,6 @@
 -- The words before each entry, and before each piece.
-use Rattle.std.proofs.Common.{◌≡◌, ℕ, zero, suc, ◌+◌, ◌*◌, ◌<◌, ◌≤◌, inl, inr, Bool, true, List, [], ◌∷◌, ◌++◌, length, set, slice_get, slice_index, Option, Some, refl, ap, sym, ◌∙◌, add-one, arith}
-use Rattle.std.proofs.lemmas.Bool.{cases_eq, eqb-true, cond_both}
-use Rattle.std.proofs.lemmas.List.{append_assoc, get_or-set_other, get_or-set_same, length-set}
-use Rattle.eel_base.specs.declared.range.Range.{Range}
-use Rattle.layout.specs.declared.entries.Entry.{Entry}
+use Rattle.layout.proofs.Common.{◌≡◌, ℕ, zero, suc, ◌+◌, ◌*◌, ◌<◌, ◌≤◌, inl, inr, Bool, true, List, [], ◌∷◌, ◌++◌, length, set, slice_get, slice_index, Option, Some, refl, ap, sym, ◌∙◌, add-one, arith, cases_eq, eqb-true, cond_both, append_assoc, get_or-set_other, get_or-set_same, length-set, Range, Entry, OpenRange, Forms, is_start, offset, start_of, width, closes, noted, opens, ranges_from, IsListing, IsOffsets, StartsBelow}
 use Rattle.layout.specs.declared.entries.Entry.TheVariants as en
-use Rattle.layout.specs.declared.ranges.OpenRange.{OpenRange}
-use Rattle.layout.specs.Forms.{Forms, is_start, offset, start_of, width}
-use Rattle.layout.specs.Private.{closes, noted, opens, ranges_from, IsListing, IsOffsets, StartsBelow}
 use Rattle.layout.proofs.Widening.{offset_more}
 
 -- the words before each piece that starts at one of the first n entries

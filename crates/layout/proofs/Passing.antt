@@ -1,16 +1,6 @@
 -- Passes that widen what is out of reach.
-use Rattle.std.proofs.Common.{◌≡◌, ℕ, zero, suc, ◌+◌, ◌-◌, ◌<◌, ◌≤◌, ◌^◌, ◌⊎◌, inl, inr, Bool, true, false, cond, not, ◌&&◌, List, ◌∷◌, length, get_or, set, replicate, count_by, slice_get, Option, Some, None, IfSome, refl, ap, sym, subst, ◌∙◌, add-one, arith}
-use Rattle.std.specs.Prelude.{if◌then◌else◌, slice_index}
-use Rattle.std.specs.Option.{option_map}
-use Rattle.std.proofs.lemmas.Bool.Decides.{nat_tests}
-use Rattle.std.proofs.lemmas.Bool.{cases_eq, cases_lt, false≢true}
-use Rattle.std.proofs.lemmas.List.Sums.{count_by-le-length, sum_by-set}
-use Rattle.std.proofs.lemmas.Option.{slice_get_past}
-use Rattle.std.proofs.lemmas.List.{length-set, get_or-set_other, get_or-set_same}
-use Rattle.layout.specs.declared.entries.Entry.{Entry}
+use Rattle.layout.proofs.Common.{◌≡◌, ℕ, zero, suc, ◌+◌, ◌-◌, ◌<◌, ◌≤◌, ◌^◌, ◌⊎◌, inl, inr, Bool, true, false, cond, not, ◌&&◌, List, ◌∷◌, length, get_or, set, replicate, count_by, slice_get, Option, Some, None, IfSome, refl, ap, sym, subst, ◌∙◌, add-one, arith, if◌then◌else◌, slice_index, option_map, nat_tests, cases_eq, cases_lt, false≢true, count_by-le-length, sum_by-set, slice_get_past, length-set, get_or-set_other, get_or-set_same, Entry, Forms, start_of, target, far, far_from, out_of_reach, offset, width, IsWidened, beyond, beyond_of, far_of, forms_in, goal_in, noted, widens, IsFormed, IsListing, IsOffsets, IsPassed, IsWidening}
 use Rattle.layout.specs.declared.entries.Entry.TheVariants as en
-use Rattle.layout.specs.Forms.{Forms, start_of, target, far, far_from, out_of_reach, offset, width, IsWidened}
-use Rattle.layout.specs.Private.{beyond, beyond_of, far_of, forms_in, goal_in, noted, widens, IsFormed, IsListing, IsOffsets, IsPassed, IsWidening}
 use Rattle.layout.proofs.Offsets.{AreOffsets, all_offsets, noted_len, offset_none, offsets_more}
 use Rattle.layout.proofs.Widening.{add_more, offset_more, rises, wider, widening_more}
 use Rattle.layout.proofs.Walked.{goal_low, reach_is, turn, walk_more, IsWalk}

@@ -1,22 +1,9 @@
 -- The ranges are those of the Marks.
-use Rattle.std.proofs.Common.{◌≡◌, ℕ, zero, suc, ◌+◌, ◌<◌, ◌≤◌, Bool, true, false, ◌&&◌, Option, Some, None, List, [], ◌∷◌, ◌++◌, length, map, slice_get, refl, ap, sym, ◌∙◌, append_assoc, arith}
-use Rattle.std.specs.Prelude.{nat_le, nat_lt, if◌then◌else◌}
-use Rattle.std.proofs.lemmas.Bool.Decides.{nat_tests}
-use Rattle.std.proofs.lemmas.Option.{slice_get_within}
-use Rattle.std.proofs.lemmas.List.{length-append, length-map, map-append}
-use Rattle.eel_base.specs.declared.range.Range.{Range}
-use Rattle.notes.specs.Format.{NoteRange}
-use Rattle.layout.specs.declared.items.Item.{Item}
+use Rattle.layout.proofs.Common.{◌≡◌, ℕ, zero, suc, ◌+◌, ◌<◌, ◌≤◌, Bool, true, false, ◌&&◌, Option, Some, None, List, [], ◌∷◌, ◌++◌, length, map, slice_get, refl, ap, sym, ◌∙◌, append_assoc, arith, nat_le, nat_lt, if◌then◌else◌, nat_tests, slice_get_within, length-append, length-map, map-append, Range, NoteRange, Item, Entry, OpenRange, note_range, range_in, item_at, AreMarked, OpenMark, end_from, open_from, range_of, Ascend, IsRangeOf, entries_in, entries_from, closed, closes, opens, ranges_from, lt-ltb, ltb-true, cond_both}
 use Rattle.layout.specs.declared.items.Item.TheVariants as it
-use Rattle.layout.specs.declared.entries.Entry.{Entry}
 use Rattle.layout.specs.declared.entries.Entry.TheVariants as en
-use Rattle.layout.specs.declared.ranges.OpenRange.{OpenRange}
-use Rattle.layout.specs.Laid.{note_range, range_in, item_at, AreMarked, OpenMark, end_from, open_from, range_of, Ascend, IsRangeOf}
-use Rattle.layout.specs.Forms.{entries_in, entries_from}
-use Rattle.layout.specs.Private.{closed, closes, opens, ranges_from}
 use Rattle.layout.proofs.Widening.{rises_to}
 use Rattle.layout.proofs.Listed.{items_at}
-use Rattle.std.proofs.lemmas.Bool.{lt-ltb, ltb-true, cond_both}
 
 -- the ranges as notes say them
 abbrev pub seen : List Range → List NoteRange

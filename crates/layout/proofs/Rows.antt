@@ -1,8 +1,6 @@
 -- Worked orders.
-use Rattle.std.specs.Prelude.{List, [], ◌∷◌, ◌≡◌, refl}
-use Rattle.layout.specs.declared.items.Item.{Item}
+use Rattle.layout.proofs.Common.{List, [], ◌∷◌, ◌≡◌, refl, Item, first_laid, compact_order}
 use Rattle.layout.specs.declared.items.Item.TheVariants.{Word, Jump}
-use Rattle.layout.specs.Order.{first_laid, compact_order}
 
 -- A word and a Jump to the third piece, and two that jump to the second: the third comes right behind the first.
 abbrev three : List (List Item)

@@ -1,11 +1,7 @@
 -- Each entry's words stand in the code, and say what it is.
-use Rattle.std.proofs.Common.{◌≡◌, ℕ, zero, suc, ◌+◌, ◌-◌, ◌*◌, ◌/◌, ◌%◌, ◌^◌, ◌<◌, ◌≤◌, inl, inr, Bool, true, false, List, [], ◌∷◌, ◌++◌, length, slice_get, Option, Some, refl, ap, sym, ◌∙◌, arith, length-append}
+use Rattle.layout.proofs.Common.{◌≡◌, ℕ, zero, suc, ◌+◌, ◌-◌, ◌*◌, ◌/◌, ◌%◌, ◌^◌, ◌<◌, ◌≤◌, inl, inr, Bool, true, false, List, [], ◌∷◌, ◌++◌, length, slice_get, Option, Some, refl, ap, sym, ◌∙◌, arith, length-append, pos, negsuc, ℤ, nat_lt, if◌then◌else◌, slice_index, nat_tests, lt-ltb, cases_lt, cond_both, Instr, long_jump, of_page, Item, Entry, Placement, SaysFrom, JumpStands, jump_nothing, jump_short, jump_long, BranchStands, branch_short, branch_long, Stands, Reaches, nop, opposite, Forms, far, leads_next, offset, width, between, branch_in_form, code_at, code_to, entry_code, has_condition, jump_in_form, or_zero, target_offset}
 use Rattle.std.proofs.lemmas.Int.{ints}
-use Rattle.std.specs.Prelude.{pos, negsuc, ℤ, nat_lt, if◌then◌else◌, slice_index}
-use Rattle.std.proofs.lemmas.Bool.Decides.{nat_tests}
-use Rattle.std.proofs.lemmas.Bool.{lt-ltb, cases_lt, cond_both}
 use Rattle.v8_decode.specs.declared.Op2.TheVariants.{Imm}
-use Rattle.v8_decode.specs.declared.Instr.{Instr}
 use Rattle.v8_decode.specs.declared.Instr.TheVariants as i
 use Rattle.v8_decode.specs.declared.LoadKind.TheVariants as loads
 use Rattle.v8_decode.specs.declared.StoreKind.TheVariants as stores
@@ -13,15 +9,8 @@ use Rattle.v8_decode.specs.Words.{decode_of}
 use Rattle.v8_encode.specs.Encoding.{word_of}
 use Rattle.v8_encode.specs.Code.{fits_signed}
 use Rattle.v8_encode.proofs.Decoded.{decode_of-word_of}
-use Rattle.code_runs.specs.LongJump.{long_jump}
-use Rattle.code_runs.specs.Code.{of_page}
-use Rattle.layout.specs.declared.items.Item.{Item}
 use Rattle.layout.specs.declared.items.Item.TheVariants as it
-use Rattle.layout.specs.declared.entries.Entry.{Entry}
 use Rattle.layout.specs.declared.entries.Entry.TheVariants as en
-use Rattle.layout.specs.Laid.{Placement, SaysFrom, JumpStands, jump_nothing, jump_short, jump_long, BranchStands, branch_short, branch_long, Stands, Reaches, nop, opposite}
-use Rattle.layout.specs.Forms.{Forms, far, leads_next, offset, width}
-use Rattle.layout.specs.Private.{between, branch_in_form, code_at, code_to, entry_code, has_condition, jump_in_form, or_zero, target_offset}
 use Rattle.layout.specs.Emitting.{words_of}
 use Rattle.layout.proofs.Emitted.{code_more, code_none}
 use Rattle.layout.proofs.Offsets.{offset_none}

@@ -1,11 +1,5 @@
 -- Entries are taken one after the other.
-use Rattle.std.proofs.Common.{◌≡◌, ℕ, zero, suc, ◌+◌, ◌^◌, ◌<◌, ◌≤◌, false, List, [], ◌∷◌, length, drop, slice_get, slice_index, Option, Some, None, IfSome, refl, ap, sym, ◌∙◌, add-one, arith}
-use Rattle.std.specs.Option.{option_map}
-use Rattle.std.proofs.Math.Seq.{drop-length}
-use Rattle.std.proofs.lemmas.List.{length-drop}
-use Rattle.layout.specs.declared.entries.Entry.{Entry}
-use Rattle.layout.specs.Forms.{Forms, far_from, goal_of, out_of_reach, offset, start_of, target, width, NoneLeft}
-use Rattle.layout.specs.Private.{code_at, entry_code, far_of, goal_in, or_zero, target_offset, IsOffsets}
+use Rattle.layout.proofs.Common.{◌≡◌, ℕ, zero, suc, ◌+◌, ◌^◌, ◌<◌, ◌≤◌, false, List, [], ◌∷◌, length, drop, slice_get, slice_index, Option, Some, None, IfSome, refl, ap, sym, ◌∙◌, add-one, arith, option_map, drop-length, length-drop, Entry, Forms, far_from, goal_of, out_of_reach, offset, start_of, target, width, NoneLeft, code_at, entry_code, far_of, goal_in, or_zero, target_offset, IsOffsets}
 use Rattle.layout.proofs.Offsets.{offset_next, offset_none, offset_small}
 use Rattle.layout.proofs.Widening.{rises}
 use Rattle.layout.proofs.Emitted.{near_enough}

@@ -1,14 +1,7 @@
 -- What is placed, and what is told of its room.
-use Rattle.std.proofs.Common.{◌≡◌, ℕ, ◌+◌, ◌*◌, ◌%◌, ◌^◌, ◌≤◌, Bool, List, length, Result, Ok, Err, IfOk, ap, ◌∙◌, arith}
-use Rattle.layout.specs.declared.items.Item.{Item}
-use Rattle.layout.specs.declared.items.Placed.{Placed}
+use Rattle.layout.proofs.Common.{◌≡◌, ℕ, ◌+◌, ◌*◌, ◌%◌, ◌^◌, ◌≤◌, Bool, List, length, Result, Ok, Err, IfOk, ap, ◌∙◌, arith, Item, Placed, Entry, ArePieces, Lays, placement_of, Forms, entries_of, offset, IsCompact, IsNeeded, RoomIs, forms_in, FitsIn, IsFormed, IsPut}
 use Rattle.layout.specs.declared.items.LayoutFault.{LayoutFault}
 use Rattle.layout.specs.declared.items.LayoutFault.TheVariants as faults
-use Rattle.layout.specs.declared.entries.Entry.{Entry}
-use Rattle.layout.specs.Laid.{ArePieces, Lays, placement_of}
-use Rattle.layout.specs.Forms.{Forms, entries_of, offset}
-use Rattle.layout.specs.Compact.{IsCompact, IsNeeded, RoomIs}
-use Rattle.layout.specs.Private.{forms_in, FitsIn, IsFormed, IsPut}
 use Rattle.layout.proofs.Standing.{code_length}
 use Rattle.layout.proofs.Assembled.{lays}
 

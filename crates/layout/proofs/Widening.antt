@@ -1,10 +1,5 @@
 -- Widening only grows, so that every way of widening ends at the same forms.
-use Rattle.std.proofs.Common.{◌≡◌, ℕ, zero, suc, ◌+◌, ◌-◌, ◌<◌, ◌≤◌, ◌⊎◌, inl, inr, Bool, true, List, slice_get, Option, Some, None, refl, ap, arith}
-use Rattle.std.proofs.lemmas.Bool.Decides.{nat_tests}
-use Rattle.std.proofs.lemmas.Bool.{cases_lt}
-use Rattle.layout.specs.declared.entries.Entry.{Entry}
-use Rattle.layout.specs.Forms.{Forms, goal_of, width, offset, far, far_from, out_of_reach, IsWidened}
-use Rattle.layout.specs.Private.{IsWidening, IsWithin}
+use Rattle.layout.proofs.Common.{◌≡◌, ℕ, zero, suc, ◌+◌, ◌-◌, ◌<◌, ◌≤◌, ◌⊎◌, inl, inr, Bool, true, List, slice_get, Option, Some, None, refl, ap, arith, nat_tests, cases_lt, Entry, Forms, goal_of, width, offset, far, far_from, out_of_reach, IsWidened, IsWidening, IsWithin}
 
 -- a long entry has no fewer words
 pub wider : (x next : Option Entry) (a b : Bool) → (a ≡ true → b ≡ true) → width a x next ≤ width b x next

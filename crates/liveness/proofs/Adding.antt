@@ -1,10 +1,5 @@
 -- What loops add, turn by turn.
-use Rattle.std.proofs.Common.{◌≡◌, ℕ, ◌+◌, ◌≤◌, ◌⊎◌, inl, inr, Bool, true, false, List, [], ◌∷◌, ◌++◌, sym, ◌∙◌, arith}
-use Rattle.std.specs.List.{Contains}
-use Rattle.std.proofs.lemmas.Bool.{cases_lt, false≢true}
-use Rattle.std.proofs.lemmas.List.Elements.{Contains-push, Contains-append_left, Contains-push_cases}
-use Rattle.flood.specs.declared.Link.{Link}
-use Rattle.liveness.specs.Search.{Adds, Between}
+use Rattle.liveness.proofs.Common.{◌≡◌, ℕ, ◌+◌, ◌≤◌, ◌⊎◌, inl, inr, Bool, true, false, List, [], ◌∷◌, ◌++◌, sym, ◌∙◌, arith, Contains, cases_lt, false≢true, Contains-push, Contains-append_left, Contains-push_cases, Link, Adds, Between}
 
 module _ {A : Type 0} where
   -- nothing

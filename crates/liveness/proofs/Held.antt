@@ -1,9 +1,5 @@
 -- Each word of a text is held by one block.
-use Rattle.std.proofs.Common.{◌≡◌, ℕ, suc, ◌+◌, ◌<◌, ◌≤◌, List, length, slice_index, refl, ap, arith, inl, inr}
-use Rattle.std.proofs.lemmas.Bool.{cases_order, lt-ltb}
-use Rattle.std.specs.Prelude.{nat_lt, if◌then◌else◌}
-use Rattle.cfg_blocks.specs.Code.{AreFirsts}
-use Rattle.cfg_blocks.specs.Blocks.{block_end}
+use Rattle.liveness.proofs.Common.{◌≡◌, ℕ, suc, ◌+◌, ◌<◌, ◌≤◌, List, length, slice_index, refl, ap, arith, inl, inr, cases_order, lt-ltb, nat_lt, if◌then◌else◌, AreFirsts, block_end}
 pub use Rattle.cfg_blocks.proofs.Held.{IsIn, ends_within, is_held, some_block, some_words}
 use Rattle.cfg_blocks.proofs.Held.{apart}
 

@@ -1,18 +1,6 @@
 -- What sets have after each step of the computation.
-use Rattle.std.proofs.Common.{◌≡◌, ◌↔◌, ℕ, zero, suc, ◌+◌, ◌<◌, ◌≤◌, ◌⊎◌, inl, inr, true, false, not, ◌&&◌, ◌||◌, List, [], ◌∷◌, ◌++◌, length, length-take, map, take, ap, sym, ◌∙◌, arith}
-use Rattle.std.proofs.lemmas.Bool.{cases_lt, false≢true, or_cases, or_left, or_right}
-use Rattle.std.proofs.lemmas.List.{get_or-take, get_or_append_left, get_or_push}
-use Rattle.v8_decode.specs.declared.Part.{Part}
-use Rattle.v8_decode.specs.Parts.{every_part, has, members}
-use Rattle.v8_decode.specs.Code.{minus}
+use Rattle.liveness.proofs.Common.{◌≡◌, ◌↔◌, ℕ, zero, suc, ◌+◌, ◌<◌, ◌≤◌, ◌⊎◌, inl, inr, true, false, not, ◌&&◌, ◌||◌, List, [], ◌∷◌, ◌++◌, length, length-take, map, take, ap, sym, ◌∙◌, arith, cases_lt, false≢true, or_cases, or_left, or_right, get_or-take, get_or_append_left, get_or_push, Part, every_part, has, members, minus, Sets, at, AreFirsts, Graph, is_copied, Landed, HoldsIn, Adds, AreJoined, Between, In, LivesInCopy, nodes_from, place_of}
 use Rattle.v8_decode.proofs.Members.{has-every_part, members-same}
-use Rattle.flood.specs.Flood.{Sets, at}
-use Rattle.cfg_blocks.specs.Code.{AreFirsts}
-use Rattle.cfg_normal.specs.Graph.{Graph}
-use Rattle.cfg_normal.specs.Opens.{is_copied}
-use Rattle.cfg_normal.specs.declared.Node.TheVariants.{Landed}
-use Rattle.liveness.specs.Live.{HoldsIn}
-use Rattle.liveness.specs.Search.{Adds, AreJoined, Between, In, LivesInCopy, nodes_from, place_of}
 use Rattle.liveness.proofs.Held.{same_number}
 use Rattle.liveness.proofs.Spots.{place_behind, place_within}
 

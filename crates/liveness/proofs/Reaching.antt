@@ -1,35 +1,18 @@
 -- What is live at places, by links, is so at points, by paths, and back.
-use Rattle.std.proofs.Common.{◌≡◌, ◌↔◌, ℕ, suc, ◌+◌, ◌<◌, ◌⊎◌, Bool, true, false, ◌||◌, List, [], ◌∷◌, ◌++◌, length, refl, sym, ◌∙◌, subst, arith, inl, inr}
-use Rattle.std.specs.List.{Contains}
-use Rattle.std.proofs.lemmas.Bool.{cases_lt, cond_both, false≢true, or_cases, or_from, or_left, or_parts, or_right, and_parts, and_from, not-true, not_from_false}
-use Rattle.std.proofs.lemmas.List.{get_or_default}
+use Rattle.liveness.proofs.Common.{◌≡◌, ◌↔◌, ℕ, suc, ◌+◌, ◌<◌, ◌⊎◌, Bool, true, false, ◌||◌, List, [], ◌∷◌, ◌++◌, length, refl, sym, ◌∙◌, subst, arith, inl, inr, Contains, cases_lt, cond_both, false≢true, or_cases, or_from, or_left, or_parts, or_right, and_parts, and_from, not-true, not_from_false, get_or_default, All-get_or, Contains-get_or, Part, every_part, has, members, set_of, Link, Sets, link_at, AreLinks, IsLiveIn, Passes, Reaches, AreFirsts, Graph, lands, IsEdgeIn, IsGraph, node_number, Node, Block, Landed, X, edge_at, Holds, HoldsIn, IsFirst, IsLast, GoesOnAt, is_landing, is_outside, slot_writes, beyond, Point, At, Along, Behind, After, reads_at, writes_at, Goes, IsLive, IsLiveOn, AreLinksOf, AreLivePlaces, AreMarks, AreRead, In, IsInside, IsOf, IsOnward, LinksAlongAny, LinksInAny, LinksNext, LinksOnto, LinksOntoAny, LivesInCopy, LivesOnto, ReadsIn, ReadsOfAny, ReadsOnAny, edge_link, first_in, is_ahead, is_marked, landing_link, last_in, next_link, node_place, nodes_from, place_of, target_of, Some}
 use Rattle.std.proofs.Math.ListN.{get_or-eq_default}
-use Rattle.std.proofs.lemmas.List.Elements.{All-get_or, Contains-get_or}
 use Rattle.eel_base.specs.CodeText.{Words}
-use Rattle.v8_decode.specs.declared.Part.{Part}
 use Rattle.v8_decode.specs.declared.Instr.{Instr}
-use Rattle.v8_decode.specs.Parts.{every_part, has, members, set_of}
 use Rattle.v8_decode.specs.Effects.{read_set, write_set, writes_of}
 use Rattle.v8_decode.proofs.Marks.{has-union, set_of-members}
-use Rattle.flood.specs.declared.Link.{Link}
-use Rattle.flood.specs.Flood.{Sets, link_at, AreLinks, IsLiveIn, Passes, Reaches}
-use Rattle.cfg_blocks.specs.Code.{AreFirsts}
 use Rattle.cfg_blocks.specs.declared.EdgeKind.TheVariants as kinds
 use Rattle.cfg_blocks.specs.Values.{instr_at}
-use Rattle.cfg_normal.specs.Graph.{Graph, lands}
-use Rattle.cfg_normal.specs.Code.{IsEdgeIn, IsGraph}
-use Rattle.cfg_normal.specs.Numbers.{node_number}
-use Rattle.cfg_normal.specs.declared.Node.{Node}
-use Rattle.cfg_normal.specs.declared.Node.TheVariants.{Block, Landed, X}
 use Rattle.cfg_normal.specs.declared.Slot.{Slot}
 use Rattle.cfg_normal.specs.declared.Slot.TheVariants.{Nothing, Word, Off}
 use Rattle.liveness.specs.Paths.{ReadsFirst}
-use Rattle.liveness.specs.Live.{edge_at, Holds, HoldsIn, IsFirst, IsLast, GoesOnAt, is_landing, is_outside, slot_writes, beyond, Point, At, Along, Behind, After, reads_at, writes_at, Goes, IsLive, IsLiveOn}
 use Rattle.liveness.specs.Code.{IsLiveAt}
-use Rattle.liveness.specs.Search.{AreLinksOf, AreLivePlaces, AreMarks, AreRead, In, IsInside, IsOf, IsOnward, LinksAlongAny, LinksInAny, LinksNext, LinksOnto, LinksOntoAny, LivesInCopy, LivesOnto, ReadsIn, ReadsOfAny, ReadsOnAny, edge_link, first_in, is_ahead, is_marked, landing_link, last_in, next_link, node_place, nodes_from, place_of, target_of}
 use Rattle.liveness.proofs.Held.{some_block}
 use Rattle.liveness.proofs.Spots.{first_held, held_inside, held_of, inside_of, is_inside, last_held, number_once, of_held, place_once, place_within}
-use Rattle.std.specs.Prelude.{Some}
 
 -- control lands at the word in the node
 abbrev pub LandsAt : Graph → Node → ℕ → Type 0

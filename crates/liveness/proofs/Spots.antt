@@ -1,18 +1,6 @@
 -- The places of words and nodes: each has its own.
-use Rattle.std.proofs.Common.{◌≡◌, ℕ, zero, suc, ◌+◌, ◌-◌, ◌*◌, ◌<◌, ◌≤◌, inl, inr, Bool, true, false, List, length, slice_index, refl, ap, sym, ◌∙◌, arith}
-use Rattle.std.specs.Prelude.{◌||◌, if◌then◌else◌, Some}
-use Rattle.std.proofs.lemmas.Bool.{cases_order, cases_lt, false_from_ne_true, false≢true, lt-ltb, le-ltb}
-use Rattle.cfg_blocks.specs.Code.{AreFirsts}
-use Rattle.cfg_blocks.specs.Blocks.{block_end, size_of, holding_of}
-use Rattle.cfg_normal.specs.Graph.{Graph, lands}
-use Rattle.cfg_normal.specs.Code.{IsNodeIn}
-use Rattle.cfg_normal.specs.Numbers.{node_number}
-use Rattle.cfg_normal.specs.Opens.{Open, is_behind, is_copied, jumps_in}
+use Rattle.liveness.proofs.Common.{◌≡◌, ℕ, zero, suc, ◌+◌, ◌-◌, ◌*◌, ◌<◌, ◌≤◌, inl, inr, Bool, true, false, List, length, slice_index, refl, ap, sym, ◌∙◌, arith, ◌||◌, if◌then◌else◌, Some, cases_order, cases_lt, false_from_ne_true, false≢true, lt-ltb, le-ltb, AreFirsts, block_end, size_of, holding_of, Graph, lands, IsNodeIn, node_number, Open, is_behind, is_copied, jumps_in, Node, Block, Landed, X, Holds, HoldsIn, is_outside, IsInside, IsOf, copies_from, first_in, last_in, nodes_from, place_of}
 use Rattle.cfg_normal.proofs.GraphFacts.{copied_where}
-use Rattle.cfg_normal.specs.declared.Node.{Node}
-use Rattle.cfg_normal.specs.declared.Node.TheVariants.{Block, Landed, X}
-use Rattle.liveness.specs.Live.{Holds, HoldsIn, is_outside}
-use Rattle.liveness.specs.Search.{IsInside, IsOf, copies_from, first_in, last_in, nodes_from, place_of}
 use Rattle.liveness.proofs.Held.{ends_within, is_held, same_number, some_words, start_after, start_is, start_of}
 
 at_most : (b : Bool) (n : ℕ) → (if b then n else 0) ≤ n

@@ -1,15 +1,9 @@
 -- Words as bytes, and back.
-use Rattle.std.proofs.Common.{◌≡◌, ℕ, ◌+◌, ◌*◌, List, [], ◌∷◌, ◌++◌, map, length, length-append, refl, ap, sym, ◌∙◌, append_assoc, arith}
-use Rattle.std.specs.List.{flat_map}
-use Rattle.std.proofs.lemmas.Grind.{flat_map-append}
-use Rattle.byteorder.specs.Endian.{big_bytes}
+use Rattle.notes.proofs.Common.{◌≡◌, ℕ, ◌+◌, ◌*◌, List, [], ◌∷◌, ◌++◌, map, length, length-append, refl, ap, sym, ◌∙◌, append_assoc, arith, flat_map, flat_map-append, big_bytes, segment_seen, edge_seen, range_seen, notes_seen, words_bytes, segment_words, edge_words, range_words, notes_bytes, segment_bytes, edge_bytes, range_bytes}
 use Rattle.eel_base.specs.declared.range.Range as declared_range
 use Rattle.notes.specs.declared.note.NoteSegment as declared_segment
 use Rattle.notes.specs.declared.note.NoteEdge as declared_edge
 use Rattle.notes.specs.declared.note.Notes as declared_notes
-use Rattle.notes.specs.Code.{segment_seen, edge_seen, range_seen, notes_seen}
-use Rattle.notes.specs.Written.{words_bytes, segment_words, edge_words, range_words, notes_bytes}
-use Rattle.notes.specs.Rows.{segment_bytes, edge_bytes, range_bytes}
 pub use Rattle.notes.proofs.EditedThreeWords.{reads}
 pub use Rattle.notes.proofs.Examples.{written}
 

@@ -1,12 +1,5 @@
 -- Cells as words, and their marks.
-use Rattle.std.proofs.Common.{◌≡◌, ℕ, ◌+◌, ◌%◌, ◌<◌, ◌≤◌, ◌^◌, inl, inr, Bool, true, false, not, ◌&&◌, ◌||◌, ◌==◌, List, [], ◌∷◌, length, replicate, Option, Some, None, refl, ap, sym, ◌∙◌, arith}
-use Rattle.std.specs.Prelude.{nat_le, get_or}
-use Rattle.std.specs.List.{list_any}
-use Rattle.std.proofs.lemmas.Bool.{and_parts, eq-eqb, ne_eqb, eqb-true, leb-true, cases_eq, cond_both}
-use Rattle.std.proofs.lemmas.List.{get_or-set_same, get_or-set_other, get_or-replicate, length-set, length-replicate}
-use Rattle.notes.specs.Format.{no_cell, cell_of, counter_width, is_cell, is_counter, most_cells}
-use Rattle.notes.specs.Parts.{is_open, with_mark}
-use Rattle.notes.specs.Written.{cell_word}
+use Rattle.notes.proofs.Common.{◌≡◌, ℕ, ◌+◌, ◌%◌, ◌<◌, ◌≤◌, ◌^◌, inl, inr, Bool, true, false, not, ◌&&◌, ◌||◌, ◌==◌, List, [], ◌∷◌, length, replicate, Option, Some, None, refl, ap, sym, ◌∙◌, arith, nat_le, get_or, list_any, and_parts, eq-eqb, ne_eqb, eqb-true, leb-true, cases_eq, cond_both, get_or-set_same, get_or-set_other, get_or-replicate, length-set, length-replicate, no_cell, cell_of, counter_width, is_cell, is_counter, most_cells, is_open, with_mark, cell_word}
 
 -- The marks are those of the cells in the list.
 abbrev pub AreMarks : List Bool → List ℕ → Type 0

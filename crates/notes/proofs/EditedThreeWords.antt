@@ -1,9 +1,7 @@
 -- The notes of a file of three words that was edited, by computation.
-use Rattle.std.specs.Prelude.{ℕ, List, [], ◌∷◌, ◌≡◌, Ok, refl, Err, take, ◌++◌, drop, replicate}
+use Rattle.notes.proofs.Common.{ℕ, List, [], ◌∷◌, ◌≡◌, Ok, refl, Err, take, ◌++◌, drop, replicate, flat_map, Notes, segments_at, blocks_at, edges_at, ranges_at, read_notes, head_of, tables_of, block_count_at, Bad, notes_of, Absent}
 use Rattle.std.specs.Int.{w32, to_be_bytes}
-use Rattle.std.specs.List.{flat_map}
 use Rattle.elf32_sparc.specs.Header.{word_at}
-use Rattle.notes.specs.Format.{Notes, segments_at, blocks_at, edges_at, ranges_at, read_notes, head_of, tables_of, block_count_at, Bad, notes_of, Absent}
 
 abbrev bytes : List ℕ → List ℕ
 bytes words = flat_map (to_be_bytes w32) words

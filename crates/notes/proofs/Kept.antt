@@ -1,12 +1,5 @@
 -- What was read meets its rules.
-use Rattle.std.proofs.Common.{◌≡◌, ℕ, zero, suc, ◌+◌, ◌*◌, ◌%◌, ◌<◌, ◌≤◌, ◌^◌, Bool, true, false, not, ◌&&◌, ◌||◌, ◌==◌, List, [], ◌∷◌, Option, Some, None, Result, Ok, Err, refl, ap, sym, subst, ◌∙◌, length, arith}
-use Rattle.std.specs.Prelude.{nat_le, nat_lt}
-use Rattle.std.specs.List.{list_any}
-use Rattle.std.proofs.lemmas.Bool.{and_parts, and_from, leb-true, ltb-true, eqb-true, cond_both, ne_eqb}
-use Rattle.notes.specs.Format.{NoteSegment, NoteEdge, NoteRange, Notes, NoNotes, ◌>>=◌, note_at, note_that, kept, follows, is_cell, is_counter, is_version, no_cell, cell_of, counter_width, last_tool, most_cells, segments_at, blocks_at, edges_at, ranges_at, read_notes, NoteHead as Head, block_count_at, head_of, tables_of}
-use Rattle.notes.specs.Rules.{is_segment, are_segments, are_blocks, is_free, is_edge, with_cell, are_edges, is_range, are_ranges, AreNotes}
-use Rattle.notes.specs.Parts.{segment_at, block_at, edge_at, range_at}
-use Rattle.notes.specs.Written.{cell_word}
+use Rattle.notes.proofs.Common.{◌≡◌, ℕ, zero, suc, ◌+◌, ◌*◌, ◌%◌, ◌<◌, ◌≤◌, ◌^◌, Bool, true, false, not, ◌&&◌, ◌||◌, ◌==◌, List, [], ◌∷◌, Option, Some, None, Result, Ok, Err, refl, ap, sym, subst, ◌∙◌, length, arith, nat_le, nat_lt, list_any, and_parts, and_from, leb-true, ltb-true, eqb-true, cond_both, ne_eqb, NoteSegment, NoteEdge, NoteRange, Notes, NoNotes, ◌>>=◌, note_at, note_that, kept, follows, is_cell, is_counter, is_version, no_cell, cell_of, counter_width, last_tool, most_cells, segments_at, blocks_at, edges_at, ranges_at, read_notes, Head, block_count_at, head_of, tables_of, is_segment, are_segments, are_blocks, is_free, is_edge, with_cell, are_edges, is_range, are_ranges, AreNotes, segment_at, block_at, edge_at, range_at, cell_word}
 use Rattle.notes.proofs.TableRows.{segments-next, blocks-next, edges-next, ranges-next}
 use Rattle.notes.proofs.CellMarks.{counter_below, few_cells, has_width}
 use Rattle.notes.proofs.Whole.{in_parts}

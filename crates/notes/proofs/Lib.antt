@@ -1,3 +1,4 @@
+pub mod Common
 pub mod CellMarks
 pub mod Steps
 pub mod TableRows

@@ -1,14 +1,5 @@
 -- What was written reads back.
-use Rattle.std.proofs.Common.{◌≡◌, ℕ, ◌+◌, ◌*◌, ◌%◌, ◌<◌, ◌≤◌, ◌^◌, true, not, ◌&&◌, ◌==◌, List, [], ◌∷◌, ◌++◌, length, Option, Some, None, Ok, refl, ap, ◌∙◌, arith}
-use Rattle.std.specs.Prelude.{nat_le, nat_lt}
-use Rattle.std.specs.List.{flat_map, list_any, All}
-use Rattle.std.proofs.lemmas.Bool.{and_parts, and_from, or_right, le-leb, lt-ltb, eq-eqb, ne_eqb}
-use Rattle.std.proofs.lemmas.List.{length-append}
-use Rattle.byteorder.specs.Endian.{big_bytes}
-use Rattle.byteorder.specs.Numbers.{length-bytes_high_first}
-use Rattle.notes.specs.Format.{NoteSegment, NoteEdge, NoteRange, Notes, note_at, follows, no_cell, cell_of, is_cell, is_counter, counter_width, last_tool, most_cells, byte_count, segments_at, blocks_at, edges_at, ranges_at, read_notes, NoteHead as Head, block_count_at, head_of, tables_of}
-use Rattle.notes.specs.Rules.{AreNotes, is_segment, are_segments, are_blocks, is_free, is_edge, with_cell, are_edges, is_range, are_ranges}
-use Rattle.notes.specs.Written.{words_bytes, cell_word, segment_words, edge_words, range_words, notes_words, notes_bytes}
+use Rattle.notes.proofs.Common.{◌≡◌, ℕ, ◌+◌, ◌*◌, ◌%◌, ◌<◌, ◌≤◌, ◌^◌, true, not, ◌&&◌, ◌==◌, List, [], ◌∷◌, ◌++◌, length, Option, Some, None, Ok, refl, ap, ◌∙◌, arith, nat_le, nat_lt, flat_map, list_any, All, and_parts, and_from, or_right, le-leb, lt-ltb, eq-eqb, ne_eqb, length-append, big_bytes, length-bytes_high_first, NoteSegment, NoteEdge, NoteRange, Notes, note_at, follows, no_cell, cell_of, is_cell, is_counter, counter_width, last_tool, most_cells, byte_count, segments_at, blocks_at, edges_at, ranges_at, read_notes, Head, block_count_at, head_of, tables_of, AreNotes, is_segment, are_segments, are_blocks, is_free, is_edge, with_cell, are_edges, is_range, are_ranges, words_bytes, cell_word, segment_words, edge_words, range_words, notes_words, notes_bytes}
 use Rattle.notes.proofs.Bytes.{length-flat_map}
 use Rattle.notes.proofs.CellMarks.{counter_below, few_cells, has_width}
 use Rattle.notes.proofs.Kept.{Alike, alike_more}

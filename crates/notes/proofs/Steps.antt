@@ -1,10 +1,5 @@
 -- Steps of a reading, one after the other.
-use Rattle.std.proofs.Common.{◌≡◌, ℕ, Bool, true, false, List, [], ◌∷◌, ◌++◌, ◌||◌, map, Result, Ok, Err, if◌then◌else◌, refl, ap, sym, subst, append_assoc}
-use Rattle.std.specs.Result.{IfErr, IsErrAnd}
-use Rattle.std.specs.List.{list_any}
-use Rattle.notes.specs.Format.{NoNotes, Bad, ◌>>=◌, kept}
-use Rattle.notes.specs.Code.{IsFault, Answers, WantsMemoryIf}
-use Rattle.notes.specs.declared.note.NotesFault.{NotesFault}
+use Rattle.notes.proofs.Common.{◌≡◌, ℕ, Bool, true, false, List, [], ◌∷◌, ◌++◌, ◌||◌, map, Result, Ok, Err, if◌then◌else◌, refl, ap, sym, subst, append_assoc, IfErr, IsErrAnd, list_any, NoNotes, Bad, ◌>>=◌, kept, IsFault, Answers, WantsMemoryIf, NotesFault}
 use Rattle.notes.specs.declared.note.NotesFault.TheVariants as faults
 
 pub bind_assoc : {A B C : Type 0} (m : Result A NoNotes) (f : A → Result B NoNotes) (g : B → Result C NoNotes) → ((m >>= f) >>= g) ≡ (m >>= (λ x. f x >>= g))

@@ -1,12 +1,6 @@
 -- A table is its first row, and then the others.
-use Rattle.std.proofs.Common.{◌≡◌, ℕ, suc, ◌+◌, ◌*◌, ◌-◌, ◌<◌, ◌≤◌, ◌^◌, Bool, false, List, [], ◌∷◌, ◌++◌, Option, Some, Result, Ok, refl, ap, sym, subst, ◌∙◌, length, replicate, arith, add-zero}
-use Rattle.std.proofs.lemmas.List.{length-replicate}
-use Rattle.notes.specs.Format.{is_cell, NoteSegment, NoteEdge, NoteRange, NoNotes, ◌>>=◌, segments_at, blocks_at, edges_at, ranges_at}
-use Rattle.notes.specs.Parts.{is_open, with_mark, segment_at, block_at, edge_at, range_at}
+use Rattle.notes.proofs.Common.{◌≡◌, ℕ, suc, ◌+◌, ◌*◌, ◌-◌, ◌<◌, ◌≤◌, ◌^◌, Bool, false, List, [], ◌∷◌, ◌++◌, Option, Some, Result, Ok, refl, ap, sym, subst, ◌∙◌, length, replicate, arith, add-zero, length-replicate, is_cell, NoteSegment, NoteEdge, NoteRange, NoNotes, ◌>>=◌, segments_at, blocks_at, edges_at, ranges_at, is_open, with_mark, segment_at, block_at, edge_at, range_at, IsFault, NotesFault, cell_word}
 use Rattle.notes.proofs.Steps.{bind_assoc, kept_then, after, after_none, after_next, through}
-use Rattle.notes.specs.Code.{IsFault}
-use Rattle.notes.specs.declared.note.NotesFault.{NotesFault}
-use Rattle.notes.specs.Written.{cell_word}
 use Rattle.notes.proofs.CellMarks.{cell_word-of, open_cell, none_marked, marks_long, marked_more, AreMarks}
 
 next-place : (at size row : ℕ) → at + size * row + size ≡ at + size * (row + 1)

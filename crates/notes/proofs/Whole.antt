@@ -1,7 +1,5 @@
 -- Reading is reading the numbers, group by group, and then the tables.
-use Rattle.std.proofs.Common.{◌≡◌, ℕ, List, refl}
-use Rattle.notes.specs.Format.{◌>>=◌, head_of, read_notes, tables_of}
-use Rattle.notes.specs.Parts.{cells_at, head_at, original_at, text_at}
+use Rattle.notes.proofs.Common.{◌≡◌, ℕ, List, refl, ◌>>=◌, head_of, read_notes, tables_of, cells_at, head_at, original_at, text_at}
 use Rattle.notes.proofs.Steps.{bind_assoc}
 
 pub in_parts : (version size : ℕ) (notes : List ℕ) → read_notes version size notes ≡ (head_of version size notes >>= tables_of notes)

@@ -1,13 +1,6 @@
 -- The words of bytes, as they are read one after the other.
-use Rattle.std.proofs.Common.{◌≡◌, ℕ, suc, ◌+◌, ◌*◌, ◌<◌, ◌≤◌, ◌^◌, List, [], ◌∷◌, ◌++◌, length, Ok, ap, sym, subst, subst₂, ◌∙◌, append_assoc, arith}
-use Rattle.std.specs.List.{All}
-use Rattle.std.proofs.lemmas.Bool.{le-leb}
-use Rattle.std.proofs.lemmas.List.{length-append}
+use Rattle.notes.proofs.Common.{◌≡◌, ℕ, suc, ◌+◌, ◌*◌, ◌<◌, ◌≤◌, ◌^◌, List, [], ◌∷◌, ◌++◌, length, Ok, ap, sym, subst, subst₂, ◌∙◌, append_assoc, arith, All, le-leb, length-append, big_bytes, big_number-reads_back, length-bytes_high_first, note_at, words_bytes}
 use Rattle.std.proofs.Math.Seq.{drop-append_seam}
-use Rattle.byteorder.specs.Endian.{big_bytes}
-use Rattle.byteorder.specs.Numbers.{big_number-reads_back, length-bytes_high_first}
-use Rattle.notes.specs.Format.{note_at}
-use Rattle.notes.specs.Written.{words_bytes}
 use Rattle.notes.proofs.Bytes.{words_bytes-cons}
 
 -- the words at an offset

@@ -1,8 +1,6 @@
 -- The first words of blocks in notes are words of the text.
-use Rattle.std.proofs.Common.{◌≡◌, ℕ, ◌<◌, ◌≤◌, true, List, [], ◌∷◌, length, slice_index, Option, Some, None, inl, inr, arith}
-use Rattle.std.specs.List.{All}
+use Rattle.show_text.proofs.Common.{◌≡◌, ℕ, ◌<◌, ◌≤◌, true, List, [], ◌∷◌, length, slice_index, Option, Some, None, inl, inr, arith, All, get_or_past}
 use Rattle.std.proofs.lemmas.Bool.{and_parts, cases_lt, ltb-true}
-use Rattle.std.proofs.lemmas.List.{get_or_past}
 use Rattle.std.proofs.lemmas.List.Elements.{All-cons, All-nil}
 use Rattle.notes.specs.Rules.{are_blocks}
 

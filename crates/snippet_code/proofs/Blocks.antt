@@ -1,23 +1,16 @@
 -- Code in picked registers, word by word.
-use Rattle.snippet_code.proofs.Common.{◌≡◌, ◌≢◌, ℕ, suc, ◌+◌, ◌*◌, ◌%◌, ◌^◌, ◌<◌, ◌≤◌, ◌⊎◌, inl, inr, Bool, true, false, Ok, Some, refl, ap, sym, ◌∙◌, arith, if◌then◌else◌, ◌==◌, pos, Op2, AluOp, Instr, Codes, alu_of, holds_of, wrapped, Memory, code_of, NoSlot, State, register_of, operand_of, sum_of, store_word, any_of_word, word_span, one_if, IsAlike, Works, memory_word, Says, split_below, equal_or_not, put, put_other, put_same}
+use Rattle.snippet_code.proofs.Common.{◌≡◌, ◌≢◌, ℕ, suc, ◌+◌, ◌*◌, ◌%◌, ◌^◌, ◌<◌, ◌≤◌, ◌⊎◌, inl, inr, Bool, true, false, Ok, Some, refl, ap, sym, ◌∙◌, arith, if◌then◌else◌, ◌==◌, pos, Op2, AluOp, Instr, Codes, alu_of, holds_of, wrapped, Memory, code_of, NoSlot, State, register_of, operand_of, sum_of, store_word, any_of_word, word_span, one_if, IsAlike, Works, memory_word, Says, split_below, equal_or_not, put, put_other, put_same, Taken, with_register, stores_at, stores_in_step, leads_one, leads_then, silent_one, silent_then, Acts, IsNext, goes_on, says_here, stores_next, works_to, word_stored, other_word_stored, still_stored, can_load, memory_word-range, stores_none, stores_then}
 use Rattle.v8_decode.specs.declared.Instr.TheVariants as i
 use Rattle.v8_decode.specs.declared.LoadKind.TheVariants as loads
 use Rattle.v8_decode.specs.declared.StoreKind.TheVariants as stores
-use Rattle.v8_step.specs.declared.Slot.TheVariants.{Taken}
-use Rattle.v8_step.specs.State.{with_register}
 use Rattle.v8_step.specs.Transfers.{next, branched, branch_step}
 use Rattle.v8_step.specs.Step.{act, step_of, alu_step}
 use Rattle.v8_step.specs.Run.{run}
-use Rattle.code_runs.specs.Counted.{stores_at, stores_in_step}
 use Rattle.code_runs.specs.Leads.{IsBetween, IsSilent}
 use Rattle.code_runs.specs.Points.{moved}
 use Rattle.code_runs.proofs.Acts.{says_step, says_puts}
 use Rattle.code_runs.proofs.Counted.{says_stores}
-use Rattle.code_runs.proofs.Leads.{leads_one, leads_then, silent_one, silent_then}
 use Rattle.code_runs.proofs.Picked as word
-use Rattle.code_runs.proofs.Picked.{Acts, IsNext, goes_on, says_here, stores_next, works_to}
-use Rattle.code_runs.proofs.StoredWords.{word_stored, other_word_stored, still_stored, can_load, memory_word-range}
-use Rattle.code_runs.proofs.Stores.{stores_none, stores_then}
 use Rattle.snippet_code.proofs.Working.{AreStored, HasWorkspace, WorksWithin}
 
 -- two words at different multiples of 4

@@ -1,14 +1,10 @@
 -- The words of a snippet decode to its instructions.
-use Rattle.snippet_code.proofs.Common.{◌≡◌, ℕ, suc, ◌+◌, ◌-◌, ◌^◌, ◌<◌, ◌≤◌, Bool, true, false, ◌==◌, List, [], ◌∷◌, ◌++◌, length, map, refl, arith, All, cond_both, if◌then◌else◌, nat_lt, slice_index, pos, negsuc, nat_tests, All-head, All-tail, decode_of, AluOp, Instr, word_of, Op, Add, Put, Keep, Top, Count, Log, IsOp, cells_end}
+use Rattle.snippet_code.proofs.Common.{◌≡◌, ℕ, suc, ◌+◌, ◌-◌, ◌^◌, ◌<◌, ◌≤◌, Bool, true, false, ◌==◌, List, [], ◌∷◌, ◌++◌, length, map, refl, arith, All, cond_both, if◌then◌else◌, nat_lt, slice_index, pos, negsuc, nat_tests, All-head, All-tail, decode_of, AluOp, Instr, word_of, Op, Add, Put, Keep, Top, Count, Log, IsOp, cells_end, cell_at, high, low, load_low, store_low, load_next, store_next, add_one, of_two, with_number, add_low, compare, next_if_greater, small, add_words, put_words, top_words, count_words, log_words, op_words, all_words, numbered, save, restore, is_small, op_registers, registers_for, EndsLow, EndLow}
 use Rattle.v8_decode.specs.Ranges.{is_in_range}
 use Rattle.v8_decode.specs.declared.AluOp.TheVariants as ops
 use Rattle.v8_decode.specs.Forms.{has_form}
 use Rattle.v8_encode.specs.Code.{has_word, fits_signed}
 use Rattle.v8_encode.proofs.Decoded.{decode_of-word_of}
-use Rattle.snippet_code.specs.Cells.{cell_at}
-use Rattle.snippet_code.specs.Words.{high, low, load_low, store_low, load_next, store_next, add_one, of_two, with_number, add_low, compare, next_if_greater, small, add_words, put_words, top_words, count_words, log_words, op_words, all_words, numbered, save, restore}
-use Rattle.snippet_code.specs.Spills.{is_small, op_registers, registers_for}
-use Rattle.snippet_code.specs.Laws.{EndsLow, EndLow}
 use Rattle.snippet_code.proofs.Micro.{◌&◌}
 
 -- an instruction that a word has

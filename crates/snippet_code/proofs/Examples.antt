@@ -1,11 +1,10 @@
 -- Facts that compute: what some of the definitions say of one case.
-use Rattle.snippet_code.proofs.Common.{◌≡◌, false, [], ◌∷◌, pos, refl, length, Reg, Icc, Add, Top, registers}
+use Rattle.snippet_code.proofs.Common.{◌≡◌, false, [], ◌∷◌, pos, refl, length, Reg, Icc, Add, Top, registers, snippet_words}
 use Rattle.v8_decode.specs.declared.AluOp.TheVariants as ops
 use Rattle.v8_decode.specs.declared.Op2.TheVariants as o
 use Rattle.v8_decode.specs.declared.Instr.TheVariants as i
 use Rattle.v8_decode.specs.declared.LoadKind.TheVariants as loads
 use Rattle.v8_decode.specs.declared.StoreKind.TheVariants as stores
-use Rattle.snippet_code.specs.Words.{snippet_words}
 
 -- They compute.
 pub one_more : snippet_words 0x20000000 (Reg 1 ∷ Reg 2 ∷ []) [] (Add 0 1 ∷ [])

@@ -1,10 +1,7 @@
 -- The greater of a cell and a register: with the codes, where they are dead, and without.
-use Rattle.snippet_code.proofs.Common.{Instr, Region, Says, List, ◌≡◌, ℕ, suc, ◌+◌, ◌-◌, ◌^◌, ◌<◌, ◌≤◌, inl, inr, max, Bool, true, false, Ok, [], ◌∷◌, refl, ap, sym, arith, if◌then◌else◌, nat_lt, pos, nat_tests, AluOp, Codes, alu_of, codes_of, wrapped, State, register_of, register_of-range, equal_or_not, put, put_other, put_same, unpicked_is, Top, holds_of}
+use Rattle.snippet_code.proofs.Common.{Instr, Region, Says, List, ◌≡◌, ℕ, suc, ◌+◌, ◌-◌, ◌^◌, ◌<◌, ◌≤◌, inl, inr, max, Bool, true, false, Ok, [], ◌∷◌, refl, ap, sym, arith, if◌then◌else◌, nat_lt, pos, nat_tests, AluOp, Codes, alu_of, codes_of, wrapped, State, register_of, register_of-range, equal_or_not, put, put_other, put_same, unpicked_is, Top, holds_of, difference_overflows, cell_at, op_words, low}
 use Rattle.v8_decode.specs.declared.Op2.TheVariants as o
 use Rattle.v8_decode.specs.declared.AluOp.TheVariants as ops
-use Rattle.v8_alu.specs.Alu.{difference_overflows}
-use Rattle.snippet_code.specs.Cells.{cell_at}
-use Rattle.snippet_code.specs.Words.{op_words, low}
 use Rattle.snippet_code.proofs.Working.{HasWorkspace, WorksWithin}
 use Rattle.snippet_code.proofs.Micro.{◌&◌, Source, Doing, as_many, does, load, mine, number, of, operate, other, now, reached, runs, set, store, works_words}
 use Rattle.snippet_code.proofs.Blocks.{compares, branches}

@@ -1,9 +1,7 @@
 -- Items of a state beside picked registers.
-use Rattle.snippet_code.proofs.Common.{◌≡◌, ◌≢◌, ℕ, ◌-◌, ◌<◌, ◌≤◌, ◌⊎◌, inl, inr, Bool, true, false, ◌||◌, List, [], ◌∷◌, refl, ap, sym, ◌∙◌, arith, slice_index, nat_tests, Part, has, Codes, State, register_of, StateItem, Register, CodesItem, YRegister, IsAmong, IsSameAt, IsAlike, split_below, ArePicked}
+use Rattle.snippet_code.proofs.Common.{◌≡◌, ◌≢◌, ℕ, ◌-◌, ◌<◌, ◌≤◌, ◌⊎◌, inl, inr, Bool, true, false, ◌||◌, List, [], ◌∷◌, refl, ap, sym, ◌∙◌, arith, slice_index, nat_tests, Part, has, Codes, State, register_of, StateItem, Register, CodesItem, YRegister, IsAmong, IsSameAt, IsAlike, split_below, ArePicked, is_same, item_of}
 use Rattle.v8_decode.specs.declared.Part.TheVariants as parts
-use Rattle.v8_decode.specs.Parts.{is_same}
 use Rattle.v8_windows.specs.Registers.{place_of, register_in}
-use Rattle.v8_step.specs.Items.{item_of}
 use Rattle.code_runs.proofs.Hops.{in_place, picked_or_not}
 use Rattle.snippet_code.proofs.Working.{AreStored, HasWorkspace}
 

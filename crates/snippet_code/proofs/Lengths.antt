@@ -1,11 +1,5 @@
 -- How many words a snippet has.
-use Rattle.snippet_code.proofs.Common.{◌≡◌, ℕ, suc, ◌-◌, ◌*◌, ◌≤◌, Bool, List, [], ◌∷◌, ◌++◌, length, refl, ap, arith, length-append, length-drop, slice_index, Part, Icc, has, Instr, picked, spilled, spills, Op}
-use Rattle.std.proofs.Common.{length-take}
-use Rattle.scavenge.specs.Code.{free_live}
-use Rattle.scavenge.specs.Picks.{free_dead}
-use Rattle.snippet_code.specs.Words.{op_words, op_cost, all_words, cost_of_all, cost_of, numbered, save, restore}
-use Rattle.snippet_code.specs.Spills.{op_registers, registers_for}
-use Rattle.snippet_code.specs.Laws.{CostsHold}
+use Rattle.snippet_code.proofs.Common.{◌≡◌, ℕ, suc, ◌-◌, ◌*◌, ◌≤◌, Bool, List, [], ◌∷◌, ◌++◌, length, refl, ap, arith, length-append, length-drop, slice_index, Part, Icc, has, Instr, picked, spilled, spills, Op, length-take, free_live, free_dead, op_words, op_cost, all_words, cost_of_all, cost_of, numbered, save, restore, op_registers, registers_for, CostsHold}
 pub use Rattle.snippet_code.proofs.Examples.{one_more}
 
 op_length : (base : ℕ) (d : Bool) (r : ℕ → ℕ) (op : Op) → length (op_words base d r op) ≤ op_cost d op

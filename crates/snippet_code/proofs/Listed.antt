@@ -1,12 +1,6 @@
 -- Cells as a list, and as words of memory.
-use Rattle.snippet_code.proofs.Common.{◌≡◌, ◌≢◌, ℕ, ◌+◌, ◌*◌, ◌/◌, ◌%◌, ◌^◌, ◌<◌, ◌≤◌, ◌⊎◌, inl, inr, max, List, [], ◌∷◌, length, map, get_or, refl, ap, sym, ◌∙◌, arith, range_with_len, ext_get_or, cases_lt, mod_below, pow_pos, equal_or_not, put, put_other, put_same, Op, Add, Put, Keep, Top, Count, Log, update, cells_end}
-use Rattle.std.proofs.Common.{set, ap₂}
-use Rattle.std.proofs.lemmas.List.{get_or-set_same, get_or-set_other, length-set}
+use Rattle.snippet_code.proofs.Common.{◌≡◌, ◌≢◌, ℕ, ◌+◌, ◌*◌, ◌/◌, ◌%◌, ◌^◌, ◌<◌, ◌≤◌, ◌⊎◌, inl, inr, max, List, [], ◌∷◌, length, map, get_or, refl, ap, sym, ◌∙◌, arith, range_with_len, ext_get_or, cases_lt, mod_below, pow_pos, equal_or_not, put, put_other, put_same, Op, Add, Put, Keep, Top, Count, Log, update, cells_end, set, ap₂, get_or-set_same, get_or-set_other, length-set, changed, with_wide, updated_by, cell_of, cell_at, IsCellIn, IsCellOf}
 use Rattle.std.proofs.lemmas.List.FromFn.{get_or-map-range_with_len, length-map-range_with_len}
-use Rattle.snippets.specs.Cells.{changed, with_wide, updated_by}
-use Rattle.snippets.specs.Ops.{cell_of}
-use Rattle.snippet_code.specs.Cells.{cell_at}
-use Rattle.snippet_code.specs.Code.{IsCellIn, IsCellOf}
 use Rattle.snippet_code.proofs.Working.{update_one, update_all}
 
 -- so many cells, by the words at their addresses

@@ -1,19 +1,11 @@
 -- Code without branches as a list of operations on picked registers and words of memory, and what such a list means:
 -- an operation of snippets is a list, what each of its words needs, and one equation.
-use Rattle.snippet_code.proofs.Common.{◌≡◌, ◌≢◌, ℕ, suc, ◌+◌, ◌*◌, ◌/◌, ◌^◌, ◌<◌, ◌≤◌, max, Bool, false, Ok, List, [], ◌∷◌, length, map, refl, arith, Memory, w32, pos, Op2, AluOp, Instr, Codes, alu_of, wrapped, Region, code_of, State, register_of, operand_of, Op, Says, StandIn, any_of_word, IsAlike, put, unpicked_is}
-use Rattle.std.specs.Prelude.{ℤ}
-use Rattle.std.specs.Int.{cast_unsigned}
+use Rattle.snippet_code.proofs.Common.{◌≡◌, ◌≢◌, ℕ, suc, ◌+◌, ◌*◌, ◌/◌, ◌^◌, ◌<◌, ◌≤◌, max, Bool, false, Ok, List, [], ◌∷◌, length, map, refl, arith, Memory, w32, pos, Op2, AluOp, Instr, Codes, alu_of, wrapped, Region, code_of, State, register_of, operand_of, Op, Says, StandIn, any_of_word, IsAlike, put, unpicked_is, ℤ, cast_unsigned, HasBlock, held_put, stores_none, with_register, cell_at, IsCellIn, low}
 use Rattle.v8_decode.specs.declared.Op2.TheVariants as o
 use Rattle.v8_decode.specs.declared.Instr.TheVariants as i
 use Rattle.v8_decode.specs.declared.LoadKind.TheVariants as loads
 use Rattle.v8_decode.specs.declared.StoreKind.TheVariants as stores
 use Rattle.code_runs.proofs.Picked as word
-use Rattle.code_runs.proofs.Picked.{HasBlock, held_put}
-use Rattle.code_runs.proofs.Stores.{stores_none}
-use Rattle.v8_step.specs.State.{with_register}
-use Rattle.snippet_code.specs.Cells.{cell_at}
-use Rattle.snippet_code.specs.Code.{IsCellIn}
-use Rattle.snippet_code.specs.Words.{low}
 use Rattle.snippet_code.proofs.Working.{Does, HasWorkspace, IsFit, WorksWithin, update_one}
 use Rattle.snippet_code.proofs.Blocks.{both_act, ld, st, works_step}
 

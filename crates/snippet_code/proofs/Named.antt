@@ -1,15 +1,6 @@
 -- The registers that a snippet names.
-use Rattle.snippet_code.proofs.Common.{◌≡◌, ℕ, zero, suc, ◌+◌, ◌<◌, ◌≤◌, ◌⊎◌, inl, inr, Bool, true, false, cond, List, [], ◌∷◌, length, refl, ap, ◌∙◌, arith, length-append, nat_lt, range_with_len, nat_tests, Part, Reg, Icc, has, registers, register_count, Op, Keep, Top, named_by}
-use Rattle.std.proofs.Common.{not, ◌&&◌}
-use Rattle.std.proofs.lemmas.Bool.{or_right}
-use Rattle.std.specs.Prelude.{filter}
-use Rattle.std.proofs.lemmas.List.Elements.{filter-append}
-use Rattle.v8_decode.specs.declared.Part.TheVariants.{Y}
-use Rattle.v8_decode.specs.Parts.{is_member, registers_from, every_part, members, set_of}
+use Rattle.snippet_code.proofs.Common.{◌≡◌, ℕ, zero, suc, ◌+◌, ◌<◌, ◌≤◌, ◌⊎◌, inl, inr, Bool, true, false, cond, List, [], ◌∷◌, length, refl, ap, ◌∙◌, arith, length-append, nat_lt, range_with_len, nat_tests, Part, Reg, Icc, has, registers, register_count, Op, Keep, Top, named_by, not, ◌&&◌, or_right, filter, filter-append, Y, is_member, registers_from, every_part, members, set_of, is_register, all_off, joined, registers_ascend, registers_count, read_by}
 use Rattle.v8_decode.proofs.Members.{has-members, is_same-self}
-use Rattle.scavenge.specs.Code.{is_register}
-use Rattle.scavenge.proofs.Picks.{all_off, joined, registers_ascend, registers_count}
-use Rattle.snippets.specs.Cells.{read_by}
 use Rattle.snippet_code.proofs.Working.{IsRead}
 
 abbrev pub IsReadIn : List Op → ℕ → Type 0

@@ -1,11 +1,6 @@
 -- The operations of snippets, one by one, as lists.
-use Rattle.snippet_code.proofs.Common.{◌≡◌, ◌≢◌, ℕ, ◌+◌, ◌-◌, ◌*◌, ◌/◌, ◌%◌, ◌^◌, Bool, true, false, bit_and, [], ◌∷◌, refl, ap, arith, cond_both, ◌==◌, pos, nat_tests, mod_below, pow_pos, Codes, codes_of, complement, wrapped, State, register_of-range, Op, Add, Put, Keep, Top, Count, Log, put, put_other}
-use Rattle.std.specs.Prelude.{nat_le}
+use Rattle.snippet_code.proofs.Common.{◌≡◌, ◌≢◌, ℕ, ◌+◌, ◌-◌, ◌*◌, ◌/◌, ◌%◌, ◌^◌, Bool, true, false, bit_and, [], ◌∷◌, refl, ap, arith, cond_both, ◌==◌, pos, nat_tests, mod_below, pow_pos, Codes, codes_of, complement, wrapped, State, register_of-range, Op, Add, Put, Keep, Top, Count, Log, put, put_other, nat_le, sum_overflows, cell_at, op_words, small, low, is_small}
 use Rattle.v8_decode.specs.declared.AluOp.TheVariants as ops
-use Rattle.v8_alu.specs.Alu.{sum_overflows}
-use Rattle.snippet_code.specs.Cells.{cell_at}
-use Rattle.snippet_code.specs.Words.{op_words, small, low}
-use Rattle.snippet_code.specs.Spills.{is_small}
 use Rattle.snippet_code.proofs.Working.{HasWorkspace, WorksWithin}
 use Rattle.snippet_code.proofs.Micro.{◌&◌, Doing, does, load, mine, not_zero, number, of, operate, other, reached, set, store}
 use Rattle.snippet_code.proofs.Greater.{top_works}

@@ -1,12 +1,6 @@
 -- Words are added for one operation after the other, and for one register after the other.
-use Rattle.snippet_code.proofs.Common.{◌≡◌, ℕ, zero, suc, ◌+◌, ◌<◌, ◌≤◌, Bool, List, [], ◌∷◌, ◌++◌, length, map, take, get_or, ap, sym, ◌∙◌, arith, append_assoc, take_more, map-append, Instr, word_of, Op, IsOp}
-use Rattle.std.proofs.Common.{append-nil}
-use Rattle.std.specs.List.{All}
+use Rattle.snippet_code.proofs.Common.{◌≡◌, ℕ, zero, suc, ◌+◌, ◌<◌, ◌≤◌, Bool, List, [], ◌∷◌, ◌++◌, length, map, take, get_or, ap, sym, ◌∙◌, arith, append_assoc, take_more, map-append, Instr, word_of, Op, IsOp, append-nil, All, All-get_or, All-push, op_registers, registers_for, op_words, all_words, EndsLow, EndLow}
 use Rattle.std.proofs.lemmas.Grind.{flat_map-append}
-use Rattle.std.proofs.lemmas.List.Elements.{All-get_or, All-push}
-use Rattle.snippet_code.specs.Spills.{op_registers, registers_for}
-use Rattle.snippet_code.specs.Words.{op_words, all_words}
-use Rattle.snippet_code.specs.Laws.{EndsLow, EndLow}
 
 -- words that were added after others
 more_words : (before : List ℕ) (xs ys : List Instr) (now after : List ℕ) → now ≡ before ++ map word_of xs

@@ -1,12 +1,7 @@
 -- Operations one after the other, and the registers that are saved before them and loaded after them.
-use Rattle.snippet_code.proofs.Common.{◌≡◌, ◌≢◌, ℕ, zero, suc, ◌+◌, ◌*◌, ◌<◌, ◌≤◌, ◌⊎◌, inl, inr, Bool, false, Some, List, [], ◌∷◌, ◌++◌, length, refl, ap, sym, ◌∙◌, subst, arith, length-append, if◌then◌else◌, ◌||◌, Instr, Codes, Region, code_of, State, register_of, sum_of, register_of-range, Says, StandIn, equal_or_not, put, put_other, put_same, Op, any_of_word, word_span, one_if}
-use Rattle.std.proofs.lemmas.Bool.{or_parts, or_from}
+use Rattle.snippet_code.proofs.Common.{◌≡◌, ◌≢◌, ℕ, zero, suc, ◌+◌, ◌*◌, ◌<◌, ◌≤◌, ◌⊎◌, inl, inr, Bool, false, Some, List, [], ◌∷◌, ◌++◌, length, refl, ap, sym, ◌∙◌, subst, arith, length-append, if◌then◌else◌, ◌||◌, Instr, Codes, Region, code_of, State, register_of, sum_of, register_of-range, Says, StandIn, equal_or_not, put, put_other, put_same, Op, any_of_word, word_span, one_if, or_parts, or_from, cell_at, kept_word, of_page, op_words, all_words, numbered, save, restore, low, high}
 use Rattle.v8_decode.specs.declared.Instr.TheVariants as i
 use Rattle.v8_decode.specs.declared.LoadKind.TheVariants as loads
-use Rattle.snippet_code.specs.Cells.{cell_at}
-use Rattle.snippet_code.specs.Code.{kept_word}
-use Rattle.code_runs.specs.Code.{of_page}
-use Rattle.snippet_code.specs.Words.{op_words, all_words, numbered, save, restore, low, high}
 use Rattle.snippet_code.proofs.Working.{HasWorkspace, WorksWithin, update_all, Does, AreFit, AreFrom, HavePage, saved, AreSaved}
 use Rattle.snippet_code.proofs.Micro.{as_many, stand_at}
 use Rattle.snippet_code.proofs.OneOperation.{op_works}

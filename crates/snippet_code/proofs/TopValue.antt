@@ -1,6 +1,5 @@
 -- What the words of Top make of two numbers where the codes stay.
-use Rattle.snippet_code.proofs.Common.{◌≡◌, ℕ, ◌^◌, ◌<◌, max, false, Ok, AluOp, Codes, alu_of}
-use Rattle.std.proofs.Common.{Result, Err}
+use Rattle.snippet_code.proofs.Common.{◌≡◌, ℕ, ◌^◌, ◌<◌, max, false, Ok, AluOp, Codes, alu_of, Result, Err}
 use Rattle.v8_decode.specs.declared.AluOp.TheVariants as ops
 use Rattle.v8_alu.specs.declared.AluOut.{AluOut}
 use Rattle.v8_alu.specs.declared.AluTrap.{AluTrap}

@@ -1,11 +1,5 @@
 -- The greater of two numbers, by the borrow of their difference.
-use Rattle.snippet_code.proofs.Common.{◌≡◌, ℕ, ◌+◌, ◌-◌, ◌/◌, ◌%◌, ◌^◌, ◌<◌, ◌≤◌, inl, inr, max, min, Bool, true, false, cond, bit_and, refl, ap, sym, ◌∙◌, arith, bit_at, and_le_l, bit_at_and, cases_lt, alu_of, wrapped, complement}
-use Rattle.std.proofs.Common.{bit_or}
-use Rattle.std.proofs.lemmas.Nat.{and_mask, and_comm, or_lt}
-use Rattle.std.proofs.lemmas.Nat.Bits.{bit_at_or}
-use Rattle.std.proofs.lemmas.Bool.{le-leb, lt-leb, leb-true, leb-false}
-use Rattle.v8_alu.specs.Alu.{shifted_right}
-use Rattle.v8_alu.specs.Numbers.{is_negative}
+use Rattle.snippet_code.proofs.Common.{◌≡◌, ℕ, ◌+◌, ◌-◌, ◌/◌, ◌%◌, ◌^◌, ◌<◌, ◌≤◌, inl, inr, max, min, Bool, true, false, cond, bit_and, refl, ap, sym, ◌∙◌, arith, bit_at, and_le_l, bit_at_and, cases_lt, alu_of, wrapped, complement, bit_or, and_mask, and_comm, or_lt, bit_at_or, le-leb, lt-leb, leb-true, leb-false, shifted_right, is_negative}
 use Rattle.snippet_code.proofs.TopValue.{TopIsGreater, top_of}
 
 -- bit 31 of a number of 32 bits

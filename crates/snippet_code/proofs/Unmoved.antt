@@ -1,14 +1,7 @@
 -- A word of memory stays where no word is stored over it, whether it may be loaded or not.
-use Rattle.snippet_code.proofs.Common.{◌≡◌, ℕ, ◌+◌, ◌≤◌, ◌⊎◌, true, Some, List, [], ◌∷◌, length, refl, ap, ◌∙◌, w32, Memory, Region, memory_word, store_word}
-use Rattle.std.proofs.Common.{Option, None}
-use Rattle.std.specs.Int.{to_be_bytes, from_be_bytes}
+use Rattle.snippet_code.proofs.Common.{◌≡◌, ℕ, ◌+◌, ◌≤◌, ◌⊎◌, true, Some, List, [], ◌∷◌, length, refl, ap, ◌∙◌, w32, Memory, Region, memory_word, store_word, Option, None, to_be_bytes, from_be_bytes, covers, region_at, written, IsValidMemory, word_in, store_all, AllAt, Stores, covers_first, part, placed_in, shape, whole_of}
 use Rattle.std.specs.Option.{option_map}
-use Rattle.v8_memory.specs.Regions.{covers, region_at, written}
 use Rattle.v8_memory.proofs.Same.{covers-written}
-use Rattle.v8_step.specs.Valid.{IsValidMemory}
-use Rattle.code_runs.specs.StoredWords.{word_in}
-use Rattle.code_runs.specs.Code.{store_all, AllAt, Stores}
-use Rattle.code_runs.proofs.StoredWords.{covers_first, part, placed_in, shape, whole_of}
 
 -- two words that don't meet
 abbrev pub IsApart : ℕ → ℕ → Type 0

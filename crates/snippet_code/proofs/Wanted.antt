@@ -1,6 +1,5 @@
 -- In how many registers operations work.
-use Rattle.snippet_code.proofs.Common.{◌≡◌, ℕ, ◌+◌, ◌<◌, max, Bool, List, [], ◌∷◌, ◌++◌, length, take, get_or, arith, take_more, Op}
-use Rattle.snippet_code.specs.Spills.{op_registers, registers_for}
+use Rattle.snippet_code.proofs.Common.{◌≡◌, ℕ, ◌+◌, ◌<◌, max, Bool, List, [], ◌∷◌, ◌++◌, length, take, get_or, arith, take_more, Op, op_registers, registers_for}
 
 for-append : (d : Bool) (ops : List Op) (op : Op)
     → registers_for d (ops ++ op ∷ []) ≡ max (registers_for d ops) (op_registers d op)

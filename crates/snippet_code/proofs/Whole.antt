@@ -1,14 +1,8 @@
 -- What the words of a whole snippet do.
-use Rattle.snippet_code.proofs.Common.{◌≡◌, ◌≢◌, ℕ, suc, ◌+◌, ◌-◌, ◌*◌, ◌%◌, ◌^◌, ◌<◌, ◌≤◌, ◌⊎◌, inl, inr, Bool, true, false, List, [], ◌∷◌, ◌++◌, length, drop, map, refl, ap, sym, ◌∙◌, subst, arith, length-append, length-drop, All, slice_index, ext_get_or, length-map, get_or-drop, All-head, All-tail, decode_of, Instr, Part, has, wrapped, code_of, NoSlot, State, register_of, StateItem, Register, CodesItem, YRegister, IsAmong, IsSameAt, any_of_word, CanStore, memory_word, StandIn, split_below, put, put_other, put_same, ArePicked, picked, spills, are_picked, Op, Keep, Top, update, named_by, IsOp}
+use Rattle.snippet_code.proofs.Common.{◌≡◌, ◌≢◌, ℕ, suc, ◌+◌, ◌-◌, ◌*◌, ◌%◌, ◌^◌, ◌<◌, ◌≤◌, ◌⊎◌, inl, inr, Bool, true, false, List, [], ◌∷◌, ◌++◌, length, drop, map, refl, ap, sym, ◌∙◌, subst, arith, length-append, length-drop, All, slice_index, ext_get_or, length-map, get_or-drop, All-head, All-tail, decode_of, Instr, Part, has, wrapped, code_of, NoSlot, State, register_of, StateItem, Register, CodesItem, YRegister, IsAmong, IsSameAt, any_of_word, CanStore, memory_word, StandIn, split_below, put, put_other, put_same, ArePicked, picked, spills, are_picked, Op, Keep, Top, update, named_by, IsOp, cell_at, words_at, IsCellOf, kept_word, registers_for, all_words, numbered, save, restore, MayStore, IsAboutToRun, RunsPast, EndsLow, EndLow, SnippetsRun}
 use Rattle.v8_decode.specs.declared.Part.TheVariants as parts
 use Rattle.code_runs.specs.Hops.{hopped}
 use Rattle.code_runs.proofs.Straight.{words_say}
-use Rattle.snippet_code.specs.Cells.{cell_at, words_at}
-use Rattle.snippet_code.specs.Code.{IsCellOf, kept_word}
-use Rattle.snippet_code.specs.Spills.{registers_for}
-use Rattle.snippet_code.specs.Words.{all_words, numbered, save, restore}
-use Rattle.snippet_code.specs.Runs.{MayStore, IsAboutToRun, RunsPast}
-use Rattle.snippet_code.specs.Laws.{EndsLow, EndLow, SnippetsRun}
 use Rattle.snippet_code.proofs.Working.{HasWorkspace, WorksWithin, Does, update_all, IsRead, AreFit, AreFrom, HavePage, saved, AreSaved}
 use Rattle.snippet_code.proofs.Blocks.{works_none}
 use Rattle.snippet_code.proofs.Micro.{as_many, stand_at}

@@ -1,10 +1,5 @@
 -- The words of a whole snippet.
-use Rattle.snippet_code.proofs.Common.{◌≡◌, ℕ, ◌+◌, ◌-◌, ◌%◌, ◌≤◌, Bool, List, ◌++◌, length, map, take, drop, ap, ◌∙◌, arith, All, length-drop, append_assoc, slice_index, length-map, map-append, get_or-drop, decode_of, Instr, Part, Icc, has, word_of, picked, register_count, spilled, spills, are_picked, Op, named_by, IsOp}
-use Rattle.std.proofs.lemmas.List.{take_all}
-use Rattle.snippet_code.specs.Spills.{registers_for, spills_of}
-use Rattle.snippet_code.specs.Words.{all_words, numbered, save, restore, snippet_words, code_of_snippet, cost_of}
-use Rattle.snippet_code.specs.Runs.{DoesJust}
-use Rattle.snippet_code.specs.Laws.{CanExpand, EndLow, SnippetCodeRuns}
+use Rattle.snippet_code.proofs.Common.{◌≡◌, ℕ, ◌+◌, ◌-◌, ◌%◌, ◌≤◌, Bool, List, ◌++◌, length, map, take, drop, ap, ◌∙◌, arith, All, length-drop, append_assoc, slice_index, length-map, map-append, get_or-drop, decode_of, Instr, Part, Icc, has, word_of, picked, register_count, spilled, spills, are_picked, Op, named_by, IsOp, take_all, registers_for, spills_of, all_words, numbered, save, restore, snippet_words, code_of_snippet, cost_of, DoesJust, CanExpand, EndLow, SnippetCodeRuns}
 use Rattle.snippet_code.proofs.Encoded.{decoded, have-append, all_have, are_below, saves_have, restores_have}
 use Rattle.snippet_code.proofs.Lengths.{costs_hold, numbered_length, registers_few}
 use Rattle.snippet_code.proofs.Named.{named_few}

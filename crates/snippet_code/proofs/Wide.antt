@@ -1,12 +1,7 @@
 -- Numbers: constants in two parts, counters of two cells, and places in rings.
-use Rattle.snippet_code.proofs.Common.{◌≡◌, ◌≢◌, ℕ, zero, suc, ◌+◌, ◌-◌, ◌*◌, ◌/◌, ◌%◌, ◌^◌, ◌<◌, ◌≤◌, min, Bool, true, false, bit_and, Ok, refl, ap, sym, ◌∙◌, arith, cond_both, if◌then◌else◌, ◌==◌, nat_lt, pos, negsuc, w32, bit_at, nat_tests, and_le_l, bit_at_and, Codes, alu_of, codes_of, complement, wrapped, State, register_of, put, Count}
-use Rattle.std.specs.Int.{cast_unsigned}
-use Rattle.std.specs.Prelude.{nat_le}
+use Rattle.snippet_code.proofs.Common.{◌≡◌, ◌≢◌, ℕ, zero, suc, ◌+◌, ◌-◌, ◌*◌, ◌/◌, ◌%◌, ◌^◌, ◌<◌, ◌≤◌, min, Bool, true, false, bit_and, Ok, refl, ap, sym, ◌∙◌, arith, cond_both, if◌then◌else◌, ◌==◌, nat_lt, pos, negsuc, w32, bit_at, nat_tests, and_le_l, bit_at_and, Codes, alu_of, codes_of, complement, wrapped, State, register_of, put, Count, cast_unsigned, nat_le, sum_overflows, cell_at, small, low}
 use Rattle.v8_decode.specs.declared.AluOp.TheVariants as ops
-use Rattle.v8_alu.specs.Alu.{sum_overflows}
 use Rattle.v8_alu.specs.Numbers.{one_if}
-use Rattle.snippet_code.specs.Cells.{cell_at}
-use Rattle.snippet_code.specs.Words.{small, low}
 use Rattle.snippet_code.proofs.Working.{update_one}
 
 -- ---- numbers

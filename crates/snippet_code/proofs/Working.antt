@@ -1,12 +1,6 @@
 -- What is kept of code that works in a few picked registers and in some words of memory, where branches only lead
 -- forward.
-use Rattle.snippet_code.proofs.Common.{◌≡◌, ◌≢◌, ℕ, suc, ◌+◌, ◌*◌, ◌/◌, ◌%◌, ◌^◌, ◌<◌, ◌≤◌, max, Bool, false, List, [], ◌∷◌, Codes, Memory, NoSlot, State, CanStore, any_of_word, Works, memory_word, put, Op, Add, Put, Keep, Top, Count, Log, IsOp, cells_end}
-use Rattle.v8_step.specs.Valid.{IsValid}
-use Rattle.code_runs.specs.Counted.{count_stores}
-use Rattle.code_runs.proofs.Picked.{HasBlock}
-use Rattle.snippet_code.specs.Code.{IsCellIn, kept_word}
-use Rattle.snippet_code.specs.Cells.{cell_at}
-use Rattle.snippet_code.specs.Spills.{op_registers}
+use Rattle.snippet_code.proofs.Common.{◌≡◌, ◌≢◌, ℕ, suc, ◌+◌, ◌*◌, ◌/◌, ◌%◌, ◌^◌, ◌<◌, ◌≤◌, max, Bool, false, List, [], ◌∷◌, Codes, Memory, NoSlot, State, CanStore, any_of_word, Works, memory_word, put, Op, Add, Put, Keep, Top, Count, Log, IsOp, cells_end, IsValid, count_stores, HasBlock, IsCellIn, kept_word, cell_at, op_registers}
 
 -- ---- blocks
 

@@ -1,15 +1,6 @@
 -- What a snippet makes of the cells depends on the registers alone that it names.
-use Rattle.std.proofs.Common.{◌≡◌, ℕ, zero, suc, ◌<◌, true, max, List, [], ◌∷◌, refl, ap, sym, ◌∙◌, arith}
-use Rattle.std.specs.List.{All}
-use Rattle.std.proofs.lemmas.Bool.{and_from, lt-ltb, or_left, or_right}
-use Rattle.v8_decode.specs.declared.Part.TheVariants.{Reg}
-use Rattle.v8_decode.specs.Parts.{has, is_member, is_same}
+use Rattle.snippets.proofs.Common.{◌≡◌, ℕ, zero, suc, ◌<◌, true, max, List, [], ◌∷◌, refl, ap, sym, ◌∙◌, arith, All, and_from, lt-ltb, or_left, or_right, Reg, has, is_member, is_same, Op, Add, Put, Keep, Top, Count, Log, changed, read_by, update, updated_by, IsOp, NamedRegistersDecide}
 use Rattle.v8_decode.proofs.Members.{has-members, is_same-self}
-use Rattle.snippets.specs.declared.snippet.Op.{Op}
-use Rattle.snippets.specs.declared.snippet.Op.TheVariants.{Add, Put, Keep, Top, Count, Log}
-use Rattle.snippets.specs.Cells.{changed, read_by, update, updated_by}
-use Rattle.snippets.specs.Grammar.{IsOp}
-use Rattle.snippets.specs.Laws.{NamedRegistersDecide}
 pub use Rattle.snippets.proofs.Examples.{carries}
 
 module _ (f h : ℕ → ℕ) (same_zero : f 0 ≡ h 0) where

@@ -1,9 +1,6 @@
 -- An operation that is added to a snippet keeps it filled.
-use Rattle.std.proofs.Common.{◌≡◌, ℕ, suc, ◌+◌, ◌-◌, ◌<◌, drop, replicate, slice_set, refl, ap, sym, ◌∙◌, arith}
-use Rattle.std.proofs.lemmas.List.{length-set, drop-drop, drop-set-lt}
-use Rattle.snippets.specs.declared.snippet.Op.{Op}
+use Rattle.snippets.proofs.Common.{◌≡◌, ℕ, suc, ◌+◌, ◌-◌, ◌<◌, drop, replicate, slice_set, refl, ap, sym, ◌∙◌, arith, length-set, drop-drop, drop-set-lt, Op, IsFilled, filler}
 use Rattle.snippets.specs.declared.snippet.Snippet.TheInside.{Inside}
-use Rattle.snippets.specs.Code.{IsFilled, filler}
 
 -- one operation more
 pub filled_more : (inside : Inside) (op : Op) → IsFilled inside → inside.count < 8

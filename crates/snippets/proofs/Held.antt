@@ -1,21 +1,11 @@
 -- What a script holds once some lines were read.
-use Rattle.std.proofs.Common.{◌≡◌, ℕ, zero, suc, ◌+◌, ◌-◌, ◌<◌, ◌≤◌, ◌==◌, max, Bool, inl, inr, true, false, List, [], ◌∷◌, ◌++◌, ◌≢◌, append-nil, append_assoc, length, take, get_or, map, replicate, Result, Ok, Err, Some, None, refl, ap, ap₂, sym, ◌∙◌, arith}
-use Rattle.std.specs.List.{range_with_len}
-use Rattle.std.proofs.lemmas.Bool.{cases_lt, eqb-true, eq-eqb, ne_eqb}
+use Rattle.snippets.proofs.Common.{◌≡◌, ℕ, zero, suc, ◌+◌, ◌-◌, ◌<◌, ◌≤◌, ◌==◌, max, Bool, inl, inr, true, false, List, [], ◌∷◌, ◌++◌, ◌≢◌, append-nil, append_assoc, length, take, get_or, map, replicate, Result, Ok, Err, Some, None, refl, ap, ap₂, sym, ◌∙◌, arith, range_with_len, cases_lt, eqb-true, eq-eqb, ne_eqb, length-append, length-map, length-set, length-take, length-replicate, get_or-map, get_or-set_other, get_or-take, get_or_append_left, get_or_past, take-append-le, take-take, take_more, take-append_seam, take-length, get_or-append_seam, Op, Said, Nothing, Does, Wrong, Answers, IsFault, IsScript, IsFirstFault, IsGood, cell_end, edge_end, end_of, fault_of, on_edge, ops_on, snips_of, IsCause, cells_after, fault_in, ops_at, padded, said_of, snips_after, with_op}
 use Rattle.std.proofs.lemmas.Grind.{get_or-set_at}
-use Rattle.std.proofs.lemmas.List.{length-append, length-map, length-set, length-take, length-replicate, get_or-map, get_or-set_other, get_or-take, get_or_append_left, get_or_past, take-append-le, take-take, take_more}
 use Rattle.std.proofs.lemmas.List.FromFn.{fill_by_all, get_or-map-range_with_len, length-map-range_with_len}
-use Rattle.std.proofs.Math.Seq.{take-append_seam, take-length, get_or-append_seam}
 use Rattle.std.specs.Result.{IsErrAnd}
-use Rattle.snippets.specs.declared.snippet.Op.{Op}
 use Rattle.snippets.specs.declared.script.Script.{Script}
 use Rattle.snippets.specs.declared.script.ScriptFault.{ScriptFault}
 use Rattle.snippets.specs.declared.script.ScriptFault.TheVariants as faults
-use Rattle.snippets.specs.declared.line.Said.{Said}
-use Rattle.snippets.specs.declared.line.Said.TheVariants.{Nothing, Does, Wrong}
-use Rattle.snippets.specs.Code.{Answers, IsFault, IsScript}
-use Rattle.snippets.specs.Scripts.{IsFirstFault, IsGood, cell_end, edge_end, end_of, fault_of, on_edge, ops_on, snips_of}
-use Rattle.snippets.specs.Parts.{IsCause, cells_after, fault_in, ops_at, padded, said_of, snips_after, with_op}
 
 pub record Held (edges : ℕ) (before : List Said) (snips : List (List Op)) (cells : ℕ) : Type 0 where
   pub good : IsGood edges before

@@ -1,3 +1,4 @@
+pub mod Common
 pub mod Operations
 pub mod Lines
 pub mod Held

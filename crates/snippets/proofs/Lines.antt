@@ -1,13 +1,6 @@
 -- What lines say.
-use Rattle.std.proofs.Common.{◌≡◌, ℕ, Bool, true, false, ◌==◌, List, [], ◌∷◌, length, map, Option, Some, None, refl, ap, ap₂, sym, subst, ◌∙◌, arith}
-use Rattle.std.proofs.lemmas.Bool.{eqb-true, eq-eqb, ne_eqb}
-use Rattle.snippets.specs.declared.snippet.Op.{Op}
-use Rattle.snippets.specs.declared.snippet.Op.TheVariants.{Add, Put, Keep, Top, Count, Log}
+use Rattle.snippets.proofs.Common.{◌≡◌, ℕ, Bool, true, false, ◌==◌, List, [], ◌∷◌, length, map, Option, Some, None, refl, ap, ap₂, sym, subst, ◌∙◌, arith, eqb-true, eq-eqb, ne_eqb, Op, Add, Put, Keep, Top, Count, Log, AllSay, IsLine, IsSilent, IsSpelled, Says, Said, Nothing, Does, Wrong, operation_of, said_by, said_of}
 use Rattle.snippets.specs.Private.{HasRing}
-use Rattle.snippets.specs.Grammar.{AllSay, IsLine, IsSilent, IsSpelled, Says}
-use Rattle.snippets.specs.declared.line.Said.{Said}
-use Rattle.snippets.specs.declared.line.Said.TheVariants.{Nothing, Does, Wrong}
-use Rattle.snippets.specs.Parts.{operation_of, said_by, said_of}
 use Rattle.snippets.proofs.Operations.{operation_back, operation_read}
 
 silent_first : (byte : ℕ) (bytes : List ℕ) → (byte == 35) ≡ true → said_of (byte ∷ bytes) ≡ Nothing

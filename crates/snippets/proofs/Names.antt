@@ -1,13 +1,7 @@
 -- The registers that operations read.
-use Rattle.std.proofs.Common.{◌≡◌, ℕ, ◌+◌, ◌<◌, List, [], ◌∷◌, ◌++◌, length, take, get_or, refl, ap, sym, ◌∙◌}
-use Rattle.std.proofs.lemmas.List.{take_more}
+use Rattle.snippets.proofs.Common.{◌≡◌, ℕ, ◌+◌, ◌<◌, List, [], ◌∷◌, ◌++◌, length, take, get_or, refl, ap, sym, ◌∙◌, take_more, Reg, every_part, members, set_of, Op, Add, Put, Keep, Top, Count, Log, named_by, read_by}
 use Rattle.v8_decode.specs.declared.Part.{Part}
-use Rattle.v8_decode.specs.declared.Part.TheVariants.{Reg}
-use Rattle.v8_decode.specs.Parts.{every_part, members, set_of}
 use Rattle.v8_decode.proofs.Marks.{set_of-append}
-use Rattle.snippets.specs.declared.snippet.Op.{Op}
-use Rattle.snippets.specs.declared.snippet.Op.TheVariants.{Add, Put, Keep, Top, Count, Log}
-use Rattle.snippets.specs.Cells.{named_by, read_by}
 
 read_by-append : (ops : List Op) (op : Op) → read_by (ops ++ op ∷ []) ≡ read_by ops ++ read_by (op ∷ [])
 read_by-append [] op = refl

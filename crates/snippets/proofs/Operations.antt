@@ -1,14 +1,9 @@
 -- Operations on edges.
-use Rattle.std.proofs.Common.{if◌then◌else◌, ◌≡◌, ℕ, ◌<◌, ◌^◌, true, List, [], ◌∷◌, ◌++◌, Option, Some, None, inl, inr, decimal, codes, refl, ap, ap₂, sym, subst, ◌∙◌}
+use Rattle.snippets.proofs.Common.{if◌then◌else◌, ◌≡◌, ℕ, ◌<◌, ◌^◌, true, List, [], ◌∷◌, ◌++◌, Option, Some, None, inl, inr, decimal, codes, refl, ap, ap₂, sym, subst, ◌∙◌, Op, Add, Put, Keep, Top, Count, Log, cell_of, IsLine, IsSpelled, line_text, after_edge, bare_of, full_of, number_of, op_of, operation_of, register_of, split_at}
 use Rattle.std.specs.Option.{option_map, option_or}
 use Rattle.std.specs.Str.{bytes_eq}
 use Rattle.std.proofs.lemmas.Slice.Eq.{bytes_eq-Decides}
-use Rattle.snippets.specs.declared.snippet.Op.{Op}
-use Rattle.snippets.specs.declared.snippet.Op.TheVariants.{Add, Put, Keep, Top, Count, Log}
-use Rattle.snippets.specs.Ops.{cell_of}
-use Rattle.snippets.specs.Grammar.{IsLine, IsSpelled, line_text}
 use Rattle.line_words.specs.Registers.{register_text}
-use Rattle.snippets.specs.Parts.{after_edge, bare_of, full_of, number_of, op_of, operation_of, register_of, split_at}
 use Rattle.line_words.proofs.Steps.{chosen, mapped, step, tested}
 use Rattle.line_words.proofs.Numbers.{number_back, number_read}
 use Rattle.line_words.proofs.Registers.{register_back, register_read}

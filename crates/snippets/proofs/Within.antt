@@ -1,20 +1,8 @@
 -- A script without a bad line keeps its limits.
 use Rattle.std.proofs.Math.Nat.{le_refl, le_trans}
-use Rattle.std.proofs.Common.{◌≡◌, ℕ, zero, suc, ◌+◌, ◌<◌, ◌≤◌, ◌^◌, ◌==◌, Bool, true, false, if◌then◌else◌, List, [], ◌∷◌, ◌++◌, append-nil, length, take, get_or, Some, None, refl, ap, subst, ◌∙◌, arith}
+use Rattle.snippets.proofs.Common.{◌≡◌, ℕ, zero, suc, ◌+◌, ◌<◌, ◌≤◌, ◌^◌, ◌==◌, Bool, true, false, if◌then◌else◌, List, [], ◌∷◌, ◌++◌, append-nil, length, take, get_or, Some, None, refl, ap, subst, ◌∙◌, arith, eqb-true, leb-false, ltb-false, cond_both, length-append, take_more, take-length, Op, Add, Put, Keep, Top, Count, Log, WorksBelow, WorksIn, cells_end, AllSay, IsSpelled, Says, Said, Nothing, Does, Wrong, IsWithin, IsGood, cell_end, edge_end, end_of, fault_of, on_edge, ops_on}
 use Rattle.std.specs.Prelude.{nat_le, nat_lt}
-use Rattle.std.proofs.lemmas.Bool.{eqb-true, leb-false, ltb-false, cond_both}
-use Rattle.std.proofs.lemmas.List.{length-append, take_more}
 use Rattle.std.proofs.lemmas.List.Elements.{All-append}
-use Rattle.std.proofs.Math.Seq.{take-length}
-use Rattle.snippets.specs.declared.snippet.Op.{Op}
-use Rattle.snippets.specs.declared.snippet.Op.TheVariants.{Add, Put, Keep, Top, Count, Log}
-use Rattle.snippets.specs.Cells.{WorksBelow, WorksIn}
-use Rattle.snippets.specs.Ops.{cells_end}
-use Rattle.snippets.specs.Grammar.{AllSay, IsSpelled, Says}
-use Rattle.snippets.specs.declared.line.Said.{Said}
-use Rattle.snippets.specs.declared.line.Said.TheVariants.{Nothing, Does, Wrong}
-use Rattle.snippets.specs.Laws.{IsWithin}
-use Rattle.snippets.specs.Scripts.{IsGood, cell_end, edge_end, end_of, fault_of, on_edge, ops_on}
 use Rattle.snippets.proofs.Held.{end-more, ops-more}
 
 works_more : (m n : ℕ) (op : Op) → m ≤ n → WorksIn m op → WorksIn n op

@@ -1,24 +1,8 @@
 -- The flow graph as a plain one: the list of links is the same, and its edges join all nodes.
-use Rattle.std.proofs.Common.{◌≡◌, ℕ, ◌+◌, ◌-◌, ◌<◌, ◌≤◌, ◌⊎◌, inl, inr, true, false, Bool, List, length, map, Some, refl, ap, sym, ◌∙◌, subst, arith}
+use Rattle.span_tree.proofs.Common.{◌≡◌, ℕ, ◌+◌, ◌-◌, ◌<◌, ◌≤◌, ◌⊎◌, inl, inr, true, false, Bool, List, length, map, Some, refl, ap, sym, ◌∙◌, subst, arith, cases_lt, le-ltb, lt-ltb, length-map, All-from_get_or, All-get_or, All-map, All-weaker, recursion_from_All, NodeSet, IsLinked, plain_of, IsConnected, Link, Blocks, Edge, Node, Block, Landed, X, Open, is_copied, jumps_in, targets_in, Graph, edges_in, has_cases, lands_of, is_node, node_number, node_numbers, link_of, links_of, no_edge}
 use Rattle.std.proofs.Math.ListN.{get_or-map}
-use Rattle.std.proofs.lemmas.Bool.{cases_lt, le-ltb, lt-ltb}
-use Rattle.std.proofs.lemmas.List.{length-map}
-use Rattle.std.proofs.lemmas.List.Elements.{All-from_get_or, All-get_or, All-map, All-weaker, recursion_from_All}
-use Rattle.flows.specs.Flows.{NodeSet}
-use Rattle.flows.specs.Links.{IsLinked, graph_of as plain_of}
-use Rattle.flows.specs.Trees.{IsConnected}
 use Rattle.flows.specs.SpanningTrees.{NoneCrosses}
-use Rattle.flows.specs.declared.Link.{Link}
-use Rattle.cfg_blocks.specs.Blocks.{Blocks}
-use Rattle.cfg_normal.specs.declared.Edge.{Edge}
-use Rattle.cfg_normal.specs.declared.Node.{Node}
-use Rattle.cfg_normal.specs.declared.Node.TheVariants.{Block, Landed, X}
-use Rattle.cfg_normal.specs.Opens.{Open, is_copied, jumps_in, targets_in}
-use Rattle.cfg_normal.specs.Graph.{Graph, edges_in, has_cases, lands_of}
 use Rattle.cfg_normal.specs.Code.{IsEdgeIn, IsGraph, IsNodeIn}
-use Rattle.cfg_normal.specs.Numbers.{is_node, node_number, node_numbers}
-use Rattle.span_tree.specs.Private.{link_of}
-use Rattle.span_tree.specs.Links.{links_of, no_edge}
 use Rattle.span_tree.proofs.Landings.{Each, block, cased, copy, first_of, landed_block, landed_copy, lands_plain, targets_some}
 
 -- ---- the list of links

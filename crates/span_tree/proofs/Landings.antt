@@ -1,17 +1,6 @@
 -- What holds of each edge of a flow graph holds of the landings at its nodes, and of an edge from each jump's block.
-use Rattle.std.proofs.Common.{◌≡◌, ℕ, zero, suc, ◌<◌, ◌≤◌, Bool, true, false, List, [], ◌∷◌, ◌++◌, length, map, Some, inl, inr, refl, sym, subst, arith}
-use Rattle.std.specs.Prelude.{if◌then◌else◌}
-use Rattle.std.specs.List.{AllByRecursion, filter, flat_map, list_any}
-use Rattle.std.proofs.lemmas.Bool.{cases_lt, cond_both, false≢true}
-use Rattle.std.proofs.lemmas.Grind.{flat_map-append}
-use Rattle.std.proofs.lemmas.List.{length-append}
-use Rattle.cfg_blocks.specs.Blocks.{Blocks, below}
-use Rattle.cfg_normal.specs.declared.Edge.{Edge}
-use Rattle.cfg_normal.specs.declared.Node.{Node}
-use Rattle.cfg_normal.specs.declared.Node.TheVariants.{Block, Landed}
+use Rattle.span_tree.proofs.Common.{◌≡◌, ℕ, zero, suc, ◌<◌, ◌≤◌, Bool, true, false, List, [], ◌∷◌, ◌++◌, length, map, Some, inl, inr, refl, sym, subst, arith, if◌then◌else◌, AllByRecursion, filter, flat_map, list_any, cases_lt, cond_both, false≢true, flat_map-append, length-append, Blocks, below, Edge, Node, Block, Landed, Open, is_copied, jumps_in, targets_in, case_nodes, case_of, copied_edges, edges_in, edges_of, has_cases, landing_at, landings_of, lands_of, once_onto, ways_out}
 use Rattle.cfg_normal.specs.Nodes.{same_node}
-use Rattle.cfg_normal.specs.Opens.{Open, is_copied, jumps_in, targets_in}
-use Rattle.cfg_normal.specs.Graph.{case_nodes, case_of, copied_edges, edges_in, edges_of, has_cases, landing_at, landings_of, lands_of, once_onto, ways_out}
 
 abbrev pub block : ℕ → Node
 block k = Block (record { 0 = k })

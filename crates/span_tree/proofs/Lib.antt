@@ -1,3 +1,4 @@
+pub mod Common
 pub mod Landings
 pub mod Connected
 pub mod LoopBounds

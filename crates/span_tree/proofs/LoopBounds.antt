@@ -1,17 +1,6 @@
 -- One loop more, and what the sums of beginnings and ends say.
-use Rattle.std.proofs.Common.{◌≡◌, ℕ, zero, suc, ◌+◌, ◌-◌, ◌<◌, ◌≤◌, ◌⊎◌, inl, inr, Bool, true, false, ◌&&◌, cond, List, [], ◌∷◌, ◌++◌, length, map, set, slice_index, add-one, refl, ap, ◌∙◌, arith}
-use Rattle.std.specs.Prelude.{Some, nat_le}
-use Rattle.std.specs.List.{All}
-use Rattle.std.proofs.lemmas.Bool.{cases_eq, cases_lt}
-use Rattle.std.proofs.lemmas.List.{get_or-set_other, get_or-set_same, length-map, length-set, map-append}
-use Rattle.std.proofs.lemmas.List.Elements.{All-get_or, All-set, All-weaker}
-use Rattle.std.proofs.lemmas.Grind.{common_steps}
+use Rattle.span_tree.proofs.Common.{◌≡◌, ℕ, zero, suc, ◌+◌, ◌-◌, ◌<◌, ◌≤◌, ◌⊎◌, inl, inr, Bool, true, false, ◌&&◌, cond, List, [], ◌∷◌, ◌++◌, length, map, set, slice_index, add-one, refl, ap, ◌∙◌, arith, Some, nat_le, All, cases_eq, cases_lt, get_or-set_other, get_or-set_same, length-map, length-set, map-append, All-get_or, All-set, All-weaker, common_steps, count_below, Blocks, below, end_of, last_word, get_or-below, length-below, AreBounds, sum_below, branch_target, is_between, is_in_loop, loops_at}
 use Rattle.eel_base.specs.declared.numbers.WordNo.{WordNo}
-use Rattle.flows.specs.Flows.{count_below}
-use Rattle.cfg_blocks.specs.Blocks.{Blocks, below, end_of, last_word}
-use Rattle.cfg_blocks.proofs.Below.{get_or-below, length-below}
-use Rattle.span_tree.specs.Bounds.{AreBounds, sum_below}
-use Rattle.span_tree.specs.Weights.{branch_target, is_between, is_in_loop, loops_at}
 use Rattle.std.proofs.lemmas.Bool.Decides.{nat_tests}
 
 abbrev pub raised : List ℕ → ℕ → List ℕ

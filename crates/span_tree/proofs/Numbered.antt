@@ -1,15 +1,7 @@
 -- Cells that are given in the order of the counted edges.
-use Rattle.std.proofs.Common.{◌≡◌, ℕ, zero, suc, ◌<◌, ◌≤◌, inl, inr, Bool, true, false, cond, List, length, map, refl, ap, sym, ◌∙◌, subst, arith}
-use Rattle.std.specs.Prelude.{Option, Some, None, IfSome, unwrap_or}
+use Rattle.span_tree.proofs.Common.{◌≡◌, ℕ, zero, suc, ◌<◌, ◌≤◌, inl, inr, Bool, true, false, cond, List, length, map, refl, ap, sym, ◌∙◌, subst, arith, Option, Some, None, IfSome, unwrap_or, cases_lt, false≢true, get_or-map, get_or_past, length-map, EdgeSet, count_below, marked, below, get_or-below, length-below, AreNumbered, cell_at, cell_count, cell_of, has_cell}
 use Rattle.std.specs.Option.{is_some}
 use mir.Val.{bool_byte}
-use Rattle.std.proofs.lemmas.Bool.{cases_lt, false≢true}
-use Rattle.std.proofs.lemmas.List.{get_or-map, get_or_past, length-map}
-use Rattle.flows.specs.Flows.{EdgeSet, count_below}
-use Rattle.flows.specs.Links.{marked}
-use Rattle.cfg_blocks.specs.Blocks.{below}
-use Rattle.cfg_blocks.proofs.Below.{get_or-below, length-below}
-use Rattle.span_tree.specs.Cells.{AreNumbered, cell_at, cell_count, cell_of, has_cell}
 
 -- the cells of the first edges
 abbrev pub cells_below : EdgeSet → ℕ → List (Option ℕ)

@@ -1,20 +1,6 @@
 -- The ranks of edges, and that weights rise with them.
-use Rattle.std.proofs.Common.{◌≡◌, ℕ, ◌^◌, ◌<◌, ◌≤◌, List, [], ◌∷◌, length, map, ap, ◌∙◌, arith}
-use Rattle.std.specs.List.{All}
-use Rattle.std.proofs.lemmas.List.{length-map}
-use Rattle.std.proofs.lemmas.List.Elements.{All-cons, All-nil}
-use Rattle.flows.specs.Flows.{weight_in}
-use Rattle.flow_tree.specs.Tree.{RisesWith}
-use Rattle.std.proofs.lemmas.Grind.{common_steps}
+use Rattle.span_tree.proofs.Common.{◌≡◌, ℕ, ◌^◌, ◌<◌, ◌≤◌, List, [], ◌∷◌, length, map, ap, ◌∙◌, arith, All, length-map, All-cons, All-nil, weight_in, RisesWith, common_steps, Blocks, below, get_or-below, length-below, Edge, Node, Graph, edge_at, rank_of, tie_by, weight_from, weights_of}
 use Rattle.cfg_blocks.specs.declared.EdgeKind.{EdgeKind}
-use Rattle.cfg_blocks.specs.Blocks.{Blocks, below}
-use Rattle.cfg_blocks.proofs.Below.{get_or-below, length-below}
-use Rattle.cfg_normal.specs.declared.Edge.{Edge}
-use Rattle.cfg_normal.specs.declared.Node.{Node}
-use Rattle.cfg_normal.specs.Graph.{Graph}
-use Rattle.span_tree.specs.Links.{edge_at}
-use Rattle.span_tree.specs.Ties.{rank_of, tie_by}
-use Rattle.span_tree.specs.Weights.{weight_from, weights_of}
 
 -- ---- ties
 

@@ -1,4 +1,4 @@
--- The names of crates below that the proofs cite, passed on from one place. Declares nothing.
+-- The names that more than one proof cites, of this crate and of crates below, passed on from one place. Declares nothing.
 pub use Rattle.std.proofs.Common.{◌≡◌, arith, ℕ, Some, None, refl, ◌+◌, ◌<◌, ◌∙◌, ap, sym, true, List, suc, length, slice_index, ◌==◌, Bool, Option, false, inl, inr, zero, ◌≤◌, [], if◌then◌else◌, subst, ◌*◌, ◌≢◌, ◌&&◌, ◌-◌, ◌∷◌, slice_index_or, ℤ, nat_lt, not, ◌%◌, ◌^◌, ◌||◌, length-set, map, pos, ◌++◌, get_or-set_other, get_or-set_same, nat_le, slice_set, ◌⊎◌, Err, Ok, Result, bit_or, slice_get}
 pub use Rattle.cfg_blocks.proofs.Below.{length-below, get_or-below}
 pub use Rattle.cfg_blocks.proofs.Targets.{word_at-some, IsWord}

@@ -1,32 +1,11 @@
 -- Loads, stores, LDSTUB and SWAP do the same from states that agree on what they read, outside the pages.
-use Rattle.std.proofs.Common.{◌≡◌, ℕ, suc, ◌^◌, ◌%◌, ◌<◌, ◌⊎◌, inl, inr, Bool, true, false, Option, Some, None, List, [], ◌∷◌, ◌++◌, length, refl, ap, sym, ◌∙◌, arith}
-use Rattle.std.specs.Prelude.{slice_index, if◌then◌else◌, ◌==◌}
-use Rattle.std.specs.Int.{Width, byte_len, w8, w16, w32, to_be_bytes, from_be_bytes}
-use Rattle.v8_decode.specs.declared.Op2.{Op2}
-use Rattle.v8_decode.specs.declared.Instr.{Instr}
+use Rattle.two_runs.proofs.Common.{◌≡◌, ℕ, suc, ◌^◌, ◌%◌, ◌<◌, ◌⊎◌, inl, inr, Bool, true, false, Option, Some, None, List, [], ◌∷◌, ◌++◌, length, refl, ap, sym, ◌∙◌, arith, slice_index, if◌then◌else◌, ◌==◌, Width, byte_len, w8, w16, w32, to_be_bytes, from_be_bytes, Op2, Instr, reg, op2_parts, pair, loaded_parts, stored_parts, writes_of, Memory, bytes_at, with_bytes, Span, AllApart, AreSameWrites, bytes_same, with_bytes-same, register_set, pair_set, length-register_set, Trap, State, register_of, with_register, sum_of, mem_address_not_aligned, data_access_exception, next, trapped, load_size, store_size, loaded, stored, on_bytes, on_memory, load_step, store_step, ldstub_step, swap_step, act, puts_by, StateItem, Register, Codes, YRegister, IsAmong, IsSameAt, AreSameAt, IsSameWorld, AreSameAfter, IsReady, length-stored, store_some}
 use Rattle.v8_decode.specs.declared.Instr.TheVariants as i
 use Rattle.v8_decode.specs.declared.LoadKind.{LoadKind}
 use Rattle.v8_decode.specs.declared.LoadKind.TheVariants as loads
 use Rattle.v8_decode.specs.declared.StoreKind.{StoreKind}
 use Rattle.v8_decode.specs.declared.StoreKind.TheVariants as stores
-use Rattle.v8_decode.specs.Effects.{reg, op2_parts, pair, loaded_parts, stored_parts, writes_of}
-use Rattle.v8_memory.specs.Regions.{Memory, bytes_at, with_bytes}
-use Rattle.v8_memory.specs.Spans.{Span, AllApart}
-use Rattle.v8_memory.specs.Laws.{AreSameWrites}
-use Rattle.v8_memory.proofs.Same.{bytes_same, with_bytes-same}
-use Rattle.v8_windows.specs.Registers.{register_set, pair_set}
-use Rattle.v8_windows.proofs.Places.{length-register_set}
-use Rattle.v8_step.specs.declared.Ending.TheVariants.{Trap}
-use Rattle.v8_step.specs.State.{State, register_of, with_register, sum_of}
-use Rattle.v8_step.specs.Traps.{mem_address_not_aligned, data_access_exception}
-use Rattle.v8_step.specs.Transfers.{next, trapped}
-use Rattle.v8_step.specs.Accesses.{load_size, store_size, loaded, stored, on_bytes, on_memory, load_step, store_step, ldstub_step, swap_step}
-use Rattle.v8_step.specs.Step.{act, puts_by}
-use Rattle.v8_step.specs.Items.{StateItem, Register, Codes, YRegister, IsAmong, IsSameAt}
-use Rattle.v8_step.specs.Code.{AreSameAt}
-use Rattle.two_runs.specs.Alike.{IsSameWorld, AreSameAfter, IsReady}
 use Rattle.two_runs.proofs.Reading.{same_assoc, same_first, same_rest, same_register, same_sum, place_one, among_split, no_codes, no_y, ended_alike, same_lengths}
-use Rattle.v8_step.proofs.KeptOutside.{length-stored, store_some}
 
 -- An instruction does the same from both, and puts out the same bytes.
 abbrev pub ActsAlike : Instr → Type 0

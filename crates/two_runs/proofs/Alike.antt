@@ -1,15 +1,10 @@
 -- Every instruction that is no transfer does the same from two states that agree on what it reads.
-use Rattle.std.proofs.Common.{◌≡◌, false, sym, ◌∙◌}
-use Rattle.v8_decode.specs.declared.Instr.{Instr}
+use Rattle.two_runs.proofs.Common.{◌≡◌, false, sym, ◌∙◌, Instr, decode_of, is_transfer, StepsAlike, live_step, live_puts}
 use Rattle.v8_decode.specs.declared.Instr.TheVariants as i
-use Rattle.v8_decode.specs.Words.{decode_of}
-use Rattle.v8_step.specs.Items.{is_transfer}
-use Rattle.two_runs.specs.Alike.{StepsAlike}
 use Rattle.two_runs.proofs.RegistersAlike.{alu_acts, sethi_acts, read_y_acts, write_y_acts, stbar_acts, flush_acts, illegal_acts, privileged_acts, fp_off_acts, cp_off_acts}
 use Rattle.two_runs.proofs.AccessesAlike.{load_acts, store_acts, ldstub_acts, swap_acts, ActsAlike}
 use Rattle.two_runs.proofs.Twins.{save_acts, restore_acts}
 use Rattle.two_runs.proofs.Puts.{ticc_acts}
-use Rattle.v8_step.proofs.Live.{live_step, live_puts}
 pub use Rattle.two_runs.proofs.Examples.{first_word}
 
 pub acts_alike : (instr : Instr) → is_transfer instr ≡ false → ActsAlike instr

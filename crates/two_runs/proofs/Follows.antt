@@ -1,15 +1,7 @@
 -- From one step to whole runs.
-use Rattle.std.proofs.Common.{◌≡◌, ℕ, zero, suc, ◌+◌, ◌-◌, ◌<◌, ◌≤◌, Option, Some, None, [], ◌∷◌, ◌++◌, length, refl, ap, sym, ◌∙◌, subst, arith, inl, inr, length-append, append-nil, add-suc}
-use Rattle.std.proofs.lemmas.Bool.{cases_lt}
-use Rattle.notes.specs.Format.{Notes}
-use Rattle.v8_step.specs.declared.Ending.{Ending}
-use Rattle.v8_step.specs.State.{State}
-use Rattle.v8_step.specs.Step.{step_of}
-use Rattle.v8_step.specs.Run.{run, run_puts}
-use Rattle.two_runs.specs.Visits.{visit_of, trail_of, own_trail, as_list, if_live}
+use Rattle.two_runs.proofs.Common.{◌≡◌, ℕ, zero, suc, ◌+◌, ◌-◌, ◌<◌, ◌≤◌, Option, Some, None, [], ◌∷◌, ◌++◌, length, refl, ap, sym, ◌∙◌, subst, arith, inl, inr, length-append, append-nil, add-suc, cases_lt, Notes, Ending, State, step_of, run, run_puts, visit_of, trail_of, own_trail, as_list, if_live, stays_ended, puts_nothing}
 use Rattle.two_runs.specs.TwoRuns.{GoesOn, Ends, MatchesBy, Answers, IsLeast, IsBounded}
 use Rattle.two_runs.specs.Follows.{IsQuiet, IsFollowed, RunsFollow}
-use Rattle.v8_step.proofs.Live.{stays_ended, puts_nothing}
 
 -- ---- a run that has ended stays as it is
 

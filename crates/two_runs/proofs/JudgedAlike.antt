@@ -1,22 +1,7 @@
 -- States that are the same in all but pc, npc, slot, ending, and memory in the pages judge the same bytes.
-use Rattle.std.proofs.Common.{◌≡◌, ℕ, zero, suc, ◌-◌, Bool, true, false, Option, Some, None, List, [], ◌++◌, refl, ap, ◌∙◌, subst}
-use Rattle.std.specs.Prelude.{if◌then◌else◌, ◌==◌}
-use Rattle.notes.specs.Format.{Notes}
-use Rattle.v8_decode.specs.declared.Instr.{Instr}
+use Rattle.two_runs.proofs.Common.{◌≡◌, ℕ, zero, suc, ◌-◌, Bool, true, false, Option, Some, None, List, [], ◌++◌, refl, ap, ◌∙◌, subst, if◌then◌else◌, ◌==◌, Notes, Instr, Memory, Span, AllApart, AreSameWrites, frame_pointer, holds_of, State, register_of, flush_windows, call_system, saved_memory, trap_number, judged_by_call, saved_span, frame_span, judged_after, judged_by_spills, judged_by_trap, judged_by, pages_of, apart_first, apart_rest}
 use Rattle.v8_decode.specs.declared.Instr.TheVariants as i
-use Rattle.v8_memory.specs.Regions.{Memory}
-use Rattle.v8_memory.specs.Spans.{Span, AllApart}
-use Rattle.v8_memory.specs.Laws.{AreSameWrites}
-use Rattle.v8_windows.specs.Frames.{frame_pointer}
-use Rattle.v8_alu.specs.Conditions.{holds_of}
-use Rattle.v8_step.specs.State.{State, register_of}
-use Rattle.v8_step.specs.Traps.{flush_windows, call_system}
-use Rattle.v8_step.specs.WindowMoves.{saved_memory}
-use Rattle.v8_step.specs.Step.{trap_number}
-use Rattle.v8_step.specs.Judged.{judged_by_call, saved_span, frame_span, judged_after, judged_by_spills, judged_by_trap, judged_by}
-use Rattle.two_runs.specs.Visits.{pages_of}
 use Rattle.two_runs.proofs.Twins.{same_arguments, twin_register, twin_sum, twins_saved, same_address, saved_alike, AreTwins}
-use Rattle.v8_step.proofs.KeptOutside.{apart_first, apart_rest}
 
 module _ (notes : Notes) where
   abbrev pages : List Span

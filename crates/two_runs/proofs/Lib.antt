@@ -1,3 +1,4 @@
+pub mod Common
 pub mod AccessesAlike
 pub mod Alike
 pub mod Follows

@@ -1,16 +1,6 @@
 -- Addresses outside the pages: their bytes, and the end of the heap, are the same in memories that are the
 -- same outside.
-use Rattle.std.proofs.Common.{◌≡◌, ℕ, ◌+◌, false, Option, Some, None, List, [], ◌∷◌, map, refl, ap, arith}
-use Rattle.std.specs.List.{list_any}
-use Rattle.std.specs.Option.{option_map}
-use Rattle.std.proofs.lemmas.Bool.{or_parts}
-use Rattle.std.proofs.lemmas.Bool.Decides.{nat_tests}
-use Rattle.notes.specs.Format.{Notes, NoteSegment, holds}
-use Rattle.v8_memory.specs.Regions.{Memory, Region, part_of, region_at, byte_at, heap_end_of}
-use Rattle.v8_memory.specs.Spans.{Span, IsApart, IsApartFromAll}
-use Rattle.v8_memory.specs.Code.{IsSameRegion, IsSameOutside}
-use Rattle.v8_memory.proofs.Same.{same_region}
-use Rattle.two_runs.specs.Visits.{page_of, pages_of, in_pages}
+use Rattle.two_runs.proofs.Common.{◌≡◌, ℕ, ◌+◌, false, Option, Some, None, List, [], ◌∷◌, map, refl, ap, arith, list_any, option_map, or_parts, nat_tests, Notes, NoteSegment, holds, Memory, Region, part_of, region_at, byte_at, heap_end_of, Span, IsApart, IsApartFromAll, IsSameRegion, IsSameOutside, same_region, page_of, pages_of, in_pages}
 
 apart_one : (address : ℕ) (segment : NoteSegment) → holds address (address + 1) segment ≡ false
     → IsApart (page_of segment) (record { from = address; count = 1 })

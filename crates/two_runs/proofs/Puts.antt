@@ -1,21 +1,6 @@
 -- Ticc does the same from states that agree everywhere, and puts out the same bytes.
-use Rattle.v8_memory.specs.Regions.{buffer_read}
-use Rattle.std.proofs.Common.{◌≡◌, ℕ, ◌%◌, Bool, true, false, ◌&&◌, ◌-◌, List, [], length, take, refl, ap, ◌∙◌, subst, arith}
-use Rattle.std.specs.Prelude.{if◌then◌else◌, ◌==◌}
-use Rattle.std.specs.Option.{unwrap_or}
-use Rattle.std.proofs.lemmas.Bool.{eqb-true}
-use Rattle.std.proofs.lemmas.Bool.Decides.{nat_tests}
-use Rattle.v8_decode.specs.declared.Op2.{Op2}
+use Rattle.two_runs.proofs.Common.{buffer_read, ◌≡◌, ℕ, ◌%◌, Bool, true, false, ◌&&◌, ◌-◌, List, [], length, take, refl, ap, ◌∙◌, subst, arith, if◌then◌else◌, ◌==◌, unwrap_or, eqb-true, nat_tests, Op2, Span, AllApart, Flags, holds_of, State, register_of, flush_windows, call_system, next, is_output, trap_step, act, trap_number, written_out, puts_by, buffer_span, judged_by_call, judged_by_spills, judged_by_trap}
 use Rattle.v8_decode.specs.declared.Instr.TheVariants as i
-use Rattle.v8_memory.specs.Spans.{Span, AllApart}
-use Rattle.v8_alu.specs.declared.Codes.{Codes as Flags}
-use Rattle.v8_alu.specs.Conditions.{holds_of}
-use Rattle.v8_step.specs.State.{State, register_of}
-use Rattle.v8_step.specs.Traps.{flush_windows, call_system}
-use Rattle.v8_step.specs.Transfers.{next}
-use Rattle.v8_step.specs.Calls.{is_output, trap_step}
-use Rattle.v8_step.specs.Step.{act, trap_number, written_out, puts_by}
-use Rattle.v8_step.specs.Judged.{buffer_span, judged_by_call, judged_by_spills, judged_by_trap}
 use Rattle.two_runs.proofs.AccessesAlike.{ActsAlike}
 use Rattle.two_runs.proofs.Twins.{twins_of, alike_of, same_arguments, twin_sum, buffer_reads, ticc_by, AreTwins}
 

@@ -1,22 +1,8 @@
 -- States that agree on the parts that are read agree on the values read, and the same write leaves them so.
-use Rattle.std.proofs.Common.{◌≡◌, ℕ, zero, suc, ◌⊎◌, inl, inr, List, [], ◌∷◌, ◌++◌, length, get_or, set, refl, ap, sym, ◌∙◌, arith}
-use Rattle.std.specs.Prelude.{slice_index}
+use Rattle.two_runs.proofs.Common.{◌≡◌, ℕ, zero, suc, ◌⊎◌, inl, inr, List, [], ◌∷◌, ◌++◌, length, get_or, set, refl, ap, sym, ◌∙◌, arith, slice_index, Op2, Instr, Reg, reg, op2_parts, Span, place_of, register_set, Ending, State, register_of, operand_of, sum_of, ended, StateItem, Register, Codes, YRegister, IsAmong, AreSameAt, IsSameWorld, AreSameAfter, AgreeOn}
 use Rattle.std.proofs.lemmas.Grind.{common_steps}
-use Rattle.v8_decode.specs.declared.Op2.{Op2}
 use Rattle.v8_decode.specs.declared.Op2.TheVariants as o
-use Rattle.v8_decode.specs.declared.Instr.{Instr}
 use Rattle.v8_decode.specs.declared.Part.{Part}
-use Rattle.v8_decode.specs.declared.Part.TheVariants.{Reg}
-use Rattle.v8_decode.specs.Effects.{reg, op2_parts}
-use Rattle.v8_memory.specs.Spans.{Span}
-use Rattle.v8_windows.specs.Registers.{place_of, register_set}
-use Rattle.v8_step.specs.declared.Ending.{Ending}
-use Rattle.v8_step.specs.State.{State, register_of, operand_of, sum_of}
-use Rattle.v8_step.specs.Transfers.{ended}
-use Rattle.v8_step.specs.Items.{StateItem, Register, Codes, YRegister, IsAmong}
-use Rattle.v8_step.specs.Code.{AreSameAt}
-use Rattle.two_runs.specs.Alike.{IsSameWorld, AreSameAfter}
-use Rattle.v8_alu.specs.Alike.{AgreeOn}
 
 pub same_first : (ps qs : List Part) (s t : State) → AreSameAt (ps ++ qs) s t → AreSameAt ps s t
 same_first [] qs s t h = tt

@@ -1,28 +1,8 @@
 -- Instructions on registers alone do the same from states that agree on what they read.
-use Rattle.std.proofs.Common.{◌≡◌, ℕ, ◌⊎◌, inl, inr, Bool, true, None, Result, Ok, Err, List, [], ◌∷◌, ◌++◌, length, refl, ap, sym, ◌∙◌, arith}
-use Rattle.std.specs.Prelude.{slice_index, bit_xor}
+use Rattle.two_runs.proofs.Common.{◌≡◌, ℕ, ◌⊎◌, inl, inr, Bool, true, None, Result, Ok, Err, List, [], ◌∷◌, ◌++◌, length, refl, ap, sym, ◌∙◌, arith, slice_index, bit_xor, Op2, Instr, Icc, Y, reg, op2_parts, when, alu_inputs, writes_y, writes_of, Span, register_set, length-register_set, Flags, AluOut, AluTrap, DivZero, TagOverflow, Trap, State, register_of, with_register, operand_of, division_by_zero, tag_overflow, illegal_instruction, privileged_instruction, fp_disabled, cp_disabled, next, act, alu_step, puts_by, StateItem, Register, Codes, YRegister, IsAmong, IsSameAt, IsSameWorld, AreSameAfter, AreAlike}
 use Rattle.v8_decode.specs.declared.AluOp.{AluOp}
-use Rattle.v8_decode.specs.declared.Op2.{Op2}
-use Rattle.v8_decode.specs.declared.Instr.{Instr}
 use Rattle.v8_decode.specs.declared.Instr.TheVariants as i
-use Rattle.v8_decode.specs.declared.Part.TheVariants.{Icc, Y}
-use Rattle.v8_decode.specs.Effects.{reg, op2_parts, when, alu_inputs, writes_y, writes_of}
-use Rattle.v8_memory.specs.Spans.{Span}
-use Rattle.v8_windows.specs.Registers.{register_set}
-use Rattle.v8_windows.proofs.Places.{length-register_set}
-use Rattle.v8_alu.specs.declared.Codes.{Codes as Flags}
-use Rattle.v8_alu.specs.declared.AluOut.{AluOut}
-use Rattle.v8_alu.specs.declared.AluTrap.{AluTrap}
-use Rattle.v8_alu.specs.declared.AluTrap.TheVariants.{DivZero, TagOverflow}
-use Rattle.v8_step.specs.declared.Ending.TheVariants.{Trap}
-use Rattle.v8_step.specs.State.{State, register_of, with_register, operand_of}
-use Rattle.v8_step.specs.Traps.{division_by_zero, tag_overflow, illegal_instruction, privileged_instruction, fp_disabled, cp_disabled}
-use Rattle.v8_step.specs.Transfers.{next}
-use Rattle.v8_step.specs.Step.{act, alu_step, puts_by}
-use Rattle.v8_step.specs.Items.{StateItem, Register, Codes, YRegister, IsAmong, IsSameAt}
-use Rattle.two_runs.specs.Alike.{IsSameWorld, AreSameAfter}
 use Rattle.two_runs.proofs.AccessesAlike.{ActsAlike}
-use Rattle.v8_alu.specs.Alike.{AreAlike}
 use Rattle.v8_alu.proofs.Alike.{alu_of-alike}
 use Rattle.two_runs.proofs.Reading.{same_assoc, same_first, same_rest, same_register, same_operand, same_inputs, place_one, among_split, among_assoc, no_codes, no_y, ended_alike, same_lengths}
 

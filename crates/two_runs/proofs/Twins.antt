@@ -1,36 +1,10 @@
 -- Twins: states that are the same but for pc, npc, slot, and memory in the pages. SAVE, RESTORE and Ticc, which
 -- read every item, lead twins to twins.
-use Rattle.std.proofs.Common.{◌≡◌, ◌<◌, ℕ, zero, suc, ◌+◌, ◌-◌, ◌%◌, Bool, true, false, Option, Some, None, List, [], ◌∷◌, length, take, drop, refl, ap, sym, ◌∙◌, subst, arith}
-use Rattle.std.specs.Prelude.{slice_index, if◌then◌else◌, ◌==◌}
+use Rattle.two_runs.proofs.Common.{◌≡◌, ◌<◌, ℕ, zero, suc, ◌+◌, ◌-◌, ◌%◌, Bool, true, false, Option, Some, None, List, [], ◌∷◌, length, take, drop, refl, ap, sym, ◌∙◌, subst, arith, slice_index, if◌then◌else◌, ◌==◌, Op2, Instr, reads_all, Memory, Region, bytes_at, with_bytes, with_heap_end, buffer_written, buffer_read, is_heap_end, Span, AllApart, IsSameOutside, AreSameWrites, bytes_same, with_bytes-same, register_in, register_set, window_before, window_after, frame_bytes, with_frame, oldest_of, frame_address, frame_pointer, length-frame_bytes, Flags, Ending, Exit, Trap, Window, State, register_of, with_register, operand_of, sum_of, trap_instruction, flush_windows, call_system, EBADF, ENOMEM, EFAULT, ENOSYS, next, ended, on_memory, frame_written, frame_read, oldest_window, save_address, saved_memory, spill, spill_many, fill, fill_from, enter, leave, save_step, restore_step, answered, succeeds, refuses, read_into, read_call, is_output, write_from, write_call, heap_call, system_call, system_step, trap_step, act, puts_by, StateItem, Register, Codes, YRegister, IsSameAt, buffer_span, judged_by_call, saved_span, frame_span, judged_after, judged_by_spills, judged_by_trap, AreSameAfter, IsSameWorld, IsReady, apart_first, apart_rest}
 use Rattle.std.proofs.Math.Seq.{ext_get_or}
-use Rattle.v8_decode.specs.declared.Op2.{Op2}
 use Rattle.v8_decode.specs.declared.Op2.TheVariants as o
-use Rattle.v8_decode.specs.declared.Instr.{Instr}
 use Rattle.v8_decode.specs.declared.Instr.TheVariants as i
-use Rattle.v8_decode.specs.Effects.{reads_all}
-use Rattle.v8_memory.specs.Regions.{Memory, Region, bytes_at, with_bytes, with_heap_end, buffer_written, buffer_read, is_heap_end}
-use Rattle.v8_memory.specs.Spans.{Span, AllApart}
-use Rattle.v8_memory.specs.Code.{IsSameOutside}
-use Rattle.v8_memory.specs.Laws.{AreSameWrites}
-use Rattle.v8_memory.proofs.Same.{bytes_same, with_bytes-same}
-use Rattle.v8_windows.specs.Registers.{register_in, register_set, window_before, window_after}
-use Rattle.v8_windows.specs.Frames.{frame_bytes, with_frame, oldest_of, frame_address, frame_pointer}
-use Rattle.v8_windows.proofs.Places.{length-frame_bytes}
-use Rattle.v8_alu.specs.declared.Codes.{Codes as Flags}
-use Rattle.v8_step.specs.declared.Ending.{Ending}
-use Rattle.v8_step.specs.declared.Ending.TheVariants.{Exit, Trap, Window}
-use Rattle.v8_step.specs.State.{State, register_of, with_register, operand_of, sum_of}
-use Rattle.v8_step.specs.Traps.{trap_instruction, flush_windows, call_system, EBADF, ENOMEM, EFAULT, ENOSYS}
-use Rattle.v8_step.specs.Transfers.{next, ended}
-use Rattle.v8_step.specs.Accesses.{on_memory}
-use Rattle.v8_step.specs.WindowMoves.{frame_written, frame_read, oldest_window, save_address, saved_memory, spill, spill_many, fill, fill_from, enter, leave, save_step, restore_step}
-use Rattle.v8_step.specs.Calls.{answered, succeeds, refuses, read_into, read_call, is_output, write_from, write_call, heap_call, system_call, system_step, trap_step}
-use Rattle.v8_step.specs.Step.{act, puts_by}
-use Rattle.v8_step.specs.Items.{StateItem, Register, Codes, YRegister, IsSameAt}
-use Rattle.v8_step.specs.Judged.{buffer_span, judged_by_call, saved_span, frame_span, judged_after, judged_by_spills, judged_by_trap}
-use Rattle.two_runs.specs.Alike.{AreSameAfter, IsSameWorld, IsReady}
 use Rattle.two_runs.proofs.AccessesAlike.{ActsAlike}
-use Rattle.v8_step.proofs.KeptOutside.{apart_first, apart_rest}
 
 -- two states with the same in all but pc, npc, slot, and memory in the pages
 pub record AreTwins (pages : List Span) (s t : State) : Type 0 where

@@ -1,35 +1,8 @@
 -- What isn't mapped is touched by no step of which nothing is refused.
-use Rattle.std.proofs.Common.{◌≡◌, ℕ, zero, suc, ◌+◌, ◌-◌, ◌%◌, ◌<◌, ◌≤◌, ◌⊎◌, inl, inr, Bool, true, false, ◌&&◌, Option, Some, None, List, [], ◌∷◌, ◌++◌, length, take, map, refl, ap, sym, ◌∙◌, subst, arith}
-use Rattle.std.specs.Prelude.{if◌then◌else◌, ◌==◌, nat_le}
-use Rattle.std.specs.Int.{Width, byte_len, w8, w32}
-use Rattle.std.specs.List.{filter, find}
-use Rattle.std.specs.Option.{option_map}
-use Rattle.std.proofs.lemmas.Bool.{and_parts, cases_Bool, cases_eq, cond_both, leb-true}
-use Rattle.std.proofs.lemmas.Bool.Decides.{nat_tests}
-use Rattle.v8_decode.specs.declared.Instr.{Instr}
+use Rattle.two_runs.proofs.Common.{◌≡◌, ℕ, zero, suc, ◌+◌, ◌-◌, ◌%◌, ◌<◌, ◌≤◌, ◌⊎◌, inl, inr, Bool, true, false, ◌&&◌, Option, Some, None, List, [], ◌∷◌, ◌++◌, length, take, map, refl, ap, sym, ◌∙◌, subst, arith, if◌then◌else◌, ◌==◌, nat_le, Width, byte_len, w8, w32, filter, find, option_map, and_parts, cases_Bool, cases_eq, cond_both, leb-true, nat_tests, Instr, decode_of, Memory, Region, covers, region_at, read_region, bytes_at, changed, written, all_written, write_region, with_bytes, if_allowed, is_code, code_of, word_in, fetch_of, is_heap_end, with_heap_end, buffer_written, buffer_read, Span, IsApart, IsApartFromAll, AllApart, span_of, frame_bytes, frame_pointer, length-frame_bytes, holds_of, Ending, Exit, Trap, Window, State, register_of, sum_of, instruction_access_exception, flush_windows, call_system, trap_instruction, data_access_exception, EBADF, EFAULT, ENOSYS, next, ended, trapped, load_size, store_size, stored, on_bytes, on_memory, load_step, store_step, exchange_step, ldstub_step, swap_step, oldest_window, save_address, saved_memory, frame_read, spill_many, fill_from, leave, save_step, restore_step, is_output, read_into, write_from, heap_call, refuses, system_call, system_step, trap_step, buffer_span, judged_by_call, frame_span, saved_span, judged_after, judged_by_spills, judged_by, act, on_word, step_of, trap_number, unless_ended, run, kept_act, length-stored, live_step, stays_ended}
 use Rattle.v8_decode.specs.declared.Instr.TheVariants as i
-use Rattle.v8_decode.specs.Words.{decode_of}
-use Rattle.v8_memory.specs.Regions.{Memory, Region, covers, region_at, read_region, bytes_at, changed, written, all_written, write_region, with_bytes, if_allowed, is_code, code_of, word_in, fetch_of, is_heap_end, with_heap_end, buffer_written, buffer_read}
 use Rattle.v8_memory.specs.Segments.{heap_start, heap_room}
-use Rattle.v8_memory.specs.Spans.{Span, IsApart, IsApartFromAll, AllApart}
-use Rattle.v8_memory.specs.Code.{span_of}
 use Rattle.v8_memory.proofs.Apart.{spans_stay}
-use Rattle.v8_windows.specs.Frames.{frame_bytes, frame_pointer}
-use Rattle.v8_windows.proofs.Places.{length-frame_bytes}
-use Rattle.v8_alu.specs.Conditions.{holds_of}
-use Rattle.v8_step.specs.declared.Ending.{Ending}
-use Rattle.v8_step.specs.declared.Ending.TheVariants.{Exit, Trap, Window}
-use Rattle.v8_step.specs.State.{State, register_of, sum_of}
-use Rattle.v8_step.specs.Traps.{instruction_access_exception, flush_windows, call_system, trap_instruction, data_access_exception, EBADF, EFAULT, ENOSYS}
-use Rattle.v8_step.specs.Transfers.{next, ended, trapped}
-use Rattle.v8_step.specs.Accesses.{load_size, store_size, stored, on_bytes, on_memory, load_step, store_step, exchange_step, ldstub_step, swap_step}
-use Rattle.v8_step.specs.WindowMoves.{oldest_window, save_address, saved_memory, frame_read, spill_many, fill_from, leave, save_step, restore_step}
-use Rattle.v8_step.specs.Calls.{is_output, read_into, write_from, heap_call, refuses, system_call, system_step, trap_step}
-use Rattle.v8_step.specs.Judged.{buffer_span, judged_by_call, frame_span, saved_span, judged_after, judged_by_spills, judged_by}
-use Rattle.v8_step.specs.Step.{act, on_word, step_of, trap_number, unless_ended}
-use Rattle.v8_step.specs.Run.{run}
-use Rattle.v8_step.proofs.KeptOutside.{kept_act, length-stored}
-use Rattle.v8_step.proofs.Live.{live_step, stays_ended}
 use Rattle.v8_step.proofs.Kept.{none_near}
 use Rattle.two_runs.specs.Needed.{IsUntouched, instr_at, judged_in}
 use Rattle.two_runs.specs.Code.{GrantedIsUntouched, IsRefused, IsUnmapped, IsUntouchedWhereRefused, UnmappedIsUntouched}

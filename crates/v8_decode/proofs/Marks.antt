@@ -1,22 +1,10 @@
 -- What the operations on masks do to the sets that the masks stand for.
-use Rattle.std.proofs.Common.{◌≡◌, ℕ, zero, suc, ◌+◌, ◌-◌, ◌*◌, ◌/◌, ◌%◌, ◌^◌, ◌<◌, ◌≤◌, Bool, true, not, cond, ◌&&◌, ◌||◌, List, [], ◌∷◌, ◌++◌, length, ◌==◌, bit_and, bit_or, refl, sym, ap, ◌∙◌, arith}
-use Rattle.std.specs.Prelude.{filter}
+use Rattle.v8_decode.proofs.Common.{◌≡◌, ℕ, zero, suc, ◌+◌, ◌-◌, ◌*◌, ◌/◌, ◌%◌, ◌^◌, ◌<◌, ◌≤◌, Bool, true, not, cond, ◌&&◌, ◌||◌, List, [], ◌∷◌, ◌++◌, length, ◌==◌, bit_and, bit_or, refl, sym, ap, ◌∙◌, arith, filter, and_le_l, and_mod, mod-pow-add, one_shl, ones-le, ones_cat, or_lt, or_mod, shr-shr, bit_at-lt, bit_at_lowest, bit_at_or, shr_and_one, bit_at_set_same, bit_at_set_other, bit_at_clear_same, bit_at_clear_other, and-or_distrib_left, nat_tests, Part, Reg, is_same, is_member, has, every_part, members, set_of, without, place_of, is_marked, parts_of, reg, IsPlacedFrom, every_part_placed, every_part_length}
 use native.Mathlib.Nat.{pow-suc}
 use lib.Pow.{pow-lt}
 use lib.Count.{ones, ones_in}
 use Rattle.std.specs.Int.{bit_at, w64}
-use Rattle.std.proofs.lemmas.Nat.{and_le_l, and_mod, mod-pow-add, one_shl, ones-le, ones_cat, or_lt, or_mod, shr-shr}
-use Rattle.std.proofs.lemmas.Nat.Bits.{bit_at-lt, bit_at_lowest, bit_at_or, shr_and_one, bit_at_set_same, bit_at_set_other, bit_at_clear_same, bit_at_clear_other}
-use Rattle.std.proofs.Math.Bool.{and-or_distrib_left}
-use Rattle.std.proofs.lemmas.Bool.Decides.{nat_tests}
-use Rattle.v8_decode.specs.declared.Part.{Part}
-use Rattle.v8_decode.specs.declared.Part.TheVariants.{Reg}
-use Rattle.v8_decode.specs.Parts.{is_same, is_member, has, every_part, members, set_of}
 use Rattle.v8_decode.specs.Private.{is_part}
-use Rattle.v8_decode.specs.Code.{without}
-use Rattle.v8_decode.specs.Masks.{place_of, is_marked, parts_of}
-use Rattle.v8_decode.specs.Effects.{reg}
-use Rattle.v8_decode.specs.MaskLaws.{IsPlacedFrom, every_part_placed, every_part_length}
 use Rattle.v8_decode.proofs.Members.{has-append, has-filter, has-members, members-same}
 pub use Rattle.v8_decode.proofs.Examples.{trap_16}
 

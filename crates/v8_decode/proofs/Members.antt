@@ -1,12 +1,5 @@
 -- What a set of parts has.
-use Rattle.std.proofs.Common.{◌≡◌, ℕ, zero, suc, ◌+◌, Bool, true, ◌&&◌, ◌||◌, List, [], ◌∷◌, ◌++◌, nat_lt, nat_le, refl, sym, ap, ◌∙◌, arith}
-use Rattle.std.specs.Prelude.{filter}
-use Rattle.std.proofs.Math.Bool.{or_assoc, or-false, or-true}
-use Rattle.std.proofs.lemmas.Bool.Decides.{nat_tests}
-use Rattle.std.proofs.lemmas.Bool.{eqb-true}
-use Rattle.v8_decode.specs.declared.Part.{Part}
-use Rattle.v8_decode.specs.declared.Part.TheVariants.{Reg, Icc, Y}
-use Rattle.v8_decode.specs.Parts.{is_same, is_member, has, registers_from, every_part, members}
+use Rattle.v8_decode.proofs.Common.{◌≡◌, ℕ, zero, suc, ◌+◌, Bool, true, ◌&&◌, ◌||◌, List, [], ◌∷◌, ◌++◌, nat_lt, nat_le, refl, sym, ap, ◌∙◌, arith, filter, or_assoc, or-false, or-true, nat_tests, eqb-true, Part, Reg, Icc, Y, is_same, is_member, has, registers_from, every_part, members}
 
 pub is_same-self : (p : Part) → is_same p p ≡ true
 is_same-self (Reg r) = grind (arith, nat_tests)

@@ -1,12 +1,5 @@
 -- One set less another.
-use Rattle.std.proofs.Common.{◌≡◌, ℕ, not, ◌&&◌, List, bit_and, bit_xor, refl, arith}
-use Rattle.std.proofs.lemmas.Nat.Bits.{bit_at-lt, bit_at_and, bit_at_xor}
-use Rattle.std.proofs.Math.Bool.{and_assoc}
-use Rattle.std.proofs.lemmas.Bool.Decides.{nat_tests}
-use Rattle.v8_decode.specs.declared.Part.{Part}
-use Rattle.v8_decode.specs.Parts.{has, set_of}
-use Rattle.v8_decode.specs.Code.{minus}
-use Rattle.v8_decode.specs.Masks.{place_of, is_marked, parts_of}
+use Rattle.v8_decode.proofs.Common.{◌≡◌, ℕ, not, ◌&&◌, List, bit_and, bit_xor, refl, arith, bit_at-lt, bit_at_and, bit_at_xor, and_assoc, nat_tests, Part, has, set_of, minus, place_of, is_marked, parts_of}
 use Rattle.v8_decode.proofs.Members.{has-members, members-same}
 use Rattle.v8_decode.proofs.Marks.{has-members_at, has-set}
 

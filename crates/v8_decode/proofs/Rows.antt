@@ -1,6 +1,5 @@
 -- The tables of opcodes, looked up, and what holds of whatever a word decodes to.
-use Rattle.std.proofs.Common.{◌≡◌, ℕ, ◌+◌, ◌*◌, ◌%◌, true, ◌&&◌, List, [], ◌∷◌, nat_lt, ◌==◌, refl, ap, ◌∙◌, arith}
-use Rattle.std.proofs.lemmas.Bool.{and_from, cond_both, eqb-true, lt-ltb}
+use Rattle.v8_decode.proofs.Common.{◌≡◌, ℕ, ◌+◌, ◌*◌, ◌%◌, true, ◌&&◌, List, [], ◌∷◌, nat_lt, ◌==◌, refl, ap, ◌∙◌, arith, and_from, cond_both, eqb-true, lt-ltb}
 use Rattle.v8_decode.specs.declared.Instr.{Instr}
 use Rattle.v8_decode.specs.declared.Instr.TheVariants as i
 use Rattle.v8_decode.specs.declared.LoadKind.TheVariants as loads

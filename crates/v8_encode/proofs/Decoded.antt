@@ -1,23 +1,9 @@
 -- The word of an instruction decodes to it.
-use Rattle.std.proofs.Common.{◌≡◌, ℕ, ◌+◌, ◌*◌, ◌^◌, ◌<◌, Bool, true, cond, ◌&&◌, nat_lt, ◌==◌, ℤ, refl, sym, ap, ap₂, ◌∙◌, arith}
-use Rattle.std.specs.Prelude.{if◌then◌else◌}
-use Rattle.std.proofs.lemmas.Bool.{and_parts, true≢false, ltb-true}
-use Rattle.std.proofs.lemmas.Bool.Decides.{nat_tests}
-use Rattle.v8_decode.specs.declared.Instr.{Instr}
+use Rattle.v8_encode.proofs.Common.{◌≡◌, ℕ, ◌+◌, ◌*◌, ◌^◌, ◌<◌, Bool, true, cond, ◌&&◌, nat_lt, ◌==◌, ℤ, refl, sym, ap, ap₂, ◌∙◌, arith, if◌then◌else◌, and_parts, true≢false, ltb-true, nat_tests, Instr, Op2, AluOp, LoadKind, StoreKind, has_form, field, signed, rd_of, op3_of, rs1_of, cond_of, op2_of, Row, row_of, alu, load, store, arithmetic_rows, memory_rows, arithmetic, decode_of, has_even_pair, op2_in_range, operands_in_range, is_in_range, decode_of-call, decode_of-format2, decode_of-arithmetic, decode_of-memory, fits_signed, op2_fits, has_word, signed_field, op2_field, alu_op3, load_op3, store_op3, format2, format3, word_of, annul_bit}
 use Rattle.v8_decode.specs.declared.Instr.TheVariants as i
-use Rattle.v8_decode.specs.declared.Op2.{Op2}
 use Rattle.v8_decode.specs.declared.Op2.TheVariants as o
-use Rattle.v8_decode.specs.declared.AluOp.{AluOp}
-use Rattle.v8_decode.specs.declared.LoadKind.{LoadKind}
 use Rattle.v8_decode.specs.declared.LoadKind.TheVariants as loads
-use Rattle.v8_decode.specs.declared.StoreKind.{StoreKind}
 use Rattle.v8_decode.specs.declared.StoreKind.TheVariants as stores
-use Rattle.v8_decode.specs.Forms.{has_form}
-use Rattle.v8_decode.specs.Words.{field, signed, rd_of, op3_of, rs1_of, cond_of, op2_of, Row, row_of, alu, load, store, arithmetic_rows, memory_rows, arithmetic, decode_of}
-use Rattle.v8_decode.specs.Ranges.{has_even_pair, op2_in_range, operands_in_range, is_in_range}
-use Rattle.v8_decode.proofs.Rows.{decode_of-call, decode_of-format2, decode_of-arithmetic, decode_of-memory}
-use Rattle.v8_encode.specs.Code.{fits_signed, op2_fits, has_word}
-use Rattle.v8_encode.specs.Encoding.{signed_field, op2_field, alu_op3, load_op3, store_op3, format2, format3, word_of, annul_bit}
 use Rattle.v8_encode.proofs.Fields.{format3_fields, op2_field-lt, op2_of-field, signed_field-lt, signed-signed_field}
 pub use Rattle.v8_encode.proofs.Examples.{subtract_one}
 

@@ -1,21 +1,8 @@
 -- A word that is an instruction is encoded again, with 0 in the bits that its form ignores.
-use Rattle.std.proofs.Common.{◌≡◌, ℕ, ◌-◌, ◌*◌, ◌%◌, ◌^◌, ◌<◌, Bool, true, false, [], ◌∷◌, Some, None, ◌==◌, refl, sym, ap, ◌∙◌, arith}
-use Rattle.std.specs.Prelude.{if◌then◌else◌}
-use Rattle.std.proofs.lemmas.Bool.{and_from, true≢false, eqb-true, lt-ltb, cond_both}
-use Rattle.std.proofs.lemmas.Bool.Decides.{nat_tests}
-use Rattle.v8_decode.specs.declared.Instr.{Instr}
+use Rattle.v8_encode.proofs.Common.{◌≡◌, ℕ, ◌-◌, ◌*◌, ◌%◌, ◌^◌, ◌<◌, Bool, true, false, [], ◌∷◌, Some, None, ◌==◌, refl, sym, ap, ◌∙◌, arith, if◌then◌else◌, and_from, true≢false, eqb-true, lt-ltb, cond_both, nat_tests, Instr, AluOp, LoadKind, StoreKind, has_form, field, signed, rd_of, op3_of, rs1_of, cond_of, op2_of, alu, load, store, op2_rows, arithmetic_rows, memory_rows, branch_or_sethi, arithmetic, memory, call, decode_of, has_even_pair, Each, row_by_row, op2_fits, has_word, encode_of, ignored_beside, ignored_of, cleared, alu_op3, load_op3, store_op3, format3, word_of, annul_bit, is_instruction}
 use Rattle.v8_decode.specs.declared.Instr.TheVariants as i
-use Rattle.v8_decode.specs.declared.AluOp.{AluOp}
-use Rattle.v8_decode.specs.declared.LoadKind.{LoadKind}
 use Rattle.v8_decode.specs.declared.LoadKind.TheVariants as loads
-use Rattle.v8_decode.specs.declared.StoreKind.{StoreKind}
 use Rattle.v8_decode.specs.declared.StoreKind.TheVariants as stores
-use Rattle.v8_decode.specs.Forms.{has_form}
-use Rattle.v8_decode.specs.Words.{field, signed, rd_of, op3_of, rs1_of, cond_of, op2_of, alu, load, store, op2_rows, arithmetic_rows, memory_rows, branch_or_sethi, arithmetic, memory, call, decode_of}
-use Rattle.v8_decode.specs.Ranges.{has_even_pair}
-use Rattle.v8_decode.proofs.Rows.{Each, row_by_row}
-use Rattle.v8_encode.specs.Code.{op2_fits, has_word, encode_of, ignored_beside, ignored_of, cleared}
-use Rattle.v8_encode.specs.Encoding.{alu_op3, load_op3, store_op3, format3, word_of, annul_bit, is_instruction}
 use Rattle.v8_encode.proofs.Fields.{format3-fields, op2_fits-op2_of, op2_of-same, signed_field-signed}
 
 -- what is to be shown of a word and its instruction

@@ -1,15 +1,7 @@
 -- The fields of a word that was put together, and a word put together of its fields.
-use Rattle.std.proofs.Common.{◌≡◌, ℕ, suc, ◌+◌, ◌-◌, ◌*◌, ◌^◌, ◌<◌, ◌≤◌, true, nat_lt, ◌==◌, ℤ, pos, negsuc, ◌-ℤ◌, refl, ap, ◌∙◌, arith}
-use Rattle.std.specs.Prelude.{if◌then◌else◌}
-use Rattle.std.proofs.lemmas.Bool.{eqb-true, eqb-false, ltb-true, ltb-false, le-ltb, lt-ltb, cond_both}
-use Rattle.std.proofs.lemmas.Bool.Decides.{nat_tests}
+use Rattle.v8_encode.proofs.Common.{◌≡◌, ℕ, suc, ◌+◌, ◌-◌, ◌*◌, ◌^◌, ◌<◌, ◌≤◌, true, nat_lt, ◌==◌, ℤ, pos, negsuc, ◌-ℤ◌, refl, ap, ◌∙◌, arith, if◌then◌else◌, eqb-true, eqb-false, ltb-true, ltb-false, le-ltb, lt-ltb, cond_both, nat_tests, Op2, field, signed, rd_of, op3_of, rs1_of, op2_of, op2_in_range, fits_signed, op2_fits, cleared, ignored_beside, signed_field, op2_field, format3}
 use Rattle.std.proofs.lemmas.Int.{ints}
-use Rattle.v8_decode.specs.declared.Op2.{Op2}
 use Rattle.v8_decode.specs.declared.Op2.TheVariants as o
-use Rattle.v8_decode.specs.Words.{field, signed, rd_of, op3_of, rs1_of, op2_of}
-use Rattle.v8_decode.specs.Ranges.{op2_in_range}
-use Rattle.v8_encode.specs.Code.{fits_signed, op2_fits, cleared, ignored_beside}
-use Rattle.v8_encode.specs.Encoding.{signed_field, op2_field, format3}
 
 -- the fields of a word of format 3
 pub record IsFormat3 (op rd op3 rs1 low w : ℕ) : Type 0 where

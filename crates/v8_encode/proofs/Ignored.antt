@@ -1,15 +1,7 @@
 -- The word of an instruction has 0 in each bit that its form ignores.
-use Rattle.std.proofs.Common.{◌≡◌, ℕ, ◌-◌, ◌*◌, ◌^◌, true, ◌&&◌, [], ◌∷◌, nat_lt, refl, ap, ◌∙◌, arith}
-use Rattle.std.proofs.lemmas.Bool.{and_parts}
-use Rattle.std.proofs.lemmas.Bool.Decides.{nat_tests}
-use Rattle.v8_decode.specs.declared.Instr.{Instr}
+use Rattle.v8_encode.proofs.Common.{◌≡◌, ℕ, ◌-◌, ◌*◌, ◌^◌, true, ◌&&◌, [], ◌∷◌, nat_lt, refl, ap, ◌∙◌, arith, and_parts, nat_tests, Instr, Op2, field, operands_in_range, is_in_range, op2_fits, has_word, ignored_beside, ignored_of, cleared, alu_op3, load_op3, store_op3, format3, word_of}
 use Rattle.v8_decode.specs.declared.Instr.TheVariants as i
-use Rattle.v8_decode.specs.declared.Op2.{Op2}
 use Rattle.v8_decode.specs.declared.Op2.TheVariants as o
-use Rattle.v8_decode.specs.Words.{field}
-use Rattle.v8_decode.specs.Ranges.{operands_in_range, is_in_range}
-use Rattle.v8_encode.specs.Code.{op2_fits, has_word, ignored_beside, ignored_of, cleared}
-use Rattle.v8_encode.specs.Encoding.{alu_op3, load_op3, store_op3, format3, word_of}
 use Rattle.v8_encode.proofs.Fields.{op2_field-lt}
 
 cleared_operand : (op rd op3 rs1 : ℕ) (op2 : Op2) → operands_in_range rs1 op2 ≡ true → cleared (ignored_beside op2) (format3 op rd op3 rs1 op2) ≡ format3 op rd op3 rs1 op2

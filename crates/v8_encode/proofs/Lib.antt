@@ -1,3 +1,4 @@
+pub mod Common
 pub mod Decoded
 pub mod Encoded
 pub mod Fields

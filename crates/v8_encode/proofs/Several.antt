@@ -1,10 +1,5 @@
 -- The words of a list of instructions, one after the other.
-use Rattle.std.proofs.Common.{◌≡◌, ℕ, ◌+◌, ◌<◌, List, [], ◌∷◌, length, get_or, set, take, map, arith}
-use Rattle.std.proofs.lemmas.List.{map-append, take_all, take_more, take_more_set}
-use Rattle.v8_decode.specs.declared.Instr.{Instr}
-use Rattle.v8_decode.specs.Words.{decode_of}
-use Rattle.v8_encode.specs.Code.{words_of}
-use Rattle.v8_encode.specs.Encoding.{word_of}
+use Rattle.v8_encode.proofs.Common.{◌≡◌, ℕ, ◌+◌, ◌<◌, List, [], ◌∷◌, length, get_or, set, take, map, arith, map-append, take_all, take_more, take_more_set, Instr, decode_of, words_of, word_of}
 
 -- the first n words are those of the first n instructions
 abbrev pub AreWords : List Instr → List ℕ → ℕ → Type 0

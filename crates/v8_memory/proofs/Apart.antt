@@ -1,19 +1,6 @@
 -- Where regions are apart, one of them at most has given bytes.
-use Rattle.std.proofs.Common.{◌≡◌, ℕ, zero, suc, ◌+◌, ◌<◌, ◌≤◌, inl, inr, Bool, true, false, ◌&&◌, Option, Some, None, List, [], ◌∷◌, length, map, take, drop, ◌++◌, get_or, slice_set, refl, ap, sym, ◌∙◌, arith}
-use Rattle.std.specs.Prelude.{if◌then◌else◌}
-use Rattle.std.specs.List.{filter, find}
-use Rattle.std.specs.Option.{option_map}
-use Rattle.std.proofs.lemmas.Bool.{and_parts, and_right, cases_Bool, cond_both, cond-true, false_from_ne_true, both_ways}
+use Rattle.v8_memory.proofs.Common.{◌≡◌, ℕ, zero, suc, ◌+◌, ◌<◌, ◌≤◌, inl, inr, Bool, true, false, ◌&&◌, Option, Some, None, List, [], ◌∷◌, length, map, take, drop, ◌++◌, get_or, slice_set, refl, ap, sym, ◌∙◌, arith, if◌then◌else◌, filter, find, option_map, and_parts, and_right, cases_Bool, cond_both, cond-true, false_from_ne_true, both_ways, drop_all, Op, Fills, AreKept, Memory, Region, covers, changed, written, all_written, write_region, with_bytes, if_allowed, is_code, region_at, Mapping, heap_start, heap_room, region_of, Span, is_apart, is_apart_from, are_apart, heap_span, span_of, span_of_mapping, regions_apart, mappings_apart}
 use Rattle.std.proofs.lemmas.Bool.Decides.{nat_tests}
-use Rattle.std.proofs.lemmas.List.{drop_all}
-use Rattle.v8_memory.specs.declared.ops.Op.{Op}
-use Rattle.v8_memory.specs.Calls.{Fills}
-use Rattle.v8_memory.specs.Kept.{AreKept}
-use Rattle.v8_memory.specs.Regions.{Memory, Region, covers, changed, written, all_written, write_region, with_bytes, if_allowed, is_code, region_at}
-use Rattle.elf32_sparc.specs.Mapping.{Mapping}
-use Rattle.v8_memory.specs.Segments.{heap_start, heap_room, region_of}
-use Rattle.v8_memory.specs.Spans.{Span}
-use Rattle.v8_memory.specs.Code.{is_apart, is_apart_from, are_apart, heap_span, span_of, span_of_mapping, regions_apart, mappings_apart}
 use Rattle.v8_memory.proofs.Kept.{kept_written, written_through}
 
 -- a region that lies in a span has no byte of what is apart from it

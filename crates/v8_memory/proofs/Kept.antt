@@ -1,12 +1,8 @@
 -- The records that a memory keeps.
-use Rattle.std.proofs.Common.{◌≡◌, ◌+◌, ◌*◌, ◌%◌, ◌^◌, ◌<◌, ℕ, zero, suc, List, [], ◌∷◌, ◌++◌, length, get_or, slice_set, replicate, inl, refl, ap, subst, arith, pos, map, take, drop}
-use Rattle.std.specs.List.{filter}
+use Rattle.v8_memory.proofs.Common.{◌≡◌, ◌+◌, ◌*◌, ◌%◌, ◌^◌, ◌<◌, ℕ, zero, suc, List, [], ◌∷◌, ◌++◌, length, get_or, slice_set, replicate, inl, refl, ap, subst, arith, pos, map, take, drop, filter, Op, AreKept, IsKept, Region, is_code, written}
 use Rattle.v8_decode.specs.declared.Op2.TheVariants.{Reg}
-use Rattle.v8_memory.specs.declared.ops.Op.{Op}
-use Rattle.v8_memory.specs.Kept.{AreKept, IsKept}
 use Rattle.v8_memory.specs.declared.ops.OpCode.TheVariants.{Other}
 use Rattle.v8_memory.specs.Ops.{IsSum, operand_in, plain_operand}
-use Rattle.v8_memory.specs.Regions.{Region, is_code, written}
 use Rattle.v8_memory.proofs.Executable.{filter-written}
 
 pub register_operand : (r : ℕ) → operand_in r (pos 0) ≡ plain_operand (Reg r)

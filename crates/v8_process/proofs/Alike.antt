@@ -1,14 +1,6 @@
 -- Files that map the same outside some pages start with the same memory there.
-use Rattle.std.proofs.Common.{◌≡◌, ℕ, ◌<◌, false, Option, Some, None, List, [], ◌∷◌, ◌++◌, map, refl, ap, arith}
-use Rattle.std.proofs.lemmas.Bool.Decides.{nat_tests}
-use Rattle.std.specs.List.{find}
-use Rattle.elf32_sparc.specs.Mapping.{Mapping, mappings}
-use Rattle.v8_memory.specs.Regions.{Region, covers}
-use Rattle.v8_memory.specs.Segments.{region_of}
-use Rattle.v8_memory.specs.Spans.{IsApart, IsApartFromAll}
-use Rattle.v8_memory.specs.Code.{without_execution, IsSameRegion}
+use Rattle.v8_process.proofs.Common.{◌≡◌, ℕ, ◌<◌, false, Option, Some, None, List, [], ◌∷◌, ◌++◌, map, refl, ap, arith, nat_tests, find, Mapping, mappings, Region, covers, region_of, IsApart, IsApartFromAll, without_execution, IsSameRegion, stack_region}
 use Rattle.v8_memory.proofs.Same.{chosen}
-use Rattle.v8_process.specs.Start.{stack_region}
 use Rattle.v8_process.specs.Alike.{IsSameMapping, AreSameMappings, span_of, StartsAlike}
 pub use Rattle.v8_process.proofs.Programs.{without_arguments}
 

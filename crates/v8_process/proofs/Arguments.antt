@@ -1,9 +1,6 @@
 -- The stack has room for the arguments.
-use Rattle.std.proofs.Common.{◌≡◌, ℕ, suc, ◌+◌, ◌-◌, ◌*◌, ◌^◌, ◌≤◌, List, [], ◌∷◌, ◌++◌, length, ap, ◌∙◌, arith}
-use Rattle.std.proofs.lemmas.List.{length-append}
-use Rattle.std.proofs.lemmas.List.Concat.{flat_map-cons}
+use Rattle.v8_process.proofs.Common.{◌≡◌, ℕ, suc, ◌+◌, ◌-◌, ◌*◌, ◌^◌, ◌≤◌, List, [], ◌∷◌, ◌++◌, length, ap, ◌∙◌, arith, length-append, flat_map-cons, program_name, strings, rounded_up, stack_start, stack_end}
 use Rattle.v8_process.specs.Code.{ArgumentsFit}
-use Rattle.v8_process.specs.Start.{program_name, strings, rounded_up, stack_start, stack_end}
 
 -- the program's name has 7 bytes, and a zero byte after it
 length-strings : (args : List (List ℕ)) → length (strings (program_name ∷ args)) ≡ 8 + length (strings args)

@@ -1,6 +1,5 @@
 -- How a program starts.
-use Rattle.std.proofs.Common.{◌≡◌, ℕ, ◌%◌, List, refl, arith}
-use Rattle.v8_process.specs.Start.{start_of, rounded_down}
+use Rattle.v8_process.proofs.Common.{◌≡◌, ℕ, ◌%◌, List, refl, arith, start_of, rounded_down}
 use Rattle.v8_process.specs.Laws.{StartsAtEntry}
 
 rounded : (n : ℕ) → rounded_down n % 8 ≡ 0

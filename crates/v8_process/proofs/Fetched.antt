@@ -1,23 +1,10 @@
 -- Which words a program fetches before its first step.
-use Rattle.std.proofs.Common.{◌≡◌, ℕ, zero, suc, ◌+◌, ◌-◌, ◌*◌, ◌/◌, ◌%◌, ◌<◌, ◌≤◌, Bool, true, false, not, ◌&&◌, cond, nat_le, nat_eq, Option, Some, None, List, [], ◌∷◌, ◌++◌, length, map, take, drop, replicate, slice_index, get_or, refl, sym, ap, ◌∙◌, arith}
-use Rattle.std.specs.Int.{w32, from_be_bytes}
-use Rattle.std.specs.List.{filter, list_any}
+use Rattle.v8_process.proofs.Common.{◌≡◌, ℕ, zero, suc, ◌+◌, ◌-◌, ◌*◌, ◌/◌, ◌%◌, ◌<◌, ◌≤◌, Bool, true, false, not, ◌&&◌, cond, nat_le, nat_eq, Option, Some, None, List, [], ◌∷◌, ◌++◌, length, map, take, drop, replicate, slice_index, get_or, refl, sym, ap, ◌∙◌, arith, w32, from_be_bytes, filter, list_any, or_parts, or_from, and_from, le-leb, eq-eqb, get_or-take, get_or-drop, drop-drop, All-take, All-drop, ProgramHeader, program_headers, has_flag, is_loadable, loadable, text_header, Mapping, mapping_of, mappings, file_bytes, memory_bytes, words_of, text_from, text_of, no_text, image_of, Region, covers, is_code, word_in, fetch_from, fetch_of, region_of, AreBytes, start_memory, stack_region}
 use Rattle.std.specs.Option.{option_map_or}
 use Rattle.std.proofs.Math.Bool.{and_assoc}
-use Rattle.std.proofs.lemmas.Bool.{or_parts, or_from, and_from, le-leb, eq-eqb}
-use Rattle.std.proofs.lemmas.List.{get_or-take, get_or-drop, drop-drop}
-use Rattle.std.proofs.lemmas.List.Elements.{All-take, All-drop}
 use Rattle.byteorder.specs.Endian.{big_number}
 use Rattle.eel_base.specs.CodeText.{address_of}
-use Rattle.elf32_sparc.specs.declared.header.ProgramHeader.{ProgramHeader}
-use Rattle.elf32_sparc.specs.Header.{program_headers, has_flag, is_loadable, loadable, text_header}
-use Rattle.elf32_sparc.specs.Mapping.{Mapping, mapping_of, mappings, file_bytes, memory_bytes}
-use Rattle.elf32_sparc.specs.Image.{words_of, text_from, text_of, no_text, image_of}
 use Rattle.elf32_sparc.proofs.Accepted.{Accepted, accepted, has_text, IsFit, text_is_fit}
-use Rattle.v8_memory.specs.Regions.{Region, covers, is_code, word_in, fetch_from, fetch_of}
-use Rattle.v8_memory.specs.Segments.{region_of}
-use Rattle.v8_step.specs.State.{AreBytes}
-use Rattle.v8_process.specs.Start.{start_memory, stack_region}
 use Rattle.v8_process.specs.Fetched.{IsFirstCode, CodeIsFetched, TextIsFetched}
 
 -- ---- the code of the memory in which a file starts

@@ -1,29 +1,11 @@
 -- What is mapped for a program that starts.
-use Rattle.std.proofs.Common.{◌≡◌, ℕ, ◌+◌, ◌-◌, ◌^◌, ◌≤◌, ◌⊎◌, true, false, not, ◌&&◌, nat_lt, nat_le, List, [], ◌∷◌, ◌++◌, length, map, replicate, All, None, refl, sym, subst, ap, ◌∙◌, arith}
-use Rattle.std.specs.List.{list_any}
-use Rattle.std.proofs.lemmas.Bool.{or_parts, or_left, and_from, ltb-false, le-leb}
-use Rattle.std.proofs.lemmas.Bool.Decides.{nat_tests}
-use Rattle.std.proofs.lemmas.List.{append-nil, map-append}
+use Rattle.v8_process.proofs.Common.{◌≡◌, ℕ, ◌+◌, ◌-◌, ◌^◌, ◌≤◌, ◌⊎◌, true, false, not, ◌&&◌, nat_lt, nat_le, List, [], ◌∷◌, ◌++◌, length, map, replicate, All, None, refl, sym, subst, ap, ◌∙◌, arith, list_any, or_parts, or_left, and_from, ltb-false, le-leb, nat_tests, append-nil, map-append, All-nil, All-cons, All-head, All-tail, All-push, ProgramHeader, e_entry, program_headers, loadable, end_of, Mapping, mapping_of, mappings, segment_of, mappings-room, Region, Memory, region_of, IsPlan, mapping_of_plan, memory_of, Span, are_apart, heap_span, is_apart, is_apart_from, mappings_apart, span_of_mapping, segment_mapping, stack_mapping, program_name, stack_start, stack_end, first_sp, stack_region, start_memory, start_of, FitsStack}
 use Rattle.std.proofs.lemmas.Simd.{map-map}
-use Rattle.std.proofs.lemmas.List.Elements.{All-nil, All-cons, All-head, All-tail, All-push}
-use Rattle.elf32_sparc.specs.declared.header.ProgramHeader.{ProgramHeader}
 use Rattle.elf32_sparc.specs.declared.program.Segment.{Segment}
-use Rattle.elf32_sparc.specs.Header.{e_entry, program_headers, loadable, end_of}
 use Rattle.elf32_sparc.specs.FileFault.{load_fault, descends_from, has_disorder, has_memory_outside_a_run, leaves_room, is_last_page}
-use Rattle.elf32_sparc.specs.Mapping.{Mapping, mapping_of, mappings}
-use Rattle.elf32_sparc.specs.Image.{segment_of}
 use Rattle.elf32_sparc.proofs.Loadable.{loadable_file}
-use Rattle.elf32_sparc.proofs.Ranges.{mappings-room}
 use Rattle.v8_memory.specs.declared.memory.RegionPlan as declared
-use Rattle.v8_memory.specs.Regions.{Region, Memory}
-use Rattle.v8_memory.specs.Segments.{region_of}
-use Rattle.v8_memory.specs.Calls.{IsPlan, mapping_of_plan, memory_of}
-use Rattle.v8_memory.specs.Spans.{Span}
-use Rattle.v8_memory.specs.Code.{are_apart, heap_span, is_apart, is_apart_from, mappings_apart, span_of_mapping}
 use Rattle.v8_step.specs.Run.{first_state}
-use Rattle.v8_process.specs.Private.{segment_mapping, stack_mapping}
-use Rattle.v8_process.specs.Start.{program_name, stack_start, stack_end, first_sp, stack_region, start_memory, start_of}
-use Rattle.v8_process.specs.Valid.{FitsStack}
 use Rattle.v8_process.proofs.Valid.{stack-count}
 
 -- ---- the mappings of a file that can be run can be made

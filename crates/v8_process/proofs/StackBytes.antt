@@ -1,9 +1,6 @@
 -- The bytes of the stack, part after part.
-use Rattle.std.proofs.Common.{◌≡◌, ℕ, ◌+◌, ◌-◌, List, ◌++◌, length, replicate, append_assoc, arith}
-use Rattle.std.specs.Int.{w32, to_be_bytes}
-use Rattle.std.specs.List.{flat_map}
+use Rattle.v8_process.proofs.Common.{◌≡◌, ℕ, ◌+◌, ◌-◌, List, ◌++◌, length, replicate, append_assoc, arith, w32, to_be_bytes, flat_map, strings, stack_start, stack_end, strings_address, argument_words, argument_size, words_address, stack_region}
 use Rattle.v8_process.specs.declared.stack.Layout.{Layout}
-use Rattle.v8_process.specs.Start.{strings, stack_start, stack_end, strings_address, argument_words, argument_size, words_address, stack_region}
 
 -- where the parts stand
 pub record IsLaidOut (all : List (List ℕ)) (at : Layout) : Type 0 where

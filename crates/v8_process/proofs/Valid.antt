@@ -1,22 +1,8 @@
 -- The state in which a file starts is valid.
-use Rattle.std.proofs.Common.{◌≡◌, ℕ, suc, ◌+◌, ◌-◌, ◌*◌, ◌^◌, ◌<◌, ◌≤◌, true, nat_lt, get_or, List, [], ◌∷◌, ◌++◌, length, map, drop, replicate, flat_map, All, refl, ap, ◌∙◌, arith}
-use Rattle.std.specs.Int.{w32, to_be_bytes}
-use Rattle.std.specs.List.{list_all}
-use Rattle.std.proofs.lemmas.Bool.{and_parts, ltb-true}
-use Rattle.std.proofs.lemmas.List.{length-append, length-replicate}
-use Rattle.std.proofs.lemmas.List.Concat.{flat_map-cons}
-use Rattle.std.proofs.lemmas.List.Elements.{All-nil, All-cons, All-head, All-tail, All-append, All-map, All-take, All-drop, All-replicate, All-same}
-use Rattle.elf32_sparc.specs.declared.header.ProgramHeader.{ProgramHeader}
-use Rattle.elf32_sparc.specs.Header.{e_entry, program_headers, loadable}
-use Rattle.elf32_sparc.specs.Mapping.{Mapping, mapping_of, mappings}
-use Rattle.elf32_sparc.proofs.Ranges.{word_at-range, mappings-room}
-use Rattle.v8_memory.specs.Segments.{region_of}
-use Rattle.v8_step.specs.State.{AreBytes}
+use Rattle.v8_process.proofs.Common.{◌≡◌, ℕ, suc, ◌+◌, ◌-◌, ◌*◌, ◌^◌, ◌<◌, ◌≤◌, true, nat_lt, get_or, List, [], ◌∷◌, ◌++◌, length, map, drop, replicate, flat_map, All, refl, ap, ◌∙◌, arith, w32, to_be_bytes, list_all, and_parts, ltb-true, length-append, length-replicate, flat_map-cons, All-nil, All-cons, All-head, All-tail, All-append, All-map, All-take, All-drop, All-replicate, All-same, ProgramHeader, e_entry, program_headers, loadable, Mapping, mapping_of, mappings, word_at-range, mappings-room, region_of, AreBytes, program_name, strings, pointers, stack_start, stack_end, rounded_up, rounded_down, strings_address, argument_words, argument_size, first_sp, words_address, stack_top, stack_region, start_memory, start_of, HasRoom, MappingsHaveRoom, FitsStack, StartsValid}
 use Rattle.v8_step.specs.Valid.{IsValidRegion, IsValidMemory}
 use Rattle.v8_step.proofs.ValidFirst.{empty_heap-valid, first_state-valid}
 use Rattle.v8_step.proofs.ValidNumbers.{high_first-bytes, flat_map-bytes}
-use Rattle.v8_process.specs.Start.{program_name, strings, pointers, stack_start, stack_end, rounded_up, rounded_down, strings_address, argument_words, argument_size, first_sp, words_address, stack_top, stack_region, start_memory, start_of}
-use Rattle.v8_process.specs.Valid.{HasRoom, MappingsHaveRoom, FitsStack, StartsValid}
 
 -- ---- the regions of the file
 

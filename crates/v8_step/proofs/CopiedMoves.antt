@@ -1,25 +1,6 @@
 -- Where a step goes that is no transfer: to npc, with the next word after it.
-use Rattle.std.proofs.Common.{◌≡◌, ℕ, zero, suc, ◌+◌, ◌-◌, ◌%◌, Bool, true, false, Option, Some, None, Result, Ok, Err, List, take, refl}
-use Rattle.std.specs.Prelude.{if◌then◌else◌, ◌==◌}
-use Rattle.std.specs.Int.{Width, byte_len, w8, w32}
-use Rattle.v8_decode.specs.declared.Instr.{Instr}
+use Rattle.v8_step.proofs.Common.{◌≡◌, ℕ, zero, suc, ◌+◌, ◌-◌, ◌%◌, Bool, true, false, Option, Some, None, Result, Ok, Err, List, take, refl, if◌then◌else◌, ◌==◌, Width, byte_len, w8, w32, Instr, Memory, bytes_at, with_bytes, is_heap_end, buffer_written, buffer_read, AluOut, AluTrap, DivZero, TagOverflow, holds_of, wrapped, Ending, Trap, Window, State, sum_of, NoSlot, flush_windows, call_system, data_access_exception, next, ended, load_size, store_size, stored, on_bytes, on_memory, load_step, store_step, exchange_step, ldstub_step, swap_step, saved_memory, spill_many, fill_from, leave, save_step, restore_step, is_output, read_into, write_from, system_call, trap_step, alu_step, trap_number, act}
 use Rattle.v8_decode.specs.declared.Instr.TheVariants as i
-use Rattle.v8_memory.specs.Regions.{Memory, bytes_at, with_bytes, is_heap_end, buffer_written, buffer_read}
-use Rattle.v8_alu.specs.declared.AluOut.{AluOut}
-use Rattle.v8_alu.specs.declared.AluTrap.{AluTrap}
-use Rattle.v8_alu.specs.declared.AluTrap.TheVariants.{DivZero, TagOverflow}
-use Rattle.v8_alu.specs.Conditions.{holds_of}
-use Rattle.v8_alu.specs.Numbers.{wrapped}
-use Rattle.v8_step.specs.declared.Ending.{Ending}
-use Rattle.v8_step.specs.declared.Ending.TheVariants.{Trap, Window}
-use Rattle.v8_step.specs.State.{State, sum_of}
-use Rattle.v8_step.specs.declared.Slot.TheVariants.{NoSlot}
-use Rattle.v8_step.specs.Traps.{flush_windows, call_system, data_access_exception}
-use Rattle.v8_step.specs.Transfers.{next, ended}
-use Rattle.v8_step.specs.Accesses.{load_size, store_size, stored, on_bytes, on_memory, load_step, store_step, exchange_step, ldstub_step, swap_step}
-use Rattle.v8_step.specs.WindowMoves.{saved_memory, spill_many, fill_from, leave, save_step, restore_step}
-use Rattle.v8_step.specs.Calls.{is_output, read_into, write_from, system_call, trap_step}
-use Rattle.v8_step.specs.Step.{alu_step, trap_number, act}
 use Rattle.v8_step.specs.Items.{is_transfer}
 
 -- a live state that was led on to this address

@@ -1,12 +1,6 @@
 -- What a memory exchanged, as the state sees it.
-use Rattle.std.proofs.Common.{ℕ, List, ap}
-use Rattle.std.specs.Prelude.{Result, Ok}
-use Rattle.std.specs.Int.{Width}
+use Rattle.v8_step.proofs.Common.{ℕ, List, ap, Result, Ok, Width, MemoryExchanges, Memory, Exchanges, State}
 use Rattle.v8_memory.specs.declared.fault.MemFault.{MemFault}
-use Rattle.v8_memory.specs.Calls.{Exchanges as MemoryExchanges}
-use Rattle.v8_memory.specs.Regions.{Memory}
-use Rattle.v8_step.specs.Private.{Exchanges}
-use Rattle.v8_step.specs.State.{State}
 
 pub exchanged : (width : Width) (read : Result (List ℕ) MemFault) (stored : Result Memory MemFault) (s : State)
     (after : Memory) (result : Result ℕ MemFault) → MemoryExchanges width read stored s.memory after result

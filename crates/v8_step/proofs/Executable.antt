@@ -1,11 +1,6 @@
 -- No step changes what can be executed.
-use Rattle.std.proofs.Common.{◌≡◌, ℕ, zero, suc, refl, ap, ◌∙◌}
-use Rattle.v8_memory.specs.Regions.{Memory, code_of, fetch_of, fetch_from}
+use Rattle.v8_step.proofs.Common.{◌≡◌, ℕ, zero, suc, refl, ap, ◌∙◌, Memory, code_of, fetch_of, fetch_from, State, step_of, run, CodeStays}
 use Rattle.v8_memory.proofs.Executable.{filter-written}
-use Rattle.v8_step.specs.State.{State}
-use Rattle.v8_step.specs.Step.{step_of}
-use Rattle.v8_step.specs.Run.{run}
-use Rattle.v8_step.specs.Laws.{CodeStays}
 use Rattle.v8_step.proofs.Kept.{kept_step}
 
 abbrev HasCode : Memory → Memory → Type 0

@@ -1,9 +1,6 @@
 -- The words of a frame, read from its bytes one by one.
-use Rattle.std.proofs.Common.{◌≡◌, ℕ, zero, suc, ◌+◌, ◌*◌, ◌<◌, List, [], ◌∷◌, ◌++◌, length, take, drop, set, refl, ap, ◌∙◌, arith, add-one}
-use Rattle.std.proofs.lemmas.List.{drop-drop}
+use Rattle.v8_step.proofs.Common.{◌≡◌, ℕ, zero, suc, ◌+◌, ◌*◌, ◌<◌, List, [], ◌∷◌, ◌++◌, length, take, drop, set, refl, ap, ◌∙◌, arith, add-one, drop-drop, w32, from_be_bytes, frame_words}
 use Rattle.std.proofs.Math.Seq.{take-suc-set}
-use Rattle.std.specs.Int.{w32, from_be_bytes}
-use Rattle.v8_windows.specs.Calls.{frame_words}
 
 one_more : (count : ℕ) (bytes : List ℕ)
     → frame_words (suc count) bytes ≡ frame_words count bytes ++ from_be_bytes w32 (take 4 (drop (4 * count) bytes)) ∷ []

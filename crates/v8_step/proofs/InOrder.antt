@@ -1,32 +1,9 @@
 -- Steps in order, with pc and npc as places among the records.
-use Rattle.std.proofs.Common.{◌≡◌, ◌+◌, ◌-◌, ◌*◌, ◌/◌, ◌%◌, ◌^◌, ◌<◌, ◌≤◌, ◌⊎◌, inl, inr, ℕ, ℤ, pos, negsuc, Bool, false, List, None, get_or, sym, ap, ◌∙◌, subst, arith}
-use Rattle.std.proofs.lemmas.Bool.{cases_lt, le-ltb, lt-ltb}
-use Rattle.std.specs.Prelude.{FitsSigned, IsTrue, if◌then◌else◌}
-use Rattle.std.specs.Int.{cast_unsigned, w32, w64}
+use Rattle.v8_step.proofs.Common.{◌≡◌, ◌+◌, ◌-◌, ◌*◌, ◌/◌, ◌%◌, ◌^◌, ◌<◌, ◌≤◌, ◌⊎◌, inl, inr, ℕ, ℤ, pos, negsuc, Bool, false, List, None, get_or, sym, ap, ◌∙◌, subst, arith, cases_lt, le-ltb, lt-ltb, FitsSigned, IsTrue, if◌then◌else◌, cast_unsigned, w32, w64, Result, Ok, Err, AluOut, AluTrap, Codes, wrapped, Instr, Op, Other, AreKept, IsKept, instr_of, is_record, code_of, Cursor, On, Stop, GoesOn, HasTurned, address_at, at_here, at_places, placed, slot_by, slot_of, State, Slot, NoSlot, act, IsQuietRun}
 use Rattle.std.proofs.lemmas.Int.{ints}
-use Rattle.std.specs.Prelude.{Result, Ok, Err}
-use Rattle.v8_alu.specs.declared.AluOut.{AluOut}
-use Rattle.v8_alu.specs.declared.AluTrap.{AluTrap}
-use Rattle.v8_alu.specs.declared.Codes.{Codes}
 use Rattle.v8_alu.specs.Alu.{alu_of, keeping, result_of}
-use Rattle.v8_alu.specs.Numbers.{wrapped}
 use Rattle.v8_decode.specs.declared.AluOp.{AluOp}
-use Rattle.v8_decode.specs.declared.Instr.{Instr}
-use Rattle.v8_memory.specs.declared.ops.Op.{Op}
-use Rattle.v8_memory.specs.declared.ops.OpCode.TheVariants.{Other}
-use Rattle.v8_memory.specs.Kept.{AreKept, IsKept}
-use Rattle.v8_memory.specs.Ops.{instr_of}
-use Rattle.v8_memory.specs.Private.{is_record}
-use Rattle.v8_memory.specs.Regions.{code_of}
-use Rattle.v8_step.specs.declared.ahead.Cursor.{Cursor}
 use Rattle.v8_step.specs.declared.ahead.Control.{Control}
-use Rattle.v8_step.specs.declared.ahead.Control.TheVariants.{On, Stop}
-use Rattle.v8_step.specs.Ahead.{GoesOn, HasTurned, address_at, at_here, at_places, placed, slot_by, slot_of}
-use Rattle.v8_step.specs.State.{State}
-use Rattle.v8_step.specs.declared.Slot.{Slot}
-use Rattle.v8_step.specs.declared.Slot.TheVariants.{NoSlot}
-use Rattle.v8_step.specs.Step.{act}
-use Rattle.v8_step.specs.Turns.{IsQuietRun}
 use Rattle.v8_step.proofs.QuietRuns.{no_step, one_more, says_some, still_kept}
 
 pub next_address : (first place : ℕ) → wrapped (address_at first place + 4) ≡ address_at first (place + 1)

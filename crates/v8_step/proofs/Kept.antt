@@ -1,13 +1,5 @@
 -- What every write and every move of the heap's end keeps between a memory and the one after it, each step keeps.
-use Rattle.std.proofs.Common.{ℕ, Option, Some, None, List, [], ◌∷◌}
-use Rattle.v8_decode.specs.declared.Instr.{Instr}
-use Rattle.v8_decode.specs.Words.{decode_of}
-use Rattle.v8_memory.specs.Regions.{Memory, all_written, fetch_of, with_heap_end}
-use Rattle.v8_memory.specs.Spans.{AllApart, Span}
-use Rattle.v8_step.specs.declared.Ending.{Ending}
-use Rattle.v8_step.specs.State.{State}
-use Rattle.v8_step.specs.Judged.{judged_by}
-use Rattle.v8_step.specs.Step.{act, on_word, step_of, unless_ended}
+use Rattle.v8_step.proofs.Common.{ℕ, Option, Some, None, List, [], ◌∷◌, Instr, decode_of, Memory, all_written, fetch_of, with_heap_end, AllApart, Span, Ending, State, judged_by, act, on_word, step_of, unless_ended}
 use Rattle.v8_step.proofs.KeptOutside.{kept_act as kept_outside}
 
 -- of no pages all is apart

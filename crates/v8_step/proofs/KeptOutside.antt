@@ -1,31 +1,7 @@
 -- What each write outside some pages keeps, and each move of the heap's end, an instruction keeps that judges no byte
 -- of the pages.
-use Rattle.std.proofs.Common.{◌≡◌, ℕ, zero, suc, ◌-◌, ◌%◌, ◌<◌, Bool, true, false, Option, Some, None, Result, Err, List, [], ◌∷◌, length, take, refl, arith, ◌++◌}
-use Rattle.std.specs.Prelude.{if◌then◌else◌, ◌==◌}
-use Rattle.std.proofs.lemmas.Bool.{cond_both}
-use Rattle.std.specs.Int.{Width, byte_len, w8, w32}
-use Rattle.v8_decode.specs.declared.Instr.{Instr}
+use Rattle.v8_step.proofs.Common.{◌≡◌, ℕ, zero, suc, ◌-◌, ◌%◌, ◌<◌, Bool, true, false, Option, Some, None, Result, Err, List, [], ◌∷◌, length, take, refl, arith, ◌++◌, if◌then◌else◌, ◌==◌, cond_both, Width, byte_len, w8, w32, Instr, Memory, Region, all_written, write_region, with_bytes, bytes_at, if_allowed, region_at, with_heap_end, is_heap_end, buffer_written, buffer_read, Span, IsApartFromAll, AllApart, length-frame_bytes, AluOut, AluTrap, DivZero, Ending, Exit, Trap, Window, Slot, NoSlot, holds_of, State, register_of, sum_of, flush_windows, call_system, trap_instruction, data_access_exception, EBADF, ENOSYS, next, ended, trapped, target_of, branched, unless_couple, branch_step, call_step, jump_step, load_size, store_size, stored, on_bytes, on_memory, load_step, store_step, exchange_step, ldstub_step, swap_step, oldest_window, saved_memory, spill_many, fill_from, leave, save_step, restore_step, is_output, read_into, write_from, heap_call, refuses, system_call, trap_step, buffer_span, judged_by_call, saved_span, judged_after, judged_by_spills, judged_by, alu_step, trap_number, act, StoreKind}
 use Rattle.v8_decode.specs.declared.Instr.TheVariants as i
-use Rattle.v8_memory.specs.Regions.{Memory, Region, all_written, write_region, with_bytes, bytes_at, if_allowed, region_at, with_heap_end, is_heap_end, buffer_written, buffer_read}
-use Rattle.v8_memory.specs.Spans.{Span, IsApartFromAll, AllApart}
-use Rattle.v8_windows.proofs.Places.{length-frame_bytes}
-use Rattle.v8_alu.specs.declared.AluOut.{AluOut}
-use Rattle.v8_alu.specs.declared.AluTrap.{AluTrap}
-use Rattle.v8_alu.specs.declared.AluTrap.TheVariants.{DivZero}
-use Rattle.v8_step.specs.declared.Ending.{Ending}
-use Rattle.v8_step.specs.declared.Ending.TheVariants.{Exit, Trap, Window}
-use Rattle.v8_step.specs.declared.Slot.{Slot}
-use Rattle.v8_step.specs.declared.Slot.TheVariants.{NoSlot}
-use Rattle.v8_alu.specs.Conditions.{holds_of}
-use Rattle.v8_step.specs.State.{State, register_of, sum_of}
-use Rattle.v8_step.specs.Traps.{flush_windows, call_system, trap_instruction, data_access_exception, EBADF, ENOSYS}
-use Rattle.v8_step.specs.Transfers.{next, ended, trapped, target_of, branched, unless_couple, branch_step, call_step, jump_step}
-use Rattle.v8_step.specs.Accesses.{load_size, store_size, stored, on_bytes, on_memory, load_step, store_step, exchange_step, ldstub_step, swap_step}
-use Rattle.v8_step.specs.WindowMoves.{oldest_window, saved_memory, spill_many, fill_from, leave, save_step, restore_step}
-use Rattle.v8_step.specs.Calls.{is_output, read_into, write_from, heap_call, refuses, system_call, trap_step}
-use Rattle.v8_step.specs.Judged.{buffer_span, judged_by_call, saved_span, judged_after, judged_by_spills, judged_by}
-use Rattle.v8_step.specs.Step.{alu_step, trap_number, act}
-use Rattle.v8_decode.specs.declared.StoreKind.{StoreKind}
 use Rattle.v8_decode.specs.declared.StoreKind.TheVariants as stores
 
 pub length-stored : (kind : StoreKind) (rd : ℕ) (s : State) → length (stored s kind rd) ≡ store_size kind

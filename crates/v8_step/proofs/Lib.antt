@@ -1,3 +1,4 @@
+pub mod Common
 pub mod CopiedMoves
 pub mod Exchanged
 pub mod Executable

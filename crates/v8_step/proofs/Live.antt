@@ -1,10 +1,5 @@
 -- What a step is of a state that lives, and of one that has ended.
-use Rattle.std.proofs.Common.{◌≡◌, ℕ, Some, None, []}
-use Rattle.v8_decode.specs.Words.{decode_of}
-use Rattle.v8_memory.specs.Regions.{fetch_of}
-use Rattle.v8_step.specs.declared.Ending.{Ending}
-use Rattle.v8_step.specs.State.{State}
-use Rattle.v8_step.specs.Step.{act, step_of, puts_by, puts_of}
+use Rattle.v8_step.proofs.Common.{◌≡◌, ℕ, Some, None, [], decode_of, fetch_of, Ending, State, act, step_of, puts_by, puts_of}
 
 -- a live state's step is what the word at pc does
 pub live_step : (s : State) (word : ℕ) → s.ending ≡ None → fetch_of s.memory s.pc ≡ Some word

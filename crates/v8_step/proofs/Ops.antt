@@ -1,20 +1,7 @@
 -- Instructions whose records the memory keeps.
-use Rattle.std.proofs.Common.{◌≡◌, ◌+◌, ◌%◌, ◌^◌, ◌<◌, ℕ, zero, suc, ℤ, List, [], Option, Some, None, refl, sym, ap, ◌∙◌, inl, inr, arith}
-use Rattle.std.specs.Int.{w32, cast_unsigned}
-use Rattle.v8_decode.specs.declared.Op2.{Op2}
-use Rattle.v8_decode.specs.declared.Op2.TheVariants.{Reg}
-use Rattle.v8_decode.specs.declared.Instr.{Instr}
+use Rattle.v8_step.proofs.Common.{◌≡◌, ◌+◌, ◌%◌, ◌^◌, ◌<◌, ℕ, zero, suc, ℤ, List, [], Option, Some, None, refl, sym, ap, ◌∙◌, inl, inr, arith, w32, cast_unsigned, Op2, Reg, Instr, decode_of, Op, OpCode, StandsFor, IsSum, instr_by, instr_of, operand_in, plain, plain_operand, fetch_of, Ending, State, operand_of, register_of, act, on_word, puts_by, puts_of, puts_on_word, puts_unless_ended, step_of}
 use Rattle.v8_decode.specs.declared.Instr.TheVariants as i
-use Rattle.v8_decode.specs.Words.{decode_of}
-use Rattle.v8_memory.specs.declared.ops.Op.{Op}
-use Rattle.v8_memory.specs.declared.ops.OpCode.{OpCode}
 use Rattle.v8_memory.specs.declared.ops.OpCode.TheVariants as c
-use Rattle.v8_memory.specs.Kept.{StandsFor}
-use Rattle.v8_memory.specs.Ops.{IsSum, instr_by, instr_of, operand_in, plain, plain_operand}
-use Rattle.v8_memory.specs.Regions.{fetch_of}
-use Rattle.v8_step.specs.declared.Ending.{Ending}
-use Rattle.v8_step.specs.State.{State, operand_of, register_of}
-use Rattle.v8_step.specs.Step.{act, on_word, puts_by, puts_of, puts_on_word, puts_unless_ended, step_of}
 
 operand_plain : (s : State) (o : Op2) → operand_of s (plain_operand o) ≡ operand_of s o
 operand_plain s (Reg zero) = refl

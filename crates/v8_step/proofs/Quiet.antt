@@ -1,13 +1,7 @@
 -- What a step of the machine puts out, and what it does where it puts nothing out.
-use Rattle.std.proofs.Common.{◌≡◌, ℕ, List, [], Option, Some, None, refl, ap, sym, ◌∙◌}
-use Rattle.std.proofs.lemmas.List.{append-nil}
+use Rattle.v8_step.proofs.Common.{◌≡◌, ℕ, List, [], Option, Some, None, refl, ap, sym, ◌∙◌, append-nil, Op2, Instr, State, act, puts_by, quiet_act}
 use Rattle.eel_base.specs.Outside.{appended}
-use Rattle.v8_decode.specs.declared.Op2.{Op2}
-use Rattle.v8_decode.specs.declared.Instr.{Instr}
 use Rattle.v8_decode.specs.declared.Instr.TheVariants as i
-use Rattle.v8_step.specs.State.{State}
-use Rattle.v8_step.specs.Step.{act, puts_by}
-use Rattle.v8_step.specs.Private.{quiet_act}
 
 pub appended_nothing : (taken : Option (List ℕ)) → appended taken [] ≡ taken
 appended_nothing None = refl

@@ -1,17 +1,5 @@
 -- Steps of instructions that have records.
-use Rattle.std.proofs.Common.{◌≡◌, ◌+◌, inl, inr, ℕ, List, None, refl, sym, ap, ◌∙◌, arith, add-one}
-use Rattle.std.proofs.lemmas.Bool.{cases_lt}
-use Rattle.std.specs.Prelude.{IsTrue}
-use Rattle.v8_memory.specs.declared.ops.Op.{Op}
-use Rattle.v8_memory.specs.declared.ops.OpCode.{OpCode}
-use Rattle.v8_memory.specs.declared.ops.OpCode.TheVariants.{Other}
-use Rattle.v8_memory.specs.Kept.{AreKept, IsKept, StandsFor}
-use Rattle.v8_memory.specs.Ops.{instr_of}
-use Rattle.v8_memory.specs.Private.{is_record}
-use Rattle.v8_memory.specs.Regions.{code_of, fetch_of}
-use Rattle.v8_step.specs.State.{State}
-use Rattle.v8_step.specs.Step.{act, step_of}
-use Rattle.v8_step.specs.Turns.{IsQuietRun}
+use Rattle.v8_step.proofs.Common.{◌≡◌, ◌+◌, inl, inr, ℕ, List, None, refl, sym, ap, ◌∙◌, arith, add-one, cases_lt, IsTrue, Op, OpCode, Other, AreKept, IsKept, StandsFor, instr_of, is_record, code_of, fetch_of, State, act, step_of, IsQuietRun}
 use Rattle.v8_step.proofs.Executable.{code_of-step}
 use Rattle.v8_step.proofs.Ops.{kept_puts, kept_steps}
 

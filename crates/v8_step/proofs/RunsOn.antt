@@ -1,8 +1,5 @@
 -- A run that goes on from where it stood.
-use Rattle.std.proofs.Common.{◌≡◌, ℕ, zero, suc, ◌+◌, ◌++◌, append_assoc, append-nil, refl, ap, sym, ◌∙◌, arith}
-use Rattle.v8_step.specs.State.{State}
-use Rattle.v8_step.specs.Step.{puts_of, step_of}
-use Rattle.v8_step.specs.Run.{run, run_puts}
+use Rattle.v8_step.proofs.Common.{◌≡◌, ℕ, zero, suc, ◌+◌, ◌++◌, append_assoc, append-nil, refl, ap, sym, ◌∙◌, arith, State, puts_of, step_of, run, run_puts}
 
 pub run_add : (s : State) (k l : ℕ) → run s (l + k) ≡ run (run s k) l
 run_add s k zero = ap (run s) (omega arith)

@@ -1,12 +1,5 @@
 -- Windows that are saved one by one.
-use Rattle.std.proofs.Common.{◌≡◌, ℕ, suc, ◌-◌, ◌<◌, Bool, true, false, Option, Some, None, ap, sym, ◌∙◌, arith}
-use Rattle.v8_memory.specs.Regions.{Memory}
-use Rattle.v8_step.specs.declared.Ending.TheVariants.{Window}
-use Rattle.v8_step.specs.Accesses.{on_memory}
-use Rattle.v8_step.specs.State.{State}
-use Rattle.v8_step.specs.Transfers.{ended}
-use Rattle.v8_step.specs.WindowMoves.{saved_memory, spill_many}
-use Rattle.v8_step.specs.Private.{Spills}
+use Rattle.v8_step.proofs.Common.{◌≡◌, ℕ, suc, ◌-◌, ◌<◌, Bool, true, false, Option, Some, None, ap, sym, ◌∙◌, arith, Memory, Window, on_memory, State, ended, saved_memory, spill_many, Spills}
 
 -- the oldest was saved
 pub one_less : (s new : State) (result : Bool) → 1 < s.valid → Spills (saved_memory s) s new result → result ≡ true

@@ -1,19 +1,8 @@
 -- Loads and stores keep a state valid.
-use Rattle.std.proofs.Common.{ℕ, suc, ◌%◌, ◌^◌, ◌<◌, List, [], ◌∷◌, take, drop, ◌==◌, arith}
-use Rattle.std.specs.Int.{Width, byte_len, w8, w32, to_be_bytes, from_be_bytes}
-use Rattle.std.proofs.lemmas.List.Elements.{All-nil, All-cons, All-append, All-take, All-drop}
+use Rattle.v8_step.proofs.Common.{ℕ, suc, ◌%◌, ◌^◌, ◌<◌, List, [], ◌∷◌, take, drop, ◌==◌, arith, Width, byte_len, w8, w32, to_be_bytes, from_be_bytes, All-nil, All-cons, All-append, All-take, All-drop, StoreKind, bytes_at, with_bytes, AreRegisters, Trap, State, register_of, AreBytes, data_access_exception, next, load_size, store_size, loaded, stored, load_step, store_step, exchange_step, ldstub_step, swap_step, IsValid}
 use Rattle.v8_decode.specs.declared.LoadKind.{LoadKind}
 use Rattle.v8_decode.specs.declared.LoadKind.TheVariants as loads
-use Rattle.v8_decode.specs.declared.StoreKind.{StoreKind}
 use Rattle.v8_decode.specs.declared.StoreKind.TheVariants as stores
-use Rattle.v8_memory.specs.Regions.{bytes_at, with_bytes}
-use Rattle.v8_windows.specs.Code.{AreRegisters}
-use Rattle.v8_step.specs.declared.Ending.TheVariants.{Trap}
-use Rattle.v8_step.specs.State.{State, register_of, AreBytes}
-use Rattle.v8_step.specs.Traps.{data_access_exception}
-use Rattle.v8_step.specs.Transfers.{next}
-use Rattle.v8_step.specs.Accesses.{load_size, store_size, loaded, stored, load_step, store_step, exchange_step, ldstub_step, swap_step}
-use Rattle.v8_step.specs.Valid.{IsValid}
 use Rattle.v8_step.proofs.ValidNumbers.{register_set-valid, word_of-range, half-range, single-range, extended_8-range, extended_16-range, high_first-bytes}
 use Rattle.v8_step.proofs.ValidMemory.{bytes_at-bytes, with_bytes-valid}
 use Rattle.v8_step.proofs.ValidStates.{registers-valid, register-valid, ended-valid, next-valid, if-valid, bytes-valid, on-valid}

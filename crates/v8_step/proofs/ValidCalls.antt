@@ -1,12 +1,5 @@
 -- Software traps keep a state valid.
-use Rattle.std.proofs.Common.{ℕ, ◌-◌, ◌^◌, ◌<◌, Bool, true, false, List, [], ◌∷◌, length, take, drop, Option, Some, None, IfSome, nat_le, ◌==◌, arith, length-take}
-use Rattle.std.proofs.lemmas.Bool.{leb-true, and_parts, cond_both}
-use Rattle.std.proofs.lemmas.List.Elements.{All-take, All-drop}
-use Rattle.v8_memory.specs.Regions.{Memory, with_heap_end, buffer_written, buffer_read, is_heap_end}
-use Rattle.v8_step.specs.State.{State, register_of, with_register, AreBytes}
-use Rattle.v8_step.specs.Traps.{flush_windows, call_system, EBADF, ENOMEM, EFAULT, ENOSYS}
-use Rattle.v8_step.specs.Calls.{answered, refuses, read_into, write_from, is_output, heap_call, system_call, trap_step}
-use Rattle.v8_step.specs.Valid.{IsValidMemory, IsValid}
+use Rattle.v8_step.proofs.Common.{ℕ, ◌-◌, ◌^◌, ◌<◌, Bool, true, false, List, [], ◌∷◌, length, take, drop, Option, Some, None, IfSome, nat_le, ◌==◌, arith, length-take, leb-true, and_parts, cond_both, All-take, All-drop, Memory, with_heap_end, buffer_written, buffer_read, is_heap_end, State, register_of, with_register, AreBytes, flush_windows, call_system, EBADF, ENOMEM, EFAULT, ENOSYS, answered, refuses, read_into, write_from, is_output, heap_call, system_call, trap_step, IsValidMemory, IsValid}
 use Rattle.v8_step.proofs.ValidMemory.{with_bytes-valid, with_heap_end-valid}
 use Rattle.v8_step.proofs.ValidStates.{register_of-range, register-valid, memory-valid, input-valid, codes-valid, ended-valid, next-valid, if-valid}
 use Rattle.v8_step.proofs.ValidWindows.{spill_many-valid}

@@ -1,12 +1,5 @@
 -- A first state over an empty heap is valid.
-use Rattle.std.proofs.Common.{◌≡◌, ℕ, zero, suc, ◌^◌, ◌<◌, List, ◌∷◌, length, All, refl, arith, replicate}
-use Rattle.std.proofs.lemmas.List.Elements.{All-nil, All-cons, All-append, All-replicate}
-use Rattle.std.proofs.lemmas.List.{length-replicate}
-use Rattle.v8_memory.specs.Regions.{Memory}
-use Rattle.v8_memory.specs.Segments.{empty_heap, heap_room}
-use Rattle.v8_step.specs.Run.{zeros, first_state}
-use Rattle.v8_step.specs.State.{AreBytes}
-use Rattle.v8_step.specs.Valid.{IsValidHeap, IsValidMemory, IsValid}
+use Rattle.v8_step.proofs.Common.{◌≡◌, ℕ, zero, suc, ◌^◌, ◌<◌, List, ◌∷◌, length, All, refl, arith, replicate, All-nil, All-cons, All-append, All-replicate, length-replicate, Memory, empty_heap, heap_room, zeros, first_state, AreBytes, IsValidHeap, IsValidMemory, IsValid}
 use Rattle.v8_step.proofs.ValidStates.{wrapped-range}
 
 zeros-words : (n : ℕ) → All (λ w. w < 2 ^ 32) (zeros n)

@@ -1,12 +1,5 @@
 -- Writes and moves of the heap's end keep memory valid, and reads give bytes.
-use Rattle.std.proofs.Common.{◌≡◌, ℕ, ◌+◌, ◌-◌, ◌<◌, ◌≤◌, Bool, true, false, ◌&&◌, List, [], ◌∷◌, ◌++◌, length, take, drop, All, Option, Some, None, IfSome, ◌∙◌, arith, length-append, length-take, length-drop}
-use Rattle.std.specs.List.{find}
-use Rattle.std.proofs.lemmas.Bool.{leb-true, and_parts, cond_both}
-use Rattle.std.proofs.lemmas.List.Elements.{All-cons, All-head, All-tail, All-append, All-take, All-drop, All-map, All-weaker}
-use Rattle.v8_memory.specs.Regions.{Region, Memory, covers, region_at, part_of, if_allowed, read_region, bytes_at, changed, written, all_written, write_region, with_bytes, with_heap_end}
-use Rattle.v8_memory.specs.Segments.{heap_room}
-use Rattle.v8_step.specs.State.{AreBytes}
-use Rattle.v8_step.specs.Valid.{IsValidRegion, IsValidHeap, IsValidMemory}
+use Rattle.v8_step.proofs.Common.{◌≡◌, ℕ, ◌+◌, ◌-◌, ◌<◌, ◌≤◌, Bool, true, false, ◌&&◌, List, [], ◌∷◌, ◌++◌, length, take, drop, All, Option, Some, None, IfSome, ◌∙◌, arith, length-append, length-take, length-drop, find, leb-true, and_parts, cond_both, All-cons, All-head, All-tail, All-append, All-take, All-drop, All-map, All-weaker, Region, Memory, covers, region_at, part_of, if_allowed, read_region, bytes_at, changed, written, all_written, write_region, with_bytes, with_heap_end, heap_room, AreBytes, IsValidRegion, IsValidHeap, IsValidMemory}
 
 -- ---- reading
 

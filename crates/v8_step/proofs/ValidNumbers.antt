@@ -1,15 +1,6 @@
 -- Registers stay words, bytes make words, and words make bytes.
-use Rattle.std.proofs.Common.{◌≢◌, ℕ, zero, suc, ◌^◌, ◌<◌, List, [], ◌∷◌, take, drop, slice_index, flat_map, sym, ◌∙◌, arith, length-set, get_or-set_other}
-use Rattle.std.specs.Int.{w8, w16, w32, to_be_bytes, from_be_bytes, bytes_high_first}
-use Rattle.std.proofs.lemmas.Bool.Decides.{nat_tests}
-use Rattle.std.proofs.lemmas.List.Elements.{All-nil, All-cons, All-head, All-tail, All-set, All-append, All-take, All-drop, All-same}
+use Rattle.v8_step.proofs.Common.{◌≢◌, ℕ, zero, suc, ◌^◌, ◌<◌, List, [], ◌∷◌, take, drop, slice_index, flat_map, sym, ◌∙◌, arith, length-set, get_or-set_other, w8, w16, w32, to_be_bytes, from_be_bytes, bytes_high_first, nat_tests, All-nil, All-cons, All-head, All-tail, All-set, All-append, All-take, All-drop, All-same, AreRegisters, place_of, register_in, register_set, frame_registers, frame_of, frame_bytes, registers_from, with_frame, place_of-below, word_of, extended, AreBytes}
 use Rattle.std.proofs.lemmas.List.Concat.{flat_map-cons}
-use Rattle.v8_windows.specs.Code.{AreRegisters}
-use Rattle.v8_windows.specs.Registers.{place_of, register_in, register_set}
-use Rattle.v8_windows.specs.Frames.{frame_registers, frame_of, frame_bytes, registers_from, with_frame}
-use Rattle.v8_windows.proofs.Places.{place_of-below}
-use Rattle.v8_step.specs.Accesses.{word_of, extended}
-use Rattle.v8_step.specs.State.{AreBytes}
 
 -- ---- registers
 

@@ -1,18 +1,5 @@
 -- Changes of a part keep a state valid.
-use Rattle.std.proofs.Common.{ℕ, ◌^◌, ◌<◌, ◌≤◌, Bool, true, false, List, Option, Some, None, IfSome, arith}
-use Rattle.std.specs.Prelude.{if◌then◌else◌}
-use Rattle.v8_memory.specs.Regions.{Memory}
-use Rattle.v8_windows.specs.Code.{AreRegisters}
-use Rattle.v8_windows.specs.Registers.{windows}
-use Rattle.v8_alu.specs.Numbers.{wrapped}
-use Rattle.v8_alu.specs.declared.Codes.{Codes}
-use Rattle.v8_step.specs.declared.Ending.{Ending}
-use Rattle.v8_step.specs.State.{State, register_of, with_register, AreBytes}
-use Rattle.v8_step.specs.declared.Slot.{Slot}
-use Rattle.v8_step.specs.declared.Slot.TheVariants.{NoSlot, Taken, Untaken}
-use Rattle.v8_step.specs.Transfers.{next, ended, unless_couple, branched, delayed}
-use Rattle.v8_step.specs.Accesses.{on_bytes, on_memory}
-use Rattle.v8_step.specs.Valid.{IsValidMemory, IsValid}
+use Rattle.v8_step.proofs.Common.{ℕ, ◌^◌, ◌<◌, ◌≤◌, Bool, true, false, List, Option, Some, None, IfSome, arith, if◌then◌else◌, Memory, AreRegisters, windows, wrapped, Codes, Ending, State, register_of, with_register, AreBytes, Slot, NoSlot, Taken, Untaken, next, ended, unless_couple, branched, delayed, on_bytes, on_memory, IsValidMemory, IsValid}
 use Rattle.v8_step.proofs.ValidNumbers.{register_set-valid, register_in-range}
 
 pub wrapped-range : (n : ℕ) → wrapped n < 2 ^ 32

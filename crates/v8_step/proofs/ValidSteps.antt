@@ -1,25 +1,9 @@
 -- A step keeps a valid state valid.
-use Rattle.std.proofs.Common.{ℕ, zero, suc, ◌%◌, ◌^◌, ◌<◌, Option, Some, None, Result, Ok, Err, ◌==◌}
+use Rattle.v8_step.proofs.Common.{ℕ, zero, suc, ◌%◌, ◌^◌, ◌<◌, Option, Some, None, Result, Ok, Err, ◌==◌, Op2, Reg, Imm, Instr, decode_of, fetch_of, AluOut, AluTrap, DivZero, TagOverflow, holds_of, Ending, State, register_of, with_register, operand_of, sum_of, target_of, branch_step, call_step, jump_step, alu_step, trap_number, act, on_word, unless_ended, step_of, IsValid, ValidStays, run}
 use Rattle.std.proofs.lemmas.Nat.{xor_lt}
-use Rattle.v8_decode.specs.declared.Op2.{Op2}
-use Rattle.v8_decode.specs.declared.Op2.TheVariants.{Reg, Imm}
-use Rattle.v8_decode.specs.declared.Instr.{Instr}
 use Rattle.v8_decode.specs.declared.Instr.TheVariants as i
-use Rattle.v8_decode.specs.Words.{decode_of}
-use Rattle.v8_memory.specs.Regions.{fetch_of}
-use Rattle.v8_alu.specs.declared.AluOut.{AluOut}
-use Rattle.v8_alu.specs.declared.AluTrap.{AluTrap}
-use Rattle.v8_alu.specs.declared.AluTrap.TheVariants.{DivZero, TagOverflow}
 use Rattle.v8_alu.specs.Code.{IsOutInRange}
-use Rattle.v8_alu.specs.Conditions.{holds_of}
 use Rattle.v8_alu.proofs.Ranges.{alu_of-range}
-use Rattle.v8_step.specs.declared.Ending.{Ending}
-use Rattle.v8_step.specs.State.{State, register_of, with_register, operand_of, sum_of}
-use Rattle.v8_step.specs.Transfers.{target_of, branch_step, call_step, jump_step}
-use Rattle.v8_step.specs.Step.{alu_step, trap_number, act, on_word, unless_ended, step_of}
-use Rattle.v8_step.specs.Valid.{IsValid}
-use Rattle.v8_step.specs.Laws.{ValidStays}
-use Rattle.v8_step.specs.Run.{run}
 use Rattle.v8_step.proofs.ValidFirst.{first_state-valid}
 use Rattle.v8_step.proofs.ValidStates.{wrapped-range, register_of-range, register-valid, codes-valid, ended-valid, next-valid, delayed-valid, if-valid, slot-valid, branched-valid}
 use Rattle.v8_step.proofs.ValidAccesses.{load_step-valid, store_step-valid, ldstub_step-valid, swap_step-valid}

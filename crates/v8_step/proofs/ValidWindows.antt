@@ -1,15 +1,5 @@
 -- SAVE, RESTORE and the saving of windows keep a state valid.
-use Rattle.std.proofs.Common.{ℕ, zero, suc, ◌+◌, ◌-◌, ◌%◌, ◌^◌, ◌<◌, ◌≤◌, Bool, true, false, List, Option, Some, None, IfSome, ◌==◌, arith}
-use Rattle.std.specs.Prelude.{if◌then◌else◌}
-use Rattle.std.proofs.lemmas.Bool.{eqb-true, cond_both}
-use Rattle.std.proofs.lemmas.Bool.Decides.{nat_tests}
-use Rattle.v8_memory.specs.Regions.{Memory, with_bytes, bytes_at}
-use Rattle.v8_windows.specs.Registers.{window_after, window_before}
-use Rattle.v8_windows.specs.Frames.{frame_bytes, with_frame, frame_pointer}
-use Rattle.v8_step.specs.declared.Ending.TheVariants.{Window}
-use Rattle.v8_step.specs.State.{State, register_of, AreBytes}
-use Rattle.v8_step.specs.WindowMoves.{oldest_window, save_address, saved_memory, spill, spill_many, fill_from, enter, leave, save_step, restore_step}
-use Rattle.v8_step.specs.Valid.{IsValidMemory, IsValid}
+use Rattle.v8_step.proofs.Common.{ℕ, zero, suc, ◌+◌, ◌-◌, ◌%◌, ◌^◌, ◌<◌, ◌≤◌, Bool, true, false, List, Option, Some, None, IfSome, ◌==◌, arith, if◌then◌else◌, eqb-true, cond_both, nat_tests, Memory, with_bytes, bytes_at, window_after, window_before, frame_bytes, with_frame, frame_pointer, Window, State, register_of, AreBytes, oldest_window, save_address, saved_memory, spill, spill_many, fill_from, enter, leave, save_step, restore_step, IsValidMemory, IsValid}
 use Rattle.v8_step.proofs.ValidNumbers.{frame_bytes-bytes, with_frame-valid}
 use Rattle.v8_step.proofs.ValidMemory.{bytes_at-bytes, with_bytes-valid}
 use Rattle.v8_step.proofs.ValidStates.{register-valid, registers-valid, windows-valid, ended-valid, next-valid, on-valid}

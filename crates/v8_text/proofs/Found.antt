@@ -1,16 +1,7 @@
 -- What is read one step after the other.
-use Rattle.std.proofs.Common.{◌≡◌, ℕ, ◌<◌, ◌==◌, Bool, true, false, List, [], ◌∷◌, get_or, map, Option, Some, None, ◌⊎◌, inl, inr, refl, ap, sym, ◌∙◌, arith}
-use Rattle.std.specs.List.{range_with_len}
-use Rattle.std.specs.Str.{bytes_eq}
-use Rattle.std.proofs.lemmas.Bool.{eq-eqb}
-use Rattle.std.proofs.lemmas.Bool.Decides.{nat_tests}
-use Rattle.std.proofs.lemmas.List.FromFn.{get_or-map-range_with_len}
+use Rattle.v8_text.proofs.Common.{◌≡◌, ℕ, ◌<◌, ◌==◌, Bool, true, false, List, [], ◌∷◌, get_or, map, Option, Some, None, ◌⊎◌, inl, inr, refl, ap, sym, ◌∙◌, arith, range_with_len, bytes_eq, eq-eqb, nat_tests, get_or-map-range_with_len, register_of, register_text, register_read, behind, first_of}
 use Rattle.std.proofs.lemmas.Slice.Eq.{bytes_eq-Decides}
-use Rattle.line_words.specs.Words.{register_of}
-use Rattle.line_words.specs.Registers.{register_text}
-use Rattle.line_words.proofs.Registers.{register_read}
 pub use Rattle.line_words.proofs.Split.{is_whole, whole_append}
-use Rattle.v8_text.specs.Parts.{behind, first_of}
 
 -- what the first or the second of two gives
 pub either_of : {A : Type 0} (a b : Option A) (x : A) → first_of a b ≡ Some x → (a ≡ Some x) ⊎ (b ≡ Some x)

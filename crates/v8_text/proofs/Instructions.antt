@@ -1,24 +1,7 @@
 -- Instructions.
-use Rattle.std.proofs.Common.{◌≡◌, ℕ, ◌<◌, ◌^◌, true, false, nat_lt, ◌&&◌, List, codes, Option, Some, None, ℤ, inl, inr, refl, ap, ap₂, sym, subst, ◌∙◌, arith}
-use Rattle.std.specs.Str.{bytes_eq}
-use Rattle.std.specs.Option.{option_map}
-use Rattle.std.proofs.lemmas.Bool.{and_parts, ltb-true, true≢false, false_from_ne_true}
-use Rattle.std.proofs.lemmas.Bool.Decides.{nat_tests}
-use Rattle.line_words.specs.Words.{number_of, register_of, split_at}
-use Rattle.line_words.proofs.Numbers.{number_read}
-use Rattle.line_words.proofs.Registers.{register_read}
-use Rattle.line_words.proofs.Split.{is_whole, split_back, split_read}
-use Rattle.line_words.proofs.Steps.{chosen, mapped, step, tested}
-use Rattle.v8_decode.specs.declared.Instr.{Instr}
+use Rattle.v8_text.proofs.Common.{◌≡◌, ℕ, ◌<◌, ◌^◌, true, false, nat_lt, ◌&&◌, List, codes, Option, Some, None, ℤ, inl, inr, refl, ap, ap₂, sym, subst, ◌∙◌, arith, bytes_eq, option_map, and_parts, ltb-true, true≢false, false_from_ne_true, nat_tests, number_of, register_of, split_at, number_read, register_read, is_whole, split_back, split_read, chosen, mapped, step, tested, Instr, Op2, has_form, has_even_pair, is_in_range, op2_in_range, operands_in_range, fits_signed, has_word, op2_fits, Name, alu_text, branch_text, comma, instr_text, load_text, named, number_text, sources, store_text, target_of, trap_text, displacement_of, instr_in, instr_of, joined_of, name_of, single_of, op2_of, read_y_of, sethi_of, sources_of, with_operands, with_sources, write_y_of}
 use Rattle.v8_decode.specs.declared.Instr.TheVariants as i
-use Rattle.v8_decode.specs.declared.Op2.{Op2}
-use Rattle.v8_decode.specs.Forms.{has_form}
-use Rattle.v8_decode.specs.Ranges.{has_even_pair, is_in_range, op2_in_range, operands_in_range}
-use Rattle.v8_encode.specs.Code.{fits_signed, has_word, op2_fits}
-use Rattle.v8_text.specs.declared.names.Name.{Name}
 use Rattle.v8_text.specs.declared.names.Name.TheVariants as n
-use Rattle.v8_text.specs.Texts.{alu_text, branch_text, comma, instr_text, load_text, named, number_text, sources, store_text, target_of, trap_text}
-use Rattle.v8_text.specs.Parts.{displacement_of, instr_in, instr_of, joined_of, name_of, single_of, op2_of, read_y_of, sethi_of, sources_of, with_operands, with_sources, write_y_of}
 use Rattle.v8_text.proofs.Found.{text_is}
 use Rattle.v8_text.proofs.Integers.{op2_read}
 use Rattle.v8_text.proofs.Rows.{AreFit, loaded_back, loaded_read, operands_back, operands_read, read_y_back, sethi_back, sources_back, sources_read, stored_back, stored_read, write_y_back}

@@ -1,19 +1,6 @@
 -- Immediate operands, and second operands.
-use Rattle.std.proofs.Common.{◌≡◌, ℕ, zero, suc, ◌≤◌, ◌^◌, ◌==◌, true, false, nat_le, List, [], ◌∷◌, Option, Some, None, ℤ, pos, negsuc, inl, inr, decimal, refl, ap, sym, ◌∙◌, arith}
-use Rattle.std.specs.List.{list_all}
-use Rattle.std.specs.Option.{option_map}
-use Rattle.std.proofs.lemmas.Bool.{and_parts, le-leb, ltb-true, ne_eqb}
-use Rattle.line_words.specs.Words.{◌>>=◌, is_digit, number_of, register_of}
-use Rattle.line_words.proofs.Numbers.{number_back, number_read}
-use Rattle.line_words.proofs.Registers.{register_back, register_read}
-use Rattle.line_words.proofs.Split.{decimal_digits, decimal_whole, is_whole}
-use Rattle.line_words.proofs.Steps.{mapped, step, tested}
-use Rattle.v8_decode.specs.declared.Op2.{Op2}
+use Rattle.v8_text.proofs.Common.{◌≡◌, ℕ, zero, suc, ◌≤◌, ◌^◌, ◌==◌, true, false, nat_le, List, [], ◌∷◌, Option, Some, None, ℤ, pos, negsuc, inl, inr, decimal, refl, ap, sym, ◌∙◌, arith, list_all, option_map, and_parts, le-leb, ltb-true, ne_eqb, ◌>>=◌, is_digit, number_of, register_of, number_back, number_read, register_back, register_read, decimal_digits, decimal_whole, is_whole, mapped, step, tested, Op2, op2_in_range, fits_signed, op2_fits, integer_text, op2_text, behind, below_zero, integer_by, integer_of, op2_of, small}
 use Rattle.v8_decode.specs.declared.Op2.TheVariants as o
-use Rattle.v8_decode.specs.Ranges.{op2_in_range}
-use Rattle.v8_encode.specs.Code.{fits_signed, op2_fits}
-use Rattle.v8_text.specs.Texts.{integer_text, op2_text}
-use Rattle.v8_text.specs.Parts.{behind, below_zero, integer_by, integer_of, op2_of, small}
 use Rattle.v8_text.proofs.Found.{behind_back, behind_read, either_of, no_register, register_whole-44, register_whole-93}
 
 -- digits begin with a digit

@@ -1,28 +1,15 @@
 -- The word of an instruction is the least that decodes to it.
-use Rattle.std.proofs.Common.{rules, ◌≡◌, ℕ, zero, suc, ◌+◌, ◌<◌, ◌≤◌, ◌-◌, ◌*◌, ◌^◌, Bool, true, false, ◌&&◌, ◌==◌, List, [], ◌∷◌, get_or, codes, Option, Some, None, pos, refl, sym, ap, ◌∙◌, arith}
+use Rattle.v8_text.proofs.Common.{rules, ◌≡◌, ℕ, zero, suc, ◌+◌, ◌<◌, ◌≤◌, ◌-◌, ◌*◌, ◌^◌, Bool, true, false, ◌&&◌, ◌==◌, List, [], ◌∷◌, get_or, codes, Option, Some, None, pos, refl, sym, ap, ◌∙◌, arith, list_any, range_with_len, and_from, and_parts, eqb-false, eqb-true, false_from_ne_true, true≢false, get_or-range_with_len, length-range_with_len, tested, Instr, Op2, AluOp, LoadKind, arithmetic, branch_or_sethi, decode_of, field, memory, decode_of-ranges, cleared, encode_of, has_word, ignored_of, is_instruction, word_of, is_least, is_spelled, lines_from, same_instr, word_text}
 use Rattle.std.specs.Fmt.{digits}
-use Rattle.std.specs.List.{list_any, range_with_len}
-use Rattle.std.proofs.lemmas.Bool.{and_from, and_parts, eqb-false, eqb-true, false_from_ne_true, true≢false}
 use Rattle.std.proofs.lemmas.List.Folds.{list_any_at}
-use Rattle.std.proofs.lemmas.List.FromFn.{get_or-range_with_len, length-range_with_len}
-use Rattle.line_words.proofs.Steps.{tested}
-use Rattle.v8_decode.specs.declared.Instr.{Instr}
 use Rattle.v8_decode.specs.declared.Instr.TheVariants as i
-use Rattle.v8_decode.specs.declared.Op2.{Op2}
 use Rattle.v8_decode.specs.declared.Op2.TheVariants as o
-use Rattle.v8_decode.specs.declared.AluOp.{AluOp}
-use Rattle.v8_decode.specs.declared.LoadKind.{LoadKind}
 use Rattle.v8_decode.specs.contracts.InstrEq.TheImpl.Laws.{laws-law}
 use Rattle.v8_decode.specs.contracts.Op2PartialEq.TheImpl as op2_eq
 use Rattle.v8_decode.specs.contracts.AluOpPartialEq.TheImpl as alu_eq
 use Rattle.v8_decode.specs.contracts.LoadKindPartialEq.TheImpl as load_eq
-use Rattle.v8_decode.specs.Words.{arithmetic, branch_or_sethi, decode_of, field, memory}
-use Rattle.v8_decode.proofs.Rows.{decode_of-ranges}
-use Rattle.v8_encode.specs.Code.{cleared, encode_of, has_word, ignored_of}
-use Rattle.v8_encode.specs.Encoding.{is_instruction, word_of}
 use Rattle.v8_encode.proofs.Decoded.{decode_of-word_of}
 use Rattle.v8_encode.proofs.Encoded.{encode_of-decode_of}
-use Rattle.v8_text.specs.Texts.{is_least, is_spelled, lines_from, same_instr, word_text}
 
 abbrev op2_same : Op2 → Op2 → Bool
 op2_same = (op2_eq.ghosts).eq

@@ -1,21 +1,11 @@
 -- Listings that are read, line by line.
-use Rattle.std.proofs.Common.{◌≡◌, ◌≢◌, ℕ, suc, ◌+◌, ◌*◌, ◌%◌, ◌^◌, ◌<◌, ◌≤◌, true, false, List, [], ◌∷◌, ◌++◌, length, take, slice_index, Option, Some, None, refl, ap, sym, ◌∙◌, append_assoc, arith}
-use Rattle.std.specs.List.{All}
-use Rattle.std.proofs.lemmas.Bool.{eq-eqb, eqb-true}
+use Rattle.v8_text.proofs.Common.{◌≡◌, ◌≢◌, ℕ, suc, ◌+◌, ◌*◌, ◌%◌, ◌^◌, ◌<◌, ◌≤◌, true, false, List, [], ◌∷◌, ◌++◌, length, take, slice_index, Option, Some, None, refl, ap, sym, ◌∙◌, append_assoc, arith, All, eq-eqb, eqb-true, hex_of, hex_number_of, split_at, address_back, address_read, split_back, split_read, line_text, lines_from, listing_text, word_text, ListingsReadBack, ReadsBack, IsWordOf}
 use Rattle.std.proofs.lemmas.List.{append_cancel_left, append-nil, length-append, length-take-le, take_more}
 use Rattle.std.proofs.lemmas.List.Elements.{All-append, All-cons, All-head, All-nil, All-tail}
-use Rattle.eel_base.specs.Fields.{hex_of}
 use Rattle.eel_base.specs.CodeText.{Words}
 use Rattle.eel_base.specs.Code.{IsText}
-use Rattle.line_words.specs.Registers.{hex_number_of}
-use Rattle.line_words.specs.Words.{split_at}
-use Rattle.line_words.proofs.Digits.{address_back, address_read}
-use Rattle.line_words.proofs.Split.{split_back, split_read}
-use Rattle.v8_text.specs.Texts.{line_text, lines_from, listing_text, word_text}
 use Rattle.v8_text.specs.Private.{is_next, IsLineOf, IsNextLine, line_of}
 use Rattle.v8_text.specs.Listings.{AreListed, IsBadLine}
-use Rattle.v8_text.specs.Code.{ListingsReadBack, ReadsBack}
-use Rattle.v8_text.specs.Laws.{IsWordOf}
 use Rattle.v8_text.proofs.Found.{whole_append}
 use Rattle.v8_text.proofs.Plain.{hex_plain, plain_whole}
 use Rattle.v8_text.proofs.Words.{word_back, word_whole}

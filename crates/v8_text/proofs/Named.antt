@@ -1,19 +1,6 @@
 -- The names of instructions.
-use Rattle.std.proofs.Common.{◌≡◌, ℕ, ◌<◌, Bool, true, false, if◌then◌else◌, List, [], ◌∷◌, get_or, map, codes, Option, Some, None, inl, inr, refl, ap, sym, ◌∙◌, arith}
-use Rattle.std.specs.List.{find, range_with_len}
-use Rattle.std.specs.Option.{option_map}
-use Rattle.std.specs.Str.{bytes_eq}
-use Rattle.std.proofs.lemmas.List.FromFn.{get_or-map-range_with_len}
-use Rattle.std.proofs.lemmas.Bool.Decides.{nat_tests}
-use Rattle.line_words.proofs.Steps.{chosen, mapped}
-use Rattle.v8_decode.specs.declared.AluOp.{AluOp}
-use Rattle.v8_decode.specs.declared.LoadKind.{LoadKind}
-use Rattle.v8_decode.specs.declared.StoreKind.{StoreKind}
-use Rattle.v8_decode.specs.Forms.{has_form}
-use Rattle.v8_text.specs.declared.names.Name.{Name}
+use Rattle.v8_text.proofs.Common.{◌≡◌, ℕ, ◌<◌, Bool, true, false, if◌then◌else◌, List, [], ◌∷◌, get_or, map, codes, Option, Some, None, inl, inr, refl, ap, sym, ◌∙◌, arith, find, range_with_len, option_map, bytes_eq, get_or-map-range_with_len, nat_tests, chosen, mapped, AluOp, LoadKind, StoreKind, has_form, Name, alu_text, branch_text, load_text, store_text, trap_text, all_loads, all_stores, first_of, joined_of, leaving, name_of, setting, single_of}
 use Rattle.v8_text.specs.declared.names.Name.TheVariants as n
-use Rattle.v8_text.specs.Texts.{alu_text, branch_text, load_text, store_text, trap_text}
-use Rattle.v8_text.specs.Parts.{all_loads, all_stores, first_of, joined_of, leaving, name_of, setting, single_of}
 use Rattle.v8_text.proofs.Found.{either_of, text_is}
 
 abbrev pub name_text : Name → List ℕ

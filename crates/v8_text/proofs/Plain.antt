@@ -1,22 +1,7 @@
 -- Texts in print: names and operands have neither a space nor a newline.
-use Rattle.std.proofs.Common.{◌≡◌, ℕ, suc, ◌*◌, ◌/◌, ◌%◌, ◌<◌, ◌≤◌, ◌^◌, Bool, true, false, nat_lt, ◌&&◌, List, [], ◌∷◌, ◌++◌, codes, decimal, ℤ, pos, negsuc, refl, arith}
-use Rattle.std.specs.List.{list_all}
-use Rattle.std.proofs.lemmas.Bool.{and_parts, ltb-true}
-use Rattle.std.proofs.lemmas.Bool.Decides.{nat_tests}
-use Rattle.eel_base.specs.Fields.{hex_digit, hex_digit_at, hex_of}
-use Rattle.line_words.specs.Words.{is_digit}
-use Rattle.line_words.specs.Registers.{register_text}
-use Rattle.line_words.proofs.Split.{decimal_digits, is_whole}
-use Rattle.v8_decode.specs.declared.Instr.{Instr}
+use Rattle.v8_text.proofs.Common.{◌≡◌, ℕ, suc, ◌*◌, ◌/◌, ◌%◌, ◌<◌, ◌≤◌, ◌^◌, Bool, true, false, nat_lt, ◌&&◌, List, [], ◌∷◌, ◌++◌, codes, decimal, ℤ, pos, negsuc, refl, arith, list_all, and_parts, ltb-true, nat_tests, hex_digit, hex_digit_at, hex_of, is_digit, register_text, decimal_digits, is_whole, Instr, Op2, AluOp, LoadKind, StoreKind, is_in_range, op2_in_range, operands_in_range, fits_signed, has_word, op2_fits, alu_text, branch_text, comma, instr_text, integer_text, load_text, loaded, named, number_text, op2_text, operands, sources, store_text, stored, target_of, trap_text}
 use Rattle.v8_decode.specs.declared.Instr.TheVariants as i
-use Rattle.v8_decode.specs.declared.Op2.{Op2}
 use Rattle.v8_decode.specs.declared.Op2.TheVariants as o
-use Rattle.v8_decode.specs.declared.AluOp.{AluOp}
-use Rattle.v8_decode.specs.declared.LoadKind.{LoadKind}
-use Rattle.v8_decode.specs.declared.StoreKind.{StoreKind}
-use Rattle.v8_decode.specs.Ranges.{is_in_range, op2_in_range, operands_in_range}
-use Rattle.v8_encode.specs.Code.{fits_signed, has_word, op2_fits}
-use Rattle.v8_text.specs.Texts.{alu_text, branch_text, comma, instr_text, integer_text, load_text, loaded, named, number_text, op2_text, operands, sources, store_text, stored, target_of, trap_text}
 use Rattle.v8_text.proofs.Found.{at_each, whole_append}
 
 -- all bytes stand behind the space

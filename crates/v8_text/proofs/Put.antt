@@ -1,6 +1,5 @@
 -- Texts that are put together.
-use Rattle.std.proofs.Common.{◌≡◌, List, ℕ, [], ◌∷◌, ◌++◌, append_assoc}
-use Rattle.v8_text.specs.Texts.{named}
+use Rattle.v8_text.proofs.Common.{◌≡◌, List, ℕ, [], ◌∷◌, ◌++◌, append_assoc, named}
 
 -- a name, and then its operands
 pub named_put : (old name mid operands new : List ℕ) → mid ≡ old ++ (name ++ 32 ∷ []) → new ≡ mid ++ operands

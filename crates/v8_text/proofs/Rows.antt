@@ -1,18 +1,6 @@
 -- Operands in a row.
-use Rattle.std.proofs.Common.{◌≡◌, ℕ, ◌<◌, ◌^◌, ◌==◌, true, List, [], ◌∷◌, ◌++◌, length, Some, decimal, codes, refl, ap, ap₂, subst, ◌∙◌, arith}
-use Rattle.std.proofs.lemmas.Bool.{eqb-true}
-use Rattle.line_words.specs.Registers.{register_text}
-use Rattle.line_words.specs.Words.{register_of, split_at}
-use Rattle.line_words.proofs.Numbers.{number_back}
-use Rattle.line_words.proofs.Registers.{register_back, register_read}
-use Rattle.line_words.proofs.Split.{decimal_whole, is_whole, split_back, split_read}
-use Rattle.line_words.proofs.Steps.{step, tested}
+use Rattle.v8_text.proofs.Common.{◌≡◌, ℕ, ◌<◌, ◌^◌, ◌==◌, true, List, [], ◌∷◌, ◌++◌, length, Some, decimal, codes, refl, ap, ap₂, subst, ◌∙◌, arith, eqb-true, register_text, register_of, split_at, number_back, register_back, register_read, decimal_whole, is_whole, split_back, split_read, step, tested, Op2, op2_in_range, op2_fits, comma, loaded, op2_text, operands, sources, stored, behind, loaded_of, op2_of, operands_of, read_y_of, sethi_of, sources_of, stored_of, write_y_of}
 use Rattle.v8_decode.specs.declared.Instr.TheVariants as i
-use Rattle.v8_decode.specs.declared.Op2.{Op2}
-use Rattle.v8_decode.specs.Ranges.{op2_in_range}
-use Rattle.v8_encode.specs.Code.{op2_fits}
-use Rattle.v8_text.specs.Texts.{comma, loaded, op2_text, operands, sources, stored}
-use Rattle.v8_text.specs.Parts.{behind, loaded_of, op2_of, operands_of, read_y_of, sethi_of, sources_of, stored_of, write_y_of}
 use Rattle.v8_text.proofs.Found.{behind_back, behind_read, register_whole-44, register_whole-93, whole_append}
 use Rattle.v8_text.proofs.Integers.{op2_back, op2_read, op2_whole-44, op2_whole-93}
 

@@ -1,16 +1,6 @@
 -- Where transfers lead.
-use Rattle.std.proofs.Common.{◌≡◌, ℕ, ◌+◌, ◌-◌, ◌*◌, ◌/◌, ◌%◌, ◌<◌, ◌^◌, ◌==◌, true, List, ◌∷◌, Some, ℤ, refl, ap, sym, ◌∙◌, arith}
-use Rattle.std.proofs.lemmas.Bool.{eq-eqb, eqb-true}
-use Rattle.std.proofs.lemmas.Bool.Decides.{nat_tests}
-use Rattle.eel_base.specs.Fields.{hex_of}
-use Rattle.line_words.proofs.Digits.{address_back, address_read}
-use Rattle.line_words.proofs.Steps.{step, tested}
-use Rattle.v8_decode.specs.Words.{signed}
-use Rattle.v8_encode.specs.Code.{fits_signed}
-use Rattle.v8_encode.specs.Encoding.{signed_field}
+use Rattle.v8_text.proofs.Common.{◌≡◌, ℕ, ◌+◌, ◌-◌, ◌*◌, ◌/◌, ◌%◌, ◌<◌, ◌^◌, ◌==◌, true, List, ◌∷◌, Some, ℤ, refl, ap, sym, ◌∙◌, arith, eq-eqb, eqb-true, nat_tests, hex_of, address_back, address_read, step, tested, signed, fits_signed, signed_field, number_text, target_of, behind, displacement_of, number_in, words_between}
 use Rattle.v8_encode.proofs.Fields.{signed-signed_field, signed_field-signed}
-use Rattle.v8_text.specs.Texts.{number_text, target_of}
-use Rattle.v8_text.specs.Parts.{behind, displacement_of, number_in, words_between}
 use Rattle.v8_text.proofs.Found.{behind_back, behind_read}
 
 -- ---- numbers

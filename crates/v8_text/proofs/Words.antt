@@ -1,19 +1,5 @@
 -- Words.
-use Rattle.std.proofs.Common.{◌≡◌, ◌≢◌, ℕ, ◌<◌, ◌^◌, true, false, if◌then◌else◌, List, codes, Option, Some, None, refl, ap, sym, ◌∙◌, arith}
-use Rattle.std.specs.Str.{bytes_eq}
-use Rattle.std.proofs.lemmas.Bool.{cond_both, eq-eqb, eqb-true}
-use Rattle.std.proofs.lemmas.Bool.Decides.{nat_tests}
-use Rattle.line_words.specs.Words.{◌>>=◌, split_at}
-use Rattle.line_words.proofs.Split.{is_whole, split_back, split_read}
-use Rattle.line_words.proofs.Steps.{step, tested}
-use Rattle.v8_decode.specs.declared.Instr.{Instr}
-use Rattle.v8_decode.specs.Words.{decode_of}
-use Rattle.v8_decode.proofs.Rows.{decode_of-ranges}
-use Rattle.v8_encode.specs.Code.{encode_of, has_word}
-use Rattle.v8_encode.specs.Encoding.{word_of}
-use Rattle.v8_text.specs.Texts.{instr_text, is_spelled, named, number_text, raw_text, word_text}
-use Rattle.v8_text.specs.Parts.{instr_of, joined_of, name_of, single_of, number_in, raw_of, unspelled, word_in}
-use Rattle.v8_text.specs.Laws.{TextsReadBack}
+use Rattle.v8_text.proofs.Common.{◌≡◌, ◌≢◌, ℕ, ◌<◌, ◌^◌, true, false, if◌then◌else◌, List, codes, Option, Some, None, refl, ap, sym, ◌∙◌, arith, bytes_eq, cond_both, eq-eqb, eqb-true, nat_tests, ◌>>=◌, split_at, is_whole, split_back, split_read, step, tested, Instr, decode_of, decode_of-ranges, encode_of, has_word, word_of, instr_text, is_spelled, named, number_text, raw_text, word_text, instr_of, joined_of, name_of, single_of, number_in, raw_of, unspelled, word_in, TextsReadBack}
 use Rattle.v8_text.proofs.Found.{text_is}
 use Rattle.v8_text.proofs.Least.{is_word, spelled_is}
 use Rattle.v8_text.proofs.Plain.{hex_plain, instr_whole, named_whole}

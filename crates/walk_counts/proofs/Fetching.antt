@@ -1,26 +1,14 @@
 -- Only the words of a file's text are fetched.
-use Rattle.std.proofs.Common.{zero, suc, drop, subst, ◌≡◌, ℕ, ◌/◌, ◌%◌, ◌≤◌, Bool, List, [], ◌∷◌, ◌++◌, length, map, slice_index, Option, Some, None, refl, sym, ap, ◌∙◌, arith}
-use Rattle.std.specs.List.{filter, find}
-use Rattle.std.specs.Option.{option_map, option_map_or}
-use Rattle.std.proofs.lemmas.Bool.{ltb-false}
+use Rattle.walk_counts.proofs.Common.{zero, suc, drop, subst, ◌≡◌, ℕ, ◌/◌, ◌%◌, ◌≤◌, Bool, List, [], ◌∷◌, ◌++◌, length, map, slice_index, Option, Some, None, refl, sym, ap, ◌∙◌, arith, filter, find, option_map, option_map_or, ltb-false, Words, word_at, program_headers, loadable, is_text, text_header, text_count, fault, text_of, image_of, words_of, text_from, no_text, Accepted, accepted, IsFit, has_text, text_is_fit, AreBytes, start_memory, start_of, stack_region, program_name, OnlyTextIsFetched, IsText}
 use Rattle.std.proofs.lemmas.Bool.Decides.{nat_tests}
 use Rattle.std.proofs.lemmas.List.{nil_from_length}
 use Rattle.std.proofs.lemmas.List.Sums.{length-filter}
-use Rattle.eel_base.specs.CodeText.{Words, word_at}
 use Rattle.elf32_sparc.specs.declared.header.ProgramHeader.{ProgramHeader}
-use Rattle.elf32_sparc.specs.Header.{program_headers, loadable, is_text, text_header, text_count}
 use Rattle.elf32_sparc.specs.Mapping.{mapping_of, mappings, memory_bytes}
-use Rattle.elf32_sparc.specs.FileFault.{fault}
-use Rattle.elf32_sparc.specs.Image.{text_of, image_of, words_of, text_from, no_text}
-use Rattle.elf32_sparc.proofs.Accepted.{Accepted, accepted, IsFit, has_text, text_is_fit}
 use Rattle.v8_memory.specs.Regions.{Region, is_code, code_of, fetch_from, fetch_of}
 use Rattle.v8_memory.specs.Segments.{region_of}
-use Rattle.v8_step.specs.State.{AreBytes}
-use Rattle.v8_process.specs.Start.{start_memory, start_of, stack_region, program_name}
 use Rattle.v8_process.proofs.Fetched.{text_is_fetched}
-use Rattle.walk_counts.specs.Files.{OnlyTextIsFetched}
 use Rattle.cfg_blocks.proofs.Targets.{IsWord, word_at-some}
-use Rattle.eel_base.specs.Code.{IsText}
 pub use Rattle.walk_counts.proofs.Walking.{three_words_walks}
 
 -- ---- the text of a file without a fault

@@ -1,36 +1,15 @@
 -- The walk of a file's run matches it.
-use Rattle.std.proofs.Common.{◌≡◌, ℕ, ◌<◌, true, List, [], ◌∷◌, length, Some, None, refl, arith}
-use Rattle.eel_base.specs.CodeText.{Words, address_of}
-use Rattle.eel_base.specs.Code.{IsText}
-use Rattle.elf32_sparc.specs.Header.{e_entry}
-use Rattle.elf32_sparc.specs.FileFault.{fault}
-use Rattle.elf32_sparc.specs.Image.{text_of, word_number, image_of}
+use Rattle.walk_counts.proofs.Common.{◌≡◌, ℕ, ◌<◌, true, List, [], ◌∷◌, length, Some, None, refl, arith, Words, address_of, IsText, e_entry, fault, text_of, word_number, image_of, accepted, start_of, PlainGraph, IsWalk, State, AreBytes, blocks_of, is_among, Open, opens_of, Graph, graph_of, AreOpen, BeginsAt, FetchesOnly, JumpsGoByCase, MatchesRun, OfEachRun, OfEachFile, WalksOfFilesMatch, graph_in, links_of, AreFlows, CountsAreEnough, ExecutionsOfFilesAreFlows, IsPath, walks_match, node_in, number_inside, cut}
 use Rattle.elf32_sparc.specs.Code.{IsProgram}
-use Rattle.elf32_sparc.proofs.Accepted.{accepted}
 use Rattle.elf32_sparc.proofs.Images.{accepted-program}
-use Rattle.v8_process.specs.Start.{start_of}
-use Rattle.flows.specs.Flows.{Graph as PlainGraph}
 use Rattle.flows.specs.Code.{IsGraph}
-use Rattle.flows.specs.Walks.{IsWalk}
-use Rattle.v8_step.specs.State.{State, AreBytes}
 use Rattle.v8_step.specs.Valid.{IsValid}
-use Rattle.cfg_blocks.specs.Blocks.{blocks_of, is_among}
 use Rattle.cfg_blocks.specs.Entries.{entered_of}
 use Rattle.cfg_blocks.specs.Switches.{switches_of}
-use Rattle.cfg_normal.specs.Opens.{Open, opens_of}
-use Rattle.cfg_normal.specs.Graph.{Graph, graph_of}
-use Rattle.cfg_walk.specs.Matches.{AreOpen, BeginsAt, FetchesOnly, JumpsGoByCase, MatchesRun, OfEachRun}
-use Rattle.walk_counts.specs.Files.{OfEachFile, WalksOfFilesMatch, graph_in}
-use Rattle.span_tree.specs.Links.{links_of}
-use Rattle.walk_counts.specs.Counts.{AreFlows, CountsAreEnough, ExecutionsOfFilesAreFlows, IsPath}
 use Rattle.switch_runs.proofs.Opened.{are_open, opens_are}
 use Rattle.switch_runs.proofs.Starts.{text_is_held}
 use Rattle.switch_runs.proofs.Walking.{jumps_are_cases}
 use Rattle.walk_counts.proofs.Fetching.{only_text_is_fetched, text_found}
-use Rattle.cfg_walk.proofs.Walks.{walks_match}
-use Rattle.cfg_walk.proofs.Nodes.{node_in}
-use Rattle.span_tree.proofs.Connected.{number_inside}
-use Rattle.cfg_walk.proofs.Cut.{cut}
 use Rattle.walk_counts.proofs.Paths.{links_are_a_graph, executions_are_flows, walks_are_paths}
 
 -- the entry is the address of a word

@@ -1,3 +1,4 @@
+pub mod Common
 pub mod Fetching
 pub mod Paths
 pub mod Files

@@ -1,14 +1,8 @@
 -- Each branch is the last word of its block, so that a sum over blocks is one over words.
-use Rattle.std.proofs.Common.{inl, inr, sym, ◌≡◌, ℕ, zero, suc, ◌-◌, ◌<◌, ◌≤◌, Bool, false, cond, length, slice_index, None, add-one, refl, ap, ◌∙◌, subst, arith}
-use Rattle.std.proofs.lemmas.Bool.{cases_lt, false_from_ne_true}
-use Rattle.eel_base.specs.CodeText.{Words}
-use Rattle.flows.specs.Flows.{count_below}
+use Rattle.walk_counts.proofs.Common.{inl, inr, sym, ◌≡◌, ℕ, zero, suc, ◌-◌, ◌<◌, ◌≤◌, Bool, false, cond, length, slice_index, None, add-one, refl, ap, ◌∙◌, subst, arith, cases_lt, false_from_ne_true, Words, count_below, Blocks, block_end, blocks_of, last_word, end_at, is_transfer, IsCut, cut}
 use Rattle.flows.proofs.Weights.{weight_same}
 use Rattle.cfg_blocks.specs.declared.BlockEnd.{BlockEnd}
 use Rattle.cfg_blocks.specs.declared.BlockEnd.TheVariants as ends
-use Rattle.cfg_blocks.specs.Blocks.{Blocks, block_end, blocks_of, last_word}
-use Rattle.cfg_blocks.specs.Ends.{end_at, is_transfer}
-use Rattle.cfg_walk.proofs.Cut.{IsCut, cut}
 use Rattle.cfg_walk.proofs.Holding.{IsIn, Leads, ends_at_next, ends_at_words, is_last, some_words}
 use Rattle.span_tree.specs.Weights.{branch_target, is_between, is_in_loop}
 use Rattle.walk_counts.specs.Loops.{LoopsAreOfTexts}

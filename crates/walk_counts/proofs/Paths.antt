@@ -1,41 +1,24 @@
 -- The plain graph of a flow graph; the walk of a run is a walk of it.
-use Rattle.std.proofs.Common.{◌-◌, ◌≡◌, ℕ, zero, suc, ◌<◌, Bool, true, ◌&&◌, List, [], ◌∷◌, ◌++◌, length, Option, Some, None, refl, ap, sym, subst, inl, inr, arith}
-use Rattle.std.specs.List.{position, slice_get}
-use Rattle.std.specs.Option.{option_to_list}
-use Rattle.std.proofs.lemmas.Bool.{and_parts, cond_both, cases_lt}
+use Rattle.walk_counts.proofs.Common.{◌-◌, ◌≡◌, ℕ, zero, suc, ◌<◌, Bool, true, ◌&&◌, List, [], ◌∷◌, ◌++◌, length, Option, Some, None, refl, ap, sym, subst, inl, inr, arith, position, slice_get, option_to_list, and_parts, cond_both, cases_lt, Words, word_at, State, PlainGraph, IsWalk, Blocks, blocks_of, Open, Graph, graph_of, has_cases, lands_of, edges_in, instr_at, way_of, Point, WayOut, by_kind, completed, edge_along, is_to, edge_from, end_of_walk, ends_block, gone, landed, landing_at, led_to, left_at, left_by, node_after, point_of, slot_left, unless_ended, walk, IsOnItsWay, MatchesBy, edge_at, links_of, no_edge, ExecutionsAreFlows, WalksArePaths, LinksAreAGraph, live_before, walks_match, number_inside, edges_leave_in, edges_lead_in}
 use Rattle.std.proofs.lemmas.List.Quantifiers.{position-Some}
 use Rattle.std.proofs.lemmas.Option.{slice_get-get_or}
-use Rattle.eel_base.specs.CodeText.{Words, word_at}
 use Rattle.v8_decode.specs.declared.Instr.{Instr}
 use Rattle.v8_decode.specs.declared.Instr.TheVariants as i
 use Rattle.v8_step.specs.declared.Ending.{Ending}
 use Rattle.v8_step.specs.declared.Slot.{Slot}
 use Rattle.v8_step.specs.declared.Slot.TheVariants.{NoSlot}
-use Rattle.v8_step.specs.State.{State}
 use Rattle.v8_step.specs.Run.{run}
-use Rattle.flows.specs.Flows.{Graph as PlainGraph}
-use Rattle.flows.specs.Walks.{IsWalk}
 use Rattle.flows.proofs.Walks.{walk_is_flow}
-use Rattle.cfg_blocks.specs.Blocks.{Blocks, blocks_of}
 use Rattle.cfg_blocks.specs.declared.EdgeKind.{EdgeKind}
 use Rattle.cfg_blocks.specs.declared.EdgeKind.TheVariants as kinds
 use Rattle.cfg_normal.specs.declared.Edge.{Edge}
 use Rattle.cfg_normal.specs.declared.Node.{Node}
 use Rattle.cfg_normal.specs.declared.Node.TheVariants.{X}
-use Rattle.cfg_normal.specs.Opens.{Open}
-use Rattle.cfg_normal.specs.Graph.{Graph, graph_of, has_cases, lands_of, edges_in}
-use Rattle.cfg_walk.specs.Walk.{instr_at, way_of, Point, WayOut, by_kind, completed, edge_along, leads_along as is_to, edge_from, end_of_walk, ends_block, gone, landed, landing_at, led_to, left_at, left_by, node_after, point_of, slot_left, unless_ended, walk}
 use Rattle.cfg_normal.specs.Nodes.{same_kind, same_node}
-use Rattle.cfg_walk.specs.Matches.{IsOnItsWay, MatchesBy}
 use Rattle.cfg_normal.specs.Numbers.{node_number}
-use Rattle.span_tree.specs.Links.{edge_at, links_of, no_edge}
-use Rattle.walk_counts.specs.Counts.{ExecutionsAreFlows, WalksArePaths, LinksAreAGraph}
 use Rattle.cfg_walk.proofs.Lists.{each_in}
 use Rattle.cfg_walk.proofs.Edges.{land_from, leads_along, same_nodes}
-use Rattle.cfg_walk.proofs.Walks.{live_before, walks_match}
 use Rattle.cfg_normal.specs.Code.{IsNodeIn}
-use Rattle.span_tree.proofs.Connected.{number_inside}
-use Rattle.cfg_walk.proofs.Nodes.{edges_leave_in, edges_lead_in}
 
 -- ---- both ends of each edge are nodes
 

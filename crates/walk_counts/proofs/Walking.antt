@@ -1,13 +1,6 @@
 -- The walks of small programs: they compute.
-use Rattle.std.specs.Prelude.{ℕ, List, [], ◌≡◌, ◌∷◌, refl, length, map}
-use Rattle.eel_base.specs.CodeText.{Words}
-use Rattle.cfg_blocks.specs.Blocks.{blocks_of, leaders, below}
-use Rattle.cfg_blocks.specs.Ends.{end_at}
-use Rattle.cfg_normal.specs.Graph.{Graph, graph_of, edges_in}
-use Rattle.span_tree.specs.Links.{links_of}
-use Rattle.cfg_walk.specs.Walk.{walk, end_of_walk}
+use Rattle.walk_counts.proofs.Common.{ℕ, List, [], ◌≡◌, ◌∷◌, refl, length, map, Words, blocks_of, leaders, below, end_at, Graph, graph_of, edges_in, links_of, walk, end_of_walk, start_of}
 use Rattle.v8_process.proofs.Programs.{after, file_of, three_words, taken_branch, branch_over_nop, carry_loop, call_and_return, inner_landings, exit_three_calls_deep, one_nop, jump_to_zero, transfer_in_slot}
-use Rattle.v8_process.specs.Start.{start_of}
 use Rattle.walk_counts.specs.Executions.{executions}
 
 abbrev pub text_with : List ℕ → Words

@@ -1,17 +1,10 @@
 -- Lines that are spelled are read, and nothing else is.
-use Rattle.std.proofs.Common.{◌≡◌, ℕ, ◌<◌, ◌^◌, ◌&&◌, true, nat_le, List, [], ◌∷◌, ◌++◌, Some, None, inl, inr, codes, decimal, append_assoc, refl, ap, ap₂, sym, subst, ◌∙◌, arith}
-use Rattle.std.specs.Option.{option_map}
-use Rattle.std.specs.Str.{bytes_eq}
-use Rattle.std.proofs.lemmas.Bool.{and_from, and_parts, le-leb, leb-true}
-use Rattle.std.proofs.lemmas.Slice.Eq.{bytes_eq-Decides}
+use Rattle.weights_in.proofs.Common.{◌≡◌, ℕ, ◌<◌, ◌^◌, ◌&&◌, true, nat_le, List, [], ◌∷◌, ◌++◌, Some, None, inl, inr, codes, decimal, append_assoc, refl, ap, ap₂, sym, subst, ◌∙◌, arith, option_map, bytes_eq, and_from, and_parts, le-leb, leb-true, bytes_eq-Decides, Total, Entry, IsEntry, IsNoLine, IsTotal, entry_line, is_kind, is_node, total_line, Edge, Last, Said, behind, entry_of, if_spelled, is_spelled, next_of, said_by, said_of, total_of}
 use Rattle.line_words.specs.Words.{count_of, number_of, split_at, sum_of}
 use Rattle.line_words.proofs.Numbers.{count_back, count_read, number_back, number_read, sum_back, sum_read}
 use Rattle.line_words.proofs.Split.{decimal_whole_wide, is_whole, split_back, split_read}
 use Rattle.line_words.proofs.Steps.{chosen, mapped, step, tested}
 use Rattle.show_text.specs.Lines.{line}
-use Rattle.weights_in.specs.declared.line.Total.{Total}
-use Rattle.weights_in.specs.Weights.{Entry, IsEntry, IsNoLine, IsTotal, entry_line, is_kind, is_node, total_line}
-use Rattle.weights_in.specs.Parts.{Edge, Last, Said, behind, entry_of, if_spelled, is_spelled, next_of, said_by, said_of, total_of}
 use Rattle.weights_in.proofs.Plain.{is_plain, kind_plain, node_plain, whole_append}
 
 -- the same, by how lines are spelled

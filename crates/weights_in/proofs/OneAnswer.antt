@@ -1,13 +1,6 @@
 -- Each text has one answer.
-use Rattle.std.proofs.Common.{◌≡◌, ◌≢◌, ℕ, ◌+◌, ◌==◌, ◌&&◌, if◌then◌else◌, Bool, true, false, List, [], ◌∷◌, ◌++◌, length, Option, Some, None, Result, Ok, Err, append_assoc, inl, inr, refl, ap, sym, subst, ◌∙◌}
-use Rattle.std.specs.List.{flat_map, sum_by}
-use Rattle.std.proofs.lemmas.Bool.{and_from, and_parts, eq-eqb, eqb-true, false_from_ne_true}
-use Rattle.cfg_view.specs.View.{Seen}
-use Rattle.weights_in.specs.declared.line.Total.{Total}
-use Rattle.weights_in.specs.declared.reading.WeightFault.{WeightFault}
+use Rattle.weights_in.proofs.Common.{◌≡◌, ◌≢◌, ℕ, ◌+◌, ◌==◌, ◌&&◌, if◌then◌else◌, Bool, true, false, List, [], ◌∷◌, ◌++◌, length, Option, Some, None, Result, Ok, Err, append_assoc, inl, inr, refl, ap, sym, subst, ◌∙◌, flat_map, sum_by, and_from, and_parts, eq-eqb, eqb-true, false_from_ne_true, Seen, Total, WeightFault, AreEntries, AreGood, Entry, IsBadEntry, IsBadTotal, IsBehind, IsEntry, IsGood, IsNoLine, IsRight, IsStray, IsTotal, entry_line, next_after, total_line, weights_of, Edge, Last, Said, next_of}
 use Rattle.weights_in.specs.declared.reading.WeightFault.TheVariants as faults
-use Rattle.weights_in.specs.Weights.{AreEntries, AreGood, Entry, IsBadEntry, IsBadTotal, IsBehind, IsEntry, IsGood, IsNoLine, IsRight, IsStray, IsTotal, entry_line, next_after, total_line, weights_of}
-use Rattle.weights_in.specs.Parts.{Edge, Last, Said, next_of}
 use Rattle.weights_in.specs.Laws.{IsAnswer, TextsHaveOneAnswer}
 use Rattle.weights_in.proofs.Lines.{next_back, next_read, IsNext}
 

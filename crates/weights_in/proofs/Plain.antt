@@ -1,16 +1,9 @@
 -- Words that have neither a space nor a newline.
-use Rattle.std.proofs.Common.{inl, inr, ◌≡◌, ℕ, ◌+◌, ◌<◌, ◌/◌, ◌%◌, ◌*◌, ◌^◌, ◌==◌, ◌&&◌, ◌||◌, not, Bool, true, false, nat_lt, List, [], ◌∷◌, ◌++◌, length, take, drop, Option, Some, None, codes, refl, ap, sym, ◌∙◌, arith}
-use Rattle.std.specs.List.{list_all, list_any}
-use Rattle.std.specs.Option.{is_some}
-use Rattle.std.specs.Str.{bytes_eq}
-use Rattle.std.proofs.lemmas.Bool.{and_from, and_parts, cases_Bool, cond_both, ne_eqb}
-use Rattle.std.proofs.lemmas.List.{take-append-drop}
-use Rattle.std.proofs.lemmas.Slice.Eq.{bytes_eq-Decides}
+use Rattle.weights_in.proofs.Common.{inl, inr, ◌≡◌, ℕ, ◌+◌, ◌<◌, ◌/◌, ◌%◌, ◌*◌, ◌^◌, ◌==◌, ◌&&◌, ◌||◌, not, Bool, true, false, nat_lt, List, [], ◌∷◌, ◌++◌, length, take, drop, Option, Some, None, codes, refl, ap, sym, ◌∙◌, arith, list_all, list_any, is_some, bytes_eq, and_from, and_parts, cases_Bool, cond_both, ne_eqb, take-append-drop, bytes_eq-Decides, is_address, is_kind, is_node}
 use Rattle.eel_base.specs.Fields.{hex_digit, hex_digit_at, hex_of}
 use Rattle.line_words.specs.Registers.{hex_number_of}
 use Rattle.line_words.proofs.Digits.{address_read}
 pub use Rattle.line_words.proofs.Split.{is_whole, whole_append}
-use Rattle.weights_in.specs.Weights.{is_address, is_kind, is_node}
 
 abbrev pub is_plain : List ℕ → Bool
 is_plain word = is_whole 10 word && is_whole 32 word

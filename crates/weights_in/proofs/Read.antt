@@ -1,22 +1,13 @@
 -- What was read once some lines were taken.
-use Rattle.std.proofs.Common.{◌≡◌, ℕ, ◌+◌, ◌<◌, ◌≤◌, ◌^◌, ◌==◌, if◌then◌else◌, Bool, true, false, List, [], ◌∷◌, ◌++◌, length, get_or, set, Some, Result, Ok, Err, inr, append_assoc, refl, ap, sym, subst, ◌∙◌, arith}
+use Rattle.weights_in.proofs.Common.{◌≡◌, ℕ, ◌+◌, ◌<◌, ◌≤◌, ◌^◌, ◌==◌, if◌then◌else◌, Bool, true, false, List, [], ◌∷◌, ◌++◌, length, get_or, set, Some, Result, Ok, Err, inr, append_assoc, refl, ap, sym, subst, ◌∙◌, arith, IfErr, IfOk, Vec, All, flat_map, sum_by, eq-eqb, eqb-true, ne_eqb, get_or-replicate, get_or-set_other, length-append, Seen, Total, WeightFault, AreEntries, AreGood, AreLines, AreRefused, AreWeights, Entry, IsBadEntry, IsEntry, IsGood, IsNoLine, IsStray, IsTotal, count_on, entry_line, next_after, total_line, weight_of, weights_of, IsEnd, IsFirst, IsTaken, IsWithin, Said, next_of, said_in}
 use Rattle.std.specs.declared.alloc.Global.{Global}
-use Rattle.std.specs.Prelude.{IfErr, IfOk, Vec}
-use Rattle.std.specs.List.{All, flat_map, sum_by}
 use Rattle.std.specs.Result.{IsErrAnd}
-use Rattle.std.proofs.lemmas.Bool.{eq-eqb, eqb-true, ne_eqb}
 use Rattle.std.proofs.lemmas.Grind.{get_or-set_at}
-use Rattle.std.proofs.lemmas.List.{get_or-replicate, get_or-set_other, length-append}
 use Rattle.std.proofs.lemmas.List.Sums.{sum_by_push}
 use Rattle.std.proofs.lemmas.List.FromFn.{fill_by_all, get_or-map-range_with_len, length-map-range_with_len}
-use Rattle.cfg_view.specs.View.{Seen}
 use Rattle.weights_in.specs.declared.line.Line.{Line}
-use Rattle.weights_in.specs.declared.line.Total.{Total}
 use Rattle.weights_in.specs.declared.reading.Reading.{Reading}
-use Rattle.weights_in.specs.declared.reading.WeightFault.{WeightFault}
 use Rattle.weights_in.specs.declared.reading.WeightFault.TheVariants as faults
-use Rattle.weights_in.specs.Weights.{AreEntries, AreGood, AreLines, AreRefused, AreWeights, Entry, IsBadEntry, IsEntry, IsGood, IsNoLine, IsStray, IsTotal, count_on, entry_line, next_after, total_line, weight_of, weights_of}
-use Rattle.weights_in.specs.Parts.{IsEnd, IsFirst, IsTaken, IsWithin, Said, next_of, said_in}
 use Rattle.weights_in.proofs.Lines.{next_read, IsNext}
 
 pub record IsRead (view : Seen) (bytes : List ℕ) (reading : Reading) (rest : List ℕ) : Type 0 where

@@ -1,10 +1,7 @@
 -- The generated file has no fault.
-use Rattle.workload.proofs.Common.{◌≡◌, ℕ, ◌+◌, ◌*◌, ◌/◌, ◌^◌, ◌≤◌, true, List, [], ◌∷◌, ◌++◌, length, map, Some, None, refl, ap, ◌∙◌, arith, lt-ltb, le-ltb, e_entry, program_headers, loadable, word_of, routines_from, code_of, file_of, generated}
-use Rattle.elf32_sparc.specs.Header.{text_header, is_text}
-use Rattle.std.proofs.Common.{Bool}
+use Rattle.workload.proofs.Common.{◌≡◌, ℕ, ◌+◌, ◌*◌, ◌/◌, ◌^◌, ◌≤◌, true, List, [], ◌∷◌, ◌++◌, length, map, Some, None, refl, ap, ◌∙◌, arith, lt-ltb, le-ltb, e_entry, program_headers, loadable, word_of, routines_from, code_of, file_of, generated, text_header, is_text, Bool, HasNoFault}
 use Rattle.elf32_sparc.specs.declared.fault.FileFault.{FileFault}
 use Rattle.elf32_sparc.specs.FileFault.{first_that_holds, header_rows, entry_rows, load_rows, fault, load_fault, is_short, has_other_magic, has_other_class, has_other_order, has_other_version, has_other_type, has_other_machine, has_other_sizes, has_bad_table, has_dynamic, has_bytes_outside, has_memory_outside, has_memory_outside_a_run, has_disorder, has_misaligned, has_misshapen_text, has_large_text, has_other_entry, memory_size}
-use Rattle.workload.specs.Laws.{HasNoFault}
 use Rattle.workload.proofs.Made.{word_count}
 use Rattle.workload.proofs.Headers.{header_facts, length-file, text_entry}
 

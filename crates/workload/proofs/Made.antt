@@ -1,7 +1,5 @@
 -- The bytes of the program, part by part.
-use Rattle.workload.proofs.Common.{◌≡◌, ℕ, zero, suc, ◌+◌, ◌-◌, ◌*◌, ◌<◌, List, [], ◌∷◌, ◌++◌, length, map, refl, ap, arith, w32, to_be_bytes, flat_map, range_with_len, length-map, Instr, word_of, stirred, routine_from, routines_from, call_of, exit_code, routine_code, caller_code, code_of, bytes_of, header_words, generated}
-use Rattle.std.proofs.Common.{length-append, append_assoc}
-use Rattle.std.proofs.lemmas.List.{map-append}
+use Rattle.workload.proofs.Common.{◌≡◌, ℕ, zero, suc, ◌+◌, ◌-◌, ◌*◌, ◌<◌, List, [], ◌∷◌, ◌++◌, length, map, refl, ap, arith, w32, to_be_bytes, flat_map, range_with_len, length-map, Instr, word_of, stirred, routine_from, routines_from, call_of, exit_code, routine_code, caller_code, code_of, bytes_of, header_words, generated, length-append, append_assoc, map-append}
 use Rattle.std.proofs.lemmas.List.FromFn.{length-range_with_len}
 use Rattle.std.proofs.lemmas.Grind.{flat_map-append}
 

@@ -1,7 +1,6 @@
 -- The generated file leaves room for its edit.
-use Rattle.workload.proofs.Common.{◌≡◌, ℕ, ◌+◌, ◌*◌, ◌^◌, ◌≤◌, length, map, arith, loadable, program_headers, image_of, word_of, routines_from, code_of, file_of, generated}
+use Rattle.workload.proofs.Common.{◌≡◌, ℕ, ◌+◌, ◌*◌, ◌^◌, ◌≤◌, length, map, arith, loadable, program_headers, image_of, word_of, routines_from, code_of, file_of, generated, highest_end, room_from, rounded_up, segment_of}
 use Rattle.std.specs.Prelude.{max}
-use Rattle.elf32_sparc.specs.Image.{highest_end, room_from, rounded_up, segment_of}
 use Rattle.workload.specs.Room.{GeneratedLeavesRoom}
 use Rattle.workload.proofs.Made.{word_count}
 use Rattle.workload.proofs.Headers.{header_facts}

@@ -1,13 +1,6 @@
 -- The run of the generated file.
-use Rattle.workload.proofs.Common.{◌≡◌, ℕ, zero, suc, ◌+◌, ◌-◌, ◌*◌, ◌%◌, ◌≤◌, false, inl, inr, List, [], ◌∷◌, length, map, refl, ap, sym, ◌∙◌, arith, cases_lt, fetch_of, sum_by, sum_by-cons, judged_in, instr_at, run, State, Exit, word_of, Codes, start_memory, routines_from, code_of, file_of, generated, IsTextWord, routine_steps, routine_sum, Routine, drawn}
-use Rattle.std.proofs.Common.{subst, mul-le-mul}
-use Rattle.two_runs.specs.Needed.{decoded}
-use Rattle.v8_step.specs.Step.{step_of}
+use Rattle.workload.proofs.Common.{◌≡◌, ℕ, zero, suc, ◌+◌, ◌-◌, ◌*◌, ◌%◌, ◌≤◌, false, inl, inr, List, [], ◌∷◌, length, map, refl, ap, sym, ◌∙◌, arith, cases_lt, fetch_of, sum_by, sum_by-cons, judged_in, instr_at, run, State, Exit, word_of, Codes, start_memory, routines_from, code_of, file_of, generated, IsTextWord, routine_steps, routine_sum, Routine, drawn, subst, mul-le-mul, decoded, step_of, first_state, stays_ended, start_of, first_sp, program_name, first, step_count, text_span, total, GeneratedRunsEnd}
 use Rattle.v8_memory.specs.Spans.{Span, IsApart, IsApartFromAll}
-use Rattle.v8_step.specs.Run.{first_state}
-use Rattle.v8_step.proofs.Live.{stays_ended}
-use Rattle.v8_process.specs.Start.{start_of, first_sp, program_name}
-use Rattle.workload.specs.Laws.{first, step_count, text_span, total, GeneratedRunsEnd}
 use Rattle.workload.proofs.Made.{length-routines, word_count}
 use Rattle.workload.proofs.Headers.{header_facts}
 use Rattle.workload.proofs.Ways.{IsDrawn, AreDrawn, Ends, later, whole_run}

@@ -1,7 +1,5 @@
 -- The text of the generated file: as an editor reads it, and in the memory in which a run starts.
-use Rattle.workload.proofs.Common.{◌≡◌, ℕ, zero, suc, ◌+◌, ◌-◌, ◌*◌, ◌^◌, ◌<◌, ◌≤◌, true, List, [], ◌∷◌, ◌++◌, length, map, drop, Some, refl, ap, sym, ◌∙◌, arith, ◌/◌, ◌%◌, w32, to_be_bytes, flat_map, range_with_len, lt-ltb, length-map, big_number, big_number-reads_back, Instr, word_of, fetch_of, start_memory, Routine, first_word, call_of, exit_code, routine_code, caller_code, code_of, bytes_of, file_of, routines_from, generated, stirred, image_of, drawn}
-use Rattle.std.proofs.Common.{replicate, append-nil}
-use Rattle.std.proofs.lemmas.List.{take_all, drop-drop}
+use Rattle.workload.proofs.Common.{◌≡◌, ℕ, zero, suc, ◌+◌, ◌-◌, ◌*◌, ◌^◌, ◌<◌, ◌≤◌, true, List, [], ◌∷◌, ◌++◌, length, map, drop, Some, refl, ap, sym, ◌∙◌, arith, ◌/◌, ◌%◌, w32, to_be_bytes, flat_map, range_with_len, lt-ltb, length-map, big_number, big_number-reads_back, Instr, word_of, fetch_of, start_memory, Routine, first_word, call_of, exit_code, routine_code, caller_code, code_of, bytes_of, file_of, routines_from, generated, stirred, image_of, drawn, replicate, append-nil, take_all, drop-drop, words_of, text_from, text_of, GeneratedHoldsItsCode}
 use Rattle.v8_decode.specs.declared.Instr.TheVariants as i
 use Rattle.v8_decode.specs.Ranges.{is_in_range}
 use Rattle.v8_encode.specs.Code.{has_word}
@@ -14,8 +12,6 @@ use Rattle.workload.proofs.Headers.{HeaderFacts, header_facts, length-bytes_of}
 use Rattle.workload.proofs.Faults.{loads, text_is_first}
 use Rattle.workload.proofs.Ways.{Stand, AreDrawn}
 use Rattle.eel_base.specs.CodeText.{Words}
-use Rattle.elf32_sparc.specs.Image.{words_of, text_from, text_of}
-use Rattle.workload.specs.Laws.{GeneratedHoldsItsCode}
 use Rattle.workload.proofs.Made.{word_count}
 
 pub are_drawn : (count x : ℕ) → AreDrawn (routines_from count x)

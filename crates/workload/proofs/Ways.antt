@@ -1,17 +1,11 @@
 -- The run of the program, in a memory that has its text: ways of several steps, none of which judges a byte.
-use Rattle.workload.proofs.Common.{◌≡◌, ℕ, zero, suc, ◌+◌, ◌-◌, ◌*◌, ◌%◌, ◌^◌, ◌<◌, ◌≤◌, true, false, inl, inr, List, [], ◌∷◌, ◌++◌, length, Some, None, refl, ap, ◌∙◌, arith, cases_lt, sum_by-cons, flat_map, range_with_len, sum_by, instr_at, judged_in, Codes, Instr, word_of, fetch_of, run, State, Exit, call_of, caller_code, code_of, exit_code, first_word, routine_code, IsTextWord, routine_steps, routine_sum, Routine, w32, le-ltb}
-use Rattle.std.proofs.Common.{nat_eq, pos, negsuc}
+use Rattle.workload.proofs.Common.{◌≡◌, ℕ, zero, suc, ◌+◌, ◌-◌, ◌*◌, ◌%◌, ◌^◌, ◌<◌, ◌≤◌, true, false, inl, inr, List, [], ◌∷◌, ◌++◌, length, Some, None, refl, ap, ◌∙◌, arith, cases_lt, sum_by-cons, flat_map, range_with_len, sum_by, instr_at, judged_in, Codes, Instr, word_of, fetch_of, run, State, Exit, call_of, caller_code, code_of, exit_code, first_word, routine_code, IsTextWord, routine_steps, routine_sum, Routine, w32, le-ltb, nat_eq, pos, negsuc, Memory, act, alu_step, move, nop, cast_unsigned, eq-eqb, lt-leb, ne_eqb, register_of, zeros, live_step}
 use Rattle.v8_decode.specs.declared.Op2.TheVariants.{Imm}
-use Rattle.v8_memory.specs.Regions.{Memory}
 use Rattle.v8_step.proofs.RunsOn.{run_add}
 use Rattle.v8_step.specs.Judged.{judged_by}
-use Rattle.v8_step.specs.Step.{act, alu_step}
 use Rattle.v8_step.specs.Transfers.{ended, branch_step, call_step, jump_step}
 use Rattle.v8_step.specs.declared.Slot.TheVariants.{NoSlot, Taken, Untaken}
-use Rattle.workload.specs.Generated.{move, nop}
-use Rattle.std.specs.Int.{cast_unsigned}
 use Rattle.std.specs.Int.Bits.{or_zero_l}
-use Rattle.std.proofs.lemmas.Bool.{eq-eqb, lt-leb, ne_eqb}
 use Rattle.v8_decode.specs.declared.Instr.TheVariants as i
 use Rattle.v8_decode.specs.declared.AluOp.TheVariants as ops
 use Rattle.v8_decode.specs.Words.{decode_of}
@@ -19,10 +13,7 @@ use Rattle.v8_alu.specs.Numbers.{wrapped}
 use Rattle.v8_alu.specs.Alu.{alu_of, out}
 use Rattle.v8_alu.specs.Conditions.{holds_of}
 use Rattle.v8_step.specs.declared.Slot.{Slot}
-use Rattle.v8_step.specs.State.{register_of}
 use Rattle.v8_step.specs.Calls.{system_call, trap_step}
-use Rattle.v8_step.specs.Run.{zeros}
-use Rattle.v8_step.proofs.Live.{live_step}
 use Rattle.workload.proofs.Made.{length-caller}
 
 -- the codes where a loop has so many turns left

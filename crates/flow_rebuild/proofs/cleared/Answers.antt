@@ -1,7 +1,4 @@
-use Rattle.std.proofs.Common.{rules, ◌<◌, ◌^◌, length, arith, get_or}
-use Rattle.std.specs.Prelude.{ℤ, pos, nat_abs}
-use Rattle.std.proofs.lemmas.List.Elements.{All-set}
-use Rattle.flow_tree.specs.declared.Join.{Join}
+use Rattle.flow_rebuild.proofs.Common.{rules, ◌<◌, ◌^◌, length, arith, get_or, ℤ, pos, nat_abs, All-set, Join}
 use Rattle.flow_rebuild.proofs.Sums.{abs_set, cleared_more, cleared_on}
 use Rattle.flow_rebuild.proofs.cleared.Goals as goal
 

@@ -1,9 +1,4 @@
-use Rattle.std.proofs.Common.{◌≡◌, ◌≤◌, ◌<◌, ◌^◌, ℕ, length, take, true, false}
-use Rattle.std.specs.Prelude.{pos, nat_abs}
-use Rattle.std.specs.List.{All}
-use Rattle.flows.specs.Trees.{on}
-use Rattle.flow_rebuild.specs.Values.{int_at, abs_sum}
-use Rattle.flow_tree.specs.Tree.{edges_in}
+use Rattle.flow_rebuild.proofs.Common.{◌≡◌, ◌≤◌, ◌<◌, ◌^◌, ℕ, length, take, true, false, pos, nat_abs, All, on, int_at, abs_sum, edges_in}
 use Rattle.flow_rebuild.proofs.cleared.Given as goal
 
 abbrev pub invariant-loop-join : goal.invariant-loop-join

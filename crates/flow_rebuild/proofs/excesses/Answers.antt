@@ -1,10 +1,5 @@
-use Rattle.std.proofs.Common.{rules, ◌≡◌, ◌+◌, ◌<◌, length, arith, ap}
-use Rattle.std.specs.Prelude.{nat_abs}
-use Rattle.std.specs.Int.{w128}
+use Rattle.flow_rebuild.proofs.Common.{rules, ◌≡◌, ◌+◌, ◌<◌, length, arith, ap, nat_abs, w128, link_at, int_at, passed}
 use mir.Val.{to_z, of_z}
-use Rattle.flows.specs.Links.{link_at}
-use Rattle.flow_rebuild.specs.Values.{int_at}
-use Rattle.flow_rebuild.specs.Private.{passed}
 use Rattle.flow_rebuild.proofs.Sums.{passed_excess, abs_passed, abs_take_more, abs_take, small_at, back_small}
 use Rattle.flow_rebuild.proofs.excesses.Goals as goal
 

@@ -1,7 +1,4 @@
-use Rattle.std.proofs.Common.{◌≡◌, ◌≤◌, ◌<◌, ◌+◌, ◌*◌, ℕ, length, take}
-use Rattle.flows.specs.Links.{graph_of}
-use Rattle.flow_rebuild.specs.Excess.{excess_below}
-use Rattle.flow_rebuild.specs.Values.{int_at, abs_sum}
+use Rattle.flow_rebuild.proofs.Common.{◌≡◌, ◌≤◌, ◌<◌, ◌+◌, ◌*◌, ℕ, length, take, graph_of, excess_below, int_at, abs_sum}
 use Rattle.flow_rebuild.proofs.excesses.Given as goal
 
 abbrev pub invariant-loop-e : goal.invariant-loop-e

@@ -1,18 +1,6 @@
-use Rattle.std.proofs.Common.{rules, ◌≡◌, ◌≤◌, ◌+◌, ◌*◌, List, length, arith, ap, ◌∙◌}
-use Rattle.std.specs.Prelude.{ℤ, pos, nat_abs}
-use Rattle.std.proofs.lemmas.List.{get_or-set_other}
-use Rattle.std.proofs.lemmas.List.Elements.{All-from_get_or, All-set}
-use Rattle.std.specs.Slice.Iter.{iter_rest}
-use Rattle.flows.specs.Links.{graph_of, link_at}
-use Rattle.flows.specs.Trees.{on}
-use Rattle.flows.proofs.Bools.{true_or_false}
-use Rattle.flow_rebuild.specs.Excess.{excess}
-use Rattle.flow_rebuild.specs.Values.{abs_sum, int_at}
-use Rattle.flow_rebuild.specs.Private.{carries}
-use Rattle.flow_tree.specs.Tree.{edges_of}
+use Rattle.flow_rebuild.proofs.Common.{rules, ◌≡◌, ◌≤◌, ◌+◌, ◌*◌, List, length, arith, ap, ◌∙◌, ℤ, pos, nat_abs, get_or-set_other, All-from_get_or, All-set, iter_rest, graph_of, link_at, on, true_or_false, excess, abs_sum, int_at, carries, edges_of, linked_nodes}
 use Rattle.flow_rebuild.proofs.Peel.{peel_step, on_longer, the_flow, none_left, on_last, node_inside, reached_below, edge_inside, start_peeled, peel_small}
 use Rattle.flow_rebuild.proofs.Sums.{abs_bound, abs_carries, small_at}
-use Rattle.flow_tree.proofs.Check.{linked_nodes}
 use Rattle.flow_rebuild.proofs.rebuild.Goals as goal
 
 pub cleared-requires-clause-joins : goal.cleared-requires-clause-joins

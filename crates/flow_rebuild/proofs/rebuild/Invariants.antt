@@ -1,10 +1,4 @@
-use Rattle.std.proofs.Common.{◌≡◌, ◌≤◌, ◌+◌, ◌*◌, ℕ, true, false, length}
-use Rattle.std.specs.Prelude.{nat_abs}
-use Rattle.std.specs.List.{All}
-use Rattle.std.specs.Slice.Iter.{iter_rest}
-use Rattle.flows.specs.Trees.{on}
-use Rattle.flow_rebuild.specs.Values.{abs_sum, int_at}
-use Rattle.flow_tree.specs.Tree.{edges_in, edges_of}
+use Rattle.flow_rebuild.proofs.Common.{◌≡◌, ◌≤◌, ◌+◌, ◌*◌, ℕ, true, false, length, nat_abs, All, iter_rest, on, abs_sum, int_at, edges_in, edges_of}
 use Rattle.flow_rebuild.proofs.Peel.{IsPeeled}
 use Rattle.flow_rebuild.proofs.rebuild.Given as goal
 

@@ -1,8 +1,4 @@
-use Rattle.std.proofs.Common.{◌≡◌, ℕ, Bool, true, false, Some, None, refl, sym, ap, ◌∙◌}
-use Rattle.std.specs.Prelude.{if◌then◌else◌, ◌↔◌, IsSome, IfSome, IsTrue}
-use Rattle.std.proofs.lemmas.Bool.{cond_both}
-use Rattle.v8_encode.specs.Code.{cleared, encode_of, has_word, ignored_of}
-use Rattle.v8_encode.specs.Encoding.{is_instruction, word_of}
+use Rattle.v8_encode.proofs.Common.{◌≡◌, ℕ, Bool, true, false, Some, None, refl, sym, ap, ◌∙◌, if◌then◌else◌, ◌↔◌, IsSome, IfSome, IsTrue, cond_both, cleared, encode_of, has_word, ignored_of, is_instruction, word_of}
 use Rattle.v8_encode.proofs.Decoded.{decode_of-word_of}
 use Rattle.v8_encode.proofs.Encoded.{encode_of-decode_of}
 use Rattle.v8_encode.proofs.Ignored.{cleared-word_of}

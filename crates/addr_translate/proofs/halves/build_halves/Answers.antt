@@ -1,5 +1,4 @@
-use Rattle.std.proofs.Common.{List, ℕ, sym, subst}
-use Rattle.addr_translate.specs.Halves.{IsHalvesOf}
+use Rattle.addr_translate.proofs.Common.{List, ℕ, sym, subst, IsHalvesOf}
 use Rattle.addr_translate.proofs.HalfTables.{halves_find}
 use Rattle.addr_translate.proofs.halves.build_halves.Goals as goal
 

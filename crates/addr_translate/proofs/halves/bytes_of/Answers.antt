@@ -1,8 +1,4 @@
-use Rattle.std.proofs.Common.{◌≡◌, ◌/◌, ℕ, map, ap, ◌∙◌, arith}
-use Rattle.std.specs.Int.{w32, to_be_bytes}
-use Rattle.std.specs.List.{flat_map, range_with_len}
-use Rattle.addr_translate.specs.HalfEntries.{half_entry, half_bytes, half_words}
-use Rattle.addr_translate.specs.Halves.{halves_size}
+use Rattle.addr_translate.proofs.Common.{◌≡◌, ◌/◌, ℕ, map, ap, ◌∙◌, arith, w32, to_be_bytes, flat_map, range_with_len, half_entry, half_bytes, half_words, halves_size}
 use Rattle.addr_translate.proofs.Tables.{more_entries, more_fit}
 use Rattle.addr_translate.proofs.halves.bytes_of.Goals as goal
 

@@ -1,6 +1,4 @@
-use Rattle.std.proofs.Common.{ℕ, List, sym, subst}
-use Rattle.addr_translate.specs.Lookup.{IsTable}
-use Rattle.addr_translate.specs.Table.{IsTableOf}
+use Rattle.addr_translate.proofs.Common.{ℕ, List, sym, subst, IsTable, IsTableOf}
 use Rattle.addr_translate.proofs.Tables.{tables_find}
 use Rattle.addr_translate.proofs.table.build.Goals as goal
 

@@ -1,8 +1,4 @@
-use Rattle.std.proofs.Common.{◌≡◌, ◌*◌, ℕ, map, ap, ◌∙◌, arith}
-use Rattle.std.specs.Int.{w32, to_be_bytes}
-use Rattle.std.specs.List.{flat_map, range_with_len}
-use Rattle.addr_translate.specs.Entries.{entry, table_bytes, table_words}
-use Rattle.addr_translate.specs.Table.{blocks}
+use Rattle.addr_translate.proofs.Common.{◌≡◌, ◌*◌, ℕ, map, ap, ◌∙◌, arith, w32, to_be_bytes, flat_map, range_with_len, entry, table_bytes, table_words, blocks}
 use Rattle.addr_translate.proofs.Tables.{more_entries, more_fit}
 use Rattle.addr_translate.proofs.table.bytes_of.Goals as goal
 

@@ -1,7 +1,4 @@
-use Rattle.std.proofs.Common.{◌≡◌, ◌<◌, ◌^◌, ℕ, map}
-use Rattle.std.specs.Int.{w32, to_be_bytes}
-use Rattle.std.specs.List.{flat_map, range_with_len}
-use Rattle.addr_translate.specs.Entries.{entry}
+use Rattle.addr_translate.proofs.Common.{◌≡◌, ◌<◌, ◌^◌, ℕ, map, w32, to_be_bytes, flat_map, range_with_len, entry}
 use Rattle.addr_translate.proofs.table.bytes_of.Given as goal
 
 abbrev pub invariant-loop-n : goal.invariant-loop-n

@@ -1,6 +1,4 @@
-use Rattle.std.proofs.Common.{◌≡◌, length, map}
-use Rattle.cfg_blocks.specs.Ends.{end_at}
-use Rattle.cfg_blocks.specs.Blocks.{below}
+use Rattle.cfg_blocks.proofs.Common.{◌≡◌, length, map, end_at, below}
 use Rattle.cfg_blocks.proofs.ends.word_ends.Given as goal
 
 abbrev pub invariant-loop-word : goal.invariant-loop-word

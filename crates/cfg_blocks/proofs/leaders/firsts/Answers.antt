@@ -1,6 +1,4 @@
-use Rattle.std.proofs.Common.{◌≡◌, true, length, ◌∙◌, refl, rules, arith}
-use Rattle.std.specs.Prelude.{slice_set}
-use Rattle.std.proofs.Math.Seq.{take-append_seam}
+use Rattle.cfg_blocks.proofs.Common.{◌≡◌, true, length, ◌∙◌, refl, rules, arith, slice_set, take-append_seam}
 use Rattle.cfg_blocks.proofs.Below.{filter_below_same, filter_below_firsts}
 use Rattle.cfg_blocks.proofs.Marks.{leads_marked}
 use Rattle.cfg_blocks.proofs.leaders.firsts.Goals as goal

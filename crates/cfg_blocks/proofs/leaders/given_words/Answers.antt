@@ -1,6 +1,4 @@
-use Rattle.std.proofs.Common.{rules, ◌≡◌, ◌∙◌, arith, false, length, refl}
-use Rattle.std.proofs.Math.Seq.{take-append_seam}
-use Rattle.std.proofs.lemmas.List.{get_or-replicate}
+use Rattle.cfg_blocks.proofs.Common.{rules, ◌≡◌, ◌∙◌, arith, false, length, refl, take-append_seam, get_or-replicate}
 use Rattle.cfg_blocks.proofs.leaders.given_words.Goals as goal
 
 pub mark_words-requires : goal.mark_words-requires

@@ -1,6 +1,4 @@
-use Rattle.std.proofs.Common.{[], ◌∷◌, ◌++◌, sym, ap, ◌∙◌}
-use Rattle.std.proofs.lemmas.List.{append-nil}
-use Rattle.cfg_blocks.specs.Private.{leads_by}
+use Rattle.cfg_blocks.proofs.Common.{[], ◌∷◌, ◌++◌, sym, ap, ◌∙◌, append-nil, leads_by}
 use Rattle.cfg_blocks.proofs.Below.{filter_below_more}
 use Rattle.cfg_blocks.proofs.leaders.leading.Goals.{then-leads+in_ok-push, else-leads}
 use Rattle.cfg_blocks.proofs.leaders.leading.Goals as goal

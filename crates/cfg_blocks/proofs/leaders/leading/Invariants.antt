@@ -1,7 +1,4 @@
-use Rattle.std.proofs.Common.{◌≡◌}
-use Rattle.std.specs.List.{filter}
-use Rattle.cfg_blocks.specs.Blocks.{below}
-use Rattle.cfg_blocks.specs.Private.{leads_by}
+use Rattle.cfg_blocks.proofs.Common.{◌≡◌, filter, below, leads_by}
 use Rattle.cfg_blocks.proofs.leaders.leading.Given as goal
 
 abbrev pub invariant-loop-word : goal.invariant-loop-word

@@ -1,8 +1,4 @@
-use Rattle.std.proofs.Common.{ap, arith, ◌||◌, ◌∙◌}
-use Rattle.std.proofs.lemmas.List.{get_or_default}
-use Rattle.cfg_blocks.specs.Blocks.{is_it}
-use Rattle.cfg_blocks.specs.Ends.{target_in}
-use Rattle.cfg_blocks.specs.Private.{end_in, marked}
+use Rattle.cfg_blocks.proofs.Common.{ap, arith, ◌||◌, ◌∙◌, get_or_default, is_it, target_in, end_in, marked}
 use Rattle.cfg_blocks.proofs.Entering.{target_step}
 use Rattle.cfg_blocks.proofs.leaders.mark_targets.Goals as goal
 

@@ -1,6 +1,4 @@
-use Rattle.std.proofs.Common.{◌≡◌, ℕ, ◌<◌, ◌||◌, length}
-use Rattle.cfg_blocks.specs.Blocks.{is_target}
-use Rattle.cfg_blocks.specs.Private.{end_in, marked}
+use Rattle.cfg_blocks.proofs.Common.{◌≡◌, ℕ, ◌<◌, ◌||◌, length, is_target, end_in, marked}
 use Rattle.cfg_blocks.proofs.leaders.mark_targets.Given as goal
 
 abbrev pub invariant-loop-end : goal.invariant-loop-end

@@ -1,5 +1,4 @@
-use Rattle.std.proofs.Common.{◌≡◌, ℕ, ◌<◌, ◌||◌, length, take}
-use Rattle.cfg_blocks.specs.Private.{marked, is_in}
+use Rattle.cfg_blocks.proofs.Common.{◌≡◌, ℕ, ◌<◌, ◌||◌, length, take, marked, is_in}
 use Rattle.cfg_blocks.proofs.leaders.mark_words.Given as goal
 
 abbrev pub invariant-loop-word : goal.invariant-loop-word

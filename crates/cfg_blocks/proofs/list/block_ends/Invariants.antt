@@ -1,6 +1,4 @@
-use Rattle.std.proofs.Common.{◌≡◌, length, map}
-use Rattle.cfg_blocks.specs.Blocks.{below}
-use Rattle.cfg_blocks.specs.Private.{block_end_in}
+use Rattle.cfg_blocks.proofs.Common.{◌≡◌, length, map, below, block_end_in}
 use Rattle.cfg_blocks.proofs.list.block_ends.Given as goal
 
 abbrev pub invariant-loop-block : goal.invariant-loop-block

@@ -1,5 +1,4 @@
-use Rattle.std.proofs.Common.{◌++◌, ◌∙◌, arith}
-use Rattle.cfg_blocks.specs.Marks.{numbers}
+use Rattle.cfg_blocks.proofs.Common.{◌++◌, ◌∙◌, arith, numbers}
 use Rattle.cfg_blocks.proofs.Agreement.{entered_alike, given_by}
 use Rattle.cfg_blocks.proofs.list.blocks.Goals as goal
 

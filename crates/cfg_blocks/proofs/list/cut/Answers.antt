@@ -1,5 +1,4 @@
-use Rattle.std.proofs.Common.{length, ap, sym, ◌∙◌, rules}
-use Rattle.std.proofs.lemmas.List.{length-map}
+use Rattle.cfg_blocks.proofs.Common.{length, ap, sym, ◌∙◌, rules, length-map}
 use Rattle.cfg_blocks.proofs.Agreement.{cut_is}
 use Rattle.cfg_blocks.proofs.Below.{length-below}
 use Rattle.cfg_blocks.proofs.Targets.{targets_within}

@@ -1,6 +1,4 @@
-use Rattle.std.proofs.Common.{add-one, append_assoc}
-use Rattle.std.proofs.lemmas.List.{append-nil, map-append}
-use Rattle.std.proofs.lemmas.List.Concat.{flat_map-append}
+use Rattle.cfg_normal.proofs.Common.{add-one, append_assoc, append-nil, map-append, flat_map-append}
 use Rattle.cfg_normal.proofs.edges.land_at_all.Goals as goal
 
 pub loop-block-preserved : goal.loop-block-preserved

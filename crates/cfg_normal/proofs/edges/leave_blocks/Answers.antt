@@ -1,7 +1,4 @@
-use Rattle.std.proofs.Common.{◌++◌, add-one, ap, ◌∙◌}
-use Rattle.std.proofs.lemmas.List.{flat_map_more}
-use Rattle.cfg_blocks.specs.Blocks.{below}
-use Rattle.cfg_normal.specs.Graph.{edges_of}
+use Rattle.cfg_normal.proofs.Common.{◌++◌, add-one, ap, ◌∙◌, flat_map_more, below, edges_of}
 use Rattle.cfg_normal.proofs.edges.leave_blocks.Goals as goal
 
 pub loop-block-preserved : goal.loop-block-preserved

@@ -1,7 +1,4 @@
-use Rattle.std.proofs.Common.{◌≡◌, ℕ, ◌≤◌, ◌++◌, slice_index}
-use Rattle.std.specs.List.{flat_map}
-use Rattle.cfg_blocks.specs.Blocks.{below}
-use Rattle.cfg_normal.specs.Graph.{edges_of}
+use Rattle.cfg_normal.proofs.Common.{◌≡◌, ℕ, ◌≤◌, ◌++◌, slice_index, flat_map, below, edges_of}
 use Rattle.cfg_normal.proofs.edges.leave_blocks.Given as goal
 
 abbrev pub invariant-loop-block : goal.invariant-loop-block

@@ -1,6 +1,4 @@
-use Rattle.std.proofs.Common.{◌≡◌, ◌+◌, ◌++◌, length, map, take}
-use Rattle.cfg_normal.specs.Graph.{case_of}
-use Rattle.cfg_normal.specs.Private.{landed_once}
+use Rattle.cfg_normal.proofs.Common.{◌≡◌, ◌+◌, ◌++◌, length, map, take, case_of, landed_once}
 use Rattle.cfg_normal.proofs.Cases.{AreMarked}
 use Rattle.cfg_normal.proofs.edges.leave_by_cases.Given as goal
 

@@ -1,7 +1,4 @@
-use Rattle.std.proofs.Common.{true, false, ◌++◌, ap, sym, ◌∙◌}
-use Rattle.std.proofs.lemmas.List.{append-nil}
-use Rattle.cfg_normal.specs.Graph.{copied_edges}
-use Rattle.cfg_normal.specs.Opens.{is_copied}
+use Rattle.cfg_normal.proofs.Common.{true, false, ◌++◌, ap, sym, ◌∙◌, append-nil, copied_edges, is_copied}
 use Rattle.cfg_normal.proofs.Cases.{copies_more}
 use Rattle.cfg_normal.proofs.edges.leave_copies.Goals.{then-is_copied+in_ok-leave_by_ways, else-is_copied}
 use Rattle.cfg_normal.proofs.edges.leave_copies.Goals as goal

@@ -1,8 +1,4 @@
-use Rattle.std.proofs.Common.{◌≡◌, ◌++◌}
-use Rattle.std.specs.List.{filter, flat_map}
-use Rattle.cfg_blocks.specs.Blocks.{below}
-use Rattle.cfg_normal.specs.Graph.{copied_edges}
-use Rattle.cfg_normal.specs.Opens.{is_copied}
+use Rattle.cfg_normal.proofs.Common.{◌≡◌, ◌++◌, filter, flat_map, below, copied_edges, is_copied}
 use Rattle.cfg_normal.proofs.edges.leave_copies.Given as goal
 
 abbrev pub invariant-loop-block : goal.invariant-loop-block

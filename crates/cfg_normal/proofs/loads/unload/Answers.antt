@@ -1,7 +1,5 @@
-use Rattle.std.proofs.Common.{arith}
-use Rattle.std.proofs.lemmas.Grind.{common_steps}
+use Rattle.cfg_normal.proofs.Common.{arith, common_steps, unloaded}
 use Rattle.std.proofs.lemmas.List.Edits.{map_over_more}
-use Rattle.cfg_normal.specs.Opens.{unloaded}
 use Rattle.cfg_normal.proofs.loads.unload.Goals as goal
 
 pub loop-value-preserved : goal.loop-value-preserved

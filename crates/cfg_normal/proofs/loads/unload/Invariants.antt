@@ -1,5 +1,4 @@
-use Rattle.std.proofs.Common.{◌≡◌, ◌++◌, drop, map, take}
-use Rattle.cfg_normal.specs.Opens.{unloaded}
+use Rattle.cfg_normal.proofs.Common.{◌≡◌, ◌++◌, drop, map, take, unloaded}
 use Rattle.cfg_normal.proofs.loads.unload.Given as goal
 
 abbrev pub invariant-loop-value : goal.invariant-loop-value

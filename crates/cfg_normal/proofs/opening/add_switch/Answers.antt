@@ -1,6 +1,4 @@
-use Rattle.std.proofs.Common.{rules, ◌++◌, ◌∙◌, ap, refl, sym}
-use Rattle.std.specs.Option.{option_to_list}
-use Rattle.std.proofs.lemmas.List.{append-nil}
+use Rattle.cfg_normal.proofs.Common.{rules, ◌++◌, ◌∙◌, ap, refl, sym, option_to_list, append-nil}
 use Rattle.cfg_normal.proofs.opening.add_switch.Goals as goal
 
 pub returns-in_ok-push-clause-tabled : goal.returns-in_ok-push-clause-tabled

@@ -1,5 +1,4 @@
-use Rattle.std.proofs.Common.{sym, ap, ◌∙◌}
-use Rattle.cfg_normal.specs.Private.{is_jump_block}
+use Rattle.cfg_normal.proofs.Common.{sym, ap, ◌∙◌, is_jump_block}
 use Rattle.cfg_normal.proofs.LandingFacts.{closed_jumps, closed_meets}
 use Rattle.cfg_normal.proofs.opening.is_closed.Goals as goal
 

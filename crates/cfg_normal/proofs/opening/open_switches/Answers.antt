@@ -1,6 +1,5 @@
-use Rattle.std.proofs.Common.{◌≡◌, ◌∙◌, suc, add-one, ap, drop, drop-cons, length, sym, arith}
+use Rattle.cfg_normal.proofs.Common.{◌≡◌, ◌∙◌, suc, add-one, ap, drop, drop-cons, length, sym, arith, opened}
 use Rattle.std.proofs.Math.Seq.{take-append_seam}
-use Rattle.cfg_normal.specs.Opens.{opened}
 use Rattle.cfg_normal.proofs.opening.open_switches.Goals as goal
 
 pub loop-switch-preserved : goal.loop-switch-preserved

@@ -1,7 +1,4 @@
-use Rattle.std.proofs.Common.{◌≡◌, [], drop, length}
-use Rattle.cfg_normal.specs.Landings.{AreLandings}
-use Rattle.cfg_normal.specs.Private.{AreTabled}
-use Rattle.cfg_normal.specs.Opens.{opened}
+use Rattle.cfg_normal.proofs.Common.{◌≡◌, [], drop, length, AreLandings, AreTabled, opened}
 use Rattle.cfg_normal.proofs.opening.open_switches.Given as goal
 
 abbrev pub invariant-loop-switch : goal.invariant-loop-switch

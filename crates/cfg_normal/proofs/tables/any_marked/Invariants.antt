@@ -1,7 +1,4 @@
-use Rattle.std.proofs.Common.{◌≡◌}
-use Rattle.std.specs.List.{list_any}
-use Rattle.cfg_blocks.specs.Private.{marked}
-use Rattle.cfg_normal.specs.Opens.{words_from}
+use Rattle.cfg_normal.proofs.Common.{◌≡◌, list_any, marked, words_from}
 use Rattle.cfg_normal.proofs.tables.any_marked.Given as goal
 
 abbrev pub invariant-loop-n : goal.invariant-loop-n

@@ -1,8 +1,4 @@
-use Rattle.std.proofs.Common.{◌≡◌, ℕ, ◌<◌, ◌||◌, length}
-use Rattle.std.specs.Prelude.{◌==◌}
-use Rattle.std.specs.List.{list_any}
-use Rattle.cfg_blocks.specs.Private.{marked}
-use Rattle.cfg_normal.specs.Opens.{words_from}
+use Rattle.cfg_normal.proofs.Common.{◌≡◌, ℕ, ◌<◌, ◌||◌, length, ◌==◌, list_any, marked, words_from}
 use Rattle.cfg_normal.proofs.tables.mark_table.Given as goal
 
 abbrev pub invariant-loop-n : goal.invariant-loop-n

@@ -1,6 +1,4 @@
-use Rattle.std.proofs.Common.{◌≡◌, map}
-use Rattle.std.specs.List.{flat_map}
-use Rattle.cfg_normal.specs.Opens.{words_from}
+use Rattle.cfg_normal.proofs.Common.{◌≡◌, map, flat_map, words_from}
 use Rattle.cfg_normal.proofs.TableWords.{entry_in}
 use Rattle.cfg_normal.proofs.tables.targets_from.Given as goal
 

@@ -1,12 +1,5 @@
-use Rattle.std.proofs.Common.{sym, ◌<◌, Bool, ◌||◌, None, List, get_or, length, refl, ap, ◌∙◌, arith}
-use Rattle.std.specs.Prelude.{◌==◌}
-use Rattle.std.specs.List.{list_any}
-use Rattle.std.proofs.lemmas.List.{take_all}
-use Rattle.std.proofs.Math.Bool.{or-false, or_assoc}
-use Rattle.flows.specs.Links.{marked}
-use Rattle.notes.specs.Code.{edge_seen}
+use Rattle.count_rebuild.proofs.Common.{sym, ◌<◌, Bool, ◌||◌, None, List, get_or, length, refl, ap, ◌∙◌, arith, ◌==◌, list_any, take_all, or-false, or_assoc, marked, edge_seen, ends_at}
 use Rattle.notes.specs.declared.note.NoteEdge as declared_edge
-use Rattle.count_rebuild.specs.Noted.{ends_at}
 use Rattle.count_rebuild.proofs.NodeMarks.{any_more}
 use Rattle.count_rebuild.proofs.nodes.mark_edges.Goals as goal
 

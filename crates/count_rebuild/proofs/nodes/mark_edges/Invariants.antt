@@ -1,8 +1,4 @@
-use Rattle.std.proofs.Common.{◌≡◌, ℕ, ◌<◌, ◌||◌, length, take}
-use Rattle.std.specs.List.{list_any}
-use Rattle.flows.specs.Links.{marked}
-use Rattle.notes.specs.Code.{edge_seen}
-use Rattle.count_rebuild.specs.Noted.{ends_at}
+use Rattle.count_rebuild.proofs.Common.{◌≡◌, ℕ, ◌<◌, ◌||◌, length, take, list_any, marked, edge_seen, ends_at}
 use Rattle.count_rebuild.proofs.nodes.mark_edges.Given as goal
 
 abbrev pub invariant-loop-edge : goal.invariant-loop-edge

@@ -1,12 +1,5 @@
-use Rattle.std.proofs.Common.{sym, ◌<◌, Bool, ◌||◌, List, get_or, length, refl, ap, ◌∙◌, arith}
-use Rattle.std.specs.Prelude.{◌==◌}
-use Rattle.std.specs.List.{list_any}
-use Rattle.std.proofs.lemmas.List.{take_all}
-use Rattle.std.proofs.Math.Bool.{or-false}
+use Rattle.count_rebuild.proofs.Common.{sym, ◌<◌, Bool, ◌||◌, List, get_or, length, refl, ap, ◌∙◌, arith, ◌==◌, list_any, take_all, or-false, marked, range_seen, lies_at}
 use Rattle.eel_base.specs.declared.range.Range as declared_range
-use Rattle.flows.specs.Links.{marked}
-use Rattle.notes.specs.Code.{range_seen}
-use Rattle.count_rebuild.specs.Noted.{lies_at}
 use Rattle.count_rebuild.proofs.NodeMarks.{any_more}
 use Rattle.count_rebuild.proofs.nodes.mark_ranges.Goals as goal
 

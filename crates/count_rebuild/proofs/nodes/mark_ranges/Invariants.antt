@@ -1,8 +1,4 @@
-use Rattle.std.proofs.Common.{◌≡◌, ℕ, ◌<◌, ◌||◌, length, take}
-use Rattle.std.specs.List.{list_any}
-use Rattle.flows.specs.Links.{marked}
-use Rattle.notes.specs.Code.{range_seen}
-use Rattle.count_rebuild.specs.Noted.{lies_at}
+use Rattle.count_rebuild.proofs.Common.{◌≡◌, ℕ, ◌<◌, ◌||◌, length, take, list_any, marked, range_seen, lies_at}
 use Rattle.count_rebuild.proofs.nodes.mark_ranges.Given as goal
 
 abbrev pub invariant-loop-range : goal.invariant-loop-range

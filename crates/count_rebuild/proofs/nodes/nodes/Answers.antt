@@ -1,11 +1,6 @@
-use Rattle.std.proofs.Common.{◌≡◌, ℕ, ◌+◌, ◌*◌, ◌<◌, ◌||◌, ◌∙◌, Bool, List, ◌++◌, nat_le, length, map, take, drop, subst, sym, ap, rules}
-use Rattle.std.specs.List.{list_any, range_with_len}
+use Rattle.count_rebuild.proofs.Common.{◌≡◌, ℕ, ◌+◌, ◌*◌, ◌<◌, ◌||◌, ◌∙◌, Bool, List, ◌++◌, nat_le, length, map, take, drop, subst, sym, ap, rules, list_any, range_with_len, marked, edge_seen, notes_seen, range_seen, AreNodes, ends_at, lies_at}
 use Rattle.eel_base.specs.declared.range.Range as declared_range
-use Rattle.flows.specs.Links.{marked}
-use Rattle.notes.specs.Code.{edge_seen, notes_seen, range_seen}
 use Rattle.notes.specs.declared.note.NoteEdge as declared_edge
-use Rattle.count_rebuild.specs.Private.{AreNodes}
-use Rattle.count_rebuild.specs.Noted.{ends_at, lies_at}
 use Rattle.count_rebuild.proofs.NodeMarks.{nodes_are, written}
 use Rattle.count_rebuild.proofs.nodes.nodes.Goals as goal
 

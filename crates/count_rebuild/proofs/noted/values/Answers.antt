@@ -1,9 +1,4 @@
-use Rattle.std.proofs.Common.{◌≡◌, ◌<◌, ◌^◌, arith, map, subst, sym}
-use Rattle.std.specs.Prelude.{nat_abs}
-use Rattle.std.specs.List.{All}
-use Rattle.std.proofs.lemmas.Result.{IfOk-weaker}
-use Rattle.notes.specs.Code.{edge_seen}
-use Rattle.count_rebuild.specs.Counts.{cell_value}
+use Rattle.count_rebuild.proofs.Common.{◌≡◌, ◌<◌, ◌^◌, arith, map, subst, sym, nat_abs, All, IfOk-weaker, edge_seen, cell_value}
 use Rattle.count_rebuild.proofs.Values.{small_values}
 use Rattle.count_rebuild.proofs.noted.values.Goals as goal
 

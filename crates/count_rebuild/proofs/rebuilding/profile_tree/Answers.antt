@@ -1,15 +1,4 @@
-use Rattle.std.proofs.Common.{rules, ◌≡◌, ℕ, ◌<◌, ◌∙◌, Option, ap, arith, sym, length, map, subst}
-use Rattle.std.specs.Prelude.{IfSome}
-use Rattle.std.proofs.lemmas.List.{length-map}
-use Rattle.flows.specs.Flows.{rest}
-use Rattle.flows.specs.Links.{graph_of, marked}
-use Rattle.flows.specs.Trees.{on}
-use Rattle.flow_tree.specs.Tree.{IsGrown, edges_of}
-use Rattle.flow_tree.specs.declared.Tree.{Tree}
-use Rattle.std.specs.Option.{is_some}
-use Rattle.std.proofs.lemmas.Bool.{false≢true}
-use Rattle.notes.specs.Code.{edge_seen, notes_seen}
-use Rattle.count_rebuild.specs.Private.{AreNodes, is_counted}
+use Rattle.count_rebuild.proofs.Common.{rules, ◌≡◌, ℕ, ◌<◌, ◌∙◌, Option, ap, arith, sym, length, map, subst, IfSome, length-map, rest, graph_of, marked, on, IsGrown, edges_of, Tree, is_some, false≢true, edge_seen, notes_seen, AreNodes, is_counted}
 use Rattle.count_rebuild.proofs.Profile.{joins, length_links, rest_at, tree_from, tree_of}
 use Rattle.count_rebuild.proofs.rebuilding.profile_tree.Goals as goal
 

@@ -1,15 +1,5 @@
-use Rattle.std.proofs.Common.{rules, ◌≡◌, ◌∙◌, length, map, ap, subst, sym}
-use Rattle.std.specs.Prelude.{nat_abs}
-use Rattle.std.proofs.lemmas.List.{length-map}
-use Rattle.std.proofs.lemmas.Result.{IfErr-weaker, IfOk-weaker, err_from_is_err_and}
-use Rattle.notes.specs.Code.{edge_seen, notes_seen}
-use Rattle.dump_file.specs.Code.{dump_seen}
-use Rattle.flow_rebuild.specs.Values.{int_at}
+use Rattle.count_rebuild.proofs.Common.{rules, ◌≡◌, ◌∙◌, length, map, ap, subst, sym, nat_abs, length-map, IfErr-weaker, IfOk-weaker, err_from_is_err_and, edge_seen, notes_seen, dump_seen, int_at, IsRefused, IsFlowTo, cell_value, link_of, AreWhole, IsBad}
 use Rattle.count_rebuild.specs.Answers.{AreCounts}
-use Rattle.count_rebuild.specs.Code.{IsRefused}
-use Rattle.count_rebuild.specs.Counts.{IsFlowTo, cell_value}
-use Rattle.count_rebuild.specs.Private.{link_of}
-use Rattle.count_rebuild.specs.Parts.{AreWhole, IsBad}
 use Rattle.count_rebuild.proofs.Profile.{joins, length_links, node_marked}
 use Rattle.count_rebuild.proofs.TheFlow.{flow_to, impossible, stands_inside}
 use Rattle.count_rebuild.proofs.Values.{small_counts, whole_flow}

@@ -1,5 +1,4 @@
-use Rattle.std.proofs.Common.{arith}
-use Rattle.std.proofs.lemmas.Grind.{common_steps}
+use Rattle.count_rebuild.proofs.Common.{arith, common_steps}
 use Rattle.count_rebuild.proofs.rebuilding.small_numbers.Goals as goal
 
 pub loop-edge-preserved : goal.loop-edge-preserved

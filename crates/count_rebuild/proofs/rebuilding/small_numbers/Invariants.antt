@@ -1,7 +1,4 @@
-use Rattle.std.proofs.Common.{◌≡◌, ◌<◌, ℕ, false, map, take}
-use Rattle.std.specs.Prelude.{nat_abs}
-use Rattle.flow_rebuild.specs.Values.{int_at}
-use Rattle.count_rebuild.specs.Counts.{is_large}
+use Rattle.count_rebuild.proofs.Common.{◌≡◌, ◌<◌, ℕ, false, map, take, nat_abs, int_at, is_large}
 use Rattle.count_rebuild.proofs.rebuilding.small_numbers.Given as goal
 
 abbrev pub invariant-loop-edge : goal.invariant-loop-edge

@@ -1,5 +1,4 @@
-use Rattle.edit_core.proofs.Common.{refl, ap, ◌∙◌, arith, Words, dead_on, piece_list, case_numbers, pieces_fit}
-use Rattle.image_code.specs.Labels.{foreign_number}
+use Rattle.edit_core.proofs.Common.{refl, ap, ◌∙◌, arith, Words, dead_on, piece_list, case_numbers, pieces_fit, foreign_number}
 use Rattle.edit_core.proofs.Dead.{rest_is_dead}
 use Rattle.edit_core.proofs.Graphs.{graph_cut}
 use Rattle.edit_core.proofs.Steps.{new_room}

@@ -1,5 +1,4 @@
-use Rattle.edit_core.proofs.Common.{slice_index, ap, ◌∙◌, pieces_fit}
-use Rattle.edit_core.specs.Private.{placement_in}
+use Rattle.edit_core.proofs.Common.{slice_index, ap, ◌∙◌, pieces_fit, placement_in}
 use Rattle.edit_core.proofs.Landings.{cases_few, code_built, landings_count, made_fit, made_inside, made_room, tables_lead}
 use Rattle.edit_core.proofs.building.new_code.Goals as goal
 

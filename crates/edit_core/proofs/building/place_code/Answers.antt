@@ -1,6 +1,4 @@
-use Rattle.edit_core.proofs.Common.{◌≡◌, ◌+◌, length, map, slice_index, refl, ap, ◌∙◌, Addr, PieceNo}
-use Rattle.edit_core.specs.Written.{addr, cells_size, tables_size}
-use Rattle.edit_core.specs.Private.{placement_in}
+use Rattle.edit_core.proofs.Common.{◌≡◌, ◌+◌, length, map, slice_index, refl, ap, ◌∙◌, Addr, PieceNo, addr, cells_size, tables_size, placement_in}
 use Rattle.edit_core.proofs.building.place_code.Goals as goal
 
 pub returns-clause-entry : goal.returns-clause-entry

@@ -1,6 +1,4 @@
-use Rattle.edit_core.proofs.Common.{ℕ, ◌-◌, ◌*◌, length, subst, arith, IsLaid, long_is_enough}
-use Rattle.layout.proofs.Needed.{short_is_enough}
-use Rattle.edit_core.specs.Private.{placement_in}
+use Rattle.edit_core.proofs.Common.{ℕ, ◌-◌, ◌*◌, length, subst, arith, IsLaid, long_is_enough, short_is_enough, placement_in}
 use Rattle.edit_core.proofs.Steps.{never_lacks_room}
 use Rattle.edit_core.proofs.building.place_pieces.Goals as goal
 

@@ -1,5 +1,4 @@
-use Rattle.edit_core.proofs.Common.{◌≡◌, map, slice_index, take}
-use Rattle.edit_core.specs.Written.{addr}
+use Rattle.edit_core.proofs.Common.{◌≡◌, map, slice_index, take, addr}
 use Rattle.edit_core.proofs.building.places_of.Given as goal
 
 abbrev pub invariant-loop-piece : goal.invariant-loop-piece

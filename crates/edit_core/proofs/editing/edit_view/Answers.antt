@@ -1,9 +1,4 @@
-use Rattle.edit_core.proofs.Common.{◌≡◌, refl, ap, ◌∙◌, subst, sym, arith, get_or_default_zero, Program, numbers, pieces_fit, pieces_make_images}
-use Rattle.image_code.proofs.Fit.{places_say}
-use Rattle.edit_core.specs.Code.{IsEdited}
-use Rattle.edit_core.specs.Taken.{bound_of}
-use Rattle.edit_core.specs.Written.{IsTheEdit}
-use Rattle.edit_core.specs.Private.{plan_of}
+use Rattle.edit_core.proofs.Common.{◌≡◌, refl, ap, ◌∙◌, subst, sym, arith, get_or_default_zero, Program, numbers, pieces_fit, pieces_make_images, places_say, IsEdited, bound_of, IsTheEdit, plan_of}
 use Rattle.edit_core.proofs.Views.{can_edit, view_bound, view_can_do, view_is}
 use Rattle.edit_core.proofs.Edits.{edited}
 use Rattle.edit_core.proofs.Outwardly.{does_the_same}

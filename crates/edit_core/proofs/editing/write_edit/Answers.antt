@@ -1,6 +1,4 @@
-use Rattle.edit_core.proofs.Common.{ℕ, ◌+◌, ◌*◌, ◌^◌, ◌≤◌, List, length, refl, ap, ◌∙◌, arith, Words, Graph, Op, Placement, Notes, pieces_fit}
-use Rattle.edit_core.specs.Private.{IsBuilt, placement_in, plan_of}
-use Rattle.edit_core.specs.Written.{TablesMatch, table_after}
+use Rattle.edit_core.proofs.Common.{ℕ, ◌+◌, ◌*◌, ◌^◌, ◌≤◌, List, length, refl, ap, ◌∙◌, arith, Words, Graph, Op, Placement, Notes, pieces_fit, IsBuilt, placement_in, plan_of, TablesMatch, table_after}
 use Rattle.edit_core.proofs.Steps.{code_is, original_fit, segment_is, segments_are, view_entry, view_has_room, view_text, view_words}
 use Rattle.edit_core.proofs.Edits.{notes_meet_rules, can_be_written}
 use Rattle.edit_core.proofs.Noted.{rows_are}

@@ -1,5 +1,4 @@
-use Rattle.edit_core.proofs.Common.{◌++◌, List, inl, inr, map, append-nil, ap, sym, ◌∙◌, edge_seen}
-use Rattle.notes.specs.Format.{NoteEdge}
+use Rattle.edit_core.proofs.Common.{◌++◌, List, inl, inr, map, append-nil, ap, sym, ◌∙◌, edge_seen, NoteEdge}
 use Rattle.edit_core.proofs.Noted.{none_first, none_second}
 use Rattle.edit_core.proofs.noting.note_edges.Goals as goal
 

@@ -1,5 +1,4 @@
-use Rattle.edit_core.proofs.Common.{◌≡◌, ◌++◌, map, edge_seen}
-use Rattle.edit_core.specs.Faithful.{note_edges as note_edges_of}
+use Rattle.edit_core.proofs.Common.{◌≡◌, ◌++◌, map, edge_seen, note_edges_of}
 use Rattle.edit_core.proofs.noting.note_edges.Given as goal
 
 -- those so far, and what is left

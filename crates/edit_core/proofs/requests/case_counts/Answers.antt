@@ -1,6 +1,4 @@
-use Rattle.edit_core.proofs.Common.{◌≡◌, map, ap, ◌∙◌, arith, count_by, WordNo, Open}
-use Rattle.edit_core.specs.Private.{is_entry}
-use Rattle.std.proofs.lemmas.List.Sums.{sum_by_more}
+use Rattle.edit_core.proofs.Common.{◌≡◌, map, ap, ◌∙◌, arith, count_by, WordNo, Open, is_entry, sum_by_more}
 use Rattle.edit_core.proofs.requests.case_counts.Goals as goal
 
 pub loop-found-preserved : goal.loop-found-preserved

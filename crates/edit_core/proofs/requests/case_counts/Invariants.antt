@@ -1,6 +1,4 @@
-use Rattle.edit_core.proofs.Common.{◌≡◌, take, get}
-use Rattle.edit_core.specs.declared.requests.CaseKey.{CaseKey}
-use Rattle.edit_core.specs.Private.{count_of, entries_with, same_key}
+use Rattle.edit_core.proofs.Common.{◌≡◌, take, get, CaseKey, count_of, entries_with, same_key}
 use Rattle.edit_core.proofs.requests.case_counts.Given as goal
 
 -- those of the switches so far

@@ -1,6 +1,4 @@
-use Rattle.edit_core.proofs.Common.{◌≡◌, ◌+◌, map, take, count_by, get, WordNo}
-use Rattle.edit_core.specs.declared.requests.CaseKey.{CaseKey}
-use Rattle.edit_core.specs.Private.{count_of, is_entry, same_key}
+use Rattle.edit_core.proofs.Common.{◌≡◌, ◌+◌, map, take, count_by, get, WordNo, CaseKey, count_of, is_entry, same_key}
 use Rattle.edit_core.proofs.requests.count_entries.Given as goal
 
 -- those of the words so far

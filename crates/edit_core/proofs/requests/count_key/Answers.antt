@@ -1,5 +1,4 @@
-use Rattle.edit_core.proofs.Common.{cond, Some, ap, ◌∙◌, get}
-use Rattle.edit_core.specs.Private.{count_of, same_key}
+use Rattle.edit_core.proofs.Common.{cond, Some, ap, ◌∙◌, get, count_of, same_key}
 use Rattle.edit_core.proofs.Counting.{key_counted}
 use Rattle.edit_core.proofs.requests.count_key.Goals as goal
 

@@ -1,6 +1,4 @@
-use Rattle.edit_core.proofs.Common.{ap, sym, ◌∙◌, arith, count_by, get, Node, node_number, is_at}
-use Rattle.image_code.specs.Copies.{targets_from}
-use Rattle.edit_core.specs.Private.{case_key, count_of, same_key}
+use Rattle.edit_core.proofs.Common.{ap, sym, ◌∙◌, arith, count_by, get, Node, node_number, is_at, targets_from, case_key, count_of, same_key}
 use Rattle.edit_core.proofs.Counting.{led_few, led_is}
 use Rattle.edit_core.proofs.requests.entries_along.Goals as goal
 

@@ -1,5 +1,4 @@
-use Rattle.edit_core.proofs.Common.{◌≡◌, ℕ, ◌+◌, ◌*◌, ◌^◌, ◌≤◌, length}
-use Rattle.edit_core.specs.Taken.{operations_on}
+use Rattle.edit_core.proofs.Common.{◌≡◌, ℕ, ◌+◌, ◌*◌, ◌^◌, ◌≤◌, length, operations_on}
 use Rattle.edit_core.proofs.requests.operations.Given as goal
 
 -- The sum so far and that of what is left are the whole, and each edge adds 2^23 at most.

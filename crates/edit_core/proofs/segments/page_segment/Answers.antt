@@ -1,5 +1,4 @@
-use Rattle.edit_core.proofs.Common.{ℕ, List, ap, AddedSegment}
-use Rattle.edit_core.specs.Faithful.{editor_page, page_size}
+use Rattle.edit_core.proofs.Common.{ℕ, List, ap, AddedSegment, editor_page, page_size}
 use Rattle.edit_core.proofs.segments.page_segment.Goals as goal
 
 abbrev page_of : List ℕ → AddedSegment

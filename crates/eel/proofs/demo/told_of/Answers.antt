@@ -1,5 +1,4 @@
-use Rattle.eel.proofs.Common.{ap, ◌∙◌}
-use Rattle.eel_reports.specs.Answers.Demo.{demo_lines, size_in, size_of}
+use Rattle.eel.proofs.Common.{ap, ◌∙◌, demo_lines, size_in, size_of}
 use Rattle.eel.proofs.demo.told_of.Goals as goal
 
 pub returns-clause-lines : goal.returns-clause-lines

@@ -1,5 +1,4 @@
-use Rattle.eel.proofs.Common.{ap, sym, ◌∙◌, notes_seen, Dump}
-use Rattle.notes.specs.Format.{is_version}
+use Rattle.eel.proofs.Common.{ap, sym, ◌∙◌, notes_seen, Dump, is_version}
 use Rattle.eel.proofs.Cells.{no_length}
 use Rattle.eel.proofs.dumps.dump_bytes.Goals as goal
 

@@ -1,5 +1,4 @@
-use Rattle.eel.proofs.Common.{◌≡◌, words_at}
-use Rattle.std.proofs.Common.{vec_len}
+use Rattle.eel.proofs.Common.{◌≡◌, words_at, vec_len}
 use Rattle.eel.proofs.dumps.read_cells.Given as goal
 
 abbrev pub invariant-loop-cell : goal.invariant-loop-cell

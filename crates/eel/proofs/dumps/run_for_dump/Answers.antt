@@ -1,5 +1,4 @@
-use Rattle.eel.proofs.Common.{inr, refl, notes_seen, stream_seen, refused, ran}
-use Rattle.eel_said.specs.Seen.{input_seen}
+use Rattle.eel.proofs.Common.{inr, refl, notes_seen, stream_seen, refused, ran, input_seen}
 use Rattle.eel.proofs.Cells.{cells_kept}
 use Rattle.eel.proofs.Dumping.{dumped_later, not_run}
 use Rattle.eel.proofs.dumps.run_for_dump.Goals as goal

@@ -1,5 +1,4 @@
-use Rattle.eel.proofs.Common.{ℕ, sym, subst, ◌∙◌, IsSound}
-use Rattle.eel.specs.Private.{MayAsk, Says}
+use Rattle.eel.proofs.Common.{ℕ, sym, subst, ◌∙◌, IsSound, MayAsk, Says}
 use Rattle.eel.proofs.Tools.{counts_edges, edits_made, edits_refused, is_sound}
 use Rattle.eel.proofs.edge_work.edit_by.Goals as goal
 

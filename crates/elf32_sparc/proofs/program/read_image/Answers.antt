@@ -1,5 +1,4 @@
-use Rattle.std.proofs.Common.{◌≤◌, sym, ap, ◌∙◌}
-use Rattle.elf32_sparc.specs.Image.{highest_end, rounded_up}
+use Rattle.elf32_sparc.proofs.Common.{◌≤◌, sym, ap, ◌∙◌, highest_end, rounded_up}
 use Rattle.elf32_sparc.proofs.Accepted.{accepted, has_text, text_is_fit, segments_end_below}
 use Rattle.elf32_sparc.proofs.Images.{is_read, text-survey_of, image_is, image_is_program}
 use Rattle.elf32_sparc.proofs.program.read_image.Goals as goal

@@ -1,6 +1,4 @@
-use Rattle.std.proofs.Common.{◌≡◌, ◌+◌, ◌-◌, ◌*◌, ◌++◌, map}
-use Rattle.elf32_sparc.specs.Header.{headers_from, program_headers, loadable}
-use Rattle.elf32_sparc.specs.Image.{segment_of}
+use Rattle.elf32_sparc.proofs.Common.{◌≡◌, ◌+◌, ◌-◌, ◌*◌, ◌++◌, map, headers_from, program_headers, loadable, segment_of}
 use Rattle.elf32_sparc.proofs.program.read_segments.Given as goal
 
 abbrev pub invariant-loop-number : goal.invariant-loop-number

@@ -1,6 +1,4 @@
-use Rattle.std.proofs.Common.{sym, ap, ◌∙◌, subst}
-use Rattle.eel_base.specs.Code.{IsText}
-use Rattle.elf32_sparc.specs.Image.{words_of}
+use Rattle.elf32_sparc.proofs.Common.{sym, ap, ◌∙◌, subst, IsText, words_of}
 use Rattle.elf32_sparc.proofs.Padding.{text_from-words}
 use Rattle.elf32_sparc.proofs.program.read_text.Goals as goal
 

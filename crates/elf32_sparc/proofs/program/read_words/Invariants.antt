@@ -1,5 +1,4 @@
-use Rattle.std.proofs.Common.{◌≡◌, ◌-◌, ◌*◌, ◌++◌, drop}
-use Rattle.elf32_sparc.specs.Image.{words_of}
+use Rattle.elf32_sparc.proofs.Common.{◌≡◌, ◌-◌, ◌*◌, ◌++◌, drop, words_of}
 use Rattle.elf32_sparc.proofs.program.read_words.Given as goal
 
 abbrev pub invariant-loop-number : goal.invariant-loop-number

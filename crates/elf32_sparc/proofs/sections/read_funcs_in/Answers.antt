@@ -1,5 +1,4 @@
-use Rattle.std.proofs.Common.{◌+◌, ◌*◌, sym, ap, ◌∙◌}
-use Rattle.elf32_sparc.specs.Symbols.{func_at}
+use Rattle.elf32_sparc.proofs.Common.{◌+◌, ◌*◌, sym, ap, ◌∙◌, func_at}
 use Rattle.elf32_sparc.proofs.Functions.{funcs-kept, funcs-passed}
 use Rattle.elf32_sparc.proofs.sections.read_funcs_in.Goals as goal
 use Rattle.elf32_sparc.proofs.sections.read_funcs_in.Goals.{in-Some+in_ok-push, in_default}

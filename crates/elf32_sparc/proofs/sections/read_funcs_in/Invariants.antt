@@ -1,7 +1,4 @@
-use Rattle.std.proofs.Common.{◌≡◌, ◌+◌, ◌*◌}
-use Rattle.std.specs.Prelude.{filter_map}
-use Rattle.std.specs.List.{range_with_len}
-use Rattle.elf32_sparc.specs.Symbols.{func_at, section_bytes}
+use Rattle.elf32_sparc.proofs.Common.{◌≡◌, ◌+◌, ◌*◌, filter_map, range_with_len, func_at, section_bytes}
 use Rattle.elf32_sparc.proofs.sections.read_funcs_in.Given as goal
 
 abbrev pub invariant-loop-number : goal.invariant-loop-number

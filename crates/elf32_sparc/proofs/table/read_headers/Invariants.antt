@@ -1,5 +1,4 @@
-use Rattle.std.proofs.Common.{◌≡◌, ◌+◌, ◌-◌, ◌*◌, ◌++◌, vec_len}
-use Rattle.elf32_sparc.specs.Header.{headers_from, program_headers}
+use Rattle.elf32_sparc.proofs.Common.{◌≡◌, ◌+◌, ◌-◌, ◌*◌, ◌++◌, vec_len, headers_from, program_headers}
 use Rattle.elf32_sparc.proofs.table.read_headers.Given as goal
 
 abbrev pub invariant-loop-number : goal.invariant-loop-number

@@ -1,9 +1,5 @@
-use Rattle.std.proofs.Common.{ℕ, sym, subst, arith}
+use Rattle.flow_tree.proofs.Common.{ℕ, sym, subst, arith, weight_in, graph_of, IsConnected, reached_by, edges_of}
 use Rattle.std.proofs.lemmas.Result.{IfOk-weaker}
-use Rattle.flows.specs.Flows.{weight_in}
-use Rattle.flows.specs.Links.{graph_of}
-use Rattle.flows.specs.Trees.{IsConnected}
-use Rattle.flow_tree.specs.Tree.{reached_by, edges_of}
 use Rattle.flow_tree.proofs.Steps.{counted_determines, counted_least, counted_spans}
 use Rattle.flow_tree.proofs.counters.counted.Goals as goal
 

@@ -1,6 +1,4 @@
-use Rattle.std.proofs.Common.{rules, ◌<◌, ◌∙◌, List, length, arith, ap, set, false, get_or}
-use Rattle.flows.specs.Links.{marked}
-use Rattle.flow_tree.specs.declared.Join.{Join}
+use Rattle.flow_tree.proofs.Common.{rules, ◌<◌, ◌∙◌, List, length, arith, ap, set, false, get_or, marked, Join}
 use Rattle.flow_tree.proofs.Steps.{off_more}
 use Rattle.flow_tree.proofs.counters.off_tree.Goals as goal
 

@@ -1,7 +1,4 @@
-use Rattle.std.proofs.Common.{◌≡◌, ◌<◌, ℕ, length, take, not}
-use Rattle.flows.specs.Links.{marked}
-use Rattle.flows.specs.Trees.{on}
-use Rattle.flow_tree.specs.Tree.{edges_in}
+use Rattle.flow_tree.proofs.Common.{◌≡◌, ◌<◌, ℕ, length, take, not, marked, on, edges_in}
 use Rattle.flow_tree.proofs.counters.off_tree.Given as goal
 
 abbrev pub invariant-loop-join : goal.invariant-loop-join

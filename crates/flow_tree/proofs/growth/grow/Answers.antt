@@ -1,5 +1,4 @@
-use Rattle.std.proofs.Common.{rules, ◌≡◌, List, length, arith, sym, subst, refl}
-use Rattle.flow_tree.specs.Rows.{HasEnds, Row}
+use Rattle.flow_tree.proofs.Common.{rules, ◌≡◌, List, length, arith, sym, subst, refl, HasEnds, Row}
 use Rattle.flow_tree.proofs.Steps.{search_grown, search_whole}
 use Rattle.flow_tree.proofs.growth.grow.Goals as goal
 

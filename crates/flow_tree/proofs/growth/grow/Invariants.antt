@@ -1,5 +1,4 @@
-use Rattle.std.proofs.Common.{◌≡◌, ◌+◌, length}
-use Rattle.flow_tree.specs.Search.{IsSearch}
+use Rattle.flow_tree.proofs.Common.{◌≡◌, ◌+◌, length, IsSearch}
 use Rattle.flow_tree.proofs.growth.grow.Given as goal
 
 abbrev pub invariant-loop : goal.invariant-loop

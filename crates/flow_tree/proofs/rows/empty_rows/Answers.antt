@@ -1,6 +1,4 @@
-use Rattle.std.proofs.Common.{arith, ◌≡◌, ℕ, ◌+◌, List, [], ◌∷◌, ◌++◌, length}
-use Rattle.std.proofs.lemmas.Grind.{common_steps}
-use Rattle.flow_tree.specs.Rows.{AllBelow, Row}
+use Rattle.flow_tree.proofs.Common.{arith, ◌≡◌, ℕ, ◌+◌, List, [], ◌∷◌, ◌++◌, length, common_steps, AllBelow, Row}
 use Rattle.flow_tree.proofs.rows.empty_rows.Goals as goal
 
 one_more : (rows new : List Row) (row : Row) (count : ℕ) → new ≡ rows ++ row ∷ [] → length rows ≡ count

@@ -1,5 +1,4 @@
-use Rattle.std.proofs.Common.{◌≡◌, ℕ, length}
-use Rattle.flow_tree.specs.Rows.{AllBelow}
+use Rattle.flow_tree.proofs.Common.{◌≡◌, ℕ, length, AllBelow}
 use Rattle.flow_tree.proofs.rows.empty_rows.Given as goal
 
 abbrev pub invariant-loop : goal.invariant-loop

@@ -1,5 +1,4 @@
-use Rattle.std.proofs.Common.{◌≡◌, length}
-use Rattle.flow_tree.specs.Rows.{HasEnds, AllBelow}
+use Rattle.flow_tree.proofs.Common.{◌≡◌, length, HasEnds, AllBelow}
 use Rattle.flow_tree.proofs.rows.incident.Given as goal
 
 abbrev pub invariant-loop-e : goal.invariant-loop-e

@@ -1,6 +1,4 @@
-use Rattle.std.proofs.Common.{◌≡◌, ◌≤◌}
-use Rattle.flows.specs.Flows.{count_below}
-use Rattle.flows.specs.Links.{marked}
+use Rattle.flow_tree.proofs.Common.{◌≡◌, ◌≤◌, count_below, marked}
 use Rattle.flow_tree.proofs.spanning.count_marked.Given as goal
 
 abbrev pub invariant-loop-mark : goal.invariant-loop-mark

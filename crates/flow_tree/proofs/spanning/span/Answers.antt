@@ -1,14 +1,6 @@
-use Rattle.std.proofs.Common.{false, ℕ, ◌<◌, subst, rules, ◌≡◌, ◌+◌, length, true, refl, arith, sym, ◌∙◌, List}
-use Rattle.std.specs.List.{All}
-use Rattle.std.proofs.lemmas.List.{ext_get_or}
+use Rattle.flow_tree.proofs.Common.{false, ℕ, ◌<◌, subst, rules, ◌≡◌, ◌+◌, length, true, refl, arith, sym, ◌∙◌, List, All, ext_get_or, rest, count_below, marked, graph_of, IsSpanningTree, true_or_false, reached_by, Join}
 use Rattle.flow_tree.proofs.spanning.span.Goals as goal
 use Rattle.flow_tree.proofs.spanning.span.Goals.{then-len-nodes-via-then-len-nodes, then-len-nodes-via-else-len-nodes+then-uncounted-nodes}
-use Rattle.flows.specs.Flows.{rest, count_below}
-use Rattle.flows.specs.Links.{marked, graph_of}
-use Rattle.flows.specs.SpanningTrees.{IsSpanningTree}
-use Rattle.flows.proofs.Bools.{true_or_false}
-use Rattle.flow_tree.specs.Tree.{reached_by}
-use Rattle.flow_tree.specs.declared.Join.{Join}
 use Rattle.flow_tree.proofs.Check.{reached, is_tree, tree_taken, uncounted_many, from_root, tree_length}
 
 pub returns-then-len-nodes-clause-exactly : goal.returns-then-len-nodes-clause-exactly

@@ -1,11 +1,4 @@
-use Rattle.image_code.proofs.Common.{◌≡◌, ◌≤◌, List, [], length, ◌∙◌, subst, sym, arith, nat_tests, Op}
-use Rattle.std.proofs.lemmas.List.{get_or_default, nil_from_length}
-use Rattle.snippets.specs.Cells.{named_by}
-use Rattle.snippet_code.specs.Runs.{DoesJust}
-use Rattle.snippet_code.specs.Spills.{spills_of}
-use Rattle.liveness.specs.Sets.{dead_on}
-use Rattle.image_code.specs.Store.{snippet_on}
-use Rattle.image_code.specs.SnippetWords.{codes_of}
+use Rattle.image_code.proofs.Common.{◌≡◌, ◌≤◌, List, [], length, ◌∙◌, subst, sym, arith, nat_tests, Op, get_or_default, nil_from_length, named_by, DoesJust, spills_of, dead_on, snippet_on, codes_of}
 use Rattle.image_code.proofs.Codes.{code_does, if_both, none_does, none_is_no_code}
 use Rattle.image_code.proofs.expansion.code_of.Goals as goal
 

@@ -1,6 +1,4 @@
-use Rattle.image_code.proofs.Common.{◌+◌, ℕ, length, length-append, ap, sym, ◌∙◌, arith, inl, inr, cases_lt}
-use Rattle.liveness.specs.Sets.{dead_on}
-use Rattle.image_code.specs.SnippetWords.{codes_of}
+use Rattle.image_code.proofs.Common.{◌+◌, ℕ, length, length-append, ap, sym, ◌∙◌, arith, inl, inr, cases_lt, dead_on, codes_of}
 use Rattle.image_code.proofs.Codes.{beyond, code_past, codes_are, codes_more, does_more, no_code}
 use Rattle.image_code.proofs.expansion.codes_of.Goals as goal
 

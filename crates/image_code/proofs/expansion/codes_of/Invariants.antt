@@ -1,7 +1,4 @@
-use Rattle.std.proofs.Common.{◌≡◌, ℕ, ◌<◌, length}
-use Rattle.liveness.specs.Sets.{dead_on}
-use Rattle.image_code.specs.Codes.{CodeDoes}
-use Rattle.image_code.specs.SnippetWords.{codes_of}
+use Rattle.image_code.proofs.Common.{◌≡◌, ℕ, ◌<◌, length, dead_on, CodeDoes, codes_of}
 use Rattle.image_code.proofs.Codes.{AreCodes}
 use Rattle.image_code.proofs.expansion.codes_of.Given as goal
 

@@ -1,5 +1,4 @@
-use Rattle.std.proofs.Common.{arith, length, ◌<◌, ◌∙◌}
-use Rattle.std.proofs.lemmas.List.{length-set}
+use Rattle.image_code.proofs.Common.{arith, length, ◌<◌, ◌∙◌, length-set}
 use Rattle.image_code.proofs.Numbers.{block_noted}
 use Rattle.image_code.proofs.first_images.note_blocks.Goals as goal
 

@@ -1,6 +1,4 @@
-use Rattle.image_code.proofs.Common.{◌≡◌, ℕ, ◌<◌, length, slice_index}
-use Rattle.cfg_normal.specs.Numbers.{node_numbers}
-use Rattle.image_code.specs.Lookups.{place_in_order}
+use Rattle.image_code.proofs.Common.{◌≡◌, ℕ, ◌<◌, length, slice_index, node_numbers, place_in_order}
 use Rattle.image_code.proofs.first_images.note_blocks.Given as goal
 
 abbrev pub invariant-loop-block : goal.invariant-loop-block

@@ -1,5 +1,4 @@
-use Rattle.image_code.proofs.Common.{◌≡◌, ℕ, Some, ap, arith, refl, slice_get, slice_index, ◌∙◌}
-use Rattle.image_code.specs.Lookups.{StandsInText, image_noted}
+use Rattle.image_code.proofs.Common.{◌≡◌, ℕ, Some, ap, arith, refl, slice_get, slice_index, ◌∙◌, StandsInText, image_noted}
 use Rattle.image_code.proofs.NumberTables.{open_more}
 use Rattle.image_code.proofs.Numbers.{facts_of, switch_noted}
 use Rattle.image_code.proofs.Positions.{looked_up}

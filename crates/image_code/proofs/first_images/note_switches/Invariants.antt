@@ -1,5 +1,4 @@
-use Rattle.std.proofs.Common.{◌≡◌, ◌<◌, ◌^◌, length}
-use Rattle.image_code.specs.Lookups.{AreSwitchesNoted, open_begin}
+use Rattle.image_code.proofs.Common.{◌≡◌, ◌<◌, ◌^◌, length, AreSwitchesNoted, open_begin}
 use Rattle.image_code.proofs.first_images.note_switches.Given as goal
 
 abbrev pub invariant-loop-found : goal.invariant-loop-found

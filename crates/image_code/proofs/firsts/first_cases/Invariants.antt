@@ -1,7 +1,5 @@
-use Rattle.image_code.proofs.Common.{◌≡◌, take, position}
-use Rattle.indexmap.specs.IndexMap.{get}
+use Rattle.image_code.proofs.Common.{◌≡◌, take, position, get, is_case, same_case}
 use Rattle.image_code.specs.declared.firsts.CaseEdge.{CaseEdge}
-use Rattle.image_code.specs.Lookups.{is_case, same_case}
 use Rattle.image_code.proofs.firsts.first_cases.Given as goal
 
 abbrev pub invariant-loop-number : goal.invariant-loop-number

@@ -1,5 +1,4 @@
-use Rattle.std.proofs.Common.{◌∙◌}
-use Rattle.image_code.specs.Lookups.{is_edge_at}
+use Rattle.image_code.proofs.Common.{◌∙◌, is_edge_at}
 use Rattle.image_code.proofs.FirstPlaces.{mark_more}
 use Rattle.image_code.proofs.firsts.note_edges.Goals as goal
 

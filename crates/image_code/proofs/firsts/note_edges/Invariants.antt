@@ -1,5 +1,4 @@
-use Rattle.std.proofs.Common.{take}
-use Rattle.image_code.specs.Lookups.{AreFirstEdges}
+use Rattle.image_code.proofs.Common.{take, AreFirstEdges}
 use Rattle.image_code.proofs.firsts.note_edges.Given as goal
 
 abbrev pub invariant-loop-number : goal.invariant-loop-number

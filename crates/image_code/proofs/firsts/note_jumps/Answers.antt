@@ -1,5 +1,4 @@
-use Rattle.image_code.proofs.Common.{◌==◌, ℕ, length, ap, ◌∙◌, slice_index, Open}
-use Rattle.image_code.specs.Lookups.{first_mark, jump_place}
+use Rattle.image_code.proofs.Common.{◌==◌, ℕ, length, ap, ◌∙◌, slice_index, Open, first_mark, jump_place}
 use Rattle.image_code.proofs.FirstPlaces.{first_more, none_first}
 use Rattle.image_code.proofs.firsts.note_jumps.Goals as goal
 

@@ -1,5 +1,4 @@
-use Rattle.std.proofs.Common.{length, take}
-use Rattle.image_code.specs.Lookups.{AreFirst, jump_place}
+use Rattle.image_code.proofs.Common.{length, take, AreFirst, jump_place}
 use Rattle.image_code.proofs.firsts.note_jumps.Given as goal
 
 abbrev pub invariant-loop-number : goal.invariant-loop-number

@@ -1,6 +1,5 @@
-use Rattle.image_code.proofs.Common.{◌≡◌, ◌-◌, ℕ, List, refl, ap, sym, ◌∙◌, arith, decode_of, Value}
+use Rattle.image_code.proofs.Common.{◌≡◌, ◌-◌, ℕ, List, refl, ap, sym, ◌∙◌, arith, decode_of, Value, is_load, load_after, loads_at, or_word}
 use Rattle.cfg_blocks.specs.Values.{followed, instr_at}
-use Rattle.image_code.specs.Lookups.{is_load, load_after, loads_at, or_word}
 use Rattle.image_code.proofs.LoadWords.{followed_more, found_here, found_later, found_nowhere}
 use Rattle.image_code.proofs.loads.load_from.Goals as goal
 

@@ -1,6 +1,5 @@
-use Rattle.image_code.proofs.Common.{◌≡◌, ◌-◌, length, find, range_with_len}
+use Rattle.image_code.proofs.Common.{◌≡◌, ◌-◌, length, find, range_with_len, loads_at}
 use Rattle.cfg_blocks.specs.Values.{followed}
-use Rattle.image_code.specs.Lookups.{loads_at}
 use Rattle.image_code.proofs.loads.load_from.Given as goal
 
 abbrev pub invariant-loop-word : goal.invariant-loop-word

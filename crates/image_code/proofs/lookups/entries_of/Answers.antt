@@ -1,6 +1,4 @@
-use Rattle.image_code.proofs.Common.{◌≡◌, ◌+◌, length, ap, ◌∙◌, arith, length-map}
-use Rattle.eel_base.specs.declared.numbers.WordNo.{WordNo}
-use Rattle.image_code.specs.Labels.{first_entry}
+use Rattle.image_code.proofs.Common.{◌≡◌, ◌+◌, length, ap, ◌∙◌, arith, length-map, WordNo, first_entry}
 use Rattle.image_code.proofs.NumberTables.{entry_more}
 use Rattle.image_code.proofs.Pushed.{pushed_alone}
 use Rattle.image_code.proofs.lookups.entries_of.Goals as goal

@@ -1,5 +1,4 @@
-use Rattle.image_code.proofs.Common.{◌≡◌, ◌+◌, ◌^◌, ◌<◌, map, below}
-use Rattle.image_code.specs.Labels.{first_entry}
+use Rattle.image_code.proofs.Common.{◌≡◌, ◌+◌, ◌^◌, ◌<◌, map, below, first_entry}
 use Rattle.image_code.proofs.lookups.entries_of.Given as goal
 
 abbrev pub invariant-loop-found : goal.invariant-loop-found

@@ -1,5 +1,4 @@
-use Rattle.std.proofs.Common.{arith}
-use Rattle.cfg_normal.specs.Graph.{landings_of}
+use Rattle.image_code.proofs.Common.{arith, landings_of}
 use Rattle.image_code.proofs.Pushed.{flat_count}
 use Rattle.image_code.proofs.lookups.landing_count.Goals as goal
 

@@ -1,5 +1,4 @@
-use Rattle.image_code.proofs.Common.{◌≡◌, ◌*◌, ◌≤◌, length, flat_map, below}
-use Rattle.cfg_normal.specs.Graph.{landings_of}
+use Rattle.image_code.proofs.Common.{◌≡◌, ◌*◌, ◌≤◌, length, flat_map, below, landings_of}
 use Rattle.image_code.proofs.lookups.landing_count.Given as goal
 
 abbrev pub invariant-loop-block : goal.invariant-loop-block

@@ -1,5 +1,4 @@
-use Rattle.std.proofs.Common.{◌≡◌, map, take}
-use Rattle.image_code.specs.Loads.{load_of}
+use Rattle.image_code.proofs.Common.{◌≡◌, map, take, load_of}
 use Rattle.image_code.proofs.lookups.loads_of.Given as goal
 
 abbrev pub invariant-loop-found : goal.invariant-loop-found

@@ -1,5 +1,4 @@
-use Rattle.std.proofs.Common.{ap, ◌∙◌}
-use Rattle.image_code.specs.Made.{piece_list}
+use Rattle.image_code.proofs.Common.{ap, ◌∙◌, piece_list}
 use Rattle.image_code.proofs.making.pieces.Goals as goal
 
 pub returns-clause-list : goal.returns-clause-list

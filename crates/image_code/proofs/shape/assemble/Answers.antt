@@ -1,7 +1,5 @@
-use Rattle.image_code.proofs.Common.{◌≡◌, Option, Some, None, List, [], ◌∷◌, ◌++◌, append_assoc, refl, ap, ◌∙◌, Item, Head, head_items, items_of, mark_items}
+use Rattle.image_code.proofs.Common.{◌≡◌, Option, Some, None, List, [], ◌∷◌, ◌++◌, append_assoc, refl, ap, ◌∙◌, Item, Head, head_items, items_of, mark_items, Visit, code_at}
 use Rattle.layout.specs.declared.items.Item.TheVariants as it
-use Rattle.image_code.specs.declared.shape.Visit.{Visit}
-use Rattle.image_code.specs.Private.{code_at}
 use Rattle.image_code.proofs.shape.assemble.Goals as goal
 
 mark_first : (mark : Option (Visit × Head)) (rest : List Item) → mark_items mark [] ++ rest ≡ mark_items mark rest

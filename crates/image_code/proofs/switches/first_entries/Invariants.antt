@@ -1,6 +1,4 @@
-use Rattle.std.proofs.Common.{◌≡◌, ℕ, ◌==◌, map, nat_eq, take}
-use Rattle.std.specs.List.{position}
-use Rattle.indexmap.specs.IndexMap.{get}
+use Rattle.image_code.proofs.Common.{◌≡◌, ℕ, ◌==◌, map, nat_eq, take, position, get}
 use Rattle.image_code.proofs.switches.first_entries.Given as goal
 
 abbrev pub invariant-loop-entry : goal.invariant-loop-entry

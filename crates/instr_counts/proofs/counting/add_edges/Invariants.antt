@@ -1,5 +1,4 @@
-use Rattle.instr_counts.proofs.Common.{◌≡◌, ◌+◌, ◌*◌, ◌<◌, ◌≤◌, ℕ, length, slice_index}
-use Rattle.instr_counts.specs.Private.{along, as_slot}
+use Rattle.instr_counts.proofs.Common.{◌≡◌, ◌+◌, ◌*◌, ◌<◌, ◌≤◌, ℕ, length, slice_index, along, as_slot}
 use Rattle.instr_counts.proofs.counting.add_edges.Given as goal
 
 abbrev pub invariant-loop-number : goal.invariant-loop-number

@@ -1,9 +1,6 @@
-use Rattle.instr_counts.proofs.Common.{◌≡◌, ◌&&◌, ℕ, refl, ap, nat_lt}
-use Rattle.instr_counts.specs.Visits.{one_if}
-use Rattle.std.specs.Prelude.{nat_le}
+use Rattle.instr_counts.proofs.Common.{◌≡◌, ◌&&◌, ℕ, refl, ap, nat_lt, one_if, nat_le, notes_seen, range_seen}
 use Rattle.std.specs.Option.{option_map}
 use Rattle.notes.specs.Format.{range_at}
-use Rattle.notes.specs.Code.{notes_seen, range_seen}
 use Rattle.notes.specs.declared.note.Notes as declared_notes
 use Rattle.count_rebuild.proofs.Rules.{find-map, found}
 use Rattle.instr_counts.proofs.counting.begun.Goals as goal

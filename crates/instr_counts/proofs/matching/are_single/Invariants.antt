@@ -1,5 +1,4 @@
-use Rattle.instr_counts.proofs.Common.{◌≡◌, ◌<◌, ℕ}
-use Rattle.cfg_blocks.specs.Blocks.{size_of}
+use Rattle.instr_counts.proofs.Common.{◌≡◌, ◌<◌, ℕ, size_of}
 use Rattle.instr_counts.proofs.matching.are_single.Given as goal
 
 abbrev pub invariant-loop-block : goal.invariant-loop-block

@@ -1,5 +1,4 @@
-use Rattle.instr_counts.proofs.Common.{◌≡◌, ◌<◌, inl, inr, ℕ, List, get_or, length, map, arith, cases_lt, Edge, Graph, edge_seen, no_edge, no_noted}
-use Rattle.instr_counts.specs.Matches.{IsNoted}
+use Rattle.instr_counts.proofs.Common.{◌≡◌, ◌<◌, inl, inr, ℕ, List, get_or, length, map, arith, cases_lt, Edge, Graph, edge_seen, no_edge, no_noted, IsNoted}
 use Rattle.std.proofs.lemmas.List.{get_or-map, get_or_default}
 use Rattle.notes.specs.declared.note.NoteEdge.{NoteEdge}
 use Rattle.instr_counts.proofs.matching.has_edges.Goals as goal

@@ -1,6 +1,4 @@
-use Rattle.instr_counts.proofs.Common.{◌<◌, ℕ, map, edge_seen, no_edge, no_noted}
-use Rattle.instr_counts.specs.Matches.{IsNoted}
-use Rattle.std.specs.Prelude.{slice_index_or}
+use Rattle.instr_counts.proofs.Common.{◌<◌, ℕ, map, edge_seen, no_edge, no_noted, IsNoted, slice_index_or}
 use Rattle.instr_counts.proofs.matching.has_edges.Given as goal
 
 abbrev pub invariant-loop-number : goal.invariant-loop-number

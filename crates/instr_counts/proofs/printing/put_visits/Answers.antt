@@ -1,6 +1,4 @@
-use Rattle.instr_counts.proofs.Common.{◌<◌, ◌≤◌, get_or, length, arith, enumerate_from}
-use Rattle.instr_counts.specs.Lines.{visit_line}
-use Rattle.std.proofs.Common.{rules, zero-add}
+use Rattle.instr_counts.proofs.Common.{◌<◌, ◌≤◌, get_or, length, arith, enumerate_from, visit_line, rules, zero-add}
 use Rattle.std.proofs.lemmas.List.FromFn.{get_or-enumerate_from, length-enumerate_from}
 use Rattle.show_text.proofs.Joined.{all_lines, more_lines}
 use Rattle.instr_counts.proofs.printing.put_visits.Goals as goal

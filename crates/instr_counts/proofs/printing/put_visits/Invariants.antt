@@ -1,6 +1,4 @@
-use Rattle.instr_counts.proofs.Common.{◌≡◌, ◌++◌, take, enumerate_from}
-use Rattle.instr_counts.specs.Lines.{visit_line}
-use Rattle.std.specs.List.{flat_map}
+use Rattle.instr_counts.proofs.Common.{◌≡◌, ◌++◌, take, enumerate_from, visit_line, flat_map}
 use Rattle.instr_counts.proofs.printing.put_visits.Given as goal
 
 abbrev pub invariant-loop-word : goal.invariant-loop-word

@@ -1,5 +1,4 @@
-use Rattle.instr_counts.proofs.Common.{◌≡◌, ◌*◌, ◌≤◌, take}
-use Rattle.std.specs.List.{sum}
+use Rattle.instr_counts.proofs.Common.{◌≡◌, ◌*◌, ◌≤◌, take, sum}
 use Rattle.instr_counts.proofs.printing.sum_of.Given as goal
 
 abbrev pub invariant-loop-count : goal.invariant-loop-count

@@ -1,5 +1,4 @@
-use Rattle.std.proofs.Common.{◌≡◌, ◌+◌, drop, length}
-use Rattle.layout.specs.Forms.{entries_from}
+use Rattle.layout.proofs.Common.{◌≡◌, ◌+◌, drop, length, entries_from}
 use Rattle.layout.proofs.entries.count.Given as goal
 
 abbrev pub invariant-loop-k : goal.invariant-loop-k

@@ -1,6 +1,4 @@
-use Rattle.std.proofs.Common.{length, ap, ◌∙◌, refl, arith}
-use Rattle.layout.specs.Forms.{offset}
-use Rattle.layout.specs.Private.{forms_in}
+use Rattle.layout.proofs.Common.{length, ap, ◌∙◌, refl, arith, offset, forms_in}
 use Rattle.layout.proofs.Offsets.{all_offsets, noted_len, offsets_more, start_below}
 use Rattle.layout.proofs.Walked.{more_left, turn, walk_low, walk_more, walk_none}
 use Rattle.layout.proofs.forms.offsets.Goals as goal

@@ -1,5 +1,4 @@
-use Rattle.std.proofs.Common.{◌≡◌, length}
-use Rattle.layout.specs.Private.{forms_in, IsListing}
+use Rattle.layout.proofs.Common.{◌≡◌, length, forms_in, IsListing}
 use Rattle.layout.proofs.Offsets.{AreOffsets}
 use Rattle.layout.proofs.Walked.{IsWalk}
 use Rattle.layout.proofs.forms.offsets.Given as goal

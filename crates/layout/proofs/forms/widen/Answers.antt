@@ -1,6 +1,4 @@
-use Rattle.std.proofs.Common.{◌^◌, Bool, length, refl, ap, ◌∙◌, arith}
-use Rattle.std.proofs.lemmas.List.Sums.{count_by-le-length}
-use Rattle.layout.specs.Private.{forms_in}
+use Rattle.layout.proofs.Common.{◌^◌, Bool, length, refl, ap, ◌∙◌, arith, count_by-le-length, forms_in}
 use Rattle.layout.proofs.Offsets.{noted_len, offset_small, start_below}
 use Rattle.layout.proofs.Passing.{few_words, leads, passing_all, passing_none, passing_turn}
 use Rattle.layout.proofs.Walked.{more_left, turn, walk_low, walk_none}

@@ -1,5 +1,4 @@
-use Rattle.std.proofs.Common.{◌∙◌}
-use Rattle.std.proofs.lemmas.List.{length-replicate}
+use Rattle.layout.proofs.Common.{◌∙◌, length-replicate}
 use Rattle.layout.proofs.Passing.{pass_smaller, widening_few, widening_none}
 use Rattle.layout.proofs.forms.widen_all.Goals as goal
 

@@ -1,5 +1,4 @@
-use Rattle.std.proofs.Common.{◌≡◌, ◌-◌, length, count_by}
-use Rattle.layout.specs.Private.{forms_in, IsOffsets, IsWidening}
+use Rattle.layout.proofs.Common.{◌≡◌, ◌-◌, length, count_by, forms_in, IsOffsets, IsWidening}
 use Rattle.layout.proofs.forms.widen_all.Given as goal
 
 abbrev pub invariant-loop-pass : goal.invariant-loop-pass

@@ -1,5 +1,4 @@
-use Rattle.std.proofs.Common.{◌≡◌, ◌∷◌, [], ◌++◌}
-use Rattle.layout.specs.Order.{next_piece}
+use Rattle.layout.proofs.Common.{◌≡◌, ◌∷◌, [], ◌++◌, next_piece}
 use Rattle.layout.proofs.Laying.{marking_more}
 use Rattle.layout.proofs.order.lay.Goals as goal
 

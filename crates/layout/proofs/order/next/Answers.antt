@@ -1,6 +1,4 @@
-use Rattle.std.proofs.Common.{◌≡◌, ◌-◌, ◌∙◌, ap, sym, subst, length, slice_get, Some, ℕ, ◌<◌}
-use Rattle.std.specs.Option.{option_copied}
-use Rattle.layout.specs.Order.{next_after, next_piece}
+use Rattle.layout.proofs.Common.{◌≡◌, ◌-◌, ◌∙◌, ap, sym, subst, length, slice_get, Some, ℕ, ◌<◌, option_copied, next_after, next_piece}
 use Rattle.layout.proofs.Laying.{first_next, last_inside}
 use Rattle.layout.proofs.order.next.Goals as goal
 

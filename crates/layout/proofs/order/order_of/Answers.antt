@@ -1,5 +1,4 @@
-use Rattle.std.proofs.Common.{ap, ◌∙◌, ◌≡◌, [], length, arith}
-use Rattle.layout.specs.Order.{first_laid, compact_order}
+use Rattle.layout.proofs.Common.{ap, ◌∙◌, ◌≡◌, [], length, arith, first_laid, compact_order}
 use Rattle.layout.proofs.Laying.{marking_none, whole_is}
 use Rattle.layout.proofs.order.order_of.Goals as goal
 

@@ -1,5 +1,4 @@
-use Rattle.std.proofs.Common.{◌≡◌, length}
-use Rattle.layout.specs.Laying.{IsMarking}
+use Rattle.layout.proofs.Common.{◌≡◌, length, IsMarking}
 use Rattle.layout.proofs.order.order_of.Given as goal
 
 abbrev pub invariant-loop : goal.invariant-loop

@@ -1,5 +1,4 @@
-use Rattle.std.proofs.Common.{◌≡◌, ◌∙◌, ap}
-use Rattle.layout.specs.Forms.{entries_from, entries_of}
+use Rattle.layout.proofs.Common.{◌≡◌, ◌∙◌, ap, entries_from, entries_of}
 use Rattle.layout.proofs.Laying.{exits_lead, whole_is}
 use Rattle.layout.proofs.Listed.{are_listing}
 use Rattle.layout.proofs.Whole.{all_laid, room_is}

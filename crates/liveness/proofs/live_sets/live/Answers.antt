@@ -1,7 +1,4 @@
-use Rattle.std.proofs.Common.{arith, ◌<◌, [], inl, inr, sym, ap, ◌∙◌}
-use Rattle.std.proofs.lemmas.List.{get_or_default}
-use Rattle.v8_decode.specs.Parts.{every_part, has}
-use Rattle.liveness.specs.Live.{named_on}
+use Rattle.liveness.proofs.Common.{arith, ◌<◌, [], inl, inr, sym, ap, ◌∙◌, get_or_default, every_part, has, named_on}
 use Rattle.liveness.proofs.Reaching.{joined_is, onward_is}
 use Rattle.liveness.proofs.live_sets.live.Goals as goal
 

@@ -1,7 +1,5 @@
-use Rattle.std.proofs.Common.{◌≡◌, ℕ, ◌+◌, List, [], ◌∷◌, ◌++◌, arith}
+use Rattle.liveness.proofs.Common.{◌≡◌, ℕ, ◌+◌, List, [], ◌∷◌, ◌++◌, arith, Graph, AreCopies, copies_from}
 use Rattle.std.proofs.lemmas.Grind.{common_steps}
-use Rattle.cfg_normal.specs.Graph.{Graph}
-use Rattle.liveness.specs.Search.{AreCopies, copies_from}
 use Rattle.liveness.proofs.Spots.{copies_high, start_within}
 use Rattle.liveness.proofs.places.place_copies.Goals as goal
 

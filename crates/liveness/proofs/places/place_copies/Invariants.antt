@@ -1,5 +1,4 @@
-use Rattle.std.proofs.Common.{◌≡◌}
-use Rattle.liveness.specs.Search.{AreCopies, copies_from}
+use Rattle.liveness.proofs.Common.{◌≡◌, AreCopies, copies_from}
 use Rattle.liveness.proofs.places.place_copies.Given as goal
 
 abbrev pub invariant-loop-block : goal.invariant-loop-block

@@ -1,11 +1,5 @@
-use Rattle.std.proofs.Common.{◌≡◌, ℕ, ◌+◌, Bool, true, List, length}
-use Rattle.std.specs.Prelude.{◌⊎◌}
+use Rattle.liveness.proofs.Common.{◌≡◌, ℕ, ◌+◌, Bool, true, List, length, ◌⊎◌, Edge, Graph, node_numbers, edge_at, is_marked, AreMarks, IsMarked}
 use borrow.Author.Count.{below_more}
-use Rattle.cfg_normal.specs.declared.Edge.{Edge}
-use Rattle.cfg_normal.specs.Graph.{Graph}
-use Rattle.cfg_normal.specs.Numbers.{node_numbers}
-use Rattle.liveness.specs.Live.{edge_at}
-use Rattle.liveness.specs.Search.{is_marked, AreMarks, IsMarked}
 use Rattle.liveness.proofs.places.places_of.Goals as goal
 
 marks_more : (graph : Graph) (count : ℕ) (old new : List Bool) (edge : Edge) → AreMarks graph count old

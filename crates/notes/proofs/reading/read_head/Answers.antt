@@ -1,6 +1,4 @@
-use Rattle.std.proofs.Common.{refl}
-use Rattle.std.proofs.lemmas.Bool.{leb-true}
-use Rattle.notes.specs.Parts.{head_at}
+use Rattle.notes.proofs.Common.{refl, leb-true, head_at}
 use Rattle.notes.proofs.reading.read_head.Goals as goal
 
 pub returns : goal.returns

@@ -1,5 +1,4 @@
-use Rattle.std.proofs.Common.{◌∙◌, refl, sym}
-use Rattle.notes.specs.Format.{tables_of}
+use Rattle.notes.proofs.Common.{◌∙◌, refl, sym, tables_of}
 use Rattle.notes.proofs.reading.read_tables.Goals as goal
 
 pub returns : goal.returns

@@ -1,7 +1,4 @@
-use Rattle.std.proofs.Common.{refl, sym, subst}
-use Rattle.std.specs.Result.{IsOk}
-use Rattle.notes.specs.Code.{IsFault}
-use Rattle.notes.specs.Format.{head_of, tables_of}
+use Rattle.notes.proofs.Common.{refl, sym, subst, IsOk, IsFault, head_of, tables_of}
 use Rattle.notes.proofs.Steps.{fault_out, through, wanting_held, wanting_out}
 use Rattle.notes.proofs.Whole.{in_groups, in_parts}
 use Rattle.notes.proofs.reading.read_words.Goals as goal

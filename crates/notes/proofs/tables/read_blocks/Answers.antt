@@ -1,5 +1,4 @@
-use Rattle.std.proofs.Common.{◌≡◌, ◌-◌, ◌∙◌, Ok, ap, append-nil, arith}
-use Rattle.notes.specs.Format.{blocks_at}
+use Rattle.notes.proofs.Common.{◌≡◌, ◌-◌, ◌∙◌, Ok, ap, append-nil, arith, blocks_at}
 use Rattle.notes.proofs.Steps.{fault_out}
 use Rattle.notes.proofs.TableRows.{row_read, row_fault, blocks-row}
 use Rattle.notes.proofs.tables.read_blocks.Goals as goal

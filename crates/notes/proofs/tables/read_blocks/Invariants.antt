@@ -1,5 +1,4 @@
-use Rattle.std.proofs.Common.{◌≡◌, ◌+◌, ◌*◌, ◌-◌, None}
-use Rattle.notes.specs.Format.{blocks_at}
+use Rattle.notes.proofs.Common.{◌≡◌, ◌+◌, ◌*◌, ◌-◌, None, blocks_at}
 use Rattle.notes.proofs.Steps.{after}
 use Rattle.notes.proofs.tables.read_blocks.Given as goal
 

@@ -1,7 +1,4 @@
-use Rattle.std.proofs.Common.{◌≡◌, ◌-◌, ◌<◌, ◌∙◌, ◌∷◌, [], map, Ok, ap, append-nil, arith}
-use Rattle.std.proofs.lemmas.List.{map-append}
-use Rattle.notes.specs.Code.{edge_seen}
-use Rattle.notes.specs.Format.{edges_at}
+use Rattle.notes.proofs.Common.{◌≡◌, ◌-◌, ◌<◌, ◌∙◌, ◌∷◌, [], map, Ok, ap, append-nil, arith, map-append, edge_seen, edges_at}
 use Rattle.notes.proofs.Steps.{fault_out}
 use Rattle.notes.proofs.TableRows.{edges-more, edges-fault, edges-none-read}
 use Rattle.notes.proofs.tables.read_edges.Goals as goal

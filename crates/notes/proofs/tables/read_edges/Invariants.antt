@@ -1,6 +1,4 @@
-use Rattle.std.proofs.Common.{◌≡◌, [], map}
-use Rattle.notes.specs.Format.{edges_at}
-use Rattle.notes.specs.Code.{edge_seen}
+use Rattle.notes.proofs.Common.{◌≡◌, [], map, edges_at, edge_seen}
 use Rattle.notes.proofs.TableRows.{EdgesRead}
 use Rattle.notes.proofs.tables.read_edges.Given as goal
 

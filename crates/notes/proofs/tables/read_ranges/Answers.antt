@@ -1,7 +1,4 @@
-use Rattle.std.proofs.Common.{◌≡◌, ◌-◌, ◌∙◌, ◌∷◌, [], map, Ok, ap, append-nil, arith}
-use Rattle.std.proofs.lemmas.List.{map-append}
-use Rattle.notes.specs.Code.{range_seen}
-use Rattle.notes.specs.Format.{ranges_at}
+use Rattle.notes.proofs.Common.{◌≡◌, ◌-◌, ◌∙◌, ◌∷◌, [], map, Ok, ap, append-nil, arith, map-append, range_seen, ranges_at}
 use Rattle.notes.proofs.Steps.{fault_out}
 use Rattle.notes.proofs.TableRows.{row_read, row_fault, ranges-row}
 use Rattle.notes.proofs.tables.read_ranges.Goals as goal

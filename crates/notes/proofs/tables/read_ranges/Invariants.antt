@@ -1,6 +1,4 @@
-use Rattle.std.proofs.Common.{◌≡◌, ◌+◌, ◌*◌, ◌-◌, map}
-use Rattle.notes.specs.Format.{ranges_at}
-use Rattle.notes.specs.Code.{segment_seen, range_seen}
+use Rattle.notes.proofs.Common.{◌≡◌, ◌+◌, ◌*◌, ◌-◌, map, ranges_at, segment_seen, range_seen}
 use Rattle.notes.proofs.Steps.{after}
 use Rattle.notes.proofs.tables.read_ranges.Given as goal
 

@@ -1,7 +1,4 @@
-use Rattle.std.proofs.Common.{◌≡◌, ◌-◌, ◌∙◌, ◌∷◌, [], map, Ok, ap, append-nil, arith}
-use Rattle.std.proofs.lemmas.List.{map-append}
-use Rattle.notes.specs.Code.{segment_seen}
-use Rattle.notes.specs.Format.{segments_at}
+use Rattle.notes.proofs.Common.{◌≡◌, ◌-◌, ◌∙◌, ◌∷◌, [], map, Ok, ap, append-nil, arith, map-append, segment_seen, segments_at}
 use Rattle.notes.proofs.Steps.{fault_out}
 use Rattle.notes.proofs.TableRows.{row_read, row_fault, segments-row}
 use Rattle.notes.proofs.tables.read_segments.Goals as goal

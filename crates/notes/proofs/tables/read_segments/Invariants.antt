@@ -1,6 +1,4 @@
-use Rattle.std.proofs.Common.{◌≡◌, ◌+◌, ◌*◌, ◌-◌, map}
-use Rattle.notes.specs.Format.{segments_at}
-use Rattle.notes.specs.Code.{segment_seen}
+use Rattle.notes.proofs.Common.{◌≡◌, ◌+◌, ◌*◌, ◌-◌, map, segments_at, segment_seen}
 use Rattle.notes.proofs.Steps.{after}
 use Rattle.notes.proofs.tables.read_segments.Given as goal
 

@@ -1,6 +1,4 @@
-use Rattle.std.proofs.Common.{◌≡◌, ◌++◌, take}
-use Rattle.std.specs.List.{flat_map}
-use Rattle.notes.specs.Rows.{edge_bytes}
+use Rattle.notes.proofs.Common.{◌≡◌, ◌++◌, take, flat_map, edge_bytes}
 use Rattle.notes.proofs.writing.put_edges.Given as goal
 
 abbrev pub invariant-loop-edge : goal.invariant-loop-edge

@@ -1,6 +1,4 @@
-use Rattle.std.proofs.Common.{◌≡◌, ◌++◌, take}
-use Rattle.std.specs.List.{flat_map}
-use Rattle.notes.specs.Rows.{range_bytes}
+use Rattle.notes.proofs.Common.{◌≡◌, ◌++◌, take, flat_map, range_bytes}
 use Rattle.notes.proofs.writing.put_ranges.Given as goal
 
 abbrev pub invariant-loop-range : goal.invariant-loop-range

@@ -1,6 +1,4 @@
-use Rattle.std.proofs.Common.{◌≡◌, ◌++◌, take}
-use Rattle.std.specs.List.{flat_map}
-use Rattle.notes.specs.Rows.{segment_bytes}
+use Rattle.notes.proofs.Common.{◌≡◌, ◌++◌, take, flat_map, segment_bytes}
 use Rattle.notes.proofs.writing.put_segments.Given as goal
 
 abbrev pub invariant-loop-segment : goal.invariant-loop-segment

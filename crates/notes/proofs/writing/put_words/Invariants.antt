@@ -1,6 +1,4 @@
-use Rattle.std.proofs.Common.{◌≡◌, ◌++◌, take}
-use Rattle.std.specs.List.{flat_map}
-use Rattle.byteorder.specs.Endian.{big_bytes}
+use Rattle.notes.proofs.Common.{◌≡◌, ◌++◌, take, flat_map, big_bytes}
 use Rattle.notes.proofs.writing.put_words.Given as goal
 
 abbrev pub invariant-loop-word : goal.invariant-loop-word

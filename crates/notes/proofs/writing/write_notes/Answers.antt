@@ -1,5 +1,4 @@
-use Rattle.std.proofs.Common.{arith, refl}
-use Rattle.std.proofs.lemmas.Grind.{common_steps}
+use Rattle.notes.proofs.Common.{arith, refl, common_steps}
 use Rattle.notes.proofs.Bytes.{turns}
 use Rattle.notes.proofs.writing.write_notes.Goals as goal
 

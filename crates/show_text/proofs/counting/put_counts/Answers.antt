@@ -1,11 +1,6 @@
-use Rattle.std.proofs.Common.{rules, ℕ, ◌<◌, ◌≤◌, ◌∙◌, None, ap, arith, get_or, length, map, refl, zero-add}
-use Rattle.std.specs.List.{enumerate_from}
-use Rattle.std.proofs.lemmas.List.{get_or-map, length-map}
-use Rattle.std.proofs.lemmas.List.FromFn.{get_or-enumerate_from, length-enumerate_from}
+use Rattle.show_text.proofs.Common.{rules, ℕ, ◌<◌, ◌≤◌, ◌∙◌, None, ap, arith, get_or, length, map, refl, zero-add, enumerate_from, get_or-map, length-map, get_or-enumerate_from, length-enumerate_from, edge_seen, notes_seen, count_line}
 use Rattle.notes.specs.Format.{NoteEdge}
-use Rattle.notes.specs.Code.{edge_seen, notes_seen}
 use Rattle.notes.specs.declared.note.NoteEdge as declared_edge
-use Rattle.show_text.specs.CountLines.{count_line}
 use Rattle.show_text.proofs.Joined.{all_lines, more_lines}
 use Rattle.show_text.proofs.counting.put_counts.Goals as goal
 

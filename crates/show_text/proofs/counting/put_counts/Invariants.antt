@@ -1,7 +1,4 @@
-use Rattle.std.proofs.Common.{◌≡◌, ◌++◌, take}
-use Rattle.std.specs.List.{enumerate_from, flat_map}
-use Rattle.notes.specs.Code.{notes_seen}
-use Rattle.show_text.specs.CountLines.{count_line}
+use Rattle.show_text.proofs.Common.{◌≡◌, ◌++◌, take, enumerate_from, flat_map, notes_seen, count_line}
 use Rattle.show_text.proofs.counting.put_counts.Given as goal
 
 abbrev pub invariant-loop-number : goal.invariant-loop-number

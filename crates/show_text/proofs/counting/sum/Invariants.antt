@@ -1,5 +1,4 @@
-use Rattle.std.proofs.Common.{◌≡◌, ◌*◌, ◌≤◌, take}
-use Rattle.std.specs.List.{sum}
+use Rattle.show_text.proofs.Common.{◌≡◌, ◌*◌, ◌≤◌, take, sum}
 use Rattle.show_text.proofs.counting.sum.Given as goal
 
 abbrev pub invariant-loop-count : goal.invariant-loop-count

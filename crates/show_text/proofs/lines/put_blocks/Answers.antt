@@ -1,7 +1,4 @@
-use Rattle.std.proofs.Common.{length, zero-add, arith}
-use Rattle.std.specs.List.{range_with_len}
-use Rattle.std.proofs.lemmas.List.FromFn.{get_or-range_with_len, length-range_with_len}
-use Rattle.show_text.specs.Lines.{block_line}
+use Rattle.show_text.proofs.Common.{length, zero-add, arith, range_with_len, get_or-range_with_len, length-range_with_len, block_line}
 use Rattle.show_text.proofs.Joined.{all_lines, more_lines}
 use Rattle.show_text.proofs.lines.put_blocks.Goals as goal
 

@@ -1,6 +1,4 @@
-use Rattle.std.proofs.Common.{◌≡◌, ◌++◌, length, take}
-use Rattle.std.specs.List.{flat_map, range_with_len}
-use Rattle.show_text.specs.Lines.{block_line}
+use Rattle.show_text.proofs.Common.{◌≡◌, ◌++◌, length, take, flat_map, range_with_len, block_line}
 use Rattle.show_text.proofs.lines.put_blocks.Given as goal
 
 abbrev pub invariant-loop-block : goal.invariant-loop-block

@@ -1,11 +1,8 @@
-use Rattle.std.proofs.Common.{ℕ, ◌<◌, ap, get_or, length, zero-add, arith}
-use Rattle.std.specs.List.{enumerate_from}
-use Rattle.std.proofs.lemmas.List.FromFn.{get_or-enumerate_from, length-enumerate_from}
+use Rattle.show_text.proofs.Common.{ℕ, ◌<◌, ap, get_or, length, zero-add, arith, enumerate_from, get_or-enumerate_from, length-enumerate_from, edge_line}
 use Rattle.cfg_blocks.specs.declared.EdgeKind.TheVariants.{Fall}
 use Rattle.cfg_normal.specs.declared.Edge.{Edge}
 use Rattle.cfg_normal.specs.declared.Node.TheVariants.{Block}
 use Rattle.cfg_normal.specs.declared.Slot.TheVariants.{Nothing}
-use Rattle.show_text.specs.Lines.{edge_line}
 use Rattle.show_text.proofs.Joined.{all_lines, more_lines}
 use Rattle.show_text.proofs.lines.put_edges.Goals as goal
 

@@ -1,6 +1,4 @@
-use Rattle.std.proofs.Common.{◌≡◌, ◌++◌, take}
-use Rattle.std.specs.List.{enumerate_from, flat_map}
-use Rattle.show_text.specs.Lines.{edge_line}
+use Rattle.show_text.proofs.Common.{◌≡◌, ◌++◌, take, enumerate_from, flat_map, edge_line}
 use Rattle.show_text.proofs.lines.put_edges.Given as goal
 
 abbrev pub invariant-loop-number : goal.invariant-loop-number

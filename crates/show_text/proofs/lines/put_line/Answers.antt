@@ -1,5 +1,4 @@
-use Rattle.std.proofs.Common.{◌≡◌, [], ◌∷◌, ◌++◌, ap, ◌∙◌, arith}
-use Rattle.std.specs.List.{flat_map}
+use Rattle.show_text.proofs.Common.{◌≡◌, [], ◌∷◌, ◌++◌, ap, ◌∙◌, arith, flat_map}
 use Rattle.show_text.proofs.Joined.{all_lines, line_added, spaced}
 use Rattle.show_text.proofs.lines.put_line.Goals as goal
 

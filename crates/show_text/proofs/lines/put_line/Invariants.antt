@@ -1,5 +1,4 @@
-use Rattle.std.proofs.Common.{◌≡◌, ◌++◌, take}
-use Rattle.std.specs.List.{flat_map}
+use Rattle.show_text.proofs.Common.{◌≡◌, ◌++◌, take, flat_map}
 use Rattle.show_text.proofs.Joined.{spaced}
 use Rattle.show_text.proofs.lines.put_line.Given as goal
 

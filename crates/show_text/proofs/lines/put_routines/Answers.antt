@@ -1,5 +1,4 @@
-use Rattle.std.proofs.Common.{sym, ap, length, arith}
-use Rattle.show_text.specs.Lines.{routine_line}
+use Rattle.show_text.proofs.Common.{sym, ap, length, arith, routine_line}
 use Rattle.show_text.proofs.Joined.{more_lines}
 use Rattle.show_text.proofs.lines.put_routines.Goals as goal
 

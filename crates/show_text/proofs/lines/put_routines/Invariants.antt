@@ -1,6 +1,4 @@
-use Rattle.std.proofs.Common.{◌≡◌, ◌++◌, take}
-use Rattle.std.specs.List.{flat_map}
-use Rattle.show_text.specs.Lines.{routine_line}
+use Rattle.show_text.proofs.Common.{◌≡◌, ◌++◌, take, flat_map, routine_line}
 use Rattle.show_text.proofs.lines.put_routines.Given as goal
 
 abbrev pub invariant-loop-routine : goal.invariant-loop-routine

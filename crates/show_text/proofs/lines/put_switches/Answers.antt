@@ -1,6 +1,5 @@
-use Rattle.std.proofs.Common.{get_or, refl, arith}
+use Rattle.show_text.proofs.Common.{get_or, refl, arith, switch_line}
 use Rattle.cfg_blocks.specs.declared.switches.Switch.{Switch}
-use Rattle.show_text.specs.Lines.{switch_line}
 use Rattle.show_text.proofs.Joined.{more_lines}
 use Rattle.show_text.proofs.lines.put_switches.Goals as goal
 

@@ -1,6 +1,4 @@
-use Rattle.std.proofs.Common.{◌≡◌, ◌++◌, take}
-use Rattle.std.specs.List.{flat_map}
-use Rattle.show_text.specs.Lines.{switch_line}
+use Rattle.show_text.proofs.Common.{◌≡◌, ◌++◌, take, flat_map, switch_line}
 use Rattle.show_text.proofs.lines.put_switches.Given as goal
 
 abbrev pub invariant-loop-switch : goal.invariant-loop-switch

@@ -1,5 +1,4 @@
-use Rattle.std.proofs.Common.{◌≡◌, map, take}
-use Rattle.show_text.specs.Lines.{printed}
+use Rattle.show_text.proofs.Common.{◌≡◌, map, take, printed}
 use Rattle.show_text.proofs.words.name_text.Given as goal
 
 abbrev pub invariant-loop-i : goal.invariant-loop-i

@@ -1,5 +1,4 @@
-use Rattle.snippet_code.proofs.Common.{arith}
-use Rattle.snippet_code.specs.Words.{restore}
+use Rattle.snippet_code.proofs.Common.{arith, restore}
 use Rattle.snippet_code.proofs.WholeCode.{all_numbered}
 use Rattle.snippet_code.proofs.expanding.push_restores.Goals as goal
 

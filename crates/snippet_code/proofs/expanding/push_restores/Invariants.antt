@@ -1,5 +1,4 @@
-use Rattle.snippet_code.proofs.Common.{◌≡◌, ◌++◌, map, take, word_of}
-use Rattle.snippet_code.specs.Words.{numbered, restore}
+use Rattle.snippet_code.proofs.Common.{◌≡◌, ◌++◌, map, take, word_of, numbered, restore}
 use Rattle.snippet_code.proofs.expanding.push_restores.Given as goal
 
 abbrev pub invariant-loop-n : goal.invariant-loop-n

@@ -1,5 +1,4 @@
-use Rattle.snippet_code.proofs.Common.{arith}
-use Rattle.snippet_code.specs.Words.{save}
+use Rattle.snippet_code.proofs.Common.{arith, save}
 use Rattle.snippet_code.proofs.WholeCode.{all_numbered}
 use Rattle.snippet_code.proofs.expanding.push_saves.Goals as goal
 

@@ -1,5 +1,4 @@
-use Rattle.snippet_code.proofs.Common.{◌≡◌, ◌++◌, map, take, All, slice_index, word_of, IsOp}
-use Rattle.snippet_code.specs.Words.{all_words}
+use Rattle.snippet_code.proofs.Common.{◌≡◌, ◌++◌, map, take, All, slice_index, word_of, IsOp, all_words}
 use Rattle.snippet_code.proofs.operations.push_ops.Given as goal
 
 abbrev pub invariant-loop-op : goal.invariant-loop-op

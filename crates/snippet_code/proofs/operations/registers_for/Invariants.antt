@@ -1,5 +1,4 @@
-use Rattle.snippet_code.proofs.Common.{◌≡◌, ◌≤◌, take}
-use Rattle.snippet_code.specs.Spills.{registers_for}
+use Rattle.snippet_code.proofs.Common.{◌≡◌, ◌≤◌, take, registers_for}
 use Rattle.snippet_code.proofs.operations.registers_for.Given as goal
 
 abbrev pub invariant-loop-op : goal.invariant-loop-op

@@ -1,9 +1,6 @@
-use Rattle.std.proofs.Common.{◌==◌, map, arith, rules, tests}
+use Rattle.snippets.proofs.Common.{◌==◌, map, arith, rules, tests, length_push, lines_of, said_of}
 use Rattle.std.proofs.lemmas.Iterator.Consumers.{YieldsList-turn, YieldsList-end}
 use Rattle.std.proofs.lemmas.Iterator.Splits.{YieldsList-from_slice_split}
-use Rattle.std.proofs.lemmas.List.{length_push}
-use Rattle.snippets.specs.Grammar.{lines_of}
-use Rattle.snippets.specs.Parts.{said_of}
 use Rattle.snippets.proofs.Held.{at, finished, stopped, turned}
 use Rattle.snippets.proofs.Lines.{all_say}
 use Rattle.snippets.proofs.reading.read_script.Goals as goal

@@ -1,6 +1,4 @@
-use Rattle.std.proofs.Common.{◌≡◌, length, take, map}
-use Rattle.snippets.specs.Grammar.{lines_of}
-use Rattle.snippets.specs.Parts.{said_of}
+use Rattle.snippets.proofs.Common.{◌≡◌, length, take, map, lines_of, said_of}
 use Rattle.snippets.proofs.Held.{Held}
 use Rattle.snippets.proofs.reading.read_script.Given as goal
 

@@ -1,5 +1,4 @@
-use Rattle.std.proofs.Common.{◌≡◌, take}
-use Rattle.snippets.specs.Cells.{named_by}
+use Rattle.snippets.proofs.Common.{◌≡◌, take, named_by}
 use Rattle.snippets.proofs.snippet.names_of.Given as goal
 
 abbrev pub invariant-loop-op : goal.invariant-loop-op

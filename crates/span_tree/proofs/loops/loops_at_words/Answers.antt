@@ -1,5 +1,4 @@
-use Rattle.std.proofs.Common.{rules, ◌≡◌, ℕ, ◌+◌, ◌∙◌, ap, arith, slice_index}
-use Rattle.std.proofs.lemmas.List.{get_or_read}
+use Rattle.span_tree.proofs.Common.{rules, ◌≡◌, ℕ, ◌+◌, ◌∙◌, ap, arith, slice_index, get_or_read}
 use Rattle.span_tree.proofs.LoopBounds.{about_few, about_is, about_next_as, ends_fewer, loops_more}
 use Rattle.span_tree.proofs.loops.loops_at_words.Goals as goal
 

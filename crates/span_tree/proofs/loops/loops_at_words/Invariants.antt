@@ -1,7 +1,4 @@
-use Rattle.std.proofs.Common.{◌≡◌, ◌+◌, map}
-use Rattle.cfg_blocks.specs.Blocks.{below}
-use Rattle.span_tree.specs.Bounds.{sum_below}
-use Rattle.span_tree.specs.Weights.{loops_at}
+use Rattle.span_tree.proofs.Common.{◌≡◌, ◌+◌, map, below, sum_below, loops_at}
 use Rattle.span_tree.proofs.loops.loops_at_words.Given as goal
 
 abbrev pub invariant-loop-word : goal.invariant-loop-word

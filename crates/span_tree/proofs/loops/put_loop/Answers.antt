@@ -1,6 +1,4 @@
-use Rattle.std.proofs.Common.{◌≤◌, ℕ, ◌∙◌, ap, arith, slice_index, sym}
-use Rattle.std.proofs.lemmas.List.Elements.{All-get_or}
-use Rattle.span_tree.specs.Weights.{branch_target}
+use Rattle.span_tree.proofs.Common.{◌≤◌, ℕ, ◌∙◌, ap, arith, slice_index, sym, All-get_or, branch_target}
 use Rattle.span_tree.proofs.LoopBounds.{put}
 use Rattle.span_tree.proofs.loops.put_loop.Goals as goal
 

@@ -1,5 +1,4 @@
-use Rattle.std.proofs.Common.{add-one}
-use Rattle.std.proofs.lemmas.List.{map-append}
+use Rattle.span_tree.proofs.Common.{add-one, map-append}
 use Rattle.span_tree.proofs.ranking.ranks.Goals as goal
 
 pub loop-number-preserved : goal.loop-number-preserved

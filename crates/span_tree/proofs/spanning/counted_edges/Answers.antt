@@ -1,13 +1,5 @@
-use Rattle.std.proofs.Common.{◌≡◌, ℕ, ◌+◌, ◌*◌, ◌∙◌, ap, length, sym}
-use Rattle.std.proofs.lemmas.List.{length-map}
+use Rattle.span_tree.proofs.Common.{◌≡◌, ℕ, ◌+◌, ◌*◌, ◌∙◌, ap, length, sym, length-map, graph_of, marked, IsConnected, RisesWith, is_node, link_of, links_of, rank_of}
 use Rattle.flows.specs.Flows.{Graph, IsLeast, weight_in}
-use Rattle.flows.specs.Links.{graph_of, marked}
-use Rattle.flows.specs.Trees.{IsConnected}
-use Rattle.flow_tree.specs.Tree.{RisesWith}
-use Rattle.cfg_normal.specs.Numbers.{is_node}
-use Rattle.span_tree.specs.Private.{link_of}
-use Rattle.span_tree.specs.Links.{links_of}
-use Rattle.span_tree.specs.Ties.{rank_of}
 use Rattle.span_tree.proofs.Connected.{connected, linked_as, plain_is}
 use Rattle.span_tree.proofs.Ranked.{ranks_length, ranks_rise, weights_rise}
 use Rattle.span_tree.proofs.spanning.counted_edges.Goals as goal

@@ -1,5 +1,4 @@
-use Rattle.std.proofs.Common.{◌≡◌, map, take}
-use Rattle.span_tree.specs.Private.{link_of}
+use Rattle.span_tree.proofs.Common.{◌≡◌, map, take, link_of}
 use Rattle.span_tree.proofs.spanning.links.Given as goal
 
 abbrev pub invariant-loop-edge : goal.invariant-loop-edge

@@ -1,6 +1,5 @@
-use Rattle.std.proofs.Common.{◌≡◌, ◌∙◌, arith, length}
+use Rattle.span_tree.proofs.Common.{◌≡◌, ◌∙◌, arith, length, marked}
 use Rattle.span_tree.proofs.LoopBounds.{counted_few}
-use Rattle.flows.specs.Links.{marked}
 use Rattle.span_tree.proofs.Numbered.{byte_is, count_given, length_given, numbered_given, one, one_most, same_given}
 use Rattle.span_tree.proofs.spanning.number.Goals as goal
 

@@ -1,6 +1,4 @@
-use Rattle.std.proofs.Common.{◌≡◌}
-use Rattle.flows.specs.Flows.{count_below}
-use Rattle.flows.specs.Links.{marked}
+use Rattle.span_tree.proofs.Common.{◌≡◌, count_below, marked}
 use Rattle.span_tree.proofs.Numbered.{cells_below}
 use Rattle.span_tree.proofs.spanning.number.Given as goal
 

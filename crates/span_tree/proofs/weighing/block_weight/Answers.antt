@@ -1,7 +1,4 @@
-use Rattle.std.proofs.Common.{◌≡◌, ℕ, ◌+◌, ◌-◌, ◌*◌, ◌<◌, ap, ◌∙◌, arith}
-use Rattle.std.specs.Prelude.{min}
-use Rattle.cfg_blocks.specs.Blocks.{last_word}
-use Rattle.span_tree.specs.Weights.{loops_at}
+use Rattle.span_tree.proofs.Common.{◌≡◌, ℕ, ◌+◌, ◌-◌, ◌*◌, ◌<◌, ap, ◌∙◌, arith, min, last_word, loops_at}
 use Rattle.span_tree.proofs.LoopBounds.{loops_length, loops_read}
 use Rattle.span_tree.proofs.weighing.block_weight.Goals as goal
 

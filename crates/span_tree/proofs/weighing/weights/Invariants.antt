@@ -1,5 +1,4 @@
-use Rattle.std.proofs.Common.{◌≡◌, take}
-use Rattle.span_tree.specs.Weights.{weights_of}
+use Rattle.span_tree.proofs.Common.{◌≡◌, take, weights_of}
 use Rattle.span_tree.proofs.weighing.weights.Given as goal
 
 abbrev pub invariant-loop-edge : goal.invariant-loop-edge

@@ -1,7 +1,4 @@
-use Rattle.std.proofs.Common.{◌∷◌, ap, sym, ◌∙◌}
-use Rattle.v8_decode.specs.declared.Part.TheVariants.{Icc, Y}
-use Rattle.v8_decode.specs.Effects.{alu_inputs}
-use Rattle.v8_decode.specs.Parts.{every_part, members, set_of}
+use Rattle.v8_decode.proofs.Common.{◌∷◌, ap, sym, ◌∙◌, Icc, Y, alu_inputs, every_part, members, set_of}
 use Rattle.v8_decode.proofs.effects.inputs.Goals as goal
 
 pub returns-in-MULScc : goal.returns-in-MULScc

@@ -1,6 +1,4 @@
-use Rattle.std.proofs.Common.{ap, ◌∙◌}
-use Rattle.v8_decode.specs.Effects.{reg}
-use Rattle.v8_decode.specs.Parts.{set_of}
+use Rattle.v8_decode.proofs.Common.{ap, ◌∙◌, reg, set_of}
 use Rattle.v8_decode.proofs.Marks.{joined}
 use Rattle.v8_decode.proofs.effects.pair_from.Goals as goal
 

@@ -1,5 +1,4 @@
-use Rattle.std.proofs.Common.{ap, sym, ◌∙◌}
-use Rattle.v8_decode.specs.Effects.{read_set}
+use Rattle.v8_decode.proofs.Common.{ap, sym, ◌∙◌, read_set}
 use Rattle.v8_decode.proofs.Marks.{joined}
 use Rattle.v8_decode.proofs.effects.reads.Goals as goal
 

@@ -1,6 +1,4 @@
-use Rattle.std.proofs.Common.{◌∷◌, ap, ◌∙◌}
-use Rattle.v8_decode.specs.declared.Part.TheVariants.{Reg}
-use Rattle.v8_decode.specs.Parts.{set_of}
+use Rattle.v8_decode.proofs.Common.{◌∷◌, ap, ◌∙◌, Reg, set_of}
 use Rattle.v8_decode.proofs.Marks.{set_of-reg}
 use Rattle.v8_decode.proofs.effects.register.Goals as goal
 

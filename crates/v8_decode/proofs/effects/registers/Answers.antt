@@ -1,6 +1,4 @@
-use Rattle.std.proofs.Common.{◌++◌, ap, sym, ◌∙◌}
-use Rattle.v8_decode.specs.Effects.{reg, op2_parts}
-use Rattle.v8_decode.specs.Parts.{set_of}
+use Rattle.v8_decode.proofs.Common.{◌++◌, ap, sym, ◌∙◌, reg, op2_parts, set_of}
 use Rattle.v8_decode.proofs.Marks.{joined}
 use Rattle.v8_decode.proofs.effects.registers.Goals as goal
 

@@ -1,7 +1,4 @@
-use Rattle.std.proofs.Common.{[], ◌∷◌, ap, sym, ◌∙◌}
-use Rattle.v8_decode.specs.declared.Part.TheVariants.{Y}
-use Rattle.v8_decode.specs.Effects.{when, write_set}
-use Rattle.v8_decode.specs.Parts.{set_of}
+use Rattle.v8_decode.proofs.Common.{[], ◌∷◌, ap, sym, ◌∙◌, Y, when, write_set, set_of}
 use Rattle.v8_decode.proofs.Marks.{joined}
 use Rattle.v8_decode.proofs.effects.writes.Goals as goal
 

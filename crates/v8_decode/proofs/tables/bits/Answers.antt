@@ -1,6 +1,5 @@
 -- the shifted word under a mask of `width` ones is the field
-use Rattle.std.proofs.Common.{◌/◌, ◌-◌, ◌^◌, bit_and, ap, ◌∙◌}
-use Rattle.std.proofs.lemmas.Nat.{and_mask, one_shl}
+use Rattle.v8_decode.proofs.Common.{◌/◌, ◌-◌, ◌^◌, bit_and, ap, ◌∙◌, and_mask, one_shl}
 use Rattle.v8_decode.proofs.tables.bits.Goals as goal
 
 pub returns-clause-value : goal.returns-clause-value

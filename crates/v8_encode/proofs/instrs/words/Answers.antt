@@ -1,7 +1,5 @@
-use Rattle.std.proofs.Common.{refl, ◌∙◌, arith}
-use Rattle.std.proofs.lemmas.List.{length-replicate, length-set}
+use Rattle.v8_encode.proofs.Common.{refl, ◌∙◌, arith, length-replicate, length-set, has_word}
 use Rattle.std.proofs.lemmas.List.Sums.{AllPass-from_list_all}
-use Rattle.v8_encode.specs.Code.{has_word}
 use Rattle.v8_encode.proofs.Several.{all_words, one_more}
 use Rattle.v8_encode.proofs.instrs.words.Goals as goal
 

@@ -1,6 +1,4 @@
-use Rattle.std.proofs.Common.{◌≡◌, drop}
-use Rattle.std.specs.List.{find}
-use Rattle.v8_memory.specs.Regions.{is_code}
+use Rattle.v8_memory.proofs.Common.{◌≡◌, drop, find, is_code}
 use Rattle.v8_memory.proofs.memory.code_region.Given as goal
 
 abbrev pub invariant-loop-region : goal.invariant-loop-region

@@ -1,8 +1,4 @@
-use Rattle.std.proofs.Common.{rules, Some, length, map, get_or, slice_set, arith, refl, ap, sym, ◌∙◌}
-use Rattle.std.specs.List.{find}
-use Rattle.std.specs.Option.{option_map}
-use Rattle.v8_memory.specs.Regions.{Region, covers, written}
-use Rattle.v8_memory.specs.Code.{are_apart, span_of}
+use Rattle.v8_memory.proofs.Common.{rules, Some, length, map, get_or, slice_set, arith, refl, ap, sym, ◌∙◌, find, option_map, Region, covers, written, are_apart, span_of}
 use Rattle.v8_memory.proofs.Apart.{found_here, none_written_here, write_once}
 use Rattle.v8_memory.proofs.memory.write_one.Goals as goal
 

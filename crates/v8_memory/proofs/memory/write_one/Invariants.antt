@@ -1,7 +1,5 @@
 -- No region so far has the bytes.
-use Rattle.std.proofs.Common.{◌≡◌, drop, length}
-use Rattle.std.specs.List.{find}
-use Rattle.v8_memory.specs.Regions.{covers}
+use Rattle.v8_memory.proofs.Common.{◌≡◌, drop, length, find, covers}
 use Rattle.v8_memory.proofs.memory.write_one.Given as goal
 
 abbrev pub invariant-loop-region : goal.invariant-loop-region

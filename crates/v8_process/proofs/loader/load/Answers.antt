@@ -1,5 +1,4 @@
-use Rattle.std.proofs.Common.{sym, ◌∙◌}
-use Rattle.v8_process.specs.Arguments.{texts}
+use Rattle.v8_process.proofs.Common.{sym, ◌∙◌, texts}
 use Rattle.v8_process.proofs.Arguments.{arguments_fit}
 use Rattle.v8_process.proofs.Loading.{started}
 use Rattle.v8_process.proofs.loader.load.Goals as goal

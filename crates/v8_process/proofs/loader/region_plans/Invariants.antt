@@ -1,6 +1,4 @@
-use Rattle.std.proofs.Common.{◌≡◌, ◌++◌, map, drop}
-use Rattle.v8_memory.specs.Calls.{mapping_of_plan}
-use Rattle.v8_process.specs.Private.{segment_mapping}
+use Rattle.v8_process.proofs.Common.{◌≡◌, ◌++◌, map, drop, mapping_of_plan, segment_mapping}
 use Rattle.v8_process.proofs.loader.region_plans.Given as goal
 
 abbrev pub invariant-loop-segment : goal.invariant-loop-segment

@@ -1,7 +1,4 @@
-use Rattle.std.proofs.Common.{◌∷◌, map, ap, ◌∙◌}
-use Rattle.v8_memory.specs.Calls.{mapping_of_plan}
-use Rattle.v8_process.specs.Arguments.{texts}
-use Rattle.v8_process.specs.Start.{program_name}
+use Rattle.v8_process.proofs.Common.{◌∷◌, map, ap, ◌∙◌, mapping_of_plan, texts, program_name}
 use Rattle.v8_process.proofs.Loading.{plans-mapped, plans-apart, plans-fit, plans-made}
 use Rattle.v8_process.proofs.loader.start_memory.Goals as goal
 

@@ -1,8 +1,4 @@
-use Rattle.std.proofs.Common.{◌≡◌, ◌+◌, ◌++◌, length, drop}
-use Rattle.std.specs.Int.{w32, to_be_bytes}
-use Rattle.std.specs.List.{flat_map}
-use Rattle.v8_process.specs.Arguments.{texts}
-use Rattle.v8_process.specs.Start.{strings, pointers}
+use Rattle.v8_process.proofs.Common.{◌≡◌, ◌+◌, ◌++◌, length, drop, w32, to_be_bytes, flat_map, texts, strings, pointers}
 use Rattle.v8_process.proofs.stack.put_pointers.Given as goal
 
 abbrev pub invariant-loop-arg : goal.invariant-loop-arg

@@ -1,6 +1,4 @@
-use Rattle.std.proofs.Common.{◌≡◌, ◌∷◌, ◌++◌, drop}
-use Rattle.v8_process.specs.Arguments.{texts}
-use Rattle.v8_process.specs.Start.{program_name, strings}
+use Rattle.v8_process.proofs.Common.{◌≡◌, ◌∷◌, ◌++◌, drop, texts, program_name, strings}
 use Rattle.v8_process.proofs.stack.put_strings.Given as goal
 
 abbrev pub invariant-loop-arg : goal.invariant-loop-arg

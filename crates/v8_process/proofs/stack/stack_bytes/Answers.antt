@@ -1,6 +1,4 @@
-use Rattle.std.proofs.Common.{◌∷◌, length, ap, ◌∙◌}
-use Rattle.v8_process.specs.Arguments.{texts}
-use Rattle.v8_process.specs.Start.{program_name}
+use Rattle.v8_process.proofs.Common.{◌∷◌, length, ap, ◌∙◌, texts, program_name}
 use Rattle.v8_process.proofs.Valid.{stack-count}
 use Rattle.v8_process.proofs.StackBytes.{parts}
 use Rattle.v8_process.proofs.stack.stack_bytes.Goals as goal

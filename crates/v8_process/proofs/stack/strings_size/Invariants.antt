@@ -1,6 +1,4 @@
-use Rattle.std.proofs.Common.{◌≡◌, ◌+◌, ◌∷◌, length, drop}
-use Rattle.v8_process.specs.Arguments.{texts}
-use Rattle.v8_process.specs.Start.{program_name, strings}
+use Rattle.v8_process.proofs.Common.{◌≡◌, ◌+◌, ◌∷◌, length, drop, texts, program_name, strings}
 use Rattle.v8_process.proofs.stack.strings_size.Given as goal
 
 abbrev pub invariant-loop-arg : goal.invariant-loop-arg

@@ -1,11 +1,5 @@
 -- One turn more.
-use Rattle.std.proofs.Common.{rules, arith, length, ℕ, ◌≡◌, ◌+◌, ◌-◌, ◌<◌, ◌≤◌, ◌∙◌, ap, sym}
-use Rattle.v8_step.specs.declared.ahead.Cursor.{Cursor}
-use Rattle.v8_step.specs.declared.ahead.Control.TheVariants.{On, Past, To, At, Stop}
-use Rattle.v8_step.specs.State.{State}
-use Rattle.v8_step.specs.declared.Slot.{Slot}
-use Rattle.v8_step.specs.declared.Slot.TheVariants.{NoSlot, Untaken, Taken}
-use Rattle.v8_step.specs.Ahead.{slot_by}
+use Rattle.v8_step.proofs.Common.{rules, arith, length, ℕ, ◌≡◌, ◌+◌, ◌-◌, ◌<◌, ◌≤◌, ◌∙◌, ap, sym, Cursor, On, Past, To, At, Stop, State, Slot, NoSlot, Untaken, Taken, slot_by}
 use Rattle.v8_step.proofs.InOrder.{at_start, comes_on, in_slot, jump_place, no_slot, not_last}
 use Rattle.v8_step.proofs.ahead.go_far.Goals as goal
 

@@ -1,9 +1,5 @@
 -- The steps so far were all made, and the run goes on at a place with a record.
-use Rattle.std.proofs.Common.{◌≡◌, ◌+◌, ◌-◌, ◌<◌, ◌≤◌, None}
-use Rattle.v8_memory.specs.Kept.{AreKept}
-use Rattle.v8_memory.specs.Regions.{code_of}
-use Rattle.v8_step.specs.Ahead.{at_places, slot_by}
-use Rattle.v8_step.specs.Turns.{IsQuietRun}
+use Rattle.v8_step.proofs.Common.{◌≡◌, ◌+◌, ◌-◌, ◌<◌, ◌≤◌, None, AreKept, code_of, at_places, slot_by, IsQuietRun}
 use Rattle.v8_step.proofs.ahead.go_far.Given as goal
 
 abbrev pub invariant-turns : goal.invariant-turns

@@ -1,6 +1,4 @@
-use Rattle.std.proofs.Common.{arith, ◌≡◌, ℕ, ◌+◌, ◌-◌, ◌*◌, ◌<◌, ◌≤◌, List, length, take, drop, get_or, ◌∙◌}
-use Rattle.std.specs.Int.{w32, to_be_bytes}
-use Rattle.std.specs.List.{flat_map}
+use Rattle.v8_step.proofs.Common.{arith, ◌≡◌, ℕ, ◌+◌, ◌-◌, ◌*◌, ◌<◌, ◌≤◌, List, length, take, drop, get_or, ◌∙◌, w32, to_be_bytes, flat_map}
 use Rattle.std.proofs.lemmas.Grind.{common_steps}
 use borrow.Rule.Slice.PartMut.{put_mid}
 use Rattle.v8_step.proofs.window_moves.frame_bytes.Goals as goal

@@ -1,6 +1,4 @@
-use Rattle.std.proofs.Common.{◌≡◌, ◌*◌, length, take}
-use Rattle.std.specs.Int.{w32, to_be_bytes}
-use Rattle.std.specs.List.{flat_map}
+use Rattle.v8_step.proofs.Common.{◌≡◌, ◌*◌, length, take, w32, to_be_bytes, flat_map}
 use Rattle.v8_step.proofs.window_moves.frame_bytes.Given as goal
 
 abbrev pub invariant-loop-i : goal.invariant-loop-i

@@ -1,5 +1,4 @@
-use Rattle.std.proofs.Common.{arith, ◌∙◌}
-use Rattle.std.proofs.Math.ListN.{length-set}
+use Rattle.v8_step.proofs.Common.{arith, ◌∙◌, length-set}
 use Rattle.v8_step.proofs.FrameWords.{word_read}
 use Rattle.v8_step.proofs.window_moves.frame_words.Goals as goal
 

@@ -1,5 +1,4 @@
-use Rattle.std.proofs.Common.{◌≡◌, length, take}
-use Rattle.v8_windows.specs.Calls.{frame_words as words_of_frame}
+use Rattle.v8_step.proofs.Common.{◌≡◌, length, take, words_of_frame}
 use Rattle.v8_step.proofs.window_moves.frame_words.Given as goal
 
 abbrev pub invariant-loop-i : goal.invariant-loop-i

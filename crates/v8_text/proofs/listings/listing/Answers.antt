@@ -1,5 +1,4 @@
-use Rattle.std.proofs.Common.{◌++◌, ◌<◌, List, ℕ, length, ap, ◌∙◌, sym, arith}
-use Rattle.v8_text.specs.Texts.{line_text}
+use Rattle.v8_text.proofs.Common.{◌++◌, ◌<◌, List, ℕ, length, ap, ◌∙◌, sym, arith, line_text}
 use Rattle.v8_text.proofs.Listed.{lines-take}
 use Rattle.v8_text.proofs.listings.listing.Goals as goal
 

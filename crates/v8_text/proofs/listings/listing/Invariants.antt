@@ -1,5 +1,4 @@
-use Rattle.std.proofs.Common.{◌≡◌, take}
-use Rattle.v8_text.specs.Texts.{lines_from}
+use Rattle.v8_text.proofs.Common.{◌≡◌, take, lines_from}
 use Rattle.v8_text.proofs.listings.listing.Given as goal
 
 abbrev pub invariant-loop-word : goal.invariant-loop-word

@@ -1,7 +1,6 @@
-use Rattle.std.proofs.Common.{rules, ◌≡◌, ◌≢◌, [], length, ◌+◌, ℕ, subst, sym, ◌∙◌, ap}
+use Rattle.v8_text.proofs.Common.{rules, ◌≡◌, ◌≢◌, [], length, ◌+◌, ℕ, subst, sym, ◌∙◌, ap, IsUnlisted}
 use Rattle.std.proofs.lemmas.Result.{err_from_is_err_and}
 use Rattle.v8_text.specs.declared.listings.ListFault.TheVariants as faults
-use Rattle.v8_text.specs.Code.{IsUnlisted}
 use Rattle.v8_text.proofs.Listed.{read_more, stopped}
 use Rattle.v8_text.proofs.listings.read_listing.Goals as goal
 

@@ -1,7 +1,6 @@
-use Rattle.std.proofs.Common.{ℕ, ℤ, ap, ◌∙◌, ◌++◌}
+use Rattle.v8_text.proofs.Common.{ℕ, ℤ, ap, ◌∙◌, ◌++◌, named, number_text, target_of}
 use Rattle.std.specs.Int.{w32}
 use Rattle.std.proofs.lemmas.Int.{to_z-of_z}
-use Rattle.v8_text.specs.Texts.{named, number_text, target_of}
 use Rattle.v8_text.proofs.writing.put_jump.Goals as goal
 
 pub returns : goal.returns

@@ -1,6 +1,4 @@
-use Rattle.std.proofs.Common.{◌≡◌, ◌∙◌, Some, refl, sym}
-use Rattle.std.specs.List.{slice_get}
-use Rattle.std.proofs.lemmas.Option.{slice_get_read}
+use Rattle.weights_in.proofs.Common.{◌≡◌, ◌∙◌, Some, refl, sym, slice_get, slice_get_read}
 use Rattle.weights_in.proofs.reading.names_edge.Goals as goal
 
 pub returns-in-Some : goal.returns-in-Some

@@ -1,6 +1,4 @@
-use Rattle.std.proofs.Common.{◌+◌, ap, inl, refl, sym}
-use Rattle.cfg_view.specs.Code.{view_seen}
-use Rattle.weights_in.specs.Parts.{Edge, Last, entry_in, said_in}
+use Rattle.weights_in.proofs.Common.{◌+◌, ap, inl, refl, sym, view_seen, Edge, Last, entry_in, said_in}
 use Rattle.weights_in.proofs.Lines.{no_next, IsNext}
 use Rattle.weights_in.proofs.Read.{Answers, bad_entry, ended, fault_out, more, most_out, next_said, shorter, stray}
 use Rattle.weights_in.proofs.reading.read_lines.Goals as goal

@@ -1,5 +1,4 @@
-use Rattle.std.proofs.Common.{length}
-use Rattle.cfg_view.specs.Code.{view_seen}
+use Rattle.weights_in.proofs.Common.{length, view_seen}
 use Rattle.weights_in.proofs.Read.{IsRead}
 use Rattle.weights_in.proofs.reading.read_lines.Given as goal
 

@@ -1,5 +1,4 @@
-use Rattle.std.proofs.Common.{◌^◌, ◌+◌, ◌*◌, ◌/◌, ap, sym, ◌∙◌, subst, arith}
-use Rattle.addr_translate.specs.Lookup.{IsBlock, TableAt, table_word}
+use Rattle.addr_translate.proofs.Common.{◌^◌, ◌+◌, ◌*◌, ◌/◌, ap, sym, ◌∙◌, subst, arith, IsBlock, TableAt, table_word}
 use Rattle.addr_translate.proofs.table.Table.second_block.Goals as goal
 
 pub returns-clause-block : goal.returns-clause-block

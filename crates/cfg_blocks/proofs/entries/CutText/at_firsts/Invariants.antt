@@ -1,6 +1,4 @@
-use Rattle.std.proofs.Common.{◌≡◌, map}
-use Rattle.cfg_blocks.specs.Arrivals.{into_first}
-use Rattle.cfg_blocks.specs.Blocks.{below}
+use Rattle.cfg_blocks.proofs.Common.{◌≡◌, map, into_first, below}
 use Rattle.cfg_blocks.proofs.entries.CutText.at_firsts.Given as goal
 
 abbrev pub invariant-loop-block : goal.invariant-loop-block

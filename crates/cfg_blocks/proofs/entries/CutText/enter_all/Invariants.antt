@@ -1,5 +1,4 @@
-use Rattle.std.proofs.Common.{◌≡◌, ℕ, ◌<◌, length}
-use Rattle.cfg_blocks.specs.Arrivals.{added_all, counted_from, into_at, is_bare_in}
+use Rattle.cfg_blocks.proofs.Common.{◌≡◌, ℕ, ◌<◌, length, added_all, counted_from, into_at, is_bare_in}
 use Rattle.cfg_blocks.proofs.entries.CutText.enter_all.Given as goal
 
 abbrev pub invariant-loop-block : goal.invariant-loop-block

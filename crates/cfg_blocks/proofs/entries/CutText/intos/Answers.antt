@@ -1,5 +1,4 @@
-use Rattle.std.proofs.Common.{length, ◌∙◌, arith, rules}
-use Rattle.cfg_blocks.specs.Arrivals.{into_in, into_first}
+use Rattle.cfg_blocks.proofs.Common.{length, ◌∙◌, arith, rules, into_in, into_first}
 use Rattle.cfg_blocks.proofs.Below.{map_below_same}
 use Rattle.cfg_blocks.proofs.Entering.{all_more, into_first_is}
 use Rattle.cfg_blocks.proofs.entries.CutText.intos.Goals as goal

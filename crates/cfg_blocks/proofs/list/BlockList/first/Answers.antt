@@ -1,7 +1,4 @@
-use Rattle.std.proofs.Common.{rules, ◌≡◌, ◌<◌, ◌∙◌, length, slice_index, ap, arith}
-use Rattle.std.proofs.lemmas.Grind.{get_or_default_zero}
-use Rattle.cfg_blocks.specs.Code.{AreFirsts}
-use Rattle.cfg_blocks.specs.Entries.{Entered}
+use Rattle.cfg_blocks.proofs.Common.{rules, ◌≡◌, ◌<◌, ◌∙◌, length, slice_index, ap, arith, get_or_default_zero, AreFirsts, Entered}
 use Rattle.cfg_blocks.proofs.list.BlockList.first.Goals as goal
 
 pub returns : goal.returns

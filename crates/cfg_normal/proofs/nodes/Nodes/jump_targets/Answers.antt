@@ -1,5 +1,4 @@
-use Rattle.std.proofs.Common.{ap, get_or, ◌∙◌}
-use Rattle.cfg_normal.specs.Landings.{NodeList}
+use Rattle.cfg_normal.proofs.Common.{ap, get_or, ◌∙◌, NodeList}
 use Rattle.cfg_normal.proofs.LandingFacts.{targets_known}
 use Rattle.cfg_normal.proofs.nodes.Nodes.jump_targets.Goals as goal
 

@@ -1,5 +1,4 @@
-use Rattle.std.proofs.Common.{◌≡◌, length, arith}
-use Rattle.elf32_sparc.specs.Survey.{noted, survey_of}
+use Rattle.elf32_sparc.proofs.Common.{◌≡◌, length, arith, noted, survey_of}
 use Rattle.elf32_sparc.proofs.Surveys.{texts-noted, memory-noted, starts, goes_on, ends}
 use Rattle.elf32_sparc.proofs.survey.Survey.of.Goals as goal
 

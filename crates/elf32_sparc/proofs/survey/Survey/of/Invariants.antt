@@ -1,7 +1,4 @@
-use Rattle.std.proofs.Common.{◌≡◌, ◌+◌, ◌-◌, ◌*◌, ◌^◌, ◌≤◌, length}
-use Rattle.std.specs.List.{fold}
-use Rattle.elf32_sparc.specs.Header.{headers_from}
-use Rattle.elf32_sparc.specs.Survey.{noted, survey_of}
+use Rattle.elf32_sparc.proofs.Common.{◌≡◌, ◌+◌, ◌-◌, ◌*◌, ◌^◌, ◌≤◌, length, fold, headers_from, noted, survey_of}
 use Rattle.elf32_sparc.proofs.survey.Survey.of.Given as goal
 
 abbrev pub invariant-loop-number : goal.invariant-loop-number

@@ -1,11 +1,4 @@
-use Rattle.std.proofs.Common.{rules, ◌≡◌, ℕ, true, List, length, ap, sym, ◌∙◌, subst, set}
-use Rattle.std.specs.List.{Contains}
-use Rattle.std.specs.BinaryHeap.{heap_items}
-use Rattle.flows.specs.Flows.{NodeSet, weight_in}
-use Rattle.flows.specs.Links.{marked, graph_of}
-use Rattle.flows.specs.Trees.{crosses, Grows, joined_by, only}
-use Rattle.flow_tree.specs.Tree.{edges_in, nodes_in}
-use Rattle.flow_tree.specs.declared.Join.{Join}
+use Rattle.flow_tree.proofs.Common.{rules, ◌≡◌, ℕ, true, List, length, ap, sym, ◌∙◌, subst, set, Contains, heap_items, NodeSet, weight_in, marked, graph_of, crosses, Grows, joined_by, only, edges_in, nodes_in, Join}
 use Rattle.flow_tree.proofs.Steps.{held_first, begun_marks}
 use Rattle.flow_tree.proofs.growth.WeighedGraph.begin.Goals as goal
 

@@ -1,15 +1,4 @@
-use Rattle.std.proofs.Common.{rules, ◌≡◌, ℕ, ◌<◌, ◌⊎◌, inl, inr, Bool, true, false, List, [], ◌∷◌, ◌++◌, length, ap, sym, ◌∙◌, subst, set}
-use Rattle.std.specs.List.{Contains}
-use Rattle.std.specs.BinaryHeap.{heap_items}
-use Rattle.std.proofs.lemmas.List.{length-set}
-use Rattle.std.proofs.lemmas.Bool.{cases_Bool}
-use Rattle.flows.specs.Flows.{NodeSet, weight_in}
-use Rattle.flows.specs.Links.{graph_of, marked}
-use Rattle.flows.specs.Trees.{and_also, IsHeaviest, crosses, only, far_end, joined_by, Grows}
-use Rattle.flows.proofs.Bools.{true_or_false}
-use Rattle.flow_tree.specs.Rows.{IsAttached}
-use Rattle.flow_tree.specs.Search.{candidate}
-use Rattle.flow_tree.specs.Tree.{edges_in, nodes_in}
+use Rattle.flow_tree.proofs.Common.{rules, ◌≡◌, ℕ, ◌<◌, ◌⊎◌, inl, inr, Bool, true, false, List, [], ◌∷◌, ◌++◌, length, ap, sym, ◌∙◌, subst, set, Contains, heap_items, length-set, cases_Bool, NodeSet, weight_in, graph_of, marked, and_also, IsHeaviest, crosses, only, far_end, joined_by, Grows, true_or_false, IsAttached, candidate, edges_in, nodes_in}
 use Rattle.flow_tree.proofs.Steps.{joined_by-push, nodes-push, heaviest_here, edges-push, held_again, marked_set, grows_more}
 use Rattle.flow_tree.proofs.growth.WeighedGraph.join.Goals as goal
 

@@ -1,11 +1,4 @@
-use Rattle.std.proofs.Common.{arith, rules, ◌≡◌, ◌⊎◌, inl, inr, length, true, false, ap, sym, ◌∙◌}
-use Rattle.std.proofs.lemmas.Grind.{common_steps}
-use Rattle.std.specs.List.{Contains}
-use Rattle.std.specs.BinaryHeap.{heap_items}
-use Rattle.flows.specs.Links.{graph_of, marked}
-use Rattle.flows.specs.Trees.{crosses}
-use Rattle.flow_tree.specs.Search.{IsReal}
-use Rattle.flow_tree.specs.declared.growth.Candidate.{Candidate}
+use Rattle.flow_tree.proofs.Common.{arith, rules, ◌≡◌, ◌⊎◌, inl, inr, length, true, false, ap, sym, ◌∙◌, common_steps, Contains, heap_items, graph_of, marked, crosses, IsReal, Candidate}
 use Rattle.flow_tree.proofs.Heaps.{popped, came_from, all_left}
 use Rattle.flow_tree.proofs.growth.WeighedGraph.next_crossing.Goals as goal
 

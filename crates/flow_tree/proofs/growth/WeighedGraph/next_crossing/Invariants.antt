@@ -1,10 +1,4 @@
-use Rattle.std.proofs.Common.{◌≡◌, length, true}
-use Rattle.std.specs.List.{Contains}
-use Rattle.std.specs.BinaryHeap.{heap_items, heap_len}
-use Rattle.flows.specs.Links.{graph_of, marked}
-use Rattle.flows.specs.Trees.{crosses}
-use Rattle.flow_tree.specs.Search.{AreCandidates}
-use Rattle.flow_tree.specs.declared.growth.Candidate.{Candidate}
+use Rattle.flow_tree.proofs.Common.{◌≡◌, length, true, Contains, heap_items, heap_len, graph_of, marked, crosses, AreCandidates, Candidate}
 use Rattle.flow_tree.proofs.growth.WeighedGraph.next_crossing.Given as goal
 
 abbrev pub invariant-loop-top : goal.invariant-loop-top

@@ -1,5 +1,4 @@
-use Rattle.std.proofs.Common.{rules}
-use Rattle.flow_tree.specs.Search.{IsReal}
+use Rattle.flow_tree.proofs.Common.{rules, IsReal}
 use Rattle.flow_tree.proofs.Heaps.{pushed_kept, pushed_here, pushed_all}
 use Rattle.flow_tree.proofs.growth.WeighedGraph.offer.Goals as goal
 

@@ -1,10 +1,4 @@
-use Rattle.std.proofs.Common.{rules, ◌≡◌, ◌⊎◌, inl, inr, ℕ, length, sym, subst, take, slice_index, List, true}
-use Rattle.std.specs.List.{Contains}
-use Rattle.std.specs.BinaryHeap.{heap_items}
-use Rattle.std.proofs.lemmas.List.{take_all}
-use Rattle.flows.specs.Links.{marked, graph_of}
-use Rattle.flows.specs.Trees.{crosses}
-use Rattle.flow_tree.specs.Search.{candidate}
+use Rattle.flow_tree.proofs.Common.{rules, ◌≡◌, ◌⊎◌, inl, inr, ℕ, length, sym, subst, take, slice_index, List, true, Contains, heap_items, take_all, marked, graph_of, crosses, candidate}
 use Rattle.flow_tree.proofs.Heaps.{taken_cases}
 use Rattle.flow_tree.proofs.growth.WeighedGraph.offer_all.Goals as goal
 

@@ -1,10 +1,4 @@
-use Rattle.std.proofs.Common.{◌≡◌, ℕ, length, take, true}
-use Rattle.std.specs.List.{Contains}
-use Rattle.std.specs.BinaryHeap.{heap_items}
-use Rattle.flows.specs.Links.{graph_of, marked}
-use Rattle.flows.specs.Trees.{crosses}
-use Rattle.flow_tree.specs.Search.{AreCandidates, candidate}
-use Rattle.flow_tree.specs.declared.growth.Candidate.{Candidate}
+use Rattle.flow_tree.proofs.Common.{◌≡◌, ℕ, length, take, true, Contains, heap_items, graph_of, marked, crosses, AreCandidates, candidate, Candidate}
 use Rattle.flow_tree.proofs.growth.WeighedGraph.offer_all.Given as goal
 
 abbrev pub invariant-loop-edge : goal.invariant-loop-edge

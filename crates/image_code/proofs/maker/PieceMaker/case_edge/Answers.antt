@@ -1,6 +1,4 @@
-use Rattle.std.proofs.Common.{◌∙◌, Some, None}
-use Rattle.std.specs.Coded.{Coded-set, coded_list, coded_ℕ}
-use Rattle.std.proofs.Math.Logic.{∥∥₁_elim}
+use Rattle.image_code.proofs.Common.{◌∙◌, Some, None, Coded-set, coded_list, coded_ℕ, ∥∥₁_elim}
 use Rattle.image_code.proofs.EdgeTables.{case_edge_is}
 use Rattle.image_code.proofs.maker.PieceMaker.case_edge.Goals as goal
 

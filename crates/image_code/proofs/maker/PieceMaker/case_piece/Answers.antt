@@ -1,7 +1,4 @@
-use Rattle.image_code.proofs.Common.{◌≡◌, ℕ, Bool, ap, eq-eqb, if◌then◌else◌, ne_eqb, subst, sym, ◌∙◌, Shape}
-use Rattle.std.specs.Result.{IfOk}
-use Rattle.image_code.specs.Labels.{Case, Spare}
-use Rattle.image_code.specs.Made.{case_shape, shape_of}
+use Rattle.image_code.proofs.Common.{◌≡◌, ℕ, Bool, ap, eq-eqb, if◌then◌else◌, ne_eqb, subst, sym, ◌∙◌, Shape, IfOk, Case, Spare, case_shape, shape_of}
 use Rattle.image_code.proofs.maker.PieceMaker.case_piece.Goals as goal
 
 pub returns-then-place-entry : goal.returns-then-place-entry

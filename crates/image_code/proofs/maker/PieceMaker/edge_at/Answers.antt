@@ -1,7 +1,4 @@
-use Rattle.image_code.proofs.Common.{ℕ, ◌<◌, List, [], length, ap, ◌∙◌, arith, slice_index, node_number}
-use Rattle.std.specs.Coded.{le_prop}
-use Rattle.std.proofs.lemmas.List.{get_or_default}
-use Rattle.image_code.specs.Lookups.{mark_at}
+use Rattle.image_code.proofs.Common.{ℕ, ◌<◌, List, [], length, ap, ◌∙◌, arith, slice_index, node_number, le_prop, get_or_default, mark_at}
 use Rattle.image_code.proofs.Found.{known}
 use Rattle.image_code.proofs.maker.PieceMaker.edge_at.Goals as goal
 

@@ -1,5 +1,4 @@
-use Rattle.image_code.proofs.Common.{arith}
-use Rattle.image_code.specs.Labels.{switch_at}
+use Rattle.image_code.proofs.Common.{arith, switch_at}
 use Rattle.image_code.proofs.Found.{piece_number}
 use Rattle.image_code.proofs.Numbers.{behind_small, enters_block, enters_copy}
 use Rattle.image_code.proofs.maker.PieceMaker.enter.Goals as goal

@@ -1,5 +1,4 @@
-use Rattle.std.proofs.Common.{length, ◌∙◌}
-use Rattle.image_code.specs.Labels.{first_entry}
+use Rattle.image_code.proofs.Common.{length, ◌∙◌, first_entry}
 use Rattle.image_code.proofs.Found.{number_is, number_within}
 use Rattle.image_code.proofs.maker.PieceMaker.entry.Goals as goal
 

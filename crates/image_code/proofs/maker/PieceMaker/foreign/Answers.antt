@@ -1,5 +1,4 @@
-use Rattle.image_code.proofs.Common.{List, ap, arith, length, ◌∙◌, Open}
-use Rattle.image_code.specs.Labels.{first_entry}
+use Rattle.image_code.proofs.Common.{List, ap, arith, length, ◌∙◌, Open, first_entry}
 use Rattle.image_code.proofs.Found.{piece_number}
 use Rattle.image_code.proofs.Numbers.{foreign_number_is}
 use Rattle.image_code.proofs.maker.PieceMaker.foreign.Goals as goal

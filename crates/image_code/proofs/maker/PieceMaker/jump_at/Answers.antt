@@ -1,5 +1,4 @@
-use Rattle.image_code.proofs.Common.{◌≡◌, sym, ◌∙◌, subst, Shape}
-use Rattle.std.specs.Result.{IfOk}
+use Rattle.image_code.proofs.Common.{◌≡◌, sym, ◌∙◌, subst, Shape, IfOk}
 use Rattle.image_code.proofs.JumpsBy.{chosen_is, out_is}
 use Rattle.image_code.proofs.maker.PieceMaker.jump_at.Goals as goal
 

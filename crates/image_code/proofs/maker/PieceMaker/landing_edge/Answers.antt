@@ -1,5 +1,4 @@
-use Rattle.std.specs.Coded.{Coded-set, coded_list, coded_ℕ}
-use Rattle.std.proofs.Math.Logic.{∥∥₁_elim}
+use Rattle.image_code.proofs.Common.{Coded-set, coded_list, coded_ℕ, ∥∥₁_elim}
 use Rattle.image_code.proofs.EdgeTables.{landing_is}
 use Rattle.image_code.proofs.maker.PieceMaker.landing_edge.Goals as goal
 

@@ -1,5 +1,4 @@
-use Rattle.image_code.proofs.Common.{map, ap, PieceNo}
-use Rattle.image_code.specs.Made.{lands_at}
+use Rattle.image_code.proofs.Common.{map, ap, PieceNo, lands_at}
 use Rattle.image_code.proofs.Pushed.{pushed_number}
 use Rattle.image_code.proofs.maker.PieceMaker.landings.Goals as goal
 

@@ -1,5 +1,4 @@
-use Rattle.image_code.proofs.Common.{◌≡◌, map, PieceNo, below}
-use Rattle.image_code.specs.Made.{lands_at}
+use Rattle.image_code.proofs.Common.{◌≡◌, map, PieceNo, below, lands_at}
 use Rattle.image_code.proofs.maker.PieceMaker.landings.Given as goal
 
 abbrev pub invariant-loop-word : goal.invariant-loop-word

@@ -1,6 +1,4 @@
-use Rattle.image_code.proofs.Common.{◌≡◌, ℕ, ◌==◌, Bool, ap, arith, if◌then◌else◌, lands, length, ne_eqb, sym, ◌∙◌, Some, false, landing_at}
-use Rattle.image_code.specs.Labels.{enter_number, landing_number}
-use Rattle.image_code.specs.Store.{operations_on}
+use Rattle.image_code.proofs.Common.{◌≡◌, ℕ, ◌==◌, Bool, ap, arith, if◌then◌else◌, lands, length, ne_eqb, sym, ◌∙◌, Some, false, landing_at, enter_number, landing_number, operations_on}
 use Rattle.image_code.proofs.Found.{lands_within, piece_number}
 use Rattle.image_code.proofs.Numbers.{landing_is}
 use Rattle.image_code.proofs.maker.PieceMaker.lands_at.Goals as goal

@@ -1,7 +1,5 @@
-use Rattle.image_code.proofs.Common.{List, ℕ, length, ap, ◌∙◌, arith, slice_index, length-map}
-use Rattle.std.specs.Coded.{le_prop}
+use Rattle.image_code.proofs.Common.{List, ℕ, length, ap, ◌∙◌, arith, slice_index, length-map, le_prop, load_of}
 use Rattle.image_code.proofs.Found.{known, known_number}
-use Rattle.image_code.specs.Loads.{load_of}
 use Rattle.image_code.proofs.Pushed.{map_at}
 use Rattle.image_code.proofs.maker.PieceMaker.load.Goals as goal
 

@@ -1,5 +1,4 @@
-use Rattle.image_code.proofs.Common.{◌≡◌, ◌+◌, ◌<◌, arith, length, lt-ltb, refl, sym, ◌∙◌}
-use Rattle.image_code.specs.Labels.{enter_number, node_in_order}
+use Rattle.image_code.proofs.Common.{◌≡◌, ◌+◌, ◌<◌, arith, length, lt-ltb, refl, sym, ◌∙◌, enter_number, node_in_order}
 use Rattle.image_code.proofs.Found.{known_number}
 use Rattle.image_code.proofs.Numbers.{ordered_number}
 use Rattle.image_code.proofs.maker.PieceMaker.next_after.Goals as goal

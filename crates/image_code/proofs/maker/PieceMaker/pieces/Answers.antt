@@ -1,6 +1,4 @@
-use Rattle.image_code.proofs.Common.{ℕ, holding_of, Bool, Node, ap, arith, if◌then◌else◌, lt-ltb, block, sym, ◌∙◌, X}
-use Rattle.std.specs.Coded.{le_prop}
-use Rattle.image_code.specs.Labels.{enter_number}
+use Rattle.image_code.proofs.Common.{ℕ, holding_of, Bool, Node, ap, arith, if◌then◌else◌, lt-ltb, block, sym, ◌∙◌, X, le_prop, enter_number}
 use Rattle.image_code.proofs.Found.{known, known_number}
 use Rattle.image_code.proofs.maker.PieceMaker.pieces.Goals as goal
 

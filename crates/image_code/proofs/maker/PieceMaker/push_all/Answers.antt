@@ -1,7 +1,5 @@
-use Rattle.image_code.proofs.Common.{append_assoc, map-append}
+use Rattle.image_code.proofs.Common.{append_assoc, map-append, piece_labels, shape_list}
 use Rattle.std.proofs.lemmas.Simd.{map-map}
-use Rattle.image_code.specs.Labels.{piece_labels}
-use Rattle.image_code.specs.Made.{shape_list}
 use Rattle.image_code.proofs.maker.PieceMaker.push_all.Goals as goal
 
 pub returns-clause-list : goal.returns-clause-list

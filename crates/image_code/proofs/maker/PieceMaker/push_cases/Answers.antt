@@ -1,9 +1,4 @@
-use Rattle.std.proofs.Common.{◌++◌, map, Some, ap, sym, ◌∙◌}
-use Rattle.std.proofs.lemmas.Option.{slice_get-get_or}
-use Rattle.eel_base.specs.declared.numbers.PieceNo.{PieceNo}
-use Rattle.cfg_normal.specs.Opens.{Open}
-use Rattle.image_code.specs.Private.{piece_for, pieces_for}
-use Rattle.image_code.specs.Labels.{cases_of, entry_labels}
+use Rattle.image_code.proofs.Common.{◌++◌, map, Some, ap, sym, ◌∙◌, slice_get-get_or, PieceNo, Open, piece_for, pieces_for, cases_of, entry_labels}
 use Rattle.image_code.proofs.CasePieces.{numbers_pushed}
 use Rattle.image_code.proofs.Pushed.{pushed_all}
 use Rattle.image_code.proofs.maker.PieceMaker.push_cases.Goals as goal

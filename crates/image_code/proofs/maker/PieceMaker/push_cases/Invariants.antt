@@ -1,8 +1,4 @@
-use Rattle.std.proofs.Common.{◌≡◌, ◌++◌, map, take}
-use Rattle.std.specs.List.{flat_map}
-use Rattle.eel_base.specs.declared.numbers.PieceNo.{PieceNo}
-use Rattle.image_code.specs.Private.{pieces_for}
-use Rattle.image_code.specs.Labels.{cases_of, entry_labels}
+use Rattle.image_code.proofs.Common.{◌≡◌, ◌++◌, map, take, flat_map, PieceNo, pieces_for, cases_of, entry_labels}
 use Rattle.image_code.proofs.maker.PieceMaker.push_cases.Given as goal
 
 abbrev pub invariant-loop-number : goal.invariant-loop-number

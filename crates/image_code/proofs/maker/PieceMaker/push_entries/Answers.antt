@@ -1,11 +1,4 @@
-use Rattle.std.proofs.Common.{◌∷◌, [], ◌≡◌, ℕ, ◌++◌, map, ap, sym, nat_eq, ◌∙◌, arith}
-use Rattle.std.specs.Prelude.{◌==◌}
-use Rattle.std.specs.List.{position}
-use Rattle.std.specs.Coded.{le_prop}
-use Rattle.indexmap.specs.IndexMap.{get}
-use Rattle.eel_base.specs.declared.numbers.WordNo.{WordNo}
-use Rattle.image_code.specs.Private.{code_at, piece_for}
-use Rattle.image_code.specs.Shapes.{Shape, items_of}
+use Rattle.image_code.proofs.Common.{◌∷◌, [], ◌≡◌, ℕ, ◌++◌, map, ap, sym, nat_eq, ◌∙◌, arith, ◌==◌, position, le_prop, get, WordNo, code_at, piece_for, Shape, items_of}
 use Rattle.image_code.proofs.CasePieces.{case_pushed, entry_number, number_pushed, target_at, words_all}
 use Rattle.image_code.proofs.Found.{found_stands, known, known_number}
 use Rattle.image_code.proofs.Numbers.{target_low}

@@ -1,8 +1,5 @@
-use Rattle.image_code.proofs.Common.{◌≡◌, ◌++◌, map, take, PieceNo}
-use Rattle.eel_base.specs.declared.numbers.WordNo.{WordNo}
+use Rattle.image_code.proofs.Common.{◌≡◌, ◌++◌, map, take, PieceNo, WordNo, case_piece, pieces_for}
 use Rattle.image_code.proofs.CasePieces.{labels_of_words}
-use Rattle.image_code.specs.Labels.{case_piece}
-use Rattle.image_code.specs.Private.{pieces_for}
 use Rattle.image_code.proofs.maker.PieceMaker.push_entries.Given as goal
 
 abbrev pub invariant-loop-entry : goal.invariant-loop-entry

@@ -1,10 +1,4 @@
-use Rattle.std.proofs.Common.{append-nil, ap, sym, ◌∙◌, ◌++◌, ◌∷◌, [], ℕ}
-use Rattle.cfg_normal.specs.declared.Node.{Node}
-use Rattle.image_code.specs.Labels.{Image, node_in_order}
-use Rattle.image_code.specs.Made.{image, jumps_at}
-use Rattle.image_code.specs.Private.{code_at, piece_for}
-use Rattle.image_code.specs.Shapes.{Shape, items_of}
-use Rattle.image_code.proofs.Common.{refl}
+use Rattle.image_code.proofs.Common.{refl, append-nil, ap, sym, ◌∙◌, ◌++◌, ◌∷◌, [], ℕ, Node, Image, node_in_order, image, jumps_at, code_at, piece_for, Shape, items_of}
 use Rattle.image_code.proofs.Pushed.{pushed_below}
 use Rattle.image_code.proofs.maker.PieceMaker.push_images.Goals as goal
 

@@ -1,9 +1,4 @@
-use Rattle.std.proofs.Common.{arith, ap, ◌∙◌, ◌++◌, ◌∷◌, [], ℕ}
-use Rattle.image_code.specs.Labels.{Image}
-use Rattle.image_code.specs.Made.{image}
-use Rattle.image_code.specs.Private.{code_at, piece_for}
-use Rattle.image_code.specs.Shapes.{Shape, items_of}
-use Rattle.image_code.proofs.Common.{refl}
+use Rattle.image_code.proofs.Common.{refl, arith, ap, ◌∙◌, ◌++◌, ◌∷◌, [], ℕ, Image, image, code_at, piece_for, Shape, items_of}
 use Rattle.image_code.proofs.Pushed.{pushed_range}
 use Rattle.image_code.proofs.maker.PieceMaker.push_images_at.Goals as goal
 

@@ -1,7 +1,4 @@
-use Rattle.std.proofs.Common.{◌≡◌, ◌-◌, ◌++◌, map}
-use Rattle.std.specs.List.{range_with_len}
-use Rattle.image_code.specs.Labels.{Image}
-use Rattle.image_code.specs.Private.{pieces_for}
+use Rattle.image_code.proofs.Common.{◌≡◌, ◌-◌, ◌++◌, map, range_with_len, Image, pieces_for}
 use Rattle.image_code.proofs.maker.PieceMaker.push_images_at.Given as goal
 
 abbrev pub invariant-loop-word : goal.invariant-loop-word

@@ -1,8 +1,4 @@
-use Rattle.std.proofs.Common.{append-nil, ap, sym, ◌∙◌, ◌++◌, ◌∷◌, []}
-use Rattle.image_code.specs.Labels.{Landing}
-use Rattle.image_code.specs.Private.{code_at, piece_for}
-use Rattle.image_code.specs.Shapes.{Shape, items_of}
-use Rattle.image_code.proofs.Common.{refl}
+use Rattle.image_code.proofs.Common.{refl, append-nil, ap, sym, ◌∙◌, ◌++◌, ◌∷◌, [], Landing, code_at, piece_for, Shape, items_of}
 use Rattle.image_code.proofs.Pushed.{pushed_below}
 use Rattle.image_code.proofs.maker.PieceMaker.push_landings.Goals as goal
 

@@ -1,8 +1,4 @@
-use Rattle.image_code.proofs.Common.{ap, arith, slice_index, size_of, some_words}
-use Rattle.std.specs.Coded.{le_prop}
-use Rattle.std.proofs.Math.Logic.{∥∥₁_elim}
-use Rattle.cfg_blocks.specs.declared.switches.Switch.{Switch}
-use Rattle.image_code.specs.Private.{piece_for}
+use Rattle.image_code.proofs.Common.{ap, arith, slice_index, size_of, some_words, le_prop, ∥∥₁_elim, Switch, piece_for}
 use Rattle.image_code.proofs.Found.{found_stands, known}
 use Rattle.image_code.proofs.NumberTables.{load_within}
 use Rattle.image_code.proofs.OpenPieces.{open_added}

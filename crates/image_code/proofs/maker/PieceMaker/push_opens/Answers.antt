@@ -1,7 +1,4 @@
-use Rattle.std.proofs.Common.{◌++◌, append-nil, ap, sym, ◌∙◌}
-use Rattle.cfg_normal.specs.Opens.{Open}
-use Rattle.image_code.specs.Labels.{switch_labels}
-use Rattle.image_code.specs.Private.{piece_for, pieces_for}
+use Rattle.image_code.proofs.Common.{◌++◌, append-nil, ap, sym, ◌∙◌, Open, switch_labels, piece_for, pieces_for}
 use Rattle.image_code.proofs.Pushed.{pushed_all}
 use Rattle.image_code.proofs.maker.PieceMaker.push_opens.Goals as goal
 

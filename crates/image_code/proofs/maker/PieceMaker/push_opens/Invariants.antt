@@ -1,7 +1,4 @@
-use Rattle.std.proofs.Common.{◌≡◌, ◌++◌, take}
-use Rattle.std.specs.List.{flat_map}
-use Rattle.image_code.specs.Labels.{switch_labels}
-use Rattle.image_code.specs.Private.{pieces_for}
+use Rattle.image_code.proofs.Common.{◌≡◌, ◌++◌, take, flat_map, switch_labels, pieces_for}
 use Rattle.image_code.proofs.maker.PieceMaker.push_opens.Given as goal
 
 abbrev pub invariant-loop-number : goal.invariant-loop-number

@@ -1,13 +1,7 @@
-use Rattle.std.proofs.Common.{◌≡◌, ◌-◌, ◌^◌, ◌<◌, append-nil, length, length-take, ap, sym, arith}
-use Rattle.std.specs.Coded.{le_prop}
-use Rattle.std.proofs.Math.Logic.{∥∥₁_elim}
 use Rattle.image_code.specs.Labels.{Way, edges_but_landings, landing_count}
-use Rattle.image_code.specs.Private.{code_at, piece_for, pieces_for}
-use Rattle.image_code.specs.Shapes.{Shape, items_of}
-use Rattle.image_code.specs.Made.{way_shape}
 use Rattle.image_code.proofs.Pushed.{pushed_below}
 use Rattle.image_code.proofs.Positions.{get_taken}
-use Rattle.image_code.proofs.Common.{below, map, ℕ, Edge, List, ◌≤◌, slice_get-get_or, slice_index_or, refl, slice_get, Some, ◌∙◌, ◌++◌, ◌∷◌, []}
+use Rattle.image_code.proofs.Common.{below, map, ℕ, Edge, List, ◌≤◌, slice_get-get_or, slice_index_or, refl, slice_get, Some, ◌∙◌, ◌++◌, ◌∷◌, [], ◌≡◌, ◌-◌, ◌^◌, ◌<◌, append-nil, length, length-take, ap, sym, arith, le_prop, ∥∥₁_elim, code_at, piece_for, pieces_for, Shape, items_of, way_shape}
 use Rattle.image_code.proofs.maker.PieceMaker.push_ways.Goals as goal
 
 pub overflow_cast-number : goal.overflow_cast-number

@@ -1,7 +1,5 @@
-use Rattle.std.proofs.Common.{◌≡◌, ◌++◌, map}
-use Rattle.cfg_blocks.specs.Blocks.{below}
+use Rattle.image_code.proofs.Common.{◌≡◌, ◌++◌, map, below, pieces_for}
 use Rattle.image_code.specs.Labels.{Way}
-use Rattle.image_code.specs.Private.{pieces_for}
 use Rattle.image_code.proofs.maker.PieceMaker.push_ways.Given as goal
 
 abbrev pub invariant-loop-number : goal.invariant-loop-number

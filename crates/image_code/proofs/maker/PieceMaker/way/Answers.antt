@@ -1,5 +1,4 @@
-use Rattle.image_code.proofs.Common.{ℕ, subst, sym}
-use Rattle.image_code.specs.Lookups.{IsReached}
+use Rattle.image_code.proofs.Common.{ℕ, subst, sym, IsReached}
 use Rattle.image_code.proofs.Found.{known}
 use Rattle.image_code.proofs.Numbers.{reached_prop}
 use Rattle.image_code.proofs.OpenNumbers.{first_word_of}

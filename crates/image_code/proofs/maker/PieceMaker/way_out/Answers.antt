@@ -1,5 +1,4 @@
-use Rattle.image_code.proofs.Common.{◌≡◌, [], ◌∷◌, ap, arith, edge_from, option_to_list, sym, ◌∙◌}
-use Rattle.image_code.specs.Made.{first_way}
+use Rattle.image_code.proofs.Common.{◌≡◌, [], ◌∷◌, ap, arith, edge_from, option_to_list, sym, ◌∙◌, first_way}
 use Rattle.image_code.proofs.Found.{piece_number}
 use Rattle.image_code.proofs.Numbers.{way_number}
 use Rattle.image_code.proofs.maker.PieceMaker.way_out.Goals as goal

@@ -1,8 +1,4 @@
-use Rattle.std.proofs.Common.{ℕ, [], ◌∷◌, ◌++◌, add-one, ap, arith, length, take}
-use Rattle.std.proofs.Math.Seq.{take-suc}
-use Rattle.std.proofs.lemmas.List.{map-append}
-use Rattle.layout.specs.Forms.{start_of}
-use Rattle.layout.specs.Private.{addresses, forms_in}
+use Rattle.layout.proofs.Common.{ℕ, [], ◌∷◌, ◌++◌, add-one, ap, arith, length, take, take-suc, map-append, start_of, addresses, forms_in}
 use Rattle.layout.proofs.Widening.{rises}
 use Rattle.layout.proofs.assembler.Assembler.addresses_of.Goals as goal
 

@@ -1,5 +1,4 @@
-use Rattle.std.proofs.Common.{◌≡◌, take}
-use Rattle.layout.specs.Private.{addresses}
+use Rattle.layout.proofs.Common.{◌≡◌, take, addresses}
 use Rattle.layout.proofs.assembler.Assembler.addresses_of.Given as goal
 
 abbrev pub invariant-loop-words : goal.invariant-loop-words

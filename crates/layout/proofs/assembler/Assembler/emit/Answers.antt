@@ -1,5 +1,4 @@
-use Rattle.std.proofs.Common.{◌≡◌, ◌+◌, ◌*◌, ◌^◌, ◌<◌, ◌++◌, ℕ, List, length, ap, ◌∙◌, arith}
-use Rattle.layout.specs.Private.{forms_in}
+use Rattle.layout.proofs.Common.{◌≡◌, ◌+◌, ◌*◌, ◌^◌, ◌<◌, ◌++◌, ℕ, List, length, ap, ◌∙◌, arith, forms_in}
 use Rattle.layout.proofs.Emitted.{emitted_none, emitted_more}
 use Rattle.layout.proofs.Walked.{code_is, goal_low, goal_near, leads_inside, more_left, turn, walk_low, walk_more, walk_none}
 use Rattle.layout.proofs.assembler.Assembler.emit.Goals as goal

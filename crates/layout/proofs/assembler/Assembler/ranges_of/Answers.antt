@@ -1,5 +1,4 @@
-use Rattle.std.proofs.Common.{length, ◌∙◌, refl, sym, append-nil, arith}
-use Rattle.layout.specs.Private.{address_of, forms_in}
+use Rattle.layout.proofs.Common.{length, ◌∙◌, refl, sym, append-nil, arith, address_of, forms_in}
 use Rattle.layout.proofs.Offsets.{ranges_more}
 use Rattle.layout.proofs.Widening.{rises}
 use Rattle.layout.proofs.Walked.{more_left, walk_end, walk_low, walk_more, walk_none}

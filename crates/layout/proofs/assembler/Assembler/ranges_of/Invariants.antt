@@ -1,5 +1,4 @@
-use Rattle.std.proofs.Common.{◌≡◌, ◌++◌, None}
-use Rattle.layout.specs.Private.{address_of, forms_in, ranges_from}
+use Rattle.layout.proofs.Common.{◌≡◌, ◌++◌, None, address_of, forms_in, ranges_from}
 use Rattle.layout.proofs.Walked.{IsWalk}
 use Rattle.layout.proofs.assembler.Assembler.ranges_of.Given as goal
 

@@ -1,5 +1,4 @@
-use Rattle.std.proofs.Common.{◌∙◌, ap, sym}
-use Rattle.layout.specs.Private.{entries_left}
+use Rattle.layout.proofs.Common.{◌∙◌, ap, sym, entries_left}
 use Rattle.layout.proofs.entries.Cursor.next.Goals as goal
 
 pub returns-in-Some : goal.returns-in-Some

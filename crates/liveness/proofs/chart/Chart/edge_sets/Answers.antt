@@ -1,8 +1,4 @@
-use Rattle.std.proofs.Common.{arith, ◌≡◌, ◌↔◌, true}
-use Rattle.v8_decode.specs.declared.Part.{Part}
-use Rattle.v8_decode.specs.Parts.{has}
-use Rattle.liveness.specs.Live.{edge_at}
-use Rattle.liveness.specs.Search.{IsOnward}
+use Rattle.liveness.proofs.Common.{arith, ◌≡◌, ◌↔◌, true, Part, has, edge_at, IsOnward}
 use Rattle.liveness.proofs.Joining.{pushed}
 use Rattle.liveness.proofs.chart.Chart.edge_sets.Goals as goal
 

@@ -1,7 +1,4 @@
-use Rattle.std.proofs.Common.{◌≡◌, ◌↔◌, ℕ, ◌<◌, length}
-use Rattle.v8_decode.specs.declared.Part.{Part}
-use Rattle.liveness.specs.Live.{edge_at}
-use Rattle.liveness.specs.Search.{In, IsOnward}
+use Rattle.liveness.proofs.Common.{◌≡◌, ◌↔◌, ℕ, ◌<◌, length, Part, edge_at, In, IsOnward}
 use Rattle.liveness.proofs.chart.Chart.edge_sets.Given as goal
 
 abbrev pub invariant-loop-e : goal.invariant-loop-e

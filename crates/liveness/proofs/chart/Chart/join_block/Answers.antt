@@ -1,7 +1,4 @@
-use Rattle.std.proofs.Common.{arith, ◌≡◌, ◌↔◌, ◌⊎◌, true, length}
-use Rattle.v8_decode.specs.declared.Part.{Part}
-use Rattle.v8_decode.specs.Parts.{has}
-use Rattle.liveness.specs.Search.{In, LivesInCopy}
+use Rattle.liveness.proofs.Common.{arith, ◌≡◌, ◌↔◌, ◌⊎◌, true, length, Part, has, In, LivesInCopy}
 use Rattle.liveness.proofs.Joining.{pushed}
 use Rattle.liveness.proofs.Spots.{copies_low}
 use Rattle.liveness.proofs.chart.Chart.join_block.Goals as goal

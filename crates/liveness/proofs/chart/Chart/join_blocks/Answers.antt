@@ -1,6 +1,4 @@
-use Rattle.std.proofs.Common.{arith, ◌≡◌, ◌+◌}
-use Rattle.cfg_normal.specs.declared.Node.TheVariants.{Block}
-use Rattle.liveness.specs.Search.{last_in}
+use Rattle.liveness.proofs.Common.{arith, ◌≡◌, ◌+◌, Block, last_in}
 use Rattle.liveness.proofs.Held.{some_words, start_after, start_of}
 use Rattle.liveness.proofs.chart.Chart.join_blocks.Goals as goal
 

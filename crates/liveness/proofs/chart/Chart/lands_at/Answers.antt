@@ -1,5 +1,4 @@
-use Rattle.std.proofs.Common.{ap, not, sym, ◌∙◌}
-use Rattle.std.specs.Prelude.{IsTrue}
+use Rattle.liveness.proofs.Common.{ap, not, sym, ◌∙◌, IsTrue}
 use Rattle.liveness.proofs.Spots.{held_of, lands_plain}
 use Rattle.liveness.proofs.chart.Chart.lands_at.Goals as goal
 

@@ -1,5 +1,4 @@
-use Rattle.std.proofs.Common.{arith, List, length, ap}
-use Rattle.cfg_normal.specs.declared.Edge.{Edge}
+use Rattle.liveness.proofs.Common.{arith, List, length, ap, Edge}
 use Rattle.liveness.proofs.Adding.{adds_all, adds_next}
 use Rattle.liveness.proofs.chart.Chart.link_edges.Goals as goal
 

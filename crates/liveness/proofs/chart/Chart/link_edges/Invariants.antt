@@ -1,7 +1,4 @@
-use Rattle.std.proofs.Common.{◌+◌, ◌≤◌, length}
-use Rattle.std.specs.List.{Contains}
-use Rattle.liveness.specs.Live.{edge_at}
-use Rattle.liveness.specs.Search.{Adds, Between, LinksAlong}
+use Rattle.liveness.proofs.Common.{◌+◌, ◌≤◌, length, Contains, edge_at, Adds, Between, LinksAlong}
 use Rattle.liveness.proofs.chart.Chart.link_edges.Given as goal
 
 abbrev pub invariant-loop-e : goal.invariant-loop-e

@@ -1,6 +1,4 @@
-use Rattle.std.proofs.Common.{◌+◌, ◌*◌, ◌≤◌, length}
-use Rattle.std.specs.List.{Contains}
-use Rattle.liveness.specs.Search.{Adds, Between, LinksOntoBlock}
+use Rattle.liveness.proofs.Common.{◌+◌, ◌*◌, ◌≤◌, length, Contains, Adds, Between, LinksOntoBlock}
 use Rattle.liveness.proofs.Held.{start_of}
 use Rattle.liveness.proofs.chart.Chart.link_landings.Given as goal
 

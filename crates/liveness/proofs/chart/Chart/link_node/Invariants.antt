@@ -1,6 +1,4 @@
-use Rattle.std.proofs.Common.{◌≡◌, ◌+◌, ◌≤◌, length}
-use Rattle.std.specs.List.{Contains}
-use Rattle.liveness.specs.Search.{Adds, Between, first_in, next_link}
+use Rattle.liveness.proofs.Common.{◌≡◌, ◌+◌, ◌≤◌, length, Contains, Adds, Between, first_in, next_link}
 use Rattle.liveness.proofs.chart.Chart.link_node.Given as goal
 
 abbrev pub invariant-loop-word : goal.invariant-loop-word

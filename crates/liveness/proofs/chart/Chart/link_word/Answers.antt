@@ -1,8 +1,4 @@
-use Rattle.std.proofs.Common.{◌≡◌}
-use Rattle.std.specs.Prelude.{Some}
-use Rattle.std.specs.List.{Contains}
-use Rattle.cfg_normal.specs.Graph.{lands}
-use Rattle.liveness.specs.Search.{landing_link}
+use Rattle.liveness.proofs.Common.{◌≡◌, Some, Contains, lands, landing_link}
 use Rattle.liveness.proofs.Adding.{adds_as, adds_link}
 use Rattle.liveness.proofs.chart.Chart.link_word.Goals as goal
 

@@ -1,6 +1,4 @@
-use Rattle.std.proofs.Common.{◌+◌, ◌≤◌, length}
-use Rattle.std.specs.List.{Contains}
-use Rattle.liveness.specs.Search.{Adds, Between, LinksLanding, first_in}
+use Rattle.liveness.proofs.Common.{◌+◌, ◌≤◌, length, Contains, Adds, Between, LinksLanding, first_in}
 use Rattle.liveness.proofs.chart.Chart.link_words.Given as goal
 
 abbrev pub invariant-loop-word : goal.invariant-loop-word

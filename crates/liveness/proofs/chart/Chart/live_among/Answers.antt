@@ -1,5 +1,4 @@
-use Rattle.std.proofs.Common.{arith}
-use Rattle.v8_decode.specs.declared.Part.{Part}
+use Rattle.liveness.proofs.Common.{arith, Part}
 use Rattle.liveness.proofs.Adding.{adds_first, adds_next}
 use Rattle.liveness.proofs.Joining.{adds_union, union_all}
 use Rattle.liveness.proofs.chart.Chart.live_among.Goals as goal

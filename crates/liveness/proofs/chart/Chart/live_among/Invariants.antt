@@ -1,7 +1,4 @@
-use Rattle.std.proofs.Common.{◌≡◌, true, []}
-use Rattle.v8_decode.specs.declared.Part.{Part}
-use Rattle.v8_decode.specs.Parts.{has}
-use Rattle.liveness.specs.Search.{Adds, Between, LivesAtLanding, first_in}
+use Rattle.liveness.proofs.Common.{◌≡◌, true, [], Part, has, Adds, Between, LivesAtLanding, first_in}
 use Rattle.liveness.proofs.chart.Chart.live_among.Given as goal
 
 abbrev pub invariant-loop-word : goal.invariant-loop-word

@@ -1,6 +1,4 @@
-use Rattle.std.proofs.Common.{arith, [], sym, ap, ◌∙◌}
-use Rattle.std.proofs.lemmas.List.{get_or_read}
-use Rattle.flood.specs.Flood.{at}
+use Rattle.liveness.proofs.Common.{arith, [], sym, ap, ◌∙◌, get_or_read, at}
 use Rattle.liveness.proofs.Joining.{live_copied, live_plain}
 use Rattle.liveness.proofs.chart.Chart.live_at.Goals as goal
 

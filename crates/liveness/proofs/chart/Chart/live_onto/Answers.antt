@@ -1,7 +1,4 @@
-use Rattle.std.proofs.Common.{arith, [], sym, ap, ◌∙◌}
-use Rattle.std.proofs.lemmas.List.{get_or_read}
-use Rattle.flood.specs.Flood.{at}
-use Rattle.cfg_normal.specs.Numbers.{node_number}
+use Rattle.liveness.proofs.Common.{arith, [], sym, ap, ◌∙◌, get_or_read, at, node_number}
 use Rattle.liveness.proofs.Reaching.{marked_below}
 use Rattle.liveness.proofs.chart.Chart.live_onto.Goals as goal
 

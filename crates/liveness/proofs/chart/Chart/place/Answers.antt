@@ -1,5 +1,4 @@
-use Rattle.std.proofs.Common.{arith}
-use Rattle.std.proofs.lemmas.List.{get_or_default}
+use Rattle.liveness.proofs.Common.{arith, get_or_default}
 use Rattle.liveness.proofs.Spots.{held_of, nodes_high, place_within}
 use Rattle.liveness.proofs.chart.Chart.place.Goals as goal
 

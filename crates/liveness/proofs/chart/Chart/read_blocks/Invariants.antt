@@ -1,5 +1,4 @@
-use Rattle.std.proofs.Common.{◌≡◌, ℕ, length}
-use Rattle.liveness.specs.Search.{Adds, Between, In, ReadsOf}
+use Rattle.liveness.proofs.Common.{◌≡◌, ℕ, length, Adds, Between, In, ReadsOf}
 use Rattle.liveness.proofs.chart.Chart.read_blocks.Given as goal
 
 abbrev pub invariant-loop-block : goal.invariant-loop-block

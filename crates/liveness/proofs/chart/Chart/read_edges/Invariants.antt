@@ -1,6 +1,4 @@
-use Rattle.std.proofs.Common.{◌≡◌, ℕ, length}
-use Rattle.liveness.specs.Live.{named_on}
-use Rattle.liveness.specs.Search.{Adds, Between, In, ReadsOnEdge}
+use Rattle.liveness.proofs.Common.{◌≡◌, ℕ, length, named_on, Adds, Between, In, ReadsOnEdge}
 use Rattle.liveness.proofs.chart.Chart.read_edges.Given as goal
 
 abbrev pub invariant-loop-e : goal.invariant-loop-e

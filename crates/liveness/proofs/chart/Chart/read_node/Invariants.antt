@@ -1,5 +1,4 @@
-use Rattle.std.proofs.Common.{◌≡◌, ℕ, length}
-use Rattle.liveness.specs.Search.{Adds, Between, In, ReadsAt, first_in}
+use Rattle.liveness.proofs.Common.{◌≡◌, ℕ, length, Adds, Between, In, ReadsAt, first_in}
 use Rattle.liveness.proofs.chart.Chart.read_node.Given as goal
 
 abbrev pub invariant-loop-word : goal.invariant-loop-word

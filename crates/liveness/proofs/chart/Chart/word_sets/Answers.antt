@@ -1,5 +1,4 @@
-use Rattle.std.proofs.Common.{arith, ◌≡◌, ℕ, take, ap, ◌∙◌}
-use Rattle.liveness.specs.Search.{nodes_from}
+use Rattle.liveness.proofs.Common.{arith, ◌≡◌, ℕ, take, ap, ◌∙◌, nodes_from}
 use Rattle.liveness.proofs.Joining.{joined_alone}
 use Rattle.liveness.proofs.chart.Chart.word_sets.Goals as goal
 

@@ -1,6 +1,4 @@
-use Rattle.std.proofs.Common.{ap, ◌∙◌, not}
-use Rattle.v8_decode.specs.Parts.{has, members}
-use Rattle.v8_decode.specs.Code.{minus}
+use Rattle.liveness.proofs.Common.{ap, ◌∙◌, not, has, members, minus}
 use Rattle.liveness.proofs.Joining.{everything_less}
 use Rattle.liveness.proofs.live_sets.LiveSets.dead_on.Goals as goal
 

@@ -1,5 +1,4 @@
-use Rattle.std.proofs.Common.{rules, ◌≡◌}
-use Rattle.span_tree.specs.Cells.{AreNumbered, cell_at}
+use Rattle.span_tree.proofs.Common.{rules, ◌≡◌, AreNumbered, cell_at}
 use Rattle.span_tree.proofs.Numbered.{cell_within}
 use Rattle.span_tree.proofs.spanning.SpanTree.cell.Goals as goal
 

@@ -1,5 +1,4 @@
-use Rattle.std.proofs.Common.{refl}
-use Rattle.v8_decode.specs.Parts.{every_part, members}
+use Rattle.v8_decode.proofs.Common.{refl, every_part, members}
 use Rattle.v8_decode.proofs.sets.RegSet.all.Goals as goal
 
 pub returns : goal.returns

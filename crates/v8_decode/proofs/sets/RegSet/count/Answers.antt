@@ -1,5 +1,4 @@
-use Rattle.std.proofs.Common.{ap, sym, ◌∙◌}
-use Rattle.std.specs.Prelude.{length}
+use Rattle.v8_decode.proofs.Common.{ap, sym, ◌∙◌, length}
 use Rattle.v8_decode.proofs.Marks.{length-parts_of, ones_le, view_set}
 use Rattle.v8_decode.proofs.sets.RegSet.count.Goals as goal
 

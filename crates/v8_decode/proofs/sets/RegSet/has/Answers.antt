@@ -1,5 +1,4 @@
-use Rattle.std.proofs.Common.{◌/◌, ◌^◌, bit_and, nat_eq, ap, sym, ◌∙◌}
-use Rattle.v8_decode.specs.Parts.{has}
+use Rattle.v8_decode.proofs.Common.{◌/◌, ◌^◌, bit_and, nat_eq, ap, sym, ◌∙◌, has}
 use Rattle.v8_decode.proofs.Marks.{has-parts_of, view_set}
 use Rattle.v8_decode.proofs.sets.RegSet.has.Goals as goal
 

@@ -1,6 +1,4 @@
-use Rattle.std.proofs.Common.{◌++◌, ap, ◌∙◌}
-use Rattle.v8_decode.specs.Parts.{set_of}
-use Rattle.v8_decode.specs.Masks.{parts_of}
+use Rattle.v8_decode.proofs.Common.{◌++◌, ap, ◌∙◌, set_of, parts_of}
 use Rattle.v8_decode.proofs.Marks.{has-union, or_below, parts_of-or, view_set}
 use Rattle.v8_decode.proofs.sets.RegSet.union.Goals as goal
 

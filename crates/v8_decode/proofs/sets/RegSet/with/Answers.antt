@@ -1,6 +1,4 @@
-use Rattle.std.proofs.Common.{◌^◌, ◌*◌, ◌%◌, ◌∷◌, bit_or, ap, ◌∙◌, sym, arith}
-use Rattle.v8_decode.specs.Parts.{set_of}
-use Rattle.v8_decode.specs.Masks.{parts_of}
+use Rattle.v8_decode.proofs.Common.{◌^◌, ◌*◌, ◌%◌, ◌∷◌, bit_or, ap, ◌∙◌, sym, arith, set_of, parts_of}
 use Rattle.v8_decode.proofs.Marks.{bit_below, has-with, or_below, parts_of-none, parts_of-set}
 use Rattle.v8_decode.proofs.sets.RegSet.with.Goals as goal
 

@@ -1,6 +1,4 @@
-use Rattle.std.proofs.Common.{◌-◌, ◌^◌, ◌*◌, ◌%◌, bit_and, ap, ◌∙◌}
-use Rattle.v8_decode.specs.Code.{without}
-use Rattle.v8_decode.specs.Masks.{parts_of}
+use Rattle.v8_decode.proofs.Common.{◌-◌, ◌^◌, ◌*◌, ◌%◌, bit_and, ap, ◌∙◌, without, parts_of}
 use Rattle.v8_decode.proofs.Marks.{and_below, has-without, parts_of-clear}
 use Rattle.v8_decode.proofs.sets.RegSet.without.Goals as goal
 

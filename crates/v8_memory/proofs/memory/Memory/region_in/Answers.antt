@@ -1,5 +1,4 @@
-use Rattle.std.proofs.Common.{rules, ◌≡◌, Some, subst}
-use Rattle.v8_memory.specs.Regions.{region_at}
+use Rattle.v8_memory.proofs.Common.{rules, ◌≡◌, Some, subst, region_at}
 use Rattle.v8_memory.proofs.Apart.{covers_at, found_at, heap_last}
 use Rattle.v8_memory.proofs.memory.Memory.region_in.Goals as goal
 

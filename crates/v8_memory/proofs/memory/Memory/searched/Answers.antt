@@ -1,6 +1,4 @@
-use Rattle.std.proofs.Common.{rules, ◌≡◌, Some, ap, sym, subst, ◌∙◌}
-use Rattle.std.specs.List.{find}
-use Rattle.v8_memory.specs.Regions.{covers, region_at}
+use Rattle.v8_memory.proofs.Common.{rules, ◌≡◌, Some, ap, sym, subst, ◌∙◌, find, covers, region_at}
 use Rattle.v8_memory.proofs.Apart.{heap_last}
 use Rattle.v8_memory.proofs.memory.Memory.searched.Goals as goal
 

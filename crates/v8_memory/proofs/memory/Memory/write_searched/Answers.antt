@@ -1,7 +1,4 @@
-use Rattle.std.proofs.Common.{rules, length, take, drop, ◌++◌, refl, ap, ◌∙◌}
-use Rattle.std.specs.List.{find}
-use Rattle.std.specs.Option.{option_map}
-use Rattle.v8_memory.specs.Regions.{Region, covers, written}
+use Rattle.v8_memory.proofs.Common.{rules, length, take, drop, ◌++◌, refl, ap, ◌∙◌, find, option_map, Region, covers, written}
 use Rattle.v8_memory.proofs.Apart.{all_stay, write_heap_done, write_region_done}
 use Rattle.v8_memory.proofs.Kept.{written_through}
 use Rattle.v8_memory.proofs.memory.Memory.write_searched.Goals as goal

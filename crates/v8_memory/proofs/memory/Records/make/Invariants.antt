@@ -1,7 +1,4 @@
-use Rattle.std.proofs.Common.{◌≡◌}
-use Rattle.std.specs.List.{filter}
-use Rattle.v8_memory.specs.Kept.{AreKept}
-use Rattle.v8_memory.specs.Regions.{is_code}
+use Rattle.v8_memory.proofs.Common.{◌≡◌, filter, AreKept, is_code}
 use Rattle.v8_memory.proofs.memory.Records.make.Given as goal
 
 abbrev pub invariant-loop-n : goal.invariant-loop-n

@@ -1,6 +1,4 @@
-use Rattle.std.proofs.Common.{◌≡◌, ◌-◌, ◌<◌, ap, ◌∙◌, arith}
-use Rattle.v8_step.specs.State.{State}
-use Rattle.v8_step.specs.WindowMoves.{spill_many}
+use Rattle.v8_step.proofs.Common.{◌≡◌, ◌-◌, ◌<◌, ap, ◌∙◌, arith, State, spill_many}
 use Rattle.v8_step.proofs.Spills.{one_less, none_saved, fewer}
 use Rattle.v8_step.proofs.machine.Machine.flush.Goals as goal
 

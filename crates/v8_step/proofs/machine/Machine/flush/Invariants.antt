@@ -1,5 +1,4 @@
-use Rattle.std.proofs.Common.{◌≡◌, ◌-◌}
-use Rattle.v8_step.specs.WindowMoves.{spill_many}
+use Rattle.v8_step.proofs.Common.{◌≡◌, ◌-◌, spill_many}
 use Rattle.v8_step.proofs.machine.Machine.flush.Given as goal
 
 -- what is left to be saved, from the state now

@@ -1,13 +1,4 @@
-use Rattle.std.proofs.Common.{◌≡◌, ◌+◌, ℕ, Bool, true, List, Option, Some, None, ◌==◌, ap, sym, ◌∙◌}
-use Rattle.std.specs.Prelude.{if◌then◌else◌}
-use Rattle.v8_alu.specs.Numbers.{wrapped}
-use Rattle.v8_step.specs.Ahead.{placed}
-use Rattle.v8_step.specs.Private.{Fills}
-use Rattle.v8_step.specs.State.{State, register_of}
-use Rattle.v8_step.specs.declared.Slot.{Slot}
-use Rattle.v8_step.specs.declared.Slot.TheVariants.{NoSlot}
-use Rattle.v8_step.specs.WindowMoves.{fill, fill_from, frame_read, leave, restore_step}
-use Rattle.v8_windows.specs.Frames.{frame_pointer}
+use Rattle.v8_step.proofs.Common.{◌≡◌, ◌+◌, ℕ, Bool, true, List, Option, Some, None, ◌==◌, ap, sym, ◌∙◌, if◌then◌else◌, wrapped, placed, Fills, State, register_of, Slot, NoSlot, fill, fill_from, frame_read, leave, restore_step, frame_pointer}
 use Rattle.v8_step.proofs.machine.Machine.restore_behind_fill.Goals as goal
 
 restore_filled : (s t u : State) (done : Bool) (rd value : ℕ) → s.valid ≡ 1

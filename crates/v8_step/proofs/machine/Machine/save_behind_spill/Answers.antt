@@ -1,15 +1,4 @@
-use Rattle.std.proofs.Common.{◌≡◌, ◌+◌, ◌-◌, ℕ, Bool, true, Option, Some, None, ◌==◌, ap, sym, ◌∙◌}
-use Rattle.std.specs.Prelude.{if◌then◌else◌}
-use Rattle.v8_alu.specs.Numbers.{wrapped}
-use Rattle.v8_memory.specs.Regions.{Memory}
-use Rattle.v8_step.specs.declared.Ending.TheVariants.{Window}
-use Rattle.v8_step.specs.Accesses.{on_memory}
-use Rattle.v8_step.specs.Ahead.{placed}
-use Rattle.v8_step.specs.Private.{Spills}
-use Rattle.v8_step.specs.State.{State}
-use Rattle.v8_step.specs.declared.Slot.{Slot}
-use Rattle.v8_step.specs.declared.Slot.TheVariants.{NoSlot}
-use Rattle.v8_step.specs.WindowMoves.{enter, save_step, saved_memory, spill}
+use Rattle.v8_step.proofs.Common.{◌≡◌, ◌+◌, ◌-◌, ℕ, Bool, true, Option, Some, None, ◌==◌, ap, sym, ◌∙◌, if◌then◌else◌, wrapped, Memory, Window, on_memory, placed, Spills, State, Slot, NoSlot, enter, save_step, saved_memory, spill}
 use Rattle.v8_step.proofs.machine.Machine.save_behind_spill.Goals as goal
 
 save_spilled : (s t u : State) (done : Bool) (rd value : ℕ) → s.valid ≡ 7 → Spills (saved_memory s) s t done → done ≡ true

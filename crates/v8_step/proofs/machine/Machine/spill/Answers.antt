@@ -1,12 +1,4 @@
-use Rattle.std.proofs.Common.{◌≡◌, ◌-◌, Bool, true, false, ℕ, List, Option, Some, None, refl, ap, sym, ◌∙◌}
-use Rattle.std.specs.Int.{w32, to_be_bytes}
-use Rattle.std.specs.List.{flat_map}
-use Rattle.v8_memory.specs.Regions.{Memory}
-use Rattle.v8_memory.specs.Calls.{Fills as Written}
-use Rattle.v8_windows.specs.Frames.{frame_of}
-use Rattle.v8_step.specs.State.{State}
-use Rattle.v8_step.specs.WindowMoves.{frame_written, saved_memory, save_address, oldest_window}
-use Rattle.v8_step.specs.Private.{Spills}
+use Rattle.v8_step.proofs.Common.{◌≡◌, ◌-◌, Bool, true, false, ℕ, List, Option, Some, None, refl, ap, sym, ◌∙◌, w32, to_be_bytes, flat_map, Memory, Written, frame_of, State, frame_written, saved_memory, save_address, oldest_window, Spills}
 use Rattle.v8_step.specs.contracts.machine.Machine.{the_view}
 use Rattle.v8_step.proofs.machine.Machine.spill.Goals as goal
 

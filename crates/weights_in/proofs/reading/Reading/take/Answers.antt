@@ -1,9 +1,4 @@
-use Rattle.std.proofs.Common.{rules, ◌+◌, ◌<◌, length, ap, arith, refl}
-use Rattle.std.specs.Prelude.{slice_set}
-use Rattle.std.proofs.lemmas.Option.{slice_get_within}
-use Rattle.cfg_view.specs.Code.{view_seen}
-use Rattle.weights_in.specs.Weights.{IsEdgeOf}
-use Rattle.weights_in.specs.Parts.{entry_in}
+use Rattle.weights_in.proofs.Common.{rules, ◌+◌, ◌<◌, length, ap, arith, refl, slice_set, slice_get_within, view_seen, IsEdgeOf, entry_in}
 use Rattle.weights_in.proofs.reading.Reading.take.Goals as goal
 
 pub returns : goal.returns
